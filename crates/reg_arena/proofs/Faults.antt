@@ -1,0 +1,10 @@
+-- Which fault an answer is.
+use Rattle.std.proofs.Common.{◌≡◌, Ok, Err}
+use Rattle.std.specs.Prelude.{IfErr}
+use Rattle.std.specs.declared.result.Result.{Result}
+use Rattle.reg_arena.specs.declared.ArenaFault.{ArenaFault}
+use Rattle.reg_arena.specs.declared.ArenaFault.TheVariants.{Full, Memory}
+
+pub not-full : (result : Result (Unit {0}) ArenaFault) → IfErr result (λ fault. fault ≡ Memory) → result ≡ Err Full → ⊥
+not-full (Ok x) h e = cc (e)
+not-full (Err f) h e = cc (h, e)

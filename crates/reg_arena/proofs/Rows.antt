@@ -1,0 +1,112 @@
+-- The definitions at bytes that were worked out by hand.
+use Rattle.std.specs.Prelude.{◌≡◌, ℕ, ◌-◌, List, [], ◌∷◌, ◌++◌, replicate, Some, None, refl}
+use Rattle.byteorder.specs.Endian.{little_bytes}
+use Rattle.reg_heap.specs.Words.{word}
+use Rattle.reg_arena.specs.Cells.{cells_of, cell_at}
+use Rattle.reg_arena.specs.NewCells.{used, unused}
+use Rattle.reg_arena.specs.Free.{Follows, free_of}
+use Rattle.reg_arena.specs.Arena.{one_class}
+use Rattle.reg_arena.specs.NewBin.{new_bin}
+
+-- an allocated cell of zeros
+abbrev used_bytes : ℕ → List ℕ
+used_bytes size = little_bytes 4 (4294967296 - size) ++ replicate (size - 4) 0
+
+-- a free cell with a link
+abbrev free_bytes : ℕ → ℕ → List ℕ
+free_bytes size next = little_bytes 4 size ++ (little_bytes 4 next ++ replicate (size - 8) 0)
+
+abbrev header : ℕ → ℕ → List ℕ
+header at size = little_bytes 4 1852400232 ++ (little_bytes 4 at ++ (little_bytes 4 size ++ replicate 20 0))
+
+-- ---- a fresh hive: the root key's cell, its descriptor's cell and a free cell
+
+-- `hbin`, offset 0, size 4096 and 20 zeros; -88; -48; 3928 and no next cell
+abbrev fresh_hive : List ℕ
+fresh_hive =
+    (104 ∷ 98 ∷ 105 ∷ 110 ∷ 0 ∷ 0 ∷ 0 ∷ 0 ∷ 0 ∷ 16 ∷ 0 ∷ 0 ∷ []) ++ (replicate 20 0 ++ ((168 ∷ 255 ∷ 255 ∷ 255 ∷ []) ++ (replicate 84 0 ++ ((208 ∷ 255 ∷ 255 ∷ 255 ∷ []) ++ (replicate 44 0 ++ ((88 ∷ 15 ∷ 0 ∷ 0 ∷ 255 ∷ 255 ∷ 255 ∷ 255 ∷ []) ++ replicate 3920 0))))))
+
+fresh_hive-cells : cells_of fresh_hive ≡ Some (used 32 88 ∷ used 120 48 ∷ unused 168 3928 ∷ [])
+unfolding cells_of word
+fresh_hive-cells = refl
+
+fresh_hive-free : free_of one_class 0 (used 32 88 ∷ used 120 48 ∷ unused 168 3928 ∷ []) ≡ 168 ∷ []
+fresh_hive-free = refl
+
+fresh_hive-list : Follows fresh_hive 168 (168 ∷ [])
+unfolding word
+fresh_hive-list = (refl, refl)
+
+fresh_hive-descriptor : cell_at fresh_hive 120 ≡ Some (replicate 44 0)
+unfolding cell_at cells_of word
+fresh_hive-descriptor = refl
+
+-- a free cell has no content, and neither has the middle of a cell
+fresh_hive-no-free-content : cell_at fresh_hive 168 ≡ None
+unfolding cell_at cells_of word
+fresh_hive-no-free-content = refl
+
+fresh_hive-no-middle : cell_at fresh_hive 40 ≡ None
+unfolding cell_at cells_of word
+fresh_hive-no-middle = refl
+
+-- ---- carve [16, 24, 32, 16]
+
+abbrev four_cells : List ℕ
+four_cells = header 0 4096 ++ (used_bytes 16 ++ (used_bytes 24 ++ (used_bytes 32 ++ (used_bytes 16 ++ free_bytes 3976 4294967295))))
+
+four_cells-are : cells_of four_cells ≡ Some (used 32 16 ∷ used 48 24 ∷ used 72 32 ∷ used 104 16 ∷ unused 120 3976 ∷ [])
+unfolding cells_of word
+four_cells-are = refl
+
+-- the first three freed: one free cell, which leads to the other
+abbrev three_freed : List ℕ
+three_freed = header 0 4096 ++ (free_bytes 72 120 ++ (used_bytes 16 ++ free_bytes 3976 4294967295))
+
+three_freed-cells : cells_of three_freed ≡ Some (unused 32 72 ∷ used 104 16 ∷ unused 120 3976 ∷ [])
+unfolding cells_of word
+three_freed-cells = refl
+
+three_freed-list : Follows three_freed 32 (32 ∷ 120 ∷ [])
+unfolding word
+three_freed-list = (refl, (refl, refl))
+
+-- ---- bins
+
+new_bin-cells : cells_of (new_bin 0 4096 4294967295) ≡ Some (unused 32 4064 ∷ [])
+unfolding cells_of word
+new_bin-cells = refl
+
+no_bin : cells_of [] ≡ Some []
+unfolding cells_of
+no_bin = refl
+
+two_bins-cells : cells_of (header 0 4096 ++ (used_bytes 4064 ++ new_bin 4096 4096 4294967295)) ≡ Some (used 32 4064 ∷ unused 4128 4064 ∷ [])
+unfolding cells_of word
+two_bins-cells = refl
+
+-- ---- what is no row of bins
+
+size_no_multiple_of_eight : cells_of (header 0 4096 ++ (used_bytes 20 ++ free_bytes 4044 4294967295)) ≡ None
+unfolding cells_of word
+size_no_multiple_of_eight = refl
+
+size_zero : cells_of (header 0 4096 ++ replicate 4064 0) ≡ None
+unfolding cells_of word
+size_zero = refl
+
+cell_past_its_bin : cells_of (header 0 4096 ++ (used_bytes 16 ++ free_bytes 4056 4294967295)) ≡ None
+unfolding cells_of word
+cell_past_its_bin = refl
+
+signature_wrong : cells_of (little_bytes 4 1852400233 ++ (little_bytes 4 0 ++ (little_bytes 4 4096 ++ (replicate 20 0 ++ free_bytes 4064 4294967295)))) ≡ None
+unfolding cells_of word
+signature_wrong = refl
+
+place_wrong : cells_of (header 4096 4096 ++ free_bytes 4064 4294967295) ≡ None
+unfolding cells_of word
+place_wrong = refl
+
+bin_longer_than_the_bytes : cells_of (header 0 8192 ++ free_bytes 4064 4294967295) ≡ None
+unfolding cells_of word
+bin_longer_than_the_bytes = refl

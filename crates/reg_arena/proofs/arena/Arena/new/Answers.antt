@@ -1,0 +1,5 @@
+use Rattle.reg_arena.proofs.Fresh.{fresh}
+use Rattle.reg_arena.proofs.arena.Arena.new.Goals as goal
+
+pub invariant_of-result : goal.invariant_of-result
+invariant_of-result c = rw c.new.ensures.items fresh

@@ -1,0 +1,37 @@
+-- The arena as a value.
+use Rattle.std.specs.Prelude.{◌≡◌, ℕ, ◌≤◌, ◌%◌, List, length, map, Some}
+use Rattle.std.specs.List.{AllByRecursion}
+use Rattle.reg_arena.specs.declared.Cell.{Cell}
+use Rattle.reg_arena.specs.Cells.{Bin, AreBins, cells_in, cells_of}
+use Rattle.reg_arena.specs.Free.{AreFreeLists}
+
+-- the bytes of the bins, and the heads of the free lists
+pub record Bins : Type 0 where
+  pub bytes : List ℕ
+  pub heads : List ℕ
+
+-- one list has all free cells
+abbrev pub one_class : ℕ → ℕ
+one_class size = 0
+
+-- the bytes are bins of cells, and the lists lead through the free ones; counts are the lists' lengths.
+-- The bins have at most 256 MiB, so that 0xFFFFFFFF is no offset
+pub record IsArena (bytes heads counts : List ℕ) : Type 0 where
+  pub layout : List Bin
+  pub tiled : AreBins bytes 0 layout
+  pub lists : List (List ℕ)
+  pub free : AreFreeLists one_class bytes heads (cells_in layout) lists
+  pub counted : map length lists ≡ counts
+  pub few : AllByRecursion (λ count. count ≤ length bytes) counts
+  pub small : length bytes ≤ 268435456
+
+-- what holds of every arena: its bytes are bins of cells, whose offsets are multiples of 8, and its free lists hold precisely
+-- the free cells; all bins together have a multiple of 4096 bytes, at most 256 MiB
+pub record IsSound (bytes heads : List ℕ) : Type 0 where
+  pub cells : List Cell
+  pub lists : List (List ℕ)
+  pub cells_are : cells_of bytes ≡ Some cells
+  pub eights : AllByRecursion (λ cell. cell.offset % 8 ≡ 0) cells
+  pub free : AreFreeLists one_class bytes heads cells lists
+  pub pages : length bytes % 4096 ≡ 0
+  pub small : length bytes ≤ 268435456

@@ -1,0 +1,182 @@
+//! The arena as callers see it.
+ghost use Rattle.std.specs.Prelude.{◌≡◌, ◌==◌, ◌+◌, ◌-◌, ◌≤◌, ◌<◌, ℕ, List, [], ◌∷◌, ◌++◌, length, take, drop, IsSome, Some, unwrap_or, if◌then◌else◌, IfOk, IfErr, OnOk, OnErr, ◌↔◌};
+ghost use Rattle.reg_heap.specs.Words.{splice, word};
+ghost use Rattle.reg_arena.specs.Arena.{IsSound};
+ghost use Rattle.reg_arena.specs.NewCells.{total_of, AreSizes};
+ghost use Rattle.reg_arena.specs.Carves.{AddsCells, CarvesExactly, NoFit};
+ghost use Rattle.reg_arena.specs.Cells.{cells_of, cell_at, size_in};
+
+use crate::carve::{carve_bin, carve_found};
+use crate::list::{NONE, find_fit};
+use crate::walk::list_cells;
+use crate::words::size_at;
+use crate::{ArenaFault, Cell};
+use std::alloc::Global;
+use std::marker::Model;
+
+/// Bins of cells, at most 268,435,456 bytes of them, and the list of the free cells.
+///
+/// A cell is named by its offset, which counts from the first bin. What an allocated cell holds are the bytes behind its
+/// size field, four fewer than its size. No two free cells of a bin touch.
+#[derive(Drop)]
+pub struct Arena {
+    /// The bytes of all bins, one bin behind the other.
+    bins: Vec<u8>,
+    /// The first free cell, or `NONE`.
+    head: u32,
+    /// How many free cells there are.
+    count: usize,
+}
+
+impl Model for Arena {
+    ghost use Rattle.std.specs.Prelude.{[], ◌∷◌};
+    ghost use Rattle.reg_arena.specs.Arena.{Bins, IsArena};
+
+    ghost Value = { Bins };
+
+    ghost view = { λ a. record { bytes = a.bins.items; heads = a.head ∷ [] } };
+
+    ghost invariant = { λ a. IsArena a.bins.items (a.head ∷ []) (a.count ∷ []) };
+}
+
+impl Arena {
+    /// An arena with no bin.
+    pub fn new(alloc: Global) -> Self
+        ensures bytes { result.bytes ≡ [] }
+        ensures heads { result.heads ≡ 4294967295 ∷ [] }
+    {
+        Arena {
+            bins: Vec::new(alloc),
+            head: NONE,
+            count: 0,
+        }
+    }
+
+    /// How many bytes all bins have together: a multiple of 4096, at most 268,435,456.
+    pub fn bins_size(&self) -> u32
+        ensures size { result ≡ length self.now.bytes }
+        ensures sound { IsSound self.now.bytes self.now.heads }
+    {
+        self.bins.len() as u32
+    }
+
+    /// `len` bytes of the bins, headers and size fields too, from the offset `at` on.
+    pub fn bytes(&self, at: u32, len: u32) -> &[u8]
+        requires { at + len ≤ length self.now.bytes }
+        ensures { result.now ≡ take len (drop at self.now.bytes) }
+    {
+        &self.bins[at as usize..at as usize + len as usize]
+    }
+
+    /// All cells of the bins, free ones too, in the order of their offsets.
+    ///
+    /// Its one fault is [`ArenaFault::Memory`].
+    ///
+    /// Suhanov, Windows registry file format specification, section "Cell".
+    pub fn cells(&self, alloc: Global) -> Result<Vec<Cell>, ArenaFault>
+        ensures ok { IfOk result (λ cells. cells_of self.now.bytes ≡ Some cells.items) }
+        ensures fault { IfErr result (λ fault. fault ≡ ArenaFault.Memory) }
+    {
+        list_cells(&self.bins, alloc)
+    }
+
+    /// What the allocated cell at the offset `cell` holds: the bytes behind its size field.
+    ///
+    /// Suhanov, Windows registry file format specification, section "Cell".
+    pub fn content(&self, cell: u32) -> &[u8]
+        requires { IsSome (cell_at self.now.bytes cell) }
+        ensures { cell_at self.now.bytes cell ≡ Some result.now }
+    {
+        content_part(&self.bins, cell)
+    }
+
+    /// Writes `bytes` into the allocated cell at the offset `cell`, from byte `at` of what it holds on. They end within the
+    /// cell. Nothing else changes.
+    pub fn write(&mut self, cell: u32, at: u32, bytes: &[u8])
+        requires exists { IsSome (cell_at self.old.bytes cell) }
+        requires fits { at + length bytes.now ≤ length (unwrap_or (cell_at self.old.bytes cell) []) }
+        ensures written { (offset : ℕ) → cell_at self.new.bytes offset ≡ (if offset == cell then Some (splice at bytes.now (unwrap_or (cell_at self.old.bytes cell) [])) else cell_at self.old.bytes offset) }
+        ensures cells { cells_of self.new.bytes ≡ cells_of self.old.bytes }
+        ensures heads { self.new.heads ≡ self.old.heads }
+        ensures bytes { self.new.bytes ≡ splice (cell + 4 + at) bytes.now self.old.bytes }
+    {
+        let from = cell as usize + 4 + at as usize;
+        write_part(&mut self.bins, from, bytes);
+    }
+
+    /// Allocates cells of these sizes, side by side and in their order, and puts their offsets behind those of `out`.
+    ///
+    /// A size counts the cell's size field, and is a multiple of 8 and not 0; all sizes together are at most 16,777,216.
+    /// The cells hold zeros. They are the front of one free cell that fits, whose rest stays free. Only where none fits, a
+    /// bin of the least size that holds them is appended first, and they are the front of its one cell. No size: nothing
+    /// happens.
+    ///
+    /// For now there is at most one bin. [`ArenaFault::Full`]: there is a bin, and no free cell fits.
+    /// [`ArenaFault::Memory`]: `out` or the bins could not grow. After either the arena and `out` are as before.
+    ///
+    /// Suhanov, Windows registry file format specification, sections "Hive bin" and "Cell".
+    pub fn carve(&mut self, sizes: &[u32], out: &mut Vec<u32>) -> Result<(), ArenaFault>
+        requires sizes { AreSizes sizes.now }
+        requires total { total_of sizes.now ≤ 16777216 }
+        ensures nothing { sizes.now ≡ [] → (result ≡ Ok tt) × (self.new ≡ self.old) × (out.new.items ≡ out.old.items) }
+        ensures ok { OnOk result (0 < length sizes.now → (offsets : List ℕ) × (out.new.items ≡ out.old.items ++ offsets) × CarvesExactly self.old.bytes self.new.bytes sizes.now offsets × AddsCells self.old.bytes self.new.bytes sizes.now offsets) }
+        ensures full { (result ≡ Err ArenaFault.Full) ↔ ((0 < length sizes.now) × (0 < length self.old.bytes) × NoFit self.old.bytes (total_of sizes.now)) }
+        ensures err { OnErr result ((self.new ≡ self.old) × (out.new.items ≡ out.old.items)) }
+    {
+        if sizes.is_empty() {
+            return Ok(());
+        }
+        let total = sum_of(sizes);
+        let Some(place) = find_fit(&self.bins, self.head, self.count, total) else {
+            if !self.bins.is_empty() {
+                return Err(ArenaFault::Full);
+            }
+            return carve_bin(
+                &mut self.bins,
+                &mut self.head,
+                &mut self.count,
+                total,
+                sizes,
+                out,
+            );
+        };
+        carve_found(
+            &mut self.bins,
+            &mut self.head,
+            &mut self.count,
+            place,
+            total,
+            sizes,
+            out,
+        )
+    }
+}
+
+fn sum_of(sizes: &[u32]) -> u32
+    requires { total_of sizes.now ≤ 16777216 }
+    ensures { result ≡ total_of sizes.now }
+{
+    let mut total = 0;
+    for size in sizes {
+        total += *size;
+    }
+    total
+}
+
+fn content_part(bins: &[u8], cell: u32) -> &[u8]
+    requires eight { 8 ≤ size_in (word bins.now cell) }
+    requires within { cell + size_in (word bins.now cell) ≤ length bins.now }
+    requires small { length bins.now ≤ 268435456 }
+    ensures { result.now ≡ take (size_in (word bins.now cell) - 4) (drop (cell + 4) bins.now) }
+{
+    let size = size_at(bins, cell as usize);
+    &bins[cell as usize + 4..(cell + size) as usize]
+}
+
+#[tactic(auto, unfolding(reg_heap::specs::Words::splice))]
+fn write_part(bins: &mut Vec<u8>, from: usize, bytes: &[u8])
+    requires { from + length bytes.now ≤ length bins.old.items }
+    ensures { bins.new.items ≡ splice from bytes.now bins.old.items }
+{
+    bins[from..from + bytes.len()].copy_from_slice(bytes);
+}

@@ -1,0 +1,79 @@
+//! A new bin at the end of the bins.
+//!
+//! Suhanov, Windows registry file format specification, section "Hive bin".
+ghost use Rattle.std.specs.Prelude.{◌≡◌, ◌+◌, ◌-◌, ◌≤◌, ◌<◌, ℕ, List, [], ◌∷◌, ◌++◌, length, replicate, OnOk, OnErr, IfOk};
+ghost use Rattle.reg_arena.specs.Arena.{IsArena};
+ghost use Rattle.reg_arena.specs.Free.{chain, IsFit};
+ghost use Rattle.reg_arena.specs.NewBin.{AppendsBin, IsBinSize, headed};
+
+use crate::list::{NONE, Place, put_free};
+use crate::words::put_word;
+use std::alloc::AllocError;
+
+/// The bytes of a bin's header.
+pub const HEADER_SIZE: u32 = 32;
+
+/// A bin's size is a multiple of so many bytes.
+const PAGE_SIZE: u32 = 4096;
+
+/// The letters `hbin`.
+const SIGNATURE: u32 = 0x6E69_6268;
+
+// The least size of a bin that has room for `total` bytes of cells.
+fn bin_size(total: u32) -> u32
+    requires { total ≤ 16777216 }
+    ensures least { IsBinSize result total }
+    ensures small { result ≤ total + 4128 }
+{
+    (HEADER_SIZE + total).next_multiple_of(PAGE_SIZE)
+}
+
+// Writes a bin's header, the zeros at its end left out.
+fn put_header(bins: &mut Vec<u8>, at: u32, size: u32)
+    requires { at + 12 ≤ length bins.old.items }
+    ensures { bins.new.items ≡ headed at size bins.old.items }
+{
+    put_word(bins, at as usize, SIGNATURE);
+    put_word(bins, at as usize + 4, at);
+    put_word(bins, at as usize + 8, size);
+}
+
+// Appends `n` zeros.
+fn lengthen(bins: &mut Vec<u8>, n: u32) -> Result<(), AllocError>
+    requires { length bins.old.items + n ≤ 268435456 }
+    ensures ok { OnOk result (bins.new.items ≡ bins.old.items ++ replicate n 0) }
+    ensures err { OnErr result (bins.new.items ≡ bins.old.items) }
+{
+    let long = bins.len() + n as usize;
+    bins.resize(long, 0)
+}
+
+// Appends a bin of the least size with one free cell of at least `total` bytes, and puts that cell at the head of the list.
+pub fn add_bin(
+    bins: &mut Vec<u8>,
+    head: &mut u32,
+    count: &mut usize,
+    total: u32,
+) -> Result<Place, AllocError>
+    requires arena { IsArena bins.old.items (head.old ∷ []) (count.old ∷ []) }
+    requires positive { 0 < total }
+    requires total { total ≤ 16777216 }
+    requires room { length bins.old.items + total + 4128 ≤ 268435456 }
+    ensures arena { IsArena bins.new.items (head.new ∷ []) (count.new ∷ []) }
+    ensures ok { OnOk result (AppendsBin bins.old.items bins.new.items total) }
+    ensures fit { IfOk result (λ place. IsFit bins.new.items total (chain count.new bins.new.items head.new) place.previous place.cell) }
+    ensures err { OnErr result ((bins.new.items ≡ bins.old.items) × (head.new ≡ head.old) × (count.new ≡ count.old)) }
+{
+    let at = bins.len() as u32;
+    let size = bin_size(total);
+    lengthen(bins, size)?;
+    put_header(bins, at, size);
+    let cell = at + HEADER_SIZE;
+    put_free(bins, cell, size - HEADER_SIZE, *head);
+    *head = cell;
+    *count += 1;
+    Ok(Place {
+        previous: NONE,
+        cell,
+    })
+}

@@ -1,0 +1,122 @@
+//! Allocated cells from one free cell.
+ghost use Rattle.std.specs.Prelude.{◌≡◌, ◌+◌, ◌-◌, ◌≤◌, ◌<◌, ℕ, List, [], ◌∷◌, ◌++◌, length, vec_len, vec_capacity, IfErr, OnErr, OnOk};
+ghost use Rattle.reg_arena.specs.Arena.{IsArena};
+ghost use Rattle.reg_heap.specs.Words.{word};
+ghost use Rattle.reg_arena.specs.Cells.{size_in};
+ghost use Rattle.reg_arena.specs.NewCells.{total_of, AreSizes, offsets_of};
+ghost use Rattle.reg_arena.specs.Carves.{AddsCells, Carves, CarvesExactly, NoFit};
+ghost use Rattle.reg_arena.specs.Free.{chain, IsFit, TakesOut};
+
+use crate::ArenaFault;
+use crate::bin::add_bin;
+use crate::cut::cut;
+use crate::list::{Place, put_free, set_link};
+use crate::words::{size_at, word_at};
+
+// Takes the first `total` bytes of a free cell out of its list. Their rest, if there is one, stands in its place.
+fn take_out(bins: &mut Vec<u8>, head: &mut u32, count: &mut usize, place: Place, total: u32)
+    requires within { place.cell + size_in (word bins.old.items place.cell) ≤ length bins.old.items }
+    requires fits { total ≤ size_in (word bins.old.items place.cell) }
+    requires rest { total < size_in (word bins.old.items place.cell) → total + 8 ≤ size_in (word bins.old.items place.cell) }
+    requires positive { 8 ≤ total }
+    requires previous { (place.previous ≡ 4294967295 → ⊥) → place.previous + 8 ≤ length bins.old.items }
+    requires count { 0 < count.old }
+    requires small { length bins.old.items ≤ 268435456 }
+    ensures next { word bins.old.items (place.cell + 4) < 4294967296 }
+    ensures long { length bins.new.items ≡ length bins.old.items }
+    ensures taken { TakesOut bins.old.items head.old count.old place.previous place.cell total bins.new.items head.new count.new }
+{
+    let cell = place.cell;
+    let size = size_at(bins, cell as usize);
+    let next = word_at(bins, cell as usize + 4);
+    if size == total {
+        set_link(bins, head, place.previous, next);
+        *count -= 1;
+        return;
+    }
+    let rest = cell + total;
+    set_link(bins, head, place.previous, rest);
+    put_free(bins, rest, size - total, next);
+}
+
+// Cuts cells from the free cell at `place`. There is room for their offsets.
+fn carve_at(
+    bins: &mut Vec<u8>,
+    head: &mut u32,
+    count: &mut usize,
+    place: Place,
+    total: u32,
+    sizes: &[u32],
+    out: &mut Vec<u32>,
+)
+    requires arena { IsArena bins.old.items (head.old ∷ []) (count.old ∷ []) }
+    requires fit { IsFit bins.old.items total (chain count.old bins.old.items head.old) place.previous place.cell }
+    requires sizes { AreSizes sizes.now }
+    requires total { total ≡ total_of sizes.now }
+    requires positive { 0 < total }
+    requires room { vec_len out.old + length sizes.now ≤ vec_capacity out.old }
+    ensures arena { IsArena bins.new.items (head.new ∷ []) (count.new ∷ []) }
+    ensures carves { Carves bins.old.items bins.new.items sizes.now (offsets_of place.cell sizes.now) }
+    ensures out { out.new.items ≡ out.old.items ++ offsets_of place.cell sizes.now }
+{
+    take_out(bins, head, count, place, total);
+    cut(bins, place.cell, sizes, out);
+}
+
+// Carves from the free cell at `place`.
+pub fn carve_found(
+    bins: &mut Vec<u8>,
+    head: &mut u32,
+    count: &mut usize,
+    place: Place,
+    total: u32,
+    sizes: &[u32],
+    out: &mut Vec<u32>,
+) -> Result<(), ArenaFault>
+    requires arena { IsArena bins.old.items (head.old ∷ []) (count.old ∷ []) }
+    requires fit { IsFit bins.old.items total (chain count.old bins.old.items head.old) place.previous place.cell }
+    requires sizes { AreSizes sizes.now }
+    requires total { total ≡ total_of sizes.now }
+    requires positive { 0 < total }
+    ensures arena { IsArena bins.new.items (head.new ∷ []) (count.new ∷ []) }
+    ensures ok { OnOk result ((offsets : List ℕ) × (out.new.items ≡ out.old.items ++ offsets) × CarvesExactly bins.old.items bins.new.items sizes.now offsets × AddsCells bins.old.items bins.new.items sizes.now offsets) }
+    ensures fault { IfErr result (λ fault. fault ≡ ArenaFault.Memory) }
+    ensures err { OnErr result ((bins.new.items ≡ bins.old.items) × (head.new ≡ head.old) × (out.new.items ≡ out.old.items)) }
+{
+    if out.reserve(sizes.len()).is_err() {
+        return Err(ArenaFault::Memory);
+    }
+    carve_at(bins, head, count, place, total, sizes, out);
+    Ok(())
+}
+
+// Carves from the free cell of a new bin.
+pub fn carve_bin(
+    bins: &mut Vec<u8>,
+    head: &mut u32,
+    count: &mut usize,
+    total: u32,
+    sizes: &[u32],
+    out: &mut Vec<u32>,
+) -> Result<(), ArenaFault>
+    requires arena { IsArena bins.old.items (head.old ∷ []) (count.old ∷ []) }
+    requires none { NoFit bins.old.items total }
+    requires sizes { AreSizes sizes.now }
+    requires total { total ≡ total_of sizes.now }
+    requires positive { 0 < total }
+    requires small { total ≤ 16777216 }
+    requires room { length bins.old.items + total + 4128 ≤ 268435456 }
+    ensures arena { IsArena bins.new.items (head.new ∷ []) (count.new ∷ []) }
+    ensures ok { OnOk result ((offsets : List ℕ) × (out.new.items ≡ out.old.items ++ offsets) × CarvesExactly bins.old.items bins.new.items sizes.now offsets × AddsCells bins.old.items bins.new.items sizes.now offsets) }
+    ensures fault { IfErr result (λ fault. fault ≡ ArenaFault.Memory) }
+    ensures err { OnErr result ((bins.new.items ≡ bins.old.items) × (head.new ≡ head.old) × (out.new.items ≡ out.old.items)) }
+{
+    if out.reserve(sizes.len()).is_err() {
+        return Err(ArenaFault::Memory);
+    }
+    let Ok(place) = add_bin(bins, head, count, total) else {
+        return Err(ArenaFault::Memory);
+    };
+    carve_at(bins, head, count, place, total, sizes, out);
+    Ok(())
+}

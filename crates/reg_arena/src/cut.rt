@@ -1,0 +1,49 @@
+//! Allocated cells, side by side, cut from a piece of the bins.
+ghost use Rattle.std.specs.Prelude.{◌≡◌, ◌+◌, ◌-◌, ◌≤◌, ◌<◌, ◌%◌, ℕ, List, [], ◌∷◌, ◌++◌, length, take, drop, replicate, vec_len, vec_capacity};
+ghost use Rattle.byteorder.specs.Endian.{little_bytes};
+ghost use Rattle.reg_heap.specs.Words.{splice, word, SameOutside};
+ghost use Rattle.reg_arena.specs.Cells.{IsCell, Tiles, content_in};
+ghost use Rattle.reg_arena.specs.NewCells.{total_of, AreSizes, used, carved, offsets_of, zeroed};
+
+use crate::words::put_word;
+
+#[tactic(auto, unfolding(reg_heap::specs::Words::splice))]
+fn zero(bins: &mut Vec<u8>, from: usize, len: usize)
+    requires { from + len ≤ length bins.old.items }
+    ensures { bins.new.items ≡ splice from (replicate len 0) bins.old.items }
+{
+    bins[from..from + len].fill(0);
+}
+
+// An allocated cell of zeros. Its size field has the size, negated.
+fn cut_one(bins: &mut Vec<u8>, at: u32, size: u32)
+    requires positive { 0 < size }
+    requires eights { size % 8 ≡ 0 }
+    requires fits { at + size ≤ length bins.old.items }
+    requires small { length bins.old.items ≤ 268435456 }
+    ensures region { SameOutside at (at + size) bins.old.items bins.new.items }
+    ensures cell { IsCell bins.new.items (at + size) (used at size) }
+    ensures zero { take (size - 4) (drop (at + 4) bins.new.items) ≡ replicate (size - 4) 0 }
+{
+    put_word(bins, at as usize, 0xFFFF_FFFF - size + 1);
+    zero(bins, at as usize + 4, size as usize - 4);
+}
+
+// Allocated cells of these sizes from `cell` on. There is room for their offsets.
+pub fn cut(bins: &mut Vec<u8>, cell: u32, sizes: &[u32], out: &mut Vec<u32>)
+    requires sizes { AreSizes sizes.now }
+    requires fits { cell + total_of sizes.now ≤ length bins.old.items }
+    requires small { length bins.old.items ≤ 268435456 }
+    requires room { vec_len out.old + length sizes.now ≤ vec_capacity out.old }
+    ensures region { SameOutside cell (cell + total_of sizes.now) bins.old.items bins.new.items }
+    ensures tiles { Tiles bins.new.items cell (cell + total_of sizes.now) (carved cell sizes.now) }
+    ensures zero { (offset : ℕ) → content_in bins.new.items (carved cell sizes.now) offset ≡ zeroed cell sizes.now offset }
+    ensures out { out.new.items ≡ out.old.items ++ offsets_of cell sizes.now }
+{
+    let mut at = cell;
+    for size in sizes {
+        cut_one(bins, at, *size);
+        let _ = out.push(at);
+        at += *size;
+    }
+}

@@ -1,0 +1,48 @@
+//! The arena: allocated and free cells in bins, as a hive file holds them.
+//!
+//! A hive's data is a row of bins, and a bin is a header and a row of cells that fill it. An [`Arena`] keeps the bins'
+//! bytes, and the list of the free cells, which is threaded through them: the four bytes behind a free cell's size field
+//! are the offset of the next one. Offsets count from the first bin. Sizes and offsets are in bytes.
+//!
+//! The contracts speak of the bytes by three words: `cells_of` (all cells, in order), `cell_at` (what the allocated cell at
+//! an offset holds) and `IsSound` (what holds of every arena). Crates above need only `cell_at`.
+//!
+//! Suhanov, Windows registry file format specification, sections "Hive bin" and "Cell".
+#![tactic(auto)]
+
+mod arena;
+mod bin;
+mod carve;
+mod cut;
+mod list;
+#[cfg(test)]
+mod tests;
+mod walk;
+mod words;
+
+pub use arena::Arena;
+use thiserror::Error;
+
+/// A cell as it stands in the bins.
+///
+/// Suhanov, Windows registry file format specification, section "Cell".
+#[derive(Clone, Copy, Debug, PartialEq, Eq)]
+pub struct Cell {
+    /// Where its size field is: a multiple of 8, counted from the first bin.
+    pub offset: u32,
+    /// Its bytes, the four of the size field too: a multiple of 8, at least 8.
+    pub size: u32,
+    /// Whether it is in use; else it is free.
+    pub allocated: bool,
+}
+
+/// Why a call failed. The arena is as it was before.
+#[derive(Clone, Copy, Debug, PartialEq, Eq, Error)]
+pub enum ArenaFault {
+    /// No free cell fits, and there may be no further bin.
+    #[error("the bins have no room")]
+    Full,
+    /// Memory was refused.
+    #[error("no memory")]
+    Memory,
+}

@@ -1,0 +1,29 @@
+use Rattle.std.proofs.Common.{◌≡◌, ◌+◌, ◌≤◌, ◌∙◌, ap, sym, subst, arith, inl, None, refl, length, List, [], ℕ}
+use Rattle.std.proofs.lemmas.Grind.{common_steps}
+use Rattle.reg_heap.specs.Paths.{Tree}
+use Rattle.reg_model.specs.declared.call.Change.TheVariants.{SetValue}
+use Rattle.reg_model.specs.Causes.{State, change_cause}
+use Rattle.reg_model.specs.Worlds.{edited, with_value}
+use Rattle.reg_calls.proofs.States.{state-view, can_set}
+use Rattle.reg_calls.proofs.Pushes.{kept-set, set_reply}
+use Rattle.reg_calls.specs.Views.{View, state}
+use Rattle.reg_calls.proofs.core.Core.set_value.Goals as goal
+
+pub set_value-requires : goal.set_value-requires
+set_value-requires c =
+    let can = can_set _ _ _ _ _ _ c.requires in
+    omega (arith, can.few, ap (λ (bs : List ℕ). length bs) c.as_slice.ensures)
+
+pub invariant_of-self-2 : goal.invariant_of-self-2
+invariant_of-self-2 c =
+    let accepted = subst (λ (v : View). change_cause (state v) c.args.session (SetValue c.args.handle c.args.name c.args.kind c.args.bytes) 0 ≡ None) (sym c.self.view_is) c.requires in
+    let room : length c.self.inside.handles ≤ c.append.new.self.room = grind (arith, common_steps) in
+    let edit = c.in-Ok.ensures.ok ∙ ap (λ (bs : List ℕ). edited c.self.inside.tree.tree [] (with_value [] c.args.kind bs c.args.moment)) c.as_slice.ensures in
+    let done = kept-set c.self.invariant c.args.session c.args.moment c.args.handle c.args.kind c.args.name c.args.bytes c.set_value.new.self.tree c.append.new.self.room accepted edit room in
+    grind (arith, common_steps, done)
+
+pub returns : goal.returns
+returns c =
+    let says = set_reply (state c.args.self.now) c.args.session c.args.handle c.args.kind c.args.name c.args.bytes in
+    let view = c.self.view_is in
+    inl (record { says = grind (arith, common_steps, says, view); journal = grind (arith, common_steps, says, view); origin = ap (λ (v : View). v.origin) view })

@@ -1,0 +1,19 @@
+use Rattle.std.proofs.Common.{arith, subst, List, ◌<◌}
+use Rattle.std.specs.Prelude.{All}
+use Rattle.std.proofs.lemmas.Grind.{common_steps}
+use Rattle.std.proofs.lemmas.List.Elements.{All-tail}
+use Rattle.reg_model.specs.declared.step.Step.{Step}
+use Rattle.reg_calls.proofs.RunMore.{Run-push}
+use Rattle.reg_calls.proofs.hive.Hive.run.Goals as goal
+
+pub loop-step-preserved : goal.loop-step-preserved
+loop-step-preserved c =
+    let more = Run-push _ _ _ _ _ _ _ c.loop-step.invariant.ran c.answer-outcome.ensures in
+    let next = c.in-Some.ensures.steps in
+    record {
+      ran = grind (arith, common_steps, more);
+      count = grind (arith, common_steps);
+      left = grind (arith, common_steps);
+      room = grind (arith, common_steps);
+      sessions = All-tail (λ (s : Step). s.session < 64) _ _ (subst (All (λ (s : Step). s.session < 64)) next.0 c.loop-step.invariant.sessions);
+    }

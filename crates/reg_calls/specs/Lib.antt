@@ -1,0 +1,8 @@
+pub mod Kept
+pub mod Rows
+pub mod Founds
+pub mod Carving
+pub mod Roots
+pub mod Views
+pub mod Hives
+pub mod Runs

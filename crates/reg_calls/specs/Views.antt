@@ -1,0 +1,96 @@
+-- What callers see of a hive, and what is true of every hive.
+use Rattle.std.specs.Prelude.{◌≡◌, ℕ, ◌+◌, ◌<◌, ◌≤◌, List, [], ◌∷◌, ◌++◌, length, Option, Some, None, All, ◌⊎◌, refl, is_some}
+use Rattle.std.specs.Coded.{Coded, code_by, coded×, coded_list}
+use Rattle.std.specs.FinMap.{insert, empty}
+use Rattle.reg_heap.specs.Paths.{Tree, Rec, coded_tree}
+use Rattle.reg_model.specs.Worlds.{Handle, Place, At}
+use Rattle.reg_model.specs.Causes.{State, change_cause, query_cause}
+use Rattle.reg_model.specs.Replies.{reply_to, refusal, body_of}
+use Rattle.reg_model.specs.Histories.{state_of, IsLegal, replay}
+use Rattle.reg_model.specs.contracts.reply.Entry.{the_row}
+use Rattle.reg_model.specs.declared.reply.Entry.{Entry}
+use Rattle.reg_model.specs.declared.reply.ChangeReply.{ChangeReply}
+use Rattle.reg_model.specs.declared.answer.AnswerBody.{AnswerBody}
+use Rattle.reg_model.specs.declared.answer.AnswerBody.TheVariants.{Refused, Value}
+use Rattle.reg_model.specs.declared.call.Change.{Change}
+use Rattle.reg_model.specs.declared.call.Change.TheVariants.{OpenRoot, SetValue}
+use Rattle.reg_model.specs.declared.call.Query.{Query}
+use Rattle.reg_calls.specs.Roots.{Keys, coded_keys}
+
+-- a hive: the tree that it was made with, its journal, and its keys in their bins
+pub record View : Type 0 where
+  pub origin : Tree
+  pub journal : List Entry
+  pub keys : Keys
+
+abbrev pub coded_view : Coded View
+coded_view =
+    code_by (Tree × (List Entry × Keys)) (coded× coded_tree (coded× (coded_list the_row.coded) coded_keys)) (λ v. (v.origin, (v.journal, v.keys)))
+    (λ p. record { origin = p.0; journal = p.1.0; keys = p.1.1 }) (λ _. refl)
+
+-- where a call finds the hive
+abbrev pub state : View → State
+state v = state_of v.origin v.journal
+
+-- a tree of one root (temporary: until keys can be made)
+pub record IsOneRoot (tree : Tree) : Type 0 where
+  pub rec : Rec
+  pub is : tree ≡ insert empty [] rec
+
+-- every handle leads to the root (temporary: until keys can be opened)
+abbrev pub AreAtRoot : List Handle → Type 0
+AreAtRoot handles = All (λ (h : Handle). h.place ≡ At []) handles
+
+-- the journal is legal, and the tree and the handles are those of its replay
+pub record IsKept (origin : Tree) (journal : List Entry) (tree : Tree) (handles : List Handle) (room : ℕ) : Type 0 where
+  pub legal : IsLegal origin journal
+  pub tree_is : tree ≡ (replay origin journal).tree
+  pub handles_are : handles ≡ (replay origin journal).handles
+  pub root : IsOneRoot tree
+  pub at_root : AreAtRoot handles
+  pub numbers : All (λ (h : Handle). h.number < length journal) handles
+  pub small : length journal + length handles ≤ 16777216
+  pub room_kept : length handles ≤ room
+
+-- the entry of an accepted change
+abbrev pub entry_of : View → ℕ → ℕ → Change → Entry
+entry_of v session moment change = record { number = length v.journal; session = session; moment = moment; change = change; reply = reply_to (state v) session change }
+
+-- the change is accepted: its reply is the one due, and the journal grows by its entry
+pub record IsAccepted (old new : View) (session moment : ℕ) (change : Change) (reply : ChangeReply) : Type 0 where
+  pub says : reply ≡ reply_to (state old) session change
+  pub journal : new.journal ≡ old.journal ++ entry_of old session moment change ∷ []
+  pub origin : new.origin ≡ old.origin
+
+-- the changes that take space in the bins
+abbrev pub Carves : Change → Type 0
+Carves (OpenRoot mask) = ⊥
+Carves (SetValue h name kind bytes) = Unit {0}
+
+-- an acceptable change isn't made, for want of memory or of space in the bins, and nothing changed
+pub record Lacks (old new : View) (change : Change) (reply : ChangeReply) : Type 0 where
+  pub why : (reply ≡ refusal 8) ⊎ ((reply ≡ refusal 1450) × Carves change)
+  pub same : new ≡ old
+
+-- what a change may be answered, by the cause of its refusal
+abbrev pub IsApplied : Option ℕ → View → View → ℕ → ℕ → Change → ChangeReply → Type 0
+IsApplied (Some status) old new session moment change reply = (reply ≡ refusal status) × (new ≡ old)
+IsApplied None old new session moment change reply = IsAccepted old new session moment change reply ⊎ Lacks old new change reply
+
+-- the answer holds bytes
+abbrev pub HoldsBytes : AnswerBody → Type 0
+HoldsBytes (Refused status) = ⊥
+HoldsBytes (Value kind size bytes) = is_some bytes ≡ Rattle.std.specs.Prelude.true
+HoldsBytes body = ⊥
+
+abbrev pub is_told : Option ℕ → AnswerBody → AnswerBody
+is_told (Some status) body = Refused status
+is_told None body = body
+
+-- what is told in the place of an answer that is due: that answer, or 8 where it holds bytes
+abbrev pub IsTold : AnswerBody → AnswerBody → Type 0
+IsTold due body = (body ≡ due) ⊎ ((body ≡ Refused 8) × HoldsBytes due)
+
+-- what a question may be answered: the refusal, or the answer due, or 8 in its place
+abbrev pub IsRead : State → ℕ → Query → AnswerBody → Type 0
+IsRead s session query body = IsTold (is_told (query_cause s session query 0) (body_of s session query)) body

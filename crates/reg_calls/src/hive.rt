@@ -1,0 +1,156 @@
+ghost use Rattle.std.specs.Prelude.{◌≡◌, ◌<◌, ◌≤◌, ◌↔◌, ◌⊎◌, ◌+◌, [], true, false, length, slice_get, option_copied, vec_len, IfOk, OnErr, IsErrOf, All};
+ghost use Rattle.std.specs.FinMap.{insert, empty};
+ghost use Rattle.reg_names.specs.Names.{is_key_name};
+ghost use Rattle.reg_arena.specs.Cells.{cell_at};
+ghost use Rattle.reg_model.specs.Causes.{change_cause};
+ghost use Rattle.reg_model.specs.Histories.{IsLegal, replay};
+ghost use Rattle.reg_calls.specs.Roots.{made_root, spelt};
+ghost use Rattle.reg_calls.specs.Views.{state, IsApplied, IsRead};
+
+use crate::core::Core;
+use crate::tree::{Tree, TreeFault};
+use reg_arena::Arena;
+use reg_model::{Answer, Call, Change, ChangeReply, Entry, Outcome, Query, Step};
+use reg_names::check_key_name;
+use std::alloc::{AllocError, Global};
+use thiserror::Error;
+
+/// The largest security descriptor, in bytes.
+const DESCRIPTOR_LIMIT: usize = 65_535;
+
+/// Why a hive wasn't made; the first that holds.
+#[derive(Clone, Copy, Debug, PartialEq, Eq, Error)]
+pub enum NewFault {
+    /// The root's name is no key name.
+    #[error("the root's name is no key name")]
+    Name,
+    /// The descriptor is empty or above 65,535 bytes.
+    #[error("the descriptor is empty or too long")]
+    Descriptor,
+    /// A growth was refused.
+    #[error("no memory")]
+    Memory,
+}
+
+/// Why a run wasn't begun.
+#[derive(Clone, Copy, Debug, PartialEq, Eq, Error)]
+pub enum RunFault {
+    /// There is no memory for the list of outcomes.
+    #[error("no memory for the outcomes")]
+    Memory,
+}
+
+/// A hive: a tree of keys in the bytes of its bins, its open handles, and the journal of its accepted changes.
+#[derive(Drop)]
+pub struct Hive {
+    core: Core,
+}
+
+impl Hive {
+    ghost use Rattle.reg_calls.specs.Hives.{view_of};
+    ghost use Rattle.reg_calls.specs.Runs.{Run, IsStep};
+
+    /// A hive of one root: the name as given, mark 8 (no delete), no class, the descriptor, the moment (100 ns units
+    /// since 1601) and no values.
+    pub fn new(
+        alloc: Global,
+        root_name: &[u8],
+        descriptor: &[u8],
+        moment: u64,
+    ) -> Result<Hive, NewFault>
+        ensures origin { IfOk result (λ h. (view_of h).origin ≡ insert empty [] (made_root root_name.now descriptor.now moment)) }
+        ensures journal { IfOk result (λ h. (view_of h).journal ≡ []) }
+        ensures name { IsErrOf result NewFault.Name ↔ (is_key_name root_name.now ≡ false) }
+        ensures descriptor { IsErrOf result NewFault.Descriptor ↔ ((is_key_name root_name.now ≡ true) × ((length descriptor.now ≡ 0) ⊎ (65535 < length descriptor.now))) }
+    {
+        if check_key_name(root_name).is_err() {
+            return Err(NewFault::Name);
+        }
+        if descriptor.is_empty() || descriptor.len() > DESCRIPTOR_LIMIT {
+            return Err(NewFault::Descriptor);
+        }
+        match Tree::new(alloc, root_name, descriptor, moment) {
+            Ok(tree) => Ok(Hive {
+                core: Core::new(alloc, tree),
+            }),
+            Err(_) => Err(NewFault::Memory),
+        }
+    }
+
+    /// How many entries the journal has.
+    pub fn len(&self) -> usize
+        ensures len { result ≡ length (view_of self.now).journal }
+        ensures legal { IsLegal (view_of self.now).origin (view_of self.now).journal }
+    {
+        self.core.len()
+    }
+
+    /// The entry of that number.
+    pub fn entry(&self, place: usize) -> Option<&Entry>
+        ensures { option_copied result ≡ slice_get (view_of self.now).journal place }
+    {
+        self.core.entry(place)
+    }
+
+    /// The bins with their cells.
+    pub fn arena(&self) -> &Arena
+        ensures bins { result.now ≡ (view_of self.now).keys.bins }
+        ensures tree { (view_of self.now).keys.tree ≡ (replay (view_of self.now).origin (view_of self.now).journal).tree }
+        ensures spelt { (view_of self.now).keys.tree ≡ spelt (cell_at (view_of self.now).keys.bins.bytes) (view_of self.now).keys.root }
+    {
+        self.core.arena()
+    }
+
+    /// Answers a change of a session, below 64, at a moment (100 ns units since 1601). An accepted change becomes the
+    /// journal's next entry; after a refusal the hive is as before. 8 and 1450 for space come only in place of an
+    /// acceptance.
+    pub fn apply(&mut self, session: u8, moment: u64, change: Change) -> ChangeReply
+        requires { session < 64 }
+        ensures { IsApplied (change_cause (state (view_of self.old)) session change 0) (view_of self.old) (view_of self.new) session moment change result }
+    {
+        self.core.apply(session, moment, change)
+    }
+
+    /// Answers a question of a session, below 64. 8 comes only in place of an answer that holds bytes.
+    pub fn read(&self, session: u8, query: &Query) -> Answer
+        requires { session < 64 }
+        ensures at { result.at ≡ length (view_of self.now).journal }
+        ensures body { IsRead (state (view_of self.now)) session query.now result.body }
+    {
+        self.core.read(session, query)
+    }
+
+    fn answer(&mut self, step: Step) -> Outcome
+        requires { step.session < 64 }
+        ensures { IsStep (view_of self.old) step result (view_of self.new) }
+    {
+        let Step {
+            session,
+            moment,
+            call,
+        } = step;
+        match call {
+            Call::Change(change) => Outcome::Changed(self.apply(session, moment, change)),
+            Call::Query(query) => Outcome::Answered(self.read(session, &query)),
+        }
+    }
+
+    /// Answers calls in order. The only fault comes before the first of them.
+    pub fn run(&mut self, alloc: Global, steps: Vec<Step>) -> Result<Vec<Outcome>, RunFault>
+        requires { All (λ s. s.session < 64) steps.items }
+        ensures ok { IfOk result (λ outcomes. Run (view_of self.old) steps.items outcomes.items (view_of self.new)) }
+        ensures err { OnErr result (self.new ≡ self.old) }
+    {
+        let Ok(mut outcomes) = Vec::with_capacity(alloc, steps.len()) else {
+            return Err(RunFault::Memory);
+        };
+        for step in steps {
+            let outcome = self.answer(step);
+            match outcomes.push(outcome) {
+                Ok(()) => {}
+                Err(_) => unreachable!(),
+            }
+        }
+        Ok(outcomes)
+    }
+}

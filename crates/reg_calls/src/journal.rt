@@ -1,0 +1,63 @@
+ghost use Rattle.std.specs.Prelude.{◌≡◌, ◌+◌, ◌<◌, ◌≤◌, ◌++◌, ◌∷◌, [], OnOk, length, slice_get, option_copied};
+
+use reg_model::Entry;
+use std::alloc::{AllocError, Global};
+use std::marker::Model;
+
+/// The accepted changes of a hive, in order: a list that only grows.
+#[derive(Drop)]
+pub struct Journal {
+    entries: Vec<Entry>,
+}
+
+impl Model for Journal {
+    ghost use Rattle.std.specs.Prelude.{◌-◌, vec_len, vec_capacity};
+    ghost use Rattle.reg_calls.specs.Kept.{Kept};
+
+    ghost Value = { Kept };
+
+    ghost view = { λ j. record { entries = j.entries.items; room = vec_capacity j.entries - vec_len j.entries } };
+}
+
+impl Journal {
+    pub fn new(alloc: Global) -> Journal
+        ensures { result.entries ≡ [] }
+    {
+        Journal {
+            entries: Vec::new(alloc),
+        }
+    }
+
+    pub fn len(&self) -> usize
+        ensures { result ≡ length self.now.entries }
+    {
+        self.entries.len()
+    }
+
+    pub fn entry(&self, place: usize) -> Option<&Entry>
+        ensures { option_copied result ≡ slice_get self.now.entries place }
+    {
+        self.entries.get(place)
+    }
+
+    /// Keeps room for so many more entries.
+    pub fn reserve(&mut self, more: usize) -> Result<(), AllocError>
+        ensures entries { self.new.entries ≡ self.old.entries }
+        ensures room { self.old.room ≤ self.new.room }
+        ensures ok { OnOk result (more ≤ self.new.room) }
+    {
+        self.entries.reserve(more)
+    }
+
+    /// Appends an entry in room that was kept.
+    pub fn append(&mut self, entry: Entry)
+        requires { 0 < self.old.room }
+        ensures entries { self.new.entries ≡ self.old.entries ++ entry ∷ [] }
+        ensures room { self.old.room ≤ self.new.room + 1 }
+    {
+        match self.entries.push(entry) {
+            Ok(()) => {}
+            Err(_) => unreachable!(),
+        }
+    }
+}

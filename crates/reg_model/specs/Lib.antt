@@ -1,0 +1,4 @@
+pub mod Worlds
+pub mod Causes
+pub mod Replies
+pub mod Histories

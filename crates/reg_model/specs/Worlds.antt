@@ -1,0 +1,89 @@
+-- A world, and what an accepted change makes of it.
+use Rattle.std.specs.Prelude.{◌≡◌, ℕ, ◌+◌, ◌==◌, Bool, List, [], ◌∷◌, ◌++◌, if◌then◌else◌, Option, Some, None}
+use Rattle.std.specs.Ordering.{nat_cmp, is_eq}
+use Rattle.std.specs.Cmp.Lexicographic.{slice_cmp}
+use Rattle.std.specs.FinMap.{get, insert}
+use Rattle.reg_names.specs.Names.{folded, name_cmp}
+use Rattle.reg_heap.specs.Paths.{Path, Tree, Rec, Member}
+use Rattle.reg_model.specs.declared.call.Change.{Change}
+use Rattle.reg_model.specs.declared.call.Change.TheVariants.{OpenRoot, SetValue}
+use Rattle.reg_model.specs.declared.reply.Entry.{Entry}
+
+-- where a handle leads: to a key, or nowhere any more
+pub data Place : Type 0 where
+  At : Path → Place
+  Deleted : Place
+
+-- an open handle: its number, its session, its rights and where it leads
+pub record Handle : Type 0 where
+  pub number : ℕ
+  pub session : ℕ
+  pub mask : ℕ
+  pub place : Place
+
+-- the tree, and the open handles in the order of their numbers
+pub record World : Type 0 where
+  pub tree : Tree
+  pub handles : List Handle
+
+-- the handle of that number
+abbrev pub numbered : ℕ → List Handle → Option Handle
+numbered number [] = None
+numbered number (h ∷ hs) = if h.number == number then Some h else numbered number hs
+
+abbrev pub owned : ℕ → Option Handle → Option Handle
+owned session None = None
+owned session (Some h) = if h.session == session then Some h else None
+
+-- the session's handle of that number
+abbrev pub look : ℕ → ℕ → List Handle → Option Handle
+look session number hs = owned session (numbered number hs)
+
+abbrev pub path_in : Place → Path
+path_in (At p) = p
+path_in Deleted = []
+
+-- the path of a handle's key; the root's where there is none
+abbrev pub path_at : ℕ → ℕ → List Handle → Path
+path_at session number hs = by (look session number hs)
+  where
+    by : Option Handle → Path
+    by None = []
+    by (Some h) = path_in h.place
+
+-- a handle that an entry opens has the entry's number
+abbrev pub opened : Entry → Path → ℕ → Handle
+opened e p mask = record { number = e.number; session = e.session; mask = mask; place = At p }
+
+abbrev pub same_name : List ℕ → List ℕ → Bool
+same_name a b = is_eq (name_cmp a b)
+
+-- the value of that name, after folding
+abbrev pub value_named : List ℕ → List Member → Option Member
+value_named name [] = None
+value_named name (v ∷ vs) = if same_name v.name name then Some v else value_named name vs
+
+-- a value is replaced in its place and keeps the name that it was first given; a new one goes to the end
+abbrev pub values_with : List ℕ → ℕ → List ℕ → List Member → List Member
+values_with name kind bytes [] = record { name = name; kind = kind; bytes = bytes } ∷ []
+values_with name kind bytes (v ∷ vs) =
+    if same_name v.name name then record { name = v.name; kind = kind; bytes = bytes } ∷ vs else v ∷ values_with name kind bytes vs
+
+abbrev pub with_value : List ℕ → ℕ → List ℕ → ℕ → Rec → Rec
+with_value name kind bytes moment r = record r { time = moment; values = values_with name kind bytes r.values }
+
+-- the key at a path changed
+abbrev pub edited : Tree → Path → (Rec → Rec) → Tree
+edited t p f = put (get t p)
+  where
+    put : Option Rec → Tree
+    put None = t
+    put (Some r) = insert t p (f r)
+
+-- the world after an accepted change (`RegOpenKeyEx`, `RegSetValueEx`): one line for each change
+unfoldable pub after : World → Entry → World
+after w e = by e.change
+  where
+    by : Change → World
+    by (OpenRoot mask) = record w { handles = w.handles ++ opened e [] mask ∷ [] }
+    by (SetValue h name kind bytes) = record w { tree = edited w.tree (path_at e.session h w.handles) (with_value name kind bytes e.moment) }

@@ -1,0 +1,69 @@
+ghost use Rattle.std.specs.Prelude.{◌≡◌, IfOk};
+
+use std::alloc::{AllocError, Global};
+use std::marker::Model;
+
+/// Bytes that contracts see as a list: a name, or a value's data.
+#[derive(Debug, Drop)]
+pub struct Bytes {
+    items: Vec<u8>,
+}
+
+impl Model for Bytes {
+    ghost use Rattle.std.specs.Prelude.{List, ℕ};
+
+    ghost Value = { List ℕ };
+
+    ghost view = { λ b. b.items.items };
+}
+
+impl Bytes {
+    /// The bytes of a vector, without a copy.
+    pub fn from_vec(items: Vec<u8>) -> Bytes
+        ensures { result ≡ items.items }
+    {
+        Bytes { items }
+    }
+
+    /// Gives the vector back, without a copy.
+    pub fn into_vec(self) -> Vec<u8>
+        ensures { result.items ≡ self }
+    {
+        let Bytes { items } = self;
+        items
+    }
+
+    pub fn as_slice(&self) -> &[u8]
+        ensures { result.now ≡ self.now }
+    {
+        self.items.as_slice()
+    }
+
+    /// A copy of a slice's bytes.
+    pub fn from_slice(alloc: Global, bytes: &[u8]) -> Result<Bytes, AllocError>
+        ensures { IfOk result (λ copy. copy ≡ bytes.now) }
+    {
+        let items = Vec::from_slice(alloc, bytes)?;
+        Ok(Bytes { items })
+    }
+
+    /// A copy, which equals its source.
+    pub fn try_clone(&self, alloc: Global) -> Result<Bytes, AllocError>
+        ensures { IfOk result (λ copy. copy ≡ self.now) }
+    {
+        Bytes::from_slice(alloc, self.as_slice())
+    }
+}
+
+/// A copy of optional bytes, which equals its source.
+pub(crate) fn clone_option(
+    alloc: Global,
+    bytes: &Option<Bytes>,
+) -> Result<Option<Bytes>, AllocError>
+    ensures { IfOk result (λ copy. copy ≡ bytes.now) }
+{
+    match bytes {
+        Some(bytes) => Ok(Some(bytes.try_clone(alloc)?)),
+        None => Ok(None),
+    }
+}

@@ -1,0 +1,6 @@
+use Rattle.std.proofs.Common.{sym, ◌∙◌, arith}
+use Rattle.reg_names.proofs.Orders.{ended}
+use Rattle.reg_names.proofs.name_order.Goals as goal
+
+pub returns : goal.returns
+returns c = c.cmp.ensures ∙ (sym (ended c.args.a.now c.args.b.now _ (omega arith)) ∙ sym c.loop-place.invariant)

@@ -1,0 +1,46 @@
+-- Names of keys and values (Win32 registry reference, "Registry Element Size Limits" and "Structure of the Registry").
+use Rattle.std.specs.Prelude.{ℕ, ◌-◌, ◌==◌, ◌&&◌, not, nat_lt, nat_le, Bool, List, map, take, length, if◌then◌else◌, Option, Some, None, Result, Ok, Err}
+use Rattle.std.specs.List.{list_all}
+use Rattle.std.specs.Ordering.{nat_cmp}
+use Rattle.std.specs.declared.cmp.Ordering.{Ordering}
+use Rattle.std.specs.Cmp.Lexicographic.{slice_cmp}
+use Rattle.reg_names.specs.declared.NameFault.{NameFault}
+use Rattle.reg_names.specs.declared.NameFault.TheVariants.{Empty, BadByte, NameTooLong}
+
+-- a letter a to z becomes A to Z, and every other byte stays
+abbrev pub fold : ℕ → ℕ
+fold b = if nat_le 97 b && nat_le b 122 then b - 32 else b
+
+abbrev pub folded : List ℕ → List ℕ
+folded name = map fold name
+
+-- names are ordered by their folded bytes; a prefix comes first
+abbrev pub name_cmp : List ℕ → List ℕ → Ordering
+name_cmp a b = slice_cmp nat_cmp (folded a) (folded b)
+
+-- a byte of a value's name: a character of the profile
+abbrev pub is_value_name_byte : ℕ → Bool
+is_value_name_byte b = nat_le 1 b && nat_le b 127
+
+-- a byte of a key's name: such a byte, and no backslash
+abbrev pub is_key_name_byte : ℕ → Bool
+is_key_name_byte b = is_value_name_byte b && not (b == 92)
+
+-- the fault of the earliest byte at which one arises; the byte past the limit is too many whatever it is
+unfoldable pub fault_in : ℕ → (ℕ → Bool) → List ℕ → Option NameFault
+fault_in limit is_allowed name =
+    if list_all is_allowed (take limit name) then (if nat_lt limit (length name) then Some NameTooLong else None) else Some BadByte
+
+-- a key's name has 1 to 255 bytes
+abbrev pub key_name_fault : List ℕ → Option NameFault
+key_name_fault name = if length name == 0 then Some Empty else fault_in 255 is_key_name_byte name
+
+-- a value's name has at most 16,383 bytes; the empty name is the default value's
+abbrev pub value_name_fault : List ℕ → Option NameFault
+value_name_fault name = fault_in 16383 is_value_name_byte name
+
+abbrev pub is_key_name : List ℕ → Bool
+is_key_name name = list_all is_key_name_byte name && nat_lt 0 (length name) && nat_le (length name) 255
+
+abbrev pub is_value_name : List ℕ → Bool
+is_value_name name = list_all is_value_name_byte name && nat_le (length name) 16383

@@ -1,0 +1,123 @@
+//! Names of keys and values: which are allowed, and how they are compared.
+//!
+//! Win32 registry reference, "Registry Element Size Limits"; the limits to bytes 0x01 to 0x7F are this project's own.
+#![tactic(auto)]
+
+ghost use Rattle.std.specs.Prelude.{◌≡◌, ◌↔◌, IsTrue, MatchResult, Some, None, is_ok, take};
+ghost use Rattle.std.specs.List.{list_all};
+ghost use Rattle.reg_names.specs.Names.{fold as fold_of, folded, name_cmp, key_name_fault, value_name_fault, is_key_name, is_value_name, is_key_name_byte as is_key_byte_of, is_value_name_byte as is_value_byte_of};
+
+use std::cmp::Ordering;
+use thiserror::Error;
+
+/// The longest key name, in bytes.
+pub const KEY_NAME_LIMIT: usize = 255;
+
+/// The longest value name, in bytes.
+pub const VALUE_NAME_LIMIT: usize = 16_383;
+
+/// What is wrong with a name.
+#[derive(Clone, Copy, Debug, PartialEq, Eq, Error)]
+pub enum NameFault {
+    /// A key name of no bytes.
+    #[error("the name is empty")]
+    Empty,
+    /// A byte outside 0x01 to 0x7F, or a backslash in a key name.
+    #[error("the name has a byte that names may not have")]
+    BadByte,
+    /// More bytes than the limit.
+    #[error("the name is too long")]
+    NameTooLong,
+}
+
+fn is_value_name_byte(byte: u8) -> bool
+    ensures { result ≡ is_value_byte_of byte }
+{
+    byte >= 0x01 && byte <= 0x7F
+}
+
+fn is_key_name_byte(byte: u8) -> bool
+    ensures { result ≡ is_key_byte_of byte }
+{
+    is_value_name_byte(byte) && byte != b'\\'
+}
+
+fn are_value_name_bytes(bytes: &[u8]) -> bool
+    ensures { result ≡ list_all is_value_byte_of bytes.now }
+{
+    bytes.iter().all(|byte| is_value_name_byte(*byte))
+}
+
+fn are_key_name_bytes(bytes: &[u8]) -> bool
+    ensures { result ≡ list_all is_key_byte_of bytes.now }
+{
+    bytes.iter().all(|byte| is_key_name_byte(*byte))
+}
+
+fn front(name: &[u8], limit: usize) -> &[u8]
+    ensures { result.now ≡ take limit name.now }
+{
+    &name[..name.len().min(limit)]
+}
+
+/// Checks a key name. The fault is that of the earliest byte at which one arises.
+pub fn check_key_name(name: &[u8]) -> Result<(), NameFault>
+    ensures fault { MatchResult result (λ _. key_name_fault name.now ≡ None) (λ fault. key_name_fault name.now ≡ Some fault) }
+    ensures valid { is_ok result ≡ is_key_name name.now }
+{
+    if name.is_empty() {
+        return Err(NameFault::Empty);
+    }
+    if !are_key_name_bytes(front(name, KEY_NAME_LIMIT)) {
+        return Err(NameFault::BadByte);
+    }
+    if name.len() > KEY_NAME_LIMIT {
+        return Err(NameFault::NameTooLong);
+    }
+    Ok(())
+}
+
+/// Checks a value name; the empty name is that of a key's default value. The fault is that of the earliest byte at
+/// which one arises.
+pub fn check_value_name(name: &[u8]) -> Result<(), NameFault>
+    ensures fault { MatchResult result (λ _. value_name_fault name.now ≡ None) (λ fault. value_name_fault name.now ≡ Some fault) }
+    ensures valid { is_ok result ≡ is_value_name name.now }
+{
+    if !are_value_name_bytes(front(name, VALUE_NAME_LIMIT)) {
+        return Err(NameFault::BadByte);
+    }
+    if name.len() > VALUE_NAME_LIMIT {
+        return Err(NameFault::NameTooLong);
+    }
+    Ok(())
+}
+
+/// A letter a to z becomes A to Z; every other byte stays.
+pub fn fold(byte: u8) -> u8
+    ensures { result ≡ fold_of byte }
+{
+    byte.to_ascii_uppercase()
+}
+
+/// Whether two names are the same after folding.
+pub fn same_name(a: &[u8], b: &[u8]) -> bool
+    ensures { IsTrue result ↔ (folded a.now ≡ folded b.now) }
+{
+    match name_order(a, b) {
+        Ordering::Equal => true,
+        Ordering::Less | Ordering::Greater => false,
+    }
+}
+
+/// The order of two names by their folded bytes; a prefix comes first.
+pub fn name_order(a: &[u8], b: &[u8]) -> Ordering
+    ensures { result ≡ name_cmp a.now b.now }
+{
+    for place in 0..a.len().min(b.len()) {
+        let order = fold(a[place]).cmp(&fold(b[place]));
+        if order != Ordering::Equal {
+            return order;
+        }
+    }
+    a.len().cmp(&b.len())
+}

@@ -1,0 +1,6 @@
+pub mod Splices
+pub mod Writing
+pub mod Securities
+pub mod Values
+pub mod Keys
+pub mod Offsets

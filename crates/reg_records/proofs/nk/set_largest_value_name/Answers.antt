@@ -1,0 +1,14 @@
+use Rattle.std.proofs.Common.{lit≤}
+use Rattle.byteorder.specs.Endian.{little_bytes}
+use Rattle.reg_records.proofs.Keys.{key-room, key-changed, nk-named}
+use Rattle.reg_records.proofs.nk.set_largest_value_name.Goals as goal
+
+pub write_part-requires : goal.write_part-requires
+write_part-requires c = rw c.word_bytes.ensures.bytes (key-room _ c.args.cell 64 (lit≤ tt) c.requires)
+
+pub returns-clause-written : goal.returns-clause-written
+returns-clause-written c = rw c.word_bytes.ensures.bytes at c.write_part.ensures
+
+pub returns-clause-reads : goal.returns-clause-reads
+returns-clause-reads c =
+    key-changed 60 (little_bytes 4 c.args.largest) (λ r. record r { fields = record r.fields { largest_value_name = c.args.largest } }) (nk-named c.args.largest c.word_bytes.ensures.fits) _ _ c.args.cell (returns-clause-written c)

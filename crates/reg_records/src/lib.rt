@@ -1,0 +1,106 @@
+//! The records of a registry hive: key nodes, key values, key securities and rows of offsets.
+//!
+//! Suhanov, Windows registry file format specification, sections "Key node", "Key value",
+//! "Key security" and "Key values list". All numbers are little endian. A record stands at the
+//! start of what its cell holds, and the cell may be longer than the record.
+#![tactic(auto)]
+
+ghost use Rattle.std.specs.Prelude.{◌≡◌, ◌+◌, ◌^◌, ◌<◌, ◌≤◌, length};
+ghost use Rattle.byteorder.specs.Endian.{little_bytes};
+ghost use Rattle.reg_heap.specs.Words.{half, word, long};
+ghost use Rattle.reg_records.specs.Letters.{is_signed as is_signed_of};
+
+use byteorder::{ByteOrder, LittleEndian};
+use thiserror::Error;
+
+mod cells;
+mod nk;
+mod rows;
+mod sk;
+#[cfg(test)]
+mod tests;
+mod vk;
+
+pub use nk::{
+    KeyFields, KeyNode, put_nk, read_nk, set_largest_value_data, set_largest_value_name, set_time,
+    set_values,
+};
+pub use rows::{offset_at, put_offset};
+pub use sk::{SecurityFields, SecurityRecord, put_sk, read_sk};
+pub use vk::{ValueFields, ValueRecord, put_vk, read_vk, set_data};
+
+/// Why the content of a cell is no record: the first that holds, in this order.
+#[derive(Clone, Copy, Debug, PartialEq, Eq, Error)]
+pub enum RecordFault {
+    /// The content is shorter than the record's fixed part.
+    #[error("the cell is too short for the record")]
+    Short,
+    /// The content doesn't begin with the record's two letters.
+    #[error("the record has another signature")]
+    Signature,
+    /// A length in the record passes the end of the content.
+    #[error("a length in the record passes the end of its cell")]
+    Length,
+    /// A key node has the flag 0x40, of a key on a predefined handle.
+    #[error("the key node has a flag that is not supported")]
+    NotInProfile,
+}
+
+/// Whether the content begins with these two letters.
+fn is_signed(content: &[u8], first: u8, second: u8) -> bool
+    requires { 2 ≤ length content.now }
+    ensures { result ≡ is_signed_of first second content.now }
+{
+    content[0] == first && content[1] == second
+}
+
+/// The 16-bit number at a place.
+#[tactic(auto, unfolding(reg_heap::specs::Words::half))]
+fn half_at(content: &[u8], at: usize) -> u16
+    requires { at + 2 ≤ length content.now }
+    ensures { result ≡ half content.now at }
+{
+    LittleEndian::read_u16(&content[at..])
+}
+
+/// The 32-bit number at a place.
+#[tactic(auto, unfolding(reg_heap::specs::Words::word))]
+fn word_at(content: &[u8], at: usize) -> u32
+    requires { at + 4 ≤ length content.now }
+    ensures { result ≡ word content.now at }
+{
+    LittleEndian::read_u32(&content[at..])
+}
+
+/// The 64-bit number at a place.
+#[tactic(auto, unfolding(reg_heap::specs::Words::long))]
+fn long_at(content: &[u8], at: usize) -> u64
+    requires { at + 8 ≤ length content.now }
+    ensures { result ≡ long content.now at }
+{
+    LittleEndian::read_u64(&content[at..])
+}
+
+/// The bytes of a 16-bit number, the lowest first.
+fn half_bytes(number: u16) -> [u8; 2]
+    ensures bytes { result ≡ little_bytes 2 number }
+    ensures fits { number < 2 ^ 16 }
+{
+    number.to_le_bytes()
+}
+
+/// The bytes of a 32-bit number, the lowest first.
+fn word_bytes(number: u32) -> [u8; 4]
+    ensures bytes { result ≡ little_bytes 4 number }
+    ensures fits { number < 2 ^ 32 }
+{
+    number.to_le_bytes()
+}
+
+/// The bytes of a 64-bit number, the lowest first.
+fn long_bytes(number: u64) -> [u8; 8]
+    ensures bytes { result ≡ little_bytes 8 number }
+    ensures fits { number < 2 ^ 64 }
+{
+    number.to_le_bytes()
+}

@@ -1,0 +1,33 @@
+//! Rows of offsets, as the list of a key's values.
+//!
+//! Suhanov, Windows registry file format specification, section "Key values list".
+
+ghost use Rattle.std.specs.Prelude.{◌≡◌, ◌≢◌, ◌+◌, ◌*◌, ◌^◌, ◌<◌, ◌≤◌, ℕ, length};
+ghost use Rattle.byteorder.specs.Endian.{little_bytes};
+ghost use Rattle.reg_arena.specs.Cells.{cell_at};
+ghost use Rattle.reg_records.specs.Cells.{HasRoom, WritesPart, held};
+ghost use Rattle.reg_records.specs.Rows.{offset_in};
+
+use crate::cells::write_part;
+use crate::{word_at, word_bytes};
+use reg_arena::Arena;
+
+/// The offset at an index of a row, counted from 0.
+#[tactic(auto, unfolding(crate::specs::Rows::offset_in))]
+pub fn offset_at(content: &[u8], index: u32) -> u32
+    requires { 4 * index + 4 ≤ length content.now }
+    ensures { result ≡ offset_in content.now index }
+{
+    word_at(content, 4 * index as usize)
+}
+
+/// Writes the offset at an index, counted from 0, of the row that a cell holds. The others stay.
+pub fn put_offset(arena: &mut Arena, cell: u32, index: u32, offset: u32)
+    requires room { HasRoom (cell_at arena.old.bytes) cell (4 * index + 4) }
+    requires index { index < 2 ^ 30 }
+    ensures written { WritesPart arena.old arena.new cell (4 * index) (little_bytes 4 offset) }
+    ensures here { offset_in (held (cell_at arena.new.bytes) cell) index ≡ offset }
+    ensures others { (other : ℕ) → other ≢ index → offset_in (held (cell_at arena.new.bytes) cell) other ≡ offset_in (held (cell_at arena.old.bytes) cell) other }
+{
+    write_part(arena, cell, 4 * index, &word_bytes(offset));
+}

@@ -1,0 +1,34 @@
+ghost use Rattle.std.specs.Prelude.{◌<◌};
+
+use reg_model::Call;
+
+/// A line of a script, understood.
+#[derive(Debug, Drop)]
+pub enum Line {
+    /// An empty line or a comment: no reply.
+    Nothing,
+    /// A setting for all later lines: no reply.
+    Setting(Setting),
+    /// A call of the session that is set.
+    Call(Call),
+    /// A line of another form: `bad`.
+    Bad,
+}
+
+/// What later lines go by.
+#[derive(Clone, Copy, Debug)]
+pub enum Setting {
+    /// The moment of later calls, in units of 100 ns since 1601.
+    At(u64),
+    /// The session of later calls.
+    As(Session),
+    /// The hive of later calls; there is one, number 0.
+    Hive,
+}
+
+/// The number of a session.
+#[derive(Clone, Copy, Debug)]
+pub struct Session {
+    pub number: u8,
+    ghost in_range: { number < 64 },
+}

@@ -1,0 +1,32 @@
+//! The command-line tool: `regtool run` reads a script of registry calls on standard input and writes the replies.
+#![tactic(auto)]
+
+mod engine;
+mod line;
+mod output;
+mod parse;
+mod reply;
+mod tool;
+
+use std::process::ExitCode;
+use std::{env, io};
+pub use tool::tool;
+
+fn main(rt: HostRuntime) -> ExitCode {
+    let alloc = rt.alloc();
+    let words = match env::args(&rt) {
+        Ok(args) => args.collect(alloc),
+        Err(_) => {
+            let _ = rt.eprintln("error: an argument is not text");
+            return ExitCode::from(2);
+        }
+    };
+    let Ok(words) = words else {
+        let _ = rt.eprintln("error 8");
+        return ExitCode::from(1);
+    };
+    let mut input = rt.reader();
+    let mut output = io::writer(&rt);
+    let mut errors = rt.stderr();
+    ExitCode::from(tool(alloc, words, &mut input, &mut output, &mut errors))
+}

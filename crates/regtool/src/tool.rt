@@ -1,0 +1,102 @@
+ghost use Rattle.std.specs.Prelude.{◌≡◌, ◌≤◌, OnOk};
+ghost use Rattle.std.specs.Io.KnownBytes.{IsAtEnd};
+
+use crate::engine::{ScriptFault, run};
+use clap::error::ErrorKind;
+use clap::{Command, Error};
+use reg_calls::Hive;
+use std::alloc::Global;
+use std::io::{Read, Write};
+
+/// The name of a script's hive's root.
+const ROOT_NAME: &[u8; 4] = b"ROOT";
+
+/// The root's descriptor: a self-relative security descriptor with nothing in it.
+const DESCRIPTOR: [u8; 20] = [
+    0x01, 0x00, 0x04, 0x80, 0, 0, 0, 0, 0, 0, 0, 0, 0, 0, 0, 0, 0, 0, 0, 0,
+];
+
+/// What ended the tool early.
+#[derive(Drop)]
+enum Failure {
+    /// The text of `clap` on the command line, status 2.
+    Usage(String),
+    /// `error script N`, status 1.
+    Script(ScriptFault),
+    /// `error 8`, status 1.
+    Memory,
+}
+
+/// Reads the command line. Its one command is `run`.
+fn check_words<'a>(alloc: Global, words: &'a [String]) -> Result<(), Error> {
+    let run = Command::new(alloc, "run").about(
+        "Runs a script of registry calls from standard input",
+    );
+    let command = Command::new(alloc, "regtool")
+        .about("Answers registry calls on a hive")
+        .subcommand_required(true)
+        .subcommand(run)?;
+    let _matches = command.try_get_matches_from(words)?;
+    Ok(())
+}
+
+fn usage(alloc: Global, error: &Error) -> Failure {
+    if error.kind() == ErrorKind::OutOfMemory {
+        return Failure::Memory;
+    }
+    match format!(in alloc; "{error}") {
+        Ok(text) => Failure::Usage(text),
+        Err(_) => Failure::Memory,
+    }
+}
+
+fn attempt<R: Read, W: Write>(
+    alloc: Global,
+    words: &[String],
+    input: &mut R,
+    output: &mut W,
+) -> Result<(), Failure>
+    ensures { OnOk result (IsAtEnd (R.remaining input.new)) }
+{
+    if let Err(error) = check_words(alloc, words) {
+        return Err(usage(alloc, &error));
+    }
+    let Ok(mut hive) = Hive::new(alloc, ROOT_NAME, &DESCRIPTOR, 0) else {
+        return Err(Failure::Memory);
+    };
+    match run(alloc, input, output, &mut hive) {
+        Ok(()) => Ok(()),
+        Err(fault) => Err(Failure::Script(fault)),
+    }
+}
+
+/// Runs the tool on a command line, whose first word is the program's name, and answers the exit status: 0; 1 after a
+/// script's fault (`error script N` on `errors`) or for want of memory (`error 8`); 2 for a command line that isn't
+/// understood or a request for help (the text on `errors`). It is 0 only where the input was read to its end. A failed write to `errors` changes nothing.
+pub fn tool<R: Read, W: Write, E: Write>(
+    alloc: Global,
+    words: Vec<String>,
+    input: &mut R,
+    output: &mut W,
+    errors: &mut E,
+) -> u8
+    ensures status { result ≤ 2 }
+    ensures read { result ≡ 0 → IsAtEnd (R.remaining input.new) }
+{
+    match attempt(alloc, words.as_slice(), input, output) {
+        Ok(()) => 0,
+        Err(Failure::Usage(text)) => {
+            let _ = errors.write_all(text.as_bytes());
+            2
+        }
+        Err(Failure::Script(fault)) => {
+            let _ = errors.write_all(b"error script ");
+            let _ = errors.write_all(&[b'0' + fault.number(), b'\n']);
+            1
+        }
+        Err(Failure::Memory) => {
+            let _ = errors.write_all(b"error 8\n");
+            1
+        }
+    }
+}
