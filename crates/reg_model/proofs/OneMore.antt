@@ -1,5 +1,5 @@
 -- A journal with one more entry.
-use Rattle.std.proofs.Common.{◌≡◌, List, [], ◌∷◌, ◌++◌, refl, sym, ◌∙◌, append_assoc, subst}
+use Rattle.std.proofs.Common.{◌≡◌, List, [], ◌∷◌, ◌++◌, refl, sym, append_assoc, subst}
 use Rattle.std.proofs.lemmas.List.{append-nil}
 use Rattle.reg_heap.specs.Paths.{Tree}
 use Rattle.reg_model.specs.Worlds.{World, after}

@@ -1,5 +1,5 @@
 -- What accepted calls are told.
-use Rattle.std.specs.Prelude.{ℕ, nat_lt, List, length, if◌then◌else◌, Option, Some, None}
+use Rattle.std.specs.Prelude.{ℕ, nat_lt, length, if◌then◌else◌, Option, Some, None}
 use Rattle.reg_heap.specs.Paths.{Member}
 use Rattle.reg_model.specs.Worlds.{path_at, value_named}
 use Rattle.reg_model.specs.Causes.{State, values_at}

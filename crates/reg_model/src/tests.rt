@@ -1,85 +1,102 @@
 use super::*;
+use std::alloc::Global;
 use std::test::Fail;
 
+fn set_value(alloc: Global) -> Result<Change, Fail> {
+    let name = Bytes::from_slice(alloc, b"name")?;
+    let bytes = Bytes::from_slice(alloc, &[1, 0, 0, 0])?;
+    Ok(Change::SetValue {
+        handle: 7,
+        name,
+        kind: 4,
+        bytes,
+    })
+}
+
 #[test]
-fn copies(rt: HostRuntime) -> Result<(), Fail> {
+fn copies_of_changes(rt: HostRuntime) -> Result<(), Fail> {
     let alloc = rt.alloc();
-    let step = Step {
-        session: 3,
-        moment: 9,
-        call: Call::Change(Change::SetValue {
-            handle: 7,
-            name: Bytes::from_slice(alloc, b"name")?,
-            kind: 4,
-            bytes: Bytes::from_vec(vec![in alloc; 1, 0, 0, 0]?),
-        }),
-    };
-    let copy = step.try_clone(alloc)?;
-    assert_eq!(rt; copy.session, 3);
-    assert_eq!(rt; copy.moment, 9);
-    let Call::Change(change) = copy.call else {
-        return Err("a question in place of a change".into());
-    };
+    let change = set_value(alloc)?;
     let entry = Entry {
-        number: 0,
+        number: 5,
         session: 3,
         moment: 9,
         change,
         reply: ChangeReply {
             status: 0,
-            number: Some(0),
+            number: Some(5),
             handle: None,
             disposition: None,
         },
     };
-    let Change::SetValue {
-        handle,
-        name,
-        kind,
-        bytes,
-    } = entry.try_clone(alloc)?.change
-    else {
-        return Err("another change".into());
-    };
-    assert_eq!(rt; handle, 7);
-    assert_eq!(rt; name.as_slice(), b"name".as_slice());
-    assert_eq!(rt; kind, 4);
-    assert_eq!(rt; bytes.into_vec().as_slice(), [1, 0, 0, 0].as_slice());
+    let copy = entry.try_clone(alloc)?;
+    assert_eq!(rt; (copy.number, copy.session, copy.moment), (5, 3, 9));
+    assert_eq!(rt; copy.reply, entry.reply);
+    match copy.change {
+        Change::SetValue {
+            handle,
+            name,
+            kind,
+            bytes,
+        } => {
+            assert_eq!(rt; (handle, kind), (7, 4));
+            assert_eq!(rt; name.as_slice(), b"name".as_slice());
+            assert_eq!(rt; bytes.into_vec().as_slice(), [1, 0, 0, 0].as_slice());
+        }
+        Change::OpenRoot { .. } => assert!(rt; false, "another change"),
+    }
     Ok(())
 }
 
 #[test]
-fn copies_answers(rt: HostRuntime) -> Result<(), Fail> {
+fn copies_of_steps(rt: HostRuntime) -> Result<(), Fail> {
     let alloc = rt.alloc();
+    let name = Bytes::from_vec(Vec::new(alloc));
     let query = Query::QueryValue {
         handle: 7,
-        name: Bytes::from_slice(alloc, b"")?,
+        name,
         room: Some(4),
     };
-    let Call::Query(Query::QueryValue { handle, room, .. }) = Call::Query(query).try_clone(alloc)?
-    else {
-        return Err("another call".into());
+    let step = Step {
+        session: 3,
+        moment: 9,
+        call: Call::Query(query),
     };
-    assert_eq!(rt; (handle, room), (7, Some(4)));
-    let answer = Answer {
-        at: 5,
-        body: AnswerBody::Value {
-            kind: 3,
-            size: 2,
-            bytes: Some(Bytes::from_slice(alloc, &[8, 9])?),
-        },
-    };
-    let Outcome::Answered(copy) = Outcome::Answered(answer).try_clone(alloc)? else {
-        return Err("another outcome".into());
-    };
-    assert_eq!(rt; copy.at, 5);
-    let AnswerBody::Value {
+    let copy = step.try_clone(alloc)?;
+    assert_eq!(rt; (copy.session, copy.moment), (3, 9));
+    match copy.call {
+        Call::Query(Query::QueryValue { handle, room, .. }) => {
+            assert_eq!(rt; (handle, room), (7, Some(4)));
+        }
+        Call::Change(_) => assert!(rt; false, "another call"),
+    }
+    Ok(())
+}
+
+#[test]
+fn copies_of_answers(rt: HostRuntime) -> Result<(), Fail> {
+    let alloc = rt.alloc();
+    let bytes = Bytes::from_slice(alloc, &[8, 9])?;
+    let body = AnswerBody::Value {
+        kind: 3,
+        size: 2,
         bytes: Some(bytes),
-        ..
-    } = copy.body
-    else {
-        return Err("another answer".into());
     };
-    assert_eq!(rt; bytes.as_slice(), [8, 9].as_slice());
+    let outcome = Outcome::Answered(Answer { at: 5, body });
+    match outcome.try_clone(alloc)? {
+        Outcome::Answered(
+            Answer {
+                at,
+                body: AnswerBody::Value {
+                    bytes: Some(bytes),
+                    ..
+                },
+            },
+        ) => {
+            assert_eq!(rt; at, 5);
+            assert_eq!(rt; bytes.as_slice(), [8, 9].as_slice());
+        }
+        _ => assert!(rt; false, "another outcome"),
+    }
     Ok(())
 }

@@ -1,10 +1,10 @@
 -- The front of a name, and the whole of it. The limit is a variable, so that nothing counts up to it.
-use Rattle.std.proofs.Common.{◌==◌, if◌then◌else◌, ◌≡◌, ℕ, zero, suc, ◌≤◌, ◌<◌, Bool, true, false, ◌&&◌, List, [], ◌∷◌, length, take, nat_le, nat_lt, sym, ap, ◌∙◌, refl, arith, Option, Some, None, cond}
+use Rattle.std.proofs.Common.{◌==◌, if◌then◌else◌, ◌≡◌, ℕ, zero, suc, ◌≤◌, ◌<◌, Bool, true, false, ◌&&◌, List, [], ◌∷◌, length, take, nat_le, nat_lt, sym, ap, ◌∙◌, refl, arith, Some, None}
 use Rattle.std.specs.List.{list_all}
 use Rattle.std.proofs.lemmas.List.{take_all}
 use Rattle.std.proofs.lemmas.Bool.Decides.{nat_tests}
 use Rattle.reg_names.specs.Names.{fault_in}
-use Rattle.reg_names.specs.declared.NameFault.TheVariants.{Empty, BadByte, NameTooLong}
+use Rattle.reg_names.specs.declared.NameFault.TheVariants.{BadByte, NameTooLong}
 
 -- what holds in the whole holds in the front
 list_all-front : (p : ℕ → Bool) (n : ℕ) (xs : List ℕ) → list_all p xs ≡ true → list_all p (take n xs) ≡ true
@@ -52,8 +52,6 @@ value_long false m n l = refl
 
 pub key_long : (b : Bool) (m n : ℕ) → n < m → false ≡ (b && nat_lt 0 m && nat_le m n)
 key_long b m n l = value_long (b && nat_lt 0 m) m n l
-
-
 
 pub not_empty : (e : Bool) (n : ℕ) → e ≡ (n == 0) → e ≡ false → 0 < n
 not_empty e n h k = let t : (n == 0) ≡ false = sym h ∙ k in grind (arith, nat_tests)

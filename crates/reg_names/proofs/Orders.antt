@@ -7,7 +7,7 @@ use Rattle.std.specs.Cmp.Lexicographic.{slice_cmp}
 use Rattle.std.proofs.lemmas.Map.Text.{is_eq-slice_cmp}
 use Rattle.std.proofs.lemmas.Slice.Eq.{bytes_eq-Decides}
 use Rattle.std.proofs.lemmas.Bool.Decides.{nat_tests}
-use Rattle.reg_names.specs.Names.{fold, folded, name_cmp}
+use Rattle.reg_names.specs.Names.{name_cmp}
 
 -- nothing against some bytes, either way round
 pub name_cmp-nil : (ys : List ℕ) → name_cmp [] ys ≡ nat_cmp 0 (length ys)

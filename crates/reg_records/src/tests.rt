@@ -5,8 +5,7 @@ ghost use Rattle.reg_arena.specs.Cells.{cell_at};
 ghost use Rattle.reg_records.specs.Cells.{HasRoom};
 
 use super::*;
-use reg_arena::Arena;
-use reg_arena::arena::ArenaFault;
+use reg_arena::{Arena, ArenaFault};
 use std::alloc::Global;
 use std::test::Fail;
 

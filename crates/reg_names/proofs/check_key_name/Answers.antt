@@ -1,4 +1,3 @@
-use Rattle.std.proofs.Common.{sym, arith}
 use Rattle.reg_names.specs.Names.{is_key_name_byte}
 use Rattle.reg_names.proofs.Fronts.{fails, holds, bad, long, fine, key_is, key_not, else_of, not_empty}
 use Rattle.reg_names.proofs.check_key_name.Goals as goal

@@ -1,4 +1,3 @@
-use Rattle.std.proofs.Common.{sym, arith}
 use Rattle.reg_names.specs.Names.{is_value_name_byte}
 use Rattle.reg_names.proofs.Fronts.{fails, holds, bad, long, fine, value_is, value_not, value_long}
 use Rattle.reg_names.proofs.check_value_name.Goals as goal
