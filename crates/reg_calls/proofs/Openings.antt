@@ -1,7 +1,7 @@
 -- What a reading of a cell tells of its content.
-use Rattle.std.proofs.Common.{◌≡◌, ◌≢◌, ap, ℕ, ◌≤◌, List, Option, Some, None, IsSome, arith, refl, sym, ◌∙◌}
-use Rattle.std.specs.Prelude.{Result, Ok, Err}
-use Rattle.reg_records.specs.Cells.{Heap, HasRoom, held}
+use Rattle.std.proofs.Common.{◌≡◌, ◌≢◌, ap, ℕ, List, Option, Some, None, IsSome, arith, refl, sym, ◌∙◌}
+use Rattle.std.specs.Prelude.{Ok, Err}
+use Rattle.reg_records.specs.Cells.{Heap, held}
 use Rattle.reg_records.specs.Securities.{KeySecurityRecord, security_at}
 use Rattle.reg_records.proofs.Securities.{security_at-open}
 use Rattle.reg_records.specs.Keys.{KeyRecord, key_at, nk_of}

@@ -3,10 +3,9 @@ use Rattle.std.proofs.Common.{Bool, true, false, cond, eqb, ◌≡◌, ℕ, ◌+
 use Rattle.std.specs.Prelude.{All}
 use Rattle.std.specs.List.{AllByRecursion}
 use Rattle.std.proofs.lemmas.List.Elements.{recursion_from_All}
-use Rattle.std.specs.FinMap.{get, insert, empty}
 use Rattle.std.proofs.lemmas.List.Elements.{All-push, All-weaker}
 use Rattle.reg_heap.specs.Paths.{Path, Tree, Rec}
-use Rattle.reg_model.specs.Worlds.{World, Handle, Place, At, after, look, numbered, owned, path_at, path_in, edited, with_value}
+use Rattle.reg_model.specs.Worlds.{World, Handle, At, after, look, numbered, owned, path_at, edited, with_value}
 use Rattle.reg_model.specs.Causes.{State, change_cause}
 use Rattle.reg_model.specs.Replies.{reply_to}
 use Rattle.reg_model.specs.Histories.{state_of, replay, IsFit}
@@ -15,7 +14,7 @@ use Rattle.reg_model.specs.declared.call.Change.TheVariants.{OpenRoot, SetValue}
 use Rattle.reg_model.proofs.OneMore.{replay-push, legal-push}
 use Rattle.reg_calls.proofs.Spellings.{edited-root}
 use Rattle.reg_calls.proofs.States.{root-fits, can_set}
-use Rattle.reg_calls.specs.Views.{IsKept, View, state, IsOneRoot, AreAtRoot}
+use Rattle.reg_calls.specs.Views.{IsKept, IsOneRoot, AreAtRoot}
 
 -- the tables after one more entry
 pub record IsNext (origin : Tree) (es : List Entry) (e : Entry) (tree : Tree) (handles : List Handle) (room : ℕ) : Type 0 where

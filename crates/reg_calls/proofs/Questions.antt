@@ -1,11 +1,11 @@
 -- What questions are answered.
-use Rattle.std.proofs.Common.{◌≡◌, ◌≢◌, ℕ, Bool, true, false, not, List, [], length, Option, Some, None, refl, sym, ap, ◌∙◌, subst, arith, inl, inr}
+use Rattle.std.proofs.Common.{◌≡◌, ◌≢◌, ℕ, Bool, true, false, not, List, [], Option, Some, None, refl, sym, ap, ◌∙◌, subst, arith, inl}
 use Rattle.std.specs.Prelude.{bit_and}
 use Rattle.std.proofs.lemmas.Bool.Decides.{nat_tests}
 use Rattle.reg_names.specs.Names.{is_value_name}
-use Rattle.reg_heap.specs.Paths.{Tree, Member}
-use Rattle.reg_model.specs.Worlds.{Handle, At, look, path_at, value_named}
-use Rattle.reg_model.specs.Causes.{State, early_query_cause, late_query_cause, query_cause, refuse, ◌or◌, asked, has, by_handle, values_at}
+use Rattle.reg_heap.specs.Paths.{Member}
+use Rattle.reg_model.specs.Worlds.{Handle, At, look, value_named}
+use Rattle.reg_model.specs.Causes.{State, early_query_cause, late_query_cause, query_cause, has, values_at}
 use Rattle.reg_model.specs.Replies.{body_of, value_told}
 use Rattle.reg_model.specs.declared.answer.AnswerBody.{AnswerBody}
 use Rattle.reg_model.specs.declared.answer.AnswerBody.TheVariants.{Refused}

@@ -1,5 +1,5 @@
 -- A run goes on by one step.
-use Rattle.std.proofs.Common.{◌≡◌, List, [], ◌∷◌, ◌++◌, refl, sym, subst}
+use Rattle.std.proofs.Common.{List, [], ◌∷◌, ◌++◌, refl, subst}
 use Rattle.reg_model.specs.declared.step.Step.{Step}
 use Rattle.reg_model.specs.declared.step.Outcome.{Outcome}
 use Rattle.reg_calls.specs.Views.{View}

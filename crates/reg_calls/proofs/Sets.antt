@@ -2,7 +2,7 @@
 use Rattle.std.proofs.Common.{◌≡◌, ◌≢◌, ℕ, ◌+◌, ◌-◌, ◌≤◌, List, [], ◌∷◌, Option, Some, None, IsSome, arith, refl, sym, ap, ◌∙◌, subst, take, inl, inr}
 use Rattle.std.specs.FinMap.{insert, empty}
 use Rattle.byteorder.specs.Endian.{little_bytes}
-use Rattle.reg_heap.specs.Paths.{Rec, Member, Tree}
+use Rattle.reg_heap.specs.Paths.{Rec, Tree}
 use Rattle.reg_records.specs.Cells.{Heap, HasRoom, held, WritesCell}
 use Rattle.reg_records.specs.Keys.{KeyRecord, key_at}
 use Rattle.reg_records.specs.Values.{KeyValueRecord, value_record_at}
@@ -12,7 +12,7 @@ use Rattle.reg_records.proofs.Keys.{key_at-same}
 use Rattle.reg_records.proofs.Values.{value_record_at-same}
 use Rattle.reg_records.proofs.Securities.{security_at-same}
 use Rattle.reg_model.specs.Worlds.{edited, with_value}
-use Rattle.reg_calls.specs.Roots.{HasValue, IsRoot, spelt, first_offset, member_of, value_cell_in, noted, NotesSet, FillsValue, made_root}
+use Rattle.reg_calls.specs.Roots.{IsRoot, spelt, first_offset, member_of, noted, NotesSet, FillsValue, made_root}
 use Rattle.reg_records.specs.declared.nk.KeyFields.{KeyFields}
 use Rattle.reg_records.specs.declared.sk.SecurityFields.{SecurityFields}
 use Rattle.reg_calls.specs.declared.tree.stored.Stored.{Stored}

@@ -1,19 +1,19 @@
 -- What the root's cells spell.
-use Rattle.std.proofs.Common.{◌==◌, ◌≡◌, ◌≢◌, ℕ, zero, suc, ◌+◌, ◌-◌, ◌≤◌, Bool, true, false, cond, List, [], ◌∷◌, Option, Some, None, arith, refl, sym, ap, ◌∙◌, subst, take, ◌⊎◌, inl, inr}
+use Rattle.std.proofs.Common.{◌==◌, ◌≡◌, ◌≢◌, ℕ, ◌-◌, Bool, true, false, cond, List, [], ◌∷◌, Option, Some, None, refl, sym, ap, ◌∙◌, take, ◌⊎◌, inl, inr}
 use Rattle.std.proofs.lemmas.Bool.{ne_eqb}
 use Rattle.byteorder.specs.Endian.{little_bytes}
-use Rattle.std.specs.FinMap.{get, insert, empty, gets, same_map, get-insert, get-empty, IsAntisymmetric, slice_cmp-IsAntisymmetric, nat_cmp-IsAntisymmetric}
+use Rattle.std.specs.FinMap.{get, insert, empty, same_map, get-insert, IsAntisymmetric, slice_cmp-IsAntisymmetric, nat_cmp-IsAntisymmetric}
 use Rattle.std.specs.Cmp.{IsTotalOrder, nat_cmp_total}
 use Rattle.std.specs.Cmp.Lexicographic.{lists_total}
 use Rattle.std.specs.Ordering.{eq_by_cmp}
-use Rattle.reg_heap.specs.Paths.{Path, path_cmp, Tree, Rec, Member}
+use Rattle.reg_heap.specs.Paths.{path_cmp, Rec, Member}
 use Rattle.reg_records.specs.Cells.{Heap}
 use Rattle.reg_records.specs.Keys.{KeyRecord, key_at}
 use Rattle.reg_records.specs.Values.{KeyValueRecord, value_record_at}
 use Rattle.reg_records.specs.Securities.{KeySecurityRecord, security_at}
-use Rattle.reg_model.specs.Worlds.{edited, with_value, value_named}
+use Rattle.reg_model.specs.Worlds.{edited, value_named}
 use Rattle.reg_model.specs.Causes.{values_at}
-use Rattle.reg_calls.specs.Roots.{HasValue, IsRoot, spelt, tree_of, key_spelt, record_of, values_in, first_value, first_offset, member_of, marks_of, value_cell_in, cell_of_value, IsFound}
+use Rattle.reg_calls.specs.Roots.{HasValue, IsRoot, spelt, values_in, first_offset, member_of, marks_of, value_cell_in, IsFound}
 
 pub path_cmp_total : IsTotalOrder path_cmp
 path_cmp_total = lists_total (lists_total nat_cmp_total)

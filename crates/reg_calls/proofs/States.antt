@@ -1,13 +1,12 @@
 -- The tables of a hive are what its journal says, and the causes of changes by the tests that the code makes.
-use Rattle.std.proofs.Common.{◌≡◌, ◌≢◌, ℕ, ◌+◌, ◌<◌, ◌≤◌, Bool, true, false, not, List, [], length, Option, Some, None, refl, sym, ap, ◌∙◌, subst, arith}
+use Rattle.std.proofs.Common.{◌≡◌, ◌≢◌, ℕ, ◌+◌, ◌<◌, ◌≤◌, not, List, [], length, Option, Some, None, refl, sym, ap, ◌∙◌, arith}
 use Rattle.std.specs.Prelude.{bit_and}
 use Rattle.std.proofs.lemmas.Bool.Decides.{nat_tests}
 use Rattle.reg_heap.specs.Paths.{Tree}
-use Rattle.reg_model.specs.Worlds.{World, Handle, Place, At, Deleted, look}
-use Rattle.reg_model.specs.Causes.{State, early_cause, late_cause, change_cause, handles_of, refuse, ◌or◌, asked, is_bad_value, has, is_full, by_handle, no_handle_room, is_mask}
-use Rattle.reg_model.specs.Histories.{state_of, replay}
+use Rattle.reg_model.specs.Worlds.{Handle, Place, At, Deleted, look}
+use Rattle.reg_model.specs.Causes.{State, early_cause, late_cause, change_cause, handles_of, refuse, ◌or◌, asked, is_bad_value, has, is_full, by_handle}
+use Rattle.reg_model.specs.Histories.{state_of}
 use Rattle.reg_model.specs.declared.reply.Entry.{Entry}
-use Rattle.reg_model.specs.declared.call.Change.{Change}
 use Rattle.reg_model.specs.declared.call.Change.TheVariants.{OpenRoot, SetValue}
 use Rattle.reg_calls.specs.Roots.{Keys}
 use Rattle.reg_calls.specs.Views.{IsKept, View, state}

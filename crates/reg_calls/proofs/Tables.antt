@@ -1,5 +1,5 @@
 -- A map of rows, as the list of the handles.
-use Rattle.std.proofs.Common.{zero-add, add-zero, set, replicate, get_or-set_same, get_or-set_other, ◌≡◌, ℕ, ◌+◌, ◌<◌, Bool, true, false, not, cond, eqb, List, [], ◌∷◌, ◌++◌, length, map, filter, Option, Some, None, Ordering, refl, sym, ap, ◌∙◌, subst, arith, count_by, get_or, ◌==◌, ◌⊎◌, inl, inr, ◌≢◌}
+use Rattle.std.proofs.Common.{zero-add, add-zero, set, replicate, get_or-set_same, get_or-set_other, ◌≡◌, ℕ, ◌+◌, ◌<◌, Bool, true, false, cond, eqb, List, [], ◌∷◌, ◌++◌, length, Some, refl, sym, ap, ◌∙◌, arith, get_or, ◌==◌, ◌≢◌}
 use Rattle.std.specs.List.{All, AllByRecursion}
 use Rattle.std.specs.Ordering.{nat_cmp}
 use Rattle.std.specs.BTreeMap.{insert_entry, is_at}

@@ -1,8 +1,8 @@
 -- The tree of one root, as its cells spell it (Suhanov, Windows registry file format specification, "Key node", "Key value",
 -- "Key security"). Until keys can be made there is no other key; the root has no class, and no value but the default one, of
 -- at most 4 bytes.
-use Rattle.std.specs.Prelude.{◌≡◌, ◌≢◌, ℕ, zero, suc, ◌+◌, ◌-◌, ◌≤◌, ◌⊎◌, ◌==◌, if◌then◌else◌, max, List, [], ◌∷◌, take, length, Option, Some, None, option_map, bit_and, refl}
-use Rattle.std.specs.Coded.{Coded, code_by, coded×, coded_ℕ, coded_list}
+use Rattle.std.specs.Prelude.{◌≡◌, ◌≢◌, ℕ, zero, suc, ◌+◌, ◌-◌, ◌≤◌, ◌⊎◌, ◌==◌, if◌then◌else◌, max, List, [], ◌∷◌, take, Option, Some, None, option_map, bit_and, refl}
+use Rattle.std.specs.Coded.{Coded, code_by, coded×, coded_ℕ}
 use Rattle.std.specs.FinMap.{insert, empty}
 use Rattle.byteorder.specs.Endian.{little_bytes}
 use Rattle.reg_heap.specs.Paths.{Tree, Rec, Member, coded_bytes, coded_tree}
@@ -12,6 +12,9 @@ use Rattle.reg_records.specs.Keys.{KeyRecord, key_at}
 use Rattle.reg_records.specs.Values.{KeyValueRecord, value_record_at}
 use Rattle.reg_records.specs.Securities.{KeySecurityRecord, security_at}
 use Rattle.reg_records.specs.Rows.{offset_in}
+use Rattle.reg_arena.specs.Carves.{NoFit}
+use Rattle.reg_model.specs.Worlds.{value_named}
+use Rattle.reg_model.specs.Causes.{values_at}
 use Rattle.reg_calls.specs.declared.tree.stored.Stored.{Stored}
 
 -- a hive's keys, as they are seen from above: the bins, the root's cell, and the finite map from paths to keys
@@ -135,3 +138,8 @@ pub record IsInline (v : KeyValueRecord) : Type 0 where
 abbrev pub IsFound : List ℕ → Option Member → Option Member → Type 0
 IsFound [] here default_value = default_value ≡ here
 IsFound (b ∷ bs) here default_value = here ≡ None
+
+-- the root has no value yet, and no free cell has the 32 bytes of a first one: its record's 24 and its list's 8
+pub record HasNoSpace (bins : List ℕ) (tree : Tree) : Type 0 where
+  pub full : NoFit bins 32
+  pub none : value_named [] (values_at tree []) ≡ None

@@ -3,8 +3,8 @@ use Rattle.std.specs.Prelude.{◌≡◌, ℕ, ◌+◌, ◌<◌, ◌≤◌, List,
 use Rattle.std.specs.Coded.{Coded, code_by, coded×, coded_list}
 use Rattle.std.specs.FinMap.{insert, empty}
 use Rattle.reg_heap.specs.Paths.{Tree, Rec, coded_tree}
-use Rattle.reg_model.specs.Worlds.{Handle, Place, At}
-use Rattle.reg_model.specs.Causes.{State, change_cause, query_cause}
+use Rattle.reg_model.specs.Worlds.{Handle, At}
+use Rattle.reg_model.specs.Causes.{State, query_cause}
 use Rattle.reg_model.specs.Replies.{reply_to, refusal, body_of}
 use Rattle.reg_model.specs.Histories.{state_of, IsLegal, replay}
 use Rattle.reg_model.specs.contracts.reply.Entry.{the_row}
@@ -15,7 +15,7 @@ use Rattle.reg_model.specs.declared.answer.AnswerBody.TheVariants.{Refused, Valu
 use Rattle.reg_model.specs.declared.call.Change.{Change}
 use Rattle.reg_model.specs.declared.call.Change.TheVariants.{OpenRoot, SetValue}
 use Rattle.reg_model.specs.declared.call.Query.{Query}
-use Rattle.reg_calls.specs.Roots.{Keys, coded_keys}
+use Rattle.reg_calls.specs.Roots.{Keys, coded_keys, HasNoSpace}
 
 -- a hive: the tree that it was made with, its journal, and its keys in their bins
 pub record View : Type 0 where
@@ -62,14 +62,14 @@ pub record IsAccepted (old new : View) (session moment : ℕ) (change : Change) 
   pub journal : new.journal ≡ old.journal ++ entry_of old session moment change ∷ []
   pub origin : new.origin ≡ old.origin
 
--- the changes that take space in the bins
-abbrev pub Carves : Change → Type 0
-Carves (OpenRoot mask) = ⊥
-Carves (SetValue h name kind bytes) = Unit {0}
+-- a change that takes space in the bins finds none
+abbrev pub LacksSpace : Keys → Change → Type 0
+LacksSpace keys (OpenRoot mask) = ⊥
+LacksSpace keys (SetValue h name kind bytes) = HasNoSpace keys.bins.bytes keys.tree
 
 -- an acceptable change isn't made, for want of memory or of space in the bins, and nothing changed
 pub record Lacks (old new : View) (change : Change) (reply : ChangeReply) : Type 0 where
-  pub why : (reply ≡ refusal 8) ⊎ ((reply ≡ refusal 1450) × Carves change)
+  pub why : (reply ≡ refusal 8) ⊎ ((reply ≡ refusal 1450) × LacksSpace old.keys change)
   pub same : new ≡ old
 
 -- what a change may be answered, by the cause of its refusal

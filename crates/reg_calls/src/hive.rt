@@ -7,7 +7,7 @@ ghost use Rattle.reg_model.specs.Histories.{IsLegal, replay};
 ghost use Rattle.reg_calls.specs.Roots.{made_root, spelt};
 ghost use Rattle.reg_calls.specs.Views.{state, IsApplied, IsRead};
 
-use crate::core::Core;
+use crate::hive_core::Core;
 use crate::tree::{Tree, TreeFault};
 use reg_arena::Arena;
 use reg_model::{Answer, Call, Change, ChangeReply, Entry, Outcome, Query, Step};

@@ -10,9 +10,9 @@
 //! acceptance or of an answer that holds bytes.
 #![tactic(auto)]
 
-mod core;
 mod handles;
 mod hive;
+mod hive_core;
 mod journal;
 mod tree;
 

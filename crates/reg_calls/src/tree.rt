@@ -1,6 +1,6 @@
 //! The tree of keys in the cells of an arena. Until keys can be made it has the root alone, with its default value or
 //! without. Above this module nobody speaks of a cell.
-ghost use Rattle.std.specs.Prelude.{◌≡◌, ◌≤◌, ◌<◌, [], length, OnOk, OnErr, IfOk, IfErr, IfSome, option_map};
+ghost use Rattle.std.specs.Prelude.{◌≡◌, ◌≤◌, ◌<◌, [], length, Err, OnOk, OnErr, IfOk, IfErr, IfSome, option_map};
 ghost use Rattle.std.specs.FinMap.{insert, empty};
 ghost use Rattle.reg_heap.specs.Paths.{path_cmp};
 ghost use Rattle.reg_model.specs.Worlds.{edited, with_value, value_named};
@@ -52,7 +52,7 @@ impl Model for Tree {
 
 impl Tree {
     ghost use Rattle.reg_arena.specs.Cells.{cell_at};
-    ghost use Rattle.reg_calls.specs.Roots.{made_root, shown, spelt};
+    ghost use Rattle.reg_calls.specs.Roots.{made_root, shown, spelt, HasNoSpace};
 
     /// A tree of one root: the name as given, no delete, no class, the descriptor, the moment, no values.
     pub fn new(
@@ -107,6 +107,7 @@ impl Tree {
         requires { length bytes.now ≤ 4 }
         ensures ok { OnOk result (self.new.tree ≡ edited self.old.tree [] (with_value [] kind bytes.now moment)) }
         ensures err { OnErr result (self.new ≡ self.old) }
+        ensures space { result ≡ Err TreeFault.Full → HasNoSpace self.old.bins.bytes self.old.tree }
     {
         let value = Stored::new(kind, bytes);
         match root::value_cell(&self.arena, self.root) {

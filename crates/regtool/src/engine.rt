@@ -136,18 +136,21 @@ impl Script {
         }
     }
 
+    /// Answers a call. The reply is whole before it joins the output, so that want of memory leaves no part of it there.
     fn call(&mut self, hive: &mut Hive, call: Call) -> Result<(), AllocError> {
         let session = self.session.number;
+        let mut reply = String::new(self.alloc);
         match call {
             Call::Change(change) => {
-                let reply = hive.apply(session, self.moment, change);
-                write_changed(&mut self.output.text, &reply)
+                let changed = hive.apply(session, self.moment, change);
+                write_changed(&mut reply, &changed)?;
             }
             Call::Query(query) => {
                 let answer = hive.read(session, &query);
-                write_answered(self.alloc, &mut self.output.text, &answer)
+                write_answered(self.alloc, &mut reply, &answer)?;
             }
         }
+        self.output.text.push_str(reply.as_str())
     }
 
     /// Answers a last line that lacks its LF.

@@ -6,6 +6,8 @@ mod line;
 mod output;
 mod parse;
 mod reply;
+#[cfg(test)]
+mod tests;
 mod tool;
 
 use std::process::ExitCode;

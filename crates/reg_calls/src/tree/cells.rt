@@ -1,4 +1,6 @@
-ghost use Rattle.std.specs.Prelude.{◌≡◌, ◌≢◌, ◌+◌, ◌^◌, Err, ◌-◌, ◌*◌, ◌/◌, ◌%◌, ◌≤◌, ◌<◌, [], IfOk, IfErr, OnErr, length};
+ghost use Rattle.std.specs.Prelude.{◌≡◌, ◌≢◌, ◌+◌, ◌^◌, Err, ◌-◌, ◌*◌, ◌/◌, ◌%◌, ◌≤◌, ◌<◌, [], ◌∷◌, IfOk, IfErr, OnErr, length};
+ghost use Rattle.reg_arena.specs.Carves.{NoFit};
+ghost use Rattle.reg_arena.specs.NewCells.{total_of};
 ghost use Rattle.reg_calls.specs.Carving.{AreCarved};
 
 use crate::tree::TreeFault;
@@ -28,6 +30,7 @@ pub fn carve_two(
     ensures ok { IfOk result (λ cells. AreCarved arena.old arena.new cells.0 cells.1 first second) }
     ensures err { OnErr result (arena.new ≡ arena.old) }
     ensures full { result ≡ Err TreeFault.Full → arena.old.bytes ≡ [] → ⊥ }
+    ensures space { result ≡ Err TreeFault.Full → NoFit arena.old.bytes (total_of (first ∷ second ∷ [])) }
 {
     let mut cells = Vec::new(alloc);
     match arena.carve(&[first, second], &mut cells) {

@@ -1,4 +1,4 @@
-ghost use Rattle.std.specs.Prelude.{ℕ, List, ◌≡◌, ◌≢◌, ◌+◌, ◌-◌, ◌≤◌, ◌<◌, [], OnOk, OnErr, option_map, Some, None, IsSome, IfSome, take};
+ghost use Rattle.std.specs.Prelude.{ℕ, List, ◌≡◌, ◌≢◌, ◌+◌, ◌-◌, ◌≤◌, ◌<◌, [], Err, OnOk, OnErr, option_map, Some, None, IsSome, IfSome, take};
 ghost use Rattle.byteorder.specs.Endian.{little_bytes};
 ghost use Rattle.reg_arena.specs.Cells.{cell_at};
 ghost use Rattle.reg_records.specs.Cells.{HasRoom};
@@ -6,7 +6,7 @@ ghost use Rattle.reg_records.specs.Keys.{KeyRecord, key_at};
 ghost use Rattle.reg_records.specs.Values.{KeyValueRecord, value_record_at};
 ghost use Rattle.reg_model.specs.Worlds.{edited, with_value, value_named};
 ghost use Rattle.reg_model.specs.Causes.{values_at};
-ghost use Rattle.reg_calls.specs.Roots.{IsRoot, spelt, shown, member_of, value_cell_in, NotesSet, FillsValue, IsInline, IsFound};
+ghost use Rattle.reg_calls.specs.Roots.{IsRoot, spelt, shown, member_of, value_cell_in, NotesSet, FillsValue, IsInline, IsFound, HasNoSpace};
 
 use crate::tree::TreeFault;
 use crate::tree::cells::carve_two;
@@ -161,6 +161,7 @@ pub fn add_value(
     ensures root { OnOk result (IsRoot (cell_at arena.new.bytes) root) }
     ensures tree { OnOk result (spelt (cell_at arena.new.bytes) root ≡ edited (spelt (cell_at arena.old.bytes) root) [] (with_value [] value.now.kind (take value.now.size value.now.bytes) moment)) }
     ensures err { OnErr result (arena.new ≡ arena.old) }
+    ensures space { result ≡ Err TreeFault.Full → HasNoSpace arena.old.bytes (spelt (cell_at arena.old.bytes) root) }
 {
     let (cell, list) = carve_two(arena, alloc, 24, 8)?;
     fill_value(arena, cell, list, value);

@@ -3,7 +3,7 @@ use Rattle.std.specs.List.{All}
 use Rattle.std.proofs.lemmas.List.{map-append}
 use Rattle.reg_model.specs.Worlds.{Handle, At}
 use Rattle.reg_calls.specs.declared.handles.Row.{Row}
-use Rattle.reg_calls.specs.Rows.{handles_of, handle_of, AreCounts}
+use Rattle.reg_calls.specs.Rows.{handles_of, handle_of}
 use Rattle.reg_calls.proofs.Tables.{insert_last, counts-push}
 use Rattle.reg_calls.proofs.handles.Handles.add.Goals as goal
 

@@ -1,6 +1,9 @@
 use Rattle.std.proofs.Common.{arith, Err, ap, ℕ, List, length}
 use Rattle.reg_calls.proofs.tree.cells.carve_two.Goals as goal
 
+pub returns-in-Err-Full-clause-space : goal.returns-in-Err-Full-clause-space
+returns-in-Err-Full-clause-space c = λ _. (c.in-Err-Full.ensures.full.0 (ap (λ f. Err f) c.in-Err-Full.field-0-is)).2
+
 pub returns-in-Err-Full-clause-full : goal.returns-in-Err-Full-clause-full
 returns-in-Err-Full-clause-full c = λ _ none.
     let there = (c.in-Err-Full.ensures.full.0 (ap (λ f. Err f) c.in-Err-Full.field-0-is)).1 in

@@ -1,8 +1,7 @@
-use Rattle.std.proofs.Common.{◌≡◌, Some}
-use Rattle.reg_arena.specs.Cells.{cell_at}
-use Rattle.reg_records.specs.Keys.{key_at}
+use Rattle.std.proofs.lemmas.Grind.{common_steps}
+use Rattle.std.proofs.Common.{[], sym, arith}
 use Rattle.reg_calls.proofs.Openings.{is_some_of}
-use Rattle.reg_calls.proofs.Spellings.{root-bare}
+use Rattle.reg_calls.proofs.Spellings.{root-bare, found-bare}
 use Rattle.reg_calls.proofs.Sets.{added, key-filled}
 use Rattle.reg_calls.proofs.tree.root.add_value.Goals as goal
 
@@ -25,3 +24,11 @@ pub returns-clause-tree : goal.returns-clause-tree
 returns-clause-tree c =
     let carved = c.in_ok-cell.ensures.ok in
     (added _ _ _ _ _ c.args.root _ _ c.requires.root c.args.value.now c.args.moment _ (root-bare _ _ c.requires.root c.requires.cell) c.requires.size carved.first_fresh carved.second_fresh carved.others carved.apart c.fill_value.ensures c.set_values.ensures.reads c.set_values.ensures.written.others c.note_set.ensures).tree
+
+pub returns-in_err-cell-clause-space : goal.returns-in_err-cell-clause-space
+returns-in_err-cell-clause-space c = λ full.
+    let root = c.requires.root in
+    record {
+      full = c.in_err-cell.ensures.space (grind (arith, common_steps, full));
+      none = sym (found-bare _ _ root.key root.security root.key_is root.security_is (root-bare _ _ root c.requires.cell) []);
+    }

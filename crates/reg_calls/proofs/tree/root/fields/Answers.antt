@@ -1,4 +1,4 @@
-use Rattle.std.proofs.Common.{◌≡◌, Some, ap}
+use Rattle.std.proofs.Common.{ap}
 use Rattle.reg_records.specs.Keys.{KeyRecord}
 use Rattle.reg_calls.proofs.Openings.{key-exists, key-no_fault, key-fields}
 use Rattle.reg_calls.proofs.tree.root.fields.Goals as goal

@@ -1,4 +1,4 @@
-use Rattle.std.proofs.Common.{◌≡◌, ◌≢◌, ap, sym, ◌∙◌, refl, ◌+◌}
+use Rattle.std.proofs.Common.{◌≢◌, ap, sym, ◌∙◌, refl, ◌+◌}
 use Rattle.reg_arena.specs.Cells.{cell_at}
 use Rattle.reg_records.proofs.Values.{value_record_at-same}
 use Rattle.reg_calls.proofs.Sets.{room-kept, same-room}

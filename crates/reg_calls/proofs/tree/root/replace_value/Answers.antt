@@ -1,4 +1,4 @@
-use Rattle.std.proofs.Common.{◌+◌, ◌≡◌, ◌≢◌, ap, sym, ◌∙◌, Some}
+use Rattle.std.proofs.Common.{◌+◌, ◌≢◌, ap, sym, ◌∙◌}
 use Rattle.reg_records.specs.Values.{value_record_at}
 use Rattle.reg_records.proofs.Keys.{key_at-same}
 use Rattle.reg_arena.specs.Cells.{cell_at}

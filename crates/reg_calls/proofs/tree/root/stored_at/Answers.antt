@@ -1,4 +1,4 @@
-use Rattle.std.proofs.Common.{◌≡◌, ap, arith}
+use Rattle.std.proofs.Common.{ap, arith}
 use Rattle.reg_records.specs.Values.{KeyValueRecord}
 use Rattle.reg_calls.proofs.Openings.{is_some_of, value-exists, value-no_fault, value-fields}
 use Rattle.reg_calls.proofs.Spellings.{member-shown}

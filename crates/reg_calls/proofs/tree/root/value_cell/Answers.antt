@@ -1,4 +1,4 @@
-use Rattle.std.proofs.Common.{◌≡◌, ◌≢◌, sym, ap, ◌∙◌, Some}
+use Rattle.std.proofs.Common.{◌≢◌, sym, ap, ◌∙◌, Some}
 use Rattle.reg_records.specs.Rows.{offset_in}
 use Rattle.reg_records.specs.declared.nk.KeyFields.{KeyFields}
 use Rattle.reg_calls.proofs.Openings.{held-is}

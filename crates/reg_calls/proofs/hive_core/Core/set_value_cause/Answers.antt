@@ -4,7 +4,7 @@ use Rattle.std.proofs.lemmas.Bool.Decides.{nat_tests}
 use Rattle.reg_model.specs.declared.call.Change.TheVariants.{SetValue}
 use Rattle.reg_model.specs.Causes.{State, change_cause}
 use Rattle.reg_calls.proofs.States.{state-view, found as tables, set-found, set-missing}
-use Rattle.reg_calls.proofs.core.Core.set_value_cause.Goals as goal
+use Rattle.reg_calls.proofs.hive_core.Core.set_value_cause.Goals as goal
 
 pub returns-in_default : goal.returns-in_default
 returns-in_default c =

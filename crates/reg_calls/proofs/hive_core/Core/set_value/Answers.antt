@@ -1,13 +1,12 @@
-use Rattle.std.proofs.Common.{◌≡◌, ◌+◌, ◌≤◌, ◌∙◌, ap, sym, subst, arith, inl, None, refl, length, List, [], ℕ}
+use Rattle.std.proofs.Common.{◌≡◌, ◌≤◌, ◌∙◌, ap, sym, subst, arith, inl, None, length, List, [], ℕ}
 use Rattle.std.proofs.lemmas.Grind.{common_steps}
-use Rattle.reg_heap.specs.Paths.{Tree}
 use Rattle.reg_model.specs.declared.call.Change.TheVariants.{SetValue}
-use Rattle.reg_model.specs.Causes.{State, change_cause}
+use Rattle.reg_model.specs.Causes.{change_cause}
 use Rattle.reg_model.specs.Worlds.{edited, with_value}
-use Rattle.reg_calls.proofs.States.{state-view, can_set}
+use Rattle.reg_calls.proofs.States.{can_set}
 use Rattle.reg_calls.proofs.Pushes.{kept-set, set_reply}
 use Rattle.reg_calls.specs.Views.{View, state}
-use Rattle.reg_calls.proofs.core.Core.set_value.Goals as goal
+use Rattle.reg_calls.proofs.hive_core.Core.set_value.Goals as goal
 
 pub set_value-requires : goal.set_value-requires
 set_value-requires c =

@@ -1,11 +1,11 @@
-use Rattle.std.proofs.Common.{◌≡◌, ◌+◌, ◌<◌, ◌≤◌, ◌∙◌, ap, sym, subst, arith, inl, None, refl, length}
+use Rattle.std.proofs.Common.{◌≡◌, ◌+◌, ◌≤◌, ap, sym, subst, arith, inl, None, length}
 use Rattle.std.proofs.lemmas.Grind.{common_steps}
 use Rattle.reg_model.specs.declared.call.Change.TheVariants.{OpenRoot}
 use Rattle.reg_model.specs.Causes.{State, change_cause}
 use Rattle.reg_calls.proofs.States.{state-view, root-few}
 use Rattle.reg_calls.proofs.Pushes.{kept-root, root_reply}
 use Rattle.reg_calls.specs.Views.{View, state}
-use Rattle.reg_calls.proofs.core.Core.open_root.Goals as goal
+use Rattle.reg_calls.proofs.hive_core.Core.open_root.Goals as goal
 
 pub add-requires-clause-room : goal.add-requires-clause-room
 add-requires-clause-room c =

@@ -2,8 +2,8 @@ use Rattle.std.proofs.Common.{◌∙◌, ap, sym, arith}
 use Rattle.reg_model.specs.declared.call.Change.TheVariants.{OpenRoot}
 use Rattle.reg_model.specs.Causes.{State, change_cause}
 use Rattle.reg_calls.proofs.States.{state-view, root-mask, root-many, root-full, root-none}
-use Rattle.reg_calls.proofs.core.Core.open_root_cause.Goals as goal
-use Rattle.reg_calls.proofs.core.Core.open_root_cause.Goals.{then-count-ge-HANDLES_LIMIT-via-then-count-ge-HANDLES_LIMIT, then-count-ge-HANDLES_LIMIT-via-else-count-ge-HANDLES_LIMIT+then-len-gt-JOURNAL_LIMIT}
+use Rattle.reg_calls.proofs.hive_core.Core.open_root_cause.Goals as goal
+use Rattle.reg_calls.proofs.hive_core.Core.open_root_cause.Goals.{then-count-ge-HANDLES_LIMIT-via-then-count-ge-HANDLES_LIMIT, then-count-ge-HANDLES_LIMIT-via-else-count-ge-HANDLES_LIMIT+then-len-gt-JOURNAL_LIMIT}
 
 pub returns-then-mask-ne0 : goal.returns-then-mask-ne0
 returns-then-mask-ne0 c = sym (root-mask _ _ _ c.if-mask-ne0.true)

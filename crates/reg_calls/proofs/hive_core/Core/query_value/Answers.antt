@@ -1,4 +1,4 @@
-use Rattle.std.proofs.Common.{◌≡◌, ◌∙◌, ap, sym, subst, inl, refl, List, [], ℕ, Some, None}
+use Rattle.std.proofs.Common.{◌∙◌, ap, sym, subst, inl, refl, List, [], ℕ, None}
 use Rattle.reg_model.specs.Worlds.{value_named}
 use Rattle.reg_model.specs.Causes.{State, values_at}
 use Rattle.reg_model.specs.declared.answer.AnswerBody.TheVariants.{Refused}
@@ -6,7 +6,7 @@ use Rattle.reg_model.specs.declared.call.Query.TheVariants.{QueryValue}
 use Rattle.reg_calls.specs.Views.{IsRead}
 use Rattle.reg_calls.proofs.States.{state-view, found as tables}
 use Rattle.reg_calls.proofs.Questions.{read-refused, query-missing, query-bad, query-denied, read-told, denied_is, allowed_is, bad_is, good_is}
-use Rattle.reg_calls.proofs.core.Core.query_value.Goals as goal
+use Rattle.reg_calls.proofs.hive_core.Core.query_value.Goals as goal
 
 pub returns-in_default : goal.returns-in_default
 returns-in_default c =

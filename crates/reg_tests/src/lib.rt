@@ -1,0 +1,10 @@
+//! Tests of hives as a whole: calls in, replies and bytes out. The wanted bytes come from the format's tables, and the
+//! wanted replies from the rules of the calls. There is nothing here but tests.
+#![tactic(auto)]
+
+#[cfg(test)]
+mod hives;
+#[cfg(test)]
+mod limits;
+#[cfg(test)]
+mod support;

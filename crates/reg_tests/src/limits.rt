@@ -1,0 +1,49 @@
+//! What is refused, and that a refusal leaves the hive as it was.
+use crate::support::{ALL, ask, cells, hive_with, new_hive, set};
+use reg_calls::{Hive, NewFault};
+use std::test::Fail;
+
+#[test]
+fn full_bin(rt: HostRuntime) -> Result<(), Fail> {
+    let (hive, status) = hive_with(rt.alloc(), 3952, ALL, &[1])?;
+    assert_eq!(rt; status, 1450);
+    let text = cells(rt.alloc(), &hive)?;
+    assert_eq!(rt; text.as_str(), "32 88* 120 3976* ");
+    Ok(())
+}
+
+#[test]
+fn missing_right(rt: HostRuntime) -> Result<(), Fail> {
+    let (hive, status) = hive_with(rt.alloc(), 20, 1, &[1])?;
+    assert_eq!(rt; status, 5);
+    let text = ask(rt.alloc(), &hive, 0, None)?;
+    assert_eq!(rt; text.as_str(), "1: 2");
+    Ok(())
+}
+
+#[test]
+fn past_the_first_limit(rt: HostRuntime) -> Result<(), Fail> {
+    let (hive, status) = hive_with(rt.alloc(), 20, ALL, &[1, 2, 3, 4, 5])?;
+    assert_eq!(rt; status, 87);
+    assert_eq!(rt; hive.len(), 1);
+    Ok(())
+}
+
+#[test]
+fn another_hive(rt: HostRuntime) -> Result<(), Fail> {
+    let (_hive, _) = hive_with(rt.alloc(), 20, ALL, &[1])?;
+    let mut other = new_hive(rt.alloc(), 20)?;
+    assert_eq!(rt; set(rt.alloc(), &mut other, b"", &[1])?, 6);
+    Ok(())
+}
+
+#[test]
+fn new_faults(rt: HostRuntime) -> Result<(), Fail> {
+    let alloc = rt.alloc();
+    assert_eq!(rt;
+        Hive::new(alloc, b"A", &[], 0).err(),
+        Some(NewFault::Descriptor)
+    );
+    assert_eq!(rt; Hive::new(alloc, b"", &[], 0).err(), Some(NewFault::Name));
+    Ok(())
+}

@@ -1,0 +1,106 @@
+//! What the tests share: hives, calls, and what they show as text.
+ghost use Rattle.std.specs.Prelude.{◌<◌};
+
+use reg_calls::Hive;
+use reg_model::{AnswerBody, Bytes, Change, Query};
+use std::alloc::Global;
+use std::test::Fail;
+
+/// Every right.
+pub const ALL: u32 = 983_103;
+
+/// A hive with the root `ROOT` and a descriptor of so many bytes.
+pub fn new_hive(alloc: Global, descriptor: usize) -> Result<Hive, Fail> {
+    let descriptor = vec![in alloc; 7; descriptor]?;
+    let hive = Hive::new(alloc, b"ROOT", descriptor.as_slice(), 0)?;
+    Ok(hive)
+}
+
+/// Opens the root, and tells the reply: its status, number and handle.
+pub fn open(alloc: Global, hive: &mut Hive, mask: u32) -> Result<String, Fail> {
+    let reply = hive.apply(0, 0, Change::OpenRoot { mask });
+    let text = format!(in alloc; "{} {:?} {:?}", reply.status, reply.number, reply.handle)?;
+    Ok(text)
+}
+
+/// Sets a value of handle 0 at moment 256, and tells the reply's status.
+pub fn set(alloc: Global, hive: &mut Hive, name: &[u8], bytes: &[u8]) -> Result<u32, Fail> {
+    let name = Bytes::from_slice(alloc, name)?;
+    let bytes = Bytes::from_slice(alloc, bytes)?;
+    let change = Change::SetValue {
+        handle: 0,
+        name,
+        kind: 4,
+        bytes,
+    };
+    Ok(hive.apply(0, 256, change).status)
+}
+
+/// Asks for the default value of handle 0, and tells the answer: where, and the status and the value.
+pub fn ask(alloc: Global, hive: &Hive, session: u8, room: Option<u32>) -> Result<String, Fail>
+    requires { session < 64 }
+{
+    let name = Bytes::from_vec(Vec::new(alloc));
+    let query = Query::QueryValue {
+        handle: 0,
+        name,
+        room,
+    };
+    let answer = hive.read(session, &query);
+    let at = answer.at;
+    let text = match &answer.body {
+        AnswerBody::Refused { status } => format!(in alloc; "{at}: {status}")?,
+        AnswerBody::Short { status, kind, size } => format!(in alloc;
+            "{at}: {status} {kind} {size}"
+        )?,
+        AnswerBody::Value {
+            kind,
+            size,
+            bytes: None,
+        } => format!(in alloc; "{at}: 0 {kind} {size}")?,
+        AnswerBody::Value {
+            kind,
+            size,
+            bytes: Some(bytes),
+        } => {
+            let digits = hex::encode(alloc, bytes.as_slice())?;
+            format!(in alloc; "{at}: 0 {kind} {size} {digits}")?
+        }
+    };
+    Ok(text)
+}
+
+/// A hive with a descriptor of so many bytes, its root opened with these rights, and a first set.
+pub fn hive_with(
+    alloc: Global,
+    descriptor: usize,
+    mask: u32,
+    bytes: &[u8],
+) -> Result<(Hive, u32), Fail> {
+    let mut hive = new_hive(alloc, descriptor)?;
+    let _opened = open(alloc, &mut hive, mask)?;
+    let status = set(alloc, &mut hive, b"", bytes)?;
+    Ok((hive, status))
+}
+
+/// The cells of a hive's bins: offsets, sizes, and a star for an allocated one.
+pub fn cells(alloc: Global, hive: &Hive) -> Result<String, Fail> {
+    let cells = hive.arena().cells(alloc)?;
+    let mut text = String::new(alloc);
+    for cell in &cells {
+        let mark = if cell.allocated { "*" } else { "" };
+        write!(text, "{} {}{} ", cell.offset, cell.size, mark)?;
+    }
+    Ok(text)
+}
+
+/// So many bytes of the bins from an offset on, as digits.
+pub fn digits(alloc: Global, hive: &Hive, at: u32, len: u32) -> Result<String, Fail> {
+    let arena = hive.arena();
+    let size = arena.bins_size();
+    if at > size || len > size - at {
+        return Err("past the bins".into());
+    }
+    let text = hex::encode(alloc, arena.bytes(at, len))?;
+    Ok(text)
+}
