@@ -1,6 +1,8 @@
 //! What is refused, and that a refusal leaves the hive as it was.
 use crate::support::{ALL, ask, cells, hive_with, new_hive, set};
 use reg_calls::{Hive, NewFault};
+use reg_model::{Call, Change, Step};
+use std::alloc::Global;
 use std::test::Fail;
 
 #[test]
@@ -45,5 +47,25 @@ fn new_faults(rt: HostRuntime) -> Result<(), Fail> {
         Some(NewFault::Descriptor)
     );
     assert_eq!(rt; Hive::new(alloc, b"", &[], 0).err(), Some(NewFault::Name));
+    Ok(())
+}
+
+/// Runs one step, and tells how many outcomes there are.
+fn run_one(alloc: Global, hive: &mut Hive) -> Result<usize, Fail> {
+    let step = Step {
+        session: 3,
+        moment: 7,
+        call: Call::Change(Change::OpenRoot { mask: ALL }),
+    };
+    let steps = vec![in alloc; step]?;
+    let outcomes = hive.run(alloc, steps)?;
+    Ok(outcomes.len())
+}
+
+#[test]
+fn run_of_one_step(rt: HostRuntime) -> Result<(), Fail> {
+    let mut hive = new_hive(rt.alloc(), 20)?;
+    assert_eq!(rt; run_one(rt.alloc(), &mut hive)?, 1);
+    assert_eq!(rt; hive.len(), 1);
     Ok(())
 }
