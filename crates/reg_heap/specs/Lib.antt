@@ -1,2 +1,6 @@
 pub mod Words
 pub mod Paths
+pub mod Heaps
+pub mod Kinds
+pub mod Readings
+pub mod Forests

@@ -4,3 +4,4 @@ pub mod Securities
 pub mod Values
 pub mod Keys
 pub mod Offsets
+pub mod Computed

@@ -4,3 +4,10 @@ pub mod Securities
 pub mod Values
 pub mod Keys
 pub mod Rows
+pub mod Lists
+pub mod Pieces
+pub mod Walk
+pub mod Nodes
+pub mod Spelt
+pub mod Written
+pub mod Whole

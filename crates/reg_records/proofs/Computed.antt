@@ -1,0 +1,58 @@
+-- The definitions at the bytes of hives that were worked out by hand: a fresh hive, and the same after its first value.
+use Rattle.std.proofs.Common.{◌≡◌, ◌≢◌, ℕ, ◌+◌, List, [], ◌∷◌, ◌++◌, replicate, Option, Some, None, refl}
+use Rattle.reg_heap.specs.Words.{half, word, long}
+use Rattle.reg_heap.specs.Heaps.{Heap}
+use Rattle.reg_heap.specs.Kinds.{Kind, Found}
+use Rattle.reg_heap.specs.Kinds.Kind.{Key, Class, SubList, Leaf, ValueList, Value, Data, BigHead, BigList, Segment, Security}
+use Rattle.reg_arena.specs.Cells.{cells_of, cell_at}
+use Rattle.reg_arena.specs.NewCells.{used, unused}
+use Rattle.reg_records.specs.Keys.{nk_of, key_at}
+use Rattle.reg_records.specs.Values.{vk_of}
+use Rattle.reg_records.specs.Securities.{sk_of, security_at}
+use Rattle.reg_records.specs.Walk.{walk, plainly}
+
+-- `hbin`, offset 0, size 4096 and 20 zeros
+abbrev header : List ℕ
+header = (104 ∷ 98 ∷ 105 ∷ 110 ∷ 0 ∷ 0 ∷ 0 ∷ 0 ∷ 0 ∷ 16 ∷ 0 ∷ 0 ∷ []) ++ replicate 20 0
+
+abbrev none : List ℕ
+none = 255 ∷ 255 ∷ 255 ∷ 255 ∷ []
+
+abbrev zeros : List ℕ
+zeros = 0 ∷ 0 ∷ 0 ∷ 0 ∷ []
+
+-- -88; the key node `ROOT`: flags 0x2C, time 0, no parent, no subkeys, so many values in a list, security 120, no class
+abbrev root_cell : List ℕ → List ℕ → List ℕ → List ℕ
+root_cell values list largest =
+    (168 ∷ 255 ∷ 255 ∷ 255 ∷ []) ++ ((110 ∷ 107 ∷ 44 ∷ 0 ∷ []) ++ (replicate 8 0 ++ (zeros ++ (none ++ (zeros ++ (zeros ++ (none ++ (none ++ (values ++ (list ++ ((120 ∷ 0 ∷ 0 ∷ 0 ∷ []) ++ (none ++ (replicate 12 0 ++ (largest ++ (zeros ++ ((4 ∷ 0 ∷ 0 ∷ 0 ∷ []) ++ ((82 ∷ 79 ∷ 79 ∷ 84 ∷ []) ++ zeros)))))))))))))))))
+
+-- -48; the key security, first and last of its ring, so many keys, a descriptor of 20 bytes
+abbrev security_cell : ℕ → List ℕ
+security_cell count =
+    (208 ∷ 255 ∷ 255 ∷ 255 ∷ []) ++ ((115 ∷ 107 ∷ 0 ∷ 0 ∷ []) ++ ((120 ∷ 0 ∷ 0 ∷ 0 ∷ []) ++ ((120 ∷ 0 ∷ 0 ∷ 0 ∷ []) ++ ((count ∷ 0 ∷ 0 ∷ 0 ∷ []) ++ ((20 ∷ 0 ∷ 0 ∷ 0 ∷ []) ++ ((1 ∷ 0 ∷ 4 ∷ 128 ∷ []) ++ (replicate 16 0 ++ zeros)))))))
+
+-- ---- a fresh hive
+
+abbrev fresh : List ℕ
+fresh = header ++ (root_cell zeros none zeros ++ (security_cell 1 ++ ((88 ∷ 15 ∷ 0 ∷ 0 ∷ 255 ∷ 255 ∷ 255 ∷ 255 ∷ []) ++ replicate 3920 0)))
+
+fresh-cells : cells_of fresh ≡ Some (used 32 88 ∷ used 120 48 ∷ unused 168 3928 ∷ [])
+unfolding cells_of word
+fresh-cells = refl
+
+fresh-walk : walk 3 (cell_at fresh) (plainly Key 32) ≡ Some (record { kind = Key; offset = 32 } ∷ record { kind = Security; offset = 120 } ∷ [])
+unfolding cell_at cells_of word half long walk nk_of sk_of
+fresh-walk = refl
+
+-- ---- after the first value: its record of 24 bytes at 168, and the list of it at 192
+
+abbrev valued : List ℕ
+valued =
+    header ++ (root_cell (1 ∷ 0 ∷ 0 ∷ 0 ∷ []) (192 ∷ 0 ∷ 0 ∷ 0 ∷ []) (4 ∷ 0 ∷ 0 ∷ 0 ∷ []) ++ (security_cell 1
+    ++ ((232 ∷ 255 ∷ 255 ∷ 255 ∷ []) ++ ((118 ∷ 107 ∷ 0 ∷ 0 ∷ []) ++ ((4 ∷ 0 ∷ 0 ∷ 128 ∷ []) ++ ((1 ∷ 0 ∷ 0 ∷ 0 ∷ []) ++ ((4 ∷ 0 ∷ 0 ∷ 0 ∷ []) ++ (zeros
+    ++ ((248 ∷ 255 ∷ 255 ∷ 255 ∷ []) ++ ((168 ∷ 0 ∷ 0 ∷ 0 ∷ [])
+    ++ ((56 ∷ 15 ∷ 0 ∷ 0 ∷ 255 ∷ 255 ∷ 255 ∷ 255 ∷ []) ++ replicate 3888 0)))))))))))
+
+valued-cells : cells_of valued ≡ Some (used 32 88 ∷ used 120 48 ∷ used 168 24 ∷ used 192 8 ∷ unused 200 3896 ∷ [])
+unfolding cells_of word
+valued-cells = refl

@@ -1,0 +1,170 @@
+-- A key with all that is its own, as it is read (Suhanov, Windows registry file format specification, "Key node", "Key value",
+-- "Big data", "Subkeys list").
+use Rattle.std.specs.Prelude.{ℕ, zero, suc, ◌+◌, ◌*◌, ◌==◌, nat_le, not, Bool, true, false, cond, if◌then◌else◌, Option, Some, None, List, [], ◌∷◌, ◌++◌, map, flat_map, length, take, bit_and}
+use Rattle.std.specs.Option.{option_map, option_and_then}
+use Rattle.std.specs.List.{concat}
+use Rattle.std.specs.Result.{result_ok}
+use Rattle.byteorder.specs.Endian.{little_bytes}
+use Rattle.reg_heap.specs.Paths.{Member}
+use Rattle.reg_heap.specs.Heaps.{Heap}
+use Rattle.reg_heap.specs.Kinds.{Kind, Found}
+use Rattle.reg_heap.specs.Kinds.Kind.{Key, Class, SubList, Leaf, ValueList, Value, Data, BigHead, BigList, Segment, Security}
+use Rattle.reg_heap.specs.Readings.{Reading, ◌>>=◌, give, given, cell, guard, each}
+use Rattle.reg_records.specs.declared.vk.ValueFields.{ValueFields}
+use Rattle.reg_records.specs.Keys.{KeyRecord, nk_of, key_at}
+use Rattle.reg_records.specs.Values.{KeyValueRecord, vk_of}
+use Rattle.reg_records.specs.Rows.{row_in}
+use Rattle.reg_records.specs.Lists.{SubkeysList, Entry, Form, list_of, places_in}
+use Rattle.reg_records.specs.Lists.Form.{IndexRoot, IndexLeaf, FastLeaf, HashLeaf}
+use Rattle.reg_records.specs.Pieces.{Named, BigData, segment_size, is_inline, inline_size, segments_for, segments, db_of}
+
+-- the first bytes of a cell, as many as are named; of none the cell isn't read
+abbrev pub bytes_at : Named → Reading (List ℕ)
+bytes_at named = by named.size
+  where
+    by : ℕ → Reading (List ℕ)
+    by zero = give []
+    by (suc n) = do
+      content ← cell named.kind named.offset
+      guard (nat_le (suc n) (length content)) (give (take (suc n) content))
+
+-- the first offsets of a list, as many as are named; of none the list isn't read
+abbrev pub row_at : Named → Reading (List ℕ)
+row_at named = by named.size
+  where
+    by : ℕ → Reading (List ℕ)
+    by zero = give []
+    by (suc n) = do
+      content ← cell named.kind named.offset
+      given (row_in (suc n) content)
+
+-- the data of segments, one behind the other
+abbrev pub pieces_at : List Named → Reading (List ℕ)
+pieces_at names = do
+  pieces ← each bytes_at names
+  give (concat pieces)
+
+-- the data behind a big data record
+abbrev pub big_at : ℕ → ℕ → Reading (List ℕ)
+big_at size offset = do
+  content ← cell BigHead offset
+  big ← given (db_of content)
+  guard (nat_le (segments_for size) big.count) (big_in size big)
+  where
+    big_in : ℕ → BigData → Reading (List ℕ)
+    big_in size big = do
+      row ← row_at (record { kind = BigList; size = segments_for size; offset = big.list })
+      pieces_at (segments size row)
+
+-- a value's data
+abbrev pub data_at : ValueFields → Reading (List ℕ)
+data_at value = by (is_inline value.size) (nat_le value.size segment_size)
+  where
+    by : Bool → Bool → Reading (List ℕ)
+    by true small = guard (nat_le (inline_size value.size) 4) (give (take (inline_size value.size) (little_bytes 4 value.place)))
+    by false true = bytes_at (record { kind = Data; size = value.size; offset = value.place })
+    by false false = big_at value.size value.place
+
+-- a name of one byte a character, or of UTF-16LE units
+abbrev pub letters : Bool → List ℕ → List ℕ
+letters true name = name
+letters false name = units name
+  where
+    units : List ℕ → List ℕ
+    units [] = []
+    units (low ∷ []) = low ∷ []
+    units (low ∷ high ∷ rest) = (low + 256 * high) ∷ units rest
+
+-- a value as it is told
+abbrev pub member_of : KeyValueRecord → List ℕ → Member
+member_of value bytes = record { name = letters (not (bit_and value.fields.flags 1 == 0)) value.name; kind = value.fields.kind; bytes = bytes }
+
+-- the value at an offset
+abbrev pub member_at : ℕ → Reading Member
+member_at offset = do
+  content ← cell Value offset
+  value ← given (result_ok (vk_of content))
+  bytes ← data_at value.fields
+  give (member_of value bytes)
+
+-- a key's values, in the order of its list
+abbrev pub members_at : KeyRecord → Reading (List Member)
+members_at key = do
+  row ← row_at (record { kind = ValueList; size = key.fields.values; offset = key.fields.values_list })
+  each member_at row
+
+-- a list of keys: its offset, its form and its entries
+pub record KeyList : Type 0 where
+  pub place : ℕ
+  pub list : SubkeysList
+
+-- a key's subkeys: none, a list of keys, or an index root with several
+pub data Index : Type 0 where
+  Unlisted : Index
+  Listed : KeyList → Index
+  Rooted : ℕ → List KeyList → Index
+
+-- a list of keys at an offset; an index root is none
+abbrev pub key_list_at : Heap → ℕ → Option KeyList
+key_list_at heap offset = option_and_then (λ list. by list list.form) (option_and_then list_of (heap offset))
+  where
+    by : SubkeysList → Form → Option KeyList
+    by list IndexRoot = None
+    by list IndexLeaf = Some (record { place = offset; list = list })
+    by list FastLeaf = Some (record { place = offset; list = list })
+    by list HashLeaf = Some (record { place = offset; list = list })
+
+-- each of the lists of keys, where all are there
+abbrev pub key_lists_at : Heap → List ℕ → Option (List KeyList)
+key_lists_at heap [] = Some []
+key_lists_at heap (offset ∷ offsets) = option_and_then (λ list. option_map (λ lists. list ∷ lists) (key_lists_at heap offsets)) (key_list_at heap offset)
+
+-- a key's subkeys, from the number of them and the offset of the list
+abbrev pub index_at : Heap → ℕ → ℕ → Option Index
+index_at heap zero offset = Some Unlisted
+index_at heap (suc count) offset = option_and_then (λ list. by list list.form) (option_and_then list_of (heap offset))
+  where
+    by : SubkeysList → Form → Option Index
+    by list IndexRoot = option_map (Rooted offset) (key_lists_at heap (places_in list.entries))
+    by list IndexLeaf = Some (Listed (record { place = offset; list = list }))
+    by list FastLeaf = Some (Listed (record { place = offset; list = list }))
+    by list HashLeaf = Some (Listed (record { place = offset; list = list }))
+
+-- the lists of keys of an index
+abbrev pub lists_of : Index → List KeyList
+lists_of Unlisted = []
+lists_of (Listed list) = list ∷ []
+lists_of (Rooted place lists) = lists
+
+-- the entries of all lists of an index
+abbrev pub entries_of : Index → List Entry
+entries_of index = flat_map (λ (l : KeyList). l.list.entries) (lists_of index)
+
+-- a key node with all that is its own: its record, class and values, the cells met in reading these, in order, and its subkeys
+pub record Node : Type 0 where
+  pub key : KeyRecord
+  pub class : List ℕ
+  pub values : List Member
+  pub cells : List Found
+  pub index : Index
+
+-- the records met in reading a key itself: the key node, its class, its security and its values
+abbrev pub met_of : ℕ → KeyRecord → List Found → List Found → List Found
+met_of offset key class values =
+    record { kind = Key; offset = offset } ∷ class ++ record { kind = Security; offset = key.fields.security } ∷ values
+
+-- the key at an offset; its security is met and not read
+unfoldable pub look : Heap → ℕ → Option Node
+look heap offset = option_and_then with_key (key_at heap offset)
+  where
+    with_index : KeyRecord → List ℕ × List Found → List Member × List Found → Index → Node
+    with_index key class values index = record { key = key; class = class.0; values = values.0; cells = met_of offset key class.1 values.1; index = index }
+
+    with_values : KeyRecord → List ℕ × List Found → List Member × List Found → Option Node
+    with_values key class values = option_map (with_index key class values) (index_at heap key.fields.subkeys key.fields.subkeys_list)
+
+    with_class : KeyRecord → List ℕ × List Found → Option Node
+    with_class key class = option_and_then (with_values key class) (members_at key heap)
+
+    with_key : KeyRecord → Option Node
+    with_key key = option_and_then (with_class key) (bytes_at (record { kind = Class; size = key.fields.class_length; offset = key.fields.class }) heap)

@@ -1,0 +1,100 @@
+-- Records as this project writes them (Suhanov, Windows registry file format specification, "Key node", "Subkeys list",
+-- "Key value", "Big data", "Key security"). What a key holds of its subkeys and values is exact; the four largest lengths are
+-- raised where needed and never lowered.
+use Rattle.std.specs.Prelude.{◌≡◌, ◌≢◌, ℕ, ◌+◌, ◌*◌, ◌^◌, ◌<◌, ◌≤◌, ◌%◌, ◌==◌, if◌then◌else◌, Bool, true, false, Option, Some, None, List, [], ◌∷◌, map, length, take, bit_and, ⊤}
+use Rattle.std.specs.List.{AllByRecursion}
+use Rattle.std.specs.Ordering.{nat_cmp}
+use Rattle.std.specs.declared.cmp.Ordering.TheVariants.{Less}
+use Rattle.std.specs.Cmp.Lexicographic.{slice_cmp}
+use Rattle.reg_names.specs.Names.{folded, hash, is_key_name, is_value_name}
+use Rattle.reg_heap.specs.Paths.{Member}
+use Rattle.reg_heap.specs.Heaps.{Heap}
+use Rattle.reg_records.specs.declared.vk.ValueFields.{ValueFields}
+use Rattle.reg_records.specs.Cells.{held}
+use Rattle.reg_records.specs.Keys.{KeyRecord, nk_bytes}
+use Rattle.reg_records.specs.Values.{KeyValueRecord, value_record_at, vk_bytes}
+use Rattle.reg_records.specs.Securities.{KeySecurityRecord, security_at, sk_bytes}
+use Rattle.reg_records.specs.Rows.{offsets_at}
+use Rattle.reg_records.specs.Lists.{Entry, Form, places_in}
+use Rattle.reg_records.specs.Lists.Form.{HashLeaf}
+use Rattle.reg_records.specs.Pieces.{BigData, segment_size, is_inline, inline_size, segments_for, db_of}
+use Rattle.reg_records.specs.Nodes.{Node, KeyList, Index, entries_of}
+use Rattle.reg_records.specs.Nodes.Index.{Unlisted, Listed, Rooted}
+
+-- each before all that follow it
+abbrev pub Pairwise : {A : Type 0} → (A → A → Type 0) → List A → Type 0
+Pairwise R [] = ⊤
+Pairwise R (x ∷ xs) = AllByRecursion (R x) xs × Pairwise R xs
+
+-- the first name comes before the second, folded
+abbrev pub Precedes : List ℕ → List ℕ → Type 0
+Precedes a b = slice_cmp nat_cmp (folded a) (folded b) ≡ Less
+
+-- a list of keys: an `lh` of 1 to 500 entries
+pub record IsWrittenList (list : KeyList) : Type 0 where
+  pub form : list.list.form ≡ HashLeaf
+  pub some : 1 ≤ length list.list.entries
+  pub few : length list.list.entries ≤ 500
+
+-- a key's subkeys: none, one list, or an index root of two or more
+abbrev pub IsWrittenIndex : Index → Type 0
+IsWrittenIndex Unlisted = ⊤
+IsWrittenIndex (Listed list) = IsWrittenList list
+IsWrittenIndex (Rooted place lists) = (2 ≤ length lists) × AllByRecursion IsWrittenList lists
+
+-- data of up to 4 bytes stands in the value, with the top bit set and unused bytes 0; more than 16,344 bytes stand behind a big
+-- data record, which has exactly the segments that they need
+pub record IsWrittenData (heap : Heap) (value : ValueFields) : Type 0 where
+  pub inline : is_inline value.size ≡ true → value.place < 256 ^ inline_size value.size
+  pub far : is_inline value.size ≡ false → 4 < value.size
+  pub big : is_inline value.size ≡ false → segment_size < value.size → (big : BigData) × (db_of (held heap value.place) ≡ Some big) × (big.count ≡ segments_for value.size)
+
+-- a value's record, to its last byte; its flag says that it has a name
+pub record IsWrittenValue (heap : Heap) (offset : ℕ) : Type 0 where
+  pub value : KeyValueRecord
+  pub reads : value_record_at heap offset ≡ Some value
+  pub bytes : take (20 + length value.name) (held heap offset) ≡ vk_bytes value.fields value.name
+  pub flags : value.fields.flags ≡ (if length value.name == 0 then 0 else 1)
+  pub data_is : IsWrittenData heap value.fields
+
+-- a key's values: names that differ after folding, of the profile, data of at most 1,048,576 bytes, none longer than the key says
+pub record AreWrittenValues (heap : Heap) (node : Node) : Type 0 where
+  pub few : node.key.fields.values ≤ 16384
+  pub none : node.key.fields.values ≡ 0 → node.key.fields.values_list ≡ 4294967295
+  pub each : AllByRecursion (IsWrittenValue heap) (offsets_at node.key.fields.values 0 (held heap node.key.fields.values_list))
+  pub names : AllByRecursion (λ (m : Member). is_value_name m.name ≡ true) node.values
+  pub apart : Pairwise (λ (a b : Member). folded a.name ≢ folded b.name) node.values
+  pub sizes : AllByRecursion (λ (m : Member). length m.bytes ≤ 1048576) node.values
+  pub longest_name : AllByRecursion (λ (m : Member). 2 * length m.name ≤ node.key.fields.largest_value_name) node.values
+  pub largest : AllByRecursion (λ (m : Member). length m.bytes ≤ node.key.fields.largest_value_data) node.values
+
+-- a key node, to its last byte: marks without 0x67 beside 0x20 and the root's 0x04, a key's name, as many subkeys as its lists have
+pub record IsWrittenKey (heap : Heap) (root offset : ℕ) (node : Node) : Type 0 where
+  pub bytes : take (76 + length node.key.name) (held heap offset) ≡ nk_bytes node.key.fields node.key.name
+  pub flags : bit_and node.key.fields.flags 103 ≡ (if offset == root then 36 else 32)
+  pub name : is_key_name node.key.name ≡ true
+  pub parent : offset ≡ root → node.key.fields.parent ≡ 4294967295
+  pub class : node.key.fields.class_length ≡ 0 → node.key.fields.class ≡ 4294967295
+  pub values : AreWrittenValues heap node
+  pub subkeys : node.key.fields.subkeys ≡ length (entries_of node.index)
+  pub few : node.key.fields.subkeys ≤ 60000
+  pub none : node.key.fields.subkeys ≡ 0 → node.key.fields.subkeys_list ≡ 4294967295
+  pub index : IsWrittenIndex node.index
+
+-- what a key says of its subkeys, and they of it: the entries name them, in the strict order of their folded names and with their
+-- hashes; each names the key as its parent, and none is longer than the key says
+pub record Fits (offset : ℕ) (node : Node) (below : List (ℕ × Node)) : Type 0 where
+  pub places : map (λ (e : ℕ × Node). e.0) below ≡ places_in (entries_of node.index)
+  pub hashes : map (λ (e : ℕ × Node). hash e.1.key.name) below ≡ map (λ (e : Entry). e.hint) (entries_of node.index)
+  pub order : Pairwise (λ (a b : ℕ × Node). Precedes a.1.key.name b.1.key.name) below
+  pub parents : AllByRecursion (λ (e : ℕ × Node). e.1.key.fields.parent ≡ offset) below
+  pub longest_name : AllByRecursion (λ (e : ℕ × Node). 2 * length e.1.key.name ≤ node.key.fields.largest_subkey_name % 65536) below
+  pub longest_class : AllByRecursion (λ (e : ℕ × Node). e.1.key.fields.class_length ≤ node.key.fields.largest_subkey_class) below
+
+-- a key security, to its last byte, with a descriptor of 1 to 65,535 bytes
+pub record IsWrittenSecurity (heap : Heap) (offset : ℕ) : Type 0 where
+  pub security : KeySecurityRecord
+  pub reads : security_at heap offset ≡ Some security
+  pub bytes : take (20 + length security.descriptor) (held heap offset) ≡ sk_bytes security.fields security.descriptor
+  pub some : 1 ≤ length security.descriptor
+  pub short : length security.descriptor ≤ 65535
