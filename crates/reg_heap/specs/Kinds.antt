@@ -39,14 +39,14 @@ is_security Security = true
 -- how often a number stands in a list
 abbrev pub times : ℕ → List ℕ → ℕ
 times x [] = 0
-times x (y ∷ ys) = cond (x == y) 1 0 + times x ys
+times x (y ∷ ys) = cond (y == x) 1 0 + times x ys
 
 -- how often an offset is met as a key's own cell, and so not as a security
 abbrev pub owned : ℕ → List Found → ℕ
 owned offset [] = 0
-owned offset (f ∷ fs) = cond (is_security f.kind) 0 (cond (offset == f.offset) 1 0) + owned offset fs
+owned offset (f ∷ fs) = cond (is_security f.kind) 0 (cond (f.offset == offset) 1 0) + owned offset fs
 
 -- how often an offset is met as a security
 abbrev pub shared : ℕ → List Found → ℕ
 shared offset [] = 0
-shared offset (f ∷ fs) = cond (is_security f.kind) (cond (offset == f.offset) 1 0) 0 + shared offset fs
+shared offset (f ∷ fs) = cond (is_security f.kind) (cond (f.offset == offset) 1 0) 0 + shared offset fs

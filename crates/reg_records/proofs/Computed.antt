@@ -9,7 +9,15 @@ use Rattle.reg_arena.specs.NewCells.{used, unused}
 use Rattle.reg_records.specs.Keys.{nk_of, key_at}
 use Rattle.reg_records.specs.Values.{vk_of}
 use Rattle.reg_records.specs.Securities.{sk_of, security_at}
-use Rattle.reg_records.specs.Walk.{walk, plainly}
+use Rattle.reg_records.specs.Walk.{walk}
+use Rattle.reg_records.specs.Pieces.{plainly, segment_size}
+use Rattle.reg_records.specs.Rows.{row_in, offsets_at}
+use Rattle.reg_records.specs.Nodes.{Node, look}
+use Rattle.reg_records.specs.Nodes.Index.{Unlisted}
+use Rattle.reg_records.specs.Spelt.{keys_from, spelt}
+use Rattle.reg_records.specs.declared.nk.KeyFields.{KeyFields}
+use Rattle.std.specs.FinMap.{insert, empty}
+use Rattle.reg_heap.specs.Paths.{Rec}
 
 -- `hbin`, offset 0, size 4096 and 20 zeros
 abbrev header : List ℕ
@@ -33,26 +41,70 @@ security_cell count =
 
 -- ---- a fresh hive
 
-abbrev fresh : List ℕ
+abbrev pub fresh : List ℕ
 fresh = header ++ (root_cell zeros none zeros ++ (security_cell 1 ++ ((88 ∷ 15 ∷ 0 ∷ 0 ∷ 255 ∷ 255 ∷ 255 ∷ 255 ∷ []) ++ replicate 3920 0)))
 
-fresh-cells : cells_of fresh ≡ Some (used 32 88 ∷ used 120 48 ∷ unused 168 3928 ∷ [])
+pub fresh-cells : cells_of fresh ≡ Some (used 32 88 ∷ used 120 48 ∷ unused 168 3928 ∷ [])
 unfolding cells_of word
 fresh-cells = refl
 
-fresh-walk : walk 3 (cell_at fresh) (plainly Key 32) ≡ Some (record { kind = Key; offset = 32 } ∷ record { kind = Security; offset = 120 } ∷ [])
+pub fresh-walk : walk 3 (cell_at fresh) (plainly Key 32) ≡ Some (record { kind = Key; offset = 32 } ∷ record { kind = Security; offset = 120 } ∷ [])
 unfolding cell_at cells_of word half long walk nk_of sk_of
 fresh-walk = refl
 
 -- ---- after the first value: its record of 24 bytes at 168, and the list of it at 192
 
-abbrev valued : List ℕ
+abbrev pub valued : List ℕ
 valued =
     header ++ (root_cell (1 ∷ 0 ∷ 0 ∷ 0 ∷ []) (192 ∷ 0 ∷ 0 ∷ 0 ∷ []) (4 ∷ 0 ∷ 0 ∷ 0 ∷ []) ++ (security_cell 1
     ++ ((232 ∷ 255 ∷ 255 ∷ 255 ∷ []) ++ ((118 ∷ 107 ∷ 0 ∷ 0 ∷ []) ++ ((4 ∷ 0 ∷ 0 ∷ 128 ∷ []) ++ ((1 ∷ 0 ∷ 0 ∷ 0 ∷ []) ++ ((4 ∷ 0 ∷ 0 ∷ 0 ∷ []) ++ (zeros
     ++ ((248 ∷ 255 ∷ 255 ∷ 255 ∷ []) ++ ((168 ∷ 0 ∷ 0 ∷ 0 ∷ [])
     ++ ((56 ∷ 15 ∷ 0 ∷ 0 ∷ 255 ∷ 255 ∷ 255 ∷ 255 ∷ []) ++ replicate 3888 0)))))))))))
 
-valued-cells : cells_of valued ≡ Some (used 32 88 ∷ used 120 48 ∷ used 168 24 ∷ used 192 8 ∷ unused 200 3896 ∷ [])
+pub valued-cells : cells_of valued ≡ Some (used 32 88 ∷ used 120 48 ∷ used 168 24 ∷ used 192 8 ∷ unused 200 3896 ∷ [])
 unfolding cells_of word
 valued-cells = refl
+
+pub valued-walk : walk 5 (cell_at valued) (plainly Key 32) ≡ Some (record { kind = Key; offset = 32 } ∷ record { kind = Security; offset = 120 } ∷ record { kind = ValueList; offset = 192 } ∷ record { kind = Value; offset = 168 } ∷ [])
+unfolding cell_at cells_of word half long walk nk_of sk_of vk_of row_in offsets_at segment_size
+valued-walk = refl
+
+-- ---- what the fresh hive is
+
+abbrev pub fresh_fields : KeyFields
+fresh_fields = record {
+  flags = 44;
+  time = 0;
+  parent = 4294967295;
+  subkeys = 0;
+  subkeys_list = 4294967295;
+  values = 0;
+  values_list = 4294967295;
+  security = 120;
+  class = 4294967295;
+  class_length = 0;
+  largest_subkey_name = 0;
+  largest_subkey_class = 0;
+  largest_value_name = 0;
+  largest_value_data = 0;
+}
+
+abbrev pub root_name : List ℕ
+root_name = 82 ∷ 79 ∷ 79 ∷ 84 ∷ []
+
+abbrev pub descriptor : List ℕ
+descriptor = (1 ∷ 0 ∷ 4 ∷ 128 ∷ []) ++ replicate 16 0
+
+abbrev pub fresh_found : List Found
+fresh_found = record { kind = Key; offset = 32 } ∷ record { kind = Security; offset = 120 } ∷ []
+
+abbrev pub fresh_node : Node
+fresh_node = record { key = record { fields = fresh_fields; name = root_name }; class = []; values = []; cells = fresh_found; index = Unlisted }
+
+pub fresh-look : look (cell_at fresh) 32 ≡ Some fresh_node
+unfolding cell_at cells_of word half long nk_of key_at look
+fresh-look = refl
+
+pub fresh-spelt : spelt 3 (cell_at fresh) 32 ≡ Some (insert empty [] (record { name = root_name; marks = 8; class = []; descriptor = descriptor; time = 0; values = [] }))
+unfolding cell_at cells_of word half long nk_of sk_of key_at security_at look keys_from spelt
+fresh-spelt = refl

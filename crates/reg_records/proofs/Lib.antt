@@ -5,3 +5,4 @@ pub mod Values
 pub mod Keys
 pub mod Offsets
 pub mod Computed
+pub mod FreshHive

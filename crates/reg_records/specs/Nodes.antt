@@ -16,33 +16,31 @@ use Rattle.reg_records.specs.Values.{KeyValueRecord, vk_of}
 use Rattle.reg_records.specs.Rows.{row_in}
 use Rattle.reg_records.specs.Lists.{SubkeysList, Entry, Form, list_of, places_in}
 use Rattle.reg_records.specs.Lists.Form.{IndexRoot, IndexLeaf, FastLeaf, HashLeaf}
-use Rattle.reg_records.specs.Pieces.{Named, BigData, segment_size, is_inline, inline_size, segments_for, segments, db_of}
+use Rattle.reg_records.specs.Pieces.{Named, if_any, BigData, segment_size, is_inline, inline_size, segments_for, segments, db_of}
 
--- the first bytes of a cell, as many as are named; of none the cell isn't read
+-- the first bytes of a cell, as many as are named
 abbrev pub bytes_at : Named → Reading (List ℕ)
-bytes_at named = by named.size
-  where
-    by : ℕ → Reading (List ℕ)
-    by zero = give []
-    by (suc n) = do
-      content ← cell named.kind named.offset
-      guard (nat_le (suc n) (length content)) (give (take (suc n) content))
+bytes_at named = do
+  content ← cell named.kind named.offset
+  guard (nat_le named.size (length content)) (give (take named.size content))
 
--- the first offsets of a list, as many as are named; of none the list isn't read
-abbrev pub row_at : Named → Reading (List ℕ)
-row_at named = by named.size
-  where
-    by : ℕ → Reading (List ℕ)
-    by zero = give []
-    by (suc n) = do
-      content ← cell named.kind named.offset
-      given (row_in (suc n) content)
-
--- the data of segments, one behind the other
+-- the bytes of several, one behind the other
 abbrev pub pieces_at : List Named → Reading (List ℕ)
 pieces_at names = do
   pieces ← each bytes_at names
   give (concat pieces)
+
+-- the first offsets of a list, as many as a count says
+abbrev pub row_at : Kind → ℕ → ℕ → Reading (List ℕ)
+row_at kind count offset = do
+  content ← cell kind offset
+  given (row_in count content)
+
+-- the data behind a big data record's list
+abbrev pub big_in : ℕ → BigData → Reading (List ℕ)
+big_in size big = do
+  row ← row_at BigList (segments_for size) big.list
+  pieces_at (segments size row)
 
 -- the data behind a big data record
 abbrev pub big_at : ℕ → ℕ → Reading (List ℕ)
@@ -50,11 +48,6 @@ big_at size offset = do
   content ← cell BigHead offset
   big ← given (db_of content)
   guard (nat_le (segments_for size) big.count) (big_in size big)
-  where
-    big_in : ℕ → BigData → Reading (List ℕ)
-    big_in size big = do
-      row ← row_at (record { kind = BigList; size = segments_for size; offset = big.list })
-      pieces_at (segments size row)
 
 -- a value's data
 abbrev pub data_at : ValueFields → Reading (List ℕ)
@@ -62,7 +55,7 @@ data_at value = by (is_inline value.size) (nat_le value.size segment_size)
   where
     by : Bool → Bool → Reading (List ℕ)
     by true small = guard (nat_le (inline_size value.size) 4) (give (take (inline_size value.size) (little_bytes 4 value.place)))
-    by false true = bytes_at (record { kind = Data; size = value.size; offset = value.place })
+    by false true = pieces_at (if_any Data value.size value.place)
     by false false = big_at value.size value.place
 
 -- a name of one byte a character, or of UTF-16LE units
@@ -89,9 +82,13 @@ member_at offset = do
 
 -- a key's values, in the order of its list
 abbrev pub members_at : KeyRecord → Reading (List Member)
-members_at key = do
-  row ← row_at (record { kind = ValueList; size = key.fields.values; offset = key.fields.values_list })
-  each member_at row
+members_at key = by key.fields.values
+  where
+    by : ℕ → Reading (List Member)
+    by zero = give []
+    by (suc n) = do
+      row ← row_at ValueList (suc n) key.fields.values_list
+      each member_at row
 
 -- a list of keys: its offset, its form and its entries
 pub record KeyList : Type 0 where
@@ -167,4 +164,4 @@ look heap offset = option_and_then with_key (key_at heap offset)
     with_class key class = option_and_then (with_values key class) (members_at key heap)
 
     with_key : KeyRecord → Option Node
-    with_key key = option_and_then (with_class key) (bytes_at (record { kind = Class; size = key.fields.class_length; offset = key.fields.class }) heap)
+    with_key key = option_and_then (with_class key) (pieces_at (if_any Class key.fields.class_length key.fields.class) heap)

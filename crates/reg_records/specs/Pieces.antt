@@ -1,5 +1,5 @@
 -- Where a value's data stands (Suhanov, Windows registry file format specification, "Key value", "Big data").
-use Rattle.std.specs.Prelude.{ℕ, ◌+◌, ◌-◌, ◌*◌, ◌/◌, ◌==◌, nat_lt, nat_le, not, min, Bool, if◌then◌else◌, Option, Some, None, List, [], ◌∷◌, length}
+use Rattle.std.specs.Prelude.{ℕ, zero, suc, ◌+◌, ◌-◌, ◌*◌, ◌/◌, ◌==◌, nat_lt, nat_le, not, min, Bool, if◌then◌else◌, Option, Some, None, List, [], ◌∷◌, length}
 use Rattle.reg_heap.specs.Words.{half, word}
 use Rattle.reg_heap.specs.Kinds.{Kind}
 use Rattle.reg_heap.specs.Kinds.Kind.{Segment}
@@ -11,6 +11,18 @@ pub record Named : Type 0 where
   pub kind : Kind
   pub size : ℕ
   pub offset : ℕ
+
+abbrev pub named : Kind → ℕ → ℕ → Named
+named kind size offset = record { kind = kind; size = size; offset = offset }
+
+-- a record that is named without a size
+abbrev pub plainly : Kind → ℕ → Named
+plainly kind offset = named kind 0 offset
+
+-- a record that is named where its size isn't 0
+abbrev pub if_any : Kind → ℕ → ℕ → List Named
+if_any kind zero offset = []
+if_any kind (suc n) offset = named kind (suc n) offset ∷ []
 
 -- how many bytes of data one cell holds at most, and each segment but the last (section "Big data")
 unfoldable pub segment_size : ℕ
@@ -31,8 +43,7 @@ segments_for size = (size + (segment_size - 1)) / segment_size
 -- the segments at these offsets, each of the largest size but the last, which has the rest
 abbrev pub segments : ℕ → List ℕ → List Named
 segments size [] = []
-segments size (offset ∷ offsets) =
-    record { kind = Segment; size = min segment_size size; offset = offset } ∷ segments (size - segment_size) offsets
+segments size (offset ∷ offsets) = named Segment (min segment_size size) offset ∷ segments (size - segment_size) offsets
 
 -- a big data record as it is read: how many segments its list has, and the list's offset
 pub record BigData : Type 0 where

@@ -13,16 +13,7 @@ use Rattle.reg_records.specs.Securities.{KeySecurityRecord, sk_of}
 use Rattle.reg_records.specs.Rows.{row_in}
 use Rattle.reg_records.specs.Lists.{SubkeysList, Form, list_of, places_in}
 use Rattle.reg_records.specs.Lists.Form.{IndexRoot, IndexLeaf, FastLeaf, HashLeaf}
-use Rattle.reg_records.specs.Pieces.{Named, BigData, segment_size, is_inline, inline_size, segments_for, segments, db_of}
-
--- a record that is named without a size
-abbrev pub plainly : Kind → ℕ → Named
-plainly kind offset = record { kind = kind; size = 0; offset = offset }
-
--- a record that is named where its size isn't 0
-abbrev pub if_any : Kind → ℕ → ℕ → List Named
-if_any kind zero offset = []
-if_any kind (suc n) offset = record { kind = kind; size = suc n; offset = offset } ∷ []
+use Rattle.reg_records.specs.Pieces.{Named, named, plainly, if_any, BigData, segment_size, is_inline, inline_size, segments_for, segments, db_of}
 
 -- nothing more is named, where the content has so many bytes
 abbrev pub enough : ℕ → List ℕ → Option (List Named)
@@ -41,12 +32,12 @@ abbrev pub value_names : KeyValueRecord → Option (List Named)
 value_names value =
     if is_inline value.fields.size then (if nat_le (inline_size value.fields.size) 4 then Some [] else None)
     else if nat_le value.fields.size segment_size then Some (if_any Data value.fields.size value.fields.place)
-    else Some (if_any BigHead value.fields.size value.fields.place)
+    else Some (named BigHead value.fields.size value.fields.place ∷ [])
 
 -- a big data record names its list of segments, which it has as many of as the size needs, or more
 abbrev pub big_names : ℕ → BigData → Option (List Named)
 big_names size big =
-    if nat_le (segments_for size) big.count then Some (record { kind = BigList; size = size; offset = big.list } ∷ []) else None
+    if nat_le (segments_for size) big.count then Some (named BigList size big.list ∷ []) else None
 
 -- an index root names leaves, and no other list names lists
 abbrev pub leaves_named : SubkeysList → Option (List Named)
@@ -107,11 +98,10 @@ gather f (x ∷ xs) = option_and_then (λ ys. option_map (λ zs. ys ++ zs) (gath
 
 -- a record of a kind that is met, and behind it all that it names, each walked by `go`
 abbrev pub met : (Named → Option (List Found)) → Kind → Named → List ℕ → Option (List Found)
-met go kind named content =
-    option_map (λ below. record { kind = kind; offset = named.offset } ∷ below) (option_and_then (gather go) (names_of kind named.size content))
+met go kind n content = option_map (λ below. record { kind = kind; offset = n.offset } ∷ below) (option_and_then (gather go) (names_of kind n.size content))
 
 -- the record named, and behind it all that it names, in order; each step down takes one of fuel. None where there is no
 -- allocated cell, or a record is bad, or fuel ends
 unfoldable pub walk : ℕ → Heap → Named → Option (List Found)
-walk zero heap named = None
-walk (suc fuel) heap named = option_and_then (λ content. met (walk fuel heap) (kind_met named.kind content) named content) (heap named.offset)
+walk zero heap n = None
+walk (suc fuel) heap n = option_and_then (λ content. met (walk fuel heap) (kind_met n.kind content) n content) (heap n.offset)

@@ -10,7 +10,8 @@ use Rattle.reg_heap.specs.Kinds.Kind.{Key, Security}
 use Rattle.reg_arena.specs.declared.Cell.{Cell}
 use Rattle.reg_arena.specs.Cells.{cells_of, cell_at}
 use Rattle.reg_records.specs.Securities.{KeySecurityRecord, security_at}
-use Rattle.reg_records.specs.Walk.{walk, plainly}
+use Rattle.reg_records.specs.Walk.{walk}
+use Rattle.reg_records.specs.Pieces.{plainly}
 use Rattle.reg_records.specs.Nodes.{Node, look}
 use Rattle.reg_records.specs.Spelt.{keys_from}
 use Rattle.reg_records.specs.Written.{Pairwise, IsWrittenKey, Fits, IsWrittenSecurity}
