@@ -6,3 +6,6 @@ pub mod Keys
 pub mod Offsets
 pub mod Computed
 pub mod FreshHive
+pub mod Walks
+pub mod Enough
+pub mod Readings

@@ -11,3 +11,4 @@ pub mod Nodes
 pub mod Spelt
 pub mod Written
 pub mod Whole
+pub mod Shapes

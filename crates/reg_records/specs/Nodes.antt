@@ -49,14 +49,15 @@ big_at size offset = do
   big ← given (db_of content)
   guard (nat_le (segments_for size) big.count) (big_in size big)
 
+-- the data of a size that stands in the value, in one cell, or behind a big data record
+abbrev pub data_by : Bool → Bool → ℕ → ℕ → Reading (List ℕ)
+data_by true small size place = guard (nat_le (inline_size size) 4) (give (take (inline_size size) (little_bytes 4 place)))
+data_by false true size place = pieces_at (if_any Data size place)
+data_by false false size place = big_at size place
+
 -- a value's data
 abbrev pub data_at : ValueFields → Reading (List ℕ)
-data_at value = by (is_inline value.size) (nat_le value.size segment_size)
-  where
-    by : Bool → Bool → Reading (List ℕ)
-    by true small = guard (nat_le (inline_size value.size) 4) (give (take (inline_size value.size) (little_bytes 4 value.place)))
-    by false true = pieces_at (if_any Data value.size value.place)
-    by false false = big_at value.size value.place
+data_at value = data_by (is_inline value.size) (nat_le value.size segment_size) value.size value.place
 
 -- a name of one byte a character, or of UTF-16LE units
 abbrev pub letters : Bool → List ℕ → List ℕ
@@ -80,15 +81,12 @@ member_at offset = do
   bytes ← data_at value.fields
   give (member_of value bytes)
 
--- a key's values, in the order of its list
-abbrev pub members_at : KeyRecord → Reading (List Member)
-members_at key = by key.fields.values
-  where
-    by : ℕ → Reading (List Member)
-    by zero = give []
-    by (suc n) = do
-      row ← row_at ValueList (suc n) key.fields.values_list
-      each member_at row
+-- so many values, in the order of their list
+abbrev pub members_at : ℕ → ℕ → Reading (List Member)
+members_at zero offset = give []
+members_at (suc n) offset = do
+  row ← row_at ValueList (suc n) offset
+  each member_at row
 
 -- a list of keys: its offset, its form and its entries
 pub record KeyList : Type 0 where
@@ -161,7 +159,7 @@ look heap offset = option_and_then with_key (key_at heap offset)
     with_values key class values = option_map (with_index key class values) (index_at heap key.fields.subkeys key.fields.subkeys_list)
 
     with_class : KeyRecord → List ℕ × List Found → Option Node
-    with_class key class = option_and_then (with_values key class) (members_at key heap)
+    with_class key class = option_and_then (with_values key class) (members_at key.fields.values key.fields.values_list heap)
 
     with_key : KeyRecord → Option Node
     with_key key = option_and_then (with_class key) (pieces_at (if_any Class key.fields.class_length key.fields.class) heap)
