@@ -9,3 +9,4 @@ pub mod FreshHive
 pub mod Walks
 pub mod Enough
 pub mod Readings
+pub mod Indexes

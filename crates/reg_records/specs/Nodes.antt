@@ -99,31 +99,36 @@ pub data Index : Type 0 where
   Listed : KeyList → Index
   Rooted : ℕ → List KeyList → Index
 
--- a list of keys at an offset; an index root is none
+-- a list of keys of a form; an index root is none
+abbrev pub key_list_as : ℕ → SubkeysList → Form → Option KeyList
+key_list_as offset list IndexRoot = None
+key_list_as offset list IndexLeaf = Some (record { place = offset; list = list })
+key_list_as offset list FastLeaf = Some (record { place = offset; list = list })
+key_list_as offset list HashLeaf = Some (record { place = offset; list = list })
+
+-- the subkeys list that a cell holds
+abbrev pub list_at : Heap → ℕ → Option SubkeysList
+list_at heap offset = option_and_then list_of (heap offset)
+
 abbrev pub key_list_at : Heap → ℕ → Option KeyList
-key_list_at heap offset = option_and_then (λ list. by list list.form) (option_and_then list_of (heap offset))
-  where
-    by : SubkeysList → Form → Option KeyList
-    by list IndexRoot = None
-    by list IndexLeaf = Some (record { place = offset; list = list })
-    by list FastLeaf = Some (record { place = offset; list = list })
-    by list HashLeaf = Some (record { place = offset; list = list })
+key_list_at heap offset = option_and_then (λ list. key_list_as offset list list.form) (list_at heap offset)
 
 -- each of the lists of keys, where all are there
 abbrev pub key_lists_at : Heap → List ℕ → Option (List KeyList)
 key_lists_at heap [] = Some []
 key_lists_at heap (offset ∷ offsets) = option_and_then (λ list. option_map (λ lists. list ∷ lists) (key_lists_at heap offsets)) (key_list_at heap offset)
 
+-- a key's subkeys, by the form of the list
+abbrev pub index_as : Heap → ℕ → SubkeysList → Form → Option Index
+index_as heap offset list IndexRoot = option_map (Rooted offset) (key_lists_at heap (places_in list.entries))
+index_as heap offset list IndexLeaf = Some (Listed (record { place = offset; list = list }))
+index_as heap offset list FastLeaf = Some (Listed (record { place = offset; list = list }))
+index_as heap offset list HashLeaf = Some (Listed (record { place = offset; list = list }))
+
 -- a key's subkeys, from the number of them and the offset of the list
 abbrev pub index_at : Heap → ℕ → ℕ → Option Index
 index_at heap zero offset = Some Unlisted
-index_at heap (suc count) offset = option_and_then (λ list. by list list.form) (option_and_then list_of (heap offset))
-  where
-    by : SubkeysList → Form → Option Index
-    by list IndexRoot = option_map (Rooted offset) (key_lists_at heap (places_in list.entries))
-    by list IndexLeaf = Some (Listed (record { place = offset; list = list }))
-    by list FastLeaf = Some (Listed (record { place = offset; list = list }))
-    by list HashLeaf = Some (Listed (record { place = offset; list = list }))
+index_at heap (suc count) offset = option_and_then (λ list. index_as heap offset list list.form) (list_at heap offset)
 
 -- the lists of keys of an index
 abbrev pub lists_of : Index → List KeyList
@@ -148,18 +153,19 @@ abbrev pub met_of : ℕ → KeyRecord → List Found → List Found → List Fou
 met_of offset key class values =
     record { kind = Key; offset = offset } ∷ class ++ record { kind = Security; offset = key.fields.security } ∷ values
 
+abbrev pub node_of : ℕ → KeyRecord → List ℕ × List Found → List Member × List Found → Index → Node
+node_of offset key class values index =
+    record { key = key; class = class.0; values = values.0; cells = met_of offset key class.1 values.1; index = index }
+
+-- a key with its class, its values and its subkeys
+abbrev pub node_in : Heap → ℕ → KeyRecord → Option Node
+node_in heap offset key =
+    option_and_then (λ class.
+    option_and_then (λ values.
+    option_map (node_of offset key class values) (index_at heap key.fields.subkeys key.fields.subkeys_list))
+    (members_at key.fields.values key.fields.values_list heap))
+    (pieces_at (if_any Class key.fields.class_length key.fields.class) heap)
+
 -- the key at an offset; its security is met and not read
 unfoldable pub look : Heap → ℕ → Option Node
-look heap offset = option_and_then with_key (key_at heap offset)
-  where
-    with_index : KeyRecord → List ℕ × List Found → List Member × List Found → Index → Node
-    with_index key class values index = record { key = key; class = class.0; values = values.0; cells = met_of offset key class.1 values.1; index = index }
-
-    with_values : KeyRecord → List ℕ × List Found → List Member × List Found → Option Node
-    with_values key class values = option_map (with_index key class values) (index_at heap key.fields.subkeys key.fields.subkeys_list)
-
-    with_class : KeyRecord → List ℕ × List Found → Option Node
-    with_class key class = option_and_then (with_values key class) (members_at key.fields.values key.fields.values_list heap)
-
-    with_key : KeyRecord → Option Node
-    with_key key = option_and_then (with_class key) (pieces_at (if_any Class key.fields.class_length key.fields.class) heap)
+look heap offset = option_and_then (node_in heap offset) (key_at heap offset)

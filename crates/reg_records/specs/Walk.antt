@@ -11,7 +11,7 @@ use Rattle.reg_records.specs.Keys.{KeyRecord, nk_of}
 use Rattle.reg_records.specs.Values.{KeyValueRecord, vk_of}
 use Rattle.reg_records.specs.Securities.{KeySecurityRecord, sk_of}
 use Rattle.reg_records.specs.Rows.{row_in}
-use Rattle.reg_records.specs.Lists.{SubkeysList, Form, list_of, places_in}
+use Rattle.reg_records.specs.Lists.{Entry, Form, list_of, places_in}
 use Rattle.reg_records.specs.Lists.Form.{IndexRoot, IndexLeaf, FastLeaf, HashLeaf}
 use Rattle.reg_records.specs.Pieces.{Named, named, plainly, if_any, BigData, segment_size, is_inline, inline_size, segments_for, segments, db_of}
 
@@ -40,24 +40,18 @@ big_names size big =
     if nat_le (segments_for size) big.count then Some (named BigList size big.list ∷ []) else None
 
 -- an index root names leaves, and no other list names lists
-abbrev pub leaves_named : SubkeysList → Option (List Named)
-leaves_named list = by list.form
-  where
-    by : Form → Option (List Named)
-    by IndexRoot = Some (map (plainly Leaf) (places_in list.entries))
-    by IndexLeaf = None
-    by FastLeaf = None
-    by HashLeaf = None
+abbrev pub leaves_named : Form → List Entry → Option (List Named)
+leaves_named IndexRoot entries = Some (map (plainly Leaf) (places_in entries))
+leaves_named IndexLeaf entries = None
+leaves_named FastLeaf entries = None
+leaves_named HashLeaf entries = None
 
 -- a leaf names keys
-abbrev pub keys_named : SubkeysList → Option (List Named)
-keys_named list = by list.form
-  where
-    by : Form → Option (List Named)
-    by IndexRoot = None
-    by IndexLeaf = Some (map (plainly Key) (places_in list.entries))
-    by FastLeaf = Some (map (plainly Key) (places_in list.entries))
-    by HashLeaf = Some (map (plainly Key) (places_in list.entries))
+abbrev pub keys_named : Form → List Entry → Option (List Named)
+keys_named IndexRoot entries = None
+keys_named IndexLeaf entries = Some (map (plainly Key) (places_in entries))
+keys_named FastLeaf entries = Some (map (plainly Key) (places_in entries))
+keys_named HashLeaf entries = Some (map (plainly Key) (places_in entries))
 
 -- a security has a descriptor, and names nothing that is walked
 abbrev pub security_names : KeySecurityRecord → Option (List Named)
@@ -67,8 +61,8 @@ security_names security = if length security.descriptor == 0 then None else Some
 abbrev pub names_of : Kind → ℕ → List ℕ → Option (List Named)
 names_of Key size content = option_map key_names (result_ok (nk_of content))
 names_of Class size content = enough size content
-names_of SubList size content = option_and_then leaves_named (list_of content)
-names_of Leaf size content = option_and_then keys_named (list_of content)
+names_of SubList size content = option_and_then (λ list. leaves_named list.form list.entries) (list_of content)
+names_of Leaf size content = option_and_then (λ list. keys_named list.form list.entries) (list_of content)
 names_of ValueList size content = option_map (map (plainly Value)) (row_in size content)
 names_of Value size content = option_and_then value_names (result_ok (vk_of content))
 names_of Data size content = enough size content
