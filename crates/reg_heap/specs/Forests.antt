@@ -25,13 +25,13 @@ total m (Rooted place node below beside) = m place node + (total m below + total
 abbrev pub total_of : {N : Type 0} → (ℕ → N → ℕ) → Branch N → ℕ
 total_of m branch = m branch.place branch.node + total m branch.below
 
--- each key reads as its node, and agrees with the keys right below it
-module _ {N : Type 0} (Sees : ℕ → N → Type 0) (Fits : ℕ → N → List (ℕ × N) → Type 0) where
-  -- what stands right below, and beside one another
-  abbrev pub heads : Forest N → List (ℕ × N)
-  heads End = []
-  heads (Rooted place node below beside) = (place, node) ∷ heads beside
+-- the keys side by side, without those below them
+abbrev pub heads : {N : Type 0} → Forest N → List (ℕ × N)
+heads End = []
+heads (Rooted place node below beside) = (place, node) ∷ heads beside
 
+-- each key reads as its node, and fits those right below it
+module _ {N : Type 0} (Sees : ℕ → N → Type 0) (Fits : ℕ → N → List (ℕ × N) → Type 0) where
   abbrev pub Stand : Forest N → Type 0
   Stand End = Unit {0}
   Stand (Rooted place node below beside) = (Sees place node × Fits place node (heads below) × Stand below) × Stand beside

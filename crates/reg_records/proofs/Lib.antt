@@ -10,3 +10,4 @@ pub mod Walks
 pub mod Enough
 pub mod Readings
 pub mod Indexes
+pub mod Standing
