@@ -41,12 +41,23 @@ abbrev pub times : ℕ → List ℕ → ℕ
 times x [] = 0
 times x (y ∷ ys) = cond (y == x) 1 0 + times x ys
 
--- how often an offset is met as a key's own cell, and so not as a security
+-- a number of each record that is met, added up
+abbrev pub tally : (Found → ℕ) → List Found → ℕ
+tally m [] = 0
+tally m (f ∷ fs) = m f + tally m fs
+
+-- 1 where a record is met at the offset as a key's own cell, and so not as a security
+abbrev pub is_own : ℕ → Found → ℕ
+is_own offset f = cond (is_security f.kind) 0 (cond (f.offset == offset) 1 0)
+
+-- 1 where a record is met at the offset as a security
+abbrev pub is_shared : ℕ → Found → ℕ
+is_shared offset f = cond (is_security f.kind) (cond (f.offset == offset) 1 0) 0
+
+-- how often an offset is met as a key's own cell
 abbrev pub owned : ℕ → List Found → ℕ
-owned offset [] = 0
-owned offset (f ∷ fs) = cond (is_security f.kind) 0 (cond (f.offset == offset) 1 0) + owned offset fs
+owned offset found = tally (is_own offset) found
 
 -- how often an offset is met as a security
 abbrev pub shared : ℕ → List Found → ℕ
-shared offset [] = 0
-shared offset (f ∷ fs) = cond (is_security f.kind) (cond (f.offset == offset) 1 0) 0 + shared offset fs
+shared offset found = tally (is_shared offset) found

@@ -5,7 +5,7 @@ use Rattle.std.specs.Result.{result_ok}
 use Rattle.std.proofs.lemmas.Option.{none-some, same_Some}
 use Rattle.std.proofs.lemmas.Bool.{false≢true}
 use Rattle.reg_heap.specs.Heaps.{Heap}
-use Rattle.reg_heap.specs.Kinds.{Kind, Found, is_security}
+use Rattle.reg_heap.specs.Kinds.{Kind, Found, is_security, tally}
 use Rattle.reg_heap.specs.Kinds.Kind.{Key, Class, SubList, Leaf, ValueList, Value, Data, BigHead, BigList, Segment, Security}
 use Rattle.reg_records.specs.Securities.{KeySecurityRecord, sk_of}
 use Rattle.reg_records.specs.Pieces.{Named}
@@ -14,8 +14,7 @@ use Rattle.reg_records.proofs.Walks.{gather-open, gather-made, IsMet, walk-open,
 
 -- how many records are met that are no securities
 abbrev pub load : List Found → ℕ
-load [] = 0
-load (f ∷ fs) = cond (is_security f.kind) 0 1 + load fs
+load found = tally (λ f. cond (is_security f.kind) 0 1) found
 
 pub load-append : (xs ys : List Found) → load (xs ++ ys) ≡ load xs + load ys
 load-append [] ys = omega arith

@@ -11,3 +11,4 @@ pub mod Enough
 pub mod Readings
 pub mod Indexes
 pub mod Standing
+pub mod Counts

@@ -40,13 +40,17 @@ trace branch = branch.node.cells ++ index_met branch.node.index (traces branch.b
 abbrev pub index_cells : Index → List Found
 index_cells index = index_met index []
 
+-- the records of a key itself
+abbrev pub cells_of : Node → List Found
+cells_of node = node.cells ++ index_cells node.index
+
 -- how often a key has an offset as its own cell
 abbrev pub owns : ℕ → ℕ → Node → ℕ
-owns offset place node = owned offset node.cells + owned offset (index_cells node.index)
+owns offset place node = owned offset (cells_of node)
 
 -- how often a key has an offset as its security
 abbrev pub shares : ℕ → ℕ → Node → ℕ
-shares offset place node = shared offset node.cells
+shares offset place node = shared offset (cells_of node)
 
 -- a key reads as this node
 abbrev pub Sees : Heap → ℕ → Node → Type 0
