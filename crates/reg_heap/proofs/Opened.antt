@@ -2,6 +2,7 @@
 use Rattle.std.proofs.Common.{◌≡◌, Bool, true, false, ℕ, Option, Some, None, List, [], ◌∷◌, ◌++◌, refl, sym, ap, ◌∙◌}
 use Rattle.std.specs.Option.{option_map, option_and_then}
 use Rattle.std.proofs.lemmas.Option.{none-some, same_Some}
+use Rattle.std.proofs.lemmas.List.{append-nil}
 use Rattle.reg_heap.specs.Heaps.{Heap}
 use Rattle.reg_heap.specs.Kinds.{Kind, Found}
 use Rattle.reg_heap.specs.Readings.{Reading, noted, ◌>>=◌, give, given, cell, guard, each}
@@ -46,10 +47,6 @@ cell-open kind offset heap content zs e = by (heap offset) refl e
     by (Some c) a e =
         let p : ◌≡◌ {A = List ℕ × List Found} (c, record { kind = kind; offset = offset } ∷ []) (content, zs) = same_Some _ _ e in
         (a ∙ ap (λ (p : List ℕ × List Found). Some p.0) p, sym (ap (λ (p : List ℕ × List Found). p.1) p))
-
-append-nil : {A : Type 0} (xs : List A) → xs ++ [] ≡ xs
-append-nil [] = refl
-append-nil (x ∷ xs) = ap (λ ys. x ∷ ys) (append-nil xs)
 
 -- the reading of the first, and of the others
 pub record IsEach {A B : Type 0} (r : A → Reading B) (heap : Heap) (x : A) (xs : List A) (ys : List B) (zs : List Found) : Type 0 where

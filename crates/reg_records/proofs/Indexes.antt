@@ -2,6 +2,7 @@
 use Rattle.std.proofs.Common.{◌≡◌, ℕ, zero, suc, ◌+◌, ◌<◌, ◌≤◌, Bool, true, false, cond, Option, Some, None, List, [], ◌∷◌, ◌++◌, map, flat_map, length, take, drop, refl, sym, ap, ◌∙◌, subst, arith, append_assoc}
 use Rattle.std.specs.Option.{option_map, option_and_then}
 use Rattle.std.proofs.lemmas.Option.{none-some, same_Some}
+use Rattle.std.proofs.lemmas.List.{append-nil}
 use Rattle.std.proofs.lemmas.Bool.{false≢true}
 use Rattle.reg_heap.specs.Words.{half}
 use Rattle.reg_heap.specs.Heaps.{Heap}
@@ -15,7 +16,7 @@ use Rattle.reg_records.specs.Walk.{names_of, leaves_named, keys_named, kind_met}
 use Rattle.reg_records.specs.Nodes.{KeyList, Index, key_list_as, list_at, key_list_at, key_lists_at, index_as, index_at, lists_of, entries_of}
 use Rattle.reg_records.specs.Nodes.Index.{Unlisted, Listed, Rooted}
 use Rattle.reg_records.specs.Shapes.{joined, lists_met, index_met}
-use Rattle.reg_records.proofs.Walks.{append-nil, Walks, walks-none, walks-join, walks-met}
+use Rattle.reg_records.proofs.Walks.{Walks, walks-none, walks-join, walks-met}
 
 -- ---- options taken apart
 

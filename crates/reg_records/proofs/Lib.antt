@@ -12,3 +12,4 @@ pub mod Readings
 pub mod Indexes
 pub mod Standing
 pub mod Counts
+pub mod Inner

@@ -5,6 +5,7 @@ use Rattle.std.specs.Option.{option_map, option_and_then}
 use Rattle.std.specs.Result.{result_ok}
 use Rattle.byteorder.specs.Endian.{little_bytes}
 use Rattle.std.proofs.lemmas.Option.{none-some, same_Some}
+use Rattle.std.proofs.lemmas.List.{append-nil}
 use Rattle.std.proofs.lemmas.Bool.{false≢true}
 use Rattle.reg_heap.specs.Paths.{Member}
 use Rattle.reg_heap.specs.Heaps.{Heap}
@@ -19,7 +20,7 @@ use Rattle.reg_records.specs.Rows.{row_in}
 use Rattle.reg_records.specs.Pieces.{Named, named, plainly, if_any, segment_size, is_inline, inline_size, BigData, segments_for, segments, db_of}
 use Rattle.reg_records.specs.Walk.{enough, names_of, value_names, big_names, kind_met}
 use Rattle.reg_records.specs.Nodes.{bytes_at, pieces_at, row_at, big_in, big_at, data_by, data_at, member_of, member_at, members_at}
-use Rattle.reg_records.proofs.Walks.{append-nil, Walks, walks-none, walks-join, walks-met}
+use Rattle.reg_records.proofs.Walks.{Walks, walks-none, walks-join, walks-met}
 
 -- ---- bytes
 

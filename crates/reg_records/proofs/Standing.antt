@@ -4,6 +4,7 @@ use Rattle.std.specs.List.{AllByRecursion}
 use Rattle.std.specs.Option.{option_map, option_and_then}
 use Rattle.std.specs.Result.{result_ok}
 use Rattle.std.proofs.lemmas.Option.{none-some, same_Some}
+use Rattle.std.proofs.lemmas.List.{append-nil}
 use Rattle.std.proofs.lemmas.Bool.Decides.{nat_tests}
 use Rattle.reg_heap.specs.Paths.{Member}
 use Rattle.reg_heap.specs.Heaps.{Heap}
@@ -20,7 +21,7 @@ use Rattle.reg_records.specs.Walk.{names_of, key_names, security_names, kind_met
 use Rattle.reg_records.specs.Nodes.{Node, Index, pieces_at, members_at, index_at, entries_of, node_of, node_in, met_of, look}
 use Rattle.reg_records.specs.Written.{Fits, IsWrittenSecurity}
 use Rattle.reg_records.specs.Shapes.{joined, index_met, traces, trace, shares, Sees, StandsIn}
-use Rattle.reg_records.proofs.Walks.{append-nil, Walks, walks-none, walks-join, walks-met}
+use Rattle.reg_records.proofs.Walks.{Walks, walks-none, walks-join, walks-met}
 use Rattle.reg_records.proofs.Readings.{class-walks, members-walks}
 use Rattle.reg_records.proofs.Indexes.{then-open, map-open, AllWalk, index-walks}
 

@@ -2,6 +2,7 @@
 use Rattle.std.proofs.Common.{◌≡◌, ℕ, zero, suc, ◌+◌, ◌<◌, ◌≤◌, max, Bool, true, false, cond, Option, Some, None, List, [], ◌∷◌, ◌++◌, length, refl, sym, ap, ◌∙◌, subst, arith, append_assoc}
 use Rattle.std.specs.Option.{option_map, option_and_then}
 use Rattle.std.proofs.lemmas.Option.{none-some, same_Some}
+use Rattle.std.proofs.lemmas.List.{append-nil}
 use Rattle.reg_heap.specs.Heaps.{Heap}
 use Rattle.reg_heap.specs.Kinds.{Kind, Found, is_security}
 use Rattle.reg_heap.specs.Kinds.Kind.{Key, Class, SubList, Leaf, ValueList, Value, Data, BigHead, BigList, Segment, Security}
@@ -123,10 +124,6 @@ walks-join heap xs us ys ws a b = record {
     (gather-more (walk a.fuel heap) (walk (max a.fuel b.fuel) heap) (λ n found e. walk-more a.fuel (max a.fuel b.fuel) heap (omega arith) n found e) xs ys a.walked)
     (gather-more (walk b.fuel heap) (walk (max a.fuel b.fuel) heap) (λ n found e. walk-more b.fuel (max a.fuel b.fuel) heap (omega arith) n found e) us ws b.walked);
 }
-
-pub append-nil : {A : Type 0} (xs : List A) → xs ++ [] ≡ xs
-append-nil [] = refl
-append-nil (x ∷ xs) = ap (λ ys. x ∷ ys) (append-nil xs)
 
 -- one record, and what it names
 pub walks-met : (heap : Heap) (n : Named) (content : List ℕ) (names : List Named) (below : List Found) → heap n.offset ≡ Some content → names_of (kind_met n.kind content) n.size content ≡ Some names → Walks heap names below → Walks heap (n ∷ []) (record { kind = kind_met n.kind content; offset = n.offset } ∷ below)
