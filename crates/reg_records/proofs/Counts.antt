@@ -9,7 +9,7 @@ use Rattle.reg_records.specs.Lists.{Entry, places_in}
 use Rattle.reg_records.specs.Nodes.{Node, KeyList, Index, entries_of}
 use Rattle.reg_records.specs.Nodes.Index.{Unlisted, Listed, Rooted}
 use Rattle.reg_records.specs.Written.{Fits}
-use Rattle.reg_records.specs.Shapes.{joined, lists_met, index_met, index_cells, cells_of, traces, trace, Sees, StandsIn}
+use Rattle.reg_records.specs.Shapes.{joined, lists_met, index_met, index_cells, cells_of, traces, trace, IsSeen, StandsIn}
 
 module _ (m : Found → ℕ) where
   pub tally-append : (xs ys : List Found) → tally m (xs ++ ys) ≡ tally m xs + tally m ys
@@ -65,7 +65,7 @@ module _ (m : Found → ℕ) where
   length-places [] = refl
   length-places (e ∷ entries) = ap suc (length-places entries)
 
-  module _ (heap : Heap) where
+  module _ (heap : Heap) (root : ℕ) where
     -- a key: its own cells, and what is met below it
     tally-key : (place : ℕ) (node : Node) (below : Forest Node) → Fits place node (heads below) → tally m (node.cells ++ index_met node.index (traces below)) ≡ tally m (cells_of node) + tally m (joined (traces below))
     tally-key place node below fits =
@@ -76,7 +76,7 @@ module _ (m : Found → ℕ) where
         omega arith
 
     -- all keys of a forest
-    pub tally-forest : (F : Forest Node) → Stand (Sees heap) Fits F → tally m (joined (traces F)) ≡ total (λ place node. tally m (cells_of node)) F
+    pub tally-forest : (F : Forest Node) → Stand (IsSeen heap root) Fits F → tally m (joined (traces F)) ≡ total (λ place node. tally m (cells_of node)) F
     tally-forest End a = refl
     tally-forest (Hangs place node below beside) a =
         let one = tally-append (node.cells ++ index_met node.index (traces below)) (joined (traces beside)) in
@@ -86,7 +86,7 @@ module _ (m : Found → ℕ) where
         omega arith
 
     -- a key with all below it
-    pub tally-branch : (branch : Branch Node) → StandsIn heap branch → tally m (trace branch) ≡ total_of (λ place node. tally m (cells_of node)) branch
+    pub tally-branch : (branch : Branch Node) → StandsIn heap root branch → tally m (trace branch) ≡ total_of (λ place node. tally m (cells_of node)) branch
     tally-branch branch a =
         let key = tally-key branch.place branch.node branch.below a.1 in
         let under = tally-forest branch.below a.2 in

@@ -20,7 +20,7 @@ use Rattle.reg_records.specs.Pieces.{Named, named, plainly, if_any}
 use Rattle.reg_records.specs.Walk.{names_of, key_names, security_names, kind_met, walk}
 use Rattle.reg_records.specs.Nodes.{Node, Index, pieces_at, members_at, index_at, entries_of, node_of, node_in, met_of, look}
 use Rattle.reg_records.specs.Written.{Fits, IsWrittenSecurity}
-use Rattle.reg_records.specs.Shapes.{joined, index_met, traces, trace, shares, Sees, StandsIn}
+use Rattle.reg_records.specs.Shapes.{joined, index_met, traces, trace, IsSeen, StandsIn}
 use Rattle.reg_records.proofs.Walks.{Walks, walks-none, walks-join, walks-met}
 use Rattle.reg_records.proofs.Readings.{class-walks, members-walks}
 use Rattle.reg_records.proofs.Indexes.{then-open, map-open, AllWalk, index-walks}
@@ -103,14 +103,14 @@ abbrev pub AreSecured : Heap → Forest Node → Type 0
 AreSecured heap End = Unit {0}
 AreSecured heap (Hangs place node below beside) = IsWrittenSecurity heap node.key.fields.security × AreSecured heap below × AreSecured heap beside
 
-pub forest-walks : (heap : Heap) (F : Forest Node) → Stand (Sees heap) Fits F → AreSecured heap F → AllWalk heap (places F) (traces F)
-forest-walks heap End a s = tt
-forest-walks heap (Hangs place node below beside) a s = (
-    key-walks heap place node (traces below) a.0.0 s.0
-    (subst (λ ps. AllWalk heap ps (traces below)) (sym (heads-places below) ∙ a.0.1.places) (forest-walks heap below a.0.2 s.1)),
-    forest-walks heap beside a.1 s.2)
+pub forest-walks : (heap : Heap) (root : ℕ) (F : Forest Node) → Stand (IsSeen heap root) Fits F → AreSecured heap F → AllWalk heap (places F) (traces F)
+forest-walks heap root End a s = tt
+forest-walks heap root (Hangs place node below beside) a s = (
+    key-walks heap place node (traces below) a.0.0.reads s.0
+    (subst (λ ps. AllWalk heap ps (traces below)) (sym (heads-places below) ∙ a.0.1.places) (forest-walks heap root below a.0.2 s.1)),
+    forest-walks heap root beside a.1 s.2)
 
-pub branch-walks : (heap : Heap) (branch : Branch Node) → StandsIn heap branch → IsWrittenSecurity heap branch.node.key.fields.security → AreSecured heap branch.below → Walks heap (plainly Key branch.place ∷ []) (trace branch)
-branch-walks heap branch a one s =
-    key-walks heap branch.place branch.node (traces branch.below) a.0 one
-    (subst (λ ps. AllWalk heap ps (traces branch.below)) (sym (heads-places branch.below) ∙ a.1.places) (forest-walks heap branch.below a.2 s))
+pub branch-walks : (heap : Heap) (root : ℕ) (branch : Branch Node) → StandsIn heap root branch → IsWrittenSecurity heap branch.node.key.fields.security → AreSecured heap branch.below → Walks heap (plainly Key branch.place ∷ []) (trace branch)
+branch-walks heap root branch a one s =
+    key-walks heap branch.place branch.node (traces branch.below) a.0.reads one
+    (subst (λ ps. AllWalk heap ps (traces branch.below)) (sym (heads-places branch.below) ∙ a.1.places) (forest-walks heap root branch.below a.2 s))
