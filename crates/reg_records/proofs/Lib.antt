@@ -13,3 +13,5 @@ pub mod Indexes
 pub mod Standing
 pub mod Counts
 pub mod Inner
+pub mod Fewer
+pub mod Spelling

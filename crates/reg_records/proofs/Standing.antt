@@ -94,7 +94,7 @@ key-walks heap offset node below e s a =
 
 -- ---- keys side by side, and all below them
 
-heads-places : (F : Forest Node) → map (λ (e : ℕ × Node). e.0) (heads F) ≡ places F
+pub heads-places : (F : Forest Node) → map (λ (e : ℕ × Node). e.0) (heads F) ≡ places F
 heads-places End = refl
 heads-places (Hangs place node below beside) = ap (λ ps. place ∷ ps) (heads-places beside)
 
