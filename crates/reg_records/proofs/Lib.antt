@@ -15,3 +15,4 @@ pub mod Counts
 pub mod Inner
 pub mod Fewer
 pub mod Spelling
+pub mod Wholes

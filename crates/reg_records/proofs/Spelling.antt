@@ -104,7 +104,7 @@ branch-spelt heap root k keys a one s l =
 -- ---- how long the paths are
 
 
-longer : (n m : ℕ) → n ≤ m → (keys : Keys) → AllByRecursion (λ (e : Path × Rec). length e.0 ≤ n) keys → AllByRecursion (λ (e : Path × Rec). length e.0 ≤ m) keys
+pub longer : (n m : ℕ) → n ≤ m → (keys : Keys) → AllByRecursion (λ (e : Path × Rec). length e.0 ≤ n) keys → AllByRecursion (λ (e : Path × Rec). length e.0 ≤ m) keys
 longer n m l [] a = tt
 longer n m l (e ∷ keys) a = (omega arith, longer n m l keys a.1)
 
