@@ -1,2 +1,4 @@
 pub mod Fronts
 pub mod Orders
+pub mod Paths
+pub mod Rows

@@ -1,6 +1,7 @@
--- Names of keys and values (Win32 registry reference, "Registry Element Size Limits" and "Structure of the Registry").
-use Rattle.std.specs.Prelude.{ℕ, ◌-◌, ◌==◌, ◌&&◌, not, nat_lt, nat_le, Bool, List, map, take, length, if◌then◌else◌, Option, Some, None}
-use Rattle.std.specs.List.{list_all}
+-- Names of keys and values (Win32 registry reference, "Registry Element Size Limits" and "Structure of the Registry"), and
+-- their hash (Suhanov, Windows registry file format specification, section "Subkeys list").
+use Rattle.std.specs.Prelude.{ℕ, ◌+◌, ◌-◌, ◌*◌, ◌%◌, ◌==◌, ◌&&◌, not, nat_lt, nat_le, Bool, List, [], ◌∷◌, map, take, length, if◌then◌else◌, Option, Some, None}
+use Rattle.std.specs.List.{list_all, fold as fold_list, slice_split, join_with_byte}
 use Rattle.std.specs.Ordering.{nat_cmp}
 use Rattle.std.specs.declared.cmp.Ordering.{Ordering}
 use Rattle.std.specs.Cmp.Lexicographic.{slice_cmp}
@@ -44,3 +45,24 @@ is_key_name name = list_all is_key_name_byte name && nat_lt 0 (length name) && n
 
 abbrev pub is_value_name : List ℕ → Bool
 is_value_name name = list_all is_value_name_byte name && nat_le (length name) 16383
+
+-- a hash with one more character: 37 times the hash, and the character, modulo 2^32 (section "Subkeys list")
+abbrev pub hash_with : ℕ → ℕ → ℕ
+hash_with h c = (37 * h + c) % 4294967296
+
+-- the hash of a name in a hash leaf: from 0, with each of its folded bytes in turn (section "Subkeys list")
+unfoldable pub hash : List ℕ → ℕ
+hash name = fold_list hash_with 0 (folded name)
+
+-- the names in a path's text, as they are given: the parts between its backslashes; the empty text has no names
+-- (Win32, "Structure of the Registry")
+abbrev pub path_of : List ℕ → List (List ℕ)
+path_of [] = []
+path_of (b ∷ bs) = slice_split (λ c. c == 92) (b ∷ bs)
+
+-- a path's text: its names, with one backslash between each two
+abbrev pub text_of : List (List ℕ) → List ℕ
+text_of names = join_with_byte 92 names
+
+abbrev pub has_no_backslash : List ℕ → Bool
+has_no_backslash name = list_all (λ b. not (b == 92)) name
