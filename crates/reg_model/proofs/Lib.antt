@@ -1,1 +1,3 @@
 pub mod OneMore
+pub mod RowsReplies
+pub mod RowsRefusals
