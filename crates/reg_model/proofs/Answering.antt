@@ -5,7 +5,7 @@ use Rattle.reg_heap.specs.Paths.{Tree}
 use Rattle.reg_model.specs.Worlds.{Handle, Place, At, Deleted}
 use Rattle.reg_model.specs.Causes.{State, change_cause, early_cause, late_cause, asked, refuse, by_handle, ◌or◌}
 use Rattle.reg_model.specs.Replies.{reply_to}
-use Rattle.reg_model.specs.Calls.{entry_due, told, left, or_refusal, or_same}
+use Rattle.reg_model.specs.Calls.{entry_due, reply_given, state_after, or_refusal, or_same}
 use Rattle.reg_model.specs.Histories.{state_of, IsFit}
 use Rattle.reg_model.specs.declared.call.Change.{Change}
 use Rattle.reg_model.specs.declared.call.Change.TheVariants.{OpenRoot, SetValue}
@@ -23,9 +23,9 @@ by_cause None due next s z ne = absurd (ne z)
 by_cause (Some status) due next s z ne = refl
 
 -- where a change is told another status than 0, the hive is left where it was
-pub left-same : (s : State) (session moment : ℕ) (change : Change) (c : ℕ) → (told s session change c).status ≢ 0 → left s session moment change c ≡ s
-unfolding told left
-left-same s session moment change c ne =
+pub same_after : (s : State) (session moment : ℕ) (change : Change) (c : ℕ) → (reply_given s session change c).status ≢ 0 → state_after s session moment change c ≡ s
+unfolding reply_given state_after
+same_after s session moment change c ne =
     by_cause (change_cause s session change c) (reply_to s session change) _ s (reply-zero s session change) ne
 
 -- ---- no refusal has the status 0
@@ -82,6 +82,14 @@ zero-cause : (s : State) (session : ℕ) (change : Change) (c : ℕ) → NotZero
 zero-cause s session change c =
     zero-or (early_cause s session change or asked c) (late_cause s session change) (zero-or (early_cause s session change) (asked c) (zero-early s session change) (zero-asked c)) (zero-late s session change)
 
+-- no refusal has the status 0
+pub not_zero : (s : State) (session : ℕ) (change : Change) (c : ℕ) → change_cause s session change c ≢ Some 0
+not_zero s session change c e = by (change_cause s session change c) (zero-cause s session change c) e
+  where
+    by : (o : Option ℕ) → NotZero o → o ≡ Some 0 → ⊥
+    by None z e = absurd (cc)
+    by (Some n) (status ne) e = ne (cc)
+
 -- ---- status 0
 
 or-none : (a b : Option ℕ) → (a or b) ≡ None → (a ≡ None) × (b ≡ None)
@@ -100,8 +108,8 @@ no_cause None due nz e = refl
 no_cause (Some n) due (status ne) e = absurd (ne e)
 
 -- a change that is told status 0 isn't refused, and the callbacks' status is 0
-accepted : (s : State) (session : ℕ) (change : Change) (c : ℕ) → (told s session change c).status ≡ 0 → (change_cause s session change c ≡ None) × (change_cause s session change 0 ≡ None)
-unfolding told
+accepted : (s : State) (session : ℕ) (change : Change) (c : ℕ) → (reply_given s session change c).status ≡ 0 → (change_cause s session change c ≡ None) × (change_cause s session change 0 ≡ None)
+unfolding reply_given
 accepted s session change c e =
     let none = no_cause (change_cause s session change c) (reply_to s session change) (zero-cause s session change c) e in
     let parts = or-none (early_cause s session change or asked c) (late_cause s session change) none in
@@ -111,16 +119,16 @@ accepted s session change c e =
 -- a change that is told status 0 leaves the hive after one entry more, which fits, and it is told the entry's reply
 pub record Grows (origin : Tree) (past : List Entry) (session moment : ℕ) (change : Change) (c : ℕ) (e : Entry) : Type 0 where
   pub fit : IsFit origin past e
-  pub reply : told (state_of origin past) session change c ≡ e.reply
-  pub left_at : left (state_of origin past) session moment change c ≡ state_of origin (past ++ e ∷ [])
+  pub reply : reply_given (state_of origin past) session change c ≡ e.reply
+  pub after : state_after (state_of origin past) session moment change c ≡ state_of origin (past ++ e ∷ [])
 
-pub grows : (origin : Tree) (past : List Entry) (session moment : ℕ) (change : Change) (c : ℕ) → (told (state_of origin past) session change c).status ≡ 0 → Grows origin past session moment change c (entry_due (state_of origin past) session moment change)
-unfolding told left
+pub grows : (origin : Tree) (past : List Entry) (session moment : ℕ) (change : Change) (c : ℕ) → (reply_given (state_of origin past) session change c).status ≡ 0 → Grows origin past session moment change c (entry_due (state_of origin past) session moment change)
+unfolding reply_given state_after
 grows origin past session moment change c e =
     let a = accepted (state_of origin past) session change c e in
     let entry = entry_due (state_of origin past) session moment change in
     record {
       fit = record { number = refl; accepted = a.1; reply = refl };
       reply = rw a.0 refl;
-      left_at = rw (a.0, replay-push origin past entry, length-append past (entry ∷ [])) refl;
+      after = rw (a.0, replay-push origin past entry, length-append past (entry ∷ [])) refl;
     }

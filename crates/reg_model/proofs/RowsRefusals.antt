@@ -37,41 +37,41 @@ few = state 5 handles root
 abbrev full : State
 full = state 16777211 handles root
 
-abbrev set : ℕ → Change
-set h = SetValue h [] 4 (1 ∷ 0 ∷ 0 ∷ 0 ∷ [])
+abbrev put : ℕ → Change
+put h = SetValue h [] 4 (1 ∷ 0 ∷ 0 ∷ 0 ∷ [])
 
-abbrev query : ℕ → Query
-query h = QueryValue h [] (Some 4)
+abbrev ask : ℕ → Query
+ask h = QueryValue h [] (Some 4)
 
 -- ---- 6: no such handle, or another session's
 
-set_no_handle : change_cause few 0 (set 9) 0 ≡ Some 6
+set_no_handle : change_cause few 0 (put 9) 0 ≡ Some 6
 unfolding early_cause late_cause
 set_no_handle = refl
 
-set_another_session : change_cause few 1 (set 0) 0 ≡ Some 6
+set_another_session : change_cause few 1 (put 0) 0 ≡ Some 6
 unfolding early_cause late_cause
 set_another_session = refl
 
-set_own_session : change_cause few 1 (set 4) 0 ≡ None
+set_own_session : change_cause few 1 (put 4) 0 ≡ None
 unfolding early_cause late_cause
 set_own_session = refl
 
-query_no_handle : query_cause few 0 (query 9) 0 ≡ Some 6
+query_no_handle : query_cause few 0 (ask 9) 0 ≡ Some 6
 unfolding early_query_cause late_query_cause
 query_no_handle = refl
 
-query_another_session : query_cause few 0 (query 4) 0 ≡ Some 6
+query_another_session : query_cause few 0 (ask 4) 0 ≡ Some 6
 unfolding early_query_cause late_query_cause
 query_another_session = refl
 
 -- ---- 1018: its key was deleted
 
-set_deleted : change_cause few 0 (set 1) 0 ≡ Some 1018
+set_deleted : change_cause few 0 (put 1) 0 ≡ Some 1018
 unfolding early_cause late_cause
 set_deleted = refl
 
-query_deleted : query_cause few 0 (query 1) 0 ≡ Some 1018
+query_deleted : query_cause few 0 (ask 1) 0 ≡ Some 1018
 unfolding early_query_cause late_query_cause
 query_deleted = refl
 
@@ -124,15 +124,15 @@ query_bad_name = refl
 
 -- ---- 5: a mask without the right
 
-set_without_right : change_cause few 0 (set 2) 0 ≡ Some 5
+set_without_right : change_cause few 0 (put 2) 0 ≡ Some 5
 unfolding early_cause late_cause
 set_without_right = refl
 
-set_with_right : change_cause few 0 (set 3) 0 ≡ None
+set_with_right : change_cause few 0 (put 3) 0 ≡ None
 unfolding early_cause late_cause
 set_with_right = refl
 
-query_without_right : query_cause few 0 (query 3) 0 ≡ Some 5
+query_without_right : query_cause few 0 (ask 3) 0 ≡ Some 5
 unfolding early_query_cause late_query_cause
 query_without_right = refl
 
@@ -163,11 +163,11 @@ no_room_for_an_open : change_cause (state 16777210 handles root) 0 (OpenRoot 0) 
 unfolding early_cause late_cause
 no_room_for_an_open = refl
 
-room_for_a_set : change_cause (state 16777210 handles root) 0 (set 0) 0 ≡ None
+room_for_a_set : change_cause (state 16777210 handles root) 0 (put 0) 0 ≡ None
 unfolding early_cause late_cause
 room_for_a_set = refl
 
-no_room_for_a_set : change_cause full 0 (set 0) 0 ≡ Some 1450
+no_room_for_a_set : change_cause full 0 (put 0) 0 ≡ Some 1450
 unfolding early_cause late_cause
 no_room_for_a_set = refl
 
@@ -185,15 +185,15 @@ name_before_right : change_cause full 0 (SetValue 2 (128 ∷ []) 4 []) 31 ≡ So
 unfolding early_cause late_cause
 name_before_right = refl
 
-right_before_count : change_cause full 0 (set 2) 31 ≡ Some 5
+right_before_count : change_cause full 0 (put 2) 31 ≡ Some 5
 unfolding early_cause late_cause
 right_before_count = refl
 
-count_before_callbacks : change_cause full 0 (set 0) 31 ≡ Some 1450
+count_before_callbacks : change_cause full 0 (put 0) 31 ≡ Some 1450
 unfolding early_cause late_cause
 count_before_callbacks = refl
 
-callbacks : change_cause few 0 (set 0) 31 ≡ Some 31
+callbacks : change_cause few 0 (put 0) 31 ≡ Some 31
 unfolding early_cause late_cause
 callbacks = refl
 
@@ -217,16 +217,16 @@ query_name_before_right : query_cause few 0 (QueryValue 3 (0 ∷ []) None) 31 �
 unfolding early_query_cause late_query_cause
 query_name_before_right = refl
 
-query_right_before_callbacks : query_cause few 0 (query 3) 31 ≡ Some 5
+query_right_before_callbacks : query_cause few 0 (ask 3) 31 ≡ Some 5
 unfolding early_query_cause late_query_cause
 query_right_before_callbacks = refl
 
 -- no such value comes after the callbacks' status; a question takes no place of the journal
-query_callbacks : query_cause (state 16777216 handles bare) 0 (query 0) 31 ≡ Some 31
+query_callbacks : query_cause (state 16777216 handles bare) 0 (ask 0) 31 ≡ Some 31
 unfolding early_query_cause late_query_cause
 query_callbacks = refl
 
-query_no_value : query_cause (state 16777216 handles bare) 0 (query 0) 0 ≡ Some 2
+query_no_value : query_cause (state 16777216 handles bare) 0 (ask 0) 0 ≡ Some 2
 unfolding early_query_cause late_query_cause
 query_no_value = rw root_put refl
 
@@ -234,7 +234,7 @@ query_another_name : query_cause few 0 (QueryValue 0 (118 ∷ []) None) 0 ≡ So
 unfolding early_query_cause late_query_cause
 query_another_name = rw root_put refl
 
-query_accepted : query_cause few 0 (query 0) 0 ≡ None
+query_accepted : query_cause few 0 (ask 0) 0 ≡ None
 unfolding early_query_cause late_query_cause
 query_accepted = rw root_put refl
 

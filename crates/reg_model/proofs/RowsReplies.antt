@@ -7,7 +7,7 @@ use Rattle.reg_heap.specs.Paths.{Tree, Rec, path_cmp}
 use Rattle.reg_model.specs.Worlds.{At, after}
 use Rattle.reg_model.specs.Causes.{early_cause, late_cause, change_cause, early_query_cause, late_query_cause, query_cause}
 use Rattle.reg_model.specs.Replies.{reply_to, body_of}
-use Rattle.reg_model.specs.Calls.{told, left}
+use Rattle.reg_model.specs.Calls.{reply_given, state_after}
 use Rattle.reg_model.specs.Histories.{replay, state_of, IsLegal}
 use Rattle.reg_model.specs.declared.call.Change.TheVariants.{OpenRoot, SetValue}
 use Rattle.reg_model.specs.declared.call.Query.TheVariants.{QueryValue}
@@ -106,23 +106,23 @@ script_legal = ((record { number = refl; accepted = opened_cause; reply = sym op
 
 -- ---- what a call is told, and where it leaves the hive
 
-opened_told : told (state_of origin []) 0 (OpenRoot 983103) 0 ≡ record { status = 0; number = Some 0; handle = Some 0; disposition = None }
-unfolding told early_cause late_cause reply_to
+opened_told : reply_given (state_of origin []) 0 (OpenRoot 983103) 0 ≡ record { status = 0; number = Some 0; handle = Some 0; disposition = None }
+unfolding reply_given early_cause late_cause reply_to
 opened_told = refl
 
-opened_left : left (state_of origin []) 0 0 (OpenRoot 983103) 0 ≡ state_of origin (opening_entry ∷ [])
-unfolding left early_cause late_cause reply_to
-opened_left = refl
+opened_after : state_after (state_of origin []) 0 0 (OpenRoot 983103) 0 ≡ state_of origin (opening_entry ∷ [])
+unfolding state_after early_cause late_cause reply_to
+opened_after = refl
 
-set_left : left (state_of origin (opening_entry ∷ [])) 0 7 (SetValue 0 [] 4 (1 ∷ 0 ∷ 0 ∷ 0 ∷ [])) 0 ≡ state_of origin (opening_entry ∷ setting_entry ∷ [])
-unfolding left early_cause late_cause reply_to after
-set_left = refl
+set_after : state_after (state_of origin (opening_entry ∷ [])) 0 7 (SetValue 0 [] 4 (1 ∷ 0 ∷ 0 ∷ 0 ∷ [])) 0 ≡ state_of origin (opening_entry ∷ setting_entry ∷ [])
+unfolding state_after early_cause late_cause reply_to after
+set_after = refl
 
 -- a callback that answers 31
-refused_told : told (state_of origin (opening_entry ∷ [])) 0 (SetValue 0 [] 4 (1 ∷ 0 ∷ 0 ∷ 0 ∷ [])) 31 ≡ record { status = 31; number = None; handle = None; disposition = None }
-unfolding told early_cause late_cause after
+refused_told : reply_given (state_of origin (opening_entry ∷ [])) 0 (SetValue 0 [] 4 (1 ∷ 0 ∷ 0 ∷ 0 ∷ [])) 31 ≡ record { status = 31; number = None; handle = None; disposition = None }
+unfolding reply_given early_cause late_cause after
 refused_told = refl
 
-refused_left : left (state_of origin (opening_entry ∷ [])) 0 7 (SetValue 0 [] 4 (1 ∷ 0 ∷ 0 ∷ 0 ∷ [])) 31 ≡ state_of origin (opening_entry ∷ [])
-unfolding left early_cause late_cause after
-refused_left = refl
+refused_after : state_after (state_of origin (opening_entry ∷ [])) 0 7 (SetValue 0 [] 4 (1 ∷ 0 ∷ 0 ∷ 0 ∷ [])) 31 ≡ state_of origin (opening_entry ∷ [])
+unfolding state_after early_cause late_cause after
+refused_after = refl

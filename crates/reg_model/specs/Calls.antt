@@ -17,8 +17,8 @@ or_refusal None due = due
 or_refusal (Some status) due = refusal status
 
 -- what a change is told; c is the callbacks' status
-unfoldable pub told : State → ℕ → Change → ℕ → ChangeReply
-told s session change c = or_refusal (change_cause s session change c) (reply_to s session change)
+unfoldable pub reply_given : State → ℕ → Change → ℕ → ChangeReply
+reply_given s session change c = or_refusal (change_cause s session change c) (reply_to s session change)
 
 -- the next state, or the same where there is a refusal
 abbrev pub or_same : Option ℕ → State → State → State
@@ -26,5 +26,5 @@ or_same None next s = next
 or_same (Some status) next s = s
 
 -- where a change leaves the hive: after one entry more, or where it was
-unfoldable pub left : State → ℕ → ℕ → Change → ℕ → State
-left s session moment change c = or_same (change_cause s session change c) (record { count = s.count + 1; world = after s.world (entry_due s session moment change) }) s
+unfoldable pub state_after : State → ℕ → ℕ → Change → ℕ → State
+state_after s session moment change c = or_same (change_cause s session change c) (record { count = s.count + 1; world = after s.world (entry_due s session moment change) }) s

@@ -4,9 +4,9 @@ ghost use Rattle.std.specs.Prelude.{◌≡◌, ◌≢◌, ◌<◌, ◌+◌, ℕ,
 ghost use Rattle.std.specs.List.Sorted.{IsStrictlyIncreasing};
 ghost use Rattle.std.specs.FinMap.{get};
 ghost use Rattle.reg_heap.specs.Paths.{Tree};
-ghost use Rattle.reg_model.specs.Worlds.{after, look, opened, Handle as OpenHandle};
-ghost use Rattle.reg_model.specs.Causes.{State};
-ghost use Rattle.reg_model.specs.Calls.{entry_due, told, left};
+ghost use Rattle.reg_model.specs.Worlds.{after, look, opened, Handle};
+ghost use Rattle.reg_model.specs.Causes.{State, change_cause};
+ghost use Rattle.reg_model.specs.Calls.{entry_due, reply_given, state_after};
 ghost use Rattle.reg_model.specs.Histories.{IsFit, IsLegal, replay, state_of};
 ghost use Rattle.reg_model.specs.declared.call.Change.{Change};
 ghost use Rattle.reg_model.specs.declared.call.Change.TheVariants.{OpenRoot};
@@ -37,21 +37,26 @@ pub fn replay_goes_on()
     ensures { (origin : Tree) → (past : List Entry) → (e : Entry) → replay origin (past ++ e ∷ []) ≡ after (replay origin past) e }
 {}
 
+/// No refusal has the status 0, which is an acceptance's.
+pub fn no_refusal_is_zero()
+    ensures { (s : State) → (session : ℕ) → (change : Change) → (c : ℕ) → change_cause s session change c ≢ Some 0 }
+{}
+
 /// A change that is told another status than 0 changes nothing.
 pub fn refusal_changes_nothing()
-    ensures { (s : State) → (session moment : ℕ) → (change : Change) → (c : ℕ) → (told s session change c).status ≢ 0 → left s session moment change c ≡ s }
+    ensures { (s : State) → (session moment : ℕ) → (change : Change) → (c : ℕ) → (reply_given s session change c).status ≢ 0 → state_after s session moment change c ≡ s }
 {}
 
 /// A change that is told status 0 becomes one entry, which fits.
 pub fn acceptance_is_an_entry()
-    ensures entry { (origin : Tree) → (past : List Entry) → (session moment : ℕ) → (change : Change) → (c : ℕ) → (told (state_of origin past) session change c).status ≡ 0 → IsFit origin past (entry_due (state_of origin past) session moment change) }
-    ensures left { (origin : Tree) → (past : List Entry) → (session moment : ℕ) → (change : Change) → (c : ℕ) → (told (state_of origin past) session change c).status ≡ 0 → left (state_of origin past) session moment change c ≡ state_of origin (past ++ entry_due (state_of origin past) session moment change ∷ []) }
+    ensures entry { (origin : Tree) → (past : List Entry) → (session moment : ℕ) → (change : Change) → (c : ℕ) → (reply_given (state_of origin past) session change c).status ≡ 0 → IsFit origin past (entry_due (state_of origin past) session moment change) }
+    ensures after { (origin : Tree) → (past : List Entry) → (session moment : ℕ) → (change : Change) → (c : ℕ) → (reply_given (state_of origin past) session change c).status ≡ 0 → state_after (state_of origin past) session moment change c ≡ state_of origin (past ++ entry_due (state_of origin past) session moment change ∷ []) }
 {}
 
 /// A handle's number is that of an entry, and no two handles have one number: they rise.
 pub fn handle_numbers_rise()
-    ensures below { (origin : Tree) → (journal : List Entry) → IsLegal origin journal → All (λ (h : OpenHandle). h.number < length journal) (replay origin journal).handles }
-    ensures rise { (origin : Tree) → (journal : List Entry) → IsLegal origin journal → IsStrictlyIncreasing (map (λ (h : OpenHandle). h.number) (replay origin journal).handles) }
+    ensures below { (origin : Tree) → (journal : List Entry) → IsLegal origin journal → All (λ (h : Handle). h.number < length journal) (replay origin journal).handles }
+    ensures rise { (origin : Tree) → (journal : List Entry) → IsLegal origin journal → IsStrictlyIncreasing (map (λ (h : Handle). h.number) (replay origin journal).handles) }
 {}
 
 /// An entry that opens the root tells its own number as the handle's, by which its session then finds a handle to the root
