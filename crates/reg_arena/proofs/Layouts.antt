@@ -1,5 +1,5 @@
 -- What the cells of some bytes say of the bytes, and of what each cell holds. Crates above may cite this file.
-use Rattle.std.proofs.Common.{◌≡◌, ℕ, zero, suc, ◌+◌, ◌-◌, ◌%◌, ◌<◌, ◌≤◌, Bool, true, false, List, [], ◌∷◌, ◌++◌, length, take, drop, refl, sym, ap, ◌∙◌, subst, arith, Option, Some, None, ◌&&◌, eqb, ltb, leb, is_some, length-take, length-drop, length-append}
+use Rattle.std.proofs.Common.{◌≡◌, ℕ, zero, suc, ◌+◌, ◌-◌, ◌%◌, ◌<◌, ◌≤◌, Bool, true, false, List, [], ◌∷◌, ◌++◌, length, take, drop, refl, sym, ap, ◌∙◌, subst, arith, Option, Some, None, ◌&&◌, eqb, ltb, leb, is_some, length-take, length-drop, length-append, get_or}
 use Rattle.std.specs.Prelude.{sum_by, option_map, All, Contains}
 use Rattle.std.specs.List.{AllByRecursion}
 use Rattle.std.proofs.Math.Seq.{get_or-append_seam}
@@ -151,6 +151,31 @@ allocated-content bytes front cell rest e f =
     let o = ordered bytes (front ++ cell ∷ rest) e in
     cell_at-cells_of bytes (front ++ cell ∷ rest) cell.offset e ∙ content-before bytes front (cell ∷ rest) cell.offset (before 0 front cell rest o).1
     ∙ rw (f, eq-eqb cell.offset cell.offset refl) refl
+
+-- the place of a cell among others
+pub record StandsAmong (cells : List Cell) (cell : Cell) : Type 0 where
+  pub front : List Cell
+  pub rest : List Cell
+  pub cells_are : cells ≡ front ++ cell ∷ rest
+
+among-by : (cells : List Cell) (cell : Cell) (k : ℕ) → k < length cells → get_or cells k cell ≡ cell → StandsAmong cells cell
+among-by [] cell k l e = absurd (omega arith)
+among-by (c ∷ cells) cell zero l e = record { front = []; rest = cells; cells_are = ap (λ (x : Cell). x ∷ cells) e }
+among-by (c ∷ cells) cell (suc k) l e =
+    let r = among-by cells cell k (omega arith) e in
+    record { front = c ∷ r.front; rest = r.rest; cells_are = ap (λ (xs : List Cell). c ∷ xs) r.cells_are }
+
+pub among : (cells : List Cell) (cell : Cell) → Contains cells cell → StandsAmong cells cell
+among cells cell h = among-by cells cell h.0 h.1 h.2
+
+-- the two facts of a cell by its place, for a cell that is one of them
+pub free-none : (bytes : List ℕ) (cells : List Cell) (cell : Cell) → cells_of bytes ≡ Some cells → Contains cells cell → cell.allocated ≡ false → cell_at bytes cell.offset ≡ None
+free-none bytes cells cell e h f =
+    let a = among cells cell h in free-no_content bytes a.front cell a.rest (e ∙ ap Some a.cells_are) f
+
+pub allocated-some : (bytes : List ℕ) (cells : List Cell) (cell : Cell) → cells_of bytes ≡ Some cells → Contains cells cell → cell.allocated ≡ true → cell_at bytes cell.offset ≡ Some (take (cell.size - 4) (drop (cell.offset + 4) bytes))
+allocated-some bytes cells cell e h f =
+    let a = among cells cell h in allocated-content bytes a.front cell a.rest (e ∙ ap Some a.cells_are) f
 
 -- ---- contents
 

@@ -33,12 +33,12 @@ pub fn cells_are_apart()
 
 /// A free cell has no content.
 pub fn free_cell_has_no_content()
-    ensures { (bytes : List ℕ) → (front : List Cell) → (cell : Cell) → (rest : List Cell) → cells_of bytes ≡ Some (front ++ cell ∷ rest) → cell.allocated ≡ false → cell_at bytes cell.offset ≡ None }
+    ensures { (bytes : List ℕ) → (cells : List Cell) → (cell : Cell) → cells_of bytes ≡ Some cells → Contains cells cell → cell.allocated ≡ false → cell_at bytes cell.offset ≡ None }
 {}
 
 /// An allocated cell's content is the bytes behind its size field.
 pub fn allocated_cell_has_its_content()
-    ensures { (bytes : List ℕ) → (front : List Cell) → (cell : Cell) → (rest : List Cell) → cells_of bytes ≡ Some (front ++ cell ∷ rest) → cell.allocated ≡ true → cell_at bytes cell.offset ≡ Some (take (cell.size - 4) (drop (cell.offset + 4) bytes)) }
+    ensures { (bytes : List ℕ) → (cells : List Cell) → (cell : Cell) → cells_of bytes ≡ Some cells → Contains cells cell → cell.allocated ≡ true → cell_at bytes cell.offset ≡ Some (take (cell.size - 4) (drop (cell.offset + 4) bytes)) }
 {}
 
 /// Where there is a content, an allocated cell stands there, four bytes larger than its content.
