@@ -18,3 +18,4 @@ pub mod Walked
 pub mod Faults
 pub mod NewBins
 pub mod Grows
+pub mod Layouts

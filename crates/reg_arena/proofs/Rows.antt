@@ -110,3 +110,41 @@ place_wrong = refl
 bin_longer_than_the_bytes : cells_of (header 0 8192 ++ free_bytes 4064 4294967295) ≡ None
 unfolding cells_of word
 bin_longer_than_the_bytes = refl
+
+bin_size_zero : cells_of (header 0 0 ++ free_bytes 4064 4294967295) ≡ None
+unfolding cells_of word
+bin_size_zero = refl
+
+bin_size_no_multiple_of_4096 : cells_of (header 0 2048 ++ free_bytes 2016 4294967295) ≡ None
+unfolding cells_of word
+bin_size_no_multiple_of_4096 = refl
+
+byte_behind_the_bin : cells_of (header 0 4096 ++ (free_bytes 4064 4294967295 ++ 0 ∷ [])) ≡ None
+unfolding cells_of word
+byte_behind_the_bin = refl
+
+second_header_wrong : cells_of (header 0 4096 ++ (used_bytes 4064 ++ new_bin 0 4096 4294967295)) ≡ None
+unfolding cells_of word
+second_header_wrong = refl
+
+-- a cell may not reach into the next bin
+cell_over_two_bins : cells_of (header 0 4096 ++ (used_bytes 4072 ++ new_bin 4096 4096 4294967295)) ≡ None
+unfolding cells_of word
+cell_over_two_bins = refl
+
+-- ---- contents
+
+-- the cell at the end of a bin, and the smallest cell there is
+last_of_its_bin : cell_at (header 0 4096 ++ (free_bytes 4056 4294967295 ++ ((248 ∷ 255 ∷ 255 ∷ 255 ∷ 1 ∷ 2 ∷ 3 ∷ 4 ∷ []) ++ new_bin 4096 4096 4294967295))) 4088 ≡ Some (1 ∷ 2 ∷ 3 ∷ 4 ∷ [])
+unfolding cell_at cells_of word
+last_of_its_bin = refl
+
+-- a bin's header is no cell
+header_has_no_content : cell_at (header 0 4096 ++ used_bytes 4064) 0 ≡ None
+unfolding cell_at cells_of word
+header_has_no_content = refl
+
+-- where there are no cells, there is no content
+no_cells_no_content : cell_at (header 0 4096 ++ replicate 4064 0) 32 ≡ None
+unfolding cell_at cells_of word
+no_cells_no_content = refl

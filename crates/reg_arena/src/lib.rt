@@ -14,6 +14,7 @@ mod arena;
 mod bin;
 mod carve;
 mod cut;
+pub mod laws;
 mod list;
 #[cfg(test)]
 mod tests;

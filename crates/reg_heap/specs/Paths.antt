@@ -1,9 +1,10 @@
 -- Paths, and the tree of keys (Win32 registry reference, "Structure of the Registry").
-use Rattle.std.specs.Prelude.{ℕ, Bool, List, refl}
-use Rattle.std.specs.Ordering.{nat_cmp, is_eq}
+use Rattle.std.specs.Prelude.{ℕ, ◌+◌, ◌==◌, ◌&&◌, Bool, List, length, filter, bytes_eq, refl}
+use Rattle.std.specs.Ordering.{nat_cmp}
 use Rattle.std.specs.declared.cmp.Ordering.{Ordering}
 use Rattle.std.specs.Cmp.Lexicographic.{slice_cmp}
-use Rattle.std.specs.FinMap.{FinMap, code}
+use Rattle.std.specs.FinMap.{FinMap, code, keys}
+use Rattle.std.specs.List.{starts_with}
 use Rattle.std.specs.Coded.{Coded, code_by, coded×, coded_ℕ, coded_list}
 
 -- a list of folded key names; the root is the empty list
@@ -47,3 +48,11 @@ coded_rec =
 
 abbrev pub coded_tree : Coded Tree
 coded_tree = code (coded_list coded_bytes) coded_rec
+
+-- whether a path begins with p and is one name longer
+abbrev pub is_child : Path → Path → Bool
+is_child p q = starts_with bytes_eq q p && (length q == length p + 1)
+
+-- the paths of the keys right below p, ordered by their last names, as a map's keys that begin alike are
+abbrev pub children_of : Tree → Path → List Path
+children_of t p = filter (is_child p) (keys t)

@@ -1,1 +1,5 @@
 pub mod OneMore
+pub mod Journals
+pub mod Answering
+pub mod RowsReplies
+pub mod RowsRefusals

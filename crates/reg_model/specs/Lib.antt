@@ -2,3 +2,4 @@ pub mod Worlds
 pub mod Causes
 pub mod Replies
 pub mod Histories
+pub mod Calls

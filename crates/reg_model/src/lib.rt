@@ -7,6 +7,7 @@
 mod answer;
 mod bytes;
 mod call;
+pub mod laws;
 mod reply;
 mod step;
 

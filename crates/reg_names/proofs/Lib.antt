@@ -1,2 +1,5 @@
 pub mod Fronts
 pub mod Orders
+pub mod Hashes
+pub mod Paths
+pub mod Rows

@@ -1,0 +1,5 @@
+use Rattle.reg_arena.proofs.Layouts.{AreBins-sum}
+use Rattle.reg_arena.proofs.laws.bins_are_all_bytes.Goals as goal
+
+pub returns : goal.returns
+returns c = AreBins-sum

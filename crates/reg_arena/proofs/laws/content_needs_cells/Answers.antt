@@ -1,0 +1,5 @@
+use Rattle.reg_arena.proofs.Layouts.{has_cells}
+use Rattle.reg_arena.proofs.laws.content_needs_cells.Goals as goal
+
+pub returns : goal.returns
+returns c = has_cells

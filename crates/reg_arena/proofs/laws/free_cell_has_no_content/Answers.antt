@@ -1,0 +1,5 @@
+use Rattle.reg_arena.proofs.Layouts.{free-none}
+use Rattle.reg_arena.proofs.laws.free_cell_has_no_content.Goals as goal
+
+pub returns : goal.returns
+returns c = free-none

@@ -1,0 +1,5 @@
+use Rattle.reg_model.proofs.Journals.{number-is}
+use Rattle.reg_model.proofs.laws.number_is_place.Goals as goal
+
+pub returns : goal.returns
+returns c = number-is

@@ -1,0 +1,5 @@
+use Rattle.reg_model.proofs.OneMore.{replay-push}
+use Rattle.reg_model.proofs.laws.replay_goes_on.Goals as goal
+
+pub returns : goal.returns
+returns c = replay-push

@@ -1,0 +1,5 @@
+use Rattle.reg_model.proofs.Journals.{root-stays}
+use Rattle.reg_model.proofs.laws.root_stays.Goals as goal
+
+pub returns : goal.returns
+returns c = root-stays

@@ -1,0 +1,30 @@
+-- One call of a change: what it is told, and where it leaves the hive.
+use Rattle.std.specs.Prelude.{ℕ, ◌+◌, Option, Some, None}
+use Rattle.reg_model.specs.Worlds.{after}
+use Rattle.reg_model.specs.Causes.{State, change_cause}
+use Rattle.reg_model.specs.Replies.{reply_to, refusal}
+use Rattle.reg_model.specs.declared.call.Change.{Change}
+use Rattle.reg_model.specs.declared.reply.Entry.{Entry}
+use Rattle.reg_model.specs.declared.reply.ChangeReply.{ChangeReply}
+
+-- the entry of a change that is accepted there
+abbrev pub entry_due : State → ℕ → ℕ → Change → Entry
+entry_due s session moment change = record { number = s.count; session = session; moment = moment; change = change; reply = reply_to s session change }
+
+-- the reply due, or the refusal that there is
+abbrev pub or_refusal : Option ℕ → ChangeReply → ChangeReply
+or_refusal None due = due
+or_refusal (Some status) due = refusal status
+
+-- what a change is told; c is the callbacks' status
+unfoldable pub reply_given : State → ℕ → Change → ℕ → ChangeReply
+reply_given s session change c = or_refusal (change_cause s session change c) (reply_to s session change)
+
+-- the next state, or the same where there is a refusal
+abbrev pub or_same : Option ℕ → State → State → State
+or_same None next s = next
+or_same (Some status) next s = s
+
+-- where a change leaves the hive: after one entry more, or where it was
+unfoldable pub state_after : State → ℕ → ℕ → Change → ℕ → State
+state_after s session moment change c = or_same (change_cause s session change c) (record { count = s.count + 1; world = after s.world (entry_due s session moment change) }) s

@@ -1,0 +1,72 @@
+//! Laws of calls, journals and what these make of a tree. Each function is one law: it does nothing, and its contract says
+//! what holds of the definitions in `specs/`.
+ghost use Rattle.std.specs.Prelude.{◌≡◌, ◌≢◌, ◌<◌, ◌+◌, ℕ, List, [], ◌∷◌, ◌++◌, length, map, All, IsSome, Some};
+ghost use Rattle.std.specs.List.Sorted.{IsStrictlyIncreasing};
+ghost use Rattle.std.specs.FinMap.{get};
+ghost use Rattle.reg_heap.specs.Paths.{Tree};
+ghost use Rattle.reg_model.specs.Worlds.{after, look, opened, Handle};
+ghost use Rattle.reg_model.specs.Causes.{State, change_cause};
+ghost use Rattle.reg_model.specs.Calls.{entry_due, reply_given, state_after};
+ghost use Rattle.reg_model.specs.Histories.{IsFit, IsLegal, replay, state_of};
+ghost use Rattle.reg_model.specs.declared.call.Change.{Change};
+ghost use Rattle.reg_model.specs.declared.call.Change.TheVariants.{OpenRoot};
+ghost use Rattle.reg_model.specs.declared.reply.Entry.{Entry};
+
+/// The front of a legal journal is legal.
+pub fn front_is_legal()
+    ensures { (origin : Tree) → (past more : List Entry) → IsLegal origin (past ++ more) → IsLegal origin past }
+{}
+
+/// The number of an entry of a legal journal is its place.
+pub fn number_is_place()
+    ensures { (origin : Tree) → (past : List Entry) → (e : Entry) → (more : List Entry) → IsLegal origin (past ++ e ∷ more) → e.number ≡ length past }
+{}
+
+/// Each entry of a legal journal was accepted where the entries before it left the hive, and has the reply due there.
+pub fn each_entry_fits()
+    ensures { (origin : Tree) → (past : List Entry) → (e : Entry) → (more : List Entry) → IsLegal origin (past ++ e ∷ more) → IsFit origin past e }
+{}
+
+/// A legal journal grows by an entry that fits, and stays legal.
+pub fn legal_journal_grows()
+    ensures { (origin : Tree) → (past : List Entry) → (e : Entry) → IsLegal origin past → IsFit origin past e → IsLegal origin (past ++ e ∷ []) }
+{}
+
+/// The replay of one entry more is one step more.
+pub fn replay_goes_on()
+    ensures { (origin : Tree) → (past : List Entry) → (e : Entry) → replay origin (past ++ e ∷ []) ≡ after (replay origin past) e }
+{}
+
+/// No refusal has the status 0, which is an acceptance's.
+pub fn no_refusal_is_zero()
+    ensures { (s : State) → (session : ℕ) → (change : Change) → (c : ℕ) → change_cause s session change c ≢ Some 0 }
+{}
+
+/// A change that is told another status than 0 changes nothing.
+pub fn refusal_changes_nothing()
+    ensures { (s : State) → (session moment : ℕ) → (change : Change) → (c : ℕ) → (reply_given s session change c).status ≢ 0 → state_after s session moment change c ≡ s }
+{}
+
+/// A change that is told status 0 becomes one entry, which fits.
+pub fn acceptance_is_an_entry()
+    ensures entry { (origin : Tree) → (past : List Entry) → (session moment : ℕ) → (change : Change) → (c : ℕ) → (reply_given (state_of origin past) session change c).status ≡ 0 → IsFit origin past (entry_due (state_of origin past) session moment change) }
+    ensures after { (origin : Tree) → (past : List Entry) → (session moment : ℕ) → (change : Change) → (c : ℕ) → (reply_given (state_of origin past) session change c).status ≡ 0 → state_after (state_of origin past) session moment change c ≡ state_of origin (past ++ entry_due (state_of origin past) session moment change ∷ []) }
+{}
+
+/// A handle's number is that of an entry, and no two handles have one number: they rise.
+pub fn handle_numbers_rise()
+    ensures below { (origin : Tree) → (journal : List Entry) → IsLegal origin journal → All (λ (h : Handle). h.number < length journal) (replay origin journal).handles }
+    ensures rise { (origin : Tree) → (journal : List Entry) → IsLegal origin journal → IsStrictlyIncreasing (map (λ (h : Handle). h.number) (replay origin journal).handles) }
+{}
+
+/// An entry that opens the root tells its own number as the handle's, by which its session then finds a handle to the root
+/// with the mask that it asked for.
+pub fn handle_has_its_entrys_number()
+    ensures told { (origin : Tree) → (past : List Entry) → (e : Entry) → (mask : ℕ) → IsFit origin past e → e.change ≡ OpenRoot mask → e.reply.handle ≡ Some e.number }
+    ensures found { (origin : Tree) → (past : List Entry) → (e : Entry) → (mask : ℕ) → IsLegal origin past → IsFit origin past e → e.change ≡ OpenRoot mask → look e.session e.number (replay origin (past ++ e ∷ [])).handles ≡ Some (opened e [] mask) }
+{}
+
+/// A tree that holds its root holds it after every legal journal.
+pub fn root_stays()
+    ensures { (origin : Tree) → (journal : List Entry) → IsLegal origin journal → IsSome (get origin []) → IsSome (get (replay origin journal).tree []) }
+{}
