@@ -16,3 +16,4 @@ pub mod Inner
 pub mod Fewer
 pub mod Spelling
 pub mod Wholes
+pub mod Trees

@@ -21,21 +21,21 @@ use Rattle.reg_records.proofs.Walks.{gather-made, gather-join, gather-more}
 use Rattle.reg_records.proofs.Indexes.{then-open, map-open}
 use Rattle.reg_records.proofs.Standing.{heads-places, AreSecured}
 
-abbrev Keys : Type 0
+abbrev pub Keys : Type 0
 Keys = List (Path × Rec)
 
 -- ---- one step of a spelling
 
-record IsKeyed (go : ℕ → Option Keys) (heap : Heap) (offset : ℕ) (keys : Keys) : Type 0 where
-  node : Node
-  rec : Rec
-  below : Keys
-  node_is : look heap offset ≡ Some node
-  rec_is : rec_in heap node ≡ Some rec
-  below_is : gather go (places_in (entries_of node.index)) ≡ Some below
-  all : behind rec below ≡ keys
+pub record IsKeyed (go : ℕ → Option Keys) (heap : Heap) (offset : ℕ) (keys : Keys) : Type 0 where
+  pub node : Node
+  pub rec : Rec
+  pub below : Keys
+  pub node_is : look heap offset ≡ Some node
+  pub rec_is : rec_in heap node ≡ Some rec
+  pub below_is : gather go (places_in (entries_of node.index)) ≡ Some below
+  pub all : behind rec below ≡ keys
 
-keys-open : (k : ℕ) (heap : Heap) (offset : ℕ) (keys : Keys) → keys_from (suc k) heap offset ≡ Some keys → IsKeyed (keys_from k heap) heap offset keys
+pub keys-open : (k : ℕ) (heap : Heap) (offset : ℕ) (keys : Keys) → keys_from (suc k) heap offset ≡ Some keys → IsKeyed (keys_from k heap) heap offset keys
 unfolding keys_from
 keys-open k heap offset keys e =
     let n = then-open (keys_of (keys_from k heap) heap) (look heap offset) keys e in
@@ -51,7 +51,7 @@ keys-made k heap offset keys m =
     ∙ ap (option_map (behind m.rec)) m.below_is
     ∙ ap Some m.all
 
-keys-none : (heap : Heap) (offset : ℕ) (keys : Keys) → keys_from zero heap offset ≡ Some keys → ⊥
+pub keys-none : (heap : Heap) (offset : ℕ) (keys : Keys) → keys_from zero heap offset ≡ Some keys → ⊥
 unfolding keys_from
 keys-none heap offset keys e = none-some _ e
 
