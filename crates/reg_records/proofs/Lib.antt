@@ -17,3 +17,5 @@ pub mod Fewer
 pub mod Spelling
 pub mod Wholes
 pub mod Trees
+pub mod Allocated
+pub mod Siblings

@@ -1,6 +1,6 @@
 -- Whole hives: nothing is left over, nothing is named twice, nothing is counted wrongly (Suhanov, Windows registry file format
 -- specification, "Cell", "Key security"; the rest is this project's).
-use Rattle.std.specs.Prelude.{◌≡◌, ◌≢◌, ◌↔◌, ℕ, zero, suc, ◌+◌, ◌<◌, ◌≤◌, Option, Some, List, [], ◌∷◌, length, IsSome, Bool}
+use Rattle.std.specs.Prelude.{◌≡◌, ◌≢◌, ◌↔◌, ℕ, zero, suc, ◌+◌, ◌<◌, ◌≤◌, Option, Some, List, [], ◌∷◌, length, map, IsSome, Bool, true, Contains}
 use Rattle.std.specs.Option.{option_map}
 use Rattle.std.specs.List.{AllByRecursion}
 use Rattle.reg_heap.specs.Paths.{Path, Rec}
@@ -12,7 +12,8 @@ use Rattle.reg_arena.specs.Cells.{cells_of, cell_at}
 use Rattle.reg_records.specs.Securities.{KeySecurityRecord, security_at}
 use Rattle.reg_records.specs.Walk.{walk}
 use Rattle.reg_records.specs.Pieces.{plainly}
-use Rattle.reg_records.specs.Nodes.{Node, look}
+use Rattle.reg_records.specs.Nodes.{Node, entries_of, look}
+use Rattle.reg_records.specs.Lists.{places_in}
 use Rattle.reg_records.specs.Spelt.{keys_from}
 use Rattle.reg_records.specs.Written.{Pairwise, IsWrittenKey, Fits, IsWrittenSecurity}
 
@@ -83,3 +84,14 @@ pub record Whole (bytes : List ℕ) (root : ℕ) : Type 0 where
   pub cells : List Cell
   pub cells_are : cells_of bytes ≡ Some cells
   pub whole : IsWhole (cell_at bytes) (length cells) root
+
+-- an allocated cell of these begins there
+abbrev pub IsAllocatedIn : List Cell → ℕ → Type 0
+IsAllocatedIn cells offset = (cell : Cell) × Contains cells cell × (cell.offset ≡ offset) × (cell.allocated ≡ true)
+
+-- these are the keys that a key's lists name, as they are read
+pub record HasSubkeys (heap : Heap) (offset : ℕ) (below : List (ℕ × Node)) : Type 0 where
+  pub node : Node
+  pub seen : look heap offset ≡ Some node
+  pub reads : AllByRecursion (λ (e : ℕ × Node). look heap e.0 ≡ Some e.1) below
+  pub places : map (λ (e : ℕ × Node). e.0) below ≡ places_in (entries_of node.index)

@@ -14,6 +14,7 @@ use byteorder::{ByteOrder, LittleEndian};
 use thiserror::Error;
 
 mod cells;
+pub mod laws;
 mod nk;
 mod rows;
 mod sk;

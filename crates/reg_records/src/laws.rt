@@ -1,0 +1,45 @@
+//! Laws of walks, whole hives and the trees that they spell. Each function is one law: it does nothing, and its contract says
+//! what holds of the definitions in `specs/`.
+//!
+//! Suhanov, Windows registry file format specification.
+ghost use Rattle.std.specs.Prelude.{◌≡◌, ◌≢◌, ℕ, List, [], ◌∷◌, ◌++◌, map, length, Some, IsSome};
+ghost use Rattle.std.specs.List.{AllByRecursion};
+ghost use Rattle.std.specs.FinMap.{get};
+ghost use Rattle.reg_names.specs.Names.{folded};
+ghost use Rattle.reg_heap.specs.Paths.{Path, Tree};
+ghost use Rattle.reg_heap.specs.Heaps.{Heap};
+ghost use Rattle.reg_heap.specs.Kinds.{Found};
+ghost use Rattle.reg_heap.specs.Kinds.Kind.{Key};
+ghost use Rattle.reg_heap.specs.Forests.{Branch};
+ghost use Rattle.reg_arena.specs.declared.Cell.{Cell};
+ghost use Rattle.reg_arena.specs.Cells.{cells_of, cell_at};
+ghost use Rattle.reg_records.specs.Lists.{places_in};
+ghost use Rattle.reg_records.specs.Pieces.{Named};
+ghost use Rattle.reg_records.specs.Walk.{walk};
+ghost use Rattle.reg_records.specs.Nodes.{Node, entries_of, look};
+ghost use Rattle.reg_records.specs.Spelt.{spelt};
+ghost use Rattle.reg_records.specs.Written.{Pairwise};
+ghost use Rattle.reg_records.specs.Whole.{IsWhole, Whole, IsAllocatedIn, HasSubkeys};
+ghost use Rattle.reg_records.specs.Shapes.{IsWholeShape, tree_of};
+
+/// Only allocated cells are walked, and so no free one.
+pub fn only_allocated_cells_are_walked()
+    ensures { (bytes : List ℕ) → (cells : List Cell) → (fuel : ℕ) → (named : Named) → (found : List Found) → cells_of bytes ≡ Some cells → walk fuel (cell_at bytes) named ≡ Some found → AllByRecursion (λ (f : Found). IsAllocatedIn cells f.offset) found }
+{}
+
+/// A tree that records spell holds its root, and with each path its parent.
+pub fn tree_holds_each_parent()
+    ensures root { (fuel : ℕ) → (heap : Heap) → (root : ℕ) → (tree : Tree) → spelt fuel heap root ≡ Some tree → IsSome (get tree []) }
+    ensures parent { (fuel : ℕ) → (heap : Heap) → (root : ℕ) → (tree : Tree) → spelt fuel heap root ≡ Some tree → (path : Path) → (name : List ℕ) → IsSome (get tree (path ++ name ∷ [])) → IsSome (get tree path) }
+{}
+
+/// No two subkeys of one key have names that fold alike.
+pub fn siblings_fold_apart()
+    ensures { (heap : Heap) → (cells root : ℕ) → (whole : IsWhole heap cells root) → AllByRecursion (λ (f : Found). f.kind ≡ Key → (below : List (ℕ × Node)) → HasSubkeys heap f.offset below → Pairwise (λ (a b : ℕ × Node). folded a.1.key.name ≢ folded b.1.key.name) below) whole.found }
+{}
+
+/// A shape that stands in the cells and has all of them makes a whole hive, which spells the shape's tree.
+pub fn whole_shape_is_whole()
+    ensures whole { (bytes : List ℕ) → (root : ℕ) → (keys : Branch Node) → (first : ℕ) → (others : List ℕ) → (cells : List Cell) → cells_of bytes ≡ Some cells → IsWholeShape (cell_at bytes) root keys first others → Whole bytes root }
+    ensures spelt { (bytes : List ℕ) → (root : ℕ) → (keys : Branch Node) → (first : ℕ) → (others : List ℕ) → (cells : List Cell) → cells_of bytes ≡ Some cells → IsWholeShape (cell_at bytes) root keys first others → spelt (length cells) (cell_at bytes) root ≡ Some (tree_of (cell_at bytes) keys) }
+{}
