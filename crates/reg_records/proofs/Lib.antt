@@ -19,3 +19,4 @@ pub mod Wholes
 pub mod Trees
 pub mod Allocated
 pub mod Siblings
+pub mod ComputedWalks
