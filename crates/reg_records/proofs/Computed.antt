@@ -20,22 +20,22 @@ use Rattle.std.specs.FinMap.{insert, empty}
 use Rattle.reg_heap.specs.Paths.{Rec}
 
 -- `hbin`, offset 0, size 4096 and 20 zeros
-abbrev header : List ℕ
+abbrev pub header : List ℕ
 header = (104 ∷ 98 ∷ 105 ∷ 110 ∷ 0 ∷ 0 ∷ 0 ∷ 0 ∷ 0 ∷ 16 ∷ 0 ∷ 0 ∷ []) ++ replicate 20 0
 
-abbrev none : List ℕ
+abbrev pub none : List ℕ
 none = 255 ∷ 255 ∷ 255 ∷ 255 ∷ []
 
-abbrev zeros : List ℕ
+abbrev pub zeros : List ℕ
 zeros = 0 ∷ 0 ∷ 0 ∷ 0 ∷ []
 
 -- -88; the key node `ROOT`: flags 0x2C, time 0, no parent, no subkeys, so many values in a list, security 120, no class
-abbrev root_cell : List ℕ → List ℕ → List ℕ → List ℕ
+abbrev pub root_cell : List ℕ → List ℕ → List ℕ → List ℕ
 root_cell values list largest =
     (168 ∷ 255 ∷ 255 ∷ 255 ∷ []) ++ ((110 ∷ 107 ∷ 44 ∷ 0 ∷ []) ++ (replicate 8 0 ++ (zeros ++ (none ++ (zeros ++ (zeros ++ (none ++ (none ++ (values ++ (list ++ ((120 ∷ 0 ∷ 0 ∷ 0 ∷ []) ++ (none ++ (replicate 12 0 ++ (largest ++ (zeros ++ ((4 ∷ 0 ∷ 0 ∷ 0 ∷ []) ++ ((82 ∷ 79 ∷ 79 ∷ 84 ∷ []) ++ zeros)))))))))))))))))
 
 -- -48; the key security, first and last of its ring, so many keys, a descriptor of 20 bytes
-abbrev security_cell : ℕ → List ℕ
+abbrev pub security_cell : ℕ → List ℕ
 security_cell count =
     (208 ∷ 255 ∷ 255 ∷ 255 ∷ []) ++ ((115 ∷ 107 ∷ 0 ∷ 0 ∷ []) ++ ((120 ∷ 0 ∷ 0 ∷ 0 ∷ []) ++ ((120 ∷ 0 ∷ 0 ∷ 0 ∷ []) ++ ((count ∷ 0 ∷ 0 ∷ 0 ∷ []) ++ ((20 ∷ 0 ∷ 0 ∷ 0 ∷ []) ++ ((1 ∷ 0 ∷ 4 ∷ 128 ∷ []) ++ (replicate 16 0 ++ zeros)))))))
 

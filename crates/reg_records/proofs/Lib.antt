@@ -20,3 +20,4 @@ pub mod Trees
 pub mod Allocated
 pub mod Siblings
 pub mod ComputedWalks
+pub mod ValuedHive

@@ -31,7 +31,7 @@ use Rattle.reg_records.proofs.Spelling.{keys-one, keys-more, branch-spelt, longe
 
 -- ---- members of lists of numbers
 
-all-at : (P : ℕ → Type 0) (xs : List ℕ) (z : ℕ) → AllByRecursion P xs → 0 < times z xs → P z
+pub all-at : (P : ℕ → Type 0) (xs : List ℕ) (z : ℕ) → AllByRecursion P xs → 0 < times z xs → P z
 all-at P [] z a l = absurd (omega arith)
 all-at P (x ∷ xs) z a l = by (all-at P xs z a.1) (eqb x z) refl l
   where
@@ -93,7 +93,7 @@ once (f ∷ fs) l s = (
 
 -- ---- keys
 
-abbrev is_key : Kind → Bool
+abbrev pub is_key : Kind → Bool
 is_key Key = true
 is_key kind = false
 
