@@ -35,7 +35,7 @@ unfolding security_at sk_of sk_bytes cell_at cells_of half word
 ring = record {
   circles = record { forward = refl; back = refl };
   apart = (tt, tt);
-  written = (record { security = record { fields = record { flink = 120; blink = 120; count = 1 }; descriptor = descriptor }; reads = refl; bytes = refl; some = omega arith; short = omega arith }, tt);
+  written = (record { security = record { fields = record { flink = 120; blink = 120; count = 1 }; descriptor = descriptor }; reads = refl; plain = refl; some = omega arith; short = omega arith }, tt);
 }
 
 values : AreWrittenValues (cell_at fresh) fresh_node
@@ -48,7 +48,7 @@ root-written = record {
   node = fresh_node;
   seen = refl;
   written = record {
-    bytes = refl;
+    plain = record { access = refl; volatile_subkeys = refl; volatile_list = refl; work = refl };
     flags = refl;
     name = refl;
     parent = λ _. refl;

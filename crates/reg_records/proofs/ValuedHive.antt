@@ -58,7 +58,7 @@ unfolding security_at sk_of sk_bytes cell_at cells_of half word
 ring = record {
   circles = record { forward = refl; back = refl };
   apart = (tt, tt);
-  written = (record { security = record { fields = record { flink = 120; blink = 120; count = 1 }; descriptor = descriptor }; reads = refl; bytes = refl; some = omega arith; short = omega arith }, tt);
+  written = (record { security = record { fields = record { flink = 120; blink = 120; count = 1 }; descriptor = descriptor }; reads = refl; plain = refl; some = omega arith; short = omega arith }, tt);
 }
 
 value_fields : ValueFields
@@ -69,7 +69,7 @@ unfolding value_record_at vk_of vk_bytes cell_at cells_of half word value_fields
 written = record {
   value = record { fields = value_fields; name = [] };
   reads = refl;
-  bytes = refl;
+  plain = refl;
   flags = refl;
   data_is = record { inline = λ _. omega arith; far = λ e. absurd (false≢true (sym e)); big = λ e l. absurd (false≢true (sym e)) };
 }
@@ -97,7 +97,7 @@ root-written = record {
   node = valued_node;
   seen = valued-look;
   written = record {
-    bytes = refl;
+    plain = record { access = refl; volatile_subkeys = refl; volatile_list = refl; work = refl };
     flags = refl;
     name = refl;
     parent = λ _. refl;

@@ -1,5 +1,5 @@
 -- Key nodes (Suhanov, Windows registry file format specification, "Key node").
-use Rattle.std.specs.Prelude.{ℕ, ◌+◌, ◌^◌, ◌<◌, ◌==◌, not, nat_lt, Bool, List, ◌∷◌, ◌++◌, Option, length, take, drop, bit_and, if◌then◌else◌, Result, Ok, Err}
+use Rattle.std.specs.Prelude.{◌≡◌, ℕ, ◌+◌, ◌^◌, ◌<◌, ◌==◌, not, nat_lt, Bool, List, ◌∷◌, ◌++◌, Option, length, take, drop, bit_and, if◌then◌else◌, Result, Ok, Err}
 use Rattle.reg_heap.specs.Words.{half, word, long}
 use Rattle.reg_records.specs.declared.RecordFault.{RecordFault}
 use Rattle.reg_records.specs.declared.RecordFault.TheVariants.{Short, Signature, Length, NotInProfile}
@@ -93,3 +93,11 @@ nk_head fields name_length =
 -- a key node as it is written: its fixed part and its name
 unfoldable pub nk_bytes : KeyFields → List ℕ → List ℕ
 nk_bytes fields name = nk_head fields (length name) ++ name
+
+-- what a key node holds beside what is read of it, as it is written: 0 for the access bits, the number of volatile subkeys and
+-- WorkVar, and no list of volatile subkeys
+pub record IsPlainKey (content : List ℕ) : Type 0 where
+  pub access : word content 12 ≡ 0
+  pub volatile_subkeys : word content 24 ≡ 0
+  pub volatile_list : word content 32 ≡ 4294967295
+  pub work : word content 68 ≡ 0

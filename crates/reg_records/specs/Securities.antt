@@ -1,6 +1,6 @@
 -- Key securities (Suhanov, Windows registry file format specification, "Key security").
-use Rattle.std.specs.Prelude.{ℕ, ◌+◌, ◌^◌, ◌<◌, not, nat_lt, List, ◌∷◌, ◌++◌, Option, length, take, drop, if◌then◌else◌, Result, Ok, Err}
-use Rattle.reg_heap.specs.Words.{word}
+use Rattle.std.specs.Prelude.{◌≡◌, ℕ, ◌+◌, ◌^◌, ◌<◌, not, nat_lt, List, ◌∷◌, ◌++◌, Option, length, take, drop, if◌then◌else◌, Result, Ok, Err}
+use Rattle.reg_heap.specs.Words.{half, word}
 use Rattle.reg_records.specs.declared.RecordFault.{RecordFault}
 use Rattle.reg_records.specs.declared.RecordFault.TheVariants.{Short, Signature, Length}
 use Rattle.reg_records.specs.declared.sk.SecurityFields.{SecurityFields}
@@ -51,3 +51,7 @@ sk_head fields size =
 -- a key security as it is written: its fixed part and its descriptor
 unfoldable pub sk_bytes : SecurityFields → List ℕ → List ℕ
 sk_bytes fields descriptor = sk_head fields (length descriptor) ++ descriptor
+
+-- the reserved bytes of a key security, as they are written
+abbrev pub IsPlainSecurity : List ℕ → Type 0
+IsPlainSecurity content = half content 2 ≡ 0

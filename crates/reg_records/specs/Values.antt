@@ -1,5 +1,5 @@
 -- Key values (Suhanov, Windows registry file format specification, "Key value").
-use Rattle.std.specs.Prelude.{ℕ, ◌+◌, ◌^◌, ◌<◌, not, nat_lt, List, ◌∷◌, ◌++◌, Option, length, take, drop, if◌then◌else◌, Result, Ok, Err}
+use Rattle.std.specs.Prelude.{◌≡◌, ℕ, ◌+◌, ◌^◌, ◌<◌, not, nat_lt, List, ◌∷◌, ◌++◌, Option, length, take, drop, if◌then◌else◌, Result, Ok, Err}
 use Rattle.reg_heap.specs.Words.{half, word}
 use Rattle.reg_records.specs.declared.RecordFault.{RecordFault}
 use Rattle.reg_records.specs.declared.RecordFault.TheVariants.{Short, Signature, Length}
@@ -54,3 +54,7 @@ vk_head fields name_length =
 -- a key value as it is written: its fixed part and its name
 unfoldable pub vk_bytes : ValueFields → List ℕ → List ℕ
 vk_bytes fields name = vk_head fields (length name) ++ name
+
+-- the spare bytes of a key value, as they are written
+abbrev pub IsPlainValue : List ℕ → Type 0
+IsPlainValue content = half content 18 ≡ 0

@@ -11,9 +11,9 @@ use Rattle.reg_heap.specs.Paths.{Member}
 use Rattle.reg_heap.specs.Heaps.{Heap}
 use Rattle.reg_records.specs.declared.vk.ValueFields.{ValueFields}
 use Rattle.reg_records.specs.Cells.{held}
-use Rattle.reg_records.specs.Keys.{KeyRecord, nk_bytes}
-use Rattle.reg_records.specs.Values.{KeyValueRecord, value_record_at, vk_bytes}
-use Rattle.reg_records.specs.Securities.{KeySecurityRecord, security_at, sk_bytes}
+use Rattle.reg_records.specs.Keys.{KeyRecord, IsPlainKey}
+use Rattle.reg_records.specs.Values.{KeyValueRecord, value_record_at, IsPlainValue}
+use Rattle.reg_records.specs.Securities.{KeySecurityRecord, security_at, IsPlainSecurity}
 use Rattle.reg_records.specs.Rows.{offsets_at}
 use Rattle.reg_records.specs.Lists.{Entry, Form, places_in}
 use Rattle.reg_records.specs.Lists.Form.{HashLeaf}
@@ -49,11 +49,11 @@ pub record IsWrittenData (heap : Heap) (value : ValueFields) : Type 0 where
   pub far : is_inline value.size ≡ false → 4 < value.size
   pub big : is_inline value.size ≡ false → segment_size < value.size → (big : BigData) × (db_of (held heap value.place) ≡ Some big) × (big.count ≡ segments_for value.size)
 
--- a value's record, to its last byte; its flag says that it has a name
+-- a value's record; its flag says that it has a name
 pub record IsWrittenValue (heap : Heap) (offset : ℕ) : Type 0 where
   pub value : KeyValueRecord
   pub reads : value_record_at heap offset ≡ Some value
-  pub bytes : take (20 + length value.name) (held heap offset) ≡ vk_bytes value.fields value.name
+  pub plain : IsPlainValue (held heap offset)
   pub flags : value.fields.flags ≡ (if length value.name == 0 then 0 else 1)
   pub data_is : IsWrittenData heap value.fields
 
@@ -68,9 +68,9 @@ pub record AreWrittenValues (heap : Heap) (node : Node) : Type 0 where
   pub longest_name : AllByRecursion (λ (m : Member). 2 * length m.name ≤ node.key.fields.largest_value_name) node.values
   pub largest : AllByRecursion (λ (m : Member). length m.bytes ≤ node.key.fields.largest_value_data) node.values
 
--- a key node, to its last byte: marks without 0x67 beside 0x20 and the root's 0x04, a key's name, as many subkeys as its lists have
+-- a key node: marks without 0x67 beside 0x20 and the root's 0x04, a key's name, as many subkeys as its lists have
 pub record IsWrittenKey (heap : Heap) (root offset : ℕ) (node : Node) : Type 0 where
-  pub bytes : take (76 + length node.key.name) (held heap offset) ≡ nk_bytes node.key.fields node.key.name
+  pub plain : IsPlainKey (held heap offset)
   pub flags : bit_and node.key.fields.flags 103 ≡ (if offset == root then 36 else 32)
   pub name : is_key_name node.key.name ≡ true
   pub parent : offset ≡ root → node.key.fields.parent ≡ 4294967295
@@ -91,10 +91,10 @@ pub record Fits (offset : ℕ) (node : Node) (below : List (ℕ × Node)) : Type
   pub longest_name : AllByRecursion (λ (e : ℕ × Node). 2 * length e.1.key.name ≤ node.key.fields.largest_subkey_name % 65536) below
   pub longest_class : AllByRecursion (λ (e : ℕ × Node). e.1.key.fields.class_length ≤ node.key.fields.largest_subkey_class) below
 
--- a key security, to its last byte, with a descriptor of 1 to 65,535 bytes
+-- a key security, with a descriptor of 1 to 65,535 bytes
 pub record IsWrittenSecurity (heap : Heap) (offset : ℕ) : Type 0 where
   pub security : KeySecurityRecord
   pub reads : security_at heap offset ≡ Some security
-  pub bytes : take (20 + length security.descriptor) (held heap offset) ≡ sk_bytes security.fields security.descriptor
+  pub plain : IsPlainSecurity (held heap offset)
   pub some : 1 ≤ length security.descriptor
   pub short : length security.descriptor ≤ 65535
