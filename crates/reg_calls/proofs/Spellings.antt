@@ -89,13 +89,13 @@ cell-there h root key k n = let t : (key.fields.values == 0) ≡ false = ne_eqb 
 
 -- where a root has a value's cell, it has a value; and else none
 pub record ValuedAt (h : Heap) (root : ℕ) (r : IsRoot h root) (cell : ℕ) : Type 0 where
-  pub has : HasValue h root r.key
+  pub has : HasValue h r.key
   pub at : cell ≡ first_offset h r.key.fields.values_list
 
 pub root-valued : (h : Heap) (root cell : ℕ) (r : IsRoot h root) → Some cell ≡ value_cell_in h root → ValuedAt h root r cell
 root-valued h root cell r e = by r.values
   where
-    by : (r.key.fields.values ≡ 0) ⊎ HasValue h root r.key → ValuedAt h root r cell
+    by : (r.key.fields.values ≡ 0) ⊎ HasValue h r.key → ValuedAt h root r cell
     by (inl none) = let bare = cell-bare h root r.key r.key_is none in absurd (cc)
     by (inr has) = record { has = has; at = same (e ∙ cell-valued h root r.key r.key_is has.count) }
       where
@@ -105,7 +105,7 @@ root-valued h root cell r e = by r.values
 pub root-bare : (h : Heap) (root : ℕ) (r : IsRoot h root) → value_cell_in h root ≡ None → r.key.fields.values ≡ 0
 root-bare h root r e = by r.values
   where
-    by : (r.key.fields.values ≡ 0) ⊎ HasValue h root r.key → r.key.fields.values ≡ 0
+    by : (r.key.fields.values ≡ 0) ⊎ HasValue h r.key → r.key.fields.values ≡ 0
     by (inl none) = none
     by (inr has) = let valued = cell-valued h root r.key r.key_is has.count in absurd (cc)
 

@@ -1,16 +1,20 @@
 -- The tree of one root, as its cells spell it (Suhanov, Windows registry file format specification, "Key node", "Key value",
 -- "Key security"). Until keys can be made there is no other key; the root has no class, and no value but the default one, of
 -- at most 4 bytes.
-use Rattle.std.specs.Prelude.{◌≡◌, ◌≢◌, ℕ, zero, suc, ◌+◌, ◌-◌, ◌≤◌, ◌⊎◌, ◌==◌, if◌then◌else◌, max, List, [], ◌∷◌, take, Option, Some, None, option_map, bit_and, refl}
+use Rattle.std.specs.Prelude.{◌≡◌, ◌≢◌, ℕ, zero, suc, ◌+◌, ◌-◌, ◌≤◌, ◌⊎◌, ◌==◌, if◌then◌else◌, max, List, [], ◌∷◌, length, take, drop, replicate, true, Option, Some, None, option_map, bit_and, refl}
 use Rattle.std.specs.Coded.{Coded, code_by, coded×, coded_ℕ}
 use Rattle.std.specs.FinMap.{insert, empty}
 use Rattle.byteorder.specs.Endian.{little_bytes}
 use Rattle.reg_heap.specs.Paths.{Tree, Rec, Member, coded_bytes, coded_tree}
 use Rattle.reg_arena.specs.Arena.{Bins}
 use Rattle.reg_records.specs.Cells.{Heap, held, HasRoom}
-use Rattle.reg_records.specs.Keys.{KeyRecord, key_at}
-use Rattle.reg_records.specs.Values.{KeyValueRecord, value_record_at}
-use Rattle.reg_records.specs.Securities.{KeySecurityRecord, security_at}
+use Rattle.reg_records.specs.Keys.{KeyRecord, key_at, IsPlainKey}
+use Rattle.reg_records.specs.declared.nk.KeyFields.{KeyFields}
+use Rattle.reg_names.specs.Names.{is_key_name}
+use Rattle.reg_heap.specs.Heaps.{allocated}
+use Rattle.reg_heap.specs.Kinds.{times}
+use Rattle.reg_records.specs.Values.{KeyValueRecord, value_record_at, IsPlainValue}
+use Rattle.reg_records.specs.Securities.{KeySecurityRecord, security_at, IsPlainSecurity}
 use Rattle.reg_records.specs.Rows.{offset_in}
 use Rattle.reg_arena.specs.Carves.{NoFit}
 use Rattle.reg_model.specs.Worlds.{value_named}
@@ -73,28 +77,59 @@ spelt h root = tree_of (key_spelt h (key_at h root))
 abbrev pub made_root : List ℕ → List ℕ → ℕ → Rec
 made_root name descriptor moment = record { name = name; marks = 8; class = []; descriptor = descriptor; time = moment; values = [] }
 
--- the default value's cells: a list of one offset, and the record there, with its data in itself; no two cells are the same
-pub record HasValue (h : Heap) (root : ℕ) (key : KeyRecord) : Type 0 where
+-- the cells of a list of none or one value: the list, and the value's
+abbrev pub cells_with : ℕ → ℕ → ℕ → List ℕ
+cells_with zero list first = []
+cells_with (suc count) list first = list ∷ first ∷ []
+
+abbrev pub value_cells : Heap → ℕ → ℕ → List ℕ
+value_cells h count list = cells_with count list (first_offset h list)
+
+-- the default value's cells: a list of one offset, and the record there, with its data in itself and unused bytes 0
+pub record HasValue (h : Heap) (key : KeyRecord) : Type 0 where
   pub count : key.fields.values ≡ 1
   pub room : HasRoom h key.fields.values_list 4
   pub value : KeyValueRecord
   pub value_is : value_record_at h (first_offset h key.fields.values_list) ≡ Some value
+  pub plain : IsPlainValue (held h (first_offset h key.fields.values_list))
   pub unnamed : value.name ≡ []
+  pub flags : value.fields.flags ≡ 0
   pub least : 2147483648 ≤ value.fields.size
   pub most : value.fields.size ≤ 2147483652
-  pub list_apart : key.fields.values_list ≢ root
-  pub value_apart : first_offset h key.fields.values_list ≢ root
-  pub value_list_apart : first_offset h key.fields.values_list ≢ key.fields.values_list
-  pub value_security_apart : first_offset h key.fields.values_list ≢ key.fields.security
+  pub padded : drop (value.fields.size - 2147483648) (little_bytes 4 value.fields.place) ≡ replicate (4 - (value.fields.size - 2147483648)) 0
+  pub largest : value.fields.size - 2147483648 ≤ key.fields.largest_value_data
 
--- the root's cells: its key node, its security, and its value if it has one
+-- the fixed part of a root's key node, whatever its values are: no parent, no subkeys, no class
+pub record IsRootFields (fields : KeyFields) : Type 0 where
+  pub flags : fields.flags ≡ 44
+  pub parent : fields.parent ≡ 4294967295
+  pub subkeys : fields.subkeys ≡ 0
+  pub subkeys_list : fields.subkeys_list ≡ 4294967295
+  pub class : fields.class ≡ 4294967295
+  pub class_length : fields.class_length ≡ 0
+
+-- the one key security of a hive: a ring of itself, which one key uses
+pub record IsOnlySecurity (h : Heap) (offset : ℕ) (security : KeySecurityRecord) : Type 0 where
+  pub security_is : security_at h offset ≡ Some security
+  pub plain : IsPlainSecurity (held h offset)
+  pub flink : security.fields.flink ≡ offset
+  pub blink : security.fields.blink ≡ offset
+  pub count : security.fields.count ≡ 1
+  pub some : 1 ≤ length security.descriptor
+  pub short : length security.descriptor ≤ 65535
+
+-- the root's cells, which are all that are allocated, each once: its key node, its security, and its value's if it has one
 pub record IsRoot (h : Heap) (root : ℕ) : Type 0 where
   pub key : KeyRecord
   pub security : KeySecurityRecord
   pub key_is : key_at h root ≡ Some key
-  pub security_is : security_at h key.fields.security ≡ Some security
-  pub security_apart : key.fields.security ≢ root
-  pub values : (key.fields.values ≡ 0) ⊎ HasValue h root key
+  pub plain : IsPlainKey (held h root)
+  pub name : is_key_name key.name ≡ true
+  pub fields : IsRootFields key.fields
+  pub only : IsOnlySecurity h key.fields.security security
+  pub values : (key.fields.values ≡ 0) ⊎ HasValue h key
+  pub bare : key.fields.values ≡ 0 → key.fields.values_list ≡ 4294967295
+  pub exact : (offset : ℕ) → times offset (root ∷ key.fields.security ∷ value_cells h key.fields.values key.fields.values_list) ≡ allocated h offset
 
 -- a value as it is handed out
 abbrev pub shown : Stored → Member
@@ -115,13 +150,16 @@ noted moment size key = record key { fields = record key.fields { time = moment;
 -- a set was noted in the root's key node, and no other cell changed
 pub record NotesSet (old new : Heap) (root moment size : ℕ) : Type 0 where
   pub reads : (key : KeyRecord) → key_at old root ≡ Some key → key_at new root ≡ Some (noted moment size key)
+  pub plain : IsPlainKey (held old root) → IsPlainKey (held new root)
   pub others : (offset : ℕ) → offset ≢ root → new offset ≡ old offset
 
 -- a value's record and a list of it alone were written, and no other cell changed
 pub record FillsValue (old new : Heap) (cell list : ℕ) (value : Stored) : Type 0 where
   pub record_is : KeyValueRecord
   pub reads : value_record_at new cell ≡ Some record_is
+  pub plain : IsPlainValue (held new cell)
   pub unnamed : record_is.name ≡ []
+  pub flags : record_is.fields.flags ≡ 0
   pub kind : record_is.fields.kind ≡ value.kind
   pub size : record_is.fields.size ≡ 2147483648 + value.size
   pub place : little_bytes 4 record_is.fields.place ≡ value.bytes

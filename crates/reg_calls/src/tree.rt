@@ -1,7 +1,8 @@
 //! The tree of keys in the cells of an arena. Until keys can be made it has the root alone, with its default value or
 //! without. Above this module nobody speaks of a cell.
-ghost use Rattle.std.specs.Prelude.{◌≡◌, ◌≤◌, ◌<◌, [], length, Err, OnOk, OnErr, IfOk, IfErr, IfSome, option_map};
+ghost use Rattle.std.specs.Prelude.{true, ◌≡◌, ◌≤◌, ◌<◌, [], length, Err, OnOk, OnErr, IfOk, IfErr, IfSome, option_map};
 ghost use Rattle.std.specs.FinMap.{insert, empty};
+ghost use Rattle.reg_names.specs.Names.{is_key_name};
 ghost use Rattle.reg_heap.specs.Paths.{path_cmp};
 ghost use Rattle.reg_model.specs.Worlds.{edited, with_value, value_named};
 ghost use Rattle.reg_model.specs.Causes.{values_at};
@@ -61,8 +62,8 @@ impl Tree {
         descriptor: &[u8],
         moment: u64,
     ) -> Result<Tree, TreeFault>
-        requires name { length root_name.now ≤ 255 }
-        requires descriptor { length descriptor.now ≤ 65535 }
+        requires name { (is_key_name root_name.now ≡ true) × (length root_name.now ≤ 255) }
+        requires descriptor { (1 ≤ length descriptor.now) × (length descriptor.now ≤ 65535) }
         ensures ok { IfOk result (λ t. t.tree ≡ insert empty [] (made_root root_name.now descriptor.now moment)) }
         ensures err { IfErr result (λ fault. fault ≡ TreeFault.Memory) }
     {

@@ -21,3 +21,4 @@ pub mod Allocated
 pub mod Siblings
 pub mod ComputedWalks
 pub mod ValuedHive
+pub mod Plain

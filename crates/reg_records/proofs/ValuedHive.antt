@@ -71,7 +71,7 @@ written = record {
   reads = refl;
   plain = refl;
   flags = refl;
-  data_is = record { inline = λ _. omega arith; far = λ e. absurd (false≢true (sym e)); big = λ e l. absurd (false≢true (sym e)) };
+  data_is = record { inline = λ _. refl; far = λ e. absurd (false≢true (sym e)); big = λ e l. absurd (false≢true (sym e)) };
 }
 
 values : AreWrittenValues (cell_at valued) valued_node

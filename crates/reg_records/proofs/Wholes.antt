@@ -232,21 +232,21 @@ pub record AreAtMost (heap : Heap) (cells : ℕ) : Type 0 where
   pub all : (z : ℕ) → allocated heap z ≤ times z offsets
   pub few : length offsets ≤ cells
 
-at-most-one : (heap : Heap) (z : ℕ) → allocated heap z ≤ 1
+pub at-most-one : (heap : Heap) (z : ℕ) → allocated heap z ≤ 1
 at-most-one heap z = by (is_some (heap z))
   where
     by : (b : Bool) → cond b 1 0 ≤ 1
     by true = omega arith
     by false = omega arith
 
-is-allocated : (heap : Heap) (z : ℕ) → 0 < allocated heap z → IsSome (heap z)
+pub is-allocated : (heap : Heap) (z : ℕ) → 0 < allocated heap z → IsSome (heap z)
 is-allocated heap z l = by (is_some (heap z)) l
   where
     by : (b : Bool) → 0 < cond b 1 0 → b ≡ true
     by true l = refl
     by false l = absurd (omega arith)
 
-allocated-is : (heap : Heap) (z : ℕ) → IsSome (heap z) → ◌≡◌ {A = ℕ} (allocated heap z) 1
+pub allocated-is : (heap : Heap) (z : ℕ) → IsSome (heap z) → ◌≡◌ {A = ℕ} (allocated heap z) 1
 allocated-is heap z s = ap (λ b. cond b 1 0) s
 
 -- ---- whole

@@ -1,11 +1,12 @@
 -- Records as this project writes them (Suhanov, Windows registry file format specification, "Key node", "Subkeys list",
 -- "Key value", "Big data", "Key security"). What a key holds of its subkeys and values is exact; the four largest lengths are
 -- raised where needed and never lowered.
-use Rattle.std.specs.Prelude.{◌≡◌, ◌≢◌, ℕ, ◌+◌, ◌*◌, ◌^◌, ◌<◌, ◌≤◌, ◌%◌, ◌==◌, if◌then◌else◌, Bool, true, false, Option, Some, None, List, [], ◌∷◌, map, length, take, bit_and, ⊤}
+use Rattle.std.specs.Prelude.{◌≡◌, ◌≢◌, ℕ, ◌+◌, ◌*◌, ◌^◌, ◌<◌, ◌≤◌, ◌%◌, ◌==◌, if◌then◌else◌, Bool, true, false, Option, Some, None, List, [], ◌∷◌, map, length, drop, replicate, ◌-◌, bit_and, ⊤}
 use Rattle.std.specs.List.{AllByRecursion}
 use Rattle.std.specs.Ordering.{nat_cmp}
 use Rattle.std.specs.declared.cmp.Ordering.TheVariants.{Less}
 use Rattle.std.specs.Cmp.Lexicographic.{slice_cmp}
+use Rattle.byteorder.specs.Endian.{little_bytes}
 use Rattle.reg_names.specs.Names.{folded, hash, is_key_name, is_value_name}
 use Rattle.reg_heap.specs.Paths.{Member}
 use Rattle.reg_heap.specs.Heaps.{Heap}
@@ -45,7 +46,7 @@ IsWrittenIndex (Rooted place lists) = (2 ≤ length lists) × AllByRecursion IsW
 -- data of up to 4 bytes stands in the value, with the top bit set and unused bytes 0; more than 16,344 bytes stand behind a big
 -- data record, which has exactly the segments that they need
 pub record IsWrittenData (heap : Heap) (value : ValueFields) : Type 0 where
-  pub inline : is_inline value.size ≡ true → value.place < 256 ^ inline_size value.size
+  pub inline : is_inline value.size ≡ true → drop (inline_size value.size) (little_bytes 4 value.place) ≡ replicate (4 - inline_size value.size) 0
   pub far : is_inline value.size ≡ false → 4 < value.size
   pub big : is_inline value.size ≡ false → segment_size < value.size → (big : BigData) × (db_of (held heap value.place) ≡ Some big) × (big.count ≡ segments_for value.size)
 

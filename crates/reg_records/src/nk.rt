@@ -5,8 +5,8 @@
 ghost use Rattle.std.specs.Prelude.{◌≡◌, ◌+◌, ◌<◌, ◌≤◌, ◌^◌, ◌++◌, length, IsSome, MatchResult, IsTrue};
 ghost use Rattle.byteorder.specs.Endian.{little_bytes};
 ghost use Rattle.reg_arena.specs.Cells.{cell_at};
-ghost use Rattle.reg_records.specs.Cells.{HasRoom, WritesRecord, WritesPart, Rereads};
-ghost use Rattle.reg_records.specs.Keys.{FitKey, is_in_profile, nk_of, nk_fields_of, nk_head, nk_bytes, key_at};
+ghost use Rattle.reg_records.specs.Cells.{held, HasRoom, WritesRecord, WritesPart, Rereads};
+ghost use Rattle.reg_records.specs.Keys.{FitKey, is_in_profile, nk_of, nk_fields_of, nk_head, nk_bytes, key_at, IsPlainKey};
 
 use crate::cells::{write_part, write_record};
 use crate::{
@@ -152,6 +152,7 @@ pub fn put_nk(arena: &mut Arena, cell: u32, fields: &KeyFields, name: &[u8])
     requires profile { IsTrue (is_in_profile fields.now.flags) }
     ensures written { WritesRecord arena.old arena.new cell (76 + length name.now) (nk_bytes fields.now name.now) }
     ensures reads { key_at (cell_at arena.new.bytes) cell ≡ Some (record { fields = fields.now; name = name.now }) }
+    ensures plain { IsPlainKey (held (cell_at arena.new.bytes) cell) }
 {
     let head = head(fields, name.len() as u16);
     write_record(arena, cell, &head, name);
@@ -162,6 +163,7 @@ pub fn set_time(arena: &mut Arena, cell: u32, time: u64)
     requires { IsSome (key_at (cell_at arena.old.bytes) cell) }
     ensures written { WritesPart arena.old arena.new cell 4 (little_bytes 8 time) }
     ensures reads { Rereads key_at arena.old arena.new cell (λ r. record r { fields = record r.fields { time = time } }) }
+    ensures plain { IsPlainKey (held (cell_at arena.old.bytes) cell) → IsPlainKey (held (cell_at arena.new.bytes) cell) }
 {
     write_part(arena, cell, 4, &long_bytes(time));
 }
@@ -171,6 +173,7 @@ pub fn set_values(arena: &mut Arena, cell: u32, values: u32, values_list: u32)
     requires { IsSome (key_at (cell_at arena.old.bytes) cell) }
     ensures written { WritesPart arena.old arena.new cell 36 (little_bytes 4 values ++ little_bytes 4 values_list) }
     ensures reads { Rereads key_at arena.old arena.new cell (λ r. record r { fields = record r.fields { values = values; values_list = values_list } }) }
+    ensures plain { IsPlainKey (held (cell_at arena.old.bytes) cell) → IsPlainKey (held (cell_at arena.new.bytes) cell) }
 {
     let [v0, v1, v2, v3] = word_bytes(values);
     let [l0, l1, l2, l3] = word_bytes(values_list);
@@ -182,6 +185,7 @@ pub fn set_largest_value_name(arena: &mut Arena, cell: u32, largest: u32)
     requires { IsSome (key_at (cell_at arena.old.bytes) cell) }
     ensures written { WritesPart arena.old arena.new cell 60 (little_bytes 4 largest) }
     ensures reads { Rereads key_at arena.old arena.new cell (λ r. record r { fields = record r.fields { largest_value_name = largest } }) }
+    ensures plain { IsPlainKey (held (cell_at arena.old.bytes) cell) → IsPlainKey (held (cell_at arena.new.bytes) cell) }
 {
     write_part(arena, cell, 60, &word_bytes(largest));
 }
@@ -191,6 +195,7 @@ pub fn set_largest_value_data(arena: &mut Arena, cell: u32, largest: u32)
     requires { IsSome (key_at (cell_at arena.old.bytes) cell) }
     ensures written { WritesPart arena.old arena.new cell 64 (little_bytes 4 largest) }
     ensures reads { Rereads key_at arena.old arena.new cell (λ r. record r { fields = record r.fields { largest_value_data = largest } }) }
+    ensures plain { IsPlainKey (held (cell_at arena.old.bytes) cell) → IsPlainKey (held (cell_at arena.new.bytes) cell) }
 {
     write_part(arena, cell, 64, &word_bytes(largest));
 }

@@ -4,8 +4,8 @@
 
 ghost use Rattle.std.specs.Prelude.{◌≡◌, ◌+◌, ◌<◌, ◌^◌, length, MatchResult};
 ghost use Rattle.reg_arena.specs.Cells.{cell_at};
-ghost use Rattle.reg_records.specs.Cells.{HasRoom, WritesRecord};
-ghost use Rattle.reg_records.specs.Securities.{FitSecurity, sk_of, sk_head, sk_bytes, security_at};
+ghost use Rattle.reg_records.specs.Cells.{held, HasRoom, WritesRecord};
+ghost use Rattle.reg_records.specs.Securities.{FitSecurity, sk_of, sk_head, sk_bytes, security_at, IsPlainSecurity};
 
 use crate::cells::write_record;
 use crate::{RecordFault, is_signed, word_at, word_bytes};
@@ -84,6 +84,7 @@ pub fn put_sk(arena: &mut Arena, cell: u32, fields: &SecurityFields, descriptor:
     requires size { length descriptor.now < 2 ^ 32 }
     ensures written { WritesRecord arena.old arena.new cell (20 + length descriptor.now) (sk_bytes fields.now descriptor.now) }
     ensures reads { security_at (cell_at arena.new.bytes) cell ≡ Some (record { fields = fields.now; descriptor = descriptor.now }) }
+    ensures plain { IsPlainSecurity (held (cell_at arena.new.bytes) cell) }
 {
     let head = head(fields, descriptor.len() as u32);
     write_record(arena, cell, &head, descriptor);

@@ -5,8 +5,8 @@
 ghost use Rattle.std.specs.Prelude.{◌≡◌, ◌+◌, ◌<◌, ◌^◌, ◌++◌, length, IsSome, MatchResult};
 ghost use Rattle.byteorder.specs.Endian.{little_bytes};
 ghost use Rattle.reg_arena.specs.Cells.{cell_at};
-ghost use Rattle.reg_records.specs.Cells.{HasRoom, WritesRecord, WritesPart, Rereads};
-ghost use Rattle.reg_records.specs.Values.{FitValue, vk_of, vk_head, vk_bytes, value_record_at};
+ghost use Rattle.reg_records.specs.Cells.{held, HasRoom, WritesRecord, WritesPart, Rereads};
+ghost use Rattle.reg_records.specs.Values.{FitValue, vk_of, vk_head, vk_bytes, value_record_at, IsPlainValue};
 
 use crate::cells::{write_part, write_record};
 use crate::{RecordFault, half_at, half_bytes, is_signed, word_at, word_bytes};
@@ -89,6 +89,7 @@ pub fn put_vk(arena: &mut Arena, cell: u32, fields: &ValueFields, name: &[u8])
     requires name { length name.now < 2 ^ 16 }
     ensures written { WritesRecord arena.old arena.new cell (20 + length name.now) (vk_bytes fields.now name.now) }
     ensures reads { value_record_at (cell_at arena.new.bytes) cell ≡ Some (record { fields = fields.now; name = name.now }) }
+    ensures plain { IsPlainValue (held (cell_at arena.new.bytes) cell) }
 {
     let head = head(fields, name.len() as u16);
     write_record(arena, cell, &head, name);
@@ -100,6 +101,7 @@ pub fn set_data(arena: &mut Arena, cell: u32, size: u32, place: u32, kind: u32)
     requires { IsSome (value_record_at (cell_at arena.old.bytes) cell) }
     ensures written { WritesPart arena.old arena.new cell 4 (little_bytes 4 size ++ little_bytes 4 place ++ little_bytes 4 kind) }
     ensures reads { Rereads value_record_at arena.old arena.new cell (λ r. record r { fields = record r.fields { size = size; place = place; kind = kind } }) }
+    ensures plain { IsPlainValue (held (cell_at arena.old.bytes) cell) → IsPlainValue (held (cell_at arena.new.bytes) cell) }
 {
     let [s0, s1, s2, s3] = word_bytes(size);
     let [p0, p1, p2, p3] = word_bytes(place);

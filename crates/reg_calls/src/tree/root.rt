@@ -1,4 +1,4 @@
-ghost use Rattle.std.specs.Prelude.{ℕ, List, ◌≡◌, ◌≢◌, ◌+◌, ◌-◌, ◌≤◌, ◌<◌, [], Err, OnOk, OnErr, option_map, Some, None, IsSome, IfSome, take};
+ghost use Rattle.std.specs.Prelude.{ℕ, List, ◌≡◌, ◌≢◌, ◌+◌, ◌-◌, ◌≤◌, ◌<◌, [], Err, OnOk, OnErr, option_map, Some, None, IsSome, IfSome, take, drop, replicate};
 ghost use Rattle.byteorder.specs.Endian.{little_bytes};
 ghost use Rattle.reg_arena.specs.Cells.{cell_at};
 ghost use Rattle.reg_records.specs.Cells.{HasRoom};
@@ -138,6 +138,7 @@ pub fn replace_value(arena: &mut Arena, root: u32, cell: u32, value: &Stored, mo
     requires root { IsRoot (cell_at arena.old.bytes) root }
     requires cell { value_cell_in (cell_at arena.old.bytes) root ≡ Some cell }
     requires size { value.now.size ≤ 4 }
+    requires padded { drop value.now.size value.now.bytes ≡ replicate (4 - value.now.size) 0 }
     ensures root { IsRoot (cell_at arena.new.bytes) root }
     ensures tree { spelt (cell_at arena.new.bytes) root ≡ edited (spelt (cell_at arena.old.bytes) root) [] (with_value [] value.now.kind (take value.now.size value.now.bytes) moment) }
 {
@@ -158,6 +159,7 @@ pub fn add_value(
     requires root { IsRoot (cell_at arena.old.bytes) root }
     requires cell { value_cell_in (cell_at arena.old.bytes) root ≡ None }
     requires size { value.now.size ≤ 4 }
+    requires padded { drop value.now.size value.now.bytes ≡ replicate (4 - value.now.size) 0 }
     ensures root { OnOk result (IsRoot (cell_at arena.new.bytes) root) }
     ensures tree { OnOk result (spelt (cell_at arena.new.bytes) root ≡ edited (spelt (cell_at arena.old.bytes) root) [] (with_value [] value.now.kind (take value.now.size value.now.bytes) moment)) }
     ensures err { OnErr result (arena.new ≡ arena.old) }

@@ -1,6 +1,7 @@
 use Rattle.std.proofs.Common.{lit≤}
 use Rattle.byteorder.specs.Endian.{little_bytes}
 use Rattle.reg_records.proofs.Keys.{key-room, key-changed, nk-named}
+use Rattle.reg_records.proofs.Plain.{plain-named}
 use Rattle.reg_records.proofs.nk.set_largest_value_name.Goals as goal
 
 pub write_part-requires : goal.write_part-requires
@@ -12,3 +13,6 @@ returns-clause-written c = rw c.word_bytes.ensures.bytes at c.write_part.ensures
 pub returns-clause-reads : goal.returns-clause-reads
 returns-clause-reads c =
     key-changed 60 (little_bytes 4 c.args.largest) (λ r. record r { fields = record r.fields { largest_value_name = c.args.largest } }) (nk-named c.args.largest c.word_bytes.ensures.fits) _ _ c.args.cell (returns-clause-written c)
+
+pub returns-clause-plain : goal.returns-clause-plain
+returns-clause-plain c = plain-named _ _ c.args.cell c.args.largest c.requires (returns-clause-written c)

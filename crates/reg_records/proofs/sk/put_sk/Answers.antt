@@ -1,5 +1,6 @@
 use Rattle.reg_records.specs.Securities.{sk_bytes}
 use Rattle.reg_records.proofs.Securities.{security_at-written}
+use Rattle.reg_records.proofs.Plain.{plain-security}
 use Rattle.reg_records.proofs.sk.put_sk.Goals as goal
 
 pub returns-clause-written : goal.returns-clause-written
@@ -9,3 +10,6 @@ returns-clause-written c = rw c.head-head.ensures.bytes at c.write_record.ensure
 pub returns-clause-reads : goal.returns-clause-reads
 returns-clause-reads c =
     security_at-written _ _ c.args.cell c.args.fields.now c.args.descriptor.now _ (returns-clause-written c) c.head-head.ensures.fits c.requires.size
+
+pub returns-clause-plain : goal.returns-clause-plain
+returns-clause-plain c = plain-security _ _ c.args.cell _ c.args.fields.now c.args.descriptor.now (returns-clause-written c)

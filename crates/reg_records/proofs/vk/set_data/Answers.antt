@@ -1,6 +1,7 @@
 use Rattle.std.proofs.Common.{◌++◌, lit≤}
 use Rattle.byteorder.specs.Endian.{little_bytes}
 use Rattle.reg_records.proofs.Values.{value-room, value-changed, vk-filled}
+use Rattle.reg_records.proofs.Plain.{plain-data}
 use Rattle.reg_records.proofs.vk.set_data.Goals as goal
 
 pub write_part-requires : goal.write_part-requires
@@ -14,3 +15,6 @@ returns-clause-reads c =
     value-changed 4 (little_bytes 4 c.args.size ++ little_bytes 4 c.args.place ++ little_bytes 4 c.args.kind)
     (λ r. record r { fields = record r.fields { size = c.args.size; place = c.args.place; kind = c.args.kind } })
     (vk-filled c.args.size c.word_bytes.ensures.fits c.args.place c.word_bytes-2.ensures.fits c.args.kind c.word_bytes-3.ensures.fits) _ _ c.args.cell (returns-clause-written c)
+
+pub returns-clause-plain : goal.returns-clause-plain
+returns-clause-plain c = plain-data _ _ c.args.cell c.args.size c.args.place c.args.kind c.requires (returns-clause-written c)

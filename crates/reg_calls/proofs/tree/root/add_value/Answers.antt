@@ -18,17 +18,17 @@ note_set-requires c =
 pub returns-clause-root : goal.returns-clause-root
 returns-clause-root c =
     let carved = c.in_ok-cell.ensures.ok in
-    (added _ _ _ _ _ c.args.root _ _ c.requires.root c.args.value.now c.args.moment _ (root-bare _ _ c.requires.root c.requires.cell) c.requires.size carved.first_fresh carved.second_fresh carved.others carved.apart c.fill_value.ensures c.set_values.ensures.reads c.set_values.ensures.written.others c.note_set.ensures).root_is
+    (added _ _ _ _ _ c.args.root _ _ c.requires.root c.args.value.now c.args.moment _ (root-bare _ _ c.requires.root c.requires.cell) c.requires.size c.from.ensures c.requires.padded carved.first_fresh carved.second_fresh carved.others carved.apart c.fill_value.ensures c.set_values.ensures.reads c.set_values.ensures.plain c.set_values.ensures.written.others c.note_set.ensures).root_is
 
 pub returns-clause-tree : goal.returns-clause-tree
 returns-clause-tree c =
     let carved = c.in_ok-cell.ensures.ok in
-    (added _ _ _ _ _ c.args.root _ _ c.requires.root c.args.value.now c.args.moment _ (root-bare _ _ c.requires.root c.requires.cell) c.requires.size carved.first_fresh carved.second_fresh carved.others carved.apart c.fill_value.ensures c.set_values.ensures.reads c.set_values.ensures.written.others c.note_set.ensures).tree
+    (added _ _ _ _ _ c.args.root _ _ c.requires.root c.args.value.now c.args.moment _ (root-bare _ _ c.requires.root c.requires.cell) c.requires.size c.from.ensures c.requires.padded carved.first_fresh carved.second_fresh carved.others carved.apart c.fill_value.ensures c.set_values.ensures.reads c.set_values.ensures.plain c.set_values.ensures.written.others c.note_set.ensures).tree
 
 pub returns-in_err-cell-clause-space : goal.returns-in_err-cell-clause-space
 returns-in_err-cell-clause-space c = λ full.
     let root = c.requires.root in
     record {
       full = c.in_err-cell.ensures.space (grind (arith, common_steps, full));
-      none = sym (found-bare _ _ root.key root.security root.key_is root.security_is (root-bare _ _ root c.requires.cell) []);
+      none = sym (found-bare _ _ root.key root.security root.key_is root.only.security_is (root-bare _ _ root c.requires.cell) []);
     }

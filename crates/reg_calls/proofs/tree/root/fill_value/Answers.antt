@@ -1,7 +1,8 @@
-use Rattle.std.proofs.Common.{◌≢◌, ap, sym, ◌∙◌, refl, ◌+◌}
+use Rattle.std.proofs.Common.{◌≢◌, ap, sym, ◌∙◌, refl, subst, ◌+◌}
 use Rattle.reg_arena.specs.Cells.{cell_at}
 use Rattle.reg_records.proofs.Values.{value_record_at-same}
-use Rattle.reg_calls.proofs.Sets.{room-kept, same-room}
+use Rattle.reg_calls.proofs.Sets.{room-kept, same-room, same-held}
+use Rattle.reg_records.specs.Values.{IsPlainValue}
 use Rattle.reg_calls.proofs.tree.root.fill_value.Goals as goal
 
 pub returns : goal.returns
@@ -11,7 +12,9 @@ returns c =
     record {
       record_is = _;
       reads = value_record_at-same (cell_at c.put_vk.new.arena.bytes) (cell_at c.put_offset.new.arena.bytes) c.args.cell (c.put_offset.ensures.written.others c.args.cell c.requires.apart) ∙ c.put_vk.ensures.reads;
+      plain = subst IsPlainValue (sym (same-held (cell_at c.put_vk.new.arena.bytes) (cell_at c.put_offset.new.arena.bytes) c.args.cell (c.put_offset.ensures.written.others c.args.cell c.requires.apart))) c.put_vk.ensures.plain;
       unnamed = refl;
+      flags = refl;
       kind = refl;
       size = ap (λ n. 2147483648 + n) c.from.ensures;
       place = c.place_of.ensures;

@@ -15,8 +15,8 @@ returns-in-Some-clause-value c =
     let valued = root-valued _ _ _ c.requires c.in-Some.ensures in
     let has = valued.has in
     let told = c.stored_at.ensures.value has.value (ap (value_record_at (cell_at c.args.arena.now.bytes)) valued.at ∙ has.value_is) has.unnamed in
-    found-valued _ _ c.requires.key c.requires.security has.value _ c.requires.key_is c.requires.security_is has.count has.value_is has.unnamed told
+    found-valued _ _ c.requires.key c.requires.security has.value _ c.requires.key_is c.requires.only.security_is has.count has.value_is has.unnamed told
 
 pub returns-in-None-clause-value : goal.returns-in-None-clause-value
 returns-in-None-clause-value c =
-    found-bare _ _ c.requires.key c.requires.security c.requires.key_is c.requires.security_is (root-bare _ _ c.requires (sym c.in-None.ensures))
+    found-bare _ _ c.requires.key c.requires.security c.requires.key_is c.requires.only.security_is (root-bare _ _ c.requires (sym c.in-None.ensures))
