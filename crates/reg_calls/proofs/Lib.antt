@@ -2,6 +2,7 @@ pub mod Tables
 pub mod Openings
 pub mod Spellings
 pub mod RootCells
+pub mod RootShape
 pub mod Sets
 pub mod States
 pub mod Pushes

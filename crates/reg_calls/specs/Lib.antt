@@ -3,6 +3,7 @@ pub mod Rows
 pub mod Founds
 pub mod Carving
 pub mod Roots
+pub mod Wholes
 pub mod Views
 pub mod Hives
 pub mod Runs

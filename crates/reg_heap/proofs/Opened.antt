@@ -30,6 +30,18 @@ bind-open {A} {B} r f heap y e = outer (r heap) refl e
     outer None a e = absurd (none-some _ e)
     outer (Some x) a e = inner x.0 x.1 a (f x.0 heap) refl e
 
+pub bind-made : {A B : Type 0} (r : Reading A) (f : A → Reading B) (heap : Heap) (x : A) (zs : List Found) (w : B × List Found) → r heap ≡ Some (x, zs) → f x heap ≡ Some w → ◌>>=◌ r f heap ≡ Some (noted zs w)
+bind-made r f heap x zs w a b = ap (option_and_then (λ x. option_map (noted x.1) (f x.0 heap))) a ∙ ap (option_map (noted zs)) b
+
+pub guard-made : {A : Type 0} (test : Bool) (r : Reading A) (heap : Heap) (y : A × List Found) → test ≡ true → r heap ≡ Some y → guard test r heap ≡ Some y
+guard-made test r heap y t e = ap (λ b. guard b r heap) t ∙ e
+
+pub given-made : {A : Type 0} (x : Option A) (a : A) (heap : Heap) → x ≡ Some a → given x heap ≡ Some (a, [])
+given-made {A} x a heap e = ap (option_map {U = A × List Found} (λ a. (a, []))) e
+
+pub cell-made : (kind : Kind) (offset : ℕ) (heap : Heap) (content : List ℕ) → heap offset ≡ Some content → cell kind offset heap ≡ Some (content, record { kind = kind; offset = offset } ∷ [])
+cell-made kind offset heap content e = ap (option_map {U = List ℕ × List Found} (λ c. (c, record { kind = kind; offset = offset } ∷ []))) e
+
 pub guard-open : {A : Type 0} (test : Bool) (r : Reading A) (heap : Heap) (y : A × List Found) → guard test r heap ≡ Some y → (test ≡ true) × (r heap ≡ Some y)
 guard-open true r heap y e = (refl, e)
 guard-open false r heap y e = absurd (none-some _ e)
