@@ -262,8 +262,8 @@ whole-of bytes root r keys tree w t =
     let whole = whole-in bytes root keys r.key.fields.security [] c.0 c.1 w in
     record { cells = whole.cells; cells_are = whole.cells_are; whole = whole.whole; spells = spelt-in bytes root keys r.key.fields.security [] whole.cells whole.cells_are w ∙ ap Some t }
 
-pub root-whole : (bytes : List ℕ) (root : ℕ) → IsRoot (cell_at bytes) root → IsWholeTree bytes root (spelt (cell_at bytes) root)
-root-whole bytes root r = by r.values
+pub root_whole : (bytes : List ℕ) (root : ℕ) → IsRoot (cell_at bytes) root → IsWholeTree bytes root (spelt (cell_at bytes) root)
+root_whole bytes root r = by r.values
   where
     by : (r.key.fields.values ≡ 0) ⊎ HasValue (cell_at bytes) r.key → IsWholeTree bytes root (spelt (cell_at bytes) root)
     by (inl none) = whole-of bytes root r _ _ (shape-bare (cell_at bytes) root r none)

@@ -4,7 +4,8 @@ ghost use Rattle.reg_names.specs.Names.{is_key_name};
 ghost use Rattle.reg_arena.specs.Cells.{cell_at};
 ghost use Rattle.reg_model.specs.Causes.{change_cause};
 ghost use Rattle.reg_model.specs.Histories.{IsLegal, replay};
-ghost use Rattle.reg_calls.specs.Roots.{made_root, spelt};
+ghost use Rattle.reg_calls.specs.Roots.{made_root};
+ghost use Rattle.reg_calls.specs.Wholes.{IsWholeTree};
 ghost use Rattle.reg_calls.specs.Views.{state, IsApplied, IsRead};
 
 use crate::hive_core::Core;
@@ -96,7 +97,7 @@ impl Hive {
     pub fn arena(&self) -> &Arena
         ensures bins { result.now ≡ (view_of self.now).keys.bins }
         ensures tree { (view_of self.now).keys.tree ≡ (replay (view_of self.now).origin (view_of self.now).journal).tree }
-        ensures spelt { (view_of self.now).keys.tree ≡ spelt (cell_at (view_of self.now).keys.bins.bytes) (view_of self.now).keys.root }
+        ensures whole { IsWholeTree (view_of self.now).keys.bins.bytes (view_of self.now).keys.root (view_of self.now).keys.tree }
     {
         self.core.arena()
     }

@@ -3,7 +3,8 @@ ghost use Rattle.reg_model.specs.Causes.{change_cause, refuse as refuse_if, ◌o
 ghost use Rattle.reg_model.specs.Replies.{refusal};
 ghost use Rattle.reg_model.specs.Replies.{value_told};
 ghost use Rattle.reg_arena.specs.Cells.{cell_at};
-ghost use Rattle.reg_calls.specs.Roots.{shown, spelt};
+ghost use Rattle.reg_calls.specs.Roots.{shown};
+ghost use Rattle.reg_calls.specs.Wholes.{IsWholeTree};
 ghost use Rattle.reg_calls.specs.Views.{state, IsOneRoot, IsApplied, IsRead, IsTold};
 
 use crate::handles::Handles;
@@ -145,7 +146,7 @@ impl Core {
     pub fn arena(&self) -> &Arena
         ensures bins { result.now ≡ self.now.keys.bins }
         ensures tree { self.now.keys.tree ≡ (replay self.now.origin self.now.journal).tree }
-        ensures spelt { self.now.keys.tree ≡ spelt (cell_at self.now.keys.bins.bytes) self.now.keys.root }
+        ensures whole { IsWholeTree self.now.keys.bins.bytes self.now.keys.root self.now.keys.tree }
     {
         self.tree.arena()
     }

@@ -53,7 +53,8 @@ impl Model for Tree {
 
 impl Tree {
     ghost use Rattle.reg_arena.specs.Cells.{cell_at};
-    ghost use Rattle.reg_calls.specs.Roots.{made_root, shown, spelt, HasNoSpace};
+    ghost use Rattle.reg_calls.specs.Roots.{made_root, shown, HasNoSpace};
+    ghost use Rattle.reg_calls.specs.Wholes.{IsWholeTree};
 
     /// A tree of one root: the name as given, no delete, no class, the descriptor, the moment, no values.
     pub fn new(
@@ -81,9 +82,10 @@ impl Tree {
     }
 
     /// The bins with their cells.
+    #[tactic(auto, using(crate::proofs::RootShape::root_whole))]
     pub fn arena(&self) -> &Arena
         ensures bins { result.now ≡ self.now.bins }
-        ensures spelt { self.now.tree ≡ spelt (cell_at self.now.bins.bytes) self.now.root }
+        ensures whole { IsWholeTree self.now.bins.bytes self.now.root self.now.tree }
     {
         &self.arena
     }
