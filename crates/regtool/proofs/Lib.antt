@@ -1,1 +1,7 @@
 pub mod Appending
+pub mod Numbers
+pub mod Names
+pub mod Spaces
+pub mod Readings
+pub mod Meanings
+mod RowsOfLines

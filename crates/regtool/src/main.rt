@@ -9,6 +9,7 @@ mod reply;
 #[cfg(test)]
 mod tests;
 mod tool;
+mod words;
 
 use std::process::ExitCode;
 use std::{env, io};

@@ -1,0 +1,6 @@
+pub mod Words
+pub mod Meanings
+pub mod Texts
+pub mod Lines
+pub mod Outputs
+pub mod Readings
