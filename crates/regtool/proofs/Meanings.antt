@@ -1,5 +1,5 @@
 -- What a line means, by its first byte and its words.
-use Rattle.std.proofs.Common.{◌≡◌, ℕ, ◌<◌, eqb, false, List, [], ◌∷◌, length, get_or, Option, Some, None, refl, arith, ap, unwrap_or}
+use Rattle.std.proofs.Common.{◌≡◌, ℕ, ◌<◌, eqb, false, List, [], ◌∷◌, length, get_or, Option, refl, arith, ap, unwrap_or}
 use Rattle.regtool.specs.Words.{words_of}
 use Rattle.regtool.specs.Meanings.{Meaning, nothing, bad, meaning_of, reading, verb_of, by_verb}
 

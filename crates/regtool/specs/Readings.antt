@@ -1,6 +1,5 @@
 -- What the readers of a line's words give.
 use Rattle.std.specs.Prelude.{◌≡◌, ℕ, List, [], Option, Some, None, Result, MatchResult}
-use Rattle.reg_model.specs.declared.call.Call.TheVariants.{Change, Query}
 use Rattle.regtool.specs.declared.line.Line.{Line}
 use Rattle.regtool.specs.declared.line.Line.TheVariants.{Nothing, Setting, Call, Bad}
 use Rattle.regtool.specs.declared.line.Setting.TheVariants.{At, As, Hive}
