@@ -4,4 +4,5 @@ pub mod Names
 pub mod Spaces
 pub mod Readings
 pub mod Meanings
+pub mod Progress
 mod RowsOfLines

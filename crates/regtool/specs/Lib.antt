@@ -4,3 +4,4 @@ pub mod Texts
 pub mod Lines
 pub mod Outputs
 pub mod Readings
+pub mod Progress

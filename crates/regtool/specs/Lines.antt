@@ -1,6 +1,8 @@
 -- What a script writes (this project's own rules of the script).
-use Rattle.std.specs.Prelude.{◌≡◌, ℕ, List, [], ◌∷◌, ◌++◌, codes}
+use Rattle.std.specs.Prelude.{◌≡◌, ℕ, List, [], ◌∷◌, ◌++◌, codes, replicate}
+use Rattle.std.specs.FinMap.{insert, empty}
 use Rattle.reg_model.specs.declared.step.Outcome.{Outcome}
+use Rattle.reg_calls.specs.Roots.{made_root}
 use Rattle.reg_calls.specs.Views.{View}
 use Rattle.reg_calls.specs.Runs.{IsStep}
 use Rattle.regtool.specs.Words.{lines_of}
@@ -37,3 +39,19 @@ AreSaid (line ∷ lines) old text new =
 abbrev pub Lines : View → List ℕ → List ℕ → View → Type 0
 Lines old script text new =
     (last : Stand) × AreSaid (lines_of script) (record { hive = old; moment = 0; session = 0 }) text last × (last.hive ≡ new)
+
+-- the root's descriptor: a self-relative security descriptor with nothing in it
+abbrev pub fresh_descriptor : List ℕ
+fresh_descriptor = 1 ∷ 0 ∷ 4 ∷ 128 ∷ replicate 16 0
+
+-- a script's hive at first: a root, no entries
+pub record IsFresh (hive : View) : Type 0 where
+  pub origin : hive.origin ≡ insert empty [] (made_root (codes "ROOT") fresh_descriptor 0)
+  pub journal : hive.journal ≡ []
+
+-- a script may write this text
+pub record Writes (script text : List ℕ) : Type 0 where
+  pub fresh : View
+  pub is_fresh : IsFresh fresh
+  pub last : View
+  pub lines : Lines fresh script text last
