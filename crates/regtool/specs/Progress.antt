@@ -24,12 +24,12 @@ abbrev pub HasNoFeed : List ℕ → Type 0
 HasNoFeed [] = Unit {0}
 HasNoFeed (b ∷ bs) = (b ≢ 10) × HasNoFeed bs
 
--- these bytes lead from one stand with the bytes of a line to another, with these replies: whatever comes after them is said from there on
+-- these bytes lead from one stand, where a line was begun, to another, with these replies: whatever comes after them is said from there on
 abbrev pub Leads : Stand → List ℕ → List ℕ → List ℕ → Stand → List ℕ → Type 0
 Leads old begun bytes replies new still =
     (rest text : List ℕ) (last : Stand) → AreSaid (lines_of (still ++ rest)) new text last → AreSaid (lines_of (begun ++ (bytes ++ rest))) old (replies ++ text) last
 
--- these bytes were taken, and their replies were gathered or sent
+-- these bytes were taken, and the replies to the lines that they ended were gathered or sent
 pub record Takes (old : Place) (bytes : List ℕ) (new : Place) : Type 0 where
   pub replies : List ℕ
   pub leads : Leads old.stand old.begun bytes replies new.stand new.begun
@@ -38,9 +38,10 @@ pub record Takes (old : Place) (bytes : List ℕ) (new : Place) : Type 0 where
   pub appends : Appends old.sent new.sent passed
   pub gathers : old.gathered ++ replies ≡ passed ++ new.gathered
 
--- a reply of some kind was added to a text
-abbrev pub Adds : (List ℕ → Type 0) → List ℕ → List ℕ → Type 0
-Adds kind old new = (reply : List ℕ) × kind reply × (new ≡ old ++ reply)
+-- a reply was gathered, which leads from one stand to the other in this way
+abbrev pub Adds : (Stand → List ℕ → Stand → Type 0) → Script → View → Script → View → Type 0
+Adds way old old_hive new new_hive =
+    (reply : List ℕ) × way (stand_of old old_hive) reply (stand_of new new_hive) × (string_bytes new.output.text ≡ string_bytes old.output.text ++ reply)
 
 -- these were the last bytes, and the replies of all lines were gathered or sent
 pub record Ends (old : Place) (bytes : List ℕ) (new : Place) : Type 0 where

@@ -124,7 +124,7 @@ impl Script {
 
     /// Answers the line that has ended.
     fn end_line(&mut self, hive: &mut Hive) -> Result<(), ScriptFault>
-        ensures said { OnOk result (Adds (λ reply. IsSaid (meaning_of self.old.line.items) (stand_of self.old (view_of hive.old)) reply (stand_of self.new (view_of hive.new))) (string_bytes self.old.output.text) (string_bytes self.new.output.text)) }
+        ensures said { OnOk result (Adds (IsSaid (meaning_of self.old.line.items)) self.old (view_of hive.old) self.new (view_of hive.new)) }
         ensures ended { OnOk result (self.new.line.items ≡ []) }
     {
         let line = parse(self.alloc, self.line.as_slice())?;
@@ -134,8 +134,9 @@ impl Script {
         Ok(())
     }
 
+    /// Does what a line says, and gathers its reply.
     fn answer(&mut self, hive: &mut Hive, line: Line) -> Result<(), AllocError>
-        ensures said { OnOk result (Adds (λ reply. IsSaid (said line) (stand_of self.old (view_of hive.old)) reply (stand_of self.new (view_of hive.new))) (string_bytes self.old.output.text) (string_bytes self.new.output.text)) }
+        ensures said { OnOk result (Adds (IsSaid (said line)) self.old (view_of hive.old) self.new (view_of hive.new)) }
         ensures begun { self.new.line ≡ self.old.line }
     {
         match line {
@@ -186,7 +187,7 @@ impl Script {
 
     /// Answers a last line that lacks its LF.
     fn end(&mut self, hive: &mut Hive) -> Result<(), ScriptFault>
-        ensures { OnOk result (HasNoFeed self.old.line.items → Adds (λ replies. AreSaid (lines_of self.old.line.items) (stand_of self.old (view_of hive.old)) replies (stand_of self.new (view_of hive.new))) (string_bytes self.old.output.text) (string_bytes self.new.output.text)) }
+        ensures { OnOk result (HasNoFeed self.old.line.items → Adds (AreSaid (lines_of self.old.line.items)) self.old (view_of hive.old) self.new (view_of hive.new)) }
     {
         if self.line.is_empty() {
             return Ok(());
@@ -223,7 +224,8 @@ impl Script {
     }
 }
 
-/// Runs a script of registry calls on a hive and writes the replies, each on a line of its own.
+/// Runs a script of registry calls on a hive and writes the replies, each on a line of its own. Where it succeeds, what
+/// was written is what the rules give for all that was read.
 pub fn run<R: Read, W: Write>(
     alloc: Global,
     reader: &mut R,
