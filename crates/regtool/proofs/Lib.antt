@@ -5,4 +5,5 @@ pub mod Spaces
 pub mod Readings
 pub mod Meanings
 pub mod Progress
+pub mod OneText
 mod RowsOfLines

@@ -5,3 +5,4 @@ pub mod Lines
 pub mod Outputs
 pub mod Readings
 pub mod Progress
+pub mod Ample

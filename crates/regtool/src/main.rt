@@ -2,6 +2,7 @@
 #![tactic(auto)]
 
 mod engine;
+pub mod laws;
 mod line;
 mod output;
 mod parse;
