@@ -1,1 +1,9 @@
 pub mod Appending
+pub mod Numbers
+pub mod Names
+pub mod Spaces
+pub mod Readings
+pub mod Meanings
+pub mod Progress
+pub mod OneText
+mod RowsOfLines

@@ -1,14 +1,20 @@
 //! The script: one call a line, one reply a line.
 
-ghost use Rattle.std.specs.Prelude.{◌≡◌, ◌<◌, ◌≤◌, OnOk, length};
-ghost use Rattle.std.specs.Io.KnownBytes.{IsAtEnd};
+ghost use Rattle.std.specs.Prelude.{◌≡◌, ◌<◌, ◌≤◌, ℕ, List, ◌∷◌, [], IfOk, OnOk, length, string_bytes};
+ghost use Rattle.std.specs.Io.KnownBytes.{IsAtEnd, Appends, Consumes};
+ghost use Rattle.reg_calls.specs.Hives.{view_of};
+ghost use Rattle.regtool.specs.Words.{lines_of};
+ghost use Rattle.regtool.specs.Meanings.{asks, meaning_of};
+ghost use Rattle.regtool.specs.Readings.{said};
+ghost use Rattle.regtool.specs.Lines.{IsSaid, AreSaid, Lines};
+ghost use Rattle.regtool.specs.Progress.{HasNoFeed, Adds, Takes, Ends, place_of, stand_of};
 
 use crate::line::{Line, Session, Setting};
 use crate::output::Output;
 use crate::parse::parse;
 use crate::reply::{write_answered, write_changed};
 use reg_calls::Hive;
-use reg_model::Call;
+use reg_model::{Call, Change, Query};
 use std::alloc::{AllocError, Global};
 use std::io::{Read, Write};
 use thiserror::Error;
@@ -82,13 +88,16 @@ impl Script {
         hive: &mut Hive,
         writer: &mut W,
         byte: u8,
-    ) -> Result<(), ScriptFault> {
+    ) -> Result<(), ScriptFault>
+        ensures { OnOk result (HasNoFeed self.old.line.items → Takes (place_of self.old (view_of hive.old) (W.contents writer.old)) (byte ∷ []) (place_of self.new (view_of hive.new) (W.contents writer.new))) }
+    {
         if self.lines >= LINES_LIMIT {
             return Err(ScriptFault::TooLong);
         }
         if byte == b'\n' {
             self.end_line(hive)?;
-            return self.output.settle(writer);
+            self.output.settle(writer)?;
+            return Ok(());
         }
         if self.line.len() >= LINE_LIMIT {
             return Err(ScriptFault::TooLong);
@@ -104,7 +113,9 @@ impl Script {
         hive: &mut Hive,
         writer: &mut W,
         bytes: &[u8],
-    ) -> Result<(), ScriptFault> {
+    ) -> Result<(), ScriptFault>
+        ensures { OnOk result (HasNoFeed self.old.line.items → Takes (place_of self.old (view_of hive.old) (W.contents writer.old)) bytes.now (place_of self.new (view_of hive.new) (W.contents writer.new))) }
+    {
         for byte in bytes {
             self.take_byte(hive, writer, *byte)?;
         }
@@ -112,7 +123,10 @@ impl Script {
     }
 
     /// Answers the line that has ended.
-    fn end_line(&mut self, hive: &mut Hive) -> Result<(), ScriptFault> {
+    fn end_line(&mut self, hive: &mut Hive) -> Result<(), ScriptFault>
+        ensures said { OnOk result (Adds (IsSaid (meaning_of self.old.line.items)) self.old (view_of hive.old) self.new (view_of hive.new)) }
+        ensures ended { OnOk result (self.new.line.items ≡ []) }
+    {
         let line = parse(self.alloc, self.line.as_slice())?;
         self.line.clear();
         self.lines = self.lines.saturating_add(1);
@@ -120,7 +134,11 @@ impl Script {
         Ok(())
     }
 
-    fn answer(&mut self, hive: &mut Hive, line: Line) -> Result<(), AllocError> {
+    /// Does what a line says, and gathers its reply.
+    fn answer(&mut self, hive: &mut Hive, line: Line) -> Result<(), AllocError>
+        ensures said { OnOk result (Adds (IsSaid (said line)) self.old (view_of hive.old) self.new (view_of hive.new)) }
+        ensures begun { self.new.line ≡ self.old.line }
+    {
         match line {
             Line::Nothing | Line::Setting(Setting::Hive) => Ok(()),
             Line::Setting(Setting::At(moment)) => {
@@ -132,33 +150,50 @@ impl Script {
                 Ok(())
             }
             Line::Bad => self.output.text.push_str("bad\n"),
-            Line::Call(call) => self.call(hive, call),
+            Line::Call(call) => {
+                let reply = self.call(hive, call)?;
+                self.output.text.push_str(reply.as_str())
+            }
         }
     }
 
-    /// Answers a call. The reply is whole before it joins the output, so that want of memory leaves no part of it there.
-    fn call(&mut self, hive: &mut Hive, call: Call) -> Result<(), AllocError> {
-        let session = self.session.number;
-        let mut reply = String::new(self.alloc);
+    /// The reply to a call. It is whole before it joins the output, so that want of memory leaves no part of it there.
+    fn call(&self, hive: &mut Hive, call: Call) -> Result<String, AllocError>
+        ensures { IfOk result (λ reply. IsSaid (asks call) (stand_of self.now (view_of hive.old)) (string_bytes reply) (stand_of self.now (view_of hive.new))) }
+    {
         match call {
-            Call::Change(change) => {
-                let changed = hive.apply(session, self.moment, change);
-                write_changed(&mut reply, &changed)?;
-            }
-            Call::Query(query) => {
-                let answer = hive.read(session, &query);
-                write_answered(self.alloc, &mut reply, &answer)?;
-            }
+            Call::Change(change) => self.change(hive, change),
+            Call::Query(query) => self.query(hive, &query),
         }
-        self.output.text.push_str(reply.as_str())
+    }
+
+    fn change(&self, hive: &mut Hive, change: Change) -> Result<String, AllocError>
+        ensures { IfOk result (λ reply. IsSaid (asks (Call.Change change)) (stand_of self.now (view_of hive.old)) (string_bytes reply) (stand_of self.now (view_of hive.new))) }
+    {
+        let mut reply = String::new(self.alloc);
+        let changed = hive.apply(self.session.number, self.moment, change);
+        write_changed(&mut reply, &changed)?;
+        Ok(reply)
+    }
+
+    fn query(&self, hive: &Hive, query: &Query) -> Result<String, AllocError>
+        ensures { IfOk result (λ reply. IsSaid (asks (Call.Query query.now)) (stand_of self.now (view_of hive.now)) (string_bytes reply) (stand_of self.now (view_of hive.now))) }
+    {
+        let mut reply = String::new(self.alloc);
+        let answer = hive.read(self.session.number, query);
+        write_answered(self.alloc, &mut reply, &answer)?;
+        Ok(reply)
     }
 
     /// Answers a last line that lacks its LF.
-    fn end(&mut self, hive: &mut Hive) -> Result<(), ScriptFault> {
+    fn end(&mut self, hive: &mut Hive) -> Result<(), ScriptFault>
+        ensures { OnOk result (HasNoFeed self.old.line.items → Adds (AreSaid (lines_of self.old.line.items)) self.old (view_of hive.old) self.new (view_of hive.new)) }
+    {
         if self.line.is_empty() {
             return Ok(());
         }
-        self.end_line(hive)
+        self.end_line(hive)?;
+        Ok(())
     }
 
     /// Reads to the end. Each read gives a byte at least, so more reads than the limits' bytes are too many.
@@ -170,14 +205,18 @@ impl Script {
         chunk: &mut [u8],
     ) -> Result<(), ScriptFault>
         requires { 0 < length chunk.old }
-        ensures { OnOk result (IsAtEnd (R.remaining reader.new)) }
+        ensures at_end { OnOk result (IsAtEnd (R.remaining reader.new)) }
+        ensures lines { OnOk result (HasNoFeed self.old.line.items →
+            (script : List ℕ) × Consumes (R.remaining reader.old) (R.remaining reader.new) script
+            × Ends (place_of self.old (view_of hive.old) (W.contents writer.old)) script (place_of self.new (view_of hive.new) (W.contents writer.new))) }
     {
         for _ in 0..READS_LIMIT {
             let Ok(count) = reader.read(chunk) else {
                 return Err(ScriptFault::Read);
             };
             if count == 0 {
-                return self.end(hive);
+                self.end(hive)?;
+                return Ok(());
             }
             self.take_bytes(hive, writer, &chunk[..count])?;
         }
@@ -185,14 +224,17 @@ impl Script {
     }
 }
 
-/// Runs a script of registry calls on a hive and writes the replies, each on a line of its own.
+/// Runs a script of registry calls on a hive and writes the replies, each on a line of its own. Where it succeeds, what
+/// was written is what the rules give for all that was read.
 pub fn run<R: Read, W: Write>(
     alloc: Global,
     reader: &mut R,
     writer: &mut W,
     hive: &mut Hive,
 ) -> Result<(), ScriptFault>
-    ensures { OnOk result (IsAtEnd (R.remaining reader.new)) }
+    ensures at_end { OnOk result (IsAtEnd (R.remaining reader.new)) }
+    ensures lines { OnOk result ((script : List ℕ) × (text : List ℕ) × Consumes (R.remaining reader.old) (R.remaining reader.new) script
+        × Lines (view_of hive.old) script text (view_of hive.new) × Appends (W.contents writer.old) (W.contents writer.new) text) }
 {
     let Ok(mut chunk) = vec![in alloc; 0; CHUNK] else {
         return Err(ScriptFault::Memory);
@@ -210,5 +252,8 @@ pub fn run<R: Read, W: Write>(
         return ended;
     }
     script.output.finish(writer)?;
-    ended
+    match ended {
+        Ok(()) => Ok(()),
+        Err(fault) => Err(fault),
+    }
 }

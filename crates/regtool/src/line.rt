@@ -32,3 +32,14 @@ pub struct Session {
     pub number: u8,
     ghost in_range: { number < 64 },
 }
+
+/// The first word of a setting or a call.
+#[derive(Clone, Copy, Debug)]
+pub enum Verb {
+    At,
+    As,
+    Hive,
+    Root,
+    Set,
+    Query,
+}

@@ -2,6 +2,7 @@
 #![tactic(auto)]
 
 mod engine;
+pub mod laws;
 mod line;
 mod output;
 mod parse;
@@ -9,6 +10,7 @@ mod reply;
 #[cfg(test)]
 mod tests;
 mod tool;
+mod words;
 
 use std::process::ExitCode;
 use std::{env, io};

@@ -1,5 +1,6 @@
-ghost use Rattle.std.specs.Prelude.{◌≡◌, ◌≤◌, length, take};
+ghost use Rattle.std.specs.Prelude.{◌≡◌, ◌<◌, ◌≤◌, [], length, take, string_bytes, OnOk, IfErr};
 ghost use Rattle.std.specs.Io.KnownBytes.{Appends};
+ghost use Rattle.regtool.specs.Outputs.{counted, IsSettled, IsCut};
 
 use crate::engine::ScriptFault;
 use std::alloc::Global;
@@ -31,7 +32,10 @@ fn write_counted<W: Write>(writer: &mut W, bytes: &[u8]) -> usize
 }
 
 impl Output {
-    pub fn new(alloc: Global) -> Output {
+    pub fn new(alloc: Global) -> Output
+        ensures text { string_bytes result.text ≡ [] }
+        ensures written { result.written ≡ 0 }
+    {
         Output {
             text: String::new(alloc),
             written: 0,
@@ -39,7 +43,11 @@ impl Output {
     }
 
     /// Writes what was gathered, once it is enough.
-    pub fn settle<W: Write>(&mut self, writer: &mut W) -> Result<(), ScriptFault> {
+    pub fn settle<W: Write>(&mut self, writer: &mut W) -> Result<(), ScriptFault>
+        ensures few { OnOk result (length (string_bytes self.new.text) < 65536) }
+        ensures sent { OnOk result (IsSettled (W.contents writer.old) (W.contents writer.new) (string_bytes self.old.text) (string_bytes self.new.text)) }
+        ensures err { IfErr result (λ e. IsCut (W.contents writer.old) (W.contents writer.new) (string_bytes self.old.text) self.old.written e) }
+    {
         if self.text.len() < ENOUGH {
             return Ok(());
         }
@@ -47,7 +55,12 @@ impl Output {
     }
 
     /// Writes all that was gathered. A write that fails, or takes no byte, is a fault.
-    pub fn flush<W: Write>(&mut self, writer: &mut W) -> Result<(), ScriptFault> {
+    pub fn flush<W: Write>(&mut self, writer: &mut W) -> Result<(), ScriptFault>
+        ensures sent { OnOk result (Appends (W.contents writer.old) (W.contents writer.new) (string_bytes self.old.text)) }
+        ensures empty { OnOk result (string_bytes self.new.text ≡ []) }
+        ensures written { OnOk result (self.new.written ≡ counted self.old.written (length (string_bytes self.old.text))) }
+        ensures err { IfErr result (λ e. IsCut (W.contents writer.old) (W.contents writer.new) (string_bytes self.old.text) self.old.written e) }
+    {
         let taken = write_counted(writer, self.text.as_bytes());
         self.written = self.written.saturating_add(taken as u64);
         if taken < self.text.len() {
@@ -60,7 +73,11 @@ impl Output {
     }
 
     /// Writes all that was gathered and has the writer pass it on.
-    pub fn finish<W: Write>(&mut self, writer: &mut W) -> Result<(), ScriptFault> {
+    pub fn finish<W: Write>(&mut self, writer: &mut W) -> Result<(), ScriptFault>
+        ensures sent { OnOk result (Appends (W.contents writer.old) (W.contents writer.new) (string_bytes self.old.text)) }
+        ensures empty { OnOk result (string_bytes self.new.text ≡ []) }
+        ensures err { IfErr result (λ e. IsCut (W.contents writer.old) (W.contents writer.new) (string_bytes self.old.text) self.old.written e) }
+    {
         self.flush(writer)?;
         match writer.flush() {
             Ok(()) => Ok(()),

@@ -1,33 +1,18 @@
-ghost use Rattle.std.specs.Prelude.{◌≡◌, ◌<◌, ◌≤◌, length, IfSome, IfOk};
+ghost use Rattle.std.specs.Prelude.{◌≡◌, ◌≢◌, ◌==◌, ◌∷◌, [], position, IfOk, MatchResult, option_copied};
+ghost use Rattle.regtool.specs.Words.{words_of, number_of, name_of, data_of};
+ghost use Rattle.regtool.specs.Meanings.{reading, first_of, small_number_of, room_of, verb_of, by_verb, meaning_of};
+ghost use Rattle.regtool.specs.Readings.{words_left, Reads, Means, said};
 
-use crate::line::{Line, Session, Setting};
-use hex::FromHexError;
+use crate::line::{Line, Session, Setting, Verb};
+use crate::words::{ParseFault, bytes, name, number, room, session, small_number, verb};
 use reg_model::{Bytes, Call, Change, Query};
-use std::alloc::{AllocError, AllocFailed, Global};
-
-/// Why a line isn't understood.
-#[derive(Drop)]
-enum ParseFault {
-    /// It has another form.
-    Form,
-    /// There is no memory for its bytes.
-    Memory,
-}
-
-impl<T: Drop> From<AllocFailed<T>> for ParseFault {
-    fn from(_fault: AllocFailed<T>) -> ParseFault {
-        ParseFault::Memory
-    }
-}
-
-impl From<AllocError> for ParseFault {
-    fn from(_fault: AllocError) -> ParseFault {
-        ParseFault::Memory
-    }
-}
+use std::alloc::{AllocError, Global};
+use std::marker::Model;
 
 /// Understands a line, without its LF.
-pub fn parse(alloc: Global, line: &[u8]) -> Result<Line, AllocError> {
+pub fn parse(alloc: Global, line: &[u8]) -> Result<Line, AllocError>
+    ensures { IfOk result (λ l. said l ≡ meaning_of line.now) }
+{
     if line.is_empty() || line[0] == b'#' {
         return Ok(Line::Nothing);
     }
@@ -38,23 +23,43 @@ pub fn parse(alloc: Global, line: &[u8]) -> Result<Line, AllocError> {
     }
 }
 
+fn first_space(line: &[u8]) -> Option<usize>
+    ensures { result ≡ position (λ b. b == 32) line.now }
+{
+    line.iter().position(|byte| *byte == b' ')
+}
+
 /// The line up to its first space, and what follows the space, if there is one.
-fn split_word(line: &[u8]) -> (&[u8], Option<&[u8]>) {
-    match line.iter().position(|byte| *byte == b' ') {
+#[tactic(auto, using(crate::proofs::Spaces::words_first, crate::proofs::Spaces::words_one))]
+fn split_word(line: &[u8]) -> (&[u8], Option<&[u8]>)
+    ensures { words_of line.now ≡ result.0.now ∷ words_left (option_copied result.1) }
+{
+    match first_space(line) {
         Some(place) => (&line[..place], Some(&line[place + 1..])),
         None => (line, None),
     }
 }
 
-/// The words of a line, parted by one space each.
+/// The words of a line, parted by one space each, that aren't read yet.
 #[derive(Drop)]
 struct Words<'a> {
     rest: Option<&'a [u8]>,
 }
 
+impl<'a> Model for Words<'a> {
+    ghost use Rattle.std.specs.Prelude.{List, ℕ, option_copied};
+    ghost use Rattle.regtool.specs.Readings.{words_left};
+
+    ghost Value = { List (List ℕ) };
+
+    ghost view = { λ w. words_left (option_copied w.rest) };
+}
+
 impl<'a> Words<'a> {
     /// The next word; a line without one has another form.
-    fn next(&mut self) -> Result<&'a [u8], ParseFault> {
+    fn next(&mut self) -> Result<&'a [u8], ParseFault>
+        ensures { MatchResult result (λ word. self.old ≡ word.now ∷ self.new) (λ e. (e ≡ ParseFault.Form) × (self.old ≡ [])) }
+    {
         let Some(rest) = self.rest else {
             return Err(ParseFault::Form);
         };
@@ -63,7 +68,138 @@ impl<'a> Words<'a> {
         Ok(word)
     }
 
-    fn end(&self) -> Result<(), ParseFault> {
+    #[tactic(auto, using(crate::proofs::Readings::readings))]
+    fn verb(&mut self) -> Result<Verb, ParseFault>
+        ensures { Reads verb_of self.old result self.new }
+    {
+        verb(self.next()?)
+    }
+
+    #[tactic(auto, using(crate::proofs::Readings::readings))]
+    fn number(&mut self, limit: u64) -> Result<u64, ParseFault>
+        ensures { Reads (number_of limit) self.old result self.new }
+    {
+        number(self.next()?, limit)
+    }
+
+    #[tactic(auto, using(crate::proofs::Readings::readings))]
+    fn session(&mut self) -> Result<Session, ParseFault>
+        ensures { MatchResult result (λ s. first_of (number_of 63) self.old ≡ Some (s.number, self.new)) (λ e. e ≡ ParseFault.Form → first_of (number_of 63) self.old ≡ None) }
+    {
+        session(self.next()?)
+    }
+
+    #[tactic(auto, using(crate::proofs::Readings::readings))]
+    fn small_number(&mut self) -> Result<u32, ParseFault>
+        ensures { Reads small_number_of self.old result self.new }
+    {
+        small_number(self.next()?)
+    }
+
+    #[tactic(auto, using(crate::proofs::Readings::readings))]
+    fn name(&mut self, alloc: Global) -> Result<Bytes, ParseFault>
+        ensures { Reads name_of self.old result self.new }
+    {
+        name(alloc, self.next()?)
+    }
+
+    #[tactic(auto, using(crate::proofs::Readings::readings))]
+    fn bytes(&mut self, alloc: Global) -> Result<Bytes, ParseFault>
+        ensures { Reads data_of self.old result self.new }
+    {
+        bytes(alloc, self.next()?)
+    }
+
+    #[tactic(auto, using(crate::proofs::Readings::readings))]
+    fn room(&mut self) -> Result<Option<u32>, ParseFault>
+        ensures { Reads room_of self.old result self.new }
+    {
+        room(self.next()?)
+    }
+
+    /// What the rest of a line with this first word means.
+    fn rest(&mut self, alloc: Global, verb: Verb) -> Result<Line, ParseFault>
+        ensures { Means (by_verb verb) self.old result self.new }
+    {
+        match verb {
+            Verb::At => self.at(),
+            Verb::As => self.as_session(),
+            Verb::Hive => self.hive(),
+            Verb::Root => self.root(),
+            Verb::Set => self.set(alloc),
+            Verb::Query => self.query(alloc),
+        }
+    }
+
+    /// `at MOMENT`.
+    #[tactic(auto, unfolding(crate::specs::Meanings::by_verb))]
+    fn at(&mut self) -> Result<Line, ParseFault>
+        ensures { Means (by_verb Verb.At) self.old result self.new }
+    {
+        let moment = self.number(u64::MAX)?;
+        Ok(Line::Setting(Setting::At(moment)))
+    }
+
+    /// `as SESSION`.
+    #[tactic(auto, unfolding(crate::specs::Meanings::by_verb))]
+    fn as_session(&mut self) -> Result<Line, ParseFault>
+        ensures { Means (by_verb Verb.As) self.old result self.new }
+    {
+        let session = self.session()?;
+        Ok(Line::Setting(Setting::As(session)))
+    }
+
+    /// `hive N`, where N is 0.
+    #[tactic(auto, unfolding(crate::specs::Meanings::by_verb))]
+    fn hive(&mut self) -> Result<Line, ParseFault>
+        ensures { Means (by_verb Verb.Hive) self.old result self.new }
+    {
+        let _only = self.number(0)?;
+        Ok(Line::Setting(Setting::Hive))
+    }
+
+    /// `root MASK`.
+    #[tactic(auto, unfolding(crate::specs::Meanings::by_verb))]
+    fn root(&mut self) -> Result<Line, ParseFault>
+        ensures { Means (by_verb Verb.Root) self.old result self.new }
+    {
+        let mask = self.small_number()?;
+        Ok(Line::Call(Call::Change(Change::OpenRoot { mask })))
+    }
+
+    /// `set H NAME KIND DATA`.
+    #[tactic(auto, unfolding(crate::specs::Meanings::by_verb))]
+    fn set(&mut self, alloc: Global) -> Result<Line, ParseFault>
+        ensures { Means (by_verb Verb.Set) self.old result self.new }
+    {
+        let handle = self.number(u64::MAX)?;
+        let name = self.name(alloc)?;
+        let kind = self.small_number()?;
+        let bytes = self.bytes(alloc)?;
+        Ok(Line::Call(Call::Change(Change::SetValue {
+            handle,
+            name,
+            kind,
+            bytes,
+        })))
+    }
+
+    /// `query H NAME ROOM`, with `-` for no room.
+    #[tactic(auto, unfolding(crate::specs::Meanings::by_verb))]
+    fn query(&mut self, alloc: Global) -> Result<Line, ParseFault>
+        ensures { Means (by_verb Verb.Query) self.old result self.new }
+    {
+        let handle = self.number(u64::MAX)?;
+        let name = self.name(alloc)?;
+        let room = self.room()?;
+        Ok(Line::Call(Call::Query(Query::QueryValue { handle, name, room })))
+    }
+
+    /// No word may be left.
+    #[tactic(auto, using(crate::proofs::Spaces::words_some))]
+    fn end(&self) -> Result<(), ParseFault>
+        ensures { MatchResult result (λ _. self.now ≡ []) (λ e. (e ≡ ParseFault.Form) × (self.now ≢ [])) }
+    {
         match self.rest {
             Some(_) => Err(ParseFault::Form),
             None => Ok(()),
@@ -71,143 +207,15 @@ impl<'a> Words<'a> {
     }
 }
 
-fn parse_words(alloc: Global, line: &[u8]) -> Result<Line, ParseFault> {
+#[tactic(auto, using(crate::proofs::Readings::ends, crate::proofs::Readings::ends_not))]
+fn parse_words(alloc: Global, line: &[u8]) -> Result<Line, ParseFault>
+    ensures { MatchResult result
+        (λ l. reading verb_of by_verb (words_of line.now) ≡ Some (said l))
+        (λ e. e ≡ ParseFault.Form → reading verb_of by_verb (words_of line.now) ≡ None) }
+{
     let mut words = Words { rest: Some(line) };
-    let parsed = match words.next()? {
-        b"at" => Line::Setting(Setting::At(number(words.next()?, u64::MAX)?)),
-        b"as" => Line::Setting(Setting::As(session(words.next()?)?)),
-        b"hive" => {
-            let _only = number(words.next()?, 0)?;
-            Line::Setting(Setting::Hive)
-        }
-        b"root" => Line::Call(Call::Change(Change::OpenRoot {
-            mask: small_number(words.next()?)?,
-        })),
-        b"set" => Line::Call(Call::Change(set(alloc, &mut words)?)),
-        b"query" => Line::Call(Call::Query(query(alloc, &mut words)?)),
-        _ => return Err(ParseFault::Form),
-    };
+    let verb = words.verb()?;
+    let parsed = words.rest(alloc, verb)?;
     words.end()?;
     Ok(parsed)
-}
-
-/// `set H NAME KIND DATA`.
-fn set(alloc: Global, words: &mut Words<'_>) -> Result<Change, ParseFault> {
-    let handle = number(words.next()?, u64::MAX)?;
-    let name = name(alloc, words.next()?)?;
-    let kind = small_number(words.next()?)?;
-    let bytes = bytes(alloc, words.next()?)?;
-    Ok(Change::SetValue {
-        handle,
-        name,
-        kind,
-        bytes,
-    })
-}
-
-/// `query H NAME ROOM`, with `-` for no room.
-fn query(alloc: Global, words: &mut Words<'_>) -> Result<Query, ParseFault> {
-    let handle = number(words.next()?, u64::MAX)?;
-    let name = name(alloc, words.next()?)?;
-    let room = match words.next()? {
-        b"-" => None,
-        word => Some(small_number(word)?),
-    };
-    Ok(Query::QueryValue { handle, name, room })
-}
-
-/// A number below 64.
-fn session(word: &[u8]) -> Result<Session, ParseFault> {
-    let number = number(word, 63)? as u8;
-    Ok(Session { number })
-}
-
-/// Decimal digits, leading zeros allowed, of a number up to a limit.
-fn number(word: &[u8], limit: u64) -> Result<u64, ParseFault>
-    ensures { IfOk result (λ n. n ≤ limit) }
-{
-    if word.is_empty() {
-        return Err(ParseFault::Form);
-    }
-    let mut number: u64 = 0;
-    for byte in word {
-        if !byte.is_ascii_digit() {
-            return Err(ParseFault::Form);
-        }
-        let digit = u64::from(*byte - b'0');
-        let Some(tens) = number.checked_mul(10) else {
-            return Err(ParseFault::Form);
-        };
-        let Some(sum) = tens.checked_add(digit) else {
-            return Err(ParseFault::Form);
-        };
-        number = sum;
-    }
-    if number > limit {
-        return Err(ParseFault::Form);
-    }
-    Ok(number)
-}
-
-fn small_number(word: &[u8]) -> Result<u32, ParseFault> {
-    Ok(number(word, u64::from(u32::MAX))? as u32)
-}
-
-/// The value of a hexadecimal digit of either case.
-fn digit(byte: u8) -> Option<u8>
-    ensures { IfSome result (λ d. d < 16) }
-{
-    match byte {
-        b'0'..=b'9' => Some(byte - b'0'),
-        b'a'..=b'f' => Some(byte - b'a' + 10),
-        b'A'..=b'F' => Some(byte - b'A' + 10),
-        _ => None,
-    }
-}
-
-/// The byte that `%HH` at the start of some text stands for, and what follows.
-fn escaped(text: &[u8]) -> Option<(u8, &[u8])>
-    ensures { IfSome result (λ p. length p.1.now < length text.now) }
-{
-    match text {
-        [b'%', high, low, rest @ ..] => Some((digit(*high)? * 16 + digit(*low)?, rest)),
-        _ => None,
-    }
-}
-
-/// The next byte of an escaped text, and what follows: `%HH` stands for that byte, every other byte for itself.
-fn next_byte(text: &[u8]) -> Option<(u8, &[u8])>
-    ensures { IfSome result (λ p. length p.1.now < length text.now) }
-{
-    if let Some(found) = escaped(text) {
-        return Some(found);
-    }
-    let (first, rest) = text.split_first()?;
-    Some((*first, rest))
-}
-
-/// `=` and then an escaped text.
-fn name(alloc: Global, word: &[u8]) -> Result<Bytes, ParseFault> {
-    let Some((b'=', text)) = word.split_first() else {
-        return Err(ParseFault::Form);
-    };
-    let mut rest = text;
-    let mut name = Vec::new(alloc);
-    while let Some((byte, others)) = next_byte(rest) {
-        name.push(byte)?;
-        rest = others;
-    }
-    Ok(Bytes::from_vec(name))
-}
-
-/// `x` and then an even number of hexadecimal digits.
-fn bytes(alloc: Global, word: &[u8]) -> Result<Bytes, ParseFault> {
-    let Some((b'x', digits)) = word.split_first() else {
-        return Err(ParseFault::Form);
-    };
-    match hex::decode(alloc, digits) {
-        Ok(bytes) => Ok(Bytes::from_vec(bytes)),
-        Err(FromHexError::OutOfMemory) => Err(ParseFault::Memory),
-        Err(_) => Err(ParseFault::Form),
-    }
 }

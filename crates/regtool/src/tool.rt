@@ -1,5 +1,6 @@
-ghost use Rattle.std.specs.Prelude.{◌≡◌, ◌≤◌, OnOk};
-ghost use Rattle.std.specs.Io.KnownBytes.{IsAtEnd};
+ghost use Rattle.std.specs.Prelude.{◌≡◌, ◌≤◌, ℕ, List, OnOk};
+ghost use Rattle.std.specs.Io.KnownBytes.{IsAtEnd, Appends, Consumes};
+ghost use Rattle.regtool.specs.Lines.{Writes};
 
 use crate::engine::{ScriptFault, run};
 use clap::error::ErrorKind;
@@ -56,7 +57,9 @@ fn attempt<R: Read, W: Write>(
     input: &mut R,
     output: &mut W,
 ) -> Result<(), Failure>
-    ensures { OnOk result (IsAtEnd (R.remaining input.new)) }
+    ensures at_end { OnOk result (IsAtEnd (R.remaining input.new)) }
+    ensures lines { OnOk result ((script : List ℕ) × (text : List ℕ) × Consumes (R.remaining input.old) (R.remaining input.new) script
+        × Writes script text × Appends (W.contents output.old) (W.contents output.new) text) }
 {
     if let Err(error) = check_words(alloc, words) {
         return Err(usage(alloc, &error));
@@ -72,7 +75,7 @@ fn attempt<R: Read, W: Write>(
 
 /// Runs the tool on a command line, whose first word is the program's name, and answers the exit status: 0; 1 after a
 /// script's fault (`error script N` on `errors`) or for want of memory (`error 8`); 2 for a command line that isn't
-/// understood or a request for help (the text on `errors`). It is 0 only where the input was read to its end. A failed write to `errors` changes nothing.
+/// understood or a request for help (the text on `errors`). It is 0 only where the input was read to its end and the script's replies were written. A failed write to `errors` changes nothing.
 pub fn tool<R: Read, W: Write, E: Write>(
     alloc: Global,
     words: Vec<String>,
@@ -82,6 +85,8 @@ pub fn tool<R: Read, W: Write, E: Write>(
 ) -> u8
     ensures status { result ≤ 2 }
     ensures read { result ≡ 0 → IsAtEnd (R.remaining input.new) }
+    ensures lines { result ≡ 0 → (script : List ℕ) × (text : List ℕ) × Consumes (R.remaining input.old) (R.remaining input.new) script
+        × Writes script text × Appends (W.contents output.old) (W.contents output.new) text }
 {
     match attempt(alloc, words.as_slice(), input, output) {
         Ok(()) => 0,
