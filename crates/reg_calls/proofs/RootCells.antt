@@ -1,9 +1,8 @@
 -- The root's cells are apart, and all that are allocated.
-use Rattle.std.proofs.Common.{◌≡◌, ◌≢◌, ℕ, zero, suc, ◌+◌, ◌≤◌, Bool, true, false, cond, eqb, List, [], ◌∷◌, Option, Some, None, is_some, IsSome, refl, sym, ap, ◌∙◌, subst, arith}
+use Rattle.std.proofs.Common.{◌≡◌, ◌≢◌, ℕ, Bool, true, false, cond, eqb, List, [], ◌∷◌, Option, None, is_some, IsSome, refl, sym, ap, ◌∙◌, subst, arith}
 use Rattle.std.proofs.lemmas.Bool.{eqb-true, eqb-false}
 use Rattle.reg_heap.specs.Heaps.{Heap, allocated}
 use Rattle.reg_heap.specs.Kinds.{times}
-use Rattle.reg_records.specs.Keys.{KeyRecord, key_at}
 use Rattle.reg_records.proofs.Fewer.{same-number}
 use Rattle.reg_records.proofs.Wholes.{at-most-one, allocated-is}
 use Rattle.reg_calls.specs.Roots.{IsRoot, HasValue, value_cells, first_offset}

@@ -1,5 +1,5 @@
 -- The root's cells are a whole hive's.
-use Rattle.std.proofs.Common.{◌≡◌, ℕ, zero, suc, ◌+◌, ◌-◌, ◌*◌, ◌<◌, ◌≤◌, ◌⊎◌, inl, inr, min, Bool, true, false, cond, eqb, nat_le, Option, Some, None, List, [], ◌∷◌, ◌++◌, length, take, drop, refl, sym, ap, ◌∙◌, subst, arith, length-take, bit_and, not, is_some, ◌==◌}
+use Rattle.std.proofs.Common.{◌≡◌, ℕ, ◌+◌, ◌-◌, ◌≤◌, ◌⊎◌, inl, inr, Bool, true, false, cond, eqb, nat_le, Option, Some, None, List, [], ◌∷◌, length, take, refl, sym, ap, ◌∙◌, subst, arith, length-take, bit_and, not, is_some, ◌==◌}
 use Rattle.std.specs.List.{AllByRecursion}
 use Rattle.std.specs.Option.{option_map, option_and_then}
 use Rattle.std.specs.Result.{result_ok}
@@ -12,23 +12,23 @@ use Rattle.reg_heap.specs.Paths.{Path, Rec, Member, Tree}
 use Rattle.reg_heap.specs.Heaps.{Heap, allocated}
 use Rattle.reg_heap.specs.Kinds.{Kind, Found, times, owned, shared}
 use Rattle.reg_heap.specs.Kinds.Kind.{Key, ValueList, Value, Security}
-use Rattle.reg_heap.specs.Readings.{Reading, ◌>>=◌, give, given, cell, guard, each}
-use Rattle.reg_heap.specs.Forests.{Forest, Branch, total_of}
+use Rattle.reg_heap.specs.Readings.{◌>>=◌, give, given, cell, each}
+use Rattle.reg_heap.specs.Forests.{Branch, total_of}
 use Rattle.reg_heap.specs.Forests.Forest.{End}
 use Rattle.reg_heap.proofs.Opened.{bind-made, guard-made, given-made, cell-made}
-use Rattle.reg_arena.specs.Cells.{cells_of, cell_at}
+use Rattle.reg_arena.specs.Cells.{cell_at}
 use Rattle.reg_arena.proofs.Layouts.{has_cells}
 use Rattle.reg_records.specs.Cells.{held}
-use Rattle.reg_records.specs.Keys.{KeyRecord, key_at}
+use Rattle.reg_records.specs.Keys.{KeyRecord}
 use Rattle.reg_records.specs.Values.{KeyValueRecord, vk_of, value_record_at}
-use Rattle.reg_records.specs.Securities.{KeySecurityRecord, security_at}
+use Rattle.reg_records.specs.Securities.{KeySecurityRecord}
 use Rattle.reg_records.specs.Rows.{offset_in, offsets_at, row_in}
 use Rattle.reg_records.specs.Pieces.{if_any, segment_size, is_inline, inline_size}
 use Rattle.reg_records.specs.Nodes.{Node, Index, row_at, data_by, data_at, member_at, members_at, index_at, node_in, node_of, met_of, look, letters}
 use Rattle.reg_records.specs.Nodes as nodes
 use Rattle.reg_records.specs.Nodes.Index.{Unlisted}
-use Rattle.reg_records.specs.Written.{AreWrittenValues, IsWrittenValue, IsWrittenKey, IsWrittenSecurity, Fits}
-use Rattle.reg_records.specs.Whole.{IsRing, flink_at, blink_at, count_at, descriptor_at}
+use Rattle.reg_records.specs.Written.{AreWrittenValues, IsWrittenValue}
+use Rattle.reg_records.specs.Whole.{IsRing, count_at}
 use Rattle.reg_records.specs.Shapes.{owns, shares, IsSeen, descriptor_in, tree_of, IsWholeShape}
 use Rattle.reg_records.proofs.Keys.{key_at-open}
 use Rattle.reg_records.proofs.Values.{value_record_at-open}
@@ -57,7 +57,7 @@ member-one : (h : Heap) (offset : ℕ) (content : List ℕ) (v : KeyValueRecord)
 member-one h offset content v e r i l =
     let bytes = take (inline_size v.fields.size) (little_bytes 4 v.fields.place) in
     let there : ◌≡◌ {A = Option (List ℕ × List Found)} (data_at v.fields h) (Some (bytes, [])) =
-        ap (λ b. data_by b (nat_le v.fields.size segment_size) v.fields.size v.fields.place h) i ∙ guard-made (nat_le (inline_size v.fields.size) 4) (give bytes) h (bytes, []) l refl in
+    ap (λ b. data_by b (nat_le v.fields.size segment_size) v.fields.size v.fields.place h) i ∙ guard-made (nat_le (inline_size v.fields.size) 4) (give bytes) h (bytes, []) l refl in
     bind-made (cell Value offset) (λ content. given (result_ok (vk_of content)) >>= (λ value. data_at value.fields >>= (λ bytes. give (nodes.member_of value bytes)))) h content (record { kind = Value; offset = offset } ∷ []) (told v, []) (cell-made Value offset h content e)
     (bind-made (given (result_ok (vk_of content))) (λ value. data_at value.fields >>= (λ bytes. give (nodes.member_of value bytes))) h v [] (told v, []) (given-made (result_ok (vk_of content)) v h r)
     (bind-made (data_at v.fields) (λ bytes. give (nodes.member_of v bytes)) h bytes [] (told v, []) there refl))
@@ -97,11 +97,11 @@ members-one h key has = by (h key.fields.values_list) refl
         none-there e = false≢true e
     by (Some content) e = record {
       read = ap (λ n. members_at n key.fields.values_list h) has.count
-        ∙ bind-made (row_at ValueList 1 key.fields.values_list) (λ row. each member_at row) h (word content 0 ∷ []) (record { kind = ValueList; offset = key.fields.values_list } ∷ [])
+          ∙ bind-made (row_at ValueList 1 key.fields.values_list) (λ row. each member_at row) h (word content 0 ∷ []) (record { kind = ValueList; offset = key.fields.values_list } ∷ [])
           (told has.value ∷ [], record { kind = Value; offset = first_offset h key.fields.values_list } ∷ [])
           (row-one h key.fields.values_list content e (long content e))
           (bind-made (member_at (word content 0)) (λ m. each member_at [] >>= (λ ms. give (m ∷ ms))) h (told has.value) (record { kind = Value; offset = first_offset h key.fields.values_list } ∷ []) (told has.value ∷ [], [])
-            (ap (λ o. member_at o h) (sym (first content e)) ∙ one) refl);
+          (ap (λ o. member_at o h) (sym (first content e)) ∙ one) refl);
     }
 
 -- ---- the root as it is read

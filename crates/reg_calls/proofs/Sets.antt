@@ -114,9 +114,9 @@ replaced h k m root cell r value moment size place total valued few sized same_s
     let plain_now : IsPlainValue (held m cell) = subst IsPlainValue (sym (same-held k m cell cell_now)) (plains (subst (λ c. IsPlainValue (held h c)) (sym valued.at) has.plain)) in
     let key = noted moment size r.key in
     let cells : (z : ℕ) → allocated m z ≡ allocated h z = kept-allocated h m root cell
-        (held-some m root (key-exists m root (is_some_of _ _ key_now)) ∙ sym (held-some h root (key-exists h root (is_some_of _ _ r.key_is))))
-        (held-some m cell (value-exists m cell (is_some_of _ _ value_there)) ∙ sym (held-some h cell (value-exists h cell (is_some_of _ _ was))))
-        (λ o n c. notes.others o n ∙ others o c) in
+    (held-some m root (key-exists m root (is_some_of _ _ key_now)) ∙ sym (held-some h root (key-exists h root (is_some_of _ _ r.key_is))))
+    (held-some m cell (value-exists m cell (is_some_of _ _ value_there)) ∙ sym (held-some h cell (value-exists h cell (is_some_of _ _ was))))
+    (λ o n c. notes.others o n ∙ others o c) in
     record {
       root_is = record {
         key = key;
@@ -177,9 +177,9 @@ added h i j k m root cell list r value moment size none few same_size padded cel
     let room_now = same-room j m list 4 (after list list_root) fills.room in
     let f = r.fields in
     let cells : (z : ℕ) → times z (root ∷ at ∷ list ∷ cell ∷ []) ≡ allocated m z = two-came h m root at list cell (λ e. apart (sym e))
-        (held-none h list list_new) (held-none h cell cell_new) (held-some m list room_now.exists) (held-some m cell (value-exists m cell (is_some_of _ _ value_there)))
-        (λ o l c. elsewhere h m root o (held-some m root (key-exists m root (is_some_of _ _ key_now)) ∙ sym (held-some h root (key-exists h root (is_some_of _ _ r.key_is)))) (λ n. after o n ∙ (fills.others o c l ∙ carved o c l)))
-        (bare-exact h root r none) in
+    (held-none h list list_new) (held-none h cell cell_new) (held-some m list room_now.exists) (held-some m cell (value-exists m cell (is_some_of _ _ value_there)))
+    (λ o l c. elsewhere h m root o (held-some m root (key-exists m root (is_some_of _ _ key_now)) ∙ sym (held-some h root (key-exists h root (is_some_of _ _ r.key_is)))) (λ n. after o n ∙ (fills.others o c l ∙ carved o c l)))
+    (bare-exact h root r none) in
     record {
       root_is = record {
         key = key;
@@ -281,9 +281,9 @@ made e b i k root security node_size ring_size n m fields ring name descriptor m
         values = inl refl;
         bare = λ _. refl;
         exact = two-alone (cell_at k.bytes) root security carved.apart
-          (held-some (cell_at k.bytes) root (is_some_of _ _ nk_written.here))
-          (held-some (cell_at k.bytes) security (is_some_of _ _ (at_now ∙ sk_written.here)))
-          (λ o r s. held-none (cell_at k.bytes) o (nk_written.others o r ∙ (sk_written.others o s ∙ (carved.others o r s ∙ no-cells e.bytes none o))));
+            (held-some (cell_at k.bytes) root (is_some_of _ _ nk_written.here))
+            (held-some (cell_at k.bytes) security (is_some_of _ _ (at_now ∙ sk_written.here)))
+            (λ o r s. held-none (cell_at k.bytes) o (nk_written.others o r ∙ (sk_written.others o s ∙ (carved.others o r s ∙ no-cells e.bytes none o))));
       };
       tree = spelt-bare (cell_at k.bytes) root key (record { fields = ring; descriptor = descriptor }) key_now security_now refl;
     }

@@ -1,6 +1,6 @@
 -- The kinds of records, and how often cells are met as them (Suhanov, Windows registry file format specification, section
 -- "Cell": the types of a cell's data).
-use Rattle.std.specs.Prelude.{ℕ, ◌+◌, ◌==◌, ◌&&◌, not, Bool, true, false, cond, List, [], ◌∷◌}
+use Rattle.std.specs.Prelude.{ℕ, ◌+◌, ◌==◌, Bool, true, false, cond, List, [], ◌∷◌}
 
 -- a key node; its class; an `ri`, which lists lists; an `li`, `lf` or `lh`, which lists keys; the list of a key's values; a
 -- value; its data in one cell; or a `db` record, its list of segments, and a segment; and a key security

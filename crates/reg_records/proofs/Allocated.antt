@@ -1,6 +1,5 @@
 -- Cells that are walked are allocated cells, and these are at most all cells.
-use Rattle.std.proofs.Common.{◌≡◌, ℕ, zero, suc, ◌+◌, ◌<◌, ◌≤◌, Bool, true, false, cond, eqb, is_some, IsSome, Option, Some, None, List, [], ◌∷◌, ◌++◌, map, length, refl, sym, ap, ◌∙◌, subst, arith}
-use Rattle.std.specs.Prelude.{Contains}
+use Rattle.std.proofs.Common.{◌≡◌, ℕ, zero, suc, ◌<◌, ◌≤◌, Bool, true, false, cond, eqb, is_some, IsSome, Option, Some, None, List, [], ◌∷◌, ◌++◌, map, length, refl, sym, ap, subst, arith}
 use Rattle.std.specs.List.{AllByRecursion}
 use Rattle.std.proofs.lemmas.Option.{same_Some}
 use Rattle.std.proofs.lemmas.Bool.{false≢true}
@@ -8,12 +7,12 @@ use Rattle.reg_heap.specs.Heaps.{Heap, allocated}
 use Rattle.reg_heap.specs.Kinds.{Found, times}
 use Rattle.reg_arena.specs.declared.Cell.{Cell}
 use Rattle.reg_arena.specs.Cells.{cells_of, cell_at}
-use Rattle.reg_arena.proofs.Layouts.{StandsAmong, among, holder-is}
+use Rattle.reg_arena.proofs.Layouts.{among, holder-is}
 use Rattle.reg_arena.proofs.Writes.{all-append}
 use Rattle.reg_records.specs.Pieces.{Named}
 use Rattle.reg_records.specs.Walk.{gather, walk}
 use Rattle.reg_records.specs.Whole.{IsAllocatedIn, Whole}
-use Rattle.reg_records.proofs.Walks.{gather-open, IsMet, walk-open, walk-none}
+use Rattle.reg_records.proofs.Walks.{gather-open, walk-open, walk-none}
 use Rattle.reg_records.proofs.Fewer.{same-number}
 use Rattle.reg_records.proofs.Wholes.{AreAtMost, whole-from-shape, spelt-from-shape}
 use Rattle.reg_heap.specs.Forests.{Branch}

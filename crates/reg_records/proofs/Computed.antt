@@ -1,9 +1,8 @@
 -- The definitions at the bytes of hives that were worked out by hand: a fresh hive, and the same after its first value.
-use Rattle.std.proofs.Common.{◌≡◌, ◌≢◌, ℕ, ◌+◌, List, [], ◌∷◌, ◌++◌, replicate, Option, Some, None, refl}
+use Rattle.std.proofs.Common.{◌≡◌, ℕ, List, [], ◌∷◌, ◌++◌, replicate, Some, refl}
 use Rattle.reg_heap.specs.Words.{half, word, long}
-use Rattle.reg_heap.specs.Heaps.{Heap}
-use Rattle.reg_heap.specs.Kinds.{Kind, Found}
-use Rattle.reg_heap.specs.Kinds.Kind.{Key, Class, SubList, Leaf, ValueList, Value, Data, BigHead, BigList, Segment, Security}
+use Rattle.reg_heap.specs.Kinds.{Found}
+use Rattle.reg_heap.specs.Kinds.Kind.{Key, ValueList, Value, Security}
 use Rattle.reg_arena.specs.Cells.{cells_of, cell_at}
 use Rattle.reg_arena.specs.NewCells.{used, unused}
 use Rattle.reg_records.specs.Keys.{nk_of, key_at}
@@ -17,7 +16,6 @@ use Rattle.reg_records.specs.Nodes.Index.{Unlisted}
 use Rattle.reg_records.specs.Spelt.{keys_from, spelt}
 use Rattle.reg_records.specs.declared.nk.KeyFields.{KeyFields}
 use Rattle.std.specs.FinMap.{insert, empty}
-use Rattle.reg_heap.specs.Paths.{Rec}
 
 -- `hbin`, offset 0, size 4096 and 20 zeros
 abbrev pub header : List ℕ

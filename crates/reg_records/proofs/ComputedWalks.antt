@@ -1,18 +1,18 @@
 -- The walk and the tree spelt, at stores of cells that were worked out by hand.
-use Rattle.std.proofs.Common.{◌≡◌, ℕ, ◌+◌, ◌==◌, Bool, true, false, cond, List, [], ◌∷◌, ◌++◌, length, replicate, Option, Some, None, refl}
+use Rattle.std.proofs.Common.{◌≡◌, ℕ, ◌==◌, cond, List, [], ◌∷◌, ◌++◌, length, replicate, Some, None, refl}
 use Rattle.byteorder.specs.Endian.{little_bytes}
 use Rattle.reg_heap.specs.Words.{half, word, long}
-use Rattle.reg_heap.specs.Paths.{Path, Rec}
+use Rattle.reg_heap.specs.Paths.{Rec}
 use Rattle.reg_heap.specs.Heaps.{Heap}
 use Rattle.reg_heap.specs.Kinds.{Kind, Found}
-use Rattle.reg_heap.specs.Kinds.Kind.{Key, Class, SubList, Leaf, ValueList, Value, Data, BigHead, BigList, Segment, Security}
+use Rattle.reg_heap.specs.Kinds.Kind.{Key, Class, SubList, Leaf, Value, Data, BigHead, BigList, Segment, Security}
 use Rattle.reg_arena.specs.Cells.{cells_of, cell_at}
 use Rattle.reg_records.specs.Keys.{nk_of, key_at}
 use Rattle.reg_records.specs.Values.{vk_of}
 use Rattle.reg_records.specs.Securities.{sk_of, security_at}
 use Rattle.reg_records.specs.Rows.{row_in, offsets_at}
 use Rattle.reg_records.specs.Lists.{list_of}
-use Rattle.reg_records.specs.Pieces.{Named, named, plainly, segment_size, segments_for, db_of}
+use Rattle.reg_records.specs.Pieces.{plainly, segment_size, db_of}
 use Rattle.reg_records.specs.Walk.{walk}
 use Rattle.reg_records.specs.Nodes.{look}
 use Rattle.reg_records.specs.Spelt.{keys_from}
@@ -44,23 +44,23 @@ value size place = (118 ∷ 107 ∷ 0 ∷ 0 ∷ []) ++ (little_bytes 4 size ++ (
 
 abbrev rooted : Heap
 rooted = store
-  ( (32, key 2 100 0 4294967295 0 4294967295 (82 ∷ []))
-  ∷ (100, (114 ∷ 105 ∷ 2 ∷ 0 ∷ []) ++ (little_bytes 4 200 ++ little_bytes 4 220))
-  ∷ (200, (108 ∷ 105 ∷ 1 ∷ 0 ∷ []) ++ little_bytes 4 300)
-  ∷ (220, (108 ∷ 104 ∷ 1 ∷ 0 ∷ []) ++ (little_bytes 4 400 ++ little_bytes 4 66))
-  ∷ (300, key 1 600 0 4294967295 0 4294967295 (97 ∷ []))
-  ∷ (400, key 0 4294967295 0 4294967295 3 700 (66 ∷ []))
-  ∷ (500, security)
-  ∷ (600, (108 ∷ 102 ∷ 1 ∷ 0 ∷ []) ++ (little_bytes 4 640 ++ little_bytes 4 0))
-  ∷ (640, key 0 4294967295 0 4294967295 0 4294967295 (99 ∷ []))
-  ∷ (700, 1 ∷ 2 ∷ 3 ∷ 4 ∷ [])
-  ∷ [])
+    ((32, key 2 100 0 4294967295 0 4294967295 (82 ∷ []))
+    ∷ (100, (114 ∷ 105 ∷ 2 ∷ 0 ∷ []) ++ (little_bytes 4 200 ++ little_bytes 4 220))
+    ∷ (200, (108 ∷ 105 ∷ 1 ∷ 0 ∷ []) ++ little_bytes 4 300)
+    ∷ (220, (108 ∷ 104 ∷ 1 ∷ 0 ∷ []) ++ (little_bytes 4 400 ++ little_bytes 4 66))
+    ∷ (300, key 1 600 0 4294967295 0 4294967295 (97 ∷ []))
+    ∷ (400, key 0 4294967295 0 4294967295 3 700 (66 ∷ []))
+    ∷ (500, security)
+    ∷ (600, (108 ∷ 102 ∷ 1 ∷ 0 ∷ []) ++ (little_bytes 4 640 ++ little_bytes 4 0))
+    ∷ (640, key 0 4294967295 0 4294967295 0 4294967295 (99 ∷ []))
+    ∷ (700, 1 ∷ 2 ∷ 3 ∷ 4 ∷ [])
+    ∷ [])
 
 -- each list is met before its keys, and each key is walked to its end before the next
 rooted-walk : walk 10 rooted (plainly Key 32) ≡ Some
-  ( met Key 32 ∷ met Security 500 ∷ met SubList 100
-  ∷ met Leaf 200 ∷ met Key 300 ∷ met Security 500 ∷ met Leaf 600 ∷ met Key 640 ∷ met Security 500
-  ∷ met Leaf 220 ∷ met Key 400 ∷ met Class 700 ∷ met Security 500 ∷ [])
+    (met Key 32 ∷ met Security 500 ∷ met SubList 100
+    ∷ met Leaf 200 ∷ met Key 300 ∷ met Security 500 ∷ met Leaf 600 ∷ met Key 640 ∷ met Security 500
+    ∷ met Leaf 220 ∷ met Key 400 ∷ met Class 700 ∷ met Security 500 ∷ [])
 unfolding walk half word long nk_of sk_of list_of
 rooted-walk = refl
 
@@ -69,11 +69,11 @@ plain_rec name class = record { name = name; marks = 0; class = class; descripto
 
 -- names stay as given and are folded in paths; the class is its first three bytes
 rooted-keys : keys_from 10 rooted 32 ≡ Some
-  ( ((82 ∷ []) ∷ [], plain_rec (82 ∷ []) [])
-  ∷ ((82 ∷ []) ∷ (65 ∷ []) ∷ [], plain_rec (97 ∷ []) [])
-  ∷ ((82 ∷ []) ∷ (65 ∷ []) ∷ (67 ∷ []) ∷ [], plain_rec (99 ∷ []) [])
-  ∷ ((82 ∷ []) ∷ (66 ∷ []) ∷ [], plain_rec (66 ∷ []) (1 ∷ 2 ∷ 3 ∷ []))
-  ∷ [])
+    (((82 ∷ []) ∷ [], plain_rec (82 ∷ []) [])
+    ∷ ((82 ∷ []) ∷ (65 ∷ []) ∷ [], plain_rec (97 ∷ []) [])
+    ∷ ((82 ∷ []) ∷ (65 ∷ []) ∷ (67 ∷ []) ∷ [], plain_rec (99 ∷ []) [])
+    ∷ ((82 ∷ []) ∷ (66 ∷ []) ∷ [], plain_rec (66 ∷ []) (1 ∷ 2 ∷ 3 ∷ []))
+    ∷ [])
 unfolding keys_from look key_at security_at half word long nk_of sk_of list_of
 rooted-keys = refl
 
@@ -81,12 +81,12 @@ rooted-keys = refl
 
 abbrev far : ℕ → ℕ → Heap
 far size place = store
-  ( (32, value size place)
-  ∷ (100, replicate 16348 5)
-  ∷ (200, (100 ∷ 98 ∷ 2 ∷ 0 ∷ []) ++ little_bytes 4 300)
-  ∷ (300, little_bytes 4 400 ++ little_bytes 4 100)
-  ∷ (400, replicate 16348 6)
-  ∷ [])
+    ((32, value size place)
+    ∷ (100, replicate 16348 5)
+    ∷ (200, (100 ∷ 98 ∷ 2 ∷ 0 ∷ []) ++ little_bytes 4 300)
+    ∷ (300, little_bytes 4 400 ++ little_bytes 4 100)
+    ∷ (400, replicate 16348 6)
+    ∷ [])
 
 one_cell : walk 2 (far 16344 100) (plainly Value 32) ≡ Some (met Value 32 ∷ met Data 100 ∷ [])
 unfolding walk half word vk_of segment_size

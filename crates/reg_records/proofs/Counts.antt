@@ -1,9 +1,8 @@
 -- What is met, counted: all that the keys of a shape have, and no more.
-use Rattle.std.proofs.Common.{◌≡◌, ℕ, zero, suc, ◌+◌, ◌<◌, ◌≤◌, List, [], ◌∷◌, ◌++◌, map, flat_map, length, take, drop, refl, sym, ap, ◌∙◌, subst, arith, length-append, length-drop, ◌-◌}
+use Rattle.std.proofs.Common.{◌≡◌, ℕ, zero, suc, ◌+◌, List, [], ◌∷◌, ◌++◌, map, flat_map, length, take, drop, refl, ap, ◌∙◌, arith, length-append, length-drop}
 use Rattle.reg_heap.specs.Heaps.{Heap}
-use Rattle.reg_heap.specs.Kinds.{Kind, Found, tally}
-use Rattle.reg_heap.specs.Kinds.Kind.{SubList, Leaf}
-use Rattle.reg_heap.specs.Forests.{Forest, Branch, places, heads, total, total_of, Stand}
+use Rattle.reg_heap.specs.Kinds.{Found, tally}
+use Rattle.reg_heap.specs.Forests.{Forest, Branch, heads, total, total_of, Stand}
 use Rattle.reg_heap.specs.Forests.Forest.{End, Rooted as Hangs}
 use Rattle.reg_records.specs.Lists.{Entry, places_in}
 use Rattle.reg_records.specs.Nodes.{Node, KeyList, Index, entries_of}

@@ -1,6 +1,6 @@
 -- As much fuel as there are cells is enough for a walk that meets none of them twice.
-use Rattle.std.proofs.Common.{◌≡◌, ℕ, zero, suc, ◌+◌, ◌<◌, ◌≤◌, Bool, true, false, cond, Option, Some, None, List, [], ◌∷◌, ◌++◌, length, ◌==◌, refl, sym, ap, ◌∙◌, subst, arith}
-use Rattle.std.specs.Option.{option_map, option_and_then}
+use Rattle.std.proofs.Common.{◌≡◌, ℕ, zero, suc, ◌+◌, ◌≤◌, Bool, true, false, cond, Option, Some, None, List, [], ◌∷◌, ◌++◌, length, ◌==◌, refl, sym, ap, ◌∙◌, arith}
+use Rattle.std.specs.Option.{option_and_then}
 use Rattle.std.specs.Result.{result_ok}
 use Rattle.std.proofs.lemmas.Option.{none-some, same_Some}
 use Rattle.std.proofs.lemmas.Bool.{false≢true}
@@ -79,6 +79,6 @@ walk-enough (suc k) heap n found e =
           here = m.here;
           names_are = m.names_are;
           below_is = gather-within (walk k heap) (walk (load found) heap) (load m.below)
-            (λ x ys e l. walk-more (suc (load ys)) (load found) heap (omega arith) x ys (ih x ys e)) m.names m.below m.below_is (omega arith);
+              (λ x ys e l. walk-more (suc (load ys)) (load found) heap (omega arith) x ys (ih x ys e)) m.names m.below m.below_is (omega arith);
           all = m.all;
         })

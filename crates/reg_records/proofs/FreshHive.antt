@@ -1,21 +1,20 @@
 -- The fresh hive is whole: the definition can be met.
-use Rattle.std.proofs.Common.{◌≡◌, ◌≢◌, ℕ, ◌+◌, ◌<◌, ◌≤◌, ◌↔◌, ◌&&◌, Bool, true, false, cond, List, [], ◌∷◌, ◌++◌, Option, Some, None, refl, sym, ap, ◌∙◌, subst, arith, eqb, is_some, IsSome, length}
+use Rattle.std.proofs.Common.{◌≡◌, ℕ, ◌+◌, ◌<◌, ◌≤◌, ◌↔◌, ◌&&◌, Bool, true, false, cond, List, [], ◌∷◌, Some, None, refl, sym, ap, ◌∙◌, subst, arith, eqb, IsSome, length}
 use Rattle.std.proofs.lemmas.Bool.{false≢true}
-use Rattle.std.proofs.lemmas.Option.{none-some, same_Some}
+use Rattle.std.proofs.lemmas.Option.{same_Some}
 use Rattle.std.specs.List.{AllByRecursion}
 use Rattle.reg_heap.specs.Words.{half, word, long}
 use Rattle.reg_heap.specs.Paths.{Path, Rec}
-use Rattle.reg_heap.specs.Kinds.{Kind, Found, owned, shared, is_security}
-use Rattle.reg_heap.specs.Kinds.Kind.{Key, Security}
+use Rattle.reg_heap.specs.Kinds.{is_security}
 use Rattle.reg_arena.specs.Cells.{cells_of, cell_at, content_of}
 use Rattle.reg_records.specs.Keys.{nk_of, nk_bytes, key_at}
 use Rattle.reg_records.specs.Securities.{sk_of, sk_bytes, security_at}
 use Rattle.reg_records.specs.Rows.{offsets_at}
 use Rattle.reg_records.specs.Nodes.{look}
 use Rattle.reg_records.specs.Spelt.{keys_from}
-use Rattle.reg_records.specs.Written.{IsWrittenKey, IsWrittenSecurity, AreWrittenValues, Fits}
-use Rattle.reg_records.specs.Whole.{Meets, count_at, IsRing, IsWritten, IsWhole, Whole}
-use Rattle.reg_records.proofs.Computed.{fresh, fresh-cells, fresh-walk, fresh-look, fresh_found, fresh_node, fresh_fields, descriptor, root_name}
+use Rattle.reg_records.specs.Written.{AreWrittenValues}
+use Rattle.reg_records.specs.Whole.{Meets, count_at, IsRing, IsWritten, Whole}
+use Rattle.reg_records.proofs.Computed.{fresh, fresh-cells, fresh-walk, fresh_found, fresh_node, descriptor, root_name}
 
 -- an offset is met where its cell is allocated, by the tests of the cells' offsets
 one : (a b c : Bool) (x y z : List ℕ) → (0 < (cond a 1 0 + 0) + (0 + (cond b 1 0 + 0))) ↔ IsSome (cond (a && true) (Some x) (cond (b && true) (Some y) (cond (c && false) (Some z) None)))

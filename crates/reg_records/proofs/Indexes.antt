@@ -1,20 +1,19 @@
 -- A key's subkeys are walked list by list, and each key to its end before the next.
-use Rattle.std.proofs.Common.{◌≡◌, ℕ, zero, suc, ◌+◌, ◌<◌, ◌≤◌, Bool, true, false, cond, Option, Some, None, List, [], ◌∷◌, ◌++◌, map, flat_map, length, take, drop, refl, sym, ap, ◌∙◌, subst, arith, append_assoc}
+use Rattle.std.proofs.Common.{◌≡◌, ℕ, zero, suc, Bool, true, false, cond, Option, Some, None, List, [], ◌∷◌, ◌++◌, map, flat_map, length, take, drop, refl, sym, ap, ◌∙◌, subst}
 use Rattle.std.specs.Option.{option_map, option_and_then}
 use Rattle.std.proofs.lemmas.Option.{none-some, same_Some}
 use Rattle.std.proofs.lemmas.List.{append-nil}
 use Rattle.std.proofs.lemmas.Bool.{false≢true}
-use Rattle.reg_heap.specs.Words.{half}
 use Rattle.reg_heap.specs.Heaps.{Heap}
-use Rattle.reg_heap.specs.Kinds.{Kind, Found}
-use Rattle.reg_heap.specs.Kinds.Kind.{Key, Class, SubList, Leaf, ValueList, Value, Data, BigHead, BigList, Segment, Security}
+use Rattle.reg_heap.specs.Kinds.{Found}
+use Rattle.reg_heap.specs.Kinds.Kind.{Key, SubList, Leaf}
 use Rattle.reg_records.specs.Letters.{is_signed}
-use Rattle.reg_records.specs.Lists.{Form, Entry, SubkeysList, form_of, plain, hinted, list_as, list_of, places_in}
+use Rattle.reg_records.specs.Lists.{Form, Entry, SubkeysList, form_of, list_as, list_of, places_in}
 use Rattle.reg_records.specs.Lists.Form.{IndexRoot, IndexLeaf, FastLeaf, HashLeaf}
-use Rattle.reg_records.specs.Pieces.{Named, named, plainly, if_any}
+use Rattle.reg_records.specs.Pieces.{named, plainly, if_any}
 use Rattle.reg_records.specs.Walk.{names_of, leaves_named, keys_named, kind_met}
-use Rattle.reg_records.specs.Nodes.{KeyList, Index, key_list_as, list_at, key_list_at, key_lists_at, index_as, index_at, lists_of, entries_of}
-use Rattle.reg_records.specs.Nodes.Index.{Unlisted, Listed, Rooted}
+use Rattle.reg_records.specs.Nodes.{KeyList, Index, key_list_as, list_at, key_list_at, key_lists_at, index_as, index_at, entries_of}
+use Rattle.reg_records.specs.Nodes.Index.{Listed, Rooted}
 use Rattle.reg_records.specs.Shapes.{joined, lists_met, index_met}
 use Rattle.reg_records.proofs.Walks.{Walks, walks-none, walks-join, walks-met}
 

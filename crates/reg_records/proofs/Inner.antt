@@ -1,8 +1,8 @@
 -- What is met in reading a key's class and values is no key, no list of keys and no security.
-use Rattle.std.proofs.Common.{◌≡◌, ℕ, zero, suc, ◌+◌, ◌-◌, Bool, true, false, nat_le, Option, Some, None, List, [], ◌∷◌, ◌++◌, length, take, refl, sym, ap, ◌∙◌, subst}
+use Rattle.std.proofs.Common.{◌≡◌, ℕ, zero, suc, ◌-◌, Bool, true, false, nat_le, Option, Some, List, [], ◌∷◌, ◌++◌, length, take, refl, sym, ap, subst}
 use Rattle.std.specs.List.{AllByRecursion, concat}
 use Rattle.std.specs.Result.{result_ok}
-use Rattle.std.proofs.lemmas.Option.{none-some, same_Some}
+use Rattle.std.proofs.lemmas.Option.{same_Some}
 use Rattle.byteorder.specs.Endian.{little_bytes}
 use Rattle.reg_heap.specs.Paths.{Member}
 use Rattle.reg_heap.specs.Heaps.{Heap}
@@ -10,8 +10,7 @@ use Rattle.reg_heap.specs.Kinds.{Kind, Found}
 use Rattle.reg_heap.specs.Kinds.Kind.{Key, Class, SubList, Leaf, ValueList, Value, Data, BigHead, BigList, Segment, Security}
 use Rattle.reg_heap.specs.Readings.{Reading, ◌>>=◌, give, given, cell, guard, each}
 use Rattle.reg_heap.proofs.Opened.{bind-open, guard-open, given-open, cell-open, each-open}
-use Rattle.reg_records.specs.declared.vk.ValueFields.{ValueFields}
-use Rattle.reg_records.specs.Values.{KeyValueRecord, vk_of}
+use Rattle.reg_records.specs.Values.{vk_of}
 use Rattle.reg_records.specs.Rows.{row_in}
 use Rattle.reg_records.specs.Pieces.{Named, if_any, segment_size, is_inline, inline_size, BigData, segments_for, segments, db_of}
 use Rattle.reg_records.specs.Nodes.{bytes_at, pieces_at, row_at, big_in, big_at, data_by, data_at, member_of, member_at, members_at}
@@ -95,8 +94,8 @@ big-inner heap size offset y e =
     bound (cell BigHead offset) (λ content. given (db_of content) >>= (λ big. guard (nat_le (segments_for size) big.count) (big_in size big))) heap
     (λ content zs c. cells BigHead refl offset heap content zs c)
     (λ content y g. bound (given (db_of content)) (λ big. guard (nat_le (segments_for size) big.count) (big_in size big)) heap
-      (λ big zs c. givens (db_of content) heap (big, zs) c)
-      (λ big y g. list big y (guard-open (nat_le (segments_for size) big.count) (big_in size big) heap y g).1) y g) y e
+    (λ big zs c. givens (db_of content) heap (big, zs) c)
+    (λ big y g. list big y (guard-open (nat_le (segments_for size) big.count) (big_in size big) heap y g).1) y g) y e
   where
     list : (big : BigData) (y : List ℕ × List Found) → big_in size big heap ≡ Some y → AreInner y.1
     list big y e =
@@ -115,10 +114,10 @@ member-inner heap offset y e =
     bound (cell Value offset) (λ content. given (result_ok (vk_of content)) >>= (λ value. data_at value.fields >>= (λ bytes. give (member_of value bytes)))) heap
     (λ content zs c. cells Value refl offset heap content zs c)
     (λ content y g. bound (given (result_ok (vk_of content))) (λ value. data_at value.fields >>= (λ bytes. give (member_of value bytes))) heap
-      (λ value zs c. givens (result_ok (vk_of content)) heap (value, zs) c)
-      (λ value y g. bound (data_at value.fields) (λ bytes. give (member_of value bytes)) heap
-        (λ bytes zs c. data-inner heap (is_inline value.fields.size) (nat_le value.fields.size segment_size) value.fields.size value.fields.place (bytes, zs) c)
-        (λ bytes y g. gives (member_of value bytes) heap y g) y g) y g) y e
+    (λ value zs c. givens (result_ok (vk_of content)) heap (value, zs) c)
+    (λ value y g. bound (data_at value.fields) (λ bytes. give (member_of value bytes)) heap
+    (λ bytes zs c. data-inner heap (is_inline value.fields.size) (nat_le value.fields.size segment_size) value.fields.size value.fields.place (bytes, zs) c)
+    (λ bytes y g. gives (member_of value bytes) heap y g) y g) y g) y e
 
 all-of : {A : Type 0} (xs : List A) → AllByRecursion (λ (x : A). Unit {0}) xs
 all-of [] = tt

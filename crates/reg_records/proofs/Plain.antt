@@ -1,14 +1,14 @@
 -- What a record holds beside what is read of it stays through the writers of its fields.
-use Rattle.std.proofs.Common.{◌≡◌, ℕ, ◌+◌, ◌<◌, ◌≤◌, ◌⊎◌, inl, inr, List, [], ◌++◌, length, drop, Option, Some, IsSome, refl, sym, ap, ◌∙◌, subst, arith}
+use Rattle.std.proofs.Common.{◌≡◌, ℕ, ◌+◌, ◌≤◌, ◌⊎◌, inl, inr, List, [], ◌++◌, length, drop, Option, IsSome, refl, sym, ap, ◌∙◌, subst, arith}
 use Rattle.std.specs.Prelude.{unwrap_or}
-use Rattle.byteorder.specs.Endian.{little_bytes, little_number}
+use Rattle.byteorder.specs.Endian.{little_bytes}
 use Rattle.reg_heap.specs.Words.{half, word, splice}
 use Rattle.reg_arena.specs.Arena.{Bins}
 use Rattle.reg_arena.specs.Cells.{cell_at}
 use Rattle.reg_records.specs.declared.nk.KeyFields.{KeyFields}
 use Rattle.reg_records.specs.declared.vk.ValueFields.{ValueFields}
 use Rattle.reg_records.specs.declared.sk.SecurityFields.{SecurityFields}
-use Rattle.reg_records.specs.Cells.{Heap, held, HasRoom, WritesCell, WritesPart, WritesRecord}
+use Rattle.reg_records.specs.Cells.{held, WritesCell, WritesPart, WritesRecord}
 use Rattle.reg_records.specs.Keys.{key_at, nk_bytes, IsPlainKey}
 use Rattle.reg_records.specs.Values.{value_record_at, vk_bytes, IsPlainValue}
 use Rattle.reg_records.specs.Securities.{sk_bytes, IsPlainSecurity}

@@ -1,20 +1,17 @@
 -- What a reading meets is what the walk meets.
-use Rattle.std.proofs.Common.{◌≡◌, ℕ, zero, suc, ◌+◌, ◌-◌, ◌*◌, ◌<◌, ◌≤◌, Bool, true, false, not, take, nat_le, nat_lt, cond, Option, Some, None, List, [], ◌∷◌, ◌++◌, map, length, refl, sym, ap, ◌∙◌, subst, arith}
+use Rattle.std.proofs.Common.{◌≡◌, ℕ, zero, suc, ◌-◌, Bool, true, false, take, nat_le, cond, Some, None, List, [], ◌∷◌, ◌++◌, map, length, refl, sym, ap, ◌∙◌, subst}
 use Rattle.std.specs.List.{AllByRecursion, concat}
 use Rattle.std.specs.Option.{option_map, option_and_then}
 use Rattle.std.specs.Result.{result_ok}
 use Rattle.byteorder.specs.Endian.{little_bytes}
-use Rattle.std.proofs.lemmas.Option.{none-some, same_Some}
+use Rattle.std.proofs.lemmas.Option.{same_Some}
 use Rattle.std.proofs.lemmas.List.{append-nil}
-use Rattle.std.proofs.lemmas.Bool.{false≢true}
 use Rattle.reg_heap.specs.Paths.{Member}
 use Rattle.reg_heap.specs.Heaps.{Heap}
 use Rattle.reg_heap.specs.Kinds.{Kind, Found}
-use Rattle.reg_heap.specs.Kinds.Kind.{Key, Class, SubList, Leaf, ValueList, Value, Data, BigHead, BigList, Segment, Security}
+use Rattle.reg_heap.specs.Kinds.Kind.{Class, ValueList, Value, Data, BigHead, BigList, Segment}
 use Rattle.reg_heap.specs.Readings.{Reading, ◌>>=◌, give, given, cell, guard, each}
-use Rattle.reg_heap.proofs.Opened.{IsBound, bind-open, guard-open, given-open, cell-open, IsEach, each-open}
-use Rattle.reg_records.specs.declared.vk.ValueFields.{ValueFields}
-use Rattle.reg_records.specs.Keys.{KeyRecord}
+use Rattle.reg_heap.proofs.Opened.{bind-open, guard-open, given-open, cell-open, each-open}
 use Rattle.reg_records.specs.Values.{KeyValueRecord, vk_of}
 use Rattle.reg_records.specs.Rows.{row_in}
 use Rattle.reg_records.specs.Pieces.{Named, named, plainly, if_any, segment_size, is_inline, inline_size, BigData, segments_for, segments, db_of}
@@ -138,19 +135,19 @@ data-walks heap value y e = by (is_inline value.fields.size) refl (nat_le value.
         record {
           names = [];
           names_are = ap (λ b. cond b (cond (nat_le (inline_size value.fields.size) 4) (Some []) None) (cond (nat_le value.fields.size segment_size) (Some (if_any Data value.fields.size value.fields.place)) (Some (named BigHead value.fields.size value.fields.place ∷ [])))) i
-            ∙ ap (λ b. cond b (Some []) None) g.0;
+              ∙ ap (λ b. cond b (Some []) None) g.0;
           walks = subst (λ zs. Walks heap [] zs) (ap (λ (p : List ℕ × List Found). p.1) p) (walks-none heap);
         }
     by false i true s e = record {
       names = if_any Data value.fields.size value.fields.place;
       names_are = ap (λ b. cond b (cond (nat_le (inline_size value.fields.size) 4) (Some []) None) (cond (nat_le value.fields.size segment_size) (Some (if_any Data value.fields.size value.fields.place)) (Some (named BigHead value.fields.size value.fields.place ∷ [])))) i
-        ∙ ap (λ b. cond b (Some (if_any Data value.fields.size value.fields.place)) (Some (named BigHead value.fields.size value.fields.place ∷ []))) s;
+          ∙ ap (λ b. cond b (Some (if_any Data value.fields.size value.fields.place)) (Some (named BigHead value.fields.size value.fields.place ∷ []))) s;
       walks = pieces-walk heap (if_any Data value.fields.size value.fields.place) (if_any-bytes Data data-bytes value.fields.size value.fields.place) y e;
     }
     by false i false s e = record {
       names = named BigHead value.fields.size value.fields.place ∷ [];
       names_are = ap (λ b. cond b (cond (nat_le (inline_size value.fields.size) 4) (Some []) None) (cond (nat_le value.fields.size segment_size) (Some (if_any Data value.fields.size value.fields.place)) (Some (named BigHead value.fields.size value.fields.place ∷ [])))) i
-        ∙ ap (λ b. cond b (Some (if_any Data value.fields.size value.fields.place)) (Some (named BigHead value.fields.size value.fields.place ∷ []))) s;
+          ∙ ap (λ b. cond b (Some (if_any Data value.fields.size value.fields.place)) (Some (named BigHead value.fields.size value.fields.place ∷ []))) s;
       walks = big-head heap value.fields.size value.fields.place y e;
     }
 

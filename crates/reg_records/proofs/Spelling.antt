@@ -1,23 +1,22 @@
 -- A shape that stands in the cells spells what its cells spell.
-use Rattle.std.proofs.Common.{◌≡◌, ℕ, zero, suc, ◌+◌, ◌<◌, ◌≤◌, max, Option, Some, None, List, [], ◌∷◌, ◌++◌, map, length, refl, sym, ap, ◌∙◌, subst, arith, unwrap_or}
+use Rattle.std.proofs.Common.{◌≡◌, ℕ, zero, suc, ◌≤◌, max, Option, Some, List, [], ◌∷◌, map, length, refl, sym, ap, ◌∙◌, arith, unwrap_or}
 use Rattle.std.specs.List.{AllByRecursion}
 use Rattle.std.specs.Option.{option_map, option_and_then}
 use Rattle.std.proofs.lemmas.Option.{none-some, same_Some}
-use Rattle.std.proofs.lemmas.List.{append-nil}
 use Rattle.reg_arena.proofs.Writes.{all-append}
 use Rattle.reg_names.specs.Names.{folded}
 use Rattle.reg_heap.specs.Paths.{Path, Rec}
 use Rattle.reg_heap.specs.Heaps.{Heap}
-use Rattle.reg_heap.specs.Forests.{Forest, Branch, places, heads, Stand}
+use Rattle.reg_heap.specs.Forests.{Forest, Branch, places, Stand}
 use Rattle.reg_heap.specs.Forests.Forest.{End, Rooted as Hangs}
-use Rattle.reg_records.specs.Securities.{KeySecurityRecord, security_at}
+use Rattle.reg_records.specs.Securities.{KeySecurityRecord}
 use Rattle.reg_records.specs.Lists.{places_in}
 use Rattle.reg_records.specs.Nodes.{Node, entries_of, look}
 use Rattle.reg_records.specs.Walk.{gather}
 use Rattle.reg_records.specs.Spelt.{rec_of, rec_in, behind, keys_of, keys_from}
 use Rattle.reg_records.specs.Written.{Fits, IsWrittenSecurity}
 use Rattle.reg_records.specs.Shapes.{IsSeen, StandsIn, depth, descriptor_in, spelled}
-use Rattle.reg_records.proofs.Walks.{gather-made, gather-join, gather-more}
+use Rattle.reg_records.proofs.Walks.{gather-made, gather-more}
 use Rattle.reg_records.proofs.Indexes.{then-open, map-open}
 use Rattle.reg_records.proofs.Standing.{heads-places, AreSecured}
 
@@ -93,7 +92,7 @@ forest-spelt heap root zero (Hangs place node below beside) a s l = absurd (omeg
 forest-spelt heap root (suc k) (Hangs place node below beside) a s l =
     gather-made (keys_from (suc k) heap) place (places beside) _ (spelled heap beside)
     (key-spelt heap place node k (spelled heap below) a.0.0.reads s.0
-      (ap (gather (keys_from k heap)) (sym a.0.1.places ∙ heads-places below) ∙ forest-spelt heap root k below a.0.2 s.1 (omega arith)))
+    (ap (gather (keys_from k heap)) (sym a.0.1.places ∙ heads-places below) ∙ forest-spelt heap root k below a.0.2 s.1 (omega arith)))
     (forest-spelt heap root (suc k) beside a.1 s.2 (omega arith))
 
 pub branch-spelt : (heap : Heap) (root k : ℕ) (keys : Branch Node) → StandsIn heap root keys → IsWrittenSecurity heap keys.node.key.fields.security → AreSecured heap keys.below → depth keys.below ≤ k → keys_from (suc k) heap keys.place ≡ Some (behind (rec_of keys.node (descriptor_in heap keys.node.key.fields.security)) (spelled heap keys.below))
@@ -102,7 +101,6 @@ branch-spelt heap root k keys a one s l =
     (ap (gather (keys_from k heap)) (sym a.1.places ∙ heads-places keys.below) ∙ forest-spelt heap root k keys.below a.2 s l)
 
 -- ---- how long the paths are
-
 
 pub longer : (n m : ℕ) → n ≤ m → (keys : Keys) → AllByRecursion (λ (e : Path × Rec). length e.0 ≤ n) keys → AllByRecursion (λ (e : Path × Rec). length e.0 ≤ m) keys
 longer n m l [] a = tt

@@ -1,26 +1,23 @@
 -- A shape that stands in the cells is what the walk meets.
-use Rattle.std.proofs.Common.{◌≡◌, ℕ, zero, suc, ◌+◌, ◌<◌, ◌≤◌, Bool, true, false, cond, ◌==◌, eqb, Option, Some, None, List, [], ◌∷◌, ◌++◌, map, flat_map, length, take, drop, Result, refl, sym, ap, ◌∙◌, subst, arith, append_assoc}
-use Rattle.std.specs.List.{AllByRecursion}
+use Rattle.std.proofs.Common.{◌≡◌, ℕ, ◌≤◌, false, cond, ◌==◌, Some, None, List, [], ◌∷◌, ◌++◌, map, length, Result, refl, sym, ap, ◌∙◌, subst, arith, append_assoc}
 use Rattle.std.specs.Option.{option_map, option_and_then}
 use Rattle.std.specs.Result.{result_ok}
-use Rattle.std.proofs.lemmas.Option.{none-some, same_Some}
-use Rattle.std.proofs.lemmas.List.{append-nil}
 use Rattle.std.proofs.lemmas.Bool.Decides.{nat_tests}
 use Rattle.reg_heap.specs.Paths.{Member}
 use Rattle.reg_heap.specs.Heaps.{Heap}
-use Rattle.reg_heap.specs.Kinds.{Kind, Found, is_security, owned, shared}
-use Rattle.reg_heap.specs.Kinds.Kind.{Key, Class, SubList, Leaf, ValueList, Value, Data, BigHead, BigList, Segment, Security}
-use Rattle.reg_heap.specs.Forests.{Forest, Branch, places, heads, total, total_of, Stand}
+use Rattle.reg_heap.specs.Kinds.{Found}
+use Rattle.reg_heap.specs.Kinds.Kind.{Key, Class, SubList, ValueList, Security}
+use Rattle.reg_heap.specs.Forests.{Forest, Branch, places, heads, Stand}
 use Rattle.reg_heap.specs.Forests.Forest.{End, Rooted as Hangs}
 use Rattle.reg_records.specs.Keys.{KeyRecord, nk_of, key_at}
 use Rattle.reg_records.specs.Cells.{read_at}
-use Rattle.reg_records.specs.Securities.{KeySecurityRecord, sk_of, security_at}
-use Rattle.reg_records.specs.Lists.{Entry, places_in}
-use Rattle.reg_records.specs.Pieces.{Named, named, plainly, if_any}
-use Rattle.reg_records.specs.Walk.{names_of, key_names, security_names, kind_met, walk}
+use Rattle.reg_records.specs.Securities.{sk_of, security_at}
+use Rattle.reg_records.specs.Lists.{places_in}
+use Rattle.reg_records.specs.Pieces.{plainly, if_any}
+use Rattle.reg_records.specs.Walk.{key_names, security_names}
 use Rattle.reg_records.specs.Nodes.{Node, Index, pieces_at, members_at, index_at, entries_of, node_of, node_in, met_of, look}
 use Rattle.reg_records.specs.Written.{Fits, IsWrittenSecurity}
-use Rattle.reg_records.specs.Shapes.{joined, index_met, traces, trace, IsSeen, StandsIn}
+use Rattle.reg_records.specs.Shapes.{index_met, traces, trace, IsSeen, StandsIn}
 use Rattle.reg_records.proofs.Walks.{Walks, walks-none, walks-join, walks-met}
 use Rattle.reg_records.proofs.Readings.{class-walks, members-walks}
 use Rattle.reg_records.proofs.Indexes.{then-open, map-open, AllWalk, index-walks}
@@ -106,9 +103,10 @@ AreSecured heap (Hangs place node below beside) = IsWrittenSecurity heap node.ke
 pub forest-walks : (heap : Heap) (root : ℕ) (F : Forest Node) → Stand (IsSeen heap root) Fits F → AreSecured heap F → AllWalk heap (places F) (traces F)
 forest-walks heap root End a s = tt
 forest-walks heap root (Hangs place node below beside) a s = (
-    key-walks heap place node (traces below) a.0.0.reads s.0
-    (subst (λ ps. AllWalk heap ps (traces below)) (sym (heads-places below) ∙ a.0.1.places) (forest-walks heap root below a.0.2 s.1)),
-    forest-walks heap root beside a.1 s.2)
+  key-walks heap place node (traces below) a.0.0.reads s.0
+      (subst (λ ps. AllWalk heap ps (traces below)) (sym (heads-places below) ∙ a.0.1.places) (forest-walks heap root below a.0.2 s.1)),
+  forest-walks heap root beside a.1 s.2,
+)
 
 pub branch-walks : (heap : Heap) (root : ℕ) (branch : Branch Node) → StandsIn heap root branch → IsWrittenSecurity heap branch.node.key.fields.security → AreSecured heap branch.below → Walks heap (plainly Key branch.place ∷ []) (trace branch)
 branch-walks heap root branch a one s =

@@ -1,7 +1,6 @@
 -- The tree that records spell holds its root and, with each path, its parent; siblings' names differ.
-use Rattle.std.proofs.Common.{◌≡◌, ◌≢◌, ℕ, zero, suc, Bool, true, false, cond, ◌⊎◌, inl, inr, is_some, IsSome, Option, Some, None, List, [], ◌∷◌, ◌++◌, map, refl, sym, ap, ◌∙◌, subst}
+use Rattle.std.proofs.Common.{◌≡◌, ◌≢◌, ℕ, zero, suc, Bool, true, false, cond, ◌⊎◌, inl, inr, is_some, IsSome, Option, Some, List, [], ◌∷◌, ◌++◌, map, refl, sym, ap, ◌∙◌, subst}
 use Rattle.std.specs.List.{AllByRecursion}
-use Rattle.std.specs.Option.{option_map, option_and_then}
 use Rattle.std.specs.Ordering.{nat_cmp, is_eq, eq_by_cmp}
 use Rattle.std.specs.declared.cmp.Ordering.{Ordering}
 use Rattle.std.specs.declared.cmp.Ordering.TheVariants.{Less, Equal, Greater}
@@ -10,7 +9,7 @@ use Rattle.std.specs.Cmp.Lexicographic.{slice_cmp, lists_total, nat_list_cmp_tot
 use Rattle.std.specs.FinMap.{get, find, from_entries, get-from_entries, IsAntisymmetric, slice_cmp-IsAntisymmetric, nat_cmp-IsAntisymmetric}
 use Rattle.std.proofs.lemmas.Cmp.{tied_itself}
 use Rattle.std.proofs.lemmas.Bool.{false≢true}
-use Rattle.std.proofs.lemmas.Option.{none-some, same_Some}
+use Rattle.std.proofs.lemmas.Option.{same_Some}
 use Rattle.reg_names.specs.Names.{folded}
 use Rattle.reg_heap.specs.Paths.{Path, Rec, Tree, path_cmp}
 use Rattle.reg_heap.specs.Heaps.{Heap}
@@ -21,7 +20,7 @@ use Rattle.reg_records.specs.Spelt.{behind, below_root, keys_from, spelt}
 use Rattle.reg_records.specs.Written.{Pairwise, Precedes}
 use Rattle.reg_records.proofs.Walks.{gather-open}
 use Rattle.reg_records.proofs.Indexes.{map-open}
-use Rattle.reg_records.proofs.Spelling.{Keys, IsKeyed, keys-open, keys-none}
+use Rattle.reg_records.proofs.Spelling.{Keys, keys-open, keys-none}
 
 path_total : IsTotalOrder path_cmp
 path_total = lists_total nat_list_cmp_total

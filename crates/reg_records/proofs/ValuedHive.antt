@@ -1,11 +1,11 @@
 -- The hive after its first value is whole; a hive whose security counts one key too many is not.
-use Rattle.std.proofs.Common.{◌≡◌, ◌≢◌, ℕ, ◌+◌, ◌<◌, ◌≤◌, ◌↔◌, ◌&&◌, Bool, true, false, cond, List, [], ◌∷◌, ◌++◌, replicate, Option, Some, None, refl, sym, ap, ◌∙◌, subst, arith, eqb, is_some, IsSome, length}
+use Rattle.std.proofs.Common.{◌≡◌, ℕ, ◌+◌, ◌<◌, ◌≤◌, ◌↔◌, ◌&&◌, Bool, true, false, cond, List, [], ◌∷◌, ◌++◌, replicate, Some, None, refl, sym, ap, ◌∙◌, subst, arith, eqb, IsSome, length}
 use Rattle.std.proofs.lemmas.Bool.{false≢true}
-use Rattle.std.proofs.lemmas.Option.{none-some, same_Some}
+use Rattle.std.proofs.lemmas.Option.{same_Some}
 use Rattle.std.specs.List.{AllByRecursion}
 use Rattle.reg_heap.specs.Words.{half, word, long}
 use Rattle.reg_heap.specs.Paths.{Path, Rec}
-use Rattle.reg_heap.specs.Kinds.{Kind, Found, owned, shared, is_security}
+use Rattle.reg_heap.specs.Kinds.{Kind, Found, shared}
 use Rattle.reg_heap.specs.Kinds.Kind.{Key, ValueList, Value, Security}
 use Rattle.reg_arena.specs.Cells.{cells_of, cell_at, content_of}
 use Rattle.reg_records.specs.Keys.{nk_of, nk_bytes, key_at}
@@ -21,8 +21,8 @@ use Rattle.reg_records.specs.Nodes.Index.{Unlisted}
 use Rattle.reg_records.proofs.Wholes.{is_key, all-at}
 use Rattle.reg_records.specs.Nodes.{look}
 use Rattle.reg_records.specs.Spelt.{keys_from}
-use Rattle.reg_records.specs.Written.{IsWrittenKey, IsWrittenSecurity, IsWrittenValue, AreWrittenValues, Fits}
-use Rattle.reg_records.specs.Whole.{Meets, count_at, IsRing, IsWritten, IsWhole, Whole}
+use Rattle.reg_records.specs.Written.{IsWrittenValue, AreWrittenValues}
+use Rattle.reg_records.specs.Whole.{Meets, count_at, IsRing, IsWritten, Whole}
 use Rattle.reg_records.proofs.Computed.{header, zeros, none, root_cell, security_cell, valued, valued-cells, valued-walk, fresh_found, fresh_fields, descriptor, root_name}
 
 abbrev valued_found : List Found

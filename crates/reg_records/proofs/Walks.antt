@@ -1,11 +1,10 @@
 -- What a walk is made of, and how much fuel it takes.
-use Rattle.std.proofs.Common.{◌≡◌, ℕ, zero, suc, ◌+◌, ◌<◌, ◌≤◌, max, Bool, true, false, cond, Option, Some, None, List, [], ◌∷◌, ◌++◌, length, refl, sym, ap, ◌∙◌, subst, arith, append_assoc}
+use Rattle.std.proofs.Common.{◌≡◌, ℕ, zero, suc, ◌≤◌, max, Option, Some, None, List, [], ◌∷◌, ◌++◌, refl, sym, ap, ◌∙◌, arith, append_assoc}
 use Rattle.std.specs.Option.{option_map, option_and_then}
 use Rattle.std.proofs.lemmas.Option.{none-some, same_Some}
 use Rattle.std.proofs.lemmas.List.{append-nil}
 use Rattle.reg_heap.specs.Heaps.{Heap}
-use Rattle.reg_heap.specs.Kinds.{Kind, Found, is_security}
-use Rattle.reg_heap.specs.Kinds.Kind.{Key, Class, SubList, Leaf, ValueList, Value, Data, BigHead, BigList, Segment, Security}
+use Rattle.reg_heap.specs.Kinds.{Found}
 use Rattle.reg_records.specs.Pieces.{Named}
 use Rattle.reg_records.specs.Walk.{names_of, kind_met, gather, met, walk}
 
@@ -121,8 +120,8 @@ pub walks-join : (heap : Heap) (xs us : List Named) (ys ws : List Found) → Wal
 walks-join heap xs us ys ws a b = record {
   fuel = max a.fuel b.fuel;
   walked = gather-join (walk (max a.fuel b.fuel) heap) xs us ys ws
-    (gather-more (walk a.fuel heap) (walk (max a.fuel b.fuel) heap) (λ n found e. walk-more a.fuel (max a.fuel b.fuel) heap (omega arith) n found e) xs ys a.walked)
-    (gather-more (walk b.fuel heap) (walk (max a.fuel b.fuel) heap) (λ n found e. walk-more b.fuel (max a.fuel b.fuel) heap (omega arith) n found e) us ws b.walked);
+      (gather-more (walk a.fuel heap) (walk (max a.fuel b.fuel) heap) (λ n found e. walk-more a.fuel (max a.fuel b.fuel) heap (omega arith) n found e) xs ys a.walked)
+      (gather-more (walk b.fuel heap) (walk (max a.fuel b.fuel) heap) (λ n found e. walk-more b.fuel (max a.fuel b.fuel) heap (omega arith) n found e) us ws b.walked);
 }
 
 -- one record, and what it names
@@ -130,6 +129,6 @@ pub walks-met : (heap : Heap) (n : Named) (content : List ℕ) (names : List Nam
 walks-met heap n content names below here are w = record {
   fuel = suc w.fuel;
   walked = gather-made (walk (suc w.fuel) heap) n [] _ []
-    (walk-made w.fuel heap n (record { kind = kind_met n.kind content; offset = n.offset } ∷ below) (record { content = content; names = names; below = below; here = here; names_are = are; below_is = w.walked; all = refl }))
-    refl ∙ ap Some (append-nil _);
+      (walk-made w.fuel heap n (record { kind = kind_met n.kind content; offset = n.offset } ∷ below) (record { content = content; names = names; below = below; here = here; names_are = are; below_is = w.walked; all = refl }))
+      refl ∙ ap Some (append-nil _);
 }

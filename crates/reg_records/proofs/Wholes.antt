@@ -1,5 +1,5 @@
 -- A hive whose keys stand in the cells, and whose cells are all theirs, is whole.
-use Rattle.std.proofs.Common.{◌≡◌, ◌↔◌, ℕ, zero, suc, ◌+◌, ◌<◌, ◌≤◌, Bool, true, false, cond, eqb, is_some, IsSome, Option, Some, None, List, [], ◌∷◌, ◌++◌, map, flat_map, length, take, drop, refl, sym, ap, ◌∙◌, subst, arith}
+use Rattle.std.proofs.Common.{◌≡◌, ◌↔◌, ℕ, zero, suc, ◌+◌, ◌<◌, ◌≤◌, Bool, true, false, cond, eqb, is_some, IsSome, Some, List, [], ◌∷◌, ◌++◌, map, length, take, drop, refl, sym, ap, ◌∙◌, subst, arith}
 use Rattle.std.specs.List.{AllByRecursion}
 use Rattle.std.specs.Option.{option_map}
 use Rattle.std.specs.FinMap.{from_entries}
@@ -9,23 +9,23 @@ use Rattle.std.proofs.lemmas.Bool.{false≢true, eqb-true}
 use Rattle.reg_arena.proofs.Writes.{all-append}
 use Rattle.reg_heap.specs.Paths.{Path, Rec}
 use Rattle.reg_heap.specs.Heaps.{Heap, allocated}
-use Rattle.reg_heap.specs.Kinds.{Kind, Found, is_security, is_own, is_shared, times, tally, owned, shared}
+use Rattle.reg_heap.specs.Kinds.{Kind, Found, is_security, is_own, is_shared, times, owned, shared}
 use Rattle.reg_heap.specs.Kinds.Kind.{Key, Class, SubList, Leaf, ValueList, Value, Data, BigHead, BigList, Segment, Security}
-use Rattle.reg_heap.specs.Forests.{Forest, Branch, places, heads, total, total_of, Stand}
+use Rattle.reg_heap.specs.Forests.{Forest, Branch, heads, total, total_of, Stand}
 use Rattle.reg_heap.specs.Forests.Forest.{End, Rooted as Hangs}
 use Rattle.reg_records.specs.Pieces.{plainly}
 use Rattle.reg_records.specs.Nodes.{Node, KeyList, Index, met_of, look}
 use Rattle.reg_records.specs.Nodes.Index.{Unlisted, Listed, Rooted}
-use Rattle.reg_records.specs.Walk.{walk, gather}
+use Rattle.reg_records.specs.Walk.{walk}
 use Rattle.reg_records.specs.Spelt.{keys_from, rec_of, behind, below_root, spelt}
 use Rattle.reg_records.specs.Written.{Pairwise, Fits, IsWrittenSecurity}
-use Rattle.reg_records.specs.Whole.{Meets, AreApart, count_at, IsRing, IsWritten, IsWhole}
+use Rattle.reg_records.specs.Whole.{Meets, AreApart, count_at, IsWritten, IsWhole}
 use Rattle.reg_records.specs.Shapes.{joined, lists_met, index_met, traces, trace, owns, shares, cells_of, IsSeen, StandsIn, depth, descriptor_in, spelled, tree_of, IsWholeShape}
 use Rattle.reg_records.proofs.Walks.{Walks, gather-open, walk-more}
 use Rattle.reg_records.proofs.Enough.{load, walk-enough}
 use Rattle.reg_records.proofs.Fewer.{fewer, same-number}
 use Rattle.reg_records.proofs.Inner.{is_inner, AreInner, class-inner, members-inner}
-use Rattle.reg_records.proofs.Standing.{IsLooked, look-open, AreSecured, branch-walks}
+use Rattle.reg_records.proofs.Standing.{look-open, AreSecured, branch-walks}
 use Rattle.reg_records.proofs.Counts.{tally-append, tally-branch}
 use Rattle.reg_records.proofs.Spelling.{keys-one, keys-more, branch-spelt, longer, behind-short, spelled-short}
 
@@ -88,8 +88,9 @@ first-apart f (g ∷ fs) l s = (one, first-apart f fs (omega arith) (λ h. let r
 once : (fs : List Found) → ((z : ℕ) → owned z fs ≤ 1) → ((z : ℕ) → 0 < owned z fs → shared z fs ≡ 0) → Pairwise AreApart fs
 once [] l s = tt
 once (f ∷ fs) l s = (
-    first-apart f fs (l f.offset) (s f.offset),
-    once fs (λ z. let a = l z in omega arith) (λ z h. let a = s z (omega arith) in omega arith))
+  first-apart f fs (l f.offset) (s f.offset),
+  once fs (λ z. let a = l z in omega arith) (λ z h. let a = s z (omega arith) in omega arith),
+)
 
 -- ---- keys
 
@@ -99,7 +100,6 @@ is_key kind = false
 
 no-key : (kind : Kind) → is_key kind ≡ false → kind ≡ Key → ⊥
 no-key kind i e = false≢true (sym i ∙ ap is_key e)
-
 
 module _ (heap : Heap) (root : ℕ) where
   abbrev IsFine : Found → Type 0
@@ -126,9 +126,10 @@ module _ (heap : Heap) (root : ℕ) where
   lists-fine : (lists : List KeyList) (ts : List (List Found)) → AllByRecursion (AllByRecursion IsFine) ts → AllByRecursion IsFine (lists_met lists ts)
   lists-fine [] ts a = tt
   lists-fine (list ∷ lists) ts a =
-      let n = length list.list.entries in
-      ((λ e. absurd (no-key Leaf refl e)),
-      all-append IsFine (joined (take n ts)) (lists_met lists (drop n ts)) (joined-fine (take n ts) (front-fine n ts a)) (lists-fine lists (drop n ts) (back-fine n ts a)))
+      let n = length list.list.entries in (
+        (λ e. absurd (no-key Leaf refl e)),
+        all-append IsFine (joined (take n ts)) (lists_met lists (drop n ts)) (joined-fine (take n ts) (front-fine n ts a)) (lists-fine lists (drop n ts) (back-fine n ts a)),
+      )
 
   index-fine : (index : Index) (ts : List (List Found)) → AllByRecursion (AllByRecursion IsFine) ts → AllByRecursion IsFine (index_met index ts)
   index-fine Unlisted ts a = tt
@@ -181,9 +182,10 @@ module _ (heap : Heap) (root : ℕ) where
   forest-secured : (F : Forest Node) → Stand (IsSeen heap root) Fits F → ((z : ℕ) → 0 < total (shares z) F → IsWrittenSecurity heap z) → AreSecured heap F
   forest-secured End a h = tt
   forest-secured (Hangs place node below beside) a h = (
-      h node.key.fields.security (let l = shares-own place node a.0.0.reads in omega arith),
-      forest-secured below a.0.2 (λ z l. h z (omega arith)),
-      forest-secured beside a.1 (λ z l. h z (omega arith)))
+    h node.key.fields.security (let l = shares-own place node a.0.0.reads in omega arith),
+    forest-secured below a.0.2 (λ z l. h z (omega arith)),
+    forest-secured beside a.1 (λ z l. h z (omega arith)),
+  )
 
   -- ---- how many keys, and cells
 
@@ -280,10 +282,10 @@ module _ (heap : Heap) (root : ℕ) (keys : Branch Node) (first : ℕ) (others :
   roomy : (cells : ℕ) → AreAtMost heap cells → suc (load (trace keys)) ≤ cells
   roomy cells a =
       let less : length (first ∷ own_places (trace keys)) ≤ length a.offsets = fewer (first ∷ own_places (trace keys)) a.offsets (λ z.
-        let o = own-times z (trace keys) ∙ owned-is z in
-        let e = w.exact z in
-        let l = a.all z in
-        omega (arith, o, e, l)) in
+      let o = own-times z (trace keys) ∙ owned-is z in
+      let e = w.exact z in
+      let l = a.all z in
+      omega (arith, o, e, l)) in
       let n = own-length (trace keys) in
       omega (arith, less, n, a.few)
 

@@ -1,5 +1,5 @@
 -- Subkeys lists (Suhanov, Windows registry file format specification, "Subkeys list").
-use Rattle.std.specs.Prelude.{ℕ, zero, suc, ◌+◌, ◌*◌, nat_le, if◌then◌else◌, Option, Some, None, List, [], ◌∷◌, length, map, flat_map}
+use Rattle.std.specs.Prelude.{ℕ, zero, suc, ◌+◌, ◌*◌, nat_le, if◌then◌else◌, Option, Some, None, List, [], ◌∷◌, length, map}
 use Rattle.std.specs.Option.{option_and_then}
 use Rattle.reg_heap.specs.Words.{half, word}
 use Rattle.reg_records.specs.Letters.{is_signed}

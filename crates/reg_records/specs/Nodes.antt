@@ -1,6 +1,6 @@
 -- A key with all that is its own, as it is read (Suhanov, Windows registry file format specification, "Key node", "Key value",
 -- "Big data", "Subkeys list").
-use Rattle.std.specs.Prelude.{ℕ, zero, suc, ◌+◌, ◌*◌, ◌==◌, nat_le, not, Bool, true, false, cond, if◌then◌else◌, Option, Some, None, List, [], ◌∷◌, ◌++◌, map, flat_map, length, take, bit_and}
+use Rattle.std.specs.Prelude.{ℕ, zero, suc, ◌+◌, ◌*◌, ◌==◌, nat_le, not, Bool, true, false, Option, Some, None, List, [], ◌∷◌, ◌++◌, flat_map, length, take, bit_and}
 use Rattle.std.specs.Option.{option_map, option_and_then}
 use Rattle.std.specs.List.{concat}
 use Rattle.std.specs.Result.{result_ok}
@@ -8,10 +8,10 @@ use Rattle.byteorder.specs.Endian.{little_bytes}
 use Rattle.reg_heap.specs.Paths.{Member}
 use Rattle.reg_heap.specs.Heaps.{Heap}
 use Rattle.reg_heap.specs.Kinds.{Kind, Found}
-use Rattle.reg_heap.specs.Kinds.Kind.{Key, Class, SubList, Leaf, ValueList, Value, Data, BigHead, BigList, Segment, Security}
+use Rattle.reg_heap.specs.Kinds.Kind.{Key, Class, ValueList, Value, Data, BigHead, BigList, Security}
 use Rattle.reg_heap.specs.Readings.{Reading, ◌>>=◌, give, given, cell, guard, each}
 use Rattle.reg_records.specs.declared.vk.ValueFields.{ValueFields}
-use Rattle.reg_records.specs.Keys.{KeyRecord, nk_of, key_at}
+use Rattle.reg_records.specs.Keys.{KeyRecord, key_at}
 use Rattle.reg_records.specs.Values.{KeyValueRecord, vk_of}
 use Rattle.reg_records.specs.Rows.{row_in}
 use Rattle.reg_records.specs.Lists.{SubkeysList, Entry, Form, list_of, places_in}

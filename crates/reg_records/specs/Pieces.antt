@@ -1,5 +1,5 @@
 -- Where a value's data stands (Suhanov, Windows registry file format specification, "Key value", "Big data").
-use Rattle.std.specs.Prelude.{ℕ, zero, suc, ◌+◌, ◌-◌, ◌*◌, ◌/◌, ◌==◌, nat_lt, nat_le, not, min, Bool, if◌then◌else◌, Option, Some, None, List, [], ◌∷◌, length}
+use Rattle.std.specs.Prelude.{ℕ, zero, suc, ◌+◌, ◌-◌, ◌/◌, nat_lt, nat_le, not, min, Bool, if◌then◌else◌, Option, Some, None, List, [], ◌∷◌, length}
 use Rattle.reg_heap.specs.Words.{half, word}
 use Rattle.reg_heap.specs.Kinds.{Kind}
 use Rattle.reg_heap.specs.Kinds.Kind.{Segment}

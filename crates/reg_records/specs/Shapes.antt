@@ -1,6 +1,6 @@
 -- Shapes: a tree of keys as it stands in the cells, each key with all that is its own. Proofs speak of shapes; the walk, what is
 -- met and how often, and the tree spelt are theirs.
-use Rattle.std.specs.Prelude.{◌≡◌, ◌↔◌, ℕ, zero, suc, ◌+◌, ◌<◌, ◌≤◌, max, List, [], ◌∷◌, ◌++◌, map, length, take, drop, Some, unwrap_or}
+use Rattle.std.specs.Prelude.{◌≡◌, ◌↔◌, ℕ, suc, ◌+◌, ◌<◌, ◌≤◌, max, List, [], ◌∷◌, ◌++◌, map, length, take, drop, Some, unwrap_or}
 use Rattle.std.specs.List.{AllByRecursion}
 use Rattle.std.specs.FinMap.{from_entries}
 use Rattle.reg_heap.specs.Paths.{Path, Rec, Tree}

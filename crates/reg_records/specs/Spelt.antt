@@ -1,6 +1,6 @@
 -- The tree that a hive's records spell (Suhanov, Windows registry file format specification, "Key node", "Key value",
 -- "Key security").
-use Rattle.std.specs.Prelude.{ℕ, zero, suc, ◌==◌, not, Option, Some, None, List, [], ◌∷◌, map, drop, bit_and}
+use Rattle.std.specs.Prelude.{ℕ, zero, suc, ◌==◌, not, Option, None, List, [], ◌∷◌, map, drop, bit_and}
 use Rattle.std.specs.Option.{option_map, option_and_then}
 use Rattle.std.specs.FinMap.{from_entries}
 use Rattle.reg_names.specs.Names.{folded}

@@ -1,6 +1,6 @@
 -- The walk over a hive's records: what each names, in order (Suhanov, Windows registry file format specification, "Key node",
 -- "Subkeys list", "Key values list", "Key value", "Big data", "Key security").
-use Rattle.std.specs.Prelude.{ℕ, zero, suc, ◌==◌, nat_lt, nat_le, if◌then◌else◌, Option, Some, None, List, [], ◌∷◌, ◌++◌, map, length}
+use Rattle.std.specs.Prelude.{ℕ, zero, suc, ◌==◌, nat_le, if◌then◌else◌, Option, Some, None, List, [], ◌∷◌, ◌++◌, map, length}
 use Rattle.std.specs.Option.{option_map, option_and_then}
 use Rattle.std.specs.Result.{result_ok}
 use Rattle.reg_heap.specs.Heaps.{Heap}

@@ -1,11 +1,11 @@
 -- Whole hives: nothing is left over, nothing is named twice, nothing is counted wrongly (Suhanov, Windows registry file format
 -- specification, "Cell", "Key security"; the rest is this project's).
-use Rattle.std.specs.Prelude.{◌≡◌, ◌≢◌, ◌↔◌, ℕ, zero, suc, ◌+◌, ◌<◌, ◌≤◌, Option, Some, List, [], ◌∷◌, length, map, IsSome, Bool, true, Contains}
+use Rattle.std.specs.Prelude.{◌≡◌, ◌≢◌, ◌↔◌, ℕ, ◌+◌, ◌<◌, ◌≤◌, Option, Some, List, [], ◌∷◌, length, map, IsSome, true, Contains}
 use Rattle.std.specs.Option.{option_map}
 use Rattle.std.specs.List.{AllByRecursion}
 use Rattle.reg_heap.specs.Paths.{Path, Rec}
 use Rattle.reg_heap.specs.Heaps.{Heap}
-use Rattle.reg_heap.specs.Kinds.{Kind, Found, times, owned, shared}
+use Rattle.reg_heap.specs.Kinds.{Found, times, owned, shared}
 use Rattle.reg_heap.specs.Kinds.Kind.{Key, Security}
 use Rattle.reg_arena.specs.declared.Cell.{Cell}
 use Rattle.reg_arena.specs.Cells.{cells_of, cell_at}

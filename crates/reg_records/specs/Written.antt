@@ -1,7 +1,7 @@
 -- Records as this project writes them (Suhanov, Windows registry file format specification, "Key node", "Subkeys list",
 -- "Key value", "Big data", "Key security"). What a key holds of its subkeys and values is exact; the four largest lengths are
 -- raised where needed and never lowered.
-use Rattle.std.specs.Prelude.{◌≡◌, ◌≢◌, ℕ, ◌+◌, ◌*◌, ◌^◌, ◌<◌, ◌≤◌, ◌%◌, ◌==◌, if◌then◌else◌, Bool, true, false, Option, Some, None, List, [], ◌∷◌, map, length, drop, replicate, ◌-◌, bit_and, ⊤}
+use Rattle.std.specs.Prelude.{◌≡◌, ◌≢◌, ℕ, ◌*◌, ◌<◌, ◌≤◌, ◌%◌, ◌==◌, if◌then◌else◌, true, false, Some, List, [], ◌∷◌, map, length, drop, replicate, ◌-◌, bit_and, ⊤}
 use Rattle.std.specs.List.{AllByRecursion}
 use Rattle.std.specs.Ordering.{nat_cmp}
 use Rattle.std.specs.declared.cmp.Ordering.TheVariants.{Less}
@@ -12,11 +12,11 @@ use Rattle.reg_heap.specs.Paths.{Member}
 use Rattle.reg_heap.specs.Heaps.{Heap}
 use Rattle.reg_records.specs.declared.vk.ValueFields.{ValueFields}
 use Rattle.reg_records.specs.Cells.{held}
-use Rattle.reg_records.specs.Keys.{KeyRecord, IsPlainKey}
+use Rattle.reg_records.specs.Keys.{IsPlainKey}
 use Rattle.reg_records.specs.Values.{KeyValueRecord, value_record_at, IsPlainValue}
 use Rattle.reg_records.specs.Securities.{KeySecurityRecord, security_at, IsPlainSecurity}
 use Rattle.reg_records.specs.Rows.{offsets_at}
-use Rattle.reg_records.specs.Lists.{Entry, Form, places_in}
+use Rattle.reg_records.specs.Lists.{Entry, places_in}
 use Rattle.reg_records.specs.Lists.Form.{HashLeaf}
 use Rattle.reg_records.specs.Pieces.{BigData, segment_size, is_inline, inline_size, segments_for, db_of}
 use Rattle.reg_records.specs.Nodes.{Node, KeyList, Index, entries_of}
