@@ -24,11 +24,11 @@ module _ (m : Found → ℕ) where
       let b = tally-append t (joined (take n ts)) in
       omega arith
 
-  nothing-met : (lists : List KeyList) (n : ℕ) → tally m (lists_met lists (drop n [])) ≡ tally m (lists_met lists [])
+  pub nothing-met : (lists : List KeyList) (n : ℕ) → tally m (lists_met lists (drop n [])) ≡ tally m (lists_met lists [])
   nothing-met lists zero = refl
   nothing-met lists (suc n) = refl
 
-  nothing-taken : (n : ℕ) → tally m (joined (take n [])) ≡ 0
+  pub nothing-taken : (n : ℕ) → tally m (joined (take n [])) ≡ 0
   nothing-taken zero = refl
   nothing-taken (suc n) = refl
 

@@ -102,7 +102,7 @@ record IsKeyList (heap : Heap) (offset : ℕ) (list : KeyList) : Type 0 where
   no_root : is_root list.list.form ≡ false
   place : offset ≡ list.place
 
-as-key-list : (offset : ℕ) (l : SubkeysList) (form : Form) (list : KeyList) → key_list_as offset l form ≡ Some list → (is_root form ≡ false) × (offset ≡ list.place) × (l ≡ list.list)
+pub as-key-list : (offset : ℕ) (l : SubkeysList) (form : Form) (list : KeyList) → key_list_as offset l form ≡ Some list → (is_root form ≡ false) × (offset ≡ list.place) × (l ≡ list.list)
 as-key-list offset l IndexRoot list e = absurd (none-some _ e)
 as-key-list offset l IndexLeaf list e = let p = same_Some _ _ e in (refl, ap (λ (k : KeyList). k.place) p, ap (λ (k : KeyList). k.list) p)
 as-key-list offset l FastLeaf list e = let p = same_Some _ _ e in (refl, ap (λ (k : KeyList). k.place) p, ap (λ (k : KeyList). k.list) p)

@@ -22,3 +22,6 @@ pub mod Siblings
 pub mod ComputedWalks
 pub mod ValuedHive
 pub mod Plain
+pub mod Locals
+pub mod LocalKeys
+pub mod LocalWritten

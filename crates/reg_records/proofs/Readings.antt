@@ -77,13 +77,13 @@ class-walks heap size offset y e = pieces-walk heap (if_any Class size offset) (
 
 -- ---- rows of offsets
 
-record IsRow (heap : Heap) (kind : Kind) (count offset : ℕ) (row : List ℕ) (zs : List Found) : Type 0 where
-  content : List ℕ
-  here : heap offset ≡ Some content
-  row_is : row_in count content ≡ Some row
-  met : zs ≡ record { kind = kind; offset = offset } ∷ []
+pub record IsRow (heap : Heap) (kind : Kind) (count offset : ℕ) (row : List ℕ) (zs : List Found) : Type 0 where
+  pub content : List ℕ
+  pub here : heap offset ≡ Some content
+  pub row_is : row_in count content ≡ Some row
+  pub met : zs ≡ record { kind = kind; offset = offset } ∷ []
 
-row-open : (heap : Heap) (kind : Kind) (count offset : ℕ) (row : List ℕ) (zs : List Found) → row_at kind count offset heap ≡ Some (row, zs) → IsRow heap kind count offset row zs
+pub row-open : (heap : Heap) (kind : Kind) (count offset : ℕ) (row : List ℕ) (zs : List Found) → row_at kind count offset heap ≡ Some (row, zs) → IsRow heap kind count offset row zs
 row-open heap kind count offset row zs e =
     let o = bind-open (cell kind offset) (λ content. given (row_in count content)) heap (row, zs) e in
     let c = cell-open kind offset heap o.first o.before o.first_is in

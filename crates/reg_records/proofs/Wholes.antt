@@ -54,10 +54,10 @@ security-alone BigList e = absurd (false≢true e)
 security-alone Segment e = absurd (false≢true e)
 security-alone Security e = refl
 
-own-here : (f : Found) → is_security f.kind ≡ false → is_own f.offset f ≡ 1
+pub own-here : (f : Found) → is_security f.kind ≡ false → is_own f.offset f ≡ 1
 own-here f s = ap (λ b. cond b 0 (cond (eqb f.offset f.offset) 1 0)) s ∙ ap (λ b. cond b 1 0) (same-number f.offset)
 
-shared-here : (f : Found) → is_security f.kind ≡ true → is_shared f.offset f ≡ 1
+pub shared-here : (f : Found) → is_security f.kind ≡ true → is_shared f.offset f ≡ 1
 shared-here f s = ap (λ b. cond b (cond (eqb f.offset f.offset) 1 0) 0) s ∙ ap (λ b. cond b 1 0) (same-number f.offset)
 
 -- the first is met nowhere else, save as a security
@@ -168,7 +168,7 @@ module _ (heap : Heap) (root : ℕ) where
   -- ---- securities
 
   -- a key names its security
-  shares-own : (place : ℕ) (node : Node) → look heap place ≡ Some node → 0 < shared node.key.fields.security (cells_of node)
+  pub shares-own : (place : ℕ) (node : Node) → look heap place ≡ Some node → 0 < shared node.key.fields.security (cells_of node)
   shares-own place node e =
       let l = look-open heap place node e in
       let s = node.key.fields.security in
@@ -190,7 +190,7 @@ module _ (heap : Heap) (root : ℕ) where
   -- ---- how many keys, and cells
 
   -- each key is met as a record that is no security
-  key-load : (place : ℕ) (node : Node) → look heap place ≡ Some node → 0 < load (cells_of node)
+  pub key-load : (place : ℕ) (node : Node) → look heap place ≡ Some node → 0 < load (cells_of node)
   key-load place node e =
       let l = look-open heap place node e in
       let cells : load node.cells ≡ load (met_of place node.key l.class_cells l.value_cells) = ap load l.cells in
