@@ -25,3 +25,4 @@ pub mod Plain
 pub mod Locals
 pub mod LocalKeys
 pub mod LocalWritten
+pub mod Exchanged

@@ -12,3 +12,4 @@ pub mod Spelt
 pub mod Written
 pub mod Whole
 pub mod Shapes
+pub mod Exchanges
