@@ -30,7 +30,7 @@ module _ (place : ℕ) (n m : Node) (P : Path → Forest Node → Forest Node �
     (here : (x : List ℕ) (b s : Forest Node) → is_named x n ≡ true → P (x ∷ []) (Hangs place n b s) (Hangs place m b s))
     (under : (x y : List ℕ) (p : Path) (o : ℕ) (k : Node) (b c s : Forest Node) → is_named x k ≡ true → P (y ∷ p) b c → P (x ∷ y ∷ p) (Hangs o k b s) (Hangs o k c s))
     (next : (x : List ℕ) (p : Path) (o : ℕ) (k : Node) (b s t : Forest Node) → is_named x k ≡ false → P (x ∷ p) s t → P (x ∷ p) (Hangs o k b s) (Hangs o k b t)) where
-  way : (p : Path) (F : Forest Node) → found_in p F ≡ Some (place, n) → P p F (edit_in p m F)
+  pub way : (p : Path) (F : Forest Node) → found_in p F ≡ Some (place, n) → P p F (edit_in p m F)
   way [] F e = absurd (none-some _ e)
   way (x ∷ p) End e = absurd (none-some _ e)
   way (x ∷ []) (Hangs o k b s) e = by (way (x ∷ []) s) (is_named x k) refl e

@@ -26,3 +26,4 @@ pub mod Locals
 pub mod LocalKeys
 pub mod LocalWritten
 pub mod Exchanged
+pub mod Retold

@@ -22,10 +22,10 @@ use Rattle.reg_records.proofs.Walks.{gather-open}
 use Rattle.reg_records.proofs.Indexes.{map-open}
 use Rattle.reg_records.proofs.Spelling.{Keys, keys-open, keys-none}
 
-path_total : IsTotalOrder path_cmp
+pub path_total : IsTotalOrder path_cmp
 path_total = lists_total nat_list_cmp_total
 
-path_same : IsAntisymmetric path_cmp
+pub path_same : IsAntisymmetric path_cmp
 path_same = slice_cmp-IsAntisymmetric (slice_cmp-IsAntisymmetric nat_cmp-IsAntisymmetric)
 
 -- ---- a path among keys
