@@ -2,13 +2,13 @@
 //! what holds of the definitions in `specs/`.
 //!
 //! Suhanov, Windows registry file format specification.
-ghost use Rattle.std.specs.Prelude.{◌≡◌, ◌≢◌, ℕ, List, [], ◌∷◌, ◌++◌, map, length, Some, IsSome};
+ghost use Rattle.std.specs.Prelude.{◌≡◌, ◌≢◌, ◌<◌, ℕ, List, [], ◌∷◌, ◌++◌, map, length, Some, IsSome};
 ghost use Rattle.std.specs.List.{AllByRecursion};
-ghost use Rattle.std.specs.FinMap.{get};
+ghost use Rattle.std.specs.FinMap.{get, insert};
 ghost use Rattle.reg_names.specs.Names.{folded};
 ghost use Rattle.reg_heap.specs.Paths.{Path, Tree};
 ghost use Rattle.reg_heap.specs.Heaps.{Heap};
-ghost use Rattle.reg_heap.specs.Kinds.{Found};
+ghost use Rattle.reg_heap.specs.Kinds.{Found, owned};
 ghost use Rattle.reg_heap.specs.Kinds.Kind.{Key};
 ghost use Rattle.reg_heap.specs.Forests.{Branch};
 ghost use Rattle.reg_arena.specs.declared.Cell.{Cell};
@@ -17,10 +17,11 @@ ghost use Rattle.reg_records.specs.Lists.{places_in};
 ghost use Rattle.reg_records.specs.Pieces.{Named};
 ghost use Rattle.reg_records.specs.Walk.{walk};
 ghost use Rattle.reg_records.specs.Nodes.{Node, entries_of, look};
-ghost use Rattle.reg_records.specs.Spelt.{spelt};
+ghost use Rattle.reg_records.specs.Spelt.{spelt, name_of, rec_of};
 ghost use Rattle.reg_records.specs.Written.{Pairwise};
 ghost use Rattle.reg_records.specs.Whole.{IsWhole, Whole, IsAllocatedIn, HasSubkeys};
-ghost use Rattle.reg_records.specs.Shapes.{IsWholeShape, tree_of};
+ghost use Rattle.reg_records.specs.Shapes.{IsWholeShape, IsSeen, cells_of as own_cells_of, descriptor_in, tree_of};
+ghost use Rattle.reg_records.specs.Exchanges.{found_at, edit_at, IsExchanged};
 
 /// Only allocated cells are walked, and so no free one.
 pub fn only_allocated_cells_are_walked()
@@ -42,4 +43,16 @@ pub fn siblings_fold_apart()
 pub fn whole_shape_is_whole()
     ensures whole { (bytes : List ℕ) → (root : ℕ) → (keys : Branch Node) → (first : ℕ) → (others : List ℕ) → (cells : List Cell) → cells_of bytes ≡ Some cells → IsWholeShape (cell_at bytes) root keys first others → Whole bytes root }
     ensures spelt { (bytes : List ℕ) → (root : ℕ) → (keys : Branch Node) → (first : ℕ) → (others : List ℕ) → (cells : List Cell) → cells_of bytes ≡ Some cells → IsWholeShape (cell_at bytes) root keys first others → spelt (length cells) (cell_at bytes) root ≡ Some (tree_of (cell_at bytes) keys) }
+{}
+
+/// A key whose own cells hold what they held reads as it did, and is as it was written, whatever changed elsewhere.
+pub fn key_stays_where_its_cells_stay()
+    ensures { (old new : Heap) → (root place : ℕ) → (node : Node) → IsSeen old root place node → ((offset : ℕ) → 0 < owned offset (own_cells_of node) → new offset ≡ old offset) → IsSeen new root place node }
+{}
+
+/// Where one key's own cells are exchanged for others, the hive stays whole, and its tree has the key's new record at its path
+/// and no other change.
+pub fn one_keys_cells_are_exchanged()
+    ensures whole { (old new : Heap) → (root place : ℕ) → (before after : Node) → (path : Path) → (keys : Branch Node) → (first : ℕ) → (others : List ℕ) → found_at path keys ≡ Some (place, before) → IsExchanged old new root place before after → IsWholeShape old root keys first others → IsWholeShape new root (edit_at path after keys) first others }
+    ensures tree { (old new : Heap) → ((offset : ℕ) → descriptor_in new offset ≡ descriptor_in old offset) → (place : ℕ) → (before after : Node) → name_of after.key ≡ name_of before.key → (path : Path) → (keys : Branch Node) → found_at path keys ≡ Some (place, before) → tree_of new (edit_at path after keys) ≡ insert (tree_of old keys) path (rec_of after (descriptor_in old after.key.fields.security)) }
 {}
