@@ -1,5 +1,5 @@
 -- A short script, from its bytes to the text of its replies, by the definitions alone.
-use Rattle.std.specs.Prelude.{◌≡◌, ℕ, List, [], ◌∷◌, ◌++◌, codes, Some, None, refl}
+use Rattle.std.specs.Prelude.{[], ◌∷◌, codes, Some, None, refl}
 use Rattle.std.proofs.Common.{inl}
 use Rattle.std.specs.Fmt.{digits}
 use Rattle.reg_model.specs.Worlds.{after}
@@ -8,7 +8,7 @@ use Rattle.reg_model.specs.Replies.{refusal, reply_to}
 use Rattle.reg_model.specs.declared.answer.AnswerBody.TheVariants.{Refused}
 use Rattle.reg_model.specs.declared.call.Change.TheVariants.{OpenRoot}
 use Rattle.reg_model.specs.declared.step.Outcome.TheVariants.{Changed, Answered}
-use Rattle.reg_calls.specs.Views.{View, entry_of, IsAccepted}
+use Rattle.reg_calls.specs.Views.{View, entry_of}
 use Rattle.regtool.specs.Lines.{Stand, Lines}
 use Rattle.regtool.proofs.RowsOfLines.{on_lines}
 
