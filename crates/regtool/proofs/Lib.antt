@@ -7,3 +7,4 @@ pub mod Meanings
 pub mod Progress
 pub mod OneText
 mod RowsOfLines
+mod RowsOfScripts

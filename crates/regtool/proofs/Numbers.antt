@@ -21,10 +21,6 @@ digit_is : (b : ℕ) → 48 ≤ b → b ≤ 57 → digit_value b ≡ b - 48
 digit_is b low high = grind (arith, nat_tests)
 
 -- the first digit of what is left
-pub digits_step : (word : List ℕ) (i : ℕ) → i < length word → is_ascii_digit (get_or word i 0) ≡ true
-    → all_ascii_digits (drop i word) ≡ all_ascii_digits (drop (i + 1) word)
-digits_step word i below is = rw (add-one, drop-cons word i 0, is) refl
-
 pub value_step : (word : List ℕ) (i n : ℕ) → i < length word → 48 ≤ get_or word i 0 → get_or word i 0 ≤ 57
     → digits_value_after 10 n (drop i word) ≡ digits_value_after 10 (n * 10 + (get_or word i 0 - 48)) (drop (i + 1) word)
 value_step word i n below low high =

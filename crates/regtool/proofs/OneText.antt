@@ -20,7 +20,7 @@ use Rattle.regtool.specs.Words.{lines_of}
 use Rattle.regtool.specs.Meanings.{Meaning, nothing, at_moment, as_session, on_hive, asks, bad, meaning_of}
 use Rattle.regtool.specs.Texts.{outcome_text}
 use Rattle.regtool.specs.Lines.{Stand, IsSaid, AreSaid}
-use Rattle.regtool.specs.Ample.{IsDue, IsAmple, AreAmple, AmpleLines, HasOneText}
+use Rattle.regtool.specs.Ample.{IsDue, IsAmple, AreAmple, HasOneText}
 
 -- two places where replies are the same
 pub record Same (a b : Stand) : Type 0 where

@@ -1,5 +1,5 @@
 -- A script's bytes, taken one after another.
-use Rattle.std.proofs.Common.{◌≡◌, ◌≢◌, ℕ, ◌+◌, ◌<◌, ◌==◌, Bool, true, false, eqb, List, [], ◌∷◌, ◌++◌, length, get_or, take, Option, Some, None, refl, sym, subst, ap, ◌∙◌, arith, append_assoc, append-nil, ◌⊎◌, inl, inr}
+use Rattle.std.proofs.Common.{◌≡◌, ◌≢◌, ℕ, ◌+◌, ◌<◌, false, eqb, List, [], ◌∷◌, ◌++◌, length, get_or, take, Option, Some, None, refl, sym, subst, ap, ◌∙◌, arith, append_assoc, append-nil, inl, inr}
 use Rattle.std.specs.Io.KnownBytes.{Appends, Consumes}
 use Rattle.std.proofs.lemmas.Bool.Decides.{nat_tests}
 use Rattle.std.proofs.lemmas.List.{take_more}
@@ -145,10 +145,6 @@ pub begun_said : (line : List ℕ) (old new : Stand) (reply : List ℕ) → 0 < 
 begun_said [] old new reply some no_feed said = absurd (omega arith)
 begun_said (b ∷ bs) old new reply some no_feed said =
     subst (λ (ls : List (List ℕ)). AreSaid ls old reply new) (sym (line_last b bs no_feed)) (new, reply, [], said, (refl, refl), sym (append-nil reply))
-
-pub none_said : (line : List ℕ) (stand : Stand) → length line ≡ 0 → AreSaid (lines_of line) stand [] stand
-none_said [] stand none = (refl, refl)
-none_said (b ∷ bs) stand none = absurd (omega arith)
 
 pub ends_at : (old mid new : Place) (script reply : List ℕ) → Takes old script mid → AreSaid (lines_of mid.begun) mid.stand reply new.stand
     → new.gathered ≡ mid.gathered ++ reply → new.sent ≡ mid.sent → Ends old script new

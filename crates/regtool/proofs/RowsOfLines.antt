@@ -11,7 +11,7 @@ use Rattle.regtool.specs.Meanings.{first_of, ending, room_of, verb_of, by_verb, 
 use Rattle.regtool.specs.Texts.{changed_text, answer_text}
 
 -- what computes a line's meaning
-unfoldable on_lines : Unit {0}
+unfoldable pub on_lines : Unit {0}
 unfolding words_of number_of unescaped after_mark name_of data_of first_of ending room_of verb_of by_verb meaning_of hex_on_literals
 on_lines = tt
 

@@ -1,5 +1,5 @@
-use Rattle.std.proofs.Common.{rules, append-nil, sym, []}
-use Rattle.regtool.proofs.Progress.{begun_said, none_said}
+use Rattle.std.proofs.Common.{rules}
+use Rattle.regtool.proofs.Progress.{begun_said}
 use Rattle.regtool.proofs.engine.Script.end.Goals as goal
 
 pub returns : goal.returns
