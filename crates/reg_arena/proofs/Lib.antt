@@ -5,6 +5,7 @@ pub mod Contents
 pub mod Links
 pub mod Writes
 pub mod Fresh
+pub mod Copies
 pub mod Cuts
 pub mod Takes
 pub mod Finds

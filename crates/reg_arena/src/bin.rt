@@ -1,10 +1,10 @@
 //! A new bin at the end of the bins.
 //!
 //! Suhanov, Windows registry file format specification, section "Hive bin".
-ghost use Rattle.std.specs.Prelude.{◌≡◌, ◌+◌, ◌-◌, ◌≤◌, ◌<◌, ℕ, List, [], ◌∷◌, ◌++◌, length, replicate, OnOk, OnErr, IfOk};
+ghost use Rattle.std.specs.Prelude.{◌≡◌, ◌+◌, ◌-◌, ◌≤◌, ◌<◌, ℕ, List, [], ◌∷◌, ◌++◌, length, replicate, OnOk, OnErr, IfOk, true, false};
 ghost use Rattle.reg_arena.specs.Arena.{IsArena};
 ghost use Rattle.reg_arena.specs.Free.{chain, IsFit};
-ghost use Rattle.reg_arena.specs.NewBin.{AppendsBin, IsBinSize, headed};
+ghost use Rattle.reg_arena.specs.NewBin.{AppendsBin, IsBinSize, PassesLimit, HasRoomForBin, headed};
 
 use crate::list::{NONE, Place, put_free};
 use crate::words::put_word;
@@ -16,6 +16,9 @@ pub const HEADER_SIZE: u32 = 32;
 /// A bin's size is a multiple of so many bytes.
 const PAGE_SIZE: u32 = 4096;
 
+/// All bins together have at most so many bytes.
+const LIMIT: u32 = 268_435_456;
+
 /// The letters `hbin`.
 const SIGNATURE: u32 = 0x6E69_6268;
 
@@ -26,6 +29,16 @@ fn bin_size(total: u32) -> u32
     ensures small { result ≤ total + 4128 }
 {
     (HEADER_SIZE + total).next_multiple_of(PAGE_SIZE)
+}
+
+// Whether a bin more, with room for `total` bytes of cells, would pass the limit.
+pub fn passes_limit(bins: &Vec<u8>, total: u32) -> bool
+    requires total { total ≤ 16777216 }
+    requires small { length bins.now.items ≤ 268435456 }
+    ensures passes { result ≡ true → PassesLimit bins.now.items total }
+    ensures room { result ≡ false → HasRoomForBin bins.now.items total }
+{
+    bin_size(total) > LIMIT - bins.len() as u32
 }
 
 // Writes a bin's header, the zeros at its end left out.
@@ -58,7 +71,7 @@ pub fn add_bin(
     requires arena { IsArena bins.old.items (head.old ∷ []) (count.old ∷ []) }
     requires positive { 0 < total }
     requires total { total ≤ 16777216 }
-    requires room { length bins.old.items + total + 4128 ≤ 268435456 }
+    requires room { HasRoomForBin bins.old.items total }
     ensures arena { IsArena bins.new.items (head.new ∷ []) (count.new ∷ []) }
     ensures ok { OnOk result (AppendsBin bins.old.items bins.new.items total) }
     ensures fit { IfOk result (λ place. IsFit bins.new.items total (chain count.new bins.new.items head.new) place.previous place.cell) }

@@ -5,6 +5,7 @@ ghost use Rattle.reg_heap.specs.Words.{word};
 ghost use Rattle.reg_arena.specs.Cells.{size_in};
 ghost use Rattle.reg_arena.specs.NewCells.{total_of, AreSizes, offsets_of};
 ghost use Rattle.reg_arena.specs.Carves.{AddsCells, Carves, CarvesExactly, NoFit};
+ghost use Rattle.reg_arena.specs.NewBin.{HasRoomForBin};
 ghost use Rattle.reg_arena.specs.Free.{chain, IsFit, TakesOut};
 
 use crate::ArenaFault;
@@ -105,7 +106,7 @@ pub fn carve_bin(
     requires total { total ≡ total_of sizes.now }
     requires positive { 0 < total }
     requires small { total ≤ 16777216 }
-    requires room { length bins.old.items + total + 4128 ≤ 268435456 }
+    requires room { HasRoomForBin bins.old.items total }
     ensures arena { IsArena bins.new.items (head.new ∷ []) (count.new ∷ []) }
     ensures ok { OnOk result ((offsets : List ℕ) × (out.new.items ≡ out.old.items ++ offsets) × CarvesExactly bins.old.items bins.new.items sizes.now offsets × AddsCells bins.old.items bins.new.items sizes.now offsets) }
     ensures fault { IfErr result (λ fault. fault ≡ ArenaFault.Memory) }
