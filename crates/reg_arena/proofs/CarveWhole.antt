@@ -29,7 +29,7 @@ pub record Rested (old new : List ℕ) (at hi n next link : ℕ) : Type 0 where
   pub tiles : Tiles new at hi (rest_of at n)
   pub follows : (later : List ℕ) (lo : ℕ) (back : List ℕ) → SameOutside lo at new later → Follows later next back → Follows later link (rest_offsets at n ++ back)
 
-Follows-words : (old new : List ℕ) (offsets : List ℕ) (head : ℕ) → AllByRecursion (λ (x : ℕ). word new (x + 4) ≡ word old (x + 4)) offsets → Follows old head offsets → Follows new head offsets
+pub Follows-words : (old new : List ℕ) (offsets : List ℕ) (head : ℕ) → AllByRecursion (λ (x : ℕ). word new (x + 4) ≡ word old (x + 4)) offsets → Follows old head offsets → Follows new head offsets
 Follows-words old new [] head a h = h
 Follows-words old new (o ∷ os) head a h = (h.0, rw a.0 (Follows-words old new os (word old (o + 4)) a.1 h.1))
 
@@ -223,7 +223,7 @@ carving old s2 s3 head head' count count' previous cell ss a oks positive ch sma
     let t = taken one_class 0 (cells_in a.layout) ch.front cell ch.back ch.exact in
     let f = free-facts old a.layout ch.front cell ch.back a.tiled t in
     let next : ℕ = word old (cell + 4) in
-    let r = relinked old a.layout head next ch.front cell ch.back previous a.tiled a.small small ch.exact ch.follows ch.ends in
+    let r = relinked old a.layout head next ch.front cell ch.back previous a.tiled a.small small (λ o. omega (arith, ch.exact o)) ch.follows ch.ends in
     let n0 : t.at.c.size - total_of ss ≡ 0 = omega (arith, f.0) in
     let r' : Relinked old s2 a.layout head' next ch.front ch.back = rw (h.1, h.2) r in
     let cnt : count' ≡ length ch.front + (length (rest_offsets (cell + total_of ss) (t.at.c.size - total_of ss)) + length ch.back) = rw n0 (omega (arith, h.3, ch.counted)) in
@@ -235,7 +235,7 @@ carving old s2 s3 head head' count count' previous cell ss a oks positive ch sma
     let link : ℕ = cell + total_of ss in
     let n : ℕ = t.at.c.size - total_of ss in
     let short = a.small in
-    let r = relinked old a.layout head link ch.front cell ch.back previous a.tiled a.small (omega (arith, f.1.within, h.0)) ch.exact ch.follows ch.ends in
+    let r = relinked old a.layout head link ch.front cell ch.back previous a.tiled a.small (omega (arith, f.1.within, h.0)) (λ o. omega (arith, ch.exact o)) ch.follows ch.ends in
     let s1 : List ℕ = linked previous link old in
     let r' : Relinked old s1 a.layout head' link ch.front ch.back = rw h.2 r in
     let some : 0 < n = omega (arith, f.0, h.0) in

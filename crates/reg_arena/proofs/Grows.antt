@@ -69,7 +69,7 @@ apart-last (x ∷ xs) n size a h = (join xs h.0, apart-last xs n size a.1 h.1)
     join (z ∷ zs) b = (b.0, join zs b.1)
 
 -- each cell ends within the bytes
-ends-from : (old : List ℕ) (layout : List Bin) → AreBins old 0 layout → (P : Cell → Type 0) → ((c : Cell) → IsCell old (length old) c → P c) → (xs ys : List Cell) → cells_in layout ≡ xs ++ ys → AllByRecursion P ys
+pub ends-from : (old : List ℕ) (layout : List Bin) → AreBins old 0 layout → (P : Cell → Type 0) → ((c : Cell) → IsCell old (length old) c → P c) → (xs ys : List Cell) → cells_in layout ≡ xs ++ ys → AllByRecursion P ys
 ends-from old layout h P f xs [] e = tt
 ends-from old layout h P f xs (c ∷ ys) e = (f c (stands old layout xs c ys h e).cell, ends-from old layout h P f (xs ++ c ∷ []) ys (e ∙ sym (append_assoc xs (c ∷ []) ys)))
 

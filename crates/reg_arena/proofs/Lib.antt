@@ -20,3 +20,7 @@ pub mod Faults
 pub mod NewBins
 pub mod Grows
 pub mod Layouts
+pub mod Counts
+pub mod Frees
+pub mod Neighbours
+pub mod TableEdits

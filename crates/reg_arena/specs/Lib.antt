@@ -5,3 +5,4 @@ pub mod Carves
 pub mod NewBin
 pub mod Walks
 pub mod Arena
+pub mod Tables
