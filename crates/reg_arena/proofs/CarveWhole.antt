@@ -47,7 +47,7 @@ mixed x None y h = refl
 mixed None (Some z) y h = refl
 mixed (Some x) (Some z) y h = absurd (cc (h refl))
 
-as_unused : (c : Cell) → c.allocated ≡ false → c ≡ unused c.offset c.size
+pub as_unused : (c : Cell) → c.allocated ≡ false → c ≡ unused c.offset c.size
 as_unused c e = rw (← e) refl
 
 -- what a carve leaves

@@ -52,7 +52,7 @@ pub record EndsFree (xs ys : List Cell) (lo hi : ℕ) : Type 0 where
   pub before : AllByRecursion (λ (x : Cell). x.allocated ≡ false → x.offset + x.size ≡ lo → ⊥) xs
   pub after : AllByRecursion (λ (y : Cell). y.allocated ≡ false → hi ≡ y.offset → ⊥) ys
 
-apart-back : (xs ys : List Cell) → AreApart (xs ++ ys) → AreApart ys
+pub apart-back : (xs ys : List Cell) → AreApart (xs ++ ys) → AreApart ys
 apart-back [] ys h = h
 apart-back (x ∷ xs) ys h = apart-back xs ys h.1
 

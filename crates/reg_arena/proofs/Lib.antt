@@ -24,3 +24,5 @@ pub mod Counts
 pub mod Frees
 pub mod Neighbours
 pub mod TableEdits
+pub mod Unlinks
+pub mod Surrounds

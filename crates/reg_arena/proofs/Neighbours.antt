@@ -45,7 +45,7 @@ bins-after bytes at (q ∷ qs) c ys h e =
     let p : AreOrdered (at + 32) (c ∷ ys) = subst (AreOrdered (at + 32)) (sym e) o in
     p.0
 
-AreBins-rest : (bytes : List ℕ) (at : ℕ) (ps : List Bin) (b : Bin) (qs : List Bin) → AreBins bytes at (ps ++ b ∷ qs) → AreBins bytes (b.start + b.size) qs
+pub AreBins-rest : (bytes : List ℕ) (at : ℕ) (ps : List Bin) (b : Bin) (qs : List Bin) → AreBins bytes at (ps ++ b ∷ qs) → AreBins bytes (b.start + b.size) qs
 AreBins-rest bytes at [] b qs h = rw h.0 h.3
 AreBins-rest bytes at (p ∷ ps) b qs h = AreBins-rest bytes (at + p.size) ps b qs h.3
 
