@@ -26,3 +26,5 @@ pub mod Neighbours
 pub mod TableEdits
 pub mod Unlinks
 pub mod Surrounds
+pub mod Indexes
+pub mod Indexed

@@ -83,7 +83,7 @@ pub record InList (bytes : List ℕ) (head count : ℕ) (backs : List ℕ) (cell
   pub previous_in : (get_or backs (cell / 8) 0 ≡ 4294967295 → ⊥) → get_or backs (cell / 8) 0 + 8 ≤ length bytes
   pub next_in : (word bytes (cell + 4) ≡ 4294967295 → ⊥) → word bytes (cell + 4) + 8 ≤ length bytes
 
-next-in : (bytes : List ℕ) (layout : List Bin) (front : List ℕ) (cell next : ℕ) (back : List ℕ) → AreBins bytes 0 layout → ((o : ℕ) → times o (front ++ cell ∷ back) ≤ times o (free_of one_class 0 (cells_in layout))) → Follows bytes next back → (next ≡ 4294967295 → ⊥) → next + 8 ≤ length bytes
+pub next-in : (bytes : List ℕ) (layout : List Bin) (front : List ℕ) (cell next : ℕ) (back : List ℕ) → AreBins bytes 0 layout → ((o : ℕ) → times o (front ++ cell ∷ back) ≤ times o (free_of one_class 0 (cells_in layout))) → Follows bytes next back → (next ≡ 4294967295 → ⊥) → next + 8 ≤ length bytes
 next-in bytes layout front cell next [] tiled exact f ne = absurd (ne f)
 next-in bytes layout front cell next (n ∷ back) tiled exact f ne =
     let a = alone bytes layout (front ++ cell ∷ []) n back tiled (λ o. (let e : times o ((front ++ cell ∷ []) ++ n ∷ back) ≡ times o (front ++ cell ∷ (n ∷ back)) = ap (times o) (append_assoc front (cell ∷ []) (n ∷ back)) in omega (arith, e, exact o))) in

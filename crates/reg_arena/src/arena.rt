@@ -28,17 +28,22 @@ pub struct Arena {
     head: u32,
     /// How many free cells there are.
     count: usize,
+    /// For each eight bytes, the free cell that ends there, or 0.
+    ends: Vec<u32>,
+    /// For each free cell's first eight bytes, the free cell before it in the list, or `NONE`.
+    backs: Vec<u32>,
 }
 
 impl Model for Arena {
     ghost use Rattle.std.specs.Prelude.{[], ◌∷◌};
-    ghost use Rattle.reg_arena.specs.Arena.{Bins, IsArena};
+    ghost use Rattle.reg_arena.specs.Arena.{Bins};
+    ghost use Rattle.reg_arena.specs.Tables.{IsIndexed};
 
     ghost Value = { Bins };
 
     ghost view = { λ a. record { bytes = a.bins.items; heads = a.head ∷ [] } };
 
-    ghost invariant = { λ a. IsArena a.bins.items (a.head ∷ []) (a.count ∷ []) };
+    ghost invariant = { λ a. IsIndexed a.bins.items (a.head ∷ []) (a.count ∷ []) a.ends.items a.backs.items };
 }
 
 impl Arena {
@@ -51,6 +56,8 @@ impl Arena {
             bins: Vec::new(alloc),
             head: NONE,
             count: 0,
+            ends: Vec::new(alloc),
+            backs: Vec::new(alloc),
         }
     }
 
@@ -178,6 +185,8 @@ impl Arena {
                 &mut self.bins,
                 &mut self.head,
                 &mut self.count,
+                &mut self.ends,
+                &mut self.backs,
                 total,
                 sizes,
                 out,
@@ -187,6 +196,8 @@ impl Arena {
             &mut self.bins,
             &mut self.head,
             &mut self.count,
+            &mut self.ends,
+            &mut self.backs,
             place,
             total,
             sizes,

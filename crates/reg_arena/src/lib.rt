@@ -16,6 +16,7 @@ mod carve;
 mod cut;
 pub mod laws;
 mod list;
+mod tables;
 #[cfg(test)]
 mod tests;
 mod walk;

@@ -33,3 +33,7 @@ returns-clause-ok c =
 pub returns-clause-fit : goal.returns-clause-fit
 returns-clause-fit c =
     (added c.args.bins.now.items c.lengthen.new.bins.items c.put_header.new.bins.items c.put_free.new.bins.items c.args.head.now c.args.count.now c.len-at.result c.bin_size-size.result c.args.total c.requires.arena c.bin_size-size.ensures.least c.requires.positive (omega arith) (c.requires.room c.bin_size-size.result c.bin_size-size.ensures.least) (omega arith) c.in_ok-lengthen.ensures.ok c.put_header.ensures c.put_free.ensures).fit
+
+pub returns-clause-chained : goal.returns-clause-chained
+returns-clause-chained c =
+    (added c.args.bins.now.items c.lengthen.new.bins.items c.put_header.new.bins.items c.put_free.new.bins.items c.args.head.now c.args.count.now c.len-at.result c.bin_size-size.result c.args.total c.requires.arena c.bin_size-size.ensures.least c.requires.positive (omega arith) (c.requires.room c.bin_size-size.result c.bin_size-size.ensures.least) (omega arith) c.in_ok-lengthen.ensures.ok c.put_header.ensures c.put_free.ensures).chained
