@@ -75,6 +75,10 @@ apart-merge (x ∷ xs) mid ys lo size e h = (
   apart-merge xs mid ys lo size (record { before = e.before.1; after = e.after }) h.1,
 )
 
+sizes-eights : (bytes : List ℕ) (at stop : ℕ) (cs : List Cell) → Tiles bytes at stop cs → sizes cs % 8 ≡ 0
+sizes-eights bytes at stop [] t = omega arith
+sizes-eights bytes at stop (c ∷ cs) t = (let r = sizes-eights bytes (at + c.size) stop cs t.2 in omega (arith, r, t.1.eights))
+
 -- what freeing leaves
 pub record Freeing (old new : List ℕ) (lo count' cell : ℕ) (offsets : List ℕ) (xs mid ys : List Cell) : Type 0 where
   pub arena : IsArena new (lo ∷ []) (count' ∷ [])
@@ -87,8 +91,8 @@ contents-free : (x m y : Option (List ℕ)) (offset cell : ℕ) → ((offset ≡
 contents-free x m y offset cell f g (inl e) = let s : eqb offset cell ≡ true = eq-eqb _ _ e in let n = g e in rw (s, n.0, n.1) refl
 contents-free x m y offset cell f g (inr e) = let s : eqb offset cell ≡ false = ne_eqb _ _ e in let n = f e in rw (s, n) refl
 
-pub freeing : (old s1 : List ℕ) (layout : List Bin) (head : ℕ) (offsets : List ℕ) (xs : List Cell) (m : Cell) (ms ys : List Cell) (cell count' : ℕ) → AreBins old 0 layout → AreBins s1 0 layout → length s1 ≤ 268435456 → length s1 ≡ length old → ((offset : ℕ) → content_in s1 (cells_in layout) offset ≡ content_in old (cells_in layout) offset) → AreApart (cells_in layout) → Follows s1 head offsets → head < 4294967296 → ((o : ℕ) → times o offsets ≡ times o (free_of one_class 0 xs) + times o (free_of one_class 0 ys)) → cells_in layout ≡ xs ++ ((m ∷ ms) ++ ys) → PlacedRow layout xs (m ∷ ms) ys → EndsFree xs ys m.offset (m.offset + sizes (m ∷ ms)) → sizes (m ∷ ms) % 8 ≡ 0 → m.offset ≤ cell → cell < m.offset + sizes (m ∷ ms) → ((offset : ℕ) → (offset ≡ cell → ⊥) → content_in s1 (m ∷ ms) offset ≡ None) → count' ≡ suc (length offsets) → Freeing old (freed m.offset (sizes (m ∷ ms)) head s1) m.offset count' cell offsets xs (m ∷ ms) ys
-freeing old s1 layout head offsets xs m ms ys cell count' tiled0 tiled small long same apart follows short exact cells_are p ends eights in_lo in_hi only counted =
+pub freeing : (old s1 : List ℕ) (layout : List Bin) (head : ℕ) (offsets : List ℕ) (xs : List Cell) (m : Cell) (ms ys : List Cell) (cell count' : ℕ) → AreBins old 0 layout → AreBins s1 0 layout → length s1 ≤ 268435456 → length s1 ≡ length old → ((offset : ℕ) → content_in s1 (cells_in layout) offset ≡ content_in old (cells_in layout) offset) → AreApart (cells_in layout) → Follows s1 head offsets → head < 4294967296 → ((o : ℕ) → times o offsets ≡ times o (free_of one_class 0 xs) + times o (free_of one_class 0 ys)) → cells_in layout ≡ xs ++ ((m ∷ ms) ++ ys) → PlacedRow layout xs (m ∷ ms) ys → EndsFree xs ys m.offset (m.offset + sizes (m ∷ ms)) → m.offset ≤ cell → cell < m.offset + sizes (m ∷ ms) → ((offset : ℕ) → (offset ≡ cell → ⊥) → content_in s1 (m ∷ ms) offset ≡ None) → count' ≡ suc (length offsets) → Freeing old (freed m.offset (sizes (m ∷ ms)) head s1) m.offset count' cell offsets xs (m ∷ ms) ys
+freeing old s1 layout head offsets xs m ms ys cell count' tiled0 tiled small long same apart follows short exact cells_are p ends in_lo in_hi only counted =
     let mid : List Cell = m ∷ ms in
     let size : ℕ = sizes mid in
     let lo : ℕ = m.offset in
@@ -99,6 +103,7 @@ freeing old s1 layout head offsets xs m ms ys cell count' tiled0 tiled small lon
     let from = Tiles-back s1 (p.b.start + 32) (p.b.start + p.b.size) p.us (mid ++ p.vs) in_bin in
     let start : p.b.start + 32 + sizes p.us ≡ lo = sym from.0 in
     let row : Tiles s1 lo hi mid = subst (λ (k : ℕ). Tiles s1 k (k + size) mid) start (Tiles-front s1 (p.b.start + 32 + sizes p.us) (p.b.start + p.b.size) mid p.vs from) in
+    let eights = sizes-eights s1 lo (lo + size) mid row in
     let rest = Tiles-back s1 (p.b.start + 32 + sizes p.us) (p.b.start + p.b.size) mid p.vs from in
     let end = Tiles-le s1 _ (p.b.start + p.b.size) p.vs rest in
     let within : hi ≤ length s1 = omega (arith, here.0.within) in

@@ -18,19 +18,9 @@ use Rattle.reg_arena.proofs.Tilings.{cells_of-AreBins}
 use Rattle.reg_arena.proofs.Finds.{Follows-chain}
 use Rattle.reg_arena.proofs.Carving.{one_list, rest_offsets}
 use Rattle.reg_arena.proofs.CarveWhole.{CarvingAt, call-facts, CallFacts, facts-at}
-use Rattle.reg_arena.proofs.TableEdits.{last_or, backs-split, IsTail, backs-remove, backs-insert, open-behind, open-front}
+use Rattle.reg_arena.proofs.TableEdits.{last_or, backs-split, IsTail, backs-remove, backs-insert, open-behind, open-front, length-marked}
 use Rattle.reg_arena.proofs.Unlinks.{Alone, tail-behind, tail-front, next-in}
 use Rattle.reg_arena.proofs.Indexes.{cells-are, list-is, alone-in, ends-are-last, ends-edit, ending-alone, ending-there, rest_end, carve-ends}
-
-length-marked-by : (n value : ℕ) (table : List ℕ) → length (marked n value table) ≡ length table
-length-marked-by n value table = by n value table (eqb n 4294967295)
-  where
-    by : (n value : ℕ) (table : List ℕ) (b : Bool) → length (cond b table (set table (n / 8) value)) ≡ length table
-    by n value table true = refl
-    by n value table false = length-set table (n / 8) value
-
-pub length-marked : (n value : ℕ) (table : List ℕ) → length (marked n value table) ≡ length table
-length-marked = length-marked-by
 
 rest-some : (at n : ℕ) → 0 < n → rest_offsets at n ≡ at ∷ []
 rest-some at zero l = absurd (omega arith)

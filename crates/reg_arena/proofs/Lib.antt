@@ -28,3 +28,5 @@ pub mod Unlinks
 pub mod Surrounds
 pub mod Indexes
 pub mod Indexed
+pub mod FreeWhole
+pub mod FreeEnd

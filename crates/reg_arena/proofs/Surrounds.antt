@@ -8,7 +8,7 @@ use Rattle.reg_arena.specs.Cells.{Bin, IsCell, Tiles, AreBins, cells_in, size_in
 use Rattle.reg_arena.specs.Free.{Touch, AreApart}
 use Rattle.reg_arena.specs.NewCells.{used, unused}
 use Rattle.reg_arena.specs.Tables.{ending}
-use Rattle.reg_arena.specs.Frees.{IsFreePiece}
+use Rattle.reg_arena.specs.Frees.{IsFreePiece, IsRight, start_of}
 use Rattle.reg_arena.proofs.Tilings.{sizes, Tiles-back}
 use Rattle.reg_arena.proofs.Places.{Placed, placed, stands, AreBins-at}
 use Rattle.reg_arena.proofs.Contents.{IsBeside, AreOrdered, AreOrdered-AreBins, besides-before, besides-after}
@@ -84,11 +84,8 @@ all-part P (x ∷ xs) ys h = (h.0, all-part P xs ys h.1)
 
 -- ---- the left
 
--- the cell before which the piece begins
-abbrev pub start_of : ℕ → ℕ → ℕ
-start_of left cell = cond (eqb left 0) cell left
-
-pub record Lefts (layout : List Bin) (c : Cell) (ys : List Cell) (lo : ℕ) : Type 0 where
+pub record Lefts (layout : List Bin) (c : Cell) (ys : List Cell) (lo left : ℕ) : Type 0 where
+  pub at_start : lo ≡ c.offset → left ≡ 0
   pub xs : List Cell
   pub lefts : List Cell
   pub cells_are : cells_in layout ≡ xs ++ (lefts ++ c ∷ ys)
@@ -107,8 +104,9 @@ apart-front (x ∷ ds) d bs f h = ((λ u e. here ds h.0 (record { first = u; sec
     here [] a t = a.0 t
     here (z ∷ zs) a t = here zs a.1 t
 
-lefts-none : (bytes : List ℕ) (layout : List Bin) (xs : List Cell) (c : Cell) (ys : List Cell) (u : ℕ) → AreBins bytes 0 layout → cells_in layout ≡ xs ++ c ∷ ys → 8 * u + 8 ≡ c.offset → ending u (cells_in layout) ≡ 0 → Lefts layout c ys c.offset
-lefts-none bytes layout xs c ys u tiled e place z = record {
+lefts-none : (bytes : List ℕ) (layout : List Bin) (xs : List Cell) (c : Cell) (ys : List Cell) (u left : ℕ) → AreBins bytes 0 layout → cells_in layout ≡ xs ++ c ∷ ys → 8 * u + 8 ≡ c.offset → ending u (cells_in layout) ≡ 0 → left ≡ 0 → Lefts layout c ys c.offset left
+lefts-none bytes layout xs c ys u left tiled e place z zero_left = record {
+  at_start = λ _. zero_left;
   xs = xs;
   lefts = [];
   cells_are = e;
@@ -120,7 +118,7 @@ lefts-none bytes layout xs c ys u tiled e place z = record {
 as_free : (d : Cell) (hi : ℕ) → d.allocated ≡ false → d.offset + d.size ≡ hi → d ≡ unused d.offset (hi - d.offset)
 as_free d hi f e = (let n : d.size ≡ hi - d.offset = omega arith in as_unused d f ∙ ap (λ (k : ℕ). unused d.offset k) n)
 
-lefts-some : (bytes : List ℕ) (layout : List Bin) (xs : List Cell) (c : Cell) (ys : List Cell) (u : ℕ) → AreBins bytes 0 layout → AreApart (cells_in layout) → cells_in layout ≡ xs ++ c ∷ ys → 8 * u + 8 ≡ c.offset → 0 < ending u (cells_in layout) → Lefts layout c ys (ending u (cells_in layout))
+lefts-some : (bytes : List ℕ) (layout : List Bin) (xs : List Cell) (c : Cell) (ys : List Cell) (u : ℕ) → AreBins bytes 0 layout → AreApart (cells_in layout) → cells_in layout ≡ xs ++ c ∷ ys → 8 * u + 8 ≡ c.offset → 0 < ending u (cells_in layout) → Lefts layout c ys (ending u (cells_in layout)) (ending u (cells_in layout))
 lefts-some bytes layout xs c ys u tiled apart e place some =
     let r = ends_there u (cells_in layout) some in
     let d = r.d in
@@ -136,6 +134,7 @@ lefts-some bytes layout xs c ys u tiled apart e place some =
     let lo : ending u (cells_in layout) ≡ d.offset = ap (ending u) r.split ∙ omega (arith, ending-append u r.ds (d ∷ r.bs), ending-self u d r.bs r.free r.end, none, none') in
     let cells : cells_in layout ≡ r.ds ++ d ∷ (c ∷ ys) = r.split ∙ ap (λ (t : List Cell). r.ds ++ d ∷ t) n.1 in
     rw lo (record {
+      at_start = λ same. absurd (omega (arith, touch, eight, same));
       xs = r.ds;
       lefts = d ∷ [];
       cells_are = cells;
@@ -144,15 +143,15 @@ lefts-some bytes layout xs c ys u tiled apart e place some =
       before = apart-front r.ds d r.bs r.free (subst AreApart r.split apart);
     })
 
-lefts-by : (bytes : List ℕ) (layout : List Bin) (xs : List Cell) (c : Cell) (ys : List Cell) (u left : ℕ) → AreBins bytes 0 layout → AreApart (cells_in layout) → cells_in layout ≡ xs ++ c ∷ ys → 8 * u + 8 ≡ c.offset → left ≡ ending u (cells_in layout) → (b : Bool) → eqb left 0 ≡ b → Lefts layout c ys (cond b c.offset left)
-lefts-by bytes layout xs c ys u left tiled apart e place is true z = lefts-none bytes layout xs c ys u tiled e place (sym is ∙ eqb-true left 0 z)
+lefts-by : (bytes : List ℕ) (layout : List Bin) (xs : List Cell) (c : Cell) (ys : List Cell) (u left : ℕ) → AreBins bytes 0 layout → AreApart (cells_in layout) → cells_in layout ≡ xs ++ c ∷ ys → 8 * u + 8 ≡ c.offset → left ≡ ending u (cells_in layout) → (b : Bool) → eqb left 0 ≡ b → Lefts layout c ys (cond b c.offset left) left
+lefts-by bytes layout xs c ys u left tiled apart e place is true z = lefts-none bytes layout xs c ys u left tiled e place (sym is ∙ eqb-true left 0 z) (eqb-true left 0 z)
 lefts-by bytes layout xs c ys u left tiled apart e place is false z = rw is (lefts-some bytes layout xs c ys u tiled apart e place (positive (ending u (cells_in layout)) (rw is at z)))
   where
     positive : (n : ℕ) → eqb n 0 ≡ false → 0 < n
     positive zero h = absurd (cc h)
     positive (suc n) h = omega arith
 
-pub lefts : (bytes : List ℕ) (layout : List Bin) (xs : List Cell) (c : Cell) (ys : List Cell) (u left : ℕ) → AreBins bytes 0 layout → AreApart (cells_in layout) → cells_in layout ≡ xs ++ c ∷ ys → 8 * u + 8 ≡ c.offset → left ≡ ending u (cells_in layout) → Lefts layout c ys (start_of left c.offset)
+pub lefts : (bytes : List ℕ) (layout : List Bin) (xs : List Cell) (c : Cell) (ys : List Cell) (u left : ℕ) → AreBins bytes 0 layout → AreApart (cells_in layout) → cells_in layout ≡ xs ++ c ∷ ys → 8 * u + 8 ≡ c.offset → left ≡ ending u (cells_in layout) → Lefts layout c ys (start_of left c.offset) left
 lefts bytes layout xs c ys u left tiled apart e place is = lefts-by bytes layout xs c ys u left tiled apart e place is (eqb left 0) refl
 
 -- ---- the right
@@ -182,8 +181,8 @@ after-none bytes layout end tiled small none xs (y ∷ ys) e =
       after-none bytes layout end tiled small none (xs ++ y ∷ []) ys (e ∙ sym (append_assoc xs (y ∷ []) ys)),
     )
 
-rights-none : (bytes : List ℕ) (layout : List Bin) (c : Cell) (ys : List Cell) (lo : ℕ) (l : Lefts layout c ys lo) → AreBins bytes 0 layout → length bytes ≤ 268435456 → (c.offset + c.size < length bytes → word bytes (c.offset + c.size) ≤ 268435456 → ⊥) → Rights layout l.xs l.lefts c (c.offset + c.size)
-rights-none bytes layout c ys lo l tiled small none = record {
+rights-none : (bytes : List ℕ) (layout : List Bin) (c : Cell) (ys : List Cell) (lo left : ℕ) (l : Lefts layout c ys lo left) → AreBins bytes 0 layout → length bytes ≤ 268435456 → (c.offset + c.size < length bytes → word bytes (c.offset + c.size) ≤ 268435456 → ⊥) → Rights layout l.xs l.lefts c (c.offset + c.size)
+rights-none bytes layout c ys lo left l tiled small none = record {
   rights = [];
   ys = ys;
   cells_are = l.cells_are ∙ ap (λ (t : List Cell). l.xs ++ t) (sym (append_assoc l.lefts (c ∷ []) ys));
@@ -202,8 +201,8 @@ end-of-bins : (bytes : List ℕ) (end : ℕ) (qs : List Bin) → AreBins bytes e
 end-of-bins bytes end [] h l w = omega arith
 end-of-bins bytes end (q ∷ qs) h l w = (let s : word bytes end ≡ 1852400232 = ap (word bytes) (sym h.0) ∙ h.1.signature in omega (arith, s))
 
-rights-by : (bytes : List ℕ) (layout : List Bin) (c : Cell) (ys : List Cell) (lo : ℕ) (l : Lefts layout c ys lo) → AreBins bytes 0 layout → AreApart (cells_in layout) → c.offset + c.size < length bytes → word bytes (c.offset + c.size) ≤ 268435456 → (vs : List Cell) → l.row.vs ≡ vs → Rights layout l.xs l.lefts c (c.offset + c.size + word bytes (c.offset + c.size))
-rights-by bytes layout c ys lo l tiled apart inside free [] e =
+rights-by : (bytes : List ℕ) (layout : List Bin) (c : Cell) (ys : List Cell) (lo left : ℕ) (l : Lefts layout c ys lo left) → AreBins bytes 0 layout → AreApart (cells_in layout) → c.offset + c.size < length bytes → word bytes (c.offset + c.size) ≤ 268435456 → (vs : List Cell) → l.row.vs ≡ vs → Rights layout l.xs l.lefts c (c.offset + c.size + word bytes (c.offset + c.size))
+rights-by bytes layout c ys lo left l tiled apart inside free [] e =
     let p = l.row in
     let laid = subst (AreBins bytes 0) p.bins tiled in
     let here = AreBins-at bytes 0 p.ps p.b p.qs laid in
@@ -212,7 +211,7 @@ rights-by bytes layout c ys lo l tiled apart inside free [] e =
     let end : p.b.start + p.b.size ≡ c.offset + c.size = omega (arith, tiles.0, tiles.2) in
     let rest : AreBins bytes (c.offset + c.size) p.qs = subst (λ (k : ℕ). AreBins bytes k p.qs) end (AreBins-rest bytes 0 p.ps p.b p.qs laid) in
     absurd (end-of-bins bytes (c.offset + c.size) p.qs rest inside free)
-rights-by bytes layout c ys lo l tiled apart inside free (v ∷ vs) e =
+rights-by bytes layout c ys lo left l tiled apart inside free (v ∷ vs) e =
     let p = l.row in
     let laid = subst (AreBins bytes 0) p.bins tiled in
     let here = AreBins-at bytes 0 p.ps p.b p.qs laid in
@@ -250,11 +249,6 @@ rights-by bytes layout c ys lo l tiled apart inside free (v ∷ vs) e =
     touching [] a f g h = tt
     touching (z ∷ zs) a f g h = ((λ u q. a.0 (record { first = f; second = u; ends = omega (arith, g, h, q) })), touching zs a.1 f g h)
 
--- what the code finds at the end of a cell: the size of the free cell there, or 0
-abbrev pub IsRight : List ℕ → ℕ → ℕ → Type 0
-IsRight bytes end right =
-    ((end < length bytes) × (word bytes end ≤ 268435456) × (right ≡ word bytes end)) ⊎ ((right ≡ 0) × (end < length bytes → word bytes end ≤ 268435456 → ⊥))
-
-pub rights : (bytes : List ℕ) (layout : List Bin) (c : Cell) (ys : List Cell) (lo right : ℕ) (l : Lefts layout c ys lo) → AreBins bytes 0 layout → AreApart (cells_in layout) → length bytes ≤ 268435456 → IsRight bytes (c.offset + c.size) right → Rights layout l.xs l.lefts c (c.offset + c.size + right)
-rights bytes layout c ys lo right l tiled apart small (inl h) = rw h.2 (rights-by bytes layout c ys lo l tiled apart h.0 h.1 l.row.vs refl)
-rights bytes layout c ys lo right l tiled apart small (inr h) = (let e : c.offset + c.size + right ≡ c.offset + c.size = omega (arith, h.0) in rw e (rights-none bytes layout c ys lo l tiled small h.1))
+pub rights : (bytes : List ℕ) (layout : List Bin) (c : Cell) (ys : List Cell) (lo left right : ℕ) (l : Lefts layout c ys lo left) → AreBins bytes 0 layout → AreApart (cells_in layout) → length bytes ≤ 268435456 → IsRight bytes (c.offset + c.size) right → Rights layout l.xs l.lefts c (c.offset + c.size + right)
+rights bytes layout c ys lo left right l tiled apart small (inl h) = rw h.2 (rights-by bytes layout c ys lo left l tiled apart h.0 h.1 l.row.vs refl)
+rights bytes layout c ys lo left right l tiled apart small (inr h) = (let e : c.offset + c.size + right ≡ c.offset + c.size = omega (arith, h.0) in rw e (rights-none bytes layout c ys lo left l tiled small h.1))

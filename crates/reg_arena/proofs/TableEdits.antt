@@ -90,3 +90,13 @@ backs-insert table front cell next (n ∷ back) t a b l o =
     let own : get_or new (cell / 8) 0 ≡ value = get_or-set_same mid (cell / 8) value 0 (rw (length-set table (n / 8) cell) l) in
     let start : AreBacks new 4294967295 front = backs-set mid (cell / 8) value 4294967295 front a (backs-set table (n / 8) cell 4294967295 front t.3 o.0) in
     rw (t.0, marked-some n cell table t.1) (backs-join new 4294967295 front (cell ∷ (n ∷ back)) start (own, (first, rest)))
+
+length-marked-by : (n value : ℕ) (table : List ℕ) → length (marked n value table) ≡ length table
+length-marked-by n value table = by n value table (eqb n 4294967295)
+  where
+    by : (n value : ℕ) (table : List ℕ) (b : Bool) → length (cond b table (set table (n / 8) value)) ≡ length table
+    by n value table true = refl
+    by n value table false = length-set table (n / 8) value
+
+pub length-marked : (n value : ℕ) (table : List ℕ) → length (marked n value table) ≡ length table
+length-marked = length-marked-by

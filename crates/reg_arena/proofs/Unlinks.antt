@@ -1,6 +1,6 @@
 -- A free cell out of its list, while the cells are not yet what the list says.
-use Rattle.std.proofs.Common.{◌≡◌, ℕ, suc, ◌+◌, ◌*◌, ◌/◌, ◌<◌, ◌≤◌, Bool, false, not, ◌⊎◌, inl, inr, List, [], ◌∷◌, ◌++◌, length, get_or, refl, sym, ap, ◌∙◌, subst, arith, append_assoc, length-append, eqb}
-use Rattle.std.proofs.lemmas.Bool.{and_parts, not-true}
+use Rattle.std.proofs.Common.{◌≡◌, ℕ, suc, ◌+◌, ◌*◌, ◌/◌, ◌<◌, ◌≤◌, Bool, false, not, ◌⊎◌, inl, inr, List, [], ◌∷◌, ◌++◌, length, get_or, refl, sym, ap, ◌∙◌, subst, arith, append_assoc, length-append, eqb, cond, true}
+use Rattle.std.proofs.lemmas.Bool.{eq-eqb, ne_eqb}
 use Rattle.std.specs.List.{AllByRecursion}
 use Rattle.reg_heap.specs.Words.{word}
 use Rattle.reg_arena.specs.declared.Cell.{Cell}
@@ -8,6 +8,7 @@ use Rattle.reg_arena.specs.Cells.{Bin, AreBins, cells_in, content_in}
 use Rattle.reg_arena.specs.Free.{Follows, times, free_of, linked, head_after}
 use Rattle.reg_arena.specs.Arena.{one_class}
 use Rattle.reg_arena.specs.Tables.{AreBacks, marked}
+use Rattle.reg_arena.specs.Frees.{InList, Unlinks}
 use Rattle.reg_arena.proofs.Places.{stands}
 use Rattle.reg_arena.proofs.Contents.{IsBeside, AreOrdered, AreOrdered-AreBins, besides-before, besides-after}
 use Rattle.reg_arena.proofs.Links.{free_of-all}
@@ -15,7 +16,7 @@ use Rattle.reg_arena.proofs.Takes.{taken-some, others-some, times-append, Follow
 use Rattle.reg_arena.proofs.Relinks.{relinked, all-same, all-front}
 use Rattle.reg_arena.proofs.CarveWhole.{Follows-words}
 use Rattle.reg_arena.proofs.Counts.{Parted, parted}
-use Rattle.reg_arena.proofs.TableEdits.{IsApartFrom, units-apart, last_or, backs-split, ends-last, IsTail, backs-remove}
+use Rattle.reg_arena.proofs.TableEdits.{IsApartFrom, units-apart, last_or, backs-split, ends-last, IsTail, backs-remove, length-marked}
 
 -- the list holds all free cells but those taken out
 pub record Threads (bytes : List ℕ) (head count : ℕ) (backs : List ℕ) (layout : List Bin) (removed offsets : List ℕ) : Type 0 where
@@ -76,13 +77,6 @@ pub record Unlinked (old new : List ℕ) (head' count' : ℕ) (backs' : List ℕ
   pub contents : (offset : ℕ) → content_in new (cells_in layout) offset ≡ content_in old (cells_in layout) offset
   pub long : length new ≡ length old
 
--- what the list says of a cell in it
-pub record InList (bytes : List ℕ) (head count : ℕ) (backs : List ℕ) (cell : ℕ) : Type 0 where
-  pub place : cell + 8 ≤ length bytes
-  pub some : 0 < count
-  pub previous_in : (get_or backs (cell / 8) 0 ≡ 4294967295 → ⊥) → get_or backs (cell / 8) 0 + 8 ≤ length bytes
-  pub next_in : (word bytes (cell + 4) ≡ 4294967295 → ⊥) → word bytes (cell + 4) + 8 ≤ length bytes
-
 pub next-in : (bytes : List ℕ) (layout : List Bin) (front : List ℕ) (cell next : ℕ) (back : List ℕ) → AreBins bytes 0 layout → ((o : ℕ) → times o (front ++ cell ∷ back) ≤ times o (free_of one_class 0 (cells_in layout))) → Follows bytes next back → (next ≡ 4294967295 → ⊥) → next + 8 ≤ length bytes
 next-in bytes layout front cell next [] tiled exact f ne = absurd (ne f)
 next-in bytes layout front cell next (n ∷ back) tiled exact f ne =
@@ -98,7 +92,7 @@ last-in bytes layout front cell back tiled exact previous (inr e) ne =
 some-exact : (bytes : List ℕ) (head count : ℕ) (backs : List ℕ) (layout : List Bin) (removed offsets : List ℕ) (cell : ℕ) (t : Threads bytes head count backs layout removed offsets) (p : Parted cell offsets) → (o : ℕ) → times o (p.front ++ cell ∷ p.back) ≤ times o (free_of one_class 0 (cells_in layout))
 some-exact bytes head count backs layout removed offsets cell t p o = (let e : times o offsets ≡ times o (p.front ++ cell ∷ p.back) = ap (times o) p.split in omega (arith, e, t.exact o))
 
-pub in_list : (bytes : List ℕ) (head count : ℕ) (backs : List ℕ) (layout : List Bin) (removed offsets : List ℕ) (cell : ℕ) → Threads bytes head count backs layout removed offsets → 0 < times cell offsets → InList bytes head count backs cell
+pub in_list : (bytes : List ℕ) (head count : ℕ) (backs : List ℕ) (layout : List Bin) (removed offsets : List ℕ) (cell : ℕ) → Threads bytes head count backs layout removed offsets → 0 < times cell offsets → InList bytes count backs cell
 in_list bytes head count backs layout removed offsets cell t h =
     let p = parted cell offsets h in
     let exact = some-exact bytes head count backs layout removed offsets cell t p in
@@ -142,3 +136,22 @@ unlinked bytes new head head' count count' backs backs' layout removed offsets c
       contents = r.contents;
       long = r.long;
     })
+
+-- a cell taken out, unless there is none
+pub record Detached (old new : List ℕ) (head' count count' : ℕ) (backs backs' : List ℕ) (layout : List Bin) (removed : List ℕ) : Type 0 where
+  pub offsets : List ℕ
+  pub threads : Threads new head' count' backs' layout removed offsets
+  pub contents : (offset : ℕ) → content_in new (cells_in layout) offset ≡ content_in old (cells_in layout) offset
+  pub long : length new ≡ length old
+  pub table : length backs' ≡ length backs
+  pub fewer : count' ≤ count
+
+pub detached : (bytes new : List ℕ) (head head' count count' : ℕ) (backs backs' : List ℕ) (layout : List Bin) (removed offsets : List ℕ) (some cell : ℕ) → Threads bytes head count backs layout removed offsets → length bytes ≤ 268435456 → length bytes ≤ 8 * length backs → (0 < some → 0 < times cell offsets) → Unlinks some cell bytes head count backs new head' count' backs' → Detached bytes new head' count count' backs backs' layout (cond (eqb some 0) removed (cell ∷ removed))
+detached bytes new head head' count count' backs backs' layout removed offsets some cell t small room h (inl u) =
+    let zero_some : eqb some 0 ≡ true = eq-eqb some 0 u.0 in
+    rw (zero_some, u.1, u.2, u.3, u.4) (record { offsets = offsets; threads = t; contents = λ o. refl; long = refl; table = refl; fewer = omega arith })
+detached bytes new head head' count count' backs backs' layout removed offsets some cell t small room h (inr u) =
+    let other : eqb some 0 ≡ false = ne_eqb some 0 (λ e. (let l = u.0 in omega arith)) in
+    let r = unlinked bytes new head head' count count' backs backs' layout removed offsets cell t small room (h u.0) u.1 u.2 u.3 u.4 u.5 in
+    let marks : length backs' ≡ length backs = ap length u.4 ∙ length-marked (word bytes (cell + 4)) (get_or backs (cell / 8) 0) backs in
+    rw other (record { offsets = r.offsets; threads = r.threads; contents = r.contents; long = r.long; table = marks; fewer = omega (arith, u.5) })

@@ -1,14 +1,16 @@
 //! The arena as callers see it.
-ghost use Rattle.std.specs.Prelude.{◌≡◌, ◌==◌, ◌+◌, ◌-◌, ◌≤◌, ◌<◌, ℕ, List, [], ◌∷◌, ◌++◌, length, take, drop, IsSome, Some, unwrap_or, if◌then◌else◌, IfOk, IfErr, OnOk, OnErr, ◌↔◌};
+ghost use Rattle.std.specs.Prelude.{◌≡◌, ◌==◌, ◌+◌, ◌-◌, ◌≤◌, ◌<◌, ℕ, List, [], ◌∷◌, ◌++◌, length, take, drop, IsSome, Some, None, unwrap_or, if◌then◌else◌, IfOk, IfErr, OnOk, OnErr, ◌↔◌};
 ghost use Rattle.reg_heap.specs.Words.{splice, word};
 ghost use Rattle.reg_arena.specs.Arena.{IsSound};
 ghost use Rattle.reg_arena.specs.NewCells.{total_of, AreSizes};
 ghost use Rattle.reg_arena.specs.Carves.{AddsCells, CarvesExactly, NoFit};
 ghost use Rattle.reg_arena.specs.NewBin.{PassesLimit};
+ghost use Rattle.reg_arena.specs.Frees.{Frees};
 ghost use Rattle.reg_arena.specs.Cells.{cells_of, cell_at, size_in};
 
 use crate::bin::passes_limit;
 use crate::carve::{carve_bin, carve_found};
+use crate::free::free_cell;
 use crate::list::{NONE, find_fit};
 use crate::walk::list_cells;
 use crate::words::size_at;
@@ -152,6 +154,25 @@ impl Arena {
         let first = source as usize + 4 + from as usize;
         let place = cell as usize + 4 + at as usize;
         move_part(&mut self.bins, first, place, len as usize);
+    }
+
+    /// Frees the allocated cell at the offset `cell`. It and the free cells that touch it, which are in its bin, become one
+    /// free cell. The other cells keep what they hold. It takes no memory, and constant time.
+    ///
+    /// Suhanov, Windows registry file format specification, section "Cell".
+    pub fn free(&mut self, cell: u32)
+        requires { IsSome (cell_at self.old.bytes cell) }
+        ensures frees { Frees self.old.bytes self.new.bytes cell }
+        ensures contents { (offset : ℕ) → cell_at self.new.bytes offset ≡ (if offset == cell then None else cell_at self.old.bytes offset) }
+    {
+        free_cell(
+            &mut self.bins,
+            &mut self.head,
+            &mut self.count,
+            &mut self.ends,
+            &mut self.backs,
+            cell,
+        );
     }
 
     /// Allocates cells of these sizes, side by side and in their order, and puts their offsets behind those of `out`.

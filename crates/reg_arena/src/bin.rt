@@ -19,7 +19,7 @@ pub const HEADER_SIZE: u32 = 32;
 const PAGE_SIZE: u32 = 4096;
 
 /// All bins together have at most so many bytes.
-const LIMIT: u32 = 268_435_456;
+pub const LIMIT: u32 = 268_435_456;
 
 /// The letters `hbin`.
 const SIGNATURE: u32 = 0x6E69_6268;

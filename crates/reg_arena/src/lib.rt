@@ -14,6 +14,7 @@ mod arena;
 mod bin;
 mod carve;
 mod cut;
+mod free;
 pub mod laws;
 mod list;
 mod tables;
