@@ -29,7 +29,7 @@ pub record Rested (old new : List ℕ) (at hi n next link : ℕ) : Type 0 where
   pub tiles : Tiles new at hi (rest_of at n)
   pub follows : (later : List ℕ) (lo : ℕ) (back : List ℕ) → SameOutside lo at new later → Follows later next back → Follows later link (rest_offsets at n ++ back)
 
-Follows-words : (old new : List ℕ) (offsets : List ℕ) (head : ℕ) → AllByRecursion (λ (x : ℕ). word new (x + 4) ≡ word old (x + 4)) offsets → Follows old head offsets → Follows new head offsets
+pub Follows-words : (old new : List ℕ) (offsets : List ℕ) (head : ℕ) → AllByRecursion (λ (x : ℕ). word new (x + 4) ≡ word old (x + 4)) offsets → Follows old head offsets → Follows new head offsets
 Follows-words old new [] head a h = h
 Follows-words old new (o ∷ os) head a h = (h.0, rw a.0 (Follows-words old new os (word old (o + 4)) a.1 h.1))
 
@@ -47,15 +47,16 @@ mixed x None y h = refl
 mixed None (Some z) y h = refl
 mixed (Some x) (Some z) y h = absurd (cc (h refl))
 
-as_unused : (c : Cell) → c.allocated ≡ false → c ≡ unused c.offset c.size
+pub as_unused : (c : Cell) → c.allocated ≡ false → c ≡ unused c.offset c.size
 as_unused c e = rw (← e) refl
 
 -- what a carve leaves
-pub record Carving (old new : List ℕ) (head' count' cell : ℕ) (ss : List ℕ) : Type 0 where
+pub record Carving (old new : List ℕ) (head' count' cell : ℕ) (ss : List ℕ) (front back : List ℕ) : Type 0 where
   pub arena : IsArena new (head' ∷ []) (count' ∷ [])
   pub carves : Carves old new ss (offsets_of cell ss)
+  pub now : (size : ℕ) → size ≡ size_in (word old cell) → chain count' new head' ≡ front ++ (rest_offsets (cell + total_of ss) (size - total_of ss) ++ back)
 
-carving-by : (old s1 s2 s3 : List ℕ) (head head' count' link : ℕ) (layout : List Bin) (ss front : List ℕ) (cell : ℕ) (back : List ℕ) → AreBins old 0 layout → AreApart (cells_in layout) → length old ≤ 268435456 → AreSizes ss → 0 < total_of ss → ((o : ℕ) → times o (front ++ cell ∷ back) ≡ times o (free_of one_class 0 (cells_in layout))) → Follows old head (front ++ cell ∷ back) → (t : Taken one_class 0 (cells_in layout) front cell back) → t.at.c.offset ≡ cell → total_of ss ≤ t.at.c.size → Relinked old s1 layout head' link front back → Rested s1 s2 (cell + total_of ss) (cell + t.at.c.size) (t.at.c.size - total_of ss) (word old (cell + 4)) link → CutTo s2 s3 cell ss → count' ≡ length front + (length (rest_offsets (cell + total_of ss) (t.at.c.size - total_of ss)) + length back) → count' ≤ length old → Carving old s3 head' count' cell ss
+carving-by : (old s1 s2 s3 : List ℕ) (head head' count' link : ℕ) (layout : List Bin) (ss front : List ℕ) (cell : ℕ) (back : List ℕ) → AreBins old 0 layout → AreApart (cells_in layout) → length old ≤ 268435456 → AreSizes ss → 0 < total_of ss → ((o : ℕ) → times o (front ++ cell ∷ back) ≡ times o (free_of one_class 0 (cells_in layout))) → Follows old head (front ++ cell ∷ back) → (t : Taken one_class 0 (cells_in layout) front cell back) → t.at.c.offset ≡ cell → total_of ss ≤ t.at.c.size → Relinked old s1 layout head' link front back → Rested s1 s2 (cell + total_of ss) (cell + t.at.c.size) (t.at.c.size - total_of ss) (word old (cell + 4)) link → CutTo s2 s3 cell ss → count' ≡ length front + (length (rest_offsets (cell + total_of ss) (t.at.c.size - total_of ss)) + length back) → count' ≤ length old → Carving old s3 head' count' cell ss front back
 carving-by old s1 s2 s3 head head' count' link layout ss front cell back tiled apart small oks positive exact follows t place fits r rested cut counted few =
     let c = t.at.c in
     let xs = t.at.xs in
@@ -79,6 +80,8 @@ carving-by old s1 s2 s3 head head' count' link layout ss front cell back tiled a
     let next : Follows s3 (word old (cell + 4)) back = Follows-words old s3 back _ (words-trans old s1 s3 back r.others (words-clear s back clear.1)) (Follows-back old front head cell back follows) in
     let offsets' : List ℕ = front ++ (rest_offsets (cell + total_of ss) n ++ back) in
     let follows' : Follows s3 head' offsets' = r.follows s3 (rest_offsets (cell + total_of ss) n ++ back) (words-clear s front clear.0) (rested.follows s3 cell back cut.region next) in
+    let counts : length offsets' ≡ count' = length-append front _ ∙ ap (λ (k : ℕ). length front + k) (length-append (rest_offsets (cell + total_of ss) n) back) ∙ sym counted in
+    let chained : chain count' s3 head' ≡ offsets' = subst (λ (k : ℕ). chain k s3 head' ≡ offsets') counts (Follows-chain s3 offsets' head' follows') in
     let free_mid : free_of one_class 0 mid ≡ rest_offsets (cell + total_of ss) n = free_of-append one_class 0 (carved cell ss) _ ∙ ap (λ (q : List ℕ). q ++ free_of one_class 0 (rest_of (cell + total_of ss) n)) (free_of-carved cell ss) ∙ free_of-rest (cell + total_of ss) n in
     let exact' : (o : ℕ) → times o offsets' ≡ times o (free_of one_class 0 (cells_in layout')) = λ o.
     let a : times o (free_of one_class 0 (cells_in layout')) ≡ times o (free_of one_class 0 xs) + (times o (rest_offsets (cell + total_of ss) n) + times o (free_of one_class 0 ys)) =
@@ -91,6 +94,9 @@ carving-by old s1 s2 s3 head head' count' link layout ss front cell back tiled a
     let was_cells : cells_in layout ≡ xs ++ unused cell c.size ∷ ys = t.at.cells_are ∙ ap (λ (d : Cell). xs ++ d ∷ ys) (as_unused c free ∙ ap (λ (k : ℕ). unused k c.size) place) in
     record {
       arena = IsArena-one s3 head' count' layout' offsets' tiled' (record { follows = follows'; exact = exact' }) apart' (length-append front _ ∙ ap (λ (k : ℕ). length front + k) (length-append (rest_offsets (cell + total_of ss) n) back) ∙ sym counted) (omega (arith, s.long, r.long)) (omega (arith, s.long, r.long));
+      now = λ size e.
+          let same : c.size ≡ size = sym (subst (λ (k : ℕ). size_in (word old k) ≡ c.size) place st.cell.size) ∙ sym e in
+          subst (λ (k : ℕ). chain count' s3 head' ≡ front ++ (rest_offsets (cell + total_of ss) (k - total_of ss) ++ back)) same chained;
       carves = record {
         before = xs;
         at = cell;
@@ -218,12 +224,12 @@ one-rest : (at n : ℕ) → 0 < n → length (rest_offsets at n) ≡ 1
 one-rest at zero h = absurd (omega arith)
 one-rest at (suc n) h = refl
 
-pub carving : (old s2 s3 : List ℕ) (head head' count count' previous cell : ℕ) (ss : List ℕ) (a : IsArena old (head ∷ []) (count ∷ [])) → AreSizes ss → 0 < total_of ss → Chosen old head count a.layout (total_of ss) previous cell → word old (cell + 4) < 4294967296 → TakesOut old head count previous cell (total_of ss) s2 head' count' → CutTo s2 s3 cell ss → Carving old s3 head' count' cell ss
+pub carving : (old s2 s3 : List ℕ) (head head' count count' previous cell : ℕ) (ss : List ℕ) (a : IsArena old (head ∷ []) (count ∷ [])) → AreSizes ss → 0 < total_of ss → (ch : Chosen old head count a.layout (total_of ss) previous cell) → word old (cell + 4) < 4294967296 → TakesOut old head count previous cell (total_of ss) s2 head' count' → CutTo s2 s3 cell ss → Carving old s3 head' count' cell ss ch.front ch.back
 carving old s2 s3 head head' count count' previous cell ss a oks positive ch small (inl h) cut =
     let t = taken one_class 0 (cells_in a.layout) ch.front cell ch.back ch.exact in
     let f = free-facts old a.layout ch.front cell ch.back a.tiled t in
     let next : ℕ = word old (cell + 4) in
-    let r = relinked old a.layout head next ch.front cell ch.back previous a.tiled a.small small ch.exact ch.follows ch.ends in
+    let r = relinked old a.layout head next ch.front cell ch.back previous a.tiled a.small small (λ o. omega (arith, ch.exact o)) ch.follows ch.ends in
     let n0 : t.at.c.size - total_of ss ≡ 0 = omega (arith, f.0) in
     let r' : Relinked old s2 a.layout head' next ch.front ch.back = rw (h.1, h.2) r in
     let cnt : count' ≡ length ch.front + (length (rest_offsets (cell + total_of ss) (t.at.c.size - total_of ss)) + length ch.back) = rw n0 (omega (arith, h.3, ch.counted)) in
@@ -235,7 +241,7 @@ carving old s2 s3 head head' count count' previous cell ss a oks positive ch sma
     let link : ℕ = cell + total_of ss in
     let n : ℕ = t.at.c.size - total_of ss in
     let short = a.small in
-    let r = relinked old a.layout head link ch.front cell ch.back previous a.tiled a.small (omega (arith, f.1.within, h.0)) ch.exact ch.follows ch.ends in
+    let r = relinked old a.layout head link ch.front cell ch.back previous a.tiled a.small (omega (arith, f.1.within, h.0)) (λ o. omega (arith, ch.exact o)) ch.follows ch.ends in
     let s1 : List ℕ = linked previous link old in
     let r' : Relinked old s1 a.layout head' link ch.front ch.back = rw h.2 r in
     let some : 0 < n = omega (arith, f.0, h.0) in
@@ -282,11 +288,25 @@ facts-at old head count total previous cell ss a fit oks e positive =
     let ch = chosen old head count (total_of ss) previous cell a (rw e at fit) in
     rw e (call-facts old head count previous cell ss a oks (rw e at positive) ch)
 
--- the whole of a carve at such a cell
-pub carving-at : (old s2 s3 : List ℕ) (head head' count count' total previous cell : ℕ) (ss : List ℕ) → IsArena old (head ∷ []) (count ∷ []) → IsFit old total (chain count old head) previous cell → AreSizes ss → total ≡ total_of ss → 0 < total → word old (cell + 4) < 4294967296 → TakesOut old head count previous cell total s2 head' count' → CutTo s2 s3 cell ss → Carving old s3 head' count' cell ss
+-- the whole of a carve at such a cell, and the list before it and after it
+pub record CarvingAt (old new : List ℕ) (head count head' count' previous cell : ℕ) (ss : List ℕ) : Type 0 where
+  pub front : List ℕ
+  pub back : List ℕ
+  pub was : chain count old head ≡ front ++ cell ∷ back
+  pub ends : EndsAt front previous
+  pub carving : Carving old new head' count' cell ss front back
+
+pub carving-at : (old s2 s3 : List ℕ) (head head' count count' total previous cell : ℕ) (ss : List ℕ) → IsArena old (head ∷ []) (count ∷ []) → IsFit old total (chain count old head) previous cell → AreSizes ss → total ≡ total_of ss → 0 < total → word old (cell + 4) < 4294967296 → TakesOut old head count previous cell total s2 head' count' → CutTo s2 s3 cell ss → CarvingAt old s3 head count head' count' previous cell ss
 carving-at old s2 s3 head head' count count' total previous cell ss a fit oks e positive small taken cut =
     let ch = chosen old head count (total_of ss) previous cell a (rw e at fit) in
-    carving old s2 s3 head head' count count' previous cell ss a oks (rw e at positive) ch small (rw e at taken) cut
+    let long : length (ch.front ++ cell ∷ ch.back) ≡ count = length-append ch.front (cell ∷ ch.back) ∙ ch.counted in
+    record {
+      front = ch.front;
+      back = ch.back;
+      was = subst (λ (k : ℕ). chain k old head ≡ ch.front ++ cell ∷ ch.back) long (Follows-chain old (ch.front ++ cell ∷ ch.back) head ch.follows);
+      ends = ch.ends;
+      carving = carving old s2 s3 head head' count count' previous cell ss a oks (rw e at positive) ch small (rw e at taken) cut;
+    }
 
 length-linked-by : (previous next : ℕ) (bytes : List ℕ) (b : Bool) → eqb previous 4294967295 ≡ b → ((previous ≡ 4294967295 → ⊥) → previous + 8 ≤ length bytes) → length (cond b bytes (splice (previous + 4) (little_bytes 4 next) bytes)) ≡ length bytes
 length-linked-by previous next bytes true e h = refl

@@ -34,7 +34,7 @@ chain-within old head count a =
     omega (arith, st.cell.within, st.cell.positive, st.cell.eights, f.offset_is)))
 
 -- a free cell's offset occurs
-times-free : (xs : List Cell) (c : Cell) (ys : List Cell) → c.allocated ≡ false → 0 < times c.offset (free_of one_class 0 (xs ++ c ∷ ys))
+pub times-free : (xs : List Cell) (c : Cell) (ys : List Cell) → c.allocated ≡ false → 0 < times c.offset (free_of one_class 0 (xs ++ c ∷ ys))
 times-free xs c ys u =
     let free : is_free_of one_class 0 c ≡ true = rw u refl in
     let self : eqb c.offset c.offset ≡ true = eq-eqb c.offset c.offset refl in

@@ -20,6 +20,7 @@ use Rattle.reg_arena.proofs.Contents.{content_in-append}
 use Rattle.reg_arena.proofs.Links.{all_from_times}
 use Rattle.reg_arena.proofs.Takes.{free_at, times-append, free_of-append}
 use Rattle.reg_arena.proofs.Relinks.{free-content}
+use Rattle.reg_arena.proofs.Finds.{Follows-chain}
 use Rattle.reg_arena.proofs.Carving.{one_list, IsArena-one}
 
 -- longer bytes with the same beginning
@@ -69,7 +70,7 @@ apart-last (x ∷ xs) n size a h = (join xs h.0, apart-last xs n size a.1 h.1)
     join (z ∷ zs) b = (b.0, join zs b.1)
 
 -- each cell ends within the bytes
-ends-from : (old : List ℕ) (layout : List Bin) → AreBins old 0 layout → (P : Cell → Type 0) → ((c : Cell) → IsCell old (length old) c → P c) → (xs ys : List Cell) → cells_in layout ≡ xs ++ ys → AllByRecursion P ys
+pub ends-from : (old : List ℕ) (layout : List Bin) → AreBins old 0 layout → (P : Cell → Type 0) → ((c : Cell) → IsCell old (length old) c → P c) → (xs ys : List Cell) → cells_in layout ≡ xs ++ ys → AllByRecursion P ys
 ends-from old layout h P f xs [] e = tt
 ends-from old layout h P f xs (c ∷ ys) e = (f c (stands old layout xs c ys h e).cell, ends-from old layout h P f (xs ++ c ∷ []) ys (e ∙ sym (append_assoc xs (c ∷ []) ys)))
 
@@ -101,12 +102,13 @@ pub size-eights : (size : ℕ) → size % 4096 ≡ 0 → (size - 32) % 8 ≡ 0
 size-eights size e = omega (arith, e)
 
 -- what a new bin leaves
-pub record Grown (old new : List ℕ) (count at total : ℕ) : Type 0 where
+pub record Grown (old new : List ℕ) (head count at total : ℕ) : Type 0 where
+  pub chained : chain (count + 1) new (at + 32) ≡ (at + 32) ∷ chain count old head
   pub arena : IsArena new ((at + 32) ∷ []) ((count + 1) ∷ [])
   pub appends : AppendsBin old new total
   pub fit : IsFit new total (chain (count + 1) new (at + 32)) 4294967295 (at + 32)
 
-pub grown : (old : List ℕ) (head count size total : ℕ) → IsArena old (head ∷ []) (count ∷ []) → IsBinSize size total → 0 < total → length old + size ≤ 268435456 → head < 4294967296 → Grown old (old ++ new_bin (length old) size head) count (length old) total
+pub grown : (old : List ℕ) (head count size total : ℕ) → IsArena old (head ∷ []) (count ∷ []) → IsBinSize size total → 0 < total → length old + size ≤ 268435456 → head < 4294967296 → Grown old (old ++ new_bin (length old) size head) head count (length old) total
 grown old head count size total a least some room small =
     let start : ℕ = length old in
     let new : List ℕ = old ++ new_bin start size head in
@@ -136,7 +138,10 @@ grown old head count size total a least some room small =
     let e : times o (free_of one_class 0 (cells_in (a.layout ++ bin ∷ []))) ≡ times o (free_of one_class 0 cells) + times o (at ∷ []) = ap (λ cs. times o (free_of one_class 0 cs)) cells' ∙ ap (times o) (free_of-append one_class 0 cells (unused at n ∷ [])) ∙ times-append o (free_of one_class 0 cells) _ in
     omega (arith, e, one.free.exact o) in
     let counted : length (at ∷ one.offsets) ≡ count + 1 = omega (arith, one.counted) in
+    let follows : Follows new at (at ∷ one.offsets) = (refl, rest) in
+    let before : chain count old head ≡ one.offsets = subst (λ (k : ℕ). chain k old head ≡ one.offsets) one.counted (Follows-chain old one.offsets head one.free.follows) in
     record {
+      chained = subst (λ (k : ℕ). chain k new at ≡ at ∷ one.offsets) counted (Follows-chain new (at ∷ one.offsets) at follows) ∙ ap (λ (t : List ℕ). at ∷ t) (sym before);
       arena = IsArena-one new at (count + 1) (a.layout ++ bin ∷ []) (at ∷ one.offsets) tiled (record { follows = (refl, rest); exact = exact }) (subst AreApart (sym cells') (apart-last cells at n ends a.free.apart)) counted (omega (arith, a.few.0)) (omega arith);
       appends = record {
         size = size;
@@ -161,7 +166,7 @@ grown old head count size total a least some room small =
     }
 
 -- what the writes of a new bin leave
-pub added : (old long b2 b3 : List ℕ) (head count at size total : ℕ) → IsArena old (head ∷ []) (count ∷ []) → IsBinSize size total → 0 < total → at ≡ length old → length old + size ≤ 268435456 → head < 4294967296 → long ≡ old ++ replicate size 0 → b2 ≡ headed at size long → b3 ≡ freed (at + 32) (size - 32) head b2 → Grown old b3 count at total
+pub added : (old long b2 b3 : List ℕ) (head count at size total : ℕ) → IsArena old (head ∷ []) (count ∷ []) → IsBinSize size total → 0 < total → at ≡ length old → length old + size ≤ 268435456 → head < 4294967296 → long ≡ old ++ replicate size 0 → b2 ≡ headed at size long → b3 ≡ freed (at + 32) (size - 32) head b2 → Grown old b3 head count at total
 added old long b2 b3 head count at size total a least some start room small e f g =
     let wide : 40 ≤ size = omega (arith, least.pages, least.holds) in
     let all : b3 ≡ old ++ new_bin at size head = g ∙ ap (freed (at + 32) (size - 32) head) (f ∙ ap (headed at size) e) ∙ appended old at size head start wide in

@@ -5,6 +5,7 @@ pub mod Contents
 pub mod Links
 pub mod Writes
 pub mod Fresh
+pub mod Copies
 pub mod Cuts
 pub mod Takes
 pub mod Finds
@@ -19,3 +20,13 @@ pub mod Faults
 pub mod NewBins
 pub mod Grows
 pub mod Layouts
+pub mod Counts
+pub mod Frees
+pub mod Neighbours
+pub mod TableEdits
+pub mod Unlinks
+pub mod Surrounds
+pub mod Indexes
+pub mod Indexed
+pub mod FreeWhole
+pub mod FreeEnd

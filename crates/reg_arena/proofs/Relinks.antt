@@ -14,7 +14,7 @@ use Rattle.reg_arena.proofs.Places.{stands}
 use Rattle.reg_arena.proofs.Contents.{content_in-append, content_in-beside, AreOrdered, AreOrdered-AreBins, besides-before, besides-after}
 use Rattle.reg_arena.proofs.Links.{IsClear, word-clear, free_of-all}
 use Rattle.reg_arena.proofs.Writes.{clear-cells, layout-same, all-at}
-use Rattle.reg_arena.proofs.Takes.{taken, others-all, Follows-swap}
+use Rattle.reg_arena.proofs.Takes.{taken-some, others-some, Follows-swap}
 
 -- what the new link leaves
 pub record Relinked (old new : List ℕ) (layout : List Bin) (head' rest : ℕ) (front back : List ℕ) : Type 0 where
@@ -29,7 +29,7 @@ pub same-beside : {lo hi : ℕ} {old new : List ℕ} → SameOutside lo hi old n
 same-beside s k (inl l) = s.below k l
 same-beside s k (inr l) = s.above k l
 
-all-same : (bytes : List ℕ) (xs : List ℕ) → AllByRecursion (λ (x : ℕ). word bytes (x + 4) ≡ word bytes (x + 4)) xs
+pub all-same : (bytes : List ℕ) (xs : List ℕ) → AllByRecursion (λ (x : ℕ). word bytes (x + 4) ≡ word bytes (x + 4)) xs
 all-same bytes [] = tt
 all-same bytes (x ∷ xs) = (refl, all-same bytes xs)
 
@@ -41,7 +41,7 @@ pub words-trans : (a b c : List ℕ) (xs : List ℕ) → AllByRecursion (λ (x :
 words-trans a b c [] p q = tt
 words-trans a b c (x ∷ xs) p q = (q.0 ∙ p.0, words-trans a b c xs p.1 q.1)
 
-all-front : (P : ℕ → Type 0) (xs ys : List ℕ) → AllByRecursion P (xs ++ ys) → AllByRecursion P xs × AllByRecursion P ys
+pub all-front : (P : ℕ → Type 0) (xs ys : List ℕ) → AllByRecursion P (xs ++ ys) → AllByRecursion P xs × AllByRecursion P ys
 all-front P [] ys h = (tt, h)
 all-front P (x ∷ xs) ys h = let r = all-front P xs ys h.1 in ((h.0, r.0), r.1)
 
@@ -57,9 +57,9 @@ free-content bytes k c ys offset h =
     free-content-by false d bytes c ys offset e = refl
 
 -- where there is a free cell before
-relinked-after : (old : List ℕ) (layout : List Bin) (head rest : ℕ) (first : List ℕ) (p : ℕ) (zs : List ℕ) → AreBins old 0 layout → rest < 4294967296 → ((o : ℕ) → times o (first ++ p ∷ zs) ≡ times o (free_of one_class 0 (cells_in layout))) → Follows old head (first ++ p ∷ zs) → (back : List ℕ) → AllByRecursion (λ (x : ℕ). Unit {0}) back → ((P : ℕ → Type 0) → AllByRecursion P zs → AllByRecursion P back) → Relinked old (splice (p + 4) (little_bytes 4 rest) old) layout head rest (first ++ p ∷ []) back
+relinked-after : (old : List ℕ) (layout : List Bin) (head rest : ℕ) (first : List ℕ) (p : ℕ) (zs : List ℕ) → AreBins old 0 layout → rest < 4294967296 → ((o : ℕ) → times o (first ++ p ∷ zs) ≤ times o (free_of one_class 0 (cells_in layout))) → Follows old head (first ++ p ∷ zs) → (back : List ℕ) → AllByRecursion (λ (x : ℕ). Unit {0}) back → ((P : ℕ → Type 0) → AllByRecursion P zs → AllByRecursion P back) → Relinked old (splice (p + 4) (little_bytes 4 rest) old) layout head rest (first ++ p ∷ []) back
 relinked-after old layout head rest first p zs tiled small exact follows back u sub =
-    let t = taken one_class 0 (cells_in layout) first p zs exact in
+    let t = taken-some one_class 0 (cells_in layout) first p zs exact in
     let c = t.at.c in
     let st = stands old layout t.at.xs c t.at.ys tiled t.at.cells_are in
     let eight : 8 ≤ c.size = omega (arith, st.cell.positive, st.cell.eights) in
@@ -71,7 +71,7 @@ relinked-after old layout head rest first p zs tiled small exact follows back u 
     let ordered : AreOrdered 0 (t.at.xs ++ c ∷ t.at.ys) = subst (AreOrdered 0) t.at.cells_are (AreOrdered-AreBins old 0 layout tiled) in
     let before = besides-before 0 c.offset (c.offset + c.size) t.at.xs c t.at.ys refl ordered in
     let after = besides-after 0 c.offset (c.offset + c.size) t.at.xs c t.at.ys (omega arith) ordered in
-    let clear = others-all (IsClear c.offset (c.offset + c.size)) one_class 0 t.at.xs t.at.ys first zs t.others
+    let clear = others-some (IsClear c.offset (c.offset + c.size)) one_class 0 t.at.xs t.at.ys first zs t.others
     (free_of-all _ one_class 0 t.at.xs (clear-cells _ _ t.at.xs before)) (free_of-all _ one_class 0 t.at.ys (clear-cells _ _ t.at.ys after)) in
     let link : word new (p + 4) ≡ rest = word-splice (p + 4) rest old (omega arith) small in
     let firsts = words-clear s first clear.0 in
@@ -106,14 +106,14 @@ relinked-first old layout rest back tiled = record {
   kept = λ k h. refl;
 }
 
-relinked-by : (old : List ℕ) (layout : List Bin) (head rest : ℕ) (front : List ℕ) (cell : ℕ) (back : List ℕ) (previous : ℕ) → AreBins old 0 layout → length old ≤ 268435456 → rest < 4294967296 → ((o : ℕ) → times o (front ++ cell ∷ back) ≡ times o (free_of one_class 0 (cells_in layout))) → Follows old head (front ++ cell ∷ back) → EndsAt front previous → Relinked old (linked previous rest old) layout (head_after previous rest head) rest front back
+relinked-by : (old : List ℕ) (layout : List Bin) (head rest : ℕ) (front : List ℕ) (cell : ℕ) (back : List ℕ) (previous : ℕ) → AreBins old 0 layout → length old ≤ 268435456 → rest < 4294967296 → ((o : ℕ) → times o (front ++ cell ∷ back) ≤ times o (free_of one_class 0 (cells_in layout))) → Follows old head (front ++ cell ∷ back) → EndsAt front previous → Relinked old (linked previous rest old) layout (head_after previous rest head) rest front back
 relinked-by old layout head rest front cell back previous tiled short small exact follows (inl e) =
     let none : eqb previous 4294967295 ≡ true = eq-eqb _ _ e.1 in
     rw (none, e.0) (relinked-first old layout rest back tiled)
 relinked-by old layout head rest front cell back previous tiled short small exact follows (inr e) =
-    let exact' : (o : ℕ) → times o (e.0 ++ previous ∷ (cell ∷ back)) ≡ times o (free_of one_class 0 (cells_in layout)) = λ o. ap (times o) (sym (ap (λ (t : List ℕ). t ++ cell ∷ back) e.1 ∙ append_assoc e.0 (previous ∷ []) (cell ∷ back))) ∙ exact o in
+    let exact' : (o : ℕ) → times o (e.0 ++ previous ∷ (cell ∷ back)) ≤ times o (free_of one_class 0 (cells_in layout)) = λ o. (let same : times o (e.0 ++ previous ∷ (cell ∷ back)) ≡ times o (front ++ cell ∷ back) = ap (times o) (sym (ap (λ (t : List ℕ). t ++ cell ∷ back) e.1 ∙ append_assoc e.0 (previous ∷ []) (cell ∷ back))) in omega (arith, same, exact o)) in
     let follows' : Follows old head (e.0 ++ previous ∷ (cell ∷ back)) = subst (Follows old head) (ap (λ (t : List ℕ). t ++ cell ∷ back) e.1 ∙ append_assoc e.0 (previous ∷ []) (cell ∷ back)) follows in
-    let t = taken one_class 0 (cells_in layout) e.0 previous (cell ∷ back) exact' in
+    let t = taken-some one_class 0 (cells_in layout) e.0 previous (cell ∷ back) exact' in
     let st = stands old layout t.at.xs t.at.c t.at.ys tiled t.at.cells_are in
     let some : eqb previous 4294967295 ≡ false = ne_eqb _ _ (λ x. omega (arith, st.cell.within, t.at.offset_is)) in
     rw (some, e.1) (relinked-after old layout head rest e.0 previous (cell ∷ back) tiled small exact' follows' back (all-unit back) (λ P a. a.1))
@@ -122,5 +122,5 @@ relinked-by old layout head rest front cell back previous tiled short small exac
     all-unit [] = tt
     all-unit (x ∷ xs) = (tt, all-unit xs)
 
-pub relinked : (old : List ℕ) (layout : List Bin) (head rest : ℕ) (front : List ℕ) (cell : ℕ) (back : List ℕ) (previous : ℕ) → AreBins old 0 layout → length old ≤ 268435456 → rest < 4294967296 → ((o : ℕ) → times o (front ++ cell ∷ back) ≡ times o (free_of one_class 0 (cells_in layout))) → Follows old head (front ++ cell ∷ back) → EndsAt front previous → Relinked old (linked previous rest old) layout (head_after previous rest head) rest front back
+pub relinked : (old : List ℕ) (layout : List Bin) (head rest : ℕ) (front : List ℕ) (cell : ℕ) (back : List ℕ) (previous : ℕ) → AreBins old 0 layout → length old ≤ 268435456 → rest < 4294967296 → ((o : ℕ) → times o (front ++ cell ∷ back) ≤ times o (free_of one_class 0 (cells_in layout))) → Follows old head (front ++ cell ∷ back) → EndsAt front previous → Relinked old (linked previous rest old) layout (head_after previous rest head) rest front back
 relinked = relinked-by

@@ -13,7 +13,7 @@ Tiles-eights bytes at stop [] e h = tt
 Tiles-eights bytes at stop (c ∷ cells) e h =
     (rw h.0 e, Tiles-eights bytes (at + c.size) stop cells (omega (arith, h.1.eights)) h.2)
 
-AreBins-eights : (bytes : List ℕ) (at : ℕ) (layout : List Bin) → at % 8 ≡ 0 → AreBins bytes at layout → AllByRecursion (λ (c : Cell). c.offset % 8 ≡ 0) (cells_in layout)
+pub AreBins-eights : (bytes : List ℕ) (at : ℕ) (layout : List Bin) → at % 8 ≡ 0 → AreBins bytes at layout → AllByRecursion (λ (c : Cell). c.offset % 8 ≡ 0) (cells_in layout)
 AreBins-eights bytes at [] e h = tt
 AreBins-eights bytes at (b ∷ layout) e h =
     all-append (λ (c : Cell). c.offset % 8 ≡ 0) b.cells (cells_in layout) (Tiles-eights bytes (at + 32) (at + b.size) b.cells (omega arith) h.2) (AreBins-eights bytes (at + b.size) layout (omega (arith, h.1.pages)) h.3)

@@ -1,5 +1,5 @@
 -- One cell out of a free list.
-use Rattle.std.proofs.Common.{◌≡◌, ℕ, ◌+◌, ◌<◌, Bool, true, false, cond, List, [], ◌∷◌, ◌++◌, refl, ap, ◌∙◌, arith, eqb, map, filter}
+use Rattle.std.proofs.Common.{◌≡◌, ℕ, ◌+◌, ◌<◌, ◌≤◌, Bool, true, false, cond, List, [], ◌∷◌, ◌++◌, refl, ap, ◌∙◌, arith, eqb, map, filter}
 use Rattle.std.proofs.lemmas.Bool.{eqb-true, eq-eqb}
 use Rattle.std.specs.List.{AllByRecursion}
 use Rattle.reg_heap.specs.Words.{word}
@@ -67,6 +67,30 @@ taken class_of k cells front offset back exact =
 -- what holds of the free cells beside it holds of the rest of the list
 pub others-all : (P : ℕ → Type 0) (class_of : ℕ → ℕ) (k : ℕ) (xs ys : List Cell) (front back : List ℕ) → ((o : ℕ) → times o front + times o back ≡ times o (free_of class_of k xs) + times o (free_of class_of k ys)) → AllByRecursion P (free_of class_of k xs) → AllByRecursion P (free_of class_of k ys) → AllByRecursion P front × AllByRecursion P back
 others-all P class_of k xs ys front back e a b =
+    let every = all-append P (free_of class_of k xs) (free_of class_of k ys) a b in
+    let here : (o : ℕ) → 0 < times o front + times o back → P o = λ o l. times-all P (free_of class_of k xs ++ free_of class_of k ys) every o (omega (arith, times-append o (free_of class_of k xs) (free_of class_of k ys), e o)) in
+    (all_from_times P front (λ o l. here o (omega arith)), all_from_times P back (λ o l. here o (omega arith)))
+
+-- the same of a list of some of the free cells
+pub record TakenSome (class_of : ℕ → ℕ) (k : ℕ) (cells : List Cell) (front : List ℕ) (offset : ℕ) (back : List ℕ) : Type 0 where
+  pub at : FreeAt class_of k cells offset
+  pub others : (o : ℕ) → times o front + times o back ≤ times o (free_of class_of k at.xs) + times o (free_of class_of k at.ys)
+
+taken-some-by : (class_of : ℕ → ℕ) (k : ℕ) (cells : List Cell) (front : List ℕ) (offset : ℕ) (back : List ℕ) → ((o : ℕ) → times o (front ++ offset ∷ back) ≤ times o (free_of class_of k cells)) → (f : FreeAt class_of k cells offset) → (o : ℕ) → times o front + times o back ≤ times o (free_of class_of k f.xs) + times o (free_of class_of k f.ys)
+taken-some-by class_of k cells front offset back exact f o =
+    let all : times o (free_of class_of k cells) ≡ times o (free_of class_of k f.xs) + times o (f.c.offset ∷ free_of class_of k f.ys) = ap (λ cs. times o (free_of class_of k cs)) f.cells_are ∙ ap (times o) (free_of-append class_of k f.xs (f.c ∷ f.ys) ∙ ap (λ t. free_of class_of k f.xs ++ t) (free_of-one class_of k f.c f.ys f.free)) ∙ times-append o _ _ in
+    let one : times o (f.c.offset ∷ free_of class_of k f.ys) ≡ times o (offset ∷ free_of class_of k f.ys) = ap (λ (x : ℕ). times o (x ∷ free_of class_of k f.ys)) f.offset_is in
+    omega (arith, times-append o front (offset ∷ back), exact o, all, one)
+
+pub taken-some : (class_of : ℕ → ℕ) (k : ℕ) (cells : List Cell) (front : List ℕ) (offset : ℕ) (back : List ℕ) → ((o : ℕ) → times o (front ++ offset ∷ back) ≤ times o (free_of class_of k cells)) → TakenSome class_of k cells front offset back
+taken-some class_of k cells front offset back exact =
+    let self : eqb offset offset ≡ true = eq-eqb offset offset refl in
+    let some : 0 < times offset (offset ∷ back) = rw self (omega arith) in
+    let f = free_at class_of k cells offset (omega (arith, exact offset, times-append offset front (offset ∷ back))) in
+    record { at = f; others = taken-some-by class_of k cells front offset back exact f }
+
+pub others-some : (P : ℕ → Type 0) (class_of : ℕ → ℕ) (k : ℕ) (xs ys : List Cell) (front back : List ℕ) → ((o : ℕ) → times o front + times o back ≤ times o (free_of class_of k xs) + times o (free_of class_of k ys)) → AllByRecursion P (free_of class_of k xs) → AllByRecursion P (free_of class_of k ys) → AllByRecursion P front × AllByRecursion P back
+others-some P class_of k xs ys front back e a b =
     let every = all-append P (free_of class_of k xs) (free_of class_of k ys) a b in
     let here : (o : ℕ) → 0 < times o front + times o back → P o = λ o l. times-all P (free_of class_of k xs ++ free_of class_of k ys) every o (omega (arith, times-append o (free_of class_of k xs) (free_of class_of k ys), e o)) in
     (all_from_times P front (λ o l. here o (omega arith)), all_from_times P back (λ o l. here o (omega arith)))

@@ -6,7 +6,7 @@ use Rattle.std.specs.List.{AllByRecursion}
 use Rattle.reg_heap.specs.Words.{word, splice, SameOutside}
 use Rattle.reg_arena.specs.declared.Cell.{Cell}
 use Rattle.reg_arena.specs.Cells.{Bin, IsCell, Tiles, AreBins, cells_in, content_in, size_in, cell_at, cells_of}
-use Rattle.reg_arena.specs.Free.{free_of, IsFreeList, AreLists}
+use Rattle.reg_arena.specs.Free.{free_of, Follows, IsFreeList, AreLists}
 use Rattle.reg_arena.specs.Arena.{IsArena, one_class}
 use Rattle.reg_arena.proofs.Splices.{same-splice, word-same_below, length-splice, get_or-splice_below, get_or-splice_above, get_or-splice_in}
 use Rattle.reg_arena.proofs.Tilings.{with_cells, AreBins-edit, cells_of-AreBins, cell_at-AreBins, IsCell-same, IsCell-within}
@@ -104,10 +104,15 @@ AreLists-same s class_of cells clear (head ∷ heads) [] class h = h
 AreLists-same s class_of cells clear (head ∷ heads) (os ∷ lists) class h =
     (IsFreeList-same s class_of class head cells os clear h.0, AreLists-same s class_of cells clear heads lists (suc class) h.1)
 
+some-inj : {A : Type 0} (x y : A) → Some x ≡ Some y → x ≡ y
+some-inj x y e = cc
+
 -- what a write leaves
 pub record Wrote (old new heads counts : List ℕ) (cell at : ℕ) (piece : List ℕ) : Type 0 where
   pub arena : IsArena new heads counts
   pub cells : cells_of new ≡ cells_of old
+  pub long : length new ≡ length old
+  pub links : (cells : List Cell) → cells_of old ≡ Some cells → (k head : ℕ) (offsets : List ℕ) → IsFreeList one_class k old head cells offsets → Follows new head offsets
   pub contents : (offset : ℕ) → cell_at new offset ≡ cond (eqb offset cell) (Some (splice at piece (unwrap_or (cell_at old cell) []))) (cell_at old offset)
 
 contents-by : (old new : List ℕ) (xs : List Cell) (c : Cell) (ys : List Cell) (value : List ℕ) (offset : ℕ) → c.allocated ≡ true → take (c.size - 4) (drop (c.offset + 4) new) ≡ value → content_in new xs offset ≡ content_in old xs offset → content_in new ys offset ≡ content_in old ys offset → (offset ≡ c.offset → content_in new xs offset ≡ None) → (offset ≡ c.offset) ⊎ (offset ≡ c.offset → ⊥) → content_in new (xs ++ c ∷ ys) offset ≡ cond (eqb offset c.offset) (Some value) (content_in old (xs ++ c ∷ ys) offset)
@@ -160,6 +165,10 @@ wrote-by old heads counts at piece a xs c ys e used content fits =
         small = omega (arith, s.long, a.small);
       };
       cells = cells_of-AreBins new a.layout tiled ∙ sym (cells_of-AreBins old a.layout a.tiled);
+      long = s.long;
+      links = λ cells found k head offsets h.
+          let same : cells_in a.layout ≡ cells = some-inj _ _ (sym (cells_of-AreBins old a.layout a.tiled) ∙ found) in
+          (IsFreeList-same s one_class k head cells offsets (subst (AllByRecursion Clear) same clear) h).follows;
       contents = λ offset.
           cell_at-AreBins new a.layout offset tiled ∙ ap (λ cs. content_in new cs offset) e
           ∙ contents-by old new xs c ys (splice at piece (unwrap_or (cell_at old c.offset) [])) offset used part (content_in-beside s xs offset before) (content_in-beside s ys offset after)

@@ -5,3 +5,5 @@ pub mod Carves
 pub mod NewBin
 pub mod Walks
 pub mod Arena
+pub mod Frees
+pub mod Tables

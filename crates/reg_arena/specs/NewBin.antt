@@ -1,5 +1,5 @@
 -- A bin more at the end of the bins.
-use Rattle.std.specs.Prelude.{◌≡◌, ℕ, ◌+◌, ◌-◌, ◌≤◌, ◌%◌, List, [], ◌∷◌, ◌++◌, length, replicate, Some}
+use Rattle.std.specs.Prelude.{◌≡◌, ℕ, ◌+◌, ◌-◌, ◌<◌, ◌≤◌, ◌%◌, List, [], ◌∷◌, ◌++◌, length, replicate, Some}
 use Rattle.byteorder.specs.Endian.{little_bytes}
 use Rattle.reg_heap.specs.Words.{splice}
 use Rattle.reg_arena.specs.declared.Cell.{Cell}
@@ -12,6 +12,16 @@ pub record IsBinSize (size total : ℕ) : Type 0 where
   pub pages : size % 4096 ≡ 0
   pub holds : 32 + total ≤ size
   pub least : (other : ℕ) → other % 4096 ≡ 0 → 32 + total ≤ other → size ≤ other
+
+-- with a bin of the least size more, all bins would have more than 256 MiB
+pub record PassesLimit (bytes : List ℕ) (total : ℕ) : Type 0 where
+  pub size : ℕ
+  pub least : IsBinSize size total
+  pub passes : 268435456 < length bytes + size
+
+-- with a bin of the least size more, all bins have at most 256 MiB
+abbrev pub HasRoomForBin : List ℕ → ℕ → Type 0
+HasRoomForBin bytes total = (size : ℕ) → IsBinSize size total → length bytes + size ≤ 268435456
 
 -- a new bin's bytes: `hbin`, its offset, its size, 20 zeros, and one free cell, which has a size and a link and else zeros
 -- (Suhanov, sections "Hive bin" and "Cell")

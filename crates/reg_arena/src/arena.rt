@@ -1,12 +1,16 @@
 //! The arena as callers see it.
-ghost use Rattle.std.specs.Prelude.{◌≡◌, ◌==◌, ◌+◌, ◌-◌, ◌≤◌, ◌<◌, ℕ, List, [], ◌∷◌, ◌++◌, length, take, drop, IsSome, Some, unwrap_or, if◌then◌else◌, IfOk, IfErr, OnOk, OnErr, ◌↔◌};
+ghost use Rattle.std.specs.Prelude.{◌≡◌, ◌==◌, ◌+◌, ◌-◌, ◌≤◌, ◌<◌, ℕ, List, [], ◌∷◌, ◌++◌, length, take, drop, IsSome, Some, None, unwrap_or, if◌then◌else◌, IfOk, IfErr, OnOk, OnErr, ◌↔◌};
 ghost use Rattle.reg_heap.specs.Words.{splice, word};
 ghost use Rattle.reg_arena.specs.Arena.{IsSound};
 ghost use Rattle.reg_arena.specs.NewCells.{total_of, AreSizes};
 ghost use Rattle.reg_arena.specs.Carves.{AddsCells, CarvesExactly, NoFit};
+ghost use Rattle.reg_arena.specs.NewBin.{PassesLimit};
+ghost use Rattle.reg_arena.specs.Frees.{Frees};
 ghost use Rattle.reg_arena.specs.Cells.{cells_of, cell_at, size_in};
 
+use crate::bin::passes_limit;
 use crate::carve::{carve_bin, carve_found};
+use crate::free::free_cell;
 use crate::list::{NONE, find_fit};
 use crate::walk::list_cells;
 use crate::words::size_at;
@@ -26,17 +30,22 @@ pub struct Arena {
     head: u32,
     /// How many free cells there are.
     count: usize,
+    /// For each eight bytes, the free cell that ends there, or 0.
+    ends: Vec<u32>,
+    /// For each free cell's first eight bytes, the free cell before it in the list, or `NONE`.
+    backs: Vec<u32>,
 }
 
 impl Model for Arena {
     ghost use Rattle.std.specs.Prelude.{[], ◌∷◌};
-    ghost use Rattle.reg_arena.specs.Arena.{Bins, IsArena};
+    ghost use Rattle.reg_arena.specs.Arena.{Bins};
+    ghost use Rattle.reg_arena.specs.Tables.{IsIndexed};
 
     ghost Value = { Bins };
 
     ghost view = { λ a. record { bytes = a.bins.items; heads = a.head ∷ [] } };
 
-    ghost invariant = { λ a. IsArena a.bins.items (a.head ∷ []) (a.count ∷ []) };
+    ghost invariant = { λ a. IsIndexed a.bins.items (a.head ∷ []) (a.count ∷ []) a.ends.items a.backs.items };
 }
 
 impl Arena {
@@ -49,6 +58,8 @@ impl Arena {
             bins: Vec::new(alloc),
             head: NONE,
             count: 0,
+            ends: Vec::new(alloc),
+            backs: Vec::new(alloc),
         }
     }
 
@@ -104,6 +115,66 @@ impl Arena {
         write_part(&mut self.bins, from, bytes);
     }
 
+    /// Writes all of what the allocated cell at the offset `cell` holds. Nothing else changes.
+    #[tactic(auto, using(crate::proofs::Splices::splice_whole))]
+    pub fn write_whole(&mut self, cell: u32, bytes: &[u8])
+        requires exists { IsSome (cell_at self.old.bytes cell) }
+        requires whole { length bytes.now ≡ length (unwrap_or (cell_at self.old.bytes cell) []) }
+        ensures written { (offset : ℕ) → cell_at self.new.bytes offset ≡ (if offset == cell then Some bytes.now else cell_at self.old.bytes offset) }
+        ensures cells { cells_of self.new.bytes ≡ cells_of self.old.bytes }
+        ensures heads { self.new.heads ≡ self.old.heads }
+    {
+        self.write(cell, 0, bytes);
+    }
+
+    /// Copies the `len` bytes from `from` on of what the allocated cell at the offset `cell` holds to its bytes from `at`
+    /// on; the two ranges may overlap. Nothing else changes, and it takes no memory.
+    pub fn shift(&mut self, cell: u32, from: u32, at: u32, len: u32)
+        requires exists { IsSome (cell_at self.old.bytes cell) }
+        requires source { from + len ≤ length (unwrap_or (cell_at self.old.bytes cell) []) }
+        requires fits { at + len ≤ length (unwrap_or (cell_at self.old.bytes cell) []) }
+        ensures written { (offset : ℕ) → cell_at self.new.bytes offset ≡ (if offset == cell then Some (splice at (take len (drop from (unwrap_or (cell_at self.old.bytes cell) []))) (unwrap_or (cell_at self.old.bytes cell) [])) else cell_at self.old.bytes offset) }
+        ensures cells { cells_of self.new.bytes ≡ cells_of self.old.bytes }
+        ensures heads { self.new.heads ≡ self.old.heads }
+    {
+        self.copy(cell, from, cell, at, len);
+    }
+
+    /// Copies the `len` bytes from `from` on of what the allocated cell at the offset `source` holds to the bytes from `at`
+    /// on of the one at the offset `cell`. Nothing else changes, and it takes no memory.
+    pub fn copy(&mut self, source: u32, from: u32, cell: u32, at: u32, len: u32)
+        requires source { IsSome (cell_at self.old.bytes source) }
+        requires exists { IsSome (cell_at self.old.bytes cell) }
+        requires within { from + len ≤ length (unwrap_or (cell_at self.old.bytes source) []) }
+        requires fits { at + len ≤ length (unwrap_or (cell_at self.old.bytes cell) []) }
+        ensures written { (offset : ℕ) → cell_at self.new.bytes offset ≡ (if offset == cell then Some (splice at (take len (drop from (unwrap_or (cell_at self.old.bytes source) []))) (unwrap_or (cell_at self.old.bytes cell) [])) else cell_at self.old.bytes offset) }
+        ensures cells { cells_of self.new.bytes ≡ cells_of self.old.bytes }
+        ensures heads { self.new.heads ≡ self.old.heads }
+    {
+        let first = source as usize + 4 + from as usize;
+        let place = cell as usize + 4 + at as usize;
+        move_part(&mut self.bins, first, place, len as usize);
+    }
+
+    /// Frees the allocated cell at the offset `cell`. It and the free cells that touch it, which are in its bin, become one
+    /// free cell. The other cells keep what they hold. It takes no memory, and constant time.
+    ///
+    /// Suhanov, Windows registry file format specification, section "Cell".
+    pub fn free(&mut self, cell: u32)
+        requires { IsSome (cell_at self.old.bytes cell) }
+        ensures frees { Frees self.old.bytes self.new.bytes cell }
+        ensures contents { (offset : ℕ) → cell_at self.new.bytes offset ≡ (if offset == cell then None else cell_at self.old.bytes offset) }
+    {
+        free_cell(
+            &mut self.bins,
+            &mut self.head,
+            &mut self.count,
+            &mut self.ends,
+            &mut self.backs,
+            cell,
+        );
+    }
+
     /// Allocates cells of these sizes, side by side and in their order, and puts their offsets behind those of `out`.
     ///
     /// A size counts the cell's size field, and is a multiple of 8 and not 0; all sizes together are at most 16,777,216.
@@ -111,7 +182,7 @@ impl Arena {
     /// bin of the least size that holds them is appended first, and they are the front of its one cell. No size: nothing
     /// happens.
     ///
-    /// For now there is at most one bin. [`ArenaFault::Full`]: there is a bin, and no free cell fits.
+    /// [`ArenaFault::Full`]: no free cell fits, and with a bin more there would be more than 268,435,456 bytes of bins.
     /// [`ArenaFault::Memory`]: `out` or the bins could not grow. After either the arena and `out` are as before.
     ///
     /// Suhanov, Windows registry file format specification, sections "Hive bin" and "Cell".
@@ -120,7 +191,7 @@ impl Arena {
         requires total { total_of sizes.now ≤ 16777216 }
         ensures nothing { sizes.now ≡ [] → (result ≡ Ok tt) × (self.new ≡ self.old) × (out.new.items ≡ out.old.items) }
         ensures ok { OnOk result (0 < length sizes.now → (offsets : List ℕ) × (out.new.items ≡ out.old.items ++ offsets) × CarvesExactly self.old.bytes self.new.bytes sizes.now offsets × AddsCells self.old.bytes self.new.bytes sizes.now offsets) }
-        ensures full { (result ≡ Err ArenaFault.Full) ↔ ((0 < length sizes.now) × (0 < length self.old.bytes) × NoFit self.old.bytes (total_of sizes.now)) }
+        ensures full { (result ≡ Err ArenaFault.Full) ↔ ((0 < length sizes.now) × PassesLimit self.old.bytes (total_of sizes.now) × NoFit self.old.bytes (total_of sizes.now)) }
         ensures err { OnErr result ((self.new ≡ self.old) × (out.new.items ≡ out.old.items)) }
     {
         if sizes.is_empty() {
@@ -128,13 +199,15 @@ impl Arena {
         }
         let total = sum_of(sizes);
         let Some(place) = find_fit(&self.bins, self.head, self.count, total) else {
-            if !self.bins.is_empty() {
+            if passes_limit(&self.bins, total) {
                 return Err(ArenaFault::Full);
             }
             return carve_bin(
                 &mut self.bins,
                 &mut self.head,
                 &mut self.count,
+                &mut self.ends,
+                &mut self.backs,
                 total,
                 sizes,
                 out,
@@ -144,6 +217,8 @@ impl Arena {
             &mut self.bins,
             &mut self.head,
             &mut self.count,
+            &mut self.ends,
+            &mut self.backs,
             place,
             total,
             sizes,
@@ -179,4 +254,14 @@ fn write_part(bins: &mut Vec<u8>, from: usize, bytes: &[u8])
     ensures { bins.new.items ≡ splice from bytes.now bins.old.items }
 {
     bins[from..from + bytes.len()].copy_from_slice(bytes);
+}
+
+// Copies `len` bytes from `from` on to `to`.
+#[tactic(auto, unfolding(reg_heap::specs::Words::splice))]
+fn move_part(bins: &mut Vec<u8>, from: usize, to: usize, len: usize)
+    requires source { from + len ≤ length bins.old.items }
+    requires fits { to + len ≤ length bins.old.items }
+    ensures { bins.new.items ≡ splice to (take len (drop from bins.old.items)) bins.old.items }
+{
+    bins.copy_within(from..from + len, to);
 }

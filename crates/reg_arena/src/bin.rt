@@ -1,12 +1,14 @@
 //! A new bin at the end of the bins.
 //!
 //! Suhanov, Windows registry file format specification, section "Hive bin".
-ghost use Rattle.std.specs.Prelude.{◌≡◌, ◌+◌, ◌-◌, ◌≤◌, ◌<◌, ℕ, List, [], ◌∷◌, ◌++◌, length, replicate, OnOk, OnErr, IfOk};
+ghost use Rattle.std.specs.Prelude.{◌≡◌, ◌+◌, ◌-◌, ◌≤◌, ◌<◌, ℕ, List, [], ◌∷◌, ◌++◌, length, replicate, OnOk, OnErr, IfOk, true, false};
 ghost use Rattle.reg_arena.specs.Arena.{IsArena};
+ghost use Rattle.reg_arena.specs.Tables.{IsIndexed};
 ghost use Rattle.reg_arena.specs.Free.{chain, IsFit};
-ghost use Rattle.reg_arena.specs.NewBin.{AppendsBin, IsBinSize, headed};
+ghost use Rattle.reg_arena.specs.NewBin.{AppendsBin, IsBinSize, PassesLimit, HasRoomForBin, headed};
 
 use crate::list::{NONE, Place, put_free};
+use crate::tables::{make_room, note_free};
 use crate::words::put_word;
 use std::alloc::AllocError;
 
@@ -15,6 +17,9 @@ pub const HEADER_SIZE: u32 = 32;
 
 /// A bin's size is a multiple of so many bytes.
 const PAGE_SIZE: u32 = 4096;
+
+/// All bins together have at most so many bytes.
+pub const LIMIT: u32 = 268_435_456;
 
 /// The letters `hbin`.
 const SIGNATURE: u32 = 0x6E69_6268;
@@ -26,6 +31,16 @@ fn bin_size(total: u32) -> u32
     ensures small { result ≤ total + 4128 }
 {
     (HEADER_SIZE + total).next_multiple_of(PAGE_SIZE)
+}
+
+// Whether a bin more, with room for `total` bytes of cells, would pass the limit.
+pub fn passes_limit(bins: &Vec<u8>, total: u32) -> bool
+    requires total { total ≤ 16777216 }
+    requires small { length bins.now.items ≤ 268435456 }
+    ensures passes { result ≡ true → PassesLimit bins.now.items total }
+    ensures room { result ≡ false → HasRoomForBin bins.now.items total }
+{
+    bin_size(total) > LIMIT - bins.len() as u32
 }
 
 // Writes a bin's header, the zeros at its end left out.
@@ -49,7 +64,7 @@ fn lengthen(bins: &mut Vec<u8>, n: u32) -> Result<(), AllocError>
 }
 
 // Appends a bin of the least size with one free cell of at least `total` bytes, and puts that cell at the head of the list.
-pub fn add_bin(
+fn add_bin(
     bins: &mut Vec<u8>,
     head: &mut u32,
     count: &mut usize,
@@ -58,10 +73,13 @@ pub fn add_bin(
     requires arena { IsArena bins.old.items (head.old ∷ []) (count.old ∷ []) }
     requires positive { 0 < total }
     requires total { total ≤ 16777216 }
-    requires room { length bins.old.items + total + 4128 ≤ 268435456 }
+    requires room { HasRoomForBin bins.old.items total }
     ensures arena { IsArena bins.new.items (head.new ∷ []) (count.new ∷ []) }
     ensures ok { OnOk result (AppendsBin bins.old.items bins.new.items total) }
     ensures fit { IfOk result (λ place. IsFit bins.new.items total (chain count.new bins.new.items head.new) place.previous place.cell) }
+    ensures place { IfOk result (λ place. (place.previous ≡ 4294967295) × (place.cell ≡ head.new)) }
+    ensures head { OnOk result (head.new ≡ length bins.old.items + 32) }
+    ensures chained { OnOk result (chain count.new bins.new.items head.new ≡ head.new ∷ chain count.old bins.old.items head.old) }
     ensures err { OnErr result ((bins.new.items ≡ bins.old.items) × (head.new ≡ head.old) × (count.new ≡ count.old)) }
 {
     let at = bins.len() as u32;
@@ -76,4 +94,30 @@ pub fn add_bin(
         previous: NONE,
         cell,
     })
+}
+
+// The same, with the side tables.
+pub fn add_indexed_bin(
+    bins: &mut Vec<u8>,
+    head: &mut u32,
+    count: &mut usize,
+    ends: &mut Vec<u32>,
+    backs: &mut Vec<u32>,
+    total: u32,
+) -> Result<Place, AllocError>
+    requires arena { IsIndexed bins.old.items (head.old ∷ []) (count.old ∷ []) ends.old.items backs.old.items }
+    requires positive { 0 < total }
+    requires total { total ≤ 16777216 }
+    requires room { HasRoomForBin bins.old.items total }
+    ensures arena { IsIndexed bins.new.items (head.new ∷ []) (count.new ∷ []) ends.new.items backs.new.items }
+    ensures ok { OnOk result (AppendsBin bins.old.items bins.new.items total) }
+    ensures fit { IfOk result (λ place. IsFit bins.new.items total (chain count.new bins.new.items head.new) place.previous place.cell) }
+    ensures err { OnErr result ((bins.new.items ≡ bins.old.items) × (head.new ≡ head.old) × (count.new ≡ count.old)) }
+{
+    let next = *head;
+    let units = (bins.len() + bin_size(total) as usize) / 8;
+    make_room(ends, backs, units)?;
+    let place = add_bin(bins, head, count, total)?;
+    note_free(ends, backs, place, next, bins.len() as u32);
+    Ok(place)
 }

@@ -1,16 +1,18 @@
 //! Allocated cells from one free cell.
 ghost use Rattle.std.specs.Prelude.{◌≡◌, ◌+◌, ◌-◌, ◌≤◌, ◌<◌, ℕ, List, [], ◌∷◌, ◌++◌, length, vec_len, vec_capacity, IfErr, OnErr, OnOk};
-ghost use Rattle.reg_arena.specs.Arena.{IsArena};
+ghost use Rattle.reg_arena.specs.Tables.{IsIndexed};
 ghost use Rattle.reg_heap.specs.Words.{word};
 ghost use Rattle.reg_arena.specs.Cells.{size_in};
 ghost use Rattle.reg_arena.specs.NewCells.{total_of, AreSizes, offsets_of};
 ghost use Rattle.reg_arena.specs.Carves.{AddsCells, Carves, CarvesExactly, NoFit};
+ghost use Rattle.reg_arena.specs.NewBin.{HasRoomForBin};
 ghost use Rattle.reg_arena.specs.Free.{chain, IsFit, TakesOut};
 
 use crate::ArenaFault;
-use crate::bin::add_bin;
+use crate::bin::add_indexed_bin;
 use crate::cut::cut;
 use crate::list::{Place, put_free, set_link};
+use crate::tables::note_taken;
 use crate::words::{size_at, word_at};
 
 // Takes the first `total` bytes of a free cell out of its list. Their rest, if there is one, stands in its place.
@@ -44,23 +46,28 @@ fn carve_at(
     bins: &mut Vec<u8>,
     head: &mut u32,
     count: &mut usize,
+    ends: &mut Vec<u32>,
+    backs: &mut Vec<u32>,
     place: Place,
     total: u32,
     sizes: &[u32],
     out: &mut Vec<u32>,
 )
-    requires arena { IsArena bins.old.items (head.old ∷ []) (count.old ∷ []) }
+    requires arena { IsIndexed bins.old.items (head.old ∷ []) (count.old ∷ []) ends.old.items backs.old.items }
     requires fit { IsFit bins.old.items total (chain count.old bins.old.items head.old) place.previous place.cell }
     requires sizes { AreSizes sizes.now }
     requires total { total ≡ total_of sizes.now }
     requires positive { 0 < total }
     requires room { vec_len out.old + length sizes.now ≤ vec_capacity out.old }
-    ensures arena { IsArena bins.new.items (head.new ∷ []) (count.new ∷ []) }
+    ensures arena { IsIndexed bins.new.items (head.new ∷ []) (count.new ∷ []) ends.new.items backs.new.items }
     ensures carves { Carves bins.old.items bins.new.items sizes.now (offsets_of place.cell sizes.now) }
     ensures out { out.new.items ≡ out.old.items ++ offsets_of place.cell sizes.now }
 {
+    let size = size_at(bins, place.cell as usize);
+    let next = word_at(bins, place.cell as usize + 4);
     take_out(bins, head, count, place, total);
     cut(bins, place.cell, sizes, out);
+    note_taken(ends, backs, place, size, total, next);
 }
 
 // Carves from the free cell at `place`.
@@ -68,17 +75,19 @@ pub fn carve_found(
     bins: &mut Vec<u8>,
     head: &mut u32,
     count: &mut usize,
+    ends: &mut Vec<u32>,
+    backs: &mut Vec<u32>,
     place: Place,
     total: u32,
     sizes: &[u32],
     out: &mut Vec<u32>,
 ) -> Result<(), ArenaFault>
-    requires arena { IsArena bins.old.items (head.old ∷ []) (count.old ∷ []) }
+    requires arena { IsIndexed bins.old.items (head.old ∷ []) (count.old ∷ []) ends.old.items backs.old.items }
     requires fit { IsFit bins.old.items total (chain count.old bins.old.items head.old) place.previous place.cell }
     requires sizes { AreSizes sizes.now }
     requires total { total ≡ total_of sizes.now }
     requires positive { 0 < total }
-    ensures arena { IsArena bins.new.items (head.new ∷ []) (count.new ∷ []) }
+    ensures arena { IsIndexed bins.new.items (head.new ∷ []) (count.new ∷ []) ends.new.items backs.new.items }
     ensures ok { OnOk result ((offsets : List ℕ) × (out.new.items ≡ out.old.items ++ offsets) × CarvesExactly bins.old.items bins.new.items sizes.now offsets × AddsCells bins.old.items bins.new.items sizes.now offsets) }
     ensures fault { IfErr result (λ fault. fault ≡ ArenaFault.Memory) }
     ensures err { OnErr result ((bins.new.items ≡ bins.old.items) × (head.new ≡ head.old) × (out.new.items ≡ out.old.items)) }
@@ -86,7 +95,7 @@ pub fn carve_found(
     if out.reserve(sizes.len()).is_err() {
         return Err(ArenaFault::Memory);
     }
-    carve_at(bins, head, count, place, total, sizes, out);
+    carve_at(bins, head, count, ends, backs, place, total, sizes, out);
     Ok(())
 }
 
@@ -95,18 +104,20 @@ pub fn carve_bin(
     bins: &mut Vec<u8>,
     head: &mut u32,
     count: &mut usize,
+    ends: &mut Vec<u32>,
+    backs: &mut Vec<u32>,
     total: u32,
     sizes: &[u32],
     out: &mut Vec<u32>,
 ) -> Result<(), ArenaFault>
-    requires arena { IsArena bins.old.items (head.old ∷ []) (count.old ∷ []) }
+    requires arena { IsIndexed bins.old.items (head.old ∷ []) (count.old ∷ []) ends.old.items backs.old.items }
     requires none { NoFit bins.old.items total }
     requires sizes { AreSizes sizes.now }
     requires total { total ≡ total_of sizes.now }
     requires positive { 0 < total }
     requires small { total ≤ 16777216 }
-    requires room { length bins.old.items + total + 4128 ≤ 268435456 }
-    ensures arena { IsArena bins.new.items (head.new ∷ []) (count.new ∷ []) }
+    requires room { HasRoomForBin bins.old.items total }
+    ensures arena { IsIndexed bins.new.items (head.new ∷ []) (count.new ∷ []) ends.new.items backs.new.items }
     ensures ok { OnOk result ((offsets : List ℕ) × (out.new.items ≡ out.old.items ++ offsets) × CarvesExactly bins.old.items bins.new.items sizes.now offsets × AddsCells bins.old.items bins.new.items sizes.now offsets) }
     ensures fault { IfErr result (λ fault. fault ≡ ArenaFault.Memory) }
     ensures err { OnErr result ((bins.new.items ≡ bins.old.items) × (head.new ≡ head.old) × (out.new.items ≡ out.old.items)) }
@@ -114,9 +125,9 @@ pub fn carve_bin(
     if out.reserve(sizes.len()).is_err() {
         return Err(ArenaFault::Memory);
     }
-    let Ok(place) = add_bin(bins, head, count, total) else {
+    let Ok(place) = add_indexed_bin(bins, head, count, ends, backs, total) else {
         return Err(ArenaFault::Memory);
     };
-    carve_at(bins, head, count, place, total, sizes, out);
+    carve_at(bins, head, count, ends, backs, place, total, sizes, out);
     Ok(())
 }

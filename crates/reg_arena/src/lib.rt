@@ -14,8 +14,10 @@ mod arena;
 mod bin;
 mod carve;
 mod cut;
+mod free;
 pub mod laws;
 mod list;
+mod tables;
 #[cfg(test)]
 mod tests;
 mod walk;

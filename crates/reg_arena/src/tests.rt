@@ -1,6 +1,10 @@
-//! Each public call once on its happy path, and a second bin refused. The wanted bytes come from the format's
-//! description.
-use crate::{Arena, ArenaFault, Cell};
+//! Each public call once on its happy path, bins appended, and the limit of all bins. The wanted bytes come from the
+//! format's description.
+ghost use Rattle.std.specs.Prelude.{◌≡◌, ◌-◌, ◌≤◌, ◌%◌, replicate, Some, IfOk};
+ghost use Rattle.reg_arena.specs.Cells.{cell_at};
+
+use crate::{Arena, Cell};
+use std::alloc::Global;
 use std::test::Fail;
 
 fn cell(offset: u32, size: u32, allocated: bool) -> Cell {
@@ -9,6 +13,46 @@ fn cell(offset: u32, size: u32, allocated: bool) -> Cell {
         size,
         allocated,
     }
+}
+
+// The cells: offsets, sizes, and a star for an allocated one.
+fn shown(alloc: Global, arena: &Arena) -> Result<String, Fail> {
+    let cells = arena.cells(alloc)?;
+    let mut text = String::new(alloc);
+    for cell in &cells {
+        let mark = if cell.allocated { "*" } else { "" };
+        write!(text, "{} {}{mark}, ", cell.offset, cell.size)?;
+    }
+    Ok(text)
+}
+
+// One cell of 16 bytes at least.
+fn carved(alloc: Global, arena: &mut Arena, size: u32) -> Result<u32, Fail>
+    requires large { 16 ≤ size }
+    requires eights { size % 8 ≡ 0 }
+    requires small { size ≤ 16777216 }
+    ensures { IfOk result (λ cell. cell_at arena.new.bytes cell ≡ Some (replicate (size - 4) 0)) }
+{
+    let mut offsets = Vec::new(alloc);
+    arena.carve(&[size], &mut offsets)?;
+    Ok(offsets[0])
+}
+
+// Cells of the largest size until one is refused.
+fn filled(alloc: Global, arena: &mut Arena) -> Result<String, Fail> {
+    let mut offsets = Vec::new(alloc);
+    let mut last = Ok(());
+    for _i in 0..16 {
+        last = arena.carve(&[16_777_216], &mut offsets);
+    }
+    let mut text = String::new(alloc);
+    write!(
+        text,
+        "{} cells, {} bytes, {last:?}",
+        offsets.len(),
+        arena.bins_size()
+    )?;
+    Ok(text)
 }
 
 #[test]
@@ -81,18 +125,55 @@ fn reads_what_was_written(rt: HostRuntime) -> Result<(), Fail> {
 }
 
 #[test]
-fn a_second_bin_is_refused(rt: HostRuntime) -> Result<(), Fail> {
+fn a_second_bin_is_appended(rt: HostRuntime) -> Result<(), Fail> {
     let mut arena = Arena::new(rt.alloc());
     let mut offsets = Vec::new(rt.alloc());
     arena.carve(&[4064], &mut offsets)?;
-    assert_eq!(rt; arena.bins_size(), 4096);
-    let before = arena.bytes(0, 4096).to_vec(rt.alloc())?;
-    let fault = arena.carve(&[8], &mut offsets);
-    assert_eq!(rt; fault, Err(ArenaFault::Full));
-    assert_eq!(rt; offsets.as_slice(), [32].as_slice());
-    assert_eq!(rt; arena.bins_size(), 4096);
-    assert_eq!(rt; arena.bytes(0, 4096), before.as_slice());
-    let cells = arena.cells(rt.alloc())?;
-    assert_eq!(rt; cells.as_slice(), [cell(32, 4064, true)].as_slice());
+    arena.carve(&[4064], &mut offsets)?;
+    assert_eq!(rt;
+        shown(rt.alloc(), &arena)?.as_str(),
+        "32 4064*, 4128 4064*, "
+    );
+    Ok(())
+}
+
+#[test]
+fn a_bin_has_room_for_the_cell(rt: HostRuntime) -> Result<(), Fail> {
+    let mut arena = Arena::new(rt.alloc());
+    let mut offsets = Vec::new(rt.alloc());
+    arena.carve(&[4072], &mut offsets)?;
+    assert_eq!(rt;
+        shown(rt.alloc(), &arena)?.as_str(),
+        "32 4072*, 4104 4088, "
+    );
+    Ok(())
+}
+
+#[test]
+fn the_bins_have_a_limit(rt: HostRuntime) -> Result<(), Fail> {
+    let mut arena = Arena::new(rt.alloc());
+    let text = filled(rt.alloc(), &mut arena)?;
+    assert_eq!(rt; text.as_str(), "15 cells, 251719680 bytes, Err(Full)");
+    Ok(())
+}
+
+#[test]
+fn shifts_bytes_within_a_cell(rt: HostRuntime) -> Result<(), Fail> {
+    let mut arena = Arena::new(rt.alloc());
+    let cell = carved(rt.alloc(), &mut arena, 16)?;
+    arena.write_whole(cell, b"abcdefghijkl");
+    arena.shift(cell, 2, 4, 5);
+    assert_eq!(rt; arena.content(cell), b"abcdcdefgjkl".as_slice());
+    Ok(())
+}
+
+#[test]
+fn copies_bytes_between_cells(rt: HostRuntime) -> Result<(), Fail> {
+    let mut arena = Arena::new(rt.alloc());
+    let mut offsets = Vec::new(rt.alloc());
+    arena.carve(&[16, 16], &mut offsets)?;
+    arena.write_whole(offsets[1], b"abcdefghijkl");
+    arena.copy(offsets[0], 0, offsets[1], 2, 3);
+    assert_eq!(rt; arena.content(offsets[1]), b"ab\0\0\0fghijkl".as_slice());
     Ok(())
 }

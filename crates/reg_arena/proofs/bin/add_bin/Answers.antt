@@ -4,6 +4,9 @@ use Rattle.reg_arena.proofs.NewBins.{length-headed}
 use Rattle.reg_arena.proofs.Grows.{added}
 use Rattle.reg_arena.proofs.bin.add_bin.Goals as goal
 
+pub lengthen-requires : goal.lengthen-requires
+lengthen-requires c = c.requires.room c.bin_size-size.result c.bin_size-size.ensures.least
+
 pub put_free-requires : goal.put_free-requires
 put_free-requires c =
     let old = c.args.bins.now.items in
@@ -21,12 +24,16 @@ overflow_add-count c = omega (arith, c.requires.arena.few.0)
 
 pub returns-clause-arena : goal.returns-clause-arena
 returns-clause-arena c =
-    (added c.args.bins.now.items c.lengthen.new.bins.items c.put_header.new.bins.items c.put_free.new.bins.items c.args.head.now c.args.count.now c.len-at.result c.bin_size-size.result c.args.total c.requires.arena c.bin_size-size.ensures.least c.requires.positive (omega arith) (omega arith) (omega arith) c.in_ok-lengthen.ensures.ok c.put_header.ensures c.put_free.ensures).arena
+    (added c.args.bins.now.items c.lengthen.new.bins.items c.put_header.new.bins.items c.put_free.new.bins.items c.args.head.now c.args.count.now c.len-at.result c.bin_size-size.result c.args.total c.requires.arena c.bin_size-size.ensures.least c.requires.positive (omega arith) (c.requires.room c.bin_size-size.result c.bin_size-size.ensures.least) (omega arith) c.in_ok-lengthen.ensures.ok c.put_header.ensures c.put_free.ensures).arena
 
 pub returns-clause-ok : goal.returns-clause-ok
 returns-clause-ok c =
-    (added c.args.bins.now.items c.lengthen.new.bins.items c.put_header.new.bins.items c.put_free.new.bins.items c.args.head.now c.args.count.now c.len-at.result c.bin_size-size.result c.args.total c.requires.arena c.bin_size-size.ensures.least c.requires.positive (omega arith) (omega arith) (omega arith) c.in_ok-lengthen.ensures.ok c.put_header.ensures c.put_free.ensures).appends
+    (added c.args.bins.now.items c.lengthen.new.bins.items c.put_header.new.bins.items c.put_free.new.bins.items c.args.head.now c.args.count.now c.len-at.result c.bin_size-size.result c.args.total c.requires.arena c.bin_size-size.ensures.least c.requires.positive (omega arith) (c.requires.room c.bin_size-size.result c.bin_size-size.ensures.least) (omega arith) c.in_ok-lengthen.ensures.ok c.put_header.ensures c.put_free.ensures).appends
 
 pub returns-clause-fit : goal.returns-clause-fit
 returns-clause-fit c =
-    (added c.args.bins.now.items c.lengthen.new.bins.items c.put_header.new.bins.items c.put_free.new.bins.items c.args.head.now c.args.count.now c.len-at.result c.bin_size-size.result c.args.total c.requires.arena c.bin_size-size.ensures.least c.requires.positive (omega arith) (omega arith) (omega arith) c.in_ok-lengthen.ensures.ok c.put_header.ensures c.put_free.ensures).fit
+    (added c.args.bins.now.items c.lengthen.new.bins.items c.put_header.new.bins.items c.put_free.new.bins.items c.args.head.now c.args.count.now c.len-at.result c.bin_size-size.result c.args.total c.requires.arena c.bin_size-size.ensures.least c.requires.positive (omega arith) (c.requires.room c.bin_size-size.result c.bin_size-size.ensures.least) (omega arith) c.in_ok-lengthen.ensures.ok c.put_header.ensures c.put_free.ensures).fit
+
+pub returns-clause-chained : goal.returns-clause-chained
+returns-clause-chained c =
+    (added c.args.bins.now.items c.lengthen.new.bins.items c.put_header.new.bins.items c.put_free.new.bins.items c.args.head.now c.args.count.now c.len-at.result c.bin_size-size.result c.args.total c.requires.arena c.bin_size-size.ensures.least c.requires.positive (omega arith) (c.requires.room c.bin_size-size.result c.bin_size-size.ensures.least) (omega arith) c.in_ok-lengthen.ensures.ok c.put_header.ensures c.put_free.ensures).chained

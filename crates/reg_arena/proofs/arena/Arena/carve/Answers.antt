@@ -1,23 +1,26 @@
-use Rattle.std.proofs.Common.{arith, ◌≡◌, ◌≢◌, length, sym, ◌∙◌, vec_len, refl}
-use Rattle.std.proofs.lemmas.Bool.{eqb-false, eqb-true}
+use Rattle.std.proofs.Common.{arith, ◌≡◌, ◌≢◌, length, sym, ◌∙◌, refl}
+use Rattle.std.proofs.lemmas.Bool.{eqb-false}
 use Rattle.reg_arena.specs.Free.{NoneFits, IsFit, chain}
 use Rattle.reg_arena.proofs.Choices.{total-positive, chain-within, no-fit, fit-some}
-use Rattle.reg_arena.proofs.Faults.{not-full}
+use Rattle.reg_arena.proofs.Faults.{not-full, room-or-not}
 use Rattle.reg_arena.proofs.arena.Arena.carve.Goals as goal
 
 pub find_fit-requires : goal.find_fit-requires
-find_fit-requires c = record { cells = chain-within _ _ _ c.self.invariant }
+find_fit-requires c = record { cells = chain-within _ _ _ c.self.invariant.arena }
 
-pub returns-then-not-is_empty-clause-full : goal.returns-then-not-is_empty-clause-full
-returns-then-not-is_empty-clause-full c =
+pub returns-then-passes_limit-clause-full : goal.returns-then-passes_limit-clause-full
+returns-then-passes_limit-clause-full c =
     let none : NoneFits c.self.inside.bins.items c.sum_of-total.result (chain c.self.inside.count c.self.inside.bins.items c.self.inside.head) = c.in_default.ensures in
     let some : length c.args.sizes.now ≢ 0 = eqb-false (length c.args.sizes.now) 0 (sym c.is_empty.ensures ∙ c.if-is_empty.false) in
-    let bin : vec_len c.self.inside.bins ≢ 0 = eqb-false (vec_len c.self.inside.bins) 0 (sym c.is_empty-in_default.ensures ∙ c.if-not-is_empty.true) in
-    rw (← c.self.view_is) ((λ _. (omega arith, omega arith, no-fit _ c.self.inside.head c.self.inside.count _ c.self.invariant (rw c.sum_of-total.ensures at none))), λ _. refl)
+    let passes = rw c.sum_of-total.ensures at (c.passes_limit.ensures.passes c.if-passes_limit.true) in
+    rw (← c.self.view_is) ((λ _. (omega arith, passes, no-fit _ c.self.inside.head c.self.inside.count _ c.self.invariant.arena (rw c.sum_of-total.ensures at none))), λ _. refl)
+
+pub carve_bin-requires-clause-room : goal.carve_bin-requires-clause-room
+carve_bin-requires-clause-room c = c.passes_limit.ensures.room c.if-passes_limit.false
 
 pub carve_bin-requires-clause-none : goal.carve_bin-requires-clause-none
 carve_bin-requires-clause-none c =
-    no-fit _ c.self.inside.head c.self.inside.count _ c.self.invariant c.in_default.ensures
+    no-fit _ c.self.inside.head c.self.inside.count _ c.self.invariant.arena c.in_default.ensures
 
 pub carve_bin-requires-clause-positive : goal.carve_bin-requires-clause-positive
 carve_bin-requires-clause-positive c =
@@ -31,10 +34,9 @@ carve_found-requires-clause-positive c =
 
 pub returns-in_default-clause-full : goal.returns-in_default-clause-full
 returns-in_default-clause-full c =
-    let none : vec_len c.self.inside.bins ≡ 0 = eqb-true (vec_len c.self.inside.bins) 0 (sym c.is_empty-in_default.ensures ∙ c.if-not-is_empty.false) in
-    rw (← c.self.view_is) ((λ e. absurd (not-full _ c.carve_bin.ensures.fault e)), λ h. absurd (let l = h.1 in omega (arith, l)))
+    rw (← c.self.view_is) ((λ e. absurd (not-full _ c.carve_bin.ensures.fault e)), λ h. absurd (room-or-not _ _ (rw c.sum_of-total.ensures at (c.passes_limit.ensures.room c.if-passes_limit.false)) h.1))
 
 pub returns-clause-full : goal.returns-clause-full
 returns-clause-full c =
     let fit : IsFit c.self.inside.bins.items c.sum_of-total.result (chain c.self.inside.count c.self.inside.bins.items c.self.inside.head) c.in-Some.place.previous c.in-Some.place.cell = c.in-Some.ensures in
-    rw (← c.self.view_is) ((λ e. absurd (not-full _ c.carve_found.ensures.fault e)), λ h. absurd (fit-some _ _ _ _ _ _ c.self.invariant (rw c.sum_of-total.ensures at fit) h.2))
+    rw (← c.self.view_is) ((λ e. absurd (not-full _ c.carve_found.ensures.fault e)), λ h. absurd (fit-some _ _ _ _ _ _ c.self.invariant.arena (rw c.sum_of-total.ensures at fit) h.2))
