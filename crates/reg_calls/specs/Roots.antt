@@ -1,7 +1,7 @@
 -- The tree of one root, as its cells spell it (Suhanov, Windows registry file format specification, "Key node", "Key value",
 -- "Key security"). Until keys can be made there is no other key; the root has no class, and no value but the default one, of
 -- at most 4 bytes.
-use Rattle.std.specs.Prelude.{◌≡◌, ◌≢◌, ℕ, zero, suc, ◌+◌, ◌-◌, ◌≤◌, ◌⊎◌, ◌==◌, if◌then◌else◌, max, List, [], ◌∷◌, length, take, drop, replicate, true, Option, Some, None, option_map, bit_and, refl}
+use Rattle.std.specs.Prelude.{◌≡◌, ◌≢◌, ℕ, zero, suc, ◌+◌, ◌-◌, ◌<◌, ◌≤◌, ◌⊎◌, ◌==◌, if◌then◌else◌, max, List, [], ◌∷◌, length, take, drop, replicate, true, Option, Some, None, option_map, bit_and, refl}
 use Rattle.std.specs.Coded.{Coded, code_by, coded×, coded_ℕ}
 use Rattle.std.specs.FinMap.{insert, empty}
 use Rattle.byteorder.specs.Endian.{little_bytes}
@@ -177,7 +177,9 @@ abbrev pub IsFound : List ℕ → Option Member → Option Member → Type 0
 IsFound [] here default_value = default_value ≡ here
 IsFound (b ∷ bs) here default_value = here ≡ None
 
--- the root has no value yet, and no free cell has the 32 bytes of a first one: its record's 24 and its list's 8
+-- the root has no value yet, no free cell has the 32 bytes of a first one, its record's 24 and its list's 8, and the bins are
+-- within 1,310,720 bytes of their limit
 pub record HasNoSpace (bins : List ℕ) (tree : Tree) : Type 0 where
   pub full : NoFit bins 32
+  pub near : 268435456 < length bins + 1310720
   pub none : value_named [] (values_at tree []) ≡ None

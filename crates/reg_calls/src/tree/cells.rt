@@ -1,5 +1,6 @@
 ghost use Rattle.std.specs.Prelude.{◌≡◌, ◌≢◌, ◌+◌, ◌^◌, Err, ◌-◌, ◌*◌, ◌/◌, ◌%◌, ◌≤◌, ◌<◌, [], ◌∷◌, IfOk, IfErr, OnErr, length};
 ghost use Rattle.reg_arena.specs.Carves.{NoFit};
+ghost use Rattle.reg_arena.specs.NewBin.{PassesLimit};
 ghost use Rattle.reg_arena.specs.NewCells.{total_of};
 ghost use Rattle.reg_calls.specs.Carving.{AreCarved};
 
@@ -31,6 +32,7 @@ pub fn carve_two(
     ensures err { OnErr result (arena.new ≡ arena.old) }
     ensures full { result ≡ Err TreeFault.Full → arena.old.bytes ≡ [] → ⊥ }
     ensures space { result ≡ Err TreeFault.Full → NoFit arena.old.bytes (total_of (first ∷ second ∷ [])) }
+    ensures limit { result ≡ Err TreeFault.Full → PassesLimit arena.old.bytes (total_of (first ∷ second ∷ [])) }
 {
     let mut cells = Vec::new(alloc);
     match arena.carve(&[first, second], &mut cells) {

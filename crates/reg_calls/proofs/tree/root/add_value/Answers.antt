@@ -1,5 +1,5 @@
 use Rattle.std.proofs.lemmas.Grind.{common_steps}
-use Rattle.std.proofs.Common.{[], sym, arith}
+use Rattle.std.proofs.Common.{[], sym, arith, refl}
 use Rattle.reg_calls.proofs.Openings.{is_some_of}
 use Rattle.reg_calls.proofs.Spellings.{root-bare, found-bare}
 use Rattle.reg_calls.proofs.Sets.{added, key-filled}
@@ -30,5 +30,6 @@ returns-in_err-cell-clause-space c = λ full.
     let root = c.requires.root in
     record {
       full = c.in_err-cell.ensures.space (grind (arith, common_steps, full));
+      near = (let past = c.in_err-cell.ensures.limit (grind (arith, common_steps, full)) in let small = past.least.least 4096 refl (omega arith) in omega (arith, past.passes, small));
       none = sym (found-bare _ _ root.key root.security root.key_is root.only.security_is (root-bare _ _ root c.requires.cell) []);
     }
