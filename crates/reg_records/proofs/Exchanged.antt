@@ -1,21 +1,19 @@
 -- A hive stays whole where one key's own cells are exchanged for others.
-use Rattle.std.proofs.Common.{◌≡◌, ◌↔◌, ℕ, zero, suc, ◌+◌, ◌*◌, ◌%◌, ◌<◌, ◌≤◌, max, Bool, true, false, cond, eqb, is_some, Option, Some, None, List, [], ◌∷◌, map, length, refl, sym, ap, ◌∙◌, subst, arith}
+use Rattle.std.proofs.Common.{◌≡◌, ℕ, suc, ◌+◌, ◌*◌, ◌%◌, ◌<◌, ◌≤◌, max, Bool, true, false, cond, eqb, Option, Some, List, [], ◌∷◌, map, length, refl, sym, ap, ◌∙◌, subst, arith}
 use Rattle.std.specs.Prelude.{unwrap_or}
 use Rattle.std.specs.List.{AllByRecursion}
 use Rattle.std.specs.Option.{option_map}
 use Rattle.std.proofs.lemmas.Option.{none-some, same_Some}
 use Rattle.reg_names.specs.Names.{hash}
 use Rattle.reg_heap.specs.Paths.{Path}
-use Rattle.reg_heap.specs.Heaps.{Heap, allocated, Swaps}
-use Rattle.reg_heap.specs.Kinds.{Found, times, owned, shared}
+use Rattle.reg_heap.specs.Heaps.{Heap, allocated}
+use Rattle.reg_heap.specs.Kinds.{times, owned}
 use Rattle.reg_heap.specs.Forests.{Forest, Branch, heads, total, total_of, Stand}
 use Rattle.reg_heap.specs.Forests.Forest.{End, Rooted as Hangs}
-use Rattle.reg_records.specs.Cells.{held}
-use Rattle.reg_records.specs.Securities.{KeySecurityRecord, sk_of, security_at, IsPlainSecurity}
-use Rattle.reg_records.specs.Lists.{Entry, places_in}
-use Rattle.reg_records.specs.Nodes.{Node, entries_of}
+use Rattle.reg_records.specs.Securities.{KeySecurityRecord, IsPlainSecurity}
+use Rattle.reg_records.specs.Nodes.{Node}
 use Rattle.reg_records.specs.Written.{Pairwise, Precedes, Fits, IsWrittenSecurity}
-use Rattle.reg_records.specs.Whole.{IsRing, Links, Circles, flink_at, blink_at, count_at, descriptor_at}
+use Rattle.reg_records.specs.Whole.{IsRing, Links, Circles, count_at, descriptor_at}
 use Rattle.reg_records.specs.Shapes.{cells_of, owns, shares, IsSeen, StandsIn, depth, IsWholeShape}
 use Rattle.reg_records.specs.Exchanges.{is_named, found_in, found_at, edit_in, edit_at, IsAlike, IsExchanged}
 use Rattle.reg_records.proofs.Securities.{security_at-same}
@@ -102,9 +100,10 @@ order-alike [] [] a l = tt
 order-alike [] (y ∷ ys) a l = absurd a
 order-alike (x ∷ xs) [] a l = absurd a
 order-alike (x ∷ xs) (y ∷ ys) a l = (
-    all-weaker (Before x) (Before y) (λ b t. subst (λ name. Precedes name b.1.key.name) (sym a.1.name) t) ys
-    (all-alike (Before x) (λ b c e f t. subst (λ name. Precedes x.1.key.name name) (sym f.name) t) xs ys a.2 l.0),
-    order-alike xs ys a.2 l.1)
+  all-weaker (Before x) (Before y) (λ b t. subst (λ name. Precedes name b.1.key.name) (sym a.1.name) t) ys
+      (all-alike (Before x) (λ b c e f t. subst (λ name. Precedes x.1.key.name name) (sym f.name) t) xs ys a.2 l.0),
+  order-alike xs ys a.2 l.1,
+)
 
 fits-alike : (o : ℕ) (k : Node) (us bs : List (ℕ × Node)) → AreAlike us bs → Fits o k us → Fits o k bs
 fits-alike o k us bs a f = record {
@@ -122,8 +121,9 @@ module _ (h k : Heap) (root : ℕ) where
   forest-kept : (F : Forest Node) → Stand (IsSeen h root) Fits F → ((z : ℕ) → 0 < total (owns z) F → k z ≡ h z) → Stand (IsSeen k root) Fits F
   forest-kept End a s = tt
   forest-kept (Hangs o node b f) a s = (
-      (seen-kept h k root o node a.0.0 (λ z l. s z (omega arith)), a.0.1, forest-kept b a.0.2 (λ z l. s z (omega arith))),
-      forest-kept f a.1 (λ z l. s z (omega arith)))
+    (seen-kept h k root o node a.0.0 (λ z l. s z (omega arith)), a.0.1, forest-kept b a.0.2 (λ z l. s z (omega arith))),
+    forest-kept f a.1 (λ z l. s z (omega arith)),
+  )
 
   module _ (place : ℕ) (n m : Node) (x : IsExchanged h k root place n m) where
     -- a cell that the key did not have holds the same
@@ -146,7 +146,8 @@ module _ (h k : Heap) (root : ℕ) where
       shows = (refl, x.alike, alike-self (heads s));
       stand = λ a c. (
         (x.seen, x.fits (heads b) a.0.1, forest-kept b a.0.2 (λ z l. (let t = c z in let o = at-most-one h z in keep z (omega (arith, t, o, l)) (omega (arith, t, l))))),
-        forest-kept s a.1 (λ z l. (let t = c z in let o = at-most-one h z in keep z (omega (arith, t, o, l)) (omega (arith, t, l)))));
+        forest-kept s a.1 (λ z l. (let t = c z in let o = at-most-one h z in keep z (omega (arith, t, o, l)) (omega (arith, t, l)))),
+      );
     }
 
     goes-under : (o : ℕ) (key : Node) (b c s : Forest Node) → Goes b c → Goes (Hangs o key b s) (Hangs o key c s)
@@ -154,10 +155,13 @@ module _ (h k : Heap) (root : ℕ) where
       has = λ z. (let u = g.has z in omega (arith, u));
       shows = (refl, record { name = refl; parent = refl; class_length = refl }, alike-self (heads s));
       stand = λ a t. (
-        (seen-kept h k root o key a.0.0 (λ z l. (let c = t z in let u = g.has z in let one = at-most-one h z in keep z (omega (arith, c, u, one, l)) (omega (arith, c, l)))),
-        fits-alike o key (heads b) (heads c) g.shows a.0.1,
-        g.stand a.0.2 (λ z. (let c = t z in omega (arith, c)))),
-        forest-kept s a.1 (λ z l. (let c = t z in let u = g.has z in let one = at-most-one h z in keep z (omega (arith, c, u, one, l)) (omega (arith, c, l)))));
+        (
+          seen-kept h k root o key a.0.0 (λ z l. (let c = t z in let u = g.has z in let one = at-most-one h z in keep z (omega (arith, c, u, one, l)) (omega (arith, c, l)))),
+          fits-alike o key (heads b) (heads c) g.shows a.0.1,
+          g.stand a.0.2 (λ z. (let c = t z in omega (arith, c))),
+        ),
+        forest-kept s a.1 (λ z l. (let c = t z in let u = g.has z in let one = at-most-one h z in keep z (omega (arith, c, u, one, l)) (omega (arith, c, l)))),
+      );
     }
 
     goes-next : (o : ℕ) (key : Node) (b s f : Forest Node) → Goes s f → Goes (Hangs o key b s) (Hangs o key b f)
@@ -165,10 +169,13 @@ module _ (h k : Heap) (root : ℕ) where
       has = λ z. (let u = g.has z in omega (arith, u));
       shows = (refl, record { name = refl; parent = refl; class_length = refl }, g.shows);
       stand = λ a t. (
-        (seen-kept h k root o key a.0.0 (λ z l. (let c = t z in let u = g.has z in let one = at-most-one h z in keep z (omega (arith, c, u, one, l)) (omega (arith, c, l)))),
-        a.0.1,
-        forest-kept b a.0.2 (λ z l. (let c = t z in let u = g.has z in let one = at-most-one h z in keep z (omega (arith, c, u, one, l)) (omega (arith, c, l))))),
-        g.stand a.1 (λ z. (let c = t z in omega (arith, c))));
+        (
+          seen-kept h k root o key a.0.0 (λ z l. (let c = t z in let u = g.has z in let one = at-most-one h z in keep z (omega (arith, c, u, one, l)) (omega (arith, c, l)))),
+          a.0.1,
+          forest-kept b a.0.2 (λ z l. (let c = t z in let u = g.has z in let one = at-most-one h z in keep z (omega (arith, c, u, one, l)) (omega (arith, c, l)))),
+        ),
+        g.stand a.1 (λ z. (let c = t z in omega (arith, c))),
+      );
     }
 
     goes : (p : Path) (F : Forest Node) → found_in p F ≡ Some (place, n) → Goes F (edit_in p m F)
@@ -180,15 +187,17 @@ module _ (h k : Heap) (root : ℕ) where
         let q : ◌≡◌ {A = ℕ × Node} (keys.place, keys.node) (place, n) = same_Some _ _ e in
         let here : keys.place ≡ place = ap (λ (z : ℕ × Node). z.0) q in
         let node : keys.node ≡ n = ap (λ (z : ℕ × Node). z.1) q in
-        let own : (z : ℕ) → owned z (cells_of keys.node) ≡ owned z (cells_of n) = λ z. ap (λ (t : Node). owned z (cells_of t)) node in
-        (subst (λ o. IsSeen k root o m) (sym here) x.seen,
-        subst (λ o. Fits o m (heads keys.below)) (sym here) (x.fits (heads keys.below) (subst (λ o. Fits o n (heads keys.below)) here (subst (λ t. Fits keys.place t (heads keys.below)) node a.1))),
-        forest-kept keys.below a.2 (λ z l. (let t = c z in let u = own z in let one = at-most-one h z in keep z (omega (arith, t, u, one, l)) (omega (arith, t, l)))))
+        let own : (z : ℕ) → owned z (cells_of keys.node) ≡ owned z (cells_of n) = λ z. ap (λ (t : Node). owned z (cells_of t)) node in (
+          subst (λ o. IsSeen k root o m) (sym here) x.seen,
+          subst (λ o. Fits o m (heads keys.below)) (sym here) (x.fits (heads keys.below) (subst (λ o. Fits o n (heads keys.below)) here (subst (λ t. Fits keys.place t (heads keys.below)) node a.1))),
+          forest-kept keys.below a.2 (λ z l. (let t = c z in let u = own z in let one = at-most-one h z in keep z (omega (arith, t, u, one, l)) (omega (arith, t, l)))),
+        )
     branch-exchanged (y ∷ p) keys e a c =
-        let g = goes (y ∷ p) keys.below e in
-        (seen-kept h k root keys.place keys.node a.0 (λ z l. (let t = c z in let u = g.has z in let one = at-most-one h z in keep z (omega (arith, t, u, one, l)) (omega (arith, t, l)))),
-        fits-alike keys.place keys.node (heads keys.below) (heads (edit_in (y ∷ p) m keys.below)) g.shows a.1,
-        g.stand a.2 (λ z. (let t = c z in omega (arith, t))))
+        let g = goes (y ∷ p) keys.below e in (
+          seen-kept h k root keys.place keys.node a.0 (λ z l. (let t = c z in let u = g.has z in let one = at-most-one h z in keep z (omega (arith, t, u, one, l)) (omega (arith, t, l)))),
+          fits-alike keys.place keys.node (heads keys.below) (heads (edit_in (y ∷ p) m keys.below)) g.shows a.1,
+          g.stand a.2 (λ z. (let t = c z in omega (arith, t))),
+        )
 
 branch-total : (f : ℕ → Node → ℕ) (place : ℕ) (n m : Node) (p : Path) (keys : Branch Node) → found_at p keys ≡ Some (place, n) → total_of f (edit_at p m keys) + f place n ≡ total_of f keys + f place m
 branch-total f place n m [] keys e =
@@ -225,9 +234,10 @@ module _ (h k : Heap) where
 
   differ-one : (y : ℕ) → k y ≡ h y → (ring : List ℕ) → AllByRecursion (λ z. k z ≡ h z) ring → AllByRecursion (λ z. descriptor_at h y ≡ descriptor_at h z → ⊥) ring → AllByRecursion (Differ y) ring
   differ-one y e [] a d = tt
-  differ-one y e (z ∷ ring) a d =
-      ((λ same. d.0 (sym (ap (option_map (λ (s : KeySecurityRecord). s.descriptor)) (security_at-same h k y e)) ∙ (same ∙ ap (option_map (λ (s : KeySecurityRecord). s.descriptor)) (security_at-same h k z a.0)))),
-      differ-one y e ring a.1 d.1)
+  differ-one y e (z ∷ ring) a d = (
+    (λ same. d.0 (sym (ap (option_map (λ (s : KeySecurityRecord). s.descriptor)) (security_at-same h k y e)) ∙ (same ∙ ap (option_map (λ (s : KeySecurityRecord). s.descriptor)) (security_at-same h k z a.0)))),
+    differ-one y e ring a.1 d.1,
+  )
 
   differ-kept : (ring : List ℕ) → AllByRecursion (λ z. k z ≡ h z) ring → Pairwise (λ a b. descriptor_at h a ≡ descriptor_at h b → ⊥) ring → Pairwise Differ ring
   differ-kept [] a d = tt
@@ -236,8 +246,9 @@ module _ (h k : Heap) where
   securities-kept : (ring : List ℕ) → AllByRecursion (λ z. k z ≡ h z) ring → AllByRecursion (IsWrittenSecurity h) ring → AllByRecursion (IsWrittenSecurity k) ring
   securities-kept [] a w = tt
   securities-kept (z ∷ ring) a w = (
-      record { security = w.0.security; reads = security_at-same h k z a.0 ∙ w.0.reads; plain = subst IsPlainSecurity (sym (ap (λ (c : Option (List ℕ)). unwrap_or c []) a.0)) w.0.plain; some = w.0.some; short = w.0.short },
-      securities-kept ring a.1 w.1)
+    record { security = w.0.security; reads = security_at-same h k z a.0 ∙ w.0.reads; plain = subst IsPlainSecurity (sym (ap (λ (c : Option (List ℕ)). unwrap_or c []) a.0)) w.0.plain; some = w.0.some; short = w.0.short },
+    securities-kept ring a.1 w.1,
+  )
 
   ring-kept : (first : ℕ) (others : List ℕ) → AllByRecursion (λ z. k z ≡ h z) (first ∷ others) → IsRing h first others → IsRing k first others
   ring-kept first others a r = record {
@@ -249,8 +260,9 @@ module _ (h k : Heap) where
 all-members : (P : ℕ → Type 0) (xs : List ℕ) → ((z : ℕ) → 0 < times z xs → P z) → AllByRecursion P xs
 all-members P [] h = tt
 all-members P (x ∷ xs) h = (
-    h x (let one : ◌≡◌ {A = ℕ} (cond (eqb x x) 1 0) 1 = ap (λ b. cond b 1 0) (same-number x) in omega (arith, one)),
-    all-members P xs (λ z l. h z (omega arith)))
+  h x (let one : ◌≡◌ {A = ℕ} (cond (eqb x x) 1 0) 1 = ap (λ b. cond b 1 0) (same-number x) in omega (arith, one)),
+  all-members P xs (λ z l. h z (omega arith)),
+)
 
 branch-has : (f : ℕ → Node → ℕ) (place : ℕ) (n m : Node) (p : Path) (keys : Branch Node) → found_at p keys ≡ Some (place, n) → f place n ≤ total_of f keys
 branch-has f place n m [] keys e =

@@ -1,25 +1,23 @@
 -- A change outside a key's own cells keeps the key, as it is read and as it is written.
-use Rattle.std.proofs.Common.{◌≡◌, ℕ, zero, suc, ◌+◌, ◌<◌, ◌≤◌, Bool, true, false, cond, Option, Some, None, List, [], ◌∷◌, ◌++◌, map, flat_map, length, take, drop, refl, sym, ap, ◌∙◌, subst, arith}
-use Rattle.std.specs.List.{AllByRecursion}
+use Rattle.std.proofs.Common.{◌≡◌, ℕ, zero, suc, ◌+◌, ◌<◌, true, false, Some, List, [], ◌∷◌, length, take, drop, refl, sym, ap, ◌∙◌, subst, arith}
 use Rattle.std.specs.Option.{option_map, option_and_then}
 use Rattle.std.specs.Result.{result_ok}
-use Rattle.std.proofs.lemmas.Option.{none-some, same_Some}
+use Rattle.std.proofs.lemmas.Option.{same_Some}
 use Rattle.std.proofs.lemmas.Bool.{false≢true}
-use Rattle.reg_heap.specs.Paths.{Member}
 use Rattle.reg_heap.specs.Heaps.{Heap}
-use Rattle.reg_heap.specs.Kinds.{Kind, Found, is_security, is_own, tally, owned}
+use Rattle.reg_heap.specs.Kinds.{Kind, Found, is_security, is_own, owned}
 use Rattle.reg_heap.specs.Kinds.Kind.{Key, Class, SubList, Leaf, ValueList, Value, Data, BigHead, BigList, Segment, Security}
-use Rattle.reg_records.specs.Keys.{KeyRecord, nk_of, key_at}
-use Rattle.reg_records.specs.Lists.{SubkeysList, Form, Entry, list_of, places_in}
+use Rattle.reg_records.specs.Keys.{nk_of, key_at}
+use Rattle.reg_records.specs.Lists.{SubkeysList, Form, list_of, places_in}
 use Rattle.reg_records.specs.Lists.Form.{IndexRoot, IndexLeaf, FastLeaf, HashLeaf}
 use Rattle.reg_records.specs.Pieces.{if_any}
-use Rattle.reg_records.specs.Nodes.{Node, KeyList, Index, key_list_as, list_at, key_list_at, key_lists_at, index_as, index_at, node_of, node_in, met_of, pieces_at, members_at, look}
-use Rattle.reg_records.specs.Nodes.Index.{Unlisted, Listed, Rooted}
-use Rattle.reg_records.specs.Shapes.{joined, lists_met, index_met, index_cells, cells_of}
+use Rattle.reg_records.specs.Nodes.{Node, KeyList, Index, key_list_as, list_at, key_list_at, key_lists_at, index_as, index_at, node_of, node_in, met_of, members_at, look}
+use Rattle.reg_records.specs.Nodes.Index.{Listed, Rooted}
+use Rattle.reg_records.specs.Shapes.{joined, lists_met, index_cells, cells_of}
 use Rattle.reg_records.proofs.Indexes.{then-open, map-open, as-key-list}
 use Rattle.reg_records.proofs.Inner.{is_inner, AreInner, class-inner, members-inner}
 use Rattle.reg_records.proofs.Standing.{IsLooked, look-open}
-use Rattle.reg_records.proofs.Counts.{tally-append, nothing-met, nothing-taken}
+use Rattle.reg_records.proofs.Counts.{tally-append, nothing-met}
 use Rattle.reg_records.proofs.Wholes.{own-here}
 use Rattle.reg_records.proofs.Locals.{Agree, pieces-local, members-local}
 
@@ -64,9 +62,9 @@ lists-local h k (offset ∷ offsets) lists e s =
     let n = length o.0.list.entries in
     let here : k offset ≡ h offset = subst (λ z. k z ≡ h z) (sym place) (b o.0.place (let one = own-here (record { kind = Leaf; offset = o.0.place }) refl in omega (arith, one))) in
     let rest : Keeps h k (lists_met t.0 []) = λ z l. b z (
-      let parts = tally-append (is_own z) (joined (take n [])) (lists_met t.0 (drop n [])) in
-      let same = nothing-met (is_own z) t.0 n in
-      omega (arith, parts, same, l)) in
+    let parts = tally-append (is_own z) (joined (take n [])) (lists_met t.0 (drop n [])) in
+    let same = nothing-met (is_own z) t.0 n in
+    omega (arith, parts, same, l)) in
     ap (option_and_then (λ list. option_map (λ lists. list ∷ lists) (key_lists_at k offsets))) (one-list h k offset o.0 here o.1)
     ∙ (ap (option_map (λ lists. o.0 ∷ lists)) (lists-local h k offsets t.0 t.1 rest) ∙ ap Some t.2)
 
@@ -109,10 +107,10 @@ pub parts : (h k : Heap) (offset : ℕ) (node : Node) (l : IsLooked h offset nod
 parts h k offset node l s =
     let f : Found = record { kind = Security; offset = node.key.fields.security } in
     let all : (z : ℕ) → owned z (cells_of node) ≡ is_own z (record { kind = Key; offset = offset }) + ((owned z l.class_cells + owned z l.value_cells) + owned z (index_cells node.index)) = λ z. (
-      let a = tally-append (is_own z) node.cells (index_cells node.index) in
-      let b : owned z node.cells ≡ owned z (met_of offset node.key l.class_cells l.value_cells) = ap (owned z) l.cells in
-      let c = tally-append (is_own z) l.class_cells (f ∷ l.value_cells) in
-      omega (arith, a, b, c)) in
+    let a = tally-append (is_own z) node.cells (index_cells node.index) in
+    let b : owned z node.cells ≡ owned z (met_of offset node.key l.class_cells l.value_cells) = ap (owned z) l.cells in
+    let c = tally-append (is_own z) l.class_cells (f ∷ l.value_cells) in
+    omega (arith, a, b, c)) in
     record {
       here = s offset (let a = all offset in let one = own-here (record { kind = Key; offset = offset }) refl in omega (arith, a, one));
       class_same = λ z p. s z (let a = all z in omega (arith, a, p));

@@ -1,32 +1,32 @@
 -- A change outside a key's own cells keeps it as it is written.
-use Rattle.std.proofs.Common.{◌≡◌, ℕ, zero, suc, ◌+◌, ◌*◌, ◌<◌, ◌≤◌, Bool, true, false, cond, nat_le, Option, Some, None, List, [], ◌∷◌, ◌++◌, map, length, refl, sym, ap, ◌∙◌, subst, arith}
+use Rattle.std.proofs.Common.{◌≡◌, ℕ, zero, suc, ◌*◌, Bool, true, false, cond, nat_le, Option, Some, None, List, [], ◌∷◌, length, sym, ap, ◌∙◌, subst, arith}
 use Rattle.std.specs.Prelude.{unwrap_or}
 use Rattle.std.specs.List.{AllByRecursion}
-use Rattle.std.specs.Option.{option_map, option_and_then}
+use Rattle.std.specs.Option.{option_and_then}
 use Rattle.std.specs.Result.{result_ok}
 use Rattle.std.proofs.lemmas.Option.{none-some, same_Some}
 use Rattle.std.proofs.lemmas.Bool.{false≢true}
 use Rattle.std.proofs.lemmas.Bool.Decides.{nat_tests}
 use Rattle.reg_heap.specs.Paths.{Member}
 use Rattle.reg_heap.specs.Heaps.{Heap}
-use Rattle.reg_heap.specs.Kinds.{Kind, Found, owned}
+use Rattle.reg_heap.specs.Kinds.{Found}
 use Rattle.reg_heap.specs.Kinds.Kind.{ValueList, Value, BigHead}
-use Rattle.reg_heap.specs.Readings.{Reading, ◌>>=◌, give, given, cell, guard, each}
+use Rattle.reg_heap.specs.Readings.{◌>>=◌, give, given, cell, guard, each}
 use Rattle.reg_heap.proofs.Opened.{bind-open, given-open, cell-open, each-open}
 use Rattle.reg_records.specs.declared.vk.ValueFields.{ValueFields}
 use Rattle.reg_records.specs.Cells.{held}
 use Rattle.reg_records.specs.Keys.{IsPlainKey}
 use Rattle.reg_records.specs.Values.{KeyValueRecord, vk_of, value_record_at, IsPlainValue}
 use Rattle.reg_records.specs.Rows.{row_in, offsets_at}
-use Rattle.reg_records.specs.Pieces.{BigData, segment_size, is_inline, segments_for, db_of}
-use Rattle.reg_records.specs.Nodes.{Node, row_at, big_in, data_by, data_at, member_of, member_at, members_at, look}
-use Rattle.reg_records.specs.Written.{IsWrittenData, IsWrittenValue, AreWrittenValues, IsWrittenKey}
+use Rattle.reg_records.specs.Pieces.{segment_size, is_inline, segments_for, db_of}
+use Rattle.reg_records.specs.Nodes.{Node, row_at, big_in, data_by, data_at, member_of, member_at, members_at}
+use Rattle.reg_records.specs.Written.{IsWrittenData, IsWrittenValue}
 use Rattle.reg_records.specs.Shapes.{cells_of, IsSeen}
 use Rattle.reg_records.proofs.Inner.{members-inner}
-use Rattle.reg_records.proofs.Readings.{IsRow, row-open}
-use Rattle.reg_records.proofs.Standing.{IsLooked, look-open}
+use Rattle.reg_records.proofs.Readings.{row-open}
+use Rattle.reg_records.proofs.Standing.{look-open}
 use Rattle.reg_records.proofs.Locals.{Agree, all-front, all-back}
-use Rattle.reg_records.proofs.LocalKeys.{Keeps, agree-inner, AreParts, parts, look-local}
+use Rattle.reg_records.proofs.LocalKeys.{Keeps, agree-inner, parts, look-local}
 
 same-held : (h k : Heap) (o : ℕ) → k o ≡ h o → held k o ≡ held h o
 same-held h k o e = ap (λ (c : Option (List ℕ)). unwrap_or c []) e
@@ -47,9 +47,9 @@ data-kept h k v y e a w = record {
   inline = w.inline;
   far = w.far;
   big = λ i l. (
-    let same = big-met h k v.size v.place (is_inline v.size) (nat_le v.size segment_size) i (grind (arith, nat_tests)) y e a in
-    let b = w.big i l in
-    (b.0, ap db_of (same-held h k v.place same) ∙ b.1, b.2));
+      let same = big-met h k v.size v.place (is_inline v.size) (nat_le v.size segment_size) i (grind (arith, nat_tests)) y e a in
+      let b = w.big i l in
+      (b.0, ap db_of (same-held h k v.place same) ∙ b.1, b.2));
 }
 
 value-kept : (h k : Heap) (offset : ℕ) (y : Member × List Found) → member_at offset h ≡ Some y → Agree h k y.1 → IsWrittenValue h offset → IsWrittenValue k offset
@@ -82,9 +82,10 @@ each-kept : (h k : Heap) (row : List ℕ) (y : List Member × List Found) → ea
 each-kept h k [] y e a w = tt
 each-kept h k (offset ∷ row) y e a w =
     let o = each-open member_at h offset row y.0 y.1 e in
-    let b = subst (Agree h k) (sym o.all) a in
-    (value-kept h k offset (o.head, o.head_cells) o.head_is (all-front (λ (f : Found). k f.offset ≡ h f.offset) o.head_cells o.tail_cells b) w.0,
-    each-kept h k row (o.tail, o.tail_cells) o.tail_is (all-back (λ (f : Found). k f.offset ≡ h f.offset) o.head_cells o.tail_cells b) w.1)
+    let b = subst (Agree h k) (sym o.all) a in (
+      value-kept h k offset (o.head, o.head_cells) o.head_is (all-front (λ (f : Found). k f.offset ≡ h f.offset) o.head_cells o.tail_cells b) w.0,
+      each-kept h k row (o.tail, o.tail_cells) o.tail_is (all-back (λ (f : Found). k f.offset ≡ h f.offset) o.head_cells o.tail_cells b) w.1,
+    )
 
 row-is : (count : ℕ) (content row : List ℕ) → row_in count content ≡ Some row → offsets_at count 0 content ≡ row
 unfolding row_in

@@ -1,22 +1,17 @@
 -- A change outside what a reading meets keeps the reading.
-use Rattle.std.proofs.Common.{◌≡◌, ℕ, zero, suc, ◌+◌, ◌-◌, ◌<◌, Bool, true, false, cond, nat_le, Option, Some, None, List, [], ◌∷◌, ◌++◌, map, flat_map, length, take, Result, refl, sym, ap, ◌∙◌, subst, arith}
+use Rattle.std.proofs.Common.{◌≡◌, ℕ, zero, suc, Bool, true, false, nat_le, Option, Some, List, [], ◌∷◌, ◌++◌, length, take, sym, ap, ◌∙◌, subst}
 use Rattle.std.specs.List.{AllByRecursion, concat}
-use Rattle.std.specs.Option.{option_map, option_and_then}
 use Rattle.std.specs.Result.{result_ok}
-use Rattle.std.proofs.lemmas.Option.{same_Some}
 use Rattle.byteorder.specs.Endian.{little_bytes}
-use Rattle.reg_heap.specs.Paths.{Member}
 use Rattle.reg_heap.specs.Heaps.{Heap}
-use Rattle.reg_heap.specs.Kinds.{Kind, Found, is_security, is_own, tally, owned}
-use Rattle.reg_heap.specs.Kinds.Kind.{Key, Class, SubList, Leaf, ValueList, Value, Data, BigHead, BigList, Segment, Security}
+use Rattle.reg_heap.specs.Kinds.{Kind, Found}
+use Rattle.reg_heap.specs.Kinds.Kind.{ValueList, Value, Data, BigHead, BigList}
 use Rattle.reg_heap.specs.Readings.{Reading, ◌>>=◌, give, given, cell, guard, each}
 use Rattle.reg_heap.proofs.Opened.{bind-open, bind-made, guard-open, guard-made, cell-open, cell-made}
-use Rattle.reg_records.specs.Values.{KeyValueRecord, vk_of}
+use Rattle.reg_records.specs.Values.{vk_of}
 use Rattle.reg_records.specs.Rows.{row_in}
-use Rattle.reg_records.specs.Lists.{SubkeysList, Form, list_of, places_in}
-use Rattle.reg_records.specs.Lists.Form.{IndexRoot, IndexLeaf, FastLeaf, HashLeaf}
 use Rattle.reg_records.specs.Pieces.{Named, if_any, segment_size, is_inline, inline_size, BigData, segments_for, segments, db_of}
-use Rattle.reg_records.specs.Nodes.{Node, KeyList, Index, bytes_at, pieces_at, row_at, big_in, big_at, data_by, data_at, member_of, member_at, members_at}
+use Rattle.reg_records.specs.Nodes.{bytes_at, pieces_at, row_at, big_in, big_at, data_by, data_at, member_of, member_at, members_at}
 
 -- the cells that are met hold the same
 abbrev pub Agree : Heap → Heap → List Found → Type 0

@@ -1,18 +1,16 @@
 -- Where one key's own cells are exchanged, the tree that is spelt has another record at its path, and no other change.
-use Rattle.std.proofs.Common.{◌≡◌, ℕ, zero, suc, Bool, true, false, cond, ◌&&◌, Option, Some, None, List, [], ◌∷◌, ◌++◌, map, refl, sym, ap, ◌∙◌, subst}
-use Rattle.std.specs.List.{AllByRecursion}
+use Rattle.std.proofs.Common.{◌≡◌, ℕ, Bool, true, false, cond, ◌&&◌, Option, Some, None, List, [], ◌∷◌, ◌++◌, map, refl, sym, ap, ◌∙◌}
 use Rattle.std.specs.Ordering.{nat_cmp, is_eq, eq_by_cmp}
 use Rattle.std.specs.declared.cmp.Ordering.{Ordering}
 use Rattle.std.specs.declared.cmp.Ordering.TheVariants.{Less, Equal, Greater}
 use Rattle.std.specs.Cmp.Lexicographic.{slice_cmp}
-use Rattle.std.specs.FinMap.{get, find, insert, from_entries, get-from_entries, get-insert, same_map}
+use Rattle.std.specs.FinMap.{find, insert, from_entries, get-from_entries, get-insert, same_map}
 use Rattle.std.proofs.lemmas.Cmp.{tied_itself}
-use Rattle.std.proofs.lemmas.Option.{none-some, same_Some}
 use Rattle.std.proofs.lemmas.Bool.{false≢true}
 use Rattle.std.specs.Cmp.Lexicographic.{nat_list_cmp_total}
 use Rattle.std.specs.FinMap.{slice_cmp-IsAntisymmetric, nat_cmp-IsAntisymmetric}
 use Rattle.reg_names.specs.Names.{folded}
-use Rattle.reg_heap.specs.Paths.{Path, Rec, Tree, path_cmp}
+use Rattle.reg_heap.specs.Paths.{Path, Rec, path_cmp}
 use Rattle.reg_heap.specs.Heaps.{Heap}
 use Rattle.reg_heap.specs.Forests.{Forest, Branch}
 use Rattle.reg_heap.specs.Forests.Forest.{End, Rooted as Hangs}
@@ -208,8 +206,8 @@ module _ (h k : Heap) (same : (z : ℕ) → descriptor_in k z ≡ descriptor_in 
   tree-exchanged p keys e =
       tree-new (edit_at p m keys)
       ∙ (same_map path_total path_same (from_entries (after_root (edit_at p m keys))) (insert (from_entries (after_root keys)) p (rec m)) (λ q.
-          get-from_entries path_total (after_root (edit_at p m keys)) q
-          ∙ (find-root p keys e q
-          ∙ (ap (cond (same_path q p) (Some (rec m))) (sym (get-from_entries path_total (after_root keys) q))
-          ∙ sym (get-insert path_total (from_entries (after_root keys)) p (rec m) q))))
+      get-from_entries path_total (after_root (edit_at p m keys)) q
+      ∙ (find-root p keys e q
+      ∙ (ap (cond (same_path q p) (Some (rec m))) (sym (get-from_entries path_total (after_root keys) q))
+      ∙ sym (get-insert path_total (from_entries (after_root keys)) p (rec m) q))))
       ∙ ap (λ t. insert t p (rec m)) (sym (tree-old keys)))
