@@ -10,7 +10,10 @@ fn second_bin(rt: HostRuntime) -> Result<(), Fail> {
     let (hive, status) = hive_with(rt.alloc(), 3952, ALL, &[1])?;
     assert_eq!(rt; status, 0);
     let text = cells(rt.alloc(), &hive)?;
-    assert_eq!(rt; text.as_str(), "32 88* 120 3976* 4128 24* 4152 8* 4160 4032 ");
+    assert_eq!(rt;
+        text.as_str(),
+        "32 88* 120 3976* 4128 24* 4152 8* 4160 4032 "
+    );
     Ok(())
 }
 
