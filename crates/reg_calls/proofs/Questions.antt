@@ -4,7 +4,8 @@ use Rattle.std.specs.Prelude.{bit_and}
 use Rattle.std.proofs.lemmas.Bool.Decides.{nat_tests}
 use Rattle.reg_names.specs.Names.{is_value_name}
 use Rattle.reg_heap.specs.Paths.{Member}
-use Rattle.reg_model.specs.Worlds.{Handle, At, look, value_named}
+use Rattle.reg_heap.specs.Members.{value_named}
+use Rattle.reg_model.specs.Worlds.{Handle, At, look}
 use Rattle.reg_model.specs.Causes.{State, early_query_cause, late_query_cause, query_cause, has, values_at}
 use Rattle.reg_model.specs.Replies.{body_of, value_told}
 use Rattle.reg_model.specs.declared.answer.AnswerBody.{AnswerBody}

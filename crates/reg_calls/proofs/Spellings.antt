@@ -11,7 +11,8 @@ use Rattle.reg_records.specs.Cells.{Heap}
 use Rattle.reg_records.specs.Keys.{KeyRecord, key_at}
 use Rattle.reg_records.specs.Values.{KeyValueRecord, value_record_at}
 use Rattle.reg_records.specs.Securities.{KeySecurityRecord, security_at}
-use Rattle.reg_model.specs.Worlds.{edited, value_named}
+use Rattle.reg_heap.specs.Members.{value_named}
+use Rattle.reg_model.specs.Worlds.{edited}
 use Rattle.reg_model.specs.Causes.{values_at}
 use Rattle.reg_calls.specs.Roots.{HasValue, IsRoot, spelt, values_in, first_offset, member_of, marks_of, value_cell_in, IsFound}
 

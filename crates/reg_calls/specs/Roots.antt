@@ -17,7 +17,7 @@ use Rattle.reg_records.specs.Values.{KeyValueRecord, value_record_at, IsPlainVal
 use Rattle.reg_records.specs.Securities.{KeySecurityRecord, security_at, IsPlainSecurity}
 use Rattle.reg_records.specs.Rows.{offset_in}
 use Rattle.reg_arena.specs.Carves.{NoFit}
-use Rattle.reg_model.specs.Worlds.{value_named}
+use Rattle.reg_heap.specs.Members.{value_named}
 use Rattle.reg_model.specs.Causes.{values_at}
 use Rattle.reg_calls.specs.declared.tree.stored.Stored.{Stored}
 

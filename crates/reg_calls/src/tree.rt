@@ -4,7 +4,8 @@ ghost use Rattle.std.specs.Prelude.{true, ◌≡◌, ◌≤◌, ◌<◌, [], len
 ghost use Rattle.std.specs.FinMap.{insert, empty};
 ghost use Rattle.reg_names.specs.Names.{is_key_name};
 ghost use Rattle.reg_heap.specs.Paths.{path_cmp};
-ghost use Rattle.reg_model.specs.Worlds.{edited, with_value, value_named};
+ghost use Rattle.reg_heap.specs.Members.{value_named};
+ghost use Rattle.reg_model.specs.Worlds.{edited, with_value};
 ghost use Rattle.reg_model.specs.Causes.{values_at};
 
 mod cells;

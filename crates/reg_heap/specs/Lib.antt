@@ -1,5 +1,6 @@
 pub mod Words
 pub mod Paths
+pub mod Members
 pub mod Heaps
 pub mod Kinds
 pub mod Readings

@@ -3,7 +3,8 @@ use Rattle.std.specs.Prelude.{ℕ, ◌+◌, ◌==◌, ◌||◌, not, nat_lt, nat
 use Rattle.std.specs.FinMap.{get}
 use Rattle.reg_names.specs.Names.{is_value_name}
 use Rattle.reg_heap.specs.Paths.{Path, Tree, Rec, Member}
-use Rattle.reg_model.specs.Worlds.{World, Handle, Place, At, Deleted, look, path_at, value_named}
+use Rattle.reg_heap.specs.Members.{value_named}
+use Rattle.reg_model.specs.Worlds.{World, Handle, Place, At, Deleted, look, path_at}
 use Rattle.reg_model.specs.declared.call.Change.{Change}
 use Rattle.reg_model.specs.declared.call.Change.TheVariants.{OpenRoot, SetValue}
 use Rattle.reg_model.specs.declared.call.Query.{Query}

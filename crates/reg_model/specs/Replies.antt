@@ -1,7 +1,8 @@
 -- What accepted calls are told.
 use Rattle.std.specs.Prelude.{ℕ, nat_lt, length, if◌then◌else◌, Option, Some, None}
 use Rattle.reg_heap.specs.Paths.{Member}
-use Rattle.reg_model.specs.Worlds.{path_at, value_named}
+use Rattle.reg_heap.specs.Members.{value_named}
+use Rattle.reg_model.specs.Worlds.{path_at}
 use Rattle.reg_model.specs.Causes.{State, values_at}
 use Rattle.reg_model.specs.declared.call.Change.{Change}
 use Rattle.reg_model.specs.declared.call.Change.TheVariants.{OpenRoot, SetValue}

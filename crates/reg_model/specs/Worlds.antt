@@ -1,9 +1,8 @@
 -- A world, and what an accepted change makes of it.
-use Rattle.std.specs.Prelude.{ℕ, ◌==◌, Bool, List, [], ◌∷◌, ◌++◌, if◌then◌else◌, Option, Some, None}
-use Rattle.std.specs.Ordering.{is_eq}
+use Rattle.std.specs.Prelude.{ℕ, ◌==◌, List, [], ◌∷◌, ◌++◌, if◌then◌else◌, Option, Some, None}
 use Rattle.std.specs.FinMap.{get, insert}
-use Rattle.reg_names.specs.Names.{name_cmp}
-use Rattle.reg_heap.specs.Paths.{Path, Tree, Rec, Member}
+use Rattle.reg_heap.specs.Paths.{Path, Tree, Rec}
+use Rattle.reg_heap.specs.Members.{values_with}
 use Rattle.reg_model.specs.declared.call.Change.{Change}
 use Rattle.reg_model.specs.declared.call.Change.TheVariants.{OpenRoot, SetValue}
 use Rattle.reg_model.specs.declared.reply.Entry.{Entry}
@@ -53,20 +52,6 @@ path_at session number hs = by (look session number hs)
 -- a handle that an entry opens has the entry's number
 abbrev pub opened : Entry → Path → ℕ → Handle
 opened e p mask = record { number = e.number; session = e.session; mask = mask; place = At p }
-
-abbrev pub same_name : List ℕ → List ℕ → Bool
-same_name a b = is_eq (name_cmp a b)
-
--- the value of that name, after folding
-abbrev pub value_named : List ℕ → List Member → Option Member
-value_named name [] = None
-value_named name (v ∷ vs) = if same_name v.name name then Some v else value_named name vs
-
--- a value is replaced in its place and keeps the name that it was first given; a new one goes to the end
-abbrev pub values_with : List ℕ → ℕ → List ℕ → List Member → List Member
-values_with name kind bytes [] = record { name = name; kind = kind; bytes = bytes } ∷ []
-values_with name kind bytes (v ∷ vs) =
-    if same_name v.name name then record { name = v.name; kind = kind; bytes = bytes } ∷ vs else v ∷ values_with name kind bytes vs
 
 abbrev pub with_value : List ℕ → ℕ → List ℕ → ℕ → Rec → Rec
 with_value name kind bytes moment r = record r { time = moment; values = values_with name kind bytes r.values }

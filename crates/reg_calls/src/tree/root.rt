@@ -4,7 +4,8 @@ ghost use Rattle.reg_arena.specs.Cells.{cell_at};
 ghost use Rattle.reg_records.specs.Cells.{HasRoom};
 ghost use Rattle.reg_records.specs.Keys.{KeyRecord, key_at};
 ghost use Rattle.reg_records.specs.Values.{KeyValueRecord, value_record_at};
-ghost use Rattle.reg_model.specs.Worlds.{edited, with_value, value_named};
+ghost use Rattle.reg_heap.specs.Members.{value_named};
+ghost use Rattle.reg_model.specs.Worlds.{edited, with_value};
 ghost use Rattle.reg_model.specs.Causes.{values_at};
 ghost use Rattle.reg_calls.specs.Roots.{IsRoot, spelt, shown, member_of, value_cell_in, NotesSet, FillsValue, IsInline, IsFound, HasNoSpace};
 

@@ -1,5 +1,5 @@
 use Rattle.std.proofs.Common.{◌∙◌, ap, sym, subst, inl, refl, List, [], ℕ, None}
-use Rattle.reg_model.specs.Worlds.{value_named}
+use Rattle.reg_heap.specs.Members.{value_named}
 use Rattle.reg_model.specs.Causes.{State, values_at}
 use Rattle.reg_model.specs.declared.answer.AnswerBody.TheVariants.{Refused}
 use Rattle.reg_model.specs.declared.call.Query.TheVariants.{QueryValue}
