@@ -130,12 +130,14 @@ unnamed flags name e = ap (letters (not (bit_and flags 1 == 0))) e ∙ by (not (
 written-none : (h : Heap) (root : ℕ) (r : IsRoot h root) → r.key.fields.values ≡ 0 → AreWrittenValues h (node_with root r.key [] [])
 unfolding offsets_at
 written-none h root r none = record {
-  few = omega (arith, none);
-  none = r.bare;
-  each = subst (λ n. AllByRecursion (IsWrittenValue h) (offsets_at n 0 (held h r.key.fields.values_list))) (sym none) tt;
-  names = tt;
-  apart = tt;
-  sizes = tt;
+  list = record {
+    few = omega (arith, none);
+    none = r.bare;
+    each = subst (λ n. AllByRecursion (IsWrittenValue h) (offsets_at n 0 (held h r.key.fields.values_list))) (sym none) tt;
+    names = tt;
+    apart = tt;
+    sizes = tt;
+  };
   longest_name = tt;
   largest = tt;
 }
@@ -163,12 +165,14 @@ written-one h root r has =
     let none : length (told has.value).name ≡ 0 = ap length name in
     let size = told-size has.value in
     record {
-      few = omega (arith, has.count);
-      none = r.bare;
-      each = subst (λ n. AllByRecursion (IsWrittenValue h) (offsets_at n 0 (held h r.key.fields.values_list))) (sym has.count) (written-value h r.key has, tt);
-      names = (ap is_value_name name, tt);
-      apart = (tt, tt);
-      sizes = (omega (arith, size, has.most), tt);
+      list = record {
+        few = omega (arith, has.count);
+        none = r.bare;
+        each = subst (λ n. AllByRecursion (IsWrittenValue h) (offsets_at n 0 (held h r.key.fields.values_list))) (sym has.count) (written-value h r.key has, tt);
+        names = (ap is_value_name name, tt);
+        apart = (tt, tt);
+        sizes = (omega (arith, size, has.most), tt);
+      };
       longest_name = (omega (arith, none), tt);
       largest = (omega (arith, size, has.largest), tt);
     }

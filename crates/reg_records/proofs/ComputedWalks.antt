@@ -12,7 +12,7 @@ use Rattle.reg_records.specs.Values.{vk_of}
 use Rattle.reg_records.specs.Securities.{sk_of, security_at}
 use Rattle.reg_records.specs.Rows.{row_in, offsets_at}
 use Rattle.reg_records.specs.Lists.{list_of}
-use Rattle.reg_records.specs.Pieces.{plainly, segment_size, db_of}
+use Rattle.reg_records.specs.Pieces.{plainly, segment_size, db_of, db_in}
 use Rattle.reg_records.specs.Walk.{walk}
 use Rattle.reg_records.specs.Nodes.{look}
 use Rattle.reg_records.specs.Spelt.{keys_from}
@@ -93,22 +93,22 @@ unfolding walk half word vk_of segment_size
 one_cell = refl
 
 two_segments : walk 5 (far 16345 200) (plainly Value 32) ≡ Some (met Value 32 ∷ met BigHead 200 ∷ met BigList 300 ∷ met Segment 400 ∷ met Segment 100 ∷ [])
-unfolding walk half word vk_of segment_size db_of row_in offsets_at
+unfolding walk half word vk_of segment_size db_of db_in row_in offsets_at
 two_segments = refl
 
 -- each step down takes one of fuel
 too_little_fuel : walk 3 (far 16345 200) (plainly Value 32) ≡ None
-unfolding walk half word vk_of segment_size db_of row_in offsets_at
+unfolding walk half word vk_of segment_size db_of db_in row_in offsets_at
 too_little_fuel = refl
 
 -- data of 16,345 bytes is in no single cell
 no_big_record : walk 5 (far 16345 100) (plainly Value 32) ≡ None
-unfolding walk half word vk_of segment_size db_of row_in offsets_at
+unfolding walk half word vk_of segment_size db_of db_in row_in offsets_at
 no_big_record = refl
 
 -- three segments are asked for, and the record has two
 few_segments : walk 5 (far 32689 200) (plainly Value 32) ≡ None
-unfolding walk half word vk_of segment_size db_of row_in offsets_at
+unfolding walk half word vk_of segment_size db_of db_in row_in offsets_at
 few_segments = refl
 
 -- 5 bytes don't stand in the value

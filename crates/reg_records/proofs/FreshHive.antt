@@ -39,7 +39,7 @@ ring = record {
 
 values : AreWrittenValues (cell_at fresh) fresh_node
 unfolding offsets_at
-values = record { few = omega arith; none = λ _. refl; each = tt; names = tt; apart = tt; sizes = tt; longest_name = tt; largest = tt }
+values = record { list = record { few = omega arith; none = λ _. refl; each = tt; names = tt; apart = tt; sizes = tt }; longest_name = tt; largest = tt }
 
 root-written : IsWritten (cell_at fresh) 32 32
 unfolding look key_at nk_of nk_bytes cell_at cells_of half word long

@@ -2,6 +2,7 @@ pub mod Splices
 pub mod Writing
 pub mod Securities
 pub mod Values
+pub mod BigData
 pub mod Keys
 pub mod Offsets
 pub mod Computed

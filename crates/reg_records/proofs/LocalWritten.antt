@@ -20,7 +20,7 @@ use Rattle.reg_records.specs.Values.{KeyValueRecord, vk_of, value_record_at, IsP
 use Rattle.reg_records.specs.Rows.{row_in, offsets_at}
 use Rattle.reg_records.specs.Pieces.{segment_size, is_inline, segments_for, db_of}
 use Rattle.reg_records.specs.Nodes.{Node, row_at, big_in, data_by, data_at, member_of, member_at, members_at}
-use Rattle.reg_records.specs.Written.{IsWrittenData, IsWrittenValue}
+use Rattle.reg_records.specs.Written.{IsWrittenData, IsWrittenValue, AreWritten}
 use Rattle.reg_records.specs.Shapes.{cells_of, IsSeen}
 use Rattle.reg_records.proofs.Inner.{members-inner}
 use Rattle.reg_records.proofs.Readings.{row-open}
@@ -110,6 +110,10 @@ values-kept h k (suc n) list y e a w =
     subst (λ c. AllByRecursion (IsWrittenValue k) (offsets_at (suc n) 0 c)) (sym (same-held h k list same))
     (subst (AllByRecursion (IsWrittenValue k)) (sym row) (each-kept h k o.first o.then o.then_is back (subst (AllByRecursion (IsWrittenValue h)) row w)))
 
+pub list-kept : (h k : Heap) (count list : ℕ) (members : List Member) (zs : List Found) → members_at count list h ≡ Some (members, zs) → Agree h k zs → AreWritten h count list members → AreWritten k count list members
+list-kept h k count list members zs e a w =
+    record { few = w.few; none = w.none; each = values-kept h k count list (members, zs) e a w.each; names = w.names; apart = w.apart; sizes = w.sizes }
+
 -- ---- a key
 
 pub seen-kept : (h k : Heap) (root offset : ℕ) (node : Node) → IsSeen h root offset node → Keeps h k (cells_of node) → IsSeen k root offset node
@@ -129,12 +133,7 @@ seen-kept h k root offset node w s =
         parent = i.parent;
         class = i.class;
         values = record {
-          few = v.few;
-          none = v.none;
-          each = values-kept h k key.fields.values key.fields.values_list (node.values, l.value_cells) l.values_are cells v.each;
-          names = v.names;
-          apart = v.apart;
-          sizes = v.sizes;
+          list = list-kept h k key.fields.values key.fields.values_list node.values l.value_cells l.values_are cells v.list;
           longest_name = v.longest_name;
           largest = v.largest;
         };

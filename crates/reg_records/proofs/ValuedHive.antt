@@ -77,12 +77,14 @@ written = record {
 values : AreWrittenValues (cell_at valued) valued_node
 unfolding offsets_at cell_at cells_of word
 values = record {
-  few = omega arith;
-  none = λ e. absurd (omega (arith, e));
-  each = (written, tt);
-  names = (refl, tt);
-  apart = (tt, tt);
-  sizes = (omega arith, tt);
+  list = record {
+    few = omega arith;
+    none = λ e. absurd (omega (arith, e));
+    each = (written, tt);
+    names = (refl, tt);
+    apart = (tt, tt);
+    sizes = (omega arith, tt);
+  };
   longest_name = (omega arith, tt);
   largest = (omega arith, tt);
 }

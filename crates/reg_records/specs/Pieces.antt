@@ -1,8 +1,12 @@
 -- Where a value's data stands (Suhanov, Windows registry file format specification, "Key value", "Big data").
-use Rattle.std.specs.Prelude.{ℕ, zero, suc, ◌+◌, ◌-◌, ◌/◌, nat_lt, nat_le, not, min, Bool, if◌then◌else◌, Option, Some, None, List, [], ◌∷◌, length}
+use Rattle.std.specs.Prelude.{ℕ, zero, suc, ◌+◌, ◌-◌, ◌/◌, nat_lt, nat_le, not, min, Bool, if◌then◌else◌, Option, List, [], ◌∷◌, ◌++◌, length, Result, Ok, Err}
+use Rattle.std.specs.Result.{result_ok}
+use Rattle.byteorder.specs.Endian.{little_bytes}
 use Rattle.reg_heap.specs.Words.{half, word}
 use Rattle.reg_heap.specs.Kinds.{Kind}
 use Rattle.reg_heap.specs.Kinds.Kind.{Segment}
+use Rattle.reg_records.specs.declared.RecordFault.{RecordFault}
+use Rattle.reg_records.specs.declared.RecordFault.TheVariants.{Short, Signature}
 use Rattle.reg_records.specs.Letters.{is_signed}
 
 -- a record that another names: what kind is meant there, how much of it (bytes of a class, of data or of a segment, entries of
@@ -50,9 +54,17 @@ pub record BigData : Type 0 where
   pub count : ℕ
   pub list : ℕ
 
--- the big data record at the start of a content, or None where there is none
+-- the big data record at the start of a content, or the first fault that holds: too short, not `db`
+unfoldable pub db_in : List ℕ → Result BigData RecordFault
+db_in content =
+    if nat_lt (length content) 8 then Err Short
+    else if not (is_signed 100 98 content) then Err Signature
+    else Ok (record { count = half content 2; list = word content 4 })
+
+-- the same, or None where there is none
 unfoldable pub db_of : List ℕ → Option BigData
-db_of content =
-    if nat_lt (length content) 8 then None
-    else if not (is_signed 100 98 content) then None
-    else Some (record { count = half content 2; list = word content 4 })
+db_of content = result_ok (db_in content)
+
+-- a big data record as it is written: `db`, the number of segments, and the list's offset
+unfoldable pub db_bytes : ℕ → ℕ → List ℕ
+db_bytes count list = 100 ∷ 98 ∷ little_bytes 2 count ++ little_bytes 4 list

@@ -58,14 +58,18 @@ pub record IsWrittenValue (heap : Heap) (offset : ℕ) : Type 0 where
   pub flags : value.fields.flags ≡ (if length value.name == 0 then 0 else 1)
   pub data_is : IsWrittenData heap value.fields
 
--- a key's values: names that differ after folding, of the profile, data of at most 1,048,576 bytes, none longer than the key says
+-- a list of values: names that differ after folding, of the profile, data of at most 1,048,576 bytes; without values no list
+pub record AreWritten (heap : Heap) (count place : ℕ) (members : List Member) : Type 0 where
+  pub few : count ≤ 16384
+  pub none : count ≡ 0 → place ≡ 4294967295
+  pub each : AllByRecursion (IsWrittenValue heap) (offsets_at count 0 (held heap place))
+  pub names : AllByRecursion (λ (m : Member). is_value_name m.name ≡ true) members
+  pub apart : Pairwise (λ (a b : Member). folded a.name ≢ folded b.name) members
+  pub sizes : AllByRecursion (λ (m : Member). length m.bytes ≤ 1048576) members
+
+-- a key's values: a list of them, and no name or data longer than the key says
 pub record AreWrittenValues (heap : Heap) (node : Node) : Type 0 where
-  pub few : node.key.fields.values ≤ 16384
-  pub none : node.key.fields.values ≡ 0 → node.key.fields.values_list ≡ 4294967295
-  pub each : AllByRecursion (IsWrittenValue heap) (offsets_at node.key.fields.values 0 (held heap node.key.fields.values_list))
-  pub names : AllByRecursion (λ (m : Member). is_value_name m.name ≡ true) node.values
-  pub apart : Pairwise (λ (a b : Member). folded a.name ≢ folded b.name) node.values
-  pub sizes : AllByRecursion (λ (m : Member). length m.bytes ≤ 1048576) node.values
+  pub list : AreWritten heap node.key.fields.values node.key.fields.values_list node.values
   pub longest_name : AllByRecursion (λ (m : Member). 2 * length m.name ≤ node.key.fields.largest_value_name) node.values
   pub largest : AllByRecursion (λ (m : Member). length m.bytes ≤ node.key.fields.largest_value_data) node.values
 

@@ -1,7 +1,7 @@
-//! The records of a registry hive: key nodes, key values, key securities and rows of offsets.
+//! The records of a registry hive: key nodes, key values, key securities, big data records and rows of offsets.
 //!
 //! Suhanov, Windows registry file format specification, sections "Key node", "Key value",
-//! "Key security" and "Key values list". All numbers are little endian. A record stands at the
+//! "Key security", "Key values list" and "Big data". All numbers are little endian. A record stands at the
 //! start of what its cell holds, and the cell may be longer than the record.
 #![tactic(auto)]
 
@@ -14,6 +14,7 @@ use byteorder::{ByteOrder, LittleEndian};
 use thiserror::Error;
 
 mod cells;
+mod db;
 pub mod laws;
 mod nk;
 mod rows;
@@ -22,6 +23,7 @@ mod sk;
 mod tests;
 mod vk;
 
+pub use db::{BigFields, put_db, read_db};
 pub use nk::{
     KeyFields, KeyNode, put_nk, read_nk, set_largest_value_data, set_largest_value_name, set_time,
     set_values,

@@ -82,6 +82,17 @@ const SECURITY_FIELDS: SecurityFields = SecurityFields {
     count: 2,
 };
 
+/// A big data record of three segments, whose list is at offset 168.
+const BIG: [u8; 8] = [
+    b'd', b'b', 0x03, 0x00, // letters, number of segments
+    0xA8, 0x00, 0x00, 0x00, // list of segments
+];
+
+const BIG_FIELDS: BigFields = BigFields {
+    count: 3,
+    list: 168,
+};
+
 /// Two new cells, which hold 84 and 44 bytes.
 fn two_cells(arena: &mut Arena, alloc: Global) -> Result<(u32, u32), ArenaFault>
     ensures { IfOk result (λ cells. HasRoom (cell_at arena.new.bytes) cells.0 84 × HasRoom (cell_at arena.new.bytes) cells.1 44) }
@@ -193,5 +204,28 @@ fn a_security_and_a_row_in_cells(rt: HostRuntime) -> Result<(), Fail> {
         &[0x01, 0x00, 0x04, 0x80],
     );
     assert!(rt; arena.content(cell).starts_with(&SECURITY));
+    Ok(())
+}
+
+#[test]
+fn a_big_data_record_is_read(rt: HostRuntime) -> Result<(), RecordFault> {
+    assert_eq!(rt; read_db(&BIG)?, BIG_FIELDS);
+    Ok(())
+}
+
+#[test]
+fn faults_of_big_data_come_in_their_order(rt: HostRuntime) {
+    let mut big = BIG;
+    big[1] = b'd';
+    assert_eq!(rt; read_db(&big).err(), Some(RecordFault::Signature));
+    assert_eq!(rt; read_db(&big[..7]).err(), Some(RecordFault::Short));
+}
+
+#[test]
+fn a_big_data_record_in_a_cell(rt: HostRuntime) -> Result<(), Fail> {
+    let mut arena = Arena::new(rt.alloc());
+    let (_, cell) = two_cells(&mut arena, rt.alloc())?;
+    put_db(&mut arena, cell, &BIG_FIELDS);
+    assert!(rt; arena.content(cell).starts_with(&BIG));
     Ok(())
 }
