@@ -87,7 +87,7 @@ each-kept h k (offset ∷ row) y e a w =
       each-kept h k row (o.tail, o.tail_cells) o.tail_is (all-back (λ (f : Found). k f.offset ≡ h f.offset) o.head_cells o.tail_cells b) w.1,
     )
 
-row-is : (count : ℕ) (content row : List ℕ) → row_in count content ≡ Some row → offsets_at count 0 content ≡ row
+pub row-is : (count : ℕ) (content row : List ℕ) → row_in count content ≡ Some row → offsets_at count 0 content ≡ row
 unfolding row_in
 row-is count content row e = by (nat_le (4 * count) (length content)) e
   where

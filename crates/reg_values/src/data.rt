@@ -1,0 +1,105 @@
+//! A value's data: in its record, in one cell, or behind a big data record.
+//!
+//! Suhanov, Windows registry file format specification, sections "Key value" and "Big data".
+
+ghost use Rattle.std.specs.Prelude.{◌≡◌, ◌<◌, ◌≤◌, ℕ, List, Some, IsSome, IfOk, slice_get, length};
+ghost use Rattle.reg_heap.specs.Paths.{Member};
+ghost use Rattle.reg_heap.specs.Kinds.{Found};
+ghost use Rattle.reg_arena.specs.Cells.{cell_at};
+ghost use Rattle.reg_records.specs.Nodes.{members_at};
+ghost use Rattle.reg_values.specs.Lists.{AreValues};
+
+use crate::big::{big_bytes, free_big, put_big};
+use crate::look::{cell_of, record_at};
+use crate::{INLINE, INLINE_LIMIT, SEGMENT, ValuesList};
+use reg_arena::Arena;
+use reg_records::ValueFields;
+use std::alloc::{AllocError, Global};
+
+/// What a value's record says of its data: the size with its top bit, and the offset or the data itself.
+#[derive(Clone, Copy)]
+pub(crate) struct DataFields {
+    pub size: u32,
+    pub place: u32,
+}
+
+/// A copy of the data of the value at an index of the list, counted from 0.
+///
+/// Its one fault is that memory was refused.
+pub fn bytes_of(
+    arena: &Arena,
+    alloc: Global,
+    list: ValuesList,
+    index: u32,
+) -> Result<Vec<u8>, AllocError>
+    requires values { AreValues (cell_at arena.now.bytes) list.count list.place }
+    requires index { index < list.count }
+    ensures { IfOk result (λ bytes. (members : List Member) → (met : List Found) → members_at list.count list.place (cell_at arena.now.bytes) ≡ Some (members, met) → (member : Member) × (slice_get members index ≡ Some member) × (bytes.items ≡ member.bytes)) }
+{
+    let fields = record_at(arena, cell_of(arena, list, index)).fields;
+    data_bytes(arena, alloc, fields)
+}
+
+fn data_bytes(arena: &Arena, alloc: Global, fields: ValueFields) -> Result<Vec<u8>, AllocError> {
+    if fields.size >= INLINE {
+        let bytes = fields.place.to_le_bytes();
+        return Vec::from_slice(alloc, &bytes[..(fields.size - INLINE) as usize]);
+    }
+    let size = fields.size as usize;
+    if size > SEGMENT {
+        return big_bytes(arena, alloc, size, fields.place);
+    }
+    if size == 0 {
+        return Ok(Vec::new(alloc));
+    }
+    Vec::from_slice(alloc, &arena.content(fields.place)[..size])
+}
+
+fn byte_or_zero(bytes: &[u8], index: usize) -> u8 {
+    match bytes.get(index) {
+        Some(byte) => *byte,
+        None => 0,
+    }
+}
+
+/// Up to four bytes as a number, the lowest first; bytes that are missing are 0.
+fn packed(bytes: &[u8]) -> u32 {
+    u32::from_le_bytes([
+        byte_or_zero(bytes, 0),
+        byte_or_zero(bytes, 1),
+        byte_or_zero(bytes, 2),
+        byte_or_zero(bytes, 3),
+    ])
+}
+
+/// Writes a value's data into new cells of its sizes.
+pub(crate) fn put_data(arena: &mut Arena, cells: &[u32], bytes: &[u8]) -> DataFields {
+    let size = bytes.len() as u32;
+    if bytes.len() <= INLINE_LIMIT {
+        return DataFields {
+            size: INLINE + size,
+            place: packed(bytes),
+        };
+    }
+    if bytes.len() <= SEGMENT {
+        arena.write(cells[0], 0, bytes);
+    } else {
+        put_big(arena, cells, bytes);
+    }
+    DataFields {
+        size,
+        place: cells[0],
+    }
+}
+
+/// Frees the cells of a value's data.
+pub(crate) fn free_data(arena: &mut Arena, fields: ValueFields) {
+    if fields.size >= INLINE || fields.size == 0 {
+        return;
+    }
+    if fields.size as usize > SEGMENT {
+        free_big(arena, fields.size as usize, fields.place);
+        return;
+    }
+    arena.free(fields.place);
+}

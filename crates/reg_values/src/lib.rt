@@ -1,0 +1,47 @@
+//! A key's values: a list of offsets, a record for each value, and its data.
+//!
+//! The functions work on an arena that they are lent and on a list's place in it. The key node that names the list is the
+//! caller's: nothing of it is read or written here. What a value holds, and how, is in `reg_records`; the contracts say which
+//! values a list reads as, before and after.
+//!
+//! Suhanov, Windows registry file format specification, sections "Key values list", "Key value" and "Big data".
+#![tactic(auto)]
+
+mod add;
+mod big;
+mod data;
+pub mod laws;
+mod look;
+mod plan;
+mod removing;
+mod replace;
+mod setting;
+#[cfg(test)]
+mod tests;
+
+pub use data::bytes_of;
+pub use look::{Value, at, find};
+pub use plan::plan_set;
+pub use removing::remove;
+pub use setting::set;
+
+/// No cell.
+const NONE: u32 = 0xFFFF_FFFF;
+
+/// The bit of a size field that says that the data stands in the record itself.
+const INLINE: u32 = 0x8000_0000;
+
+/// How many bytes of data stand in the record itself at most.
+const INLINE_LIMIT: usize = 4;
+
+/// How many bytes of data one cell holds at most, and each segment but the last.
+const SEGMENT: usize = 16_344;
+
+/// A key's list of values, as its key node names it.
+#[derive(Clone, Copy, Debug, PartialEq, Eq)]
+pub struct ValuesList {
+    /// How many values there are, at most 16,384.
+    pub count: u32,
+    /// The offset of the list's cell; 0xFFFFFFFF where there are no values.
+    pub place: u32,
+}

@@ -1,0 +1,83 @@
+//! Values, found and read.
+//!
+//! Suhanov, Windows registry file format specification, sections "Key values list" and "Key value".
+
+ghost use Rattle.std.specs.Prelude.{◌≡◌, ◌<◌, ◌+◌, ◌*◌, ◌≤◌, ℕ, List, Some, IsSome, slice_get, length};
+ghost use Rattle.reg_heap.specs.Paths.{Member};
+ghost use Rattle.reg_heap.specs.Kinds.{Found};
+ghost use Rattle.reg_heap.specs.Members.{place_named};
+ghost use Rattle.reg_arena.specs.Cells.{cell_at};
+ghost use Rattle.reg_records.specs.Cells.{held};
+ghost use Rattle.reg_records.specs.Rows.{offset_in};
+ghost use Rattle.reg_records.specs.Values.{value_record_at};
+ghost use Rattle.reg_records.specs.Nodes.{members_at};
+ghost use Rattle.reg_values.specs.Lists.{AreValues, Tells};
+
+use crate::{INLINE, ValuesList};
+use reg_arena::Arena;
+use reg_names::same_name;
+use reg_records::{ValueRecord, offset_at, read_vk};
+
+/// A value, without its bytes.
+#[derive(Clone, Copy, Debug)]
+pub struct Value<'a> {
+    /// The bytes of its name, as it was first given.
+    pub name: &'a [u8],
+    /// The type of its data.
+    pub kind: u32,
+    /// The size of its data in bytes.
+    pub size: u32,
+}
+
+/// The value's record in a cell.
+pub(crate) fn record_at(arena: &Arena, cell: u32) -> ValueRecord<'_>
+    requires { IsSome (value_record_at (cell_at arena.now.bytes) cell) }
+    ensures { value_record_at (cell_at arena.now.bytes) cell ≡ Some (record { fields = result.fields; name = result.name.now }) }
+{
+    match read_vk(arena.content(cell)) {
+        Ok(record) => record,
+        Err(_) => unreachable!(),
+    }
+}
+
+/// The offset of the value's record at an index of a list, counted from 0.
+pub(crate) fn cell_of(arena: &Arena, list: ValuesList, index: u32) -> u32
+    requires list { IsSome (cell_at arena.now.bytes list.place) }
+    requires index { 4 * index + 4 ≤ length (held (cell_at arena.now.bytes) list.place) }
+    ensures { result ≡ offset_in (held (cell_at arena.now.bytes) list.place) index }
+{
+    offset_at(arena.content(list.place), index)
+}
+
+/// The index of the first value of that name, after folding, counted from 0; `None` where there is none.
+pub fn find(arena: &Arena, list: ValuesList, name: &[u8]) -> Option<u32>
+    requires { AreValues (cell_at arena.now.bytes) list.count list.place }
+    ensures { (members : List Member) → (met : List Found) → members_at list.count list.place (cell_at arena.now.bytes) ≡ Some (members, met) → result ≡ place_named name.now members }
+{
+    for index in 0..list.count {
+        let record = record_at(arena, cell_of(arena, list, index));
+        if same_name(record.name, name) {
+            return Some(index);
+        }
+    }
+    None
+}
+
+/// The size of data, from a size field.
+fn size_in(size: u32) -> u32 {
+    if size >= INLINE { size - INLINE } else { size }
+}
+
+/// The value at an index of the list, counted from 0.
+pub fn at(arena: &Arena, list: ValuesList, index: u32) -> Value<'_>
+    requires values { AreValues (cell_at arena.now.bytes) list.count list.place }
+    requires index { index < list.count }
+    ensures { (members : List Member) → (met : List Found) → members_at list.count list.place (cell_at arena.now.bytes) ≡ Some (members, met) → (member : Member) × (slice_get members index ≡ Some member) × Tells member result.name.now result.kind result.size }
+{
+    let record = record_at(arena, cell_of(arena, list, index));
+    Value {
+        name: record.name,
+        kind: record.fields.kind,
+        size: size_in(record.fields.size),
+    }
+}

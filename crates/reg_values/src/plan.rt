@@ -1,0 +1,115 @@
+//! The sizes of the cells that a change takes.
+//!
+//! Suhanov, Windows registry file format specification, sections "Cell", "Key values list", "Key value" and "Big data".
+
+ghost use Rattle.std.specs.Prelude.{◌≡◌, true, ◌≤◌, ◌<◌, length, IfOk};
+ghost use Rattle.reg_names.specs.Names.{is_value_name};
+ghost use Rattle.reg_arena.specs.Cells.{cell_at};
+ghost use Rattle.reg_values.specs.Lists.{AreValues};
+ghost use Rattle.reg_values.specs.Sizes.{set_sizes};
+
+use crate::big::segments_for;
+use crate::look::{cell_of, find, record_at};
+use crate::{INLINE_LIMIT, SEGMENT, ValuesList};
+use reg_arena::Arena;
+use reg_records::ValueFields;
+use std::alloc::{AllocError, Global};
+
+/// The length of a value's record before its name, in bytes.
+const HEAD: usize = 20;
+
+/// The length of a big data record, in bytes.
+const BIG_HEAD: usize = 8;
+
+/// The size of the cell that holds so many bytes: 4 more, rounded up to a multiple of 8.
+fn cell_size(bytes: usize) -> u32 {
+    ((bytes + 11) / 8 * 8) as u32
+}
+
+/// Puts the sizes of the cells of data of a size behind those of `sizes`.
+pub(crate) fn plan_data(sizes: &mut Vec<u32>, size: usize) -> Result<(), AllocError> {
+    if size <= INLINE_LIMIT {
+        return Ok(());
+    }
+    if size <= SEGMENT {
+        sizes.push(cell_size(size))?;
+        return Ok(());
+    }
+    let count = segments_for(size);
+    sizes.push(cell_size(BIG_HEAD))?;
+    sizes.push(cell_size(4 * count))?;
+    for index in 0..count {
+        sizes.push(cell_size((size - SEGMENT * index).min(SEGMENT)))?;
+    }
+    Ok(())
+}
+
+/// Whether the list's cell has room for one value more.
+pub(crate) fn has_room(arena: &Arena, list: ValuesList) -> bool {
+    list.count != 0 && 4 * list.count as usize + 4 <= arena.content(list.place).len()
+}
+
+/// Whether new data stays in the old data's one cell, which has the size that it needs.
+pub(crate) fn stays(arena: &Arena, old: ValueFields, size: usize) -> bool {
+    size > INLINE_LIMIT
+        && size <= SEGMENT
+        && old.size as usize <= SEGMENT
+        && cell_size(size) as usize == arena.content(old.place).len() + 4
+}
+
+/// The sizes of the cells of one value more.
+pub(crate) fn plan_add(
+    arena: &Arena,
+    alloc: Global,
+    list: ValuesList,
+    name: usize,
+    size: usize,
+) -> Result<Vec<u32>, AllocError> {
+    let mut sizes = Vec::new(alloc);
+    sizes.push(cell_size(HEAD + name))?;
+    if !has_room(arena, list) {
+        sizes.push(cell_size(4 * list.count as usize + 4))?;
+    }
+    plan_data(&mut sizes, size)?;
+    Ok(sizes)
+}
+
+/// The sizes of the cells of other data for a value.
+pub(crate) fn plan_replace(
+    arena: &Arena,
+    alloc: Global,
+    old: ValueFields,
+    size: usize,
+) -> Result<Vec<u32>, AllocError> {
+    let mut sizes = Vec::new(alloc);
+    if !stays(arena, old, size) {
+        plan_data(&mut sizes, size)?;
+    }
+    Ok(sizes)
+}
+
+/// The sizes of the cells that a set of a value of that name, with so many bytes of data, takes, in their order: for a new
+/// value its record, a list where the old one has no room, and its data; for one that is there its data, or nothing where
+/// that stays in its cell. [`set`](crate::set) carves just these.
+///
+/// Its one fault is that memory was refused.
+pub fn plan_set(
+    arena: &Arena,
+    alloc: Global,
+    list: ValuesList,
+    name: &[u8],
+    size: u32,
+) -> Result<Vec<u32>, AllocError>
+    requires values { AreValues (cell_at arena.now.bytes) list.count list.place }
+    requires name { is_value_name name.now ≡ true }
+    requires size { size ≤ 1048576 }
+    ensures { IfOk result (λ sizes. sizes.items ≡ set_sizes (cell_at arena.now.bytes) list.count list.place name.now size) }
+{
+    match find(arena, list, name) {
+        Some(index) => {
+            let old = record_at(arena, cell_of(arena, list, index)).fields;
+            plan_replace(arena, alloc, old, size as usize)
+        }
+        None => plan_add(arena, alloc, list, name.len(), size as usize),
+    }
+}

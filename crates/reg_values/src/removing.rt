@@ -1,0 +1,56 @@
+//! A value removed.
+//!
+//! Win32 registry reference, `RegDeleteValue`; Suhanov, Windows registry file format specification, section "Key values list".
+
+ghost use Rattle.std.specs.Prelude.{◌≡◌, ℕ, List, Some};
+ghost use Rattle.reg_heap.specs.Paths.{Member};
+ghost use Rattle.reg_heap.specs.Kinds.{Found};
+ghost use Rattle.reg_heap.specs.Members.{values_without};
+ghost use Rattle.reg_arena.specs.Cells.{cell_at};
+ghost use Rattle.reg_records.specs.Nodes.{members_at};
+ghost use Rattle.reg_values.specs.Lists.{AreValues, IsNamed, Became};
+
+use crate::data::free_data;
+use crate::look::{cell_of, find, record_at};
+use crate::{NONE, ValuesList};
+use reg_arena::Arena;
+
+/// Frees a value's record and its data.
+fn free_value(arena: &mut Arena, cell: u32) {
+    let fields = record_at(arena, cell).fields;
+    free_data(arena, fields);
+    arena.free(cell);
+}
+
+/// Takes the offset at an index out of the list; the later ones close up. A list of one is freed.
+fn take_out(arena: &mut Arena, list: ValuesList, index: u32) -> ValuesList {
+    if list.count == 1 {
+        arena.free(list.place);
+        return ValuesList {
+            count: 0,
+            place: NONE,
+        };
+    }
+    let at = 4 * index;
+    arena.shift(list.place, at + 4, at, 4 * (list.count - 1 - index));
+    ValuesList {
+        count: list.count - 1,
+        place: list.place,
+    }
+}
+
+/// Removes the value of that name, after folding, and frees its cells; the values behind it close up. Answers the list as
+/// it is then. A list without values is freed too. It takes no memory.
+pub fn remove(arena: &mut Arena, list: ValuesList, name: &[u8]) -> ValuesList
+    requires values { AreValues (cell_at arena.old.bytes) list.count list.place }
+    requires named { IsNamed (cell_at arena.old.bytes) list.count list.place name.now }
+    ensures { (members : List Member) → (met : List Found) → members_at list.count list.place (cell_at arena.old.bytes) ≡ Some (members, met) → Became (cell_at arena.old.bytes) (cell_at arena.new.bytes) met result.count result.place (values_without name.now members) }
+{
+    let Some(index) = find(arena, list, name) else {
+        unreachable!()
+    };
+    let cell = cell_of(arena, list, index);
+    let after = take_out(arena, list, index);
+    free_value(arena, cell);
+    after
+}

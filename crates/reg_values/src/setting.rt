@@ -1,0 +1,59 @@
+//! A value set.
+//!
+//! Win32 registry reference, `RegSetValueEx`; Suhanov, Windows registry file format specification, section "Key values list".
+
+ghost use Rattle.std.specs.Prelude.{◌≡◌, true, ◌≤◌, ◌<◌, ◌+◌, ◌⊎◌, ℕ, List, Some, Err, length, IfOk, OnOk, OnErr};
+ghost use Rattle.reg_names.specs.Names.{is_value_name};
+ghost use Rattle.reg_heap.specs.Paths.{Member};
+ghost use Rattle.reg_heap.specs.Kinds.{Found};
+ghost use Rattle.reg_heap.specs.Members.{values_with};
+ghost use Rattle.reg_arena.specs.Cells.{cell_at};
+ghost use Rattle.reg_arena.specs.NewCells.{total_of};
+ghost use Rattle.reg_arena.specs.Carves.{NoFit};
+ghost use Rattle.reg_arena.specs.NewBin.{PassesLimit};
+ghost use Rattle.reg_records.specs.Nodes.{members_at};
+ghost use Rattle.reg_values.specs.Lists.{AreValues, IsNamed, Became, Makes};
+ghost use Rattle.reg_values.specs.Sizes.{set_sizes};
+
+use crate::ValuesList;
+use crate::add::add;
+use crate::look::{cell_of, find};
+use crate::replace::replace;
+use reg_arena::{Arena, ArenaFault};
+use std::alloc::Global;
+
+/// Sets a value: one of that name, after folding, keeps its place and its name and gets the type and the data; a new one
+/// goes to the end. Answers the list as it is then; what falls away is freed, and data that needs a cell of the old one's
+/// size is written there.
+///
+/// All cells of the change are carved at once, as [`plan_set`](crate::plan_set) says.
+/// [`ArenaFault::Full`]: no free cell has room for them, and with a bin more there would be more than 268,435,456 bytes of
+/// bins. [`ArenaFault::Memory`]: a growth was refused. After either the arena is as before.
+pub fn set(
+    arena: &mut Arena,
+    alloc: Global,
+    list: ValuesList,
+    name: &[u8],
+    kind: u32,
+    bytes: &[u8],
+) -> Result<ValuesList, ArenaFault>
+    requires values { AreValues (cell_at arena.old.bytes) list.count list.place }
+    requires name { is_value_name name.now ≡ true }
+    requires bytes { length bytes.now ≤ 1048576 }
+    requires room { (list.count < 16384) ⊎ IsNamed (cell_at arena.old.bytes) list.count list.place name.now }
+    ensures ok { IfOk result (λ after. (members : List Member) → (met : List Found) → members_at list.count list.place (cell_at arena.old.bytes) ≡ Some (members, met) → Became (cell_at arena.old.bytes) (cell_at arena.new.bytes) met after.count after.place (values_with name.now kind bytes.now members)) }
+    ensures cells { OnOk result (Makes (cell_at arena.old.bytes) (cell_at arena.new.bytes) (set_sizes (cell_at arena.old.bytes) list.count list.place name.now (length bytes.now))) }
+    ensures err { OnErr result (arena.new ≡ arena.old) }
+    ensures full { result ≡ Err ArenaFault.Full → NoFit arena.old.bytes (total_of (set_sizes (cell_at arena.old.bytes) list.count list.place name.now (length bytes.now))) }
+    ensures limit { result ≡ Err ArenaFault.Full → PassesLimit arena.old.bytes (total_of (set_sizes (cell_at arena.old.bytes) list.count list.place name.now (length bytes.now))) }
+    ensures near { result ≡ Err ArenaFault.Full → 268435456 < length arena.old.bytes + 1310720 }
+{
+    match find(arena, list, name) {
+        Some(index) => {
+            let cell = cell_of(arena, list, index);
+            replace(arena, alloc, cell, kind, bytes)?;
+            Ok(list)
+        }
+        None => add(arena, alloc, list, name, kind, bytes),
+    }
+}
