@@ -47,6 +47,7 @@ fn data(alloc: Global, size: usize) -> Result<Vec<u8>, Fail> {
     Ok(bytes)
 }
 
+// The cells and the values of a list of one, with data of a size.
 fn with_one(alloc: Global, size: usize) -> Result<String, Fail> {
     let mut arena = Arena::new(alloc);
     let bytes = data(alloc, size)?;
@@ -56,78 +57,142 @@ fn with_one(alloc: Global, size: usize) -> Result<String, Fail> {
     Ok(text)
 }
 
-#[test]
-fn five_bytes(rt: HostRuntime) -> Result<(), Fail> {
-    assert_eq!(rt; with_one(rt.alloc(), 5)?.as_str(), "");
-    Ok(())
-}
-
-#[test]
-fn b16344(rt: HostRuntime) -> Result<(), Fail> {
-    assert_eq!(rt; with_one(rt.alloc(), 16344)?.as_str(), "");
-    Ok(())
-}
-
-#[test]
-fn b16345(rt: HostRuntime) -> Result<(), Fail> {
-    assert_eq!(rt; with_one(rt.alloc(), 16345)?.as_str(), "");
-    Ok(())
-}
-
-#[test]
-fn b1048576(rt: HostRuntime) -> Result<(), Fail> {
-    assert_eq!(rt; with_one(rt.alloc(), 1048576)?.as_str(), "");
-    Ok(())
-}
-
-fn changes(alloc: Global) -> Result<String, Fail> {
+// How many cells there are, and their bytes.
+fn total(alloc: Global, size: usize) -> Result<String, Fail> {
     let mut arena = Arena::new(alloc);
-    let big = data(alloc, 40000)?;
-    let mut list = set(&mut arena, alloc, EMPTY, b"one", 3, &big)?;
+    let bytes = data(alloc, size)?;
+    let _list = set(&mut arena, alloc, EMPTY, b"v", 3, &bytes)?;
+    let mut count = 0u64;
+    let mut sum = 0u64;
+    for cell in &arena.cells(alloc)? {
+        if cell.allocated {
+            count += 1;
+            sum += u64::from(cell.size);
+        }
+    }
     let mut text = String::new(alloc);
-    list = set(&mut arena, alloc, list, b"Two", 1, &[1, 2, 3, 4, 5])?;
-    list = set(&mut arena, alloc, list, b"", 4, &[])?;
-    write!(
-        text,
-        "{}\n{}\n",
-        cells(alloc, &arena)?.as_str(),
-        values(alloc, &arena, list)?.as_str()
-    )?;
-    list = set(&mut arena, alloc, list, b"tWO", 2, &[1, 2, 3, 4, 5, 6])?;
-    write!(
-        text,
-        "{}\n{}\n",
-        cells(alloc, &arena)?.as_str(),
-        values(alloc, &arena, list)?.as_str()
-    )?;
-    list = set(&mut arena, alloc, list, b"ONE", 7, &[9])?;
-    write!(
-        text,
-        "{}\n{}\n",
-        cells(alloc, &arena)?.as_str(),
-        values(alloc, &arena, list)?.as_str()
-    )?;
-    list = remove(&mut arena, list, b"one");
-    write!(
-        text,
-        "{}\n{}\n",
-        cells(alloc, &arena)?.as_str(),
-        values(alloc, &arena, list)?.as_str()
-    )?;
-    list = remove(&mut arena, list, b"");
-    list = remove(&mut arena, list, b"two");
-    write!(
-        text,
-        "{}\n{} {}\n",
-        cells(alloc, &arena)?.as_str(),
-        list.count,
-        list.place
-    )?;
+    write!(text, "{count} {sum}")?;
     Ok(text)
 }
 
+// A list of one value with 40,000 bytes, one with 5 and the default one with none.
+fn with_three(alloc: Global, arena: &mut Arena) -> Result<ValuesList, Fail> {
+    let big = data(alloc, 40_000)?;
+    let one = set(arena, alloc, EMPTY, b"one", 3, &big)?;
+    let two = set(arena, alloc, one, b"Two", 1, &[1, 2, 3, 4, 5])?;
+    Ok(set(arena, alloc, two, b"", 4, &[])?)
+}
+
 #[test]
-fn changed(rt: HostRuntime) -> Result<(), Fail> {
-    assert_eq!(rt; changes(rt.alloc())?.as_str(), "");
+fn four_bytes_stand_in_the_record(rt: HostRuntime) -> Result<(), Fail> {
+    assert_eq!(rt;
+        with_one(rt.alloc(), 4)?.as_str(),
+        "32 32, 64 8, [118] 3 4: 4 66, "
+    );
+    Ok(())
+}
+
+#[test]
+fn five_bytes_have_a_cell(rt: HostRuntime) -> Result<(), Fail> {
+    assert_eq!(rt;
+        with_one(rt.alloc(), 5)?.as_str(),
+        "32 32, 64 8, 72 16, [118] 3 5: 5 466, "
+    );
+    Ok(())
+}
+
+#[test]
+fn the_largest_single_cell(rt: HostRuntime) -> Result<(), Fail> {
+    assert_eq!(rt;
+        with_one(rt.alloc(), 16_344)?.as_str(),
+        "32 32, 64 8, 72 16352, [118] 3 16344: 16344 969, "
+    );
+    Ok(())
+}
+
+#[test]
+fn two_segments(rt: HostRuntime) -> Result<(), Fail> {
+    assert_eq!(rt;
+        with_one(rt.alloc(), 16_345)?.as_str(),
+        "32 32, 64 8, 72 16, 88 16, 104 16352, 16456 8, [118] 3 16345: 16345 812, "
+    );
+    Ok(())
+}
+
+#[test]
+fn the_largest_data(rt: HostRuntime) -> Result<(), Fail> {
+    assert_eq!(rt; total(rt.alloc(), 1_048_576)?.as_str(), "69 1049416");
+    Ok(())
+}
+
+// A list grows in its cell while that has room, and moves where it has none.
+#[test]
+fn three_values(rt: HostRuntime) -> Result<(), Fail> {
+    let mut arena = Arena::new(rt.alloc());
+    let list = with_three(rt.alloc(), &mut arena)?;
+    assert_eq!(rt;
+        values(rt.alloc(), &arena, list)?.as_str(),
+        "[111, 110, 101] 3 40000: 40000 360, [84, 119, 111] 1 5: 5 267, [] 4 0: 0 0, "
+    );
+    Ok(())
+}
+
+#[test]
+fn cells_of_three_values(rt: HostRuntime) -> Result<(), Fail> {
+    let mut arena = Arena::new(rt.alloc());
+    let _list = with_three(rt.alloc(), &mut arena)?;
+    assert_eq!(rt;
+        cells(rt.alloc(), &arena)?.as_str(),
+        "32 32, 72 16, 88 16, 104 16352, 16456 16352, 32808 7320, 40128 32, 40160 16, 40176 16, 40192 24, "
+    );
+    Ok(())
+}
+
+// The name that was first given stays, and so does the place.
+#[test]
+fn a_value_set_again(rt: HostRuntime) -> Result<(), Fail> {
+    let mut arena = Arena::new(rt.alloc());
+    let list = with_three(rt.alloc(), &mut arena)?;
+    let after = set(&mut arena, rt.alloc(), list, b"tWO", 2, &[1, 2, 3, 4, 5, 6])?;
+    assert_eq!(rt;
+        values(rt.alloc(), &arena, after)?.as_str(),
+        "[111, 110, 101] 3 40000: 40000 360, [84, 119, 111] 2 6: 6 875, [] 4 0: 0 0, "
+    );
+    Ok(())
+}
+
+// A big value gives up its head, its list and its segments.
+#[test]
+fn a_big_value_set_to_a_small_one(rt: HostRuntime) -> Result<(), Fail> {
+    let mut arena = Arena::new(rt.alloc());
+    let list = with_three(rt.alloc(), &mut arena)?;
+    let _after = set(&mut arena, rt.alloc(), list, b"ONE", 7, &[9])?;
+    assert_eq!(rt;
+        cells(rt.alloc(), &arena)?.as_str(),
+        "32 32, 40128 32, 40160 16, 40176 16, 40192 24, "
+    );
+    Ok(())
+}
+
+#[test]
+fn a_value_removed(rt: HostRuntime) -> Result<(), Fail> {
+    let mut arena = Arena::new(rt.alloc());
+    let list = with_three(rt.alloc(), &mut arena)?;
+    let after = remove(&mut arena, list, b"TWO");
+    assert_eq!(rt;
+        values(rt.alloc(), &arena, after)?.as_str(),
+        "[111, 110, 101] 3 40000: 40000 360, [] 4 0: 0 0, "
+    );
+    Ok(())
+}
+
+// The last value's removal frees the list.
+#[test]
+fn the_last_value_removed(rt: HostRuntime) -> Result<(), Fail> {
+    let mut arena = Arena::new(rt.alloc());
+    let list = set(&mut arena, rt.alloc(), EMPTY, b"v", 3, &[1, 2, 3, 4, 5])?;
+    let after = remove(&mut arena, list, b"V");
+    assert_eq!(rt; after, EMPTY);
+    assert_eq!(rt; cells(rt.alloc(), &arena)?.as_str(), "");
     Ok(())
 }
