@@ -4,7 +4,8 @@ use Rattle.std.proofs.lemmas.Bool.{eqb-true, eq-eqb}
 use Rattle.std.specs.List.{AllByRecursion}
 use Rattle.reg_arena.specs.declared.Cell.{Cell}
 use Rattle.reg_arena.specs.Cells.{Bin, IsCell, AreBins, cells_in}
-use Rattle.reg_arena.specs.Free.{times, is_free_of, free_of}
+use Rattle.reg_heap.specs.Kinds.{times}
+use Rattle.reg_arena.specs.Free.{is_free_of, free_of}
 use Rattle.reg_arena.proofs.Contents.{AreOrdered}
 use Rattle.reg_arena.proofs.Takes.{times-append}
 

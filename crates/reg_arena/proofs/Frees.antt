@@ -5,7 +5,8 @@ use Rattle.std.proofs.lemmas.List.{append-nil}
 use Rattle.std.specs.List.{AllByRecursion}
 use Rattle.reg_heap.specs.Words.{word, splice, SameOutside}
 use Rattle.reg_arena.specs.Cells.{Bin, IsCell, Tiles, AreBins, cells_in, content_in, cells_of, cell_at, size_in}
-use Rattle.reg_arena.specs.Free.{Follows, times, is_free_of, free_of, IsFreeList, Touch, AreApart, freed, chain}
+use Rattle.reg_heap.specs.Kinds.{times}
+use Rattle.reg_arena.specs.Free.{Follows, is_free_of, free_of, IsFreeList, Touch, AreApart, freed, chain}
 use Rattle.reg_arena.specs.Arena.{IsArena, one_class}
 use Rattle.reg_arena.specs.declared.Cell.{Cell}
 use Rattle.reg_arena.specs.NewCells.{unused}

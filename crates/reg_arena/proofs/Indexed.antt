@@ -4,7 +4,8 @@ use Rattle.std.proofs.lemmas.List.{length-set, append-nil}
 use Rattle.reg_heap.specs.Words.{word}
 use Rattle.reg_arena.specs.declared.Cell.{Cell}
 use Rattle.reg_arena.specs.Cells.{AreBins, cells_in, cells_of, size_in}
-use Rattle.reg_arena.specs.Free.{Follows, times, free_of, chain, IsFit}
+use Rattle.reg_heap.specs.Kinds.{times}
+use Rattle.reg_arena.specs.Free.{Follows, free_of, chain, IsFit}
 use Rattle.reg_arena.specs.Arena.{IsArena, one_class}
 use Rattle.reg_arena.specs.NewCells.{total_of, AreSizes, unused}
 use Rattle.reg_arena.specs.NewBin.{AppendsBin, IsBinSize, new_bin}

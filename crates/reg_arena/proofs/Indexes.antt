@@ -6,7 +6,8 @@ use Rattle.std.specs.List.{AllByRecursion}
 use Rattle.reg_heap.specs.Words.{word}
 use Rattle.reg_arena.specs.declared.Cell.{Cell}
 use Rattle.reg_arena.specs.Cells.{Bin, AreBins, cells_in, cells_of, size_in}
-use Rattle.reg_arena.specs.Free.{Follows, times, free_of, chain, EndsAt}
+use Rattle.reg_heap.specs.Kinds.{times}
+use Rattle.reg_arena.specs.Free.{Follows, free_of, chain, EndsAt}
 use Rattle.reg_arena.specs.Arena.{IsArena, one_class}
 use Rattle.reg_arena.specs.NewCells.{total_of, AreSizes, used, unused, carved, offsets_of}
 use Rattle.reg_arena.specs.Carves.{rest_of, Carves}
