@@ -49,7 +49,7 @@ givens x heap y e = let g = given-open x heap y e in subst AreInner (sym g.1) tt
 cells : (kind : Kind) → is_inner kind ≡ true → (offset : ℕ) (heap : Heap) (content : List ℕ) (zs : List Found) → cell kind offset heap ≡ Some (content, zs) → AreInner zs
 cells kind k offset heap content zs e = let c = cell-open kind offset heap content zs e in subst AreInner (sym c.1) (k, tt)
 
-eaches : {A B : Type 0} (P : A → Type 0) (r : A → Reading B) (heap : Heap) → ((x : A) (y : B × List Found) → P x → r x heap ≡ Some y → AreInner y.1) → (xs : List A) → AllByRecursion P xs → (y : List B × List Found) → each r xs heap ≡ Some y → AreInner y.1
+pub eaches : {A B : Type 0} (P : A → Type 0) (r : A → Reading B) (heap : Heap) → ((x : A) (y : B × List Found) → P x → r x heap ≡ Some y → AreInner y.1) → (xs : List A) → AllByRecursion P xs → (y : List B × List Found) → each r xs heap ≡ Some y → AreInner y.1
 eaches {A} {B} P r heap h [] a y e = subst AreInner (ap (λ (p : List B × List Found). p.1) (same_Some _ _ e)) tt
 eaches P r heap h (x ∷ xs) a y e =
     let o = each-open r heap x xs y.0 y.1 e in
@@ -103,13 +103,13 @@ big-inner heap size offset y e =
         (λ row zs c. row-inner heap BigList refl (segments_for size) big.list row zs c)
         (λ row y g. pieces-inner heap (segments size row) (segments-bytes size row) y g) y e
 
-data-inner : (heap : Heap) (inline small : Bool) (size place : ℕ) (y : List ℕ × List Found) → data_by inline small size place heap ≡ Some y → AreInner y.1
+pub data-inner : (heap : Heap) (inline small : Bool) (size place : ℕ) (y : List ℕ × List Found) → data_by inline small size place heap ≡ Some y → AreInner y.1
 data-inner heap true small size place y e =
     gives (take (inline_size size) (little_bytes 4 place)) heap y (guard-open (nat_le (inline_size size) 4) (give (take (inline_size size) (little_bytes 4 place))) heap y e).1
 data-inner heap false true size place y e = pieces-inner heap (if_any Data size place) (any-bytes Data refl size place) y e
 data-inner heap false false size place y e = big-inner heap size place y e
 
-member-inner : (heap : Heap) (offset : ℕ) (y : Member × List Found) → member_at offset heap ≡ Some y → AreInner y.1
+pub member-inner : (heap : Heap) (offset : ℕ) (y : Member × List Found) → member_at offset heap ≡ Some y → AreInner y.1
 member-inner heap offset y e =
     bound (cell Value offset) (λ content. given (result_ok (vk_of content)) >>= (λ value. data_at value.fields >>= (λ bytes. give (member_of value bytes)))) heap
     (λ content zs c. cells Value refl offset heap content zs c)

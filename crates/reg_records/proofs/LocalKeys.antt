@@ -25,7 +25,7 @@ use Rattle.reg_records.proofs.Locals.{Agree, pieces-local, members-local}
 abbrev pub Keeps : Heap → Heap → List Found → Type 0
 Keeps h k found = (z : ℕ) → 0 < owned z found → k z ≡ h z
 
-inner-own : (kind : Kind) → is_inner kind ≡ true → is_security kind ≡ false
+pub inner-own : (kind : Kind) → is_inner kind ≡ true → is_security kind ≡ false
 inner-own Key e = refl
 inner-own Class e = refl
 inner-own SubList e = refl

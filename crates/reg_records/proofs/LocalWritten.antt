@@ -28,7 +28,7 @@ use Rattle.reg_records.proofs.Standing.{look-open}
 use Rattle.reg_records.proofs.Locals.{Agree, all-front, all-back}
 use Rattle.reg_records.proofs.LocalKeys.{Keeps, agree-inner, parts, look-local}
 
-same-held : (h k : Heap) (o : ℕ) → k o ≡ h o → held k o ≡ held h o
+pub same-held : (h k : Heap) (o : ℕ) → k o ≡ h o → held k o ≡ held h o
 same-held h k o e = ap (λ (c : Option (List ℕ)). unwrap_or c []) e
 
 -- ---- one value
@@ -42,7 +42,7 @@ big-met h k size place false false i s y e a =
     let c = cell-open BigHead place h o.first o.before o.first_is in
     (subst (Agree h k) c.1 (all-front (λ (f : Found). k f.offset ≡ h f.offset) o.before o.then.1 (subst (Agree h k) (sym o.all) a))).0
 
-data-kept : (h k : Heap) (v : ValueFields) (y : List ℕ × List Found) → data_at v h ≡ Some y → Agree h k y.1 → IsWrittenData h v → IsWrittenData k v
+pub data-kept : (h k : Heap) (v : ValueFields) (y : List ℕ × List Found) → data_at v h ≡ Some y → Agree h k y.1 → IsWrittenData h v → IsWrittenData k v
 data-kept h k v y e a w = record {
   inline = w.inline;
   far = w.far;
@@ -52,7 +52,7 @@ data-kept h k v y e a w = record {
       (b.0, ap db_of (same-held h k v.place same) ∙ b.1, b.2));
 }
 
-value-kept : (h k : Heap) (offset : ℕ) (y : Member × List Found) → member_at offset h ≡ Some y → Agree h k y.1 → IsWrittenValue h offset → IsWrittenValue k offset
+pub value-kept : (h k : Heap) (offset : ℕ) (y : Member × List Found) → member_at offset h ≡ Some y → Agree h k y.1 → IsWrittenValue h offset → IsWrittenValue k offset
 unfolding value_record_at
 value-kept h k offset y e a w =
     let o = bind-open (cell Value offset) (λ content. given (result_ok (vk_of content)) >>= (λ value. data_at value.fields >>= (λ bytes. give (member_of value bytes)))) h y e in
@@ -78,7 +78,7 @@ value-kept h k offset y e a w =
 
 -- ---- all values
 
-each-kept : (h k : Heap) (row : List ℕ) (y : List Member × List Found) → each member_at row h ≡ Some y → Agree h k y.1 → AllByRecursion (IsWrittenValue h) row → AllByRecursion (IsWrittenValue k) row
+pub each-kept : (h k : Heap) (row : List ℕ) (y : List Member × List Found) → each member_at row h ≡ Some y → Agree h k y.1 → AllByRecursion (IsWrittenValue h) row → AllByRecursion (IsWrittenValue k) row
 each-kept h k [] y e a w = tt
 each-kept h k (offset ∷ row) y e a w =
     let o = each-open member_at h offset row y.0 y.1 e in

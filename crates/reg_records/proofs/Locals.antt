@@ -56,7 +56,7 @@ cells kind offset h k y e a =
     let same = (subst (Agree h k) c.1 a).0 in
     cell-made kind offset k y.0 (same ∙ c.0) ∙ ap (λ zs. Some (y.0, zs)) (sym c.1)
 
-eaches : {A B : Type 0} (r : A → Reading B) → ((x : A) → IsLocal (r x)) → (xs : List A) → IsLocal (each r xs)
+pub eaches : {A B : Type 0} (r : A → Reading B) → ((x : A) → IsLocal (r x)) → (xs : List A) → IsLocal (each r xs)
 eaches r p [] = gives []
 eaches r p (x ∷ xs) = bound (r x) (λ y. each r xs >>= (λ ys. give (y ∷ ys))) (p x) (λ y. bound (each r xs) (λ ys. give (y ∷ ys)) (eaches r p xs) (λ ys. gives (y ∷ ys)))
 
@@ -68,19 +68,19 @@ bytes-local n = bound (cell n.kind n.offset) (λ content. guard (nat_le n.size (
 pub pieces-local : (names : List Named) → IsLocal (pieces_at names)
 pieces-local names = bound (each bytes_at names) (λ pieces. give (concat pieces)) (eaches bytes_at bytes-local names) (λ pieces. gives (concat pieces))
 
-row-local : (kind : Kind) (count offset : ℕ) → IsLocal (row_at kind count offset)
+pub row-local : (kind : Kind) (count offset : ℕ) → IsLocal (row_at kind count offset)
 row-local kind count offset = bound (cell kind offset) (λ content. given (row_in count content)) (cells kind offset) (λ content. givens (row_in count content))
 
-big-local : (size : ℕ) (big : BigData) → IsLocal (big_in size big)
+pub big-local : (size : ℕ) (big : BigData) → IsLocal (big_in size big)
 big-local size big = bound (row_at BigList (segments_for size) big.list) (λ row. pieces_at (segments size row)) (row-local BigList (segments_for size) big.list) (λ row. pieces-local (segments size row))
 
-far-local : (size offset : ℕ) → IsLocal (big_at size offset)
+pub far-local : (size offset : ℕ) → IsLocal (big_at size offset)
 far-local size offset =
     bound (cell BigHead offset) (λ content. given (db_of content) >>= (λ big. guard (nat_le (segments_for size) big.count) (big_in size big))) (cells BigHead offset) (λ content.
     bound (given (db_of content)) (λ big. guard (nat_le (segments_for size) big.count) (big_in size big)) (givens (db_of content)) (λ big.
     guards (nat_le (segments_for size) big.count) (big_in size big) (big-local size big)))
 
-data-local : (inline small : Bool) (size place : ℕ) → IsLocal (data_by inline small size place)
+pub data-local : (inline small : Bool) (size place : ℕ) → IsLocal (data_by inline small size place)
 data-local true small size place = guards (nat_le (inline_size size) 4) (give (take (inline_size size) (little_bytes 4 place))) (gives (take (inline_size size) (little_bytes 4 place)))
 data-local false true size place = pieces-local (if_any Data size place)
 data-local false false size place = far-local size place

@@ -1,2 +1,4 @@
 pub mod Opening
 pub mod Telling
+pub mod Found
+pub mod Pieces

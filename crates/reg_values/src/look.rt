@@ -2,7 +2,7 @@
 //!
 //! Suhanov, Windows registry file format specification, sections "Key values list" and "Key value".
 
-ghost use Rattle.std.specs.Prelude.{◌≡◌, ◌<◌, ◌+◌, ◌*◌, ◌≤◌, ℕ, List, Some, IsSome, slice_get, length};
+ghost use Rattle.std.specs.Prelude.{◌≡◌, ◌<◌, ◌+◌, ◌*◌, ◌≤◌, ℕ, List, Some, IsSome, slice_get, length, if◌then◌else◌};
 ghost use Rattle.reg_heap.specs.Paths.{Member};
 ghost use Rattle.reg_heap.specs.Kinds.{Found};
 ghost use Rattle.reg_heap.specs.Members.{place_named};
@@ -10,6 +10,7 @@ ghost use Rattle.reg_arena.specs.Cells.{cell_at};
 ghost use Rattle.reg_records.specs.Cells.{held};
 ghost use Rattle.reg_records.specs.Rows.{offset_in};
 ghost use Rattle.reg_records.specs.Values.{value_record_at};
+ghost use Rattle.reg_records.specs.Pieces.{is_inline, inline_size};
 ghost use Rattle.reg_records.specs.Nodes.{members_at};
 ghost use Rattle.reg_values.specs.Lists.{AreValues, Tells};
 
@@ -64,7 +65,9 @@ pub fn find(arena: &Arena, list: ValuesList, name: &[u8]) -> Option<u32>
 }
 
 /// The size of data, from a size field.
-fn size_in(size: u32) -> u32 {
+fn size_in(size: u32) -> u32
+    ensures { result ≡ (if is_inline size then inline_size size else size) }
+{
     if size >= INLINE { size - INLINE } else { size }
 }
 
