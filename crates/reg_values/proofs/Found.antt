@@ -7,7 +7,7 @@ use Rattle.std.specs.Option.{option_map, option_and_then}
 use Rattle.std.proofs.lemmas.Option.{none-some, same_Some}
 use Rattle.std.proofs.lemmas.Bool.{leb-true, le-leb, false≢true, ne_eqb}
 use Rattle.std.proofs.lemmas.List.{append-nil}
-use Rattle.std.specs.Prelude.{Ok, Err, ◌↔◌}
+use Rattle.std.specs.Prelude.{Result, Ok, Err, IfOk, ◌↔◌}
 use Rattle.std.proofs.Common.{add-one}
 use Rattle.std.specs.Ordering.{nat_cmp, is_eq}
 use Rattle.std.specs.declared.cmp.Ordering.{Ordering}
@@ -257,3 +257,11 @@ same-is a b r f = by (name_cmp a b) refl r f
     by Less e false f = refl
     by Greater e false f = refl
     by Equal e false f = absurd (false≢true (f.1 (slice_cmp-IsAntisymmetric nat_cmp-IsAntisymmetric (folded a) (folded b) e)))
+
+-- an offset that is read from a list's content is that of its row
+pub offset-of : (heap : Heap) (list count index : ℕ) (content : List ℕ) (offset : ℕ) → heap list ≡ Some content → index < count → offset ≡ offset_in content index → offset ≡ get_or (offsets_at count 0 (held heap list)) index 0
+offset-of heap list count index content offset e l o = o ∙ (ap (λ c. offset_in c index) (sym (held-is heap list content e)) ∙ sym (offset-at count (held heap list) index l))
+
+pub is-ok : {A E : Type 0} (P Q : A → Type 0) (r : Result A E) → ((x : A) → P x → Q x) → IfOk r P → IfOk r Q
+is-ok P Q (Ok x) f p = f x p
+is-ok P Q (Err e) f p = p

@@ -2,3 +2,4 @@ pub mod Opening
 pub mod Telling
 pub mod Found
 pub mod Pieces
+pub mod Planned

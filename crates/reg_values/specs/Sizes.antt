@@ -27,9 +27,13 @@ data_sizes size =
     else if nat_le size segment_size then cell_size size ∷ []
     else cell_size 8 ∷ cell_size (4 * segments_for size) ∷ segment_sizes (segments_for size) size
 
+-- there is a list, and its cell has room for one value more
+abbrev pub has_room : Heap → ℕ → ℕ → Bool
+has_room heap count place = not (count == 0) && nat_le (4 * count + 4) (length (held heap place))
+
 -- the cell of a list that gets one value more: none where the list's own cell has room
 unfoldable pub list_sizes : Heap → ℕ → ℕ → List ℕ
-list_sizes heap count place = if not (count == 0) && nat_le (4 * count + 4) (length (held heap place)) then [] else cell_size (4 * count + 4) ∷ []
+list_sizes heap count place = if has_room heap count place then [] else cell_size (4 * count + 4) ∷ []
 
 -- new data stays in the old data's one cell, which has the size that it needs
 unfoldable pub stays : Heap → ValueFields → ℕ → Bool

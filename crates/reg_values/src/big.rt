@@ -2,18 +2,34 @@
 //!
 //! Suhanov, Windows registry file format specification, section "Big data".
 
+ghost use Rattle.std.specs.Prelude.{◌≡◌, ◌<◌, ◌≤◌, ◌*◌, ◌+◌, ℕ, List, Some, IsSome, IfOk, length};
+ghost use Rattle.reg_heap.specs.Kinds.{Found};
+ghost use Rattle.reg_arena.specs.Cells.{cell_at};
+ghost use Rattle.reg_records.specs.Cells.{held};
+ghost use Rattle.reg_records.specs.Pieces.{segments_for as segments_for_of, db_of};
+ghost use Rattle.reg_records.specs.Nodes.{big_at as big_data_at};
+ghost use Rattle.reg_values.specs.Parts.{segments_at};
+
 use crate::SEGMENT;
 use reg_arena::Arena;
 use reg_records::{BigFields, offset_at, put_db, put_offset, read_db};
 use std::alloc::{AllocError, Global};
 
 /// How many segments data of a size has.
-pub(crate) fn segments_for(size: usize) -> usize {
+#[tactic(auto, unfolding(reg_records::specs::Pieces::segment_size))]
+pub(crate) fn segments_for(size: usize) -> usize
+    requires { size < 4294967296 }
+    ensures { result ≡ segments_for_of size }
+{
     (size + (SEGMENT - 1)) / SEGMENT
 }
 
 /// The big data record in a cell.
-fn big_at(arena: &Arena, cell: u32) -> BigFields {
+fn big_at(arena: &Arena, cell: u32) -> BigFields
+    requires exists { IsSome (cell_at arena.now.bytes cell) }
+    requires big { IsSome (db_of (held (cell_at arena.now.bytes) cell)) }
+    ensures { db_of (held (cell_at arena.now.bytes) cell) ≡ Some (record { count = result.count; list = result.list }) }
+{
     match read_db(arena.content(cell)) {
         Ok(big) => big,
         Err(_) => unreachable!(),
@@ -26,8 +42,28 @@ pub(crate) fn big_bytes(
     alloc: Global,
     size: usize,
     cell: u32,
-) -> Result<Vec<u8>, AllocError> {
+) -> Result<Vec<u8>, AllocError>
+    requires size { size < 4294967296 }
+    requires big { IsSome (big_data_at size cell (cell_at arena.now.bytes)) }
+    ensures { IfOk result (λ bytes. (all : List ℕ) → (met : List Found) → big_data_at size cell (cell_at arena.now.bytes) ≡ Some (all, met) → bytes.items ≡ all) }
+{
     let list = big_at(arena, cell).list;
+    joined(arena, alloc, size, list)
+}
+
+/// A copy of the bytes of the segments that a list names.
+fn joined(
+    arena: &Arena,
+    alloc: Global,
+    size: usize,
+    list: u32,
+) -> Result<Vec<u8>, AllocError>
+    requires size { size < 4294967296 }
+    requires exists { IsSome (cell_at arena.now.bytes list) }
+    requires long { 4 * segments_for_of size ≤ length (held (cell_at arena.now.bytes) list) }
+    requires pieces { IsSome (segments_at size (held (cell_at arena.now.bytes) list) (cell_at arena.now.bytes)) }
+    ensures { IfOk result (λ bytes. (all : List ℕ) → (met : List Found) → segments_at size (held (cell_at arena.now.bytes) list) (cell_at arena.now.bytes) ≡ Some (all, met) → bytes.items ≡ all) }
+{
     let mut bytes = Vec::with_capacity(alloc, size)?;
     for index in 0..segments_for(size) {
         let segment = offset_at(arena.content(list), index as u32);

@@ -6,7 +6,7 @@ ghost use Rattle.std.specs.Prelude.{◌≡◌, ◌<◌, ◌≤◌, ℕ, List, So
 ghost use Rattle.reg_heap.specs.Paths.{Member};
 ghost use Rattle.reg_heap.specs.Kinds.{Found};
 ghost use Rattle.reg_arena.specs.Cells.{cell_at};
-ghost use Rattle.reg_records.specs.Nodes.{members_at};
+ghost use Rattle.reg_records.specs.Nodes.{members_at, data_at};
 ghost use Rattle.reg_values.specs.Lists.{AreValues};
 
 use crate::big::{big_bytes, free_big, put_big};
@@ -40,7 +40,11 @@ pub fn bytes_of(
     data_bytes(arena, alloc, fields)
 }
 
-fn data_bytes(arena: &Arena, alloc: Global, fields: ValueFields) -> Result<Vec<u8>, AllocError> {
+/// A copy of the data that a record tells of.
+fn data_bytes(arena: &Arena, alloc: Global, fields: ValueFields) -> Result<Vec<u8>, AllocError>
+    requires { IsSome (data_at fields (cell_at arena.now.bytes)) }
+    ensures { IfOk result (λ bytes. (all : List ℕ) → (met : List Found) → data_at fields (cell_at arena.now.bytes) ≡ Some (all, met) → bytes.items ≡ all) }
+{
     if fields.size >= INLINE {
         let bytes = fields.place.to_le_bytes();
         return Vec::from_slice(alloc, &bytes[..(fields.size - INLINE) as usize]);

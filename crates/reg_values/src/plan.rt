@@ -2,11 +2,12 @@
 //!
 //! Suhanov, Windows registry file format specification, sections "Cell", "Key values list", "Key value" and "Big data".
 
-ghost use Rattle.std.specs.Prelude.{◌≡◌, true, ◌≤◌, ◌<◌, length, IfOk};
+ghost use Rattle.std.specs.Prelude.{◌≡◌, true, ◌≤◌, ◌<◌, ◌+◌, ◌*◌, ◌++◌, [], length, IfOk, OnOk, IsSome, None, if◌then◌else◌};
 ghost use Rattle.reg_names.specs.Names.{is_value_name};
 ghost use Rattle.reg_arena.specs.Cells.{cell_at};
 ghost use Rattle.reg_values.specs.Lists.{AreValues};
-ghost use Rattle.reg_values.specs.Sizes.{set_sizes};
+ghost use Rattle.reg_values.specs.Sizes.{cell_size as cell_size_of, data_sizes, segment_sizes, has_room as has_room_of, stays as stays_of, sizes_by, set_sizes};
+ghost use Rattle.reg_records.specs.Pieces.{segment_size};
 
 use crate::big::segments_for;
 use crate::look::{cell_of, find, record_at};
@@ -22,12 +23,19 @@ const HEAD: usize = 20;
 const BIG_HEAD: usize = 8;
 
 /// The size of the cell that holds so many bytes: 4 more, rounded up to a multiple of 8.
-fn cell_size(bytes: usize) -> u32 {
+fn cell_size(bytes: usize) -> u32
+    requires { bytes ≤ 4294967280 }
+    ensures { result ≡ cell_size_of bytes }
+{
     ((bytes + 11) / 8 * 8) as u32
 }
 
 /// Puts the sizes of the cells of data of a size behind those of `sizes`.
-pub(crate) fn plan_data(sizes: &mut Vec<u32>, size: usize) -> Result<(), AllocError> {
+#[tactic(auto, unfolding(crate::specs::Sizes::data_sizes, reg_records::specs::Pieces::segment_size))]
+pub(crate) fn plan_data(sizes: &mut Vec<u32>, size: usize) -> Result<(), AllocError>
+    requires { size ≤ 1048576 }
+    ensures { OnOk result (sizes.new.items ≡ sizes.old.items ++ data_sizes size) }
+{
     if size <= INLINE_LIMIT {
         return Ok(());
     }
@@ -38,6 +46,15 @@ pub(crate) fn plan_data(sizes: &mut Vec<u32>, size: usize) -> Result<(), AllocEr
     let count = segments_for(size);
     sizes.push(cell_size(BIG_HEAD))?;
     sizes.push(cell_size(4 * count))?;
+    plan_segments(sizes, count, size)
+}
+
+/// Puts the sizes of the cells of so many segments behind those of `sizes`.
+fn plan_segments(sizes: &mut Vec<u32>, count: usize, size: usize) -> Result<(), AllocError>
+    requires size { size ≤ 1048576 }
+    requires all { segment_size * count < size + segment_size }
+    ensures { OnOk result (sizes.new.items ≡ sizes.old.items ++ segment_sizes count size) }
+{
     for index in 0..count {
         sizes.push(cell_size((size - SEGMENT * index).min(SEGMENT)))?;
     }
@@ -45,12 +62,20 @@ pub(crate) fn plan_data(sizes: &mut Vec<u32>, size: usize) -> Result<(), AllocEr
 }
 
 /// Whether the list's cell has room for one value more.
-pub(crate) fn has_room(arena: &Arena, list: ValuesList) -> bool {
+pub(crate) fn has_room(arena: &Arena, list: ValuesList) -> bool
+    requires few { list.count ≤ 16384 }
+    requires list { 0 < list.count → IsSome (cell_at arena.now.bytes list.place) }
+    ensures { result ≡ has_room_of (cell_at arena.now.bytes) list.count list.place }
+{
     list.count != 0 && 4 * list.count as usize + 4 <= arena.content(list.place).len()
 }
 
 /// Whether new data stays in the old data's one cell, which has the size that it needs.
-pub(crate) fn stays(arena: &Arena, old: ValueFields, size: usize) -> bool {
+#[tactic(auto, unfolding(crate::specs::Sizes::stays, reg_records::specs::Pieces::segment_size))]
+pub(crate) fn stays(arena: &Arena, old: ValueFields, size: usize) -> bool
+    requires { old.size ≤ 16344 → IsSome (cell_at arena.now.bytes old.place) }
+    ensures { result ≡ stays_of (cell_at arena.now.bytes) old size }
+{
     size > INLINE_LIMIT
         && size <= SEGMENT
         && old.size as usize <= SEGMENT
@@ -64,7 +89,13 @@ pub(crate) fn plan_add(
     list: ValuesList,
     name: usize,
     size: usize,
-) -> Result<Vec<u32>, AllocError> {
+) -> Result<Vec<u32>, AllocError>
+    requires few { list.count ≤ 16384 }
+    requires list { 0 < list.count → IsSome (cell_at arena.now.bytes list.place) }
+    requires name { name ≤ 16383 }
+    requires size { size ≤ 1048576 }
+    ensures { IfOk result (λ sizes. sizes.items ≡ sizes_by (cell_at arena.now.bytes) list.count list.place name size None) }
+{
     let mut sizes = Vec::new(alloc);
     sizes.push(cell_size(HEAD + name))?;
     if !has_room(arena, list) {
@@ -80,7 +111,11 @@ pub(crate) fn plan_replace(
     alloc: Global,
     old: ValueFields,
     size: usize,
-) -> Result<Vec<u32>, AllocError> {
+) -> Result<Vec<u32>, AllocError>
+    requires old { old.size ≤ 16344 → IsSome (cell_at arena.now.bytes old.place) }
+    requires size { size ≤ 1048576 }
+    ensures { IfOk result (λ sizes. sizes.items ≡ (if stays_of (cell_at arena.now.bytes) old size then [] else data_sizes size)) }
+{
     let mut sizes = Vec::new(alloc);
     if !stays(arena, old, size) {
         plan_data(&mut sizes, size)?;

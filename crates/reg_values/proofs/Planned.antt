@@ -1,0 +1,55 @@
+-- The sizes of the cells that a change takes.
+use Rattle.std.proofs.Common.{◌≡◌, ℕ, zero, suc, ◌+◌, ◌-◌, ◌*◌, ◌/◌, ◌<◌, ◌≤◌, ◌==◌, ◌&&◌, nat_le, min, not, cond, Bool, true, false, Option, Some, None, List, [], ◌∷◌, ◌++◌, length, refl, sym, ap, ◌∙◌, subst, arith, add-one, append_assoc}
+use Rattle.std.proofs.lemmas.Bool.{le-leb}
+use Rattle.std.proofs.lemmas.List.{append-nil}
+use Rattle.reg_records.specs.Pieces.{segment_size, segments_for}
+use Rattle.reg_values.specs.Sizes.{cell_size, segment_sizes, data_sizes}
+use Rattle.reg_values.proofs.Pieces.{le-false, segment-is}
+
+-- so many sizes are there, and the others come behind them
+pub record Sized (count size i : ℕ) (base done : List ℕ) : Type 0 where
+  pub is : done ++ segment_sizes (count - i) (size - segment_size * i) ≡ base ++ segment_sizes count size
+
+pub sized-none : (count size : ℕ) (base : List ℕ) → Sized count size 0 base base
+sized-none count size base =
+    let n : size - segment_size * 0 ≡ size = omega arith in
+    let m : count - 0 ≡ count = omega arith in
+    record { is = ap (λ s. base ++ segment_sizes (count - 0) s) n ∙ ap (λ k. base ++ segment_sizes k size) m }
+
+next-size : (m size i : ℕ) → (size - m * i) - m ≡ size - m * suc i
+next-size m size i = let e : m * suc i ≡ m + m * i = grind arith in omega (arith, e)
+
+pub sized-more : (count size i n : ℕ) (base done : List ℕ) → i < count → n ≡ cell_size (min segment_size (size - segment_size * i)) → Sized count size i base done → Sized count size (i + 1) base (done ++ n ∷ [])
+sized-more count size i n base done l e s =
+    let m : count - i ≡ suc (count - suc i) = omega arith in
+    let left : ℕ = size - segment_size * i in
+    record {
+      is = append_assoc done (n ∷ []) (segment_sizes (count - (i + 1)) (size - segment_size * (i + 1)))
+          ∙ ap (λ j. done ++ n ∷ segment_sizes (count - j) (size - segment_size * j)) (add-one i)
+          ∙ ap (λ n. done ++ n ∷ segment_sizes (count - suc i) (size - segment_size * suc i)) e
+          ∙ ap (λ t. done ++ cell_size (min segment_size left) ∷ segment_sizes (count - suc i) t) (sym (next-size segment_size size i))
+          ∙ ap (λ k. done ++ segment_sizes k left) (sym m) ∙ s.is;
+    }
+
+pub sized-all : (count size i : ℕ) (base done : List ℕ) → count ≤ i → Sized count size i base done → done ≡ base ++ segment_sizes count size
+sized-all count size i base done l s =
+    let m : count - i ≡ 0 = omega arith in
+    sym (append-nil done) ∙ ap (λ k. done ++ segment_sizes k (size - segment_size * i)) (sym m) ∙ s.is
+
+pub piece-size : (size i n k : ℕ) → k ≡ min (size - 16344 * i) 16344 → n ≡ cell_size k → n ≡ cell_size (min segment_size (size - segment_size * i))
+unfolding segment_size
+piece-size size i n k e f = f ∙ ap cell_size (omega (arith, e))
+
+-- ---- data
+
+pub few-sizes : (size : ℕ) → size ≤ 4 → data_sizes size ≡ []
+unfolding data_sizes
+few-sizes size l = rw (le-leb size 4 l) refl
+
+pub one-size : (size : ℕ) → 4 < size → size ≤ 16344 → data_sizes size ≡ cell_size size ∷ []
+unfolding data_sizes
+one-size size l m = rw (le-false size 4 l, le-leb size segment_size (subst (λ n. size ≤ n) (sym segment-is) m)) refl
+
+pub big-sizes : (size : ℕ) → 16344 < size → data_sizes size ≡ cell_size 8 ∷ cell_size (4 * segments_for size) ∷ segment_sizes (segments_for size) size
+unfolding data_sizes
+big-sizes size l = rw (le-false size 4 (omega arith), le-false size segment_size (subst (λ n. n < size) (sym segment-is) l)) refl

@@ -1,0 +1,13 @@
+use Rattle.std.proofs.Common.{◌≡◌, List, ℕ, Some}
+use Rattle.reg_heap.specs.Kinds.{Found}
+use Rattle.reg_arena.specs.Cells.{cell_at}
+use Rattle.reg_records.specs.Cells.{held}
+use Rattle.reg_records.specs.Rows.{offsets_at}
+use Rattle.reg_records.specs.Pieces.{segments_for}
+use Rattle.reg_values.specs.Parts.{segments_at}
+use Rattle.reg_values.proofs.Pieces.{Joined}
+use Rattle.reg_values.proofs.big.joined.Given as goal
+
+abbrev pub invariant-loop-index : goal.invariant-loop-index
+invariant-loop-index l =
+    (all : List ℕ) → (met : List Found) → segments_at l.size (held (cell_at l.arena.bytes) l.list) (cell_at l.arena.bytes) ≡ Some (all, met) → Joined (cell_at l.arena.bytes) l.size l.index (offsets_at (segments_for l.size) 0 (held (cell_at l.arena.bytes) l.list)) l.bytes.items all
