@@ -34,7 +34,7 @@ use Rattle.reg_records.proofs.Readings.{row-open}
 use Rattle.reg_records.proofs.LocalWritten.{row-is}
 use Rattle.reg_records.proofs.Values.{value_record_at-open}
 use Rattle.reg_values.specs.Lists.{AreValues}
-use Rattle.reg_values.proofs.Opening.{length-offsets, each-length}
+use Rattle.reg_values.proofs.Opening.{length-offsets, each-length, members-length}
 
 pub is-some : {A : Type 0} (o : Option A) (x : A) → o ≡ Some x → IsSome o
 is-some o x e = ap is_some e
@@ -265,3 +265,26 @@ offset-of heap list count index content offset e l o = o ∙ (ap (λ c. offset_i
 pub is-ok : {A E : Type 0} (P Q : A → Type 0) (r : Result A E) → ((x : A) → P x → Q x) → IfOk r P → IfOk r Q
 is-ok P Q (Ok x) f p = f x p
 is-ok P Q (Err e) f p = p
+
+-- ---- a value of a name
+
+pub place-within : (name : List ℕ) (members : List Member) (index : ℕ) → place_named name members ≡ Some index → index < length members
+place-within name [] index e = absurd (none-some _ e)
+place-within name (m ∷ ms) index e = by (λ i q. place-within name ms i q) (same_name m.name name) e
+  where
+    later : ((i : ℕ) → place_named name ms ≡ Some i → i < length ms) → (p : Option ℕ) → place_named name ms ≡ p → option_map suc p ≡ Some index → index < length (m ∷ ms)
+    later f None q e = absurd (none-some _ e)
+    later f (Some i) q e = let w = f i q in let n = same_Some _ _ e in omega (arith, w, n)
+
+    by : ((i : ℕ) → place_named name ms ≡ Some i → i < length ms) → (b : Bool) → cond b (Some 0) (option_map suc (place_named name ms)) ≡ Some index → index < length (m ∷ ms)
+    by f true e = let n = same_Some _ _ e in omega (arith, n)
+    by f false e = later f (place_named name ms) refl e
+
+pub named-stands : (heap : Heap) (count place : ℕ) (values : AreValues heap count place) (name : List ℕ) (index : ℕ) → Some index ≡ place_named name values.members → Stands heap place values.members index
+named-stands heap count place values name index e =
+    let w = place-within name values.members index (sym e) in
+    let n = members-length heap count place values.members values.met values.reads in
+    stands heap count place values.members values.met index values.reads values.written.each (omega (arith, w, n))
+
+pub list-there : (heap : Heap) (count place : ℕ) → AreValues heap count place → 0 < count → IsSome (heap place)
+list-there heap count place values l = (stands heap count place values.members values.met 0 values.reads values.written.each l).list_here

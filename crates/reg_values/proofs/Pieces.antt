@@ -359,3 +359,10 @@ one-data heap fields all met e pos l = by fields.size refl (small-data heap fiel
         let o = piece-open heap (named Data (suc n) fields.place) [] all met p in
         let r = pieces-none heap o.rest o.cells o.rest_is in
         record { content = o.content; here = o.here; long = o.long; is = o.is ∙ (ap (λ xs. take (suc n) o.content ++ xs) r.0 ∙ append-nil _); met_is = o.met ∙ ap (λ xs. record { kind = Data; offset = fields.place } ∷ xs) r.1 }
+
+-- data of at most 16,344 bytes that isn't inline has a cell
+pub data-there : (heap : Heap) (fields : ValueFields) (all : List ℕ) (met : List Found) → data_at fields heap ≡ Some (all, met) → IsWrittenData heap fields → fields.size ≤ 16344 → IsSome (heap fields.place)
+data-there heap fields all met e w l =
+    let f = w.far (le-false 2147483648 fields.size (omega arith)) in
+    let o = one-data heap fields all met e (omega (arith, f)) l in
+    is-some _ o.content o.here

@@ -3,7 +3,16 @@ use Rattle.std.proofs.Common.{◌≡◌, ℕ, zero, suc, ◌+◌, ◌-◌, ◌*�
 use Rattle.std.proofs.lemmas.Bool.{le-leb}
 use Rattle.std.proofs.lemmas.List.{append-nil}
 use Rattle.reg_records.specs.Pieces.{segment_size, segments_for}
-use Rattle.reg_values.specs.Sizes.{cell_size, segment_sizes, data_sizes}
+use Rattle.std.specs.Option.{option_and_then}
+use Rattle.reg_heap.specs.Paths.{Member}
+use Rattle.reg_heap.specs.Heaps.{Heap}
+use Rattle.reg_heap.specs.Kinds.{Found}
+use Rattle.reg_heap.specs.Members.{place_named}
+use Rattle.reg_records.specs.Cells.{held}
+use Rattle.reg_records.specs.Rows.{offset_in}
+use Rattle.reg_records.specs.Values.{KeyValueRecord, value_record_at}
+use Rattle.reg_records.specs.Nodes.{members_at}
+use Rattle.reg_values.specs.Sizes.{cell_size, segment_sizes, data_sizes, stays, sizes_by, new_data_sizes, set_sizes}
 use Rattle.reg_values.proofs.Pieces.{le-false, segment-is}
 
 -- so many sizes are there, and the others come behind them
@@ -53,3 +62,21 @@ one-size size l m = rw (le-false size 4 l, le-leb size segment_size (subst (λ n
 pub big-sizes : (size : ℕ) → 16344 < size → data_sizes size ≡ cell_size 8 ∷ cell_size (4 * segments_for size) ∷ segment_sizes (segments_for size) size
 unfolding data_sizes
 big-sizes size l = rw (le-false size 4 (omega arith), le-false size segment_size (subst (λ n. n < size) (sym segment-is) l)) refl
+
+-- ---- all sizes
+
+pub added_sizes : (a b c d : List ℕ) (n : ℕ) → b ≡ (a ++ n ∷ []) ++ c → a ≡ [] → b ++ d ≡ n ∷ c ++ d
+added_sizes a b c d n e z = ap (λ b. b ++ d) e ∙ ap (λ a. ((a ++ n ∷ []) ++ c) ++ d) z
+
+module _ (heap : Heap) (count place : ℕ) (name : List ℕ) (size : ℕ) (members : List Member) (met : List Found) (e : members_at count place heap ≡ Some (members, met)) where
+  pub sizes-some : (index : ℕ) (old : KeyValueRecord) → Some index ≡ place_named name members → value_record_at heap (offset_in (held heap place) index) ≡ Some old → cond (stays heap old.fields size) [] (data_sizes size) ≡ set_sizes heap count place name size
+  unfolding set_sizes
+  sizes-some index old p r =
+      sym (ap (λ o. sizes_by heap count place (length name) size (option_and_then (λ (read : List Member × List Found). place_named name read.0) o)) e
+      ∙ ap (sizes_by heap count place (length name) size) (sym p) ∙ ap (new_data_sizes heap size) r)
+
+  pub sizes-none : None ≡ place_named name members → sizes_by heap count place (length name) size None ≡ set_sizes heap count place name size
+  unfolding set_sizes
+  sizes-none p =
+      sym (ap (λ o. sizes_by heap count place (length name) size (option_and_then (λ (read : List Member × List Found). place_named name read.0) o)) e
+      ∙ ap (sizes_by heap count place (length name) size) (sym p))

@@ -6,8 +6,7 @@ ghost use Rattle.std.specs.Prelude.{◌≡◌, true, ◌≤◌, ◌<◌, ◌+◌
 ghost use Rattle.reg_names.specs.Names.{is_value_name};
 ghost use Rattle.reg_arena.specs.Cells.{cell_at};
 ghost use Rattle.reg_values.specs.Lists.{AreValues};
-ghost use Rattle.reg_values.specs.Sizes.{cell_size as cell_size_of, data_sizes, segment_sizes, has_room as has_room_of, stays as stays_of, sizes_by, set_sizes};
-ghost use Rattle.reg_records.specs.Pieces.{segment_size};
+ghost use Rattle.reg_values.specs.Sizes.{cell_size as cell_size_of, data_sizes, segment_sizes, list_sizes, has_room as has_room_of, stays as stays_of, sizes_by, set_sizes};
 
 use crate::big::segments_for;
 use crate::look::{cell_of, find, record_at};
@@ -52,7 +51,7 @@ pub(crate) fn plan_data(sizes: &mut Vec<u32>, size: usize) -> Result<(), AllocEr
 /// Puts the sizes of the cells of so many segments behind those of `sizes`.
 fn plan_segments(sizes: &mut Vec<u32>, count: usize, size: usize) -> Result<(), AllocError>
     requires size { size ≤ 1048576 }
-    requires all { segment_size * count < size + segment_size }
+    requires all { 16344 * count < size + 16344 }
     ensures { OnOk result (sizes.new.items ≡ sizes.old.items ++ segment_sizes count size) }
 {
     for index in 0..count {
@@ -82,7 +81,22 @@ pub(crate) fn stays(arena: &Arena, old: ValueFields, size: usize) -> bool
         && cell_size(size) as usize == arena.content(old.place).len() + 4
 }
 
+/// Puts the size of the cell that a list moves to for one value more, if it moves, behind those of `sizes`.
+#[tactic(auto, unfolding(crate::specs::Sizes::list_sizes))]
+fn plan_list(sizes: &mut Vec<u32>, arena: &Arena, list: ValuesList) -> Result<(), AllocError>
+    requires few { list.count ≤ 16384 }
+    requires list { 0 < list.count → IsSome (cell_at arena.now.bytes list.place) }
+    ensures { OnOk result (sizes.new.items ≡ sizes.old.items ++ list_sizes (cell_at arena.now.bytes) list.count list.place) }
+{
+    if has_room(arena, list) {
+        return Ok(());
+    }
+    sizes.push(cell_size(4 * list.count as usize + 4))?;
+    Ok(())
+}
+
 /// The sizes of the cells of one value more.
+#[tactic(auto, using(crate::proofs::Planned::added_sizes))]
 pub(crate) fn plan_add(
     arena: &Arena,
     alloc: Global,
@@ -98,9 +112,7 @@ pub(crate) fn plan_add(
 {
     let mut sizes = Vec::new(alloc);
     sizes.push(cell_size(HEAD + name))?;
-    if !has_room(arena, list) {
-        sizes.push(cell_size(4 * list.count as usize + 4))?;
-    }
+    plan_list(&mut sizes, arena, list)?;
     plan_data(&mut sizes, size)?;
     Ok(sizes)
 }
