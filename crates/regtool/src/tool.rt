@@ -1,11 +1,11 @@
 ghost use Rattle.std.specs.Prelude.{◌≡◌, ◌≤◌, ℕ, List, OnOk};
 ghost use Rattle.std.specs.Io.KnownBytes.{IsAtEnd, Appends, Consumes};
-ghost use Rattle.regtool.specs.Lines.{Writes};
+ghost use Rattle.reg_script.specs.Lines.{Writes};
 
-use crate::engine::{ScriptFault, run};
 use clap::error::ErrorKind;
 use clap::{Command, Error};
 use reg_calls::Hive;
+use reg_script::{ScriptFault, run};
 use std::alloc::Global;
 use std::io::{Read, Write};
 

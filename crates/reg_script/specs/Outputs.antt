@@ -1,0 +1,20 @@
+-- What becomes of the replies on their way to a writer (this project's own).
+use Rattle.std.specs.Prelude.{◌≡◌, ℕ, ◌+◌, ◌≤◌, ◌⊎◌, min, List, [], length, take, Option}
+use Rattle.std.specs.Io.KnownBytes.{Appends}
+use Rattle.reg_script.specs.declared.engine.ScriptFault.{ScriptFault}
+use Rattle.reg_script.specs.declared.engine.ScriptFault.TheVariants.{Write}
+
+-- a count of 64 bits, which stays at its end
+abbrev pub counted : ℕ → ℕ → ℕ
+counted before count = min (before + count) 18446744073709551615
+
+-- nothing was sent, or all of the text, and none is left; the count of what was sent goes along
+abbrev pub IsSettled : Option (List ℕ) → Option (List ℕ) → List ℕ → List ℕ → ℕ → ℕ → Type 0
+IsSettled old new text left before after = ((new ≡ old) × (left ≡ text) × (after ≡ before)) ⊎ (Appends old new text × (left ≡ []) × (after ≡ counted before (length text)))
+
+-- the writer took a front of the text and no more, and the fault counts all that it ever took
+pub record IsCut (old new : Option (List ℕ)) (text : List ℕ) (before : ℕ) (fault : ScriptFault) : Type 0 where
+  pub count : ℕ
+  pub within : count ≤ length text
+  pub sent : Appends old new (take count text)
+  pub says : fault ≡ Write (counted before count)
