@@ -1,20 +1,24 @@
 -- A script that can't go on.
-use Rattle.std.proofs.Common.{◌≡◌, ◌≢◌, ℕ, ◌+◌, ◌*◌, ◌<◌, ◌≤◌, List, [], ◌∷◌, ◌++◌, length, get_or, take, drop, Option, Some, None, refl, sym, subst, ap, ◌∙◌, arith, append_assoc, append-nil, ◌⊎◌, inl, inr}
+use Rattle.std.proofs.Common.{◌≡◌, ◌≢◌, ℕ, ◌+◌, ◌*◌, ◌<◌, ◌≤◌, List, [], ◌∷◌, ◌++◌, length, get_or, take, drop, Option, refl, sym, subst, ap, ◌∙◌, arith, append_assoc, append-nil, ◌⊎◌, inl, inr, min}
 use Rattle.std.specs.List.{AllByRecursion}
 use Rattle.std.specs.Io.KnownBytes.{Appends, Consumes}
 use Rattle.std.proofs.Math.Seq.{take-append-add}
-use Rattle.std.proofs.lemmas.List.{take_more, take-append-drop, length-append}
+use Rattle.std.proofs.lemmas.List.{take_more, take-append-drop, length-append, length-take}
 use Rattle.reg_calls.specs.Views.{View}
 use Rattle.reg_script.specs.declared.engine.Script.{Script}
 use Rattle.reg_script.specs.declared.engine.ScriptFault.{ScriptFault}
 use Rattle.reg_script.specs.declared.engine.ScriptFault.TheVariants.{Read, Write, TooLong, Memory}
 use Rattle.reg_script.specs.Words.{lines_of}
-use Rattle.reg_script.specs.Meanings.{Meaning, meaning_of}
-use Rattle.reg_script.specs.Lines.{Stand, AreSaid}
+use Rattle.reg_script.specs.Meanings.{Meaning, asks, meaning_of}
+use Rattle.reg_model.specs.declared.call.Call.{Call}
+use Rattle.reg_script.specs.declared.line.Line.{Line}
+use Rattle.reg_script.specs.declared.line.Line.TheVariants.{Call as Calls}
+use Rattle.reg_script.specs.Readings.{said}
+use Rattle.reg_script.specs.Lines.{Stand, IsSaid, AreSaid}
 use Rattle.reg_script.specs.Outputs.{IsCut}
-use Rattle.reg_script.specs.Stops.{longest_line, most_lines, HasNoFeed, AreWithin, IsTooLong, PassesBound, IsOneMore, IsAnswered, IsReached, IsTaken, IsLeft, Stops}
-use Rattle.reg_script.specs.Progress.{Place, IsSteady, with_feeds, IsLine, Passes, Takes, IsIdle, IsFault, Halts, Loses, Ends}
-use Rattle.reg_script.proofs.Progress.{lines_fed, lines_short, no_feed_push, takes_none, takes_then, appends_then}
+use Rattle.reg_script.specs.Stops.{longest_line, most_lines, HasNoFeed, AreWithin, IsTooLong, PassesBound, IsOneMore, IsReached, IsTaken, IsLeft, Stops}
+use Rattle.reg_script.specs.Progress.{Place, IsSteady, with_feeds, IsLine, Passes, Takes, IsIdle, IsFault, Halts, stand_of}
+use Rattle.reg_script.proofs.Progress.{lines_fed, lines_short, no_feed_push, takes_none, takes_then, after_line, takes_feed, appends_then}
 
 -- ---- more bytes behind those that were not taken
 
@@ -132,10 +136,10 @@ pub stops_with : (old new : Place) (hive new_hive : View) (script : List ℕ) (f
 stops_with old new hive new_hive script fault result unread left final k consumes none empty is stands =
     let t = k.takes in
     let lines_are : lines_of (with_feeds t.ended) ≡ t.ended =
-        ap lines_of (sym (append-nil (with_feeds t.ended))) ∙ (lines_fed t.ended [] t.are_lines ∙ append-nil t.ended) in
+    ap lines_of (sym (append-nil (with_feeds t.ended))) ∙ (lines_fed t.ended [] t.are_lines ∙ append-nil t.ended) in
     let front_is : k.front ≡ with_feeds t.ended ++ k.mid.begun = ap (λ (w : List ℕ). w ++ k.front) (sym empty) ∙ t.splits in
     let script_is : script ≡ with_feeds t.ended ++ (k.mid.begun ++ k.back) =
-        k.splits ∙ (ap (λ (w : List ℕ). w ++ k.back) front_is ∙ append_assoc (with_feeds t.ended) k.mid.begun k.back) in
+    k.splits ∙ (ap (λ (w : List ℕ). w ++ k.back) front_is ∙ append_assoc (with_feeds t.ended) k.mid.begun k.back) in
     record {
       lines = with_feeds t.ended;
       rest = k.mid.begun ++ k.back;
@@ -149,7 +153,7 @@ stops_with old new hive new_hive script fault result unread left final k consume
     }
 
 -- all replies were sent
-all_sent : (old mid new : Place) (replies : List ℕ) (final : Option (List ℕ)) → Passes old replies mid → old.gathered ≡ [] → IsIdle mid new → Appends new.sent final new.gathered → Appends old.sent final replies
+pub all_sent : (old mid new : Place) (replies : List ℕ) (final : Option (List ℕ)) → Passes old replies mid → old.gathered ≡ [] → IsIdle mid new → Appends new.sent final new.gathered → Appends old.sent final replies
 all_sent old mid new replies final p empty idle sent =
     let whole : replies ≡ p.passed ++ mid.gathered = ap (λ (w : List ℕ). w ++ replies) (sym empty) ∙ p.gathers in
     let rest = subst (λ (o : Option (List ℕ)). Appends o final new.gathered) idle.sent sent in
@@ -157,7 +161,7 @@ all_sent old mid new replies final p empty idle sent =
     subst (λ (w : List ℕ). Appends old.sent final w) (sym whole) (appends_then old.sent mid.sent final p.passed mid.gathered p.appends rest')
 
 -- the writer took a front of what was left of them
-cut_sent : (old mid : Place) (replies : List ℕ) (final : Option (List ℕ)) (written : ℕ) → Passes old replies mid → old.gathered ≡ [] → old.written ≡ 0 → IsCut mid.sent final mid.gathered mid.written (Write written)
+pub cut_sent : (old mid : Place) (replies : List ℕ) (final : Option (List ℕ)) (written : ℕ) → Passes old replies mid → old.gathered ≡ [] → old.written ≡ 0 → IsCut mid.sent final mid.gathered mid.written (Write written)
     → IsTaken old.sent final replies written
 cut_sent old mid replies final written p empty zero cut =
     let whole : replies ≡ p.passed ++ mid.gathered = ap (λ (w : List ℕ). w ++ replies) (sym empty) ∙ p.gathers in
@@ -171,3 +175,61 @@ cut_sent old mid replies final written p empty zero cut =
   where
     written_is : {n : ℕ} → Write written ≡ Write n → written ≡ n
     written_is e = cc
+
+-- the bounds as the code tests them
+pub many_lines : (lines : ℕ) → 1000000 ≤ lines → most_lines ≤ lines
+unfolding most_lines
+many_lines lines h = h
+
+pub few_lines : (lines : ℕ) → lines < 1000000 → lines < most_lines
+unfolding most_lines
+few_lines lines h = h
+
+pub long_line : (line : List ℕ) → 2200000 ≤ length line → longest_line ≤ length line
+unfolding longest_line
+long_line line h = h
+
+pub short_line : (line : List ℕ) → length line < 2200000 → length line < longest_line
+unfolding longest_line
+short_line line h = h
+
+-- a call was answered
+pub one_more : (script : Script) (hive new : View) (line : Line) (call : Call) (reply : List ℕ) → line ≡ Calls call → IsSaid (asks call) (stand_of script hive) reply (stand_of script new) → IsOneMore (said line) (stand_of script hive) new
+one_more script hive new line call reply is h =
+    subst (λ (l : Line). IsOneMore (said l) (stand_of script hive) new) (sym is) (record { reply = reply; next = stand_of script new; said = h; hive = refl })
+
+-- no memory for the reply to the line that was begun
+pub halts_lost : (old new : Place) (b : ℕ) (fault : ScriptFault) → IsSteady old → fault ≡ Memory → new.gathered ≡ old.gathered → new.sent ≡ old.sent → new.written ≡ old.written → ((new.stand.hive ≡ old.stand.hive) ⊎ IsOneMore (meaning_of old.begun) old.stand new.stand.hive)
+    → Halts old (b ∷ []) new fault
+halts_lost old new b fault steady is gathered sent written reached =
+    subst (λ (f : ScriptFault). Halts old (b ∷ []) new f) (sym is)
+    (halts_here old new (b ∷ []) Memory steady (record { gathered = gathered; sent = sent; written = written }, reply_lost old.begun (b ∷ []) old.stand old.stand.hive new.stand.hive refl reached))
+
+-- the replies were gathered, and the writer took a front of them
+pub halts_cut : (old new : Place) (b : ℕ) (reply text : List ℕ) (before : ℕ) (fault : ScriptFault) → b ≡ 10 → IsSteady old → old.lines < most_lines → IsSaid (meaning_of old.begun) old.stand reply new.stand → text ≡ old.gathered ++ reply → before ≡ old.written
+    → IsCut old.sent new.sent text before fault → Halts old (b ∷ []) new fault
+halts_cut old new b reply text before fault is steady fewer said adds same cut =
+    let here = subst (λ (n : ℕ). IsCut old.sent new.sent text n fault) same cut in
+    subst (λ (f : ScriptFault). Halts old (b ∷ []) new f) (sym here.says)
+    (halts_at old new (b ∷ []) _ (after_line old new.stand text) (takes_feed old new.stand b reply text is steady fewer said adds)
+    (subst (λ (f : ScriptFault). IsCut old.sent new.sent text old.written f) here.says here, refl))
+
+-- a line that says what it means
+pub as_meant : (m n : Meaning) (last : Stand) (old new : View) → m ≡ n → ((new ≡ old) ⊎ IsOneMore m last new) → (new ≡ old) ⊎ IsOneMore n last new
+as_meant m n last old new e h = subst (λ (k : Meaning). (new ≡ old) ⊎ IsOneMore k last new) e h
+
+-- the count of lines below its bound
+pub one_more_line : (lines sum new : ℕ) → lines < most_lines → sum ≡ min (lines + 1) 4294967295 → new ≡ sum → new ≡ lines + 1
+unfolding most_lines
+one_more_line lines sum new fewer e same = omega (arith, fewer, e, same)
+
+-- no memory for the reply to the last line
+pub halts_last : (old now new : Place) (bytes : List ℕ) (fault : ScriptFault) → Takes old bytes now → fault ≡ Memory → new.gathered ≡ now.gathered → new.sent ≡ now.sent → new.written ≡ now.written → ((new.stand.hive ≡ now.stand.hive) ⊎ IsOneMore (meaning_of now.begun) now.stand new.stand.hive)
+    → Halts old bytes new fault
+halts_last old now new bytes fault h is gathered sent written reached =
+    subst (λ (f : ScriptFault). Halts old bytes new f) (sym is)
+    (halts_at old new bytes Memory now h (record { gathered = gathered; sent = sent; written = written }, reply_lost now.begun [] now.stand now.stand.hive new.stand.hive refl reached))
+
+-- each read gives a byte at least
+pub read_more : (taken buffer : List ℕ) (i n : ℕ) → i ≤ length taken → n ≢ 0 → n ≤ length buffer → i + 1 ≤ length (taken ++ take n buffer)
+read_more taken buffer i n below some within = simp (length-append, length-take) (omega (arith, below, some, within))

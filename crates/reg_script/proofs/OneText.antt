@@ -39,8 +39,8 @@ abbrev journal_by : Option ℕ → List Entry → Entry → List Entry
 journal_by (Some status) journal entry = journal
 journal_by None journal entry = journal ++ entry ∷ []
 
--- a hive with the keys of another that has its origin and its journal is that other
-view_like : (a b : View) → a.origin ≡ b.origin → a.journal ≡ b.journal → ◌≡◌ {A = View} (record a { keys = b.keys }) b
+-- a hive with the keys and handles of another that has its origin and its journal is that other
+view_like : (a b : View) → a.origin ≡ b.origin → a.journal ≡ b.journal → ◌≡◌ {A = View} (record a { keys = b.keys; handles = b.handles }) b
 view_like a b origin journal = rw (origin, journal) refl
 
 lacking : {X : Type 0} (reply : ChangeReply) → (reply ≡ refusal 8) ⊎ ((reply ≡ refusal 1450) × X) → reply.status ≡ 0 → ⊥

@@ -8,7 +8,7 @@ use Rattle.reg_script.specs.declared.engine.ScriptFault.{ScriptFault}
 use Rattle.reg_script.specs.declared.engine.ScriptFault.TheVariants.{Read, Write, TooLong, Memory}
 use Rattle.reg_script.specs.Words.{lines_of}
 use Rattle.reg_script.specs.Meanings.{Meaning}
-use Rattle.reg_script.specs.Lines.{Stand, IsSaid, AreSaid}
+use Rattle.reg_script.specs.Lines.{Stand, AreSaid}
 use Rattle.reg_script.specs.Outputs.{counted, IsCut}
 use Rattle.reg_script.specs.Stops.{longest_line, most_lines, HasNoFeed, PassesBound, IsOneMore, IsReached}
 

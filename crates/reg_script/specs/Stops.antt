@@ -7,7 +7,7 @@ use Rattle.reg_script.specs.declared.engine.ScriptFault.{ScriptFault}
 use Rattle.reg_script.specs.declared.engine.ScriptFault.TheVariants.{Read, Write, TooLong, Memory}
 use Rattle.reg_script.specs.Words.{lines_of}
 use Rattle.reg_script.specs.Meanings.{Meaning, meaning_of}
-use Rattle.reg_script.specs.Lines.{Stand, IsSaid, AreSaid}
+use Rattle.reg_script.specs.Lines.{Stand, IsSaid, AreSaid, IsFresh}
 use Rattle.reg_script.specs.Outputs.{counted}
 
 -- the number of a fault
@@ -90,3 +90,10 @@ pub record Stops (fault : ScriptFault) (unread left : Option (List ℕ)) (old ne
   pub last : Stand
   pub said : AreSaid (lines_of lines) (record { hive = old; moment = 0; session = 0 }) text last
   pub stands : IsLeft fault (length (lines_of lines)) last rest text new before after
+
+-- a script on a fresh hive ended with a fault
+pub record StopsFresh (fault : ScriptFault) (unread left before after : Option (List ℕ)) : Type 0 where
+  pub fresh : View
+  pub is_fresh : IsFresh fresh
+  pub last : View
+  pub stops : Stops fault unread left fresh last before after

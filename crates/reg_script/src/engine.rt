@@ -50,6 +50,10 @@ pub enum ScriptFault {
 }
 
 impl From<AllocError> for ScriptFault {
+    ghost use Rattle.reg_script.specs.declared.engine.ScriptFault.{ScriptFault};
+
+    ghost from_gives = { λ _ e. e ≡ ScriptFault.Memory };
+
     fn from(_fault: AllocError) -> ScriptFault {
         ScriptFault::Memory
     }
@@ -220,7 +224,7 @@ impl Script {
         ensures lines { OnOk result (IsSteady (place_of self.old (view_of hive.old) (W.contents writer.old)) →
             (script : List ℕ) × Consumes (R.remaining reader.old) (R.remaining reader.new) script
             × Ends (place_of self.old (view_of hive.old) (W.contents writer.old)) script (place_of self.new (view_of hive.new) (W.contents writer.new))) }
-        ensures err { IfErr result (λ fault. (self.old.lines ≡ 0) → (self.old.line.items ≡ []) →
+        ensures err { IfErr result (λ fault. IsSteady (place_of self.old (view_of hive.old) (W.contents writer.old)) → self.old.lines ≡ 0 → self.old.line.items ≡ [] →
             (script : List ℕ) × Consumes (R.remaining reader.old) (R.remaining reader.new) script
             × Halts (place_of self.old (view_of hive.old) (W.contents writer.old)) script (place_of self.new (view_of hive.new) (W.contents writer.new)) fault) }
     {
@@ -263,9 +267,5 @@ pub fn run<R: Read, W: Write>(
         session: Session { number: 0 },
     };
     let ended = script.read_all(hive, reader, writer, chunk.as_mut_slice());
-    if let Err(ScriptFault::Write { .. }) = ended {
-        return ended;
-    }
-    script.output.finish(writer)?;
-    ended
+    script.output.close(writer, ended)
 }

@@ -1,6 +1,6 @@
 ghost use Rattle.std.specs.Prelude.{◌≡◌, ◌<◌, ◌≤◌, [], length, take, string_bytes, OnOk, IfErr};
 ghost use Rattle.std.specs.Io.KnownBytes.{Appends};
-ghost use Rattle.reg_script.specs.Outputs.{counted, IsSettled, IsCut};
+ghost use Rattle.reg_script.specs.Outputs.{counted, IsSettled, IsCut, Closes};
 
 use crate::engine::ScriptFault;
 use std::alloc::Global;
@@ -85,5 +85,21 @@ impl Output {
                 written: self.written,
             }),
         }
+    }
+
+    /// Writes all that was gathered once a script has ended so, unless a write has failed before. A write that fails now is
+    /// the fault that is answered.
+    pub fn close<W: Write>(
+        &mut self,
+        writer: &mut W,
+        ended: Result<(), ScriptFault>,
+    ) -> Result<(), ScriptFault>
+        ensures { Closes ended (string_bytes self.old.text) self.old.written (W.contents writer.old) (W.contents writer.new) result }
+    {
+        if let Err(ScriptFault::Write { .. }) = ended {
+            return ended;
+        }
+        self.finish(writer)?;
+        ended
     }
 }
