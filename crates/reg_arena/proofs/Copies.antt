@@ -1,11 +1,11 @@
 -- A piece of a cell's content is a piece of the bytes.
-use Rattle.std.proofs.Common.{◌≡◌, ℕ, ◌+◌, ◌-◌, ◌<◌, ◌≤◌, true, List, [], length, take, drop, get_or, sym, ap, ◌∙◌, subst, arith, cond, eqb, Option, Some, is_some, length-take, length-drop}
-use Rattle.std.proofs.lemmas.List.{ext_get_or, get_or-take, get_or-drop, drop-drop}
+use Rattle.std.proofs.Common.{◌≡◌, ℕ, ◌+◌, ◌-◌, ◌<◌, ◌≤◌, true, List, [], length, take, drop, get_or, sym, ap, ◌∙◌, subst, arith, Option, is_some, length-take, length-drop}
+use Rattle.std.proofs.lemmas.List.{ext_get_or, get_or-take, get_or-drop}
 use Rattle.std.specs.Prelude.{unwrap_or}
 use Rattle.reg_heap.specs.Words.{word, splice}
-use Rattle.reg_arena.specs.Cells.{cells_of, cell_at, size_in}
+use Rattle.reg_arena.specs.Cells.{cell_at, size_in}
 use Rattle.reg_arena.specs.Arena.{IsArena}
-use Rattle.reg_arena.proofs.Writes.{found, wrote, Wrote, write_fits}
+use Rattle.reg_arena.proofs.Writes.{found, wrote, Wrote}
 
 part-of : (xs : List ℕ) (p m k n : ℕ) → k + n ≤ m → p + m ≤ length xs → take n (drop k (take m (drop p xs))) ≡ take n (drop (p + k) xs)
 part-of xs p m k n a b =

@@ -1,10 +1,10 @@
 -- How many free cells there are.
-use Rattle.std.proofs.Common.{◌≡◌, ℕ, zero, suc, ◌+◌, ◌*◌, ◌<◌, ◌≤◌, Bool, true, false, cond, ◌⊎◌, inl, inr, List, [], ◌∷◌, ◌++◌, length, map, filter, refl, sym, ap, ◌∙◌, arith, length-append, eqb, subst}
+use Rattle.std.proofs.Common.{◌≡◌, ℕ, suc, ◌+◌, ◌<◌, ◌≤◌, Bool, true, false, cond, List, [], ◌∷◌, ◌++◌, length, map, filter, refl, ap, arith, length-append, eqb}
 use Rattle.std.proofs.lemmas.Bool.{eqb-true, eq-eqb}
 use Rattle.std.specs.List.{AllByRecursion}
 use Rattle.reg_arena.specs.declared.Cell.{Cell}
-use Rattle.reg_arena.specs.Cells.{Bin, IsCell, AreBins, cells_in}
-use Rattle.reg_arena.specs.Free.{times, is_free_of, free_of}
+use Rattle.reg_heap.specs.Kinds.{times}
+use Rattle.reg_arena.specs.Free.{is_free_of, free_of}
 use Rattle.reg_arena.proofs.Contents.{AreOrdered}
 use Rattle.reg_arena.proofs.Takes.{times-append}
 

@@ -1,26 +1,26 @@
 -- The last step of freeing a cell.
-use Rattle.std.proofs.Common.{◌≡◌, ℕ, zero, suc, ◌+◌, ◌-◌, ◌*◌, ◌/◌, ◌<◌, ◌≤◌, ◌%◌, Bool, true, false, not, cond, ◌⊎◌, inl, inr, List, [], ◌∷◌, ◌++◌, length, get_or, set, refl, sym, ap, ◌∙◌, subst, arith, append_assoc, eqb, Option, Some, None, is_some}
+use Rattle.std.proofs.Common.{◌≡◌, ℕ, zero, suc, ◌+◌, ◌-◌, ◌*◌, ◌/◌, ◌<◌, ◌≤◌, ◌%◌, Bool, true, false, cond, ◌⊎◌, inl, inr, List, [], ◌∷◌, ◌++◌, length, get_or, set, refl, sym, ap, ◌∙◌, subst, arith, append_assoc, eqb, Some, None}
 use Rattle.std.proofs.lemmas.Bool.{eqb-true, eqb-false, eq-eqb, ne_eqb, cases_eq}
 use Rattle.std.proofs.lemmas.List.{get_or-set_same, get_or-set_other, length-set}
 use Rattle.std.specs.List.{AllByRecursion}
-use Rattle.reg_heap.specs.Words.{word}
 use Rattle.reg_arena.specs.declared.Cell.{Cell}
 use Rattle.reg_arena.specs.Cells.{Bin, AreBins, cells_in, cells_of, cell_at, content_in}
-use Rattle.reg_arena.specs.Free.{times, free_of, chain, freed, AreApart, Follows}
+use Rattle.reg_heap.specs.Kinds.{times}
+use Rattle.reg_arena.specs.Free.{free_of, chain, freed, AreApart, Follows}
 use Rattle.reg_arena.specs.Arena.{IsArena, one_class}
 use Rattle.reg_arena.specs.NewCells.{used, unused}
 use Rattle.reg_arena.specs.Carves.{or_else}
-use Rattle.reg_arena.specs.Tables.{ending, AreBacks, IsIndexed, marked}
+use Rattle.reg_arena.specs.Tables.{ending, IsIndexed, marked}
 use Rattle.reg_arena.specs.Frees.{IsFreePiece, Frees, start_of}
 use Rattle.reg_arena.proofs.Tilings.{sizes, cells_of-AreBins}
 use Rattle.reg_arena.proofs.Contents.{content_in-append, IsBeside, AreOrdered, AreOrdered-AreBins, besides-before, besides-after}
 use Rattle.reg_arena.proofs.Takes.{times-append, free_of-append}
-use Rattle.reg_arena.proofs.Frees.{PlacedRow, EndsFree, Freeing, freeing}
+use Rattle.reg_arena.proofs.Frees.{PlacedRow, EndsFree, freeing}
 use Rattle.reg_arena.proofs.Indexes.{cells-are, alone-in, ends-edit, ending-alone, ending-there}
 use Rattle.reg_arena.proofs.Places.{stands}
 use Rattle.reg_arena.proofs.TableEdits.{IsTail, backs-insert, open-front, length-marked}
-use Rattle.reg_arena.proofs.Unlinks.{Threads, Detached, tail-front}
-use Rattle.reg_arena.proofs.Surrounds.{Lefts, Rights, ending-append, ending-none, ending-beside}
+use Rattle.reg_arena.proofs.Unlinks.{Detached, tail-front}
+use Rattle.reg_arena.proofs.Surrounds.{ending-append, ending-beside}
 use Rattle.reg_arena.proofs.FreeWhole.{Site, Around, piece_offsets, piece-times, piece-content, piece-sizes, piece-ending, right_out}
 
 -- what is left of the bytes, the cells and the list

@@ -1,32 +1,27 @@
 -- The whole of freeing a cell.
-use Rattle.std.proofs.Common.{◌≡◌, ℕ, zero, suc, ◌+◌, ◌-◌, ◌*◌, ◌/◌, ◌<◌, ◌≤◌, ◌%◌, Bool, true, false, not, cond, ◌⊎◌, inl, inr, List, [], ◌∷◌, ◌++◌, length, get_or, set, refl, sym, ap, ◌∙◌, subst, arith, append_assoc, eqb, Option, Some, None, is_some}
-use Rattle.std.proofs.lemmas.Bool.{eqb-true, eqb-false, eq-eqb, ne_eqb, cases_eq}
-use Rattle.std.proofs.lemmas.List.{get_or-set_same, get_or-set_other, length-set}
+use Rattle.std.proofs.Common.{◌≡◌, ℕ, zero, suc, ◌+◌, ◌-◌, ◌*◌, ◌/◌, ◌<◌, ◌≤◌, ◌%◌, Bool, true, false, cond, ◌⊎◌, inl, inr, List, [], ◌∷◌, ◌++◌, length, get_or, refl, sym, ap, ◌∙◌, subst, arith, append_assoc, eqb, None, is_some}
+use Rattle.std.proofs.lemmas.Bool.{eq-eqb, ne_eqb, cases_eq}
 use Rattle.std.specs.List.{AllByRecursion}
 use Rattle.reg_heap.specs.Words.{word}
 use Rattle.reg_arena.specs.declared.Cell.{Cell}
-use Rattle.reg_arena.specs.Cells.{Bin, AreBins, cells_in, cells_of, cell_at, content_in, size_in}
-use Rattle.reg_arena.specs.Free.{times, free_of, chain, freed, AreApart, Follows}
-use Rattle.reg_arena.specs.Arena.{IsArena, one_class}
+use Rattle.reg_arena.specs.Cells.{Bin, cells_in, cell_at, content_in, size_in}
+use Rattle.reg_heap.specs.Kinds.{times}
+use Rattle.reg_arena.specs.Free.{free_of, chain}
+use Rattle.reg_arena.specs.Arena.{one_class}
 use Rattle.reg_arena.specs.NewCells.{used, unused}
-use Rattle.reg_arena.specs.Carves.{or_else}
-use Rattle.reg_arena.specs.Tables.{ending, AreBacks, IsIndexed, marked}
-use Rattle.reg_arena.specs.Frees.{IsFreePiece, Frees, IsRight, start_of, InList, Unlinks}
+use Rattle.reg_arena.specs.Tables.{ending, IsIndexed}
+use Rattle.reg_arena.specs.Frees.{IsFreePiece, IsRight, start_of}
 use Rattle.reg_arena.proofs.Tilings.{sizes, cells_of-AreBins, cell_at-AreBins}
 use Rattle.reg_arena.proofs.Places.{looked, stands}
-use Rattle.reg_arena.proofs.Contents.{content_in-append, IsBeside, AreOrdered, AreOrdered-AreBins, besides-before, besides-after}
 use Rattle.reg_arena.proofs.Sound.{sound, AreBins-eights}
 use Rattle.reg_arena.proofs.Writes.{all-at}
-use Rattle.reg_arena.proofs.Takes.{times-append, free_of-append}
 use Rattle.reg_arena.proofs.Relinks.{free-content}
 use Rattle.reg_arena.proofs.Finds.{Follows-chain}
 use Rattle.reg_arena.proofs.Choices.{times-free}
 use Rattle.reg_arena.proofs.Carving.{one_list}
-use Rattle.reg_arena.proofs.Frees.{PlacedRow, EndsFree, Freeing, freeing}
-use Rattle.reg_arena.proofs.Indexes.{cells-are, list-is, alone-in, ends-edit, ending-alone, ending-there}
-use Rattle.reg_arena.proofs.TableEdits.{backs-insert, open-front, length-marked}
-use Rattle.reg_arena.proofs.Unlinks.{Threads, Detached, detached, in_list, tail-front, alone}
-use Rattle.reg_arena.proofs.Surrounds.{Lefts, Rights, lefts, rights, ending-append, ending-none, ending-beside}
+use Rattle.reg_arena.proofs.Indexes.{list-is, ending-alone}
+use Rattle.reg_arena.proofs.Unlinks.{Threads}
+use Rattle.reg_arena.proofs.Surrounds.{Lefts, Rights, lefts, rights}
 
 -- ---- where the cell stands
 

@@ -1,21 +1,21 @@
 -- Cells side by side become one free cell.
-use Rattle.std.proofs.Common.{◌≡◌, ℕ, zero, suc, ◌+◌, ◌-◌, ◌*◌, ◌<◌, ◌≤◌, ◌%◌, Bool, true, false, not, cond, ◌⊎◌, inl, inr, List, [], ◌∷◌, ◌++◌, length, map, filter, refl, sym, ap, ◌∙◌, subst, arith, append_assoc, length-append, ◌&&◌, eqb, Option, Some, None, is_some}
+use Rattle.std.proofs.Common.{◌≡◌, ℕ, suc, ◌+◌, ◌<◌, ◌≤◌, ◌%◌, true, false, cond, ◌⊎◌, inl, inr, List, [], ◌∷◌, ◌++◌, length, refl, sym, ap, ◌∙◌, subst, arith, append_assoc, eqb, Option, Some, None}
 use Rattle.std.proofs.lemmas.Bool.{cases_eq, eq-eqb, ne_eqb}
-use Rattle.std.proofs.lemmas.List.{append-nil}
 use Rattle.std.specs.List.{AllByRecursion}
-use Rattle.reg_heap.specs.Words.{word, splice, SameOutside}
-use Rattle.reg_arena.specs.Cells.{Bin, IsCell, Tiles, AreBins, cells_in, content_in, cells_of, cell_at, size_in}
-use Rattle.reg_arena.specs.Free.{Follows, times, is_free_of, free_of, IsFreeList, Touch, AreApart, freed, chain}
+use Rattle.reg_heap.specs.Words.{SameOutside}
+use Rattle.reg_arena.specs.Cells.{Bin, Tiles, AreBins, cells_in, content_in, cells_of, cell_at}
+use Rattle.reg_heap.specs.Kinds.{times}
+use Rattle.reg_arena.specs.Free.{Follows, free_of, Touch, AreApart, freed, chain}
 use Rattle.reg_arena.specs.Arena.{IsArena, one_class}
 use Rattle.reg_arena.specs.declared.Cell.{Cell}
 use Rattle.reg_arena.specs.NewCells.{unused}
 use Rattle.reg_arena.specs.Carves.{or_else}
 use Rattle.reg_arena.proofs.Tilings.{sizes, with_cells, AreBins-edit, cells_of-AreBins, cell_at-AreBins, Tiles-back, Tiles-front, Tiles-le, IsCell-eight}
 use Rattle.reg_arena.proofs.Places.{AreBins-at}
-use Rattle.reg_arena.proofs.Contents.{content_in-append, IsBeside, content_in-beside, AreOrdered, AreOrdered-AreBins, AreOrdered-back, besides-before, beside-after}
+use Rattle.reg_arena.proofs.Contents.{content_in-append, content_in-beside, AreOrdered, AreOrdered-AreBins, AreOrdered-back, besides-before, beside-after}
 use Rattle.reg_arena.proofs.Links.{IsClear, Follows-same, free_of-all}
 use Rattle.reg_arena.proofs.Writes.{clear-cells, content_in-none}
-use Rattle.reg_arena.proofs.Takes.{others-all, times-append, free_of-append, free_of-one}
+use Rattle.reg_arena.proofs.Takes.{others-all, times-append, free_of-append}
 use Rattle.reg_arena.proofs.Relinks.{free-content}
 use Rattle.reg_arena.proofs.Finds.{Follows-chain}
 use Rattle.reg_arena.proofs.Counts.{few-free}

@@ -1,11 +1,11 @@
 -- Arenas with their side tables, after each change.
-use Rattle.std.proofs.Common.{◌≡◌, ℕ, zero, suc, ◌+◌, ◌-◌, ◌*◌, ◌/◌, ◌<◌, ◌≤◌, ◌%◌, ◌⊎◌, inl, inr, List, [], ◌∷◌, ◌++◌, length, get_or, set, refl, sym, ap, ◌∙◌, subst, arith, Option, Some, length-append, eqb, cond, Bool, true, false}
+use Rattle.std.proofs.Common.{◌≡◌, ℕ, zero, suc, ◌+◌, ◌-◌, ◌*◌, ◌/◌, ◌<◌, ◌≤◌, inl, inr, List, [], ◌∷◌, ◌++◌, length, get_or, set, refl, sym, ap, ◌∙◌, subst, arith, Some, length-append}
 use Rattle.std.proofs.lemmas.List.{length-set, append-nil}
 use Rattle.reg_heap.specs.Words.{word}
 use Rattle.reg_arena.specs.declared.Cell.{Cell}
-use Rattle.reg_arena.specs.Cells.{AreBins, cells_in, cells_of, size_in}
-use Rattle.reg_arena.specs.Free.{Follows, times, free_of, chain, IsFit}
-use Rattle.reg_arena.specs.Arena.{IsArena, one_class}
+use Rattle.reg_arena.specs.Cells.{cells_in, cells_of, size_in}
+use Rattle.reg_arena.specs.Free.{chain, IsFit}
+use Rattle.reg_arena.specs.Arena.{IsArena}
 use Rattle.reg_arena.specs.NewCells.{total_of, AreSizes, unused}
 use Rattle.reg_arena.specs.NewBin.{AppendsBin, IsBinSize, new_bin}
 use Rattle.reg_arena.specs.Tables.{ending, AreBacks, IsIndexed, marked, NotesTaken, IsLonger}
@@ -17,9 +17,9 @@ use Rattle.reg_arena.proofs.Writes.{Wrote}
 use Rattle.reg_arena.proofs.Tilings.{cells_of-AreBins}
 use Rattle.reg_arena.proofs.Finds.{Follows-chain}
 use Rattle.reg_arena.proofs.Carving.{one_list, rest_offsets}
-use Rattle.reg_arena.proofs.CarveWhole.{CarvingAt, call-facts, CallFacts, facts-at}
+use Rattle.reg_arena.proofs.CarveWhole.{CarvingAt, facts-at}
 use Rattle.reg_arena.proofs.TableEdits.{last_or, backs-split, IsTail, backs-remove, backs-insert, open-behind, open-front, length-marked}
-use Rattle.reg_arena.proofs.Unlinks.{Alone, tail-behind, tail-front, next-in}
+use Rattle.reg_arena.proofs.Unlinks.{tail-behind, tail-front, next-in}
 use Rattle.reg_arena.proofs.Indexes.{cells-are, list-is, alone-in, ends-are-last, ends-edit, ending-alone, ending-there, rest_end, carve-ends}
 
 rest-some : (at n : ℕ) → 0 < n → rest_offsets at n ≡ at ∷ []

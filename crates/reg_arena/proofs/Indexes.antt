@@ -1,27 +1,27 @@
 -- The side tables after each change.
-use Rattle.std.proofs.Common.{◌≡◌, ℕ, zero, suc, ◌+◌, ◌-◌, ◌*◌, ◌/◌, ◌<◌, ◌≤◌, ◌%◌, ◌⊎◌, inl, inr, List, [], ◌∷◌, ◌++◌, length, get_or, set, refl, sym, ap, ◌∙◌, subst, arith, append_assoc, Option, Some}
-use Rattle.std.proofs.lemmas.List.{get_or-set_same, get_or-set_other, length-set, append-nil}
+use Rattle.std.proofs.Common.{◌≡◌, ℕ, zero, suc, ◌+◌, ◌-◌, ◌*◌, ◌/◌, ◌<◌, ◌≤◌, ◌%◌, ◌⊎◌, inl, inr, List, [], ◌∷◌, ◌++◌, length, get_or, set, refl, sym, ap, ◌∙◌, subst, arith, Some}
+use Rattle.std.proofs.lemmas.List.{get_or-set_same, get_or-set_other}
 use Rattle.std.proofs.lemmas.Bool.{cases_eq}
 use Rattle.std.specs.List.{AllByRecursion}
 use Rattle.reg_heap.specs.Words.{word}
 use Rattle.reg_arena.specs.declared.Cell.{Cell}
 use Rattle.reg_arena.specs.Cells.{Bin, AreBins, cells_in, cells_of, size_in}
-use Rattle.reg_arena.specs.Free.{Follows, times, free_of, chain, EndsAt}
+use Rattle.reg_heap.specs.Kinds.{times}
+use Rattle.reg_arena.specs.Free.{Follows, free_of, chain, EndsAt}
 use Rattle.reg_arena.specs.Arena.{IsArena, one_class}
-use Rattle.reg_arena.specs.NewCells.{total_of, AreSizes, used, unused, carved, offsets_of}
+use Rattle.reg_arena.specs.NewCells.{total_of, unused, carved, offsets_of}
 use Rattle.reg_arena.specs.Carves.{rest_of, Carves}
-use Rattle.reg_arena.specs.Tables.{ending, AreBacks, IsIndexed, marked, NotesTaken, IsLonger}
+use Rattle.reg_arena.specs.Tables.{ending}
 use Rattle.reg_arena.proofs.Tilings.{cells_of-AreBins}
 use Rattle.reg_arena.proofs.Places.{stands}
 use Rattle.reg_arena.proofs.Contents.{IsBeside, AreOrdered, AreOrdered-AreBins, besides-before, besides-after}
 use Rattle.reg_arena.proofs.Sound.{AreBins-eights}
 use Rattle.reg_arena.proofs.Writes.{all-at}
 use Rattle.reg_arena.proofs.Finds.{Follows-chain}
-use Rattle.reg_arena.proofs.Carving.{one_list, rest_offsets}
-use Rattle.reg_arena.proofs.CarveWhole.{CarvingAt}
+use Rattle.reg_arena.proofs.Carving.{one_list}
 use Rattle.reg_arena.proofs.Surrounds.{ending-append, ending-none, ending-beside, ending-self}
-use Rattle.reg_arena.proofs.TableEdits.{IsApartFrom, last_or, backs-split, IsTail, backs-remove, backs-insert, open-behind, open-front, ends-last}
-use Rattle.reg_arena.proofs.Unlinks.{Alone, alone, tail-behind, tail-front}
+use Rattle.reg_arena.proofs.TableEdits.{last_or}
+use Rattle.reg_arena.proofs.Unlinks.{Alone, alone}
 
 some-inj : {A : Type 0} (x y : A) → Some x ≡ Some y → x ≡ y
 some-inj x y e = cc

@@ -12,6 +12,7 @@ pub mod Finds
 pub mod Relinks
 pub mod Carving
 pub mod CarveWhole
+pub mod Added
 pub mod Choices
 pub mod Sound
 pub mod Rows

@@ -1,8 +1,8 @@
 -- Cells that touch stand side by side in one bin.
-use Rattle.std.proofs.Common.{◌≡◌, ℕ, zero, suc, ◌+◌, ◌-◌, ◌<◌, ◌≤◌, Bool, true, false, List, [], ◌∷◌, ◌++◌, length, refl, sym, ap, ◌∙◌, subst, arith, append_assoc}
+use Rattle.std.proofs.Common.{◌≡◌, ℕ, ◌+◌, ◌≤◌, List, [], ◌∷◌, ◌++◌, refl, sym, ap, ◌∙◌, subst, arith, append_assoc}
 use Rattle.reg_arena.specs.declared.Cell.{Cell}
-use Rattle.reg_arena.specs.Cells.{Bin, IsCell, Tiles, AreBins, cells_in}
-use Rattle.reg_arena.proofs.Tilings.{Tiles-le, Tiles-back}
+use Rattle.reg_arena.specs.Cells.{Bin, AreBins, cells_in}
+use Rattle.reg_arena.proofs.Tilings.{Tiles-back}
 use Rattle.reg_arena.proofs.Places.{Falls, first, second, falls, Placed, placed, AreBins-at}
 use Rattle.reg_arena.proofs.Contents.{AreOrdered, AreOrdered-AreBins, AreOrdered-back, AreOrdered-Tiles}
 use Rattle.reg_arena.proofs.Frees.{PlacedRow}

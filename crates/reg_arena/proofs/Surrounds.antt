@@ -1,15 +1,15 @@
 -- The free cells beside an allocated one.
-use Rattle.std.proofs.Common.{◌≡◌, ℕ, zero, suc, ◌+◌, ◌-◌, ◌*◌, ◌<◌, ◌≤◌, Bool, true, false, not, cond, ◌⊎◌, inl, inr, List, [], ◌∷◌, ◌++◌, length, get_or, refl, sym, ap, ◌∙◌, subst, arith, append_assoc, ◌&&◌, eqb, Option, Some, None}
+use Rattle.std.proofs.Common.{◌≡◌, ℕ, zero, suc, ◌+◌, ◌-◌, ◌*◌, ◌<◌, ◌≤◌, Bool, true, false, not, cond, inl, inr, List, [], ◌∷◌, ◌++◌, length, refl, sym, ap, ◌∙◌, subst, arith, append_assoc, ◌&&◌, eqb}
 use Rattle.std.proofs.lemmas.Bool.{eqb-true, eq-eqb, leb-false, lt-ltb}
 use Rattle.std.specs.List.{AllByRecursion}
 use Rattle.reg_heap.specs.Words.{word}
 use Rattle.reg_arena.specs.declared.Cell.{Cell}
-use Rattle.reg_arena.specs.Cells.{Bin, IsCell, Tiles, AreBins, cells_in, size_in, is_allocated_in}
+use Rattle.reg_arena.specs.Cells.{Bin, Tiles, AreBins, cells_in, size_in, is_allocated_in}
 use Rattle.reg_arena.specs.Free.{Touch, AreApart}
-use Rattle.reg_arena.specs.NewCells.{used, unused}
+use Rattle.reg_arena.specs.NewCells.{unused}
 use Rattle.reg_arena.specs.Tables.{ending}
 use Rattle.reg_arena.specs.Frees.{IsFreePiece, IsRight, start_of}
-use Rattle.reg_arena.proofs.Tilings.{sizes, Tiles-back}
+use Rattle.reg_arena.proofs.Tilings.{Tiles-back}
 use Rattle.reg_arena.proofs.Places.{Placed, placed, stands, AreBins-at}
 use Rattle.reg_arena.proofs.Contents.{IsBeside, AreOrdered, AreOrdered-AreBins, besides-before, besides-after}
 use Rattle.reg_arena.proofs.CarveWhole.{as_unused, free-size, free-flag}

@@ -1,11 +1,12 @@
 -- A free cell out of its list, while the cells are not yet what the list says.
-use Rattle.std.proofs.Common.{◌≡◌, ℕ, suc, ◌+◌, ◌*◌, ◌/◌, ◌<◌, ◌≤◌, Bool, false, not, ◌⊎◌, inl, inr, List, [], ◌∷◌, ◌++◌, length, get_or, refl, sym, ap, ◌∙◌, subst, arith, append_assoc, length-append, eqb, cond, true}
+use Rattle.std.proofs.Common.{◌≡◌, ℕ, ◌+◌, ◌*◌, ◌/◌, ◌<◌, ◌≤◌, false, ◌⊎◌, inl, inr, List, [], ◌∷◌, ◌++◌, length, get_or, refl, sym, ap, ◌∙◌, subst, arith, append_assoc, length-append, eqb, cond, true}
 use Rattle.std.proofs.lemmas.Bool.{eq-eqb, ne_eqb}
 use Rattle.std.specs.List.{AllByRecursion}
 use Rattle.reg_heap.specs.Words.{word}
 use Rattle.reg_arena.specs.declared.Cell.{Cell}
 use Rattle.reg_arena.specs.Cells.{Bin, AreBins, cells_in, content_in}
-use Rattle.reg_arena.specs.Free.{Follows, times, free_of, linked, head_after}
+use Rattle.reg_heap.specs.Kinds.{times}
+use Rattle.reg_arena.specs.Free.{Follows, free_of, linked, head_after}
 use Rattle.reg_arena.specs.Arena.{one_class}
 use Rattle.reg_arena.specs.Tables.{AreBacks, marked}
 use Rattle.reg_arena.specs.Frees.{InList, Unlinks}

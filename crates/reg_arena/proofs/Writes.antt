@@ -4,6 +4,8 @@ use Rattle.std.proofs.lemmas.List.{ext_get_or, get_or-take, get_or-drop}
 use Rattle.std.proofs.lemmas.Bool.{cases_eq, cases_lt, eq-eqb, ne_eqb}
 use Rattle.std.specs.List.{AllByRecursion}
 use Rattle.reg_heap.specs.Words.{word, splice, SameOutside}
+use Rattle.reg_heap.specs.Heaps.{Writes}
+use Rattle.reg_heap.proofs.Swapping.{writes_one}
 use Rattle.reg_arena.specs.declared.Cell.{Cell}
 use Rattle.reg_arena.specs.Cells.{Bin, IsCell, Tiles, AreBins, cells_in, content_in, size_in, cell_at, cells_of}
 use Rattle.reg_arena.specs.Free.{free_of, Follows, IsFreeList, AreLists}
@@ -114,6 +116,7 @@ pub record Wrote (old new heads counts : List ℕ) (cell at : ℕ) (piece : List
   pub long : length new ≡ length old
   pub links : (cells : List Cell) → cells_of old ≡ Some cells → (k head : ℕ) (offsets : List ℕ) → IsFreeList one_class k old head cells offsets → Follows new head offsets
   pub contents : (offset : ℕ) → cell_at new offset ≡ cond (eqb offset cell) (Some (splice at piece (unwrap_or (cell_at old cell) []))) (cell_at old offset)
+  pub writes : Writes (cell_at old) (cell_at new) (cell ∷ [])
 
 contents-by : (old new : List ℕ) (xs : List Cell) (c : Cell) (ys : List Cell) (value : List ℕ) (offset : ℕ) → c.allocated ≡ true → take (c.size - 4) (drop (c.offset + 4) new) ≡ value → content_in new xs offset ≡ content_in old xs offset → content_in new ys offset ≡ content_in old ys offset → (offset ≡ c.offset → content_in new xs offset ≡ None) → (offset ≡ c.offset) ⊎ (offset ≡ c.offset → ⊥) → content_in new (xs ++ c ∷ ys) offset ≡ cond (eqb offset c.offset) (Some value) (content_in old (xs ++ c ∷ ys) offset)
 contents-by old new xs c ys value offset a v x y n (inl e) =
@@ -154,6 +157,11 @@ wrote-by old heads counts at piece a xs c ys e used content fits =
     let own : Clear c = λ f. absurd (cc (f, used)) in
     let clear : AllByRecursion Clear (cells_in a.layout) = subst (AllByRecursion Clear) (sym e) (all-append Clear xs (c ∷ ys) (clear-cells _ _ xs before) (own, clear-cells _ _ ys after)) in
     let part : take (c.size - 4) (drop (c.offset + 4) new) ≡ splice at piece (unwrap_or (cell_at old c.offset) []) = piece-splice (c.size - 4) (c.offset + 4) at piece old room (omega arith) ∙ ap (splice at piece) (sym value) in
+    let contents : (offset : ℕ) → cell_at new offset ≡ cond (eqb offset c.offset) (Some (splice at piece (unwrap_or (cell_at old c.offset) []))) (cell_at old offset) = λ offset.
+    cell_at-AreBins new a.layout offset tiled ∙ ap (λ cs. content_in new cs offset) e
+    ∙ contents-by old new xs c ys (splice at piece (unwrap_or (cell_at old c.offset) [])) offset used part (content_in-beside s xs offset before) (content_in-beside s ys offset after)
+    (λ f. content_in-none c.offset (c.offset + c.size) new xs offset before (omega arith) (omega arith)) (cases_eq offset c.offset)
+    ∙ sym (ap (λ o. cond (eqb offset c.offset) (Some (splice at piece (unwrap_or (cell_at old c.offset) []))) o) (cell_at-AreBins old a.layout offset a.tiled ∙ ap (λ cs. content_in old cs offset) e)) in
     record {
       arena = record {
         layout = a.layout;
@@ -169,11 +177,8 @@ wrote-by old heads counts at piece a xs c ys e used content fits =
       links = λ cells found k head offsets h.
           let same : cells_in a.layout ≡ cells = some-inj _ _ (sym (cells_of-AreBins old a.layout a.tiled) ∙ found) in
           (IsFreeList-same s one_class k head cells offsets (subst (AllByRecursion Clear) same clear) h).follows;
-      contents = λ offset.
-          cell_at-AreBins new a.layout offset tiled ∙ ap (λ cs. content_in new cs offset) e
-          ∙ contents-by old new xs c ys (splice at piece (unwrap_or (cell_at old c.offset) [])) offset used part (content_in-beside s xs offset before) (content_in-beside s ys offset after)
-          (λ f. content_in-none c.offset (c.offset + c.size) new xs offset before (omega arith) (omega arith)) (cases_eq offset c.offset)
-          ∙ sym (ap (λ o. cond (eqb offset c.offset) (Some (splice at piece (unwrap_or (cell_at old c.offset) []))) o) (cell_at-AreBins old a.layout offset a.tiled ∙ ap (λ cs. content_in old cs offset) e));
+      contents = contents;
+      writes = writes_one (cell_at old) (cell_at new) c.offset _ (ap is_some content) contents;
     }
 
 pub wrote : (old heads counts : List ℕ) (cell at : ℕ) (piece : List ℕ) → IsArena old heads counts → is_some (cell_at old cell) ≡ true → at + length piece ≤ length (unwrap_or (cell_at old cell) []) → Wrote old (splice (cell + 4 + at) piece old) heads counts cell at piece

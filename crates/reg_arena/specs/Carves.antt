@@ -1,6 +1,7 @@
 -- What a carve does to the cells.
 use Rattle.std.specs.Prelude.{◌≡◌, ℕ, zero, suc, ◌+◌, ◌-◌, ◌≤◌, ◌<◌, ◌⊎◌, false, List, [], ◌∷◌, ◌++◌, length, get_or, Option, Some, None, IsSome}
 use Rattle.std.specs.List.{AllByRecursion}
+use Rattle.reg_heap.specs.Heaps.{AreNew}
 use Rattle.reg_arena.specs.declared.Cell.{Cell}
 use Rattle.reg_arena.specs.Cells.{cells_of, cell_at}
 use Rattle.reg_arena.specs.NewBin.{AppendsBin}
@@ -56,3 +57,4 @@ pub record AddsCells (old new : List ℕ) (sizes : List ℕ) (offsets : List ℕ
   pub offsets_are : offsets ≡ offsets_of at sizes
   pub contents : (offset : ℕ) → cell_at new offset ≡ or_else (zeroed at sizes offset) (cell_at old offset)
   pub fresh : (offset : ℕ) → IsSome (zeroed at sizes offset) → cell_at old offset ≡ None
+  pub are_new : AreNew (cell_at old) (cell_at new) offsets sizes

@@ -4,6 +4,7 @@ use Rattle.std.specs.Prelude.{◌≡◌, ℕ, ◌+◌, ◌<◌, Bool, false, not
 use Rattle.std.specs.List.{AllByRecursion}
 use Rattle.byteorder.specs.Endian.{little_bytes}
 use Rattle.reg_heap.specs.Words.{word, splice}
+use Rattle.reg_heap.specs.Kinds.{times}
 use Rattle.reg_arena.specs.declared.Cell.{Cell}
 use Rattle.reg_arena.specs.Cells.{size_in}
 
@@ -52,11 +53,6 @@ TakesOut old head count previous cell total new head' count' =
     let next = word old (cell + 4) in
     ((size ≡ total) × (new ≡ linked previous next old) × (head' ≡ head_after previous next head) × (count' + 1 ≡ count))
     ⊎ ((total < size) × (new ≡ freed (cell + total) (size - total) next (linked previous (cell + total) old)) × (head' ≡ head_after previous (cell + total) head) × (count' ≡ count))
-
--- how often an offset occurs
-abbrev pub times : ℕ → List ℕ → ℕ
-times offset [] = 0
-times offset (other ∷ offsets) = (if other == offset then 1 else 0) + times offset offsets
 
 -- the free cells of a class
 abbrev pub is_free_of : (ℕ → ℕ) → ℕ → Cell → Bool

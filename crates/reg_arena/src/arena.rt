@@ -1,5 +1,6 @@
 //! The arena as callers see it.
 ghost use Rattle.std.specs.Prelude.{◌≡◌, ◌==◌, ◌+◌, ◌-◌, ◌≤◌, ◌<◌, ℕ, List, [], ◌∷◌, ◌++◌, length, take, drop, IsSome, Some, None, unwrap_or, if◌then◌else◌, IfOk, IfErr, OnOk, OnErr, ◌↔◌};
+ghost use Rattle.reg_heap.specs.Heaps.{GivesUp, Writes};
 ghost use Rattle.reg_heap.specs.Words.{splice, word};
 ghost use Rattle.reg_arena.specs.Arena.{IsSound};
 ghost use Rattle.reg_arena.specs.NewCells.{total_of, AreSizes};
@@ -107,6 +108,7 @@ impl Arena {
         requires exists { IsSome (cell_at self.old.bytes cell) }
         requires fits { at + length bytes.now ≤ length (unwrap_or (cell_at self.old.bytes cell) []) }
         ensures written { (offset : ℕ) → cell_at self.new.bytes offset ≡ (if offset == cell then Some (splice at bytes.now (unwrap_or (cell_at self.old.bytes cell) [])) else cell_at self.old.bytes offset) }
+        ensures writes { Writes (cell_at self.old.bytes) (cell_at self.new.bytes) (cell ∷ []) }
         ensures cells { cells_of self.new.bytes ≡ cells_of self.old.bytes }
         ensures heads { self.new.heads ≡ self.old.heads }
         ensures bytes { self.new.bytes ≡ splice (cell + 4 + at) bytes.now self.old.bytes }
@@ -121,6 +123,7 @@ impl Arena {
         requires exists { IsSome (cell_at self.old.bytes cell) }
         requires whole { length bytes.now ≡ length (unwrap_or (cell_at self.old.bytes cell) []) }
         ensures written { (offset : ℕ) → cell_at self.new.bytes offset ≡ (if offset == cell then Some bytes.now else cell_at self.old.bytes offset) }
+        ensures writes { Writes (cell_at self.old.bytes) (cell_at self.new.bytes) (cell ∷ []) }
         ensures cells { cells_of self.new.bytes ≡ cells_of self.old.bytes }
         ensures heads { self.new.heads ≡ self.old.heads }
     {
@@ -134,6 +137,7 @@ impl Arena {
         requires source { from + len ≤ length (unwrap_or (cell_at self.old.bytes cell) []) }
         requires fits { at + len ≤ length (unwrap_or (cell_at self.old.bytes cell) []) }
         ensures written { (offset : ℕ) → cell_at self.new.bytes offset ≡ (if offset == cell then Some (splice at (take len (drop from (unwrap_or (cell_at self.old.bytes cell) []))) (unwrap_or (cell_at self.old.bytes cell) [])) else cell_at self.old.bytes offset) }
+        ensures writes { Writes (cell_at self.old.bytes) (cell_at self.new.bytes) (cell ∷ []) }
         ensures cells { cells_of self.new.bytes ≡ cells_of self.old.bytes }
         ensures heads { self.new.heads ≡ self.old.heads }
     {
@@ -148,6 +152,7 @@ impl Arena {
         requires within { from + len ≤ length (unwrap_or (cell_at self.old.bytes source) []) }
         requires fits { at + len ≤ length (unwrap_or (cell_at self.old.bytes cell) []) }
         ensures written { (offset : ℕ) → cell_at self.new.bytes offset ≡ (if offset == cell then Some (splice at (take len (drop from (unwrap_or (cell_at self.old.bytes source) []))) (unwrap_or (cell_at self.old.bytes cell) [])) else cell_at self.old.bytes offset) }
+        ensures writes { Writes (cell_at self.old.bytes) (cell_at self.new.bytes) (cell ∷ []) }
         ensures cells { cells_of self.new.bytes ≡ cells_of self.old.bytes }
         ensures heads { self.new.heads ≡ self.old.heads }
     {
@@ -160,10 +165,12 @@ impl Arena {
     /// free cell. The other cells keep what they hold. It takes no memory, and constant time.
     ///
     /// Suhanov, Windows registry file format specification, section "Cell".
+    #[tactic(auto, using(reg_heap::proofs::Swapping::gives_up_one))]
     pub fn free(&mut self, cell: u32)
         requires { IsSome (cell_at self.old.bytes cell) }
         ensures frees { Frees self.old.bytes self.new.bytes cell }
         ensures contents { (offset : ℕ) → cell_at self.new.bytes offset ≡ (if offset == cell then None else cell_at self.old.bytes offset) }
+        ensures gone { GivesUp (cell_at self.old.bytes) (cell_at self.new.bytes) (cell ∷ []) }
     {
         free_cell(
             &mut self.bins,

@@ -71,6 +71,7 @@ fn carve_at(
 }
 
 // Carves from the free cell at `place`.
+#[tactic(auto, using(crate::proofs::Added::adds_cells))]
 pub fn carve_found(
     bins: &mut Vec<u8>,
     head: &mut u32,
@@ -100,6 +101,7 @@ pub fn carve_found(
 }
 
 // Carves from the free cell of a new bin.
+#[tactic(auto, using(crate::proofs::Added::adds_cells_in_bin))]
 pub fn carve_bin(
     bins: &mut Vec<u8>,
     head: &mut u32,

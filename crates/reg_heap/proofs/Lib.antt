@@ -1,3 +1,4 @@
 pub mod Opened
+pub mod Swapping
 pub mod Children
 pub mod Rows

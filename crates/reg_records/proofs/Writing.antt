@@ -1,5 +1,5 @@
 -- Parts written into a cell, and what the cell reads as.
-use Rattle.std.proofs.Common.{◌≡◌, ℕ, ◌+◌, ◌≤◌, Bool, true, false, cond, List, [], ◌++◌, length, take, drop, Option, Some, None, IsSome, unwrap_or, subst, refl, sym, ap, ◌∙◌, arith, append_assoc, eqb}
+use Rattle.std.proofs.Common.{◌≡◌, ℕ, ◌+◌, ◌≤◌, Bool, true, false, cond, List, [], ◌∷◌, ◌++◌, length, take, drop, Option, Some, None, IsSome, unwrap_or, subst, refl, sym, ap, ◌∙◌, arith, append_assoc, eqb}
 use Rattle.std.proofs.lemmas.Bool.{eq-eqb, ne_eqb, false≢true}
 use Rattle.std.proofs.lemmas.Option.{none-some, same_Some, option_and_then_some}
 use Rattle.std.proofs.lemmas.List.{drop-drop, drop_at}
@@ -8,6 +8,8 @@ use Rattle.std.specs.Prelude.{Result, Ok, Err}
 use Rattle.std.specs.Option.{option_and_then}
 use Rattle.std.specs.Result.{result_ok}
 use Rattle.reg_heap.specs.Words.{splice}
+use Rattle.reg_heap.specs.Heaps.{Writes}
+use Rattle.reg_heap.proofs.Swapping.{writes_twice}
 use Rattle.reg_arena.specs.Arena.{Bins}
 use Rattle.reg_arena.specs.Cells.{cells_of, cell_at}
 use Rattle.reg_records.proofs.Splices.{length-splice}
@@ -17,13 +19,15 @@ use Rattle.reg_records.specs.Cells.{Heap, held, read_at, HasRoom, WritesCell}
 pub wrote : (old new : Bins) (cell at : ℕ) (piece : List ℕ) → HasRoom (cell_at old.bytes) cell (at + length piece)
     → ((offset : ℕ) → cell_at new.bytes offset ≡ cond (eqb offset cell) (Some (splice at piece (held (cell_at old.bytes) cell))) (cell_at old.bytes offset))
     → cells_of new.bytes ≡ cells_of old.bytes → new.heads ≡ old.heads
+    → Writes (cell_at old.bytes) (cell_at new.bytes) (cell ∷ [])
     → WritesCell old new cell (splice at piece (held (cell_at old.bytes) cell))
-wrote old new cell at piece room written cells heads = record {
+wrote old new cell at piece room written cells heads writes = record {
   here = written cell ∙ rw (eq-eqb cell cell refl) refl;
   as_many = length-splice at piece (held (cell_at old.bytes) cell) room.enough;
   others = λ offset n. written offset ∙ rw (ne_eqb offset cell n) refl;
   cells = cells;
   heads = heads;
+  writes = writes;
 }
 
 -- a head and a tail, written one after the other
@@ -54,6 +58,7 @@ wrote_record old between new cell head tail first second =
       others = λ offset n. second.others offset n ∙ first.others offset n;
       cells = second.cells ∙ first.cells;
       heads = second.heads ∙ first.heads;
+      writes = writes_twice _ (cell_at between.bytes) _ (cell ∷ []) first.writes second.writes;
     }
 
 -- a cell reads as what its content reads as

@@ -1,8 +1,9 @@
 -- Cells, as the records in them are read and written.
-use Rattle.std.specs.Prelude.{◌≡◌, ◌≢◌, ℕ, ◌≤◌, List, [], ◌++◌, length, drop, Option, Some, IsSome, unwrap_or, Result}
+use Rattle.std.specs.Prelude.{◌≡◌, ◌≢◌, ℕ, ◌≤◌, List, [], ◌∷◌, ◌++◌, length, drop, Option, Some, IsSome, unwrap_or, Result}
 use Rattle.std.specs.Option.{option_and_then}
 use Rattle.std.specs.Result.{result_ok}
 use Rattle.reg_heap.specs.Words.{splice}
+use Rattle.reg_heap.specs.Heaps.{Writes}
 use Rattle.reg_arena.specs.Arena.{Bins}
 use Rattle.reg_arena.specs.Cells.{cells_of, cell_at}
 
@@ -30,6 +31,7 @@ pub record WritesCell (old new : Bins) (cell : ℕ) (content : List ℕ) : Type 
   pub others : (offset : ℕ) → offset ≢ cell → cell_at new.bytes offset ≡ cell_at old.bytes offset
   pub cells : cells_of new.bytes ≡ cells_of old.bytes
   pub heads : new.heads ≡ old.heads
+  pub writes : Writes (cell_at old.bytes) (cell_at new.bytes) (cell ∷ [])
 
 -- the cell begins with these bytes, a record of that size, and what followed them stays
 abbrev pub WritesRecord : Bins → Bins → ℕ → ℕ → List ℕ → Type 0

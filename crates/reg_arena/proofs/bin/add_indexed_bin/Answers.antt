@@ -1,4 +1,4 @@
-use Rattle.std.proofs.Common.{arith, ◌≡◌, ◌+◌, ◌/◌, length, refl, ap, ◌∙◌}
+use Rattle.std.proofs.Common.{arith, ◌≡◌, ◌+◌, ◌/◌, length, ap}
 use Rattle.reg_arena.proofs.Indexed.{indexed-longer, indexed-bin, head-in, room-enough}
 use Rattle.reg_arena.proofs.bin.add_indexed_bin.Goals as goal
 

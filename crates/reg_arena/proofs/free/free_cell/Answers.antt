@@ -1,6 +1,7 @@
-use Rattle.std.proofs.Common.{arith, ◌≡◌, ◌+◌, ◌-◌, ◌*◌, ◌/◌, ◌≤◌, ◌<◌, length}
+use Rattle.std.proofs.Common.{arith, ◌+◌, ◌-◌, ◌*◌, ◌/◌, ◌≤◌, ◌<◌, length}
 use Rattle.std.proofs.lemmas.List.{length-set}
-use Rattle.reg_arena.specs.Free.{times, chain}
+use Rattle.reg_heap.specs.Kinds.{times}
+use Rattle.reg_arena.specs.Free.{chain}
 use Rattle.reg_arena.proofs.Writes.{found}
 use Rattle.reg_arena.proofs.Unlinks.{detached, in_list}
 use Rattle.reg_arena.proofs.FreeWhole.{site, around, threads, right-in, left-still}

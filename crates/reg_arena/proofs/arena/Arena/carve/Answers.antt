@@ -1,4 +1,4 @@
-use Rattle.std.proofs.Common.{arith, ◌≡◌, ◌≢◌, length, sym, ◌∙◌, refl}
+use Rattle.std.proofs.Common.{arith, ◌≢◌, length, sym, ◌∙◌, refl}
 use Rattle.std.proofs.lemmas.Bool.{eqb-false}
 use Rattle.reg_arena.specs.Free.{NoneFits, IsFit, chain}
 use Rattle.reg_arena.proofs.Choices.{total-positive, chain-within, no-fit, fit-some}

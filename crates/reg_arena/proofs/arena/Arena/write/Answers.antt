@@ -14,3 +14,6 @@ returns-clause-written c = rw (c.write_part.ensures, ← c.self.view_is) (wrote 
 
 pub returns-clause-cells : goal.returns-clause-cells
 returns-clause-cells c = rw (c.write_part.ensures, ← c.self.view_is) (wrote _ _ _ c.args.cell c.args.at c.args.bytes.now c.self.invariant.arena (rw (← c.self.view_is) at c.requires.exists) (rw (← c.self.view_is) at c.requires.fits)).cells
+
+pub returns-clause-writes : goal.returns-clause-writes
+returns-clause-writes c = rw (c.write_part.ensures, ← c.self.view_is) (wrote _ _ _ c.args.cell c.args.at c.args.bytes.now c.self.invariant.arena (rw (← c.self.view_is) at c.requires.exists) (rw (← c.self.view_is) at c.requires.fits)).writes
