@@ -19,7 +19,7 @@ pub state-kept : {origin : Tree} {es : List Entry} {tree : Tree} {handles : List
 state-kept {es = es} kept = λ i. record { count = length es; world = record { tree = sym kept.tree_is i; handles = sym kept.handles_are i } }
 
 -- the same at a hive's view
-pub state-view : {origin : Tree} {es : List Entry} {tree : Tree} {handles : List Handle} {room : ℕ} (keys : Keys) (v : View) → IsKept origin es tree handles room → record { origin = origin; journal = es; keys = keys } ≡ v → state v ≡ found es tree handles
+pub state-view : {origin : Tree} {es : List Entry} {tree : Tree} {handles : List Handle} {room : ℕ} (keys : Keys) (v : View) → IsKept origin es tree handles room → record { origin = origin; journal = es; keys = keys; handles = handles } ≡ v → state v ≡ found es tree handles
 state-view keys v kept e = ap state (sym e) ∙ state-kept kept
 
 pub root-mask : (s : State) (session mask : ℕ) → (bit_and mask 4293984192 ≢ 0) → change_cause s session (OpenRoot mask) 0 ≡ Some 87

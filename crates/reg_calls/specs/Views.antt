@@ -1,9 +1,9 @@
 -- What callers see of a hive, and what is true of every hive.
 use Rattle.std.specs.Prelude.{◌≡◌, ℕ, ◌+◌, ◌<◌, ◌≤◌, List, [], ◌∷◌, ◌++◌, length, Option, Some, None, All, ◌⊎◌, refl, is_some}
-use Rattle.std.specs.Coded.{Coded, code_by, coded×, coded_list}
+use Rattle.std.specs.Coded.{Coded, code_by, coded×, coded_ℕ, coded_list, coded_option}
 use Rattle.std.specs.FinMap.{insert, empty}
-use Rattle.reg_heap.specs.Paths.{Tree, Rec, coded_tree}
-use Rattle.reg_model.specs.Worlds.{Handle, At}
+use Rattle.reg_heap.specs.Paths.{Path, Tree, Rec, coded_bytes, coded_tree}
+use Rattle.reg_model.specs.Worlds.{Handle, Place, At, Deleted}
 use Rattle.reg_model.specs.Causes.{State, query_cause}
 use Rattle.reg_model.specs.Replies.{reply_to, refusal, body_of}
 use Rattle.reg_model.specs.Histories.{state_of, IsLegal, replay}
@@ -17,16 +17,38 @@ use Rattle.reg_model.specs.declared.call.Change.TheVariants.{OpenRoot, SetValue}
 use Rattle.reg_model.specs.declared.call.Query.{Query}
 use Rattle.reg_calls.specs.Roots.{Keys, coded_keys, HasNoSpace}
 
--- a hive: the tree that it was made with, its journal, and its keys in their bins
+-- a hive: the tree that it was made with, its journal, its keys in their bins, and its open handles in the order of their numbers
 pub record View : Type 0 where
   pub origin : Tree
   pub journal : List Entry
   pub keys : Keys
+  pub handles : List Handle
+
+-- a place as the path that it leads to, if it leads to one
+abbrev pub path_to : Place → Option Path
+path_to (At path) = Some path
+path_to Deleted = None
+
+abbrev pub place_of : Option Path → Place
+place_of (Some path) = At path
+place_of None = Deleted
+
+pub place-path : (place : Place) → place_of (path_to place) ≡ place
+place-path (At path) = refl
+place-path Deleted = refl
+
+abbrev pub coded_place : Coded Place
+coded_place = code_by (Option Path) (coded_option (coded_list coded_bytes)) path_to place_of place-path
+
+abbrev pub coded_handle : Coded Handle
+coded_handle =
+    code_by ((ℕ × ℕ) × (ℕ × Place)) (coded× (coded× coded_ℕ coded_ℕ) (coded× coded_ℕ coded_place)) (λ h. ((h.number, h.session), (h.mask, h.place)))
+    (λ p. record { number = p.0.0; session = p.0.1; mask = p.1.0; place = p.1.1 }) (λ _. refl)
 
 abbrev pub coded_view : Coded View
 coded_view =
-    code_by (Tree × (List Entry × Keys)) (coded× coded_tree (coded× (coded_list the_row.coded) coded_keys)) (λ v. (v.origin, (v.journal, v.keys)))
-    (λ p. record { origin = p.0; journal = p.1.0; keys = p.1.1 }) (λ _. refl)
+    code_by ((Tree × List Entry) × (Keys × List Handle)) (coded× (coded× coded_tree (coded_list the_row.coded)) (coded× coded_keys (coded_list coded_handle)))
+    (λ v. ((v.origin, v.journal), (v.keys, v.handles))) (λ p. record { origin = p.0.0; journal = p.0.1; keys = p.1.0; handles = p.1.1 }) (λ _. refl)
 
 -- where a call finds the hive
 abbrev pub state : View → State

@@ -86,6 +86,14 @@ impl Hive {
         self.core.len()
     }
 
+    /// How many handles are open, of all sessions. They are those of the journal's replay.
+    pub fn open_handles(&self) -> usize
+        ensures number { result ≡ length (view_of self.now).handles }
+        ensures replayed { (view_of self.now).handles ≡ (replay (view_of self.now).origin (view_of self.now).journal).handles }
+    {
+        self.core.open_handles()
+    }
+
     /// The entry of that number.
     pub fn entry(&self, place: usize) -> Option<&Entry>
         ensures { option_copied result ≡ slice_get (view_of self.now).journal place }

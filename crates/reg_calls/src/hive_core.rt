@@ -67,7 +67,7 @@ impl Model for Core {
 
     ghost coded = { coded_view };
 
-    ghost view = { λ h. record { origin = h.origin.value.tree; journal = h.journal.entries; keys = h.tree } };
+    ghost view = { λ h. record { origin = h.origin.value.tree; journal = h.journal.entries; keys = h.tree; handles = h.handles } };
 
     ghost invariant = { λ h. IsKept h.origin.value.tree h.journal.entries h.tree.tree h.handles h.journal.room };
 }
@@ -118,6 +118,7 @@ impl Core {
         ensures origin { result.origin ≡ tree.tree }
         ensures journal { result.journal ≡ [] }
         ensures keys { result.keys ≡ tree }
+        ensures handles { result.handles ≡ [] }
     {
         let origin = Snapshot::of(&tree);
         Core {
@@ -135,6 +136,13 @@ impl Core {
         ensures legal { IsLegal self.now.origin self.now.journal }
     {
         self.journal.len()
+    }
+
+    pub fn open_handles(&self) -> usize
+        ensures number { result ≡ length self.now.handles }
+        ensures replayed { self.now.handles ≡ (replay self.now.origin self.now.journal).handles }
+    {
+        self.handles.len()
     }
 
     pub fn entry(&self, place: usize) -> Option<&Entry>

@@ -1,8 +1,1 @@
-pub mod Words
-pub mod Meanings
-pub mod Texts
-pub mod Lines
-pub mod Outputs
-pub mod Readings
-pub mod Progress
-pub mod Ample
+pub mod Failures

@@ -1,16 +1,9 @@
 //! The command-line tool: `regtool run` reads a script of registry calls on standard input and writes the replies.
 #![tactic(auto)]
 
-mod engine;
-pub mod laws;
-mod line;
-mod output;
-mod parse;
-mod reply;
 #[cfg(test)]
 mod tests;
 mod tool;
-mod words;
 
 use std::process::ExitCode;
 use std::{env, io};

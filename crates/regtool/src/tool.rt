@@ -1,11 +1,12 @@
-ghost use Rattle.std.specs.Prelude.{◌≡◌, ◌≤◌, ℕ, List, OnOk};
+ghost use Rattle.std.specs.Prelude.{◌≡◌, ◌≤◌, ℕ, List, OnOk, IfErr};
 ghost use Rattle.std.specs.Io.KnownBytes.{IsAtEnd, Appends, Consumes};
-ghost use Rattle.regtool.specs.Lines.{Writes};
+ghost use Rattle.reg_script.specs.Lines.{Writes};
+ghost use Rattle.regtool.specs.Failures.{IsUntouched, IsBefore, IsFailure, IsStopped};
 
-use crate::engine::{ScriptFault, run};
 use clap::error::ErrorKind;
 use clap::{Command, Error};
 use reg_calls::Hive;
+use reg_script::{ScriptFault, run};
 use std::alloc::Global;
 use std::io::{Read, Write};
 
@@ -41,7 +42,9 @@ fn check_words<'a>(alloc: Global, words: &'a [String]) -> Result<(), Error> {
     Ok(())
 }
 
-fn usage(alloc: Global, error: &Error) -> Failure {
+fn usage(alloc: Global, error: &Error) -> Failure
+    ensures { IsBefore result }
+{
     if error.kind() == ErrorKind::OutOfMemory {
         return Failure::Memory;
     }
@@ -60,6 +63,7 @@ fn attempt<R: Read, W: Write>(
     ensures at_end { OnOk result (IsAtEnd (R.remaining input.new)) }
     ensures lines { OnOk result ((script : List ℕ) × (text : List ℕ) × Consumes (R.remaining input.old) (R.remaining input.new) script
         × Writes script text × Appends (W.contents output.old) (W.contents output.new) text) }
+    ensures failure { IfErr result (λ failure. IsFailure failure (R.remaining input.old) (R.remaining input.new) (W.contents output.old) (W.contents output.new)) }
 {
     if let Err(error) = check_words(alloc, words) {
         return Err(usage(alloc, &error));
@@ -87,6 +91,8 @@ pub fn tool<R: Read, W: Write, E: Write>(
     ensures read { result ≡ 0 → IsAtEnd (R.remaining input.new) }
     ensures lines { result ≡ 0 → (script : List ℕ) × (text : List ℕ) × Consumes (R.remaining input.old) (R.remaining input.new) script
         × Writes script text × Appends (W.contents output.old) (W.contents output.new) text }
+    ensures stopped { result ≡ 1 → IsStopped (R.remaining input.old) (R.remaining input.new) (W.contents output.old) (W.contents output.new) }
+    ensures usage { result ≡ 2 → IsUntouched (R.remaining input.old) (R.remaining input.new) (W.contents output.old) (W.contents output.new) }
 {
     match attempt(alloc, words.as_slice(), input, output) {
         Ok(()) => 0,

@@ -1,0 +1,13 @@
+use Rattle.std.proofs.Common.{rules}
+use Rattle.reg_script.proofs.Errors.{if_err}
+use Rattle.reg_script.proofs.Progress.{begun_said}
+use Rattle.reg_script.proofs.engine.Script.end.Goals as goal
+
+pub returns-clause-ok : goal.returns-clause-ok
+returns-clause-ok c =
+    λ no_feed.
+    let said = c.in_ok-end_line.ensures.said in
+    (said.0, begun_said _ _ _ _ (search rules) no_feed said.1, said.2, said.3)
+
+pub returns-in_err-end_line-clause-err : goal.returns-in_err-end_line-clause-err
+returns-in_err-end_line-clause-err c = if_err _ c.from_residual.result _ c.from_residual.ensures.1 c.in_err-end_line.ensures.err

@@ -1,0 +1,9 @@
+pub mod Words
+pub mod Meanings
+pub mod Texts
+pub mod Lines
+pub mod Outputs
+pub mod Stops
+pub mod Readings
+pub mod Progress
+pub mod Ample

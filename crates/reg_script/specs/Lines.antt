@@ -1,0 +1,57 @@
+-- What a script writes (this project's own rules of the script).
+use Rattle.std.specs.Prelude.{◌≡◌, ℕ, List, [], ◌∷◌, ◌++◌, codes, replicate}
+use Rattle.std.specs.FinMap.{insert, empty}
+use Rattle.reg_model.specs.declared.step.Outcome.{Outcome}
+use Rattle.reg_calls.specs.Roots.{made_root}
+use Rattle.reg_calls.specs.Views.{View}
+use Rattle.reg_calls.specs.Runs.{IsStep}
+use Rattle.reg_script.specs.Words.{lines_of}
+use Rattle.reg_script.specs.Meanings.{Meaning, nothing, at_moment, as_session, on_hive, asks, bad, meaning_of}
+use Rattle.reg_script.specs.Texts.{outcome_text}
+
+-- where a script stands between two lines: the hive, and the settings
+pub record Stand : Type 0 where
+  pub hive : View
+  pub moment : ℕ
+  pub session : ℕ
+
+-- a line that gives no reply, and takes the script there
+abbrev pub IsSilent : Stand → List ℕ → Stand → Type 0
+IsSilent there text new = (text ≡ []) × (new ≡ there)
+
+-- a line's reply, and where the script stands after it: a call is answered at the moment and of the session that are set
+abbrev pub IsSaid : Meaning → Stand → List ℕ → Stand → Type 0
+IsSaid nothing old text new = IsSilent old text new
+IsSaid (at_moment moment) old text new = IsSilent (record old { moment = moment }) text new
+IsSaid (as_session session) old text new = IsSilent (record old { session = session }) text new
+IsSaid on_hive old text new = IsSilent old text new
+IsSaid bad old text new = (text ≡ codes "bad\n") × (new ≡ old)
+IsSaid (asks call) old text new =
+    (outcome : Outcome) × IsStep old.hive (record { session = old.session; moment = old.moment; call = call }) outcome new.hive × (text ≡ outcome_text outcome) × (new ≡ record old { hive = new.hive })
+
+-- lines after one another, and their replies in one text
+abbrev pub AreSaid : List (List ℕ) → Stand → List ℕ → Stand → Type 0
+AreSaid [] old text new = (text ≡ []) × (new ≡ old)
+AreSaid (line ∷ lines) old text new =
+    (mid : Stand) × (reply : List ℕ) × (rest : List ℕ) × IsSaid (meaning_of line) old reply mid × AreSaid lines mid rest new × (text ≡ reply ++ rest)
+
+-- a script that runs on a hive may write this text, and leave the hive so; the moment and the session are 0 at first
+abbrev pub Lines : View → List ℕ → List ℕ → View → Type 0
+Lines old script text new =
+    (last : Stand) × AreSaid (lines_of script) (record { hive = old; moment = 0; session = 0 }) text last × (last.hive ≡ new)
+
+-- the root's descriptor: a self-relative security descriptor with nothing in it
+abbrev pub fresh_descriptor : List ℕ
+fresh_descriptor = 1 ∷ 0 ∷ 4 ∷ 128 ∷ replicate 16 0
+
+-- a script's hive at first: a root, no entries
+pub record IsFresh (hive : View) : Type 0 where
+  pub origin : hive.origin ≡ insert empty [] (made_root (codes "ROOT") fresh_descriptor 0)
+  pub journal : hive.journal ≡ []
+
+-- a script may write this text
+pub record Writes (script text : List ℕ) : Type 0 where
+  pub fresh : View
+  pub is_fresh : IsFresh fresh
+  pub last : View
+  pub lines : Lines fresh script text last

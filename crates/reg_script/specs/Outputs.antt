@@ -1,0 +1,32 @@
+-- What becomes of the replies on their way to a writer (this project's own).
+use Rattle.std.specs.Prelude.{◌≡◌, ℕ, ◌+◌, ◌≤◌, ◌⊎◌, min, List, [], length, take, Option, Result, Ok, Err}
+use Rattle.std.specs.Io.KnownBytes.{Appends}
+use Rattle.reg_script.specs.declared.engine.ScriptFault.{ScriptFault}
+use Rattle.reg_script.specs.declared.engine.ScriptFault.TheVariants.{Read, Write, TooLong, Memory}
+
+-- a count of 64 bits, which stays at its end
+abbrev pub counted : ℕ → ℕ → ℕ
+counted before count = min (before + count) 18446744073709551615
+
+-- nothing was sent, or all of the text, and none is left; the count of what was sent goes along
+abbrev pub IsSettled : Option (List ℕ) → Option (List ℕ) → List ℕ → List ℕ → ℕ → ℕ → Type 0
+IsSettled old new text left before after = ((new ≡ old) × (left ≡ text) × (after ≡ before)) ⊎ (Appends old new text × (left ≡ []) × (after ≡ counted before (length text)))
+
+-- the writer took a front of the text and no more, and the fault counts all that it ever took
+pub record IsCut (old new : Option (List ℕ)) (text : List ℕ) (before : ℕ) (fault : ScriptFault) : Type 0 where
+  pub count : ℕ
+  pub within : count ≤ length text
+  pub sent : Appends old new (take count text)
+  pub says : fault ≡ Write (counted before count)
+
+-- all of the text was sent, and what ended before is answered; or the writer took a front of it, and that is the fault
+abbrev pub IsSent : Result (Unit {0}) ScriptFault → List ℕ → ℕ → Option (List ℕ) → Option (List ℕ) → Result (Unit {0}) ScriptFault → Type 0
+IsSent ended text before old new result = ((result ≡ ended) × Appends old new text) ⊎ ((fault : ScriptFault) × (result ≡ Err fault) × IsCut old new text before fault)
+
+-- once a script has ended so, what was gathered is sent, unless a write has failed before
+abbrev pub Closes : Result (Unit {0}) ScriptFault → List ℕ → ℕ → Option (List ℕ) → Option (List ℕ) → Result (Unit {0}) ScriptFault → Type 0
+Closes (Ok done) text before old new result = IsSent (Ok done) text before old new result
+Closes (Err Read) text before old new result = IsSent (Err Read) text before old new result
+Closes (Err (Write written)) text before old new result = (result ≡ Err (Write written)) × (new ≡ old)
+Closes (Err TooLong) text before old new result = IsSent (Err TooLong) text before old new result
+Closes (Err Memory) text before old new result = IsSent (Err Memory) text before old new result

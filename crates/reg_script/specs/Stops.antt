@@ -1,0 +1,99 @@
+-- Where a script ends with a fault (this project's own rules of the script).
+use Rattle.std.specs.Prelude.{◌≡◌, ◌≢◌, ℕ, ◌<◌, ◌≤◌, ◌⊎◌, List, [], ◌∷◌, ◌++◌, length, take, Option}
+use Rattle.std.specs.List.{AllByRecursion}
+use Rattle.std.specs.Io.KnownBytes.{Appends, Consumes}
+use Rattle.reg_calls.specs.Views.{View}
+use Rattle.reg_script.specs.declared.engine.ScriptFault.{ScriptFault}
+use Rattle.reg_script.specs.declared.engine.ScriptFault.TheVariants.{Read, Write, TooLong, Memory}
+use Rattle.reg_script.specs.Words.{lines_of}
+use Rattle.reg_script.specs.Meanings.{Meaning, meaning_of}
+use Rattle.reg_script.specs.Lines.{Stand, IsSaid, AreSaid, IsFresh}
+use Rattle.reg_script.specs.Outputs.{counted}
+
+-- the number of a fault
+abbrev pub fault_number : ScriptFault → ℕ
+fault_number Read = 1
+fault_number (Write written) = 2
+fault_number TooLong = 3
+fault_number Memory = 4
+
+-- the longest line of a script, in bytes without its LF, and how many lines it has at most
+unfoldable pub longest_line : ℕ
+longest_line = 2200000
+
+unfoldable pub most_lines : ℕ
+most_lines = 1000000
+
+-- no byte is an LF
+abbrev pub HasNoFeed : List ℕ → Type 0
+HasNoFeed [] = Unit {0}
+HasNoFeed (b ∷ bs) = (b ≢ 10) × HasNoFeed bs
+
+-- lines within the bounds of a script
+pub record AreWithin (lines : List (List ℕ)) : Type 0 where
+  pub few : length lines ≤ most_lines
+  pub short : AllByRecursion (λ (line : List ℕ). length line ≤ longest_line) lines
+
+-- the first line of some bytes passes the bound of a line
+pub record IsTooLong (bytes : List ℕ) : Type 0 where
+  pub line : List ℕ
+  pub more : List ℕ
+  pub bytes_are : bytes ≡ line ++ more
+  pub no_feed : HasNoFeed line
+  pub long : longest_line < length line
+
+-- after so many lines, what follows them passes a bound
+abbrev pub PassesBound : ℕ → List ℕ → Type 0
+PassesBound lines rest = ((lines ≡ most_lines) × (0 < length rest)) ⊎ IsTooLong rest
+
+-- a line that means this was answered from where a script stood, and left the hive so
+pub record IsOneMore (meaning : Meaning) (last : Stand) (new : View) : Type 0 where
+  pub reply : List ℕ
+  pub next : Stand
+  pub said : IsSaid meaning last reply next
+  pub hive : new ≡ next.hive
+
+-- the first line of the rest was answered on the hive, and its reply was lost
+pub record IsAnswered (last : Stand) (rest : List ℕ) (new : View) : Type 0 where
+  pub line : List ℕ
+  pub more : List ℕ
+  pub rest_is : rest ≡ line ++ more
+  pub answered : IsOneMore (meaning_of line) last new
+
+-- the hive is as the lines left it; or one more line was answered on it
+abbrev pub IsReached : Stand → List ℕ → View → Type 0
+IsReached last rest new = (new ≡ last.hive) ⊎ IsAnswered last rest new
+
+-- the writer took just so many of the first bytes of the replies, which the fault counts
+pub record IsTaken (before after : Option (List ℕ)) (text : List ℕ) (written : ℕ) : Type 0 where
+  pub count : ℕ
+  pub within : count ≤ length text
+  pub appends : Appends before after (take count text)
+  pub counts : written ≡ counted 0 count
+
+-- what stands after each fault, where so many lines left the script at `last` and wrote this text, and the rest follows them: the
+-- whole text, or after a failed write just what the writer took of it
+abbrev pub IsLeft : ScriptFault → ℕ → Stand → List ℕ → List ℕ → View → Option (List ℕ) → Option (List ℕ) → Type 0
+IsLeft Read lines last rest text new before after = (new ≡ last.hive) × Appends before after text
+IsLeft (Write written) lines last rest text new before after = IsReached last rest new × IsTaken before after text written
+IsLeft TooLong lines last rest text new before after = (new ≡ last.hive) × Appends before after text × PassesBound lines rest
+IsLeft Memory lines last rest text new before after = IsReached last rest new × Appends before after text
+
+-- a script ended with a fault: of what was read, some lines were answered, and the rest was not
+pub record Stops (fault : ScriptFault) (unread left : Option (List ℕ)) (old new : View) (before after : Option (List ℕ)) : Type 0 where
+  pub lines : List ℕ
+  pub rest : List ℕ
+  pub read : Consumes unread left (lines ++ rest)
+  pub between : lines_of (lines ++ rest) ≡ lines_of lines ++ lines_of rest
+  pub within : AreWithin (lines_of lines)
+  pub text : List ℕ
+  pub last : Stand
+  pub said : AreSaid (lines_of lines) (record { hive = old; moment = 0; session = 0 }) text last
+  pub stands : IsLeft fault (length (lines_of lines)) last rest text new before after
+
+-- a script on a fresh hive ended with a fault
+pub record StopsFresh (fault : ScriptFault) (unread left before after : Option (List ℕ)) : Type 0 where
+  pub fresh : View
+  pub is_fresh : IsFresh fresh
+  pub last : View
+  pub stops : Stops fault unread left fresh last before after

@@ -1,0 +1,271 @@
+//! The script: one call a line, one reply a line.
+
+ghost use Rattle.std.specs.Prelude.{◌≡◌, ◌<◌, ◌≤◌, ℕ, List, ◌∷◌, [], IfOk, OnOk, length, string_bytes, ◌+◌, OnErr, IfErr};
+ghost use Rattle.std.specs.Io.KnownBytes.{IsAtEnd, Appends, Consumes};
+ghost use Rattle.reg_calls.specs.Hives.{view_of};
+ghost use Rattle.reg_script.specs.Words.{lines_of};
+ghost use Rattle.reg_script.specs.Meanings.{asks, meaning_of};
+ghost use Rattle.reg_script.specs.Readings.{said};
+ghost use Rattle.reg_script.specs.Lines.{IsSaid, AreSaid, Lines};
+ghost use Rattle.reg_script.specs.Stops.{fault_number, most_lines, HasNoFeed, AreWithin, IsOneMore, Stops};
+ghost use Rattle.reg_script.specs.Progress.{IsSteady, Adds, Loses, Takes, Halts, Ends, place_of, stand_of};
+
+use crate::line::{Line, Session, Setting};
+use crate::output::Output;
+use crate::parse::parse;
+use crate::reply::{write_answered, write_changed};
+use reg_calls::Hive;
+use reg_model::{Call, Change, Query};
+use std::alloc::{AllocError, Global};
+use std::io::{Read, Write};
+use thiserror::Error;
+
+/// The longest line of a script, in bytes without its LF.
+const LINE_LIMIT: usize = 2_200_000;
+
+/// How many lines a script has at most.
+const LINES_LIMIT: u32 = 1_000_000;
+
+/// More reads than these, of a byte or more each, pass the limits of lines.
+const READS_LIMIT: u64 = 2_200_001_000_001;
+
+/// How many bytes are read at a time.
+const CHUNK: usize = 65_536;
+
+/// What ended a script early. Replies to all lines before stand.
+#[derive(Clone, Copy, Debug, PartialEq, Eq, Error)]
+pub enum ScriptFault {
+    /// A read failed.
+    #[error("a read failed")]
+    Read,
+    /// A write failed, or took no byte, after so many bytes.
+    #[error("a write failed after {written} bytes")]
+    Write { written: u64 },
+    /// A line above 2,200,000 bytes, or more than 1,000,000 lines.
+    #[error("a line is too long, or there are too many")]
+    TooLong,
+    /// A growth was refused.
+    #[error("no memory")]
+    Memory,
+}
+
+impl From<AllocError> for ScriptFault {
+    ghost use Rattle.reg_script.specs.declared.engine.ScriptFault.{ScriptFault};
+
+    ghost from_gives = { λ _ e. e ≡ ScriptFault.Memory };
+
+    fn from(_fault: AllocError) -> ScriptFault {
+        ScriptFault::Memory
+    }
+}
+
+impl ScriptFault {
+    /// The fault's number: 1 Read, 2 Write, 3 TooLong, 4 Memory.
+    pub fn number(&self) -> u8
+        ensures { result ≡ fault_number self.now }
+    {
+        match self {
+            ScriptFault::Read => 1,
+            ScriptFault::Write { .. } => 2,
+            ScriptFault::TooLong => 3,
+            ScriptFault::Memory => 4,
+        }
+    }
+}
+
+/// A script under way.
+#[derive(Drop)]
+struct Script {
+    alloc: Global,
+    output: Output,
+    /// The line that is being read, without its LF.
+    line: Vec<u8>,
+    /// How many lines have ended.
+    lines: u32,
+    moment: u64,
+    session: Session,
+}
+
+impl Script {
+    /// Takes the next byte of the script.
+    fn take_byte<W: Write>(
+        &mut self,
+        hive: &mut Hive,
+        writer: &mut W,
+        byte: u8,
+    ) -> Result<(), ScriptFault>
+        ensures ok { OnOk result (IsSteady (place_of self.old (view_of hive.old) (W.contents writer.old)) → Takes (place_of self.old (view_of hive.old) (W.contents writer.old)) (byte ∷ []) (place_of self.new (view_of hive.new) (W.contents writer.new))) }
+        ensures err { IfErr result (λ fault. IsSteady (place_of self.old (view_of hive.old) (W.contents writer.old)) → Halts (place_of self.old (view_of hive.old) (W.contents writer.old)) (byte ∷ []) (place_of self.new (view_of hive.new) (W.contents writer.new)) fault) }
+    {
+        if self.lines >= LINES_LIMIT {
+            return Err(ScriptFault::TooLong);
+        }
+        if byte == b'\n' {
+            self.end_line(hive)?;
+            self.output.settle(writer)?;
+            return Ok(());
+        }
+        if self.line.len() >= LINE_LIMIT {
+            return Err(ScriptFault::TooLong);
+        }
+        match self.line.push(byte) {
+            Ok(()) => Ok(()),
+            Err(_) => Err(ScriptFault::Memory),
+        }
+    }
+
+    fn take_bytes<W: Write>(
+        &mut self,
+        hive: &mut Hive,
+        writer: &mut W,
+        bytes: &[u8],
+    ) -> Result<(), ScriptFault>
+        ensures ok { OnOk result (IsSteady (place_of self.old (view_of hive.old) (W.contents writer.old)) → Takes (place_of self.old (view_of hive.old) (W.contents writer.old)) bytes.now (place_of self.new (view_of hive.new) (W.contents writer.new))) }
+        ensures err { IfErr result (λ fault. IsSteady (place_of self.old (view_of hive.old) (W.contents writer.old)) → Halts (place_of self.old (view_of hive.old) (W.contents writer.old)) bytes.now (place_of self.new (view_of hive.new) (W.contents writer.new)) fault) }
+    {
+        for byte in bytes {
+            self.take_byte(hive, writer, *byte)?;
+        }
+        Ok(())
+    }
+
+    /// Answers the line that has ended.
+    fn end_line(&mut self, hive: &mut Hive) -> Result<(), ScriptFault>
+        ensures said { OnOk result (Adds (IsSaid (meaning_of self.old.line.items)) self.old (view_of hive.old) self.new (view_of hive.new)) }
+        ensures ended { OnOk result (self.new.line.items ≡ []) }
+        ensures lines { OnOk result (self.old.lines < most_lines → self.new.lines ≡ self.old.lines + 1) }
+        ensures err { IfErr result (λ fault. (fault ≡ ScriptFault.Memory) × Loses (meaning_of self.old.line.items) self.old (view_of hive.old) self.new (view_of hive.new)) }
+    {
+        let line = parse(self.alloc, self.line.as_slice())?;
+        self.line.clear();
+        self.lines = self.lines.saturating_add(1);
+        self.answer(hive, line)?;
+        Ok(())
+    }
+
+    /// Does what a line says, and gathers its reply.
+    fn answer(&mut self, hive: &mut Hive, line: Line) -> Result<(), AllocError>
+        ensures said { OnOk result (Adds (IsSaid (said line)) self.old (view_of hive.old) self.new (view_of hive.new)) }
+        ensures begun { self.new.line ≡ self.old.line }
+        ensures lines { self.new.lines ≡ self.old.lines }
+        ensures err { OnErr result (Loses (said line) self.old (view_of hive.old) self.new (view_of hive.new)) }
+    {
+        match line {
+            Line::Nothing | Line::Setting(Setting::Hive) => Ok(()),
+            Line::Setting(Setting::At(moment)) => {
+                self.moment = moment;
+                Ok(())
+            }
+            Line::Setting(Setting::As(session)) => {
+                self.session = session;
+                Ok(())
+            }
+            Line::Bad => self.output.text.push_str("bad\n"),
+            Line::Call(call) => {
+                let reply = self.call(hive, call)?;
+                self.output.text.push_str(reply.as_str())
+            }
+        }
+    }
+
+    /// The reply to a call. It is whole before it joins the output, so that want of memory leaves no part of it there.
+    fn call(&self, hive: &mut Hive, call: Call) -> Result<String, AllocError>
+        ensures ok { IfOk result (λ reply. IsSaid (asks call) (stand_of self.now (view_of hive.old)) (string_bytes reply) (stand_of self.now (view_of hive.new))) }
+        ensures err { OnErr result (IsOneMore (asks call) (stand_of self.now (view_of hive.old)) (view_of hive.new)) }
+    {
+        match call {
+            Call::Change(change) => self.change(hive, change),
+            Call::Query(query) => self.query(hive, &query),
+        }
+    }
+
+    fn change(&self, hive: &mut Hive, change: Change) -> Result<String, AllocError>
+        ensures ok { IfOk result (λ reply. IsSaid (asks (Call.Change change)) (stand_of self.now (view_of hive.old)) (string_bytes reply) (stand_of self.now (view_of hive.new))) }
+        ensures err { OnErr result (IsOneMore (asks (Call.Change change)) (stand_of self.now (view_of hive.old)) (view_of hive.new)) }
+    {
+        let mut reply = String::new(self.alloc);
+        let changed = hive.apply(self.session.number, self.moment, change);
+        write_changed(&mut reply, &changed)?;
+        Ok(reply)
+    }
+
+    fn query(&self, hive: &Hive, query: &Query) -> Result<String, AllocError>
+        ensures ok { IfOk result (λ reply. IsSaid (asks (Call.Query query.now)) (stand_of self.now (view_of hive.now)) (string_bytes reply) (stand_of self.now (view_of hive.now))) }
+        ensures err { OnErr result (IsOneMore (asks (Call.Query query.now)) (stand_of self.now (view_of hive.now)) (view_of hive.now)) }
+    {
+        let mut reply = String::new(self.alloc);
+        let answer = hive.read(self.session.number, query);
+        write_answered(self.alloc, &mut reply, &answer)?;
+        Ok(reply)
+    }
+
+    /// Answers a last line that lacks its LF.
+    fn end(&mut self, hive: &mut Hive) -> Result<(), ScriptFault>
+        ensures ok { OnOk result (HasNoFeed self.old.line.items → Adds (AreSaid (lines_of self.old.line.items)) self.old (view_of hive.old) self.new (view_of hive.new)) }
+        ensures err { IfErr result (λ fault. (fault ≡ ScriptFault.Memory) × Loses (meaning_of self.old.line.items) self.old (view_of hive.old) self.new (view_of hive.new)) }
+    {
+        if self.line.is_empty() {
+            return Ok(());
+        }
+        self.end_line(hive)?;
+        Ok(())
+    }
+
+    /// Reads to the end. Each read gives a byte at least, so more reads than the limits' bytes are too many.
+    fn read_all<R: Read, W: Write>(
+        &mut self,
+        hive: &mut Hive,
+        reader: &mut R,
+        writer: &mut W,
+        chunk: &mut [u8],
+    ) -> Result<(), ScriptFault>
+        requires { 0 < length chunk.old }
+        ensures at_end { OnOk result (IsAtEnd (R.remaining reader.new)) }
+        ensures lines { OnOk result (IsSteady (place_of self.old (view_of hive.old) (W.contents writer.old)) →
+            (script : List ℕ) × Consumes (R.remaining reader.old) (R.remaining reader.new) script
+            × Ends (place_of self.old (view_of hive.old) (W.contents writer.old)) script (place_of self.new (view_of hive.new) (W.contents writer.new))) }
+        ensures err { IfErr result (λ fault. IsSteady (place_of self.old (view_of hive.old) (W.contents writer.old)) → self.old.lines ≡ 0 → self.old.line.items ≡ [] →
+            (script : List ℕ) × Consumes (R.remaining reader.old) (R.remaining reader.new) script
+            × Halts (place_of self.old (view_of hive.old) (W.contents writer.old)) script (place_of self.new (view_of hive.new) (W.contents writer.new)) fault) }
+    {
+        for _read in 0..READS_LIMIT {
+            let Ok(count) = reader.read(chunk) else {
+                return Err(ScriptFault::Read);
+            };
+            if count == 0 {
+                self.end(hive)?;
+                return Ok(());
+            }
+            self.take_bytes(hive, writer, &chunk[..count])?;
+        }
+        Err(ScriptFault::TooLong)
+    }
+}
+
+/// Runs a script of registry calls on a hive and writes the replies, each on a line of its own. Where it succeeds, what
+/// was written is what the rules give for all that was read.
+pub fn run<R: Read, W: Write>(
+    alloc: Global,
+    reader: &mut R,
+    writer: &mut W,
+    hive: &mut Hive,
+) -> Result<(), ScriptFault>
+    ensures at_end { OnOk result (IsAtEnd (R.remaining reader.new)) }
+    ensures lines { OnOk result ((script : List ℕ) × (text : List ℕ) × Consumes (R.remaining reader.old) (R.remaining reader.new) script
+        × Lines (view_of hive.old) script text (view_of hive.new) × Appends (W.contents writer.old) (W.contents writer.new) text × AreWithin (lines_of script)) }
+    ensures stops { IfErr result (λ fault. Stops fault (R.remaining reader.old) (R.remaining reader.new) (view_of hive.old) (view_of hive.new) (W.contents writer.old) (W.contents writer.new)) }
+{
+    let Ok(mut chunk) = vec![in alloc; 0; CHUNK] else {
+        return Err(ScriptFault::Memory);
+    };
+    let mut script = Script {
+        alloc,
+        output: Output::new(alloc),
+        line: Vec::new(alloc),
+        lines: 0,
+        moment: 0,
+        session: Session { number: 0 },
+    };
+    let ended = script.read_all(hive, reader, writer, chunk.as_mut_slice());
+    script.output.close(writer, ended)
+}

@@ -1,0 +1,221 @@
+ghost use Rattle.std.specs.Prelude.{◌≡◌, ◌≢◌, ◌==◌, ◌∷◌, [], position, IfOk, MatchResult, option_copied};
+ghost use Rattle.reg_script.specs.Words.{words_of, number_of, name_of, data_of};
+ghost use Rattle.reg_script.specs.Meanings.{reading, first_of, small_number_of, room_of, verb_of, by_verb, meaning_of};
+ghost use Rattle.reg_script.specs.Readings.{words_left, Reads, Means, said};
+
+use crate::line::{Line, Session, Setting, Verb};
+use crate::words::{ParseFault, bytes, name, number, room, session, small_number, verb};
+use reg_model::{Bytes, Call, Change, Query};
+use std::alloc::{AllocError, Global};
+use std::marker::Model;
+
+/// Understands a line, without its LF.
+pub fn parse(alloc: Global, line: &[u8]) -> Result<Line, AllocError>
+    ensures { IfOk result (λ l. said l ≡ meaning_of line.now) }
+{
+    if line.is_empty() || line[0] == b'#' {
+        return Ok(Line::Nothing);
+    }
+    match parse_words(alloc, line) {
+        Ok(line) => Ok(line),
+        Err(ParseFault::Form) => Ok(Line::Bad),
+        Err(ParseFault::Memory) => Err(AllocError),
+    }
+}
+
+fn first_space(line: &[u8]) -> Option<usize>
+    ensures { result ≡ position (λ b. b == 32) line.now }
+{
+    line.iter().position(|byte| *byte == b' ')
+}
+
+/// The line up to its first space, and what follows the space, if there is one.
+#[tactic(auto, using(crate::proofs::Spaces::words_first, crate::proofs::Spaces::words_one))]
+fn split_word(line: &[u8]) -> (&[u8], Option<&[u8]>)
+    ensures { words_of line.now ≡ result.0.now ∷ words_left (option_copied result.1) }
+{
+    match first_space(line) {
+        Some(place) => (&line[..place], Some(&line[place + 1..])),
+        None => (line, None),
+    }
+}
+
+/// The words of a line, parted by one space each, that aren't read yet.
+#[derive(Drop)]
+struct Words<'a> {
+    rest: Option<&'a [u8]>,
+}
+
+impl<'a> Model for Words<'a> {
+    ghost use Rattle.std.specs.Prelude.{List, ℕ, option_copied};
+    ghost use Rattle.reg_script.specs.Readings.{words_left};
+
+    ghost Value = { List (List ℕ) };
+
+    ghost view = { λ w. words_left (option_copied w.rest) };
+}
+
+impl<'a> Words<'a> {
+    /// The next word; a line without one has another form.
+    fn next(&mut self) -> Result<&'a [u8], ParseFault>
+        ensures { MatchResult result (λ word. self.old ≡ word.now ∷ self.new) (λ e. (e ≡ ParseFault.Form) × (self.old ≡ [])) }
+    {
+        let Some(rest) = self.rest else {
+            return Err(ParseFault::Form);
+        };
+        let (word, rest) = split_word(rest);
+        self.rest = rest;
+        Ok(word)
+    }
+
+    #[tactic(auto, using(crate::proofs::Readings::readings))]
+    fn verb(&mut self) -> Result<Verb, ParseFault>
+        ensures { Reads verb_of self.old result self.new }
+    {
+        verb(self.next()?)
+    }
+
+    #[tactic(auto, using(crate::proofs::Readings::readings))]
+    fn number(&mut self, limit: u64) -> Result<u64, ParseFault>
+        ensures { Reads (number_of limit) self.old result self.new }
+    {
+        number(self.next()?, limit)
+    }
+
+    #[tactic(auto, using(crate::proofs::Readings::readings))]
+    fn session(&mut self) -> Result<Session, ParseFault>
+        ensures { MatchResult result (λ s. first_of (number_of 63) self.old ≡ Some (s.number, self.new)) (λ e. e ≡ ParseFault.Form → first_of (number_of 63) self.old ≡ None) }
+    {
+        session(self.next()?)
+    }
+
+    #[tactic(auto, using(crate::proofs::Readings::readings))]
+    fn small_number(&mut self) -> Result<u32, ParseFault>
+        ensures { Reads small_number_of self.old result self.new }
+    {
+        small_number(self.next()?)
+    }
+
+    #[tactic(auto, using(crate::proofs::Readings::readings))]
+    fn name(&mut self, alloc: Global) -> Result<Bytes, ParseFault>
+        ensures { Reads name_of self.old result self.new }
+    {
+        name(alloc, self.next()?)
+    }
+
+    #[tactic(auto, using(crate::proofs::Readings::readings))]
+    fn bytes(&mut self, alloc: Global) -> Result<Bytes, ParseFault>
+        ensures { Reads data_of self.old result self.new }
+    {
+        bytes(alloc, self.next()?)
+    }
+
+    #[tactic(auto, using(crate::proofs::Readings::readings))]
+    fn room(&mut self) -> Result<Option<u32>, ParseFault>
+        ensures { Reads room_of self.old result self.new }
+    {
+        room(self.next()?)
+    }
+
+    /// What the rest of a line with this first word means.
+    fn rest(&mut self, alloc: Global, verb: Verb) -> Result<Line, ParseFault>
+        ensures { Means (by_verb verb) self.old result self.new }
+    {
+        match verb {
+            Verb::At => self.at(),
+            Verb::As => self.as_session(),
+            Verb::Hive => self.hive(),
+            Verb::Root => self.root(),
+            Verb::Set => self.set(alloc),
+            Verb::Query => self.query(alloc),
+        }
+    }
+
+    /// `at MOMENT`.
+    #[tactic(auto, unfolding(crate::specs::Meanings::by_verb))]
+    fn at(&mut self) -> Result<Line, ParseFault>
+        ensures { Means (by_verb Verb.At) self.old result self.new }
+    {
+        let moment = self.number(u64::MAX)?;
+        Ok(Line::Setting(Setting::At(moment)))
+    }
+
+    /// `as SESSION`.
+    #[tactic(auto, unfolding(crate::specs::Meanings::by_verb))]
+    fn as_session(&mut self) -> Result<Line, ParseFault>
+        ensures { Means (by_verb Verb.As) self.old result self.new }
+    {
+        let session = self.session()?;
+        Ok(Line::Setting(Setting::As(session)))
+    }
+
+    /// `hive N`, where N is 0.
+    #[tactic(auto, unfolding(crate::specs::Meanings::by_verb))]
+    fn hive(&mut self) -> Result<Line, ParseFault>
+        ensures { Means (by_verb Verb.Hive) self.old result self.new }
+    {
+        let _only = self.number(0)?;
+        Ok(Line::Setting(Setting::Hive))
+    }
+
+    /// `root MASK`.
+    #[tactic(auto, unfolding(crate::specs::Meanings::by_verb))]
+    fn root(&mut self) -> Result<Line, ParseFault>
+        ensures { Means (by_verb Verb.Root) self.old result self.new }
+    {
+        let mask = self.small_number()?;
+        Ok(Line::Call(Call::Change(Change::OpenRoot { mask })))
+    }
+
+    /// `set H NAME KIND DATA`.
+    #[tactic(auto, unfolding(crate::specs::Meanings::by_verb))]
+    fn set(&mut self, alloc: Global) -> Result<Line, ParseFault>
+        ensures { Means (by_verb Verb.Set) self.old result self.new }
+    {
+        let handle = self.number(u64::MAX)?;
+        let name = self.name(alloc)?;
+        let kind = self.small_number()?;
+        let bytes = self.bytes(alloc)?;
+        Ok(Line::Call(Call::Change(Change::SetValue {
+            handle,
+            name,
+            kind,
+            bytes,
+        })))
+    }
+
+    /// `query H NAME ROOM`, with `-` for no room.
+    #[tactic(auto, unfolding(crate::specs::Meanings::by_verb))]
+    fn query(&mut self, alloc: Global) -> Result<Line, ParseFault>
+        ensures { Means (by_verb Verb.Query) self.old result self.new }
+    {
+        let handle = self.number(u64::MAX)?;
+        let name = self.name(alloc)?;
+        let room = self.room()?;
+        Ok(Line::Call(Call::Query(Query::QueryValue { handle, name, room })))
+    }
+
+    /// No word may be left.
+    #[tactic(auto, using(crate::proofs::Spaces::words_some))]
+    fn end(&self) -> Result<(), ParseFault>
+        ensures { MatchResult result (λ _. self.now ≡ []) (λ e. (e ≡ ParseFault.Form) × (self.now ≢ [])) }
+    {
+        match self.rest {
+            Some(_) => Err(ParseFault::Form),
+            None => Ok(()),
+        }
+    }
+}
+
+#[tactic(auto, using(crate::proofs::Readings::ends, crate::proofs::Readings::ends_not))]
+fn parse_words(alloc: Global, line: &[u8]) -> Result<Line, ParseFault>
+    ensures { MatchResult result
+        (λ l. reading verb_of by_verb (words_of line.now) ≡ Some (said l))
+        (λ e. e ≡ ParseFault.Form → reading verb_of by_verb (words_of line.now) ≡ None) }
+{
+    let mut words = Words { rest: Some(line) };
+    let verb = words.verb()?;
+    let parsed = words.rest(alloc, verb)?;
+    words.end()?;
+    Ok(parsed)
+}

@@ -1,8 +1,0 @@
-use Rattle.std.proofs.Common.{refl}
-use Rattle.reg_model.specs.declared.step.Outcome.TheVariants.{Answered}
-use Rattle.regtool.proofs.Progress.{from_empty}
-use Rattle.regtool.proofs.engine.Script.query.Goals as goal
-
-pub returns : goal.returns
-returns c =
-    (Answered c.read-answer.result, (c.read-answer.ensures.at, c.read-answer.ensures.body, refl), from_empty _ _ _ c.in_ok-write_answered.ensures c.new-reply.ensures.bytes, refl)

@@ -1,9 +1,0 @@
-use Rattle.std.proofs.Common.{List, ℕ}
-use Rattle.std.specs.Io.KnownBytes.{Consumes}
-use Rattle.reg_calls.specs.Hives.{view_of}
-use Rattle.regtool.specs.Progress.{HasNoFeed, Takes, place_of}
-use Rattle.regtool.proofs.engine.Script.read_all.Given as goal
-
-abbrev pub invariant-loop : goal.invariant-loop
-invariant-loop g l =
-    HasNoFeed l.initial.self.line.items → (taken : List ℕ) × Consumes (g.R.Read.remaining l.initial.reader) (g.R.Read.remaining l.reader) taken × Takes (place_of l.initial.self (view_of l.initial.hive) (g.W.Write.contents l.initial.writer)) taken (place_of l.self (view_of l.hive) (g.W.Write.contents l.writer))

@@ -1,8 +1,0 @@
-use Rattle.std.proofs.Common.{take}
-use Rattle.reg_calls.specs.Hives.{view_of}
-use Rattle.regtool.specs.Progress.{HasNoFeed, Takes, place_of}
-use Rattle.regtool.proofs.engine.Script.take_bytes.Given as goal
-
-abbrev pub invariant-loop-byte : goal.invariant-loop-byte
-invariant-loop-byte g l =
-    HasNoFeed l.initial.self.line.items → Takes (place_of l.initial.self (view_of l.initial.hive) (g.W.Write.contents l.initial.writer)) (take l.byte-index l.bytes) (place_of l.self (view_of l.hive) (g.W.Write.contents l.writer))
