@@ -1,9 +1,4 @@
 pub mod Tables
-pub mod Openings
-pub mod Spellings
-pub mod RootCells
-pub mod RootShape
-pub mod Sets
 pub mod States
 pub mod Pushes
 pub mod Questions

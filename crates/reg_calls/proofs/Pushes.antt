@@ -1,27 +1,27 @@
 -- One more entry, and the tables after it.
-use Rattle.std.proofs.Common.{Bool, true, false, cond, eqb, ◌≡◌, ℕ, ◌+◌, ◌<◌, ◌≤◌, List, [], ◌∷◌, ◌++◌, length, Option, Some, None, refl, sym, ap, ◌∙◌, subst, arith, length-append}
+use Rattle.std.proofs.Common.{Bool, true, false, not, is_some, cond, eqb, ◌≡◌, ℕ, ◌+◌, ◌<◌, ◌≤◌, List, [], ◌∷◌, ◌++◌, length, Option, Some, None, refl, sym, ap, ◌∙◌, subst, arith, length-append}
 use Rattle.std.specs.Prelude.{All}
 use Rattle.std.specs.List.{AllByRecursion}
 use Rattle.std.proofs.lemmas.List.Elements.{recursion_from_All}
 use Rattle.std.proofs.lemmas.List.Elements.{All-push, All-weaker}
-use Rattle.reg_heap.specs.Paths.{Path, Tree, Rec}
-use Rattle.reg_model.specs.Worlds.{World, Handle, At, after, look, numbered, owned, path_at, edited, with_value}
-use Rattle.reg_model.specs.Causes.{State, change_cause}
+use Rattle.reg_heap.specs.Paths.{Path, Tree}
+use Rattle.reg_heap.specs.Members.{value_named}
+use Rattle.reg_heap.specs.Edits.{edited, with_value, without_value, values_at}
+use Rattle.reg_model.specs.Worlds.{World, Handle, At, after, look, numbered, owned, path_at}
+use Rattle.reg_model.specs.Causes.{State, change_cause, no_value_room}
 use Rattle.reg_model.specs.Replies.{reply_to}
 use Rattle.reg_model.specs.Histories.{state_of, replay, IsFit}
 use Rattle.reg_model.specs.declared.reply.Entry.{Entry}
-use Rattle.reg_model.specs.declared.call.Change.TheVariants.{OpenRoot, SetValue}
+use Rattle.reg_model.specs.declared.call.Change.TheVariants.{OpenRoot, SetValue, DeleteValue}
 use Rattle.reg_model.proofs.OneMore.{replay-push, legal-push}
-use Rattle.reg_calls.proofs.Spellings.{edited-root}
-use Rattle.reg_calls.proofs.States.{root-fits, can_set}
-use Rattle.reg_calls.specs.Views.{IsKept, IsOneRoot, AreAtRoot}
+use Rattle.reg_calls.proofs.States.{root-fits, can_set, can_delete}
+use Rattle.reg_calls.specs.Views.{IsKept, AreAtRoot}
 
 -- the tables after one more entry
 pub record IsNext (origin : Tree) (es : List Entry) (e : Entry) (tree : Tree) (handles : List Handle) (room : ℕ) : Type 0 where
   pub fit : IsFit origin es e
   pub tree_is : tree ≡ (after (replay origin es) e).tree
   pub handles_are : handles ≡ (after (replay origin es) e).handles
-  pub root : IsOneRoot tree
   pub at_root : AreAtRoot handles
   pub numbers : All (λ (h : Handle). h.number < length es + 1) handles
   pub small : length es + 1 + length handles ≤ 16777216
@@ -32,7 +32,6 @@ kept-push {origin = origin} {es = es} kept e {handles' = handles'} next = record
   legal = legal-push origin es e kept.legal next.fit;
   tree_is = next.tree_is ∙ ap (λ (w : World). w.tree) (sym (replay-push origin es e));
   handles_are = next.handles_are ∙ ap (λ (w : World). w.handles) (sym (replay-push origin es e));
-  root = next.root;
   at_root = next.at_root;
   numbers = subst (λ n. All (λ (h : Handle). h.number < n) handles') (sym (length-append es (e ∷ []))) next.numbers;
   small = omega (arith, next.small, length-append es (e ∷ []));
@@ -64,7 +63,6 @@ kept-root {origin = origin} {es = es} {tree = tree} {handles = handles} kept ses
       fit = record { number = refl; accepted = accepted; reply = sym (root_reply (state_of origin es) session mask) };
       tree_is = kept.tree_is ∙ sym (root_tree (replay origin es) es session moment mask);
       handles_are = ap (λ (hs : List Handle). hs ++ h ∷ []) kept.handles_are ∙ sym (root_handles (replay origin es) es session moment mask);
-      root = kept.root;
       at_root = All-push (λ (x : Handle). x.place ≡ At []) handles h kept.at_root refl;
       numbers = All-push (λ (x : Handle). x.number < length es + 1) handles h (All-weaker (λ (x : Handle). x.number < length es) (λ (x : Handle). x.number < length es + 1) (λ x lt. omega arith) handles kept.numbers) (omega arith);
       small = omega (arith, fits, same, length-append handles (h ∷ []));
@@ -114,30 +112,69 @@ path-root session h hs all = by (look session h hs) refl
     by None e = rw e refl
     by (Some x) e = rw (e, all-look (λ (y : Handle). y.place ≡ At []) session h hs x all e) refl
 
-pub one-edited : (tree : Tree) (f : Rec → Rec) → IsOneRoot tree → IsOneRoot (edited tree [] f)
-one-edited tree f one = record { rec = f one.rec; is = ap (λ (t : Tree). edited t [] f) one.is ∙ edited-root one.rec f }
+-- the path of any handle of a kept hive
+path-kept : {origin : Tree} {es : List Entry} {tree : Tree} {handles : List Handle} {room : ℕ} → IsKept origin es tree handles room → (session h : ℕ) → path_at session h (replay origin es).handles ≡ []
+path-kept kept session h = subst (λ (hs : List Handle). path_at session h hs ≡ []) kept.handles_are (path-root session h _ kept.at_root)
 
-no_name : (name : List ℕ) → length name ≡ 0 → name ≡ []
-no_name [] e = refl
-no_name (b ∷ bs) e = absurd (omega arith)
-
-pub kept-set : {origin : Tree} {es : List Entry} {tree : Tree} {handles : List Handle} {room : ℕ} → IsKept origin es tree handles room → (session moment h kind : ℕ) (name bytes : List ℕ) (tree' : Tree) (room' : ℕ) → change_cause (state_of origin es) session (SetValue h name kind bytes) 0 ≡ None → tree' ≡ edited tree [] (with_value [] kind bytes moment) → length handles ≤ room' → IsKept origin (es ++ set_entry es session moment h name kind bytes ∷ []) tree' handles room'
+pub kept-set : {origin : Tree} {es : List Entry} {tree : Tree} {handles : List Handle} {room : ℕ} → IsKept origin es tree handles room → (session moment h kind : ℕ) (name bytes : List ℕ) (tree' : Tree) (room' : ℕ) → change_cause (state_of origin es) session (SetValue h name kind bytes) 0 ≡ None → tree' ≡ edited tree [] (with_value name kind bytes moment) → length handles ≤ room' → IsKept origin (es ++ set_entry es session moment h name kind bytes ∷ []) tree' handles room'
 kept-set {origin = origin} {es = es} {tree = tree} {handles = handles} kept session moment h kind name bytes tree' room' accepted edit has_room =
     let e = set_entry es session moment h name kind bytes in
     let w = replay origin es in
     let can = can_set (state_of origin es) session h kind name bytes accepted in
     let same_handles = ap (λ (hs : List Handle). length hs) kept.handles_are in
-    let path : path_at session h w.handles ≡ [] = subst (λ (hs : List Handle). path_at session h hs ≡ []) kept.handles_are (path-root session h handles kept.at_root) in
     kept-push kept e (record {
       fit = record { number = refl; accepted = accepted; reply = sym (set_reply (state_of origin es) session h kind name bytes) };
       tree_is = edit
-          ∙ (ap (λ (t : Tree). edited t [] (with_value [] kind bytes moment)) kept.tree_is
-          ∙ (ap (λ (n : List ℕ). edited w.tree [] (with_value n kind bytes moment)) (sym (no_name name can.unnamed))
-          ∙ (ap (λ (q : Path). edited w.tree q (with_value name kind bytes moment)) (sym path) ∙ sym (set_tree w es session moment h kind name bytes))));
+          ∙ (ap (λ (t : Tree). edited t [] (with_value name kind bytes moment)) kept.tree_is
+          ∙ (ap (λ (q : Path). edited w.tree q (with_value name kind bytes moment)) (sym (path-kept kept session h)) ∙ sym (set_tree w es session moment h kind name bytes)));
       handles_are = kept.handles_are ∙ sym (set_handles w es session moment h kind name bytes);
-      root = subst (λ (t : Tree). IsOneRoot t) (sym edit) (one-edited tree (with_value [] kind bytes moment) kept.root);
       at_root = kept.at_root;
       numbers = All-weaker (λ (x : Handle). x.number < length es) (λ (x : Handle). x.number < length es + 1) (λ x lt. omega arith) handles kept.numbers;
       small = omega (arith, can.fits, same_handles);
       room_kept = has_room;
     })
+
+-- the entry of an accepted DeleteValue
+abbrev pub delete_entry : List Entry → ℕ → ℕ → ℕ → List ℕ → Entry
+delete_entry es session moment h name = record { number = length es; session = session; moment = moment; change = DeleteValue h name; reply = record { status = 0; number = Some (length es); handle = None; disposition = None } }
+
+pub delete_reply : (s : State) (session h : ℕ) (name : List ℕ) → reply_to s session (DeleteValue h name) ≡ record { status = 0; number = Some s.count; handle = None; disposition = None }
+unfolding reply_to
+delete_reply s session h name = refl
+
+delete_tree : (w : World) (es : List Entry) (session moment h : ℕ) (name : List ℕ) → (after w (delete_entry es session moment h name)).tree ≡ edited w.tree (path_at session h w.handles) (without_value name moment)
+unfolding after
+delete_tree w es session moment h name = refl
+
+delete_handles : (w : World) (es : List Entry) (session moment h : ℕ) (name : List ℕ) → (after w (delete_entry es session moment h name)).handles ≡ w.handles
+unfolding after
+delete_handles w es session moment h name = refl
+
+pub kept-delete : {origin : Tree} {es : List Entry} {tree : Tree} {handles : List Handle} {room : ℕ} → IsKept origin es tree handles room → (session moment h : ℕ) (name : List ℕ) (tree' : Tree) (room' : ℕ) → change_cause (state_of origin es) session (DeleteValue h name) 0 ≡ None → tree' ≡ edited tree [] (without_value name moment) → length handles ≤ room' → IsKept origin (es ++ delete_entry es session moment h name ∷ []) tree' handles room'
+kept-delete {origin = origin} {es = es} {tree = tree} {handles = handles} kept session moment h name tree' room' accepted edit has_room =
+    let e = delete_entry es session moment h name in
+    let w = replay origin es in
+    let can = can_delete (state_of origin es) session h name accepted in
+    let same_handles = ap (λ (hs : List Handle). length hs) kept.handles_are in
+    kept-push kept e (record {
+      fit = record { number = refl; accepted = accepted; reply = sym (delete_reply (state_of origin es) session h name) };
+      tree_is = edit
+          ∙ (ap (λ (t : Tree). edited t [] (without_value name moment)) kept.tree_is
+          ∙ (ap (λ (q : Path). edited w.tree q (without_value name moment)) (sym (path-kept kept session h)) ∙ sym (delete_tree w es session moment h name)));
+      handles_are = kept.handles_are ∙ sym (delete_handles w es session moment h name);
+      at_root = kept.at_root;
+      numbers = All-weaker (λ (x : Handle). x.number < length es) (λ (x : Handle). x.number < length es + 1) (λ x lt. omega arith) handles kept.numbers;
+      small = omega (arith, can.fits, same_handles);
+      room_kept = has_room;
+    })
+
+-- what an accepted call met, in the tables
+pub set-room : {origin : Tree} {es : List Entry} {tree : Tree} {handles : List Handle} {room : ℕ} → IsKept origin es tree handles room → (session h kind : ℕ) (name bytes : List ℕ) → change_cause (state_of origin es) session (SetValue h name kind bytes) 0 ≡ None → no_value_room name (values_at tree []) ≡ false
+set-room {origin = origin} {es = es} kept session h kind name bytes accepted =
+    ap (λ (t : Tree). no_value_room name (values_at t [])) kept.tree_is
+    ∙ (ap (λ (q : Path). no_value_room name (values_at (replay origin es).tree q)) (sym (path-kept kept session h)) ∙ (can_set (state_of origin es) session h kind name bytes accepted).room)
+
+pub delete-there : {origin : Tree} {es : List Entry} {tree : Tree} {handles : List Handle} {room : ℕ} → IsKept origin es tree handles room → (session h : ℕ) (name : List ℕ) → change_cause (state_of origin es) session (DeleteValue h name) 0 ≡ None → not (is_some (value_named name (values_at tree []))) ≡ false
+delete-there {origin = origin} {es = es} kept session h name accepted =
+    ap (λ (t : Tree). not (is_some (value_named name (values_at t [])))) kept.tree_is
+    ∙ (ap (λ (q : Path). not (is_some (value_named name (values_at (replay origin es).tree q)))) (sym (path-kept kept session h)) ∙ (can_delete (state_of origin es) session h name accepted).there)

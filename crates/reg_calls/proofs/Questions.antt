@@ -1,17 +1,21 @@
 -- What questions are answered.
-use Rattle.std.proofs.Common.{◌≡◌, ◌≢◌, ℕ, Bool, true, false, not, List, [], Option, Some, None, refl, sym, ap, ◌∙◌, subst, arith, inl}
+use Rattle.std.proofs.Common.{◌≡◌, ◌≢◌, ℕ, Bool, true, false, not, List, [], length, slice_get, ◌<◌, Option, Some, None, refl, sym, ap, ◌∙◌, subst, arith, inl}
 use Rattle.std.specs.Prelude.{bit_and}
 use Rattle.std.proofs.lemmas.Bool.Decides.{nat_tests}
 use Rattle.reg_names.specs.Names.{is_value_name}
 use Rattle.reg_heap.specs.Paths.{Member}
 use Rattle.reg_heap.specs.Members.{value_named}
+use Rattle.reg_heap.specs.Edits.{values_at}
 use Rattle.reg_model.specs.Worlds.{Handle, At, look}
-use Rattle.reg_model.specs.Causes.{State, early_query_cause, late_query_cause, query_cause, has, values_at}
+use Rattle.reg_model.specs.Causes.{State, early_query_cause, late_query_cause, query_cause, has}
 use Rattle.reg_model.specs.Replies.{body_of, value_told}
 use Rattle.reg_model.specs.declared.answer.AnswerBody.{AnswerBody}
 use Rattle.reg_model.specs.declared.answer.AnswerBody.TheVariants.{Refused}
 use Rattle.reg_model.specs.declared.call.Query.{Query}
 use Rattle.reg_model.specs.declared.call.Query.TheVariants.{QueryValue}
+use Rattle.std.proofs.lemmas.Option.{slice_get_within}
+use Rattle.reg_tree.specs.declared.value.ValueFound.{ValueFound}
+use Rattle.reg_tree.specs.Changes.{IsFound}
 use Rattle.reg_calls.specs.Views.{IsRead, IsTold, is_told}
 
 -- a refusal is told
@@ -54,3 +58,20 @@ bad_is ok err name given v n g e = sym (ap is_value_name g) ∙ (sym v ∙ (n �
 
 pub good_is : (ok err : Bool) (name given : List ℕ) → ok ≡ is_value_name given → ok ≡ not err → given ≡ name → err ≡ false → is_value_name name ≡ true
 good_is ok err name given v n g e = sym (ap is_value_name g) ∙ (sym v ∙ (n ∙ ap not e))
+
+-- what was found is the value of that name
+pub record IsFoundAs (members : List Member) (o : Option Member) (found : ValueFound) : Type 0 where
+  pub member : Member
+  pub is : o ≡ Some member
+  pub at : slice_get members found.index ≡ Some member
+  pub kind : found.kind ≡ member.kind
+  pub size : found.size ≡ length member.bytes
+  pub within : found.index < length members
+
+pub found_as : (members : List Member) (o : Option Member) (found : ValueFound) → IsFound members o (Some found) → IsFoundAs members o found
+found_as members None found h = absurd h
+found_as members (Some m) found h = record { member = m; is = refl; at = h.0; kind = h.1; size = h.2; within = slice_get_within members found.index m h.0 }
+
+pub found_not : (members : List Member) (o : Option Member) → IsFound members o None → o ≡ None
+found_not members None h = refl
+found_not members (Some m) h = absurd h

@@ -1,9 +1,6 @@
 pub mod Kept
 pub mod Rows
 pub mod Founds
-pub mod Carving
-pub mod Roots
-pub mod Wholes
 pub mod Views
 pub mod Hives
 pub mod Runs

@@ -1,8 +1,7 @@
 -- What callers see of a hive, and what is true of every hive.
 use Rattle.std.specs.Prelude.{◌≡◌, ℕ, ◌+◌, ◌<◌, ◌≤◌, List, [], ◌∷◌, ◌++◌, length, Option, Some, None, All, ◌⊎◌, refl, is_some}
 use Rattle.std.specs.Coded.{Coded, code_by, coded×, coded_ℕ, coded_list, coded_option}
-use Rattle.std.specs.FinMap.{insert, empty}
-use Rattle.reg_heap.specs.Paths.{Path, Tree, Rec, coded_bytes, coded_tree}
+use Rattle.reg_heap.specs.Paths.{Path, Tree, coded_bytes, coded_tree}
 use Rattle.reg_model.specs.Worlds.{Handle, Place, At, Deleted}
 use Rattle.reg_model.specs.Causes.{State, query_cause}
 use Rattle.reg_model.specs.Replies.{reply_to, refusal, body_of}
@@ -13,9 +12,9 @@ use Rattle.reg_model.specs.declared.reply.ChangeReply.{ChangeReply}
 use Rattle.reg_model.specs.declared.answer.AnswerBody.{AnswerBody}
 use Rattle.reg_model.specs.declared.answer.AnswerBody.TheVariants.{Refused, Value}
 use Rattle.reg_model.specs.declared.call.Change.{Change}
-use Rattle.reg_model.specs.declared.call.Change.TheVariants.{OpenRoot, SetValue}
+use Rattle.reg_model.specs.declared.call.Change.TheVariants.{OpenRoot, SetValue, DeleteValue}
 use Rattle.reg_model.specs.declared.call.Query.{Query}
-use Rattle.reg_calls.specs.Roots.{Keys, coded_keys, HasNoSpace}
+use Rattle.reg_tree.specs.Keys.{Keys, coded_keys}
 
 -- a hive: the tree that it was made with, its journal, its keys in their bins, and its open handles in the order of their numbers
 pub record View : Type 0 where
@@ -54,11 +53,6 @@ coded_view =
 abbrev pub state : View → State
 state v = state_of v.origin v.journal
 
--- a tree of one root (temporary: until keys can be made)
-pub record IsOneRoot (tree : Tree) : Type 0 where
-  pub rec : Rec
-  pub is : tree ≡ insert empty [] rec
-
 -- every handle leads to the root (temporary: until keys can be opened)
 abbrev pub AreAtRoot : List Handle → Type 0
 AreAtRoot handles = All (λ (h : Handle). h.place ≡ At []) handles
@@ -68,7 +62,6 @@ pub record IsKept (origin : Tree) (journal : List Entry) (tree : Tree) (handles 
   pub legal : IsLegal origin journal
   pub tree_is : tree ≡ (replay origin journal).tree
   pub handles_are : handles ≡ (replay origin journal).handles
-  pub root : IsOneRoot tree
   pub at_root : AreAtRoot handles
   pub numbers : All (λ (h : Handle). h.number < length journal) handles
   pub small : length journal + length handles ≤ 16777216
@@ -84,10 +77,11 @@ pub record IsAccepted (old new : View) (session moment : ℕ) (change : Change) 
   pub journal : new.journal ≡ old.journal ++ entry_of old session moment change ∷ []
   pub origin : new.origin ≡ old.origin
 
--- a change that takes space in the bins finds none
+-- a change may find no space in the bins: one that takes some, where they are within 1,310,720 bytes of their limit
 abbrev pub LacksSpace : Keys → Change → Type 0
 LacksSpace keys (OpenRoot mask) = ⊥
-LacksSpace keys (SetValue h name kind bytes) = HasNoSpace keys.bins.bytes keys.tree
+LacksSpace keys (SetValue h name kind bytes) = 268435456 < length keys.bins.bytes + 1310720
+LacksSpace keys (DeleteValue h name) = ⊥
 
 -- an acceptable change isn't made, for want of memory or of space in the bins, and nothing changed
 pub record Lacks (old new : View) (change : Change) (reply : ChangeReply) : Type 0 where

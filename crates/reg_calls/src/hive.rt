@@ -4,15 +4,14 @@ ghost use Rattle.reg_names.specs.Names.{is_key_name};
 ghost use Rattle.reg_arena.specs.Cells.{cell_at};
 ghost use Rattle.reg_model.specs.Causes.{change_cause};
 ghost use Rattle.reg_model.specs.Histories.{IsLegal, replay};
-ghost use Rattle.reg_calls.specs.Roots.{made_root};
-ghost use Rattle.reg_calls.specs.Wholes.{IsWholeTree};
+ghost use Rattle.reg_tree.specs.Keys.{made_root, IsWholeTree};
 ghost use Rattle.reg_calls.specs.Views.{state, IsApplied, IsRead};
 
 use crate::hive_core::Core;
-use crate::tree::{Tree, TreeFault};
 use reg_arena::Arena;
 use reg_model::{Answer, Call, Change, ChangeReply, Entry, Outcome, Query, Step};
 use reg_names::check_key_name;
+use reg_tree::Tree;
 use std::alloc::{AllocError, Global};
 use thiserror::Error;
 

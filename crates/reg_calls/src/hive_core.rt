@@ -1,18 +1,20 @@
-ghost use Rattle.std.specs.Prelude.{◌≡◌, ◌<◌, ◌≤◌, [], Some, None, length, slice_get, option_copied};
-ghost use Rattle.reg_model.specs.Causes.{change_cause, refuse as refuse_if, ◌or◌, is_bad_value as is_bad_value_of};
+ghost use Rattle.std.specs.Prelude.{◌≡◌, ◌<◌, ◌≤◌, [], Some, None, length, slice_get, option_copied, not, is_some};
+ghost use Rattle.reg_model.specs.Causes.{change_cause, refuse as refuse_if, ◌or◌, is_bad_value as is_bad_value_of, no_value_room};
+ghost use Rattle.reg_heap.specs.Paths.{Member};
+ghost use Rattle.reg_heap.specs.Members.{value_named};
+ghost use Rattle.reg_heap.specs.Edits.{values_at};
 ghost use Rattle.reg_model.specs.Replies.{refusal};
 ghost use Rattle.reg_model.specs.Replies.{value_told};
 ghost use Rattle.reg_arena.specs.Cells.{cell_at};
-ghost use Rattle.reg_calls.specs.Roots.{shown};
-ghost use Rattle.reg_calls.specs.Wholes.{IsWholeTree};
-ghost use Rattle.reg_calls.specs.Views.{state, IsOneRoot, IsApplied, IsRead, IsTold};
+ghost use Rattle.reg_tree.specs.Keys.{IsWholeTree};
+ghost use Rattle.reg_calls.specs.Views.{state, IsApplied, IsRead, IsTold};
 
 use crate::handles::Handles;
 use crate::journal::Journal;
-use crate::tree::{Stored, Tree, TreeFault};
 use reg_arena::Arena;
 use reg_model::{Answer, AnswerBody, Bytes, Change, ChangeReply, Entry, Query};
 use reg_names::check_value_name;
+use reg_tree::{Tree, TreeFault, ValueFound};
 use std::alloc::Global;
 use std::marker::Model;
 use std::snapshot::Snapshot;
@@ -33,8 +35,8 @@ const JOURNAL_LIMIT: usize = 16_777_216;
 /// The largest value, in bytes.
 const VALUE_LIMIT: usize = 1_048_576;
 
-/// Temporary: the largest value that can be stored yet, in bytes.
-const INLINE_LIMIT: usize = 4;
+/// How many values a key has at most.
+const VALUES_LIMIT: u32 = 16_384;
 
 const FILE_NOT_FOUND: u32 = 2;
 
@@ -83,6 +85,18 @@ fn refuse(status: u32) -> ChangeReply
     }
 }
 
+/// The reply to an accepted change that opens no handle.
+fn accepted(number: u64) -> ChangeReply
+    ensures { result ≡ record { status = 0; number = Some number; handle = None; disposition = None } }
+{
+    ChangeReply {
+        status: 0,
+        number: Some(number),
+        handle: None,
+        disposition: None,
+    }
+}
+
 // 87, then 5, then 1450
 fn first_refusal(is_bad: bool, has_no_right: bool, is_full: bool) -> Option<u32>
     ensures { result ≡ (refuse_if is_bad 87 or refuse_if has_no_right 5 or refuse_if is_full 1450) }
@@ -102,19 +116,29 @@ fn first_refusal(is_bad: bool, has_no_right: bool, is_full: bool) -> Option<u32>
 fn is_bad_value(name: &[u8], bytes: &[u8]) -> bool
     ensures { result ≡ is_bad_value_of name.now bytes.now }
 {
-    check_value_name(name).is_err()
-        || bytes.len() > VALUE_LIMIT
-        || !name.is_empty()
-        || bytes.len() > INLINE_LIMIT
+    check_value_name(name).is_err() || bytes.len() > VALUE_LIMIT
+}
+
+/// Whether the root has as many values as there may be, and none of that name.
+fn has_no_value_room(tree: &Tree, name: &[u8]) -> bool
+    ensures { result ≡ no_value_room name.now (values_at tree.now.tree []) }
+{
+    tree.values() >= VALUES_LIMIT && tree.find_value(name).is_none()
+}
+
+/// Whether the root has no value of that name.
+fn has_no_value(tree: &Tree, name: &[u8]) -> bool
+    ensures { result ≡ not (is_some (value_named name.now (values_at tree.now.tree []))) }
+{
+    tree.find_value(name).is_none()
 }
 
 impl Core {
-    ghost use Rattle.reg_model.specs.declared.call.Change.TheVariants.{OpenRoot, SetValue};
+    ghost use Rattle.reg_model.specs.declared.call.Change.TheVariants.{OpenRoot, SetValue, DeleteValue};
     ghost use Rattle.reg_model.specs.declared.call.Query.TheVariants.{QueryValue};
     ghost use Rattle.reg_model.specs.Histories.{IsLegal, replay};
 
     pub fn new(alloc: Global, tree: Tree) -> Core
-        requires { IsOneRoot tree.tree }
         ensures origin { result.origin ≡ tree.tree }
         ensures journal { result.journal ≡ [] }
         ensures keys { result.keys ≡ tree }
@@ -220,7 +244,8 @@ impl Core {
         let is_bad = is_bad_value(name.as_slice(), bytes.as_slice());
         let has_no_right = found.mask & SET_VALUE != SET_VALUE;
         let is_full = self.journal.len() + 1 + self.handles.len() > JOURNAL_LIMIT;
-        first_refusal(is_bad, has_no_right, is_full)
+        let has_no_room = has_no_value_room(&self.tree, name.as_slice());
+        first_refusal(is_bad, has_no_right, is_full | has_no_room)
     }
 
     fn set_value(
@@ -239,20 +264,20 @@ impl Core {
             return refuse(NOT_ENOUGH_MEMORY);
         }
         let number = self.journal.len() as u64;
-        match self
-            .tree
-            .set_value(self.alloc, kind, bytes.as_slice(), moment)
-        {
+        match self.tree.set_value(
+            self.alloc,
+            name.as_slice(),
+            kind,
+            bytes.as_slice(),
+            moment,
+        ) {
             Ok(()) => {}
             Err(TreeFault::Full) => return refuse(NO_SYSTEM_RESOURCES),
             Err(TreeFault::Memory) => return refuse(NOT_ENOUGH_MEMORY),
+            Err(TreeFault::NotFound) => unreachable!(),
+            Err(TreeFault::Limit) => unreachable!(),
         }
-        let reply = ChangeReply {
-            status: 0,
-            number: Some(number),
-            handle: None,
-            disposition: None,
-        };
+        let reply = accepted(number);
         self.journal.append(Entry {
             number,
             session,
@@ -263,6 +288,48 @@ impl Core {
                 kind,
                 bytes,
             },
+            reply,
+        });
+        reply
+    }
+
+    fn delete_value_cause(&self, session: u8, handle: u64, name: &Bytes) -> Option<u32>
+        ensures { result ≡ change_cause (state self.now) session (DeleteValue handle name.now) 0 }
+    {
+        let Some(found) = self.handles.look(session, handle) else {
+            return Some(INVALID_HANDLE);
+        };
+        let is_bad = check_value_name(name.as_slice()).is_err();
+        let has_no_right = found.mask & SET_VALUE != SET_VALUE;
+        let is_full = self.journal.len() + 1 + self.handles.len() > JOURNAL_LIMIT;
+        let refusal = first_refusal(is_bad, has_no_right, is_full);
+        if refusal.is_some() {
+            return refusal;
+        }
+        if has_no_value(&self.tree, name.as_slice()) {
+            return Some(FILE_NOT_FOUND);
+        }
+        None
+    }
+
+    fn delete_value(&mut self, session: u8, moment: u64, handle: u64, name: Bytes) -> ChangeReply
+        requires { change_cause (state self.old) session (DeleteValue handle name) 0 ≡ None }
+        ensures { IsApplied None self.old self.new session moment (DeleteValue handle name) result }
+    {
+        if self.journal.reserve(self.handles.len() + 1).is_err() {
+            return refuse(NOT_ENOUGH_MEMORY);
+        }
+        let number = self.journal.len() as u64;
+        match self.tree.delete_value(name.as_slice(), moment) {
+            Ok(()) => {}
+            Err(_) => unreachable!(),
+        }
+        let reply = accepted(number);
+        self.journal.append(Entry {
+            number,
+            session,
+            moment,
+            change: Change::DeleteValue { handle, name },
             reply,
         });
         reply
@@ -281,6 +348,9 @@ impl Core {
                 kind,
                 bytes,
             } => self.set_value_cause(session, *handle, name, *kind, bytes),
+            Change::DeleteValue { handle, name } => {
+                self.delete_value_cause(session, *handle, name)
+            }
         }
     }
 
@@ -297,6 +367,9 @@ impl Core {
                 kind,
                 bytes,
             } => self.set_value(session, moment, handle, name, kind, bytes),
+            Change::DeleteValue { handle, name } => {
+                self.delete_value(session, moment, handle, name)
+            }
         }
     }
 
@@ -329,8 +402,8 @@ impl Core {
                 status: ACCESS_DENIED,
             };
         }
-        match self.tree.value(name.as_slice()) {
-            Some(value) => told(self.alloc, &value, room),
+        match self.tree.find_value(name.as_slice()) {
+            Some(value) => told(self.alloc, &self.tree, value, room),
             None => AnswerBody::Refused {
                 status: FILE_NOT_FOUND,
             },
@@ -355,13 +428,12 @@ impl Core {
     }
 }
 
-/// A value as it is told: short where the room is below its size.
-fn told(alloc: Global, value: &Stored, room: Option<u32>) -> AnswerBody
-    requires { value.now.size ≤ 4 }
-    ensures { IsTold (value_told (Some (shown value.now)) room) result }
+/// A value of the root as it is told: short where the room is below its size.
+fn told(alloc: Global, tree: &Tree, value: ValueFound, room: Option<u32>) -> AnswerBody
+    requires { value.index < length (values_at tree.now.tree []) }
+    ensures { (member : Member) → slice_get (values_at tree.now.tree []) value.index ≡ Some member → value.kind ≡ member.kind → value.size ≡ length member.bytes → IsTold (value_told (Some member) room) result }
 {
-    let size = u32::from(value.size);
-    let kind = value.kind;
+    let ValueFound { index, kind, size } = value;
     let Some(room) = room else {
         return AnswerBody::Value {
             kind,
@@ -376,11 +448,11 @@ fn told(alloc: Global, value: &Stored, room: Option<u32>) -> AnswerBody
             size,
         };
     }
-    match Bytes::from_slice(alloc, value.as_slice()) {
+    match tree.value_bytes(alloc, index) {
         Ok(bytes) => AnswerBody::Value {
             kind,
             size,
-            bytes: Some(bytes),
+            bytes: Some(Bytes::from_vec(bytes)),
         },
         Err(_) => AnswerBody::Refused {
             status: NOT_ENOUGH_MEMORY,

@@ -5,3 +5,4 @@ pub mod Heaps
 pub mod Kinds
 pub mod Readings
 pub mod Forests
+pub mod Edits

@@ -8,7 +8,7 @@ use Rattle.reg_model.specs.Replies.{reply_to}
 use Rattle.reg_model.specs.Calls.{entry_due, reply_given, state_after, or_refusal, or_same}
 use Rattle.reg_model.specs.Histories.{state_of, IsFit}
 use Rattle.reg_model.specs.declared.call.Change.{Change}
-use Rattle.reg_model.specs.declared.call.Change.TheVariants.{OpenRoot, SetValue}
+use Rattle.reg_model.specs.declared.call.Change.TheVariants.{OpenRoot, SetValue, DeleteValue}
 use Rattle.reg_model.specs.declared.reply.ChangeReply.{ChangeReply}
 use Rattle.reg_model.specs.declared.reply.Entry.{Entry}
 use Rattle.reg_model.proofs.OneMore.{replay-push}
@@ -17,6 +17,7 @@ reply-zero : (s : State) (session : ℕ) (change : Change) → (reply_to s sessi
 unfolding reply_to
 reply-zero s session (OpenRoot mask) = refl
 reply-zero s session (SetValue h name kind bytes) = refl
+reply-zero s session (DeleteValue h name) = refl
 
 by_cause : (o : Option ℕ) (due : ChangeReply) (next s : State) → due.status ≡ 0 → (or_refusal o due).status ≢ 0 → or_same o next s ≡ s
 by_cause None due next s z ne = absurd (ne z)
@@ -72,11 +73,13 @@ zero-early : (s : State) (session : ℕ) (change : Change) → NotZero (early_ca
 unfolding early_cause
 zero-early s session (OpenRoot mask) = search (zero-or, zero-87, zero-1450)
 zero-early s session (SetValue h name kind bytes) = search (zero-handle, zero-or, zero-87, zero-5, zero-1450)
+zero-early s session (DeleteValue h name) = search (zero-handle, zero-or, zero-87, zero-5, zero-1450)
 
 zero-late : (s : State) (session : ℕ) (change : Change) → NotZero (late_cause s session change)
 unfolding late_cause
 zero-late s session (OpenRoot mask) = no_status
 zero-late s session (SetValue h name kind bytes) = no_status
+zero-late s session (DeleteValue h name) = zero-refuse _ 2 (λ e. omega (arith, e))
 
 zero-cause : (s : State) (session : ℕ) (change : Change) (c : ℕ) → NotZero (change_cause s session change c)
 zero-cause s session change c =

@@ -14,11 +14,12 @@ use Rattle.std.proofs.lemmas.List.{append-nil}
 use Rattle.std.proofs.lemmas.List.Elements.{All-from_recursion}
 use Rattle.std.proofs.lemmas.Map.Keys.{IsStrictlyIncreasing-from_sorted}
 use Rattle.reg_heap.specs.Paths.{Path, Tree, Rec, path_cmp}
-use Rattle.reg_model.specs.Worlds.{World, Handle, after, opened, numbered, look, edited, path_at, with_value}
+use Rattle.reg_heap.specs.Edits.{edited, with_value, without_value}
+use Rattle.reg_model.specs.Worlds.{World, Handle, after, opened, numbered, look, path_at}
 use Rattle.reg_model.specs.Replies.{reply_to}
 use Rattle.reg_model.specs.Histories.{replay, IsFit, IsLegalAfter, IsLegal}
 use Rattle.reg_model.specs.declared.call.Change.{Change}
-use Rattle.reg_model.specs.declared.call.Change.TheVariants.{OpenRoot, SetValue}
+use Rattle.reg_model.specs.declared.call.Change.TheVariants.{OpenRoot, SetValue, DeleteValue}
 use Rattle.reg_model.specs.declared.reply.Entry.{Entry}
 use Rattle.reg_model.proofs.OneMore.{replay-push}
 
@@ -85,6 +86,7 @@ unfolding after
 rising-after w n e number r = elim e.change as (λ (change : Change). AreRising (n + 1) (after w (record e { change = change })).handles) [
   | OpenRoot mask ↦ record { below = below-push n w.handles (opened e [] mask) number r.below; rising = rising-push n w.handles (opened e [] mask) number r.below r.rising }
   | SetValue h name kind bytes ↦ record { below = rising-weaker n w.handles r.below; rising = r.rising }
+  | DeleteValue h name ↦ record { below = rising-weaker n w.handles r.below; rising = r.rising }
 ]
 
 rising-all : (origin : Tree) (es : List Entry) → IsLegal origin es → AreRising (length es) (replay origin es).handles
@@ -146,6 +148,7 @@ unfolding after
 root-after w e h = elim e.change as (λ (change : Change). HasRoot (after w (record e { change = change })).tree) [
   | OpenRoot mask ↦ h
   | SetValue n name kind bytes ↦ root-edited w.tree (path_at e.session n w.handles) (with_value name kind bytes e.moment) h
+  | DeleteValue n name ↦ root-edited w.tree (path_at e.session n w.handles) (without_value name e.moment) h
 ]
 
 -- a tree that holds its root holds it after a legal journal

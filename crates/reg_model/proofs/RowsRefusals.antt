@@ -6,7 +6,7 @@ use Rattle.reg_model.specs.Worlds.{Handle, Place, At, Deleted}
 use Rattle.reg_model.specs.Causes.{State, early_cause, late_cause, change_cause, early_query_cause, late_query_cause, query_cause}
 use Rattle.reg_model.specs.Replies.{body_of, refusal}
 use Rattle.reg_model.specs.declared.call.Change.{Change}
-use Rattle.reg_model.specs.declared.call.Change.TheVariants.{OpenRoot, SetValue}
+use Rattle.reg_model.specs.declared.call.Change.TheVariants.{OpenRoot, SetValue, DeleteValue}
 use Rattle.reg_model.specs.declared.call.Query.{Query}
 use Rattle.reg_model.specs.declared.call.Query.TheVariants.{QueryValue}
 use Rattle.reg_model.specs.declared.answer.AnswerBody.TheVariants.{Short, Value}
@@ -55,7 +55,7 @@ set_another_session = refl
 
 set_own_session : change_cause few 1 (put 4) 0 ≡ None
 unfolding early_cause late_cause
-set_own_session = refl
+set_own_session = rw root_put refl
 
 query_no_handle : query_cause few 0 (ask 9) 0 ≡ Some 6
 unfolding early_query_cause late_query_cause
@@ -101,22 +101,22 @@ set_bad_name : change_cause few 0 (SetValue 0 (128 ∷ []) 4 (1 ∷ [])) 0 ≡ S
 unfolding early_cause late_cause
 set_bad_name = refl
 
-set_name : change_cause few 0 (SetValue 0 (118 ∷ []) 4 (1 ∷ [])) 0 ≡ Some 87
+set_name : change_cause few 0 (SetValue 0 (118 ∷ []) 4 (1 ∷ [])) 0 ≡ None
 unfolding early_cause late_cause
-set_name = refl
+set_name = rw root_put refl
 
-set_five_bytes : change_cause few 0 (SetValue 0 [] 4 (1 ∷ 2 ∷ 3 ∷ 4 ∷ 5 ∷ [])) 0 ≡ Some 87
+set_five_bytes : change_cause few 0 (SetValue 0 [] 4 (1 ∷ 2 ∷ 3 ∷ 4 ∷ 5 ∷ [])) 0 ≡ None
 unfolding early_cause late_cause
-set_five_bytes = refl
+set_five_bytes = rw root_put refl
 
 set_four_bytes : change_cause few 0 (SetValue 0 [] 4 (1 ∷ 2 ∷ 3 ∷ 4 ∷ [])) 0 ≡ None
 unfolding early_cause late_cause
-set_four_bytes = refl
+set_four_bytes = rw root_put refl
 
 -- any type of 32 bits, and no bytes
 set_any_kind : change_cause few 0 (SetValue 0 [] 4294967295 []) 0 ≡ None
 unfolding early_cause late_cause
-set_any_kind = refl
+set_any_kind = rw root_put refl
 
 query_bad_name : query_cause few 0 (QueryValue 0 (0 ∷ []) None) 0 ≡ Some 87
 unfolding early_query_cause late_query_cause
@@ -130,7 +130,7 @@ set_without_right = refl
 
 set_with_right : change_cause few 0 (put 3) 0 ≡ None
 unfolding early_cause late_cause
-set_with_right = refl
+set_with_right = rw root_put refl
 
 query_without_right : query_cause few 0 (ask 3) 0 ≡ Some 5
 unfolding early_query_cause late_query_cause
@@ -165,7 +165,7 @@ no_room_for_an_open = refl
 
 room_for_a_set : change_cause (state 16777210 handles root) 0 (put 0) 0 ≡ None
 unfolding early_cause late_cause
-room_for_a_set = refl
+room_for_a_set = rw root_put refl
 
 no_room_for_a_set : change_cause full 0 (put 0) 0 ≡ Some 1450
 unfolding early_cause late_cause
@@ -195,7 +195,7 @@ count_before_callbacks = refl
 
 callbacks : change_cause few 0 (put 0) 31 ≡ Some 31
 unfolding early_cause late_cause
-callbacks = refl
+callbacks = rw root_put refl
 
 mask_before_count : change_cause full 0 (OpenRoot 64) 31 ≡ Some 87
 unfolding early_cause late_cause
@@ -259,3 +259,44 @@ larger_room = rw root_put refl
 -- a refusal is told by its status alone
 refused : refusal 5 ≡ record { status = 5; number = None; handle = None; disposition = None }
 refused = refl
+
+-- ---- DeleteValue: each refusal, and its place in the order
+
+abbrev drop_default : ℕ → Change
+drop_default h = DeleteValue h []
+
+delete_no_handle : change_cause full 0 (DeleteValue 9 (128 ∷ [])) 31 ≡ Some 6
+unfolding early_cause late_cause
+delete_no_handle = refl
+
+delete_deleted : change_cause full 0 (DeleteValue 1 (128 ∷ [])) 31 ≡ Some 1018
+unfolding early_cause late_cause
+delete_deleted = refl
+
+delete_bad_name : change_cause full 0 (DeleteValue 2 (128 ∷ [])) 31 ≡ Some 87
+unfolding early_cause late_cause
+delete_bad_name = refl
+
+delete_without_right : change_cause full 0 (drop_default 2) 31 ≡ Some 5
+unfolding early_cause late_cause
+delete_without_right = refl
+
+delete_no_room : change_cause full 0 (drop_default 0) 31 ≡ Some 1450
+unfolding early_cause late_cause
+delete_no_room = refl
+
+delete_callbacks : change_cause few 0 (DeleteValue 0 (118 ∷ [])) 31 ≡ Some 31
+unfolding early_cause late_cause
+delete_callbacks = refl
+
+delete_no_value : change_cause few 0 (DeleteValue 0 (118 ∷ [])) 0 ≡ Some 2
+unfolding early_cause late_cause
+delete_no_value = rw root_put refl
+
+delete_from_bare : change_cause (state 5 handles bare) 0 (drop_default 0) 0 ≡ Some 2
+unfolding early_cause late_cause
+delete_from_bare = rw root_put refl
+
+delete_accepted : change_cause few 0 (drop_default 0) 0 ≡ None
+unfolding early_cause late_cause
+delete_accepted = rw root_put refl

@@ -53,7 +53,7 @@ opened_world = refl
 
 set_cause : change_cause (state_of origin (opening_entry ∷ [])) 0 (SetValue 0 [] 4 (1 ∷ 0 ∷ 0 ∷ 0 ∷ [])) 0 ≡ None
 unfolding early_cause late_cause after
-set_cause = refl
+set_cause = rw root_put refl
 
 set_reply : reply_to (state_of origin (opening_entry ∷ [])) 0 (SetValue 0 [] 4 (1 ∷ 0 ∷ 0 ∷ 0 ∷ [])) ≡ record { status = 0; number = Some 1; handle = None; disposition = None }
 unfolding reply_to
@@ -116,13 +116,13 @@ opened_after = refl
 
 set_after : state_after (state_of origin (opening_entry ∷ [])) 0 7 (SetValue 0 [] 4 (1 ∷ 0 ∷ 0 ∷ 0 ∷ [])) 0 ≡ state_of origin (opening_entry ∷ setting_entry ∷ [])
 unfolding state_after early_cause late_cause reply_to after
-set_after = refl
+set_after = rw root_put refl
 
 -- a callback that answers 31
 refused_told : reply_given (state_of origin (opening_entry ∷ [])) 0 (SetValue 0 [] 4 (1 ∷ 0 ∷ 0 ∷ 0 ∷ [])) 31 ≡ record { status = 31; number = None; handle = None; disposition = None }
 unfolding reply_given early_cause late_cause after
-refused_told = refl
+refused_told = rw root_put refl
 
 refused_after : state_after (state_of origin (opening_entry ∷ [])) 0 7 (SetValue 0 [] 4 (1 ∷ 0 ∷ 0 ∷ 0 ∷ [])) 31 ≡ state_of origin (opening_entry ∷ [])
 unfolding state_after early_cause late_cause after
-refused_after = refl
+refused_after = rw root_put refl

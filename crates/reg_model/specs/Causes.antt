@@ -1,12 +1,12 @@
 -- Which calls are refused: the first refusal in the order of the rules.
-use Rattle.std.specs.Prelude.{ℕ, ◌+◌, ◌==◌, ◌||◌, not, nat_lt, nat_le, Bool, List, [], count_by, length, if◌then◌else◌, Option, Some, None, is_some, bit_and}
-use Rattle.std.specs.FinMap.{get}
+use Rattle.std.specs.Prelude.{ℕ, ◌+◌, ◌==◌, ◌||◌, ◌&&◌, not, nat_lt, nat_le, Bool, List, [], count_by, length, if◌then◌else◌, Option, Some, None, is_some, bit_and}
 use Rattle.reg_names.specs.Names.{is_value_name}
-use Rattle.reg_heap.specs.Paths.{Path, Tree, Rec, Member}
+use Rattle.reg_heap.specs.Paths.{Member}
 use Rattle.reg_heap.specs.Members.{value_named}
+use Rattle.reg_heap.specs.Edits.{values_at}
 use Rattle.reg_model.specs.Worlds.{World, Handle, Place, At, Deleted, look, path_at}
 use Rattle.reg_model.specs.declared.call.Change.{Change}
-use Rattle.reg_model.specs.declared.call.Change.TheVariants.{OpenRoot, SetValue}
+use Rattle.reg_model.specs.declared.call.Change.TheVariants.{OpenRoot, SetValue, DeleteValue}
 use Rattle.reg_model.specs.declared.call.Query.{Query}
 use Rattle.reg_model.specs.declared.call.Query.TheVariants.{QueryValue}
 
@@ -56,19 +56,13 @@ is_full more s = nat_lt 16777216 (s.count + more + length s.world.handles)
 abbrev pub no_handle_room : ℕ → State → Bool
 no_handle_room session s = nat_le 16384 (handles_of session s.world.handles) || is_full 2 s
 
-abbrev pub values_of : Option Rec → List Member
-values_of None = []
-values_of (Some r) = r.values
-
-abbrev pub values_at : Tree → Path → List Member
-values_at t p = values_of (get t p)
-
--- temporary: a value has no name and at most 4 bytes
-abbrev pub is_past_first_limits : List ℕ → List ℕ → Bool
-is_past_first_limits name bytes = nat_lt 0 (length name) || nat_lt 4 (length bytes)
-
+-- no value name, or data above 1,048,576 bytes
 abbrev pub is_bad_value : List ℕ → List ℕ → Bool
-is_bad_value name bytes = not (is_value_name name) || nat_lt 1048576 (length bytes) || is_past_first_limits name bytes
+is_bad_value name bytes = not (is_value_name name) || nat_lt 1048576 (length bytes)
+
+-- a new name beside 16,384 values
+abbrev pub no_value_room : List ℕ → List Member → Bool
+no_value_room name values = nat_le 16384 (length values) && not (is_some (value_named name values))
 
 -- what is refused before the callbacks are asked: 6, 1018, 87, 5 and 1450 by a count
 unfoldable pub early_cause : State → ℕ → Change → Option ℕ
@@ -77,7 +71,13 @@ early_cause s session change = by change
     by : Change → Option ℕ
     by (OpenRoot mask) = refuse (not (is_mask mask)) 87 or refuse (no_handle_room session s) 1450
     by (SetValue h name kind bytes) =
-        by_handle (λ r. refuse (is_bad_value name bytes) 87 or refuse (not (has 2 r.mask)) 5 or refuse (is_full 1 s) 1450) (look session h s.world.handles)
+        by_handle (λ r. refuse (is_bad_value name bytes) 87 or refuse (not (has 2 r.mask)) 5 or refuse (is_full 1 s || no_value_room name (values_at s.world.tree (path_at session h s.world.handles))) 1450) (look session h s.world.handles)
+    by (DeleteValue h name) =
+        by_handle (λ r. refuse (not (is_value_name name)) 87 or refuse (not (has 2 r.mask)) 5 or refuse (is_full 1 s) 1450) (look session h s.world.handles)
+
+-- the handle's key has no value of that name
+abbrev pub lacks_value : State → ℕ → ℕ → List ℕ → Bool
+lacks_value s session h name = not (is_some (value_named name (values_at s.world.tree (path_at session h s.world.handles))))
 
 -- what is refused after them: the call's own cause
 unfoldable pub late_cause : State → ℕ → Change → Option ℕ
@@ -86,6 +86,7 @@ late_cause s session change = by change
     by : Change → Option ℕ
     by (OpenRoot mask) = None
     by (SetValue h name kind bytes) = None
+    by (DeleteValue h name) = refuse (lacks_value s session h name) 2
 
 -- the first refusal of a change; c is the callbacks' status
 abbrev pub change_cause : State → ℕ → Change → ℕ → Option ℕ
@@ -101,7 +102,7 @@ unfoldable pub late_query_cause : State → ℕ → Query → Option ℕ
 late_query_cause s session query = by query
   where
     by : Query → Option ℕ
-    by (QueryValue h name room) = refuse (not (is_some (value_named name (values_at s.world.tree (path_at session h s.world.handles))))) 2
+    by (QueryValue h name room) = refuse (lacks_value s session h name) 2
 
 -- the first refusal of a question; c is the callbacks' status
 abbrev pub query_cause : State → ℕ → Query → ℕ → Option ℕ

@@ -3,9 +3,10 @@ use Rattle.std.specs.Prelude.{ℕ, nat_lt, length, if◌then◌else◌, Option, 
 use Rattle.reg_heap.specs.Paths.{Member}
 use Rattle.reg_heap.specs.Members.{value_named}
 use Rattle.reg_model.specs.Worlds.{path_at}
-use Rattle.reg_model.specs.Causes.{State, values_at}
+use Rattle.reg_heap.specs.Edits.{values_at}
+use Rattle.reg_model.specs.Causes.{State}
 use Rattle.reg_model.specs.declared.call.Change.{Change}
-use Rattle.reg_model.specs.declared.call.Change.TheVariants.{OpenRoot, SetValue}
+use Rattle.reg_model.specs.declared.call.Change.TheVariants.{OpenRoot, SetValue, DeleteValue}
 use Rattle.reg_model.specs.declared.call.Query.{Query}
 use Rattle.reg_model.specs.declared.call.Query.TheVariants.{QueryValue}
 use Rattle.reg_model.specs.declared.reply.ChangeReply.{ChangeReply}
@@ -26,6 +27,7 @@ reply_to s session change = by change
     by : Change → ChangeReply
     by (OpenRoot mask) = accepted (Some s.count) None
     by (SetValue h name kind bytes) = accepted None None
+    by (DeleteValue h name) = accepted None None
 
 -- a value as it is told: its type and size, and its bytes if a room was given; 234 where the room is below the size
 abbrev pub value_told : Option Member → Option ℕ → AnswerBody

@@ -1,10 +1,9 @@
 -- A world, and what an accepted change makes of it.
 use Rattle.std.specs.Prelude.{ℕ, ◌==◌, List, [], ◌∷◌, ◌++◌, if◌then◌else◌, Option, Some, None}
-use Rattle.std.specs.FinMap.{get, insert}
-use Rattle.reg_heap.specs.Paths.{Path, Tree, Rec}
-use Rattle.reg_heap.specs.Members.{values_with}
+use Rattle.reg_heap.specs.Paths.{Path, Tree}
+use Rattle.reg_heap.specs.Edits.{edited, with_value, without_value}
 use Rattle.reg_model.specs.declared.call.Change.{Change}
-use Rattle.reg_model.specs.declared.call.Change.TheVariants.{OpenRoot, SetValue}
+use Rattle.reg_model.specs.declared.call.Change.TheVariants.{OpenRoot, SetValue, DeleteValue}
 use Rattle.reg_model.specs.declared.reply.Entry.{Entry}
 
 -- where a handle leads: to a key, or nowhere any more
@@ -53,21 +52,11 @@ path_at session number hs = by (look session number hs)
 abbrev pub opened : Entry → Path → ℕ → Handle
 opened e p mask = record { number = e.number; session = e.session; mask = mask; place = At p }
 
-abbrev pub with_value : List ℕ → ℕ → List ℕ → ℕ → Rec → Rec
-with_value name kind bytes moment r = record r { time = moment; values = values_with name kind bytes r.values }
-
--- the key at a path changed
-abbrev pub edited : Tree → Path → (Rec → Rec) → Tree
-edited t p f = put (get t p)
-  where
-    put : Option Rec → Tree
-    put None = t
-    put (Some r) = insert t p (f r)
-
--- the world after an accepted change (`RegOpenKeyEx`, `RegSetValueEx`): one line for each change
+-- the world after an accepted change (`RegOpenKeyEx`, `RegSetValueEx`, `RegDeleteValue`): one line for each change
 unfoldable pub after : World → Entry → World
 after w e = by e.change
   where
     by : Change → World
     by (OpenRoot mask) = record w { handles = w.handles ++ opened e [] mask ∷ [] }
     by (SetValue h name kind bytes) = record w { tree = edited w.tree (path_at e.session h w.handles) (with_value name kind bytes e.moment) }
+    by (DeleteValue h name) = record w { tree = edited w.tree (path_at e.session h w.handles) (without_value name e.moment) }

@@ -17,6 +17,11 @@ pub enum Change {
         kind: u32,
         bytes: Bytes,
     },
+    /// Removes a value of the handle's key (`RegDeleteValue`).
+    DeleteValue {
+        handle: u64,
+        name: Bytes,
+    },
 }
 
 impl Change {
@@ -36,6 +41,10 @@ impl Change {
                 name: name.try_clone(alloc)?,
                 kind: *kind,
                 bytes: bytes.try_clone(alloc)?,
+            }),
+            Change::DeleteValue { handle, name } => Ok(Change::DeleteValue {
+                handle: *handle,
+                name: name.try_clone(alloc)?,
             }),
         }
     }

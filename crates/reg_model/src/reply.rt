@@ -6,7 +6,7 @@ use std::alloc::{AllocError, Global};
 /// The reply to a change. A refused one has no number, no handle and no disposition.
 #[derive(Clone, Copy, Debug, PartialEq, Eq)]
 pub struct ChangeReply {
-    /// 0, or the number of the refusal: 5, 6, 8, 87, 1018 or 1450.
+    /// 0, or the number of the refusal: 2, 5, 6, 8, 87, 1018 or 1450.
     pub status: u32,
     /// The number of the change's entry.
     pub number: Option<u64>,

@@ -72,7 +72,7 @@ lists-local h k (offset ∷ offsets) lists e s =
 abbrev listed : ℕ → SubkeysList → Index
 listed offset l = Listed (record { place = offset; list = l })
 
-index-local : (h k : Heap) (count offset : ℕ) (index : Index) → index_at h count offset ≡ Some index → Keeps h k (index_cells index) → index_at k count offset ≡ Some index
+pub index-local : (h k : Heap) (count offset : ℕ) (index : Index) → index_at h count offset ≡ Some index → Keeps h k (index_cells index) → index_at k count offset ≡ Some index
 index-local h k zero offset index e s = e
 index-local h k (suc count) offset index e s =
     let o = then-open (λ l. index_as h offset l l.form) (list_at h offset) index e in

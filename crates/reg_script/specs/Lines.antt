@@ -2,7 +2,7 @@
 use Rattle.std.specs.Prelude.{◌≡◌, ℕ, List, [], ◌∷◌, ◌++◌, codes, replicate}
 use Rattle.std.specs.FinMap.{insert, empty}
 use Rattle.reg_model.specs.declared.step.Outcome.{Outcome}
-use Rattle.reg_calls.specs.Roots.{made_root}
+use Rattle.reg_tree.specs.Keys.{made_root}
 use Rattle.reg_calls.specs.Views.{View}
 use Rattle.reg_calls.specs.Runs.{IsStep}
 use Rattle.reg_script.specs.Words.{lines_of}

@@ -3,10 +3,10 @@ use Rattle.std.specs.Prelude.{ℕ, ◌==◌, if◌then◌else◌, List, [], ◌�
 use Rattle.std.specs.Str.{bytes_eq}
 use Rattle.reg_model.specs.declared.call.Call.{Call}
 use Rattle.reg_model.specs.declared.call.Call.TheVariants.{Change, Query}
-use Rattle.reg_model.specs.declared.call.Change.TheVariants.{OpenRoot, SetValue}
+use Rattle.reg_model.specs.declared.call.Change.TheVariants.{OpenRoot, SetValue, DeleteValue}
 use Rattle.reg_model.specs.declared.call.Query.TheVariants.{QueryValue}
 use Rattle.reg_script.specs.declared.line.Verb.{Verb}
-use Rattle.reg_script.specs.declared.line.Verb.TheVariants.{At, As, Hive, Root, Set, Query as QueryVerb}
+use Rattle.reg_script.specs.declared.line.Verb.TheVariants.{At, As, Hive, Root, Set, DelValue, Query as QueryVerb}
 use Rattle.reg_script.specs.Words.{words_of, number_of, name_of, data_of}
 
 -- what a line means: nothing, a setting for the lines after it, a call, or `bad`
@@ -51,6 +51,7 @@ verb_of word =
     else if bytes_eq word (codes "hive") then Some Hive
     else if bytes_eq word (codes "root") then Some Root
     else if bytes_eq word (codes "set") then Some Set
+    else if bytes_eq word (codes "delvalue") then Some DelValue
     else if bytes_eq word (codes "query") then Some QueryVerb
     else None
 
@@ -62,6 +63,7 @@ by_verb Hive = reading (number_of 0) (λ hive. ending on_hive)
 by_verb Root = reading small_number_of (λ mask. ending (asks (Change (OpenRoot mask))))
 by_verb Set =
     reading long_number_of (λ handle. reading name_of (λ name. reading small_number_of (λ kind. reading data_of (λ bytes. ending (asks (Change (SetValue handle name kind bytes)))))))
+by_verb DelValue = reading long_number_of (λ handle. reading name_of (λ name. ending (asks (Change (DeleteValue handle name)))))
 by_verb QueryVerb =
     reading long_number_of (λ handle. reading name_of (λ name. reading room_of (λ room. ending (asks (Query (QueryValue handle name room))))))
 

@@ -41,5 +41,6 @@ pub enum Verb {
     Hive,
     Root,
     Set,
+    DelValue,
     Query,
 }

@@ -127,6 +127,7 @@ impl<'a> Words<'a> {
             Verb::Hive => self.hive(),
             Verb::Root => self.root(),
             Verb::Set => self.set(alloc),
+            Verb::DelValue => self.delete_value(alloc),
             Verb::Query => self.query(alloc),
         }
     }
@@ -181,6 +182,19 @@ impl<'a> Words<'a> {
             name,
             kind,
             bytes,
+        })))
+    }
+
+    /// `delvalue H NAME`.
+    #[tactic(auto, unfolding(crate::specs::Meanings::by_verb))]
+    fn delete_value(&mut self, alloc: Global) -> Result<Line, ParseFault>
+        ensures { Means (by_verb Verb.DelValue) self.old result self.new }
+    {
+        let handle = self.number(u64::MAX)?;
+        let name = self.name(alloc)?;
+        Ok(Line::Call(Call::Change(Change::DeleteValue {
+            handle,
+            name,
         })))
     }
 

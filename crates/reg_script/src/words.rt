@@ -56,6 +56,9 @@ pub fn verb(word: &[u8]) -> Result<Verb, ParseFault>
     if word == b"set".as_slice() {
         return Ok(Verb::Set);
     }
+    if word == b"delvalue".as_slice() {
+        return Ok(Verb::DelValue);
+    }
     if word == b"query".as_slice() {
         return Ok(Verb::Query);
     }

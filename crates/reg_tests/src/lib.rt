@@ -8,3 +8,5 @@ mod hives;
 mod limits;
 #[cfg(test)]
 mod support;
+#[cfg(test)]
+mod values;

@@ -27,14 +27,6 @@ fn missing_right(rt: HostRuntime) -> Result<(), Fail> {
 }
 
 #[test]
-fn past_the_first_limit(rt: HostRuntime) -> Result<(), Fail> {
-    let (hive, status) = hive_with(rt.alloc(), 20, ALL, &[1, 2, 3, 4, 5])?;
-    assert_eq!(rt; status, 87);
-    assert_eq!(rt; hive.len(), 1);
-    Ok(())
-}
-
-#[test]
 fn another_hive(rt: HostRuntime) -> Result<(), Fail> {
     let (_hive, _) = hive_with(rt.alloc(), 20, ALL, &[1])?;
     let mut other = new_hive(rt.alloc(), 20)?;

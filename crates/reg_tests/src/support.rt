@@ -36,11 +36,51 @@ pub fn set(alloc: Global, hive: &mut Hive, name: &[u8], bytes: &[u8]) -> Result<
     Ok(hive.apply(0, 256, change).status)
 }
 
+/// Sets a value of handle 0 to so many bytes.
+pub fn set_bytes(alloc: Global, hive: &mut Hive, name: &[u8], len: usize) -> Result<u32, Fail> {
+    let bytes = vec![in alloc; 7; len]?;
+    set(alloc, hive, name, bytes.as_slice())
+}
+
+/// Removes a value of handle 0 at moment 512, and tells the reply's status.
+pub fn delete(alloc: Global, hive: &mut Hive, name: &[u8]) -> Result<u32, Fail> {
+    let name = Bytes::from_slice(alloc, name)?;
+    let change = Change::DeleteValue { handle: 0, name };
+    Ok(hive.apply(0, 512, change).status)
+}
+
+/// Sets so many values, named by their numbers, and tells the last status.
+pub fn fill(alloc: Global, hive: &mut Hive, values: u32) -> Result<u32, Fail> {
+    let mut status = 0;
+    for number in 0..values {
+        let name = format!(in alloc; "{number}")?;
+        status = set(alloc, hive, name.as_bytes(), &[])?;
+    }
+    Ok(status)
+}
+
 /// Asks for the default value of handle 0, and tells the answer: where, and the status and the value.
 pub fn ask(alloc: Global, hive: &Hive, session: u8, room: Option<u32>) -> Result<String, Fail>
     requires { session < 64 }
 {
-    let name = Bytes::from_vec(Vec::new(alloc));
+    ask_as(alloc, hive, session, &[], room)
+}
+
+/// Asks for a value of handle 0, and tells the answer.
+pub fn ask_for(alloc: Global, hive: &Hive, name: &[u8], room: Option<u32>) -> Result<String, Fail> {
+    ask_as(alloc, hive, 0, name, room)
+}
+
+fn ask_as(
+    alloc: Global,
+    hive: &Hive,
+    session: u8,
+    name: &[u8],
+    room: Option<u32>,
+) -> Result<String, Fail>
+    requires { session < 64 }
+{
+    let name = Bytes::from_slice(alloc, name)?;
     let query = Query::QueryValue {
         handle: 0,
         name,
@@ -81,6 +121,25 @@ pub fn hive_with(
     let _opened = open(alloc, &mut hive, mask)?;
     let status = set(alloc, &mut hive, b"", bytes)?;
     Ok((hive, status))
+}
+
+/// A hive with a value of so many bytes, and the status of its set.
+pub fn hive_with_value(alloc: Global, name: &[u8], len: usize) -> Result<(Hive, u32), Fail> {
+    let mut hive = new_hive(alloc, 20)?;
+    let _opened = open(alloc, &mut hive, ALL)?;
+    let status = set_bytes(alloc, &mut hive, name, len)?;
+    Ok((hive, status))
+}
+
+/// How many allocated cells of a size a hive has.
+pub fn count_cells(alloc: Global, hive: &Hive, size: u32) -> Result<usize, Fail> {
+    let cells = hive.arena().cells(alloc)?;
+    Ok(
+        cells
+            .iter()
+            .filter(|cell| cell.allocated && cell.size == size)
+            .count(),
+    )
 }
 
 /// The cells of a hive's bins: offsets, sizes, and a star for an allocated one.

@@ -2,13 +2,16 @@
 //!
 //! Suhanov, Windows registry file format specification, section "Big data".
 
-ghost use Rattle.std.specs.Prelude.{◌≡◌, ◌<◌, ◌≤◌, ◌*◌, ◌+◌, ℕ, List, Some, IsSome, IfOk, length};
-ghost use Rattle.reg_heap.specs.Kinds.{Found};
+ghost use Rattle.std.specs.Prelude.{◌≡◌, ◌<◌, ◌≤◌, ◌*◌, ◌+◌, ℕ, List, Some, IsSome, IfOk, length, get_or, take, drop, [], ◌∷◌};
+ghost use Rattle.reg_heap.specs.Heaps.{GivesUp, allocated};
+ghost use Rattle.reg_heap.specs.Kinds.{Found, times};
 ghost use Rattle.reg_arena.specs.Cells.{cell_at};
-ghost use Rattle.reg_records.specs.Cells.{held};
-ghost use Rattle.reg_records.specs.Pieces.{segments_for as segments_for_of, db_of};
-ghost use Rattle.reg_records.specs.Nodes.{big_at as big_data_at};
-ghost use Rattle.reg_values.specs.Parts.{segments_at};
+ghost use Rattle.reg_records.specs.Cells.{HasRoom, held};
+ghost use Rattle.reg_records.specs.Rows.{offsets_at};
+ghost use Rattle.reg_records.specs.Pieces.{segments_for as segments_for_of, segments as segments_of, db_of};
+ghost use Rattle.reg_records.specs.Nodes.{pieces_at, big_at as big_data_at};
+ghost use Rattle.reg_values.specs.Parts.{segments_at, Owns, GivesUpRead, Fills, HoldsData};
+
 
 use crate::SEGMENT;
 use reg_arena::Arena;
@@ -74,36 +77,85 @@ fn joined(
 }
 
 /// The bytes of one segment.
-fn piece(bytes: &[u8], index: usize) -> &[u8] {
+fn piece(bytes: &[u8], index: usize) -> &[u8]
+    requires within { 16344 * index ≤ length bytes.now }
+    requires small { length bytes.now ≤ 1048576 }
+    ensures { result.now ≡ take 16344 (drop (16344 * index) bytes.now) }
+{
     let from = SEGMENT * index;
     &bytes[from..bytes.len().min(from + SEGMENT)]
 }
 
-/// Writes data into its segments, which the list in a cell names.
-fn put_segments(arena: &mut Arena, list: u32, segments: &[u32], bytes: &[u8]) {
+/// Writes the offsets of segments into their list.
+fn put_row(arena: &mut Arena, list: u32, segments: &[u32])
+    requires few { length segments.now < 1073741824 }
+    requires room { HasRoom (cell_at arena.old.bytes) list (4 * length segments.now) }
+    ensures fills { Fills (cell_at arena.old.bytes) (cell_at arena.new.bytes) (list ∷ []) }
+    ensures row { offsets_at (length segments.now) 0 (held (cell_at arena.new.bytes) list) ≡ segments.now }
+{
     for index in 0..segments.len() {
         put_offset(arena, list, index as u32, segments[index]);
+    }
+}
+
+/// Writes data into its segments.
+fn put_pieces(arena: &mut Arena, segments: &[u32], bytes: &[u8])
+    requires small { length bytes.now ≤ 1048576 }
+    requires all { length bytes.now ≤ 16344 * length segments.now }
+    requires none_over { 16344 * length segments.now < length bytes.now + 16344 }
+    requires once { (offset : ℕ) → times offset segments.now ≤ 1 }
+    requires room { (index : ℕ) → index < length segments.now → HasRoom (cell_at arena.old.bytes) (get_or segments.now index 0) (length (take 16344 (drop (16344 * index) bytes.now))) }
+    ensures fills { Fills (cell_at arena.old.bytes) (cell_at arena.new.bytes) segments.now }
+    ensures reads { (met : List Found) × (pieces_at (segments_of (length bytes.now) segments.now) (cell_at arena.new.bytes) ≡ Some (bytes.now, met)) }
+{
+    for index in 0..segments.len() {
         arena.write(segments[index], 0, piece(bytes, index));
     }
 }
 
 /// Writes data into new cells: a big data record's, its list's, and the segments'.
-pub(crate) fn put_big(arena: &mut Arena, cells: &[u32], bytes: &[u8]) {
+pub(crate) fn put_big(arena: &mut Arena, head: u32, list: u32, segments: &[u32], bytes: &[u8])
+    requires big { 16344 < length bytes.now }
+    requires small { length bytes.now ≤ 1048576 }
+    requires count { length segments.now ≡ segments_for_of (length bytes.now) }
+    requires once { (offset : ℕ) → times offset (head ∷ list ∷ segments.now) ≤ 1 }
+    requires head { HasRoom (cell_at arena.old.bytes) head 8 }
+    requires list { HasRoom (cell_at arena.old.bytes) list (4 * length segments.now) }
+    requires room { (index : ℕ) → index < length segments.now → HasRoom (cell_at arena.old.bytes) (get_or segments.now index 0) (length (take 16344 (drop (16344 * index) bytes.now))) }
+    ensures fills { Fills (cell_at arena.old.bytes) (cell_at arena.new.bytes) (head ∷ list ∷ segments.now) }
+    ensures holds { HoldsData (cell_at arena.new.bytes) (length bytes.now) head bytes.now (head ∷ list ∷ segments.now) }
+{
     let fields = BigFields {
-        count: (cells.len() - 2) as u16,
-        list: cells[1],
+        count: segments.len() as u16,
+        list,
     };
-    put_db(arena, cells[0], &fields);
-    put_segments(arena, cells[1], &cells[2..], bytes);
+    put_db(arena, head, &fields);
+    put_row(arena, list, segments);
+    put_pieces(arena, segments, bytes);
 }
 
-/// Frees a big data record, its list and its segments.
-pub(crate) fn free_big(arena: &mut Arena, size: usize, cell: u32) {
-    let list = big_at(arena, cell).list;
-    for index in 0..segments_for(size) {
+/// Frees the segments that a list names.
+fn free_segments(arena: &mut Arena, list: u32, count: usize)
+    requires few { count < 1073741824 }
+    requires exists { IsSome (cell_at arena.old.bytes list) }
+    requires long { 4 * count ≤ length (held (cell_at arena.old.bytes) list) }
+    requires once { (offset : ℕ) → times offset (offsets_at count 0 (held (cell_at arena.old.bytes) list)) + times offset (list ∷ []) ≤ allocated (cell_at arena.old.bytes) offset }
+    ensures { GivesUp (cell_at arena.old.bytes) (cell_at arena.new.bytes) (offsets_at count 0 (held (cell_at arena.old.bytes) list)) }
+{
+    for index in 0..count {
         let segment = offset_at(arena.content(list), index as u32);
         arena.free(segment);
     }
+}
+
+/// Frees a big data record, its list and its segments.
+pub(crate) fn free_big(arena: &mut Arena, size: usize, cell: u32)
+    requires size { size < 4294967296 }
+    requires big { Owns (big_data_at size cell) (cell_at arena.old.bytes) }
+    ensures { GivesUpRead (big_data_at size cell) (cell_at arena.old.bytes) (cell_at arena.new.bytes) }
+{
+    let list = big_at(arena, cell).list;
+    free_segments(arena, list, segments_for(size));
     arena.free(list);
     arena.free(cell);
 }

@@ -148,9 +148,6 @@ set 0 =v 4 x0 -> bad
 root 983103 -> 0 handle 0
 query 0 = - -> 2
 query 0 =v - -> 2
-# more than 4 bytes, or a name: not stored yet
-set 0 = 4 x0102030405 -> 87
-set 0 =v 4 x01 -> 87
 set 0 = 4 x01000000 -> 0
 query 0 = 4 -> 0 type 4 size 4 x01000000
 set 0 = 4294967295 x01020304 -> 0
@@ -170,7 +167,7 @@ query 5 = 2 -> 0 type 0 size 2 xabcd
 const REFUSALS: &str = "\
 root 1 -> 0 handle 0
 set 0 = 4 x01 -> 5
-set 0 =v 4 x01 -> 87
+set 0 =%00 4 x01 -> 87
 query 0 = - -> 2
 root 1048576 -> 87
 root 64 -> 87
@@ -197,6 +194,34 @@ query 4 = 1 -> 6
 query 0 = 1 -> 0 type 4 size 1 x01
 ";
 
+const VALUES: &str = "\
+root 983103 -> 0 handle 0
+set 0 = 3 x0102030405 -> 0
+query 0 = 5 -> 0 type 3 size 5 x0102030405
+delvalue 0 = -> 0
+delvalue 0 = -> 2
+query 0 = - -> 2
+set 0 =e 3 x -> 0
+query 0 =e 0 -> 0 type 3 size 0 x
+query 0 =e - -> 0 type 3 size 0
+query 0 =f - -> 2
+set 0 =t 3 x00010203040506070809 -> 0
+query 0 =T 9 -> 234 type 3 size 10
+query 0 =t 10 -> 0 type 3 size 10 x00010203040506070809
+# another spelling sets the same value
+set 0 =T 1 x0a0b0c0d0e0f -> 0
+query 0 =t 6 -> 0 type 1 size 6 x0a0b0c0d0e0f
+delvalue 0 =%54 -> 0
+query 0 =t - -> 2
+query 0 =e - -> 0 type 3 size 0
+# the handle comes before the name, the name before the right, the right before what is there
+delvalue 1 =%00 -> 6
+delvalue 0 =%00 -> 87
+root 1 -> 0 handle 7
+delvalue 7 =%00 -> 87
+delvalue 7 =x -> 5
+";
+
 const SETTINGS: &str = "\
 at 0
 at 18446744073709551615
@@ -221,7 +246,7 @@ at|at |at -1|at +1|at 0x1|at 1 1|at 18446744073709551616|at 99999999999999999999
 \r| | # no comment|root 983103\r|root 983103 |root  983103| root 983103|root\t983103|ROOT 983103|root|\
 root 983103 0|root 4294967296|set 0 = 4|set 0 = 4 |set 0 = 4 x01 0|set 0 = 4 01|set 0 = 4 X01|set 0 = 4 x0|\
 set 0 = 4 x0g|set 0 = 4294967296 x01|set 0 v 4 x01|set 0  4 x01|set 18446744073709551616 = 4 x01|\
-query 0 =|query 0 = |query 0 = --|query 0 = 4294967296|query 0 = - -|query 0 v -|query 0 =a b -";
+query 0 =|query 0 = |query 0 = --|query 0 = 4294967296|query 0 = - -|query 0 v -|query 0 =a b -|delvalue|delvalue 0|delvalue 0 v|delvalue 0 =v 1|delvalue =v 0";
 
 const ESCAPES: &str = "\
 root 983103 -> 0 handle 0
@@ -248,7 +273,7 @@ query 0 =%2500 - -> 2
 
 #[test]
 fn answers_scripts(rt: HostRuntime) -> Result<(), Fail> {
-    for table in ["", ANSWERS, REFUSALS, SETTINGS, ESCAPES] {
+    for table in ["", ANSWERS, REFUSALS, VALUES, SETTINGS, ESCAPES] {
         check_table(&rt, rt.alloc(), table)?;
     }
     Ok(())

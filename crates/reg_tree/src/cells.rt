@@ -1,0 +1,42 @@
+ghost use Rattle.std.specs.Prelude.{◌≡◌, ◌≢◌, ◌+◌, ◌^◌, Err, ◌-◌, ◌*◌, ◌/◌, ◌%◌, ◌≤◌, ◌<◌, [], ◌∷◌, IfOk, IfErr, OnErr, length};
+ghost use Rattle.reg_arena.specs.Carves.{NoFit};
+ghost use Rattle.reg_arena.specs.NewBin.{PassesLimit};
+ghost use Rattle.reg_arena.specs.NewCells.{total_of};
+ghost use Rattle.reg_tree.specs.Fresh.{AreCarved};
+
+use reg_arena::{Arena, ArenaFault};
+use std::alloc::Global;
+
+/// The size of the cell that holds so many bytes: 4 more, rounded up to a multiple of 8.
+pub fn cell_size(content: u32) -> u32
+    requires { content < 2 ^ 24 - 16 }
+    ensures multiple { result % 8 ≡ 0 }
+    ensures holds { content + 4 ≤ result }
+    ensures least { result < content + 12 }
+{
+    (content + 11) / 8 * 8
+}
+
+/// Two new cells of zeros, side by side.
+pub fn carve_two(
+    arena: &mut Arena,
+    alloc: Global,
+    first: u32,
+    second: u32,
+) -> Result<(u32, u32), ArenaFault>
+    requires first { (first % 8 ≡ 0) × (0 < first) }
+    requires second { (second % 8 ≡ 0) × (0 < second) }
+    requires sum { first + second ≤ 16777216 }
+    ensures ok { IfOk result (λ cells. AreCarved arena.old arena.new cells.0 cells.1 first second) }
+    ensures err { OnErr result (arena.new ≡ arena.old) }
+    ensures full { result ≡ Err ArenaFault.Full → arena.old.bytes ≡ [] → ⊥ }
+    ensures space { result ≡ Err ArenaFault.Full → NoFit arena.old.bytes (total_of (first ∷ second ∷ [])) }
+    ensures limit { result ≡ Err ArenaFault.Full → PassesLimit arena.old.bytes (total_of (first ∷ second ∷ [])) }
+{
+    let mut cells = Vec::new(alloc);
+    match arena.carve(&[first, second], &mut cells) {
+        Ok(()) => Ok((cells[0], cells[1])),
+        Err(ArenaFault::Full) => Err(ArenaFault::Full),
+        Err(ArenaFault::Memory) => Err(ArenaFault::Memory),
+    }
+}
