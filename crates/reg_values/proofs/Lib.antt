@@ -3,3 +3,7 @@ pub mod Telling
 pub mod Found
 pub mod Pieces
 pub mod Planned
+pub mod Swapped
+pub mod Listed
+pub mod Freed
+pub mod Shifted

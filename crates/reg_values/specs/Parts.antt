@@ -1,7 +1,7 @@
 -- The parts of a list of values, and what is written into cells (Suhanov, Windows registry file format specification, "Key
 -- values list", "Big data").
-use Rattle.std.specs.Prelude.{◌≡◌, ℕ, zero, suc, List, [], length, Some}
-use Rattle.reg_heap.specs.Heaps.{Heap, Writes, allocated}
+use Rattle.std.specs.Prelude.{◌≡◌, ℕ, ◌≤◌, zero, suc, List, [], length, Some}
+use Rattle.reg_heap.specs.Heaps.{Heap, Swaps, Writes, allocated}
 use Rattle.reg_heap.specs.Kinds.{Found, owned}
 use Rattle.reg_heap.specs.Kinds.Kind.{ValueList}
 use Rattle.reg_heap.specs.Readings.{Reading, give}
@@ -23,3 +23,21 @@ list_at (suc n) place = row_at ValueList (suc n) place
 pub record Fills (old new : Heap) (cells : List ℕ) : Type 0 where
   pub writes : Writes old new cells
   pub sizes : (offset : ℕ) → length (held new offset) ≡ length (held old offset)
+
+-- what is read is there, and each of its cells is allocated and met once
+pub record Owns {A : Type 0} (r : Reading A) (heap : Heap) : Type 0 where
+  pub result : A
+  pub met : List Found
+  pub reads : r heap ≡ Some (result, met)
+  pub once : (offset : ℕ) → owned offset met ≤ allocated heap offset
+
+-- the cells that a reading meets were given up, and nothing else changed
+abbrev pub GivesUpRead : {A : Type 0} → Reading A → Heap → Heap → Type 0
+GivesUpRead {A = A} r old new =
+    (x : A) → (met : List Found) → r old ≡ Some (x, met) → Swaps old new (λ offset. owned offset met) (λ offset. 0)
+
+-- the list reads as these offsets now; cells that are counted so were given up for its own, and nothing else changed
+pub record BecameList (old new : Heap) (gone : ℕ → ℕ) (count place : ℕ) (row : List ℕ) : Type 0 where
+  pub cells : List Found
+  pub reads : list_at count place new ≡ Some (row, cells)
+  pub swaps : Swaps old new gone (λ offset. owned offset cells)

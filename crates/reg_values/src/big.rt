@@ -2,13 +2,15 @@
 //!
 //! Suhanov, Windows registry file format specification, section "Big data".
 
-ghost use Rattle.std.specs.Prelude.{◌≡◌, ◌<◌, ◌≤◌, ◌*◌, ◌+◌, ℕ, List, Some, IsSome, IfOk, length};
-ghost use Rattle.reg_heap.specs.Kinds.{Found};
+ghost use Rattle.std.specs.Prelude.{◌≡◌, ◌<◌, ◌≤◌, ◌*◌, ◌+◌, ℕ, List, Some, IsSome, IfOk, length, [], ◌∷◌};
+ghost use Rattle.reg_heap.specs.Heaps.{GivesUp, allocated};
+ghost use Rattle.reg_heap.specs.Kinds.{Found, times};
 ghost use Rattle.reg_arena.specs.Cells.{cell_at};
 ghost use Rattle.reg_records.specs.Cells.{held};
+ghost use Rattle.reg_records.specs.Rows.{offsets_at};
 ghost use Rattle.reg_records.specs.Pieces.{segments_for as segments_for_of, db_of};
 ghost use Rattle.reg_records.specs.Nodes.{big_at as big_data_at};
-ghost use Rattle.reg_values.specs.Parts.{segments_at};
+ghost use Rattle.reg_values.specs.Parts.{segments_at, Owns, GivesUpRead};
 
 use crate::SEGMENT;
 use reg_arena::Arena;
@@ -97,13 +99,28 @@ pub(crate) fn put_big(arena: &mut Arena, cells: &[u32], bytes: &[u8]) {
     put_segments(arena, cells[1], &cells[2..], bytes);
 }
 
-/// Frees a big data record, its list and its segments.
-pub(crate) fn free_big(arena: &mut Arena, size: usize, cell: u32) {
-    let list = big_at(arena, cell).list;
-    for index in 0..segments_for(size) {
+/// Frees the segments that a list names.
+fn free_segments(arena: &mut Arena, list: u32, count: usize)
+    requires few { count < 1073741824 }
+    requires exists { IsSome (cell_at arena.old.bytes list) }
+    requires long { 4 * count ≤ length (held (cell_at arena.old.bytes) list) }
+    requires once { (offset : ℕ) → times offset (offsets_at count 0 (held (cell_at arena.old.bytes) list)) + times offset (list ∷ []) ≤ allocated (cell_at arena.old.bytes) offset }
+    ensures { GivesUp (cell_at arena.old.bytes) (cell_at arena.new.bytes) (offsets_at count 0 (held (cell_at arena.old.bytes) list)) }
+{
+    for index in 0..count {
         let segment = offset_at(arena.content(list), index as u32);
         arena.free(segment);
     }
+}
+
+/// Frees a big data record, its list and its segments.
+pub(crate) fn free_big(arena: &mut Arena, size: usize, cell: u32)
+    requires size { size < 4294967296 }
+    requires big { Owns (big_data_at size cell) (cell_at arena.old.bytes) }
+    ensures { GivesUpRead (big_data_at size cell) (cell_at arena.old.bytes) (cell_at arena.new.bytes) }
+{
+    let list = big_at(arena, cell).list;
+    free_segments(arena, list, segments_for(size));
     arena.free(list);
     arena.free(cell);
 }

@@ -8,6 +8,7 @@ ghost use Rattle.reg_heap.specs.Kinds.{Found};
 ghost use Rattle.reg_arena.specs.Cells.{cell_at};
 ghost use Rattle.reg_records.specs.Nodes.{members_at, data_at};
 ghost use Rattle.reg_values.specs.Lists.{AreValues};
+ghost use Rattle.reg_values.specs.Parts.{Owns, GivesUpRead};
 
 use crate::big::{big_bytes, free_big, put_big};
 use crate::look::{cell_of, record_at};
@@ -97,7 +98,10 @@ pub(crate) fn put_data(arena: &mut Arena, cells: &[u32], bytes: &[u8]) -> DataFi
 }
 
 /// Frees the cells of a value's data.
-pub(crate) fn free_data(arena: &mut Arena, fields: ValueFields) {
+pub(crate) fn free_data(arena: &mut Arena, fields: ValueFields)
+    requires { Owns (data_at fields) (cell_at arena.old.bytes) }
+    ensures { GivesUpRead (data_at fields) (cell_at arena.old.bytes) (cell_at arena.new.bytes) }
+{
     if fields.size >= INLINE || fields.size == 0 {
         return;
     }

@@ -2,13 +2,14 @@
 //!
 //! Win32 registry reference, `RegDeleteValue`; Suhanov, Windows registry file format specification, section "Key values list".
 
-ghost use Rattle.std.specs.Prelude.{◌≡◌, ℕ, List, Some};
+ghost use Rattle.std.specs.Prelude.{◌≡◌, ◌<◌, ◌≤◌, ◌+◌, ◌++◌, ℕ, List, Some, take, drop};
 ghost use Rattle.reg_heap.specs.Paths.{Member};
-ghost use Rattle.reg_heap.specs.Kinds.{Found};
+ghost use Rattle.reg_heap.specs.Kinds.{Found, owned};
 ghost use Rattle.reg_heap.specs.Members.{values_without};
 ghost use Rattle.reg_arena.specs.Cells.{cell_at};
-ghost use Rattle.reg_records.specs.Nodes.{members_at};
+ghost use Rattle.reg_records.specs.Nodes.{member_at, members_at};
 ghost use Rattle.reg_values.specs.Lists.{AreValues, IsNamed, Became};
+ghost use Rattle.reg_values.specs.Parts.{list_at, Owns, GivesUpRead, BecameList};
 
 use crate::data::free_data;
 use crate::look::{cell_of, find, record_at};
@@ -16,14 +17,24 @@ use crate::{NONE, ValuesList};
 use reg_arena::Arena;
 
 /// Frees a value's record and its data.
-fn free_value(arena: &mut Arena, cell: u32) {
+fn free_value(arena: &mut Arena, cell: u32)
+    requires { Owns (member_at cell) (cell_at arena.old.bytes) }
+    ensures { GivesUpRead (member_at cell) (cell_at arena.old.bytes) (cell_at arena.new.bytes) }
+{
     let fields = record_at(arena, cell).fields;
     free_data(arena, fields);
     arena.free(cell);
 }
 
 /// Takes the offset at an index out of the list; the later ones close up. A list of one is freed.
-fn take_out(arena: &mut Arena, list: ValuesList, index: u32) -> ValuesList {
+fn take_out(arena: &mut Arena, list: ValuesList, index: u32) -> ValuesList
+    requires few { list.count ≤ 16384 }
+    requires index { index < list.count }
+    requires list { Owns (list_at list.count list.place) (cell_at arena.old.bytes) }
+    ensures list { (row : List ℕ) → (met : List Found) → list_at list.count list.place (cell_at arena.old.bytes) ≡ Some (row, met) → BecameList (cell_at arena.old.bytes) (cell_at arena.new.bytes) (λ offset. owned offset met) result.count result.place (take index row ++ drop (index + 1) row) }
+    ensures count { result.count + 1 ≡ list.count }
+    ensures none { result.count ≡ 0 → result.place ≡ 4294967295 }
+{
     if list.count == 1 {
         arena.free(list.place);
         return ValuesList {

@@ -1,0 +1,60 @@
+use Rattle.std.proofs.Common.{ℕ, List, Some, IsSome, ◌≡◌, ◌∙◌, ◌+◌, ◌*◌, ◌≤◌, ◌∷◌, [], length, sym, ap, subst, arith, get_or, take}
+use Rattle.reg_heap.specs.Heaps.{GivesUp}
+use Rattle.reg_arena.specs.Cells.{cell_at}
+use Rattle.reg_records.specs.Cells.{held}
+use Rattle.reg_records.specs.Rows.{offsets_at}
+use Rattle.reg_values.proofs.Opening.{length-offsets}
+use Rattle.reg_values.proofs.Found.{is-some, held-is, here-held, offset-of}
+use Rattle.reg_values.proofs.Freed.{list-kept, next-there, freed-more, freed-none, freed-all}
+use Rattle.reg_values.proofs.big.free_segments.Goals as goal
+
+pub loop-index-init : goal.loop-index-init
+loop-index-init c = freed-none (cell_at c.args.arena.now.bytes) (offsets_at c.args.count 0 (held (cell_at c.args.arena.now.bytes) c.args.list))
+
+pub content-requires : goal.content-requires
+content-requires c =
+    let h0 = cell_at c.args.arena.now.bytes in
+    let row : List ℕ = offsets_at c.args.count 0 (held h0 c.args.list) in
+    let k = list-kept h0 (cell_at c.loop-index.arena.bytes) c.args.list c.loop-index.index row c.requires.once c.loop-index.invariant c.requires.exists in
+    subst IsSome (sym k) c.requires.exists
+
+pub offset_at-segment-requires : goal.offset_at-segment-requires
+offset_at-segment-requires c =
+    let h0 = cell_at c.args.arena.now.bytes in
+    let row : List ℕ = offsets_at c.args.count 0 (held h0 c.args.list) in
+    let k = list-kept h0 (cell_at c.loop-index.arena.bytes) c.args.list c.loop-index.index row c.requires.once c.loop-index.invariant c.requires.exists in
+    let s = ap length (held-is h0 c.args.list c.content.result.now (sym k ∙ c.content.ensures)) in
+    let l = c.requires.long in
+    let t = c.loop-index-test.true in
+    omega (arith, s, l, t)
+
+pub free-requires : goal.free-requires
+free-requires c =
+    let h0 = cell_at c.args.arena.now.bytes in
+    let h = cell_at c.loop-index.arena.bytes in
+    let row : List ℕ = offsets_at c.args.count 0 (held h0 c.args.list) in
+    let k = list-kept h0 h c.args.list c.loop-index.index row c.requires.once c.loop-index.invariant c.requires.exists in
+    let o = offset-of h0 c.args.list c.args.count c.loop-index.index c.content.result.now c.offset_at-segment.result (sym k ∙ c.content.ensures) c.loop-index-test.true c.offset_at-segment.ensures in
+    let n = length-offsets c.args.count 0 (held h0 c.args.list) in
+    let t = c.loop-index-test.true in
+    subst (λ o. IsSome (h o)) (sym o) (next-there h0 h c.args.list c.loop-index.index row c.requires.once c.loop-index.invariant (omega (arith, n, t)))
+
+pub loop-index-preserved : goal.loop-index-preserved
+loop-index-preserved c =
+    let h0 = cell_at c.args.arena.now.bytes in
+    let h = cell_at c.loop-index.arena.bytes in
+    let row : List ℕ = offsets_at c.args.count 0 (held h0 c.args.list) in
+    let k = list-kept h0 h c.args.list c.loop-index.index row c.requires.once c.loop-index.invariant c.requires.exists in
+    let o = offset-of h0 c.args.list c.args.count c.loop-index.index c.content.result.now c.offset_at-segment.result (sym k ∙ c.content.ensures) c.loop-index-test.true c.offset_at-segment.ensures in
+    let n = length-offsets c.args.count 0 (held h0 c.args.list) in
+    let t = c.loop-index-test.true in
+    let k = cell_at c.free.new.self.bytes in
+    freed-more h0 h c.args.list c.loop-index.index row c.requires.once c.loop-index.invariant (omega (arith, n, t)) k (subst (λ o. GivesUp h k (o ∷ [])) o c.free.ensures.gone)
+
+pub returns : goal.returns
+returns c =
+    let h0 = cell_at c.args.arena.now.bytes in
+    let row : List ℕ = offsets_at c.args.count 0 (held h0 c.args.list) in
+    let n = length-offsets c.args.count 0 (held h0 c.args.list) in
+    let t = c.loop-index-test.false in
+    freed-all h0 (cell_at c.loop-index.arena.bytes) row c.loop-index.index (omega (arith, n, t)) c.loop-index.invariant

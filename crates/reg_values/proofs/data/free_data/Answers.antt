@@ -1,0 +1,26 @@
+use Rattle.std.proofs.Common.{◌≤◌, arith}
+use Rattle.reg_heap.specs.Kinds.{times, owned}
+use Rattle.reg_arena.specs.Cells.{cell_at}
+use Rattle.reg_values.proofs.Pieces.{big-data}
+use Rattle.reg_values.proofs.Freed.{gone-as, one-owned}
+use Rattle.reg_values.proofs.data.free_data.Goals as goal
+
+pub free_big-requires-clause-big : goal.free_big-requires-clause-big
+free_big-requires-clause-big c =
+    let r = c.requires in
+    record {
+      result = r.result;
+      met = r.met;
+      reads = big-data (cell_at c.args.arena.now.bytes) c.args.fields r.result r.met r.reads c.if-fields-gt-SEGMENT.true c.if-fields-ge-INLINE.false;
+      once = r.once;
+    }
+
+pub returns-then-fields-gt-SEGMENT : goal.returns-then-fields-gt-SEGMENT
+returns-then-fields-gt-SEGMENT c = λ all met e.
+    c.free_big.ensures all met (big-data (cell_at c.args.arena.now.bytes) c.args.fields all met e c.if-fields-gt-SEGMENT.true c.if-fields-ge-INLINE.false)
+
+pub returns : goal.returns
+returns c = λ all met e.
+    let n = c.if-fields-eq0.false in
+    gone-as (cell_at c.args.arena.now.bytes) (cell_at c.free.new.self.bytes) _ (λ z. owned z met) c.free.ensures.gone
+    (λ z. one-owned (cell_at c.args.arena.now.bytes) c.args.fields all met e (omega (arith, n)) c.if-fields-gt-SEGMENT.false z)
