@@ -7,3 +7,5 @@ pub mod Swapped
 pub mod Listed
 pub mod Freed
 pub mod Shifted
+pub mod Named
+pub mod Removed

@@ -17,7 +17,7 @@ use Rattle.reg_records.specs.Nodes.{row_at, member_at, members_at}
 use Rattle.reg_records.specs.Written.{IsWrittenValue, AreWritten}
 use Rattle.reg_records.proofs.Readings.{row-open}
 use Rattle.reg_records.proofs.Inner.{AreInner, members-inner}
-use Rattle.reg_records.proofs.Locals.{Agree, all-front, all-back, member-local, eaches}
+use Rattle.reg_records.proofs.Locals.{Agree, all-front, all-back, member-local, eaches, row-local}
 use Rattle.reg_records.proofs.LocalWritten.{row-is, each-kept}
 use Rattle.reg_values.specs.Parts.{list_at}
 use Rattle.reg_values.specs.Lists.{Became}
@@ -54,6 +54,14 @@ pub list-row : (heap : Heap) (count place : ℕ) (row : List ℕ) (met : List Fo
 unfolding offsets_at
 list-row heap zero place row met e = ap (λ (p : List ℕ × List Found). p.0) (same_Some _ _ e)
 list-row heap (suc n) place row met e = sym (list-open heap (suc n) place row met e (omega arith)).is
+
+-- a change elsewhere leaves it
+pub list-kept : (count place : ℕ) (h k : Heap) (f g : ℕ → ℕ) (row : List ℕ) (met : List Found) → Swaps h k f g → list_at count place h ≡ Some (row, met) → ((z : ℕ) → owned z met + f z ≤ allocated h z) → list_at count place k ≡ Some (row, met)
+list-kept zero place h k f g row met s e l = e
+list-kept (suc n) place h k f g row met s e l =
+    let r = list-open h (suc n) place row met e (omega arith) in
+    let i : AreInner met = subst AreInner (sym r.met_is) (refl, tt) in
+    row-local ValueList (suc n) place h k (row, met) e (agree-apart h k f g s met i l)
 
 -- ---- the values of a row
 

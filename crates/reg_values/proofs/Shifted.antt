@@ -75,6 +75,10 @@ get_or-within at k piece xs f l = search (rules, places)
 get_or-take-drop : (a m k : ℕ) (c : List ℕ) → k < m → get_or (take m (drop a c)) k 0 ≡ get_or c (a + k) 0
 get_or-take-drop a m k c l = search (rules, places)
 
+below : (at : ℕ) (piece xs : List ℕ) → at + length piece ≤ length xs → (p : ℕ) → p + 4 ≤ at → word (splice at piece xs) p ≡ word xs p
+unfolding word
+below at piece xs f p h = number-below at piece xs f 4 p h
+
 -- the later offsets of a row closed up
 pub shifted : (c : List ℕ) (i n : ℕ) → 4 * (i + suc n) ≤ length c → offsets_at (i + n) 0 (splice (4 * i) (take (4 * n) (drop (4 * i + 4) c)) c) ≡ take i (offsets_at (i + suc n) 0 c) ++ drop (i + 1) (offsets_at (i + suc n) 0 c)
 shifted c i n l =
@@ -91,10 +95,6 @@ shifted c i n l =
     offsets-append i n 0 d ∙ ap (λ xs. xs ++ offsets_at n (0 + 4 * i) d) front ∙ ap (λ xs. offsets_at i 0 c ++ xs) back
     ∙ ap (λ xs. xs ++ offsets_at n (0 + 4 * (i + 1)) c) (sym (take-offsets i (suc n) 0 c))
     ∙ ap (λ xs. take i (offsets_at (i + suc n) 0 c) ++ xs) (sym (ap (λ m. drop (i + 1) (offsets_at m 0 c)) m ∙ drop-offsets (i + 1) n 0 c))
-  where
-    below : (at : ℕ) (piece xs : List ℕ) → at + length piece ≤ length xs → (p : ℕ) → p + 4 ≤ at → word (splice at piece xs) p ≡ word xs p
-    unfolding word
-    below at piece xs f p h = number-below at piece xs f 4 p h
 
 -- ---- the list
 

@@ -1,2 +1,3 @@
-use Rattle.reg_values.proofs.Listed.{opened}
+use Rattle.reg_values.proofs.Removed.{removed}
+use Rattle.reg_values.proofs.Named.{named-place}
 use Rattle.reg_values.proofs.removing.remove.Goals as goal
