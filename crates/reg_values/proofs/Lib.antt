@@ -9,3 +9,4 @@ pub mod Freed
 pub mod Shifted
 pub mod Named
 pub mod Removed
+pub mod Filling

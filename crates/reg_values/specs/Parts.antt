@@ -1,14 +1,16 @@
 -- The parts of a list of values, and what is written into cells (Suhanov, Windows registry file format specification, "Key
 -- values list", "Big data").
-use Rattle.std.specs.Prelude.{◌≡◌, ℕ, ◌≤◌, zero, suc, List, [], length, Some}
+use Rattle.std.specs.Prelude.{◌≡◌, ℕ, ◌-◌, ◌<◌, ◌≤◌, zero, suc, nat_le, List, [], length, get_or, Some, IsSome}
 use Rattle.reg_heap.specs.Heaps.{Heap, Swaps, Writes, allocated}
-use Rattle.reg_heap.specs.Kinds.{Found, owned}
+use Rattle.reg_heap.specs.Kinds.{Found, times, owned}
 use Rattle.reg_heap.specs.Kinds.Kind.{ValueList}
 use Rattle.reg_heap.specs.Readings.{Reading, give}
-use Rattle.reg_records.specs.Cells.{held}
+use Rattle.reg_heap.specs.Paths.{Member}
+use Rattle.reg_records.specs.Cells.{HasRoom, held}
 use Rattle.reg_records.specs.Rows.{offsets_at}
-use Rattle.reg_records.specs.Pieces.{segments_for, segments}
-use Rattle.reg_records.specs.Nodes.{pieces_at, row_at}
+use Rattle.reg_records.specs.Pieces.{segment_size, is_inline, segments_for, segments}
+use Rattle.reg_records.specs.Nodes.{pieces_at, row_at, data_by, member_at}
+use Rattle.reg_records.specs.Written.{IsWrittenData, IsWrittenValue}
 
 -- the bytes of the segments of data of a size, whose offsets stand at the start of a list's content
 abbrev pub segments_at : ℕ → List ℕ → Reading (List ℕ)
@@ -41,3 +43,35 @@ pub record BecameList (old new : Heap) (gone : ℕ → ℕ) (count place : ℕ) 
   pub cells : List Found
   pub reads : list_at count place new ≡ Some (row, cells)
   pub swaps : Swaps old new gone (λ offset. owned offset cells)
+
+-- these cells differ, and each holds as many bytes as a cell of its size has room for
+pub record HaveRoom (heap : Heap) (cells sizes : List ℕ) : Type 0 where
+  pub as_many : length cells ≡ length sizes
+  pub once : (offset : ℕ) → times offset cells ≤ 1
+  pub room : (index : ℕ) → index < length cells → HasRoom heap (get_or cells index 0) (get_or sizes index 0 - 4)
+
+-- a record with this size field and place has these bytes as its data, in just these cells, as it is written
+pub record HoldsData (heap : Heap) (size place : ℕ) (bytes cells : List ℕ) : Type 0 where
+  pub met : List Found
+  pub reads : data_by (is_inline size) (nat_le size segment_size) size place heap ≡ Some (bytes, met)
+  pub owns : (offset : ℕ) → owned offset met ≡ times offset cells
+  pub written : (kind flags : ℕ) → IsWrittenData heap (record { size = size; place = place; kind = kind; flags = flags })
+
+-- a cell holds a value's record, whose cells are just these
+pub record HoldsValue (heap : Heap) (cell : ℕ) (member : Member) (cells : List ℕ) : Type 0 where
+  pub met : List Found
+  pub reads : member_at cell heap ≡ Some (member, met)
+  pub owns : (offset : ℕ) → owned offset met ≡ times offset cells
+  pub written : IsWrittenValue heap cell
+
+-- the value whose record is in a cell reads as another now, as it is written; it gave up the cells that it had for those that
+-- it has, and nothing else changed
+pub record BecameValue (old new : Heap) (cell : ℕ) (member : Member) (met : List Found) : Type 0 where
+  pub cells : List Found
+  pub reads : member_at cell new ≡ Some (member, cells)
+  pub written : IsWrittenValue new cell
+  pub swaps : Swaps old new (λ offset. owned offset met) (λ offset. owned offset cells)
+
+-- each cell that is still there holds as many bytes as before
+abbrev pub KeepsSizes : Heap → Heap → Type 0
+KeepsSizes old new = (offset : ℕ) → IsSome (new offset) → length (held new offset) ≡ length (held old offset)

@@ -2,15 +2,17 @@
 //!
 //! Suhanov, Windows registry file format specification, section "Big data".
 
-ghost use Rattle.std.specs.Prelude.{◌≡◌, ◌<◌, ◌≤◌, ◌*◌, ◌+◌, ℕ, List, Some, IsSome, IfOk, length, [], ◌∷◌};
+ghost use Rattle.std.specs.Prelude.{◌≡◌, ◌<◌, ◌≤◌, ◌*◌, ◌+◌, ℕ, List, Some, IsSome, IfOk, length, get_or, take, drop, [], ◌∷◌};
 ghost use Rattle.reg_heap.specs.Heaps.{GivesUp, allocated};
 ghost use Rattle.reg_heap.specs.Kinds.{Found, times};
 ghost use Rattle.reg_arena.specs.Cells.{cell_at};
-ghost use Rattle.reg_records.specs.Cells.{held};
+ghost use Rattle.reg_records.specs.Cells.{HasRoom, held};
 ghost use Rattle.reg_records.specs.Rows.{offsets_at};
-ghost use Rattle.reg_records.specs.Pieces.{segments_for as segments_for_of, db_of};
-ghost use Rattle.reg_records.specs.Nodes.{big_at as big_data_at};
-ghost use Rattle.reg_values.specs.Parts.{segments_at, Owns, GivesUpRead};
+ghost use Rattle.reg_records.specs.Pieces.{segments_for as segments_for_of, segments as segments_of, db_of};
+ghost use Rattle.reg_records.specs.Nodes.{pieces_at, big_at as big_data_at};
+ghost use Rattle.reg_values.specs.Parts.{segments_at, Owns, GivesUpRead, Fills, HaveRoom, HoldsData};
+
+ghost use Rattle.reg_values.specs.Sizes.{data_sizes};
 
 use crate::SEGMENT;
 use reg_arena::Arena;
@@ -76,27 +78,57 @@ fn joined(
 }
 
 /// The bytes of one segment.
-fn piece(bytes: &[u8], index: usize) -> &[u8] {
+fn piece(bytes: &[u8], index: usize) -> &[u8]
+    requires within { 16344 * index ≤ length bytes.now }
+    requires small { length bytes.now ≤ 1048576 }
+    ensures { result.now ≡ take 16344 (drop (16344 * index) bytes.now) }
+{
     let from = SEGMENT * index;
     &bytes[from..bytes.len().min(from + SEGMENT)]
 }
 
-/// Writes data into its segments, which the list in a cell names.
-fn put_segments(arena: &mut Arena, list: u32, segments: &[u32], bytes: &[u8]) {
+/// Writes the offsets of segments into their list.
+fn put_row(arena: &mut Arena, list: u32, segments: &[u32])
+    requires few { length segments.now < 1073741824 }
+    requires room { HasRoom (cell_at arena.old.bytes) list (4 * length segments.now) }
+    ensures fills { Fills (cell_at arena.old.bytes) (cell_at arena.new.bytes) (list ∷ []) }
+    ensures row { offsets_at (length segments.now) 0 (held (cell_at arena.new.bytes) list) ≡ segments.now }
+{
     for index in 0..segments.len() {
         put_offset(arena, list, index as u32, segments[index]);
+    }
+}
+
+/// Writes data into its segments.
+fn put_pieces(arena: &mut Arena, segments: &[u32], bytes: &[u8])
+    requires small { length bytes.now ≤ 1048576 }
+    requires all { length bytes.now ≤ 16344 * length segments.now }
+    requires none_over { 16344 * length segments.now < length bytes.now + 16344 }
+    requires once { (offset : ℕ) → times offset segments.now ≤ 1 }
+    requires room { (index : ℕ) → index < length segments.now → HasRoom (cell_at arena.old.bytes) (get_or segments.now index 0) (length (take 16344 (drop (16344 * index) bytes.now))) }
+    ensures fills { Fills (cell_at arena.old.bytes) (cell_at arena.new.bytes) segments.now }
+    ensures reads { (met : List Found) × (pieces_at (segments_of (length bytes.now) segments.now) (cell_at arena.new.bytes) ≡ Some (bytes.now, met)) }
+{
+    for index in 0..segments.len() {
         arena.write(segments[index], 0, piece(bytes, index));
     }
 }
 
 /// Writes data into new cells: a big data record's, its list's, and the segments'.
-pub(crate) fn put_big(arena: &mut Arena, cells: &[u32], bytes: &[u8]) {
+pub(crate) fn put_big(arena: &mut Arena, cells: &[u32], bytes: &[u8])
+    requires big { 16344 < length bytes.now }
+    requires small { length bytes.now ≤ 1048576 }
+    requires cells { HaveRoom (cell_at arena.old.bytes) cells.now (data_sizes (length bytes.now)) }
+    ensures fills { Fills (cell_at arena.old.bytes) (cell_at arena.new.bytes) cells.now }
+    ensures holds { HoldsData (cell_at arena.new.bytes) (length bytes.now) (get_or cells.now 0 0) bytes.now cells.now }
+{
     let fields = BigFields {
         count: (cells.len() - 2) as u16,
         list: cells[1],
     };
     put_db(arena, cells[0], &fields);
-    put_segments(arena, cells[1], &cells[2..], bytes);
+    put_row(arena, cells[1], &cells[2..]);
+    put_pieces(arena, &cells[2..], bytes);
 }
 
 /// Frees the segments that a list names.

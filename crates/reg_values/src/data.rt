@@ -2,13 +2,15 @@
 //!
 //! Suhanov, Windows registry file format specification, sections "Key value" and "Big data".
 
-ghost use Rattle.std.specs.Prelude.{◌≡◌, ◌<◌, ◌≤◌, ℕ, List, Some, IsSome, IfOk, slice_get, length};
+ghost use Rattle.std.specs.Prelude.{◌≡◌, ◌<◌, ◌≤◌, ℕ, List, Some, IsSome, IfOk, slice_get, slice_index, length, [], ◌∷◌};
+ghost use Rattle.byteorder.specs.Endian.{little_bytes};
 ghost use Rattle.reg_heap.specs.Paths.{Member};
 ghost use Rattle.reg_heap.specs.Kinds.{Found};
 ghost use Rattle.reg_arena.specs.Cells.{cell_at};
 ghost use Rattle.reg_records.specs.Nodes.{members_at, data_at};
 ghost use Rattle.reg_values.specs.Lists.{AreValues};
-ghost use Rattle.reg_values.specs.Parts.{Owns, GivesUpRead};
+ghost use Rattle.reg_values.specs.Parts.{Owns, GivesUpRead, Fills, HaveRoom, HoldsData};
+ghost use Rattle.reg_values.specs.Sizes.{data_sizes};
 
 use crate::big::{big_bytes, free_big, put_big};
 use crate::look::{cell_of, record_at};
@@ -60,15 +62,16 @@ fn data_bytes(arena: &Arena, alloc: Global, fields: ValueFields) -> Result<Vec<u
     Vec::from_slice(alloc, &arena.content(fields.place)[..size])
 }
 
-fn byte_or_zero(bytes: &[u8], index: usize) -> u8 {
-    match bytes.get(index) {
-        Some(byte) => *byte,
-        None => 0,
-    }
+fn byte_or_zero(bytes: &[u8], index: usize) -> u8
+    ensures { result ≡ slice_index bytes.now index }
+{
+    if index < bytes.len() { bytes[index] } else { 0 }
 }
 
 /// Up to four bytes as a number, the lowest first; bytes that are missing are 0.
-fn packed(bytes: &[u8]) -> u32 {
+fn packed(bytes: &[u8]) -> u32
+    ensures { little_bytes 4 result ≡ slice_index bytes.now 0 ∷ slice_index bytes.now 1 ∷ slice_index bytes.now 2 ∷ slice_index bytes.now 3 ∷ [] }
+{
     u32::from_le_bytes([
         byte_or_zero(bytes, 0),
         byte_or_zero(bytes, 1),
@@ -78,7 +81,12 @@ fn packed(bytes: &[u8]) -> u32 {
 }
 
 /// Writes a value's data into new cells of its sizes.
-pub(crate) fn put_data(arena: &mut Arena, cells: &[u32], bytes: &[u8]) -> DataFields {
+pub(crate) fn put_data(arena: &mut Arena, cells: &[u32], bytes: &[u8]) -> DataFields
+    requires small { length bytes.now ≤ 1048576 }
+    requires cells { HaveRoom (cell_at arena.old.bytes) cells.now (data_sizes (length bytes.now)) }
+    ensures fills { Fills (cell_at arena.old.bytes) (cell_at arena.new.bytes) cells.now }
+    ensures holds { HoldsData (cell_at arena.new.bytes) result.size result.place bytes.now cells.now }
+{
     let size = bytes.len() as u32;
     if bytes.len() <= INLINE_LIMIT {
         return DataFields {
@@ -86,11 +94,14 @@ pub(crate) fn put_data(arena: &mut Arena, cells: &[u32], bytes: &[u8]) -> DataFi
             place: packed(bytes),
         };
     }
-    if bytes.len() <= SEGMENT {
-        arena.write(cells[0], 0, bytes);
-    } else {
+    if bytes.len() > SEGMENT {
         put_big(arena, cells, bytes);
+        return DataFields {
+            size,
+            place: cells[0],
+        };
     }
+    arena.write(cells[0], 0, bytes);
     DataFields {
         size,
         place: cells[0],
