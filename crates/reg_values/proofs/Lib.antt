@@ -10,3 +10,4 @@ pub mod Shifted
 pub mod Named
 pub mod Removed
 pub mod Filling
+pub mod Stored

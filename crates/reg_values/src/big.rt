@@ -10,9 +10,8 @@ ghost use Rattle.reg_records.specs.Cells.{HasRoom, held};
 ghost use Rattle.reg_records.specs.Rows.{offsets_at};
 ghost use Rattle.reg_records.specs.Pieces.{segments_for as segments_for_of, segments as segments_of, db_of};
 ghost use Rattle.reg_records.specs.Nodes.{pieces_at, big_at as big_data_at};
-ghost use Rattle.reg_values.specs.Parts.{segments_at, Owns, GivesUpRead, Fills, HaveRoom, HoldsData};
+ghost use Rattle.reg_values.specs.Parts.{segments_at, Owns, GivesUpRead, Fills, HoldsData};
 
-ghost use Rattle.reg_values.specs.Sizes.{data_sizes};
 
 use crate::SEGMENT;
 use reg_arena::Arena;
@@ -115,20 +114,24 @@ fn put_pieces(arena: &mut Arena, segments: &[u32], bytes: &[u8])
 }
 
 /// Writes data into new cells: a big data record's, its list's, and the segments'.
-pub(crate) fn put_big(arena: &mut Arena, cells: &[u32], bytes: &[u8])
+pub(crate) fn put_big(arena: &mut Arena, head: u32, list: u32, segments: &[u32], bytes: &[u8])
     requires big { 16344 < length bytes.now }
     requires small { length bytes.now ≤ 1048576 }
-    requires cells { HaveRoom (cell_at arena.old.bytes) cells.now (data_sizes (length bytes.now)) }
-    ensures fills { Fills (cell_at arena.old.bytes) (cell_at arena.new.bytes) cells.now }
-    ensures holds { HoldsData (cell_at arena.new.bytes) (length bytes.now) (get_or cells.now 0 0) bytes.now cells.now }
+    requires count { length segments.now ≡ segments_for_of (length bytes.now) }
+    requires once { (offset : ℕ) → times offset (head ∷ list ∷ segments.now) ≤ 1 }
+    requires head { HasRoom (cell_at arena.old.bytes) head 8 }
+    requires list { HasRoom (cell_at arena.old.bytes) list (4 * length segments.now) }
+    requires room { (index : ℕ) → index < length segments.now → HasRoom (cell_at arena.old.bytes) (get_or segments.now index 0) (length (take 16344 (drop (16344 * index) bytes.now))) }
+    ensures fills { Fills (cell_at arena.old.bytes) (cell_at arena.new.bytes) (head ∷ list ∷ segments.now) }
+    ensures holds { HoldsData (cell_at arena.new.bytes) (length bytes.now) head bytes.now (head ∷ list ∷ segments.now) }
 {
     let fields = BigFields {
-        count: (cells.len() - 2) as u16,
-        list: cells[1],
+        count: segments.len() as u16,
+        list,
     };
-    put_db(arena, cells[0], &fields);
-    put_row(arena, cells[1], &cells[2..]);
-    put_pieces(arena, &cells[2..], bytes);
+    put_db(arena, head, &fields);
+    put_row(arena, list, segments);
+    put_pieces(arena, segments, bytes);
 }
 
 /// Frees the segments that a list names.

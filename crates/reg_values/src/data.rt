@@ -95,7 +95,7 @@ pub(crate) fn put_data(arena: &mut Arena, cells: &[u32], bytes: &[u8]) -> DataFi
         };
     }
     if bytes.len() > SEGMENT {
-        put_big(arena, cells, bytes);
+        put_big(arena, cells[0], cells[1], &cells[2..], bytes);
         return DataFields {
             size,
             place: cells[0],
