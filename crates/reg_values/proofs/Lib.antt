@@ -11,3 +11,4 @@ pub mod Named
 pub mod Removed
 pub mod Filling
 pub mod Stored
+pub mod Rooms

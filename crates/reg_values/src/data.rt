@@ -94,18 +94,13 @@ pub(crate) fn put_data(arena: &mut Arena, cells: &[u32], bytes: &[u8]) -> DataFi
             place: packed(bytes),
         };
     }
+    let head = cells[0];
     if bytes.len() > SEGMENT {
-        put_big(arena, cells[0], cells[1], &cells[2..], bytes);
-        return DataFields {
-            size,
-            place: cells[0],
-        };
+        put_big(arena, head, cells[1], &cells[2..], bytes);
+        return DataFields { size, place: head };
     }
-    arena.write(cells[0], 0, bytes);
-    DataFields {
-        size,
-        place: cells[0],
-    }
+    arena.write(head, 0, bytes);
+    DataFields { size, place: head }
 }
 
 /// Frees the cells of a value's data.

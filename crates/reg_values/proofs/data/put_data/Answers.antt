@@ -1,0 +1,79 @@
+use Rattle.std.proofs.Common.{ℕ, List, ◌≡◌, ◌+◌, ◌*◌, ◌≤◌, ◌<◌, ap, sym, subst, length, arith, get_or, take, drop, ◌∷◌, [], refl}
+use Rattle.reg_arena.specs.Cells.{cell_at}
+use Rattle.reg_values.specs.Parts.{Fills, HoldsData}
+use Rattle.reg_values.proofs.Filling.{fills-none}
+use Rattle.reg_values.proofs.Stored.{near-holds, one-fills, one-holds}
+use Rattle.reg_values.proofs.Rooms.{some-long, one-long, one-room, list-one, big-long, big-cells, big-count, big-once, big-head, big-list, big-room}
+use Rattle.reg_values.proofs.data.put_data.Goals as goal
+
+pub returns-then-bytes-le-INLINE_LIMIT-clause-fills : goal.returns-then-bytes-le-INLINE_LIMIT-clause-fills
+returns-then-bytes-le-INLINE_LIMIT-clause-fills c = fills-none (cell_at c.args.arena.now.bytes) c.args.cells.now
+
+pub returns-then-bytes-le-INLINE_LIMIT-clause-holds : goal.returns-then-bytes-le-INLINE_LIMIT-clause-holds
+returns-then-bytes-le-INLINE_LIMIT-clause-holds c =
+    near-holds (cell_at c.args.arena.now.bytes) c.packed.result c.args.bytes.now c.args.cells.now c.if-bytes-le-INLINE_LIMIT.true c.requires.cells.as_many c.packed.ensures
+
+pub bounds-cells-0 : goal.bounds-cells-0
+bounds-cells-0 c = some-long (cell_at c.args.arena.now.bytes) c.args.cells.now c.args.bytes.now c.requires.small c.requires.cells c.if-bytes-le-INLINE_LIMIT.false
+
+pub bounds-cells-1 : goal.bounds-cells-1
+bounds-cells-1 c = let n = big-long (cell_at c.args.arena.now.bytes) c.args.cells.now c.args.bytes.now c.requires.small c.requires.cells c.if-bytes-gt-SEGMENT.true in omega (arith, n)
+
+pub slice_bounds-put_big-count : goal.slice_bounds-put_big-count
+slice_bounds-put_big-count c = let n = big-long (cell_at c.args.arena.now.bytes) c.args.cells.now c.args.bytes.now c.requires.small c.requires.cells c.if-bytes-gt-SEGMENT.true in omega (arith, n)
+
+pub put_big-requires-clause-count : goal.put_big-requires-clause-count
+put_big-requires-clause-count c = big-count (cell_at c.args.arena.now.bytes) c.args.cells.now c.args.bytes.now c.requires.small c.requires.cells c.if-bytes-gt-SEGMENT.true
+
+pub put_big-requires-clause-once : goal.put_big-requires-clause-once
+put_big-requires-clause-once c = λ z. big-once (cell_at c.args.arena.now.bytes) c.args.cells.now c.args.bytes.now c.requires.small c.requires.cells c.if-bytes-gt-SEGMENT.true z
+
+pub put_big-requires-clause-head : goal.put_big-requires-clause-head
+put_big-requires-clause-head c = big-head (cell_at c.args.arena.now.bytes) c.args.cells.now c.args.bytes.now c.requires.small c.requires.cells c.if-bytes-gt-SEGMENT.true
+
+pub put_big-requires-clause-list : goal.put_big-requires-clause-list
+put_big-requires-clause-list c = big-list (cell_at c.args.arena.now.bytes) c.args.cells.now c.args.bytes.now c.requires.small c.requires.cells c.if-bytes-gt-SEGMENT.true
+
+pub put_big-requires-clause-room : goal.put_big-requires-clause-room
+put_big-requires-clause-room c = λ i l. big-room (cell_at c.args.arena.now.bytes) c.args.cells.now c.args.bytes.now c.requires.small c.requires.cells c.if-bytes-gt-SEGMENT.true i l
+
+pub returns-then-bytes-gt-SEGMENT-clause-fills : goal.returns-then-bytes-gt-SEGMENT-clause-fills
+returns-then-bytes-gt-SEGMENT-clause-fills c =
+    let h = cell_at c.args.arena.now.bytes in
+    let k = cell_at c.put_big.new.arena.bytes in
+    subst (Fills h k) (sym (big-cells h c.args.cells.now c.args.bytes.now c.requires.small c.requires.cells c.if-bytes-gt-SEGMENT.true)) c.put_big.ensures.fills
+
+pub returns-then-bytes-gt-SEGMENT-clause-holds : goal.returns-then-bytes-gt-SEGMENT-clause-holds
+returns-then-bytes-gt-SEGMENT-clause-holds c =
+    let h = cell_at c.args.arena.now.bytes in
+    let k = cell_at c.put_big.new.arena.bytes in
+    subst (HoldsData k (length c.args.bytes.now) (get_or c.args.cells.now 0 0) c.args.bytes.now) (sym (big-cells h c.args.cells.now c.args.bytes.now c.requires.small c.requires.cells c.if-bytes-gt-SEGMENT.true)) c.put_big.ensures.holds
+
+pub write-requires-clause-exists : goal.write-requires-clause-exists
+write-requires-clause-exists c =
+    (one-room (cell_at c.args.arena.now.bytes) c.args.cells.now c.args.bytes.now c.requires.small c.requires.cells c.if-bytes-le-INLINE_LIMIT.false c.if-bytes-gt-SEGMENT.false).exists
+
+pub write-requires-clause-fits : goal.write-requires-clause-fits
+write-requires-clause-fits c =
+    let r = one-room (cell_at c.args.arena.now.bytes) c.args.cells.now c.args.bytes.now c.requires.small c.requires.cells c.if-bytes-le-INLINE_LIMIT.false c.if-bytes-gt-SEGMENT.false in
+    let e = r.enough in
+    omega (arith, e)
+
+pub returns-clause-fills : goal.returns-clause-fills
+returns-clause-fills c =
+    let h = cell_at c.args.arena.now.bytes in
+    let k = cell_at c.write.new.self.bytes in
+    let r = one-room h c.args.cells.now c.args.bytes.now c.requires.small c.requires.cells c.if-bytes-le-INLINE_LIMIT.false c.if-bytes-gt-SEGMENT.false in
+    let n = one-long h c.args.cells.now c.args.bytes.now c.requires.small c.requires.cells c.if-bytes-le-INLINE_LIMIT.false c.if-bytes-gt-SEGMENT.false in
+    subst (Fills h k) (sym (list-one c.args.cells.now n)) (one-fills h k (get_or c.args.cells.now 0 0) c.args.bytes.now c.if-bytes-le-INLINE_LIMIT.false c.if-bytes-gt-SEGMENT.false r c.write.ensures.written c.write.ensures.writes)
+
+pub returns-clause-holds : goal.returns-clause-holds
+returns-clause-holds c =
+    let h = cell_at c.args.arena.now.bytes in
+    let k = cell_at c.write.new.self.bytes in
+    let r = one-room h c.args.cells.now c.args.bytes.now c.requires.small c.requires.cells c.if-bytes-le-INLINE_LIMIT.false c.if-bytes-gt-SEGMENT.false in
+    let n = one-long h c.args.cells.now c.args.bytes.now c.requires.small c.requires.cells c.if-bytes-le-INLINE_LIMIT.false c.if-bytes-gt-SEGMENT.false in
+    subst (HoldsData k (length c.args.bytes.now) (get_or c.args.cells.now 0 0) c.args.bytes.now) (sym (list-one c.args.cells.now n)) (one-holds h k (get_or c.args.cells.now 0 0) c.args.bytes.now c.if-bytes-le-INLINE_LIMIT.false c.if-bytes-gt-SEGMENT.false r c.write.ensures.written c.write.ensures.writes)
+
+pub slice_bounds-put_big-start : goal.slice_bounds-put_big-start
+slice_bounds-put_big-start c = let n = big-long (cell_at c.args.arena.now.bytes) c.args.cells.now c.args.bytes.now c.requires.small c.requires.cells c.if-bytes-gt-SEGMENT.true in omega (arith, n)
