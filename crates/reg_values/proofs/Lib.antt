@@ -12,3 +12,5 @@ pub mod Removed
 pub mod Filling
 pub mod Stored
 pub mod Rooms
+pub mod Valued
+pub mod Grown

@@ -68,11 +68,11 @@ pub word-same : (p q : ℕ) (xs ys : List ℕ) → ((k : ℕ) → k < 4 → get_
 unfolding word
 word-same p q xs ys same = little-same 0 4 p q xs ys (λ k h. same k (omega arith))
 
-get_or-within : (at k : ℕ) (piece xs : List ℕ) → at + length piece ≤ length xs → k < length piece → get_or (splice at piece xs) (at + k) 0 ≡ get_or piece k 0
+pub get_or-within : (at k : ℕ) (piece xs : List ℕ) → at + length piece ≤ length xs → k < length piece → get_or (splice at piece xs) (at + k) 0 ≡ get_or piece k 0
 unfolding splice
 get_or-within at k piece xs f l = search (rules, places)
 
-get_or-take-drop : (a m k : ℕ) (c : List ℕ) → k < m → get_or (take m (drop a c)) k 0 ≡ get_or c (a + k) 0
+pub get_or-take-drop : (a m k : ℕ) (c : List ℕ) → k < m → get_or (take m (drop a c)) k 0 ≡ get_or c (a + k) 0
 get_or-take-drop a m k c l = search (rules, places)
 
 below : (at : ℕ) (piece xs : List ℕ) → at + length piece ≤ length xs → (p : ℕ) → p + 4 ≤ at → word (splice at piece xs) p ≡ word xs p

@@ -1,6 +1,6 @@
 -- The parts of a list of values, and what is written into cells (Suhanov, Windows registry file format specification, "Key
 -- values list", "Big data").
-use Rattle.std.specs.Prelude.{◌≡◌, ℕ, ◌-◌, ◌<◌, ◌≤◌, zero, suc, nat_le, List, [], length, get_or, Some, IsSome}
+use Rattle.std.specs.Prelude.{◌≡◌, ℕ, ◌+◌, ◌-◌, ◌<◌, ◌≤◌, zero, suc, nat_le, List, [], length, get_or, Some, IsSome}
 use Rattle.reg_heap.specs.Heaps.{Heap, Swaps, Writes, allocated}
 use Rattle.reg_heap.specs.Kinds.{Found, times, owned}
 use Rattle.reg_heap.specs.Kinds.Kind.{ValueList}
@@ -32,6 +32,13 @@ pub record Owns {A : Type 0} (r : Reading A) (heap : Heap) : Type 0 where
   pub met : List Found
   pub reads : r heap ≡ Some (result, met)
   pub once : (offset : ℕ) → owned offset met ≤ allocated heap offset
+
+-- the same, and some further cells are allocated too, each named once and none of them met
+pub record OwnsBeside {A : Type 0} (r : Reading A) (heap : Heap) (spare : List ℕ) : Type 0 where
+  pub result : A
+  pub met : List Found
+  pub reads : r heap ≡ Some (result, met)
+  pub once : (offset : ℕ) → owned offset met + times offset spare ≤ allocated heap offset
 
 -- the cells that a reading meets were given up, and nothing else changed
 abbrev pub GivesUpRead : {A : Type 0} → Reading A → Heap → Heap → Type 0

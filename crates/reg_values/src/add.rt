@@ -1,5 +1,21 @@
 //! A value more.
 
+ghost use Rattle.std.specs.Prelude.{◌≡◌, true, ◌≤◌, ◌<◌, ◌+◌, ◌*◌, ◌==◌, ◌++◌, ◌∷◌, [], if◌then◌else◌, ℕ, List, Some, None, Err, length, IfOk, OnOk, OnErr};
+ghost use Rattle.reg_names.specs.Names.{is_value_name};
+ghost use Rattle.reg_heap.specs.Paths.{Member};
+ghost use Rattle.reg_heap.specs.Heaps.{AreNew};
+ghost use Rattle.reg_heap.specs.Kinds.{Found, times, owned};
+ghost use Rattle.reg_heap.specs.Members.{place_named};
+ghost use Rattle.reg_arena.specs.Cells.{cell_at};
+ghost use Rattle.reg_arena.specs.NewCells.{total_of, AreSizes};
+ghost use Rattle.reg_arena.specs.Carves.{NoFit};
+ghost use Rattle.reg_arena.specs.NewBin.{PassesLimit};
+ghost use Rattle.reg_records.specs.Cells.{HasRoom};
+ghost use Rattle.reg_records.specs.Nodes.{members_at};
+ghost use Rattle.reg_values.specs.Lists.{AreValues, Became, Makes};
+ghost use Rattle.reg_values.specs.Parts.{list_at, Owns, OwnsBeside, BecameList, Fills, HaveRoom, HoldsValue, KeepsSizes};
+ghost use Rattle.reg_values.specs.Sizes.{cell_size, data_sizes, sizes_by};
+
 use crate::ValuesList;
 use crate::data::put_data;
 use crate::plan::{has_room, plan_add};
@@ -12,30 +28,70 @@ pub(crate) fn carve(
     arena: &mut Arena,
     alloc: Global,
     sizes: &[u32],
-) -> Result<Vec<u32>, ArenaFault> {
+) -> Result<Vec<u32>, ArenaFault>
+    requires sizes { AreSizes sizes.now }
+    requires total { total_of sizes.now ≤ 1306592 }
+    ensures ok { IfOk result (λ cells. AreNew (cell_at arena.old.bytes) (cell_at arena.new.bytes) cells.items sizes.now) }
+    ensures err { OnErr result (arena.new ≡ arena.old) }
+    ensures full { result ≡ Err ArenaFault.Full → NoFit arena.old.bytes (total_of sizes.now) }
+    ensures limit { result ≡ Err ArenaFault.Full → PassesLimit arena.old.bytes (total_of sizes.now) }
+{
     let mut cells = Vec::new(alloc);
     arena.carve(sizes, &mut cells)?;
     Ok(cells)
 }
 
+/// The flags of a value's record: 1 where it has a name.
+fn flags_of(name: &[u8]) -> u16
+    ensures { result ≡ (if length name.now == 0 then 0 else 1) }
+{
+    if name.is_empty() { 0 } else { 1 }
+}
+
 /// Writes a value's data and its record into new cells.
-fn put_value(arena: &mut Arena, cell: u32, cells: &[u32], name: &[u8], kind: u32, bytes: &[u8]) {
+fn put_value(arena: &mut Arena, cell: u32, cells: &[u32], name: &[u8], kind: u32, bytes: &[u8])
+    requires name { length name.now ≤ 16383 }
+    requires small { length bytes.now ≤ 1048576 }
+    requires cells { HaveRoom (cell_at arena.old.bytes) (cell ∷ cells.now) (cell_size (20 + length name.now) ∷ data_sizes (length bytes.now)) }
+    ensures fills { Fills (cell_at arena.old.bytes) (cell_at arena.new.bytes) (cell ∷ cells.now) }
+    ensures holds { HoldsValue (cell_at arena.new.bytes) cell (record { name = name.now; kind = kind; bytes = bytes.now }) (cell ∷ cells.now) }
+{
     let data = put_data(arena, cells, bytes);
     let fields = ValueFields {
         size: data.size,
         place: data.place,
         kind,
-        flags: if name.is_empty() { 0 } else { 1 },
+        flags: flags_of(name),
     };
     put_vk(arena, cell, &fields, name);
 }
 
-/// Moves a list into a new cell, and frees its own.
-fn move_list(arena: &mut Arena, list: ValuesList, cell: u32) {
+/// Puts an offset behind those of a list, whose cell has room for it.
+fn grow(arena: &mut Arena, list: ValuesList, cell: u32)
+    requires few { list.count < 16384 }
+    requires owns { Owns (list_at list.count list.place) (cell_at arena.old.bytes) }
+    requires room { HasRoom (cell_at arena.old.bytes) list.place (4 * list.count + 4) }
+    requires some { 0 < list.count }
+    ensures list { (row : List ℕ) → (met : List Found) → list_at list.count list.place (cell_at arena.old.bytes) ≡ Some (row, met) → BecameList (cell_at arena.old.bytes) (cell_at arena.new.bytes) (λ offset. owned offset met) (list.count + 1) list.place (row ++ cell ∷ []) }
+    ensures sizes { KeepsSizes (cell_at arena.old.bytes) (cell_at arena.new.bytes) }
+{
+    put_offset(arena, list.place, list.count, cell);
+}
+
+/// Puts an offset behind those of a list in a new cell, and frees the list's own.
+fn move_list(arena: &mut Arena, list: ValuesList, place: u32, cell: u32)
+    requires few { list.count < 16384 }
+    requires owns { OwnsBeside (list_at list.count list.place) (cell_at arena.old.bytes) (place ∷ []) }
+    requires room { HasRoom (cell_at arena.old.bytes) place (4 * list.count + 4) }
+    ensures list { (row : List ℕ) → (met : List Found) → list_at list.count list.place (cell_at arena.old.bytes) ≡ Some (row, met) → BecameList (cell_at arena.old.bytes) (cell_at arena.new.bytes) (λ offset. owned offset met + times offset (place ∷ [])) (list.count + 1) place (row ++ cell ∷ []) }
+    ensures sizes { KeepsSizes (cell_at arena.old.bytes) (cell_at arena.new.bytes) }
+{
     if list.count == 0 {
+        put_offset(arena, place, 0, cell);
         return;
     }
-    arena.copy(list.place, 0, cell, 0, 4 * list.count);
+    arena.copy(list.place, 0, place, 0, 4 * list.count);
+    put_offset(arena, place, list.count, cell);
     arena.free(list.place);
 }
 
@@ -47,25 +103,36 @@ pub(crate) fn add(
     name: &[u8],
     kind: u32,
     bytes: &[u8],
-) -> Result<ValuesList, ArenaFault> {
+) -> Result<ValuesList, ArenaFault>
+    requires values { AreValues (cell_at arena.old.bytes) list.count list.place }
+    requires name { is_value_name name.now ≡ true }
+    requires bytes { length bytes.now ≤ 1048576 }
+    requires few { list.count < 16384 }
+    requires new { (members : List Member) → (met : List Found) → members_at list.count list.place (cell_at arena.old.bytes) ≡ Some (members, met) → None ≡ place_named name.now members }
+    ensures ok { IfOk result (λ after. (members : List Member) → (met : List Found) → members_at list.count list.place (cell_at arena.old.bytes) ≡ Some (members, met) → Became (cell_at arena.old.bytes) (cell_at arena.new.bytes) met after.count after.place (members ++ record { name = name.now; kind = kind; bytes = bytes.now } ∷ [])) }
+    ensures cells { OnOk result (Makes (cell_at arena.old.bytes) (cell_at arena.new.bytes) (sizes_by (cell_at arena.old.bytes) list.count list.place (length name.now) (length bytes.now) None)) }
+    ensures err { OnErr result (arena.new ≡ arena.old) }
+    ensures full { result ≡ Err ArenaFault.Full → NoFit arena.old.bytes (total_of (sizes_by (cell_at arena.old.bytes) list.count list.place (length name.now) (length bytes.now) None)) }
+    ensures limit { result ≡ Err ArenaFault.Full → PassesLimit arena.old.bytes (total_of (sizes_by (cell_at arena.old.bytes) list.count list.place (length name.now) (length bytes.now) None)) }
+{
     let Ok(sizes) = plan_add(arena, alloc, list, name.len(), bytes.len()) else {
         return Err(ArenaFault::Memory);
     };
     let room = has_room(arena, list);
     let cells = carve(arena, alloc, &sizes)?;
-    let cell = cells[0];
+    let all = cells.as_slice();
+    let cell = all[0];
     if room {
-        put_value(arena, cell, &cells[1..], name, kind, bytes);
-        put_offset(arena, list.place, list.count, cell);
+        put_value(arena, cell, &all[1..], name, kind, bytes);
+        grow(arena, list, cell);
         return Ok(ValuesList {
             count: list.count + 1,
             place: list.place,
         });
     }
-    let place = cells[1];
-    put_value(arena, cell, &cells[2..], name, kind, bytes);
-    move_list(arena, list, place);
-    put_offset(arena, place, list.count, cell);
+    let place = all[1];
+    put_value(arena, cell, &all[2..], name, kind, bytes);
+    move_list(arena, list, place, cell);
     Ok(ValuesList {
         count: list.count + 1,
         place,

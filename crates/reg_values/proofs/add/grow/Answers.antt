@@ -1,0 +1,11 @@
+use Rattle.reg_arena.specs.Cells.{cell_at}
+use Rattle.reg_values.proofs.Filling.{fills-cell}
+use Rattle.reg_values.proofs.Grown.{grown, fills-keeps}
+use Rattle.reg_values.proofs.add.grow.Goals as goal
+
+pub returns-clause-list : goal.returns-clause-list
+returns-clause-list c = λ row met e.
+    grown (cell_at c.args.arena.now.bytes) (cell_at c.put_offset.new.arena.bytes) c.args.list.count c.args.list.place c.args.cell (fills-cell _ _ c.args.list.place _ c.put_offset.ensures.written) c.requires.room c.put_offset.ensures.here c.put_offset.ensures.others row met c.requires.some e
+
+pub returns-clause-sizes : goal.returns-clause-sizes
+returns-clause-sizes c = fills-keeps _ _ _ (fills-cell _ _ c.args.list.place _ c.put_offset.ensures.written)
