@@ -121,13 +121,25 @@ module _ (h0 h1 h2 h3 : Heap) (count old place cell : ℕ) (some : 0 < count) (r
             (swaps-with h2 h3 _ _ (λ z. times z (place ∷ [])) (λ z. owned z met + times z (place ∷ [])) (λ z. times z (place ∷ [])) g (λ z. let m = met-times z in omega (arith, m)) (λ z. omega arith));
       }
 
-  pub moved-keeps : KeepsSizes h0 h3
-  moved-keeps = λ z s. gives-keeps h2 h3 _ g z s ∙ (f2.sizes z ∙ f1.sizes z)
+pub keeps-three : (h0 h1 h2 h3 : Heap) (cells : List ℕ) (f : ℕ → ℕ) → Fills h0 h1 cells → Fills h1 h2 cells → Swaps h2 h3 f (λ z. 0) → KeepsSizes h0 h3
+keeps-three h0 h1 h2 h3 cells f f1 f2 g = λ z s. gives-keeps h2 h3 f g z s ∙ (f2.sizes z ∙ f1.sizes z)
 
-  pub old-there : IsSome (h2 old)
-  old-there =
-      let o = once old in
-      let m = met-times old in
-      let t = times-same old in
-      let c = writes02.count old in
-      one-there (h2 old) (omega (arith, o, m, t, c))
+pub old-gone : (h0 h1 h2 : Heap) (count old place : ℕ) → 0 < count → (row : List ℕ) (met : List Found) → list_at count old h0 ≡ Some (row, met) → ((z : ℕ) → owned z met + times z (place ∷ []) ≤ allocated h0 z) → Fills h0 h1 (place ∷ []) → Fills h1 h2 (place ∷ []) → IsSome (h2 old)
+old-gone h0 h1 h2 count old place some row met e once f1 f2 =
+    let m = ap (owned old) (list-open h0 count old row met e some).met_is in
+    let o = once old in
+    let t = times-same old in
+    let c = (fills-then h0 h1 h2 (place ∷ []) f1 f2).writes.count old in
+    one-there (h2 old) (omega (arith, o, m, t, c))
+
+-- what the copy does
+module _ (h k : Heap) (count old place : ℕ) (some : 0 < count) (row : List ℕ) (met : List Found) (e : list_at count old h ≡ Some (row, met)) (room : HasRoom h place (4 * count + 4))
+    (w : (offset : ℕ) → k offset ≡ cond (offset == place) (Some (splice 0 (take (4 * count) (drop 0 (held h old))) (held h place))) (h offset)) where
+  copy-room : 0 + length (take (4 * count) (drop 0 (held h old))) ≤ length (held h place)
+  copy-room = let r = room.enough in omega (arith, r, length-take (4 * count) (drop 0 (held h old)))
+
+  pub copy-fills : Writes h k (place ∷ []) → Fills h k (place ∷ [])
+  copy-fills s = fills-written h k place 0 (take (4 * count) (drop 0 (held h old))) copy-room w s
+
+  pub copy-here : k place ≡ Some (splice 0 (take (4 * count) (drop 0 (held h old))) (held h place))
+  copy-here = written-here h k place 0 (take (4 * count) (drop 0 (held h old))) copy-room w
