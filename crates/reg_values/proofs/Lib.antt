@@ -14,3 +14,5 @@ pub mod Stored
 pub mod Rooms
 pub mod Valued
 pub mod Grown
+pub mod Added
+pub mod Totals
