@@ -16,3 +16,4 @@ pub mod Valued
 pub mod Grown
 pub mod Added
 pub mod Totals
+pub mod Replaced

@@ -71,13 +71,18 @@ pub record HoldsValue (heap : Heap) (cell : ℕ) (member : Member) (cells : List
   pub owns : (offset : ℕ) → owned offset met ≡ times offset cells
   pub written : IsWrittenValue heap cell
 
--- the value whose record is in a cell reads as another now, as it is written; it gave up the cells that it had for those that
--- it has, and nothing else changed
-pub record BecameValue (old new : Heap) (cell : ℕ) (member : Member) (met : List Found) : Type 0 where
+-- the value whose record is in a cell reads as another now, as it is written; cells that are counted so were given up for its own,
+-- and nothing else changed
+pub record BecameValue (old new : Heap) (gone : ℕ → ℕ) (cell : ℕ) (member : Member) : Type 0 where
   pub cells : List Found
   pub reads : member_at cell new ≡ Some (member, cells)
   pub written : IsWrittenValue new cell
-  pub swaps : Swaps old new (λ offset. owned offset met) (λ offset. owned offset cells)
+  pub swaps : Swaps old new gone (λ offset. owned offset cells)
+
+-- no cell came, and these cells hold as many bytes as before
+pub record Keeps (old new : Heap) (cells : List ℕ) : Type 0 where
+  pub fewer : (offset : ℕ) → allocated new offset ≤ allocated old offset
+  pub sizes : (offset : ℕ) → 0 < times offset cells → length (held new offset) ≡ length (held old offset)
 
 -- each cell that is still there holds as many bytes as before
 abbrev pub KeepsSizes : Heap → Heap → Type 0

@@ -1,12 +1,61 @@
 //! Other data for a value.
 
+ghost use Rattle.std.specs.Prelude.{◌≡◌, true, ◌≤◌, ◌+◌, ℕ, List, Some, Err, [], length, OnOk, OnErr};
+ghost use Rattle.reg_heap.specs.Paths.{Member};
+ghost use Rattle.reg_heap.specs.Kinds.{Found, times, owned};
+ghost use Rattle.reg_arena.specs.Cells.{cell_at};
+ghost use Rattle.reg_arena.specs.NewCells.{total_of};
+ghost use Rattle.reg_arena.specs.Carves.{NoFit};
+ghost use Rattle.reg_arena.specs.NewBin.{PassesLimit};
+ghost use Rattle.reg_records.specs.Values.{value_record_at};
+ghost use Rattle.reg_records.specs.Nodes.{member_at};
+ghost use Rattle.reg_records.specs.Written.{IsWrittenValue};
+ghost use Rattle.reg_values.specs.Lists.{Makes};
+ghost use Rattle.reg_values.specs.Parts.{Owns, OwnsBeside, HaveRoom, BecameValue, Keeps};
+ghost use Rattle.reg_values.specs.Sizes.{data_sizes, stays as stays_of, new_data_sizes};
+
 use crate::add::carve;
 use crate::data::{free_data, put_data};
 use crate::look::record_at;
 use crate::plan::{plan_replace, stays};
 use reg_arena::{Arena, ArenaFault};
-use reg_records::set_data;
+use reg_records::{ValueFields, set_data};
 use std::alloc::Global;
+
+/// Writes other data into the one cell that a value's data has.
+fn rewrite(arena: &mut Arena, cell: u32, old: ValueFields, kind: u32, bytes: &[u8])
+    requires owns { Owns (member_at cell) (cell_at arena.old.bytes) }
+    requires written { IsWrittenValue (cell_at arena.old.bytes) cell }
+    requires record_is { (name : List ℕ) × (value_record_at (cell_at arena.old.bytes) cell ≡ Some (record { fields = old; name = name })) }
+    requires stays { stays_of (cell_at arena.old.bytes) old (length bytes.now) ≡ true }
+    ensures value { (m : Member) → (met : List Found) → member_at cell (cell_at arena.old.bytes) ≡ Some (m, met) → BecameValue (cell_at arena.old.bytes) (cell_at arena.new.bytes) (λ offset. owned offset met) cell (record { name = m.name; kind = kind; bytes = bytes.now }) }
+    ensures cells { Makes (cell_at arena.old.bytes) (cell_at arena.new.bytes) [] }
+{
+    arena.write(old.place, 0, bytes);
+    set_data(arena, cell, bytes.len() as u32, old.place, kind);
+}
+
+/// Writes other data into new cells, and frees those that a value's data has.
+fn exchange(
+    arena: &mut Arena,
+    cell: u32,
+    cells: &[u32],
+    old: ValueFields,
+    kind: u32,
+    bytes: &[u8],
+)
+    requires owns { OwnsBeside (member_at cell) (cell_at arena.old.bytes) cells.now }
+    requires written { IsWrittenValue (cell_at arena.old.bytes) cell }
+    requires record_is { (name : List ℕ) × (value_record_at (cell_at arena.old.bytes) cell ≡ Some (record { fields = old; name = name })) }
+    requires bytes { length bytes.now ≤ 1048576 }
+    requires cells { HaveRoom (cell_at arena.old.bytes) cells.now (data_sizes (length bytes.now)) }
+    ensures value { (m : Member) → (met : List Found) → member_at cell (cell_at arena.old.bytes) ≡ Some (m, met) → BecameValue (cell_at arena.old.bytes) (cell_at arena.new.bytes) (λ offset. owned offset met + times offset cells.now) cell (record { name = m.name; kind = kind; bytes = bytes.now }) }
+    ensures keeps { Keeps (cell_at arena.old.bytes) (cell_at arena.new.bytes) cells.now }
+{
+    let data = put_data(arena, cells, bytes);
+    set_data(arena, cell, data.size, data.place, kind);
+    free_data(arena, old);
+}
 
 /// Gives the value whose record is in a cell another type and other data, and frees what it had.
 pub(crate) fn replace(
@@ -15,19 +64,25 @@ pub(crate) fn replace(
     cell: u32,
     kind: u32,
     bytes: &[u8],
-) -> Result<(), ArenaFault> {
+) -> Result<(), ArenaFault>
+    requires owns { Owns (member_at cell) (cell_at arena.old.bytes) }
+    requires written { IsWrittenValue (cell_at arena.old.bytes) cell }
+    requires bytes { length bytes.now ≤ 1048576 }
+    ensures value { OnOk result ((m : Member) → (met : List Found) → member_at cell (cell_at arena.old.bytes) ≡ Some (m, met) → BecameValue (cell_at arena.old.bytes) (cell_at arena.new.bytes) (λ offset. owned offset met) cell (record { name = m.name; kind = kind; bytes = bytes.now })) }
+    ensures cells { OnOk result (Makes (cell_at arena.old.bytes) (cell_at arena.new.bytes) (new_data_sizes (cell_at arena.old.bytes) (length bytes.now) (value_record_at (cell_at arena.old.bytes) cell))) }
+    ensures err { OnErr result (arena.new ≡ arena.old) }
+    ensures full { result ≡ Err ArenaFault.Full → NoFit arena.old.bytes (total_of (new_data_sizes (cell_at arena.old.bytes) (length bytes.now) (value_record_at (cell_at arena.old.bytes) cell))) }
+    ensures limit { result ≡ Err ArenaFault.Full → PassesLimit arena.old.bytes (total_of (new_data_sizes (cell_at arena.old.bytes) (length bytes.now) (value_record_at (cell_at arena.old.bytes) cell))) }
+{
     let old = record_at(arena, cell).fields;
     if stays(arena, old, bytes.len()) {
-        arena.write(old.place, 0, bytes);
-        set_data(arena, cell, bytes.len() as u32, old.place, kind);
+        rewrite(arena, cell, old, kind, bytes);
         return Ok(());
     }
     let Ok(sizes) = plan_replace(arena, alloc, old, bytes.len()) else {
         return Err(ArenaFault::Memory);
     };
     let cells = carve(arena, alloc, &sizes)?;
-    let data = put_data(arena, &cells, bytes);
-    set_data(arena, cell, data.size, data.place, kind);
-    free_data(arena, old);
+    exchange(arena, cell, &cells, old, kind, bytes);
     Ok(())
 }
