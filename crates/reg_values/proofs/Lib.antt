@@ -17,3 +17,4 @@ pub mod Grown
 pub mod Added
 pub mod Totals
 pub mod Replaced
+pub mod SetAgain

@@ -22,7 +22,7 @@ use Rattle.reg_values.specs.Lists.{Makes}
 use Rattle.reg_values.specs.Sizes.{cell_size, stays, data_sizes, new_data_sizes}
 use Rattle.reg_values.specs.Parts.{Fills, HoldsData, HaveRoom, Owns, OwnsBeside, GivesUpRead, BecameValue, Keeps}
 use Rattle.reg_values.proofs.Found.{IsMember, member-open, name-told, record-there, is-some}
-use Rattle.reg_values.proofs.Pieces.{le-false, segment-is}
+use Rattle.reg_values.proofs.Pieces.{le-false, segment-is, data-there}
 use Rattle.reg_values.proofs.Filling.{fills-in, fills-then, fills-there}
 use Rattle.reg_values.proofs.Swapped.{times-same, owned-append, swaps-then, swaps-with, writes-in, kept-apart, agree-apart, allocated-le, there-one, one-there, none-there}
 use Rattle.reg_values.proofs.Freed.{member-parts, member-data, member-owned, one-owned}
@@ -260,3 +260,15 @@ module _ (h0 h1 : Heap) (cell : ℕ) (cells sizes : List ℕ) (own : Owns (membe
 
 pub made-new : (h0 h1 h4 : Heap) (cells sizes : List ℕ) (size : ℕ) → AreNew h0 h1 cells sizes → sizes ≡ data_sizes size → Keeps h1 h4 cells → Makes h0 h4 (data_sizes size)
 made-new h0 h1 h4 cells sizes size a e k = makes h0 h1 h4 cells (data_sizes size) (subst (AreNew h0 h1 cells) e a) (data-ok size) k.fewer k.sizes
+
+-- ---- the sizes
+
+pub replace-sizes : (h : Heap) (cell size : ℕ) (v : KeyValueRecord) (b : Bool) → value_record_at h cell ≡ Some v → stays h v.fields size ≡ b → new_data_sizes h size (value_record_at h cell) ≡ cond b [] (data_sizes size)
+replace-sizes h cell size v b r s = ap (new_data_sizes h size) r ∙ ap (λ b. cond b [] (data_sizes size)) s
+
+-- the data's one cell is there
+pub old-there : (h : Heap) (cell : ℕ) (own : Owns (member_at cell) h) (w : IsWrittenValue h cell) (old : ValueFields) (name : List ℕ) → value_record_at h cell ≡ Some (record { fields = old; name = name }) → old.size ≤ 16344 → IsSome (h old.place)
+old-there h cell own w old name r l = data-there h old own.result.bytes _ (member-data h cell own.result own.met own.reads old name r) (data-written h cell w old name r) l
+
+pub new-cells : (h0 h1 : Heap) (os all ss sizes : List ℕ) → AreNew h0 h1 os ss → all ≡ os → ss ≡ sizes → AreNew h0 h1 all sizes
+new-cells h0 h1 os all ss sizes a e p = subst (λ xs. AreNew h0 h1 xs sizes) (sym e) (subst (AreNew h0 h1 os) p a)

@@ -28,6 +28,7 @@ fn rewrite(arena: &mut Arena, cell: u32, old: ValueFields, kind: u32, bytes: &[u
     requires written { IsWrittenValue (cell_at arena.old.bytes) cell }
     requires record_is { (name : List ℕ) × (value_record_at (cell_at arena.old.bytes) cell ≡ Some (record { fields = old; name = name })) }
     requires stays { stays_of (cell_at arena.old.bytes) old (length bytes.now) ≡ true }
+    requires bytes { length bytes.now ≤ 1048576 }
     ensures value { (m : Member) → (met : List Found) → member_at cell (cell_at arena.old.bytes) ≡ Some (m, met) → BecameValue (cell_at arena.old.bytes) (cell_at arena.new.bytes) (λ offset. owned offset met) cell (record { name = m.name; kind = kind; bytes = bytes.now }) }
     ensures cells { Makes (cell_at arena.old.bytes) (cell_at arena.new.bytes) [] }
 {

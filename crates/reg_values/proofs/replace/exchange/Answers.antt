@@ -1,0 +1,40 @@
+use Rattle.std.proofs.Common.{ℕ, ◌≡◌, ◌+◌, ◌≤◌, ◌∷◌, [], length, arith}
+use Rattle.reg_arena.specs.Cells.{cell_at}
+use Rattle.reg_values.proofs.Found.{is-some}
+use Rattle.reg_values.proofs.Filling.{fills-cell}
+use Rattle.reg_values.proofs.Replaced.{record-kept2, plain-kept2, data-owns3, keeps-cells, exchanged}
+use Rattle.reg_values.proofs.replace.exchange.Goals as goal
+
+pub set_data-requires : goal.set_data-requires
+set_data-requires c =
+    let r = c.requires.record_is in
+    let h1 = cell_at c.args.arena.now.bytes in
+    let h2 = cell_at c.put_data-data.new.arena.bytes in
+    is-some _ _ (record-kept2 h1 h2 h2 c.args.cell c.args.cells.now c.requires.owns c.requires.written c.args.old r.0 r.1 c.put_data-data.ensures.fills)
+
+pub free_data-requires : goal.free_data-requires
+free_data-requires c =
+    let r = c.requires.record_is in
+    let h1 = cell_at c.args.arena.now.bytes in
+    let h2 = cell_at c.put_data-data.new.arena.bytes in
+    let h3 = cell_at c.set_data.new.arena.bytes in
+    data-owns3 h1 h2 h3 c.args.cell c.args.cells.now c.requires.owns c.requires.written c.args.old r.0 r.1 c.put_data-data.ensures.fills (fills-cell _ _ c.args.cell _ c.set_data.ensures.written)
+
+pub returns-clause-value : goal.returns-clause-value
+returns-clause-value c = λ m met e.
+    let r = c.requires.record_is in
+    let h1 = cell_at c.args.arena.now.bytes in
+    let h2 = cell_at c.put_data-data.new.arena.bytes in
+    let h3 = cell_at c.set_data.new.arena.bytes in
+    let k = record-kept2 h1 h2 h3 c.args.cell c.args.cells.now c.requires.owns c.requires.written c.args.old r.0 r.1 c.put_data-data.ensures.fills in
+    let p = plain-kept2 h1 h2 h3 c.args.cell c.args.cells.now c.requires.owns c.requires.written c.args.old r.0 r.1 c.put_data-data.ensures.fills in
+    exchanged h1 h2 h3 c.args.cell c.args.cells.now c.requires.owns c.requires.written c.args.old r.0 r.1 c.put_data-data.ensures.fills (fills-cell _ _ c.args.cell _ c.set_data.ensures.written) (cell_at c.free_data.new.arena.bytes) c.free_data.ensures
+    c.put_data-data.result.size c.put_data-data.result.place c.args.kind c.args.bytes.now c.put_data-data.ensures.holds (c.set_data.ensures.reads _ k) (c.set_data.ensures.plain p) m met e
+
+pub returns-clause-keeps : goal.returns-clause-keeps
+returns-clause-keeps c =
+    let r = c.requires.record_is in
+    let h1 = cell_at c.args.arena.now.bytes in
+    let h2 = cell_at c.put_data-data.new.arena.bytes in
+    let h3 = cell_at c.set_data.new.arena.bytes in
+    keeps-cells h1 h2 h3 c.args.cell c.args.cells.now c.requires.owns c.requires.written c.args.old r.0 r.1 c.put_data-data.ensures.fills (fills-cell _ _ c.args.cell _ c.set_data.ensures.written) (cell_at c.free_data.new.arena.bytes) c.free_data.ensures
