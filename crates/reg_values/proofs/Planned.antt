@@ -80,3 +80,10 @@ module _ (heap : Heap) (count place : ℕ) (name : List ℕ) (size : ℕ) (membe
   sizes-none p =
       sym (ap (λ o. sizes_by heap count place (length name) size (option_and_then (λ (read : List Member × List Found). place_named name read.0) o)) e
       ∙ ap (sizes_by heap count place (length name) size) (sym p))
+
+pub sizes-there : (heap : Heap) (count place : ℕ) (name : List ℕ) (size : ℕ) (members : List Member) (met : List Found) (index cell : ℕ) → members_at count place heap ≡ Some (members, met) → Some index ≡ place_named name members → cell ≡ offset_in (held heap place) index
+    → new_data_sizes heap size (value_record_at heap cell) ≡ set_sizes heap count place name size
+unfolding set_sizes
+sizes-there heap count place name size members met index cell e p c =
+    ap (λ o. new_data_sizes heap size (value_record_at heap o)) c
+    ∙ sym (ap (λ o. sizes_by heap count place (length name) size (option_and_then (λ (read : List Member × List Found). place_named name read.0) o)) e ∙ ap (sizes_by heap count place (length name) size) (sym p))

@@ -11,7 +11,8 @@ use Rattle.reg_heap.specs.Kinds.{times}
 use Rattle.reg_records.specs.Cells.{held}
 use Rattle.reg_records.specs.Pieces.{segment_size, segments_for}
 use Rattle.reg_values.specs.Lists.{Makes}
-use Rattle.reg_values.specs.Sizes.{cell_size, segment_sizes, data_sizes, list_sizes, sizes_by, has_room}
+use Rattle.reg_values.specs.Sizes.{cell_size, segment_sizes, data_sizes, list_sizes, sizes_by, has_room, stays, new_data_sizes}
+use Rattle.reg_records.specs.Values.{KeyValueRecord}
 use Rattle.reg_values.proofs.Found.{is-some, held-is}
 use Rattle.reg_values.proofs.Swapped.{allocated-le, none-there, there-one, times-same}
 use Rattle.reg_values.proofs.Stored.{few-segments}
@@ -117,3 +118,12 @@ makes h0 h1 h offsets sizes a s less same = record {
 
 pub value-name : (name : List ℕ) → is_value_name name ≡ true → length name ≤ 16383
 value-name name e = leb-true _ _ (and_parts (list_all is_value_name_byte name) (nat_le (length name) 16383) e).1
+
+-- a set's sizes are few enough
+pub replace-total : (h : Heap) (size : ℕ) (v : Option KeyValueRecord) → size ≤ 1048576 → total_of (new_data_sizes h size v) ≤ 1306592
+replace-total h size None l = omega arith
+replace-total h size (Some old) l = by (stays h old.fields size)
+  where
+    by : (b : Bool) → total_of (cond b [] (data_sizes size)) ≤ 1306592
+    by true = omega arith
+    by false = let t = data-total size l in omega (arith, t)

@@ -48,12 +48,10 @@ pub fn set(
     ensures limit { result ≡ Err ArenaFault.Full → PassesLimit arena.old.bytes (total_of (set_sizes (cell_at arena.old.bytes) list.count list.place name.now (length bytes.now))) }
     ensures near { result ≡ Err ArenaFault.Full → 268435456 < length arena.old.bytes + 1310720 }
 {
-    match find(arena, list, name) {
-        Some(index) => {
-            let cell = cell_of(arena, list, index);
-            replace(arena, alloc, cell, kind, bytes)?;
-            Ok(list)
-        }
-        None => add(arena, alloc, list, name, kind, bytes),
-    }
+    let Some(index) = find(arena, list, name) else {
+        return add(arena, alloc, list, name, kind, bytes);
+    };
+    let cell = cell_of(arena, list, index);
+    replace(arena, alloc, cell, kind, bytes)?;
+    Ok(list)
 }
