@@ -154,7 +154,7 @@ full-sizes h count place name size r = ap (λ b. cell_size (20 + name) ∷ (cond
 pub list-space : (h0 h1 h2 : Heap) (count place : ℕ) (cells more : List ℕ) → has_room h0 count place ≡ true → IsSome (h0 place) → Swaps h0 h1 (λ z. 0) (λ z. times z more) → Fills h1 h2 cells → HasRoom h2 place (4 * count + 4)
 list-space h0 h1 h2 count place cells more r s n f =
     let b = and_parts (not (count == 0)) (nat_le (4 * count + 4) (length (held h0 place))) r in
-    let l = leb-true _ _ b.1 in
+    let l : 4 * count + 4 ≤ length (held h0 place) = leb-true _ _ b.1 in
     let a = there-one h0 place s in
     let same = kept-apart h0 h1 _ _ n place (omega (arith, a)) refl in
     let room : HasRoom h1 place (4 * count + 4) = record { exists = subst IsSome (sym same) s; enough = subst (λ (o : Option (List ℕ)). 4 * count + 4 ≤ length (unwrap_or o [])) (sym same) l } in
