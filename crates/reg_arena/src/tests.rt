@@ -78,6 +78,23 @@ fn two_bins(alloc: Global) -> Result<Arena, Fail> {
     Ok(arena)
 }
 
+// Carves a cell that needs a new bin, and once more where memory is refused; after each carve what it answered, all
+// offsets, and the cells.
+fn carved_at_last(alloc: Global) -> Result<String, Fail> {
+    let mut arena = two_bins(alloc)?;
+    let mut offsets = Vec::new(alloc);
+    let mut text = String::new(alloc);
+    for _i in 0..2 {
+        let result = arena.carve(&[4072], &mut offsets);
+        let cells = shown(alloc, &arena)?;
+        write!(text, "{result:?} {offsets:?} {cells}; ")?;
+        if result.is_ok() {
+            return Ok(text);
+        }
+    }
+    Ok(text)
+}
+
 // Cells of the largest size until one is refused.
 fn filled(alloc: Global, arena: &mut Arena) -> Result<String, Fail> {
     let mut offsets = Vec::new(alloc);
@@ -245,6 +262,20 @@ fn two_free_bins_are_no_room_for_a_larger_cell(rt: HostRuntime) -> Result<(), Fa
     assert_eq!(rt;
         shown(rt.alloc(), &arena)?.as_str(),
         "32 4064, 4128 4064, 8224 4072*, 12296 4088, "
+    );
+    Ok(())
+}
+
+// Every allocation of the carve is refused in turn by `rt try --test --fail-alloc N`.
+#[test]
+fn a_carve_without_memory_changes_nothing(rt: HostRuntime) -> Result<(), Fail> {
+    let text = carved_at_last(rt.alloc())?;
+    let refused = text
+        .as_str()
+        .strip_prefix("Err(Memory) [] 32 4064*, 4128 4064*, ; ");
+    assert_eq!(rt;
+        refused.unwrap_or(text.as_str()),
+        "Ok(()) [8224] 32 4064*, 4128 4064*, 8224 4072*, 12296 4088, ; "
     );
     Ok(())
 }
