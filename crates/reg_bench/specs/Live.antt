@@ -1,9 +1,10 @@
 -- The cells that a subject works on.
-use Rattle.std.specs.Prelude.{ℕ, ◌≤◌, List}
+use Rattle.std.specs.Prelude.{ℕ, ◌+◌, ◌≤◌, List}
 use Rattle.reg_heap.specs.Heaps.{allocated}
 use Rattle.reg_heap.specs.Kinds.{times}
 use Rattle.reg_arena.specs.Cells.{cell_at}
 
--- each of the offsets is that of an allocated cell, and stands once
-abbrev pub AreLive : List ℕ → List ℕ → Type 0
-AreLive bytes offsets = (offset : ℕ) → times offset offsets ≤ allocated (cell_at bytes) offset
+-- each offset of the two lists is that of an allocated cell, and stands once
+abbrev pub AreLive : List ℕ → List ℕ → List ℕ → Type 0
+AreLive bytes offsets chosen =
+    (offset : ℕ) → times offset offsets + times offset chosen ≤ allocated (cell_at bytes) offset

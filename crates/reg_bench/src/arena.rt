@@ -7,33 +7,33 @@ use std::alloc::Global;
 use std::rt::Clock;
 use std::time::Instant;
 
-/// How many cells are allocated while no time is taken.
-const SMALL: usize = 200;
+/// How many cells are allocated at first while no time is taken.
+const SMALL: usize = 240;
 
-/// How many cells are allocated while time is taken.
+/// How many cells are allocated at first while time is taken.
 const SIZES: [usize; 2] = [100_000, 1_000_000];
 
-/// How often half the cells are freed and as many carved.
-const ROUNDS: u32 = 3;
+/// How often a sixth of the cells is freed, so that half of them are at last.
+const ROUNDS: usize = 3;
 
-/// Carves, frees half and carves again; prints how many cells and bytes there are after each.
+/// Carves, frees half, a sixth at a time, and carves again. Prints how many cells and bytes there are after each.
 pub fn count(rt: &impl Print, alloc: Global) -> Result<()> {
     let mut cells = LiveCells::new(alloc);
     cells.carve_some(SMALL)?;
+    print_counts(rt, &cells, "carved")?;
+    for _round in 0..ROUNDS {
+        cells.choose_some(SMALL / 6)?;
+        let calls = cells.free_chosen();
+        println!(rt; "arena: {calls} calls of free")?;
+    }
+    print_counts(rt, &cells, "half freed")?;
+    cells.carve_some(SMALL / 20)?;
+    print_counts(rt, &cells, "carved again")
+}
+
+fn print_counts(rt: &impl Print, cells: &LiveCells, after: &str) -> Result<()> {
     println!(rt;
-        "arena, carved: {} cells in {} bytes",
-        cells.len(),
-        cells.bins_size()
-    )?;
-    cells.free_some(SMALL / 2);
-    println!(rt;
-        "arena, half freed: {} cells in {} bytes",
-        cells.len(),
-        cells.bins_size()
-    )?;
-    cells.carve_some(SMALL / 2)?;
-    println!(rt;
-        "arena, carved again: {} cells in {} bytes",
+        "arena, {after}: {} cells in {} bytes",
         cells.len(),
         cells.bins_size()
     )?;
@@ -48,29 +48,36 @@ pub fn measure(rt: &(impl Print + Clock), alloc: Global) -> Result<()> {
     Ok(())
 }
 
-// Carves all cells; then, in each round, frees half of them and carves as many. The times are those of one call, with the
-// choice of the cell or the size.
+// The times are those of one call. The cells to be freed are chosen before the clock starts.
 fn measure_at(rt: &(impl Print + Clock), alloc: Global, live: usize) -> Result<()> {
     let mut cells = LiveCells::new(alloc);
-    let start = Instant::now(rt)?;
-    cells.carve_some(live)?;
-    let filled = PerCall::new(start.elapsed(rt)?, live);
-    println!(rt; "arena, {} live cells: first carve {filled}", cells.len())?;
-    for round in 0..ROUNDS {
+    let filled = time_carves(rt, &mut cells, live)?;
+    println!(rt; "arena, {live} live cells: carved at first, {filled}")?;
+    print_sizes(rt, &cells)?;
+    for _round in 0..ROUNDS {
+        cells.choose_some(live / 6)?;
         let start = Instant::now(rt)?;
-        cells.free_some(live / 2);
-        let freed = PerCall::new(start.elapsed(rt)?, live / 2);
-        let start = Instant::now(rt)?;
-        cells.carve_some(live / 2)?;
-        let carved = PerCall::new(start.elapsed(rt)?, live / 2);
-        println!(rt; "round {}: free {freed}, carve {carved}", round + 1)?;
+        let calls = cells.free_chosen();
+        let freed = PerCall::new(start.elapsed(rt)?, calls);
+        println!(rt; "freed {calls}, {freed}")?;
     }
+    let calls = live / 20;
+    let carved = time_carves(rt, &mut cells, calls)?;
+    println!(rt; "carved {calls} among the freed cells, {carved}")?;
+    Ok(())
+}
+
+fn time_carves(rt: &impl Clock, cells: &mut LiveCells, calls: usize) -> Result<PerCall> {
+    let start = Instant::now(rt)?;
+    cells.carve_some(calls)?;
+    Ok(PerCall::new(start.elapsed(rt)?, calls))
+}
+
+// The arena keeps two numbers of 32 bits for each 8 bytes of bins.
+fn print_sizes(rt: &impl Print, cells: &LiveCells) -> Result<()> {
     let bins = u64::from(cells.bins_size());
     let tables = bins / 8 * 2 * 4;
     let percent = (tables * 100).checked_div(bins).unwrap_or(0);
-    println!(rt;
-        "{} cells, {bins} bytes of bins, {tables} bytes of side tables: {percent} %",
-        cells.len()
-    )?;
+    println!(rt; "{bins} bytes of bins, {tables} bytes of side tables, {percent} %")?;
     Ok(())
 }

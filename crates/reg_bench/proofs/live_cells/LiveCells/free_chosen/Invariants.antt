@@ -1,0 +1,5 @@
+use Rattle.std.proofs.Common.{◌≡◌, ◌+◌, length}
+use Rattle.reg_bench.proofs.live_cells.LiveCells.free_chosen.Given as goal
+
+abbrev pub invariant-loop-i : goal.invariant-loop-i
+invariant-loop-i l = length l.self.chosen.items + l._i ≡ length l.fn.self.chosen.items

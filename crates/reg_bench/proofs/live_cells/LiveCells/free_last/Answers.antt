@@ -1,0 +1,9 @@
+use Rattle.reg_bench.proofs.Live.{chosen-stands, chosen-freed}
+use Rattle.reg_bench.proofs.live_cells.LiveCells.free_last.Goals as goal
+
+pub free-requires : goal.free-requires
+free-requires c = chosen-stands _ _ _ c.args.self.now.live _ _ c.in-Some.ensures.items
+
+pub invariant_of-self-2 : goal.invariant_of-self-2
+invariant_of-self-2 c =
+    record { live = chosen-freed _ _ _ c.args.self.now.live _ _ _ c.in-Some.ensures.items c.free.ensures.gone }
