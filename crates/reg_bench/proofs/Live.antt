@@ -10,7 +10,7 @@ use Rattle.reg_arena.specs.Cells.{cell_at}
 use Rattle.reg_arena.specs.Arena.{Bins}
 use Rattle.reg_arena.specs.Carves.{CarvesExactly, AddsCells}
 use Rattle.reg_arena.specs.declared.ArenaFault.{ArenaFault}
-use Rattle.reg_bench.specs.Live.{AreLive}
+use Rattle.reg_bench.specs.Live.{AreLive, FreesChosen}
 
 abbrev is_at : ℕ → ℕ → ℕ
 is_at x y = cond (eqb y x) 1 0
@@ -76,3 +76,9 @@ live-longer old new live more size (Ok x) ok =
     let one : length added.0 ≡ 1 = added.3.are_new.as_many in
     rw added.1 (rw length-append (omega arith))
 live-longer old new live more size (Err e) ok = tt
+
+-- a chosen cell was freed, counted
+pub one-freed : (old new chosen rest : List ℕ) (cell : ℕ) → chosen ≡ rest ++ cell ∷ [] → GivesUp (cell_at old) (cell_at new) (cell ∷ []) → FreesChosen old new chosen rest
+one-freed old new chosen rest cell e gone offset =
+    let split : times offset chosen ≡ times offset rest + times offset (cell ∷ []) = rw e (times-append offset rest (cell ∷ [])) in
+    omega (arith, gone.count offset)

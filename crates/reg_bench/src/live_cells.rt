@@ -1,6 +1,6 @@
 //! An arena with cells that come and go at random.
 ghost use Rattle.std.specs.Prelude.{◌≡◌, ◌+◌, ◌-◌, [], length, OnOk};
-ghost use Rattle.reg_bench.specs.Live.{AreLive};
+ghost use Rattle.reg_bench.specs.Live.{AreLive, FreesChosen};
 
 use rand_core::utils::NextWord;
 use rand_pcg::Pcg32;
@@ -67,6 +67,7 @@ impl LiveCells {
     pub fn free_chosen(&mut self) -> usize
         ensures calls { result ≡ length self.old.chosen.items }
         ensures none { length self.new.chosen.items ≡ 0 }
+        ensures freed { FreesChosen self.old.arena.bytes self.new.arena.bytes self.old.chosen.items self.new.chosen.items }
     {
         let calls = self.chosen.len();
         for _i in 0..calls {
@@ -94,7 +95,8 @@ impl LiveCells {
 
     // Frees the cell that was chosen last.
     fn free_last(&mut self)
-        ensures { length self.new.chosen.items ≡ length self.old.chosen.items - 1 }
+        ensures fewer { length self.new.chosen.items ≡ length self.old.chosen.items - 1 }
+        ensures freed { FreesChosen self.old.arena.bytes self.new.arena.bytes self.old.chosen.items self.new.chosen.items }
     {
         let Some(cell) = self.chosen.pop() else {
             return;
