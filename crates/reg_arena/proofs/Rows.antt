@@ -1,10 +1,12 @@
 -- The definitions at bytes that were worked out by hand.
+use Rattle.std.proofs.Common.{arith}
 use Rattle.std.specs.Prelude.{◌≡◌, ℕ, ◌-◌, List, [], ◌∷◌, ◌++◌, replicate, Some, None, refl}
 use Rattle.byteorder.specs.Endian.{little_bytes}
 use Rattle.reg_heap.specs.Words.{word}
 use Rattle.reg_arena.specs.Cells.{cells_of, cell_at}
 use Rattle.reg_arena.specs.NewCells.{used, unused}
 use Rattle.reg_arena.specs.Free.{Follows, free_of}
+use Rattle.reg_arena.specs.Frees.{Frees}
 use Rattle.reg_arena.specs.Arena.{one_class}
 use Rattle.reg_arena.specs.NewBin.{new_bin}
 
@@ -71,6 +73,69 @@ three_freed-list : Follows three_freed 32 (32 ∷ 120 ∷ [])
 unfolding word
 three_freed-list = (refl, (refl, refl))
 
+-- ---- the same cells freed one by one: 48, 32, 72
+
+-- the second freed: no free cell touches it
+abbrev second_freed : List ℕ
+second_freed =
+    header 0 4096 ++ (used_bytes 16 ++ (free_bytes 24 120 ++ (used_bytes 32 ++ (used_bytes 16 ++ free_bytes 3976 4294967295))))
+
+second_freed-is : Frees four_cells second_freed 48
+unfolding cells_of word
+second_freed-is = record {
+  before = used 32 16 ∷ [];
+  left = [];
+  size = 24;
+  right = [];
+  after = used 72 32 ∷ used 104 16 ∷ unused 120 3976 ∷ [];
+  lo = 48;
+  hi = 72;
+  left_is = refl;
+  right_is = refl;
+  was = refl;
+  now = refl;
+  long = refl;
+}
+
+-- the first freed: it takes in the free cell on its right
+abbrev two_freed : List ℕ
+two_freed = header 0 4096 ++ (free_bytes 40 120 ++ (used_bytes 32 ++ (used_bytes 16 ++ free_bytes 3976 4294967295)))
+
+two_freed-is : Frees second_freed two_freed 32
+unfolding cells_of word
+two_freed-is = record {
+  before = [];
+  left = [];
+  size = 16;
+  right = unused 48 24 ∷ [];
+  after = used 72 32 ∷ used 104 16 ∷ unused 120 3976 ∷ [];
+  lo = 32;
+  hi = 72;
+  left_is = refl;
+  right_is = (refl, omega arith);
+  was = refl;
+  now = refl;
+  long = refl;
+}
+
+-- the third freed: it becomes part of the free cell on its left
+three_freed-is : Frees two_freed three_freed 72
+unfolding cells_of word
+three_freed-is = record {
+  before = [];
+  left = unused 32 40 ∷ [];
+  size = 32;
+  right = [];
+  after = used 104 16 ∷ unused 120 3976 ∷ [];
+  lo = 32;
+  hi = 104;
+  left_is = (refl, omega arith);
+  right_is = refl;
+  was = refl;
+  now = refl;
+  long = refl;
+}
+
 -- ---- bins
 
 new_bin-cells : cells_of (new_bin 0 4096 4294967295) ≡ Some (unused 32 4064 ∷ [])
@@ -84,6 +149,50 @@ no_bin = refl
 two_bins-cells : cells_of (header 0 4096 ++ (used_bytes 4064 ++ new_bin 4096 4096 4294967295)) ≡ Some (used 32 4064 ∷ unused 4128 4064 ∷ [])
 unfolding cells_of word
 two_bins-cells = refl
+
+-- freed cells of two bins don't touch
+abbrev two_bins : List ℕ
+two_bins = header 0 4096 ++ (used_bytes 4064 ++ (header 4096 4096 ++ used_bytes 4064))
+
+abbrev first_bin_freed : List ℕ
+first_bin_freed = header 0 4096 ++ (free_bytes 4064 4294967295 ++ (header 4096 4096 ++ used_bytes 4064))
+
+abbrev both_bins_freed : List ℕ
+both_bins_freed = header 0 4096 ++ (free_bytes 4064 4294967295 ++ (header 4096 4096 ++ free_bytes 4064 32))
+
+first_bin-freed : Frees two_bins first_bin_freed 32
+unfolding cells_of word
+first_bin-freed = record {
+  before = [];
+  left = [];
+  size = 4064;
+  right = [];
+  after = used 4128 4064 ∷ [];
+  lo = 32;
+  hi = 4096;
+  left_is = refl;
+  right_is = refl;
+  was = refl;
+  now = refl;
+  long = refl;
+}
+
+second_bin-freed : Frees first_bin_freed both_bins_freed 4128
+unfolding cells_of word
+second_bin-freed = record {
+  before = unused 32 4064 ∷ [];
+  left = [];
+  size = 4064;
+  right = [];
+  after = [];
+  lo = 4128;
+  hi = 8192;
+  left_is = refl;
+  right_is = refl;
+  was = refl;
+  now = refl;
+  long = refl;
+}
 
 -- ---- what is no row of bins
 

@@ -1,6 +1,6 @@
-//! Each public call once on its happy path, bins appended, and the limit of all bins. The wanted bytes come from the
-//! format's description.
-ghost use Rattle.std.specs.Prelude.{◌≡◌, ◌-◌, ◌≤◌, ◌%◌, replicate, Some, IfOk};
+//! Each public call once on its happy path, bins appended, cells freed, and the limit of all bins. The wanted bytes come
+//! from the format's description.
+ghost use Rattle.std.specs.Prelude.{◌≡◌, ◌-◌, ◌≤◌, ◌%◌, replicate, true, Some, IsSome, IfOk};
 ghost use Rattle.reg_arena.specs.Cells.{cell_at};
 
 use crate::{Arena, Cell};
@@ -36,6 +36,63 @@ fn carved(alloc: Global, arena: &mut Arena, size: u32) -> Result<u32, Fail>
     let mut offsets = Vec::new(alloc);
     arena.carve(&[size], &mut offsets)?;
     Ok(offsets[0])
+}
+
+// Whether an allocated cell stands at an offset.
+fn has_cell(alloc: Global, arena: &Arena, offset: u32) -> Result<bool, Fail>
+    ensures { IfOk result (λ found. found ≡ true → IsSome (cell_at arena.now.bytes offset)) }
+{
+    let cells = arena.cells(alloc)?;
+    for cell in &cells {
+        if cell.offset == offset && cell.allocated {
+            return Ok(true);
+        }
+    }
+    Ok(false)
+}
+
+// Frees the allocated cells that there are at these offsets, in this order.
+fn free_each(alloc: Global, arena: &mut Arena, offsets: &[u32]) -> Result<(), Fail> {
+    for offset in offsets {
+        if has_cell(alloc, arena, *offset)? {
+            arena.free(*offset);
+        }
+    }
+    Ok(())
+}
+
+// One bin, with allocated cells of 16, 24, 32 and 16 bytes.
+fn four_cells(alloc: Global) -> Result<Arena, Fail> {
+    let mut arena = Arena::new(alloc);
+    let mut offsets = Vec::new(alloc);
+    arena.carve(&[16, 24, 32, 16], &mut offsets)?;
+    Ok(arena)
+}
+
+// Two bins, each of which is one allocated cell.
+fn two_bins(alloc: Global) -> Result<Arena, Fail> {
+    let mut arena = Arena::new(alloc);
+    let mut offsets = Vec::new(alloc);
+    arena.carve(&[4064], &mut offsets)?;
+    arena.carve(&[4064], &mut offsets)?;
+    Ok(arena)
+}
+
+// Carves a cell that needs a new bin, and once more where memory is refused; after each carve what it answered, all
+// offsets, and the cells.
+fn carved_at_last(alloc: Global) -> Result<String, Fail> {
+    let mut arena = two_bins(alloc)?;
+    let mut offsets = Vec::new(alloc);
+    let mut text = String::new(alloc);
+    for _i in 0..2 {
+        let result = arena.carve(&[4072], &mut offsets);
+        let cells = shown(alloc, &arena)?;
+        write!(text, "{result:?} {offsets:?} {cells}; ")?;
+        if result.is_ok() {
+            return Ok(text);
+        }
+    }
+    Ok(text)
 }
 
 // Cells of the largest size until one is refused.
@@ -175,5 +232,50 @@ fn copies_bytes_between_cells(rt: HostRuntime) -> Result<(), Fail> {
     arena.write_whole(offsets[1], b"abcdefghijkl");
     arena.copy(offsets[0], 0, offsets[1], 2, 3);
     assert_eq!(rt; arena.content(offsets[1]), b"ab\0\0\0fghijkl".as_slice());
+    Ok(())
+}
+
+#[test]
+fn freed_cells_that_touch_are_one(rt: HostRuntime) -> Result<(), Fail> {
+    let mut arena = four_cells(rt.alloc())?;
+    free_each(rt.alloc(), &mut arena, &[48, 32, 72])?;
+    assert_eq!(rt;
+        shown(rt.alloc(), &arena)?.as_str(),
+        "32 72, 104 16*, 120 3976, "
+    );
+    Ok(())
+}
+
+#[test]
+fn freed_cells_of_two_bins_stay_two(rt: HostRuntime) -> Result<(), Fail> {
+    let mut arena = two_bins(rt.alloc())?;
+    free_each(rt.alloc(), &mut arena, &[32, 4128])?;
+    assert_eq!(rt; shown(rt.alloc(), &arena)?.as_str(), "32 4064, 4128 4064, ");
+    Ok(())
+}
+
+#[test]
+fn two_free_bins_are_no_room_for_a_larger_cell(rt: HostRuntime) -> Result<(), Fail> {
+    let mut arena = two_bins(rt.alloc())?;
+    free_each(rt.alloc(), &mut arena, &[32, 4128])?;
+    let _cell = carved(rt.alloc(), &mut arena, 4072)?;
+    assert_eq!(rt;
+        shown(rt.alloc(), &arena)?.as_str(),
+        "32 4064, 4128 4064, 8224 4072*, 12296 4088, "
+    );
+    Ok(())
+}
+
+// Every allocation of the carve is refused in turn by `rt try --test --fail-alloc N`.
+#[test]
+fn a_carve_without_memory_changes_nothing(rt: HostRuntime) -> Result<(), Fail> {
+    let text = carved_at_last(rt.alloc())?;
+    let refused = text
+        .as_str()
+        .strip_prefix("Err(Memory) [] 32 4064*, 4128 4064*, ; ");
+    assert_eq!(rt;
+        refused.unwrap_or(text.as_str()),
+        "Ok(()) [8224] 32 4064*, 4128 4064*, 8224 4072*, 12296 4088, ; "
+    );
     Ok(())
 }

@@ -1,0 +1,83 @@
+//! The arena's calls: cells of 16 to 256 bytes are carved and freed at random over a live set.
+
+use crate::live_cells::LiveCells;
+use crate::timing::PerCall;
+use anyhow::Result;
+use std::alloc::Global;
+use std::rt::Clock;
+use std::time::Instant;
+
+/// How many cells are allocated at first while no time is taken.
+const SMALL: usize = 240;
+
+/// How many cells are allocated at first while time is taken.
+const SIZES: [usize; 2] = [100_000, 1_000_000];
+
+/// How often a sixth of the cells is freed, so that half of them are at last.
+const ROUNDS: usize = 3;
+
+/// Carves, frees half, a sixth at a time, and carves again. Prints how many cells and bytes there are after each.
+pub fn count(rt: &impl Print, alloc: Global) -> Result<()> {
+    let mut cells = LiveCells::new(alloc);
+    cells.carve_some(SMALL)?;
+    print_counts(rt, &cells, "carved")?;
+    for _round in 0..ROUNDS {
+        cells.choose_some(SMALL / 6)?;
+        let calls = cells.free_chosen();
+        println!(rt; "arena: {calls} calls of free")?;
+    }
+    print_counts(rt, &cells, "half freed")?;
+    cells.carve_some(SMALL / 20)?;
+    print_counts(rt, &cells, "carved again")
+}
+
+fn print_counts(rt: &impl Print, cells: &LiveCells, after: &str) -> Result<()> {
+    println!(rt;
+        "arena, {after}: {} cells in {} bytes",
+        cells.len(),
+        cells.bins_size()
+    )?;
+    Ok(())
+}
+
+/// Prints the times of carving and freeing, at each size of the live set.
+pub fn measure(rt: &(impl Print + Clock), alloc: Global) -> Result<()> {
+    for live in SIZES {
+        measure_at(rt, alloc, live)?;
+    }
+    Ok(())
+}
+
+// The times are those of one call. The cells to be freed are chosen before the clock starts.
+fn measure_at(rt: &(impl Print + Clock), alloc: Global, live: usize) -> Result<()> {
+    let mut cells = LiveCells::new(alloc);
+    let filled = time_carves(rt, &mut cells, live)?;
+    println!(rt; "arena, {live} live cells: carved at first, {filled}")?;
+    print_sizes(rt, &cells)?;
+    for _round in 0..ROUNDS {
+        cells.choose_some(live / 6)?;
+        let start = Instant::now(rt)?;
+        let calls = cells.free_chosen();
+        let freed = PerCall::new(start.elapsed(rt)?, calls);
+        println!(rt; "freed {calls}, {freed}")?;
+    }
+    let calls = live / 20;
+    let carved = time_carves(rt, &mut cells, calls)?;
+    println!(rt; "carved {calls} among the freed cells, {carved}")?;
+    Ok(())
+}
+
+fn time_carves(rt: &impl Clock, cells: &mut LiveCells, calls: usize) -> Result<PerCall> {
+    let start = Instant::now(rt)?;
+    cells.carve_some(calls)?;
+    Ok(PerCall::new(start.elapsed(rt)?, calls))
+}
+
+// The arena keeps two numbers of 32 bits for each 8 bytes of bins.
+fn print_sizes(rt: &impl Print, cells: &LiveCells) -> Result<()> {
+    let bins = u64::from(cells.bins_size());
+    let tables = bins / 8 * 2 * 4;
+    let percent = (tables * 100).checked_div(bins).unwrap_or(0);
+    println!(rt; "{bins} bytes of bins, {tables} bytes of side tables, {percent} %")?;
+    Ok(())
+}

@@ -1,0 +1,61 @@
+//! Measures what calls of the libraries cost.
+//!
+//! `reg_bench measure SUBJECT` prints how long the calls of a subject take, at two sizes of what it works on. Without an
+//! argument each subject runs at a small size and prints counts alone, which are the same on every run.
+#![tactic(auto)]
+
+mod arena;
+mod live_cells;
+mod timing;
+
+use anyhow::{Result, bail};
+use std::alloc::Global;
+use std::env;
+use std::rt::Clock;
+
+/// What can be measured.
+#[derive(Clone, Copy)]
+enum Subject {
+    /// Carving and freeing cells.
+    Arena,
+}
+
+impl Subject {
+    fn named(name: &str) -> Option<Subject> {
+        match name {
+            "arena" => Some(Subject::Arena),
+            _ => None,
+        }
+    }
+}
+
+/// Runs each subject at a small size and prints counts.
+fn count_all(rt: &impl Print, alloc: Global) -> Result<()> {
+    arena::count(rt, alloc)
+}
+
+/// Prints how long the calls of a subject take.
+fn measure(rt: &(impl Print + Clock), alloc: Global, subject: Subject) -> Result<()> {
+    match subject {
+        Subject::Arena => arena::measure(rt, alloc),
+    }
+}
+
+fn main(rt: HostRuntime) -> Result<()> {
+    let alloc = rt.alloc();
+    let mut words = env::args(&rt)?;
+    let _program = words.next();
+    let Some(word) = words.next() else {
+        return count_all(&rt, alloc);
+    };
+    let Some(name) = words.next() else {
+        bail!("a subject is missing: measure SUBJECT");
+    };
+    if word.as_str() != "measure" {
+        bail!("no such word: measure SUBJECT");
+    }
+    let Some(subject) = Subject::named(name.as_str()) else {
+        bail!("no such subject");
+    };
+    measure(&rt, alloc, subject)
+}
