@@ -7,6 +7,7 @@
 mod arena;
 mod live_cells;
 mod timing;
+mod values;
 
 use anyhow::{Result, bail};
 use std::alloc::Global;
@@ -18,12 +19,15 @@ use std::rt::Clock;
 enum Subject {
     /// Carving and freeing cells.
     Arena,
+    /// Setting values and asking for them.
+    Values,
 }
 
 impl Subject {
     fn named(name: &str) -> Option<Subject> {
         match name {
             "arena" => Some(Subject::Arena),
+            "values" => Some(Subject::Values),
             _ => None,
         }
     }
@@ -31,13 +35,15 @@ impl Subject {
 
 /// Runs each subject at a small size and prints counts.
 fn count_all(rt: &impl Print, alloc: Global) -> Result<()> {
-    arena::count(rt, alloc)
+    arena::count(rt, alloc)?;
+    values::count(rt, alloc)
 }
 
 /// Prints how long the calls of a subject take.
 fn measure(rt: &(impl Print + Clock), alloc: Global, subject: Subject) -> Result<()> {
     match subject {
         Subject::Arena => arena::measure(rt, alloc),
+        Subject::Values => values::measure(rt, alloc),
     }
 }
 

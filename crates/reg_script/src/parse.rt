@@ -192,10 +192,7 @@ impl<'a> Words<'a> {
     {
         let handle = self.number(u64::MAX)?;
         let name = self.name(alloc)?;
-        Ok(Line::Call(Call::Change(Change::DeleteValue {
-            handle,
-            name,
-        })))
+        Ok(Line::Call(Call::Change(Change::DeleteValue { handle, name })))
     }
 
     /// `query H NAME ROOM`, with `-` for no room.

@@ -1,0 +1,143 @@
+//! Values, set and asked for by a handle of a key that has several.
+
+use crate::timing::PerCall;
+use anyhow::{Result, bail};
+use reg_calls::Hive;
+use reg_model::{AnswerBody, Bytes, Change, Query};
+use std::alloc::Global;
+use std::rt::Clock;
+use std::time::Instant;
+
+/// Every right.
+const ALL_RIGHTS: u32 = 983_103;
+
+/// How many values the key has while no time is taken.
+const SMALL: u32 = 10;
+
+/// How many values the key has while time is taken.
+const SIZES: [u32; 3] = [10, 100, 1_000];
+
+/// How many calls are timed together.
+const CALLS: u32 = 10_000;
+
+/// The size of most values, in bytes.
+const SIZE: usize = 100;
+
+/// The largest value, in bytes.
+const LARGEST: usize = 1_048_576;
+
+/// How many calls on the largest value are timed together.
+const LARGE_CALLS: u32 = 50;
+
+fn hive_with(alloc: Global, values: u32) -> Result<Hive> {
+    let mut hive = Hive::new(alloc, b"ROOT", &[1], 0)?;
+    let opened = hive.apply(0, 0, Change::OpenRoot { mask: ALL_RIGHTS });
+    if opened.status != 0 {
+        bail!("the root was not opened");
+    }
+    set_all(&mut hive, sets(alloc, values, values, SIZE)?)?;
+    Ok(hive)
+}
+
+fn name_of(alloc: Global, number: u32) -> Result<Bytes> {
+    let name = format!(in alloc; "{number}")?;
+    Ok(Bytes::from_slice(alloc, name.as_bytes())?)
+}
+
+/// Sets of so many bytes, whose names are the numbers below `values` over and over.
+fn sets(alloc: Global, calls: u32, values: u32, size: usize) -> Result<Vec<Change>> {
+    let mut changes = Vec::new(alloc);
+    for call in 0..calls {
+        let bytes = vec![in alloc; 7; size]?;
+        changes.push(Change::SetValue {
+            handle: 0,
+            name: name_of(alloc, call.checked_rem(values).unwrap_or(0))?,
+            kind: 3,
+            bytes: Bytes::from_vec(bytes),
+        })?;
+    }
+    Ok(changes)
+}
+
+fn queries(alloc: Global, calls: u32, values: u32) -> Result<Vec<Query>> {
+    let mut queries = Vec::new(alloc);
+    for call in 0..calls {
+        queries.push(Query::QueryValue {
+            handle: 0,
+            name: name_of(alloc, call.checked_rem(values).unwrap_or(0))?,
+            room: Some(u32::MAX),
+        })?;
+    }
+    Ok(queries)
+}
+
+fn set_all(hive: &mut Hive, changes: Vec<Change>) -> Result<()> {
+    for change in changes {
+        if hive.apply(0, 1, change).status != 0 {
+            bail!("a value was not set");
+        }
+    }
+    Ok(())
+}
+
+/// Asks all, and tells how many bytes were told.
+fn ask_all(hive: &Hive, queries: &[Query]) -> Result<u64> {
+    let mut total: u64 = 0;
+    for query in queries {
+        match hive.read(0, query).body {
+            AnswerBody::Value { size, .. } => total = total.saturating_add(u64::from(size)),
+            _ => bail!("a value was not told"),
+        }
+    }
+    Ok(total)
+}
+
+/// Sets values and asks for them, and prints how many there are.
+pub fn count(rt: &impl Print, alloc: Global) -> Result<()> {
+    let mut hive = hive_with(alloc, SMALL)?;
+    set_all(&mut hive, sets(alloc, SMALL, SMALL, SIZE)?)?;
+    let told = ask_all(&hive, queries(alloc, SMALL, SMALL)?.as_slice())?;
+    println!(rt; "values: {} entries, {told} bytes told", hive.len())?;
+    Ok(())
+}
+
+/// Prints the times of setting a value and of asking for one, by the number of values, and of the largest value beside a
+/// plain copy.
+pub fn measure(rt: &(impl Print + Clock), alloc: Global) -> Result<()> {
+    for values in SIZES {
+        measure_at(rt, alloc, values, CALLS, SIZE)?;
+    }
+    measure_at(rt, alloc, 1, LARGE_CALLS, LARGEST)?;
+    measure_copy(rt, alloc)
+}
+
+fn measure_at(
+    rt: &(impl Print + Clock),
+    alloc: Global,
+    values: u32,
+    calls: u32,
+    size: usize,
+) -> Result<()> {
+    let mut hive = hive_with(alloc, values)?;
+    let changes = sets(alloc, calls, values, size)?;
+    let start = Instant::now(rt)?;
+    set_all(&mut hive, changes)?;
+    let set = PerCall::new(start.elapsed(rt)?, calls as usize);
+    let queries = queries(alloc, calls, values)?;
+    let start = Instant::now(rt)?;
+    let _told = ask_all(&hive, queries.as_slice())?;
+    let asked = PerCall::new(start.elapsed(rt)?, calls as usize);
+    println!(rt; "values, {values} of {size} bytes: set, {set}; query, {asked}")?;
+    Ok(())
+}
+
+fn measure_copy(rt: &(impl Print + Clock), alloc: Global) -> Result<()> {
+    let bytes = vec![in alloc; 7; LARGEST]?;
+    let start = Instant::now(rt)?;
+    for _call in 0..LARGE_CALLS {
+        let _copy = Bytes::from_slice(alloc, bytes.as_slice())?;
+    }
+    let copied = PerCall::new(start.elapsed(rt)?, LARGE_CALLS as usize);
+    println!(rt; "a plain copy of {LARGEST} bytes, {copied}")?;
+    Ok(())
+}
