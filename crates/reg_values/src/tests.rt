@@ -33,7 +33,23 @@ fn put(
     if list.count >= 16_384 {
         return Ok(list);
     }
-    Ok(set(arena, alloc, list, name, kind, bytes)?)
+    let after = set(arena, alloc, list, name, kind, bytes)?;
+    Ok(after)
+}
+
+// The first value of a list.
+fn put_first(
+    arena: &mut Arena,
+    alloc: Global,
+    name: &[u8],
+    kind: u32,
+    bytes: &[u8],
+) -> Result<ValuesList, Fail>
+    requires name { is_value_name name.now ≡ true }
+    requires bytes { length bytes.now ≤ 1048576 }
+    ensures { IfOk result (λ after. AreValues (cell_at arena.new.bytes) after.count after.place) }
+{
+    put(arena, alloc, EMPTY, name, kind, bytes)
 }
 
 // A value removed, where it is there.
@@ -59,6 +75,15 @@ fn cells(alloc: Global, arena: &Arena) -> Result<String, Fail> {
     Ok(text)
 }
 
+// A number that tells the bytes and their order apart.
+fn sum_of(bytes: &[u8]) -> u64 {
+    let mut sum = 0u64;
+    for byte in bytes {
+        sum = sum % 1000 * 7 % 1000 + u64::from(*byte);
+    }
+    sum
+}
+
 // The values: names, types, sizes and data.
 fn values(alloc: Global, arena: &Arena, list: ValuesList) -> Result<String, Fail>
     requires { AreValues (cell_at arena.now.bytes) list.count list.place }
@@ -68,9 +93,7 @@ fn values(alloc: Global, arena: &Arena, list: ValuesList) -> Result<String, Fail
         let value = at(arena, list, index);
         write!(text, "{:?} {} {}: ", value.name, value.kind, value.size)?;
         let bytes = bytes_of(arena, alloc, list, index)?;
-        let sum = bytes
-            .iter()
-            .fold(0u64, |sum, byte| sum * 7 % 1000 + u64::from(*byte));
+        let sum = sum_of(&bytes);
         write!(text, "{} {sum}, ", bytes.len())?;
     }
     Ok(text)
@@ -93,7 +116,7 @@ fn with_one(alloc: Global, size: usize) -> Result<String, Fail>
 {
     let mut arena = Arena::new(alloc);
     let bytes = data(alloc, size)?;
-    let list = put(&mut arena, alloc, EMPTY, b"v", 3, &bytes)?;
+    let list = put_first(&mut arena, alloc, b"v", 3, &bytes)?;
     let mut text = cells(alloc, &arena)?;
     write!(text, "{}", values(alloc, &arena, list)?.as_str())?;
     Ok(text)
@@ -105,7 +128,7 @@ fn total(alloc: Global, size: usize) -> Result<String, Fail>
 {
     let mut arena = Arena::new(alloc);
     let bytes = data(alloc, size)?;
-    let _list = put(&mut arena, alloc, EMPTY, b"v", 3, &bytes)?;
+    let _list = put_first(&mut arena, alloc, b"v", 3, &bytes)?;
     let mut count = 0u64;
     let mut sum = 0u64;
     for cell in &arena.cells(alloc)? {
@@ -124,7 +147,7 @@ fn with_three(alloc: Global, arena: &mut Arena) -> Result<ValuesList, Fail>
     ensures { IfOk result (λ list. AreValues (cell_at arena.new.bytes) list.count list.place) }
 {
     let big = data(alloc, 40_000)?;
-    let one = put(arena, alloc, EMPTY, b"one", 3, &big)?;
+    let one = put_first(arena, alloc, b"one", 3, &big)?;
     let two = put(arena, alloc, one, b"Two", 1, &[1, 2, 3, 4, 5])?;
     put(arena, alloc, two, b"", 4, &[])
 }
@@ -236,7 +259,7 @@ fn a_value_removed(rt: HostRuntime) -> Result<(), Fail> {
 #[test]
 fn the_last_value_removed(rt: HostRuntime) -> Result<(), Fail> {
     let mut arena = Arena::new(rt.alloc());
-    let list = put(&mut arena, rt.alloc(), EMPTY, b"v", 3, &[1, 2, 3, 4, 5])?;
+    let list = put_first(&mut arena, rt.alloc(), b"v", 3, &[1, 2, 3, 4, 5])?;
     let after = drop_value(&mut arena, list, b"V");
     assert_eq!(rt; after, EMPTY);
     assert_eq!(rt; cells(rt.alloc(), &arena)?.as_str(), "");
