@@ -133,8 +133,8 @@ fn total(alloc: Global, size: usize) -> Result<String, Fail>
     let mut sum = 0u64;
     for cell in &arena.cells(alloc)? {
         if cell.allocated {
-            count += 1;
-            sum += u64::from(cell.size);
+            count = count % 1000 + 1;
+            sum = sum % 1_000_000_000 + u64::from(cell.size % 1_000_000_000);
         }
     }
     let mut text = String::new(alloc);
