@@ -1,4 +1,4 @@
-use Rattle.std.proofs.Common.{◌<◌, inl, arith}
+use Rattle.std.proofs.Common.{inl, arith}
 use Rattle.reg_arena.specs.Cells.{cell_at}
 use Rattle.reg_values.proofs.Opening.{values-again}
 use Rattle.reg_values.proofs.tests.put.Goals as goal
