@@ -1,11 +1,10 @@
 -- A list of values with one more.
 use Rattle.std.proofs.Common.{◌≡◌, ℕ, zero, suc, ◌+◌, ◌<◌, ◌≤◌, true, Option, Some, None, IsSome, List, [], ◌∷◌, ◌++◌, length, refl, sym, ap, ◌∙◌, subst, arith}
-use Rattle.std.specs.List.{AllByRecursion}
 use Rattle.reg_arena.proofs.Writes.{all-append}
 use Rattle.reg_names.specs.Names.{is_value_name}
 use Rattle.reg_heap.specs.Paths.{Member}
 use Rattle.reg_heap.specs.Members.{place_named}
-use Rattle.std.proofs.Common.{Bool, false, not, nat_le, cond, ◌==◌, ◌&&◌, ◌-◌, ◌*◌, get_or, take, drop, unwrap_or}
+use Rattle.std.proofs.Common.{false, not, nat_le, cond, ◌==◌, ◌-◌, ◌*◌, get_or, take, drop, unwrap_or}
 use Rattle.std.proofs.lemmas.Bool.{and_parts, leb-true, false≢true}
 use Rattle.reg_arena.specs.NewCells.{AreSizes}
 use Rattle.reg_records.specs.Cells.{HasRoom, held}
@@ -13,9 +12,9 @@ use Rattle.reg_values.specs.Sizes.{cell_size, data_sizes, list_sizes, sizes_by, 
 use Rattle.reg_values.proofs.Rooms.{new-room, list-one-more, list-two}
 use Rattle.reg_values.proofs.Filling.{fills-room}
 use Rattle.reg_values.proofs.Totals.{makes}
-use Rattle.reg_heap.specs.Heaps.{Heap, Swaps, Writes, AreNew, allocated}
+use Rattle.reg_heap.specs.Heaps.{Heap, Swaps, AreNew, allocated}
 use Rattle.reg_heap.specs.Kinds.{Found, owned, times}
-use Rattle.reg_records.specs.Nodes.{member_at, members_at}
+use Rattle.reg_records.specs.Nodes.{members_at}
 use Rattle.reg_records.specs.Written.{AreWritten}
 use Rattle.reg_records.proofs.Inner.{member-inner}
 use Rattle.reg_values.specs.Parts.{list_at, BecameList, Fills, HoldsValue, Owns, OwnsBeside, HaveRoom, KeepsSizes}

@@ -1,24 +1,23 @@
 -- Cells that are written.
-use Rattle.std.proofs.Common.{◌≡◌, ◌≢◌, ℕ, zero, suc, ◌+◌, ◌-◌, ◌*◌, ◌/◌, ◌<◌, ◌≤◌, ◌==◌, nat_le, min, cond, Bool, true, false, Option, Some, None, IsSome, List, [], ◌∷◌, ◌++◌, length, take, drop, get_or, refl, sym, ap, ◌∙◌, subst, arith, add-one, is_some, ◌⊎◌, inl, inr, length-append, length-take, length-drop, unwrap_or}
-use Rattle.std.proofs.lemmas.Bool.{eq-eqb, ne_eqb, cases_eq, le-leb}
-use Rattle.std.proofs.lemmas.Option.{same_Some}
-use Rattle.std.proofs.lemmas.List.{take-append-drop, drop-drop, append-nil}
+use Rattle.std.proofs.Common.{◌≡◌, ◌≢◌, ℕ, zero, suc, ◌+◌, ◌-◌, ◌*◌, ◌<◌, ◌≤◌, ◌==◌, min, cond, Option, Some, IsSome, List, [], ◌∷◌, ◌++◌, length, take, drop, get_or, refl, sym, ap, ◌∙◌, subst, arith, ◌⊎◌, inl, inr, length-append, length-take, length-drop, unwrap_or}
+use Rattle.std.proofs.lemmas.Bool.{eq-eqb, ne_eqb, cases_eq}
+use Rattle.std.proofs.lemmas.List.{take-append-drop, drop-drop}
 use Rattle.std.proofs.Math.Seq.{take-append_seam}
 use Rattle.reg_heap.specs.Words.{word, splice}
-use Rattle.reg_heap.specs.Heaps.{Heap, Swaps, Writes, allocated}
-use Rattle.reg_heap.specs.Kinds.{Found, owned, times}
-use Rattle.reg_heap.specs.Kinds.Kind.{Segment, Data}
+use Rattle.reg_heap.specs.Heaps.{Heap, Writes}
+use Rattle.reg_heap.specs.Kinds.{Found, times}
+use Rattle.reg_heap.specs.Kinds.Kind.{Segment}
 use Rattle.reg_arena.specs.Arena.{Bins}
 use Rattle.reg_arena.specs.Cells.{cell_at}
 use Rattle.reg_records.specs.Cells.{HasRoom, WritesCell, held}
 use Rattle.reg_records.specs.Rows.{offsets_at, offset_in}
-use Rattle.reg_records.specs.Pieces.{Named, named, segment_size, segments}
+use Rattle.reg_records.specs.Pieces.{named, segment_size, segments}
 use Rattle.reg_records.specs.Nodes.{pieces_at}
 use Rattle.reg_records.proofs.Splices.{length-splice}
 use Rattle.reg_values.specs.Parts.{Fills}
-use Rattle.reg_values.proofs.Found.{is-some, held-is, here-held}
+use Rattle.reg_values.proofs.Found.{held-is}
 use Rattle.reg_values.proofs.Pieces.{piece-made, segment-is}
-use Rattle.reg_values.proofs.Swapped.{times-same, times-append, allocated-le, there-one, one-there, writes-in}
+use Rattle.reg_values.proofs.Swapped.{there-one, one-there, writes-in}
 
 -- ---- one cell
 

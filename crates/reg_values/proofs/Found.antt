@@ -20,21 +20,21 @@ use Rattle.reg_records.specs.declared.RecordFault.{RecordFault}
 use Rattle.reg_heap.specs.Words.{word}
 use Rattle.reg_heap.specs.Paths.{Member}
 use Rattle.reg_heap.specs.Members.{same_name, place_named}
-use Rattle.reg_heap.specs.Heaps.{Heap, allocated}
-use Rattle.reg_heap.specs.Kinds.{Found, owned}
+use Rattle.reg_heap.specs.Heaps.{Heap}
+use Rattle.reg_heap.specs.Kinds.{Found}
 use Rattle.reg_heap.specs.Kinds.Kind.{Value, ValueList}
-use Rattle.reg_heap.specs.Readings.{Reading, ◌>>=◌, give, given, cell, guard, each}
+use Rattle.reg_heap.specs.Readings.{◌>>=◌, give, given, cell, each}
 use Rattle.reg_heap.proofs.Opened.{bind-open, bind-made, given-open, given-made, cell-open, cell-made, each-open}
 use Rattle.reg_records.specs.Cells.{held}
 use Rattle.reg_records.specs.Values.{KeyValueRecord, vk_of, value_record_at}
 use Rattle.reg_records.specs.Rows.{row_in, offsets_at, offset_in}
 use Rattle.reg_records.specs.Nodes.{row_at, data_at, letters, member_of, member_at, members_at}
-use Rattle.reg_records.specs.Written.{IsWrittenValue, AreWritten}
+use Rattle.reg_records.specs.Written.{IsWrittenValue}
 use Rattle.reg_records.proofs.Readings.{row-open}
 use Rattle.reg_records.proofs.LocalWritten.{row-is}
 use Rattle.reg_records.proofs.Values.{value_record_at-open}
 use Rattle.reg_values.specs.Lists.{AreValues}
-use Rattle.reg_values.proofs.Opening.{length-offsets, each-length, members-length}
+use Rattle.reg_values.proofs.Opening.{length-offsets, members-length}
 
 pub is-some : {A : Type 0} (o : Option A) (x : A) → o ≡ Some x → IsSome o
 is-some o x e = ap is_some e

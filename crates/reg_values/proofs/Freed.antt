@@ -1,22 +1,19 @@
 -- Cells that are freed, one after another.
-use Rattle.std.proofs.Common.{◌≡◌, ℕ, zero, suc, ◌+◌, ◌-◌, ◌*◌, ◌<◌, ◌≤◌, Bool, true, false, cond, Option, Some, None, IsSome, List, [], ◌∷◌, ◌++◌, length, take, drop, get_or, refl, sym, ap, ◌∙◌, subst, arith, is_some, add-one}
+use Rattle.std.proofs.Common.{◌≡◌, ℕ, zero, suc, ◌+◌, ◌*◌, ◌<◌, ◌≤◌, Some, IsSome, List, [], ◌∷◌, ◌++◌, length, take, get_or, refl, sym, ap, ◌∙◌, subst, arith, add-one}
 use Rattle.std.proofs.lemmas.Option.{same_Some}
-use Rattle.std.proofs.lemmas.Bool.{eq-eqb}
 use Rattle.reg_heap.specs.Kinds.{Found, times, owned}
-use Rattle.reg_heap.specs.Kinds.Kind.{BigHead, BigList, Data, Value}
 use Rattle.reg_heap.specs.Paths.{Member}
-use Rattle.reg_heap.specs.Heaps.{Heap, Swaps, Writes, GivesUp, allocated}
+use Rattle.reg_heap.specs.Heaps.{Heap, Swaps, GivesUp, allocated}
 use Rattle.reg_records.specs.declared.vk.ValueFields.{ValueFields}
 use Rattle.reg_records.specs.Cells.{held}
 use Rattle.reg_records.specs.Values.{KeyValueRecord, value_record_at}
-use Rattle.reg_records.specs.Rows.{offsets_at, offset_in}
-use Rattle.reg_records.specs.Pieces.{BigData, segment_size, segments_for, db_of}
+use Rattle.reg_records.specs.Rows.{offsets_at}
+use Rattle.reg_records.specs.Pieces.{BigData, segments_for, db_of}
 use Rattle.reg_records.specs.Nodes.{big_at, data_at, member_at}
 use Rattle.reg_values.specs.Parts.{Owns}
-use Rattle.reg_values.proofs.Opening.{length-offsets}
-use Rattle.reg_values.proofs.Found.{is-some, some-of, held-is, here-held, offset-of, IsMember, member-open}
+use Rattle.reg_values.proofs.Found.{IsMember, member-open}
 use Rattle.reg_values.proofs.Pieces.{IsBig, big-open, segments-owned, one-data}
-use Rattle.reg_values.proofs.Swapped.{times-same, times-append, allocated-le, one-there, there-one, swaps-none, swaps-then, swaps-with, kept-apart}
+use Rattle.reg_values.proofs.Swapped.{times-same, times-append, allocated-le, one-there, swaps-none, swaps-then, swaps-with, kept-apart}
 
 take-suc : (row : List ℕ) (i : ℕ) → i < length row → take (suc i) row ≡ take i row ++ get_or row i 0 ∷ []
 take-suc [] i l = absurd (omega arith)

@@ -1,5 +1,5 @@
 -- A list with one offset more.
-use Rattle.std.proofs.Common.{◌≡◌, ◌≢◌, ℕ, zero, suc, ◌+◌, ◌-◌, ◌*◌, ◌<◌, ◌≤◌, ◌==◌, cond, Option, Some, None, IsSome, List, [], ◌∷◌, ◌++◌, length, take, drop, get_or, refl, sym, ap, ◌∙◌, subst, arith, length-take, length-drop}
+use Rattle.std.proofs.Common.{◌≡◌, ◌≢◌, ℕ, ◌+◌, ◌*◌, ◌<◌, ◌≤◌, ◌==◌, cond, Option, Some, IsSome, List, [], ◌∷◌, ◌++◌, length, take, drop, get_or, refl, sym, ap, ◌∙◌, subst, arith, length-take, length-drop}
 use Rattle.std.proofs.Common.{unwrap_or}
 use Rattle.std.proofs.lemmas.Option.{same_Some}
 use Rattle.reg_heap.specs.Words.{word, splice}
@@ -8,14 +8,12 @@ use Rattle.reg_heap.specs.Kinds.{Found, owned, times}
 use Rattle.reg_heap.specs.Kinds.Kind.{ValueList}
 use Rattle.reg_records.specs.Cells.{HasRoom, held}
 use Rattle.reg_records.specs.Rows.{offsets_at, offset_in}
-use Rattle.reg_records.proofs.Splices.{length-splice}
-use Rattle.reg_values.specs.Parts.{list_at, BecameList, Fills, KeepsSizes, OwnsBeside}
-use Rattle.reg_values.proofs.Found.{is-some, held-is}
+use Rattle.reg_values.specs.Parts.{list_at, BecameList, Fills, KeepsSizes}
+use Rattle.reg_values.proofs.Found.{held-is}
 use Rattle.reg_values.proofs.Listed.{IsRow, list-open, list-made, list-kept}
 use Rattle.reg_values.proofs.Shifted.{offsets-append, offsets-same, word-same, get_or-within, get_or-take-drop}
-use Rattle.reg_values.proofs.Swapped.{allocated-le, there-one, one-there, times-same, swaps-then, swaps-with, writes-in, kept-apart}
-use Rattle.reg_values.proofs.Filling.{fills-then, fills-there, fills-room, written-here, fills-written}
-use Rattle.reg_values.proofs.Freed.{still-there}
+use Rattle.reg_values.proofs.Swapped.{allocated-le, there-one, one-there, times-same, swaps-then, swaps-with, writes-in}
+use Rattle.reg_values.proofs.Filling.{fills-then, fills-room, written-here, fills-written}
 
 pub row-pushed : (c d : List ℕ) (n cell : ℕ) → offset_in d n ≡ cell → ((j : ℕ) → j < n → offset_in d j ≡ offset_in c j) → offsets_at (n + 1) 0 d ≡ offsets_at n 0 c ++ cell ∷ []
 unfolding offset_in offsets_at

@@ -18,3 +18,4 @@ pub mod Added
 pub mod Totals
 pub mod Replaced
 pub mod SetAgain
+pub mod Tested

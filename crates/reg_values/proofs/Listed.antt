@@ -1,28 +1,26 @@
 -- Lists of values: in parts, put together, and left alone by a change elsewhere.
-use Rattle.std.proofs.Common.{◌≡◌, ℕ, zero, suc, ◌+◌, ◌-◌, ◌*◌, ◌<◌, ◌≤◌, Option, Some, None, IsSome, List, [], ◌∷◌, ◌++◌, length, take, drop, get_or, refl, sym, ap, ◌∙◌, subst, arith, append_assoc}
+use Rattle.std.proofs.Common.{◌≡◌, ℕ, zero, suc, ◌+◌, ◌*◌, ◌<◌, ◌≤◌, Some, IsSome, List, [], ◌∷◌, ◌++◌, length, refl, sym, ap, ◌∙◌, subst, arith, append_assoc}
 use Rattle.std.specs.List.{AllByRecursion}
 use Rattle.std.proofs.lemmas.Option.{same_Some}
 use Rattle.std.proofs.lemmas.List.{append-nil}
 use Rattle.reg_arena.proofs.Writes.{all-append}
-use Rattle.reg_heap.specs.Words.{word}
 use Rattle.reg_heap.specs.Paths.{Member}
 use Rattle.reg_heap.specs.Heaps.{Heap, Swaps, allocated}
 use Rattle.reg_heap.specs.Kinds.{Found, owned}
-use Rattle.reg_heap.specs.Kinds.Kind.{ValueList, Value}
+use Rattle.reg_heap.specs.Kinds.Kind.{ValueList}
 use Rattle.reg_heap.specs.Readings.{◌>>=◌, give, given, cell, each}
 use Rattle.reg_heap.proofs.Opened.{bind-open, bind-made, each-open, cell-made, given-made}
 use Rattle.reg_records.specs.Cells.{held}
 use Rattle.reg_records.specs.Rows.{row_in, offsets_at}
-use Rattle.reg_records.specs.Nodes.{row_at, member_at, members_at}
-use Rattle.reg_records.specs.Written.{IsWrittenValue, AreWritten}
+use Rattle.reg_records.specs.Nodes.{member_at, members_at}
+use Rattle.reg_records.specs.Written.{IsWrittenValue}
 use Rattle.reg_records.proofs.Readings.{row-open}
 use Rattle.reg_records.proofs.Inner.{AreInner, members-inner}
-use Rattle.reg_records.proofs.Locals.{Agree, all-front, all-back, member-local, eaches, row-local}
+use Rattle.reg_records.proofs.Locals.{all-front, all-back, member-local, eaches, row-local}
 use Rattle.reg_records.proofs.LocalWritten.{row-is, each-kept}
 use Rattle.reg_values.specs.Parts.{list_at}
-use Rattle.reg_values.specs.Lists.{Became}
 use Rattle.reg_values.proofs.Found.{is-some, held-is, here-held, row-long, row-in}
-use Rattle.reg_values.proofs.Swapped.{agree-apart, owned-append}
+use Rattle.reg_values.proofs.Swapped.{agree-apart}
 
 -- ---- the list itself
 

@@ -1,5 +1,5 @@
 -- Values by their names: one taken out, replaced or added.
-use Rattle.std.proofs.Common.{◌≡◌, ◌≢◌, ℕ, zero, suc, ◌+◌, ◌<◌, ◌≤◌, Bool, true, false, cond, Option, Some, None, IsSome, List, [], ◌∷◌, ◌++◌, length, take, drop, refl, sym, ap, ◌∙◌, subst, arith}
+use Rattle.std.proofs.Common.{◌≡◌, ◌≢◌, ℕ, suc, Bool, true, false, cond, Option, Some, None, IsSome, List, [], ◌∷◌, ◌++◌, length, refl, sym, ap, ◌∙◌, arith}
 use Rattle.std.specs.List.{AllByRecursion}
 use Rattle.std.specs.Option.{option_map}
 use Rattle.std.specs.Ordering.{nat_cmp, is_eq}
@@ -8,7 +8,7 @@ use Rattle.std.proofs.lemmas.Cmp.{tied_itself}
 use Rattle.std.proofs.lemmas.Option.{none-some, same_Some}
 use Rattle.std.proofs.lemmas.Bool.{false≢true}
 use Rattle.reg_arena.proofs.Writes.{all-append}
-use Rattle.reg_names.specs.Names.{folded, is_value_name}
+use Rattle.reg_names.specs.Names.{folded}
 use Rattle.reg_heap.specs.Paths.{Member}
 use Rattle.reg_heap.specs.Members.{same_name, place_named, value_named, values_with, values_without}
 use Rattle.reg_records.specs.Written.{Pairwise}

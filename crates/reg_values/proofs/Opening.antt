@@ -1,13 +1,13 @@
 -- A list of values taken apart.
-use Rattle.std.proofs.Common.{◌≡◌, ℕ, zero, suc, ◌+◌, ◌*◌, ◌≤◌, nat_le, cond, Bool, true, false, Option, Some, None, List, [], ◌∷◌, ◌++◌, length, refl, sym, ap, ◌∙◌, subst, arith}
-use Rattle.std.proofs.lemmas.Option.{none-some, same_Some}
+use Rattle.std.proofs.Common.{◌≡◌, ℕ, zero, suc, ◌+◌, Some, List, [], ◌∷◌, length, refl, sym, ap, ◌∙◌, arith}
+use Rattle.std.proofs.lemmas.Option.{same_Some}
 use Rattle.reg_heap.specs.Paths.{Member}
-use Rattle.reg_heap.specs.Heaps.{Heap, allocated}
-use Rattle.reg_heap.specs.Kinds.{Found, owned}
+use Rattle.reg_heap.specs.Heaps.{Heap}
+use Rattle.reg_heap.specs.Kinds.{Found}
 use Rattle.reg_heap.specs.Kinds.Kind.{ValueList}
 use Rattle.reg_heap.specs.Readings.{each}
 use Rattle.reg_heap.proofs.Opened.{bind-open, each-open}
-use Rattle.reg_records.specs.Rows.{row_in, offsets_at}
+use Rattle.reg_records.specs.Rows.{offsets_at}
 use Rattle.reg_records.specs.Nodes.{row_at, member_at, members_at}
 use Rattle.reg_records.proofs.Readings.{row-open}
 use Rattle.reg_records.proofs.LocalWritten.{row-is}

@@ -1,16 +1,14 @@
 -- The data of a value, in pieces.
-use Rattle.std.proofs.Common.{◌≡◌, ℕ, zero, suc, ◌+◌, ◌-◌, ◌*◌, ◌/◌, ◌<◌, ◌≤◌, ◌==◌, nat_le, min, not, cond, Bool, true, false, Option, Some, None, IsSome, List, [], ◌∷◌, ◌++◌, length, drop, take, get_or, is_some, refl, sym, ap, ◌∙◌, subst, arith, unwrap_or, length-append, length-take, add-one, append_assoc}
-use Rattle.std.specs.List.{AllByRecursion, concat}
-use Rattle.std.specs.Option.{option_map, option_and_then}
+use Rattle.std.proofs.Common.{◌≡◌, ℕ, zero, suc, ◌+◌, ◌-◌, ◌*◌, ◌<◌, ◌≤◌, ◌==◌, nat_le, min, not, cond, Bool, true, false, Some, None, IsSome, List, [], ◌∷◌, ◌++◌, length, drop, take, get_or, refl, sym, ap, ◌∙◌, subst, arith, length-append, length-take, add-one, append_assoc}
+use Rattle.std.specs.List.{concat}
 use Rattle.std.proofs.lemmas.Option.{none-some, same_Some}
-use Rattle.std.proofs.lemmas.Bool.{leb-true, false≢true, le-leb}
+use Rattle.std.proofs.lemmas.Bool.{leb-true, le-leb}
 use Rattle.std.proofs.lemmas.List.{append-nil}
 use Rattle.byteorder.specs.Endian.{little_bytes}
-use Rattle.reg_heap.specs.Words.{word}
-use Rattle.reg_heap.specs.Heaps.{Heap, allocated}
-use Rattle.reg_heap.specs.Kinds.{Kind, Found, owned, times}
+use Rattle.reg_heap.specs.Heaps.{Heap}
+use Rattle.reg_heap.specs.Kinds.{Found, owned, times}
 use Rattle.reg_heap.specs.Kinds.Kind.{BigHead, BigList, Segment, Data}
-use Rattle.reg_heap.specs.Readings.{Reading, ◌>>=◌, give, given, cell, guard, each}
+use Rattle.reg_heap.specs.Readings.{◌>>=◌, give, given, cell, guard, each}
 use Rattle.reg_heap.proofs.Opened.{bind-open, bind-made, given-open, given-made, cell-open, cell-made, each-open, guard-open, guard-made}
 use Rattle.std.specs.Prelude.{bit_and, Ok, Err}
 use Rattle.std.specs.Result.{result_ok}

@@ -1,25 +1,23 @@
 -- A value taken out of a list.
-use Rattle.std.proofs.Common.{◌≡◌, ℕ, zero, suc, ◌+◌, ◌<◌, ◌≤◌, Option, Some, None, IsSome, List, [], ◌∷◌, ◌++◌, length, take, drop, get_or, refl, sym, ap, ◌∙◌, subst, arith, add-one, true, length-take}
+use Rattle.std.proofs.Common.{◌≡◌, ℕ, zero, suc, ◌+◌, ◌<◌, ◌≤◌, Some, List, [], ◌∷◌, ◌++◌, length, take, drop, get_or, refl, sym, ap, ◌∙◌, subst, arith, add-one, true, length-take}
 use Rattle.std.specs.List.{AllByRecursion}
-use Rattle.std.proofs.lemmas.Option.{same_Some}
 use Rattle.reg_arena.proofs.Writes.{all-append}
-use Rattle.reg_names.specs.Names.{folded, is_value_name}
+use Rattle.reg_names.specs.Names.{is_value_name}
 use Rattle.reg_heap.specs.Paths.{Member}
 use Rattle.reg_heap.specs.Members.{place_named, values_without}
 use Rattle.reg_heap.specs.Heaps.{Heap, Swaps, allocated}
 use Rattle.reg_heap.specs.Kinds.{Found, owned}
-use Rattle.reg_heap.specs.Readings.{each}
 use Rattle.reg_records.specs.Cells.{held}
-use Rattle.reg_records.specs.Rows.{offsets_at, offset_in}
+use Rattle.reg_records.specs.Rows.{offset_in}
 use Rattle.reg_records.specs.Nodes.{member_at, members_at}
 use Rattle.reg_records.specs.Written.{Pairwise, AreWritten}
 use Rattle.reg_records.proofs.Locals.{all-front, all-back, member-local}
 use Rattle.reg_values.specs.Parts.{list_at, Owns, GivesUpRead, BecameList}
-use Rattle.reg_values.specs.Lists.{AreValues, Became}
+use Rattle.reg_values.specs.Lists.{Became}
 use Rattle.reg_values.proofs.Opening.{length-offsets, each-length}
 use Rattle.reg_values.proofs.Found.{offset-at}
 use Rattle.reg_values.proofs.Swapped.{owned-append, swaps-then, swaps-with, allocated-le, agree-apart}
-use Rattle.reg_values.proofs.Listed.{IsOpened, opened, AreRead, AreSplit, IsFirst, values-split, values-first, values-join, values-kept, closed, closed-written, list-row, list-kept}
+use Rattle.reg_values.proofs.Listed.{opened, AreRead, IsFirst, values-split, values-first, values-join, values-kept, closed, closed-written, list-row, list-kept}
 use Rattle.reg_values.proofs.Named.{Apart, without-at, pairs-without}
 
 pub row-parts : (row : List ℕ) (i : ℕ) → i < length row → row ≡ take i row ++ get_or row i 0 ∷ drop (i + 1) row

@@ -1,7 +1,7 @@
 -- A value with other data.
-use Rattle.std.proofs.Common.{◌≡◌, ◌≢◌, ℕ, zero, suc, ◌+◌, ◌-◌, ◌*◌, ◌/◌, ◌<◌, ◌≤◌, ◌==◌, ◌&&◌, nat_le, nat_lt, cond, Bool, true, false, not, Option, Some, None, IsSome, List, [], ◌∷◌, ◌++◌, length, map, is_some, refl, sym, ap, ◌∙◌, subst, arith, unwrap_or, eqb}
+use Rattle.std.proofs.Common.{◌≡◌, ℕ, ◌+◌, ◌<◌, ◌≤◌, ◌==◌, ◌&&◌, nat_le, nat_lt, cond, Bool, true, not, Option, Some, IsSome, List, [], ◌∷◌, length, is_some, refl, sym, ap, ◌∙◌, subst, arith, unwrap_or}
 use Rattle.std.specs.Prelude.{bit_and}
-use Rattle.std.proofs.lemmas.Option.{same_Some, none-some}
+use Rattle.std.proofs.lemmas.Option.{same_Some}
 use Rattle.std.proofs.lemmas.Bool.{and_parts, leb-true, eqb-true, ltb-true}
 use Rattle.reg_heap.specs.Words.{splice}
 use Rattle.reg_heap.specs.Paths.{Member}
@@ -12,7 +12,7 @@ use Rattle.reg_records.specs.declared.vk.ValueFields.{ValueFields}
 use Rattle.reg_records.specs.Cells.{HasRoom, held}
 use Rattle.reg_records.specs.Values.{KeyValueRecord, value_record_at, IsPlainValue}
 use Rattle.reg_records.specs.Pieces.{segment_size, is_inline}
-use Rattle.reg_records.specs.Nodes.{data_by, data_at, letters, member_at}
+use Rattle.reg_records.specs.Nodes.{data_at, letters, member_at}
 use Rattle.reg_records.specs.Written.{IsWrittenData, IsWrittenValue}
 use Rattle.reg_records.proofs.Values.{value_record_at-same}
 use Rattle.reg_records.proofs.Inner.{data-inner, member-inner}
@@ -20,14 +20,13 @@ use Rattle.reg_records.proofs.Locals.{Agree, data-local, member-local}
 use Rattle.reg_records.proofs.LocalWritten.{value-kept, same-held}
 use Rattle.reg_values.specs.Lists.{Makes}
 use Rattle.reg_values.specs.Sizes.{cell_size, stays, data_sizes, new_data_sizes}
-use Rattle.reg_values.specs.Parts.{Fills, HoldsData, HaveRoom, Owns, OwnsBeside, GivesUpRead, BecameValue, Keeps}
-use Rattle.reg_values.proofs.Found.{IsMember, member-open, name-told, record-there, is-some}
+use Rattle.reg_values.specs.Parts.{Fills, HoldsData, Owns, OwnsBeside, GivesUpRead, BecameValue, Keeps}
+use Rattle.reg_values.proofs.Found.{member-open, name-told, record-there, is-some}
 use Rattle.reg_values.proofs.Pieces.{le-false, segment-is, data-there}
-use Rattle.reg_values.proofs.Filling.{fills-in, fills-then, fills-there}
-use Rattle.reg_values.proofs.Swapped.{times-same, owned-append, swaps-then, swaps-with, writes-in, kept-apart, agree-apart, allocated-le, there-one, one-there, none-there}
+use Rattle.reg_values.proofs.Swapped.{times-same, swaps-then, swaps-with, writes-in, kept-apart, agree-apart, allocated-le, there-one, one-there}
 use Rattle.reg_values.proofs.Freed.{member-parts, member-data, member-owned, one-owned}
 use Rattle.reg_values.proofs.Stored.{one-fills, one-holds}
-use Rattle.reg_values.proofs.Valued.{holds-kept, told, value-reads, value-written}
+use Rattle.reg_values.proofs.Valued.{holds-kept, value-reads, value-written}
 use Rattle.reg_values.proofs.Totals.{makes, data-ok}
 
 -- ---- what stays says

@@ -1,19 +1,18 @@
 -- New cells, and what there is room for in them.
-use Rattle.std.proofs.Common.{◌≡◌, ◌≢◌, ℕ, zero, suc, ◌+◌, ◌-◌, ◌*◌, ◌/◌, ◌<◌, ◌≤◌, ◌==◌, nat_le, min, cond, Option, Some, None, IsSome, List, [], ◌∷◌, ◌++◌, length, take, drop, get_or, replicate, map, refl, sym, ap, ◌∙◌, subst, arith, length-take, length-drop}
-use Rattle.std.specs.List.{AllByRecursion}
+use Rattle.std.proofs.Common.{◌≡◌, ℕ, zero, suc, ◌+◌, ◌-◌, ◌*◌, ◌<◌, ◌≤◌, min, List, [], ◌∷◌, length, take, drop, get_or, refl, sym, ap, ◌∙◌, subst, arith, length-take, length-drop}
 use Rattle.std.proofs.Common.{◌⊎◌, inl, inr}
 use Rattle.std.proofs.lemmas.Bool.{cases_order}
 use Rattle.std.proofs.lemmas.List.{length-replicate}
-use Rattle.reg_heap.specs.Heaps.{Heap, Swaps, Writes, AreNew, allocated}
-use Rattle.reg_heap.specs.Kinds.{Found, owned, times}
-use Rattle.reg_records.specs.Cells.{HasRoom, held}
+use Rattle.reg_heap.specs.Heaps.{Heap, AreNew}
+use Rattle.reg_heap.specs.Kinds.{times}
+use Rattle.reg_records.specs.Cells.{HasRoom}
 use Rattle.reg_records.specs.Pieces.{segment_size, segments_for}
-use Rattle.reg_values.specs.Parts.{Fills, HaveRoom}
+use Rattle.reg_values.specs.Parts.{HaveRoom}
 use Rattle.reg_values.specs.Sizes.{cell_size, segment_sizes, data_sizes}
 use Rattle.reg_values.proofs.Found.{is-some, held-is}
 use Rattle.reg_values.proofs.Pieces.{segment-is}
 use Rattle.reg_values.proofs.Swapped.{allocated-le}
-use Rattle.reg_values.proofs.Planned.{few-sizes, one-size, big-sizes}
+use Rattle.reg_values.proofs.Planned.{one-size, big-sizes}
 
 pub segment-count : (n size : ℕ) → length (segment_sizes n size) ≡ n
 segment-count zero size = refl

@@ -1,19 +1,18 @@
 -- A value that is there, set again.
-use Rattle.std.proofs.Common.{◌≡◌, ℕ, zero, suc, ◌+◌, ◌<◌, ◌≤◌, ◌⊎◌, inl, inr, true, Option, Some, None, IsSome, List, [], ◌∷◌, ◌++◌, length, take, drop, refl, sym, ap, ◌∙◌, subst, arith, add-one}
+use Rattle.std.proofs.Common.{◌≡◌, ℕ, ◌+◌, ◌<◌, ◌≤◌, ◌⊎◌, inl, inr, true, Some, None, List, [], ◌∷◌, ◌++◌, length, take, drop, sym, ap, ◌∙◌, subst, arith}
 use Rattle.std.specs.List.{AllByRecursion}
-use Rattle.std.proofs.lemmas.Option.{same_Some}
 use Rattle.reg_arena.proofs.Writes.{all-append}
-use Rattle.reg_names.specs.Names.{folded, is_value_name}
+use Rattle.reg_names.specs.Names.{is_value_name}
 use Rattle.reg_heap.specs.Paths.{Member}
 use Rattle.reg_heap.specs.Members.{place_named, values_with}
-use Rattle.reg_heap.specs.Heaps.{Heap, Swaps, allocated}
+use Rattle.reg_heap.specs.Heaps.{Heap, allocated}
 use Rattle.reg_heap.specs.Kinds.{Found, owned}
 use Rattle.reg_records.specs.Nodes.{member_at, members_at}
 use Rattle.reg_records.specs.Written.{Pairwise, AreWritten}
 use Rattle.reg_records.proofs.Inner.{member-inner}
 use Rattle.reg_records.proofs.Locals.{all-front, all-back}
 use Rattle.reg_values.specs.Parts.{list_at, Owns, BecameValue}
-use Rattle.reg_values.specs.Lists.{AreValues, IsNamed, Became}
+use Rattle.reg_values.specs.Lists.{IsNamed, Became}
 use Rattle.reg_values.proofs.Swapped.{owned-append, swaps-with}
 use Rattle.reg_values.proofs.Listed.{AreRead, values-join, values-one, values-kept, closed, closed-written, list-kept}
 use Rattle.reg_values.proofs.Named.{Apart, changed, with-at, pairs-changed, named-place}

@@ -1,10 +1,10 @@
 -- An offset taken out of a row.
-use Rattle.std.proofs.Common.{◌≡◌, ℕ, zero, suc, ◌+◌, ◌-◌, ◌*◌, ◌<◌, ◌≤◌, ◌==◌, cond, Option, Some, None, IsSome, List, [], ◌∷◌, ◌++◌, length, take, drop, get_or, refl, sym, ap, ◌∙◌, subst, arith, rules, add-one, unwrap_or, length-take, length-drop}
+use Rattle.std.proofs.Common.{◌≡◌, ℕ, zero, suc, ◌+◌, ◌-◌, ◌*◌, ◌<◌, ◌≤◌, ◌==◌, cond, Some, IsSome, List, [], ◌∷◌, ◌++◌, length, take, drop, get_or, refl, sym, ap, ◌∙◌, subst, arith, rules, length-take, length-drop}
 use Rattle.std.proofs.lemmas.Bool.{eq-eqb}
 use Rattle.std.proofs.lemmas.List.{places, get_or-drop}
-use Rattle.byteorder.specs.Endian.{little_from, little_number}
+use Rattle.byteorder.specs.Endian.{little_from}
 use Rattle.reg_heap.specs.Words.{word, splice}
-use Rattle.reg_heap.specs.Heaps.{Heap, Swaps, Writes, GivesUp, allocated}
+use Rattle.reg_heap.specs.Heaps.{Heap, Swaps, Writes, GivesUp}
 use Rattle.reg_heap.specs.Kinds.{Found, owned, times}
 use Rattle.reg_heap.specs.Kinds.Kind.{ValueList}
 use Rattle.reg_records.specs.Cells.{held}

@@ -1,29 +1,25 @@
 -- Data that was written, read back.
-use Rattle.std.proofs.Common.{◌≡◌, ◌≢◌, ℕ, zero, suc, ◌+◌, ◌-◌, ◌*◌, ◌/◌, ◌^◌, ◌<◌, ◌≤◌, ◌==◌, nat_le, min, cond, Bool, true, false, Option, Some, None, IsSome, List, [], ◌∷◌, ◌++◌, length, take, drop, get_or, replicate, refl, sym, ap, ◌∙◌, subst, arith, add-one, unwrap_or, length-append, length-take, length-drop}
+use Rattle.std.proofs.Common.{◌≡◌, ℕ, zero, suc, ◌+◌, ◌-◌, ◌*◌, ◌<◌, ◌≤◌, ◌==◌, nat_le, min, cond, true, false, Option, Some, List, [], ◌∷◌, ◌++◌, length, take, drop, get_or, replicate, refl, sym, ap, ◌∙◌, subst, arith, unwrap_or, length-append, length-drop}
 use Rattle.std.proofs.lemmas.Bool.{le-leb, false≢true, leb-true}
-use Rattle.std.proofs.lemmas.Option.{same_Some}
 use Rattle.std.proofs.lemmas.List.{append-nil}
 use Rattle.std.proofs.Math.Seq.{take-append_seam}
 use Rattle.byteorder.specs.Endian.{little_bytes}
 use Rattle.reg_heap.specs.Words.{splice}
-use Rattle.reg_heap.specs.Heaps.{Heap, Swaps, Writes, allocated}
-use Rattle.reg_heap.specs.Kinds.{Found, owned, times}
-use Rattle.reg_heap.specs.Kinds.Kind.{Segment, Data, BigHead, BigList}
+use Rattle.reg_heap.specs.Heaps.{Heap, Writes}
+use Rattle.reg_heap.specs.Kinds.{Found, times}
+use Rattle.reg_heap.specs.Kinds.Kind.{Data, BigHead, BigList}
 use Rattle.reg_heap.specs.Readings.{give}
 use Rattle.reg_heap.proofs.Opened.{guard-made}
-use Rattle.reg_records.specs.declared.vk.ValueFields.{ValueFields}
 use Rattle.reg_records.specs.Cells.{HasRoom, held}
-use Rattle.reg_records.specs.Rows.{offsets_at, offset_in}
-use Rattle.reg_records.specs.Pieces.{Named, named, if_any, BigData, segment_size, is_inline, inline_size, segments_for, segments, db_of}
-use Rattle.reg_records.specs.Nodes.{pieces_at, big_at, data_by}
-use Rattle.reg_records.specs.Written.{IsWrittenData}
-use Rattle.reg_values.specs.Parts.{Fills, HaveRoom, HoldsData}
-use Rattle.reg_values.specs.Sizes.{cell_size, segment_sizes, data_sizes}
-use Rattle.reg_values.proofs.Found.{is-some, held-is, here-held}
+use Rattle.reg_records.specs.Rows.{offsets_at}
+use Rattle.reg_records.specs.Pieces.{named, if_any, segment_size, inline_size, segments_for, segments, db_of}
+use Rattle.reg_records.specs.Nodes.{pieces_at, data_by}
+use Rattle.reg_values.specs.Parts.{Fills, HoldsData}
+use Rattle.reg_values.specs.Sizes.{data_sizes}
 use Rattle.reg_values.proofs.Pieces.{le-false, piece-made, big-made, segments-owned, segment-is}
-use Rattle.reg_values.proofs.Swapped.{times-same, times-append, allocated-le}
+use Rattle.reg_values.proofs.Swapped.{times-same}
 use Rattle.reg_values.proofs.Filling.{fills-in, fills-then, fills-there, fills-room, fills-same, written-here, fills-written}
-use Rattle.reg_values.proofs.Planned.{few-sizes, one-size, big-sizes}
+use Rattle.reg_values.proofs.Planned.{few-sizes}
 
 -- ---- a piece
 

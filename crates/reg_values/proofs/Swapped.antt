@@ -1,8 +1,8 @@
 -- Cells that go and come, one change after another.
-use Rattle.std.proofs.Common.{◌≡◌, ℕ, zero, suc, ◌+◌, ◌<◌, ◌≤◌, Bool, true, false, cond, Option, Some, None, IsSome, List, [], ◌∷◌, ◌++◌, refl, sym, ap, ◌∙◌, arith, is_some}
+use Rattle.std.proofs.Common.{◌≡◌, ℕ, zero, suc, ◌+◌, ◌<◌, ◌≤◌, true, false, cond, Option, Some, None, IsSome, List, [], ◌∷◌, ◌++◌, refl, sym, ap, ◌∙◌, arith, is_some}
 use Rattle.std.proofs.lemmas.Bool.{eq-eqb}
 use Rattle.reg_heap.specs.Kinds.{Found, times, owned, is_own}
-use Rattle.reg_heap.specs.Heaps.{Heap, Swaps, Writes, GivesUp, allocated}
+use Rattle.reg_heap.specs.Heaps.{Heap, Swaps, Writes, allocated}
 use Rattle.reg_records.proofs.Inner.{AreInner}
 use Rattle.reg_records.proofs.Locals.{Agree}
 use Rattle.reg_records.proofs.LocalKeys.{agree-inner}

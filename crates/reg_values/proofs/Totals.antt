@@ -1,19 +1,19 @@
 -- The sizes of new cells, one by one and together.
-use Rattle.std.proofs.Common.{◌≡◌, ℕ, zero, suc, ◌+◌, ◌-◌, ◌*◌, ◌/◌, ◌%◌, ◌<◌, ◌≤◌, nat_le, min, cond, Bool, true, false, Option, Some, None, IsSome, List, [], ◌∷◌, ◌++◌, length, map, is_some, get_or, replicate, refl, sym, ap, ◌∙◌, subst, arith}
+use Rattle.std.proofs.Common.{◌≡◌, ℕ, zero, suc, ◌+◌, ◌-◌, ◌*◌, ◌%◌, ◌<◌, ◌≤◌, nat_le, min, cond, Bool, true, false, Option, Some, None, List, [], ◌∷◌, ◌++◌, length, map, is_some, get_or, refl, ap, ◌∙◌, arith}
 use Rattle.std.specs.List.{AllByRecursion, list_all}
 use Rattle.std.proofs.lemmas.Bool.{and_parts, leb-true}
 use Rattle.reg_names.specs.Names.{is_value_name, is_value_name_byte}
 use Rattle.std.proofs.lemmas.List.{length-replicate}
 use Rattle.reg_arena.specs.NewCells.{total_of, AreSizes}
 use Rattle.reg_arena.specs.NewBin.{PassesLimit}
-use Rattle.reg_heap.specs.Heaps.{Heap, Swaps, AreNew, allocated}
+use Rattle.reg_heap.specs.Heaps.{Heap, AreNew, allocated}
 use Rattle.reg_heap.specs.Kinds.{times}
 use Rattle.reg_records.specs.Cells.{held}
 use Rattle.reg_records.specs.Pieces.{segment_size, segments_for}
 use Rattle.reg_values.specs.Lists.{Makes}
 use Rattle.reg_values.specs.Sizes.{cell_size, segment_sizes, data_sizes, list_sizes, sizes_by, has_room, stays, new_data_sizes}
 use Rattle.reg_records.specs.Values.{KeyValueRecord}
-use Rattle.reg_values.proofs.Found.{is-some, held-is}
+use Rattle.reg_values.proofs.Found.{held-is}
 use Rattle.reg_values.proofs.Swapped.{allocated-le, none-there, there-one, times-same}
 use Rattle.reg_values.proofs.Stored.{few-segments}
 

@@ -1,26 +1,21 @@
 -- A value's record that was written, read back with its data.
-use Rattle.std.proofs.Common.{◌≡◌, ◌≢◌, ℕ, zero, suc, ◌+◌, ◌-◌, ◌*◌, ◌<◌, ◌≤◌, ◌==◌, nat_le, cond, Bool, true, false, not, Option, Some, None, IsSome, List, [], ◌∷◌, ◌++◌, length, refl, sym, ap, ◌∙◌, subst, arith}
-use Rattle.std.specs.Prelude.{bit_and}
+use Rattle.std.proofs.Common.{◌≡◌, ℕ, ◌<◌, ◌≤◌, ◌==◌, nat_le, cond, Some, List, [], ◌∷◌, length, ap, ◌∙◌, arith}
 use Rattle.reg_heap.specs.Paths.{Member}
-use Rattle.reg_heap.specs.Heaps.{Heap, Swaps, Writes, allocated}
-use Rattle.reg_heap.specs.Kinds.{Found, owned, times}
+use Rattle.reg_heap.specs.Heaps.{Heap}
+use Rattle.reg_heap.specs.Kinds.{Found, times}
 use Rattle.reg_heap.specs.Kinds.Kind.{Value}
-use Rattle.reg_arena.specs.Arena.{Bins}
-use Rattle.reg_arena.specs.Cells.{cell_at}
-use Rattle.reg_records.specs.declared.vk.ValueFields.{ValueFields}
-use Rattle.reg_records.specs.Cells.{HasRoom, held}
+use Rattle.reg_records.specs.Cells.{held}
 use Rattle.reg_records.specs.Values.{KeyValueRecord, value_record_at, IsPlainValue}
 use Rattle.reg_records.specs.Pieces.{segment_size, is_inline}
-use Rattle.reg_records.specs.Nodes.{data_by, data_at, letters, member_at}
+use Rattle.reg_records.specs.Nodes.{data_at, member_at}
 use Rattle.reg_records.specs.Written.{IsWrittenData, IsWrittenValue}
-use Rattle.reg_records.proofs.Inner.{AreInner, data-inner}
-use Rattle.reg_records.proofs.Locals.{Agree, data-local}
+use Rattle.reg_records.proofs.Inner.{data-inner}
+use Rattle.reg_records.proofs.Locals.{data-local}
 use Rattle.reg_records.proofs.LocalKeys.{agree-inner}
 use Rattle.reg_records.proofs.LocalWritten.{data-kept}
 use Rattle.reg_values.specs.Parts.{Fills, HoldsData, HoldsValue}
 use Rattle.reg_values.proofs.Found.{member-made, name-told}
 use Rattle.reg_values.proofs.Filling.{fills-in, fills-then}
-use Rattle.reg_values.proofs.Swapped.{times-same}
 
 -- a change elsewhere leaves data
 pub holds-kept : (h k : Heap) (size place : ℕ) (bytes cells : List ℕ) → ((z : ℕ) → 0 < times z cells → k z ≡ h z) → HoldsData h size place bytes cells → HoldsData k size place bytes cells

@@ -24,11 +24,7 @@ use reg_records::{ValueFields, put_offset, put_vk};
 use std::alloc::Global;
 
 /// New cells of these sizes, side by side.
-pub(crate) fn carve(
-    arena: &mut Arena,
-    alloc: Global,
-    sizes: &[u32],
-) -> Result<Vec<u32>, ArenaFault>
+pub(crate) fn carve(arena: &mut Arena, alloc: Global, sizes: &[u32]) -> Result<Vec<u32>, ArenaFault>
     requires sizes { AreSizes sizes.now }
     requires total { total_of sizes.now ≤ 1306592 }
     ensures ok { IfOk result (λ cells. AreNew (cell_at arena.old.bytes) (cell_at arena.new.bytes) cells.items sizes.now) }

@@ -12,7 +12,6 @@ ghost use Rattle.reg_records.specs.Pieces.{segments_for as segments_for_of, segm
 ghost use Rattle.reg_records.specs.Nodes.{pieces_at, big_at as big_data_at};
 ghost use Rattle.reg_values.specs.Parts.{segments_at, Owns, GivesUpRead, Fills, HoldsData};
 
-
 use crate::SEGMENT;
 use reg_arena::Arena;
 use reg_records::{BigFields, offset_at, put_db, put_offset, read_db};
@@ -55,12 +54,7 @@ pub(crate) fn big_bytes(
 }
 
 /// A copy of the bytes of the segments that a list names.
-fn joined(
-    arena: &Arena,
-    alloc: Global,
-    size: usize,
-    list: u32,
-) -> Result<Vec<u8>, AllocError>
+fn joined(arena: &Arena, alloc: Global, size: usize, list: u32) -> Result<Vec<u8>, AllocError>
     requires size { size < 4294967296 }
     requires exists { IsSome (cell_at arena.now.bytes list) }
     requires long { 4 * segments_for_of size ≤ length (held (cell_at arena.now.bytes) list) }

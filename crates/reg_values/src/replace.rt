@@ -37,14 +37,7 @@ fn rewrite(arena: &mut Arena, cell: u32, old: ValueFields, kind: u32, bytes: &[u
 }
 
 /// Writes other data into new cells, and frees those that a value's data has.
-fn exchange(
-    arena: &mut Arena,
-    cell: u32,
-    cells: &[u32],
-    old: ValueFields,
-    kind: u32,
-    bytes: &[u8],
-)
+fn exchange(arena: &mut Arena, cell: u32, cells: &[u32], old: ValueFields, kind: u32, bytes: &[u8])
     requires owns { OwnsBeside (member_at cell) (cell_at arena.old.bytes) cells.now }
     requires written { IsWrittenValue (cell_at arena.old.bytes) cell }
     requires record_is { (name : List ℕ) × (value_record_at (cell_at arena.old.bytes) cell ≡ Some (record { fields = old; name = name })) }

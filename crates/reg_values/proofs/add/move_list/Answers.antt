@@ -1,4 +1,4 @@
-use Rattle.std.proofs.Common.{ℕ, List, ◌++◌, ◌≡◌, ◌+◌, ◌*◌, ◌≤◌, ◌<◌, ◌∷◌, [], Some, ap, sym, ◌∙◌, subst, length, arith, refl}
+use Rattle.std.proofs.Common.{ℕ, List, ◌++◌, ◌+◌, ◌*◌, ◌≤◌, ◌<◌, ◌∷◌, [], ap, sym, ◌∙◌, subst, arith, refl}
 use Rattle.std.proofs.lemmas.Option.{same_Some}
 use Rattle.reg_heap.specs.Kinds.{Found, owned, times}
 use Rattle.reg_heap.specs.Heaps.{allocated}

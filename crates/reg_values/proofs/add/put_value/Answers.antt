@@ -1,4 +1,4 @@
-use Rattle.std.proofs.Common.{ℕ, ◌≡◌, ◌+◌, ◌≤◌, ◌∷◌, [], ap, length, arith, refl}
+use Rattle.std.proofs.Common.{◌+◌, length, arith}
 use Rattle.reg_arena.specs.Cells.{cell_at}
 use Rattle.reg_values.proofs.Filling.{fills-cell, fills-room}
 use Rattle.reg_values.proofs.Rooms.{room-tail, room-head, room-less}

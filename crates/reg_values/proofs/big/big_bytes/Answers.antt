@@ -39,7 +39,6 @@ joined-requires-clause-pieces c =
     let l = ap (λ (b : BigData). b.list) (same_Some _ _ (sym b.big_is ∙ c.big_at-list.ensures)) in
     is-some _ (x.0.0, b.cells) (subst (λ l. segments_at c.args.size (held h l) h ≡ Some (x.0.0, b.cells)) l b.pieces)
 
-
 pub returns : goal.returns
 returns c =
     let h = cell_at c.args.arena.now.bytes in

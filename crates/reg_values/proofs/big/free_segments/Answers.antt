@@ -1,10 +1,10 @@
-use Rattle.std.proofs.Common.{ℕ, List, Some, IsSome, ◌≡◌, ◌∙◌, ◌+◌, ◌*◌, ◌≤◌, ◌∷◌, [], length, sym, ap, subst, arith, get_or, take}
+use Rattle.std.proofs.Common.{ℕ, List, IsSome, ◌∙◌, ◌∷◌, [], length, sym, ap, subst, arith}
 use Rattle.reg_heap.specs.Heaps.{GivesUp}
 use Rattle.reg_arena.specs.Cells.{cell_at}
 use Rattle.reg_records.specs.Cells.{held}
 use Rattle.reg_records.specs.Rows.{offsets_at}
 use Rattle.reg_values.proofs.Opening.{length-offsets}
-use Rattle.reg_values.proofs.Found.{is-some, held-is, here-held, offset-of}
+use Rattle.reg_values.proofs.Found.{held-is, offset-of}
 use Rattle.reg_values.proofs.Freed.{list-kept, next-there, freed-more, freed-none, freed-all}
 use Rattle.reg_values.proofs.big.free_segments.Goals as goal
 

@@ -1,4 +1,4 @@
-use Rattle.std.proofs.Common.{ℕ, ◌+◌, ◌*◌, ◌≤◌, ap, length, arith, get_or}
+use Rattle.std.proofs.Common.{ap, length, arith}
 use Rattle.reg_arena.specs.Cells.{cell_at}
 use Rattle.reg_values.proofs.Filling.{fills-there, fills-room, pieces-none, pieces-more, pieces-all}
 use Rattle.reg_values.proofs.big.put_pieces.Goals as goal

@@ -5,7 +5,7 @@ use Rattle.reg_arena.specs.Cells.{cell_at}
 use Rattle.reg_records.specs.Values.{value_record_at}
 use Rattle.reg_records.specs.Nodes.{members_at, data_at}
 use Rattle.reg_values.proofs.Found.{is-some, stands, is-ok}
-use Rattle.reg_values.proofs.Pieces.{told-data, opened}
+use Rattle.reg_values.proofs.Pieces.{told-data}
 use Rattle.reg_values.proofs.data.bytes_of.Goals as goal
 
 pub cell_of-requires-clause-list : goal.cell_of-requires-clause-list

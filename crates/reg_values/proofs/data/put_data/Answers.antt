@@ -1,4 +1,4 @@
-use Rattle.std.proofs.Common.{ℕ, List, ◌≡◌, ◌+◌, ◌*◌, ◌≤◌, ◌<◌, ap, sym, subst, length, arith, get_or, take, drop, ◌∷◌, [], refl}
+use Rattle.std.proofs.Common.{sym, subst, length, arith, get_or}
 use Rattle.reg_arena.specs.Cells.{cell_at}
 use Rattle.reg_values.specs.Parts.{Fills, HoldsData}
 use Rattle.reg_values.proofs.Filling.{fills-none}

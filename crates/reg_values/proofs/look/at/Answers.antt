@@ -1,8 +1,7 @@
-use Rattle.std.proofs.Common.{sym, ap, ◌∙◌, ◌≡◌, slice_get, Some}
-use Rattle.reg_heap.specs.Paths.{Member}
+use Rattle.std.proofs.Common.{sym, ap, ◌∙◌}
 use Rattle.reg_arena.specs.Cells.{cell_at}
 use Rattle.reg_records.specs.Values.{value_record_at}
-use Rattle.reg_values.proofs.Found.{is-some, stands, same-read}
+use Rattle.reg_values.proofs.Found.{is-some, stands}
 use Rattle.reg_values.proofs.Pieces.{told-name, told-kind, told-size}
 use Rattle.reg_values.proofs.look.at.Goals as goal
 

@@ -1,4 +1,4 @@
-use Rattle.std.proofs.Common.{sym, ap, ◌∙◌, ◌≡◌, Some, Bool, true, false, length, arith}
+use Rattle.std.proofs.Common.{sym, ap, ◌∙◌, ◌≡◌, true, false, arith}
 use Rattle.reg_heap.specs.Members.{place_named, same_name}
 use Rattle.reg_arena.specs.Cells.{cell_at}
 use Rattle.reg_records.specs.Values.{value_record_at}

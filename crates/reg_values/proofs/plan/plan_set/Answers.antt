@@ -1,4 +1,4 @@
-use Rattle.std.proofs.Common.{length, None, sym, ap, ◌∙◌, ◌≡◌, ◌≤◌, Some, List, ℕ, [], cond}
+use Rattle.std.proofs.Common.{length, None, sym, ap, ◌∙◌, ◌≡◌, [], cond}
 use Rattle.reg_arena.specs.Cells.{cell_at}
 use Rattle.reg_records.specs.Values.{value_record_at}
 use Rattle.reg_values.specs.Sizes.{data_sizes, stays, sizes_by, set_sizes}

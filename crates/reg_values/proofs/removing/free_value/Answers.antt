@@ -1,5 +1,5 @@
-use Rattle.std.proofs.Common.{◌≤◌, arith}
-use Rattle.reg_heap.specs.Kinds.{times, owned}
+use Rattle.std.proofs.Common.{arith}
+use Rattle.reg_heap.specs.Kinds.{owned}
 use Rattle.reg_arena.specs.Cells.{cell_at}
 use Rattle.reg_values.proofs.Found.{is-some, member-open}
 use Rattle.reg_values.proofs.Freed.{gone-more, still-there, member-parts, member-data, member-owned}

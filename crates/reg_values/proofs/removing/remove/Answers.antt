@@ -1,16 +1,13 @@
-use Rattle.std.proofs.Common.{◌+◌, ◌*◌, ◌≤◌, ◌<◌, ◌≡◌, IsSome, Some, ℕ, List, arith, subst, sym, ap, ◌∙◌}
-use Rattle.std.proofs.lemmas.Option.{same_Some}
-use Rattle.reg_heap.specs.Paths.{Member}
+use Rattle.std.proofs.Common.{◌≤◌, ℕ, List, arith, subst, sym, ◌∙◌}
 use Rattle.reg_heap.specs.Heaps.{allocated}
 use Rattle.reg_heap.specs.Kinds.{Found, owned}
-use Rattle.reg_heap.specs.Members.{value_named}
 use Rattle.reg_arena.specs.Cells.{cell_at}
 use Rattle.reg_records.specs.Nodes.{member_at}
 use Rattle.reg_records.specs.Written.{AreWritten}
 use Rattle.reg_values.specs.Parts.{Owns, GivesUpRead}
 use Rattle.reg_values.proofs.Opening.{members-length}
 use Rattle.reg_values.proofs.Found.{named-stands, place-within, same-read}
-use Rattle.reg_values.proofs.Removed.{IsAt, at-index, list-owns, item-owns, removed}
+use Rattle.reg_values.proofs.Removed.{at-index, list-owns, item-owns, removed}
 use Rattle.reg_values.proofs.Named.{named-place}
 use Rattle.reg_values.proofs.removing.remove.Goals as goal
 

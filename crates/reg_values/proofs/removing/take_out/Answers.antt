@@ -1,9 +1,8 @@
-use Rattle.std.proofs.Common.{◌+◌, ◌-◌, ◌*◌, ◌≤◌, ◌<◌, ◌≡◌, IsSome, Some, arith, subst, sym, ap, ◌∙◌, length}
+use Rattle.std.proofs.Common.{arith, sym, ap, ◌∙◌}
 use Rattle.reg_arena.specs.Cells.{cell_at}
-use Rattle.reg_records.specs.Cells.{held}
 use Rattle.reg_values.specs.Parts.{list_at}
 use Rattle.reg_values.proofs.Listed.{list-open}
-use Rattle.reg_values.proofs.Shifted.{emptied, closed-up, list-exists, list-long, written-here}
+use Rattle.reg_values.proofs.Shifted.{emptied, closed-up, written-here}
 use Rattle.reg_values.proofs.removing.take_out.Goals as goal
 
 pub free-requires : goal.free-requires

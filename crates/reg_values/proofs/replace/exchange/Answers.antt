@@ -1,4 +1,3 @@
-use Rattle.std.proofs.Common.{ℕ, ◌≡◌, ◌+◌, ◌≤◌, ◌∷◌, [], length, arith}
 use Rattle.reg_arena.specs.Cells.{cell_at}
 use Rattle.reg_values.proofs.Found.{is-some}
 use Rattle.reg_values.proofs.Filling.{fills-cell}

@@ -1,9 +1,7 @@
-use Rattle.std.proofs.Common.{ℕ, List, Some, true, false, cond, ◌≡◌, ◌+◌, ◌≤◌, ◌∷◌, [], ap, sym, ◌∙◌, subst, length, arith, refl}
+use Rattle.std.proofs.Common.{true, false, cond, [], ap, sym, ◌∙◌, subst, length, arith, refl}
 use Rattle.reg_heap.specs.Paths.{Member}
 use Rattle.reg_arena.specs.Cells.{cell_at}
 use Rattle.reg_arena.specs.NewCells.{total_of, AreSizes}
-use Rattle.reg_arena.specs.Carves.{NoFit}
-use Rattle.reg_arena.specs.NewBin.{PassesLimit}
 use Rattle.reg_values.specs.Lists.{Makes}
 use Rattle.reg_values.specs.Sizes.{data_sizes}
 use Rattle.reg_values.proofs.Rooms.{new-room}

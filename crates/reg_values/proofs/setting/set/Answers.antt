@@ -1,26 +1,23 @@
-use Rattle.std.proofs.Common.{ℕ, List, Some, None, Err, true, ◌≡◌, ◌+◌, ◌*◌, ◌≤◌, ◌<◌, ◌∷◌, ◌++◌, [], ap, sym, ◌∙◌, subst, length, arith, refl}
+use Rattle.std.proofs.Common.{ℕ, List, Err, ◌≡◌, ◌≤◌, ap, sym, ◌∙◌, subst, length, arith}
 use Rattle.std.proofs.lemmas.Result.{on_ok_weaker, err_from_is_err_and}
 use Rattle.reg_arena.specs.declared.ArenaFault.TheVariants.{Full}
-use Rattle.reg_heap.specs.Paths.{Member}
 use Rattle.reg_heap.specs.Heaps.{allocated}
 use Rattle.reg_heap.specs.Kinds.{Found, owned}
-use Rattle.reg_heap.specs.Members.{values_with}
 use Rattle.reg_arena.specs.Cells.{cell_at}
 use Rattle.reg_arena.specs.NewCells.{total_of}
 use Rattle.reg_arena.specs.Carves.{NoFit}
 use Rattle.reg_arena.specs.NewBin.{PassesLimit}
 use Rattle.reg_records.specs.Values.{value_record_at}
-use Rattle.reg_records.specs.Nodes.{member_at, members_at}
+use Rattle.reg_records.specs.Nodes.{member_at}
 use Rattle.reg_records.specs.Written.{IsWrittenValue, AreWritten}
 use Rattle.reg_values.specs.Lists.{Became, Makes}
 use Rattle.reg_values.specs.Parts.{Owns, BecameValue}
-use Rattle.reg_values.specs.Sizes.{sizes_by, set_sizes}
 use Rattle.reg_values.proofs.Opening.{members-length}
 use Rattle.reg_values.proofs.Found.{named-stands, place-within, same-read, is-ok}
 use Rattle.reg_values.proofs.Planned.{sizes-there, sizes-none}
 use Rattle.reg_values.proofs.Totals.{near, add-total, replace-total, value-name}
 use Rattle.reg_values.proofs.Named.{with-new}
-use Rattle.reg_values.proofs.Removed.{IsAt, at-index}
+use Rattle.reg_values.proofs.Removed.{at-index}
 use Rattle.reg_values.proofs.SetAgain.{value-owns, set-again, has-space}
 use Rattle.reg_values.proofs.setting.set.Goals as goal
 
