@@ -264,13 +264,7 @@ impl Core {
             return refuse(NOT_ENOUGH_MEMORY);
         }
         let number = self.journal.len() as u64;
-        match self.tree.set_value(
-            self.alloc,
-            name.as_slice(),
-            kind,
-            bytes.as_slice(),
-            moment,
-        ) {
+        match self.tree.set_value(self.alloc, name.as_slice(), kind, bytes.as_slice(), moment) {
             Ok(()) => {}
             Err(TreeFault::Full) => return refuse(NO_SYSTEM_RESOURCES),
             Err(TreeFault::Memory) => return refuse(NOT_ENOUGH_MEMORY),
