@@ -23,8 +23,8 @@ mod tests;
 mod vk;
 
 pub use nk::{
-    KeyFields, KeyNode, put_nk, read_nk, set_largest_value_data, set_largest_value_name, set_time,
-    set_values,
+    KeyFields, KeyNode, put_nk, read_nk, set_largest_subkey_name, set_largest_value_data,
+    set_largest_value_name, set_subkeys, set_subkeys_list, set_time, set_values,
 };
 pub use rows::{offset_at, put_offset};
 pub use sk::{SecurityFields, SecurityRecord, put_sk, read_sk};

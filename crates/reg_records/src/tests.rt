@@ -142,11 +142,17 @@ fn a_key_in_a_cell(rt: HostRuntime) -> Result<(), Fail> {
     put_nk(&mut arena, cell, &ROOT_FIELDS, b"ROOT");
     assert!(rt; arena.content(cell).starts_with(&ROOT));
     set_time(&mut arena, cell, 1);
+    set_subkeys(&mut arena, cell, 5);
+    set_subkeys_list(&mut arena, cell, 200);
+    set_largest_subkey_name(&mut arena, cell, 6);
     set_values(&mut arena, cell, 2, 168);
     set_largest_value_name(&mut arena, cell, 3);
     set_largest_value_data(&mut arena, cell, 4);
     let changed = KeyFields {
         time: 1,
+        subkeys: 5,
+        subkeys_list: 200,
+        largest_subkey_name: 6,
         values: 2,
         values_list: 168,
         largest_value_name: 3,
