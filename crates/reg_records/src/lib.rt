@@ -1,7 +1,7 @@
-//! The records of a registry hive: key nodes, key values, key securities and rows of offsets.
+//! The records of a registry hive: key nodes, key values, key securities, lists of subkeys and rows of offsets.
 //!
 //! Suhanov, Windows registry file format specification, sections "Key node", "Key value",
-//! "Key security" and "Key values list". All numbers are little endian. A record stands at the
+//! "Key security", "Subkeys list" and "Key values list". All numbers are little endian. A record stands at the
 //! start of what its cell holds, and the cell may be longer than the record.
 #![tactic(auto)]
 
@@ -15,6 +15,7 @@ use thiserror::Error;
 
 mod cells;
 pub mod laws;
+mod lists;
 mod nk;
 mod rows;
 mod sk;
@@ -22,6 +23,9 @@ mod sk;
 mod tests;
 mod vk;
 
+pub use lists::{
+    ListEntry, ListForm, ListHead, entry_at, put_entry, put_head, put_list, read_list,
+};
 pub use nk::{
     KeyFields, KeyNode, put_nk, read_nk, set_largest_subkey_name, set_largest_value_data,
     set_largest_value_name, set_subkeys, set_subkeys_list, set_time, set_values,
