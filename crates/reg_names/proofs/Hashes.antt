@@ -1,7 +1,7 @@
 -- The hash of a name, character by character.
-use Rattle.std.proofs.Common.{◌≡◌, ℕ, ◌<◌, List, [], ◌∷◌, ◌++◌, refl, ap, ◌∙◌, arith}
+use Rattle.std.proofs.Common.{◌≡◌, ℕ, ◌<◌, List, [], ◌∷◌, ◌++◌, ◌+◌, ◌*◌, ◌%◌, length, take, get_or, refl, sym, ap, ◌∙◌, arith}
 use Rattle.std.specs.List.{fold as fold_list}
-use Rattle.std.proofs.lemmas.List.{map-append}
+use Rattle.std.proofs.lemmas.List.{map-append, take_more}
 use Rattle.std.proofs.lemmas.List.Sums.{fold_push}
 use Rattle.reg_names.specs.Names.{fold, folded, hash_with, hash}
 
@@ -14,6 +14,12 @@ hash-none = refl
 pub hash-push : (name : List ℕ) (c : ℕ) → hash (name ++ c ∷ []) ≡ hash_with (hash name) (fold c)
 unfolding hash
 hash-push name c = ap (fold_list hash_with 0) (map-append fold name (c ∷ [])) ∙ fold_push hash_with 0 (folded name) (fold c)
+
+-- the same, of a name's front and the character that follows it
+pub hash-next : (name : List ℕ) (i h c : ℕ) → i < length name → h ≡ hash (take i name) → c ≡ fold (get_or name i 0) → (h * 37 % 4294967296 + c) % 4294967296 ≡ hash (take (i + 1) name)
+hash-next name i h c l e k =
+    let sum : (h * 37 % 4294967296 + c) % 4294967296 ≡ hash_with h c = omega arith in
+    sum ∙ (ap (λ g. hash_with g c) e ∙ (ap (hash_with (hash (take i name))) k ∙ (sym (hash-push (take i name) (get_or name i 0)) ∙ ap hash (sym (take_more name i 0 l)))))
 
 small : (h : ℕ) (cs : List ℕ) → h < 4294967296 → fold_list hash_with h cs < 4294967296
 small h [] l = l

@@ -1,28 +1,24 @@
 -- Paths as text, and read back.
-use Rattle.std.proofs.Common.{◌≡◌, ◌≢◌, ℕ, Bool, true, false, List, [], ◌∷◌, refl, ap, ◌∙◌, eqb, not}
+use Rattle.std.proofs.Common.{◌≡◌, ◌≢◌, ℕ, true, false, List, [], ◌∷◌, refl, ap, ◌∙◌, not}
 use Rattle.std.specs.List.{All, list_all, slice_split, join_with_byte}
 use Rattle.std.proofs.lemmas.Bool.{and_parts, not-true}
 use Rattle.std.proofs.lemmas.List.Elements.{All-nil, All-cons}
 use Rattle.std.proofs.lemmas.List.Splits.{slice_split_none, slice_split_at, join_with_byte-slice_split}
-use Rattle.reg_names.specs.Names.{path_of, text_of, has_no_backslash}
+use Rattle.reg_names.specs.Names.{path_of, text_of, is_backslash, has_no_backslash}
 
--- whether a byte parts two names
-abbrev parts : ℕ → Bool
-parts c = eqb c 92
-
-unparted : (name : List ℕ) → has_no_backslash name ≡ true → All (λ c. parts c ≡ false) name
-unparted [] h = All-nil (λ c. parts c ≡ false)
+unparted : (name : List ℕ) → has_no_backslash name ≡ true → All (λ c. is_backslash c ≡ false) name
+unparted [] h = All-nil (λ c. is_backslash c ≡ false)
 unparted (b ∷ bs) h =
-    let both = and_parts (not (parts b)) (has_no_backslash bs) h in
-    All-cons (λ c. parts c ≡ false) b bs (not-true (parts b) both.0) (unparted bs both.1)
+    let both = and_parts (not (is_backslash b)) (has_no_backslash bs) h in
+    All-cons (λ c. is_backslash c ≡ false) b bs (not-true (is_backslash b) both.0) (unparted bs both.1)
 
 -- names joined by a backslash, and cut at each
-cut_again : (name : List ℕ) (names : List (List ℕ)) → list_all has_no_backslash (name ∷ names) ≡ true → slice_split parts (join_with_byte 92 (name ∷ names)) ≡ name ∷ names
+cut_again : (name : List ℕ) (names : List (List ℕ)) → list_all has_no_backslash (name ∷ names) ≡ true → slice_split is_backslash (join_with_byte 92 (name ∷ names)) ≡ name ∷ names
 cut_again name [] h =
-    slice_split_none parts name (unparted name (and_parts (has_no_backslash name) true h).0)
+    slice_split_none is_backslash name (unparted name (and_parts (has_no_backslash name) true h).0)
 cut_again name (other ∷ names) h =
     let both = and_parts (has_no_backslash name) (list_all has_no_backslash (other ∷ names)) h in
-    slice_split_at parts name 92 (join_with_byte 92 (other ∷ names)) (unparted name both.0) refl ∙ ap (λ t. name ∷ t) (cut_again other names both.1)
+    slice_split_at is_backslash name 92 (join_with_byte 92 (other ∷ names)) (unparted name both.0) refl ∙ ap (λ t. name ∷ t) (cut_again other names both.1)
 
 -- the text of a path of names without a backslash, read as a path, is that path; the path of the one empty name has no text
 pub path_of-text_of : (names : List (List ℕ)) → list_all has_no_backslash names ≡ true → names ≢ ([] ∷ []) → path_of (text_of names) ≡ names

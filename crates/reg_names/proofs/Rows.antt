@@ -1,8 +1,8 @@
 -- The definitions at names that were worked out by hand.
-use Rattle.std.specs.Prelude.{◌≡◌, [], ◌∷◌, ◌++◌, replicate, map, Some, None, refl}
+use Rattle.std.specs.Prelude.{◌≡◌, true, false, [], ◌∷◌, ◌++◌, replicate, map, Some, None, refl}
 use Rattle.std.specs.declared.cmp.Ordering.TheVariants.{Less, Equal, Greater}
-use Rattle.reg_names.specs.declared.NameFault.TheVariants.{Empty, BadByte, NameTooLong}
-use Rattle.reg_names.specs.Names.{fold, folded, name_cmp, key_name_fault, value_name_fault, fault_in, hash, path_of, text_of}
+use Rattle.reg_names.specs.declared.NameFault.TheVariants.{Empty, BadByte, NameTooLong, TooManyLevels}
+use Rattle.reg_names.specs.Names.{fold, folded, name_cmp, key_name_fault, value_name_fault, fault_in, names_fault, path_fault, are_key_names, is_path, hash, path_of, text_of}
 
 -- ---- folding: a letter a to z, and the bytes on either side of them
 
@@ -187,3 +187,67 @@ backslash_twice = refl
 -- `\`
 backslash_alone : path_of (92 ∷ []) ≡ [] ∷ [] ∷ []
 backslash_alone = refl
+
+-- ---- faults of a path
+
+path_of_none : path_fault [] ≡ None
+unfolding names_fault
+path_of_none = refl
+
+-- `A\B\C`
+path_fine : path_fault (65 ∷ 92 ∷ 66 ∷ 92 ∷ 67 ∷ []) ≡ None
+unfolding names_fault fault_in
+path_fine = refl
+
+-- `A\`
+path_backslash_last : path_fault (65 ∷ 92 ∷ []) ≡ Some Empty
+unfolding names_fault fault_in
+path_backslash_last = refl
+
+-- `\A`
+path_backslash_first : path_fault (92 ∷ 65 ∷ []) ≡ Some Empty
+unfolding names_fault fault_in
+path_backslash_first = refl
+
+-- an empty name before a bad byte, and a bad byte before an empty name
+path_empty_before_bad : path_fault (65 ∷ 92 ∷ 92 ∷ 0 ∷ []) ≡ Some Empty
+unfolding names_fault fault_in
+path_empty_before_bad = refl
+
+path_bad_before_empty : path_fault (65 ∷ 0 ∷ 92 ∷ 92 ∷ []) ≡ Some BadByte
+unfolding names_fault fault_in
+path_bad_before_empty = refl
+
+-- a backslash past 255 bytes ends their name; every other byte there is too many
+path_name_of_255 : path_fault (replicate 255 65 ++ 92 ∷ 66 ∷ []) ≡ None
+unfolding names_fault fault_in
+path_name_of_255 = refl
+
+path_name_of_256 : path_fault (replicate 255 65 ++ 0 ∷ 92 ∷ 66 ∷ []) ≡ Some NameTooLong
+unfolding names_fault fault_in
+path_name_of_256 = refl
+
+-- 512 names `A` are a path, and a backslash after them begins one name more, which is too many
+path_of_512 : path_fault (text_of (replicate 512 (65 ∷ []))) ≡ None
+unfolding names_fault fault_in
+path_of_512 = refl
+
+path_of_513 : path_fault (text_of (replicate 512 (65 ∷ []) ++ (0 ∷ []) ∷ [])) ≡ Some TooManyLevels
+unfolding names_fault fault_in
+path_of_513 = refl
+
+path_of_512_and_backslash : path_fault (text_of (replicate 512 (65 ∷ []) ++ [] ∷ [])) ≡ Some TooManyLevels
+unfolding names_fault fault_in
+path_of_512_and_backslash = refl
+
+path_of_511_and_backslash : path_fault (text_of (replicate 511 (65 ∷ []) ++ [] ∷ [])) ≡ Some Empty
+unfolding names_fault fault_in
+path_of_511_and_backslash = refl
+
+is_path_of_none : is_path [] ≡ true
+unfolding are_key_names
+is_path_of_none = refl
+
+is_path_of_513 : is_path (text_of (replicate 513 (65 ∷ []))) ≡ false
+unfolding are_key_names
+is_path_of_513 = refl

@@ -2,11 +2,12 @@
 -- their hash (Suhanov, Windows registry file format specification, section "Subkeys list").
 use Rattle.std.specs.Prelude.{ℕ, ◌+◌, ◌-◌, ◌*◌, ◌%◌, ◌==◌, ◌&&◌, not, nat_lt, nat_le, Bool, List, [], ◌∷◌, map, take, length, if◌then◌else◌, Option, Some, None}
 use Rattle.std.specs.List.{list_all, fold as fold_list, slice_split, join_with_byte}
+use Rattle.std.specs.Option.{option_or}
 use Rattle.std.specs.Ordering.{nat_cmp}
 use Rattle.std.specs.declared.cmp.Ordering.{Ordering}
 use Rattle.std.specs.Cmp.Lexicographic.{slice_cmp}
 use Rattle.reg_names.specs.declared.NameFault.{NameFault}
-use Rattle.reg_names.specs.declared.NameFault.TheVariants.{Empty, BadByte, NameTooLong}
+use Rattle.reg_names.specs.declared.NameFault.TheVariants.{Empty, BadByte, NameTooLong, TooManyLevels}
 
 -- a letter a to z becomes A to Z, and every other byte stays
 abbrev pub fold : ℕ → ℕ
@@ -54,15 +55,40 @@ hash_with h c = (37 * h + c) % 4294967296
 unfoldable pub hash : List ℕ → ℕ
 hash name = fold_list hash_with 0 (folded name)
 
+-- the byte that parts the names of a path
+abbrev pub is_backslash : ℕ → Bool
+is_backslash c = c == 92
+
 -- the names in a path's text, as they are given: the parts between its backslashes; the empty text has no names
 -- (Win32, "Structure of the Registry")
 abbrev pub path_of : List ℕ → List (List ℕ)
 path_of [] = []
-path_of (b ∷ bs) = slice_split (λ c. c == 92) (b ∷ bs)
+path_of (b ∷ bs) = slice_split is_backslash (b ∷ bs)
 
 -- a path's text: its names, with one backslash between each two
 abbrev pub text_of : List (List ℕ) → List ℕ
 text_of names = join_with_byte 92 names
+
+-- the fault of the first of some names that is no key's name
+abbrev pub first_fault : List (List ℕ) → Option NameFault
+first_fault [] = None
+first_fault (name ∷ names) = option_or (key_name_fault name) (first_fault names)
+
+-- the fault at the earliest byte of so many names, and of one more, which is too many at its start
+unfoldable pub names_fault : ℕ → List (List ℕ) → Option NameFault
+names_fault limit names =
+    option_or (first_fault (take limit names)) (if nat_lt limit (length names) then Some TooManyLevels else None)
+
+-- a path is a list of at most 512 key names; an empty name's fault is at the backslash or the end that closes it
+abbrev pub path_fault : List ℕ → Option NameFault
+path_fault text = names_fault 512 (path_of text)
+
+-- at most so many names, each a key's
+unfoldable pub are_key_names : ℕ → List (List ℕ) → Bool
+are_key_names limit names = list_all is_key_name names && nat_le (length names) limit
+
+abbrev pub is_path : List ℕ → Bool
+is_path text = are_key_names 512 (path_of text)
 
 abbrev pub has_no_backslash : List ℕ → Bool
 has_no_backslash name = list_all (λ b. not (b == 92)) name

@@ -4,11 +4,14 @@
 #![tactic(auto)]
 
 ghost use Rattle.std.specs.Prelude.{◌≡◌, ◌↔◌, IsTrue, MatchResult, Some, None, is_ok, take};
-ghost use Rattle.std.specs.List.{list_all};
-ghost use Rattle.reg_names.specs.Names.{fold as fold_of, folded, name_cmp, key_name_fault, value_name_fault, is_key_name, is_value_name, is_key_name_byte as is_key_byte_of, is_value_name_byte as is_value_byte_of};
+ghost use Rattle.std.specs.List.{list_all, position_or_len};
+ghost use Rattle.reg_names.specs.Names.{fold as fold_of, folded, name_cmp, hash, key_name_fault, value_name_fault, path_fault, is_key_name, is_value_name, is_path, is_backslash, is_key_name_byte as is_key_byte_of, is_value_name_byte as is_value_byte_of};
 
 use std::cmp::Ordering;
 use thiserror::Error;
+
+#[cfg(test)]
+mod tests;
 
 /// The longest key name, in bytes.
 pub const KEY_NAME_LIMIT: usize = 255;
@@ -16,10 +19,13 @@ pub const KEY_NAME_LIMIT: usize = 255;
 /// The longest value name, in bytes.
 pub const VALUE_NAME_LIMIT: usize = 16_383;
 
-/// What is wrong with a name.
+/// The most names in a path.
+pub const PATH_LIMIT: usize = 512;
+
+/// What is wrong with a name or a path.
 #[derive(Clone, Copy, Debug, PartialEq, Eq, Error)]
 pub enum NameFault {
-    /// A key name of no bytes.
+    /// A key name of no bytes, or such a part of a path.
     #[error("the name is empty")]
     Empty,
     /// A byte outside 0x01 to 0x7F, or a backslash in a key name.
@@ -28,6 +34,9 @@ pub enum NameFault {
     /// More bytes than the limit.
     #[error("the name is too long")]
     NameTooLong,
+    /// A path of more names than the limit.
+    #[error("the path has too many names")]
+    TooManyLevels,
 }
 
 fn is_value_name_byte(byte: u8) -> bool
@@ -92,11 +101,56 @@ pub fn check_value_name(name: &[u8]) -> Result<(), NameFault>
     Ok(())
 }
 
+/// How many bytes a path has before its first backslash, or its end.
+fn first_length(path: &[u8]) -> usize
+    ensures { result ≡ position_or_len is_backslash path.now }
+{
+    path.iter()
+        .position(|byte| *byte == b'\\')
+        .unwrap_or(path.len())
+}
+
+/// Checks a path: at most 512 key names with one backslash between each two. The empty text is the path of no names.
+///
+/// The fault is that of the earliest byte at which one arises. An empty name's is at the backslash or the end that closes
+/// it, and that of a name past the 512th, an empty one too, at its start.
+pub fn check_path(path: &[u8]) -> Result<(), NameFault>
+    ensures fault { MatchResult result (λ _. path_fault path.now ≡ None) (λ fault. path_fault path.now ≡ Some fault) }
+    ensures valid { is_ok result ≡ is_path path.now }
+{
+    if path.is_empty() {
+        return Ok(());
+    }
+    let mut rest = path;
+    for _number in 0..PATH_LIMIT {
+        let length = first_length(rest);
+        check_key_name(&rest[..length])?;
+        if length == rest.len() {
+            return Ok(());
+        }
+        rest = &rest[length + 1..];
+    }
+    Err(NameFault::TooManyLevels)
+}
+
 /// A letter a to z becomes A to Z; every other byte stays.
 pub fn fold(byte: u8) -> u8
     ensures { result ≡ fold_of byte }
 {
     byte.to_ascii_uppercase()
+}
+
+/// The hash of a name, as the entries of a hash leaf hold it: that of its folded bytes.
+///
+/// Suhanov, Windows registry file format specification, section "Subkeys list".
+pub fn name_hash(name: &[u8]) -> u32
+    ensures { result ≡ hash name.now }
+{
+    let mut hash: u32 = 0;
+    for byte in name {
+        hash = hash.wrapping_mul(37).wrapping_add(u32::from(fold(*byte)));
+    }
+    hash
 }
 
 /// Whether two names are the same after folding.

@@ -9,7 +9,7 @@ use Rattle.reg_heap.specs.Kinds.{Found}
 use Rattle.reg_heap.specs.Kinds.Kind.{Key, SubList, Leaf}
 use Rattle.reg_records.specs.Letters.{is_signed}
 use Rattle.reg_records.specs.Lists.{Form, Entry, SubkeysList, form_of, list_as, list_of, places_in}
-use Rattle.reg_records.specs.Lists.Form.{IndexRoot, IndexLeaf, FastLeaf, HashLeaf}
+use Rattle.reg_records.specs.declared.lists.ListForm.TheVariants.{IndexRoot, IndexLeaf, FastLeaf, HashLeaf}
 use Rattle.reg_records.specs.Pieces.{named, plainly, if_any}
 use Rattle.reg_records.specs.Walk.{names_of, leaves_named, keys_named, kind_met}
 use Rattle.reg_records.specs.Nodes.{KeyList, Index, key_list_as, list_at, key_list_at, key_lists_at, index_as, index_at, entries_of}

@@ -28,3 +28,6 @@ pub mod LocalKeys
 pub mod LocalWritten
 pub mod Exchanged
 pub mod Retold
+pub mod Listing
+pub mod ListWriting
+pub mod ListRows

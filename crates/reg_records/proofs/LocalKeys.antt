@@ -9,7 +9,7 @@ use Rattle.reg_heap.specs.Kinds.{Kind, Found, is_security, is_own, owned}
 use Rattle.reg_heap.specs.Kinds.Kind.{Key, Class, SubList, Leaf, ValueList, Value, Data, BigHead, BigList, Segment, Security}
 use Rattle.reg_records.specs.Keys.{nk_of, key_at}
 use Rattle.reg_records.specs.Lists.{SubkeysList, Form, list_of, places_in}
-use Rattle.reg_records.specs.Lists.Form.{IndexRoot, IndexLeaf, FastLeaf, HashLeaf}
+use Rattle.reg_records.specs.declared.lists.ListForm.TheVariants.{IndexRoot, IndexLeaf, FastLeaf, HashLeaf}
 use Rattle.reg_records.specs.Pieces.{if_any}
 use Rattle.reg_records.specs.Nodes.{Node, KeyList, Index, key_list_as, list_at, key_list_at, key_lists_at, index_as, index_at, node_of, node_in, met_of, members_at, look}
 use Rattle.reg_records.specs.Nodes.Index.{Listed, Rooted}

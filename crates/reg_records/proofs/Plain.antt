@@ -72,6 +72,24 @@ plain-named old new cell largest s w k =
     subst IsPlainKey (sym (held-written old new cell _ w))
     (key-kept 60 (little_bytes 4 largest) (held (cell_at old.bytes) cell) (omega (arith, room.enough)) (inl (omega arith)) (inl (omega arith)) (inl (omega arith)) (inr (omega arith)) k)
 
+pub plain-counted : (old new : Bins) (cell subkeys : ℕ) → IsSome (key_at (cell_at old.bytes) cell) → WritesPart old new cell 20 (little_bytes 4 subkeys) → IsPlainKey (held (cell_at old.bytes) cell) → IsPlainKey (held (cell_at new.bytes) cell)
+plain-counted old new cell subkeys s w k =
+    let room = key-room (cell_at old.bytes) cell 76 (omega arith) s in
+    subst IsPlainKey (sym (held-written old new cell _ w))
+    (key-kept 20 (little_bytes 4 subkeys) (held (cell_at old.bytes) cell) (omega (arith, room.enough)) (inl (omega arith)) (inr (omega arith)) (inr (omega arith)) (inr (omega arith)) k)
+
+pub plain-listed : (old new : Bins) (cell list : ℕ) → IsSome (key_at (cell_at old.bytes) cell) → WritesPart old new cell 28 (little_bytes 4 list) → IsPlainKey (held (cell_at old.bytes) cell) → IsPlainKey (held (cell_at new.bytes) cell)
+plain-listed old new cell list s w k =
+    let room = key-room (cell_at old.bytes) cell 76 (omega arith) s in
+    subst IsPlainKey (sym (held-written old new cell _ w))
+    (key-kept 28 (little_bytes 4 list) (held (cell_at old.bytes) cell) (omega (arith, room.enough)) (inl (omega arith)) (inl (omega arith)) (inr (omega arith)) (inr (omega arith)) k)
+
+pub plain-widened : (old new : Bins) (cell largest : ℕ) → IsSome (key_at (cell_at old.bytes) cell) → WritesPart old new cell 52 (little_bytes 4 largest) → IsPlainKey (held (cell_at old.bytes) cell) → IsPlainKey (held (cell_at new.bytes) cell)
+plain-widened old new cell largest s w k =
+    let room = key-room (cell_at old.bytes) cell 76 (omega arith) s in
+    subst IsPlainKey (sym (held-written old new cell _ w))
+    (key-kept 52 (little_bytes 4 largest) (held (cell_at old.bytes) cell) (omega (arith, room.enough)) (inl (omega arith)) (inl (omega arith)) (inl (omega arith)) (inr (omega arith)) k)
+
 -- ---- key values
 
 pub plain-data : (old new : Bins) (cell size place kind : ℕ) → IsSome (value_record_at (cell_at old.bytes) cell) → WritesPart old new cell 4 (little_bytes 4 size ++ little_bytes 4 place ++ little_bytes 4 kind) → IsPlainValue (held (cell_at old.bytes) cell) → IsPlainValue (held (cell_at new.bytes) cell)

@@ -15,7 +15,7 @@ use Rattle.reg_records.specs.Keys.{KeyRecord, key_at}
 use Rattle.reg_records.specs.Values.{KeyValueRecord, vk_of}
 use Rattle.reg_records.specs.Rows.{row_in}
 use Rattle.reg_records.specs.Lists.{SubkeysList, Entry, Form, list_of, places_in}
-use Rattle.reg_records.specs.Lists.Form.{IndexRoot, IndexLeaf, FastLeaf, HashLeaf}
+use Rattle.reg_records.specs.declared.lists.ListForm.TheVariants.{IndexRoot, IndexLeaf, FastLeaf, HashLeaf}
 use Rattle.reg_records.specs.Pieces.{Named, if_any, BigData, segment_size, is_inline, inline_size, segments_for, segments, db_of}
 
 -- the first bytes of a cell, as many as are named

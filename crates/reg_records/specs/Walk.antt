@@ -12,7 +12,7 @@ use Rattle.reg_records.specs.Values.{KeyValueRecord, vk_of}
 use Rattle.reg_records.specs.Securities.{KeySecurityRecord, sk_of}
 use Rattle.reg_records.specs.Rows.{row_in}
 use Rattle.reg_records.specs.Lists.{Entry, Form, list_of, places_in}
-use Rattle.reg_records.specs.Lists.Form.{IndexRoot, IndexLeaf, FastLeaf, HashLeaf}
+use Rattle.reg_records.specs.declared.lists.ListForm.TheVariants.{IndexRoot, IndexLeaf, FastLeaf, HashLeaf}
 use Rattle.reg_records.specs.Pieces.{Named, named, plainly, if_any, BigData, segment_size, is_inline, inline_size, segments_for, segments, db_of}
 
 -- nothing more is named, where the content has so many bytes

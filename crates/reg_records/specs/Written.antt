@@ -17,7 +17,7 @@ use Rattle.reg_records.specs.Values.{KeyValueRecord, value_record_at, IsPlainVal
 use Rattle.reg_records.specs.Securities.{KeySecurityRecord, security_at, IsPlainSecurity}
 use Rattle.reg_records.specs.Rows.{offsets_at}
 use Rattle.reg_records.specs.Lists.{Entry, places_in}
-use Rattle.reg_records.specs.Lists.Form.{HashLeaf}
+use Rattle.reg_records.specs.declared.lists.ListForm.TheVariants.{HashLeaf}
 use Rattle.reg_records.specs.Pieces.{BigData, segment_size, is_inline, inline_size, segments_for, db_of}
 use Rattle.reg_records.specs.Nodes.{Node, KeyList, Index, entries_of}
 use Rattle.reg_records.specs.Nodes.Index.{Unlisted, Listed, Rooted}

@@ -1,7 +1,8 @@
-//! The records of a registry hive: key nodes, key values, key securities, big data records and rows of offsets.
+//! The records of a registry hive: key nodes, key values, key securities, big data records, lists of subkeys and rows of
+//! offsets.
 //!
-//! Suhanov, Windows registry file format specification, sections "Key node", "Key value",
-//! "Key security", "Key values list" and "Big data". All numbers are little endian. A record stands at the
+//! Suhanov, Windows registry file format specification, sections "Key node", "Key value", "Key security", "Subkeys list",
+//! "Key values list" and "Big data". All numbers are little endian. A record stands at the
 //! start of what its cell holds, and the cell may be longer than the record.
 #![tactic(auto)]
 
@@ -16,6 +17,7 @@ use thiserror::Error;
 mod cells;
 mod db;
 pub mod laws;
+mod lists;
 mod nk;
 mod rows;
 mod sk;
@@ -24,9 +26,12 @@ mod tests;
 mod vk;
 
 pub use db::{BigFields, put_db, read_db};
+pub use lists::{
+    ListEntry, ListForm, ListHead, entry_at, put_entry, put_head, put_list, read_list,
+};
 pub use nk::{
-    KeyFields, KeyNode, put_nk, read_nk, set_largest_value_data, set_largest_value_name, set_time,
-    set_values,
+    KeyFields, KeyNode, put_nk, read_nk, set_largest_subkey_name, set_largest_value_data,
+    set_largest_value_name, set_subkeys, set_subkeys_list, set_time, set_values,
 };
 pub use rows::{offset_at, put_offset};
 pub use sk::{SecurityFields, SecurityRecord, put_sk, read_sk};

@@ -168,6 +168,36 @@ pub fn set_time(arena: &mut Arena, cell: u32, time: u64)
     write_part(arena, cell, 4, &long_bytes(time));
 }
 
+/// Writes how many subkeys a key node has.
+pub fn set_subkeys(arena: &mut Arena, cell: u32, subkeys: u32)
+    requires { IsSome (key_at (cell_at arena.old.bytes) cell) }
+    ensures written { WritesPart arena.old arena.new cell 20 (little_bytes 4 subkeys) }
+    ensures reads { Rereads key_at arena.old arena.new cell (λ r. record r { fields = record r.fields { subkeys = subkeys } }) }
+    ensures plain { IsPlainKey (held (cell_at arena.old.bytes) cell) → IsPlainKey (held (cell_at arena.new.bytes) cell) }
+{
+    write_part(arena, cell, 20, &word_bytes(subkeys));
+}
+
+/// Writes the offset of the list of a key node's subkeys.
+pub fn set_subkeys_list(arena: &mut Arena, cell: u32, list: u32)
+    requires { IsSome (key_at (cell_at arena.old.bytes) cell) }
+    ensures written { WritesPart arena.old arena.new cell 28 (little_bytes 4 list) }
+    ensures reads { Rereads key_at arena.old arena.new cell (λ r. record r { fields = record r.fields { subkeys_list = list } }) }
+    ensures plain { IsPlainKey (held (cell_at arena.old.bytes) cell) → IsPlainKey (held (cell_at arena.new.bytes) cell) }
+{
+    write_part(arena, cell, 28, &word_bytes(list));
+}
+
+/// Writes the largest length of a subkey's name, as the key node counts it: two for each character.
+pub fn set_largest_subkey_name(arena: &mut Arena, cell: u32, largest: u32)
+    requires { IsSome (key_at (cell_at arena.old.bytes) cell) }
+    ensures written { WritesPart arena.old arena.new cell 52 (little_bytes 4 largest) }
+    ensures reads { Rereads key_at arena.old arena.new cell (λ r. record r { fields = record r.fields { largest_subkey_name = largest } }) }
+    ensures plain { IsPlainKey (held (cell_at arena.old.bytes) cell) → IsPlainKey (held (cell_at arena.new.bytes) cell) }
+{
+    write_part(arena, cell, 52, &word_bytes(largest));
+}
+
 /// Writes how many values a key node has, and the offset of their list.
 pub fn set_values(arena: &mut Arena, cell: u32, values: u32, values_list: u32)
     requires { IsSome (key_at (cell_at arena.old.bytes) cell) }

@@ -93,6 +93,24 @@ const BIG_FIELDS: BigFields = BigFields {
     list: 168,
 };
 
+/// A hash leaf of the keys at 32 and 120, with the hashes of `Run` and `ab`.
+const LEAF: [u8; 20] = [
+    b'l', b'h', 0x02, 0x00, // letters, number of entries
+    0x20, 0x00, 0x00, 0x00, 0x19, 0xC3, 0x01, 0x00, // 32, 115481
+    0x78, 0x00, 0x00, 0x00, 0xA7, 0x09, 0x00, 0x00, // 120, 2471
+];
+
+const LEAF_ENTRIES: [ListEntry; 2] = [
+    ListEntry {
+        place: 32,
+        hint: 115_481,
+    },
+    ListEntry {
+        place: 120,
+        hint: 2_471,
+    },
+];
+
 /// Two new cells, which hold 84 and 44 bytes.
 fn two_cells(arena: &mut Arena, alloc: Global) -> Result<(u32, u32), ArenaFault>
     ensures { IfOk result (λ cells. HasRoom (cell_at arena.new.bytes) cells.0 84 × HasRoom (cell_at arena.new.bytes) cells.1 44) }
@@ -227,5 +245,57 @@ fn a_big_data_record_in_a_cell(rt: HostRuntime) -> Result<(), Fail> {
     let (_, cell) = two_cells(&mut arena, rt.alloc())?;
     put_db(&mut arena, cell, &BIG_FIELDS);
     assert!(rt; arena.content(cell).starts_with(&BIG));
+    Ok(())
+}
+
+#[test]
+fn a_list_is_read(rt: HostRuntime) -> Result<(), RecordFault> {
+    let head = read_list(&LEAF)?;
+    assert_eq!(rt;
+        head,
+        ListHead {
+            form: ListForm::HashLeaf,
+            count: 2
+        }
+    );
+    assert_eq!(rt; entry_at(&LEAF, ListForm::HashLeaf, 1), LEAF_ENTRIES[1]);
+    assert_eq!(rt;
+        entry_at(&LEAF, ListForm::IndexLeaf, 1),
+        ListEntry {
+            place: 115_481,
+            hint: 0
+        }
+    );
+    Ok(())
+}
+
+#[test]
+fn faults_of_lists_come_in_their_order(rt: HostRuntime) {
+    let mut leaf = LEAF;
+    assert_eq!(rt; read_list(&leaf[..19]).err(), Some(RecordFault::Length));
+    leaf[1] = b'k';
+    assert_eq!(rt; read_list(&leaf[..19]).err(), Some(RecordFault::Signature));
+    assert_eq!(rt; read_list(&leaf[..3]).err(), Some(RecordFault::Short));
+}
+
+#[test]
+fn a_list_in_a_cell(rt: HostRuntime) -> Result<(), Fail> {
+    let mut arena = Arena::new(rt.alloc());
+    let (cell, _) = two_cells(&mut arena, rt.alloc())?;
+    put_list(&mut arena, cell, ListForm::HashLeaf, &LEAF_ENTRIES);
+    assert!(rt; arena.content(cell).starts_with(&LEAF));
+    Ok(())
+}
+
+#[test]
+fn a_root_in_a_cell(rt: HostRuntime) -> Result<(), Fail> {
+    let mut arena = Arena::new(rt.alloc());
+    let (cell, _) = two_cells(&mut arena, rt.alloc())?;
+    put_list(&mut arena, cell, ListForm::IndexRoot, &LEAF_ENTRIES);
+    assert!(rt;
+        arena
+            .content(cell)
+            .starts_with(&[b'r', b'i', 2, 0, 32, 0, 0, 0, 120, 0, 0, 0, 0])
+    );
     Ok(())
 }

@@ -1,0 +1,5 @@
+use Rattle.reg_names.proofs.Parts.{Left}
+use Rattle.reg_names.proofs.check_path.Given as goal
+
+abbrev pub invariant-loop-number : goal.invariant-loop-number
+invariant-loop-number l = Left 512 l._number l.path l.rest
