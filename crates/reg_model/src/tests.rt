@@ -43,7 +43,11 @@ fn copies_of_changes(rt: HostRuntime) -> Result<(), Fail> {
             assert_eq!(rt; name.as_slice(), b"name".as_slice());
             assert_eq!(rt; bytes.into_vec().as_slice(), [1, 0, 0, 0].as_slice());
         }
-        _ => assert!(rt; false, "another change"),
+        Change::OpenRoot { .. } => assert!(rt; false, "another change"),
+        Change::DeleteValue {
+            handle: _handle,
+            name: _name,
+        } => assert!(rt; false, "another change"),
     }
     Ok(())
 }

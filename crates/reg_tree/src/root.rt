@@ -75,14 +75,7 @@ pub fn values_list(arena: &Arena, key: u32) -> ValuesList
 
 /// Notes a change of a key's values in its key node: their number and list, the time, and the largest lengths where the name
 /// (in characters) and the data (in bytes) are longer.
-pub fn note_values(
-    arena: &mut Arena,
-    key: u32,
-    list: ValuesList,
-    name: u32,
-    size: u32,
-    moment: u64,
-)
+pub fn note_values(arena: &mut Arena, key: u32, list: ValuesList, name: u32, size: u32, moment: u64)
     requires exists { IsSome (key_at (cell_at arena.old.bytes) key) }
     requires name { name < 2 ^ 31 }
     ensures { Notes (cell_at arena.old.bytes) (cell_at arena.new.bytes) key (noted list.count list.place name size moment) }

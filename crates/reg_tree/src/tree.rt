@@ -5,10 +5,9 @@ ghost use Rattle.reg_heap.specs.Paths.{path_cmp, Member};
 ghost use Rattle.reg_heap.specs.Members.{value_named};
 ghost use Rattle.reg_heap.specs.Edits.{edited, with_value, without_value, values_at};
 
-use crate::ValueFound;
 use crate::cells::{carve_two, cell_size};
 use crate::root::{new_ring, new_root};
-use crate::values;
+use crate::{ValueFound, values};
 use reg_arena::{Arena, ArenaFault};
 use reg_records::{put_nk, put_sk};
 use std::alloc::{AllocError, Global};

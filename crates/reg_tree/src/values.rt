@@ -90,7 +90,14 @@ pub fn set(
         Ok(list) => list,
         Err(fault) => return Err(TreeFault::from(fault)),
     };
-    note_values(arena, root, list, name.len() as u32, bytes.len() as u32, moment);
+    note_values(
+        arena,
+        root,
+        list,
+        name.len() as u32,
+        bytes.len() as u32,
+        moment,
+    );
     Ok(())
 }
 
