@@ -56,7 +56,11 @@ impl LiveCells {
     }
 
     /// Chooses cells at random, to be freed. Where there are fewer, all are chosen.
-    pub fn choose_some(&mut self, cells: usize) -> Result<(), AllocError> {
+    pub fn choose_some(&mut self, cells: usize) -> Result<(), AllocError>
+        ensures left { OnOk result (length self.new.offsets.items ≡ length self.old.offsets.items - cells) }
+        ensures chosen { OnOk result (length self.new.chosen.items + length self.new.offsets.items ≡ length self.old.chosen.items + length self.old.offsets.items) }
+        ensures arena { self.new.arena ≡ self.old.arena }
+    {
         for _i in 0..cells {
             self.choose_one()?;
         }
@@ -83,7 +87,11 @@ impl LiveCells {
         self.arena.carve(&[size], &mut self.offsets)
     }
 
-    fn choose_one(&mut self) -> Result<(), AllocError> {
+    fn choose_one(&mut self) -> Result<(), AllocError>
+        ensures left { length self.new.offsets.items ≡ length self.old.offsets.items - 1 }
+        ensures chosen { OnOk result (length self.new.chosen.items + length self.new.offsets.items ≡ length self.old.chosen.items + length self.old.offsets.items) }
+        ensures arena { self.new.arena ≡ self.old.arena }
+    {
         if self.offsets.is_empty() {
             return Ok(());
         }

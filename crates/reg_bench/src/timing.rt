@@ -1,4 +1,6 @@
 //! How long a call takes.
+ghost use Rattle.std.specs.Prelude.{◌≡◌, ◌≢◌, ◌*◌, ◌≤◌, ◌<◌, ◌+◌, ℕ};
+ghost use Rattle.std.specs.Duration.{as_nanos};
 
 use std::fmt;
 use std::time::Duration;
@@ -10,8 +12,11 @@ pub struct PerCall {
 }
 
 impl PerCall {
-    /// The mean of `calls` calls that took `time` together.
-    pub fn new(time: Duration, calls: usize) -> Self {
+    /// The mean of `calls` calls that took `time` together, in whole nanoseconds; 0 of no calls.
+    pub fn new(time: Duration, calls: usize) -> Self
+        ensures none { calls ≡ 0 → result.nanos ≡ 0 }
+        ensures mean { calls ≢ 0 → (result.nanos * calls ≤ as_nanos time) × (as_nanos time < (result.nanos + 1) * calls) }
+    {
         let nanos = time.as_nanos().checked_div(calls as u128).unwrap_or(0);
         PerCall { nanos }
     }
