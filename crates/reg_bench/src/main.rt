@@ -5,6 +5,7 @@
 #![tactic(auto)]
 
 mod arena;
+mod keys;
 mod live_cells;
 mod timing;
 mod values;
@@ -19,6 +20,8 @@ use std::rt::Clock;
 enum Subject {
     /// Carving and freeing cells.
     Arena,
+    /// Making keys and finding them by their paths.
+    Keys,
     /// Setting values and asking for them.
     Values,
 }
@@ -27,6 +30,7 @@ impl Subject {
     fn named(name: &str) -> Option<Subject> {
         match name {
             "arena" => Some(Subject::Arena),
+            "keys" => Some(Subject::Keys),
             "values" => Some(Subject::Values),
             _ => None,
         }
@@ -36,6 +40,7 @@ impl Subject {
 /// Runs each subject at a small size and prints counts.
 fn count_all(rt: &impl Print, alloc: Global) -> Result<()> {
     arena::count(rt, alloc)?;
+    keys::count(rt, alloc)?;
     values::count(rt, alloc)
 }
 
@@ -43,6 +48,7 @@ fn count_all(rt: &impl Print, alloc: Global) -> Result<()> {
 fn measure(rt: &(impl Print + Clock), alloc: Global, subject: Subject) -> Result<()> {
     match subject {
         Subject::Arena => arena::measure(rt, alloc),
+        Subject::Keys => keys::measure(rt, alloc),
         Subject::Values => values::measure(rt, alloc),
     }
 }

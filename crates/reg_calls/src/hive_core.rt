@@ -123,14 +123,15 @@ fn is_bad_value(name: &[u8], bytes: &[u8]) -> bool
 fn has_no_value_room(tree: &Tree, name: &[u8]) -> bool
     ensures { result ≡ no_value_room name.now (values_at tree.now.tree []) }
 {
-    tree.values() >= VALUES_LIMIT && tree.find_value(name).is_none()
+    let root = tree.root();
+    tree.values(root) >= VALUES_LIMIT && tree.find_value(root, name).is_none()
 }
 
 /// Whether the root has no value of that name.
 fn has_no_value(tree: &Tree, name: &[u8]) -> bool
     ensures { result ≡ not (is_some (value_named name.now (values_at tree.now.tree []))) }
 {
-    tree.find_value(name).is_none()
+    tree.find_value(tree.root(), name).is_none()
 }
 
 impl Core {
@@ -264,12 +265,22 @@ impl Core {
             return refuse(NOT_ENOUGH_MEMORY);
         }
         let number = self.journal.len() as u64;
-        match self.tree.set_value(self.alloc, name.as_slice(), kind, bytes.as_slice(), moment) {
+        let root = self.tree.root();
+        match self.tree.set_value(
+            self.alloc,
+            root,
+            name.as_slice(),
+            kind,
+            bytes.as_slice(),
+            moment,
+        ) {
             Ok(()) => {}
             Err(TreeFault::Full) => return refuse(NO_SYSTEM_RESOURCES),
             Err(TreeFault::Memory) => return refuse(NOT_ENOUGH_MEMORY),
-            Err(TreeFault::NotFound) => unreachable!(),
             Err(TreeFault::Limit) => unreachable!(),
+            Err(TreeFault::NotFound | TreeFault::HasChildren | TreeFault::NoDelete) => {
+                unreachable!()
+            }
         }
         let reply = accepted(number);
         self.journal.append(Entry {
@@ -314,7 +325,8 @@ impl Core {
             return refuse(NOT_ENOUGH_MEMORY);
         }
         let number = self.journal.len() as u64;
-        match self.tree.delete_value(name.as_slice(), moment) {
+        let root = self.tree.root();
+        match self.tree.delete_value(root, name.as_slice(), moment) {
             Ok(()) => {}
             Err(_) => unreachable!(),
         }
@@ -396,7 +408,8 @@ impl Core {
                 status: ACCESS_DENIED,
             };
         }
-        match self.tree.find_value(name.as_slice()) {
+        let root = self.tree.root();
+        match self.tree.find_value(root, name.as_slice()) {
             Some(value) => told(self.alloc, &self.tree, value, room),
             None => AnswerBody::Refused {
                 status: FILE_NOT_FOUND,
@@ -442,7 +455,7 @@ fn told(alloc: Global, tree: &Tree, value: ValueFound, room: Option<u32>) -> Ans
             size,
         };
     }
-    match tree.value_bytes(alloc, index) {
+    match tree.value_bytes(alloc, tree.root(), index) {
         Ok(bytes) => AnswerBody::Value {
             kind,
             size,

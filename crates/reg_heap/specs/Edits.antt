@@ -1,7 +1,8 @@
--- Keys changed in a tree (Win32 registry reference, `RegSetValueEx`, `RegDeleteValue`).
-use Rattle.std.specs.Prelude.{ℕ, List, [], Option, Some, None}
-use Rattle.std.specs.FinMap.{get, insert}
-use Rattle.reg_heap.specs.Paths.{Path, Tree, Rec, Member}
+-- Keys changed in a tree (Win32 registry reference, `RegCreateKeyEx`, `RegDeleteKey`, `RegSetValueEx`, `RegDeleteValue`).
+use Rattle.std.specs.Prelude.{◌≡◌, ◌≢◌, ◌⊎◌, ◌<◌, ◌≤◌, ℕ, ◌+◌, ◌-◌, ◌==◌, Bool, false, List, [], ◌∷◌, ◌++◌, map, length, take, cond, is_some, bit_and, Option, Some, None}
+use Rattle.std.specs.FinMap.{get, insert, remove}
+use Rattle.reg_names.specs.Names.{folded, path_of}
+use Rattle.reg_heap.specs.Paths.{Path, Tree, Rec, Member, children_of}
 use Rattle.reg_heap.specs.Members.{values_with, values_without}
 
 abbrev pub values_of : Option Rec → List Member
@@ -26,3 +27,70 @@ edited t p f = put (get t p)
     put : Option Rec → Tree
     put None = t
     put (Some r) = insert t p (f r)
+
+-- ---- keys made and deleted
+
+-- a path that is written as text, folded
+abbrev pub folded_path : List ℕ → Path
+folded_path text = map folded (path_of text)
+
+-- the path of the key of that name right below one
+abbrev pub child_path : Path → List ℕ → Path
+child_path p name = p ++ folded name ∷ []
+
+abbrev pub descriptor_of : Option Rec → List ℕ
+descriptor_of None = []
+descriptor_of (Some r) = r.descriptor
+
+-- a key whose last write time is a moment
+abbrev pub at_time : ℕ → Rec → Rec
+at_time moment r = record r { time = moment }
+
+-- a made key: the name as given, no marks, no class, a descriptor, the moment, no values
+abbrev pub made_key : List ℕ → List ℕ → ℕ → Rec
+made_key name descriptor moment = record { name = name; marks = 0; class = []; descriptor = descriptor; time = moment; values = [] }
+
+-- a key made right below another, which has its time set and whose descriptor it shares
+abbrev pub with_key : Tree → Path → List ℕ → ℕ → Tree
+with_key t p name moment = insert (edited t p (at_time moment)) (child_path p name) (made_key name (descriptor_of (get t p)) moment)
+
+-- whether a key of that name is right below one
+abbrev pub has_child : Tree → Path → List ℕ → Bool
+has_child t p name = is_some (get t (child_path p name))
+
+-- of keys named one below the other, those that are missing made
+abbrev pub with_keys : Tree → Path → List (List ℕ) → ℕ → Tree
+with_keys t p [] moment = t
+with_keys t p (name ∷ names) moment = with_keys (cond (has_child t p name) t (with_key t p name moment)) (child_path p name) names moment
+
+-- of keys named one below the other, the names of those that are missing
+abbrev pub missing : Tree → Path → List (List ℕ) → List (List ℕ)
+missing t p [] = []
+missing t p (name ∷ names) = cond (has_child t p name) (missing t (child_path p name) names) (name ∷ names)
+
+-- the path of the last of them that is there
+abbrev pub last_there : Tree → Path → List (List ℕ) → Path
+last_there t p [] = p
+last_there t p (name ∷ names) = cond (has_child t p name) (last_there t (child_path p name) names) p
+
+-- one is missing, and they would be too many: more than 32 made by one call, a path of more than 512 names, or (temporary, until
+-- a key has index roots) a 501st key right below one
+pub record AreTooMany (t : Tree) (p : Path) (names : List (List ℕ)) : Type 0 where
+  pub some : missing t p names ≢ []
+  pub many : (32 < length (missing t p names)) ⊎ ((512 < length p + length names) ⊎ (500 ≤ length (children_of t (last_there t p names))))
+
+-- the path of the key above
+abbrev pub above : Path → Path
+above p = take (length p - 1) p
+
+-- a key removed, and the time of the one above it set
+abbrev pub without_key : Tree → Path → ℕ → Tree
+without_key t p moment = remove (edited t (above p) (at_time moment)) p
+
+abbrev pub marks_of : Option Rec → ℕ
+marks_of None = 0
+marks_of (Some r) = r.marks
+
+-- a key that may not be deleted: the root, or one with mark 0x08
+abbrev pub IsKept : Tree → Path → Type 0
+IsKept t p = (p ≡ []) ⊎ ((bit_and (marks_of (get t p)) 8 == 0) ≡ false)

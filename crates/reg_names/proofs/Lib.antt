@@ -4,3 +4,4 @@ pub mod Hashes
 pub mod Paths
 pub mod Parts
 pub mod Rows
+pub mod Firsts

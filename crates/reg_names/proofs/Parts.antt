@@ -69,7 +69,7 @@ are_key_names-over : (names : List (List ℕ)) → 0 < length names → are_key_
 unfolding are_key_names
 are_key_names-over names l = let t : nat_le (length names) 0 ≡ false = grind (arith, nat_tests) in ap (λ b. list_all is_key_name names && b) t ∙ and_false (list_all is_key_name names)
 
-are_key_names-none : (k : ℕ) → are_key_names k [] ≡ true
+pub are_key_names-none : (k : ℕ) → are_key_names k [] ≡ true
 unfolding are_key_names
 are_key_names-none k = let t : nat_le 0 k ≡ true = grind (arith, nat_tests) in rw t refl
 
@@ -79,7 +79,7 @@ pub record Left (limit i : ℕ) (text rest : List ℕ) : Type 0 where
   pub fault : names_fault limit (path_of text) ≡ names_fault (limit - i) (parts rest)
   pub valid : are_key_names limit (path_of text) ≡ are_key_names (limit - i) (parts rest)
 
-path_of-some : (text : List ℕ) → 0 < length text → path_of text ≡ parts text
+pub path_of-some : (text : List ℕ) → 0 < length text → path_of text ≡ parts text
 path_of-some [] l = absurd (omega arith)
 path_of-some (b ∷ bs) l = refl
 

@@ -1,6 +1,6 @@
 -- Names of keys and values (Win32 registry reference, "Registry Element Size Limits" and "Structure of the Registry"), and
 -- their hash (Suhanov, Windows registry file format specification, section "Subkeys list").
-use Rattle.std.specs.Prelude.{ℕ, ◌+◌, ◌-◌, ◌*◌, ◌%◌, ◌==◌, ◌&&◌, not, nat_lt, nat_le, Bool, List, [], ◌∷◌, map, take, length, if◌then◌else◌, Option, Some, None}
+use Rattle.std.specs.Prelude.{◌≡◌, ◌<◌, true, ℕ, ◌+◌, ◌-◌, ◌*◌, ◌%◌, ◌==◌, ◌&&◌, not, nat_lt, nat_le, Bool, List, [], ◌∷◌, map, take, length, if◌then◌else◌, Option, Some, None}
 use Rattle.std.specs.List.{list_all, fold as fold_list, slice_split, join_with_byte}
 use Rattle.std.specs.Option.{option_or}
 use Rattle.std.specs.Ordering.{nat_cmp}
@@ -92,3 +92,10 @@ is_path text = are_key_names 512 (path_of text)
 
 abbrev pub has_no_backslash : List ℕ → Bool
 has_no_backslash name = list_all (λ b. not (b == 92)) name
+
+-- a path's first name, and the path behind it
+pub record IsFirst (path name rest : List ℕ) : Type 0 where
+  pub names : path_of path ≡ name ∷ path_of rest
+  pub good : is_key_name name ≡ true
+  pub valid : is_path rest ≡ true
+  pub shorter : length rest < length path

@@ -3,9 +3,9 @@
 //! Win32 registry reference, "Registry Element Size Limits"; the limits to bytes 0x01 to 0x7F are this project's own.
 #![tactic(auto)]
 
-ghost use Rattle.std.specs.Prelude.{◌≡◌, ◌↔◌, IsTrue, MatchResult, Some, None, is_ok, take};
+ghost use Rattle.std.specs.Prelude.{◌≡◌, true, [], ◌↔◌, IsTrue, MatchOption, MatchResult, Some, None, is_ok, take};
 ghost use Rattle.std.specs.List.{list_all, position_or_len};
-ghost use Rattle.reg_names.specs.Names.{fold as fold_of, folded, name_cmp, hash, key_name_fault, value_name_fault, path_fault, is_key_name, is_value_name, is_path, is_backslash, is_key_name_byte as is_key_byte_of, is_value_name_byte as is_value_byte_of};
+ghost use Rattle.reg_names.specs.Names.{fold as fold_of, folded, name_cmp, hash, key_name_fault, value_name_fault, path_of, path_fault, is_key_name, is_value_name, is_path, IsFirst, is_backslash, is_key_name_byte as is_key_byte_of, is_value_name_byte as is_value_byte_of};
 
 use std::cmp::Ordering;
 use thiserror::Error;
@@ -108,6 +108,22 @@ fn first_length(path: &[u8]) -> usize
     path.iter()
         .position(|byte| *byte == b'\\')
         .unwrap_or(path.len())
+}
+
+/// The first name of a path, and the path behind it; `None` where the path has no names.
+#[tactic(auto, using(crate::proofs::Firsts::within))]
+pub fn first_name(path: &[u8]) -> Option<(&[u8], &[u8])>
+    requires { is_path path.now ≡ true }
+    ensures { MatchOption result (path_of path.now ≡ []) (λ p. IsFirst path.now p.0.now p.1.now) }
+{
+    if path.is_empty() {
+        return None;
+    }
+    let length = first_length(path);
+    if length == path.len() {
+        return Some((path, &[]));
+    }
+    Some((&path[..length], &path[length + 1..]))
 }
 
 /// Checks a path: at most 512 key names with one backslash between each two. The empty text is the path of no names.

@@ -78,3 +78,10 @@ fn hashes_of_names(rt: HostRuntime) {
         assert_eq!(rt; name_hash(name.as_bytes()), hash);
     }
 }
+
+#[test]
+fn first_names_of_paths(rt: HostRuntime) {
+    assert!(rt; first_name(b"").is_none());
+    assert_eq!(rt; first_name(b"Run"), Some((&b"Run"[..], &b""[..])));
+    assert_eq!(rt; first_name(b"A\\b\\C"), Some((&b"A"[..], &b"b\\C"[..])));
+}

@@ -60,13 +60,13 @@ depth-same place n m = way place n m (λ p F G. depth G ≡ depth F)
 
 -- ---- what the keys show
 
-abbrev AreAlike : List (ℕ × Node) → List (ℕ × Node) → Type 0
+abbrev pub AreAlike : List (ℕ × Node) → List (ℕ × Node) → Type 0
 AreAlike [] [] = Unit {0}
 AreAlike (a ∷ us) (b ∷ bs) = (b.0 ≡ a.0) × IsAlike a.1 b.1 × AreAlike us bs
 AreAlike [] (b ∷ bs) = ⊥
 AreAlike (a ∷ us) [] = ⊥
 
-alike-self : (us : List (ℕ × Node)) → AreAlike us us
+pub alike-self : (us : List (ℕ × Node)) → AreAlike us us
 alike-self [] = tt
 alike-self (a ∷ us) = (refl, record { name = refl; parent = refl; class_length = refl }, alike-self us)
 
@@ -88,7 +88,7 @@ all-alike P h [] (y ∷ ys) a l = absurd a
 all-alike P h (x ∷ xs) [] a l = absurd a
 all-alike P h (x ∷ xs) (y ∷ ys) a l = (h x y a.0 a.1 l.0, all-alike P h xs ys a.2 l.1)
 
-all-weaker : {A : Type 0} (P Q : A → Type 0) → ((x : A) → P x → Q x) → (xs : List A) → AllByRecursion P xs → AllByRecursion Q xs
+pub all-weaker : {A : Type 0} (P Q : A → Type 0) → ((x : A) → P x → Q x) → (xs : List A) → AllByRecursion P xs → AllByRecursion Q xs
 all-weaker P Q h [] l = tt
 all-weaker P Q h (x ∷ xs) l = (h x l.0, all-weaker P Q h xs l.1)
 
@@ -105,7 +105,7 @@ order-alike (x ∷ xs) (y ∷ ys) a l = (
   order-alike xs ys a.2 l.1,
 )
 
-fits-alike : (o : ℕ) (k : Node) (us bs : List (ℕ × Node)) → AreAlike us bs → Fits o k us → Fits o k bs
+pub fits-alike : (o : ℕ) (k : Node) (us bs : List (ℕ × Node)) → AreAlike us bs → Fits o k us → Fits o k bs
 fits-alike o k us bs a f = record {
   places = map-alike (λ (e : ℕ × Node). e.0) (λ x y e s. e) us bs a ∙ f.places;
   hashes = map-alike (λ (e : ℕ × Node). hash e.1.key.name) (λ x y e s. ap hash s.name) us bs a ∙ f.hashes;
@@ -118,7 +118,7 @@ fits-alike o k us bs a f = record {
 -- ---- the keys stand
 
 module _ (h k : Heap) (root : ℕ) where
-  forest-kept : (F : Forest Node) → Stand (IsSeen h root) Fits F → ((z : ℕ) → 0 < total (owns z) F → k z ≡ h z) → Stand (IsSeen k root) Fits F
+  pub forest-kept : (F : Forest Node) → Stand (IsSeen h root) Fits F → ((z : ℕ) → 0 < total (owns z) F → k z ≡ h z) → Stand (IsSeen k root) Fits F
   forest-kept End a s = tt
   forest-kept (Hangs o node b f) a s = (
     (seen-kept h k root o node a.0.0 (λ z l. s z (omega arith)), a.0.1, forest-kept b a.0.2 (λ z l. s z (omega arith))),
@@ -127,7 +127,7 @@ module _ (h k : Heap) (root : ℕ) where
 
   module _ (place : ℕ) (n m : Node) (x : IsExchanged h k root place n m) where
     -- a cell that the key did not have holds the same
-    keep : (z : ℕ) → owned z (cells_of n) ≡ 0 → 0 < allocated h z → k z ≡ h z
+    pub keep : (z : ℕ) → owned z (cells_of n) ≡ 0 → 0 < allocated h z → k z ≡ h z
     keep z none some =
         let c = x.swaps.count z in
         let a = at-most-one h z in
@@ -257,7 +257,7 @@ module _ (h k : Heap) where
     written = securities-kept (first ∷ others) a r.written;
   }
 
-all-members : (P : ℕ → Type 0) (xs : List ℕ) → ((z : ℕ) → 0 < times z xs → P z) → AllByRecursion P xs
+pub all-members : (P : ℕ → Type 0) (xs : List ℕ) → ((z : ℕ) → 0 < times z xs → P z) → AllByRecursion P xs
 all-members P [] h = tt
 all-members P (x ∷ xs) h = (
   h x (let one : ◌≡◌ {A = ℕ} (cond (eqb x x) 1 0) 1 = ap (λ b. cond b 1 0) (same-number x) in omega (arith, one)),

@@ -31,3 +31,14 @@ pub mod Retold
 pub mod Listing
 pub mod ListWriting
 pub mod ListRows
+pub mod Branches
+pub mod Grafted
+pub mod Told
+pub mod Grafting
+pub mod Hung
+pub mod Regrown
+pub mod Placed
+pub mod Exchanging
+pub mod Replaced
+pub mod ChildrenTold
+pub mod HungFits

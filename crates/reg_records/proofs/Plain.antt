@@ -11,10 +11,11 @@ use Rattle.reg_records.specs.declared.sk.SecurityFields.{SecurityFields}
 use Rattle.reg_records.specs.Cells.{held, WritesCell, WritesPart, WritesRecord}
 use Rattle.reg_records.specs.Keys.{key_at, nk_bytes, IsPlainKey}
 use Rattle.reg_records.specs.Values.{value_record_at, vk_bytes, IsPlainValue}
-use Rattle.reg_records.specs.Securities.{sk_bytes, IsPlainSecurity}
+use Rattle.reg_records.specs.Securities.{sk_bytes, security_at, IsPlainSecurity}
 use Rattle.reg_records.proofs.Splices.{number-below, number-above}
 use Rattle.reg_records.proofs.Keys.{key-room}
 use Rattle.reg_records.proofs.Values.{value-room}
+use Rattle.reg_records.proofs.Securities.{security-room}
 
 -- what was written is what the cell holds
 pub held-written : (old new : Bins) (cell : ℕ) (content : List ℕ) → WritesCell old new cell content → held (cell_at new.bytes) cell ≡ content
@@ -113,3 +114,9 @@ sk-plain fields descriptor rest = refl
 
 pub plain-security : (old new : Bins) (cell size : ℕ) (fields : SecurityFields) (descriptor : List ℕ) → WritesRecord old new cell size (sk_bytes fields descriptor) → IsPlainSecurity (held (cell_at new.bytes) cell)
 plain-security old new cell size fields descriptor w = ap (λ c. half c 2) (held-written old new cell _ w) ∙ sk-plain fields descriptor (drop size (held (cell_at old.bytes) cell))
+
+pub plain-shared : (old new : Bins) (cell count : ℕ) → IsSome (security_at (cell_at old.bytes) cell) → WritesPart old new cell 12 (little_bytes 4 count) → IsPlainSecurity (held (cell_at old.bytes) cell) → IsPlainSecurity (held (cell_at new.bytes) cell)
+plain-shared old new cell count s w k =
+    let room = security-room (cell_at old.bytes) cell 20 (omega arith) s in
+    ap (λ c. half c 2) (held-written old new cell _ w)
+    ∙ (half-kept 12 (little_bytes 4 count) (held (cell_at old.bytes) cell) (omega (arith, room.enough)) 2 (inl (omega arith)) ∙ k)

@@ -22,13 +22,13 @@ use Rattle.reg_records.proofs.Spelling.{Keys}
 use Rattle.reg_records.proofs.Trees.{path_total, path_same}
 use Rattle.reg_records.proofs.Exchanged.{way}
 
-abbrev same_name : List ℕ → List ℕ → Bool
+abbrev pub same_name : List ℕ → List ℕ → Bool
 same_name = eq_by_cmp (slice_cmp nat_cmp)
 
-abbrev same_path : Path → Path → Bool
+abbrev pub same_path : Path → Path → Bool
 same_path = eq_by_cmp path_cmp
 
-same-cons : (x y : List ℕ) (p q : Path) → same_path (x ∷ p) (y ∷ q) ≡ same_name x y && same_path p q
+pub same-cons : (x y : List ℕ) (p q : Path) → same_path (x ∷ p) (y ∷ q) ≡ same_name x y && same_path p q
 same-cons x y p q = by (slice_cmp nat_cmp x y) refl
   where
     by : (o : Ordering) → slice_cmp nat_cmp x y ≡ o → same_path (x ∷ p) (y ∷ q) ≡ same_name x y && same_path p q
@@ -36,7 +36,7 @@ same-cons x y p q = by (slice_cmp nat_cmp x y) refl
     by Equal e = rw e refl
     by Greater e = rw e refl
 
-name-is : (x y : List ℕ) → same_name x y ≡ true → x ≡ y
+pub name-is : (x y : List ℕ) → same_name x y ≡ true → x ≡ y
 name-is x y e = slice_cmp-IsAntisymmetric nat_cmp-IsAntisymmetric x y (by (slice_cmp nat_cmp x y) e)
   where
     by : (o : Ordering) → is_eq o ≡ true → o ≡ Equal
@@ -44,12 +44,12 @@ name-is x y e = slice_cmp-IsAntisymmetric nat_cmp-IsAntisymmetric x y (by (slice
     by Equal e = refl
     by Greater e = absurd (false≢true e)
 
-name-self : (x : List ℕ) → same_name x x ≡ true
+pub name-self : (x : List ℕ) → same_name x x ≡ true
 name-self x = ap is_eq (tied_itself nat_list_cmp_total x)
 
 -- ---- looking a path up
 
-abbrev or_else : Option Rec → Option Rec → Option Rec
+abbrev pub or_else : Option Rec → Option Rec → Option Rec
 or_else None other = other
 or_else (Some r) other = Some r
 
@@ -61,7 +61,7 @@ find-append q (e ∷ a) b = by (same_path q e.0) (find-append q a b)
     by true h = refl
     by false h = h
 
-abbrev prefixed : List ℕ → Keys → Keys
+abbrev pub prefixed : List ℕ → Keys → Keys
 prefixed name keys = map (λ (e : Path × Rec). (name ∷ e.0, e.1)) keys
 
 find-prefixed : (name x : List ℕ) (q : Path) (keys : Keys) → find path_cmp (x ∷ q) (prefixed name keys) ≡ cond (same_name x name) (find path_cmp q keys) None
@@ -79,20 +79,20 @@ find-prefixed name x q (e ∷ keys) =
     by false h = h
 
 -- what a key and those below it have at a path
-abbrev within : Rec → Keys → Path → Option Rec
+abbrev pub within : Rec → Keys → Path → Option Rec
 within rec keys [] = Some rec
 within rec keys (x ∷ q) = find path_cmp (x ∷ q) keys
 
-find-within : (rec : Rec) (keys : Keys) (q : Path) → find path_cmp q (([], rec) ∷ keys) ≡ within rec keys q
+pub find-within : (rec : Rec) (keys : Keys) (q : Path) → find path_cmp q (([], rec) ∷ keys) ≡ within rec keys q
 find-within rec keys [] = refl
 find-within rec keys (x ∷ q) = refl
 
-find-behind : (rec : Rec) (below beside : Keys) (x : List ℕ) (q : Path) → find path_cmp (x ∷ q) (behind rec below ++ beside) ≡ or_else (cond (same_name x (folded rec.name)) (within rec below q) None) (find path_cmp (x ∷ q) beside)
+pub find-behind : (rec : Rec) (below beside : Keys) (x : List ℕ) (q : Path) → find path_cmp (x ∷ q) (behind rec below ++ beside) ≡ or_else (cond (same_name x (folded rec.name)) (within rec below q) None) (find path_cmp (x ∷ q) beside)
 find-behind rec below beside x q =
     find-append (x ∷ q) (behind rec below) beside
     ∙ ap (λ o. or_else o (find path_cmp (x ∷ q) beside)) (find-prefixed (folded rec.name) x q (([], rec) ∷ below) ∙ ap (λ o. cond (same_name x (folded rec.name)) o None) (find-within rec below q))
 
-find-end : (rec : Rec) (below beside : Keys) → find path_cmp [] (behind rec below ++ beside) ≡ find path_cmp [] beside
+pub find-end : (rec : Rec) (below beside : Keys) → find path_cmp [] (behind rec below ++ beside) ≡ find path_cmp [] beside
 find-end rec below beside = find-append [] (behind rec below) beside ∙ ap (λ o. or_else o (find path_cmp [] beside)) (none (([], rec) ∷ below))
   where
     none : (keys : Keys) → find path_cmp [] (prefixed (folded rec.name) keys) ≡ None

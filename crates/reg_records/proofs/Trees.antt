@@ -242,7 +242,7 @@ is_less Less = true
 is_less Equal = false
 is_less Greater = false
 
-precedes-apart : (a b : List ℕ) → Precedes a b → folded a ≢ folded b
+pub precedes-apart : (a b : List ℕ) → Precedes a b → folded a ≢ folded b
 precedes-apart a b l e =
     false≢true (ap is_less (sym (tied_itself nat_list_cmp_total (folded a))) ∙ (ap (λ n. is_less (slice_cmp nat_cmp (folded a) n)) e ∙ ap is_less l))
 

@@ -13,3 +13,5 @@ pub mod Written
 pub mod Whole
 pub mod Shapes
 pub mod Exchanges
+pub mod Grafts
+pub mod Places

@@ -34,7 +34,7 @@ pub use nk::{
     set_largest_value_name, set_subkeys, set_subkeys_list, set_time, set_values,
 };
 pub use rows::{offset_at, put_offset};
-pub use sk::{SecurityFields, SecurityRecord, put_sk, read_sk};
+pub use sk::{SecurityFields, SecurityRecord, put_sk, read_sk, set_security_count};
 pub use vk::{ValueFields, ValueRecord, put_vk, read_vk, set_data};
 
 /// Why the content of a cell is no record: the first that holds, in this order.

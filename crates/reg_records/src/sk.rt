@@ -2,12 +2,13 @@
 //!
 //! Suhanov, Windows registry file format specification, section "Key security".
 
-ghost use Rattle.std.specs.Prelude.{◌≡◌, ◌+◌, ◌<◌, ◌^◌, length, MatchResult};
+ghost use Rattle.std.specs.Prelude.{◌≡◌, ◌+◌, ◌<◌, ◌^◌, length, MatchResult, IsSome};
+ghost use Rattle.byteorder.specs.Endian.{little_bytes};
 ghost use Rattle.reg_arena.specs.Cells.{cell_at};
-ghost use Rattle.reg_records.specs.Cells.{held, HasRoom, WritesRecord};
+ghost use Rattle.reg_records.specs.Cells.{held, HasRoom, WritesRecord, WritesPart, Rereads};
 ghost use Rattle.reg_records.specs.Securities.{FitSecurity, sk_of, sk_head, sk_bytes, security_at, IsPlainSecurity};
 
-use crate::cells::write_record;
+use crate::cells::{write_part, write_record};
 use crate::{RecordFault, is_signed, word_at, word_bytes};
 use reg_arena::Arena;
 
@@ -88,4 +89,14 @@ pub fn put_sk(arena: &mut Arena, cell: u32, fields: &SecurityFields, descriptor:
 {
     let head = head(fields, descriptor.len() as u32);
     write_record(arena, cell, &head, descriptor);
+}
+
+/// Writes how many key nodes use the descriptor of a key security.
+pub fn set_security_count(arena: &mut Arena, cell: u32, count: u32)
+    requires { IsSome (security_at (cell_at arena.old.bytes) cell) }
+    ensures written { WritesPart arena.old arena.new cell 12 (little_bytes 4 count) }
+    ensures reads { Rereads security_at arena.old arena.new cell (λ r. record r { fields = record r.fields { count = count } }) }
+    ensures plain { IsPlainSecurity (held (cell_at arena.old.bytes) cell) → IsPlainSecurity (held (cell_at arena.new.bytes) cell) }
+{
+    write_part(arena, cell, 12, &word_bytes(count));
 }

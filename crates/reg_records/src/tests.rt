@@ -226,6 +226,21 @@ fn a_security_and_a_row_in_cells(rt: HostRuntime) -> Result<(), Fail> {
 }
 
 #[test]
+fn a_security_counted_anew(rt: HostRuntime) -> Result<(), Fail> {
+    let mut arena = Arena::new(rt.alloc());
+    let (cell, _) = two_cells(&mut arena, rt.alloc())?;
+    put_sk(
+        &mut arena,
+        cell,
+        &SECURITY_FIELDS,
+        &[0x01, 0x00, 0x04, 0x80],
+    );
+    set_security_count(&mut arena, cell, 258);
+    assert_eq!(rt; &arena.content(cell)[12..16], [2, 1, 0, 0].as_slice());
+    Ok(())
+}
+
+#[test]
 fn a_big_data_record_is_read(rt: HostRuntime) -> Result<(), RecordFault> {
     assert_eq!(rt; read_db(&BIG)?, BIG_FIELDS);
     Ok(())

@@ -1,55 +1,27 @@
 -- A key whose values were changed: what its own cells are then, and that nothing else of it changed.
-use Rattle.std.proofs.Common.{◌≡◌, ◌≢◌, ℕ, zero, suc, ◌+◌, ◌*◌, ◌<◌, ◌≤◌, max, Bool, true, false, cond, eqb, ◌⊎◌, inl, inr, Option, Some, None, List, [], ◌∷◌, ◌++◌, length, refl, sym, ap, ◌∙◌, subst, arith, IsSome, is_some}
+use Rattle.std.proofs.Common.{◌≡◌, ◌≢◌, ℕ, ◌+◌, ◌*◌, ◌<◌, ◌≤◌, max, cond, ◌⊎◌, inl, inr, Option, Some, List, ◌++◌, length, refl, sym, ap, ◌∙◌, subst, arith, is_some}
 use Rattle.std.specs.List.{AllByRecursion}
 use Rattle.std.specs.Option.{option_map, option_and_then}
 use Rattle.std.proofs.lemmas.Bool.{cases_eq}
 use Rattle.reg_heap.specs.Paths.{Member}
 use Rattle.reg_heap.specs.Heaps.{Heap, Swaps, allocated}
-use Rattle.reg_heap.specs.Kinds.{Kind, Found, is_own, is_shared, is_security, owned, shared}
-use Rattle.reg_heap.specs.Kinds.Kind.{Key, Class, Security}
-use Rattle.reg_records.specs.Cells.{held}
+use Rattle.reg_heap.specs.Kinds.{Found, is_own, owned, shared}
+use Rattle.reg_heap.specs.Kinds.Kind.{Key, Class}
 use Rattle.reg_records.specs.Keys.{KeyRecord, key_at, IsPlainKey}
 use Rattle.reg_records.specs.Pieces.{if_any}
-use Rattle.reg_records.specs.Nodes.{Node, Index, pieces_at, members_at, index_at, node_of, node_in, met_of, look}
-use Rattle.reg_records.specs.Written.{AreWritten, Fits}
+use Rattle.reg_records.specs.Nodes.{Node, members_at, index_at, node_of, node_in, met_of, look}
 use Rattle.reg_records.specs.Shapes.{index_cells, cells_of, IsSeen}
 use Rattle.reg_records.specs.Exchanges.{IsExchanged}
-use Rattle.reg_records.proofs.Standing.{IsLooked, look-open}
-use Rattle.reg_records.proofs.Counts.{tally-append}
-use Rattle.reg_records.proofs.Inner.{is_inner, AreInner, class-inner, members-inner}
+use Rattle.reg_records.proofs.Standing.{IsLooked}
+use Rattle.reg_records.proofs.Inner.{class-inner, members-inner}
 use Rattle.reg_records.proofs.Locals.{pieces-local, members-local}
-use Rattle.reg_records.proofs.LocalKeys.{Keeps, inner-own, agree-inner, index-local}
+use Rattle.reg_records.proofs.LocalKeys.{Keeps, agree-inner, index-local}
 use Rattle.reg_records.proofs.LocalWritten.{same-held, list-kept}
-use Rattle.reg_records.proofs.Wholes.{at-most-one, allocated-is, own-here}
+use Rattle.reg_records.proofs.Wholes.{at-most-one, allocated-is}
 use Rattle.reg_values.specs.Lists.{Became}
 use Rattle.reg_tree.specs.Changes.{Notes, noted}
+use Rattle.reg_tree.proofs.Parts.{own-parts, shared-parts, inner-unshared, key-here}
 use Rattle.reg_tree.proofs.Openings.{is_some_of, key-exists, key-moved, look-key}
-
--- ---- what a key has as its own, and as its security
-
-pub own-parts : (z place : ℕ) (key : KeyRecord) (class values : List Found) (index : Index) → owned z (met_of place key class values ++ index_cells index) ≡ is_own z (record { kind = Key; offset = place }) + ((owned z class + owned z values) + owned z (index_cells index))
-own-parts z place key class values index =
-    let a = tally-append (is_own z) (met_of place key class values) (index_cells index) in
-    let b = tally-append (is_own z) class (record { kind = Security; offset = key.fields.security } ∷ values) in
-    omega (arith, a, b)
-
-pub shared-parts : (z place : ℕ) (key : KeyRecord) (class values : List Found) (index : Index) → shared z (met_of place key class values ++ index_cells index) ≡ shared z class + ((is_shared z (record { kind = Security; offset = key.fields.security }) + shared z values) + shared z (index_cells index))
-shared-parts z place key class values index =
-    let a = tally-append (is_shared z) (met_of place key class values) (index_cells index) in
-    let b = tally-append (is_shared z) class (record { kind = Security; offset = key.fields.security } ∷ values) in
-    omega (arith, a, b)
-
--- what is met inside a key is no security
-pub inner-unshared : (z : ℕ) (found : List Found) → AreInner found → ◌≡◌ {A = ℕ} (shared z found) 0
-inner-unshared z [] a = refl
-inner-unshared z (f ∷ found) a =
-    let none : ◌≡◌ {A = ℕ} (is_shared z f) 0 = ap (λ b. cond b (cond (eqb f.offset z) 1 0) 0) (inner-own f.kind a.0) in
-    let rest = inner-unshared z found a.1 in
-    omega (arith, none, rest)
-
--- a key's own cell is met at its place, and at no other
-key-here : (z place : ℕ) → z ≡ place → is_own z (record { kind = Key; offset = place }) ≡ 1
-key-here z place e = ap (λ x. is_own x (record { kind = Key; offset = place })) e ∙ own-here (record { kind = Key; offset = place }) refl
 
 -- ---- a key's values changed: `h` before, `i` when the values had changed, `j` when that was noted in the key node
 

@@ -1,20 +1,23 @@
 -- A new hive's tree.
 use Rattle.std.proofs.Common.{◌≡◌, ℕ, List, [], ap, ◌∙◌, refl}
 use Rattle.std.specs.FinMap.{insert, empty}
-use Rattle.reg_heap.specs.Paths.{Rec, path_cmp}
+use Rattle.reg_heap.specs.Paths.{path_cmp}
 use Rattle.reg_arena.specs.Cells.{cell_at}
+use Rattle.reg_records.proofs.Branches.{whole-shape}
 use Rattle.reg_tree.specs.Keys.{tree_in, made_root}
 use Rattle.reg_tree.specs.Holds.{Holds}
+use Rattle.reg_tree.proofs.Single.{tree-alone}
 use Rattle.reg_tree.proofs.FreshShape.{IsMade, fresh-shape, fresh-rec}
-use Rattle.reg_tree.proofs.Changed.{one_root}
+use Rattle.reg_tree.proofs.Here.{spelt_is}
 
 pub fresh_holds : (bytes : List ℕ) (root : ℕ) (name descriptor : List ℕ) (moment : ℕ) → IsMade (cell_at bytes) root name descriptor moment → Holds bytes root
 fresh_holds bytes root name descriptor moment m =
-    record { keys = _; first = m.root_is.key.fields.security; others = []; whole = fresh-shape (cell_at bytes) root m.root_is; alone = refl }
+    record { keys = _; first = m.root_is.key.fields.security; shape = whole-shape (cell_at bytes) root _ m.root_is.key.fields.security [] (fresh-shape (cell_at bytes) root m.root_is); unrooted = refl }
 
 pub fresh_tree : (bytes : List ℕ) (root : ℕ) (name descriptor : List ℕ) (moment : ℕ) → IsMade (cell_at bytes) root name descriptor moment → tree_in bytes root ≡ insert empty [] (made_root name descriptor moment)
 unfolding fresh_holds
 fresh_tree bytes root name descriptor moment m =
-    one_root bytes root (fresh_holds bytes root name descriptor moment m)
+    spelt_is bytes root (fresh_holds bytes root name descriptor moment m)
+    ∙ (tree-alone (cell_at bytes) (fresh_holds bytes root name descriptor moment m).keys refl
     ∙ (ap (insert (empty {R = path_cmp}) []) (fresh-rec (cell_at bytes) root m.root_is)
-    ∙ (λ i. insert empty [] (made_root (m.name_is i) (m.described i) (m.time i))))
+    ∙ (λ i. insert empty [] (made_root (m.name_is i) (m.described i) (m.time i)))))

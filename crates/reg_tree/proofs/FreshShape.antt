@@ -1,14 +1,12 @@
 -- A new hive's two cells are a whole hive's.
-use Rattle.std.proofs.Common.{◌≡◌, ◌≢◌, ℕ, ◌+◌, Bool, true, false, cond, eqb, Option, Some, None, List, [], ◌∷◌, ◌≤◌, length, refl, sym, ap, ◌∙◌, subst, arith, bit_and, not, is_some, ◌==◌, IsSome}
+use Rattle.std.proofs.Common.{◌≡◌, ◌≢◌, ℕ, Bool, true, false, cond, eqb, Option, Some, None, List, [], ◌∷◌, ◌≤◌, length, refl, sym, ap, ◌∙◌, subst, arith, bit_and, not, is_some, ◌==◌}
 use Rattle.std.specs.Prelude.{unwrap_or}
 use Rattle.std.specs.List.{AllByRecursion}
 use Rattle.std.specs.Option.{option_map, option_and_then}
-use Rattle.std.specs.FinMap.{insert, empty}
 use Rattle.std.proofs.lemmas.Bool.{eqb-true, eqb-false}
 use Rattle.reg_names.specs.Names.{is_key_name}
-use Rattle.reg_heap.specs.Paths.{Rec}
 use Rattle.reg_heap.specs.Heaps.{Heap, allocated}
-use Rattle.reg_heap.specs.Kinds.{Found, times, owned, shared}
+use Rattle.reg_heap.specs.Kinds.{times}
 use Rattle.reg_heap.specs.Kinds.Kind.{Class}
 use Rattle.reg_heap.specs.Forests.{Branch, total_of}
 use Rattle.reg_heap.specs.Forests.Forest.{End}
@@ -26,12 +24,12 @@ use Rattle.reg_records.specs.Nodes.Index.{Unlisted}
 use Rattle.reg_records.specs.Written.{AreWrittenValues, IsWrittenValue}
 use Rattle.reg_records.specs.Whole.{IsRing, count_at}
 use Rattle.reg_records.specs.Spelt.{rec_of, name_of, marks_of}
-use Rattle.reg_records.specs.Shapes.{owns, shares, IsSeen, descriptor_in, tree_of, IsWholeShape}
+use Rattle.reg_records.specs.Shapes.{shares, IsSeen, descriptor_in, IsWholeShape}
 use Rattle.reg_records.proofs.Securities.{security_at-same}
 use Rattle.reg_records.proofs.Fewer.{same-number}
 use Rattle.reg_records.proofs.Wholes.{allocated-is}
 use Rattle.reg_tree.specs.Keys.{made_root}
-use Rattle.reg_tree.specs.Fresh.{AreCarved, IsRootFields, IsOnlySecurity, IsFreshRoot}
+use Rattle.reg_tree.specs.Fresh.{AreCarved, IsOnlySecurity, IsFreshRoot}
 use Rattle.reg_tree.proofs.Openings.{is_some_of}
 
 -- ---- the root as it is read

@@ -1,37 +1,36 @@
--- What is told of the root's values.
+-- What is told of a key's values.
 use Rattle.std.proofs.Common.{◌≡◌, ℕ, ◌<◌, ◌≤◌, ◌⊎◌, inl, inr, true, false, Option, Some, None, IsSome, List, [], length, refl, sym, ap, ◌∙◌, subst, arith, slice_get, get_or, is_some, is_none, Bool, not}
 use Rattle.std.specs.Option.{option_and_then}
-use Rattle.reg_heap.specs.Paths.{Member, Tree}
+use Rattle.reg_heap.specs.Paths.{Member}
 use Rattle.reg_heap.specs.Kinds.{Found}
 use Rattle.reg_heap.specs.Members.{value_named, place_named}
 use Rattle.reg_heap.specs.Edits.{values_at}
 use Rattle.reg_arena.specs.Cells.{cell_at}
 use Rattle.reg_records.specs.Nodes.{members_at}
-use Rattle.reg_values.specs.Lists.{AreValues, IsNamed, Tells}
+use Rattle.reg_values.specs.Lists.{IsNamed, Tells}
 use Rattle.std.proofs.lemmas.Option.{slice_get-get_or, same_Some}
 use Rattle.std.proofs.lemmas.Bool.{false≢true}
 use Rattle.reg_values.proofs.Found.{place-within}
 use Rattle.reg_values.proofs.Telling.{named-at}
-use Rattle.reg_tree.specs.declared.value.ValueFound.{ValueFound}
 use Rattle.reg_tree.specs.Keys.{tree_in}
-use Rattle.reg_tree.specs.Holds.{Holds}
+use Rattle.reg_tree.specs.Holds.{IsHere}
 use Rattle.std.specs.Prelude.{Result, Ok, Err, ◌↔◌}
 use Rattle.reg_arena.specs.declared.ArenaFault.{ArenaFault}
 use Rattle.reg_arena.specs.declared.ArenaFault.TheVariants.{Full, Memory}
-use Rattle.reg_tree.specs.declared.tree.TreeFault.{TreeFault}
-use Rattle.reg_tree.specs.declared.tree.TreeFault.TheVariants.{Limit}
+use Rattle.reg_tree.specs.declared.fault.TreeFault.{TreeFault}
+use Rattle.reg_tree.specs.declared.fault.TreeFault.TheVariants.{Limit}
 use Rattle.reg_tree.specs.Faults.{of_arena}
 use Rattle.reg_tree.specs.Changes.{HasList, IsFound}
 use Rattle.reg_tree.proofs.Openings.{is_some_of}
-use Rattle.reg_tree.proofs.Changed.{values_are, looked, list_reads, list_length}
+use Rattle.reg_tree.proofs.Here.{branch, values_are, looked, list_reads, list_length}
 
-module _ (bytes : List ℕ) (root : ℕ) (t : Holds bytes root) (count place : ℕ) (has : HasList (cell_at bytes) root count place) (name : List ℕ) where
+module _ (bytes : List ℕ) (key : ℕ) (t : IsHere bytes key) (count place : ℕ) (has : HasList (cell_at bytes) key count place) (name : List ℕ) where
   abbrev members : List Member
-  members = values_at (tree_in bytes root) []
+  members = values_at (tree_in bytes t.root) t.path
 
   -- what a reading of the list tells is told of the tree's values
   pub of_members : (P : List Member → Type 0) → ((ms : List Member) (met : List Found) → members_at count place (cell_at bytes) ≡ Some (ms, met) → P ms) → P members
-  of_members P h = subst P (sym (values_are bytes root t)) (h _ _ (list_reads bytes root t count place has))
+  of_members P h = subst P (sym (values_are bytes key t)) (h _ _ (list_reads bytes key t count place has))
 
   pub found_none : (found : Option ℕ) → ((ms : List Member) (met : List Found) → members_at count place (cell_at bytes) ≡ Some (ms, met) → found ≡ place_named name ms) → found ≡ None → value_named name members ≡ None
   found_none found h none =
@@ -42,7 +41,7 @@ module _ (bytes : List ℕ) (root : ℕ) (t : Holds bytes root) (count place : �
 
   pub some_within : (index : ℕ) → ((ms : List Member) (met : List Found) → members_at count place (cell_at bytes) ≡ Some (ms, met) → Some index ≡ place_named name ms) → index < count
   some_within index h =
-      let within = place-within name members index (sym (of_members (λ ms. Some index ≡ place_named name ms) h)) in omega (arith, within, list_length bytes root t count place has)
+      let within = place-within name members index (sym (of_members (λ ms. Some index ≡ place_named name ms) h)) in omega (arith, within, list_length bytes key t count place has)
 
   pub some_told : (index : ℕ) (told : List ℕ) (kind size : ℕ) → ((ms : List Member) (met : List Found) → members_at count place (cell_at bytes) ≡ Some (ms, met) → Some index ≡ place_named name ms)
       → ((ms : List Member) (met : List Found) → members_at count place (cell_at bytes) ≡ Some (ms, met) → (member : Member) × (slice_get ms index ≡ Some member) × Tells member told kind size)
@@ -53,18 +52,26 @@ module _ (bytes : List ℕ) (root : ℕ) (t : Holds bytes root) (count place : �
       let is : value_named name members ≡ Some m.0 = named-at name members ∙ (ap (option_and_then (slice_get members)) (sym at) ∙ m.1) in
       subst (λ (o : Option Member). IsFound members o (Some (record { index = index; kind = kind; size = size }))) (sym is) (m.1, m.2.kind_is, m.2.size_is)
 
+  -- what is told of the value at a place
+  pub value_at_told : (index : ℕ) (told : List ℕ) (kind size : ℕ) → ((ms : List Member) (met : List Found) → members_at count place (cell_at bytes) ≡ Some (ms, met) → (member : Member) × (slice_get ms index ≡ Some member) × Tells member told kind size)
+      → (member : Member) × (slice_get members index ≡ Some member) × Tells member told kind size
+  value_at_told index told kind size k = of_members (λ ms. (member : Member) × (slice_get ms index ≡ Some member) × Tells member told kind size) k
+
+  pub past_end : (index : ℕ) → count ≤ index → length members ≤ index
+  past_end index l = let n = list_length bytes key t count place has in omega (arith, l, n)
+
   -- a name that was found is one of the list's
   pub some_named : (index : ℕ) → ((ms : List Member) (met : List Found) → members_at count place (cell_at bytes) ≡ Some (ms, met) → Some index ≡ place_named name ms)
       → IsNamed (cell_at bytes) count place name
   some_named index h =
-      let reads = list_reads bytes root t count place has in
+      let reads = list_reads bytes key t count place has in
       let at = h _ _ reads in
-      let got = slice-within t.keys.node.values index (place-within name t.keys.node.values index (sym at)) in
+      let got = slice-within (branch bytes key t).node.values index (place-within name (branch bytes key t).node.values index (sym at)) in
       record {
-        members = t.keys.node.values;
-        met = (looked bytes root t).value_cells;
+        members = (branch bytes key t).node.values;
+        met = (looked bytes key t).value_cells;
         reads = reads;
-        there = is_some_of _ _ (named-at name t.keys.node.values ∙ (ap (option_and_then (slice_get t.keys.node.values)) (sym at) ∙ got.1));
+        there = is_some_of _ _ (named-at name (branch bytes key t).node.values ∙ (ap (option_and_then (slice_get (branch bytes key t).node.values)) (sym at) ∙ got.1));
       }
     where
       slice-within : (ms : List Member) (i : ℕ) → i < length ms → (m : Member) × (slice_get ms i ≡ Some m)
@@ -72,15 +79,15 @@ module _ (bytes : List ℕ) (root : ℕ) (t : Holds bytes root) (count place : �
 
   -- and none is missing among fewer than 16,384, or among those that have it
   pub not_full : (count < 16384) ⊎ IsNamed (cell_at bytes) count place name → 16384 ≤ length members → value_named name members ≡ None → ⊥
-  not_full (inl few) many none = omega (arith, few, many, list_length bytes root t count place has)
+  not_full (inl few) many none = omega (arith, few, many, list_length bytes key t count place has)
   not_full (inr n) many none =
-      let same : n.members ≡ t.keys.node.values = ap (λ (p : List Member × List Found). p.0) (same_Some _ _ (sym n.reads ∙ list_reads bytes root t count place has)) in
-      let there = subst (λ (ms : List Member). IsSome (value_named name ms)) (same ∙ sym (values_are bytes root t)) n.there in
+      let same : n.members ≡ (branch bytes key t).node.values = ap (λ (p : List Member × List Found). p.0) (same_Some _ _ (sym n.reads ∙ list_reads bytes key t count place has)) in
+      let there = subst (λ (ms : List Member). IsSome (value_named name ms)) (same ∙ sym (values_are bytes key t)) n.there in
       absurd (false≢true (sym (ap is_some none) ∙ there))
 
   pub full_by : (found : Option ℕ) → ((ms : List Member) (met : List Found) → members_at count place (cell_at bytes) ≡ Some (ms, met) → found ≡ place_named name ms) → 16384 ≤ count → is_none found ≡ true
       → (16384 ≤ length members) × (value_named name members ≡ None)
-  full_by None h many e = (omega (arith, many, list_length bytes root t count place has), found_none None h refl)
+  full_by None h many e = (omega (arith, many, list_length bytes key t count place has), found_none None h refl)
   full_by (Some index) h many e = absurd (false≢true e)
 
   pub room_by : (found : Option ℕ) → ((ms : List Member) (met : List Found) → members_at count place (cell_at bytes) ≡ Some (ms, met) → found ≡ place_named name ms) → is_none found ≡ false

@@ -1,5 +1,5 @@
 -- The two cells of a new hive (Suhanov, Windows registry file format specification, "Key node", "Key security").
-use Rattle.std.specs.Prelude.{◌≡◌, ◌≢◌, ℕ, ◌-◌, ◌≤◌, true, List, [], ◌∷◌, length, Some, None, replicate}
+use Rattle.std.specs.Prelude.{◌≡◌, ◌≢◌, ℕ, ◌-◌, ◌≤◌, true, [], ◌∷◌, length, Some, None, replicate}
 use Rattle.reg_names.specs.Names.{is_key_name}
 use Rattle.reg_heap.specs.Heaps.{Heap, allocated}
 use Rattle.reg_heap.specs.Kinds.{times}

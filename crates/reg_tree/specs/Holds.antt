@@ -1,23 +1,42 @@
 -- What is true of every tree's cells.
-use Rattle.std.specs.Prelude.{◌≡◌, ℕ, List, []}
-use Rattle.reg_heap.specs.Forests.{Branch}
-use Rattle.reg_heap.specs.Forests.Forest.{End}
-use Rattle.reg_arena.specs.Cells.{cell_at}
-use Rattle.reg_records.specs.Nodes.{Node}
-use Rattle.reg_records.specs.Shapes.{IsWholeShape}
-use Rattle.reg_heap.specs.Paths.{Rec}
+use Rattle.std.specs.Prelude.{◌≡◌, ℕ, Some, List, []}
+use Rattle.reg_heap.specs.Forests.{Branch, total_of}
+use Rattle.reg_heap.specs.Paths.{Path, Rec}
 use Rattle.reg_heap.specs.Edits.{edited}
+use Rattle.reg_arena.specs.Cells.{cell_at}
+use Rattle.reg_records.specs.Nodes.{Node, Index}
+use Rattle.reg_records.specs.Nodes.Index.{Unlisted, Listed, Rooted}
+use Rattle.reg_records.specs.Grafts.{IsShape}
+use Rattle.reg_records.specs.Places.{place_at}
 use Rattle.reg_tree.specs.Keys.{tree_in}
 
--- the keys stand in the cells, and have all of them (temporary: the root is alone, until keys can be made)
+-- 1 for an index root, and else 0
+abbrev pub is_rooted : Index → ℕ
+is_rooted Unlisted = 0
+is_rooted (Listed list) = 0
+is_rooted (Rooted place lists) = 1
+
+-- 1 for a key whose subkeys stand in an index root, and else 0
+abbrev pub rooted : ℕ → Node → ℕ
+rooted place node = is_rooted node.index
+
+-- the keys stand in the cells, and have all of them (temporary: they all use one security, until keys can have their own, and none
+-- has more than one list of subkeys, until there are index roots)
 pub record Holds (bytes : List ℕ) (root : ℕ) : Type 0 where
   pub keys : Branch Node
   pub first : ℕ
-  pub others : List ℕ
-  pub whole : IsWholeShape (cell_at bytes) root keys first others
-  pub alone : keys.below ≡ End
+  pub shape : IsShape (cell_at bytes) root keys first [] []
+  pub unrooted : total_of rooted keys ≡ 0
 
--- the root's record was changed so, and nothing else of the tree
-pub record IsChanged (old new : List ℕ) (root : ℕ) (f : Rec → Rec) : Type 0 where
+-- a key of the tree, and its path
+pub record IsHere (bytes : List ℕ) (key : ℕ) : Type 0 where
+  pub root : ℕ
+  pub path : Path
+  pub holds : Holds bytes root
+  pub at : place_at (cell_at bytes) root path ≡ Some key
+
+-- the key at a path was changed so, and nothing else of the tree; each key stays where it stands
+pub record IsChanged (old new : List ℕ) (root : ℕ) (path : Path) (f : Rec → Rec) : Type 0 where
   pub holds : Holds new root
-  pub tree : tree_in new root ≡ edited (tree_in old root) [] f
+  pub tree : tree_in new root ≡ edited (tree_in old root) path f
+  pub places : (p : Path) → place_at (cell_at new) root p ≡ place_at (cell_at old) root p

@@ -1,14 +1,16 @@
 -- A hive's keys as they are seen from above: the finite map that its cells spell.
-use Rattle.std.specs.Prelude.{◌≡◌, ℕ, List, [], length, Some, unwrap_or, refl}
+use Rattle.std.specs.Prelude.{◌≡◌, ℕ, List, [], length, Option, Some, None, IsSome, unwrap_or, refl}
 use Rattle.std.specs.Option.{option_and_then}
 use Rattle.std.specs.Coded.{Coded, code_by, coded×, coded_ℕ}
-use Rattle.std.specs.FinMap.{empty}
-use Rattle.reg_heap.specs.Paths.{Tree, Rec, coded_bytes, coded_tree}
+use Rattle.std.specs.FinMap.{empty, get}
+use Rattle.reg_heap.specs.Paths.{Path, Tree, Rec, coded_bytes, coded_tree}
 use Rattle.reg_arena.specs.declared.Cell.{Cell}
 use Rattle.reg_arena.specs.Arena.{Bins}
 use Rattle.reg_arena.specs.Cells.{cells_of, cell_at}
 use Rattle.reg_records.specs.Spelt.{spelt}
 use Rattle.reg_records.specs.Whole.{IsWhole}
+use Rattle.reg_records.specs.Places.{place_at}
+use Rattle.reg_tree.specs.declared.node.Node.{Node}
 
 -- the bins, the root's cell, and the finite map from paths to keys
 pub record Keys : Type 0 where
@@ -38,3 +40,21 @@ pub record IsWholeTree (bytes : List ℕ) (root : ℕ) (tree : Tree) : Type 0 wh
 -- the key that a new hive's root is
 abbrev pub made_root : List ℕ → List ℕ → ℕ → Rec
 made_root name descriptor moment = record { name = name; marks = 8; class = []; descriptor = descriptor; time = moment; values = [] }
+
+-- a node is that of the key at a path: it has the offset of the key node at the end of the path, and the path's length
+pub record IsAt (keys : Keys) (path : Path) (node : Node) : Type 0 where
+  pub place : place_at (cell_at keys.bins.bytes) keys.root path ≡ Some node.offset
+  pub depth : node.depth ≡ length path
+
+-- a node is that of a key
+abbrev pub IsThere : Keys → Node → Type 0
+IsThere keys node = (path : Path) × IsAt keys path node
+
+-- what is at a path: a key with its node, or none
+abbrev pub IsResolved : Keys → Path → Option Node → Type 0
+IsResolved keys path None = get keys.tree path ≡ None
+IsResolved keys path (Some node) = IsAt keys path node × IsSome (get keys.tree path)
+
+-- each node stays that of the key at its path
+abbrev pub KeepsNodes : Keys → Keys → Type 0
+KeepsNodes old new = (path : Path) → (node : Node) → IsAt old path node → IsAt new path node

@@ -3,3 +3,7 @@ pub mod Fresh
 pub mod Holds
 pub mod Changes
 pub mod Faults
+pub mod Walks
+pub mod Deletes
+pub mod Growing
+pub mod Creates

@@ -1,48 +1,20 @@
-ghost use Rattle.std.specs.Prelude.{true, ◌≡◌, ◌↔◌, ◌≤◌, ◌<◌, ◌+◌, ℕ, List, [], length, Err, Some, None, OnOk, OnErr, IfOk, IfErr, IsSome, slice_get};
-ghost use Rattle.std.specs.FinMap.{insert, empty};
-ghost use Rattle.reg_names.specs.Names.{is_key_name, is_value_name};
-ghost use Rattle.reg_heap.specs.Paths.{path_cmp, Member};
+ghost use Rattle.std.specs.Prelude.{true, ◌≡◌, ◌↔◌, ◌⊎◌, ◌≢◌, ◌≤◌, ◌<◌, ◌+◌, ◌++◌, ℕ, List, [], length, Err, Some, None, OnOk, OnErr, IfOk, IfErr, IsSome, MatchOption, slice_get, get_or};
+ghost use Rattle.std.specs.FinMap.{insert, empty, get};
+ghost use Rattle.reg_names.specs.Names.{is_key_name, is_value_name, is_path, path_of};
+ghost use Rattle.reg_heap.specs.Paths.{Path, path_cmp, Rec, Member, children_of};
 ghost use Rattle.reg_heap.specs.Members.{value_named};
-ghost use Rattle.reg_heap.specs.Edits.{edited, with_value, without_value, values_at};
+ghost use Rattle.reg_heap.specs.Edits.{edited, with_value, without_value, values_at, folded_path, with_keys, missing, AreTooMany, without_key, IsKept};
+ghost use Rattle.reg_values.specs.Lists.{Tells};
 
 use crate::cells::{carve_two, cell_size};
-use crate::root::{new_ring, new_root};
-use crate::{ValueFound, values};
+use crate::key::new_root;
+use crate::ring::new_ring;
+use crate::{Created, Node, TreeFault, ValueFound, find, make, read, unmake, values};
 use reg_arena::{Arena, ArenaFault};
 use reg_records::{put_nk, put_sk};
+use reg_values::Value;
 use std::alloc::{AllocError, Global};
 use std::marker::Model;
-use thiserror::Error;
-
-/// Why a tree didn't change; the first that holds.
-#[derive(Clone, Copy, Debug, PartialEq, Eq, Error)]
-pub enum TreeFault {
-    /// There is no value of that name.
-    #[error("there is no value of that name")]
-    NotFound,
-    /// The key has 16,384 values, and none of that name.
-    #[error("the key has as many values as there may be")]
-    Limit,
-    /// The bins have no room for the new cells.
-    #[error("the bins have no room")]
-    Full,
-    /// A growth was refused.
-    #[error("no memory")]
-    Memory,
-}
-
-impl From<ArenaFault> for TreeFault {
-    ghost use Rattle.reg_tree.specs.Faults.{of_arena};
-
-    ghost from_gives = { λ fault e. e ≡ of_arena fault };
-
-    fn from(fault: ArenaFault) -> TreeFault {
-        match fault {
-            ArenaFault::Full => TreeFault::Full,
-            ArenaFault::Memory => TreeFault::Memory,
-        }
-    }
-}
 
 /// The keys of a hive. Contracts see its bins and the finite map from paths to keys.
 #[derive(Drop)]
@@ -65,7 +37,7 @@ impl Model for Tree {
 }
 
 impl Tree {
-    ghost use Rattle.reg_tree.specs.Keys.{made_root, IsWholeTree};
+    ghost use Rattle.reg_tree.specs.Keys.{made_root, IsWholeTree, IsAt, IsThere, IsResolved, KeepsNodes};
     ghost use Rattle.reg_tree.specs.Changes.{IsFound};
 
     /// A tree of one root: the name as given, no delete, no class, the descriptor, the moment (100 ns ticks since 1601), no
@@ -102,58 +74,187 @@ impl Tree {
         &self.arena
     }
 
-    /// How many values the root has.
-    pub fn values(&self) -> u32
-        ensures { result ≡ length (values_at self.now.tree []) }
+    /// The root.
+    pub fn root(&self) -> Node
+        ensures { IsAt self.now [] result }
     {
-        values::count(&self.arena, self.root)
+        Node {
+            offset: self.root,
+            depth: 0,
+        }
     }
 
-    /// The root's value of that name, after folding, if it has one.
-    pub fn find_value(&self, name: &[u8]) -> Option<ValueFound>
-        ensures { IsFound (values_at self.now.tree []) (value_named name.now (values_at self.now.tree [])) result }
+    /// The key at the end of a path from a key, if it is there. The empty path leads to the key itself. Names are compared
+    /// after folding.
+    pub fn resolve(&self, from: Node, path: &[u8]) -> Option<Node>
+        requires from { IsThere self.now from }
+        requires path { is_path path.now ≡ true }
+        ensures { (p : Path) → IsAt self.now p from → IsResolved self.now (p ++ folded_path path.now) result }
     {
-        values::find(&self.arena, self.root, name)
+        find::resolve(&self.arena, from, path)
     }
 
-    /// The bytes of the root's value at a place, counted from 0.
-    pub fn value_bytes(&self, alloc: Global, index: u32) -> Result<Vec<u8>, AllocError>
-        requires { index < length (values_at self.now.tree []) }
-        ensures { IfOk result (λ bytes. (member : Member) × (slice_get (values_at self.now.tree []) index ≡ Some member) × (bytes.items ≡ member.bytes)) }
+    /// A key's name, as it was given.
+    pub fn name(&self, node: Node) -> &[u8]
+        requires { IsThere self.now node }
+        ensures { (p : Path) → IsAt self.now p node → (r : Rec) → get self.now.tree p ≡ Some r → result.now ≡ r.name }
     {
-        values::bytes(&self.arena, alloc, self.root, index)
+        read::name(&self.arena, node.offset)
     }
 
-    /// Sets a value of the root, and the root's time. A name that is there keeps its place and its first spelling; a new one
-    /// goes to the end. After a fault the tree is as before.
+    /// A key's last write time, in 100 ns ticks since 1601.
+    pub fn time(&self, node: Node) -> u64
+        requires { IsThere self.now node }
+        ensures { (p : Path) → IsAt self.now p node → (r : Rec) → get self.now.tree p ≡ Some r → result ≡ r.time }
+    {
+        read::time(&self.arena, node.offset)
+    }
+
+    /// The bytes of a key's security descriptor.
+    pub fn descriptor(&self, node: Node) -> &[u8]
+        requires { IsThere self.now node }
+        ensures { (p : Path) → IsAt self.now p node → (r : Rec) → get self.now.tree p ≡ Some r → result.now ≡ r.descriptor }
+    {
+        read::descriptor(&self.arena, node.offset)
+    }
+
+    /// How many keys are right below a key.
+    pub fn subkeys(&self, node: Node) -> u32
+        requires { IsThere self.now node }
+        ensures { (p : Path) → IsAt self.now p node → result ≡ length (children_of self.now.tree p) }
+    {
+        read::subkeys(&self.arena, node.offset)
+    }
+
+    /// The key at an index among those right below a key, counted from 0 in the order of their folded names; `None` where
+    /// there are not so many.
+    pub fn subkey(&self, node: Node, index: u32) -> Option<Node>
+        requires { IsThere self.now node }
+        ensures { (p : Path) → IsAt self.now p node → MatchOption result (length (children_of self.now.tree p) ≤ index) (λ child. (index < length (children_of self.now.tree p)) × IsAt self.now (get_or (children_of self.now.tree p) index []) child) }
+    {
+        read::subkey(&self.arena, node, index)
+    }
+
+    /// A key's value at an index, counted from 0 in the order in which the names were added, without its bytes; `None` where
+    /// there are not so many.
+    pub fn value(&self, node: Node, index: u32) -> Option<Value<'_>>
+        requires { IsThere self.now node }
+        ensures { (p : Path) → IsAt self.now p node → MatchOption result (length (values_at self.now.tree p) ≤ index) (λ value. (member : Member) × (slice_get (values_at self.now.tree p) index ≡ Some member) × Tells member value.name.now value.kind value.size) }
+    {
+        values::at(&self.arena, node.offset, index)
+    }
+
+    /// How many values a key has.
+    pub fn values(&self, node: Node) -> u32
+        requires { IsThere self.now node }
+        ensures { (p : Path) → IsAt self.now p node → result ≡ length (values_at self.now.tree p) }
+    {
+        values::count(&self.arena, node.offset)
+    }
+
+    /// A key's value of that name, after folding, if it has one.
+    pub fn find_value(&self, node: Node, name: &[u8]) -> Option<ValueFound>
+        requires { IsThere self.now node }
+        ensures { (p : Path) → IsAt self.now p node → IsFound (values_at self.now.tree p) (value_named name.now (values_at self.now.tree p)) result }
+    {
+        values::find(&self.arena, node.offset, name)
+    }
+
+    /// The bytes of a key's value at a place, counted from 0.
+    pub fn value_bytes(&self, alloc: Global, node: Node, index: u32) -> Result<Vec<u8>, AllocError>
+        requires { (p : Path) × IsAt self.now p node × (index < length (values_at self.now.tree p)) }
+        ensures { (p : Path) → IsAt self.now p node → IfOk result (λ bytes. (member : Member) × (slice_get (values_at self.now.tree p) index ≡ Some member) × (bytes.items ≡ member.bytes)) }
+    {
+        values::bytes(&self.arena, alloc, node.offset, index)
+    }
+
+    /// Sets a value of a key, and the key's time. A name that is there keeps its place and its first spelling; a new one goes to
+    /// the end. After a fault the tree is as before.
     ///
     /// `Limit` where the name is new and there are 16,384 values; `Full` only where the bins are within 1,310,720 bytes of
     /// their limit of 268,435,456; `Memory`.
     pub fn set_value(
         &mut self,
         alloc: Global,
+        node: Node,
         name: &[u8],
         kind: u32,
         bytes: &[u8],
         moment: u64,
     ) -> Result<(), TreeFault>
+        requires node { IsThere self.old node }
         requires name { is_value_name name.now ≡ true }
         requires bytes { length bytes.now ≤ 1048576 }
-        ensures ok { OnOk result (self.new.tree ≡ edited self.old.tree [] (with_value name.now kind bytes.now moment)) }
-        ensures limit { (result ≡ Err TreeFault.Limit) ↔ ((16384 ≤ length (values_at self.old.tree [])) × (value_named name.now (values_at self.old.tree []) ≡ None)) }
-        ensures found { (result ≡ Err TreeFault.NotFound) → ⊥ }
+        ensures ok { (p : Path) → IsAt self.old p node → OnOk result (self.new.tree ≡ edited self.old.tree p (with_value name.now kind bytes.now moment)) }
+        ensures nodes { OnOk result (KeepsNodes self.old self.new) }
+        ensures limit { (p : Path) → IsAt self.old p node → ((result ≡ Err TreeFault.Limit) ↔ ((16384 ≤ length (values_at self.old.tree p)) × (value_named name.now (values_at self.old.tree p) ≡ None))) }
         ensures full { (result ≡ Err TreeFault.Full) → 268435456 < length self.old.bins.bytes + 1310720 }
+        ensures others { IfErr result (λ fault. (fault ≡ TreeFault.Limit) ⊎ ((fault ≡ TreeFault.Full) ⊎ (fault ≡ TreeFault.Memory))) }
         ensures err { OnErr result (self.new ≡ self.old) }
     {
-        values::set(&mut self.arena, alloc, self.root, name, kind, bytes, moment)
+        values::set(
+            &mut self.arena,
+            alloc,
+            node.offset,
+            name,
+            kind,
+            bytes,
+            moment,
+        )
     }
 
-    /// Removes a value of the root, and sets the root's time. `NotFound` where there is none of that name; then the tree is as
+    /// Removes a value of a key, and sets the key's time. `NotFound` where there is none of that name; then the tree is as
     /// before.
-    pub fn delete_value(&mut self, name: &[u8], moment: u64) -> Result<(), TreeFault>
-        ensures ok { OnOk result (self.new.tree ≡ edited self.old.tree [] (without_value name.now moment)) }
-        ensures err { IfErr result (λ fault. (fault ≡ TreeFault.NotFound) × (value_named name.now (values_at self.old.tree []) ≡ None) × (self.new ≡ self.old)) }
+    pub fn delete_value(&mut self, node: Node, name: &[u8], moment: u64) -> Result<(), TreeFault>
+        requires { IsThere self.old node }
+        ensures ok { (p : Path) → IsAt self.old p node → OnOk result (self.new.tree ≡ edited self.old.tree p (without_value name.now moment)) }
+        ensures nodes { OnOk result (KeepsNodes self.old self.new) }
+        ensures found { (p : Path) → IsAt self.old p node → IfErr result (λ fault. (fault ≡ TreeFault.NotFound) × (value_named name.now (values_at self.old.tree p) ≡ None)) }
+        ensures err { OnErr result (self.new ≡ self.old) }
     {
-        values::delete(&mut self.arena, self.root, name, moment)
+        values::delete(&mut self.arena, node.offset, name, moment)
+    }
+
+    /// Makes the keys of a path from a key that are missing, each with the name as given and its parent's descriptor, and sets
+    /// the time of each and of the first one's parent. Answers the last key of the path, and whether a key was made. After a
+    /// fault the tree is as before.
+    ///
+    /// `Limit` where a key is missing and more than 32 are, or the path has more than 512 names from the root on, or the
+    /// first missing key's parent has 500 subkeys; `Full` only where the bins are within 1,310,720 bytes of their limit of
+    /// 268,435,456; `Memory`.
+    pub fn create(
+        &mut self,
+        alloc: Global,
+        from: Node,
+        path: &[u8],
+        moment: u64,
+    ) -> Result<Created, TreeFault>
+        requires from { IsThere self.old from }
+        requires path { is_path path.now ≡ true }
+        ensures ok { (p : Path) → IsAt self.old p from → OnOk result (self.new.tree ≡ with_keys self.old.tree p (path_of path.now) moment) }
+        ensures opened { (p : Path) → IsAt self.old p from → IfOk result (λ made. IsAt self.new (p ++ folded_path path.now) made.node × ((made.is_new ≡ true) ↔ (missing self.old.tree p (path_of path.now) ≢ []))) }
+        ensures nodes { OnOk result (KeepsNodes self.old self.new) }
+        ensures limit { (p : Path) → IsAt self.old p from → ((result ≡ Err TreeFault.Limit) ↔ AreTooMany self.old.tree p (path_of path.now)) }
+        ensures full { (result ≡ Err TreeFault.Full) → 268435456 < length self.old.bins.bytes + 1310720 }
+        ensures others { IfErr result (λ fault. (fault ≡ TreeFault.Limit) ⊎ ((fault ≡ TreeFault.Full) ⊎ (fault ≡ TreeFault.Memory))) }
+        ensures err { OnErr result (self.new ≡ self.old) }
+    {
+        make::create(&mut self.arena, alloc, from, path, moment)
+    }
+
+    /// Deletes a key with its values, and sets its parent's time. After a fault the tree is as before.
+    ///
+    /// `HasChildren` where the key has subkeys; `NoDelete` where it has none, and is the root or has mark 0x08. It takes no
+    /// memory.
+    pub fn delete_key(&mut self, node: Node, moment: u64) -> Result<(), TreeFault>
+        requires { IsThere self.old node }
+        ensures ok { (p : Path) → IsAt self.old p node → OnOk result (self.new.tree ≡ without_key self.old.tree p moment) }
+        ensures nodes { (p : Path) → IsAt self.old p node → OnOk result ((q : Path) → (other : Node) → IsAt self.old q other → q ≢ p → IsAt self.new q other) }
+        ensures children { (p : Path) → IsAt self.old p node → ((result ≡ Err TreeFault.HasChildren) ↔ (children_of self.old.tree p ≢ [])) }
+        ensures kept { (p : Path) → IsAt self.old p node → ((result ≡ Err TreeFault.NoDelete) ↔ ((children_of self.old.tree p ≡ []) × IsKept self.old.tree p)) }
+        ensures others { IfErr result (λ fault. (fault ≡ TreeFault.HasChildren) ⊎ (fault ≡ TreeFault.NoDelete)) }
+        ensures err { OnErr result (self.new ≡ self.old) }
+    {
+        unmake::delete(&mut self.arena, node.offset, moment)
     }
 }

@@ -1,36 +1,36 @@
-//! The root's values, in its cells.
-ghost use Rattle.std.specs.Prelude.{true, false, ◌≡◌, ◌↔◌, ◌⊎◌, ◌≤◌, ◌<◌, ◌+◌, ℕ, List, [], length, Err, Some, None, OnOk, OnErr, IfOk, IfErr, slice_get};
+//! A key's values, in its cells.
+ghost use Rattle.std.specs.Prelude.{true, false, ◌≡◌, ◌↔◌, ◌⊎◌, ◌≤◌, ◌<◌, ◌+◌, ℕ, List, [], length, Err, Some, None, OnOk, OnErr, IfOk, IfErr, MatchOption, slice_get};
 ghost use Rattle.reg_names.specs.Names.{is_value_name};
 ghost use Rattle.reg_heap.specs.Paths.{Member};
 ghost use Rattle.reg_heap.specs.Members.{value_named};
 ghost use Rattle.reg_heap.specs.Edits.{with_value, without_value, values_at};
 ghost use Rattle.reg_arena.specs.Cells.{cell_at};
-ghost use Rattle.reg_values.specs.Lists.{IsNamed};
+ghost use Rattle.reg_values.specs.Lists.{IsNamed, Tells};
 ghost use Rattle.reg_tree.specs.Keys.{tree_in};
-ghost use Rattle.reg_tree.specs.Holds.{Holds, IsChanged};
+ghost use Rattle.reg_tree.specs.Holds.{IsHere, IsChanged};
 ghost use Rattle.reg_tree.specs.Changes.{HasList, IsFound};
 
-use crate::root::{note_values, values_list};
+use crate::key::{note_values, values_list};
 use crate::{TreeFault, ValueFound};
 use reg_arena::Arena;
-use reg_values::ValuesList;
+use reg_values::{Value, ValuesList};
 use std::alloc::{AllocError, Global};
 
 /// How many values a key has at most.
 const VALUES_LIMIT: u32 = 16_384;
 
-pub fn count(arena: &Arena, root: u32) -> u32
-    requires { Holds arena.now.bytes root }
-    ensures { result ≡ length (values_at (tree_in arena.now.bytes root) []) }
+pub fn count(arena: &Arena, key: u32) -> u32
+    requires { IsHere arena.now.bytes key }
+    ensures { (t : IsHere arena.now.bytes key) → result ≡ length (values_at (tree_in arena.now.bytes t.root) t.path) }
 {
-    values_list(arena, root).count
+    values_list(arena, key).count
 }
 
-pub fn find(arena: &Arena, root: u32, name: &[u8]) -> Option<ValueFound>
-    requires { Holds arena.now.bytes root }
-    ensures { IsFound (values_at (tree_in arena.now.bytes root) []) (value_named name.now (values_at (tree_in arena.now.bytes root) [])) result }
+pub fn find(arena: &Arena, key: u32, name: &[u8]) -> Option<ValueFound>
+    requires { IsHere arena.now.bytes key }
+    ensures { (t : IsHere arena.now.bytes key) → IsFound (values_at (tree_in arena.now.bytes t.root) t.path) (value_named name.now (values_at (tree_in arena.now.bytes t.root) t.path)) result }
 {
-    let list = values_list(arena, root);
+    let list = values_list(arena, key);
     let Some(index) = reg_values::find(arena, list, name) else {
         return None;
     };
@@ -42,19 +42,29 @@ pub fn find(arena: &Arena, root: u32, name: &[u8]) -> Option<ValueFound>
     })
 }
 
-pub fn bytes(arena: &Arena, alloc: Global, root: u32, index: u32) -> Result<Vec<u8>, AllocError>
-    requires holds { Holds arena.now.bytes root }
-    requires index { index < length (values_at (tree_in arena.now.bytes root) []) }
-    ensures { IfOk result (λ bytes. (member : Member) × (slice_get (values_at (tree_in arena.now.bytes root) []) index ≡ Some member) × (bytes.items ≡ member.bytes)) }
+pub fn bytes(arena: &Arena, alloc: Global, key: u32, index: u32) -> Result<Vec<u8>, AllocError>
+    requires { (t : IsHere arena.now.bytes key) × (index < length (values_at (tree_in arena.now.bytes t.root) t.path)) }
+    ensures { (t : IsHere arena.now.bytes key) → IfOk result (λ bytes. (member : Member) × (slice_get (values_at (tree_in arena.now.bytes t.root) t.path) index ≡ Some member) × (bytes.items ≡ member.bytes)) }
 {
-    reg_values::bytes_of(arena, alloc, values_list(arena, root), index)
+    reg_values::bytes_of(arena, alloc, values_list(arena, key), index)
+}
+
+pub fn at(arena: &Arena, key: u32, index: u32) -> Option<Value<'_>>
+    requires { IsHere arena.now.bytes key }
+    ensures { (t : IsHere arena.now.bytes key) → MatchOption result (length (values_at (tree_in arena.now.bytes t.root) t.path) ≤ index) (λ value. (member : Member) × (slice_get (values_at (tree_in arena.now.bytes t.root) t.path) index ≡ Some member) × Tells member value.name.now value.kind value.size) }
+{
+    let list = values_list(arena, key);
+    if index >= list.count {
+        return None;
+    }
+    Some(reg_values::at(arena, list, index))
 }
 
 /// Whether there are as many values as there may be, and none of that name.
-fn is_full(arena: &Arena, root: u32, list: ValuesList, name: &[u8]) -> bool
-    requires holds { Holds arena.now.bytes root }
-    requires list { HasList (cell_at arena.now.bytes) root list.count list.place }
-    ensures full { result ≡ true → (16384 ≤ length (values_at (tree_in arena.now.bytes root) [])) × (value_named name.now (values_at (tree_in arena.now.bytes root) []) ≡ None) }
+fn is_full(arena: &Arena, key: u32, list: ValuesList, name: &[u8]) -> bool
+    requires here { IsHere arena.now.bytes key }
+    requires list { HasList (cell_at arena.now.bytes) key list.count list.place }
+    ensures full { (t : IsHere arena.now.bytes key) → result ≡ true → (16384 ≤ length (values_at (tree_in arena.now.bytes t.root) t.path)) × (value_named name.now (values_at (tree_in arena.now.bytes t.root) t.path) ≡ None) }
     ensures room { result ≡ false → (list.count < 16384) ⊎ IsNamed (cell_at arena.now.bytes) list.count list.place name.now }
 {
     if list.count < VALUES_LIMIT {
@@ -67,23 +77,23 @@ fn is_full(arena: &Arena, root: u32, list: ValuesList, name: &[u8]) -> bool
 pub fn set(
     arena: &mut Arena,
     alloc: Global,
-    root: u32,
+    key: u32,
     name: &[u8],
     kind: u32,
     bytes: &[u8],
     moment: u64,
 ) -> Result<(), TreeFault>
-    requires holds { Holds arena.old.bytes root }
+    requires here { IsHere arena.old.bytes key }
     requires name { is_value_name name.now ≡ true }
     requires bytes { length bytes.now ≤ 1048576 }
-    ensures ok { OnOk result (IsChanged arena.old.bytes arena.new.bytes root (with_value name.now kind bytes.now moment)) }
-    ensures limit { (result ≡ Err TreeFault.Limit) ↔ ((16384 ≤ length (values_at (tree_in arena.old.bytes root) [])) × (value_named name.now (values_at (tree_in arena.old.bytes root) []) ≡ None)) }
-    ensures found { (result ≡ Err TreeFault.NotFound) → ⊥ }
+    ensures ok { (t : IsHere arena.old.bytes key) → OnOk result (IsChanged arena.old.bytes arena.new.bytes t.root t.path (with_value name.now kind bytes.now moment)) }
+    ensures limit { (t : IsHere arena.old.bytes key) → ((result ≡ Err TreeFault.Limit) ↔ ((16384 ≤ length (values_at (tree_in arena.old.bytes t.root) t.path)) × (value_named name.now (values_at (tree_in arena.old.bytes t.root) t.path) ≡ None))) }
+    ensures others { IfErr result (λ fault. (fault ≡ TreeFault.Limit) ⊎ ((fault ≡ TreeFault.Full) ⊎ (fault ≡ TreeFault.Memory))) }
     ensures full { (result ≡ Err TreeFault.Full) → 268435456 < length arena.old.bytes + 1310720 }
     ensures err { OnErr result (arena.new ≡ arena.old) }
 {
-    let old = values_list(arena, root);
-    if is_full(arena, root, old, name) {
+    let old = values_list(arena, key);
+    if is_full(arena, key, old, name) {
         return Err(TreeFault::Limit);
     }
     let list = match reg_values::set(arena, alloc, old, name, kind, bytes) {
@@ -92,7 +102,7 @@ pub fn set(
     };
     note_values(
         arena,
-        root,
+        key,
         list,
         name.len() as u32,
         bytes.len() as u32,
@@ -102,16 +112,17 @@ pub fn set(
 }
 
 /// Removes a value, and notes it in the root's key node.
-pub fn delete(arena: &mut Arena, root: u32, name: &[u8], moment: u64) -> Result<(), TreeFault>
-    requires holds { Holds arena.old.bytes root }
-    ensures ok { OnOk result (IsChanged arena.old.bytes arena.new.bytes root (without_value name.now moment)) }
-    ensures err { IfErr result (λ fault. (fault ≡ TreeFault.NotFound) × (value_named name.now (values_at (tree_in arena.old.bytes root) []) ≡ None) × (arena.new ≡ arena.old)) }
+pub fn delete(arena: &mut Arena, key: u32, name: &[u8], moment: u64) -> Result<(), TreeFault>
+    requires { IsHere arena.old.bytes key }
+    ensures ok { (t : IsHere arena.old.bytes key) → OnOk result (IsChanged arena.old.bytes arena.new.bytes t.root t.path (without_value name.now moment)) }
+    ensures found { (t : IsHere arena.old.bytes key) → IfErr result (λ fault. (fault ≡ TreeFault.NotFound) × (value_named name.now (values_at (tree_in arena.old.bytes t.root) t.path) ≡ None)) }
+    ensures err { OnErr result (arena.new ≡ arena.old) }
 {
-    let old = values_list(arena, root);
+    let old = values_list(arena, key);
     let Some(_) = reg_values::find(arena, old, name) else {
         return Err(TreeFault::NotFound);
     };
     let list = reg_values::remove(arena, old, name);
-    note_values(arena, root, list, 0, 0, moment);
+    note_values(arena, key, list, 0, 0, moment);
     Ok(())
 }

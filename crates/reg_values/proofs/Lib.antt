@@ -19,3 +19,4 @@ pub mod Totals
 pub mod Replaced
 pub mod SetAgain
 pub mod Tested
+pub mod Cleared

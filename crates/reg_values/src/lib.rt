@@ -22,7 +22,7 @@ mod tests;
 pub use data::bytes_of;
 pub use look::{Value, at, find};
 pub use plan::plan_set;
-pub use removing::remove;
+pub use removing::{clear, remove};
 pub use setting::set;
 
 /// No cell.

@@ -4,6 +4,7 @@
 
 ghost use Rattle.std.specs.Prelude.{◌≡◌, ◌<◌, ◌≤◌, ◌+◌, ◌++◌, ℕ, List, Some, take, drop};
 ghost use Rattle.reg_heap.specs.Paths.{Member};
+ghost use Rattle.reg_heap.specs.Heaps.{Swaps};
 ghost use Rattle.reg_heap.specs.Kinds.{Found, owned};
 ghost use Rattle.reg_heap.specs.Members.{values_without};
 ghost use Rattle.reg_arena.specs.Cells.{cell_at};
@@ -64,4 +65,19 @@ pub fn remove(arena: &mut Arena, list: ValuesList, name: &[u8]) -> ValuesList
     let after = take_out(arena, list, index);
     free_value(arena, cell);
     after
+}
+
+/// Frees a list of values with all that it names: each value's cells, and then the list's own. It takes no memory.
+pub fn clear(arena: &mut Arena, list: ValuesList)
+    requires { AreValues (cell_at arena.old.bytes) list.count list.place }
+    ensures { (members : List Member) → (met : List Found) → members_at list.count list.place (cell_at arena.old.bytes) ≡ Some (members, met) → Swaps (cell_at arena.old.bytes) (cell_at arena.new.bytes) (λ offset. owned offset met) (λ offset. 0) }
+{
+    for index in 0..list.count {
+        let cell = cell_of(arena, list, index);
+        free_value(arena, cell);
+    }
+    if list.count == 0 {
+        return;
+    }
+    arena.free(list.place);
 }

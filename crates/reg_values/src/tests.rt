@@ -265,3 +265,13 @@ fn the_last_value_removed(rt: HostRuntime) -> Result<(), Fail> {
     assert_eq!(rt; cells(rt.alloc(), &arena)?.as_str(), "");
     Ok(())
 }
+
+// All values with their data, and the list, are freed.
+#[test]
+fn all_values_cleared(rt: HostRuntime) -> Result<(), Fail> {
+    let mut arena = Arena::new(rt.alloc());
+    let list = with_three(rt.alloc(), &mut arena)?;
+    clear(&mut arena, list);
+    assert_eq!(rt; cells(rt.alloc(), &arena)?.as_str(), "");
+    Ok(())
+}

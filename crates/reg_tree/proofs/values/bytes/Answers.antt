@@ -1,21 +1,21 @@
-use Rattle.std.proofs.Common.{arith, ◌≡◌, List, ℕ, Some, slice_get, []}
+use Rattle.std.proofs.Common.{arith, ◌≡◌, List, Some, slice_get, []}
 use Rattle.reg_heap.specs.Paths.{Member}
 use Rattle.reg_values.proofs.Found.{is-ok}
-use Rattle.reg_tree.proofs.Changed.{key_there, list_values, list_length}
+use Rattle.reg_tree.proofs.Here.{key_there, list_values, list_length}
 use Rattle.reg_tree.proofs.Told.{of_members}
 use Rattle.reg_tree.proofs.values.bytes.Goals as goal
 
 pub values_list-requires : goal.values_list-requires
-values_list-requires c = key_there _ _ c.requires.holds
+values_list-requires c = key_there _ _ c.requires.0
 
 pub bytes_of-requires-clause-values : goal.bytes_of-requires-clause-values
-bytes_of-requires-clause-values c = list_values _ _ c.requires.holds _ _ c.values_list.ensures
+bytes_of-requires-clause-values c = list_values _ _ c.requires.0 _ _ c.values_list.ensures
 
 pub bytes_of-requires-clause-index : goal.bytes_of-requires-clause-index
-bytes_of-requires-clause-index c = omega (arith, c.requires.index, list_length _ _ c.requires.holds _ _ c.values_list.ensures)
+bytes_of-requires-clause-index c = omega (arith, c.requires.1, list_length _ _ c.requires.0 _ _ c.values_list.ensures)
 
 pub returns : goal.returns
 returns c =
-    is-ok _ _ c.bytes_of.result
-    (λ bytes h. of_members _ _ c.requires.holds _ _ c.values_list.ensures [] (λ (ms : List Member). (member : Member) × (slice_get ms c.args.index ≡ Some member) × (bytes.items ≡ member.bytes)) h)
+    λ t. is-ok _ _ c.bytes_of.result
+    (λ bytes h. of_members _ _ t _ _ c.values_list.ensures [] (λ (ms : List Member). (member : Member) × (slice_get ms c.args.index ≡ Some member) × (bytes.items ≡ member.bytes)) h)
     c.bytes_of.ensures

@@ -1,26 +1,27 @@
 use Rattle.std.proofs.Common.{refl}
-use Rattle.reg_tree.proofs.Changed.{key_there, key_mid, list_values, list_reads, delete_changed}
+use Rattle.reg_tree.proofs.Here.{key_there, list_values, list_reads}
+use Rattle.reg_tree.proofs.Changed.{key_mid, delete_changed}
 use Rattle.reg_tree.proofs.Told.{found_none, some_named}
 use Rattle.reg_tree.proofs.values.delete.Goals as goal
 
 pub values_list-old-requires : goal.values_list-old-requires
-values_list-old-requires c = key_there _ _ c.requires.holds
+values_list-old-requires c = key_there _ _ c.requires
 
 pub find-requires : goal.find-requires
-find-requires c = list_values _ _ c.requires.holds _ _ c.values_list-old.ensures
+find-requires c = list_values _ _ c.requires _ _ c.values_list-old.ensures
 
-pub returns-in_default-clause-err : goal.returns-in_default-clause-err
-returns-in_default-clause-err c = (refl, found_none _ _ c.requires.holds _ _ c.values_list-old.ensures c.args.name.now c.find.result c.find.ensures c.in_default.is, refl)
+pub returns-in_default-clause-found : goal.returns-in_default-clause-found
+returns-in_default-clause-found c = λ t. (refl, found_none _ _ t _ _ c.values_list-old.ensures c.args.name.now c.find.result c.find.ensures c.in_default.is)
 
 pub remove-list-requires-clause-values : goal.remove-list-requires-clause-values
-remove-list-requires-clause-values c = list_values _ _ c.requires.holds _ _ c.values_list-old.ensures
+remove-list-requires-clause-values c = list_values _ _ c.requires _ _ c.values_list-old.ensures
 
 pub remove-list-requires-clause-named : goal.remove-list-requires-clause-named
-remove-list-requires-clause-named c = some_named _ _ c.requires.holds _ _ c.values_list-old.ensures c.args.name.now c.in-Some.field-0 c.in-Some.ensures
+remove-list-requires-clause-named c = some_named _ _ c.requires _ _ c.values_list-old.ensures c.args.name.now c.in-Some.field-0 c.in-Some.ensures
 
 pub note_values-requires-clause-exists : goal.note_values-requires-clause-exists
-note_values-requires-clause-exists c = key_mid _ _ _ c.requires.holds _ _ _ (c.remove-list.ensures _ _ (list_reads _ _ c.requires.holds _ _ c.values_list-old.ensures))
+note_values-requires-clause-exists c = key_mid _ _ _ c.requires _ _ _ (c.remove-list.ensures _ _ (list_reads _ _ c.requires _ _ c.values_list-old.ensures))
 
 pub returns-clause-ok : goal.returns-clause-ok
 returns-clause-ok c =
-    delete_changed _ _ _ _ _ _ c.args.name.now c.args.moment c.remove-list.result.count c.remove-list.result.place c.requires.holds c.values_list-old.ensures c.remove-list.ensures c.note_values.ensures
+    λ t. delete_changed _ _ _ _ _ _ c.args.name.now c.args.moment c.remove-list.result.count c.remove-list.result.place t c.values_list-old.ensures c.remove-list.ensures c.note_values.ensures

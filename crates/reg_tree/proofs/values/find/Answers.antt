@@ -1,4 +1,4 @@
-use Rattle.reg_tree.proofs.Changed.{key_there, list_values}
+use Rattle.reg_tree.proofs.Here.{key_there, list_values}
 use Rattle.reg_tree.proofs.Told.{none_told, some_within, some_told}
 use Rattle.reg_tree.proofs.values.find.Goals as goal
 
@@ -9,7 +9,7 @@ pub find-requires : goal.find-requires
 find-requires c = list_values _ _ c.requires _ _ c.values_list-list.ensures
 
 pub returns-in_default : goal.returns-in_default
-returns-in_default c = none_told _ _ c.requires _ _ c.values_list-list.ensures c.args.name.now c.find.result c.find.ensures c.in_default.is
+returns-in_default c = λ t. none_told _ _ t _ _ c.values_list-list.ensures c.args.name.now c.find.result c.find.ensures c.in_default.is
 
 pub at-value-requires-clause-values : goal.at-value-requires-clause-values
 at-value-requires-clause-values c = list_values _ _ c.requires _ _ c.values_list-list.ensures
@@ -19,4 +19,4 @@ at-value-requires-clause-index c = some_within _ _ c.requires _ _ c.values_list-
 
 pub returns : goal.returns
 returns c =
-    some_told _ _ c.requires _ _ c.values_list-list.ensures c.args.name.now c.in-Some.index c.at-value.result.name.now c.at-value.result.kind c.at-value.result.size c.in-Some.ensures c.at-value.ensures
+    λ t. some_told _ _ t _ _ c.values_list-list.ensures c.args.name.now c.in-Some.index c.at-value.result.name.now c.at-value.result.kind c.at-value.result.size c.in-Some.ensures c.at-value.ensures

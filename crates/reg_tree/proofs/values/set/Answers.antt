@@ -1,23 +1,24 @@
-use Rattle.reg_tree.proofs.Changed.{key_there, key_mid, list_values, list_reads, set_changed}
+use Rattle.reg_tree.proofs.Here.{key_there, list_values, list_reads}
+use Rattle.reg_tree.proofs.Changed.{key_mid, set_changed}
 use Rattle.reg_tree.proofs.Told.{other_fault, no_fault}
 use Rattle.reg_tree.proofs.values.set.Goals as goal
 
 pub values_list-old-requires : goal.values_list-old-requires
-values_list-old-requires c = key_there _ _ c.requires.holds
+values_list-old-requires c = key_there _ _ c.requires.here
 
 pub set-requires-clause-values : goal.set-requires-clause-values
-set-requires-clause-values c = list_values _ _ c.requires.holds _ _ c.values_list-old.ensures
+set-requires-clause-values c = list_values _ _ c.requires.here _ _ c.values_list-old.ensures
 
 pub returns-in-Err-clause-limit : goal.returns-in-Err-clause-limit
-returns-in-Err-clause-limit c = other_fault _ _ c.requires.holds _ _ c.values_list-old.ensures c.args.name.now c.in-Err.fault c.from.result c.from.ensures (c.is_full.ensures.room c.if-is_full.false)
+returns-in-Err-clause-limit c = λ t. other_fault _ _ t _ _ c.values_list-old.ensures c.args.name.now c.in-Err.fault c.from.result c.from.ensures (c.is_full.ensures.room c.if-is_full.false)
 
 pub note_values-requires-clause-exists : goal.note_values-requires-clause-exists
 note_values-requires-clause-exists c =
-    key_mid _ _ _ c.requires.holds _ _ _ (c.in-Ok.ensures.ok _ _ (list_reads _ _ c.requires.holds _ _ c.values_list-old.ensures))
+    key_mid _ _ _ c.requires.here _ _ _ (c.in-Ok.ensures.ok _ _ (list_reads _ _ c.requires.here _ _ c.values_list-old.ensures))
 
 pub returns-clause-ok : goal.returns-clause-ok
 returns-clause-ok c =
-    set_changed _ _ _ _ _ _ c.args.name.now c.args.kind c.args.bytes.now c.args.moment c.in-Ok.list.count c.in-Ok.list.place c.requires.holds c.values_list-old.ensures c.in-Ok.ensures.ok c.note_values.ensures
+    λ t. set_changed _ _ _ _ _ _ c.args.name.now c.args.kind c.args.bytes.now c.args.moment c.in-Ok.list.count c.in-Ok.list.place t c.values_list-old.ensures c.in-Ok.ensures.ok c.note_values.ensures
 
 pub returns-clause-limit : goal.returns-clause-limit
-returns-clause-limit c = no_fault _ _ c.requires.holds _ _ c.values_list-old.ensures c.args.name.now (c.is_full.ensures.room c.if-is_full.false)
+returns-clause-limit c = λ t. no_fault _ _ t _ _ c.values_list-old.ensures c.args.name.now (c.is_full.ensures.room c.if-is_full.false)

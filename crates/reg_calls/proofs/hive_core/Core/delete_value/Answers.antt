@@ -14,14 +14,14 @@ pub unreachable-requires : goal.unreachable-requires
 unreachable-requires c =
     let accepted = subst (λ (v : View). change_cause (state v) c.args.session (DeleteValue c.args.handle c.args.name) 0 ≡ None) (sym c.self.view_is) c.requires in
     let there = delete-there c.self.invariant c.args.session c.args.handle c.args.name accepted in
-    let none = ap (λ (n : List ℕ). value_named n (values_at c.self.inside.tree.tree [])) (sym c.as_slice.ensures) ∙ c.in-Err.ensures.err.1 in
+    let none = ap (λ (n : List ℕ). value_named n (values_at c.self.inside.tree.tree [])) (sym c.as_slice.ensures) ∙ (c.in-Err.ensures.found [] c.root-root.ensures).1 in
     absurd (true≢false (sym (ap (λ (o : Option Member). not (is_some o)) none) ∙ there))
 
 pub invariant_of-self-2 : goal.invariant_of-self-2
 invariant_of-self-2 c =
     let accepted = subst (λ (v : View). change_cause (state v) c.args.session (DeleteValue c.args.handle c.args.name) 0 ≡ None) (sym c.self.view_is) c.requires in
     let room : length c.self.inside.handles ≤ c.append.new.self.room = grind (arith, common_steps) in
-    let edit = c.in-Ok.ensures.ok ∙ ap (λ (n : List ℕ). edited c.self.inside.tree.tree [] (without_value n c.args.moment)) c.as_slice.ensures in
+    let edit = c.in-Ok.ensures.ok [] c.root-root.ensures ∙ ap (λ (n : List ℕ). edited c.self.inside.tree.tree [] (without_value n c.args.moment)) c.as_slice.ensures in
     let done = kept-delete c.self.invariant c.args.session c.args.moment c.args.handle c.args.name c.delete_value.new.self.tree c.append.new.self.room accepted edit room in
     grind (arith, common_steps, done)
 

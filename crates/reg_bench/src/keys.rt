@@ -1,0 +1,137 @@
+//! Keys, made and resolved by paths of three names from the root.
+
+use crate::timing::PerCall;
+use anyhow::{Result, bail};
+use reg_model::Bytes;
+use reg_names::check_path;
+use reg_tree::Tree;
+use std::alloc::Global;
+use std::rt::Clock;
+use std::time::Instant;
+
+/// How many names there are at each level while no time is taken.
+const SMALL: [u32; 3] = [3, 4, 2];
+
+/// How many names there are at each level while time is taken.
+const SIZES: [[u32; 3]; 3] = [[3, 10, 10], [30, 10, 10], [30, 100, 10]];
+
+/// The paths of a tree that has so many names at each level.
+fn paths(alloc: Global, levels: [u32; 3]) -> Result<Vec<Bytes>> {
+    let [first, second, third] = levels;
+    let mut paths = Vec::new(alloc);
+    for a in 0..first {
+        for b in 0..second {
+            for c in 0..third {
+                let path = format!(in alloc; "Key{a}\\Key{b}\\Key{c}")?;
+                paths.push(Bytes::from_slice(alloc, path.as_bytes())?)?;
+            }
+        }
+    }
+    Ok(paths)
+}
+
+/// Makes the keys of each path, one path in a call.
+fn make_all(tree: &mut Tree, alloc: Global, paths: &[Bytes]) -> Result<()> {
+    for path in paths {
+        let Ok(()) = check_path(path.as_slice()) else {
+            bail!("that is no path");
+        };
+        let root = tree.root();
+        let Ok(_) = tree.create(alloc, root, path.as_slice(), 1) else {
+            bail!("a key was not made");
+        };
+    }
+    Ok(())
+}
+
+/// Resolves each path, and tells how many led to a key.
+fn resolve_all(tree: &Tree, paths: &[Bytes]) -> Result<u32> {
+    let mut found: u32 = 0;
+    for path in paths {
+        let Ok(()) = check_path(path.as_slice()) else {
+            bail!("that is no path");
+        };
+        if tree.resolve(tree.root(), path.as_slice()).is_some() {
+            found = found.saturating_add(1);
+        }
+    }
+    Ok(found)
+}
+
+/// What the cells of a tree are.
+#[derive(Clone, Copy)]
+struct CellCounts {
+    /// How many are allocated.
+    allocated: u32,
+    /// How many bytes these have together.
+    bytes: u64,
+    /// How many are free.
+    free: u32,
+}
+
+fn count_cells(alloc: Global, tree: &Tree) -> Result<CellCounts> {
+    let cells = tree.arena().cells(alloc)?;
+    let mut counts = CellCounts {
+        allocated: 0,
+        bytes: 0,
+        free: 0,
+    };
+    for cell in &cells {
+        if cell.allocated {
+            counts.allocated = counts.allocated.saturating_add(1);
+            counts.bytes = counts.bytes.saturating_add(u64::from(cell.size));
+        } else {
+            counts.free = counts.free.saturating_add(1);
+        }
+    }
+    Ok(counts)
+}
+
+fn tree(alloc: Global) -> Result<Tree> {
+    let Ok(tree) = Tree::new(alloc, b"ROOT", &[1], 0) else {
+        bail!("there is no memory for a tree");
+    };
+    Ok(tree)
+}
+
+/// Makes keys and resolves them, and prints how many there are and in how many bytes.
+pub fn count(rt: &impl Print, alloc: Global) -> Result<()> {
+    let mut tree = tree(alloc)?;
+    let paths = paths(alloc, SMALL)?;
+    make_all(&mut tree, alloc, paths.as_slice())?;
+    let found = resolve_all(&tree, paths.as_slice())?;
+    let counts = count_cells(alloc, &tree)?;
+    let bins = tree.arena().bins_size();
+    println!(rt;
+        "keys: {found} found, {} cells in {bins} bytes",
+        counts.allocated
+    )?;
+    Ok(())
+}
+
+/// Prints the times of making a key and of resolving it, by the number of keys, with the bytes that the records have and
+/// the bins.
+pub fn measure(rt: &(impl Print + Clock), alloc: Global) -> Result<()> {
+    for levels in SIZES {
+        measure_at(rt, alloc, levels)?;
+    }
+    Ok(())
+}
+
+fn measure_at(rt: &(impl Print + Clock), alloc: Global, levels: [u32; 3]) -> Result<()> {
+    let mut tree = tree(alloc)?;
+    let paths = paths(alloc, levels)?;
+    let start = Instant::now(rt)?;
+    make_all(&mut tree, alloc, paths.as_slice())?;
+    let made = PerCall::new(start.elapsed(rt)?, paths.len());
+    let start = Instant::now(rt)?;
+    let found = resolve_all(&tree, paths.as_slice())?;
+    let resolved = PerCall::new(start.elapsed(rt)?, paths.len());
+    let counts = count_cells(alloc, &tree)?;
+    let bins = tree.arena().bins_size();
+    println!(rt;
+        "keys, {found}: create, {made}; resolve, {resolved}; {} of {bins} bytes allocated, {} cells free",
+        counts.bytes, counts.free
+    )?;
+    Ok(())
+}

@@ -1,0 +1,14 @@
+pub mod Entries
+pub mod Leaving
+pub mod Opening
+pub mod Orders
+pub mod Finding
+pub mod Planning
+pub mod Gaps
+pub mod Staying
+pub mod Removed
+pub mod Opened
+pub mod Added
+pub mod Told
+pub mod Tested
+pub mod Rows

@@ -1,0 +1,14 @@
+use Rattle.std.proofs.Common.{◌-◌, List}
+use Rattle.reg_names.specs.Names.{folded}
+use Rattle.reg_arena.specs.Cells.{cell_at}
+use Rattle.reg_records.specs.Lists.{Entry}
+use Rattle.reg_index.specs.Subkeys.{AreSubkeys, names_in}
+use Rattle.reg_index.proofs.Orders.{Between}
+use Rattle.reg_index.proofs.look.find.Given as goal
+
+abbrev pub invariant-loop-low : goal.invariant-loop-low
+invariant-loop-low l =
+    (entries : List Entry) → AreSubkeys (cell_at l.arena.bytes) l.list.count l.list.place entries → Between (names_in (cell_at l.arena.bytes) entries) (folded l.name) l.low l.high
+
+abbrev pub decreases-loop-low : goal.decreases-loop-low
+decreases-loop-low l = l.high - l.low

@@ -1,0 +1,2 @@
+pub mod Subkeys
+pub mod Leaves

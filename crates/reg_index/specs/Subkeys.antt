@@ -1,0 +1,97 @@
+-- A key's subkeys in one hash leaf (Suhanov, Windows registry file format specification, "Subkeys list"), in the order of their
+-- folded names.
+use Rattle.std.specs.Prelude.{◌≡◌, ℕ, zero, suc, ◌+◌, ◌*◌, ◌<◌, ◌≤◌, ◌==◌, nat_le, if◌then◌else◌, Option, Some, None, IsSome, Result, Ok, Err, List, [], ◌∷◌, ◌++◌, length, map, take, drop, get_or}
+use Rattle.std.specs.Option.{option_and_then}
+use Rattle.std.specs.List.{AllByRecursion}
+use Rattle.std.specs.Ordering.{nat_cmp}
+use Rattle.std.specs.declared.cmp.Ordering.TheVariants.{Less}
+use Rattle.std.specs.Cmp.Lexicographic.{slice_cmp}
+use Rattle.reg_names.specs.Names.{folded, hash}
+use Rattle.reg_heap.specs.Heaps.{Heap, Swaps}
+use Rattle.reg_heap.specs.Kinds.{times}
+use Rattle.reg_records.specs.declared.lists.ListForm.TheVariants.{IndexRoot, IndexLeaf, FastLeaf, HashLeaf}
+use Rattle.reg_records.specs.Cells.{held}
+use Rattle.reg_records.specs.Keys.{KeyRecord, key_at}
+use Rattle.reg_records.specs.Lists.{SubkeysList, Entry, Form}
+use Rattle.reg_records.specs.Nodes.{list_at}
+
+-- the entries of a hash leaf of so many; None of another form or number
+abbrev pub hashed : ℕ → Form → List Entry → Option (List Entry)
+hashed count IndexRoot entries = None
+hashed count IndexLeaf entries = None
+hashed count FastLeaf entries = None
+hashed count HashLeaf entries = if length entries == count then Some entries else None
+
+-- the subkeys that a key node's number and list name: none, or those of the hash leaf in the list's cell
+unfoldable pub subkeys_at : Heap → ℕ → ℕ → Option (List Entry)
+subkeys_at heap zero place = Some []
+subkeys_at heap (suc count) place = option_and_then (λ (list : SubkeysList). hashed (suc count) list.form list.entries) (list_at heap place)
+
+-- the name of a key, empty where there is none
+abbrev pub name_or_none : Option KeyRecord → List ℕ
+name_or_none None = []
+name_or_none (Some key) = key.name
+
+-- the name of the key at an offset
+abbrev pub name_at : Heap → ℕ → List ℕ
+name_at heap key = name_or_none (key_at heap key)
+
+-- the folded names of the keys that a list names
+abbrev pub names_in : Heap → List Entry → List (List ℕ)
+names_in heap entries = map (λ (e : Entry). folded (name_at heap e.place)) entries
+
+-- each before those behind it, byte by byte
+abbrev pub Rises : List (List ℕ) → Type 0
+Rises names = (i j : ℕ) → i < j → j < length names → slice_cmp nat_cmp (get_or names i []) (get_or names j []) ≡ Less
+
+-- a key has these subkeys: at most 500, each a key with the hash of its name, rising; without subkeys there is no list
+pub record AreSubkeys (heap : Heap) (count place : ℕ) (entries : List Entry) : Type 0 where
+  pub read : subkeys_at heap count place ≡ Some entries
+  pub few : count ≤ 500
+  pub unlisted : count ≡ 0 → place ≡ 4294967295
+  pub keys : AllByRecursion (λ (e : Entry). IsSome (key_at heap e.place)) entries
+  pub hashes : AllByRecursion (λ (e : Entry). e.hint ≡ hash (name_at heap e.place)) entries
+  pub rising : Rises (names_in heap entries)
+
+-- where a folded name stands among rising names, or where it belongs
+abbrev pub IsPlace : List (List ℕ) → List ℕ → Result ℕ ℕ → Type 0
+IsPlace names name (Ok index) = (index < length names) × (get_or names index [] ≡ name)
+IsPlace names name (Err index) =
+    (index ≤ length names)
+    × ((k : ℕ) → k < index → slice_cmp nat_cmp (get_or names k []) name ≡ Less)
+    × ((k : ℕ) → index ≤ k → k < length names → slice_cmp nat_cmp name (get_or names k []) ≡ Less)
+
+-- the entry of a key: its offset, and the hash of its name
+abbrev pub entry_for : Heap → ℕ → Entry
+entry_for heap key = record { place = key; hint = hash (name_at heap key) }
+
+abbrev pub with_one : ℕ → Entry → List Entry → List Entry
+with_one index entry entries = take index entries ++ entry ∷ drop index entries
+
+abbrev pub without : ℕ → List Entry → List Entry
+without index entries = take index entries ++ drop (index + 1) entries
+
+-- the size of the cell that one subkey more takes: none where the list's cell has room for it
+unfoldable pub insert_size : Heap → ℕ → ℕ → Option ℕ
+insert_size heap zero place = Some 16
+insert_size heap (suc count) place =
+    if nat_le (4 + 8 * suc (suc count)) (length (held heap place)) then None else Some (8 + 8 * suc (suc count))
+
+-- the list's own cell
+abbrev pub own : ℕ → ℕ → List ℕ
+own zero place = []
+own (suc count) place = place ∷ []
+
+-- the cell that was carved for an insert, where one was
+abbrev pub taken : Option ℕ → ℕ → List ℕ
+taken None fresh = []
+taken (Some size) fresh = fresh ∷ []
+
+-- the cell that was carved for an insert has the size that it needs, and holds no key
+abbrev pub IsReady : Heap → Option ℕ → ℕ → Type 0
+IsReady heap None fresh = Unit {0}
+IsReady heap (Some size) fresh = IsSome (heap fresh) × (length (held heap fresh) + 4 ≡ size) × (key_at heap fresh ≡ None)
+
+-- the list's cells of before, and one carved for it, gave way to the list's cells of now; nothing else changed
+abbrev pub Moves : Heap → Heap → List ℕ → List ℕ → Type 0
+Moves old new before after = Swaps old new (λ z. times z before) (λ z. times z after)

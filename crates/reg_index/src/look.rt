@@ -1,0 +1,53 @@
+//! Subkeys, found and read.
+
+ghost use Rattle.std.specs.Prelude.{◌≡◌, ◌<◌, ℕ, List, IsSome, get_or};
+ghost use Rattle.reg_names.specs.Names.{folded};
+ghost use Rattle.reg_arena.specs.Cells.{cell_at};
+ghost use Rattle.reg_records.specs.Keys.{key_at};
+ghost use Rattle.reg_records.specs.Lists.{Entry};
+ghost use Rattle.reg_index.specs.Subkeys.{AreSubkeys, IsPlace, name_at, names_in};
+
+use crate::SubkeysIndex;
+use reg_arena::Arena;
+use reg_names::name_order;
+use reg_records::{ListForm, entry_at, read_nk};
+use std::cmp::Ordering;
+
+/// The name of the key at an offset.
+pub(crate) fn name_of(arena: &Arena, key: u32) -> &[u8]
+    requires { IsSome (key_at (cell_at arena.now.bytes) key) }
+    ensures { result.now ≡ name_at (cell_at arena.now.bytes) key }
+{
+    match read_nk(arena.content(key)) {
+        Ok(node) => node.name,
+        Err(_) => unreachable!(),
+    }
+}
+
+/// The offset of the key at an index, counted from 0 in the order of folded names.
+pub fn at(arena: &Arena, list: SubkeysIndex, index: u32) -> u32
+    requires subkeys { (entries : List Entry) × AreSubkeys (cell_at arena.now.bytes) list.count list.place entries }
+    requires index { index < list.count }
+    ensures { (entries : List Entry) → AreSubkeys (cell_at arena.now.bytes) list.count list.place entries → (get_or entries index (record { place = 0; hint = 0 })).place ≡ result }
+{
+    entry_at(arena.content(list.place), ListForm::HashLeaf, index as u16).place
+}
+
+/// Where a name stands among the subkeys, or as an `Err` where it belongs: a binary search that reads names in their
+/// cells.
+pub fn find(arena: &Arena, list: SubkeysIndex, name: &[u8]) -> Result<u32, u32>
+    requires { (entries : List Entry) × AreSubkeys (cell_at arena.now.bytes) list.count list.place entries }
+    ensures { (entries : List Entry) → AreSubkeys (cell_at arena.now.bytes) list.count list.place entries → IsPlace (names_in (cell_at arena.now.bytes) entries) (folded name.now) result }
+{
+    let mut low = 0;
+    let mut high = list.count;
+    while low < high {
+        let middle = low + (high - low) / 2;
+        match name_order(name_of(arena, at(arena, list, middle)), name) {
+            Ordering::Less => low = middle + 1,
+            Ordering::Equal => return Ok(middle),
+            Ordering::Greater => high = middle,
+        }
+    }
+    Err(low)
+}

@@ -1,0 +1,28 @@
+//! The size of the cell that a subkey more takes.
+
+ghost use Rattle.std.specs.Prelude.{◌≡◌, List};
+ghost use Rattle.reg_arena.specs.Cells.{cell_at};
+ghost use Rattle.reg_records.specs.Lists.{Entry};
+ghost use Rattle.reg_index.specs.Subkeys.{AreSubkeys, insert_size};
+
+use crate::SubkeysIndex;
+use reg_arena::Arena;
+
+/// The size of the cell of a list of one.
+const FIRST: u32 = 16;
+
+/// The size of the cell that one subkey more takes, its size field counted; `None` where the list's cell has room for
+/// it.
+pub fn plan_insert(arena: &Arena, list: SubkeysIndex) -> Option<u32>
+    requires { (entries : List Entry) × AreSubkeys (cell_at arena.now.bytes) list.count list.place entries }
+    ensures { result ≡ insert_size (cell_at arena.now.bytes) list.count list.place }
+{
+    if list.count == 0 {
+        return Some(FIRST);
+    }
+    let needed = 12 + 8 * list.count;
+    if arena.content(list.place).len() >= needed as usize {
+        return None;
+    }
+    Some(needed + 4)
+}

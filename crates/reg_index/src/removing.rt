@@ -1,0 +1,31 @@
+//! A subkey removed.
+
+ghost use Rattle.std.specs.Prelude.{◌≡◌, ◌+◌, ◌<◌, ◌∷◌, [], List};
+ghost use Rattle.reg_arena.specs.Cells.{cell_at};
+ghost use Rattle.reg_records.specs.Lists.{Entry};
+ghost use Rattle.reg_index.specs.Subkeys.{AreSubkeys, Moves, own, without};
+
+use crate::leaf::close;
+use crate::{NONE, SubkeysIndex};
+use reg_arena::Arena;
+
+/// Takes the key at an index out of the subkeys; the later ones close up in the list's cell. A list left empty is freed.
+/// Answers where the list is now.
+pub fn remove(arena: &mut Arena, list: SubkeysIndex, index: u32) -> SubkeysIndex
+    requires subkeys { (entries : List Entry) × AreSubkeys (cell_at arena.old.bytes) list.count list.place entries }
+    requires index { index < list.count }
+    ensures subkeys { (entries : List Entry) → AreSubkeys (cell_at arena.old.bytes) list.count list.place entries → AreSubkeys (cell_at arena.new.bytes) result.count result.place (without index entries) }
+    ensures count { result.count + 1 ≡ list.count }
+    ensures moves { Moves (cell_at arena.old.bytes) (cell_at arena.new.bytes) (list.place ∷ []) (own result.count result.place) }
+{
+    let count = list.count - 1;
+    if count == 0 {
+        arena.free(list.place);
+        return SubkeysIndex { count, place: NONE };
+    }
+    close(arena, list.place, count, index);
+    SubkeysIndex {
+        count,
+        place: list.place,
+    }
+}

@@ -1,0 +1,18 @@
+use Rattle.std.proofs.Common.{lit≤}
+use Rattle.byteorder.specs.Endian.{little_bytes}
+use Rattle.reg_records.proofs.Securities.{security-room, security-changed, sk-counted}
+use Rattle.reg_records.proofs.Plain.{plain-shared}
+use Rattle.reg_records.proofs.sk.set_security_count.Goals as goal
+
+pub write_part-requires : goal.write_part-requires
+write_part-requires c = rw c.word_bytes.ensures.bytes (security-room _ c.args.cell 16 (lit≤ tt) c.requires)
+
+pub returns-clause-written : goal.returns-clause-written
+returns-clause-written c = rw c.word_bytes.ensures.bytes at c.write_part.ensures
+
+pub returns-clause-reads : goal.returns-clause-reads
+returns-clause-reads c =
+    security-changed 12 (little_bytes 4 c.args.count) (λ r. record r { fields = record r.fields { count = c.args.count } }) (sk-counted c.args.count c.word_bytes.ensures.fits) _ _ c.args.cell (returns-clause-written c)
+
+pub returns-clause-plain : goal.returns-clause-plain
+returns-clause-plain c = plain-shared _ _ c.args.cell c.args.count c.requires (returns-clause-written c)

@@ -1,0 +1,46 @@
+use Rattle.reg_tree.proofs.Openings.{is_some_of}
+use Rattle.reg_tree.proofs.Making.{key_there, security_there, users_few, some_subkeys, not_found, few_subkeys, inserts, ready1, parent2, security3, grown}
+use Rattle.reg_tree.proofs.make.make.Goals as goal
+
+pub fields-above-requires : goal.fields-above-requires
+fields-above-requires c = key_there _ _ _ _ _ _ c.requires.grow.1
+
+pub with_one_more-users-requires-clause-there : goal.with_one_more-users-requires-clause-there
+with_one_more-users-requires-clause-there c = security_there _ _ _ _ _ _ c.requires.grow.1 _ c.fields-above.ensures
+
+pub with_one_more-users-requires-clause-few : goal.with_one_more-users-requires-clause-few
+with_one_more-users-requires-clause-few c = users_few _ _ _ _ _ _ c.requires.grow.1 _ c.fields-above.ensures
+
+pub find-requires : goal.find-requires
+find-requires c = some_subkeys _ _ _ _ _ _ c.requires.grow.1 _ c.fields-above.ensures
+
+pub unreachable-requires : goal.unreachable-requires
+unreachable-requires c = not_found _ _ _ _ _ _ c.requires.grow.1 _ c.fields-above.ensures c.in_default.field-0 c.in_default.ensures
+
+pub insert-list-requires-clause-subkeys : goal.insert-list-requires-clause-subkeys
+insert-list-requires-clause-subkeys c =
+    inserts _ _ _ _ _ _ c.requires.grow.1 _ c.fields-above.ensures _ c.put_nk.ensures.written.others (is_some_of _ _ c.put_nk.ensures.written.here) _ c.put_nk.ensures.reads c.in-Err.index c.in-Err.ensures
+
+pub insert-list-requires-clause-few : goal.insert-list-requires-clause-few
+insert-list-requires-clause-few c = few_subkeys _ _ _ _ _ _ c.requires.grow.1 _ c.fields-above.ensures
+
+pub insert-list-requires-clause-ready : goal.insert-list-requires-clause-ready
+insert-list-requires-clause-ready c =
+    ready1 _ _ _ _ _ _ c.requires.grow.1 _ c.fields-above.ensures _ c.put_nk.ensures.written.others (is_some_of _ _ c.put_nk.ensures.written.here) _ c.put_nk.ensures.reads c.requires.ready
+
+pub note_subkeys-requires-clause-exists : goal.note_subkeys-requires-clause-exists
+note_subkeys-requires-clause-exists c =
+    parent2 _ _ _ _ _ _ c.requires.grow.1 _ c.fields-above.ensures _ c.put_nk.ensures.written.others (is_some_of _ _ c.put_nk.ensures.written.here) _ c.put_nk.ensures.reads
+    _ c.insert-list.result.count c.insert-list.result.place c.insert-list.ensures.moves
+
+pub recount-requires : goal.recount-requires
+recount-requires c =
+    security3 _ _ _ _ _ _ c.requires.grow.1 _ c.fields-above.ensures _ c.put_nk.ensures.written.others (is_some_of _ _ c.put_nk.ensures.written.here) _ c.put_nk.ensures.reads
+    _ c.insert-list.result.count c.insert-list.result.place c.insert-list.ensures.moves _ c.args.moment c.note_subkeys.ensures
+
+pub returns : goal.returns
+returns c = λ left m.
+    grown _ _ _ _ _ _ m _ c.fields-above.ensures _ c.put_nk.ensures.written.others (is_some_of _ _ c.put_nk.ensures.written.here) _ c.put_nk.ensures.reads
+    _ c.insert-list.result.count c.insert-list.result.place c.insert-list.ensures.moves _ c.args.moment c.note_subkeys.ensures
+    _ c.requires.name.0 c.requires.name.1 c.new_key.ensures c.put_nk.ensures.plain c.in-Err.index c.in-Err.ensures c.insert-list.ensures.subkeys c.insert-list.ensures.count
+    c.with_one_more-users.result c.with_one_more-users.ensures c.recount.ensures

@@ -1,0 +1,11 @@
+use Rattle.std.proofs.Common.{length}
+use Rattle.reg_names.specs.Names.{path_of}
+use Rattle.reg_tree.specs.Growing.{MayGrowAll}
+use Rattle.reg_tree.proofs.Growth.{Midway}
+use Rattle.reg_tree.proofs.make.make_all.Given as goal
+
+abbrev pub invariant-loop-name : goal.invariant-loop-name
+invariant-loop-name l = (m : MayGrowAll l.fn.arena.bytes l.fn.from (path_of l.fn.path) l.fn.spare) → Midway l.fn.arena.bytes l.fn.from (path_of l.fn.path) l.fn.spare m l.fn.moment l.arena.bytes l.node l.rest l.spare
+
+abbrev pub decreases-loop-name : goal.decreases-loop-name
+decreases-loop-name l = length l.rest

@@ -1,0 +1,71 @@
+use Rattle.std.proofs.Common.{◌∙◌, sym, subst, arith, get_or, drop, length, ◌+◌}
+use Rattle.reg_arena.specs.Cells.{cell_at}
+use Rattle.reg_records.specs.Cells.{HasRoom}
+use Rattle.reg_tree.specs.Growing.{Grows, AreReady}
+use Rattle.std.specs.Prelude.{Some}
+use Rattle.reg_tree.proofs.Nexts.{growing_there, growing_subkeys, planned_is, alone, beside, respelt, may_grow}
+use Rattle.reg_tree.proofs.make.make_in.Goals as goal
+
+pub subkeys_list-list-requires : goal.subkeys_list-list-requires
+subkeys_list-list-requires c = growing_there _ _ _ c.requires.grow.growing
+
+pub plan_insert-requires : goal.plan_insert-requires
+plan_insert-requires c = growing_subkeys _ _ _ c.requires.grow.growing _ _ c.subkeys_list-list.ensures
+
+pub make-requires-clause-grow : goal.make-requires-clause-grow
+make-requires-clause-grow c =
+    let r = c.requires.ready.1 in
+    let p = planned_is _ _ _ c.requires.grow.growing _ _ c.subkeys_list-list.ensures ∙ (sym c.plan_insert.ensures ∙ c.in-None.is) in
+    let a = alone _ r.list_cell r.key r.left c.args.spare.now p r.spare_is in
+    (drop 1 c.args.spare.now, may_grow _ _ _ _ _ (a.all 4294967295) c.requires.grow)
+
+pub make-requires-in-Some-clause-grow : goal.make-requires-in-Some-clause-grow
+make-requires-in-Some-clause-grow c =
+    let r = c.requires.ready.1 in
+    let p = planned_is _ _ _ c.requires.grow.growing _ _ c.subkeys_list-list.ensures ∙ (sym c.plan_insert.ensures ∙ c.in-Some.is) in
+    let b = beside _ _ r.list_cell r.key r.left c.args.spare.now p r.spare_is in
+    (drop 2 c.args.spare.now, may_grow _ _ _ _ _ b.all c.requires.grow)
+
+pub make-requires-in-Some-clause-room : goal.make-requires-in-Some-clause-room
+make-requires-in-Some-clause-room c =
+    let r = c.requires.ready.1 in
+    let p = planned_is _ _ _ c.requires.grow.growing _ _ c.subkeys_list-list.ensures ∙ (sym c.plan_insert.ensures ∙ c.in-Some.is) in
+    let b = beside _ _ r.list_cell r.key r.left c.args.spare.now p r.spare_is in
+    subst (λ k. HasRoom (cell_at c.args.arena.now.bytes) k (76 + length c.args.name.now)) (sym b.key_is) r.room
+
+pub returns-in-None-clause-grows : goal.returns-in-None-clause-grows
+returns-in-None-clause-grows c =
+    let r = c.requires.ready.1 in
+    let p = planned_is _ _ _ c.requires.grow.growing _ _ c.subkeys_list-list.ensures ∙ (sym c.plan_insert.ensures ∙ c.in-None.is) in
+    let a = alone _ r.list_cell r.key r.left c.args.spare.now p r.spare_is in
+    respelt _ _ _ (λ path root keys first. Grows (cell_at c.args.arena.now.bytes) (cell_at c.make.new.arena.bytes) root path keys first (get_or c.args.spare.now 0 0) (drop 1 c.args.spare.now) c.args.name.now c.args.moment)
+    _ _ (a.all 4294967295) (c.make.ensures (drop 1 c.args.spare.now))
+
+pub returns-in-Some-clause-taken : goal.returns-in-Some-clause-taken
+returns-in-Some-clause-taken c =
+    let r = c.requires.ready.1 in
+    let p = planned_is _ _ _ c.requires.grow.growing _ _ c.subkeys_list-list.ensures ∙ (sym c.plan_insert.ensures ∙ c.in-Some.is) in
+    let b = beside _ _ r.list_cell r.key r.left c.args.spare.now p r.spare_is in
+    let l = b.long in
+    (omega arith, omega arith, omega (arith, l))
+
+pub returns-in-Some-clause-grows : goal.returns-in-Some-clause-grows
+returns-in-Some-clause-grows c =
+    let r = c.requires.ready.1 in
+    let p = planned_is _ _ _ c.requires.grow.growing _ _ c.subkeys_list-list.ensures ∙ (sym c.plan_insert.ensures ∙ c.in-Some.is) in
+    let b = beside _ _ r.list_cell r.key r.left c.args.spare.now p r.spare_is in
+    respelt _ _ _ (λ path root keys first. Grows (cell_at c.args.arena.now.bytes) (cell_at c.make-in-Some.new.arena.bytes) root path keys first (get_or c.args.spare.now 1 0) (drop 2 c.args.spare.now) c.args.name.now c.args.moment)
+    _ _ b.all (c.make-in-Some.ensures (drop 2 c.args.spare.now))
+
+pub returns-in-Some-clause-ready : goal.returns-in-Some-clause-ready
+returns-in-Some-clause-ready c = λ names r.
+    let p = planned_is _ _ _ c.requires.grow.growing _ _ c.subkeys_list-list.ensures ∙ (sym c.plan_insert.ensures ∙ c.in-Some.is) in
+    let b = beside _ _ r.list_cell r.key r.left c.args.spare.now p r.spare_is in
+    subst (λ s. AreReady (cell_at c.args.arena.now.bytes) (Some 16) names s) (sym b.left_is) r.rest
+
+pub bounds-spare-1 : goal.bounds-spare-1
+bounds-spare-1 c =
+    let r = c.requires.ready.1 in
+    let p = planned_is _ _ _ c.requires.grow.growing _ _ c.subkeys_list-list.ensures ∙ (sym c.plan_insert.ensures ∙ c.in-Some.is) in
+    let b = beside _ _ r.list_cell r.key r.left c.args.spare.now p r.spare_is in
+    b.long

@@ -1,0 +1,15 @@
+use Rattle.std.proofs.Common.{◌≡◌, ◌≤◌, Some, length, slice_get}
+use Rattle.std.specs.Prelude.{MatchOption}
+use Rattle.reg_heap.specs.Paths.{Tree, Member}
+use Rattle.reg_heap.specs.Edits.{values_at}
+use Rattle.reg_values.specs.Lists.{Tells}
+use Rattle.reg_tree.proofs.Nodes.{here_at, there_at, of_tree}
+use Rattle.reg_tree.proofs.tree.Tree.value.Goals as goal
+
+pub at-requires : goal.at-requires
+at-requires c = there_at _ _ c.self.invariant _ c.self.view_is _ c.requires
+
+pub returns : goal.returns
+returns c = λ p at.
+    of_tree _ _ c.self.invariant _ c.self.view_is (λ (t : Tree). MatchOption c.at.result (length (values_at t p) ≤ c.args.index) (λ value. (member : Member) × (slice_get (values_at t p) c.args.index ≡ Some member) × Tells member value.name.now value.kind value.size))
+    (c.at.ensures (here_at _ _ c.self.invariant _ c.self.view_is c.args.node p at))

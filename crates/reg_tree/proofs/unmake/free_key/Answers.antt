@@ -1,0 +1,23 @@
+use Rattle.reg_arena.specs.Cells.{cell_at}
+use Rattle.reg_tree.proofs.DeletedCells.{sole-there, sole-values, sole-class, sole-left, sole-gone}
+use Rattle.reg_tree.proofs.unmake.free_key.Goals as goal
+
+pub fields-head-requires : goal.fields-head-requires
+fields-head-requires c = sole-there _ _ c.requires
+
+pub values_list-values-requires : goal.values_list-values-requires
+values_list-values-requires c = sole-there _ _ c.requires
+
+pub clear-requires : goal.clear-requires
+clear-requires c = sole-values _ _ c.requires _ _ c.values_list-values.ensures
+
+pub free_class-requires : goal.free_class-requires
+free_class-requires c = sole-class _ _ c.requires _ _ c.values_list-values.ensures (cell_at c.clear.new.arena.bytes) c.clear.ensures c.fields-head.result c.fields-head.ensures
+
+pub free-requires : goal.free-requires
+free-requires c =
+    sole-left _ _ c.requires _ _ c.values_list-values.ensures (cell_at c.clear.new.arena.bytes) c.clear.ensures c.fields-head.result c.fields-head.ensures (cell_at c.free_class.new.arena.bytes) c.free_class.ensures
+
+pub returns : goal.returns
+returns c =
+    sole-gone _ _ c.requires _ _ c.values_list-values.ensures (cell_at c.clear.new.arena.bytes) c.clear.ensures c.fields-head.result c.fields-head.ensures (cell_at c.free_class.new.arena.bytes) c.free_class.ensures (cell_at c.free.new.self.bytes) c.free.ensures.gone

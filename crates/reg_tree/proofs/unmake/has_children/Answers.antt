@@ -1,0 +1,9 @@
+use Rattle.reg_tree.proofs.DeletedFaults.{has-children}
+use Rattle.reg_tree.proofs.Here.{key_there}
+use Rattle.reg_tree.proofs.unmake.has_children.Goals as goal
+
+pub fields-requires : goal.fields-requires
+fields-requires c = key_there _ _ c.requires
+
+pub returns : goal.returns
+returns c = λ t. has-children _ _ t c.fields.result c.fields.ensures

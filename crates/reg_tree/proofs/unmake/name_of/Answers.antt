@@ -1,0 +1,13 @@
+use Rattle.std.proofs.Common.{ap}
+use Rattle.reg_records.specs.Keys.{KeyRecord}
+use Rattle.reg_tree.proofs.Openings.{key-exists, key-no_fault, key-fields}
+use Rattle.reg_tree.proofs.unmake.name_of.Goals as goal
+
+pub content-requires : goal.content-requires
+content-requires c = key-exists _ _ c.requires
+
+pub unreachable-requires : goal.unreachable-requires
+unreachable-requires c = key-no_fault _ _ _ _ c.requires c.content.ensures c.in-Err.ensures
+
+pub returns : goal.returns
+returns c = λ key e. ap (λ (r : KeyRecord). r.name) (key-fields _ _ _ key _ e c.content.ensures c.in-Ok.ensures)

@@ -1,0 +1,126 @@
+//! Key nodes, as the tree writes them.
+ghost use Rattle.std.specs.Prelude.{◌≡◌, ◌≤◌, ◌<◌, ◌^◌, IsSome, Some};
+ghost use Rattle.reg_arena.specs.Cells.{cell_at};
+ghost use Rattle.reg_records.specs.Keys.{KeyRecord, key_at};
+ghost use Rattle.reg_tree.specs.Changes.{HasList, HasSubkeysList, Notes, noted, noted_subkeys, raised, made_fields};
+
+use reg_arena::Arena;
+use reg_index::SubkeysIndex;
+use reg_records::{
+    KeyFields, read_nk, set_largest_subkey_name, set_largest_value_data, set_largest_value_name,
+    set_subkeys, set_subkeys_list, set_time, set_values,
+};
+use reg_values::ValuesList;
+
+/// No cell.
+pub const NONE: u32 = 0xFFFF_FFFF;
+
+/// The flags of a root: no delete, hive entry, and a name of one byte a character.
+const ROOT_FLAGS: u16 = 0x2C;
+
+/// The flags of a made key: a name of one byte a character.
+const MADE_FLAGS: u16 = 0x20;
+
+/// The fixed part of a new root's key node.
+pub fn new_root(security: u32, moment: u64) -> KeyFields
+    ensures { result ≡ record { flags = 44; time = moment; parent = 4294967295; subkeys = 0; subkeys_list = 4294967295; values = 0; values_list = 4294967295; security = security; class = 4294967295; class_length = 0; largest_subkey_name = 0; largest_subkey_class = 0; largest_value_name = 0; largest_value_data = 0 } }
+{
+    KeyFields {
+        flags: ROOT_FLAGS,
+        ..new_key(NONE, security, moment)
+    }
+}
+
+/// The fixed part of a made key's key node.
+pub fn new_key(parent: u32, security: u32, moment: u64) -> KeyFields
+    ensures { result ≡ made_fields parent security moment }
+{
+    KeyFields {
+        flags: MADE_FLAGS,
+        time: moment,
+        parent,
+        subkeys: 0,
+        subkeys_list: NONE,
+        values: 0,
+        values_list: NONE,
+        security,
+        class: NONE,
+        class_length: 0,
+        largest_subkey_name: 0,
+        largest_subkey_class: 0,
+        largest_value_name: 0,
+        largest_value_data: 0,
+    }
+}
+
+/// The fixed part of a key node.
+pub fn fields(arena: &Arena, key: u32) -> KeyFields
+    requires { IsSome (key_at (cell_at arena.now.bytes) key) }
+    ensures { (record_is : KeyRecord) → key_at (cell_at arena.now.bytes) key ≡ Some record_is → result ≡ record_is.fields }
+{
+    match read_nk(arena.content(key)) {
+        Ok(node) => node.fields,
+        Err(_) => unreachable!(),
+    }
+}
+
+/// The list of a key's values, as its key node names it.
+pub fn values_list(arena: &Arena, key: u32) -> ValuesList
+    requires { IsSome (key_at (cell_at arena.now.bytes) key) }
+    ensures { HasList (cell_at arena.now.bytes) key result.count result.place }
+{
+    let fields = fields(arena, key);
+    ValuesList {
+        count: fields.values,
+        place: fields.values_list,
+    }
+}
+
+/// The list of a key's subkeys, as its key node names it.
+pub fn subkeys_list(arena: &Arena, key: u32) -> SubkeysIndex
+    requires { IsSome (key_at (cell_at arena.now.bytes) key) }
+    ensures { HasSubkeysList (cell_at arena.now.bytes) key result.count result.place }
+{
+    let fields = fields(arena, key);
+    SubkeysIndex {
+        count: fields.subkeys,
+        place: fields.subkeys_list,
+    }
+}
+
+/// Notes a change of a key's values in its key node: their number and list, the time, and the largest lengths where the name
+/// (in characters) and the data (in bytes) are longer.
+pub fn note_values(arena: &mut Arena, key: u32, list: ValuesList, name: u32, size: u32, moment: u64)
+    requires exists { IsSome (key_at (cell_at arena.old.bytes) key) }
+    requires name { name < 2 ^ 31 }
+    ensures { Notes (cell_at arena.old.bytes) (cell_at arena.new.bytes) key (noted list.count list.place name size moment) }
+{
+    let old = fields(arena, key);
+    set_values(arena, key, list.count, list.place);
+    set_time(arena, key, moment);
+    set_largest_value_name(arena, key, old.largest_value_name.max(2 * name));
+    set_largest_value_data(arena, key, old.largest_value_data.max(size));
+}
+
+/// The largest length of a subkey's name, raised where a length is greater. It stands in the low 16 bits; the others stay.
+fn raise(largest: u32, length: u32) -> u32
+    requires { length < 65536 }
+    ensures { result ≡ raised largest length }
+{
+    let low = largest % 0x1_0000;
+    largest - low + low.max(length)
+}
+
+/// Notes a change of a key's subkeys in its key node: their number and list, the time, and the largest length of a name
+/// where this one (in characters) is longer.
+pub fn note_subkeys(arena: &mut Arena, key: u32, list: SubkeysIndex, name: u32, moment: u64)
+    requires exists { IsSome (key_at (cell_at arena.old.bytes) key) }
+    requires name { name ≤ 255 }
+    ensures { Notes (cell_at arena.old.bytes) (cell_at arena.new.bytes) key (noted_subkeys list.count list.place name moment) }
+{
+    let old = fields(arena, key);
+    set_subkeys(arena, key, list.count);
+    set_subkeys_list(arena, key, list.place);
+    set_time(arena, key, moment);
+    set_largest_subkey_name(arena, key, raise(old.largest_subkey_name, 2 * name));
+}

@@ -1,0 +1,221 @@
+//! Keys made.
+//!
+//! Win32 registry reference, `RegCreateKeyEx`.
+ghost use Rattle.std.specs.Prelude.{◌≡◌, ◌≢◌, ◌↔◌, ◌⊎◌, ◌≤◌, ◌<◌, ◌+◌, ◌-◌, ◌++◌, ◌∷◌, [], true, false, ℕ, List, Some, Err, IfOk, IfErr, OnErr, length, drop, get_or};
+ghost use Rattle.reg_names.specs.Names.{is_key_name, is_path, path_of};
+ghost use Rattle.reg_heap.specs.Paths.{children_of};
+ghost use Rattle.reg_heap.specs.Edits.{missing, AreTooMany};
+ghost use Rattle.reg_arena.specs.Cells.{cell_at};
+ghost use Rattle.reg_records.specs.Cells.{HasRoom};
+ghost use Rattle.reg_records.specs.Keys.{KeyRecord, key_at};
+ghost use Rattle.reg_index.specs.Subkeys.{IsReady, taken};
+ghost use Rattle.reg_tree.specs.Keys.{tree_in};
+ghost use Rattle.reg_tree.specs.Holds.{IsHere};
+ghost use Rattle.reg_tree.specs.Growing.{planned, MayGrow, Grows, AreReady, MayGrowAll, GrowsAll, sizes_of, IsSpared};
+ghost use Rattle.reg_tree.specs.Creates.{IsCreated};
+
+use crate::cells::cell_size;
+use crate::find::reach;
+use crate::key::{NONE, fields, new_key, note_subkeys, subkeys_list};
+use crate::ring::{recount, with_one_more};
+use crate::{Created, Node, TreeFault};
+use reg_arena::Arena;
+use reg_index::{SubkeysIndex, find, insert, len, plan_insert};
+use reg_names::first_name;
+use reg_records::put_nk;
+use std::alloc::{AllocError, Global};
+
+/// How many keys one call makes at most.
+const MADE_LIMIT: u32 = 32;
+
+/// How many names a key's path has at most.
+const DEPTH_LIMIT: u32 = 512;
+
+/// How many subkeys a key has at most, until it has index roots.
+const SUBKEYS_LIMIT: u32 = 500;
+
+/// The size of a cell for a list of one subkey.
+const FIRST_LIST: u32 = 16;
+
+/// Makes a key below another in cells carved for it: its key node, and its parent's list where that takes another cell. What
+/// its parent says of it is noted, with the time.
+fn make(arena: &mut Arena, parent: u32, list_cell: u32, key: u32, name: &[u8], moment: u64)
+    requires grow { (left : List ℕ) × MayGrow arena.old.bytes parent (taken (planned (cell_at arena.old.bytes) parent) list_cell ++ key ∷ left) name.now }
+    requires ready { IsReady (cell_at arena.old.bytes) (planned (cell_at arena.old.bytes) parent) list_cell }
+    requires room { HasRoom (cell_at arena.old.bytes) key (76 + length name.now) }
+    requires name { (is_key_name name.now ≡ true) × (length name.now ≤ 255) }
+    ensures { (left : List ℕ) → (m : MayGrow arena.old.bytes parent (taken (planned (cell_at arena.old.bytes) parent) list_cell ++ key ∷ left) name.now) → Grows (cell_at arena.old.bytes) (cell_at arena.new.bytes) m.growing.root m.growing.path m.growing.keys m.growing.first key left name.now moment }
+{
+    let above = fields(arena, parent);
+    let users = with_one_more(arena, above.security);
+    let list = SubkeysIndex {
+        count: above.subkeys,
+        place: above.subkeys_list,
+    };
+    let Err(index) = find(arena, list, name) else {
+        unreachable!()
+    };
+    put_nk(arena, key, &new_key(parent, above.security, moment), name);
+    let list = insert(arena, list, list_cell, index, key);
+    note_subkeys(arena, parent, list, name.len() as u32, moment);
+    recount(arena, above.security, users);
+}
+
+/// Makes a key below another in the first of some spare cells, and answers how many it took; the last of these is the key's.
+fn make_in(arena: &mut Arena, parent: u32, spare: &[u32], name: &[u8], moment: u64) -> usize
+    requires grow { MayGrow arena.old.bytes parent spare.now name.now }
+    requires ready { (names : List (List ℕ)) × AreReady (cell_at arena.old.bytes) (planned (cell_at arena.old.bytes) parent) (name.now ∷ names) spare.now }
+    requires name { (is_key_name name.now ≡ true) × (length name.now ≤ 255) }
+    ensures taken { (1 ≤ result) × (result ≤ 2) × (result ≤ length spare.now) }
+    ensures grows { (m : MayGrow arena.old.bytes parent spare.now name.now) → Grows (cell_at arena.old.bytes) (cell_at arena.new.bytes) m.growing.root m.growing.path m.growing.keys m.growing.first (get_or spare.now (result - 1) 0) (drop result spare.now) name.now moment }
+    ensures ready { (names : List (List ℕ)) → AreReady (cell_at arena.old.bytes) (planned (cell_at arena.old.bytes) parent) (name.now ∷ names) spare.now → AreReady (cell_at arena.old.bytes) (Some 16) names (drop result spare.now) }
+{
+    let list = subkeys_list(arena, parent);
+    match plan_insert(arena, list) {
+        None => {
+            make(arena, parent, NONE, spare[0], name, moment);
+            1
+        }
+        Some(_) => {
+            make(arena, parent, spare[0], spare[1], name, moment);
+            2
+        }
+    }
+}
+
+/// Makes the keys of a path, one below the other, in spare cells, and answers the last.
+fn make_all(arena: &mut Arena, from: Node, path: &[u8], spare: &[u32], moment: u64) -> Node
+    requires grow { MayGrowAll arena.old.bytes from (path_of path.now) spare.now }
+    requires depth { from.depth ≤ 512 }
+    requires path { is_path path.now ≡ true }
+    ensures { (m : MayGrowAll arena.old.bytes from (path_of path.now) spare.now) → GrowsAll (cell_at arena.old.bytes) (cell_at arena.new.bytes) m.growing.root m.growing.path m.growing.keys m.growing.first from result (path_of path.now) moment }
+{
+    let mut node = from;
+    let mut rest = path;
+    let mut spare = spare;
+    while let Some((name, behind)) = first_name(rest) {
+        let taken = make_in(arena, node.offset, spare, name, moment);
+        node = Node {
+            offset: spare[taken - 1],
+            depth: node.depth + 1,
+        };
+        spare = &spare[taken..];
+        rest = behind;
+    }
+    node
+}
+
+/// How many names a path has.
+fn count_names(path: &[u8]) -> u32
+    requires { is_path path.now ≡ true }
+    ensures { result ≡ length (path_of path.now) }
+{
+    let mut rest = path;
+    let mut count = 0;
+    while let Some((_, behind)) = first_name(rest) {
+        count += 1;
+        rest = behind;
+    }
+    count
+}
+
+/// Whether the names of a path are too many to be made below a key.
+fn are_too_many(arena: &Arena, parent: Node, path: &[u8]) -> bool
+    requires here { IsHere arena.now.bytes parent.offset }
+    requires depth { parent.depth ≤ 1024 }
+    requires path { is_path path.now ≡ true }
+    ensures many { (t : IsHere arena.now.bytes parent.offset) → ((result ≡ true) ↔ ((32 < length (path_of path.now)) ⊎ ((512 < parent.depth + length (path_of path.now)) ⊎ (500 ≤ length (children_of (tree_in arena.now.bytes t.root) t.path))))) }
+    ensures room { result ≡ false → (length (path_of path.now) ≤ 32) × (parent.depth + length (path_of path.now) ≤ 512) × ((k : KeyRecord) → key_at (cell_at arena.now.bytes) parent.offset ≡ Some k → k.fields.subkeys < 500) }
+{
+    let count = count_names(path);
+    if count > MADE_LIMIT {
+        return true;
+    }
+    if parent.depth + count > DEPTH_LIMIT {
+        return true;
+    }
+    len(subkeys_list(arena, parent.offset)) >= SUBKEYS_LIMIT
+}
+
+/// The sizes of the cells that making keys takes, in order: for each, that of its parent's list where it needs one, and that of
+/// its key node. The first parent's is planned; those made have no list yet.
+fn sizes_for(alloc: Global, planned: Option<u32>, path: &[u8]) -> Result<Vec<u32>, AllocError>
+    requires { is_path path.now ≡ true }
+    ensures { IfOk result (λ sizes. sizes.items ≡ sizes_of planned (path_of path.now)) }
+{
+    let mut sizes = Vec::new(alloc);
+    let mut list = planned;
+    let mut rest = path;
+    while let Some((name, behind)) = first_name(rest) {
+        if let Some(size) = list {
+            sizes.push(size)?;
+        }
+        sizes.push(cell_size(76 + name.len() as u32))?;
+        list = Some(FIRST_LIST);
+        rest = behind;
+    }
+    Ok(sizes)
+}
+
+/// Carves the cells that keys of a path's names take below a key.
+fn carve_for(
+    arena: &mut Arena,
+    alloc: Global,
+    parent: u32,
+    path: &[u8],
+) -> Result<Vec<u32>, TreeFault>
+    requires here { IsHere arena.old.bytes parent }
+    requires path { is_path path.now ≡ true }
+    requires some { path_of path.now ≢ [] }
+    requires few { length (path_of path.now) ≤ 32 }
+    ensures ok { IfOk result (λ cells. IsSpared arena.old.bytes arena.new.bytes parent (path_of path.now) cells.items) }
+    ensures full { (result ≡ Err TreeFault.Full) → 268435456 < length arena.old.bytes + 1310720 }
+    ensures others { IfErr result (λ fault. (fault ≡ TreeFault.Full) ⊎ (fault ≡ TreeFault.Memory)) }
+    ensures err { OnErr result (arena.new ≡ arena.old) }
+{
+    let planned = plan_insert(arena, subkeys_list(arena, parent));
+    let sizes = match sizes_for(alloc, planned, path) {
+        Ok(sizes) => sizes,
+        Err(AllocError) => return Err(TreeFault::Memory),
+    };
+    let mut cells = Vec::new(alloc);
+    match arena.carve(&sizes, &mut cells) {
+        Ok(()) => Ok(cells),
+        Err(fault) => Err(TreeFault::from(fault)),
+    }
+}
+
+/// Makes the keys of a path from a key on that are missing, and answers the last key and whether one was made.
+pub fn create(
+    arena: &mut Arena,
+    alloc: Global,
+    from: Node,
+    path: &[u8],
+    moment: u64,
+) -> Result<Created, TreeFault>
+    requires here { (t : IsHere arena.old.bytes from.offset) × (from.depth ≡ length t.path) }
+    requires path { is_path path.now ≡ true }
+    ensures ok { (t : IsHere arena.old.bytes from.offset) → from.depth ≡ length t.path → IfOk result (λ made. IsCreated arena.old.bytes arena.new.bytes t.root t.path from (path_of path.now) moment made.node) }
+    ensures new { (t : IsHere arena.old.bytes from.offset) → IfOk result (λ made. (made.is_new ≡ true) ↔ (missing (tree_in arena.old.bytes t.root) t.path (path_of path.now) ≢ [])) }
+    ensures limit { (t : IsHere arena.old.bytes from.offset) → from.depth ≡ length t.path → ((result ≡ Err TreeFault.Limit) ↔ AreTooMany (tree_in arena.old.bytes t.root) t.path (path_of path.now)) }
+    ensures full { (result ≡ Err TreeFault.Full) → 268435456 < length arena.old.bytes + 1310720 }
+    ensures others { IfErr result (λ fault. (fault ≡ TreeFault.Limit) ⊎ ((fault ≡ TreeFault.Full) ⊎ (fault ≡ TreeFault.Memory))) }
+    ensures err { OnErr result (arena.new ≡ arena.old) }
+{
+    let (parent, rest) = reach(arena, from, path);
+    if rest.is_empty() {
+        return Ok(Created {
+            node: parent,
+            is_new: false,
+        });
+    }
+    if are_too_many(arena, parent, rest) {
+        return Err(TreeFault::Limit);
+    }
+    let cells = match carve_for(arena, alloc, parent.offset, rest) {
+        Ok(cells) => cells,
+        Err(fault) => return Err(fault),
+    };
+    let node = make_all(arena, parent, rest, &cells, moment);
+    Ok(Created { node, is_new: true })
+}

@@ -1,0 +1,69 @@
+//! What is told of a key.
+ghost use Rattle.std.specs.Prelude.{◌≡◌, ◌≤◌, ◌+◌, Some, length};
+ghost use Rattle.std.specs.FinMap.{get};
+ghost use Rattle.reg_heap.specs.Paths.{Rec, children_of};
+ghost use Rattle.reg_arena.specs.Cells.{cell_at};
+ghost use Rattle.reg_tree.specs.Keys.{tree_in};
+ghost use Rattle.reg_tree.specs.Holds.{IsHere};
+ghost use Rattle.reg_tree.specs.Walks.{IsSubkey};
+
+use crate::Node;
+use crate::key::{fields, subkeys_list};
+use reg_arena::Arena;
+use reg_index::{at, len};
+use reg_records::{read_nk, read_sk};
+
+/// A key's name, as it was given.
+pub fn name(arena: &Arena, key: u32) -> &[u8]
+    requires { IsHere arena.now.bytes key }
+    ensures { (t : IsHere arena.now.bytes key) → (r : Rec) → get (tree_in arena.now.bytes t.root) t.path ≡ Some r → result.now ≡ r.name }
+{
+    match read_nk(arena.content(key)) {
+        Ok(node) => node.name,
+        Err(_) => unreachable!(),
+    }
+}
+
+/// A key's last write time.
+pub fn time(arena: &Arena, key: u32) -> u64
+    requires { IsHere arena.now.bytes key }
+    ensures { (t : IsHere arena.now.bytes key) → (r : Rec) → get (tree_in arena.now.bytes t.root) t.path ≡ Some r → result ≡ r.time }
+{
+    fields(arena, key).time
+}
+
+/// The bytes of a key's security descriptor.
+pub fn descriptor(arena: &Arena, key: u32) -> &[u8]
+    requires { IsHere arena.now.bytes key }
+    ensures { (t : IsHere arena.now.bytes key) → (r : Rec) → get (tree_in arena.now.bytes t.root) t.path ≡ Some r → result.now ≡ r.descriptor }
+{
+    let security = fields(arena, key).security;
+    match read_sk(arena.content(security)) {
+        Ok(read) => read.descriptor,
+        Err(_) => unreachable!(),
+    }
+}
+
+/// How many keys are right below a key.
+pub fn subkeys(arena: &Arena, key: u32) -> u32
+    requires { IsHere arena.now.bytes key }
+    ensures { (t : IsHere arena.now.bytes key) → result ≡ length (children_of (tree_in arena.now.bytes t.root) t.path) }
+{
+    len(subkeys_list(arena, key))
+}
+
+/// The key at an index among those right below a key, in the order of their folded names, if there are so many.
+pub fn subkey(arena: &Arena, node: Node, index: u32) -> Option<Node>
+    requires here { IsHere arena.now.bytes node.offset }
+    requires depth { node.depth ≤ 512 }
+    ensures { (t : IsHere arena.now.bytes node.offset) → IsSubkey (cell_at arena.now.bytes) t.root t.path (children_of (tree_in arena.now.bytes t.root) t.path) node index result }
+{
+    let list = subkeys_list(arena, node.offset);
+    if index >= len(list) {
+        return None;
+    }
+    Some(Node {
+        offset: at(arena, list, index),
+        depth: node.depth + 1,
+    })
+}

@@ -1,0 +1,59 @@
+//! The hive's key security, and how many keys use it.
+ghost use Rattle.std.specs.Prelude.{◌≡◌, ◌≤◌, ◌<◌, ◌+◌, ◌-◌, IsSome, Some, length};
+ghost use Rattle.reg_arena.specs.Cells.{cell_at};
+ghost use Rattle.reg_records.specs.Securities.{KeySecurityRecord, security_at};
+ghost use Rattle.reg_tree.specs.Changes.{Recounts};
+
+use reg_arena::Arena;
+use reg_records::{SecurityFields, read_sk, set_security_count};
+
+/// The fixed part of a hive's first key security, which one key uses.
+pub fn new_ring(security: u32) -> SecurityFields
+    ensures { result ≡ record { flink = security; blink = security; count = 1 } }
+{
+    SecurityFields {
+        flink: security,
+        blink: security,
+        count: 1,
+    }
+}
+
+/// How many keys use a key security.
+fn count(arena: &Arena, security: u32) -> u32
+    requires { IsSome (security_at (cell_at arena.now.bytes) security) }
+    ensures { (s : KeySecurityRecord) → security_at (cell_at arena.now.bytes) security ≡ Some s → result ≡ s.fields.count }
+{
+    match read_sk(arena.content(security)) {
+        Ok(read) => read.fields.count,
+        Err(_) => unreachable!(),
+    }
+}
+
+/// How many keys use a key security, with one key more. There are fewer keys than bytes.
+pub fn with_one_more(arena: &Arena, security: u32) -> u32
+    requires there { IsSome (security_at (cell_at arena.now.bytes) security) }
+    requires few { (s : KeySecurityRecord) → security_at (cell_at arena.now.bytes) security ≡ Some s → s.fields.count < length arena.now.bytes }
+    ensures { (s : KeySecurityRecord) → security_at (cell_at arena.now.bytes) security ≡ Some s → result ≡ s.fields.count + 1 }
+{
+    let count = count(arena, security);
+    prove!(count < arena.bins_size());
+    count + 1
+}
+
+/// Writes how many keys use a key security.
+pub fn recount(arena: &mut Arena, security: u32, count: u32)
+    requires { IsSome (security_at (cell_at arena.old.bytes) security) }
+    ensures { Recounts (cell_at arena.old.bytes) (cell_at arena.new.bytes) security (λ n. count) }
+{
+    set_security_count(arena, security, count);
+}
+
+/// Counts one key less that uses a key security.
+pub fn release(arena: &mut Arena, security: u32)
+    requires there { IsSome (security_at (cell_at arena.old.bytes) security) }
+    requires some { (s : KeySecurityRecord) → security_at (cell_at arena.old.bytes) security ≡ Some s → 1 ≤ s.fields.count }
+    ensures { Recounts (cell_at arena.old.bytes) (cell_at arena.new.bytes) security (λ n. n - 1) }
+{
+    let count = count(arena, security);
+    set_security_count(arena, security, count - 1);
+}

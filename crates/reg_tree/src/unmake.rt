@@ -1,0 +1,117 @@
+//! Keys deleted.
+//!
+//! Win32 registry reference, `RegDeleteKey`.
+
+ghost use Rattle.std.specs.Prelude.{◌≡◌, ◌≢◌, ◌⊎◌, ◌↔◌, ◌==◌, not, true, ℕ, List, [], length, Some, Err, IsSome, OnOk, OnErr, IfErr};
+ghost use Rattle.reg_heap.specs.Paths.{children_of};
+ghost use Rattle.reg_heap.specs.Edits.{IsKept};
+ghost use Rattle.reg_heap.specs.Heaps.{Swaps};
+ghost use Rattle.reg_heap.specs.Kinds.{owned};
+ghost use Rattle.reg_arena.specs.Cells.{cell_at};
+ghost use Rattle.reg_records.specs.Keys.{KeyRecord, key_at};
+ghost use Rattle.reg_records.specs.Lists.{Entry};
+ghost use Rattle.reg_records.specs.Nodes.{Node as KeyWithCells, look};
+ghost use Rattle.reg_values.specs.Parts.{Owns, GivesUpRead};
+ghost use Rattle.reg_tree.specs.Keys.{tree_in};
+ghost use Rattle.reg_tree.specs.Holds.{IsHere};
+ghost use Rattle.reg_tree.specs.Deletes.{IsListed, IsUnlinked, IsSole, IsDeleted, class_at};
+
+use crate::TreeFault;
+use crate::key::{fields, note_subkeys, subkeys_list, values_list};
+use crate::ring::release;
+use reg_arena::Arena;
+use reg_index::{find, remove};
+use reg_records::{KeyFields, read_nk};
+use reg_values::clear;
+
+/// The mark of a hive's root.
+const HIVE_ENTRY: u16 = 0x04;
+
+/// The mark of a key that may not be deleted.
+const NO_DELETE: u16 = 0x08;
+
+/// The name of a key, as its key node has it.
+fn name_of(arena: &Arena, key: u32) -> &[u8]
+    requires { IsSome (key_at (cell_at arena.now.bytes) key) }
+    ensures { (record_is : KeyRecord) → key_at (cell_at arena.now.bytes) key ≡ Some record_is → result.now ≡ record_is.name }
+{
+    match read_nk(arena.content(key)) {
+        Ok(node) => node.name,
+        Err(_) => unreachable!(),
+    }
+}
+
+/// Takes a key out of its parent's subkeys, and notes that with the time.
+fn unlink(arena: &mut Arena, parent: u32, key: u32, moment: u64)
+    requires { (above : KeyRecord) × (entries : List Entry) × (index : ℕ) × IsListed (cell_at arena.old.bytes) parent key above entries index }
+    ensures { (above : KeyRecord) → (entries : List Entry) → (index : ℕ) → IsListed (cell_at arena.old.bytes) parent key above entries index → IsUnlinked (cell_at arena.old.bytes) (cell_at arena.new.bytes) parent above entries index moment }
+{
+    let list = subkeys_list(arena, parent);
+    let Ok(index) = find(arena, list, name_of(arena, key)) else {
+        unreachable!()
+    };
+    let after = remove(arena, list, index);
+    note_subkeys(arena, parent, after, 0, moment);
+}
+
+/// Frees a key's class, where it has one.
+fn free_class(arena: &mut Arena, fields: KeyFields)
+    requires { Owns (class_at fields) (cell_at arena.old.bytes) }
+    ensures { GivesUpRead (class_at fields) (cell_at arena.old.bytes) (cell_at arena.new.bytes) }
+{
+    if fields.class_length == 0 {
+        return;
+    }
+    arena.free(fields.class);
+}
+
+/// Frees a key's values, its class and its key node.
+fn free_key(arena: &mut Arena, key: u32)
+    requires { IsSole (cell_at arena.old.bytes) key }
+    ensures { (node : KeyWithCells) → look (cell_at arena.old.bytes) key ≡ Some node → Swaps (cell_at arena.old.bytes) (cell_at arena.new.bytes) (λ offset. owned offset node.cells) (λ offset. 0) }
+{
+    let head = fields(arena, key);
+    let values = values_list(arena, key);
+    clear(arena, values);
+    free_class(arena, head);
+    arena.free(key);
+}
+
+/// Whether a key has subkeys.
+fn has_children(arena: &Arena, key: u32) -> bool
+    requires { IsHere arena.now.bytes key }
+    ensures { (t : IsHere arena.now.bytes key) → result ≡ not (length (children_of (tree_in arena.now.bytes t.root) t.path) == 0) }
+{
+    fields(arena, key).subkeys != 0
+}
+
+/// Whether a key may not be deleted: the root, and one marked so.
+fn is_kept(arena: &Arena, key: u32) -> bool
+    requires { IsHere arena.now.bytes key }
+    ensures { (t : IsHere arena.now.bytes key) → ((result ≡ true) ↔ IsKept (tree_in arena.now.bytes t.root) t.path) }
+{
+    let flags = fields(arena, key).flags;
+    flags & HIVE_ENTRY != 0 || flags & NO_DELETE != 0
+}
+
+/// Deletes a key with its values, and sets its parent's time. It takes no memory.
+pub fn delete(arena: &mut Arena, key: u32, moment: u64) -> Result<(), TreeFault>
+    requires { IsHere arena.old.bytes key }
+    ensures ok { (t : IsHere arena.old.bytes key) → OnOk result (IsDeleted arena.old.bytes arena.new.bytes t.root t.path moment) }
+    ensures children { (t : IsHere arena.old.bytes key) → ((result ≡ Err TreeFault.HasChildren) ↔ (children_of (tree_in arena.old.bytes t.root) t.path ≢ [])) }
+    ensures kept { (t : IsHere arena.old.bytes key) → ((result ≡ Err TreeFault.NoDelete) ↔ ((children_of (tree_in arena.old.bytes t.root) t.path ≡ []) × IsKept (tree_in arena.old.bytes t.root) t.path)) }
+    ensures others { IfErr result (λ fault. (fault ≡ TreeFault.HasChildren) ⊎ (fault ≡ TreeFault.NoDelete)) }
+    ensures err { OnErr result (arena.new ≡ arena.old) }
+{
+    if has_children(arena, key) {
+        return Err(TreeFault::HasChildren);
+    }
+    if is_kept(arena, key) {
+        return Err(TreeFault::NoDelete);
+    }
+    let head = fields(arena, key);
+    unlink(arena, head.parent, key, moment);
+    free_key(arena, key);
+    release(arena, head.security);
+    Ok(())
+}
