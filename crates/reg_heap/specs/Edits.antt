@@ -1,5 +1,5 @@
 -- Keys changed in a tree (Win32 registry reference, `RegCreateKeyEx`, `RegDeleteKey`, `RegSetValueEx`, `RegDeleteValue`).
-use Rattle.std.specs.Prelude.{◌≡◌, ◌≢◌, ◌⊎◌, ◌<◌, ◌≤◌, ℕ, ◌+◌, ◌-◌, ◌==◌, Bool, false, List, [], ◌∷◌, ◌++◌, map, length, take, cond, is_some, bit_and, Option, Some, None}
+use Rattle.std.specs.Prelude.{◌≡◌, ◌≢◌, ◌⊎◌, ◌<◌, ◌≤◌, ℕ, ◌+◌, ◌-◌, ◌==◌, ◌||◌, ◌&&◌, not, nat_lt, nat_le, Bool, false, List, [], ◌∷◌, ◌++◌, map, length, take, cond, is_some, bit_and, Option, Some, None}
 use Rattle.std.specs.FinMap.{get, insert, remove}
 use Rattle.reg_names.specs.Names.{folded, path_of}
 use Rattle.reg_heap.specs.Paths.{Path, Tree, Rec, Member, children_of}
@@ -79,6 +79,11 @@ pub record AreTooMany (t : Tree) (p : Path) (names : List (List ℕ)) : Type 0 w
   pub some : missing t p names ≢ []
   pub many : (32 < length (missing t p names)) ⊎ ((512 < length p + length names) ⊎ (500 ≤ length (children_of t (last_there t p names))))
 
+-- the same as a test
+abbrev pub are_too_many : Tree → Path → List (List ℕ) → Bool
+are_too_many t p names =
+    nat_lt 0 (length (missing t p names)) && (nat_lt 32 (length (missing t p names)) || nat_lt 512 (length p + length names) || nat_le 500 (length (children_of t (last_there t p names))))
+
 -- the path of the key above
 abbrev pub above : Path → Path
 above p = take (length p - 1) p
@@ -94,3 +99,7 @@ marks_of (Some r) = r.marks
 -- a key that may not be deleted: the root, or one with mark 0x08
 abbrev pub IsKept : Tree → Path → Type 0
 IsKept t p = (p ≡ []) ⊎ ((bit_and (marks_of (get t p)) 8 == 0) ≡ false)
+
+-- a key that has subkeys, or mark 0x08
+abbrev pub may_not_go : Tree → Path → Bool
+may_not_go t p = nat_lt 0 (length (children_of t p)) || not (bit_and (marks_of (get t p)) 8 == 0)

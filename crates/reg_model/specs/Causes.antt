@@ -1,14 +1,15 @@
 -- Which calls are refused: the first refusal in the order of the rules.
 use Rattle.std.specs.Prelude.{ℕ, ◌+◌, ◌==◌, ◌||◌, ◌&&◌, not, nat_lt, nat_le, Bool, List, [], count_by, length, if◌then◌else◌, Option, Some, None, is_some, bit_and}
-use Rattle.reg_names.specs.Names.{is_value_name}
-use Rattle.reg_heap.specs.Paths.{Member}
+use Rattle.std.specs.FinMap.{get}
+use Rattle.reg_names.specs.Names.{is_value_name, is_path, path_of}
+use Rattle.reg_heap.specs.Paths.{Path, Member, children_of}
 use Rattle.reg_heap.specs.Members.{value_named}
-use Rattle.reg_heap.specs.Edits.{values_at}
-use Rattle.reg_model.specs.Worlds.{World, Handle, Place, At, Deleted, look, path_at}
+use Rattle.reg_heap.specs.Edits.{values_at, are_too_many, may_not_go}
+use Rattle.reg_model.specs.Worlds.{World, Handle, Place, At, Deleted, look, path_at, path_from}
 use Rattle.reg_model.specs.declared.call.Change.{Change}
-use Rattle.reg_model.specs.declared.call.Change.TheVariants.{OpenRoot, SetValue, DeleteValue}
+use Rattle.reg_model.specs.declared.call.Change.TheVariants.{OpenRoot, OpenKey, CreateKey, SetValue, DeleteValue, DeleteKey, Close}
 use Rattle.reg_model.specs.declared.call.Query.{Query}
-use Rattle.reg_model.specs.declared.call.Query.TheVariants.{QueryValue}
+use Rattle.reg_model.specs.declared.call.Query.TheVariants.{QueryValue, EnumKey, EnumValue, QueryInfo}
 
 -- where a call finds the hive: the number of entries so far, and the world
 pub record State : Type 0 where
@@ -64,20 +65,42 @@ is_bad_value name bytes = not (is_value_name name) || nat_lt 1048576 (length byt
 abbrev pub no_value_room : List ℕ → List Member → Bool
 no_value_room name values = nat_le 16384 (length values) && not (is_some (value_named name values))
 
+-- no path, or no mask
+abbrev pub is_bad_open : List ℕ → ℕ → Bool
+is_bad_open path mask = not (is_path path) || not (is_mask mask)
+
+-- no path, or the empty one, which would be the handle's own key
+abbrev pub is_bad_target : List ℕ → Bool
+is_bad_target path = not (is_path path) || length path == 0
+
+-- the keys that the path misses would be too many
+abbrev pub no_key_room : State → ℕ → ℕ → List ℕ → Bool
+no_key_room s session h path = are_too_many s.world.tree (path_at session h s.world.handles) (path_of path)
+
 -- what is refused before the callbacks are asked: 6, 1018, 87, 5 and 1450 by a count
 unfoldable pub early_cause : State → ℕ → Change → Option ℕ
 early_cause s session change = by change
   where
     by : Change → Option ℕ
     by (OpenRoot mask) = refuse (not (is_mask mask)) 87 or refuse (no_handle_room session s) 1450
+    by (OpenKey h path mask) =
+        by_handle (λ r. refuse (is_bad_open path mask) 87 or refuse (no_handle_room session s) 1450) (look session h s.world.handles)
+    by (CreateKey h path mask) =
+        by_handle (λ r. refuse (is_bad_open path mask) 87 or refuse (no_handle_room session s || no_key_room s session h path) 1450) (look session h s.world.handles)
     by (SetValue h name kind bytes) =
         by_handle (λ r. refuse (is_bad_value name bytes) 87 or refuse (not (has 2 r.mask)) 5 or refuse (is_full 1 s || no_value_room name (values_at s.world.tree (path_at session h s.world.handles))) 1450) (look session h s.world.handles)
     by (DeleteValue h name) =
         by_handle (λ r. refuse (not (is_value_name name)) 87 or refuse (not (has 2 r.mask)) 5 or refuse (is_full 1 s) 1450) (look session h s.world.handles)
+    by (DeleteKey h path) = by_handle (λ r. refuse (is_bad_target path) 87 or refuse (is_full 1 s) 1450) (look session h s.world.handles)
+    by (Close h) = refuse (not (is_some (look session h s.world.handles))) 6
 
 -- the handle's key has no value of that name
 abbrev pub lacks_value : State → ℕ → ℕ → List ℕ → Bool
 lacks_value s session h name = not (is_some (value_named name (values_at s.world.tree (path_at session h s.world.handles))))
+
+-- no key is at the end of the path from the handle's key
+abbrev pub lacks_key : State → ℕ → ℕ → List ℕ → Bool
+lacks_key s session h path = not (is_some (get s.world.tree (path_from session h s.world.handles path)))
 
 -- what is refused after them: the call's own cause
 unfoldable pub late_cause : State → ℕ → Change → Option ℕ
@@ -85,24 +108,51 @@ late_cause s session change = by change
   where
     by : Change → Option ℕ
     by (OpenRoot mask) = None
+    by (OpenKey h path mask) = refuse (lacks_key s session h path) 2
+    by (CreateKey h path mask) = None
     by (SetValue h name kind bytes) = None
     by (DeleteValue h name) = refuse (lacks_value s session h name) 2
+    by (DeleteKey h path) = refuse (lacks_key s session h path) 2 or refuse (may_not_go s.world.tree (path_from session h s.world.handles path)) 5
+    by (Close h) = None
+
+-- the callbacks' status, where they are asked: before every change but Close
+unfoldable pub asked_before : Change → ℕ → Option ℕ
+asked_before (Close h) c = None
+asked_before (OpenRoot mask) c = asked c
+asked_before (OpenKey h path mask) c = asked c
+asked_before (CreateKey h path mask) c = asked c
+asked_before (SetValue h name kind bytes) c = asked c
+asked_before (DeleteValue h name) c = asked c
+asked_before (DeleteKey h path) c = asked c
 
 -- the first refusal of a change; c is the callbacks' status
 abbrev pub change_cause : State → ℕ → Change → ℕ → Option ℕ
-change_cause s session change c = early_cause s session change or asked c or late_cause s session change
+change_cause s session change c = early_cause s session change or asked_before change c or late_cause s session change
+
+-- the paths of the subkeys of the handle's key, and its values
+abbrev pub subkeys_of : State → ℕ → ℕ → List Path
+subkeys_of s session h = children_of s.world.tree (path_at session h s.world.handles)
+
+abbrev pub members_of : State → ℕ → ℕ → List Member
+members_of s session h = values_at s.world.tree (path_at session h s.world.handles)
 
 unfoldable pub early_query_cause : State → ℕ → Query → Option ℕ
 early_query_cause s session query = by query
   where
     by : Query → Option ℕ
     by (QueryValue h name room) = by_handle (λ r. refuse (not (is_value_name name)) 87 or refuse (not (has 1 r.mask)) 5) (look session h s.world.handles)
+    by (EnumKey h index room) = by_handle (λ r. refuse (not (has 8 r.mask)) 5) (look session h s.world.handles)
+    by (EnumValue h index name_room room) = by_handle (λ r. refuse (not (has 1 r.mask)) 5) (look session h s.world.handles)
+    by (QueryInfo h) = by_handle (λ r. refuse (not (has 1 r.mask)) 5) (look session h s.world.handles)
 
 unfoldable pub late_query_cause : State → ℕ → Query → Option ℕ
 late_query_cause s session query = by query
   where
     by : Query → Option ℕ
     by (QueryValue h name room) = refuse (lacks_value s session h name) 2
+    by (EnumKey h index room) = refuse (nat_le (length (subkeys_of s session h)) index) 259
+    by (EnumValue h index name_room room) = refuse (nat_le (length (members_of s session h)) index) 259
+    by (QueryInfo h) = None
 
 -- the first refusal of a question; c is the callbacks' status
 abbrev pub query_cause : State → ℕ → Query → ℕ → Option ℕ

@@ -1,9 +1,11 @@
 -- A world, and what an accepted change makes of it.
-use Rattle.std.specs.Prelude.{ℕ, ◌==◌, List, [], ◌∷◌, ◌++◌, if◌then◌else◌, Option, Some, None}
-use Rattle.reg_heap.specs.Paths.{Path, Tree}
-use Rattle.reg_heap.specs.Edits.{edited, with_value, without_value}
+use Rattle.std.specs.Prelude.{ℕ, ◌==◌, Bool, not, List, [], ◌∷◌, ◌++◌, map, filter, if◌then◌else◌, Option, Some, None}
+use Rattle.std.specs.Ordering.{eq_by_cmp}
+use Rattle.reg_names.specs.Names.{path_of}
+use Rattle.reg_heap.specs.Paths.{Path, Tree, path_cmp}
+use Rattle.reg_heap.specs.Edits.{edited, with_value, without_value, folded_path, with_keys, without_key}
 use Rattle.reg_model.specs.declared.call.Change.{Change}
-use Rattle.reg_model.specs.declared.call.Change.TheVariants.{OpenRoot, SetValue, DeleteValue}
+use Rattle.reg_model.specs.declared.call.Change.TheVariants.{OpenRoot, OpenKey, CreateKey, SetValue, DeleteValue, DeleteKey, Close}
 use Rattle.reg_model.specs.declared.reply.Entry.{Entry}
 
 -- where a handle leads: to a key, or nowhere any more
@@ -48,15 +50,45 @@ path_at session number hs = by (look session number hs)
     by None = []
     by (Some h) = path_in h.place
 
+-- the path that is written as text, from a handle's key on
+abbrev pub path_from : ℕ → ℕ → List Handle → List ℕ → Path
+path_from session number hs text = path_at session number hs ++ folded_path text
+
 -- a handle that an entry opens has the entry's number
 abbrev pub opened : Entry → Path → ℕ → Handle
 opened e p mask = record { number = e.number; session = e.session; mask = mask; place = At p }
 
--- the world after an accepted change (`RegOpenKeyEx`, `RegSetValueEx`, `RegDeleteValue`): one line for each change
+-- the handles without the one of that number
+abbrev pub closed : ℕ → List Handle → List Handle
+closed number hs = filter (λ (h : Handle). not (h.number == number)) hs
+
+abbrev pub same_path : Path → Path → Bool
+same_path = eq_by_cmp path_cmp
+
+-- where a handle leads once the key at a path is gone
+abbrev pub place_without : Path → Place → Place
+place_without p (At q) = if same_path q p then Deleted else At q
+place_without p Deleted = Deleted
+
+-- the handles once the key at a path is gone: those on it lead nowhere any more
+abbrev pub turned : Path → List Handle → List Handle
+turned p hs = map (λ (h : Handle). record h { place = place_without p h.place }) hs
+
+-- the world after an accepted change (`RegOpenKeyEx`, `RegCreateKeyEx`, `RegSetValueEx`, `RegDeleteValue`, `RegDeleteKey`,
+-- `RegCloseKey`): one line for each change
 unfoldable pub after : World → Entry → World
 after w e = by e.change
   where
     by : Change → World
     by (OpenRoot mask) = record w { handles = w.handles ++ opened e [] mask ∷ [] }
+    by (OpenKey h path mask) = record w { handles = w.handles ++ opened e (path_from e.session h w.handles path) mask ∷ [] }
+    by (CreateKey h path mask) =
+        record {
+          tree = with_keys w.tree (path_at e.session h w.handles) (path_of path) e.moment
+          handles = w.handles ++ opened e (path_from e.session h w.handles path) mask ∷ []
+        }
     by (SetValue h name kind bytes) = record w { tree = edited w.tree (path_at e.session h w.handles) (with_value name kind bytes e.moment) }
     by (DeleteValue h name) = record w { tree = edited w.tree (path_at e.session h w.handles) (without_value name e.moment) }
+    by (DeleteKey h path) =
+        record { tree = without_key w.tree (path_from e.session h w.handles path) e.moment; handles = turned (path_from e.session h w.handles path) w.handles }
+    by (Close h) = record w { handles = closed h w.handles }

@@ -15,11 +15,12 @@ pub struct Answer {
 /// What a question is answered.
 #[derive(Debug, Drop)]
 pub enum AnswerBody {
-    /// The refusal's number: 2, 5, 6, 8, 87 or 1018.
+    /// The refusal's number: 2, 5, 6, 8, 87, 259 or 1018.
     Refused {
         status: u32,
     },
-    /// The room is too small: 234, with the value's type and how many bytes it has.
+    /// A room is too small: 234, with the value's type and how many bytes its data has; of a subkey 0 and how many bytes its
+    /// name has.
     Short {
         status: u32,
         kind: u32,
@@ -30,6 +31,28 @@ pub enum AnswerBody {
         kind: u32,
         size: u32,
         bytes: Option<Bytes>,
+    },
+    /// A subkey's name as given, and its last write time in units of 100 ns since 1601.
+    Key {
+        name: Bytes,
+        time: u64,
+    },
+    /// A value's name as given, its type, how many bytes its data has, and the data if a room was given.
+    Member {
+        name: Bytes,
+        kind: u32,
+        size: u32,
+        bytes: Option<Bytes>,
+    },
+    /// A key as it stands. Lengths and sizes are bytes; the time is in units of 100 ns since 1601.
+    Info {
+        subkeys: u32,
+        longest_key: u32,
+        values: u32,
+        longest_value: u32,
+        largest: u32,
+        security: u32,
+        time: u64,
     },
 }
 
@@ -49,6 +72,38 @@ impl AnswerBody {
                 kind: *kind,
                 size: *size,
                 bytes: clone_option(alloc, bytes)?,
+            }),
+            AnswerBody::Key { name, time } => Ok(AnswerBody::Key {
+                name: name.try_clone(alloc)?,
+                time: *time,
+            }),
+            AnswerBody::Member {
+                name,
+                kind,
+                size,
+                bytes,
+            } => Ok(AnswerBody::Member {
+                name: name.try_clone(alloc)?,
+                kind: *kind,
+                size: *size,
+                bytes: clone_option(alloc, bytes)?,
+            }),
+            AnswerBody::Info {
+                subkeys,
+                longest_key,
+                values,
+                longest_value,
+                largest,
+                security,
+                time,
+            } => Ok(AnswerBody::Info {
+                subkeys: *subkeys,
+                longest_key: *longest_key,
+                values: *values,
+                longest_value: *longest_value,
+                largest: *largest,
+                security: *security,
+                time: *time,
             }),
         }
     }

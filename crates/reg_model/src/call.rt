@@ -10,6 +10,20 @@ pub enum Change {
     OpenRoot {
         mask: u32,
     },
+    /// Opens a handle to the key at the end of a path from the handle's key, with these rights; the empty path opens the same
+    /// key again (`RegOpenKeyEx`).
+    OpenKey {
+        handle: u64,
+        path: Bytes,
+        mask: u32,
+    },
+    /// Makes the keys of a path from the handle's key that are missing, and opens a handle to the last
+    /// (`RegCreateKeyEx`).
+    CreateKey {
+        handle: u64,
+        path: Bytes,
+        mask: u32,
+    },
     /// Sets a value of the handle's key; the empty name is the default value's (`RegSetValueEx`).
     SetValue {
         handle: u64,
@@ -22,6 +36,15 @@ pub enum Change {
         handle: u64,
         name: Bytes,
     },
+    /// Deletes the key at the end of a path from the handle's key, with its values (`RegDeleteKey`).
+    DeleteKey {
+        handle: u64,
+        path: Bytes,
+    },
+    /// Closes a handle (`RegCloseKey`).
+    Close {
+        handle: u64,
+    },
 }
 
 impl Change {
@@ -31,6 +54,16 @@ impl Change {
     {
         match self {
             Change::OpenRoot { mask } => Ok(Change::OpenRoot { mask: *mask }),
+            Change::OpenKey { handle, path, mask } => Ok(Change::OpenKey {
+                handle: *handle,
+                path: path.try_clone(alloc)?,
+                mask: *mask,
+            }),
+            Change::CreateKey { handle, path, mask } => Ok(Change::CreateKey {
+                handle: *handle,
+                path: path.try_clone(alloc)?,
+                mask: *mask,
+            }),
             Change::SetValue {
                 handle,
                 name,
@@ -46,6 +79,11 @@ impl Change {
                 handle: *handle,
                 name: name.try_clone(alloc)?,
             }),
+            Change::DeleteKey { handle, path } => Ok(Change::DeleteKey {
+                handle: *handle,
+                path: path.try_clone(alloc)?,
+            }),
+            Change::Close { handle } => Ok(Change::Close { handle: *handle }),
         }
     }
 }
@@ -60,6 +98,26 @@ pub enum Query {
         name: Bytes,
         room: Option<u32>,
     },
+    /// Asks for the subkey of the handle's key at an index, from 0 in the order of folded names. `room` is how many bytes of
+    /// its name the caller takes (`RegEnumKeyEx`).
+    EnumKey {
+        handle: u64,
+        index: u32,
+        room: u32,
+    },
+    /// Asks for the value of the handle's key at an index, from 0 in the order in which the names were added. `name_room` and
+    /// `room` are how many bytes of its name and of its data the caller takes; `None` for the data's size alone
+    /// (`RegEnumValue`).
+    EnumValue {
+        handle: u64,
+        index: u32,
+        name_room: u32,
+        room: Option<u32>,
+    },
+    /// Asks for the counts and largest lengths of the handle's key (`RegQueryInfoKey`).
+    QueryInfo {
+        handle: u64,
+    },
 }
 
 impl Query {
@@ -73,6 +131,27 @@ impl Query {
                 name: name.try_clone(alloc)?,
                 room: *room,
             }),
+            Query::EnumKey {
+                handle,
+                index,
+                room,
+            } => Ok(Query::EnumKey {
+                handle: *handle,
+                index: *index,
+                room: *room,
+            }),
+            Query::EnumValue {
+                handle,
+                index,
+                name_room,
+                room,
+            } => Ok(Query::EnumValue {
+                handle: *handle,
+                index: *index,
+                name_room: *name_room,
+                room: *room,
+            }),
+            Query::QueryInfo { handle } => Ok(Query::QueryInfo { handle: *handle }),
         }
     }
 }
