@@ -3,12 +3,12 @@ use Rattle.std.proofs.Common.{◌≡◌, ◌≢◌, ℕ, Bool, true, false, not,
 use Rattle.std.proofs.lemmas.Bool.{eqb-true, eqb-false}
 use Rattle.reg_heap.specs.Paths.{Tree}
 use Rattle.reg_model.specs.Worlds.{Handle, Place, At, Deleted}
-use Rattle.reg_model.specs.Causes.{State, change_cause, early_cause, late_cause, asked, refuse, by_handle, ◌or◌}
+use Rattle.reg_model.specs.Causes.{State, change_cause, early_cause, late_cause, asked, refuse, by_handle, asked_before, ◌or◌}
 use Rattle.reg_model.specs.Replies.{reply_to}
 use Rattle.reg_model.specs.Calls.{entry_due, reply_given, state_after, or_refusal, or_same}
 use Rattle.reg_model.specs.Histories.{state_of, IsFit}
 use Rattle.reg_model.specs.declared.call.Change.{Change}
-use Rattle.reg_model.specs.declared.call.Change.TheVariants.{OpenRoot, SetValue, DeleteValue}
+use Rattle.reg_model.specs.declared.call.Change.TheVariants.{OpenRoot, OpenKey, CreateKey, SetValue, DeleteValue, DeleteKey, Close}
 use Rattle.reg_model.specs.declared.reply.ChangeReply.{ChangeReply}
 use Rattle.reg_model.specs.declared.reply.Entry.{Entry}
 use Rattle.reg_model.proofs.OneMore.{replay-push}
@@ -18,6 +18,10 @@ unfolding reply_to
 reply-zero s session (OpenRoot mask) = refl
 reply-zero s session (SetValue h name kind bytes) = refl
 reply-zero s session (DeleteValue h name) = refl
+reply-zero s session (OpenKey h path mask) = refl
+reply-zero s session (CreateKey h path mask) = refl
+reply-zero s session (DeleteKey h path) = refl
+reply-zero s session (Close h) = refl
 
 by_cause : (o : Option ℕ) (due : ChangeReply) (next s : State) → due.status ≡ 0 → (or_refusal o due).status ≢ 0 → or_same o next s ≡ s
 by_cause None due next s z ne = absurd (ne z)
@@ -74,16 +78,33 @@ unfolding early_cause
 zero-early s session (OpenRoot mask) = search (zero-or, zero-87, zero-1450)
 zero-early s session (SetValue h name kind bytes) = search (zero-handle, zero-or, zero-87, zero-5, zero-1450)
 zero-early s session (DeleteValue h name) = search (zero-handle, zero-or, zero-87, zero-5, zero-1450)
+zero-early s session (OpenKey h path mask) = search (zero-handle, zero-or, zero-87, zero-1450)
+zero-early s session (CreateKey h path mask) = search (zero-handle, zero-or, zero-87, zero-1450)
+zero-early s session (DeleteKey h path) = search (zero-handle, zero-or, zero-87, zero-1450)
+zero-early s session (Close h) = zero-refuse _ 6 (λ e. omega (arith, e))
 
 zero-late : (s : State) (session : ℕ) (change : Change) → NotZero (late_cause s session change)
 unfolding late_cause
 zero-late s session (OpenRoot mask) = no_status
 zero-late s session (SetValue h name kind bytes) = no_status
 zero-late s session (DeleteValue h name) = zero-refuse _ 2 (λ e. omega (arith, e))
+zero-late s session (OpenKey h path mask) = zero-refuse _ 2 (λ e. omega (arith, e))
+zero-late s session (CreateKey h path mask) = no_status
+zero-late s session (DeleteKey h path) = zero-or _ _ (zero-refuse _ 2 (λ e. omega (arith, e))) (zero-5 _)
+zero-late s session (Close h) = no_status
+
+zero-before : (change : Change) (c : ℕ) → NotZero (asked_before change c)
+zero-before (OpenRoot mask) c = zero-asked c
+zero-before (OpenKey h path mask) c = zero-asked c
+zero-before (CreateKey h path mask) c = zero-asked c
+zero-before (SetValue h name kind bytes) c = zero-asked c
+zero-before (DeleteValue h name) c = zero-asked c
+zero-before (DeleteKey h path) c = zero-asked c
+zero-before (Close h) c = no_status
 
 zero-cause : (s : State) (session : ℕ) (change : Change) (c : ℕ) → NotZero (change_cause s session change c)
 zero-cause s session change c =
-    zero-or (early_cause s session change or asked c) (late_cause s session change) (zero-or (early_cause s session change) (asked c) (zero-early s session change) (zero-asked c)) (zero-late s session change)
+    zero-or (early_cause s session change or asked_before change c) (late_cause s session change) (zero-or (early_cause s session change) (asked_before change c) (zero-early s session change) (zero-before change c)) (zero-late s session change)
 
 -- no refusal has the status 0
 pub not_zero : (s : State) (session : ℕ) (change : Change) (c : ℕ) → change_cause s session change c ≢ Some 0
@@ -99,12 +120,15 @@ or-none : (a b : Option ℕ) → (a or b) ≡ None → (a ≡ None) × (b ≡ No
 or-none None b e = (refl, e)
 or-none (Some n) b e = absurd (cc)
 
-asked-none : (c : ℕ) → asked c ≡ None → c ≡ 0
-asked-none c e = by (eqb c 0) refl e
-  where
-    by : (b : Bool) → eqb c 0 ≡ b → refuse (not b) c ≡ None → c ≡ 0
-    by true same e = eqb-true c 0 same
-    by false other e = absurd (cc)
+-- a change that isn't refused by a status isn't refused by 0
+before-none : (change : Change) (c : ℕ) → asked_before change c ≡ None → asked_before change 0 ≡ None
+before-none (OpenRoot mask) c e = refl
+before-none (OpenKey h path mask) c e = refl
+before-none (CreateKey h path mask) c e = refl
+before-none (SetValue h name kind bytes) c e = refl
+before-none (DeleteValue h name) c e = refl
+before-none (DeleteKey h path) c e = refl
+before-none (Close h) c e = refl
 
 no_cause : (o : Option ℕ) (due : ChangeReply) → NotZero o → (or_refusal o due).status ≡ 0 → o ≡ None
 no_cause None due nz e = refl
@@ -115,9 +139,9 @@ accepted : (s : State) (session : ℕ) (change : Change) (c : ℕ) → (reply_gi
 unfolding reply_given
 accepted s session change c e =
     let none = no_cause (change_cause s session change c) (reply_to s session change) (zero-cause s session change c) e in
-    let parts = or-none (early_cause s session change or asked c) (late_cause s session change) none in
-    let zero = asked-none c (or-none (early_cause s session change) (asked c) parts.0).1 in
-    (none, subst (λ (k : ℕ). change_cause s session change k ≡ None) zero none)
+    let parts = or-none (early_cause s session change or asked_before change c) (late_cause s session change) none in
+    let fronts = or-none (early_cause s session change) (asked_before change c) parts.0 in
+    (none, rw (fronts.0, before-none change c fronts.1, parts.1) refl)
 
 -- a change that is told status 0 leaves the hive after one entry more, which fits, and it is told the entry's reply
 pub record Grows (origin : Tree) (past : List Entry) (session moment : ℕ) (change : Change) (c : ℕ) (e : Entry) : Type 0 where

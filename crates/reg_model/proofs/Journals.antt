@@ -1,10 +1,10 @@
 -- Legal journals: their fronts, their entries, and what holds of their replay.
-use Rattle.std.proofs.Common.{◌≡◌, ℕ, ◌+◌, ◌<◌, Bool, true, false, cond, List, [], ◌∷◌, ◌++◌, length, map, Option, Some, None, refl, sym, subst, arith, append_assoc, length-append, is_some}
+use Rattle.std.proofs.Common.{◌≡◌, ℕ, ◌+◌, ◌<◌, Bool, true, false, cond, not, eqb, ap, List, [], ◌∷◌, ◌++◌, length, map, Option, Some, None, refl, sym, subst, arith, append_assoc, length-append, is_some}
 use Rattle.std.specs.Prelude.{IsSome}
 use Rattle.std.specs.List.{AllByRecursion, All}
 use Rattle.std.specs.List.Sorted.{IsStrictlyIncreasing, IsStrictlySortedBy}
 use Rattle.std.specs.Ordering.{nat_cmp, eq_by_cmp}
-use Rattle.std.specs.declared.cmp.Ordering.TheVariants.{Less}
+use Rattle.std.specs.declared.cmp.Ordering.TheVariants.{Less as Lesser}
 use Rattle.std.specs.Cmp.{IsTotalOrder}
 use Rattle.std.specs.Cmp.Lexicographic.{lists_total, nat_list_cmp_total}
 use Rattle.std.specs.FinMap.{get, insert, get-insert}
@@ -15,13 +15,14 @@ use Rattle.std.proofs.lemmas.List.Elements.{All-from_recursion}
 use Rattle.std.proofs.lemmas.Map.Keys.{IsStrictlyIncreasing-from_sorted}
 use Rattle.reg_heap.specs.Paths.{Path, Tree, Rec, path_cmp}
 use Rattle.reg_heap.specs.Edits.{edited, with_value, without_value}
-use Rattle.reg_model.specs.Worlds.{World, Handle, after, opened, numbered, look, path_at}
+use Rattle.reg_model.specs.Worlds.{World, Handle, Place, StandsIn, after, opened, closed, turned, numbered, look, path_at, path_from}
 use Rattle.reg_model.specs.Replies.{reply_to}
-use Rattle.reg_model.specs.Histories.{replay, IsFit, IsLegalAfter, IsLegal}
+use Rattle.reg_model.specs.Histories.{replay, state_of, IsFit, IsLegalAfter, IsLegal}
 use Rattle.reg_model.specs.declared.call.Change.{Change}
-use Rattle.reg_model.specs.declared.call.Change.TheVariants.{OpenRoot, SetValue, DeleteValue}
+use Rattle.reg_model.specs.declared.call.Change.TheVariants.{OpenRoot, OpenKey, CreateKey, SetValue, DeleteValue, DeleteKey, Close}
 use Rattle.reg_model.specs.declared.reply.Entry.{Entry}
 use Rattle.reg_model.proofs.OneMore.{replay-push}
+use Rattle.reg_model.proofs.Standing.{Has, Stands, IsStanding, standing-after}
 
 legal_after-front : (origin : Tree) (past es more : List Entry) → IsLegalAfter origin past (es ++ more) → IsLegalAfter origin past es
 legal_after-front origin past [] more l = tt
@@ -65,10 +66,10 @@ below-push : (n : ℕ) (hs : List Handle) (h : Handle) → h.number ≡ n → Al
 below-push n [] h e b = (omega arith, tt)
 below-push n (x ∷ hs) h e b = (omega (arith, b.0), below-push n hs h e b.1)
 
-less_than : (a b : ℕ) → a < b → nat_cmp a b ≡ Less
+less_than : (a b : ℕ) → a < b → nat_cmp a b ≡ Lesser
 less_than a b l = grind (arith, nat_tests)
 
-all-push : (a n : ℕ) (hs : List Handle) (h : Handle) → h.number ≡ n → a < n → AllByRecursion (λ (k : ℕ). nat_cmp a k ≡ Less) (map (λ (x : Handle). x.number) hs) → AllByRecursion (λ (k : ℕ). nat_cmp a k ≡ Less) (map (λ (x : Handle). x.number) (hs ++ h ∷ []))
+all-push : (a n : ℕ) (hs : List Handle) (h : Handle) → h.number ≡ n → a < n → AllByRecursion (λ (k : ℕ). nat_cmp a k ≡ Lesser) (map (λ (x : Handle). x.number) hs) → AllByRecursion (λ (k : ℕ). nat_cmp a k ≡ Lesser) (map (λ (x : Handle). x.number) (hs ++ h ∷ []))
 all-push a n [] h e l r = (less_than a h.number (omega arith), tt)
 all-push a n (x ∷ hs) h e l r = (r.0, all-push a n hs h e l r.1)
 
@@ -81,12 +82,63 @@ rising-none : AreRising 0 []
 unfolding IsStrictlySortedBy
 rising-none = record { below = tt; rising = tt }
 
+-- a handle closed
+below-cond : (b : Bool) (n : ℕ) (h : Handle) (hs : List Handle) → h.number < n → AllByRecursion (λ (x : Handle). x.number < n) hs → AllByRecursion (λ (x : Handle). x.number < n) (cond b (h ∷ hs) hs)
+below-cond true n h hs l b = (l, b)
+below-cond false n h hs l b = b
+
+below-closed : (n number : ℕ) (hs : List Handle) → AllByRecursion (λ (h : Handle). h.number < n) hs → AllByRecursion (λ (h : Handle). h.number < n) (closed number hs)
+below-closed n number [] b = tt
+below-closed n number (h ∷ hs) b = below-cond (not (eqb h.number number)) n h (closed number hs) b.0 (below-closed n number hs b.1)
+
+abbrev Less : ℕ → List Handle → Type 0
+Less a hs = AllByRecursion (λ (k : ℕ). nat_cmp a k ≡ Lesser) (map (λ (x : Handle). x.number) hs)
+
+less-cond : (b : Bool) (a : ℕ) (h : Handle) (hs : List Handle) → nat_cmp a h.number ≡ Lesser → Less a hs → Less a (cond b (h ∷ hs) hs)
+less-cond true a h hs l r = (l, r)
+less-cond false a h hs l r = r
+
+less-closed : (a number : ℕ) (hs : List Handle) → Less a hs → Less a (closed number hs)
+less-closed a number [] r = tt
+less-closed a number (h ∷ hs) r = less-cond (not (eqb h.number number)) a h (closed number hs) r.0 (less-closed a number hs r.1)
+
+rising-cond : (b : Bool) (h : Handle) (hs : List Handle) → Less h.number hs → IsStrictlySortedBy nat_cmp (map (λ (x : Handle). x.number) hs) → IsStrictlySortedBy nat_cmp (map (λ (x : Handle). x.number) (cond b (h ∷ hs) hs))
+unfolding IsStrictlySortedBy
+rising-cond true h hs l r = (l, r)
+rising-cond false h hs l r = r
+
+rising-closed : (number : ℕ) (hs : List Handle) → IsStrictlySortedBy nat_cmp (map (λ (x : Handle). x.number) hs) → IsStrictlySortedBy nat_cmp (map (λ (x : Handle). x.number) (closed number hs))
+unfolding IsStrictlySortedBy
+rising-closed number [] r = tt
+rising-closed number (h ∷ hs) r =
+    rising-cond (not (eqb h.number number)) h (closed number hs) (less-closed h.number number hs r.0) (rising-closed number hs r.1)
+
+-- handles turned keep their numbers
+below-turned : (n : ℕ) (p : Path) (hs : List Handle) → AllByRecursion (λ (h : Handle). h.number < n) hs → AllByRecursion (λ (h : Handle). h.number < n) (turned p hs)
+below-turned n p [] b = tt
+below-turned n p (h ∷ hs) b = (b.0, below-turned n p hs b.1)
+
+numbers-turned : (p : Path) (hs : List Handle) → map (λ (h : Handle). h.number) (turned p hs) ≡ map (λ (h : Handle). h.number) hs
+numbers-turned p [] = refl
+numbers-turned p (h ∷ hs) = ap (λ (ns : List ℕ). h.number ∷ ns) (numbers-turned p hs)
+
+rising-pushed : (w : World) (n : ℕ) (e : Entry) (p : Path) (mask : ℕ) → e.number ≡ n → AreRising n w.handles → AreRising (n + 1) (w.handles ++ opened e p mask ∷ [])
+rising-pushed w n e p mask number r =
+    record { below = below-push n w.handles (opened e p mask) number r.below; rising = rising-push n w.handles (opened e p mask) number r.below r.rising }
+
 rising-after : (w : World) (n : ℕ) (e : Entry) → e.number ≡ n → AreRising n w.handles → AreRising (n + 1) (after w e).handles
 unfolding after
 rising-after w n e number r = elim e.change as (λ (change : Change). AreRising (n + 1) (after w (record e { change = change })).handles) [
-  | OpenRoot mask ↦ record { below = below-push n w.handles (opened e [] mask) number r.below; rising = rising-push n w.handles (opened e [] mask) number r.below r.rising }
+  | OpenRoot mask ↦ rising-pushed w n e [] mask number r
+  | OpenKey h path mask ↦ rising-pushed w n e (path_from e.session h w.handles path) mask number r
+  | CreateKey h path mask ↦ rising-pushed w n e (path_from e.session h w.handles path) mask number r
   | SetValue h name kind bytes ↦ record { below = rising-weaker n w.handles r.below; rising = r.rising }
   | DeleteValue h name ↦ record { below = rising-weaker n w.handles r.below; rising = r.rising }
+  | DeleteKey h path ↦ record {
+    below = rising-weaker n (turned (path_from e.session h w.handles path) w.handles) (below-turned n (path_from e.session h w.handles path) w.handles r.below);
+    rising = rw (numbers-turned (path_from e.session h w.handles path) w.handles) r.rising;
+  }
+  | Close h ↦ record { below = rising-weaker n (closed h w.handles) (below-closed n h w.handles r.below); rising = rising-closed h w.handles r.rising }
 ]
 
 rising-all : (origin : Tree) (es : List Entry) → IsLegal origin es → AreRising (length es) (replay origin es).handles
@@ -125,33 +177,21 @@ pub handle-told : (origin : Tree) (past : List Entry) (e : Entry) (mask : ℕ) �
 unfolding reply_to
 handle-told origin past e mask f is = rw (f.reply, is, f.number) refl
 
--- ---- the root
+-- ---- the root, and the keys that handles lead to
 
-abbrev HasRoot : Tree → Type 0
-HasRoot t = IsSome (get t [])
-
-path_total : IsTotalOrder path_cmp
-path_total = lists_total nat_list_cmp_total
-
-some-either : (b : Bool) (x : Rec) (o : Option Rec) → is_some o ≡ true → is_some (cond b (Some x) o) ≡ true
-some-either true x o h = refl
-some-either false x o h = h
-
-root-insert : (t : Tree) (p : Path) (r : Rec) → HasRoot t → HasRoot (insert t p r)
-root-insert t p r h = rw (get-insert path_total t p r []) (some-either (eq_by_cmp path_cmp [] p) r (get t []) h)
-
-root-edited : (t : Tree) (p : Path) (f : Rec → Rec) → HasRoot t → HasRoot (edited t p f)
-root-edited t p f h = elim (get t p) as (λ (o : Option Rec). HasRoot (elim o as (λ _. Tree) [ None ↦ t | Some r ↦ insert t p (f r) ])) [ None ↦ h | Some r ↦ root-insert t p (f r) h ]
-
-root-after : (w : World) (e : Entry) → HasRoot w.tree → HasRoot (after w e).tree
-unfolding after
-root-after w e h = elim e.change as (λ (change : Change). HasRoot (after w (record e { change = change })).tree) [
-  | OpenRoot mask ↦ h
-  | SetValue n name kind bytes ↦ root-edited w.tree (path_at e.session n w.handles) (with_value name kind bytes e.moment) h
-  | DeleteValue n name ↦ root-edited w.tree (path_at e.session n w.handles) (without_value name e.moment) h
-]
+standing-all : (origin : Tree) (es : List Entry) → IsLegal origin es → Has origin [] → IsStanding (replay origin es).tree (replay origin es).handles
+standing-all origin es l h =
+    by_entries origin (λ past. IsStanding (replay origin past).tree (replay origin past).handles)
+    (λ past e f r. subst (λ (w : World). IsStanding w.tree w.handles) (sym (replay-push origin past e)) (standing-after (state_of origin past) e r 0 f.accepted)) [] es (record { root = h; stand = tt }) l
 
 -- a tree that holds its root holds it after a legal journal
-pub root-stays : (origin : Tree) (es : List Entry) → IsLegal origin es → HasRoot origin → HasRoot (replay origin es).tree
-root-stays origin es l h =
-    by_entries origin (λ past. HasRoot (replay origin past).tree) (λ past e f r. rw (replay-push origin past e) (root-after (replay origin past) e r)) [] es h l
+pub root-stays : (origin : Tree) (es : List Entry) → IsLegal origin es → Has origin [] → Has (replay origin es).tree []
+root-stays origin es l h = let r = standing-all origin es l h in r.root
+
+-- every handle that leads to a key leads to one that is there
+pub handles-stand : (origin : Tree) (es : List Entry) → IsLegal origin es → Has origin [] → Stands (replay origin es).tree (replay origin es).handles
+handles-stand origin es l h = let r = standing-all origin es l h in r.stand
+
+pub all-stand : (origin : Tree) (es : List Entry) → IsLegal origin es → Has origin [] → All (λ (h : Handle). StandsIn (replay origin es).tree h.place) (replay origin es).handles
+all-stand origin es l h =
+    All-from_recursion (λ (h : Handle). StandsIn (replay origin es).tree h.place) (replay origin es).handles (handles-stand origin es l h)

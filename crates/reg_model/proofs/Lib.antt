@@ -1,4 +1,6 @@
 pub mod OneMore
+pub mod Accepted
+pub mod Standing
 pub mod Journals
 pub mod Answering
 pub mod RowsReplies

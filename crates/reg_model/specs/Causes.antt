@@ -116,7 +116,7 @@ late_cause s session change = by change
     by (Close h) = None
 
 -- the callbacks' status, where they are asked: before every change but Close
-unfoldable pub asked_before : Change → ℕ → Option ℕ
+abbrev pub asked_before : Change → ℕ → Option ℕ
 asked_before (Close h) c = None
 asked_before (OpenRoot mask) c = asked c
 asked_before (OpenKey h path mask) c = asked c

@@ -1,6 +1,7 @@
 -- A world, and what an accepted change makes of it.
-use Rattle.std.specs.Prelude.{ℕ, ◌==◌, Bool, not, List, [], ◌∷◌, ◌++◌, map, filter, if◌then◌else◌, Option, Some, None}
+use Rattle.std.specs.Prelude.{ℕ, ◌==◌, Bool, not, List, [], ◌∷◌, ◌++◌, map, filter, if◌then◌else◌, Option, Some, None, IsSome}
 use Rattle.std.specs.Ordering.{eq_by_cmp}
+use Rattle.std.specs.FinMap.{get}
 use Rattle.reg_names.specs.Names.{path_of}
 use Rattle.reg_heap.specs.Paths.{Path, Tree, path_cmp}
 use Rattle.reg_heap.specs.Edits.{edited, with_value, without_value, folded_path, with_keys, without_key}
@@ -12,6 +13,11 @@ use Rattle.reg_model.specs.declared.reply.Entry.{Entry}
 pub data Place : Type 0 where
   At : Path → Place
   Deleted : Place
+
+-- a key that a handle leads to is in the tree
+abbrev pub StandsIn : Tree → Place → Type 0
+StandsIn t (At p) = IsSome (get t p)
+StandsIn t Deleted = Unit {0}
 
 -- an open handle: its number, its session, its rights and where it leads
 pub record Handle : Type 0 where
@@ -84,8 +90,8 @@ after w e = by e.change
     by (OpenKey h path mask) = record w { handles = w.handles ++ opened e (path_from e.session h w.handles path) mask ∷ [] }
     by (CreateKey h path mask) =
         record {
-          tree = with_keys w.tree (path_at e.session h w.handles) (path_of path) e.moment
-          handles = w.handles ++ opened e (path_from e.session h w.handles path) mask ∷ []
+          tree = with_keys w.tree (path_at e.session h w.handles) (path_of path) e.moment;
+          handles = w.handles ++ opened e (path_from e.session h w.handles path) mask ∷ [];
         }
     by (SetValue h name kind bytes) = record w { tree = edited w.tree (path_at e.session h w.handles) (with_value name kind bytes e.moment) }
     by (DeleteValue h name) = record w { tree = edited w.tree (path_at e.session h w.handles) (without_value name e.moment) }

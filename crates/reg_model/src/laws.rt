@@ -4,7 +4,7 @@ ghost use Rattle.std.specs.Prelude.{◌≡◌, ◌≢◌, ◌<◌, ◌+◌, ℕ,
 ghost use Rattle.std.specs.List.Sorted.{IsStrictlyIncreasing};
 ghost use Rattle.std.specs.FinMap.{get};
 ghost use Rattle.reg_heap.specs.Paths.{Tree};
-ghost use Rattle.reg_model.specs.Worlds.{after, look, opened, Handle};
+ghost use Rattle.reg_model.specs.Worlds.{after, look, opened, Handle, StandsIn};
 ghost use Rattle.reg_model.specs.Causes.{State, change_cause};
 ghost use Rattle.reg_model.specs.Calls.{entry_due, reply_given, state_after};
 ghost use Rattle.reg_model.specs.Histories.{IsFit, IsLegal, replay, state_of};
@@ -69,4 +69,9 @@ pub fn handle_has_its_entrys_number()
 /// A tree that holds its root holds it after every legal journal.
 pub fn root_stays()
     ensures { (origin : Tree) → (journal : List Entry) → IsLegal origin journal → IsSome (get origin []) → IsSome (get (replay origin journal).tree []) }
+{}
+
+/// Every handle that leads to a key leads to one that is in the tree, after every legal journal of a tree that holds its root.
+pub fn handles_lead_to_keys()
+    ensures { (origin : Tree) → (journal : List Entry) → IsLegal origin journal → IsSome (get origin []) → All (λ (h : Handle). StandsIn (replay origin journal).tree h.place) (replay origin journal).handles }
 {}

@@ -32,22 +32,18 @@ fn copies_of_changes(rt: HostRuntime) -> Result<(), Fail> {
     let copy = entry.try_clone(alloc)?;
     assert_eq!(rt; (copy.number, copy.session, copy.moment), (5, 3, 9));
     assert_eq!(rt; copy.reply, entry.reply);
-    match copy.change {
+    match &copy.change {
         Change::SetValue {
             handle,
             name,
             kind,
             bytes,
         } => {
-            assert_eq!(rt; (handle, kind), (7, 4));
+            assert_eq!(rt; (*handle, *kind), (7, 4));
             assert_eq!(rt; name.as_slice(), b"name".as_slice());
-            assert_eq!(rt; bytes.into_vec().as_slice(), [1, 0, 0, 0].as_slice());
+            assert_eq!(rt; bytes.as_slice(), [1, 0, 0, 0].as_slice());
         }
-        Change::OpenRoot { .. } => assert!(rt; false, "another change"),
-        Change::DeleteValue {
-            handle: _handle,
-            name: _name,
-        } => assert!(rt; false, "another change"),
+        _ => assert!(rt; false, "another change"),
     }
     Ok(())
 }
@@ -68,11 +64,11 @@ fn copies_of_steps(rt: HostRuntime) -> Result<(), Fail> {
     };
     let copy = step.try_clone(alloc)?;
     assert_eq!(rt; (copy.session, copy.moment), (3, 9));
-    match copy.call {
+    match &copy.call {
         Call::Query(Query::QueryValue { handle, room, .. }) => {
-            assert_eq!(rt; (handle, room), (7, Some(4)));
+            assert_eq!(rt; (*handle, *room), (7, Some(4)));
         }
-        Call::Change(_) => assert!(rt; false, "another call"),
+        _ => assert!(rt; false, "another call"),
     }
     Ok(())
 }
@@ -87,7 +83,8 @@ fn copies_of_answers(rt: HostRuntime) -> Result<(), Fail> {
         bytes: Some(bytes),
     };
     let outcome = Outcome::Answered(Answer { at: 5, body });
-    match outcome.try_clone(alloc)? {
+    let copy = outcome.try_clone(alloc)?;
+    match &copy {
         Outcome::Answered(
             Answer {
                 at,
@@ -97,10 +94,53 @@ fn copies_of_answers(rt: HostRuntime) -> Result<(), Fail> {
                 },
             },
         ) => {
-            assert_eq!(rt; at, 5);
+            assert_eq!(rt; *at, 5);
             assert_eq!(rt; bytes.as_slice(), [8, 9].as_slice());
         }
         _ => assert!(rt; false, "another outcome"),
+    }
+    Ok(())
+}
+
+#[test]
+fn copies_of_openings(rt: HostRuntime) -> Result<(), Fail> {
+    let alloc = rt.alloc();
+    let path = Bytes::from_slice(alloc, b"A\\B")?;
+    let change = Change::CreateKey {
+        handle: 3,
+        path,
+        mask: 983_103,
+    };
+    match &change.try_clone(alloc)? {
+        Change::CreateKey { handle, path, mask } => {
+            assert_eq!(rt; (*handle, *mask), (3, 983_103));
+            assert_eq!(rt; path.as_slice(), b"A\\B".as_slice());
+        }
+        _ => assert!(rt; false, "another change"),
+    }
+    Ok(())
+}
+
+#[test]
+fn copies_of_enumerations(rt: HostRuntime) -> Result<(), Fail> {
+    let alloc = rt.alloc();
+    let query = Query::EnumValue {
+        handle: 7,
+        index: 2,
+        name_room: 5,
+        room: None,
+    };
+    match &query.try_clone(alloc)? {
+        Query::EnumValue {
+            handle,
+            index,
+            name_room,
+            room,
+        } => {
+            assert_eq!(rt; (*handle, *index, *name_room), (7, 2, 5));
+            assert_eq!(rt; *room, None);
+        }
+        _ => assert!(rt; false, "another query"),
     }
     Ok(())
 }

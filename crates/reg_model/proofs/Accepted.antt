@@ -1,0 +1,168 @@
+-- What an accepted change met: a handle that leads to a key, and no cause of a refusal.
+use Rattle.std.proofs.Common.{◌≡◌, ℕ, Bool, true, false, not, ◌||◌, List, Option, Some, None, refl, is_some}
+use Rattle.std.specs.FinMap.{get}
+use Rattle.reg_heap.specs.Paths.{Path}
+use Rattle.reg_heap.specs.Edits.{values_at, may_not_go}
+use Rattle.reg_names.specs.Names.{is_value_name}
+use Rattle.reg_model.specs.Worlds.{Handle, Place, At, Deleted, look, path_at, path_from}
+use Rattle.reg_model.specs.Causes.{State, change_cause, early_cause, late_cause, asked_before, refuse, by_handle, has, is_mask, is_full, is_bad_open, is_bad_target, is_bad_value, no_handle_room, no_key_room, no_value_room, lacks_key, lacks_value, ◌or◌}
+use Rattle.reg_model.specs.declared.call.Change.{Change}
+use Rattle.reg_model.specs.declared.call.Change.TheVariants.{OpenRoot, OpenKey, CreateKey, SetValue, DeleteValue, DeleteKey, Close}
+
+pub not_refused : (b : Bool) (n : ℕ) → refuse b n ≡ None → b ≡ false
+not_refused true n e = absurd (cc)
+not_refused false n e = refl
+
+pub neither : (a b : Option ℕ) → (a or b) ≡ None → (a ≡ None) × (b ≡ None)
+neither None b e = (refl, e)
+neither (Some n) b e = absurd (cc)
+
+pub both_false : (a b : Bool) → (a || b) ≡ false → (a ≡ false) × (b ≡ false)
+both_false true b e = absurd (cc)
+both_false false b e = (refl, e)
+
+pub not_false : (b : Bool) → not b ≡ false → b ≡ true
+not_false true e = refl
+not_false false e = absurd (cc)
+
+-- a handle that leads to a key
+pub record Target (o : Option Handle) : Type 0 where
+  pub handle : Handle
+  pub path : Path
+  pub found : o ≡ Some handle
+  pub place : handle.place ≡ At path
+
+pub record Meets (f : Handle → Option ℕ) (o : Option Handle) : Type 0 where
+  pub target : Target o
+  pub none : f target.handle ≡ None
+
+meets-place : (f : Handle → Option ℕ) (h : Handle) → by_handle f (Some h) ≡ None → Meets f (Some h)
+meets-place f h = elim h.place as (λ (p : Place). by_handle f (Some (record h { place = p })) ≡ None → Meets f (Some (record h { place = p }))) [
+  | At p ↦ λ e. record { target = record { handle = record h { place = At p }; path = p; found = refl; place = refl }; none = e }
+  | Deleted ↦ λ e. absurd (cc)
+]
+
+-- a change that its handle's causes don't refuse
+pub meets : (f : Handle → Option ℕ) (o : Option Handle) → by_handle f o ≡ None → Meets f o
+meets f None e = absurd (cc)
+meets f (Some h) e = meets-place f h e
+
+-- the path of the key that the handle leads to
+pub target-path : (session number : ℕ) (hs : List Handle) (t : Target (look session number hs)) → path_at session number hs ≡ t.path
+target-path session number hs t = rw (t.found, t.place) refl
+
+record AreNone (a b c : Option ℕ) : Type 0 where
+  first : a ≡ None
+  second : b ≡ None
+  third : c ≡ None
+
+all_none : (a b c : Option ℕ) → (a or b or c) ≡ None → AreNone a b c
+all_none None None c e = record { first = refl; second = refl; third = e }
+all_none None (Some n) c e = absurd (cc)
+all_none (Some n) b c e = absurd (cc)
+
+causes : (s : State) (session : ℕ) (change : Change) (c : ℕ) → change_cause s session change c ≡ None → AreNone (early_cause s session change) (asked_before change c) (late_cause s session change)
+causes s session change c e = all_none (early_cause s session change) (asked_before change c) (late_cause s session change) e
+
+pub record RootMet (s : State) (session mask : ℕ) : Type 0 where
+  pub good : is_mask mask ≡ true
+  pub room : no_handle_room session s ≡ false
+
+pub root-met : (s : State) (session mask c : ℕ) → change_cause s session (OpenRoot mask) c ≡ None → RootMet s session mask
+unfolding early_cause
+root-met s session mask c e =
+    let none = causes s session (OpenRoot mask) c e in
+    let early = neither _ _ none.first in
+    record { good = not_false _ (not_refused _ 87 early.0); room = not_refused _ 1450 early.1 }
+
+pub record OpenMet (s : State) (session h : ℕ) (path : List ℕ) (mask : ℕ) : Type 0 where
+  pub target : Target (look session h s.world.handles)
+  pub good : is_bad_open path mask ≡ false
+  pub room : no_handle_room session s ≡ false
+  pub there : is_some (get s.world.tree (path_from session h s.world.handles path)) ≡ true
+
+pub open-met : (s : State) (session h : ℕ) (path : List ℕ) (mask c : ℕ) → change_cause s session (OpenKey h path mask) c ≡ None → OpenMet s session h path mask
+unfolding early_cause late_cause
+open-met s session h path mask c e =
+    let none = causes s session (OpenKey h path mask) c e in
+    let m = meets (λ r. refuse (is_bad_open path mask) 87 or refuse (no_handle_room session s) 1450) (look session h s.world.handles) none.first in
+    let early = neither _ _ m.none in
+    record { target = m.target; good = not_refused _ 87 early.0; room = not_refused _ 1450 early.1; there = not_false _ (not_refused _ 2 none.third) }
+
+pub record CreateMet (s : State) (session h : ℕ) (path : List ℕ) (mask : ℕ) : Type 0 where
+  pub target : Target (look session h s.world.handles)
+  pub good : is_bad_open path mask ≡ false
+  pub room : no_handle_room session s ≡ false
+  pub few : no_key_room s session h path ≡ false
+
+pub create-met : (s : State) (session h : ℕ) (path : List ℕ) (mask c : ℕ) → change_cause s session (CreateKey h path mask) c ≡ None → CreateMet s session h path mask
+unfolding early_cause late_cause
+create-met s session h path mask c e =
+    let none = causes s session (CreateKey h path mask) c e in
+    let m = meets (λ r. refuse (is_bad_open path mask) 87 or refuse (no_handle_room session s || no_key_room s session h path) 1450) (look session h s.world.handles) none.first in
+    let early = neither _ _ m.none in
+    let counts = both_false _ _ (not_refused _ 1450 early.1) in
+    record { target = m.target; good = not_refused _ 87 early.0; room = counts.0; few = counts.1 }
+
+pub record SetMet (s : State) (session h : ℕ) (name bytes : List ℕ) : Type 0 where
+  pub target : Target (look session h s.world.handles)
+  pub good : is_bad_value name bytes ≡ false
+  pub right : has 2 target.handle.mask ≡ true
+  pub room : is_full 1 s ≡ false
+  pub few : no_value_room name (values_at s.world.tree (path_at session h s.world.handles)) ≡ false
+
+pub set-met : (s : State) (session h : ℕ) (name : List ℕ) (kind : ℕ) (bytes : List ℕ) (c : ℕ) → change_cause s session (SetValue h name kind bytes) c ≡ None → SetMet s session h name bytes
+unfolding early_cause late_cause
+set-met s session h name kind bytes c e =
+    let none = causes s session (SetValue h name kind bytes) c e in
+    let m = meets (λ r. refuse (is_bad_value name bytes) 87 or refuse (not (has 2 r.mask)) 5 or refuse (is_full 1 s || no_value_room name (values_at s.world.tree (path_at session h s.world.handles))) 1450) (look session h s.world.handles) none.first in
+    let early = all_none _ _ _ m.none in
+    let counts = both_false _ _ (not_refused _ 1450 early.third) in
+    record { target = m.target; good = not_refused _ 87 early.first; right = not_false _ (not_refused _ 5 early.second); room = counts.0; few = counts.1 }
+
+pub record DropMet (s : State) (session h : ℕ) (name : List ℕ) : Type 0 where
+  pub target : Target (look session h s.world.handles)
+  pub good : is_value_name name ≡ true
+  pub right : has 2 target.handle.mask ≡ true
+  pub room : is_full 1 s ≡ false
+  pub there : lacks_value s session h name ≡ false
+
+pub drop-met : (s : State) (session h : ℕ) (name : List ℕ) (c : ℕ) → change_cause s session (DeleteValue h name) c ≡ None → DropMet s session h name
+unfolding early_cause late_cause
+drop-met s session h name c e =
+    let none = causes s session (DeleteValue h name) c e in
+    let m = meets (λ r. refuse (not (is_value_name name)) 87 or refuse (not (has 2 r.mask)) 5 or refuse (is_full 1 s) 1450) (look session h s.world.handles) none.first in
+    let early = all_none _ _ _ m.none in
+    record {
+      target = m.target;
+      good = not_false _ (not_refused _ 87 early.first);
+      right = not_false _ (not_refused _ 5 early.second);
+      room = not_refused _ 1450 early.third;
+      there = not_refused _ 2 none.third;
+    }
+
+pub record DeleteMet (s : State) (session h : ℕ) (path : List ℕ) : Type 0 where
+  pub target : Target (look session h s.world.handles)
+  pub good : is_bad_target path ≡ false
+  pub room : is_full 1 s ≡ false
+  pub there : is_some (get s.world.tree (path_from session h s.world.handles path)) ≡ true
+  pub goes : may_not_go s.world.tree (path_from session h s.world.handles path) ≡ false
+
+pub delete-met : (s : State) (session h : ℕ) (path : List ℕ) (c : ℕ) → change_cause s session (DeleteKey h path) c ≡ None → DeleteMet s session h path
+unfolding early_cause late_cause
+delete-met s session h path c e =
+    let none = causes s session (DeleteKey h path) c e in
+    let m = meets (λ r. refuse (is_bad_target path) 87 or refuse (is_full 1 s) 1450) (look session h s.world.handles) none.first in
+    let early = neither _ _ m.none in
+    let late = neither _ _ none.third in
+    record {
+      target = m.target;
+      good = not_refused _ 87 early.0;
+      room = not_refused _ 1450 early.1;
+      there = not_false _ (not_refused _ 2 late.0);
+      goes = not_refused _ 5 late.1;
+    }
+
+pub close-met : (s : State) (session h c : ℕ) → change_cause s session (Close h) c ≡ None → is_some (look session h s.world.handles) ≡ true
+unfolding early_cause late_cause
+close-met s session h c e = let none = causes s session (Close h) c e in not_false _ (not_refused _ 6 none.first)
