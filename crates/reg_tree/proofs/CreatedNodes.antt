@@ -1,5 +1,5 @@
 -- A tree's nodes where keys were made.
-use Rattle.std.proofs.Common.{◌≡◌, ◌≢◌, ◌↔◌, ℕ, true, List, [], ◌++◌, map, length, sym, subst, arith, length-append}
+use Rattle.std.proofs.Common.{◌≡◌, ◌≢◌, ◌↔◌, ℕ, ◌≤◌, true, List, [], ◌++◌, map, length, sym, subst, arith, length-append}
 use Rattle.std.specs.Prelude.{Result, Ok, Err, OnOk, OnErr, IfOk}
 use Rattle.reg_names.specs.Names.{folded, path_of}
 use Rattle.reg_heap.specs.Paths.{Path}
@@ -13,6 +13,7 @@ use Rattle.reg_tree.specs.Holds.{Holds, IsHere}
 use Rattle.reg_tree.specs.Creates.{IsCreated}
 use Rattle.reg_tree.proofs.Nodes.{seen_as, here_at, of_tree}
 use Rattle.reg_tree.proofs.Passing.{as-many}
+use Rattle.reg_tree.proofs.Here.{shallow}
 
 abbrev Answer : Type 0
 Answer = Result Created TreeFault
@@ -56,6 +57,20 @@ module _ (bins : Bins) (root : ℕ) (holds : Holds bins.bytes root) (now : Keys)
               of_tree bins root holds now view_is (λ t. (made.is_new ≡ true) ↔ (missing t p (path_of text) ≢ [])) n,
             )
         by (Err f) c n = c
+
+    pub depth_created : IfOk result (λ made. made.node.depth ≤ 512)
+    depth_created = by result (its some.0 some.1)
+      where
+        by : (r : Answer) → IfOk r (λ made. IsCreated bins.bytes new.bytes root some.0 from (path_of text) moment made.node) → IfOk r (λ made. made.node.depth ≤ 512)
+        by (Ok made) c =
+            let t : IsHere new.bytes made.node.offset = record { root = root; path = some.0 ++ map folded (path_of text); holds = c.holds; at = c.place } in
+            let s = shallow new.bytes made.node.offset t in
+            let d = some.1.depth in
+            let e = c.depth in
+            let l = length-append some.0 (map folded (path_of text)) in
+            let m = as-many (path_of text) in
+            omega (arith, s, d, e, l, m)
+        by (Err f) c = tt
 
     pub nodes_created : OnOk result (KeepsNodes now (seen_as new root))
     nodes_created = by result (its some.0 some.1)

@@ -6,7 +6,7 @@ use Rattle.std.proofs.lemmas.List.{append-nil, append_assoc, map-append}
 use Rattle.std.proofs.lemmas.Option.{none-some}
 use Rattle.reg_names.specs.Names.{folded, path_of}
 use Rattle.reg_heap.specs.Paths.{Path, Tree, children_of}
-use Rattle.reg_heap.specs.Edits.{child_path, has_child, with_key, with_keys, missing, last_there, AreTooMany}
+use Rattle.reg_heap.specs.Edits.{child_path, has_child, with_key, with_keys, missing, last_there}
 use Rattle.reg_heap.specs.Heaps.{Heap}
 use Rattle.reg_arena.specs.Cells.{cell_at}
 use Rattle.reg_records.specs.Keys.{KeyRecord, key_at}
@@ -17,7 +17,7 @@ use Rattle.reg_tree.specs.Keys.{tree_in}
 use Rattle.reg_tree.specs.Holds.{Holds, IsHere}
 use Rattle.reg_tree.specs.Walks.{Stops, Reaches}
 use Rattle.reg_tree.specs.Growing.{MayGrowAll, GrowsAll, IsSpared}
-use Rattle.reg_tree.specs.Creates.{IsCreated}
+use Rattle.reg_tree.specs.Creates.{IsCreated, AreTooMany}
 use Rattle.reg_tree.proofs.Here.{spelt_is, get-none, get-some, shallow}
 use Rattle.reg_tree.proofs.Passing.{as-many, here_then}
 use Rattle.reg_tree.proofs.Sparing.{tree-spared, places-spared, may_grow_all}

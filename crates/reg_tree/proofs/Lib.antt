@@ -22,6 +22,7 @@ pub mod Making
 pub mod Nexts
 pub mod Growth
 pub mod Telling
+pub mod Bounds
 pub mod Sparing
 pub mod Creating
 pub mod CreatingEnds
@@ -36,4 +37,5 @@ pub mod DeletedGraft
 pub mod Deleted
 pub mod DeletedFaults
 pub mod TooMany
+pub mod Limits
 pub mod DeletedNodes

@@ -1,6 +1,6 @@
 -- A tree's nodes and the keys that they are of.
 use Rattle.std.proofs.Common.{◌≡◌, ℕ, Option, Some, None, IsSome, [], ◌++◌, length, refl, sym, ap, ◌∙◌, subst, arith, ◌≤◌, length-append}
-use Rattle.std.specs.Prelude.{Result, Ok, Err, OnOk, OnErr, MatchOption, get_or, ◌<◌}
+use Rattle.std.specs.Prelude.{Result, Ok, Err, OnOk, OnErr, IfSome, MatchOption, get_or, ◌<◌}
 use Rattle.std.specs.Option.{option_and_then}
 use Rattle.std.specs.FinMap.{get}
 use Rattle.reg_heap.specs.Paths.{Path, Tree, Rec, children_of}
@@ -97,6 +97,10 @@ module _ (bins : Bins) (root : ℕ) (holds : Holds bins.bytes root) (now : Keys)
       let s = shallow bins.bytes node.offset t in
       let d = some.1.depth in
       omega (arith, s, d)
+
+  pub resolved-depth : (from : Node) → IsThere now from → (q : Path) (result : Option Node) → IsWalked (cell_at bins.bytes) from q result → IfSome result (λ node. node.depth ≤ 512)
+  resolved-depth from some q None w = tt
+  resolved-depth from some q (Some node) w = shallow_at node (some.0 ++ q, (resolved from q (Some node) w some.0 some.1).0)
 
   -- a subkey's node
   pub subkey_found : (node : Node) (index : ℕ) (result : Option Node) (p : Path) → IsAt now p node → IsSubkey (cell_at bins.bytes) root p (children_of (tree_in bins.bytes root) p) node index result

@@ -1,4 +1,4 @@
--- What is told of a key: its name, time, descriptor and subkeys.
+-- What is told of a key: its name, time, marks, descriptor and subkeys.
 use Rattle.std.proofs.Common.{◌≡◌, ℕ, zero, suc, ◌+◌, ◌≤◌, ◌<◌, Option, Some, None, IsSome, List, [], ◌∷◌, ◌++◌, map, length, get_or, refl, sym, ap, ◌∙◌, subst, arith, length-append}
 use Rattle.std.specs.Prelude.{Ok, unwrap_or}
 use Rattle.std.specs.Option.{option_map, option_and_then}
@@ -17,7 +17,7 @@ use Rattle.reg_records.specs.Keys.{KeyRecord, key_at, nk_of}
 use Rattle.reg_records.specs.Securities.{KeySecurityRecord, security_at, sk_of}
 use Rattle.reg_records.specs.Lists.{Entry}
 use Rattle.reg_records.specs.Nodes.{Node, entries_of}
-use Rattle.reg_records.specs.Spelt.{rec_of, name_of}
+use Rattle.reg_records.specs.Spelt.{rec_of, name_of, marks_of}
 use Rattle.reg_records.specs.Shapes.{descriptor_in, IsSeen}
 use Rattle.reg_records.specs.Written.{Fits}
 use Rattle.reg_records.specs.Places.{place_at, subkey_named}
@@ -62,7 +62,7 @@ module _ (bytes : List ℕ) (key : ℕ) (t : IsHere bytes key) where
   is-rec : (r : Rec) → get tree t.path ≡ Some r → rec ≡ r
   is-rec r e = same_Some _ _ (sym (rec_there bytes key t) ∙ e)
 
-  -- ---- its name and time
+  -- ---- its name, time and marks
 
   pub name_told : (content : List ℕ) (read : KeyRecord) → h key ≡ Some content → nk_of content ≡ Ok read → (r : Rec) → get tree t.path ≡ Some r → read.name ≡ r.name
   name_told content read here reads r e =
@@ -71,6 +71,9 @@ module _ (bytes : List ℕ) (key : ℕ) (t : IsHere bytes key) where
 
   pub time_told : (fields : KeyFields) → ((k : KeyRecord) → key_at h key ≡ Some k → fields ≡ k.fields) → (r : Rec) → get tree t.path ≡ Some r → fields.time ≡ r.time
   time_told fields are r e = ap (λ (f : KeyFields). f.time) (are node.key (key_is bytes key t)) ∙ ap (λ (r : Rec). r.time) (is-rec r e)
+
+  pub marks_told : (fields : KeyFields) → ((k : KeyRecord) → key_at h key ≡ Some k → fields ≡ k.fields) → (r : Rec) → get tree t.path ≡ Some r → marks_of fields.flags ≡ r.marks
+  marks_told fields are r e = ap (λ (f : KeyFields). marks_of f.flags) (are node.key (key_is bytes key t)) ∙ ap (λ (r : Rec). r.marks) (is-rec r e)
 
   -- ---- its descriptor
 

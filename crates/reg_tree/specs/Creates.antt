@@ -1,8 +1,8 @@
 -- The keys of a path made where they are missing (Win32 registry reference, `RegCreateKeyEx`).
-use Rattle.std.specs.Prelude.{◌≡◌, ℕ, ◌+◌, Some, List, ◌++◌, map, length}
+use Rattle.std.specs.Prelude.{◌≡◌, ◌≢◌, ◌⊎◌, ◌<◌, ◌≤◌, ℕ, ◌+◌, Some, List, [], ◌++◌, map, length}
 use Rattle.reg_names.specs.Names.{folded}
-use Rattle.reg_heap.specs.Paths.{Path}
-use Rattle.reg_heap.specs.Edits.{with_keys}
+use Rattle.reg_heap.specs.Paths.{Path, Tree, children_of}
+use Rattle.reg_heap.specs.Edits.{with_keys, missing, last_there}
 use Rattle.reg_arena.specs.Cells.{cell_at}
 use Rattle.reg_records.specs.Places.{place_at}
 use Rattle.reg_tree.specs.declared.node.Node.{Node}
@@ -17,3 +17,8 @@ pub record IsCreated (old new : List ℕ) (root : ℕ) (path : Path) (from : Nod
   pub place : place_at (cell_at new) root (path ++ map folded names) ≡ Some made.offset
   pub depth : made.depth ≡ from.depth + length names
   pub keeps : (q : Path) (o : ℕ) → place_at (cell_at old) root q ≡ Some o → place_at (cell_at new) root q ≡ Some o
+
+-- one of the keys is missing, and they would be too many
+pub record AreTooMany (t : Tree) (p : Path) (names : List (List ℕ)) : Type 0 where
+  pub some : missing t p names ≢ []
+  pub many : (32 < length (missing t p names)) ⊎ ((512 < length p + length names) ⊎ (500 ≤ length (children_of t (last_there t p names))))

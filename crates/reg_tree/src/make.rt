@@ -4,7 +4,7 @@
 ghost use Rattle.std.specs.Prelude.{◌≡◌, ◌≢◌, ◌↔◌, ◌⊎◌, ◌≤◌, ◌<◌, ◌+◌, ◌-◌, ◌++◌, ◌∷◌, [], true, false, ℕ, List, Some, Err, IfOk, IfErr, OnErr, length, drop, get_or};
 ghost use Rattle.reg_names.specs.Names.{is_key_name, is_path, path_of};
 ghost use Rattle.reg_heap.specs.Paths.{children_of};
-ghost use Rattle.reg_heap.specs.Edits.{missing, AreTooMany};
+ghost use Rattle.reg_heap.specs.Edits.{missing, are_too_many};
 ghost use Rattle.reg_arena.specs.Cells.{cell_at};
 ghost use Rattle.reg_records.specs.Cells.{HasRoom};
 ghost use Rattle.reg_records.specs.Keys.{KeyRecord, key_at};
@@ -12,7 +12,7 @@ ghost use Rattle.reg_index.specs.Subkeys.{IsReady, taken};
 ghost use Rattle.reg_tree.specs.Keys.{tree_in};
 ghost use Rattle.reg_tree.specs.Holds.{IsHere};
 ghost use Rattle.reg_tree.specs.Growing.{planned, MayGrow, Grows, AreReady, MayGrowAll, GrowsAll, sizes_of, IsSpared};
-ghost use Rattle.reg_tree.specs.Creates.{IsCreated};
+ghost use Rattle.reg_tree.specs.Creates.{IsCreated, AreTooMany};
 
 use crate::cells::cell_size;
 use crate::find::reach;
@@ -119,8 +119,8 @@ fn count_names(path: &[u8]) -> u32
     count
 }
 
-/// Whether the names of a path are too many to be made below a key.
-fn are_too_many(arena: &Arena, parent: Node, path: &[u8]) -> bool
+/// Whether the names of a path, all of them missing, are too many to be made below a key.
+fn pass_limits(arena: &Arena, parent: Node, path: &[u8]) -> bool
     requires here { IsHere arena.now.bytes parent.offset }
     requires depth { parent.depth ≤ 1024 }
     requires path { is_path path.now ≡ true }
@@ -135,6 +135,19 @@ fn are_too_many(arena: &Arena, parent: Node, path: &[u8]) -> bool
         return true;
     }
     len(subkeys_list(arena, parent.offset)) >= SUBKEYS_LIMIT
+}
+
+/// Whether keys of a path from a key on are missing, and too many to be made.
+pub fn is_limited(arena: &Arena, from: Node, path: &[u8]) -> bool
+    requires here { (t : IsHere arena.now.bytes from.offset) × (from.depth ≡ length t.path) }
+    requires path { is_path path.now ≡ true }
+    ensures { (t : IsHere arena.now.bytes from.offset) → from.depth ≡ length t.path → result ≡ are_too_many (tree_in arena.now.bytes t.root) t.path (path_of path.now) }
+{
+    let (parent, rest) = reach(arena, from, path);
+    if rest.is_empty() {
+        return false;
+    }
+    pass_limits(arena, parent, rest)
 }
 
 /// The sizes of the cells that making keys takes, in order: for each, that of its parent's list where it needs one, and that of
@@ -209,7 +222,7 @@ pub fn create(
             is_new: false,
         });
     }
-    if are_too_many(arena, parent, rest) {
+    if pass_limits(arena, parent, rest) {
         return Err(TreeFault::Limit);
     }
     let cells = match carve_for(arena, alloc, parent.offset, rest) {

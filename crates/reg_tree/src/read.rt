@@ -13,10 +13,14 @@ use reg_arena::Arena;
 use reg_index::{at, len};
 use reg_records::{read_nk, read_sk};
 
+/// The flags of a key node that are the key's marks.
+const MARKS: u16 = 0xFFD8;
+
 /// A key's name, as it was given.
 pub fn name(arena: &Arena, key: u32) -> &[u8]
     requires { IsHere arena.now.bytes key }
-    ensures { (t : IsHere arena.now.bytes key) → (r : Rec) → get (tree_in arena.now.bytes t.root) t.path ≡ Some r → result.now ≡ r.name }
+    ensures told { (t : IsHere arena.now.bytes key) → (r : Rec) → get (tree_in arena.now.bytes t.root) t.path ≡ Some r → result.now ≡ r.name }
+    ensures short { length result.now ≤ 255 }
 {
     match read_nk(arena.content(key)) {
         Ok(node) => node.name,
@@ -32,10 +36,19 @@ pub fn time(arena: &Arena, key: u32) -> u64
     fields(arena, key).time
 }
 
+/// A key's marks: its flags without those for volatile, hive exit, hive entry and the form of the name.
+pub fn marks(arena: &Arena, key: u32) -> u16
+    requires { IsHere arena.now.bytes key }
+    ensures { (t : IsHere arena.now.bytes key) → (r : Rec) → get (tree_in arena.now.bytes t.root) t.path ≡ Some r → result ≡ r.marks }
+{
+    fields(arena, key).flags & MARKS
+}
+
 /// The bytes of a key's security descriptor.
 pub fn descriptor(arena: &Arena, key: u32) -> &[u8]
     requires { IsHere arena.now.bytes key }
-    ensures { (t : IsHere arena.now.bytes key) → (r : Rec) → get (tree_in arena.now.bytes t.root) t.path ≡ Some r → result.now ≡ r.descriptor }
+    ensures told { (t : IsHere arena.now.bytes key) → (r : Rec) → get (tree_in arena.now.bytes t.root) t.path ≡ Some r → result.now ≡ r.descriptor }
+    ensures short { length result.now ≤ 65535 }
 {
     let security = fields(arena, key).security;
     match read_sk(arena.content(security)) {

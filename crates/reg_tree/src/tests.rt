@@ -172,6 +172,39 @@ fn a_path_of_thirty_three_missing_names_is_refused(rt: HostRuntime) -> Result<()
     Ok(())
 }
 
+/// Whether a path of so many names below a new root is too long to be made.
+fn is_limited(alloc: Global, names: usize) -> Result<bool, Fail> {
+    let tree = tree(alloc)?;
+    let path = deep(alloc, names)?;
+    check_path(&path)?;
+    Ok(tree.is_limited(tree.root(), &path))
+}
+
+#[test]
+fn a_path_of_thirty_three_missing_names_is_too_long(rt: HostRuntime) -> Result<(), Fail> {
+    assert_eq!(rt; is_limited(rt.alloc(), 32)?, false);
+    assert_eq!(rt; is_limited(rt.alloc(), 33)?, true);
+    Ok(())
+}
+
+/// The marks of the key at a path, or 0 where there is none.
+fn marks(tree: &Tree, path: &[u8]) -> u16 {
+    match at(tree, path) {
+        Some(node) => tree.marks(node),
+        None => 0,
+    }
+}
+
+#[test]
+fn the_root_alone_is_marked(rt: HostRuntime) -> Result<(), Fail> {
+    let alloc = rt.alloc();
+    let mut tree = tree(alloc)?;
+    let _said = make(&mut tree, alloc, &[b"Run"], 7)?;
+    assert_eq!(rt; marks(&tree, b""), 8);
+    assert_eq!(rt; marks(&tree, b"Run"), 0);
+    Ok(())
+}
+
 /// What making 16 times 32 keys, each below the one before, answers, then one more below the last, then the last once more.
 fn deepest(alloc: Global) -> Result<String, Fail> {
     let mut tree = tree(alloc)?;

@@ -1,9 +1,9 @@
-ghost use Rattle.std.specs.Prelude.{true, ◌≡◌, ◌↔◌, ◌⊎◌, ◌≢◌, ◌≤◌, ◌<◌, ◌+◌, ◌++◌, ℕ, List, [], length, Err, Some, None, OnOk, OnErr, IfOk, IfErr, IsSome, MatchOption, slice_get, get_or};
+ghost use Rattle.std.specs.Prelude.{true, ◌≡◌, ◌↔◌, ◌⊎◌, ◌≢◌, ◌≤◌, ◌<◌, ◌+◌, ◌++◌, ℕ, List, [], length, Err, Some, None, OnOk, OnErr, IfOk, IfErr, IsSome, IfSome, MatchOption, slice_get, get_or};
 ghost use Rattle.std.specs.FinMap.{insert, empty, get};
 ghost use Rattle.reg_names.specs.Names.{is_key_name, is_value_name, is_path, path_of};
 ghost use Rattle.reg_heap.specs.Paths.{Path, path_cmp, Rec, Member, children_of};
 ghost use Rattle.reg_heap.specs.Members.{value_named};
-ghost use Rattle.reg_heap.specs.Edits.{edited, with_value, without_value, values_at, folded_path, with_keys, missing, AreTooMany, without_key, IsKept};
+ghost use Rattle.reg_heap.specs.Edits.{edited, with_value, without_value, values_at, folded_path, with_keys, missing, are_too_many, without_key, IsKept};
 ghost use Rattle.reg_values.specs.Lists.{Tells};
 
 use crate::cells::{carve_two, cell_size};
@@ -89,7 +89,8 @@ impl Tree {
     pub fn resolve(&self, from: Node, path: &[u8]) -> Option<Node>
         requires from { IsThere self.now from }
         requires path { is_path path.now ≡ true }
-        ensures { (p : Path) → IsAt self.now p from → IsResolved self.now (p ++ folded_path path.now) result }
+        ensures found { (p : Path) → IsAt self.now p from → IsResolved self.now (p ++ folded_path path.now) result }
+        ensures depth { IfSome result (λ node. node.depth ≤ 512) }
     {
         find::resolve(&self.arena, from, path)
     }
@@ -97,7 +98,8 @@ impl Tree {
     /// A key's name, as it was given.
     pub fn name(&self, node: Node) -> &[u8]
         requires { IsThere self.now node }
-        ensures { (p : Path) → IsAt self.now p node → (r : Rec) → get self.now.tree p ≡ Some r → result.now ≡ r.name }
+        ensures told { (p : Path) → IsAt self.now p node → (r : Rec) → get self.now.tree p ≡ Some r → result.now ≡ r.name }
+        ensures short { length result.now ≤ 255 }
     {
         read::name(&self.arena, node.offset)
     }
@@ -110,10 +112,19 @@ impl Tree {
         read::time(&self.arena, node.offset)
     }
 
+    /// A key's marks, of which 0x08 says that it is never deleted.
+    pub fn marks(&self, node: Node) -> u16
+        requires { IsThere self.now node }
+        ensures { (p : Path) → IsAt self.now p node → (r : Rec) → get self.now.tree p ≡ Some r → result ≡ r.marks }
+    {
+        read::marks(&self.arena, node.offset)
+    }
+
     /// The bytes of a key's security descriptor.
     pub fn descriptor(&self, node: Node) -> &[u8]
         requires { IsThere self.now node }
-        ensures { (p : Path) → IsAt self.now p node → (r : Rec) → get self.now.tree p ≡ Some r → result.now ≡ r.descriptor }
+        ensures told { (p : Path) → IsAt self.now p node → (r : Rec) → get self.now.tree p ≡ Some r → result.now ≡ r.descriptor }
+        ensures short { length result.now ≤ 65535 }
     {
         read::descriptor(&self.arena, node.offset)
     }
@@ -139,7 +150,8 @@ impl Tree {
     /// there are not so many.
     pub fn value(&self, node: Node, index: u32) -> Option<Value<'_>>
         requires { IsThere self.now node }
-        ensures { (p : Path) → IsAt self.now p node → MatchOption result (length (values_at self.now.tree p) ≤ index) (λ value. (member : Member) × (slice_get (values_at self.now.tree p) index ≡ Some member) × Tells member value.name.now value.kind value.size) }
+        ensures told { (p : Path) → IsAt self.now p node → MatchOption result (length (values_at self.now.tree p) ≤ index) (λ value. (member : Member) × (slice_get (values_at self.now.tree p) index ≡ Some member) × Tells member value.name.now value.kind value.size) }
+        ensures short { IfSome result (λ value. length value.name.now ≤ 16383) }
     {
         values::at(&self.arena, node.offset, index)
     }
@@ -233,13 +245,23 @@ impl Tree {
         requires path { is_path path.now ≡ true }
         ensures ok { (p : Path) → IsAt self.old p from → OnOk result (self.new.tree ≡ with_keys self.old.tree p (path_of path.now) moment) }
         ensures opened { (p : Path) → IsAt self.old p from → IfOk result (λ made. IsAt self.new (p ++ folded_path path.now) made.node × ((made.is_new ≡ true) ↔ (missing self.old.tree p (path_of path.now) ≢ []))) }
+        ensures depth { IfOk result (λ made. made.node.depth ≤ 512) }
         ensures nodes { OnOk result (KeepsNodes self.old self.new) }
-        ensures limit { (p : Path) → IsAt self.old p from → ((result ≡ Err TreeFault.Limit) ↔ AreTooMany self.old.tree p (path_of path.now)) }
+        ensures limit { (p : Path) → IsAt self.old p from → ((result ≡ Err TreeFault.Limit) ↔ (are_too_many self.old.tree p (path_of path.now) ≡ true)) }
         ensures full { (result ≡ Err TreeFault.Full) → 268435456 < length self.old.bins.bytes + 1310720 }
         ensures others { IfErr result (λ fault. (fault ≡ TreeFault.Limit) ⊎ ((fault ≡ TreeFault.Full) ⊎ (fault ≡ TreeFault.Memory))) }
         ensures err { OnErr result (self.new ≡ self.old) }
     {
         make::create(&mut self.arena, alloc, from, path, moment)
+    }
+
+    /// Whether `create` of a path from a key is refused for `Limit`.
+    pub fn is_limited(&self, from: Node, path: &[u8]) -> bool
+        requires from { IsThere self.now from }
+        requires path { is_path path.now ≡ true }
+        ensures { (p : Path) → IsAt self.now p from → result ≡ are_too_many self.now.tree p (path_of path.now) }
+    {
+        make::is_limited(&self.arena, from, path)
     }
 
     /// Deletes a key with its values, and sets its parent's time. After a fault the tree is as before.

@@ -1,5 +1,5 @@
 //! A key's values, in its cells.
-ghost use Rattle.std.specs.Prelude.{true, false, ◌≡◌, ◌↔◌, ◌⊎◌, ◌≤◌, ◌<◌, ◌+◌, ℕ, List, [], length, Err, Some, None, OnOk, OnErr, IfOk, IfErr, MatchOption, slice_get};
+ghost use Rattle.std.specs.Prelude.{true, false, ◌≡◌, ◌↔◌, ◌⊎◌, ◌≤◌, ◌<◌, ◌+◌, ℕ, List, [], length, Err, Some, None, OnOk, OnErr, IfOk, IfErr, MatchOption, IfSome, slice_get};
 ghost use Rattle.reg_names.specs.Names.{is_value_name};
 ghost use Rattle.reg_heap.specs.Paths.{Member};
 ghost use Rattle.reg_heap.specs.Members.{value_named};
@@ -51,7 +51,8 @@ pub fn bytes(arena: &Arena, alloc: Global, key: u32, index: u32) -> Result<Vec<u
 
 pub fn at(arena: &Arena, key: u32, index: u32) -> Option<Value<'_>>
     requires { IsHere arena.now.bytes key }
-    ensures { (t : IsHere arena.now.bytes key) → MatchOption result (length (values_at (tree_in arena.now.bytes t.root) t.path) ≤ index) (λ value. (member : Member) × (slice_get (values_at (tree_in arena.now.bytes t.root) t.path) index ≡ Some member) × Tells member value.name.now value.kind value.size) }
+    ensures told { (t : IsHere arena.now.bytes key) → MatchOption result (length (values_at (tree_in arena.now.bytes t.root) t.path) ≤ index) (λ value. (member : Member) × (slice_get (values_at (tree_in arena.now.bytes t.root) t.path) index ≡ Some member) × Tells member value.name.now value.kind value.size) }
+    ensures short { IfSome result (λ value. length value.name.now ≤ 16383) }
 {
     let list = values_list(arena, key);
     if index >= list.count {

@@ -17,18 +17,18 @@ returns-then-is_empty-clause-new c = λ t. new_none _ c.args.from t c.args.path.
 pub returns-then-is_empty-clause-limit : goal.returns-then-is_empty-clause-limit
 returns-then-is_empty-clause-limit c = λ t d. limit_none _ (none_many _ c.args.from t c.args.path.now _ _ c.reach.ensures c.args.moment (empty_names _ c.is_empty.result c.is_empty.ensures c.if-is_empty.true))
 
-pub are_too_many-requires-clause-here : goal.are_too_many-requires-clause-here
-are_too_many-requires-clause-here c = parent_here _ c.args.from c.requires.here.0 c.args.path.now _ _ c.reach.ensures c.args.moment
+pub pass_limits-requires-clause-here : goal.pass_limits-requires-clause-here
+pass_limits-requires-clause-here c = parent_here _ c.args.from c.requires.here.0 c.args.path.now _ _ c.reach.ensures c.args.moment
 
-pub are_too_many-requires-clause-depth : goal.are_too_many-requires-clause-depth
-are_too_many-requires-clause-depth c =
+pub pass_limits-requires-clause-depth : goal.pass_limits-requires-clause-depth
+pass_limits-requires-clause-depth c =
     parent-deep _ c.args.from c.requires.here.0 c.args.path.now _ _ c.reach.ensures c.args.moment (from_shallow _ _ c.requires.here.0 c.requires.here.1)
 
-pub returns-then-are_too_many-clause-limit : goal.returns-then-are_too_many-clause-limit
-returns-then-are_too_many-clause-limit c = λ t d.
+pub returns-then-pass_limits-clause-limit : goal.returns-then-pass_limits-clause-limit
+returns-then-pass_limits-clause-limit c = λ t d.
     limit_many
     (too_many _ c.args.from t c.args.path.now _ _ c.reach.ensures c.args.moment d (some_names _ c.is_empty.result c.is_empty.ensures c.if-is_empty.false)
-    ((c.are_too_many.ensures.many (parent_here _ c.args.from t c.args.path.now _ _ c.reach.ensures c.args.moment)).0 c.if-are_too_many.true))
+    ((c.pass_limits.ensures.many (parent_here _ c.args.from t c.args.path.now _ _ c.reach.ensures c.args.moment)).0 c.if-pass_limits.true))
 
 pub carve_for-requires-clause-here : goal.carve_for-requires-clause-here
 carve_for-requires-clause-here c = parent_here _ c.args.from c.requires.here.0 c.args.path.now _ _ c.reach.ensures c.args.moment
@@ -36,17 +36,17 @@ carve_for-requires-clause-here c = parent_here _ c.args.from c.requires.here.0 c
 pub returns-in-Err-clause-limit : goal.returns-in-Err-clause-limit
 returns-in-Err-clause-limit c = λ t d.
     limit_other c.in-Err.fault c.in-Err.ensures.others
-    (λ m. false≢true (sym c.if-are_too_many.false ∙ (c.are_too_many.ensures.many (parent_here _ c.args.from t c.args.path.now _ _ c.reach.ensures c.args.moment)).1 (are_many _ c.args.from t c.args.path.now _ _ c.reach.ensures c.args.moment d m)))
+    (λ m. false≢true (sym c.if-pass_limits.false ∙ (c.pass_limits.ensures.many (parent_here _ c.args.from t c.args.path.now _ _ c.reach.ensures c.args.moment)).1 (are_many _ c.args.from t c.args.path.now _ _ c.reach.ensures c.args.moment d m)))
 
 pub make_all-node-requires-clause-grow : goal.make_all-node-requires-clause-grow
 make_all-node-requires-clause-grow c =
-    let room = c.are_too_many.ensures.room c.if-are_too_many.false in
+    let room = c.pass_limits.ensures.room c.if-pass_limits.false in
     may_make _ c.args.from c.requires.here.0 c.args.path.now _ _ c.reach.ensures c.args.moment c.requires.here.1 _ c.deref.result.now
     (spared_as _ _ _ _ c.deref.result.now c.in-Ok.cells.items c.deref.ensures.value c.in-Ok.ensures.ok) room.1 room.2
 
 pub returns-clause-ok : goal.returns-clause-ok
 returns-clause-ok c = λ t d.
-    let room = c.are_too_many.ensures.room c.if-are_too_many.false in
+    let room = c.pass_limits.ensures.room c.if-pass_limits.false in
     let s = spared_as _ _ _ _ c.deref.result.now c.in-Ok.cells.items c.deref.ensures.value c.in-Ok.ensures.ok in
     created _ c.args.from t c.args.path.now _ _ c.reach.ensures c.args.moment d _ c.deref.result.now s room.1 room.2 _ c.make_all-node.result
     (c.make_all-node.ensures (may_make _ c.args.from t c.args.path.now _ _ c.reach.ensures c.args.moment d _ c.deref.result.now s room.1 room.2))
@@ -57,4 +57,4 @@ returns-clause-new c = λ t. new_some _ c.args.from t c.args.path.now _ _ c.reac
 pub returns-clause-limit : goal.returns-clause-limit
 returns-clause-limit c = λ t d.
     limit_none _
-    (λ m. false≢true (sym c.if-are_too_many.false ∙ (c.are_too_many.ensures.many (parent_here _ c.args.from t c.args.path.now _ _ c.reach.ensures c.args.moment)).1 (are_many _ c.args.from t c.args.path.now _ _ c.reach.ensures c.args.moment d m)))
+    (λ m. false≢true (sym c.if-pass_limits.false ∙ (c.pass_limits.ensures.many (parent_here _ c.args.from t c.args.path.now _ _ c.reach.ensures c.args.moment)).1 (are_many _ c.args.from t c.args.path.now _ _ c.reach.ensures c.args.moment d m)))

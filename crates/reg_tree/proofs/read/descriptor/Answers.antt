@@ -1,6 +1,7 @@
 use Rattle.reg_tree.proofs.Openings.{security-exists, security-no_fault}
 use Rattle.reg_tree.proofs.Here.{key_there}
 use Rattle.reg_tree.proofs.Telling.{security_told, descriptor_told}
+use Rattle.reg_tree.proofs.Bounds.{descriptor-bound}
 use Rattle.reg_tree.proofs.read.descriptor.Goals as goal
 
 pub fields-security-requires : goal.fields-security-requires
@@ -12,5 +13,8 @@ content-requires c = security-exists _ _ (security_told _ _ c.requires _ c.field
 pub unreachable-requires : goal.unreachable-requires
 unreachable-requires c = security-no_fault _ _ _ _ (security_told _ _ c.requires _ c.fields-security.ensures) c.content.ensures c.in-Err.ensures
 
-pub returns : goal.returns
-returns c = λ t. descriptor_told _ _ t _ c.fields-security.ensures _ _ c.content.ensures c.in-Ok.ensures
+pub returns-clause-told : goal.returns-clause-told
+returns-clause-told c = λ t. descriptor_told _ _ t _ c.fields-security.ensures _ _ c.content.ensures c.in-Ok.ensures
+
+pub returns-clause-short : goal.returns-clause-short
+returns-clause-short c = descriptor-bound _ _ c.requires _ c.fields-security.ensures _ _ c.content.ensures c.in-Ok.ensures

@@ -1,10 +1,11 @@
-use Rattle.std.proofs.Common.{◌≡◌, ◌↔◌, Err}
+use Rattle.std.proofs.Common.{◌≡◌, ◌↔◌, true, Err}
 use Rattle.reg_names.specs.Names.{path_of}
 use Rattle.reg_heap.specs.Paths.{Tree}
-use Rattle.reg_heap.specs.Edits.{AreTooMany}
+use Rattle.reg_heap.specs.Edits.{are_too_many}
 use Rattle.reg_tree.specs.declared.fault.TreeFault.TheVariants.{Limit}
 use Rattle.reg_tree.proofs.Nodes.{here_at, of_tree}
-use Rattle.reg_tree.proofs.CreatedNodes.{from_at, holds_created, tree_created, opened_created, nodes_created}
+use Rattle.reg_tree.proofs.CreatedNodes.{from_at, holds_created, tree_created, opened_created, depth_created, nodes_created}
+use Rattle.reg_tree.proofs.Limits.{by_test}
 use Rattle.reg_tree.proofs.tree.Tree.create.Goals as goal
 
 pub create-requires-clause-here : goal.create-requires-clause-here
@@ -19,10 +20,13 @@ returns-clause-ok c = tree_created _ _ c.self.invariant _ c.self.view_is _ c.cre
 pub returns-clause-opened : goal.returns-clause-opened
 returns-clause-opened c = opened_created _ _ c.self.invariant _ c.self.view_is _ c.create.result c.args.from c.requires.from c.args.path.now c.args.moment c.create.ensures.ok c.create.ensures.err c.create.ensures.new
 
+pub returns-clause-depth : goal.returns-clause-depth
+returns-clause-depth c = depth_created _ _ c.self.invariant _ c.self.view_is _ c.create.result c.args.from c.requires.from c.args.path.now c.args.moment c.create.ensures.ok c.create.ensures.err
+
 pub returns-clause-nodes : goal.returns-clause-nodes
 returns-clause-nodes c = nodes_created _ _ c.self.invariant _ c.self.view_is _ c.create.result c.args.from c.requires.from c.args.path.now c.args.moment c.create.ensures.ok c.create.ensures.err
 
 pub returns-clause-limit : goal.returns-clause-limit
 returns-clause-limit c = λ p at.
-    of_tree _ _ c.self.invariant _ c.self.view_is (λ (t : Tree). (c.create.result ≡ Err Limit) ↔ AreTooMany t p (path_of c.args.path.now))
-    (c.create.ensures.limit (here_at _ _ c.self.invariant _ c.self.view_is c.args.from p at) at.depth)
+    of_tree _ _ c.self.invariant _ c.self.view_is (λ (t : Tree). (c.create.result ≡ Err Limit) ↔ (are_too_many t p (path_of c.args.path.now) ≡ true))
+    (by_test _ _ _ (c.create.ensures.limit (here_at _ _ c.self.invariant _ c.self.view_is c.args.from p at) at.depth))

@@ -7,6 +7,6 @@ use Rattle.reg_tree.proofs.tree.Tree.descriptor.Goals as goal
 pub descriptor-requires : goal.descriptor-requires
 descriptor-requires c = there_at _ _ c.self.invariant _ c.self.view_is _ c.requires
 
-pub returns : goal.returns
-returns c = λ p at.
-    of_tree _ _ c.self.invariant _ c.self.view_is (λ (t : Tree). (r : Rec) → get t p ≡ Some r → c.descriptor.result.now ≡ r.descriptor) (c.descriptor.ensures (here_at _ _ c.self.invariant _ c.self.view_is c.args.node p at))
+pub returns-clause-told : goal.returns-clause-told
+returns-clause-told c = λ p at.
+    of_tree _ _ c.self.invariant _ c.self.view_is (λ (t : Tree). (r : Rec) → get t p ≡ Some r → c.descriptor.result.now ≡ r.descriptor) (c.descriptor.ensures.told (here_at _ _ c.self.invariant _ c.self.view_is c.args.node p at))

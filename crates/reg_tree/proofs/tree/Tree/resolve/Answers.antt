@@ -1,4 +1,4 @@
-use Rattle.reg_tree.proofs.Nodes.{there_at, shallow_at, resolved}
+use Rattle.reg_tree.proofs.Nodes.{there_at, shallow_at, resolved, resolved-depth}
 use Rattle.reg_tree.proofs.tree.Tree.resolve.Goals as goal
 
 pub resolve-requires-clause-here : goal.resolve-requires-clause-here
@@ -7,5 +7,8 @@ resolve-requires-clause-here c = there_at _ _ c.self.invariant _ c.self.view_is 
 pub resolve-requires-clause-depth : goal.resolve-requires-clause-depth
 resolve-requires-clause-depth c = shallow_at _ _ c.self.invariant _ c.self.view_is _ c.requires.from
 
-pub returns : goal.returns
-returns c = resolved _ _ c.self.invariant _ c.self.view_is c.args.from _ c.resolve.result c.resolve.ensures
+pub returns-clause-depth : goal.returns-clause-depth
+returns-clause-depth c = resolved-depth _ _ c.self.invariant _ c.self.view_is c.args.from c.requires.from _ c.resolve.result c.resolve.ensures
+
+pub returns-clause-found : goal.returns-clause-found
+returns-clause-found c = resolved _ _ c.self.invariant _ c.self.view_is c.args.from _ c.resolve.result c.resolve.ensures

@@ -1,7 +1,7 @@
 use Rattle.std.proofs.Common.{arith}
 use Rattle.reg_tree.proofs.Carving.{parent_there}
 use Rattle.reg_tree.proofs.TooMany.{many-below}
-use Rattle.reg_tree.proofs.make.are_too_many.Goals as goal
+use Rattle.reg_tree.proofs.make.pass_limits.Goals as goal
 
 pub subkeys_list-requires : goal.subkeys_list-requires
 subkeys_list-requires c = parent_there _ _ c.requires.here
