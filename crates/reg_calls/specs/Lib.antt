@@ -1,6 +1,5 @@
 pub mod Kept
-pub mod Rows
-pub mod Founds
+pub mod Stores
 pub mod Views
 pub mod Hives
 pub mod Runs

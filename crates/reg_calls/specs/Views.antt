@@ -1,5 +1,6 @@
 -- What callers see of a hive, and what is true of every hive.
-use Rattle.std.specs.Prelude.{◌≡◌, ℕ, ◌+◌, ◌<◌, ◌≤◌, List, [], ◌∷◌, ◌++◌, length, Option, Some, None, All, ◌⊎◌, refl, is_some}
+use Rattle.std.specs.Prelude.{◌≡◌, ℕ, ◌+◌, ◌≤◌, List, [], ◌∷◌, ◌++◌, length, Option, Some, None, IsSome, false, true, ◌⊎◌, refl, is_some}
+use Rattle.std.specs.FinMap.{get}
 use Rattle.std.specs.Coded.{Coded, code_by, coded×, coded_ℕ, coded_list, coded_option}
 use Rattle.reg_heap.specs.Paths.{Path, Tree, coded_bytes, coded_tree}
 use Rattle.reg_model.specs.Worlds.{Handle, Place, At, Deleted}
@@ -10,11 +11,14 @@ use Rattle.reg_model.specs.contracts.reply.Entry.{the_row}
 use Rattle.reg_model.specs.declared.reply.Entry.{Entry}
 use Rattle.reg_model.specs.declared.reply.ChangeReply.{ChangeReply}
 use Rattle.reg_model.specs.declared.answer.AnswerBody.{AnswerBody}
-use Rattle.reg_model.specs.declared.answer.AnswerBody.TheVariants.{Refused, Value}
+use Rattle.reg_model.specs.declared.answer.AnswerBody.TheVariants.{Refused, Short, Value, Key, Member, Info}
 use Rattle.reg_model.specs.declared.call.Change.{Change}
-use Rattle.reg_model.specs.declared.call.Change.TheVariants.{OpenRoot, SetValue, DeleteValue}
 use Rattle.reg_model.specs.declared.call.Query.{Query}
 use Rattle.reg_tree.specs.Keys.{Keys, coded_keys}
+use Rattle.reg_calls.specs.declared.store.Store.{Store}
+use Rattle.reg_calls.specs.declared.lack.Lack.{Lack}
+use Rattle.reg_calls.specs.declared.lack.Lack.TheVariants.{Space, Memory}
+use Rattle.reg_calls.specs.Stores.{is_closing, LacksSpace}
 
 -- a hive: the tree that it was made with, its journal, its keys in their bins, and its open handles in the order of their numbers
 pub record View : Type 0 where
@@ -53,19 +57,16 @@ coded_view =
 abbrev pub state : View → State
 state v = state_of v.origin v.journal
 
--- every handle leads to the root (temporary: until keys can be opened)
-abbrev pub AreAtRoot : List Handle → Type 0
-AreAtRoot handles = All (λ (h : Handle). h.place ≡ At []) handles
-
--- the journal is legal, and the tree and the handles are those of its replay
-pub record IsKept (origin : Tree) (journal : List Entry) (tree : Tree) (handles : List Handle) (room : ℕ) : Type 0 where
+-- the journal is legal and the origin has its root; the tree and the handles are those of the replay; and room is kept for the
+-- closing of each open handle
+pub record IsKept (origin : Tree) (journal : List Entry) (store : Store) (room : ℕ) : Type 0 where
   pub legal : IsLegal origin journal
-  pub tree_is : tree ≡ (replay origin journal).tree
-  pub handles_are : handles ≡ (replay origin journal).handles
-  pub at_root : AreAtRoot handles
-  pub numbers : All (λ (h : Handle). h.number < length journal) handles
-  pub small : length journal + length handles ≤ 16777216
-  pub room_kept : length handles ≤ room
+  pub rooted : IsSome (get origin [])
+  pub tree_is : store.tree.tree ≡ (replay origin journal).tree
+  pub handles_are : store.handles.handles ≡ (replay origin journal).handles
+  pub since : store.handles.since ≤ length journal
+  pub small : length journal + length store.handles.handles ≤ 16777216
+  pub room_kept : length store.handles.handles ≤ room
 
 -- the entry of an accepted change
 abbrev pub entry_of : View → ℕ → ℕ → Change → Entry
@@ -77,15 +78,14 @@ pub record IsAccepted (old new : View) (session moment : ℕ) (change : Change) 
   pub journal : new.journal ≡ old.journal ++ entry_of old session moment change ∷ []
   pub origin : new.origin ≡ old.origin
 
--- a change may find no space in the bins: one that takes some, where they are within 1,310,720 bytes of their limit
-abbrev pub LacksSpace : Keys → Change → Type 0
-LacksSpace keys (OpenRoot mask) = ⊥
-LacksSpace keys (SetValue h name kind bytes) = 268435456 < length keys.bins.bytes + 1310720
-LacksSpace keys (DeleteValue h name) = ⊥
+-- the status that tells a lack: 1450 for space, 8 for memory
+abbrev pub status_of : Lack → ℕ
+status_of Space = 1450
+status_of Memory = 8
 
--- an acceptable change isn't made, for want of memory or of space in the bins, and nothing changed
+-- an acceptable change isn't made, for want of memory (never a Close) or of space in the bins, and nothing changed
 pub record Lacks (old new : View) (change : Change) (reply : ChangeReply) : Type 0 where
-  pub why : (reply ≡ refusal 8) ⊎ ((reply ≡ refusal 1450) × LacksSpace old.keys change)
+  pub why : ((reply ≡ refusal 8) × (is_closing change ≡ false)) ⊎ ((reply ≡ refusal 1450) × LacksSpace old.keys change)
   pub same : new ≡ old
 
 -- what a change may be answered, by the cause of its refusal
@@ -93,17 +93,20 @@ abbrev pub IsApplied : Option ℕ → View → View → ℕ → ℕ → Change �
 IsApplied (Some status) old new session moment change reply = (reply ≡ refusal status) × (new ≡ old)
 IsApplied None old new session moment change reply = IsAccepted old new session moment change reply ⊎ Lacks old new change reply
 
--- the answer holds bytes
+-- the answer holds a name or bytes
 abbrev pub HoldsBytes : AnswerBody → Type 0
 HoldsBytes (Refused status) = ⊥
-HoldsBytes (Value kind size bytes) = is_some bytes ≡ Rattle.std.specs.Prelude.true
-HoldsBytes body = ⊥
+HoldsBytes (Short status kind size) = ⊥
+HoldsBytes (Value kind size bytes) = is_some bytes ≡ true
+HoldsBytes (Key name time) = Unit {0}
+HoldsBytes (Member name kind size bytes) = Unit {0}
+HoldsBytes (Info subkeys longest_key values longest_value largest security time) = ⊥
 
 abbrev pub is_told : Option ℕ → AnswerBody → AnswerBody
 is_told (Some status) body = Refused status
 is_told None body = body
 
--- what is told in the place of an answer that is due: that answer, or 8 where it holds bytes
+-- what is told in the place of an answer that is due: that answer, or 8 where it holds a name or bytes
 abbrev pub IsTold : AnswerBody → AnswerBody → Type 0
 IsTold due body = (body ≡ due) ⊎ ((body ≡ Refused 8) × HoldsBytes due)
 

@@ -119,7 +119,7 @@ impl Hive {
         self.core.apply(session, moment, change)
     }
 
-    /// Answers a question of a session, below 64. 8 comes only in place of an answer that holds bytes.
+    /// Answers a question of a session, below 64. 8 comes only in place of an answer that holds a name or bytes.
     pub fn read(&self, session: u8, query: &Query) -> Answer
         requires { session < 64 }
         ensures at { result.at ≡ length (view_of self.now).journal }

@@ -15,14 +15,14 @@ use Rattle.std.proofs.lemmas.List.Elements.{All-from_recursion}
 use Rattle.std.proofs.lemmas.Map.Keys.{IsStrictlyIncreasing-from_sorted}
 use Rattle.reg_heap.specs.Paths.{Path, Tree, Rec, path_cmp}
 use Rattle.reg_heap.specs.Edits.{edited, with_value, without_value}
-use Rattle.reg_model.specs.Worlds.{World, Handle, Place, StandsIn, after, opened, closed, turned, numbered, look, path_at, path_from}
+use Rattle.reg_model.specs.Worlds.{World, Handle, Place, StandsIn, IsStanding, after, opened, closed, turned, numbered, look, path_at, path_from}
 use Rattle.reg_model.specs.Replies.{reply_to}
 use Rattle.reg_model.specs.Histories.{replay, state_of, IsFit, IsLegalAfter, IsLegal}
 use Rattle.reg_model.specs.declared.call.Change.{Change}
 use Rattle.reg_model.specs.declared.call.Change.TheVariants.{OpenRoot, OpenKey, CreateKey, SetValue, DeleteValue, DeleteKey, Close}
 use Rattle.reg_model.specs.declared.reply.Entry.{Entry}
 use Rattle.reg_model.proofs.OneMore.{replay-push}
-use Rattle.reg_model.proofs.Standing.{Has, Stands, IsStanding, standing-after}
+use Rattle.reg_model.proofs.Standing.{Has, Stands, Upright, standing-after}
 
 legal_after-front : (origin : Tree) (past es more : List Entry) → IsLegalAfter origin past (es ++ more) → IsLegalAfter origin past es
 legal_after-front origin past [] more l = tt
@@ -179,10 +179,10 @@ handle-told origin past e mask f is = rw (f.reply, is, f.number) refl
 
 -- ---- the root, and the keys that handles lead to
 
-standing-all : (origin : Tree) (es : List Entry) → IsLegal origin es → Has origin [] → IsStanding (replay origin es).tree (replay origin es).handles
+standing-all : (origin : Tree) (es : List Entry) → IsLegal origin es → Has origin [] → Upright (replay origin es).tree (replay origin es).handles
 standing-all origin es l h =
-    by_entries origin (λ past. IsStanding (replay origin past).tree (replay origin past).handles)
-    (λ past e f r. subst (λ (w : World). IsStanding w.tree w.handles) (sym (replay-push origin past e)) (standing-after (state_of origin past) e r 0 f.accepted)) [] es (record { root = h; stand = tt }) l
+    by_entries origin (λ past. Upright (replay origin past).tree (replay origin past).handles)
+    (λ past e f r. subst (λ (w : World). Upright w.tree w.handles) (sym (replay-push origin past e)) (standing-after (state_of origin past) e r 0 f.accepted)) [] es (record { root = h; stand = tt }) l
 
 -- a tree that holds its root holds it after a legal journal
 pub root-stays : (origin : Tree) (es : List Entry) → IsLegal origin es → Has origin [] → Has (replay origin es).tree []
@@ -195,3 +195,7 @@ handles-stand origin es l h = let r = standing-all origin es l h in r.stand
 pub all-stand : (origin : Tree) (es : List Entry) → IsLegal origin es → Has origin [] → All (λ (h : Handle). StandsIn (replay origin es).tree h.place) (replay origin es).handles
 all-stand origin es l h =
     All-from_recursion (λ (h : Handle). StandsIn (replay origin es).tree h.place) (replay origin es).handles (handles-stand origin es l h)
+
+-- a legal journal's replay stands
+pub is_standing : (origin : Tree) (es : List Entry) → IsLegal origin es → Has origin [] → IsStanding (replay origin es).tree (replay origin es).handles
+is_standing origin es l h = record { root = root-stays origin es l h; stand = all-stand origin es l h }

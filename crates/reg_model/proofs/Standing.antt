@@ -8,10 +8,11 @@ use Rattle.std.specs.Cmp.Lexicographic.{lists_total, nat_list_cmp_total}
 use Rattle.std.specs.FinMap.{get, insert, remove, get-insert, get-remove}
 use Rattle.std.proofs.lemmas.List.{append-nil}
 use Rattle.std.proofs.lemmas.Cmp.{eq_by_cmp_equiv}
+use Rattle.std.proofs.lemmas.List.Elements.{recursion_from_All}
 use Rattle.reg_names.specs.Names.{folded, path_of, is_path, is_backslash}
 use Rattle.reg_heap.specs.Paths.{Path, Tree, Rec, path_cmp}
 use Rattle.reg_heap.specs.Edits.{edited, at_time, above, with_key, with_keys, without_key, has_child, child_path, made_key, descriptor_of, folded_path}
-use Rattle.reg_model.specs.Worlds.{World, Handle, Place, At, Deleted, StandsIn, look, numbered, owned, path_at, path_from, closed, turned, place_without, same_path, opened, after}
+use Rattle.reg_model.specs.Worlds.{World, Handle, Place, At, Deleted, StandsIn, IsStanding, look, numbered, owned, path_at, path_from, closed, turned, place_without, same_path, opened, after}
 use Rattle.reg_model.specs.Causes.{State, is_bad_target}
 use Rattle.reg_model.specs.declared.call.Change.{Change}
 use Rattle.reg_model.specs.declared.call.Change.TheVariants.{OpenRoot, OpenKey, CreateKey, SetValue, DeleteValue, DeleteKey, Close}
@@ -132,6 +133,11 @@ pub stands-at : (t : Tree) (session number : ℕ) (hs : List Handle) (target : T
 stands-at t session number hs target s =
     subst (StandsIn t) target.place (stands-numbered t number hs target.handle s (owned-some session (numbered number hs) target.handle target.found))
 
+-- the same of a world whose handles all stand
+pub target-there : (t : Tree) (session number : ℕ) (hs : List Handle) (handle : Handle) (path : Path) → look session number hs ≡ Some handle → handle.place ≡ At path → IsStanding t hs → Has t path
+target-there t session number hs handle path found place s =
+    stands-at t session number hs (record { handle = handle; path = path; found = found; place = place }) (recursion_from_All (λ (h : Handle). StandsIn t h.place) hs s.stand)
+
 -- ---- the root stays
 
 not_empty : (p : Path) → (name : List ℕ) (names : Path) → same_path [] (p ++ name ∷ names) ≡ false
@@ -159,21 +165,21 @@ target-below p (b ∷ bs) good =
 
 -- ---- after an accepted change
 
-pub record IsStanding (t : Tree) (hs : List Handle) : Type 0 where
+pub record Upright (t : Tree) (hs : List Handle) : Type 0 where
   pub root : Has t []
   pub stand : Stands t hs
 
-module _ (s : State) (e : Entry) (r : IsStanding s.world.tree s.world.handles) where
+module _ (s : State) (e : Entry) (r : Upright s.world.tree s.world.handles) where
   abbrev tree : Tree
   tree = s.world.tree
 
   abbrev hs : List Handle
   hs = s.world.handles
 
-  standing-open : (h : ℕ) (path : List ℕ) (mask : ℕ) → OpenMet s e.session h path mask → IsStanding tree (hs ++ opened e (path_from e.session h hs path) mask ∷ [])
+  standing-open : (h : ℕ) (path : List ℕ) (mask : ℕ) → OpenMet s e.session h path mask → Upright tree (hs ++ opened e (path_from e.session h hs path) mask ∷ [])
   standing-open h path mask m = record { root = r.root; stand = stands-push tree hs (opened e (path_from e.session h hs path) mask) m.there r.stand }
 
-  standing-create : (h : ℕ) (path : List ℕ) (mask : ℕ) → CreateMet s e.session h path mask → IsStanding (with_keys tree (path_at e.session h hs) (path_of path) e.moment) (hs ++ opened e (path_from e.session h hs path) mask ∷ [])
+  standing-create : (h : ℕ) (path : List ℕ) (mask : ℕ) → CreateMet s e.session h path mask → Upright (with_keys tree (path_at e.session h hs) (path_of path) e.moment) (hs ++ opened e (path_from e.session h hs path) mask ∷ [])
   standing-create h path mask m =
       let p = path_at e.session h hs in
       let there : Has tree p = subst (Has tree) (sym (target-path e.session h hs m.target)) (stands-at tree e.session h hs m.target r.stand) in
@@ -181,18 +187,18 @@ module _ (s : State) (e : Entry) (r : IsStanding s.world.tree s.world.handles) w
       let keep : (q : Path) → Has tree q → Has now q = has-with_keys tree p (path_of path) e.moment in
       record { root = keep [] r.root; stand = stands-push now hs (opened e (path_from e.session h hs path) mask) (has-made tree p (path_of path) e.moment there) (stands-kept tree now keep hs r.stand) }
 
-  standing-edit : (p : Path) (f : Rec → Rec) → IsStanding (edited tree p f) hs
+  standing-edit : (p : Path) (f : Rec → Rec) → Upright (edited tree p f) hs
   standing-edit p f = record { root = has-edited tree p f [] r.root; stand = stands-kept tree (edited tree p f) (has-edited tree p f) hs r.stand }
 
-  standing-delete : (h : ℕ) (path : List ℕ) → DeleteMet s e.session h path → IsStanding (without_key tree (path_from e.session h hs path) e.moment) (turned (path_from e.session h hs path) hs)
+  standing-delete : (h : ℕ) (path : List ℕ) → DeleteMet s e.session h path → Upright (without_key tree (path_from e.session h hs path) e.moment) (turned (path_from e.session h hs path) hs)
   standing-delete h path m =
       let p = path_from e.session h hs path in
       record { root = has-without tree p e.moment [] (target-below (path_at e.session h hs) path m.good) r.root; stand = stands-turned tree p e.moment hs r.stand }
 
   -- what stands in a world stands in the one after an accepted change
-  pub standing-after : (c : ℕ) → change_cause s e.session e.change c ≡ None → IsStanding (after s.world e).tree (after s.world e).handles
+  pub standing-after : (c : ℕ) → change_cause s e.session e.change c ≡ None → Upright (after s.world e).tree (after s.world e).handles
   unfolding after
-  standing-after c = elim e.change as (λ (change : Change). change_cause s e.session change c ≡ None → IsStanding (after s.world (record e { change = change })).tree (after s.world (record e { change = change })).handles) [
+  standing-after c = elim e.change as (λ (change : Change). change_cause s e.session change c ≡ None → Upright (after s.world (record e { change = change })).tree (after s.world (record e { change = change })).handles) [
     | OpenRoot mask ↦ λ none. record { root = r.root; stand = stands-push tree hs (opened e [] mask) r.root r.stand }
     | OpenKey h path mask ↦ λ none. standing-open h path mask (open-met s e.session h path mask c none)
     | CreateKey h path mask ↦ λ none. standing-create h path mask (create-met s e.session h path mask c none)

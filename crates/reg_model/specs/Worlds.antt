@@ -1,5 +1,5 @@
 -- A world, and what an accepted change makes of it.
-use Rattle.std.specs.Prelude.{ℕ, ◌==◌, Bool, not, List, [], ◌∷◌, ◌++◌, map, filter, if◌then◌else◌, Option, Some, None, IsSome}
+use Rattle.std.specs.Prelude.{ℕ, ◌==◌, Bool, not, List, [], ◌∷◌, ◌++◌, map, filter, if◌then◌else◌, Option, Some, None, IsSome, All}
 use Rattle.std.specs.Ordering.{eq_by_cmp}
 use Rattle.std.specs.FinMap.{get}
 use Rattle.reg_names.specs.Names.{path_of}
@@ -30,6 +30,11 @@ pub record Handle : Type 0 where
 pub record World : Type 0 where
   pub tree : Tree
   pub handles : List Handle
+
+-- the root is in the tree, and so is each key that a handle leads to
+pub record IsStanding (t : Tree) (hs : List Handle) : Type 0 where
+  pub root : IsSome (get t [])
+  pub stand : All (λ (h : Handle). StandsIn t h.place) hs
 
 -- the handle of that number
 abbrev pub numbered : ℕ → List Handle → Option Handle

@@ -1,5 +1,5 @@
 -- A tree's nodes and the keys that they are of.
-use Rattle.std.proofs.Common.{◌≡◌, ℕ, Option, Some, None, IsSome, [], ◌++◌, length, refl, sym, ap, ◌∙◌, subst, arith, ◌≤◌, length-append}
+use Rattle.std.proofs.Common.{◌≡◌, ℕ, Option, Some, None, IsSome, is_some, [], ◌++◌, length, refl, sym, ap, ◌∙◌, subst, arith, ◌≤◌, length-append, true≢false}
 use Rattle.std.specs.Prelude.{Result, Ok, Err, OnOk, OnErr, IfSome, MatchOption, get_or, ◌<◌}
 use Rattle.std.specs.Option.{option_and_then}
 use Rattle.std.specs.FinMap.{get}
@@ -97,6 +97,24 @@ module _ (bins : Bins) (root : ℕ) (holds : Holds bins.bytes root) (now : Keys)
       let s = shallow bins.bytes node.offset t in
       let d = some.1.depth in
       omega (arith, s, d)
+
+  -- a node's key is in the tree
+  pub at-there : (node : Node) (p : Path) → IsAt now p node → IsSome (get now.tree p)
+  at-there node p at =
+      let t = here_at node p at in
+      of_tree (λ (t : Tree). IsSome (get t p)) (get-some bins.bytes root holds p node.offset t.at)
+
+  -- every key's path has at most 512 names
+  pub there-shallow : (p : Path) → IsSome (get now.tree p) → length p ≤ 512
+  there-shallow p some = by (place_at (cell_at bins.bytes) root p) refl
+    where
+      by : (o : Option ℕ) → place_at (cell_at bins.bytes) root p ≡ o → length p ≤ 512
+      by None e =
+          let none : get now.tree p ≡ None = of_tree (λ t. get t p ≡ None) (get-none bins.bytes root holds p e) in
+          absurd (true≢false (sym some ∙ ap is_some none))
+      by (Some o) e =
+          let s = shallow bins.bytes o (record { root = root; path = p; holds = holds; at = e }) in
+          omega (arith, s)
 
   pub resolved-depth : (from : Node) → IsThere now from → (q : Path) (result : Option Node) → IsWalked (cell_at bins.bytes) from q result → IfSome result (λ node. node.depth ≤ 512)
   resolved-depth from some q None w = tt

@@ -74,9 +74,10 @@ impl Tree {
         &self.arena
     }
 
-    /// The root.
+    /// The root. Every key's path has at most 512 names.
     pub fn root(&self) -> Node
-        ensures { IsAt self.now [] result }
+        ensures at { IsAt self.now [] result }
+        ensures shallow { (p : Path) → IsSome (get self.now.tree p) → length p ≤ 512 }
     {
         Node {
             offset: self.root,
@@ -100,6 +101,7 @@ impl Tree {
         requires { IsThere self.now node }
         ensures told { (p : Path) → IsAt self.now p node → (r : Rec) → get self.now.tree p ≡ Some r → result.now ≡ r.name }
         ensures short { length result.now ≤ 255 }
+        ensures key { (p : Path) → IsAt self.now p node → IsSome (get self.now.tree p) }
     {
         read::name(&self.arena, node.offset)
     }

@@ -1,5 +1,8 @@
-use Rattle.reg_tree.proofs.Nodes.{root_at}
+use Rattle.reg_tree.proofs.Nodes.{root_at, there-shallow}
 use Rattle.reg_tree.proofs.tree.Tree.root.Goals as goal
 
-pub returns : goal.returns
-returns c = root_at _ _ c.self.invariant _ c.self.view_is
+pub returns-clause-at : goal.returns-clause-at
+returns-clause-at c = root_at _ _ c.self.invariant _ c.self.view_is
+
+pub returns-clause-shallow : goal.returns-clause-shallow
+returns-clause-shallow c = there-shallow _ _ c.self.invariant _ c.self.view_is

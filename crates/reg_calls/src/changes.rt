@@ -1,0 +1,280 @@
+//! The changes of the tree and the handles that accepted calls make.
+ghost use Rattle.std.specs.Prelude.{◌≡◌, ◌<◌, Some, None};
+ghost use Rattle.reg_model.specs.Causes.{change_cause};
+ghost use Rattle.reg_calls.specs.Stores.{at, IsReady, IsMade};
+
+use crate::lack::Lack;
+use crate::store::Store;
+use reg_model::{Change, ChangeReply};
+use reg_tree::TreeFault;
+use std::alloc::Global;
+
+/// The reply to an accepted change that opens no handle.
+fn accepted(number: u64) -> ChangeReply
+    ensures { result ≡ record { status = 0; number = Some number; handle = None; disposition = None } }
+{
+    ChangeReply {
+        status: 0,
+        number: Some(number),
+        handle: None,
+        disposition: None,
+    }
+}
+
+/// The reply to an accepted change that opens a handle.
+fn opened(number: u64, disposition: Option<u32>) -> ChangeReply
+    ensures { result ≡ record { status = 0; number = Some number; handle = Some number; disposition = disposition } }
+{
+    ChangeReply {
+        status: 0,
+        number: Some(number),
+        handle: Some(number),
+        disposition,
+    }
+}
+
+impl Store {
+    ghost use Rattle.reg_model.specs.declared.call.Change.TheVariants.{OpenRoot, OpenKey, CreateKey, SetValue, DeleteValue, DeleteKey, Close};
+
+    fn open_root(
+        &mut self,
+        alloc: Global,
+        session: u8,
+        moment: u64,
+        number: u64,
+        mask: u32,
+    ) -> Result<ChangeReply, Lack>
+        requires session { session < 64 }
+        requires ready { IsReady number self.old }
+        requires cause { change_cause (at number self.old) session (OpenRoot mask) 0 ≡ None }
+        ensures { IsMade self.old self.new session moment number (OpenRoot mask) result }
+    {
+        let _ = moment;
+        match self.handles.add(session, number, mask, Vec::new(alloc)) {
+            Ok(()) => Ok(opened(number, None)),
+            Err(_) => Err(Lack::Memory),
+        }
+    }
+
+    fn open_key(
+        &mut self,
+        alloc: Global,
+        session: u8,
+        moment: u64,
+        number: u64,
+        handle: u64,
+        path: &[u8],
+        mask: u32,
+    ) -> Result<ChangeReply, Lack>
+        requires session { session < 64 }
+        requires ready { IsReady number self.old }
+        requires cause { change_cause (at number self.old) session (OpenKey handle path.now mask) 0 ≡ None }
+        ensures { IsMade self.old self.new session moment number (OpenKey handle path.now mask) result }
+    {
+        let _ = moment;
+        // every key's path is short enough for the table
+        let _ = self.tree.root();
+        let Ok(text) = self.path_to(alloc, session, handle, path) else {
+            return Err(Lack::Memory);
+        };
+        match self.handles.add(session, number, mask, text) {
+            Ok(()) => Ok(opened(number, None)),
+            Err(_) => Err(Lack::Memory),
+        }
+    }
+
+    fn create_key(
+        &mut self,
+        alloc: Global,
+        session: u8,
+        moment: u64,
+        number: u64,
+        handle: u64,
+        path: &[u8],
+        mask: u32,
+    ) -> Result<ChangeReply, Lack>
+        requires session { session < 64 }
+        requires ready { IsReady number self.old }
+        requires cause { change_cause (at number self.old) session (CreateKey handle path.now mask) 0 ≡ None }
+        ensures { IsMade self.old self.new session moment number (CreateKey handle path.now mask) result }
+    {
+        let _ = self.tree.root();
+        let Ok(text) = self.path_to(alloc, session, handle, path) else {
+            return Err(Lack::Memory);
+        };
+        let from = match self.open(session, handle) {
+            Ok(open) => open.node,
+            Err(_) => unreachable!(),
+        };
+        // the handle first: it can be taken back, and keys that are made can't
+        if self.handles.add(session, number, mask, text).is_err() {
+            return Err(Lack::Memory);
+        }
+        match self.tree.create(alloc, from, path, moment) {
+            Ok(created) => Ok(opened(number, Some(if created.is_new { 1 } else { 2 }))),
+            Err(fault) => {
+                self.handles.close(session, number);
+                match fault {
+                    TreeFault::Full => Err(Lack::Space),
+                    TreeFault::Memory => Err(Lack::Memory),
+                    TreeFault::Limit
+                    | TreeFault::NotFound
+                    | TreeFault::HasChildren
+                    | TreeFault::NoDelete => unreachable!(),
+                }
+            }
+        }
+    }
+
+    fn set_value(
+        &mut self,
+        alloc: Global,
+        session: u8,
+        moment: u64,
+        number: u64,
+        handle: u64,
+        name: &[u8],
+        kind: u32,
+        bytes: &[u8],
+    ) -> Result<ChangeReply, Lack>
+        requires ready { IsReady number self.old }
+        requires cause { change_cause (at number self.old) session (SetValue handle name.now kind bytes.now) 0 ≡ None }
+        ensures { IsMade self.old self.new session moment number (SetValue handle name.now kind bytes.now) result }
+    {
+        let node = match self.open(session, handle) {
+            Ok(open) => open.node,
+            Err(_) => unreachable!(),
+        };
+        match self.tree.set_value(alloc, node, name, kind, bytes, moment) {
+            Ok(()) => Ok(accepted(number)),
+            Err(TreeFault::Full) => Err(Lack::Space),
+            Err(TreeFault::Memory) => Err(Lack::Memory),
+            Err(TreeFault::Limit) => unreachable!(),
+            Err(TreeFault::NotFound | TreeFault::HasChildren | TreeFault::NoDelete) => {
+                unreachable!()
+            }
+        }
+    }
+
+    fn delete_value(
+        &mut self,
+        session: u8,
+        moment: u64,
+        number: u64,
+        handle: u64,
+        name: &[u8],
+    ) -> ChangeReply
+        requires ready { IsReady number self.old }
+        requires cause { change_cause (at number self.old) session (DeleteValue handle name.now) 0 ≡ None }
+        ensures { IsMade self.old self.new session moment number (DeleteValue handle name.now) (Ok result) }
+    {
+        let node = match self.open(session, handle) {
+            Ok(open) => open.node,
+            Err(_) => unreachable!(),
+        };
+        match self.tree.delete_value(node, name, moment) {
+            Ok(()) => accepted(number),
+            Err(_) => unreachable!(),
+        }
+    }
+
+    fn delete_key(
+        &mut self,
+        alloc: Global,
+        session: u8,
+        moment: u64,
+        number: u64,
+        handle: u64,
+        path: &[u8],
+    ) -> Result<ChangeReply, Lack>
+        requires ready { IsReady number self.old }
+        requires cause { change_cause (at number self.old) session (DeleteKey handle path.now) 0 ≡ None }
+        ensures { IsMade self.old self.new session moment number (DeleteKey handle path.now) result }
+    {
+        let Ok(text) = self.path_to(alloc, session, handle, path) else {
+            return Err(Lack::Memory);
+        };
+        let from = match self.open(session, handle) {
+            Ok(open) => open.node,
+            Err(_) => unreachable!(),
+        };
+        let Some(node) = self.tree.resolve(from, path) else {
+            unreachable!()
+        };
+        match self.tree.delete_key(node, moment) {
+            Ok(()) => {}
+            Err(_) => unreachable!(),
+        }
+        self.handles.mark_deleted(text.as_slice(), number);
+        Ok(accepted(number))
+    }
+
+    fn close(&mut self, session: u8, moment: u64, number: u64, handle: u64) -> ChangeReply
+        requires ready { IsReady number self.old }
+        requires cause { change_cause (at number self.old) session (Close handle) 0 ≡ None }
+        ensures { IsMade self.old self.new session moment number (Close handle) (Ok result) }
+    {
+        let _ = moment;
+        self.handles.close(session, handle);
+        accepted(number)
+    }
+
+    /// Makes a change that nothing refuses, as the entry of that number. Then nothing is as before only after `Ok`.
+    pub fn make(
+        &mut self,
+        alloc: Global,
+        session: u8,
+        moment: u64,
+        number: u64,
+        change: &Change,
+    ) -> Result<ChangeReply, Lack>
+        requires session { session < 64 }
+        requires ready { IsReady number self.old }
+        requires cause { change_cause (at number self.old) session change.now 0 ≡ None }
+        ensures { IsMade self.old self.new session moment number change.now result }
+    {
+        match change {
+            Change::OpenRoot { mask } => self.open_root(alloc, session, moment, number, *mask),
+            Change::OpenKey { handle, path, mask } => self.open_key(
+                alloc,
+                session,
+                moment,
+                number,
+                *handle,
+                path.as_slice(),
+                *mask,
+            ),
+            Change::CreateKey { handle, path, mask } => self.create_key(
+                alloc,
+                session,
+                moment,
+                number,
+                *handle,
+                path.as_slice(),
+                *mask,
+            ),
+            Change::SetValue {
+                handle,
+                name,
+                kind,
+                bytes,
+            } => self.set_value(
+                alloc,
+                session,
+                moment,
+                number,
+                *handle,
+                name.as_slice(),
+                *kind,
+                bytes.as_slice(),
+            ),
+            Change::DeleteValue { handle, name } => {
+                Ok(self.delete_value(session, moment, number, *handle, name.as_slice()))
+            }
+            Change::DeleteKey { handle, path } => {
+                self.delete_key(alloc, session, moment, number, *handle, path.as_slice())
+            }
+            Change::Close { handle } => Ok(self.close(session, moment, number, *handle)),
+        }
+    }
+}

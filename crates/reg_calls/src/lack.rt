@@ -1,0 +1,25 @@
+use crate::statuses::{NO_SYSTEM_RESOURCES, NOT_ENOUGH_MEMORY};
+
+ghost use Rattle.std.specs.Prelude.{◌≡◌};
+ghost use Rattle.reg_calls.specs.Views.{status_of};
+
+/// Why an acceptable change isn't made.
+#[derive(Clone, Copy)]
+pub enum Lack {
+    /// The bins have no space for it.
+    Space,
+    /// A growth was refused.
+    Memory,
+}
+
+impl Lack {
+    /// 1450 for space, 8 for memory.
+    pub fn status(self) -> u32
+        ensures { result ≡ status_of self }
+    {
+        match self {
+            Lack::Space => NO_SYSTEM_RESOURCES,
+            Lack::Memory => NOT_ENOUGH_MEMORY,
+        }
+    }
+}
