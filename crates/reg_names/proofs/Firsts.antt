@@ -1,5 +1,5 @@
 -- A path's first name, and the path behind it. The limit is a variable, so that nothing counts up to it.
-use Rattle.std.proofs.Common.{◌≡◌, ◌≢◌, ℕ, zero, suc, ◌+◌, ◌-◌, ◌<◌, ◌≤◌, Bool, true, false, ◌&&◌, ◌==◌, List, [], ◌∷◌, length, length-drop, take, drop, nat_lt, nat_le, sym, ap, ◌∙◌, refl, subst, arith, not}
+use Rattle.std.proofs.Common.{◌≡◌, ◌≢◌, ℕ, suc, ◌+◌, ◌-◌, ◌<◌, ◌≤◌, Bool, true, false, ◌&&◌, ◌==◌, List, [], ◌∷◌, length, length-drop, take, drop, nat_le, sym, ap, ◌∙◌, refl, subst, arith, not}
 use Rattle.std.specs.List.{list_all, slice_split, position_or_len}
 use Rattle.std.proofs.lemmas.Bool.{and_parts, and_from, false≢true}
 use Rattle.std.proofs.lemmas.Bool.Decides.{nat_tests}

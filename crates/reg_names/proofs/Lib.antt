@@ -5,3 +5,5 @@ pub mod Paths
 pub mod Parts
 pub mod Rows
 pub mod Firsts
+pub mod Folding
+pub mod Joins

@@ -1,5 +1,5 @@
 -- Paths as text, and read back.
-use Rattle.std.proofs.Common.{◌≡◌, ◌≢◌, ℕ, true, false, List, [], ◌∷◌, refl, ap, ◌∙◌, not}
+use Rattle.std.proofs.Common.{◌≡◌, ◌≢◌, ℕ, true, false, List, [], ◌∷◌, refl, sym, ap, ◌∙◌, not}
 use Rattle.std.specs.List.{All, list_all, slice_split, join_with_byte}
 use Rattle.std.proofs.lemmas.Bool.{and_parts, not-true}
 use Rattle.std.proofs.lemmas.List.Elements.{All-nil, All-cons}
@@ -32,3 +32,7 @@ path_of-text_of ((b ∷ bs) ∷ other ∷ names) h ne = cut_again (b ∷ bs) (ot
 pub text_of-path_of : (text : List ℕ) → text_of (path_of text) ≡ text
 text_of-path_of [] = refl
 text_of-path_of (b ∷ bs) = join_with_byte-slice_split 92 (b ∷ bs)
+
+-- two texts of the same names are one
+pub path_of-injective : (a b : List ℕ) → path_of a ≡ path_of b → a ≡ b
+path_of-injective a b e = sym (text_of-path_of a) ∙ (ap text_of e ∙ text_of-path_of b)

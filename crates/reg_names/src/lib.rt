@@ -3,10 +3,11 @@
 //! Win32 registry reference, "Registry Element Size Limits"; the limits to bytes 0x01 to 0x7F are this project's own.
 #![tactic(auto)]
 
-ghost use Rattle.std.specs.Prelude.{◌≡◌, true, [], ◌↔◌, IsTrue, MatchOption, MatchResult, Some, None, is_ok, take};
+ghost use Rattle.std.specs.Prelude.{◌≡◌, ◌≤◌, ◌+◌, ◌==◌, ◌||◌, true, List, [], ◌∷◌, ◌++◌, length, map, if◌then◌else◌, ◌↔◌, IsTrue, OnOk, IfOk, MatchOption, MatchResult, Some, None, is_ok, take};
 ghost use Rattle.std.specs.List.{list_all, position_or_len};
 ghost use Rattle.reg_names.specs.Names.{fold as fold_of, folded, name_cmp, hash, key_name_fault, value_name_fault, path_of, path_fault, is_key_name, is_value_name, is_path, IsFirst, is_backslash, is_key_name_byte as is_key_byte_of, is_value_name_byte as is_value_byte_of};
 
+use std::alloc::{AllocError, Global};
 use std::cmp::Ordering;
 use thiserror::Error;
 
@@ -147,6 +148,42 @@ pub fn check_path(path: &[u8]) -> Result<(), NameFault>
         rest = &rest[length + 1..];
     }
     Err(NameFault::TooManyLevels)
+}
+
+/// Appends a text, folded.
+fn push_folded(text: &mut Vec<u8>, bytes: &[u8]) -> Result<(), AllocError>
+    ensures { OnOk result (text.new.items ≡ text.old.items ++ folded bytes.now) }
+{
+    for byte in bytes {
+        text.push(fold(*byte))?;
+    }
+    Ok(())
+}
+
+/// Appends the backslash between two paths, unless one of them has no names.
+fn push_backslash(text: &mut Vec<u8>, above: &[u8], path: &[u8]) -> Result<(), AllocError>
+    ensures { OnOk result (text.new.items ≡ (if (length above.now == 0) || (length path.now == 0) then text.old.items else text.old.items ++ 92 ∷ [])) }
+{
+    if above.is_empty() || path.is_empty() {
+        return Ok(());
+    }
+    text.push(b'\\')?;
+    Ok(())
+}
+
+/// A path behind another, folded: the names of both, with one backslash between each two. Neither text alone says how many
+/// names there are together.
+pub fn join_paths(alloc: Global, above: &[u8], path: &[u8]) -> Result<Vec<u8>, AllocError>
+    requires above { is_path above.now ≡ true }
+    requires path { is_path path.now ≡ true }
+    ensures names { IfOk result (λ text. path_of text.items ≡ map folded (path_of above.now) ++ map folded (path_of path.now)) }
+    ensures valid { IfOk result (λ text. length (path_of above.now) + length (path_of path.now) ≤ 512 → is_path text.items ≡ true) }
+{
+    let mut text = Vec::with_capacity(alloc, above.len() + path.len() + 1)?;
+    push_folded(&mut text, above)?;
+    push_backslash(&mut text, above, path)?;
+    push_folded(&mut text, path)?;
+    Ok(text)
 }
 
 /// A letter a to z becomes A to Z; every other byte stays.

@@ -85,3 +85,26 @@ fn first_names_of_paths(rt: HostRuntime) {
     assert_eq!(rt; first_name(b"Run"), Some((&b"Run"[..], &b""[..])));
     assert_eq!(rt; first_name(b"A\\b\\C"), Some((&b"A"[..], &b"b\\C"[..])));
 }
+
+/// Two paths joined, a pair a line.
+fn joined(alloc: Global, pairs: &[(&[u8], &[u8])]) -> Result<String, Fail> {
+    let mut said = String::new(alloc);
+    for (above, path) in pairs {
+        check_path(above)?;
+        check_path(path)?;
+        let text = join_paths(alloc, above, path)?;
+        said.push_str(String::from_utf8_lossy(alloc, &text)?.as_str())?;
+        said.push_str("\n")?;
+    }
+    Ok(said)
+}
+
+#[test]
+fn paths_joined(rt: HostRuntime) -> Result<(), Fail> {
+    let said = joined(
+        rt.alloc(),
+        &[(b"A\\b", b"C"), (b"", b"a"), (b"a", b""), (b"", b"")],
+    )?;
+    assert_eq!(rt; said.as_str(), "A\\B\\C\nA\nA\n\n");
+    Ok(())
+}
