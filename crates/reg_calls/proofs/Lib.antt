@@ -1,5 +1,3 @@
-pub mod Tables
-pub mod States
-pub mod Pushes
-pub mod Questions
 pub mod RunMore
+pub mod Looks
+pub mod Causes

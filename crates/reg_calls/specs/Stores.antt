@@ -10,7 +10,7 @@ use Rattle.reg_model.specs.declared.call.Change.{Change}
 use Rattle.reg_model.specs.declared.call.Change.TheVariants.{OpenRoot, OpenKey, CreateKey, SetValue, DeleteValue, DeleteKey, Close}
 use Rattle.reg_tree.specs.Keys.{Keys, IsAt}
 use Rattle.reg_calls.specs.declared.store.Store.{Store}
-use Rattle.reg_calls.specs.declared.store.Open.{Open}
+use Rattle.reg_calls.specs.declared.store.KeyHandle.{KeyHandle}
 use Rattle.reg_calls.specs.declared.lack.Lack.{Lack}
 use Rattle.reg_calls.specs.declared.lack.Lack.TheVariants.{Space, Memory}
 
@@ -41,14 +41,14 @@ pub record IsTarget (store : Store) (session number : ℕ) : Type 0 where
   pub place : handle.place ≡ At path
 
 -- it was found, with its rights and its key
-pub record IsOpened (store : Store) (session number : ℕ) (open : Open) : Type 0 where
+pub record IsOpened (store : Store) (session number : ℕ) (key : KeyHandle) : Type 0 where
   pub target : IsTarget store session number
-  pub mask : open.mask ≡ target.handle.mask
-  pub node : IsAt store.tree target.path open.node
+  pub mask : key.mask ≡ target.handle.mask
+  pub node : IsAt store.tree target.path key.node
 
 -- what a look-up tells: the handle, or the refusal of every call by it
-abbrev pub IsLooked : Store → ℕ → ℕ → Result Open ℕ → Type 0
-IsLooked store session number (Ok open) = IsOpened store session number open
+abbrev pub IsLooked : Store → ℕ → ℕ → Result KeyHandle ℕ → Type 0
+IsLooked store session number (Ok key) = IsOpened store session number key
 IsLooked store session number (Err status) = (f : Handle → Option ℕ) → by_handle f (look session number store.handles.handles) ≡ Some status
 
 -- a Close takes no memory
@@ -72,9 +72,9 @@ LacksSpace keys (DeleteKey h path) = ⊥
 LacksSpace keys (Close h) = ⊥
 
 -- a change was made on the store, and this is its reply
-pub record IsDone (old new : Store) (session moment number : ℕ) (change : Change) (reply : ChangeReply) : Type 0 where
+pub record IsDone (old new : Store) (session moment number : ℕ) (change : Change) (told : ChangeReply) : Type 0 where
   pub world : world_of new ≡ after (world_of old) (entry_due (at number old) session moment change)
-  pub reply : reply ≡ reply_to (at number old) session change
+  pub reply : told ≡ reply_to (at number old) session change
   pub since : new.handles.since ≤ number + 1
 
 -- a change that nothing refuses was made, or nothing changed, for want of memory or of space

@@ -10,9 +10,8 @@ ghost use Rattle.reg_tree.specs.Keys.{IsAt, IsThere};
 ghost use Rattle.reg_calls.specs.Stores.{at, IsReady};
 
 use crate::statuses::{
-    ACCESS_DENIED, FILE_NOT_FOUND, HANDLES_LIMIT, INVALID_HANDLE, INVALID_PARAMETER,
-    JOURNAL_LIMIT, NO_DELETE, NO_RIGHTS, NO_SYSTEM_RESOURCES, SET_VALUE, VALUE_LIMIT,
-    VALUES_LIMIT,
+    ACCESS_DENIED, FILE_NOT_FOUND, HANDLES_LIMIT, INVALID_HANDLE, INVALID_PARAMETER, JOURNAL_LIMIT,
+    NO_DELETE, NO_RIGHTS, NO_SYSTEM_RESOURCES, SET_VALUE, VALUE_LIMIT, VALUES_LIMIT,
 };
 use crate::store::Store;
 use reg_model::{Bytes, Change};
@@ -109,8 +108,8 @@ impl Store {
         requires ready { IsReady entries self.now }
         ensures { result ≡ change_cause (at entries self.now) session (OpenKey handle path.now mask) 0 }
     {
-        let open = match self.open(session, handle) {
-            Ok(open) => open,
+        let key = match self.key_of(session, handle) {
+            Ok(key) => key,
             Err(status) => return Some(status),
         };
         if is_bad_open(path, mask) {
@@ -119,7 +118,7 @@ impl Store {
         if self.has_no_handle_room(entries, session) {
             return Some(NO_SYSTEM_RESOURCES);
         }
-        match self.tree.resolve(open.node, path) {
+        match self.tree.resolve(key.node, path) {
             Some(_) => None,
             None => Some(FILE_NOT_FOUND),
         }
@@ -137,8 +136,8 @@ impl Store {
         requires ready { IsReady entries self.now }
         ensures { result ≡ change_cause (at entries self.now) session (CreateKey handle path.now mask) 0 }
     {
-        let open = match self.open(session, handle) {
-            Ok(open) => open,
+        let key = match self.key_of(session, handle) {
+            Ok(key) => key,
             Err(status) => return Some(status),
         };
         if is_bad_open(path, mask) {
@@ -147,7 +146,7 @@ impl Store {
         if self.has_no_handle_room(entries, session) {
             return Some(NO_SYSTEM_RESOURCES);
         }
-        if self.tree.is_limited(open.node, path) {
+        if self.tree.is_limited(key.node, path) {
             return Some(NO_SYSTEM_RESOURCES);
         }
         None
@@ -166,17 +165,17 @@ impl Store {
         ensures { result ≡ change_cause (at entries self.now) session (SetValue handle name.now kind bytes.now) 0 }
     {
         let _ = kind;
-        let open = match self.open(session, handle) {
-            Ok(open) => open,
+        let key = match self.key_of(session, handle) {
+            Ok(key) => key,
             Err(status) => return Some(status),
         };
         if is_bad_value(name, bytes) {
             return Some(INVALID_PARAMETER);
         }
-        if open.mask & SET_VALUE != SET_VALUE {
+        if key.mask & SET_VALUE != SET_VALUE {
             return Some(ACCESS_DENIED);
         }
-        if self.is_full(entries) | has_no_value_room(&self.tree, open.node, name) {
+        if self.is_full(entries) | has_no_value_room(&self.tree, key.node, name) {
             return Some(NO_SYSTEM_RESOURCES);
         }
         None
@@ -192,37 +191,31 @@ impl Store {
         requires { IsReady entries self.now }
         ensures { result ≡ change_cause (at entries self.now) session (DeleteValue handle name.now) 0 }
     {
-        let open = match self.open(session, handle) {
-            Ok(open) => open,
+        let key = match self.key_of(session, handle) {
+            Ok(key) => key,
             Err(status) => return Some(status),
         };
         if check_value_name(name).is_err() {
             return Some(INVALID_PARAMETER);
         }
-        if open.mask & SET_VALUE != SET_VALUE {
+        if key.mask & SET_VALUE != SET_VALUE {
             return Some(ACCESS_DENIED);
         }
         if self.is_full(entries) {
             return Some(NO_SYSTEM_RESOURCES);
         }
-        if has_no_value(&self.tree, open.node, name) {
+        if has_no_value(&self.tree, key.node, name) {
             return Some(FILE_NOT_FOUND);
         }
         None
     }
 
-    fn delete_key_cause(
-        &self,
-        entries: usize,
-        session: u8,
-        handle: u64,
-        path: &[u8],
-    ) -> Option<u32>
+    fn delete_key_cause(&self, entries: usize, session: u8, handle: u64, path: &[u8]) -> Option<u32>
         requires { IsReady entries self.now }
         ensures { result ≡ change_cause (at entries self.now) session (DeleteKey handle path.now) 0 }
     {
-        let open = match self.open(session, handle) {
-            Ok(open) => open,
+        let key = match self.key_of(session, handle) {
+            Ok(key) => key,
             Err(status) => return Some(status),
         };
         if is_bad_target(path) {
@@ -231,7 +224,7 @@ impl Store {
         if self.is_full(entries) {
             return Some(NO_SYSTEM_RESOURCES);
         }
-        let Some(node) = self.tree.resolve(open.node, path) else {
+        let Some(node) = self.tree.resolve(key.node, path) else {
             return Some(FILE_NOT_FOUND);
         };
         if may_not_go(&self.tree, node) {

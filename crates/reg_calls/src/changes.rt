@@ -102,8 +102,8 @@ impl Store {
         let Ok(text) = self.path_to(alloc, session, handle, path) else {
             return Err(Lack::Memory);
         };
-        let from = match self.open(session, handle) {
-            Ok(open) => open.node,
+        let from = match self.key_of(session, handle) {
+            Ok(key) => key.node,
             Err(_) => unreachable!(),
         };
         // the handle first: it can be taken back, and keys that are made can't
@@ -141,8 +141,8 @@ impl Store {
         requires cause { change_cause (at number self.old) session (SetValue handle name.now kind bytes.now) 0 ≡ None }
         ensures { IsMade self.old self.new session moment number (SetValue handle name.now kind bytes.now) result }
     {
-        let node = match self.open(session, handle) {
-            Ok(open) => open.node,
+        let node = match self.key_of(session, handle) {
+            Ok(key) => key.node,
             Err(_) => unreachable!(),
         };
         match self.tree.set_value(alloc, node, name, kind, bytes, moment) {
@@ -168,8 +168,8 @@ impl Store {
         requires cause { change_cause (at number self.old) session (DeleteValue handle name.now) 0 ≡ None }
         ensures { IsMade self.old self.new session moment number (DeleteValue handle name.now) (Ok result) }
     {
-        let node = match self.open(session, handle) {
-            Ok(open) => open.node,
+        let node = match self.key_of(session, handle) {
+            Ok(key) => key.node,
             Err(_) => unreachable!(),
         };
         match self.tree.delete_value(node, name, moment) {
@@ -194,8 +194,8 @@ impl Store {
         let Ok(text) = self.path_to(alloc, session, handle, path) else {
             return Err(Lack::Memory);
         };
-        let from = match self.open(session, handle) {
-            Ok(open) => open.node,
+        let from = match self.key_of(session, handle) {
+            Ok(key) => key.node,
             Err(_) => unreachable!(),
         };
         let Some(node) = self.tree.resolve(from, path) else {

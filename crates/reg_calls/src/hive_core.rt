@@ -127,7 +127,10 @@ impl Core {
             return refuse(NOT_ENOUGH_MEMORY);
         }
         let number = self.journal.len() as u64;
-        match self.store.make(self.alloc, session, moment, number, &change) {
+        match self
+            .store
+            .make(self.alloc, session, moment, number, &change)
+        {
             Ok(reply) => {
                 self.journal.append(Entry {
                     number,

@@ -9,8 +9,8 @@ ghost use Rattle.reg_calls.specs.Stores.{at, AreStanding};
 ghost use Rattle.reg_calls.specs.Views.{IsRead, IsTold};
 
 use crate::statuses::{
-    ACCESS_DENIED, ENUMERATE_SUB_KEYS, FILE_NOT_FOUND, INVALID_PARAMETER, MORE_DATA,
-    NOT_ENOUGH_MEMORY, NO_MORE_ITEMS, QUERY_VALUE,
+    ACCESS_DENIED, ENUMERATE_SUB_KEYS, FILE_NOT_FOUND, INVALID_PARAMETER, MORE_DATA, NO_MORE_ITEMS,
+    NOT_ENOUGH_MEMORY, QUERY_VALUE,
 };
 use crate::store::Store;
 use reg_model::{AnswerBody, Bytes, Query};
@@ -19,13 +19,7 @@ use reg_tree::{Node, Tree, ValueFound};
 use std::alloc::Global;
 
 /// A value of a key as it is told: short where the room is below its size.
-fn told(
-    alloc: Global,
-    tree: &Tree,
-    node: Node,
-    value: ValueFound,
-    room: Option<u32>,
-) -> AnswerBody
+fn told(alloc: Global, tree: &Tree, node: Node, value: ValueFound, room: Option<u32>) -> AnswerBody
     requires { (p : Path) × IsAt tree.now p node × (value.index < length (values_at tree.now.tree p)) }
     ensures { (p : Path) → IsAt tree.now p node → (member : Member) → slice_get (values_at tree.now.tree p) value.index ≡ Some member → value.kind ≡ member.kind → value.size ≡ length member.bytes → IsTold (value_told (Some member) room) result }
 {
@@ -228,8 +222,8 @@ impl Store {
         requires { AreStanding self.now }
         ensures { (n : ℕ) → IsRead (at n self.now) session (QueryValue handle name.now room) result }
     {
-        let open = match self.open(session, handle) {
-            Ok(open) => open,
+        let key = match self.key_of(session, handle) {
+            Ok(key) => key,
             Err(status) => return AnswerBody::Refused { status },
         };
         if check_value_name(name).is_err() {
@@ -237,40 +231,33 @@ impl Store {
                 status: INVALID_PARAMETER,
             };
         }
-        if open.mask & QUERY_VALUE != QUERY_VALUE {
+        if key.mask & QUERY_VALUE != QUERY_VALUE {
             return AnswerBody::Refused {
                 status: ACCESS_DENIED,
             };
         }
-        match self.tree.find_value(open.node, name) {
-            Some(value) => told(alloc, &self.tree, open.node, value, room),
+        match self.tree.find_value(key.node, name) {
+            Some(value) => told(alloc, &self.tree, key.node, value, room),
             None => AnswerBody::Refused {
                 status: FILE_NOT_FOUND,
             },
         }
     }
 
-    fn enum_key(
-        &self,
-        alloc: Global,
-        session: u8,
-        handle: u64,
-        index: u32,
-        room: u32,
-    ) -> AnswerBody
+    fn enum_key(&self, alloc: Global, session: u8, handle: u64, index: u32, room: u32) -> AnswerBody
         requires { AreStanding self.now }
         ensures { (n : ℕ) → IsRead (at n self.now) session (EnumKey handle index room) result }
     {
-        let open = match self.open(session, handle) {
-            Ok(open) => open,
+        let key = match self.key_of(session, handle) {
+            Ok(key) => key,
             Err(status) => return AnswerBody::Refused { status },
         };
-        if open.mask & ENUMERATE_SUB_KEYS != ENUMERATE_SUB_KEYS {
+        if key.mask & ENUMERATE_SUB_KEYS != ENUMERATE_SUB_KEYS {
             return AnswerBody::Refused {
                 status: ACCESS_DENIED,
             };
         }
-        match self.tree.subkey(open.node, index) {
+        match self.tree.subkey(key.node, index) {
             Some(child) => key_told(alloc, &self.tree, child, room),
             None => AnswerBody::Refused {
                 status: NO_MORE_ITEMS,
@@ -290,32 +277,32 @@ impl Store {
         requires { AreStanding self.now }
         ensures { (n : ℕ) → IsRead (at n self.now) session (EnumValue handle index name_room room) result }
     {
-        let open = match self.open(session, handle) {
-            Ok(open) => open,
+        let key = match self.key_of(session, handle) {
+            Ok(key) => key,
             Err(status) => return AnswerBody::Refused { status },
         };
-        if open.mask & QUERY_VALUE != QUERY_VALUE {
+        if key.mask & QUERY_VALUE != QUERY_VALUE {
             return AnswerBody::Refused {
                 status: ACCESS_DENIED,
             };
         }
-        member_told(alloc, &self.tree, open.node, index, name_room, room)
+        member_told(alloc, &self.tree, key.node, index, name_room, room)
     }
 
     fn query_info(&self, session: u8, handle: u64) -> AnswerBody
         requires { AreStanding self.now }
         ensures { (n : ℕ) → IsRead (at n self.now) session (QueryInfo handle) result }
     {
-        let open = match self.open(session, handle) {
-            Ok(open) => open,
+        let key = match self.key_of(session, handle) {
+            Ok(key) => key,
             Err(status) => return AnswerBody::Refused { status },
         };
-        if open.mask & QUERY_VALUE != QUERY_VALUE {
+        if key.mask & QUERY_VALUE != QUERY_VALUE {
             return AnswerBody::Refused {
                 status: ACCESS_DENIED,
             };
         }
-        info(&self.tree, open.node)
+        info(&self.tree, key.node)
     }
 
     /// Answers a question.

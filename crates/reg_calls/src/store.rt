@@ -20,7 +20,7 @@ pub struct Store {
 
 /// An open handle that leads to a key.
 #[derive(Clone, Copy)]
-pub struct Open {
+pub struct KeyHandle {
     /// Its rights.
     pub mask: u32,
     /// Its key.
@@ -30,7 +30,7 @@ pub struct Open {
 impl Store {
     /// The session's handle of that number, or the status of the refusal: 6 where there is none, 1018 where its key was
     /// deleted.
-    pub fn open(&self, session: u8, handle: u64) -> Result<Open, u32>
+    pub fn key_of(&self, session: u8, handle: u64) -> Result<KeyHandle, u32>
         requires { AreStanding self.now }
         ensures { IsLooked self.now session handle result }
     {
@@ -42,7 +42,7 @@ impl Store {
         };
         let root = self.tree.root();
         match self.tree.resolve(root, path) {
-            Some(node) => Ok(Open {
+            Some(node) => Ok(KeyHandle {
                 mask: found.mask,
                 node,
             }),
@@ -65,9 +65,12 @@ impl Store {
         ensures folded { IfOk result (λ text. map folded (path_of text.items) ≡ path_of text.items) }
     {
         match self.handles.look(session, handle) {
-            Some(Found {
-                path: Some(above), ..
-            }) => join_paths(alloc, above, path),
+            Some(
+                Found {
+                    path: Some(above),
+                    ..
+                },
+            ) => join_paths(alloc, above, path),
             _ => unreachable!(),
         }
     }
