@@ -1,3 +1,3 @@
 pub mod RunMore
 pub mod Looks
-pub mod Causes
+pub mod Refusals

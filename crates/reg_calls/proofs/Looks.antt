@@ -1,6 +1,7 @@
 -- What a look-up by a handle finds.
-use Rattle.std.proofs.Common.{◌≡◌, ◌≤◌, ℕ, Bool, true, false, List, [], ◌++◌, map, length, Option, Some, None, refl, sym, ap, ◌∙◌, subst, true≢false, is_some, map-append}
+use Rattle.std.proofs.Common.{◌≡◌, ◌≤◌, ℕ, Bool, true, false, List, [], ◌++◌, map, length, Option, Some, None, refl, sym, ap, ◌∙◌, subst, true≢false, is_some}
 use Rattle.std.specs.Borrow.{Bor}
+use Rattle.std.proofs.lemmas.List.{map-append}
 use Rattle.std.specs.Prelude.{Result, Ok, Err, IfOk, IsSome}
 use Rattle.std.specs.FinMap.{get}
 use Rattle.reg_names.specs.Names.{folded, path_of, is_path}
