@@ -2,7 +2,7 @@
 use Rattle.std.proofs.Common.{◌≡◌, ◌≤◌, ℕ, Bool, true, false, List, [], ◌++◌, map, length, Option, Some, None, refl, sym, ap, ◌∙◌, subst, true≢false, is_some}
 use Rattle.std.specs.Borrow.{Bor}
 use Rattle.std.proofs.lemmas.List.{map-append}
-use Rattle.std.specs.Prelude.{Result, Ok, Err, IfOk, IsSome}
+use Rattle.std.specs.Prelude.{Result, Ok, Err, IfOk, IfSome}
 use Rattle.std.specs.FinMap.{get}
 use Rattle.reg_names.specs.Names.{folded, path_of, is_path}
 use Rattle.reg_names.proofs.Folding.{names-again}
@@ -11,22 +11,23 @@ use Rattle.reg_heap.specs.Edits.{folded_path}
 use Rattle.reg_model.specs.Worlds.{Handle, At, look, path_at, path_from}
 use Rattle.reg_model.specs.Causes.{by_handle}
 use Rattle.reg_model.proofs.Standing.{Has, target-there}
-use Rattle.reg_handles.specs.Tables.{place_of, IsLent}
-use Rattle.reg_handles.specs.declared.Found.{Found}
+use Rattle.reg_handles.specs.Tables.{IsFoldedPath}
+use Rattle.reg_handles.specs.Founds.{place_shown}
+use Rattle.reg_handles.specs.declared.handles.Found.{Found}
 use Rattle.reg_tree.specs.Keys.{Keys, IsAt, IsThere}
 use Rattle.reg_calls.specs.declared.store.Store.{Store}
 use Rattle.reg_calls.specs.declared.store.KeyHandle.{KeyHandle}
 use Rattle.reg_calls.specs.Stores.{IsTarget, IsOpened, AreStanding}
 
 abbrev handle_of : ℕ → ℕ → Found → Handle
-handle_of session number f = record { number = number; session = session; mask = f.mask; place = place_of f.path }
+handle_of session number f = record { number = number; session = session; mask = f.mask; place = place_shown f.path }
 
 -- a handle with a path leads to the key at it
 abbrev pub lent : (store : Store) (session number : ℕ) (f : Found) (text : Bor (List ℕ)) → Some (handle_of session number f) ≡ look session number store.handles.handles → f.path ≡ Some text → IsTarget store session number
-lent store session number f text e is = record { handle = handle_of session number f; path = path_of text.now; found = sym e; place = ap place_of is }
+lent store session number f text e is = record { handle = handle_of session number f; path = path_of text.now; found = sym e; place = ap place_shown is }
 
-pub lent-path : (f : Found) (text : Bor (List ℕ)) → IsLent f.path → f.path ≡ Some text → (is_path text.now ≡ true) × (map folded (path_of text.now) ≡ path_of text.now)
-lent-path f text l is = subst IsLent is l
+pub lent-path : (f : Found) (text : Bor (List ℕ)) → IfSome f.path (λ path. IsFoldedPath path.now) → f.path ≡ Some text → IsFoldedPath text.now
+lent-path f text l is = subst (λ (o : Option (Bor (List ℕ))). IfSome o (λ path. IsFoldedPath path.now)) is l
 
 -- the key of a target is there
 pub target-has : (store : Store) (session number : ℕ) (t : IsTarget store session number) → AreStanding store → Has store.tree.tree t.path

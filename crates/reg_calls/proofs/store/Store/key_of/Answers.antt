@@ -9,7 +9,7 @@ pub unreachable-requires : goal.unreachable-requires
 unreachable-requires c =
     let t = lent c.args.self.now c.args.session c.args.handle c.in-Some.found c.in-Some-path.path c.in-Some.ensures.handle c.in-Some-path.is in
     let p = lent-path c.in-Some.found c.in-Some-path.path c.in-Some.ensures.path c.in-Some-path.is in
-    not_gone c.args.self.now.tree.tree t.path _ (sym p.1) (target-has c.args.self.now c.args.session c.args.handle t c.requires) (c.in-None.ensures.found [] c.root-root.ensures.at)
+    not_gone c.args.self.now.tree.tree t.path _ (sym p.folded) (target-has c.args.self.now c.args.session c.args.handle t c.requires) (c.in-None.ensures.found [] c.root-root.ensures.at)
 
 pub returns : goal.returns
 returns c =
@@ -17,5 +17,5 @@ returns c =
     record {
       target = lent c.args.self.now c.args.session c.args.handle c.in-Some.found c.in-Some-path.path c.in-Some.ensures.handle c.in-Some-path.is;
       mask = refl;
-      node = subst (λ (q : Path). IsAt c.args.self.now.tree q c.in-Some-resolve.node) p.1 (c.in-Some-resolve.ensures.found [] c.root-root.ensures.at).0;
+      node = subst (λ (q : Path). IsAt c.args.self.now.tree q c.in-Some-resolve.node) p.folded (c.in-Some-resolve.ensures.found [] c.root-root.ensures.at).0;
     }

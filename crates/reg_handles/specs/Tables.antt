@@ -1,0 +1,40 @@
+-- What callers see of a table of handles.
+use Rattle.std.specs.Prelude.{◌≡◌, ℕ, true, List, map, Option, Some, None, refl}
+use Rattle.std.specs.Coded.{Coded, code_by, coded×, coded_ℕ, coded_list, coded_option}
+use Rattle.reg_names.specs.Names.{folded, path_of, is_path}
+use Rattle.reg_heap.specs.Paths.{Path, coded_bytes}
+use Rattle.reg_model.specs.Worlds.{Handle, Place, At, Deleted}
+
+-- the open handles in the order of their numbers, and a number that no deletion is past
+pub record Table : Type 0 where
+  pub handles : List Handle
+  pub since : ℕ
+
+-- a text that is a path, as folded names
+pub record IsFoldedPath (text : List ℕ) : Type 0 where
+  pub path : is_path text ≡ true
+  pub folded : map folded (path_of text) ≡ path_of text
+
+-- a place as the path that it leads to, if it leads to one
+abbrev pub path_to : Place → Option Path
+path_to (At path) = Some path
+path_to Deleted = None
+
+abbrev pub place_of : Option Path → Place
+place_of (Some path) = At path
+place_of None = Deleted
+
+pub place-path : (place : Place) → place_of (path_to place) ≡ place
+place-path (At path) = refl
+place-path Deleted = refl
+
+abbrev pub coded_place : Coded Place
+coded_place = code_by (Option Path) (coded_option (coded_list coded_bytes)) path_to place_of place-path
+
+abbrev pub coded_handle : Coded Handle
+coded_handle =
+    code_by ((ℕ × ℕ) × (ℕ × Place)) (coded× (coded× coded_ℕ coded_ℕ) (coded× coded_ℕ coded_place)) (λ h. ((h.number, h.session), (h.mask, h.place)))
+    (λ p. record { number = p.0.0; session = p.0.1; mask = p.1.0; place = p.1.1 }) (λ _. refl)
+
+abbrev pub coded_table : Coded Table
+coded_table = code_by (List Handle × ℕ) (coded× (coded_list coded_handle) coded_ℕ) (λ t. (t.handles, t.since)) (λ p. record { handles = p.0; since = p.1 }) (λ _. refl)
