@@ -1,3 +1,4 @@
 pub mod RunMore
 pub mod Looks
 pub mod Refusals
+pub mod Made

@@ -1,5 +1,5 @@
 //! The changes of the tree and the handles that accepted calls make.
-ghost use Rattle.std.specs.Prelude.{◌≡◌, ◌<◌, Some, None};
+ghost use Rattle.std.specs.Prelude.{◌≡◌, ◌⊎◌, ◌<◌, Some, None, Ok};
 ghost use Rattle.reg_model.specs.Causes.{change_cause};
 ghost use Rattle.reg_calls.specs.Stores.{at, IsReady, IsMade};
 
@@ -30,6 +30,21 @@ fn opened(number: u64, disposition: Option<u32>) -> ChangeReply
         number: Some(number),
         handle: Some(number),
         disposition,
+    }
+}
+
+/// The lack that a fault of the tree tells.
+fn lack_of(fault: TreeFault) -> Lack
+    requires { (fault ≡ TreeFault.Full) ⊎ (fault ≡ TreeFault.Memory) }
+    ensures { result ≡ Lack.Space → fault ≡ TreeFault.Full }
+{
+    match fault {
+        TreeFault::Full => Lack::Space,
+        TreeFault::Memory => Lack::Memory,
+        TreeFault::Limit
+        | TreeFault::NotFound
+        | TreeFault::HasChildren
+        | TreeFault::NoDelete => unreachable!(),
     }
 }
 
@@ -114,14 +129,7 @@ impl Store {
             Ok(created) => Ok(opened(number, Some(if created.is_new { 1 } else { 2 }))),
             Err(fault) => {
                 self.handles.close(session, number);
-                match fault {
-                    TreeFault::Full => Err(Lack::Space),
-                    TreeFault::Memory => Err(Lack::Memory),
-                    TreeFault::Limit
-                    | TreeFault::NotFound
-                    | TreeFault::HasChildren
-                    | TreeFault::NoDelete => unreachable!(),
-                }
+                Err(lack_of(fault))
             }
         }
     }
@@ -147,12 +155,7 @@ impl Store {
         };
         match self.tree.set_value(alloc, node, name, kind, bytes, moment) {
             Ok(()) => Ok(accepted(number)),
-            Err(TreeFault::Full) => Err(Lack::Space),
-            Err(TreeFault::Memory) => Err(Lack::Memory),
-            Err(TreeFault::Limit) => unreachable!(),
-            Err(TreeFault::NotFound | TreeFault::HasChildren | TreeFault::NoDelete) => {
-                unreachable!()
-            }
+            Err(fault) => Err(lack_of(fault)),
         }
     }
 

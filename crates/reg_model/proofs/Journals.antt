@@ -157,7 +157,7 @@ handles-rise origin es l =
     IsStrictlyIncreasing-from_sorted (map (λ (h : Handle). h.number) (replay origin es).handles) (rising-all origin es l).rising
 
 -- a handle whose number none has is found by it
-numbered-push : (n : ℕ) (hs : List Handle) (h : Handle) → h.number ≡ n → AllByRecursion (λ (x : Handle). x.number < n) hs → numbered n (hs ++ h ∷ []) ≡ Some h
+pub numbered-push : (n : ℕ) (hs : List Handle) (h : Handle) → h.number ≡ n → AllByRecursion (λ (x : Handle). x.number < n) hs → numbered n (hs ++ h ∷ []) ≡ Some h
 numbered-push n [] h e b = rw (eq-eqb h.number n e) refl
 numbered-push n (x ∷ hs) h e b = rw (ne_eqb x.number n (λ same. omega (arith, b.0))) (numbered-push n hs h e b.1)
 

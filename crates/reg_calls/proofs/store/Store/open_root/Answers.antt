@@ -1,0 +1,15 @@
+use Rattle.std.proofs.Common.{refl}
+use Rattle.reg_names.specs.Names.{are_key_names}
+use Rattle.reg_calls.proofs.Made.{root-room, root-done}
+use Rattle.reg_calls.proofs.store.Store.open_root.Goals as goal
+
+pub add-requires-clause-room : goal.add-requires-clause-room
+add-requires-clause-room c = root-room c.args.number c.args.self.now c.args.session c.requires.ready c.args.mask c.requires.cause
+
+pub add-requires-clause-path : goal.add-requires-clause-path
+unfolding are_key_names
+add-requires-clause-path c = refl
+
+pub returns-in-Ok : goal.returns-in-Ok
+returns-in-Ok c =
+    root-done c.args.number c.args.self.now c.args.session c.requires.ready c.args.moment c.args.mask c.add.new.self _ refl c.in-Ok.ensures.ok c.in-Ok.ensures.since c.opened.result c.opened.ensures
