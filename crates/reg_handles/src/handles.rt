@@ -145,15 +145,12 @@ impl Handles {
         let open = self.rows.len();
         prove!(open < usize::MAX);
         let text = path.clone()?;
-        push_row(
-            &mut self.rows,
-            number,
-            Row {
-                session,
-                mask,
-                path,
-            },
-        )?;
+        let row = Row {
+            session,
+            mask,
+            path,
+        };
+        push_row(&mut self.rows, number, row)?;
         match self.usages.count_up(text) {
             Ok(()) => {
                 self.counts[session as usize] += 1;
