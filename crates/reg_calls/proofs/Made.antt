@@ -1,11 +1,11 @@
 -- What the changes of accepted calls make of a store.
-use Rattle.std.proofs.Common.{◌≡◌, ◌≢◌, ◌⊎◌, ◌↔◌, inl, inr, ℕ, ◌+◌, ◌<◌, ◌≤◌, Bool, true, false, not, ◌||◌, ◌&&◌, nat_lt, nat_le, eqb, cond, is_some, List, [], ◌∷◌, ◌++◌, map, length, Option, Some, None, refl, sym, ap, ◌∙◌, subst, arith, true≢false, false≢true, append_assoc, length-append}
+use Rattle.std.proofs.Common.{◌≡◌, ◌≢◌, ◌⊎◌, ◌↔◌, inl, inr, ℕ, ◌+◌, ◌<◌, ◌≤◌, Bool, true, false, not, ◌||◌, ◌&&◌, nat_lt, nat_le, eqb, cond, is_some, List, [], ◌∷◌, ◌++◌, map, length, Option, Some, None, refl, sym, ap, ◌∙◌, subst, arith, true≢false, append_assoc, length-append}
 use Rattle.std.specs.Prelude.{All, Result, Ok, Err, bit_and, ◌==◌}
 use Rattle.std.specs.List.{AllByRecursion}
 use Rattle.std.specs.FinMap.{get}
 use Rattle.std.proofs.lemmas.List.{append-nil, length-map}
 use Rattle.std.proofs.lemmas.List.Elements.{recursion_from_All}
-use Rattle.std.proofs.lemmas.Bool.{eq-eqb, ne_eqb}
+use Rattle.std.proofs.lemmas.Bool.{eq-eqb, ne_eqb, false≢true}
 use Rattle.std.proofs.lemmas.Bool.Decides.{nat_tests}
 use Rattle.reg_names.specs.Names.{folded, path_of, is_path, is_value_name, are_key_names}
 use Rattle.reg_heap.specs.Paths.{Path, Tree, Member, children_of}
@@ -54,7 +54,7 @@ pub look-push : (session n : ℕ) (hs : List Handle) → All (λ (x : Handle). x
 look-push session n hs all h e f =
     rw (numbered-push n hs h e (recursion_from_All (λ (x : Handle). x.number < n) hs all), eq-eqb h.session session f) refl
 
-pub store-same : (store : Store) (tree : Keys) (handles : Table) → tree ≡ store.tree → handles.handles ≡ store.handles.handles → handles.since ≡ store.handles.since → Path Store (record { tree = tree; handles = handles }) store
+pub store-same : (store : Store) (tree : Keys) (handles : Table) → tree ≡ store.tree → handles.handles ≡ store.handles.handles → handles.since ≡ store.handles.since → ◌≡◌ {A = Store} (record { tree = tree; handles = handles }) store
 store-same store tree handles a b c = λ i. record { tree = a i; handles = record { handles = b i; since = c i } }
 
 -- ---- limits
@@ -73,14 +73,14 @@ not_above : (m n : ℕ) → nat_lt m n ≡ false → n ≤ m
 not_above m n e = grind (arith, nat_tests)
 
 -- where no key is missing on a path, the last one is there
+there-step : (b : Bool) (t : Tree) (p : Path) (name : List ℕ) (names : List (List ℕ)) → has_child t p name ≡ b → (missing t (child_path p name) names ≡ [] → Has t (child_path p name) → Has t (child_path p name ++ map folded names)) → cond b (missing t (child_path p name) names) (name ∷ names) ≡ [] → Has t (child_path p name ++ map folded names)
+there-step true t p name names there on none = on none there
+there-step false t p name names there on none = absurd (cc)
+
 all-there : (t : Tree) (p : Path) (names : List (List ℕ)) → missing t p names ≡ [] → Has t p → Has t (p ++ map folded names)
 all-there t p [] e h = subst (Has t) (sym (append-nil p)) h
 all-there t p (name ∷ names) e h =
-    subst (Has t) (append_assoc p (folded name ∷ []) (map folded names)) (by (has_child t p name) refl e)
-  where
-    by : (b : Bool) → has_child t p name ≡ b → cond b (missing t (child_path p name) names) (name ∷ names) ≡ [] → Has t (child_path p name ++ map folded names)
-    by true there none = all-there t (child_path p name) names none there
-    by false there none = absurd (cc)
+    subst (Has t) (append_assoc p (folded name ∷ []) (map folded names)) (there-step (has_child t p name) t p name names refl (all-there t (child_path p name) names) e)
 
 path-short : (t : Tree) (p : Path) (names : List (List ℕ)) → ((q : Path) → Has t q → length q ≤ 512) → Has t p → are_too_many t p names ≡ false → length (p ++ map folded names) ≤ 512
 path-short t p names shallow h few = by (missing t p names) refl
@@ -119,10 +119,10 @@ module _ (n : ℕ) (store : Store) (session : ℕ) (ready : IsReady n store) whe
   abbrev added : Table → ℕ → List ℕ → Type 0
   added table mask text = table.handles ≡ hs ++ record { number = n; session = session; mask = mask; place = At (path_of text) } ∷ []
 
-  abbrev opening : Option ℕ → ChangeReply
+  abbrev pub opening : Option ℕ → ChangeReply
   opening disposition = record { status = 0; number = Some n; handle = Some n; disposition = disposition }
 
-  abbrev plain : ChangeReply
+  abbrev pub plain : ChangeReply
   plain = record { status = 0; number = Some n; handle = None; disposition = None }
 
   -- ---- OpenRoot
@@ -277,6 +277,10 @@ module _ (n : ℕ) (store : Store) (session : ℕ) (ready : IsReady n store) whe
           let b = both_false (nat_lt 0 (length (children_of tree (t.path ++ folded_path path)))) (not (bit_and (marks_of (get tree (t.path ++ folded_path path))) 8 == 0)) delete-goes in
           absurd (true≢false (sym (not_false (bit_and (marks_of (get tree (t.path ++ folded_path path))) 8 == 0) b.1) ∙ marked))
 
+      pub delete-refused : (fault : TreeFault) → ((◌≡◌ {A = Result (Unit {0}) TreeFault} (Err fault) (Err HasChildren)) ↔ (children_of tree (t.path ++ folded_path path) ≢ [])) → ((◌≡◌ {A = Result (Unit {0}) TreeFault} (Err fault) (Err NoDelete)) ↔ ((children_of tree (t.path ++ folded_path path) ≡ []) × IsKept tree (t.path ++ folded_path path))) → (fault ≡ HasChildren) ⊎ (fault ≡ NoDelete) → ⊥
+      delete-refused fault children kept (inl e) = children.0 (ap (λ f. Err f) e) delete-childless
+      delete-refused fault children kept (inr e) = delete-kept (kept.0 (ap (λ f. Err f) e)).1
+
       pub delete-done : (moment : ℕ) (keys : Keys) (table : Table) (text : List ℕ) → path_of text ≡ path_from session h hs path → keys.tree ≡ without_key tree (t.path ++ folded_path path) moment → table.handles ≡ turned (path_of text) hs → table.since ≤ n + 1 → (told : ChangeReply) → told ≡ plain → IsDone store (record { tree = keys; handles = table }) session moment n (DeleteKey h path) told
       unfolding after reply_to
       delete-done moment keys table text names gone turn since told e =
@@ -295,19 +299,17 @@ module _ (n : ℕ) (store : Store) (session : ℕ) (ready : IsReady n store) whe
 
 -- ---- what is told of a created key
 
-pub made-new : (names : List (List ℕ)) (is_new : Bool) → ((is_new ≡ true) ↔ (names ≢ [])) → is_new ≡ true → disposition_of names ≡ 1
-made-new [] is_new iff e = absurd (iff.0 e refl)
-made-new (x ∷ xs) is_new iff e = refl
-
-pub made-old : (names : List (List ℕ)) (is_new : Bool) → ((is_new ≡ true) ↔ (names ≢ [])) → is_new ≡ false → disposition_of names ≡ 2
-made-old [] is_new iff e = refl
-made-old (x ∷ xs) is_new iff e = absurd (true≢false (sym (iff.1 (λ none. absurd (cc))) ∙ e))
+pub disposition-is : (names : List (List ℕ)) (is_new : Bool) → ((is_new ≡ true) ↔ (names ≢ [])) → cond is_new 1 2 ≡ disposition_of names
+disposition-is [] true iff = absurd (iff.0 refl refl)
+disposition-is [] false iff = refl
+disposition-is (x ∷ xs) true iff = refl
+disposition-is (x ∷ xs) false iff = absurd (false≢true (iff.1 (λ none. absurd (cc))))
 
 -- ---- a change that isn't made
 
 pub is_lack : (fault : TreeFault) → (fault ≡ Limit) ⊎ ((fault ≡ Full) ⊎ (fault ≡ Memory)) → (fault ≡ Limit → ⊥) → (fault ≡ Full) ⊎ (fault ≡ Memory)
-is_lack fault (inl e) no = absurd (no e)
-is_lack fault (inr r) no = r
+is_lack fault (inl e) limited = absurd (limited e)
+is_lack fault (inr r) limited = r
 
 pub lacking : (old new : Store) (session moment n : ℕ) (change : Change) (lack : Lack) → new ≡ old → is_closing change ≡ false → (lack ≡ Space → LacksSpace old.tree change) → IsMade old new session moment n change (Err lack)
 lacking old new session moment n change Space same opens space = (same, space refl)

@@ -1,5 +1,5 @@
 //! The changes of the tree and the handles that accepted calls make.
-ghost use Rattle.std.specs.Prelude.{◌≡◌, ◌⊎◌, ◌<◌, Some, None, Ok};
+ghost use Rattle.std.specs.Prelude.{◌≡◌, ◌⊎◌, ◌<◌, Some, None, Ok, if◌then◌else◌};
 ghost use Rattle.reg_model.specs.Causes.{change_cause};
 ghost use Rattle.reg_calls.specs.Stores.{at, IsReady, IsMade};
 
@@ -31,6 +31,13 @@ fn opened(number: u64, disposition: Option<u32>) -> ChangeReply
         handle: Some(number),
         disposition,
     }
+}
+
+/// 1 where a key was made, 2 where it was there already.
+fn disposition(is_new: bool) -> u32
+    ensures { result ≡ (if is_new then 1 else 2) }
+{
+    if is_new { 1 } else { 2 }
 }
 
 /// The lack that a fault of the tree tells.
@@ -122,11 +129,12 @@ impl Store {
             Err(_) => unreachable!(),
         };
         // the handle first: it can be taken back, and keys that are made can't
-        if self.handles.add(session, number, mask, text).is_err() {
-            return Err(Lack::Memory);
+        match self.handles.add(session, number, mask, text) {
+            Ok(()) => {}
+            Err(_) => return Err(Lack::Memory),
         }
         match self.tree.create(alloc, from, path, moment) {
-            Ok(created) => Ok(opened(number, Some(if created.is_new { 1 } else { 2 }))),
+            Ok(created) => Ok(opened(number, Some(disposition(created.is_new)))),
             Err(fault) => {
                 self.handles.close(session, number);
                 Err(lack_of(fault))

@@ -1,12 +1,9 @@
-use Rattle.std.proofs.Common.{refl, sym, ap, ◌∙◌, Some, Err, ℕ}
+use Rattle.std.proofs.Common.{◌≡◌, true, is_some, List, subst, refl, sym, ap, ◌∙◌, Some, Err, ℕ, true≢false}
 use Rattle.reg_names.specs.Names.{path_of}
-use Rattle.reg_model.specs.declared.reply.ChangeReply.{ChangeReply}
+use Rattle.reg_model.specs.Worlds.{Handle, look, closed, At}
 use Rattle.reg_model.specs.declared.call.Change.TheVariants.{CreateKey}
-use Rattle.reg_heap.specs.Edits.{missing}
-use Rattle.std.proofs.Common.{true≢false}
-use Rattle.reg_calls.proofs.Made.{create-target, create-path, create-room, create-short, create-few, create-done, not_refused_by, look-push, closed-push, store-same, made-new, made-old, is_lack, lacking, opening}
+use Rattle.reg_calls.proofs.Made.{create-target, create-path, create-room, create-short, create-few, create-done, not_refused_by, look-push, closed-push, store-same, disposition-is, is_lack, lacking, opening}
 use Rattle.reg_calls.proofs.store.Store.create_key.Goals as goal
-use Rattle.reg_calls.proofs.store.Store.create_key.Goals.{then-created, else-created}
 
 pub path_to-requires-clause-target : goal.path_to-requires-clause-target
 path_to-requires-clause-target c = create-target c.args.number c.args.self.now c.args.session c.requires.ready c.args.handle c.args.path.now c.args.mask c.requires.cause
@@ -29,3 +26,27 @@ add-requires-clause-path c =
 
 pub create-requires-clause-path : goal.create-requires-clause-path
 create-requires-clause-path c = create-path c.args.number c.args.self.now c.args.session c.requires.ready c.args.handle c.args.path.now c.args.mask c.requires.cause
+
+pub close-requires : goal.close-requires
+close-requires c =
+    let hs = c.args.self.now.handles.handles in
+    subst (λ (x : List Handle). is_some (look c.args.session c.args.number x) ≡ true) (sym c.in-Ok-add.ensures.ok) (look-push c.args.session c.args.number hs c.requires.ready.below _ refl refl)
+
+pub lack_of-requires : goal.lack_of-requires
+lack_of-requires c =
+    let k = c.in-Ok-key_of.ensures in
+    let few = create-few c.args.number c.args.self.now c.args.session c.requires.ready c.args.handle c.args.path.now c.args.mask c.requires.cause k.target in
+    is_lack c.in-Err-create.fault c.in-Err-create.ensures.others (λ e. true≢false (sym ((c.in-Err-create.ensures.limit k.target.path k.node).0 (ap (λ f. Err f) e)) ∙ few))
+
+pub returns-in-Ok-create : goal.returns-in-Ok-create
+returns-in-Ok-create c =
+    let k = c.in-Ok-key_of.ensures in
+    let told = c.opened.ensures ∙ ap (λ (d : ℕ). opening c.args.number c.args.self.now c.args.session c.requires.ready (Some d)) (c.disposition.ensures ∙ disposition-is _ c.in-Ok-create.created.is_new (c.in-Ok-create.ensures.opened k.target.path k.node).1) in
+    create-done c.args.number c.args.self.now c.args.session c.requires.ready c.args.handle c.args.path.now c.args.mask c.requires.cause k.target c.args.moment c.create.new.self c.add.new.self c.in-Ok.text.items c.in-Ok.ensures.names (c.in-Ok-create.ensures.ok k.target.path k.node) c.in-Ok-add.ensures.ok c.in-Ok-add.ensures.since c.opened.result told
+
+pub returns-in-Err-create : goal.returns-in-Err-create
+returns-in-Err-create c =
+    let hs = c.args.self.now.handles.handles in
+    let handles = c.close.ensures.handles ∙ (ap (closed c.args.number) c.in-Ok-add.ensures.ok ∙ closed-push c.args.number hs c.requires.ready.below _ refl) in
+    let same = store-same c.args.self.now c.create.new.self c.close.new.self c.in-Err-create.ensures.err handles (c.close.ensures.since ∙ c.in-Ok-add.ensures.since) in
+    lacking c.args.self.now _ c.args.session c.args.moment c.args.number (CreateKey c.args.handle c.args.path.now c.args.mask) c.lack_of.result same refl (λ space. c.in-Err-create.ensures.full (ap (λ f. Err f) (c.lack_of.ensures space)))

@@ -1,4 +1,7 @@
-use Rattle.reg_calls.proofs.Made.{delete-target, delete-path, delete-there, delete-childless, delete-kept, delete-done, not_refused_by}
+use Rattle.std.proofs.Common.{ap, ◌∙◌, List, ℕ}
+use Rattle.reg_names.specs.Names.{path_of}
+use Rattle.reg_model.specs.Worlds.{turned}
+use Rattle.reg_calls.proofs.Made.{delete-target, delete-path, delete-there, delete-refused, delete-done, not_refused_by}
 use Rattle.reg_calls.proofs.store.Store.delete_key.Goals as goal
 
 pub path_to-requires-clause-target : goal.path_to-requires-clause-target
@@ -19,3 +22,16 @@ pub unreachable-requires-in_default-resolve : goal.unreachable-requires-in_defau
 unreachable-requires-in_default-resolve c =
     let k = c.in-Ok-key_of.ensures in
     delete-there c.args.number c.args.self.now c.args.session c.requires.ready c.args.handle c.args.path.now c.requires.cause k.target (c.in_default-resolve.ensures.found k.target.path k.node)
+
+pub unreachable-requires-in-Err-delete_key : goal.unreachable-requires-in-Err-delete_key
+unreachable-requires-in-Err-delete_key c =
+    let k = c.in-Ok-key_of.ensures in
+    let found = c.in-Some.ensures.found k.target.path k.node in
+    delete-refused c.args.number c.args.self.now c.args.session c.requires.ready c.args.handle c.args.path.now c.requires.cause k.target c.in-Err-delete_key.field-0 (c.in-Err-delete_key.ensures.children _ found.0) (c.in-Err-delete_key.ensures.kept _ found.0) c.in-Err-delete_key.ensures.others
+
+pub returns : goal.returns
+returns c =
+    let k = c.in-Ok-key_of.ensures in
+    let found = c.in-Some.ensures.found k.target.path k.node in
+    let handles = c.mark_deleted.ensures.handles ∙ ap (λ (text : List ℕ). turned (path_of text) c.args.self.now.handles.handles) c.as_slice.ensures.value in
+    delete-done c.args.number c.args.self.now c.args.session c.requires.ready c.args.handle c.args.path.now c.requires.cause k.target c.args.moment c.delete_key.new.self c.mark_deleted.new.self c.in-Ok.text.items c.in-Ok.ensures.names (c.in-Ok-delete_key.ensures.ok _ found.0) handles c.mark_deleted.ensures.since c.accepted.result c.accepted.ensures

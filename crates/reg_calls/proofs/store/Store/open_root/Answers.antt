@@ -1,5 +1,5 @@
-use Rattle.std.proofs.Common.{refl}
-use Rattle.reg_names.specs.Names.{are_key_names}
+use Rattle.std.proofs.Common.{ap}
+use Rattle.reg_names.specs.Names.{are_key_names, is_path}
 use Rattle.reg_calls.proofs.Made.{root-room, root-done}
 use Rattle.reg_calls.proofs.store.Store.open_root.Goals as goal
 
@@ -8,8 +8,8 @@ add-requires-clause-room c = root-room c.args.number c.args.self.now c.args.sess
 
 pub add-requires-clause-path : goal.add-requires-clause-path
 unfolding are_key_names
-add-requires-clause-path c = refl
+add-requires-clause-path c = ap is_path c.new.ensures.items
 
 pub returns-in-Ok : goal.returns-in-Ok
 returns-in-Ok c =
-    root-done c.args.number c.args.self.now c.args.session c.requires.ready c.args.moment c.args.mask c.add.new.self _ refl c.in-Ok.ensures.ok c.in-Ok.ensures.since c.opened.result c.opened.ensures
+    root-done c.args.number c.args.self.now c.args.session c.requires.ready c.args.moment c.args.mask c.add.new.self _ c.new.ensures.items c.in-Ok.ensures.ok c.in-Ok.ensures.since c.opened.result c.opened.ensures

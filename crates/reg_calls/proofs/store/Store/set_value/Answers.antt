@@ -1,0 +1,26 @@
+use Rattle.std.proofs.Common.{ap, Err}
+use Rattle.reg_calls.proofs.Made.{set-target, set-name, set-bytes, set-room, set-done, not_refused_by, is_lack}
+use Rattle.reg_calls.proofs.store.Store.set_value.Goals as goal
+
+pub unreachable-requires : goal.unreachable-requires
+unreachable-requires c =
+    let t = set-target c.args.number c.args.self.now c.args.session c.requires.ready c.args.handle c.args.name.now c.args.kind c.args.bytes.now c.requires.cause in
+    not_refused_by c.args.self.now c.args.session c.args.handle c.in-Err.field-0 t c.in-Err.ensures
+
+pub set_value-requires-clause-name : goal.set_value-requires-clause-name
+set_value-requires-clause-name c = set-name c.args.number c.args.self.now c.args.session c.requires.ready c.args.handle c.args.name.now c.args.kind c.args.bytes.now c.requires.cause
+
+pub set_value-requires-clause-bytes : goal.set_value-requires-clause-bytes
+set_value-requires-clause-bytes c = set-bytes c.args.number c.args.self.now c.args.session c.requires.ready c.args.handle c.args.name.now c.args.kind c.args.bytes.now c.requires.cause
+
+pub lack_of-requires : goal.lack_of-requires
+lack_of-requires c =
+    let k = c.in-Ok.ensures in
+    is_lack c.in-Err-set_value.fault c.in-Err-set_value.ensures.others (λ e.
+      let full = (c.in-Err-set_value.ensures.limit k.target.path k.node).0 (ap (λ f. Err f) e) in
+      set-room c.args.number c.args.self.now c.args.session c.requires.ready c.args.handle c.args.name.now c.args.kind c.args.bytes.now c.requires.cause k.target full.0 full.1)
+
+pub returns-in-Ok-set_value : goal.returns-in-Ok-set_value
+returns-in-Ok-set_value c =
+    let k = c.in-Ok.ensures in
+    set-done c.args.number c.args.self.now c.args.session c.requires.ready c.args.handle c.args.name.now c.args.kind c.args.bytes.now c.requires.cause k.target c.args.moment c.set_value.new.self (c.in-Ok-set_value.ensures.ok k.target.path k.node) c.accepted.result c.accepted.ensures
