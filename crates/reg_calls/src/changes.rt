@@ -48,10 +48,8 @@ fn lack_of(fault: TreeFault) -> Lack
     match fault {
         TreeFault::Full => Lack::Space,
         TreeFault::Memory => Lack::Memory,
-        TreeFault::Limit
-        | TreeFault::NotFound
-        | TreeFault::HasChildren
-        | TreeFault::NoDelete => unreachable!(),
+        TreeFault::Limit | TreeFault::NotFound | TreeFault::HasChildren | TreeFault::NoDelete =>
+            unreachable!(),
     }
 }
 

@@ -55,7 +55,7 @@ has-with_keys t p (name ∷ names) moment q h =
 same-self : (p : Path) → eq_by_cmp path_cmp p p ≡ true
 same-self p = let o = eq_by_cmp_equiv path_total in o.refl p
 
-has-put : (t : Tree) (p : Path) (r : Rec) → Has (insert t p r) p
+pub has-put : (t : Tree) (p : Path) (r : Rec) → Has (insert t p r) p
 has-put t p r = rw (get-insert path_total t p r p, same-self p) refl
 
 has-child : (b : Bool) (t : Tree) (p : Path) (name : List ℕ) (moment : ℕ) → has_child t p name ≡ b → Has (cond b t (with_key t p name moment)) (child_path p name)
