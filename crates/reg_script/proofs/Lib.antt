@@ -1,6 +1,7 @@
 pub mod Appending
 pub mod Numbers
 pub mod Names
+pub mod Escapes
 pub mod Spaces
 pub mod Readings
 pub mod Meanings

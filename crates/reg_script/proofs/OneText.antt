@@ -43,8 +43,8 @@ journal_by None journal entry = journal ++ entry ∷ []
 view_like : (a b : View) → a.origin ≡ b.origin → a.journal ≡ b.journal → ◌≡◌ {A = View} (record a { keys = b.keys; handles = b.handles }) b
 view_like a b origin journal = rw (origin, journal) refl
 
-lacking : {X : Type 0} (reply : ChangeReply) → (reply ≡ refusal 8) ⊎ ((reply ≡ refusal 1450) × X) → reply.status ≡ 0 → ⊥
-lacking reply (inl h) z = let e = ap (λ (r : ChangeReply). r.status) h in omega (arith, e, z)
+lacking : {X Y : Type 0} (reply : ChangeReply) → ((reply ≡ refusal 8) × X) ⊎ ((reply ≡ refusal 1450) × Y) → reply.status ≡ 0 → ⊥
+lacking reply (inl h) z = let e = ap (λ (r : ChangeReply). r.status) h.0 in omega (arith, e, z)
 lacking reply (inr h) z = let e = ap (λ (r : ChangeReply). r.status) h.0 in omega (arith, e, z)
 
 change_known : (cause : Option ℕ) (old new : View) (session moment : ℕ) (change : TheChange) (reply : ChangeReply) → IsApplied cause old new session moment change reply
@@ -129,7 +129,7 @@ line_same on_hive a b a' b' t t' p q d d' s = (p.0 ∙ sym q.0, same_along a' b'
 line_same bad a b a' b' t t' p q d d' s = (p.0 ∙ sym q.0, same_along a' b' a b p.1 q.1 s)
 line_same (asks call) a b a' b' t t' p q d d' s =
     let x = call_same call a b a'.hive b'.hive p.0 q.0 p.1 q.1 d d' s in (
-      p.2 ∙ (ap outcome_text x.0 ∙ sym q.2),
+      p.2 ∙ (ap (outcome_text call) x.0 ∙ sym q.2),
       record {
         origin = x.1;
         journal = x.2;

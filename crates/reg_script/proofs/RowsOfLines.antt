@@ -2,17 +2,18 @@
 use Rattle.std.specs.Prelude.{◌≡◌, [], ◌∷◌, codes, Some, None, refl}
 use Rattle.hex.proofs.OnLiterals.{hex_on_literals}
 use Rattle.std.specs.Fmt.{digits}
+use Rattle.reg_model.specs.declared.call.Call.{Call}
 use Rattle.reg_model.specs.declared.call.Call.TheVariants.{Change, Query}
-use Rattle.reg_model.specs.declared.call.Change.TheVariants.{OpenRoot, SetValue}
-use Rattle.reg_model.specs.declared.call.Query.TheVariants.{QueryValue}
-use Rattle.reg_model.specs.declared.answer.AnswerBody.TheVariants.{Refused, Short, Value}
+use Rattle.reg_model.specs.declared.call.Change.TheVariants.{OpenRoot, OpenKey, CreateKey, SetValue, DeleteValue, DeleteKey, Close}
+use Rattle.reg_model.specs.declared.call.Query.TheVariants.{QueryValue, EnumKey, EnumValue, QueryInfo}
+use Rattle.reg_model.specs.declared.answer.AnswerBody.TheVariants.{Refused, Short, Value, Key, Member, Info}
 use Rattle.reg_script.specs.Words.{lines_of, words_of, number_of, unescaped, after_mark, name_of, data_of}
-use Rattle.reg_script.specs.Meanings.{first_of, ending, room_of, verb_of, by_verb, meaning_of, nothing, at_moment, as_session, on_hive, asks, bad}
-use Rattle.reg_script.specs.Texts.{changed_text, answer_text}
+use Rattle.reg_script.specs.Meanings.{first_of, ending, room_of, call_verb_of, verb_of, by_verb, meaning_of, nothing, at_moment, as_session, on_hive, asks, bad}
+use Rattle.reg_script.specs.Texts.{changed_text, answer_text, byte_text}
 
 -- what computes a line's meaning
 unfoldable pub on_lines : Unit {0}
-unfolding words_of number_of unescaped after_mark name_of data_of first_of ending room_of verb_of by_verb meaning_of hex_on_literals
+unfolding words_of number_of unescaped after_mark name_of data_of first_of ending room_of call_verb_of verb_of by_verb meaning_of hex_on_literals
 on_lines = tt
 
 -- ---- lines
@@ -52,6 +53,47 @@ first-query = refl
 query-no_room : meaning_of (codes "query 7 =v -") ≡ asks (Query (QueryValue 7 (codes "v") None))
 unfolding on_lines
 query-no_room = refl
+
+open-path : meaning_of (codes "open 0 =A\\b%20c 131097") ≡ asks (Change (OpenKey 0 (codes "A\\b c") 131097))
+unfolding on_lines
+open-path = refl
+
+-- the empty path opens the same key again
+open-same : meaning_of (codes "open 18446744073709551615 = 1") ≡ asks (Change (OpenKey 18446744073709551615 [] 1))
+unfolding on_lines
+open-same = refl
+
+create-path : meaning_of (codes "create 0 =A\\b\\C 983103") ≡ asks (Change (CreateKey 0 (codes "A\\b\\C") 983103))
+unfolding on_lines
+create-path = refl
+
+delvalue-name : meaning_of (codes "delvalue 3 =A") ≡ asks (Change (DeleteValue 3 (codes "A")))
+unfolding on_lines
+delvalue-name = refl
+
+delkey-path : meaning_of (codes "delkey 3 =A") ≡ asks (Change (DeleteKey 3 (codes "A")))
+unfolding on_lines
+delkey-path = refl
+
+close-handle : meaning_of (codes "close 7") ≡ asks (Change (Close 7))
+unfolding on_lines
+close-handle = refl
+
+enumkey-room : meaning_of (codes "enumkey 0 1 255") ≡ asks (Query (EnumKey 0 1 255))
+unfolding on_lines
+enumkey-room = refl
+
+enumvalue-rooms : meaning_of (codes "enumvalue 0 1 16383 4") ≡ asks (Query (EnumValue 0 1 16383 (Some 4)))
+unfolding on_lines
+enumvalue-rooms = refl
+
+enumvalue-no_room : meaning_of (codes "enumvalue 0 1 16383 -") ≡ asks (Query (EnumValue 0 1 16383 None))
+unfolding on_lines
+enumvalue-no_room = refl
+
+info-handle : meaning_of (codes "info 0") ≡ asks (Query (QueryInfo 0))
+unfolding on_lines
+info-handle = refl
 
 at-moment : meaning_of (codes "at 18446744073709551615") ≡ at_moment 18446744073709551615
 unfolding on_lines
@@ -122,6 +164,23 @@ bad-name : meaning_of (codes "query 0 v 4") ≡ bad
 unfolding on_lines
 bad-name = refl
 
+-- a room of names is a number
+bad-room : meaning_of (codes "enumkey 0 0 -") ≡ bad
+unfolding on_lines
+bad-room = refl
+
+bad-index : meaning_of (codes "enumvalue 0 4294967296 0 0") ≡ bad
+unfolding on_lines
+bad-index = refl
+
+bad-path : meaning_of (codes "open 0 A 1") ≡ bad
+unfolding on_lines
+bad-path = refl
+
+bad-close : meaning_of (codes "close 0 0") ≡ bad
+unfolding on_lines
+bad-close = refl
+
 -- ---- replies
 
 text-opened : changed_text (record { status = 0; number = Some 0; handle = Some 0; disposition = None }) ≡ codes "0 handle 0\n"
@@ -132,26 +191,68 @@ text-changed : changed_text (record { status = 0; number = Some 1; handle = None
 unfolding digits
 text-changed = refl
 
+text-created : changed_text (record { status = 0; number = Some 9; handle = Some 9; disposition = Some 1 }) ≡ codes "0 handle 9 disposition 1\n"
+unfolding digits
+text-created = refl
+
 text-refused : changed_text (record { status = 1018; number = None; handle = None; disposition = None }) ≡ codes "1018\n"
 unfolding digits
 text-refused = refl
 
-text-value : answer_text (Value 4 4 (Some (1 ∷ 0 ∷ 0 ∷ 0 ∷ []))) ≡ codes "0 type 4 size 4 x01000000\n"
+-- a question for a value
+abbrev asked : Call
+asked = Query (QueryValue 0 [] None)
+
+text-value : answer_text asked (Value 4 4 (Some (1 ∷ 0 ∷ 0 ∷ 0 ∷ []))) ≡ codes "0 type 4 size 4 x01000000\n"
 unfolding digits hex_on_literals
 text-value = refl
 
-text-empty : answer_text (Value 3 0 (Some [])) ≡ codes "0 type 3 size 0 x\n"
+text-empty : answer_text asked (Value 3 0 (Some [])) ≡ codes "0 type 3 size 0 x\n"
 unfolding digits hex_on_literals
 text-empty = refl
 
-text-no_room : answer_text (Value 3 0 None) ≡ codes "0 type 3 size 0\n"
+text-no_room : answer_text asked (Value 3 0 None) ≡ codes "0 type 3 size 0\n"
 unfolding digits
 text-no_room = refl
 
-text-short : answer_text (Short 234 3 10) ≡ codes "234 type 3 size 10\n"
+text-short : answer_text asked (Short 234 3 10) ≡ codes "234 type 3 size 10\n"
 unfolding digits
 text-short = refl
 
-text-absent : answer_text (Refused 2) ≡ codes "2\n"
+text-absent : answer_text asked (Refused 2) ≡ codes "2\n"
 unfolding digits
 text-absent = refl
+
+text-key : answer_text (Query (EnumKey 0 0 255)) (Key (codes "A") 0) ≡ codes "0 =A time 0\n"
+unfolding digits byte_text
+text-key = refl
+
+-- a subkey has no type
+text-short_key : answer_text (Query (EnumKey 0 0 0)) (Short 234 0 1) ≡ codes "234 size 1\n"
+unfolding digits
+text-short_key = refl
+
+-- a space, a `%`, a byte above 0x7E, and the plain bytes at the ends
+text-escaped : answer_text (Query (EnumKey 0 0 255)) (Key (32 ∷ 37 ∷ 255 ∷ 33 ∷ 126 ∷ 10 ∷ []) 116444736000000000) ≡ codes "0 =%20%25%FF!~%0A time 116444736000000000\n"
+unfolding digits byte_text
+text-escaped = refl
+
+text-member : answer_text (Query (EnumValue 0 0 255 (Some 4))) (Member (codes "v 1") 3 2 (Some (171 ∷ 0 ∷ []))) ≡ codes "0 =v%201 type 3 size 2 xab00\n"
+unfolding digits hex_on_literals byte_text
+text-member = refl
+
+text-default_member : answer_text (Query (EnumValue 0 0 255 None)) (Member [] 1 2 None) ≡ codes "0 = type 1 size 2\n"
+unfolding digits
+text-default_member = refl
+
+text-short_member : answer_text (Query (EnumValue 0 0 0 None)) (Short 234 1 2) ≡ codes "234 type 1 size 2\n"
+unfolding digits
+text-short_member = refl
+
+text-info : answer_text (Query (QueryInfo 0)) (Info 1 2 3 4 5 20 6) ≡ codes "0 subkeys 1 longest 2 values 3 longest 4 largest 5 security 20 time 6\n"
+unfolding digits
+text-info = refl
+
+text-no_more : answer_text (Query (EnumKey 0 9 255)) (Refused 259) ≡ codes "259\n"
+unfolding digits
+text-no_more = refl

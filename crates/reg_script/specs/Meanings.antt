@@ -3,10 +3,10 @@ use Rattle.std.specs.Prelude.{ℕ, ◌==◌, if◌then◌else◌, List, [], ◌�
 use Rattle.std.specs.Str.{bytes_eq}
 use Rattle.reg_model.specs.declared.call.Call.{Call}
 use Rattle.reg_model.specs.declared.call.Call.TheVariants.{Change, Query}
-use Rattle.reg_model.specs.declared.call.Change.TheVariants.{OpenRoot, SetValue, DeleteValue}
-use Rattle.reg_model.specs.declared.call.Query.TheVariants.{QueryValue}
+use Rattle.reg_model.specs.declared.call.Change.TheVariants.{OpenRoot, OpenKey, CreateKey, SetValue, DeleteValue, DeleteKey, Close}
+use Rattle.reg_model.specs.declared.call.Query.TheVariants.{QueryValue, EnumKey, EnumValue, QueryInfo}
 use Rattle.reg_script.specs.declared.line.Verb.{Verb}
-use Rattle.reg_script.specs.declared.line.Verb.TheVariants.{At, As, Hive, Root, Set, DelValue, Query as QueryVerb}
+use Rattle.reg_script.specs.declared.line.Verb.TheVariants.{At, As, Hive, Root, Open, Create, Set, DelValue, DelKey, Close as CloseVerb, Query as QueryVerb, EnumKey as EnumKeyVerb, EnumValue as EnumValueVerb, Info}
 use Rattle.reg_script.specs.Words.{words_of, number_of, name_of, data_of}
 
 -- what a line means: nothing, a setting for the lines after it, a call, or `bad`
@@ -43,29 +43,52 @@ long_number_of = number_of 18446744073709551615
 unfoldable pub room_of : List ℕ → Option (Option ℕ)
 room_of word = if bytes_eq word (codes "-") then Some None else option_map Some (small_number_of word)
 
+-- the first word of a call
+unfoldable pub call_verb_of : List ℕ → Option Verb
+call_verb_of word =
+    if bytes_eq word (codes "root") then Some Root
+    else if bytes_eq word (codes "open") then Some Open
+    else if bytes_eq word (codes "create") then Some Create
+    else if bytes_eq word (codes "set") then Some Set
+    else if bytes_eq word (codes "delvalue") then Some DelValue
+    else if bytes_eq word (codes "delkey") then Some DelKey
+    else if bytes_eq word (codes "close") then Some CloseVerb
+    else if bytes_eq word (codes "query") then Some QueryVerb
+    else if bytes_eq word (codes "enumkey") then Some EnumKeyVerb
+    else if bytes_eq word (codes "enumvalue") then Some EnumValueVerb
+    else if bytes_eq word (codes "info") then Some Info
+    else None
+
 -- the first word of a setting or a call
 unfoldable pub verb_of : List ℕ → Option Verb
 verb_of word =
     if bytes_eq word (codes "at") then Some At
     else if bytes_eq word (codes "as") then Some As
     else if bytes_eq word (codes "hive") then Some Hive
-    else if bytes_eq word (codes "root") then Some Root
-    else if bytes_eq word (codes "set") then Some Set
-    else if bytes_eq word (codes "delvalue") then Some DelValue
-    else if bytes_eq word (codes "query") then Some QueryVerb
-    else None
+    else call_verb_of word
 
--- what the words after the first mean
+-- what the words after the first mean; a PATH word is of the form of a name
 unfoldable pub by_verb : Verb → List (List ℕ) → Option Meaning
 by_verb At = reading long_number_of (λ moment. ending (at_moment moment))
 by_verb As = reading (number_of 63) (λ session. ending (as_session session))
 by_verb Hive = reading (number_of 0) (λ hive. ending on_hive)
 by_verb Root = reading small_number_of (λ mask. ending (asks (Change (OpenRoot mask))))
+by_verb Open =
+    reading long_number_of (λ handle. reading name_of (λ path. reading small_number_of (λ mask. ending (asks (Change (OpenKey handle path mask))))))
+by_verb Create =
+    reading long_number_of (λ handle. reading name_of (λ path. reading small_number_of (λ mask. ending (asks (Change (CreateKey handle path mask))))))
 by_verb Set =
     reading long_number_of (λ handle. reading name_of (λ name. reading small_number_of (λ kind. reading data_of (λ bytes. ending (asks (Change (SetValue handle name kind bytes)))))))
 by_verb DelValue = reading long_number_of (λ handle. reading name_of (λ name. ending (asks (Change (DeleteValue handle name)))))
+by_verb DelKey = reading long_number_of (λ handle. reading name_of (λ path. ending (asks (Change (DeleteKey handle path)))))
+by_verb CloseVerb = reading long_number_of (λ handle. ending (asks (Change (Close handle))))
 by_verb QueryVerb =
     reading long_number_of (λ handle. reading name_of (λ name. reading room_of (λ room. ending (asks (Query (QueryValue handle name room))))))
+by_verb EnumKeyVerb =
+    reading long_number_of (λ handle. reading small_number_of (λ index. reading small_number_of (λ room. ending (asks (Query (EnumKey handle index room))))))
+by_verb EnumValueVerb =
+    reading long_number_of (λ handle. reading small_number_of (λ index. reading small_number_of (λ name_room. reading room_of (λ room. ending (asks (Query (EnumValue handle index name_room room)))))))
+by_verb Info = reading long_number_of (λ handle. ending (asks (Query (QueryInfo handle))))
 
 -- a line means nothing where it is empty or a comment, and is bad where its words mean nothing
 unfoldable pub meaning_of : List ℕ → Meaning

@@ -1,10 +1,13 @@
 -- The text of replies, each of one line (this project's own rules of the script).
-use Rattle.std.specs.Prelude.{ℕ, List, [], ◌∷◌, ◌++◌, codes, Option, Some, None}
-use Rattle.std.specs.Fmt.{decimal}
+use Rattle.std.specs.Prelude.{ℕ, ◌==◌, ◌/◌, ◌%◌, ◌&&◌, not, nat_le, Bool, true, false, if◌then◌else◌, List, [], ◌∷◌, ◌++◌, codes, Option, Some, None}
+use Rattle.std.specs.Fmt.{decimal, digit_glyph}
 use Rattle.hex.specs.Hex.{encode_lower}
 use Rattle.reg_model.specs.declared.reply.ChangeReply.{ChangeReply}
 use Rattle.reg_model.specs.declared.answer.AnswerBody.{AnswerBody}
-use Rattle.reg_model.specs.declared.answer.AnswerBody.TheVariants.{Refused, Short, Value}
+use Rattle.reg_model.specs.declared.answer.AnswerBody.TheVariants.{Refused, Short, Value, Key, Member, Info}
+use Rattle.reg_model.specs.declared.call.Call.{Call}
+use Rattle.reg_model.specs.declared.call.Call.TheVariants.{Change, Query}
+use Rattle.reg_model.specs.declared.call.Query.TheVariants.{QueryValue, EnumKey, EnumValue, QueryInfo}
 use Rattle.reg_model.specs.declared.step.Outcome.{Outcome}
 use Rattle.reg_model.specs.declared.step.Outcome.TheVariants.{Changed, Answered}
 
@@ -17,25 +20,74 @@ abbrev pub handle_text : Option ℕ → List ℕ
 handle_text None = []
 handle_text (Some handle) = codes " handle " ++ decimal handle
 
--- the reply to a change: the status, and the handle
+-- whether a key was made, where a change tells it
+abbrev pub disposition_text : Option ℕ → List ℕ
+disposition_text None = []
+disposition_text (Some disposition) = codes " disposition " ++ decimal disposition
+
+-- the reply to a change: the status, the handle and the disposition
 abbrev pub changed_text : ChangeReply → List ℕ
-changed_text reply = decimal reply.status ++ (handle_text reply.handle ++ line_feed)
+changed_text reply = decimal reply.status ++ (handle_text reply.handle ++ (disposition_text reply.disposition ++ line_feed))
+
+-- a byte of a name that stands for itself: 0x21 to 0x7E, but `%`
+abbrev pub is_plain : ℕ → Bool
+is_plain b = nat_le 33 b && nat_le b 126 && not (b == 37)
+
+-- a byte of a name as it is told: itself, or `%` and its two digits in upper case
+unfoldable pub byte_text : ℕ → List ℕ
+byte_text b = if is_plain b then b ∷ [] else 37 ∷ digit_glyph true (b / 16) ∷ digit_glyph true (b % 16) ∷ []
+
+-- a name as it is told
+abbrev pub escaped : List ℕ → List ℕ
+escaped [] = []
+escaped (b ∷ bs) = byte_text b ++ escaped bs
+
+abbrev pub name_text : List ℕ → List ℕ
+name_text name = codes " =" ++ escaped name
+
+abbrev pub size_text : ℕ → List ℕ
+size_text size = codes " size " ++ decimal size
 
 -- a value's type and size
 abbrev pub value_text : ℕ → ℕ → List ℕ
-value_text kind size = codes " type " ++ (decimal kind ++ (codes " size " ++ decimal size))
+value_text kind size = codes " type " ++ (decimal kind ++ size_text size)
 
 -- a value's bytes in lower case, if a room was given
 abbrev pub data_text : Option (List ℕ) → List ℕ
 data_text None = []
 data_text (Some bytes) = codes " x" ++ encode_lower bytes
 
--- an answer: a refusal's status alone, or the status with the value
-abbrev pub answer_text : AnswerBody → List ℕ
-answer_text (Refused status) = decimal status ++ line_feed
-answer_text (Short status kind size) = decimal status ++ (value_text kind size ++ line_feed)
-answer_text (Value kind size bytes) = codes "0" ++ (value_text kind size ++ (data_text bytes ++ line_feed))
+-- whether a call asks for a subkey
+abbrev pub asks_key : Call → Bool
+asks_key (Query (EnumKey handle index room)) = true
+asks_key (Query (QueryValue handle name room)) = false
+asks_key (Query (EnumValue handle index name_room room)) = false
+asks_key (Query (QueryInfo handle)) = false
+asks_key (Change change) = false
 
-abbrev pub outcome_text : Outcome → List ℕ
-outcome_text (Changed reply) = changed_text reply
-outcome_text (Answered answer) = answer_text answer.body
+-- what a room is too short for: a subkey's name, which has a size alone, or a value
+abbrev pub short_text : Bool → ℕ → ℕ → List ℕ
+short_text true kind size = size_text size
+short_text false kind size = value_text kind size
+
+-- a key's counts and largest lengths, and its time
+abbrev pub info_text : (subkeys longest_key values longest_value largest security time : ℕ) → List ℕ
+info_text subkeys longest_key values longest_value largest security time =
+    codes " subkeys " ++ (decimal subkeys ++ (codes " longest " ++ (decimal longest_key
+    ++ (codes " values " ++ (decimal values ++ (codes " longest " ++ (decimal longest_value ++ (codes " largest " ++ (decimal largest
+    ++ (codes " security " ++ (decimal security ++ (codes " time " ++ decimal time))))))))))))
+
+-- the answer to a call: a refusal's status alone, or the status with what was asked for
+abbrev pub answer_text : Call → AnswerBody → List ℕ
+answer_text call (Refused status) = decimal status ++ line_feed
+answer_text call (Short status kind size) = decimal status ++ (short_text (asks_key call) kind size ++ line_feed)
+answer_text call (Value kind size bytes) = codes "0" ++ (value_text kind size ++ (data_text bytes ++ line_feed))
+answer_text call (Key name time) = codes "0" ++ (name_text name ++ (codes " time " ++ (decimal time ++ line_feed)))
+answer_text call (Member name kind size bytes) = codes "0" ++ (name_text name ++ (value_text kind size ++ (data_text bytes ++ line_feed)))
+answer_text call (Info subkeys longest_key values longest_value largest security time) =
+    codes "0" ++ (info_text subkeys longest_key values longest_value largest security time ++ line_feed)
+
+-- the text of a call's outcome
+abbrev pub outcome_text : Call → Outcome → List ℕ
+outcome_text call (Changed reply) = changed_text reply
+outcome_text call (Answered answer) = answer_text call answer.body

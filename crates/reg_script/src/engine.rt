@@ -195,7 +195,7 @@ impl Script {
     {
         let mut reply = String::new(self.alloc);
         let answer = hive.read(self.session.number, query);
-        write_answered(self.alloc, &mut reply, &answer)?;
+        write_answered(self.alloc, &mut reply, query, &answer)?;
         Ok(reply)
     }
 

@@ -126,9 +126,16 @@ impl<'a> Words<'a> {
             Verb::As => self.as_session(),
             Verb::Hive => self.hive(),
             Verb::Root => self.root(),
+            Verb::Open => self.open(alloc),
+            Verb::Create => self.create(alloc),
             Verb::Set => self.set(alloc),
             Verb::DelValue => self.delete_value(alloc),
+            Verb::DelKey => self.delete_key(alloc),
+            Verb::Close => self.close(),
             Verb::Query => self.query(alloc),
+            Verb::EnumKey => self.enum_key(),
+            Verb::EnumValue => self.enum_value(),
+            Verb::Info => self.info(),
         }
     }
 
@@ -168,6 +175,28 @@ impl<'a> Words<'a> {
         Ok(Line::Call(Call::Change(Change::OpenRoot { mask })))
     }
 
+    /// `open H PATH MASK`.
+    #[tactic(auto, unfolding(crate::specs::Meanings::by_verb))]
+    fn open(&mut self, alloc: Global) -> Result<Line, ParseFault>
+        ensures { Means (by_verb Verb.Open) self.old result self.new }
+    {
+        let handle = self.number(u64::MAX)?;
+        let path = self.name(alloc)?;
+        let mask = self.small_number()?;
+        Ok(Line::Call(Call::Change(Change::OpenKey { handle, path, mask })))
+    }
+
+    /// `create H PATH MASK`.
+    #[tactic(auto, unfolding(crate::specs::Meanings::by_verb))]
+    fn create(&mut self, alloc: Global) -> Result<Line, ParseFault>
+        ensures { Means (by_verb Verb.Create) self.old result self.new }
+    {
+        let handle = self.number(u64::MAX)?;
+        let path = self.name(alloc)?;
+        let mask = self.small_number()?;
+        Ok(Line::Call(Call::Change(Change::CreateKey { handle, path, mask })))
+    }
+
     /// `set H NAME KIND DATA`.
     #[tactic(auto, unfolding(crate::specs::Meanings::by_verb))]
     fn set(&mut self, alloc: Global) -> Result<Line, ParseFault>
@@ -195,6 +224,25 @@ impl<'a> Words<'a> {
         Ok(Line::Call(Call::Change(Change::DeleteValue { handle, name })))
     }
 
+    /// `delkey H PATH`.
+    #[tactic(auto, unfolding(crate::specs::Meanings::by_verb))]
+    fn delete_key(&mut self, alloc: Global) -> Result<Line, ParseFault>
+        ensures { Means (by_verb Verb.DelKey) self.old result self.new }
+    {
+        let handle = self.number(u64::MAX)?;
+        let path = self.name(alloc)?;
+        Ok(Line::Call(Call::Change(Change::DeleteKey { handle, path })))
+    }
+
+    /// `close H`.
+    #[tactic(auto, unfolding(crate::specs::Meanings::by_verb))]
+    fn close(&mut self) -> Result<Line, ParseFault>
+        ensures { Means (by_verb Verb.Close) self.old result self.new }
+    {
+        let handle = self.number(u64::MAX)?;
+        Ok(Line::Call(Call::Change(Change::Close { handle })))
+    }
+
     /// `query H NAME ROOM`, with `-` for no room.
     #[tactic(auto, unfolding(crate::specs::Meanings::by_verb))]
     fn query(&mut self, alloc: Global) -> Result<Line, ParseFault>
@@ -204,6 +252,47 @@ impl<'a> Words<'a> {
         let name = self.name(alloc)?;
         let room = self.room()?;
         Ok(Line::Call(Call::Query(Query::QueryValue { handle, name, room })))
+    }
+
+    /// `enumkey H INDEX ROOM`.
+    #[tactic(auto, unfolding(crate::specs::Meanings::by_verb))]
+    fn enum_key(&mut self) -> Result<Line, ParseFault>
+        ensures { Means (by_verb Verb.EnumKey) self.old result self.new }
+    {
+        let handle = self.number(u64::MAX)?;
+        let index = self.small_number()?;
+        let room = self.small_number()?;
+        Ok(Line::Call(Call::Query(Query::EnumKey {
+            handle,
+            index,
+            room,
+        })))
+    }
+
+    /// `enumvalue H INDEX NAMEROOM ROOM`, with `-` for no room.
+    #[tactic(auto, unfolding(crate::specs::Meanings::by_verb))]
+    fn enum_value(&mut self) -> Result<Line, ParseFault>
+        ensures { Means (by_verb Verb.EnumValue) self.old result self.new }
+    {
+        let handle = self.number(u64::MAX)?;
+        let index = self.small_number()?;
+        let name_room = self.small_number()?;
+        let room = self.room()?;
+        Ok(Line::Call(Call::Query(Query::EnumValue {
+            handle,
+            index,
+            name_room,
+            room,
+        })))
+    }
+
+    /// `info H`.
+    #[tactic(auto, unfolding(crate::specs::Meanings::by_verb))]
+    fn info(&mut self) -> Result<Line, ParseFault>
+        ensures { Means (by_verb Verb.Info) self.old result self.new }
+    {
+        let handle = self.number(u64::MAX)?;
+        Ok(Line::Call(Call::Query(Query::QueryInfo { handle })))
     }
 
     /// No word may be left.

@@ -1,40 +1,122 @@
 ghost use Rattle.std.specs.Prelude.{◌≡◌, ◌++◌, string_bytes, OnOk};
-ghost use Rattle.reg_script.specs.Texts.{changed_text, answer_text};
+ghost use Rattle.reg_model.specs.declared.call.Call.TheVariants.{Query as Asks};
+ghost use Rattle.reg_script.specs.Texts.{changed_text, answer_text, short_text, asks_key, data_text, byte_text, escaped as escaped_text, line_feed, is_plain as is_plain_byte};
 
-use reg_model::{Answer, AnswerBody, ChangeReply};
+use reg_model::{Answer, AnswerBody, Bytes, ChangeReply, Query};
 use std::alloc::{AllocError, Global};
 
-/// The line of a reply to a change: the status, and the handle that it opened.
+/// The line of a reply to a change: the status, and the handle and the disposition where it tells them.
 pub fn write_changed(text: &mut String, reply: &ChangeReply) -> Result<(), AllocError>
     ensures { OnOk result (string_bytes text.new ≡ string_bytes text.old ++ changed_text reply.now) }
 {
-    match reply.handle {
-        Some(handle) => writeln!(text, "{} handle {}", reply.status, handle),
-        None => writeln!(text, "{}", reply.status),
+    write!(text, "{}", reply.status)?;
+    if let Some(handle) = reply.handle {
+        write!(text, " handle {handle}")?;
+    }
+    if let Some(disposition) = reply.disposition {
+        write!(text, " disposition {disposition}")?;
+    }
+    text.push_str("\n")
+}
+
+/// Whether a byte of a name stands for itself: 0x21 to 0x7E, but `%`.
+fn is_plain(byte: u8) -> bool
+    ensures { result ≡ is_plain_byte byte }
+{
+    byte.is_ascii_graphic() && byte != b'%'
+}
+
+/// A byte of a name: itself, or `%` and its two digits in upper case.
+fn write_byte(text: &mut String, byte: u8) -> Result<(), AllocError>
+    ensures { OnOk result (string_bytes text.new ≡ string_bytes text.old ++ byte_text byte) }
+{
+    if is_plain(byte) {
+        return text.push(char::from(byte));
+    }
+    write!(text, "%{byte:02X}")
+}
+
+/// A name, with `%` and two digits in the place of each byte that isn't plain.
+fn write_escaped(text: &mut String, name: &[u8]) -> Result<(), AllocError>
+    ensures { OnOk result (string_bytes text.new ≡ string_bytes text.old ++ escaped_text name.now) }
+{
+    for byte in name {
+        write_byte(text, *byte)?;
+    }
+    Ok(())
+}
+
+/// What a room is too short for: a subkey's name has a size alone, a value its type too.
+fn write_short(text: &mut String, query: &Query, kind: u32, size: u32) -> Result<(), AllocError>
+    ensures { OnOk result (string_bytes text.new ≡ string_bytes text.old ++ (short_text (asks_key (Asks query.now)) kind size ++ line_feed)) }
+{
+    match query {
+        Query::EnumKey { .. } => writeln!(text, " size {size}"),
+        Query::QueryValue { .. } | Query::EnumValue { .. } | Query::QueryInfo { .. } => {
+            writeln!(text, " type {kind} size {size}")
+        }
     }
 }
 
-/// The line of an answer: a refusal's status alone, else the value's type, its size, and its bytes if a room was given.
-pub fn write_answered(alloc: Global, text: &mut String, answer: &Answer) -> Result<(), AllocError>
-    ensures { OnOk result (string_bytes text.new ≡ string_bytes text.old ++ answer_text answer.now.body) }
+/// The end of a value's line: its bytes, if a room was given.
+fn write_data(alloc: Global, text: &mut String, bytes: &Option<Bytes>) -> Result<(), AllocError>
+    ensures { OnOk result (string_bytes text.new ≡ string_bytes text.old ++ (data_text bytes.now ++ line_feed)) }
+{
+    match bytes {
+        Some(bytes) => {
+            let digits = hex::encode(alloc, bytes.as_slice())?;
+            writeln!(text, " x{digits}")
+        }
+        None => writeln!(text),
+    }
+}
+
+/// The line of an answer: a refusal's status alone, else the status with what was asked for.
+pub fn write_answered(
+    alloc: Global,
+    text: &mut String,
+    query: &Query,
+    answer: &Answer,
+) -> Result<(), AllocError>
+    ensures { OnOk result (string_bytes text.new ≡ string_bytes text.old ++ answer_text (Asks query.now) answer.now.body) }
 {
     match &answer.body {
         AnswerBody::Refused { status } => writeln!(text, "{status}"),
         AnswerBody::Short { status, kind, size } => {
-            writeln!(text, "{status} type {kind} size {size}")
+            write!(text, "{status}")?;
+            write_short(text, query, *kind, *size)
         }
-        AnswerBody::Value {
+        AnswerBody::Value { kind, size, bytes } => {
+            write!(text, "0 type {kind} size {size}")?;
+            write_data(alloc, text, bytes)
+        }
+        AnswerBody::Key { name, time } => {
+            write!(text, "0 =")?;
+            write_escaped(text, name.as_slice())?;
+            writeln!(text, " time {time}")
+        }
+        AnswerBody::Member {
+            name,
             kind,
             size,
-            bytes: None,
-        } => writeln!(text, "0 type {kind} size {size}"),
-        AnswerBody::Value {
-            kind,
-            size,
-            bytes: Some(bytes),
+            bytes,
         } => {
-            let digits = hex::encode(alloc, bytes.as_slice())?;
-            writeln!(text, "0 type {kind} size {size} x{digits}")
+            write!(text, "0 =")?;
+            write_escaped(text, name.as_slice())?;
+            write!(text, " type {kind} size {size}")?;
+            write_data(alloc, text, bytes)
         }
+        AnswerBody::Info {
+            subkeys,
+            longest_key,
+            values,
+            longest_value,
+            largest,
+            security,
+            time,
+        } => writeln!(
+            text,
+            "0 subkeys {subkeys} longest {longest_key} values {values} longest {longest_value} largest {largest} security {security} time {time}"
+        ),
     }
 }

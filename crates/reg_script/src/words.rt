@@ -4,7 +4,7 @@ ghost use Rattle.std.specs.Prelude.{◌≡◌, ◌<◌, ◌≤◌, ◌∷◌, []
 ghost use Rattle.hex.specs.Hex.{hex_digit_value};
 ghost use Rattle.reg_script.specs.declared.words.ParseFault.TheVariants.{Memory};
 ghost use Rattle.reg_script.specs.Words.{after_mark as after_mark_of, number_of, escaped_byte, unescaped, name_of, data_of};
-ghost use Rattle.reg_script.specs.Meanings.{small_number_of, room_of, verb_of};
+ghost use Rattle.reg_script.specs.Meanings.{small_number_of, room_of, call_verb_of, verb_of};
 
 use crate::line::{Session, Verb};
 use hex::FromHexError;
@@ -36,6 +36,47 @@ impl From<AllocError> for ParseFault {
     }
 }
 
+/// The first word of a call.
+#[tactic(auto, unfolding(crate::specs::Meanings::call_verb_of))]
+fn call_verb(word: &[u8]) -> Result<Verb, ParseFault>
+    ensures { result ≡ ok_or (call_verb_of word.now) ParseFault.Form }
+{
+    if word == b"root".as_slice() {
+        return Ok(Verb::Root);
+    }
+    if word == b"open".as_slice() {
+        return Ok(Verb::Open);
+    }
+    if word == b"create".as_slice() {
+        return Ok(Verb::Create);
+    }
+    if word == b"set".as_slice() {
+        return Ok(Verb::Set);
+    }
+    if word == b"delvalue".as_slice() {
+        return Ok(Verb::DelValue);
+    }
+    if word == b"delkey".as_slice() {
+        return Ok(Verb::DelKey);
+    }
+    if word == b"close".as_slice() {
+        return Ok(Verb::Close);
+    }
+    if word == b"query".as_slice() {
+        return Ok(Verb::Query);
+    }
+    if word == b"enumkey".as_slice() {
+        return Ok(Verb::EnumKey);
+    }
+    if word == b"enumvalue".as_slice() {
+        return Ok(Verb::EnumValue);
+    }
+    if word == b"info".as_slice() {
+        return Ok(Verb::Info);
+    }
+    Err(ParseFault::Form)
+}
+
 /// The first word of a setting or a call.
 #[tactic(auto, unfolding(crate::specs::Meanings::verb_of))]
 pub fn verb(word: &[u8]) -> Result<Verb, ParseFault>
@@ -50,19 +91,7 @@ pub fn verb(word: &[u8]) -> Result<Verb, ParseFault>
     if word == b"hive".as_slice() {
         return Ok(Verb::Hive);
     }
-    if word == b"root".as_slice() {
-        return Ok(Verb::Root);
-    }
-    if word == b"set".as_slice() {
-        return Ok(Verb::Set);
-    }
-    if word == b"delvalue".as_slice() {
-        return Ok(Verb::DelValue);
-    }
-    if word == b"query".as_slice() {
-        return Ok(Verb::Query);
-    }
-    Err(ParseFault::Form)
+    call_verb(word)
 }
 
 /// Decimal digits, leading zeros allowed, of a number up to a limit.
