@@ -106,6 +106,7 @@ fn ask_as(
             let digits = hex::encode(alloc, bytes.as_slice())?;
             format!(in alloc; "{at}: 0 {kind} {size} {digits}")?
         }
+        _ => format!(in alloc; "{at}: no answer to this question")?,
     };
     Ok(text)
 }
