@@ -1,7 +1,6 @@
 -- A hive's tables are what its journal says, and stay so after one accepted change more.
-use Rattle.std.proofs.Common.{◌≡◌, ℕ, ◌+◌, ◌<◌, ◌≤◌, Bool, true, false, not, nat_lt, nat_le, ◌||◌, eqb, cond, is_some, List, [], ◌∷◌, ◌++◌, map, length, Option, Some, None, refl, sym, ap, ◌∙◌, subst, arith, length-append, true≢false}
-use Rattle.std.specs.Prelude.{All, IsSome}
-use Rattle.std.specs.FinMap.{get}
+use Rattle.std.proofs.Common.{◌≡◌, ℕ, ◌+◌, ◌<◌, ◌≤◌, Bool, true, false, not, nat_le, eqb, cond, is_some, List, [], ◌∷◌, ◌++◌, length, Option, Some, None, refl, sym, ap, ◌∙◌, subst, arith, length-append, true≢false}
+use Rattle.std.specs.Prelude.{All}
 use Rattle.std.proofs.lemmas.List.{length-map}
 use Rattle.std.proofs.lemmas.Bool.{false≢true}
 use Rattle.std.proofs.lemmas.Bool.Decides.{nat_tests}
@@ -17,8 +16,7 @@ use Rattle.reg_model.specs.declared.call.Change.{Change}
 use Rattle.reg_model.specs.declared.call.Change.TheVariants.{OpenRoot, OpenKey, CreateKey, SetValue, DeleteValue, DeleteKey, Close}
 use Rattle.reg_model.proofs.OneMore.{replay-push, legal-push}
 use Rattle.reg_model.proofs.Journals.{is_standing, handles-below}
-use Rattle.reg_model.proofs.Accepted.{both_false, RootMet, root-met, OpenMet, open-met, CreateMet, create-met, SetMet, set-met, DropMet, drop-met, DeleteMet, delete-met, close-met}
-use Rattle.reg_tree.specs.Keys.{Keys}
+use Rattle.reg_model.proofs.Accepted.{both_false, root-met, open-met, create-met, set-met, drop-met, delete-met, close-met}
 use Rattle.reg_calls.specs.declared.store.Store.{Store}
 use Rattle.reg_calls.specs.Stores.{at, world_of, IsReady, IsDone, is_closing}
 use Rattle.reg_calls.specs.Views.{IsKept, View, state}

@@ -1,4 +1,4 @@
-use Rattle.std.proofs.Common.{sym, subst, length}
+use Rattle.std.proofs.Common.{sym, subst}
 use Rattle.reg_calls.specs.Stores.{IsReady}
 use Rattle.reg_calls.proofs.Keeping.{ready-kept}
 use Rattle.reg_calls.proofs.hive_core.Core.apply.Goals as goal
