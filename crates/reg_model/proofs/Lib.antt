@@ -5,3 +5,4 @@ pub mod Journals
 pub mod Answering
 pub mod RowsReplies
 pub mod RowsRefusals
+pub mod RowsKeys

@@ -13,28 +13,28 @@ use Rattle.reg_model.specs.declared.answer.AnswerBody.TheVariants.{Short, Value}
 use Rattle.reg_model.proofs.RowsReplies.{root_put}
 
 -- a root with one value, the default one: 3 bytes of type 3
-abbrev root : Rec
+abbrev pub root : Rec
 root = record { name = 82 ∷ 79 ∷ 79 ∷ 84 ∷ []; marks = 8; class = []; descriptor = replicate 20 0; time = 0; values = record { name = []; kind = 3; bytes = 7 ∷ 8 ∷ 9 ∷ [] } ∷ [] }
 
 -- and one without
 abbrev bare : Rec
 bare = record { name = 82 ∷ 79 ∷ 79 ∷ 84 ∷ []; marks = 8; class = []; descriptor = replicate 20 0; time = 0; values = [] }
 
-abbrev handle : ℕ → ℕ → ℕ → Place → Handle
+abbrev pub handle : ℕ → ℕ → ℕ → Place → Handle
 handle number session mask place = record { number = number; session = session; mask = mask; place = place }
 
 -- session 0 has handle 0 with all rights, 1 on a deleted key, 2 that may only query, 3 that may only set; session 1 has 4
-abbrev handles : List Handle
+abbrev pub handles : List Handle
 handles = handle 0 0 983103 (At []) ∷ handle 1 0 983103 Deleted ∷ handle 2 0 1 (At []) ∷ handle 3 0 2 (At []) ∷ handle 4 1 983103 (At []) ∷ []
 
-abbrev state : ℕ → List Handle → Rec → State
+abbrev pub state : ℕ → List Handle → Rec → State
 state count hs r = record { count = count; world = record { tree = insert empty [] r; handles = hs } }
 
-abbrev few : State
+abbrev pub few : State
 few = state 5 handles root
 
 -- the journal has room for no entry more: 16,777,211 and the closings of 5 handles
-abbrev full : State
+abbrev pub full : State
 full = state 16777211 handles root
 
 abbrev put : ℕ → Change
