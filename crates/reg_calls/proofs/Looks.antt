@@ -1,10 +1,10 @@
 -- What a look-up by a handle finds.
-use Rattle.std.proofs.Common.{◌≡◌, ◌≤◌, ℕ, Bool, true, false, List, [], ◌++◌, map, length, Option, Some, None, refl, sym, ap, ◌∙◌, subst, true≢false, is_some}
+use Rattle.std.proofs.Common.{◌≡◌, ℕ, List, ◌++◌, map, Option, Some, None, refl, sym, ap, ◌∙◌, subst, true≢false, is_some}
 use Rattle.std.specs.Borrow.{Bor}
 use Rattle.std.proofs.lemmas.List.{map-append}
 use Rattle.std.specs.Prelude.{Result, Ok, Err, IfOk, IfSome}
 use Rattle.std.specs.FinMap.{get}
-use Rattle.reg_names.specs.Names.{folded, path_of, is_path}
+use Rattle.reg_names.specs.Names.{folded, path_of}
 use Rattle.reg_names.proofs.Folding.{names-again}
 use Rattle.reg_heap.specs.Paths.{Path, Tree}
 use Rattle.reg_heap.specs.Edits.{folded_path}
@@ -14,10 +14,8 @@ use Rattle.reg_model.proofs.Standing.{Has, target-there}
 use Rattle.reg_handles.specs.Tables.{IsFoldedPath}
 use Rattle.reg_handles.specs.Founds.{place_shown}
 use Rattle.reg_handles.specs.declared.handles.Found.{Found}
-use Rattle.reg_tree.specs.Keys.{Keys, IsAt, IsThere}
 use Rattle.reg_calls.specs.declared.store.Store.{Store}
-use Rattle.reg_calls.specs.declared.store.KeyHandle.{KeyHandle}
-use Rattle.reg_calls.specs.Stores.{IsTarget, IsOpened, AreStanding}
+use Rattle.reg_calls.specs.Stores.{IsTarget, AreStanding}
 
 abbrev handle_of : ℕ → ℕ → Found → Handle
 handle_of session number f = record { number = number; session = session; mask = f.mask; place = place_shown f.path }

@@ -1,23 +1,23 @@
 -- What the changes of accepted calls make of a store.
-use Rattle.std.proofs.Common.{◌≡◌, ◌≢◌, ◌⊎◌, ◌↔◌, inl, inr, ℕ, ◌+◌, ◌<◌, ◌≤◌, Bool, true, false, not, ◌||◌, ◌&&◌, nat_lt, nat_le, eqb, cond, is_some, List, [], ◌∷◌, ◌++◌, map, length, Option, Some, None, refl, sym, ap, ◌∙◌, subst, arith, true≢false, append_assoc, length-append}
-use Rattle.std.specs.Prelude.{All, Result, Ok, Err, bit_and, ◌==◌}
+use Rattle.std.proofs.Common.{◌≡◌, ◌≢◌, ◌⊎◌, ◌↔◌, inl, inr, ℕ, ◌+◌, ◌<◌, ◌≤◌, Bool, true, false, not, ◌||◌, ◌&&◌, nat_lt, nat_le, cond, is_some, List, [], ◌∷◌, ◌++◌, map, length, Option, Some, None, refl, sym, ap, ◌∙◌, subst, arith, true≢false, append_assoc, length-append}
+use Rattle.std.specs.Prelude.{All, Result, Err, bit_and, ◌==◌}
 use Rattle.std.specs.List.{AllByRecursion}
 use Rattle.std.specs.FinMap.{get}
 use Rattle.std.proofs.lemmas.List.{append-nil, length-map}
 use Rattle.std.proofs.lemmas.List.Elements.{recursion_from_All}
 use Rattle.std.proofs.lemmas.Bool.{eq-eqb, ne_eqb, false≢true}
 use Rattle.std.proofs.lemmas.Bool.Decides.{nat_tests}
-use Rattle.reg_names.specs.Names.{folded, path_of, is_path, is_value_name, are_key_names}
+use Rattle.reg_names.specs.Names.{folded, path_of, is_path, is_value_name}
 use Rattle.reg_heap.specs.Paths.{Path, Tree, Member, children_of}
 use Rattle.reg_heap.specs.Members.{value_named}
-use Rattle.reg_heap.specs.Edits.{edited, with_value, without_value, values_at, folded_path, with_keys, missing, has_child, child_path, are_too_many, may_not_go, marks_of, last_there, without_key, IsKept}
-use Rattle.reg_model.specs.Worlds.{Handle, At, look, owned, path_at, path_from, closed, turned, same_path, after}
-use Rattle.reg_model.specs.Causes.{State, change_cause, by_handle, handles_of, no_handle_room, no_key_room, no_value_room, lacks_value, is_bad_open, is_bad_target, is_bad_value, is_full}
+use Rattle.reg_heap.specs.Edits.{edited, with_value, without_value, values_at, folded_path, with_keys, missing, has_child, child_path, are_too_many, may_not_go, marks_of, without_key, IsKept}
+use Rattle.reg_model.specs.Worlds.{Handle, At, look, path_from, closed, turned, same_path, after}
+use Rattle.reg_model.specs.Causes.{State, change_cause, handles_of, no_handle_room, no_value_room, is_full}
 use Rattle.reg_model.specs.Replies.{reply_to, disposition_of}
 use Rattle.reg_model.specs.declared.reply.ChangeReply.{ChangeReply}
 use Rattle.reg_model.specs.declared.call.Change.{Change}
 use Rattle.reg_model.specs.declared.call.Change.TheVariants.{OpenRoot, OpenKey, CreateKey, SetValue, DeleteValue, DeleteKey, Close}
-use Rattle.reg_model.proofs.Accepted.{Target, both_false, not_false, RootMet, root-met, OpenMet, open-met, CreateMet, create-met, SetMet, set-met, DropMet, drop-met, DeleteMet, delete-met, close-met}
+use Rattle.reg_model.proofs.Accepted.{Target, both_false, not_false, root-met, OpenMet, open-met, CreateMet, create-met, SetMet, set-met, DropMet, drop-met, DeleteMet, delete-met, close-met}
 use Rattle.reg_model.proofs.Standing.{Has, target-below}
 use Rattle.reg_model.proofs.Journals.{numbered-push}
 use Rattle.reg_handles.specs.Tables.{Table}
@@ -27,7 +27,7 @@ use Rattle.reg_tree.specs.declared.fault.TreeFault.TheVariants.{Limit, Full, Mem
 use Rattle.reg_calls.specs.declared.store.Store.{Store}
 use Rattle.reg_calls.specs.declared.lack.Lack.{Lack}
 use Rattle.reg_calls.specs.declared.lack.Lack.TheVariants.{Space, Memory as Short}
-use Rattle.reg_calls.specs.Stores.{at, world_of, IsReady, IsTarget, IsDone, IsMade, LacksSpace, is_closing}
+use Rattle.reg_calls.specs.Stores.{at, IsReady, IsTarget, IsDone, IsMade, LacksSpace, is_closing}
 use Rattle.reg_calls.proofs.Looks.{by_handle-at, target-at, target-from, target-has}
 use Rattle.reg_calls.proofs.Refusals.{Refuses}
 

@@ -1,7 +1,7 @@
 -- The keys and the open handles on them, as calls find and leave them.
-use Rattle.std.specs.Prelude.{◌≡◌, ◌⊎◌, ℕ, ◌+◌, ◌<◌, ◌≤◌, Bool, true, false, List, length, Option, Some, None, All, Result, Ok, Err}
+use Rattle.std.specs.Prelude.{◌≡◌, ℕ, ◌+◌, ◌<◌, ◌≤◌, Bool, true, false, length, Option, Some, All, Result, Ok, Err}
 use Rattle.reg_heap.specs.Paths.{Path}
-use Rattle.reg_model.specs.Worlds.{World, Handle, Place, At, IsStanding, look, after}
+use Rattle.reg_model.specs.Worlds.{World, Handle, At, IsStanding, look, after}
 use Rattle.reg_model.specs.Causes.{State, by_handle}
 use Rattle.reg_model.specs.Replies.{reply_to}
 use Rattle.reg_model.specs.Calls.{entry_due}

@@ -1,5 +1,5 @@
 //! Why a change would be refused: the first cause in the order of the rules.
-ghost use Rattle.std.specs.Prelude.{◌≡◌, ◌<◌, ◌≤◌, ◌+◌, ◌++◌, true, Some, None, length, not, is_some};
+ghost use Rattle.std.specs.Prelude.{ℕ, ◌≡◌, ◌<◌, ◌≤◌, ◌+◌, ◌++◌, true, Some, None, length, not, is_some};
 ghost use Rattle.std.specs.FinMap.{get};
 ghost use Rattle.reg_names.specs.Names.{is_path, path_of};
 ghost use Rattle.reg_heap.specs.Paths.{Path};
@@ -158,13 +158,11 @@ impl Store {
         session: u8,
         handle: u64,
         name: &[u8],
-        kind: u32,
         bytes: &[u8],
     ) -> Option<u32>
         requires { IsReady entries self.now }
-        ensures { result ≡ change_cause (at entries self.now) session (SetValue handle name.now kind bytes.now) 0 }
+        ensures { (kind : ℕ) → result ≡ change_cause (at entries self.now) session (SetValue handle name.now kind bytes.now) 0 }
     {
-        let _ = kind;
         let key = match self.key_of(session, handle) {
             Ok(key) => key,
             Err(status) => return Some(status),
@@ -233,10 +231,9 @@ impl Store {
         None
     }
 
-    fn close_cause(&self, entries: usize, session: u8, handle: u64) -> Option<u32>
-        ensures { result ≡ change_cause (at entries self.now) session (Close handle) 0 }
+    fn close_cause(&self, session: u8, handle: u64) -> Option<u32>
+        ensures { (entries : ℕ) → result ≡ change_cause (at entries self.now) session (Close handle) 0 }
     {
-        let _ = entries;
         match self.handles.look(session, handle) {
             Some(_) => None,
             None => Some(INVALID_HANDLE),
@@ -260,23 +257,16 @@ impl Store {
             Change::SetValue {
                 handle,
                 name,
-                kind,
                 bytes,
-            } => self.set_value_cause(
-                entries,
-                session,
-                *handle,
-                name.as_slice(),
-                *kind,
-                bytes.as_slice(),
-            ),
+                ..
+            } => self.set_value_cause(entries, session, *handle, name.as_slice(), bytes.as_slice()),
             Change::DeleteValue { handle, name } => {
                 self.delete_value_cause(entries, session, *handle, name.as_slice())
             }
             Change::DeleteKey { handle, path } => {
                 self.delete_key_cause(entries, session, *handle, path.as_slice())
             }
-            Change::Close { handle } => self.close_cause(entries, session, *handle),
+            Change::Close { handle } => self.close_cause(session, *handle),
         }
     }
 }

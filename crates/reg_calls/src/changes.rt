@@ -1,5 +1,5 @@
 //! The changes of the tree and the handles that accepted calls make.
-ghost use Rattle.std.specs.Prelude.{◌≡◌, ◌⊎◌, ◌<◌, Some, None, Ok, if◌then◌else◌};
+ghost use Rattle.std.specs.Prelude.{ℕ, ◌≡◌, ◌⊎◌, ◌<◌, Some, None, Ok, if◌then◌else◌};
 ghost use Rattle.reg_model.specs.Causes.{change_cause};
 ghost use Rattle.reg_calls.specs.Stores.{at, IsReady, IsMade};
 
@@ -48,10 +48,8 @@ fn lack_of(fault: TreeFault) -> Lack
     match fault {
         TreeFault::Full => Lack::Space,
         TreeFault::Memory => Lack::Memory,
-        TreeFault::Limit
-        | TreeFault::NotFound
-        | TreeFault::HasChildren
-        | TreeFault::NoDelete => unreachable!(),
+        TreeFault::Limit | TreeFault::NotFound | TreeFault::HasChildren | TreeFault::NoDelete =>
+            unreachable!(),
     }
 }
 
@@ -62,16 +60,14 @@ impl Store {
         &mut self,
         alloc: Global,
         session: u8,
-        moment: u64,
         number: u64,
         mask: u32,
     ) -> Result<ChangeReply, Lack>
         requires session { session < 64 }
         requires ready { IsReady number self.old }
         requires cause { change_cause (at number self.old) session (OpenRoot mask) 0 ≡ None }
-        ensures { IsMade self.old self.new session moment number (OpenRoot mask) result }
+        ensures { (moment : ℕ) → IsMade self.old self.new session moment number (OpenRoot mask) result }
     {
-        let _ = moment;
         match self.handles.add(session, number, mask, Vec::new(alloc)) {
             Ok(()) => Ok(opened(number, None)),
             Err(_) => Err(Lack::Memory),
@@ -82,7 +78,6 @@ impl Store {
         &mut self,
         alloc: Global,
         session: u8,
-        moment: u64,
         number: u64,
         handle: u64,
         path: &[u8],
@@ -91,9 +86,8 @@ impl Store {
         requires session { session < 64 }
         requires ready { IsReady number self.old }
         requires cause { change_cause (at number self.old) session (OpenKey handle path.now mask) 0 ≡ None }
-        ensures { IsMade self.old self.new session moment number (OpenKey handle path.now mask) result }
+        ensures { (moment : ℕ) → IsMade self.old self.new session moment number (OpenKey handle path.now mask) result }
     {
-        let _ = moment;
         // every key's path is short enough for the table
         let _ = self.tree.root();
         let Ok(text) = self.path_to(alloc, session, handle, path) else {
@@ -120,6 +114,7 @@ impl Store {
         requires cause { change_cause (at number self.old) session (CreateKey handle path.now mask) 0 ≡ None }
         ensures { IsMade self.old self.new session moment number (CreateKey handle path.now mask) result }
     {
+        // every key's path is short enough for the table
         let _ = self.tree.root();
         let Ok(text) = self.path_to(alloc, session, handle, path) else {
             return Err(Lack::Memory);
@@ -220,12 +215,11 @@ impl Store {
         Ok(accepted(number))
     }
 
-    fn close(&mut self, session: u8, moment: u64, number: u64, handle: u64) -> ChangeReply
+    fn close(&mut self, session: u8, number: u64, handle: u64) -> ChangeReply
         requires ready { IsReady number self.old }
         requires cause { change_cause (at number self.old) session (Close handle) 0 ≡ None }
-        ensures { IsMade self.old self.new session moment number (Close handle) (Ok result) }
+        ensures { (moment : ℕ) → IsMade self.old self.new session moment number (Close handle) (Ok result) }
     {
-        let _ = moment;
         self.handles.close(session, handle);
         accepted(number)
     }
@@ -245,11 +239,10 @@ impl Store {
         ensures { IsMade self.old self.new session moment number change.now result }
     {
         match change {
-            Change::OpenRoot { mask } => self.open_root(alloc, session, moment, number, *mask),
+            Change::OpenRoot { mask } => self.open_root(alloc, session, number, *mask),
             Change::OpenKey { handle, path, mask } => self.open_key(
                 alloc,
                 session,
-                moment,
                 number,
                 *handle,
                 path.as_slice(),
@@ -285,7 +278,7 @@ impl Store {
             Change::DeleteKey { handle, path } => {
                 self.delete_key(alloc, session, moment, number, *handle, path.as_slice())
             }
-            Change::Close { handle } => Ok(self.close(session, moment, number, *handle)),
+            Change::Close { handle } => Ok(self.close(session, number, *handle)),
         }
     }
 }

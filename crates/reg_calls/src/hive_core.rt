@@ -1,5 +1,5 @@
 //! A hive without its callbacks.
-ghost use Rattle.std.specs.Prelude.{◌≡◌, ◌<◌, ◌≤◌, [], Some, None, IsSome, length, slice_get, option_copied};
+ghost use Rattle.std.specs.Prelude.{◌≡◌, ◌<◌, ◌≤◌, [], Some, None, IsSome, length, slice_get, option_copied, ◌+◌, false, OnOk, OnErr};
 ghost use Rattle.std.specs.FinMap.{get};
 ghost use Rattle.reg_model.specs.Causes.{change_cause};
 ghost use Rattle.reg_model.specs.Replies.{refusal};
@@ -14,7 +14,7 @@ use reg_arena::Arena;
 use reg_handles::Handles;
 use reg_model::{Answer, Change, ChangeReply, Entry, Query};
 use reg_tree::Tree;
-use std::alloc::Global;
+use std::alloc::{AllocError, Global};
 use std::marker::Model;
 use std::snapshot::Snapshot;
 
@@ -63,6 +63,20 @@ fn closes(change: &Change) -> bool
         | Change::DeleteValue { .. }
         | Change::DeleteKey { .. } => false,
     }
+}
+
+/// Keeps room in the journal for a change's entry, and for the closing of each handle that is open then.
+fn keep_room(journal: &mut Journal, handles: usize, change: &Change) -> Result<(), AllocError>
+    requires { handles ≤ 16777216 }
+    ensures entries { journal.new.entries ≡ journal.old.entries }
+    ensures room { journal.old.room ≤ journal.new.room }
+    ensures ok { OnOk result (is_closing change.now ≡ false → handles + 2 ≤ journal.new.room) }
+    ensures err { OnErr result (is_closing change.now ≡ false) }
+{
+    if closes(change) {
+        return Ok(());
+    }
+    journal.reserve(handles + 2)
 }
 
 impl Core {
@@ -122,9 +136,10 @@ impl Core {
         requires cause { change_cause (state self.old) session change 0 ≡ None }
         ensures { IsApplied None self.old self.new session moment change result }
     {
-        // room for this entry, and for the closing of each handle that is open then
-        if !closes(&change) && self.journal.reserve(self.store.handles.len() + 2).is_err() {
-            return refuse(NOT_ENOUGH_MEMORY);
+        let handles = self.store.handles.len();
+        match keep_room(&mut self.journal, handles, &change) {
+            Ok(()) => {}
+            Err(_) => return refuse(NOT_ENOUGH_MEMORY),
         }
         let number = self.journal.len() as u64;
         match self

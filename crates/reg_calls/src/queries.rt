@@ -1,5 +1,5 @@
 //! Questions and their answers.
-ghost use Rattle.std.specs.Prelude.{◌≡◌, ◌<◌, ◌≤◌, ℕ, List, Some, None, length, map, slice_get};
+ghost use Rattle.std.specs.Prelude.{◌≡◌, ◌<◌, ◌≤◌, ℕ, List, Some, None, length, map, slice_get, nat_lt, if◌then◌else◌};
 ghost use Rattle.std.specs.FinMap.{get};
 ghost use Rattle.reg_heap.specs.Paths.{Path, Member, children_of};
 ghost use Rattle.reg_heap.specs.Edits.{values_at};
@@ -137,6 +137,13 @@ fn member_told(
     }
 }
 
+/// The larger of two numbers.
+fn larger(a: u32, b: u32) -> u32
+    ensures { result ≡ (if nat_lt a b then b else a) }
+{
+    if a < b { b } else { a }
+}
+
 /// The length of the longest name among the subkeys of a key; 0 of none.
 fn longest_subkey(tree: &Tree, node: Node) -> u32
     requires { IsThere tree.now node }
@@ -147,10 +154,7 @@ fn longest_subkey(tree: &Tree, node: Node) -> u32
         let Some(child) = tree.subkey(node, index) else {
             unreachable!()
         };
-        let size = tree.name(child).len() as u32;
-        if longest < size {
-            longest = size;
-        }
+        longest = larger(longest, tree.name(child).len() as u32);
     }
     longest
 }
@@ -165,10 +169,7 @@ fn longest_value_name(tree: &Tree, node: Node) -> u32
         let Some(value) = tree.value(node, index) else {
             unreachable!()
         };
-        let size = value.name.len() as u32;
-        if longest < size {
-            longest = size;
-        }
+        longest = larger(longest, value.name.len() as u32);
     }
     longest
 }
@@ -183,9 +184,7 @@ fn largest_value(tree: &Tree, node: Node) -> u32
         let Some(value) = tree.value(node, index) else {
             unreachable!()
         };
-        if largest < value.size {
-            largest = value.size;
-        }
+        largest = larger(largest, value.size);
     }
     largest
 }

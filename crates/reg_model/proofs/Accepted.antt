@@ -5,7 +5,7 @@ use Rattle.reg_heap.specs.Paths.{Path}
 use Rattle.reg_heap.specs.Edits.{values_at, may_not_go}
 use Rattle.reg_names.specs.Names.{is_value_name}
 use Rattle.reg_model.specs.Worlds.{Handle, Place, At, Deleted, look, path_at, path_from}
-use Rattle.reg_model.specs.Causes.{State, change_cause, early_cause, late_cause, asked_before, refuse, by_handle, has, is_mask, is_full, is_bad_open, is_bad_target, is_bad_value, no_handle_room, no_key_room, no_value_room, lacks_key, lacks_value, ◌or◌}
+use Rattle.reg_model.specs.Causes.{State, change_cause, early_cause, late_cause, asked_before, refuse, by_handle, has, is_mask, is_full, is_bad_open, is_bad_target, is_bad_value, no_handle_room, no_key_room, no_value_room, lacks_value, ◌or◌}
 use Rattle.reg_model.specs.declared.call.Change.{Change}
 use Rattle.reg_model.specs.declared.call.Change.TheVariants.{OpenRoot, OpenKey, CreateKey, SetValue, DeleteValue, DeleteKey, Close}
 

@@ -1,6 +1,6 @@
 -- One call of a change: a status other than 0 is a refusal and changes nothing; status 0 is one entry more.
-use Rattle.std.proofs.Common.{◌≡◌, ◌≢◌, ℕ, Bool, true, false, not, eqb, List, [], ◌∷◌, ◌++◌, Option, Some, None, refl, subst, arith, length-append}
-use Rattle.std.proofs.lemmas.Bool.{eqb-true, eqb-false}
+use Rattle.std.proofs.Common.{◌≡◌, ◌≢◌, ℕ, Bool, true, false, not, eqb, List, [], ◌∷◌, ◌++◌, Option, Some, None, refl, arith, length-append}
+use Rattle.std.proofs.lemmas.Bool.{eqb-false}
 use Rattle.reg_heap.specs.Paths.{Tree}
 use Rattle.reg_model.specs.Worlds.{Handle, Place, At, Deleted}
 use Rattle.reg_model.specs.Causes.{State, change_cause, early_cause, late_cause, asked, refuse, by_handle, asked_before, ◌or◌}

@@ -1,21 +1,16 @@
 -- Legal journals: their fronts, their entries, and what holds of their replay.
-use Rattle.std.proofs.Common.{◌≡◌, ℕ, ◌+◌, ◌<◌, Bool, true, false, cond, not, eqb, ap, List, [], ◌∷◌, ◌++◌, length, map, Option, Some, None, refl, sym, subst, arith, append_assoc, length-append, is_some}
-use Rattle.std.specs.Prelude.{IsSome}
+use Rattle.std.proofs.Common.{◌≡◌, ℕ, ◌+◌, ◌<◌, Bool, true, false, cond, not, eqb, ap, List, [], ◌∷◌, ◌++◌, length, map, Some, refl, sym, subst, arith, append_assoc, length-append}
 use Rattle.std.specs.List.{AllByRecursion, All}
 use Rattle.std.specs.List.Sorted.{IsStrictlyIncreasing, IsStrictlySortedBy}
-use Rattle.std.specs.Ordering.{nat_cmp, eq_by_cmp}
+use Rattle.std.specs.Ordering.{nat_cmp}
 use Rattle.std.specs.declared.cmp.Ordering.TheVariants.{Less as Lesser}
-use Rattle.std.specs.Cmp.{IsTotalOrder}
-use Rattle.std.specs.Cmp.Lexicographic.{lists_total, nat_list_cmp_total}
-use Rattle.std.specs.FinMap.{get, insert, get-insert}
 use Rattle.std.proofs.lemmas.Bool.{eq-eqb, ne_eqb}
 use Rattle.std.proofs.lemmas.Bool.Decides.{nat_tests}
 use Rattle.std.proofs.lemmas.List.{append-nil}
 use Rattle.std.proofs.lemmas.List.Elements.{All-from_recursion}
 use Rattle.std.proofs.lemmas.Map.Keys.{IsStrictlyIncreasing-from_sorted}
-use Rattle.reg_heap.specs.Paths.{Path, Tree, Rec, path_cmp}
-use Rattle.reg_heap.specs.Edits.{edited, with_value, without_value}
-use Rattle.reg_model.specs.Worlds.{World, Handle, Place, StandsIn, IsStanding, after, opened, closed, turned, numbered, look, path_at, path_from}
+use Rattle.reg_heap.specs.Paths.{Path, Tree}
+use Rattle.reg_model.specs.Worlds.{World, Handle, StandsIn, IsStanding, after, opened, closed, turned, numbered, look, path_from}
 use Rattle.reg_model.specs.Replies.{reply_to}
 use Rattle.reg_model.specs.Histories.{replay, state_of, IsFit, IsLegalAfter, IsLegal}
 use Rattle.reg_model.specs.declared.call.Change.{Change}

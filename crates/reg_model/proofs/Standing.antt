@@ -1,18 +1,18 @@
 -- The keys that handles lead to stand in the tree.
-use Rattle.std.proofs.Common.{◌≡◌, ℕ, Bool, true, false, cond, not, eqb, List, [], ◌∷◌, ◌++◌, map, length, Option, Some, None, refl, sym, subst, arith, append_assoc, is_some}
-use Rattle.std.specs.Prelude.{IsSome, filter}
+use Rattle.std.proofs.Common.{◌≡◌, ℕ, Bool, true, false, cond, not, eqb, List, [], ◌∷◌, ◌++◌, map, Option, Some, None, refl, sym, subst, append_assoc, is_some}
+use Rattle.std.specs.Prelude.{IsSome}
 use Rattle.std.specs.List.{AllByRecursion, slice_split, onto_first}
 use Rattle.std.specs.Ordering.{eq_by_cmp}
 use Rattle.std.specs.Cmp.{IsTotalOrder}
 use Rattle.std.specs.Cmp.Lexicographic.{lists_total, nat_list_cmp_total}
-use Rattle.std.specs.FinMap.{get, insert, remove, get-insert, get-remove}
+use Rattle.std.specs.FinMap.{get, insert, get-insert, get-remove}
 use Rattle.std.proofs.lemmas.List.{append-nil}
 use Rattle.std.proofs.lemmas.Cmp.{eq_by_cmp_equiv}
 use Rattle.std.proofs.lemmas.List.Elements.{recursion_from_All}
 use Rattle.reg_names.specs.Names.{folded, path_of, is_path, is_backslash}
 use Rattle.reg_heap.specs.Paths.{Path, Tree, Rec, path_cmp}
 use Rattle.reg_heap.specs.Edits.{edited, at_time, above, with_key, with_keys, without_key, has_child, child_path, made_key, descriptor_of, folded_path}
-use Rattle.reg_model.specs.Worlds.{World, Handle, Place, At, Deleted, StandsIn, IsStanding, look, numbered, owned, path_at, path_from, closed, turned, place_without, same_path, opened, after}
+use Rattle.reg_model.specs.Worlds.{Handle, Place, At, Deleted, StandsIn, IsStanding, look, numbered, owned, path_at, path_from, closed, turned, place_without, same_path, opened, after}
 use Rattle.reg_model.specs.Causes.{State, is_bad_target}
 use Rattle.reg_model.specs.declared.call.Change.{Change}
 use Rattle.reg_model.specs.declared.call.Change.TheVariants.{OpenRoot, OpenKey, CreateKey, SetValue, DeleteValue, DeleteKey, Close}
@@ -55,7 +55,7 @@ has-with_keys t p (name ∷ names) moment q h =
 same-self : (p : Path) → eq_by_cmp path_cmp p p ≡ true
 same-self p = let o = eq_by_cmp_equiv path_total in o.refl p
 
-has-put : (t : Tree) (p : Path) (r : Rec) → Has (insert t p r) p
+pub has-put : (t : Tree) (p : Path) (r : Rec) → Has (insert t p r) p
 has-put t p r = rw (get-insert path_total t p r p, same-self p) refl
 
 has-child : (b : Bool) (t : Tree) (p : Path) (name : List ℕ) (moment : ℕ) → has_child t p name ≡ b → Has (cond b t (with_key t p name moment)) (child_path p name)

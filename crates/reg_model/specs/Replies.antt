@@ -1,5 +1,5 @@
 -- What accepted calls are told.
-use Rattle.std.specs.Prelude.{ℕ, ◌||◌, ◌≢◌, nat_lt, Bool, true, false, List, [], ◌∷◌, map, length, get_or, slice_get, cond, if◌then◌else◌, Option, Some, None}
+use Rattle.std.specs.Prelude.{ℕ, ◌||◌, nat_lt, Bool, false, List, [], ◌∷◌, map, length, get_or, slice_get, if◌then◌else◌, Option, Some, None}
 use Rattle.std.specs.FinMap.{get}
 use Rattle.reg_heap.specs.Paths.{Path, Tree, Rec, Member, children_of}
 use Rattle.reg_names.specs.Names.{path_of}

@@ -5,5 +5,5 @@ pub close-requires : goal.close-requires
 close-requires c = close-has c.args.number c.args.self.now c.args.session c.requires.ready c.args.handle c.requires.cause
 
 pub returns : goal.returns
-returns c =
-    close-done c.args.number c.args.self.now c.args.session c.requires.ready c.args.moment c.args.handle c.close.new.self c.close.ensures.handles c.close.ensures.since c.accepted.result c.accepted.ensures
+returns c = λ moment.
+    close-done c.args.number c.args.self.now c.args.session c.requires.ready moment c.args.handle c.close.new.self c.close.ensures.handles c.close.ensures.since c.accepted.result c.accepted.ensures

@@ -1,5 +1,4 @@
-use Rattle.std.proofs.Common.{[], sym, ap, ◌∙◌, subst, refl, ◌≡◌, None}
-use Rattle.std.specs.FinMap.{get}
+use Rattle.std.proofs.Common.{[], sym, subst, refl}
 use Rattle.reg_heap.specs.Paths.{Path}
 use Rattle.reg_tree.specs.Keys.{IsAt}
 use Rattle.reg_calls.proofs.Looks.{lent, lent-path, target-has, not_gone}

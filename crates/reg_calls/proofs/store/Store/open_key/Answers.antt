@@ -15,5 +15,5 @@ add-requires-clause-path c =
     c.in-Ok.ensures.valid (open-short c.args.number c.args.self.now c.args.session c.requires.ready c.args.handle c.args.path.now c.args.mask c.requires.cause c.root.ensures.shallow)
 
 pub returns-in-Ok-add : goal.returns-in-Ok-add
-returns-in-Ok-add c =
-    open-done c.args.number c.args.self.now c.args.session c.requires.ready c.args.handle c.args.path.now c.args.mask c.requires.cause c.args.moment c.add.new.self c.in-Ok.text.items c.in-Ok.ensures.names c.in-Ok-add.ensures.ok c.in-Ok-add.ensures.since c.opened.result c.opened.ensures
+returns-in-Ok-add c = λ moment.
+    open-done c.args.number c.args.self.now c.args.session c.requires.ready c.args.handle c.args.path.now c.args.mask c.requires.cause moment c.add.new.self c.in-Ok.text.items c.in-Ok.ensures.names c.in-Ok-add.ensures.ok c.in-Ok-add.ensures.since c.opened.result c.opened.ensures

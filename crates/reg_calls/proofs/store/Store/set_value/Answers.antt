@@ -17,8 +17,8 @@ pub lack_of-requires : goal.lack_of-requires
 lack_of-requires c =
     let k = c.in-Ok.ensures in
     is_lack c.in-Err-set_value.fault c.in-Err-set_value.ensures.others (λ e.
-      let full = (c.in-Err-set_value.ensures.limit k.target.path k.node).0 (ap (λ f. Err f) e) in
-      set-room c.args.number c.args.self.now c.args.session c.requires.ready c.args.handle c.args.name.now c.args.kind c.args.bytes.now c.requires.cause k.target full.0 full.1)
+    let full = (c.in-Err-set_value.ensures.limit k.target.path k.node).0 (ap (λ f. Err f) e) in
+    set-room c.args.number c.args.self.now c.args.session c.requires.ready c.args.handle c.args.name.now c.args.kind c.args.bytes.now c.requires.cause k.target full.0 full.1)
 
 pub returns-in-Ok-set_value : goal.returns-in-Ok-set_value
 returns-in-Ok-set_value c =

@@ -1,0 +1,5 @@
+use Rattle.reg_calls.proofs.Questions.{made-rooted}
+use Rattle.reg_calls.proofs.hive.Hive.new.Goals as goal
+
+pub new-requires-in-Ok : goal.new-requires-in-Ok
+new-requires-in-Ok c = made-rooted _ _ c.in-Ok.ensures.ok

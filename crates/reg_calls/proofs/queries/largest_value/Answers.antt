@@ -1,0 +1,13 @@
+use Rattle.std.proofs.Common.{length}
+use Rattle.std.proofs.lemmas.Option.{slice_get_within, get_or_from_slice_get}
+use Rattle.reg_heap.specs.Paths.{Member}
+use Rattle.reg_heap.specs.Edits.{values_at}
+use Rattle.reg_calls.proofs.Questions.{largest-step}
+use Rattle.reg_calls.proofs.queries.largest_value.Goals as goal
+
+pub loop-index-preserved : goal.loop-index-preserved
+loop-index-preserved c = λ p at.
+    let members = values_at c.args.tree.now.tree p in
+    let value = c.in-Some.ensures.told p at in
+    let tells = value.2 in
+    largest-step (λ (v : Member). length v.bytes) members c.loop-index.index value.0 value.0 _ _ c.larger-largest.result (slice_get_within members c.loop-index.index value.0 value.1) (get_or_from_slice_get members c.loop-index.index value.0 value.0 value.1) (c.loop-index.invariant p at) tells.size_is c.larger-largest.ensures

@@ -1,0 +1,10 @@
+use Rattle.std.proofs.Common.{◌≡◌, map, take, length}
+use Rattle.reg_heap.specs.Paths.{Path, Member}
+use Rattle.reg_heap.specs.Edits.{values_at}
+use Rattle.reg_model.specs.Replies.{largest_of}
+use Rattle.reg_tree.specs.Keys.{IsAt}
+use Rattle.reg_calls.proofs.queries.longest_value_name.Given as goal
+
+abbrev pub invariant-loop-index : goal.invariant-loop-index
+invariant-loop-index l =
+    (p : Path) → IsAt l.tree p l.node → l.longest ≡ largest_of (map (λ (v : Member). length v.name) (take l.index (values_at l.tree.tree p)))
