@@ -10,6 +10,7 @@ mod keys;
 mod live_cells;
 mod open_hive;
 mod operations;
+mod script;
 mod timing;
 mod values;
 
@@ -27,6 +28,8 @@ enum Subject {
     Handles,
     /// Making keys and finding them by their paths.
     Keys,
+    /// A script of many lines.
+    Script,
     /// Setting values and asking for them.
     Values,
 }
@@ -37,6 +40,7 @@ impl Subject {
             "arena" => Some(Subject::Arena),
             "handles" => Some(Subject::Handles),
             "keys" => Some(Subject::Keys),
+            "script" => Some(Subject::Script),
             "values" => Some(Subject::Values),
             _ => None,
         }
@@ -48,7 +52,8 @@ fn count_all(rt: &impl Print, alloc: Global) -> Result<()> {
     arena::count(rt, alloc)?;
     keys::count(rt, alloc)?;
     values::count(rt, alloc)?;
-    handles::count(rt, alloc)
+    handles::count(rt, alloc)?;
+    script::count(rt, alloc)
 }
 
 /// Prints how long the calls of a subject take.
@@ -57,6 +62,7 @@ fn measure(rt: &(impl Print + Clock), alloc: Global, subject: Subject) -> Result
         Subject::Arena => arena::measure(rt, alloc),
         Subject::Handles => handles::measure(rt, alloc),
         Subject::Keys => keys::measure(rt, alloc),
+        Subject::Script => script::measure(rt, alloc),
         Subject::Values => values::measure(rt, alloc),
     }
 }
