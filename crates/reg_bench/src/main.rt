@@ -5,8 +5,12 @@
 #![tactic(auto)]
 
 mod arena;
+mod handles;
 mod keys;
 mod live_cells;
+mod open_hive;
+mod operations;
+mod script;
 mod timing;
 mod values;
 
@@ -20,8 +24,12 @@ use std::rt::Clock;
 enum Subject {
     /// Carving and freeing cells.
     Arena,
+    /// Calls by handles, of which few or many are open.
+    Handles,
     /// Making keys and finding them by their paths.
     Keys,
+    /// A script of many lines.
+    Script,
     /// Setting values and asking for them.
     Values,
 }
@@ -30,7 +38,9 @@ impl Subject {
     fn named(name: &str) -> Option<Subject> {
         match name {
             "arena" => Some(Subject::Arena),
+            "handles" => Some(Subject::Handles),
             "keys" => Some(Subject::Keys),
+            "script" => Some(Subject::Script),
             "values" => Some(Subject::Values),
             _ => None,
         }
@@ -41,14 +51,18 @@ impl Subject {
 fn count_all(rt: &impl Print, alloc: Global) -> Result<()> {
     arena::count(rt, alloc)?;
     keys::count(rt, alloc)?;
-    values::count(rt, alloc)
+    values::count(rt, alloc)?;
+    handles::count(rt, alloc)?;
+    script::count(rt, alloc)
 }
 
 /// Prints how long the calls of a subject take.
 fn measure(rt: &(impl Print + Clock), alloc: Global, subject: Subject) -> Result<()> {
     match subject {
         Subject::Arena => arena::measure(rt, alloc),
+        Subject::Handles => handles::measure(rt, alloc),
         Subject::Keys => keys::measure(rt, alloc),
+        Subject::Script => script::measure(rt, alloc),
         Subject::Values => values::measure(rt, alloc),
     }
 }

@@ -1,0 +1,209 @@
+//! A hive with open handles on many keys, and batches of calls by them.
+
+use crate::operations::{ALL_RIGHTS, OLD_SUBKEY, Operation};
+use anyhow::{Result, bail};
+use reg_calls::Hive;
+use reg_model::{AnswerBody, Bytes, Call, Change, Query};
+use std::alloc::Global;
+
+/// How many calls are in a batch.
+pub const BATCH: usize = 8;
+
+/// How many keys a hive has, and how many open handles.
+#[derive(Clone, Copy)]
+pub struct Size {
+    /// The root has so many subkeys, and each of them as many.
+    pub width: u32,
+    /// How many handles are open, of one session: a multiple of a batch, at least two.
+    pub open: u32,
+}
+
+impl Size {
+    /// How many keys there are two names below the root.
+    pub fn keys(self) -> u32 {
+        self.width.saturating_mul(self.width)
+    }
+
+    /// How many handles stay open.
+    fn staying(self) -> u32 {
+        self.open.saturating_sub(BATCH as u32)
+    }
+
+    /// The path of one of the keys; above their number they come again.
+    fn path_of(self, alloc: Global, number: u32) -> Result<String> {
+        let number = number.checked_rem(self.keys()).unwrap_or(0);
+        let first = number.checked_div(self.width).unwrap_or(0);
+        let second = number.checked_rem(self.width).unwrap_or(0);
+        Ok(format!(in alloc; "Key{first}\\Key{second}")?)
+    }
+}
+
+/// A hive with open handles. One batch of them is closed and opened; the others stay, and lead to the keys two names below the
+/// root, in turn.
+#[derive(Drop)]
+pub struct OpenHive {
+    alloc: Global,
+    hive: Hive,
+    staying: Vec<u64>,
+    spare: Vec<u64>,
+}
+
+impl OpenHive {
+    /// A hive of a size. Each of its keys has a subkey, and each key of a handle that stays has a value.
+    pub fn new(alloc: Global, size: Size) -> Result<OpenHive> {
+        let mut open = OpenHive {
+            alloc,
+            hive: Hive::new(alloc, b"ROOT", &[1], 0)?,
+            staying: Vec::new(alloc),
+            spare: Vec::new(alloc),
+        };
+        let root = open.handle_of(Change::OpenRoot { mask: ALL_RIGHTS })?;
+        for number in 0..size.keys() {
+            open.make_key(root, size, number)?;
+        }
+        for number in 0..size.staying() {
+            open.open_key(root, size, number)?;
+        }
+        open.change(Change::Close { handle: root })?;
+        for batch in 0..open.staying.len() / BATCH {
+            open.run(Operation::Set, batch)?;
+        }
+        open.run(Operation::Open, 0)?;
+        Ok(open)
+    }
+
+    /// How many handles are open.
+    pub fn open_handles(&self) -> usize {
+        self.hive.open_handles()
+    }
+
+    /// How many entries the journal has.
+    pub fn entries(&self) -> usize {
+        self.hive.len()
+    }
+
+    /// Makes a key with its subkey.
+    fn make_key(&mut self, root: u64, size: Size, number: u32) -> Result<()> {
+        let above = size.path_of(self.alloc, number)?;
+        let path = format!(in self.alloc; "{above}\\{OLD_SUBKEY}")?;
+        let handle = self.handle_of(Change::CreateKey {
+            handle: root,
+            path: Bytes::from_slice(self.alloc, path.as_bytes())?,
+            mask: ALL_RIGHTS,
+        })?;
+        self.change(Change::Close { handle })
+    }
+
+    /// Opens a handle that stays.
+    fn open_key(&mut self, root: u64, size: Size, number: u32) -> Result<()> {
+        let path = size.path_of(self.alloc, number)?;
+        let handle = self.handle_of(Change::OpenKey {
+            handle: root,
+            path: Bytes::from_slice(self.alloc, path.as_bytes())?,
+            mask: ALL_RIGHTS,
+        })?;
+        self.staying.push(handle)?;
+        Ok(())
+    }
+
+    /// Makes a change that opens a handle, and tells which.
+    fn handle_of(&mut self, change: Change) -> Result<u64> {
+        let Some(handle) = self.hive.apply(0, 1, change).handle else {
+            bail!("no handle was opened");
+        };
+        Ok(handle)
+    }
+
+    /// Makes a change. A handle that it opens is a spare one.
+    fn change(&mut self, change: Change) -> Result<()> {
+        let reply = self.hive.apply(0, 1, change);
+        if reply.status != 0 {
+            bail!("a change was refused");
+        }
+        if let Some(handle) = reply.handle {
+            self.spare.push(handle)?;
+        }
+        Ok(())
+    }
+
+    fn ask(&self, query: &Query) -> Result<()> {
+        match &self.hive.read(0, query).body {
+            AnswerBody::Refused { .. } | AnswerBody::Short { .. } => bail!(
+                "a question was refused"
+            ),
+            _ => Ok(()),
+        }
+    }
+
+    /// Makes calls.
+    pub fn make(&mut self, calls: Vec<Call>) -> Result<()> {
+        for call in calls {
+            match call {
+                Call::Change(change) => self.change(change)?,
+                Call::Query(query) => self.ask(&query)?,
+            }
+        }
+        Ok(())
+    }
+
+    /// The handles of a batch; above their number the batches come again. Spare handles alone are closed.
+    fn handles(&self, operation: Operation, batch: usize) -> Option<&[u64]> {
+        if let Operation::Close = operation {
+            return Some(self.spare.as_slice());
+        }
+        let batches = self.staying.len() / BATCH;
+        self.staying
+            .as_slice()
+            .chunks(BATCH)
+            .nth(batch.checked_rem(batches)?)
+    }
+
+    /// The calls of a batch.
+    pub fn calls(&self, operation: Operation, batch: usize) -> Result<Vec<Call>> {
+        let Some(handles) = self.handles(operation, batch) else {
+            bail!("there are no handles");
+        };
+        let mut calls = Vec::new(self.alloc);
+        for handle in handles {
+            calls.push(operation.call(self.alloc, *handle)?)?;
+        }
+        Ok(calls)
+    }
+
+    /// Makes the calls of a batch.
+    fn run(&mut self, operation: Operation, batch: usize) -> Result<()> {
+        let calls = self.calls(operation, batch)?;
+        self.make(calls)
+    }
+
+    fn close_spare(&mut self) -> Result<()> {
+        self.run(Operation::Close, 0)?;
+        self.spare.clear();
+        Ok(())
+    }
+
+    /// Makes what a batch needs: room for handles to be opened, or keys to be deleted.
+    pub fn prepare(&mut self, operation: Operation, batch: usize) -> Result<()> {
+        match operation {
+            Operation::Open | Operation::CreateOld | Operation::CreateNew => self.close_spare(),
+            Operation::DeleteKey => {
+                self.close_spare()?;
+                self.run(Operation::CreateNew, batch)
+            }
+            _ => Ok(()),
+        }
+    }
+
+    /// Undoes what a batch did, save that handles were opened in place of others.
+    pub fn restore(&mut self, operation: Operation, batch: usize) -> Result<()> {
+        match operation {
+            Operation::CreateNew => self.run(Operation::DeleteKey, batch),
+            Operation::DeleteValue => self.run(Operation::Set, batch),
+            Operation::Close => {
+                self.spare.clear();
+                self.run(Operation::Open, batch)
+            }
+            _ => Ok(()),
+        }
+    }
+}
