@@ -67,13 +67,14 @@ fn push_row(rows: &mut BTreeMap<u64, Row>, number: u64, row: Row) -> Result<(), 
     }
 }
 
-/// The text of a row's path, or `None` where its key was deleted.
-fn path_in<'a>(usages: &Usages, number: u64, row: &'a Row) -> Option<&'a [u8]>
+/// The text of a row's path, or `None` where its key was deleted. A row that came after every deletion needs no look-up.
+fn path_in<'a>(usages: &Usages, since: u64, number: u64, row: &'a Row) -> Option<&'a [u8]>
+    requires { removed_of (usage_in usages.now.by_text.entries row.now.path.items) ≤ since }
     ensures place { place_shown result ≡ place_in (removed_of (usage_in usages.now.by_text.entries row.now.path.items)) number row.now.path.items }
     ensures text { IfSome result (λ path. path.now ≡ row.now.path.items) }
 {
     let text = row.path.as_slice();
-    if number < usages.get(text).removed {
+    if number < since && number < usages.get(text).removed {
         None
     } else {
         Some(text)
@@ -117,7 +118,7 @@ impl Handles {
         match self.rows.get(&number) {
             Some(row) if row.session == session => Some(Found {
                 mask: row.mask,
-                path: path_in(&self.usages, number, row),
+                path: path_in(&self.usages, self.since, number, row),
             }),
             _ => None,
         }
