@@ -1,4 +1,6 @@
 //! A hive with open handles on many keys, and batches of calls by them.
+ghost use Rattle.std.specs.Prelude.{◌≡◌, ◌*◌, min, length};
+ghost use Rattle.reg_calls.specs.Hives.{view_of};
 
 use crate::operations::{ALL_RIGHTS, OLD_SUBKEY, Operation};
 use anyhow::{Result, bail};
@@ -20,7 +22,9 @@ pub struct Size {
 
 impl Size {
     /// How many keys there are two names below the root.
-    pub fn keys(self) -> u32 {
+    pub fn keys(self) -> u32
+        ensures { result ≡ min 4294967295 (self.width * self.width) }
+    {
         self.width.saturating_mul(self.width)
     }
 
@@ -73,12 +77,16 @@ impl OpenHive {
     }
 
     /// How many handles are open.
-    pub fn open_handles(&self) -> usize {
+    pub fn open_handles(&self) -> usize
+        ensures { result ≡ length (view_of self.now.hive).handles }
+    {
         self.hive.open_handles()
     }
 
     /// How many entries the journal has.
-    pub fn entries(&self) -> usize {
+    pub fn entries(&self) -> usize
+        ensures { result ≡ length (view_of self.now.hive).journal }
+    {
         self.hive.len()
     }
 

@@ -1,4 +1,9 @@
 //! What can be done by a handle, and the call that does it.
+ghost use Rattle.std.specs.Prelude.{◌≡◌, IfOk};
+ghost use Rattle.reg_model.specs.declared.call.Call.TheVariants.{Change as Changes};
+ghost use Rattle.reg_model.specs.declared.call.Change.TheVariants.{OpenKey, CreateKey};
+ghost use Rattle.reg_bench.specs.declared.operations.Operation.TheVariants.{Query as Asked, Set, DeleteValue, DeleteKey};
+ghost use Rattle.reg_bench.specs.Operations.{call_of};
 
 use reg_model::{Bytes, Call, Change, Query};
 use std::alloc::{AllocError, Global};
@@ -85,52 +90,89 @@ impl Operation {
     }
 
     /// The call that does it by a handle.
-    pub fn call(self, alloc: Global, handle: u64) -> Result<Call, AllocError> {
-        let mask = ALL_RIGHTS;
-        let index = 0;
-        let old = Bytes::from_slice(alloc, OLD_SUBKEY.as_bytes())?;
-        let new = Bytes::from_slice(alloc, NEW_SUBKEY.as_bytes())?;
-        let name = Bytes::from_slice(alloc, VALUE.as_bytes())?;
-        let room = Some(u32::MAX);
-        let call = match self {
-            Operation::Open => Call::Change(Change::OpenKey {
+    pub fn call(self, alloc: Global, handle: u64) -> Result<Call, AllocError>
+        ensures { IfOk result (λ call. call ≡ call_of self handle) }
+    {
+        match self {
+            Operation::Open => open(alloc, handle, OLD_SUBKEY.as_bytes()),
+            Operation::CreateOld => create(alloc, handle, OLD_SUBKEY.as_bytes()),
+            Operation::CreateNew => create(alloc, handle, NEW_SUBKEY.as_bytes()),
+            Operation::Query => query(alloc, handle),
+            Operation::Set => set(alloc, handle),
+            Operation::EnumKey => Ok(Call::Query(Query::EnumKey {
                 handle,
-                path: old,
-                mask,
-            }),
-            Operation::CreateOld => Call::Change(Change::CreateKey {
-                handle,
-                path: old,
-                mask,
-            }),
-            Operation::CreateNew => Call::Change(Change::CreateKey {
-                handle,
-                path: new,
-                mask,
-            }),
-            Operation::Query => Call::Query(Query::QueryValue { handle, name, room }),
-            Operation::Set => Call::Change(Change::SetValue {
-                handle,
-                name,
-                kind: KIND,
-                bytes: Bytes::from_slice(alloc, DATA.as_bytes())?,
-            }),
-            Operation::EnumKey => Call::Query(Query::EnumKey {
-                handle,
-                index,
+                index: 0,
                 room: NAME_ROOM,
-            }),
-            Operation::EnumValue => Call::Query(Query::EnumValue {
+            })),
+            Operation::EnumValue => Ok(Call::Query(Query::EnumValue {
                 handle,
-                index,
+                index: 0,
                 name_room: NAME_ROOM,
-                room,
-            }),
-            Operation::Info => Call::Query(Query::QueryInfo { handle }),
-            Operation::DeleteValue => Call::Change(Change::DeleteValue { handle, name }),
-            Operation::DeleteKey => Call::Change(Change::DeleteKey { handle, path: new }),
-            Operation::Close => Call::Change(Change::Close { handle }),
-        };
-        Ok(call)
+                room: Some(u32::MAX),
+            })),
+            Operation::Info => Ok(Call::Query(Query::QueryInfo { handle })),
+            Operation::DeleteValue => delete_value(alloc, handle),
+            Operation::DeleteKey => delete_key(alloc, handle),
+            Operation::Close => Ok(Call::Change(Change::Close { handle })),
+        }
     }
+}
+
+fn open(alloc: Global, handle: u64, path: &[u8]) -> Result<Call, AllocError>
+    ensures { IfOk result (λ call. call ≡ Changes (OpenKey handle path.now 983103)) }
+{
+    Ok(Call::Change(Change::OpenKey {
+        handle,
+        path: Bytes::from_slice(alloc, path)?,
+        mask: ALL_RIGHTS,
+    }))
+}
+
+fn create(alloc: Global, handle: u64, path: &[u8]) -> Result<Call, AllocError>
+    ensures { IfOk result (λ call. call ≡ Changes (CreateKey handle path.now 983103)) }
+{
+    Ok(Call::Change(Change::CreateKey {
+        handle,
+        path: Bytes::from_slice(alloc, path)?,
+        mask: ALL_RIGHTS,
+    }))
+}
+
+fn query(alloc: Global, handle: u64) -> Result<Call, AllocError>
+    ensures { IfOk result (λ call. call ≡ call_of Asked handle) }
+{
+    Ok(Call::Query(Query::QueryValue {
+        handle,
+        name: Bytes::from_slice(alloc, VALUE.as_bytes())?,
+        room: Some(u32::MAX),
+    }))
+}
+
+fn set(alloc: Global, handle: u64) -> Result<Call, AllocError>
+    ensures { IfOk result (λ call. call ≡ call_of Set handle) }
+{
+    Ok(Call::Change(Change::SetValue {
+        handle,
+        name: Bytes::from_slice(alloc, VALUE.as_bytes())?,
+        kind: KIND,
+        bytes: Bytes::from_slice(alloc, DATA.as_bytes())?,
+    }))
+}
+
+fn delete_value(alloc: Global, handle: u64) -> Result<Call, AllocError>
+    ensures { IfOk result (λ call. call ≡ call_of DeleteValue handle) }
+{
+    Ok(Call::Change(Change::DeleteValue {
+        handle,
+        name: Bytes::from_slice(alloc, VALUE.as_bytes())?,
+    }))
+}
+
+fn delete_key(alloc: Global, handle: u64) -> Result<Call, AllocError>
+    ensures { IfOk result (λ call. call ≡ call_of DeleteKey handle) }
+{
+    Ok(Call::Change(Change::DeleteKey {
+        handle,
+        path: Bytes::from_slice(alloc, NEW_SUBKEY.as_bytes())?,
+    }))
 }
