@@ -18,8 +18,6 @@ mod free;
 pub mod laws;
 mod list;
 mod tables;
-#[cfg(test)]
-mod tests;
 mod walk;
 mod words;
 

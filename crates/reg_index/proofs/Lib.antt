@@ -10,5 +10,4 @@ pub mod Removed
 pub mod Opened
 pub mod Added
 pub mod Told
-pub mod Tested
 pub mod Rows

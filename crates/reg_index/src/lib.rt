@@ -13,8 +13,6 @@ mod leaf;
 mod look;
 mod plan;
 mod removing;
-#[cfg(test)]
-mod tests;
 
 pub use inserting::insert;
 pub use look::{at, find};

@@ -17,5 +17,3 @@ pub use call::{Call, Change, Query};
 pub use reply::{ChangeReply, Entry};
 pub use step::{Outcome, Step};
 
-#[cfg(test)]
-mod tests;

@@ -11,8 +11,6 @@ use std::alloc::{AllocError, Global};
 use std::cmp::Ordering;
 use thiserror::Error;
 
-#[cfg(test)]
-mod tests;
 
 /// The longest key name, in bytes.
 pub const KEY_NAME_LIMIT: usize = 255;

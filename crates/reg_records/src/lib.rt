@@ -21,8 +21,6 @@ mod lists;
 mod nk;
 mod rows;
 mod sk;
-#[cfg(test)]
-mod tests;
 mod vk;
 
 pub use db::{BigFields, put_db, read_db};

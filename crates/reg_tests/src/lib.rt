@@ -3,9 +3,19 @@
 #![tactic(auto)]
 
 #[cfg(test)]
+mod arena;
+#[cfg(test)]
+mod copies;
+#[cfg(test)]
 mod hives;
 #[cfg(test)]
+mod keys;
+#[cfg(test)]
 mod limits;
+#[cfg(test)]
+mod names;
+#[cfg(test)]
+mod records;
 #[cfg(test)]
 mod support;
 #[cfg(test)]

@@ -1,5 +1,5 @@
 -- The cells carved for keys of a path's names: their sizes, and that they are ready.
-use Rattle.std.proofs.Common.{◌≡◌, ◌≢◌, ℕ, zero, suc, ◌+◌, ◌-◌, ◌*◌, ◌%◌, ◌≤◌, ◌<◌, Bool, true, false, cond, nat_le, Option, Some, None, IsSome, List, [], ◌∷◌, length, get_or, replicate, refl, sym, ap, ◌∙◌, subst, arith, Vec, Global}
+use Rattle.std.proofs.Common.{◌≡◌, ◌≢◌, ℕ, zero, suc, ◌+◌, ◌-◌, ◌*◌, ◌%◌, ◌≤◌, ◌<◌, Bool, true, false, cond, nat_le, nat_lt, Option, Some, None, IsSome, List, [], ◌∷◌, length, get_or, replicate, refl, sym, ap, ◌∙◌, subst, arith, Vec, Global}
 use Rattle.std.specs.Prelude.{unwrap_or, Result, Err}
 use Rattle.std.specs.List.{list_all, AllByRecursion}
 use Rattle.std.specs.Option.{option_and_then}
@@ -16,10 +16,12 @@ use Rattle.reg_arena.specs.Carves.{AddsCells}
 use Rattle.reg_arena.specs.NewBin.{PassesLimit}
 use Rattle.reg_arena.specs.NewCells.{AreSizes, total_of}
 use Rattle.reg_records.specs.Cells.{HasRoom, held}
-use Rattle.reg_records.specs.Keys.{key_at, nk_of}
+use Rattle.reg_records.specs.declared.RecordFault.{RecordFault}
+use Rattle.reg_records.specs.declared.RecordFault.TheVariants as record_fault
+use Rattle.reg_records.specs.Letters.{is_signed}
+use Rattle.reg_records.specs.Keys.{KeyRecord, key_at, nk_of}
 use Rattle.reg_records.specs.Lists.{Entry}
 use Rattle.reg_index.specs.Subkeys.{AreSubkeys, IsReady, insert_size}
-use Rattle.reg_index.proofs.Tested.{no-zeros}
 use Rattle.reg_tree.specs.declared.fault.TreeFault.{TreeFault}
 use Rattle.reg_tree.specs.declared.fault.TreeFault.TheVariants.{Full}
 use Rattle.reg_tree.specs.Faults.{of_arena}
@@ -40,6 +42,21 @@ parent_there bytes key t = growing_there bytes key [] (growing bytes key t)
 
 pub parent_subkeys : (bytes : List ℕ) (key : ℕ) → IsHere bytes key → (count list : ℕ) → HasSubkeysList (cell_at bytes) key count list → (entries : List Entry) × AreSubkeys (cell_at bytes) count list entries
 parent_subkeys bytes key t count list has = growing_subkeys bytes key [] (growing bytes key t) count list has
+
+-- ---- new cells
+
+-- zeros are no key
+no_letters : (size : ℕ) → is_signed 110 107 (replicate {A = ℕ} size 0) ≡ false
+no_letters zero = refl
+no_letters (suc size) = refl
+
+no_zeros : (size : ℕ) → result_ok (nk_of (replicate {A = ℕ} size 0)) ≡ None
+unfolding nk_of
+no_zeros size = rw (no_letters size) (by (nat_lt (length (replicate {A = ℕ} size 0)) 76))
+  where
+    by : (b : Bool) → result_ok (cond {A = Result KeyRecord RecordFault} b (Err record_fault.Short) (Err record_fault.Signature)) ≡ None
+    by true = refl
+    by false = refl
 
 -- ---- sizes
 
@@ -130,7 +147,7 @@ unfolding key_at
 zeros-ready h cell size z l = (
   subst IsSome (sym z) refl,
   (let n = held-long h cell size z in omega (arith, n, l)),
-  ap (option_and_then (λ content. result_ok (nk_of content))) z ∙ no-zeros (size - 4),
+  ap (option_and_then (λ content. result_ok (nk_of content))) z ∙ no_zeros (size - 4),
 )
 
 abbrev Zeros : Heap → List ℕ → List ℕ → Type 0

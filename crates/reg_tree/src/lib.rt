@@ -14,8 +14,6 @@ mod make;
 mod node;
 mod read;
 mod ring;
-#[cfg(test)]
-mod tests;
 mod tree;
 mod unmake;
 mod value;

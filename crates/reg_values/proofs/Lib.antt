@@ -18,5 +18,4 @@ pub mod Added
 pub mod Totals
 pub mod Replaced
 pub mod SetAgain
-pub mod Tested
 pub mod Cleared

@@ -16,8 +16,6 @@ mod plan;
 mod removing;
 mod replace;
 mod setting;
-#[cfg(test)]
-mod tests;
 
 pub use data::bytes_of;
 pub use look::{Value, at, find};

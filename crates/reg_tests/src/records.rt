@@ -1,0 +1,135 @@
+//! Bytes written by hand from the format's tables, and what is read of them.
+use reg_records::{
+    KeyFields, ListEntry, ListForm, ListHead, RecordFault, SecurityFields, ValueFields, entry_at,
+    offset_at, read_list, read_nk, read_sk, read_vk,
+};
+
+/// The key node of the root of a fresh hive.
+const ROOT: [u8; 80] = [
+    b'n', b'k', 0x2C, 0x00, // letters, flags
+    0xBC, 0x9A, 0x78, 0x56, 0x34, 0x12, 0xD9, 0x01, // last write time
+    0x00, 0x00, 0x00, 0x00, // access bits
+    0xFF, 0xFF, 0xFF, 0xFF, // parent
+    0x00, 0x00, 0x00, 0x00, // number of subkeys
+    0x00, 0x00, 0x00, 0x00, // number of volatile subkeys
+    0xFF, 0xFF, 0xFF, 0xFF, // list of subkeys
+    0xFF, 0xFF, 0xFF, 0xFF, // list of volatile subkeys
+    0x00, 0x00, 0x00, 0x00, // number of values
+    0xFF, 0xFF, 0xFF, 0xFF, // list of values
+    0x78, 0x00, 0x00, 0x00, // key security
+    0xFF, 0xFF, 0xFF, 0xFF, // class name
+    0x00, 0x00, 0x00, 0x00, // largest subkey name
+    0x00, 0x00, 0x00, 0x00, // largest subkey class name
+    0x00, 0x00, 0x00, 0x00, // largest value name
+    0x00, 0x00, 0x00, 0x00, // largest value data
+    0x00, 0x00, 0x00, 0x00, // WorkVar
+    0x04, 0x00, 0x00, 0x00, // lengths of the name and of the class name
+    b'R', b'O', b'O', b'T',
+];
+
+const ROOT_FIELDS: KeyFields = KeyFields {
+    flags: 0x2C,
+    time: 0x01D9_1234_5678_9ABC,
+    parent: 0xFFFF_FFFF,
+    subkeys: 0,
+    subkeys_list: 0xFFFF_FFFF,
+    values: 0,
+    values_list: 0xFFFF_FFFF,
+    security: 120,
+    class: 0xFFFF_FFFF,
+    class_length: 0,
+    largest_subkey_name: 0,
+    largest_subkey_class: 0,
+    largest_value_name: 0,
+    largest_value_data: 0,
+};
+
+/// The key value `Mode`, a REG_DWORD of 7 that stands in the data offset.
+const MODE: [u8; 24] = [
+    b'v', b'k', 0x04, 0x00, // letters, length of the name
+    0x04, 0x00, 0x00, 0x80, // size, with its top bit
+    0x07, 0x00, 0x00, 0x00, // the data
+    0x04, 0x00, 0x00, 0x00, // type
+    0x01, 0x00, 0x00, 0x00, // flags, spare
+    b'M', b'o', b'd', b'e',
+];
+
+const MODE_FIELDS: ValueFields = ValueFields {
+    size: 0x8000_0004,
+    place: 7,
+    kind: 4,
+    flags: 1,
+};
+
+/// A key security alone in its list, at offset 120, with four bytes of a descriptor.
+const SECURITY: [u8; 24] = [
+    b's', b'k', 0x00, 0x00, // letters, reserved
+    0x78, 0x00, 0x00, 0x00, // next
+    0x78, 0x00, 0x00, 0x00, // previous
+    0x02, 0x00, 0x00, 0x00, // count
+    0x04, 0x00, 0x00, 0x00, // size of the descriptor
+    0x01, 0x00, 0x04, 0x80,
+];
+
+const SECURITY_FIELDS: SecurityFields = SecurityFields {
+    flink: 120,
+    blink: 120,
+    count: 2,
+};
+
+/// A hash leaf of the keys at 32 and 120, with the hashes of `Run` and `ab`.
+const LEAF: [u8; 20] = [
+    b'l', b'h', 0x02, 0x00, // letters, number of entries
+    0x20, 0x00, 0x00, 0x00, 0x19, 0xC3, 0x01, 0x00, // 32, 115481
+    0x78, 0x00, 0x00, 0x00, 0xA7, 0x09, 0x00, 0x00, // 120, 2471
+];
+
+const LEAF_ENTRIES: [ListEntry; 2] = [
+    ListEntry {
+        place: 32,
+        hint: 115_481,
+    },
+    ListEntry {
+        place: 120,
+        hint: 2_471,
+    },
+];
+
+#[test]
+fn records_are_read(rt: HostRuntime) -> Result<(), RecordFault> {
+    let root = read_nk(&ROOT)?;
+    assert_eq!(rt; root.fields, ROOT_FIELDS);
+    assert_eq!(rt; root.name, b"ROOT".as_slice());
+    let mode = read_vk(&MODE)?;
+    assert_eq!(rt; mode.fields, MODE_FIELDS);
+    assert_eq!(rt; mode.name, b"Mode".as_slice());
+    let security = read_sk(&SECURITY)?;
+    assert_eq!(rt; security.fields, SECURITY_FIELDS);
+    assert_eq!(rt; security.descriptor, &SECURITY[20..]);
+    assert_eq!(rt;
+        offset_at(&[0, 0, 0, 0, 0x78, 0x56, 0x34, 0x12], 1),
+        0x1234_5678
+    );
+    Ok(())
+}
+
+#[test]
+fn a_list_is_read(rt: HostRuntime) -> Result<(), RecordFault> {
+    let head = read_list(&LEAF)?;
+    assert_eq!(rt;
+        head,
+        ListHead {
+            form: ListForm::HashLeaf,
+            count: 2
+        }
+    );
+    assert_eq!(rt; entry_at(&LEAF, ListForm::HashLeaf, 1), LEAF_ENTRIES[1]);
+    assert_eq!(rt;
+        entry_at(&LEAF, ListForm::IndexLeaf, 1),
+        ListEntry {
+            place: 115_481,
+            hint: 0
+        }
+    );
+    Ok(())
+}
