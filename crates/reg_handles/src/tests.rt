@@ -79,3 +79,15 @@ fn a_closed_handle_is_gone(rt: HostRuntime) -> Result<(), Fail> {
     );
     Ok(())
 }
+
+#[test]
+fn closing_a_deleted_keys_handle_leaves_the_new_keys(rt: HostRuntime) -> Result<(), Fail> {
+    let alloc = rt.alloc();
+    let mut handles = Handles::new(alloc);
+    handles.add(3, 7, 5, path_a(alloc)?)?;
+    handles.mark_deleted(path_a(alloc)?.as_slice());
+    handles.add(3, 9, 1, path_a(alloc)?)?;
+    handles.close(3, 7);
+    assert_eq!(rt; told(&handles, alloc, 3, 9)?.as_str(), "1 of 1 bytes");
+    Ok(())
+}
