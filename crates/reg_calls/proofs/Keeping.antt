@@ -37,7 +37,6 @@ pub ready-kept : {origin : Tree} {es : List Entry} {store : Store} {room : ℕ} 
 ready-kept {origin = origin} {es = es} {store = store} kept = record {
   stand = subst (λ (w : World). IsStanding w.tree w.handles) (sym (world-kept kept)) (is_standing origin es kept.legal kept.rooted);
   below = subst (All (λ (h : Handle). h.number < length es)) (sym kept.handles_are) (handles-below origin es kept.legal);
-  since = kept.since;
   small = kept.small;
 }
 
@@ -151,14 +150,12 @@ module _ {origin : Tree} {es : List Entry} {store : Store} {room : ℕ} (kept : 
   kept-done room' room'' h used =
       let f = fits-done in
       let l = length-append es (e ∷ []) in
-      let since = done.since in
       let small = f.small in
       record {
         legal = legal-push origin es e kept.legal fit-done;
         rooted = kept.rooted;
         tree_is = ap (λ (w : World). w.tree) world-done;
         handles_are = ap (λ (w : World). w.handles) world-done;
-        since = omega (arith, since, l);
         small = omega (arith, small, l);
         room_kept = by_closing (length new.handles.handles ≤ room'') (λ c. let x = f.closing c in let r = h.1 c in omega (arith, x, r, used)) (λ c. let g = f.grown in let r = h.0 c in omega (arith, g, r, used));
       }

@@ -54,8 +54,8 @@ pub look-push : (session n : ℕ) (hs : List Handle) → All (λ (x : Handle). x
 look-push session n hs all h e f =
     rw (numbered-push n hs h e (recursion_from_All (λ (x : Handle). x.number < n) hs all), eq-eqb h.session session f) refl
 
-pub store-same : (store : Store) (tree : Keys) (handles : Table) → tree ≡ store.tree → handles.handles ≡ store.handles.handles → handles.since ≡ store.handles.since → ◌≡◌ {A = Store} (record { tree = tree; handles = handles }) store
-store-same store tree handles a b c = λ i. record { tree = a i; handles = record { handles = b i; since = c i } }
+pub store-same : (store : Store) (tree : Keys) (handles : Table) → tree ≡ store.tree → handles.handles ≡ store.handles.handles → ◌≡◌ {A = Store} (record { tree = tree; handles = handles }) store
+store-same store tree handles a b = λ i. record { tree = a i; handles = record { handles = b i } }
 
 -- ---- limits
 
@@ -113,9 +113,6 @@ module _ (n : ℕ) (store : Store) (session : ℕ) (ready : IsReady n store) whe
   pub room-few : no_handle_room session s ≡ false → handles_of session hs < 16384
   room-few e = let b = both_false (nat_le 16384 (handles_of session hs)) (is_full 2 s) e in grind (arith, nat_tests, b.0)
 
-  since-next : (since : ℕ) → since ≡ store.handles.since → since ≤ n + 1
-  since-next since e = let r = ready.since in omega (arith, r, e)
-
   abbrev added : Table → ℕ → List ℕ → Type 0
   added table mask text = table.handles ≡ hs ++ record { number = n; session = session; mask = mask; place = At (path_of text) } ∷ []
 
@@ -130,11 +127,11 @@ module _ (n : ℕ) (store : Store) (session : ℕ) (ready : IsReady n store) whe
   pub root-room : (mask : ℕ) → change_cause s session (OpenRoot mask) 0 ≡ None → handles_of session hs < 16384
   root-room mask c = let m = root-met s session mask 0 c in room-few m.room
 
-  pub root-done : (moment mask : ℕ) (table : Table) (text : List ℕ) → text ≡ [] → added table mask text → table.since ≡ store.handles.since → (told : ChangeReply) → told ≡ opening None → IsDone store (record { tree = store.tree; handles = table }) session moment n (OpenRoot mask) told
+  pub root-done : (moment mask : ℕ) (table : Table) (text : List ℕ) → text ≡ [] → added table mask text → (told : ChangeReply) → told ≡ opening None → IsDone store (record { tree = store.tree; handles = table }) session moment n (OpenRoot mask) told
   unfolding after reply_to
-  root-done moment mask table text empty add since told e =
+  root-done moment mask table text empty add told e =
       let handles = add ∙ ap (λ (t : List ℕ). hs ++ record { number = n; session = session; mask = mask; place = At (path_of t) } ∷ []) empty in
-      record { world = λ i. record { tree = tree; handles = handles i }; reply = e; since = since-next table.since since }
+      record { world = λ i. record { tree = tree; handles = handles i }; reply = e }
 
   -- ---- OpenKey
 
@@ -154,11 +151,11 @@ module _ (n : ℕ) (store : Store) (session : ℕ) (ready : IsReady n store) whe
     pub open-short : ((q : Path) → Has tree q → length q ≤ 512) → length (path_from session h hs path) ≤ 512
     open-short shallow = shallow (path_from session h hs path) open-facts.there
 
-    pub open-done : (moment : ℕ) (table : Table) (text : List ℕ) → path_of text ≡ path_from session h hs path → added table mask text → table.since ≡ store.handles.since → (told : ChangeReply) → told ≡ opening None → IsDone store (record { tree = store.tree; handles = table }) session moment n (OpenKey h path mask) told
+    pub open-done : (moment : ℕ) (table : Table) (text : List ℕ) → path_of text ≡ path_from session h hs path → added table mask text → (told : ChangeReply) → told ≡ opening None → IsDone store (record { tree = store.tree; handles = table }) session moment n (OpenKey h path mask) told
     unfolding after reply_to
-    open-done moment table text names add since told e =
+    open-done moment table text names add told e =
         let handles = add ∙ ap (λ (p : Path). hs ++ record { number = n; session = session; mask = mask; place = At p } ∷ []) names in
-        record { world = λ i. record { tree = tree; handles = handles i }; reply = e; since = since-next table.since since }
+        record { world = λ i. record { tree = tree; handles = handles i }; reply = e }
 
   -- ---- CreateKey
 
@@ -184,13 +181,13 @@ module _ (n : ℕ) (store : Store) (session : ℕ) (ready : IsReady n store) whe
       create-short shallow =
           subst (λ (p : Path). length p ≤ 512) (sym (target-from store session h t path)) (path-short tree t.path (path_of path) shallow (target-has store session h t ready.stand) create-few)
 
-      pub create-done : (moment : ℕ) (keys : Keys) (table : Table) (text : List ℕ) → path_of text ≡ path_from session h hs path → keys.tree ≡ with_keys tree t.path (path_of path) moment → added table mask text → table.since ≡ store.handles.since → (told : ChangeReply) → told ≡ opening (Some (disposition_of (missing tree t.path (path_of path)))) → IsDone store (record { tree = keys; handles = table }) session moment n (CreateKey h path mask) told
+      pub create-done : (moment : ℕ) (keys : Keys) (table : Table) (text : List ℕ) → path_of text ≡ path_from session h hs path → keys.tree ≡ with_keys tree t.path (path_of path) moment → added table mask text → (told : ChangeReply) → told ≡ opening (Some (disposition_of (missing tree t.path (path_of path)))) → IsDone store (record { tree = keys; handles = table }) session moment n (CreateKey h path mask) told
       unfolding after reply_to
-      create-done moment keys table text names made add since told e =
+      create-done moment keys table text names made add told e =
           let handles = add ∙ ap (λ (p : Path). hs ++ record { number = n; session = session; mask = mask; place = At p } ∷ []) names in
           let grown = made ∙ ap (λ (p : Path). with_keys tree p (path_of path) moment) (sym (target-at store session h t)) in
           let reply = e ∙ ap (λ (p : Path). opening (Some (disposition_of (missing tree p (path_of path))))) (sym (target-at store session h t)) in
-          record { world = λ i. record { tree = grown i; handles = handles i }; reply = reply; since = since-next table.since since }
+          record { world = λ i. record { tree = grown i; handles = handles i }; reply = reply }
 
   -- ---- SetValue
 
@@ -218,7 +215,7 @@ module _ (n : ℕ) (store : Store) (session : ℕ) (ready : IsReady n store) whe
       unfolding after reply_to
       set-done moment keys set told e =
           let now = set ∙ ap (λ (p : Path). edited tree p (with_value name kind bytes moment)) (sym (target-at store session h t)) in
-          record { world = λ i. record { tree = now i; handles = hs }; reply = e; since = since-next store.handles.since refl }
+          record { world = λ i. record { tree = now i; handles = hs }; reply = e }
 
   -- ---- DeleteValue
 
@@ -239,7 +236,7 @@ module _ (n : ℕ) (store : Store) (session : ℕ) (ready : IsReady n store) whe
       unfolding after reply_to
       drop-done moment keys set told e =
           let now = set ∙ ap (λ (p : Path). edited tree p (without_value name moment)) (sym (target-at store session h t)) in
-          record { world = λ i. record { tree = now i; handles = hs }; reply = e; since = since-next store.handles.since refl }
+          record { world = λ i. record { tree = now i; handles = hs }; reply = e }
 
   -- ---- DeleteKey
 
@@ -281,21 +278,21 @@ module _ (n : ℕ) (store : Store) (session : ℕ) (ready : IsReady n store) whe
       delete-refused fault children kept (inl e) = children.0 (ap (λ f. Err f) e) delete-childless
       delete-refused fault children kept (inr e) = delete-kept (kept.0 (ap (λ f. Err f) e)).1
 
-      pub delete-done : (moment : ℕ) (keys : Keys) (table : Table) (text : List ℕ) → path_of text ≡ path_from session h hs path → keys.tree ≡ without_key tree (t.path ++ folded_path path) moment → table.handles ≡ turned (path_of text) hs → table.since ≤ n + 1 → (told : ChangeReply) → told ≡ plain → IsDone store (record { tree = keys; handles = table }) session moment n (DeleteKey h path) told
+      pub delete-done : (moment : ℕ) (keys : Keys) (table : Table) (text : List ℕ) → path_of text ≡ path_from session h hs path → keys.tree ≡ without_key tree (t.path ++ folded_path path) moment → table.handles ≡ turned (path_of text) hs → (told : ChangeReply) → told ≡ plain → IsDone store (record { tree = keys; handles = table }) session moment n (DeleteKey h path) told
       unfolding after reply_to
-      delete-done moment keys table text names gone turn since told e =
+      delete-done moment keys table text names gone turn told e =
           let now = gone ∙ ap (λ (p : Path). without_key tree p moment) (sym (target-from store session h t path)) in
           let handles = turn ∙ ap (λ (p : Path). turned p hs) names in
-          record { world = λ i. record { tree = now i; handles = handles i }; reply = e; since = since }
+          record { world = λ i. record { tree = now i; handles = handles i }; reply = e }
 
   -- ---- Close
 
   pub close-has : (h : ℕ) → change_cause s session (Close h) 0 ≡ None → is_some (look session h hs) ≡ true
   close-has h c = close-met s session h 0 c
 
-  pub close-done : (moment h : ℕ) (table : Table) → table.handles ≡ closed h hs → table.since ≡ store.handles.since → (told : ChangeReply) → told ≡ plain → IsDone store (record { tree = store.tree; handles = table }) session moment n (Close h) told
+  pub close-done : (moment h : ℕ) (table : Table) → table.handles ≡ closed h hs → (told : ChangeReply) → told ≡ plain → IsDone store (record { tree = store.tree; handles = table }) session moment n (Close h) told
   unfolding after reply_to
-  close-done moment h table shut since told e = record { world = λ i. record { tree = tree; handles = shut i }; reply = e; since = since-next table.since since }
+  close-done moment h table shut told e = record { world = λ i. record { tree = tree; handles = shut i }; reply = e }
 
 -- ---- what is told of a created key
 

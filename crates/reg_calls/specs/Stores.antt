@@ -30,7 +30,6 @@ AreStanding store = IsStanding store.tree.tree store.handles.handles
 pub record IsReady (entries : ℕ) (store : Store) : Type 0 where
   pub stand : IsStanding store.tree.tree store.handles.handles
   pub below : All (λ (h : Handle). h.number < entries) store.handles.handles
-  pub since : store.handles.since ≤ entries
   pub small : entries + length store.handles.handles ≤ 16777216
 
 -- the session's handle of that number leads to a key
@@ -75,7 +74,6 @@ LacksSpace keys (Close h) = ⊥
 pub record IsDone (old new : Store) (session moment number : ℕ) (change : Change) (told : ChangeReply) : Type 0 where
   pub world : world_of new ≡ after (world_of old) (entry_due (at number old) session moment change)
   pub reply : told ≡ reply_to (at number old) session change
-  pub since : new.handles.since ≤ number + 1
 
 -- a change that nothing refuses was made, or nothing changed, for want of memory or of space
 abbrev pub IsMade : Store → Store → ℕ → ℕ → ℕ → Change → Result ChangeReply Lack → Type 0

@@ -64,7 +64,6 @@ pub record IsKept (origin : Tree) (journal : List Entry) (store : Store) (room :
   pub rooted : IsSome (get origin [])
   pub tree_is : store.tree.tree ≡ (replay origin journal).tree
   pub handles_are : store.handles.handles ≡ (replay origin journal).handles
-  pub since : store.handles.since ≤ length journal
   pub small : length journal + length store.handles.handles ≤ 16777216
   pub room_kept : length store.handles.handles ≤ room
 

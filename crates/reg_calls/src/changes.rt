@@ -211,7 +211,7 @@ impl Store {
             Ok(()) => {}
             Err(_) => unreachable!(),
         }
-        self.handles.mark_deleted(text.as_slice(), number);
+        self.handles.mark_deleted(text.as_slice());
         Ok(accepted(number))
     }
 

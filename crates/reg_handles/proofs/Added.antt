@@ -1,71 +1,86 @@
 -- A table with a row more.
-use Rattle.std.proofs.Common.{◌≡◌, ℕ, ◌+◌, ◌<◌, ◌≤◌, true, false, cond, nat_lt, List, [], ◌∷◌, ◌++◌, length, Option, Some, refl, sym, ap, subst, ◌∙◌, arith, set, get_or}
+use Rattle.std.proofs.Common.{◌≡◌, ◌≢◌, ℕ, ◌+◌, ◌<◌, ◌==◌, Bool, true, false, cond, List, [], ◌∷◌, ◌++◌, length, Option, Some, refl, sym, ap, subst, ◌∙◌, arith, set, get_or}
 use Rattle.std.specs.Prelude.{bytes_eq}
-use Rattle.std.specs.List.Sorted.{IsStrictlySortedBy}
-use Rattle.std.specs.Ordering.{nat_cmp}
-use Rattle.std.specs.Map.{keys_of}
+use Rattle.std.specs.Cmp.Lexicographic.{bytes_decides}
+use Rattle.std.proofs.lemmas.Bool.{cond-true, cond-false, false≢true}
 use Rattle.std.proofs.lemmas.Bool.Decides.{nat_tests}
-use Rattle.std.proofs.lemmas.Cmp.{nat_list_eq_equiv}
 use Rattle.std.proofs.lemmas.List.Elements.{All-push}
+use Rattle.slab.specs.Slab.{Slab, get}
 use Rattle.reg_names.specs.Names.{path_of}
 use Rattle.reg_model.specs.Worlds.{At}
 use Rattle.reg_handles.specs.Tables.{IsFoldedPath}
-use Rattle.reg_handles.specs.Usages.{removed_of, rows_of, with_one_more, Updates}
-use Rattle.reg_handles.specs.Rows.{handle_of, handles_of, place_in, times, AreCounts, IsUsage, IsFit, IsTable}
-use Rattle.reg_handles.specs.declared.usages.Usage.{Usage}
-use Rattle.reg_handles.specs.declared.handles.Row.{Row}
-use Rattle.reg_handles.proofs.Rows.{times_push, handles_same, counts_push}
-use Rattle.reg_handles.proofs.Changes.{at_each, rows_is}
+use Rattle.reg_handles.specs.Keys.{rows_of, place_of, IsOpenAt, IsHeld}
+use Rattle.reg_handles.specs.Rows.{handle_of, handles_of, times, AreCounts, IsUsed, IsTable}
+use Rattle.reg_handles.specs.declared.keys.OpenKey.{OpenKey}
+use Rattle.reg_handles.specs.declared.rows.Row.{Row}
+use Rattle.reg_handles.proofs.Listed.{counts_push, times_push, handles_same}
+use Rattle.reg_handles.proofs.Changes.{at_each, rows_is, open_place, open_one, open_some, used_some, used_open, same_key}
 
-module _ (u v : List ℕ → Option Usage) (es : List (ℕ × Row)) (counts : List ℕ) (since number : ℕ) (row : Row) (table : IsTable u es counts since) (late : since ≤ number)
-    (updates : Updates u row.path.items (Some (with_one_more (u row.path.items))) v) where
-  removed_same : (t : List ℕ) → removed_of (v t) ≡ removed_of (u t)
-  removed_same = at_each (λ t o. removed_of o ≡ removed_of (u t)) u v row.path.items _ updates refl (λ t e. refl)
+module _ (s s' : Slab OpenKey) (paths paths' : List ℕ → Option ℕ) (es : List (ℕ × Row)) (counts : List ℕ) (number : ℕ) (row : Row) (path : List ℕ) (table : IsTable s paths es counts) (held : IsHeld s s' paths paths' path row.key) where
+  held_stays : handles_of s' es ≡ handles_of s es
+  held_stays =
+      handles_same s s' es (λ t some. at_each (λ q o. 0 < times q es → place_of o ≡ place_of (get s q)) s s' row.key (get s' row.key) refl held.others
+      (λ some. let k = used_some (get s row.key) (times row.key es) (table.keys row.key) some in open_place _ path held.stands ∙ sym (open_place _ path (held.was k.0 k.1)))
+      (λ q apart some. refl) t some)
 
-  place : place_in (removed_of (v row.path.items)) number row.path.items ≡ At (path_of row.path.items)
-  place =
-      let bound : removed_of (u row.path.items) ≤ since = table.removed row.path.items in
-      let same : removed_of (v row.path.items) ≡ removed_of (u row.path.items) = removed_same row.path.items in
-      let not_below : nat_lt number (removed_of (v row.path.items)) ≡ false = grind (arith, nat_tests, bound, same, late) in
-      rw not_below refl
-
-  push : (hs : List (ℕ × Row)) → handles_of v (hs ++ (number, row) ∷ []) ≡ handles_of v hs ++ handle_of v (number, row) ∷ []
+  push : (hs : List (ℕ × Row)) → handles_of s' (hs ++ (number, row) ∷ []) ≡ handles_of s' hs ++ handle_of s' (number, row) ∷ []
   push [] = refl
-  push (h ∷ hs) = ap (λ l. handle_of v h ∷ l) (push hs)
+  push (h ∷ hs) = ap (λ l. handle_of s' h ∷ l) (push hs)
 
-  pub added_handles : handles_of v (es ++ (number, row) ∷ []) ≡ handles_of u es ++ record { number = number; session = row.session; mask = row.mask; place = At (path_of row.path.items) } ∷ []
+  pub added_handles : handles_of s' (es ++ (number, row) ∷ []) ≡ handles_of s es ++ record { number = number; session = row.session; mask = row.mask; place = At (path_of path) } ∷ []
   added_handles =
-      push es ∙ ap (λ l. l ++ handle_of v (number, row) ∷ []) (handles_same u v es (λ t some. removed_same t))
-      ∙ ap (λ p. handles_of u es ++ record { number = number; session = row.session; mask = row.mask; place = p } ∷ []) place
+      push es ∙ ap (λ l. l ++ handle_of s' (number, row) ∷ []) held_stays
+      ∙ ap (λ p. handles_of s es ++ record { number = number; session = row.session; mask = row.mask; place = p } ∷ []) (open_place _ path held.stands)
 
-  one_more : IsUsage (Some (with_one_more (u row.path.items))) (times row.path.items (es ++ (number, row) ∷ []))
-  one_more =
-      let same : bytes_eq row.path.items row.path.items ≡ true = nat_list_eq_equiv.refl row.path.items in
-      let more : times row.path.items (es ++ (number, row) ∷ []) ≡ times row.path.items es + 1 = times_push row.path.items es (number, row) ∙ ap (λ b. times row.path.items es + cond b 1 0) same in
-      let is : rows_of (u row.path.items) ≡ times row.path.items es = rows_is _ _ (table.usages row.path.items) in
-      (omega (arith, more, is), omega (arith, more))
+  one_more : times row.key (es ++ (number, row) ∷ []) ≡ times row.key es + 1
+  one_more = let same : (row.key == row.key) ≡ true = grind (arith, nat_tests) in times_push row.key es (number, row) ∙ ap (λ b. times row.key es + cond b 1 0) same
 
-  other_rows : (t : List ℕ) → bytes_eq row.path.items t ≡ false → IsUsage (u t) (times t (es ++ (number, row) ∷ []))
-  other_rows t e =
-      let apart : bytes_eq t row.path.items ≡ false = nat_list_eq_equiv.symm t row.path.items ∙ e in
-      let same : times t es ≡ times t (es ++ (number, row) ∷ []) = sym (times_push t es (number, row) ∙ ap (λ b. times t es + cond b 1 0) apart ∙ add_none (times t es)) in
-      subst (IsUsage (u t)) same (table.usages t)
+  others_same : (q : ℕ) → q ≢ row.key → times q es ≡ times q (es ++ (number, row) ∷ [])
+  others_same q apart =
+      let other : (row.key == q) ≡ false = grind (arith, nat_tests, apart) in
+      let same : times q (es ++ (number, row) ∷ []) ≡ times q es + 0 = times_push q es (number, row) ∙ ap (λ b. times q es + cond b 1 0) other in
+      omega (arith, same)
+
+  added_keys : IsFoldedPath path → (q : ℕ) → IsUsed (get s' q) (times q (es ++ (number, row) ∷ []))
+  added_keys folded =
+      let is : rows_of (get s row.key) ≡ times row.key es = rows_is _ _ (table.keys row.key) in
+      let count : rows_of (get s' row.key) ≡ times row.key (es ++ (number, row) ∷ []) = let rows = held.rows in let more = one_more in omega (arith, rows, is, more) in
+      at_each (λ q o. IsUsed o (times q (es ++ (number, row) ∷ []))) s s' row.key (get s' row.key) refl held.others
+      (used_open (get s' row.key) path _ held.stands count (let more = one_more in omega (arith, more)) folded) (λ q apart. subst (IsUsed (get s q)) (others_same q apart) (table.keys q))
+
+  added_found : (text : List ℕ) (q : ℕ) → paths' text ≡ Some q → IsOpenAt (get s' q) text
+  added_found text q is = by (bytes_eq path text) refl
     where
-      add_none : (n : ℕ) → n + 0 ≡ n
-      add_none n = omega arith
+      by : (b : Bool) → bytes_eq path text ≡ b → IsOpenAt (get s' q) text
+      by true e =
+          let same : row.key ≡ q = same_key row.key q (sym (held.paths text ∙ cond-true _ _ _ e) ∙ is) in
+          subst (λ k. IsOpenAt (get s' k) text) same (subst (IsOpenAt (get s' row.key)) ((bytes_decides path text).0 e) held.stands)
+      by false e =
+          let was : IsOpenAt (get s q) text = table.found text q (sym (held.paths text ∙ cond-false _ _ _ e) ∙ is) in
+          let apart : q ≢ row.key = λ same.
+          let here : IsOpenAt (get s row.key) text = subst (λ k. IsOpenAt (get s k) text) same was in
+          let k = open_some (get s row.key) text here in
+          false≢true (sym e ∙ (bytes_decides path text).1 (open_one (get s row.key) path text (held.was k.0 k.1) here)) in
+          subst (λ o. IsOpenAt o text) (sym (held.others q apart)) was
 
-  pub added_table : IsStrictlySortedBy nat_cmp (keys_of (es ++ (number, row) ∷ [])) → length counts ≡ 64 → row.session < 64 → IsFoldedPath row.path.items
-      → IsTable v (es ++ (number, row) ∷ []) (set counts row.session (get_or counts row.session 0 + 1)) since
-  added_table rises long session path = record {
-    rises = rises;
-    counts = subst (AreCounts (set counts row.session (get_or counts row.session 0 + 1))) (sym added_handles) (counts_push counts (handles_of u es) (record { number = number; session = row.session; mask = row.mask; place = At (path_of row.path.items) }) long table.counts);
-    usages = at_each (λ t o. IsUsage o (times t (es ++ (number, row) ∷ []))) u v row.path.items _ updates one_more other_rows;
-    removed = λ t. subst (λ n. n ≤ since) (sym (removed_same t)) (table.removed t);
-    fit = All-push (λ (e : ℕ × Row). IsFit e.1) es (number, row) table.fit (record { session = session; path = path });
-  }
+  added_listed : (text : List ℕ) (q : ℕ) → IsOpenAt (get s' q) text → paths' text ≡ Some q
+  added_listed text q = at_each (λ q o. IsOpenAt o text → paths' text ≡ Some q) s s' row.key (get s' row.key) refl held.others here (λ q apart is. by q apart is (bytes_eq path text) refl) q
+    where
+      here : IsOpenAt (get s' row.key) text → paths' text ≡ Some row.key
+      here is = held.paths text ∙ cond-true _ _ _ ((bytes_decides path text).1 (open_one (get s' row.key) path text held.stands is))
 
-  -- the same of the rows as the call names them
-  pub added_to : (es' : List (ℕ × Row)) → es' ≡ es ++ (number, row) ∷ [] → IsStrictlySortedBy nat_cmp (keys_of es') → length counts ≡ 64 → row.session < 64 → IsFoldedPath row.path.items
-      → IsTable v es' (set counts row.session (get_or counts row.session 0 + 1)) since
-  added_to es' are rises long session path =
-      subst (λ l. IsTable v l (set counts row.session (get_or counts row.session 0 + 1)) since) (sym are) (added_table (subst (λ l. IsStrictlySortedBy nat_cmp (keys_of l)) are rises) long session path)
+      by : (q : ℕ) → q ≢ row.key → IsOpenAt (get s q) text → (b : Bool) → bytes_eq path text ≡ b → paths' text ≡ Some q
+      by q apart is true e = absurd (apart (held.alone q (ap paths ((bytes_decides path text).0 e) ∙ table.listed text q is)))
+      by q apart is false e = held.paths text ∙ cond-false _ _ _ e ∙ table.listed text q is
+
+  -- the table with the row behind all others, as the call names the rows
+  pub added_table : (es' : List (ℕ × Row)) → es' ≡ es ++ (number, row) ∷ [] → length counts ≡ 64 → row.session < 64 → IsFoldedPath path → IsTable s' paths' es' (set counts row.session (get_or counts row.session 0 + 1))
+  added_table es' are long session folded =
+      subst (λ l. IsTable s' paths' l (set counts row.session (get_or counts row.session 0 + 1))) (sym are)
+      (record {
+        counts = subst (AreCounts (set counts row.session (get_or counts row.session 0 + 1))) (sym added_handles) (counts_push counts (handles_of s es) (record { number = number; session = row.session; mask = row.mask; place = At (path_of path) }) long table.counts);
+        keys = added_keys folded;
+        found = added_found;
+        listed = added_listed;
+        fit = All-push (λ (e : ℕ × Row). e.1.session < 64) es (number, row) table.fit session;
+      })

@@ -1,5 +1,7 @@
+pub mod Ordered
 pub mod Texts
-pub mod Rows
+pub mod Held
+pub mod Listed
 pub mod Looks
 pub mod Changes
 pub mod Added

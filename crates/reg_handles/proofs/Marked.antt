@@ -1,82 +1,95 @@
--- A table in which a path's handles lead nowhere any more.
-use Rattle.std.proofs.Common.{◌≡◌, ℕ, ◌<◌, ◌≤◌, Bool, true, false, nat_lt, List, [], ◌∷◌, Option, Some, None, refl, sym, ap, ◌∙◌, arith}
+-- A table of which a key was deleted.
+use Rattle.std.proofs.Common.{◌≡◌, ℕ, Bool, true, false, cond, List, [], ◌∷◌, Option, Some, None, refl, sym, ap, subst, ◌∙◌, arith}
 use Rattle.std.specs.Prelude.{bytes_eq, option_map}
-use Rattle.std.specs.List.{All, AllByRecursion}
 use Rattle.std.specs.Cmp.Lexicographic.{bytes_decides}
-use Rattle.std.proofs.lemmas.Bool.{cond-true, cond-false}
+use Rattle.std.proofs.lemmas.Bool.{cond-true, cond-false, false≢true}
 use Rattle.std.proofs.lemmas.Bool.Decides.{nat_tests}
-use Rattle.std.proofs.lemmas.List.Elements.{recursion_from_All}
+use Rattle.std.proofs.lemmas.Cmp.{nat_list_eq_equiv}
+use Rattle.slab.specs.Slab.{Slab, get}
 use Rattle.reg_names.specs.Names.{path_of}
-use Rattle.reg_model.specs.Worlds.{Handle, Deleted, turned, place_without}
-use Rattle.reg_handles.specs.Usages.{removed_of, with_removed, Updates}
-use Rattle.reg_handles.specs.Rows.{handles_of, place_in, times, IsUsage, IsTable}
-use Rattle.reg_handles.specs.declared.usages.Usage.{Usage}
-use Rattle.reg_handles.specs.declared.handles.Row.{Row}
+use Rattle.reg_model.specs.Worlds.{Deleted, turned, place_without}
+use Rattle.reg_handles.specs.Keys.{place_of, leads_to, without_key, IsOpenAt, UpdatesPath}
+use Rattle.reg_handles.specs.Rows.{handles_of, times, IsUsed, IsTable}
+use Rattle.reg_handles.specs.declared.keys.OpenKey.{OpenKey}
+use Rattle.reg_handles.specs.declared.rows.Row.{Row}
 use Rattle.reg_handles.proofs.Texts.{same_path-texts}
-use Rattle.reg_handles.proofs.Rows.{rows_below, times_here, some_more, count_any}
-use Rattle.reg_handles.proofs.Changes.{at_each}
+use Rattle.reg_handles.proofs.Listed.{count_any}
+use Rattle.reg_handles.proofs.Changes.{open_place, open_one}
 
-is_usage_removed : (o : Option Usage) (removed rows : ℕ) → IsUsage o rows → IsUsage (option_map (with_removed removed) o) rows
-is_usage_removed None removed rows e = e
-is_usage_removed (Some u) removed rows e = e
+deleted_used : (o : Option OpenKey) (rows : ℕ) → IsUsed o rows → IsUsed (option_map without_key o) rows
+deleted_used None rows used = used
+deleted_used (Some k) rows used = used
 
-removed_bound : (o : Option Usage) (removed : ℕ) → removed_of (option_map (with_removed removed) o) ≤ removed
-removed_bound None removed = omega arith
-removed_bound (Some u) removed = omega arith
+deleted_place : (o : Option OpenKey) → place_of (option_map without_key o) ≡ Deleted
+deleted_place None = refl
+deleted_place (Some k) = refl
 
-some_usage : (o : Option Usage) (removed rows : ℕ) → IsUsage o rows → 0 < rows → removed_of (option_map (with_removed removed) o) ≡ removed
-some_usage None removed rows e some = absurd (omega (arith, e, some))
-some_usage (Some u) removed rows e some = refl
+deleted_closed : (o : Option OpenKey) (text : List ℕ) → IsOpenAt (option_map without_key o) text → ⊥
+deleted_closed None text is = is
+deleted_closed (Some k) text is = false≢true (sym is.1)
 
--- a row of the path leads nowhere any more
-here : (p t : List ℕ) (number removed before : ℕ) → bytes_eq p t ≡ true → number < removed → place_in removed number t ≡ place_without (path_of p) (place_in before number t)
-here p t number removed before same below =
-    let now_below : nat_lt number removed ≡ true = grind (arith, nat_tests, below) in
-    rw now_below (by (nat_lt number before) refl)
+-- a place stays that is not the path's
+other_place : (o : Option OpenKey) (p : List ℕ) → ¬ (IsOpenAt o p) → place_of o ≡ place_without (path_of p) (place_of o)
+other_place None p apart = refl
+other_place (Some k) p apart = by k.is_deleted refl (bytes_eq p k.path.items) refl
   where
-    by : (b : Bool) → nat_lt number before ≡ b → Deleted ≡ place_without (path_of p) (place_in before number t)
-    by true e = rw e refl
-    by false e = rw (e, same_path-texts t p, same) refl
+    by : (gone : Bool) → k.is_deleted ≡ gone → (same : Bool) → bytes_eq p k.path.items ≡ same → place_of (Some k) ≡ place_without (path_of p) (place_of (Some k))
+    by true is same e = rw is refl
+    by false is true e = absurd (apart (sym ((bytes_decides p k.path.items).0 e), is))
+    by false is false e = rw (is, same_path-texts k.path.items p, e) refl
 
--- each other row leads where it led
-there : (p t : List ℕ) (number before : ℕ) → bytes_eq p t ≡ false → place_in before number t ≡ place_without (path_of p) (place_in before number t)
-there p t number before apart = by (nat_lt number before) refl
-  where
-    by : (b : Bool) → nat_lt number before ≡ b → place_in before number t ≡ place_without (path_of p) (place_in before number t)
-    by true e = rw e refl
-    by false e = rw (e, same_path-texts t p, apart) refl
+leads_is : (o : Option ℕ) (q : ℕ) → leads_to o q ≡ true → o ≡ Some q
+leads_is None q e = absurd (false≢true e)
+leads_is (Some k) q e = let same : k ≡ q = grind (arith, nat_tests) in ap Some same
 
-module _ (u v : List ℕ → Option Usage) (p : List ℕ) (removed : ℕ) (updates : Updates u p (option_map (with_removed removed) (u p)) v) where
-  place : (e : ℕ × Row) (rows : ℕ) → e.0 < removed → IsUsage (u e.1.path.items) rows → 0 < rows
-      → place_in (removed_of (v e.1.path.items)) e.0 e.1.path.items ≡ place_without (path_of p) (place_in (removed_of (u e.1.path.items)) e.0 e.1.path.items)
-  place e rows below is some = by (bytes_eq p e.1.path.items) refl
+is_leads : (o : Option ℕ) (q : ℕ) → o ≡ Some q → leads_to o q ≡ true
+is_leads None q e = absurd (cc)
+is_leads (Some k) q e = let same : k ≡ q = cc in grind (arith, nat_tests, same)
+
+module _ (s s' : Slab OpenKey) (paths paths' : List ℕ → Option ℕ) (p : List ℕ) (es : List (ℕ × Row)) (counts : List ℕ) (table : IsTable s paths es counts)
+    (slots : (q : ℕ) → get s' q ≡ cond (leads_to (paths p) q) (option_map without_key (get s q)) (get s q)) (freed : UpdatesPath paths p None paths') where
+  -- the path's own key is known to be deleted, and each other key is as before
+  by_key : (P : ℕ → Option OpenKey → Type 0) → ((q : ℕ) → IsOpenAt (get s q) p → P q (option_map without_key (get s q))) → ((q : ℕ) → ¬ (IsOpenAt (get s q) p) → P q (get s q)) → (q : ℕ) → P q (get s' q)
+  by_key P here there q = by (leads_to (paths p) q) refl
     where
-      by : (b : Bool) → bytes_eq p e.1.path.items ≡ b → place_in (removed_of (v e.1.path.items)) e.0 e.1.path.items ≡ place_without (path_of p) (place_in (removed_of (u e.1.path.items)) e.0 e.1.path.items)
-      by true same =
-          let one : u p ≡ u e.1.path.items = ap u ((bytes_decides p e.1.path.items).0 same) in
-          let turned_to : removed_of (v e.1.path.items) ≡ removed =
-          ap removed_of (updates e.1.path.items ∙ cond-true _ _ _ same ∙ ap (option_map (with_removed removed)) one) ∙ some_usage (u e.1.path.items) removed rows is some in
-          rw turned_to (here p e.1.path.items e.0 removed (removed_of (u e.1.path.items)) same below)
-      by false apart =
-          let stays : v e.1.path.items ≡ u e.1.path.items = updates e.1.path.items ∙ cond-false _ _ _ apart in
-          rw stays (there p e.1.path.items e.0 (removed_of (u e.1.path.items)) apart)
+      by : (b : Bool) → leads_to (paths p) q ≡ b → P q (get s' q)
+      by true e = subst (P q) (sym (slots q ∙ cond-true _ _ _ e)) (here q (table.found p q (leads_is (paths p) q e)))
+      by false e = subst (P q) (sym (slots q ∙ cond-false _ _ _ e)) (there q (λ is. false≢true (sym e ∙ is_leads (paths p) q (table.listed p q is))))
 
-  at_rows : (usages : List ℕ → ℕ) → ((t : List ℕ) → IsUsage (u t) (usages t)) → (es : List (ℕ × Row)) → ((t : List ℕ) → 0 < times t es → 0 < usages t) → AllByRecursion (λ (e : ℕ × Row). e.0 < removed) es
-      → handles_of v es ≡ turned (path_of p) (handles_of u es)
-  at_rows usages are [] some below = refl
-  at_rows usages are (e ∷ es) some below =
-      ap (λ q. record { number = e.0; session = e.1.session; mask = e.1.mask; place = q } ∷ handles_of v es) (place e (usages e.1.path.items) below.0 (are e.1.path.items) (some e.1.path.items (times_here e es)))
-      ∙ ap (λ l. record { number = e.0; session = e.1.session; mask = e.1.mask; place = place_without (path_of p) (place_in (removed_of (u e.1.path.items)) e.0 e.1.path.items) } ∷ l) (at_rows usages are es (λ t is. some t (some_more t e es is)) below.1)
+  place : (q : ℕ) → place_of (get s' q) ≡ place_without (path_of p) (place_of (get s q))
+  place = by_key (λ q o. place_of o ≡ place_without (path_of p) (place_of (get s q)))
+      (λ q is. deleted_place (get s q) ∙ sym (ap (place_without (path_of p)) (open_place (get s q) p is) ∙ rw (same_path-texts p p, nat_list_eq_equiv.refl p) refl)) (λ q apart. other_place (get s q) p apart)
 
-  module _ (es : List (ℕ × Row)) (counts : List ℕ) (since : ℕ) (table : IsTable u es counts since) where
-    pub marked_handles : All (λ (h : Handle). h.number < removed) (handles_of u es) → handles_of v es ≡ turned (path_of p) (handles_of u es)
-    marked_handles below = at_rows (λ t. times t es) table.usages es (λ t some. some) (recursion_from_All _ es (rows_below u es removed below))
+  at_rows : (rows : List (ℕ × Row)) → handles_of s' rows ≡ turned (path_of p) (handles_of s rows)
+  at_rows [] = refl
+  at_rows (e ∷ rows) =
+      ap (λ q. record { number = e.0; session = e.1.session; mask = e.1.mask; place = q } ∷ handles_of s' rows) (place e.1.key)
+      ∙ ap (λ l. record { number = e.0; session = e.1.session; mask = e.1.mask; place = place_without (path_of p) (place_of (get s e.1.key)) } ∷ l) (at_rows rows)
 
-    pub marked_table : since ≤ removed → IsTable v es counts removed
-    marked_table late = record {
-      rises = table.rises;
-      counts = λ session small. table.counts session small ∙ sym (count_any u v session es);
-      usages = at_each (λ t o. IsUsage o (times t es)) u v p _ updates (is_usage_removed (u p) removed (times p es) (table.usages p)) (λ t e. table.usages t);
-      removed = at_each (λ t o. removed_of o ≤ removed) u v p _ updates (removed_bound (u p) removed) (λ t e. let bound : removed_of (u t) ≤ since = table.removed t in omega (arith, bound, late));
-      fit = table.fit;
-    }
+  pub marked_handles : handles_of s' es ≡ turned (path_of p) (handles_of s es)
+  marked_handles = at_rows es
+
+  marked_found : (text : List ℕ) (q : ℕ) → paths' text ≡ Some q → IsOpenAt (get s' q) text
+  marked_found text q is = by (bytes_eq p text) refl
+    where
+      by : (b : Bool) → bytes_eq p text ≡ b → IsOpenAt (get s' q) text
+      by true e = absurd (let none : paths' text ≡ None = freed text ∙ cond-true _ _ _ e in cc)
+      by false e =
+          by_key (λ q o. IsOpenAt (get s q) text → IsOpenAt o text) (λ q here was. absurd (false≢true (sym e ∙ (bytes_decides p text).1 (open_one (get s q) p text here was)))) (λ q apart was. was) q
+          (table.found text q (sym (freed text ∙ cond-false _ _ _ e) ∙ is))
+
+  marked_listed : (text : List ℕ) (q : ℕ) → IsOpenAt (get s' q) text → paths' text ≡ Some q
+  marked_listed text = by_key (λ q o. IsOpenAt o text → paths' text ≡ Some q) (λ q here is. absurd (deleted_closed (get s q) text is)) (λ q apart is. by q apart is (bytes_eq p text) refl)
+    where
+      by : (q : ℕ) → ¬ (IsOpenAt (get s q) p) → IsOpenAt (get s q) text → (b : Bool) → bytes_eq p text ≡ b → paths' text ≡ Some q
+      by q apart is true e = absurd (apart (subst (IsOpenAt (get s q)) (sym ((bytes_decides p text).0 e)) is))
+      by q apart is false e = freed text ∙ cond-false _ _ _ e ∙ table.listed text q is
+
+  pub marked_table : IsTable s' paths' es counts
+  marked_table = record {
+    counts = λ session small. table.counts session small ∙ sym (count_any s s' session es);
+    keys = by_key (λ q o. IsUsed o (times q es)) (λ q is. deleted_used (get s q) (times q es) (table.keys q)) (λ q apart. table.keys q);
+    found = marked_found;
+    listed = marked_listed;
+    fit = table.fit;
+  }

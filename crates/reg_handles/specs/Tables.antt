@@ -5,10 +5,9 @@ use Rattle.reg_names.specs.Names.{folded, path_of, is_path}
 use Rattle.reg_heap.specs.Paths.{Path, coded_bytes}
 use Rattle.reg_model.specs.Worlds.{Handle, Place, At, Deleted}
 
--- the open handles in the order of their numbers, and a number that no deletion is past
+-- the open handles in the order of their numbers
 pub record Table : Type 0 where
   pub handles : List Handle
-  pub since : ℕ
 
 -- a text that is a path, as folded names
 pub record IsFoldedPath (text : List ℕ) : Type 0 where
@@ -37,4 +36,4 @@ coded_handle =
     (λ p. record { number = p.0.0; session = p.0.1; mask = p.1.0; place = p.1.1 }) (λ _. refl)
 
 abbrev pub coded_table : Coded Table
-coded_table = code_by (List Handle × ℕ) (coded× (coded_list coded_handle) coded_ℕ) (λ t. (t.handles, t.since)) (λ p. record { handles = p.0; since = p.1 }) (λ _. refl)
+coded_table = code_by (List Handle) (coded_list coded_handle) (λ t. t.handles) (λ hs. record { handles = hs }) (λ _. refl)

@@ -1,27 +1,15 @@
 //! The open handles by their numbers.
-ghost use Rattle.std.specs.Prelude.{◌≡◌, ◌+◌, ◌^◌, ◌<◌, ◌≤◌, ◌++◌, ◌∷◌, [], OnOk, OnErr, All, length, map, is_some, true, IfSome};
-ghost use Rattle.std.specs.Ordering.{nat_cmp};
-ghost use Rattle.std.specs.BTreeMap.{IsOrdered};
+ghost use Rattle.std.specs.Prelude.{◌≡◌, ◌<◌, ◌++◌, ◌∷◌, [], OnOk, OnErr, All, length, map, is_some, true};
 ghost use Rattle.reg_names.specs.Names.{folded as folded_name, path_of, is_path};
 ghost use Rattle.reg_model.specs.Worlds.{look, closed, turned, At};
 ghost use Rattle.reg_model.specs.Causes.{handles_of as count_of};
-ghost use Rattle.reg_handles.specs.Founds.{shown, place_shown, IfLeads};
-ghost use Rattle.reg_handles.specs.Rows.{place_in};
-ghost use Rattle.reg_handles.specs.Usages.{usage_in, removed_of};
+ghost use Rattle.reg_handles.specs.Founds.{shown, IfLeads};
 ghost use Rattle.reg_handles.specs.Tables.{IsFoldedPath};
 
-use crate::usages::Usages;
+use crate::keys::OpenKeys;
+use crate::rows::{Row, Rows};
 use std::alloc::{AllocError, Global};
-use std::collections::BTreeMap;
 use std::marker::Model;
-
-/// An open handle: its session, its rights, and the folded path of its key as text.
-#[derive(Drop)]
-struct Row {
-    session: u8,
-    mask: u32,
-    path: Vec<u8>,
-}
 
 /// A handle that was found: its rights, and the folded path of its key as text, or `None` where that key was deleted.
 #[derive(Clone, Copy)]
@@ -30,13 +18,12 @@ pub struct Found<'a> {
     pub path: Option<&'a [u8]>,
 }
 
-/// The open handles of a hive by number, with a count for each session and a usage for each path.
+/// The open handles of a hive by number, with the keys that they lead to and a count for each session.
 #[derive(Drop)]
 pub struct Handles {
-    rows: BTreeMap<u64, Row>,
-    usages: Usages,
+    rows: Rows,
+    keys: OpenKeys,
     counts: [u32; 64],
-    since: u64,
 }
 
 impl Model for Handles {
@@ -46,52 +33,24 @@ impl Model for Handles {
 
     ghost coded = { coded_table };
 
-    ghost use Rattle.reg_handles.specs.Usages.{usage_in};
+    ghost use Rattle.reg_handles.specs.Ordered.{ordered};
+    ghost use Rattle.reg_handles.specs.Keys.{key_at};
     ghost use Rattle.reg_handles.specs.Rows.{handles_of, IsTable};
 
-    ghost view = { λ h. record { handles = handles_of (usage_in h.usages.by_text.entries) h.rows.entries; since = h.since } };
+    ghost view = { λ h. record { handles = handles_of h.keys.slots (ordered h.rows.by_number.entries) } };
 
-    ghost invariant = { λ h. IsTable (usage_in h.usages.by_text.entries) h.rows.entries h.counts h.since };
-}
-
-/// Puts a row behind all others. Where memory is short, nothing has changed.
-fn push_row(rows: &mut BTreeMap<u64, Row>, number: u64, row: Row) -> Result<(), AllocError>
-    requires { All (λ e. e.0 < number) rows.old.entries }
-    ensures ok { OnOk result (rows.new.entries ≡ rows.old.entries ++ (number, row) ∷ []) }
-    ensures err { OnErr result (rows.new.entries ≡ rows.old.entries) }
-    ensures rises { IsOrdered nat_cmp rows.new }
-{
-    match rows.insert(number, row) {
-        Ok(_) => Ok(()),
-        Err(_) => Err(AllocError),
-    }
-}
-
-/// The text of a row's path, or `None` where its key was deleted. A row that came after every deletion needs no look-up.
-fn path_in<'a>(usages: &Usages, since: u64, number: u64, row: &'a Row) -> Option<&'a [u8]>
-    requires { removed_of (usage_in usages.now.by_text.entries row.now.path.items) ≤ since }
-    ensures place { place_shown result ≡ place_in (removed_of (usage_in usages.now.by_text.entries row.now.path.items)) number row.now.path.items }
-    ensures text { IfSome result (λ path. path.now ≡ row.now.path.items) }
-{
-    let text = row.path.as_slice();
-    if number < since && number < usages.get(text).removed {
-        None
-    } else {
-        Some(text)
-    }
+    ghost invariant = { λ h. IsTable h.keys.slots (key_at h.keys.by_path.entries) (ordered h.rows.by_number.entries) h.counts };
 }
 
 impl Handles {
     /// A table with no handle.
     pub fn new(alloc: Global) -> Handles
-        ensures handles { result.handles ≡ [] }
-        ensures since { result.since ≡ 0 }
+        ensures { result.handles ≡ [] }
     {
         Handles {
-            rows: BTreeMap::new(alloc),
-            usages: Usages::new(alloc),
+            rows: Rows::new(alloc),
+            keys: OpenKeys::new(alloc),
             counts: [0; 64],
-            since: 0,
         }
     }
 
@@ -115,10 +74,10 @@ impl Handles {
         ensures handle { shown session number result ≡ look session number self.now.handles }
         ensures path { IfLeads result IsFoldedPath }
     {
-        match self.rows.get(&number) {
+        match self.rows.get(number) {
             Some(row) if row.session == session => Some(Found {
                 mask: row.mask,
-                path: path_in(&self.usages, self.since, number, row),
+                path: self.keys.path(row.key),
             }),
             _ => None,
         }
@@ -133,60 +92,39 @@ impl Handles {
         path: Vec<u8>,
     ) -> Result<(), AllocError>
         requires above { All (λ h. h.number < number) self.old.handles }
-        requires since { self.old.since ≤ number }
         requires session { session < 64 }
         requires room { count_of session self.old.handles < 16384 }
         requires path { is_path path.items ≡ true }
         requires folded { map folded_name (path_of path.items) ≡ path_of path.items }
         ensures ok { OnOk result (self.new.handles ≡ self.old.handles ++ record { number = number; session = session; mask = mask; place = At (path_of path.items) } ∷ []) }
-        ensures since { self.new.since ≡ self.old.since }
         ensures err { OnErr result (self.new ≡ self.old) }
     {
-        // A text has no more rows than the table, so that its count has room for one more.
-        let open = self.rows.len();
-        prove!(open < usize::MAX);
-        let text = path.clone()?;
-        let row = Row {
-            session,
-            mask,
-            path,
-        };
-        push_row(&mut self.rows, number, row)?;
-        match self.usages.count_up(text) {
-            Ok(()) => {
-                self.counts[session as usize] += 1;
-                Ok(())
-            }
-            Err(_) => {
-                self.rows.remove(&number);
-                Err(AllocError)
-            }
-        }
+        // A key has no more rows than the table, so that its count has room for one more.
+        let rows = self.rows.len();
+        prove!(rows < usize::MAX);
+        self.rows.reserve()?;
+        let key = self.keys.hold(path)?;
+        let row = Row { session, mask, key };
+        self.rows.push(number, row);
+        self.counts[session as usize] += 1;
+        Ok(())
     }
 
     /// Closes a handle of the session, which has it.
     pub fn close(&mut self, session: u8, number: u64)
         requires { is_some (look session number self.old.handles) ≡ true }
-        ensures handles { self.new.handles ≡ closed number self.old.handles }
-        ensures since { self.new.since ≡ self.old.since }
+        ensures { self.new.handles ≡ closed number self.old.handles }
     {
-        if let Some(row) = self.rows.remove(&number) {
-            self.usages.count_down(row.path.as_slice());
+        if let Some(row) = self.rows.remove(number) {
+            self.keys.release(row.key);
             self.counts[session as usize] -= 1;
         }
     }
 
-    /// The key at a path was deleted by the entry of a number that no handle's is above: the handles on it lead nowhere any more.
-    pub fn mark_deleted(&mut self, path: &[u8], by: u64)
-        requires above { All (λ h. h.number < by + 1) self.old.handles }
-        requires bound { by + 1 < 2 ^ 64 }
-        requires since { self.old.since ≤ by }
-        requires folded { map folded_name (path_of path.now) ≡ path_of path.now }
-        ensures handles { self.new.handles ≡ turned (path_of path.now) self.old.handles }
-        ensures since { self.new.since ≤ by + 1 }
+    /// The key at a path was deleted: the handles on it lead nowhere any more.
+    pub fn mark_deleted(&mut self, path: &[u8])
+        ensures { self.new.handles ≡ turned (path_of path.now) self.old.handles }
     {
-        let removed = by + 1;
-        self.usages.mark_removed(path, removed);
-        self.since = removed;
+        self.keys.mark_deleted(path);
     }
 }

@@ -56,7 +56,7 @@ fn a_deleted_key_is_not_the_one_made_later(rt: HostRuntime) -> Result<(), Fail> 
     let mut handles = Handles::new(alloc);
     handles.add(3, 7, 5, path_a(alloc)?)?;
     handles.add(4, 9, 6, path_b(alloc)?)?;
-    handles.mark_deleted(path_a(alloc)?.as_slice(), 12);
+    handles.mark_deleted(path_a(alloc)?.as_slice());
     handles.add(5, 13, 1, path_a(alloc)?)?;
     assert_eq!(rt; told(&handles, alloc, 3, 7)?.as_str(), "5 deleted");
     assert_eq!(rt; told(&handles, alloc, 4, 9)?.as_str(), "6 of 3 bytes");
@@ -77,5 +77,17 @@ fn a_closed_handle_is_gone(rt: HostRuntime) -> Result<(), Fail> {
         (handles.len(), handles.count(3), handles.count(4)),
         (1, 1, 0)
     );
+    Ok(())
+}
+
+#[test]
+fn closing_a_deleted_keys_handle_leaves_the_new_keys(rt: HostRuntime) -> Result<(), Fail> {
+    let alloc = rt.alloc();
+    let mut handles = Handles::new(alloc);
+    handles.add(3, 7, 5, path_a(alloc)?)?;
+    handles.mark_deleted(path_a(alloc)?.as_slice());
+    handles.add(3, 9, 1, path_a(alloc)?)?;
+    handles.close(3, 7);
+    assert_eq!(rt; told(&handles, alloc, 3, 9)?.as_str(), "1 of 1 bytes");
     Ok(())
 }

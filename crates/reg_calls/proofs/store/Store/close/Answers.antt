@@ -6,4 +6,4 @@ close-requires c = close-has c.args.number c.args.self.now c.args.session c.requ
 
 pub returns : goal.returns
 returns c = λ moment.
-    close-done c.args.number c.args.self.now c.args.session c.requires.ready moment c.args.handle c.close.new.self c.close.ensures.handles c.close.ensures.since c.accepted.result c.accepted.ensures
+    close-done c.args.number c.args.self.now c.args.session c.requires.ready moment c.args.handle c.close.new.self c.close.ensures c.accepted.result c.accepted.ensures

@@ -12,4 +12,4 @@ add-requires-clause-path c = ap is_path c.new.ensures.items
 
 pub returns-in-Ok : goal.returns-in-Ok
 returns-in-Ok c = λ moment.
-    root-done c.args.number c.args.self.now c.args.session c.requires.ready moment c.args.mask c.add.new.self _ c.new.ensures.items c.in-Ok.ensures.ok c.in-Ok.ensures.since c.opened.result c.opened.ensures
+    root-done c.args.number c.args.self.now c.args.session c.requires.ready moment c.args.mask c.add.new.self _ c.new.ensures.items c.in-Ok.ensures.ok c.opened.result c.opened.ensures

@@ -1,6 +1,6 @@
-use Rattle.reg_handles.specs.Usages.{usage_in}
+use Rattle.reg_handles.specs.Keys.{key_at}
 use Rattle.reg_handles.proofs.Changes.{none_table}
 use Rattle.reg_handles.proofs.handles.Handles.new.Goals as goal
 
 pub invariant_of-result : goal.invariant_of-result
-invariant_of-result c = rw c.new.ensures.empty (none_table (usage_in c.new-2.result.by_text.entries) c.new-2.ensures)
+invariant_of-result c = rw c.new.ensures (none_table c.new-2.result.slots (key_at c.new-2.result.by_path.entries) c.new-2.ensures.slots c.new-2.ensures.paths)

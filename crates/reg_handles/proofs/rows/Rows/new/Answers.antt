@@ -1,0 +1,5 @@
+use Rattle.reg_handles.proofs.Ordered.{ordered_none}
+use Rattle.reg_handles.proofs.rows.Rows.new.Goals as goal
+
+pub returns : goal.returns
+returns c = rw c.new.ensures.empty ordered_none

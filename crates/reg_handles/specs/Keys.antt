@@ -1,0 +1,64 @@
+-- The slab of the open keys, and the map from their paths to where they stand.
+use Rattle.std.specs.Prelude.{◌≡◌, ◌≢◌, ℕ, ◌+◌, ◌-◌, ◌==◌, ◌&&◌, not, Bool, true, false, List, Option, Some, None, if◌then◌else◌, bytes_eq, Vec}
+use Rattle.std.specs.Ordering.{nat_cmp}
+use Rattle.std.specs.Cmp.Lexicographic.{slice_cmp}
+use Rattle.std.specs.BTreeMap.{is_at}
+use Rattle.std.specs.Map.{lookup}
+use Rattle.slab.specs.Slab.{Slab, get}
+use Rattle.reg_names.specs.Names.{path_of}
+use Rattle.reg_model.specs.Worlds.{Place, At, Deleted}
+use Rattle.reg_handles.specs.declared.keys.OpenKey.{OpenKey}
+
+-- where the key at a path stands that was not deleted, if it has rows
+abbrev pub key_at : {Y : Type 0} → List (Vec ℕ Y × ℕ) → List ℕ → Option ℕ
+key_at es text = lookup (is_at (λ k. slice_cmp nat_cmp text k.items)) es
+
+-- how many rows have the key
+abbrev pub rows_of : Option OpenKey → ℕ
+rows_of None = 0
+rows_of (Some k) = k.rows
+
+-- where the key's rows lead
+abbrev pub place_of : Option OpenKey → Place
+place_of None = Deleted
+place_of (Some k) = if k.is_deleted then Deleted else At (path_of k.path.items)
+
+-- the key stands there, has that text as its path, and was not deleted
+abbrev pub IsOpenAt : Option OpenKey → List ℕ → Type 0
+IsOpenAt None text = ⊥
+IsOpenAt (Some k) text = (k.path.items ≡ text) × (k.is_deleted ≡ false)
+
+-- a key with one row more
+abbrev pub with_one_more : OpenKey → OpenKey
+with_one_more k = record k { rows = k.rows + 1 }
+
+-- a key with one row less; with its last row it goes
+abbrev pub with_one_less : Option OpenKey → Option OpenKey
+with_one_less None = None
+with_one_less (Some k) = if k.rows == 1 then None else Some (record k { rows = k.rows - 1 })
+
+-- a key that was deleted
+abbrev pub without_key : OpenKey → OpenKey
+without_key k = record k { is_deleted = true }
+
+-- with the key's last row its path is free, unless it was before
+abbrev pub is_freed : Option OpenKey → List ℕ → Bool
+is_freed None text = false
+is_freed (Some k) text = k.rows == 1 && not k.is_deleted && bytes_eq k.path.items text
+
+abbrev pub leads_to : Option ℕ → ℕ → Bool
+leads_to None key = false
+leads_to (Some k) key = k == key
+
+-- at a path the map tells that, and at each other path what it told
+abbrev pub UpdatesPath : (List ℕ → Option ℕ) → List ℕ → Option ℕ → (List ℕ → Option ℕ) → Type 0
+UpdatesPath before text key after = (other : List ℕ) → after other ≡ (if bytes_eq text other then key else before other)
+
+-- a row more has the key at a path: the one that stood there, or a new one where the path had none
+pub record IsHeld (s s' : Slab OpenKey) (before after : List ℕ → Option ℕ) (path : List ℕ) (key : ℕ) : Type 0 where
+  pub was : (k : OpenKey) → get s key ≡ Some k → IsOpenAt (get s key) path
+  pub alone : (other : ℕ) → before path ≡ Some other → other ≡ key
+  pub stands : IsOpenAt (get s' key) path
+  pub rows : rows_of (get s' key) ≡ rows_of (get s key) + 1
+  pub others : (other : ℕ) → other ≢ key → get s' other ≡ get s other
+  pub paths : UpdatesPath before path (Some key) after

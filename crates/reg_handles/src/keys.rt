@@ -1,0 +1,170 @@
+//! The keys that handles lead to, and those that were deleted under a handle.
+ghost use Rattle.std.specs.Prelude.{◌≡◌, ◌+◌, ◌^◌, ◌<◌, List, [], ℕ, None, Some, OnErr, IfOk, if◌then◌else◌, IfSome, option_map, false};
+ghost use Rattle.slab.specs.Slab.{get, Updates};
+ghost use Rattle.reg_handles.specs.Founds.{place_shown};
+ghost use Rattle.reg_handles.specs.Keys.{key_at, rows_of, place_of, is_freed, leads_to, with_one_more, with_one_less, without_key, UpdatesPath, IsHeld, IsOpenAt};
+
+use slab::Slab;
+use std::alloc::{AllocError, Global};
+use std::collections::BTreeMap;
+
+/// A key that handles lead to: its folded path as text, how many rows have it, and whether it was deleted.
+#[derive(Drop)]
+pub struct OpenKey {
+    pub path: Vec<u8>,
+    pub rows: u64,
+    pub is_deleted: bool,
+}
+
+/// The keys with rows, in a slab, and where each key stands there that was not deleted, by its path's text.
+#[derive(Drop)]
+pub struct OpenKeys {
+    slots: Slab<OpenKey>,
+    by_path: BTreeMap<Vec<u8>, usize>,
+}
+
+impl OpenKeys {
+    /// No keys.
+    pub fn new(alloc: Global) -> OpenKeys
+        ensures slots { (key : ℕ) → get result.slots key ≡ None }
+        ensures paths { (text : List ℕ) → key_at result.by_path.entries text ≡ None }
+    {
+        OpenKeys {
+            slots: Slab::new(alloc),
+            by_path: BTreeMap::new(alloc),
+        }
+    }
+
+    /// The path of a key as text, or `None` where the key was deleted.
+    pub fn path(&self, key: usize) -> Option<&[u8]>
+        ensures place { place_shown result ≡ place_of (get self.now.slots key) }
+        ensures text { IfSome result (λ path. IsOpenAt (get self.now.slots key) path.now) }
+    {
+        match self.slots.get(key) {
+            Some(held) if !held.is_deleted => Some(held.path.as_slice()),
+            _ => None,
+        }
+    }
+
+    /// Counts one row more of the key at a path, which a first row brings. Answers where the key stands. Where memory is
+    /// short, no key has changed.
+    pub fn hold(&mut self, path: Vec<u8>) -> Result<usize, AllocError>
+        requires found { (text : List ℕ) (key : ℕ) → key_at self.old.by_path.entries text ≡ Some key → IsOpenAt (get self.old.slots key) text }
+        requires room { (key : ℕ) → rows_of (get self.old.slots key) + 1 < 2 ^ 64 }
+        ensures ok { IfOk result (IsHeld self.old.slots self.new.slots (key_at self.old.by_path.entries) (key_at self.new.by_path.entries) path.items) }
+        ensures slots { OnErr result (self.new.slots.slots ≡ self.old.slots.slots) }
+        ensures paths { OnErr result (self.new.by_path.entries ≡ self.old.by_path.entries) }
+    {
+        match self.find(path.as_slice()) {
+            Some(key) => {
+                self.count_up(key);
+                Ok(key)
+            }
+            None => self.push(path),
+        }
+    }
+
+    /// Where the key at a path stands.
+    fn find(&self, path: &[u8]) -> Option<usize>
+        ensures { result ≡ key_at self.now.by_path.entries path.now }
+    {
+        match self.by_path.get(path) {
+            Some(key) => Some(*key),
+            None => None,
+        }
+    }
+
+    /// Brings the key at a path, with one row. Where memory is short, no key has changed.
+    fn push(&mut self, path: Vec<u8>) -> Result<usize, AllocError>
+        ensures vacant { IfOk result (λ key. get self.old.slots key ≡ None) }
+        ensures slots { IfOk result (λ key. Updates self.old.slots self.new.slots key (Some (record { path = path; rows = 1; is_deleted = false }))) }
+        ensures paths { IfOk result (λ key. UpdatesPath (key_at self.old.by_path.entries) path.items (Some key) (key_at self.new.by_path.entries)) }
+        ensures slots_stay { OnErr result (self.new.slots.slots ≡ self.old.slots.slots) }
+        ensures paths_stay { OnErr result (self.new.by_path.entries ≡ self.old.by_path.entries) }
+    {
+        let text = path.clone()?;
+        self.slots.reserve(1)?;
+        let key = self.slots.vacant_key();
+        match self.by_path.insert(text, key) {
+            Ok(_) => {
+                self.slots.insert_reserved(OpenKey {
+                    path,
+                    rows: 1,
+                    is_deleted: false,
+                });
+                Ok(key)
+            }
+            Err(_) => Err(AllocError),
+        }
+    }
+
+    /// Counts one row more of a key.
+    fn count_up(&mut self, key: usize)
+        requires { rows_of (get self.old.slots key) + 1 < 2 ^ 64 }
+        ensures slots { Updates self.old.slots self.new.slots key (option_map with_one_more (get self.old.slots key)) }
+        ensures paths { self.new.by_path.entries ≡ self.old.by_path.entries }
+    {
+        if let Some(held) = self.slots.get_mut(key) {
+            held.rows += 1;
+        }
+    }
+
+    /// Counts one row less of a key, which has one. A key goes with its last row.
+    pub fn release(&mut self, key: usize)
+        requires { 0 < rows_of (get self.old.slots key) }
+        ensures slots { Updates self.old.slots self.new.slots key (with_one_less (get self.old.slots key)) }
+        ensures paths { (text : List ℕ) → key_at self.new.by_path.entries text ≡ (if is_freed (get self.old.slots key) text then None else key_at self.old.by_path.entries text) }
+    {
+        if self.rows(key) == 1 {
+            self.remove(key);
+        } else {
+            self.count_down(key);
+        }
+    }
+
+    /// How many rows have a key.
+    fn rows(&self, key: usize) -> u64
+        ensures { result ≡ rows_of (get self.now.slots key) }
+    {
+        match self.slots.get(key) {
+            Some(held) => held.rows,
+            None => 0,
+        }
+    }
+
+    /// Takes out a key, which has its last row.
+    fn remove(&mut self, key: usize)
+        requires { rows_of (get self.old.slots key) ≡ 1 }
+        ensures slots { Updates self.old.slots self.new.slots key None }
+        ensures paths { (text : List ℕ) → key_at self.new.by_path.entries text ≡ (if is_freed (get self.old.slots key) text then None else key_at self.old.by_path.entries text) }
+    {
+        if let Some(held) = self.slots.try_remove(key) {
+            if !held.is_deleted {
+                self.by_path.remove(held.path.as_slice());
+            }
+        }
+    }
+
+    /// Counts one row less of a key, which has several.
+    fn count_down(&mut self, key: usize)
+        requires { 1 < rows_of (get self.old.slots key) }
+        ensures slots { Updates self.old.slots self.new.slots key (with_one_less (get self.old.slots key)) }
+        ensures paths { self.new.by_path.entries ≡ self.old.by_path.entries }
+    {
+        if let Some(held) = self.slots.get_mut(key) {
+            held.rows -= 1;
+        }
+    }
+
+    /// The key at a path was deleted, so that a key made later at the same path is another one.
+    pub fn mark_deleted(&mut self, path: &[u8])
+        ensures slots { (key : ℕ) → get self.new.slots key ≡ (if leads_to (key_at self.old.by_path.entries path.now) key then option_map without_key (get self.old.slots key) else get self.old.slots key) }
+        ensures paths { UpdatesPath (key_at self.old.by_path.entries) path.now None (key_at self.new.by_path.entries) }
+    {
+        if let Some(key) = self.by_path.remove(path) {
+            if let Some(held) = self.slots.get_mut(key) {
+                held.is_deleted = true;
+            }
+        }
+    }
+}
