@@ -2,6 +2,7 @@
 use Rattle.std.proofs.Common.{◌≡◌, ℕ, ◌+◌, ◌<◌, ◌≤◌, true, false, not, List, [], ◌∷◌, ◌++◌, length, refl, sym, ap, ◌∙◌, subst, arith, append_assoc, eqb, Some}
 use Rattle.std.proofs.lemmas.Bool.{eq-eqb, and_parts, not-true}
 use Rattle.std.specs.List.{AllByRecursion}
+use Rattle.std.proofs.lemmas.Option.{same_Some}
 use Rattle.reg_heap.specs.Words.{word}
 use Rattle.reg_arena.specs.declared.Cell.{Cell}
 use Rattle.reg_arena.specs.Cells.{cells_in, size_in}
@@ -64,13 +65,10 @@ fit-some old head count total previous cell a fit none =
     let less : t.at.c.size < total = here free in
     omega (arith, ch.fits, size, less)
 
-some-inj : {A : Type 0} (x y : A) → Some x ≡ Some y → x ≡ y
-some-inj x y e = cc
-
 pub no-fit : (old : List ℕ) (head count total : ℕ) → IsArena old (head ∷ []) (count ∷ []) → NoneFits old total (chain count old head) → NoFit old total
 no-fit old head count total a none cells e =
     let one = one_list old head count a in
     let small = rw (chain-is old head count (cells_in a.layout) one) at none in
-    let same : cells_in a.layout ≡ cells = some-inj _ _ (sym (cells_of-AreBins old a.layout a.tiled) ∙ e) in
+    let same : cells_in a.layout ≡ cells = same_Some _ _ (sym (cells_of-AreBins old a.layout a.tiled) ∙ e) in
     subst (AllByRecursion (λ (c : Cell). c.allocated ≡ false → c.size < total)) same
     (no_fit-from old head count total a (λ o l. times-all (λ (x : ℕ). size_in (word old x) < total) one.offsets small o (rw one.free.exact l)) [] (cells_in a.layout) refl)

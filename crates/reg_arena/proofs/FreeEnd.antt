@@ -3,6 +3,7 @@ use Rattle.std.proofs.Common.{◌≡◌, ℕ, zero, suc, ◌+◌, ◌-◌, ◌*�
 use Rattle.std.proofs.lemmas.Bool.{eqb-true, eqb-false, eq-eqb, ne_eqb, cases_eq}
 use Rattle.std.proofs.lemmas.List.{get_or-set_same, get_or-set_other, length-set}
 use Rattle.std.specs.List.{AllByRecursion}
+use Rattle.std.proofs.lemmas.Option.{same_Some}
 use Rattle.reg_arena.specs.declared.Cell.{Cell}
 use Rattle.reg_arena.specs.Cells.{Bin, AreBins, cells_in, cells_of, cell_at, content_in}
 use Rattle.reg_heap.specs.Kinds.{times}
@@ -208,9 +209,6 @@ zero-or-less left cell lo n false e f g l = by (cases_eq lo cell)
         strict : (x y : ℕ) → (x ≡ y → ⊥) → x ≤ y → x < y
         strict x y ne l = omega (arith, ne)
 
-some-inj : {A : Type 0} (x y : A) → Some x ≡ Some y → x ≡ y
-some-inj x y e = cc
-
 pub free-done : (old s1 s2 : List ℕ) (head h1 h2 count c1 c2 : ℕ) (ends backs b1 b2 ends' backs' : List ℕ) (cell size left right : ℕ) (i : IsIndexed old (head ∷ []) (count ∷ []) ends backs) → Site old i.arena.layout cell size ends → left ≡ get_or ends (cell / 8 - 1) 0 → (w : Around i.arena.layout cell size left right) → Detached old s1 h1 count c1 backs b1 i.arena.layout (right_out right (cell + size)) → Detached s1 s2 h2 c1 c2 b1 b2 i.arena.layout (both_out left (right_out right (cell + size))) → ends' ≡ set (set ends (cell / 8 - 1) 0) ((cell + size + right) / 8 - 1) (start_of left cell) → backs' ≡ set (marked h2 (start_of left cell) b2) (start_of left cell / 8) 4294967295 → FreeDone old (freed (start_of left cell) (cell + size + right - start_of left cell) h2 s2) (start_of left cell) (c2 + 1) ends' backs' cell
 free-done old s1 s2 head h1 h2 count c1 c2 ends backs b1 b2 ends' backs' cell size left right i st is w d1 d2 ee eb =
     let a = i.arena in
@@ -261,7 +259,7 @@ free-done old s1 s2 head h1 h2 count c1 c2 ends backs b1 b2 ends' backs' cell si
         arena = a';
         ends_long = rw ee (omega (arith, r.long, i.ends_long, length-set (set ends (cell / 8 - 1) 0) (hi / 8 - 1) lo, length-set ends (cell / 8 - 1) 0));
         backs_long = rw eb (omega (arith, r.long, i.backs_long, marks, length-set (marked h2 lo b2) (lo / 8) 4294967295));
-        ends_are = λ found e u. (let same : found ≡ xs ++ unused lo (hi - lo) ∷ ys = some-inj _ _ (sym e ∙ r.now) in rw (ee, same) (ends_now u));
+        ends_are = λ found e u. (let same : found ≡ xs ++ unused lo (hi - lo) ∷ ys = same_Some _ _ (sym e ∙ r.now) in rw (ee, same) (ends_now u));
         backs_are = (rw (eb, r.chained) put, tt);
       };
       frees = record {

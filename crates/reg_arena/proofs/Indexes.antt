@@ -3,6 +3,7 @@ use Rattle.std.proofs.Common.{◌≡◌, ℕ, zero, suc, ◌+◌, ◌-◌, ◌*�
 use Rattle.std.proofs.lemmas.List.{get_or-set_same, get_or-set_other}
 use Rattle.std.proofs.lemmas.Bool.{cases_eq}
 use Rattle.std.specs.List.{AllByRecursion}
+use Rattle.std.proofs.lemmas.Option.{same_Some}
 use Rattle.reg_heap.specs.Words.{word}
 use Rattle.reg_arena.specs.declared.Cell.{Cell}
 use Rattle.reg_arena.specs.Cells.{Bin, AreBins, cells_in, cells_of, size_in}
@@ -23,12 +24,9 @@ use Rattle.reg_arena.proofs.Surrounds.{ending-append, ending-none, ending-beside
 use Rattle.reg_arena.proofs.TableEdits.{last_or}
 use Rattle.reg_arena.proofs.Unlinks.{Alone, alone}
 
-some-inj : {A : Type 0} (x y : A) → Some x ≡ Some y → x ≡ y
-some-inj x y e = cc
-
 -- the cells of an arena are its layout's
 pub cells-are : (bytes heads counts : List ℕ) (a : IsArena bytes heads counts) (cells : List Cell) → cells_of bytes ≡ Some cells → cells_in a.layout ≡ cells
-cells-are bytes heads counts a cells e = some-inj _ _ (sym (cells_of-AreBins bytes a.layout a.tiled) ∙ e)
+cells-are bytes heads counts a cells e = same_Some _ _ (sym (cells_of-AreBins bytes a.layout a.tiled) ∙ e)
 
 -- the list of an arena
 pub record ListIs (bytes : List ℕ) (head : ℕ) (layout : List Bin) (offsets : List ℕ) : Type 0 where
@@ -122,7 +120,7 @@ carve-ends old new heads counts heads' counts' ends cell size ss a a' c positive
     let o = ending-alone u c.at c.size ne in
     omega (arith, ending-append u (carved c.at ss) (rest_of (c.at + total_of ss) n), ending-carved u c.at ss, r, o) in
     let all = ends-edit ends xs (unused c.at c.size ∷ []) mid ys c.at hi b (rest_end (c.at + total_of ss) n) before after (omega (arith, st.cell.positive)) place (omega (arith, st.cell.within, place)) own other (have _ c.was) u in
-    let now : cells ≡ xs ++ (mid ++ ys) = some-inj _ _ (sym e ∙ c.now) in
+    let now : cells ≡ xs ++ (mid ++ ys) = same_Some _ _ (sym e ∙ c.now) in
     rw (now, same, ← at) all
   where
     at-eights : (bytes : List ℕ) (layout : List Bin) (xs : List Cell) (c : Cell) (ys : List Cell) → AreBins bytes 0 layout → cells_in layout ≡ xs ++ c ∷ ys → c.offset % 8 ≡ 0

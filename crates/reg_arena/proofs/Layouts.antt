@@ -6,6 +6,7 @@ use Rattle.std.proofs.Math.Seq.{get_or-append_seam}
 use Rattle.std.proofs.lemmas.Bool.{and_parts, eqb-true, ltb-true, leb-true, ne_eqb, eq-eqb}
 use Rattle.std.proofs.lemmas.List.Elements.{All-from_recursion}
 use Rattle.std.proofs.lemmas.List.Sums.{sum_by-cons}
+use Rattle.std.proofs.lemmas.Option.{same_Some}
 use Rattle.reg_heap.specs.Words.{word}
 use Rattle.reg_arena.specs.declared.Cell.{Cell}
 use Rattle.reg_arena.specs.Cells.{Bin, IsCell, Tiles, IsHeader, AreBins, cells_in, choose, joined, cells_from, bins_from, cells_of, content_in, content_of, cell_at, size_in, is_allocated_in}
@@ -44,9 +45,6 @@ AreBins-sum bytes layout h = let e = bins_sum bytes 0 layout h in omega arith
 
 -- ---- where there are cells, there are bins of them
 
-some-inj : {A : Type 0} (x y : A) → Some x ≡ Some y → x ≡ y
-some-inj x y e = cc
-
 -- a cell as its size field gives it
 abbrev met : List ℕ → ℕ → Cell
 met bytes at = record { offset = at; size = size_in (word bytes at); allocated = is_allocated_in (word bytes at) }
@@ -58,10 +56,10 @@ tiles-cell bytes at stop cells true g (Some ys) t e =
     let two = and_parts _ (leb (at + size_in (word bytes at)) stop) g in
     let one = and_parts (ltb 0 (size_in (word bytes at))) _ two.0 in
     let cell : IsCell bytes stop (met bytes at) = record { size = refl; allocated = refl; positive = ltb-true _ _ one.0; eights = eqb-true _ _ one.1; within = leb-true _ _ two.1 } in
-    subst (Tiles bytes at stop) (some-inj (met bytes at ∷ ys) cells e) (refl, cell, t ys refl)
+    subst (Tiles bytes at stop) (same_Some (met bytes at ∷ ys) cells e) (refl, cell, t ys refl)
 
 tiles-end : (bytes : List ℕ) (at stop : ℕ) (cells : List Cell) (end : Bool) → eqb at stop ≡ end → (other : Option (List Cell)) → (other ≡ Some cells → Tiles bytes at stop cells) → choose end (λ _. Some []) (λ _. other) ≡ Some cells → Tiles bytes at stop cells
-tiles-end bytes at stop cells true z other t e = subst (Tiles bytes at stop) (some-inj [] cells e) (eqb-true at stop z)
+tiles-end bytes at stop cells true z other t e = subst (Tiles bytes at stop) (same_Some [] cells e) (eqb-true at stop z)
 tiles-end bytes at stop cells false z other t e = t e
 
 -- cells that are met from at to stop fill those bytes
@@ -89,10 +87,10 @@ bins-bin bytes at cells true g (Some xs) (Some ys) t l e =
     let bin : Bin = record { start = at; size = size; cells = xs } in
     let header : IsHeader bytes bin = record { signature = eqb-true _ _ one.0; place = eqb-true _ _ one.1; size = refl; positive = ltb-true _ _ two.1; pages = eqb-true _ _ three.1; within = leb-true _ _ four.1 } in
     let rest = l ys refl in
-    record { layout = bin ∷ rest.layout; tiled = (refl, header, t xs refl, rest.tiled); cells_are = sym (some-inj (xs ++ ys) cells e) ∙ ap (λ (zs : List Cell). xs ++ zs) rest.cells_are }
+    record { layout = bin ∷ rest.layout; tiled = (refl, header, t xs refl, rest.tiled); cells_are = sym (same_Some (xs ++ ys) cells e) ∙ ap (λ (zs : List Cell). xs ++ zs) rest.cells_are }
 
 bins-end : (bytes : List ℕ) (at : ℕ) (cells : List Cell) (end : Bool) → eqb at (length bytes) ≡ end → (other : Option (List Cell)) → (other ≡ Some cells → HasLayout bytes at cells) → choose end (λ _. Some []) (λ _. other) ≡ Some cells → HasLayout bytes at cells
-bins-end bytes at cells true z other t e = record { layout = []; tiled = eqb-true at (length bytes) z; cells_are = sym (some-inj [] cells e) }
+bins-end bytes at cells true z other t e = record { layout = []; tiled = eqb-true at (length bytes) z; cells_are = sym (same_Some [] cells e) }
 bins-end bytes at cells false z other t e = t e
 
 layout-bins_from : (steps : ℕ) (bytes : List ℕ) (at : ℕ) (cells : List Cell) → bins_from steps bytes at ≡ Some cells → HasLayout bytes at cells
@@ -198,7 +196,7 @@ piece_length bytes offset size l w = simp (length-take, length-drop) (omega arit
 
 holder-parts : (bytes : List ℕ) (cells : List Cell) (offset : ℕ) (content : List ℕ) (front : List Cell) (cell : Cell) (rest : List Cell) → cells ≡ front ++ cell ∷ rest → cell.offset ≡ offset → cell.allocated ≡ true → content_in bytes cells offset ≡ Some (take (cell.size - 4) (drop (cell.offset + 4) bytes)) → content_in bytes cells offset ≡ Some content → IsCell bytes (length bytes) cell → IsHolder bytes cells offset content
 holder-parts bytes cells offset content front cell rest are here used found e is =
-    let piece : content ≡ take (cell.size - 4) (drop (offset + 4) bytes) = subst (λ (n : ℕ). content ≡ take (cell.size - 4) (drop (n + 4) bytes)) here (some-inj content _ (sym e ∙ found)) in
+    let piece : content ≡ take (cell.size - 4) (drop (offset + 4) bytes) = subst (λ (n : ℕ). content ≡ take (cell.size - 4) (drop (n + 4) bytes)) here (same_Some content _ (sym e ∙ found)) in
     let eight : 8 ≤ cell.size = omega (arith, is.positive, is.eights) in
     let within : offset + cell.size ≤ length bytes = omega (arith, is.within) in
     record {

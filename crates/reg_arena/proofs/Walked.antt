@@ -1,6 +1,7 @@
 -- A walk over the cells, under way.
 use Rattle.std.proofs.Common.{◌≡◌, ℕ, suc, ◌+◌, ◌<◌, ◌≤◌, List, [], ◌∷◌, ◌++◌, length, refl, sym, ap, ◌∙◌, subst, arith, append_assoc, Some}
 use Rattle.std.proofs.lemmas.List.{append-nil}
+use Rattle.std.proofs.lemmas.Option.{same_Some}
 use Rattle.reg_heap.specs.Words.{word}
 use Rattle.reg_arena.specs.declared.Cell.{Cell}
 use Rattle.reg_arena.specs.Cells.{Bin, Tiles, AreBins, cells_in, cells_of, size_in, is_allocated_in}
@@ -86,12 +87,9 @@ at_bin-by bins at (b ∷ rest) l h =
 pub at_bin : (bins : List ℕ) (at : ℕ) (now : List Cell) → at < length bins → WalkedBins bins at now → AtBin bins at (word bins (at + 8))
 at_bin bins at now l w = at_bin-by bins at w.rest l w.here
 
-some-inj : {A : Type 0} (x y : A) → Some x ≡ Some y → x ≡ y
-some-inj x y e = cc
-
 Tiles-same : (bins : List ℕ) (at stop : ℕ) (xs ys : List Cell) → Tiles bins at stop xs → Tiles bins at stop ys → xs ≡ ys
 Tiles-same bins at stop xs ys a b =
-    some-inj xs ys (sym (cells_from-Tiles (suc stop) bins at stop xs (omega arith) a) ∙ cells_from-Tiles (suc stop) bins at stop ys (omega arith) b)
+    same_Some xs ys (sym (cells_from-Tiles (suc stop) bins at stop xs (omega arith) a) ∙ cells_from-Tiles (suc stop) bins at stop ys (omega arith) b)
 
 more_bins-by : (bins : List ℕ) (at : ℕ) (now new : List Cell) (done rest : List Bin) → at < length bins → AreBins bins 0 (done ++ rest) → AreBins bins at rest → now ≡ cells_in done → PushesCells bins (at + 32) (at + word bins (at + 8)) now new → WalkedBins bins (at + word bins (at + 8)) new
 more_bins-by bins at now new done [] l f h e p = absurd (omega arith)

@@ -3,6 +3,7 @@ use Rattle.std.proofs.Common.{◌≡◌, ℕ, suc, ◌+◌, ◌-◌, ◌<◌, �
 use Rattle.std.proofs.lemmas.List.{ext_get_or, get_or-take, get_or-drop}
 use Rattle.std.proofs.lemmas.Bool.{cases_eq, cases_lt, eq-eqb, ne_eqb}
 use Rattle.std.specs.List.{AllByRecursion}
+use Rattle.std.proofs.lemmas.Option.{same_Some}
 use Rattle.reg_heap.specs.Words.{word, splice, SameOutside}
 use Rattle.reg_heap.specs.Heaps.{Writes}
 use Rattle.reg_heap.proofs.Swapping.{writes_one}
@@ -106,9 +107,6 @@ AreLists-same s class_of cells clear (head ∷ heads) [] class h = h
 AreLists-same s class_of cells clear (head ∷ heads) (os ∷ lists) class h =
     (IsFreeList-same s class_of class head cells os clear h.0, AreLists-same s class_of cells clear heads lists (suc class) h.1)
 
-some-inj : {A : Type 0} (x y : A) → Some x ≡ Some y → x ≡ y
-some-inj x y e = cc
-
 -- what a write leaves
 pub record Wrote (old new heads counts : List ℕ) (cell at : ℕ) (piece : List ℕ) : Type 0 where
   pub arena : IsArena new heads counts
@@ -175,7 +173,7 @@ wrote-by old heads counts at piece a xs c ys e used content fits =
       cells = cells_of-AreBins new a.layout tiled ∙ sym (cells_of-AreBins old a.layout a.tiled);
       long = s.long;
       links = λ cells found k head offsets h.
-          let same : cells_in a.layout ≡ cells = some-inj _ _ (sym (cells_of-AreBins old a.layout a.tiled) ∙ found) in
+          let same : cells_in a.layout ≡ cells = same_Some _ _ (sym (cells_of-AreBins old a.layout a.tiled) ∙ found) in
           (IsFreeList-same s one_class k head cells offsets (subst (AllByRecursion Clear) same clear) h).follows;
       contents = contents;
       writes = writes_one (cell_at old) (cell_at new) c.offset _ (ap is_some content) contents;

@@ -23,10 +23,7 @@ use Rattle.reg_calls.specs.Stores.{at, IsTarget}
 use Rattle.reg_calls.specs.Views.{IsRead, IsTold, is_told}
 use Rattle.reg_calls.proofs.Looks.{by_handle-at, target-at}
 use Rattle.reg_model.proofs.Standing.{has-put}
-use Rattle.reg_calls.proofs.Refusals.{Refuses}
-
-first : (a b c : Option ℕ) (n : ℕ) → a ≡ Some n → (a or b or c) ≡ Some n
-first a b c n e = rw e refl
+use Rattle.reg_calls.proofs.Refusals.{Refuses, first}
 
 -- a refusal is told
 pub refused : (s : State) (session status : ℕ) (q : Query) → query_cause s session q 0 ≡ Some status → IsRead s session q (Refused status)

@@ -17,7 +17,7 @@ use Rattle.reg_calls.proofs.Looks.{by_handle-at, target-at, target-from}
 abbrev pub Refuses : Store → ℕ → ℕ → ℕ → Type 0
 Refuses store session number status = (f : Handle → Option ℕ) → by_handle f (look session number store.handles.handles) ≡ Some status
 
-first : (a b c : Option ℕ) (n : ℕ) → a ≡ Some n → (a or b or c) ≡ Some n
+pub first : (a b c : Option ℕ) (n : ℕ) → a ≡ Some n → (a or b or c) ≡ Some n
 first a b c n e = rw e refl
 
 -- ---- OpenRoot

@@ -15,6 +15,7 @@ use Rattle.reg_model.specs.declared.answer.AnswerBody.TheVariants.{Refused, Shor
 use Rattle.reg_model.specs.declared.call.Change.{Change}
 use Rattle.reg_model.specs.declared.call.Query.{Query}
 use Rattle.reg_tree.specs.Keys.{Keys, coded_keys}
+use Rattle.reg_handles.specs.Tables.{coded_handle}
 use Rattle.reg_calls.specs.declared.store.Store.{Store}
 use Rattle.reg_calls.specs.declared.lack.Lack.{Lack}
 use Rattle.reg_calls.specs.declared.lack.Lack.TheVariants.{Space, Memory}
@@ -26,27 +27,6 @@ pub record View : Type 0 where
   pub journal : List Entry
   pub keys : Keys
   pub handles : List Handle
-
--- a place as the path that it leads to, if it leads to one
-abbrev pub path_to : Place → Option Path
-path_to (At path) = Some path
-path_to Deleted = None
-
-abbrev pub place_of : Option Path → Place
-place_of (Some path) = At path
-place_of None = Deleted
-
-pub place-path : (place : Place) → place_of (path_to place) ≡ place
-place-path (At path) = refl
-place-path Deleted = refl
-
-abbrev pub coded_place : Coded Place
-coded_place = code_by (Option Path) (coded_option (coded_list coded_bytes)) path_to place_of place-path
-
-abbrev pub coded_handle : Coded Handle
-coded_handle =
-    code_by ((ℕ × ℕ) × (ℕ × Place)) (coded× (coded× coded_ℕ coded_ℕ) (coded× coded_ℕ coded_place)) (λ h. ((h.number, h.session), (h.mask, h.place)))
-    (λ p. record { number = p.0.0; session = p.0.1; mask = p.1.0; place = p.1.1 }) (λ _. refl)
 
 abbrev pub coded_view : Coded View
 coded_view =

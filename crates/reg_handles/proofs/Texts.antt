@@ -15,6 +15,7 @@ use Rattle.std.proofs.lemmas.List.Splits.{join_with_byte-slice_split}
 use Rattle.std.proofs.lemmas.Map.Text.{is_eq-slice_cmp}
 use Rattle.reg_names.specs.Names.{path_of, text_of}
 use Rattle.reg_heap.specs.Paths.{Path, path_cmp}
+use Rattle.reg_heap.proofs.Children.{path-is}
 use Rattle.reg_model.specs.Worlds.{same_path}
 use Rattle.reg_handles.specs.Keys.{key_at, UpdatesPath}
 
@@ -56,19 +57,11 @@ path_of-one a b e = sym (joined a) ∙ ap text_of e ∙ joined b
 path_total : IsTotalOrder path_cmp
 path_total = lists_total nat_list_cmp_total
 
-same_is : (q k : Path) → same_path q k ≡ true → q ≡ k
-same_is q k e = slice_cmp-IsAntisymmetric (slice_cmp-IsAntisymmetric nat_cmp-IsAntisymmetric) q k (equal (path_cmp q k) e)
-  where
-    equal : (o : Ordering) → is_eq o ≡ true → o ≡ Equal
-    equal Less e = absurd (false≢true e)
-    equal Equal e = refl
-    equal Greater e = absurd (false≢true e)
-
 -- two texts are of one path where they are one text
 pub same_path-texts : (t p : List ℕ) → same_path (path_of t) (path_of p) ≡ bytes_eq p t
 same_path-texts t p = by (bytes_eq p t) refl (same_path (path_of t) (path_of p)) refl
   where
     by : (b : Bool) → bytes_eq p t ≡ b → (c : Bool) → same_path (path_of t) (path_of p) ≡ c → same_path (path_of t) (path_of p) ≡ bytes_eq p t
     by true y c e = subst (λ x. same_path (path_of t) (path_of x) ≡ true) (sym ((bytes_decides p t).0 y)) (ap is_eq (tied_itself path_total (path_of t))) ∙ sym y
-    by false n true e = absurd (false≢true (sym n ∙ (bytes_decides p t).1 (path_of-one p t (sym (same_is _ _ e)))))
+    by false n true e = absurd (false≢true (sym n ∙ (bytes_decides p t).1 (path_of-one p t (sym (path-is _ _ e)))))
     by false n false e = e ∙ sym n

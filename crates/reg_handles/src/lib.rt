@@ -10,6 +10,3 @@ mod keys;
 mod rows;
 
 pub use handles::{Found, Handles};
-
-#[cfg(test)]
-mod tests;

@@ -112,8 +112,9 @@ children-named t p = named_all p (children_of t p) (kept p (keys t)) (IsStrictly
 
 -- ---- which they are
 
-same_path : (q k : Path) → eq_by_cmp path_cmp q k ≡ true → q ≡ k
-same_path q k e = slice_cmp-IsAntisymmetric (slice_cmp-IsAntisymmetric nat_cmp-IsAntisymmetric) q k (equal (path_cmp q k) e)
+-- two paths that compare as equal are one
+pub path-is : (q k : Path) → eq_by_cmp path_cmp q k ≡ true → q ≡ k
+path-is q k e = slice_cmp-IsAntisymmetric (slice_cmp-IsAntisymmetric nat_cmp-IsAntisymmetric) q k (equal (path_cmp q k) e)
   where
     equal : (o : Ordering) → is_eq o ≡ true → o ≡ Equal
     equal Less e = absurd (false≢true e)
@@ -123,4 +124,4 @@ same_path q k e = slice_cmp-IsAntisymmetric (slice_cmp-IsAntisymmetric nat_cmp-I
 -- a path is among the children of p exactly where the tree has it and it is right below p
 pub children-contain : (t : Tree) (p q : Path) → list_any (eq_by_cmp path_cmp q) (children_of t p) ≡ (is_child p q && contains_key t q)
 children-contain t p q =
-    any-filter_same (eq_by_cmp path_cmp q) (is_child p) (is_child p q) (λ k e. ap (is_child p) (sym (same_path q k e))) (keys t) ∙ ap (λ b. is_child p q && b) (sym (contains_key-keys t q))
+    any-filter_same (eq_by_cmp path_cmp q) (is_child p) (is_child p q) (λ k e. ap (is_child p) (sym (path-is q k e))) (keys t) ∙ ap (λ b. is_child p q && b) (sym (contains_key-keys t q))

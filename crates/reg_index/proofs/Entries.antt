@@ -4,7 +4,7 @@ use Rattle.std.proofs.lemmas.List.{places, get_or-drop}
 use Rattle.byteorder.specs.Endian.{little_from}
 use Rattle.reg_heap.specs.Words.{word, splice}
 use Rattle.reg_records.specs.Lists.{hinted_entries}
-use Rattle.reg_records.proofs.Splices.{get_or-below, get_or-above}
+use Rattle.reg_records.proofs.Splices.{get_or-below, get_or-above, word-same}
 
 pub length-hinted : (n at : ℕ) (c : List ℕ) → length (hinted_entries n at c) ≡ n
 length-hinted zero at c = refl
@@ -38,17 +38,6 @@ drop-hinted (suc i) n at c =
     ap (λ n. drop (suc i) (hinted_entries n at c)) m ∙ (drop-hinted i n (at + 8) c ∙ ap (λ a. hinted_entries n a c) z)
 
 -- ---- the same bytes, the same entries
-
-little-same : (i n p q : ℕ) (xs ys : List ℕ) → ((k : ℕ) → k < i + n → get_or ys (q + k) 0 ≡ get_or xs (p + k) 0) → little_from i n (drop q ys) ≡ little_from i n (drop p xs)
-little-same i zero p q xs ys same = refl
-little-same i (suc n) p q xs ys same =
-    let byte : get_or (drop q ys) i 0 ≡ get_or (drop p xs) i 0 = get_or-drop q ys i 0 ∙ same i (omega arith) ∙ sym (get_or-drop p xs i 0) in
-    let rest = little-same (suc i) n p q xs ys (λ k h. same k (omega arith)) in
-    rw (byte, rest) refl
-
-word-same : (p q : ℕ) (xs ys : List ℕ) → ((k : ℕ) → k < 4 → get_or ys (q + k) 0 ≡ get_or xs (p + k) 0) → word ys q ≡ word xs p
-unfolding word
-word-same p q xs ys same = little-same 0 4 p q xs ys (λ k h. same k (omega arith))
 
 pub hinted-same : (n a b : ℕ) (c d : List ℕ) → ((k : ℕ) → k < 8 * n → get_or d (b + k) 0 ≡ get_or c (a + k) 0) → hinted_entries n b d ≡ hinted_entries n a c
 hinted-same zero a b c d same = refl

@@ -15,9 +15,14 @@ use Rattle.reg_records.specs.Nodes.{KeyList, Index, list_at, key_lists_at, index
 use Rattle.reg_records.specs.Nodes.Index.{Unlisted, Listed, Rooted}
 use Rattle.reg_records.specs.Written.{Pairwise, Precedes, IsWrittenList, IsWrittenIndex}
 use Rattle.reg_index.specs.Leaves.{IsLeaf}
-use Rattle.reg_index.specs.Subkeys.{subkeys_at, Rises, AreSubkeys}
+use Rattle.reg_index.specs.Subkeys.{subkeys_at, name_at, names_in, Rises, AreSubkeys}
 use Rattle.reg_index.proofs.Opening.{subkeys-open, subkeys-made, subkeys-none, length-subkeys}
 use Rattle.reg_index.proofs.Staying.{subkeys-stay}
+
+-- ---- names
+
+pub length-names : (heap : Heap) (entries : List Entry) → length (names_in heap entries) ≡ length entries
+length-names heap entries = length-map entries (λ (e : Entry). folded (name_at heap e.place))
 
 -- ---- as an index
 

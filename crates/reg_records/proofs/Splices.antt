@@ -3,7 +3,7 @@ use Rattle.std.proofs.Common.{◌≡◌, ℕ, zero, suc, ◌+◌, ◌-◌, ◌<�
 use Rattle.std.proofs.lemmas.List.{places, drop-drop, drop_at, length-take-le, get_or-drop, drop-append-le}
 use Rattle.std.proofs.Math.Seq.{drop-length}
 use Rattle.byteorder.specs.Endian.{little_from, little_number}
-use Rattle.reg_heap.specs.Words.{splice}
+use Rattle.reg_heap.specs.Words.{word, splice}
 
 little_from-same : (i n p : ℕ) (xs ys : List ℕ) → ((k : ℕ) → p + i ≤ k → k < p + i + n → get_or ys k 0 ≡ get_or xs k 0)
     → little_from i n (drop p ys) ≡ little_from i n (drop p xs)
@@ -49,3 +49,15 @@ module _ (at : ℕ) (piece xs : List ℕ) (fits : at + length piece ≤ length x
       let r : ℕ = k - (at + length piece) in
       let whole : drop (at + length piece) (splice at piece xs) ≡ drop (at + length piece) xs = drop-within (length piece) (omega arith) ∙ ap (λ ys. ys ++ drop (at + length piece) xs) (drop-length piece) in
       ap (λ n. drop n (splice at piece xs)) (omega arith) ∙ sym (drop-drop r (at + length piece) (splice at piece xs)) ∙ ap (drop r) whole ∙ drop-drop r (at + length piece) xs ∙ ap (λ n. drop n xs) (omega arith)
+
+-- the same bytes, the same number
+little-same : (i n p q : ℕ) (xs ys : List ℕ) → ((k : ℕ) → k < i + n → get_or ys (q + k) 0 ≡ get_or xs (p + k) 0) → little_from i n (drop q ys) ≡ little_from i n (drop p xs)
+little-same i zero p q xs ys same = refl
+little-same i (suc n) p q xs ys same =
+    let byte : get_or (drop q ys) i 0 ≡ get_or (drop p xs) i 0 = get_or-drop q ys i 0 ∙ same i (omega arith) ∙ sym (get_or-drop p xs i 0) in
+    let rest = little-same (suc i) n p q xs ys (λ k h. same k (omega arith)) in
+    rw (byte, rest) refl
+
+pub word-same : (p q : ℕ) (xs ys : List ℕ) → ((k : ℕ) → k < 4 → get_or ys (q + k) 0 ≡ get_or xs (p + k) 0) → word ys q ≡ word xs p
+unfolding word
+word-same p q xs ys same = little-same 0 4 p q xs ys (λ k h. same k (omega arith))

@@ -13,6 +13,7 @@ use Rattle.std.proofs.lemmas.Option.{same_Some}
 use Rattle.reg_names.specs.Names.{folded}
 use Rattle.reg_heap.specs.Paths.{Path, Rec, Tree, path_cmp}
 use Rattle.reg_heap.specs.Heaps.{Heap}
+use Rattle.reg_heap.proofs.Children.{path-is}
 use Rattle.reg_records.specs.Lists.{places_in}
 use Rattle.reg_records.specs.Nodes.{Node, entries_of}
 use Rattle.reg_records.specs.Walk.{gather}
@@ -34,18 +35,13 @@ Has : Path → Keys → Type 0
 Has p [] = ⊥
 Has p (e ∷ keys) = (e.0 ≡ p) ⊎ Has p keys
 
-is-equal : (o : Ordering) → is_eq o ≡ true → o ≡ Equal
-is-equal Less e = absurd (false≢true e)
-is-equal Equal e = refl
-is-equal Greater e = absurd (false≢true e)
-
 found-has : (p : Path) (keys : Keys) → is_some (find path_cmp p keys) ≡ true → Has p keys
 unfolding Has
 found-has p [] e = absurd (false≢true e)
 found-has p (k ∷ keys) e = by (found-has p keys) (eq_by_cmp path_cmp p k.0) refl e
   where
     by : (is_some (find path_cmp p keys) ≡ true → Has p keys) → (b : Bool) → eq_by_cmp path_cmp p k.0 ≡ b → is_some (cond b (Some k.1) (find path_cmp p keys)) ≡ true → Has p (k ∷ keys)
-    by rest true t e = inl (sym (path_same p k.0 (is-equal (path_cmp p k.0) t)))
+    by rest true t e = inl (sym (path-is p k.0 t))
     by rest false t e = inr (rest e)
 
 has-found : (p : Path) (keys : Keys) → Has p keys → is_some (find path_cmp p keys) ≡ true

@@ -7,6 +7,8 @@ mod arena;
 #[cfg(test)]
 mod copies;
 #[cfg(test)]
+mod handles;
+#[cfg(test)]
 mod hives;
 #[cfg(test)]
 mod keys;

@@ -12,6 +12,7 @@ use Rattle.reg_heap.specs.Edits.{edited, at_time, without_key}
 use Rattle.reg_heap.specs.Heaps.{Heap, Swaps}
 use Rattle.reg_heap.specs.Kinds.{owned}
 use Rattle.reg_heap.specs.Forests.{Branch}
+use Rattle.reg_heap.proofs.Children.{path-is}
 use Rattle.reg_arena.specs.Cells.{cell_at}
 use Rattle.reg_records.specs.declared.nk.KeyFields.{KeyFields}
 use Rattle.reg_records.specs.Keys.{KeyRecord, key_at}
@@ -31,7 +32,6 @@ use Rattle.reg_records.proofs.Placed.{place-append}
 use Rattle.reg_records.proofs.Regrown.{tree-unhung}
 use Rattle.reg_records.proofs.Replaced.{places-unhung}
 use Rattle.reg_records.proofs.Retold.{same_path, name-is}
-use Rattle.reg_records.proofs.Trees.{path_same}
 use Rattle.reg_index.proofs.Told.{index_for, IsSingle}
 use Rattle.reg_tree.specs.Keys.{tree_in}
 use Rattle.reg_tree.specs.Holds.{rooted, Holds, IsHere}
@@ -59,16 +59,11 @@ rooted-for at zero list entries node = refl
 rooted-for at (suc count) list entries node = refl
 
 -- paths that differ are not the same
-equal : (o : Ordering) → is_eq o ≡ true → o ≡ Equal
-equal Less e = absurd (false≢true e)
-equal Equal e = refl
-equal Greater e = absurd (false≢true e)
-
 other-path : (p q : Path) → p ≢ q → same_path p q ≡ false
 other-path p q n = by (same_path p q) refl
   where
     by : (t : Bool) → same_path p q ≡ t → t ≡ false
-    by true t = absurd (n (path_same p q (equal (path_cmp p q) t)))
+    by true t = absurd (n (path-is p q t))
     by false t = refl
 
 module _ (old : List ℕ) (key : ℕ) (t : IsHere old key) (childless : (branch old key t).node.key.fields.subkeys ≡ 0) (inner : t.path ≢ []) where

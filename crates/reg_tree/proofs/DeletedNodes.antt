@@ -10,11 +10,7 @@ use Rattle.reg_tree.specs.declared.fault.TreeFault.TheVariants.{HasChildren, NoD
 use Rattle.reg_tree.specs.Keys.{Keys, tree_in, IsAt, IsThere}
 use Rattle.reg_tree.specs.Holds.{Holds, IsHere}
 use Rattle.reg_tree.specs.Deletes.{IsDeleted}
-use Rattle.reg_tree.proofs.Nodes.{seen_as, here_at, there_at, of_tree}
-
-on_ok : {A B : Type 0} (r : Result (Unit {0}) TreeFault) → (A → B) → OnOk r A → OnOk r B
-on_ok (Ok x) f a = f a
-on_ok (Err e) f a = a
+use Rattle.reg_tree.proofs.Nodes.{on_ok, seen_as, here_at, there_at, of_tree}
 
 module _ (bins : Bins) (root : ℕ) (holds : Holds bins.bytes root) (now : Keys) (view_is : seen_as bins root ≡ now) (result : Result (Unit {0}) TreeFault) (node : Node) where
   abbrev Here : Type 0

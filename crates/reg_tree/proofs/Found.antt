@@ -9,7 +9,7 @@ use Rattle.reg_records.specs.Nodes.{Node, entries_of}
 use Rattle.reg_records.specs.Places.{subkey_named}
 use Rattle.reg_index.specs.Subkeys.{AreSubkeys, IsPlace, names_in}
 use Rattle.reg_index.proofs.Opening.{length-subkeys}
-use Rattle.reg_index.proofs.Told.{IsSingle}
+use Rattle.reg_index.proofs.Told.{IsSingle, length-names}
 use Rattle.reg_tree.specs.Holds.{IsHere}
 use Rattle.reg_tree.specs.Changes.{HasSubkeysList}
 use Rattle.reg_tree.proofs.Keyed as keyed
@@ -46,12 +46,8 @@ module _ (bytes : List ℕ) (key : ℕ) (t : IsHere bytes key) where
         let p = find (entries_of node.index) subkeys in
         let n = length-subkeys h count list (entries_of node.index) subkeys.read in
         let l = p.0 in
-        let m = length-names (entries_of node.index) in
+        let m = length-names h (entries_of node.index) in
         omega (arith, l, n, m)
-      where
-        length-names : (es : List Entry) → length (names_in h es) ≡ length es
-        length-names [] = refl
-        length-names (e ∷ es) = ap suc (length-names es)
 
     pub child_found : (name : List ℕ) (index child : ℕ) → ((entries : List Entry) → AreSubkeys h count list entries → IsPlace (names_in h entries) (folded name) (Ok index))
         → ((entries : List Entry) → AreSubkeys h count list entries → (get_or entries index no_entry).place ≡ child) → Some child ≡ subkey_named h (folded name) key

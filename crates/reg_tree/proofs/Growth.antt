@@ -18,6 +18,7 @@ use Rattle.reg_heap.specs.Edits.{child_path, has_child, with_key, with_keys}
 use Rattle.reg_heap.specs.Heaps.{Heap}
 use Rattle.reg_heap.specs.Kinds.{times}
 use Rattle.reg_heap.specs.Forests.{Branch}
+use Rattle.reg_heap.proofs.Children.{path-is}
 use Rattle.reg_records.specs.Nodes.{Node}
 use Rattle.reg_records.specs.Spelt.{rec_of}
 use Rattle.reg_records.specs.Shapes.{descriptor_in, tree_of}
@@ -43,14 +44,6 @@ rest_all n xs = take_all (length xs - n) (drop n xs) (omega (arith, length-drop 
 
 pub path-self : (q : Path) → eq_by_cmp path_cmp q q ≡ true
 path-self q = ap is_eq (tied_itself path_total q)
-
-pub path-is : (q p : Path) → eq_by_cmp path_cmp q p ≡ true → q ≡ p
-path-is q p e = path_same q p (equal (path_cmp q p) e)
-  where
-    equal : (o : Ordering) → is_eq o ≡ true → o ≡ Equal
-    equal Less e = absurd (false≢true e)
-    equal Equal e = refl
-    equal Greater e = absurd (false≢true e)
 
 -- ---- spare cells that stay
 

@@ -22,6 +22,7 @@ use Rattle.reg_records.proofs.Retold.{same_name, name-is, name-self}
 use Rattle.reg_records.proofs.Told.{name-written}
 use Rattle.reg_records.proofs.Placed.{key-looked}
 use Rattle.reg_index.specs.Subkeys.{name_at, name_or_none, names_in, IsPlace, Rises}
+use Rattle.reg_index.proofs.Told.{length-names}
 
 abbrev pub no_entry : Entry
 no_entry = record { place = 0; hint = 0 }
@@ -105,19 +106,15 @@ module _ (h : Heap) (root : ℕ) (b : Branch Node) (stands : StandsIn h root b) 
   by-list : subkey_named h x b.place ≡ key_named h x (places_in entries)
   by-list = ap (option_and_then (λ (node : Node). key_named h x (places_in (entries_of node.index)))) stands.0.reads
 
-  length-names : (es : List Entry) → length (names_in h es) ≡ length es
-  length-names [] = refl
-  length-names (e ∷ es) = ap suc (length-names es)
-
   -- the subkey at the place of its name
   pub named-ok : (index : ℕ) → Rises (names_in h entries) → IsPlace (names_in h entries) x (Ok index) → subkey_named h x b.place ≡ Some (get_or entries index no_entry).place
   named-ok index rises p =
-      let n = length-names entries in
+      let n = length-names h entries in
       by-list ∙ named-first h x entries index called (let l = p.0 in omega (arith, l, n)) p.1 (λ j m. subst (λ y. slice_cmp nat_cmp (get_or (names_in h entries) j []) y ≡ Less) p.1 (rises j index m p.0))
 
   -- none where the name is missing
   pub named-err : (index : ℕ) → IsPlace (names_in h entries) x (Err index) → subkey_named h x b.place ≡ None
-  named-err index p = by-list ∙ named-none h x entries called (λ j l. by j (let n = length-names entries in omega (arith, l, n)) (leb-or j index))
+  named-err index p = by-list ∙ named-none h x entries called (λ j l. by j (let n = length-names h entries in omega (arith, l, n)) (leb-or j index))
     where
       leb-or : (j i : ℕ) → (j < i) ⊎ (i ≤ j)
       leb-or j i = cases (ltb j i) refl

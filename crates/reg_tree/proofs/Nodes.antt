@@ -27,7 +27,7 @@ there k node holds some = here k node some.0 holds some.1
 pub keeps : (old new : Keys) → new.root ≡ old.root → ((p : Path) → place_at (cell_at new.bins.bytes) old.root p ≡ place_at (cell_at old.bins.bytes) old.root p) → KeepsNodes old new
 keeps old new root same p node at = record { place = subst (λ r. place_at (cell_at new.bins.bytes) r p ≡ Some node.offset) (sym root) (same p ∙ at.place); depth = at.depth }
 
-on_ok : {A B : Type 0} (r : Result (Unit {0}) TreeFault) → (A → B) → OnOk r A → OnOk r B
+pub on_ok : {A B : Type 0} (r : Result (Unit {0}) TreeFault) → (A → B) → OnOk r A → OnOk r B
 on_ok (Ok x) f a = f a
 on_ok (Err e) f a = a
 

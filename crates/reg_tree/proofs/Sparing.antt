@@ -10,6 +10,7 @@ use Rattle.reg_heap.specs.Edits.{child_path}
 use Rattle.reg_heap.specs.Heaps.{Heap, allocated, Swaps}
 use Rattle.reg_heap.specs.Kinds.{times, is_own, owned}
 use Rattle.reg_heap.specs.Forests.{Branch, total_of}
+use Rattle.reg_heap.proofs.Children.{path-is}
 use Rattle.reg_arena.specs.Cells.{cell_at}
 use Rattle.reg_records.specs.Keys.{KeyRecord, key_at}
 use Rattle.reg_records.specs.Securities.{IsPlainSecurity}
@@ -36,7 +37,6 @@ use Rattle.reg_tree.specs.Holds.{IsHere}
 use Rattle.reg_tree.specs.Growing.{planned, AreReady, MayGrowAll, IsSpared}
 use Rattle.reg_tree.proofs.Here as here
 use Rattle.reg_tree.proofs.Here.{branch, key_is, looked, place}
-use Rattle.reg_tree.proofs.Growth.{path-is}
 use Rattle.reg_tree.proofs.Reindexed.{owned-single}
 use Rattle.reg_tree.proofs.Found.{single}
 use Rattle.reg_tree.proofs.Calm.{times-one, there-is, place-own}

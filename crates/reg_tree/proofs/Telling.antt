@@ -26,6 +26,7 @@ use Rattle.reg_records.proofs.Told.{name-written}
 use Rattle.reg_records.proofs.Placed.{place-none, place-more, place-append}
 use Rattle.reg_index.specs.Subkeys.{AreSubkeys, names_in}
 use Rattle.reg_index.proofs.Opening.{length-subkeys}
+use Rattle.reg_index.proofs.Told.{length-names}
 use Rattle.reg_tree.specs.declared.node.Node.{Node as TreeNode}
 use Rattle.reg_tree.specs.Keys.{tree_in}
 use Rattle.reg_tree.specs.Holds.{IsHere}
@@ -107,17 +108,13 @@ module _ (bytes : List ℕ) (key : ℕ) (t : IsHere bytes key) where
   names-are : names_in h (entries_of node.index) ≡ map name_of_head (heads b.below)
   names-are = names-heads h h t.root b.below (entries_of node.index) (stands bytes key t).2 (stands bytes key t).1.places (λ z l. refl)
 
-  length-names : (es : List Entry) → length (names_in h es) ≡ length es
-  length-names [] = refl
-  length-names (e ∷ es) = ap suc (length-names es)
-
   module _ (count list : ℕ) (has : HasSubkeysList h key count list) where
     pub number_told : count ≡ length (children_of tree t.path)
     number_told =
         let n = length-subkeys h count list (entries_of node.index) (subkeys bytes key t count list has).read in
         let a = ap length names-are ∙ length-map (heads b.below) name_of_head in
         let c = ap length children ∙ length-map (heads b.below) (λ (e : ℕ × Node). t.path ++ folded (name_of e.1.key) ∷ []) in
-        let l = length-names (entries_of node.index) in
+        let l = length-names h (entries_of node.index) in
         omega (arith, n, a, c, l)
 
     written-names : (es : List (ℕ × Node)) → AllWritten es → (i : ℕ) → i < length es → get_or (map (λ (e : ℕ × Node). t.path ++ folded (name_of e.1.key) ∷ []) es) i [] ≡ t.path ++ get_or (map name_of_head es) i [] ∷ []
@@ -142,7 +139,7 @@ module _ (bytes : List ℕ) (key : ℕ) (t : IsHere bytes key) where
         let s = subkeys bytes key t count list has in
         let x = get_or (names_in h es) index [] in
         let n = length-subkeys h count list es s.read in
-        let m = length-names es in
+        let m = length-names h es in
         let named : subkey_named h x key ≡ Some child = subst (λ o. subkey_named h x o ≡ Some child) (place bytes key t) (named-ok h t.root b (stands bytes key t) x index s.rising (omega (arith, l, n, m), refl) ∙ ap Some (at es s)) in (
           (let n = number_told in omega (arith, l, n)),
           ap (place_at h t.root) (child-path index l)

@@ -16,7 +16,7 @@ use Rattle.reg_records.specs.Nodes.{pieces_at}
 use Rattle.reg_records.proofs.Splices.{length-splice}
 use Rattle.reg_values.specs.Parts.{Fills}
 use Rattle.reg_values.proofs.Found.{held-is}
-use Rattle.reg_values.proofs.Pieces.{piece-made, segment-is}
+use Rattle.reg_values.proofs.Pieces.{piece-made, segment-is, times-suc}
 use Rattle.reg_values.proofs.Swapped.{there-one, one-there, writes-in}
 
 -- ---- one cell
@@ -139,9 +139,6 @@ begins h k o x l e = record {
 nothing : (xs : List ℕ) → length xs ≤ 0 → [] ≡ xs
 nothing [] l = refl
 nothing (x ∷ xs) l = absurd (omega arith)
-
-times-suc : (m n : ℕ) → m * suc n ≡ m + m * n
-times-suc m n = grind arith
 
 pub pieces-made : (h : Heap) (os bytes : List ℕ) → length bytes ≤ segment_size * length os → ((j : ℕ) → j < length os → Begins h (get_or os j 0) (take segment_size (drop (segment_size * j) bytes))) → (met : List Found) × (pieces_at (segments (length bytes) os) h ≡ Some (bytes, met))
 pieces-made h [] bytes l f =

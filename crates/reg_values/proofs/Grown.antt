@@ -8,10 +8,11 @@ use Rattle.reg_heap.specs.Kinds.{Found, owned, times}
 use Rattle.reg_heap.specs.Kinds.Kind.{ValueList}
 use Rattle.reg_records.specs.Cells.{HasRoom, held}
 use Rattle.reg_records.specs.Rows.{offsets_at, offset_in}
+use Rattle.reg_records.proofs.Splices.{word-same}
 use Rattle.reg_values.specs.Parts.{list_at, BecameList, Fills, KeepsSizes}
 use Rattle.reg_values.proofs.Found.{held-is}
 use Rattle.reg_values.proofs.Listed.{IsRow, list-open, list-made, list-kept}
-use Rattle.reg_values.proofs.Shifted.{offsets-append, offsets-same, word-same, get_or-within, get_or-take-drop}
+use Rattle.reg_values.proofs.Shifted.{offsets-append, offsets-same, get_or-within, get_or-take-drop}
 use Rattle.reg_values.proofs.Swapped.{allocated-le, there-one, one-there, times-same, swaps-then, swaps-with, writes-in}
 use Rattle.reg_values.proofs.Filling.{fills-then, fills-room, written-here, fills-written}
 

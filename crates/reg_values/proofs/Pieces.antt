@@ -104,6 +104,12 @@ piece-made heap n names content rest cells e l r =
 
 -- ---- segments
 
+pub times-suc : (m n : ℕ) → m * suc n ≡ m + m * n
+times-suc m n = grind arith
+
+pub next-size : (m size i : ℕ) → (size - m * i) - m ≡ size - m * suc i
+next-size m size i = let e = times-suc m i in omega (arith, e)
+
 -- as long as they say, where there are enough
 pub segments-length : (heap : Heap) (size : ℕ) (row bytes : List ℕ) (zs : List Found) → size ≤ segment_size * length row → pieces_at (segments size row) heap ≡ Some (bytes, zs) → length bytes ≡ size
 segments-length heap size [] bytes zs l e = ap length (pieces-none heap bytes zs e).0 ∙ (let z : segment_size * length {A = ℕ} [] ≡ 0 = omega arith in omega arith)
@@ -114,9 +120,6 @@ segments-length heap size (o ∷ row) bytes zs l e =
     let long = p.long in
     let whole = ap length p.is in
     omega (arith, whole, rest, length-append (take (min segment_size size) p.content) p.rest, length-take (min segment_size size) p.content, long)
-  where
-    times-suc : (m n : ℕ) → m * suc n ≡ m + m * n
-    times-suc m n = grind arith
 
 -- and each is met once as the row has it
 pub segments-owned : (heap : Heap) (offset size : ℕ) (row bytes : List ℕ) (zs : List Found) → pieces_at (segments size row) heap ≡ Some (bytes, zs) → owned offset zs ≡ times offset row
@@ -249,9 +252,6 @@ drop-next : (row : List ℕ) (i : ℕ) → i < length row → drop i row ≡ get
 drop-next [] i l = absurd (omega arith)
 drop-next (o ∷ row) zero l = refl
 drop-next (o ∷ row) (suc i) l = drop-next row i (omega arith)
-
-next-size : (m size i : ℕ) → (size - m * i) - m ≡ size - m * suc i
-next-size m size i = let e : m * suc i ≡ m + m * i = grind arith in omega (arith, e)
 
 -- the next one, and what is joined with it
 pub record JoinedNext (heap : Heap) (size i : ℕ) (row done bytes : List ℕ) : Type 0 where

@@ -13,7 +13,7 @@ use Rattle.reg_records.specs.Rows.{offset_in}
 use Rattle.reg_records.specs.Values.{KeyValueRecord, value_record_at}
 use Rattle.reg_records.specs.Nodes.{members_at}
 use Rattle.reg_values.specs.Sizes.{cell_size, segment_sizes, data_sizes, stays, sizes_by, new_data_sizes, set_sizes}
-use Rattle.reg_values.proofs.Pieces.{le-false, segment-is}
+use Rattle.reg_values.proofs.Pieces.{le-false, next-size, segment-is}
 
 -- so many sizes are there, and the others come behind them
 pub record Sized (count size i : ℕ) (base done : List ℕ) : Type 0 where
@@ -24,9 +24,6 @@ sized-none count size base =
     let n : size - segment_size * 0 ≡ size = omega arith in
     let m : count - 0 ≡ count = omega arith in
     record { is = ap (λ s. base ++ segment_sizes (count - 0) s) n ∙ ap (λ k. base ++ segment_sizes k size) m }
-
-next-size : (m size i : ℕ) → (size - m * i) - m ≡ size - m * suc i
-next-size m size i = let e : m * suc i ≡ m + m * i = grind arith in omega (arith, e)
 
 pub sized-more : (count size i n : ℕ) (base done : List ℕ) → i < count → n ≡ cell_size (min segment_size (size - segment_size * i)) → Sized count size i base done → Sized count size (i + 1) base (done ++ n ∷ [])
 sized-more count size i n base done l e s =

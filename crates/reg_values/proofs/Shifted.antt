@@ -9,7 +9,7 @@ use Rattle.reg_heap.specs.Kinds.{Found, owned, times}
 use Rattle.reg_heap.specs.Kinds.Kind.{ValueList}
 use Rattle.reg_records.specs.Cells.{held}
 use Rattle.reg_records.specs.Rows.{offsets_at}
-use Rattle.reg_records.proofs.Splices.{length-splice, number-below}
+use Rattle.reg_records.proofs.Splices.{length-splice, number-below, word-same}
 use Rattle.reg_values.specs.Parts.{list_at, BecameList}
 use Rattle.reg_values.proofs.Opening.{length-offsets}
 use Rattle.reg_values.proofs.Found.{is-some, held-is}
@@ -56,17 +56,6 @@ drop-offsets (suc i) n at c =
     let m : suc i + n ≡ suc (i + n) = omega arith in
     let z : (at + 4) + 4 * i ≡ at + 4 * suc i = omega arith in
     ap (λ n. drop (suc i) (offsets_at n at c)) m ∙ (drop-offsets i n (at + 4) c ∙ ap (λ a. offsets_at n a c) z)
-
-little-same : (i n p q : ℕ) (xs ys : List ℕ) → ((k : ℕ) → k < i + n → get_or ys (q + k) 0 ≡ get_or xs (p + k) 0) → little_from i n (drop q ys) ≡ little_from i n (drop p xs)
-little-same i zero p q xs ys same = refl
-little-same i (suc n) p q xs ys same =
-    let byte : get_or (drop q ys) i 0 ≡ get_or (drop p xs) i 0 = get_or-drop q ys i 0 ∙ same i (omega arith) ∙ sym (get_or-drop p xs i 0) in
-    let rest = little-same (suc i) n p q xs ys (λ k h. same k (omega arith)) in
-    rw (byte, rest) refl
-
-pub word-same : (p q : ℕ) (xs ys : List ℕ) → ((k : ℕ) → k < 4 → get_or ys (q + k) 0 ≡ get_or xs (p + k) 0) → word ys q ≡ word xs p
-unfolding word
-word-same p q xs ys same = little-same 0 4 p q xs ys (λ k h. same k (omega arith))
 
 pub get_or-within : (at k : ℕ) (piece xs : List ℕ) → at + length piece ≤ length xs → k < length piece → get_or (splice at piece xs) (at + k) 0 ≡ get_or piece k 0
 unfolding splice

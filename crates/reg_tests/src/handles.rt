@@ -2,7 +2,7 @@
 ghost use Rattle.std.specs.Prelude.{◌≡◌, IfOk, true, map};
 ghost use Rattle.reg_names.specs.Names.{is_path, path_of, folded};
 
-use super::*;
+use reg_handles::{Found, Handles};
 use std::alloc::Global;
 use std::test::Fail;
 
