@@ -6,3 +6,4 @@ pub mod Answering
 pub mod RowsReplies
 pub mod RowsRefusals
 pub mod RowsKeys
+pub mod RowsInfos

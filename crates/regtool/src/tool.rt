@@ -1,7 +1,10 @@
 ghost use Rattle.std.specs.Prelude.{◌≡◌, ◌≤◌, ℕ, List, OnOk, IfErr};
 ghost use Rattle.std.specs.Io.KnownBytes.{IsAtEnd, Appends, Consumes};
+ghost use Rattle.clap.specs.Values.{kind_of};
+ghost use Rattle.clap.specs.Words.{FailsBy};
 ghost use Rattle.reg_script.specs.Lines.{Writes};
-ghost use Rattle.regtool.specs.Failures.{IsUntouched, IsBefore, IsFailure, IsStopped};
+ghost use Rattle.regtool.specs.CommandLines.{faults_in, texts};
+ghost use Rattle.regtool.specs.Failures.{IsCommandLine, IsRefused, IsBefore, IsFailure, IsStopped};
 
 use clap::error::ErrorKind;
 use clap::{Command, Error};
@@ -30,7 +33,9 @@ enum Failure {
 }
 
 /// Reads the command line. Its one command is `run`.
-fn check_words<'a>(alloc: Global, words: &'a [String]) -> Result<(), Error> {
+fn check_words<'a>(alloc: Global, words: &'a [String]) -> Result<(), Error>
+    ensures { FailsBy (faults_in (texts words.now)) result }
+{
     let run = Command::new(alloc, "run").about(
         "Runs a script of registry calls from standard input",
     );
@@ -43,7 +48,7 @@ fn check_words<'a>(alloc: Global, words: &'a [String]) -> Result<(), Error> {
 }
 
 fn usage(alloc: Global, error: &Error) -> Failure
-    ensures { IsBefore result }
+    ensures { IsBefore (kind_of error.now) result }
 {
     if error.kind() == ErrorKind::OutOfMemory {
         return Failure::Memory;
@@ -63,7 +68,8 @@ fn attempt<R: Read, W: Write>(
     ensures at_end { OnOk result (IsAtEnd (R.remaining input.new)) }
     ensures lines { OnOk result ((script : List ℕ) × (text : List ℕ) × Consumes (R.remaining input.old) (R.remaining input.new) script
         × Writes script text × Appends (W.contents output.old) (W.contents output.new) text) }
-    ensures failure { IfErr result (λ failure. IsFailure failure (R.remaining input.old) (R.remaining input.new) (W.contents output.old) (W.contents output.new)) }
+    ensures words { OnOk result (IsCommandLine (texts words.now)) }
+    ensures failure { IfErr result (λ failure. IsFailure failure (texts words.now) (R.remaining input.old) (R.remaining input.new) (W.contents output.old) (W.contents output.new)) }
 {
     if let Err(error) = check_words(alloc, words) {
         return Err(usage(alloc, &error));
@@ -79,7 +85,8 @@ fn attempt<R: Read, W: Write>(
 
 /// Runs the tool on a command line, whose first word is the program's name, and answers the exit status: 0; 1 after a
 /// script's fault (`error script N` on `errors`) or for want of memory (`error 8`); 2 for a command line that isn't
-/// understood or a request for help (the text on `errors`). It is 0 only where the input was read to its end and the script's replies were written. A failed write to `errors` changes nothing.
+/// understood or a request for help (the text on `errors`). It is 0 only where the input was read to its end and the script's
+/// replies were written, and then nothing is written to `errors`. A failed write to `errors` changes nothing.
 pub fn tool<R: Read, W: Write, E: Write>(
     alloc: Global,
     words: Vec<String>,
@@ -88,11 +95,13 @@ pub fn tool<R: Read, W: Write, E: Write>(
     errors: &mut E,
 ) -> u8
     ensures status { result ≤ 2 }
+    ensures words { result ≡ 0 → IsCommandLine (texts words.items) }
+    ensures silent { result ≡ 0 → E.contents errors.new ≡ E.contents errors.old }
     ensures read { result ≡ 0 → IsAtEnd (R.remaining input.new) }
     ensures lines { result ≡ 0 → (script : List ℕ) × (text : List ℕ) × Consumes (R.remaining input.old) (R.remaining input.new) script
         × Writes script text × Appends (W.contents output.old) (W.contents output.new) text }
-    ensures stopped { result ≡ 1 → IsStopped (R.remaining input.old) (R.remaining input.new) (W.contents output.old) (W.contents output.new) }
-    ensures usage { result ≡ 2 → IsUntouched (R.remaining input.old) (R.remaining input.new) (W.contents output.old) (W.contents output.new) }
+    ensures stopped { result ≡ 1 → IsStopped (texts words.items) (R.remaining input.old) (R.remaining input.new) (W.contents output.old) (W.contents output.new) }
+    ensures usage { result ≡ 2 → IsRefused (texts words.items) (R.remaining input.old) (R.remaining input.new) (W.contents output.old) (W.contents output.new) }
 {
     match attempt(alloc, words.as_slice(), input, output) {
         Ok(()) => 0,
