@@ -16,4 +16,3 @@ pub use bytes::Bytes;
 pub use call::{Call, Change, Query};
 pub use reply::{ChangeReply, Entry};
 pub use step::{Outcome, Step};
-

@@ -11,7 +11,6 @@ use std::alloc::{AllocError, Global};
 use std::cmp::Ordering;
 use thiserror::Error;
 
-
 /// The longest key name, in bytes.
 pub const KEY_NAME_LIMIT: usize = 255;
 

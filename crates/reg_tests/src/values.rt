@@ -109,10 +109,7 @@ fn deleted_value_leaves_no_cell(rt: HostRuntime) -> Result<(), Fail> {
 fn deleted_big_value_leaves_no_cell(rt: HostRuntime) -> Result<(), Fail> {
     let text = deleted(rt.alloc(), b"v", 100_000)?;
     // 100,144 bytes of cells and a header of 32 need a bin of 102,400
-    assert_eq!(rt;
-        text.as_str(),
-        "0; 32 88* 120 48* 168 3928 4128 102368 "
-    );
+    assert_eq!(rt; text.as_str(), "0; 32 88* 120 48* 168 3928 4128 102368 ");
     Ok(())
 }
 
