@@ -130,18 +130,6 @@ fn carves_cells_side_by_side(rt: HostRuntime) -> Result<(), Fail> {
 }
 
 #[test]
-fn a_bin_has_room_for_the_cell(rt: HostRuntime) -> Result<(), Fail> {
-    let mut arena = Arena::new(rt.alloc());
-    let mut offsets = Vec::new(rt.alloc());
-    arena.carve(&[4072], &mut offsets)?;
-    assert_eq!(rt;
-        shown(rt.alloc(), &arena)?.as_str(),
-        "32 4072*, 4104 4088, "
-    );
-    Ok(())
-}
-
-#[test]
 fn the_bins_have_a_limit(rt: HostRuntime) -> Result<(), Fail> {
     let mut arena = Arena::new(rt.alloc());
     let text = filled(rt.alloc(), &mut arena)?;

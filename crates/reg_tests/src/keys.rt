@@ -82,14 +82,6 @@ fn names(alloc: Global, tree: &Tree, path: &[u8]) -> Result<String, Fail> {
     Ok(text)
 }
 
-/// The time of the key at a path, or 0 where there is none.
-fn time(tree: &Tree, path: &[u8]) -> u64 {
-    match at(tree, path) {
-        Some(node) => tree.time(node),
-        None => 0,
-    }
-}
-
 /// How many cells are allocated.
 fn cells(alloc: Global, tree: &Tree) -> Result<usize, Fail> {
     let mut sizes = Vec::new(alloc);
@@ -113,13 +105,19 @@ fn deep(alloc: Global, names: usize) -> Result<Vec<u8>, Fail> {
     Ok(path)
 }
 
+/// What making a key under two spellings answers, and what is below its parent then.
+fn made_twice(alloc: Global) -> Result<String, Fail> {
+    let mut tree = tree(alloc)?;
+    let mut text = make(&mut tree, alloc, &[b"Software\\Run", b"SOFTWARE\\run"], 7)?;
+    let below = names(alloc, &tree, b"sOFTWARE")?;
+    write!(text, "{}", below.as_str())?;
+    Ok(text)
+}
+
 #[test]
 fn names_that_differ_only_in_case_are_one_key(rt: HostRuntime) -> Result<(), Fail> {
-    let alloc = rt.alloc();
-    let mut tree = tree(alloc)?;
-    let said = make(&mut tree, alloc, &[b"Software\\Run", b"SOFTWARE\\run"], 7)?;
-    assert_eq!(rt; said.as_str(), "made there ");
-    assert_eq!(rt; names(alloc, &tree, b"sOFTWARE")?.as_str(), "Run ");
+    let text = made_twice(rt.alloc())?;
+    assert_eq!(rt; text.as_str(), "made there Run ");
     Ok(())
 }
 
@@ -130,7 +128,6 @@ fn thirty_three(alloc: Global) -> Result<String, Fail> {
     let mut text = make_below(&mut tree, alloc, b"", &path, 7)?;
     let below = names(alloc, &tree, b"")?;
     write!(text, ": {}", below.as_str())?;
-    write!(text, "time {}, ", time(&tree, b""))?;
     write!(text, "{} cells", cells(alloc, &tree)?)?;
     Ok(text)
 }
@@ -138,7 +135,7 @@ fn thirty_three(alloc: Global) -> Result<String, Fail> {
 #[test]
 fn a_path_of_thirty_three_missing_names_is_refused(rt: HostRuntime) -> Result<(), Fail> {
     let text = thirty_three(rt.alloc())?;
-    assert_eq!(rt; text.as_str(), "Limit: time 5, 2 cells");
+    assert_eq!(rt; text.as_str(), "Limit: 2 cells");
     Ok(())
 }
 
@@ -154,24 +151,6 @@ fn is_limited(alloc: Global, names: usize) -> Result<bool, Fail> {
 fn a_path_of_thirty_three_missing_names_is_too_long(rt: HostRuntime) -> Result<(), Fail> {
     assert_eq!(rt; is_limited(rt.alloc(), 32)?, false);
     assert_eq!(rt; is_limited(rt.alloc(), 33)?, true);
-    Ok(())
-}
-
-/// The marks of the key at a path, or 0 where there is none.
-fn marks(tree: &Tree, path: &[u8]) -> u16 {
-    match at(tree, path) {
-        Some(node) => tree.marks(node),
-        None => 0,
-    }
-}
-
-#[test]
-fn the_root_alone_is_marked(rt: HostRuntime) -> Result<(), Fail> {
-    let alloc = rt.alloc();
-    let mut tree = tree(alloc)?;
-    let _said = make(&mut tree, alloc, &[b"Run"], 7)?;
-    assert_eq!(rt; marks(&tree, b""), 8);
-    assert_eq!(rt; marks(&tree, b"Run"), 0);
     Ok(())
 }
 
@@ -335,18 +314,6 @@ fn values_are_told_in_order(rt: HostRuntime) -> Result<(), Fail> {
     Ok(())
 }
 
-#[test]
-fn a_value_set_again_keeps_its_place(rt: HostRuntime) -> Result<(), Fail> {
-    let alloc = rt.alloc();
-    let mut tree = with_values(alloc)?;
-    assert_eq!(rt; set(&mut tree, alloc, b"a", b"V", b"!")?.as_str(), "set");
-    assert_eq!(rt;
-        values(alloc, &tree, b"a")?.as_str(),
-        "v 1 1 [33], w 1 6 [108, 111, 110, 103, 101, 114], "
-    );
-    Ok(())
-}
-
 /// Deletes a key that has values, and tells what there was before and is afterwards.
 fn deleted_with_values(alloc: Global) -> Result<String, Fail> {
     let mut tree = with_values(alloc)?;
@@ -362,48 +329,5 @@ fn deleted_with_values(alloc: Global) -> Result<String, Fail> {
 fn values_go_with_their_key(rt: HostRuntime) -> Result<(), Fail> {
     let text = deleted_with_values(rt.alloc())?;
     assert_eq!(rt; text.as_str(), "8 cells, deleted, 2 cells");
-    Ok(())
-}
-
-/// The descriptor of the key at a path.
-fn descriptor(alloc: Global, tree: &Tree, path: &[u8]) -> Result<String, Fail> {
-    let mut text = String::new(alloc);
-    if let Some(node) = at(tree, path) {
-        write!(text, "{:?}", tree.descriptor(node))?;
-    }
-    Ok(text)
-}
-
-#[test]
-fn a_key_has_its_parents_descriptor(rt: HostRuntime) -> Result<(), Fail> {
-    let alloc = rt.alloc();
-    let mut tree = tree(alloc)?;
-    let _said = make(&mut tree, alloc, &[b"A\\B"], 7)?;
-    assert_eq!(rt;
-        descriptor(alloc, &tree, b"a\\b")?.as_str(),
-        "[1, 0, 4, 128]"
-    );
-    Ok(())
-}
-
-/// The times of the root, `A` and `A\B`.
-fn times(alloc: Global, tree: &Tree) -> Result<String, Fail> {
-    let text = format!(in alloc;
-        "{} {} {}",
-        time(tree, b""),
-        time(tree, b"a"),
-        time(tree, b"a\\b")
-    )?;
-    Ok(text)
-}
-
-#[test]
-fn making_sets_the_times(rt: HostRuntime) -> Result<(), Fail> {
-    let alloc = rt.alloc();
-    let mut tree = tree(alloc)?;
-    let _said = make(&mut tree, alloc, &[b"A"], 7)?;
-    assert_eq!(rt; times(alloc, &tree)?.as_str(), "7 7 0");
-    let _said = make(&mut tree, alloc, &[b"A\\B"], 8)?;
-    assert_eq!(rt; times(alloc, &tree)?.as_str(), "7 8 8");
     Ok(())
 }

@@ -1,13 +1,11 @@
-//! Tests of hives as a whole: calls in, replies and bytes out. The wanted bytes come from the format's tables, and the
-//! wanted replies from the rules of the calls. There is nothing here but tests.
+//! Tests of the libraries, by their public calls. The wanted bytes come from the format's tables, and the wanted replies from
+//! the rules of the calls. There is nothing here but tests.
 #![tactic(auto)]
 
 #[cfg(test)]
 mod arena;
 #[cfg(test)]
 mod copies;
-#[cfg(test)]
-mod handles;
 #[cfg(test)]
 mod hives;
 #[cfg(test)]
