@@ -11,7 +11,7 @@ use std::time::Instant;
 const SMALL: usize = 240;
 
 /// How many cells are allocated at first while time is taken.
-const SIZES: [usize; 3] = [10_000, 100_000, 1_000_000];
+const SIZES: [usize; 2] = [100_000, 1_000_000];
 
 /// How often a sixth of the cells is freed, so that half of them are at last.
 const ROUNDS: usize = 3;

@@ -11,13 +11,9 @@ use std::time::{Duration, Instant};
 /// The hive while no time is taken.
 const SMALL: Size = Size { width: 3, open: 24 };
 
-/// The hives while time is taken: few and many keys, and of each three numbers of handles.
-const SIZES: [Size; 6] = [
+/// The hives while time is taken: few and many keys, few and many handles.
+const SIZES: [Size; 4] = [
     Size { width: 4, open: 16 },
-    Size {
-        width: 4,
-        open: 512,
-    },
     Size {
         width: 4,
         open: 16_384,
@@ -25,10 +21,6 @@ const SIZES: [Size; 6] = [
     Size {
         width: 128,
         open: 16,
-    },
-    Size {
-        width: 128,
-        open: 512,
     },
     Size {
         width: 128,

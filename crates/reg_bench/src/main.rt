@@ -1,7 +1,7 @@
 //! Measures what calls of the libraries cost.
 //!
-//! `reg_bench measure SUBJECT` prints how long the calls of a subject take, at three sizes of what it works on at least. Without
-//! an argument each subject runs at a small size and prints counts alone, which are the same on every run.
+//! `reg_bench measure SUBJECT` prints how long the calls of a subject take, at two sizes of what it works on. Without an
+//! argument each subject runs at a small size and prints counts alone, which are the same on every run.
 #![tactic(auto)]
 
 mod arena;

@@ -11,11 +11,13 @@ use std::time::Instant;
 /// How many keys each pass visits while no time is taken.
 const SMALL: [u32; 2] = [6, 2];
 
-/// How many keys a pass visits at most while time is taken: a hundred below each of a hundred.
+/// How many keys most passes visit while time is taken: a hundred below each of a hundred.
 const KEYS: u32 = 10_000;
 
-/// How many visits there are while time is taken: 10,000, 100,000 and 1,000,000 lines with the first four.
-const SIZES: [u32; 3] = [1_666, 16_666, 166_666];
+/// How many passes visit all keys, and how many keys the last one visits: 1,000,000 lines with the first four.
+const PASSES: u32 = 16;
+
+const LAST: u32 = 6_666;
 
 /// How many keys stand below each key that is below the root.
 const WIDTH: u32 = 100;
@@ -103,21 +105,13 @@ pub fn count(rt: &impl Print, alloc: Global) -> Result<()> {
     Ok(())
 }
 
-/// Prints the time of a script's lines, by their number.
+/// Prints the time of a script's lines. The script is made before the clock starts.
 pub fn measure(rt: &(impl Print + Clock), alloc: Global) -> Result<()> {
-    for visits in SIZES {
-        measure_at(rt, alloc, visits)?;
-    }
-    Ok(())
-}
-
-// The script is made before the clock starts.
-fn measure_at(rt: &(impl Print + Clock), alloc: Global, visits: u32) -> Result<()> {
     let mut script = Script::new(alloc)?;
-    for _pass in 0..visits / KEYS {
+    for _pass in 0..PASSES {
         script.pass(KEYS)?;
     }
-    script.pass(visits % KEYS)?;
+    script.pass(LAST)?;
     let lines = lines_in(script.text.as_bytes());
     let mut hive = hive(alloc)?;
     let start = Instant::now(rt)?;

@@ -1,6 +1,5 @@
 //! Values, set and asked for by a handle of a key that has several.
 
-use crate::operations::ALL_RIGHTS;
 use crate::timing::PerCall;
 use anyhow::{Result, bail};
 use reg_calls::Hive;
@@ -8,6 +7,9 @@ use reg_model::{AnswerBody, Bytes, Change, Query};
 use std::alloc::Global;
 use std::rt::Clock;
 use std::time::Instant;
+
+/// Every right.
+const ALL_RIGHTS: u32 = 983_103;
 
 /// How many values the key has while no time is taken.
 const SMALL: u32 = 10;
