@@ -1,9 +1,8 @@
 //! Calls by handles, while few and while many are open.
 
-use crate::open_hive::{BATCH, OpenHive, Size};
-use crate::operations::Operation;
-use crate::timing::PerCall;
+use crate::open_hive::OpenHive;
 use anyhow::Result;
+use reg_load::{BATCH, Operation, PerCall, Size};
 use std::alloc::Global;
 use std::rt::Clock;
 use std::time::{Duration, Instant};
@@ -11,22 +10,11 @@ use std::time::{Duration, Instant};
 /// The hive while no time is taken.
 const SMALL: Size = Size { width: 3, open: 24 };
 
-/// The hives while time is taken: few and many keys, few and many handles.
-const SIZES: [Size; 4] = [
-    Size { width: 4, open: 16 },
-    Size {
-        width: 4,
-        open: 16_384,
-    },
-    Size {
-        width: 128,
-        open: 16,
-    },
-    Size {
-        width: 128,
-        open: 16_384,
-    },
-];
+/// How wide the hives are while time is taken: few and many keys.
+const WIDTHS: [u32; 2] = [4, 128];
+
+/// How many handles are open while time is taken.
+const OPEN: [u32; 3] = [16, 512, 16_384];
 
 /// How many batches of each operation are timed together.
 const BATCHES: usize = 1_250;
@@ -34,13 +22,13 @@ const BATCHES: usize = 1_250;
 /// Does each operation in one batch, and prints how many calls, handles and entries there are.
 pub fn count(rt: &impl Print, alloc: Global) -> Result<()> {
     let mut hive = OpenHive::new(alloc, SMALL)?;
+    count_in(rt, &mut hive)
+}
+
+fn count_in(rt: &impl Print, hive: &mut OpenHive) -> Result<()> {
     let mut made: usize = 0;
     for operation in Operation::ALL {
-        hive.prepare(operation, 1)?;
-        let calls = hive.calls(operation, 1)?;
-        made = made.saturating_add(calls.len());
-        hive.make(calls)?;
-        hive.restore(operation, 1)?;
+        made = made.saturating_add(make_batch(hive, operation)?);
     }
     println!(rt;
         "handles: {made} calls, {} handles open, {} entries",
@@ -50,19 +38,36 @@ pub fn count(rt: &impl Print, alloc: Global) -> Result<()> {
     Ok(())
 }
 
+/// Does an operation in one batch, and tells how many calls that took.
+fn make_batch(hive: &mut OpenHive, operation: Operation) -> Result<usize> {
+    hive.prepare(operation, 1)?;
+    let calls = hive.calls(operation, 1)?;
+    let made = calls.len();
+    hive.make(calls)?;
+    hive.restore(operation, 1)?;
+    Ok(made)
+}
+
 /// Prints the times of each operation, by the numbers of keys and of open handles.
 pub fn measure(rt: &(impl Print + Clock), alloc: Global) -> Result<()> {
-    for size in SIZES {
-        let mut hive = OpenHive::new(alloc, size)?;
-        println!(rt;
-            "handles, {} keys, {} open:",
-            size.keys(),
-            hive.open_handles()
-        )?;
-        for operation in Operation::ALL {
-            let time = time(rt, &mut hive, operation)?;
-            println!(rt; "{}, {time}", operation.name())?;
+    for width in WIDTHS {
+        for open in OPEN {
+            measure_at(rt, alloc, Size { width, open })?;
         }
+    }
+    Ok(())
+}
+
+fn measure_at(rt: &(impl Print + Clock), alloc: Global, size: Size) -> Result<()> {
+    println!(rt; "handles, {} keys, {} open:", size.keys(), size.open)?;
+    let mut hive = OpenHive::new(alloc, size)?;
+    measure_in(rt, &mut hive)
+}
+
+fn measure_in(rt: &(impl Print + Clock), hive: &mut OpenHive) -> Result<()> {
+    for operation in Operation::ALL {
+        let time = time(rt, hive, operation)?;
+        println!(rt; "{}, {time}", operation.name())?;
     }
     Ok(())
 }
@@ -78,5 +83,5 @@ fn time(rt: &impl Clock, hive: &mut OpenHive, operation: Operation) -> Result<Pe
         total = total.saturating_add(start.elapsed(rt)?);
         hive.restore(operation, batch)?;
     }
-    Ok(PerCall::new(total, BATCHES * BATCH))
+    Ok(PerCall::new(total, BATCHES * BATCH as usize))
 }

@@ -1,7 +1,7 @@
 //! Keys, made and resolved by paths of three names from the root.
 
-use crate::timing::PerCall;
 use anyhow::{Result, bail};
+use reg_load::PerCall;
 use reg_model::Bytes;
 use reg_names::check_path;
 use reg_tree::Tree;
@@ -97,16 +97,24 @@ fn tree(alloc: Global) -> Result<Tree> {
 /// Makes keys and resolves them, and prints how many there are and in how many bytes.
 pub fn count(rt: &impl Print, alloc: Global) -> Result<()> {
     let mut tree = tree(alloc)?;
-    let paths = paths(alloc, SMALL)?;
-    make_all(&mut tree, alloc, paths.as_slice())?;
-    let found = resolve_all(&tree, paths.as_slice())?;
-    let counts = count_cells(alloc, &tree)?;
+    count_in(rt, alloc, &mut tree)
+}
+
+fn count_in(rt: &impl Print, alloc: Global, tree: &mut Tree) -> Result<()> {
+    let found = make_and_resolve(alloc, tree, SMALL)?;
+    let counts = count_cells(alloc, tree)?;
     let bins = tree.arena().bins_size();
     println!(rt;
         "keys: {found} found, {} cells in {bins} bytes",
         counts.allocated
     )?;
     Ok(())
+}
+
+fn make_and_resolve(alloc: Global, tree: &mut Tree, levels: [u32; 3]) -> Result<u32> {
+    let paths = paths(alloc, levels)?;
+    make_all(tree, alloc, paths.as_slice())?;
+    resolve_all(tree, paths.as_slice())
 }
 
 /// Prints the times of making a key and of resolving it, by the number of keys, with the bytes that the records have and
@@ -120,17 +128,47 @@ pub fn measure(rt: &(impl Print + Clock), alloc: Global) -> Result<()> {
 
 fn measure_at(rt: &(impl Print + Clock), alloc: Global, levels: [u32; 3]) -> Result<()> {
     let mut tree = tree(alloc)?;
+    measure_in(rt, alloc, &mut tree, levels)
+}
+
+fn measure_in(
+    rt: &(impl Print + Clock),
+    alloc: Global,
+    tree: &mut Tree,
+    levels: [u32; 3],
+) -> Result<()> {
     let paths = paths(alloc, levels)?;
+    time_making(rt, alloc, tree, paths.as_slice())?;
+    time_resolving(rt, tree, paths.as_slice())?;
+    print_cells(rt, alloc, tree)
+}
+
+fn time_making(
+    rt: &(impl Print + Clock),
+    alloc: Global,
+    tree: &mut Tree,
+    paths: &[Bytes],
+) -> Result<()> {
     let start = Instant::now(rt)?;
-    make_all(&mut tree, alloc, paths.as_slice())?;
+    make_all(tree, alloc, paths)?;
     let made = PerCall::new(start.elapsed(rt)?, paths.len());
+    println!(rt; "keys, {} paths: create, {made}", paths.len())?;
+    Ok(())
+}
+
+fn time_resolving(rt: &(impl Print + Clock), tree: &Tree, paths: &[Bytes]) -> Result<()> {
     let start = Instant::now(rt)?;
-    let found = resolve_all(&tree, paths.as_slice())?;
+    let found = resolve_all(tree, paths)?;
     let resolved = PerCall::new(start.elapsed(rt)?, paths.len());
-    let counts = count_cells(alloc, &tree)?;
+    println!(rt; "{found} found: resolve, {resolved}")?;
+    Ok(())
+}
+
+fn print_cells(rt: &impl Print, alloc: Global, tree: &Tree) -> Result<()> {
+    let counts = count_cells(alloc, tree)?;
     let bins = tree.arena().bins_size();
     println!(rt;
-        "keys, {found}: create, {made}; resolve, {resolved}; {} of {bins} bytes allocated, {} cells free",
+        "{} of {bins} bytes allocated, {} cells free",
         counts.bytes, counts.free
     )?;
     Ok(())

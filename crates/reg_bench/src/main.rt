@@ -1,51 +1,22 @@
 //! Measures what calls of the libraries cost.
 //!
-//! `reg_bench measure SUBJECT` prints how long the calls of a subject take, at two sizes of what it works on. Without an
+//! `reg_bench measure SUBJECT` prints how long the calls of a subject take, at three sizes of what it works on. Without an
 //! argument each subject runs at a small size and prints counts alone, which are the same on every run.
 #![tactic(auto)]
 
 mod arena;
 mod handles;
+mod hives;
 mod keys;
-mod live_cells;
 mod open_hive;
-mod operations;
 mod script;
-mod timing;
 mod values;
 
 use anyhow::{Result, bail};
+use reg_load::Subject;
 use std::alloc::Global;
 use std::env;
 use std::rt::Clock;
-
-/// What can be measured.
-#[derive(Clone, Copy)]
-enum Subject {
-    /// Carving and freeing cells.
-    Arena,
-    /// Calls by handles, of which few or many are open.
-    Handles,
-    /// Making keys and finding them by their paths.
-    Keys,
-    /// A script of many lines.
-    Script,
-    /// Setting values and asking for them.
-    Values,
-}
-
-impl Subject {
-    fn named(name: &str) -> Option<Subject> {
-        match name {
-            "arena" => Some(Subject::Arena),
-            "handles" => Some(Subject::Handles),
-            "keys" => Some(Subject::Keys),
-            "script" => Some(Subject::Script),
-            "values" => Some(Subject::Values),
-            _ => None,
-        }
-    }
-}
 
 /// Runs each subject at a small size and prints counts.
 fn count_all(rt: &impl Print, alloc: Global) -> Result<()> {
@@ -80,7 +51,7 @@ fn main(rt: HostRuntime) -> Result<()> {
     if word.as_str() != "measure" {
         bail!("no such word: measure SUBJECT");
     }
-    let Some(subject) = Subject::named(name.as_str()) else {
+    let Some(subject) = Subject::named(name.as_bytes()) else {
         bail!("no such subject");
     };
     measure(&rt, alloc, subject)

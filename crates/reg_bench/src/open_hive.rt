@@ -1,45 +1,20 @@
 //! A hive with open handles on many keys, and batches of calls by them.
-ghost use Rattle.std.specs.Prelude.{◌≡◌, ◌*◌, min, length};
+ghost use Rattle.std.specs.Prelude.{◌≡◌, length};
 ghost use Rattle.reg_calls.specs.Hives.{view_of};
 
-use crate::operations::{ALL_RIGHTS, OLD_SUBKEY, Operation};
+use crate::hives::new_hive;
 use anyhow::{Result, bail};
 use reg_calls::Hive;
+use reg_load::{ALL_RIGHTS, BATCH, OLD_SUBKEY, Operation, Size};
 use reg_model::{AnswerBody, Bytes, Call, Change, Query};
 use std::alloc::Global;
 
-/// How many calls are in a batch.
-pub const BATCH: usize = 8;
-
-/// How many keys a hive has, and how many open handles.
-#[derive(Clone, Copy)]
-pub struct Size {
-    /// The root has so many subkeys, and each of them as many.
-    pub width: u32,
-    /// How many handles are open, of one session: a multiple of a batch, at least two.
-    pub open: u32,
-}
-
-impl Size {
-    /// How many keys there are two names below the root.
-    pub fn keys(self) -> u32
-        ensures { result ≡ min 4294967295 (self.width * self.width) }
-    {
-        self.width.saturating_mul(self.width)
-    }
-
-    /// How many handles stay open.
-    fn staying(self) -> u32 {
-        self.open.saturating_sub(BATCH as u32)
-    }
-
-    /// The path of one of the keys; above their number they come again.
-    fn path_of(self, alloc: Global, number: u32) -> Result<String> {
-        let number = number.checked_rem(self.keys()).unwrap_or(0);
-        let first = number.checked_div(self.width).unwrap_or(0);
-        let second = number.checked_rem(self.width).unwrap_or(0);
-        Ok(format!(in alloc; "Key{first}\\Key{second}")?)
-    }
+/// The path of one of the keys of a hive of a size; above their number they come again.
+fn path_of(alloc: Global, size: Size, number: u32) -> Result<String> {
+    let number = number.checked_rem(size.keys()).unwrap_or(0);
+    let first = number.checked_div(size.width).unwrap_or(0);
+    let second = number.checked_rem(size.width).unwrap_or(0);
+    Ok(format!(in alloc; "Key{first}\\Key{second}")?)
 }
 
 /// A hive with open handles. One batch of them is closed and opened; the others stay, and lead to the keys two names below the
@@ -57,23 +32,27 @@ impl OpenHive {
     pub fn new(alloc: Global, size: Size) -> Result<OpenHive> {
         let mut open = OpenHive {
             alloc,
-            hive: Hive::new(alloc, b"ROOT", &[1], 0)?,
+            hive: new_hive(alloc)?,
             staying: Vec::new(alloc),
             spare: Vec::new(alloc),
         };
-        let root = open.handle_of(Change::OpenRoot { mask: ALL_RIGHTS })?;
+        open.fill(size)?;
+        Ok(open)
+    }
+
+    fn fill(&mut self, size: Size) -> Result<()> {
+        let root = self.handle_of(Change::OpenRoot { mask: ALL_RIGHTS })?;
         for number in 0..size.keys() {
-            open.make_key(root, size, number)?;
+            self.make_key(root, size, number)?;
         }
         for number in 0..size.staying() {
-            open.open_key(root, size, number)?;
+            self.open_key(root, size, number)?;
         }
-        open.change(Change::Close { handle: root })?;
-        for batch in 0..open.staying.len() / BATCH {
-            open.run(Operation::Set, batch)?;
+        self.change(Change::Close { handle: root })?;
+        for batch in 0..self.staying.len() / BATCH as usize {
+            self.run(Operation::Set, batch)?;
         }
-        open.run(Operation::Open, 0)?;
-        Ok(open)
+        self.run(Operation::Open, 0)
     }
 
     /// How many handles are open.
@@ -92,7 +71,7 @@ impl OpenHive {
 
     /// Makes a key with its subkey.
     fn make_key(&mut self, root: u64, size: Size, number: u32) -> Result<()> {
-        let above = size.path_of(self.alloc, number)?;
+        let above = path_of(self.alloc, size, number)?;
         let path = format!(in self.alloc; "{above}\\{OLD_SUBKEY}")?;
         let handle = self.handle_of(Change::CreateKey {
             handle: root,
@@ -104,7 +83,7 @@ impl OpenHive {
 
     /// Opens a handle that stays.
     fn open_key(&mut self, root: u64, size: Size, number: u32) -> Result<()> {
-        let path = size.path_of(self.alloc, number)?;
+        let path = path_of(self.alloc, size, number)?;
         let handle = self.handle_of(Change::OpenKey {
             handle: root,
             path: Bytes::from_slice(self.alloc, path.as_bytes())?,
@@ -159,10 +138,10 @@ impl OpenHive {
         if let Operation::Close = operation {
             return Some(self.spare.as_slice());
         }
-        let batches = self.staying.len() / BATCH;
+        let batches = self.staying.len() / BATCH as usize;
         self.staying
             .as_slice()
-            .chunks(BATCH)
+            .chunks(BATCH as usize)
             .nth(batch.checked_rem(batches)?)
     }
 

@@ -1,8 +1,9 @@
 //! A script of many lines, read from memory, answered and written to memory.
 
-use crate::timing::PerCall;
+use crate::hives::new_hive;
 use anyhow::{Result, bail};
 use reg_calls::Hive;
+use reg_load::PerCall;
 use reg_script::run;
 use std::alloc::Global;
 use std::rt::Clock;
@@ -11,13 +12,11 @@ use std::time::Instant;
 /// How many keys each pass visits while no time is taken.
 const SMALL: [u32; 2] = [6, 2];
 
-/// How many keys most passes visit while time is taken: a hundred below each of a hundred.
+/// How many visits a script makes while time is taken: each has five lines, and its pass one more.
+const SIZES: [u32; 3] = [1_666, 16_666, 166_666];
+
+/// How many keys a pass visits at most: a hundred below each of a hundred.
 const KEYS: u32 = 10_000;
-
-/// How many passes visit all keys, and how many keys the last one visits: 1,000,000 lines with the first four.
-const PASSES: u32 = 16;
-
-const LAST: u32 = 6_666;
 
 /// How many keys stand below each key that is below the root.
 const WIDTH: u32 = 100;
@@ -38,6 +37,16 @@ impl Script {
             text: HEAD.to_string(alloc)?,
             next: 1,
         })
+    }
+
+    /// A script of so many visits, in passes over the same keys.
+    fn of_visits(alloc: Global, visits: u32) -> Result<Script> {
+        let mut script = Script::new(alloc)?;
+        for _pass in 0..visits / KEYS {
+            script.pass(KEYS)?;
+        }
+        script.pass(visits % KEYS)?;
+        Ok(script)
     }
 
     /// Creates a key and opens it, sets its value by the second handle and asks for it by the first, and closes the second.
@@ -70,10 +79,6 @@ impl Script {
     }
 }
 
-fn hive(alloc: Global) -> Result<Hive> {
-    Ok(Hive::new(alloc, b"ROOT", &[1], 0)?)
-}
-
 /// Runs a script, and gives the replies.
 fn replies(alloc: Global, hive: &mut Hive, script: &Script) -> Result<Vec<u8>> {
     let mut input = script.text.as_bytes();
@@ -90,12 +95,16 @@ fn lines_in(text: &[u8]) -> usize {
 
 /// Runs a small script, and prints how many lines and entries there are.
 pub fn count(rt: &impl Print, alloc: Global) -> Result<()> {
+    let mut hive = new_hive(alloc)?;
+    count_in(rt, alloc, &mut hive)
+}
+
+fn count_in(rt: &impl Print, alloc: Global, hive: &mut Hive) -> Result<()> {
     let mut script = Script::new(alloc)?;
     for keys in SMALL {
         script.pass(keys)?;
     }
-    let mut hive = hive(alloc)?;
-    let replies = replies(alloc, &mut hive, &script)?;
+    let replies = replies(alloc, hive, &script)?;
     println!(rt;
         "script: {} lines, {} replies, {} entries",
         lines_in(script.text.as_bytes()),
@@ -105,24 +114,37 @@ pub fn count(rt: &impl Print, alloc: Global) -> Result<()> {
     Ok(())
 }
 
-/// Prints the time of a script's lines. The script is made before the clock starts.
+/// Prints the times of scripts, by the number of their lines.
 pub fn measure(rt: &(impl Print + Clock), alloc: Global) -> Result<()> {
-    let mut script = Script::new(alloc)?;
-    for _pass in 0..PASSES {
-        script.pass(KEYS)?;
+    for visits in SIZES {
+        measure_at(rt, alloc, visits)?;
     }
-    script.pass(LAST)?;
-    let lines = lines_in(script.text.as_bytes());
-    let mut hive = hive(alloc)?;
+    Ok(())
+}
+
+fn measure_at(rt: &(impl Print + Clock), alloc: Global, visits: u32) -> Result<()> {
+    let mut hive = new_hive(alloc)?;
+    measure_in(rt, alloc, &mut hive, visits)
+}
+
+// The script is made before the clock starts.
+fn measure_in(
+    rt: &(impl Print + Clock),
+    alloc: Global,
+    hive: &mut Hive,
+    visits: u32,
+) -> Result<()> {
+    let script = Script::of_visits(alloc, visits)?;
     let start = Instant::now(rt)?;
-    let replies = replies(alloc, &mut hive, &script)?;
+    let replies = replies(alloc, hive, &script)?;
     let time = start.elapsed(rt)?;
+    let lines = lines_in(script.text.as_bytes());
+    let replies = lines_in(replies.as_slice());
+    let entries = hive.len();
+    let millis = time.as_millis();
+    let per_line = PerCall::new(time, lines);
     println!(rt;
-        "script, {lines} lines, {} replies, {} entries: {} ms, {}",
-        lines_in(replies.as_slice()),
-        hive.len(),
-        time.as_millis(),
-        PerCall::new(time, lines)
+        "script, {lines} lines, {replies} replies, {entries} entries: {millis} ms, {per_line}"
     )?;
     Ok(())
 }

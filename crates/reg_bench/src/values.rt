@@ -1,15 +1,13 @@
 //! Values, set and asked for by a handle of a key that has several.
 
-use crate::timing::PerCall;
+use crate::hives::new_hive;
 use anyhow::{Result, bail};
 use reg_calls::Hive;
+use reg_load::{ALL_RIGHTS, PerCall};
 use reg_model::{AnswerBody, Bytes, Change, Query};
 use std::alloc::Global;
 use std::rt::Clock;
 use std::time::Instant;
-
-/// Every right.
-const ALL_RIGHTS: u32 = 983_103;
 
 /// How many values the key has while no time is taken.
 const SMALL: u32 = 10;
@@ -29,14 +27,13 @@ const LARGEST: usize = 1_048_576;
 /// How many calls on the largest value are timed together.
 const LARGE_CALLS: u32 = 50;
 
-fn hive_with(alloc: Global, values: u32) -> Result<Hive> {
-    let mut hive = Hive::new(alloc, b"ROOT", &[1], 0)?;
+/// Opens the root, and sets so many values.
+fn fill(alloc: Global, hive: &mut Hive, values: u32) -> Result<()> {
     let opened = hive.apply(0, 0, Change::OpenRoot { mask: ALL_RIGHTS });
     if opened.status != 0 {
         bail!("the root was not opened");
     }
-    set_all(&mut hive, sets(alloc, values, values, SIZE)?)?;
-    Ok(hive)
+    set_all(hive, sets(alloc, values, values, SIZE)?)
 }
 
 fn name_of(alloc: Global, number: u32) -> Result<Bytes> {
@@ -44,17 +41,22 @@ fn name_of(alloc: Global, number: u32) -> Result<Bytes> {
     Ok(Bytes::from_slice(alloc, name.as_bytes())?)
 }
 
+/// A set of so many bytes.
+fn set_of(alloc: Global, number: u32, size: usize) -> Result<Change> {
+    let bytes = vec![in alloc; 7; size]?;
+    Ok(Change::SetValue {
+        handle: 0,
+        name: name_of(alloc, number)?,
+        kind: 3,
+        bytes: Bytes::from_vec(bytes),
+    })
+}
+
 /// Sets of so many bytes, whose names are the numbers below `values` over and over.
 fn sets(alloc: Global, calls: u32, values: u32, size: usize) -> Result<Vec<Change>> {
     let mut changes = Vec::new(alloc);
     for call in 0..calls {
-        let bytes = vec![in alloc; 7; size]?;
-        changes.push(Change::SetValue {
-            handle: 0,
-            name: name_of(alloc, call.checked_rem(values).unwrap_or(0))?,
-            kind: 3,
-            bytes: Bytes::from_vec(bytes),
-        })?;
+        changes.push(set_of(alloc, call.checked_rem(values).unwrap_or(0), size)?)?;
     }
     Ok(changes)
 }
@@ -94,9 +96,14 @@ fn ask_all(hive: &Hive, queries: &[Query]) -> Result<u64> {
 
 /// Sets values and asks for them, and prints how many there are.
 pub fn count(rt: &impl Print, alloc: Global) -> Result<()> {
-    let mut hive = hive_with(alloc, SMALL)?;
-    set_all(&mut hive, sets(alloc, SMALL, SMALL, SIZE)?)?;
-    let told = ask_all(&hive, queries(alloc, SMALL, SMALL)?.as_slice())?;
+    let mut hive = new_hive(alloc)?;
+    count_in(rt, alloc, &mut hive)
+}
+
+fn count_in(rt: &impl Print, alloc: Global, hive: &mut Hive) -> Result<()> {
+    fill(alloc, hive, SMALL)?;
+    set_all(hive, sets(alloc, SMALL, SMALL, SIZE)?)?;
+    let told = ask_all(hive, queries(alloc, SMALL, SMALL)?.as_slice())?;
     println!(rt; "values: {} entries, {told} bytes told", hive.len())?;
     Ok(())
 }
@@ -118,16 +125,38 @@ fn measure_at(
     calls: u32,
     size: usize,
 ) -> Result<()> {
-    let mut hive = hive_with(alloc, values)?;
-    let changes = sets(alloc, calls, values, size)?;
+    println!(rt; "values, {values} of {size} bytes:")?;
+    let mut hive = new_hive(alloc)?;
+    measure_in(rt, alloc, &mut hive, values, calls, size)
+}
+
+fn measure_in(
+    rt: &(impl Print + Clock),
+    alloc: Global,
+    hive: &mut Hive,
+    values: u32,
+    calls: u32,
+    size: usize,
+) -> Result<()> {
+    fill(alloc, hive, values)?;
+    time_sets(rt, hive, sets(alloc, calls, values, size)?)?;
+    time_queries(rt, hive, queries(alloc, calls, values)?.as_slice())
+}
+
+fn time_sets(rt: &(impl Print + Clock), hive: &mut Hive, changes: Vec<Change>) -> Result<()> {
+    let calls = changes.len();
     let start = Instant::now(rt)?;
-    set_all(&mut hive, changes)?;
-    let set = PerCall::new(start.elapsed(rt)?, calls as usize);
-    let queries = queries(alloc, calls, values)?;
+    set_all(hive, changes)?;
+    let set = PerCall::new(start.elapsed(rt)?, calls);
+    println!(rt; "set, {set}")?;
+    Ok(())
+}
+
+fn time_queries(rt: &(impl Print + Clock), hive: &Hive, queries: &[Query]) -> Result<()> {
     let start = Instant::now(rt)?;
-    let _told = ask_all(&hive, queries.as_slice())?;
-    let asked = PerCall::new(start.elapsed(rt)?, calls as usize);
-    println!(rt; "values, {values} of {size} bytes: set, {set}; query, {asked}")?;
+    let _told = ask_all(hive, queries)?;
+    let asked = PerCall::new(start.elapsed(rt)?, queries.len());
+    println!(rt; "query, {asked}")?;
     Ok(())
 }
 

@@ -1,6 +1,6 @@
 use Rattle.std.proofs.Common.{◌%◌, ◌<◌, length, arith}
-use Rattle.reg_bench.proofs.Live.{live-chosen}
-use Rattle.reg_bench.proofs.live_cells.LiveCells.choose_one.Goals as goal
+use Rattle.reg_load.proofs.Live.{live-chosen}
+use Rattle.reg_load.proofs.live_cells.LiveCells.choose_one.Goals as goal
 
 pub invariant_of-self : goal.invariant_of-self
 invariant_of-self c =

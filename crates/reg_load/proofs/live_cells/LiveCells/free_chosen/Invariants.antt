@@ -1,6 +1,6 @@
 use Rattle.std.proofs.Common.{◌≡◌, ◌+◌, length}
-use Rattle.reg_bench.specs.Live.{FreesChosen}
-use Rattle.reg_bench.proofs.live_cells.LiveCells.free_chosen.Given as goal
+use Rattle.reg_load.specs.Live.{FreesChosen}
+use Rattle.reg_load.proofs.live_cells.LiveCells.free_chosen.Given as goal
 
 abbrev pub invariant-loop-i : goal.invariant-loop-i
 invariant-loop-i l = record {

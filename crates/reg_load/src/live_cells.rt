@@ -1,6 +1,6 @@
 //! An arena with cells that come and go at random.
 ghost use Rattle.std.specs.Prelude.{◌≡◌, ◌+◌, ◌-◌, [], length, OnOk};
-ghost use Rattle.reg_bench.specs.Live.{AreLive, FreesChosen};
+ghost use Rattle.reg_load.specs.Live.{AreLive, FreesChosen};
 
 use rand_core::utils::NextWord;
 use rand_pcg::Pcg32;

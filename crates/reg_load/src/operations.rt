@@ -2,8 +2,8 @@
 ghost use Rattle.std.specs.Prelude.{◌≡◌, IfOk};
 ghost use Rattle.reg_model.specs.declared.call.Call.TheVariants.{Change as Changes};
 ghost use Rattle.reg_model.specs.declared.call.Change.TheVariants.{OpenKey, CreateKey};
-ghost use Rattle.reg_bench.specs.declared.operations.Operation.TheVariants.{Query as Asked, Set, DeleteValue, DeleteKey};
-ghost use Rattle.reg_bench.specs.Operations.{call_of};
+ghost use Rattle.reg_load.specs.declared.operations.Operation.TheVariants.{Query as Asked, Set, DeleteValue, DeleteKey};
+ghost use Rattle.reg_load.specs.Operations.{call_of};
 
 use reg_model::{Bytes, Call, Change, Query};
 use std::alloc::{AllocError, Global};
