@@ -1,9 +1,9 @@
 -- What callers see of a hive, and what is true of every hive.
 use Rattle.std.specs.Prelude.{◌≡◌, ℕ, ◌+◌, ◌≤◌, List, [], ◌∷◌, ◌++◌, length, Option, Some, None, IsSome, false, true, ◌⊎◌, refl, is_some}
 use Rattle.std.specs.FinMap.{get}
-use Rattle.std.specs.Coded.{Coded, code_by, coded×, coded_ℕ, coded_list, coded_option}
-use Rattle.reg_heap.specs.Paths.{Path, Tree, coded_bytes, coded_tree}
-use Rattle.reg_model.specs.Worlds.{Handle, Place, At, Deleted}
+use Rattle.std.specs.Coded.{Coded, code_by, coded×, coded_list}
+use Rattle.reg_heap.specs.Paths.{Tree, coded_tree}
+use Rattle.reg_model.specs.Worlds.{Handle}
 use Rattle.reg_model.specs.Causes.{State, query_cause}
 use Rattle.reg_model.specs.Replies.{reply_to, refusal, body_of}
 use Rattle.reg_model.specs.Histories.{state_of, IsLegal, replay}

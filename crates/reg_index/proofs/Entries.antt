@@ -1,7 +1,6 @@
 -- Entries of a hash leaf in bytes of which a piece was written over.
-use Rattle.std.proofs.Common.{◌≡◌, ℕ, zero, suc, ◌+◌, ◌*◌, ◌<◌, ◌≤◌, List, ◌∷◌, ◌++◌, length, take, drop, get_or, refl, sym, ap, ◌∙◌, arith, rules, length-take, length-drop}
-use Rattle.std.proofs.lemmas.List.{places, get_or-drop}
-use Rattle.byteorder.specs.Endian.{little_from}
+use Rattle.std.proofs.Common.{◌≡◌, ℕ, zero, suc, ◌+◌, ◌*◌, ◌<◌, ◌≤◌, List, ◌∷◌, ◌++◌, length, take, drop, get_or, refl, ap, ◌∙◌, arith, rules, length-take, length-drop}
+use Rattle.std.proofs.lemmas.List.{places}
 use Rattle.reg_heap.specs.Words.{word, splice}
 use Rattle.reg_records.specs.Lists.{hinted_entries}
 use Rattle.reg_records.proofs.Splices.{get_or-below, get_or-above, word-same}

@@ -1,7 +1,7 @@
 -- What a key with subkeys and values is told by, and the limit of a key's values. Expected numbers are those of the rules.
 use Rattle.std.proofs.Common.{◌≡◌, ℕ, List, [], ◌∷◌, length, replicate, Some, None, true, false, refl}
 use Rattle.std.specs.FinMap.{get, from_sorted, entries-from_sorted, get-from_sorted}
-use Rattle.reg_heap.specs.Paths.{Path, Tree, Rec, Member, children_of, path_cmp}
+use Rattle.reg_heap.specs.Paths.{Tree, Rec, Member, children_of, path_cmp}
 use Rattle.reg_heap.specs.Members.{value_named}
 use Rattle.reg_model.specs.Causes.{no_value_room}
 use Rattle.reg_model.specs.Replies.{info_told}

@@ -1,9 +1,9 @@
 -- Refusals and replies of the calls on keys and handles. Expected numbers are those of the rules.
-use Rattle.std.proofs.Common.{◌≡◌, ℕ, List, [], ◌∷◌, replicate, Some, None, refl}
+use Rattle.std.proofs.Common.{◌≡◌, ℕ, List, [], ◌∷◌, Some, None, refl}
 use Rattle.reg_names.specs.Names.{are_key_names}
-use Rattle.reg_model.specs.Worlds.{Handle, Place, At, Deleted, closed, turned}
-use Rattle.reg_model.specs.Causes.{State, early_cause, late_cause, change_cause, early_query_cause, late_query_cause, query_cause}
-use Rattle.reg_model.specs.Replies.{reply_to, body_of, disposition_of, key_told, member_told, largest_of}
+use Rattle.reg_model.specs.Worlds.{At, Deleted, closed, turned}
+use Rattle.reg_model.specs.Causes.{early_cause, late_cause, change_cause, early_query_cause, late_query_cause, query_cause}
+use Rattle.reg_model.specs.Replies.{disposition_of, key_told, member_told, largest_of}
 use Rattle.reg_model.specs.declared.call.Change.TheVariants.{OpenKey, CreateKey, DeleteKey, Close}
 use Rattle.reg_model.specs.declared.call.Query.TheVariants.{EnumKey, EnumValue, QueryInfo}
 use Rattle.reg_model.specs.declared.answer.AnswerBody.TheVariants.{Refused, Short, Key, Member as Told}

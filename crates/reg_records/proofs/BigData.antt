@@ -1,14 +1,14 @@
 -- Big data records, written and read back.
-use Rattle.std.proofs.Common.{◌≡◌, ℕ, ◌^◌, ◌<◌, ◌≤◌, not, Option, Some, List, [], ◌++◌, length, drop, refl, sym, ap, ◌∙◌, arith}
+use Rattle.std.proofs.Common.{◌≡◌, ℕ, ◌^◌, ◌<◌, ◌≤◌, Option, Some, List, [], ◌++◌, length, ap, ◌∙◌, arith}
 use Rattle.std.proofs.lemmas.Bool.{le-ltb, cond-false}
-use Rattle.std.specs.Prelude.{Ok, unwrap_or}
+use Rattle.std.specs.Prelude.{unwrap_or}
 use Rattle.std.specs.Result.{result_ok}
 use Rattle.byteorder.specs.Numbers.{little_number-reads_back}
 use Rattle.reg_heap.specs.Words.{half, word}
 use Rattle.reg_arena.specs.Arena.{Bins}
 use Rattle.reg_arena.specs.Cells.{cell_at}
 use Rattle.reg_records.specs.Cells.{WritesCell, held}
-use Rattle.reg_records.specs.Pieces.{BigData, db_in, db_of, db_bytes}
+use Rattle.reg_records.specs.Pieces.{db_in, db_of, db_bytes}
 
 db-reads_back : (count list : ℕ) (rest : List ℕ) → count < 2 ^ 16 → list < 2 ^ 32 → db_of (db_bytes count list ++ rest) ≡ Some (record { count = count; list = list })
 unfolding db_of db_in db_bytes half word

@@ -5,7 +5,7 @@ use Rattle.std.proofs.Math.Seq.{take-append_seam}
 use Rattle.std.specs.Prelude.{Ok, Some, IsSome}
 use Rattle.byteorder.specs.Numbers.{little_number-reads_back}
 use Rattle.byteorder.specs.Endian.{little_bytes, little_number}
-use Rattle.reg_heap.specs.Words.{half, word, splice}
+use Rattle.reg_heap.specs.Words.{word, splice}
 use Rattle.reg_records.specs.declared.sk.SecurityFields.{SecurityFields}
 use Rattle.reg_arena.specs.Arena.{Bins}
 use Rattle.reg_arena.specs.Cells.{cell_at}
@@ -13,7 +13,7 @@ use Rattle.reg_records.specs.Letters.{is_signed}
 use Rattle.reg_records.specs.Cells.{Heap, HasRoom, WritesCell, held}
 use Rattle.reg_records.proofs.Writing.{read_at-same, read_at-open, read_at-made, read_at-room, read_at-changed, no_fault, same_ok}
 use Rattle.reg_records.proofs.Splices.{length-splice, get_or-below, number-below, number-above, drop-within, drop-above}
-use Rattle.reg_records.specs.Securities.{KeySecurityRecord, FitSecurity, sk_fields_of, sk_of, sk_bytes, security_at, IsPlainSecurity}
+use Rattle.reg_records.specs.Securities.{KeySecurityRecord, FitSecurity, sk_fields_of, sk_of, sk_bytes, security_at}
 
 sk-made : (content : List ℕ) → 20 ≤ length content → is_signed 115 107 content ≡ true → 20 + word content 16 ≤ length content
     → sk_of content ≡ Ok (record { fields = sk_fields_of content; descriptor = take (word content 16) (drop 20 content) })

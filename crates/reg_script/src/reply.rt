@@ -1,6 +1,7 @@
-ghost use Rattle.std.specs.Prelude.{◌≡◌, ◌++◌, string_bytes, OnOk};
+ghost use Rattle.std.specs.Prelude.{◌≡◌, ◌++◌, string_bytes, OnOk, codes};
+ghost use Rattle.std.specs.Fmt.{decimal};
 ghost use Rattle.reg_model.specs.declared.call.Call.TheVariants.{Query as Asks};
-ghost use Rattle.reg_script.specs.Texts.{changed_text, answer_text, short_text, asks_key, data_text, byte_text, escaped as escaped_text, line_feed, is_plain as is_plain_byte};
+ghost use Rattle.reg_script.specs.Texts.{changed_text, answer_text, short_text, name_text, value_text, asks_key, data_text, byte_text, escaped as escaped_text, line_feed, is_plain as is_plain_byte};
 
 use reg_model::{Answer, AnswerBody, Bytes, ChangeReply, Query};
 use std::alloc::{AllocError, Global};
@@ -71,6 +72,29 @@ fn write_data(alloc: Global, text: &mut String, bytes: &Option<Bytes>) -> Result
     }
 }
 
+/// The status and a name: what the line of a subkey, or of a value at its place, begins with.
+fn write_name(text: &mut String, name: &[u8]) -> Result<(), AllocError>
+    ensures { OnOk result (string_bytes text.new ≡ string_bytes text.old ++ (codes "0" ++ name_text name.now)) }
+{
+    write!(text, "0 =")?;
+    write_escaped(text, name)
+}
+
+/// What is told of a value before its bytes: its type and its size.
+fn write_value(text: &mut String, kind: u32, size: u32) -> Result<(), AllocError>
+    ensures { OnOk result (string_bytes text.new ≡ string_bytes text.old ++ value_text kind size) }
+{
+    write!(text, " type {kind} size {size}")
+}
+
+/// The line of a subkey: its name and its time.
+fn write_key(text: &mut String, name: &[u8], time: u64) -> Result<(), AllocError>
+    ensures { OnOk result (string_bytes text.new ≡ string_bytes text.old ++ (codes "0" ++ (name_text name.now ++ (codes " time " ++ (decimal time ++ line_feed))))) }
+{
+    write_name(text, name)?;
+    writeln!(text, " time {time}")
+}
+
 /// The line of an answer: a refusal's status alone, else the status with what was asked for.
 pub fn write_answered(
     alloc: Global,
@@ -87,23 +111,19 @@ pub fn write_answered(
             write_short(text, query, *kind, *size)
         }
         AnswerBody::Value { kind, size, bytes } => {
-            write!(text, "0 type {kind} size {size}")?;
+            text.push_str("0")?;
+            write_value(text, *kind, *size)?;
             write_data(alloc, text, bytes)
         }
-        AnswerBody::Key { name, time } => {
-            write!(text, "0 =")?;
-            write_escaped(text, name.as_slice())?;
-            writeln!(text, " time {time}")
-        }
+        AnswerBody::Key { name, time } => write_key(text, name.as_slice(), *time),
         AnswerBody::Member {
             name,
             kind,
             size,
             bytes,
         } => {
-            write!(text, "0 =")?;
-            write_escaped(text, name.as_slice())?;
-            write!(text, " type {kind} size {size}")?;
+            write_name(text, name.as_slice())?;
+            write_value(text, *kind, *size)?;
             write_data(alloc, text, bytes)
         }
         AnswerBody::Info {

@@ -3,9 +3,7 @@ use Rattle.std.proofs.Common.{◌≡◌, ℕ, ◌+◌, ◌-◌, ◌≤◌, ◌<�
 use Rattle.std.specs.List.{list_all}
 use Rattle.std.specs.Option.{option_and_then, option_map}
 use Rattle.std.specs.Ordering.{is_eq, eq_by_cmp}
-use Rattle.std.specs.declared.cmp.Ordering.{Ordering}
-use Rattle.std.specs.declared.cmp.Ordering.TheVariants.{Less, Equal, Greater}
-use Rattle.std.proofs.lemmas.Bool.{and_parts, false≢true}
+use Rattle.std.proofs.lemmas.Bool.{and_parts}
 use Rattle.std.proofs.lemmas.Bool.Decides.{nat_tests}
 use Rattle.std.proofs.lemmas.Cmp.{tied_itself}
 use Rattle.std.proofs.lemmas.List.{append-nil, append_assoc, take_all}
@@ -26,7 +24,7 @@ use Rattle.reg_records.specs.Grafts.{IsShape, branch_at}
 use Rattle.reg_records.specs.Places.{place_at, subkey_named}
 use Rattle.reg_records.proofs.Keys.{key_at-same}
 use Rattle.reg_records.proofs.LocalWritten.{same-held}
-use Rattle.reg_records.proofs.Trees.{path_total, path_same}
+use Rattle.reg_records.proofs.Trees.{path_total}
 use Rattle.reg_records.proofs.Placed.{place-more, place-append}
 use Rattle.reg_index.specs.Subkeys.{IsReady, taken}
 use Rattle.reg_tree.specs.declared.node.Node.{Node as TreeNode}

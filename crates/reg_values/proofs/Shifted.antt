@@ -1,8 +1,7 @@
 -- An offset taken out of a row.
 use Rattle.std.proofs.Common.{◌≡◌, ℕ, zero, suc, ◌+◌, ◌-◌, ◌*◌, ◌<◌, ◌≤◌, ◌==◌, cond, Some, IsSome, List, [], ◌∷◌, ◌++◌, length, take, drop, get_or, refl, sym, ap, ◌∙◌, subst, arith, rules, length-take, length-drop}
 use Rattle.std.proofs.lemmas.Bool.{eq-eqb}
-use Rattle.std.proofs.lemmas.List.{places, get_or-drop}
-use Rattle.byteorder.specs.Endian.{little_from}
+use Rattle.std.proofs.lemmas.List.{places}
 use Rattle.reg_heap.specs.Words.{word, splice}
 use Rattle.reg_heap.specs.Heaps.{Heap, Swaps, Writes, GivesUp}
 use Rattle.reg_heap.specs.Kinds.{Found, owned, times}

@@ -1,5 +1,5 @@
 -- The tool's command line (this project's own).
-use Rattle.std.specs.Prelude.{ℕ, List, [], map, codes, true, string_bytes, String}
+use Rattle.std.specs.Prelude.{ℕ, List, map, codes, true, string_bytes, String}
 use Rattle.clap.specs.Words.{App, Kinds, fault_of, new_app, with_subcommand}
 
 -- `clap`'s command `regtool`, whose one subcommand `run` must be there and takes no words
