@@ -1,18 +1,12 @@
 //! Cells carved and freed, bins appended, and the limit of all bins. The wanted bytes come from the format's description.
+//! Whoever owns an arena does nothing but hand it on: a function is the longer to check the more it does while it owns one.
 ghost use Rattle.std.specs.Prelude.{◌≡◌, ◌-◌, ◌≤◌, ◌%◌, replicate, true, Some, IsSome, IfOk};
 ghost use Rattle.reg_arena.specs.Cells.{cell_at};
 
-use reg_arena::{Arena, Cell};
+use crate::support::assert_told;
+use reg_arena::{Arena, ArenaFault};
 use std::alloc::Global;
 use std::test::Fail;
-
-fn cell(offset: u32, size: u32, allocated: bool) -> Cell {
-    Cell {
-        offset,
-        size,
-        allocated,
-    }
-}
 
 // The cells: offsets, sizes, and a star for an allocated one.
 fn shown(alloc: Global, arena: &Arena) -> Result<String, Fail> {
@@ -60,124 +54,171 @@ fn free_each(alloc: Global, arena: &mut Arena, offsets: &[u32]) -> Result<(), Fa
     Ok(())
 }
 
-// One bin, with allocated cells of 16, 24, 32 and 16 bytes.
-fn four_cells(alloc: Global) -> Result<Arena, Fail> {
-    let mut arena = Arena::new(alloc);
-    let mut offsets = Vec::new(alloc);
-    arena.carve(&[16, 24, 32, 16], &mut offsets)?;
-    Ok(arena)
+// Four allocated cells of 16, 24, 32 and 16 bytes, side by side.
+fn carve_four(arena: &mut Arena, offsets: &mut Vec<u32>) -> Result<(), Fail> {
+    Ok(arena.carve(&[16, 24, 32, 16], offsets)?)
 }
 
 // Two bins, each of which is one allocated cell.
-fn two_bins(alloc: Global) -> Result<Arena, Fail> {
+fn carve_two_bins(alloc: Global, arena: &mut Arena) -> Result<(), Fail> {
+    let mut offsets = Vec::new(alloc);
+    arena.carve(&[4064], &mut offsets)?;
+    arena.carve(&[4064], &mut offsets)?;
+    Ok(())
+}
+
+// The offsets of four cells carved together, and all cells then.
+fn four_cells_in(alloc: Global, arena: &mut Arena) -> Result<String, Fail> {
+    let mut offsets = Vec::new(alloc);
+    carve_four(arena, &mut offsets)?;
+    let cells = shown(alloc, arena)?;
+    Ok(format!(in alloc; "{offsets:?} {}", cells.as_str())?)
+}
+
+// The same of a new arena.
+fn four_cells(alloc: Global) -> Result<String, Fail> {
     let mut arena = Arena::new(alloc);
-    let mut offsets = Vec::new(alloc);
-    arena.carve(&[4064], &mut offsets)?;
-    arena.carve(&[4064], &mut offsets)?;
-    Ok(arena)
-}
-
-// Carves a cell that needs a new bin, and once more where memory is refused; after each carve what it answered, all
-// offsets, and the cells.
-fn carved_at_last(alloc: Global) -> Result<String, Fail> {
-    let mut arena = two_bins(alloc)?;
-    let mut offsets = Vec::new(alloc);
-    let mut text = String::new(alloc);
-    for _i in 0..2 {
-        let result = arena.carve(&[4072], &mut offsets);
-        let cells = shown(alloc, &arena)?;
-        write!(text, "{result:?} {offsets:?} {cells}; ")?;
-        if result.is_ok() {
-            return Ok(text);
-        }
-    }
-    Ok(text)
-}
-
-// Cells of the largest size until one is refused.
-fn filled(alloc: Global, arena: &mut Arena) -> Result<String, Fail> {
-    let mut offsets = Vec::new(alloc);
-    let mut last = Ok(());
-    for _i in 0..16 {
-        last = arena.carve(&[16_777_216], &mut offsets);
-    }
-    let mut text = String::new(alloc);
-    write!(
-        text,
-        "{} cells, {} bytes, {last:?}",
-        offsets.len(),
-        arena.bins_size()
-    )?;
-    Ok(text)
+    four_cells_in(alloc, &mut arena)
 }
 
 #[test]
 fn carves_cells_side_by_side(rt: HostRuntime) -> Result<(), Fail> {
-    let mut arena = Arena::new(rt.alloc());
-    let mut offsets = Vec::new(rt.alloc());
-    arena.carve(&[16, 24, 32, 16], &mut offsets)?;
-    assert_eq!(rt; offsets.as_slice(), [32, 48, 72, 104].as_slice());
-    let cells = arena.cells(rt.alloc())?;
-    let wanted = [
-        cell(32, 16, true),
-        cell(48, 24, true),
-        cell(72, 32, true),
-        cell(104, 16, true),
-        cell(120, 3976, false),
-    ];
-    assert_eq!(rt; cells.as_slice(), wanted.as_slice());
-    Ok(())
+    assert_told(
+        &rt,
+        four_cells(rt.alloc()),
+        "[32, 48, 72, 104] 32 16*, 48 24*, 72 32*, 104 16*, 120 3976, ",
+    )
+}
+
+// Cells of the largest size until one is refused: the last answer.
+fn fill(arena: &mut Arena, offsets: &mut Vec<u32>) -> Result<(), ArenaFault> {
+    let mut last = Ok(());
+    for _i in 0..16 {
+        last = arena.carve(&[16_777_216], offsets);
+    }
+    last
+}
+
+// How many cells of the largest size there is room for, and what is answered then.
+fn filled_in(alloc: Global, arena: &mut Arena) -> Result<String, Fail> {
+    let mut offsets = Vec::new(alloc);
+    let last = fill(arena, &mut offsets);
+    Ok(format!(in alloc;
+        "{} cells, {} bytes, {last:?}",
+        offsets.len(),
+        arena.bins_size()
+    )?)
+}
+
+// The same of a new arena.
+fn filled(alloc: Global) -> Result<String, Fail> {
+    let mut arena = Arena::new(alloc);
+    filled_in(alloc, &mut arena)
 }
 
 #[test]
 fn the_bins_have_a_limit(rt: HostRuntime) -> Result<(), Fail> {
-    let mut arena = Arena::new(rt.alloc());
-    let text = filled(rt.alloc(), &mut arena)?;
-    assert_eq!(rt; text.as_str(), "15 cells, 251719680 bytes, Err(Full)");
-    Ok(())
+    assert_told(
+        &rt,
+        filled(rt.alloc()),
+        "15 cells, 251719680 bytes, Err(Full)",
+    )
+}
+
+// The cells after three of four were freed.
+fn three_freed_in(alloc: Global, arena: &mut Arena) -> Result<String, Fail> {
+    let mut offsets = Vec::new(alloc);
+    carve_four(arena, &mut offsets)?;
+    free_each(alloc, arena, &[48, 32, 72])?;
+    shown(alloc, arena)
+}
+
+// The same of a new arena.
+fn three_freed(alloc: Global) -> Result<String, Fail> {
+    let mut arena = Arena::new(alloc);
+    three_freed_in(alloc, &mut arena)
 }
 
 #[test]
 fn freed_cells_that_touch_are_one(rt: HostRuntime) -> Result<(), Fail> {
-    let mut arena = four_cells(rt.alloc())?;
-    free_each(rt.alloc(), &mut arena, &[48, 32, 72])?;
-    assert_eq!(rt;
-        shown(rt.alloc(), &arena)?.as_str(),
-        "32 72, 104 16*, 120 3976, "
-    );
-    Ok(())
+    assert_told(&rt, three_freed(rt.alloc()), "32 72, 104 16*, 120 3976, ")
+}
+
+// Two bins of one free cell each.
+fn free_two_bins(alloc: Global, arena: &mut Arena) -> Result<(), Fail> {
+    carve_two_bins(alloc, arena)?;
+    free_each(alloc, arena, &[32, 4128])
+}
+
+// The cells of two freed bins.
+fn two_freed_in(alloc: Global, arena: &mut Arena) -> Result<String, Fail> {
+    free_two_bins(alloc, arena)?;
+    shown(alloc, arena)
+}
+
+// The same of a new arena.
+fn two_freed(alloc: Global) -> Result<String, Fail> {
+    let mut arena = Arena::new(alloc);
+    two_freed_in(alloc, &mut arena)
 }
 
 #[test]
 fn freed_cells_of_two_bins_stay_two(rt: HostRuntime) -> Result<(), Fail> {
-    let mut arena = two_bins(rt.alloc())?;
-    free_each(rt.alloc(), &mut arena, &[32, 4128])?;
-    assert_eq!(rt; shown(rt.alloc(), &arena)?.as_str(), "32 4064, 4128 4064, ");
-    Ok(())
+    assert_told(&rt, two_freed(rt.alloc()), "32 4064, 4128 4064, ")
+}
+
+// The cells after a larger one was carved than either of two freed bins has room for.
+fn larger_carved_in(alloc: Global, arena: &mut Arena) -> Result<String, Fail> {
+    free_two_bins(alloc, arena)?;
+    let _cell = carved(alloc, arena, 4072)?;
+    shown(alloc, arena)
+}
+
+// The same of a new arena.
+fn larger_carved(alloc: Global) -> Result<String, Fail> {
+    let mut arena = Arena::new(alloc);
+    larger_carved_in(alloc, &mut arena)
 }
 
 #[test]
 fn two_free_bins_are_no_room_for_a_larger_cell(rt: HostRuntime) -> Result<(), Fail> {
-    let mut arena = two_bins(rt.alloc())?;
-    free_each(rt.alloc(), &mut arena, &[32, 4128])?;
-    let _cell = carved(rt.alloc(), &mut arena, 4072)?;
-    assert_eq!(rt;
-        shown(rt.alloc(), &arena)?.as_str(),
-        "32 4064, 4128 4064, 8224 4072*, 12296 4088, "
-    );
-    Ok(())
+    assert_told(
+        &rt,
+        larger_carved(rt.alloc()),
+        "32 4064, 4128 4064, 8224 4072*, 12296 4088, ",
+    )
+}
+
+// Carves a cell that needs a new bin, and tells what was answered, all offsets and the cells.
+fn carve_larger(alloc: Global, arena: &mut Arena, offsets: &mut Vec<u32>) -> Result<String, Fail> {
+    let result = arena.carve(&[4072], offsets);
+    let cells = shown(alloc, arena)?;
+    Ok(format!(in alloc; "{result:?} {offsets:?} {}; ", cells.as_str())?)
+}
+
+// Carves a cell that needs a new bin, and once more where memory is refused and all is as before.
+fn carved_at_last_in(alloc: Global, arena: &mut Arena) -> Result<String, Fail> {
+    carve_two_bins(alloc, arena)?;
+    let mut offsets = Vec::new(alloc);
+    let text = carve_larger(alloc, arena, &mut offsets)?;
+    if text.as_str() == "Err(Memory) [] 32 4064*, 4128 4064*, ; " {
+        return carve_larger(alloc, arena, &mut offsets);
+    }
+    Ok(text)
+}
+
+// The same of a new arena.
+fn carved_at_last(alloc: Global) -> Result<String, Fail> {
+    let mut arena = Arena::new(alloc);
+    carved_at_last_in(alloc, &mut arena)
 }
 
 // Every allocation of the carve is refused in turn by `rt try --test --fail-alloc N`.
 #[test]
 fn a_carve_without_memory_changes_nothing(rt: HostRuntime) -> Result<(), Fail> {
-    let text = carved_at_last(rt.alloc())?;
-    let refused = text
-        .as_str()
-        .strip_prefix("Err(Memory) [] 32 4064*, 4128 4064*, ; ");
-    assert_eq!(rt;
-        refused.unwrap_or(text.as_str()),
-        "Ok(()) [8224] 32 4064*, 4128 4064*, 8224 4072*, 12296 4088, ; "
-    );
-    Ok(())
+    assert_told(
+        &rt,
+        carved_at_last(rt.alloc()),
+        "Ok(()) [8224] 32 4064*, 4128 4064*, 8224 4072*, 12296 4088, ; ",
+    )
 }

@@ -1,10 +1,18 @@
-//! Copies of calls, entries and outcomes, with ample memory.
+//! Copies of calls, entries and outcomes, with ample memory. What is compared is a copy's `Debug` text, which has every field.
+use crate::support::assert_told;
 use reg_model::{
     Answer, AnswerBody, Bytes, Call, Change, ChangeReply, Entry, Outcome, Query, Step,
 };
 use std::alloc::Global;
+use std::fmt::Debug;
 use std::test::Fail;
 
+/// The text of a value.
+fn shown(alloc: Global, value: &impl Debug) -> Result<String, Fail> {
+    Ok(format!(in alloc; "{value:?}")?)
+}
+
+/// A set of a value.
 fn set_value(alloc: Global) -> Result<Change, Fail> {
     let name = Bytes::from_slice(alloc, b"name")?;
     let bytes = Bytes::from_slice(alloc, &[1, 0, 0, 0])?;
@@ -16,11 +24,10 @@ fn set_value(alloc: Global) -> Result<Change, Fail> {
     })
 }
 
-#[test]
-fn copies_of_changes(rt: HostRuntime) -> Result<(), Fail> {
-    let alloc = rt.alloc();
+/// An entry of that change.
+fn entry(alloc: Global) -> Result<Entry, Fail> {
     let change = set_value(alloc)?;
-    let entry = Entry {
+    Ok(Entry {
         number: 5,
         session: 3,
         moment: 9,
@@ -31,119 +38,145 @@ fn copies_of_changes(rt: HostRuntime) -> Result<(), Fail> {
             handle: None,
             disposition: None,
         },
-    };
+    })
+}
+
+/// The text of an entry's copy.
+fn copied_entry_of(alloc: Global, entry: &Entry) -> Result<String, Fail> {
     let copy = entry.try_clone(alloc)?;
-    assert_eq!(rt; (copy.number, copy.session, copy.moment), (5, 3, 9));
-    assert_eq!(rt; copy.reply, entry.reply);
-    match &copy.change {
-        Change::SetValue {
-            handle,
-            name,
-            kind,
-            bytes,
-        } => {
-            assert_eq!(rt; (*handle, *kind), (7, 4));
-            assert_eq!(rt; name.as_slice(), b"name".as_slice());
-            assert_eq!(rt; bytes.as_slice(), [1, 0, 0, 0].as_slice());
-        }
-        _ => assert!(rt; false, "another change"),
+    shown(alloc, &copy)
+}
+
+/// The same of that entry.
+fn copied_entry(alloc: Global) -> Result<String, Fail> {
+    let entry = entry(alloc)?;
+    copied_entry_of(alloc, &entry)
+}
+
+#[test]
+fn copies_of_changes(rt: HostRuntime) -> Result<(), Fail> {
+    assert_told(
+        &rt,
+        copied_entry(rt.alloc()),
+        "Entry { number: 5, session: 3, moment: 9, change: SetValue { handle: 7, name: Bytes { items: [110, 97, 109, 101] }, kind: 4, bytes: Bytes { items: [1, 0, 0, 0] } }, reply: ChangeReply { status: 0, number: Some(5), handle: None, disposition: None } }",
+    )
+}
+
+/// A step with a question for a value.
+fn step(alloc: Global) -> Step {
+    let query = Query::QueryValue {
+        handle: 7,
+        name: Bytes::from_vec(Vec::new(alloc)),
+        room: Some(4),
+    };
+    Step {
+        session: 3,
+        moment: 9,
+        call: Call::Query(query),
     }
-    Ok(())
+}
+
+/// The text of a step's copy.
+fn copied_step_of(alloc: Global, step: &Step) -> Result<String, Fail> {
+    let copy = step.try_clone(alloc)?;
+    shown(alloc, &copy)
+}
+
+/// The same of that step.
+fn copied_step(alloc: Global) -> Result<String, Fail> {
+    let step = step(alloc);
+    copied_step_of(alloc, &step)
 }
 
 #[test]
 fn copies_of_steps(rt: HostRuntime) -> Result<(), Fail> {
-    let alloc = rt.alloc();
-    let name = Bytes::from_vec(Vec::new(alloc));
-    let query = Query::QueryValue {
-        handle: 7,
-        name,
-        room: Some(4),
-    };
-    let step = Step {
-        session: 3,
-        moment: 9,
-        call: Call::Query(query),
-    };
-    let copy = step.try_clone(alloc)?;
-    assert_eq!(rt; (copy.session, copy.moment), (3, 9));
-    match &copy.call {
-        Call::Query(Query::QueryValue { handle, room, .. }) => {
-            assert_eq!(rt; (*handle, *room), (7, Some(4)));
-        }
-        _ => assert!(rt; false, "another call"),
-    }
-    Ok(())
+    assert_told(
+        &rt,
+        copied_step(rt.alloc()),
+        "Step { session: 3, moment: 9, call: Query(QueryValue { handle: 7, name: Bytes { items: [] }, room: Some(4) }) }",
+    )
 }
 
-#[test]
-fn copies_of_answers(rt: HostRuntime) -> Result<(), Fail> {
-    let alloc = rt.alloc();
+/// An outcome with a value.
+fn outcome(alloc: Global) -> Result<Outcome, Fail> {
     let bytes = Bytes::from_slice(alloc, &[8, 9])?;
     let body = AnswerBody::Value {
         kind: 3,
         size: 2,
         bytes: Some(bytes),
     };
-    let outcome = Outcome::Answered(Answer { at: 5, body });
+    Ok(Outcome::Answered(Answer { at: 5, body }))
+}
+
+/// The text of an outcome's copy.
+fn copied_outcome_of(alloc: Global, outcome: &Outcome) -> Result<String, Fail> {
     let copy = outcome.try_clone(alloc)?;
-    match &copy {
-        Outcome::Answered(
-            Answer {
-                at,
-                body: AnswerBody::Value {
-                    bytes: Some(bytes),
-                    ..
-                },
-            },
-        ) => {
-            assert_eq!(rt; *at, 5);
-            assert_eq!(rt; bytes.as_slice(), [8, 9].as_slice());
-        }
-        _ => assert!(rt; false, "another outcome"),
-    }
-    Ok(())
+    shown(alloc, &copy)
+}
+
+/// The same of that outcome.
+fn copied_outcome(alloc: Global) -> Result<String, Fail> {
+    let outcome = outcome(alloc)?;
+    copied_outcome_of(alloc, &outcome)
+}
+
+#[test]
+fn copies_of_answers(rt: HostRuntime) -> Result<(), Fail> {
+    assert_told(
+        &rt,
+        copied_outcome(rt.alloc()),
+        "Answered(Answer { at: 5, body: Value { kind: 3, size: 2, bytes: Some(Bytes { items: [8, 9] }) } })",
+    )
+}
+
+/// A change that makes a key.
+fn create_key(alloc: Global) -> Result<Change, Fail> {
+    let path = Bytes::from_slice(alloc, b"A\\B")?;
+    Ok(Change::CreateKey {
+        handle: 3,
+        path,
+        mask: 983_103,
+    })
+}
+
+/// The text of a change's copy.
+fn copied_opening_of(alloc: Global, change: &Change) -> Result<String, Fail> {
+    let copy = change.try_clone(alloc)?;
+    shown(alloc, &copy)
+}
+
+/// The same of that change.
+fn copied_opening(alloc: Global) -> Result<String, Fail> {
+    let change = create_key(alloc)?;
+    copied_opening_of(alloc, &change)
 }
 
 #[test]
 fn copies_of_openings(rt: HostRuntime) -> Result<(), Fail> {
-    let alloc = rt.alloc();
-    let path = Bytes::from_slice(alloc, b"A\\B")?;
-    let change = Change::CreateKey {
-        handle: 3,
-        path,
-        mask: 983_103,
-    };
-    match &change.try_clone(alloc)? {
-        Change::CreateKey { handle, path, mask } => {
-            assert_eq!(rt; (*handle, *mask), (3, 983_103));
-            assert_eq!(rt; path.as_slice(), b"A\\B".as_slice());
-        }
-        _ => assert!(rt; false, "another change"),
-    }
-    Ok(())
+    assert_told(
+        &rt,
+        copied_opening(rt.alloc()),
+        "CreateKey { handle: 3, path: Bytes { items: [65, 92, 66] }, mask: 983103 }",
+    )
 }
 
-#[test]
-fn copies_of_enumerations(rt: HostRuntime) -> Result<(), Fail> {
-    let alloc = rt.alloc();
+/// The text of a copy of a question for the value at an index.
+fn copied_enumeration(alloc: Global) -> Result<String, Fail> {
     let query = Query::EnumValue {
         handle: 7,
         index: 2,
         name_room: 5,
         room: None,
     };
-    match &query.try_clone(alloc)? {
-        Query::EnumValue {
-            handle,
-            index,
-            name_room,
-            room,
-        } => {
-            assert_eq!(rt; (*handle, *index, *name_room), (7, 2, 5));
-            assert_eq!(rt; *room, None);
-        }
-        _ => assert!(rt; false, "another query"),
-    }
-    Ok(())
+    let copy = query.try_clone(alloc)?;
+    shown(alloc, &copy)
+}
+
+#[test]
+fn copies_of_enumerations(rt: HostRuntime) -> Result<(), Fail> {
+    assert_told(
+        &rt,
+        copied_enumeration(rt.alloc()),
+        "EnumValue { handle: 7, index: 2, name_room: 5, room: None }",
+    )
 }

@@ -1,9 +1,11 @@
-//! Keys and values through the public calls, with ample memory. A helper checks its path and goes from the root anew.
+//! Keys and values through the public calls, with ample memory. A helper checks its path and goes from the root anew. Whoever
+//! owns a tree does nothing but hand it on: a function is the longer to check the more it does while it owns one.
 ghost use Rattle.std.specs.Prelude.{IfSome, ◌≤◌, ◌<◌, length};
 ghost use Rattle.reg_tree.specs.Keys.{IsThere};
 
+use crate::support::{assert_same, assert_told, deep};
 use reg_names::{check_path, check_value_name};
-use reg_tree::{Node, Tree};
+use reg_tree::{Node, Tree, TreeFault};
 use std::alloc::Global;
 use std::test::Fail;
 
@@ -22,6 +24,18 @@ fn at(tree: &Tree, path: &[u8]) -> Option<Node>
     }
 }
 
+/// What is told of a fault.
+fn fault_name(fault: TreeFault) -> &'static str {
+    match fault {
+        TreeFault::NotFound => "NotFound",
+        TreeFault::HasChildren => "HasChildren",
+        TreeFault::NoDelete => "NoDelete",
+        TreeFault::Limit => "Limit",
+        TreeFault::Full => "Full",
+        TreeFault::Memory => "Memory",
+    }
+}
+
 /// Makes the keys of a path below the key at another, and tells what was answered.
 fn make_below(
     tree: &mut Tree,
@@ -29,49 +43,49 @@ fn make_below(
     above: &[u8],
     path: &[u8],
     moment: u64,
-) -> Result<String, Fail> {
-    check_path(path)?;
-    let mut text = String::new(alloc);
+) -> &'static str {
+    if check_path(path).is_err() {
+        return "no path";
+    }
     let Some(from) = at(tree, above) else {
-        text.push_str("nothing to make it below")?;
-        return Ok(text);
+        return "nothing to make it below";
     };
     match tree.create(alloc, from, path, moment) {
-        Ok(made) => text.push_str(if made.is_new { "made" } else { "there" })?,
-        Err(fault) => write!(text, "{fault:?}")?,
+        Ok(made) => if made.is_new { "made" } else { "there" },
+        Err(fault) => fault_name(fault),
     }
-    Ok(text)
 }
 
 /// Makes the keys of each path, in this order, and tells what was answered.
-fn make(tree: &mut Tree, alloc: Global, paths: &[&[u8]], moment: u64) -> Result<String, Fail> {
-    let mut text = String::new(alloc);
+fn make(
+    tree: &mut Tree,
+    alloc: Global,
+    paths: &[&[u8]],
+    moment: u64,
+    text: &mut String,
+) -> Result<(), Fail> {
     for path in paths {
-        let answer = make_below(tree, alloc, b"", path, moment)?;
-        write!(text, "{} ", answer.as_str())?;
+        text.push_str(make_below(tree, alloc, b"", path, moment))?;
+        text.push_str(" ")?;
     }
-    Ok(text)
+    Ok(())
 }
 
 /// Deletes the key at a path, and tells what was answered.
-fn unmake(tree: &mut Tree, alloc: Global, path: &[u8], moment: u64) -> Result<String, Fail> {
-    let mut text = String::new(alloc);
+fn unmake(tree: &mut Tree, path: &[u8], moment: u64) -> &'static str {
     let Some(node) = at(tree, path) else {
-        text.push_str("none")?;
-        return Ok(text);
+        return "none";
     };
     match tree.delete_key(node, moment) {
-        Ok(()) => text.push_str("deleted")?,
-        Err(fault) => write!(text, "{fault:?}")?,
+        Ok(()) => "deleted",
+        Err(fault) => fault_name(fault),
     }
-    Ok(text)
 }
 
-/// The names of the keys right below a key, in order.
-fn names(alloc: Global, tree: &Tree, path: &[u8]) -> Result<String, Fail> {
-    let mut text = String::new(alloc);
+/// Tells the names of the keys right below a key, in order.
+fn tell_names(alloc: Global, tree: &Tree, path: &[u8], text: &mut String) -> Result<(), Fail> {
     let Some(node) = at(tree, path) else {
-        return Ok(text);
+        return Ok(());
     };
     for index in 0..tree.subkeys(node) {
         if let Some(child) = tree.subkey(node, index) {
@@ -79,106 +93,116 @@ fn names(alloc: Global, tree: &Tree, path: &[u8]) -> Result<String, Fail> {
             write!(text, "{} ", name.as_str())?;
         }
     }
-    Ok(text)
+    Ok(())
 }
 
 /// How many cells are allocated.
 fn cells(alloc: Global, tree: &Tree) -> Result<usize, Fail> {
-    let mut sizes = Vec::new(alloc);
-    for cell in &tree.arena().cells(alloc)? {
-        if cell.allocated {
-            sizes.push(cell.size)?;
-        }
-    }
-    Ok(sizes.len())
-}
-
-/// The path of so many names `a`.
-fn deep(alloc: Global, names: usize) -> Result<Vec<u8>, Fail> {
-    let mut path = Vec::new(alloc);
-    for number in 0..names {
-        if number > 0 {
-            path.push(b'\\')?;
-        }
-        path.push(b'a')?;
-    }
-    Ok(path)
+    let cells = tree.arena().cells(alloc)?;
+    Ok(cells.iter().filter(|cell| cell.allocated).count())
 }
 
 /// What making a key under two spellings answers, and what is below its parent then.
+fn made_twice_in(alloc: Global, tree: &mut Tree) -> Result<String, Fail> {
+    let mut text = String::new(alloc);
+    let paths: [&[u8]; 2] = [b"Software\\Run", b"SOFTWARE\\run"];
+    make(tree, alloc, &paths, 7, &mut text)?;
+    tell_names(alloc, tree, b"sOFTWARE", &mut text)?;
+    Ok(text)
+}
+
+/// The same of a new tree.
 fn made_twice(alloc: Global) -> Result<String, Fail> {
     let mut tree = tree(alloc)?;
-    let mut text = make(&mut tree, alloc, &[b"Software\\Run", b"SOFTWARE\\run"], 7)?;
-    let below = names(alloc, &tree, b"sOFTWARE")?;
-    write!(text, "{}", below.as_str())?;
-    Ok(text)
+    made_twice_in(alloc, &mut tree)
 }
 
 #[test]
 fn names_that_differ_only_in_case_are_one_key(rt: HostRuntime) -> Result<(), Fail> {
-    let text = made_twice(rt.alloc())?;
-    assert_eq!(rt; text.as_str(), "made there Run ");
+    assert_told(&rt, made_twice(rt.alloc()), "made there Run ")
+}
+
+/// Tells the names of the keys right below the root, and how many cells there are.
+fn tell_all(alloc: Global, tree: &Tree, text: &mut String) -> Result<(), Fail> {
+    tell_names(alloc, tree, b"", text)?;
+    write!(text, "{} cells", cells(alloc, tree)?)?;
     Ok(())
 }
 
 /// What making a path of 33 names below a new root answers, and what there is afterwards.
+fn thirty_three_in(alloc: Global, tree: &mut Tree) -> Result<String, Fail> {
+    let path = deep(alloc, 33)?;
+    let answer = make_below(tree, alloc, b"", &path, 7);
+    let mut text = format!(in alloc; "{answer}: ")?;
+    tell_all(alloc, tree, &mut text)?;
+    Ok(text)
+}
+
+/// The same of a new tree.
 fn thirty_three(alloc: Global) -> Result<String, Fail> {
     let mut tree = tree(alloc)?;
-    let path = deep(alloc, 33)?;
-    let mut text = make_below(&mut tree, alloc, b"", &path, 7)?;
-    let below = names(alloc, &tree, b"")?;
-    write!(text, ": {}", below.as_str())?;
-    write!(text, "{} cells", cells(alloc, &tree)?)?;
-    Ok(text)
+    thirty_three_in(alloc, &mut tree)
 }
 
 #[test]
 fn a_path_of_thirty_three_missing_names_is_refused(rt: HostRuntime) -> Result<(), Fail> {
-    let text = thirty_three(rt.alloc())?;
-    assert_eq!(rt; text.as_str(), "Limit: 2 cells");
-    Ok(())
+    assert_told(&rt, thirty_three(rt.alloc()), "Limit: 2 cells")
 }
 
-/// Whether a path of so many names below a new root is too long to be made.
-fn is_limited(alloc: Global, names: usize) -> Result<bool, Fail> {
-    let tree = tree(alloc)?;
+/// Whether a path of so many names below the root is too long to be made.
+fn is_limited_in(alloc: Global, tree: &Tree, names: usize) -> Result<bool, Fail> {
     let path = deep(alloc, names)?;
     check_path(&path)?;
     Ok(tree.is_limited(tree.root(), &path))
 }
 
+/// The same of a new tree.
+fn is_limited(alloc: Global, names: usize) -> Result<bool, Fail> {
+    let tree = tree(alloc)?;
+    is_limited_in(alloc, &tree, names)
+}
+
 #[test]
 fn a_path_of_thirty_three_missing_names_is_too_long(rt: HostRuntime) -> Result<(), Fail> {
-    assert_eq!(rt; is_limited(rt.alloc(), 32)?, false);
-    assert_eq!(rt; is_limited(rt.alloc(), 33)?, true);
+    assert_same(&rt, &is_limited(rt.alloc(), 32)?, &false);
+    assert_same(&rt, &is_limited(rt.alloc(), 33)?, &true);
     Ok(())
 }
 
-/// What making 16 times 32 keys, each below the one before, answers, then one more below the last, then the last once more.
-fn deepest(alloc: Global) -> Result<String, Fail> {
-    let mut tree = tree(alloc)?;
-    let mut text = String::new(alloc);
+/// Makes 16 times 32 keys, each below the one before, and tells what was answered.
+fn make_deepest(alloc: Global, tree: &mut Tree, text: &mut String) -> Result<(), Fail> {
     for step in 0..16 {
         let path = deep(alloc, (step + 1) * 32)?;
-        let answer = make_below(&mut tree, alloc, b"", &path, 7)?;
-        write!(text, "{} ", answer.as_str())?;
+        text.push_str(make_below(tree, alloc, b"", &path, 7))?;
+        text.push_str(" ")?;
     }
+    Ok(())
+}
+
+/// What making 16 times 32 keys answers, then one more below the last, then the last once more.
+fn deepest_in(alloc: Global, tree: &mut Tree) -> Result<String, Fail> {
     let path = deep(alloc, 512)?;
-    let answer = make_below(&mut tree, alloc, &path, b"a", 8)?;
-    write!(text, "{} ", answer.as_str())?;
-    let answer = make_below(&mut tree, alloc, &path, b"", 8)?;
-    write!(text, "{}", answer.as_str())?;
+    let mut text = String::new(alloc);
+    make_deepest(alloc, tree, &mut text)?;
+    let below = make_below(tree, alloc, &path, b"a", 8);
+    let again = make_below(tree, alloc, &path, b"", 8);
+    write!(text, "{below} {again}")?;
     Ok(text)
+}
+
+/// The same of a new tree.
+fn deepest(alloc: Global) -> Result<String, Fail> {
+    let mut tree = tree(alloc)?;
+    deepest_in(alloc, &mut tree)
 }
 
 #[test]
 fn a_path_has_at_most_512_names(rt: HostRuntime) -> Result<(), Fail> {
-    let text = deepest(rt.alloc())?;
-    assert_eq!(rt;
-        text.as_str(),
-        "made made made made made made made made made made made made made made made made Limit there"
-    );
-    Ok(())
+    assert_told(
+        &rt,
+        deepest(rt.alloc()),
+        "made made made made made made made made made made made made made made made made Limit there",
+    )
 }
 
 /// The key of a number: its name has three digits.
@@ -189,32 +213,30 @@ fn numbered(alloc: Global, number: u32) -> Result<String, Fail>
 }
 
 /// Makes the keys of the numbers below 500 in the order of a stride, and tells what wasn't made.
-fn make_many(tree: &mut Tree, alloc: Global) -> Result<String, Fail> {
-    let mut text = String::new(alloc);
+fn make_many(tree: &mut Tree, alloc: Global, text: &mut String) -> Result<(), Fail> {
     for number in 0u32..500 {
         let name = numbered(alloc, number * 137 % 500)?;
-        let answer = make_below(tree, alloc, b"", name.as_bytes(), 7)?;
-        if answer.as_str() != "made" {
-            write!(text, "{} {}, ", name.as_str(), answer.as_str())?;
+        let answer = make_below(tree, alloc, b"", name.as_bytes(), 7);
+        if answer != "made" {
+            write!(text, "{} {answer}, ", name.as_str())?;
         }
     }
-    Ok(text)
+    Ok(())
 }
 
 /// Deletes the keys of the numbers below 500 in the order of another stride, and tells what wasn't deleted.
-fn unmake_many(tree: &mut Tree, alloc: Global) -> Result<String, Fail> {
-    let mut text = String::new(alloc);
+fn unmake_many(tree: &mut Tree, alloc: Global, text: &mut String) -> Result<(), Fail> {
     for number in 0u32..500 {
         let name = numbered(alloc, number * 211 % 500)?;
-        let answer = unmake(tree, alloc, name.as_bytes(), 8)?;
-        if answer.as_str() != "deleted" {
-            write!(text, "{} {}, ", name.as_str(), answer.as_str())?;
+        let answer = unmake(tree, name.as_bytes(), 8);
+        if answer != "deleted" {
+            write!(text, "{} {answer}, ", name.as_str())?;
         }
     }
-    Ok(text)
+    Ok(())
 }
 
-/// The names of the numbers below 500 in order, as `names` tells them.
+/// The names of the numbers below 500 in order, as `tell_names` tells them.
 fn all_names(alloc: Global) -> Result<String, Fail> {
     let mut text = String::new(alloc);
     for number in 0u32..500 {
@@ -223,111 +245,143 @@ fn all_names(alloc: Global) -> Result<String, Fail> {
     Ok(text)
 }
 
-/// A tree of the keys of the numbers below 500.
-fn full(alloc: Global) -> Result<Tree, Fail> {
+/// What making 500 subkeys answers where it isn't as wanted, and their names then.
+fn five_hundred_in(alloc: Global, tree: &mut Tree) -> Result<String, Fail> {
+    let mut text = String::new(alloc);
+    make_many(tree, alloc, &mut text)?;
+    tell_names(alloc, tree, b"", &mut text)?;
+    Ok(text)
+}
+
+/// The same of a new tree.
+fn five_hundred(alloc: Global) -> Result<String, Fail> {
     let mut tree = tree(alloc)?;
-    let _said = make_many(&mut tree, alloc)?;
-    Ok(tree)
+    five_hundred_in(alloc, &mut tree)
 }
 
 #[test]
 fn five_hundred_subkeys_stand_in_order(rt: HostRuntime) -> Result<(), Fail> {
-    let tree = full(rt.alloc())?;
-    let text = names(rt.alloc(), &tree, b"")?;
     let wanted = all_names(rt.alloc())?;
-    assert!(rt; text.as_str() == wanted.as_str());
-    Ok(())
+    assert_told(&rt, five_hundred(rt.alloc()), wanted.as_str())
 }
 
-/// What deleting 500 subkeys answers, and what there is afterwards.
-fn emptied(alloc: Global) -> Result<String, Fail> {
-    let mut tree = full(alloc)?;
-    let mut text = unmake_many(&mut tree, alloc)?;
-    let below = names(alloc, &tree, b"")?;
-    write!(text, "{}", below.as_str())?;
-    write!(text, "{} cells", cells(alloc, &tree)?)?;
+/// What making and deleting 500 subkeys answers where it isn't as wanted, and what there is afterwards.
+fn emptied_in(alloc: Global, tree: &mut Tree) -> Result<String, Fail> {
+    let mut text = String::new(alloc);
+    make_many(tree, alloc, &mut text)?;
+    unmake_many(tree, alloc, &mut text)?;
+    tell_all(alloc, tree, &mut text)?;
     Ok(text)
+}
+
+/// The same of a new tree.
+fn emptied(alloc: Global) -> Result<String, Fail> {
+    let mut tree = tree(alloc)?;
+    emptied_in(alloc, &mut tree)
 }
 
 #[test]
 fn five_hundred_subkeys_are_deleted(rt: HostRuntime) -> Result<(), Fail> {
-    let text = emptied(rt.alloc())?;
-    assert_eq!(rt; text.as_str(), "2 cells");
-    Ok(())
+    assert_told(&rt, emptied(rt.alloc()), "2 cells")
 }
 
 /// Sets a value of the key at a path, and tells what was answered.
-fn set(
-    tree: &mut Tree,
-    alloc: Global,
-    path: &[u8],
-    name: &[u8],
-    bytes: &[u8],
-) -> Result<String, Fail>
+fn set(tree: &mut Tree, alloc: Global, path: &[u8], name: &[u8], bytes: &[u8]) -> &'static str
     requires { length bytes.now ≤ 1048576 }
 {
-    check_value_name(name)?;
-    let mut text = String::new(alloc);
+    if check_value_name(name).is_err() {
+        return "no name of a value";
+    }
     let Some(node) = at(tree, path) else {
-        return Ok(text);
+        return "none";
     };
     match tree.set_value(alloc, node, name, 1, bytes, 8) {
-        Ok(()) => text.push_str("set")?,
-        Err(fault) => write!(text, "{fault:?}")?,
+        Ok(()) => "set",
+        Err(fault) => fault_name(fault),
     }
-    Ok(text)
 }
 
-/// The values of the key at a path, in order: names, kinds, sizes and bytes.
-fn values(alloc: Global, tree: &Tree, path: &[u8]) -> Result<String, Fail> {
-    let mut text = String::new(alloc);
+/// Tells a value of a key: its name, kind and size, and these bytes.
+fn tell_value(
+    alloc: Global,
+    tree: &Tree,
+    node: Node,
+    index: u32,
+    bytes: &[u8],
+    text: &mut String,
+) -> Result<(), Fail>
+    requires { IsThere tree.now node }
+{
+    if let Some(value) = tree.value(node, index) {
+        let name = String::from_utf8_lossy(alloc, value.name)?;
+        write!(text, "{} {} {} ", name.as_str(), value.kind, value.size)?;
+    }
+    write!(text, "{bytes:?}, ")?;
+    Ok(())
+}
+
+/// Tells the values of the key at a path, in order.
+fn tell_values(alloc: Global, tree: &Tree, path: &[u8], text: &mut String) -> Result<(), Fail> {
     let Some(node) = at(tree, path) else {
-        return Ok(text);
+        return Ok(());
     };
     for index in 0..tree.values(node) {
-        if let Some(value) = tree.value(node, index) {
-            let name = String::from_utf8_lossy(alloc, value.name)?;
-            write!(text, "{} {} {} ", name.as_str(), value.kind, value.size)?;
-        }
         let bytes = tree.value_bytes(alloc, node, index)?;
-        write!(text, "{:?}, ", bytes.as_slice())?;
+        tell_value(alloc, tree, node, index, &bytes, text)?;
     }
+    Ok(())
+}
+
+/// Makes a key `A` with the values `v` and `w`.
+fn make_with_values(tree: &mut Tree, alloc: Global) {
+    let _made = make_below(tree, alloc, b"", b"A", 7);
+    let _set = set(tree, alloc, b"A", b"v", b"text");
+    let _set = set(tree, alloc, b"A", b"w", b"longer");
+}
+
+/// The values of a key that has two.
+fn two_values_in(alloc: Global, tree: &mut Tree) -> Result<String, Fail> {
+    let mut text = String::new(alloc);
+    make_with_values(tree, alloc);
+    tell_values(alloc, tree, b"a", &mut text)?;
     Ok(text)
 }
 
-/// A tree of the root and a key `A` with the values `v` and `w`.
-fn with_values(alloc: Global) -> Result<Tree, Fail> {
+/// The same of a new tree.
+fn two_values(alloc: Global) -> Result<String, Fail> {
     let mut tree = tree(alloc)?;
-    let _said = make(&mut tree, alloc, &[b"A"], 7)?;
-    let _said = set(&mut tree, alloc, b"A", b"v", b"text")?;
-    let _said = set(&mut tree, alloc, b"A", b"w", b"longer")?;
-    Ok(tree)
+    two_values_in(alloc, &mut tree)
 }
 
 #[test]
 fn values_are_told_in_order(rt: HostRuntime) -> Result<(), Fail> {
-    let tree = with_values(rt.alloc())?;
-    assert_eq!(rt;
-        values(rt.alloc(), &tree, b"a")?.as_str(),
-        "v 1 4 [116, 101, 120, 116], w 1 6 [108, 111, 110, 103, 101, 114], "
-    );
-    Ok(())
+    assert_told(
+        &rt,
+        two_values(rt.alloc()),
+        "v 1 4 [116, 101, 120, 116], w 1 6 [108, 111, 110, 103, 101, 114], ",
+    )
 }
 
 /// Deletes a key that has values, and tells what there was before and is afterwards.
+fn deleted_with_values_in(alloc: Global, tree: &mut Tree) -> Result<String, Fail> {
+    make_with_values(tree, alloc);
+    let before = cells(alloc, tree)?;
+    let answer = unmake(tree, b"A", 9);
+    let after = cells(alloc, tree)?;
+    Ok(format!(in alloc; "{before} cells, {answer}, {after} cells")?)
+}
+
+/// The same of a new tree.
 fn deleted_with_values(alloc: Global) -> Result<String, Fail> {
-    let mut tree = with_values(alloc)?;
-    let mut text = String::new(alloc);
-    write!(text, "{} cells, ", cells(alloc, &tree)?)?;
-    let answer = unmake(&mut tree, alloc, b"A", 9)?;
-    write!(text, "{}, ", answer.as_str())?;
-    write!(text, "{} cells", cells(alloc, &tree)?)?;
-    Ok(text)
+    let mut tree = tree(alloc)?;
+    deleted_with_values_in(alloc, &mut tree)
 }
 
 #[test]
 fn values_go_with_their_key(rt: HostRuntime) -> Result<(), Fail> {
-    let text = deleted_with_values(rt.alloc())?;
-    assert_eq!(rt; text.as_str(), "8 cells, deleted, 2 cells");
-    Ok(())
+    assert_told(
+        &rt,
+        deleted_with_values(rt.alloc()),
+        "8 cells, deleted, 2 cells",
+    )
 }

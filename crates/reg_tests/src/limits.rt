@@ -1,68 +1,83 @@
 //! What is refused, and that a refusal leaves the hive as it was.
-use crate::support::{ALL, ask, cells, hive_with, new_hive, set};
+use crate::support::{
+    ALL, Deed, Question, assert_same, assert_told, do_all, new_hive, set, status_and_told,
+};
 use reg_calls::{Hive, NewFault};
 use reg_model::{Call, Change, Step};
 use std::alloc::Global;
 use std::test::Fail;
 
-/// The status of a first set where the first bin has no room, and the cells then.
-fn set_in_a_second_bin(alloc: Global) -> Result<String, Fail> {
-    let (hive, status) = hive_with(alloc, 3952, ALL, &[1])?;
-    let cells = cells(alloc, &hive)?;
-    Ok(format!(in alloc; "{status}; {}", cells.as_str())?)
+/// The status of a first set by a handle with these rights, and what the hive tells then.
+fn after_a_set(
+    alloc: Global,
+    descriptor: usize,
+    mask: u32,
+    question: Question<'_>,
+) -> Result<String, Fail> {
+    let deeds = [Deed::Open(mask), Deed::Set(b"", &[1])];
+    status_and_told(alloc, descriptor, &deeds, question)
 }
 
 #[test]
 fn second_bin(rt: HostRuntime) -> Result<(), Fail> {
-    let text = set_in_a_second_bin(rt.alloc())?;
-    assert_eq!(rt;
-        text.as_str(),
-        "0; 32 88* 120 3976* 4128 24* 4152 8* 4160 4032 "
-    );
-    Ok(())
-}
-
-/// The status of a set without the right to it, and what is told of the value then.
-fn set_without_the_right(alloc: Global) -> Result<String, Fail> {
-    let (hive, status) = hive_with(alloc, 20, 1, &[1])?;
-    let told = ask(alloc, &hive, 0, None)?;
-    Ok(format!(in alloc; "{status}; {}", told.as_str())?)
+    // the first bin has no room for the value
+    assert_told(
+        &rt,
+        after_a_set(rt.alloc(), 3952, ALL, Question::Cells),
+        "0; 32 88* 120 3976* 4128 24* 4152 8* 4160 4032 ",
+    )
 }
 
 #[test]
 fn missing_right(rt: HostRuntime) -> Result<(), Fail> {
-    let text = set_without_the_right(rt.alloc())?;
-    assert_eq!(rt; text.as_str(), "5; 1: 2");
-    Ok(())
+    assert_told(
+        &rt,
+        after_a_set(rt.alloc(), 20, 1, Question::Value(b"", None)),
+        "5; 1: 2",
+    )
+}
+
+/// The status of a set in a new hive, by a handle that it hasn't opened.
+fn set_in_a_new_hive(alloc: Global) -> Result<u32, Fail> {
+    let mut hive = new_hive(alloc, 20)?;
+    set(alloc, &mut hive, b"", &[1])
+}
+
+/// That status where this hive has opened a handle of the same number.
+fn set_beside(alloc: Global, hive: &mut Hive) -> Result<u32, Fail> {
+    let deeds = [Deed::Open(ALL), Deed::Set(b"", &[1])];
+    let _status = do_all(alloc, hive, &deeds)?;
+    set_in_a_new_hive(alloc)
 }
 
 /// The status of a set by a handle of another hive.
 fn set_in_another(alloc: Global) -> Result<u32, Fail> {
-    let (_hive, _) = hive_with(alloc, 20, ALL, &[1])?;
-    let mut other = new_hive(alloc, 20)?;
-    set(alloc, &mut other, b"", &[1])
+    let mut hive = new_hive(alloc, 20)?;
+    set_beside(alloc, &mut hive)
 }
 
 #[test]
 fn another_hive(rt: HostRuntime) -> Result<(), Fail> {
-    assert_eq!(rt; set_in_another(rt.alloc())?, 6);
+    assert_same(&rt, &set_in_another(rt.alloc())?, &6);
     Ok(())
+}
+
+/// Why no hive is made of this root and this descriptor.
+fn fault_of(alloc: Global, root_name: &[u8], descriptor: &[u8]) -> Option<NewFault> {
+    Hive::new(alloc, root_name, descriptor, 0).err()
 }
 
 #[test]
 fn new_faults(rt: HostRuntime) -> Result<(), Fail> {
-    let alloc = rt.alloc();
-    assert_eq!(rt;
-        Hive::new(alloc, b"A", &[], 0).err(),
-        Some(NewFault::Descriptor)
-    );
-    assert_eq!(rt; Hive::new(alloc, b"", &[], 0).err(), Some(NewFault::Name));
+    let fault = fault_of(rt.alloc(), b"A", &[]);
+    assert_same(&rt, &fault, &Some(NewFault::Descriptor));
+    let fault = fault_of(rt.alloc(), b"", &[]);
+    assert_same(&rt, &fault, &Some(NewFault::Name));
     Ok(())
 }
 
 /// Runs one step, and tells how many outcomes and entries there are.
-fn run_one(alloc: Global) -> Result<String, Fail> {
-    let mut hive = new_hive(alloc, 20)?;
+fn run_one_in(alloc: Global, hive: &mut Hive) -> Result<String, Fail> {
     let step = Step {
         session: 3,
         moment: 7,
@@ -73,9 +88,13 @@ fn run_one(alloc: Global) -> Result<String, Fail> {
     Ok(format!(in alloc; "{} {}", outcomes.len(), hive.len())?)
 }
 
+/// The same in a new hive.
+fn run_one(alloc: Global) -> Result<String, Fail> {
+    let mut hive = new_hive(alloc, 20)?;
+    run_one_in(alloc, &mut hive)
+}
+
 #[test]
 fn run_of_one_step(rt: HostRuntime) -> Result<(), Fail> {
-    let text = run_one(rt.alloc())?;
-    assert_eq!(rt; text.as_str(), "1 1");
-    Ok(())
+    assert_told(&rt, run_one(rt.alloc()), "1 1")
 }

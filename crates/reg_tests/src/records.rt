@@ -1,4 +1,5 @@
 //! Bytes written by hand from the format's tables, and what is read of them.
+use crate::support::assert_same;
 use reg_records::{
     KeyFields, ListEntry, ListForm, ListHead, RecordFault, SecurityFields, ValueFields, entry_at,
     offset_at, read_list, read_nk, read_sk, read_vk,
@@ -98,38 +99,34 @@ const LEAF_ENTRIES: [ListEntry; 2] = [
 #[test]
 fn records_are_read(rt: HostRuntime) -> Result<(), RecordFault> {
     let root = read_nk(&ROOT)?;
-    assert_eq!(rt; root.fields, ROOT_FIELDS);
-    assert_eq!(rt; root.name, b"ROOT".as_slice());
+    assert_same(&rt, &root.fields, &ROOT_FIELDS);
+    assert_same(&rt, &root.name, &b"ROOT".as_slice());
     let mode = read_vk(&MODE)?;
-    assert_eq!(rt; mode.fields, MODE_FIELDS);
-    assert_eq!(rt; mode.name, b"Mode".as_slice());
+    assert_same(&rt, &mode.fields, &MODE_FIELDS);
+    assert_same(&rt, &mode.name, &b"Mode".as_slice());
     let security = read_sk(&SECURITY)?;
-    assert_eq!(rt; security.fields, SECURITY_FIELDS);
-    assert_eq!(rt; security.descriptor, &SECURITY[20..]);
-    assert_eq!(rt;
-        offset_at(&[0, 0, 0, 0, 0x78, 0x56, 0x34, 0x12], 1),
-        0x1234_5678
-    );
+    assert_same(&rt, &security.fields, &SECURITY_FIELDS);
+    assert_same(&rt, &security.descriptor, &&SECURITY[20..]);
+    let offset = offset_at(&[0, 0, 0, 0, 0x78, 0x56, 0x34, 0x12], 1);
+    assert_same(&rt, &offset, &0x1234_5678);
     Ok(())
 }
 
 #[test]
 fn a_list_is_read(rt: HostRuntime) -> Result<(), RecordFault> {
     let head = read_list(&LEAF)?;
-    assert_eq!(rt;
-        head,
-        ListHead {
-            form: ListForm::HashLeaf,
-            count: 2
-        }
-    );
-    assert_eq!(rt; entry_at(&LEAF, ListForm::HashLeaf, 1), LEAF_ENTRIES[1]);
-    assert_eq!(rt;
-        entry_at(&LEAF, ListForm::IndexLeaf, 1),
-        ListEntry {
-            place: 115_481,
-            hint: 0
-        }
-    );
+    let wanted = ListHead {
+        form: ListForm::HashLeaf,
+        count: 2,
+    };
+    assert_same(&rt, &head, &wanted);
+    let second = entry_at(&LEAF, ListForm::HashLeaf, 1);
+    assert_same(&rt, &second, &LEAF_ENTRIES[1]);
+    let second = entry_at(&LEAF, ListForm::IndexLeaf, 1);
+    let wanted = ListEntry {
+        place: 115_481,
+        hint: 0,
+    };
+    assert_same(&rt, &second, &wanted);
     Ok(())
 }

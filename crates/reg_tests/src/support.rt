@@ -1,13 +1,66 @@
-//! What the tests share: hives, calls, and what they show as text.
-ghost use Rattle.std.specs.Prelude.{◌<◌};
-
+//! What the tests share: comparisons, a long path, what is done to a new hive, and what is told of it as text. Whoever owns a
+//! hive does nothing but hand it on: a function is the longer to check the more it does while it owns one.
 use reg_calls::Hive;
 use reg_model::{AnswerBody, Bytes, Change, Query};
 use std::alloc::Global;
+use std::fmt::Debug;
+use std::process::Abort;
 use std::test::Fail;
 
 /// Every right.
 pub const ALL: u32 = 983_103;
+
+/// Stops where what was told isn't what was wanted.
+pub fn assert_told(rt: &impl Abort, told: Result<String, Fail>, wanted: &str) -> Result<(), Fail> {
+    let text = told?;
+    assert_eq!(rt; text.as_str(), wanted);
+    Ok(())
+}
+
+/// Stops where a value isn't what was wanted.
+pub fn assert_same<T: PartialEq + Debug>(rt: &impl Abort, value: &T, wanted: &T) {
+    assert_eq!(rt; value, wanted);
+}
+
+/// The path of so many names `a`.
+pub fn deep(alloc: Global, names: usize) -> Result<Vec<u8>, Fail> {
+    let mut path = Vec::new(alloc);
+    for number in 0..names {
+        if number > 0 {
+            path.push(b'\\')?;
+        }
+        path.push(b'a')?;
+    }
+    Ok(path)
+}
+
+/// What session 0 does to a hive, by handle 0 where it needs one.
+#[derive(Clone, Copy)]
+pub enum Deed<'a> {
+    /// Opens the root with these rights.
+    Open(u32),
+    /// Sets a value to these bytes.
+    Set(&'a [u8], &'a [u8]),
+    /// Sets a value to so many bytes.
+    SetLong(&'a [u8], usize),
+    /// Removes a value.
+    Delete(&'a [u8]),
+}
+
+/// What is asked of a hive.
+#[derive(Clone, Copy)]
+pub enum Question<'a> {
+    /// The cells of its bins.
+    Cells,
+    /// How many allocated cells of a size it has.
+    CellsOf(u32),
+    /// The bytes from an offset on, so many of them.
+    Digits(u32, u32),
+    /// How many entries its journal has.
+    Entries,
+    /// A value, by its name and the room for its bytes.
+    Value(&'a [u8], Option<u32>),
+}
 
 /// A hive with the root `ROOT` and a descriptor of so many bytes.
 pub fn new_hive(alloc: Global, descriptor: usize) -> Result<Hive, Fail> {
@@ -16,11 +69,68 @@ pub fn new_hive(alloc: Global, descriptor: usize) -> Result<Hive, Fail> {
     Ok(hive)
 }
 
-/// Opens the root, and tells the reply: its status, number and handle.
-pub fn open(alloc: Global, hive: &mut Hive, mask: u32) -> Result<String, Fail> {
-    let reply = hive.apply(0, 0, Change::OpenRoot { mask });
-    let text = format!(in alloc; "{} {:?} {:?}", reply.status, reply.number, reply.handle)?;
-    Ok(text)
+/// What a new hive tells after these deeds.
+pub fn told(
+    alloc: Global,
+    descriptor: usize,
+    deeds: &[Deed<'_>],
+    question: Question<'_>,
+) -> Result<String, Fail> {
+    let mut hive = new_hive(alloc, descriptor)?;
+    told_after(alloc, &mut hive, deeds, question)
+}
+
+/// The status of the last of these deeds to a new hive, and what it tells then.
+pub fn status_and_told(
+    alloc: Global,
+    descriptor: usize,
+    deeds: &[Deed<'_>],
+    question: Question<'_>,
+) -> Result<String, Fail> {
+    let mut hive = new_hive(alloc, descriptor)?;
+    status_and_told_after(alloc, &mut hive, deeds, question)
+}
+
+/// What a hive tells after these deeds.
+fn told_after(
+    alloc: Global,
+    hive: &mut Hive,
+    deeds: &[Deed<'_>],
+    question: Question<'_>,
+) -> Result<String, Fail> {
+    let _status = do_all(alloc, hive, deeds)?;
+    tell(alloc, hive, question)
+}
+
+/// The status of the last of these deeds, and what a hive tells then.
+fn status_and_told_after(
+    alloc: Global,
+    hive: &mut Hive,
+    deeds: &[Deed<'_>],
+    question: Question<'_>,
+) -> Result<String, Fail> {
+    let status = do_all(alloc, hive, deeds)?;
+    let told = tell(alloc, hive, question)?;
+    Ok(format!(in alloc; "{status}; {}", told.as_str())?)
+}
+
+/// Does these deeds in their order, and tells the status of the last.
+pub fn do_all(alloc: Global, hive: &mut Hive, deeds: &[Deed<'_>]) -> Result<u32, Fail> {
+    let mut status = 0;
+    for deed in deeds {
+        status = do_one(alloc, hive, deed)?;
+    }
+    Ok(status)
+}
+
+/// Does one deed, and tells its status.
+pub fn do_one(alloc: Global, hive: &mut Hive, deed: &Deed<'_>) -> Result<u32, Fail> {
+    match *deed {
+        Deed::Open(mask) => Ok(hive.apply(0, 0, Change::OpenRoot { mask }).status),
+        Deed::Set(name, bytes) => set(alloc, hive, name, bytes),
+        Deed::SetLong(name, len) => set_long(alloc, hive, name, len),
+        Deed::Delete(name) => delete(alloc, hive, name),
+    }
 }
 
 /// Sets a value of handle 0 at moment 256, and tells the reply's status.
@@ -37,114 +147,31 @@ pub fn set(alloc: Global, hive: &mut Hive, name: &[u8], bytes: &[u8]) -> Result<
 }
 
 /// Sets a value of handle 0 to so many bytes.
-pub fn set_bytes(alloc: Global, hive: &mut Hive, name: &[u8], len: usize) -> Result<u32, Fail> {
+fn set_long(alloc: Global, hive: &mut Hive, name: &[u8], len: usize) -> Result<u32, Fail> {
     let bytes = vec![in alloc; 7; len]?;
     set(alloc, hive, name, bytes.as_slice())
 }
 
 /// Removes a value of handle 0 at moment 512, and tells the reply's status.
-pub fn delete(alloc: Global, hive: &mut Hive, name: &[u8]) -> Result<u32, Fail> {
+fn delete(alloc: Global, hive: &mut Hive, name: &[u8]) -> Result<u32, Fail> {
     let name = Bytes::from_slice(alloc, name)?;
     let change = Change::DeleteValue { handle: 0, name };
     Ok(hive.apply(0, 512, change).status)
 }
 
-/// Sets so many values, named by their numbers, and tells the last status.
-pub fn fill(alloc: Global, hive: &mut Hive, values: u32) -> Result<u32, Fail> {
-    let mut status = 0;
-    for number in 0..values {
-        let name = format!(in alloc; "{number}")?;
-        status = set(alloc, hive, name.as_bytes(), &[])?;
+/// What a hive answers to a question.
+fn tell(alloc: Global, hive: &Hive, question: Question<'_>) -> Result<String, Fail> {
+    match question {
+        Question::Cells => cells(alloc, hive),
+        Question::CellsOf(size) => count_cells(alloc, hive, size),
+        Question::Digits(at, len) => digits(alloc, hive, at, len),
+        Question::Entries => entries(alloc, hive),
+        Question::Value(name, room) => value(alloc, hive, name, room),
     }
-    Ok(status)
-}
-
-/// Asks for the default value of handle 0, and tells the answer: where, and the status and the value.
-pub fn ask(alloc: Global, hive: &Hive, session: u8, room: Option<u32>) -> Result<String, Fail>
-    requires { session < 64 }
-{
-    ask_as(alloc, hive, session, &[], room)
-}
-
-/// Asks for a value of handle 0, and tells the answer.
-pub fn ask_for(alloc: Global, hive: &Hive, name: &[u8], room: Option<u32>) -> Result<String, Fail> {
-    ask_as(alloc, hive, 0, name, room)
-}
-
-fn ask_as(
-    alloc: Global,
-    hive: &Hive,
-    session: u8,
-    name: &[u8],
-    room: Option<u32>,
-) -> Result<String, Fail>
-    requires { session < 64 }
-{
-    let name = Bytes::from_slice(alloc, name)?;
-    let query = Query::QueryValue {
-        handle: 0,
-        name,
-        room,
-    };
-    let answer = hive.read(session, &query);
-    let at = answer.at;
-    let text = match &answer.body {
-        AnswerBody::Refused { status } => format!(in alloc; "{at}: {status}")?,
-        AnswerBody::Short { status, kind, size } => format!(in alloc;
-            "{at}: {status} {kind} {size}"
-        )?,
-        AnswerBody::Value {
-            kind,
-            size,
-            bytes: None,
-        } => format!(in alloc; "{at}: 0 {kind} {size}")?,
-        AnswerBody::Value {
-            kind,
-            size,
-            bytes: Some(bytes),
-        } => {
-            let digits = hex::encode(alloc, bytes.as_slice())?;
-            format!(in alloc; "{at}: 0 {kind} {size} {digits}")?
-        }
-        _ => format!(in alloc; "{at}: no answer to this question")?,
-    };
-    Ok(text)
-}
-
-/// A hive with a descriptor of so many bytes, its root opened with these rights, and a first set.
-pub fn hive_with(
-    alloc: Global,
-    descriptor: usize,
-    mask: u32,
-    bytes: &[u8],
-) -> Result<(Hive, u32), Fail> {
-    let mut hive = new_hive(alloc, descriptor)?;
-    let _opened = open(alloc, &mut hive, mask)?;
-    let status = set(alloc, &mut hive, b"", bytes)?;
-    Ok((hive, status))
-}
-
-/// A hive with a value of so many bytes, and the status of its set.
-pub fn hive_with_value(alloc: Global, name: &[u8], len: usize) -> Result<(Hive, u32), Fail> {
-    let mut hive = new_hive(alloc, 20)?;
-    let _opened = open(alloc, &mut hive, ALL)?;
-    let status = set_bytes(alloc, &mut hive, name, len)?;
-    Ok((hive, status))
-}
-
-/// How many allocated cells of a size a hive has.
-pub fn count_cells(alloc: Global, hive: &Hive, size: u32) -> Result<usize, Fail> {
-    let cells = hive.arena().cells(alloc)?;
-    Ok(
-        cells
-            .iter()
-            .filter(|cell| cell.allocated && cell.size == size)
-            .count(),
-    )
 }
 
 /// The cells of a hive's bins: offsets, sizes, and a star for an allocated one.
-pub fn cells(alloc: Global, hive: &Hive) -> Result<String, Fail> {
+fn cells(alloc: Global, hive: &Hive) -> Result<String, Fail> {
     let cells = hive.arena().cells(alloc)?;
     let mut text = String::new(alloc);
     for cell in &cells {
@@ -154,8 +181,18 @@ pub fn cells(alloc: Global, hive: &Hive) -> Result<String, Fail> {
     Ok(text)
 }
 
+/// How many allocated cells of a size a hive has.
+fn count_cells(alloc: Global, hive: &Hive, size: u32) -> Result<String, Fail> {
+    let cells = hive.arena().cells(alloc)?;
+    let count = cells
+        .iter()
+        .filter(|cell| cell.allocated && cell.size == size)
+        .count();
+    Ok(format!(in alloc; "{count}")?)
+}
+
 /// So many bytes of the bins from an offset on, as digits.
-pub fn digits(alloc: Global, hive: &Hive, at: u32, len: u32) -> Result<String, Fail> {
+fn digits(alloc: Global, hive: &Hive, at: u32, len: u32) -> Result<String, Fail> {
     let arena = hive.arena();
     let size = arena.bins_size();
     if at > size || len > size - at {
@@ -163,4 +200,50 @@ pub fn digits(alloc: Global, hive: &Hive, at: u32, len: u32) -> Result<String, F
     }
     let text = hex::encode(alloc, arena.bytes(at, len))?;
     Ok(text)
+}
+
+/// How many entries a hive's journal has.
+fn entries(alloc: Global, hive: &Hive) -> Result<String, Fail> {
+    Ok(format!(in alloc; "{}", hive.len())?)
+}
+
+/// The answer to a question for a value of handle 0: where, and the status and the value.
+fn value(alloc: Global, hive: &Hive, name: &[u8], room: Option<u32>) -> Result<String, Fail> {
+    let name = Bytes::from_slice(alloc, name)?;
+    let query = Query::QueryValue {
+        handle: 0,
+        name,
+        room,
+    };
+    let answer = hive.read(0, &query);
+    shown(alloc, answer.at, &answer.body)
+}
+
+/// An answer to a question for a value as text.
+fn shown(alloc: Global, at: u64, body: &AnswerBody) -> Result<String, Fail> {
+    match body {
+        AnswerBody::Refused { status } => Ok(format!(in alloc; "{at}: {status}")?),
+        AnswerBody::Short { status, kind, size } => Ok(format!(in alloc;
+            "{at}: {status} {kind} {size}"
+        )?),
+        AnswerBody::Value { kind, size, bytes } => shown_value(alloc, at, *kind, *size, bytes),
+        _ => Ok(format!(in alloc; "{at}: no answer to this question")?),
+    }
+}
+
+/// A value that was told as text.
+fn shown_value(
+    alloc: Global,
+    at: u64,
+    kind: u32,
+    size: u32,
+    bytes: &Option<Bytes>,
+) -> Result<String, Fail> {
+    match bytes {
+        Some(bytes) => {
+            let digits = hex::encode(alloc, bytes.as_slice())?;
+            Ok(format!(in alloc; "{at}: 0 {kind} {size} {}", digits.as_str())?)
+        }
+        None => Ok(format!(in alloc; "{at}: 0 {kind} {size}")?),
+    }
 }
