@@ -1,6 +1,8 @@
 //! A hive with open handles on many keys, and batches of calls by them.
-ghost use Rattle.std.specs.Prelude.{◌≡◌, length};
+ghost use Rattle.std.specs.Prelude.{◌≡◌, ◌+◌, length, OnOk, IfOk, List, ℕ, map, sum_by};
+ghost use Rattle.reg_load.specs.Operations.{call_of};
 ghost use Rattle.reg_calls.specs.Hives.{view_of};
+ghost use Rattle.reg_bench.specs.Batches.{entries_of};
 
 use crate::hives::new_hive;
 use anyhow::{Result, bail};
@@ -101,8 +103,11 @@ impl OpenHive {
         Ok(handle)
     }
 
-    /// Makes a change. A handle that it opens is a spare one.
-    fn change(&mut self, change: Change) -> Result<()> {
+    /// Makes a change, which is an entry more. A handle that it opens is a spare one.
+    #[tactic(auto, using(crate::proofs::Accepting::accepted))]
+    fn change(&mut self, change: Change) -> Result<()>
+        ensures { OnOk result (length (view_of self.new.hive).journal ≡ length (view_of self.old.hive).journal + 1) }
+    {
         let reply = self.hive.apply(0, 1, change);
         if reply.status != 0 {
             bail!("a change was refused");
@@ -122,13 +127,22 @@ impl OpenHive {
         }
     }
 
-    /// Makes calls.
-    pub fn make(&mut self, calls: Vec<Call>) -> Result<()> {
+    /// Makes a call.
+    fn make_one(&mut self, call: Call) -> Result<()>
+        ensures { OnOk result (length (view_of self.new.hive).journal ≡ length (view_of self.old.hive).journal + entries_of call) }
+    {
+        match call {
+            Call::Change(change) => self.change(change),
+            Call::Query(query) => self.ask(&query),
+        }
+    }
+
+    /// Makes calls, each of which is accepted: each change is an entry more.
+    pub fn make(&mut self, calls: Vec<Call>) -> Result<()>
+        ensures { OnOk result (length (view_of self.new.hive).journal ≡ length (view_of self.old.hive).journal + sum_by entries_of calls.items) }
+    {
         for call in calls {
-            match call {
-                Call::Change(change) => self.change(change)?,
-                Call::Query(query) => self.ask(&query)?,
-            }
+            self.make_one(call)?;
         }
         Ok(())
     }
@@ -145,16 +159,14 @@ impl OpenHive {
             .nth(batch.checked_rem(batches)?)
     }
 
-    /// The calls of a batch.
-    pub fn calls(&self, operation: Operation, batch: usize) -> Result<Vec<Call>> {
-        let Some(handles) = self.handles(operation, batch) else {
-            bail!("there are no handles");
-        };
-        let mut calls = Vec::new(self.alloc);
-        for handle in handles {
-            calls.push(operation.call(self.alloc, *handle)?)?;
+    /// The calls of a batch: the operation by each of some handles, and nothing else.
+    pub fn calls(&self, operation: Operation, batch: usize) -> Result<Vec<Call>>
+        ensures { IfOk result (λ calls. (handles : List ℕ) × (calls.items ≡ map (call_of operation) handles)) }
+    {
+        match self.handles(operation, batch) {
+            Some(handles) => Ok(operation.calls(self.alloc, handles)?),
+            None => bail!("there are no handles"),
         }
-        Ok(calls)
     }
 
     /// Makes the calls of a batch.

@@ -1,5 +1,5 @@
 //! What can be done by a handle, and the call that does it.
-ghost use Rattle.std.specs.Prelude.{◌≡◌, IfOk};
+ghost use Rattle.std.specs.Prelude.{◌≡◌, IfOk, map};
 ghost use Rattle.reg_model.specs.declared.call.Call.TheVariants.{Change as Changes};
 ghost use Rattle.reg_model.specs.declared.call.Change.TheVariants.{OpenKey, CreateKey};
 ghost use Rattle.reg_load.specs.declared.operations.Operation.TheVariants.{Query as Asked, Set, DeleteValue, DeleteKey};
@@ -115,6 +115,17 @@ impl Operation {
             Operation::DeleteKey => delete_key(alloc, handle),
             Operation::Close => Ok(Call::Change(Change::Close { handle })),
         }
+    }
+
+    /// The calls that do it by each of these handles, in their order.
+    pub fn calls(self, alloc: Global, handles: &[u64]) -> Result<Vec<Call>, AllocError>
+        ensures { IfOk result (λ calls. calls.items ≡ map (call_of self) handles.now) }
+    {
+        let mut calls = Vec::new(alloc);
+        for handle in handles {
+            calls.push(self.call(alloc, *handle)?)?;
+        }
+        Ok(calls)
     }
 }
 
