@@ -1,7 +1,7 @@
 -- The cells of the bins.
 -- Suhanov, Windows registry file format specification, sections "Hive bin" and "Cell".
 use Rattle.std.specs.Prelude.{◌≡◌, ℕ, zero, suc, ◌+◌, ◌-◌, ◌<◌, ◌≤◌, ◌%◌, Bool, true, false, ◌&&◌, if◌then◌else◌, nat_lt, nat_le, ◌==◌, List, [], ◌∷◌, ◌++◌, length, take, drop, Option, Some, None, option_map, flat_map}
-use Rattle.reg_heap.specs.Words.{word}
+use Rattle.reg_heap.specs.ByteWords.{word}
 use Rattle.reg_arena.specs.declared.Cell.{Cell}
 
 -- a bin with its cells

@@ -3,8 +3,8 @@
 use Rattle.std.specs.Prelude.{◌≡◌, ℕ, ◌+◌, ◌<◌, Bool, false, not, ◌&&◌, ◌==◌, List, [], ◌∷◌, ◌++◌, ◌⊎◌, zero, ◌≤◌, ◌-◌, length, map, filter, if◌then◌else◌, ⊤, suc}
 use Rattle.std.specs.List.{AllByRecursion}
 use Rattle.byteorder.specs.Endian.{little_bytes}
-use Rattle.reg_heap.specs.Words.{word, splice}
-use Rattle.reg_heap.specs.Kinds.{times}
+use Rattle.reg_heap.specs.ByteWords.{word, splice}
+use Rattle.reg_heap.specs.Internal.Kinds.{times}
 use Rattle.reg_arena.specs.declared.Cell.{Cell}
 use Rattle.reg_arena.specs.Cells.{size_in}
 

@@ -1,11 +1,11 @@
 -- What freeing a cell does to the cells.
 use Rattle.std.specs.Prelude.{◌≡◌, ℕ, ◌+◌, ◌-◌, ◌/◌, ◌<◌, ◌≤◌, ◌==◌, ◌⊎◌, get_or, List, [], ◌∷◌, ◌++◌, length, Some, if◌then◌else◌}
-use Rattle.reg_heap.specs.Words.{word}
+use Rattle.reg_heap.specs.ByteWords.{word}
 use Rattle.reg_arena.specs.declared.Cell.{Cell}
 use Rattle.reg_arena.specs.Cells.{cells_of}
 use Rattle.reg_arena.specs.Free.{linked, head_after}
 use Rattle.reg_arena.specs.NewCells.{used, unused}
-use Rattle.reg_arena.specs.Tables.{marked}
+use Rattle.reg_arena.specs.Internal.SideTables.{marked}
 
 -- at most one free cell, which is the bytes from lo to hi
 abbrev pub IsFreePiece : ℕ → ℕ → List Cell → Type 0

@@ -3,7 +3,6 @@ pub mod Free
 pub mod NewCells
 pub mod Carves
 pub mod NewBin
-pub mod Walks
+pub mod Internal
 pub mod Arena
 pub mod Frees
-pub mod Tables

@@ -1,7 +1,7 @@
 -- A bin more at the end of the bins.
 use Rattle.std.specs.Prelude.{◌≡◌, ℕ, ◌+◌, ◌-◌, ◌<◌, ◌≤◌, ◌%◌, List, [], ◌∷◌, ◌++◌, length, replicate, Some}
 use Rattle.byteorder.specs.Endian.{little_bytes}
-use Rattle.reg_heap.specs.Words.{splice}
+use Rattle.reg_heap.specs.ByteWords.{splice}
 use Rattle.reg_arena.specs.declared.Cell.{Cell}
 use Rattle.reg_arena.specs.Cells.{cells_of, cell_at}
 use Rattle.reg_arena.specs.NewCells.{unused}

@@ -1,7 +1,7 @@
 //! The arena as callers see it.
 ghost use Rattle.std.specs.Prelude.{◌≡◌, ◌==◌, ◌+◌, ◌-◌, ◌≤◌, ◌<◌, ℕ, List, [], ◌∷◌, ◌++◌, length, take, drop, IsSome, Some, None, unwrap_or, if◌then◌else◌, IfOk, IfErr, OnOk, OnErr, ◌↔◌};
-ghost use Rattle.reg_heap.specs.Heaps.{GivesUp, Writes};
-ghost use Rattle.reg_heap.specs.Words.{splice, word};
+ghost use Rattle.reg_heap.specs.Internal.Heaps.{GivesUp, Writes};
+ghost use Rattle.reg_heap.specs.ByteWords.{splice, word};
 ghost use Rattle.reg_arena.specs.Arena.{IsSound};
 ghost use Rattle.reg_arena.specs.NewCells.{total_of, AreSizes};
 ghost use Rattle.reg_arena.specs.Carves.{AddsCells, CarvesExactly, NoFit};
@@ -40,7 +40,7 @@ pub struct Arena {
 impl Model for Arena {
     ghost use Rattle.std.specs.Prelude.{[], ◌∷◌};
     ghost use Rattle.reg_arena.specs.Arena.{Bins};
-    ghost use Rattle.reg_arena.specs.Tables.{IsIndexed};
+    ghost use Rattle.reg_arena.specs.Internal.SideTables.{IsIndexed};
 
     ghost Value = { Bins };
 
@@ -118,7 +118,7 @@ impl Arena {
     }
 
     /// Writes all of what the allocated cell at the offset `cell` holds. Nothing else changes.
-    #[tactic(auto, using(crate::proofs::Splices::splice_whole))]
+    #[tactic(auto, using(crate::proofs::Contents::ByteSplices::splice_whole))]
     pub fn write_whole(&mut self, cell: u32, bytes: &[u8])
         requires exists { IsSome (cell_at self.old.bytes cell) }
         requires whole { length bytes.now ≡ length (unwrap_or (cell_at self.old.bytes cell) []) }
@@ -165,7 +165,7 @@ impl Arena {
     /// free cell. The other cells keep what they hold. It takes no memory, and constant time.
     ///
     /// Suhanov, Windows registry file format specification, section "Cell".
-    #[tactic(auto, using(reg_heap::proofs::Swapping::gives_up_one))]
+    #[tactic(auto, using(reg_heap::proofs::CellFrame::gives_up_one))]
     pub fn free(&mut self, cell: u32)
         requires { IsSome (cell_at self.old.bytes cell) }
         ensures frees { Frees self.old.bytes self.new.bytes cell }
@@ -255,7 +255,7 @@ fn content_part(bins: &[u8], cell: u32) -> &[u8]
     &bins[cell as usize + 4..(cell + size) as usize]
 }
 
-#[tactic(auto, unfolding(reg_heap::specs::Words::splice))]
+#[tactic(auto, unfolding(reg_heap::specs::ByteWords::splice))]
 fn write_part(bins: &mut Vec<u8>, from: usize, bytes: &[u8])
     requires { from + length bytes.now ≤ length bins.old.items }
     ensures { bins.new.items ≡ splice from bytes.now bins.old.items }
@@ -264,7 +264,7 @@ fn write_part(bins: &mut Vec<u8>, from: usize, bytes: &[u8])
 }
 
 // Copies `len` bytes from `from` on to `to`.
-#[tactic(auto, unfolding(reg_heap::specs::Words::splice))]
+#[tactic(auto, unfolding(reg_heap::specs::ByteWords::splice))]
 fn move_part(bins: &mut Vec<u8>, from: usize, to: usize, len: usize)
     requires source { from + len ≤ length bins.old.items }
     requires fits { to + len ≤ length bins.old.items }

@@ -3,7 +3,7 @@
 //! Suhanov, Windows registry file format specification, section "Hive bin".
 ghost use Rattle.std.specs.Prelude.{◌≡◌, ◌+◌, ◌-◌, ◌≤◌, ◌<◌, ℕ, List, [], ◌∷◌, ◌++◌, length, replicate, OnOk, OnErr, IfOk, true, false};
 ghost use Rattle.reg_arena.specs.Arena.{IsArena};
-ghost use Rattle.reg_arena.specs.Tables.{IsIndexed};
+ghost use Rattle.reg_arena.specs.Internal.SideTables.{IsIndexed};
 ghost use Rattle.reg_arena.specs.Free.{chain, IsFit};
 ghost use Rattle.reg_arena.specs.NewBin.{AppendsBin, IsBinSize, PassesLimit, HasRoomForBin, headed};
 

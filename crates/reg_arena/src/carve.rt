@@ -1,7 +1,7 @@
 //! Allocated cells from one free cell.
 ghost use Rattle.std.specs.Prelude.{◌≡◌, ◌+◌, ◌-◌, ◌≤◌, ◌<◌, ℕ, List, [], ◌∷◌, ◌++◌, length, vec_len, vec_capacity, IfErr, OnErr, OnOk};
-ghost use Rattle.reg_arena.specs.Tables.{IsIndexed};
-ghost use Rattle.reg_heap.specs.Words.{word};
+ghost use Rattle.reg_arena.specs.Internal.SideTables.{IsIndexed};
+ghost use Rattle.reg_heap.specs.ByteWords.{word};
 ghost use Rattle.reg_arena.specs.Cells.{size_in};
 ghost use Rattle.reg_arena.specs.NewCells.{total_of, AreSizes, offsets_of};
 ghost use Rattle.reg_arena.specs.Carves.{AddsCells, Carves, CarvesExactly, NoFit};
@@ -71,7 +71,7 @@ fn carve_at(
 }
 
 // Carves from the free cell at `place`.
-#[tactic(auto, using(crate::proofs::Added::adds_cells))]
+#[tactic(auto, using(crate::proofs::Carving::CarvedCells::adds_cells))]
 pub fn carve_found(
     bins: &mut Vec<u8>,
     head: &mut u32,
@@ -101,7 +101,7 @@ pub fn carve_found(
 }
 
 // Carves from the free cell of a new bin.
-#[tactic(auto, using(crate::proofs::Added::adds_cells_in_bin))]
+#[tactic(auto, using(crate::proofs::Carving::CarvedCells::adds_cells_in_bin))]
 pub fn carve_bin(
     bins: &mut Vec<u8>,
     head: &mut u32,

@@ -1,13 +1,13 @@
 //! Allocated cells, side by side, cut from a piece of the bins.
 ghost use Rattle.std.specs.Prelude.{◌≡◌, ◌+◌, ◌-◌, ◌≤◌, ◌<◌, ◌%◌, ℕ, List, [], ◌∷◌, ◌++◌, length, take, drop, replicate, vec_len, vec_capacity};
 ghost use Rattle.byteorder.specs.Endian.{little_bytes};
-ghost use Rattle.reg_heap.specs.Words.{splice, word, SameOutside};
+ghost use Rattle.reg_heap.specs.ByteWords.{splice, word, SameOutside};
 ghost use Rattle.reg_arena.specs.Cells.{IsCell, Tiles, content_in};
 ghost use Rattle.reg_arena.specs.NewCells.{total_of, AreSizes, used, carved, offsets_of, zeroed};
 
 use crate::words::put_word;
 
-#[tactic(auto, unfolding(reg_heap::specs::Words::splice))]
+#[tactic(auto, unfolding(reg_heap::specs::ByteWords::splice))]
 fn zero(bins: &mut Vec<u8>, from: usize, len: usize)
     requires { from + len ≤ length bins.old.items }
     ensures { bins.new.items ≡ splice from (replicate len 0) bins.old.items }

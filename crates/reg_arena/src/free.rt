@@ -1,8 +1,8 @@
 //! A cell given back.
 ghost use Rattle.std.specs.Prelude.{◌≡◌, ◌==◌, ◌+◌, ◌-◌, ◌*◌, ◌/◌, ◌≤◌, ◌<◌, ℕ, List, [], ◌∷◌, length, get_or, IsSome, None, if◌then◌else◌};
-ghost use Rattle.reg_heap.specs.Words.{word};
+ghost use Rattle.reg_heap.specs.ByteWords.{word};
 ghost use Rattle.reg_arena.specs.Cells.{cell_at};
-ghost use Rattle.reg_arena.specs.Tables.{IsIndexed};
+ghost use Rattle.reg_arena.specs.Internal.SideTables.{IsIndexed};
 ghost use Rattle.reg_arena.specs.Frees.{Frees, IsRight, InList, Unlinks, start_of};
 
 use crate::bin::LIMIT;

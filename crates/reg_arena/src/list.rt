@@ -2,7 +2,7 @@
 ghost use Rattle.std.specs.Prelude.{◌≡◌, ◌==◌, ◌+◌, ◌≤◌, ◌<◌, ℕ, List, [], ◌∷◌, ◌++◌, length, MatchOption, if◌then◌else◌};
 ghost use Rattle.std.specs.List.{AllByRecursion};
 ghost use Rattle.byteorder.specs.Endian.{little_bytes};
-ghost use Rattle.reg_heap.specs.Words.{splice, word};
+ghost use Rattle.reg_heap.specs.ByteWords.{splice, word};
 ghost use Rattle.reg_arena.specs.Cells.{size_in};
 ghost use Rattle.reg_arena.specs.Free.{chain, IsFit, NoneFits};
 

@@ -3,7 +3,7 @@
 //! `ends` has, at a free cell's last eight bytes, the cell's offset, and elsewhere 0. `backs` has, at a free cell's first
 //! eight bytes, the cell before it in its list, or `NONE`.
 ghost use Rattle.std.specs.Prelude.{◌≡◌, ◌+◌, ◌-◌, ◌*◌, ◌/◌, ◌≤◌, ◌<◌, set, length, get_or, OnOk};
-ghost use Rattle.reg_arena.specs.Tables.{marked, NotesTaken, IsLonger};
+ghost use Rattle.reg_arena.specs.Internal.SideTables.{marked, NotesTaken, IsLonger};
 
 use crate::list::{NONE, Place};
 use std::alloc::AllocError;

@@ -1,8 +1,8 @@
 //! A walk over the cells, bin after bin.
 ghost use Rattle.std.specs.Prelude.{◌≡◌, ◌+◌, ◌≤◌, length, IfErr, IfOk, OnOk, Some};
-ghost use Rattle.reg_heap.specs.Words.{word};
+ghost use Rattle.reg_heap.specs.ByteWords.{word};
 ghost use Rattle.reg_arena.specs.Cells.{cells_of, is_allocated_in};
-ghost use Rattle.reg_arena.specs.Walks.{IsRowOfBins, IsTiled, PushesCells};
+ghost use Rattle.reg_arena.specs.Internal.CellWalks.{IsRowOfBins, IsTiled, PushesCells};
 
 use crate::bin::HEADER_SIZE;
 use crate::words::{size_at, word_at};

@@ -1,12 +1,12 @@
 //! Numbers of four bytes in the bins.
 ghost use Rattle.std.specs.Prelude.{◌≡◌, ◌+◌, ◌≤◌, length};
 ghost use Rattle.byteorder.specs.Endian.{little_bytes};
-ghost use Rattle.reg_heap.specs.Words.{splice, word};
+ghost use Rattle.reg_heap.specs.ByteWords.{splice, word};
 ghost use Rattle.reg_arena.specs.Cells.{size_in};
 
 use byteorder::{ByteOrder, LittleEndian};
 
-#[tactic(auto, unfolding(reg_heap::specs::Words::word))]
+#[tactic(auto, unfolding(reg_heap::specs::ByteWords::word))]
 pub fn word_at(bins: &[u8], at: usize) -> u32
     requires { at + 4 ≤ length bins.now }
     ensures { result ≡ word bins.now at }
@@ -14,7 +14,7 @@ pub fn word_at(bins: &[u8], at: usize) -> u32
     LittleEndian::read_u32(&bins[at..])
 }
 
-#[tactic(auto, unfolding(reg_heap::specs::Words::splice))]
+#[tactic(auto, unfolding(reg_heap::specs::ByteWords::splice))]
 fn set_word(bins: &mut [u8], at: usize, n: u32)
     requires { at + 4 ≤ length bins.old }
     ensures { bins.new ≡ splice at (little_bytes 4 n) bins.old }
@@ -22,7 +22,7 @@ fn set_word(bins: &mut [u8], at: usize, n: u32)
     LittleEndian::write_u32(&mut bins[at..], n);
 }
 
-#[tactic(auto, unfolding(reg_heap::specs::Words::splice))]
+#[tactic(auto, unfolding(reg_heap::specs::ByteWords::splice))]
 pub fn put_word(bins: &mut Vec<u8>, at: usize, n: u32)
     requires { at + 4 ≤ length bins.old.items }
     ensures { bins.new.items ≡ splice at (little_bytes 4 n) bins.old.items }

@@ -1,1 +1,1 @@
-pub mod Accepting
+pub mod AcceptedChanges

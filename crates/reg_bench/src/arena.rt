@@ -1,7 +1,7 @@
 //! The arena's calls: cells of 16 to 256 bytes are carved and freed at random over a live set.
 
 use anyhow::Result;
-use reg_load::{LiveCells, PerCall};
+use reg_workload::{LiveCells, PerCall};
 use std::alloc::Global;
 use std::rt::Clock;
 use std::time::Instant;

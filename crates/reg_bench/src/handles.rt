@@ -2,7 +2,7 @@
 
 use crate::open_hive::OpenHive;
 use anyhow::Result;
-use reg_load::{BATCH, Operation, PerCall, Size};
+use reg_workload::{BATCH, Operation, PerCall, Size};
 use std::alloc::Global;
 use std::rt::Clock;
 use std::time::{Duration, Instant};

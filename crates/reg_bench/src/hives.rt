@@ -1,6 +1,6 @@
 //! Hives to begin with.
 ghost use Rattle.std.specs.Prelude.{◌≡◌, IfOk, []};
-ghost use Rattle.reg_calls.specs.Hives.{view_of};
+ghost use Rattle.reg_calls.specs.HiveView.{view_of};
 
 use anyhow::Result;
 use reg_calls::Hive;

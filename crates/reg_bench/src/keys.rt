@@ -1,7 +1,7 @@
 //! Keys, made and resolved by paths of three names from the root.
 
 use anyhow::{Result, bail};
-use reg_load::PerCall;
+use reg_workload::PerCall;
 use reg_model::Bytes;
 use reg_names::check_path;
 use reg_tree::Tree;

@@ -13,7 +13,7 @@ mod script;
 mod values;
 
 use anyhow::{Result, bail};
-use reg_load::Subject;
+use reg_workload::Subject;
 use std::alloc::Global;
 use std::env;
 use std::rt::Clock;

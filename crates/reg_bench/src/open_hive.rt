@@ -1,13 +1,13 @@
 //! A hive with open handles on many keys, and batches of calls by them.
 ghost use Rattle.std.specs.Prelude.{◌≡◌, ◌+◌, length, OnOk, IfOk, List, ℕ, map, sum_by};
-ghost use Rattle.reg_load.specs.Operations.{call_of};
-ghost use Rattle.reg_calls.specs.Hives.{view_of};
+ghost use Rattle.reg_workload.specs.Operations.{call_of};
+ghost use Rattle.reg_calls.specs.HiveView.{view_of};
 ghost use Rattle.reg_bench.specs.Batches.{entries_of};
 
 use crate::hives::new_hive;
 use anyhow::{Result, bail};
 use reg_calls::Hive;
-use reg_load::{ALL_RIGHTS, BATCH, OLD_SUBKEY, Operation, Size};
+use reg_workload::{ALL_RIGHTS, BATCH, OLD_SUBKEY, Operation, Size};
 use reg_model::{AnswerBody, Bytes, Call, Change, Query};
 use std::alloc::Global;
 
@@ -104,7 +104,7 @@ impl OpenHive {
     }
 
     /// Makes a change, which is an entry more. A handle that it opens is a spare one.
-    #[tactic(auto, using(crate::proofs::Accepting::accepted))]
+    #[tactic(auto, using(crate::proofs::AcceptedChanges::accepted))]
     fn change(&mut self, change: Change) -> Result<()>
         ensures { OnOk result (length (view_of self.new.hive).journal ≡ length (view_of self.old.hive).journal + 1) }
     {

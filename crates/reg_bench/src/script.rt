@@ -3,7 +3,7 @@
 use crate::hives::new_hive;
 use anyhow::{Result, bail};
 use reg_calls::Hive;
-use reg_load::PerCall;
+use reg_workload::PerCall;
 use reg_script::run;
 use std::alloc::Global;
 use std::rt::Clock;

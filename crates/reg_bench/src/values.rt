@@ -3,7 +3,7 @@
 use crate::hives::new_hive;
 use anyhow::{Result, bail};
 use reg_calls::Hive;
-use reg_load::{ALL_RIGHTS, PerCall};
+use reg_workload::{ALL_RIGHTS, PerCall};
 use reg_model::{AnswerBody, Bytes, Change, Query};
 use std::alloc::Global;
 use std::rt::Clock;

@@ -1,6 +1,6 @@
-pub mod RunMore
-pub mod Looks
-pub mod Refusals
-pub mod Made
-pub mod Keeping
-pub mod Questions
+pub mod RunSteps
+pub mod HandleLookUps
+pub mod RefusalTests
+pub mod StoreAfterChange
+pub mod HiveInvariantLemmas
+pub mod QueryAnswers

@@ -1,5 +1,5 @@
-pub mod Kept
-pub mod Stores
+pub mod JournalView
+pub mod Internal
 pub mod Views
-pub mod Hives
+pub mod HiveView
 pub mod Runs

@@ -14,12 +14,12 @@ use Rattle.reg_model.specs.declared.answer.AnswerBody.{AnswerBody}
 use Rattle.reg_model.specs.declared.answer.AnswerBody.TheVariants.{Refused, Short, Value, Key, Member, Info}
 use Rattle.reg_model.specs.declared.call.Change.{Change}
 use Rattle.reg_model.specs.declared.call.Query.{Query}
-use Rattle.reg_tree.specs.Keys.{Keys, coded_keys}
-use Rattle.reg_handles.specs.Tables.{coded_handle}
+use Rattle.reg_tree.specs.TreeKeys.{Keys, coded_keys}
+use Rattle.reg_handles.specs.HandleTables.{coded_handle}
 use Rattle.reg_calls.specs.declared.store.Store.{Store}
 use Rattle.reg_calls.specs.declared.lack.Lack.{Lack}
 use Rattle.reg_calls.specs.declared.lack.Lack.TheVariants.{Space, Memory}
-use Rattle.reg_calls.specs.Stores.{is_closing, LacksSpace}
+use Rattle.reg_calls.specs.Internal.Stores.{is_closing, LacksSpace}
 
 -- a hive: the tree that it was made with, its journal, its keys in their bins, and its open handles in the order of their numbers
 pub record View : Type 0 where

@@ -1,7 +1,7 @@
 //! The changes of the tree and the handles that accepted calls make.
 ghost use Rattle.std.specs.Prelude.{ℕ, ◌≡◌, ◌⊎◌, ◌<◌, Some, None, Ok, if◌then◌else◌};
 ghost use Rattle.reg_model.specs.Causes.{change_cause};
-ghost use Rattle.reg_calls.specs.Stores.{at, IsReady, IsMade};
+ghost use Rattle.reg_calls.specs.Internal.Stores.{at, IsReady, IsMade};
 
 use crate::lack::Lack;
 use crate::store::Store;

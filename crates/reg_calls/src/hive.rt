@@ -4,7 +4,7 @@ ghost use Rattle.reg_names.specs.Names.{is_key_name};
 ghost use Rattle.reg_arena.specs.Cells.{cell_at};
 ghost use Rattle.reg_model.specs.Causes.{change_cause};
 ghost use Rattle.reg_model.specs.Histories.{IsLegal, replay};
-ghost use Rattle.reg_tree.specs.Keys.{made_root, IsWholeTree};
+ghost use Rattle.reg_tree.specs.TreeKeys.{made_root, IsWholeTree};
 ghost use Rattle.reg_calls.specs.Views.{state, IsApplied, IsRead};
 
 use crate::hive_core::Core;
@@ -47,7 +47,7 @@ pub struct Hive {
 }
 
 impl Hive {
-    ghost use Rattle.reg_calls.specs.Hives.{view_of};
+    ghost use Rattle.reg_calls.specs.HiveView.{view_of};
     ghost use Rattle.reg_calls.specs.Runs.{Run, IsStep};
 
     /// A hive of one root: the name as given, mark 8 (no delete), no class, the descriptor, the moment (100 ns units

@@ -3,8 +3,8 @@ ghost use Rattle.std.specs.Prelude.{◌≡◌, ◌<◌, ◌≤◌, [], Some, Non
 ghost use Rattle.std.specs.FinMap.{get};
 ghost use Rattle.reg_model.specs.Causes.{change_cause};
 ghost use Rattle.reg_model.specs.Replies.{refusal};
-ghost use Rattle.reg_tree.specs.Keys.{IsWholeTree};
-ghost use Rattle.reg_calls.specs.Stores.{is_closing};
+ghost use Rattle.reg_tree.specs.TreeKeys.{IsWholeTree};
+ghost use Rattle.reg_calls.specs.Internal.Stores.{is_closing};
 ghost use Rattle.reg_calls.specs.Views.{state, IsApplied, IsRead};
 
 use crate::journal::Journal;

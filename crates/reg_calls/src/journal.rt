@@ -12,7 +12,7 @@ pub struct Journal {
 
 impl Model for Journal {
     ghost use Rattle.std.specs.Prelude.{◌-◌, vec_len, vec_capacity};
-    ghost use Rattle.reg_calls.specs.Kept.{Kept};
+    ghost use Rattle.reg_calls.specs.JournalView.{Kept};
 
     ghost Value = { Kept };
 

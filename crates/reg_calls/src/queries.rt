@@ -4,8 +4,8 @@ ghost use Rattle.std.specs.FinMap.{get};
 ghost use Rattle.reg_heap.specs.Paths.{Path, Member, children_of};
 ghost use Rattle.reg_heap.specs.Edits.{values_at};
 ghost use Rattle.reg_model.specs.Replies.{value_told, key_told as key_told_of, member_told as member_told_of, info_told, name_of, largest_of};
-ghost use Rattle.reg_tree.specs.Keys.{IsAt, IsThere};
-ghost use Rattle.reg_calls.specs.Stores.{at, AreStanding};
+ghost use Rattle.reg_tree.specs.TreeKeys.{IsAt, IsThere};
+ghost use Rattle.reg_calls.specs.Internal.Stores.{at, AreStanding};
 ghost use Rattle.reg_calls.specs.Views.{IsRead, IsTold};
 
 use crate::statuses::{

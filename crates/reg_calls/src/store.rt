@@ -3,7 +3,7 @@ ghost use Rattle.std.specs.Prelude.{◌≡◌, ◌≤◌, ◌+◌, ◌++◌, tru
 ghost use Rattle.std.specs.FinMap.{get};
 ghost use Rattle.reg_names.specs.Names.{is_path, path_of, folded};
 ghost use Rattle.reg_model.specs.Worlds.{path_from};
-ghost use Rattle.reg_calls.specs.Stores.{IsReady, IsLooked, IsTarget, AreStanding};
+ghost use Rattle.reg_calls.specs.Internal.Stores.{IsReady, IsLooked, IsTarget, AreStanding};
 
 use crate::statuses::{INVALID_HANDLE, KEY_DELETED};
 use reg_handles::{Found, Handles};

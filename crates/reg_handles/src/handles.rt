@@ -3,8 +3,8 @@ ghost use Rattle.std.specs.Prelude.{◌≡◌, ◌<◌, ◌++◌, ◌∷◌, [],
 ghost use Rattle.reg_names.specs.Names.{folded as folded_name, path_of, is_path};
 ghost use Rattle.reg_model.specs.Worlds.{look, closed, turned, At};
 ghost use Rattle.reg_model.specs.Causes.{handles_of as count_of};
-ghost use Rattle.reg_handles.specs.Founds.{shown, IfLeads};
-ghost use Rattle.reg_handles.specs.Tables.{IsFoldedPath};
+ghost use Rattle.reg_handles.specs.FoundHandles.{shown, IfLeads};
+ghost use Rattle.reg_handles.specs.HandleTables.{IsFoldedPath};
 
 use crate::keys::OpenKeys;
 use crate::rows::{Row, Rows};
@@ -27,15 +27,15 @@ pub struct Handles {
 }
 
 impl Model for Handles {
-    ghost use Rattle.reg_handles.specs.Tables.{Table, coded_table};
+    ghost use Rattle.reg_handles.specs.HandleTables.{Table, coded_table};
 
     ghost Value = { Table };
 
     ghost coded = { coded_table };
 
-    ghost use Rattle.reg_handles.specs.Ordered.{ordered};
-    ghost use Rattle.reg_handles.specs.Keys.{key_at};
-    ghost use Rattle.reg_handles.specs.Rows.{handles_of, IsTable};
+    ghost use Rattle.reg_handles.specs.Internal.OrderedRows.{ordered};
+    ghost use Rattle.reg_handles.specs.Internal.OpenKeySlab.{key_at};
+    ghost use Rattle.reg_handles.specs.Internal.HandleRows.{handles_of, IsTable};
 
     ghost view = { λ h. record { handles = handles_of h.keys.slots (ordered h.rows.by_number.entries) } };
 

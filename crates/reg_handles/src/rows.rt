@@ -4,7 +4,7 @@ ghost use Rattle.std.specs.Ordering.{nat_cmp};
 ghost use Rattle.std.specs.BTreeMap.{is_at};
 ghost use Rattle.std.specs.HashMap.{spare};
 ghost use Rattle.std.specs.Map.{lookup, remove_entry};
-ghost use Rattle.reg_handles.specs.Ordered.{ordered};
+ghost use Rattle.reg_handles.specs.Internal.OrderedRows.{ordered};
 
 use std::alloc::{AllocError, Global};
 use std::collections::HashMap;

@@ -1,4 +1,3 @@
-pub mod Opened
-pub mod Swapping
-pub mod Children
-pub mod Rows
+pub mod CellFrame
+pub mod ChildrenOfPath
+pub mod RowsOfTrees

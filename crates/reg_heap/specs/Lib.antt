@@ -1,8 +1,5 @@
-pub mod Words
+pub mod ByteWords
 pub mod Paths
 pub mod Members
-pub mod Heaps
-pub mod Kinds
-pub mod Readings
-pub mod Forests
+pub mod Internal
 pub mod Edits

@@ -1,2 +1,2 @@
 pub mod Subkeys
-pub mod Leaves
+pub mod Internal

@@ -7,13 +7,13 @@ use Rattle.std.specs.Ordering.{nat_cmp}
 use Rattle.std.specs.declared.cmp.Ordering.TheVariants.{Less}
 use Rattle.std.specs.Cmp.Lexicographic.{slice_cmp}
 use Rattle.reg_names.specs.Names.{folded, hash}
-use Rattle.reg_heap.specs.Heaps.{Heap, Swaps}
-use Rattle.reg_heap.specs.Kinds.{times}
+use Rattle.reg_heap.specs.Internal.Heaps.{Heap, Swaps}
+use Rattle.reg_heap.specs.Internal.Kinds.{times}
 use Rattle.reg_records.specs.declared.lists.ListForm.TheVariants.{IndexRoot, IndexLeaf, FastLeaf, HashLeaf}
-use Rattle.reg_records.specs.Cells.{held}
-use Rattle.reg_records.specs.Keys.{KeyRecord, key_at}
-use Rattle.reg_records.specs.Lists.{SubkeysList, Entry, Form}
-use Rattle.reg_records.specs.Nodes.{list_at}
+use Rattle.reg_records.specs.RecordCells.{held}
+use Rattle.reg_records.specs.KeyNodes.{KeyRecord, key_at}
+use Rattle.reg_records.specs.SubkeyLists.{SubkeysList, Entry, Form}
+use Rattle.reg_shape.specs.Nodes.{list_at}
 
 -- the entries of a hash leaf of so many; None of another form or number
 abbrev pub hashed : ℕ → Form → List Entry → Option (List Entry)

@@ -3,10 +3,10 @@
 ghost use Rattle.std.specs.Prelude.{◌≡◌, ◌+◌, ◌<◌, ◌≤◌, ◌++◌, ◌∷◌, [], List, Some, IsSome, Err, length};
 ghost use Rattle.reg_names.specs.Names.{folded, hash};
 ghost use Rattle.reg_arena.specs.Cells.{cell_at};
-ghost use Rattle.reg_records.specs.Keys.{key_at};
-ghost use Rattle.reg_records.specs.Lists.{Entry};
+ghost use Rattle.reg_records.specs.KeyNodes.{key_at};
+ghost use Rattle.reg_records.specs.SubkeyLists.{Entry};
 ghost use Rattle.reg_index.specs.Subkeys.{AreSubkeys, IsPlace, IsReady, Moves, entry_for, insert_size, name_at, names_in, own, taken, with_one};
-ghost use Rattle.reg_index.specs.Leaves.{HasGap};
+ghost use Rattle.reg_index.specs.Internal.HashLeaves.{HasGap};
 
 use crate::SubkeysIndex;
 use crate::leaf::{fill, move_open, open_within};

@@ -1,14 +1,14 @@
 //! A hash leaf in its cell: entries moved, an entry put, the head written.
 
 ghost use Rattle.std.specs.Prelude.{◌≡◌, ◌≢◌, ◌+◌, ◌*◌, ◌≤◌, ℕ, ◌∷◌, [], List, length};
-ghost use Rattle.reg_heap.specs.Heaps.{Writes, Swaps};
-ghost use Rattle.reg_heap.specs.Kinds.{times};
+ghost use Rattle.reg_heap.specs.Internal.Heaps.{Writes, Swaps};
+ghost use Rattle.reg_heap.specs.Internal.Kinds.{times};
 ghost use Rattle.reg_arena.specs.Cells.{cell_at};
 ghost use Rattle.reg_records.specs.declared.lists.ListForm.TheVariants.{HashLeaf};
-ghost use Rattle.reg_records.specs.Cells.{HasRoom, WritesPart, held};
-ghost use Rattle.reg_records.specs.Lists.{Entry, head_bytes};
+ghost use Rattle.reg_records.specs.RecordCells.{HasRoom, WritesPart, held};
+ghost use Rattle.reg_records.specs.SubkeyLists.{Entry, head_bytes};
 ghost use Rattle.reg_index.specs.Subkeys.{with_one, without};
-ghost use Rattle.reg_index.specs.Leaves.{IsLeaf, HasGap};
+ghost use Rattle.reg_index.specs.Internal.HashLeaves.{IsLeaf, HasGap};
 
 use reg_arena::Arena;
 use reg_records::{ListEntry, ListForm, ListHead, put_entry, put_head};

@@ -3,8 +3,8 @@
 ghost use Rattle.std.specs.Prelude.{◌≡◌, ◌<◌, ℕ, List, IsSome, get_or};
 ghost use Rattle.reg_names.specs.Names.{folded};
 ghost use Rattle.reg_arena.specs.Cells.{cell_at};
-ghost use Rattle.reg_records.specs.Keys.{key_at};
-ghost use Rattle.reg_records.specs.Lists.{Entry};
+ghost use Rattle.reg_records.specs.KeyNodes.{key_at};
+ghost use Rattle.reg_records.specs.SubkeyLists.{Entry};
 ghost use Rattle.reg_index.specs.Subkeys.{AreSubkeys, IsPlace, name_at, names_in};
 
 use crate::SubkeysIndex;

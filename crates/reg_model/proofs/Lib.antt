@@ -1,8 +1,8 @@
-pub mod OneMore
-pub mod Accepted
-pub mod Standing
-pub mod Journals
-pub mod Answering
+pub mod JournalGrowth
+pub mod AcceptedCalls
+pub mod HandleInvariant
+pub mod LegalJournals
+pub mod CallSteps
 pub mod RowsReplies
 pub mod RowsRefusals
 pub mod RowsKeys

@@ -109,7 +109,7 @@ fn first_length(path: &[u8]) -> usize
 }
 
 /// The first name of a path, and the path behind it; `None` where the path has no names.
-#[tactic(auto, using(crate::proofs::Firsts::within))]
+#[tactic(auto, using(crate::proofs::PathFirstName::within))]
 pub fn first_name(path: &[u8]) -> Option<(&[u8], &[u8])>
     requires { is_path path.now ≡ true }
     ensures { MatchOption result (path_of path.now ≡ []) (λ p. IsFirst path.now p.0.now p.1.now) }

@@ -1,7 +1,7 @@
 //! Records written into cells.
 ghost use Rattle.std.specs.Prelude.{◌+◌, ◌<◌, ◌^◌, ◌++◌, length};
 ghost use Rattle.reg_arena.specs.Cells.{cell_at};
-ghost use Rattle.reg_records.specs.Cells.{HasRoom, WritesPart, WritesRecord};
+ghost use Rattle.reg_records.specs.RecordCells.{HasRoom, WritesPart, WritesRecord};
 
 use reg_arena::Arena;
 

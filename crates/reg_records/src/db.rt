@@ -4,8 +4,8 @@
 
 ghost use Rattle.std.specs.Prelude.{◌≡◌, ◌^◌, ◌<◌, Some, MatchResult};
 ghost use Rattle.reg_arena.specs.Cells.{cell_at};
-ghost use Rattle.reg_records.specs.Cells.{held, HasRoom, WritesRecord};
-ghost use Rattle.reg_records.specs.Pieces.{db_in, db_of, db_bytes};
+ghost use Rattle.reg_records.specs.RecordCells.{held, HasRoom, WritesRecord};
+ghost use Rattle.reg_records.specs.BigData.{db_in, db_of, db_bytes};
 
 use crate::cells::write_record;
 use crate::{RecordFault, half_at, half_bytes, is_signed, word_at, word_bytes};
@@ -26,7 +26,7 @@ pub struct BigFields {
 /// Reads a big data record from the start of what a cell holds.
 ///
 /// `Short` is for less than 8 bytes, and `Signature` where they don't begin with `db`.
-#[tactic(auto, unfolding(crate::specs::Pieces::db_in))]
+#[tactic(auto, unfolding(crate::specs::BigData::db_in))]
 pub fn read_db(content: &[u8]) -> Result<BigFields, RecordFault>
     ensures { MatchResult result (λ read. db_in content.now ≡ Ok (record { count = read.count; list = read.list })) (λ fault. db_in content.now ≡ Err fault) }
 {
@@ -43,7 +43,7 @@ pub fn read_db(content: &[u8]) -> Result<BigFields, RecordFault>
 }
 
 /// The record as it is written.
-#[tactic(auto, unfolding(crate::specs::Pieces::db_bytes))]
+#[tactic(auto, unfolding(crate::specs::BigData::db_bytes))]
 fn head(fields: &BigFields) -> [u8; HEAD]
     ensures bytes { result ≡ db_bytes fields.now.count fields.now.list }
     ensures count { fields.now.count < 2 ^ 16 }

@@ -8,7 +8,7 @@
 
 ghost use Rattle.std.specs.Prelude.{◌≡◌, ◌+◌, ◌^◌, ◌<◌, ◌≤◌, length};
 ghost use Rattle.byteorder.specs.Endian.{little_bytes};
-ghost use Rattle.reg_heap.specs.Words.{half, word, long};
+ghost use Rattle.reg_heap.specs.ByteWords.{half, word, long};
 ghost use Rattle.reg_records.specs.Letters.{is_signed as is_signed_of};
 
 use byteorder::{ByteOrder, LittleEndian};
@@ -16,7 +16,6 @@ use thiserror::Error;
 
 mod cells;
 mod db;
-pub mod laws;
 mod lists;
 mod nk;
 mod rows;
@@ -61,7 +60,7 @@ fn is_signed(content: &[u8], first: u8, second: u8) -> bool
 }
 
 /// The 16-bit number at a place.
-#[tactic(auto, unfolding(reg_heap::specs::Words::half))]
+#[tactic(auto, unfolding(reg_heap::specs::ByteWords::half))]
 fn half_at(content: &[u8], at: usize) -> u16
     requires { at + 2 ≤ length content.now }
     ensures { result ≡ half content.now at }
@@ -70,7 +69,7 @@ fn half_at(content: &[u8], at: usize) -> u16
 }
 
 /// The 32-bit number at a place.
-#[tactic(auto, unfolding(reg_heap::specs::Words::word))]
+#[tactic(auto, unfolding(reg_heap::specs::ByteWords::word))]
 fn word_at(content: &[u8], at: usize) -> u32
     requires { at + 4 ≤ length content.now }
     ensures { result ≡ word content.now at }
@@ -79,7 +78,7 @@ fn word_at(content: &[u8], at: usize) -> u32
 }
 
 /// The 64-bit number at a place.
-#[tactic(auto, unfolding(reg_heap::specs::Words::long))]
+#[tactic(auto, unfolding(reg_heap::specs::ByteWords::long))]
 fn long_at(content: &[u8], at: usize) -> u64
     requires { at + 8 ≤ length content.now }
     ensures { result ≡ long content.now at }

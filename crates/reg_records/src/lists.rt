@@ -5,8 +5,8 @@
 ghost use Rattle.std.specs.Prelude.{◌≡◌, ℕ, ◌+◌, ◌*◌, ◌<◌, ◌≤◌, ◌^◌, ◌++◌, length, MatchResult, IfOk, slice_get, Some, None};
 ghost use Rattle.byteorder.specs.Endian.{little_bytes};
 ghost use Rattle.reg_arena.specs.Cells.{cell_at};
-ghost use Rattle.reg_records.specs.Cells.{held, HasRoom, WritesPart, WritesRecord};
-ghost use Rattle.reg_records.specs.Lists.{form_of, list_of, list_fault, letters_of, entry_size, entries_as, entry_bytes, head_bytes, list_bytes, as_read};
+ghost use Rattle.reg_records.specs.RecordCells.{held, HasRoom, WritesPart, WritesRecord};
+ghost use Rattle.reg_records.specs.SubkeyLists.{form_of, list_of, list_fault, letters_of, entry_size, entries_as, entry_bytes, head_bytes, list_bytes, as_read};
 
 use crate::cells::write_part;
 use crate::{RecordFault, half_at, half_bytes, is_signed, word_at, word_bytes};

@@ -5,8 +5,8 @@
 ghost use Rattle.std.specs.Prelude.{◌≡◌, ◌+◌, ◌<◌, ◌≤◌, ◌^◌, ◌++◌, length, IsSome, MatchResult, IsTrue};
 ghost use Rattle.byteorder.specs.Endian.{little_bytes};
 ghost use Rattle.reg_arena.specs.Cells.{cell_at};
-ghost use Rattle.reg_records.specs.Cells.{held, HasRoom, WritesRecord, WritesPart, Rereads};
-ghost use Rattle.reg_records.specs.Keys.{FitKey, is_in_profile, nk_of, nk_fields_of, nk_head, nk_bytes, key_at, IsPlainKey};
+ghost use Rattle.reg_records.specs.RecordCells.{held, HasRoom, WritesRecord, WritesPart, Rereads};
+ghost use Rattle.reg_records.specs.KeyNodes.{FitKey, is_in_profile, nk_of, nk_fields_of, nk_head, nk_bytes, key_at, IsPlainKey};
 
 use crate::cells::{write_part, write_record};
 use crate::{
@@ -91,7 +91,7 @@ fn fields_at(content: &[u8]) -> KeyFields
 ///
 /// `Short` is for less than 76 bytes, `Signature` where they don't begin with `nk`, `Length` where
 /// the name would pass the end, and `NotInProfile` where the flags have 0x40.
-#[tactic(auto, unfolding(crate::specs::Keys::nk_of))]
+#[tactic(auto, unfolding(crate::specs::KeyNodes::nk_of))]
 pub fn read_nk(content: &[u8]) -> Result<KeyNode<'_>, RecordFault>
     ensures { MatchResult result (λ read. nk_of content.now ≡ Ok (record { fields = read.fields; name = read.name.now })) (λ fault. nk_of content.now ≡ Err fault) }
 {

@@ -5,15 +5,15 @@
 ghost use Rattle.std.specs.Prelude.{◌≡◌, ◌≢◌, ◌+◌, ◌*◌, ◌^◌, ◌<◌, ◌≤◌, ℕ, length};
 ghost use Rattle.byteorder.specs.Endian.{little_bytes};
 ghost use Rattle.reg_arena.specs.Cells.{cell_at};
-ghost use Rattle.reg_records.specs.Cells.{HasRoom, WritesPart, held};
-ghost use Rattle.reg_records.specs.Rows.{offset_in};
+ghost use Rattle.reg_records.specs.RecordCells.{HasRoom, WritesPart, held};
+ghost use Rattle.reg_records.specs.OffsetRows.{offset_in};
 
 use crate::cells::write_part;
 use crate::{word_at, word_bytes};
 use reg_arena::Arena;
 
 /// The offset at an index of a row, counted from 0.
-#[tactic(auto, unfolding(crate::specs::Rows::offset_in))]
+#[tactic(auto, unfolding(crate::specs::OffsetRows::offset_in))]
 pub fn offset_at(content: &[u8], index: u32) -> u32
     requires { 4 * index + 4 ≤ length content.now }
     ensures { result ≡ offset_in content.now index }

@@ -5,8 +5,8 @@
 ghost use Rattle.std.specs.Prelude.{◌≡◌, ◌+◌, ◌<◌, ◌^◌, length, MatchResult, IsSome};
 ghost use Rattle.byteorder.specs.Endian.{little_bytes};
 ghost use Rattle.reg_arena.specs.Cells.{cell_at};
-ghost use Rattle.reg_records.specs.Cells.{held, HasRoom, WritesRecord, WritesPart, Rereads};
-ghost use Rattle.reg_records.specs.Securities.{FitSecurity, sk_of, sk_head, sk_bytes, security_at, IsPlainSecurity};
+ghost use Rattle.reg_records.specs.RecordCells.{held, HasRoom, WritesRecord, WritesPart, Rereads};
+ghost use Rattle.reg_records.specs.KeySecurities.{FitSecurity, sk_of, sk_head, sk_bytes, security_at, IsPlainSecurity};
 
 use crate::cells::{write_part, write_record};
 use crate::{RecordFault, is_signed, word_at, word_bytes};
@@ -39,7 +39,7 @@ pub struct SecurityRecord<'a> {
 ///
 /// `Short` is for less than 20 bytes, `Signature` where they don't begin with `sk`, and `Length`
 /// where the descriptor would pass the end.
-#[tactic(auto, unfolding(crate::specs::Securities::sk_of))]
+#[tactic(auto, unfolding(crate::specs::KeySecurities::sk_of))]
 pub fn read_sk(content: &[u8]) -> Result<SecurityRecord<'_>, RecordFault>
     ensures { MatchResult result (λ read. sk_of content.now ≡ Ok (record { fields = read.fields; descriptor = read.descriptor.now })) (λ fault. sk_of content.now ≡ Err fault) }
 {

@@ -5,8 +5,8 @@
 ghost use Rattle.std.specs.Prelude.{◌≡◌, ◌+◌, ◌<◌, ◌^◌, ◌++◌, length, IsSome, MatchResult};
 ghost use Rattle.byteorder.specs.Endian.{little_bytes};
 ghost use Rattle.reg_arena.specs.Cells.{cell_at};
-ghost use Rattle.reg_records.specs.Cells.{held, HasRoom, WritesRecord, WritesPart, Rereads};
-ghost use Rattle.reg_records.specs.Values.{FitValue, vk_of, vk_head, vk_bytes, value_record_at, IsPlainValue};
+ghost use Rattle.reg_records.specs.RecordCells.{held, HasRoom, WritesRecord, WritesPart, Rereads};
+ghost use Rattle.reg_records.specs.KeyValues.{FitValue, vk_of, vk_head, vk_bytes, value_record_at, IsPlainValue};
 
 use crate::cells::{write_part, write_record};
 use crate::{RecordFault, half_at, half_bytes, is_signed, word_at, word_bytes};
@@ -41,7 +41,7 @@ pub struct ValueRecord<'a> {
 ///
 /// `Short` is for less than 20 bytes, `Signature` where they don't begin with `vk`, and `Length`
 /// where the name would pass the end.
-#[tactic(auto, unfolding(crate::specs::Values::vk_of))]
+#[tactic(auto, unfolding(crate::specs::KeyValues::vk_of))]
 pub fn read_vk(content: &[u8]) -> Result<ValueRecord<'_>, RecordFault>
     ensures { MatchResult result (λ read. vk_of content.now ≡ Ok (record { fields = read.fields; name = read.name.now })) (λ fault. vk_of content.now ≡ Err fault) }
 {

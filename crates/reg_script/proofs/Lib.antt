@@ -1,14 +1,14 @@
-pub mod Appending
-pub mod Numbers
-pub mod Names
-pub mod Escapes
-pub mod Spaces
-pub mod Readings
-pub mod Meanings
-pub mod Errors
-pub mod Progress
-pub mod Halting
-pub mod Closing
+pub mod AppendedBytes
+pub mod NumberWords
+pub mod EscapedNames
+pub mod EscapedBytes
+pub mod LineSpaces
+pub mod WordReadingLemmas
+pub mod LineMeaningLemmas
+pub mod FailedCalls
+pub mod ProgressLemmas
+pub mod ScriptHalts
+pub mod ScriptEnds
 pub mod OneText
 mod RowsOfLines
 mod RowsOfScripts

@@ -16,9 +16,9 @@ use Rattle.reg_model.specs.declared.step.Outcome.{Outcome}
 use Rattle.reg_model.specs.declared.step.Outcome.TheVariants.{Changed, Answered}
 use Rattle.reg_calls.specs.Views.{View, state, entry_of, IsApplied, IsTold, is_told}
 use Rattle.reg_calls.specs.Runs.{IsStep}
-use Rattle.reg_script.specs.Words.{lines_of}
-use Rattle.reg_script.specs.Meanings.{Meaning, nothing, at_moment, as_session, on_hive, asks, bad, meaning_of}
-use Rattle.reg_script.specs.Texts.{outcome_text}
+use Rattle.reg_script.specs.LineWords.{lines_of}
+use Rattle.reg_script.specs.LineMeanings.{Meaning, nothing, at_moment, as_session, on_hive, asks, bad, meaning_of}
+use Rattle.reg_script.specs.ReplyTexts.{outcome_text}
 use Rattle.reg_script.specs.Lines.{Stand, IsSaid, AreSaid}
 use Rattle.reg_script.specs.Ample.{IsDue, IsAmple, AreAmple, HasOneText}
 

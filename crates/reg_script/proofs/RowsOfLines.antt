@@ -7,9 +7,9 @@ use Rattle.reg_model.specs.declared.call.Call.TheVariants.{Change, Query}
 use Rattle.reg_model.specs.declared.call.Change.TheVariants.{OpenRoot, OpenKey, CreateKey, SetValue, DeleteValue, DeleteKey, Close}
 use Rattle.reg_model.specs.declared.call.Query.TheVariants.{QueryValue, EnumKey, EnumValue, QueryInfo}
 use Rattle.reg_model.specs.declared.answer.AnswerBody.TheVariants.{Refused, Short, Value, Key, Member, Info}
-use Rattle.reg_script.specs.Words.{lines_of, words_of, number_of, unescaped, after_mark, name_of, data_of}
-use Rattle.reg_script.specs.Meanings.{first_of, ending, room_of, call_verb_of, verb_of, by_verb, meaning_of, nothing, at_moment, as_session, on_hive, asks, bad}
-use Rattle.reg_script.specs.Texts.{changed_text, answer_text, byte_text}
+use Rattle.reg_script.specs.LineWords.{lines_of, words_of, number_of, unescaped, after_mark, name_of, data_of}
+use Rattle.reg_script.specs.LineMeanings.{first_of, ending, room_of, call_verb_of, verb_of, by_verb, meaning_of, nothing, at_moment, as_session, on_hive, asks, bad}
+use Rattle.reg_script.specs.ReplyTexts.{changed_text, answer_text, byte_text}
 
 -- what computes a line's meaning
 unfoldable pub on_lines : Unit {0}

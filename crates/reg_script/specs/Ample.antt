@@ -8,8 +8,8 @@ use Rattle.reg_model.specs.declared.step.Step.{Step}
 use Rattle.reg_model.specs.declared.step.Outcome.{Outcome}
 use Rattle.reg_model.specs.declared.step.Outcome.TheVariants.{Changed, Answered}
 use Rattle.reg_calls.specs.Views.{View, state}
-use Rattle.reg_script.specs.Words.{lines_of}
-use Rattle.reg_script.specs.Meanings.{Meaning, nothing, at_moment, as_session, on_hive, asks, bad, meaning_of}
+use Rattle.reg_script.specs.LineWords.{lines_of}
+use Rattle.reg_script.specs.LineMeanings.{Meaning, nothing, at_moment, as_session, on_hive, asks, bad, meaning_of}
 use Rattle.reg_script.specs.Lines.{Stand, IsSaid, AreSaid, Lines}
 
 -- no 8 and no 1450 for space: what nothing refuses is accepted, or answered with its bytes

@@ -1,9 +1,7 @@
-pub mod Words
-pub mod Meanings
-pub mod Texts
+pub mod LineWords
+pub mod LineMeanings
+pub mod ReplyTexts
 pub mod Lines
-pub mod Outputs
+pub mod Internal
 pub mod Stops
-pub mod Readings
-pub mod Progress
 pub mod Ample

@@ -2,12 +2,12 @@
 use Rattle.std.specs.Prelude.{◌≡◌, ℕ, List, [], ◌∷◌, ◌++◌, codes, replicate}
 use Rattle.std.specs.FinMap.{insert, empty}
 use Rattle.reg_model.specs.declared.step.Outcome.{Outcome}
-use Rattle.reg_tree.specs.Keys.{made_root}
+use Rattle.reg_tree.specs.TreeKeys.{made_root}
 use Rattle.reg_calls.specs.Views.{View}
 use Rattle.reg_calls.specs.Runs.{IsStep}
-use Rattle.reg_script.specs.Words.{lines_of}
-use Rattle.reg_script.specs.Meanings.{Meaning, nothing, at_moment, as_session, on_hive, asks, bad, meaning_of}
-use Rattle.reg_script.specs.Texts.{outcome_text}
+use Rattle.reg_script.specs.LineWords.{lines_of}
+use Rattle.reg_script.specs.LineMeanings.{Meaning, nothing, at_moment, as_session, on_hive, asks, bad, meaning_of}
+use Rattle.reg_script.specs.ReplyTexts.{outcome_text}
 
 -- where a script stands between two lines: the hive, and the settings
 pub record Stand : Type 0 where

@@ -5,10 +5,10 @@ use Rattle.std.specs.Io.KnownBytes.{Appends, Consumes}
 use Rattle.reg_calls.specs.Views.{View}
 use Rattle.reg_script.specs.declared.engine.ScriptFault.{ScriptFault}
 use Rattle.reg_script.specs.declared.engine.ScriptFault.TheVariants.{Read, Write, TooLong, Memory}
-use Rattle.reg_script.specs.Words.{lines_of}
-use Rattle.reg_script.specs.Meanings.{Meaning, meaning_of}
+use Rattle.reg_script.specs.LineWords.{lines_of}
+use Rattle.reg_script.specs.LineMeanings.{Meaning, meaning_of}
 use Rattle.reg_script.specs.Lines.{Stand, IsSaid, AreSaid, IsFresh}
-use Rattle.reg_script.specs.Outputs.{counted}
+use Rattle.reg_script.specs.Internal.Outputs.{counted}
 
 -- the number of a fault
 abbrev pub fault_number : ScriptFault → ℕ

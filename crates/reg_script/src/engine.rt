@@ -2,13 +2,13 @@
 
 ghost use Rattle.std.specs.Prelude.{◌≡◌, ◌<◌, ◌≤◌, ℕ, List, ◌∷◌, [], IfOk, OnOk, length, string_bytes, ◌+◌, OnErr, IfErr};
 ghost use Rattle.std.specs.Io.KnownBytes.{IsAtEnd, Appends, Consumes};
-ghost use Rattle.reg_calls.specs.Hives.{view_of};
-ghost use Rattle.reg_script.specs.Words.{lines_of};
-ghost use Rattle.reg_script.specs.Meanings.{asks, meaning_of};
-ghost use Rattle.reg_script.specs.Readings.{said};
+ghost use Rattle.reg_calls.specs.HiveView.{view_of};
+ghost use Rattle.reg_script.specs.LineWords.{lines_of};
+ghost use Rattle.reg_script.specs.LineMeanings.{asks, meaning_of};
+ghost use Rattle.reg_script.specs.Internal.WordReadings.{said};
 ghost use Rattle.reg_script.specs.Lines.{IsSaid, AreSaid, Lines};
 ghost use Rattle.reg_script.specs.Stops.{fault_number, most_lines, HasNoFeed, AreWithin, IsOneMore, Stops};
-ghost use Rattle.reg_script.specs.Progress.{IsSteady, Adds, Loses, Takes, Halts, Ends, place_of, stand_of};
+ghost use Rattle.reg_script.specs.Internal.Progress.{IsSteady, Adds, Loses, Takes, Halts, Ends, place_of, stand_of};
 
 use crate::line::{Line, Session, Setting};
 use crate::output::Output;

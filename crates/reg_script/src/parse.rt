@@ -1,7 +1,7 @@
 ghost use Rattle.std.specs.Prelude.{◌≡◌, ◌≢◌, ◌==◌, ◌∷◌, [], position, IfOk, MatchResult, option_copied};
-ghost use Rattle.reg_script.specs.Words.{words_of, number_of, name_of, data_of};
-ghost use Rattle.reg_script.specs.Meanings.{reading, first_of, small_number_of, room_of, verb_of, by_verb, meaning_of};
-ghost use Rattle.reg_script.specs.Readings.{words_left, Reads, Means, said};
+ghost use Rattle.reg_script.specs.LineWords.{words_of, number_of, name_of, data_of};
+ghost use Rattle.reg_script.specs.LineMeanings.{reading, first_of, small_number_of, room_of, verb_of, by_verb, meaning_of};
+ghost use Rattle.reg_script.specs.Internal.WordReadings.{words_left, Reads, Means, said};
 
 use crate::line::{Line, Session, Setting, Verb};
 use crate::words::{ParseFault, bytes, name, number, room, session, small_number, verb};
@@ -30,7 +30,7 @@ fn first_space(line: &[u8]) -> Option<usize>
 }
 
 /// The line up to its first space, and what follows the space, if there is one.
-#[tactic(auto, using(crate::proofs::Spaces::words_first, crate::proofs::Spaces::words_one))]
+#[tactic(auto, using(crate::proofs::LineSpaces::words_first, crate::proofs::LineSpaces::words_one))]
 fn split_word(line: &[u8]) -> (&[u8], Option<&[u8]>)
     ensures { words_of line.now ≡ result.0.now ∷ words_left (option_copied result.1) }
 {
@@ -48,7 +48,7 @@ struct Words<'a> {
 
 impl<'a> Model for Words<'a> {
     ghost use Rattle.std.specs.Prelude.{List, ℕ, option_copied};
-    ghost use Rattle.reg_script.specs.Readings.{words_left};
+    ghost use Rattle.reg_script.specs.Internal.WordReadings.{words_left};
 
     ghost Value = { List (List ℕ) };
 
@@ -68,49 +68,49 @@ impl<'a> Words<'a> {
         Ok(word)
     }
 
-    #[tactic(auto, using(crate::proofs::Readings::readings))]
+    #[tactic(auto, using(crate::proofs::WordReadingLemmas::readings))]
     fn verb(&mut self) -> Result<Verb, ParseFault>
         ensures { Reads verb_of self.old result self.new }
     {
         verb(self.next()?)
     }
 
-    #[tactic(auto, using(crate::proofs::Readings::readings))]
+    #[tactic(auto, using(crate::proofs::WordReadingLemmas::readings))]
     fn number(&mut self, limit: u64) -> Result<u64, ParseFault>
         ensures { Reads (number_of limit) self.old result self.new }
     {
         number(self.next()?, limit)
     }
 
-    #[tactic(auto, using(crate::proofs::Readings::readings))]
+    #[tactic(auto, using(crate::proofs::WordReadingLemmas::readings))]
     fn session(&mut self) -> Result<Session, ParseFault>
         ensures { MatchResult result (λ s. first_of (number_of 63) self.old ≡ Some (s.number, self.new)) (λ e. e ≡ ParseFault.Form → first_of (number_of 63) self.old ≡ None) }
     {
         session(self.next()?)
     }
 
-    #[tactic(auto, using(crate::proofs::Readings::readings))]
+    #[tactic(auto, using(crate::proofs::WordReadingLemmas::readings))]
     fn small_number(&mut self) -> Result<u32, ParseFault>
         ensures { Reads small_number_of self.old result self.new }
     {
         small_number(self.next()?)
     }
 
-    #[tactic(auto, using(crate::proofs::Readings::readings))]
+    #[tactic(auto, using(crate::proofs::WordReadingLemmas::readings))]
     fn name(&mut self, alloc: Global) -> Result<Bytes, ParseFault>
         ensures { Reads name_of self.old result self.new }
     {
         name(alloc, self.next()?)
     }
 
-    #[tactic(auto, using(crate::proofs::Readings::readings))]
+    #[tactic(auto, using(crate::proofs::WordReadingLemmas::readings))]
     fn bytes(&mut self, alloc: Global) -> Result<Bytes, ParseFault>
         ensures { Reads data_of self.old result self.new }
     {
         bytes(alloc, self.next()?)
     }
 
-    #[tactic(auto, using(crate::proofs::Readings::readings))]
+    #[tactic(auto, using(crate::proofs::WordReadingLemmas::readings))]
     fn room(&mut self) -> Result<Option<u32>, ParseFault>
         ensures { Reads room_of self.old result self.new }
     {
@@ -140,7 +140,7 @@ impl<'a> Words<'a> {
     }
 
     /// `at MOMENT`.
-    #[tactic(auto, unfolding(crate::specs::Meanings::by_verb))]
+    #[tactic(auto, unfolding(crate::specs::LineMeanings::by_verb))]
     fn at(&mut self) -> Result<Line, ParseFault>
         ensures { Means (by_verb Verb.At) self.old result self.new }
     {
@@ -149,7 +149,7 @@ impl<'a> Words<'a> {
     }
 
     /// `as SESSION`.
-    #[tactic(auto, unfolding(crate::specs::Meanings::by_verb))]
+    #[tactic(auto, unfolding(crate::specs::LineMeanings::by_verb))]
     fn as_session(&mut self) -> Result<Line, ParseFault>
         ensures { Means (by_verb Verb.As) self.old result self.new }
     {
@@ -158,7 +158,7 @@ impl<'a> Words<'a> {
     }
 
     /// `hive N`, where N is 0.
-    #[tactic(auto, unfolding(crate::specs::Meanings::by_verb))]
+    #[tactic(auto, unfolding(crate::specs::LineMeanings::by_verb))]
     fn hive(&mut self) -> Result<Line, ParseFault>
         ensures { Means (by_verb Verb.Hive) self.old result self.new }
     {
@@ -167,7 +167,7 @@ impl<'a> Words<'a> {
     }
 
     /// `root MASK`.
-    #[tactic(auto, unfolding(crate::specs::Meanings::by_verb))]
+    #[tactic(auto, unfolding(crate::specs::LineMeanings::by_verb))]
     fn root(&mut self) -> Result<Line, ParseFault>
         ensures { Means (by_verb Verb.Root) self.old result self.new }
     {
@@ -176,7 +176,7 @@ impl<'a> Words<'a> {
     }
 
     /// `open H PATH MASK`.
-    #[tactic(auto, unfolding(crate::specs::Meanings::by_verb))]
+    #[tactic(auto, unfolding(crate::specs::LineMeanings::by_verb))]
     fn open(&mut self, alloc: Global) -> Result<Line, ParseFault>
         ensures { Means (by_verb Verb.Open) self.old result self.new }
     {
@@ -187,7 +187,7 @@ impl<'a> Words<'a> {
     }
 
     /// `create H PATH MASK`.
-    #[tactic(auto, unfolding(crate::specs::Meanings::by_verb))]
+    #[tactic(auto, unfolding(crate::specs::LineMeanings::by_verb))]
     fn create(&mut self, alloc: Global) -> Result<Line, ParseFault>
         ensures { Means (by_verb Verb.Create) self.old result self.new }
     {
@@ -198,7 +198,7 @@ impl<'a> Words<'a> {
     }
 
     /// `set H NAME KIND DATA`.
-    #[tactic(auto, unfolding(crate::specs::Meanings::by_verb))]
+    #[tactic(auto, unfolding(crate::specs::LineMeanings::by_verb))]
     fn set(&mut self, alloc: Global) -> Result<Line, ParseFault>
         ensures { Means (by_verb Verb.Set) self.old result self.new }
     {
@@ -215,7 +215,7 @@ impl<'a> Words<'a> {
     }
 
     /// `delvalue H NAME`.
-    #[tactic(auto, unfolding(crate::specs::Meanings::by_verb))]
+    #[tactic(auto, unfolding(crate::specs::LineMeanings::by_verb))]
     fn delete_value(&mut self, alloc: Global) -> Result<Line, ParseFault>
         ensures { Means (by_verb Verb.DelValue) self.old result self.new }
     {
@@ -225,7 +225,7 @@ impl<'a> Words<'a> {
     }
 
     /// `delkey H PATH`.
-    #[tactic(auto, unfolding(crate::specs::Meanings::by_verb))]
+    #[tactic(auto, unfolding(crate::specs::LineMeanings::by_verb))]
     fn delete_key(&mut self, alloc: Global) -> Result<Line, ParseFault>
         ensures { Means (by_verb Verb.DelKey) self.old result self.new }
     {
@@ -235,7 +235,7 @@ impl<'a> Words<'a> {
     }
 
     /// `close H`.
-    #[tactic(auto, unfolding(crate::specs::Meanings::by_verb))]
+    #[tactic(auto, unfolding(crate::specs::LineMeanings::by_verb))]
     fn close(&mut self) -> Result<Line, ParseFault>
         ensures { Means (by_verb Verb.Close) self.old result self.new }
     {
@@ -244,7 +244,7 @@ impl<'a> Words<'a> {
     }
 
     /// `query H NAME ROOM`, with `-` for no room.
-    #[tactic(auto, unfolding(crate::specs::Meanings::by_verb))]
+    #[tactic(auto, unfolding(crate::specs::LineMeanings::by_verb))]
     fn query(&mut self, alloc: Global) -> Result<Line, ParseFault>
         ensures { Means (by_verb Verb.Query) self.old result self.new }
     {
@@ -255,7 +255,7 @@ impl<'a> Words<'a> {
     }
 
     /// `enumkey H INDEX ROOM`.
-    #[tactic(auto, unfolding(crate::specs::Meanings::by_verb))]
+    #[tactic(auto, unfolding(crate::specs::LineMeanings::by_verb))]
     fn enum_key(&mut self) -> Result<Line, ParseFault>
         ensures { Means (by_verb Verb.EnumKey) self.old result self.new }
     {
@@ -270,7 +270,7 @@ impl<'a> Words<'a> {
     }
 
     /// `enumvalue H INDEX NAMEROOM ROOM`, with `-` for no room.
-    #[tactic(auto, unfolding(crate::specs::Meanings::by_verb))]
+    #[tactic(auto, unfolding(crate::specs::LineMeanings::by_verb))]
     fn enum_value(&mut self) -> Result<Line, ParseFault>
         ensures { Means (by_verb Verb.EnumValue) self.old result self.new }
     {
@@ -287,7 +287,7 @@ impl<'a> Words<'a> {
     }
 
     /// `info H`.
-    #[tactic(auto, unfolding(crate::specs::Meanings::by_verb))]
+    #[tactic(auto, unfolding(crate::specs::LineMeanings::by_verb))]
     fn info(&mut self) -> Result<Line, ParseFault>
         ensures { Means (by_verb Verb.Info) self.old result self.new }
     {
@@ -296,7 +296,7 @@ impl<'a> Words<'a> {
     }
 
     /// No word may be left.
-    #[tactic(auto, using(crate::proofs::Spaces::words_some))]
+    #[tactic(auto, using(crate::proofs::LineSpaces::words_some))]
     fn end(&self) -> Result<(), ParseFault>
         ensures { MatchResult result (λ _. self.now ≡ []) (λ e. (e ≡ ParseFault.Form) × (self.now ≢ [])) }
     {
@@ -307,7 +307,7 @@ impl<'a> Words<'a> {
     }
 }
 
-#[tactic(auto, using(crate::proofs::Readings::ends, crate::proofs::Readings::ends_not))]
+#[tactic(auto, using(crate::proofs::WordReadingLemmas::ends, crate::proofs::WordReadingLemmas::ends_not))]
 fn parse_words(alloc: Global, line: &[u8]) -> Result<Line, ParseFault>
     ensures { MatchResult result
         (λ l. reading verb_of by_verb (words_of line.now) ≡ Some (said l))

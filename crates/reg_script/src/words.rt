@@ -3,8 +3,8 @@
 ghost use Rattle.std.specs.Prelude.{◌≡◌, ◌<◌, ◌≤◌, ◌∷◌, [], length, drop, option_map, option_copied, ok_or, IfSome, IfOk, IfErr, MatchOption, MatchResult};
 ghost use Rattle.hex.specs.Hex.{hex_digit_value};
 ghost use Rattle.reg_script.specs.declared.words.ParseFault.TheVariants.{Memory};
-ghost use Rattle.reg_script.specs.Words.{after_mark as after_mark_of, number_of, escaped_byte, unescaped, name_of, data_of};
-ghost use Rattle.reg_script.specs.Meanings.{small_number_of, room_of, call_verb_of, verb_of};
+ghost use Rattle.reg_script.specs.LineWords.{after_mark as after_mark_of, number_of, escaped_byte, unescaped, name_of, data_of};
+ghost use Rattle.reg_script.specs.LineMeanings.{small_number_of, room_of, call_verb_of, verb_of};
 
 use crate::line::{Session, Verb};
 use hex::FromHexError;
@@ -37,7 +37,7 @@ impl From<AllocError> for ParseFault {
 }
 
 /// The first word of a call.
-#[tactic(auto, unfolding(crate::specs::Meanings::call_verb_of))]
+#[tactic(auto, unfolding(crate::specs::LineMeanings::call_verb_of))]
 fn call_verb(word: &[u8]) -> Result<Verb, ParseFault>
     ensures { result ≡ ok_or (call_verb_of word.now) ParseFault.Form }
 {
@@ -78,7 +78,7 @@ fn call_verb(word: &[u8]) -> Result<Verb, ParseFault>
 }
 
 /// The first word of a setting or a call.
-#[tactic(auto, unfolding(crate::specs::Meanings::verb_of))]
+#[tactic(auto, unfolding(crate::specs::LineMeanings::verb_of))]
 pub fn verb(word: &[u8]) -> Result<Verb, ParseFault>
     ensures { result ≡ ok_or (verb_of word.now) ParseFault.Form }
 {
@@ -138,7 +138,7 @@ pub fn session(word: &[u8]) -> Result<Session, ParseFault>
 }
 
 /// `-` for no room, or a number of 32 bits.
-#[tactic(auto, unfolding(crate::specs::Meanings::room_of))]
+#[tactic(auto, unfolding(crate::specs::LineMeanings::room_of))]
 pub fn room(word: &[u8]) -> Result<Option<u32>, ParseFault>
     ensures { result ≡ ok_or (room_of word.now) ParseFault.Form }
 {
@@ -172,7 +172,7 @@ fn escaped(text: &[u8]) -> Option<(u8, &[u8])>
 }
 
 /// The next byte of an escaped text, and what follows: `%HH` stands for that byte, every other byte for itself.
-#[tactic(auto, using(crate::proofs::Names::escape_next, crate::proofs::Names::plain_next))]
+#[tactic(auto, using(crate::proofs::EscapedNames::escape_next, crate::proofs::EscapedNames::plain_next))]
 fn next_byte(text: &[u8]) -> Option<(u8, &[u8])>
     ensures { MatchOption result (text.now ≡ []) (λ p. (unescaped text.now ≡ p.0 ∷ unescaped p.1.now) × (length p.1.now < length text.now)) }
 {
@@ -186,7 +186,7 @@ fn next_byte(text: &[u8]) -> Option<(u8, &[u8])>
 }
 
 /// What follows a word's first byte, where that is the mark.
-#[tactic(auto, unfolding(crate::specs::Words::after_mark))]
+#[tactic(auto, unfolding(crate::specs::LineWords::after_mark))]
 fn after_mark(mark: u8, word: &[u8]) -> Option<&[u8]>
     ensures { option_copied result ≡ after_mark_of mark word.now }
 {
@@ -195,7 +195,7 @@ fn after_mark(mark: u8, word: &[u8]) -> Option<&[u8]>
 }
 
 /// `=` and then an escaped text.
-#[tactic(auto, using(crate::proofs::Names::name_more, crate::proofs::Names::name_ends), unfolding(crate::specs::Words::name_of))]
+#[tactic(auto, using(crate::proofs::EscapedNames::name_more, crate::proofs::EscapedNames::name_ends), unfolding(crate::specs::LineWords::name_of))]
 pub fn name(alloc: Global, word: &[u8]) -> Result<Bytes, ParseFault>
     ensures ok { IfOk result (λ n. name_of word.now ≡ Some n) }
     ensures err { IfErr result (λ e. e ≡ ParseFault.Form → name_of word.now ≡ None) }
@@ -213,7 +213,7 @@ pub fn name(alloc: Global, word: &[u8]) -> Result<Bytes, ParseFault>
 }
 
 /// `x` and then an even number of hexadecimal digits.
-#[tactic(auto, unfolding(crate::specs::Words::data_of))]
+#[tactic(auto, unfolding(crate::specs::LineWords::data_of))]
 pub fn bytes(alloc: Global, word: &[u8]) -> Result<Bytes, ParseFault>
     ensures ok { IfOk result (λ b. data_of word.now ≡ Some b) }
     ensures err { IfErr result (λ e. e ≡ ParseFault.Form → data_of word.now ≡ None) }

@@ -1,7 +1,7 @@
 //! Keys and values through the public calls, with ample memory. A helper checks its path and goes from the root anew. Whoever
 //! owns a tree does nothing but hand it on: a function is the longer to check the more it does while it owns one.
 ghost use Rattle.std.specs.Prelude.{IfSome, ◌≤◌, ◌<◌, length};
-ghost use Rattle.reg_tree.specs.Keys.{IsThere};
+ghost use Rattle.reg_tree.specs.TreeKeys.{IsThere};
 
 use crate::support::{assert_same, assert_told, deep};
 use reg_names::{check_path, check_value_name};

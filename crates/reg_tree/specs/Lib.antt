@@ -1,9 +1,3 @@
-pub mod Keys
-pub mod Fresh
-pub mod Holds
-pub mod Changes
-pub mod Faults
-pub mod Walks
-pub mod Deletes
-pub mod Growing
-pub mod Creates
+pub mod TreeKeys
+pub mod Internal
+pub mod TreeInvariant

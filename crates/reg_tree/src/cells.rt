@@ -2,7 +2,7 @@ ghost use Rattle.std.specs.Prelude.{◌≡◌, ◌≢◌, ◌+◌, ◌^◌, Err,
 ghost use Rattle.reg_arena.specs.Carves.{NoFit};
 ghost use Rattle.reg_arena.specs.NewBin.{PassesLimit};
 ghost use Rattle.reg_arena.specs.NewCells.{total_of};
-ghost use Rattle.reg_tree.specs.Fresh.{AreCarved};
+ghost use Rattle.reg_tree.specs.Internal.FreshCells.{AreCarved};
 
 use reg_arena::{Arena, ArenaFault};
 use std::alloc::Global;

@@ -27,7 +27,7 @@ pub enum TreeFault {
 
 impl From<ArenaFault> for TreeFault {
     ghost use Rattle.std.specs.Prelude.{◌≡◌};
-    ghost use Rattle.reg_tree.specs.Faults.{of_arena};
+    ghost use Rattle.reg_tree.specs.Internal.TreeFaults.{of_arena};
 
     ghost from_gives = { λ fault e. e ≡ of_arena fault };
 

@@ -3,9 +3,9 @@ ghost use Rattle.std.specs.Prelude.{◌≡◌, ◌≤◌, true};
 ghost use Rattle.reg_names.specs.Names.{folded, is_path};
 ghost use Rattle.reg_heap.specs.Edits.{folded_path};
 ghost use Rattle.reg_arena.specs.Cells.{cell_at};
-ghost use Rattle.reg_records.specs.Places.{place_at, subkey_named};
-ghost use Rattle.reg_tree.specs.Holds.{IsHere};
-ghost use Rattle.reg_tree.specs.Walks.{IsWalked, Reaches};
+ghost use Rattle.reg_shape.specs.Internal.PathLookup.{place_at, subkey_named};
+ghost use Rattle.reg_tree.specs.TreeInvariant.{IsHere};
+ghost use Rattle.reg_tree.specs.Internal.PathWalks.{IsWalked, Reaches};
 
 use crate::Node;
 use crate::key::subkeys_list;

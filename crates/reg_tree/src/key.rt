@@ -1,8 +1,8 @@
 //! Key nodes, as the tree writes them.
 ghost use Rattle.std.specs.Prelude.{◌≡◌, ◌≤◌, ◌<◌, ◌^◌, IsSome, Some};
 ghost use Rattle.reg_arena.specs.Cells.{cell_at};
-ghost use Rattle.reg_records.specs.Keys.{KeyRecord, key_at};
-ghost use Rattle.reg_tree.specs.Changes.{HasList, HasSubkeysList, Notes, noted, noted_subkeys, raised, made_fields};
+ghost use Rattle.reg_records.specs.KeyNodes.{KeyRecord, key_at};
+ghost use Rattle.reg_tree.specs.Internal.KeyNodeChanges.{HasList, HasSubkeysList, Notes, noted, noted_subkeys, raised, made_fields};
 
 use reg_arena::Arena;
 use reg_index::SubkeysIndex;

@@ -3,9 +3,9 @@ ghost use Rattle.std.specs.Prelude.{◌≡◌, ◌≤◌, ◌+◌, Some, length}
 ghost use Rattle.std.specs.FinMap.{get};
 ghost use Rattle.reg_heap.specs.Paths.{Rec, children_of};
 ghost use Rattle.reg_arena.specs.Cells.{cell_at};
-ghost use Rattle.reg_tree.specs.Keys.{tree_in};
-ghost use Rattle.reg_tree.specs.Holds.{IsHere};
-ghost use Rattle.reg_tree.specs.Walks.{IsSubkey};
+ghost use Rattle.reg_tree.specs.TreeKeys.{tree_in};
+ghost use Rattle.reg_tree.specs.TreeInvariant.{IsHere};
+ghost use Rattle.reg_tree.specs.Internal.PathWalks.{IsSubkey};
 
 use crate::Node;
 use crate::key::{fields, subkeys_list};

@@ -1,8 +1,8 @@
 //! The hive's key security, and how many keys use it.
 ghost use Rattle.std.specs.Prelude.{◌≡◌, ◌≤◌, ◌<◌, ◌+◌, ◌-◌, IsSome, Some, length};
 ghost use Rattle.reg_arena.specs.Cells.{cell_at};
-ghost use Rattle.reg_records.specs.Securities.{KeySecurityRecord, security_at};
-ghost use Rattle.reg_tree.specs.Changes.{Recounts};
+ghost use Rattle.reg_records.specs.KeySecurities.{KeySecurityRecord, security_at};
+ghost use Rattle.reg_tree.specs.Internal.KeyNodeChanges.{Recounts};
 
 use reg_arena::Arena;
 use reg_records::{SecurityFields, read_sk, set_security_count};

@@ -4,7 +4,7 @@ ghost use Rattle.reg_names.specs.Names.{is_key_name, is_value_name, is_path, pat
 ghost use Rattle.reg_heap.specs.Paths.{Path, path_cmp, Rec, Member, children_of};
 ghost use Rattle.reg_heap.specs.Members.{value_named};
 ghost use Rattle.reg_heap.specs.Edits.{edited, with_value, without_value, values_at, folded_path, with_keys, missing, are_too_many, without_key, IsKept};
-ghost use Rattle.reg_values.specs.Lists.{Tells};
+ghost use Rattle.reg_values.specs.ValueLists.{Tells};
 
 use crate::cells::{carve_two, cell_size};
 use crate::key::new_root;
@@ -24,8 +24,8 @@ pub struct Tree {
 }
 
 impl Model for Tree {
-    ghost use Rattle.reg_tree.specs.Keys.{Keys, coded_keys, tree_in};
-    ghost use Rattle.reg_tree.specs.Holds.{Holds};
+    ghost use Rattle.reg_tree.specs.TreeKeys.{Keys, coded_keys, tree_in};
+    ghost use Rattle.reg_tree.specs.TreeInvariant.{Holds};
 
     ghost Value = { Keys };
 
@@ -37,8 +37,8 @@ impl Model for Tree {
 }
 
 impl Tree {
-    ghost use Rattle.reg_tree.specs.Keys.{made_root, IsWholeTree, IsAt, IsThere, IsResolved, KeepsNodes};
-    ghost use Rattle.reg_tree.specs.Changes.{IsFound};
+    ghost use Rattle.reg_tree.specs.TreeKeys.{made_root, IsWholeTree, IsAt, IsThere, IsResolved, KeepsNodes};
+    ghost use Rattle.reg_tree.specs.Internal.KeyNodeChanges.{IsFound};
 
     /// A tree of one root: the name as given, no delete, no class, the descriptor, the moment (100 ns ticks since 1601), no
     /// values.

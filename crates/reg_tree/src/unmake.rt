@@ -5,16 +5,16 @@
 ghost use Rattle.std.specs.Prelude.{◌≡◌, ◌≢◌, ◌⊎◌, ◌↔◌, ◌==◌, not, true, ℕ, List, [], length, Some, Err, IsSome, OnOk, OnErr, IfErr};
 ghost use Rattle.reg_heap.specs.Paths.{children_of};
 ghost use Rattle.reg_heap.specs.Edits.{IsKept};
-ghost use Rattle.reg_heap.specs.Heaps.{Swaps};
-ghost use Rattle.reg_heap.specs.Kinds.{owned};
+ghost use Rattle.reg_heap.specs.Internal.Heaps.{Swaps};
+ghost use Rattle.reg_heap.specs.Internal.Kinds.{owned};
 ghost use Rattle.reg_arena.specs.Cells.{cell_at};
-ghost use Rattle.reg_records.specs.Keys.{KeyRecord, key_at};
-ghost use Rattle.reg_records.specs.Lists.{Entry};
-ghost use Rattle.reg_records.specs.Nodes.{Node as KeyWithCells, look};
-ghost use Rattle.reg_values.specs.Parts.{Owns, GivesUpRead};
-ghost use Rattle.reg_tree.specs.Keys.{tree_in};
-ghost use Rattle.reg_tree.specs.Holds.{IsHere};
-ghost use Rattle.reg_tree.specs.Deletes.{IsListed, IsUnlinked, IsSole, IsDeleted, class_at};
+ghost use Rattle.reg_records.specs.KeyNodes.{KeyRecord, key_at};
+ghost use Rattle.reg_records.specs.SubkeyLists.{Entry};
+ghost use Rattle.reg_shape.specs.Nodes.{Node as KeyWithCells, look};
+ghost use Rattle.reg_values.specs.Internal.ValueListParts.{Owns, GivesUpRead};
+ghost use Rattle.reg_tree.specs.TreeKeys.{tree_in};
+ghost use Rattle.reg_tree.specs.TreeInvariant.{IsHere};
+ghost use Rattle.reg_tree.specs.Internal.KeyDeletion.{IsListed, IsUnlinked, IsSole, IsDeleted, class_at};
 
 use crate::TreeFault;
 use crate::key::{fields, note_subkeys, subkeys_list, values_list};

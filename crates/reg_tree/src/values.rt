@@ -5,10 +5,10 @@ ghost use Rattle.reg_heap.specs.Paths.{Member};
 ghost use Rattle.reg_heap.specs.Members.{value_named};
 ghost use Rattle.reg_heap.specs.Edits.{with_value, without_value, values_at};
 ghost use Rattle.reg_arena.specs.Cells.{cell_at};
-ghost use Rattle.reg_values.specs.Lists.{IsNamed, Tells};
-ghost use Rattle.reg_tree.specs.Keys.{tree_in};
-ghost use Rattle.reg_tree.specs.Holds.{IsHere, IsChanged};
-ghost use Rattle.reg_tree.specs.Changes.{HasList, IsFound};
+ghost use Rattle.reg_values.specs.ValueLists.{IsNamed, Tells};
+ghost use Rattle.reg_tree.specs.TreeKeys.{tree_in};
+ghost use Rattle.reg_tree.specs.TreeInvariant.{IsHere, IsChanged};
+ghost use Rattle.reg_tree.specs.Internal.KeyNodeChanges.{HasList, IsFound};
 
 use crate::key::{note_values, values_list};
 use crate::{TreeFault, ValueFound};

@@ -1,3 +1,3 @@
-pub mod Parts
-pub mod Sizes
-pub mod Lists
+pub mod Internal
+pub mod ValueSizes
+pub mod ValueLists

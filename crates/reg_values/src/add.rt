@@ -3,18 +3,18 @@
 ghost use Rattle.std.specs.Prelude.{◌≡◌, true, ◌≤◌, ◌<◌, ◌+◌, ◌*◌, ◌==◌, ◌++◌, ◌∷◌, [], if◌then◌else◌, ℕ, List, Some, None, Err, length, IfOk, OnOk, OnErr};
 ghost use Rattle.reg_names.specs.Names.{is_value_name};
 ghost use Rattle.reg_heap.specs.Paths.{Member};
-ghost use Rattle.reg_heap.specs.Heaps.{AreNew};
-ghost use Rattle.reg_heap.specs.Kinds.{Found, times, owned};
+ghost use Rattle.reg_heap.specs.Internal.Heaps.{AreNew};
+ghost use Rattle.reg_heap.specs.Internal.Kinds.{Found, times, owned};
 ghost use Rattle.reg_heap.specs.Members.{place_named};
 ghost use Rattle.reg_arena.specs.Cells.{cell_at};
 ghost use Rattle.reg_arena.specs.NewCells.{total_of, AreSizes};
 ghost use Rattle.reg_arena.specs.Carves.{NoFit};
 ghost use Rattle.reg_arena.specs.NewBin.{PassesLimit};
-ghost use Rattle.reg_records.specs.Cells.{HasRoom};
-ghost use Rattle.reg_records.specs.Nodes.{members_at};
-ghost use Rattle.reg_values.specs.Lists.{AreValues, Became, Makes};
-ghost use Rattle.reg_values.specs.Parts.{list_at, Owns, OwnsBeside, BecameList, Fills, HaveRoom, HoldsValue, KeepsSizes};
-ghost use Rattle.reg_values.specs.Sizes.{cell_size, data_sizes, sizes_by};
+ghost use Rattle.reg_records.specs.RecordCells.{HasRoom};
+ghost use Rattle.reg_shape.specs.Nodes.{members_at};
+ghost use Rattle.reg_values.specs.ValueLists.{AreValues, Became, Makes};
+ghost use Rattle.reg_values.specs.Internal.ValueListParts.{list_at, Owns, OwnsBeside, BecameList, Fills, HaveRoom, HoldsValue, KeepsSizes};
+ghost use Rattle.reg_values.specs.ValueSizes.{cell_size, data_sizes, sizes_by};
 
 use crate::ValuesList;
 use crate::data::put_data;

@@ -3,14 +3,14 @@
 //! Suhanov, Windows registry file format specification, section "Big data".
 
 ghost use Rattle.std.specs.Prelude.{◌≡◌, ◌<◌, ◌≤◌, ◌*◌, ◌+◌, ℕ, List, Some, IsSome, IfOk, length, get_or, take, drop, [], ◌∷◌};
-ghost use Rattle.reg_heap.specs.Heaps.{GivesUp, allocated};
-ghost use Rattle.reg_heap.specs.Kinds.{Found, times};
+ghost use Rattle.reg_heap.specs.Internal.Heaps.{GivesUp, allocated};
+ghost use Rattle.reg_heap.specs.Internal.Kinds.{Found, times};
 ghost use Rattle.reg_arena.specs.Cells.{cell_at};
-ghost use Rattle.reg_records.specs.Cells.{HasRoom, held};
-ghost use Rattle.reg_records.specs.Rows.{offsets_at};
-ghost use Rattle.reg_records.specs.Pieces.{segments_for as segments_for_of, segments as segments_of, db_of};
-ghost use Rattle.reg_records.specs.Nodes.{pieces_at, big_at as big_data_at};
-ghost use Rattle.reg_values.specs.Parts.{segments_at, Owns, GivesUpRead, Fills, HoldsData};
+ghost use Rattle.reg_records.specs.RecordCells.{HasRoom, held};
+ghost use Rattle.reg_records.specs.OffsetRows.{offsets_at};
+ghost use Rattle.reg_records.specs.BigData.{segments_for as segments_for_of, segments as segments_of, db_of};
+ghost use Rattle.reg_shape.specs.Nodes.{pieces_at, big_at as big_data_at};
+ghost use Rattle.reg_values.specs.Internal.ValueListParts.{segments_at, Owns, GivesUpRead, Fills, HoldsData};
 
 use crate::SEGMENT;
 use reg_arena::Arena;
@@ -18,7 +18,7 @@ use reg_records::{BigFields, offset_at, put_db, put_offset, read_db};
 use std::alloc::{AllocError, Global};
 
 /// How many segments data of a size has.
-#[tactic(auto, unfolding(reg_records::specs::Pieces::segment_size))]
+#[tactic(auto, unfolding(reg_records::specs::BigData::segment_size))]
 pub(crate) fn segments_for(size: usize) -> usize
     requires { size < 4294967296 }
     ensures { result ≡ segments_for_of size }

@@ -5,12 +5,12 @@
 ghost use Rattle.std.specs.Prelude.{◌≡◌, ◌<◌, ◌≤◌, ℕ, List, Some, IsSome, IfOk, slice_get, slice_index, length, [], ◌∷◌};
 ghost use Rattle.byteorder.specs.Endian.{little_bytes};
 ghost use Rattle.reg_heap.specs.Paths.{Member};
-ghost use Rattle.reg_heap.specs.Kinds.{Found};
+ghost use Rattle.reg_heap.specs.Internal.Kinds.{Found};
 ghost use Rattle.reg_arena.specs.Cells.{cell_at};
-ghost use Rattle.reg_records.specs.Nodes.{members_at, data_at};
-ghost use Rattle.reg_values.specs.Lists.{AreValues};
-ghost use Rattle.reg_values.specs.Parts.{Owns, GivesUpRead, Fills, HaveRoom, HoldsData};
-ghost use Rattle.reg_values.specs.Sizes.{data_sizes};
+ghost use Rattle.reg_shape.specs.Nodes.{members_at, data_at};
+ghost use Rattle.reg_values.specs.ValueLists.{AreValues};
+ghost use Rattle.reg_values.specs.Internal.ValueListParts.{Owns, GivesUpRead, Fills, HaveRoom, HoldsData};
+ghost use Rattle.reg_values.specs.ValueSizes.{data_sizes};
 
 use crate::big::{big_bytes, free_big, put_big};
 use crate::look::{cell_of, record_at};

@@ -4,15 +4,15 @@
 
 ghost use Rattle.std.specs.Prelude.{◌≡◌, ◌<◌, ◌+◌, ◌*◌, ◌≤◌, ℕ, List, Some, IsSome, slice_get, length, if◌then◌else◌};
 ghost use Rattle.reg_heap.specs.Paths.{Member};
-ghost use Rattle.reg_heap.specs.Kinds.{Found};
+ghost use Rattle.reg_heap.specs.Internal.Kinds.{Found};
 ghost use Rattle.reg_heap.specs.Members.{place_named};
 ghost use Rattle.reg_arena.specs.Cells.{cell_at};
-ghost use Rattle.reg_records.specs.Cells.{held};
-ghost use Rattle.reg_records.specs.Rows.{offset_in};
-ghost use Rattle.reg_records.specs.Values.{value_record_at};
-ghost use Rattle.reg_records.specs.Pieces.{is_inline, inline_size};
-ghost use Rattle.reg_records.specs.Nodes.{members_at};
-ghost use Rattle.reg_values.specs.Lists.{AreValues, Tells};
+ghost use Rattle.reg_records.specs.RecordCells.{held};
+ghost use Rattle.reg_records.specs.OffsetRows.{offset_in};
+ghost use Rattle.reg_records.specs.KeyValues.{value_record_at};
+ghost use Rattle.reg_records.specs.BigData.{is_inline, inline_size};
+ghost use Rattle.reg_shape.specs.Nodes.{members_at};
+ghost use Rattle.reg_values.specs.ValueLists.{AreValues, Tells};
 
 use crate::{INLINE, ValuesList};
 use reg_arena::Arena;

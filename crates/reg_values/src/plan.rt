@@ -5,8 +5,8 @@
 ghost use Rattle.std.specs.Prelude.{◌≡◌, true, ◌≤◌, ◌<◌, ◌+◌, ◌*◌, ◌++◌, [], length, IfOk, OnOk, IsSome, None, if◌then◌else◌};
 ghost use Rattle.reg_names.specs.Names.{is_value_name};
 ghost use Rattle.reg_arena.specs.Cells.{cell_at};
-ghost use Rattle.reg_values.specs.Lists.{AreValues};
-ghost use Rattle.reg_values.specs.Sizes.{cell_size as cell_size_of, data_sizes, segment_sizes, list_sizes, has_room as has_room_of, stays as stays_of, sizes_by, set_sizes};
+ghost use Rattle.reg_values.specs.ValueLists.{AreValues};
+ghost use Rattle.reg_values.specs.ValueSizes.{cell_size as cell_size_of, data_sizes, segment_sizes, list_sizes, has_room as has_room_of, stays as stays_of, sizes_by, set_sizes};
 
 use crate::big::segments_for;
 use crate::look::{cell_of, find, record_at};
@@ -30,7 +30,7 @@ fn cell_size(bytes: usize) -> u32
 }
 
 /// Puts the sizes of the cells of data of a size behind those of `sizes`.
-#[tactic(auto, unfolding(crate::specs::Sizes::data_sizes, reg_records::specs::Pieces::segment_size))]
+#[tactic(auto, unfolding(crate::specs::ValueSizes::data_sizes, reg_records::specs::BigData::segment_size))]
 pub(crate) fn plan_data(sizes: &mut Vec<u32>, size: usize) -> Result<(), AllocError>
     requires { size ≤ 1048576 }
     ensures { OnOk result (sizes.new.items ≡ sizes.old.items ++ data_sizes size) }
@@ -70,7 +70,7 @@ pub(crate) fn has_room(arena: &Arena, list: ValuesList) -> bool
 }
 
 /// Whether new data stays in the old data's one cell, which has the size that it needs.
-#[tactic(auto, unfolding(crate::specs::Sizes::stays, reg_records::specs::Pieces::segment_size))]
+#[tactic(auto, unfolding(crate::specs::ValueSizes::stays, reg_records::specs::BigData::segment_size))]
 pub(crate) fn stays(arena: &Arena, old: ValueFields, size: usize) -> bool
     requires { old.size ≤ 16344 → IsSome (cell_at arena.now.bytes old.place) }
     ensures { result ≡ stays_of (cell_at arena.now.bytes) old size }
@@ -82,7 +82,7 @@ pub(crate) fn stays(arena: &Arena, old: ValueFields, size: usize) -> bool
 }
 
 /// Puts the size of the cell that a list moves to for one value more, if it moves, behind those of `sizes`.
-#[tactic(auto, unfolding(crate::specs::Sizes::list_sizes))]
+#[tactic(auto, unfolding(crate::specs::ValueSizes::list_sizes))]
 fn plan_list(sizes: &mut Vec<u32>, arena: &Arena, list: ValuesList) -> Result<(), AllocError>
     requires few { list.count ≤ 16384 }
     requires list { 0 < list.count → IsSome (cell_at arena.now.bytes list.place) }
@@ -96,7 +96,7 @@ fn plan_list(sizes: &mut Vec<u32>, arena: &Arena, list: ValuesList) -> Result<()
 }
 
 /// The sizes of the cells of one value more.
-#[tactic(auto, using(crate::proofs::Planned::added_sizes))]
+#[tactic(auto, using(crate::proofs::ValueChanges::PlannedSizes::added_sizes))]
 pub(crate) fn plan_add(
     arena: &Arena,
     alloc: Global,

@@ -4,13 +4,13 @@
 
 ghost use Rattle.std.specs.Prelude.{◌≡◌, ◌<◌, ◌≤◌, ◌+◌, ◌++◌, ℕ, List, Some, take, drop};
 ghost use Rattle.reg_heap.specs.Paths.{Member};
-ghost use Rattle.reg_heap.specs.Heaps.{Swaps};
-ghost use Rattle.reg_heap.specs.Kinds.{Found, owned};
+ghost use Rattle.reg_heap.specs.Internal.Heaps.{Swaps};
+ghost use Rattle.reg_heap.specs.Internal.Kinds.{Found, owned};
 ghost use Rattle.reg_heap.specs.Members.{values_without};
 ghost use Rattle.reg_arena.specs.Cells.{cell_at};
-ghost use Rattle.reg_records.specs.Nodes.{member_at, members_at};
-ghost use Rattle.reg_values.specs.Lists.{AreValues, IsNamed, Became};
-ghost use Rattle.reg_values.specs.Parts.{list_at, Owns, GivesUpRead, BecameList};
+ghost use Rattle.reg_shape.specs.Nodes.{member_at, members_at};
+ghost use Rattle.reg_values.specs.ValueLists.{AreValues, IsNamed, Became};
+ghost use Rattle.reg_values.specs.Internal.ValueListParts.{list_at, Owns, GivesUpRead, BecameList};
 
 use crate::data::free_data;
 use crate::look::{cell_of, find, record_at};

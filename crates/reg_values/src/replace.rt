@@ -2,17 +2,17 @@
 
 ghost use Rattle.std.specs.Prelude.{◌≡◌, true, ◌≤◌, ◌+◌, ℕ, List, Some, Err, [], length, OnOk, OnErr};
 ghost use Rattle.reg_heap.specs.Paths.{Member};
-ghost use Rattle.reg_heap.specs.Kinds.{Found, times, owned};
+ghost use Rattle.reg_heap.specs.Internal.Kinds.{Found, times, owned};
 ghost use Rattle.reg_arena.specs.Cells.{cell_at};
 ghost use Rattle.reg_arena.specs.NewCells.{total_of};
 ghost use Rattle.reg_arena.specs.Carves.{NoFit};
 ghost use Rattle.reg_arena.specs.NewBin.{PassesLimit};
-ghost use Rattle.reg_records.specs.Values.{value_record_at};
-ghost use Rattle.reg_records.specs.Nodes.{member_at};
-ghost use Rattle.reg_records.specs.Written.{IsWrittenValue};
-ghost use Rattle.reg_values.specs.Lists.{Makes};
-ghost use Rattle.reg_values.specs.Parts.{Owns, OwnsBeside, HaveRoom, BecameValue, Keeps};
-ghost use Rattle.reg_values.specs.Sizes.{data_sizes, stays as stays_of, new_data_sizes};
+ghost use Rattle.reg_records.specs.KeyValues.{value_record_at};
+ghost use Rattle.reg_shape.specs.Nodes.{member_at};
+ghost use Rattle.reg_shape.specs.Written.{IsWrittenValue};
+ghost use Rattle.reg_values.specs.ValueLists.{Makes};
+ghost use Rattle.reg_values.specs.Internal.ValueListParts.{Owns, OwnsBeside, HaveRoom, BecameValue, Keeps};
+ghost use Rattle.reg_values.specs.ValueSizes.{data_sizes, stays as stays_of, new_data_sizes};
 
 use crate::add::carve;
 use crate::data::{free_data, put_data};

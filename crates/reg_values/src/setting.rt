@@ -5,15 +5,15 @@
 ghost use Rattle.std.specs.Prelude.{◌≡◌, true, ◌≤◌, ◌<◌, ◌+◌, ◌⊎◌, ℕ, List, Some, Err, length, IfOk, OnOk, OnErr};
 ghost use Rattle.reg_names.specs.Names.{is_value_name};
 ghost use Rattle.reg_heap.specs.Paths.{Member};
-ghost use Rattle.reg_heap.specs.Kinds.{Found};
+ghost use Rattle.reg_heap.specs.Internal.Kinds.{Found};
 ghost use Rattle.reg_heap.specs.Members.{values_with};
 ghost use Rattle.reg_arena.specs.Cells.{cell_at};
 ghost use Rattle.reg_arena.specs.NewCells.{total_of};
 ghost use Rattle.reg_arena.specs.Carves.{NoFit};
 ghost use Rattle.reg_arena.specs.NewBin.{PassesLimit};
-ghost use Rattle.reg_records.specs.Nodes.{members_at};
-ghost use Rattle.reg_values.specs.Lists.{AreValues, IsNamed, Became, Makes};
-ghost use Rattle.reg_values.specs.Sizes.{set_sizes};
+ghost use Rattle.reg_shape.specs.Nodes.{members_at};
+ghost use Rattle.reg_values.specs.ValueLists.{AreValues, IsNamed, Became, Makes};
+ghost use Rattle.reg_values.specs.ValueSizes.{set_sizes};
 
 use crate::ValuesList;
 use crate::add::add;

@@ -1,1 +1,1 @@
-pub mod CommandLines
+pub mod CommandLineLemmas

@@ -1,5 +1,5 @@
 use Rattle.reg_names.specs.Names.{is_key_name_byte}
-use Rattle.reg_names.proofs.Fronts.{fails, holds, bad, long, fine, key_is, key_not, else_of, not_empty}
+use Rattle.reg_names.proofs.NamePrefixes.{fails, holds, bad, long, fine, key_is, key_not, else_of, not_empty}
 use Rattle.reg_names.proofs.check_key_name.Goals as goal
 
 pub returns-then-not-are_key_name_bytes-clause-fault : goal.returns-then-not-are_key_name_bytes-clause-fault

@@ -1,5 +1,5 @@
 use Rattle.std.proofs.lemmas.Result.{err_from_is_err_and}
-use Rattle.reg_names.proofs.Parts.{starts, empty-fault, empty-valid, bad-fault, bad-valid, last-fault, last-valid, next, over-fault, over-valid}
+use Rattle.reg_names.proofs.PathParts.{starts, empty-fault, empty-valid, bad-fault, bad-valid, last-fault, last-valid, next, over-fault, over-valid}
 use Rattle.reg_names.proofs.check_path.Goals as goal
 
 pub returns-then-is_empty-clause-fault : goal.returns-then-is_empty-clause-fault

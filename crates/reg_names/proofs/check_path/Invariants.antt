@@ -1,4 +1,4 @@
-use Rattle.reg_names.proofs.Parts.{Left}
+use Rattle.reg_names.proofs.PathParts.{Left}
 use Rattle.reg_names.proofs.check_path.Given as goal
 
 abbrev pub invariant-loop-number : goal.invariant-loop-number

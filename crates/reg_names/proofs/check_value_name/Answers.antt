@@ -1,5 +1,5 @@
 use Rattle.reg_names.specs.Names.{is_value_name_byte}
-use Rattle.reg_names.proofs.Fronts.{fails, holds, bad, long, fine, value_is, value_not, value_long}
+use Rattle.reg_names.proofs.NamePrefixes.{fails, holds, bad, long, fine, value_is, value_not, value_long}
 use Rattle.reg_names.proofs.check_value_name.Goals as goal
 
 pub returns-then-not-are_value_name_bytes-clause-fault : goal.returns-then-not-are_value_name_bytes-clause-fault

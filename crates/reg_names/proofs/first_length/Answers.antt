@@ -4,7 +4,7 @@ use Rattle.std.proofs.lemmas.Iterator.Search.{position_from_yields_List}
 use Rattle.std.proofs.lemmas.List.Sums.{prefix_len-le-length}
 use Rattle.std.specs.List.{position_or_len}
 use Rattle.reg_names.specs.Names.{is_backslash}
-use Rattle.reg_names.proofs.Parts.{unwrapped}
+use Rattle.reg_names.proofs.PathParts.{unwrapped}
 use Rattle.reg_names.proofs.first_length.Goals as goal
 
 pub returns : goal.returns

@@ -1,4 +1,4 @@
-use Rattle.reg_names.proofs.Firsts.{whole_first, front_first}
+use Rattle.reg_names.proofs.PathFirstName.{whole_first, front_first}
 use Rattle.reg_names.proofs.first_name.Goals as goal
 
 pub returns-then-length-path : goal.returns-then-length-path

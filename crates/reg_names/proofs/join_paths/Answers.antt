@@ -1,4 +1,4 @@
-use Rattle.reg_names.proofs.Joins.{joined-names, joined-valid}
+use Rattle.reg_names.proofs.PathJoins.{joined-names, joined-valid}
 use Rattle.reg_names.proofs.join_paths.Goals as goal
 
 pub returns-clause-names : goal.returns-clause-names

@@ -1,5 +1,5 @@
 use Rattle.std.proofs.Common.{sym, ◌∙◌}
-use Rattle.reg_names.proofs.Hashes.{hash-none, hash-next}
+use Rattle.reg_names.proofs.NameHashes.{hash-none, hash-next}
 use Rattle.reg_names.proofs.name_hash.Goals as goal
 
 pub loop-byte-init : goal.loop-byte-init

@@ -1,5 +1,5 @@
 use Rattle.std.proofs.Common.{sym, ◌∙◌, arith}
-use Rattle.reg_names.proofs.Orders.{ended}
+use Rattle.reg_names.proofs.NameOrders.{ended}
 use Rattle.reg_names.proofs.name_order.Goals as goal
 
 pub returns : goal.returns

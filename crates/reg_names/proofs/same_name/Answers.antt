@@ -1,5 +1,5 @@
 use Rattle.std.proofs.Common.{sym, refl}
-use Rattle.reg_names.proofs.Orders.{same_from_Equal, differ}
+use Rattle.reg_names.proofs.NameOrders.{same_from_Equal, differ}
 use Rattle.reg_names.proofs.same_name.Goals as goal
 
 pub returns-in-Equal : goal.returns-in-Equal

@@ -1,5 +1,5 @@
 use Rattle.std.proofs.Common.{arith}
-use Rattle.reg_arena.proofs.Cuts.{total_of-room, total_of-more}
+use Rattle.reg_arena.proofs.Carving.CarveCuts.{total_of-room, total_of-more}
 use Rattle.reg_arena.proofs.arena.sum_of.Goals as goal
 
 pub overflow_add-total : goal.overflow_add-total

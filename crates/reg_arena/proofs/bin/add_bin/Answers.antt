@@ -1,7 +1,7 @@
 use Rattle.std.proofs.Common.{arith, ◌≡◌, ◌+◌, ◌≤◌, ℕ, length, replicate, ap, ◌∙◌, length-append}
 use Rattle.std.proofs.lemmas.List.{length-replicate}
-use Rattle.reg_arena.proofs.NewBins.{length-headed}
-use Rattle.reg_arena.proofs.Grows.{added}
+use Rattle.reg_arena.proofs.Carving.NewBinBytes.{length-headed}
+use Rattle.reg_arena.proofs.Carving.BinAppend.{added}
 use Rattle.reg_arena.proofs.bin.add_bin.Goals as goal
 
 pub lengthen-requires : goal.lengthen-requires

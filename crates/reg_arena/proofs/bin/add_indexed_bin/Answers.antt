@@ -1,5 +1,5 @@
 use Rattle.std.proofs.Common.{arith, ◌≡◌, ◌+◌, ◌/◌, length, ap}
-use Rattle.reg_arena.proofs.Indexed.{indexed-longer, indexed-bin, head-in, room-enough}
+use Rattle.reg_arena.proofs.TableUpkeep.IndexedArena.{indexed-longer, indexed-bin, head-in, room-enough}
 use Rattle.reg_arena.proofs.bin.add_indexed_bin.Goals as goal
 
 pub returns-in_err-make_room-clause-arena : goal.returns-in_err-make_room-clause-arena

@@ -1,7 +1,7 @@
 use Rattle.std.proofs.Common.{arith, ◌+◌}
 use Rattle.byteorder.specs.Endian.{little_bytes}
-use Rattle.reg_heap.specs.Words.{splice}
-use Rattle.reg_arena.proofs.Splices.{length-splice}
+use Rattle.reg_heap.specs.ByteWords.{splice}
+use Rattle.reg_arena.proofs.Contents.ByteSplices.{length-splice}
 use Rattle.reg_arena.proofs.bin.put_header.Goals as goal
 
 pub put_word-requires-2 : goal.put_word-requires-2

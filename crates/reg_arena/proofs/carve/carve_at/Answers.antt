@@ -1,7 +1,7 @@
 use Rattle.std.proofs.Common.{arith}
-use Rattle.reg_arena.proofs.Cuts.{CutTo}
-use Rattle.reg_arena.proofs.CarveWhole.{facts-at, carving-at}
-use Rattle.reg_arena.proofs.Indexed.{indexed-carve, note-facts}
+use Rattle.reg_arena.proofs.Carving.CarveCuts.{CutTo}
+use Rattle.reg_arena.proofs.Carving.CarveWhole.{facts-at, carving-at}
+use Rattle.reg_arena.proofs.TableUpkeep.IndexedArena.{indexed-carve, note-facts}
 use Rattle.reg_arena.proofs.carve.carve_at.Goals as goal
 
 pub take_out-requires-clause-within : goal.take_out-requires-clause-within

@@ -1,7 +1,7 @@
 use Rattle.std.proofs.Common.{◌<◌, ◌≤◌, ◌+◌, arith, length, ◌∙◌, ap}
-use Rattle.reg_heap.specs.Words.{word}
+use Rattle.reg_heap.specs.ByteWords.{word}
 use Rattle.reg_arena.specs.Cells.{size_in}
-use Rattle.reg_arena.proofs.CarveWhole.{length-linked, length-freed}
+use Rattle.reg_arena.proofs.Carving.CarveWhole.{length-linked, length-freed}
 use Rattle.reg_arena.proofs.carve.take_out.Goals as goal
 
 pub returns-then-size-total-clause-long : goal.returns-then-size-total-clause-long

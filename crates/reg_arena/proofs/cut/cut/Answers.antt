@@ -1,7 +1,7 @@
 use Rattle.std.proofs.Common.{◌≡◌, ℕ, ◌<◌, ◌+◌, ◌∷◌, [], ◌++◌, List, ap, ◌∙◌, append_assoc, arith, take, get_or, vec_len, vec_capacity}
 use Rattle.std.proofs.lemmas.List.{take_more}
 use Rattle.reg_arena.specs.NewCells.{offsets_of}
-use Rattle.reg_arena.proofs.Cuts.{cut-more, total_of-room, total_of-more, offsets_of-push}
+use Rattle.reg_arena.proofs.Carving.CarveCuts.{cut-more, total_of-room, total_of-more, offsets_of-push}
 use Rattle.reg_arena.proofs.cut.cut.Goals as goal
 
 pub cut_one-requires-clause-fits : goal.cut_one-requires-clause-fits

@@ -1,6 +1,6 @@
 use Rattle.std.proofs.Common.{◌≡◌, ◌+◌, ◌-◌, ◌≤◌, ◌++◌, length, take, vec_len, vec_capacity}
 use Rattle.reg_arena.specs.NewCells.{total_of, offsets_of}
-use Rattle.reg_arena.proofs.Cuts.{CutTo}
+use Rattle.reg_arena.proofs.Carving.CarveCuts.{CutTo}
 use Rattle.reg_arena.proofs.cut.cut.Given as goal
 
 abbrev pub invariant-loop-size : goal.invariant-loop-size

@@ -1,11 +1,11 @@
 use Rattle.std.proofs.Common.{arith, ◌+◌, ◌-◌, ◌*◌, ◌/◌, ◌≤◌, ◌<◌, length}
 use Rattle.std.proofs.lemmas.List.{length-set}
-use Rattle.reg_heap.specs.Kinds.{times}
+use Rattle.reg_heap.specs.Internal.Kinds.{times}
 use Rattle.reg_arena.specs.Free.{chain}
-use Rattle.reg_arena.proofs.Writes.{found}
-use Rattle.reg_arena.proofs.Unlinks.{detached, in_list}
-use Rattle.reg_arena.proofs.FreeWhole.{site, around, threads, right-in, left-still}
-use Rattle.reg_arena.proofs.FreeEnd.{end-facts, free-done}
+use Rattle.reg_arena.proofs.Contents.CellWrites.{found}
+use Rattle.reg_arena.proofs.FreeList.Unlinks.{detached, in_list}
+use Rattle.reg_arena.proofs.Freeing.FreeWhole.{site, around, threads, right-in, left-still}
+use Rattle.reg_arena.proofs.Freeing.FreeEnd.{end-facts, free-done}
 use Rattle.reg_arena.proofs.free.free_cell.Goals as goal
 
 pub size_at-requires : goal.size_at-requires

@@ -1,5 +1,5 @@
 use Rattle.std.proofs.Common.{arith, ◌+◌, ◌≤◌, length}
-use Rattle.reg_arena.proofs.Finds.{passed-none, passed-more, passed-fit, passed-all, passed-cell}
+use Rattle.reg_arena.proofs.FreeList.FreeListWalk.{passed-none, passed-more, passed-fit, passed-all, passed-cell}
 use Rattle.reg_arena.proofs.list.find_fit.Goals as goal
 
 pub size_at-requires : goal.size_at-requires

@@ -1,4 +1,4 @@
-use Rattle.reg_arena.proofs.Finds.{Passed}
+use Rattle.reg_arena.proofs.FreeList.FreeListWalk.{Passed}
 use Rattle.reg_arena.proofs.list.find_fit.Given as goal
 
 abbrev pub invariant-loop-i : goal.invariant-loop-i

@@ -1,6 +1,6 @@
 use Rattle.std.proofs.Common.{arith}
 use Rattle.byteorder.specs.Endian.{little_bytes}
-use Rattle.reg_arena.proofs.Splices.{length-splice}
+use Rattle.reg_arena.proofs.Contents.ByteSplices.{length-splice}
 use Rattle.reg_arena.proofs.list.put_free.Goals as goal
 
 pub put_word-requires-2 : goal.put_word-requires-2

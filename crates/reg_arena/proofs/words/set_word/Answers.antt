@@ -1,6 +1,6 @@
 use Rattle.std.proofs.Common.{refl}
 use Rattle.std.proofs.lemmas.List.{take_rest}
-use Rattle.reg_arena.proofs.Splices.{put_tail}
+use Rattle.reg_arena.proofs.Contents.ByteSplices.{put_tail}
 use Rattle.reg_arena.proofs.words.set_word.Goals as goal
 
 pub returns : goal.returns

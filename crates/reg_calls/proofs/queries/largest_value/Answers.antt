@@ -2,7 +2,7 @@ use Rattle.std.proofs.Common.{length}
 use Rattle.std.proofs.lemmas.Option.{slice_get_within, get_or_from_slice_get}
 use Rattle.reg_heap.specs.Paths.{Member}
 use Rattle.reg_heap.specs.Edits.{values_at}
-use Rattle.reg_calls.proofs.Questions.{largest-step}
+use Rattle.reg_calls.proofs.QueryAnswers.{largest-step}
 use Rattle.reg_calls.proofs.queries.largest_value.Goals as goal
 
 pub loop-index-preserved : goal.loop-index-preserved

@@ -2,7 +2,7 @@ use Rattle.std.proofs.Common.{[], ap, length, List, ℕ, get_or, refl}
 use Rattle.std.specs.FinMap.{get}
 use Rattle.reg_heap.specs.Paths.{Path, children_of}
 use Rattle.reg_model.specs.Replies.{name_of}
-use Rattle.reg_calls.proofs.Questions.{largest-step, name-told}
+use Rattle.reg_calls.proofs.QueryAnswers.{largest-step, name-told}
 use Rattle.reg_calls.proofs.queries.longest_subkey.Goals as goal
 
 pub loop-index-preserved : goal.loop-index-preserved

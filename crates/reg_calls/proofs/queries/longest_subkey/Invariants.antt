@@ -2,7 +2,7 @@ use Rattle.std.proofs.Common.{◌≡◌, map, take, length}
 use Rattle.std.specs.FinMap.{get}
 use Rattle.reg_heap.specs.Paths.{Path, children_of}
 use Rattle.reg_model.specs.Replies.{largest_of, name_of}
-use Rattle.reg_tree.specs.Keys.{IsAt}
+use Rattle.reg_tree.specs.TreeKeys.{IsAt}
 use Rattle.reg_calls.proofs.queries.longest_subkey.Given as goal
 
 abbrev pub invariant-loop-index : goal.invariant-loop-index

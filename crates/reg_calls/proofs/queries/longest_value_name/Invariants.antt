@@ -2,7 +2,7 @@ use Rattle.std.proofs.Common.{◌≡◌, map, take, length}
 use Rattle.reg_heap.specs.Paths.{Path, Member}
 use Rattle.reg_heap.specs.Edits.{values_at}
 use Rattle.reg_model.specs.Replies.{largest_of}
-use Rattle.reg_tree.specs.Keys.{IsAt}
+use Rattle.reg_tree.specs.TreeKeys.{IsAt}
 use Rattle.reg_calls.proofs.queries.longest_value_name.Given as goal
 
 abbrev pub invariant-loop-index : goal.invariant-loop-index

@@ -2,7 +2,7 @@ use Rattle.std.proofs.Common.{refl, ◌+◌, ◌∙◌, ap}
 use Rattle.reg_names.specs.Names.{folded, hash}
 use Rattle.reg_arena.specs.Cells.{cell_at}
 use Rattle.reg_index.specs.Subkeys.{name_at}
-use Rattle.reg_index.proofs.Added.{open-needs, fill-needs, one-more, one-moves}
+use Rattle.reg_index.proofs.SubkeyAdded.{open-needs, fill-needs, one-more, one-moves}
 use Rattle.reg_index.proofs.inserting.insert.Goals as goal
 
 pub open-place-requires-clause-subkeys : goal.open-place-requires-clause-subkeys

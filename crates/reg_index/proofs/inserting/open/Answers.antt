@@ -1,6 +1,6 @@
 use Rattle.std.proofs.Common.{sym, ◌∙◌, arith}
 use Rattle.reg_arena.specs.Cells.{cell_at}
-use Rattle.reg_index.proofs.Opened.{size-none, first-gap, first-moves, leaf-needs, index-fits, gap-of, within-moves, fresh-room, fresh-apart, move-moves}
+use Rattle.reg_index.proofs.LeafRoom.{size-none, first-gap, first-moves, leaf-needs, index-fits, gap-of, within-moves, fresh-room, fresh-apart, move-moves}
 use Rattle.reg_index.proofs.inserting.open.Goals as goal
 
 pub returns-then-list-eq0-clause-gap : goal.returns-then-list-eq0-clause-gap

@@ -1,8 +1,8 @@
 use Rattle.std.proofs.Common.{◌+◌, ◌-◌, ◌*◌, arith, take, drop}
 use Rattle.reg_arena.specs.Cells.{cell_at}
-use Rattle.reg_records.specs.Cells.{held}
-use Rattle.reg_index.proofs.Entries.{length-part}
-use Rattle.reg_index.proofs.Gaps.{leaf-long, spliced-room, closed}
+use Rattle.reg_records.specs.RecordCells.{held}
+use Rattle.reg_index.proofs.LeafEntries.{length-part}
+use Rattle.reg_index.proofs.LeafGaps.{leaf-long, spliced-room, closed}
 use Rattle.reg_index.proofs.leaf.close.Goals as goal
 
 pub shift-requires-clause-source : goal.shift-requires-clause-source

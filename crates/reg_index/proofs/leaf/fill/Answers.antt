@@ -1,5 +1,5 @@
 use Rattle.reg_arena.specs.Cells.{cell_at}
-use Rattle.reg_index.proofs.Gaps.{filled}
+use Rattle.reg_index.proofs.LeafGaps.{filled}
 use Rattle.reg_index.proofs.leaf.fill.Goals as goal
 
 pub returns-clause-leaf : goal.returns-clause-leaf

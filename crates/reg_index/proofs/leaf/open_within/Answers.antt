@@ -1,5 +1,5 @@
 use Rattle.reg_arena.specs.Cells.{cell_at}
-use Rattle.reg_index.proofs.Gaps.{shifted-gap}
+use Rattle.reg_index.proofs.LeafGaps.{shifted-gap}
 use Rattle.reg_index.proofs.leaf.open_within.Goals as goal
 
 pub returns-clause-gap : goal.returns-clause-gap

@@ -1,6 +1,6 @@
 use Rattle.std.proofs.Common.{ap}
-use Rattle.reg_records.specs.Lists.{Entry}
-use Rattle.reg_index.proofs.Opening.{list-here, list-room, entry-is}
+use Rattle.reg_records.specs.SubkeyLists.{Entry}
+use Rattle.reg_index.proofs.SubkeysOpening.{list-here, list-room, entry-is}
 use Rattle.reg_index.proofs.look.at.Goals as goal
 
 pub content-requires : goal.content-requires

@@ -1,7 +1,7 @@
 use Rattle.std.proofs.Common.{◌+◌, ◌-◌, ◌/◌, arith}
 use Rattle.reg_names.specs.Names.{folded}
 use Rattle.reg_arena.specs.Cells.{cell_at}
-use Rattle.reg_index.proofs.Finding.{all-between, in-list, is-key, is-before, is-behind, is-found}
+use Rattle.reg_index.proofs.NameSearch.{all-between, in-list, is-key, is-before, is-behind, is-found}
 use Rattle.reg_index.proofs.look.find.Goals as goal
 
 pub loop-low-init : goal.loop-low-init

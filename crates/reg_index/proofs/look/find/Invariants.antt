@@ -1,9 +1,9 @@
 use Rattle.std.proofs.Common.{◌-◌, List}
 use Rattle.reg_names.specs.Names.{folded}
 use Rattle.reg_arena.specs.Cells.{cell_at}
-use Rattle.reg_records.specs.Lists.{Entry}
+use Rattle.reg_records.specs.SubkeyLists.{Entry}
 use Rattle.reg_index.specs.Subkeys.{AreSubkeys, names_in}
-use Rattle.reg_index.proofs.Orders.{Between}
+use Rattle.reg_index.proofs.SortedNames.{Between}
 use Rattle.reg_index.proofs.look.find.Given as goal
 
 abbrev pub invariant-loop-low : goal.invariant-loop-low

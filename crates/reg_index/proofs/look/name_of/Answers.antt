@@ -1,4 +1,4 @@
-use Rattle.reg_index.proofs.Finding.{key-here, key-read, name-read}
+use Rattle.reg_index.proofs.NameSearch.{key-here, key-read, name-read}
 use Rattle.reg_index.proofs.look.name_of.Goals as goal
 
 pub content-requires : goal.content-requires

@@ -1,6 +1,6 @@
 use Rattle.std.proofs.Common.{refl, arith}
-use Rattle.reg_index.proofs.Opening.{list-here}
-use Rattle.reg_index.proofs.Planning.{first-size, planned-none, planned-some}
+use Rattle.reg_index.proofs.SubkeysOpening.{list-here}
+use Rattle.reg_index.proofs.InsertSizes.{first-size, planned-none, planned-some}
 use Rattle.reg_index.proofs.plan.plan_insert.Goals as goal
 
 pub returns-then-list-eq0 : goal.returns-then-list-eq0

@@ -1,7 +1,7 @@
 use Rattle.std.proofs.Common.{◌-◌, arith}
 use Rattle.reg_arena.specs.Cells.{cell_at}
-use Rattle.reg_index.proofs.Opening.{list-here}
-use Rattle.reg_index.proofs.Removed.{emptied, emptied-moves, fewer, fewer-moves, one-leaf}
+use Rattle.reg_index.proofs.SubkeysOpening.{list-here}
+use Rattle.reg_index.proofs.SubkeyRemoved.{emptied, emptied-moves, fewer, fewer-moves, one-leaf}
 use Rattle.reg_index.proofs.removing.remove.Goals as goal
 
 pub free-requires : goal.free-requires

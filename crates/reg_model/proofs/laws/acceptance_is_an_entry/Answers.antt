@@ -1,4 +1,4 @@
-use Rattle.reg_model.proofs.Answering.{grows}
+use Rattle.reg_model.proofs.CallSteps.{grows}
 use Rattle.reg_model.proofs.laws.acceptance_is_an_entry.Goals as goal
 
 pub returns-clause-entry : goal.returns-clause-entry

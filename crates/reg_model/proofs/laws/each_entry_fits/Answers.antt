@@ -1,4 +1,4 @@
-use Rattle.reg_model.proofs.Journals.{legal-at}
+use Rattle.reg_model.proofs.LegalJournals.{legal-at}
 use Rattle.reg_model.proofs.laws.each_entry_fits.Goals as goal
 
 pub returns : goal.returns

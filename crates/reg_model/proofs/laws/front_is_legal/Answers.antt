@@ -1,4 +1,4 @@
-use Rattle.reg_model.proofs.Journals.{legal-front}
+use Rattle.reg_model.proofs.LegalJournals.{legal-front}
 use Rattle.reg_model.proofs.laws.front_is_legal.Goals as goal
 
 pub returns : goal.returns

@@ -1,4 +1,4 @@
-use Rattle.reg_model.proofs.Journals.{handle-told, handle-opened}
+use Rattle.reg_model.proofs.LegalJournals.{handle-told, handle-opened}
 use Rattle.reg_model.proofs.laws.handle_has_its_entrys_number.Goals as goal
 
 pub returns-clause-told : goal.returns-clause-told

@@ -1,4 +1,4 @@
-use Rattle.reg_model.proofs.Journals.{handles-below, handles-rise}
+use Rattle.reg_model.proofs.LegalJournals.{handles-below, handles-rise}
 use Rattle.reg_model.proofs.laws.handle_numbers_rise.Goals as goal
 
 pub returns-clause-below : goal.returns-clause-below

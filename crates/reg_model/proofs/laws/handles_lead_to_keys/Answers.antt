@@ -1,4 +1,4 @@
-use Rattle.reg_model.proofs.Journals.{all-stand}
+use Rattle.reg_model.proofs.LegalJournals.{all-stand}
 use Rattle.reg_model.proofs.laws.handles_lead_to_keys.Goals as goal
 
 pub returns : goal.returns

@@ -1,4 +1,4 @@
-use Rattle.reg_model.proofs.Journals.{number-is}
+use Rattle.reg_model.proofs.LegalJournals.{number-is}
 use Rattle.reg_model.proofs.laws.number_is_place.Goals as goal
 
 pub returns : goal.returns

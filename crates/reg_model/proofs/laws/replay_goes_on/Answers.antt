@@ -1,4 +1,4 @@
-use Rattle.reg_model.proofs.OneMore.{replay-push}
+use Rattle.reg_model.proofs.JournalGrowth.{replay-push}
 use Rattle.reg_model.proofs.laws.replay_goes_on.Goals as goal
 
 pub returns : goal.returns

@@ -1,4 +1,4 @@
-use Rattle.reg_model.proofs.Journals.{root-stays}
+use Rattle.reg_model.proofs.LegalJournals.{root-stays}
 use Rattle.reg_model.proofs.laws.root_stays.Goals as goal
 
 pub returns : goal.returns

@@ -1,4 +1,4 @@
-use Rattle.reg_records.proofs.Writing.{wrote}
+use Rattle.reg_records.proofs.RecordWriting.{wrote}
 use Rattle.reg_records.proofs.cells.write_part.Goals as goal
 
 pub returns : goal.returns

@@ -1,4 +1,4 @@
-use Rattle.reg_records.proofs.Writing.{wrote_record}
+use Rattle.reg_records.proofs.RecordWriting.{wrote_record}
 use Rattle.reg_records.proofs.cells.write_record.Goals as goal
 
 pub returns : goal.returns

@@ -1,5 +1,5 @@
-use Rattle.reg_records.specs.Pieces.{db_bytes}
-use Rattle.reg_records.proofs.BigData.{db-written}
+use Rattle.reg_records.specs.BigData.{db_bytes}
+use Rattle.reg_records.proofs.BigDataCodec.{db-written}
 use Rattle.reg_records.proofs.db.put_db.Goals as goal
 
 pub returns-clause-written : goal.returns-clause-written

@@ -1,4 +1,4 @@
-use Rattle.reg_records.proofs.Listing.{plainly-at, hintedly-at}
+use Rattle.reg_records.proofs.SubkeyListReading.{plainly-at, hintedly-at}
 use Rattle.reg_records.proofs.lists.entry_at.Goals as goal
 
 pub returns-in-IndexRoot : goal.returns-in-IndexRoot

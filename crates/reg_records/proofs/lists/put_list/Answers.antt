@@ -1,5 +1,5 @@
 use Rattle.std.proofs.Common.{refl}
-use Rattle.reg_records.proofs.ListWriting.{none-listed, one-listed, all-written, all-reads}
+use Rattle.reg_records.proofs.SubkeyListWriting.{none-listed, one-listed, all-written, all-reads}
 use Rattle.reg_records.proofs.lists.put_list.Goals as goal
 
 pub loop-index-init : goal.loop-index-init

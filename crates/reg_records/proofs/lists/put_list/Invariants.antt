@@ -1,4 +1,4 @@
-use Rattle.reg_records.proofs.ListWriting.{IsListed}
+use Rattle.reg_records.proofs.SubkeyListWriting.{IsListed}
 use Rattle.reg_records.proofs.lists.put_list.Given as goal
 
 abbrev pub invariant-loop-index : goal.invariant-loop-index

@@ -1,6 +1,6 @@
 use Rattle.std.proofs.Common.{◌∙◌, sym, ap, Some}
-use Rattle.reg_records.specs.Lists.{entries_as}
-use Rattle.reg_records.proofs.Listing.{short-read, short-fault, unsigned-read, unsigned-fault, over-read, over-fault, is-read, no-fault}
+use Rattle.reg_records.specs.SubkeyLists.{entries_as}
+use Rattle.reg_records.proofs.SubkeyListReading.{short-read, short-fault, unsigned-read, unsigned-fault, over-read, over-fault, is-read, no-fault}
 use Rattle.reg_records.proofs.lists.read_list.Goals as goal
 
 pub returns-then-content-lt-HEAD-clause-read : goal.returns-then-content-lt-HEAD-clause-read

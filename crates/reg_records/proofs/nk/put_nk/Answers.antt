@@ -1,6 +1,6 @@
-use Rattle.reg_records.specs.Keys.{nk_bytes}
-use Rattle.reg_records.proofs.Keys.{key_at-written}
-use Rattle.reg_records.proofs.Plain.{plain-key}
+use Rattle.reg_records.specs.KeyNodes.{nk_bytes}
+use Rattle.reg_records.proofs.KeyNodeCodec.{key_at-written}
+use Rattle.reg_records.proofs.PlainRecords.{plain-key}
 use Rattle.reg_records.proofs.nk.put_nk.Goals as goal
 
 pub returns-clause-written : goal.returns-clause-written

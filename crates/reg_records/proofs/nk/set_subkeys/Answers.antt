@@ -1,7 +1,7 @@
 use Rattle.std.proofs.Common.{lit≤}
 use Rattle.byteorder.specs.Endian.{little_bytes}
-use Rattle.reg_records.proofs.Keys.{key-room, key-changed, nk-counted}
-use Rattle.reg_records.proofs.Plain.{plain-counted}
+use Rattle.reg_records.proofs.KeyNodeCodec.{key-room, key-changed, nk-counted}
+use Rattle.reg_records.proofs.PlainRecords.{plain-counted}
 use Rattle.reg_records.proofs.nk.set_subkeys.Goals as goal
 
 pub write_part-requires : goal.write_part-requires

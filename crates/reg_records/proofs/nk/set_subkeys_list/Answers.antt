@@ -1,7 +1,7 @@
 use Rattle.std.proofs.Common.{lit≤}
 use Rattle.byteorder.specs.Endian.{little_bytes}
-use Rattle.reg_records.proofs.Keys.{key-room, key-changed, nk-listed}
-use Rattle.reg_records.proofs.Plain.{plain-listed}
+use Rattle.reg_records.proofs.KeyNodeCodec.{key-room, key-changed, nk-listed}
+use Rattle.reg_records.proofs.PlainRecords.{plain-listed}
 use Rattle.reg_records.proofs.nk.set_subkeys_list.Goals as goal
 
 pub write_part-requires : goal.write_part-requires

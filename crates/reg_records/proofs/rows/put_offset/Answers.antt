@@ -1,4 +1,4 @@
-use Rattle.reg_records.proofs.Offsets.{put-here, put-others}
+use Rattle.reg_records.proofs.OffsetRowCodec.{put-here, put-others}
 use Rattle.reg_records.proofs.rows.put_offset.Goals as goal
 
 pub returns-clause-written : goal.returns-clause-written

@@ -1,6 +1,6 @@
-use Rattle.reg_records.specs.Securities.{sk_bytes}
-use Rattle.reg_records.proofs.Securities.{security_at-written}
-use Rattle.reg_records.proofs.Plain.{plain-security}
+use Rattle.reg_records.specs.KeySecurities.{sk_bytes}
+use Rattle.reg_records.proofs.KeySecurityCodec.{security_at-written}
+use Rattle.reg_records.proofs.PlainRecords.{plain-security}
 use Rattle.reg_records.proofs.sk.put_sk.Goals as goal
 
 pub returns-clause-written : goal.returns-clause-written

@@ -1,7 +1,7 @@
 use Rattle.std.proofs.Common.{lit≤}
 use Rattle.byteorder.specs.Endian.{little_bytes}
-use Rattle.reg_records.proofs.Securities.{security-room, security-changed, sk-counted}
-use Rattle.reg_records.proofs.Plain.{plain-shared}
+use Rattle.reg_records.proofs.KeySecurityCodec.{security-room, security-changed, sk-counted}
+use Rattle.reg_records.proofs.PlainRecords.{plain-shared}
 use Rattle.reg_records.proofs.sk.set_security_count.Goals as goal
 
 pub write_part-requires : goal.write_part-requires

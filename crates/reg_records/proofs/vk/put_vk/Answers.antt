@@ -1,6 +1,6 @@
-use Rattle.reg_records.specs.Values.{vk_bytes}
-use Rattle.reg_records.proofs.Values.{value_record_at-written}
-use Rattle.reg_records.proofs.Plain.{plain-value}
+use Rattle.reg_records.specs.KeyValues.{vk_bytes}
+use Rattle.reg_records.proofs.KeyValueCodec.{value_record_at-written}
+use Rattle.reg_records.proofs.PlainRecords.{plain-value}
 use Rattle.reg_records.proofs.vk.put_vk.Goals as goal
 
 pub returns-clause-written : goal.returns-clause-written

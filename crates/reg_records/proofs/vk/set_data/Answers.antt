@@ -1,7 +1,7 @@
 use Rattle.std.proofs.Common.{◌++◌, lit≤}
 use Rattle.byteorder.specs.Endian.{little_bytes}
-use Rattle.reg_records.proofs.Values.{value-room, value-changed, vk-filled}
-use Rattle.reg_records.proofs.Plain.{plain-data}
+use Rattle.reg_records.proofs.KeyValueCodec.{value-room, value-changed, vk-filled}
+use Rattle.reg_records.proofs.PlainRecords.{plain-data}
 use Rattle.reg_records.proofs.vk.set_data.Goals as goal
 
 pub write_part-requires : goal.write_part-requires

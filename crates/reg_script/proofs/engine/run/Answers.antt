@@ -1,5 +1,5 @@
 use Rattle.std.proofs.Common.{refl}
-use Rattle.reg_script.proofs.Closing.{closed_well, runs_whole, runs_into, nothing_done}
+use Rattle.reg_script.proofs.ScriptEnds.{closed_well, runs_whole, runs_into, nothing_done}
 use Rattle.reg_script.proofs.engine.run.Goals as goal
 
 pub returns-in_default-clause-stops : goal.returns-in_default-clause-stops

@@ -1,5 +1,5 @@
 use Rattle.std.proofs.Common.{rules, tests, sym}
-use Rattle.reg_script.proofs.Meanings.{empty_line, comment, worded}
+use Rattle.reg_script.proofs.LineMeaningLemmas.{empty_line, comment, worded}
 use Rattle.reg_script.proofs.parse.parse.Goals as goal
 use Rattle.reg_script.proofs.parse.parse.Goals.{then-is_empty-via-then-is_empty, then-is_empty-via-else-is_empty+then-line-eq35}
 

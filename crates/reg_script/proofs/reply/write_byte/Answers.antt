@@ -1,6 +1,6 @@
 use Rattle.std.proofs.Common.{sym, ◌∙◌, true}
 use Rattle.std.proofs.lemmas.Fmt.{hex_byte}
-use Rattle.reg_script.proofs.Escapes.{plain_written, escape_is}
+use Rattle.reg_script.proofs.EscapedBytes.{plain_written, escape_is}
 use Rattle.reg_script.proofs.reply.write_byte.Goals as goal
 
 pub returns-then-is_plain : goal.returns-then-is_plain

@@ -1,5 +1,5 @@
 use Rattle.std.proofs.Common.{◌≡◌, ◌++◌, drop, string_bytes}
-use Rattle.reg_script.specs.Texts.{escaped}
+use Rattle.reg_script.specs.ReplyTexts.{escaped}
 use Rattle.reg_script.proofs.reply.write_escaped.Given as goal
 
 abbrev pub invariant-loop-byte : goal.invariant-loop-byte

@@ -1,5 +1,5 @@
 use Rattle.std.proofs.Common.{◌≡◌, ◌++◌, length, Some}
-use Rattle.reg_script.specs.Words.{unescaped, name_of}
+use Rattle.reg_script.specs.LineWords.{unescaped, name_of}
 use Rattle.reg_script.proofs.words.name.Given as goal
 
 abbrev pub invariant-loop-byte : goal.invariant-loop-byte

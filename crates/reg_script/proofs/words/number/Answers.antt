@@ -1,5 +1,5 @@
 use Rattle.std.proofs.Common.{refl, sym, ◌∙◌, ◌*◌, ◌+◌, arith, rules}
-use Rattle.reg_script.proofs.Numbers.{empty_none, digit_none, above_none, front_none, above_end, digits_end}
+use Rattle.reg_script.proofs.NumberWords.{empty_none, digit_none, above_none, front_none, above_end, digits_end}
 use Rattle.reg_script.proofs.words.number.Goals as goal
 
 pub returns-then-is_empty-clause-value : goal.returns-then-is_empty-clause-value

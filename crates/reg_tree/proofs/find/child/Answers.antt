@@ -1,5 +1,5 @@
-use Rattle.reg_tree.proofs.Here.{key_there}
-use Rattle.reg_tree.proofs.Found.{some_subkeys, index_within, child_found, child_missing}
+use Rattle.reg_tree.proofs.Invariant.KeyOfTree.{key_there}
+use Rattle.reg_tree.proofs.PathWalk.SubkeysFound.{some_subkeys, index_within, child_found, child_missing}
 use Rattle.reg_tree.proofs.find.child.Goals as goal
 
 pub subkeys_list-list-requires : goal.subkeys_list-list-requires

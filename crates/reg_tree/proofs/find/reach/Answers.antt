@@ -1,5 +1,5 @@
 use Rattle.std.proofs.Common.{arith}
-use Rattle.reg_tree.proofs.Passing.{starts, next, here_then, deep_then}
+use Rattle.reg_tree.proofs.PathWalk.PathSteps.{starts, next, here_then, deep_then}
 use Rattle.reg_tree.proofs.find.reach.Goals as goal
 
 pub loop-name-init : goal.loop-name-init

@@ -1,6 +1,6 @@
 use Rattle.std.proofs.Common.{length}
 use Rattle.reg_arena.specs.Cells.{cell_at}
-use Rattle.reg_tree.specs.Walks.{Passes}
+use Rattle.reg_tree.specs.Internal.PathWalks.{Passes}
 use Rattle.reg_tree.proofs.find.reach.Given as goal
 
 abbrev pub invariant-loop-name : goal.invariant-loop-name

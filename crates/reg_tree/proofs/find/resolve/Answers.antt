@@ -1,4 +1,4 @@
-use Rattle.reg_tree.proofs.Passing.{not_walked, some_names}
+use Rattle.reg_tree.proofs.PathWalk.PathSteps.{not_walked, some_names}
 use Rattle.reg_tree.proofs.find.resolve.Goals as goal
 
 pub returns-else-is_empty : goal.returns-else-is_empty

@@ -1,6 +1,6 @@
 use Rattle.std.proofs.Common.{ap}
-use Rattle.reg_records.specs.Keys.{KeyRecord}
-use Rattle.reg_tree.proofs.Openings.{key-exists, key-no_fault, key-fields}
+use Rattle.reg_records.specs.KeyNodes.{KeyRecord}
+use Rattle.reg_tree.proofs.Invariant.CellReadings.{key-exists, key-no_fault, key-fields}
 use Rattle.reg_tree.proofs.key.fields.Goals as goal
 
 pub content-requires : goal.content-requires

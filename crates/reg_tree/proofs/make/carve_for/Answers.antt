@@ -1,7 +1,7 @@
 use Rattle.std.proofs.Common.{Err, arith, length, sym, subst, ap, ◌∙◌, ◌≤◌, ◌<◌, ◌++◌}
 use Rattle.reg_names.specs.Names.{path_of}
 use Rattle.reg_arena.specs.NewCells.{AreSizes, total_of}
-use Rattle.reg_tree.proofs.Carving.{parent_there, parent_subkeys, plan_told, are-sizes, total-few, near-limit, is-full, sizes-there, spared}
+use Rattle.reg_tree.proofs.InsertKey.PathCarve.{parent_there, parent_subkeys, plan_told, are-sizes, total-few, near-limit, is-full, sizes-there, spared}
 use Rattle.reg_tree.proofs.make.carve_for.Goals as goal
 
 pub subkeys_list-requires : goal.subkeys_list-requires

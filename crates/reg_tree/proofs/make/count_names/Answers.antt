@@ -1,5 +1,5 @@
 use Rattle.std.proofs.Common.{arith}
-use Rattle.reg_tree.proofs.Counting.{counts-on}
+use Rattle.reg_tree.proofs.InsertKey.PathNameCount.{counts-on}
 use Rattle.reg_tree.proofs.make.count_names.Goals as goal
 
 pub overflow_add-count : goal.overflow_add-count

@@ -1,8 +1,8 @@
 use Rattle.std.proofs.Common.{sym, ◌∙◌}
 use Rattle.std.proofs.lemmas.Bool.{false≢true}
-use Rattle.reg_tree.proofs.Passing.{some_names}
-use Rattle.reg_tree.proofs.Creating.{parent_here, parent-deep, created_none, new_none, new_some, none_many, too_many, are_many, may_make, created}
-use Rattle.reg_tree.proofs.CreatingEnds.{from_shallow, empty_names, limit_none, limit_many, limit_other, spared_as}
+use Rattle.reg_tree.proofs.PathWalk.PathSteps.{some_names}
+use Rattle.reg_tree.proofs.InsertKey.CreatePath.{parent_here, parent-deep, created_none, new_none, new_some, none_many, too_many, are_many, may_make, created}
+use Rattle.reg_tree.proofs.InsertKey.CreatePathEnds.{from_shallow, empty_names, limit_none, limit_many, limit_other, spared_as}
 use Rattle.reg_tree.proofs.make.create.Goals as goal
 
 pub reach-requires-clause-depth : goal.reach-requires-clause-depth

@@ -1,7 +1,7 @@
-use Rattle.reg_tree.proofs.Passing.{some_names}
-use Rattle.reg_tree.proofs.Creating.{parent_here, parent-deep, none_many, too_many, are_many}
-use Rattle.reg_tree.proofs.CreatingEnds.{from_shallow, empty_names}
-use Rattle.reg_tree.proofs.Limits.{test-is, test-false}
+use Rattle.reg_tree.proofs.PathWalk.PathSteps.{some_names}
+use Rattle.reg_tree.proofs.InsertKey.CreatePath.{parent_here, parent-deep, none_many, too_many, are_many}
+use Rattle.reg_tree.proofs.InsertKey.CreatePathEnds.{from_shallow, empty_names}
+use Rattle.reg_tree.proofs.InsertKey.KeyLimits.{test-is, test-false}
 use Rattle.reg_tree.proofs.make.is_limited.Goals as goal
 
 pub reach-requires-clause-depth : goal.reach-requires-clause-depth

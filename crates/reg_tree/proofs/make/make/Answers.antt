@@ -1,5 +1,5 @@
-use Rattle.reg_tree.proofs.Openings.{is_some_of}
-use Rattle.reg_tree.proofs.Making.{key_there, security_there, users_few, some_subkeys, not_found, few_subkeys, inserts, ready1, parent2, security3, grown}
+use Rattle.reg_tree.proofs.Invariant.CellReadings.{is_some_of}
+use Rattle.reg_tree.proofs.InsertKey.InsertKeyObligations.{key_there, security_there, users_few, some_subkeys, not_found, few_subkeys, inserts, ready1, parent2, security3, grown}
 use Rattle.reg_tree.proofs.make.make.Goals as goal
 
 pub fields-above-requires : goal.fields-above-requires

@@ -1,6 +1,6 @@
 use Rattle.std.proofs.Common.{arith, sym, subst, ◌+◌, ◌-◌, drop, get_or}
 use Rattle.reg_names.specs.Names.{path_of}
-use Rattle.reg_tree.proofs.Growth.{name_short, rest_all, Midway, at_start, deep_now, may_next, ready_next, one_further, at_end}
+use Rattle.reg_tree.proofs.InsertKey.PathGrowth.{name_short, rest_all, Midway, at_start, deep_now, may_next, ready_next, one_further, at_end}
 use Rattle.reg_tree.proofs.make.make_all.Goals as goal
 
 pub loop-name-init : goal.loop-name-init

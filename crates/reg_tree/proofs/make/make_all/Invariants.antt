@@ -1,7 +1,7 @@
 use Rattle.std.proofs.Common.{length}
 use Rattle.reg_names.specs.Names.{path_of}
-use Rattle.reg_tree.specs.Growing.{MayGrowAll}
-use Rattle.reg_tree.proofs.Growth.{Midway}
+use Rattle.reg_tree.specs.Internal.SpareCells.{MayGrowAll}
+use Rattle.reg_tree.proofs.InsertKey.PathGrowth.{Midway}
 use Rattle.reg_tree.proofs.make.make_all.Given as goal
 
 abbrev pub invariant-loop-name : goal.invariant-loop-name

@@ -1,9 +1,9 @@
 use Rattle.std.proofs.Common.{◌∙◌, sym, subst, arith, get_or, drop, length, ◌+◌}
 use Rattle.reg_arena.specs.Cells.{cell_at}
-use Rattle.reg_records.specs.Cells.{HasRoom}
-use Rattle.reg_tree.specs.Growing.{Grows, AreReady}
+use Rattle.reg_records.specs.RecordCells.{HasRoom}
+use Rattle.reg_tree.specs.Internal.SpareCells.{Grows, AreReady}
 use Rattle.std.specs.Prelude.{Some}
-use Rattle.reg_tree.proofs.Nexts.{growing_there, growing_subkeys, planned_is, alone, beside, respelt, may_grow}
+use Rattle.reg_tree.proofs.InsertKey.SpareCellTaken.{growing_there, growing_subkeys, planned_is, alone, beside, respelt, may_grow}
 use Rattle.reg_tree.proofs.make.make_in.Goals as goal
 
 pub subkeys_list-list-requires : goal.subkeys_list-list-requires

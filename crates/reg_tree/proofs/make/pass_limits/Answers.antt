@@ -1,6 +1,6 @@
 use Rattle.std.proofs.Common.{arith}
-use Rattle.reg_tree.proofs.Carving.{parent_there}
-use Rattle.reg_tree.proofs.TooMany.{many-below}
+use Rattle.reg_tree.proofs.InsertKey.PathCarve.{parent_there}
+use Rattle.reg_tree.proofs.InsertKey.TooManyKeys.{many-below}
 use Rattle.reg_tree.proofs.make.pass_limits.Goals as goal
 
 pub subkeys_list-requires : goal.subkeys_list-requires

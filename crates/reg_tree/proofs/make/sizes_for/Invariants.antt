@@ -1,6 +1,6 @@
 use Rattle.std.proofs.Common.{◌≡◌, ◌++◌, true, length}
 use Rattle.reg_names.specs.Names.{is_path, path_of}
-use Rattle.reg_tree.specs.Growing.{sizes_of}
+use Rattle.reg_tree.specs.Internal.SpareCells.{sizes_of}
 use Rattle.reg_tree.proofs.make.sizes_for.Given as goal
 
 abbrev pub invariant-loop-name : goal.invariant-loop-name

@@ -1,7 +1,7 @@
-use Rattle.reg_tree.proofs.Openings.{security-exists, security-no_fault}
-use Rattle.reg_tree.proofs.Here.{key_there}
-use Rattle.reg_tree.proofs.Telling.{security_told, descriptor_told}
-use Rattle.reg_tree.proofs.Bounds.{descriptor-bound}
+use Rattle.reg_tree.proofs.Invariant.CellReadings.{security-exists, security-no_fault}
+use Rattle.reg_tree.proofs.Invariant.KeyOfTree.{key_there}
+use Rattle.reg_tree.proofs.KeyAnswers.RefinementOfKey.{security_told, descriptor_told}
+use Rattle.reg_tree.proofs.KeyAnswers.AnswerBounds.{descriptor-bound}
 use Rattle.reg_tree.proofs.read.descriptor.Goals as goal
 
 pub fields-security-requires : goal.fields-security-requires

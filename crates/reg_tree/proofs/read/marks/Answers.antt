@@ -1,5 +1,5 @@
-use Rattle.reg_tree.proofs.Here.{key_there}
-use Rattle.reg_tree.proofs.Telling.{marks_told}
+use Rattle.reg_tree.proofs.Invariant.KeyOfTree.{key_there}
+use Rattle.reg_tree.proofs.KeyAnswers.RefinementOfKey.{marks_told}
 use Rattle.reg_tree.proofs.read.marks.Goals as goal
 
 pub fields-requires : goal.fields-requires

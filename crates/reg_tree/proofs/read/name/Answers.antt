@@ -1,7 +1,7 @@
-use Rattle.reg_tree.proofs.Openings.{key-exists, key-no_fault}
-use Rattle.reg_tree.proofs.Here.{key_there}
-use Rattle.reg_tree.proofs.Telling.{name_told}
-use Rattle.reg_tree.proofs.Bounds.{name-bound}
+use Rattle.reg_tree.proofs.Invariant.CellReadings.{key-exists, key-no_fault}
+use Rattle.reg_tree.proofs.Invariant.KeyOfTree.{key_there}
+use Rattle.reg_tree.proofs.KeyAnswers.RefinementOfKey.{name_told}
+use Rattle.reg_tree.proofs.KeyAnswers.AnswerBounds.{name-bound}
 use Rattle.reg_tree.proofs.read.name.Goals as goal
 
 pub content-requires : goal.content-requires

@@ -1,7 +1,7 @@
 use Rattle.std.proofs.Common.{arith}
-use Rattle.reg_tree.proofs.Here.{key_there}
-use Rattle.reg_tree.proofs.Found.{some_subkeys}
-use Rattle.reg_tree.proofs.Telling.{no_subkey, subkey_told}
+use Rattle.reg_tree.proofs.Invariant.KeyOfTree.{key_there}
+use Rattle.reg_tree.proofs.PathWalk.SubkeysFound.{some_subkeys}
+use Rattle.reg_tree.proofs.KeyAnswers.RefinementOfKey.{no_subkey, subkey_told}
 use Rattle.reg_tree.proofs.read.subkey.Goals as goal
 
 pub subkeys_list-list-requires : goal.subkeys_list-list-requires

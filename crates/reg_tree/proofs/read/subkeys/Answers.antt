@@ -1,6 +1,6 @@
 use Rattle.std.proofs.Common.{◌∙◌}
-use Rattle.reg_tree.proofs.Here.{key_there}
-use Rattle.reg_tree.proofs.Telling.{number_told}
+use Rattle.reg_tree.proofs.Invariant.KeyOfTree.{key_there}
+use Rattle.reg_tree.proofs.KeyAnswers.RefinementOfKey.{number_told}
 use Rattle.reg_tree.proofs.read.subkeys.Goals as goal
 
 pub subkeys_list-requires : goal.subkeys_list-requires

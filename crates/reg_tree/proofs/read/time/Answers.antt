@@ -1,5 +1,5 @@
-use Rattle.reg_tree.proofs.Here.{key_there}
-use Rattle.reg_tree.proofs.Telling.{time_told}
+use Rattle.reg_tree.proofs.Invariant.KeyOfTree.{key_there}
+use Rattle.reg_tree.proofs.KeyAnswers.RefinementOfKey.{time_told}
 use Rattle.reg_tree.proofs.read.time.Goals as goal
 
 pub fields-requires : goal.fields-requires

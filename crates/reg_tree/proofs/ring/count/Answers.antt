@@ -1,6 +1,6 @@
 use Rattle.std.proofs.Common.{ap}
-use Rattle.reg_records.specs.Securities.{KeySecurityRecord}
-use Rattle.reg_tree.proofs.Openings.{security-exists, security-no_fault, security-read_is}
+use Rattle.reg_records.specs.KeySecurities.{KeySecurityRecord}
+use Rattle.reg_tree.proofs.Invariant.CellReadings.{security-exists, security-no_fault, security-read_is}
 use Rattle.reg_tree.proofs.ring.count.Goals as goal
 
 pub content-requires : goal.content-requires

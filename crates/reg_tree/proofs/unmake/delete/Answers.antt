@@ -1,7 +1,7 @@
 use Rattle.reg_arena.specs.Cells.{cell_at}
-use Rattle.reg_tree.proofs.Deleted.{unlink-ready, free-ready, count-there, count-some, is-deleted}
-use Rattle.reg_tree.proofs.DeletedFaults.{childless, inner}
-use Rattle.reg_tree.proofs.Here.{key_there}
+use Rattle.reg_tree.proofs.DeleteKey.DeleteKeyObligations.{unlink-ready, free-ready, count-there, count-some, is-deleted}
+use Rattle.reg_tree.proofs.DeleteKey.DeleteKeyFaults.{childless, inner}
+use Rattle.reg_tree.proofs.Invariant.KeyOfTree.{key_there}
 use Rattle.reg_tree.proofs.unmake.delete.Goals as goal
 
 pub fields-head-requires : goal.fields-head-requires

@@ -1,5 +1,5 @@
 use Rattle.reg_arena.specs.Cells.{cell_at}
-use Rattle.reg_tree.proofs.DeletedCells.{sole-there, sole-values, sole-class, sole-left, sole-gone}
+use Rattle.reg_tree.proofs.DeleteKey.DeletedKeyCells.{sole-there, sole-values, sole-class, sole-left, sole-gone}
 use Rattle.reg_tree.proofs.unmake.free_key.Goals as goal
 
 pub fields-head-requires : goal.fields-head-requires

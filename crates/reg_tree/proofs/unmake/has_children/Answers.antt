@@ -1,5 +1,5 @@
-use Rattle.reg_tree.proofs.DeletedFaults.{has-children}
-use Rattle.reg_tree.proofs.Here.{key_there}
+use Rattle.reg_tree.proofs.DeleteKey.DeleteKeyFaults.{has-children}
+use Rattle.reg_tree.proofs.Invariant.KeyOfTree.{key_there}
 use Rattle.reg_tree.proofs.unmake.has_children.Goals as goal
 
 pub fields-requires : goal.fields-requires

@@ -1,5 +1,5 @@
-use Rattle.reg_tree.proofs.DeletedFaults.{root-kept, mark-kept}
-use Rattle.reg_tree.proofs.Here.{key_there}
+use Rattle.reg_tree.proofs.DeleteKey.DeleteKeyFaults.{root-kept, mark-kept}
+use Rattle.reg_tree.proofs.Invariant.KeyOfTree.{key_there}
 use Rattle.reg_tree.proofs.unmake.is_kept.Goals as goal
 
 pub fields-flags-requires : goal.fields-flags-requires

@@ -1,7 +1,7 @@
 use Rattle.std.proofs.Common.{subst, sym, arith}
 use Rattle.std.specs.Prelude.{IsSome}
 use Rattle.reg_arena.specs.Cells.{cell_at}
-use Rattle.reg_tree.proofs.Unlinked.{found-there, not-missing, listed-subkeys, listed-within, parent-there, parent-stays, unlinked}
+use Rattle.reg_tree.proofs.DeleteKey.SubkeyUnlinked.{found-there, not-missing, listed-subkeys, listed-within, parent-there, parent-stays, unlinked}
 use Rattle.reg_tree.proofs.unmake.unlink.Goals as goal
 
 pub unreachable-requires : goal.unreachable-requires

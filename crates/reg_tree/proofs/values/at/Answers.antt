@@ -1,7 +1,7 @@
 use Rattle.std.proofs.Common.{[]}
-use Rattle.reg_tree.proofs.Here.{key_there, list_values}
-use Rattle.reg_tree.proofs.Told.{value_at_told, past_end}
-use Rattle.reg_tree.proofs.Bounds.{value-bound}
+use Rattle.reg_tree.proofs.Invariant.KeyOfTree.{key_there, list_values}
+use Rattle.reg_tree.proofs.KeyAnswers.RefinementOfValues.{value_at_told, past_end}
+use Rattle.reg_tree.proofs.KeyAnswers.AnswerBounds.{value-bound}
 use Rattle.reg_tree.proofs.values.at.Goals as goal
 
 pub values_list-list-requires : goal.values_list-list-requires

@@ -1,8 +1,8 @@
 use Rattle.std.proofs.Common.{arith, ◌≡◌, List, Some, slice_get, []}
 use Rattle.reg_heap.specs.Paths.{Member}
-use Rattle.reg_values.proofs.Found.{is-ok}
-use Rattle.reg_tree.proofs.Here.{key_there, list_values, list_length}
-use Rattle.reg_tree.proofs.Told.{of_members}
+use Rattle.reg_values.proofs.ValueListing.FoundValues.{is-ok}
+use Rattle.reg_tree.proofs.Invariant.KeyOfTree.{key_there, list_values, list_length}
+use Rattle.reg_tree.proofs.KeyAnswers.RefinementOfValues.{of_members}
 use Rattle.reg_tree.proofs.values.bytes.Goals as goal
 
 pub values_list-requires : goal.values_list-requires

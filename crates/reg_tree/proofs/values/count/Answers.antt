@@ -1,4 +1,4 @@
-use Rattle.reg_tree.proofs.Here.{key_there, list_length}
+use Rattle.reg_tree.proofs.Invariant.KeyOfTree.{key_there, list_length}
 use Rattle.reg_tree.proofs.values.count.Goals as goal
 
 pub values_list-requires : goal.values_list-requires

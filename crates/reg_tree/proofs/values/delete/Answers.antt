@@ -1,7 +1,7 @@
 use Rattle.std.proofs.Common.{refl}
-use Rattle.reg_tree.proofs.Here.{key_there, list_values, list_reads}
-use Rattle.reg_tree.proofs.Changed.{key_mid, delete_changed}
-use Rattle.reg_tree.proofs.Told.{found_none, some_named}
+use Rattle.reg_tree.proofs.Invariant.KeyOfTree.{key_there, list_values, list_reads}
+use Rattle.reg_tree.proofs.ValueChange.TreeAfterValueChange.{key_mid, delete_changed}
+use Rattle.reg_tree.proofs.KeyAnswers.RefinementOfValues.{found_none, some_named}
 use Rattle.reg_tree.proofs.values.delete.Goals as goal
 
 pub values_list-old-requires : goal.values_list-old-requires

@@ -1,5 +1,5 @@
-use Rattle.reg_tree.proofs.Here.{key_there, list_values}
-use Rattle.reg_tree.proofs.Told.{none_told, some_within, some_told}
+use Rattle.reg_tree.proofs.Invariant.KeyOfTree.{key_there, list_values}
+use Rattle.reg_tree.proofs.KeyAnswers.RefinementOfValues.{none_told, some_within, some_told}
 use Rattle.reg_tree.proofs.values.find.Goals as goal
 
 pub values_list-list-requires : goal.values_list-list-requires

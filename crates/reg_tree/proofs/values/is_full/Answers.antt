@@ -1,6 +1,6 @@
 use Rattle.std.proofs.Common.{◌∙◌}
-use Rattle.reg_tree.proofs.Here.{list_values}
-use Rattle.reg_tree.proofs.Told.{full_by, room_by, none_is}
+use Rattle.reg_tree.proofs.Invariant.KeyOfTree.{list_values}
+use Rattle.reg_tree.proofs.KeyAnswers.RefinementOfValues.{full_by, room_by, none_is}
 use Rattle.reg_tree.proofs.values.is_full.Goals as goal
 
 pub find-requires : goal.find-requires

@@ -1,6 +1,6 @@
-use Rattle.reg_tree.proofs.Here.{key_there, list_values, list_reads}
-use Rattle.reg_tree.proofs.Changed.{key_mid, set_changed}
-use Rattle.reg_tree.proofs.Told.{other_fault, no_fault}
+use Rattle.reg_tree.proofs.Invariant.KeyOfTree.{key_there, list_values, list_reads}
+use Rattle.reg_tree.proofs.ValueChange.TreeAfterValueChange.{key_mid, set_changed}
+use Rattle.reg_tree.proofs.KeyAnswers.RefinementOfValues.{other_fault, no_fault}
 use Rattle.reg_tree.proofs.values.set.Goals as goal
 
 pub values_list-old-requires : goal.values_list-old-requires

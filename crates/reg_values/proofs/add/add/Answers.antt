@@ -1,16 +1,16 @@
 use Rattle.std.proofs.Common.{ℕ, List, ◌+◌, ◌-◌, ◌*◌, ◌≤◌, ◌∷◌, [], ap, sym, ◌∙◌, subst, length, arith, refl, get_or, take, drop}
 use Rattle.reg_heap.specs.Paths.{Member}
-use Rattle.reg_heap.specs.Heaps.{AreNew, allocated}
-use Rattle.reg_heap.specs.Kinds.{Found, owned, times}
+use Rattle.reg_heap.specs.Internal.Heaps.{AreNew, allocated}
+use Rattle.reg_heap.specs.Internal.Kinds.{Found, owned, times}
 use Rattle.reg_arena.specs.Cells.{cell_at}
 use Rattle.reg_arena.specs.NewCells.{total_of, AreSizes}
-use Rattle.reg_records.specs.Written.{AreWritten}
-use Rattle.reg_values.proofs.Found.{list-there, same-read}
-use Rattle.reg_values.proofs.Listed.{list-open}
-use Rattle.reg_values.proofs.Filling.{fills-room}
-use Rattle.reg_values.proofs.Rooms.{room-less}
-use Rattle.reg_values.proofs.Totals.{add-ok, add-total, value-name}
-use Rattle.reg_values.proofs.Added.{was, list2, owns2, beside2, added, add-makes, new-all, one-rooms, one-parts, two-long, two-rooms, two-list, two-parts, room-sizes, full-sizes, list-space, some-count, became-as}
+use Rattle.reg_shape.specs.Written.{AreWritten}
+use Rattle.reg_values.proofs.ValueListing.FoundValues.{list-there, same-read}
+use Rattle.reg_values.proofs.ValueListing.ValueListFrame.{list-open}
+use Rattle.reg_values.proofs.ValueData.FilledCells.{fills-room}
+use Rattle.reg_values.proofs.ValueData.NewCellRoom.{room-less}
+use Rattle.reg_values.proofs.ValueData.CellSizeTotals.{add-ok, add-total, value-name}
+use Rattle.reg_values.proofs.ValueChanges.ValueAdded.{was, list2, owns2, beside2, added, add-makes, new-all, one-rooms, one-parts, two-long, two-rooms, two-list, two-parts, room-sizes, full-sizes, list-space, some-count, became-as}
 use Rattle.reg_values.proofs.add.add.Goals as goal
 
 pub plan_add-requires-clause-list : goal.plan_add-requires-clause-list

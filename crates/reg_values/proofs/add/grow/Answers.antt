@@ -1,6 +1,6 @@
 use Rattle.reg_arena.specs.Cells.{cell_at}
-use Rattle.reg_values.proofs.Filling.{fills-cell}
-use Rattle.reg_values.proofs.Grown.{grown, fills-keeps}
+use Rattle.reg_values.proofs.ValueData.FilledCells.{fills-cell}
+use Rattle.reg_values.proofs.ValueChanges.ValueListGrown.{grown, fills-keeps}
 use Rattle.reg_values.proofs.add.grow.Goals as goal
 
 pub returns-clause-list : goal.returns-clause-list

@@ -1,13 +1,13 @@
 use Rattle.std.proofs.Common.{ℕ, List, ◌++◌, ◌+◌, ◌*◌, ◌≤◌, ◌<◌, ◌∷◌, [], ap, sym, ◌∙◌, subst, arith, refl}
 use Rattle.std.proofs.lemmas.Option.{same_Some}
-use Rattle.reg_heap.specs.Kinds.{Found, owned, times}
-use Rattle.reg_heap.specs.Heaps.{allocated}
+use Rattle.reg_heap.specs.Internal.Kinds.{Found, owned, times}
+use Rattle.reg_heap.specs.Internal.Heaps.{allocated}
 use Rattle.reg_arena.specs.Cells.{cell_at}
-use Rattle.reg_values.specs.Parts.{list_at, BecameList}
-use Rattle.reg_values.proofs.Listed.{list-open}
-use Rattle.reg_values.proofs.Filling.{fills-none, fills-cell, fills-room}
-use Rattle.reg_values.proofs.Grown.{started, fills-keeps, copy-fills, copy-here, moved, keeps-three, old-gone}
-use Rattle.reg_values.proofs.Rooms.{room-less}
+use Rattle.reg_values.specs.Internal.ValueListParts.{list_at, BecameList}
+use Rattle.reg_values.proofs.ValueListing.ValueListFrame.{list-open}
+use Rattle.reg_values.proofs.ValueData.FilledCells.{fills-none, fills-cell, fills-room}
+use Rattle.reg_values.proofs.ValueChanges.ValueListGrown.{started, fills-keeps, copy-fills, copy-here, moved, keeps-three, old-gone}
+use Rattle.reg_values.proofs.ValueData.NewCellRoom.{room-less}
 use Rattle.reg_values.proofs.add.move_list.Goals as goal
 
 pub returns-then-list-eq0-clause-list : goal.returns-then-list-eq0-clause-list

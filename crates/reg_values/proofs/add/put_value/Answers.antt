@@ -1,8 +1,8 @@
 use Rattle.std.proofs.Common.{◌+◌, length, arith}
 use Rattle.reg_arena.specs.Cells.{cell_at}
-use Rattle.reg_values.proofs.Filling.{fills-cell, fills-room}
-use Rattle.reg_values.proofs.Rooms.{room-tail, room-head, room-less}
-use Rattle.reg_values.proofs.Valued.{put-fills, put-holds}
+use Rattle.reg_values.proofs.ValueData.FilledCells.{fills-cell, fills-room}
+use Rattle.reg_values.proofs.ValueData.NewCellRoom.{room-tail, room-head, room-less}
+use Rattle.reg_values.proofs.ValueData.WrittenValues.{put-fills, put-holds}
 use Rattle.reg_values.proofs.add.put_value.Goals as goal
 
 pub put_data-data-requires-clause-cells : goal.put_data-data-requires-clause-cells

@@ -1,13 +1,13 @@
 use Rattle.std.proofs.Common.{sym, ap, ◌∙◌, ◌≡◌, ◌≤◌, ◌*◌, ℕ, List, Some, IsSome, length, subst}
 use Rattle.std.proofs.lemmas.Option.{same_Some}
-use Rattle.reg_heap.specs.Kinds.{Found}
+use Rattle.reg_heap.specs.Internal.Kinds.{Found}
 use Rattle.reg_arena.specs.Cells.{cell_at}
-use Rattle.reg_records.specs.Cells.{held}
-use Rattle.reg_records.specs.Pieces.{BigData, segments_for}
-use Rattle.reg_records.specs.Nodes.{big_at}
-use Rattle.reg_values.specs.Parts.{segments_at}
-use Rattle.reg_values.proofs.Found.{is-some, some-of, is-ok}
-use Rattle.reg_values.proofs.Pieces.{big-open}
+use Rattle.reg_records.specs.RecordCells.{held}
+use Rattle.reg_records.specs.BigData.{BigData, segments_for}
+use Rattle.reg_shape.specs.Nodes.{big_at}
+use Rattle.reg_values.specs.Internal.ValueListParts.{segments_at}
+use Rattle.reg_values.proofs.ValueListing.FoundValues.{is-some, some-of, is-ok}
+use Rattle.reg_values.proofs.ValueData.DataPieces.{big-open}
 use Rattle.reg_values.proofs.big.big_bytes.Goals as goal
 
 pub big_at-list-requires-clause-exists : goal.big_at-list-requires-clause-exists

@@ -1,13 +1,13 @@
 use Rattle.std.proofs.Common.{ℕ, ◌+◌, ◌*◌, ◌≤◌, ◌∷◌, [], length, sym, subst, arith}
-use Rattle.reg_heap.specs.Heaps.{GivesUp, allocated}
-use Rattle.reg_heap.specs.Kinds.{times}
+use Rattle.reg_heap.specs.Internal.Heaps.{GivesUp, allocated}
+use Rattle.reg_heap.specs.Internal.Kinds.{times}
 use Rattle.reg_arena.specs.Cells.{cell_at}
-use Rattle.reg_records.specs.Cells.{held}
-use Rattle.reg_records.specs.Rows.{offsets_at}
-use Rattle.reg_records.specs.Pieces.{segments_for}
-use Rattle.reg_values.proofs.Found.{is-some}
-use Rattle.reg_values.proofs.Pieces.{big-open}
-use Rattle.reg_values.proofs.Freed.{big-list, big-long, big-owned, gone-more, gone-as, still-there}
+use Rattle.reg_records.specs.RecordCells.{held}
+use Rattle.reg_records.specs.OffsetRows.{offsets_at}
+use Rattle.reg_records.specs.BigData.{segments_for}
+use Rattle.reg_values.proofs.ValueListing.FoundValues.{is-some}
+use Rattle.reg_values.proofs.ValueData.DataPieces.{big-open}
+use Rattle.reg_values.proofs.ValueFreeing.FreedRuns.{big-list, big-long, big-owned, gone-more, gone-as, still-there}
 use Rattle.reg_values.proofs.big.free_big.Goals as goal
 
 pub big_at-list-requires-clause-exists : goal.big_at-list-requires-clause-exists

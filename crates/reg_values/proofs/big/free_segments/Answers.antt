@@ -1,11 +1,11 @@
 use Rattle.std.proofs.Common.{ℕ, List, IsSome, ◌∙◌, ◌∷◌, [], length, sym, ap, subst, arith}
-use Rattle.reg_heap.specs.Heaps.{GivesUp}
+use Rattle.reg_heap.specs.Internal.Heaps.{GivesUp}
 use Rattle.reg_arena.specs.Cells.{cell_at}
-use Rattle.reg_records.specs.Cells.{held}
-use Rattle.reg_records.specs.Rows.{offsets_at}
-use Rattle.reg_values.proofs.Opening.{length-offsets}
-use Rattle.reg_values.proofs.Found.{held-is, offset-of}
-use Rattle.reg_values.proofs.Freed.{list-kept, next-there, freed-more, freed-none, freed-all}
+use Rattle.reg_records.specs.RecordCells.{held}
+use Rattle.reg_records.specs.OffsetRows.{offsets_at}
+use Rattle.reg_values.proofs.ValueListing.ValueListOpening.{length-offsets}
+use Rattle.reg_values.proofs.ValueListing.FoundValues.{held-is, offset-of}
+use Rattle.reg_values.proofs.ValueFreeing.FreedRuns.{list-kept, next-there, freed-more, freed-none, freed-all}
 use Rattle.reg_values.proofs.big.free_segments.Goals as goal
 
 pub loop-index-init : goal.loop-index-init

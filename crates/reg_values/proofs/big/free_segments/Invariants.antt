@@ -1,8 +1,8 @@
 use Rattle.std.proofs.Common.{take}
-use Rattle.reg_heap.specs.Heaps.{GivesUp}
+use Rattle.reg_heap.specs.Internal.Heaps.{GivesUp}
 use Rattle.reg_arena.specs.Cells.{cell_at}
-use Rattle.reg_records.specs.Cells.{held}
-use Rattle.reg_records.specs.Rows.{offsets_at}
+use Rattle.reg_records.specs.RecordCells.{held}
+use Rattle.reg_records.specs.OffsetRows.{offsets_at}
 use Rattle.reg_values.proofs.big.free_segments.Given as goal
 
 abbrev pub invariant-loop-index : goal.invariant-loop-index

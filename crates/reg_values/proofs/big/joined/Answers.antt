@@ -1,12 +1,12 @@
 use Rattle.std.proofs.Common.{sym, ap, ◌∙◌, ◌≡◌, ◌<◌, ◌+◌, ℕ, List, length, take, ◌++◌, arith, subst, length-take}
 use Rattle.std.proofs.lemmas.Option.{same_Some}
 use Rattle.reg_arena.specs.Cells.{cell_at}
-use Rattle.reg_records.specs.Cells.{held}
-use Rattle.reg_records.specs.Rows.{offsets_at}
-use Rattle.reg_records.specs.Pieces.{segments_for}
-use Rattle.reg_values.proofs.Opening.{length-offsets}
-use Rattle.reg_values.proofs.Found.{is-some, some-of, offset-of}
-use Rattle.reg_values.proofs.Pieces.{Joined, joined-none, joined-next, joined-all, count-is, within}
+use Rattle.reg_records.specs.RecordCells.{held}
+use Rattle.reg_records.specs.OffsetRows.{offsets_at}
+use Rattle.reg_records.specs.BigData.{segments_for}
+use Rattle.reg_values.proofs.ValueListing.ValueListOpening.{length-offsets}
+use Rattle.reg_values.proofs.ValueListing.FoundValues.{is-some, some-of, offset-of}
+use Rattle.reg_values.proofs.ValueData.DataPieces.{Joined, joined-none, joined-next, joined-all, count-is, within}
 use Rattle.reg_values.proofs.big.joined.Goals as goal
 
 pub loop-index-init : goal.loop-index-init

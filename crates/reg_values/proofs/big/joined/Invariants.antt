@@ -1,11 +1,11 @@
 use Rattle.std.proofs.Common.{◌≡◌, List, ℕ, Some}
-use Rattle.reg_heap.specs.Kinds.{Found}
+use Rattle.reg_heap.specs.Internal.Kinds.{Found}
 use Rattle.reg_arena.specs.Cells.{cell_at}
-use Rattle.reg_records.specs.Cells.{held}
-use Rattle.reg_records.specs.Rows.{offsets_at}
-use Rattle.reg_records.specs.Pieces.{segments_for}
-use Rattle.reg_values.specs.Parts.{segments_at}
-use Rattle.reg_values.proofs.Pieces.{Joined}
+use Rattle.reg_records.specs.RecordCells.{held}
+use Rattle.reg_records.specs.OffsetRows.{offsets_at}
+use Rattle.reg_records.specs.BigData.{segments_for}
+use Rattle.reg_values.specs.Internal.ValueListParts.{segments_at}
+use Rattle.reg_values.proofs.ValueData.DataPieces.{Joined}
 use Rattle.reg_values.proofs.big.joined.Given as goal
 
 abbrev pub invariant-loop-index : goal.invariant-loop-index

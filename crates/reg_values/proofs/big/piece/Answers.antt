@@ -1,5 +1,5 @@
 use Rattle.std.proofs.Common.{◌*◌}
-use Rattle.reg_values.proofs.Stored.{piece-is}
+use Rattle.reg_values.proofs.ValueData.StoredData.{piece-is}
 use Rattle.reg_values.proofs.big.piece.Goals as goal
 
 pub returns : goal.returns

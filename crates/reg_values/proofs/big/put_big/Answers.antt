@@ -1,7 +1,7 @@
 use Rattle.std.proofs.Common.{length, arith, refl}
 use Rattle.reg_arena.specs.Cells.{cell_at}
-use Rattle.reg_values.proofs.Filling.{fills-cell}
-use Rattle.reg_values.proofs.Stored.{big-holds, few-segments, all-segments}
+use Rattle.reg_values.proofs.ValueData.FilledCells.{fills-cell}
+use Rattle.reg_values.proofs.ValueData.StoredData.{big-holds, few-segments, all-segments}
 use Rattle.reg_values.proofs.big.put_big.Goals as goal
 
 pub overflow_cast-fields : goal.overflow_cast-fields

@@ -1,6 +1,6 @@
 use Rattle.std.proofs.Common.{ap, length, arith}
 use Rattle.reg_arena.specs.Cells.{cell_at}
-use Rattle.reg_values.proofs.Filling.{fills-there, fills-room, pieces-none, pieces-more, pieces-all}
+use Rattle.reg_values.proofs.ValueData.FilledCells.{fills-there, fills-room, pieces-none, pieces-more, pieces-all}
 use Rattle.reg_values.proofs.big.put_pieces.Goals as goal
 
 pub loop-index-init : goal.loop-index-init

@@ -1,5 +1,5 @@
 use Rattle.reg_arena.specs.Cells.{cell_at}
-use Rattle.reg_values.proofs.Filling.{row-none, row-all}
+use Rattle.reg_values.proofs.ValueData.FilledCells.{row-none, row-all}
 use Rattle.reg_values.proofs.big.put_row.Goals as goal
 
 pub loop-index-init : goal.loop-index-init

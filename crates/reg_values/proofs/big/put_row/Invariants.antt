@@ -1,5 +1,5 @@
 use Rattle.reg_arena.specs.Cells.{cell_at}
-use Rattle.reg_values.proofs.Filling.{RowFilled}
+use Rattle.reg_values.proofs.ValueData.FilledCells.{RowFilled}
 use Rattle.reg_values.proofs.big.put_row.Given as goal
 
 abbrev pub invariant-loop-index : goal.invariant-loop-index

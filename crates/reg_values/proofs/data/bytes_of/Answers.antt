@@ -1,11 +1,11 @@
 use Rattle.std.proofs.Common.{sym, ap, ◌∙◌, ◌≡◌, slice_get, Some, List, ℕ}
 use Rattle.reg_heap.specs.Paths.{Member}
-use Rattle.reg_heap.specs.Kinds.{Found}
+use Rattle.reg_heap.specs.Internal.Kinds.{Found}
 use Rattle.reg_arena.specs.Cells.{cell_at}
-use Rattle.reg_records.specs.Values.{value_record_at}
-use Rattle.reg_records.specs.Nodes.{members_at, data_at}
-use Rattle.reg_values.proofs.Found.{is-some, stands, is-ok}
-use Rattle.reg_values.proofs.Pieces.{told-data}
+use Rattle.reg_records.specs.KeyValues.{value_record_at}
+use Rattle.reg_shape.specs.Nodes.{members_at, data_at}
+use Rattle.reg_values.proofs.ValueListing.FoundValues.{is-some, stands, is-ok}
+use Rattle.reg_values.proofs.ValueData.DataPieces.{told-data}
 use Rattle.reg_values.proofs.data.bytes_of.Goals as goal
 
 pub cell_of-requires-clause-list : goal.cell_of-requires-clause-list

@@ -1,8 +1,8 @@
 use Rattle.std.proofs.Common.{arith}
-use Rattle.reg_heap.specs.Kinds.{owned}
+use Rattle.reg_heap.specs.Internal.Kinds.{owned}
 use Rattle.reg_arena.specs.Cells.{cell_at}
-use Rattle.reg_values.proofs.Pieces.{big-data}
-use Rattle.reg_values.proofs.Freed.{gone-as, one-owned}
+use Rattle.reg_values.proofs.ValueData.DataPieces.{big-data}
+use Rattle.reg_values.proofs.ValueFreeing.FreedRuns.{gone-as, one-owned}
 use Rattle.reg_values.proofs.data.free_data.Goals as goal
 
 pub free_big-requires-clause-big : goal.free_big-requires-clause-big

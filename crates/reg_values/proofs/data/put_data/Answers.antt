@@ -1,9 +1,9 @@
 use Rattle.std.proofs.Common.{sym, subst, length, arith, get_or}
 use Rattle.reg_arena.specs.Cells.{cell_at}
-use Rattle.reg_values.specs.Parts.{Fills, HoldsData}
-use Rattle.reg_values.proofs.Filling.{fills-none}
-use Rattle.reg_values.proofs.Stored.{near-holds, one-fills, one-holds}
-use Rattle.reg_values.proofs.Rooms.{some-long, one-long, one-room, list-one, big-long, big-cells, big-count, big-once, big-head, big-list, big-room}
+use Rattle.reg_values.specs.Internal.ValueListParts.{Fills, HoldsData}
+use Rattle.reg_values.proofs.ValueData.FilledCells.{fills-none}
+use Rattle.reg_values.proofs.ValueData.StoredData.{near-holds, one-fills, one-holds}
+use Rattle.reg_values.proofs.ValueData.NewCellRoom.{some-long, one-long, one-room, list-one, big-long, big-cells, big-count, big-once, big-head, big-list, big-room}
 use Rattle.reg_values.proofs.data.put_data.Goals as goal
 
 pub returns-then-bytes-le-INLINE_LIMIT-clause-fills : goal.returns-then-bytes-le-INLINE_LIMIT-clause-fills

@@ -1,4 +1,4 @@
-use Rattle.reg_values.proofs.Opening.{values-again}
+use Rattle.reg_values.proofs.ValueListing.ValueListOpening.{values-again}
 use Rattle.reg_values.proofs.laws.changed_list_is_a_list.Goals as goal
 
 pub returns : goal.returns

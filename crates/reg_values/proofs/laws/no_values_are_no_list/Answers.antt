@@ -1,4 +1,4 @@
-use Rattle.reg_values.proofs.Opening.{no-values}
+use Rattle.reg_values.proofs.ValueListing.ValueListOpening.{no-values}
 use Rattle.reg_values.proofs.laws.no_values_are_no_list.Goals as goal
 
 pub returns : goal.returns

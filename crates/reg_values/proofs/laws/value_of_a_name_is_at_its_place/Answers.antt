@@ -1,4 +1,4 @@
-use Rattle.reg_values.proofs.Telling.{named-at}
+use Rattle.reg_values.proofs.ValueListing.ToldValues.{named-at}
 use Rattle.reg_values.proofs.laws.value_of_a_name_is_at_its_place.Goals as goal
 
 pub returns : goal.returns

@@ -1,10 +1,10 @@
 use Rattle.std.proofs.Common.{sym, ap, ◌∙◌, ◌≡◌, true, false, arith}
 use Rattle.reg_heap.specs.Members.{place_named, same_name}
 use Rattle.reg_arena.specs.Cells.{cell_at}
-use Rattle.reg_records.specs.Values.{value_record_at}
-use Rattle.reg_values.proofs.Opening.{members-length}
-use Rattle.reg_values.proofs.Found.{is-some, stands, add-none, passed, met-here, none-left, same-is}
-use Rattle.reg_values.proofs.Pieces.{told-name}
+use Rattle.reg_records.specs.KeyValues.{value_record_at}
+use Rattle.reg_values.proofs.ValueListing.ValueListOpening.{members-length}
+use Rattle.reg_values.proofs.ValueListing.FoundValues.{is-some, stands, add-none, passed, met-here, none-left, same-is}
+use Rattle.reg_values.proofs.ValueData.DataPieces.{told-name}
 use Rattle.reg_values.proofs.look.find.Goals as goal
 
 pub loop-index-init : goal.loop-index-init

@@ -1,10 +1,10 @@
 use Rattle.std.proofs.Common.{◌≡◌, List, Some, drop}
 use Rattle.reg_heap.specs.Paths.{Member}
-use Rattle.reg_heap.specs.Kinds.{Found}
+use Rattle.reg_heap.specs.Internal.Kinds.{Found}
 use Rattle.reg_heap.specs.Members.{place_named}
 use Rattle.reg_arena.specs.Cells.{cell_at}
-use Rattle.reg_records.specs.Nodes.{members_at}
-use Rattle.reg_values.proofs.Found.{add-to}
+use Rattle.reg_shape.specs.Nodes.{members_at}
+use Rattle.reg_values.proofs.ValueListing.FoundValues.{add-to}
 use Rattle.reg_values.proofs.look.find.Given as goal
 
 abbrev pub invariant-loop-index : goal.invariant-loop-index

@@ -1,6 +1,6 @@
 use Rattle.reg_arena.specs.Cells.{cell_at}
-use Rattle.reg_records.proofs.Values.{value_record_at-made}
-use Rattle.reg_values.proofs.Found.{record-there, no-fault}
+use Rattle.reg_records.proofs.KeyValueCodec.{value_record_at-made}
+use Rattle.reg_values.proofs.ValueListing.FoundValues.{record-there, no-fault}
 use Rattle.reg_values.proofs.look.record_at.Goals as goal
 
 pub content-requires : goal.content-requires

@@ -1,5 +1,5 @@
 use Rattle.std.proofs.Common.{◌+◌, sym, subst}
-use Rattle.reg_values.proofs.Planned.{Sized, sized-none, sized-more, sized-all, piece-size}
+use Rattle.reg_values.proofs.ValueChanges.PlannedSizes.{Sized, sized-none, sized-more, sized-all, piece-size}
 use Rattle.reg_values.proofs.plan.plan_segments.Goals as goal
 
 pub loop-index-init : goal.loop-index-init

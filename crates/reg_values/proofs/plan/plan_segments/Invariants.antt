@@ -1,4 +1,4 @@
-use Rattle.reg_values.proofs.Planned.{Sized}
+use Rattle.reg_values.proofs.ValueChanges.PlannedSizes.{Sized}
 use Rattle.reg_values.proofs.plan.plan_segments.Given as goal
 
 abbrev pub invariant-loop-index : goal.invariant-loop-index

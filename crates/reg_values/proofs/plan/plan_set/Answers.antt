@@ -1,10 +1,10 @@
 use Rattle.std.proofs.Common.{length, None, sym, ap, ◌∙◌, ◌≡◌, [], cond}
 use Rattle.reg_arena.specs.Cells.{cell_at}
-use Rattle.reg_records.specs.Values.{value_record_at}
-use Rattle.reg_values.specs.Sizes.{data_sizes, stays, sizes_by, set_sizes}
-use Rattle.reg_values.proofs.Found.{is-some, named-stands, list-there, is-ok}
-use Rattle.reg_values.proofs.Pieces.{told-data, told-written, data-there}
-use Rattle.reg_values.proofs.Planned.{sizes-some, sizes-none}
+use Rattle.reg_records.specs.KeyValues.{value_record_at}
+use Rattle.reg_values.specs.ValueSizes.{data_sizes, stays, sizes_by, set_sizes}
+use Rattle.reg_values.proofs.ValueListing.FoundValues.{is-some, named-stands, list-there, is-ok}
+use Rattle.reg_values.proofs.ValueData.DataPieces.{told-data, told-written, data-there}
+use Rattle.reg_values.proofs.ValueChanges.PlannedSizes.{sizes-some, sizes-none}
 use Rattle.reg_values.proofs.plan.plan_set.Goals as goal
 
 pub cell_of-requires-clause-list : goal.cell_of-requires-clause-list

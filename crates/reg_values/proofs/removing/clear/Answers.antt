@@ -1,6 +1,6 @@
 use Rattle.reg_arena.specs.Cells.{cell_at}
 use Rattle.std.proofs.Common.{arith}
-use Rattle.reg_values.proofs.Cleared.{none-freed, list-long, next-owns, one-freed, list-freed}
+use Rattle.reg_values.proofs.ValueFreeing.ClearedLists.{none-freed, list-long, next-owns, one-freed, list-freed}
 use Rattle.reg_values.proofs.removing.clear.Goals as goal
 
 pub loop-index-init : goal.loop-index-init

@@ -1,5 +1,5 @@
 use Rattle.reg_arena.specs.Cells.{cell_at}
-use Rattle.reg_values.proofs.Cleared.{AreFreed}
+use Rattle.reg_values.proofs.ValueFreeing.ClearedLists.{AreFreed}
 use Rattle.reg_values.proofs.removing.clear.Given as goal
 
 abbrev pub invariant-loop-index : goal.invariant-loop-index

@@ -1,8 +1,8 @@
 use Rattle.std.proofs.Common.{arith}
-use Rattle.reg_heap.specs.Kinds.{owned}
+use Rattle.reg_heap.specs.Internal.Kinds.{owned}
 use Rattle.reg_arena.specs.Cells.{cell_at}
-use Rattle.reg_values.proofs.Found.{is-some, member-open}
-use Rattle.reg_values.proofs.Freed.{gone-more, still-there, member-parts, member-data, member-owned}
+use Rattle.reg_values.proofs.ValueListing.FoundValues.{is-some, member-open}
+use Rattle.reg_values.proofs.ValueFreeing.FreedRuns.{gone-more, still-there, member-parts, member-data, member-owned}
 use Rattle.reg_values.proofs.removing.free_value.Goals as goal
 
 pub record_at-requires : goal.record_at-requires

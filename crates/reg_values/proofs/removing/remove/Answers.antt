@@ -1,14 +1,14 @@
 use Rattle.std.proofs.Common.{◌≤◌, ℕ, List, arith, subst, sym, ◌∙◌}
-use Rattle.reg_heap.specs.Heaps.{allocated}
-use Rattle.reg_heap.specs.Kinds.{Found, owned}
+use Rattle.reg_heap.specs.Internal.Heaps.{allocated}
+use Rattle.reg_heap.specs.Internal.Kinds.{Found, owned}
 use Rattle.reg_arena.specs.Cells.{cell_at}
-use Rattle.reg_records.specs.Nodes.{member_at}
-use Rattle.reg_records.specs.Written.{AreWritten}
-use Rattle.reg_values.specs.Parts.{Owns, GivesUpRead}
-use Rattle.reg_values.proofs.Opening.{members-length}
-use Rattle.reg_values.proofs.Found.{named-stands, place-within, same-read}
-use Rattle.reg_values.proofs.Removed.{at-index, list-owns, item-owns, removed}
-use Rattle.reg_values.proofs.Named.{named-place}
+use Rattle.reg_shape.specs.Nodes.{member_at}
+use Rattle.reg_shape.specs.Written.{AreWritten}
+use Rattle.reg_values.specs.Internal.ValueListParts.{Owns, GivesUpRead}
+use Rattle.reg_values.proofs.ValueListing.ValueListOpening.{members-length}
+use Rattle.reg_values.proofs.ValueListing.FoundValues.{named-stands, place-within, same-read}
+use Rattle.reg_values.proofs.ValueChanges.ValueRemoved.{at-index, list-owns, item-owns, removed}
+use Rattle.reg_values.proofs.ValueListing.NamedValues.{named-place}
 use Rattle.reg_values.proofs.removing.remove.Goals as goal
 
 pub unreachable-requires : goal.unreachable-requires

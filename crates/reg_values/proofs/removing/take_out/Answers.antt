@@ -1,8 +1,8 @@
 use Rattle.std.proofs.Common.{arith, sym, ap, ◌∙◌}
 use Rattle.reg_arena.specs.Cells.{cell_at}
-use Rattle.reg_values.specs.Parts.{list_at}
-use Rattle.reg_values.proofs.Listed.{list-open}
-use Rattle.reg_values.proofs.Shifted.{emptied, closed-up, written-here}
+use Rattle.reg_values.specs.Internal.ValueListParts.{list_at}
+use Rattle.reg_values.proofs.ValueListing.ValueListFrame.{list-open}
+use Rattle.reg_values.proofs.ValueChanges.OffsetRemoved.{emptied, closed-up, written-here}
 use Rattle.reg_values.proofs.removing.take_out.Goals as goal
 
 pub free-requires : goal.free-requires

@@ -1,7 +1,7 @@
 use Rattle.reg_arena.specs.Cells.{cell_at}
-use Rattle.reg_values.proofs.Found.{is-some}
-use Rattle.reg_values.proofs.Filling.{fills-cell}
-use Rattle.reg_values.proofs.Replaced.{record-kept2, plain-kept2, data-owns3, keeps-cells, exchanged}
+use Rattle.reg_values.proofs.ValueListing.FoundValues.{is-some}
+use Rattle.reg_values.proofs.ValueData.FilledCells.{fills-cell}
+use Rattle.reg_values.proofs.ValueChanges.ValueReplaced.{record-kept2, plain-kept2, data-owns3, keeps-cells, exchanged}
 use Rattle.reg_values.proofs.replace.exchange.Goals as goal
 
 pub set_data-requires : goal.set_data-requires

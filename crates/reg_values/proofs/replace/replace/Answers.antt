@@ -2,11 +2,11 @@ use Rattle.std.proofs.Common.{true, false, cond, [], ap, sym, ◌∙◌, subst, 
 use Rattle.reg_heap.specs.Paths.{Member}
 use Rattle.reg_arena.specs.Cells.{cell_at}
 use Rattle.reg_arena.specs.NewCells.{total_of, AreSizes}
-use Rattle.reg_values.specs.Lists.{Makes}
-use Rattle.reg_values.specs.Sizes.{data_sizes}
-use Rattle.reg_values.proofs.Rooms.{new-room}
-use Rattle.reg_values.proofs.Totals.{data-ok, data-total}
-use Rattle.reg_values.proofs.Replaced.{old-there, owns-new, written-new, record-new, exchanged-new, made-new, replace-sizes, new-cells}
+use Rattle.reg_values.specs.ValueLists.{Makes}
+use Rattle.reg_values.specs.ValueSizes.{data_sizes}
+use Rattle.reg_values.proofs.ValueData.NewCellRoom.{new-room}
+use Rattle.reg_values.proofs.ValueData.CellSizeTotals.{data-ok, data-total}
+use Rattle.reg_values.proofs.ValueChanges.ValueReplaced.{old-there, owns-new, written-new, record-new, exchanged-new, made-new, replace-sizes, new-cells}
 use Rattle.reg_values.proofs.replace.replace.Goals as goal
 
 pub stays-requires : goal.stays-requires

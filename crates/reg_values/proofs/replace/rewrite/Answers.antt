@@ -1,8 +1,8 @@
 use Rattle.std.proofs.Common.{arith}
 use Rattle.reg_arena.specs.Cells.{cell_at}
-use Rattle.reg_values.proofs.Found.{is-some}
-use Rattle.reg_values.proofs.Filling.{fills-cell}
-use Rattle.reg_values.proofs.Replaced.{place-there, place-room, record-kept, plain-kept, rewritten, makes-none}
+use Rattle.reg_values.proofs.ValueListing.FoundValues.{is-some}
+use Rattle.reg_values.proofs.ValueData.FilledCells.{fills-cell}
+use Rattle.reg_values.proofs.ValueChanges.ValueReplaced.{place-there, place-room, record-kept, plain-kept, rewritten, makes-none}
 use Rattle.reg_values.proofs.replace.rewrite.Goals as goal
 
 pub write-requires-clause-exists : goal.write-requires-clause-exists

@@ -1,24 +1,24 @@
 use Rattle.std.proofs.Common.{ℕ, List, Err, ◌≡◌, ◌≤◌, ap, sym, ◌∙◌, subst, length, arith}
 use Rattle.std.proofs.lemmas.Result.{on_ok_weaker, err_from_is_err_and}
 use Rattle.reg_arena.specs.declared.ArenaFault.TheVariants.{Full}
-use Rattle.reg_heap.specs.Heaps.{allocated}
-use Rattle.reg_heap.specs.Kinds.{Found, owned}
+use Rattle.reg_heap.specs.Internal.Heaps.{allocated}
+use Rattle.reg_heap.specs.Internal.Kinds.{Found, owned}
 use Rattle.reg_arena.specs.Cells.{cell_at}
 use Rattle.reg_arena.specs.NewCells.{total_of}
 use Rattle.reg_arena.specs.Carves.{NoFit}
 use Rattle.reg_arena.specs.NewBin.{PassesLimit}
-use Rattle.reg_records.specs.Values.{value_record_at}
-use Rattle.reg_records.specs.Nodes.{member_at}
-use Rattle.reg_records.specs.Written.{IsWrittenValue, AreWritten}
-use Rattle.reg_values.specs.Lists.{Became, Makes}
-use Rattle.reg_values.specs.Parts.{Owns, BecameValue}
-use Rattle.reg_values.proofs.Opening.{members-length}
-use Rattle.reg_values.proofs.Found.{named-stands, place-within, same-read, is-ok}
-use Rattle.reg_values.proofs.Planned.{sizes-there, sizes-none}
-use Rattle.reg_values.proofs.Totals.{near, add-total, replace-total, value-name}
-use Rattle.reg_values.proofs.Named.{with-new}
-use Rattle.reg_values.proofs.Removed.{at-index}
-use Rattle.reg_values.proofs.SetAgain.{value-owns, set-again, has-space}
+use Rattle.reg_records.specs.KeyValues.{value_record_at}
+use Rattle.reg_shape.specs.Nodes.{member_at}
+use Rattle.reg_shape.specs.Written.{IsWrittenValue, AreWritten}
+use Rattle.reg_values.specs.ValueLists.{Became, Makes}
+use Rattle.reg_values.specs.Internal.ValueListParts.{Owns, BecameValue}
+use Rattle.reg_values.proofs.ValueListing.ValueListOpening.{members-length}
+use Rattle.reg_values.proofs.ValueListing.FoundValues.{named-stands, place-within, same-read, is-ok}
+use Rattle.reg_values.proofs.ValueChanges.PlannedSizes.{sizes-there, sizes-none}
+use Rattle.reg_values.proofs.ValueData.CellSizeTotals.{near, add-total, replace-total, value-name}
+use Rattle.reg_values.proofs.ValueListing.NamedValues.{with-new}
+use Rattle.reg_values.proofs.ValueChanges.ValueRemoved.{at-index}
+use Rattle.reg_values.proofs.ValueChanges.ValueSetAgain.{value-owns, set-again, has-space}
 use Rattle.reg_values.proofs.setting.set.Goals as goal
 
 pub add-requires-clause-few : goal.add-requires-clause-few

@@ -1,4 +1,4 @@
-use Rattle.reg_arena.proofs.Writes.{found}
+use Rattle.reg_arena.proofs.Contents.CellWrites.{found}
 use Rattle.reg_arena.proofs.arena.Arena.content.Goals as goal
 
 pub content_part-requires-clause-eight : goal.content_part-requires-clause-eight

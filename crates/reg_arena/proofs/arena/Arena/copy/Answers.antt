@@ -1,6 +1,6 @@
-use Rattle.reg_arena.proofs.Copies.{copied}
-use Rattle.reg_arena.proofs.Writes.{write_fits}
-use Rattle.reg_arena.proofs.Indexed.{indexed-wrote}
+use Rattle.reg_arena.proofs.Contents.CellCopies.{copied}
+use Rattle.reg_arena.proofs.Contents.CellWrites.{write_fits}
+use Rattle.reg_arena.proofs.TableUpkeep.IndexedArena.{indexed-wrote}
 use Rattle.reg_arena.proofs.arena.Arena.copy.Goals as goal
 
 pub move_part-requires-clause-source : goal.move_part-requires-clause-source

@@ -1,5 +1,5 @@
-use Rattle.reg_arena.proofs.Fresh.{fresh}
-use Rattle.reg_arena.proofs.Indexed.{indexed-fresh}
+use Rattle.reg_arena.proofs.Layout.EmptyArena.{fresh}
+use Rattle.reg_arena.proofs.TableUpkeep.IndexedArena.{indexed-fresh}
 use Rattle.reg_arena.proofs.arena.Arena.new.Goals as goal
 
 pub invariant_of-result : goal.invariant_of-result

@@ -1,6 +1,6 @@
 use Rattle.std.proofs.Common.{length}
-use Rattle.reg_arena.proofs.Writes.{wrote, write_fits}
-use Rattle.reg_arena.proofs.Indexed.{indexed-wrote}
+use Rattle.reg_arena.proofs.Contents.CellWrites.{wrote, write_fits}
+use Rattle.reg_arena.proofs.TableUpkeep.IndexedArena.{indexed-wrote}
 use Rattle.reg_arena.proofs.arena.Arena.write.Goals as goal
 
 pub write_part-requires : goal.write_part-requires

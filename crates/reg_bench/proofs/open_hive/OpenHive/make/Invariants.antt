@@ -1,7 +1,7 @@
 use Rattle.std.proofs.Common.{◌≡◌, ◌+◌, length}
 use Rattle.std.specs.Prelude.{sum_by}
 use Rattle.std.specs.Vec.Iter.{into_iter_items}
-use Rattle.reg_calls.specs.Hives.{view_of}
+use Rattle.reg_calls.specs.HiveView.{view_of}
 use Rattle.reg_bench.specs.Batches.{entries_of}
 use Rattle.reg_bench.proofs.open_hive.OpenHive.make.Given as goal
 

@@ -1,4 +1,4 @@
-use Rattle.reg_calls.proofs.Questions.{made-rooted}
+use Rattle.reg_calls.proofs.QueryAnswers.{made-rooted}
 use Rattle.reg_calls.proofs.hive.Hive.new.Goals as goal
 
 pub new-requires-in-Ok : goal.new-requires-in-Ok

@@ -3,7 +3,7 @@ use Rattle.std.specs.Prelude.{All}
 use Rattle.std.proofs.lemmas.Grind.{common_steps}
 use Rattle.std.proofs.lemmas.List.Elements.{All-tail}
 use Rattle.reg_model.specs.declared.step.Step.{Step}
-use Rattle.reg_calls.proofs.RunMore.{Run-push}
+use Rattle.reg_calls.proofs.RunSteps.{Run-push}
 use Rattle.reg_calls.proofs.hive.Hive.run.Goals as goal
 
 pub loop-step-preserved : goal.loop-step-preserved

@@ -3,7 +3,7 @@ use Rattle.std.specs.Prelude.{All}
 use Rattle.std.specs.Vec.Iter.{into_iter_items}
 use Rattle.reg_model.specs.declared.step.Step.{Step}
 use Rattle.reg_calls.specs.Runs.{Run}
-use Rattle.reg_calls.specs.Hives.{view_of}
+use Rattle.reg_calls.specs.HiveView.{view_of}
 use Rattle.reg_calls.proofs.hive.Hive.run.Given as goal
 
 abbrev pub invariant-loop-step : goal.invariant-loop-step

@@ -1,9 +1,9 @@
 use Rattle.std.proofs.Common.{◌≡◌, ◌++◌, ◌∷◌, [], ℕ, List, length, sym, ap, ◌∙◌, subst, arith, None}
 use Rattle.reg_model.specs.Causes.{State, change_cause}
 use Rattle.reg_model.specs.declared.reply.Entry.{Entry}
-use Rattle.reg_calls.specs.Stores.{IsReady, IsDone}
+use Rattle.reg_calls.specs.Internal.Stores.{IsReady, IsDone}
 use Rattle.reg_calls.specs.Views.{IsKept}
-use Rattle.reg_calls.proofs.Keeping.{ready-kept, state-view, append-room, kept-done}
+use Rattle.reg_calls.proofs.HiveInvariantLemmas.{ready-kept, state-view, append-room, kept-done}
 use Rattle.reg_calls.proofs.hive_core.Core.accept.Goals as goal
 
 pub make-requires-clause-ready : goal.make-requires-clause-ready

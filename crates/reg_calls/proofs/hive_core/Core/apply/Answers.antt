@@ -1,6 +1,6 @@
 use Rattle.std.proofs.Common.{sym, subst}
-use Rattle.reg_calls.specs.Stores.{IsReady}
-use Rattle.reg_calls.proofs.Keeping.{ready-kept}
+use Rattle.reg_calls.specs.Internal.Stores.{IsReady}
+use Rattle.reg_calls.proofs.HiveInvariantLemmas.{ready-kept}
 use Rattle.reg_calls.proofs.hive_core.Core.apply.Goals as goal
 
 pub cause-requires-clause-ready : goal.cause-requires-clause-ready

@@ -1,7 +1,7 @@
 use Rattle.std.proofs.Common.{sym, subst, length}
 use Rattle.reg_model.specs.Causes.{State}
 use Rattle.reg_calls.specs.Views.{IsRead}
-use Rattle.reg_calls.proofs.Keeping.{ready-kept, state-view}
+use Rattle.reg_calls.proofs.HiveInvariantLemmas.{ready-kept, state-view}
 use Rattle.reg_calls.proofs.hive_core.Core.read.Goals as goal
 
 pub answer-body-requires : goal.answer-body-requires

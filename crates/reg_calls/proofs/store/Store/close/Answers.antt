@@ -1,4 +1,4 @@
-use Rattle.reg_calls.proofs.Made.{close-has, close-done}
+use Rattle.reg_calls.proofs.StoreAfterChange.{close-has, close-done}
 use Rattle.reg_calls.proofs.store.Store.close.Goals as goal
 
 pub close-requires : goal.close-requires

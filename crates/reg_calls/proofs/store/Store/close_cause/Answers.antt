@@ -1,4 +1,4 @@
-use Rattle.reg_calls.proofs.Refusals.{close-found, close-missing}
+use Rattle.reg_calls.proofs.RefusalTests.{close-found, close-missing}
 use Rattle.reg_calls.proofs.store.Store.close_cause.Goals as goal
 
 pub returns-in-Some : goal.returns-in-Some

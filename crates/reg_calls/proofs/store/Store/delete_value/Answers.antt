@@ -1,4 +1,4 @@
-use Rattle.reg_calls.proofs.Made.{drop-target, drop-there, drop-done, not_refused_by}
+use Rattle.reg_calls.proofs.StoreAfterChange.{drop-target, drop-there, drop-done, not_refused_by}
 use Rattle.reg_calls.proofs.store.Store.delete_value.Goals as goal
 
 pub unreachable-requires : goal.unreachable-requires

@@ -2,8 +2,8 @@ use Rattle.std.proofs.Common.{arith}
 use Rattle.std.proofs.lemmas.Grind.{common_steps}
 use Rattle.std.proofs.lemmas.Bool.Decides.{nat_tests}
 use Rattle.reg_model.specs.declared.call.Query.TheVariants.{EnumKey}
-use Rattle.reg_calls.specs.Stores.{at}
-use Rattle.reg_calls.proofs.Questions.{refused, told, key-refused, key-causes, key-due}
+use Rattle.reg_calls.specs.Internal.Stores.{at}
+use Rattle.reg_calls.proofs.QueryAnswers.{refused, told, key-refused, key-causes, key-due}
 use Rattle.reg_calls.proofs.store.Store.enum_key.Goals as goal
 
 pub returns-in-Err : goal.returns-in-Err

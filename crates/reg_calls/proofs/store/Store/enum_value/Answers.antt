@@ -2,8 +2,8 @@ use Rattle.std.proofs.Common.{arith}
 use Rattle.std.proofs.lemmas.Grind.{common_steps}
 use Rattle.std.proofs.lemmas.Bool.Decides.{nat_tests}
 use Rattle.reg_model.specs.declared.call.Query.TheVariants.{EnumValue}
-use Rattle.reg_calls.specs.Stores.{at}
-use Rattle.reg_calls.proofs.Questions.{refused, member-refused, member-causes, member-read, allowed_is}
+use Rattle.reg_calls.specs.Internal.Stores.{at}
+use Rattle.reg_calls.proofs.QueryAnswers.{refused, member-refused, member-causes, member-read, allowed_is}
 use Rattle.reg_calls.proofs.store.Store.enum_value.Goals as goal
 
 pub returns-in-Err : goal.returns-in-Err

@@ -1,7 +1,7 @@
 use Rattle.std.proofs.Common.{[], sym, subst, refl}
 use Rattle.reg_heap.specs.Paths.{Path}
-use Rattle.reg_tree.specs.Keys.{IsAt}
-use Rattle.reg_calls.proofs.Looks.{lent, lent-path, target-has, not_gone}
+use Rattle.reg_tree.specs.TreeKeys.{IsAt}
+use Rattle.reg_calls.proofs.HandleLookUps.{lent, lent-path, target-has, not_gone}
 use Rattle.reg_calls.proofs.store.Store.key_of.Goals as goal
 
 pub unreachable-requires : goal.unreachable-requires

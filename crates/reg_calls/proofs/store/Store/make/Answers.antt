@@ -2,7 +2,7 @@ use Rattle.std.proofs.Common.{ℕ, List, sym, ap, ◌∙◌, subst}
 use Rattle.std.specs.Prelude.{Ok}
 use Rattle.reg_model.specs.declared.call.Change.{Change}
 use Rattle.reg_model.specs.declared.call.Change.TheVariants.{OpenKey}
-use Rattle.reg_calls.specs.Stores.{IsMade}
+use Rattle.reg_calls.specs.Internal.Stores.{IsMade}
 use Rattle.reg_calls.proofs.store.Store.make.Goals as goal
 
 pub returns-in-OpenRoot : goal.returns-in-OpenRoot

@@ -1,4 +1,4 @@
-use Rattle.reg_calls.proofs.Made.{open-target, open-path, open-room, open-short, open-done}
+use Rattle.reg_calls.proofs.StoreAfterChange.{open-target, open-path, open-room, open-short, open-done}
 use Rattle.reg_calls.proofs.store.Store.open_key.Goals as goal
 
 pub path_to-requires-clause-target : goal.path_to-requires-clause-target

@@ -1,7 +1,7 @@
 use Rattle.std.proofs.Common.{sym, arith}
 use Rattle.std.proofs.lemmas.Grind.{common_steps}
 use Rattle.std.proofs.lemmas.Bool.Decides.{nat_tests}
-use Rattle.reg_calls.proofs.Refusals.{open-refused, open-causes}
+use Rattle.reg_calls.proofs.RefusalTests.{open-refused, open-causes}
 use Rattle.reg_calls.proofs.store.Store.open_key_cause.Goals as goal
 
 pub returns-in-Err : goal.returns-in-Err

@@ -1,6 +1,6 @@
 use Rattle.std.proofs.Common.{ap}
 use Rattle.reg_names.specs.Names.{are_key_names, is_path}
-use Rattle.reg_calls.proofs.Made.{root-room, root-done}
+use Rattle.reg_calls.proofs.StoreAfterChange.{root-room, root-done}
 use Rattle.reg_calls.proofs.store.Store.open_root.Goals as goal
 
 pub add-requires-clause-room : goal.add-requires-clause-room

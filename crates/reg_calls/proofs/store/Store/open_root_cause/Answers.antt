@@ -1,5 +1,5 @@
 use Rattle.std.proofs.Common.{sym, ◌∙◌}
-use Rattle.reg_calls.proofs.Refusals.{root-mask, root-full, root-none}
+use Rattle.reg_calls.proofs.RefusalTests.{root-mask, root-full, root-none}
 use Rattle.reg_calls.proofs.store.Store.open_root_cause.Goals as goal
 
 pub returns-then-mask-ne0 : goal.returns-then-mask-ne0

@@ -1,5 +1,5 @@
 use Rattle.reg_names.specs.Names.{path_of}
-use Rattle.reg_calls.proofs.Looks.{if_ok, joined-folded}
+use Rattle.reg_calls.proofs.HandleLookUps.{if_ok, joined-folded}
 use Rattle.reg_calls.proofs.store.Store.path_to.Goals as goal
 
 pub returns-clause-folded : goal.returns-clause-folded

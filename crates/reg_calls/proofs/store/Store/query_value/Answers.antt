@@ -3,8 +3,8 @@ use Rattle.std.proofs.lemmas.Grind.{common_steps}
 use Rattle.std.proofs.lemmas.Bool.Decides.{nat_tests}
 use Rattle.reg_model.specs.declared.call.Query.TheVariants.{QueryValue}
 use Rattle.reg_model.specs.Replies.{value_told}
-use Rattle.reg_calls.specs.Stores.{at}
-use Rattle.reg_calls.proofs.Questions.{refused, told, value-refused, value-causes, value-due, found_as, found_not}
+use Rattle.reg_calls.specs.Internal.Stores.{at}
+use Rattle.reg_calls.proofs.QueryAnswers.{refused, told, value-refused, value-causes, value-due, found_as, found_not}
 use Rattle.reg_calls.proofs.store.Store.query_value.Goals as goal
 
 pub returns-in-Err : goal.returns-in-Err

@@ -1,12 +1,12 @@
 use Rattle.std.proofs.Common.{◌<◌, ◌++◌, ◌∷◌, [], ap, sym, subst, ◌∙◌}
 use Rattle.std.specs.List.{All}
 use Rattle.reg_model.specs.Worlds.{Handle}
-use Rattle.reg_handles.specs.Keys.{key_at}
-use Rattle.reg_handles.specs.Ordered.{ordered}
-use Rattle.reg_handles.specs.Tables.{Table}
+use Rattle.reg_handles.specs.Internal.OpenKeySlab.{key_at}
+use Rattle.reg_handles.specs.Internal.OrderedRows.{ordered}
+use Rattle.reg_handles.specs.HandleTables.{Table}
 use Rattle.reg_handles.specs.declared.rows.Row.{Row}
-use Rattle.reg_handles.proofs.Listed.{rows_below}
-use Rattle.reg_handles.proofs.Added.{added_handles, added_table}
+use Rattle.reg_handles.proofs.HandleList.{rows_below}
+use Rattle.reg_handles.proofs.RowAdded.{added_handles, added_table}
 use Rattle.reg_handles.proofs.handles.Handles.add.Goals as goal
 
 pub push-requires-clause-above : goal.push-requires-clause-above

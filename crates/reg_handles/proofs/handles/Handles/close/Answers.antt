@@ -1,11 +1,11 @@
 use Rattle.std.proofs.Common.{◌≡◌, ◌<◌, true, get_or, is_some, ap, sym, subst, arith}
 use Rattle.reg_model.specs.Worlds.{look}
-use Rattle.reg_handles.specs.Keys.{key_at}
-use Rattle.reg_handles.specs.Ordered.{ordered}
-use Rattle.reg_handles.specs.Tables.{Table}
-use Rattle.reg_handles.proofs.Ordered.{rises_ordered}
-use Rattle.reg_handles.proofs.Looks.{owner, no_owner}
-use Rattle.reg_handles.proofs.Taken.{taken_rows, taken_fit, taken_session, taken_handles, taken_to}
+use Rattle.reg_handles.specs.Internal.OpenKeySlab.{key_at}
+use Rattle.reg_handles.specs.Internal.OrderedRows.{ordered}
+use Rattle.reg_handles.specs.HandleTables.{Table}
+use Rattle.reg_handles.proofs.RowOrder.{rises_ordered}
+use Rattle.reg_handles.proofs.LookUps.{owner, no_owner}
+use Rattle.reg_handles.proofs.RowRemoved.{taken_rows, taken_fit, taken_session, taken_handles, taken_to}
 use Rattle.reg_handles.proofs.handles.Handles.close.Goals as goal
 
 pub release-requires : goal.release-requires

@@ -1,7 +1,7 @@
 use Rattle.std.proofs.Common.{ap}
-use Rattle.reg_handles.specs.Ordered.{ordered}
-use Rattle.reg_handles.specs.Tables.{Table}
-use Rattle.reg_handles.proofs.Looks.{look_found, look_other, look_none}
+use Rattle.reg_handles.specs.Internal.OrderedRows.{ordered}
+use Rattle.reg_handles.specs.HandleTables.{Table}
+use Rattle.reg_handles.proofs.LookUps.{look_found, look_other, look_none}
 use Rattle.reg_handles.proofs.handles.Handles.look.Goals as goal
 use Rattle.reg_handles.proofs.handles.Handles.look.Goals.{in_default-via-in-Some+else-row-session, in_default-via-in_default}
 

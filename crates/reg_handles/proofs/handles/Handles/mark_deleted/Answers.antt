@@ -1,8 +1,8 @@
 use Rattle.std.proofs.Common.{ap}
-use Rattle.reg_handles.specs.Keys.{key_at}
-use Rattle.reg_handles.specs.Ordered.{ordered}
-use Rattle.reg_handles.specs.Tables.{Table}
-use Rattle.reg_handles.proofs.Marked.{marked_handles, marked_table}
+use Rattle.reg_handles.specs.Internal.OpenKeySlab.{key_at}
+use Rattle.reg_handles.specs.Internal.OrderedRows.{ordered}
+use Rattle.reg_handles.specs.HandleTables.{Table}
+use Rattle.reg_handles.proofs.KeyMarkedDeleted.{marked_handles, marked_table}
 use Rattle.reg_handles.proofs.handles.Handles.mark_deleted.Goals as goal
 
 pub invariant_of-self : goal.invariant_of-self

@@ -1,5 +1,5 @@
-use Rattle.reg_handles.specs.Keys.{key_at}
-use Rattle.reg_handles.proofs.Changes.{none_table}
+use Rattle.reg_handles.specs.Internal.OpenKeySlab.{key_at}
+use Rattle.reg_handles.proofs.TableEntries.{none_table}
 use Rattle.reg_handles.proofs.handles.Handles.new.Goals as goal
 
 pub invariant_of-result : goal.invariant_of-result

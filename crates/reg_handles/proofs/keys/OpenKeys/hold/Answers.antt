@@ -1,6 +1,6 @@
 use Rattle.std.proofs.Common.{◌≡◌, Some, sym, ap, ◌∙◌}
-use Rattle.reg_handles.specs.Keys.{key_at}
-use Rattle.reg_handles.proofs.Held.{held_found}
+use Rattle.reg_handles.specs.Internal.OpenKeySlab.{key_at}
+use Rattle.reg_handles.proofs.KeyUsage.{held_found}
 use Rattle.reg_handles.proofs.keys.OpenKeys.hold.Goals as goal
 
 pub returns-in-Some-clause-ok : goal.returns-in-Some-clause-ok

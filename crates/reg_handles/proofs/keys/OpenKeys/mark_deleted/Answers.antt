@@ -1,5 +1,5 @@
 use Rattle.std.proofs.Common.{None}
-use Rattle.reg_handles.proofs.Texts.{updated}
+use Rattle.reg_handles.proofs.PathTextKeys.{updated}
 use Rattle.reg_handles.proofs.keys.OpenKeys.mark_deleted.Goals as goal
 
 pub returns-in-Some-get_mut-clause-paths : goal.returns-in-Some-get_mut-clause-paths

@@ -1,7 +1,7 @@
 use Rattle.std.proofs.Common.{◌≡◌, Some, subst}
 use Rattle.std.proofs.lemmas.List.Elements.{same_from_all_zip}
-use Rattle.reg_handles.specs.Keys.{key_at, UpdatesPath}
-use Rattle.reg_handles.proofs.Texts.{updated}
+use Rattle.reg_handles.specs.Internal.OpenKeySlab.{key_at, UpdatesPath}
+use Rattle.reg_handles.proofs.PathTextKeys.{updated}
 use Rattle.reg_handles.proofs.keys.OpenKeys.push.Goals as goal
 
 pub returns-in-Ok-clause-paths : goal.returns-in-Ok-clause-paths

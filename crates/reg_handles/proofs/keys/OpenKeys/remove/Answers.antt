@@ -1,8 +1,8 @@
 use Rattle.std.proofs.Common.{None, subst}
 use Rattle.slab.specs.Slab.{get}
-use Rattle.reg_handles.specs.Keys.{key_at, UpdatesPath}
-use Rattle.reg_handles.proofs.Texts.{updated}
-use Rattle.reg_handles.proofs.Held.{freed}
+use Rattle.reg_handles.specs.Internal.OpenKeySlab.{key_at, UpdatesPath}
+use Rattle.reg_handles.proofs.PathTextKeys.{updated}
+use Rattle.reg_handles.proofs.KeyUsage.{freed}
 use Rattle.reg_handles.proofs.keys.OpenKeys.remove.Goals as goal
 
 pub returns-then-not-held-clause-paths : goal.returns-then-not-held-clause-paths

@@ -1,5 +1,5 @@
 use Rattle.std.proofs.Common.{◌∙◌, sym}
-use Rattle.reg_handles.proofs.Ordered.{lookup_ordered}
+use Rattle.reg_handles.proofs.RowOrder.{lookup_ordered}
 use Rattle.reg_handles.proofs.rows.Rows.get.Goals as goal
 
 pub returns : goal.returns

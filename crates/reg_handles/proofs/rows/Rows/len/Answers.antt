@@ -1,5 +1,5 @@
 use Rattle.std.proofs.Common.{◌∙◌, sym}
-use Rattle.reg_handles.proofs.Ordered.{length_ordered}
+use Rattle.reg_handles.proofs.RowOrder.{length_ordered}
 use Rattle.reg_handles.proofs.rows.Rows.len.Goals as goal
 
 pub returns-clause-len : goal.returns-clause-len

@@ -1,4 +1,4 @@
-use Rattle.reg_handles.proofs.Ordered.{ordered_none}
+use Rattle.reg_handles.proofs.RowOrder.{ordered_none}
 use Rattle.reg_handles.proofs.rows.Rows.new.Goals as goal
 
 pub returns : goal.returns

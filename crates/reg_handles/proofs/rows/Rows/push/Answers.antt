@@ -1,4 +1,4 @@
-use Rattle.reg_handles.proofs.Ordered.{ordered_push}
+use Rattle.reg_handles.proofs.RowOrder.{ordered_push}
 use Rattle.reg_handles.proofs.rows.Rows.push.Goals as goal
 
 pub returns : goal.returns

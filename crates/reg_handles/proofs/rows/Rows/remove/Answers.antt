@@ -1,5 +1,5 @@
 use Rattle.std.proofs.Common.{◌∙◌, sym}
-use Rattle.reg_handles.proofs.Ordered.{lookup_ordered, ordered_less}
+use Rattle.reg_handles.proofs.RowOrder.{lookup_ordered, ordered_less}
 use Rattle.reg_handles.proofs.rows.Rows.remove.Goals as goal
 
 pub returns-clause-row : goal.returns-clause-row

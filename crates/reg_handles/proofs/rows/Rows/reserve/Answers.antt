@@ -1,4 +1,4 @@
-use Rattle.reg_handles.proofs.Ordered.{ordered_same}
+use Rattle.reg_handles.proofs.RowOrder.{ordered_same}
 use Rattle.reg_handles.proofs.rows.Rows.reserve.Goals as goal
 
 pub returns-clause-rows : goal.returns-clause-rows

@@ -1,6 +1,6 @@
 use Rattle.std.proofs.Common.{refl, ap, ◌∙◌, inr, ◌++◌, string_bytes, Bool, if◌then◌else◌}
-use Rattle.reg_script.proofs.Errors.{on_err_with}
-use Rattle.reg_script.proofs.Halting.{one_more}
+use Rattle.reg_script.proofs.FailedCalls.{on_err_with}
+use Rattle.reg_script.proofs.ScriptHalts.{one_more}
 use Rattle.reg_script.proofs.engine.Script.answer.Goals as goal
 
 pub returns-in_ok-reply-in-Call-clause-err : goal.returns-in_ok-reply-in-Call-clause-err

@@ -1,8 +1,8 @@
 use Rattle.std.proofs.Common.{refl}
 use Rattle.reg_model.specs.declared.step.Outcome.TheVariants.{Changed}
-use Rattle.reg_script.specs.Texts.{changed_text}
-use Rattle.reg_script.proofs.Errors.{on_err}
-use Rattle.reg_script.proofs.Progress.{from_empty}
+use Rattle.reg_script.specs.ReplyTexts.{changed_text}
+use Rattle.reg_script.proofs.FailedCalls.{on_err}
+use Rattle.reg_script.proofs.ProgressLemmas.{from_empty}
 use Rattle.reg_script.proofs.engine.Script.change.Goals as goal
 
 pub returns-clause-ok : goal.returns-clause-ok

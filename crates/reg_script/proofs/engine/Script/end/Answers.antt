@@ -1,6 +1,6 @@
 use Rattle.std.proofs.Common.{rules}
-use Rattle.reg_script.proofs.Errors.{if_err}
-use Rattle.reg_script.proofs.Progress.{begun_said}
+use Rattle.reg_script.proofs.FailedCalls.{if_err}
+use Rattle.reg_script.proofs.ProgressLemmas.{begun_said}
 use Rattle.reg_script.proofs.engine.Script.end.Goals as goal
 
 pub returns-clause-ok : goal.returns-clause-ok

@@ -1,7 +1,7 @@
 use Rattle.std.proofs.Common.{refl, ap, ◌∙◌, inl}
-use Rattle.reg_script.specs.Meanings.{meaning_of}
-use Rattle.reg_script.proofs.Errors.{if_err}
-use Rattle.reg_script.proofs.Halting.{as_meant, one_more_line}
+use Rattle.reg_script.specs.LineMeanings.{meaning_of}
+use Rattle.reg_script.proofs.FailedCalls.{if_err}
+use Rattle.reg_script.proofs.ScriptHalts.{as_meant, one_more_line}
 use Rattle.reg_script.proofs.engine.Script.end_line.Goals as goal
 
 pub returns-in_err-line-clause-err : goal.returns-in_err-line-clause-err

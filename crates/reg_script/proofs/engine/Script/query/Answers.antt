@@ -1,9 +1,9 @@
 use Rattle.std.proofs.Common.{refl}
 use Rattle.reg_model.specs.declared.call.Call.TheVariants.{Query}
 use Rattle.reg_model.specs.declared.step.Outcome.TheVariants.{Answered}
-use Rattle.reg_script.specs.Texts.{answer_text}
-use Rattle.reg_script.proofs.Errors.{on_err}
-use Rattle.reg_script.proofs.Progress.{from_empty}
+use Rattle.reg_script.specs.ReplyTexts.{answer_text}
+use Rattle.reg_script.proofs.FailedCalls.{on_err}
+use Rattle.reg_script.proofs.ProgressLemmas.{from_empty}
 use Rattle.reg_script.proofs.engine.Script.query.Goals as goal
 
 pub returns-clause-ok : goal.returns-clause-ok

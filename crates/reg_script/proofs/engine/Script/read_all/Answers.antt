@@ -1,8 +1,8 @@
 use Rattle.std.proofs.Common.{[], ◌++◌, take, refl, arith}
 use Rattle.reg_script.specs.declared.engine.ScriptFault.TheVariants.{Read}
-use Rattle.reg_script.proofs.Errors.{if_err}
-use Rattle.reg_script.proofs.Progress.{takes_none, takes_then, consumes_none, consumes_then, consumes_kept, consumes_no_more, ends_at}
-use Rattle.reg_script.proofs.Halting.{halts_after, halts_at, halts_last, read_more, not_so_many}
+use Rattle.reg_script.proofs.FailedCalls.{if_err}
+use Rattle.reg_script.proofs.ProgressLemmas.{takes_none, takes_then, consumes_none, consumes_then, consumes_kept, consumes_no_more, ends_at}
+use Rattle.reg_script.proofs.ScriptHalts.{halts_after, halts_at, halts_last, read_more, not_so_many}
 use Rattle.reg_script.proofs.engine.Script.read_all.Goals as goal
 
 pub loop-read-init : goal.loop-read-init

@@ -1,7 +1,7 @@
 use Rattle.std.proofs.Common.{List, ℕ, ◌≤◌, length}
 use Rattle.std.specs.Io.KnownBytes.{Consumes}
-use Rattle.reg_calls.specs.Hives.{view_of}
-use Rattle.reg_script.specs.Progress.{IsSteady, Takes, place_of}
+use Rattle.reg_calls.specs.HiveView.{view_of}
+use Rattle.reg_script.specs.Internal.Progress.{IsSteady, Takes, place_of}
 use Rattle.reg_script.proofs.engine.Script.read_all.Given as goal
 
 abbrev pub invariant-loop-read : goal.invariant-loop-read

@@ -1,7 +1,7 @@
 use Rattle.std.proofs.Common.{rules, refl, inl}
-use Rattle.reg_script.proofs.Errors.{if_err}
-use Rattle.reg_script.proofs.Progress.{takes_byte, takes_line}
-use Rattle.reg_script.proofs.Halting.{halts_here, halts_lost, halts_cut, too_many_lines, line_too_long, few_lines, many_lines, short_line, long_line}
+use Rattle.reg_script.proofs.FailedCalls.{if_err}
+use Rattle.reg_script.proofs.ProgressLemmas.{takes_byte, takes_line}
+use Rattle.reg_script.proofs.ScriptHalts.{halts_here, halts_lost, halts_cut, too_many_lines, line_too_long, few_lines, many_lines, short_line, long_line}
 use Rattle.reg_script.proofs.engine.Script.take_byte.Goals as goal
 
 pub returns-then-self-ge-LINES_LIMIT-clause-err : goal.returns-then-self-ge-LINES_LIMIT-clause-err

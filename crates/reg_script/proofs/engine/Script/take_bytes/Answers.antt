@@ -1,6 +1,6 @@
-use Rattle.reg_script.proofs.Errors.{if_err}
-use Rattle.reg_script.proofs.Progress.{takes_none, takes_more}
-use Rattle.reg_script.proofs.Halting.{halts_in}
+use Rattle.reg_script.proofs.FailedCalls.{if_err}
+use Rattle.reg_script.proofs.ProgressLemmas.{takes_none, takes_more}
+use Rattle.reg_script.proofs.ScriptHalts.{halts_in}
 use Rattle.reg_script.proofs.engine.Script.take_bytes.Goals as goal
 
 pub loop-byte-init : goal.loop-byte-init

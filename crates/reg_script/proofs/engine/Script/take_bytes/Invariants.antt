@@ -1,6 +1,6 @@
 use Rattle.std.proofs.Common.{take}
-use Rattle.reg_calls.specs.Hives.{view_of}
-use Rattle.reg_script.specs.Progress.{IsSteady, Takes, place_of}
+use Rattle.reg_calls.specs.HiveView.{view_of}
+use Rattle.reg_script.specs.Internal.Progress.{IsSteady, Takes, place_of}
 use Rattle.reg_script.proofs.engine.Script.take_bytes.Given as goal
 
 abbrev pub invariant-loop-byte : goal.invariant-loop-byte

@@ -1,6 +1,6 @@
 use Rattle.std.proofs.Common.{subst}
-use Rattle.reg_tree.specs.Keys.{Keys, IsWholeTree}
-use Rattle.reg_tree.proofs.Here.{whole_tree}
+use Rattle.reg_tree.specs.TreeKeys.{Keys, IsWholeTree}
+use Rattle.reg_tree.proofs.Invariant.KeyOfTree.{whole_tree}
 use Rattle.reg_tree.proofs.tree.Tree.arena.Goals as goal
 
 pub returns-clause-whole : goal.returns-clause-whole

@@ -3,9 +3,9 @@ use Rattle.reg_names.specs.Names.{path_of}
 use Rattle.reg_heap.specs.Paths.{Tree}
 use Rattle.reg_heap.specs.Edits.{are_too_many}
 use Rattle.reg_tree.specs.declared.fault.TreeFault.TheVariants.{Limit}
-use Rattle.reg_tree.proofs.Nodes.{here_at, of_tree}
-use Rattle.reg_tree.proofs.CreatedNodes.{from_at, holds_created, tree_created, opened_created, depth_created, nodes_created}
-use Rattle.reg_tree.proofs.Limits.{by_test}
+use Rattle.reg_tree.proofs.Invariant.NodeLemmas.{here_at, of_tree}
+use Rattle.reg_tree.proofs.InsertKey.CreateKeepsNodes.{from_at, holds_created, tree_created, opened_created, depth_created, nodes_created}
+use Rattle.reg_tree.proofs.InsertKey.KeyLimits.{by_test}
 use Rattle.reg_tree.proofs.tree.Tree.create.Goals as goal
 
 pub create-requires-clause-here : goal.create-requires-clause-here

@@ -1,5 +1,5 @@
-use Rattle.reg_tree.proofs.DeletedNodes.{deleted_holds, deleted_tree, deleted_nodes, children_seen, kept_seen}
-use Rattle.reg_tree.proofs.Nodes.{there_at}
+use Rattle.reg_tree.proofs.DeleteKey.DeleteKeepsNodes.{deleted_holds, deleted_tree, deleted_nodes, children_seen, kept_seen}
+use Rattle.reg_tree.proofs.Invariant.NodeLemmas.{there_at}
 use Rattle.reg_tree.proofs.tree.Tree.delete_key.Goals as goal
 
 pub delete-requires : goal.delete-requires

@@ -4,7 +4,7 @@ use Rattle.reg_heap.specs.Paths.{Tree}
 use Rattle.reg_heap.specs.Edits.{values_at}
 use Rattle.reg_heap.specs.Members.{value_named}
 use Rattle.reg_tree.specs.declared.fault.TreeFault.TheVariants.{NotFound}
-use Rattle.reg_tree.proofs.Nodes.{here_at, there_at, of_tree, holds_then, changed_ok, changed_nodes}
+use Rattle.reg_tree.proofs.Invariant.NodeLemmas.{here_at, there_at, of_tree, holds_then, changed_ok, changed_nodes}
 use Rattle.reg_tree.proofs.tree.Tree.delete_value.Goals as goal
 
 pub delete-requires : goal.delete-requires

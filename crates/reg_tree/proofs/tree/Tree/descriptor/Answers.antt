@@ -1,7 +1,7 @@
 use Rattle.std.proofs.Common.{◌≡◌, Some}
 use Rattle.std.specs.FinMap.{get}
 use Rattle.reg_heap.specs.Paths.{Tree, Rec}
-use Rattle.reg_tree.proofs.Nodes.{here_at, there_at, of_tree}
+use Rattle.reg_tree.proofs.Invariant.NodeLemmas.{here_at, there_at, of_tree}
 use Rattle.reg_tree.proofs.tree.Tree.descriptor.Goals as goal
 
 pub descriptor-requires : goal.descriptor-requires

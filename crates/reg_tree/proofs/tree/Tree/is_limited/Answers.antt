@@ -2,8 +2,8 @@ use Rattle.std.proofs.Common.{◌≡◌}
 use Rattle.reg_names.specs.Names.{path_of}
 use Rattle.reg_heap.specs.Paths.{Tree}
 use Rattle.reg_heap.specs.Edits.{are_too_many}
-use Rattle.reg_tree.proofs.Nodes.{here_at, of_tree}
-use Rattle.reg_tree.proofs.CreatedNodes.{from_at}
+use Rattle.reg_tree.proofs.Invariant.NodeLemmas.{here_at, of_tree}
+use Rattle.reg_tree.proofs.InsertKey.CreateKeepsNodes.{from_at}
 use Rattle.reg_tree.proofs.tree.Tree.is_limited.Goals as goal
 
 pub is_limited-requires-clause-here : goal.is_limited-requires-clause-here

@@ -1,5 +1,5 @@
-use Rattle.reg_tree.proofs.FreshHolds.{fresh_holds, fresh_tree}
-use Rattle.reg_tree.proofs.FreshShape.{made}
+use Rattle.reg_tree.proofs.Invariant.FreshInvariant.{fresh_holds, fresh_tree}
+use Rattle.reg_tree.proofs.Invariant.FreshShape.{made}
 use Rattle.reg_tree.proofs.tree.Tree.new.Goals as goal
 
 pub invariant_of-result : goal.invariant_of-result

@@ -1,4 +1,4 @@
-use Rattle.reg_tree.proofs.Nodes.{there_at, shallow_at, resolved, resolved-depth}
+use Rattle.reg_tree.proofs.Invariant.NodeLemmas.{there_at, shallow_at, resolved, resolved-depth}
 use Rattle.reg_tree.proofs.tree.Tree.resolve.Goals as goal
 
 pub resolve-requires-clause-here : goal.resolve-requires-clause-here

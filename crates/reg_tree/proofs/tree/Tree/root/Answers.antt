@@ -1,4 +1,4 @@
-use Rattle.reg_tree.proofs.Nodes.{root_at, there-shallow}
+use Rattle.reg_tree.proofs.Invariant.NodeLemmas.{root_at, there-shallow}
 use Rattle.reg_tree.proofs.tree.Tree.root.Goals as goal
 
 pub returns-clause-at : goal.returns-clause-at

@@ -1,4 +1,4 @@
-use Rattle.reg_tree.proofs.Nodes.{here_at, there_at, shallow_at, subkey_found}
+use Rattle.reg_tree.proofs.Invariant.NodeLemmas.{here_at, there_at, shallow_at, subkey_found}
 use Rattle.reg_tree.proofs.tree.Tree.subkey.Goals as goal
 
 pub subkey-requires-clause-here : goal.subkey-requires-clause-here

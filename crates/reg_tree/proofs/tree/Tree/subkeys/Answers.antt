@@ -1,6 +1,6 @@
 use Rattle.std.proofs.Common.{◌≡◌, length}
 use Rattle.reg_heap.specs.Paths.{Tree, children_of}
-use Rattle.reg_tree.proofs.Nodes.{here_at, there_at, of_tree}
+use Rattle.reg_tree.proofs.Invariant.NodeLemmas.{here_at, there_at, of_tree}
 use Rattle.reg_tree.proofs.tree.Tree.subkeys.Goals as goal
 
 pub subkeys-requires : goal.subkeys-requires

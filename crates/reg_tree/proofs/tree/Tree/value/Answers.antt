@@ -2,8 +2,8 @@ use Rattle.std.proofs.Common.{◌≡◌, ◌≤◌, Some, length, slice_get}
 use Rattle.std.specs.Prelude.{MatchOption}
 use Rattle.reg_heap.specs.Paths.{Tree, Member}
 use Rattle.reg_heap.specs.Edits.{values_at}
-use Rattle.reg_values.specs.Lists.{Tells}
-use Rattle.reg_tree.proofs.Nodes.{here_at, there_at, of_tree}
+use Rattle.reg_values.specs.ValueLists.{Tells}
+use Rattle.reg_tree.proofs.Invariant.NodeLemmas.{here_at, there_at, of_tree}
 use Rattle.reg_tree.proofs.tree.Tree.value.Goals as goal
 
 pub at-requires : goal.at-requires

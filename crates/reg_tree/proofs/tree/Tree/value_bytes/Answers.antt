@@ -2,8 +2,8 @@ use Rattle.std.proofs.Common.{◌≡◌, ◌<◌, length, Some, slice_get, sym, 
 use Rattle.std.specs.Prelude.{IfOk}
 use Rattle.reg_heap.specs.Paths.{Tree, Member}
 use Rattle.reg_heap.specs.Edits.{values_at}
-use Rattle.reg_tree.specs.Keys.{Keys}
-use Rattle.reg_tree.proofs.Nodes.{here_at, of_tree}
+use Rattle.reg_tree.specs.TreeKeys.{Keys}
+use Rattle.reg_tree.proofs.Invariant.NodeLemmas.{here_at, of_tree}
 use Rattle.reg_tree.proofs.tree.Tree.value_bytes.Goals as goal
 
 pub bytes-requires : goal.bytes-requires

@@ -1,7 +1,7 @@
 use Rattle.std.proofs.Common.{length, ◌≡◌}
 use Rattle.reg_heap.specs.Paths.{Tree}
 use Rattle.reg_heap.specs.Edits.{values_at}
-use Rattle.reg_tree.proofs.Nodes.{here_at, there_at, of_tree}
+use Rattle.reg_tree.proofs.Invariant.NodeLemmas.{here_at, there_at, of_tree}
 use Rattle.reg_tree.proofs.tree.Tree.values.Goals as goal
 
 pub count-requires : goal.count-requires

@@ -1,0 +1,8 @@
+-- How cells tile the bins, and what that says to the crates above.
+pub mod Tilings
+pub mod CellPositions
+pub mod EmptyArena
+pub mod ArenaInvariant
+pub mod CellWalkSteps
+pub mod ArenaFaults
+pub mod CellLayout

@@ -1,0 +1,4 @@
+-- The side tables, after each change.
+pub mod TableEdits
+pub mod TableChanges
+pub mod IndexedArena

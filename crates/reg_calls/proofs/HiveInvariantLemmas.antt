@@ -1,0 +1,161 @@
+-- A hive's tables are what its journal says, and stay so after one accepted change more.
+use Rattle.std.proofs.Common.{◌≡◌, ℕ, ◌+◌, ◌<◌, ◌≤◌, Bool, true, false, not, nat_le, eqb, cond, is_some, List, [], ◌∷◌, ◌++◌, length, Option, Some, None, refl, sym, ap, ◌∙◌, subst, arith, length-append, true≢false}
+use Rattle.std.specs.Prelude.{All}
+use Rattle.std.proofs.lemmas.List.{length-map}
+use Rattle.std.proofs.lemmas.Bool.{false≢true}
+use Rattle.std.proofs.lemmas.Bool.Decides.{nat_tests}
+use Rattle.reg_heap.specs.Paths.{Tree}
+use Rattle.reg_model.specs.Worlds.{World, Handle, IsStanding, look, numbered, owned, closed, turned, path_from, after}
+use Rattle.reg_model.specs.Causes.{State, change_cause, is_full, no_handle_room, handles_of}
+use Rattle.reg_model.specs.Replies.{reply_to}
+use Rattle.reg_model.specs.Calls.{entry_due}
+use Rattle.reg_model.specs.Histories.{state_of, replay, IsFit}
+use Rattle.reg_model.specs.declared.reply.Entry.{Entry}
+use Rattle.reg_model.specs.declared.reply.ChangeReply.{ChangeReply}
+use Rattle.reg_model.specs.declared.call.Change.{Change}
+use Rattle.reg_model.specs.declared.call.Change.TheVariants.{OpenRoot, OpenKey, CreateKey, SetValue, DeleteValue, DeleteKey, Close}
+use Rattle.reg_model.proofs.JournalGrowth.{replay-push, legal-push}
+use Rattle.reg_model.proofs.LegalJournals.{is_standing, handles-below}
+use Rattle.reg_model.proofs.AcceptedCalls.{both_false, root-met, open-met, create-met, set-met, drop-met, delete-met, close-met}
+use Rattle.reg_calls.specs.declared.store.Store.{Store}
+use Rattle.reg_calls.specs.Internal.Stores.{at, world_of, IsReady, IsDone, is_closing}
+use Rattle.reg_calls.specs.Views.{IsKept, View, state}
+
+-- ---- what is kept
+
+pub world-kept : {origin : Tree} {es : List Entry} {store : Store} {room : ℕ} → IsKept origin es store room → world_of store ≡ replay origin es
+world-kept kept = λ i. record { tree = kept.tree_is i; handles = kept.handles_are i }
+
+pub state-kept : {origin : Tree} {es : List Entry} {store : Store} {room : ℕ} → IsKept origin es store room → state_of origin es ≡ at (length es) store
+state-kept {es = es} kept = λ i. record { count = length es; world = sym (world-kept kept) i }
+
+-- the same at a hive's view
+pub state-view : {origin : Tree} {es : List Entry} {store : Store} {room : ℕ} (v : View) → IsKept origin es store room → record { origin = origin; journal = es; keys = store.tree; handles = store.handles.handles } ≡ v → state v ≡ at (length es) store
+state-view v kept e = ap state (sym e) ∙ state-kept kept
+
+pub ready-kept : {origin : Tree} {es : List Entry} {store : Store} {room : ℕ} → IsKept origin es store room → IsReady (length es) store
+ready-kept {origin = origin} {es = es} {store = store} kept = record {
+  stand = subst (λ (w : World). IsStanding w.tree w.handles) (sym (world-kept kept)) (is_standing origin es kept.legal kept.rooted);
+  below = subst (All (λ (h : Handle). h.number < length es)) (sym kept.handles_are) (handles-below origin es kept.legal);
+  small = kept.small;
+}
+
+-- ---- how many handles there are after a change
+
+owned-found : (session : ℕ) (o : Option Handle) → is_some (owned session o) ≡ true → is_some o ≡ true
+owned-found session None e = absurd (false≢true e)
+owned-found session (Some h) e = refl
+
+closed-most : (number : ℕ) (hs : List Handle) → length (closed number hs) ≤ length hs
+closed-most number [] = omega arith
+closed-most number (h ∷ hs) = by (not (eqb h.number number)) (closed-most number hs)
+  where
+    by : (b : Bool) → length (closed number hs) ≤ length hs → length (cond b (h ∷ closed number hs) (closed number hs)) ≤ length (h ∷ hs)
+    by true l = omega (arith, l)
+    by false l = omega (arith, l)
+
+closed-less : (number : ℕ) (hs : List Handle) → is_some (numbered number hs) ≡ true → length (closed number hs) + 1 ≤ length hs
+closed-less number [] e = absurd (false≢true e)
+closed-less number (h ∷ hs) e = by (eqb h.number number) e (closed-less number hs) (closed-most number hs)
+  where
+    by : (b : Bool) → is_some (cond b (Some h) (numbered number hs)) ≡ true → (is_some (numbered number hs) ≡ true → length (closed number hs) + 1 ≤ length hs) → length (closed number hs) ≤ length hs → length (cond (not b) (h ∷ closed number hs) (closed number hs)) + 1 ≤ length (h ∷ hs)
+    by true e rest most = omega (arith, most)
+    by false e rest most = let l = rest e in omega (arith, l)
+
+-- a session's handle closed
+closed-fewer : (session number : ℕ) (hs : List Handle) → is_some (look session number hs) ≡ true → length (closed number hs) + 1 ≤ length hs
+closed-fewer session number hs e = closed-less number hs (owned-found session (numbered number hs) e)
+
+not_full : (more : ℕ) (s : State) → is_full more s ≡ false → s.count + more + length s.world.handles ≤ 16777216
+not_full more s e = grind (arith, nat_tests, e)
+
+-- the journal has room for the entry and the closings of all handles after it; one handle more is open at most, and one less
+-- after a Close
+record Fits (s : State) (change : Change) (hs : List Handle) : Type 0 where
+  small : s.count + 1 + length hs ≤ 16777216
+  grown : length hs ≤ length s.world.handles + 1
+  closing : is_closing change ≡ true → length hs + 1 ≤ length s.world.handles
+
+fits-push : (s : State) (session : ℕ) (change : Change) (h : Handle) → is_closing change ≡ false → no_handle_room session s ≡ false → Fits s change (s.world.handles ++ h ∷ [])
+fits-push s session change h opens room =
+    let b = both_false (nat_le 16384 (handles_of session s.world.handles)) (is_full 2 s) room in
+    let f = not_full 2 s b.1 in
+    let l = length-append s.world.handles (h ∷ []) in
+    record { small = omega (arith, f, l); grown = omega (arith, l); closing = λ c. absurd (true≢false (sym c ∙ opens)) }
+
+fits-same : (s : State) (change : Change) (hs : List Handle) → length hs ≡ length s.world.handles → is_closing change ≡ false → is_full 1 s ≡ false → Fits s change hs
+fits-same s change hs same opens room =
+    let f = not_full 1 s room in
+    record { small = omega (arith, f, same); grown = omega (arith, same); closing = λ c. absurd (true≢false (sym c ∙ opens)) }
+
+fits : (s : State) (e : Entry) → s.count + length s.world.handles ≤ 16777216 → change_cause s e.session e.change 0 ≡ None → Fits s e.change (after s.world e).handles
+unfolding after
+fits s e small = elim e.change as (λ (change : Change). change_cause s e.session change 0 ≡ None → Fits s change (after s.world (record e { change = change })).handles) [
+  | OpenRoot mask ↦ λ none. let m = root-met s e.session mask 0 none in fits-push s e.session (OpenRoot mask) _ refl m.room
+  | OpenKey h path mask ↦ λ none. let m = open-met s e.session h path mask 0 none in fits-push s e.session (OpenKey h path mask) _ refl m.room
+  | CreateKey h path mask ↦ λ none. let m = create-met s e.session h path mask 0 none in fits-push s e.session (CreateKey h path mask) _ refl m.room
+  | SetValue h name kind bytes ↦ λ none. let m = set-met s e.session h name kind bytes 0 none in fits-same s (SetValue h name kind bytes) s.world.handles refl refl m.room
+  | DeleteValue h name ↦ λ none. let m = drop-met s e.session h name 0 none in fits-same s (DeleteValue h name) s.world.handles refl refl m.room
+  | DeleteKey h path ↦ λ none. let m = delete-met s e.session h path 0 none in fits-same s (DeleteKey h path) (turned (path_from e.session h s.world.handles path) s.world.handles) (length-map s.world.handles _) refl m.room
+  | Close h ↦ λ none. let l = closed-fewer e.session h s.world.handles (close-met s e.session h 0 none) in
+      record { small = omega (arith, small, l); grown = omega (arith, l); closing = λ c. l }
+]
+
+-- ---- one entry more
+
+-- the entry that an accepted change becomes
+abbrev pub entry_with : List Entry → ℕ → ℕ → Change → ChangeReply → Entry
+entry_with es session moment change told = record { number = length es; session = session; moment = moment; change = change; reply = told }
+
+-- where so much room is kept, the journal's room lasts: two more than there are handles, or for a Close as many
+abbrev pub HasRoom : ℕ → Store → Change → Type 0
+HasRoom room store change = (is_closing change ≡ false → length store.handles.handles + 2 ≤ room) × (is_closing change ≡ true → length store.handles.handles ≤ room)
+
+module _ {origin : Tree} {es : List Entry} {store : Store} {room : ℕ} (kept : IsKept origin es store room) (session moment : ℕ) (change : Change) (none : change_cause (at (length es) store) session change 0 ≡ None)
+    (new : Store) (told : ChangeReply) (done : IsDone store new session moment (length es) change told) where
+  abbrev e : Entry
+  e = entry_with es session moment change told
+
+  due : e ≡ entry_due (at (length es) store) session moment change
+  due = ap (λ (r : ChangeReply). entry_with es session moment change r) done.reply
+
+  pub fit-done : IsFit origin es e
+  fit-done = record {
+    number = refl;
+    accepted = subst (λ (s : State). change_cause s session change 0 ≡ None) (sym (state-kept kept)) none;
+    reply = done.reply ∙ ap (λ (s : State). reply_to s session change) (sym (state-kept kept));
+  }
+
+  world-done : world_of new ≡ replay origin (es ++ e ∷ [])
+  world-done = done.world ∙ (ap (after (world_of store)) (sym due) ∙ (ap (λ (w : World). after w e) (world-kept kept) ∙ sym (replay-push origin es e)))
+
+  fits-done : Fits (at (length es) store) change new.handles.handles
+  fits-done =
+      let f = fits (at (length es) store) (entry_due (at (length es) store) session moment change) kept.small none in
+      subst (λ (w : World). Fits (at (length es) store) change w.handles) (sym done.world) f
+
+  by_closing : (P : Type 0) → (is_closing change ≡ true → P) → (is_closing change ≡ false → P) → P
+  by_closing P yes_closing not_closing = by (is_closing change) refl
+    where
+      by : (b : Bool) → is_closing change ≡ b → P
+      by true c = yes_closing c
+      by false c = not_closing c
+
+  -- room for the entry
+  pub append-room : (room' : ℕ) → HasRoom room' store change → 0 < room'
+  append-room room' h =
+      by_closing (0 < room') (λ c. let f = fits-done in let l = f.closing c in let r = h.1 c in omega (arith, l, r)) (λ c. let r = h.0 c in omega (arith, r))
+
+  pub kept-done : (room' room'' : ℕ) → HasRoom room' store change → room' ≤ room'' + 1 → IsKept origin (es ++ e ∷ []) new room''
+  kept-done room' room'' h used =
+      let f = fits-done in
+      let l = length-append es (e ∷ []) in
+      let small = f.small in
+      record {
+        legal = legal-push origin es e kept.legal fit-done;
+        rooted = kept.rooted;
+        tree_is = ap (λ (w : World). w.tree) world-done;
+        handles_are = ap (λ (w : World). w.handles) world-done;
+        small = omega (arith, small, l);
+        room_kept = by_closing (length new.handles.handles ≤ room'') (λ c. let x = f.closing c in let r = h.1 c in omega (arith, x, r, used)) (λ c. let g = f.grown in let r = h.0 c in omega (arith, g, r, used));
+      }

@@ -1,0 +1,183 @@
+-- What questions are answered.
+use Rattle.std.proofs.Common.{◌≡◌, ℕ, ◌+◌, ◌<◌, ◌≤◌, true, false, not, nat_lt, nat_le, cond, is_some, List, [], ◌∷◌, ◌++◌, map, take, length, slice_get, get_or, Option, Some, None, refl, sym, ap, ◌∙◌, subst, arith, inl, inr, ◌⊎◌}
+use Rattle.std.specs.Prelude.{bit_and, IsSome}
+use Rattle.std.specs.FinMap.{get, insert, empty}
+use Rattle.std.proofs.lemmas.Bool.{false≢true}
+use Rattle.std.proofs.lemmas.Bool.Decides.{nat_tests}
+use Rattle.std.proofs.lemmas.List.{map-append, take_more, take_all}
+use Rattle.std.proofs.lemmas.Option.{slice_get_within, slice_get_cases}
+use Rattle.reg_names.specs.Names.{is_value_name}
+use Rattle.reg_heap.specs.Paths.{Path, Tree, Rec, Member, children_of}
+use Rattle.reg_heap.specs.Members.{value_named}
+use Rattle.reg_heap.specs.Edits.{values_at}
+use Rattle.reg_model.specs.Causes.{State, early_query_cause, late_query_cause, query_cause, refuse, asked, has, subkeys_of, members_of, lacks_value, ◌or◌}
+use Rattle.reg_model.specs.Replies.{body_of, value_told, key_told, member_told, info_told, largest_of, name_of}
+use Rattle.reg_model.specs.declared.answer.AnswerBody.{AnswerBody}
+use Rattle.reg_model.specs.declared.answer.AnswerBody.TheVariants.{Refused}
+use Rattle.reg_model.specs.declared.call.Query.{Query}
+use Rattle.reg_model.specs.declared.call.Query.TheVariants.{QueryValue, EnumKey, EnumValue, QueryInfo}
+use Rattle.reg_tree.specs.declared.value.ValueFound.{ValueFound}
+use Rattle.reg_tree.specs.Internal.KeyNodeChanges.{IsFound}
+use Rattle.reg_calls.specs.declared.store.Store.{Store}
+use Rattle.reg_calls.specs.Internal.Stores.{at, IsTarget}
+use Rattle.reg_calls.specs.Views.{IsRead, IsTold, is_told}
+use Rattle.reg_calls.proofs.HandleLookUps.{by_handle-at, target-at}
+use Rattle.reg_model.proofs.HandleInvariant.{has-put}
+use Rattle.reg_calls.proofs.RefusalTests.{Refuses, first}
+
+-- a refusal is told
+pub refused : (s : State) (session status : ℕ) (q : Query) → query_cause s session q 0 ≡ Some status → IsRead s session q (Refused status)
+refused s session status q e = rw e (inl refl)
+
+-- the answer due is told, or 8 in its place
+pub told : (s : State) (session : ℕ) (q : Query) (due body : AnswerBody) → query_cause s session q 0 ≡ None → body_of s session q ≡ due → IsTold due body → IsRead s session q body
+told s session q due body none is t = rw (none, is) t
+
+module _ (n : ℕ) (store : Store) (session h : ℕ) where
+  abbrev s : State
+  s = at n store
+
+  abbrev tree : Tree
+  tree = store.tree.tree
+
+  abbrev t : Type 0
+  t = IsTarget store session h
+
+  -- ---- QueryValue
+
+  pub value-refused : (name : List ℕ) (room : Option ℕ) (status : ℕ) → Refuses store session h status → IsRead s session (QueryValue h name room) (Refused status)
+  unfolding early_query_cause late_query_cause
+  value-refused name room status r =
+      refused s session status (QueryValue h name room) (first _ _ _ status (r (λ x. refuse (not (is_value_name name)) 87 or refuse (not (has 1 x.mask)) 5)))
+
+  pub value-causes : (name : List ℕ) (room : Option ℕ) (mask : ℕ) (g : t) → mask ≡ g.handle.mask → query_cause s session (QueryValue h name room) 0 ≡ (refuse (not (is_value_name name)) 87 or refuse (not (has 1 mask)) 5 or asked 0 or refuse (not (is_some (value_named name (values_at tree g.path)))) 2)
+  unfolding early_query_cause late_query_cause
+  value-causes name room mask g m =
+      ap (λ (a : Option ℕ). a or asked 0 or refuse (lacks_value s session h name) 2) (by_handle-at store session h g (λ x. refuse (not (is_value_name name)) 87 or refuse (not (has 1 x.mask)) 5))
+      ∙ (ap (λ (q : Path). refuse (not (is_value_name name)) 87 or refuse (not (has 1 g.handle.mask)) 5 or asked 0 or refuse (not (is_some (value_named name (values_at tree q)))) 2) (target-at store session h g)
+      ∙ ap (λ (k : ℕ). refuse (not (is_value_name name)) 87 or refuse (not (has 1 k)) 5 or asked 0 or refuse (not (is_some (value_named name (values_at tree g.path)))) 2) (sym m))
+
+  pub value-due : (name : List ℕ) (room : Option ℕ) (g : t) → body_of s session (QueryValue h name room) ≡ value_told (value_named name (values_at tree g.path)) room
+  unfolding body_of
+  value-due name room g = ap (λ (q : Path). value_told (value_named name (values_at tree q)) room) (target-at store session h g)
+
+  -- ---- EnumKey
+
+  pub key-refused : (index room status : ℕ) → Refuses store session h status → IsRead s session (EnumKey h index room) (Refused status)
+  unfolding early_query_cause late_query_cause
+  key-refused index room status r = refused s session status (EnumKey h index room) (first _ _ _ status (r (λ x. refuse (not (has 8 x.mask)) 5)))
+
+  pub key-causes : (index room mask : ℕ) (g : t) → mask ≡ g.handle.mask → query_cause s session (EnumKey h index room) 0 ≡ (refuse (not (has 8 mask)) 5 or asked 0 or refuse (nat_le (length (children_of tree g.path)) index) 259)
+  unfolding early_query_cause late_query_cause
+  key-causes index room mask g m =
+      ap (λ (a : Option ℕ). a or asked 0 or refuse (nat_le (length (subkeys_of s session h)) index) 259) (by_handle-at store session h g (λ x. refuse (not (has 8 x.mask)) 5))
+      ∙ (ap (λ (q : Path). refuse (not (has 8 g.handle.mask)) 5 or asked 0 or refuse (nat_le (length (children_of tree q)) index) 259) (target-at store session h g)
+      ∙ ap (λ (k : ℕ). refuse (not (has 8 k)) 5 or asked 0 or refuse (nat_le (length (children_of tree g.path)) index) 259) (sym m))
+
+  pub key-due : (index room : ℕ) (g : t) → body_of s session (EnumKey h index room) ≡ key_told (get tree (get_or (children_of tree g.path) index [])) room
+  unfolding body_of
+  key-due index room g = ap (λ (q : Path). key_told (get tree (get_or (children_of tree q) index [])) room) (target-at store session h g)
+
+  -- ---- EnumValue
+
+  pub member-refused : (index name_room : ℕ) (room : Option ℕ) (status : ℕ) → Refuses store session h status → IsRead s session (EnumValue h index name_room room) (Refused status)
+  unfolding early_query_cause late_query_cause
+  member-refused index name_room room status r = refused s session status (EnumValue h index name_room room) (first _ _ _ status (r (λ x. refuse (not (has 1 x.mask)) 5)))
+
+  pub member-causes : (index name_room : ℕ) (room : Option ℕ) (mask : ℕ) (g : t) → mask ≡ g.handle.mask → query_cause s session (EnumValue h index name_room room) 0 ≡ (refuse (not (has 1 mask)) 5 or asked 0 or refuse (nat_le (length (values_at tree g.path)) index) 259)
+  unfolding early_query_cause late_query_cause
+  member-causes index name_room room mask g m =
+      ap (λ (a : Option ℕ). a or asked 0 or refuse (nat_le (length (members_of s session h)) index) 259) (by_handle-at store session h g (λ x. refuse (not (has 1 x.mask)) 5))
+      ∙ (ap (λ (q : Path). refuse (not (has 1 g.handle.mask)) 5 or asked 0 or refuse (nat_le (length (values_at tree q)) index) 259) (target-at store session h g)
+      ∙ ap (λ (k : ℕ). refuse (not (has 1 k)) 5 or asked 0 or refuse (nat_le (length (values_at tree g.path)) index) 259) (sym m))
+
+  member-due : (index name_room : ℕ) (room : Option ℕ) (g : t) → body_of s session (EnumValue h index name_room room) ≡ member_told (slice_get (values_at tree g.path) index) name_room room
+  unfolding body_of
+  member-due index name_room room g = ap (λ (q : Path). member_told (slice_get (values_at tree q) index) name_room room) (target-at store session h g)
+
+  -- an index past the last is told 259, and any other the member
+  pub member-read : (index name_room : ℕ) (room : Option ℕ) (mask : ℕ) (g : t) (body : AnswerBody) → mask ≡ g.handle.mask → has 1 mask ≡ true → IsTold (member_told (slice_get (values_at tree g.path) index) name_room room) body → IsRead s session (EnumValue h index name_room room) body
+  member-read index name_room room mask g body m right is =
+      let chain = member-causes index name_room room mask g m in
+      let due = member-due index name_room room g in
+      let cases = slice_get_cases (values_at tree g.path) index in
+      by chain due cases.1
+    where
+      by : query_cause s session (EnumValue h index name_room room) 0 ≡ (refuse (not (has 1 mask)) 5 or asked 0 or refuse (nat_le (length (values_at tree g.path)) index) 259) → body_of s session (EnumValue h index name_room room) ≡ member_told (slice_get (values_at tree g.path) index) name_room room
+          → (((x : Member) × (index < length (values_at tree g.path)) × (slice_get (values_at tree g.path) index ≡ Some x) × (get_or (values_at tree g.path) index x ≡ x)) ⊎ ((length (values_at tree g.path) ≤ index) × (slice_get (values_at tree g.path) index ≡ None))) → IsRead s session (EnumValue h index name_room room) body
+      by chain due (inl x) =
+          let below : nat_le (length (values_at tree g.path)) index ≡ false = let l = x.1 in grind (arith, nat_tests, l) in
+          told s session (EnumValue h index name_room room) _ body (chain ∙ rw (right, below) refl) due is
+      by chain due (inr x) =
+          let past : nat_le (length (values_at tree g.path)) index ≡ true = let l = x.0 in grind (arith, nat_tests, l) in
+          let none : query_cause s session (EnumValue h index name_room room) 0 ≡ Some 259 = chain ∙ rw (right, past) refl in
+          subst (λ (o : Option ℕ). IsTold (is_told o (body_of s session (EnumValue h index name_room room))) body) (sym none) (subst (λ (o : Option Member). IsTold (member_told o name_room room) body) x.1 is)
+
+  -- ---- QueryInfo
+
+  pub info-refused : (status : ℕ) → Refuses store session h status → IsRead s session (QueryInfo h) (Refused status)
+  unfolding early_query_cause late_query_cause
+  info-refused status r = refused s session status (QueryInfo h) (first _ _ _ status (r (λ x. refuse (not (has 1 x.mask)) 5)))
+
+  pub info-causes : (mask : ℕ) (g : t) → mask ≡ g.handle.mask → query_cause s session (QueryInfo h) 0 ≡ (refuse (not (has 1 mask)) 5 or asked 0 or None)
+  unfolding early_query_cause late_query_cause
+  info-causes mask g m =
+      ap (λ (a : Option ℕ). a or asked 0 or None) (by_handle-at store session h g (λ x. refuse (not (has 1 x.mask)) 5)) ∙ ap (λ (k : ℕ). refuse (not (has 1 k)) 5 or asked 0 or None) (sym m)
+
+  pub info-due : (g : t) → body_of s session (QueryInfo h) ≡ info_told tree g.path
+  unfolding body_of
+  info-due g = ap (info_told tree) (target-at store session h g)
+
+-- what was found is the value of that name
+pub record IsFoundAs (members : List Member) (o : Option Member) (found : ValueFound) : Type 0 where
+  pub member : Member
+  pub is : o ≡ Some member
+  pub at_index : slice_get members found.index ≡ Some member
+  pub kind : found.kind ≡ member.kind
+  pub size : found.size ≡ length member.bytes
+  pub within : found.index < length members
+
+pub found_as : (members : List Member) (o : Option Member) (found : ValueFound) → IsFound members o (Some found) → IsFoundAs members o found
+found_as members None found h = absurd h
+found_as members (Some m) found h = record { member = m; is = refl; at_index = h.0; kind = h.1; size = h.2; within = slice_get_within members found.index m h.0 }
+
+pub found_not : (members : List Member) (o : Option Member) → IsFound members o None → o ≡ None
+found_not members None h = refl
+found_not members (Some m) h = absurd h
+
+-- ---- the largest of some numbers
+
+swapped : (m n x : ℕ) → cond (nat_lt (cond (nat_lt m n) n m) x) x (cond (nat_lt m n) n m) ≡ cond (nat_lt (cond (nat_lt m x) x m) n) n (cond (nat_lt m x) x m)
+swapped m n x = grind (arith, nat_tests)
+
+largest-push : (ns : List ℕ) (n : ℕ) → largest_of (ns ++ n ∷ []) ≡ cond (nat_lt (largest_of ns) n) n (largest_of ns)
+largest-push [] n = refl
+largest-push (x ∷ ns) n = ap (λ (m : ℕ). cond (nat_lt m x) x m) (largest-push ns n) ∙ swapped (largest_of ns) n x
+
+-- the largest of one more
+pub largest-next : {X : Type 0} (f : X → ℕ) (xs : List X) (i : ℕ) (d x : X) → i < length xs → get_or xs i d ≡ x → largest_of (map f (take (i + 1) xs)) ≡ cond (nat_lt (largest_of (map f (take i xs))) (f x)) (f x) (largest_of (map f (take i xs)))
+largest-next f xs i d x below is =
+    ap (λ l. largest_of (map f l)) (take_more xs i d below)
+    ∙ (ap largest_of (map-append f (take i xs) (get_or xs i d ∷ [])) ∙ (largest-push (map f (take i xs)) (f (get_or xs i d)) ∙ ap (λ y. cond (nat_lt (largest_of (map f (take i xs))) (f y)) (f y) (largest_of (map f (take i xs)))) is))
+
+pub largest-all : {X : Type 0} (f : X → ℕ) (xs : List X) (i : ℕ) → length xs ≤ i → largest_of (map f (take i xs)) ≡ largest_of (map f xs)
+largest-all f xs i past = ap (λ l. largest_of (map f l)) (take_all i xs past)
+
+-- a step of a search for the largest
+pub largest-step : {X : Type 0} (f : X → ℕ) (xs : List X) (i : ℕ) (d x : X) (largest size now : ℕ) → i < length xs → get_or xs i d ≡ x → largest ≡ largest_of (map f (take i xs)) → size ≡ f x → now ≡ cond (nat_lt largest size) size largest → now ≡ largest_of (map f (take (i + 1) xs))
+largest-step f xs i d x largest size now below is so_far one step =
+    step
+    ∙ (ap (λ b. cond (nat_lt largest b) b largest) one ∙ (ap (λ a. cond (nat_lt a (f x)) (f x) a) so_far ∙ sym (largest-next f xs i d x below is)))
+
+-- the name of a key that is there
+pub name-told : (o : Option Rec) (name : List ℕ) → ((r : Rec) → o ≡ Some r → name ≡ r.name) → is_some o ≡ true → name ≡ name_of o
+name-told None name of_rec there = absurd (false≢true there)
+name-told (Some r) name of_rec there = of_rec r refl
+
+-- a mask that has QUERY_VALUE
+pub allowed_is : (mask : ℕ) → bit_and mask 1 ≡ 1 → has 1 mask ≡ true
+allowed_is mask e = grind (arith, nat_tests)
+
+-- a tree made of its root has it
+pub made-rooted : (t : Tree) (r : Rec) → t ≡ insert empty [] r → IsSome (get t [])
+made-rooted t r e = subst (λ (x : Tree). IsSome (get x [])) (sym e) (has-put empty [] r)

@@ -1,0 +1,115 @@
+-- The causes of changes by the tests that the code makes.
+use Rattle.std.proofs.Common.{◌≡◌, ◌≢◌, ℕ, true, false, not, ◌||◌, is_some, List, ◌++◌, Option, Some, None, refl, sym, ap, ◌∙◌, arith}
+use Rattle.std.specs.Prelude.{bit_and}
+use Rattle.std.specs.FinMap.{get}
+use Rattle.std.proofs.lemmas.Bool.Decides.{nat_tests}
+use Rattle.reg_names.specs.Names.{is_value_name, path_of}
+use Rattle.reg_heap.specs.Paths.{Path}
+use Rattle.reg_heap.specs.Members.{value_named}
+use Rattle.reg_heap.specs.Edits.{values_at, folded_path, are_too_many, may_not_go}
+use Rattle.reg_model.specs.Worlds.{Handle, look, path_at, path_from}
+use Rattle.reg_model.specs.Causes.{State, early_cause, late_cause, change_cause, refuse, ◌or◌, asked, is_mask, is_bad_value, is_bad_open, is_bad_target, no_handle_room, no_key_room, no_value_room, lacks_value, lacks_key, has, is_full, by_handle}
+use Rattle.reg_model.specs.declared.call.Change.TheVariants.{OpenRoot, OpenKey, CreateKey, SetValue, DeleteValue, DeleteKey, Close}
+use Rattle.reg_calls.specs.declared.store.Store.{Store}
+use Rattle.reg_calls.specs.Internal.Stores.{at, IsTarget}
+use Rattle.reg_calls.proofs.HandleLookUps.{by_handle-at, target-at, target-from}
+
+abbrev pub Refuses : Store → ℕ → ℕ → ℕ → Type 0
+Refuses store session number status = (f : Handle → Option ℕ) → by_handle f (look session number store.handles.handles) ≡ Some status
+
+pub first : (a b c : Option ℕ) (n : ℕ) → a ≡ Some n → (a or b or c) ≡ Some n
+first a b c n e = rw e refl
+
+-- ---- OpenRoot
+
+pub root-mask : (s : State) (session mask : ℕ) → (bit_and mask 4293984192 ≢ 0) → change_cause s session (OpenRoot mask) 0 ≡ Some 87
+unfolding early_cause late_cause
+root-mask s session mask bad = grind (arith, nat_tests)
+
+pub root-full : (s : State) (session mask : ℕ) → bit_and mask 4293984192 ≡ 0 → no_handle_room session s ≡ true → change_cause s session (OpenRoot mask) 0 ≡ Some 1450
+unfolding early_cause late_cause
+root-full s session mask good full = let m : is_mask mask ≡ true = grind (arith, nat_tests, good) in rw (m, full) refl
+
+pub root-none : (s : State) (session mask : ℕ) → bit_and mask 4293984192 ≡ 0 → no_handle_room session s ≡ false → change_cause s session (OpenRoot mask) 0 ≡ None
+unfolding early_cause late_cause
+root-none s session mask good room = let m : is_mask mask ≡ true = grind (arith, nat_tests, good) in rw (m, room) refl
+
+module _ (n : ℕ) (store : Store) (session h : ℕ) where
+  abbrev s : State
+  s = at n store
+
+  abbrev t : Type 0
+  t = IsTarget store session h
+
+  -- ---- OpenKey
+
+  pub open-refused : (path : List ℕ) (mask status : ℕ) → Refuses store session h status → change_cause s session (OpenKey h path mask) 0 ≡ Some status
+  unfolding early_cause late_cause
+  open-refused path mask status r = first _ _ _ status (r (λ x. refuse (is_bad_open path mask) 87 or refuse (no_handle_room session s) 1450))
+
+  pub open-causes : (path : List ℕ) (mask : ℕ) (g : t) → change_cause s session (OpenKey h path mask) 0 ≡ (refuse (is_bad_open path mask) 87 or refuse (no_handle_room session s) 1450 or asked 0 or refuse (not (is_some (get store.tree.tree (g.path ++ folded_path path)))) 2)
+  unfolding early_cause late_cause
+  open-causes path mask g =
+      ap (λ (a : Option ℕ). a or asked 0 or refuse (lacks_key s session h path) 2) (by_handle-at store session h g (λ x. refuse (is_bad_open path mask) 87 or refuse (no_handle_room session s) 1450))
+      ∙ ap (λ (q : Path). refuse (is_bad_open path mask) 87 or refuse (no_handle_room session s) 1450 or asked 0 or refuse (not (is_some (get store.tree.tree q))) 2) (target-from store session h g path)
+
+  -- ---- CreateKey
+
+  pub create-refused : (path : List ℕ) (mask status : ℕ) → Refuses store session h status → change_cause s session (CreateKey h path mask) 0 ≡ Some status
+  unfolding early_cause late_cause
+  create-refused path mask status r = first _ _ _ status (r (λ x. refuse (is_bad_open path mask) 87 or refuse (no_handle_room session s || no_key_room s session h path) 1450))
+
+  pub create-causes : (path : List ℕ) (mask : ℕ) (g : t) → change_cause s session (CreateKey h path mask) 0 ≡ (refuse (is_bad_open path mask) 87 or refuse (no_handle_room session s || are_too_many store.tree.tree g.path (path_of path)) 1450 or asked 0 or None)
+  unfolding early_cause late_cause
+  create-causes path mask g =
+      ap (λ (a : Option ℕ). a or asked 0 or None) (by_handle-at store session h g (λ x. refuse (is_bad_open path mask) 87 or refuse (no_handle_room session s || no_key_room s session h path) 1450))
+      ∙ ap (λ (q : Path). refuse (is_bad_open path mask) 87 or refuse (no_handle_room session s || are_too_many store.tree.tree q (path_of path)) 1450 or asked 0 or None) (target-at store session h g)
+
+  -- ---- SetValue
+
+  pub set-refused : (name bytes : List ℕ) (kind status : ℕ) → Refuses store session h status → change_cause s session (SetValue h name kind bytes) 0 ≡ Some status
+  unfolding early_cause late_cause
+  set-refused name bytes kind status r =
+      first _ _ _ status (r (λ x. refuse (is_bad_value name bytes) 87 or refuse (not (has 2 x.mask)) 5 or refuse (is_full 1 s || no_value_room name (values_at store.tree.tree (path_at session h store.handles.handles))) 1450))
+
+  pub set-causes : (name bytes : List ℕ) (kind mask : ℕ) (g : t) → mask ≡ g.handle.mask → change_cause s session (SetValue h name kind bytes) 0 ≡ (refuse (is_bad_value name bytes) 87 or refuse (not (has 2 mask)) 5 or refuse (is_full 1 s || no_value_room name (values_at store.tree.tree g.path)) 1450 or asked 0 or None)
+  unfolding early_cause late_cause
+  set-causes name bytes kind mask g m =
+      ap (λ (a : Option ℕ). a or asked 0 or None) (by_handle-at store session h g (λ x. refuse (is_bad_value name bytes) 87 or refuse (not (has 2 x.mask)) 5 or refuse (is_full 1 s || no_value_room name (values_at store.tree.tree (path_at session h store.handles.handles))) 1450))
+      ∙ (ap (λ (q : Path). refuse (is_bad_value name bytes) 87 or refuse (not (has 2 g.handle.mask)) 5 or refuse (is_full 1 s || no_value_room name (values_at store.tree.tree q)) 1450 or asked 0 or None) (target-at store session h g)
+      ∙ ap (λ (k : ℕ). refuse (is_bad_value name bytes) 87 or refuse (not (has 2 k)) 5 or refuse (is_full 1 s || no_value_room name (values_at store.tree.tree g.path)) 1450 or asked 0 or None) (sym m))
+
+  -- ---- DeleteValue
+
+  pub drop-refused : (name : List ℕ) (status : ℕ) → Refuses store session h status → change_cause s session (DeleteValue h name) 0 ≡ Some status
+  unfolding early_cause late_cause
+  drop-refused name status r = first _ _ _ status (r (λ x. refuse (not (is_value_name name)) 87 or refuse (not (has 2 x.mask)) 5 or refuse (is_full 1 s) 1450))
+
+  pub drop-causes : (name : List ℕ) (mask : ℕ) (g : t) → mask ≡ g.handle.mask → change_cause s session (DeleteValue h name) 0 ≡ (refuse (not (is_value_name name)) 87 or refuse (not (has 2 mask)) 5 or refuse (is_full 1 s) 1450 or asked 0 or refuse (not (is_some (value_named name (values_at store.tree.tree g.path)))) 2)
+  unfolding early_cause late_cause
+  drop-causes name mask g m =
+      ap (λ (a : Option ℕ). a or asked 0 or refuse (lacks_value s session h name) 2) (by_handle-at store session h g (λ x. refuse (not (is_value_name name)) 87 or refuse (not (has 2 x.mask)) 5 or refuse (is_full 1 s) 1450))
+      ∙ (ap (λ (q : Path). refuse (not (is_value_name name)) 87 or refuse (not (has 2 g.handle.mask)) 5 or refuse (is_full 1 s) 1450 or asked 0 or refuse (not (is_some (value_named name (values_at store.tree.tree q)))) 2) (target-at store session h g)
+      ∙ ap (λ (k : ℕ). refuse (not (is_value_name name)) 87 or refuse (not (has 2 k)) 5 or refuse (is_full 1 s) 1450 or asked 0 or refuse (not (is_some (value_named name (values_at store.tree.tree g.path)))) 2) (sym m))
+
+  -- ---- DeleteKey
+
+  pub delete-refused : (path : List ℕ) (status : ℕ) → Refuses store session h status → change_cause s session (DeleteKey h path) 0 ≡ Some status
+  unfolding early_cause late_cause
+  delete-refused path status r = first _ _ _ status (r (λ x. refuse (is_bad_target path) 87 or refuse (is_full 1 s) 1450))
+
+  pub delete-causes : (path : List ℕ) (g : t) → change_cause s session (DeleteKey h path) 0 ≡ (refuse (is_bad_target path) 87 or refuse (is_full 1 s) 1450 or asked 0 or (refuse (not (is_some (get store.tree.tree (g.path ++ folded_path path)))) 2 or refuse (may_not_go store.tree.tree (g.path ++ folded_path path)) 5))
+  unfolding early_cause late_cause
+  delete-causes path g =
+      ap (λ (a : Option ℕ). a or asked 0 or (refuse (lacks_key s session h path) 2 or refuse (may_not_go store.tree.tree (path_from session h store.handles.handles path)) 5)) (by_handle-at store session h g (λ x. refuse (is_bad_target path) 87 or refuse (is_full 1 s) 1450))
+      ∙ ap (λ (q : Path). refuse (is_bad_target path) 87 or refuse (is_full 1 s) 1450 or asked 0 or (refuse (not (is_some (get store.tree.tree q))) 2 or refuse (may_not_go store.tree.tree q) 5)) (target-from store session h g path)
+
+  -- ---- Close
+
+  pub close-found : (o : Handle) → Some o ≡ look session h store.handles.handles → None ≡ change_cause s session (Close h) 0
+  unfolding early_cause late_cause
+  close-found o e = rw (sym e) refl
+
+  pub close-missing : None ≡ look session h store.handles.handles → Some 6 ≡ change_cause s session (Close h) 0
+  unfolding early_cause late_cause
+  close-missing e = rw (sym e) refl

@@ -1,0 +1,313 @@
+-- What the changes of accepted calls make of a store.
+use Rattle.std.proofs.Common.{◌≡◌, ◌≢◌, ◌⊎◌, ◌↔◌, inl, inr, ℕ, ◌+◌, ◌<◌, ◌≤◌, Bool, true, false, not, ◌||◌, ◌&&◌, nat_lt, nat_le, cond, is_some, List, [], ◌∷◌, ◌++◌, map, length, Option, Some, None, refl, sym, ap, ◌∙◌, subst, arith, true≢false, append_assoc, length-append}
+use Rattle.std.specs.Prelude.{All, Result, Err, bit_and, ◌==◌}
+use Rattle.std.specs.List.{AllByRecursion}
+use Rattle.std.specs.FinMap.{get}
+use Rattle.std.proofs.lemmas.List.{append-nil, length-map}
+use Rattle.std.proofs.lemmas.List.Elements.{recursion_from_All}
+use Rattle.std.proofs.lemmas.Bool.{eq-eqb, ne_eqb, false≢true}
+use Rattle.std.proofs.lemmas.Bool.Decides.{nat_tests}
+use Rattle.reg_names.specs.Names.{folded, path_of, is_path, is_value_name}
+use Rattle.reg_heap.specs.Paths.{Path, Tree, Member, children_of}
+use Rattle.reg_heap.specs.Members.{value_named}
+use Rattle.reg_heap.specs.Edits.{edited, with_value, without_value, values_at, folded_path, with_keys, missing, has_child, child_path, are_too_many, may_not_go, marks_of, without_key, IsKept}
+use Rattle.reg_model.specs.Worlds.{Handle, At, look, path_from, closed, turned, same_path, after}
+use Rattle.reg_model.specs.Causes.{State, change_cause, handles_of, no_handle_room, no_value_room, is_full}
+use Rattle.reg_model.specs.Replies.{reply_to, disposition_of}
+use Rattle.reg_model.specs.declared.reply.ChangeReply.{ChangeReply}
+use Rattle.reg_model.specs.declared.call.Change.{Change}
+use Rattle.reg_model.specs.declared.call.Change.TheVariants.{OpenRoot, OpenKey, CreateKey, SetValue, DeleteValue, DeleteKey, Close}
+use Rattle.reg_model.proofs.AcceptedCalls.{Target, both_false, not_false, root-met, OpenMet, open-met, CreateMet, create-met, SetMet, set-met, DropMet, drop-met, DeleteMet, delete-met, close-met}
+use Rattle.reg_model.proofs.HandleInvariant.{Has, target-below}
+use Rattle.reg_model.proofs.LegalJournals.{numbered-push}
+use Rattle.reg_handles.specs.HandleTables.{Table}
+use Rattle.reg_tree.specs.TreeKeys.{Keys}
+use Rattle.reg_tree.specs.declared.fault.TreeFault.{TreeFault}
+use Rattle.reg_tree.specs.declared.fault.TreeFault.TheVariants.{Limit, Full, Memory, HasChildren, NoDelete}
+use Rattle.reg_calls.specs.declared.store.Store.{Store}
+use Rattle.reg_calls.specs.declared.lack.Lack.{Lack}
+use Rattle.reg_calls.specs.declared.lack.Lack.TheVariants.{Space, Memory as Short}
+use Rattle.reg_calls.specs.Internal.Stores.{at, IsReady, IsTarget, IsDone, IsMade, LacksSpace, is_closing}
+use Rattle.reg_calls.proofs.HandleLookUps.{by_handle-at, target-at, target-from, target-has}
+use Rattle.reg_calls.proofs.RefusalTests.{Refuses}
+
+-- ---- handles
+
+some-none : {A : Type 0} (o : Option A) (a : A) → o ≡ None → o ≡ Some a → ⊥
+some-none None a e f = absurd (cc)
+some-none (Some x) a e f = absurd (cc)
+
+-- a handle that leads to a key isn't refused
+pub not_refused_by : (store : Store) (session h status : ℕ) → IsTarget store session h → Refuses store session h status → ⊥
+not_refused_by store session h status t r = some-none _ status (by_handle-at store session h t (λ x. None)) (r (λ x. None))
+
+closed-all : (n : ℕ) (hs : List Handle) → AllByRecursion (λ (x : Handle). x.number < n) hs → (h : Handle) → h.number ≡ n → closed n (hs ++ h ∷ []) ≡ hs
+closed-all n [] b h e = rw (eq-eqb h.number n e) refl
+closed-all n (x ∷ hs) b h e = rw (ne_eqb x.number n (λ same. omega (arith, b.0))) (ap (λ (r : List Handle). x ∷ r) (closed-all n hs b.1 h e))
+
+-- a handle that was added and closed leaves the others
+pub closed-push : (n : ℕ) (hs : List Handle) → All (λ (x : Handle). x.number < n) hs → (h : Handle) → h.number ≡ n → closed n (hs ++ h ∷ []) ≡ hs
+closed-push n hs all h e = closed-all n hs (recursion_from_All (λ (x : Handle). x.number < n) hs all) h e
+
+-- its session has it
+pub look-push : (session n : ℕ) (hs : List Handle) → All (λ (x : Handle). x.number < n) hs → (h : Handle) → h.number ≡ n → h.session ≡ session → is_some (look session n (hs ++ h ∷ [])) ≡ true
+look-push session n hs all h e f =
+    rw (numbered-push n hs h e (recursion_from_All (λ (x : Handle). x.number < n) hs all), eq-eqb h.session session f) refl
+
+pub store-same : (store : Store) (tree : Keys) (handles : Table) → tree ≡ store.tree → handles.handles ≡ store.handles.handles → ◌≡◌ {A = Store} (record { tree = tree; handles = handles }) store
+store-same store tree handles a b = λ i. record { tree = a i; handles = record { handles = b i } }
+
+-- ---- limits
+
+few-of : (count : ℕ) (a b c : Bool) → 0 < count → (nat_lt 0 count && (a || b || c)) ≡ false → b ≡ false
+few-of count a b c some e =
+    let t : nat_lt 0 count ≡ true = grind (arith, nat_tests, some) in
+    by a b c (sym (ap (λ (x : Bool). x && (a || b || c)) t) ∙ e)
+  where
+    by : (a b c : Bool) → (a || b || c) ≡ false → b ≡ false
+    by true b c e = absurd (true≢false e)
+    by false true c e = absurd (true≢false e)
+    by false false c e = refl
+
+not_above : (m n : ℕ) → nat_lt m n ≡ false → n ≤ m
+not_above m n e = grind (arith, nat_tests)
+
+-- where no key is missing on a path, the last one is there
+there-step : (b : Bool) (t : Tree) (p : Path) (name : List ℕ) (names : List (List ℕ)) → has_child t p name ≡ b → (missing t (child_path p name) names ≡ [] → Has t (child_path p name) → Has t (child_path p name ++ map folded names)) → cond b (missing t (child_path p name) names) (name ∷ names) ≡ [] → Has t (child_path p name ++ map folded names)
+there-step true t p name names there on none = on none there
+there-step false t p name names there on none = absurd (cc)
+
+all-there : (t : Tree) (p : Path) (names : List (List ℕ)) → missing t p names ≡ [] → Has t p → Has t (p ++ map folded names)
+all-there t p [] e h = subst (Has t) (sym (append-nil p)) h
+all-there t p (name ∷ names) e h =
+    subst (Has t) (append_assoc p (folded name ∷ []) (map folded names)) (there-step (has_child t p name) t p name names refl (all-there t (child_path p name) names) e)
+
+path-short : (t : Tree) (p : Path) (names : List (List ℕ)) → ((q : Path) → Has t q → length q ≤ 512) → Has t p → are_too_many t p names ≡ false → length (p ++ map folded names) ≤ 512
+path-short t p names shallow h few = by (missing t p names) refl
+  where
+    by : (m : List (List ℕ)) → missing t p names ≡ m → length (p ++ map folded names) ≤ 512
+    by [] e = shallow (p ++ map folded names) (all-there t p names e h)
+    by (x ∷ xs) e =
+        let some : 0 < length (missing t p names) = rw e (omega arith) in
+        let b = few-of (length (missing t p names)) _ (nat_lt 512 (length p + length names)) _ some few in
+        let l = not_above 512 (length p + length names) b in
+        let a = length-append p (map folded names) in
+        let m = length-map names folded in
+        omega (arith, l, a, m)
+
+-- ---- the calls
+
+module _ (n : ℕ) (store : Store) (session : ℕ) (ready : IsReady n store) where
+  abbrev s : State
+  s = at n store
+
+  abbrev hs : List Handle
+  hs = store.handles.handles
+
+  abbrev tree : Tree
+  tree = store.tree.tree
+
+  abbrev targeted : (h : ℕ) → Target (look session h hs) → IsTarget store session h
+  targeted h t = record { handle = t.handle; path = t.path; found = t.found; place = t.place }
+
+  pub room-few : no_handle_room session s ≡ false → handles_of session hs < 16384
+  room-few e = let b = both_false (nat_le 16384 (handles_of session hs)) (is_full 2 s) e in grind (arith, nat_tests, b.0)
+
+  abbrev added : Table → ℕ → List ℕ → Type 0
+  added table mask text = table.handles ≡ hs ++ record { number = n; session = session; mask = mask; place = At (path_of text) } ∷ []
+
+  abbrev pub opening : Option ℕ → ChangeReply
+  opening disposition = record { status = 0; number = Some n; handle = Some n; disposition = disposition }
+
+  abbrev pub plain : ChangeReply
+  plain = record { status = 0; number = Some n; handle = None; disposition = None }
+
+  -- ---- OpenRoot
+
+  pub root-room : (mask : ℕ) → change_cause s session (OpenRoot mask) 0 ≡ None → handles_of session hs < 16384
+  root-room mask c = let m = root-met s session mask 0 c in room-few m.room
+
+  pub root-done : (moment mask : ℕ) (table : Table) (text : List ℕ) → text ≡ [] → added table mask text → (told : ChangeReply) → told ≡ opening None → IsDone store (record { tree = store.tree; handles = table }) session moment n (OpenRoot mask) told
+  unfolding after reply_to
+  root-done moment mask table text empty add told e =
+      let handles = add ∙ ap (λ (t : List ℕ). hs ++ record { number = n; session = session; mask = mask; place = At (path_of t) } ∷ []) empty in
+      record { world = λ i. record { tree = tree; handles = handles i }; reply = e }
+
+  -- ---- OpenKey
+
+  module _ (h : ℕ) (path : List ℕ) (mask : ℕ) (c : change_cause s session (OpenKey h path mask) 0 ≡ None) where
+    abbrev open-facts : OpenMet s session h path mask
+    open-facts = open-met s session h path mask 0 c
+
+    abbrev pub open-target : IsTarget store session h
+    open-target = targeted h open-facts.target
+
+    pub open-path : is_path path ≡ true
+    open-path = let b = both_false (not (is_path path)) _ open-facts.good in not_false (is_path path) b.0
+
+    pub open-room : handles_of session hs < 16384
+    open-room = room-few open-facts.room
+
+    pub open-short : ((q : Path) → Has tree q → length q ≤ 512) → length (path_from session h hs path) ≤ 512
+    open-short shallow = shallow (path_from session h hs path) open-facts.there
+
+    pub open-done : (moment : ℕ) (table : Table) (text : List ℕ) → path_of text ≡ path_from session h hs path → added table mask text → (told : ChangeReply) → told ≡ opening None → IsDone store (record { tree = store.tree; handles = table }) session moment n (OpenKey h path mask) told
+    unfolding after reply_to
+    open-done moment table text names add told e =
+        let handles = add ∙ ap (λ (p : Path). hs ++ record { number = n; session = session; mask = mask; place = At p } ∷ []) names in
+        record { world = λ i. record { tree = tree; handles = handles i }; reply = e }
+
+  -- ---- CreateKey
+
+  module _ (h : ℕ) (path : List ℕ) (mask : ℕ) (c : change_cause s session (CreateKey h path mask) 0 ≡ None) where
+    abbrev create-facts : CreateMet s session h path mask
+    create-facts = create-met s session h path mask 0 c
+
+    abbrev pub create-target : IsTarget store session h
+    create-target = targeted h create-facts.target
+
+    pub create-path : is_path path ≡ true
+    create-path = let b = both_false (not (is_path path)) _ create-facts.good in not_false (is_path path) b.0
+
+    pub create-room : handles_of session hs < 16384
+    create-room = room-few create-facts.room
+
+    -- of any way in which the handle leads to a key
+    module _ (t : IsTarget store session h) where
+      pub create-few : are_too_many tree t.path (path_of path) ≡ false
+      create-few = subst (λ (p : Path). are_too_many tree p (path_of path) ≡ false) (target-at store session h t) create-facts.few
+
+      pub create-short : ((q : Path) → Has tree q → length q ≤ 512) → length (path_from session h hs path) ≤ 512
+      create-short shallow =
+          subst (λ (p : Path). length p ≤ 512) (sym (target-from store session h t path)) (path-short tree t.path (path_of path) shallow (target-has store session h t ready.stand) create-few)
+
+      pub create-done : (moment : ℕ) (keys : Keys) (table : Table) (text : List ℕ) → path_of text ≡ path_from session h hs path → keys.tree ≡ with_keys tree t.path (path_of path) moment → added table mask text → (told : ChangeReply) → told ≡ opening (Some (disposition_of (missing tree t.path (path_of path)))) → IsDone store (record { tree = keys; handles = table }) session moment n (CreateKey h path mask) told
+      unfolding after reply_to
+      create-done moment keys table text names made add told e =
+          let handles = add ∙ ap (λ (p : Path). hs ++ record { number = n; session = session; mask = mask; place = At p } ∷ []) names in
+          let grown = made ∙ ap (λ (p : Path). with_keys tree p (path_of path) moment) (sym (target-at store session h t)) in
+          let reply = e ∙ ap (λ (p : Path). opening (Some (disposition_of (missing tree p (path_of path))))) (sym (target-at store session h t)) in
+          record { world = λ i. record { tree = grown i; handles = handles i }; reply = reply }
+
+  -- ---- SetValue
+
+  module _ (h : ℕ) (name : List ℕ) (kind : ℕ) (bytes : List ℕ) (c : change_cause s session (SetValue h name kind bytes) 0 ≡ None) where
+    abbrev set-facts : SetMet s session h name bytes
+    set-facts = set-met s session h name kind bytes 0 c
+
+    abbrev pub set-target : IsTarget store session h
+    set-target = targeted h set-facts.target
+
+    pub set-name : is_value_name name ≡ true
+    set-name = let b = both_false (not (is_value_name name)) _ set-facts.good in not_false (is_value_name name) b.0
+
+    pub set-bytes : length bytes ≤ 1048576
+    set-bytes = let b = both_false (not (is_value_name name)) (nat_lt 1048576 (length bytes)) set-facts.good in not_above 1048576 (length bytes) b.1
+
+    module _ (t : IsTarget store session h) where
+      pub set-room : 16384 ≤ length (values_at tree t.path) → value_named name (values_at tree t.path) ≡ None → ⊥
+      set-room many none =
+          let room : no_value_room name (values_at tree t.path) ≡ false = subst (λ (p : Path). no_value_room name (values_at tree p) ≡ false) (target-at store session h t) set-facts.few in
+          let lacks : is_some (value_named name (values_at tree t.path)) ≡ false = ap is_some none in
+          absurd (true≢false (sym (grind (arith, nat_tests, lacks)) ∙ room))
+
+      pub set-done : (moment : ℕ) (keys : Keys) → keys.tree ≡ edited tree t.path (with_value name kind bytes moment) → (told : ChangeReply) → told ≡ plain → IsDone store (record { tree = keys; handles = store.handles }) session moment n (SetValue h name kind bytes) told
+      unfolding after reply_to
+      set-done moment keys set told e =
+          let now = set ∙ ap (λ (p : Path). edited tree p (with_value name kind bytes moment)) (sym (target-at store session h t)) in
+          record { world = λ i. record { tree = now i; handles = hs }; reply = e }
+
+  -- ---- DeleteValue
+
+  module _ (h : ℕ) (name : List ℕ) (c : change_cause s session (DeleteValue h name) 0 ≡ None) where
+    abbrev drop-facts : DropMet s session h name
+    drop-facts = drop-met s session h name 0 c
+
+    abbrev pub drop-target : IsTarget store session h
+    drop-target = targeted h drop-facts.target
+
+    module _ (t : IsTarget store session h) where
+      pub drop-there : value_named name (values_at tree t.path) ≡ None → ⊥
+      drop-there none =
+          let there : not (is_some (value_named name (values_at tree t.path))) ≡ false = subst (λ (p : Path). not (is_some (value_named name (values_at tree p))) ≡ false) (target-at store session h t) drop-facts.there in
+          absurd (true≢false (sym (ap (λ (o : Option Member). not (is_some o)) none) ∙ there))
+
+      pub drop-done : (moment : ℕ) (keys : Keys) → keys.tree ≡ edited tree t.path (without_value name moment) → (told : ChangeReply) → told ≡ plain → IsDone store (record { tree = keys; handles = store.handles }) session moment n (DeleteValue h name) told
+      unfolding after reply_to
+      drop-done moment keys set told e =
+          let now = set ∙ ap (λ (p : Path). edited tree p (without_value name moment)) (sym (target-at store session h t)) in
+          record { world = λ i. record { tree = now i; handles = hs }; reply = e }
+
+  -- ---- DeleteKey
+
+  module _ (h : ℕ) (path : List ℕ) (c : change_cause s session (DeleteKey h path) 0 ≡ None) where
+    abbrev delete-facts : DeleteMet s session h path
+    delete-facts = delete-met s session h path 0 c
+
+    abbrev pub delete-target : IsTarget store session h
+    delete-target = targeted h delete-facts.target
+
+    pub delete-path : is_path path ≡ true
+    delete-path = let b = both_false (not (is_path path)) _ delete-facts.good in not_false (is_path path) b.0
+
+    module _ (t : IsTarget store session h) where
+      pub delete-there : get tree (t.path ++ folded_path path) ≡ None → ⊥
+      delete-there none =
+          let there : Has tree (t.path ++ folded_path path) = subst (Has tree) (target-from store session h t path) delete-facts.there in
+          absurd (true≢false (sym there ∙ ap is_some none))
+
+      delete-goes : may_not_go tree (t.path ++ folded_path path) ≡ false
+      delete-goes = subst (λ (p : Path). may_not_go tree p ≡ false) (target-from store session h t path) delete-facts.goes
+
+      empty-of : (xs : List Path) → nat_lt 0 (length xs) ≡ false → xs ≡ []
+      empty-of [] e = refl
+      empty-of (x ∷ xs) e = let l : length (x ∷ xs) ≤ 0 = not_above 0 (length (x ∷ xs)) e in absurd (omega (arith, l))
+
+      pub delete-childless : children_of tree (t.path ++ folded_path path) ≡ []
+      delete-childless =
+          let b = both_false (nat_lt 0 (length (children_of tree (t.path ++ folded_path path)))) (not (bit_and (marks_of (get tree (t.path ++ folded_path path))) 8 == 0)) delete-goes in
+          empty-of (children_of tree (t.path ++ folded_path path)) b.0
+
+      pub delete-kept : IsKept tree (t.path ++ folded_path path) → ⊥
+      delete-kept (inl root) = absurd (true≢false (sym (ap (λ (p : Path). same_path [] p) root) ∙ target-below t.path path delete-facts.good))
+      delete-kept (inr marked) =
+          let b = both_false (nat_lt 0 (length (children_of tree (t.path ++ folded_path path)))) (not (bit_and (marks_of (get tree (t.path ++ folded_path path))) 8 == 0)) delete-goes in
+          absurd (true≢false (sym (not_false (bit_and (marks_of (get tree (t.path ++ folded_path path))) 8 == 0) b.1) ∙ marked))
+
+      pub delete-refused : (fault : TreeFault) → ((◌≡◌ {A = Result (Unit {0}) TreeFault} (Err fault) (Err HasChildren)) ↔ (children_of tree (t.path ++ folded_path path) ≢ [])) → ((◌≡◌ {A = Result (Unit {0}) TreeFault} (Err fault) (Err NoDelete)) ↔ ((children_of tree (t.path ++ folded_path path) ≡ []) × IsKept tree (t.path ++ folded_path path))) → (fault ≡ HasChildren) ⊎ (fault ≡ NoDelete) → ⊥
+      delete-refused fault children kept (inl e) = children.0 (ap (λ f. Err f) e) delete-childless
+      delete-refused fault children kept (inr e) = delete-kept (kept.0 (ap (λ f. Err f) e)).1
+
+      pub delete-done : (moment : ℕ) (keys : Keys) (table : Table) (text : List ℕ) → path_of text ≡ path_from session h hs path → keys.tree ≡ without_key tree (t.path ++ folded_path path) moment → table.handles ≡ turned (path_of text) hs → (told : ChangeReply) → told ≡ plain → IsDone store (record { tree = keys; handles = table }) session moment n (DeleteKey h path) told
+      unfolding after reply_to
+      delete-done moment keys table text names gone turn told e =
+          let now = gone ∙ ap (λ (p : Path). without_key tree p moment) (sym (target-from store session h t path)) in
+          let handles = turn ∙ ap (λ (p : Path). turned p hs) names in
+          record { world = λ i. record { tree = now i; handles = handles i }; reply = e }
+
+  -- ---- Close
+
+  pub close-has : (h : ℕ) → change_cause s session (Close h) 0 ≡ None → is_some (look session h hs) ≡ true
+  close-has h c = close-met s session h 0 c
+
+  pub close-done : (moment h : ℕ) (table : Table) → table.handles ≡ closed h hs → (told : ChangeReply) → told ≡ plain → IsDone store (record { tree = store.tree; handles = table }) session moment n (Close h) told
+  unfolding after reply_to
+  close-done moment h table shut told e = record { world = λ i. record { tree = tree; handles = shut i }; reply = e }
+
+-- ---- what is told of a created key
+
+pub disposition-is : (names : List (List ℕ)) (is_new : Bool) → ((is_new ≡ true) ↔ (names ≢ [])) → cond is_new 1 2 ≡ disposition_of names
+disposition-is [] true iff = absurd (iff.0 refl refl)
+disposition-is [] false iff = refl
+disposition-is (x ∷ xs) true iff = refl
+disposition-is (x ∷ xs) false iff = absurd (false≢true (iff.1 (λ none. absurd (cc))))
+
+-- ---- a change that isn't made
+
+pub is_lack : (fault : TreeFault) → (fault ≡ Limit) ⊎ ((fault ≡ Full) ⊎ (fault ≡ Memory)) → (fault ≡ Limit → ⊥) → (fault ≡ Full) ⊎ (fault ≡ Memory)
+is_lack fault (inl e) limited = absurd (limited e)
+is_lack fault (inr r) limited = r
+
+pub lacking : (old new : Store) (session moment n : ℕ) (change : Change) (lack : Lack) → new ≡ old → is_closing change ≡ false → (lack ≡ Space → LacksSpace old.tree change) → IsMade old new session moment n change (Err lack)
+lacking old new session moment n change Space same opens space = (same, space refl)
+lacking old new session moment n change Short same opens space = (same, opens)

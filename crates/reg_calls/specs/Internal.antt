@@ -1,0 +1,2 @@
+-- Words that only private contracts and proofs use: the tree and the handles as calls find and leave them.
+pub mod Stores

@@ -1,0 +1,82 @@
+-- The keys and the open handles on them, as calls find and leave them.
+use Rattle.std.specs.Prelude.{◌≡◌, ℕ, ◌+◌, ◌<◌, ◌≤◌, Bool, true, false, length, Option, Some, All, Result, Ok, Err}
+use Rattle.reg_heap.specs.Paths.{Path}
+use Rattle.reg_model.specs.Worlds.{World, Handle, At, IsStanding, look, after}
+use Rattle.reg_model.specs.Causes.{State, by_handle}
+use Rattle.reg_model.specs.Replies.{reply_to}
+use Rattle.reg_model.specs.Calls.{entry_due}
+use Rattle.reg_model.specs.declared.reply.ChangeReply.{ChangeReply}
+use Rattle.reg_model.specs.declared.call.Change.{Change}
+use Rattle.reg_model.specs.declared.call.Change.TheVariants.{OpenRoot, OpenKey, CreateKey, SetValue, DeleteValue, DeleteKey, Close}
+use Rattle.reg_tree.specs.TreeKeys.{Keys, IsAt}
+use Rattle.reg_calls.specs.declared.store.Store.{Store}
+use Rattle.reg_calls.specs.declared.store.KeyHandle.{KeyHandle}
+use Rattle.reg_calls.specs.declared.lack.Lack.{Lack}
+use Rattle.reg_calls.specs.declared.lack.Lack.TheVariants.{Space, Memory}
+
+-- the world of a store
+abbrev pub world_of : Store → World
+world_of store = record { tree = store.tree.tree; handles = store.handles.handles }
+
+-- where a call finds it after so many entries
+abbrev pub at : ℕ → Store → State
+at entries store = record { count = entries; world = world_of store }
+
+-- the root is there, and each key that a handle leads to
+abbrev pub AreStanding : Store → Type 0
+AreStanding store = IsStanding store.tree.tree store.handles.handles
+
+-- the same; the handles' numbers are those of entries; and there are not too many
+pub record IsReady (entries : ℕ) (store : Store) : Type 0 where
+  pub stand : IsStanding store.tree.tree store.handles.handles
+  pub below : All (λ (h : Handle). h.number < entries) store.handles.handles
+  pub small : entries + length store.handles.handles ≤ 16777216
+
+-- the session's handle of that number leads to a key
+pub record IsTarget (store : Store) (session number : ℕ) : Type 0 where
+  pub handle : Handle
+  pub path : Path
+  pub found : look session number store.handles.handles ≡ Some handle
+  pub place : handle.place ≡ At path
+
+-- it was found, with its rights and its key
+pub record IsOpened (store : Store) (session number : ℕ) (key : KeyHandle) : Type 0 where
+  pub target : IsTarget store session number
+  pub mask : key.mask ≡ target.handle.mask
+  pub node : IsAt store.tree target.path key.node
+
+-- what a look-up tells: the handle, or the refusal of every call by it
+abbrev pub IsLooked : Store → ℕ → ℕ → Result KeyHandle ℕ → Type 0
+IsLooked store session number (Ok key) = IsOpened store session number key
+IsLooked store session number (Err status) = (f : Handle → Option ℕ) → by_handle f (look session number store.handles.handles) ≡ Some status
+
+-- a Close takes no memory
+abbrev pub is_closing : Change → Bool
+is_closing (Close h) = true
+is_closing (OpenRoot mask) = false
+is_closing (OpenKey h path mask) = false
+is_closing (CreateKey h path mask) = false
+is_closing (SetValue h name kind bytes) = false
+is_closing (DeleteValue h name) = false
+is_closing (DeleteKey h path) = false
+
+-- a change may find no space in the bins: one that takes some, where they are within 1,310,720 bytes of their limit
+abbrev pub LacksSpace : Keys → Change → Type 0
+LacksSpace keys (CreateKey h path mask) = 268435456 < length keys.bins.bytes + 1310720
+LacksSpace keys (SetValue h name kind bytes) = 268435456 < length keys.bins.bytes + 1310720
+LacksSpace keys (OpenRoot mask) = ⊥
+LacksSpace keys (OpenKey h path mask) = ⊥
+LacksSpace keys (DeleteValue h name) = ⊥
+LacksSpace keys (DeleteKey h path) = ⊥
+LacksSpace keys (Close h) = ⊥
+
+-- a change was made on the store, and this is its reply
+pub record IsDone (old new : Store) (session moment number : ℕ) (change : Change) (told : ChangeReply) : Type 0 where
+  pub world : world_of new ≡ after (world_of old) (entry_due (at number old) session moment change)
+  pub reply : told ≡ reply_to (at number old) session change
+
+-- a change that nothing refuses was made, or nothing changed, for want of memory or of space
+abbrev pub IsMade : Store → Store → ℕ → ℕ → ℕ → Change → Result ChangeReply Lack → Type 0
+IsMade old new session moment number change (Ok reply) = IsDone old new session moment number change reply
+IsMade old new session moment number change (Err Memory) = (new ≡ old) × (is_closing change ≡ false)
+IsMade old new session moment number change (Err Space) = (new ≡ old) × LacksSpace old.tree change

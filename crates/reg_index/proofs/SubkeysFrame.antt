@@ -1,0 +1,121 @@
+-- Subkeys that stay what they are where other cells change.
+use Rattle.std.proofs.Common.{◌≡◌, ◌≢◌, ◌⊎◌, inl, inr, ℕ, zero, suc, ◌≤◌, ◌==◌, Bool, true, false, not, cond, Option, Some, None, IsSome, is_some, List, [], ◌∷◌, refl, sym, ap, ◌∙◌, subst, arith}
+use Rattle.std.specs.Prelude.{slice_index, Ok}
+use Rattle.std.specs.List.{AllByRecursion}
+use Rattle.std.specs.Option.{option_and_then}
+use Rattle.std.proofs.lemmas.Bool.{false≢true, eqb-true, ne_eqb, and_parts}
+use Rattle.std.proofs.lemmas.Option.{none-some, same_Some}
+use Rattle.reg_names.specs.Names.{folded, hash}
+use Rattle.reg_heap.specs.Internal.Heaps.{Heap, Swaps, allocated}
+use Rattle.reg_heap.specs.Internal.Kinds.{times}
+use Rattle.reg_records.specs.RecordCells.{held}
+use Rattle.reg_records.specs.KeyNodes.{KeyRecord, nk_of, key_at}
+use Rattle.reg_records.specs.Letters.{is_signed}
+use Rattle.reg_records.specs.SubkeyLists.{SubkeysList, Entry, form_of, list_of}
+use Rattle.reg_records.proofs.RecordWriting.{read_at-open, read_at-same, no_fault}
+use Rattle.reg_index.specs.Internal.HashLeaves.{IsLeaf}
+use Rattle.reg_index.specs.Subkeys.{hashed, subkeys_at, name_at, name_or_none, names_in, Rises, AreSubkeys}
+use Rattle.reg_index.proofs.LeafParts.{leaf-open}
+use Rattle.reg_index.proofs.NameSearch.{key-here}
+
+-- ---- a list is no key
+
+without_form : (content : List ℕ) → slice_index content 0 ≡ 110 → form_of content ≡ None
+without_form content e = rw e refl
+
+not-false : (b : Bool) → not b ≡ false → b ≡ true
+not-false true e = refl
+not-false false e = absurd (false≢true (sym e))
+
+signed-key : (content : List ℕ) (key : KeyRecord) → nk_of content ≡ Ok key → slice_index content 0 ≡ 110
+unfolding nk_of
+signed-key content key e =
+    let first = no_fault _ _ _ key e in
+    let second = no_fault _ _ _ key first.1 in
+    eqb-true (slice_index content 0) 110 (and_parts (slice_index content 0 == 110) (slice_index content 1 == 107) (not-false (is_signed 110 107 content) second.0)).0
+
+some-is : {A : Type 0} (o : Option A) → IsSome o → (x : A) × (o ≡ Some x)
+some-is None s = absurd (false≢true s)
+some-is (Some x) s = (x, refl)
+
+pub key-or-leaf : (heap : Heap) (place : ℕ) (entries : List Entry) → IsLeaf heap place entries → IsSome (key_at heap place) → ⊥
+unfolding key_at
+key-or-leaf heap place entries leaf some =
+    let key = some-is (key_at heap place) some in
+    let read = read_at-open nk_of heap place key.0 key.1 in
+    let l = leaf-open heap place entries leaf in
+    let same : held heap place ≡ read.0 = same_Some _ _ (sym l.here ∙ read.1) in
+    none-some _ (sym (without_form read.0 (signed-key read.0 key.0 read.2)) ∙ (ap form_of (sym same) ∙ l.says.form))
+
+-- ---- a cell that nothing took
+
+few : (o : Option (List ℕ)) → cond (is_some o) 1 0 ≤ 1
+few None = omega arith
+few (Some x) = omega arith
+
+there : (heap : Heap) (cell : ℕ) → IsSome (heap cell) → allocated heap cell ≡ 1
+there heap cell some = ap (λ b. cond b 1 0) some
+
+pub cell-stays : (old new : Heap) (gone came : ℕ → ℕ) (cell : ℕ) → Swaps old new gone came → IsSome (old cell) → gone cell ≡ 0 → new cell ≡ old cell
+cell-stays old new gone came cell swaps some none = swaps.same cell none (omega (arith, swaps.count cell, there old cell some, few (new cell), none))
+
+key-same : (old new : Heap) (cell : ℕ) → new cell ≡ old cell → key_at new cell ≡ key_at old cell
+unfolding key_at
+key-same old new cell same = read_at-same nk_of old new cell same
+
+pub key-stays : (old new : Heap) (gone came : ℕ → ℕ) (key : ℕ) → Swaps old new gone came → IsSome (key_at old key) → gone key ≡ 0 → key_at new key ≡ key_at old key
+key-stays old new gone came key swaps some none = key-same old new key (cell-stays old new gone came key swaps (key-here old key some) none)
+
+pub times-not : (offset cell : ℕ) (cells : List ℕ) → cell ≢ offset → times offset cells ≡ 0 → times offset (cell ∷ cells) ≡ 0
+times-not offset cell cells n none = let one : ◌≡◌ {A = ℕ} (cond (cell == offset) 1 0) 0 = ap (λ b. cond b 1 0) (ne_eqb cell offset n) in omega (arith, one, none)
+
+-- ---- all entries
+
+pub all-map : (P Q : Entry → Type 0) (entries : List Entry) → ((e : Entry) → P e → Q e) → AllByRecursion P entries → AllByRecursion Q entries
+all-map P Q [] f all = tt
+all-map P Q (e ∷ es) f all = (f e all.0, all-map P Q es f all.1)
+
+pub all-both : (P Q R : Entry → Type 0) (entries : List Entry) → ((e : Entry) → P e → Q e → R e) → AllByRecursion P entries → AllByRecursion Q entries → AllByRecursion R entries
+all-both P Q R [] f p q = tt
+all-both P Q R (e ∷ es) f p q = (f e p.0 q.0, all-both P Q R es f p.1 q.1)
+
+-- these keys are what they were
+abbrev pub Stay : Heap → Heap → List Entry → Type 0
+Stay old new entries = AllByRecursion (λ (e : Entry). key_at new e.place ≡ key_at old e.place) entries
+
+pub names-stay : (old new : Heap) (entries : List Entry) → Stay old new entries → names_in new entries ≡ names_in old entries
+names-stay old new [] stay = refl
+names-stay old new (e ∷ es) stay = let one : folded (name_at new e.place) ≡ folded (name_at old e.place) = ap (λ k. folded (name_or_none k)) stay.0 in (λ i. one i ∷ names-stay old new es stay.1 i)
+
+-- what a list of keys needs beside its reading: keys with the hashes of their names, rising
+pub record AreKeys (heap : Heap) (entries : List Entry) : Type 0 where
+  pub keys : AllByRecursion (λ (e : Entry). IsSome (key_at heap e.place)) entries
+  pub hashes : AllByRecursion (λ (e : Entry). e.hint ≡ hash (name_at heap e.place)) entries
+  pub rising : Rises (names_in heap entries)
+
+pub keys-of : (heap : Heap) (count place : ℕ) (entries : List Entry) → AreSubkeys heap count place entries → AreKeys heap entries
+keys-of heap count place entries s = record { keys = s.keys; hashes = s.hashes; rising = s.rising }
+
+pub keys-stay : (old new : Heap) (entries : List Entry) → AreKeys old entries → Stay old new entries → AreKeys new entries
+keys-stay old new entries k stay = record {
+  keys = all-both (λ (e : Entry). IsSome (key_at old e.place)) (λ (e : Entry). key_at new e.place ≡ key_at old e.place) (λ (e : Entry). IsSome (key_at new e.place)) entries (λ e s same. subst IsSome (sym same) s) k.keys stay;
+  hashes = all-both (λ (e : Entry). e.hint ≡ hash (name_at old e.place)) (λ (e : Entry). key_at new e.place ≡ key_at old e.place) (λ (e : Entry). e.hint ≡ hash (name_at new e.place)) entries
+      (λ e h same. h ∙ ap (λ key. hash (name_or_none key)) (sym same)) k.hashes stay;
+  rising = subst Rises (sym (names-stay old new entries stay)) k.rising;
+}
+
+pub subkeys-of : (heap : Heap) (count place : ℕ) (entries : List Entry) → subkeys_at heap count place ≡ Some entries → count ≤ 500 → (count ≡ 0 → place ≡ 4294967295) → AreKeys heap entries → AreSubkeys heap count place entries
+subkeys-of heap count place entries read few unlisted k = record { read = read; few = few; unlisted = unlisted; keys = k.keys; hashes = k.hashes; rising = k.rising }
+
+-- ---- where a change is elsewhere
+
+reading-stays : (old new : Heap) (count place : ℕ) → (count ≡ 0) ⊎ (new place ≡ old place) → subkeys_at new count place ≡ subkeys_at old count place
+unfolding subkeys_at
+reading-stays old new zero place elsewhere = refl
+reading-stays old new (suc count) place (inl e) = absurd (omega arith)
+reading-stays old new (suc count) place (inr same) = ap (λ o. option_and_then (λ (list : SubkeysList). hashed (suc count) list.form list.entries) (option_and_then list_of o)) same
+
+-- subkeys stay, where the list's cell and the keys do
+pub subkeys-stay : (old new : Heap) (count place : ℕ) (entries : List Entry) → AreSubkeys old count place entries → (count ≡ 0) ⊎ (new place ≡ old place) → Stay old new entries → AreSubkeys new count place entries
+subkeys-stay old new count place entries s elsewhere stay =
+    subkeys-of new count place entries (reading-stays old new count place elsewhere ∙ s.read) s.few s.unlisted (keys-stay old new entries (keys-of old count place entries s) stay)

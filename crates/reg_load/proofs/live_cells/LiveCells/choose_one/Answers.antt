@@ -1,9 +1,0 @@
-use Rattle.std.proofs.Common.{◌%◌, ◌<◌, length, arith}
-use Rattle.reg_load.proofs.Live.{live-chosen}
-use Rattle.reg_load.proofs.live_cells.LiveCells.choose_one.Goals as goal
-
-pub invariant_of-self : goal.invariant_of-self
-invariant_of-self c =
-    let now = c.args.self.now in
-    let in_range : c.next_word.result % c.len.result < length now.offsets.items = omega (arith, now.offsets.ok.0) in
-    record { live = live-chosen _ _ _ now.live _ _ _ _ _ in_range c.swap_remove-cell.ensures.value c.swap_remove-cell.ensures.items c.push.ensures.items }

@@ -1,0 +1,196 @@
+-- Legal journals: their fronts, their entries, and what holds of their replay.
+use Rattle.std.proofs.Common.{◌≡◌, ℕ, ◌+◌, ◌<◌, Bool, true, false, cond, not, eqb, ap, List, [], ◌∷◌, ◌++◌, length, map, Some, refl, sym, subst, arith, append_assoc, length-append}
+use Rattle.std.specs.List.{AllByRecursion, All}
+use Rattle.std.specs.List.Sorted.{IsStrictlyIncreasing, IsStrictlySortedBy}
+use Rattle.std.specs.Ordering.{nat_cmp}
+use Rattle.std.specs.declared.cmp.Ordering.TheVariants.{Less as Lesser}
+use Rattle.std.proofs.lemmas.Bool.{eq-eqb, ne_eqb}
+use Rattle.std.proofs.lemmas.Bool.Decides.{nat_tests}
+use Rattle.std.proofs.lemmas.List.{append-nil}
+use Rattle.std.proofs.lemmas.List.Elements.{All-from_recursion}
+use Rattle.std.proofs.lemmas.Map.Keys.{IsStrictlyIncreasing-from_sorted}
+use Rattle.reg_heap.specs.Paths.{Path, Tree}
+use Rattle.reg_model.specs.Worlds.{World, Handle, StandsIn, IsStanding, after, opened, closed, turned, numbered, look, path_from}
+use Rattle.reg_model.specs.Replies.{reply_to}
+use Rattle.reg_model.specs.Histories.{replay, state_of, IsFit, IsLegalAfter, IsLegal}
+use Rattle.reg_model.specs.declared.call.Change.{Change}
+use Rattle.reg_model.specs.declared.call.Change.TheVariants.{OpenRoot, OpenKey, CreateKey, SetValue, DeleteValue, DeleteKey, Close}
+use Rattle.reg_model.specs.declared.reply.Entry.{Entry}
+use Rattle.reg_model.proofs.JournalGrowth.{replay-push}
+use Rattle.reg_model.proofs.HandleInvariant.{Has, Stands, Upright, standing-after}
+
+legal_after-front : (origin : Tree) (past es more : List Entry) → IsLegalAfter origin past (es ++ more) → IsLegalAfter origin past es
+legal_after-front origin past [] more l = tt
+legal_after-front origin past (e ∷ es) more l = (l.0, legal_after-front origin (past ++ e ∷ []) es more l.1)
+
+-- the front of a legal journal is legal
+pub legal-front : (origin : Tree) (past more : List Entry) → IsLegal origin (past ++ more) → IsLegal origin past
+legal-front origin past more l = legal_after-front origin [] past more l
+
+legal_after-at : (origin : Tree) (past es : List Entry) (e : Entry) (more : List Entry) → IsLegalAfter origin past (es ++ e ∷ more) → IsFit origin (past ++ es) e
+legal_after-at origin past [] e more l = subst (λ (p : List Entry). IsFit origin p e) (sym (append-nil past)) l.0
+legal_after-at origin past (x ∷ es) e more l =
+    subst (λ (p : List Entry). IsFit origin p e) (append_assoc past (x ∷ []) es) (legal_after-at origin (past ++ x ∷ []) es e more l.1)
+
+-- each entry of a legal journal fits those before it
+pub legal-at : (origin : Tree) (past : List Entry) (e : Entry) (more : List Entry) → IsLegal origin (past ++ e ∷ more) → IsFit origin past e
+legal-at origin past e more l = legal_after-at origin [] past e more l
+
+-- its number is its place
+pub number-is : (origin : Tree) (past : List Entry) (e : Entry) (more : List Entry) → IsLegal origin (past ++ e ∷ more) → e.number ≡ length past
+number-is origin past e more l = let f = legal-at origin past e more l in f.number
+
+-- what holds of no entries, and of one fit entry more, holds of every legal journal
+by_entries : (origin : Tree) (P : List Entry → Type 0) → ((past : List Entry) (e : Entry) → IsFit origin past e → P past → P (past ++ e ∷ [])) → (past es : List Entry) → P past → IsLegalAfter origin past es → P (past ++ es)
+by_entries origin P more past [] p l = subst P (sym (append-nil past)) p
+by_entries origin P more past (e ∷ es) p l =
+    subst P (append_assoc past (e ∷ []) es) (by_entries origin P more (past ++ e ∷ []) es (more past e l.0 p) l.1)
+
+-- ---- handles
+
+-- the handles' numbers rise, and all are below n
+record AreRising (n : ℕ) (hs : List Handle) : Type 0 where
+  below : AllByRecursion (λ (h : Handle). h.number < n) hs
+  rising : IsStrictlySortedBy nat_cmp (map (λ (h : Handle). h.number) hs)
+
+rising-weaker : (n : ℕ) (hs : List Handle) → AllByRecursion (λ (h : Handle). h.number < n) hs → AllByRecursion (λ (h : Handle). h.number < n + 1) hs
+rising-weaker n [] b = tt
+rising-weaker n (h ∷ hs) b = (omega (arith, b.0), rising-weaker n hs b.1)
+
+below-push : (n : ℕ) (hs : List Handle) (h : Handle) → h.number ≡ n → AllByRecursion (λ (x : Handle). x.number < n) hs → AllByRecursion (λ (x : Handle). x.number < n + 1) (hs ++ h ∷ [])
+below-push n [] h e b = (omega arith, tt)
+below-push n (x ∷ hs) h e b = (omega (arith, b.0), below-push n hs h e b.1)
+
+less_than : (a b : ℕ) → a < b → nat_cmp a b ≡ Lesser
+less_than a b l = grind (arith, nat_tests)
+
+all-push : (a n : ℕ) (hs : List Handle) (h : Handle) → h.number ≡ n → a < n → AllByRecursion (λ (k : ℕ). nat_cmp a k ≡ Lesser) (map (λ (x : Handle). x.number) hs) → AllByRecursion (λ (k : ℕ). nat_cmp a k ≡ Lesser) (map (λ (x : Handle). x.number) (hs ++ h ∷ []))
+all-push a n [] h e l r = (less_than a h.number (omega arith), tt)
+all-push a n (x ∷ hs) h e l r = (r.0, all-push a n hs h e l r.1)
+
+rising-push : (n : ℕ) (hs : List Handle) (h : Handle) → h.number ≡ n → AllByRecursion (λ (x : Handle). x.number < n) hs → IsStrictlySortedBy nat_cmp (map (λ (x : Handle). x.number) hs) → IsStrictlySortedBy nat_cmp (map (λ (x : Handle). x.number) (hs ++ h ∷ []))
+unfolding IsStrictlySortedBy
+rising-push n [] h e b r = (tt, tt)
+rising-push n (x ∷ hs) h e b r = (all-push x.number n hs h e b.0 r.0, rising-push n hs h e b.1 r.1)
+
+rising-none : AreRising 0 []
+unfolding IsStrictlySortedBy
+rising-none = record { below = tt; rising = tt }
+
+-- a handle closed
+below-cond : (b : Bool) (n : ℕ) (h : Handle) (hs : List Handle) → h.number < n → AllByRecursion (λ (x : Handle). x.number < n) hs → AllByRecursion (λ (x : Handle). x.number < n) (cond b (h ∷ hs) hs)
+below-cond true n h hs l b = (l, b)
+below-cond false n h hs l b = b
+
+below-closed : (n number : ℕ) (hs : List Handle) → AllByRecursion (λ (h : Handle). h.number < n) hs → AllByRecursion (λ (h : Handle). h.number < n) (closed number hs)
+below-closed n number [] b = tt
+below-closed n number (h ∷ hs) b = below-cond (not (eqb h.number number)) n h (closed number hs) b.0 (below-closed n number hs b.1)
+
+abbrev Less : ℕ → List Handle → Type 0
+Less a hs = AllByRecursion (λ (k : ℕ). nat_cmp a k ≡ Lesser) (map (λ (x : Handle). x.number) hs)
+
+less-cond : (b : Bool) (a : ℕ) (h : Handle) (hs : List Handle) → nat_cmp a h.number ≡ Lesser → Less a hs → Less a (cond b (h ∷ hs) hs)
+less-cond true a h hs l r = (l, r)
+less-cond false a h hs l r = r
+
+less-closed : (a number : ℕ) (hs : List Handle) → Less a hs → Less a (closed number hs)
+less-closed a number [] r = tt
+less-closed a number (h ∷ hs) r = less-cond (not (eqb h.number number)) a h (closed number hs) r.0 (less-closed a number hs r.1)
+
+rising-cond : (b : Bool) (h : Handle) (hs : List Handle) → Less h.number hs → IsStrictlySortedBy nat_cmp (map (λ (x : Handle). x.number) hs) → IsStrictlySortedBy nat_cmp (map (λ (x : Handle). x.number) (cond b (h ∷ hs) hs))
+unfolding IsStrictlySortedBy
+rising-cond true h hs l r = (l, r)
+rising-cond false h hs l r = r
+
+rising-closed : (number : ℕ) (hs : List Handle) → IsStrictlySortedBy nat_cmp (map (λ (x : Handle). x.number) hs) → IsStrictlySortedBy nat_cmp (map (λ (x : Handle). x.number) (closed number hs))
+unfolding IsStrictlySortedBy
+rising-closed number [] r = tt
+rising-closed number (h ∷ hs) r =
+    rising-cond (not (eqb h.number number)) h (closed number hs) (less-closed h.number number hs r.0) (rising-closed number hs r.1)
+
+-- handles turned keep their numbers
+below-turned : (n : ℕ) (p : Path) (hs : List Handle) → AllByRecursion (λ (h : Handle). h.number < n) hs → AllByRecursion (λ (h : Handle). h.number < n) (turned p hs)
+below-turned n p [] b = tt
+below-turned n p (h ∷ hs) b = (b.0, below-turned n p hs b.1)
+
+numbers-turned : (p : Path) (hs : List Handle) → map (λ (h : Handle). h.number) (turned p hs) ≡ map (λ (h : Handle). h.number) hs
+numbers-turned p [] = refl
+numbers-turned p (h ∷ hs) = ap (λ (ns : List ℕ). h.number ∷ ns) (numbers-turned p hs)
+
+rising-pushed : (w : World) (n : ℕ) (e : Entry) (p : Path) (mask : ℕ) → e.number ≡ n → AreRising n w.handles → AreRising (n + 1) (w.handles ++ opened e p mask ∷ [])
+rising-pushed w n e p mask number r =
+    record { below = below-push n w.handles (opened e p mask) number r.below; rising = rising-push n w.handles (opened e p mask) number r.below r.rising }
+
+rising-after : (w : World) (n : ℕ) (e : Entry) → e.number ≡ n → AreRising n w.handles → AreRising (n + 1) (after w e).handles
+unfolding after
+rising-after w n e number r = elim e.change as (λ (change : Change). AreRising (n + 1) (after w (record e { change = change })).handles) [
+  | OpenRoot mask ↦ rising-pushed w n e [] mask number r
+  | OpenKey h path mask ↦ rising-pushed w n e (path_from e.session h w.handles path) mask number r
+  | CreateKey h path mask ↦ rising-pushed w n e (path_from e.session h w.handles path) mask number r
+  | SetValue h name kind bytes ↦ record { below = rising-weaker n w.handles r.below; rising = r.rising }
+  | DeleteValue h name ↦ record { below = rising-weaker n w.handles r.below; rising = r.rising }
+  | DeleteKey h path ↦ record {
+    below = rising-weaker n (turned (path_from e.session h w.handles path) w.handles) (below-turned n (path_from e.session h w.handles path) w.handles r.below);
+    rising = rw (numbers-turned (path_from e.session h w.handles path) w.handles) r.rising;
+  }
+  | Close h ↦ record { below = rising-weaker n (closed h w.handles) (below-closed n h w.handles r.below); rising = rising-closed h w.handles r.rising }
+]
+
+rising-all : (origin : Tree) (es : List Entry) → IsLegal origin es → AreRising (length es) (replay origin es).handles
+rising-all origin es l =
+    by_entries origin (λ past. AreRising (length past) (replay origin past).handles)
+    (λ past e f r. rw (replay-push origin past e, length-append past (e ∷ [])) (rising-after (replay origin past) (length past) e f.number r)) [] es rising-none l
+
+-- the handles of a legal journal have numbers of its entries
+pub handles-below : (origin : Tree) (es : List Entry) → IsLegal origin es → All (λ (h : Handle). h.number < length es) (replay origin es).handles
+handles-below origin es l =
+    All-from_recursion (λ (h : Handle). h.number < length es) (replay origin es).handles (rising-all origin es l).below
+
+-- and these rise
+pub handles-rise : (origin : Tree) (es : List Entry) → IsLegal origin es → IsStrictlyIncreasing (map (λ (h : Handle). h.number) (replay origin es).handles)
+handles-rise origin es l =
+    IsStrictlyIncreasing-from_sorted (map (λ (h : Handle). h.number) (replay origin es).handles) (rising-all origin es l).rising
+
+-- a handle whose number none has is found by it
+pub numbered-push : (n : ℕ) (hs : List Handle) (h : Handle) → h.number ≡ n → AllByRecursion (λ (x : Handle). x.number < n) hs → numbered n (hs ++ h ∷ []) ≡ Some h
+numbered-push n [] h e b = rw (eq-eqb h.number n e) refl
+numbered-push n (x ∷ hs) h e b = rw (ne_eqb x.number n (λ same. omega (arith, b.0))) (numbered-push n hs h e b.1)
+
+opened-after : (w : World) (e : Entry) (mask : ℕ) → AreRising e.number w.handles → e.change ≡ OpenRoot mask → look e.session e.number (after w e).handles ≡ Some (opened e [] mask)
+unfolding after
+opened-after w e mask r is =
+    rw (is, numbered-push e.number w.handles (opened e [] mask) refl r.below, eq-eqb e.session e.session refl) refl
+
+-- the session of an entry that opens the root finds its handle by the entry's number
+pub handle-opened : (origin : Tree) (past : List Entry) (e : Entry) (mask : ℕ) → IsLegal origin past → IsFit origin past e → e.change ≡ OpenRoot mask → look e.session e.number (replay origin (past ++ e ∷ [])).handles ≡ Some (opened e [] mask)
+handle-opened origin past e mask l f is =
+    let r : AreRising e.number (replay origin past).handles = rw f.number (rising-all origin past l) in
+    rw (replay-push origin past e) (opened-after (replay origin past) e mask r is)
+
+-- and the reply names it
+pub handle-told : (origin : Tree) (past : List Entry) (e : Entry) (mask : ℕ) → IsFit origin past e → e.change ≡ OpenRoot mask → e.reply.handle ≡ Some e.number
+unfolding reply_to
+handle-told origin past e mask f is = rw (f.reply, is, f.number) refl
+
+-- ---- the root, and the keys that handles lead to
+
+standing-all : (origin : Tree) (es : List Entry) → IsLegal origin es → Has origin [] → Upright (replay origin es).tree (replay origin es).handles
+standing-all origin es l h =
+    by_entries origin (λ past. Upright (replay origin past).tree (replay origin past).handles)
+    (λ past e f r. subst (λ (w : World). Upright w.tree w.handles) (sym (replay-push origin past e)) (standing-after (state_of origin past) e r 0 f.accepted)) [] es (record { root = h; stand = tt }) l
+
+-- a tree that holds its root holds it after a legal journal
+pub root-stays : (origin : Tree) (es : List Entry) → IsLegal origin es → Has origin [] → Has (replay origin es).tree []
+root-stays origin es l h = let r = standing-all origin es l h in r.root
+
+-- every handle that leads to a key leads to one that is there
+pub handles-stand : (origin : Tree) (es : List Entry) → IsLegal origin es → Has origin [] → Stands (replay origin es).tree (replay origin es).handles
+handles-stand origin es l h = let r = standing-all origin es l h in r.stand
+
+pub all-stand : (origin : Tree) (es : List Entry) → IsLegal origin es → Has origin [] → All (λ (h : Handle). StandsIn (replay origin es).tree h.place) (replay origin es).handles
+all-stand origin es l h =
+    All-from_recursion (λ (h : Handle). StandsIn (replay origin es).tree h.place) (replay origin es).handles (handles-stand origin es l h)
+
+-- a legal journal's replay stands
+pub is_standing : (origin : Tree) (es : List Entry) → IsLegal origin es → Has origin [] → IsStanding (replay origin es).tree (replay origin es).handles
+is_standing origin es l h = record { root = root-stays origin es l h; stand = all-stand origin es l h }

@@ -1,8 +1,0 @@
-use Rattle.reg_records.proofs.Trees.{root-held, parent-held}
-use Rattle.reg_records.proofs.laws.tree_holds_each_parent.Goals as goal
-
-pub returns-clause-root : goal.returns-clause-root
-returns-clause-root c = root-held
-
-pub returns-clause-parent : goal.returns-clause-parent
-returns-clause-parent c = parent-held

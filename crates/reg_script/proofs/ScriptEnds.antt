@@ -1,0 +1,199 @@
+-- What a script leaves once it has ended.
+use Rattle.std.proofs.Common.{◌≡◌, ℕ, ◌+◌, List, [], ◌++◌, length, Option, refl, sym, subst, ap, ◌∙◌, arith, append-nil, inl, inr}
+use Rattle.std.specs.Prelude.{Result, Ok, Err, OnOk, IfErr}
+use Rattle.std.specs.Io.KnownBytes.{Appends, Consumes}
+use Rattle.reg_calls.specs.Views.{View}
+use Rattle.reg_script.specs.declared.engine.ScriptFault.{ScriptFault}
+use Rattle.reg_script.specs.declared.engine.ScriptFault.TheVariants.{Read, Write, TooLong, Memory}
+use Rattle.reg_script.specs.LineWords.{lines_of}
+use Rattle.reg_script.specs.Lines.{Stand, AreSaid, Lines}
+use Rattle.reg_script.specs.Internal.Outputs.{IsCut, Closes}
+use Rattle.reg_script.specs.Stops.{HasNoFeed, AreWithin, PassesBound, IsReached, Stops}
+use Rattle.reg_script.specs.Internal.Progress.{Place, IsSteady, IsIdle, Halts, Ends}
+use Rattle.reg_script.proofs.ProgressLemmas.{consumes_none, appends_none}
+use Rattle.reg_script.proofs.ScriptHalts.{begins, stops_with, all_sent, cut_sent}
+
+-- a script at its start
+pub record IsStart (place : Place) (hive : View) : Type 0 where
+  pub lines : place.lines ≡ 0
+  pub begun : place.begun ≡ []
+  pub gathered : place.gathered ≡ []
+  pub written : place.written ≡ 0
+  pub stand : place.stand ≡ begins hive
+
+-- ---- a script that was read to its end
+
+same_place : (place : Place) → IsIdle place place
+same_place place = record { gathered = refl; sent = refl; written = refl }
+
+said_whole : (old new : Place) (hive : View) (script : List ℕ) → IsStart old hive → (e : Ends old script new) → AreSaid (lines_of script) (begins hive) e.replies new.stand
+said_whole old new hive script start e =
+    subst (λ (s : Stand). AreSaid (lines_of script) s e.replies new.stand) start.stand (subst (λ (w : List ℕ). AreSaid (lines_of (w ++ script)) old.stand e.replies new.stand) start.begun e.said)
+
+within_whole : (old new : Place) (hive : View) (script : List ℕ) → IsStart old hive → Ends old script new → AreWithin (lines_of script)
+within_whole old new hive script start e =
+    subst (λ (w : List ℕ). AreWithin (lines_of (w ++ script))) start.begun (record { few = omega (arith, e.few, start.lines); short = e.short })
+
+-- what was written is the script's lines
+abbrev pub IsWhole : View → View → Option (List ℕ) → Option (List ℕ) → Option (List ℕ) → Option (List ℕ) → Type 0
+IsWhole hive new unread left before after =
+    (script : List ℕ) × (text : List ℕ) × Consumes unread left script × Lines hive script text new × Appends before after text × AreWithin (lines_of script)
+
+ended_whole : (old new : Place) (hive : View) (script : List ℕ) (unread left final : Option (List ℕ)) → IsStart old hive → Consumes unread left script → Ends old script new → Appends new.sent final new.gathered → IsWhole hive new.stand.hive unread left old.sent final
+ended_whole old new hive script unread left final start consumes e sent = (
+  script,
+  e.replies,
+  consumes,
+  (new.stand, said_whole old new hive script start e, refl),
+  all_sent old new new e.replies final e.passes start.gathered (same_place new) sent,
+  within_whole old new hive script start e,
+)
+
+-- the last write was cut
+ended_cut : (old new : Place) (hive : View) (script : List ℕ) (unread left final : Option (List ℕ)) (fault : ScriptFault) → IsStart old hive → Consumes unread left script → Ends old script new → IsCut new.sent final new.gathered new.written fault
+    → Stops fault unread left hive new.stand.hive old.sent final
+ended_cut old new hive script unread left final fault start consumes e cut =
+    subst (λ (f : ScriptFault). Stops f unread left hive new.stand.hive old.sent final) (sym cut.says) (record {
+      lines = script;
+      rest = [];
+      read = subst (λ (w : List ℕ). Consumes unread left w) (sym (append-nil script)) consumes;
+      between = ap lines_of (append-nil script) ∙ sym (append-nil (lines_of script));
+      within = within_whole old new hive script start e;
+      text = e.replies;
+      last = new.stand;
+      said = said_whole old new hive script start e;
+      stands = (inl refl, cut_sent old new e.replies final _ e.passes start.gathered start.written (subst (λ (f : ScriptFault). IsCut new.sent final new.gathered new.written f) cut.says cut));
+    })
+
+-- ---- a script that stopped before
+
+read_failed : (old new : Place) (hive : View) (script : List ℕ) (unread left final : Option (List ℕ)) → IsStart old hive → Consumes unread left script → Halts old script new Read → Appends new.sent final new.gathered → Stops Read unread left hive new.stand.hive old.sent final
+read_failed old new hive script unread left final start consumes k sent =
+    stops_with old new hive new.stand.hive script Read Read unread left final k consumes start.lines start.begun start.stand
+    (k.faults.1, all_sent old k.mid new k.takes.replies final k.takes.passes start.gathered k.faults.0 sent)
+
+too_long : (old new : Place) (hive : View) (script : List ℕ) (unread left final : Option (List ℕ)) → IsStart old hive → Consumes unread left script → Halts old script new TooLong → Appends new.sent final new.gathered → Stops TooLong unread left hive new.stand.hive old.sent final
+too_long old new hive script unread left final start consumes k sent =
+    stops_with old new hive new.stand.hive script TooLong TooLong unread left final k consumes start.lines start.begun start.stand
+    (k.faults.1, all_sent old k.mid new k.takes.replies final k.takes.passes start.gathered k.faults.0 sent, counted_from k.mid.lines old.lines (length k.takes.ended) _ start.lines k.takes.counts k.faults.2)
+  where
+    counted_from : (lines before ended : ℕ) (rest : List ℕ) → before ≡ 0 → lines ≡ before + ended → PassesBound lines rest → PassesBound ended rest
+    counted_from lines before ended rest none counts (inl h) = inl (omega (arith, none, counts, h.0), h.1)
+    counted_from lines before ended rest none counts (inr h) = inr h
+
+no_memory : (old new : Place) (hive : View) (script : List ℕ) (unread left final : Option (List ℕ)) → IsStart old hive → Consumes unread left script → Halts old script new Memory → Appends new.sent final new.gathered → Stops Memory unread left hive new.stand.hive old.sent final
+no_memory old new hive script unread left final start consumes k sent =
+    stops_with old new hive new.stand.hive script Memory Memory unread left final k consumes start.lines start.begun start.stand
+    (k.faults.1, all_sent old k.mid new k.takes.replies final k.takes.passes start.gathered k.faults.0 sent)
+
+write_failed : (old new : Place) (hive : View) (script : List ℕ) (written : ℕ) (unread left final : Option (List ℕ)) → IsStart old hive → Consumes unread left script → Halts old script new (Write written) → final ≡ new.sent
+    → Stops (Write written) unread left hive new.stand.hive old.sent final
+write_failed old new hive script written unread left final start consumes k same =
+    stops_with old new hive new.stand.hive script (Write written) (Write written) unread left final k consumes start.lines start.begun start.stand (
+      inl k.faults.1,
+      cut_sent old k.mid k.takes.replies final written k.takes.passes start.gathered start.written
+          (subst (λ (o : Option (List ℕ)). IsCut k.mid.sent o k.mid.gathered k.mid.written (Write written)) (sym same) k.faults.0),
+    )
+
+-- the write after another fault was cut
+then_cut : (old new : Place) (hive : View) (script : List ℕ) (first fault : ScriptFault) (unread left final : Option (List ℕ)) → IsStart old hive → Consumes unread left script → (k : Halts old script new first) → IsIdle k.mid new → IsReached k.mid.stand (k.mid.begun ++ k.back) new.stand.hive
+    → IsCut new.sent final new.gathered new.written fault → Stops fault unread left hive new.stand.hive old.sent final
+then_cut old new hive script first fault unread left final start consumes k idle reached cut =
+    let at_sent = subst (λ (o : Option (List ℕ)). IsCut o final new.gathered new.written fault) idle.sent cut in
+    let at_text = subst (λ (w : List ℕ). IsCut k.mid.sent final w new.written fault) idle.gathered at_sent in
+    let at_count = subst (λ (n : ℕ). IsCut k.mid.sent final k.mid.gathered n fault) idle.written at_text in
+    subst (λ (f : ScriptFault). Stops f unread left hive new.stand.hive old.sent final) (sym at_count.says)
+    (stops_with old new hive new.stand.hive script first _ unread left final k consumes start.lines start.begun start.stand (
+      reached,
+      cut_sent old k.mid k.takes.replies final _ k.takes.passes start.gathered start.written (subst (λ (f : ScriptFault). IsCut k.mid.sent final k.mid.gathered k.mid.written f) at_count.says at_count),
+    ))
+
+-- ---- both
+
+on_ok_of : (A : Type 0) (result : Result (Unit {0}) ScriptFault) (fault : ScriptFault) → result ≡ Err fault → OnOk result A
+on_ok_of A result fault e = subst (λ (r : Result (Unit {0}) ScriptFault). OnOk r A) (sym e) tt
+
+if_err_of : (P : ScriptFault → Type 0) (result : Result (Unit {0}) ScriptFault) (fault : ScriptFault) → result ≡ Err fault → P fault → IfErr result P
+if_err_of P result fault e p = subst (λ (r : Result (Unit {0}) ScriptFault). IfErr r P) (sym e) p
+
+pub closed_well : (A B : Type 0) (ended result : Result (Unit {0}) ScriptFault) (text : List ℕ) (before : ℕ) (old new : Option (List ℕ)) → Closes ended text before old new result → OnOk ended A → (A → Appends old new text → B) → OnOk result B
+closed_well A B (Ok done) result text before old new (inl h) a f = subst (λ (r : Result (Unit {0}) ScriptFault). OnOk r B) (sym h.0) (f a h.1)
+closed_well A B (Ok done) result text before old new (inr h) a f = on_ok_of _ result h.0 h.1
+closed_well A B (Err Read) result text before old new (inl h) a f = on_ok_of _ result Read h.0
+closed_well A B (Err Read) result text before old new (inr h) a f = on_ok_of _ result h.0 h.1
+closed_well A B (Err (Write written)) result text before old new h a f = on_ok_of _ result (Write written) h.0
+closed_well A B (Err TooLong) result text before old new (inl h) a f = on_ok_of _ result TooLong h.0
+closed_well A B (Err TooLong) result text before old new (inr h) a f = on_ok_of _ result h.0 h.1
+closed_well A B (Err Memory) result text before old new (inl h) a f = on_ok_of _ result Memory h.0
+closed_well A B (Err Memory) result text before old new (inr h) a f = on_ok_of _ result h.0 h.1
+
+pub run_whole : (old new : Place) (hive : View) (unread left final : Option (List ℕ)) (ended result : Result (Unit {0}) ScriptFault) → IsStart old hive → OnOk ended ((script : List ℕ) × Consumes unread left script × Ends old script new)
+    → Closes ended new.gathered new.written new.sent final result → OnOk result (IsWhole hive new.stand.hive unread left old.sent final)
+run_whole old new hive unread left final ended result start done closes =
+    closed_well _ _ ended result new.gathered new.written new.sent final closes done (λ e sent. ended_whole old new hive e.0 unread left final start e.1 e.2 sent)
+
+pub run_stops : (old new : Place) (hive : View) (unread left final : Option (List ℕ)) (ended result : Result (Unit {0}) ScriptFault) → IsStart old hive → OnOk ended ((script : List ℕ) × Consumes unread left script × Ends old script new)
+    → IfErr ended (λ fault. (script : List ℕ) × Consumes unread left script × Halts old script new fault) → Closes ended new.gathered new.written new.sent final result → IfErr result (λ fault. Stops fault unread left hive new.stand.hive old.sent final)
+run_stops old new hive unread left final (Ok done) result start e k (inl h) =
+    subst (λ (r : Result (Unit {0}) ScriptFault). IfErr r (λ fault. Stops fault unread left hive new.stand.hive old.sent final)) (sym h.0) tt
+run_stops old new hive unread left final (Ok done) result start e k (inr h) = if_err_of _ result h.0 h.1 (ended_cut old new hive e.0 unread left final h.0 start e.1 e.2 h.2)
+run_stops old new hive unread left final (Err Read) result start e k (inl h) = if_err_of _ result Read h.0 (read_failed old new hive k.0 unread left final start k.1 k.2 h.1)
+run_stops old new hive unread left final (Err Read) result start e k (inr h) =
+    if_err_of _ result h.0 h.1 (then_cut old new hive k.0 Read h.0 unread left final start k.1 k.2 k.2.faults.0 (inl k.2.faults.1) h.2)
+run_stops old new hive unread left final (Err (Write written)) result start e k h = if_err_of _ result (Write written) h.0 (write_failed old new hive k.0 written unread left final start k.1 k.2 h.1)
+run_stops old new hive unread left final (Err TooLong) result start e k (inl h) = if_err_of _ result TooLong h.0 (too_long old new hive k.0 unread left final start k.1 k.2 h.1)
+run_stops old new hive unread left final (Err TooLong) result start e k (inr h) =
+    if_err_of _ result h.0 h.1 (then_cut old new hive k.0 TooLong h.0 unread left final start k.1 k.2 k.2.faults.0 (inl k.2.faults.1) h.2)
+run_stops old new hive unread left final (Err Memory) result start e k (inl h) = if_err_of _ result Memory h.0 (no_memory old new hive k.0 unread left final start k.1 k.2 h.1)
+run_stops old new hive unread left final (Err Memory) result start e k (inr h) =
+    if_err_of _ result h.0 h.1 (then_cut old new hive k.0 Memory h.0 unread left final start k.1 k.2 k.2.faults.0 k.2.faults.1 h.2)
+
+-- ---- from the start
+
+pub steady_start : (place : Place) (hive : View) → IsStart place hive → IsSteady place
+steady_start place hive start = record {
+  no_feed = subst (λ (w : List ℕ). HasNoFeed w) (sym start.begun) tt;
+  short = omega (arith, ap (λ (w : List ℕ). length w) start.begun);
+  few = omega (arith, start.lines);
+  one_more = λ some. absurd (omega (arith, some, ap (λ (w : List ℕ). length w) start.begun));
+  count = omega (arith, start.written);
+}
+
+pub ok_given : (A B : Type 0) (r : Result (Unit {0}) ScriptFault) → A → OnOk r (A → B) → OnOk r B
+ok_given A B (Ok done) a f = f a
+ok_given A B (Err fault) a f = tt
+
+pub err_given : (A B C : Type 0) (P : ScriptFault → Type 0) (r : Result (Unit {0}) ScriptFault) → A → B → C → IfErr r (λ fault. A → B → C → P fault) → IfErr r P
+err_given A B C P (Ok done) a b c f = tt
+err_given A B C P (Err fault) a b c f = f a b c
+
+-- no memory for the first read
+pub nothing_done : (hive : View) (unread before : Option (List ℕ)) → Stops Memory unread unread hive hive before before
+nothing_done hive unread before = record {
+  lines = [];
+  rest = [];
+  read = consumes_none unread;
+  between = refl;
+  within = record { few = omega arith; short = tt };
+  text = [];
+  last = begins hive;
+  said = (refl, refl);
+  stands = (inl refl, appends_none before);
+}
+
+-- ---- a whole run, where the script's place at its start and at its end are `old` and `new`
+
+module _ (old new : Place) (hive : View) (unread left final : Option (List ℕ)) (ended result : Result (Unit {0}) ScriptFault)
+    (lines : old.lines ≡ 0) (begun : old.begun ≡ []) (gathered : old.gathered ≡ []) (written : old.written ≡ 0) (stand : old.stand ≡ begins hive)
+    (ends : OnOk ended (IsSteady old → (script : List ℕ) × Consumes unread left script × Ends old script new))
+    (closes : Closes ended new.gathered new.written new.sent final result) where
+  start : IsStart old hive
+  start = record { lines = lines; begun = begun; gathered = gathered; written = written; stand = stand }
+
+  pub runs_whole : OnOk result (IsWhole hive new.stand.hive unread left old.sent final)
+  runs_whole = run_whole old new hive unread left final ended result start (ok_given _ _ ended (steady_start old hive start) ends) closes
+
+  pub runs_into : IfErr ended (λ fault. IsSteady old → old.lines ≡ 0 → old.begun ≡ [] → (script : List ℕ) × Consumes unread left script × Halts old script new fault)
+      → IfErr result (λ fault. Stops fault unread left hive new.stand.hive old.sent final)
+  runs_into halts =
+      run_stops old new hive unread left final ended result start (ok_given _ _ ended (steady_start old hive start) ends) (err_given _ _ _ _ ended (steady_start old hive start) lines begun halts) closes

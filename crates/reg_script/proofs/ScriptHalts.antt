@@ -1,0 +1,235 @@
+-- A script that can't go on.
+use Rattle.std.proofs.Common.{◌≡◌, ◌≢◌, ℕ, ◌+◌, ◌*◌, ◌<◌, ◌≤◌, List, [], ◌∷◌, ◌++◌, length, get_or, take, drop, Option, refl, sym, subst, ap, ◌∙◌, arith, append_assoc, append-nil, ◌⊎◌, inl, inr, min}
+use Rattle.std.specs.List.{AllByRecursion}
+use Rattle.std.specs.Io.KnownBytes.{Appends, Consumes}
+use Rattle.std.proofs.Math.Seq.{take-append-add}
+use Rattle.std.proofs.lemmas.List.{take_more, take-append-drop, length-append, length-take}
+use Rattle.reg_calls.specs.Views.{View}
+use Rattle.reg_script.specs.declared.engine.Script.{Script}
+use Rattle.reg_script.specs.declared.engine.ScriptFault.{ScriptFault}
+use Rattle.reg_script.specs.declared.engine.ScriptFault.TheVariants.{Read, Write, TooLong, Memory}
+use Rattle.reg_script.specs.LineWords.{lines_of}
+use Rattle.reg_script.specs.LineMeanings.{Meaning, asks, meaning_of}
+use Rattle.reg_model.specs.declared.call.Call.{Call}
+use Rattle.reg_script.specs.declared.line.Line.{Line}
+use Rattle.reg_script.specs.declared.line.Line.TheVariants.{Call as Calls}
+use Rattle.reg_script.specs.Internal.WordReadings.{said}
+use Rattle.reg_script.specs.Lines.{Stand, IsSaid, AreSaid}
+use Rattle.reg_script.specs.Internal.Outputs.{IsCut}
+use Rattle.reg_script.specs.Stops.{longest_line, most_lines, HasNoFeed, AreWithin, IsTooLong, PassesBound, IsOneMore, IsReached, IsTaken, IsLeft, Stops}
+use Rattle.reg_script.specs.Internal.Progress.{Place, IsSteady, with_feeds, IsLine, Passes, Takes, IsIdle, IsFault, Halts, stand_of}
+use Rattle.reg_script.proofs.ProgressLemmas.{lines_fed, lines_short, no_feed_push, takes_none, takes_then, after_line, takes_feed, appends_then}
+
+-- ---- more bytes behind those that were not taken
+
+long_more : (bytes more : List ℕ) → IsTooLong bytes → IsTooLong (bytes ++ more)
+long_more bytes more h = record {
+  line = h.line;
+  more = h.more ++ more;
+  bytes_are = ap (λ (w : List ℕ). w ++ more) h.bytes_are ∙ append_assoc h.line h.more more;
+  no_feed = h.no_feed;
+  long = h.long;
+}
+
+passes_more : (lines : ℕ) (rest more : List ℕ) → PassesBound lines rest → PassesBound lines (rest ++ more)
+passes_more lines rest more (inl h) = inl (h.0, omega (arith, h.1, length-append rest more))
+passes_more lines rest more (inr h) = inr (long_more rest more h)
+
+reached_more : (last : Stand) (rest more : List ℕ) (new : View) → IsReached last rest new → IsReached last (rest ++ more) new
+reached_more last rest more new (inl h) = inl h
+reached_more last rest more new (inr h) = inr (record {
+  line = h.line;
+  more = h.more ++ more;
+  rest_is = ap (λ (w : List ℕ). w ++ more) h.rest_is ∙ append_assoc h.line h.more more;
+  answered = h.answered;
+})
+
+fault_more : (fault : ScriptFault) (mid new : Place) (back more : List ℕ) → IsFault fault mid back new → IsFault fault mid (back ++ more) new
+fault_more Read mid new back more h = h
+fault_more (Write written) mid new back more h = h
+fault_more TooLong mid new back more h =
+    (h.0, h.1, subst (λ (w : List ℕ). PassesBound mid.lines w) (append_assoc mid.begun back more) (passes_more mid.lines (mid.begun ++ back) more h.2))
+fault_more Memory mid new back more h =
+    (h.0, subst (λ (w : List ℕ). IsReached mid.stand w new.stand.hive) (append_assoc mid.begun back more) (reached_more mid.stand (mid.begun ++ back) more new.stand.hive h.1))
+
+-- ---- where it halts
+
+pub halts_here : (old new : Place) (bytes : List ℕ) (fault : ScriptFault) → IsSteady old → IsFault fault old bytes new → Halts old bytes new fault
+halts_here old new bytes fault steady faults = record { mid = old; front = []; back = bytes; splits = refl; takes = takes_none old steady; faults = faults }
+
+pub halts_after : (a b new : Place) (xs ys : List ℕ) (fault : ScriptFault) → Takes a xs b → Halts b ys new fault → Halts a (xs ++ ys) new fault
+halts_after a b new xs ys fault h k = record {
+  mid = k.mid;
+  front = xs ++ k.front;
+  back = k.back;
+  splits = ap (λ (w : List ℕ). xs ++ w) k.splits ∙ sym (append_assoc xs k.front k.back);
+  takes = takes_then a b k.mid xs k.front h k.takes;
+  faults = k.faults;
+}
+
+pub halts_before : (a new : Place) (xs ys : List ℕ) (fault : ScriptFault) → Halts a xs new fault → Halts a (xs ++ ys) new fault
+halts_before a new xs ys fault h = record {
+  mid = h.mid;
+  front = h.front;
+  back = h.back ++ ys;
+  splits = ap (λ (w : List ℕ). w ++ ys) h.splits ∙ append_assoc h.front h.back ys;
+  takes = h.takes;
+  faults = fault_more fault h.mid new h.back ys h.faults;
+}
+
+-- after the bytes taken so far, nothing was done
+pub halts_at : (old new : Place) (bytes : List ℕ) (fault : ScriptFault) (now : Place) → Takes old bytes now → IsFault fault now [] new → Halts old bytes new fault
+halts_at old new bytes fault now h faults = record { mid = now; front = bytes; back = []; splits = sym (append-nil bytes); takes = h; faults = faults }
+
+-- at one of some bytes
+pub halts_in : (a b new : Place) (bytes : List ℕ) (i : ℕ) (fault : ScriptFault) → i < length bytes → Takes a (take i bytes) b → Halts b (get_or bytes i 0 ∷ []) new fault → Halts a bytes new fault
+halts_in a b new bytes i fault below h k =
+    let front = halts_after a b new (take i bytes) (get_or bytes i 0 ∷ []) fault h k in
+    let upto = subst (λ (w : List ℕ). Halts a w new fault) (sym (take_more bytes i 0 below)) front in
+    subst (λ (w : List ℕ). Halts a w new fault) (take-append-drop (i + 1) bytes) (halts_before a new (take (i + 1) bytes) (drop (i + 1) bytes) fault upto)
+
+-- a line too many, or a byte too many in a line
+pub too_many_lines : (lines : ℕ) (begun : List ℕ) (b : ℕ) → lines ≤ most_lines → most_lines ≤ lines → PassesBound lines (begun ++ b ∷ [])
+too_many_lines lines begun b few many = inl (omega (arith, few, many), omega (arith, length-append begun (b ∷ [])))
+
+pub line_too_long : (lines : ℕ) (begun : List ℕ) (b : ℕ) → HasNoFeed begun → b ≢ 10 → longest_line ≤ length begun → PassesBound lines (begun ++ b ∷ [])
+line_too_long lines begun b no_feed plain long = inr (record {
+  line = begun ++ b ∷ [];
+  more = [];
+  bytes_are = sym (append-nil (begun ++ b ∷ []));
+  no_feed = no_feed_push begun b no_feed plain;
+  long = omega (arith, long, length-append begun (b ∷ []));
+})
+
+-- the reply to the line that was begun was lost
+pub reply_lost : (begun more : List ℕ) (last : Stand) (old new : View) → last.hive ≡ old → ((new ≡ old) ⊎ IsOneMore (meaning_of begun) last new) → IsReached last (begun ++ more) new
+reply_lost begun more last old new is (inl h) = inl (h ∙ sym is)
+reply_lost begun more last old new is (inr h) = inr (record { line = begun; more = more; rest_is = refl; answered = h })
+
+-- ---- how many bytes there are within the bounds
+
+fed_length : (lines : List (List ℕ)) → AllByRecursion IsLine lines → length (with_feeds lines) ≤ length lines * (longest_line + 1)
+unfolding longest_line
+fed_length [] h = omega arith
+fed_length (line ∷ lines) h = let rest = fed_length lines h.1 in omega (arith, rest, h.0.short, length-append line (10 ∷ with_feeds lines))
+
+pub not_so_many : (old new : Place) (bytes : List ℕ) → old.lines ≡ 0 → old.begun ≡ [] → Takes old bytes new → length bytes < 2200001000001
+unfolding longest_line most_lines
+not_so_many old new bytes none empty h =
+    let same : bytes ≡ with_feeds h.ended ++ new.begun = ap (λ (w : List ℕ). w ++ bytes) (sym empty) ∙ h.splits in
+    let total : length bytes ≡ length (with_feeds h.ended) + length new.begun = ap (λ (w : List ℕ). length w) same ∙ length-append (with_feeds h.ended) new.begun in
+    let fed = fed_length h.ended h.are_lines in
+    by new.begun total h.steady.short h.steady.one_more (omega (arith, h.counts, none)) h.steady.few fed
+  where
+    by : (begun : List ℕ) → length bytes ≡ length (with_feeds h.ended) + length begun → length begun ≤ longest_line → (0 < length begun → new.lines < most_lines) → new.lines ≡ length h.ended → new.lines ≤ most_lines
+        → length (with_feeds h.ended) ≤ length h.ended * (longest_line + 1) → length bytes < 2200001000001
+    by [] total short one_more counts few fed = omega (arith, total, counts, few, fed)
+    by (b ∷ bs) total short one_more counts few fed = let fewer = one_more (omega arith) in omega (arith, total, short, fewer, counts, fed)
+
+-- ---- what stands after the fault
+
+abbrev pub begins : View → Stand
+begins hive = record { hive = hive; moment = 0; session = 0 }
+
+pub stops_with : (old new : Place) (hive new_hive : View) (script : List ℕ) (fault result : ScriptFault) (unread left final : Option (List ℕ)) → (k : Halts old script new fault) → Consumes unread left script
+    → old.lines ≡ 0 → old.begun ≡ [] → old.stand ≡ begins hive → IsLeft result (length k.takes.ended) k.mid.stand (k.mid.begun ++ k.back) k.takes.replies new_hive old.sent final → Stops result unread left hive new_hive old.sent final
+stops_with old new hive new_hive script fault result unread left final k consumes none empty is stands =
+    let t = k.takes in
+    let lines_are : lines_of (with_feeds t.ended) ≡ t.ended =
+    ap lines_of (sym (append-nil (with_feeds t.ended))) ∙ (lines_fed t.ended [] t.are_lines ∙ append-nil t.ended) in
+    let front_is : k.front ≡ with_feeds t.ended ++ k.mid.begun = ap (λ (w : List ℕ). w ++ k.front) (sym empty) ∙ t.splits in
+    let script_is : script ≡ with_feeds t.ended ++ (k.mid.begun ++ k.back) =
+    k.splits ∙ (ap (λ (w : List ℕ). w ++ k.back) front_is ∙ append_assoc (with_feeds t.ended) k.mid.begun k.back) in
+    record {
+      lines = with_feeds t.ended;
+      rest = k.mid.begun ++ k.back;
+      read = subst (λ (w : List ℕ). Consumes unread left w) script_is consumes;
+      between = lines_fed t.ended (k.mid.begun ++ k.back) t.are_lines ∙ ap (λ (w : List (List ℕ)). w ++ lines_of (k.mid.begun ++ k.back)) (sym lines_are);
+      within = subst (λ (w : List (List ℕ)). AreWithin w) (sym lines_are) (record { few = omega (arith, t.steady.few, t.counts, none); short = lines_short t.ended t.are_lines });
+      text = t.replies;
+      last = k.mid.stand;
+      said = subst (λ (s : Stand). AreSaid (lines_of (with_feeds t.ended)) s t.replies k.mid.stand) is (subst (λ (w : List (List ℕ)). AreSaid w old.stand t.replies k.mid.stand) (sym lines_are) t.said);
+      stands = subst (λ (w : List (List ℕ)). IsLeft result (length w) k.mid.stand (k.mid.begun ++ k.back) t.replies new_hive old.sent final) (sym lines_are) stands;
+    }
+
+-- all replies were sent
+pub all_sent : (old mid new : Place) (replies : List ℕ) (final : Option (List ℕ)) → Passes old replies mid → old.gathered ≡ [] → IsIdle mid new → Appends new.sent final new.gathered → Appends old.sent final replies
+all_sent old mid new replies final p empty idle sent =
+    let whole : replies ≡ p.passed ++ mid.gathered = ap (λ (w : List ℕ). w ++ replies) (sym empty) ∙ p.gathers in
+    let rest = subst (λ (o : Option (List ℕ)). Appends o final new.gathered) idle.sent sent in
+    let rest' = subst (λ (w : List ℕ). Appends mid.sent final w) idle.gathered rest in
+    subst (λ (w : List ℕ). Appends old.sent final w) (sym whole) (appends_then old.sent mid.sent final p.passed mid.gathered p.appends rest')
+
+-- the writer took a front of what was left of them
+pub cut_sent : (old mid : Place) (replies : List ℕ) (final : Option (List ℕ)) (written : ℕ) → Passes old replies mid → old.gathered ≡ [] → old.written ≡ 0 → IsCut mid.sent final mid.gathered mid.written (Write written)
+    → IsTaken old.sent final replies written
+cut_sent old mid replies final written p empty zero cut =
+    let whole : replies ≡ p.passed ++ mid.gathered = ap (λ (w : List ℕ). w ++ replies) (sym empty) ∙ p.gathers in
+    let front : take (length p.passed + cut.count) replies ≡ p.passed ++ take cut.count mid.gathered = ap (λ (w : List ℕ). take (length p.passed + cut.count) w) whole ∙ take-append-add p.passed mid.gathered cut.count in
+    record {
+      count = length p.passed + cut.count;
+      within = omega (arith, cut.within, ap (λ (w : List ℕ). length w) whole, length-append p.passed mid.gathered);
+      appends = subst (λ (w : List ℕ). Appends old.sent final w) (sym front) (appends_then old.sent mid.sent final p.passed (take cut.count mid.gathered) p.appends cut.sent);
+      counts = omega (arith, p.counts, zero, written_is cut.says);
+    }
+  where
+    written_is : {n : ℕ} → Write written ≡ Write n → written ≡ n
+    written_is e = cc
+
+-- the bounds as the code tests them
+pub many_lines : (lines : ℕ) → 1000000 ≤ lines → most_lines ≤ lines
+unfolding most_lines
+many_lines lines h = h
+
+pub few_lines : (lines : ℕ) → lines < 1000000 → lines < most_lines
+unfolding most_lines
+few_lines lines h = h
+
+pub long_line : (line : List ℕ) → 2200000 ≤ length line → longest_line ≤ length line
+unfolding longest_line
+long_line line h = h
+
+pub short_line : (line : List ℕ) → length line < 2200000 → length line < longest_line
+unfolding longest_line
+short_line line h = h
+
+-- a call was answered
+pub one_more : (script : Script) (hive new : View) (line : Line) (call : Call) (reply : List ℕ) → line ≡ Calls call → IsSaid (asks call) (stand_of script hive) reply (stand_of script new) → IsOneMore (said line) (stand_of script hive) new
+one_more script hive new line call reply is h =
+    subst (λ (l : Line). IsOneMore (said l) (stand_of script hive) new) (sym is) (record { reply = reply; next = stand_of script new; said = h; hive = refl })
+
+-- no memory for the reply to the line that was begun
+pub halts_lost : (old new : Place) (b : ℕ) (fault : ScriptFault) → IsSteady old → fault ≡ Memory → new.gathered ≡ old.gathered → new.sent ≡ old.sent → new.written ≡ old.written → ((new.stand.hive ≡ old.stand.hive) ⊎ IsOneMore (meaning_of old.begun) old.stand new.stand.hive)
+    → Halts old (b ∷ []) new fault
+halts_lost old new b fault steady is gathered sent written reached =
+    subst (λ (f : ScriptFault). Halts old (b ∷ []) new f) (sym is)
+    (halts_here old new (b ∷ []) Memory steady (record { gathered = gathered; sent = sent; written = written }, reply_lost old.begun (b ∷ []) old.stand old.stand.hive new.stand.hive refl reached))
+
+-- the replies were gathered, and the writer took a front of them
+pub halts_cut : (old new : Place) (b : ℕ) (reply text : List ℕ) (before : ℕ) (fault : ScriptFault) → b ≡ 10 → IsSteady old → old.lines < most_lines → IsSaid (meaning_of old.begun) old.stand reply new.stand → text ≡ old.gathered ++ reply → before ≡ old.written
+    → IsCut old.sent new.sent text before fault → Halts old (b ∷ []) new fault
+halts_cut old new b reply text before fault is steady fewer said adds same cut =
+    let here = subst (λ (n : ℕ). IsCut old.sent new.sent text n fault) same cut in
+    subst (λ (f : ScriptFault). Halts old (b ∷ []) new f) (sym here.says)
+    (halts_at old new (b ∷ []) _ (after_line old new.stand text) (takes_feed old new.stand b reply text is steady fewer said adds)
+    (subst (λ (f : ScriptFault). IsCut old.sent new.sent text old.written f) here.says here, refl))
+
+-- a line that says what it means
+pub as_meant : (m n : Meaning) (last : Stand) (old new : View) → m ≡ n → ((new ≡ old) ⊎ IsOneMore m last new) → (new ≡ old) ⊎ IsOneMore n last new
+as_meant m n last old new e h = subst (λ (k : Meaning). (new ≡ old) ⊎ IsOneMore k last new) e h
+
+-- the count of lines below its bound
+pub one_more_line : (lines sum new : ℕ) → lines < most_lines → sum ≡ min (lines + 1) 4294967295 → new ≡ sum → new ≡ lines + 1
+unfolding most_lines
+one_more_line lines sum new fewer e same = omega (arith, fewer, e, same)
+
+-- no memory for the reply to the last line
+pub halts_last : (old now new : Place) (bytes : List ℕ) (fault : ScriptFault) → Takes old bytes now → fault ≡ Memory → new.gathered ≡ now.gathered → new.sent ≡ now.sent → new.written ≡ now.written → ((new.stand.hive ≡ now.stand.hive) ⊎ IsOneMore (meaning_of now.begun) now.stand new.stand.hive)
+    → Halts old bytes new fault
+halts_last old now new bytes fault h is gathered sent written reached =
+    subst (λ (f : ScriptFault). Halts old bytes new f) (sym is)
+    (halts_at old new bytes Memory now h (record { gathered = gathered; sent = sent; written = written }, reply_lost now.begun [] now.stand now.stand.hive new.stand.hive refl reached))
+
+-- each read gives a byte at least
+pub read_more : (taken buffer : List ℕ) (i n : ℕ) → i ≤ length taken → n ≢ 0 → n ≤ length buffer → i + 1 ≤ length (taken ++ take n buffer)
+read_more taken buffer i n below some within = simp (length-append, length-take) (omega (arith, below, some, within))

@@ -1,0 +1,96 @@
+-- What each line of a script means (this project's own rules of the script).
+use Rattle.std.specs.Prelude.{ℕ, ◌==◌, if◌then◌else◌, List, [], ◌∷◌, codes, Option, Some, None, option_map, option_and_then, unwrap_or}
+use Rattle.std.specs.Str.{bytes_eq}
+use Rattle.reg_model.specs.declared.call.Call.{Call}
+use Rattle.reg_model.specs.declared.call.Call.TheVariants.{Change, Query}
+use Rattle.reg_model.specs.declared.call.Change.TheVariants.{OpenRoot, OpenKey, CreateKey, SetValue, DeleteValue, DeleteKey, Close}
+use Rattle.reg_model.specs.declared.call.Query.TheVariants.{QueryValue, EnumKey, EnumValue, QueryInfo}
+use Rattle.reg_script.specs.declared.line.Verb.{Verb}
+use Rattle.reg_script.specs.declared.line.Verb.TheVariants.{At, As, Hive, Root, Open, Create, Set, DelValue, DelKey, Close as CloseVerb, Query as QueryVerb, EnumKey as EnumKeyVerb, EnumValue as EnumValueVerb, Info}
+use Rattle.reg_script.specs.LineWords.{words_of, number_of, name_of, data_of}
+
+-- what a line means: nothing, a setting for the lines after it, a call, or `bad`
+pub data Meaning : Type 0 where
+  nothing : Meaning
+  at_moment : ℕ → Meaning
+  as_session : ℕ → Meaning
+  on_hive : Meaning
+  asks : Call → Meaning
+  bad : Meaning
+
+-- what the first of these words stands for, and the words after it
+unfoldable pub first_of : {A : Type 0} → (List ℕ → Option A) → List (List ℕ) → Option (A × List (List ℕ))
+first_of word [] = None
+first_of word (w ∷ ws) = option_map (λ a. (a, ws)) (word w)
+
+-- the first word read so, and then what the words after it mean with that
+abbrev pub reading : {A B : Type 0} → (List ℕ → Option A) → (A → List (List ℕ) → Option B) → List (List ℕ) → Option B
+reading word next words = option_and_then (λ p. next p.0 p.1) (first_of word words)
+
+-- no word may be left
+unfoldable pub ending : {B : Type 0} → B → List (List ℕ) → Option B
+ending b [] = Some b
+ending b (w ∷ ws) = None
+
+-- numbers of 32 and of 64 bits
+abbrev pub small_number_of : List ℕ → Option ℕ
+small_number_of = number_of 4294967295
+
+abbrev pub long_number_of : List ℕ → Option ℕ
+long_number_of = number_of 18446744073709551615
+
+-- a ROOM word: `-` for none, or a number
+unfoldable pub room_of : List ℕ → Option (Option ℕ)
+room_of word = if bytes_eq word (codes "-") then Some None else option_map Some (small_number_of word)
+
+-- the first word of a call
+unfoldable pub call_verb_of : List ℕ → Option Verb
+call_verb_of word =
+    if bytes_eq word (codes "root") then Some Root
+    else if bytes_eq word (codes "open") then Some Open
+    else if bytes_eq word (codes "create") then Some Create
+    else if bytes_eq word (codes "set") then Some Set
+    else if bytes_eq word (codes "delvalue") then Some DelValue
+    else if bytes_eq word (codes "delkey") then Some DelKey
+    else if bytes_eq word (codes "close") then Some CloseVerb
+    else if bytes_eq word (codes "query") then Some QueryVerb
+    else if bytes_eq word (codes "enumkey") then Some EnumKeyVerb
+    else if bytes_eq word (codes "enumvalue") then Some EnumValueVerb
+    else if bytes_eq word (codes "info") then Some Info
+    else None
+
+-- the first word of a setting or a call
+unfoldable pub verb_of : List ℕ → Option Verb
+verb_of word =
+    if bytes_eq word (codes "at") then Some At
+    else if bytes_eq word (codes "as") then Some As
+    else if bytes_eq word (codes "hive") then Some Hive
+    else call_verb_of word
+
+-- what the words after the first mean; a PATH word is of the form of a name
+unfoldable pub by_verb : Verb → List (List ℕ) → Option Meaning
+by_verb At = reading long_number_of (λ moment. ending (at_moment moment))
+by_verb As = reading (number_of 63) (λ session. ending (as_session session))
+by_verb Hive = reading (number_of 0) (λ hive. ending on_hive)
+by_verb Root = reading small_number_of (λ mask. ending (asks (Change (OpenRoot mask))))
+by_verb Open =
+    reading long_number_of (λ handle. reading name_of (λ path. reading small_number_of (λ mask. ending (asks (Change (OpenKey handle path mask))))))
+by_verb Create =
+    reading long_number_of (λ handle. reading name_of (λ path. reading small_number_of (λ mask. ending (asks (Change (CreateKey handle path mask))))))
+by_verb Set =
+    reading long_number_of (λ handle. reading name_of (λ name. reading small_number_of (λ kind. reading data_of (λ bytes. ending (asks (Change (SetValue handle name kind bytes)))))))
+by_verb DelValue = reading long_number_of (λ handle. reading name_of (λ name. ending (asks (Change (DeleteValue handle name)))))
+by_verb DelKey = reading long_number_of (λ handle. reading name_of (λ path. ending (asks (Change (DeleteKey handle path)))))
+by_verb CloseVerb = reading long_number_of (λ handle. ending (asks (Change (Close handle))))
+by_verb QueryVerb =
+    reading long_number_of (λ handle. reading name_of (λ name. reading room_of (λ room. ending (asks (Query (QueryValue handle name room))))))
+by_verb EnumKeyVerb =
+    reading long_number_of (λ handle. reading small_number_of (λ index. reading small_number_of (λ room. ending (asks (Query (EnumKey handle index room))))))
+by_verb EnumValueVerb =
+    reading long_number_of (λ handle. reading small_number_of (λ index. reading small_number_of (λ name_room. reading room_of (λ room. ending (asks (Query (EnumValue handle index name_room room)))))))
+by_verb Info = reading long_number_of (λ handle. ending (asks (Query (QueryInfo handle))))
+
+-- a line means nothing where it is empty or a comment, and is bad where its words mean nothing
+unfoldable pub meaning_of : List ℕ → Meaning
+meaning_of [] = nothing
+meaning_of (b ∷ bs) = if b == 35 then nothing else unwrap_or (reading verb_of by_verb (words_of (b ∷ bs))) bad

@@ -1,0 +1,88 @@
+-- A key and all below it given way to others: what making a key, and deleting one, do to a shape.
+use Rattle.std.specs.Prelude.{◌≡◌, ◌↔◌, ℕ, zero, suc, ◌+◌, ◌<◌, ◌≤◌, cond, Option, Some, None, List, [], ◌∷◌}
+use Rattle.std.specs.List.{AllByRecursion}
+use Rattle.reg_heap.specs.Paths.{Path}
+use Rattle.reg_heap.specs.Internal.Heaps.{Heap, allocated}
+use Rattle.reg_heap.specs.Internal.Kinds.{times}
+use Rattle.reg_shape.specs.Internal.Forests.{Forest, Branch, total_of}
+use Rattle.reg_shape.specs.Internal.Forests.Forest.{End, Rooted as Hangs}
+use Rattle.reg_records.specs.RecordCells.{held}
+use Rattle.reg_records.specs.KeySecurities.{KeySecurityRecord, security_at, IsPlainSecurity}
+use Rattle.reg_shape.specs.Nodes.{Node}
+use Rattle.reg_shape.specs.Whole.{IsRing, count_at}
+use Rattle.reg_shape.specs.Internal.Shapes.{owns, shares, StandsIn, depth}
+use Rattle.reg_shape.specs.Internal.Exchanges.{is_named, IsAlike}
+
+-- the keys stand in the cells, and these are all that the cells hold: each allocated cell is one key's, or in the ring, or spare for a
+-- key to come, once; each security is named as often as it counts, and at least once; no key is deeper than 512 names
+pub record IsShape (heap : Heap) (root : ℕ) (keys : Branch Node) (first : ℕ) (others : List ℕ) (spare : List ℕ) : Type 0 where
+  pub place : keys.place ≡ root
+  pub stands : StandsIn heap root keys
+  pub exact : (offset : ℕ) → total_of (owns offset) keys + times offset (first ∷ others) + times offset spare ≡ allocated heap offset
+  pub ring : IsRing heap first others
+  pub ringed : (offset : ℕ) → 0 < total_of (shares offset) keys ↔ 0 < times offset (first ∷ others)
+  pub counts : AllByRecursion (λ offset. count_at heap offset ≡ Some (total_of (shares offset) keys)) (first ∷ others)
+  pub shallow : depth keys.below ≤ 512
+
+-- the key at a path, with all below it
+abbrev pub branch_in : Path → Forest Node → Option (Branch Node)
+branch_in [] keys = None
+branch_in (name ∷ path) End = None
+branch_in (name ∷ []) (Hangs place node below beside) =
+    cond (is_named name node) (Some (record { place = place; node = node; below = below })) (branch_in (name ∷ []) beside)
+branch_in (name ∷ next ∷ path) (Hangs place node below beside) = cond (is_named name node) (branch_in (next ∷ path) below) (branch_in (name ∷ next ∷ path) beside)
+
+abbrev pub branch_at : Path → Branch Node → Option (Branch Node)
+branch_at [] keys = Some keys
+branch_at (name ∷ path) keys = branch_in (name ∷ path) keys.below
+
+-- another node and other keys below it, for the key at a path; it stays at its offset
+abbrev pub graft_in : Path → Node → Forest Node → Forest Node → Forest Node
+graft_in [] new under keys = keys
+graft_in (name ∷ path) new under End = End
+graft_in (name ∷ []) new under (Hangs place node below beside) =
+    cond (is_named name node) (Hangs place new under beside) (Hangs place node below (graft_in (name ∷ []) new under beside))
+graft_in (name ∷ next ∷ path) new under (Hangs place node below beside) =
+    cond (is_named name node) (Hangs place node (graft_in (next ∷ path) new under below) beside) (Hangs place node below (graft_in (name ∷ next ∷ path) new under beside))
+
+abbrev pub graft_at : Path → Node → Forest Node → Branch Node → Branch Node
+graft_at [] new under keys = record keys { node = new; below = under }
+graft_at (name ∷ path) new under keys = record keys { below = graft_in (name ∷ path) new under keys.below }
+
+-- a key without keys below it, put among others at an index
+abbrev pub hang : ℕ → ℕ → Node → Forest Node → Forest Node
+hang zero place node keys = Hangs place node End keys
+hang (suc n) place node End = Hangs place node End End
+hang (suc n) place node (Hangs other key below beside) = Hangs other key below (hang n place node beside)
+
+-- the others without the one at an index
+abbrev pub unhang : ℕ → Forest Node → Forest Node
+unhang n End = End
+unhang zero (Hangs other key below beside) = beside
+unhang (suc n) (Hangs other key below beside) = Hangs other key below (unhang n beside)
+
+-- a security has another count, by as much as it is named more or less often, and reads the same beside
+pub record IsRecounted (old new : Heap) (was is : ℕ) (offset : ℕ) : Type 0 where
+  pub security : KeySecurityRecord
+  pub count : ℕ
+  pub reads : security_at old offset ≡ Some security
+  pub now : security_at new offset ≡ Some (record security { fields = record security.fields { count = count } })
+  pub plain : IsPlainSecurity (held old offset) → IsPlainSecurity (held new offset)
+  pub counted : count + was ≡ security.fields.count + is
+
+-- a key and all below it gave way to others at its offset, which stand in its cells and in cells that were spare; what it shows
+-- above is the same, and the securities that it names
+pub record IsGrafted (old new : Heap) (root : ℕ) (was is : Branch Node) (first : ℕ) (others spare left : List ℕ) : Type 0 where
+  pub place : is.place ≡ was.place
+  pub alike : IsAlike was.node is.node
+  pub stands : StandsIn new root is
+  pub count : (offset : ℕ) → allocated new offset + (total_of (owns offset) was + times offset spare) ≡ allocated old offset + (total_of (owns offset) is + times offset left)
+  pub same : (offset : ℕ) → 0 < allocated old offset → total_of (owns offset) was ≡ 0 → times offset spare ≡ 0 → times offset (first ∷ others) ≡ 0 → new offset ≡ old offset
+  pub securities : (offset : ℕ) → 0 < total_of (shares offset) is ↔ 0 < total_of (shares offset) was
+  pub ring : (offset : ℕ) → 0 < times offset (first ∷ others) → IsRecounted old new (total_of (shares offset) was) (total_of (shares offset) is) offset
+
+-- the key at an index is this one, and no key is below it
+abbrev pub IsLeafAt : ℕ → ℕ → Node → Forest Node → Type 0
+IsLeafAt n place node End = ⊥
+IsLeafAt zero place node (Hangs other key below beside) = (other ≡ place) × (key ≡ node) × (below ≡ End)
+IsLeafAt (suc n) place node (Hangs other key below beside) = IsLeafAt n place node beside

@@ -1,0 +1,6 @@
+pub mod Internal
+pub mod Walk
+pub mod Nodes
+pub mod Spelt
+pub mod Written
+pub mod Whole

@@ -1,0 +1,97 @@
+-- Whole hives: nothing is left over, nothing is named twice, nothing is counted wrongly (Suhanov, Windows registry file format
+-- specification, "Cell", "Key security"; the rest is this project's).
+use Rattle.std.specs.Prelude.{◌≡◌, ◌≢◌, ◌↔◌, ℕ, ◌+◌, ◌<◌, ◌≤◌, Option, Some, List, [], ◌∷◌, length, map, IsSome, true, Contains}
+use Rattle.std.specs.Option.{option_map}
+use Rattle.std.specs.List.{AllByRecursion}
+use Rattle.reg_heap.specs.Paths.{Path, Rec}
+use Rattle.reg_heap.specs.Internal.Heaps.{Heap}
+use Rattle.reg_heap.specs.Internal.Kinds.{Found, times, owned, shared}
+use Rattle.reg_heap.specs.Internal.Kinds.Kind.{Key, Security}
+use Rattle.reg_arena.specs.declared.Cell.{Cell}
+use Rattle.reg_arena.specs.Cells.{cells_of, cell_at}
+use Rattle.reg_records.specs.KeySecurities.{KeySecurityRecord, security_at}
+use Rattle.reg_shape.specs.Walk.{walk}
+use Rattle.reg_records.specs.BigData.{plainly}
+use Rattle.reg_shape.specs.Nodes.{Node, entries_of, look}
+use Rattle.reg_records.specs.SubkeyLists.{places_in}
+use Rattle.reg_shape.specs.Spelt.{keys_from}
+use Rattle.reg_shape.specs.Written.{Pairwise, IsWrittenKey, Fits, IsWrittenSecurity}
+
+-- an offset is among those met
+abbrev pub Meets : List Found → ℕ → Type 0
+Meets found offset = 0 < owned offset found + shared offset found
+
+-- two that are met at one offset are both securities
+abbrev pub AreApart : Found → Found → Type 0
+AreApart a b = a.offset ≡ b.offset → (a.kind ≡ Security) × (b.kind ≡ Security)
+
+abbrev pub flink_at : Heap → ℕ → Option ℕ
+flink_at heap offset = option_map (λ (s : KeySecurityRecord). s.fields.flink) (security_at heap offset)
+
+abbrev pub blink_at : Heap → ℕ → Option ℕ
+blink_at heap offset = option_map (λ (s : KeySecurityRecord). s.fields.blink) (security_at heap offset)
+
+abbrev pub count_at : Heap → ℕ → Option ℕ
+count_at heap offset = option_map (λ (s : KeySecurityRecord). s.fields.count) (security_at heap offset)
+
+abbrev pub descriptor_at : Heap → ℕ → Option (List ℕ)
+descriptor_at heap offset = option_map (λ (s : KeySecurityRecord). s.descriptor) (security_at heap offset)
+
+-- the first security leads to the second, and back
+pub record Links (heap : Heap) (a b : ℕ) : Type 0 where
+  pub forward : flink_at heap a ≡ Some b
+  pub back : blink_at heap b ≡ Some a
+
+-- each leads to the next, and the last to the first
+abbrev pub Circles : Heap → ℕ → List ℕ → Type 0
+Circles heap first [] = ⊥
+Circles heap first (last ∷ []) = Links heap last first
+Circles heap first (a ∷ b ∷ rest) = Links heap a b × Circles heap first (b ∷ rest)
+
+-- the securities of a ring, in its order from one of them on; no two of them have equal descriptors
+pub record IsRing (heap : Heap) (first : ℕ) (others : List ℕ) : Type 0 where
+  pub circles : Circles heap first (first ∷ others)
+  pub apart : Pairwise (λ a b. descriptor_at heap a ≢ descriptor_at heap b) (first ∷ others)
+  pub written : AllByRecursion (IsWrittenSecurity heap) (first ∷ others)
+
+-- a key that is met, as it is written, and the keys right below it
+pub record IsWritten (heap : Heap) (root offset : ℕ) : Type 0 where
+  pub node : Node
+  pub seen : look heap offset ≡ Some node
+  pub written : IsWrittenKey heap root offset node
+  pub below : List (ℕ × Node)
+  pub reads : AllByRecursion (λ (e : ℕ × Node). look heap e.0 ≡ Some e.1) below
+  pub fits : Fits offset node below
+
+-- a whole heap of so many cells: the walk from the root is defined (a), meets no offset twice, save as a security (b), and meets
+-- just the allocated cells (c); the securities form one ring, and each is met as often as it counts (d); each key is as it is
+-- written, and its path has at most 512 names below the root's (e)
+pub record IsWhole (heap : Heap) (cells root : ℕ) : Type 0 where
+  pub found : List Found
+  pub walked : walk cells heap (plainly Key root) ≡ Some found
+  pub once : Pairwise AreApart found
+  pub exact : (offset : ℕ) → Meets found offset ↔ IsSome (heap offset)
+  pub first : ℕ
+  pub others : List ℕ
+  pub ring : IsRing heap first others
+  pub ringed : (offset : ℕ) → 0 < shared offset found ↔ 0 < times offset (first ∷ others)
+  pub counts : AllByRecursion (λ offset. count_at heap offset ≡ Some (shared offset found)) (first ∷ others)
+  pub keys : AllByRecursion (λ (f : Found). f.kind ≡ Key → IsWritten heap root f.offset) found
+  pub depth : (keys : List (Path × Rec)) → keys_from cells heap root ≡ Some keys → AllByRecursion (λ (e : Path × Rec). length e.0 ≤ 513) keys
+
+-- the hive in these bytes is whole
+pub record Whole (bytes : List ℕ) (root : ℕ) : Type 0 where
+  pub cells : List Cell
+  pub cells_are : cells_of bytes ≡ Some cells
+  pub whole : IsWhole (cell_at bytes) (length cells) root
+
+-- an allocated cell of these begins there
+abbrev pub IsAllocatedIn : List Cell → ℕ → Type 0
+IsAllocatedIn cells offset = (cell : Cell) × Contains cells cell × (cell.offset ≡ offset) × (cell.allocated ≡ true)
+
+-- these are the keys that a key's lists name, as they are read
+pub record HasSubkeys (heap : Heap) (offset : ℕ) (below : List (ℕ × Node)) : Type 0 where
+  pub node : Node
+  pub seen : look heap offset ≡ Some node
+  pub reads : AllByRecursion (λ (e : ℕ × Node). look heap e.0 ≡ Some e.1) below
+  pub places : map (λ (e : ℕ × Node). e.0) below ≡ places_in (entries_of node.index)

@@ -1,0 +1,9 @@
+-- A key deleted.
+pub mod SubkeyUnlinked
+pub mod DeletedKeyCells
+pub mod DeletedKeyPosition
+pub mod DeletedKeyParent
+pub mod DeleteKeyGraft
+pub mod DeleteKeyObligations
+pub mod DeleteKeyFaults
+pub mod DeleteKeepsNodes

@@ -1,0 +1,362 @@
+-- A key taken from its parent and its cells given up, as a graft of the parent's branch.
+use Rattle.std.proofs.Common.{◌≡◌, ◌⊎◌, inl, inr, ◌↔◌, ℕ, zero, suc, ◌+◌, ◌-◌, ◌%◌, ◌<◌, ◌≤◌, cond, is_some, Option, Some, IsSome, List, [], ◌∷◌, ◌++◌, refl, sym, ap, ◌∙◌, subst, arith}
+use Rattle.std.specs.List.{AllByRecursion}
+use Rattle.std.specs.Option.{option_map}
+use Rattle.std.proofs.lemmas.Bool.{cases_eq}
+use Rattle.std.proofs.lemmas.Option.{same_Some}
+use Rattle.reg_heap.specs.Paths.{Path}
+use Rattle.reg_heap.specs.Internal.Heaps.{Heap, Swaps, allocated}
+use Rattle.reg_heap.specs.Internal.Kinds.{Found, times, is_own, is_shared, owned, shared}
+use Rattle.reg_heap.specs.Internal.Kinds.Kind.{Security}
+use Rattle.reg_shape.specs.Internal.Forests.{Forest, Branch, heads, total, total_of}
+use Rattle.reg_records.specs.RecordCells.{held}
+use Rattle.reg_records.specs.KeyNodes.{key_at, IsPlainKey}
+use Rattle.reg_records.specs.KeySecurities.{KeySecurityRecord, security_at, IsPlainSecurity}
+use Rattle.reg_records.specs.SubkeyLists.{Entry, places_in}
+use Rattle.reg_shape.specs.Nodes.{Node, entries_of, look, met_of}
+use Rattle.reg_shape.specs.Nodes.Index.{Unlisted}
+use Rattle.reg_shape.specs.Written.{Fits, IsWrittenSecurity}
+use Rattle.reg_shape.specs.Internal.Shapes.{index_cells, cells_of, owns, shares, IsSeen, StandsIn}
+use Rattle.reg_shape.specs.Internal.Grafts.{IsShape, IsGrafted, IsRecounted, branch_in, branch_at, unhang}
+use Rattle.reg_shape.proofs.Graft.Branches.{branch-total}
+use Rattle.reg_shape.proofs.Wholeness.ShapeCounts.{tally-append}
+use Rattle.reg_shape.proofs.Wholeness.WholeAfterExchange.{all-weaker}
+use Rattle.reg_shape.proofs.Graft.ForestInsert.{stand-unhang}
+use Rattle.reg_shape.proofs.Graft.ForestInsertFits.{fits-unhung, stands-unhung}
+use Rattle.reg_shape.proofs.Walking.InnerReadings.{class-inner, members-inner}
+use Rattle.reg_shape.proofs.Frame.KeyFrame.{Keeps, agree-inner, look-local}
+use Rattle.reg_shape.proofs.Frame.WrittenFrame.{same-held, list-kept}
+use Rattle.reg_shape.proofs.Lookup.LookupOfShape.{key-looked}
+use Rattle.reg_records.proofs.KeySecurityCodec.{security_at-same}
+use Rattle.reg_shape.proofs.Walking.WalkRefinement.{IsLooked}
+use Rattle.reg_shape.proofs.Wholeness.WholeShapes.{shared-here, shares-own, at-most-one, allocated-is}
+use Rattle.reg_values.proofs.ValueFreeing.SwapChains.{times-same}
+use Rattle.reg_index.specs.Subkeys.{AreSubkeys, own, without}
+use Rattle.reg_index.proofs.RefinementOfSubkeys.{index_for, IsSingle, index-entries, subkeys-elsewhere}
+use Rattle.reg_tree.specs.Internal.KeyNodeChanges.{Recounts, noted_subkeys}
+use Rattle.reg_tree.specs.Internal.KeyDeletion.{IsUnlinked, IsSole}
+use Rattle.reg_tree.proofs.DeleteKey.DeletedKeyCells.{own-met}
+use Rattle.reg_tree.proofs.DeleteKey.DeletedKeyPosition.{IsHead, by-places, heads-owned}
+use Rattle.reg_tree.proofs.Invariant.CellReadings.{is_some_of, key-moved, key-exists, security-exists}
+use Rattle.reg_tree.proofs.Invariant.OwnCells.{shared-parts, inner-unshared}
+use Rattle.reg_tree.proofs.InsertKey.ParentReindexed.{owned-list, sees-reindexed, owned-reindexed, shared-reindexed}
+use Rattle.reg_tree.proofs.DeleteKey.DeletedKeyParent.{not-there, there-is, raised-none}
+use Rattle.reg_tree.proofs.DeleteKey.DeletedKeyParent as before
+
+-- ---- the parent `was`, and the key `b` below it
+
+module _ (h0 : Heap) (root : ℕ) (keys : Branch Node) (first : ℕ) (w : IsShape h0 root keys first [] []) (p : Path) (was : Branch Node) (e : branch_at p keys ≡ Some was) (single : IsSingle was.node.index)
+    (x : List ℕ) (b : Branch Node) (found : branch_in (x ∷ []) was.below ≡ Some b) (childless : b.node.key.fields.subkeys ≡ 0) where
+  abbrev m : Node
+  m = was.node
+
+  abbrev n : Node
+  n = b.node
+
+  abbrev entries : List Entry
+  entries = entries_of m.index
+
+  abbrev s : ℕ
+  s = n.key.fields.security
+
+  abbrev list : ℕ
+  list = m.key.fields.subkeys_list
+
+  -- what is known of them before
+
+  stands : StandsIn h0 root was
+  stands = before.stands h0 root keys first w p was e single x b found childless
+
+  key_stands : StandsIn h0 root b
+  key_stands = before.key_stands h0 root keys first w p was e single x b found childless
+
+  abbrev pub l : IsLooked h0 was.place m
+  l = before.l h0 root keys first w p was e single x b found childless
+
+  abbrev n_l : IsLooked h0 b.place n
+  n_l = before.n_l h0 root keys first w p was e single x b found childless
+
+  abbrev pub spot : IsHead x was.below b
+  spot = before.spot h0 root keys first w p was e single x b found childless
+
+  abbrev rest : Forest Node
+  rest = unhang spot.index was.below
+
+  first-is : (z : ℕ) → 0 < total_of (shares z) keys → z ≡ first
+  first-is = before.first-is h0 root keys first w p was e single x b found childless
+
+  secured : s ≡ first
+  secured = before.secured h0 root keys first w p was e single x b found childless
+
+  index-cells : (z : ℕ) → owned z (index_cells m.index) ≡ times z (list ∷ [])
+  index-cells = before.index-cells h0 root keys first w p was e single x b found childless
+
+  m-parts : (z : ℕ) → owned z (cells_of m) ≡ times z (was.place ∷ []) + (owned z l.class_cells + owned z l.value_cells) + times z (list ∷ [])
+  m-parts = before.m-parts h0 root keys first w p was e single x b found childless
+
+  n-unlisted : n.index ≡ Unlisted
+  n-unlisted = before.n-unlisted h0 root keys first w p was e single x b found childless
+
+  n-parts : (z : ℕ) → owned z (cells_of n) ≡ owned z n.cells
+  n-parts = before.n-parts h0 root keys first w p was e single x b found childless
+
+  below-parts : (f : ℕ → Node → ℕ) → total f rest + f b.place n ≡ total f was.below
+  below-parts = before.below-parts h0 root keys first w p was e single x b found childless
+
+  room : (z : ℕ) → (times z (was.place ∷ []) + (owned z l.class_cells + owned z l.value_cells) + times z (list ∷ [])) + (total (owns z) rest + owned z n.cells) + times z (first ∷ []) ≤ allocated h0 z
+  room = before.room h0 root keys first w p was e single x b found childless
+
+  -- ---- when the key was taken from the list, and that was noted
+
+  module _ (h2 : Heap) (moment : ℕ) (un : IsUnlinked h0 h2 was.place m.key entries spot.index moment) where
+    abbrev h1 : Heap
+    h1 = un.mid
+
+    calm-mid : (z : ℕ) → 0 < allocated h0 z → times z (list ∷ []) ≡ 0 → h1 z ≡ h0 z
+    calm-mid z some a = let c = un.moves.count z in let o = at-most-one h1 z in un.moves.same z a (omega (arith, c, o, some, a))
+
+    place-mid : h1 was.place ≡ h0 was.place
+    place-mid =
+        let z = was.place in let r = room z in let t = times-same z in let o = at-most-one h0 z in calm-mid z (omega (arith, r, t)) (omega (arith, r, t, o))
+
+    key-mid : key_at h1 was.place ≡ Some m.key
+    key-mid = key-moved h0 h1 was.place place-mid ∙ key-looked h0 was.place m stands.0.reads
+
+    key-then : key_at h2 was.place ≡ Some (noted_subkeys un.count un.list 0 moment m.key)
+    key-then = un.notes.reads m.key key-mid
+
+    same-number : (z : ℕ) → allocated h2 z ≡ allocated h1 z
+    same-number z = elim (cases_eq z was.place) [
+      | inl e ↦ subst (λ x. allocated h2 x ≡ allocated h1 x) (sym e) (allocated-is h2 was.place (key-exists h2 was.place (is_some_of _ _ key-then)) ∙ sym (allocated-is h1 was.place (key-exists h1 was.place (is_some_of _ _ key-mid))))
+      | inr n ↦ ap (λ (c : Option (List ℕ)). cond (is_some c) 1 0) (un.notes.others z n)
+    ]
+
+    pub calm-then : (z : ℕ) → 0 < allocated h0 z → times z (list ∷ []) ≡ 0 → times z (was.place ∷ []) ≡ 0 → h2 z ≡ h0 z
+    calm-then z some a c = un.notes.others z (not-there z was.place c) ∙ calm-mid z some a
+
+    key-calm : Keeps h0 h2 (cells_of n)
+    key-calm z some =
+        let r = room z in let o = at-most-one h0 z in let q = n-parts z in
+        calm-then z (omega (arith, r, q, some)) (omega (arith, r, o, q, some)) (omega (arith, r, o, q, some))
+
+    pub key-left : look h2 b.place ≡ Some n
+    key-left = look-local h0 h2 b.place n key_stands.0.reads key-calm
+
+    pub sole : IsSole h2 b.place
+    sole =
+        let v = n_l.values_are in
+        let k = n.key in
+        record {
+          node = n;
+          reads = key-left;
+          once = λ z. (let r = room z in let c = un.moves.count z in let o = at-most-one h0 z in let q = same-number z in omega (arith, r, c, o, q));
+          values = list-kept h0 h2 k.fields.values k.fields.values_list n.values n_l.value_cells v
+              (agree-inner h0 h2 n_l.value_cells (members-inner h0 k.fields.values k.fields.values_list (n.values, n_l.value_cells) v)
+              (λ z some. key-calm z (let a = tally-append (is_own z) n.cells (index_cells n.index) in let c = ap (owned z) n_l.cells ∙ own-met z b.place k n_l.class_cells n_l.value_cells in omega (arith, a, c, some))))
+              key_stands.0.written.values.list;
+        }
+
+    -- ---- when its cells were given up
+
+    module _ (h4 : Heap) (freed : Swaps h2 h4 (λ z. owned z n.cells) (λ z. 0)) where
+      calm-freed : (z : ℕ) → 0 < allocated h0 z → times z (list ∷ []) ≡ 0 → times z (was.place ∷ []) ≡ 0 → owned z n.cells ≡ 0 → h4 z ≡ h0 z
+      calm-freed z some a c d = freed.same z d refl ∙ calm-then z some a c
+
+      ring0 : IsWrittenSecurity h0 first
+      ring0 = w.ring.written.0
+
+      first-calm : h4 first ≡ h0 first
+      first-calm =
+          let r = room first in let t = times-same first in let o = at-most-one h0 first in
+          calm-freed first (omega (arith, r, t)) (omega (arith, r, t, o)) (omega (arith, r, t, o)) (omega (arith, r, t, o))
+
+      security-then : security_at h4 first ≡ Some ring0.security
+      security-then = security_at-same h0 h4 first first-calm ∙ ring0.reads
+
+      counted : ring0.security.fields.count ≡ total_of (shares first) keys
+      counted = same_Some _ _ (sym (ap (option_map (λ (s : KeySecurityRecord). s.fields.count)) ring0.reads) ∙ w.counts.0)
+
+      -- the key names the security once
+      names-once : shared first (cells_of n) ≡ 1
+      names-once =
+          let k = n.key in
+          let a = ap (λ (found : List Found). shared first (found ++ index_cells n.index)) n_l.cells ∙ shared-parts first b.place k n_l.class_cells n_l.value_cells n.index in
+          let c = inner-unshared first n_l.class_cells (class-inner h0 k.fields.class_length k.fields.class (n.class, n_l.class_cells) n_l.class_is) in
+          let v = inner-unshared first n_l.value_cells (members-inner h0 k.fields.values k.fields.values_list (n.values, n_l.value_cells) n_l.values_are) in
+          let i : ◌≡◌ {A = ℕ} (shared first (index_cells n.index)) 0 = ap (λ i. shared first (index_cells i)) n-unlisted in
+          let o : is_shared first (record { kind = Security; offset = s }) ≡ 1 = subst (λ z. is_shared z (record { kind = Security; offset = s }) ≡ 1) secured (shared-here (record { kind = Security; offset = s }) refl) in
+          omega (arith, a, c, v, i, o)
+
+      some-count : 1 ≤ ring0.security.fields.count
+      some-count =
+          let a = counted in
+          let c = names-once in
+          let d = below-parts (shares first) in
+          let t = branch-total (shares first) was p keys e in
+          omega (arith, a, c, d, t)
+
+      pub release-there : IsSome (security_at h4 s)
+      release-there = subst (λ z. IsSome (security_at h4 z)) (sym secured) (is_some_of _ _ security-then)
+
+      pub release-some : (r : KeySecurityRecord) → security_at h4 s ≡ Some r → 1 ≤ r.fields.count
+      release-some r e =
+          let q : ring0.security ≡ r = same_Some _ _ (sym security-then ∙ (ap (security_at h4) (sym secured) ∙ e)) in
+          let c = ap (λ (r : KeySecurityRecord). r.fields.count) q in
+          let o = some-count in
+          omega (arith, c, o)
+
+      -- ---- when the security had its count
+
+      module _ (h5 : Heap) (re : Recounts h4 h5 s (λ count. count - 1)) where
+        abbrev entries' : List Entry
+        entries' = without spot.index entries
+
+        other : (z : ℕ) → times z (first ∷ []) ≡ 0 → h5 z ≡ h4 z
+        other z a = re.others z (λ e. not-there z first a (e ∙ secured))
+
+        calm : (z : ℕ) → 0 < allocated h0 z → times z (list ∷ []) ≡ 0 → times z (was.place ∷ []) ≡ 0 → owned z n.cells ≡ 0 → times z (first ∷ []) ≡ 0 → h5 z ≡ h0 z
+        calm z some a c d f = other z f ∙ calm-freed z some a c d
+
+        class-calm : Keeps h0 h5 l.class_cells
+        class-calm z some = let r = room z in let o = at-most-one h0 z in calm z (omega (arith, r, some)) (omega (arith, r, o, some)) (omega (arith, r, o, some)) (omega (arith, r, o, some)) (omega (arith, r, o, some))
+
+        values-calm : Keeps h0 h5 l.value_cells
+        values-calm z some = let r = room z in let o = at-most-one h0 z in calm z (omega (arith, r, some)) (omega (arith, r, o, some)) (omega (arith, r, o, some)) (omega (arith, r, o, some)) (omega (arith, r, o, some))
+
+        rest-calm : (z : ℕ) → 0 < total (owns z) rest → h5 z ≡ h0 z
+        rest-calm z some = let r = room z in let o = at-most-one h0 z in calm z (omega (arith, r, some)) (omega (arith, r, o, some)) (omega (arith, r, o, some)) (omega (arith, r, o, some)) (omega (arith, r, o, some))
+
+        -- the parent's key node
+
+        place-calm : h5 was.place ≡ h2 was.place
+        place-calm =
+            let z = was.place in let r = room z in let t = times-same z in let o = at-most-one h0 z in
+            other z (omega (arith, r, t, o)) ∙ freed.same z (omega (arith, r, t, o)) refl
+
+        key-now : key_at h5 was.place ≡ Some (noted_subkeys un.count un.list 0 moment m.key)
+        key-now = key-moved h2 h5 was.place place-calm ∙ key-then
+
+        plain-now : IsPlainKey (held h5 was.place)
+        plain-now =
+            subst IsPlainKey (sym (same-held h2 h5 was.place place-calm)) (un.notes.plain (subst IsPlainKey (sym (same-held h0 h1 was.place place-mid)) stands.0.written.plain))
+
+        -- its subkeys
+
+        abbrev pub after : Node
+        after = record { key = noted_subkeys un.count un.list 0 moment m.key; class = m.class; values = m.values; cells = met_of was.place (noted_subkeys un.count un.list 0 moment m.key) l.class_cells l.value_cells; index = index_for un.count un.list entries' }
+
+        fits : Fits was.place after (heads rest)
+        fits =
+            let r = ap (λ n. n % 65536) (raised-none m.key.fields.largest_subkey_name) in
+            fits-unhung was.place spot.index m after (index-entries h1 un.count un.list entries' un.subkeys) (omega (arith, r)) (omega arith) was.below stands.1
+
+        entries-owned : AllByRecursion (λ (e : Entry). 0 < total (owns e.place) rest) entries'
+        entries-owned =
+            by-places (λ z. 0 < total (owns z) rest) (heads rest) entries' (fits.places ∙ ap places_in (index-entries h1 un.count un.list entries' un.subkeys))
+            (heads-owned h0 root rest (stand-unhang (IsSeen h0 root) Fits spot.index was.below stands.2))
+
+        entries-stay : AllByRecursion (λ (e : Entry). key_at h5 e.place ≡ key_at h1 e.place) entries'
+        entries-stay = all-weaker (λ (e : Entry). 0 < total (owns e.place) rest) (λ (e : Entry). key_at h5 e.place ≡ key_at h1 e.place)
+            (λ e some. (
+            let z = e.place in let r = room z in let o = at-most-one h0 z in
+            key-moved h1 h5 z (rest-calm z some ∙ sym (calm-mid z (omega (arith, r, some)) (omega (arith, r, o, some))))))
+            entries' entries-owned
+
+        list-stays : (un.count ≡ 0) ⊎ (h5 un.list ≡ h1 un.list)
+        list-stays = by un.count refl
+          where
+            by : (count : ℕ) → un.count ≡ count → (un.count ≡ 0) ⊎ (h5 un.list ≡ h1 un.list)
+            by zero e = inl e
+            by (suc count) e =
+                let z = un.list in
+                let r = room z in
+                let c = un.moves.count z in
+                let i = ap (λ c. times z (own c z)) e in
+                let t = times-same z in
+                let o = at-most-one h1 z in
+                inr (other z (omega (arith, r, c, i, t, o)) ∙ (freed.same z (omega (arith, r, c, i, t, o)) refl ∙ un.notes.others z (not-there z was.place (omega (arith, r, c, i, t, o)))))
+
+        subkeys-now : AreSubkeys h5 un.count un.list entries'
+        subkeys-now = subkeys-elsewhere h1 h5 un.count un.list entries' un.subkeys list-stays entries-stay
+
+        seen-now : IsSeen h5 root was.place after
+        seen-now = sees-reindexed h0 h5 root was.place m stands.0 l un.count un.list 0 moment entries' key-now plain-now class-calm values-calm subkeys-now
+
+        -- the counts
+
+        owned-now : (z : ℕ) → owned z (cells_of after) + times z (list ∷ []) ≡ owned z (cells_of m) + times z (own un.count un.list)
+        owned-now z =
+            let a = owned-reindexed h0 h5 root was.place m stands.0 l un.count un.list 0 moment entries' key-now plain-now class-calm values-calm subkeys-now z in
+            let c = index-cells z in
+            let d = owned-list z un.count un.list entries' in
+            omega (arith, a, c, d)
+
+        shared-now : (z : ℕ) → shared z (cells_of after) ≡ shared z (cells_of m)
+        shared-now z = shared-reindexed h0 h5 root was.place m stands.0 l un.count un.list 0 moment entries' key-now plain-now class-calm values-calm subkeys-now single z
+
+        abbrev recounted : KeySecurityRecord
+        recounted = record ring0.security { fields = record ring0.security.fields { count = ring0.security.fields.count - 1 } }
+
+        security-now : security_at h5 first ≡ Some recounted
+        security-now = ap (security_at h5) (sym secured) ∙ re.reads ring0.security (ap (security_at h4) secured ∙ security-then)
+
+        same-allocated : (z : ℕ) → allocated h5 z ≡ allocated h4 z
+        same-allocated z = elim (cases_eq z first) [
+          | inl e ↦ subst (λ x. allocated h5 x ≡ allocated h4 x) (sym e) (allocated-is h5 first (security-exists h5 first (is_some_of _ _ security-now)) ∙ sym (allocated-is h4 first (security-exists h4 first (is_some_of _ _ security-then))))
+          | inr n ↦ ap (λ (c : Option (List ℕ)). cond (is_some c) 1 0) (re.others z (λ e. n (e ∙ secured)))
+        ]
+
+        -- ---- the graft
+
+        abbrev pub is : Branch Node
+        is = record { place = was.place; node = after; below = rest }
+
+        abbrev was-shared : ℕ → ℕ
+        was-shared z = total_of (shares z) was
+
+        securities-same : (z : ℕ) → 0 < total_of (shares z) is ↔ 0 < total_of (shares z) was
+        securities-same z = (
+          (λ some. (let a = shared-now z in let c = below-parts (shares z) in omega (arith, a, c, some))),
+          (λ some. (
+              let t = branch-total (shares z) was p keys e in
+              let q = first-is z (omega (arith, t, some)) in
+              let o = shares-own h0 root was.place m stands.0.reads in
+              let u = branch-total (shares m.key.fields.security) was p keys e in
+              let v = first-is m.key.fields.security (omega (arith, o, u)) in
+              let own_here : 0 < shared z (cells_of m) = subst (λ z. 0 < shared z (cells_of m)) (v ∙ sym q) o in
+              let a = shared-now z in
+              omega (arith, a, own_here))),
+        )
+
+        ring-first : IsRecounted h0 h5 (total_of (shares first) was) (total_of (shares first) is) first
+        ring-first = record {
+          security = ring0.security;
+          count = ring0.security.fields.count - 1;
+          reads = ring0.reads;
+          now = security-now;
+          plain = λ q. subst (λ z. IsPlainSecurity (held h5 z)) secured (re.plain (subst (λ z. IsPlainSecurity (held h4 z)) (sym secured) (subst IsPlainSecurity (sym (same-held h0 h4 first first-calm)) q)));
+          counted = (let a = shared-now first in let c = below-parts (shares first) in let d = names-once in let o = some-count in omega (arith, a, c, d, o));
+        }
+
+        pub grafts : IsGrafted h0 h5 root was is first [] [] []
+        grafts = record {
+          place = refl;
+          alike = record { name = refl; parent = refl; class_length = refl };
+          stands = stands-unhung h0 h5 root was after spot.index seen-now stands.2 fits rest-calm;
+          count = λ z. (
+              let a = same-allocated z in
+              let c = freed.count z in
+              let d = same-number z in
+              let f = un.moves.count z in
+              let g = owned-now z in
+              let i = below-parts (owns z) in
+              let j = n-parts z in
+              omega (arith, a, c, d, f, g, i, j));
+          same = λ z some none spare apart. (
+              let i = below-parts (owns z) in
+              let j = n-parts z in
+              let q = m-parts z in
+              calm z some (omega (arith, none, q)) (omega (arith, none, q)) (omega (arith, none, i, j)) apart);
+          securities = securities-same;
+          ring = λ z some. subst (λ z. IsRecounted h0 h5 (total_of (shares z) was) (total_of (shares z) is) z) (sym (there-is z first some)) ring-first;
+        }

@@ -1,0 +1,133 @@
+-- A key without subkeys and its parent: the cells of each, each met once, and the one security.
+use Rattle.std.proofs.Common.{◌≡◌, ◌≢◌, inl, inr, ℕ, zero, suc, ◌+◌, ◌<◌, ◌≤◌, Some, List, [], ◌∷◌, refl, sym, ap, ◌∙◌, arith}
+use Rattle.std.proofs.lemmas.Bool.{cases_eq}
+use Rattle.reg_heap.specs.Paths.{Path}
+use Rattle.reg_heap.specs.Internal.Heaps.{Heap, allocated}
+use Rattle.reg_heap.specs.Internal.Kinds.{times, is_own, owned}
+use Rattle.reg_shape.specs.Internal.Forests.{Forest, Branch, total, total_of}
+use Rattle.reg_records.specs.SubkeyLists.{Entry}
+use Rattle.reg_shape.specs.Nodes.{Node, entries_of}
+use Rattle.reg_shape.specs.Nodes.Index.{Unlisted}
+use Rattle.reg_shape.specs.Internal.Shapes.{index_cells, cells_of, owns, shares, StandsIn}
+use Rattle.reg_shape.specs.Internal.Grafts.{IsShape, IsLeafAt, branch_in, branch_at, unhang}
+use Rattle.reg_shape.proofs.Graft.Branches.{branch-stands, branch-total}
+use Rattle.reg_shape.proofs.Wholeness.ShapeCounts.{tally-append}
+use Rattle.reg_shape.proofs.Graft.ForestInsert.{leaf-at, total-unhang}
+use Rattle.reg_shape.proofs.Walking.WalkRefinement.{IsLooked, look-open}
+use Rattle.reg_shape.proofs.Wholeness.WholeShapes.{shares-own}
+use Rattle.reg_values.proofs.ValueFreeing.SwapChains.{times-same}
+use Rattle.reg_index.specs.Subkeys.{own}
+use Rattle.reg_index.proofs.SubkeysOpening.{length-subkeys}
+use Rattle.reg_index.proofs.SubkeysFrame.{times-not}
+use Rattle.reg_index.proofs.RefinementOfSubkeys.{IsSingle}
+use Rattle.reg_tree.specs.Internal.KeyNodeChanges.{raised}
+use Rattle.reg_tree.proofs.DeleteKey.DeletedKeyCells.{own-met}
+use Rattle.reg_tree.proofs.DeleteKey.DeletedKeyPosition.{IsHead, head, unlisted, listed}
+use Rattle.reg_tree.proofs.InsertKey.ParentReindexed.{owned-single}
+
+pub not-there : (z y : ℕ) → times z (y ∷ []) ≡ 0 → z ≢ y
+not-there z y n e = let t = times-same y in let s = ap (λ w. times w (y ∷ [])) e in omega (arith, n, t, s)
+
+pub there-is : (z y : ℕ) → 0 < times z (y ∷ []) → z ≡ y
+there-is z y l = elim (cases_eq z y) [ inl e ↦ e | inr n ↦ absurd (let t = times-not z y [] (λ e. n (sym e)) refl in omega (arith, t, l)) ]
+
+-- a largest length that no length raises
+pub raised-none : (largest : ℕ) → raised largest 0 ≡ largest
+raised-none largest = omega arith
+
+own-some : (count list : ℕ) → 0 < count → own count list ≡ list ∷ []
+own-some zero list l = absurd (omega arith)
+own-some (suc count) list l = refl
+
+-- ---- before: the parent `was`, and the key `b` below it
+
+module _ (h0 : Heap) (root : ℕ) (keys : Branch Node) (first : ℕ) (w : IsShape h0 root keys first [] []) (p : Path) (was : Branch Node) (e : branch_at p keys ≡ Some was) (single : IsSingle was.node.index)
+    (x : List ℕ) (b : Branch Node) (found : branch_in (x ∷ []) was.below ≡ Some b) (childless : b.node.key.fields.subkeys ≡ 0) where
+  abbrev m : Node
+  m = was.node
+
+  abbrev n : Node
+  n = b.node
+
+  abbrev entries : List Entry
+  entries = entries_of m.index
+
+  pub stands : StandsIn h0 root was
+  stands = branch-stands h0 root was p keys e w.stands
+
+  pub key_stands : StandsIn h0 root b
+  key_stands = branch-stands h0 root b (x ∷ []) was found stands
+
+  pub l : IsLooked h0 was.place m
+  l = look-open h0 was.place m stands.0.reads
+
+  pub n_l : IsLooked h0 b.place n
+  n_l = look-open h0 b.place n key_stands.0.reads
+
+  abbrev pub spot : IsHead x was.below b
+  spot = head h0 root was stands single x b found
+
+  abbrev rest : Forest Node
+  rest = unhang spot.index was.below
+
+  pub leaf : IsLeafAt spot.index b.place n was.below
+  leaf = leaf-at h0 root spot.index b.place n was.below spot.rest stands.2 spot.at childless
+
+  -- all use the one security
+  pub first-is : (z : ℕ) → 0 < total_of (shares z) keys → z ≡ first
+  first-is z some = there-is z first ((w.ringed z).0 some)
+
+  abbrev s : ℕ
+  s = n.key.fields.security
+
+  named : 0 < total_of (shares s) was
+  named =
+      let o = shares-own h0 root b.place n key_stands.0.reads in
+      let t = branch-total (shares s) b (x ∷ []) was found in
+      omega (arith, o, t)
+
+  pub secured : s ≡ first
+  secured = let t = branch-total (shares s) was p keys e in let o = named in first-is s (omega (arith, o, t))
+
+  -- its cells, and its parent's
+  abbrev list : ℕ
+  list = m.key.fields.subkeys_list
+
+  some-subkeys : 0 < m.key.fields.subkeys
+  some-subkeys =
+      let i = listed h0 root was stands single x b found in
+      let long = length-subkeys h0 m.key.fields.subkeys list entries i.subkeys.read in
+      let within = i.within in
+      omega (arith, long, within)
+
+  pub index-cells : (z : ℕ) → owned z (index_cells m.index) ≡ times z (list ∷ [])
+  index-cells z = owned-single h0 z m.key.fields.subkeys list m.index l.index_is single ∙ ap (times z) (own-some m.key.fields.subkeys list some-subkeys)
+
+  pub m-parts : (z : ℕ) → owned z (cells_of m) ≡ times z (was.place ∷ []) + (owned z l.class_cells + owned z l.value_cells) + times z (list ∷ [])
+  m-parts z =
+      let a = tally-append (is_own z) m.cells (index_cells m.index) in
+      let c = ap (owned z) l.cells ∙ own-met z was.place m.key l.class_cells l.value_cells in
+      let i = index-cells z in
+      omega (arith, a, c, i)
+
+  pub n-unlisted : n.index ≡ Unlisted
+  n-unlisted = unlisted h0 n.key.fields.subkeys n.key.fields.subkeys_list n.index n_l.index_is childless
+
+  pub n-parts : (z : ℕ) → owned z (cells_of n) ≡ owned z n.cells
+  n-parts z =
+      let a = tally-append (is_own z) n.cells (index_cells n.index) in
+      let i : ◌≡◌ {A = ℕ} (owned z (index_cells n.index)) 0 = ap (λ i. owned z (index_cells i)) n-unlisted in
+      omega (arith, a, i)
+
+  pub below-parts : (f : ℕ → Node → ℕ) → total f rest + f b.place n ≡ total f was.below
+  below-parts f = total-unhang f spot.index b.place n was.below leaf
+
+  -- each of these cells is met once
+  pub room : (z : ℕ) → (times z (was.place ∷ []) + (owned z l.class_cells + owned z l.value_cells) + times z (list ∷ [])) + (total (owns z) rest + owned z n.cells) + times z (first ∷ []) ≤ allocated h0 z
+  room z =
+      let t = branch-total (owns z) was p keys e in
+      let x = w.exact z in
+      let a = m-parts z in
+      let c = n-parts z in
+      let d = below-parts (owns z) in
+      omega (arith, t, x, a, c, d)

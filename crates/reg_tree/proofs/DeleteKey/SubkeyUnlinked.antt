@@ -1,0 +1,114 @@
+-- A subkey found by its name, and taken out of its parent's list.
+use Rattle.std.proofs.Common.{◌≡◌, ◌≢◌, ℕ, zero, suc, ◌<◌, Some, IsSome, inl, inr, List, [], ◌∷◌, length, get_or, refl, sym, ap, ◌∙◌, subst, arith}
+use Rattle.std.specs.Prelude.{Ok, Err}
+use Rattle.std.specs.List.{AllByRecursion}
+use Rattle.std.specs.Ordering.{nat_cmp}
+use Rattle.std.specs.declared.cmp.Ordering.{Ordering}
+use Rattle.std.specs.declared.cmp.Ordering.TheVariants.{Less}
+use Rattle.std.specs.Cmp.Lexicographic.{slice_cmp, nat_list_cmp_total}
+use Rattle.std.proofs.lemmas.Bool.{cases_lt}
+use Rattle.std.proofs.lemmas.Cmp.{tied_itself}
+use Rattle.std.proofs.lemmas.List.{get_or-map, length-map}
+use Rattle.reg_names.specs.Names.{folded}
+use Rattle.reg_heap.specs.Internal.Heaps.{Heap}
+use Rattle.reg_heap.specs.Internal.Kinds.{times}
+use Rattle.reg_records.specs.KeyNodes.{KeyRecord, key_at}
+use Rattle.reg_records.specs.SubkeyLists.{Entry}
+use Rattle.reg_index.specs.Subkeys.{AreSubkeys, IsPlace, Moves, Rises, name_at, name_or_none, names_in, own, without}
+use Rattle.reg_index.proofs.SubkeysOpening.{length-subkeys, subkeys-open}
+use Rattle.reg_index.proofs.SubkeysFrame.{key-or-leaf, key-stays, times-not}
+use Rattle.reg_tree.specs.Internal.KeyNodeChanges.{HasSubkeysList, Notes, noted_subkeys}
+use Rattle.reg_tree.specs.Internal.KeyDeletion.{IsListed, IsUnlinked}
+use Rattle.reg_tree.proofs.Invariant.CellReadings.{some_of, is_some_of}
+
+abbrev none : Entry
+none = record { place = 0; hint = 0 }
+
+abbrev order : List ℕ → List ℕ → Ordering
+order = slice_cmp nat_cmp
+
+-- no name comes before itself
+not-itself : (a b n : List ℕ) → a ≡ n → b ≡ n → order a b ≡ Less → ⊥
+not-itself a b n p q l = let e = sym l ∙ ((λ i. order (p i) (q i)) ∙ tied_itself nat_list_cmp_total n) in cc
+
+-- names that rise have a name once
+once : (names : List (List ℕ)) (n : List ℕ) (i j : ℕ) → Rises names → i < length names → j < length names → get_or names i [] ≡ n → get_or names j [] ≡ n → i ≡ j
+once names n i j r p q e f = elim (cases_lt i j) [
+  | inl l ↦ absurd (not-itself (get_or names i []) (get_or names j []) n e f (r i j l q))
+  | inr l ↦ elim (cases_lt j i) [
+    | inl m ↦ absurd (not-itself (get_or names j []) (get_or names i []) n f e (r j i m p))
+    | inr m ↦ omega (arith, l, m)
+  ]
+]
+
+all-at : (P : Entry → Type 0) (entries : List Entry) (index : ℕ) → AllByRecursion P entries → index < length entries → P (get_or entries index none)
+all-at P [] index a l = absurd (omega arith)
+all-at P (e ∷ es) zero a l = a.0
+all-at P (e ∷ es) (suc i) a l = all-at P es i a.1 (omega arith)
+
+module _ (h : Heap) (parent key : ℕ) (above : KeyRecord) (entries : List Entry) (index : ℕ) (l : IsListed h parent key above entries index) where
+  -- the key is there
+  pub listed-there : IsSome (key_at h key)
+  listed-there = subst (λ o. IsSome (key_at h o)) l.place (all-at (λ (e : Entry). IsSome (key_at h e.place)) entries index l.subkeys.keys l.within)
+
+  pub parent-there : IsSome (key_at h parent)
+  parent-there = is_some_of _ _ l.reads
+
+  abbrev names : List (List ℕ)
+  names = names_in h entries
+
+  many : length names ≡ length entries
+  many = length-map entries (λ (e : Entry). folded (name_at h e.place))
+
+  its-name : get_or names index [] ≡ folded (name_at h key)
+  its-name = get_or-map (λ (e : Entry). folded (name_at h e.place)) entries index none [] l.within ∙ ap (λ o. folded (name_at h o)) l.place
+
+  module _ (name : List ℕ) (named : (r : KeyRecord) → key_at h key ≡ Some r → name ≡ r.name) where
+    name-is : folded name ≡ folded (name_at h key)
+    name-is = let k = some_of (key_at h key) listed-there in ap folded (named k.0 k.1 ∙ sym (ap name_or_none k.1))
+
+    -- it is found at its index
+    pub found-there : (found : ℕ) → IsPlace names (folded name) (Ok found) → found ≡ index
+    found-there found p =
+        let n = many in
+        let w = l.within in
+        once names (folded name) found index l.subkeys.rising p.0 (omega (arith, n, w)) p.1 (its-name ∙ sym name-is)
+
+    pub not-missing : (place : ℕ) → IsPlace names (folded name) (Err place) → ⊥
+    not-missing place p =
+        let n = many in
+        let w = l.within in
+        let here = its-name ∙ sym name-is in
+        elim (cases_lt index place) [
+          | inl b ↦ not-itself (get_or names index []) (folded name) (folded name) here refl (p.1 index b)
+          | inr b ↦ not-itself (folded name) (get_or names index []) (folded name) refl here (p.2 index b (omega (arith, n, w)))
+        ]
+
+  module _ (count list : ℕ) (has : HasSubkeysList h parent count list) where
+    abbrev same : (count ≡ above.fields.subkeys) × (list ≡ above.fields.subkeys_list)
+    same = has above l.reads
+
+    pub listed-subkeys : AreSubkeys h count list entries
+    listed-subkeys = subst (λ n. AreSubkeys h n list entries) (sym same.0) (subst (λ o. AreSubkeys h above.fields.subkeys o entries) (sym same.1) l.subkeys)
+
+    pub listed-within : index < count
+    listed-within = let n = length-subkeys h count list entries listed-subkeys.read in let w = l.within in omega (arith, n, w)
+
+    -- the parent's key node is not the list
+    apart : parent ≢ list
+    apart e = key-or-leaf h list entries (subkeys-open h count list entries listed-subkeys.read (let w = listed-within in omega (arith, w))).leaf (subst (λ o. IsSome (key_at h o)) e parent-there)
+
+    pub parent-stays : (k : Heap) (after : List ℕ) → Moves h k (list ∷ []) after → key_at k parent ≡ key_at h parent
+    parent-stays k after m = key-stays h k (λ z. times z (list ∷ [])) (λ z. times z after) parent m parent-there (times-not parent list [] (λ e. apart (sym e)) (omega arith))
+
+    pub unlinked : (found count' list' : ℕ) (mid new : Heap) (moment : ℕ) → found ≡ index
+        → ((es : List Entry) → AreSubkeys h count list es → AreSubkeys mid count' list' (without found es)) → Moves h mid (list ∷ []) (own count' list') → Notes mid new parent (noted_subkeys count' list' 0 moment)
+        → IsUnlinked h new parent above entries index moment
+    unlinked found count' list' mid new moment e after moves notes = record {
+      mid = mid;
+      count = count';
+      list = list';
+      subkeys = subst (λ i. AreSubkeys mid count' list' (without i entries)) e (after entries listed-subkeys);
+      moves = subst (λ o. Moves h mid (o ∷ []) (own count' list')) same.1 moves;
+      notes = notes;
+    }

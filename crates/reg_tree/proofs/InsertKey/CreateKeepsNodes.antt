@@ -1,0 +1,80 @@
+-- A tree's nodes where keys were made.
+use Rattle.std.proofs.Common.{◌≡◌, ◌≢◌, ◌↔◌, ℕ, ◌≤◌, true, List, [], ◌++◌, map, length, sym, subst, arith, length-append}
+use Rattle.std.specs.Prelude.{Result, Ok, Err, OnOk, OnErr, IfOk}
+use Rattle.reg_names.specs.Names.{folded, path_of}
+use Rattle.reg_heap.specs.Paths.{Path}
+use Rattle.reg_heap.specs.Edits.{folded_path, with_keys, missing}
+use Rattle.reg_arena.specs.Arena.{Bins}
+use Rattle.reg_tree.specs.declared.node.Node.{Node}
+use Rattle.reg_tree.specs.declared.node.Created.{Created}
+use Rattle.reg_tree.specs.declared.fault.TreeFault.{TreeFault}
+use Rattle.reg_tree.specs.TreeKeys.{Keys, tree_in, IsAt, IsThere, KeepsNodes}
+use Rattle.reg_tree.specs.TreeInvariant.{Holds, IsHere}
+use Rattle.reg_tree.specs.Internal.KeyCreation.{IsCreated}
+use Rattle.reg_tree.proofs.Invariant.NodeLemmas.{seen_as, here_at, of_tree}
+use Rattle.reg_tree.proofs.PathWalk.PathSteps.{as-many}
+use Rattle.reg_tree.proofs.Invariant.KeyOfTree.{shallow}
+
+abbrev Answer : Type 0
+Answer = Result Created TreeFault
+
+module _ (bins : Bins) (root : ℕ) (holds : Holds bins.bytes root) (now : Keys) (view_is : seen_as bins root ≡ now) where
+  pub from_at : (node : Node) → IsThere now node → (t : IsHere bins.bytes node.offset) × (node.depth ≡ length t.path)
+  from_at node some = (here_at bins root holds now view_is node some.0 some.1, some.1.depth)
+
+  module _ (new : Bins) (result : Answer) (from : Node) (some : IsThere now from) (text : List ℕ) (moment : ℕ)
+      (ok : (t : IsHere bins.bytes from.offset) → from.depth ≡ length t.path → IfOk result (λ made. IsCreated bins.bytes new.bytes t.root t.path from (path_of text) moment made.node))
+      (err : OnErr result (new ≡ bins)) where
+    its : (p : Path) → IsAt now p from → IfOk result (λ made. IsCreated bins.bytes new.bytes root p from (path_of text) moment made.node)
+    its p at = ok (here_at bins root holds now view_is from p at) at.depth
+
+    pub holds_created : Holds new.bytes root
+    holds_created = by result (its some.0 some.1) err
+      where
+        by : (r : Answer) → IfOk r (λ made. IsCreated bins.bytes new.bytes root some.0 from (path_of text) moment made.node) → OnErr r (new ≡ bins) → Holds new.bytes root
+        by (Ok made) c e = c.holds
+        by (Err f) c e = subst (λ (b : Bins). Holds b.bytes root) (sym e) holds
+
+    pub tree_created : (p : Path) → IsAt now p from → OnOk result (tree_in new.bytes root ≡ with_keys now.tree p (path_of text) moment)
+    tree_created p at = by result (its p at)
+      where
+        by : (r : Answer) → IfOk r (λ made. IsCreated bins.bytes new.bytes root p from (path_of text) moment made.node) → OnOk r (tree_in new.bytes root ≡ with_keys now.tree p (path_of text) moment)
+        by (Ok made) c = of_tree bins root holds now view_is (λ t. tree_in new.bytes root ≡ with_keys t p (path_of text) moment) c.tree
+        by (Err f) c = c
+
+    pub opened_created : (new_is : (t : IsHere bins.bytes from.offset) → IfOk result (λ made. (made.is_new ≡ true) ↔ (missing (tree_in bins.bytes t.root) t.path (path_of text) ≢ [])))
+        → (p : Path) → IsAt now p from → IfOk result (λ made. IsAt (seen_as new root) (p ++ folded_path text) made.node × ((made.is_new ≡ true) ↔ (missing now.tree p (path_of text) ≢ [])))
+    opened_created new_is p at = by result (its p at) (new_is (here_at bins root holds now view_is from p at))
+      where
+        by : (r : Answer) → IfOk r (λ made. IsCreated bins.bytes new.bytes root p from (path_of text) moment made.node) → IfOk r (λ made. (made.is_new ≡ true) ↔ (missing (tree_in bins.bytes root) p (path_of text) ≢ []))
+            → IfOk r (λ made. IsAt (seen_as new root) (p ++ folded_path text) made.node × ((made.is_new ≡ true) ↔ (missing now.tree p (path_of text) ≢ [])))
+        by (Ok made) c n =
+            let d = at.depth in
+            let e = c.depth in
+            let l = length-append p (map folded (path_of text)) in
+            let m = as-many (path_of text) in (
+              record { place = c.place; depth = omega (arith, d, e, l, m) },
+              of_tree bins root holds now view_is (λ t. (made.is_new ≡ true) ↔ (missing t p (path_of text) ≢ [])) n,
+            )
+        by (Err f) c n = c
+
+    pub depth_created : IfOk result (λ made. made.node.depth ≤ 512)
+    depth_created = by result (its some.0 some.1)
+      where
+        by : (r : Answer) → IfOk r (λ made. IsCreated bins.bytes new.bytes root some.0 from (path_of text) moment made.node) → IfOk r (λ made. made.node.depth ≤ 512)
+        by (Ok made) c =
+            let t : IsHere new.bytes made.node.offset = record { root = root; path = some.0 ++ map folded (path_of text); holds = c.holds; at = c.place } in
+            let s = shallow new.bytes made.node.offset t in
+            let d = some.1.depth in
+            let e = c.depth in
+            let l = length-append some.0 (map folded (path_of text)) in
+            let m = as-many (path_of text) in
+            omega (arith, s, d, e, l, m)
+        by (Err f) c = tt
+
+    pub nodes_created : OnOk result (KeepsNodes now (seen_as new root))
+    nodes_created = by result (its some.0 some.1)
+      where
+        by : (r : Answer) → IfOk r (λ made. IsCreated bins.bytes new.bytes root some.0 from (path_of text) moment made.node) → OnOk r (KeepsNodes now (seen_as new root))
+        by (Ok made) c = subst (λ k. KeepsNodes k (seen_as new root)) view_is (λ q node at. record { place = c.keeps q node.offset at.place; depth = at.depth })
+        by (Err f) c = c

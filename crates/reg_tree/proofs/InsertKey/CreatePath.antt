@@ -1,0 +1,219 @@
+-- The keys of a path made where they are missing: what is there already, and what stands at the end.
+use Rattle.std.proofs.Common.{◌≡◌, ◌≢◌, ◌↔◌, ℕ, ◌+◌, ◌≤◌, ◌<◌, ◌⊎◌, inl, inr, true, false, cond, Option, Some, None, is_some, List, [], ◌∷◌, ◌++◌, map, length, refl, sym, ap, ◌∙◌, subst, arith, length-append}
+use Rattle.std.specs.Option.{option_and_then}
+use Rattle.std.proofs.lemmas.Bool.{false≢true}
+use Rattle.std.proofs.lemmas.List.{append-nil, append_assoc, map-append}
+use Rattle.std.proofs.lemmas.Option.{none-some}
+use Rattle.reg_names.specs.Names.{folded, path_of}
+use Rattle.reg_heap.specs.Paths.{Path, Tree, children_of}
+use Rattle.reg_heap.specs.Edits.{child_path, has_child, with_key, with_keys, missing, last_there}
+use Rattle.reg_heap.specs.Internal.Heaps.{Heap}
+use Rattle.reg_arena.specs.Cells.{cell_at}
+use Rattle.reg_records.specs.KeyNodes.{KeyRecord, key_at}
+use Rattle.reg_shape.specs.Internal.PathLookup.{place_at, subkey_named}
+use Rattle.reg_shape.proofs.Lookup.LookupOfShape.{place-none, place-more, place-append}
+use Rattle.reg_tree.specs.declared.node.Node.{Node as TreeNode}
+use Rattle.reg_tree.specs.TreeKeys.{tree_in}
+use Rattle.reg_tree.specs.TreeInvariant.{Holds, IsHere}
+use Rattle.reg_tree.specs.Internal.PathWalks.{Stops, Reaches}
+use Rattle.reg_tree.specs.Internal.SpareCells.{MayGrowAll, GrowsAll, IsSpared}
+use Rattle.reg_tree.specs.Internal.KeyCreation.{IsCreated, AreTooMany}
+use Rattle.reg_tree.proofs.Invariant.KeyOfTree.{spelt_is, get-none, get-some, shallow}
+use Rattle.reg_tree.proofs.PathWalk.PathSteps.{as-many, here_then}
+use Rattle.reg_tree.proofs.InsertKey.SpareCellsCarved.{tree-spared, places-spared, may_grow_all}
+
+-- ---- keys that are there
+
+-- names that lead to a key that is there: none of them is missing
+pub record IsThrough (t : Tree) (p : Path) (names more : List (List ℕ)) (moment : ℕ) : Type 0 where
+  pub made : with_keys t p (names ++ more) moment ≡ with_keys t (p ++ map folded names) more moment
+  pub missed : missing t p (names ++ more) ≡ missing t (p ++ map folded names) more
+  pub last : last_there t p (names ++ more) ≡ last_there t (p ++ map folded names) more
+
+module _ (bytes : List ℕ) (root : ℕ) (holds : Holds bytes root) (more : List (List ℕ)) (moment : ℕ) where
+  abbrev h : Heap
+  h = cell_at bytes
+
+  abbrev T : Tree
+  T = tree_in bytes root
+
+  one-there : (p : Path) (name : List ℕ) (o : ℕ) → place_at h root (child_path p name) ≡ Some o → has_child T p name ≡ true
+  one-there p name o e = get-some bytes root holds (child_path p name) o e
+
+  next-there : (x : List ℕ) (o c : ℕ) (xs : Path) → place_at h o (x ∷ xs) ≡ Some c → (d : ℕ) × (subkey_named h x o ≡ Some d) × (place_at h d xs ≡ Some c)
+  next-there x o c xs e = by (subkey_named h x o) refl (sym (place-more h o x xs) ∙ e)
+    where
+      by : (s : Option ℕ) → subkey_named h x o ≡ s → option_and_then (λ d. place_at h d xs) s ≡ Some c → (d : ℕ) × (subkey_named h x o ≡ Some d) × (place_at h d xs ≡ Some c)
+      by None f e = absurd (none-some _ e)
+      by (Some d) f e = (d, f, e)
+
+  child-place : (p : Path) (x : List ℕ) (o d : ℕ) → place_at h root p ≡ Some o → subkey_named h x o ≡ Some d → place_at h root (p ++ x ∷ []) ≡ Some d
+  child-place p x o d e f =
+      place-append h root p (x ∷ [])
+      ∙ (ap (option_and_then (λ c. place_at h c (x ∷ []))) e
+      ∙ (place-more h o x [] ∙ (ap (option_and_then (λ d. place_at h d [])) f ∙ place-none h d)))
+
+  pub through : (names : List (List ℕ)) (p : Path) (o c : ℕ) → place_at h root p ≡ Some o → place_at h o (map folded names) ≡ Some c → IsThrough T p names more moment
+  through [] p o c e f = record {
+    made = ap (λ p. with_keys T p more moment) (sym (append-nil p));
+    missed = ap (λ p. missing T p more) (sym (append-nil p));
+    last = ap (λ p. last_there T p more) (sym (append-nil p));
+  }
+  through (name ∷ names) p o c e f =
+      let n = next-there (folded name) o c (map folded names) f in
+      let q = child-place p (folded name) o n.0 e n.1 in
+      let r = through names (child_path p name) n.0 c q n.2 in
+      let b = one-there p name n.0 q in
+      let all : child_path p name ++ map folded names ≡ p ++ folded name ∷ map folded names = append_assoc p (folded name ∷ []) (map folded names) in
+      record {
+        made = ap (λ b. with_keys (cond b T (with_key T p name moment)) (child_path p name) (names ++ more) moment) b ∙ (r.made ∙ ap (λ p. with_keys T p more moment) all);
+        missed = ap (λ b. cond b (missing T (child_path p name) (names ++ more)) (name ∷ names ++ more)) b ∙ (r.missed ∙ ap (λ p. missing T p more) all);
+        last = ap (λ b. cond b (last_there T (child_path p name) (names ++ more)) p) b ∙ (r.last ∙ ap (λ p. last_there T p more) all);
+      }
+
+  -- ---- the first that is missing
+
+  none-there : (p : Path) (name : List ℕ) (o : ℕ) → place_at h root p ≡ Some o → subkey_named h (folded name) o ≡ None → has_child T p name ≡ false
+  none-there p name o e f =
+      ap is_some (get-none bytes root holds (child_path p name)
+      (place-append h root p (folded name ∷ [])
+      ∙ (ap (option_and_then (λ c. place_at h c (folded name ∷ []))) e
+      ∙ (place-more h o (folded name) [] ∙ ap (option_and_then (λ d. place_at h d [])) f))))
+
+  -- where the first of some names is missing, all are, and the path leads no further
+  pub missing-all : (names : List (List ℕ)) (p : Path) (o : ℕ) → place_at h root p ≡ Some o → Stops h o names → missing T p names ≡ names
+  missing-all [] p o e s = refl
+  missing-all (name ∷ names) p o e s = ap (λ b. cond b (missing T (child_path p name) names) (name ∷ names)) (none-there p name o e s)
+
+  pub last-here : (names : List (List ℕ)) (p : Path) (o : ℕ) → place_at h root p ≡ Some o → Stops h o names → last_there T p names ≡ p
+  last-here [] p o e s = refl
+  last-here (name ∷ names) p o e s = ap (λ b. cond b (last_there T (child_path p name) names) p) (none-there p name o e s)
+
+-- ---- a path reached as far as it is there
+
+module _ (old : List ℕ) (from : TreeNode) (t : IsHere old from.offset) (path : List ℕ) (parent : TreeNode) (rest : List ℕ) (r : Reaches (cell_at old) from path parent rest) (moment : ℕ) where
+  abbrev names : List (List ℕ)
+  names = path_of path
+
+  abbrev left : List (List ℕ)
+  left = path_of rest
+
+  abbrev passed : List (List ℕ)
+  passed = r.passes.names
+
+  -- the last key that is there
+  abbrev pub parent_here : IsHere old parent.offset
+  parent_here = here_then old from t path parent rest r.passes
+
+  abbrev tree : Tree
+  tree = tree_in old t.root
+
+  way : IsThrough tree t.path passed left moment
+  way = through old t.root t.holds left moment passed t.path from.offset parent.offset t.at r.passes.place
+
+  parent-at : place_at (cell_at old) t.root (t.path ++ map folded passed) ≡ Some parent.offset
+  unfolding here_then
+  parent-at = parent_here.at
+
+  missing-are : missing tree t.path names ≡ left
+  missing-are = ap (missing tree t.path) r.passes.parts ∙ (way.missed ∙ missing-all old t.root t.holds left moment left (t.path ++ map folded passed) parent.offset parent-at r.stops)
+
+  last-is : last_there tree t.path names ≡ t.path ++ map folded passed
+  last-is = ap (last_there tree t.path) r.passes.parts ∙ (way.last ∙ last-here old t.root t.holds left moment left (t.path ++ map folded passed) parent.offset parent-at r.stops)
+
+  with-left : with_keys tree t.path names moment ≡ with_keys tree (t.path ++ map folded passed) left moment
+  with-left = ap (λ ns. with_keys tree t.path ns moment) r.passes.parts ∙ way.made
+
+  all-names : (t.path ++ map folded passed) ++ map folded left ≡ t.path ++ map folded names
+  all-names =
+      append_assoc t.path (map folded passed) (map folded left)
+      ∙ ap (λ ns. t.path ++ ns) (sym (map-append folded passed left) ∙ ap (map folded) (sym r.passes.parts))
+
+  number : length names ≡ length passed + length left
+  number = ap length r.passes.parts ∙ length-append passed left
+
+  -- ---- all are there
+
+  pub created_none : left ≡ [] → IsCreated old old t.root t.path from names moment parent
+  created_none e = record {
+    holds = t.holds;
+    tree = sym (with-left ∙ ap (λ ns. with_keys tree (t.path ++ map folded passed) ns moment) e);
+    place = subst (λ p. place_at (cell_at old) t.root p ≡ Some parent.offset) (sym (append-nil (t.path ++ map folded passed)) ∙ (ap (λ ns. (t.path ++ map folded passed) ++ map folded ns) (sym e) ∙ all-names)) parent-at;
+    depth = (let d = r.passes.depth in let n = number in let z = ap length e in omega (arith, d, n, z));
+    keeps = λ q o e. e;
+  }
+
+  pub new_none : left ≡ [] → (false ≡ true) ↔ (missing tree t.path names ≢ [])
+  new_none e = ((λ f. absurd (false≢true f)), λ some. absurd (some (missing-are ∙ e)))
+
+  pub new_some : (left ≡ [] → ⊥) → (true ≡ true) ↔ (missing tree t.path names ≢ [])
+  new_some some = ((λ f e. some (sym missing-are ∙ e)), λ e. refl)
+
+  -- ---- too many
+
+  pub none_many : left ≡ [] → AreTooMany tree t.path names → ⊥
+  none_many e m = m.some (missing-are ∙ e)
+
+  module _ (depth : from.depth ≡ length t.path) where
+    abbrev Many : Type 0
+    Many = (32 < length left) ⊎ ((512 < parent.depth + length left) ⊎ (500 ≤ length (children_of (tree_in old parent_here.root) parent_here.path)))
+
+    same-depth : parent.depth + length left ≡ length t.path + length names
+    same-depth = let d = r.passes.depth in let n = number in omega (arith, d, n, depth)
+
+    pub too_many : (left ≡ [] → ⊥) → Many → AreTooMany tree t.path names
+    unfolding here_then
+    too_many some m = record { some = λ e. some (sym missing-are ∙ e); many = by m }
+      where
+        by : Many → (32 < length (missing tree t.path names)) ⊎ ((512 < length t.path + length names) ⊎ (500 ≤ length (children_of tree (last_there tree t.path names))))
+        by (inl l) = inl (subst (λ ns. 32 < length ns) (sym missing-are) l)
+        by (inr (inl l)) = inr (inl (subst (λ n. 512 < n) same-depth l))
+        by (inr (inr l)) = inr (inr (subst (λ p. 500 ≤ length (children_of tree p)) (sym last-is) l))
+
+    pub are_many : AreTooMany tree t.path names → Many
+    unfolding here_then
+    are_many m = by m.many
+      where
+        by : (32 < length (missing tree t.path names)) ⊎ ((512 < length t.path + length names) ⊎ (500 ≤ length (children_of tree (last_there tree t.path names)))) → Many
+        by (inl l) = inl (subst (λ ns. 32 < length ns) missing-are l)
+        by (inr (inl l)) = inr (inl (subst (λ n. 512 < n) (sym same-depth) l))
+        by (inr (inr l)) = inr (inr (subst (λ p. 500 ≤ length (children_of tree p)) last-is l))
+
+  pub parent-deep : from.depth ≤ 512 → parent.depth ≤ 1024
+  unfolding here_then
+  parent-deep d =
+      let s = shallow old parent.offset parent_here in
+      let a = length-append t.path (map folded passed) in
+      let m = as-many passed in
+      let e = r.passes.depth in
+      omega (arith, s, a, m, e, d)
+
+  -- ---- they are made
+
+  module _ (depth : from.depth ≡ length t.path) (mid : List ℕ) (spare : List ℕ) (s : IsSpared old mid parent.offset left spare) (short : parent.depth + length left ≤ 512)
+      (few : (k : KeyRecord) → key_at (cell_at old) parent.offset ≡ Some k → k.fields.subkeys < 500) where
+    deep : length parent_here.path + length left ≤ 512
+    unfolding here_then
+    deep = let d = r.passes.depth in let a = length-append t.path (map folded passed) in let m = as-many passed in omega (arith, d, a, m, depth, short)
+
+    missing-first : (name : List ℕ) (others : List (List ℕ)) → left ≡ name ∷ others → subkey_named (cell_at old) (folded name) parent.offset ≡ None
+    missing-first name others e = subst (λ ns. Stops (cell_at old) parent.offset ns) e r.stops
+
+    pub may_make : MayGrowAll mid parent left spare
+    may_make = may_grow_all old mid parent parent_here left spare s missing-first deep few
+
+    module _ (new : List ℕ) (made : TreeNode) (grown : GrowsAll (cell_at mid) (cell_at new) may_make.growing.root may_make.growing.path may_make.growing.keys may_make.growing.first parent made left moment) where
+      pub created : IsCreated old new t.root t.path from names moment made
+      unfolding may_make may_grow_all here_then
+      created =
+          let h : Holds new t.root = record { keys = grown.now; first = t.holds.first; shape = grown.shape; unrooted = grown.unrooted } in
+          record {
+            holds = h;
+            tree = spelt_is new t.root h
+                ∙ (grown.tree
+                ∙ (ap (λ (tree : Tree). with_keys tree (t.path ++ map folded passed) left moment) (tree-spared (cell_at old) (cell_at mid) t.root t.holds.keys t.holds.first spare t.holds.shape s.come ∙ sym (spelt_is old t.root t.holds))
+                ∙ sym with-left));
+            place = subst (λ p. place_at (cell_at new) t.root p ≡ Some made.offset) all-names grown.place;
+            depth = (let d = r.passes.depth in let n = number in let g = grown.depth in omega (arith, d, n, g));
+            keeps = λ q o e. grown.keeps q o (places-spared (cell_at old) (cell_at mid) t.root t.holds.keys t.holds.first spare t.holds.shape s.come q ∙ e);
+          }

@@ -1,0 +1,221 @@
+-- A key whose subkeys were changed and noted: it is seen as it is then. And a key's subkeys, from the keys right below it.
+use Rattle.std.proofs.Common.{◌≡◌, ℕ, zero, suc, ◌+◌, ◌≤◌, Option, Some, None, IsSome, List, [], ◌∷◌, ◌++◌, map, length, refl, sym, ap, ◌∙◌, subst, arith}
+use Rattle.std.specs.List.{AllByRecursion}
+use Rattle.std.specs.Option.{option_map, option_and_then}
+use Rattle.std.proofs.lemmas.List.{append-nil}
+use Rattle.std.proofs.lemmas.Option.{none-some, same_Some}
+use Rattle.reg_names.specs.Names.{folded, hash}
+use Rattle.reg_heap.specs.Internal.Heaps.{Heap}
+use Rattle.reg_heap.specs.Internal.Kinds.{Found, times, owned, shared}
+use Rattle.reg_heap.specs.Internal.Kinds.Kind.{Class}
+use Rattle.reg_shape.specs.Internal.Forests.{Forest, Branch, heads, Stand}
+use Rattle.reg_shape.specs.Internal.Forests.Forest.{End, Rooted as Hangs}
+use Rattle.reg_records.specs.RecordCells.{held}
+use Rattle.reg_records.specs.KeyNodes.{KeyRecord, key_at, IsPlainKey}
+use Rattle.reg_records.specs.SubkeyLists.{SubkeysList, Form, Entry, places_in}
+use Rattle.reg_records.specs.declared.lists.ListForm.TheVariants.{IndexRoot, IndexLeaf, FastLeaf, HashLeaf}
+use Rattle.reg_records.specs.BigData.{if_any}
+use Rattle.reg_shape.specs.Nodes.{Node, KeyList, Index, members_at, list_at, key_lists_at, index_as, index_at, entries_of, node_of, node_in, met_of, look}
+use Rattle.reg_shape.specs.Nodes.Index.{Unlisted, Listed, Rooted}
+use Rattle.reg_shape.specs.Written.{Pairwise, Precedes, Fits, IsWrittenIndex}
+use Rattle.reg_shape.specs.Internal.Shapes.{index_cells, cells_of, IsSeen, StandsIn}
+use Rattle.reg_shape.proofs.Walking.IndexWalks.{then-open}
+use Rattle.reg_shape.proofs.Walking.InnerReadings.{class-inner, members-inner}
+use Rattle.reg_shape.proofs.Frame.ReadingFrame.{pieces-local, members-local}
+use Rattle.reg_shape.proofs.Frame.KeyFrame.{Keeps, agree-inner}
+use Rattle.reg_shape.proofs.Frame.WrittenFrame.{list-kept}
+use Rattle.reg_shape.proofs.Lookup.LookupOfShape.{key-looked}
+use Rattle.reg_shape.proofs.Walking.WalkRefinement.{IsLooked, look-open}
+use Rattle.reg_index.specs.Subkeys.{AreSubkeys, Rises, name_at, name_or_none, names_in, own}
+use Rattle.reg_index.proofs.SubkeysOpening.{length-subkeys}
+use Rattle.reg_index.proofs.RefinementOfSubkeys.{index_for, IsSingle, subkeys-index, index-entries, index-written, index-subkeys, rises-of}
+use Rattle.reg_tree.specs.Internal.KeyNodeChanges.{noted_subkeys}
+use Rattle.reg_tree.proofs.Invariant.CellReadings.{is_some_of}
+use Rattle.reg_tree.proofs.Invariant.OwnCells.{own-parts, shared-parts}
+
+-- ---- the list's own cell
+
+pub owned-list : (z count list : ℕ) (entries : List Entry) → owned z (index_cells (index_for count list entries)) ≡ times z (own count list)
+owned-list z zero list entries = refl
+owned-list z (suc count) list entries = refl
+
+pub shared-list : (z count list : ℕ) (entries : List Entry) → ◌≡◌ {A = ℕ} (shared z (index_cells (index_for count list entries))) 0
+shared-list z zero list entries = refl
+shared-list z (suc count) list entries = refl
+
+pub shared-single : (z : ℕ) (index : Index) → IsSingle index → ◌≡◌ {A = ℕ} (shared z (index_cells index)) 0
+shared-single z Unlisted s = refl
+shared-single z (Listed list) s = refl
+shared-single z (Rooted place lists) s = absurd s
+
+-- ---- a key's subkeys changed: `h` before, `k` when that was noted in the key node
+
+module _ (h k : Heap) (root place : ℕ) (node : Node) (seen : IsSeen h root place node) (l : IsLooked h place node) (count list name moment : ℕ) (entries : List Entry)
+    (key-now : key_at k place ≡ Some (noted_subkeys count list name moment node.key)) (plain-now : IsPlainKey (held k place))
+    (class-calm : Keeps h k l.class_cells) (values-calm : Keeps h k l.value_cells) (subkeys : AreSubkeys k count list entries) where
+  abbrev new_key : KeyRecord
+  new_key = noted_subkeys count list name moment node.key
+
+  -- the key as it is after the change
+  abbrev pub reindexed : Node
+  reindexed = record { key = new_key; class = node.class; values = node.values; cells = met_of place new_key l.class_cells l.value_cells; index = index_for count list entries }
+
+  pub looks-reindexed : look k place ≡ Some reindexed
+  unfolding look
+  looks-reindexed =
+      let key = node.key in
+      let class = pieces-local (if_any Class key.fields.class_length key.fields.class) h k (node.class, l.class_cells) l.class_is (agree-inner h k l.class_cells (class-inner h key.fields.class_length key.fields.class (node.class, l.class_cells) l.class_is) class-calm) in
+      let values = members-local key.fields.values key.fields.values_list h k (node.values, l.value_cells) l.values_are (agree-inner h k l.value_cells (members-inner h key.fields.values key.fields.values_list (node.values, l.value_cells) l.values_are) values-calm) in
+      let index = subkeys-index k count list entries subkeys in
+      ap (option_and_then (node_in k place)) key-now
+      ∙ (ap (option_and_then (λ class. option_and_then (λ values. option_map (node_of place new_key class values) (index_at k count list)) (members_at key.fields.values key.fields.values_list k))) class
+      ∙ (ap (option_and_then (λ values. option_map (node_of place new_key (node.class, l.class_cells) values) (index_at k count list))) values
+      ∙ ap (option_map (node_of place new_key (node.class, l.class_cells) (node.values, l.value_cells))) index))
+
+  number : count ≡ length (entries_of (index_for count list entries))
+  number = sym (length-subkeys k count list entries subkeys.read) ∙ ap length (sym (index-entries k count list entries subkeys))
+
+  pub sees-reindexed : IsSeen k root place reindexed
+  sees-reindexed =
+      let w = seen.written in
+      let few = subkeys.few in
+      let key = node.key in
+      record {
+        reads = looks-reindexed;
+        written = record {
+          plain = plain-now;
+          flags = w.flags;
+          name = w.name;
+          parent = w.parent;
+          class = w.class;
+          values = record {
+            list = list-kept h k key.fields.values key.fields.values_list node.values l.value_cells l.values_are (agree-inner h k l.value_cells (members-inner h key.fields.values key.fields.values_list (node.values, l.value_cells) l.values_are) values-calm) w.values.list;
+            longest_name = w.values.longest_name;
+            largest = w.values.largest;
+          };
+          subkeys = number;
+          few = omega (arith, few);
+          none = subkeys.unlisted;
+          index = index-written k count list entries subkeys;
+        };
+      }
+
+  -- its own cells are what they were, but for the list
+  pub owned-reindexed : (z : ℕ) → owned z (cells_of reindexed) + owned z (index_cells node.index) ≡ owned z (cells_of node) + owned z (index_cells (index_for count list entries))
+  owned-reindexed z =
+      let a = ap (λ (found : List Found). owned z (found ++ index_cells node.index)) l.cells ∙ own-parts z place node.key l.class_cells l.value_cells node.index in
+      let b = own-parts z place new_key l.class_cells l.value_cells (index_for count list entries) in
+      omega (arith, a, b)
+
+  pub shared-reindexed : IsSingle node.index → (z : ℕ) → shared z (cells_of reindexed) ≡ shared z (cells_of node)
+  shared-reindexed single z =
+      let a = ap (λ (found : List Found). shared z (found ++ index_cells node.index)) l.cells ∙ shared-parts z place node.key l.class_cells l.value_cells node.index in
+      let b = shared-parts z place new_key l.class_cells l.value_cells (index_for count list entries) in
+      let c = shared-single z node.index single in
+      let d = shared-list z count list entries in
+      omega (arith, a, b, c, d)
+
+-- ---- a key's subkeys, from the keys below it
+
+-- each key reads as its node
+abbrev pub AreLooked : Heap → List (ℕ × Node) → Type 0
+AreLooked h below = AllByRecursion (λ (e : ℕ × Node). look h e.0 ≡ Some e.1) below
+
+pub heads-looked : (h : Heap) (root : ℕ) (F : Forest Node) → Stand (IsSeen h root) Fits F → AreLooked h (heads F)
+heads-looked h root End a = tt
+heads-looked h root (Hangs place node below beside) a = (a.0.0.reads, heads-looked h root beside a.1)
+
+abbrev names_of : List (ℕ × Node) → List (List ℕ)
+names_of below = map (λ (e : ℕ × Node). e.1.key.name) below
+
+first-of : (x y : ℕ) (xs ys : List ℕ) → ◌≡◌ {A = List ℕ} (x ∷ xs) (y ∷ ys) → x ≡ y
+first-of x y xs ys e = cc
+
+rest-of : (x y : ℕ) (xs ys : List ℕ) → ◌≡◌ {A = List ℕ} (x ∷ xs) (y ∷ ys) → xs ≡ ys
+rest-of x y xs ys e = cc
+
+-- entries name the keys below in order
+module _ (h : Heap) where
+  key-of : (place : ℕ) (node : Node) (e : Entry) → look h place ≡ Some node → place ≡ e.place → key_at h e.place ≡ Some node.key
+  key-of place node e l p = subst (λ o. key_at h o ≡ Some node.key) p (key-looked h place node l)
+
+  keys-there : (below : List (ℕ × Node)) (entries : List Entry) → AreLooked h below → map (λ (e : ℕ × Node). e.0) below ≡ places_in entries → AllByRecursion (λ (e : Entry). IsSome (key_at h e.place)) entries
+  keys-there below [] a p = tt
+  keys-there [] (e ∷ entries) a p = absurd (let n = ap length p in omega (arith, n))
+  keys-there ((place, node) ∷ below) (e ∷ entries) a p =
+      (is_some_of _ _ (key-of place node e a.0 (first-of _ _ _ _ p)), keys-there below entries a.1 (rest-of _ _ _ _ p))
+
+  names-there : (below : List (ℕ × Node)) (entries : List Entry) → AreLooked h below → map (λ (e : ℕ × Node). e.0) below ≡ places_in entries → names_in h entries ≡ map folded (names_of below)
+  names-there [] [] a p = refl
+  names-there ((place, node) ∷ below) [] a p = absurd (let n = ap length p in omega (arith, n))
+  names-there [] (e ∷ entries) a p = absurd (let n = ap length p in omega (arith, n))
+  names-there ((place, node) ∷ below) (e ∷ entries) a p =
+      let one : name_at h e.place ≡ node.key.name = ap name_or_none (key-of place node e a.0 (first-of _ _ _ _ p)) in
+      let more = names-there below entries a.1 (rest-of _ _ _ _ p) in
+      λ i. folded (one i) ∷ more i
+
+  hashes-there : (below : List (ℕ × Node)) (entries : List Entry) → AreLooked h below → map (λ (e : ℕ × Node). e.0) below ≡ places_in entries → map (λ (e : ℕ × Node). hash e.1.key.name) below ≡ map (λ (e : Entry). e.hint) entries
+      → AllByRecursion (λ (e : Entry). e.hint ≡ hash (name_at h e.place)) entries
+  hashes-there below [] a p q = tt
+  hashes-there [] (e ∷ entries) a p q = absurd (let n = ap length p in omega (arith, n))
+  hashes-there ((place, node) ∷ below) (e ∷ entries) a p q =
+      let one : name_at h e.place ≡ node.key.name = ap name_or_none (key-of place node e a.0 (first-of _ _ _ _ p)) in
+      (sym (first-of _ _ _ _ q) ∙ ap hash (sym one), hashes-there below entries a.1 (rest-of _ _ _ _ p) (rest-of _ _ _ _ q))
+
+all-names : (P : List ℕ → Type 0) (below : List (ℕ × Node)) → AllByRecursion (λ (e : ℕ × Node). P e.1.key.name) below → AllByRecursion P (names_of below)
+all-names P [] a = tt
+all-names P (e ∷ below) a = (a.0, all-names P below a.1)
+
+names-ordered : (below : List (ℕ × Node)) → Pairwise (λ (a b : ℕ × Node). Precedes a.1.key.name b.1.key.name) below → Pairwise Precedes (names_of below)
+names-ordered [] a = tt
+names-ordered (e ∷ below) a = (all-names (Precedes e.1.key.name) below a.0, names-ordered below a.1)
+
+few-entries : (index : Index) → IsWrittenIndex index → IsSingle index → length (entries_of index) ≤ 500
+few-entries Unlisted w s = omega arith
+few-entries (Listed list) w s = let few = w.few in let all = ap length (append-nil list.list.entries) in omega (arith, few, all)
+few-entries (Rooted place lists) w s = absurd s
+
+-- a key whose subkeys stand in at most one list has these subkeys
+pub subkeys-below : (h : Heap) (root place : ℕ) (node : Node) (below : List (ℕ × Node)) → IsSeen h root place node → IsSingle node.index → Fits place node below → AreLooked h below
+    → AreSubkeys h node.key.fields.subkeys node.key.fields.subkeys_list (entries_of node.index)
+subkeys-below h root place node below seen single fits looked =
+    let l = look-open h place node seen.reads in
+    let w = seen.written in
+    let entries : List Entry = entries_of node.index in
+    let few = few-entries node.index w.index single in
+    let number = w.subkeys in
+    record {
+      read = index-subkeys h node.key.fields.subkeys node.key.fields.subkeys_list node.index l.index_is w.index single w.subkeys;
+      few = omega (arith, few, number);
+      unlisted = w.none;
+      keys = keys-there h below entries looked fits.places;
+      hashes = hashes-there h below entries looked fits.places fits.hashes;
+      rising = subst Rises (sym (names-there h below entries looked fits.places)) (rises-of (names_of below) (names-ordered below fits.order));
+    }
+
+pub branch-subkeys : (h : Heap) (root : ℕ) (b : Branch Node) → StandsIn h root b → IsSingle b.node.index → AreSubkeys h b.node.key.fields.subkeys b.node.key.fields.subkeys_list (entries_of b.node.index)
+branch-subkeys h root b stands single = subkeys-below h root b.place b.node (heads b.below) stands.0 single stands.1 (heads-looked h root b.below stands.2)
+
+-- the cells of one list are the list's own cell
+module _ (h : Heap) (z count list : ℕ) where
+  some-cells : Option Index → ℕ
+  some-cells None = 0
+  some-cells (Some index) = owned z (index_cells index)
+
+  by-form : (l : SubkeysList) (form : Form) (index : Index) → index_as h list l form ≡ Some index → IsSingle index → owned z (index_cells index) ≡ times z (list ∷ [])
+  unfolding some-cells
+  by-form l IndexRoot index e single = absurd (rooted (key_lists_at h (places_in l.entries)) e)
+    where
+      rooted : (o : Option (List KeyList)) → option_map (Rooted list) o ≡ Some index → ⊥
+      rooted None e = none-some _ e
+      rooted (Some lists) e = subst IsSingle (sym (same_Some _ _ e)) single
+  by-form l IndexLeaf index e single = ap some-cells (sym e)
+  by-form l FastLeaf index e single = ap some-cells (sym e)
+  by-form l HashLeaf index e single = ap some-cells (sym e)
+
+  pub owned-single : (index : Index) → index_at h count list ≡ Some index → IsSingle index → owned z (index_cells index) ≡ times z (own count list)
+  owned-single index e single = by count index e single
+    where
+      by : (count : ℕ) (index : Index) → index_at h count list ≡ Some index → IsSingle index → owned z (index_cells index) ≡ times z (own count list)
+      by zero index e single = ap (λ i. owned z (index_cells i)) (sym (same_Some _ _ e))
+      by (suc count) index e single = let o = then-open (λ (l : SubkeysList). index_as h list l l.form) (list_at h list) index e in by-form o.0 o.0.form index o.2 single

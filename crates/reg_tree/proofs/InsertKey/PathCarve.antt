@@ -1,0 +1,191 @@
+-- The cells carved for keys of a path's names: their sizes, and that they are ready.
+use Rattle.std.proofs.Common.{◌≡◌, ◌≢◌, ℕ, zero, suc, ◌+◌, ◌-◌, ◌*◌, ◌%◌, ◌≤◌, ◌<◌, Bool, true, false, cond, nat_le, nat_lt, Option, Some, None, IsSome, List, [], ◌∷◌, length, get_or, replicate, refl, sym, ap, ◌∙◌, subst, arith, Vec, Global}
+use Rattle.std.specs.Prelude.{unwrap_or, Result, Err}
+use Rattle.std.specs.List.{list_all, AllByRecursion}
+use Rattle.std.specs.Option.{option_and_then}
+use Rattle.std.specs.Result.{result_ok}
+use Rattle.std.proofs.lemmas.Bool.{and_parts}
+use Rattle.std.proofs.lemmas.List.{length-replicate}
+use Rattle.std.proofs.lemmas.Option.{none-some, same_Some}
+use Rattle.reg_names.specs.Names.{is_key_name, are_key_names, is_path, path_of}
+use Rattle.reg_heap.specs.Internal.Heaps.{Heap, AreNew}
+use Rattle.reg_arena.specs.declared.ArenaFault.{ArenaFault}
+use Rattle.reg_arena.specs.declared.ArenaFault.TheVariants as arena
+use Rattle.reg_arena.specs.Cells.{cell_at}
+use Rattle.reg_arena.specs.Carves.{AddsCells}
+use Rattle.reg_arena.specs.NewBin.{PassesLimit}
+use Rattle.reg_arena.specs.NewCells.{AreSizes, total_of}
+use Rattle.reg_records.specs.RecordCells.{HasRoom, held}
+use Rattle.reg_records.specs.declared.RecordFault.{RecordFault}
+use Rattle.reg_records.specs.declared.RecordFault.TheVariants as record_fault
+use Rattle.reg_records.specs.Letters.{is_signed}
+use Rattle.reg_records.specs.KeyNodes.{KeyRecord, key_at, nk_of}
+use Rattle.reg_records.specs.SubkeyLists.{Entry}
+use Rattle.reg_index.specs.Subkeys.{AreSubkeys, IsReady, insert_size}
+use Rattle.reg_tree.specs.declared.fault.TreeFault.{TreeFault}
+use Rattle.reg_tree.specs.declared.fault.TreeFault.TheVariants.{Full}
+use Rattle.reg_tree.specs.Internal.TreeFaults.{of_arena}
+use Rattle.reg_tree.specs.Internal.KeyNodeChanges.{HasSubkeysList}
+use Rattle.reg_tree.specs.TreeInvariant.{IsHere}
+use Rattle.reg_tree.specs.Internal.SpareCells.{key_size, sizes_of, IsGrowing, AreReady, IsSpared}
+use Rattle.reg_tree.proofs.InsertKey.PathGrowth.{name_short}
+use Rattle.reg_tree.proofs.InsertKey.SpareCellTaken.{growing_there, growing_subkeys, planned_is}
+
+-- ---- the parent
+
+-- a key of a tree without spare cells
+pub growing : (bytes : List ℕ) (key : ℕ) → IsHere bytes key → IsGrowing bytes key []
+growing bytes key t = record { root = t.root; path = t.path; keys = t.holds.keys; first = t.holds.first; shape = t.holds.shape; unrooted = t.holds.unrooted; at = t.at }
+
+pub parent_there : (bytes : List ℕ) (key : ℕ) → IsHere bytes key → IsSome (key_at (cell_at bytes) key)
+parent_there bytes key t = growing_there bytes key [] (growing bytes key t)
+
+pub parent_subkeys : (bytes : List ℕ) (key : ℕ) → IsHere bytes key → (count list : ℕ) → HasSubkeysList (cell_at bytes) key count list → (entries : List Entry) × AreSubkeys (cell_at bytes) count list entries
+parent_subkeys bytes key t count list has = growing_subkeys bytes key [] (growing bytes key t) count list has
+
+-- ---- new cells
+
+-- zeros are no key
+no_letters : (size : ℕ) → is_signed 110 107 (replicate {A = ℕ} size 0) ≡ false
+no_letters zero = refl
+no_letters (suc size) = refl
+
+no_zeros : (size : ℕ) → result_ok (nk_of (replicate {A = ℕ} size 0)) ≡ None
+unfolding nk_of
+no_zeros size = rw (no_letters size) (by (nat_lt (length (replicate {A = ℕ} size 0)) 76))
+  where
+    by : (b : Bool) → result_ok (cond {A = Result KeyRecord RecordFault} b (Err record_fault.Short) (Err record_fault.Signature)) ≡ None
+    by true = refl
+    by false = refl
+
+-- ---- sizes
+
+-- a list's size, where one is planned
+abbrev pub IsPlan : Option ℕ → Type 0
+IsPlan plan = (size : ℕ) → plan ≡ Some size → (size % 8 ≡ 0) × (16 ≤ size) × (size ≤ 4016)
+
+first_plan : IsPlan (Some 16)
+first_plan size e = let s = same_Some _ _ e in (omega (arith, s), omega (arith, s), omega (arith, s))
+
+plan_by : (heap : Heap) (count place : ℕ) → count ≤ 500 → IsPlan (insert_size heap count place)
+unfolding insert_size
+plan_by heap zero place few size e = let s = same_Some _ _ e in (omega (arith, s), omega (arith, s), omega (arith, s))
+plan_by heap (suc count) place few size e = by (nat_le (4 + 8 * suc (suc count)) (length (held heap place))) e
+  where
+    by : (b : Bool) → cond b None (Some (8 + 8 * suc (suc count))) ≡ Some size → (size % 8 ≡ 0) × (16 ≤ size) × (size ≤ 4016)
+    by true e = absurd (none-some _ e)
+    by false e = let s = same_Some _ _ e in (omega (arith, s), omega (arith, s), omega (arith, s, few))
+
+pub plan_good : (bytes : List ℕ) (key : ℕ) → IsHere bytes key → (count list : ℕ) → HasSubkeysList (cell_at bytes) key count list → IsPlan (insert_size (cell_at bytes) count list)
+plan_good bytes key t count list has = plan_by (cell_at bytes) count list (parent_subkeys bytes key t count list has).1.few
+
+-- each is one that a cell may have
+pub are-sizes : (plan : Option ℕ) (names : List (List ℕ)) → IsPlan plan → AreSizes (sizes_of plan names)
+are-sizes plan [] p = tt
+are-sizes None (name ∷ names) p = ((omega arith, omega arith), are-sizes (Some 16) names first_plan)
+are-sizes (Some size) (name ∷ names) p = let s = p size refl in ((omega (arith, s), s.0), ((omega arith, omega arith), are-sizes (Some 16) names first_plan))
+
+-- names of at most 255 bytes
+abbrev Short : List (List ℕ) → Type 0
+Short names = AllByRecursion (λ (name : List ℕ). length name ≤ 255) names
+
+short-by : (names : List (List ℕ)) → list_all is_key_name names ≡ true → Short names
+short-by [] e = tt
+short-by (name ∷ names) e = let p = and_parts (is_key_name name) (list_all is_key_name names) e in (name_short name p.0, short-by names p.1)
+
+short-in : (limit : ℕ) (names : List (List ℕ)) → are_key_names limit names ≡ true → Short names
+unfolding are_key_names
+short-in limit names e = short-by names (and_parts (list_all is_key_name names) (nat_le (length names) limit) e).0
+
+-- all together, by the number of keys
+total-first : (names : List (List ℕ)) → Short names → total_of (sizes_of (Some 16) names) ≤ 360 * length names
+total-first [] s = omega arith
+total-first (name ∷ names) s = let t = total-first names s.1 in let l = s.0 in omega (arith, t, l)
+
+total-some : (plan : Option ℕ) (names : List (List ℕ)) → IsPlan plan → Short names → total_of (sizes_of plan names) ≤ 4016 + 360 * length names
+total-some plan [] p s = omega arith
+total-some None (name ∷ names) p s = let t = total-first names s.1 in let l = s.0 in omega (arith, t, l)
+total-some (Some size) (name ∷ names) p s = let t = total-first names s.1 in let l = s.0 in let q = (p size refl).2 in omega (arith, t, l, q)
+
+pub total-few : (plan : Option ℕ) (path : List ℕ) → IsPlan plan → is_path path ≡ true → length (path_of path) ≤ 32 → total_of (sizes_of plan (path_of path)) ≤ 15536
+total-few plan path p valid few = let t = total-some plan (path_of path) p (short-in 512 (path_of path) valid) in omega (arith, t, few)
+
+-- the bins are near their limit where no bin for them has room
+pub near-limit : (bytes : List ℕ) (total : ℕ) → total ≤ 15536 → PassesLimit bytes total → 268435456 < length bytes + 1310720
+near-limit bytes total small past = let l = past.least.least 1310720 refl (omega (arith, small)) in let p = past.passes in omega (arith, l, p)
+
+-- a plan that was answered is good
+pub plan_told : (bytes : List ℕ) (key : ℕ) → IsHere bytes key → (count list : ℕ) → HasSubkeysList (cell_at bytes) key count list → (plan : Option ℕ) → plan ≡ insert_size (cell_at bytes) count list → IsPlan plan
+plan_told bytes key t count list has plan e = subst IsPlan (sym e) (plan_good bytes key t count list has)
+
+-- only where the arena is full is the tree
+pub is-full : (fault : ArenaFault) (told : TreeFault) → told ≡ of_arena fault → ◌≡◌ {A = Result (Vec ℕ Global) TreeFault} (Err told) (Err Full) → fault ≡ arena.Full
+is-full fault told e f = by fault (sym e ∙ same_err f)
+  where
+    same_err : {a b : TreeFault} → ◌≡◌ {A = Result (Vec ℕ Global) TreeFault} (Err a) (Err b) → a ≡ b
+    same_err {a} {b} e = cc
+
+    by : (fault : ArenaFault) → of_arena fault ≡ Full → fault ≡ arena.Full
+    by arena.Full e = refl
+    by arena.Memory e = absurd (cc)
+
+pub sizes-there : (plan : Option ℕ) (names : List (List ℕ)) → names ≢ [] → 0 < length (sizes_of plan names)
+sizes-there plan [] some = absurd (some refl)
+sizes-there None (name ∷ names) some = omega arith
+sizes-there (Some size) (name ∷ names) some = omega arith
+
+-- ---- the cells are ready
+
+held-long : (h : Heap) (cell size : ℕ) → h cell ≡ Some (replicate (size - 4) 0) → length (held h cell) ≡ size - 4
+held-long h cell size z = ap (λ (o : Option (List ℕ)). length (unwrap_or o [])) z ∙ length-replicate {A = ℕ} (size - 4) 0
+
+zeros-room : (h : Heap) (cell size room : ℕ) → h cell ≡ Some (replicate (size - 4) 0) → room + 4 ≤ size → HasRoom h cell room
+zeros-room h cell size room z l = record { exists = subst IsSome (sym z) refl; enough = (let n = held-long h cell size z in omega (arith, n, l)) }
+
+zeros-ready : (h : Heap) (cell size : ℕ) → h cell ≡ Some (replicate (size - 4) 0) → 4 ≤ size → IsReady h (Some size) cell
+unfolding key_at
+zeros-ready h cell size z l = (
+  subst IsSome (sym z) refl,
+  (let n = held-long h cell size z in omega (arith, n, l)),
+  ap (option_and_then (λ content. result_ok (nk_of content))) z ∙ no_zeros (size - 4),
+)
+
+abbrev Zeros : Heap → List ℕ → List ℕ → Type 0
+Zeros h cells sizes = (index : ℕ) → index < length sizes → h (get_or cells index 0) ≡ Some (replicate (get_or sizes index 0 - 4) 0)
+
+ready-all : (h : Heap) (plan : Option ℕ) (names : List (List ℕ)) (cells : List ℕ) → IsPlan plan → length cells ≡ length (sizes_of plan names) → Zeros h cells (sizes_of plan names) → AreReady h plan names cells
+ready-all h plan [] [] p n z = refl
+ready-all h plan [] (cell ∷ cells) p n z = absurd (omega (arith, n))
+ready-all h None (name ∷ names) [] p n z = absurd (omega (arith, n))
+ready-all h None (name ∷ names) (key ∷ left) p n z = record {
+  list_cell = 0;
+  key = key;
+  left = left;
+  spare_is = refl;
+  ready = tt;
+  room = zeros-room h key (key_size name) (76 + length name) (z 0 (omega arith)) (omega arith);
+  rest = ready-all h (Some 16) names left first_plan (omega (arith, n)) (λ i l. z (suc i) (omega (arith, l)));
+}
+ready-all h (Some size) (name ∷ names) [] p n z = absurd (omega (arith, n))
+ready-all h (Some size) (name ∷ names) (list ∷ []) p n z = absurd (omega (arith, n))
+ready-all h (Some size) (name ∷ names) (list ∷ key ∷ left) p n z = record {
+  list_cell = list;
+  key = key;
+  left = left;
+  spare_is = refl;
+  ready = zeros-ready h list size (z 0 (omega arith)) (let q = (p size refl).1 in omega (arith, q));
+  room = zeros-room h key (key_size name) (76 + length name) (z 1 (omega arith)) (omega arith);
+  rest = ready-all h (Some 16) names left first_plan (omega (arith, n)) (λ i l. z (suc (suc i)) (omega (arith, l)));
+}
+
+-- cells carved by these sizes are those that the keys take
+pub spared : (old new : List ℕ) (key : ℕ) (t : IsHere old key) (count list : ℕ) → HasSubkeysList (cell_at old) key count list → (path : List ℕ) (plan : Option ℕ) → plan ≡ insert_size (cell_at old) count list → (sizes offsets cells : List ℕ) → sizes ≡ sizes_of plan (path_of path) → cells ≡ offsets → AddsCells old new sizes offsets → IsSpared old new key (path_of path) cells
+spared old new key t count list has path plan plan_is sizes offsets cells sizes_are cells_are adds =
+    let sized : sizes ≡ sizes_of (insert_size (cell_at old) count list) (path_of path) = sizes_are ∙ ap (λ p. sizes_of p (path_of path)) plan_is in
+    let a : AreNew (cell_at old) (cell_at new) cells (sizes_of (insert_size (cell_at old) count list) (path_of path)) =
+    subst (λ c. AreNew (cell_at old) (cell_at new) c (sizes_of (insert_size (cell_at old) count list) (path_of path))) (sym cells_are) (subst (AreNew (cell_at old) (cell_at new) offsets) sized adds.are_new) in
+    let p = planned_is old key [] (growing old key t) count list has in
+    record {
+      come = a.come;
+      ready = subst (λ plan. AreReady (cell_at new) plan (path_of path) cells) (sym p) (ready-all (cell_at new) (insert_size (cell_at old) count list) (path_of path) cells (plan_good old key t count list has) a.as_many a.zeros);
+    }

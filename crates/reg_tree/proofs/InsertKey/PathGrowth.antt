@@ -1,0 +1,204 @@
+-- Keys made one below the other: what stands after each.
+use Rattle.std.proofs.Common.{◌≡◌, ℕ, ◌+◌, ◌-◌, ◌≤◌, ◌<◌, Bool, true, false, cond, ◌&&◌, nat_lt, nat_le, Option, Some, None, IsSome, is_some, List, [], ◌∷◌, ◌++◌, map, length, drop, take, refl, sym, ap, ◌∙◌, subst, arith, length-append, length-drop}
+use Rattle.std.specs.List.{list_all}
+use Rattle.std.specs.Option.{option_and_then, option_map}
+use Rattle.std.specs.Ordering.{is_eq, eq_by_cmp}
+use Rattle.std.proofs.lemmas.Bool.{and_parts}
+use Rattle.std.proofs.lemmas.Bool.Decides.{nat_tests}
+use Rattle.std.proofs.lemmas.Cmp.{tied_itself}
+use Rattle.std.proofs.lemmas.List.{append-nil, append_assoc, take_all}
+use Rattle.std.proofs.lemmas.Option.{none-some}
+use Rattle.reg_arena.proofs.FreeList.FreeListTake.{times-append}
+use Rattle.reg_arena.specs.Cells.{cell_at}
+use Rattle.reg_names.specs.Names.{folded, path_of, is_path, is_key_name, is_key_name_byte, IsFirst}
+use Rattle.reg_heap.specs.Paths.{Path, Tree, path_cmp}
+use Rattle.reg_heap.specs.Edits.{child_path, has_child, with_key, with_keys}
+use Rattle.reg_heap.specs.Internal.Heaps.{Heap}
+use Rattle.reg_heap.specs.Internal.Kinds.{times}
+use Rattle.reg_shape.specs.Internal.Forests.{Branch}
+use Rattle.reg_heap.proofs.ChildrenOfPath.{path-is}
+use Rattle.reg_shape.specs.Nodes.{Node}
+use Rattle.reg_shape.specs.Spelt.{rec_of}
+use Rattle.reg_shape.specs.Internal.Shapes.{descriptor_in, tree_of}
+use Rattle.reg_shape.specs.Internal.Grafts.{IsShape, branch_at}
+use Rattle.reg_shape.specs.Internal.PathLookup.{place_at, subkey_named}
+use Rattle.reg_records.proofs.KeyNodeCodec.{key_at-same}
+use Rattle.reg_shape.proofs.Frame.WrittenFrame.{same-held}
+use Rattle.reg_shape.proofs.Refinement.SpeltTrees.{path_total}
+use Rattle.reg_shape.proofs.Lookup.LookupOfShape.{place-more, place-append}
+use Rattle.reg_index.specs.Subkeys.{IsReady, taken}
+use Rattle.reg_tree.specs.declared.node.Node.{Node as TreeNode}
+use Rattle.reg_tree.specs.Internal.SpareCells.{planned, IsGrowing, MayGrow, Grows, AreReady, MayGrowAll, GrowsAll}
+use Rattle.reg_tree.proofs.Invariant.KeyOfShape as keyed
+use Rattle.reg_tree.proofs.Invariant.UntouchedCells.{times-one}
+
+-- a key's name has at most 255 bytes
+pub name_short : (name : List ℕ) → is_key_name name ≡ true → length name ≤ 255
+name_short name e = let l = (and_parts (list_all is_key_name_byte name && nat_lt 0 (length name)) (nat_le (length name) 255) e).1 in grind (arith, nat_tests)
+
+-- a slice to the end is what is left
+pub rest_all : (n : ℕ) (xs : List ℕ) → take (length xs - n) (drop n xs) ≡ drop n xs
+rest_all n xs = take_all (length xs - n) (drop n xs) (omega (arith, length-drop n xs))
+
+pub path-self : (q : Path) → eq_by_cmp path_cmp q q ≡ true
+path-self q = ap is_eq (tied_itself path_total q)
+
+-- ---- spare cells that stay
+
+some-times : (x : ℕ) (before after : List ℕ) → 0 < times x (before ++ x ∷ after)
+some-times x before after = let t = times-append x before (x ∷ after) in let one = times-one x in omega (arith, t, one)
+
+ready-same : (h k : Heap) (plan : Option ℕ) (cell : ℕ) → ((size : ℕ) → plan ≡ Some size → k cell ≡ h cell) → IsReady h plan cell → IsReady k plan cell
+ready-same h k None cell c r = r
+ready-same h k (Some size) cell c r = (
+  subst IsSome (sym (c size refl)) r.0,
+  ap (λ (bytes : List ℕ). length bytes + 4) (same-held h k cell (c size refl)) ∙ r.1,
+  key_at-same h k cell (c size refl) ∙ r.2,
+)
+
+ready-kept : (h k : Heap) (plan : Option ℕ) (names : List (List ℕ)) (spare : List ℕ) → ((z : ℕ) → 0 < times z spare → k z ≡ h z) → AreReady h plan names spare → AreReady k plan names spare
+ready-kept h k plan [] spare c r = r
+ready-kept h k plan (name ∷ names) spare c r = record {
+  list_cell = r.list_cell;
+  key = r.key;
+  left = r.left;
+  spare_is = r.spare_is;
+  ready = ready-same h k plan r.list_cell (λ size e. c r.list_cell (subst (λ s. 0 < times r.list_cell s) (sym r.spare_is) (list-there plan size e))) r.ready;
+  room = (
+      let same = c r.key (subst (λ s. 0 < times r.key s) (sym r.spare_is) (some-times r.key (taken plan r.list_cell) r.left)) in
+      record { exists = subst IsSome (sym same) r.room.exists; enough = subst (λ (bytes : List ℕ). 76 + length name ≤ length bytes) (sym (same-held h k r.key same)) r.room.enough }
+      );
+  rest = ready-kept h k (Some 16) names r.left (λ z l. c z (subst (λ s. 0 < times z s) (sym r.spare_is) (left-there z l))) r.rest;
+}
+  where
+    list-there : (o : Option ℕ) (size : ℕ) → o ≡ Some size → 0 < times r.list_cell (taken o r.list_cell ++ r.key ∷ r.left)
+    list-there None size e = absurd (none-some _ e)
+    list-there (Some n) size e = some-times r.list_cell [] (r.key ∷ r.left)
+
+    left-there : (z : ℕ) → 0 < times z r.left → 0 < times z (taken plan r.list_cell ++ r.key ∷ r.left)
+    left-there z l = let t = times-append z (taken plan r.list_cell) (r.key ∷ r.left) in omega (arith, t, l)
+
+-- ---- a key that is not there
+
+module _ (bytes : List ℕ) (key : ℕ) (spare : List ℕ) (g : IsGrowing bytes key spare) (name : List ℕ) (missing : subkey_named (cell_at bytes) (folded name) key ≡ None) where
+  abbrev h : Heap
+  h = cell_at bytes
+
+  pub place_missing : place_at h g.root (child_path g.path name) ≡ None
+  place_missing =
+      place-append h g.root g.path (folded name ∷ [])
+      ∙ (ap (option_and_then (λ c. place_at h c (folded name ∷ []))) g.at
+      ∙ (place-more h key (folded name) [] ∙ ap (option_and_then (λ c. place_at h c [])) missing))
+
+  pub no_child : has_child (tree_of h g.keys) g.path name ≡ false
+  no_child = ap is_some (keyed.rec_in h g.root g.keys g.first [] spare g.shape (child_path g.path name) ∙ by (branch_at (child_path g.path name) g.keys) (sym (keyed.place_in h g.root g.keys g.first [] spare g.shape (child_path g.path name)) ∙ place_missing))
+    where
+      by : (o : Option (Branch Node)) → option_map (λ (b : Branch Node). b.place) o ≡ None → option_map (λ (b : Branch Node). rec_of b.node (descriptor_in h b.node.key.fields.security)) o ≡ None
+      by None e = refl
+      by (Some b) e = absurd (none-some _ (sym e))
+
+-- ---- on the way
+
+-- some of the keys were made: a node, what is left of the path and of the spare cells, and that the rest leads to the same end
+pub record Midway (bytes0 : List ℕ) (from : TreeNode) (names0 : List (List ℕ)) (spare0 : List ℕ) (m : MayGrowAll bytes0 from names0 spare0) (moment : ℕ) (bytes : List ℕ) (node : TreeNode) (rest spare : List ℕ) : Type 0 where
+  pub grow : MayGrowAll bytes node (path_of rest) spare
+  pub root_is : grow.growing.root ≡ m.growing.root
+  pub first_is : grow.growing.first ≡ m.growing.first
+  pub valid : is_path rest ≡ true
+  pub tree : with_keys (tree_of (cell_at bytes) grow.growing.keys) grow.growing.path (path_of rest) moment ≡ with_keys (tree_of (cell_at bytes0) m.growing.keys) m.growing.path names0 moment
+  pub end : grow.growing.path ++ map folded (path_of rest) ≡ m.growing.path ++ map folded names0
+  pub depth : node.depth + length (path_of rest) ≡ from.depth + length names0
+  pub keeps : (q : Path) (o : ℕ) → place_at (cell_at bytes0) m.growing.root q ≡ Some o → place_at (cell_at bytes) m.growing.root q ≡ Some o
+
+pub at_start : (bytes : List ℕ) (from : TreeNode) (path spare : List ℕ) (m : MayGrowAll bytes from (path_of path) spare) (moment : ℕ) → is_path path ≡ true → Midway bytes from (path_of path) spare m moment bytes from path spare
+at_start bytes from path spare m moment v = record { grow = m; root_is = refl; first_is = refl; valid = v; tree = refl; end = refl; depth = refl; keeps = λ q o e. e }
+
+module _ (bytes0 : List ℕ) (from : TreeNode) (names0 : List (List ℕ)) (spare0 : List ℕ) (m : MayGrowAll bytes0 from names0 spare0) (moment : ℕ) (bytes : List ℕ) (node : TreeNode) (rest spare : List ℕ) (mid : Midway bytes0 from names0 spare0 m moment bytes node rest spare) where
+  pub deep_now : from.depth ≤ 512 → node.depth + 1 < 4096
+  deep_now d = let e = mid.depth in let l = m.deep in omega (arith, d, e, l)
+
+  module _ (name behind : List ℕ) (f : IsFirst rest name behind) where
+    abbrev g : IsGrowing bytes node.offset spare
+    g = mid.grow.growing
+
+    abbrev pub may_next : MayGrow bytes node.offset spare name
+    may_next = record {
+      growing = g;
+      missing = mid.grow.missing name (path_of behind) f.names;
+      deep = (let d = mid.grow.deep in let n = ap length f.names in omega (arith, d, n));
+      few = mid.grow.few;
+    }
+
+    pub ready_next : AreReady (cell_at bytes) (planned (cell_at bytes) node.offset) (name ∷ path_of behind) spare
+    ready_next = subst (λ ns. AreReady (cell_at bytes) (planned (cell_at bytes) node.offset) ns spare) f.names mid.grow.ready
+
+    module _ (new : List ℕ) (made : ℕ) (left : List ℕ) (grows : Grows (cell_at bytes) (cell_at new) g.root g.path g.keys g.first made left name moment) (ready : AreReady (cell_at bytes) (Some 16) (path_of behind) left) where
+      abbrev k : Heap
+      k = cell_at new
+
+      abbrev growing_then : IsGrowing new made left
+      growing_then = record {
+        root = g.root;
+        path = child_path g.path name;
+        keys = grows.now;
+        first = g.first;
+        shape = grows.shape;
+        unrooted = grows.unrooted;
+        at = grows.places (child_path g.path name) ∙ ap (λ b. cond b (Some made) (place_at (cell_at bytes) g.root (child_path g.path name))) (path-self (child_path g.path name));
+      }
+
+      deep_then : length (child_path g.path name) + length (path_of behind) ≤ 512
+      deep_then =
+          let d = mid.grow.deep in
+          let n : length (path_of rest) ≡ 1 + length (path_of behind) = ap length f.names ∙ omega arith in
+          let l = length-append g.path (folded name ∷ []) in
+          omega (arith, d, n, l)
+
+      abbrev grow_then : MayGrowAll new (record { offset = made; depth = node.depth + 1 }) (path_of behind) left
+      grow_then = record {
+        growing = growing_then;
+        missing = λ n others e. grows.childless (folded n);
+        deep = deep_then;
+        few = λ r e. (let z = grows.none r e in omega (arith, z));
+        ready = subst (λ o. AreReady k o (path_of behind) left) (sym grows.unlisted) (ready-kept (cell_at bytes) k (Some 16) (path_of behind) left grows.spare ready);
+      }
+
+      keeps_then : (q : Path) (o : ℕ) → place_at (cell_at bytes) g.root q ≡ Some o → place_at k g.root q ≡ Some o
+      keeps_then q o e = grows.places q ∙ by (eq_by_cmp path_cmp q (child_path g.path name)) refl
+        where
+          by : (b : Bool) → eq_by_cmp path_cmp q (child_path g.path name) ≡ b → cond b (Some made) (place_at (cell_at bytes) g.root q) ≡ Some o
+          by true t = absurd (none-some _ (sym (ap (place_at (cell_at bytes) g.root) (path-is q (child_path g.path name) t) ∙ place_missing bytes node.offset spare g name may_next.missing) ∙ e))
+          by false t = e
+
+      tree_then : with_keys (tree_of k grows.now) (child_path g.path name) (path_of behind) moment ≡ with_keys (tree_of (cell_at bytes) g.keys) g.path (path_of rest) moment
+      tree_then =
+          ap (λ (t : Tree). with_keys t (child_path g.path name) (path_of behind) moment) grows.tree
+          ∙ (ap (λ b. with_keys (cond b (tree_of (cell_at bytes) g.keys) (with_key (tree_of (cell_at bytes) g.keys) g.path name moment)) (child_path g.path name) (path_of behind) moment) (sym (no_child bytes node.offset spare g name may_next.missing))
+          ∙ ap (λ ns. with_keys (tree_of (cell_at bytes) g.keys) g.path ns moment) (sym f.names))
+
+      pub one_further : Midway bytes0 from names0 spare0 m moment new (record { offset = made; depth = node.depth + 1 }) behind left
+      one_further = record {
+        grow = grow_then;
+        root_is = mid.root_is;
+        first_is = mid.first_is;
+        valid = f.valid;
+        tree = tree_then ∙ mid.tree;
+        end = append_assoc g.path (folded name ∷ []) (map folded (path_of behind)) ∙ (ap (λ ns. g.path ++ map folded ns) (sym f.names) ∙ mid.end);
+        depth = (let d = mid.depth in let n = ap length f.names in omega (arith, d, n));
+        keeps = λ q o e. subst (λ r. place_at k r q ≡ Some o) mid.root_is (keeps_then q o (subst (λ r. place_at (cell_at bytes) r q ≡ Some o) (sym mid.root_is) (mid.keeps q o e)));
+      }
+
+  -- nothing is left of the path, and so no cell is spare
+  pub at_end : path_of rest ≡ [] → GrowsAll (cell_at bytes0) (cell_at bytes) m.growing.root m.growing.path m.growing.keys m.growing.first from node names0 moment
+  at_end e =
+      let g = mid.grow.growing in
+      let none : spare ≡ [] = subst (λ ns. AreReady (cell_at bytes) (planned (cell_at bytes) node.offset) ns spare) e mid.grow.ready in
+      record {
+        now = g.keys;
+        shape = subst (λ r. IsShape (cell_at bytes) r g.keys m.growing.first [] []) mid.root_is (subst (λ f. IsShape (cell_at bytes) g.root g.keys f [] []) mid.first_is (subst (λ s. IsShape (cell_at bytes) g.root g.keys g.first [] s) none g.shape));
+        unrooted = g.unrooted;
+        tree = ap (λ ns. with_keys (tree_of (cell_at bytes) g.keys) g.path ns moment) (sym e) ∙ mid.tree;
+        place = subst (λ q. place_at (cell_at bytes) m.growing.root q ≡ Some node.offset) (sym (append-nil g.path) ∙ (ap (λ ns. g.path ++ map folded ns) (sym e) ∙ mid.end)) (subst (λ r. place_at (cell_at bytes) r g.path ≡ Some node.offset) mid.root_is g.at);
+        depth = (let d = mid.depth in let n = ap length e in omega (arith, d, n));
+        keeps = mid.keeps;
+      }

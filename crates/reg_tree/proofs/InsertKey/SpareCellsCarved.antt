@@ -1,0 +1,191 @@
+-- Cells carved for keys to be made: the tree is as it was, and those cells are spare.
+use Rattle.std.proofs.Common.{◌≡◌, ℕ, zero, suc, ◌+◌, ◌*◌, ◌≤◌, ◌<◌, Bool, true, false, cond, nat_le, Option, Some, None, List, [], ◌∷◌, length, refl, sym, ap, ◌∙◌, subst, arith}
+use Rattle.std.specs.Option.{option_and_then}
+use Rattle.std.specs.Ordering.{eq_by_cmp}
+use Rattle.std.specs.FinMap.{get, insert, get-insert, same_map}
+use Rattle.std.proofs.lemmas.Option.{none-some}
+use Rattle.reg_names.specs.Names.{folded}
+use Rattle.reg_heap.specs.Paths.{Path, Tree, Rec, path_cmp}
+use Rattle.reg_heap.specs.Edits.{child_path}
+use Rattle.reg_heap.specs.Internal.Heaps.{Heap, allocated, Swaps}
+use Rattle.reg_heap.specs.Internal.Kinds.{times, is_own, owned}
+use Rattle.reg_shape.specs.Internal.Forests.{Branch, total_of}
+use Rattle.reg_heap.proofs.ChildrenOfPath.{path-is}
+use Rattle.reg_arena.specs.Cells.{cell_at}
+use Rattle.reg_records.specs.KeyNodes.{KeyRecord, key_at}
+use Rattle.reg_records.specs.KeySecurities.{IsPlainSecurity}
+use Rattle.reg_shape.specs.Nodes.{Node}
+use Rattle.reg_shape.specs.Spelt.{rec_of}
+use Rattle.reg_shape.specs.Internal.Shapes.{cells_of, index_cells, owns, shares, descriptor_in, tree_of, StandsIn}
+use Rattle.reg_shape.specs.Internal.Grafts.{IsShape, IsGrafted, IsRecounted}
+use Rattle.reg_shape.specs.Internal.PathLookup.{place_at, subkey_named}
+use Rattle.reg_records.proofs.KeyNodeCodec.{key_at-same}
+use Rattle.reg_records.proofs.KeySecurityCodec.{security_at-same}
+use Rattle.reg_shape.proofs.Frame.WrittenFrame.{seen-kept, same-held}
+use Rattle.reg_shape.proofs.Refinement.SpeltTrees.{path_total, path_same}
+use Rattle.reg_shape.proofs.Wholeness.ShapeCounts.{tally-append}
+use Rattle.reg_shape.proofs.Wholeness.WholeShapes.{at-most-one}
+use Rattle.reg_shape.proofs.Wholeness.WholeAfterExchange.{forest-kept}
+use Rattle.reg_shape.proofs.Graft.WholeAfterGraft.{grafted}
+use Rattle.reg_shape.proofs.Refinement.RefinementAfterGraft.{tree-same-below}
+use Rattle.reg_shape.proofs.Lookup.LookupAfterGraft.{places-same}
+use Rattle.reg_shape.proofs.Lookup.LookupOfShape.{place-none, place-more, place-append}
+use Rattle.reg_shape.proofs.Refinement.RefinementAtPath.{told}
+use Rattle.reg_index.specs.Subkeys.{insert_size, own}
+use Rattle.reg_tree.specs.declared.node.Node.{Node as TreeNode}
+use Rattle.reg_tree.specs.TreeInvariant.{IsHere}
+use Rattle.reg_tree.specs.Internal.SpareCells.{planned, AreReady, MayGrowAll, IsSpared}
+use Rattle.reg_tree.proofs.Invariant.KeyOfTree as here
+use Rattle.reg_tree.proofs.Invariant.KeyOfTree.{branch, key_is, looked, place}
+use Rattle.reg_tree.proofs.InsertKey.ParentReindexed.{owned-single}
+use Rattle.reg_tree.proofs.PathWalk.SubkeysFound.{single}
+use Rattle.reg_tree.proofs.Invariant.UntouchedCells.{times-one, there-is, place-own}
+
+-- a record put where it is changes nothing
+insert-same : (t : Tree) (p : Path) (r : Rec) → get t p ≡ Some r → insert t p r ≡ t
+insert-same t p r e = same_map path_total path_same (insert t p r) t (λ q. get-insert path_total t p r q ∙ by q (eq_by_cmp path_cmp q p) refl)
+  where
+    by : (q : Path) (b : Bool) → eq_by_cmp path_cmp q p ≡ b → cond b (Some r) (get t q) ≡ get t q
+    by q true f = sym (ap (get t) (path-is q p f) ∙ e)
+    by q false f = refl
+
+module _ (h k : Heap) (root : ℕ) (keys : Branch Node) (first : ℕ) (spare : List ℕ) (w : IsShape h root keys first [] []) (come : Swaps h k (λ z. 0) (λ z. times z spare)) where
+  -- a cell that was allocated holds what it held
+  pub calm : (z : ℕ) → 0 < allocated h z → k z ≡ h z
+  calm z l = come.same z refl (let c = come.count z in let o = at-most-one k z in omega (arith, c, o, l))
+
+  calm-own : (z : ℕ) → 0 < total_of (owns z) keys → k z ≡ h z
+  calm-own z l = calm z (let x = w.exact z in omega (arith, x, l))
+
+  stands : StandsIn k root keys
+  stands = (
+    seen-kept h k root keys.place keys.node w.stands.0 (λ z l. calm-own z (omega (arith, l))),
+    w.stands.1,
+    forest-kept h k root keys.below w.stands.2 (λ z l. calm-own z (omega (arith, l))),
+  )
+
+  calm-ring : (z : ℕ) → 0 < times z (first ∷ []) → k z ≡ h z
+  calm-ring z l = calm z (let x = w.exact z in omega (arith, x, l))
+
+  first-times : 0 < times first (first ∷ [])
+  first-times = let o = times-one first in omega (arith, o)
+
+  recounted : (z : ℕ) → 0 < times z (first ∷ []) → IsRecounted h k (total_of (shares z) keys) (total_of (shares z) keys) z
+  recounted z l =
+      subst (λ z. IsRecounted h k (total_of (shares z) keys) (total_of (shares z) keys) z) (sym (there-is z first l))
+      (record {
+        security = w.ring.written.0.security;
+        count = w.ring.written.0.security.fields.count;
+        reads = w.ring.written.0.reads;
+        now = security_at-same h k first (calm-ring first first-times) ∙ w.ring.written.0.reads;
+        plain = λ q. subst IsPlainSecurity (sym (same-held h k first (calm-ring first first-times))) q;
+        counted = omega arith;
+      })
+
+  grafts : IsGrafted h k root keys keys first [] [] spare
+  grafts = record {
+    place = refl;
+    alike = record { name = refl; parent = refl; class_length = refl };
+    stands = stands;
+    count = λ z. (let c = come.count z in omega (arith, c));
+    same = λ z some none a b. calm z some;
+    securities = λ z. ((λ l. l), λ l. l);
+    ring = recounted;
+  }
+
+  pub shape-spared : IsShape k root keys first [] spare
+  shape-spared = grafted h k root [] keys keys keys first [] [] spare refl grafts (omega (arith, w.shallow)) w
+
+  pub tree-spared : tree_of k keys ≡ tree_of h keys
+  tree-spared =
+      tree-same-below h k root [] keys keys keys first [] [] spare refl grafts w refl
+      ∙ insert-same (tree_of h keys) [] (rec_of keys.node (descriptor_in h keys.node.key.fields.security)) (told h root keys w.stands [])
+
+  pub places-spared : (q : Path) → place_at k root q ≡ place_at h root q
+  places-spared q = places-same h k root [] keys keys keys first [] [] spare refl grafts w refl q
+
+-- ---- keys may be made in them
+
+module _ (old mid : List ℕ) (parent : TreeNode) (t : IsHere old parent.offset) (names : List (List ℕ)) (spare : List ℕ) (s : IsSpared old mid parent.offset names spare)
+    (missing : (name : List ℕ) (others : List (List ℕ)) → names ≡ name ∷ others → subkey_named (cell_at old) (folded name) parent.offset ≡ None)
+    (deep : length t.path + length names ≤ 512)
+    (few : (r : KeyRecord) → key_at (cell_at old) parent.offset ≡ Some r → r.fields.subkeys < 500) where
+  abbrev h : Heap
+  h = cell_at old
+
+  abbrev k : Heap
+  k = cell_at mid
+
+  abbrev keys : Branch Node
+  keys = t.holds.keys
+
+  still : (z : ℕ) → 0 < allocated h z → k z ≡ h z
+  still = calm h k t.root keys t.holds.first spare t.holds.shape s.come
+
+  place-then : (q : Path) → place_at k t.root q ≡ place_at h t.root q
+  place-then = places-spared h k t.root keys t.holds.first spare t.holds.shape s.come
+
+  pub at-then : place_at k t.root t.path ≡ Some parent.offset
+  at-then = place-then t.path ∙ t.at
+
+  node : Node
+  node = (branch old parent.offset t).node
+
+  abbrev P : ℕ
+  P = parent.offset
+
+  P-allocated : 0 < allocated h P
+  P-allocated =
+      let b = branch old P t in
+      let o = subst (λ p. 0 < total_of (owns p) b) (place old P t) (let o = place-own h b.place b.node (here.seen old P t).reads in omega (arith, o)) in
+      let l = here.branch_once old P t P in
+      omega (arith, o, l)
+
+  pub key-then : key_at k P ≡ key_at h P
+  key-then = key_at-same h k P (still P P-allocated)
+
+  pub missing-then : (name : List ℕ) (others : List (List ℕ)) → names ≡ name ∷ others → subkey_named k (folded name) P ≡ None
+  missing-then name others e =
+      none-of (subkey_named k (folded name) P)
+      (sym (place-more k P (folded name) [])
+      ∙ (sym (ap (option_and_then (λ c. place_at k c (folded name ∷ []))) at-then)
+      ∙ (sym (place-append k t.root t.path (folded name ∷ []))
+      ∙ (place-then (child_path t.path name)
+      ∙ (place-append h t.root t.path (folded name ∷ [])
+      ∙ (ap (option_and_then (λ c. place_at h c (folded name ∷ []))) t.at
+      ∙ (place-more h P (folded name) [] ∙ ap (option_and_then (λ d. place_at h d [])) (missing name others e))))))))
+    where
+      none-of : (o : Option ℕ) → option_and_then (λ d. place_at k d []) o ≡ None → o ≡ None
+      none-of None e = refl
+      none-of (Some d) e = absurd (none-some _ (sym e ∙ place-none k d))
+
+  list-same : (count list : ℕ) → count ≡ (branch old P t).node.key.fields.subkeys → list ≡ (branch old P t).node.key.fields.subkeys_list → insert_size k count list ≡ insert_size h count list
+  unfolding insert_size
+  list-same zero list a b = refl
+  list-same (suc count) list a b =
+      let n = (branch old P t).node in
+      let i = owned-single h list n.key.fields.subkeys n.key.fields.subkeys_list n.index (looked old P t).index_is (single old P t) in
+      let one : times list (own n.key.fields.subkeys n.key.fields.subkeys_list) ≡ 1 = ap (λ m. times list (own m n.key.fields.subkeys_list)) (sym a) ∙ (ap (λ o. times list (o ∷ [])) (sym b) ∙ times-one list) in
+      let own_list = here.own_once old P t list in
+      let there = tally-index list n in
+      ap (λ (bytes : List ℕ). cond (nat_le (4 + 8 * suc (suc count)) (length bytes)) None (Some (8 + 8 * suc (suc count)))) (same-held h k list (still list (omega (arith, i, one, own_list, there))))
+    where
+      tally-index : (z : ℕ) (n : Node) → owned z (cells_of n) ≡ owned z n.cells + owned z (index_cells n.index)
+      tally-index z n = tally-append (is_own z) n.cells (index_cells n.index)
+
+  pub planned-then : planned k P ≡ planned h P
+  planned-then =
+      let n = (branch old P t).node in
+      let here : key_at h P ≡ Some n.key = key_is old P t in
+      ap (option_and_then (λ (r : KeyRecord). insert_size k r.fields.subkeys r.fields.subkeys_list)) (key-then ∙ here)
+      ∙ (list-same n.key.fields.subkeys n.key.fields.subkeys_list refl refl
+      ∙ sym (ap (option_and_then (λ (r : KeyRecord). insert_size h r.fields.subkeys r.fields.subkeys_list)) here))
+
+  unfoldable pub may_grow_all : MayGrowAll mid parent names spare
+  may_grow_all = record {
+    growing = record { root = t.root; path = t.path; keys = keys; first = t.holds.first; shape = shape-spared h k t.root keys t.holds.first spare t.holds.shape s.come; unrooted = t.holds.unrooted; at = at-then };
+    missing = missing-then;
+    deep = deep;
+    few = λ r e. few r (sym key-then ∙ e);
+    ready = subst (λ o. AreReady k o names spare) (sym planned-then) s.ready;
+  }

@@ -1,0 +1,11 @@
+-- The tree's invariant, and what it says of each key.
+pub mod CellReadings
+pub mod OwnCells
+pub mod KeyOfShape
+pub mod KeyOfTree
+pub mod OneRootTree
+pub mod FreshShape
+pub mod NodeLemmas
+pub mod UntouchedCells
+pub mod KeyCountBound
+pub mod FreshInvariant

@@ -1,0 +1,215 @@
+-- A new hive's two cells are a whole hive's.
+use Rattle.std.proofs.Common.{◌≡◌, ◌≢◌, ℕ, Bool, true, false, cond, eqb, Option, Some, None, List, [], ◌∷◌, ◌≤◌, length, refl, sym, ap, ◌∙◌, subst, arith, bit_and, not, is_some, ◌==◌}
+use Rattle.std.specs.Prelude.{unwrap_or}
+use Rattle.std.specs.List.{AllByRecursion}
+use Rattle.std.specs.Option.{option_map, option_and_then}
+use Rattle.std.proofs.lemmas.Bool.{eqb-true, eqb-false}
+use Rattle.reg_names.specs.Names.{is_key_name}
+use Rattle.reg_heap.specs.Internal.Heaps.{Heap, allocated}
+use Rattle.reg_heap.specs.Internal.Kinds.{times}
+use Rattle.reg_heap.specs.Internal.Kinds.Kind.{Class}
+use Rattle.reg_shape.specs.Internal.Forests.{Branch, total_of}
+use Rattle.reg_shape.specs.Internal.Forests.Forest.{End}
+use Rattle.reg_arena.specs.Arena.{Bins}
+use Rattle.reg_arena.specs.Cells.{cells_of, cell_at}
+use Rattle.reg_records.specs.declared.nk.KeyFields.{KeyFields}
+use Rattle.reg_records.specs.declared.sk.SecurityFields.{SecurityFields}
+use Rattle.reg_records.specs.RecordCells.{held, WritesRecord}
+use Rattle.reg_records.specs.KeyNodes.{KeyRecord, key_at, nk_bytes, IsPlainKey}
+use Rattle.reg_records.specs.KeySecurities.{KeySecurityRecord, security_at, sk_bytes, IsPlainSecurity}
+use Rattle.reg_records.specs.OffsetRows.{offsets_at}
+use Rattle.reg_records.specs.BigData.{if_any}
+use Rattle.reg_shape.specs.Nodes.{Node, members_at, index_at, node_in, node_of, met_of, look, letters, pieces_at}
+use Rattle.reg_shape.specs.Nodes.Index.{Unlisted}
+use Rattle.reg_shape.specs.Written.{AreWrittenValues, IsWrittenValue}
+use Rattle.reg_shape.specs.Whole.{IsRing, count_at}
+use Rattle.reg_shape.specs.Spelt.{rec_of, name_of, marks_of}
+use Rattle.reg_shape.specs.Internal.Shapes.{shares, IsSeen, descriptor_in, IsWholeShape}
+use Rattle.reg_records.proofs.KeySecurityCodec.{security_at-same}
+use Rattle.reg_shape.proofs.Wholeness.FewerNumbers.{same-number}
+use Rattle.reg_shape.proofs.Wholeness.WholeShapes.{allocated-is}
+use Rattle.reg_tree.specs.TreeKeys.{made_root}
+use Rattle.reg_tree.specs.Internal.FreshCells.{AreCarved, IsOnlySecurity, IsFreshRoot}
+use Rattle.reg_tree.proofs.Invariant.CellReadings.{is_some_of}
+
+-- ---- the root as it is read
+
+abbrev node_with : ℕ → KeyRecord → Node
+node_with root key = record { key = key; class = []; values = []; cells = met_of root key [] []; index = Unlisted }
+
+root-look : (h : Heap) (root : ℕ) (r : IsFreshRoot h root) → look h root ≡ Some (node_with root r.key)
+unfolding look
+root-look h root r =
+    ap (option_and_then (node_in h root)) r.key_is
+    ∙ (ap (λ n. option_and_then (λ class. option_and_then (λ values. option_map (node_of root r.key class values) (index_at h r.key.fields.subkeys r.key.fields.subkeys_list)) (members_at r.key.fields.values r.key.fields.values_list h)) (pieces_at (if_any Class n r.key.fields.class) h)) r.fields.class_length
+    ∙ (ap (λ n. option_and_then (λ values. option_map (node_of root r.key ([], []) values) (index_at h r.key.fields.subkeys r.key.fields.subkeys_list)) (members_at n r.key.fields.values_list h)) r.fields.values
+    ∙ ap (λ n. option_map (node_of root r.key ([], []) ([], [])) (index_at h n r.key.fields.subkeys_list)) r.fields.subkeys))
+
+written-none : (h : Heap) (root : ℕ) (r : IsFreshRoot h root) → AreWrittenValues h (node_with root r.key)
+unfolding offsets_at
+written-none h root r = record {
+  list = record {
+    few = omega (arith, r.fields.values);
+    none = λ _. r.fields.values_list;
+    each = subst (λ n. AllByRecursion (IsWrittenValue h) (offsets_at n 0 (held h r.key.fields.values_list))) (sym r.fields.values) tt;
+    names = tt;
+    apart = tt;
+    sizes = tt;
+  };
+  longest_name = tt;
+  largest = tt;
+}
+
+root-seen : (h : Heap) (root : ℕ) (r : IsFreshRoot h root) → IsSeen h root root (node_with root r.key)
+root-seen h root r = record {
+  reads = root-look h root r;
+  written = record {
+    plain = r.plain;
+    flags = ap (λ f. bit_and f 103) r.fields.flags ∙ ap (λ b. cond b 36 32) (sym (same-number root));
+    name = r.name;
+    parent = λ _. r.fields.parent;
+    class = λ _. r.fields.class;
+    values = written-none h root r;
+    subkeys = r.fields.subkeys;
+    few = omega (arith, r.fields.subkeys);
+    none = λ _. r.fields.subkeys_list;
+    index = tt;
+  };
+}
+
+-- ---- the ring
+
+only-ring : (h : Heap) (at : ℕ) (security : KeySecurityRecord) → IsOnlySecurity h at security → IsRing h at []
+only-ring h at security o = record {
+  circles = record {
+    forward = ap (option_map (λ (s : KeySecurityRecord). s.fields.flink)) o.security_is ∙ ap Some o.flink;
+    back = ap (option_map (λ (s : KeySecurityRecord). s.fields.blink)) o.security_is ∙ ap Some o.blink;
+  };
+  apart = (tt, tt);
+  written = (record { security = security; reads = o.security_is; plain = o.plain; some = o.some; short = o.short }, tt);
+}
+
+only-count : (h : Heap) (at : ℕ) (security : KeySecurityRecord) → IsOnlySecurity h at security → count_at h at ≡ Some 1
+only-count h at security o = ap (option_map (λ (s : KeySecurityRecord). s.fields.count)) o.security_is ∙ ap Some o.count
+
+-- ---- the shape
+
+abbrev branch : ℕ → Node → Branch Node
+branch root node = record { place = root; node = node; below = End }
+
+shares-all : (h : Heap) (root : ℕ) (r : IsFreshRoot h root) (z : ℕ) → total_of (shares z) (branch root (node_with root r.key)) ≡ times z (r.key.fields.security ∷ [])
+shares-all h root r z = omega arith
+
+pub fresh-shape : (h : Heap) (root : ℕ) (r : IsFreshRoot h root) → IsWholeShape h root (branch root (node_with root r.key)) r.key.fields.security []
+fresh-shape h root r = record {
+  place = refl;
+  stands = (root-seen h root r, record { places = refl; hashes = refl; order = tt; parents = tt; longest_name = tt; longest_class = tt }, tt);
+  exact = λ z. (let x = r.exact z in omega (arith, x));
+  ring = only-ring h r.key.fields.security r.security r.only;
+  ringed = λ z. ((λ l. (let s = shares-all h root r z in omega (arith, s, l))), λ l. (let s = shares-all h root r z in omega (arith, s, l)));
+  counts = (only-count h r.key.fields.security r.security r.only ∙ ap Some (sym (shares-all h root r r.key.fields.security ∙ (let one : ◌≡◌ {A = ℕ} (cond (eqb r.key.fields.security r.key.fields.security) 1 0) 1 = ap (λ b. cond b 1 0) (same-number r.key.fields.security) in omega (arith, one)))), tt);
+  shallow = omega arith;
+}
+
+-- the record that the root spells
+pub fresh-rec : (h : Heap) (root : ℕ) (r : IsFreshRoot h root) → rec_of (node_with root r.key) (descriptor_in h r.key.fields.security) ≡ made_root r.key.name r.security.descriptor r.key.fields.time
+fresh-rec h root r =
+    let name : name_of r.key ≡ r.key.name = ap (λ f. letters (not (bit_and f 32 == 0)) r.key.name) r.fields.flags in
+    let described : descriptor_in h r.key.fields.security ≡ r.security.descriptor = ap (λ (o : Option KeySecurityRecord). unwrap_or (option_map (λ (s : KeySecurityRecord). s.descriptor) o) []) r.only.security_is in
+    let marks : marks_of r.key.fields.flags ≡ 8 = ap marks_of r.fields.flags in
+    λ i. record { name = name i; marks = marks i; class = []; descriptor = described i; time = r.key.fields.time; values = [] }
+
+-- ---- the two cells
+
+held-none : (h : Heap) (o : ℕ) → h o ≡ None → ◌≡◌ {A = ℕ} (allocated h o) 0
+held-none h o e = ap (λ (c : Option (List ℕ)). cond (is_some c) 1 0) e
+
+-- two cells are all
+two-alone : (m : Heap) (root at : ℕ) → root ≢ at → allocated m root ≡ 1 → allocated m at ≡ 1 → ((o : ℕ) → o ≢ root → o ≢ at → allocated m o ≡ 0) → (z : ℕ) → times z (root ∷ at ∷ []) ≡ allocated m z
+two-alone m root at apart sr sa others z = by (eqb root z) refl (eqb at z) refl
+  where
+    by : (s : Bool) → eqb root z ≡ s → (t : Bool) → eqb at z ≡ t → times z (root ∷ at ∷ []) ≡ allocated m z
+    by true e true f = absurd (apart (eqb-true root z e ∙ sym (eqb-true at z f)))
+    by true e false f =
+        let b : allocated m z ≡ 1 = ap (allocated m) (sym (eqb-true root z e)) ∙ sr in
+        let one : ◌≡◌ {A = ℕ} (cond (eqb root z) 1 0) 1 = ap (λ t. cond t 1 0) e in
+        let none : ◌≡◌ {A = ℕ} (cond (eqb at z) 1 0) 0 = ap (λ t. cond t 1 0) f in
+        omega (arith, b, one, none)
+    by false e true f =
+        let b : allocated m z ≡ 1 = ap (allocated m) (sym (eqb-true at z f)) ∙ sa in
+        let one : ◌≡◌ {A = ℕ} (cond (eqb at z) 1 0) 1 = ap (λ t. cond t 1 0) f in
+        let none : ◌≡◌ {A = ℕ} (cond (eqb root z) 1 0) 0 = ap (λ t. cond t 1 0) e in
+        omega (arith, b, one, none)
+    by false e false f =
+        let o = others z (λ s. eqb-false root z e (sym s)) (λ s. eqb-false at z f (sym s)) in
+        let a : ◌≡◌ {A = ℕ} (cond (eqb root z) 1 0) 0 = ap (λ t. cond t 1 0) e in
+        let b : ◌≡◌ {A = ℕ} (cond (eqb at z) 1 0) 0 = ap (λ t. cond t 1 0) f in
+        omega (arith, o, a, b)
+
+-- bytes without bins have no cells
+no-cells : (bytes : List ℕ) → bytes ≡ [] → (z : ℕ) → cell_at bytes z ≡ None
+unfolding cell_at cells_of
+no-cells bytes e z = ap (λ bs. cell_at bs z) e
+
+-- the fixed part of a new root's key node
+abbrev new_fields : ℕ → ℕ → KeyFields
+new_fields security moment = record {
+  flags = 44;
+  time = moment;
+  parent = 4294967295;
+  subkeys = 0;
+  subkeys_list = 4294967295;
+  values = 0;
+  values_list = 4294967295;
+  security = security;
+  class = 4294967295;
+  class_length = 0;
+  largest_subkey_name = 0;
+  largest_subkey_class = 0;
+  largest_value_name = 0;
+  largest_value_data = 0;
+}
+
+pub record IsMade (h : Heap) (root : ℕ) (name descriptor : List ℕ) (moment : ℕ) : Type 0 where
+  pub root_is : IsFreshRoot h root
+  pub name_is : root_is.key.name ≡ name
+  pub described : root_is.security.descriptor ≡ descriptor
+  pub time : root_is.key.fields.time ≡ moment
+
+-- a new root's two cells
+pub made : (e b i k : Bins) (root security node_size ring_size n m : ℕ) (fields : KeyFields) (ring : SecurityFields) (name descriptor : List ℕ) (moment : ℕ) → fields ≡ new_fields security moment → ring ≡ record { flink = security; blink = security; count = 1 }
+    → is_key_name name ≡ true → 1 ≤ length descriptor → length descriptor ≤ 65535 → e.bytes ≡ [] → AreCarved e b root security node_size ring_size
+    → WritesRecord b i security n (sk_bytes ring descriptor) → IsPlainSecurity (held (cell_at i.bytes) security) → security_at (cell_at i.bytes) security ≡ Some (record { fields = ring; descriptor = descriptor })
+    → WritesRecord i k root m (nk_bytes fields name) → IsPlainKey (held (cell_at k.bytes) root) → key_at (cell_at k.bytes) root ≡ Some (record { fields = fields; name = name }) → IsMade (cell_at k.bytes) root name descriptor moment
+made e b i k root security node_size ring_size n m fields ring name descriptor moment is ring_is valid some short none carved sk_written sk_plain secured nk_written nk_plain keyed =
+    let key : KeyRecord = record { fields = new_fields security moment; name = name } in
+    let off : security ≢ root = λ e. carved.apart (sym e) in
+    let key_now : key_at (cell_at k.bytes) root ≡ Some key = keyed ∙ ap (λ (f : KeyFields). Some (let r : KeyRecord = record { fields = f; name = name } in r)) is in
+    let at_now : cell_at k.bytes security ≡ cell_at i.bytes security = nk_written.others security off in
+    let security_now = security_at-same (cell_at i.bytes) (cell_at k.bytes) security at_now ∙ secured in
+    record {
+      root_is = record {
+        key = key;
+        security = record { fields = ring; descriptor = descriptor };
+        key_is = key_now;
+        plain = nk_plain;
+        name = valid;
+        fields = record { flags = refl; parent = refl; subkeys = refl; subkeys_list = refl; class = refl; class_length = refl; values = refl; values_list = refl };
+        only = record {
+          security_is = security_now;
+          plain = subst IsPlainSecurity (sym (ap (λ (c : Option (List ℕ)). unwrap_or c []) at_now)) sk_plain;
+          flink = ap (λ (f : SecurityFields). f.flink) ring_is;
+          blink = ap (λ (f : SecurityFields). f.blink) ring_is;
+          count = ap (λ (f : SecurityFields). f.count) ring_is;
+          some = some;
+          short = short;
+        };
+        exact = two-alone (cell_at k.bytes) root security carved.apart
+            (allocated-is (cell_at k.bytes) root (is_some_of _ _ nk_written.here))
+            (allocated-is (cell_at k.bytes) security (is_some_of _ _ (at_now ∙ sk_written.here)))
+            (λ o r s. held-none (cell_at k.bytes) o (nk_written.others o r ∙ (sk_written.others o s ∙ (carved.others o r s ∙ no-cells e.bytes none o))));
+      };
+      name_is = refl;
+      described = refl;
+      time = refl;
+    }

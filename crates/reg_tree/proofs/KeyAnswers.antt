@@ -1,0 +1,4 @@
+-- What is told of a key.
+pub mod RefinementOfKey
+pub mod AnswerBounds
+pub mod RefinementOfValues

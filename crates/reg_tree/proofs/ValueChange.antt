@@ -1,0 +1,4 @@
+-- A key's values changed.
+pub mod ValueExchange
+pub mod LargestLengths
+pub mod TreeAfterValueChange

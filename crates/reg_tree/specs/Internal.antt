@@ -1,0 +1,8 @@
+-- Words that only private contracts and proofs use: what each step of a change does to the cells.
+pub mod FreshCells
+pub mod KeyNodeChanges
+pub mod TreeFaults
+pub mod PathWalks
+pub mod KeyDeletion
+pub mod SpareCells
+pub mod KeyCreation

@@ -1,0 +1,82 @@
+-- What is written into a key node, and what is told of a value.
+use Rattle.std.specs.Prelude.{◌≡◌, ◌≢◌, ℕ, ◌+◌, ◌-◌, ◌*◌, ◌%◌, max, List, length, Option, Some, None, slice_get}
+use Rattle.reg_heap.specs.Paths.{Member}
+use Rattle.reg_heap.specs.Internal.Heaps.{Heap}
+use Rattle.reg_records.specs.RecordCells.{held}
+use Rattle.reg_records.specs.KeyNodes.{KeyRecord, key_at, IsPlainKey}
+use Rattle.reg_records.specs.KeySecurities.{KeySecurityRecord, security_at, IsPlainSecurity}
+use Rattle.reg_records.specs.declared.nk.KeyFields.{KeyFields}
+use Rattle.reg_tree.specs.declared.value.ValueFound.{ValueFound}
+
+-- a key node after its values changed: their number and list, the time, and the two largest lengths, which only grow
+abbrev pub noted : ℕ → ℕ → ℕ → ℕ → ℕ → KeyRecord → KeyRecord
+noted count place name size moment key = record key {
+  fields = record key.fields {
+    time = moment;
+    values = count;
+    values_list = place;
+    largest_value_name = max key.fields.largest_value_name (2 * name);
+    largest_value_data = max key.fields.largest_value_data size;
+  };
+}
+
+-- a length in the low 16 bits of a number raised, where another is greater; the high bits stay
+abbrev pub raised : ℕ → ℕ → ℕ
+raised largest size = largest - largest % 65536 + max (largest % 65536) size
+
+-- a key node after its subkeys changed: their number and list, the time, and the largest length of a name, which only grows
+abbrev pub noted_subkeys : ℕ → ℕ → ℕ → ℕ → KeyRecord → KeyRecord
+noted_subkeys count place name moment key = record key {
+  fields = record key.fields {
+    time = moment;
+    subkeys = count;
+    subkeys_list = place;
+    largest_subkey_name = raised key.fields.largest_subkey_name (2 * name);
+  };
+}
+
+-- the fixed part of a made key's key node: no marks, a name of one byte a character, no subkeys, values or class
+abbrev pub made_fields : ℕ → ℕ → ℕ → KeyFields
+made_fields parent security moment = record {
+  flags = 32;
+  time = moment;
+  parent = parent;
+  subkeys = 0;
+  subkeys_list = 4294967295;
+  values = 0;
+  values_list = 4294967295;
+  security = security;
+  class = 4294967295;
+  class_length = 0;
+  largest_subkey_name = 0;
+  largest_subkey_class = 0;
+  largest_value_name = 0;
+  largest_value_data = 0;
+}
+
+-- a key node names a list of so many values
+abbrev pub HasList : Heap → ℕ → ℕ → ℕ → Type 0
+HasList heap cell count place = (key : KeyRecord) → key_at heap cell ≡ Some key → (count ≡ key.fields.values) × (place ≡ key.fields.values_list)
+
+-- a key node names a list of so many subkeys
+abbrev pub HasSubkeysList : Heap → ℕ → ℕ → ℕ → Type 0
+HasSubkeysList heap cell count place = (key : KeyRecord) → key_at heap cell ≡ Some key → (count ≡ key.fields.subkeys) × (place ≡ key.fields.subkeys_list)
+
+-- a key security counts more keys or fewer, and no other cell changed
+pub record Recounts (old new : Heap) (cell : ℕ) (change : ℕ → ℕ) : Type 0 where
+  pub reads : (s : KeySecurityRecord) → security_at old cell ≡ Some s → security_at new cell ≡ Some (record s { fields = record s.fields { count = change s.fields.count } })
+  pub plain : IsPlainSecurity (held old cell) → IsPlainSecurity (held new cell)
+  pub others : (offset : ℕ) → offset ≢ cell → new offset ≡ old offset
+
+-- a change was noted in a key's key node, and no other cell changed
+pub record Notes (old new : Heap) (cell : ℕ) (change : KeyRecord → KeyRecord) : Type 0 where
+  pub reads : (key : KeyRecord) → key_at old cell ≡ Some key → key_at new cell ≡ Some (change key)
+  pub plain : IsPlainKey (held old cell) → IsPlainKey (held new cell)
+  pub others : (offset : ℕ) → offset ≢ cell → new offset ≡ old offset
+
+-- a value that was found: its place among the values, its type and the size of its data; or there is none
+abbrev pub IsFound : List Member → Option Member → Option ValueFound → Type 0
+IsFound members None None = Unit {0}
+IsFound members None (Some found) = ⊥
+IsFound members (Some member) None = ⊥
+IsFound members (Some member) (Some found) = (slice_get members found.index ≡ Some member) × (found.kind ≡ member.kind) × (found.size ≡ length member.bytes)

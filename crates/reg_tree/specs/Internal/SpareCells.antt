@@ -1,0 +1,105 @@
+-- Keys made one after another, in cells that were carved for them before.
+use Rattle.std.specs.Prelude.{◌≡◌, ℕ, ◌+◌, ◌*◌, ◌/◌, ◌<◌, ◌≤◌, cond, Option, Some, None, List, [], ◌∷◌, ◌++◌, map, length}
+use Rattle.std.specs.Option.{option_and_then}
+use Rattle.std.specs.Ordering.{eq_by_cmp}
+use Rattle.reg_names.specs.Names.{folded}
+use Rattle.reg_heap.specs.Paths.{Path, path_cmp}
+use Rattle.reg_heap.specs.Internal.Heaps.{Heap, Swaps}
+use Rattle.reg_heap.specs.Internal.Kinds.{times}
+use Rattle.reg_heap.specs.Edits.{child_path, with_key, with_keys}
+use Rattle.reg_shape.specs.Internal.Forests.{Branch, total_of}
+use Rattle.reg_arena.specs.Cells.{cell_at}
+use Rattle.reg_records.specs.KeyNodes.{KeyRecord, key_at}
+use Rattle.reg_shape.specs.Nodes.{Node}
+use Rattle.reg_shape.specs.Internal.Shapes.{tree_of}
+use Rattle.reg_shape.specs.Internal.Grafts.{IsShape}
+use Rattle.reg_shape.specs.Internal.PathLookup.{place_at, subkey_named}
+use Rattle.reg_records.specs.RecordCells.{HasRoom}
+use Rattle.reg_index.specs.Subkeys.{insert_size, IsReady, taken}
+use Rattle.reg_tree.specs.declared.node.Node.{Node as TreeNode}
+use Rattle.reg_tree.specs.TreeInvariant.{rooted}
+
+-- the size of the cell that one subkey more takes of a key; none where its list has room for it
+abbrev pub planned : Heap → ℕ → Option ℕ
+planned heap key = option_and_then (λ (k : KeyRecord). insert_size heap k.fields.subkeys k.fields.subkeys_list) (key_at heap key)
+
+-- a key of a tree whose keys have all cells but those that are spare
+pub record IsGrowing (bytes : List ℕ) (key : ℕ) (spare : List ℕ) : Type 0 where
+  pub root : ℕ
+  pub path : Path
+  pub keys : Branch Node
+  pub first : ℕ
+  pub shape : IsShape (cell_at bytes) root keys first [] spare
+  pub unrooted : total_of rooted keys ≡ 0
+  pub at : place_at (cell_at bytes) root path ≡ Some key
+
+-- a key of a name may be made below it: none of that name is there, the path has room, and there are fewer than 500 subkeys
+pub record MayGrow (bytes : List ℕ) (key : ℕ) (spare : List ℕ) (name : List ℕ) : Type 0 where
+  pub growing : IsGrowing bytes key spare
+  pub missing : subkey_named (cell_at bytes) (folded name) key ≡ None
+  pub deep : length growing.path < 512
+  pub few : (k : KeyRecord) → key_at (cell_at bytes) key ≡ Some k → k.fields.subkeys < 500
+
+-- a key of a name was made below the one at a path, at an offset; the tree has it, each other key stays where it stands, and so
+-- do the spare cells that are left; the key made has no subkeys
+pub record Grows (old new : Heap) (root : ℕ) (path : Path) (keys : Branch Node) (first made : ℕ) (left name : List ℕ) (moment : ℕ) : Type 0 where
+  pub now : Branch Node
+  pub shape : IsShape new root now first [] left
+  pub unrooted : total_of rooted now ≡ 0
+  pub tree : tree_of new now ≡ with_key (tree_of old keys) path name moment
+  pub places : (q : Path) → place_at new root q ≡ cond (eq_by_cmp path_cmp q (child_path path name)) (Some made) (place_at old root q)
+  pub spare : (z : ℕ) → 0 < times z left → new z ≡ old z
+  pub childless : (x : List ℕ) → subkey_named new x made ≡ None
+  pub unlisted : planned new made ≡ Some 16
+  pub none : (k : KeyRecord) → key_at new made ≡ Some k → k.fields.subkeys ≡ 0
+
+-- the spare cells begin with those of one key: its parent's list's, where one is planned, and its key node's; what holds of those
+-- that are left is left open
+pub record IsNext (heap : Heap) (plan : Option ℕ) (name spare : List ℕ) (Rest : List ℕ → Type 0) : Type 0 where
+  pub list_cell : ℕ
+  pub key : ℕ
+  pub left : List ℕ
+  pub spare_is : spare ≡ taken plan list_cell ++ key ∷ left
+  pub ready : IsReady heap plan list_cell
+  pub room : HasRoom heap key (76 + length name)
+  pub rest : Rest left
+
+-- the spare cells are those that keys of these names take, one below the other; each but the first begins a list
+abbrev pub AreReady : Heap → Option ℕ → List (List ℕ) → List ℕ → Type 0
+AreReady heap plan [] spare = spare ≡ []
+AreReady heap plan (name ∷ names) spare = IsNext heap plan name spare (AreReady heap (Some 16) names)
+
+-- the sizes of these cells, in order; a key node of a name takes a cell of that size
+abbrev pub planned_sizes : Option ℕ → List ℕ
+planned_sizes None = []
+planned_sizes (Some size) = size ∷ []
+
+abbrev pub key_size : List ℕ → ℕ
+key_size name = (87 + length name) / 8 * 8
+
+abbrev pub sizes_of : Option ℕ → List (List ℕ) → List ℕ
+sizes_of plan [] = []
+sizes_of plan (name ∷ names) = planned_sizes plan ++ key_size name ∷ sizes_of (Some 16) names
+
+-- keys of these names may be made one below the other, from a node on, in the spare cells
+pub record MayGrowAll (bytes : List ℕ) (from : TreeNode) (names : List (List ℕ)) (spare : List ℕ) : Type 0 where
+  pub growing : IsGrowing bytes from.offset spare
+  pub missing : (name : List ℕ) (others : List (List ℕ)) → names ≡ name ∷ others → subkey_named (cell_at bytes) (folded name) from.offset ≡ None
+  pub deep : length growing.path + length names ≤ 512
+  pub few : (k : KeyRecord) → key_at (cell_at bytes) from.offset ≡ Some k → k.fields.subkeys < 500
+  pub ready : AreReady (cell_at bytes) (planned (cell_at bytes) from.offset) names spare
+
+-- keys of these names were made one below the other, below the one at a path; each other key stays where it stands
+pub record GrowsAll (old new : Heap) (root : ℕ) (path : Path) (keys : Branch Node) (first : ℕ) (from made : TreeNode) (names : List (List ℕ)) (moment : ℕ) : Type 0 where
+  pub now : Branch Node
+  pub shape : IsShape new root now first [] []
+  pub unrooted : total_of rooted now ≡ 0
+  pub tree : tree_of new now ≡ with_keys (tree_of old keys) path names moment
+  pub place : place_at new root (path ++ map folded names) ≡ Some made.offset
+  pub depth : made.depth ≡ from.depth + length names
+  pub keeps : (q : Path) (o : ℕ) → place_at old root q ≡ Some o → place_at new root q ≡ Some o
+
+-- the cells that keys of these names take below a key are new, each once, and no other cell changed
+pub record IsSpared (old new : List ℕ) (key : ℕ) (names : List (List ℕ)) (spare : List ℕ) : Type 0 where
+  pub come : Swaps (cell_at old) (cell_at new) (λ z. 0) (λ z. times z spare)
+  pub ready : AreReady (cell_at new) (planned (cell_at old) key) names spare

@@ -1,0 +1,7 @@
+-- A value's data in cells: written and read back.
+pub mod DataPieces
+pub mod FilledCells
+pub mod StoredData
+pub mod NewCellRoom
+pub mod WrittenValues
+pub mod CellSizeTotals

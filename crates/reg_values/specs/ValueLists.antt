@@ -1,0 +1,47 @@
+-- Lists of values, before and after a change (Suhanov, Windows registry file format specification, "Key values list",
+-- "Key value").
+use Rattle.std.specs.Prelude.{◌≡◌, ℕ, ◌+◌, ◌<◌, ◌≤◌, IsSome, Some, None, List, map, length}
+use Rattle.reg_heap.specs.Paths.{Member}
+use Rattle.reg_heap.specs.Members.{value_named}
+use Rattle.reg_heap.specs.Internal.Heaps.{Heap, Swaps, allocated}
+use Rattle.reg_heap.specs.Internal.Kinds.{Found, times, owned}
+use Rattle.reg_records.specs.RecordCells.{held}
+use Rattle.reg_shape.specs.Nodes.{members_at}
+use Rattle.reg_shape.specs.Written.{AreWritten}
+
+-- a list of so many values stands at a place: it reads as these, its cells are allocated and each is met once, and it is as it is
+-- written
+pub record AreValues (heap : Heap) (count place : ℕ) : Type 0 where
+  pub members : List Member
+  pub met : List Found
+  pub reads : members_at count place heap ≡ Some (members, met)
+  pub once : (offset : ℕ) → owned offset met ≤ allocated heap offset
+  pub written : AreWritten heap count place members
+
+-- one of the values has that name, after folding
+pub record IsNamed (heap : Heap) (count place : ℕ) (name : List ℕ) : Type 0 where
+  pub members : List Member
+  pub met : List Found
+  pub reads : members_at count place heap ≡ Some (members, met)
+  pub there : IsSome (value_named name members)
+
+-- the list reads as these values now, and is as it is written; it gave up the cells that it had for those that it has, and no
+-- other cell changed
+pub record Became (old new : Heap) (met : List Found) (count place : ℕ) (members : List Member) : Type 0 where
+  pub cells : List Found
+  pub reads : members_at count place new ≡ Some (members, cells)
+  pub swaps : Swaps old new (λ offset. owned offset met) (λ offset. owned offset cells)
+  pub written : AreWritten new count place members
+
+-- the cells that came have these sizes, in order
+pub record Makes (old new : Heap) (sizes : List ℕ) : Type 0 where
+  pub offsets : List ℕ
+  pub sizes_are : map (λ offset. length (held new offset) + 4) offsets ≡ sizes
+  pub fresh : (offset : ℕ) → 0 < times offset offsets → old offset ≡ None
+  pub only : (offset : ℕ) → old offset ≡ None → IsSome (new offset) → 0 < times offset offsets
+
+-- a value as it is told without its bytes
+pub record Tells (member : Member) (name : List ℕ) (kind size : ℕ) : Type 0 where
+  pub name_is : name ≡ member.name
+  pub kind_is : kind ≡ member.kind
+  pub size_is : size ≡ length member.bytes

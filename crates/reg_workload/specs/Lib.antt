@@ -1,0 +1,3 @@
+pub mod LiveCells
+pub mod Operations
+pub mod Subjects

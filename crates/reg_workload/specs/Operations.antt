@@ -1,0 +1,22 @@
+-- What is done by a handle.
+use Rattle.std.specs.Prelude.{ℕ, codes, Some}
+use Rattle.reg_model.specs.declared.call.Call.{Call}
+use Rattle.reg_model.specs.declared.call.Call.TheVariants.{Change as Changes, Query as Asks}
+use Rattle.reg_model.specs.declared.call.Change.TheVariants.{OpenKey, CreateKey, SetValue, DeleteValue as DropsValue, DeleteKey as DropsKey, Close as Closes}
+use Rattle.reg_model.specs.declared.call.Query.TheVariants.{QueryValue, EnumKey as ListsKey, EnumValue as ListsValue, QueryInfo}
+use Rattle.reg_workload.specs.declared.operations.Operation.{Operation}
+use Rattle.reg_workload.specs.declared.operations.Operation.TheVariants.{Open, CreateOld, CreateNew, Query, Set, EnumKey, EnumValue, Info, DeleteValue, DeleteKey, Close}
+
+-- the call of each operation: `Old` is the subkey that is there, `New` the one that is made, and `v` the value
+abbrev pub call_of : Operation → ℕ → Call
+call_of Open h = Changes (OpenKey h (codes "Old") 983103)
+call_of CreateOld h = Changes (CreateKey h (codes "Old") 983103)
+call_of CreateNew h = Changes (CreateKey h (codes "New") 983103)
+call_of Query h = Asks (QueryValue h (codes "v") (Some 4294967295))
+call_of Set h = Changes (SetValue h (codes "v") 4 (codes "data"))
+call_of EnumKey h = Asks (ListsKey h 0 16383)
+call_of EnumValue h = Asks (ListsValue h 0 16383 (Some 4294967295))
+call_of Info h = Asks (QueryInfo h)
+call_of DeleteValue h = Changes (DropsValue h (codes "v"))
+call_of DeleteKey h = Changes (DropsKey h (codes "New"))
+call_of Close h = Changes (Closes h)

@@ -1,0 +1,43 @@
+//! What can be measured.
+ghost use Rattle.std.specs.Prelude.{◌≡◌};
+ghost use Rattle.reg_workload.specs.Subjects.{subject_named};
+
+/// What can be measured.
+#[derive(Clone, Copy)]
+pub enum Subject {
+    /// Carving and freeing cells.
+    Arena,
+    /// Calls by handles, of which few or many are open.
+    Handles,
+    /// Making keys and finding them by their paths.
+    Keys,
+    /// A script of many lines.
+    Script,
+    /// Setting values and asking for them.
+    Values,
+}
+
+impl Subject {
+    /// The subject of a name, `arena`, `handles`, `keys`, `script` or `values`; `None` of any other.
+    #[tactic(auto, unfolding(crate::specs::Subjects::subject_named))]
+    pub fn named(name: &[u8]) -> Option<Subject>
+        ensures { result ≡ subject_named name.now }
+    {
+        if name == b"arena".as_slice() {
+            return Some(Subject::Arena);
+        }
+        if name == b"handles".as_slice() {
+            return Some(Subject::Handles);
+        }
+        if name == b"keys".as_slice() {
+            return Some(Subject::Keys);
+        }
+        if name == b"script".as_slice() {
+            return Some(Subject::Script);
+        }
+        if name == b"values".as_slice() {
+            return Some(Subject::Values);
+        }
+        None
+    }
+}
