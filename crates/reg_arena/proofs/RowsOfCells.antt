@@ -26,7 +26,9 @@ header at size = little_bytes 4 1852400232 ++ (little_bytes 4 at ++ (little_byte
 -- `hbin`, offset 0, size 4096 and 20 zeros; -88; -48; 3928 and no next cell
 abbrev fresh_hive : List ℕ
 fresh_hive =
-    (104 ∷ 98 ∷ 105 ∷ 110 ∷ 0 ∷ 0 ∷ 0 ∷ 0 ∷ 0 ∷ 16 ∷ 0 ∷ 0 ∷ []) ++ (replicate 20 0 ++ ((168 ∷ 255 ∷ 255 ∷ 255 ∷ []) ++ (replicate 84 0 ++ ((208 ∷ 255 ∷ 255 ∷ 255 ∷ []) ++ (replicate 44 0 ++ ((88 ∷ 15 ∷ 0 ∷ 0 ∷ 255 ∷ 255 ∷ 255 ∷ 255 ∷ []) ++ replicate 3920 0))))))
+    (104 ∷ 98 ∷ 105 ∷ 110 ∷ 0 ∷ 0 ∷ 0 ∷ 0 ∷ 0 ∷ 16 ∷ 0 ∷ 0 ∷ []) ++
+    (replicate 20 0 ++ ((168 ∷ 255 ∷ 255 ∷ 255 ∷ []) ++
+    (replicate 84 0 ++ ((208 ∷ 255 ∷ 255 ∷ 255 ∷ []) ++ (replicate 44 0 ++ ((88 ∷ 15 ∷ 0 ∷ 0 ∷ 255 ∷ 255 ∷ 255 ∷ 255 ∷ []) ++ replicate 3920 0))))))
 
 fresh_hive-cells : cells_of fresh_hive ≡ Some (used 32 88 ∷ used 120 48 ∷ unused 168 3928 ∷ [])
 unfolding cells_of word

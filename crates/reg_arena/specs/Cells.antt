@@ -1,6 +1,7 @@
 -- The cells of the bins.
 -- Suhanov, Windows registry file format specification, sections "Hive bin" and "Cell".
-use Rattle.std.specs.Prelude.{◌≡◌, ℕ, zero, suc, ◌+◌, ◌-◌, ◌<◌, ◌≤◌, ◌%◌, Bool, true, false, ◌&&◌, if◌then◌else◌, nat_lt, nat_le, ◌==◌, List, [], ◌∷◌, ◌++◌, length, take, drop, Option, Some, None, option_map, flat_map}
+use Rattle.std.specs.Prelude.{◌≡◌, ℕ, zero, suc, ◌+◌, ◌-◌, ◌<◌, ◌≤◌, ◌%◌, Bool, true, false, ◌&&◌, if◌then◌else◌, nat_lt, nat_le, ◌==◌, List, [], ◌∷◌}
+use Rattle.std.specs.Prelude.{◌++◌, length, take, drop, Option, Some, None, option_map, flat_map}
 use Rattle.reg_heap.specs.ByteWords.{word}
 use Rattle.reg_arena.specs.declared.Cell.{Cell}
 
@@ -64,7 +65,12 @@ cells_from (suc steps) bins at stop =
     choose (at == stop) (λ _. Some []) (λ _.
     let size = size_in (word bins at) in
     choose (nat_lt 0 size && (size % 8 == 0) && nat_le (at + size) stop)
-    (λ _. option_map (λ (cells : List Cell). record { offset = at; size = size; allocated = is_allocated_in (word bins at) } ∷ cells) (cells_from steps bins (at + size) stop))
+    (λ _. option_map (λ (cells : List Cell). record {
+      offset = at;
+      size = size;
+      allocated =
+          is_allocated_in (word bins at);
+    } ∷ cells) (cells_from steps bins (at + size) stop))
     (λ _. None))
 
 -- both lists, where both are there

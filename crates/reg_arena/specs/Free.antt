@@ -1,6 +1,7 @@
 -- The lists of free cells. A link stands behind a free cell's size field; the format leaves those bytes open.
 -- The lists are as many as there are classes of sizes: `class_of` gives a size's class, and class k has the k-th head.
-use Rattle.std.specs.Prelude.{◌≡◌, ℕ, ◌+◌, ◌<◌, Bool, false, not, ◌&&◌, ◌==◌, List, [], ◌∷◌, ◌++◌, ◌⊎◌, zero, ◌≤◌, ◌-◌, length, map, filter, if◌then◌else◌, ⊤, suc}
+use Rattle.std.specs.Prelude.{◌≡◌, ℕ, ◌+◌, ◌<◌, Bool, false, not, ◌&&◌, ◌==◌, List, [], ◌∷◌, ◌++◌, ◌⊎◌, zero, ◌≤◌, ◌-◌, length, map, filter}
+use Rattle.std.specs.Prelude.{if◌then◌else◌, ⊤, suc}
 use Rattle.std.specs.List.{AllByRecursion}
 use Rattle.byteorder.specs.Endian.{little_bytes}
 use Rattle.reg_heap.specs.ByteWords.{word, splice}
@@ -52,7 +53,8 @@ TakesOut old head count previous cell total new head' count' =
     let size = size_in (word old cell) in
     let next = word old (cell + 4) in
     ((size ≡ total) × (new ≡ linked previous next old) × (head' ≡ head_after previous next head) × (count' + 1 ≡ count))
-    ⊎ ((total < size) × (new ≡ freed (cell + total) (size - total) next (linked previous (cell + total) old)) × (head' ≡ head_after previous (cell + total) head) × (count' ≡ count))
+    ⊎ ((total < size) × (new ≡ freed (cell + total) (size - total) next (linked previous (cell + total) old)) ×
+    (head' ≡ head_after previous (cell + total) head) × (count' ≡ count))
 
 -- the free cells of a class
 abbrev pub is_free_of : (ℕ → ℕ) → ℕ → Cell → Bool

@@ -51,4 +51,5 @@ Unlinks some cell old head count backs new head' count' backs' =
     let previous = get_or backs (cell / 8) 0 in
     let next = word old (cell + 4) in
     ((some ≡ 0) × (new ≡ old) × (head' ≡ head) × (count' ≡ count) × (backs' ≡ backs))
-    ⊎ ((0 < some) × (next < 4294967296) × (new ≡ linked previous next old) × (head' ≡ head_after previous next head) × (backs' ≡ marked next previous backs) × (count' + 1 ≡ count))
+    ⊎ ((0 < some) × (next < 4294967296) × (new ≡ linked previous next old) × (head' ≡ head_after previous next head) ×
+    (backs' ≡ marked next previous backs) × (count' + 1 ≡ count))

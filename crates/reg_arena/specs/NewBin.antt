@@ -27,7 +27,10 @@ HasRoomForBin bytes total = (size : ℕ) → IsBinSize size total → length byt
 -- (Suhanov, sections "Hive bin" and "Cell")
 abbrev pub new_bin : ℕ → ℕ → ℕ → List ℕ
 new_bin at size link =
-    little_bytes 4 1852400232 ++ (little_bytes 4 at ++ (little_bytes 4 size ++ (replicate 20 0 ++ (little_bytes 4 (size - 32) ++ (little_bytes 4 link ++ replicate (size - 40) 0)))))
+    little_bytes 4 1852400232 ++
+    (little_bytes 4 at ++
+    (little_bytes 4 size ++
+    (replicate 20 0 ++ (little_bytes 4 (size - 32) ++ (little_bytes 4 link ++ replicate (size - 40) 0)))))
 
 -- the bytes after the three words of a bin's header were written
 abbrev pub headed : ℕ → ℕ → List ℕ → List ℕ

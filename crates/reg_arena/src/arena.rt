@@ -1,5 +1,6 @@
 //! The arena as callers see it.
-ghost use Rattle.std.specs.Prelude.{◌≡◌, ◌==◌, ◌+◌, ◌-◌, ◌≤◌, ◌<◌, ℕ, List, [], ◌∷◌, ◌++◌, length, take, drop, IsSome, Some, None, unwrap_or, if◌then◌else◌, IfOk, IfErr, OnOk, OnErr, ◌↔◌};
+ghost use Rattle.std.specs.Prelude.{◌≡◌, ◌==◌, ◌+◌, ◌-◌, ◌≤◌, ◌<◌, ℕ, List, [], ◌∷◌, ◌++◌, length, take, drop, IsSome, Some, None, unwrap_or};
+ghost use Rattle.std.specs.Prelude.{if◌then◌else◌, IfOk, IfErr, OnOk, OnErr, ◌↔◌};
 ghost use Rattle.reg_heap.specs.Internal.Heaps.{GivesUp, Writes};
 ghost use Rattle.reg_heap.specs.ByteWords.{splice, word};
 ghost use Rattle.reg_arena.specs.Arena.{IsSound};

@@ -1,10 +1,10 @@
 //! Keys, made and resolved by paths of three names from the root.
 
 use anyhow::{Result, bail};
-use reg_workload::PerCall;
 use reg_model::Bytes;
 use reg_names::check_path;
 use reg_tree::Tree;
+use reg_workload::PerCall;
 use std::alloc::Global;
 use std::rt::Clock;
 use std::time::Instant;

@@ -7,8 +7,8 @@ ghost use Rattle.reg_bench.specs.Batches.{entries_of};
 use crate::hives::new_hive;
 use anyhow::{Result, bail};
 use reg_calls::Hive;
-use reg_workload::{ALL_RIGHTS, BATCH, OLD_SUBKEY, Operation, Size};
 use reg_model::{AnswerBody, Bytes, Call, Change, Query};
+use reg_workload::{ALL_RIGHTS, BATCH, OLD_SUBKEY, Operation, Size};
 use std::alloc::Global;
 
 /// The path of one of the keys of a hive of a size; above their number they come again.

@@ -3,8 +3,8 @@
 use crate::hives::new_hive;
 use anyhow::{Result, bail};
 use reg_calls::Hive;
-use reg_workload::{ALL_RIGHTS, PerCall};
 use reg_model::{AnswerBody, Bytes, Change, Query};
+use reg_workload::{ALL_RIGHTS, PerCall};
 use std::alloc::Global;
 use std::rt::Clock;
 use std::time::Instant;

@@ -21,7 +21,8 @@ abbrev handle_of : ℕ → ℕ → Found → Handle
 handle_of session number f = record { number = number; session = session; mask = f.mask; place = place_shown f.path }
 
 -- a handle with a path leads to the key at it
-abbrev pub lent : (store : Store) (session number : ℕ) (f : Found) (text : Bor (List ℕ)) → Some (handle_of session number f) ≡ look session number store.handles.handles → f.path ≡ Some text → IsTarget store session number
+abbrev pub lent : (store : Store) (session number : ℕ) (f : Found) (text : Bor (List ℕ)) →
+    Some (handle_of session number f) ≡ look session number store.handles.handles → f.path ≡ Some text → IsTarget store session number
 lent store session number f text e is = record { handle = handle_of session number f; path = path_of text.now; found = sym e; place = ap place_shown is }
 
 pub lent-path : (f : Found) (text : Bor (List ℕ)) → IfSome f.path (λ path. IsFoldedPath path.now) → f.path ≡ Some text → IsFoldedPath text.now

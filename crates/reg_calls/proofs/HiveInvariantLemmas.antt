@@ -1,5 +1,6 @@
 -- A hive's tables are what its journal says, and stay so after one accepted change more.
-use Rattle.std.proofs.Common.{◌≡◌, ℕ, ◌+◌, ◌<◌, ◌≤◌, Bool, true, false, not, nat_le, eqb, cond, is_some, List, [], ◌∷◌, ◌++◌, length, Option, Some, None, refl, sym, ap, ◌∙◌, subst, arith, length-append, true≢false}
+use Rattle.std.proofs.Common.{◌≡◌, ℕ, ◌+◌, ◌<◌, ◌≤◌, Bool, true, false, not, nat_le, eqb, cond, is_some, List, [], ◌∷◌, ◌++◌, length, Option, Some, None, refl, sym, ap, ◌∙◌, subst, arith}
+use Rattle.std.proofs.Common.{length-append, true≢false}
 use Rattle.std.specs.Prelude.{All}
 use Rattle.std.proofs.lemmas.List.{length-map}
 use Rattle.std.proofs.lemmas.Bool.{false≢true}
@@ -30,7 +31,8 @@ pub state-kept : {origin : Tree} {es : List Entry} {store : Store} {room : ℕ} 
 state-kept {es = es} kept = λ i. record { count = length es; world = sym (world-kept kept) i }
 
 -- the same at a hive's view
-pub state-view : {origin : Tree} {es : List Entry} {store : Store} {room : ℕ} (v : View) → IsKept origin es store room → record { origin = origin; journal = es; keys = store.tree; handles = store.handles.handles } ≡ v → state v ≡ at (length es) store
+pub state-view : {origin : Tree} {es : List Entry} {store : Store} {room : ℕ} (v : View) → IsKept origin es store room →
+    record { origin = origin; journal = es; keys = store.tree; handles = store.handles.handles } ≡ v → state v ≡ at (length es) store
 state-view v kept e = ap state (sym e) ∙ state-kept kept
 
 pub ready-kept : {origin : Tree} {es : List Entry} {store : Store} {room : ℕ} → IsKept origin es store room → IsReady (length es) store
@@ -58,7 +60,9 @@ closed-less : (number : ℕ) (hs : List Handle) → is_some (numbered number hs)
 closed-less number [] e = absurd (false≢true e)
 closed-less number (h ∷ hs) e = by (eqb h.number number) e (closed-less number hs) (closed-most number hs)
   where
-    by : (b : Bool) → is_some (cond b (Some h) (numbered number hs)) ≡ true → (is_some (numbered number hs) ≡ true → length (closed number hs) + 1 ≤ length hs) → length (closed number hs) ≤ length hs → length (cond (not b) (h ∷ closed number hs) (closed number hs)) + 1 ≤ length (h ∷ hs)
+    by : (b : Bool) → is_some (cond b (Some h) (numbered number hs)) ≡ true →
+        (is_some (numbered number hs) ≡ true → length (closed number hs) + 1 ≤ length hs) → length (closed number hs) ≤ length hs →
+        length (cond (not b) (h ∷ closed number hs) (closed number hs)) + 1 ≤ length (h ∷ hs)
     by true e rest most = omega (arith, most)
     by false e rest most = let l = rest e in omega (arith, l)
 
@@ -96,7 +100,8 @@ fits s e small = elim e.change as (λ (change : Change). change_cause s e.sessio
   | CreateKey h path mask ↦ λ none. let m = create-met s e.session h path mask 0 none in fits-push s e.session (CreateKey h path mask) _ refl m.room
   | SetValue h name kind bytes ↦ λ none. let m = set-met s e.session h name kind bytes 0 none in fits-same s (SetValue h name kind bytes) s.world.handles refl refl m.room
   | DeleteValue h name ↦ λ none. let m = drop-met s e.session h name 0 none in fits-same s (DeleteValue h name) s.world.handles refl refl m.room
-  | DeleteKey h path ↦ λ none. let m = delete-met s e.session h path 0 none in fits-same s (DeleteKey h path) (turned (path_from e.session h s.world.handles path) s.world.handles) (length-map s.world.handles _) refl m.room
+  | DeleteKey h path ↦ λ none. let m = delete-met s e.session h path 0 none in
+      fits-same s (DeleteKey h path) (turned (path_from e.session h s.world.handles path) s.world.handles) (length-map s.world.handles _) refl m.room
   | Close h ↦ λ none. let l = closed-fewer e.session h s.world.handles (close-met s e.session h 0 none) in
       record { small = omega (arith, small, l); grown = omega (arith, l); closing = λ c. l }
 ]
@@ -111,7 +116,8 @@ entry_with es session moment change told = record { number = length es; session 
 abbrev pub HasRoom : ℕ → Store → Change → Type 0
 HasRoom room store change = (is_closing change ≡ false → length store.handles.handles + 2 ≤ room) × (is_closing change ≡ true → length store.handles.handles ≤ room)
 
-module _ {origin : Tree} {es : List Entry} {store : Store} {room : ℕ} (kept : IsKept origin es store room) (session moment : ℕ) (change : Change) (none : change_cause (at (length es) store) session change 0 ≡ None)
+module _ {origin : Tree} {es : List Entry} {store : Store} {room : ℕ} (kept : IsKept origin es store room) (session moment : ℕ) (change : Change)
+    (none : change_cause (at (length es) store) session change 0 ≡ None)
     (new : Store) (told : ChangeReply) (done : IsDone store new session moment (length es) change told) where
   abbrev e : Entry
   e = entry_with es session moment change told
@@ -157,5 +163,6 @@ module _ {origin : Tree} {es : List Entry} {store : Store} {room : ℕ} (kept : 
         tree_is = ap (λ (w : World). w.tree) world-done;
         handles_are = ap (λ (w : World). w.handles) world-done;
         small = omega (arith, small, l);
-        room_kept = by_closing (length new.handles.handles ≤ room'') (λ c. let x = f.closing c in let r = h.1 c in omega (arith, x, r, used)) (λ c. let g = f.grown in let r = h.0 c in omega (arith, g, r, used));
+        room_kept = by_closing (length new.handles.handles ≤ room'') (λ c. let x = f.closing c in let r = h.1 c in
+            omega (arith, x, r, used)) (λ c. let g = f.grown in let r = h.0 c in omega (arith, g, r, used));
       }

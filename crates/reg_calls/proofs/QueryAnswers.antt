@@ -1,5 +1,6 @@
 -- What questions are answered.
-use Rattle.std.proofs.Common.{◌≡◌, ℕ, ◌+◌, ◌<◌, ◌≤◌, true, false, not, nat_lt, nat_le, cond, is_some, List, [], ◌∷◌, ◌++◌, map, take, length, slice_get, get_or, Option, Some, None, refl, sym, ap, ◌∙◌, subst, arith, inl, inr, ◌⊎◌}
+use Rattle.std.proofs.Common.{◌≡◌, ℕ, ◌+◌, ◌<◌, ◌≤◌, true, false, not, nat_lt, nat_le, cond, is_some, List, [], ◌∷◌, ◌++◌, map, take, length, slice_get, get_or, Option, Some, None, refl}
+use Rattle.std.proofs.Common.{sym, ap, ◌∙◌, subst, arith, inl, inr, ◌⊎◌}
 use Rattle.std.specs.Prelude.{bit_and, IsSome}
 use Rattle.std.specs.FinMap.{get, insert, empty}
 use Rattle.std.proofs.lemmas.Bool.{false≢true}
@@ -50,11 +51,14 @@ module _ (n : ℕ) (store : Store) (session h : ℕ) where
   value-refused name room status r =
       refused s session status (QueryValue h name room) (first _ _ _ status (r (λ x. refuse (not (is_value_name name)) 87 or refuse (not (has 1 x.mask)) 5)))
 
-  pub value-causes : (name : List ℕ) (room : Option ℕ) (mask : ℕ) (g : t) → mask ≡ g.handle.mask → query_cause s session (QueryValue h name room) 0 ≡ (refuse (not (is_value_name name)) 87 or refuse (not (has 1 mask)) 5 or asked 0 or refuse (not (is_some (value_named name (values_at tree g.path)))) 2)
+  pub value-causes : (name : List ℕ) (room : Option ℕ) (mask : ℕ) (g : t) → mask ≡ g.handle.mask →
+      query_cause s session (QueryValue h name room) 0 ≡ (refuse (not (is_value_name name)) 87 or refuse (not (has 1 mask)) 5 or asked 0 or refuse
+      (not (is_some (value_named name (values_at tree g.path)))) 2)
   unfolding early_query_cause late_query_cause
   value-causes name room mask g m =
       ap (λ (a : Option ℕ). a or asked 0 or refuse (lacks_value s session h name) 2) (by_handle-at store session h g (λ x. refuse (not (is_value_name name)) 87 or refuse (not (has 1 x.mask)) 5))
-      ∙ (ap (λ (q : Path). refuse (not (is_value_name name)) 87 or refuse (not (has 1 g.handle.mask)) 5 or asked 0 or refuse (not (is_some (value_named name (values_at tree q)))) 2) (target-at store session h g)
+      ∙ (ap (λ (q : Path). refuse (not (is_value_name name)) 87 or refuse (not (has 1 g.handle.mask)) 5 or asked 0 or refuse
+      (not (is_some (value_named name (values_at tree q)))) 2) (target-at store session h g)
       ∙ ap (λ (k : ℕ). refuse (not (is_value_name name)) 87 or refuse (not (has 1 k)) 5 or asked 0 or refuse (not (is_some (value_named name (values_at tree g.path)))) 2) (sym m))
 
   pub value-due : (name : List ℕ) (room : Option ℕ) (g : t) → body_of s session (QueryValue h name room) ≡ value_told (value_named name (values_at tree g.path)) room
@@ -67,7 +71,9 @@ module _ (n : ℕ) (store : Store) (session h : ℕ) where
   unfolding early_query_cause late_query_cause
   key-refused index room status r = refused s session status (EnumKey h index room) (first _ _ _ status (r (λ x. refuse (not (has 8 x.mask)) 5)))
 
-  pub key-causes : (index room mask : ℕ) (g : t) → mask ≡ g.handle.mask → query_cause s session (EnumKey h index room) 0 ≡ (refuse (not (has 8 mask)) 5 or asked 0 or refuse (nat_le (length (children_of tree g.path)) index) 259)
+  pub key-causes : (index room mask : ℕ) (g : t) → mask ≡ g.handle.mask →
+      query_cause s session (EnumKey h index room) 0 ≡ (refuse (not (has 8 mask)) 5 or asked 0 or refuse
+      (nat_le (length (children_of tree g.path)) index) 259)
   unfolding early_query_cause late_query_cause
   key-causes index room mask g m =
       ap (λ (a : Option ℕ). a or asked 0 or refuse (nat_le (length (subkeys_of s session h)) index) 259) (by_handle-at store session h g (λ x. refuse (not (has 8 x.mask)) 5))
@@ -84,7 +90,9 @@ module _ (n : ℕ) (store : Store) (session h : ℕ) where
   unfolding early_query_cause late_query_cause
   member-refused index name_room room status r = refused s session status (EnumValue h index name_room room) (first _ _ _ status (r (λ x. refuse (not (has 1 x.mask)) 5)))
 
-  pub member-causes : (index name_room : ℕ) (room : Option ℕ) (mask : ℕ) (g : t) → mask ≡ g.handle.mask → query_cause s session (EnumValue h index name_room room) 0 ≡ (refuse (not (has 1 mask)) 5 or asked 0 or refuse (nat_le (length (values_at tree g.path)) index) 259)
+  pub member-causes : (index name_room : ℕ) (room : Option ℕ) (mask : ℕ) (g : t) → mask ≡ g.handle.mask →
+      query_cause s session (EnumValue h index name_room room) 0 ≡ (refuse (not (has 1 mask)) 5 or asked 0 or refuse
+      (nat_le (length (values_at tree g.path)) index) 259)
   unfolding early_query_cause late_query_cause
   member-causes index name_room room mask g m =
       ap (λ (a : Option ℕ). a or asked 0 or refuse (nat_le (length (members_of s session h)) index) 259) (by_handle-at store session h g (λ x. refuse (not (has 1 x.mask)) 5))
@@ -96,22 +104,28 @@ module _ (n : ℕ) (store : Store) (session h : ℕ) where
   member-due index name_room room g = ap (λ (q : Path). member_told (slice_get (values_at tree q) index) name_room room) (target-at store session h g)
 
   -- an index past the last is told 259, and any other the member
-  pub member-read : (index name_room : ℕ) (room : Option ℕ) (mask : ℕ) (g : t) (body : AnswerBody) → mask ≡ g.handle.mask → has 1 mask ≡ true → IsTold (member_told (slice_get (values_at tree g.path) index) name_room room) body → IsRead s session (EnumValue h index name_room room) body
+  pub member-read : (index name_room : ℕ) (room : Option ℕ) (mask : ℕ) (g : t) (body : AnswerBody) → mask ≡ g.handle.mask → has 1 mask ≡ true →
+      IsTold (member_told (slice_get (values_at tree g.path) index) name_room room) body → IsRead s session (EnumValue h index name_room room) body
   member-read index name_room room mask g body m right is =
       let chain = member-causes index name_room room mask g m in
       let due = member-due index name_room room g in
       let cases = slice_get_cases (values_at tree g.path) index in
       by chain due cases.1
     where
-      by : query_cause s session (EnumValue h index name_room room) 0 ≡ (refuse (not (has 1 mask)) 5 or asked 0 or refuse (nat_le (length (values_at tree g.path)) index) 259) → body_of s session (EnumValue h index name_room room) ≡ member_told (slice_get (values_at tree g.path) index) name_room room
-          → (((x : Member) × (index < length (values_at tree g.path)) × (slice_get (values_at tree g.path) index ≡ Some x) × (get_or (values_at tree g.path) index x ≡ x)) ⊎ ((length (values_at tree g.path) ≤ index) × (slice_get (values_at tree g.path) index ≡ None))) → IsRead s session (EnumValue h index name_room room) body
+      by : query_cause s session (EnumValue h index name_room room) 0 ≡ (refuse (not (has 1 mask)) 5 or asked 0 or refuse
+          (nat_le (length (values_at tree g.path)) index) 259) →
+          body_of s session (EnumValue h index name_room room) ≡ member_told (slice_get (values_at tree g.path) index) name_room room
+          → (((x : Member) × (index < length (values_at tree g.path)) × (slice_get (values_at tree g.path) index ≡ Some x) ×
+          (get_or (values_at tree g.path) index x ≡ x)) ⊎ ((length (values_at tree g.path) ≤ index) ×
+          (slice_get (values_at tree g.path) index ≡ None))) → IsRead s session (EnumValue h index name_room room) body
       by chain due (inl x) =
           let below : nat_le (length (values_at tree g.path)) index ≡ false = let l = x.1 in grind (arith, nat_tests, l) in
           told s session (EnumValue h index name_room room) _ body (chain ∙ rw (right, below) refl) due is
       by chain due (inr x) =
           let past : nat_le (length (values_at tree g.path)) index ≡ true = let l = x.0 in grind (arith, nat_tests, l) in
           let none : query_cause s session (EnumValue h index name_room room) 0 ≡ Some 259 = chain ∙ rw (right, past) refl in
-          subst (λ (o : Option ℕ). IsTold (is_told o (body_of s session (EnumValue h index name_room room))) body) (sym none) (subst (λ (o : Option Member). IsTold (member_told o name_room room) body) x.1 is)
+          subst (λ (o : Option ℕ). IsTold (is_told o (body_of s session (EnumValue h index name_room room))) body) (sym none)
+          (subst (λ (o : Option Member). IsTold (member_told o name_room room) body) x.1 is)
 
   -- ---- QueryInfo
 
@@ -155,16 +169,19 @@ largest-push [] n = refl
 largest-push (x ∷ ns) n = ap (λ (m : ℕ). cond (nat_lt m x) x m) (largest-push ns n) ∙ swapped (largest_of ns) n x
 
 -- the largest of one more
-pub largest-next : {X : Type 0} (f : X → ℕ) (xs : List X) (i : ℕ) (d x : X) → i < length xs → get_or xs i d ≡ x → largest_of (map f (take (i + 1) xs)) ≡ cond (nat_lt (largest_of (map f (take i xs))) (f x)) (f x) (largest_of (map f (take i xs)))
+pub largest-next : {X : Type 0} (f : X → ℕ) (xs : List X) (i : ℕ) (d x : X) → i < length xs → get_or xs i d ≡ x →
+    largest_of (map f (take (i + 1) xs)) ≡ cond (nat_lt (largest_of (map f (take i xs))) (f x)) (f x) (largest_of (map f (take i xs)))
 largest-next f xs i d x below is =
     ap (λ l. largest_of (map f l)) (take_more xs i d below)
-    ∙ (ap largest_of (map-append f (take i xs) (get_or xs i d ∷ [])) ∙ (largest-push (map f (take i xs)) (f (get_or xs i d)) ∙ ap (λ y. cond (nat_lt (largest_of (map f (take i xs))) (f y)) (f y) (largest_of (map f (take i xs)))) is))
+    ∙ (ap largest_of (map-append f (take i xs) (get_or xs i d ∷ [])) ∙ (largest-push (map f (take i xs)) (f (get_or xs i d)) ∙
+    ap (λ y. cond (nat_lt (largest_of (map f (take i xs))) (f y)) (f y) (largest_of (map f (take i xs)))) is))
 
 pub largest-all : {X : Type 0} (f : X → ℕ) (xs : List X) (i : ℕ) → length xs ≤ i → largest_of (map f (take i xs)) ≡ largest_of (map f xs)
 largest-all f xs i past = ap (λ l. largest_of (map f l)) (take_all i xs past)
 
 -- a step of a search for the largest
-pub largest-step : {X : Type 0} (f : X → ℕ) (xs : List X) (i : ℕ) (d x : X) (largest size now : ℕ) → i < length xs → get_or xs i d ≡ x → largest ≡ largest_of (map f (take i xs)) → size ≡ f x → now ≡ cond (nat_lt largest size) size largest → now ≡ largest_of (map f (take (i + 1) xs))
+pub largest-step : {X : Type 0} (f : X → ℕ) (xs : List X) (i : ℕ) (d x : X) (largest size now : ℕ) → i < length xs → get_or xs i d ≡ x →
+    largest ≡ largest_of (map f (take i xs)) → size ≡ f x → now ≡ cond (nat_lt largest size) size largest → now ≡ largest_of (map f (take (i + 1) xs))
 largest-step f xs i d x largest size now below is so_far one step =
     step
     ∙ (ap (λ b. cond (nat_lt largest b) b largest) one ∙ (ap (λ a. cond (nat_lt a (f x)) (f x) a) so_far ∙ sym (largest-next f xs i d x below is)))

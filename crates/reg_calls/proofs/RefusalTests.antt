@@ -8,7 +8,8 @@ use Rattle.reg_heap.specs.Paths.{Path}
 use Rattle.reg_heap.specs.Members.{value_named}
 use Rattle.reg_heap.specs.Edits.{values_at, folded_path, are_too_many, may_not_go}
 use Rattle.reg_model.specs.Worlds.{Handle, look, path_at, path_from}
-use Rattle.reg_model.specs.Causes.{State, early_cause, late_cause, change_cause, refuse, ◌or◌, asked, is_mask, is_bad_value, is_bad_open, is_bad_target, no_handle_room, no_key_room, no_value_room, lacks_value, lacks_key, has, is_full, by_handle}
+use Rattle.reg_model.specs.Causes.{State, early_cause, late_cause, change_cause, refuse, ◌or◌, asked, is_mask, is_bad_value, is_bad_open, is_bad_target, no_handle_room, no_key_room}
+use Rattle.reg_model.specs.Causes.{no_value_room, lacks_value, lacks_key, has, is_full, by_handle}
 use Rattle.reg_model.specs.declared.call.Change.TheVariants.{OpenRoot, OpenKey, CreateKey, SetValue, DeleteValue, DeleteKey, Close}
 use Rattle.reg_calls.specs.declared.store.Store.{Store}
 use Rattle.reg_calls.specs.Internal.Stores.{at, IsTarget}
@@ -47,11 +48,14 @@ module _ (n : ℕ) (store : Store) (session h : ℕ) where
   unfolding early_cause late_cause
   open-refused path mask status r = first _ _ _ status (r (λ x. refuse (is_bad_open path mask) 87 or refuse (no_handle_room session s) 1450))
 
-  pub open-causes : (path : List ℕ) (mask : ℕ) (g : t) → change_cause s session (OpenKey h path mask) 0 ≡ (refuse (is_bad_open path mask) 87 or refuse (no_handle_room session s) 1450 or asked 0 or refuse (not (is_some (get store.tree.tree (g.path ++ folded_path path)))) 2)
+  pub open-causes : (path : List ℕ) (mask : ℕ) (g : t) →
+      change_cause s session (OpenKey h path mask) 0 ≡ (refuse (is_bad_open path mask) 87 or refuse
+      (no_handle_room session s) 1450 or asked 0 or refuse (not (is_some (get store.tree.tree (g.path ++ folded_path path)))) 2)
   unfolding early_cause late_cause
   open-causes path mask g =
       ap (λ (a : Option ℕ). a or asked 0 or refuse (lacks_key s session h path) 2) (by_handle-at store session h g (λ x. refuse (is_bad_open path mask) 87 or refuse (no_handle_room session s) 1450))
-      ∙ ap (λ (q : Path). refuse (is_bad_open path mask) 87 or refuse (no_handle_room session s) 1450 or asked 0 or refuse (not (is_some (get store.tree.tree q))) 2) (target-from store session h g path)
+      ∙ ap (λ (q : Path). refuse (is_bad_open path mask) 87 or refuse (no_handle_room session s) 1450 or asked 0 or refuse
+      (not (is_some (get store.tree.tree q))) 2) (target-from store session h g path)
 
   -- ---- CreateKey
 
@@ -59,7 +63,9 @@ module _ (n : ℕ) (store : Store) (session h : ℕ) where
   unfolding early_cause late_cause
   create-refused path mask status r = first _ _ _ status (r (λ x. refuse (is_bad_open path mask) 87 or refuse (no_handle_room session s || no_key_room s session h path) 1450))
 
-  pub create-causes : (path : List ℕ) (mask : ℕ) (g : t) → change_cause s session (CreateKey h path mask) 0 ≡ (refuse (is_bad_open path mask) 87 or refuse (no_handle_room session s || are_too_many store.tree.tree g.path (path_of path)) 1450 or asked 0 or None)
+  pub create-causes : (path : List ℕ) (mask : ℕ) (g : t) →
+      change_cause s session (CreateKey h path mask) 0 ≡ (refuse (is_bad_open path mask) 87 or refuse
+      (no_handle_room session s || are_too_many store.tree.tree g.path (path_of path)) 1450 or asked 0 or None)
   unfolding early_cause late_cause
   create-causes path mask g =
       ap (λ (a : Option ℕ). a or asked 0 or None) (by_handle-at store session h g (λ x. refuse (is_bad_open path mask) 87 or refuse (no_handle_room session s || no_key_room s session h path) 1450))
@@ -70,14 +76,21 @@ module _ (n : ℕ) (store : Store) (session h : ℕ) where
   pub set-refused : (name bytes : List ℕ) (kind status : ℕ) → Refuses store session h status → change_cause s session (SetValue h name kind bytes) 0 ≡ Some status
   unfolding early_cause late_cause
   set-refused name bytes kind status r =
-      first _ _ _ status (r (λ x. refuse (is_bad_value name bytes) 87 or refuse (not (has 2 x.mask)) 5 or refuse (is_full 1 s || no_value_room name (values_at store.tree.tree (path_at session h store.handles.handles))) 1450))
+      first _ _ _ status (r (λ x. refuse (is_bad_value name bytes) 87 or refuse (not (has 2 x.mask)) 5 or refuse
+      (is_full 1 s || no_value_room name (values_at store.tree.tree (path_at session h store.handles.handles))) 1450))
 
-  pub set-causes : (name bytes : List ℕ) (kind mask : ℕ) (g : t) → mask ≡ g.handle.mask → change_cause s session (SetValue h name kind bytes) 0 ≡ (refuse (is_bad_value name bytes) 87 or refuse (not (has 2 mask)) 5 or refuse (is_full 1 s || no_value_room name (values_at store.tree.tree g.path)) 1450 or asked 0 or None)
+  pub set-causes : (name bytes : List ℕ) (kind mask : ℕ) (g : t) → mask ≡ g.handle.mask →
+      change_cause s session (SetValue h name kind bytes) 0 ≡ (refuse (is_bad_value name bytes) 87 or refuse (not (has 2 mask)) 5 or refuse
+      (is_full 1 s || no_value_room name (values_at store.tree.tree g.path)) 1450 or asked 0 or None)
   unfolding early_cause late_cause
   set-causes name bytes kind mask g m =
-      ap (λ (a : Option ℕ). a or asked 0 or None) (by_handle-at store session h g (λ x. refuse (is_bad_value name bytes) 87 or refuse (not (has 2 x.mask)) 5 or refuse (is_full 1 s || no_value_room name (values_at store.tree.tree (path_at session h store.handles.handles))) 1450))
-      ∙ (ap (λ (q : Path). refuse (is_bad_value name bytes) 87 or refuse (not (has 2 g.handle.mask)) 5 or refuse (is_full 1 s || no_value_room name (values_at store.tree.tree q)) 1450 or asked 0 or None) (target-at store session h g)
-      ∙ ap (λ (k : ℕ). refuse (is_bad_value name bytes) 87 or refuse (not (has 2 k)) 5 or refuse (is_full 1 s || no_value_room name (values_at store.tree.tree g.path)) 1450 or asked 0 or None) (sym m))
+      ap (λ (a : Option ℕ). a or asked 0 or None) (by_handle-at store session h g (λ x. refuse (is_bad_value name bytes) 87 or refuse
+      (not (has 2 x.mask)) 5 or refuse (is_full 1 s || no_value_room name (values_at store.tree.tree (path_at session h store.handles.handles)))
+      1450))
+      ∙ (ap (λ (q : Path). refuse (is_bad_value name bytes) 87 or refuse (not (has 2 g.handle.mask)) 5 or refuse
+      (is_full 1 s || no_value_room name (values_at store.tree.tree q)) 1450 or asked 0 or None) (target-at store session h g)
+      ∙ ap (λ (k : ℕ). refuse (is_bad_value name bytes) 87 or refuse (not (has 2 k)) 5 or refuse
+      (is_full 1 s || no_value_room name (values_at store.tree.tree g.path)) 1450 or asked 0 or None) (sym m))
 
   -- ---- DeleteValue
 
@@ -85,12 +98,17 @@ module _ (n : ℕ) (store : Store) (session h : ℕ) where
   unfolding early_cause late_cause
   drop-refused name status r = first _ _ _ status (r (λ x. refuse (not (is_value_name name)) 87 or refuse (not (has 2 x.mask)) 5 or refuse (is_full 1 s) 1450))
 
-  pub drop-causes : (name : List ℕ) (mask : ℕ) (g : t) → mask ≡ g.handle.mask → change_cause s session (DeleteValue h name) 0 ≡ (refuse (not (is_value_name name)) 87 or refuse (not (has 2 mask)) 5 or refuse (is_full 1 s) 1450 or asked 0 or refuse (not (is_some (value_named name (values_at store.tree.tree g.path)))) 2)
+  pub drop-causes : (name : List ℕ) (mask : ℕ) (g : t) → mask ≡ g.handle.mask →
+      change_cause s session (DeleteValue h name) 0 ≡ (refuse (not (is_value_name name)) 87 or refuse (not (has 2 mask)) 5 or refuse
+      (is_full 1 s) 1450 or asked 0 or refuse (not (is_some (value_named name (values_at store.tree.tree g.path)))) 2)
   unfolding early_cause late_cause
   drop-causes name mask g m =
-      ap (λ (a : Option ℕ). a or asked 0 or refuse (lacks_value s session h name) 2) (by_handle-at store session h g (λ x. refuse (not (is_value_name name)) 87 or refuse (not (has 2 x.mask)) 5 or refuse (is_full 1 s) 1450))
-      ∙ (ap (λ (q : Path). refuse (not (is_value_name name)) 87 or refuse (not (has 2 g.handle.mask)) 5 or refuse (is_full 1 s) 1450 or asked 0 or refuse (not (is_some (value_named name (values_at store.tree.tree q)))) 2) (target-at store session h g)
-      ∙ ap (λ (k : ℕ). refuse (not (is_value_name name)) 87 or refuse (not (has 2 k)) 5 or refuse (is_full 1 s) 1450 or asked 0 or refuse (not (is_some (value_named name (values_at store.tree.tree g.path)))) 2) (sym m))
+      ap (λ (a : Option ℕ). a or asked 0 or refuse (lacks_value s session h name) 2)
+      (by_handle-at store session h g (λ x. refuse (not (is_value_name name)) 87 or refuse (not (has 2 x.mask)) 5 or refuse (is_full 1 s) 1450))
+      ∙ (ap (λ (q : Path). refuse (not (is_value_name name)) 87 or refuse (not (has 2 g.handle.mask)) 5 or refuse
+      (is_full 1 s) 1450 or asked 0 or refuse (not (is_some (value_named name (values_at store.tree.tree q)))) 2) (target-at store session h g)
+      ∙ ap (λ (k : ℕ). refuse (not (is_value_name name)) 87 or refuse (not (has 2 k)) 5 or refuse (is_full 1 s) 1450 or asked 0 or refuse
+      (not (is_some (value_named name (values_at store.tree.tree g.path)))) 2) (sym m))
 
   -- ---- DeleteKey
 
@@ -98,11 +116,17 @@ module _ (n : ℕ) (store : Store) (session h : ℕ) where
   unfolding early_cause late_cause
   delete-refused path status r = first _ _ _ status (r (λ x. refuse (is_bad_target path) 87 or refuse (is_full 1 s) 1450))
 
-  pub delete-causes : (path : List ℕ) (g : t) → change_cause s session (DeleteKey h path) 0 ≡ (refuse (is_bad_target path) 87 or refuse (is_full 1 s) 1450 or asked 0 or (refuse (not (is_some (get store.tree.tree (g.path ++ folded_path path)))) 2 or refuse (may_not_go store.tree.tree (g.path ++ folded_path path)) 5))
+  pub delete-causes : (path : List ℕ) (g : t) →
+      change_cause s session (DeleteKey h path) 0 ≡ (refuse (is_bad_target path) 87 or refuse (is_full 1 s) 1450 or asked 0 or
+      (refuse (not (is_some (get store.tree.tree (g.path ++ folded_path path)))) 2 or refuse
+      (may_not_go store.tree.tree (g.path ++ folded_path path)) 5))
   unfolding early_cause late_cause
   delete-causes path g =
-      ap (λ (a : Option ℕ). a or asked 0 or (refuse (lacks_key s session h path) 2 or refuse (may_not_go store.tree.tree (path_from session h store.handles.handles path)) 5)) (by_handle-at store session h g (λ x. refuse (is_bad_target path) 87 or refuse (is_full 1 s) 1450))
-      ∙ ap (λ (q : Path). refuse (is_bad_target path) 87 or refuse (is_full 1 s) 1450 or asked 0 or (refuse (not (is_some (get store.tree.tree q))) 2 or refuse (may_not_go store.tree.tree q) 5)) (target-from store session h g path)
+      ap (λ (a : Option ℕ). a or asked 0 or (refuse (lacks_key s session h path) 2 or refuse
+      (may_not_go store.tree.tree (path_from session h store.handles.handles path)) 5))
+      (by_handle-at store session h g (λ x. refuse (is_bad_target path) 87 or refuse (is_full 1 s) 1450))
+      ∙ ap (λ (q : Path). refuse (is_bad_target path) 87 or refuse (is_full 1 s) 1450 or asked 0 or
+      (refuse (not (is_some (get store.tree.tree q))) 2 or refuse (may_not_go store.tree.tree q) 5)) (target-from store session h g path)
 
   -- ---- Close
 

@@ -1,5 +1,6 @@
 -- What the changes of accepted calls make of a store.
-use Rattle.std.proofs.Common.{◌≡◌, ◌≢◌, ◌⊎◌, ◌↔◌, inl, inr, ℕ, ◌+◌, ◌<◌, ◌≤◌, Bool, true, false, not, ◌||◌, ◌&&◌, nat_lt, nat_le, cond, is_some, List, [], ◌∷◌, ◌++◌, map, length, Option, Some, None, refl, sym, ap, ◌∙◌, subst, arith, true≢false, append_assoc, length-append}
+use Rattle.std.proofs.Common.{◌≡◌, ◌≢◌, ◌⊎◌, ◌↔◌, inl, inr, ℕ, ◌+◌, ◌<◌, ◌≤◌, Bool, true, false, not, ◌||◌, ◌&&◌, nat_lt, nat_le, cond, is_some, List, [], ◌∷◌, ◌++◌, map, length, Option}
+use Rattle.std.proofs.Common.{Some, None, refl, sym, ap, ◌∙◌, subst, arith, true≢false, append_assoc, length-append}
 use Rattle.std.specs.Prelude.{All, Result, Err, bit_and, ◌==◌}
 use Rattle.std.specs.List.{AllByRecursion}
 use Rattle.std.specs.FinMap.{get}
@@ -73,7 +74,9 @@ not_above : (m n : ℕ) → nat_lt m n ≡ false → n ≤ m
 not_above m n e = grind (arith, nat_tests)
 
 -- where no key is missing on a path, the last one is there
-there-step : (b : Bool) (t : Tree) (p : Path) (name : List ℕ) (names : List (List ℕ)) → has_child t p name ≡ b → (missing t (child_path p name) names ≡ [] → Has t (child_path p name) → Has t (child_path p name ++ map folded names)) → cond b (missing t (child_path p name) names) (name ∷ names) ≡ [] → Has t (child_path p name ++ map folded names)
+there-step : (b : Bool) (t : Tree) (p : Path) (name : List ℕ) (names : List (List ℕ)) → has_child t p name ≡ b →
+    (missing t (child_path p name) names ≡ [] → Has t (child_path p name) → Has t (child_path p name ++ map folded names)) →
+    cond b (missing t (child_path p name) names) (name ∷ names) ≡ [] → Has t (child_path p name ++ map folded names)
 there-step true t p name names there on none = on none there
 there-step false t p name names there on none = absurd (cc)
 
@@ -127,7 +130,8 @@ module _ (n : ℕ) (store : Store) (session : ℕ) (ready : IsReady n store) whe
   pub root-room : (mask : ℕ) → change_cause s session (OpenRoot mask) 0 ≡ None → handles_of session hs < 16384
   root-room mask c = let m = root-met s session mask 0 c in room-few m.room
 
-  pub root-done : (moment mask : ℕ) (table : Table) (text : List ℕ) → text ≡ [] → added table mask text → (told : ChangeReply) → told ≡ opening None → IsDone store (record { tree = store.tree; handles = table }) session moment n (OpenRoot mask) told
+  pub root-done : (moment mask : ℕ) (table : Table) (text : List ℕ) → text ≡ [] → added table mask text → (told : ChangeReply) →
+      told ≡ opening None → IsDone store (record { tree = store.tree; handles = table }) session moment n (OpenRoot mask) told
   unfolding after reply_to
   root-done moment mask table text empty add told e =
       let handles = add ∙ ap (λ (t : List ℕ). hs ++ record { number = n; session = session; mask = mask; place = At (path_of t) } ∷ []) empty in
@@ -151,7 +155,9 @@ module _ (n : ℕ) (store : Store) (session : ℕ) (ready : IsReady n store) whe
     pub open-short : ((q : Path) → Has tree q → length q ≤ 512) → length (path_from session h hs path) ≤ 512
     open-short shallow = shallow (path_from session h hs path) open-facts.there
 
-    pub open-done : (moment : ℕ) (table : Table) (text : List ℕ) → path_of text ≡ path_from session h hs path → added table mask text → (told : ChangeReply) → told ≡ opening None → IsDone store (record { tree = store.tree; handles = table }) session moment n (OpenKey h path mask) told
+    pub open-done : (moment : ℕ) (table : Table) (text : List ℕ) → path_of text ≡ path_from session h hs path → added table mask text →
+        (told : ChangeReply) → told ≡ opening None → IsDone store (record { tree = store.tree; handles = table }) session moment n
+        (OpenKey h path mask) told
     unfolding after reply_to
     open-done moment table text names add told e =
         let handles = add ∙ ap (λ (p : Path). hs ++ record { number = n; session = session; mask = mask; place = At p } ∷ []) names in
@@ -181,7 +187,10 @@ module _ (n : ℕ) (store : Store) (session : ℕ) (ready : IsReady n store) whe
       create-short shallow =
           subst (λ (p : Path). length p ≤ 512) (sym (target-from store session h t path)) (path-short tree t.path (path_of path) shallow (target-has store session h t ready.stand) create-few)
 
-      pub create-done : (moment : ℕ) (keys : Keys) (table : Table) (text : List ℕ) → path_of text ≡ path_from session h hs path → keys.tree ≡ with_keys tree t.path (path_of path) moment → added table mask text → (told : ChangeReply) → told ≡ opening (Some (disposition_of (missing tree t.path (path_of path)))) → IsDone store (record { tree = keys; handles = table }) session moment n (CreateKey h path mask) told
+      pub create-done : (moment : ℕ) (keys : Keys) (table : Table) (text : List ℕ) → path_of text ≡ path_from session h hs path →
+          keys.tree ≡ with_keys tree t.path (path_of path) moment → added table mask text → (told : ChangeReply) →
+          told ≡ opening (Some (disposition_of (missing tree t.path (path_of path)))) →
+          IsDone store (record { tree = keys; handles = table }) session moment n (CreateKey h path mask) told
       unfolding after reply_to
       create-done moment keys table text names made add told e =
           let handles = add ∙ ap (λ (p : Path). hs ++ record { number = n; session = session; mask = mask; place = At p } ∷ []) names in
@@ -211,7 +220,8 @@ module _ (n : ℕ) (store : Store) (session : ℕ) (ready : IsReady n store) whe
           let lacks : is_some (value_named name (values_at tree t.path)) ≡ false = ap is_some none in
           absurd (true≢false (sym (grind (arith, nat_tests, lacks)) ∙ room))
 
-      pub set-done : (moment : ℕ) (keys : Keys) → keys.tree ≡ edited tree t.path (with_value name kind bytes moment) → (told : ChangeReply) → told ≡ plain → IsDone store (record { tree = keys; handles = store.handles }) session moment n (SetValue h name kind bytes) told
+      pub set-done : (moment : ℕ) (keys : Keys) → keys.tree ≡ edited tree t.path (with_value name kind bytes moment) → (told : ChangeReply) →
+          told ≡ plain → IsDone store (record { tree = keys; handles = store.handles }) session moment n (SetValue h name kind bytes) told
       unfolding after reply_to
       set-done moment keys set told e =
           let now = set ∙ ap (λ (p : Path). edited tree p (with_value name kind bytes moment)) (sym (target-at store session h t)) in
@@ -229,10 +239,12 @@ module _ (n : ℕ) (store : Store) (session : ℕ) (ready : IsReady n store) whe
     module _ (t : IsTarget store session h) where
       pub drop-there : value_named name (values_at tree t.path) ≡ None → ⊥
       drop-there none =
-          let there : not (is_some (value_named name (values_at tree t.path))) ≡ false = subst (λ (p : Path). not (is_some (value_named name (values_at tree p))) ≡ false) (target-at store session h t) drop-facts.there in
+          let there : not (is_some (value_named name (values_at tree t.path))) ≡ false =
+          subst (λ (p : Path). not (is_some (value_named name (values_at tree p))) ≡ false) (target-at store session h t) drop-facts.there in
           absurd (true≢false (sym (ap (λ (o : Option Member). not (is_some o)) none) ∙ there))
 
-      pub drop-done : (moment : ℕ) (keys : Keys) → keys.tree ≡ edited tree t.path (without_value name moment) → (told : ChangeReply) → told ≡ plain → IsDone store (record { tree = keys; handles = store.handles }) session moment n (DeleteValue h name) told
+      pub drop-done : (moment : ℕ) (keys : Keys) → keys.tree ≡ edited tree t.path (without_value name moment) → (told : ChangeReply) → told ≡ plain →
+          IsDone store (record { tree = keys; handles = store.handles }) session moment n (DeleteValue h name) told
       unfolding after reply_to
       drop-done moment keys set told e =
           let now = set ∙ ap (λ (p : Path). edited tree p (without_value name moment)) (sym (target-at store session h t)) in
@@ -274,11 +286,16 @@ module _ (n : ℕ) (store : Store) (session : ℕ) (ready : IsReady n store) whe
           let b = both_false (nat_lt 0 (length (children_of tree (t.path ++ folded_path path)))) (not (bit_and (marks_of (get tree (t.path ++ folded_path path))) 8 == 0)) delete-goes in
           absurd (true≢false (sym (not_false (bit_and (marks_of (get tree (t.path ++ folded_path path))) 8 == 0) b.1) ∙ marked))
 
-      pub delete-refused : (fault : TreeFault) → ((◌≡◌ {A = Result (Unit {0}) TreeFault} (Err fault) (Err HasChildren)) ↔ (children_of tree (t.path ++ folded_path path) ≢ [])) → ((◌≡◌ {A = Result (Unit {0}) TreeFault} (Err fault) (Err NoDelete)) ↔ ((children_of tree (t.path ++ folded_path path) ≡ []) × IsKept tree (t.path ++ folded_path path))) → (fault ≡ HasChildren) ⊎ (fault ≡ NoDelete) → ⊥
+      pub delete-refused : (fault : TreeFault) →
+          ((◌≡◌ {A = Result (Unit {0}) TreeFault} (Err fault) (Err HasChildren)) ↔ (children_of tree (t.path ++ folded_path path) ≢ [])) →
+          ((◌≡◌ {A = Result (Unit {0}) TreeFault} (Err fault) (Err NoDelete)) ↔ ((children_of tree (t.path ++ folded_path path) ≡ []) ×
+          IsKept tree (t.path ++ folded_path path))) → (fault ≡ HasChildren) ⊎ (fault ≡ NoDelete) → ⊥
       delete-refused fault children kept (inl e) = children.0 (ap (λ f. Err f) e) delete-childless
       delete-refused fault children kept (inr e) = delete-kept (kept.0 (ap (λ f. Err f) e)).1
 
-      pub delete-done : (moment : ℕ) (keys : Keys) (table : Table) (text : List ℕ) → path_of text ≡ path_from session h hs path → keys.tree ≡ without_key tree (t.path ++ folded_path path) moment → table.handles ≡ turned (path_of text) hs → (told : ChangeReply) → told ≡ plain → IsDone store (record { tree = keys; handles = table }) session moment n (DeleteKey h path) told
+      pub delete-done : (moment : ℕ) (keys : Keys) (table : Table) (text : List ℕ) → path_of text ≡ path_from session h hs path →
+          keys.tree ≡ without_key tree (t.path ++ folded_path path) moment → table.handles ≡ turned (path_of text) hs → (told : ChangeReply) →
+          told ≡ plain → IsDone store (record { tree = keys; handles = table }) session moment n (DeleteKey h path) told
       unfolding after reply_to
       delete-done moment keys table text names gone turn told e =
           let now = gone ∙ ap (λ (p : Path). without_key tree p moment) (sym (target-from store session h t path)) in
@@ -290,7 +307,8 @@ module _ (n : ℕ) (store : Store) (session : ℕ) (ready : IsReady n store) whe
   pub close-has : (h : ℕ) → change_cause s session (Close h) 0 ≡ None → is_some (look session h hs) ≡ true
   close-has h c = close-met s session h 0 c
 
-  pub close-done : (moment h : ℕ) (table : Table) → table.handles ≡ closed h hs → (told : ChangeReply) → told ≡ plain → IsDone store (record { tree = store.tree; handles = table }) session moment n (Close h) told
+  pub close-done : (moment h : ℕ) (table : Table) → table.handles ≡ closed h hs → (told : ChangeReply) → told ≡ plain →
+      IsDone store (record { tree = store.tree; handles = table }) session moment n (Close h) told
   unfolding after reply_to
   close-done moment h table shut told e = record { world = λ i. record { tree = tree; handles = shut i }; reply = e }
 
@@ -308,6 +326,7 @@ pub is_lack : (fault : TreeFault) → (fault ≡ Limit) ⊎ ((fault ≡ Full) �
 is_lack fault (inl e) limited = absurd (limited e)
 is_lack fault (inr r) limited = r
 
-pub lacking : (old new : Store) (session moment n : ℕ) (change : Change) (lack : Lack) → new ≡ old → is_closing change ≡ false → (lack ≡ Space → LacksSpace old.tree change) → IsMade old new session moment n change (Err lack)
+pub lacking : (old new : Store) (session moment n : ℕ) (change : Change) (lack : Lack) → new ≡ old → is_closing change ≡ false →
+    (lack ≡ Space → LacksSpace old.tree change) → IsMade old new session moment n change (Err lack)
 lacking old new session moment n change Space same opens space = (same, space refl)
 lacking old new session moment n change Short same opens space = (same, opens)

@@ -49,7 +49,13 @@ pub record IsKept (origin : Tree) (journal : List Entry) (store : Store) (room :
 
 -- the entry of an accepted change
 abbrev pub entry_of : View → ℕ → ℕ → Change → Entry
-entry_of v session moment change = record { number = length v.journal; session = session; moment = moment; change = change; reply = reply_to (state v) session change }
+entry_of v session moment change = record {
+  number = length v.journal;
+  session = session;
+  moment = moment;
+  change = change;
+  reply = reply_to (state v) session change;
+}
 
 -- the change is accepted: its reply is the one due, and the journal grows by its entry
 pub record IsAccepted (old new : View) (session moment : ℕ) (change : Change) (reply : ChangeReply) : Type 0 where

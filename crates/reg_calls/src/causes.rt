@@ -5,7 +5,8 @@ ghost use Rattle.reg_names.specs.Names.{is_path, path_of};
 ghost use Rattle.reg_heap.specs.Paths.{Path};
 ghost use Rattle.reg_heap.specs.Members.{value_named};
 ghost use Rattle.reg_heap.specs.Edits.{values_at, folded_path, may_not_go as may_not_go_of};
-ghost use Rattle.reg_model.specs.Causes.{change_cause, is_full as is_full_of, no_handle_room, no_value_room, is_bad_value as is_bad_value_of, is_bad_open as is_bad_open_of, is_bad_target as is_bad_target_of};
+ghost use Rattle.reg_model.specs.Causes.{change_cause, is_full as is_full_of, no_handle_room, no_value_room, is_bad_value as is_bad_value_of};
+ghost use Rattle.reg_model.specs.Causes.{is_bad_open as is_bad_open_of, is_bad_target as is_bad_target_of};
 ghost use Rattle.reg_tree.specs.TreeKeys.{IsAt, IsThere};
 ghost use Rattle.reg_calls.specs.Internal.Stores.{at, IsReady};
 

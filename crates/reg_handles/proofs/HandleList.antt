@@ -1,5 +1,6 @@
 -- Rows and keys as the list of the handles.
-use Rattle.std.proofs.Common.{◌≡◌, ℕ, ◌+◌, ◌-◌, ◌<◌, ◌≤◌, Bool, true, false, cond, eqb, ◌==◌, List, [], ◌∷◌, ◌++◌, length, Some, refl, sym, ap, subst, ◌∙◌, arith, set, get_or, replicate, ◌≢◌, zero-add, add-zero, get_or-set_same, get_or-set_other}
+use Rattle.std.proofs.Common.{◌≡◌, ℕ, ◌+◌, ◌-◌, ◌<◌, ◌≤◌, Bool, true, false, cond, eqb, ◌==◌, List, [], ◌∷◌, ◌++◌, length, Some, refl, sym, ap, subst, ◌∙◌, arith, set, get_or, replicate}
+use Rattle.std.proofs.Common.{◌≢◌, zero-add, add-zero, get_or-set_same, get_or-set_other}
 use Rattle.std.specs.Prelude.{option_map, sum_by}
 use Rattle.std.specs.List.{All, AllByRecursion}
 use Rattle.std.specs.List.Sorted.{IsStrictlySortedBy}
@@ -40,7 +41,8 @@ pub numbered-handles_of : (s : Slab OpenKey) (k : ℕ) (es : List (ℕ × Row)) 
 numbered-handles_of s k [] = refl
 numbered-handles_of s k (e ∷ es) = by (eqb e.0 k) refl (numbered-handles_of s k es)
   where
-    by : (b : Bool) → eqb e.0 k ≡ b → numbered k (handles_of s es) ≡ option_map (λ row. handle_of s (k, row)) (lookup (is_at (nat_cmp k)) es) → numbered k (handles_of s (e ∷ es)) ≡ option_map (λ row. handle_of s (k, row)) (lookup (is_at (nat_cmp k)) (e ∷ es))
+    by : (b : Bool) → eqb e.0 k ≡ b → numbered k (handles_of s es) ≡ option_map (λ row. handle_of s (k, row)) (lookup (is_at (nat_cmp k)) es) →
+        numbered k (handles_of s (e ∷ es)) ≡ option_map (λ row. handle_of s (k, row)) (lookup (is_at (nat_cmp k)) (e ∷ es))
     by true same rest = rw (at_is_eqb k e.0, same) (ap (λ n. Some (handle_of s (n, e.1))) (eq_of _ _ same))
     by false other rest = rw (at_is_eqb k e.0, other) rest
 
@@ -56,9 +58,11 @@ pub closed-handles_of : (s : Slab OpenKey) (k : ℕ) (es : List (ℕ × Row)) �
 closed-handles_of s k [] rises = refl
 closed-handles_of s k (e ∷ es) rises = by (eqb e.0 k) refl (closed-handles_of s k es (sorted_tail nat_cmp e.0 (keys_of es) rises))
   where
-    by : (b : Bool) → eqb e.0 k ≡ b → closed k (handles_of s es) ≡ handles_of s (remove_entry (is_at (nat_cmp k)) es) → closed k (handles_of s (e ∷ es)) ≡ handles_of s (remove_entry (is_at (nat_cmp k)) (e ∷ es))
+    by : (b : Bool) → eqb e.0 k ≡ b → closed k (handles_of s es) ≡ handles_of s (remove_entry (is_at (nat_cmp k)) es) →
+        closed k (handles_of s (e ∷ es)) ≡ handles_of s (remove_entry (is_at (nat_cmp k)) (e ∷ es))
     by true same rest =
-        let above : AllByRecursion (λ y. nat_cmp k y ≡ Less) (keys_of es) = subst (λ n. AllByRecursion (λ y. nat_cmp n y ≡ Less) (keys_of es)) (eq_of _ _ same) (sorted_head nat_cmp e.0 (keys_of es) rises) in
+        let above : AllByRecursion (λ y. nat_cmp k y ≡ Less) (keys_of es) = subst (λ n. AllByRecursion (λ y. nat_cmp n y ≡ Less) (keys_of es))
+        (eq_of _ _ same) (sorted_head nat_cmp e.0 (keys_of es) rises) in
         rw (at_is_eqb k e.0, same) (none_equal s k es above)
     by false other rest = rw (at_is_eqb k e.0, other) (ap (λ l. handle_of s e ∷ l) rest)
 

@@ -49,7 +49,8 @@ is_leads (Some k) q e = let same : k ≡ q = cc in grind (arith, nat_tests, same
 module _ (s s' : Slab OpenKey) (paths paths' : List ℕ → Option ℕ) (p : List ℕ) (es : List (ℕ × Row)) (counts : List ℕ) (table : IsTable s paths es counts)
     (slots : (q : ℕ) → get s' q ≡ cond (leads_to (paths p) q) (option_map without_key (get s q)) (get s q)) (freed : UpdatesPath paths p None paths') where
   -- the path's own key is known to be deleted, and each other key is as before
-  by_key : (P : ℕ → Option OpenKey → Type 0) → ((q : ℕ) → IsOpenAt (get s q) p → P q (option_map without_key (get s q))) → ((q : ℕ) → ¬ (IsOpenAt (get s q) p) → P q (get s q)) → (q : ℕ) → P q (get s' q)
+  by_key : (P : ℕ → Option OpenKey → Type 0) → ((q : ℕ) → IsOpenAt (get s q) p → P q (option_map without_key (get s q))) →
+      ((q : ℕ) → ¬ (IsOpenAt (get s q) p) → P q (get s q)) → (q : ℕ) → P q (get s' q)
   by_key P here there q = by (leads_to (paths p) q) refl
     where
       by : (b : Bool) → leads_to (paths p) q ≡ b → P q (get s' q)
@@ -58,7 +59,8 @@ module _ (s s' : Slab OpenKey) (paths paths' : List ℕ → Option ℕ) (p : Lis
 
   place : (q : ℕ) → place_of (get s' q) ≡ place_without (path_of p) (place_of (get s q))
   place = by_key (λ q o. place_of o ≡ place_without (path_of p) (place_of (get s q)))
-      (λ q is. deleted_place (get s q) ∙ sym (ap (place_without (path_of p)) (open_place (get s q) p is) ∙ rw (same_path-texts p p, nat_list_eq_equiv.refl p) refl)) (λ q apart. other_place (get s q) p apart)
+      (λ q is. deleted_place (get s q) ∙ sym (ap (place_without (path_of p)) (open_place (get s q) p is) ∙
+      rw (same_path-texts p p, nat_list_eq_equiv.refl p) refl)) (λ q apart. other_place (get s q) p apart)
 
   at_rows : (rows : List (ℕ × Row)) → handles_of s' rows ≡ turned (path_of p) (handles_of s rows)
   at_rows [] = refl

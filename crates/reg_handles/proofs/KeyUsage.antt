@@ -20,7 +20,8 @@ same_place : (a b : ℕ) → Some a ≡ Some b → a ≡ b
 same_place a b e = cc
 
 module _ (s s' : Slab OpenKey) (before after : List ℕ → Option ℕ) (path : List ℕ) (key : ℕ) where
-  pub held_found : ((text : List ℕ) (at : ℕ) → before text ≡ Some at → IsOpenAt (get s at) text) → before path ≡ Some key → Updates s s' key (option_map with_one_more (get s key)) → ((text : List ℕ) → after text ≡ before text)
+  pub held_found : ((text : List ℕ) (at : ℕ) → before text ≡ Some at → IsOpenAt (get s at) text) → before path ≡ Some key →
+      Updates s s' key (option_map with_one_more (get s key)) → ((text : List ℕ) → after text ≡ before text)
       → IsHeld s s' before after path key
   held_found found here slots same = record {
     was = λ k is. found path key here;

@@ -22,7 +22,8 @@ module _ (s : Slab OpenKey) (session number : ℕ) (es : List (ℕ × Row)) wher
       → Some (record { number = number; session = session; mask = row.mask; place = place }) ≡ look session number (handles_of s es)
   look_found row place found own is =
       let test : (row.session == session) ≡ true = grind (arith, nat_tests) in
-      rw (told (Some row) found, test) (ap (λ p. Some (record { number = number; session = session; mask = row.mask; place = p })) is ∙ ap (λ own. Some (record { number = number; session = own; mask = row.mask; place = place_of (get s row.key) })) (sym own))
+      rw (told (Some row) found, test) (ap (λ p. Some (record { number = number; session = session; mask = row.mask; place = p })) is ∙
+      ap (λ own. Some (record { number = number; session = own; mask = row.mask; place = place_of (get s row.key) })) (sym own))
 
   pub look_other : (row : Row) → Some row ≡ lookup (is_at (nat_cmp number)) es → row.session ≢ session → None ≡ look session number (handles_of s es)
   look_other row found other =

@@ -16,7 +16,8 @@ use Rattle.reg_handles.specs.declared.rows.Row.{Row}
 use Rattle.reg_handles.proofs.HandleList.{counts_push, times_push, handles_same}
 use Rattle.reg_handles.proofs.TableEntries.{at_each, rows_is, open_place, open_one, open_some, used_some, used_open, same_key}
 
-module _ (s s' : Slab OpenKey) (paths paths' : List ℕ → Option ℕ) (es : List (ℕ × Row)) (counts : List ℕ) (number : ℕ) (row : Row) (path : List ℕ) (table : IsTable s paths es counts) (held : IsHeld s s' paths paths' path row.key) where
+module _ (s s' : Slab OpenKey) (paths paths' : List ℕ → Option ℕ) (es : List (ℕ × Row)) (counts : List ℕ) (number : ℕ) (row : Row) (path : List ℕ)
+    (table : IsTable s paths es counts) (held : IsHeld s s' paths paths' path row.key) where
   held_stays : handles_of s' es ≡ handles_of s es
   held_stays =
       handles_same s s' es (λ t some. at_each (λ q o. 0 < times q es → place_of o ≡ place_of (get s q)) s s' row.key (get s' row.key) refl held.others
@@ -74,11 +75,14 @@ module _ (s s' : Slab OpenKey) (paths paths' : List ℕ → Option ℕ) (es : Li
       by q apart is false e = held.paths text ∙ cond-false _ _ _ e ∙ table.listed text q is
 
   -- the table with the row behind all others, as the call names the rows
-  pub added_table : (es' : List (ℕ × Row)) → es' ≡ es ++ (number, row) ∷ [] → length counts ≡ 64 → row.session < 64 → IsFoldedPath path → IsTable s' paths' es' (set counts row.session (get_or counts row.session 0 + 1))
+  pub added_table : (es' : List (ℕ × Row)) → es' ≡ es ++ (number, row) ∷ [] → length counts ≡ 64 → row.session < 64 → IsFoldedPath path →
+      IsTable s' paths' es' (set counts row.session (get_or counts row.session 0 + 1))
   added_table es' are long session folded =
       subst (λ l. IsTable s' paths' l (set counts row.session (get_or counts row.session 0 + 1))) (sym are)
       (record {
-        counts = subst (AreCounts (set counts row.session (get_or counts row.session 0 + 1))) (sym added_handles) (counts_push counts (handles_of s es) (record { number = number; session = row.session; mask = row.mask; place = At (path_of path) }) long table.counts);
+        counts = subst (AreCounts (set counts row.session (get_or counts row.session 0 + 1))) (sym added_handles)
+            (counts_push counts (handles_of s es) (record { number = number; session = row.session; mask = row.mask; place = At (path_of path) }) long
+            table.counts);
         keys = added_keys folded;
         found = added_found;
         listed = added_listed;

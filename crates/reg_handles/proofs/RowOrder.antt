@@ -149,7 +149,8 @@ module _ {X : Type 0} where
   length_ordered [] distinct = sym (len-entries (from_entries {R = nat_cmp} [])) ∙ len-empty nat_cmp X
   length_ordered (e ∷ es) distinct =
       let m = from_entries {R = nat_cmp} es in
-      let absent : contains_key m e.0 ≡ false = ap is_some (get-from_entries nat_cmp_total es e.0 ∙ find_is e.0 es ∙ by_number e.0 es ∙ missing e.0 es (IsDistinct-head nat_eq e.0 (keys_of es) distinct)) in
+      let absent : contains_key m e.0 ≡ false = ap is_some (get-from_entries nat_cmp_total es e.0 ∙ find_is e.0 es ∙ by_number e.0 es ∙
+      missing e.0 es (IsDistinct-head nat_eq e.0 (keys_of es) distinct)) in
       let rest : len m ≡ length es = len-entries m ∙ length_ordered es (IsDistinct-tail nat_eq e.0 (keys_of es) distinct) in
       let grown : len (from_entries {R = nat_cmp} (e ∷ es)) ≡ len m + 1 = len-insert nat_cmp_total m e.0 e.1 ∙ ap (λ b. cond b (len m) (len m + 1)) absent in
       sym (len-entries (from_entries {R = nat_cmp} (e ∷ es))) ∙ grown ∙ omega (arith, rest)

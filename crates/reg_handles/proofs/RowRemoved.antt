@@ -73,9 +73,11 @@ fit_found : (o : Option Row) (row : Row) → o ≡ Some row → IfSome o (λ r. 
 fit_found None row e fit = absurd (cc)
 fit_found (Some r) row e fit = let same : r ≡ row = cc in subst (λ (x : Row). x.session < 64) same fit
 
-module _ (s : Slab OpenKey) (paths : List ℕ → Option ℕ) (es : List (ℕ × Row)) (counts : List ℕ) (number : ℕ) (row : Row) (table : IsTable s paths es counts) (found : lookup (is_at (nat_cmp number)) es ≡ Some row) where
+module _ (s : Slab OpenKey) (paths : List ℕ → Option ℕ) (es : List (ℕ × Row)) (counts : List ℕ) (number : ℕ) (row : Row)
+    (table : IsTable s paths es counts) (found : lookup (is_at (nat_cmp number)) es ≡ Some row) where
   fewer : times row.key (remove_entry (is_at (nat_cmp number)) es) + 1 ≡ times row.key es
-  fewer = let same : (row.key == row.key) ≡ true = grind (arith, nat_tests) in ap (λ b. times row.key (remove_entry (is_at (nat_cmp number)) es) + cond b 1 0) (sym same) ∙ times_taken row.key number es row found
+  fewer = let same : (row.key == row.key) ≡ true = grind (arith, nat_tests) in
+      ap (λ b. times row.key (remove_entry (is_at (nat_cmp number)) es) + cond b 1 0) (sym same) ∙ times_taken row.key number es row found
 
   -- its key has a row
   pub taken_rows : 0 < rows_of (get s row.key)
@@ -93,17 +95,21 @@ module _ (s : Slab OpenKey) (paths : List ℕ → Option ℕ) (es : List (ℕ ×
       ap (λ b. count_of row.session (handles_of s (remove_entry (is_at (nat_cmp number)) es)) + cond b 1 0) (sym same) ∙ count_taken s row.session number es row found in
       omega (arith, is, one)
 
-  module _ (s' : Slab OpenKey) (paths' : List ℕ → Option ℕ) (slots : Updates s s' row.key (with_one_less (get s row.key))) (freed : (text : List ℕ) → paths' text ≡ cond (is_freed (get s row.key) text) None (paths text)) where
+  module _ (s' : Slab OpenKey) (paths' : List ℕ → Option ℕ) (slots : Updates s s' row.key (with_one_less (get s row.key))) (freed : (text : List ℕ) →
+      paths' text ≡ cond (is_freed (get s row.key) text) None (paths text)) where
     same_times : (q : ℕ) → q ≢ row.key → times q es ≡ times q (remove_entry (is_at (nat_cmp number)) es)
     same_times q apart =
         let other : (row.key == q) ≡ false = grind (arith, nat_tests, apart) in
-        let none : times q (remove_entry (is_at (nat_cmp number)) es) + 0 ≡ times q es = ap (λ b. times q (remove_entry (is_at (nat_cmp number)) es) + cond b 1 0) (sym other) ∙ times_taken q number es row found in
+        let none : times q (remove_entry (is_at (nat_cmp number)) es) + 0 ≡ times q es =
+        ap (λ b. times q (remove_entry (is_at (nat_cmp number)) es) + cond b 1 0) (sym other) ∙ times_taken q number es row found in
         omega (arith, none)
 
     taken_stays : handles_of s' (remove_entry (is_at (nat_cmp number)) es) ≡ handles_of s (remove_entry (is_at (nat_cmp number)) es)
     taken_stays =
         handles_same s s' (remove_entry (is_at (nat_cmp number)) es)
-        (at_each (λ q o. 0 < times q (remove_entry (is_at (nat_cmp number)) es) → place_of o ≡ place_of (get s q)) s s' row.key _ slots.changed slots.others (less_place _ _ _ (table.keys row.key) fewer) (λ q apart some. refl))
+        (at_each (λ q o. 0 < times q (remove_entry (is_at (nat_cmp number)) es) →
+        place_of o ≡ place_of (get s q)) s s' row.key _ slots.changed slots.others (less_place _ _ _ (table.keys row.key) fewer)
+        (λ q apart some. refl))
 
     pub taken_handles : IsStrictlySortedBy nat_cmp (keys_of es) → handles_of s' (remove_entry (is_at (nat_cmp number)) es) ≡ closed number (handles_of s es)
     taken_handles rises = taken_stays ∙ sym (closed-handles_of s number es rises)
@@ -115,7 +121,8 @@ module _ (s : Slab OpenKey) (paths : List ℕ → Option ℕ) (es : List (ℕ ×
         by true e = absurd (let none : paths' text ≡ None = freed text ∙ cond-true _ _ _ e in cc)
         by false e =
             let was : paths text ≡ Some q = sym (freed text ∙ cond-false _ _ _ e) ∙ is in
-            at_each (λ q o. IsOpenAt (get s q) text → IsOpenAt o text) s s' row.key _ slots.changed slots.others (λ here. open_less (get s row.key) text here e) (λ q apart here. here) q (table.found text q was)
+            at_each (λ q o. IsOpenAt (get s q) text → IsOpenAt o text) s s' row.key _ slots.changed slots.others
+            (λ here. open_less (get s row.key) text here e) (λ q apart here. here) q (table.found text q was)
 
     taken_listed : (text : List ℕ) (q : ℕ) → IsOpenAt (get s' q) text → paths' text ≡ Some q
     taken_listed text q = at_each (λ q o. IsOpenAt o text → paths' text ≡ Some q) s s' row.key _ slots.changed slots.others here (λ q apart is. there q apart is (is_freed (get s row.key) text) refl) q
@@ -130,14 +137,16 @@ module _ (s : Slab OpenKey) (paths : List ℕ → Option ℕ) (es : List (ℕ ×
     taken_table : length counts ≡ 64 → IsTable s' paths' (remove_entry (is_at (nat_cmp number)) es) (set counts row.session (get_or counts row.session 0 - 1))
     taken_table long = record {
       counts = subst (AreCounts (set counts row.session (get_or counts row.session 0 - 1))) (sym taken_stays) (counts_taken counts s number es row long table.counts found);
-      keys = at_each (λ q o. IsUsed o (times q (remove_entry (is_at (nat_cmp number)) es))) s s' row.key _ slots.changed slots.others (one_less _ _ _ (table.keys row.key) fewer) (λ q apart. subst (IsUsed (get s q)) (same_times q apart) (table.keys q));
+      keys = at_each (λ q o. IsUsed o (times q (remove_entry (is_at (nat_cmp number)) es))) s s' row.key _ slots.changed slots.others
+          (one_less _ _ _ (table.keys row.key) fewer) (λ q apart. subst (IsUsed (get s q)) (same_times q apart) (table.keys q));
       found = taken_found;
       listed = taken_listed;
       fit = All-from_recursion _ (remove_entry (is_at (nat_cmp number)) es) (remove_fit (is_at (nat_cmp number)) es (recursion_from_All _ es table.fit));
     }
 
     -- the same of the rows and the session as the call names them
-    pub taken_to : (es' : List (ℕ × Row)) (session : ℕ) → es' ≡ remove_entry (is_at (nat_cmp number)) es → row.session ≡ session → length counts ≡ 64 → IsTable s' paths' es' (set counts session (get_or counts session 0 - 1))
+    pub taken_to : (es' : List (ℕ × Row)) (session : ℕ) → es' ≡ remove_entry (is_at (nat_cmp number)) es → row.session ≡ session →
+        length counts ≡ 64 → IsTable s' paths' es' (set counts session (get_or counts session 0 - 1))
     taken_to es' session are own long =
         subst (λ l. IsTable s' paths' l (set counts session (get_or counts session 0 - 1))) (sym are)
         (subst (λ own. IsTable s' paths' (remove_entry (is_at (nat_cmp number)) es) (set counts own (get_or counts own 0 - 1))) own (taken_table long))

@@ -14,7 +14,8 @@ use Rattle.reg_handles.proofs.HandleList.{counts_none}
 -- ---- what is true at each key
 
 -- what is true at the key that was changed, and at each other one of what it was, is true at each
-pub at_each : (P : ℕ → Option OpenKey → Type 0) (s s' : Slab OpenKey) (key : ℕ) (slot : Option OpenKey) → get s' key ≡ slot → ((q : ℕ) → q ≢ key → get s' q ≡ get s q) → P key slot → ((q : ℕ) → q ≢ key → P q (get s q)) → (q : ℕ) → P q (get s' q)
+pub at_each : (P : ℕ → Option OpenKey → Type 0) (s s' : Slab OpenKey) (key : ℕ) (slot : Option OpenKey) → get s' key ≡ slot →
+    ((q : ℕ) → q ≢ key → get s' q ≡ get s q) → P key slot → ((q : ℕ) → q ≢ key → P q (get s q)) → (q : ℕ) → P q (get s' q)
 at_each P s s' key slot changed others here other q = by (q == key) refl
   where
     by : (b : Bool) → (q == key) ≡ b → P q (get s' q)

@@ -2,7 +2,8 @@
 ghost use Rattle.std.specs.Prelude.{◌≡◌, ◌+◌, ◌^◌, ◌<◌, List, [], ℕ, None, Some, OnErr, IfOk, if◌then◌else◌, IfSome, option_map, false};
 ghost use Rattle.slab.specs.Slab.{get, Updates};
 ghost use Rattle.reg_handles.specs.FoundHandles.{place_shown};
-ghost use Rattle.reg_handles.specs.Internal.OpenKeySlab.{key_at, rows_of, place_of, is_freed, leads_to, with_one_more, with_one_less, without_key, UpdatesPath, IsHeld, IsOpenAt};
+ghost use Rattle.reg_handles.specs.Internal.OpenKeySlab.{key_at, rows_of, place_of, is_freed, leads_to, with_one_more, with_one_less, without_key};
+ghost use Rattle.reg_handles.specs.Internal.OpenKeySlab.{UpdatesPath, IsHeld, IsOpenAt};
 
 use slab::Slab;
 use std::alloc::{AllocError, Global};

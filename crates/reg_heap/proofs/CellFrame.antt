@@ -46,7 +46,8 @@ module _ (old new : Heap) (cell : ℕ) (now : Option (List ℕ)) (some : is_some
   changed-count offset = count-by offset (cases_eq offset cell)
 
 -- one cell holds other bytes
-pub writes_one : (old new : Heap) (cell : ℕ) (content : List ℕ) → is_some (old cell) ≡ true → ((offset : ℕ) → new offset ≡ cond (eqb offset cell) (Some content) (old offset)) → Writes old new (cell ∷ [])
+pub writes_one : (old new : Heap) (cell : ℕ) (content : List ℕ) → is_some (old cell) ≡ true →
+    ((offset : ℕ) → new offset ≡ cond (eqb offset cell) (Some content) (old offset)) → Writes old new (cell ∷ [])
 writes_one old new cell content some is = record {
   count = λ offset. changed-count old new cell (Some content) some is offset;
   same = λ offset gone came. changed-same old new cell (Some content) some is offset gone;

@@ -9,7 +9,8 @@ key = record { name = []; marks = 0; class = []; descriptor = []; time = 0; valu
 -- the root, `A`, `A\B`, `A\C`, `A\C\D` and `AB`
 abbrev tree : Tree
 tree =
-    from_sorted (([], key) ∷ ((65 ∷ []) ∷ [], key) ∷ ((65 ∷ []) ∷ (66 ∷ []) ∷ [], key) ∷ ((65 ∷ []) ∷ (67 ∷ []) ∷ [], key) ∷ ((65 ∷ []) ∷ (67 ∷ []) ∷ (68 ∷ []) ∷ [], key) ∷ ((65 ∷ 66 ∷ []) ∷ [], key) ∷ [])
+    from_sorted (([], key) ∷ ((65 ∷ []) ∷ [], key) ∷ ((65 ∷ []) ∷ (66 ∷ []) ∷ [], key) ∷ ((65 ∷ []) ∷ (67 ∷ []) ∷ [], key) ∷
+    ((65 ∷ []) ∷ (67 ∷ []) ∷ (68 ∷ []) ∷ [], key) ∷ ((65 ∷ 66 ∷ []) ∷ [], key) ∷ [])
 
 -- below the root `A` and `AB`
 children-root : children_of tree [] ≡ ((65 ∷ []) ∷ []) ∷ ((65 ∷ 66 ∷ []) ∷ []) ∷ []

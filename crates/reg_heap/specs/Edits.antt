@@ -1,5 +1,6 @@
 -- Keys changed in a tree (Win32 registry reference, `RegCreateKeyEx`, `RegDeleteKey`, `RegSetValueEx`, `RegDeleteValue`).
-use Rattle.std.specs.Prelude.{◌≡◌, ◌⊎◌, ℕ, ◌+◌, ◌-◌, ◌==◌, ◌&&◌, ◌||◌, nat_lt, nat_le, not, Bool, false, List, [], ◌∷◌, ◌++◌, map, length, take, cond, is_some, bit_and, Option, Some, None}
+use Rattle.std.specs.Prelude.{◌≡◌, ◌⊎◌, ℕ, ◌+◌, ◌-◌, ◌==◌, ◌&&◌, ◌||◌, nat_lt, nat_le, not, Bool, false, List, [], ◌∷◌, ◌++◌, map, length, take, cond}
+use Rattle.std.specs.Prelude.{is_some, bit_and, Option, Some, None}
 use Rattle.std.specs.FinMap.{get, insert, remove}
 use Rattle.reg_names.specs.Names.{folded, path_of}
 use Rattle.reg_heap.specs.Paths.{Path, Tree, Rec, Member, children_of}
@@ -77,7 +78,8 @@ last_there t p (name ∷ names) = cond (has_child t p name) (last_there t (child
 -- a key has index roots) a 501st key right below one
 abbrev pub are_too_many : Tree → Path → List (List ℕ) → Bool
 are_too_many t p names =
-    nat_lt 0 (length (missing t p names)) && (nat_lt 32 (length (missing t p names)) || nat_lt 512 (length p + length names) || nat_le 500 (length (children_of t (last_there t p names))))
+    nat_lt 0 (length (missing t p names)) && (nat_lt 32 (length (missing t p names)) || nat_lt 512
+    (length p + length names) || nat_le 500 (length (children_of t (last_there t p names))))
 
 -- the path of the key above
 abbrev pub above : Path → Path

@@ -38,11 +38,13 @@ coded_bytes = coded_list coded_ℕ
 
 abbrev pub coded_member : Coded Member
 coded_member =
-    code_by (List ℕ × (ℕ × List ℕ)) (coded× coded_bytes (coded× coded_ℕ coded_bytes)) (λ m. (m.name, (m.kind, m.bytes))) (λ p. record { name = p.0; kind = p.1.0; bytes = p.1.1 }) (λ _. refl)
+    code_by (List ℕ × (ℕ × List ℕ)) (coded× coded_bytes (coded× coded_ℕ coded_bytes)) (λ m. (m.name, (m.kind, m.bytes)))
+    (λ p. record { name = p.0; kind = p.1.0; bytes = p.1.1 }) (λ _. refl)
 
 abbrev pub coded_rec : Coded Rec
 coded_rec =
-    code_by ((List ℕ × ℕ) × ((List ℕ × List ℕ) × (ℕ × List Member))) (coded× (coded× coded_bytes coded_ℕ) (coded× (coded× coded_bytes coded_bytes) (coded× coded_ℕ (coded_list coded_member))))
+    code_by ((List ℕ × ℕ) × ((List ℕ × List ℕ) × (ℕ × List Member)))
+    (coded× (coded× coded_bytes coded_ℕ) (coded× (coded× coded_bytes coded_bytes) (coded× coded_ℕ (coded_list coded_member))))
     (λ r. ((r.name, r.marks), ((r.class, r.descriptor), (r.time, r.values))))
     (λ p. record { name = p.0.0; marks = p.0.1; class = p.1.0.0; descriptor = p.1.0.1; time = p.1.1.0; values = p.1.1.1 }) (λ _. refl)
 

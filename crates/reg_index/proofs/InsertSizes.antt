@@ -31,9 +31,11 @@ next-size heap (suc count) place some l =
     let n : 12 + 8 * suc count + 4 ≡ 8 + 8 * suc (suc count) = omega arith in
     ap Some n ∙ sym (ap (λ b. cond b None (Some (8 + 8 * suc (suc count)))) t)
 
-pub planned-none : (heap : Heap) (count place needed : ℕ) (content : List ℕ) → (count ≡ 0 → ⊥) → heap place ≡ Some content → needed ≡ 12 + 8 * count → needed ≤ length content → None ≡ insert_size heap count place
+pub planned-none : (heap : Heap) (count place needed : ℕ) (content : List ℕ) → (count ≡ 0 → ⊥) → heap place ≡ Some content →
+    needed ≡ 12 + 8 * count → needed ≤ length content → None ≡ insert_size heap count place
 planned-none heap count place needed content n here e l = no-size heap count place (omega (arith, n)) (omega (arith, held-is heap place content here, e, l))
 
-pub planned-some : (heap : Heap) (count place needed : ℕ) (content : List ℕ) → (count ≡ 0 → ⊥) → heap place ≡ Some content → needed ≡ 12 + 8 * count → length content < needed → Some (needed + 4) ≡ insert_size heap count place
+pub planned-some : (heap : Heap) (count place needed : ℕ) (content : List ℕ) → (count ≡ 0 → ⊥) → heap place ≡ Some content →
+    needed ≡ 12 + 8 * count → length content < needed → Some (needed + 4) ≡ insert_size heap count place
 planned-some heap count place needed content n here e l =
     ap (λ k. Some (k + 4)) e ∙ next-size heap count place (omega (arith, n)) (omega (arith, held-is heap place content here, e, l))

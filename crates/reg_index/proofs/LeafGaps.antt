@@ -72,11 +72,15 @@ shifted-gap old new cell count index within room written entries is number =
 -- ---- a gap in another cell
 
 -- a part written over leaves the cell as long as it was
-pub spliced-long : (old new : Heap) (cell at : ℕ) (piece : List ℕ) → at + length piece ≤ length (held old cell) → ((offset : ℕ) → new offset ≡ cond (offset == cell) (Some (splice at piece (held old cell))) (old offset)) → length (held new cell) ≡ length (held old cell)
+pub spliced-long : (old new : Heap) (cell at : ℕ) (piece : List ℕ) → at + length piece ≤ length (held old cell) →
+    ((offset : ℕ) → new offset ≡ cond (offset == cell) (Some (splice at piece (held old cell))) (old offset)) →
+    length (held new cell) ≡ length (held old cell)
 spliced-long old new cell at piece fits is =
     ap length (held-of new cell (splice at piece (held old cell)) (changed-here old new cell (Some (splice at piece (held old cell))) is)) ∙ length-splice at piece (held old cell) fits
 
-pub spliced-room : (old new : Heap) (cell at size : ℕ) (piece : List ℕ) → at + length piece ≤ length (held old cell) → size ≤ length (held old cell) → ((offset : ℕ) → new offset ≡ cond (offset == cell) (Some (splice at piece (held old cell))) (old offset)) → HasRoom new cell size
+pub spliced-room : (old new : Heap) (cell at size : ℕ) (piece : List ℕ) → at + length piece ≤ length (held old cell) →
+    size ≤ length (held old cell) → ((offset : ℕ) → new offset ≡ cond (offset == cell) (Some (splice at piece (held old cell))) (old offset)) →
+    HasRoom new cell size
 spliced-room old new cell at size piece fits enough is = record {
   exists = subst IsSome (sym (changed-here old new cell (Some (splice at piece (held old cell))) is)) refl;
   enough = omega (arith, spliced-long old new cell at piece fits is, enough);
@@ -136,7 +140,8 @@ module _ (h0 h1 h2 h3 : Heap) (cell fresh count index : ℕ) (within : index ≤
 
 -- ---- the head written over entries
 
-module _ (heap : Heap) (cell count : ℕ) (c : List ℕ) (entries : List Entry) (here : heap cell ≡ Some (splice 0 (head_bytes HashLeaf count) c)) (few : count ≤ 500) (long : 4 + 8 * count ≤ length c) where
+module _ (heap : Heap) (cell count : ℕ) (c : List ℕ) (entries : List Entry) (here : heap cell ≡ Some (splice 0 (head_bytes HashLeaf count) c))
+    (few : count ≤ 500) (long : 4 + 8 * count ≤ length c) where
   fits : 0 + length (head_bytes HashLeaf count) ≤ length c
   fits = omega arith
 
@@ -191,7 +196,8 @@ filled h0 h1 h2 cell index count entry few place hint one two entries gap number
     let parted : count ≡ index + suc m = omega (arith, number, within) in
     let front : hinted_entries index 4 d ≡ take index entries = kept (4 + 8 * index) E c fits index 4 (omega arith) ∙ gap.before in
     let next : 4 + 8 * index + 8 ≡ 12 + 8 * index = omega arith in
-    let back : hinted_entries m (4 + 8 * index + 8) d ≡ drop index entries = kept-behind (4 + 8 * index) E c fits m (4 + 8 * index + 8) (omega arith) ∙ (ap (λ a. hinted_entries m a c) next ∙ gap.behind) in
+    let back : hinted_entries m (4 + 8 * index + 8) d ≡ drop index entries = kept-behind (4 + 8 * index) E c fits m (4 + 8 * index + 8)
+    (omega arith) ∙ (ap (λ a. hinted_entries m a c) next ∙ gap.behind) in
     headed h2 cell count d (with_one index entry entries) here few (omega (arith, long, room, number))
     (ap (λ n. hinted_entries n 4 d) parted
     ∙ (hinted-append index (suc m) 4 d

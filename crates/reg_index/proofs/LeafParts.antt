@@ -38,7 +38,8 @@ test-some : {A : Type 0} (b : Bool) (x y : A) → cond b (Some x) None ≡ Some 
 test-some true x y e = (refl, same_Some _ _ e)
 test-some false x y e = absurd (none-some _ e)
 
-other : (form : Form) (b : Bool) (read entries : List Entry) → is_hash form ≡ false → cond {A = Option SubkeysList} b (Some (record { form = form; entries = read })) None ≡ Some (record { form = HashLeaf; entries = entries }) → ⊥
+other : (form : Form) (b : Bool) (read entries : List Entry) → is_hash form ≡ false →
+    cond {A = Option SubkeysList} b (Some (record { form = form; entries = read })) None ≡ Some (record { form = HashLeaf; entries = entries }) → ⊥
 other form b read entries n e = let s = test-some b _ _ e in false≢true (sym n ∙ ap (λ (l : SubkeysList). is_hash l.form) s.1)
 
 says-as : (content : List ℕ) (entries : List Entry) (form : Form) → form_of content ≡ Some form → list_as form content ≡ Some (record { form = HashLeaf; entries = entries }) → Says content entries
@@ -70,7 +71,8 @@ leaf-open heap place entries e =
       says = subst (λ c. Says c entries) (sym same) (says-of content entries reads);
     })
 
-pub leaf-made : (heap : Heap) (place : ℕ) (content : List ℕ) (entries : List Entry) (count : ℕ) → heap place ≡ Some content → form_of content ≡ Some HashLeaf → half content 2 ≡ count → 4 + 8 * count ≤ length content → hinted_entries count 4 content ≡ entries
+pub leaf-made : (heap : Heap) (place : ℕ) (content : List ℕ) (entries : List Entry) (count : ℕ) → heap place ≡ Some content →
+    form_of content ≡ Some HashLeaf → half content 2 ≡ count → 4 + 8 * count ≤ length content → hinted_entries count 4 content ≡ entries
     → IsLeaf heap place entries
 leaf-made heap place content entries count here form number long body =
     ap (option_and_then list_of) here

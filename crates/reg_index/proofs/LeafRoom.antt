@@ -33,7 +33,8 @@ size-some heap count place size some e = by (cases_lt (length (held heap place))
 
 -- ---- the first subkey
 
-pub first-gap : (heap : Heap) (count place fresh index : ℕ) → count ≡ 0 → IsReady heap (insert_size heap count place) fresh → ((entries : List Entry) × AreSubkeys heap count place entries × (index ≤ length entries))
+pub first-gap : (heap : Heap) (count place fresh index : ℕ) → count ≡ 0 → IsReady heap (insert_size heap count place) fresh →
+    ((entries : List Entry) × AreSubkeys heap count place entries × (index ≤ length entries))
     → (entries : List Entry) → AreSubkeys heap count place entries → HasGap heap fresh index entries
 first-gap heap count place fresh index none ready s entries t =
     let r : IsReady heap (Some 16) fresh = subst (λ size. IsReady heap size fresh) (sym (first-size heap count place none)) ready in
@@ -54,7 +55,9 @@ first-moves heap (suc count) place fresh none = absurd (omega arith)
 pub leaf-of : (heap : Heap) (count place : ℕ) → (count ≡ 0 → ⊥) → (entries : List Entry) → AreSubkeys heap count place entries → IsLeaf heap place entries × (length entries ≡ count)
 leaf-of heap count place some entries s = let h = subkeys-open heap count place entries s.read (omega (arith, some)) in (h.leaf, h.number)
 
-pub leaf-needs : (heap : Heap) (count place index : ℕ) → (count ≡ 0 → ⊥) → ((entries : List Entry) × AreSubkeys heap count place entries × (index ≤ length entries)) → (entries : List Entry) × IsLeaf heap place entries × (length entries ≡ count)
+pub leaf-needs : (heap : Heap) (count place index : ℕ) → (count ≡ 0 → ⊥) →
+    ((entries : List Entry) × AreSubkeys heap count place entries × (index ≤ length entries)) → (entries : List Entry) × IsLeaf heap place entries ×
+    (length entries ≡ count)
 leaf-needs heap count place index some s = let h = leaf-of heap count place some s.0 s.1 in (s.0, h.0, h.1)
 
 pub index-fits : (heap : Heap) (count place index : ℕ) → ((entries : List Entry) × AreSubkeys heap count place entries × (index ≤ length entries)) → index ≤ count
@@ -66,7 +69,8 @@ gap-of old new count place at index some gap entries s = let h = leaf-of old cou
 
 -- ---- in the list's cell
 
-pub within-moves : (old new : Heap) (count place fresh : ℕ) → (count ≡ 0 → ⊥) → insert_size old count place ≡ None → Writes old new (place ∷ []) → Moves old new (own count place ++ taken (insert_size old count place) fresh) (place ∷ [])
+pub within-moves : (old new : Heap) (count place fresh : ℕ) → (count ≡ 0 → ⊥) → insert_size old count place ≡ None → Writes old new (place ∷ []) →
+    Moves old new (own count place ++ taken (insert_size old count place) fresh) (place ∷ [])
 within-moves old new zero place fresh some e w = absurd (some refl)
 within-moves old new (suc count) place fresh some e w = subst (λ size. Moves old new (place ∷ taken size fresh) (place ∷ [])) (sym e) w
 
@@ -87,7 +91,8 @@ module _ (heap : Heap) (count place fresh size : ℕ) (some : count ≡ 0 → �
       let same : length (held heap fresh) ≡ length (held heap place) = ap (λ z. length (held heap z)) e in
       absurd (omega (arith, same, carved.1, next.size_is, next.short))
 
-pub move-moves : (old new : Heap) (count place fresh size : ℕ) → (count ≡ 0 → ⊥) → insert_size old count place ≡ Some size → Swaps old new (λ z. times z (place ∷ fresh ∷ [])) (λ z. times z (fresh ∷ []))
+pub move-moves : (old new : Heap) (count place fresh size : ℕ) → (count ≡ 0 → ⊥) → insert_size old count place ≡ Some size →
+    Swaps old new (λ z. times z (place ∷ fresh ∷ [])) (λ z. times z (fresh ∷ []))
     → Moves old new (own count place ++ taken (insert_size old count place) fresh) (fresh ∷ [])
 move-moves old new zero place fresh size some e w = absurd (some refl)
 move-moves old new (suc count) place fresh size some e w = subst (λ size. Moves old new (place ∷ taken size fresh) (fresh ∷ [])) (sym e) w

@@ -61,7 +61,8 @@ all-between heap count place name entries s =
     record { order_is = omega arith; within = omega arith; before = λ k l. absurd (omega arith); behind = λ k l r. absurd (omega arith) }
 
 -- the middle is in the list
-pub in-list : (heap : Heap) (count place low high middle : ℕ) (name : List ℕ) → middle < high → ((entries : List Entry) → AreSubkeys heap count place entries → Between (names_in heap entries) (folded name) low high)
+pub in-list : (heap : Heap) (count place low high middle : ℕ) (name : List ℕ) → middle < high →
+    ((entries : List Entry) → AreSubkeys heap count place entries → Between (names_in heap entries) (folded name) low high)
     → (entries : List Entry) × AreSubkeys heap count place entries → middle < count
 in-list heap count place low high middle name to so_far s = omega (arith, (so_far s.0 s.1).within, length-names heap s.0, length-subkeys heap count place s.0 s.1.read, to)
 

@@ -57,7 +57,8 @@ index-written heap (suc count) place entries s =
     record { form = refl; some = omega (arith, n); few = omega (arith, n, s.few) }
 
 -- the list of an index that is one list
-listed-by : (heap : Heap) (place : ℕ) (list : SubkeysList) (form : Form) (index : Index) → index_as heap place list form ≡ Some index → IsSingle index → index ≡ Listed (record { place = place; list = list })
+listed-by : (heap : Heap) (place : ℕ) (list : SubkeysList) (form : Form) (index : Index) → index_as heap place list form ≡ Some index →
+    IsSingle index → index ≡ Listed (record { place = place; list = list })
 listed-by heap place list IndexRoot index e single = absurd (rooted (key_lists_at heap (places_in list.entries)) e single)
   where
     rooted : (o : Option (List KeyList)) → option_map (Rooted place) o ≡ Some index → IsSingle index → ⊥
@@ -67,14 +68,17 @@ listed-by heap place list IndexLeaf index e single = sym (same_Some _ _ e)
 listed-by heap place list FastLeaf index e single = sym (same_Some _ _ e)
 listed-by heap place list HashLeaf index e single = sym (same_Some _ _ e)
 
-leaf-by : (heap : Heap) (count place : ℕ) (list : SubkeysList) → list_at heap place ≡ Some list → IsWrittenList (record { place = place; list = list }) → suc count ≡ length (list.entries ++ []) → subkeys_at heap (suc count) place ≡ Some (list.entries ++ [])
+leaf-by : (heap : Heap) (count place : ℕ) (list : SubkeysList) → list_at heap place ≡ Some list →
+    IsWrittenList (record { place = place; list = list }) → suc count ≡ length (list.entries ++ []) →
+    subkeys_at heap (suc count) place ≡ Some (list.entries ++ [])
 leaf-by heap count place list here written number =
     let all : list.entries ++ [] ≡ list.entries = append-nil list.entries in
     let leaf : IsLeaf heap place list.entries = here ∙ (λ i. Some (record { form = written.form i; entries = list.entries })) in
     subkeys-made heap (suc count) place list.entries (omega arith) leaf (sym (number ∙ ap length all)) ∙ ap Some (sym all)
 
 -- an index of at most one list, as it is written, gives the subkeys
-pub index-subkeys : (heap : Heap) (count place : ℕ) (index : Index) → index_at heap count place ≡ Some index → IsWrittenIndex index → IsSingle index → count ≡ length (entries_of index) → subkeys_at heap count place ≡ Some (entries_of index)
+pub index-subkeys : (heap : Heap) (count place : ℕ) (index : Index) → index_at heap count place ≡ Some index → IsWrittenIndex index →
+    IsSingle index → count ≡ length (entries_of index) → subkeys_at heap count place ≡ Some (entries_of index)
 unfolding subkeys_at
 index-subkeys heap zero place index e written single number = ap (λ o. Some o) (same_Some _ _ (ap (option_map entries_of) e))
 index-subkeys heap (suc count) place index e written single number =

@@ -97,7 +97,8 @@ module _ (names : List Name) (i : ℕ) (x : Name) (w : i ≤ length names) where
       get_or-append_right (take i names) (x ∷ drop i names) i (suc k) [] f (omega arith)
       ∙ (ap (λ k. get_or (x ∷ drop i names) k []) {x = suc k - i} {y = suc (k - i)} (omega arith) ∙ (get_or-drop i names (k - i) [] ∙ ap (λ k. get_or names k []) (omega arith)))
 
-  both : (a b : ℕ) (y z : Name) → get_or (added i x names) a [] ≡ y → get_or (added i x names) b [] ≡ z → order y z ≡ Less → order (get_or (added i x names) a []) (get_or (added i x names) b []) ≡ Less
+  both : (a b : ℕ) (y z : Name) → get_or (added i x names) a [] ≡ y → get_or (added i x names) b [] ≡ z → order y z ≡ Less →
+      order (get_or (added i x names) a []) (get_or (added i x names) b []) ≡ Less
   both a b y z e f l = (λ j. order (e j) (f j)) ∙ l
 
   past : (k : ℕ) → i < k → get_or (added i x names) k [] ≡ get_or names (k - 1) []

@@ -24,12 +24,16 @@ use Rattle.reg_index.proofs.SubkeyRemoved.{all-take, all-drop}
 all-with : (P : Entry → Type 0) (index : ℕ) (entry : Entry) (entries : List Entry) → P entry → AllByRecursion P entries → AllByRecursion P (with_one index entry entries)
 all-with P index entry entries one all = all-append P (take index entries) (entry ∷ drop index entries) (all-take P index entries all) (one, all-drop P index entries all)
 
-names-with : (heap : Heap) (index : ℕ) (entry : Entry) (entries : List Entry) → names_in heap (with_one index entry entries) ≡ take index (names_in heap entries) ++ folded (name_at heap entry.place) ∷ drop index (names_in heap entries)
+names-with : (heap : Heap) (index : ℕ) (entry : Entry) (entries : List Entry) →
+    names_in heap (with_one index entry entries) ≡ take index (names_in heap entries) ++ folded (name_at heap entry.place) ∷ drop index
+    (names_in heap entries)
 names-with heap index entry entries =
     map-append (λ (e : Entry). folded (name_at heap e.place)) (take index entries) (entry ∷ drop index entries)
-    ∙ (λ i. sym (take-map (λ (e : Entry). folded (name_at heap e.place)) index entries) i ++ folded (name_at heap entry.place) ∷ sym (drop-map (λ (e : Entry). folded (name_at heap e.place)) index entries) i)
+    ∙ (λ i. sym (take-map (λ (e : Entry). folded (name_at heap e.place)) index entries) i ++ folded (name_at heap entry.place) ∷ sym
+    (drop-map (λ (e : Entry). folded (name_at heap e.place)) index entries) i)
 
-keys-with : (heap : Heap) (index key : ℕ) (entries : List Entry) → IsSome (key_at heap key) → AreKeys heap entries → IsPlace (names_in heap entries) (folded (name_at heap key)) (Err index) → AreKeys heap (with_one index (entry_for heap key) entries)
+keys-with : (heap : Heap) (index key : ℕ) (entries : List Entry) → IsSome (key_at heap key) → AreKeys heap entries →
+    IsPlace (names_in heap entries) (folded (name_at heap key)) (Err index) → AreKeys heap (with_one index (entry_for heap key) entries)
 keys-with heap index key entries some k place = record {
   keys = all-with (λ (e : Entry). IsSome (key_at heap e.place)) index (entry_for heap key) entries some k.keys;
   hashes = all-with (λ (e : Entry). e.hint ≡ hash (name_at heap e.place)) index (entry_for heap key) entries refl k.hashes;
@@ -46,10 +50,14 @@ taken-none heap None fresh key ready some = refl
 taken-none heap (Some size) fresh key ready some =
     times-not key fresh [] (λ same. false≢true (subst IsSome ready.2 (subst (λ z. IsSome (key_at heap z)) (sym same) some))) refl
 
-given-none : (heap : Heap) (count place fresh key : ℕ) (entries : List Entry) → AreSubkeys heap count place entries → IsReady heap (insert_size heap count place) fresh → IsSome (key_at heap key) → times key (own count place ++ taken (insert_size heap count place) fresh) ≡ 0
+given-none : (heap : Heap) (count place fresh key : ℕ) (entries : List Entry) → AreSubkeys heap count place entries →
+    IsReady heap (insert_size heap count place) fresh → IsSome (key_at heap key) →
+    times key (own count place ++ taken (insert_size heap count place) fresh) ≡ 0
 given-none heap zero place fresh key entries s ready some = taken-none heap (insert_size heap zero place) fresh key ready some
 given-none heap (suc count) place fresh key entries s ready some =
-    times-not key place (taken (insert_size heap (suc count) place) fresh) (λ same. key-or-leaf heap place entries (subkeys-open heap (suc count) place entries s.read (omega arith)).leaf (subst (λ z. IsSome (key_at heap z)) (sym same) some))
+    times-not key place (taken (insert_size heap (suc count) place) fresh)
+    (λ same. key-or-leaf heap place entries (subkeys-open heap (suc count) place entries s.read (omega arith)).leaf
+    (subst (λ z. IsSome (key_at heap z)) (sym same) some))
     (taken-none heap (insert_size heap (suc count) place) fresh key ready some)
 
 -- ---- the subkeys with one more
@@ -63,7 +71,8 @@ module _ (old between new : Heap) (count place fresh at after index key : ℕ) (
     same = λ z gone came. filled.same z came came ∙ opened.same z gone came;
   }
 
-  own-now : Moves old new (own count place ++ taken (insert_size old count place) fresh) (at ∷ []) → (n : ℕ) → n ≡ count + 1 → Moves old new (own count place ++ taken (insert_size old count place) fresh) (own n at)
+  own-now : Moves old new (own count place ++ taken (insert_size old count place) fresh) (at ∷ []) → (n : ℕ) → n ≡ count + 1 →
+      Moves old new (own count place ++ taken (insert_size old count place) fresh) (own n at)
   own-now m zero e = absurd (omega arith)
   own-now m (suc n) e = m
 
@@ -71,7 +80,8 @@ module _ (old between new : Heap) (count place fresh at after index key : ℕ) (
   one-moves = own-now moved after more
 
   module _ (hint : ℕ) (hint_is : hint ≡ hash (name_at old key))
-      (put : (entries : List Entry) → HasGap between at index entries → length entries + 1 ≡ after → index ≤ length entries → IsLeaf new at (with_one index (record { place = key; hint = hint }) entries))
+      (put : (entries : List Entry) → HasGap between at index entries → length entries + 1 ≡ after → index ≤ length entries →
+      IsLeaf new at (with_one index (record { place = key; hint = hint }) entries))
       (gap : (entries : List Entry) → AreSubkeys old count place entries → HasGap between at index entries)
       (fits : (entries : List Entry) × AreSubkeys old count place entries × IsPlace (names_in old entries) (folded (name_at old key)) (Err index))
       (entries : List Entry) (s : AreSubkeys old count place entries) where
@@ -90,7 +100,8 @@ module _ (old between new : Heap) (count place fresh at after index key : ℕ) (
         (put entries (gap entries s) (omega (arith, length-subkeys old count place entries s.read, more)) within)
 
     stay : (z : ℕ) → IsSome (key_at old z) → key_at new z ≡ key_at old z
-    stay z is = key-stays old new (λ z. times z (own count place ++ taken (insert_size old count place) fresh)) (λ z. times z (at ∷ [])) z moved is (given-none old count place fresh z entries s ready is)
+    stay z is = key-stays old new (λ z. times z (own count place ++ taken (insert_size old count place) fresh)) (λ z. times z (at ∷ [])) z moved is
+        (given-none old count place fresh z entries s ready is)
 
     all-stay : Stay old new (with_one index (entry_for old key) entries)
     all-stay =
@@ -100,7 +111,8 @@ module _ (old between new : Heap) (count place fresh at after index key : ℕ) (
     pub one-more : AreSubkeys new after at (with_one index (entry_for old key) entries)
     one-more =
         subkeys-of new after at (with_one index (entry_for old key) entries)
-        (subkeys-made new after at (with_one index (entry_for old key) entries) (omega (arith, more)) leaf (omega (arith, length-with index (entry_for old key) entries within, length-subkeys old count place entries s.read, more)))
+        (subkeys-made new after at (with_one index (entry_for old key) entries) (omega (arith, more)) leaf
+        (omega (arith, length-with index (entry_for old key) entries within, length-subkeys old count place entries s.read, more)))
         (omega (arith, few, more)) (λ e. absurd (omega (arith, e, more)))
         (keys-stay old new (with_one index (entry_for old key) entries) (keys-with old index key entries some (keys-of old count place entries s) place_is) all-stay)
 
@@ -112,5 +124,6 @@ pub fill-needs : (old between : Heap) (count place at index after : ℕ) (name :
 fill-needs old between count place at index after name more fits gap =
     (fits.0, gap fits.0 fits.1, omega (arith, length-subkeys old count place fits.0 fits.1.read, more), omega (arith, fits.2.0, length-names old fits.0))
 
-pub open-needs : (heap : Heap) (count place index : ℕ) (name : List ℕ) → (entries : List Entry) × AreSubkeys heap count place entries × IsPlace (names_in heap entries) name (Err index) → (entries : List Entry) × AreSubkeys heap count place entries × (index ≤ length entries)
+pub open-needs : (heap : Heap) (count place index : ℕ) (name : List ℕ) → (entries : List Entry) × AreSubkeys heap count place entries ×
+    IsPlace (names_in heap entries) name (Err index) → (entries : List Entry) × AreSubkeys heap count place entries × (index ≤ length entries)
 open-needs heap count place index name fits = (fits.0, fits.1, omega (arith, fits.2.0, length-names heap fits.0))

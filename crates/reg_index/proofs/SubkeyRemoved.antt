@@ -44,18 +44,22 @@ keys-without heap index entries l k = record {
 
 -- ---- the subkeys that are left
 
-module _ (old new : Heap) (count place left after index : ℕ) (came : ℕ → ℕ) (within : index < count) (less : left + 1 ≡ count) (moved : Swaps old new (λ z. times z (place ∷ [])) came) (entries : List Entry) (s : AreSubkeys old count place entries) where
+module _ (old new : Heap) (count place left after index : ℕ) (came : ℕ → ℕ) (within : index < count) (less : left + 1 ≡ count)
+    (moved : Swaps old new (λ z. times z (place ∷ [])) came) (entries : List Entry) (s : AreSubkeys old count place entries) where
   stay : Stay old new entries
   stay =
       all-map (λ (e : Entry). IsSome (key_at old e.place)) (λ (e : Entry). key_at new e.place ≡ key_at old e.place) entries
-      (λ e some. key-stays old new (λ z. times z (place ∷ [])) came e.place moved some (times-not e.place place [] (λ same. key-or-leaf old place entries (subkeys-open old count place entries s.read (omega arith)).leaf (subst (λ z. IsSome (key_at old z)) (sym same) some)) refl))
+      (λ e some. key-stays old new (λ z. times z (place ∷ [])) came e.place moved some
+      (times-not e.place place [] (λ same. key-or-leaf old place entries (subkeys-open old count place entries s.read (omega arith)).leaf
+      (subst (λ z. IsSome (key_at old z)) (sym same) some)) refl))
       s.keys
 
   pub taken-out : subkeys_at new left after ≡ Some (without index entries) → (left ≡ 0 → after ≡ 4294967295) → AreSubkeys new left after (without index entries)
   taken-out read unlisted =
       let number = length-subkeys old count place entries s.read in
       subkeys-of new left after (without index entries) read (omega (arith, s.few, less)) unlisted
-      (keys-stay old new (without index entries) (keys-without old index entries (omega (arith, number, within)) (keys-of old count place entries s)) (all-without (λ (e : Entry). key_at new e.place ≡ key_at old e.place) index entries stay))
+      (keys-stay old new (without index entries) (keys-without old index entries (omega (arith, number, within)) (keys-of old count place entries s))
+      (all-without (λ (e : Entry). key_at new e.place ≡ key_at old e.place) index entries stay))
 
 none-left : (index : ℕ) (entries : List Entry) → index < 1 → length entries ≡ 1 → without index entries ≡ []
 none-left zero [] l n = refl
@@ -69,7 +73,8 @@ no-subkeys heap zero place e = refl
 no-subkeys heap (suc count) place e = absurd (omega arith)
 
 -- the last one
-pub emptied : (old new : Heap) (count place left index : ℕ) → index < count → left + 1 ≡ count → left ≡ 0 → GivesUp old new (place ∷ []) → (entries : List Entry) → AreSubkeys old count place entries → AreSubkeys new left 4294967295 (without index entries)
+pub emptied : (old new : Heap) (count place left index : ℕ) → index < count → left + 1 ≡ count → left ≡ 0 → GivesUp old new (place ∷ []) →
+    (entries : List Entry) → AreSubkeys old count place entries → AreSubkeys new left 4294967295 (without index entries)
 emptied old new count place left index within less none gone entries s =
     let number = length-subkeys old count place entries s.read in
     taken-out old new count place left 4294967295 index (λ z. 0) within less gone entries s
@@ -91,14 +96,23 @@ fewer old new count place left index within less some writes closed entries s =
     (subkeys-made new left place (without index entries) (omega (arith, some)) leaf (length-left entries number)) (λ e. absurd (some e))
   where
     length-left : (entries : List Entry) → length entries ≡ count → length (without index entries) ≡ left
-    length-left entries number = omega (arith, number, within, less, length-append (take index entries) (drop (index + 1) entries), length-take-le index entries (omega (arith, number, within)), length-drop (index + 1) entries)
+    length-left entries number = omega (
+      arith,
+      number,
+      within,
+      less,
+      length-append (take index entries) (drop (index + 1) entries),
+      length-take-le index entries (omega (arith, number, within)),
+      length-drop (index + 1) entries,
+    )
 
 pub fewer-moves : (old new : Heap) (place left : ℕ) → (left ≡ 0 → ⊥) → Writes old new (place ∷ []) → Moves old new (place ∷ []) (own left place)
 fewer-moves old new place zero some writes = absurd (some refl)
 fewer-moves old new place (suc left) some writes = writes
 
 -- what taking out needs
-pub one-leaf : (heap : Heap) (count place left : ℕ) → left + 1 ≡ count → ((entries : List Entry) × AreSubkeys heap count place entries) → (entries : List Entry) × IsLeaf heap place entries × (length entries ≡ left + 1)
+pub one-leaf : (heap : Heap) (count place left : ℕ) → left + 1 ≡ count → ((entries : List Entry) × AreSubkeys heap count place entries) →
+    (entries : List Entry) × IsLeaf heap place entries × (length entries ≡ left + 1)
 one-leaf heap count place left less s =
     let h = subkeys-open heap count place s.0 s.1.read (omega arith) in
     (s.0, h.leaf, omega (arith, h.number, less))

@@ -98,13 +98,15 @@ keys-of heap count place entries s = record { keys = s.keys; hashes = s.hashes; 
 
 pub keys-stay : (old new : Heap) (entries : List Entry) → AreKeys old entries → Stay old new entries → AreKeys new entries
 keys-stay old new entries k stay = record {
-  keys = all-both (λ (e : Entry). IsSome (key_at old e.place)) (λ (e : Entry). key_at new e.place ≡ key_at old e.place) (λ (e : Entry). IsSome (key_at new e.place)) entries (λ e s same. subst IsSome (sym same) s) k.keys stay;
+  keys = all-both (λ (e : Entry). IsSome (key_at old e.place)) (λ (e : Entry). key_at new e.place ≡ key_at old e.place)
+      (λ (e : Entry). IsSome (key_at new e.place)) entries (λ e s same. subst IsSome (sym same) s) k.keys stay;
   hashes = all-both (λ (e : Entry). e.hint ≡ hash (name_at old e.place)) (λ (e : Entry). key_at new e.place ≡ key_at old e.place) (λ (e : Entry). e.hint ≡ hash (name_at new e.place)) entries
       (λ e h same. h ∙ ap (λ key. hash (name_or_none key)) (sym same)) k.hashes stay;
   rising = subst Rises (sym (names-stay old new entries stay)) k.rising;
 }
 
-pub subkeys-of : (heap : Heap) (count place : ℕ) (entries : List Entry) → subkeys_at heap count place ≡ Some entries → count ≤ 500 → (count ≡ 0 → place ≡ 4294967295) → AreKeys heap entries → AreSubkeys heap count place entries
+pub subkeys-of : (heap : Heap) (count place : ℕ) (entries : List Entry) → subkeys_at heap count place ≡ Some entries → count ≤ 500 →
+    (count ≡ 0 → place ≡ 4294967295) → AreKeys heap entries → AreSubkeys heap count place entries
 subkeys-of heap count place entries read few unlisted k = record { read = read; few = few; unlisted = unlisted; keys = k.keys; hashes = k.hashes; rising = k.rising }
 
 -- ---- where a change is elsewhere
@@ -116,6 +118,7 @@ reading-stays old new (suc count) place (inl e) = absurd (omega arith)
 reading-stays old new (suc count) place (inr same) = ap (λ o. option_and_then (λ (list : SubkeysList). hashed (suc count) list.form list.entries) (option_and_then list_of o)) same
 
 -- subkeys stay, where the list's cell and the keys do
-pub subkeys-stay : (old new : Heap) (count place : ℕ) (entries : List Entry) → AreSubkeys old count place entries → (count ≡ 0) ⊎ (new place ≡ old place) → Stay old new entries → AreSubkeys new count place entries
+pub subkeys-stay : (old new : Heap) (count place : ℕ) (entries : List Entry) → AreSubkeys old count place entries →
+    (count ≡ 0) ⊎ (new place ≡ old place) → Stay old new entries → AreSubkeys new count place entries
 subkeys-stay old new count place entries s elsewhere stay =
     subkeys-of new count place entries (reading-stays old new count place elsewhere ∙ s.read) s.few s.unlisted (keys-stay old new entries (keys-of old count place entries s) stay)

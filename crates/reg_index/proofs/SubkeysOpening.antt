@@ -63,7 +63,8 @@ pub subkeys-leaf : (heap : Heap) (count place : ℕ) (entries : List Entry) → 
 subkeys-leaf heap count place entries s l = leaf-open heap place entries (subkeys-open heap count place entries s.read l).leaf
 
 -- the list's cell has room for the entry at an index
-pub list-room : (heap : Heap) (count place index : ℕ) (content : List ℕ) → ((entries : List Entry) × AreSubkeys heap count place entries) → index < count → heap place ≡ Some content → 4 + 8 * (index + 1) ≤ length content
+pub list-room : (heap : Heap) (count place index : ℕ) (content : List ℕ) → ((entries : List Entry) × AreSubkeys heap count place entries) →
+    index < count → heap place ≡ Some content → 4 + 8 * (index + 1) ≤ length content
 list-room heap count place index content s l here =
     let leaf = subkeys-leaf heap count place s.0 s.1 (omega arith) in
     let number = (subkeys-open heap count place s.0 s.1.read (omega arith)).number in
@@ -79,7 +80,8 @@ slice_get-at (y ∷ ys) zero x d e = same_Some _ _ e
 slice_get-at (y ∷ ys) (suc index) x d e = slice_get-at ys index x d e
 
 -- the entry that is read at an index
-pub entry-is : (heap : Heap) (count place index : ℕ) (content : List ℕ) (entry : Entry) → index < count → heap place ≡ Some content → ((number : ℕ) → index < number → slice_get (hinted_entries number 4 content) index ≡ Some entry)
+pub entry-is : (heap : Heap) (count place index : ℕ) (content : List ℕ) (entry : Entry) → index < count → heap place ≡ Some content →
+    ((number : ℕ) → index < number → slice_get (hinted_entries number 4 content) index ≡ Some entry)
     → (entries : List Entry) → AreSubkeys heap count place entries → get_or entries index (record { place = 0; hint = 0 }) ≡ entry
 entry-is heap count place index content entry l here reads entries s =
     let leaf = subkeys-leaf heap count place entries s (omega arith) in

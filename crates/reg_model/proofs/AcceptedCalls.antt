@@ -5,7 +5,8 @@ use Rattle.reg_heap.specs.Paths.{Path}
 use Rattle.reg_heap.specs.Edits.{values_at, may_not_go}
 use Rattle.reg_names.specs.Names.{is_value_name}
 use Rattle.reg_model.specs.Worlds.{Handle, Place, At, Deleted, look, path_at, path_from}
-use Rattle.reg_model.specs.Causes.{State, change_cause, early_cause, late_cause, asked_before, refuse, by_handle, has, is_mask, is_full, is_bad_open, is_bad_target, is_bad_value, no_handle_room, no_key_room, no_value_room, lacks_value, ◌or◌}
+use Rattle.reg_model.specs.Causes.{State, change_cause, early_cause, late_cause, asked_before, refuse, by_handle, has, is_mask, is_full, is_bad_open, is_bad_target, is_bad_value}
+use Rattle.reg_model.specs.Causes.{no_handle_room, no_key_room, no_value_room, lacks_value, ◌or◌}
 use Rattle.reg_model.specs.declared.call.Change.{Change}
 use Rattle.reg_model.specs.declared.call.Change.TheVariants.{OpenRoot, OpenKey, CreateKey, SetValue, DeleteValue, DeleteKey, Close}
 
@@ -115,7 +116,9 @@ pub set-met : (s : State) (session h : ℕ) (name : List ℕ) (kind : ℕ) (byte
 unfolding early_cause late_cause
 set-met s session h name kind bytes c e =
     let none = causes s session (SetValue h name kind bytes) c e in
-    let m = meets (λ r. refuse (is_bad_value name bytes) 87 or refuse (not (has 2 r.mask)) 5 or refuse (is_full 1 s || no_value_room name (values_at s.world.tree (path_at session h s.world.handles))) 1450) (look session h s.world.handles) none.first in
+    let m = meets (λ r. refuse (is_bad_value name bytes) 87 or refuse (not (has 2 r.mask)) 5 or refuse
+    (is_full 1 s || no_value_room name (values_at s.world.tree (path_at session h s.world.handles))) 1450)
+    (look session h s.world.handles) none.first in
     let early = all_none _ _ _ m.none in
     let counts = both_false _ _ (not_refused _ 1450 early.third) in
     record { target = m.target; good = not_refused _ 87 early.first; right = not_false _ (not_refused _ 5 early.second); room = counts.0; few = counts.1 }

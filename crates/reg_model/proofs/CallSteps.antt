@@ -104,7 +104,9 @@ zero-before (Close h) c = no_status
 
 zero-cause : (s : State) (session : ℕ) (change : Change) (c : ℕ) → NotZero (change_cause s session change c)
 zero-cause s session change c =
-    zero-or (early_cause s session change or asked_before change c) (late_cause s session change) (zero-or (early_cause s session change) (asked_before change c) (zero-early s session change) (zero-before change c)) (zero-late s session change)
+    zero-or (early_cause s session change or asked_before change c) (late_cause s session change)
+    (zero-or (early_cause s session change) (asked_before change c) (zero-early s session change) (zero-before change c))
+    (zero-late s session change)
 
 -- no refusal has the status 0
 pub not_zero : (s : State) (session : ℕ) (change : Change) (c : ℕ) → change_cause s session change c ≢ Some 0
@@ -149,7 +151,9 @@ pub record Grows (origin : Tree) (past : List Entry) (session moment : ℕ) (cha
   pub reply : reply_given (state_of origin past) session change c ≡ e.reply
   pub after : state_after (state_of origin past) session moment change c ≡ state_of origin (past ++ e ∷ [])
 
-pub grows : (origin : Tree) (past : List Entry) (session moment : ℕ) (change : Change) (c : ℕ) → (reply_given (state_of origin past) session change c).status ≡ 0 → Grows origin past session moment change c (entry_due (state_of origin past) session moment change)
+pub grows : (origin : Tree) (past : List Entry) (session moment : ℕ) (change : Change) (c : ℕ) →
+    (reply_given (state_of origin past) session change c).status ≡ 0 →
+    Grows origin past session moment change c (entry_due (state_of origin past) session moment change)
 unfolding reply_given state_after
 grows origin past session moment change c e =
     let a = accepted (state_of origin past) session change c e in

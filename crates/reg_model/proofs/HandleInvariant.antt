@@ -67,7 +67,8 @@ pub has-made : (t : Tree) (p : Path) (names : List (List ℕ)) (moment : ℕ) �
 has-made t p [] moment h = subst (Has t) (sym (append-nil p)) h
 has-made t p (name ∷ names) moment h =
     let next = cond (has_child t p name) t (with_key t p name moment) in
-    subst (Has (with_keys next (child_path p name) names moment)) (append_assoc p (folded name ∷ []) (map folded names)) (has-made next (child_path p name) names moment (has-child (has_child t p name) t p name moment refl))
+    subst (Has (with_keys next (child_path p name) names moment)) (append_assoc p (folded name ∷ []) (map folded names))
+    (has-made next (child_path p name) names moment (has-child (has_child t p name) t p name moment refl))
 
 pub has-without : (t : Tree) (p : Path) (moment : ℕ) (q : Path) → same_path q p ≡ false → Has t q → Has (without_key t p moment) q
 has-without t p moment q other h =
@@ -111,7 +112,8 @@ stands-turned t p moment [] s = tt
 stands-turned t p moment (h ∷ hs) s = (place-turned t p moment h.place s.0, stands-turned t p moment hs s.1)
 
 -- the handle that is found stands
-numbered-stands : (b : Bool) (t : Tree) (number : ℕ) (h : Handle) (hs : List Handle) (found : Handle) → StandsIn t h.place → (numbered number hs ≡ Some found → StandsIn t found.place) → cond b (Some h) (numbered number hs) ≡ Some found → StandsIn t found.place
+numbered-stands : (b : Bool) (t : Tree) (number : ℕ) (h : Handle) (hs : List Handle) (found : Handle) → StandsIn t h.place →
+    (numbered number hs ≡ Some found → StandsIn t found.place) → cond b (Some h) (numbered number hs) ≡ Some found → StandsIn t found.place
 numbered-stands true t number h hs found one rest e = subst (λ (o : Option Handle). StandsIn t (elim o as (λ _. Place) [ None ↦ Deleted | Some x ↦ x.place ])) e one
 numbered-stands false t number h hs found one rest e = rest e
 
@@ -179,13 +181,18 @@ module _ (s : State) (e : Entry) (r : Upright s.world.tree s.world.handles) wher
   standing-open : (h : ℕ) (path : List ℕ) (mask : ℕ) → OpenMet s e.session h path mask → Upright tree (hs ++ opened e (path_from e.session h hs path) mask ∷ [])
   standing-open h path mask m = record { root = r.root; stand = stands-push tree hs (opened e (path_from e.session h hs path) mask) m.there r.stand }
 
-  standing-create : (h : ℕ) (path : List ℕ) (mask : ℕ) → CreateMet s e.session h path mask → Upright (with_keys tree (path_at e.session h hs) (path_of path) e.moment) (hs ++ opened e (path_from e.session h hs path) mask ∷ [])
+  standing-create : (h : ℕ) (path : List ℕ) (mask : ℕ) → CreateMet s e.session h path mask →
+      Upright (with_keys tree (path_at e.session h hs) (path_of path) e.moment) (hs ++ opened e (path_from e.session h hs path) mask ∷ [])
   standing-create h path mask m =
       let p = path_at e.session h hs in
       let there : Has tree p = subst (Has tree) (sym (target-path e.session h hs m.target)) (stands-at tree e.session h hs m.target r.stand) in
       let now = with_keys tree p (path_of path) e.moment in
       let keep : (q : Path) → Has tree q → Has now q = has-with_keys tree p (path_of path) e.moment in
-      record { root = keep [] r.root; stand = stands-push now hs (opened e (path_from e.session h hs path) mask) (has-made tree p (path_of path) e.moment there) (stands-kept tree now keep hs r.stand) }
+      record {
+        root = keep [] r.root;
+        stand = stands-push now hs (opened e (path_from e.session h hs path) mask)
+            (has-made tree p (path_of path) e.moment there) (stands-kept tree now keep hs r.stand);
+      }
 
   standing-edit : (p : Path) (f : Rec → Rec) → Upright (edited tree p f) hs
   standing-edit p f = record { root = has-edited tree p f [] r.root; stand = stands-kept tree (edited tree p f) (has-edited tree p f) hs r.stand }
@@ -198,12 +205,13 @@ module _ (s : State) (e : Entry) (r : Upright s.world.tree s.world.handles) wher
   -- what stands in a world stands in the one after an accepted change
   pub standing-after : (c : ℕ) → change_cause s e.session e.change c ≡ None → Upright (after s.world e).tree (after s.world e).handles
   unfolding after
-  standing-after c = elim e.change as (λ (change : Change). change_cause s e.session change c ≡ None → Upright (after s.world (record e { change = change })).tree (after s.world (record e { change = change })).handles) [
-    | OpenRoot mask ↦ λ none. record { root = r.root; stand = stands-push tree hs (opened e [] mask) r.root r.stand }
-    | OpenKey h path mask ↦ λ none. standing-open h path mask (open-met s e.session h path mask c none)
-    | CreateKey h path mask ↦ λ none. standing-create h path mask (create-met s e.session h path mask c none)
-    | SetValue h name kind bytes ↦ λ none. standing-edit (path_at e.session h hs) _
-    | DeleteValue h name ↦ λ none. standing-edit (path_at e.session h hs) _
-    | DeleteKey h path ↦ λ none. standing-delete h path (delete-met s e.session h path c none)
-    | Close h ↦ λ none. record { root = r.root; stand = stands-closed tree h hs r.stand }
-  ]
+  standing-after c = elim e.change as (λ (change : Change). change_cause s e.session change c ≡ None →
+      Upright (after s.world (record e { change = change })).tree (after s.world (record e { change = change })).handles) [
+        | OpenRoot mask ↦ λ none. record { root = r.root; stand = stands-push tree hs (opened e [] mask) r.root r.stand }
+        | OpenKey h path mask ↦ λ none. standing-open h path mask (open-met s e.session h path mask c none)
+        | CreateKey h path mask ↦ λ none. standing-create h path mask (create-met s e.session h path mask c none)
+        | SetValue h name kind bytes ↦ λ none. standing-edit (path_at e.session h hs) _
+        | DeleteValue h name ↦ λ none. standing-edit (path_at e.session h hs) _
+        | DeleteKey h path ↦ λ none. standing-delete h path (delete-met s e.session h path c none)
+        | Close h ↦ λ none. record { root = r.root; stand = stands-closed tree h hs r.stand }
+      ]

@@ -41,7 +41,8 @@ pub number-is : (origin : Tree) (past : List Entry) (e : Entry) (more : List Ent
 number-is origin past e more l = let f = legal-at origin past e more l in f.number
 
 -- what holds of no entries, and of one fit entry more, holds of every legal journal
-by_entries : (origin : Tree) (P : List Entry → Type 0) → ((past : List Entry) (e : Entry) → IsFit origin past e → P past → P (past ++ e ∷ [])) → (past es : List Entry) → P past → IsLegalAfter origin past es → P (past ++ es)
+by_entries : (origin : Tree) (P : List Entry → Type 0) → ((past : List Entry) (e : Entry) → IsFit origin past e → P past → P (past ++ e ∷ [])) →
+    (past es : List Entry) → P past → IsLegalAfter origin past es → P (past ++ es)
 by_entries origin P more past [] p l = subst P (sym (append-nil past)) p
 by_entries origin P more past (e ∷ es) p l =
     subst P (append_assoc past (e ∷ []) es) (by_entries origin P more (past ++ e ∷ []) es (more past e l.0 p) l.1)
@@ -64,11 +65,14 @@ below-push n (x ∷ hs) h e b = (omega (arith, b.0), below-push n hs h e b.1)
 less_than : (a b : ℕ) → a < b → nat_cmp a b ≡ Lesser
 less_than a b l = grind (arith, nat_tests)
 
-all-push : (a n : ℕ) (hs : List Handle) (h : Handle) → h.number ≡ n → a < n → AllByRecursion (λ (k : ℕ). nat_cmp a k ≡ Lesser) (map (λ (x : Handle). x.number) hs) → AllByRecursion (λ (k : ℕ). nat_cmp a k ≡ Lesser) (map (λ (x : Handle). x.number) (hs ++ h ∷ []))
+all-push : (a n : ℕ) (hs : List Handle) (h : Handle) → h.number ≡ n → a < n →
+    AllByRecursion (λ (k : ℕ). nat_cmp a k ≡ Lesser) (map (λ (x : Handle). x.number) hs) →
+    AllByRecursion (λ (k : ℕ). nat_cmp a k ≡ Lesser) (map (λ (x : Handle). x.number) (hs ++ h ∷ []))
 all-push a n [] h e l r = (less_than a h.number (omega arith), tt)
 all-push a n (x ∷ hs) h e l r = (r.0, all-push a n hs h e l r.1)
 
-rising-push : (n : ℕ) (hs : List Handle) (h : Handle) → h.number ≡ n → AllByRecursion (λ (x : Handle). x.number < n) hs → IsStrictlySortedBy nat_cmp (map (λ (x : Handle). x.number) hs) → IsStrictlySortedBy nat_cmp (map (λ (x : Handle). x.number) (hs ++ h ∷ []))
+rising-push : (n : ℕ) (hs : List Handle) (h : Handle) → h.number ≡ n → AllByRecursion (λ (x : Handle). x.number < n) hs →
+    IsStrictlySortedBy nat_cmp (map (λ (x : Handle). x.number) hs) → IsStrictlySortedBy nat_cmp (map (λ (x : Handle). x.number) (hs ++ h ∷ []))
 unfolding IsStrictlySortedBy
 rising-push n [] h e b r = (tt, tt)
 rising-push n (x ∷ hs) h e b r = (all-push x.number n hs h e b.0 r.0, rising-push n hs h e b.1 r.1)
@@ -97,7 +101,8 @@ less-closed : (a number : ℕ) (hs : List Handle) → Less a hs → Less a (clos
 less-closed a number [] r = tt
 less-closed a number (h ∷ hs) r = less-cond (not (eqb h.number number)) a h (closed number hs) r.0 (less-closed a number hs r.1)
 
-rising-cond : (b : Bool) (h : Handle) (hs : List Handle) → Less h.number hs → IsStrictlySortedBy nat_cmp (map (λ (x : Handle). x.number) hs) → IsStrictlySortedBy nat_cmp (map (λ (x : Handle). x.number) (cond b (h ∷ hs) hs))
+rising-cond : (b : Bool) (h : Handle) (hs : List Handle) → Less h.number hs → IsStrictlySortedBy nat_cmp (map (λ (x : Handle). x.number) hs) →
+    IsStrictlySortedBy nat_cmp (map (λ (x : Handle). x.number) (cond b (h ∷ hs) hs))
 unfolding IsStrictlySortedBy
 rising-cond true h hs l r = (l, r)
 rising-cond false h hs l r = r
@@ -162,7 +167,8 @@ opened-after w e mask r is =
     rw (is, numbered-push e.number w.handles (opened e [] mask) refl r.below, eq-eqb e.session e.session refl) refl
 
 -- the session of an entry that opens the root finds its handle by the entry's number
-pub handle-opened : (origin : Tree) (past : List Entry) (e : Entry) (mask : ℕ) → IsLegal origin past → IsFit origin past e → e.change ≡ OpenRoot mask → look e.session e.number (replay origin (past ++ e ∷ [])).handles ≡ Some (opened e [] mask)
+pub handle-opened : (origin : Tree) (past : List Entry) (e : Entry) (mask : ℕ) → IsLegal origin past → IsFit origin past e →
+    e.change ≡ OpenRoot mask → look e.session e.number (replay origin (past ++ e ∷ [])).handles ≡ Some (opened e [] mask)
 handle-opened origin past e mask l f is =
     let r : AreRising e.number (replay origin past).handles = rw f.number (rising-all origin past l) in
     rw (replay-push origin past e) (opened-after (replay origin past) e mask r is)

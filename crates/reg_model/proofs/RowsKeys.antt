@@ -139,7 +139,8 @@ largest_of_three = refl
 
 -- ---- a key deleted turns the handles on it, of every session, and no other; a handle closed is gone
 
-turned_handles : turned (k ∷ []) (handle 0 0 1 (At []) ∷ handle 1 0 1 (At (k ∷ [])) ∷ handle 2 1 1 (At (k ∷ [])) ∷ handle 3 0 1 (At (k ∷ k ∷ [])) ∷ []) ≡ handle 0 0 1 (At []) ∷ handle 1 0 1 Deleted ∷ handle 2 1 1 Deleted ∷ handle 3 0 1 (At (k ∷ k ∷ [])) ∷ []
+turned_handles : turned (k ∷ []) (handle 0 0 1 (At []) ∷ handle 1 0 1 (At (k ∷ [])) ∷ handle 2 1 1 (At (k ∷ [])) ∷ handle 3 0 1 (At (k ∷ k ∷ [])) ∷
+    []) ≡ handle 0 0 1 (At []) ∷ handle 1 0 1 Deleted ∷ handle 2 1 1 Deleted ∷ handle 3 0 1 (At (k ∷ k ∷ [])) ∷ []
 turned_handles = refl
 
 closed_handle : closed 1 (handle 0 0 1 (At []) ∷ handle 1 0 1 Deleted ∷ handle 2 1 1 (At []) ∷ []) ≡ handle 0 0 1 (At []) ∷ handle 2 1 1 (At []) ∷ []

@@ -27,4 +27,5 @@ or_same (Some status) next s = s
 
 -- where a change leaves the hive: after one entry more, or where it was
 unfoldable pub state_after : State → ℕ → ℕ → Change → ℕ → State
-state_after s session moment change c = or_same (change_cause s session change c) (record { count = s.count + 1; world = after s.world (entry_due s session moment change) }) s
+state_after s session moment change c = or_same (change_cause s session change c)
+    (record { count = s.count + 1; world = after s.world (entry_due s session moment change) }) s

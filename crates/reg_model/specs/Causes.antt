@@ -86,9 +86,12 @@ early_cause s session change = by change
     by (OpenKey h path mask) =
         by_handle (λ r. refuse (is_bad_open path mask) 87 or refuse (no_handle_room session s) 1450) (look session h s.world.handles)
     by (CreateKey h path mask) =
-        by_handle (λ r. refuse (is_bad_open path mask) 87 or refuse (no_handle_room session s || no_key_room s session h path) 1450) (look session h s.world.handles)
+        by_handle (λ r. refuse (is_bad_open path mask) 87 or refuse
+        (no_handle_room session s || no_key_room s session h path) 1450) (look session h s.world.handles)
     by (SetValue h name kind bytes) =
-        by_handle (λ r. refuse (is_bad_value name bytes) 87 or refuse (not (has 2 r.mask)) 5 or refuse (is_full 1 s || no_value_room name (values_at s.world.tree (path_at session h s.world.handles))) 1450) (look session h s.world.handles)
+        by_handle (λ r. refuse (is_bad_value name bytes) 87 or refuse (not (has 2 r.mask)) 5 or refuse
+        (is_full 1 s || no_value_room name (values_at s.world.tree (path_at session h s.world.handles))) 1450)
+        (look session h s.world.handles)
     by (DeleteValue h name) =
         by_handle (λ r. refuse (not (is_value_name name)) 87 or refuse (not (has 2 r.mask)) 5 or refuse (is_full 1 s) 1450) (look session h s.world.handles)
     by (DeleteKey h path) = by_handle (λ r. refuse (is_bad_target path) 87 or refuse (is_full 1 s) 1450) (look session h s.world.handles)

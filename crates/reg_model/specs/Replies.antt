@@ -73,7 +73,8 @@ bytes_for (Some room) bytes = Some bytes
 abbrev pub member_told : Option Member → ℕ → Option ℕ → AnswerBody
 member_told None name_room room = Refused 259
 member_told (Some v) name_room room =
-    if nat_lt name_room (length v.name) || is_short room (length v.bytes) then Short 234 v.kind (length v.bytes) else Told v.name v.kind (length v.bytes) (bytes_for room v.bytes)
+    if nat_lt name_room (length v.name) || is_short room (length v.bytes) then Short 234 v.kind
+    (length v.bytes) else Told v.name v.kind (length v.bytes) (bytes_for room v.bytes)
 
 -- the largest of some numbers; of none it is 0
 abbrev pub largest_of : List ℕ → ℕ
@@ -84,7 +85,9 @@ largest_of (n ∷ ns) = if nat_lt (largest_of ns) n then n else largest_of ns
 -- largest of their data, the size of its descriptor, and its time
 abbrev pub info_told : Tree → Path → AnswerBody
 info_told t p =
-    Info (length (children_of t p)) (largest_of (map (λ (q : Path). length (name_of (get t q))) (children_of t p))) (length (values_at t p)) (largest_of (map (λ (v : Member). length v.name) (values_at t p))) (largest_of (map (λ (v : Member). length v.bytes) (values_at t p))) (length (descriptor_of (get t p))) (time_of (get t p))
+    Info (length (children_of t p)) (largest_of (map (λ (q : Path). length (name_of (get t q))) (children_of t p)))
+    (length (values_at t p)) (largest_of (map (λ (v : Member). length v.name) (values_at t p)))
+    (largest_of (map (λ (v : Member). length v.bytes) (values_at t p))) (length (descriptor_of (get t p))) (time_of (get t p))
 
 -- the answer to a question that is not refused
 unfoldable pub body_of : State → ℕ → Query → AnswerBody

@@ -93,7 +93,8 @@ parts-folded (b ∷ bs) =
     ap (λ t. cond t ([] ∷ slice_split is_backslash (folded bs)) (onto_first (fold b) (slice_split is_backslash (folded bs)))) (backslash-folded b)
     ∙ (ap (λ parts. cond (is_backslash b) ([] ∷ parts) (onto_first (fold b) parts)) (parts-folded bs) ∙ by (is_backslash b))
   where
-    by : (t : Bool) → cond t ([] ∷ map folded (slice_split is_backslash bs)) (onto_first (fold b) (map folded (slice_split is_backslash bs))) ≡ map folded (cond t ([] ∷ slice_split is_backslash bs) (onto_first b (slice_split is_backslash bs)))
+    by : (t : Bool) → cond t ([] ∷ map folded (slice_split is_backslash bs)) (onto_first (fold b) (map folded (slice_split is_backslash bs))) ≡ map
+        folded (cond t ([] ∷ slice_split is_backslash bs) (onto_first b (slice_split is_backslash bs)))
     by true = refl
     by false = onto-folded b (slice_split is_backslash bs)
 

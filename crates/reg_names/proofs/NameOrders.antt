@@ -1,5 +1,6 @@
 -- Two names compared byte by byte.
-use Rattle.std.proofs.Common.{IsTrue, ◌≡◌, ◌≢◌, ℕ, zero, suc, ◌+◌, ◌-◌, ◌≤◌, ◌<◌, Bool, true, false, List, [], ◌∷◌, length, drop, get_or, sym, ap, ◌∙◌, refl, arith, map, cond, ◌⊎◌, inl, inr, length-drop, min}
+use Rattle.std.proofs.Common.{IsTrue, ◌≡◌, ◌≢◌, ℕ, zero, suc, ◌+◌, ◌-◌, ◌≤◌, ◌<◌, Bool, true, false, List, [], ◌∷◌, length, drop, get_or, sym, ap, ◌∙◌, refl, arith, map, cond, ◌⊎◌, inl, inr}
+use Rattle.std.proofs.Common.{length-drop, min}
 use Rattle.std.specs.Ordering.{nat_cmp, is_eq}
 use Rattle.std.specs.declared.cmp.Ordering.{Ordering}
 use Rattle.std.specs.declared.cmp.Ordering.TheVariants.{Less, Equal, Greater}
@@ -33,7 +34,8 @@ by_lengths xs ys (inr e) = let P : List ℕ → Type 0 = λ zs. name_cmp xs zs �
 pub ended : (a b : List ℕ) (i : ℕ) → i ≡ min (length a) (length b) → name_cmp (drop i a) (drop i b) ≡ nat_cmp (length a) (length b)
 ended a b i e =
     let one : (length (drop i a) ≡ 0) ⊎ (length (drop i b) ≡ 0) = grind (arith, length-drop i a, length-drop i b) in
-    by_lengths (drop i a) (drop i b) one ∙ (ap (λ n. nat_cmp n (length (drop i b))) (length-drop i a) ∙ (ap (λ n. nat_cmp (length a - i) n) (length-drop i b) ∙ shifted (length a) (length b) i (omega arith) (omega arith)))
+    by_lengths (drop i a) (drop i b) one ∙ (ap (λ n. nat_cmp n (length (drop i b))) (length-drop i a) ∙
+    (ap (λ n. nat_cmp (length a - i) n) (length-drop i b) ∙ shifted (length a) (length b) i (omega arith) (omega arith)))
 
 -- names that compare as equal fold alike, and the other way round
 pub same_from_Equal : (xs ys : List ℕ) → slice_cmp nat_cmp xs ys ≡ Equal → xs ≡ ys

@@ -44,7 +44,8 @@ joined (x ∷ a) (y ∷ b) =
     ∙ (ap (λ t. path_of (cond t (folded (x ∷ a)) (folded (x ∷ a) ++ 92 ∷ []) ++ folded (y ∷ b))) (some-length y b)
     ∙ (ap path_of (append_assoc (folded (x ∷ a)) (92 ∷ []) (folded (y ∷ b))) ∙ parts-joined (folded (x ∷ a)) (folded (y ∷ b))))
 
-pub joined-names : (a b : List ℕ) (room above parted text : List ℕ) → room ≡ [] → above ≡ room ++ folded a → parted ≡ cond ((length a == 0) || (length b == 0)) above (above ++ 92 ∷ []) → text ≡ parted ++ folded b
+pub joined-names : (a b : List ℕ) (room above parted text : List ℕ) → room ≡ [] → above ≡ room ++ folded a →
+    parted ≡ cond ((length a == 0) || (length b == 0)) above (above ++ 92 ∷ []) → text ≡ parted ++ folded b
     → path_of text ≡ map folded (path_of a) ++ map folded (path_of b)
 unfolding with_backslash
 joined-names a b room above parted text none first between second =
@@ -64,8 +65,11 @@ module _ (limit : ℕ) where
       let la = length-map a folded in
       let lb = length-map b folded in
       and_from (list_all is_key_name (map folded a ++ map folded b)) (nat_le (length (map folded a ++ map folded b)) limit)
-      (list_all-append is_key_name (map folded a) (map folded b) ∙ and_from (list_all is_key_name (map folded a)) (list_all is_key_name (map folded b)) (names-folded a ∙ first) (names-folded b ∙ second))
+      (list_all-append is_key_name (map folded a) (map folded b) ∙ and_from (list_all is_key_name (map folded a))
+      (list_all is_key_name (map folded b)) (names-folded a ∙ first) (names-folded b ∙ second))
       (le-leb (length (map folded a ++ map folded b)) limit (omega (arith, l, la, lb, few)))
 
-  pub joined-valid : (a b text : List ℕ) → are_key_names limit (path_of a) ≡ true → are_key_names limit (path_of b) ≡ true → path_of text ≡ map folded (path_of a) ++ map folded (path_of b) → length (path_of a) + length (path_of b) ≤ limit → are_key_names limit (path_of text) ≡ true
+  pub joined-valid : (a b text : List ℕ) → are_key_names limit (path_of a) ≡ true → are_key_names limit (path_of b) ≡ true →
+      path_of text ≡ map folded (path_of a) ++ map folded (path_of b) → length (path_of a) + length (path_of b) ≤ limit →
+      are_key_names limit (path_of text) ≡ true
   joined-valid a b text m n names few = ap (are_key_names limit) names ∙ both-names (path_of a) (path_of b) m n few

@@ -1,5 +1,6 @@
 -- A path taken apart, name by name. The limit is a variable, so that nothing counts up to it.
-use Rattle.std.proofs.Common.{◌≡◌, ◌≢◌, ℕ, zero, suc, ◌+◌, ◌-◌, ◌<◌, ◌≤◌, Bool, true, false, ◌&&◌, ◌==◌, List, [], ◌∷◌, length, length-drop, take, drop, nat_lt, nat_le, Option, Some, None, sym, ap, ◌∙◌, refl, subst, arith, cond, ltb, eqb, not}
+use Rattle.std.proofs.Common.{◌≡◌, ◌≢◌, ℕ, zero, suc, ◌+◌, ◌-◌, ◌<◌, ◌≤◌, Bool, true, false, ◌&&◌, ◌==◌, List, [], ◌∷◌, length, length-drop, take, drop, nat_lt, nat_le, Option, Some, None}
+use Rattle.std.proofs.Common.{sym, ap, ◌∙◌, refl, subst, arith, cond, ltb, eqb, not}
 use Rattle.std.specs.Option.{unwrap_or}
 use Rattle.std.specs.List.{list_all, slice_split, onto_first, position_or_len}
 use Rattle.std.proofs.lemmas.Bool.Decides.{nat_tests}
@@ -21,7 +22,8 @@ unwrapped m n r k l e h = elim (ltb m n) as (λ b. ltb m n ≡ b → k ≡ m) [
   | false ↦ λ t. let at_end : n ≡ m = grind (arith, nat_tests) in (h ∙ ap (λ o. unwrap_or o n) (e ∙ ap (λ b. cond b (Some m) None) t)) ∙ at_end
 ] refl
 
-by_head : (p : ℕ → Bool) (x : ℕ) (xs : List ℕ) (b : Bool) → p x ≡ b → (position_or_len p xs ≡ length xs → slice_split p xs ≡ xs ∷ []) → position_or_len p (x ∷ xs) ≡ length (x ∷ xs) → slice_split p (x ∷ xs) ≡ (x ∷ xs) ∷ []
+by_head : (p : ℕ → Bool) (x : ℕ) (xs : List ℕ) (b : Bool) → p x ≡ b → (position_or_len p xs ≡ length xs → slice_split p xs ≡ xs ∷ []) →
+    position_or_len p (x ∷ xs) ≡ length (x ∷ xs) → slice_split p (x ∷ xs) ≡ (x ∷ xs) ∷ []
 by_head p x xs true h rest e =
     let none : position_or_len p (x ∷ xs) ≡ 0 = ap (λ b. cond (not b) (1 + position_or_len p xs) 0) h in
     absurd (omega (arith, none, e))
@@ -63,7 +65,8 @@ are_key_names-bad k name names e = ap (λ b. (b && list_all is_key_name names) &
 
 are_key_names-good : (k : ℕ) (name : List ℕ) (names : List (List ℕ)) → is_key_name name ≡ true → are_key_names (suc k) (name ∷ names) ≡ are_key_names k names
 unfolding are_key_names
-are_key_names-good k name names e = let t : nat_le (suc (length names)) (suc k) ≡ nat_le (length names) k = grind (arith, nat_tests) in ap (λ b. (b && list_all is_key_name names) && nat_le (suc (length names)) (suc k)) e ∙ ap (λ b. list_all is_key_name names && b) t
+are_key_names-good k name names e = let t : nat_le (suc (length names)) (suc k) ≡ nat_le (length names) k = grind (arith, nat_tests) in
+    ap (λ b. (b && list_all is_key_name names) && nat_le (suc (length names)) (suc k)) e ∙ ap (λ b. list_all is_key_name names && b) t
 
 are_key_names-over : (names : List (List ℕ)) → 0 < length names → are_key_names 0 names ≡ false
 unfolding are_key_names
@@ -87,7 +90,11 @@ pub starts : (limit : ℕ) (text : List ℕ) (e : Bool) → e ≡ (length text =
 starts limit text e h k =
     let some : 0 < length text = (let t : (length text == 0) ≡ false = sym h ∙ k in grind (arith, nat_tests)) in
     let whole : limit ≡ limit - 0 = omega arith in
-    record { fault = ap (names_fault limit) (path_of-some text some) ∙ ap (λ k. names_fault k (parts text)) whole; valid = ap (are_key_names limit) (path_of-some text some) ∙ ap (λ k. are_key_names k (parts text)) whole }
+    record {
+      fault = ap (names_fault limit) (path_of-some text some) ∙ ap (λ k. names_fault k (parts text)) whole;
+      valid =
+          ap (are_key_names limit) (path_of-some text some) ∙ ap (λ k. are_key_names k (parts text)) whole;
+    }
 
 nothing : (text : List ℕ) (e : Bool) → e ≡ (length text == 0) → e ≡ true → path_of text ≡ []
 nothing [] e h k = refl
@@ -141,7 +148,8 @@ module _ (limit i : ℕ) (text rest : List ℕ) (left : Left limit i text rest) 
     ] refl
 
     pub bad-fault : (f : NameFault) → key_name_fault (take n rest) ≡ Some f → names_fault limit (path_of text) ≡ Some f
-    bad-fault f e = left.fault ∙ (ap (λ k. names_fault k (parts rest)) room ∙ bad_either (λ t. names_fault (suc (limit - (i + 1))) t ≡ Some f) (λ others. names_fault-bad (limit - (i + 1)) (take n rest) others f e))
+    bad-fault f e = left.fault ∙ (ap (λ k. names_fault k (parts rest)) room ∙ bad_either (λ t. names_fault (suc (limit - (i + 1))) t ≡ Some f)
+        (λ others. names_fault-bad (limit - (i + 1)) (take n rest) others f e))
 
     pub bad-valid : false ≡ is_key_name (take n rest) → false ≡ are_key_names limit (path_of text)
     bad-valid e = sym (left.valid ∙ bad_either (λ t. are_key_names (limit - i) t ≡ false) (λ others. are_key_names-bad (limit - i) (take n rest) others (sym e)))
@@ -156,4 +164,9 @@ module _ (limit i : ℕ) (text rest : List ℕ) (left : Left limit i text rest) 
     next e v ne =
         let all : drop (n + 1) rest ≡ take (length rest - (n + 1)) (drop (n + 1) rest) = sym (take_all (length rest - (n + 1)) (drop (n + 1) rest) (omega (arith, length-drop (n + 1) rest))) in
         let left_of : List ℕ → Type 0 = λ others. Left limit (i + 1) text others in
-        subst left_of all (record { fault = with_fault _ (one_of_more ne) ∙ names_fault-good (limit - (i + 1)) (take n rest) (parts (drop (n + 1) rest)) e; valid = with_valid _ (one_of_more ne) ∙ are_key_names-good (limit - (i + 1)) (take n rest) (parts (drop (n + 1) rest)) (sym v) })
+        subst left_of all (record {
+          fault = with_fault _ (one_of_more ne) ∙ names_fault-good (limit - (i + 1)) (take n rest)
+              (parts (drop (n + 1) rest)) e;
+          valid = with_valid _ (one_of_more ne) ∙ are_key_names-good (limit - (i + 1)) (take n rest)
+              (parts (drop (n + 1) rest)) (sym v);
+        })

@@ -3,9 +3,12 @@
 //! Win32 registry reference, "Registry Element Size Limits"; the limits to bytes 0x01 to 0x7F are this project's own.
 #![tactic(auto)]
 
-ghost use Rattle.std.specs.Prelude.{◌≡◌, ◌≤◌, ◌+◌, ◌==◌, ◌||◌, true, List, [], ◌∷◌, ◌++◌, length, map, if◌then◌else◌, ◌↔◌, IsTrue, OnOk, IfOk, MatchOption, MatchResult, Some, None, is_ok, take};
+ghost use Rattle.std.specs.Prelude.{◌≡◌, ◌≤◌, ◌+◌, ◌==◌, ◌||◌, true, List, [], ◌∷◌, ◌++◌, length, map, if◌then◌else◌, ◌↔◌, IsTrue, OnOk, IfOk};
+ghost use Rattle.std.specs.Prelude.{MatchOption, MatchResult, Some, None, is_ok, take};
 ghost use Rattle.std.specs.List.{list_all, position_or_len};
-ghost use Rattle.reg_names.specs.Names.{fold as fold_of, folded, name_cmp, hash, key_name_fault, value_name_fault, path_of, path_fault, is_key_name, is_value_name, is_path, IsFirst, is_backslash, is_key_name_byte as is_key_byte_of, is_value_name_byte as is_value_byte_of};
+ghost use Rattle.reg_names.specs.Names.{fold as fold_of, folded, name_cmp, hash, key_name_fault, value_name_fault, path_of, path_fault, is_key_name};
+ghost use Rattle.reg_names.specs.Names.{is_value_name, is_path, IsFirst, is_backslash, is_key_name_byte as is_key_byte_of};
+ghost use Rattle.reg_names.specs.Names.{is_value_name_byte as is_value_byte_of};
 
 use std::alloc::{AllocError, Global};
 use std::cmp::Ordering;

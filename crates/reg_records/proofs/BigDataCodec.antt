@@ -20,6 +20,7 @@ db-reads_back count list rest fits fits_list =
     ap result_ok (cond-false _ _ _ (le-ltb _ _ long)) ∙ (λ i. Some (record { count = at_2 i; list = at_4 i }))
 
 -- a cell that a big data record was written into reads as it
-pub db-written : (old new : Bins) (cell count list : ℕ) (rest : List ℕ) → WritesCell old new cell (db_bytes count list ++ rest) → count < 2 ^ 16 → list < 2 ^ 32 → db_of (held (cell_at new.bytes) cell) ≡ Some (record { count = count; list = list })
+pub db-written : (old new : Bins) (cell count list : ℕ) (rest : List ℕ) → WritesCell old new cell (db_bytes count list ++ rest) → count < 2 ^ 16 →
+    list < 2 ^ 32 → db_of (held (cell_at new.bytes) cell) ≡ Some (record { count = count; list = list })
 db-written old new cell count list rest written fits fits_list =
     ap (λ (o : Option (List ℕ)). db_of (unwrap_or o [])) written.here ∙ db-reads_back count list rest fits fits_list

@@ -44,7 +44,26 @@ nk-reads_back fields name rest fit size profile =
     let all : length content ≡ 76 + (length name + length rest) = omega (arith, length-append name rest) in
     let text : take (half content 72) (drop 76 content) ≡ name = ap (λ n. take n (name ++ rest)) at_72 ∙ take-append_seam name rest in
     nk-made content (omega (arith, all)) refl (omega (arith, all, at_72)) (ap is_in_profile at_2 ∙ profile)
-    ∙ (λ i. Ok (record { fields = record { flags = at_2 i; time = at_4 i; parent = at_16 i; subkeys = at_20 i; subkeys_list = at_28 i; values = at_36 i; values_list = at_40 i; security = at_44 i; class = at_48 i; class_length = at_74 i; largest_subkey_name = at_52 i; largest_subkey_class = at_56 i; largest_value_name = at_60 i; largest_value_data = at_64 i }; name = text i }))
+    ∙ (λ i. Ok (record {
+      fields = record {
+        flags = at_2 i;
+        time = at_4 i;
+        parent = at_16 i;
+        subkeys = at_20 i;
+        subkeys_list = at_28 i;
+        values =
+            at_36 i;
+        values_list = at_40 i;
+        security = at_44 i;
+        class = at_48 i;
+        class_length = at_74 i;
+        largest_subkey_name = at_52 i;
+        largest_subkey_class = at_56 i;
+        largest_value_name = at_60 i;
+        largest_value_data = at_64 i;
+      };
+      name = text i;
+    }))
 
 -- a cell that a key node was written into reads as it
 pub key_at-written : (old new : Bins) (cell : ℕ) (fields : KeyFields) (name rest : List ℕ)
@@ -125,7 +144,22 @@ nk-timed time fit0 content r is =
     let to_largest_subkey_class : word new 56 ≡ r.fields.largest_subkey_class = number-above 4 piece content f 4 56 (lit≤ tt) ∙ sym (ap (λ (k : KeyFields). k.largest_subkey_class) old) in
     let to_largest_value_name : word new 60 ≡ r.fields.largest_value_name = number-above 4 piece content f 4 60 (lit≤ tt) ∙ sym (ap (λ (k : KeyFields). k.largest_value_name) old) in
     let to_largest_value_data : word new 64 ≡ r.fields.largest_value_data = number-above 4 piece content f 4 64 (lit≤ tt) ∙ sym (ap (λ (k : KeyFields). k.largest_value_data) old) in
-    nk-spliced 4 piece content r (lit≤ tt) (lit≤ tt) is (record r.fields { time = time }) (λ i. record { flags = to_flags i; time = to_time i; parent = to_parent i; subkeys = to_subkeys i; subkeys_list = to_subkeys_list i; values = to_values i; values_list = to_values_list i; security = to_security i; class = to_class i; class_length = to_class_length i; largest_subkey_name = to_largest_subkey_name i; largest_subkey_class = to_largest_subkey_class i; largest_value_name = to_largest_value_name i; largest_value_data = to_largest_value_data i })
+    nk-spliced 4 piece content r (lit≤ tt) (lit≤ tt) is (record r.fields { time = time }) (λ i. record {
+      flags = to_flags i;
+      time = to_time i;
+      parent = to_parent i;
+      subkeys = to_subkeys i;
+      subkeys_list = to_subkeys_list i;
+      values = to_values i;
+      values_list = to_values_list i;
+      security = to_security i;
+      class = to_class i;
+      class_length = to_class_length i;
+      largest_subkey_name = to_largest_subkey_name i;
+      largest_subkey_class = to_largest_subkey_class i;
+      largest_value_name = to_largest_value_name i;
+      largest_value_data = to_largest_value_data i;
+    })
 
 -- another number and list of values
 pub nk-valued : (values : ℕ) → values < 2 ^ 32 → (list : ℕ) → list < 2 ^ 32 → (content : List ℕ) (r : KeyRecord) → nk_of content ≡ Ok r
@@ -150,7 +184,24 @@ nk-valued values fit0 list fit1 content r is =
     let to_largest_subkey_class : word new 56 ≡ r.fields.largest_subkey_class = number-above 36 piece content f 4 56 (lit≤ tt) ∙ sym (ap (λ (k : KeyFields). k.largest_subkey_class) old) in
     let to_largest_value_name : word new 60 ≡ r.fields.largest_value_name = number-above 36 piece content f 4 60 (lit≤ tt) ∙ sym (ap (λ (k : KeyFields). k.largest_value_name) old) in
     let to_largest_value_data : word new 64 ≡ r.fields.largest_value_data = number-above 36 piece content f 4 64 (lit≤ tt) ∙ sym (ap (λ (k : KeyFields). k.largest_value_data) old) in
-    nk-spliced 36 piece content r (lit≤ tt) (lit≤ tt) is (record r.fields { values = values; values_list = list }) (λ i. record { flags = to_flags i; time = to_time i; parent = to_parent i; subkeys = to_subkeys i; subkeys_list = to_subkeys_list i; values = to_values i; values_list = to_values_list i; security = to_security i; class = to_class i; class_length = to_class_length i; largest_subkey_name = to_largest_subkey_name i; largest_subkey_class = to_largest_subkey_class i; largest_value_name = to_largest_value_name i; largest_value_data = to_largest_value_data i })
+    nk-spliced 36 piece content r (lit≤ tt) (lit≤ tt) is (record r.fields { values = values; values_list = list })
+    (λ i. record {
+      flags = to_flags i;
+      time = to_time i;
+      parent = to_parent i;
+      subkeys = to_subkeys i;
+      subkeys_list = to_subkeys_list i;
+      values =
+          to_values i;
+      values_list = to_values_list i;
+      security = to_security i;
+      class = to_class i;
+      class_length = to_class_length i;
+      largest_subkey_name = to_largest_subkey_name i;
+      largest_subkey_class = to_largest_subkey_class i;
+      largest_value_name = to_largest_value_name i;
+      largest_value_data = to_largest_value_data i;
+    })
 
 -- another largest length of a value's name
 pub nk-named : (largest : ℕ) → largest < 2 ^ 32 → (content : List ℕ) (r : KeyRecord) → nk_of content ≡ Ok r
@@ -175,7 +226,24 @@ nk-named largest fit0 content r is =
     let to_largest_subkey_name : word new 52 ≡ r.fields.largest_subkey_name = number-below 60 piece content f 4 52 (lit≤ tt) ∙ sym (ap (λ (k : KeyFields). k.largest_subkey_name) old) in
     let to_largest_subkey_class : word new 56 ≡ r.fields.largest_subkey_class = number-below 60 piece content f 4 56 (lit≤ tt) ∙ sym (ap (λ (k : KeyFields). k.largest_subkey_class) old) in
     let to_largest_value_data : word new 64 ≡ r.fields.largest_value_data = number-above 60 piece content f 4 64 (lit≤ tt) ∙ sym (ap (λ (k : KeyFields). k.largest_value_data) old) in
-    nk-spliced 60 piece content r (lit≤ tt) (lit≤ tt) is (record r.fields { largest_value_name = largest }) (λ i. record { flags = to_flags i; time = to_time i; parent = to_parent i; subkeys = to_subkeys i; subkeys_list = to_subkeys_list i; values = to_values i; values_list = to_values_list i; security = to_security i; class = to_class i; class_length = to_class_length i; largest_subkey_name = to_largest_subkey_name i; largest_subkey_class = to_largest_subkey_class i; largest_value_name = to_largest_value_name i; largest_value_data = to_largest_value_data i })
+    nk-spliced 60 piece content r (lit≤ tt) (lit≤ tt) is (record r.fields { largest_value_name = largest })
+    (λ i. record {
+      flags = to_flags i;
+      time = to_time i;
+      parent = to_parent i;
+      subkeys = to_subkeys i;
+      subkeys_list = to_subkeys_list i;
+      values =
+          to_values i;
+      values_list = to_values_list i;
+      security = to_security i;
+      class = to_class i;
+      class_length = to_class_length i;
+      largest_subkey_name = to_largest_subkey_name i;
+      largest_subkey_class = to_largest_subkey_class i;
+      largest_value_name = to_largest_value_name i;
+      largest_value_data = to_largest_value_data i;
+    })
 
 -- another largest size of a value's data
 pub nk-sized : (largest : ℕ) → largest < 2 ^ 32 → (content : List ℕ) (r : KeyRecord) → nk_of content ≡ Ok r
@@ -200,7 +268,24 @@ nk-sized largest fit0 content r is =
     let to_largest_subkey_name : word new 52 ≡ r.fields.largest_subkey_name = number-below 64 piece content f 4 52 (lit≤ tt) ∙ sym (ap (λ (k : KeyFields). k.largest_subkey_name) old) in
     let to_largest_subkey_class : word new 56 ≡ r.fields.largest_subkey_class = number-below 64 piece content f 4 56 (lit≤ tt) ∙ sym (ap (λ (k : KeyFields). k.largest_subkey_class) old) in
     let to_largest_value_name : word new 60 ≡ r.fields.largest_value_name = number-below 64 piece content f 4 60 (lit≤ tt) ∙ sym (ap (λ (k : KeyFields). k.largest_value_name) old) in
-    nk-spliced 64 piece content r (lit≤ tt) (lit≤ tt) is (record r.fields { largest_value_data = largest }) (λ i. record { flags = to_flags i; time = to_time i; parent = to_parent i; subkeys = to_subkeys i; subkeys_list = to_subkeys_list i; values = to_values i; values_list = to_values_list i; security = to_security i; class = to_class i; class_length = to_class_length i; largest_subkey_name = to_largest_subkey_name i; largest_subkey_class = to_largest_subkey_class i; largest_value_name = to_largest_value_name i; largest_value_data = to_largest_value_data i })
+    nk-spliced 64 piece content r (lit≤ tt) (lit≤ tt) is (record r.fields { largest_value_data = largest })
+    (λ i. record {
+      flags = to_flags i;
+      time = to_time i;
+      parent = to_parent i;
+      subkeys = to_subkeys i;
+      subkeys_list = to_subkeys_list i;
+      values =
+          to_values i;
+      values_list = to_values_list i;
+      security = to_security i;
+      class = to_class i;
+      class_length = to_class_length i;
+      largest_subkey_name = to_largest_subkey_name i;
+      largest_subkey_class = to_largest_subkey_class i;
+      largest_value_name = to_largest_value_name i;
+      largest_value_data = to_largest_value_data i;
+    })
 
 -- another number of subkeys
 pub nk-counted : (subkeys : ℕ) → subkeys < 2 ^ 32 → (content : List ℕ) (r : KeyRecord) → nk_of content ≡ Ok r
@@ -225,7 +310,22 @@ nk-counted subkeys fit0 content r is =
     let to_largest_subkey_class : word new 56 ≡ r.fields.largest_subkey_class = number-above 20 piece content f 4 56 (lit≤ tt) ∙ sym (ap (λ (k : KeyFields). k.largest_subkey_class) old) in
     let to_largest_value_name : word new 60 ≡ r.fields.largest_value_name = number-above 20 piece content f 4 60 (lit≤ tt) ∙ sym (ap (λ (k : KeyFields). k.largest_value_name) old) in
     let to_largest_value_data : word new 64 ≡ r.fields.largest_value_data = number-above 20 piece content f 4 64 (lit≤ tt) ∙ sym (ap (λ (k : KeyFields). k.largest_value_data) old) in
-    nk-spliced 20 piece content r (lit≤ tt) (lit≤ tt) is (record r.fields { subkeys = subkeys }) (λ i. record { flags = to_flags i; time = to_time i; parent = to_parent i; subkeys = to_subkeys i; subkeys_list = to_subkeys_list i; values = to_values i; values_list = to_values_list i; security = to_security i; class = to_class i; class_length = to_class_length i; largest_subkey_name = to_largest_subkey_name i; largest_subkey_class = to_largest_subkey_class i; largest_value_name = to_largest_value_name i; largest_value_data = to_largest_value_data i })
+    nk-spliced 20 piece content r (lit≤ tt) (lit≤ tt) is (record r.fields { subkeys = subkeys }) (λ i. record {
+      flags = to_flags i;
+      time = to_time i;
+      parent = to_parent i;
+      subkeys = to_subkeys i;
+      subkeys_list = to_subkeys_list i;
+      values = to_values i;
+      values_list = to_values_list i;
+      security = to_security i;
+      class = to_class i;
+      class_length = to_class_length i;
+      largest_subkey_name = to_largest_subkey_name i;
+      largest_subkey_class = to_largest_subkey_class i;
+      largest_value_name = to_largest_value_name i;
+      largest_value_data = to_largest_value_data i;
+    })
 
 -- another list of subkeys
 pub nk-listed : (list : ℕ) → list < 2 ^ 32 → (content : List ℕ) (r : KeyRecord) → nk_of content ≡ Ok r
@@ -250,7 +350,24 @@ nk-listed list fit0 content r is =
     let to_largest_subkey_class : word new 56 ≡ r.fields.largest_subkey_class = number-above 28 piece content f 4 56 (lit≤ tt) ∙ sym (ap (λ (k : KeyFields). k.largest_subkey_class) old) in
     let to_largest_value_name : word new 60 ≡ r.fields.largest_value_name = number-above 28 piece content f 4 60 (lit≤ tt) ∙ sym (ap (λ (k : KeyFields). k.largest_value_name) old) in
     let to_largest_value_data : word new 64 ≡ r.fields.largest_value_data = number-above 28 piece content f 4 64 (lit≤ tt) ∙ sym (ap (λ (k : KeyFields). k.largest_value_data) old) in
-    nk-spliced 28 piece content r (lit≤ tt) (lit≤ tt) is (record r.fields { subkeys_list = list }) (λ i. record { flags = to_flags i; time = to_time i; parent = to_parent i; subkeys = to_subkeys i; subkeys_list = to_subkeys_list i; values = to_values i; values_list = to_values_list i; security = to_security i; class = to_class i; class_length = to_class_length i; largest_subkey_name = to_largest_subkey_name i; largest_subkey_class = to_largest_subkey_class i; largest_value_name = to_largest_value_name i; largest_value_data = to_largest_value_data i })
+    nk-spliced 28 piece content r (lit≤ tt) (lit≤ tt) is (record r.fields { subkeys_list = list })
+    (λ i. record {
+      flags = to_flags i;
+      time = to_time i;
+      parent = to_parent i;
+      subkeys = to_subkeys i;
+      subkeys_list = to_subkeys_list i;
+      values =
+          to_values i;
+      values_list = to_values_list i;
+      security = to_security i;
+      class = to_class i;
+      class_length = to_class_length i;
+      largest_subkey_name = to_largest_subkey_name i;
+      largest_subkey_class = to_largest_subkey_class i;
+      largest_value_name = to_largest_value_name i;
+      largest_value_data = to_largest_value_data i;
+    })
 
 -- another largest length of a subkey's name
 pub nk-widened : (largest : ℕ) → largest < 2 ^ 32 → (content : List ℕ) (r : KeyRecord) → nk_of content ≡ Ok r
@@ -275,7 +392,24 @@ nk-widened largest fit0 content r is =
     let to_largest_subkey_class : word new 56 ≡ r.fields.largest_subkey_class = number-above 52 piece content f 4 56 (lit≤ tt) ∙ sym (ap (λ (k : KeyFields). k.largest_subkey_class) old) in
     let to_largest_value_name : word new 60 ≡ r.fields.largest_value_name = number-above 52 piece content f 4 60 (lit≤ tt) ∙ sym (ap (λ (k : KeyFields). k.largest_value_name) old) in
     let to_largest_value_data : word new 64 ≡ r.fields.largest_value_data = number-above 52 piece content f 4 64 (lit≤ tt) ∙ sym (ap (λ (k : KeyFields). k.largest_value_data) old) in
-    nk-spliced 52 piece content r (lit≤ tt) (lit≤ tt) is (record r.fields { largest_subkey_name = largest }) (λ i. record { flags = to_flags i; time = to_time i; parent = to_parent i; subkeys = to_subkeys i; subkeys_list = to_subkeys_list i; values = to_values i; values_list = to_values_list i; security = to_security i; class = to_class i; class_length = to_class_length i; largest_subkey_name = to_largest_subkey_name i; largest_subkey_class = to_largest_subkey_class i; largest_value_name = to_largest_value_name i; largest_value_data = to_largest_value_data i })
+    nk-spliced 52 piece content r (lit≤ tt) (lit≤ tt) is (record r.fields { largest_subkey_name = largest })
+    (λ i. record {
+      flags = to_flags i;
+      time = to_time i;
+      parent = to_parent i;
+      subkeys = to_subkeys i;
+      subkeys_list = to_subkeys_list i;
+      values =
+          to_values i;
+      values_list = to_values_list i;
+      security = to_security i;
+      class = to_class i;
+      class_length = to_class_length i;
+      largest_subkey_name = to_largest_subkey_name i;
+      largest_subkey_class = to_largest_subkey_class i;
+      largest_value_name = to_largest_value_name i;
+      largest_value_data = to_largest_value_data i;
+    })
 
 -- a key node has room for its fixed part
 pub key-room : (heap : Heap) (cell size : ℕ) → size ≤ 76 → IsSome (key_at heap cell) → HasRoom heap cell size

@@ -104,7 +104,8 @@ unfolding security_at
 security-room heap cell size small some = read_at-room sk_of 20 (λ content r is. (sk-open content r is).long) heap cell size small some
 
 -- what a part written over does to a key security
-pub security-changed : (at : ℕ) (piece : List ℕ) (change : KeySecurityRecord → KeySecurityRecord) → ((content : List ℕ) (r : KeySecurityRecord) → sk_of content ≡ Ok r → sk_of (splice at piece content) ≡ Ok (change r))
+pub security-changed : (at : ℕ) (piece : List ℕ) (change : KeySecurityRecord → KeySecurityRecord) → ((content : List ℕ) (r : KeySecurityRecord) →
+    sk_of content ≡ Ok r → sk_of (splice at piece content) ≡ Ok (change r))
     → (old new : Bins) (cell : ℕ) → WritesCell old new cell (splice at piece (held (cell_at old.bytes) cell))
     → (r : KeySecurityRecord) → security_at (cell_at old.bytes) cell ≡ Some r → security_at (cell_at new.bytes) cell ≡ Some (change r)
 unfolding security_at

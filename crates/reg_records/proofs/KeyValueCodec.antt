@@ -101,7 +101,8 @@ vk-filled size fit0 place fit1 kind fit2 content r is =
     let to_place : word new 8 ≡ place = ap (little_number 4) (drop-within 4 piece content f 4 (lit≤ tt)) ∙ little_number-reads_back 4 place [] fit1 in
     let to_kind : word new 12 ≡ kind = ap (little_number 4) (drop-within 4 piece content f 8 (lit≤ tt)) ∙ little_number-reads_back 4 kind [] fit2 in
     let to_flags : half new 16 ≡ r.fields.flags = number-above 4 piece content f 2 16 (lit≤ tt) ∙ sym (ap (λ (k : ValueFields). k.flags) old) in
-    vk-spliced 4 piece content r (lit≤ tt) (lit≤ tt) is (record r.fields { size = size; place = place; kind = kind }) (λ i. record { size = to_size i; place = to_place i; kind = to_kind i; flags = to_flags i })
+    vk-spliced 4 piece content r (lit≤ tt) (lit≤ tt) is (record r.fields { size = size; place = place; kind = kind })
+    (λ i. record { size = to_size i; place = to_place i; kind = to_kind i; flags = to_flags i })
 
 -- a key value has room for its fixed part
 pub value-room : (heap : Heap) (cell size : ℕ) → size ≤ 20 → IsSome (value_record_at heap cell) → HasRoom heap cell size
@@ -109,7 +110,8 @@ unfolding value_record_at
 value-room heap cell size small some = read_at-room vk_of 20 (λ content r is. (vk-open content r is).long) heap cell size small some
 
 -- what a part written over does to a key value
-pub value-changed : (at : ℕ) (piece : List ℕ) (change : KeyValueRecord → KeyValueRecord) → ((content : List ℕ) (r : KeyValueRecord) → vk_of content ≡ Ok r → vk_of (splice at piece content) ≡ Ok (change r))
+pub value-changed : (at : ℕ) (piece : List ℕ) (change : KeyValueRecord → KeyValueRecord) → ((content : List ℕ) (r : KeyValueRecord) →
+    vk_of content ≡ Ok r → vk_of (splice at piece content) ≡ Ok (change r))
     → (old new : Bins) (cell : ℕ) → WritesCell old new cell (splice at piece (held (cell_at old.bytes) cell))
     → (r : KeyValueRecord) → value_record_at (cell_at old.bytes) cell ≡ Some r → value_record_at (cell_at new.bytes) cell ≡ Some (change r)
 unfolding value_record_at

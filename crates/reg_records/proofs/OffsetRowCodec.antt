@@ -26,7 +26,8 @@ module _ (row : List ℕ) (index offset : ℕ) (fits : 4 * index + 4 ≤ length 
       by (inr (inl l)) = number-below (4 * index) (little_bytes 4 offset) row fits 4 (4 * other) (omega arith)
       by (inr (inr l)) = number-above (4 * index) (little_bytes 4 offset) row fits 4 (4 * other) (omega arith)
 
-module _ (old new : Bins) (cell index offset : ℕ) (room : HasRoom (cell_at old.bytes) cell (4 * index + 4)) (written : WritesCell old new cell (splice (4 * index) (little_bytes 4 offset) (held (cell_at old.bytes) cell))) where
+module _ (old new : Bins) (cell index offset : ℕ) (room : HasRoom (cell_at old.bytes) cell (4 * index + 4))
+    (written : WritesCell old new cell (splice (4 * index) (little_bytes 4 offset) (held (cell_at old.bytes) cell))) where
   now : held (cell_at new.bytes) cell ≡ splice (4 * index) (little_bytes 4 offset) (held (cell_at old.bytes) cell)
   now = ap (λ (o : Option (List ℕ)). unwrap_or o []) written.here
 

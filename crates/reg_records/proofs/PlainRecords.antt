@@ -32,7 +32,8 @@ module _ (at : ℕ) (piece xs : List ℕ) (fits : at + length piece ≤ length x
   half-kept p (inl l) = number-below at piece xs fits 2 p l
   half-kept p (inr l) = number-above at piece xs fits 2 p l
 
-  key-kept : (12 + 4 ≤ at) ⊎ (at + length piece ≤ 12) → (24 + 4 ≤ at) ⊎ (at + length piece ≤ 24) → (32 + 4 ≤ at) ⊎ (at + length piece ≤ 32) → (68 + 4 ≤ at) ⊎ (at + length piece ≤ 68) → IsPlainKey xs → IsPlainKey (splice at piece xs)
+  key-kept : (12 + 4 ≤ at) ⊎ (at + length piece ≤ 12) → (24 + 4 ≤ at) ⊎ (at + length piece ≤ 24) → (32 + 4 ≤ at) ⊎ (at + length piece ≤ 32) →
+      (68 + 4 ≤ at) ⊎ (at + length piece ≤ 68) → IsPlainKey xs → IsPlainKey (splice at piece xs)
   key-kept a b c d k = record {
     access = word-kept 12 a ∙ k.access;
     volatile_subkeys = word-kept 24 b ∙ k.volatile_subkeys;
@@ -42,19 +43,24 @@ module _ (at : ℕ) (piece xs : List ℕ) (fits : at + length piece ≤ length x
 
 -- ---- key nodes
 
-pub plain-timed : (old new : Bins) (cell time : ℕ) → IsSome (key_at (cell_at old.bytes) cell) → WritesPart old new cell 4 (little_bytes 8 time) → IsPlainKey (held (cell_at old.bytes) cell) → IsPlainKey (held (cell_at new.bytes) cell)
+pub plain-timed : (old new : Bins) (cell time : ℕ) → IsSome (key_at (cell_at old.bytes) cell) → WritesPart old new cell 4 (little_bytes 8 time) →
+    IsPlainKey (held (cell_at old.bytes) cell) → IsPlainKey (held (cell_at new.bytes) cell)
 plain-timed old new cell time s w k =
     let room = key-room (cell_at old.bytes) cell 76 (omega arith) s in
     subst IsPlainKey (sym (held-written old new cell _ w))
     (key-kept 4 (little_bytes 8 time) (held (cell_at old.bytes) cell) (omega (arith, room.enough)) (inr (omega arith)) (inr (omega arith)) (inr (omega arith)) (inr (omega arith)) k)
 
-pub plain-valued : (old new : Bins) (cell values list : ℕ) → IsSome (key_at (cell_at old.bytes) cell) → WritesPart old new cell 36 (little_bytes 4 values ++ little_bytes 4 list) → IsPlainKey (held (cell_at old.bytes) cell) → IsPlainKey (held (cell_at new.bytes) cell)
+pub plain-valued : (old new : Bins) (cell values list : ℕ) → IsSome (key_at (cell_at old.bytes) cell) →
+    WritesPart old new cell 36 (little_bytes 4 values ++ little_bytes 4 list) → IsPlainKey (held (cell_at old.bytes) cell) →
+    IsPlainKey (held (cell_at new.bytes) cell)
 plain-valued old new cell values list s w k =
     let room = key-room (cell_at old.bytes) cell 76 (omega arith) s in
     subst IsPlainKey (sym (held-written old new cell _ w))
-    (key-kept 36 (little_bytes 4 values ++ little_bytes 4 list) (held (cell_at old.bytes) cell) (omega (arith, room.enough)) (inl (omega arith)) (inl (omega arith)) (inl (omega arith)) (inr (omega arith)) k)
+    (key-kept 36 (little_bytes 4 values ++ little_bytes 4 list) (held (cell_at old.bytes) cell) (omega (arith, room.enough)) (inl (omega arith))
+    (inl (omega arith)) (inl (omega arith)) (inr (omega arith)) k)
 
-pub plain-sized : (old new : Bins) (cell largest : ℕ) → IsSome (key_at (cell_at old.bytes) cell) → WritesPart old new cell 64 (little_bytes 4 largest) → IsPlainKey (held (cell_at old.bytes) cell) → IsPlainKey (held (cell_at new.bytes) cell)
+pub plain-sized : (old new : Bins) (cell largest : ℕ) → IsSome (key_at (cell_at old.bytes) cell) →
+    WritesPart old new cell 64 (little_bytes 4 largest) → IsPlainKey (held (cell_at old.bytes) cell) → IsPlainKey (held (cell_at new.bytes) cell)
 plain-sized old new cell largest s w k =
     let room = key-room (cell_at old.bytes) cell 76 (omega arith) s in
     subst IsPlainKey (sym (held-written old new cell _ w))
@@ -67,25 +73,29 @@ nk-plain fields name rest = record { access = refl; volatile_subkeys = refl; vol
 pub plain-key : (old new : Bins) (cell size : ℕ) (fields : KeyFields) (name : List ℕ) → WritesRecord old new cell size (nk_bytes fields name) → IsPlainKey (held (cell_at new.bytes) cell)
 plain-key old new cell size fields name w = subst IsPlainKey (sym (held-written old new cell _ w)) (nk-plain fields name (drop size (held (cell_at old.bytes) cell)))
 
-pub plain-named : (old new : Bins) (cell largest : ℕ) → IsSome (key_at (cell_at old.bytes) cell) → WritesPart old new cell 60 (little_bytes 4 largest) → IsPlainKey (held (cell_at old.bytes) cell) → IsPlainKey (held (cell_at new.bytes) cell)
+pub plain-named : (old new : Bins) (cell largest : ℕ) → IsSome (key_at (cell_at old.bytes) cell) →
+    WritesPart old new cell 60 (little_bytes 4 largest) → IsPlainKey (held (cell_at old.bytes) cell) → IsPlainKey (held (cell_at new.bytes) cell)
 plain-named old new cell largest s w k =
     let room = key-room (cell_at old.bytes) cell 76 (omega arith) s in
     subst IsPlainKey (sym (held-written old new cell _ w))
     (key-kept 60 (little_bytes 4 largest) (held (cell_at old.bytes) cell) (omega (arith, room.enough)) (inl (omega arith)) (inl (omega arith)) (inl (omega arith)) (inr (omega arith)) k)
 
-pub plain-counted : (old new : Bins) (cell subkeys : ℕ) → IsSome (key_at (cell_at old.bytes) cell) → WritesPart old new cell 20 (little_bytes 4 subkeys) → IsPlainKey (held (cell_at old.bytes) cell) → IsPlainKey (held (cell_at new.bytes) cell)
+pub plain-counted : (old new : Bins) (cell subkeys : ℕ) → IsSome (key_at (cell_at old.bytes) cell) →
+    WritesPart old new cell 20 (little_bytes 4 subkeys) → IsPlainKey (held (cell_at old.bytes) cell) → IsPlainKey (held (cell_at new.bytes) cell)
 plain-counted old new cell subkeys s w k =
     let room = key-room (cell_at old.bytes) cell 76 (omega arith) s in
     subst IsPlainKey (sym (held-written old new cell _ w))
     (key-kept 20 (little_bytes 4 subkeys) (held (cell_at old.bytes) cell) (omega (arith, room.enough)) (inl (omega arith)) (inr (omega arith)) (inr (omega arith)) (inr (omega arith)) k)
 
-pub plain-listed : (old new : Bins) (cell list : ℕ) → IsSome (key_at (cell_at old.bytes) cell) → WritesPart old new cell 28 (little_bytes 4 list) → IsPlainKey (held (cell_at old.bytes) cell) → IsPlainKey (held (cell_at new.bytes) cell)
+pub plain-listed : (old new : Bins) (cell list : ℕ) → IsSome (key_at (cell_at old.bytes) cell) → WritesPart old new cell 28 (little_bytes 4 list) →
+    IsPlainKey (held (cell_at old.bytes) cell) → IsPlainKey (held (cell_at new.bytes) cell)
 plain-listed old new cell list s w k =
     let room = key-room (cell_at old.bytes) cell 76 (omega arith) s in
     subst IsPlainKey (sym (held-written old new cell _ w))
     (key-kept 28 (little_bytes 4 list) (held (cell_at old.bytes) cell) (omega (arith, room.enough)) (inl (omega arith)) (inl (omega arith)) (inr (omega arith)) (inr (omega arith)) k)
 
-pub plain-widened : (old new : Bins) (cell largest : ℕ) → IsSome (key_at (cell_at old.bytes) cell) → WritesPart old new cell 52 (little_bytes 4 largest) → IsPlainKey (held (cell_at old.bytes) cell) → IsPlainKey (held (cell_at new.bytes) cell)
+pub plain-widened : (old new : Bins) (cell largest : ℕ) → IsSome (key_at (cell_at old.bytes) cell) →
+    WritesPart old new cell 52 (little_bytes 4 largest) → IsPlainKey (held (cell_at old.bytes) cell) → IsPlainKey (held (cell_at new.bytes) cell)
 plain-widened old new cell largest s w k =
     let room = key-room (cell_at old.bytes) cell 76 (omega arith) s in
     subst IsPlainKey (sym (held-written old new cell _ w))
@@ -93,7 +103,9 @@ plain-widened old new cell largest s w k =
 
 -- ---- key values
 
-pub plain-data : (old new : Bins) (cell size place kind : ℕ) → IsSome (value_record_at (cell_at old.bytes) cell) → WritesPart old new cell 4 (little_bytes 4 size ++ little_bytes 4 place ++ little_bytes 4 kind) → IsPlainValue (held (cell_at old.bytes) cell) → IsPlainValue (held (cell_at new.bytes) cell)
+pub plain-data : (old new : Bins) (cell size place kind : ℕ) → IsSome (value_record_at (cell_at old.bytes) cell) →
+    WritesPart old new cell 4 (little_bytes 4 size ++ little_bytes 4 place ++ little_bytes 4 kind) → IsPlainValue (held (cell_at old.bytes) cell) →
+    IsPlainValue (held (cell_at new.bytes) cell)
 plain-data old new cell size place kind s w k =
     let room = value-room (cell_at old.bytes) cell 20 (omega arith) s in
     ap (λ c. half c 18) (held-written old new cell _ w)
@@ -112,10 +124,13 @@ sk-plain : (fields : SecurityFields) (descriptor rest : List ℕ) → IsPlainSec
 unfolding sk_bytes half
 sk-plain fields descriptor rest = refl
 
-pub plain-security : (old new : Bins) (cell size : ℕ) (fields : SecurityFields) (descriptor : List ℕ) → WritesRecord old new cell size (sk_bytes fields descriptor) → IsPlainSecurity (held (cell_at new.bytes) cell)
+pub plain-security : (old new : Bins) (cell size : ℕ) (fields : SecurityFields) (descriptor : List ℕ) →
+    WritesRecord old new cell size (sk_bytes fields descriptor) → IsPlainSecurity (held (cell_at new.bytes) cell)
 plain-security old new cell size fields descriptor w = ap (λ c. half c 2) (held-written old new cell _ w) ∙ sk-plain fields descriptor (drop size (held (cell_at old.bytes) cell))
 
-pub plain-shared : (old new : Bins) (cell count : ℕ) → IsSome (security_at (cell_at old.bytes) cell) → WritesPart old new cell 12 (little_bytes 4 count) → IsPlainSecurity (held (cell_at old.bytes) cell) → IsPlainSecurity (held (cell_at new.bytes) cell)
+pub plain-shared : (old new : Bins) (cell count : ℕ) → IsSome (security_at (cell_at old.bytes) cell) →
+    WritesPart old new cell 12 (little_bytes 4 count) → IsPlainSecurity (held (cell_at old.bytes) cell) →
+    IsPlainSecurity (held (cell_at new.bytes) cell)
 plain-shared old new cell count s w k =
     let room = security-room (cell_at old.bytes) cell 20 (omega arith) s in
     ap (λ c. half c 2) (held-written old new cell _ w)

@@ -47,8 +47,10 @@ module _ (at : ℕ) (piece xs : List ℕ) (fits : at + length piece ≤ length x
   pub drop-above : (k : ℕ) → at + length piece ≤ k → drop k (splice at piece xs) ≡ drop k xs
   drop-above k l =
       let r : ℕ = k - (at + length piece) in
-      let whole : drop (at + length piece) (splice at piece xs) ≡ drop (at + length piece) xs = drop-within (length piece) (omega arith) ∙ ap (λ ys. ys ++ drop (at + length piece) xs) (drop-length piece) in
-      ap (λ n. drop n (splice at piece xs)) (omega arith) ∙ sym (drop-drop r (at + length piece) (splice at piece xs)) ∙ ap (drop r) whole ∙ drop-drop r (at + length piece) xs ∙ ap (λ n. drop n xs) (omega arith)
+      let whole : drop (at + length piece) (splice at piece xs) ≡ drop (at + length piece) xs = drop-within (length piece) (omega arith) ∙
+      ap (λ ys. ys ++ drop (at + length piece) xs) (drop-length piece) in
+      ap (λ n. drop n (splice at piece xs)) (omega arith) ∙ sym (drop-drop r (at + length piece) (splice at piece xs)) ∙ ap (drop r) whole ∙
+      drop-drop r (at + length piece) xs ∙ ap (λ n. drop n xs) (omega arith)
 
 -- the same bytes, the same number
 little-same : (i n p q : ℕ) (xs ys : List ℕ) → ((k : ℕ) → k < i + n → get_or ys (q + k) 0 ≡ get_or xs (p + k) 0) → little_from i n (drop q ys) ≡ little_from i n (drop p xs)

@@ -11,7 +11,8 @@ use Rattle.reg_arena.specs.Cells.{cell_at}
 use Rattle.reg_arena.proofs.Contents.CellWrites.{all-append}
 use Rattle.reg_records.specs.RecordCells.{held, WritesCell, WritesPart, WritesRecord}
 use Rattle.reg_records.specs.declared.lists.ListForm.TheVariants.{IndexRoot, IndexLeaf, FastLeaf, HashLeaf}
-use Rattle.reg_records.specs.SubkeyLists.{Form, Entry, form_of, list_of, entry_size, entry_bytes, entries_bytes, head_bytes, list_bytes, entries_as, plain_entries, hinted_entries, without_hint, as_read}
+use Rattle.reg_records.specs.SubkeyLists.{Form, Entry, form_of, list_of, entry_size, entry_bytes, entries_bytes, head_bytes, list_bytes, entries_as, plain_entries, hinted_entries}
+use Rattle.reg_records.specs.SubkeyLists.{without_hint, as_read}
 use Rattle.reg_records.proofs.RecordWriting.{wrote_record}
 use Rattle.reg_records.proofs.SubkeyListReading.{is-read}
 
@@ -54,7 +55,8 @@ length-head FastLeaf count = refl
 length-head HashLeaf count = refl
 
 length-front : (form : Form) (count : ℕ) (entries : List Entry) → length (front form count entries) ≡ 4 + entry_size form * length entries
-length-front form count entries = length-append (head_bytes form count) (entries_bytes form entries) ∙ (ap (λ n. n + length (entries_bytes form entries)) (length-head form count) ∙ ap (λ n. 4 + n) (length-entries form entries))
+length-front form count entries = length-append (head_bytes form count) (entries_bytes form entries) ∙
+    (ap (λ n. n + length (entries_bytes form entries)) (length-head form count) ∙ ap (λ n. 4 + n) (length-entries form entries))
 
 -- ---- one entry more
 
@@ -65,9 +67,11 @@ one-written : (old between now : Bins) (cell : ℕ) (form : Form) (count : ℕ) 
 unfolding splice
 one-written old between now cell form count es e first second =
     let piece = entry_bytes form e in
-    let whole : front form count (es ++ e ∷ []) ≡ front form count es ++ piece = ap (λ t. head_bytes form count ++ t) (entries_bytes-push form es e) ∙ sym (append_assoc (head_bytes form count) (entries_bytes form es) piece) in
+    let whole : front form count (es ++ e ∷ []) ≡ front form count es ++ piece = ap (λ t. head_bytes form count ++ t)
+    (entries_bytes-push form es e) ∙ sym (append_assoc (head_bytes form count) (entries_bytes form es) piece) in
     let behind : length (front form count es) + length piece ≡ length (front form count (es ++ e ∷ [])) = sym (length-append (front form count es) piece) ∙ ap length (sym whole) in
-    let there : WritesCell between now cell (splice (length (front form count es)) piece (held (cell_at between.bytes) cell)) = subst (λ at. WritesCell between now cell (splice at piece (held (cell_at between.bytes) cell))) (sym (length-front form count es)) second in
+    let there : WritesCell between now cell (splice (length (front form count es)) piece (held (cell_at between.bytes) cell)) =
+    subst (λ at. WritesCell between now cell (splice at piece (held (cell_at between.bytes) cell))) (sym (length-front form count es)) second in
     subst (WritesCell old now cell)
     (ap (λ t. t ++ drop (length (front form count es) + length piece) (held (cell_at old.bytes) cell)) (sym whole)
     ∙ ap (λ n. front form count (es ++ e ∷ []) ++ drop n (held (cell_at old.bytes) cell)) (behind ∙ sym (zero_more _)))
@@ -88,7 +92,8 @@ none-listed old now cell form all count e w = record {
   fit = tt;
 }
 
-pub one-listed : (old between now : Bins) (cell : ℕ) (form : Form) (all : List Entry) (i : ℕ) (e d : Entry) → i < length all → e ≡ get_or all i d → IsListed old between cell form all i → WritesPart between now cell (4 + entry_size form * i) (entry_bytes form e)
+pub one-listed : (old between now : Bins) (cell : ℕ) (form : Form) (all : List Entry) (i : ℕ) (e d : Entry) → i < length all → e ≡ get_or all i d →
+    IsListed old between cell form all i → WritesPart between now cell (4 + entry_size form * i) (entry_bytes form e)
     → e.place < 2 ^ 32 → e.hint < 2 ^ 32 → IsListed old now cell form all (i + 1)
 one-listed old between now cell form all i e d l is before w place hint =
     let one : take i all ++ e ∷ [] ≡ take (i + 1) all = ap (λ x. take i all ++ x ∷ []) is ∙ sym (take_more all i d l) in
@@ -125,7 +130,8 @@ hinted-on bytes cut (e ∷ es) fit at content rest h =
     let others = hinted-on bytes cut es fit.1 (at + 8) content rest behind in
     (λ i. record { place = place i; hint = hint i } ∷ others i)
 
-entries-on : (form : Form) (es : List Entry) → AllByRecursion IsFit es → (at : ℕ) (content rest : List ℕ) → drop at content ≡ entries_bytes form es ++ rest → entries_as form (length es) at content ≡ as_read form es
+entries-on : (form : Form) (es : List Entry) → AllByRecursion IsFit es → (at : ℕ) (content rest : List ℕ) →
+    drop at content ≡ entries_bytes form es ++ rest → entries_as form (length es) at content ≡ as_read form es
 unfolding entries_bytes
 entries-on IndexRoot es fit at content rest h = plain-on (entries_bytes IndexRoot) (λ e es. refl) es fit at content rest h
 entries-on IndexLeaf es fit at content rest h = plain-on (entries_bytes IndexLeaf) (λ e es. refl) es fit at content rest h
@@ -151,15 +157,18 @@ behind-head IndexLeaf count rest = refl
 behind-head FastLeaf count rest = refl
 behind-head HashLeaf count rest = refl
 
-pub list-reads_back : (form : Form) (es : List Entry) (rest : List ℕ) → AllByRecursion IsFit es → length es < 2 ^ 16 → list_of (list_bytes form es ++ rest) ≡ Some (record { form = form; entries = as_read form es })
+pub list-reads_back : (form : Form) (es : List Entry) (rest : List ℕ) → AllByRecursion IsFit es → length es < 2 ^ 16 →
+    list_of (list_bytes form es ++ rest) ≡ Some (record { form = form; entries = as_read form es })
 unfolding list_bytes
 list-reads_back form es rest fit few =
     let body : List ℕ = entries_bytes form es ++ rest in
     let whole : list_bytes form es ++ rest ≡ head_bytes form (length es) ++ body = append_assoc (head_bytes form (length es)) (entries_bytes form es) rest in
     let size : length (head_bytes form (length es) ++ body) ≡ 4 + (entry_size form * length es + length rest) =
-    length-append (head_bytes form (length es)) body ∙ (ap (λ n. n + length body) (length-head form (length es)) ∙ ap (λ n. 4 + n) (length-append (entries_bytes form es) rest ∙ ap (λ n. n + length rest) (length-entries form es))) in
+    length-append (head_bytes form (length es)) body ∙ (ap (λ n. n + length body) (length-head form (length es)) ∙
+    ap (λ n. 4 + n) (length-append (entries_bytes form es) rest ∙ ap (λ n. n + length rest) (length-entries form es))) in
     ap list_of whole
-    ∙ (is-read (head_bytes form (length es) ++ body) (omega (arith, size)) form (signed form (length es) body) (length es) (entry_size form) (sym (counted form (length es) body few)) refl (omega (arith, size))
+    ∙ (is-read (head_bytes form (length es) ++ body) (omega (arith, size)) form (signed form (length es) body) (length es) (entry_size form)
+    (sym (counted form (length es) body few)) refl (omega (arith, size))
     ∙ ap (λ read. Some (record { form = form; entries = read })) (entries-on form es fit 4 (head_bytes form (length es) ++ body) rest (behind-head form (length es) body)))
 
 -- ---- all of them

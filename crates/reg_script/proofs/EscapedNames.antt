@@ -23,7 +23,11 @@ unfolding unescaped
 unescaped-plain first [] e = refl
 unescaped-plain first (high ∷ []) e = refl
 unescaped-plain first (high ∷ low ∷ rest) e =
-    subst (λ (o : Option ℕ). elim o as (λ _. List ℕ) [ Some b ↦ b ∷ unescaped_after 2 (high ∷ low ∷ rest) | None ↦ first ∷ unescaped_after 0 (high ∷ low ∷ rest) ] ≡ first ∷ unescaped_after 0 (high ∷ low ∷ rest))
+    subst (λ (o : Option ℕ). elim o as (λ _. List ℕ) [
+      | Some b ↦ b ∷ unescaped_after 2 (high ∷ low ∷ rest)
+      | None ↦ first ∷ unescaped_after 0
+          (high ∷ low ∷ rest)
+    ] ≡ first ∷ unescaped_after 0 (high ∷ low ∷ rest))
     (sym e) refl
 
 pub plain_next : (text rest : List ℕ) (first : ℕ) → text ≡ first ∷ rest → None ≡ escaped_byte text → (unescaped text ≡ first ∷ unescaped rest) × (length rest < length text)

@@ -1,5 +1,6 @@
 -- A script's bytes, taken one after another.
-use Rattle.std.proofs.Common.{◌≡◌, ◌≢◌, ℕ, ◌+◌, ◌<◌, ◌≤◌, false, eqb, List, [], ◌∷◌, ◌++◌, length, get_or, take, Option, Some, None, refl, sym, subst, ap, ◌∙◌, arith, append_assoc, append-nil, inl, inr}
+use Rattle.std.proofs.Common.{◌≡◌, ◌≢◌, ℕ, ◌+◌, ◌<◌, ◌≤◌, false, eqb, List, [], ◌∷◌, ◌++◌, length, get_or, take, Option, Some, None, refl, sym, subst, ap, ◌∙◌, arith, append_assoc}
+use Rattle.std.proofs.Common.{append-nil, inl, inr}
 use Rattle.std.specs.List.{AllByRecursion}
 use Rattle.std.specs.Io.KnownBytes.{Appends, Consumes, Keeps}
 use Rattle.std.proofs.lemmas.Bool.Decides.{nat_tests}
@@ -45,7 +46,8 @@ pub lines_short : (ls : List (List ℕ)) → AllByRecursion IsLine ls → AllByR
 lines_short [] h = tt
 lines_short (l ∷ ls) h = (h.0.short, lines_short ls h.1)
 
-pub short_then : (ls ms : List (List ℕ)) → AllByRecursion (λ (line : List ℕ). length line ≤ longest_line) ls → AllByRecursion (λ (line : List ℕ). length line ≤ longest_line) ms → AllByRecursion (λ (line : List ℕ). length line ≤ longest_line) (ls ++ ms)
+pub short_then : (ls ms : List (List ℕ)) → AllByRecursion (λ (line : List ℕ). length line ≤ longest_line) ls →
+    AllByRecursion (λ (line : List ℕ). length line ≤ longest_line) ms → AllByRecursion (λ (line : List ℕ). length line ≤ longest_line) (ls ++ ms)
 short_then [] ms h k = k
 short_then (l ∷ ls) ms h k = (h.0, short_then ls ms h.1 k)
 
@@ -106,7 +108,8 @@ takes_then a b c xs ys h k = record {
 }
 
 -- a byte that is no LF joins the line that was begun
-pub takes_byte : (old : Place) (b : ℕ) (line : List ℕ) → IsSteady old → old.lines < most_lines → length old.begun < longest_line → b ≢ 10 → line ≡ old.begun ++ b ∷ [] → Takes old (b ∷ []) (record old { begun = line })
+pub takes_byte : (old : Place) (b : ℕ) (line : List ℕ) → IsSteady old → old.lines < most_lines → length old.begun < longest_line → b ≢ 10 →
+    line ≡ old.begun ++ b ∷ [] → Takes old (b ∷ []) (record old { begun = line })
 takes_byte old b line steady fewer shorter plain e =
     subst (λ (w : List ℕ). Takes old (b ∷ []) (record old { begun = w })) (sym e) (record {
       steady = record {
@@ -129,7 +132,8 @@ takes_byte old b line steady fewer shorter plain e =
 abbrev pub after_line : Place → Stand → List ℕ → Place
 after_line old stand text = record { stand = stand; lines = old.lines + 1; begun = []; gathered = text; sent = old.sent; written = old.written }
 
-pub takes_feed : (old : Place) (stand : Stand) (b : ℕ) (reply text : List ℕ) → b ≡ 10 → IsSteady old → old.lines < most_lines → IsSaid (meaning_of old.begun) old.stand reply stand → text ≡ old.gathered ++ reply
+pub takes_feed : (old : Place) (stand : Stand) (b : ℕ) (reply text : List ℕ) → b ≡ 10 → IsSteady old → old.lines < most_lines →
+    IsSaid (meaning_of old.begun) old.stand reply stand → text ≡ old.gathered ++ reply
     → Takes old (b ∷ []) (after_line old stand text)
 takes_feed old stand b reply text is steady fewer said adds =
     subst (λ (w : ℕ). Takes old (w ∷ []) (after_line old stand text)) (sym is) (record {
@@ -158,7 +162,8 @@ settled mid new below (inr h) = record {
 }
 
 -- then what was gathered may be sent
-pub takes_line : (old new : Place) (b : ℕ) (reply text : List ℕ) (before : ℕ) → b ≡ 10 → IsSteady old → old.lines < most_lines → IsSaid (meaning_of old.begun) old.stand reply new.stand → text ≡ old.gathered ++ reply
+pub takes_line : (old new : Place) (b : ℕ) (reply text : List ℕ) (before : ℕ) → b ≡ 10 → IsSteady old → old.lines < most_lines →
+    IsSaid (meaning_of old.begun) old.stand reply new.stand → text ≡ old.gathered ++ reply
     → new.begun ≡ [] → new.lines ≡ old.lines + 1 → before ≡ old.written → IsSettled old.sent new.sent text new.gathered before new.written → Takes old (b ∷ []) new
 takes_line old new b reply text before is steady fewer said adds cleared counts same settles =
     let mid = after_line old new.stand text in
@@ -254,7 +259,8 @@ ends_at old mid new script reply h said adds same counts =
       short = subst (λ (ls : List (List ℕ)). AllByRecursion (λ (l : List ℕ). length l ≤ longest_line) ls) (sym lines)
           (short_then h.ended (lines_of mid.begun) (lines_short h.ended h.are_lines) (begun_lines mid.begun h.steady.no_feed h.steady.short));
       replies = h.replies ++ reply;
-      said = subst (λ (ls : List (List ℕ)). AreSaid ls old.stand (h.replies ++ reply) new.stand) (sym lines) (said_then h.ended (lines_of mid.begun) old.stand mid.stand new.stand h.replies reply h.said said);
+      said = subst (λ (ls : List (List ℕ)). AreSaid ls old.stand (h.replies ++ reply) new.stand) (sym lines)
+          (said_then h.ended (lines_of mid.begun) old.stand mid.stand new.stand h.replies reply h.said said);
       passes = passes_then old mid new h.replies reply h.passes p;
     }
 

@@ -39,7 +39,8 @@ abbrev pub IsWhole : View → View → Option (List ℕ) → Option (List ℕ) �
 IsWhole hive new unread left before after =
     (script : List ℕ) × (text : List ℕ) × Consumes unread left script × Lines hive script text new × Appends before after text × AreWithin (lines_of script)
 
-ended_whole : (old new : Place) (hive : View) (script : List ℕ) (unread left final : Option (List ℕ)) → IsStart old hive → Consumes unread left script → Ends old script new → Appends new.sent final new.gathered → IsWhole hive new.stand.hive unread left old.sent final
+ended_whole : (old new : Place) (hive : View) (script : List ℕ) (unread left final : Option (List ℕ)) → IsStart old hive →
+    Consumes unread left script → Ends old script new → Appends new.sent final new.gathered → IsWhole hive new.stand.hive unread left old.sent final
 ended_whole old new hive script unread left final start consumes e sent = (
   script,
   e.replies,
@@ -50,7 +51,8 @@ ended_whole old new hive script unread left final start consumes e sent = (
 )
 
 -- the last write was cut
-ended_cut : (old new : Place) (hive : View) (script : List ℕ) (unread left final : Option (List ℕ)) (fault : ScriptFault) → IsStart old hive → Consumes unread left script → Ends old script new → IsCut new.sent final new.gathered new.written fault
+ended_cut : (old new : Place) (hive : View) (script : List ℕ) (unread left final : Option (List ℕ)) (fault : ScriptFault) → IsStart old hive →
+    Consumes unread left script → Ends old script new → IsCut new.sent final new.gathered new.written fault
     → Stops fault unread left hive new.stand.hive old.sent final
 ended_cut old new hive script unread left final fault start consumes e cut =
     subst (λ (f : ScriptFault). Stops f unread left hive new.stand.hive old.sent final) (sym cut.says) (record {
@@ -67,26 +69,36 @@ ended_cut old new hive script unread left final fault start consumes e cut =
 
 -- ---- a script that stopped before
 
-read_failed : (old new : Place) (hive : View) (script : List ℕ) (unread left final : Option (List ℕ)) → IsStart old hive → Consumes unread left script → Halts old script new Read → Appends new.sent final new.gathered → Stops Read unread left hive new.stand.hive old.sent final
+read_failed : (old new : Place) (hive : View) (script : List ℕ) (unread left final : Option (List ℕ)) → IsStart old hive →
+    Consumes unread left script → Halts old script new Read → Appends new.sent final new.gathered →
+    Stops Read unread left hive new.stand.hive old.sent final
 read_failed old new hive script unread left final start consumes k sent =
     stops_with old new hive new.stand.hive script Read Read unread left final k consumes start.lines start.begun start.stand
     (k.faults.1, all_sent old k.mid new k.takes.replies final k.takes.passes start.gathered k.faults.0 sent)
 
-too_long : (old new : Place) (hive : View) (script : List ℕ) (unread left final : Option (List ℕ)) → IsStart old hive → Consumes unread left script → Halts old script new TooLong → Appends new.sent final new.gathered → Stops TooLong unread left hive new.stand.hive old.sent final
+too_long : (old new : Place) (hive : View) (script : List ℕ) (unread left final : Option (List ℕ)) → IsStart old hive → Consumes unread left script →
+    Halts old script new TooLong → Appends new.sent final new.gathered → Stops TooLong unread left hive new.stand.hive old.sent final
 too_long old new hive script unread left final start consumes k sent =
-    stops_with old new hive new.stand.hive script TooLong TooLong unread left final k consumes start.lines start.begun start.stand
-    (k.faults.1, all_sent old k.mid new k.takes.replies final k.takes.passes start.gathered k.faults.0 sent, counted_from k.mid.lines old.lines (length k.takes.ended) _ start.lines k.takes.counts k.faults.2)
+    stops_with old new hive new.stand.hive script TooLong TooLong unread left final k consumes start.lines start.begun start.stand (
+      k.faults.1,
+      all_sent old k.mid new k.takes.replies final k.takes.passes start.gathered k.faults.0 sent,
+      counted_from k.mid.lines old.lines
+          (length k.takes.ended) _ start.lines k.takes.counts k.faults.2,
+    )
   where
     counted_from : (lines before ended : ℕ) (rest : List ℕ) → before ≡ 0 → lines ≡ before + ended → PassesBound lines rest → PassesBound ended rest
     counted_from lines before ended rest none counts (inl h) = inl (omega (arith, none, counts, h.0), h.1)
     counted_from lines before ended rest none counts (inr h) = inr h
 
-no_memory : (old new : Place) (hive : View) (script : List ℕ) (unread left final : Option (List ℕ)) → IsStart old hive → Consumes unread left script → Halts old script new Memory → Appends new.sent final new.gathered → Stops Memory unread left hive new.stand.hive old.sent final
+no_memory : (old new : Place) (hive : View) (script : List ℕ) (unread left final : Option (List ℕ)) → IsStart old hive →
+    Consumes unread left script → Halts old script new Memory → Appends new.sent final new.gathered →
+    Stops Memory unread left hive new.stand.hive old.sent final
 no_memory old new hive script unread left final start consumes k sent =
     stops_with old new hive new.stand.hive script Memory Memory unread left final k consumes start.lines start.begun start.stand
     (k.faults.1, all_sent old k.mid new k.takes.replies final k.takes.passes start.gathered k.faults.0 sent)
 
-write_failed : (old new : Place) (hive : View) (script : List ℕ) (written : ℕ) (unread left final : Option (List ℕ)) → IsStart old hive → Consumes unread left script → Halts old script new (Write written) → final ≡ new.sent
+write_failed : (old new : Place) (hive : View) (script : List ℕ) (written : ℕ) (unread left final : Option (List ℕ)) → IsStart old hive →
+    Consumes unread left script → Halts old script new (Write written) → final ≡ new.sent
     → Stops (Write written) unread left hive new.stand.hive old.sent final
 write_failed old new hive script written unread left final start consumes k same =
     stops_with old new hive new.stand.hive script (Write written) (Write written) unread left final k consumes start.lines start.begun start.stand (
@@ -96,7 +108,8 @@ write_failed old new hive script written unread left final start consumes k same
     )
 
 -- the write after another fault was cut
-then_cut : (old new : Place) (hive : View) (script : List ℕ) (first fault : ScriptFault) (unread left final : Option (List ℕ)) → IsStart old hive → Consumes unread left script → (k : Halts old script new first) → IsIdle k.mid new → IsReached k.mid.stand (k.mid.begun ++ k.back) new.stand.hive
+then_cut : (old new : Place) (hive : View) (script : List ℕ) (first fault : ScriptFault) (unread left final : Option (List ℕ)) → IsStart old hive →
+    Consumes unread left script → (k : Halts old script new first) → IsIdle k.mid new → IsReached k.mid.stand (k.mid.begun ++ k.back) new.stand.hive
     → IsCut new.sent final new.gathered new.written fault → Stops fault unread left hive new.stand.hive old.sent final
 then_cut old new hive script first fault unread left final start consumes k idle reached cut =
     let at_sent = subst (λ (o : Option (List ℕ)). IsCut o final new.gathered new.written fault) idle.sent cut in
@@ -105,7 +118,8 @@ then_cut old new hive script first fault unread left final start consumes k idle
     subst (λ (f : ScriptFault). Stops f unread left hive new.stand.hive old.sent final) (sym at_count.says)
     (stops_with old new hive new.stand.hive script first _ unread left final k consumes start.lines start.begun start.stand (
       reached,
-      cut_sent old k.mid k.takes.replies final _ k.takes.passes start.gathered start.written (subst (λ (f : ScriptFault). IsCut k.mid.sent final k.mid.gathered k.mid.written f) at_count.says at_count),
+      cut_sent old k.mid k.takes.replies final _ k.takes.passes start.gathered start.written
+          (subst (λ (f : ScriptFault). IsCut k.mid.sent final k.mid.gathered k.mid.written f) at_count.says at_count),
     ))
 
 -- ---- both
@@ -116,7 +130,8 @@ on_ok_of A result fault e = subst (λ (r : Result (Unit {0}) ScriptFault). OnOk 
 if_err_of : (P : ScriptFault → Type 0) (result : Result (Unit {0}) ScriptFault) (fault : ScriptFault) → result ≡ Err fault → P fault → IfErr result P
 if_err_of P result fault e p = subst (λ (r : Result (Unit {0}) ScriptFault). IfErr r P) (sym e) p
 
-pub closed_well : (A B : Type 0) (ended result : Result (Unit {0}) ScriptFault) (text : List ℕ) (before : ℕ) (old new : Option (List ℕ)) → Closes ended text before old new result → OnOk ended A → (A → Appends old new text → B) → OnOk result B
+pub closed_well : (A B : Type 0) (ended result : Result (Unit {0}) ScriptFault) (text : List ℕ) (before : ℕ) (old new : Option (List ℕ)) →
+    Closes ended text before old new result → OnOk ended A → (A → Appends old new text → B) → OnOk result B
 closed_well A B (Ok done) result text before old new (inl h) a f = subst (λ (r : Result (Unit {0}) ScriptFault). OnOk r B) (sym h.0) (f a h.1)
 closed_well A B (Ok done) result text before old new (inr h) a f = on_ok_of _ result h.0 h.1
 closed_well A B (Err Read) result text before old new (inl h) a f = on_ok_of _ result Read h.0
@@ -127,13 +142,16 @@ closed_well A B (Err TooLong) result text before old new (inr h) a f = on_ok_of 
 closed_well A B (Err Memory) result text before old new (inl h) a f = on_ok_of _ result Memory h.0
 closed_well A B (Err Memory) result text before old new (inr h) a f = on_ok_of _ result h.0 h.1
 
-pub run_whole : (old new : Place) (hive : View) (unread left final : Option (List ℕ)) (ended result : Result (Unit {0}) ScriptFault) → IsStart old hive → OnOk ended ((script : List ℕ) × Consumes unread left script × Ends old script new)
+pub run_whole : (old new : Place) (hive : View) (unread left final : Option (List ℕ)) (ended result : Result (Unit {0}) ScriptFault) →
+    IsStart old hive → OnOk ended ((script : List ℕ) × Consumes unread left script × Ends old script new)
     → Closes ended new.gathered new.written new.sent final result → OnOk result (IsWhole hive new.stand.hive unread left old.sent final)
 run_whole old new hive unread left final ended result start done closes =
     closed_well _ _ ended result new.gathered new.written new.sent final closes done (λ e sent. ended_whole old new hive e.0 unread left final start e.1 e.2 sent)
 
-pub run_stops : (old new : Place) (hive : View) (unread left final : Option (List ℕ)) (ended result : Result (Unit {0}) ScriptFault) → IsStart old hive → OnOk ended ((script : List ℕ) × Consumes unread left script × Ends old script new)
-    → IfErr ended (λ fault. (script : List ℕ) × Consumes unread left script × Halts old script new fault) → Closes ended new.gathered new.written new.sent final result → IfErr result (λ fault. Stops fault unread left hive new.stand.hive old.sent final)
+pub run_stops : (old new : Place) (hive : View) (unread left final : Option (List ℕ)) (ended result : Result (Unit {0}) ScriptFault) →
+    IsStart old hive → OnOk ended ((script : List ℕ) × Consumes unread left script × Ends old script new)
+    → IfErr ended (λ fault. (script : List ℕ) × Consumes unread left script × Halts old script new fault) →
+    Closes ended new.gathered new.written new.sent final result → IfErr result (λ fault. Stops fault unread left hive new.stand.hive old.sent final)
 run_stops old new hive unread left final (Ok done) result start e k (inl h) =
     subst (λ (r : Result (Unit {0}) ScriptFault). IfErr r (λ fault. Stops fault unread left hive new.stand.hive old.sent final)) (sym h.0) tt
 run_stops old new hive unread left final (Ok done) result start e k (inr h) = if_err_of _ result h.0 h.1 (ended_cut old new hive e.0 unread left final h.0 start e.1 e.2 h.2)
@@ -196,4 +214,5 @@ module _ (old new : Place) (hive : View) (unread left final : Option (List ℕ))
   pub runs_into : IfErr ended (λ fault. IsSteady old → old.lines ≡ 0 → old.begun ≡ [] → (script : List ℕ) × Consumes unread left script × Halts old script new fault)
       → IfErr result (λ fault. Stops fault unread left hive new.stand.hive old.sent final)
   runs_into halts =
-      run_stops old new hive unread left final ended result start (ok_given _ _ ended (steady_start old hive start) ends) (err_given _ _ _ _ ended (steady_start old hive start) lines begun halts) closes
+      run_stops old new hive unread left final ended result start (ok_given _ _ ended (steady_start old hive start) ends)
+      (err_given _ _ _ _ ended (steady_start old hive start) lines begun halts) closes

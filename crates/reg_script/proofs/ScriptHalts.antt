@@ -121,7 +121,8 @@ not_so_many old new bytes none empty h =
     let fed = fed_length h.ended h.are_lines in
     by new.begun total h.steady.short h.steady.one_more (omega (arith, h.counts, none)) h.steady.few fed
   where
-    by : (begun : List ℕ) → length bytes ≡ length (with_feeds h.ended) + length begun → length begun ≤ longest_line → (0 < length begun → new.lines < most_lines) → new.lines ≡ length h.ended → new.lines ≤ most_lines
+    by : (begun : List ℕ) → length bytes ≡ length (with_feeds h.ended) + length begun → length begun ≤ longest_line →
+        (0 < length begun → new.lines < most_lines) → new.lines ≡ length h.ended → new.lines ≤ most_lines
         → length (with_feeds h.ended) ≤ length h.ended * (longest_line + 1) → length bytes < 2200001000001
     by [] total short one_more counts few fed = omega (arith, total, counts, few, fed)
     by (b ∷ bs) total short one_more counts few fed = let fewer = one_more (omega arith) in omega (arith, total, short, fewer, counts, fed)
@@ -131,8 +132,11 @@ not_so_many old new bytes none empty h =
 abbrev pub begins : View → Stand
 begins hive = record { hive = hive; moment = 0; session = 0 }
 
-pub stops_with : (old new : Place) (hive new_hive : View) (script : List ℕ) (fault result : ScriptFault) (unread left final : Option (List ℕ)) → (k : Halts old script new fault) → Consumes unread left script
-    → old.lines ≡ 0 → old.begun ≡ [] → old.stand ≡ begins hive → IsLeft result (length k.takes.ended) k.mid.stand (k.mid.begun ++ k.back) k.takes.replies new_hive old.sent final → Stops result unread left hive new_hive old.sent final
+pub stops_with : (old new : Place) (hive new_hive : View) (script : List ℕ) (fault result : ScriptFault) (unread left final : Option (List ℕ)) →
+    (k : Halts old script new fault) → Consumes unread left script
+    → old.lines ≡ 0 → old.begun ≡ [] → old.stand ≡ begins hive →
+    IsLeft result (length k.takes.ended) k.mid.stand (k.mid.begun ++ k.back) k.takes.replies new_hive old.sent final →
+    Stops result unread left hive new_hive old.sent final
 stops_with old new hive new_hive script fault result unread left final k consumes none empty is stands =
     let t = k.takes in
     let lines_are : lines_of (with_feeds t.ended) ≡ t.ended =
@@ -148,12 +152,14 @@ stops_with old new hive new_hive script fault result unread left final k consume
       within = subst (λ (w : List (List ℕ)). AreWithin w) (sym lines_are) (record { few = omega (arith, t.steady.few, t.counts, none); short = lines_short t.ended t.are_lines });
       text = t.replies;
       last = k.mid.stand;
-      said = subst (λ (s : Stand). AreSaid (lines_of (with_feeds t.ended)) s t.replies k.mid.stand) is (subst (λ (w : List (List ℕ)). AreSaid w old.stand t.replies k.mid.stand) (sym lines_are) t.said);
+      said = subst (λ (s : Stand). AreSaid (lines_of (with_feeds t.ended)) s t.replies k.mid.stand) is
+          (subst (λ (w : List (List ℕ)). AreSaid w old.stand t.replies k.mid.stand) (sym lines_are) t.said);
       stands = subst (λ (w : List (List ℕ)). IsLeft result (length w) k.mid.stand (k.mid.begun ++ k.back) t.replies new_hive old.sent final) (sym lines_are) stands;
     }
 
 -- all replies were sent
-pub all_sent : (old mid new : Place) (replies : List ℕ) (final : Option (List ℕ)) → Passes old replies mid → old.gathered ≡ [] → IsIdle mid new → Appends new.sent final new.gathered → Appends old.sent final replies
+pub all_sent : (old mid new : Place) (replies : List ℕ) (final : Option (List ℕ)) → Passes old replies mid → old.gathered ≡ [] → IsIdle mid new →
+    Appends new.sent final new.gathered → Appends old.sent final replies
 all_sent old mid new replies final p empty idle sent =
     let whole : replies ≡ p.passed ++ mid.gathered = ap (λ (w : List ℕ). w ++ replies) (sym empty) ∙ p.gathers in
     let rest = subst (λ (o : Option (List ℕ)). Appends o final new.gathered) idle.sent sent in
@@ -161,11 +167,13 @@ all_sent old mid new replies final p empty idle sent =
     subst (λ (w : List ℕ). Appends old.sent final w) (sym whole) (appends_then old.sent mid.sent final p.passed mid.gathered p.appends rest')
 
 -- the writer took a front of what was left of them
-pub cut_sent : (old mid : Place) (replies : List ℕ) (final : Option (List ℕ)) (written : ℕ) → Passes old replies mid → old.gathered ≡ [] → old.written ≡ 0 → IsCut mid.sent final mid.gathered mid.written (Write written)
+pub cut_sent : (old mid : Place) (replies : List ℕ) (final : Option (List ℕ)) (written : ℕ) → Passes old replies mid → old.gathered ≡ [] →
+    old.written ≡ 0 → IsCut mid.sent final mid.gathered mid.written (Write written)
     → IsTaken old.sent final replies written
 cut_sent old mid replies final written p empty zero cut =
     let whole : replies ≡ p.passed ++ mid.gathered = ap (λ (w : List ℕ). w ++ replies) (sym empty) ∙ p.gathers in
-    let front : take (length p.passed + cut.count) replies ≡ p.passed ++ take cut.count mid.gathered = ap (λ (w : List ℕ). take (length p.passed + cut.count) w) whole ∙ take-append-add p.passed mid.gathered cut.count in
+    let front : take (length p.passed + cut.count) replies ≡ p.passed ++ take cut.count mid.gathered =
+    ap (λ (w : List ℕ). take (length p.passed + cut.count) w) whole ∙ take-append-add p.passed mid.gathered cut.count in
     record {
       count = length p.passed + cut.count;
       within = omega (arith, cut.within, ap (λ (w : List ℕ). length w) whole, length-append p.passed mid.gathered);
@@ -194,19 +202,22 @@ unfolding longest_line
 short_line line h = h
 
 -- a call was answered
-pub one_more : (script : Script) (hive new : View) (line : Line) (call : Call) (reply : List ℕ) → line ≡ Calls call → IsSaid (asks call) (stand_of script hive) reply (stand_of script new) → IsOneMore (said line) (stand_of script hive) new
+pub one_more : (script : Script) (hive new : View) (line : Line) (call : Call) (reply : List ℕ) → line ≡ Calls call →
+    IsSaid (asks call) (stand_of script hive) reply (stand_of script new) → IsOneMore (said line) (stand_of script hive) new
 one_more script hive new line call reply is h =
     subst (λ (l : Line). IsOneMore (said l) (stand_of script hive) new) (sym is) (record { reply = reply; next = stand_of script new; said = h; hive = refl })
 
 -- no memory for the reply to the line that was begun
-pub halts_lost : (old new : Place) (b : ℕ) (fault : ScriptFault) → IsSteady old → fault ≡ Memory → new.gathered ≡ old.gathered → new.sent ≡ old.sent → new.written ≡ old.written → ((new.stand.hive ≡ old.stand.hive) ⊎ IsOneMore (meaning_of old.begun) old.stand new.stand.hive)
+pub halts_lost : (old new : Place) (b : ℕ) (fault : ScriptFault) → IsSteady old → fault ≡ Memory → new.gathered ≡ old.gathered →
+    new.sent ≡ old.sent → new.written ≡ old.written → ((new.stand.hive ≡ old.stand.hive) ⊎ IsOneMore (meaning_of old.begun) old.stand new.stand.hive)
     → Halts old (b ∷ []) new fault
 halts_lost old new b fault steady is gathered sent written reached =
     subst (λ (f : ScriptFault). Halts old (b ∷ []) new f) (sym is)
     (halts_here old new (b ∷ []) Memory steady (record { gathered = gathered; sent = sent; written = written }, reply_lost old.begun (b ∷ []) old.stand old.stand.hive new.stand.hive refl reached))
 
 -- the replies were gathered, and the writer took a front of them
-pub halts_cut : (old new : Place) (b : ℕ) (reply text : List ℕ) (before : ℕ) (fault : ScriptFault) → b ≡ 10 → IsSteady old → old.lines < most_lines → IsSaid (meaning_of old.begun) old.stand reply new.stand → text ≡ old.gathered ++ reply → before ≡ old.written
+pub halts_cut : (old new : Place) (b : ℕ) (reply text : List ℕ) (before : ℕ) (fault : ScriptFault) → b ≡ 10 → IsSteady old → old.lines < most_lines →
+    IsSaid (meaning_of old.begun) old.stand reply new.stand → text ≡ old.gathered ++ reply → before ≡ old.written
     → IsCut old.sent new.sent text before fault → Halts old (b ∷ []) new fault
 halts_cut old new b reply text before fault is steady fewer said adds same cut =
     let here = subst (λ (n : ℕ). IsCut old.sent new.sent text n fault) same cut in
@@ -224,7 +235,8 @@ unfolding most_lines
 one_more_line lines sum new fewer e same = omega (arith, fewer, e, same)
 
 -- no memory for the reply to the last line
-pub halts_last : (old now new : Place) (bytes : List ℕ) (fault : ScriptFault) → Takes old bytes now → fault ≡ Memory → new.gathered ≡ now.gathered → new.sent ≡ now.sent → new.written ≡ now.written → ((new.stand.hive ≡ now.stand.hive) ⊎ IsOneMore (meaning_of now.begun) now.stand new.stand.hive)
+pub halts_last : (old now new : Place) (bytes : List ℕ) (fault : ScriptFault) → Takes old bytes now → fault ≡ Memory → new.gathered ≡ now.gathered →
+    new.sent ≡ now.sent → new.written ≡ now.written → ((new.stand.hive ≡ now.stand.hive) ⊎ IsOneMore (meaning_of now.begun) now.stand new.stand.hive)
     → Halts old bytes new fault
 halts_last old now new bytes fault h is gathered sent written reached =
     subst (λ (f : ScriptFault). Halts old bytes new f) (sym is)

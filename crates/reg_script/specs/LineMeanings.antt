@@ -6,7 +6,8 @@ use Rattle.reg_model.specs.declared.call.Call.TheVariants.{Change, Query}
 use Rattle.reg_model.specs.declared.call.Change.TheVariants.{OpenRoot, OpenKey, CreateKey, SetValue, DeleteValue, DeleteKey, Close}
 use Rattle.reg_model.specs.declared.call.Query.TheVariants.{QueryValue, EnumKey, EnumValue, QueryInfo}
 use Rattle.reg_script.specs.declared.line.Verb.{Verb}
-use Rattle.reg_script.specs.declared.line.Verb.TheVariants.{At, As, Hive, Root, Open, Create, Set, DelValue, DelKey, Close as CloseVerb, Query as QueryVerb, EnumKey as EnumKeyVerb, EnumValue as EnumValueVerb, Info}
+use Rattle.reg_script.specs.declared.line.Verb.TheVariants.{At, As, Hive, Root, Open, Create, Set, DelValue, DelKey, Close as CloseVerb}
+use Rattle.reg_script.specs.declared.line.Verb.TheVariants.{Query as QueryVerb, EnumKey as EnumKeyVerb, EnumValue as EnumValueVerb, Info}
 use Rattle.reg_script.specs.LineWords.{words_of, number_of, name_of, data_of}
 
 -- what a line means: nothing, a setting for the lines after it, a call, or `bad`
@@ -78,7 +79,10 @@ by_verb Open =
 by_verb Create =
     reading long_number_of (λ handle. reading name_of (λ path. reading small_number_of (λ mask. ending (asks (Change (CreateKey handle path mask))))))
 by_verb Set =
-    reading long_number_of (λ handle. reading name_of (λ name. reading small_number_of (λ kind. reading data_of (λ bytes. ending (asks (Change (SetValue handle name kind bytes)))))))
+    reading long_number_of
+    (λ handle. reading name_of
+    (λ name. reading small_number_of
+    (λ kind. reading data_of (λ bytes. ending (asks (Change (SetValue handle name kind bytes)))))))
 by_verb DelValue = reading long_number_of (λ handle. reading name_of (λ name. ending (asks (Change (DeleteValue handle name)))))
 by_verb DelKey = reading long_number_of (λ handle. reading name_of (λ path. ending (asks (Change (DeleteKey handle path)))))
 by_verb CloseVerb = reading long_number_of (λ handle. ending (asks (Change (Close handle))))
@@ -87,7 +91,10 @@ by_verb QueryVerb =
 by_verb EnumKeyVerb =
     reading long_number_of (λ handle. reading small_number_of (λ index. reading small_number_of (λ room. ending (asks (Query (EnumKey handle index room))))))
 by_verb EnumValueVerb =
-    reading long_number_of (λ handle. reading small_number_of (λ index. reading small_number_of (λ name_room. reading room_of (λ room. ending (asks (Query (EnumValue handle index name_room room)))))))
+    reading long_number_of
+    (λ handle. reading small_number_of
+    (λ index. reading small_number_of
+    (λ name_room. reading room_of (λ room. ending (asks (Query (EnumValue handle index name_room room)))))))
 by_verb Info = reading long_number_of (λ handle. ending (asks (Query (QueryInfo handle))))
 
 -- a line means nothing where it is empty or a comment, and is bad where its words mean nothing

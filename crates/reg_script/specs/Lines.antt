@@ -27,7 +27,8 @@ IsSaid (as_session session) old text new = IsSilent (record old { session = sess
 IsSaid on_hive old text new = IsSilent old text new
 IsSaid bad old text new = (text ≡ codes "bad\n") × (new ≡ old)
 IsSaid (asks call) old text new =
-    (outcome : Outcome) × IsStep old.hive (record { session = old.session; moment = old.moment; call = call }) outcome new.hive × (text ≡ outcome_text call outcome) × (new ≡ record old { hive = new.hive })
+    (outcome : Outcome) × IsStep old.hive (record { session = old.session; moment = old.moment; call = call }) outcome new.hive ×
+    (text ≡ outcome_text call outcome) × (new ≡ record old { hive = new.hive })
 
 -- lines after one another, and their replies in one text
 abbrev pub AreSaid : List (List ℕ) → Stand → List ℕ → Stand → Type 0

@@ -1,7 +1,8 @@
 ghost use Rattle.std.specs.Prelude.{◌≡◌, ◌++◌, string_bytes, OnOk, codes};
 ghost use Rattle.std.specs.Fmt.{decimal};
 ghost use Rattle.reg_model.specs.declared.call.Call.TheVariants.{Query as Asks};
-ghost use Rattle.reg_script.specs.ReplyTexts.{changed_text, answer_text, short_text, name_text, value_text, asks_key, data_text, byte_text, escaped as escaped_text, line_feed, is_plain as is_plain_byte};
+ghost use Rattle.reg_script.specs.ReplyTexts.{changed_text, answer_text, short_text, name_text, value_text, asks_key, data_text, byte_text};
+ghost use Rattle.reg_script.specs.ReplyTexts.{escaped as escaped_text, line_feed, is_plain as is_plain_byte};
 
 use reg_model::{Answer, AnswerBody, Bytes, ChangeReply, Query};
 use std::alloc::{AllocError, Global};

@@ -1,6 +1,7 @@
 -- A key with all that is its own, as it is read (Suhanov, Windows registry file format specification, "Key node", "Key value",
 -- "Big data", "Subkeys list").
-use Rattle.std.specs.Prelude.{ℕ, zero, suc, ◌+◌, ◌*◌, ◌==◌, nat_le, not, Bool, true, false, Option, Some, None, List, [], ◌∷◌, ◌++◌, flat_map, length, take, bit_and}
+use Rattle.std.specs.Prelude.{ℕ, zero, suc, ◌+◌, ◌*◌, ◌==◌, nat_le, not, Bool, true, false, Option, Some, None, List, [], ◌∷◌, ◌++◌, flat_map, length}
+use Rattle.std.specs.Prelude.{take, bit_and}
 use Rattle.std.specs.Option.{option_map, option_and_then}
 use Rattle.std.specs.List.{concat}
 use Rattle.std.specs.Result.{result_ok}

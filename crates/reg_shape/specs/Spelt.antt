@@ -23,7 +23,15 @@ name_of key = letters (not (bit_and key.fields.flags 32 == 0)) key.name
 -- a key as it is told, with its security's descriptor
 abbrev pub rec_of : Node → List ℕ → Rec
 rec_of node descriptor =
-    record { name = name_of node.key; marks = marks_of node.key.fields.flags; class = node.class; descriptor = descriptor; time = node.key.fields.time; values = node.values }
+    record {
+      name = name_of node.key;
+      marks = marks_of node.key.fields.flags;
+      class = node.class;
+      descriptor = descriptor;
+      time =
+          node.key.fields.time;
+      values = node.values;
+    }
 
 abbrev pub rec_in : Heap → Node → Option Rec
 rec_in heap node = option_map (λ (s : KeySecurityRecord). rec_of node s.descriptor) (security_at heap node.key.fields.security)

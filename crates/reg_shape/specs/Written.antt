@@ -1,7 +1,8 @@
 -- Records as this project writes them (Suhanov, Windows registry file format specification, "Key node", "Subkeys list",
 -- "Key value", "Big data", "Key security"). What a key holds of its subkeys and values is exact; the four largest lengths are
 -- raised where needed and never lowered.
-use Rattle.std.specs.Prelude.{◌≡◌, ◌≢◌, ℕ, ◌*◌, ◌<◌, ◌≤◌, ◌%◌, ◌==◌, if◌then◌else◌, true, false, Some, List, [], ◌∷◌, map, length, drop, replicate, ◌-◌, bit_and, ⊤}
+use Rattle.std.specs.Prelude.{◌≡◌, ◌≢◌, ℕ, ◌*◌, ◌<◌, ◌≤◌, ◌%◌, ◌==◌, if◌then◌else◌, true, false, Some, List, [], ◌∷◌, map, length, drop, replicate}
+use Rattle.std.specs.Prelude.{◌-◌, bit_and, ⊤}
 use Rattle.std.specs.List.{AllByRecursion}
 use Rattle.std.specs.Ordering.{nat_cmp}
 use Rattle.std.specs.declared.cmp.Ordering.TheVariants.{Less}
@@ -48,7 +49,8 @@ IsWrittenIndex (Rooted place lists) = (2 ≤ length lists) × AllByRecursion IsW
 pub record IsWrittenData (heap : Heap) (value : ValueFields) : Type 0 where
   pub inline : is_inline value.size ≡ true → drop (inline_size value.size) (little_bytes 4 value.place) ≡ replicate (4 - inline_size value.size) 0
   pub far : is_inline value.size ≡ false → 4 < value.size
-  pub big : is_inline value.size ≡ false → segment_size < value.size → (big : BigData) × (db_of (held heap value.place) ≡ Some big) × (big.count ≡ segments_for value.size)
+  pub big : is_inline value.size ≡ false → segment_size < value.size →
+      (big : BigData) × (db_of (held heap value.place) ≡ Some big) × (big.count ≡ segments_for value.size)
 
 -- a value's record; its flag says that it has a name
 pub record IsWrittenValue (heap : Heap) (offset : ℕ) : Type 0 where

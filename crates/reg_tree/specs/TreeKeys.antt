@@ -23,7 +23,8 @@ coded_bins = code_by (List ℕ × List ℕ) (coded× coded_bytes coded_bytes) (�
 
 abbrev pub coded_keys : Coded Keys
 coded_keys =
-    code_by (Bins × (ℕ × Tree)) (coded× coded_bins (coded× coded_ℕ coded_tree)) (λ k. (k.bins, (k.root, k.tree))) (λ p. record { bins = p.0; root = p.1.0; tree = p.1.1 }) (λ _. refl)
+    code_by (Bins × (ℕ × Tree)) (coded× coded_bins (coded× coded_ℕ coded_tree)) (λ k. (k.bins, (k.root, k.tree)))
+    (λ p. record { bins = p.0; root = p.1.0; tree = p.1.1 }) (λ _. refl)
 
 -- the tree that the records in some bytes spell, with as much fuel as there are cells
 unfoldable pub tree_in : List ℕ → ℕ → Tree

@@ -1,7 +1,8 @@
 //! Keys made.
 //!
 //! Win32 registry reference, `RegCreateKeyEx`.
-ghost use Rattle.std.specs.Prelude.{◌≡◌, ◌≢◌, ◌↔◌, ◌⊎◌, ◌≤◌, ◌<◌, ◌+◌, ◌-◌, ◌++◌, ◌∷◌, [], true, false, ℕ, List, Some, Err, IfOk, IfErr, OnErr, length, drop, get_or};
+ghost use Rattle.std.specs.Prelude.{◌≡◌, ◌≢◌, ◌↔◌, ◌⊎◌, ◌≤◌, ◌<◌, ◌+◌, ◌-◌, ◌++◌, ◌∷◌, [], true, false, ℕ, List, Some, Err, IfOk, IfErr, OnErr};
+ghost use Rattle.std.specs.Prelude.{length, drop, get_or};
 ghost use Rattle.reg_names.specs.Names.{is_key_name, is_path, path_of};
 ghost use Rattle.reg_heap.specs.Paths.{children_of};
 ghost use Rattle.reg_heap.specs.Edits.{missing, are_too_many};

@@ -1,4 +1,5 @@
-ghost use Rattle.std.specs.Prelude.{true, ◌≡◌, ◌↔◌, ◌⊎◌, ◌≢◌, ◌≤◌, ◌<◌, ◌+◌, ◌++◌, ℕ, List, [], length, Err, Some, None, OnOk, OnErr, IfOk, IfErr, IsSome, IfSome, MatchOption, slice_get, get_or};
+ghost use Rattle.std.specs.Prelude.{true, ◌≡◌, ◌↔◌, ◌⊎◌, ◌≢◌, ◌≤◌, ◌<◌, ◌+◌, ◌++◌, ℕ, List, [], length, Err, Some, None, OnOk, OnErr, IfOk, IfErr};
+ghost use Rattle.std.specs.Prelude.{IsSome, IfSome, MatchOption, slice_get, get_or};
 ghost use Rattle.std.specs.FinMap.{insert, empty, get};
 ghost use Rattle.reg_names.specs.Names.{is_key_name, is_value_name, is_path, path_of};
 ghost use Rattle.reg_heap.specs.Paths.{Path, path_cmp, Rec, Member, children_of};

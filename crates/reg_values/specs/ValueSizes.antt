@@ -1,6 +1,7 @@
 -- The cells that a set of a value takes (Suhanov, Windows registry file format specification, "Cell", "Key values list",
 -- "Key value", "Big data").
-use Rattle.std.specs.Prelude.{ℕ, zero, suc, ◌+◌, ◌-◌, ◌*◌, ◌/◌, ◌==◌, ◌&&◌, nat_lt, nat_le, not, min, Bool, if◌then◌else◌, Option, Some, None, List, [], ◌∷◌, ◌++◌, length}
+use Rattle.std.specs.Prelude.{ℕ, zero, suc, ◌+◌, ◌-◌, ◌*◌, ◌/◌, ◌==◌, ◌&&◌, nat_lt, nat_le, not, min, Bool, if◌then◌else◌, Option, Some, None, List}
+use Rattle.std.specs.Prelude.{[], ◌∷◌, ◌++◌, length}
 use Rattle.std.specs.Option.{option_and_then}
 use Rattle.reg_heap.specs.Members.{place_named}
 use Rattle.reg_heap.specs.Internal.Heaps.{Heap}

@@ -6,7 +6,8 @@ ghost use Rattle.std.specs.Prelude.{◌≡◌, true, ◌≤◌, ◌<◌, ◌+◌
 ghost use Rattle.reg_names.specs.Names.{is_value_name};
 ghost use Rattle.reg_arena.specs.Cells.{cell_at};
 ghost use Rattle.reg_values.specs.ValueLists.{AreValues};
-ghost use Rattle.reg_values.specs.ValueSizes.{cell_size as cell_size_of, data_sizes, segment_sizes, list_sizes, has_room as has_room_of, stays as stays_of, sizes_by, set_sizes};
+ghost use Rattle.reg_values.specs.ValueSizes.{cell_size as cell_size_of, data_sizes, segment_sizes, list_sizes, has_room as has_room_of};
+ghost use Rattle.reg_values.specs.ValueSizes.{stays as stays_of, sizes_by, set_sizes};
 
 use crate::big::segments_for;
 use crate::look::{cell_of, find, record_at};

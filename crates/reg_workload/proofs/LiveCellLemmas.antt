@@ -33,9 +33,11 @@ one-true false h = absurd (omega arith)
 
 module _ (bytes live chosen : List ℕ) (every : AreLive bytes live chosen) where
   -- a live cell was taken out of its list, and noted as chosen where there was memory for it
-  pub live-chosen : (rest more : List ℕ) (i cell : ℕ) (noted : Bool) → i < length live → cell ≡ get_or live i cell → rest ≡ swap_remove live i cell → more ≡ cond noted (chosen ++ cell ∷ []) chosen → AreLive bytes rest more
+  pub live-chosen : (rest more : List ℕ) (i cell : ℕ) (noted : Bool) → i < length live → cell ≡ get_or live i cell → rest ≡ swap_remove live i cell →
+      more ≡ cond noted (chosen ++ cell ∷ []) chosen → AreLive bytes rest more
   live-chosen rest more i cell noted l e r m offset =
-      let removed : times offset rest + is_at offset cell ≡ times offset live = subst (λ k. times offset rest + is_at offset k ≡ times offset live) (sym e) (rw r (times-removed offset live i cell l)) in
+      let removed : times offset rest + is_at offset cell ≡ times offset live = subst (λ k. times offset rest + is_at offset k ≡ times offset live)
+      (sym e) (rw r (times-removed offset live i cell l)) in
       let few : times offset more ≤ times offset chosen + is_at offset cell = rw m (few-by noted) in
       omega (arith, every offset)
     where
@@ -63,14 +65,18 @@ module _ (bytes live chosen : List ℕ) (every : AreLive bytes live chosen) wher
       omega (arith, every offset, come.come.count offset)
 
 -- a carve of one cell, whatever it answered
-pub live-carve : (old new : Bins) (live chosen more : List ℕ) (size : ℕ) (result : Result (Unit {0}) ArenaFault) → AreLive old.bytes live chosen → OnOk result (0 < length (size ∷ []) → (offsets : List ℕ) × (more ≡ live ++ offsets) × CarvesExactly old.bytes new.bytes (size ∷ []) offsets × AddsCells old.bytes new.bytes (size ∷ []) offsets) → OnErr result ((new ≡ old) × (more ≡ live)) → AreLive new.bytes more chosen
+pub live-carve : (old new : Bins) (live chosen more : List ℕ) (size : ℕ) (result : Result (Unit {0}) ArenaFault) → AreLive old.bytes live chosen →
+    OnOk result (0 < length (size ∷ []) → (offsets : List ℕ) × (more ≡ live ++ offsets) × CarvesExactly old.bytes new.bytes (size ∷ []) offsets ×
+    AddsCells old.bytes new.bytes (size ∷ []) offsets) → OnErr result ((new ≡ old) × (more ≡ live)) → AreLive new.bytes more chosen
 live-carve old new live chosen more size (Ok x) every ok err =
     let added = ok (omega arith) in
     live-carved old.bytes live chosen every new.bytes added.0 more (size ∷ []) added.1 added.3.are_new
 live-carve old new live chosen more size (Err e) every ok err = rw (err.0, err.1) every
 
 -- one cell more is live then
-pub live-longer : (old new : List ℕ) (live more : List ℕ) (size : ℕ) (result : Result (Unit {0}) ArenaFault) → OnOk result (0 < length (size ∷ []) → (offsets : List ℕ) × (more ≡ live ++ offsets) × CarvesExactly old new (size ∷ []) offsets × AddsCells old new (size ∷ []) offsets) → OnOk result (length more ≡ length live + 1)
+pub live-longer : (old new : List ℕ) (live more : List ℕ) (size : ℕ) (result : Result (Unit {0}) ArenaFault) →
+    OnOk result (0 < length (size ∷ []) → (offsets : List ℕ) × (more ≡ live ++ offsets) × CarvesExactly old new (size ∷ []) offsets ×
+    AddsCells old new (size ∷ []) offsets) → OnOk result (length more ≡ length live + 1)
 live-longer old new live more size (Ok x) ok =
     let added = ok (omega arith) in
     let one : length added.0 ≡ 1 = added.3.are_new.as_many in

@@ -5,7 +5,8 @@ use Rattle.reg_model.specs.declared.call.Call.TheVariants.{Change as Changes, Qu
 use Rattle.reg_model.specs.declared.call.Change.TheVariants.{OpenKey, CreateKey, SetValue, DeleteValue as DropsValue, DeleteKey as DropsKey, Close as Closes}
 use Rattle.reg_model.specs.declared.call.Query.TheVariants.{QueryValue, EnumKey as ListsKey, EnumValue as ListsValue, QueryInfo}
 use Rattle.reg_workload.specs.declared.operations.Operation.{Operation}
-use Rattle.reg_workload.specs.declared.operations.Operation.TheVariants.{Open, CreateOld, CreateNew, Query, Set, EnumKey, EnumValue, Info, DeleteValue, DeleteKey, Close}
+use Rattle.reg_workload.specs.declared.operations.Operation.TheVariants.{Open, CreateOld, CreateNew, Query, Set, EnumKey, EnumValue, Info}
+use Rattle.reg_workload.specs.declared.operations.Operation.TheVariants.{DeleteValue, DeleteKey, Close}
 
 -- the call of each operation: `Old` is the subkey that is there, `New` the one that is made, and `v` the value
 abbrev pub call_of : Operation → ℕ → Call

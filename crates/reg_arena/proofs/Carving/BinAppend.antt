@@ -1,5 +1,6 @@
 -- A bin more at the end.
-use Rattle.std.proofs.Common.{◌≡◌, ℕ, suc, ◌+◌, ◌-◌, ◌<◌, ◌≤◌, ◌%◌, List, [], ◌∷◌, ◌++◌, length, get_or, take, drop, replicate, refl, sym, ap, ◌∙◌, subst, arith, append_assoc, length-append, length-take, length-drop, Option, Some, None, inl}
+use Rattle.std.proofs.Common.{◌≡◌, ℕ, suc, ◌+◌, ◌-◌, ◌<◌, ◌≤◌, ◌%◌, List, [], ◌∷◌, ◌++◌, length, get_or, take, drop, replicate, refl, sym, ap, ◌∙◌, subst, arith, append_assoc, length-append}
+use Rattle.std.proofs.Common.{length-take, length-drop, Option, Some, None, inl}
 use Rattle.std.proofs.lemmas.List.{get_or_append_left, ext_get_or, get_or-take, get_or-drop}
 use Rattle.std.specs.List.{AllByRecursion}
 use Rattle.reg_heap.specs.ByteWords.{word}
@@ -71,7 +72,8 @@ apart-last (x ∷ xs) n size a h = (join xs h.0, apart-last xs n size a.1 h.1)
     join (z ∷ zs) b = (b.0, join zs b.1)
 
 -- each cell ends within the bytes
-pub ends-from : (old : List ℕ) (layout : List Bin) → AreBins old 0 layout → (P : Cell → Type 0) → ((c : Cell) → IsCell old (length old) c → P c) → (xs ys : List Cell) → cells_in layout ≡ xs ++ ys → AllByRecursion P ys
+pub ends-from : (old : List ℕ) (layout : List Bin) → AreBins old 0 layout → (P : Cell → Type 0) → ((c : Cell) → IsCell old (length old) c → P c) →
+    (xs ys : List Cell) → cells_in layout ≡ xs ++ ys → AllByRecursion P ys
 ends-from old layout h P f xs [] e = tt
 ends-from old layout h P f xs (c ∷ ys) e = (f c (stands old layout xs c ys h e).cell, ends-from old layout h P f (xs ++ c ∷ []) ys (e ∙ sym (append_assoc xs (c ∷ []) ys)))
 
@@ -81,9 +83,11 @@ piece-extends {old = old} {new = new} s n p l =
     let one : length (take n (drop p new)) ≡ n = simp (length-take, length-drop) (omega arith) in
     let two : length (take n (drop p old)) ≡ n = simp (length-take, length-drop) (omega arith) in
     ext_get_or 0 (take n (drop p new)) (take n (drop p old)) (one ∙ sym two)
-    (λ k h. (let lt : k < n = omega arith in get_or-take n (drop p new) k 0 lt ∙ get_or-drop p new k 0 ∙ s.below (p + k) (omega arith) ∙ sym (get_or-take n (drop p old) k 0 lt ∙ get_or-drop p old k 0)))
+    (λ k h. (let lt : k < n = omega arith in get_or-take n (drop p new) k 0 lt ∙ get_or-drop p new k 0 ∙ s.below (p + k) (omega arith) ∙
+    sym (get_or-take n (drop p old) k 0 lt ∙ get_or-drop p old k 0)))
 
-content-extends : {old new : List ℕ} → Extends old new → (cells : List Cell) (offset : ℕ) → AllByRecursion (λ (c : Cell). IsCell old (length old) c) cells → content_in new cells offset ≡ content_in old cells offset
+content-extends : {old new : List ℕ} → Extends old new → (cells : List Cell) (offset : ℕ) →
+    AllByRecursion (λ (c : Cell). IsCell old (length old) c) cells → content_in new cells offset ≡ content_in old cells offset
 content-extends s [] offset h = refl
 content-extends s (c ∷ cells) offset h =
     let e = IsCell-eight h.0 in
@@ -109,7 +113,8 @@ pub record Grown (old new : List ℕ) (head count at total : ℕ) : Type 0 where
   pub appends : AppendsBin old new total
   pub fit : IsFit new total (chain (count + 1) new (at + 32)) 4294967295 (at + 32)
 
-pub grown : (old : List ℕ) (head count size total : ℕ) → IsArena old (head ∷ []) (count ∷ []) → IsBinSize size total → 0 < total → length old + size ≤ 268435456 → head < 4294967296 → Grown old (old ++ new_bin (length old) size head) head count (length old) total
+pub grown : (old : List ℕ) (head count size total : ℕ) → IsArena old (head ∷ []) (count ∷ []) → IsBinSize size total → 0 < total →
+    length old + size ≤ 268435456 → head < 4294967296 → Grown old (old ++ new_bin (length old) size head) head count (length old) total
 grown old head count size total a least some room small =
     let start : ℕ = length old in
     let new : List ℕ = old ++ new_bin start size head in
@@ -124,7 +129,14 @@ grown old head count size total a least some room small =
     let cells = cells_in a.layout in
     let one = one_list old head count a in
     let end : at + n ≡ start + size = omega arith in
-    let cell : IsCell new (start + size) (unused at n) = record { size = rw says.free (free-size n (omega arith)); allocated = rw says.free (free-flag n (omega arith)); positive = omega arith; eights = size-eights size least.pages; within = omega arith } in
+    let cell : IsCell new (start + size) (unused at n) = record {
+      size = rw says.free (free-size n (omega arith));
+      allocated =
+          rw says.free (free-flag n (omega arith));
+      positive = omega arith;
+      eights = size-eights size least.pages;
+      within = omega arith;
+    } in
     let last : AreBins new start (bin ∷ []) = (refl, header, (refl, cell, end), sym long) in
     let tiled : AreBins new 0 (a.layout ++ bin ∷ []) = AreBins-extends s 0 a.layout (bin ∷ []) a.tiled last in
     let cells' : cells_in (a.layout ++ bin ∷ []) ≡ cells ++ unused at n ∷ [] = cells_in-append a.layout (bin ∷ []) in
@@ -136,14 +148,17 @@ grown old head count size total a least some room small =
     omega (arith, st.cell.within, st.cell.positive, st.cell.eights, f.offset_is)) in
     let rest : Follows new (word new (at + 4)) one.offsets = rw says.next (Follows-extends s one.offsets head inside one.free.follows) in
     let exact : (o : ℕ) → times o (at ∷ one.offsets) ≡ times o (free_of one_class 0 (cells_in (a.layout ++ bin ∷ []))) = λ o.
-    let e : times o (free_of one_class 0 (cells_in (a.layout ++ bin ∷ []))) ≡ times o (free_of one_class 0 cells) + times o (at ∷ []) = ap (λ cs. times o (free_of one_class 0 cs)) cells' ∙ ap (times o) (free_of-append one_class 0 cells (unused at n ∷ [])) ∙ times-append o (free_of one_class 0 cells) _ in
+    let e : times o (free_of one_class 0 (cells_in (a.layout ++ bin ∷ []))) ≡ times o (free_of one_class 0 cells) + times o (at ∷ []) =
+    ap (λ cs. times o (free_of one_class 0 cs)) cells' ∙ ap (times o) (free_of-append one_class 0 cells (unused at n ∷ [])) ∙
+    times-append o (free_of one_class 0 cells) _ in
     omega (arith, e, one.free.exact o) in
     let counted : length (at ∷ one.offsets) ≡ count + 1 = omega (arith, one.counted) in
     let follows : Follows new at (at ∷ one.offsets) = (refl, rest) in
     let before : chain count old head ≡ one.offsets = subst (λ (k : ℕ). chain k old head ≡ one.offsets) one.counted (Follows-chain old one.offsets head one.free.follows) in
     record {
       chained = subst (λ (k : ℕ). chain k new at ≡ at ∷ one.offsets) counted (Follows-chain new (at ∷ one.offsets) at follows) ∙ ap (λ (t : List ℕ). at ∷ t) (sym before);
-      arena = IsArena-one new at (count + 1) (a.layout ++ bin ∷ []) (at ∷ one.offsets) tiled (record { follows = (refl, rest); exact = exact }) (subst AreApart (sym cells') (apart-last cells at n ends a.free.apart)) counted (omega (arith, a.few.0)) (omega arith);
+      arena = IsArena-one new at (count + 1) (a.layout ++ bin ∷ []) (at ∷ one.offsets) tiled (record { follows = (refl, rest); exact = exact })
+          (subst AreApart (sym cells') (apart-last cells at n ends a.free.apart)) counted (omega (arith, a.few.0)) (omega arith);
       appends = record {
         size = size;
         link = head;
@@ -167,7 +182,9 @@ grown old head count size total a least some room small =
     }
 
 -- what the writes of a new bin leave
-pub added : (old long b2 b3 : List ℕ) (head count at size total : ℕ) → IsArena old (head ∷ []) (count ∷ []) → IsBinSize size total → 0 < total → at ≡ length old → length old + size ≤ 268435456 → head < 4294967296 → long ≡ old ++ replicate size 0 → b2 ≡ headed at size long → b3 ≡ freed (at + 32) (size - 32) head b2 → Grown old b3 head count at total
+pub added : (old long b2 b3 : List ℕ) (head count at size total : ℕ) → IsArena old (head ∷ []) (count ∷ []) → IsBinSize size total → 0 < total →
+    at ≡ length old → length old + size ≤ 268435456 → head < 4294967296 → long ≡ old ++ replicate size 0 → b2 ≡ headed at size long →
+    b3 ≡ freed (at + 32) (size - 32) head b2 → Grown old b3 head count at total
 added old long b2 b3 head count at size total a least some start room small e f g =
     let wide : 40 ≤ size = omega (arith, least.pages, least.holds) in
     let all : b3 ≡ old ++ new_bin at size head = g ∙ ap (freed (at + 32) (size - 32) head) (f ∙ ap (headed at size) e) ∙ appended old at size head start wide in

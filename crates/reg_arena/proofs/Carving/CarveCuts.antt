@@ -1,5 +1,6 @@
 -- Allocated cells cut side by side.
-use Rattle.std.proofs.Common.{◌≡◌, ℕ, ◌+◌, ◌-◌, ◌<◌, ◌≤◌, ◌%◌, Bool, true, false, cond, inl, List, [], ◌∷◌, ◌++◌, length, get_or, take, drop, replicate, refl, sym, ap, ◌∙◌, arith, Option, Some, None, ◌&&◌, eqb, add_assoc}
+use Rattle.std.proofs.Common.{◌≡◌, ℕ, ◌+◌, ◌-◌, ◌<◌, ◌≤◌, ◌%◌, Bool, true, false, cond, inl, List, [], ◌∷◌, ◌++◌, length, get_or, take, drop, replicate, refl, sym, ap, ◌∙◌, arith, Option}
+use Rattle.std.proofs.Common.{Some, None, ◌&&◌, eqb, add_assoc}
 use Rattle.std.proofs.lemmas.List.{take_at, take_more, take-append-drop, length-replicate}
 use Rattle.std.proofs.lemmas.Bool.{le-ltb, le-leb}
 use Rattle.std.specs.List.{AllByRecursion}
@@ -22,7 +23,8 @@ one-size at size xs e f = omega (arith, length-replicate {A = ℕ} (size - 4) 0)
 
 pub one-region : (at size : ℕ) (xs : List ℕ) → 8 ≤ size → at + size ≤ length xs → SameOutside at (at + size) xs (one_cell at size xs)
 one-region at size xs e f =
-    let a : SameOutside at (at + size) xs (splice at (little_bytes 4 (4294967295 - size + 1)) xs) = same-splice at at (at + size) (little_bytes 4 (4294967295 - size + 1)) xs (omega arith) (omega arith) f in
+    let a : SameOutside at (at + size) xs (splice at (little_bytes 4 (4294967295 - size + 1)) xs) =
+    same-splice at at (at + size) (little_bytes 4 (4294967295 - size + 1)) xs (omega arith) (omega arith) f in
     same-trans a (same-splice (at + 4) at (at + size) (replicate (size - 4) 0) _ (omega arith) (one-size at size xs e f) (omega (arith, a.long)))
 
 field-size : (size : ℕ) → 0 < size → size ≤ 268435456 → size_in (4294967295 - size + 1) ≡ size
@@ -34,7 +36,8 @@ field-allocated size a b = le-leb 2147483648 (4294967295 - size + 1) (omega arit
 pub one-is : (at size : ℕ) (xs : List ℕ) → 0 < size → size % 8 ≡ 0 → at + size ≤ length xs → length xs ≤ 268435456 → IsCell (one_cell at size xs) (at + size) (used at size)
 one-is at size xs a b f small =
     let long = length-splice at (little_bytes 4 (4294967295 - size + 1)) xs (omega arith) in
-    let s : SameOutside (at + 4) (at + size) (splice at (little_bytes 4 (4294967295 - size + 1)) xs) (one_cell at size xs) = same-splice (at + 4) (at + 4) (at + size) (replicate (size - 4) 0) _ (omega arith) (one-size at size xs (omega arith) f) (omega arith) in
+    let s : SameOutside (at + 4) (at + size) (splice at (little_bytes 4 (4294967295 - size + 1)) xs) (one_cell at size xs) =
+    same-splice (at + 4) (at + 4) (at + size) (replicate (size - 4) 0) _ (omega arith) (one-size at size xs (omega arith) f) (omega arith) in
     let w : word (one_cell at size xs) at ≡ 4294967295 - size + 1 = word-same_below s at (omega arith) ∙ word-splice at (4294967295 - size + 1) xs (omega arith) (omega arith) in
     record {
       size = rw w (field-size size a (omega arith));
@@ -47,7 +50,8 @@ one-is at size xs a b f small =
 pub one-zero : (at size : ℕ) (xs : List ℕ) → 8 ≤ size → at + size ≤ length xs → take (size - 4) (drop (at + 4) (one_cell at size xs)) ≡ replicate (size - 4) 0
 one-zero at size xs e f =
     let long = length-splice at (little_bytes 4 (4294967295 - size + 1)) xs (omega arith) in
-    rw (drop-splice (at + 4) (replicate (size - 4) 0) (splice at (little_bytes 4 (4294967295 - size + 1)) xs) (omega arith)) (take_at (replicate (size - 4) 0) _ (size - 4) (length-replicate (size - 4) 0))
+    rw (drop-splice (at + 4) (replicate (size - 4) 0) (splice at (little_bytes 4 (4294967295 - size + 1)) xs) (omega arith))
+    (take_at (replicate (size - 4) 0) _ (size - 4) (length-replicate (size - 4) 0))
 
 -- ---- one more
 
@@ -91,13 +95,16 @@ last-by : (b : Bool) (x v : List ℕ) → x ≡ v → cond (b && true) (Some x) 
 last-by true x v e = ap Some e
 last-by false x v e = refl
 
-pub cut-more : (old now new : List ℕ) (cell : ℕ) (ss : List ℕ) (s at : ℕ) → at ≡ cell + total_of ss → CutTo old now cell ss → SameOutside at (at + s) now new → IsCell new (at + s) (used at s) → take (s - 4) (drop (at + 4) new) ≡ replicate (s - 4) 0 → CutTo old new cell (ss ++ s ∷ [])
+pub cut-more : (old now new : List ℕ) (cell : ℕ) (ss : List ℕ) (s at : ℕ) → at ≡ cell + total_of ss → CutTo old now cell ss →
+    SameOutside at (at + s) now new → IsCell new (at + s) (used at s) → take (s - 4) (drop (at + 4) new) ≡ replicate (s - 4) 0 →
+    CutTo old new cell (ss ++ s ∷ [])
 cut-more old now new cell ss s at e h region c z =
     let total : total_of (ss ++ s ∷ []) ≡ total_of ss + s = omega (arith, total_of-append ss (s ∷ [])) in
     let end : cell + total_of (ss ++ s ∷ []) ≡ at + s = omega arith in
     let under : Tiles now cell at (carved cell ss) = rw e h.tiles in
     let one : Tiles new at (at + s) (used at s ∷ []) = (refl, c, refl) in
-    let all : Tiles new cell (at + s) (carved cell ss ++ used at s ∷ []) = Tiles-append new cell at (at + s) (carved cell ss) (used at s ∷ []) (Tiles-same_below region cell at (carved cell ss) (omega arith) under) one in
+    let all : Tiles new cell (at + s) (carved cell ss ++ used at s ∷ []) = Tiles-append new cell at (at + s) (carved cell ss) (used at s ∷ [])
+    (Tiles-same_below region cell at (carved cell ss) (omega arith) under) one in
     let push : carved cell (ss ++ s ∷ []) ≡ carved cell ss ++ used at s ∷ [] = rw e (carved-push cell ss s) in
     record {
       region = rw end (same-trans (wider (omega arith) h.region) (lower (omega arith) region));

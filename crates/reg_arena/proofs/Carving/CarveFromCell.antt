@@ -20,7 +20,8 @@ pub record OneList (bytes : List ℕ) (head count : ℕ) (cells : List Cell) : T
   pub free : IsFreeList one_class 0 bytes head cells offsets
   pub counted : length offsets ≡ count
 
-one_list-by : (bytes : List ℕ) (head count : ℕ) (cells : List Cell) (lists : List (List ℕ)) → AreLists one_class 0 bytes (head ∷ []) cells lists → map length lists ≡ count ∷ [] → OneList bytes head count cells
+one_list-by : (bytes : List ℕ) (head count : ℕ) (cells : List Cell) (lists : List (List ℕ)) → AreLists one_class 0 bytes (head ∷ []) cells lists →
+    map length lists ≡ count ∷ [] → OneList bytes head count cells
 one_list-by bytes head count cells [] h c = absurd h
 one_list-by bytes head count cells (os ∷ []) h c = record { offsets = os; free = h.0; counted = cc }
 one_list-by bytes head count cells (os ∷ (ps ∷ more)) h c = absurd h.1
@@ -28,7 +29,9 @@ one_list-by bytes head count cells (os ∷ (ps ∷ more)) h c = absurd h.1
 pub one_list : (bytes : List ℕ) (head count : ℕ) (a : IsArena bytes (head ∷ []) (count ∷ [])) → OneList bytes head count (cells_in a.layout)
 one_list bytes head count a = one_list-by bytes head count (cells_in a.layout) a.lists a.free.each a.counted
 
-pub IsArena-one : (bytes : List ℕ) (head count : ℕ) (layout : List Bin) (offsets : List ℕ) → AreBins bytes 0 layout → IsFreeList one_class 0 bytes head (cells_in layout) offsets → AreApart (cells_in layout) → length offsets ≡ count → count ≤ length bytes → length bytes ≤ 268435456 → IsArena bytes (head ∷ []) (count ∷ [])
+pub IsArena-one : (bytes : List ℕ) (head count : ℕ) (layout : List Bin) (offsets : List ℕ) → AreBins bytes 0 layout →
+    IsFreeList one_class 0 bytes head (cells_in layout) offsets → AreApart (cells_in layout) → length offsets ≡ count → count ≤ length bytes →
+    length bytes ≤ 268435456 → IsArena bytes (head ∷ []) (count ∷ [])
 IsArena-one bytes head count layout offsets tiled free apart counted few small = record {
   layout = layout;
   tiled = tiled;
@@ -52,7 +55,8 @@ cells_in-middle (p ∷ ps) b qs = ap (λ t. p.cells ++ t) (cells_in-middle ps b 
 regroup : (a u m v q : List Cell) → a ++ ((u ++ (m ++ v)) ++ q) ≡ (a ++ u) ++ (m ++ (v ++ q))
 regroup a u m v q = simp append_assoc
 
-pub cells_in-edit : (layout : List Bin) (xs : List Cell) (c : Cell) (ys mid : List Cell) (p : Placed layout xs c ys) → cells_in (p.ps ++ with_cells p.b (p.us ++ (mid ++ p.vs)) ∷ p.qs) ≡ xs ++ (mid ++ ys)
+pub cells_in-edit : (layout : List Bin) (xs : List Cell) (c : Cell) (ys mid : List Cell) (p : Placed layout xs c ys) →
+    cells_in (p.ps ++ with_cells p.b (p.us ++ (mid ++ p.vs)) ∷ p.qs) ≡ xs ++ (mid ++ ys)
 cells_in-edit layout xs c ys mid p =
     cells_in-middle p.ps (with_cells p.b (p.us ++ (mid ++ p.vs))) p.qs ∙ regroup (cells_in p.ps) p.us mid p.vs (cells_in p.qs)
     ∙ ap (λ (t : List Cell). t ++ (mid ++ (p.vs ++ cells_in p.qs))) (sym p.before) ∙ ap (λ (t : List Cell). xs ++ (mid ++ t)) (sym p.after)
@@ -104,7 +108,9 @@ apart-rest at (suc n) c ys u e h = (same-end ys h.0, h.1)
     same-end [] a = tt
     same-end (z ∷ zs) a = ((λ (t : Touch (unused at (suc n)) z). a.0 (record { first = u; second = t.second; ends = sym e ∙ t.ends })), same-end zs a.1)
 
-pub apart-edit : (from : ℕ) (xs : List Cell) (c : Cell) (ys : List Cell) (ss : List ℕ) (n : ℕ) → AreOrdered from (xs ++ c ∷ ys) → c.allocated ≡ false → 0 < total_of ss → (c.offset + total_of ss) + n ≡ c.offset + c.size → AreApart (xs ++ c ∷ ys) → AreApart (xs ++ ((carved c.offset ss ++ rest_of (c.offset + total_of ss) n) ++ ys))
+pub apart-edit : (from : ℕ) (xs : List Cell) (c : Cell) (ys : List Cell) (ss : List ℕ) (n : ℕ) → AreOrdered from (xs ++ c ∷ ys) →
+    c.allocated ≡ false → 0 < total_of ss → (c.offset + total_of ss) + n ≡ c.offset + c.size → AreApart (xs ++ c ∷ ys) →
+    AreApart (xs ++ ((carved c.offset ss ++ rest_of (c.offset + total_of ss) n) ++ ys))
 apart-edit from [] c ys ss n o u l e h =
     rw append_assoc (apart-carved c.offset ss _ (apart-rest (c.offset + total_of ss) n c ys u e h))
 apart-edit from (x ∷ xs) c ys ss n o u l e h =
@@ -115,6 +121,8 @@ apart-edit from (x ∷ xs) c ys ss n o u l e h =
     join P [] bs a b = b
     join P (z ∷ ms) bs a b = (a.0, join P ms bs a.1 b)
 
-    swap-all : (zs : List Cell) → AllByRecursion (λ y. Touch x y → ⊥) (zs ++ c ∷ ys) → AllByRecursion (λ y. Touch x y → ⊥) (carved c.offset ss) → AllByRecursion (λ y. Touch x y → ⊥) (rest_of (c.offset + total_of ss) n) → AllByRecursion (λ y. Touch x y → ⊥) (zs ++ ((carved c.offset ss ++ rest_of (c.offset + total_of ss) n) ++ ys))
+    swap-all : (zs : List Cell) → AllByRecursion (λ y. Touch x y → ⊥) (zs ++ c ∷ ys) → AllByRecursion (λ y. Touch x y → ⊥) (carved c.offset ss) →
+        AllByRecursion (λ y. Touch x y → ⊥) (rest_of (c.offset + total_of ss) n) →
+        AllByRecursion (λ y. Touch x y → ⊥) (zs ++ ((carved c.offset ss ++ rest_of (c.offset + total_of ss) n) ++ ys))
     swap-all [] a p q = join _ (carved c.offset ss ++ rest_of (c.offset + total_of ss) n) ys (join _ (carved c.offset ss) _ p q) a.1
     swap-all (z ∷ zs) a p q = (a.0, swap-all zs a.1 p q)

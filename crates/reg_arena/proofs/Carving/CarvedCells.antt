@@ -1,5 +1,6 @@
 -- The cells that a carve adds, as callers count them.
-use Rattle.std.proofs.Common.{◌≡◌, ℕ, zero, suc, ◌+◌, ◌-◌, ◌<◌, ◌≤◌, Bool, true, false, cond, List, [], ◌∷◌, length, get_or, replicate, refl, sym, ap, ◌∙◌, subst, arith, eqb, Option, Some, None, is_some}
+use Rattle.std.proofs.Common.{◌≡◌, ℕ, zero, suc, ◌+◌, ◌-◌, ◌<◌, ◌≤◌, Bool, true, false, cond, List, [], ◌∷◌, length, get_or, replicate, refl, sym, ap, ◌∙◌, subst, arith, eqb, Option, Some}
+use Rattle.std.proofs.Common.{None, is_some}
 use Rattle.std.proofs.lemmas.Bool.{eqb-true, eq-eqb}
 use Rattle.reg_heap.specs.Internal.Kinds.{times}
 use Rattle.reg_heap.specs.Internal.Heaps.{Heap, AreNew}
@@ -14,17 +15,22 @@ length-offsets at [] = refl
 length-offsets at (s ∷ ss) = ap suc (length-offsets (at + s) ss)
 
 -- a new cell's offset occurs once among the offsets, and no other
-times-offsets-by : (at s : ℕ) (ss : List ℕ) (offset : ℕ) (b c : Bool) → 0 < s → eqb at offset ≡ b → is_some (zeroed (at + s) ss offset) ≡ c → (is_some (zeroed (at + s) ss offset) ≡ true → at + s ≤ offset) → times offset (offsets_of (at + s) ss) ≡ cond (is_some (zeroed (at + s) ss offset)) 1 0 → cond b 1 0 + times offset (offsets_of (at + s) ss) ≡ cond (is_some (cond b (Some (replicate (s - 4) 0)) (zeroed (at + s) ss offset))) 1 0
+times-offsets-by : (at s : ℕ) (ss : List ℕ) (offset : ℕ) (b c : Bool) → 0 < s → eqb at offset ≡ b → is_some (zeroed (at + s) ss offset) ≡ c →
+    (is_some (zeroed (at + s) ss offset) ≡ true → at + s ≤ offset) →
+    times offset (offsets_of (at + s) ss) ≡ cond (is_some (zeroed (at + s) ss offset)) 1 0 →
+    cond b 1 0 + times offset (offsets_of (at + s) ss) ≡ cond (is_some (cond b (Some (replicate (s - 4) 0)) (zeroed (at + s) ss offset))) 1 0
 times-offsets-by at s ss offset true true p e f within rest = (let same = eqb-true at offset e in let w = within f in absurd (omega arith))
 times-offsets-by at s ss offset true false p e f within rest = let none : times offset (offsets_of (at + s) ss) ≡ 0 = rest ∙ rw f refl in rw none refl
 times-offsets-by at s ss offset false c p e f within rest = omega (arith, rest)
 
 pub times-offsets : (at : ℕ) (ss : List ℕ) (offset : ℕ) → AreSizes ss → times offset (offsets_of at ss) ≡ cond (is_some (zeroed at ss offset)) 1 0
 times-offsets at [] offset a = refl
-times-offsets at (s ∷ ss) offset a = times-offsets-by at s ss offset (eqb at offset) (is_some (zeroed (at + s) ss offset)) a.0.0 refl refl (λ h. (zeroed-within (at + s) ss offset a.1 h).0) (times-offsets (at + s) ss offset a.1)
+times-offsets at (s ∷ ss) offset a = times-offsets-by at s ss offset (eqb at offset) (is_some (zeroed (at + s) ss offset)) a.0.0 refl refl
+    (λ h. (zeroed-within (at + s) ss offset a.1 h).0) (times-offsets (at + s) ss offset a.1)
 
 -- each offset's cell holds as many zeros as its size asks for
-later-zeros : (at s : ℕ) (ss : List ℕ) (offset : ℕ) (content : List ℕ) (b : Bool) → 0 < s → AreSizes ss → eqb at offset ≡ b → zeroed (at + s) ss offset ≡ Some content → cond b (Some (replicate (s - 4) 0)) (zeroed (at + s) ss offset) ≡ Some content
+later-zeros : (at s : ℕ) (ss : List ℕ) (offset : ℕ) (content : List ℕ) (b : Bool) → 0 < s → AreSizes ss → eqb at offset ≡ b →
+    zeroed (at + s) ss offset ≡ Some content → cond b (Some (replicate (s - 4) 0)) (zeroed (at + s) ss offset) ≡ Some content
 later-zeros at s ss offset content true p a e f = (let same = eqb-true at offset e in let w = zeroed-within (at + s) ss offset a (ap is_some f) in absurd (omega (arith, same, w.0, p)))
 later-zeros at s ss offset content false p a e f = f
 
@@ -43,7 +49,8 @@ same-by : (z new old : Option (List ℕ)) (n : ℕ) → new ≡ or_else z old �
 same-by None new old n e t none = e
 same-by (Some x) new old n e t none = absurd (omega (arith, t, none))
 
-pub are_new : (old new : Heap) (at : ℕ) (ss : List ℕ) → AreSizes ss → ((offset : ℕ) → new offset ≡ or_else (zeroed at ss offset) (old offset)) → ((offset : ℕ) → is_some (zeroed at ss offset) ≡ true → old offset ≡ None) → AreNew old new (offsets_of at ss) ss
+pub are_new : (old new : Heap) (at : ℕ) (ss : List ℕ) → AreSizes ss → ((offset : ℕ) → new offset ≡ or_else (zeroed at ss offset) (old offset)) →
+    ((offset : ℕ) → is_some (zeroed at ss offset) ≡ true → old offset ≡ None) → AreNew old new (offsets_of at ss) ss
 are_new old new at ss a contents fresh = record {
   as_many = length-offsets at ss;
   come = record {

@@ -17,7 +17,8 @@ word-behind a rest at n e l = rw (drop_at a (little_bytes 4 n ++ rest) at e) (li
 fill : (a p : List ℕ) (at m n : ℕ) → length a ≡ at → length p + n ≡ m → splice at p (a ++ replicate m 0) ≡ (a ++ p) ++ replicate n 0
 unfolding splice
 fill a p at m n e f =
-    let zeros : a ++ replicate m 0 ≡ (a ++ replicate (length p) 0) ++ replicate n 0 = rw (← f, ← replicate-append-replicate {A = ℕ} (length p) n 0) (sym (append_assoc a (replicate (length p) 0) (replicate n 0))) in
+    let zeros : a ++ replicate m 0 ≡ (a ++ replicate (length p) 0) ++ replicate n 0 = rw (← f, ← replicate-append-replicate {A = ℕ} (length p) n 0)
+    (sym (append_assoc a (replicate (length p) 0) (replicate n 0))) in
     let long : length (a ++ replicate (length p) 0) ≡ at + length p = omega (arith, length-append a (replicate (length p) 0), length-replicate {A = ℕ} (length p) 0) in
     let front : take at (a ++ replicate m 0) ≡ a = take_at a (replicate m 0) at e in
     let back : drop (at + length p) (a ++ replicate m 0) ≡ replicate n 0 = ap (drop (at + length p)) zeros ∙ drop_at (a ++ replicate (length p) 0) (replicate n 0) (at + length p) long in

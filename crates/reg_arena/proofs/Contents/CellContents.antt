@@ -1,5 +1,6 @@
 -- What the cells hold, after an edit of some of them.
-use Rattle.std.proofs.Common.{◌≡◌, ℕ, ◌+◌, ◌-◌, ◌<◌, ◌≤◌, min, Bool, true, false, cond, ◌⊎◌, inl, inr, List, [], ◌∷◌, ◌++◌, length, get_or, take, drop, refl, sym, ◌∙◌, arith, Some, ◌&&◌, eqb, length-take, length-drop}
+use Rattle.std.proofs.Common.{◌≡◌, ℕ, ◌+◌, ◌-◌, ◌<◌, ◌≤◌, min, Bool, true, false, cond, ◌⊎◌, inl, inr, List, [], ◌∷◌, ◌++◌, length, get_or, take, drop, refl, sym, ◌∙◌, arith, Some, ◌&&◌}
+use Rattle.std.proofs.Common.{eqb, length-take, length-drop}
 use Rattle.std.proofs.lemmas.List.{get_or-take, get_or-drop, ext_get_or}
 use Rattle.std.specs.List.{AllByRecursion}
 use Rattle.reg_heap.specs.ByteWords.{SameOutside}
@@ -12,7 +13,10 @@ pub content_in-append : (bytes : List ℕ) (xs ys : List Cell) (offset : ℕ) �
 content_in-append bytes [] ys offset = refl
 content_in-append bytes (c ∷ xs) ys offset = content_in-append-by bytes (eqb c.offset offset && c.allocated) c xs ys offset (content_in-append bytes xs ys offset)
   where
-    content_in-append-by : (bytes : List ℕ) (b : Bool) (c : Cell) (xs ys : List Cell) (offset : ℕ) → content_in bytes (xs ++ ys) offset ≡ or_else (content_in bytes xs offset) (content_in bytes ys offset) → cond b (Some (take (c.size - 4) (drop (c.offset + 4) bytes))) (content_in bytes (xs ++ ys) offset) ≡ or_else (cond b (Some (take (c.size - 4) (drop (c.offset + 4) bytes))) (content_in bytes xs offset)) (content_in bytes ys offset)
+    content_in-append-by : (bytes : List ℕ) (b : Bool) (c : Cell) (xs ys : List Cell) (offset : ℕ) →
+        content_in bytes (xs ++ ys) offset ≡ or_else (content_in bytes xs offset) (content_in bytes ys offset) →
+        cond b (Some (take (c.size - 4) (drop (c.offset + 4) bytes))) (content_in bytes (xs ++ ys) offset) ≡ or_else
+        (cond b (Some (take (c.size - 4) (drop (c.offset + 4) bytes))) (content_in bytes xs offset)) (content_in bytes ys offset)
     content_in-append-by bytes true c xs ys offset h = refl
     content_in-append-by bytes false c xs ys offset h = h
 
@@ -29,11 +33,13 @@ piece-same n p xs ys e f =
 abbrev pub IsBeside : ℕ → ℕ → Cell → Type 0
 IsBeside lo hi c = (8 ≤ c.size) × ((c.offset + c.size ≤ lo) ⊎ (hi ≤ c.offset))
 
-pub piece-beside : {lo hi : ℕ} {old new : List ℕ} → SameOutside lo hi old new → (c : Cell) → IsBeside lo hi c → take (c.size - 4) (drop (c.offset + 4) new) ≡ take (c.size - 4) (drop (c.offset + 4) old)
+pub piece-beside : {lo hi : ℕ} {old new : List ℕ} → SameOutside lo hi old new → (c : Cell) → IsBeside lo hi c →
+    take (c.size - 4) (drop (c.offset + 4) new) ≡ take (c.size - 4) (drop (c.offset + 4) old)
 piece-beside {lo = lo} {hi = hi} {old = old} {new = new} s c (e, inl b) = piece-same (c.size - 4) (c.offset + 4) new old s.long (λ k l m. s.below k (omega arith))
 piece-beside {lo = lo} {hi = hi} {old = old} {new = new} s c (e, inr b) = piece-same (c.size - 4) (c.offset + 4) new old s.long (λ k l m. s.above k (omega arith))
 
-pub content_in-beside : {lo hi : ℕ} {old new : List ℕ} → SameOutside lo hi old new → (cells : List Cell) (offset : ℕ) → AllByRecursion (IsBeside lo hi) cells → content_in new cells offset ≡ content_in old cells offset
+pub content_in-beside : {lo hi : ℕ} {old new : List ℕ} → SameOutside lo hi old new → (cells : List Cell) (offset : ℕ) →
+    AllByRecursion (IsBeside lo hi) cells → content_in new cells offset ≡ content_in old cells offset
 content_in-beside s [] offset h = refl
 content_in-beside s (c ∷ cells) offset h = rw (piece-beside s c h.0, content_in-beside s cells offset h.1) refl
 

@@ -21,7 +21,9 @@ part-of xs p m k n a b =
     sums p k i = omega arith
 
 -- so many bytes of what a cell holds
-pub part : (old heads counts : List ℕ) (source from len : ℕ) → IsArena old heads counts → is_some (cell_at old source) ≡ true → from + len ≤ length (unwrap_or (cell_at old source) []) → take len (drop from (unwrap_or (cell_at old source) [])) ≡ take len (drop (source + 4 + from) old)
+pub part : (old heads counts : List ℕ) (source from len : ℕ) → IsArena old heads counts → is_some (cell_at old source) ≡ true →
+    from + len ≤ length (unwrap_or (cell_at old source) []) →
+    take len (drop from (unwrap_or (cell_at old source) [])) ≡ take len (drop (source + 4 + from) old)
 part old heads counts source from len a h l =
     let f = found old heads counts source a h in
     let size : ℕ = size_in (word old source) in
@@ -33,7 +35,10 @@ length-part : (xs : List ℕ) (k n : ℕ) → k + n ≤ length xs → length (ta
 length-part xs k n l = simp (length-take, length-drop) (omega arith)
 
 -- what copying leaves
-pub copied : (old new heads counts : List ℕ) (source from cell at len : ℕ) → IsArena old heads counts → is_some (cell_at old source) ≡ true → is_some (cell_at old cell) ≡ true → from + len ≤ length (unwrap_or (cell_at old source) []) → at + len ≤ length (unwrap_or (cell_at old cell) []) → new ≡ splice (cell + 4 + at) (take len (drop (source + 4 + from) old)) old → Wrote old new heads counts cell at (take len (drop from (unwrap_or (cell_at old source) [])))
+pub copied : (old new heads counts : List ℕ) (source from cell at len : ℕ) → IsArena old heads counts → is_some (cell_at old source) ≡ true →
+    is_some (cell_at old cell) ≡ true → from + len ≤ length (unwrap_or (cell_at old source) []) → at + len ≤ length (unwrap_or (cell_at old cell) []) →
+    new ≡ splice (cell + 4 + at) (take len (drop (source + 4 + from) old)) old →
+    Wrote old new heads counts cell at (take len (drop from (unwrap_or (cell_at old source) [])))
 copied old new heads counts source from cell at len a h g l m e =
     let piece : List ℕ = take len (drop from (unwrap_or (cell_at old source) [])) in
     let same : piece ≡ take len (drop (source + 4 + from) old) = part old heads counts source from len a h l in

@@ -1,5 +1,6 @@
 -- A write into one allocated cell.
-use Rattle.std.proofs.Common.{◌≡◌, ℕ, suc, ◌+◌, ◌-◌, ◌<◌, ◌≤◌, true, false, cond, ◌⊎◌, inl, inr, List, [], ◌∷◌, ◌++◌, length, get_or, take, drop, refl, sym, ap, ◌∙◌, subst, arith, Option, Some, None, eqb, is_some, unwrap_or, length-take, length-drop}
+use Rattle.std.proofs.Common.{◌≡◌, ℕ, suc, ◌+◌, ◌-◌, ◌<◌, ◌≤◌, true, false, cond, ◌⊎◌, inl, inr, List, [], ◌∷◌, ◌++◌, length, get_or, take, drop, refl, sym, ap, ◌∙◌, subst, arith, Option}
+use Rattle.std.proofs.Common.{Some, None, eqb, is_some, unwrap_or, length-take, length-drop}
 use Rattle.std.proofs.lemmas.List.{ext_get_or, get_or-take, get_or-drop}
 use Rattle.std.proofs.lemmas.Bool.{cases_eq, cases_lt, eq-eqb, ne_eqb}
 use Rattle.std.specs.List.{AllByRecursion}
@@ -23,7 +24,8 @@ pub record Found (bytes : List ℕ) (offset : ℕ) : Type 0 where
   pub within : offset + size_in (word bytes offset) ≤ length bytes
   pub content : cell_at bytes offset ≡ Some (take (size_in (word bytes offset) - 4) (drop (offset + 4) bytes))
 
-found-by : (bytes : List ℕ) (offset : ℕ) (c : Cell) → c.offset ≡ offset → IsCell bytes (length bytes) c → cell_at bytes offset ≡ Some (take (c.size - 4) (drop (c.offset + 4) bytes)) → Found bytes offset
+found-by : (bytes : List ℕ) (offset : ℕ) (c : Cell) → c.offset ≡ offset → IsCell bytes (length bytes) c →
+    cell_at bytes offset ≡ Some (take (c.size - 4) (drop (c.offset + 4) bytes)) → Found bytes offset
 found-by bytes offset c e cell content =
     let size : size_in (word bytes offset) ≡ c.size = subst (λ (k : ℕ). size_in (word bytes k) ≡ c.size) e cell.size in
     record {
@@ -58,18 +60,23 @@ piece-splice n p at piece old a b =
     ext_get_or 0 _ _ (part' ∙ sym (long' ∙ part))
     (λ k h.
     let lt : k < n = omega arith in
-    get_or-take n (drop p (splice (p + at) piece old)) k 0 lt ∙ get_or-drop p (splice (p + at) piece old) k 0 ∙ piece-at n p at piece old k a b lt part (cases_lt k at) (cases_lt k (at + length piece)))
+    get_or-take n (drop p (splice (p + at) piece old)) k 0 lt ∙ get_or-drop p (splice (p + at) piece old) k 0 ∙
+    piece-at n p at piece old k a b lt part (cases_lt k at) (cases_lt k (at + length piece)))
   where
-    piece-at : (n p at : ℕ) (piece old : List ℕ) (k : ℕ) → at + length piece ≤ n → p + n ≤ length old → k < n → length (take n (drop p old)) ≡ n → (k < at) ⊎ (at ≤ k) → (k < at + length piece) ⊎ (at + length piece ≤ k) → get_or (splice (p + at) piece old) (p + k) 0 ≡ get_or (splice at piece (take n (drop p old))) k 0
+    piece-at : (n p at : ℕ) (piece old : List ℕ) (k : ℕ) → at + length piece ≤ n → p + n ≤ length old → k < n → length (take n (drop p old)) ≡ n →
+        (k < at) ⊎ (at ≤ k) → (k < at + length piece) ⊎ (at + length piece ≤ k) →
+        get_or (splice (p + at) piece old) (p + k) 0 ≡ get_or (splice at piece (take n (drop p old))) k 0
     piece-at n p at piece old k a b lt e (inl x) y =
-        get_or-splice_below (p + at) piece old (p + k) (omega arith) (omega arith) ∙ sym (get_or-splice_below at piece (take n (drop p old)) k (omega arith) x ∙ get_or-take n (drop p old) k 0 lt ∙ get_or-drop p old k 0)
+        get_or-splice_below (p + at) piece old (p + k) (omega arith) (omega arith) ∙
+        sym (get_or-splice_below at piece (take n (drop p old)) k (omega arith) x ∙ get_or-take n (drop p old) k 0 lt ∙ get_or-drop p old k 0)
     piece-at n p at piece old k a b lt e (inr x) (inl y) =
         let i : p + k ≡ p + at + (k - at) = omega arith in
         let j : k ≡ at + (k - at) = omega arith in
         ap (λ (z : ℕ). get_or (splice (p + at) piece old) z 0) i ∙ get_or-splice_in (p + at) piece old (k - at) (omega arith) (omega arith)
         ∙ sym (ap (λ (z : ℕ). get_or (splice at piece (take n (drop p old))) z 0) j ∙ get_or-splice_in at piece (take n (drop p old)) (k - at) (omega arith) (omega arith))
     piece-at n p at piece old k a b lt e (inr x) (inr y) =
-        get_or-splice_above (p + at) piece old (p + k) (omega arith) (omega arith) ∙ sym (get_or-splice_above at piece (take n (drop p old)) k (omega arith) y ∙ get_or-take n (drop p old) k 0 lt ∙ get_or-drop p old k 0)
+        get_or-splice_above (p + at) piece old (p + k) (omega arith) (omega arith) ∙
+        sym (get_or-splice_above at piece (take n (drop p old)) k (omega arith) y ∙ get_or-take n (drop p old) k 0 lt ∙ get_or-drop p old k 0)
 
 -- ---- the write
 
@@ -92,7 +99,9 @@ all-at P [] x ys h = h.0
 all-at P (z ∷ xs) x ys h = all-at P xs x ys h.1
 
 -- an edit of bytes that no free cell's link is among, the cells staying what they are
-pub IsFreeList-same : {lo hi : ℕ} {old new : List ℕ} → SameOutside lo hi old new → (class_of : ℕ → ℕ) (class head : ℕ) (cells : List Cell) (offsets : List ℕ) → AllByRecursion (λ (d : Cell). d.allocated ≡ false → IsClear lo hi d.offset) cells → IsFreeList class_of class old head cells offsets → IsFreeList class_of class new head cells offsets
+pub IsFreeList-same : {lo hi : ℕ} {old new : List ℕ} → SameOutside lo hi old new →
+    (class_of : ℕ → ℕ) (class head : ℕ) (cells : List Cell) (offsets : List ℕ) → AllByRecursion (λ (d : Cell). d.allocated ≡ false →
+    IsClear lo hi d.offset) cells → IsFreeList class_of class old head cells offsets → IsFreeList class_of class new head cells offsets
 IsFreeList-same {lo = lo} {hi = hi} s class_of class head cells offsets clear h =
     let every = free_of-all (IsClear lo hi) class_of class cells clear in
     record {
@@ -100,7 +109,9 @@ IsFreeList-same {lo = lo} {hi = hi} s class_of class head cells offsets clear h 
       exact = h.exact;
     }
 
-pub AreLists-same : {lo hi : ℕ} {old new : List ℕ} → SameOutside lo hi old new → (class_of : ℕ → ℕ) (cells : List Cell) → AllByRecursion (λ (d : Cell). d.allocated ≡ false → IsClear lo hi d.offset) cells → (heads : List ℕ) (lists : List (List ℕ)) (class : ℕ) → AreLists class_of class old heads cells lists → AreLists class_of class new heads cells lists
+pub AreLists-same : {lo hi : ℕ} {old new : List ℕ} → SameOutside lo hi old new → (class_of : ℕ → ℕ) (cells : List Cell) →
+    AllByRecursion (λ (d : Cell). d.allocated ≡ false → IsClear lo hi d.offset) cells → (heads : List ℕ) (lists : List (List ℕ)) (class : ℕ) →
+    AreLists class_of class old heads cells lists → AreLists class_of class new heads cells lists
 AreLists-same s class_of cells clear [] [] class h = tt
 AreLists-same s class_of cells clear [] (os ∷ lists) class h = h
 AreLists-same s class_of cells clear (head ∷ heads) [] class h = h
@@ -116,7 +127,11 @@ pub record Wrote (old new heads counts : List ℕ) (cell at : ℕ) (piece : List
   pub contents : (offset : ℕ) → cell_at new offset ≡ cond (eqb offset cell) (Some (splice at piece (unwrap_or (cell_at old cell) []))) (cell_at old offset)
   pub writes : Writes (cell_at old) (cell_at new) (cell ∷ [])
 
-contents-by : (old new : List ℕ) (xs : List Cell) (c : Cell) (ys : List Cell) (value : List ℕ) (offset : ℕ) → c.allocated ≡ true → take (c.size - 4) (drop (c.offset + 4) new) ≡ value → content_in new xs offset ≡ content_in old xs offset → content_in new ys offset ≡ content_in old ys offset → (offset ≡ c.offset → content_in new xs offset ≡ None) → (offset ≡ c.offset) ⊎ (offset ≡ c.offset → ⊥) → content_in new (xs ++ c ∷ ys) offset ≡ cond (eqb offset c.offset) (Some value) (content_in old (xs ++ c ∷ ys) offset)
+contents-by : (old new : List ℕ) (xs : List Cell) (c : Cell) (ys : List Cell) (value : List ℕ) (offset : ℕ) → c.allocated ≡ true →
+    take (c.size - 4) (drop (c.offset + 4) new) ≡ value → content_in new xs offset ≡ content_in old xs offset →
+    content_in new ys offset ≡ content_in old ys offset → (offset ≡ c.offset → content_in new xs offset ≡ None) →
+    (offset ≡ c.offset) ⊎ (offset ≡ c.offset → ⊥) → content_in new (xs ++ c ∷ ys) offset ≡ cond (eqb offset c.offset) (Some value)
+    (content_in old (xs ++ c ∷ ys) offset)
 contents-by old new xs c ys value offset a v x y n (inl e) =
     let same : eqb offset c.offset ≡ true = eq-eqb _ _ e in
     let same' : eqb c.offset offset ≡ true = eq-eqb _ _ (sym e) in
@@ -127,7 +142,9 @@ contents-by old new xs c ys value offset a v x y n (inr ne) =
     rw (other, content_in-append new xs (c ∷ ys) offset, content_in-append old xs (c ∷ ys) offset, other', x, y) refl
 
 -- the layout stays the same where one cell's size field stays
-pub layout-same : {lo hi : ℕ} {old new : List ℕ} → SameOutside lo hi old new → (layout : List Bin) (xs : List Cell) (c : Cell) (ys : List Cell) → Stands old layout xs c ys → lo ≡ c.offset → hi ≡ c.offset + c.size → word new c.offset ≡ word old c.offset → AreBins old 0 layout → AreBins new 0 layout
+pub layout-same : {lo hi : ℕ} {old new : List ℕ} → SameOutside lo hi old new → (layout : List Bin) (xs : List Cell) (c : Cell) (ys : List Cell) →
+    Stands old layout xs c ys → lo ≡ c.offset → hi ≡ c.offset + c.size → word new c.offset ≡ word old c.offset → AreBins old 0 layout →
+    AreBins new 0 layout
 layout-same {lo = lo} {hi = hi} {old = old} {new = new} s layout xs c ys st e f w h =
     let p = st.place in
     let was : AreBins old 0 (p.ps ++ p.b ∷ p.qs) = rw p.bins at h in
@@ -136,7 +153,9 @@ layout-same {lo = lo} {hi = hi} {old = old} {new = new} s layout xs c ys st e f 
     let same : with_cells p.b (p.us ++ c ∷ p.vs) ≡ p.b = ap (with_cells p.b) (sym p.cells) in
     rw p.bins (subst (λ (b : Bin). AreBins new 0 (p.ps ++ b ∷ p.qs)) same now)
 
-wrote-by : (old heads counts : List ℕ) (at : ℕ) (piece : List ℕ) (a : IsArena old heads counts) (xs : List Cell) (c : Cell) (ys : List Cell) → cells_in a.layout ≡ xs ++ c ∷ ys → c.allocated ≡ true → cell_at old c.offset ≡ Some (take (c.size - 4) (drop (c.offset + 4) old)) → at + length piece ≤ length (unwrap_or (cell_at old c.offset) []) → Wrote old (splice (c.offset + 4 + at) piece old) heads counts c.offset at piece
+wrote-by : (old heads counts : List ℕ) (at : ℕ) (piece : List ℕ) (a : IsArena old heads counts) (xs : List Cell) (c : Cell) (ys : List Cell) →
+    cells_in a.layout ≡ xs ++ c ∷ ys → c.allocated ≡ true → cell_at old c.offset ≡ Some (take (c.size - 4) (drop (c.offset + 4) old)) →
+    at + length piece ≤ length (unwrap_or (cell_at old c.offset) []) → Wrote old (splice (c.offset + 4 + at) piece old) heads counts c.offset at piece
 wrote-by old heads counts at piece a xs c ys e used content fits =
     let new : List ℕ = splice (c.offset + 4 + at) piece old in
     let st = stands old a.layout xs c ys a.tiled e in
@@ -154,12 +173,14 @@ wrote-by old heads counts at piece a xs c ys e used content fits =
     let Clear : Cell → Type 0 = λ d. d.allocated ≡ false → IsClear c.offset (c.offset + c.size) d.offset in
     let own : Clear c = λ f. absurd (cc (f, used)) in
     let clear : AllByRecursion Clear (cells_in a.layout) = subst (AllByRecursion Clear) (sym e) (all-append Clear xs (c ∷ ys) (clear-cells _ _ xs before) (own, clear-cells _ _ ys after)) in
-    let part : take (c.size - 4) (drop (c.offset + 4) new) ≡ splice at piece (unwrap_or (cell_at old c.offset) []) = piece-splice (c.size - 4) (c.offset + 4) at piece old room (omega arith) ∙ ap (splice at piece) (sym value) in
+    let part : take (c.size - 4) (drop (c.offset + 4) new) ≡ splice at piece (unwrap_or (cell_at old c.offset) []) =
+    piece-splice (c.size - 4) (c.offset + 4) at piece old room (omega arith) ∙ ap (splice at piece) (sym value) in
     let contents : (offset : ℕ) → cell_at new offset ≡ cond (eqb offset c.offset) (Some (splice at piece (unwrap_or (cell_at old c.offset) []))) (cell_at old offset) = λ offset.
     cell_at-AreBins new a.layout offset tiled ∙ ap (λ cs. content_in new cs offset) e
     ∙ contents-by old new xs c ys (splice at piece (unwrap_or (cell_at old c.offset) [])) offset used part (content_in-beside s xs offset before) (content_in-beside s ys offset after)
     (λ f. content_in-none c.offset (c.offset + c.size) new xs offset before (omega arith) (omega arith)) (cases_eq offset c.offset)
-    ∙ sym (ap (λ o. cond (eqb offset c.offset) (Some (splice at piece (unwrap_or (cell_at old c.offset) []))) o) (cell_at-AreBins old a.layout offset a.tiled ∙ ap (λ cs. content_in old cs offset) e)) in
+    ∙ sym (ap (λ o. cond (eqb offset c.offset) (Some (splice at piece (unwrap_or (cell_at old c.offset) []))) o)
+    (cell_at-AreBins old a.layout offset a.tiled ∙ ap (λ cs. content_in old cs offset) e)) in
     record {
       arena = record {
         layout = a.layout;
@@ -179,18 +200,22 @@ wrote-by old heads counts at piece a xs c ys e used content fits =
       writes = writes_one (cell_at old) (cell_at new) c.offset _ (ap is_some content) contents;
     }
 
-pub wrote : (old heads counts : List ℕ) (cell at : ℕ) (piece : List ℕ) → IsArena old heads counts → is_some (cell_at old cell) ≡ true → at + length piece ≤ length (unwrap_or (cell_at old cell) []) → Wrote old (splice (cell + 4 + at) piece old) heads counts cell at piece
+pub wrote : (old heads counts : List ℕ) (cell at : ℕ) (piece : List ℕ) → IsArena old heads counts → is_some (cell_at old cell) ≡ true →
+    at + length piece ≤ length (unwrap_or (cell_at old cell) []) → Wrote old (splice (cell + 4 + at) piece old) heads counts cell at piece
 wrote old heads counts cell at piece a h fits =
     let found_at = cell_at-AreBins old a.layout cell a.tiled in
     let some : is_some (content_in old (cells_in a.layout) cell) ≡ true = ap is_some (sym found_at) ∙ h in
     let l = looked old (cells_in a.layout) cell some in
     let content : cell_at old cell ≡ Some (take (l.c.size - 4) (drop (l.c.offset + 4) old)) = found_at ∙ l.content in
-    let Goal : ℕ → Type 0 = λ k. cell_at old k ≡ Some (take (l.c.size - 4) (drop (l.c.offset + 4) old)) → at + length piece ≤ length (unwrap_or (cell_at old k) []) → Wrote old (splice (k + 4 + at) piece old) heads counts k at piece in
+    let Goal : ℕ → Type 0 = λ k. cell_at old k ≡ Some (take (l.c.size - 4) (drop (l.c.offset + 4) old)) →
+    at + length piece ≤ length (unwrap_or (cell_at old k) []) → Wrote old (splice (k + 4 + at) piece old) heads counts k at piece in
     subst Goal l.offset_is (wrote-by old heads counts at piece a l.xs l.c l.ys l.cells_are l.allocated) content fits
 
-pub write_fits : (old heads counts : List ℕ) (cell at n : ℕ) → IsArena old heads counts → is_some (cell_at old cell) ≡ true → at + n ≤ length (unwrap_or (cell_at old cell) []) → cell + 4 + at + n ≤ length old
+pub write_fits : (old heads counts : List ℕ) (cell at n : ℕ) → IsArena old heads counts → is_some (cell_at old cell) ≡ true →
+    at + n ≤ length (unwrap_or (cell_at old cell) []) → cell + 4 + at + n ≤ length old
 write_fits old heads counts cell at n a h fits =
     let f = found old heads counts cell a h in
     let size : ℕ = size_in (word old cell) in
-    let long : length (unwrap_or (cell_at old cell) []) ≡ size - 4 = ap (λ (o : Option (List ℕ)). length (unwrap_or o [])) f.content ∙ simp (length-take, length-drop) (omega (arith, f.within, f.eight)) in
+    let long : length (unwrap_or (cell_at old cell) []) ≡ size - 4 = ap (λ (o : Option (List ℕ)). length (unwrap_or o [])) f.content ∙
+    simp (length-take, length-drop) (omega (arith, f.within, f.eight)) in
     omega (arith, f.within, f.eight)

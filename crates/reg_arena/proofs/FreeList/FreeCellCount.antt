@@ -31,7 +31,8 @@ same-long [] [] h = refl
 same-long [] (y ∷ ys) h = absurd (let l = some-times y ys in omega (arith, h y))
 same-long (x ∷ xs) ys h =
     let p = parted x ys (let l = some-times x xs in omega (arith, h x)) in
-    let rest = same-long xs (p.front ++ p.back) (λ o. (let e : times o ys ≡ times o (p.front ++ x ∷ p.back) = ap (times o) p.split in omega (arith, h o, e, times-append o p.front (x ∷ p.back), times-append o p.front p.back))) in
+    let rest = same-long xs (p.front ++ p.back) (λ o. (let e : times o ys ≡ times o (p.front ++ x ∷ p.back) = ap (times o) p.split in
+    omega (arith, h o, e, times-append o p.front (x ∷ p.back), times-append o p.front p.back))) in
     let long : length ys ≡ length (p.front ++ x ∷ p.back) = ap length p.split in
     omega (arith, rest, long, length-append p.front (x ∷ p.back), length-append p.front p.back)
 
@@ -49,7 +50,9 @@ fit-in at stop [] l o h = omega arith
 fit-in at stop (c ∷ cells) l o h = (let r = fit-in (c.offset + c.size) stop cells h.0 o.2 h.1 in omega (arith, o.0, o.1))
 
 -- a list of the free cells is no longer than the bytes
-pub few-free : (class_of : ℕ → ℕ) (k stop : ℕ) (cells : List Cell) (offsets : List ℕ) → AreOrdered 0 cells → AllByRecursion (λ (c : Cell). c.offset + c.size ≤ stop) cells → ((o : ℕ) → times o offsets ≡ times o (free_of class_of k cells)) → length offsets ≤ stop
+pub few-free : (class_of : ℕ → ℕ) (k stop : ℕ) (cells : List Cell) (offsets : List ℕ) → AreOrdered 0 cells →
+    AllByRecursion (λ (c : Cell). c.offset + c.size ≤ stop) cells → ((o : ℕ) → times o offsets ≡ times o (free_of class_of k cells)) →
+    length offsets ≤ stop
 few-free class_of k stop cells offsets o h exact =
     let same = same-long offsets (free_of class_of k cells) exact in
     let fits = fit-in 0 stop cells (omega arith) o h in

@@ -16,7 +16,8 @@ pub word-clear : {lo hi : ℕ} {old new : List ℕ} → SameOutside lo hi old ne
 word-clear s o (inl b) = word-same_below s (o + 4) (omega arith)
 word-clear s o (inr b) = word-same_above s (o + 4) (omega arith)
 
-pub Follows-same : {lo hi : ℕ} {old new : List ℕ} → SameOutside lo hi old new → (offsets : List ℕ) (head : ℕ) → AllByRecursion (IsClear lo hi) offsets → Follows old head offsets → Follows new head offsets
+pub Follows-same : {lo hi : ℕ} {old new : List ℕ} → SameOutside lo hi old new → (offsets : List ℕ) (head : ℕ) →
+    AllByRecursion (IsClear lo hi) offsets → Follows old head offsets → Follows new head offsets
 Follows-same s [] head a h = h
 Follows-same {old = old} {new = new} s (o ∷ os) head a h =
     (h.0, rw (word-clear s o a.0) (Follows-same s os (word old (o + 4)) a.1 h.1))
@@ -45,11 +46,13 @@ times-all P [] a o h = absurd (omega arith)
 times-all P (f ∷ fs) a o h = times-all-by P f fs a.0 (λ x l. times-all P fs a.1 x l) o (times-cons (eqb f o) f o (times o fs) refl h)
 
 -- what holds of each free cell
-free_of-all-by : (P : ℕ → Type 0) (b : Bool) (c : Cell) (fs : List Cell) → (b ≡ true → P c.offset) → AllByRecursion P (map (λ (d : Cell). d.offset) fs) → AllByRecursion P (map (λ (d : Cell). d.offset) (cond b (c ∷ fs) fs))
+free_of-all-by : (P : ℕ → Type 0) (b : Bool) (c : Cell) (fs : List Cell) → (b ≡ true → P c.offset) →
+    AllByRecursion P (map (λ (d : Cell). d.offset) fs) → AllByRecursion P (map (λ (d : Cell). d.offset) (cond b (c ∷ fs) fs))
 free_of-all-by P true c fs p r = (p refl, r)
 free_of-all-by P false c fs p r = r
 
-pub free_of-all : (P : ℕ → Type 0) (class_of : ℕ → ℕ) (class : ℕ) (cells : List Cell) → AllByRecursion (λ (c : Cell). c.allocated ≡ false → P c.offset) cells → AllByRecursion P (free_of class_of class cells)
+pub free_of-all : (P : ℕ → Type 0) (class_of : ℕ → ℕ) (class : ℕ) (cells : List Cell) → AllByRecursion (λ (c : Cell). c.allocated ≡ false →
+    P c.offset) cells → AllByRecursion P (free_of class_of class cells)
 free_of-all P class_of class [] a = tt
 free_of-all P class_of class (c ∷ cells) a =
     free_of-all-by P (is_free_of class_of class c) c (filter (is_free_of class_of class) cells)

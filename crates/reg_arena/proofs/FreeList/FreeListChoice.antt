@@ -41,10 +41,13 @@ times-free xs c ys u =
     let free : is_free_of one_class 0 c ≡ true = rw u refl in
     let self : eqb c.offset c.offset ≡ true = eq-eqb c.offset c.offset refl in
     let one : 0 < times c.offset (c.offset ∷ free_of one_class 0 ys) = rw self (omega arith) in
-    let e = ap (times c.offset) (free_of-append one_class 0 xs (c ∷ ys) ∙ ap (λ (t : List ℕ). free_of one_class 0 xs ++ t) (free_of-one one_class 0 c ys free)) ∙ times-append c.offset (free_of one_class 0 xs) _ in
+    let e = ap (times c.offset) (free_of-append one_class 0 xs (c ∷ ys) ∙ ap (λ (t : List ℕ). free_of one_class 0 xs ++ t)
+    (free_of-one one_class 0 c ys free)) ∙ times-append c.offset (free_of one_class 0 xs) _ in
     omega (arith, e, one)
 
-no_fit-from : (old : List ℕ) (head count total : ℕ) (a : IsArena old (head ∷ []) (count ∷ [])) → ((o : ℕ) → 0 < times o (free_of one_class 0 (cells_in a.layout)) → size_in (word old o) < total) → (xs ys : List Cell) → cells_in a.layout ≡ xs ++ ys → AllByRecursion (λ (c : Cell). c.allocated ≡ false → c.size < total) ys
+no_fit-from : (old : List ℕ) (head count total : ℕ) (a : IsArena old (head ∷ []) (count ∷ [])) →
+    ((o : ℕ) → 0 < times o (free_of one_class 0 (cells_in a.layout)) → size_in (word old o) < total) → (xs ys : List Cell) →
+    cells_in a.layout ≡ xs ++ ys → AllByRecursion (λ (c : Cell). c.allocated ≡ false → c.size < total) ys
 no_fit-from old head count total a h xs [] e = tt
 no_fit-from old head count total a h xs (c ∷ ys) e =
     let st = stands old a.layout xs c ys a.tiled e in (

@@ -21,7 +21,8 @@ passed-none bins total count head = record { front = []; split = let e : count -
 chain-more : (bins : List ℕ) (n m cell : ℕ) → n ≡ suc m → chain n bins cell ≡ cell ∷ chain m bins (word bins (cell + 4))
 chain-more bins n m cell e = rw e refl
 
-pub passed-more : (bins : List ℕ) (total count head i previous cell next : ℕ) → i < count → next ≡ word bins (cell + 4) → size_in (word bins cell) < total → Passed bins total count head i previous cell → Passed bins total count head (i + 1) cell next
+pub passed-more : (bins : List ℕ) (total count head i previous cell next : ℕ) → i < count → next ≡ word bins (cell + 4) →
+    size_in (word bins cell) < total → Passed bins total count head i previous cell → Passed bins total count head (i + 1) cell next
 passed-more bins total count head i previous cell next l e small h = record {
   front = h.front ++ cell ∷ [];
   split = h.split ∙ ap (λ t. h.front ++ t) (chain-more bins (count - i) (count - (i + 1)) cell (omega arith)) ∙ rw e (sym (append_assoc h.front (cell ∷ []) _));
@@ -30,7 +31,8 @@ passed-more bins total count head i previous cell next l e small h = record {
   small = all-append _ h.front (cell ∷ []) h.small (small, tt);
 }
 
-pub passed-fit : (bins : List ℕ) (total count head i previous cell : ℕ) → i < count → total ≤ size_in (word bins cell) → Passed bins total count head i previous cell → IsFit bins total (chain count bins head) previous cell
+pub passed-fit : (bins : List ℕ) (total count head i previous cell : ℕ) → i < count → total ≤ size_in (word bins cell) →
+    Passed bins total count head i previous cell → IsFit bins total (chain count bins head) previous cell
 passed-fit bins total count head i previous cell l fits h = record {
   front = h.front;
   back = chain (count - (i + 1)) bins (word bins (cell + 4));

@@ -1,5 +1,6 @@
 -- The link to a cell is set anew.
-use Rattle.std.proofs.Common.{◌≡◌, ℕ, zero, suc, ◌+◌, ◌-◌, ◌<◌, ◌≤◌, Bool, true, false, not, cond, ◌⊎◌, inl, inr, List, [], ◌∷◌, ◌++◌, length, map, get_or, refl, sym, ap, ◌∙◌, subst, arith, append_assoc, ◌&&◌, eqb, Option, Some, None}
+use Rattle.std.proofs.Common.{◌≡◌, ℕ, zero, suc, ◌+◌, ◌-◌, ◌<◌, ◌≤◌, Bool, true, false, not, cond, ◌⊎◌, inl, inr, List, [], ◌∷◌, ◌++◌, length, map, get_or, refl, sym, ap, ◌∙◌, subst, arith}
+use Rattle.std.proofs.Common.{append_assoc, ◌&&◌, eqb, Option, Some, None}
 use Rattle.std.proofs.lemmas.Bool.{and_parts, eq-eqb, ne_eqb, not-true}
 use Rattle.std.specs.List.{AllByRecursion}
 use Rattle.byteorder.specs.Endian.{little_bytes}
@@ -38,7 +39,8 @@ pub words-clear : {lo hi : ℕ} {old new : List ℕ} → SameOutside lo hi old n
 words-clear s [] a = tt
 words-clear s (x ∷ xs) a = (word-clear s x a.0, words-clear s xs a.1)
 
-pub words-trans : (a b c : List ℕ) (xs : List ℕ) → AllByRecursion (λ (x : ℕ). word b (x + 4) ≡ word a (x + 4)) xs → AllByRecursion (λ (x : ℕ). word c (x + 4) ≡ word b (x + 4)) xs → AllByRecursion (λ (x : ℕ). word c (x + 4) ≡ word a (x + 4)) xs
+pub words-trans : (a b c : List ℕ) (xs : List ℕ) → AllByRecursion (λ (x : ℕ). word b (x + 4) ≡ word a (x + 4)) xs →
+    AllByRecursion (λ (x : ℕ). word c (x + 4) ≡ word b (x + 4)) xs → AllByRecursion (λ (x : ℕ). word c (x + 4) ≡ word a (x + 4)) xs
 words-trans a b c [] p q = tt
 words-trans a b c (x ∷ xs) p q = (q.0 ∙ p.0, words-trans a b c xs p.1 q.1)
 
@@ -52,13 +54,18 @@ free-content bytes k c ys offset h =
     let unused : c.allocated ≡ false = not-true c.allocated (and_parts (not c.allocated) (eqb (one_class c.size) k) h).0 in
     free-content-by (eqb c.offset offset) c.allocated bytes c ys offset unused
   where
-    free-content-by : (b d : Bool) (bytes : List ℕ) (c : Cell) (ys : List Cell) (offset : ℕ) → d ≡ false → cond (b && d) (Some (Rattle.std.proofs.Common.take (c.size - 4) (Rattle.std.proofs.Common.drop (c.offset + 4) bytes))) (content_in bytes ys offset) ≡ content_in bytes ys offset
+    free-content-by : (b d : Bool) (bytes : List ℕ) (c : Cell) (ys : List Cell) (offset : ℕ) → d ≡ false →
+        cond (b && d) (Some (Rattle.std.proofs.Common.take (c.size - 4) (Rattle.std.proofs.Common.drop (c.offset + 4) bytes)))
+        (content_in bytes ys offset) ≡ content_in bytes ys offset
     free-content-by true true bytes c ys offset e = absurd (cc)
     free-content-by true false bytes c ys offset e = refl
     free-content-by false d bytes c ys offset e = refl
 
 -- where there is a free cell before
-relinked-after : (old : List ℕ) (layout : List Bin) (head rest : ℕ) (first : List ℕ) (p : ℕ) (zs : List ℕ) → AreBins old 0 layout → rest < 4294967296 → ((o : ℕ) → times o (first ++ p ∷ zs) ≤ times o (free_of one_class 0 (cells_in layout))) → Follows old head (first ++ p ∷ zs) → (back : List ℕ) → AllByRecursion (λ (x : ℕ). Unit {0}) back → ((P : ℕ → Type 0) → AllByRecursion P zs → AllByRecursion P back) → Relinked old (splice (p + 4) (little_bytes 4 rest) old) layout head rest (first ++ p ∷ []) back
+relinked-after : (old : List ℕ) (layout : List Bin) (head rest : ℕ) (first : List ℕ) (p : ℕ) (zs : List ℕ) → AreBins old 0 layout →
+    rest < 4294967296 → ((o : ℕ) → times o (first ++ p ∷ zs) ≤ times o (free_of one_class 0 (cells_in layout))) → Follows old head (first ++ p ∷ zs) →
+    (back : List ℕ) → AllByRecursion (λ (x : ℕ). Unit {0}) back → ((P : ℕ → Type 0) → AllByRecursion P zs → AllByRecursion P back) →
+    Relinked old (splice (p + 4) (little_bytes 4 rest) old) layout head rest (first ++ p ∷ []) back
 relinked-after old layout head rest first p zs tiled small exact follows back u sub =
     let t = taken-some one_class 0 (cells_in layout) first p zs exact in
     let c = t.at.c in
@@ -84,7 +91,8 @@ relinked-after old layout head rest first p zs tiled small exact follows back u 
           ∙ ap (or_else (content_in new t.at.xs offset)) (free-content new 0 c t.at.ys offset t.at.free)
           ∙ ap (λ o. or_else o (content_in new t.at.ys offset)) (content_in-beside s t.at.xs offset before)
           ∙ ap (or_else (content_in old t.at.xs offset)) (content_in-beside s t.at.ys offset after)
-          ∙ sym (ap (λ cs. content_in old cs offset) t.at.cells_are ∙ content_in-append old t.at.xs (c ∷ t.at.ys) offset ∙ ap (or_else (content_in old t.at.xs offset)) (free-content old 0 c t.at.ys offset t.at.free));
+          ∙ sym (ap (λ cs. content_in old cs offset) t.at.cells_are ∙ content_in-append old t.at.xs (c ∷ t.at.ys) offset ∙
+          ap (or_else (content_in old t.at.xs offset)) (free-content old 0 c t.at.ys offset t.at.free));
       follows = λ later ws keep tail.
           let parts = all-front _ first (p ∷ []) keep in
           let there : word later (p + 4) ≡ rest = parts.1.0 ∙ link in
@@ -107,12 +115,18 @@ relinked-first old layout rest back tiled = record {
   kept = λ k h. refl;
 }
 
-relinked-by : (old : List ℕ) (layout : List Bin) (head rest : ℕ) (front : List ℕ) (cell : ℕ) (back : List ℕ) (previous : ℕ) → AreBins old 0 layout → length old ≤ 268435456 → rest < 4294967296 → ((o : ℕ) → times o (front ++ cell ∷ back) ≤ times o (free_of one_class 0 (cells_in layout))) → Follows old head (front ++ cell ∷ back) → EndsAt front previous → Relinked old (linked previous rest old) layout (head_after previous rest head) rest front back
+relinked-by : (old : List ℕ) (layout : List Bin) (head rest : ℕ) (front : List ℕ) (cell : ℕ) (back : List ℕ) (previous : ℕ) → AreBins old 0 layout →
+    length old ≤ 268435456 → rest < 4294967296 → ((o : ℕ) → times o (front ++ cell ∷ back) ≤ times o (free_of one_class 0 (cells_in layout))) →
+    Follows old head (front ++ cell ∷ back) → EndsAt front previous →
+    Relinked old (linked previous rest old) layout (head_after previous rest head) rest front back
 relinked-by old layout head rest front cell back previous tiled short small exact follows (inl e) =
     let none : eqb previous 4294967295 ≡ true = eq-eqb _ _ e.1 in
     rw (none, e.0) (relinked-first old layout rest back tiled)
 relinked-by old layout head rest front cell back previous tiled short small exact follows (inr e) =
-    let exact' : (o : ℕ) → times o (e.0 ++ previous ∷ (cell ∷ back)) ≤ times o (free_of one_class 0 (cells_in layout)) = λ o. (let same : times o (e.0 ++ previous ∷ (cell ∷ back)) ≡ times o (front ++ cell ∷ back) = ap (times o) (sym (ap (λ (t : List ℕ). t ++ cell ∷ back) e.1 ∙ append_assoc e.0 (previous ∷ []) (cell ∷ back))) in omega (arith, same, exact o)) in
+    let exact' : (o : ℕ) → times o (e.0 ++ previous ∷ (cell ∷ back)) ≤ times o (free_of one_class 0 (cells_in layout)) =
+    λ o. (let same : times o (e.0 ++ previous ∷ (cell ∷ back)) ≡ times o (front ++ cell ∷ back) =
+    ap (times o) (sym (ap (λ (t : List ℕ). t ++ cell ∷ back) e.1 ∙ append_assoc e.0 (previous ∷ []) (cell ∷ back))) in
+    omega (arith, same, exact o)) in
     let follows' : Follows old head (e.0 ++ previous ∷ (cell ∷ back)) = subst (Follows old head) (ap (λ (t : List ℕ). t ++ cell ∷ back) e.1 ∙ append_assoc e.0 (previous ∷ []) (cell ∷ back)) follows in
     let t = taken-some one_class 0 (cells_in layout) e.0 previous (cell ∷ back) exact' in
     let st = stands old layout t.at.xs t.at.c t.at.ys tiled t.at.cells_are in
@@ -123,5 +137,8 @@ relinked-by old layout head rest front cell back previous tiled short small exac
     all-unit [] = tt
     all-unit (x ∷ xs) = (tt, all-unit xs)
 
-pub relinked : (old : List ℕ) (layout : List Bin) (head rest : ℕ) (front : List ℕ) (cell : ℕ) (back : List ℕ) (previous : ℕ) → AreBins old 0 layout → length old ≤ 268435456 → rest < 4294967296 → ((o : ℕ) → times o (front ++ cell ∷ back) ≤ times o (free_of one_class 0 (cells_in layout))) → Follows old head (front ++ cell ∷ back) → EndsAt front previous → Relinked old (linked previous rest old) layout (head_after previous rest head) rest front back
+pub relinked : (old : List ℕ) (layout : List Bin) (head rest : ℕ) (front : List ℕ) (cell : ℕ) (back : List ℕ) (previous : ℕ) → AreBins old 0 layout →
+    length old ≤ 268435456 → rest < 4294967296 → ((o : ℕ) → times o (front ++ cell ∷ back) ≤ times o (free_of one_class 0 (cells_in layout))) →
+    Follows old head (front ++ cell ∷ back) → EndsAt front previous →
+    Relinked old (linked previous rest old) layout (head_after previous rest head) rest front back
 relinked = relinked-by

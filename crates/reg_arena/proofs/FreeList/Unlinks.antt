@@ -1,5 +1,6 @@
 -- A free cell out of its list, while the cells are not yet what the list says.
-use Rattle.std.proofs.Common.{◌≡◌, ℕ, ◌+◌, ◌*◌, ◌/◌, ◌<◌, ◌≤◌, false, ◌⊎◌, inl, inr, List, [], ◌∷◌, ◌++◌, length, get_or, refl, sym, ap, ◌∙◌, subst, arith, append_assoc, length-append, eqb, cond, true}
+use Rattle.std.proofs.Common.{◌≡◌, ℕ, ◌+◌, ◌*◌, ◌/◌, ◌<◌, ◌≤◌, false, ◌⊎◌, inl, inr, List, [], ◌∷◌, ◌++◌, length, get_or, refl, sym, ap, ◌∙◌, subst, arith, append_assoc, length-append, eqb}
+use Rattle.std.proofs.Common.{cond, true}
 use Rattle.std.proofs.lemmas.Bool.{eq-eqb, ne_eqb}
 use Rattle.std.specs.List.{AllByRecursion}
 use Rattle.reg_heap.specs.ByteWords.{word}
@@ -41,7 +42,8 @@ apart-cells lo hi (d ∷ cells) l h = ((λ _. one d h.0), apart-cells lo hi cell
     one d (e, inl b) = units-apart d.offset lo (omega arith)
     one d (e, inr b) = λ x. units-apart lo d.offset (omega arith) (sym x)
 
-pub alone : (bytes : List ℕ) (layout : List Bin) (front : List ℕ) (n : ℕ) (back : List ℕ) → AreBins bytes 0 layout → ((o : ℕ) → times o (front ++ n ∷ back) ≤ times o (free_of one_class 0 (cells_in layout))) → Alone bytes front n back
+pub alone : (bytes : List ℕ) (layout : List Bin) (front : List ℕ) (n : ℕ) (back : List ℕ) → AreBins bytes 0 layout →
+    ((o : ℕ) → times o (front ++ n ∷ back) ≤ times o (free_of one_class 0 (cells_in layout))) → Alone bytes front n back
 alone bytes layout front n back tiled exact =
     let t = taken-some one_class 0 (cells_in layout) front n back exact in
     let c = t.at.c in
@@ -56,16 +58,22 @@ alone bytes layout front n back tiled exact =
     record { front_apart = both.0; back_apart = both.1; within = omega (arith, st.cell.within) }
 
 -- the tail of a list behind a cell
-pub tail-behind : (bytes : List ℕ) (layout : List Bin) (table front : List ℕ) (cell next : ℕ) (back : List ℕ) → AreBins bytes 0 layout → ((o : ℕ) → times o (front ++ cell ∷ back) ≤ times o (free_of one_class 0 (cells_in layout))) → length bytes ≤ 268435456 → length bytes ≤ 8 * length table → Follows bytes next back → IsTail table front next back
+pub tail-behind : (bytes : List ℕ) (layout : List Bin) (table front : List ℕ) (cell next : ℕ) (back : List ℕ) → AreBins bytes 0 layout →
+    ((o : ℕ) → times o (front ++ cell ∷ back) ≤ times o (free_of one_class 0 (cells_in layout))) → length bytes ≤ 268435456 →
+    length bytes ≤ 8 * length table → Follows bytes next back → IsTail table front next back
 tail-behind bytes layout table front cell next [] tiled exact small long f = f
 tail-behind bytes layout table front cell next (n ∷ back) tiled exact small long f =
     let whole : (front ++ cell ∷ []) ++ n ∷ back ≡ front ++ cell ∷ (n ∷ back) = append_assoc front (cell ∷ []) (n ∷ back) in
-    let a = alone bytes layout (front ++ cell ∷ []) n back tiled (λ o. (let e : times o ((front ++ cell ∷ []) ++ n ∷ back) ≡ times o (front ++ cell ∷ (n ∷ back)) = ap (times o) whole in omega (arith, e, exact o))) in
+    let a = alone bytes layout (front ++ cell ∷ []) n back tiled
+    (λ o. (let e : times o ((front ++ cell ∷ []) ++ n ∷ back) ≡ times o (front ++ cell ∷ (n ∷ back)) = ap (times o) whole in
+    omega (arith, e, exact o))) in
     let parts = all-front (IsApartFrom (n / 8)) front (cell ∷ []) a.front_apart in
     (f.0, omega (arith, a.within), omega (arith, a.within), parts.0, a.back_apart)
 
 -- the same in front of a list
-pub tail-front : (bytes : List ℕ) (layout : List Bin) (table : List ℕ) (head : ℕ) (offsets : List ℕ) → AreBins bytes 0 layout → ((o : ℕ) → times o offsets ≤ times o (free_of one_class 0 (cells_in layout))) → length bytes ≤ 268435456 → length bytes ≤ 8 * length table → Follows bytes head offsets → IsTail table [] head offsets
+pub tail-front : (bytes : List ℕ) (layout : List Bin) (table : List ℕ) (head : ℕ) (offsets : List ℕ) → AreBins bytes 0 layout →
+    ((o : ℕ) → times o offsets ≤ times o (free_of one_class 0 (cells_in layout))) → length bytes ≤ 268435456 → length bytes ≤ 8 * length table →
+    Follows bytes head offsets → IsTail table [] head offsets
 tail-front bytes layout table head [] tiled exact small long f = f
 tail-front bytes layout table head (n ∷ back) tiled exact small long f =
     let a = alone bytes layout [] n back tiled exact in
@@ -78,22 +86,35 @@ pub record Unlinked (old new : List ℕ) (head' count' : ℕ) (backs' : List ℕ
   pub contents : (offset : ℕ) → content_in new (cells_in layout) offset ≡ content_in old (cells_in layout) offset
   pub long : length new ≡ length old
 
-pub next-in : (bytes : List ℕ) (layout : List Bin) (front : List ℕ) (cell next : ℕ) (back : List ℕ) → AreBins bytes 0 layout → ((o : ℕ) → times o (front ++ cell ∷ back) ≤ times o (free_of one_class 0 (cells_in layout))) → Follows bytes next back → (next ≡ 4294967295 → ⊥) → next + 8 ≤ length bytes
+pub next-in : (bytes : List ℕ) (layout : List Bin) (front : List ℕ) (cell next : ℕ) (back : List ℕ) → AreBins bytes 0 layout →
+    ((o : ℕ) → times o (front ++ cell ∷ back) ≤ times o (free_of one_class 0 (cells_in layout))) → Follows bytes next back → (next ≡ 4294967295 → ⊥) →
+    next + 8 ≤ length bytes
 next-in bytes layout front cell next [] tiled exact f ne = absurd (ne f)
 next-in bytes layout front cell next (n ∷ back) tiled exact f ne =
-    let a = alone bytes layout (front ++ cell ∷ []) n back tiled (λ o. (let e : times o ((front ++ cell ∷ []) ++ n ∷ back) ≡ times o (front ++ cell ∷ (n ∷ back)) = ap (times o) (append_assoc front (cell ∷ []) (n ∷ back)) in omega (arith, e, exact o))) in
+    let a = alone bytes layout (front ++ cell ∷ []) n back tiled
+    (λ o. (let e : times o ((front ++ cell ∷ []) ++ n ∷ back) ≡ times o (front ++ cell ∷ (n ∷ back)) =
+    ap (times o) (append_assoc front (cell ∷ []) (n ∷ back)) in omega (arith, e, exact o))) in
     omega (arith, a.within, f.0)
 
-last-in : (bytes : List ℕ) (layout : List Bin) (front : List ℕ) (cell : ℕ) (back : List ℕ) → AreBins bytes 0 layout → ((o : ℕ) → times o (front ++ cell ∷ back) ≤ times o (free_of one_class 0 (cells_in layout))) → (previous : ℕ) → ((front ≡ []) × (previous ≡ 4294967295)) ⊎ ((first : List ℕ) × (front ≡ first ++ previous ∷ [])) → (previous ≡ 4294967295 → ⊥) → previous + 8 ≤ length bytes
+last-in : (bytes : List ℕ) (layout : List Bin) (front : List ℕ) (cell : ℕ) (back : List ℕ) → AreBins bytes 0 layout →
+    ((o : ℕ) → times o (front ++ cell ∷ back) ≤ times o (free_of one_class 0 (cells_in layout))) → (previous : ℕ) →
+    ((front ≡ []) × (previous ≡ 4294967295)) ⊎ ((first : List ℕ) × (front ≡ first ++ previous ∷ [])) → (previous ≡ 4294967295 → ⊥) →
+    previous + 8 ≤ length bytes
 last-in bytes layout front cell back tiled exact previous (inl e) ne = absurd (ne e.1)
 last-in bytes layout front cell back tiled exact previous (inr e) ne =
-    let a = alone bytes layout e.0 previous (cell ∷ back) tiled (λ o. (let same : times o (e.0 ++ previous ∷ (cell ∷ back)) ≡ times o (front ++ cell ∷ back) = ap (times o) (sym (ap (λ (t : List ℕ). t ++ cell ∷ back) e.1 ∙ append_assoc e.0 (previous ∷ []) (cell ∷ back))) in omega (arith, same, exact o))) in
+    let a = alone bytes layout e.0 previous (cell ∷ back) tiled
+    (λ o. (let same : times o (e.0 ++ previous ∷ (cell ∷ back)) ≡ times o (front ++ cell ∷ back) =
+    ap (times o) (sym (ap (λ (t : List ℕ). t ++ cell ∷ back) e.1 ∙ append_assoc e.0 (previous ∷ []) (cell ∷ back))) in
+    omega (arith, same, exact o))) in
     a.within
 
-some-exact : (bytes : List ℕ) (head count : ℕ) (backs : List ℕ) (layout : List Bin) (removed offsets : List ℕ) (cell : ℕ) (t : Threads bytes head count backs layout removed offsets) (p : Parted cell offsets) → (o : ℕ) → times o (p.front ++ cell ∷ p.back) ≤ times o (free_of one_class 0 (cells_in layout))
+some-exact : (bytes : List ℕ) (head count : ℕ) (backs : List ℕ) (layout : List Bin) (removed offsets : List ℕ) (cell : ℕ)
+    (t : Threads bytes head count backs layout removed offsets) (p : Parted cell offsets) → (o : ℕ) →
+    times o (p.front ++ cell ∷ p.back) ≤ times o (free_of one_class 0 (cells_in layout))
 some-exact bytes head count backs layout removed offsets cell t p o = (let e : times o offsets ≡ times o (p.front ++ cell ∷ p.back) = ap (times o) p.split in omega (arith, e, t.exact o))
 
-pub in_list : (bytes : List ℕ) (head count : ℕ) (backs : List ℕ) (layout : List Bin) (removed offsets : List ℕ) (cell : ℕ) → Threads bytes head count backs layout removed offsets → 0 < times cell offsets → InList bytes count backs cell
+pub in_list : (bytes : List ℕ) (head count : ℕ) (backs : List ℕ) (layout : List Bin) (removed offsets : List ℕ) (cell : ℕ) →
+    Threads bytes head count backs layout removed offsets → 0 < times cell offsets → InList bytes count backs cell
 in_list bytes head count backs layout removed offsets cell t h =
     let p = parted cell offsets h in
     let exact = some-exact bytes head count backs layout removed offsets cell t p in
@@ -109,7 +130,12 @@ in_list bytes head count backs layout removed offsets cell t h =
       next_in = next-in bytes layout p.front cell (word bytes (cell + 4)) p.back t.tiled exact (Follows-back bytes p.front head cell p.back follows);
     }
 
-pub unlinked : (bytes new : List ℕ) (head head' count count' : ℕ) (backs backs' : List ℕ) (layout : List Bin) (removed offsets : List ℕ) (cell : ℕ) → Threads bytes head count backs layout removed offsets → length bytes ≤ 268435456 → length bytes ≤ 8 * length backs → 0 < times cell offsets → word bytes (cell + 4) < 4294967296 → new ≡ linked (get_or backs (cell / 8) 0) (word bytes (cell + 4)) bytes → head' ≡ head_after (get_or backs (cell / 8) 0) (word bytes (cell + 4)) head → backs' ≡ marked (word bytes (cell + 4)) (get_or backs (cell / 8) 0) backs → count' + 1 ≡ count → Unlinked bytes new head' count' backs' layout (cell ∷ removed)
+pub unlinked : (bytes new : List ℕ) (head head' count count' : ℕ) (backs backs' : List ℕ) (layout : List Bin) (removed offsets : List ℕ) (cell : ℕ) →
+    Threads bytes head count backs layout removed offsets → length bytes ≤ 268435456 → length bytes ≤ 8 * length backs → 0 < times cell offsets →
+    word bytes (cell + 4) < 4294967296 → new ≡ linked (get_or backs (cell / 8) 0) (word bytes (cell + 4)) bytes →
+    head' ≡ head_after (get_or backs (cell / 8) 0) (word bytes (cell + 4)) head →
+    backs' ≡ marked (word bytes (cell + 4)) (get_or backs (cell / 8) 0) backs → count' + 1 ≡ count →
+    Unlinked bytes new head' count' backs' layout (cell ∷ removed)
 unlinked bytes new head head' count count' backs backs' layout removed offsets cell t small room h short e1 e2 e3 e4 =
     let p = parted cell offsets h in
     let front = p.front in
@@ -147,7 +173,10 @@ pub record Detached (old new : List ℕ) (head' count count' : ℕ) (backs backs
   pub table : length backs' ≡ length backs
   pub fewer : count' ≤ count
 
-pub detached : (bytes new : List ℕ) (head head' count count' : ℕ) (backs backs' : List ℕ) (layout : List Bin) (removed offsets : List ℕ) (some cell : ℕ) → Threads bytes head count backs layout removed offsets → length bytes ≤ 268435456 → length bytes ≤ 8 * length backs → (0 < some → 0 < times cell offsets) → Unlinks some cell bytes head count backs new head' count' backs' → Detached bytes new head' count count' backs backs' layout (cond (eqb some 0) removed (cell ∷ removed))
+pub detached : (bytes new : List ℕ) (head head' count count' : ℕ) (backs backs' : List ℕ) (layout : List Bin) (removed offsets : List ℕ)
+    (some cell : ℕ) → Threads bytes head count backs layout removed offsets → length bytes ≤ 268435456 → length bytes ≤ 8 * length backs →
+    (0 < some → 0 < times cell offsets) → Unlinks some cell bytes head count backs new head' count' backs' →
+    Detached bytes new head' count count' backs backs' layout (cond (eqb some 0) removed (cell ∷ removed))
 detached bytes new head head' count count' backs backs' layout removed offsets some cell t small room h (inl u) =
     let zero_some : eqb some 0 ≡ true = eq-eqb some 0 u.0 in
     rw (zero_some, u.1, u.2, u.3, u.4) (record { offsets = offsets; threads = t; contents = λ o. refl; long = refl; table = refl; fewer = omega arith })

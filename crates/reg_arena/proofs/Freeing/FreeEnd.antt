@@ -1,5 +1,6 @@
 -- The last step of freeing a cell.
-use Rattle.std.proofs.Common.{◌≡◌, ℕ, zero, suc, ◌+◌, ◌-◌, ◌*◌, ◌/◌, ◌<◌, ◌≤◌, ◌%◌, Bool, true, false, cond, ◌⊎◌, inl, inr, List, [], ◌∷◌, ◌++◌, length, get_or, set, refl, sym, ap, ◌∙◌, subst, arith, append_assoc, eqb, Some, None}
+use Rattle.std.proofs.Common.{◌≡◌, ℕ, zero, suc, ◌+◌, ◌-◌, ◌*◌, ◌/◌, ◌<◌, ◌≤◌, ◌%◌, Bool, true, false, cond, ◌⊎◌, inl, inr, List, [], ◌∷◌, ◌++◌, length, get_or, set, refl, sym, ap, ◌∙◌}
+use Rattle.std.proofs.Common.{subst, arith, append_assoc, eqb, Some, None}
 use Rattle.std.proofs.lemmas.Bool.{eqb-true, eqb-false, eq-eqb, ne_eqb, cases_eq}
 use Rattle.std.proofs.lemmas.List.{get_or-set_same, get_or-set_other, length-set}
 use Rattle.std.specs.List.{AllByRecursion}
@@ -50,13 +51,19 @@ pub record Before (old s : List ℕ) (layout : List Bin) (head : ℕ) (offsets :
   pub in_hi : cell < hi
   pub only : (offset : ℕ) → (offset ≡ cell → ⊥) → content_in s mid offset ≡ None
 
-freed-core : (old s : List ℕ) (layout : List Bin) (head : ℕ) (offsets : List ℕ) (xs : List Cell) (m : Cell) (ms ys : List Cell) (cell lo hi n count' : ℕ) → Before old s layout head offsets xs (m ∷ ms) ys cell lo hi → m.offset ≡ lo → m.offset + sizes (m ∷ ms) ≡ hi → sizes (m ∷ ms) ≡ n → count' ≡ suc (length offsets) → FreedRow old (freed lo n head s) lo n count' cell offsets xs ys
+freed-core : (old s : List ℕ) (layout : List Bin) (head : ℕ) (offsets : List ℕ) (xs : List Cell) (m : Cell) (ms ys : List Cell)
+    (cell lo hi n count' : ℕ) → Before old s layout head offsets xs (m ∷ ms) ys cell lo hi → m.offset ≡ lo → m.offset + sizes (m ∷ ms) ≡ hi →
+    sizes (m ∷ ms) ≡ n → count' ≡ suc (length offsets) → FreedRow old (freed lo n head s) lo n count' cell offsets xs ys
 freed-core old s layout head offsets xs m ms ys cell lo hi n count' b start total size counted =
-    let ends : EndsFree xs ys m.offset (m.offset + sizes (m ∷ ms)) = subst (λ (k : ℕ). EndsFree xs ys k (m.offset + sizes (m ∷ ms))) (sym start) (subst (λ (k : ℕ). EndsFree xs ys lo k) (sym total) b.ends) in
-    let f = freeing old s layout head offsets xs m ms ys cell count' b.tiled0 b.tiled b.small b.long b.same b.apart b.follows b.short b.exact b.cells_are b.row ends (omega (arith, b.in_lo)) (omega (arith, b.in_hi, total)) b.only counted in
+    let ends : EndsFree xs ys m.offset (m.offset + sizes (m ∷ ms)) = subst (λ (k : ℕ). EndsFree xs ys k (m.offset + sizes (m ∷ ms))) (sym start)
+    (subst (λ (k : ℕ). EndsFree xs ys lo k) (sym total) b.ends) in
+    let f = freeing old s layout head offsets xs m ms ys cell count' b.tiled0 b.tiled b.small b.long b.same b.apart b.follows b.short b.exact
+    b.cells_are b.row ends (omega (arith, b.in_lo)) (omega (arith, b.in_hi, total)) b.only counted in
     rw (← start, ← size) (record { arena = f.arena; chained = f.chained; long = f.long; now = f.now; contents = f.contents })
 
-pub freed-row : (old s : List ℕ) (layout : List Bin) (head : ℕ) (offsets : List ℕ) (xs ls rs ys : List Cell) (cell size lo hi count' : ℕ) → IsFreePiece lo cell ls → IsFreePiece (cell + size) hi rs → Before old s layout head offsets xs (ls ++ used cell size ∷ rs) ys cell lo hi → count' ≡ suc (length offsets) → FreedRow old (freed lo (hi - lo) head s) lo (hi - lo) count' cell offsets xs ys
+pub freed-row : (old s : List ℕ) (layout : List Bin) (head : ℕ) (offsets : List ℕ) (xs ls rs ys : List Cell) (cell size lo hi count' : ℕ) →
+    IsFreePiece lo cell ls → IsFreePiece (cell + size) hi rs → Before old s layout head offsets xs (ls ++ used cell size ∷ rs) ys cell lo hi →
+    count' ≡ suc (length offsets) → FreedRow old (freed lo (hi - lo) head s) lo (hi - lo) count' cell offsets xs ys
 freed-row old s layout head offsets xs [] rs ys cell size lo hi count' p q b counted =
     let r = piece-sizes (cell + size) hi rs q in
     freed-core old s layout head offsets xs (used cell size) rs ys cell lo hi (hi - lo) count' b (sym p) (omega arith) (omega (arith, p)) counted
@@ -76,32 +83,44 @@ right-times : (o right end : ℕ) → times o (piece_offsets end (end + right)) 
 right-times o zero end = (let e : eqb end (end + 0) ≡ true = eq-eqb _ _ (omega arith) in rw e refl)
 right-times o (suc n) end = (let e : eqb end (end + suc n) ≡ false = ne_eqb _ _ (λ x. omega arith) in let f : eqb (suc n) 0 ≡ false = ne_eqb _ _ (λ x. omega arith) in rw (e, f) refl)
 
-left-times-by : (o left cell lo : ℕ) (removed : List ℕ) (b : Bool) → eqb left 0 ≡ b → lo ≡ cond b cell left → (lo ≡ cell → left ≡ 0) → times o (cond b removed (left ∷ removed)) ≡ times o (piece_offsets lo cell) + times o removed
+left-times-by : (o left cell lo : ℕ) (removed : List ℕ) (b : Bool) → eqb left 0 ≡ b → lo ≡ cond b cell left → (lo ≡ cell → left ≡ 0) →
+    times o (cond b removed (left ∷ removed)) ≡ times o (piece_offsets lo cell) + times o removed
 left-times-by o left cell lo removed true e f g = (let h : eqb lo cell ≡ true = eq-eqb lo cell f in rw h (omega arith))
 left-times-by o left cell lo removed false e f g = (let h : eqb lo cell ≡ false = ne_eqb lo cell (λ x. eqb-false left 0 e (g x)) in rw (h, f) (omega arith))
 
-pub out-times : (o left right cell size : ℕ) (layout : List Bin) (w : Around layout cell size left right) → times o (both_out left (right_out right (cell + size))) ≡ times o (free_of one_class 0 w.l.lefts) + times o (free_of one_class 0 w.r.rights)
+pub out-times : (o left right cell size : ℕ) (layout : List Bin) (w : Around layout cell size left right) →
+    times o (both_out left (right_out right (cell + size))) ≡ times o (free_of one_class 0 w.l.lefts) + times o (free_of one_class 0 w.r.rights)
 out-times o left right cell size layout w =
     let a : times o (free_of one_class 0 w.l.lefts) ≡ times o (piece_offsets (start_of left cell) cell) = ap (times o) (piece-times (start_of left cell) cell w.l.lefts w.l.lefts_are) in
-    let b : times o (free_of one_class 0 w.r.rights) ≡ times o (piece_offsets (cell + size) (cell + size + right)) = ap (times o) (piece-times (cell + size) (cell + size + right) w.r.rights w.r.rights_are) in
+    let b : times o (free_of one_class 0 w.r.rights) ≡ times o (piece_offsets (cell + size) (cell + size + right)) =
+    ap (times o) (piece-times (cell + size) (cell + size + right) w.r.rights w.r.rights_are) in
     let c = left-times-by o left cell (start_of left cell) (right_out right (cell + size)) (eqb left 0) refl refl w.l.at_start in
     omega (arith, a, b, c, right-times o right (cell + size))
 
 free-used : (cell size : ℕ) (rs : List Cell) → free_of one_class 0 (used cell size ∷ rs) ≡ free_of one_class 0 rs
 free-used cell size rs = refl
 
-pub exact-of : (o : ℕ) (offsets removed : List ℕ) (cells xs ls : List Cell) (cell size : ℕ) (rs ys : List Cell) → times o offsets + times o removed ≡ times o (free_of one_class 0 cells) → cells ≡ xs ++ ((ls ++ used cell size ∷ rs) ++ ys) → times o removed ≡ times o (free_of one_class 0 ls) + times o (free_of one_class 0 rs) → times o offsets ≡ times o (free_of one_class 0 xs) + times o (free_of one_class 0 ys)
+pub exact-of : (o : ℕ) (offsets removed : List ℕ) (cells xs ls : List Cell) (cell size : ℕ) (rs ys : List Cell) →
+    times o offsets + times o removed ≡ times o (free_of one_class 0 cells) → cells ≡ xs ++ ((ls ++ used cell size ∷ rs) ++ ys) →
+    times o removed ≡ times o (free_of one_class 0 ls) + times o (free_of one_class 0 rs) →
+    times o offsets ≡ times o (free_of one_class 0 xs) + times o (free_of one_class 0 ys)
 exact-of o offsets removed cells xs ls cell size rs ys h e r =
-    let a : times o (free_of one_class 0 cells) ≡ times o (free_of one_class 0 xs) + times o (free_of one_class 0 ((ls ++ used cell size ∷ rs) ++ ys)) = ap (λ cs. times o (free_of one_class 0 cs)) e ∙ ap (times o) (free_of-append one_class 0 xs _) ∙ times-append o (free_of one_class 0 xs) _ in
-    let b : times o (free_of one_class 0 ((ls ++ used cell size ∷ rs) ++ ys)) ≡ times o (free_of one_class 0 (ls ++ used cell size ∷ rs)) + times o (free_of one_class 0 ys) = ap (times o) (free_of-append one_class 0 (ls ++ used cell size ∷ rs) ys) ∙ times-append o _ _ in
-    let c : times o (free_of one_class 0 (ls ++ used cell size ∷ rs)) ≡ times o (free_of one_class 0 ls) + times o (free_of one_class 0 rs) = ap (times o) (free_of-append one_class 0 ls (used cell size ∷ rs)) ∙ times-append o _ _ in
+    let a : times o (free_of one_class 0 cells) ≡ times o (free_of one_class 0 xs) + times o
+    (free_of one_class 0 ((ls ++ used cell size ∷ rs) ++ ys)) = ap (λ cs. times o (free_of one_class 0 cs)) e ∙
+    ap (times o) (free_of-append one_class 0 xs _) ∙ times-append o (free_of one_class 0 xs) _ in
+    let b : times o (free_of one_class 0 ((ls ++ used cell size ∷ rs) ++ ys)) ≡ times o (free_of one_class 0 (ls ++ used cell size ∷ rs)) + times o
+    (free_of one_class 0 ys) = ap (times o) (free_of-append one_class 0 (ls ++ used cell size ∷ rs) ys) ∙ times-append o _ _ in
+    let c : times o (free_of one_class 0 (ls ++ used cell size ∷ rs)) ≡ times o (free_of one_class 0 ls) + times o (free_of one_class 0 rs) =
+    ap (times o) (free_of-append one_class 0 ls (used cell size ∷ rs)) ∙ times-append o _ _ in
     omega (arith, a, b, c, h, r)
 
-pub only-of : (s : List ℕ) (ls rs : List Cell) (cell size lo hi offset : ℕ) → IsFreePiece lo cell ls → IsFreePiece (cell + size) hi rs → (offset ≡ cell → ⊥) → content_in s (ls ++ used cell size ∷ rs) offset ≡ None
+pub only-of : (s : List ℕ) (ls rs : List Cell) (cell size lo hi offset : ℕ) → IsFreePiece lo cell ls → IsFreePiece (cell + size) hi rs →
+    (offset ≡ cell → ⊥) → content_in s (ls ++ used cell size ∷ rs) offset ≡ None
 only-of s ls rs cell size lo hi offset p q ne =
     let e : eqb cell offset ≡ false = ne_eqb cell offset (λ x. ne (sym x)) in
     let one : content_in s (used cell size ∷ rs) offset ≡ content_in s rs offset = rw e refl in
-    content_in-append s ls (used cell size ∷ rs) offset ∙ ap (λ o. or_else o (content_in s (used cell size ∷ rs) offset)) (piece-content s lo cell ls offset p) ∙ one ∙ piece-content s (cell + size) hi rs offset q
+    content_in-append s ls (used cell size ∷ rs) offset ∙ ap (λ o. or_else o (content_in s (used cell size ∷ rs) offset))
+    (piece-content s lo cell ls offset p) ∙ one ∙ piece-content s (cell + size) hi rs offset q
 
 -- ---- the tables
 
@@ -109,10 +128,22 @@ ending-mid : (u cell size : ℕ) (ls rs : List Cell) → ending u (ls ++ used ce
 ending-mid u cell size ls rs = (let e : ending u (used cell size ∷ rs) ≡ ending u rs = omega arith in omega (arith, ending-append u ls (used cell size ∷ rs), e))
 
 -- the first entry that is set: nothing ends any more where the cell began
-first-by : (ends : List ℕ) (xs ls rs ys : List Cell) (cell size lo hi a : ℕ) → AllByRecursion (IsBeside lo hi) xs → AllByRecursion (IsBeside lo hi) ys → IsFreePiece lo cell ls → IsFreePiece (cell + size) hi rs → (get_or ends a 0 ≡ 0) ⊎ (lo < cell) → 0 < size → 8 * a + 8 ≡ cell → a < length ends → ((u : ℕ) → get_or ends u 0 ≡ ending u (xs ++ ((ls ++ used cell size ∷ rs) ++ ys))) → (u : ℕ) → (u ≡ a) ⊎ (u ≡ a → ⊥) → get_or (set ends a 0) u 0 ≡ ending u (xs ++ (rs ++ ys))
+first-by : (ends : List ℕ) (xs ls rs ys : List Cell) (cell size lo hi a : ℕ) → AllByRecursion (IsBeside lo hi) xs →
+    AllByRecursion (IsBeside lo hi) ys → IsFreePiece lo cell ls → IsFreePiece (cell + size) hi rs → (get_or ends a 0 ≡ 0) ⊎ (lo < cell) → 0 < size →
+    8 * a + 8 ≡ cell → a < length ends → ((u : ℕ) → get_or ends u 0 ≡ ending u (xs ++ ((ls ++ used cell size ∷ rs) ++ ys))) → (u : ℕ) →
+    (u ≡ a) ⊎ (u ≡ a → ⊥) → get_or (set ends a 0) u 0 ≡ ending u (xs ++ (rs ++ ys))
 first-by ends xs ls rs ys cell size lo hi a before after p q (inl z) some place inside old u (inl e) =
     let all = old a in
-    rw e (get_or-set_same ends a 0 0 inside ∙ omega (arith, z, all, ending-append a xs ((ls ++ used cell size ∷ rs) ++ ys), ending-append a (ls ++ used cell size ∷ rs) ys, ending-mid a cell size ls rs, ending-append a xs (rs ++ ys), ending-append a rs ys))
+    rw e (get_or-set_same ends a 0 0 inside ∙ omega (
+      arith,
+      z,
+      all,
+      ending-append a xs ((ls ++ used cell size ∷ rs) ++ ys),
+      ending-append a (ls ++ used cell size ∷ rs) ys,
+      ending-mid a cell size ls rs,
+      ending-append a xs (rs ++ ys),
+      ending-append a rs ys,
+    ))
 first-by ends xs ls rs ys cell size lo hi a before after p q (inr l) some place inside old u (inl e) =
     let r = piece-sizes (cell + size) hi rs q in
     let x = ending-beside lo hi a xs before (omega arith) (omega arith) in
@@ -121,21 +152,37 @@ first-by ends xs ls rs ys cell size lo hi a before after p q (inr l) some place 
     rw e (get_or-set_same ends a 0 0 inside ∙ omega (arith, x, y, z, ending-append a xs (rs ++ ys), ending-append a rs ys))
 first-by ends xs ls rs ys cell size lo hi a before after p q zero_left some place inside old u (inr ne) =
     let none = piece-ending u lo cell ls p (λ w. ne (omega (arith, w, place))) in
-    get_or-set_other ends a u 0 0 ne ∙ old u ∙ omega (arith, none, ending-append u xs ((ls ++ used cell size ∷ rs) ++ ys), ending-append u (ls ++ used cell size ∷ rs) ys, ending-mid u cell size ls rs, ending-append u xs (rs ++ ys), ending-append u rs ys)
+    get_or-set_other ends a u 0 0 ne ∙ old u ∙ omega (
+      arith,
+      none,
+      ending-append u xs ((ls ++ used cell size ∷ rs) ++ ys),
+      ending-append u (ls ++ used cell size ∷ rs) ys,
+      ending-mid u cell size ls rs,
+      ending-append u xs (rs ++ ys),
+      ending-append u rs ys,
+    )
 
-pub free-ends : (ends : List ℕ) (xs ls rs ys : List Cell) (cell size lo hi : ℕ) → AllByRecursion (IsBeside lo hi) xs → AllByRecursion (IsBeside lo hi) ys → IsFreePiece lo cell ls → IsFreePiece (cell + size) hi rs → (get_or ends (cell / 8 - 1) 0 ≡ 0) ⊎ (lo < cell) → 0 < size → lo < hi → cell % 8 ≡ 0 → 8 ≤ cell → hi % 8 ≡ 0 → cell / 8 - 1 < length ends → hi / 8 - 1 < length ends → ((u : ℕ) → get_or ends u 0 ≡ ending u (xs ++ ((ls ++ used cell size ∷ rs) ++ ys))) → (u : ℕ) → get_or (set (set ends (cell / 8 - 1) 0) (hi / 8 - 1) lo) u 0 ≡ ending u (xs ++ ((unused lo (hi - lo) ∷ []) ++ ys))
+pub free-ends : (ends : List ℕ) (xs ls rs ys : List Cell) (cell size lo hi : ℕ) → AllByRecursion (IsBeside lo hi) xs →
+    AllByRecursion (IsBeside lo hi) ys → IsFreePiece lo cell ls → IsFreePiece (cell + size) hi rs → (get_or ends (cell / 8 - 1) 0 ≡ 0) ⊎ (lo < cell) →
+    0 < size → lo < hi → cell % 8 ≡ 0 → 8 ≤ cell → hi % 8 ≡ 0 → cell / 8 - 1 < length ends → hi / 8 - 1 < length ends →
+    ((u : ℕ) → get_or ends u 0 ≡ ending u (xs ++ ((ls ++ used cell size ∷ rs) ++ ys))) → (u : ℕ) →
+    get_or (set (set ends (cell / 8 - 1) 0) (hi / 8 - 1) lo) u 0 ≡ ending u (xs ++ ((unused lo (hi - lo) ∷ []) ++ ys))
 free-ends ends xs ls rs ys cell size lo hi before after p q z some less e8 c8 h8 in1 in2 old =
     let a : ℕ = cell / 8 - 1 in
     let b : ℕ = hi / 8 - 1 in
     let r = piece-sizes (cell + size) hi rs q in
     let place : 8 * b + 8 ≡ hi = omega (arith, h8) in
     let total : lo + (hi - lo) ≡ hi = omega arith in
-    let step : (u : ℕ) → get_or (set ends a 0) u 0 ≡ ending u (xs ++ (rs ++ ys)) = λ u. first-by ends xs ls rs ys cell size lo hi a before after p q z some (omega (arith, e8)) in1 old u (cases_eq u a) in
-    ends-edit (set ends a 0) xs rs (unused lo (hi - lo) ∷ []) ys lo hi b lo before after less place (rw (length-set ends a 0) in2) (ending-there b lo (hi - lo) (place ∙ sym total)) (λ u ne. ending-alone u lo (hi - lo) (λ x. ne (x ∙ total)) ∙ sym (piece-ending u (cell + size) hi rs q ne)) step
+    let step : (u : ℕ) → get_or (set ends a 0) u 0 ≡ ending u (xs ++ (rs ++ ys)) =
+    λ u. first-by ends xs ls rs ys cell size lo hi a before after p q z some (omega (arith, e8)) in1 old u (cases_eq u a) in
+    ends-edit (set ends a 0) xs rs (unused lo (hi - lo) ∷ []) ys lo hi b lo before after less place (rw (length-set ends a 0) in2)
+    (ending-there b lo (hi - lo) (place ∙ sym total)) (λ u ne. ending-alone u lo (hi - lo) (λ x. ne (x ∙ total)) ∙
+    sym (piece-ending u (cell + size) hi rs q ne)) step
 
 -- ---- all together
 
-right-end-by : (old : List ℕ) (layout : List Bin) (xs : List Cell) (end hi : ℕ) (rs ys : List Cell) → AreBins old 0 layout → end ≤ length old → end % 8 ≡ 0 → IsFreePiece end hi rs → cells_in layout ≡ xs ++ (rs ++ ys) → (hi ≤ length old) × (hi % 8 ≡ 0)
+right-end-by : (old : List ℕ) (layout : List Bin) (xs : List Cell) (end hi : ℕ) (rs ys : List Cell) → AreBins old 0 layout → end ≤ length old →
+    end % 8 ≡ 0 → IsFreePiece end hi rs → cells_in layout ≡ xs ++ (rs ++ ys) → (hi ≤ length old) × (hi % 8 ≡ 0)
 right-end-by old layout xs end hi [] ys tiled l e h c = (omega arith, omega (arith, e))
 right-end-by old layout xs end hi (v ∷ []) ys tiled l e h c =
     let st = stands old layout xs v ys tiled c in
@@ -162,11 +209,17 @@ pub record EndFacts (old s2 : List ℕ) (cell size lo hi h2 c2 : ℕ) (ends b2 :
   pub count_in : c2 ≤ 268435456
   pub short : h2 < 4294967296
 
-pub end-facts : (old s1 s2 : List ℕ) (head h1 h2 count c1 c2 : ℕ) (ends backs b1 b2 : List ℕ) (cell size left right : ℕ) (i : IsIndexed old (head ∷ []) (count ∷ []) ends backs) → Site old i.arena.layout cell size ends → (w : Around i.arena.layout cell size left right) → Detached old s1 h1 count c1 backs b1 i.arena.layout (right_out right (cell + size)) → Detached s1 s2 h2 c1 c2 b1 b2 i.arena.layout (both_out left (right_out right (cell + size))) → EndFacts old s2 cell size (start_of left cell) (cell + size + right) h2 c2 ends b2
+pub end-facts : (old s1 s2 : List ℕ) (head h1 h2 count c1 c2 : ℕ) (ends backs b1 b2 : List ℕ) (cell size left right : ℕ)
+    (i : IsIndexed old (head ∷ []) (count ∷ []) ends backs) → Site old i.arena.layout cell size ends →
+    (w : Around i.arena.layout cell size left right) → Detached old s1 h1 count c1 backs b1 i.arena.layout (right_out right (cell + size)) →
+    Detached s1 s2 h2 c1 c2 b1 b2 i.arena.layout (both_out left (right_out right (cell + size))) →
+    EndFacts old s2 cell size (start_of left cell) (cell + size + right) h2 c2 ends b2
 end-facts old s1 s2 head h1 h2 count c1 c2 ends backs b1 b2 cell size left right i st w d1 d2 =
     let a = i.arena in
     let p = piece-sizes (start_of left cell) cell w.l.lefts w.l.lefts_are in
-    let e = right-end-by old a.layout (w.l.xs ++ (w.l.lefts ++ used cell size ∷ [])) (cell + size) (cell + size + right) w.r.rights w.r.ys a.tiled st.within (omega (arith, st.cell_eights, st.size_eights)) w.r.rights_are (w.r.cells_are ∙ regroup w.l.xs w.l.lefts (used cell size) w.r.rights w.r.ys) in
+    let e = right-end-by old a.layout (w.l.xs ++ (w.l.lefts ++ used cell size ∷ [])) (cell + size)
+    (cell + size + right) w.r.rights w.r.ys a.tiled st.within (omega (arith, st.cell_eights, st.size_eights)) w.r.rights_are (w.r.cells_are ∙
+    regroup w.l.xs w.l.lefts (used cell size) w.r.rights w.r.ys) in
     let long : length s2 ≡ length old = d2.long ∙ d1.long in
     let table : length b2 ≡ length backs = d2.table ∙ d1.table in
     let t = d2.threads in
@@ -209,7 +262,13 @@ zero-or-less left cell lo n false e f g l = by (cases_eq lo cell)
         strict : (x y : ℕ) → (x ≡ y → ⊥) → x ≤ y → x < y
         strict x y ne l = omega (arith, ne)
 
-pub free-done : (old s1 s2 : List ℕ) (head h1 h2 count c1 c2 : ℕ) (ends backs b1 b2 ends' backs' : List ℕ) (cell size left right : ℕ) (i : IsIndexed old (head ∷ []) (count ∷ []) ends backs) → Site old i.arena.layout cell size ends → left ≡ get_or ends (cell / 8 - 1) 0 → (w : Around i.arena.layout cell size left right) → Detached old s1 h1 count c1 backs b1 i.arena.layout (right_out right (cell + size)) → Detached s1 s2 h2 c1 c2 b1 b2 i.arena.layout (both_out left (right_out right (cell + size))) → ends' ≡ set (set ends (cell / 8 - 1) 0) ((cell + size + right) / 8 - 1) (start_of left cell) → backs' ≡ set (marked h2 (start_of left cell) b2) (start_of left cell / 8) 4294967295 → FreeDone old (freed (start_of left cell) (cell + size + right - start_of left cell) h2 s2) (start_of left cell) (c2 + 1) ends' backs' cell
+pub free-done : (old s1 s2 : List ℕ) (head h1 h2 count c1 c2 : ℕ) (ends backs b1 b2 ends' backs' : List ℕ) (cell size left right : ℕ)
+    (i : IsIndexed old (head ∷ []) (count ∷ []) ends backs) → Site old i.arena.layout cell size ends → left ≡ get_or ends (cell / 8 - 1) 0 →
+    (w : Around i.arena.layout cell size left right) → Detached old s1 h1 count c1 backs b1 i.arena.layout (right_out right (cell + size)) →
+    Detached s1 s2 h2 c1 c2 b1 b2 i.arena.layout (both_out left (right_out right (cell + size))) →
+    ends' ≡ set (set ends (cell / 8 - 1) 0) ((cell + size + right) / 8 - 1) (start_of left cell) →
+    backs' ≡ set (marked h2 (start_of left cell) b2) (start_of left cell / 8) 4294967295 →
+    FreeDone old (freed (start_of left cell) (cell + size + right - start_of left cell) h2 s2) (start_of left cell) (c2 + 1) ends' backs' cell
 free-done old s1 s2 head h1 h2 count c1 c2 ends backs b1 b2 ends' backs' cell size left right i st is w d1 d2 ee eb =
     let a = i.arena in
     let layout = a.layout in
@@ -247,8 +306,10 @@ free-done old s1 s2 head h1 h2 count c1 c2 ends backs b1 b2 ends' backs' cell si
     let beside = besides-before 0 lo hi xs (unused lo (hi - lo)) ys refl ordered in
     let beside' = besides-after 0 lo hi xs (unused lo (hi - lo)) ys (let l = f.less in omega arith) ordered in
     let choice = zero-or-less left cell lo 0 (eqb left 0) refl refl w.l.at_start f.lo_le in
-    let have : (u : ℕ) → get_or ends u 0 ≡ ending u (xs ++ ((ls ++ used cell size ∷ rs) ++ ys)) = λ u. i.ends_are (cells_in layout) (cells_of-AreBins old layout a.tiled) u ∙ ap (ending u) w.r.cells_are in
-    let ends_now = free-ends ends xs ls rs ys cell size lo hi beside beside' w.l.lefts_are w.r.rights_are (entry choice) (omega (arith, st.eight)) f.less st.cell_eights (omega (arith, st.header)) f.hi_eights st.unit_in f.end_in have in
+    let have : (u : ℕ) → get_or ends u 0 ≡ ending u (xs ++ ((ls ++ used cell size ∷ rs) ++ ys)) =
+    λ u. i.ends_are (cells_in layout) (cells_of-AreBins old layout a.tiled) u ∙ ap (ending u) w.r.cells_are in
+    let ends_now = free-ends ends xs ls rs ys cell size lo hi beside beside' w.l.lefts_are w.r.rights_are (entry choice)
+    (omega (arith, st.eight)) f.less st.cell_eights (omega (arith, st.header)) f.hi_eights st.unit_in f.end_in have in
     let al = alone-in new lo (c2 + 1) a' [] lo d2.offsets r.chained in
     let table : length b2 ≡ length backs = d2.table ∙ d1.table in
     let tail = tail-front s2 layout b2 h2 d2.offsets t.tiled (λ o. omega (arith, t.exact o)) (omega (arith, a.small)) (omega (arith, i.backs_long)) t.follows in

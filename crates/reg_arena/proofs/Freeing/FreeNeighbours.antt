@@ -1,5 +1,6 @@
 -- The free cells beside an allocated one.
-use Rattle.std.proofs.Common.{◌≡◌, ℕ, zero, suc, ◌+◌, ◌-◌, ◌*◌, ◌<◌, ◌≤◌, Bool, true, false, not, cond, inl, inr, List, [], ◌∷◌, ◌++◌, length, refl, sym, ap, ◌∙◌, subst, arith, append_assoc, ◌&&◌, eqb}
+use Rattle.std.proofs.Common.{◌≡◌, ℕ, zero, suc, ◌+◌, ◌-◌, ◌*◌, ◌<◌, ◌≤◌, Bool, true, false, not, cond, inl, inr, List, [], ◌∷◌, ◌++◌, length, refl, sym, ap, ◌∙◌, subst, arith, append_assoc}
+use Rattle.std.proofs.Common.{◌&&◌, eqb}
 use Rattle.std.proofs.lemmas.Bool.{eqb-true, eq-eqb, leb-false, lt-ltb}
 use Rattle.std.specs.List.{AllByRecursion}
 use Rattle.reg_heap.specs.ByteWords.{word}
@@ -25,7 +26,8 @@ ending-sum u (x ∷ xs) ys = omega (arith, ending-sum u xs ys)
 pub ending-append : (u : ℕ) (xs ys : List Cell) → ending u (xs ++ ys) ≡ ending u xs + ending u ys
 ending-append = ending-sum
 
-ending-one : (u : ℕ) (c : Cell) (n : ℕ) (b e : Bool) → c.allocated ≡ b → eqb (c.offset + c.size) (8 * u + 8) ≡ e → (c.allocated ≡ false → c.offset + c.size ≡ 8 * u + 8 → ⊥) → cond (not c.allocated && eqb (c.offset + c.size) (8 * u + 8)) c.offset 0 + n ≡ n
+ending-one : (u : ℕ) (c : Cell) (n : ℕ) (b e : Bool) → c.allocated ≡ b → eqb (c.offset + c.size) (8 * u + 8) ≡ e →
+    (c.allocated ≡ false → c.offset + c.size ≡ 8 * u + 8 → ⊥) → cond (not c.allocated && eqb (c.offset + c.size) (8 * u + 8)) c.offset 0 + n ≡ n
 ending-one u c n true e h f never = rw h (omega arith)
 ending-one u c n false true h f never = absurd (never h (eqb-true _ _ f))
 ending-one u c n false false h f never = rw (h, f) (omega arith)
@@ -54,10 +56,14 @@ pub record EndsThere (u : ℕ) (cells : List Cell) : Type 0 where
   pub free : d.allocated ≡ false
   pub end : d.offset + d.size ≡ 8 * u + 8
 
-ends_there-by : (u : ℕ) (c : Cell) (cells : List Cell) (b e : Bool) → c.allocated ≡ b → eqb (c.offset + c.size) (8 * u + 8) ≡ e → 0 < cond (not c.allocated && eqb (c.offset + c.size) (8 * u + 8)) c.offset 0 + ending u cells → (0 < ending u cells → EndsThere u cells) → EndsThere u (c ∷ cells)
+ends_there-by : (u : ℕ) (c : Cell) (cells : List Cell) (b e : Bool) → c.allocated ≡ b → eqb (c.offset + c.size) (8 * u + 8) ≡ e →
+    0 < cond (not c.allocated && eqb (c.offset + c.size) (8 * u + 8)) c.offset 0 + ending u cells → (0 < ending u cells → EndsThere u cells) →
+    EndsThere u (c ∷ cells)
 ends_there-by u c cells false true h f l rest = record { ds = []; d = c; bs = cells; split = refl; free = h; end = eqb-true _ _ f }
-ends_there-by u c cells true e h f l rest = (let r = rest (let m = rw h at l in omega arith) in record { ds = c ∷ r.ds; d = r.d; bs = r.bs; split = ap (λ (t : List Cell). c ∷ t) r.split; free = r.free; end = r.end })
-ends_there-by u c cells false false h f l rest = (let r = rest (let m = rw (h, f) at l in omega arith) in record { ds = c ∷ r.ds; d = r.d; bs = r.bs; split = ap (λ (t : List Cell). c ∷ t) r.split; free = r.free; end = r.end })
+ends_there-by u c cells true e h f l rest = (let r = rest (let m = rw h at l in omega arith) in
+    record { ds = c ∷ r.ds; d = r.d; bs = r.bs; split = ap (λ (t : List Cell). c ∷ t) r.split; free = r.free; end = r.end })
+ends_there-by u c cells false false h f l rest = (let r = rest (let m = rw (h, f) at l in omega arith) in
+    record { ds = c ∷ r.ds; d = r.d; bs = r.bs; split = ap (λ (t : List Cell). c ∷ t) r.split; free = r.free; end = r.end })
 
 pub ends_there : (u : ℕ) (cells : List Cell) → 0 < ending u cells → EndsThere u cells
 ends_there u [] l = absurd (omega arith)
@@ -70,13 +76,15 @@ ending-self u c cells h e = (let f : eqb (c.offset + c.size) (8 * u + 8) ≡ tru
 ending-zero-by : (u : ℕ) (c : Cell) (n : ℕ) → 0 < c.offset → cond (not c.allocated && eqb (c.offset + c.size) (8 * u + 8)) c.offset 0 + n ≡ 0 → c.allocated ≡ false → c.offset + c.size ≡ 8 * u + 8 → ⊥
 ending-zero-by u c n p z h e = (let f : eqb (c.offset + c.size) (8 * u + 8) ≡ true = eq-eqb _ _ e in let m = rw (h, f) at z in omega arith)
 
-pub ending-zero : (u : ℕ) (xs ys : List Cell) → AllByRecursion (λ (c : Cell). 32 ≤ c.offset) xs → ending u (xs ++ ys) ≡ 0 → AllByRecursion (λ (c : Cell). c.allocated ≡ false → c.offset + c.size ≡ 8 * u + 8 → ⊥) xs
+pub ending-zero : (u : ℕ) (xs ys : List Cell) → AllByRecursion (λ (c : Cell). 32 ≤ c.offset) xs → ending u (xs ++ ys) ≡ 0 →
+    AllByRecursion (λ (c : Cell). c.allocated ≡ false → c.offset + c.size ≡ 8 * u + 8 → ⊥) xs
 ending-zero u [] ys p z = tt
 ending-zero u (c ∷ xs) ys p z = (ending-zero-by u c (ending u (xs ++ ys)) (let l = p.0 in omega arith) z, ending-zero u xs ys p.1 (omega (arith, z)))
 
 starts-from : (bytes : List ℕ) (layout : List Bin) → AreBins bytes 0 layout → (xs ys : List Cell) → cells_in layout ≡ xs ++ ys → AllByRecursion (λ (c : Cell). 32 ≤ c.offset) ys
 starts-from bytes layout h xs [] e = tt
-starts-from bytes layout h xs (c ∷ ys) e = (let st = stands bytes layout xs c ys h e in let l = st.header in (omega arith, starts-from bytes layout h (xs ++ c ∷ []) ys (e ∙ sym (append_assoc xs (c ∷ []) ys))))
+starts-from bytes layout h xs (c ∷ ys) e = (let st = stands bytes layout xs c ys h e in let l = st.header in
+    (omega arith, starts-from bytes layout h (xs ++ c ∷ []) ys (e ∙ sym (append_assoc xs (c ∷ []) ys))))
 
 all-part : (P : Cell → Type 0) (xs ys : List Cell) → AllByRecursion P (xs ++ ys) → AllByRecursion P xs
 all-part P [] ys h = tt
@@ -104,7 +112,8 @@ apart-front (x ∷ ds) d bs f h = ((λ u e. here ds h.0 (record { first = u; sec
     here [] a t = a.0 t
     here (z ∷ zs) a t = here zs a.1 t
 
-lefts-none : (bytes : List ℕ) (layout : List Bin) (xs : List Cell) (c : Cell) (ys : List Cell) (u left : ℕ) → AreBins bytes 0 layout → cells_in layout ≡ xs ++ c ∷ ys → 8 * u + 8 ≡ c.offset → ending u (cells_in layout) ≡ 0 → left ≡ 0 → Lefts layout c ys c.offset left
+lefts-none : (bytes : List ℕ) (layout : List Bin) (xs : List Cell) (c : Cell) (ys : List Cell) (u left : ℕ) → AreBins bytes 0 layout →
+    cells_in layout ≡ xs ++ c ∷ ys → 8 * u + 8 ≡ c.offset → ending u (cells_in layout) ≡ 0 → left ≡ 0 → Lefts layout c ys c.offset left
 lefts-none bytes layout xs c ys u left tiled e place z zero_left = record {
   at_start = λ _. zero_left;
   xs = xs;
@@ -112,13 +121,17 @@ lefts-none bytes layout xs c ys u left tiled e place z zero_left = record {
   cells_are = e;
   row = row-of-one layout xs c ys (placed layout xs c ys e);
   lefts_are = refl;
-  before = subst (λ (k : ℕ). AllByRecursion (λ (x : Cell). x.allocated ≡ false → x.offset + x.size ≡ k → ⊥) xs) place (ending-zero u xs (c ∷ ys) (all-part (λ (x : Cell). 32 ≤ x.offset) xs (c ∷ ys) (subst (AllByRecursion (λ (x : Cell). 32 ≤ x.offset)) e (starts-from bytes layout tiled [] (cells_in layout) refl))) (ap (ending u) (sym e) ∙ z));
+  before = subst (λ (k : ℕ). AllByRecursion (λ (x : Cell). x.allocated ≡ false → x.offset + x.size ≡ k → ⊥) xs) place
+      (ending-zero u xs (c ∷ ys) (all-part (λ (x : Cell). 32 ≤ x.offset) xs (c ∷ ys) (subst (AllByRecursion (λ (x : Cell). 32 ≤ x.offset)) e
+      (starts-from bytes layout tiled [] (cells_in layout) refl))) (ap (ending u) (sym e) ∙ z));
 }
 
 as_free : (d : Cell) (hi : ℕ) → d.allocated ≡ false → d.offset + d.size ≡ hi → d ≡ unused d.offset (hi - d.offset)
 as_free d hi f e = (let n : d.size ≡ hi - d.offset = omega arith in as_unused d f ∙ ap (λ (k : ℕ). unused d.offset k) n)
 
-lefts-some : (bytes : List ℕ) (layout : List Bin) (xs : List Cell) (c : Cell) (ys : List Cell) (u : ℕ) → AreBins bytes 0 layout → AreApart (cells_in layout) → cells_in layout ≡ xs ++ c ∷ ys → 8 * u + 8 ≡ c.offset → 0 < ending u (cells_in layout) → Lefts layout c ys (ending u (cells_in layout)) (ending u (cells_in layout))
+lefts-some : (bytes : List ℕ) (layout : List Bin) (xs : List Cell) (c : Cell) (ys : List Cell) (u : ℕ) → AreBins bytes 0 layout →
+    AreApart (cells_in layout) → cells_in layout ≡ xs ++ c ∷ ys → 8 * u + 8 ≡ c.offset → 0 < ending u (cells_in layout) →
+    Lefts layout c ys (ending u (cells_in layout)) (ending u (cells_in layout))
 lefts-some bytes layout xs c ys u tiled apart e place some =
     let r = ends_there u (cells_in layout) some in
     let d = r.d in
@@ -143,7 +156,9 @@ lefts-some bytes layout xs c ys u tiled apart e place some =
       before = apart-front r.ds d r.bs r.free (subst AreApart r.split apart);
     })
 
-lefts-by : (bytes : List ℕ) (layout : List Bin) (xs : List Cell) (c : Cell) (ys : List Cell) (u left : ℕ) → AreBins bytes 0 layout → AreApart (cells_in layout) → cells_in layout ≡ xs ++ c ∷ ys → 8 * u + 8 ≡ c.offset → left ≡ ending u (cells_in layout) → (b : Bool) → eqb left 0 ≡ b → Lefts layout c ys (cond b c.offset left) left
+lefts-by : (bytes : List ℕ) (layout : List Bin) (xs : List Cell) (c : Cell) (ys : List Cell) (u left : ℕ) → AreBins bytes 0 layout →
+    AreApart (cells_in layout) → cells_in layout ≡ xs ++ c ∷ ys → 8 * u + 8 ≡ c.offset → left ≡ ending u (cells_in layout) → (b : Bool) →
+    eqb left 0 ≡ b → Lefts layout c ys (cond b c.offset left) left
 lefts-by bytes layout xs c ys u left tiled apart e place is true z = lefts-none bytes layout xs c ys u left tiled e place (sym is ∙ eqb-true left 0 z) (eqb-true left 0 z)
 lefts-by bytes layout xs c ys u left tiled apart e place is false z = rw is (lefts-some bytes layout xs c ys u tiled apart e place (positive (ending u (cells_in layout)) (rw is at z)))
   where
@@ -151,7 +166,9 @@ lefts-by bytes layout xs c ys u left tiled apart e place is false z = rw is (lef
     positive zero h = absurd (cc h)
     positive (suc n) h = omega arith
 
-pub lefts : (bytes : List ℕ) (layout : List Bin) (xs : List Cell) (c : Cell) (ys : List Cell) (u left : ℕ) → AreBins bytes 0 layout → AreApart (cells_in layout) → cells_in layout ≡ xs ++ c ∷ ys → 8 * u + 8 ≡ c.offset → left ≡ ending u (cells_in layout) → Lefts layout c ys (start_of left c.offset) left
+pub lefts : (bytes : List ℕ) (layout : List Bin) (xs : List Cell) (c : Cell) (ys : List Cell) (u left : ℕ) → AreBins bytes 0 layout →
+    AreApart (cells_in layout) → cells_in layout ≡ xs ++ c ∷ ys → 8 * u + 8 ≡ c.offset → left ≡ ending u (cells_in layout) →
+    Lefts layout c ys (start_of left c.offset) left
 lefts bytes layout xs c ys u left tiled apart e place is = lefts-by bytes layout xs c ys u left tiled apart e place is (eqb left 0) refl
 
 -- ---- the right
@@ -171,7 +188,9 @@ word-of-free field size a b l =
     sym same ∙ a
 
 -- no free cell stands where the word is none of a free cell
-after-none : (bytes : List ℕ) (layout : List Bin) (end : ℕ) → AreBins bytes 0 layout → length bytes ≤ 268435456 → (end < length bytes → word bytes end ≤ 268435456 → ⊥) → (xs ys : List Cell) → cells_in layout ≡ xs ++ ys → AllByRecursion (λ (y : Cell). y.allocated ≡ false → end ≡ y.offset → ⊥) ys
+after-none : (bytes : List ℕ) (layout : List Bin) (end : ℕ) → AreBins bytes 0 layout → length bytes ≤ 268435456 →
+    (end < length bytes → word bytes end ≤ 268435456 → ⊥) → (xs ys : List Cell) → cells_in layout ≡ xs ++ ys →
+    AllByRecursion (λ (y : Cell). y.allocated ≡ false → end ≡ y.offset → ⊥) ys
 after-none bytes layout end tiled small none xs [] e = tt
 after-none bytes layout end tiled small none xs (y ∷ ys) e =
     let st = stands bytes layout xs y ys tiled e in
@@ -181,14 +200,17 @@ after-none bytes layout end tiled small none xs (y ∷ ys) e =
       after-none bytes layout end tiled small none (xs ++ y ∷ []) ys (e ∙ sym (append_assoc xs (y ∷ []) ys)),
     )
 
-rights-none : (bytes : List ℕ) (layout : List Bin) (c : Cell) (ys : List Cell) (lo left : ℕ) (l : Lefts layout c ys lo left) → AreBins bytes 0 layout → length bytes ≤ 268435456 → (c.offset + c.size < length bytes → word bytes (c.offset + c.size) ≤ 268435456 → ⊥) → Rights layout l.xs l.lefts c (c.offset + c.size)
+rights-none : (bytes : List ℕ) (layout : List Bin) (c : Cell) (ys : List Cell) (lo left : ℕ) (l : Lefts layout c ys lo left) →
+    AreBins bytes 0 layout → length bytes ≤ 268435456 → (c.offset + c.size < length bytes → word bytes (c.offset + c.size) ≤ 268435456 → ⊥) →
+    Rights layout l.xs l.lefts c (c.offset + c.size)
 rights-none bytes layout c ys lo left l tiled small none = record {
   rights = [];
   ys = ys;
   cells_are = l.cells_are ∙ ap (λ (t : List Cell). l.xs ++ t) (sym (append_assoc l.lefts (c ∷ []) ys));
   row = l.row;
   rights_are = refl;
-  after = after-none bytes layout (c.offset + c.size) tiled small none (l.xs ++ (l.lefts ++ c ∷ [])) ys (l.cells_are ∙ sym (append_assoc l.xs (l.lefts ++ c ∷ []) ys ∙ ap (λ (t : List Cell). l.xs ++ t) (append_assoc l.lefts (c ∷ []) ys)));
+  after = after-none bytes layout (c.offset + c.size) tiled small none (l.xs ++ (l.lefts ++ c ∷ [])) ys (l.cells_are ∙
+      sym (append_assoc l.xs (l.lefts ++ c ∷ []) ys ∙ ap (λ (t : List Cell). l.xs ++ t) (append_assoc l.lefts (c ∷ []) ys)));
 }
 
 regroup : (a b : List Cell) (c v : Cell) (w : List Cell) → a ++ ((b ++ c ∷ []) ++ v ∷ w) ≡ a ++ ((b ++ c ∷ (v ∷ [])) ++ w)
@@ -201,7 +223,9 @@ end-of-bins : (bytes : List ℕ) (end : ℕ) (qs : List Bin) → AreBins bytes e
 end-of-bins bytes end [] h l w = omega arith
 end-of-bins bytes end (q ∷ qs) h l w = (let s : word bytes end ≡ 1852400232 = ap (word bytes) (sym h.0) ∙ h.1.signature in omega (arith, s))
 
-rights-by : (bytes : List ℕ) (layout : List Bin) (c : Cell) (ys : List Cell) (lo left : ℕ) (l : Lefts layout c ys lo left) → AreBins bytes 0 layout → AreApart (cells_in layout) → c.offset + c.size < length bytes → word bytes (c.offset + c.size) ≤ 268435456 → (vs : List Cell) → l.row.vs ≡ vs → Rights layout l.xs l.lefts c (c.offset + c.size + word bytes (c.offset + c.size))
+rights-by : (bytes : List ℕ) (layout : List Bin) (c : Cell) (ys : List Cell) (lo left : ℕ) (l : Lefts layout c ys lo left) → AreBins bytes 0 layout →
+    AreApart (cells_in layout) → c.offset + c.size < length bytes → word bytes (c.offset + c.size) ≤ 268435456 → (vs : List Cell) → l.row.vs ≡ vs →
+    Rights layout l.xs l.lefts c (c.offset + c.size + word bytes (c.offset + c.size))
 rights-by bytes layout c ys lo left l tiled apart inside free [] e =
     let p = l.row in
     let laid = subst (AreBins bytes 0) p.bins tiled in
@@ -231,7 +255,18 @@ rights-by bytes layout c ys lo left l tiled apart inside free (v ∷ vs) e =
       rights = v ∷ [];
       ys = later;
       cells_are = all ∙ shuffle2 l.xs l.lefts c v later;
-      row = record { ps = p.ps; b = p.b; qs = p.qs; us = p.us; vs = vs; bins = p.bins; cells = p.cells ∙ ap (λ (t : List Cell). p.us ++ ((l.lefts ++ c ∷ []) ++ t)) e ∙ regroup p.us l.lefts c v vs; before = p.before; after = refl };
+      row = record {
+        ps = p.ps;
+        b = p.b;
+        qs = p.qs;
+        us = p.us;
+        vs = vs;
+        bins = p.bins;
+        cells = p.cells ∙
+            ap (λ (t : List Cell). p.us ++ ((l.lefts ++ c ∷ []) ++ t)) e ∙ regroup p.us l.lefts c v vs;
+        before = p.before;
+        after = refl;
+      };
       rights_are = (piece v (c.offset + c.size) (word bytes (c.offset + c.size)) unit place size, omega arith);
       after = touching later back.0 unit place size;
     }
@@ -245,10 +280,15 @@ rights-by bytes layout c ys lo left l tiled apart inside free (v ∷ vs) e =
     piece : (v : Cell) (at n : ℕ) → v.allocated ≡ false → v.offset ≡ at → v.size ≡ n → v ≡ unused at (at + n - at)
     piece v at n f a b = (let m : v.size ≡ at + n - at = omega arith in as_unused v f ∙ ap (λ (k : ℕ). unused k v.size) a ∙ ap (λ (k : ℕ). unused at k) m)
 
-    touching : (zs : List Cell) → AllByRecursion (λ y. Touch v y → ⊥) zs → v.allocated ≡ false → v.offset ≡ c.offset + c.size → v.size ≡ word bytes (c.offset + c.size) → AllByRecursion (λ (y : Cell). y.allocated ≡ false → c.offset + c.size + word bytes (c.offset + c.size) ≡ y.offset → ⊥) zs
+    touching : (zs : List Cell) → AllByRecursion (λ y. Touch v y → ⊥) zs → v.allocated ≡ false → v.offset ≡ c.offset + c.size →
+        v.size ≡ word bytes (c.offset + c.size) → AllByRecursion (λ (y : Cell). y.allocated ≡ false →
+        c.offset + c.size + word bytes (c.offset + c.size) ≡ y.offset → ⊥) zs
     touching [] a f g h = tt
     touching (z ∷ zs) a f g h = ((λ u q. a.0 (record { first = f; second = u; ends = omega (arith, g, h, q) })), touching zs a.1 f g h)
 
-pub rights : (bytes : List ℕ) (layout : List Bin) (c : Cell) (ys : List Cell) (lo left right : ℕ) (l : Lefts layout c ys lo left) → AreBins bytes 0 layout → AreApart (cells_in layout) → length bytes ≤ 268435456 → IsRight bytes (c.offset + c.size) right → Rights layout l.xs l.lefts c (c.offset + c.size + right)
+pub rights : (bytes : List ℕ) (layout : List Bin) (c : Cell) (ys : List Cell) (lo left right : ℕ) (l : Lefts layout c ys lo left) →
+    AreBins bytes 0 layout → AreApart (cells_in layout) → length bytes ≤ 268435456 → IsRight bytes (c.offset + c.size) right →
+    Rights layout l.xs l.lefts c (c.offset + c.size + right)
 rights bytes layout c ys lo left right l tiled apart small (inl h) = rw h.2 (rights-by bytes layout c ys lo left l tiled apart h.0 h.1 l.row.vs refl)
-rights bytes layout c ys lo left right l tiled apart small (inr h) = (let e : c.offset + c.size + right ≡ c.offset + c.size = omega (arith, h.0) in rw e (rights-none bytes layout c ys lo left l tiled small h.1))
+rights bytes layout c ys lo left right l tiled apart small (inr h) = (let e : c.offset + c.size + right ≡ c.offset + c.size = omega (arith, h.0) in
+    rw e (rights-none bytes layout c ys lo left l tiled small h.1))

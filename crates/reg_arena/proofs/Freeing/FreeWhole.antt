@@ -1,5 +1,6 @@
 -- The whole of freeing a cell.
-use Rattle.std.proofs.Common.{◌≡◌, ℕ, zero, suc, ◌+◌, ◌-◌, ◌*◌, ◌/◌, ◌<◌, ◌≤◌, ◌%◌, Bool, true, false, cond, ◌⊎◌, inl, inr, List, [], ◌∷◌, ◌++◌, length, get_or, refl, sym, ap, ◌∙◌, subst, arith, append_assoc, eqb, None, is_some}
+use Rattle.std.proofs.Common.{◌≡◌, ℕ, zero, suc, ◌+◌, ◌-◌, ◌*◌, ◌/◌, ◌<◌, ◌≤◌, ◌%◌, Bool, true, false, cond, ◌⊎◌, inl, inr, List, [], ◌∷◌, ◌++◌, length, get_or, refl, sym, ap, ◌∙◌, subst}
+use Rattle.std.proofs.Common.{arith, append_assoc, eqb, None, is_some}
 use Rattle.std.proofs.lemmas.Bool.{eq-eqb, ne_eqb, cases_eq}
 use Rattle.std.specs.List.{AllByRecursion}
 use Rattle.reg_heap.specs.ByteWords.{word}
@@ -40,7 +41,8 @@ pub record Site (old : List ℕ) (layout : List Bin) (cell size : ℕ) (ends : L
 as_used : (c : Cell) (cell size : ℕ) → c.allocated ≡ true → c.offset ≡ cell → c.size ≡ size → c ≡ used cell size
 as_used c cell size a e f = rw (← a, ← e, ← f) refl
 
-pub site : (old : List ℕ) (head count : ℕ) (ends backs : List ℕ) (cell size : ℕ) → (i : IsIndexed old (head ∷ []) (count ∷ []) ends backs) → is_some (cell_at old cell) ≡ true → size ≡ size_in (word old cell) → Site old i.arena.layout cell size ends
+pub site : (old : List ℕ) (head count : ℕ) (ends backs : List ℕ) (cell size : ℕ) → (i : IsIndexed old (head ∷ []) (count ∷ []) ends backs) →
+    is_some (cell_at old cell) ≡ true → size ≡ size_in (word old cell) → Site old i.arena.layout cell size ends
 site old head count ends backs cell size i h is =
     let a = i.arena in
     let at = cell_at-AreBins old a.layout cell a.tiled in
@@ -70,7 +72,9 @@ pub record Around (layout : List Bin) (cell size left right : ℕ) : Type 0 wher
   pub l : Lefts layout (used cell size) ys (start_of left cell) left
   pub r : Rights layout l.xs l.lefts (used cell size) (cell + size + right)
 
-pub around : (old : List ℕ) (head count : ℕ) (ends backs : List ℕ) (cell size left right : ℕ) → (i : IsIndexed old (head ∷ []) (count ∷ []) ends backs) → Site old i.arena.layout cell size ends → left ≡ get_or ends (cell / 8 - 1) 0 → IsRight old (cell + size) right → Around i.arena.layout cell size left right
+pub around : (old : List ℕ) (head count : ℕ) (ends backs : List ℕ) (cell size left right : ℕ) →
+    (i : IsIndexed old (head ∷ []) (count ∷ []) ends backs) → Site old i.arena.layout cell size ends → left ≡ get_or ends (cell / 8 - 1) 0 →
+    IsRight old (cell + size) right → Around i.arena.layout cell size left right
 around old head count ends backs cell size left right i s e h =
     let a = i.arena in
     let apart = a.free.apart in
@@ -128,7 +132,8 @@ regroup2 : (xs ls : List Cell) (c : Cell) (rs ys : List Cell) → xs ++ ((ls ++ 
 regroup2 xs ls c rs ys = simp append_assoc
 
 pub right-in : (layout : List Bin) (cell size left right : ℕ) (w : Around layout cell size left right) → 0 < right → 0 < times (cell + size) (free_of one_class 0 (cells_in layout))
-right-in layout cell size left right w h = piece-in (cells_in layout) (w.l.xs ++ (w.l.lefts ++ used cell size ∷ [])) (cell + size) (cell + size + right) w.r.rights w.r.ys w.r.rights_are (omega arith) (w.r.cells_are ∙ regroup w.l.xs w.l.lefts (used cell size) w.r.rights w.r.ys)
+right-in layout cell size left right w h = piece-in (cells_in layout) (w.l.xs ++ (w.l.lefts ++ used cell size ∷ [])) (cell + size)
+    (cell + size + right) w.r.rights w.r.ys w.r.rights_are (omega arith) (w.r.cells_are ∙ regroup w.l.xs w.l.lefts (used cell size) w.r.rights w.r.ys)
 
 -- the piece on the left
 pub record LeftFacts (cell left : ℕ) (lefts : List Cell) : Type 0 where
@@ -167,7 +172,9 @@ times-other x right end l = by (eqb right 0)
     by true = refl
     by false = (let e : eqb end x ≡ false = ne_eqb end x (λ z. omega arith) in rw e refl)
 
-pub left-still : (bytes : List ℕ) (layout : List Bin) (head count : ℕ) (backs offsets : List ℕ) (cell size left right : ℕ) (w : Around layout cell size left right) → Threads bytes head count backs layout (right_out right (cell + size)) offsets → 0 < left → 0 < times left offsets
+pub left-still : (bytes : List ℕ) (layout : List Bin) (head count : ℕ) (backs offsets : List ℕ) (cell size left right : ℕ)
+    (w : Around layout cell size left right) → Threads bytes head count backs layout (right_out right (cell + size)) offsets → 0 < left →
+    0 < times left offsets
 left-still bytes layout head count backs offsets cell size left right w t h =
     let f = left-facts layout cell size left right w h in
     let none = times-other left right (cell + size) (let l = f.less in omega arith) in

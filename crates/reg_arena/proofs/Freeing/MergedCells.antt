@@ -87,11 +87,18 @@ pub record Freeing (old new : List ℕ) (lo count' cell : ℕ) (offsets : List �
   pub now : cells_of new ≡ Some (xs ++ unused lo (sizes mid) ∷ ys)
   pub contents : (offset : ℕ) → cell_at new offset ≡ cond (eqb offset cell) None (cell_at old offset)
 
-contents-free : (x m y : Option (List ℕ)) (offset cell : ℕ) → ((offset ≡ cell → ⊥) → m ≡ None) → (offset ≡ cell → (x ≡ None) × (y ≡ None)) → (offset ≡ cell) ⊎ (offset ≡ cell → ⊥) → or_else x y ≡ cond (eqb offset cell) None (or_else x (or_else m y))
+contents-free : (x m y : Option (List ℕ)) (offset cell : ℕ) → ((offset ≡ cell → ⊥) → m ≡ None) → (offset ≡ cell → (x ≡ None) × (y ≡ None)) →
+    (offset ≡ cell) ⊎ (offset ≡ cell → ⊥) → or_else x y ≡ cond (eqb offset cell) None (or_else x (or_else m y))
 contents-free x m y offset cell f g (inl e) = let s : eqb offset cell ≡ true = eq-eqb _ _ e in let n = g e in rw (s, n.0, n.1) refl
 contents-free x m y offset cell f g (inr e) = let s : eqb offset cell ≡ false = ne_eqb _ _ e in let n = f e in rw (s, n) refl
 
-pub freeing : (old s1 : List ℕ) (layout : List Bin) (head : ℕ) (offsets : List ℕ) (xs : List Cell) (m : Cell) (ms ys : List Cell) (cell count' : ℕ) → AreBins old 0 layout → AreBins s1 0 layout → length s1 ≤ 268435456 → length s1 ≡ length old → ((offset : ℕ) → content_in s1 (cells_in layout) offset ≡ content_in old (cells_in layout) offset) → AreApart (cells_in layout) → Follows s1 head offsets → head < 4294967296 → ((o : ℕ) → times o offsets ≡ times o (free_of one_class 0 xs) + times o (free_of one_class 0 ys)) → cells_in layout ≡ xs ++ ((m ∷ ms) ++ ys) → PlacedRow layout xs (m ∷ ms) ys → EndsFree xs ys m.offset (m.offset + sizes (m ∷ ms)) → m.offset ≤ cell → cell < m.offset + sizes (m ∷ ms) → ((offset : ℕ) → (offset ≡ cell → ⊥) → content_in s1 (m ∷ ms) offset ≡ None) → count' ≡ suc (length offsets) → Freeing old (freed m.offset (sizes (m ∷ ms)) head s1) m.offset count' cell offsets xs (m ∷ ms) ys
+pub freeing : (old s1 : List ℕ) (layout : List Bin) (head : ℕ) (offsets : List ℕ) (xs : List Cell) (m : Cell) (ms ys : List Cell) (cell count' : ℕ) →
+    AreBins old 0 layout → AreBins s1 0 layout → length s1 ≤ 268435456 → length s1 ≡ length old →
+    ((offset : ℕ) → content_in s1 (cells_in layout) offset ≡ content_in old (cells_in layout) offset) → AreApart (cells_in layout) →
+    Follows s1 head offsets → head < 4294967296 → ((o : ℕ) → times o offsets ≡ times o (free_of one_class 0 xs) + times o (free_of one_class 0 ys)) →
+    cells_in layout ≡ xs ++ ((m ∷ ms) ++ ys) → PlacedRow layout xs (m ∷ ms) ys → EndsFree xs ys m.offset (m.offset + sizes (m ∷ ms)) →
+    m.offset ≤ cell → cell < m.offset + sizes (m ∷ ms) → ((offset : ℕ) → (offset ≡ cell → ⊥) → content_in s1 (m ∷ ms) offset ≡ None) →
+    count' ≡ suc (length offsets) → Freeing old (freed m.offset (sizes (m ∷ ms)) head s1) m.offset count' cell offsets xs (m ∷ ms) ys
 freeing old s1 layout head offsets xs m ms ys cell count' tiled0 tiled small long same apart follows short exact cells_are p ends in_lo in_hi only counted =
     let mid : List Cell = m ∷ ms in
     let size : ℕ = sizes mid in
@@ -120,10 +127,17 @@ freeing old s1 layout head offsets xs m ms ys cell count' tiled0 tiled small lon
     let ordered_mid : AreOrdered 0 (mid ++ ys) = AreOrdered-back 0 xs (mid ++ ys) ordered in
     let after = beside-after lo hi hi ys (omega arith) (AreOrdered-past s1 lo hi lo mid ys row refl (omega arith, ordered_mid.1, ordered_mid.2)) in
     let exact0 : (o : ℕ) → times o offsets + times o [] ≡ times o (free_of one_class 0 xs) + times o (free_of one_class 0 ys) = λ o. omega (arith, exact o) in
-    let clear = others-all (IsClear lo hi) one_class 0 xs ys offsets [] exact0 (free_of-all _ one_class 0 xs (clear-cells lo hi xs before)) (free_of-all _ one_class 0 ys (clear-cells lo hi ys after)) in
-    let follows' : Follows new lo (lo ∷ offsets) = (refl, subst (λ (k : ℕ). Follows new k offsets) (sym (freed-next lo size head s1 (omega arith) short)) (Follows-same s offsets head clear.0 follows)) in
+    let clear = others-all (IsClear lo hi) one_class 0 xs ys offsets [] exact0 (free_of-all _ one_class 0 xs (clear-cells lo hi xs before))
+    (free_of-all _ one_class 0 ys (clear-cells lo hi ys after)) in
+    let follows' : Follows new lo (lo ∷ offsets) = (
+      refl,
+      subst (λ (k : ℕ). Follows new k offsets) (sym (freed-next lo size head s1 (omega arith) short))
+          (Follows-same s offsets head clear.0 follows),
+    ) in
     let exact' : (o : ℕ) → times o (lo ∷ offsets) ≡ times o (free_of one_class 0 (cells_in layout')) = λ o.
-    let a : times o (free_of one_class 0 (cells_in layout')) ≡ times o (free_of one_class 0 xs) + times o (lo ∷ free_of one_class 0 ys) = ap (λ cs. times o (free_of one_class 0 cs)) cells' ∙ ap (times o) (free_of-append one_class 0 xs (free ∷ ys)) ∙ times-append o (free_of one_class 0 xs) _ in
+    let a : times o (free_of one_class 0 (cells_in layout')) ≡ times o (free_of one_class 0 xs) + times o (lo ∷ free_of one_class 0 ys) =
+    ap (λ cs. times o (free_of one_class 0 cs)) cells' ∙ ap (times o) (free_of-append one_class 0 xs (free ∷ ys)) ∙
+    times-append o (free_of one_class 0 xs) _ in
     omega (arith, a, exact o) in
     let ordered' : AreOrdered 0 (cells_in layout') = AreOrdered-AreBins new 0 layout' tiled' in
     let ends' = ends-from new layout' tiled' (λ (c : Cell). c.offset + c.size ≤ length new) (λ c h. h.within) [] (cells_in layout') refl in
@@ -140,5 +154,7 @@ freeing old s1 layout head offsets xs m ms ys cell count' tiled0 tiled small lon
           ∙ ap (λ o. or_else o (content_in new ys offset)) (content_in-beside s xs offset before) ∙ ap (or_else (content_in s1 xs offset)) (content_in-beside s ys offset after)
           ∙ contents-free (content_in s1 xs offset) (content_in s1 mid offset) (content_in s1 ys offset) offset cell (only offset)
           (λ e. (content_in-none lo hi s1 xs offset before (omega arith) (omega arith), content_in-none lo hi s1 ys offset after (omega arith) (omega arith))) (cases_eq offset cell)
-          ∙ ap (λ o. cond (eqb offset cell) None o) (sym (ap (or_else (content_in s1 xs offset)) (content_in-append s1 mid ys offset)) ∙ sym (content_in-append s1 xs (mid ++ ys) offset) ∙ sym (ap (λ cs. content_in s1 cs offset) cells_are) ∙ same offset ∙ sym (cell_at-AreBins old layout offset tiled0));
+          ∙ ap (λ o. cond (eqb offset cell) None o) (sym (ap (or_else (content_in s1 xs offset)) (content_in-append s1 mid ys offset)) ∙
+          sym (content_in-append s1 xs (mid ++ ys) offset) ∙ sym (ap (λ cs. content_in s1 cs offset) cells_are) ∙ same offset ∙
+          sym (cell_at-AreBins old layout offset tiled0));
     }

@@ -16,7 +16,8 @@ Tiles-eights bytes at stop (c ∷ cells) e h =
 pub AreBins-eights : (bytes : List ℕ) (at : ℕ) (layout : List Bin) → at % 8 ≡ 0 → AreBins bytes at layout → AllByRecursion (λ (c : Cell). c.offset % 8 ≡ 0) (cells_in layout)
 AreBins-eights bytes at [] e h = tt
 AreBins-eights bytes at (b ∷ layout) e h =
-    all-append (λ (c : Cell). c.offset % 8 ≡ 0) b.cells (cells_in layout) (Tiles-eights bytes (at + 32) (at + b.size) b.cells (omega arith) h.2) (AreBins-eights bytes (at + b.size) layout (omega (arith, h.1.pages)) h.3)
+    all-append (λ (c : Cell). c.offset % 8 ≡ 0) b.cells (cells_in layout) (Tiles-eights bytes (at + 32) (at + b.size) b.cells (omega arith) h.2)
+    (AreBins-eights bytes (at + b.size) layout (omega (arith, h.1.pages)) h.3)
 
 AreBins-pages : (bytes : List ℕ) (at : ℕ) (layout : List Bin) → at % 4096 ≡ 0 → AreBins bytes at layout → length bytes % 4096 ≡ 0
 AreBins-pages bytes at [] e h = rw (← h) e

@@ -1,5 +1,6 @@
 -- What the cells of some bytes say of the bytes, and of what each cell holds. Crates above may cite this file.
-use Rattle.std.proofs.Common.{◌≡◌, ℕ, zero, suc, ◌+◌, ◌-◌, ◌%◌, ◌<◌, ◌≤◌, Bool, true, false, List, [], ◌∷◌, ◌++◌, length, take, drop, refl, sym, ap, ◌∙◌, subst, arith, Option, Some, None, ◌&&◌, eqb, ltb, leb, is_some, length-take, length-drop, length-append, get_or}
+use Rattle.std.proofs.Common.{◌≡◌, ℕ, zero, suc, ◌+◌, ◌-◌, ◌%◌, ◌<◌, ◌≤◌, Bool, true, false, List, [], ◌∷◌, ◌++◌, length, take, drop, refl, sym, ap, ◌∙◌, subst, arith, Option, Some, None}
+use Rattle.std.proofs.Common.{◌&&◌, eqb, ltb, leb, is_some, length-take, length-drop, length-append, get_or}
 use Rattle.std.specs.Prelude.{sum_by, option_map, All, Contains}
 use Rattle.std.specs.List.{AllByRecursion}
 use Rattle.std.proofs.Math.Seq.{get_or-append_seam}
@@ -49,7 +50,10 @@ AreBins-sum bytes layout h = let e = bins_sum bytes 0 layout h in omega arith
 abbrev met : List ℕ → ℕ → Cell
 met bytes at = record { offset = at; size = size_in (word bytes at); allocated = is_allocated_in (word bytes at) }
 
-tiles-cell : (bytes : List ℕ) (at stop : ℕ) (cells : List Cell) (good : Bool) → (ltb 0 (size_in (word bytes at)) && eqb (size_in (word bytes at) % 8) 0 && leb (at + size_in (word bytes at)) stop) ≡ good → (rest : Option (List Cell)) → ((ys : List Cell) → rest ≡ Some ys → Tiles bytes (at + size_in (word bytes at)) stop ys) → choose good (λ _. option_map (λ (ys : List Cell). met bytes at ∷ ys) rest) (λ _. None) ≡ Some cells → Tiles bytes at stop cells
+tiles-cell : (bytes : List ℕ) (at stop : ℕ) (cells : List Cell) (good : Bool) →
+    (ltb 0 (size_in (word bytes at)) && eqb (size_in (word bytes at) % 8) 0 && leb (at + size_in (word bytes at)) stop) ≡ good →
+    (rest : Option (List Cell)) → ((ys : List Cell) → rest ≡ Some ys → Tiles bytes (at + size_in (word bytes at)) stop ys) →
+    choose good (λ _. option_map (λ (ys : List Cell). met bytes at ∷ ys) rest) (λ _. None) ≡ Some cells → Tiles bytes at stop cells
 tiles-cell bytes at stop cells false g rest t e = absurd (cc)
 tiles-cell bytes at stop cells true g None t e = absurd (cc)
 tiles-cell bytes at stop cells true g (Some ys) t e =
@@ -58,7 +62,8 @@ tiles-cell bytes at stop cells true g (Some ys) t e =
     let cell : IsCell bytes stop (met bytes at) = record { size = refl; allocated = refl; positive = ltb-true _ _ one.0; eights = eqb-true _ _ one.1; within = leb-true _ _ two.1 } in
     subst (Tiles bytes at stop) (same_Some (met bytes at ∷ ys) cells e) (refl, cell, t ys refl)
 
-tiles-end : (bytes : List ℕ) (at stop : ℕ) (cells : List Cell) (end : Bool) → eqb at stop ≡ end → (other : Option (List Cell)) → (other ≡ Some cells → Tiles bytes at stop cells) → choose end (λ _. Some []) (λ _. other) ≡ Some cells → Tiles bytes at stop cells
+tiles-end : (bytes : List ℕ) (at stop : ℕ) (cells : List Cell) (end : Bool) → eqb at stop ≡ end → (other : Option (List Cell)) →
+    (other ≡ Some cells → Tiles bytes at stop cells) → choose end (λ _. Some []) (λ _. other) ≡ Some cells → Tiles bytes at stop cells
 tiles-end bytes at stop cells true z other t e = subst (Tiles bytes at stop) (same_Some [] cells e) (eqb-true at stop z)
 tiles-end bytes at stop cells false z other t e = t e
 
@@ -66,7 +71,8 @@ tiles-end bytes at stop cells false z other t e = t e
 pub Tiles-cells_from : (steps : ℕ) (bytes : List ℕ) (at stop : ℕ) (cells : List Cell) → cells_from steps bytes at stop ≡ Some cells → Tiles bytes at stop cells
 Tiles-cells_from zero bytes at stop cells e = absurd (cc)
 Tiles-cells_from (suc steps) bytes at stop cells e =
-    tiles-end bytes at stop cells _ refl _ (tiles-cell bytes at stop cells _ refl (cells_from steps bytes (at + size_in (word bytes at)) stop) (λ ys f. Tiles-cells_from steps bytes (at + size_in (word bytes at)) stop ys f)) e
+    tiles-end bytes at stop cells _ refl _ (tiles-cell bytes at stop cells _ refl (cells_from steps bytes (at + size_in (word bytes at)) stop)
+    (λ ys f. Tiles-cells_from steps bytes (at + size_in (word bytes at)) stop ys f)) e
 
 -- bins that hold these cells, from at on
 pub record HasLayout (bytes : List ℕ) (at : ℕ) (cells : List Cell) : Type 0 where
@@ -74,7 +80,12 @@ pub record HasLayout (bytes : List ℕ) (at : ℕ) (cells : List Cell) : Type 0 
   pub tiled : AreBins bytes at layout
   pub cells_are : cells ≡ cells_in layout
 
-bins-bin : (bytes : List ℕ) (at : ℕ) (cells : List Cell) (good : Bool) → (eqb (word bytes at) 1852400232 && eqb (word bytes (at + 4)) at && ltb 0 (word bytes (at + 8)) && eqb (word bytes (at + 8) % 4096) 0 && leb (at + word bytes (at + 8)) (length bytes)) ≡ good → (xs ys : Option (List Cell)) → ((zs : List Cell) → xs ≡ Some zs → Tiles bytes (at + 32) (at + word bytes (at + 8)) zs) → ((zs : List Cell) → ys ≡ Some zs → HasLayout bytes (at + word bytes (at + 8)) zs) → choose good (λ _. joined xs ys) (λ _. None) ≡ Some cells → HasLayout bytes at cells
+bins-bin : (bytes : List ℕ) (at : ℕ) (cells : List Cell) (good : Bool) →
+    (eqb (word bytes at) 1852400232 && eqb (word bytes (at + 4)) at && ltb 0 (word bytes (at + 8)) && eqb (word bytes (at + 8) % 4096) 0 && leb
+    (at + word bytes (at + 8)) (length bytes)) ≡ good → (xs ys : Option (List Cell)) →
+    ((zs : List Cell) → xs ≡ Some zs → Tiles bytes (at + 32) (at + word bytes (at + 8)) zs) →
+    ((zs : List Cell) → ys ≡ Some zs → HasLayout bytes (at + word bytes (at + 8)) zs) → choose good (λ _. joined xs ys) (λ _. None) ≡ Some cells →
+    HasLayout bytes at cells
 bins-bin bytes at cells false g xs ys t l e = absurd (cc)
 bins-bin bytes at cells true g None ys t l e = absurd (cc)
 bins-bin bytes at cells true g (Some xs) None t l e = absurd (cc)
@@ -85,11 +96,20 @@ bins-bin bytes at cells true g (Some xs) (Some ys) t l e =
     let two = and_parts _ (ltb 0 size) three.0 in
     let one = and_parts (eqb (word bytes at) 1852400232) _ two.0 in
     let bin : Bin = record { start = at; size = size; cells = xs } in
-    let header : IsHeader bytes bin = record { signature = eqb-true _ _ one.0; place = eqb-true _ _ one.1; size = refl; positive = ltb-true _ _ two.1; pages = eqb-true _ _ three.1; within = leb-true _ _ four.1 } in
+    let header : IsHeader bytes bin = record {
+      signature = eqb-true _ _ one.0;
+      place = eqb-true _ _ one.1;
+      size = refl;
+      positive =
+          ltb-true _ _ two.1;
+      pages = eqb-true _ _ three.1;
+      within = leb-true _ _ four.1;
+    } in
     let rest = l ys refl in
     record { layout = bin ∷ rest.layout; tiled = (refl, header, t xs refl, rest.tiled); cells_are = sym (same_Some (xs ++ ys) cells e) ∙ ap (λ (zs : List Cell). xs ++ zs) rest.cells_are }
 
-bins-end : (bytes : List ℕ) (at : ℕ) (cells : List Cell) (end : Bool) → eqb at (length bytes) ≡ end → (other : Option (List Cell)) → (other ≡ Some cells → HasLayout bytes at cells) → choose end (λ _. Some []) (λ _. other) ≡ Some cells → HasLayout bytes at cells
+bins-end : (bytes : List ℕ) (at : ℕ) (cells : List Cell) (end : Bool) → eqb at (length bytes) ≡ end → (other : Option (List Cell)) →
+    (other ≡ Some cells → HasLayout bytes at cells) → choose end (λ _. Some []) (λ _. other) ≡ Some cells → HasLayout bytes at cells
 bins-end bytes at cells true z other t e = record { layout = []; tiled = eqb-true at (length bytes) z; cells_are = sym (same_Some [] cells e) }
 bins-end bytes at cells false z other t e = t e
 
@@ -97,7 +117,9 @@ layout-bins_from : (steps : ℕ) (bytes : List ℕ) (at : ℕ) (cells : List Cel
 layout-bins_from zero bytes at cells e = absurd (cc)
 layout-bins_from (suc steps) bytes at cells e =
     let size = word bytes (at + 8) in
-    bins-end bytes at cells _ refl _ (bins-bin bytes at cells _ refl (cells_from (suc size) bytes (at + 32) (at + size)) (bins_from steps bytes (at + size)) (λ zs f. Tiles-cells_from (suc size) bytes (at + 32) (at + size) zs f) (λ zs f. layout-bins_from steps bytes (at + size) zs f)) e
+    bins-end bytes at cells _ refl _ (bins-bin bytes at cells _ refl (cells_from (suc size) bytes (at + 32) (at + size))
+    (bins_from steps bytes (at + size)) (λ zs f. Tiles-cells_from (suc size) bytes (at + 32) (at + size) zs f)
+    (λ zs f. layout-bins_from steps bytes (at + size) zs f)) e
 
 -- bytes that have cells are bins of these cells
 pub layout-cells_of : (bytes : List ℕ) (cells : List Cell) → cells_of bytes ≡ Some cells → HasLayout bytes 0 cells
@@ -144,7 +166,8 @@ free-no_content bytes front cell rest e f =
     ∙ rw (f, eq-eqb cell.offset cell.offset refl) (content-behind bytes rest cell.offset (back 0 front cell rest o))
 
 -- an allocated cell holds the bytes behind its size field
-pub allocated-content : (bytes : List ℕ) (front : List Cell) (cell : Cell) (rest : List Cell) → cells_of bytes ≡ Some (front ++ cell ∷ rest) → cell.allocated ≡ true → cell_at bytes cell.offset ≡ Some (take (cell.size - 4) (drop (cell.offset + 4) bytes))
+pub allocated-content : (bytes : List ℕ) (front : List Cell) (cell : Cell) (rest : List Cell) → cells_of bytes ≡ Some (front ++ cell ∷ rest) →
+    cell.allocated ≡ true → cell_at bytes cell.offset ≡ Some (take (cell.size - 4) (drop (cell.offset + 4) bytes))
 allocated-content bytes front cell rest e f =
     let o = ordered bytes (front ++ cell ∷ rest) e in
     cell_at-cells_of bytes (front ++ cell ∷ rest) cell.offset e ∙ content-before bytes front (cell ∷ rest) cell.offset (before 0 front cell rest o).1
@@ -171,7 +194,8 @@ pub free-none : (bytes : List ℕ) (cells : List Cell) (cell : Cell) → cells_o
 free-none bytes cells cell e h f =
     let a = among cells cell h in free-no_content bytes a.front cell a.rest (e ∙ ap Some a.cells_are) f
 
-pub allocated-some : (bytes : List ℕ) (cells : List Cell) (cell : Cell) → cells_of bytes ≡ Some cells → Contains cells cell → cell.allocated ≡ true → cell_at bytes cell.offset ≡ Some (take (cell.size - 4) (drop (cell.offset + 4) bytes))
+pub allocated-some : (bytes : List ℕ) (cells : List Cell) (cell : Cell) → cells_of bytes ≡ Some cells → Contains cells cell → cell.allocated ≡ true →
+    cell_at bytes cell.offset ≡ Some (take (cell.size - 4) (drop (cell.offset + 4) bytes))
 allocated-some bytes cells cell e h f =
     let a = among cells cell h in allocated-content bytes a.front cell a.rest (e ∙ ap Some a.cells_are) f
 
@@ -194,7 +218,10 @@ pub record IsHolder (bytes : List ℕ) (cells : List Cell) (offset : ℕ) (conte
 piece_length : (bytes : List ℕ) (offset size : ℕ) → 8 ≤ size → offset + size ≤ length bytes → length (take (size - 4) (drop (offset + 4) bytes)) + 4 ≡ size
 piece_length bytes offset size l w = simp (length-take, length-drop) (omega arith)
 
-holder-parts : (bytes : List ℕ) (cells : List Cell) (offset : ℕ) (content : List ℕ) (front : List Cell) (cell : Cell) (rest : List Cell) → cells ≡ front ++ cell ∷ rest → cell.offset ≡ offset → cell.allocated ≡ true → content_in bytes cells offset ≡ Some (take (cell.size - 4) (drop (cell.offset + 4) bytes)) → content_in bytes cells offset ≡ Some content → IsCell bytes (length bytes) cell → IsHolder bytes cells offset content
+holder-parts : (bytes : List ℕ) (cells : List Cell) (offset : ℕ) (content : List ℕ) (front : List Cell) (cell : Cell) (rest : List Cell) →
+    cells ≡ front ++ cell ∷ rest → cell.offset ≡ offset → cell.allocated ≡ true →
+    content_in bytes cells offset ≡ Some (take (cell.size - 4) (drop (cell.offset + 4) bytes)) → content_in bytes cells offset ≡ Some content →
+    IsCell bytes (length bytes) cell → IsHolder bytes cells offset content
 holder-parts bytes cells offset content front cell rest are here used found e is =
     let piece : content ≡ take (cell.size - 4) (drop (offset + 4) bytes) = subst (λ (n : ℕ). content ≡ take (cell.size - 4) (drop (n + 4) bytes)) here (same_Some content _ (sym e ∙ found)) in
     let eight : 8 ≤ cell.size = omega (arith, is.positive, is.eights) in
@@ -213,7 +240,8 @@ holder-parts bytes cells offset content front cell rest are here used found e is
       content_is = piece;
     }
 
-holder-from : (bytes : List ℕ) (cells : List Cell) (offset : ℕ) (content : List ℕ) (layout : List Bin) → AreBins bytes 0 layout → cells ≡ cells_in layout → content_in bytes cells offset ≡ Some content → IsHolder bytes cells offset content
+holder-from : (bytes : List ℕ) (cells : List Cell) (offset : ℕ) (content : List ℕ) (layout : List Bin) → AreBins bytes 0 layout →
+    cells ≡ cells_in layout → content_in bytes cells offset ≡ Some content → IsHolder bytes cells offset content
 holder-from bytes cells offset content layout tiled are e =
     let k = looked bytes cells offset (ap is_some e) in
     let s = stands bytes layout k.xs k.c k.ys tiled (sym are ∙ k.cells_are) in
@@ -239,18 +267,22 @@ pub has_holder : (bytes : List ℕ) (offset : ℕ) (content : List ℕ) → cell
 unfolding cell_at
 has_holder bytes offset content c = has-by bytes offset content (cells_of bytes) refl c
 
-holder-among : (bytes : List ℕ) (cells : List Cell) (offset : ℕ) (content : List ℕ) → IsHolder bytes cells offset content → (cell : Cell) × Contains cells cell × (cell.offset ≡ offset) × (cell.allocated ≡ true) × (length content + 4 ≡ cell.size)
+holder-among : (bytes : List ℕ) (cells : List Cell) (offset : ℕ) (content : List ℕ) → IsHolder bytes cells offset content →
+    (cell : Cell) × Contains cells cell × (cell.offset ≡ offset) × (cell.allocated ≡ true) × (length content + 4 ≡ cell.size)
 holder-among bytes cells offset content h =
     let here : Contains (h.front ++ h.cell ∷ h.rest) h.cell = (length h.front, simp length-append (omega arith), get_or-append_seam h.front h.cell h.rest h.cell) in
     (h.cell, rw h.cells_are here, h.offset_is, h.allocated, h.long)
 
 -- the holder is one of the cells
-pub holder-is : (bytes : List ℕ) (cells : List Cell) (offset : ℕ) (content : List ℕ) → cells_of bytes ≡ Some cells → cell_at bytes offset ≡ Some content → (cell : Cell) × Contains cells cell × (cell.offset ≡ offset) × (cell.allocated ≡ true) × (length content + 4 ≡ cell.size)
+pub holder-is : (bytes : List ℕ) (cells : List Cell) (offset : ℕ) (content : List ℕ) → cells_of bytes ≡ Some cells →
+    cell_at bytes offset ≡ Some content → (cell : Cell) × Contains cells cell × (cell.offset ≡ offset) × (cell.allocated ≡ true) ×
+    (length content + 4 ≡ cell.size)
 holder-is bytes cells offset content e c = holder-among bytes cells offset content (holder bytes cells offset content e c)
 
 -- ---- as laws
 
-pub cells_apart : (bytes : List ℕ) (front middle rest : List Cell) (first second : Cell) → cells_of bytes ≡ Some (front ++ first ∷ (middle ++ second ∷ rest)) → first.offset + first.size ≤ second.offset
+pub cells_apart : (bytes : List ℕ) (front middle rest : List Cell) (first second : Cell) →
+    cells_of bytes ≡ Some (front ++ first ∷ (middle ++ second ∷ rest)) → first.offset + first.size ≤ second.offset
 cells_apart bytes front middle rest first second e =
     let o = AreOrdered-back 0 front (first ∷ (middle ++ second ∷ rest)) (ordered bytes (front ++ first ∷ (middle ++ second ∷ rest)) e) in
     (before (first.offset + first.size) middle second rest o.2).0

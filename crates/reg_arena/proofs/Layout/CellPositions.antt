@@ -37,11 +37,23 @@ pub record Placed (layout : List Bin) (xs : List Cell) (c : Cell) (ys : List Cel
   pub before : xs ≡ cells_in ps ++ us
   pub after : ys ≡ vs ++ cells_in qs
 
-placed-from : (p : Bin) (layout : List Bin) (xs : List Cell) (c : Cell) (ys : List Cell) → ((zs : List Cell) → cells_in layout ≡ zs ++ c ∷ ys → Placed layout zs c ys) → Falls p.cells (cells_in layout) xs c ys → Placed (p ∷ layout) xs c ys
+placed-from : (p : Bin) (layout : List Bin) (xs : List Cell) (c : Cell) (ys : List Cell) → ((zs : List Cell) → cells_in layout ≡ zs ++ c ∷ ys →
+    Placed layout zs c ys) → Falls p.cells (cells_in layout) xs c ys → Placed (p ∷ layout) xs c ys
 placed-from p layout xs c ys rest (first zs a b) = record { ps = []; b = p; qs = layout; us = xs; vs = zs; bins = refl; cells = a; before = refl; after = b }
 placed-from p layout xs c ys rest (second zs a b) =
     let r = rest zs b in
-    record { ps = p ∷ r.ps; b = r.b; qs = r.qs; us = r.us; vs = r.vs; bins = ap (λ t. p ∷ t) r.bins; cells = r.cells; before = a ∙ ap (λ t. p.cells ++ t) r.before ∙ sym (append_assoc p.cells (cells_in r.ps) r.us); after = r.after }
+    record {
+      ps = p ∷ r.ps;
+      b = r.b;
+      qs = r.qs;
+      us = r.us;
+      vs = r.vs;
+      bins = ap (λ t. p ∷ t) r.bins;
+      cells = r.cells;
+      before = a ∙
+          ap (λ t. p.cells ++ t) r.before ∙ sym (append_assoc p.cells (cells_in r.ps) r.us);
+      after = r.after;
+    }
 
 pub placed : (layout : List Bin) (xs : List Cell) (c : Cell) (ys : List Cell) → cells_in layout ≡ xs ++ c ∷ ys → Placed layout xs c ys
 placed [] [] c ys h = absurd (cc)
@@ -58,7 +70,9 @@ pub record Looked (bytes : List ℕ) (cells : List Cell) (offset : ℕ) : Type 0
   pub allocated : c.allocated ≡ true
   pub content : content_in bytes cells offset ≡ Some (take (c.size - 4) (drop (c.offset + 4) bytes))
 
-looked-cons : (bytes : List ℕ) (c : Cell) (cells : List Cell) (offset : ℕ) (b : Bool) → eqb c.offset offset && c.allocated ≡ b → is_some (content_in bytes (c ∷ cells) offset) ≡ true → (is_some (content_in bytes cells offset) ≡ true → Looked bytes cells offset) → Looked bytes (c ∷ cells) offset
+looked-cons : (bytes : List ℕ) (c : Cell) (cells : List Cell) (offset : ℕ) (b : Bool) → eqb c.offset offset && c.allocated ≡ b →
+    is_some (content_in bytes (c ∷ cells) offset) ≡ true → (is_some (content_in bytes cells offset) ≡ true → Looked bytes cells offset) →
+    Looked bytes (c ∷ cells) offset
 looked-cons bytes c cells offset true e h rest =
     let parts = and_parts (eqb c.offset offset) c.allocated e in
     record { xs = []; c = c; ys = cells; cells_are = refl; offset_is = eqb-true _ _ parts.0; allocated = parts.1; content = rw e refl }

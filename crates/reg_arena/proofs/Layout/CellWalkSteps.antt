@@ -35,7 +35,12 @@ at_cell-by bins at stop (c ∷ rest) l h =
 pub at_cell : (bins : List ℕ) (from at stop : ℕ) (old now : List Cell) → at < stop → Walked bins from at stop old now → AtCell bins at stop
 at_cell bins from at stop old now l w = at_cell-by bins at stop w.rest l w.back
 
-more-by : (bins : List ℕ) (from at stop : ℕ) (old now done rest : List Cell) → at < stop → Tiles bins from at done → Tiles bins at stop rest → now ≡ old ++ done → Walked bins from (at + size_in (word bins at)) stop old (now ++ record { offset = at; size = size_in (word bins at); allocated = is_allocated_in (word bins at) } ∷ [])
+more-by : (bins : List ℕ) (from at stop : ℕ) (old now done rest : List Cell) → at < stop → Tiles bins from at done → Tiles bins at stop rest →
+    now ≡ old ++ done → Walked bins from (at + size_in (word bins at)) stop old (now ++ record {
+      offset = at;
+      size = size_in (word bins at);
+      allocated = is_allocated_in (word bins at);
+    } ∷ [])
 more-by bins from at stop old now done [] l f b e = absurd (omega arith)
 more-by bins from at stop old now done (c ∷ rest) l f b e =
     let size : size_in (word bins at) ≡ c.size = subst (λ (k : ℕ). size_in (word bins k) ≡ c.size) b.0 b.1.size in
@@ -50,7 +55,13 @@ more-by bins from at stop old now done (c ∷ rest) l f b e =
       items = ap (λ (d : Cell). now ++ d ∷ []) same ∙ ap (λ (t : List Cell). t ++ c ∷ []) e ∙ append_assoc old done (c ∷ []);
     })
 
-pub walked-more : (bins : List ℕ) (from at stop : ℕ) (old now : List Cell) → at < stop → Walked bins from at stop old now → Walked bins from (at + size_in (word bins at)) stop old (now ++ record { offset = at; size = size_in (word bins at); allocated = is_allocated_in (word bins at) } ∷ [])
+pub walked-more : (bins : List ℕ) (from at stop : ℕ) (old now : List Cell) → at < stop → Walked bins from at stop old now →
+    Walked bins from (at + size_in (word bins at)) stop old (now ++ record {
+      offset = at;
+      size = size_in (word bins at);
+      allocated =
+          is_allocated_in (word bins at);
+    } ∷ [])
 walked-more bins from at stop old now l w = more-by bins from at stop old now w.done w.rest l w.front w.back w.items
 
 pub walked-all : (bins : List ℕ) (from at stop : ℕ) (old now : List Cell) → stop ≤ at → Walked bins from at stop old now → PushesCells bins from stop old now
@@ -91,7 +102,9 @@ Tiles-same : (bins : List ℕ) (at stop : ℕ) (xs ys : List Cell) → Tiles bin
 Tiles-same bins at stop xs ys a b =
     same_Some xs ys (sym (cells_from-Tiles (suc stop) bins at stop xs (omega arith) a) ∙ cells_from-Tiles (suc stop) bins at stop ys (omega arith) b)
 
-more_bins-by : (bins : List ℕ) (at : ℕ) (now new : List Cell) (done rest : List Bin) → at < length bins → AreBins bins 0 (done ++ rest) → AreBins bins at rest → now ≡ cells_in done → PushesCells bins (at + 32) (at + word bins (at + 8)) now new → WalkedBins bins (at + word bins (at + 8)) new
+more_bins-by : (bins : List ℕ) (at : ℕ) (now new : List Cell) (done rest : List Bin) → at < length bins → AreBins bins 0 (done ++ rest) →
+    AreBins bins at rest → now ≡ cells_in done → PushesCells bins (at + 32) (at + word bins (at + 8)) now new →
+    WalkedBins bins (at + word bins (at + 8)) new
 more_bins-by bins at now new done [] l f h e p = absurd (omega arith)
 more_bins-by bins at now new done (b ∷ rest) l f h e p =
     let size : word bins (at + 8) ≡ b.size = subst (λ (k : ℕ). word bins (k + 8) ≡ b.size) h.0 h.1.size in
@@ -105,7 +118,8 @@ more_bins-by bins at now new done (b ∷ rest) l f h e p =
       items = p.items ∙ ap (λ (t : List Cell). t ++ p.cells) e ∙ ap (λ (t : List Cell). cells_in done ++ t) (same ∙ sym (append-nil b.cells)) ∙ sym (cells_in-append done (b ∷ []));
     })
 
-pub walked_bins-more : (bins : List ℕ) (at : ℕ) (now new : List Cell) → at < length bins → WalkedBins bins at now → PushesCells bins (at + 32) (at + word bins (at + 8)) now new → WalkedBins bins (at + word bins (at + 8)) new
+pub walked_bins-more : (bins : List ℕ) (at : ℕ) (now new : List Cell) → at < length bins → WalkedBins bins at now →
+    PushesCells bins (at + 32) (at + word bins (at + 8)) now new → WalkedBins bins (at + word bins (at + 8)) new
 walked_bins-more bins at now new l w p = more_bins-by bins at now new w.done w.rest l w.layout w.here w.items p
 
 all-by : (bins : List ℕ) (at : ℕ) (now : List Cell) (done rest : List Bin) → length bins ≤ at → AreBins bins 0 (done ++ rest) → AreBins bins at rest → now ≡ cells_in done → cells_of bins ≡ Some now

@@ -53,7 +53,8 @@ Tiles-same_above s at stop (c ∷ cs) l h =
     (h.0, IsCell-same (word-same_above s c.offset (omega arith)) h.1, Tiles-same_above s (at + c.size) stop cs (omega arith) h.2)
 
 -- some cells in the middle give way to others over the same bytes
-pub Tiles-edit : {lo hi : ℕ} {old new : List ℕ} → SameOutside lo hi old new → (at stop : ℕ) (xs mid mid' ys : List Cell) → at + sizes xs ≡ lo → lo + sizes mid ≡ hi → Tiles old at stop (xs ++ (mid ++ ys)) → Tiles new lo hi mid' → Tiles new at stop (xs ++ (mid' ++ ys))
+pub Tiles-edit : {lo hi : ℕ} {old new : List ℕ} → SameOutside lo hi old new → (at stop : ℕ) (xs mid mid' ys : List Cell) → at + sizes xs ≡ lo →
+    lo + sizes mid ≡ hi → Tiles old at stop (xs ++ (mid ++ ys)) → Tiles new lo hi mid' → Tiles new at stop (xs ++ (mid' ++ ys))
 Tiles-edit {lo = lo} {hi = hi} {old = old} {new = new} s at stop xs mid mid' ys a b h t =
     let front : Tiles old at lo xs = rw (← a) (Tiles-front old at stop xs (mid ++ ys) h) in
     let rest : Tiles old lo stop (mid ++ ys) = rw (← a) (Tiles-back old at stop xs (mid ++ ys) h) in
@@ -98,7 +99,9 @@ AreBins-start bins at [] b qs h = omega arith
 AreBins-start bins at (p ∷ ps) b qs h = let l = AreBins-start bins (at + p.size) ps b qs h.3 in omega arith
 
 -- an edit in one bin
-pub AreBins-edit : {lo hi : ℕ} {old new : List ℕ} → SameOutside lo hi old new → (at : ℕ) (ps : List Bin) (b : Bin) (qs : List Bin) (xs mid mid' ys : List Cell) → b.cells ≡ xs ++ (mid ++ ys) → b.start + 32 + sizes xs ≡ lo → lo + sizes mid ≡ hi → AreBins old at (ps ++ b ∷ qs) → Tiles new lo hi mid' → AreBins new at (ps ++ with_cells b (xs ++ (mid' ++ ys)) ∷ qs)
+pub AreBins-edit : {lo hi : ℕ} {old new : List ℕ} → SameOutside lo hi old new →
+    (at : ℕ) (ps : List Bin) (b : Bin) (qs : List Bin) (xs mid mid' ys : List Cell) → b.cells ≡ xs ++ (mid ++ ys) → b.start + 32 + sizes xs ≡ lo →
+    lo + sizes mid ≡ hi → AreBins old at (ps ++ b ∷ qs) → Tiles new lo hi mid' → AreBins new at (ps ++ with_cells b (xs ++ (mid' ++ ys)) ∷ qs)
 AreBins-edit {lo = lo} {hi = hi} {old = old} {new = new} s at [] b qs xs mid mid' ys e a l h t =
     let was : Tiles old (at + 32) (at + b.size) (xs ++ (mid ++ ys)) = rw (← e) h.2 in
     let start : at + 32 + sizes xs ≡ lo = omega arith in
@@ -116,7 +119,9 @@ AreBins-edit {lo = lo} {old = old} s at (p ∷ ps) b qs xs mid mid' ys e a l h t
 good_size : (at stop size : ℕ) → 0 < size → size % 8 ≡ 0 → at + size ≤ stop → (ltb 0 size && eqb (size % 8) 0 && leb (at + size) stop) ≡ true
 good_size at stop size a b c = and_from _ _ (and_from _ _ (lt-ltb 0 size a) (eq-eqb (size % 8) 0 b)) (le-leb (at + size) stop c)
 
-cells_from-step : (steps : ℕ) (bins : List ℕ) (at stop size : ℕ) (cs : List Cell) → (at ≡ stop → ⊥) → size_in (word bins at) ≡ size → 0 < size → size % 8 ≡ 0 → at + size ≤ stop → cells_from steps bins (at + size) stop ≡ Some cs → cells_from (suc steps) bins at stop ≡ Some (record { offset = at; size = size; allocated = is_allocated_in (word bins at) } ∷ cs)
+cells_from-step : (steps : ℕ) (bins : List ℕ) (at stop size : ℕ) (cs : List Cell) → (at ≡ stop → ⊥) → size_in (word bins at) ≡ size → 0 < size →
+    size % 8 ≡ 0 → at + size ≤ stop → cells_from steps bins (at + size) stop ≡ Some cs →
+    cells_from (suc steps) bins at stop ≡ Some (record { offset = at; size = size; allocated = is_allocated_in (word bins at) } ∷ cs)
 cells_from-step steps bins at stop size cs ne e a b c r = rw (ne_eqb at stop ne, e, good_size at stop size a b c, r) refl
 
 pub cells_from-Tiles : (steps : ℕ) (bins : List ℕ) (at stop : ℕ) (cs : List Cell) → stop < steps + at → Tiles bins at stop cs → cells_from steps bins at stop ≡ Some cs
@@ -131,10 +136,15 @@ cells_from-Tiles (suc steps) bins at stop (c ∷ cs) l h =
     let same : record { offset = at; size = c.size; allocated = is_allocated_in (word bins at) } ≡ c = rw (allocated, ← o) refl in
     cells_from-step steps bins at stop c.size cs (λ e. omega (arith, h.1.positive)) size h.1.positive h.1.eights below rest ∙ ap (λ (x : Cell). Some (x ∷ cs)) same
 
-good_header : (bins : List ℕ) (at size : ℕ) → word bins at ≡ 1852400232 → word bins (at + 4) ≡ at → 0 < size → size % 4096 ≡ 0 → at + size ≤ length bins → (eqb (word bins at) 1852400232 && eqb (word bins (at + 4)) at && ltb 0 size && eqb (size % 4096) 0 && leb (at + size) (length bins)) ≡ true
+good_header : (bins : List ℕ) (at size : ℕ) → word bins at ≡ 1852400232 → word bins (at + 4) ≡ at → 0 < size → size % 4096 ≡ 0 →
+    at + size ≤ length bins → (eqb (word bins at) 1852400232 && eqb (word bins (at + 4)) at && ltb 0 size && eqb (size % 4096) 0 && leb (at + size)
+    (length bins)) ≡ true
 good_header bins at size a b c d e = and_from _ _ (and_from _ _ (and_from _ _ (and_from _ _ (eq-eqb _ _ a) (eq-eqb _ _ b)) (lt-ltb 0 size c)) (eq-eqb _ _ d)) (le-leb _ _ e)
 
-bins_from-step : (steps : ℕ) (bins : List ℕ) (at size : ℕ) (xs ys : List Cell) → (at ≡ length bins → ⊥) → word bins at ≡ 1852400232 → word bins (at + 4) ≡ at → word bins (at + 8) ≡ size → 0 < size → size % 4096 ≡ 0 → at + size ≤ length bins → cells_from (suc size) bins (at + 32) (at + size) ≡ Some xs → bins_from steps bins (at + size) ≡ Some ys → bins_from (suc steps) bins at ≡ Some (xs ++ ys)
+bins_from-step : (steps : ℕ) (bins : List ℕ) (at size : ℕ) (xs ys : List Cell) → (at ≡ length bins → ⊥) → word bins at ≡ 1852400232 →
+    word bins (at + 4) ≡ at → word bins (at + 8) ≡ size → 0 < size → size % 4096 ≡ 0 → at + size ≤ length bins →
+    cells_from (suc size) bins (at + 32) (at + size) ≡ Some xs → bins_from steps bins (at + size) ≡ Some ys →
+    bins_from (suc steps) bins at ≡ Some (xs ++ ys)
 bins_from-step steps bins at size xs ys ne s p z a b c f r = rw (ne_eqb at (length bins) ne, z, good_header bins at size s p a b c, f, r) refl
 
 pub bins_from-AreBins : (steps : ℕ) (bins : List ℕ) (at : ℕ) (bs : List Bin) → length bins < steps + at → at ≤ length bins → AreBins bins at bs → bins_from steps bins at ≡ Some (cells_in bs)

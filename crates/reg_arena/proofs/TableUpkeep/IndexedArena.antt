@@ -37,7 +37,9 @@ pub record CarveBacks (old : List ℕ) (head count previous cell : ℕ) (backs f
   pub value : get_or backs (cell / 8) 0 ≡ previous
   pub last : last_or 4294967295 front ≡ previous
 
-carve-backs : (old new : List ℕ) (head count head' count' previous cell : ℕ) (ss backs : List ℕ) (a : IsArena old (head ∷ []) (count ∷ [])) (c : CarvingAt old new head count head' count' previous cell ss) → length old ≤ 8 * length backs → AreBacks backs 4294967295 (chain count old head) → CarveBacks old head count previous cell backs c.front c.back
+carve-backs : (old new : List ℕ) (head count head' count' previous cell : ℕ) (ss backs : List ℕ) (a : IsArena old (head ∷ []) (count ∷ []))
+    (c : CarvingAt old new head count head' count' previous cell ss) → length old ≤ 8 * length backs →
+    AreBacks backs 4294967295 (chain count old head) → CarveBacks old head count previous cell backs c.front c.back
 carve-backs old new head count head' count' previous cell ss backs a c long have =
     let l = list-is old head count a (c.front ++ cell ∷ c.back) c.was in
     let before : AreBacks backs 4294967295 (c.front ++ cell ∷ c.back) = subst (AreBacks backs 4294967295) c.was have in
@@ -50,7 +52,10 @@ carve-backs old new head count head' count' previous cell ss backs a c long have
       last = sym last;
     }
 
-pub indexed-carve : (old new : List ℕ) (head count head' count' previous cell size next : ℕ) (ss ends backs ends' backs' : List ℕ) → IsIndexed old (head ∷ []) (count ∷ []) ends backs → CarvingAt old new head count head' count' previous cell ss → 0 < total_of ss → size ≡ size_in (word old cell) → next ≡ word old (cell + 4) → NotesTaken previous cell size (total_of ss) next ends backs ends' backs' → IsIndexed new (head' ∷ []) (count' ∷ []) ends' backs'
+pub indexed-carve : (old new : List ℕ) (head count head' count' previous cell size next : ℕ) (ss ends backs ends' backs' : List ℕ) →
+    IsIndexed old (head ∷ []) (count ∷ []) ends backs → CarvingAt old new head count head' count' previous cell ss → 0 < total_of ss →
+    size ≡ size_in (word old cell) → next ≡ word old (cell + 4) → NotesTaken previous cell size (total_of ss) next ends backs ends' backs' →
+    IsIndexed new (head' ∷ []) (count' ∷ []) ends' backs'
 indexed-carve old new head count head' count' previous cell size next ss ends backs ends' backs' i c positive is link (inl h) =
     let a = i.arena in
     let a' = c.carving.arena in
@@ -58,14 +63,16 @@ indexed-carve old new head count head' count' previous cell size next ss ends ba
     let zero_end : rest_end (cell + total_of ss) (size - total_of ss) ≡ 0 = rw none refl in
     let b = carve-backs old new head count head' count' previous cell ss backs a c i.backs_long i.backs_are.0 in
     let now : chain count' new head' ≡ c.front ++ c.back = rw none at (c.carving.now size is) in
-    let backs_now : AreBacks (marked (word old (cell + 4)) previous backs) 4294967295 (c.front ++ c.back) = rw b.value at (backs-remove backs c.front cell (word old (cell + 4)) c.back b.tail b.before) in
+    let backs_now : AreBacks (marked (word old (cell + 4)) previous backs) 4294967295 (c.front ++ c.back) =
+    rw b.value at (backs-remove backs c.front cell (word old (cell + 4)) c.back b.tail b.before) in
     let ends_now = carve-ends old new (head ∷ []) (count ∷ []) (head' ∷ []) (count' ∷ []) ends cell size ss a a' c.carving.carves positive is i.ends_long i.ends_are in
     let marks = length-marked next previous backs in
     record {
       arena = a';
       ends_long = rw h.1 (omega (arith, c.carving.carves.long, i.ends_long, length-set ends ((cell + size) / 8 - 1) 0));
       backs_long = rw h.2 (omega (arith, c.carving.carves.long, i.backs_long, marks));
-      ends_are = λ cells e u. subst (λ (k : ℕ). get_or ends' u 0 ≡ k) (ends_now cells e u) (ap (λ (t : List ℕ). get_or t u 0) (h.1 ∙ ap (λ (k : ℕ). set ends ((cell + size) / 8 - 1) k) (sym zero_end)));
+      ends_are = λ cells e u. subst (λ (k : ℕ). get_or ends' u 0 ≡ k) (ends_now cells e u)
+          (ap (λ (t : List ℕ). get_or t u 0) (h.1 ∙ ap (λ (k : ℕ). set ends ((cell + size) / 8 - 1) k) (sym zero_end)));
       backs_are = (rw (h.2, now, link) backs_now, tt);
     }
 indexed-carve old new head count head' count' previous cell size next ss ends backs ends' backs' i c positive is link (inr h) =
@@ -77,7 +84,9 @@ indexed-carve old new head count head' count' previous cell size next ss ends ba
     let b = carve-backs old new head count head' count' previous cell ss backs a c i.backs_long i.backs_are.0 in
     let now : chain count' new head' ≡ c.front ++ rest ∷ c.back = c.carving.now size is ∙ ap (λ (t : List ℕ). c.front ++ (t ++ c.back)) (rest-some rest (size - total_of ss) some) in
     let al = alone-in new head' count' a' c.front rest c.back now in
-    let put : AreBacks (set (marked (word old (cell + 4)) rest backs) (rest / 8) (last_or 4294967295 c.front)) 4294967295 (c.front ++ rest ∷ c.back) = backs-insert backs c.front rest (word old (cell + 4)) c.back b.tail al.front_apart al.back_apart (omega (arith, al.within, c.carving.carves.long, i.backs_long)) (open-behind backs c.front cell c.back b.before) in
+    let put : AreBacks (set (marked (word old (cell + 4)) rest backs) (rest / 8) (last_or 4294967295 c.front)) 4294967295
+    (c.front ++ rest ∷ c.back) = backs-insert backs c.front rest (word old (cell + 4)) c.back b.tail al.front_apart al.back_apart
+    (omega (arith, al.within, c.carving.carves.long, i.backs_long)) (open-behind backs c.front cell c.back b.before) in
     let backs_now : AreBacks (set (marked (word old (cell + 4)) rest backs) (rest / 8) previous) 4294967295 (c.front ++ rest ∷ c.back) = rw b.last at put in
     let ends_now = carve-ends old new (head ∷ []) (count ∷ []) (head' ∷ []) (count' ∷ []) ends cell size ss a a' c.carving.carves positive is i.ends_long i.ends_are in
     let marks = length-marked next (cell + total_of ss) backs in
@@ -98,7 +107,9 @@ pub record NoteFacts (old : List ℕ) (cell size total next : ℕ) (ends backs :
   pub next_in : (next ≡ 4294967295 → ⊥) → next / 8 < length backs
   pub rest_in : total < size → (cell + total) / 8 < length backs
 
-pub note-facts : (old : List ℕ) (head count total previous cell size next : ℕ) (ss ends backs : List ℕ) → IsIndexed old (head ∷ []) (count ∷ []) ends backs → (fit : IsFit old total (chain count old head) previous cell) → AreSizes ss → total ≡ total_of ss → 0 < total → size ≡ size_in (word old cell) → next ≡ word old (cell + 4) → NoteFacts old cell size total next ends backs
+pub note-facts : (old : List ℕ) (head count total previous cell size next : ℕ) (ss ends backs : List ℕ) →
+    IsIndexed old (head ∷ []) (count ∷ []) ends backs → (fit : IsFit old total (chain count old head) previous cell) → AreSizes ss →
+    total ≡ total_of ss → 0 < total → size ≡ size_in (word old cell) → next ≡ word old (cell + 4) → NoteFacts old cell size total next ends backs
 note-facts old head count total previous cell size next ss ends backs i fit oks e positive is link =
     let a = i.arena in
     let f = facts-at old head count total previous cell ss a fit oks e positive in
@@ -120,7 +131,8 @@ backs-same : (old new : List ℕ) (previous : ℕ) (offsets : List ℕ) → ((pl
 backs-same old new previous [] f h = tt
 backs-same old new previous (o ∷ os) f h = (f (o / 8) ∙ h.0, backs-same old new o os f h.1)
 
-pub indexed-longer : (bytes : List ℕ) (head count : ℕ) (ends backs ends' backs' : List ℕ) → IsIndexed bytes (head ∷ []) (count ∷ []) ends backs → IsLonger ends ends' → IsLonger backs backs' → IsIndexed bytes (head ∷ []) (count ∷ []) ends' backs'
+pub indexed-longer : (bytes : List ℕ) (head count : ℕ) (ends backs ends' backs' : List ℕ) → IsIndexed bytes (head ∷ []) (count ∷ []) ends backs →
+    IsLonger ends ends' → IsLonger backs backs' → IsIndexed bytes (head ∷ []) (count ∷ []) ends' backs'
 indexed-longer bytes head count ends backs ends' backs' i m n = record {
   arena = i.arena;
   ends_long = omega (arith, i.ends_long, m.long);
@@ -129,13 +141,18 @@ indexed-longer bytes head count ends backs ends' backs' i m n = record {
   backs_are = (backs-same backs backs' 4294967295 _ n.same i.backs_are.0, tt);
 }
 
-pub indexed-bin : (old new : List ℕ) (head count head' count' at total : ℕ) (ends backs ends' backs' : List ℕ) → IsIndexed old (head ∷ []) (count ∷ []) ends backs → IsArena new (head' ∷ []) (count' ∷ []) → AppendsBin old new total → 0 < total → head' ≡ length old + 32 → chain count' new head' ≡ head' ∷ chain count old head → length new ≤ 8 * length ends → length new ≤ 8 * length backs → ends' ≡ set ends (length new / 8 - 1) head' → backs' ≡ set (marked head head' backs) (head' / 8) 4294967295 → IsIndexed new (head' ∷ []) (count' ∷ []) ends' backs'
+pub indexed-bin : (old new : List ℕ) (head count head' count' at total : ℕ) (ends backs ends' backs' : List ℕ) →
+    IsIndexed old (head ∷ []) (count ∷ []) ends backs → IsArena new (head' ∷ []) (count' ∷ []) → AppendsBin old new total → 0 < total →
+    head' ≡ length old + 32 → chain count' new head' ≡ head' ∷ chain count old head → length new ≤ 8 * length ends → length new ≤ 8 * length backs →
+    ends' ≡ set ends (length new / 8 - 1) head' → backs' ≡ set (marked head head' backs) (head' / 8) 4294967295 →
+    IsIndexed new (head' ∷ []) (count' ∷ []) ends' backs'
 indexed-bin old new head count head' count' at total ends backs ends' backs' i a' p positive place chained ends_room backs_room ee eb =
     let a = i.arena in
     let lo : ℕ = length old + 32 in
     let n : ℕ = p.size - 32 in
     let wide : 40 ≤ p.size = omega (arith, p.least.pages, p.least.holds) in
-    let long : length new ≡ length old + p.size = ap length p.bytes ∙ length-append old (new_bin (length old) p.size p.link) ∙ ap (λ (k : ℕ). length old + k) (length-new_bin (length old) p.size p.link wide) in
+    let long : length new ≡ length old + p.size = ap length p.bytes ∙ length-append old (new_bin (length old) p.size p.link) ∙
+    ap (λ (k : ℕ). length old + k) (length-new_bin (length old) p.size p.link wide) in
     let hi : ℕ = lo + n in
     let cells = p.cells in
     let now : cells_in a'.layout ≡ cells ++ unused lo n ∷ [] = cells-are new (head' ∷ []) (count' ∷ []) a' _ p.now in
@@ -174,10 +191,12 @@ head-in bytes head count ends backs i ne =
     head-by (n ∷ os) t = rw t.0 t.2
 
 -- the tables have room for a new bin
-pub room-enough : (old new : List ℕ) (heads counts : List ℕ) (total size units n : ℕ) → 0 < total → IsArena old heads counts → AppendsBin old new total → IsBinSize size total → units ≡ (length old + size) / 8 → units ≤ n → length new ≤ 8 * n
+pub room-enough : (old new : List ℕ) (heads counts : List ℕ) (total size units n : ℕ) → 0 < total → IsArena old heads counts →
+    AppendsBin old new total → IsBinSize size total → units ≡ (length old + size) / 8 → units ≤ n → length new ≤ 8 * n
 room-enough old new heads counts total size units n positive a p b e l =
     let wide : 40 ≤ p.size = omega (arith, p.least.pages, p.least.holds, positive) in
-    let long : length new ≡ length old + p.size = ap length p.bytes ∙ length-append old (new_bin (length old) p.size p.link) ∙ ap (λ (k : ℕ). length old + k) (length-new_bin (length old) p.size p.link wide) in
+    let long : length new ≡ length old + p.size = ap length p.bytes ∙ length-append old (new_bin (length old) p.size p.link) ∙
+    ap (λ (k : ℕ). length old + k) (length-new_bin (length old) p.size p.link wide) in
     let same = b.least p.size p.least.pages p.least.holds in
     let same' = p.least.least size b.pages b.holds in
     let pages = (sound old heads counts a).pages in
@@ -185,7 +204,9 @@ room-enough old new heads counts total size units n positive a p b e l =
 
 -- ---- a write, and a new arena
 
-pub indexed-wrote : (old new : List ℕ) (head count : ℕ) (ends backs : List ℕ) (cell at : ℕ) (piece : List ℕ) → IsIndexed old (head ∷ []) (count ∷ []) ends backs → Wrote old new (head ∷ []) (count ∷ []) cell at piece → IsIndexed new (head ∷ []) (count ∷ []) ends backs
+pub indexed-wrote : (old new : List ℕ) (head count : ℕ) (ends backs : List ℕ) (cell at : ℕ) (piece : List ℕ) →
+    IsIndexed old (head ∷ []) (count ∷ []) ends backs → Wrote old new (head ∷ []) (count ∷ []) cell at piece →
+    IsIndexed new (head ∷ []) (count ∷ []) ends backs
 indexed-wrote old new head count ends backs cell at piece i w =
     let a = i.arena in
     let one = one_list old head count a in

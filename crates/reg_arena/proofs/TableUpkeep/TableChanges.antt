@@ -40,7 +40,8 @@ list-is bytes head count a offsets e =
     record { follows = subst (Follows bytes head) same one.free.follows; exact = λ o. ap (times o) (sym same) ∙ one.free.exact o }
 
 -- a cell of the list is apart from the others
-pub alone-in : (bytes : List ℕ) (head count : ℕ) (a : IsArena bytes (head ∷ []) (count ∷ [])) (front : List ℕ) (n : ℕ) (back : List ℕ) → chain count bytes head ≡ front ++ n ∷ back → Alone bytes front n back
+pub alone-in : (bytes : List ℕ) (head count : ℕ) (a : IsArena bytes (head ∷ []) (count ∷ [])) (front : List ℕ) (n : ℕ) (back : List ℕ) →
+    chain count bytes head ≡ front ++ n ∷ back → Alone bytes front n back
 alone-in bytes head count a front n back e =
     let l = list-is bytes head count a (front ++ n ∷ back) e in
     alone bytes a.layout front n back a.tiled (λ o. omega (arith, l.exact o))
@@ -55,7 +56,10 @@ ends-are-last front previous (inr e) = rw e.1 (sym (last-of e.0 previous 4294967
 
 -- ---- the ends
 
-ends-by : (ends : List ℕ) (xs mid mid' ys : List Cell) (lo hi b value : ℕ) → AllByRecursion (IsBeside lo hi) xs → AllByRecursion (IsBeside lo hi) ys → lo < hi → 8 * b + 8 ≡ hi → b < length ends → ending b mid' ≡ value → ((u : ℕ) → (8 * u + 8 ≡ hi → ⊥) → ending u mid' ≡ ending u mid) → ((u : ℕ) → get_or ends u 0 ≡ ending u (xs ++ (mid ++ ys))) → (u : ℕ) → (u ≡ b) ⊎ (u ≡ b → ⊥) → get_or (set ends b value) u 0 ≡ ending u (xs ++ (mid' ++ ys))
+ends-by : (ends : List ℕ) (xs mid mid' ys : List Cell) (lo hi b value : ℕ) → AllByRecursion (IsBeside lo hi) xs →
+    AllByRecursion (IsBeside lo hi) ys → lo < hi → 8 * b + 8 ≡ hi → b < length ends → ending b mid' ≡ value →
+    ((u : ℕ) → (8 * u + 8 ≡ hi → ⊥) → ending u mid' ≡ ending u mid) → ((u : ℕ) → get_or ends u 0 ≡ ending u (xs ++ (mid ++ ys))) → (u : ℕ) →
+    (u ≡ b) ⊎ (u ≡ b → ⊥) → get_or (set ends b value) u 0 ≡ ending u (xs ++ (mid' ++ ys))
 ends-by ends xs mid mid' ys lo hi b value before after less place inside own other old u (inl e) =
     let none = ending-beside lo hi b xs before (omega arith) (omega arith) in
     let none' = ending-beside lo hi b ys after (omega arith) (omega arith) in
@@ -65,7 +69,10 @@ ends-by ends xs mid mid' ys lo hi b value before after less place inside own oth
     let same = other u (λ x. ne (omega (arith, x, place))) in
     get_or-set_other ends b u value 0 ne ∙ old u ∙ omega (arith, ending-append u xs (mid ++ ys), ending-append u mid ys, ending-append u xs (mid' ++ ys), ending-append u mid' ys, same)
 
-pub ends-edit : (ends : List ℕ) (xs mid mid' ys : List Cell) (lo hi b value : ℕ) → AllByRecursion (IsBeside lo hi) xs → AllByRecursion (IsBeside lo hi) ys → lo < hi → 8 * b + 8 ≡ hi → b < length ends → ending b mid' ≡ value → ((u : ℕ) → (8 * u + 8 ≡ hi → ⊥) → ending u mid' ≡ ending u mid) → ((u : ℕ) → get_or ends u 0 ≡ ending u (xs ++ (mid ++ ys))) → (u : ℕ) → get_or (set ends b value) u 0 ≡ ending u (xs ++ (mid' ++ ys))
+pub ends-edit : (ends : List ℕ) (xs mid mid' ys : List Cell) (lo hi b value : ℕ) → AllByRecursion (IsBeside lo hi) xs →
+    AllByRecursion (IsBeside lo hi) ys → lo < hi → 8 * b + 8 ≡ hi → b < length ends → ending b mid' ≡ value →
+    ((u : ℕ) → (8 * u + 8 ≡ hi → ⊥) → ending u mid' ≡ ending u mid) → ((u : ℕ) → get_or ends u 0 ≡ ending u (xs ++ (mid ++ ys))) → (u : ℕ) →
+    get_or (set ends b value) u 0 ≡ ending u (xs ++ (mid' ++ ys))
 ends-edit ends xs mid mid' ys lo hi b value before after less place inside own other old u = ends-by ends xs mid mid' ys lo hi b value before after less place inside own other old u (cases_eq u b)
 
 pub ending-alone : (u at size : ℕ) → (8 * u + 8 ≡ at + size → ⊥) → ending u (unused at size ∷ []) ≡ 0
@@ -95,7 +102,11 @@ offsets-at : (cell at : ℕ) (ss : List ℕ) → 0 < total_of ss → offsets_of 
 offsets-at cell at [] l e = absurd (omega arith)
 offsets-at cell at (s ∷ ss) l e = cc
 
-pub carve-ends : (old new : List ℕ) (heads counts heads' counts' ends : List ℕ) (cell size : ℕ) (ss : List ℕ) (a : IsArena old heads counts) (a' : IsArena new heads' counts') → (c : Carves old new ss (offsets_of cell ss)) → 0 < total_of ss → size ≡ size_in (word old cell) → length old ≤ 8 * length ends → ((cells : List Cell) → cells_of old ≡ Some cells → (unit : ℕ) → get_or ends unit 0 ≡ ending unit cells) → (cells : List Cell) → cells_of new ≡ Some cells → (u : ℕ) → get_or (set ends ((cell + size) / 8 - 1) (rest_end (cell + total_of ss) (size - total_of ss))) u 0 ≡ ending u cells
+pub carve-ends : (old new : List ℕ) (heads counts heads' counts' ends : List ℕ) (cell size : ℕ) (ss : List ℕ) (a : IsArena old heads counts)
+    (a' : IsArena new heads' counts') → (c : Carves old new ss (offsets_of cell ss)) → 0 < total_of ss → size ≡ size_in (word old cell) →
+    length old ≤ 8 * length ends → ((cells : List Cell) → cells_of old ≡ Some cells → (unit : ℕ) → get_or ends unit 0 ≡ ending unit cells) →
+    (cells : List Cell) → cells_of new ≡ Some cells → (u : ℕ) →
+    get_or (set ends ((cell + size) / 8 - 1) (rest_end (cell + total_of ss) (size - total_of ss))) u 0 ≡ ending u cells
 carve-ends old new heads counts heads' counts' ends cell size ss a a' c positive is long have cells e u =
     let at : c.at ≡ cell = offsets-at cell c.at ss positive c.offsets_are in
     let xs = c.before in
@@ -114,14 +125,17 @@ carve-ends old new heads counts heads' counts' ends cell size ss a a' c positive
     let place : 8 * b + 8 ≡ hi = omega (arith, eights, st.cell.eights, st.cell.positive) in
     let mid : List Cell = carved c.at ss ++ rest_of (c.at + total_of ss) n in
     let end : c.at + total_of ss + n ≡ hi = (let f = c.fits in omega arith) in
-    let own : ending b mid ≡ rest_end (c.at + total_of ss) n = (let r = ending-rest b (c.at + total_of ss) n (omega (arith, place, end)) in omega (arith, ending-append b (carved c.at ss) (rest_of (c.at + total_of ss) n), ending-carved b c.at ss, r)) in
+    let own : ending b mid ≡ rest_end (c.at + total_of ss) n = (let r = ending-rest b (c.at + total_of ss) n (omega (arith, place, end)) in
+    omega (arith, ending-append b (carved c.at ss) (rest_of (c.at + total_of ss) n), ending-carved b c.at ss, r)) in
     let other : (u : ℕ) → (8 * u + 8 ≡ hi → ⊥) → ending u mid ≡ ending u (unused c.at c.size ∷ []) = λ u ne.
     let r = ending-rest-none u (c.at + total_of ss) n (λ x. ne (omega (arith, x, end))) in
     let o = ending-alone u c.at c.size ne in
     omega (arith, ending-append u (carved c.at ss) (rest_of (c.at + total_of ss) n), ending-carved u c.at ss, r, o) in
-    let all = ends-edit ends xs (unused c.at c.size ∷ []) mid ys c.at hi b (rest_end (c.at + total_of ss) n) before after (omega (arith, st.cell.positive)) place (omega (arith, st.cell.within, place)) own other (have _ c.was) u in
+    let all = ends-edit ends xs (unused c.at c.size ∷ []) mid ys c.at hi b (rest_end (c.at + total_of ss) n) before after
+    (omega (arith, st.cell.positive)) place (omega (arith, st.cell.within, place)) own other (have _ c.was) u in
     let now : cells ≡ xs ++ (mid ++ ys) = same_Some _ _ (sym e ∙ c.now) in
     rw (now, same, ← at) all
   where
     at-eights : (bytes : List ℕ) (layout : List Bin) (xs : List Cell) (c : Cell) (ys : List Cell) → AreBins bytes 0 layout → cells_in layout ≡ xs ++ c ∷ ys → c.offset % 8 ≡ 0
-    at-eights bytes layout xs c ys tiled e = (let h = AreBins-eights bytes 0 layout (omega arith) tiled in all-at (λ (d : Cell). d.offset % 8 ≡ 0) xs c ys (subst (AllByRecursion (λ (d : Cell). d.offset % 8 ≡ 0)) e h))
+    at-eights bytes layout xs c ys tiled e = (let h = AreBins-eights bytes 0 layout (omega arith) tiled in
+        all-at (λ (d : Cell). d.offset % 8 ≡ 0) xs c ys (subst (AllByRecursion (λ (d : Cell). d.offset % 8 ≡ 0)) e h))

@@ -14,7 +14,8 @@ IsApartFrom place offset = offset / 8 ≡ place → ⊥
 pub units-apart : (p q : ℕ) → p + 8 ≤ q → p / 8 ≡ q / 8 → ⊥
 units-apart p q l e = omega arith
 
-pub backs-set : (table : List ℕ) (place value previous : ℕ) (offsets : List ℕ) → AllByRecursion (IsApartFrom place) offsets → AreBacks table previous offsets → AreBacks (set table place value) previous offsets
+pub backs-set : (table : List ℕ) (place value previous : ℕ) (offsets : List ℕ) → AllByRecursion (IsApartFrom place) offsets →
+    AreBacks table previous offsets → AreBacks (set table place value) previous offsets
 backs-set table place value previous [] a h = tt
 backs-set table place value previous (o ∷ os) a h = (get_or-set_other table place (o / 8) value 0 a.0 ∙ h.0, backs-set table place value o os a.1 h.1)
 
@@ -49,7 +50,8 @@ marked-some : (n value : ℕ) (table : List ℕ) → n < 4294967295 → marked n
 marked-some n value table l = (let e : eqb n 4294967295 ≡ false = ne_eqb n 4294967295 (λ x. omega arith) in rw e refl)
 
 -- a cell is taken out: the next one gets its previous
-pub backs-remove : (table front : List ℕ) (cell next : ℕ) (back : List ℕ) → IsTail table front next back → AreBacks table 4294967295 (front ++ cell ∷ back) → AreBacks (marked next (get_or table (cell / 8) 0) table) 4294967295 (front ++ back)
+pub backs-remove : (table front : List ℕ) (cell next : ℕ) (back : List ℕ) → IsTail table front next back →
+    AreBacks table 4294967295 (front ++ cell ∷ back) → AreBacks (marked next (get_or table (cell / 8) 0) table) 4294967295 (front ++ back)
 backs-remove table front cell next [] t h =
     let e : eqb next 4294967295 ≡ true = eq-eqb next 4294967295 t in
     let r = backs-split table 4294967295 front (cell ∷ []) h in
@@ -75,7 +77,9 @@ open-front table [] h = tt
 open-front table (n ∷ back) h = (tt, h.1)
 
 -- a cell is put in
-pub backs-insert : (table front : List ℕ) (cell next : ℕ) (back : List ℕ) → IsTail table front next back → AllByRecursion (IsApartFrom (cell / 8)) front → AllByRecursion (IsApartFrom (cell / 8)) back → cell / 8 < length table → IsOpen table front back → AreBacks (set (marked next cell table) (cell / 8) (last_or 4294967295 front)) 4294967295 (front ++ cell ∷ back)
+pub backs-insert : (table front : List ℕ) (cell next : ℕ) (back : List ℕ) → IsTail table front next back →
+    AllByRecursion (IsApartFrom (cell / 8)) front → AllByRecursion (IsApartFrom (cell / 8)) back → cell / 8 < length table → IsOpen table front back →
+    AreBacks (set (marked next cell table) (cell / 8) (last_or 4294967295 front)) 4294967295 (front ++ cell ∷ back)
 backs-insert table front cell next [] t a b l o =
     let e : eqb next 4294967295 ≡ true = eq-eqb next 4294967295 t in
     let value : ℕ = last_or 4294967295 front in

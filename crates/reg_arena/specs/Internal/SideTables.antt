@@ -40,7 +40,8 @@ marked cell value table = if cell == 4294967295 then table else set table (cell 
 abbrev pub NotesTaken : ℕ → ℕ → ℕ → ℕ → ℕ → List ℕ → List ℕ → List ℕ → List ℕ → Type 0
 NotesTaken previous cell size total next ends backs ends' backs' =
     ((size ≡ total) × (ends' ≡ set ends ((cell + size) / 8 - 1) 0) × (backs' ≡ marked next previous backs))
-    ⊎ ((total < size) × (ends' ≡ set ends ((cell + size) / 8 - 1) (cell + total)) × (backs' ≡ set (marked next (cell + total) backs) ((cell + total) / 8) previous))
+    ⊎ ((total < size) × (ends' ≡ set ends ((cell + size) / 8 - 1) (cell + total)) ×
+    (backs' ≡ set (marked next (cell + total) backs) ((cell + total) / 8) previous))
 
 -- a table that may be longer, with the same numbers
 pub record IsLonger (old new : List ℕ) : Type 0 where

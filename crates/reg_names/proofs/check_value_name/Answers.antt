@@ -12,15 +12,18 @@ returns-then-not-are_value_name_bytes-clause-valid c =
 
 pub returns-then-name-gt-VALUE_NAME_LIMIT-clause-fault : goal.returns-then-name-gt-VALUE_NAME_LIMIT-clause-fault
 returns-then-name-gt-VALUE_NAME_LIMIT-clause-fault c =
-    long is_value_name_byte 16383 c.args.name.now c.front.result.now c.are_value_name_bytes.result c.front.ensures c.are_value_name_bytes.ensures c.if-not-are_value_name_bytes.false c.if-name-gt-VALUE_NAME_LIMIT.true
+    long is_value_name_byte 16383 c.args.name.now c.front.result.now c.are_value_name_bytes.result c.front.ensures c.are_value_name_bytes.ensures
+    c.if-not-are_value_name_bytes.false c.if-name-gt-VALUE_NAME_LIMIT.true
 
 pub returns-clause-fault : goal.returns-clause-fault
 returns-clause-fault c =
-    fine is_value_name_byte 16383 c.args.name.now c.front.result.now c.are_value_name_bytes.result c.front.ensures c.are_value_name_bytes.ensures c.if-not-are_value_name_bytes.false c.if-name-gt-VALUE_NAME_LIMIT.false
+    fine is_value_name_byte 16383 c.args.name.now c.front.result.now c.are_value_name_bytes.result c.front.ensures c.are_value_name_bytes.ensures
+    c.if-not-are_value_name_bytes.false c.if-name-gt-VALUE_NAME_LIMIT.false
 
 pub returns-clause-valid : goal.returns-clause-valid
 returns-clause-valid c =
-    value_is _ _ 16383 (holds is_value_name_byte 16383 c.args.name.now c.front.result.now c.are_value_name_bytes.result c.front.ensures c.are_value_name_bytes.ensures c.if-name-gt-VALUE_NAME_LIMIT.false c.if-not-are_value_name_bytes.false) c.if-name-gt-VALUE_NAME_LIMIT.false
+    value_is _ _ 16383 (holds is_value_name_byte 16383 c.args.name.now c.front.result.now c.are_value_name_bytes.result c.front.ensures
+    c.are_value_name_bytes.ensures c.if-name-gt-VALUE_NAME_LIMIT.false c.if-not-are_value_name_bytes.false) c.if-name-gt-VALUE_NAME_LIMIT.false
 
 pub returns-then-name-gt-VALUE_NAME_LIMIT-clause-valid : goal.returns-then-name-gt-VALUE_NAME_LIMIT-clause-valid
 returns-then-name-gt-VALUE_NAME_LIMIT-clause-valid c = value_long _ _ 16383 c.if-name-gt-VALUE_NAME_LIMIT.true

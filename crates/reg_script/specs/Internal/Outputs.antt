@@ -10,7 +10,8 @@ counted before count = min (before + count) 18446744073709551615
 
 -- nothing was sent, or all of the text, and none is left; the count of what was sent goes along
 abbrev pub IsSettled : Option (List ℕ) → Option (List ℕ) → List ℕ → List ℕ → ℕ → ℕ → Type 0
-IsSettled old new text left before after = ((new ≡ old) × (left ≡ text) × (after ≡ before)) ⊎ (Appends old new text × (left ≡ []) × (after ≡ counted before (length text)))
+IsSettled old new text left before after = ((new ≡ old) × (left ≡ text) × (after ≡ before)) ⊎
+    (Appends old new text × (left ≡ []) × (after ≡ counted before (length text)))
 
 -- the writer took a front of the text and no more, and the fault counts all that it ever took
 pub record IsCut (old new : Option (List ℕ)) (text : List ℕ) (before : ℕ) (fault : ScriptFault) : Type 0 where
@@ -21,7 +22,8 @@ pub record IsCut (old new : Option (List ℕ)) (text : List ℕ) (before : ℕ) 
 
 -- all of the text was sent, and what ended before is answered; or the writer took a front of it, and that is the fault
 abbrev pub IsSent : Result (Unit {0}) ScriptFault → List ℕ → ℕ → Option (List ℕ) → Option (List ℕ) → Result (Unit {0}) ScriptFault → Type 0
-IsSent ended text before old new result = ((result ≡ ended) × Appends old new text) ⊎ ((fault : ScriptFault) × (result ≡ Err fault) × IsCut old new text before fault)
+IsSent ended text before old new result = ((result ≡ ended) × Appends old new text) ⊎
+    ((fault : ScriptFault) × (result ≡ Err fault) × IsCut old new text before fault)
 
 -- once a script has ended so, what was gathered is sent, unless a write has failed before
 abbrev pub Closes : Result (Unit {0}) ScriptFault → List ℕ → ℕ → Option (List ℕ) → Option (List ℕ) → Result (Unit {0}) ScriptFault → Type 0

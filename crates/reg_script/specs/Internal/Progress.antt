@@ -96,7 +96,8 @@ pub record Halts (old : Place) (bytes : List ℕ) (new : Place) (fault : ScriptF
 -- a reply was gathered, which leads from one stand to the other in this way
 abbrev pub Adds : (Stand → List ℕ → Stand → Type 0) → Script → View → Script → View → Type 0
 Adds way old old_hive new new_hive =
-    (reply : List ℕ) × way (stand_of old old_hive) reply (stand_of new new_hive) × (string_bytes new.output.text ≡ string_bytes old.output.text ++ reply) × (new.output.written ≡ old.output.written)
+    (reply : List ℕ) × way (stand_of old old_hive) reply (stand_of new new_hive) ×
+    (string_bytes new.output.text ≡ string_bytes old.output.text ++ reply) × (new.output.written ≡ old.output.written)
 
 -- a line's reply was lost for want of memory, whether the line was answered or not
 pub record Loses (meaning : Meaning) (old : Script) (old_hive : View) (new : Script) (new_hive : View) : Type 0 where

@@ -34,7 +34,17 @@ unfolding security_at sk_of sk_bytes cell_at cells_of half word
 ring = record {
   circles = record { forward = refl; back = refl };
   apart = (tt, tt);
-  written = (record { security = record { fields = record { flink = 120; blink = 120; count = 1 }; descriptor = descriptor }; reads = refl; plain = refl; some = omega arith; short = omega arith }, tt);
+  written = (
+    record {
+      security = record { fields = record { flink = 120; blink = 120; count = 1 }; descriptor = descriptor };
+      reads = refl;
+      plain =
+          refl;
+      some = omega arith;
+      short = omega arith;
+    },
+    tt,
+  );
 }
 
 values : AreWrittenValues (cell_at fresh) fresh_node

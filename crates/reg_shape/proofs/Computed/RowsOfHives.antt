@@ -30,12 +30,21 @@ zeros = 0 ∷ 0 ∷ 0 ∷ 0 ∷ []
 -- -88; the key node `ROOT`: flags 0x2C, time 0, no parent, no subkeys, so many values in a list, security 120, no class
 abbrev pub root_cell : List ℕ → List ℕ → List ℕ → List ℕ
 root_cell values list largest =
-    (168 ∷ 255 ∷ 255 ∷ 255 ∷ []) ++ ((110 ∷ 107 ∷ 44 ∷ 0 ∷ []) ++ (replicate 8 0 ++ (zeros ++ (none ++ (zeros ++ (zeros ++ (none ++ (none ++ (values ++ (list ++ ((120 ∷ 0 ∷ 0 ∷ 0 ∷ []) ++ (none ++ (replicate 12 0 ++ (largest ++ (zeros ++ ((4 ∷ 0 ∷ 0 ∷ 0 ∷ []) ++ ((82 ∷ 79 ∷ 79 ∷ 84 ∷ []) ++ zeros)))))))))))))))))
+    (168 ∷ 255 ∷ 255 ∷ 255 ∷ []) ++
+    ((110 ∷ 107 ∷ 44 ∷ 0 ∷ []) ++
+    (replicate 8 0 ++ (zeros ++
+    (none ++ (zeros ++ (zeros ++
+    (none ++ (none ++ (values ++
+    (list ++ ((120 ∷ 0 ∷ 0 ∷ 0 ∷ []) ++
+    (none ++ (replicate 12 0 ++ (largest ++ (zeros ++ ((4 ∷ 0 ∷ 0 ∷ 0 ∷ []) ++ ((82 ∷ 79 ∷ 79 ∷ 84 ∷ []) ++ zeros)))))))))))))))))
 
 -- -48; the key security, first and last of its ring, so many keys, a descriptor of 20 bytes
 abbrev pub security_cell : ℕ → List ℕ
 security_cell count =
-    (208 ∷ 255 ∷ 255 ∷ 255 ∷ []) ++ ((115 ∷ 107 ∷ 0 ∷ 0 ∷ []) ++ ((120 ∷ 0 ∷ 0 ∷ 0 ∷ []) ++ ((120 ∷ 0 ∷ 0 ∷ 0 ∷ []) ++ ((count ∷ 0 ∷ 0 ∷ 0 ∷ []) ++ ((20 ∷ 0 ∷ 0 ∷ 0 ∷ []) ++ ((1 ∷ 0 ∷ 4 ∷ 128 ∷ []) ++ (replicate 16 0 ++ zeros)))))))
+    (208 ∷ 255 ∷ 255 ∷ 255 ∷ []) ++
+    ((115 ∷ 107 ∷ 0 ∷ 0 ∷ []) ++
+    ((120 ∷ 0 ∷ 0 ∷ 0 ∷ []) ++
+    ((120 ∷ 0 ∷ 0 ∷ 0 ∷ []) ++ ((count ∷ 0 ∷ 0 ∷ 0 ∷ []) ++ ((20 ∷ 0 ∷ 0 ∷ 0 ∷ []) ++ ((1 ∷ 0 ∷ 4 ∷ 128 ∷ []) ++ (replicate 16 0 ++ zeros)))))))
 
 -- ---- a fresh hive
 
@@ -63,7 +72,11 @@ pub valued-cells : cells_of valued ≡ Some (used 32 88 ∷ used 120 48 ∷ used
 unfolding cells_of word
 valued-cells = refl
 
-pub valued-walk : walk 5 (cell_at valued) (plainly Key 32) ≡ Some (record { kind = Key; offset = 32 } ∷ record { kind = Security; offset = 120 } ∷ record { kind = ValueList; offset = 192 } ∷ record { kind = Value; offset = 168 } ∷ [])
+pub valued-walk : walk 5 (cell_at valued) (plainly Key 32) ≡ Some (record { kind = Key; offset = 32 } ∷ record {
+  kind = Security;
+  offset =
+      120;
+} ∷ record { kind = ValueList; offset = 192 } ∷ record { kind = Value; offset = 168 } ∷ [])
 unfolding cell_at cells_of word half long walk nk_of sk_of vk_of row_in offsets_at segment_size
 valued-walk = refl
 

@@ -39,7 +39,9 @@ valued_node = record {
 }
 
 -- an offset is met where its cell is allocated, by the tests of the cells' offsets
-one : (a b c d e : Bool) (v w x y z : List ℕ) → (0 < (cond a 1 0 + (0 + (cond c 1 0 + (cond d 1 0 + 0)))) + (0 + (cond b 1 0 + 0))) ↔ IsSome (cond (a && true) (Some w) (cond (b && true) (Some x) (cond (d && true) (Some y) (cond (c && true) (Some z) (cond (e && false) (Some v) None)))))
+one : (a b c d e : Bool) (v w x y z : List ℕ) → (0 < (cond a 1 0 + (0 + (cond c 1 0 + (cond d 1 0 + 0)))) + (0 + (cond b 1 0 + 0))) ↔
+    IsSome (cond (a && true) (Some w)
+    (cond (b && true) (Some x) (cond (d && true) (Some y) (cond (c && true) (Some z) (cond (e && false) (Some v) None)))))
 one true b c d e v w x y z = ((λ _. refl), λ _. omega arith)
 one false true c d e v w x y z = ((λ _. refl), λ _. omega arith)
 one false false c true e v w x y z = ((λ _. refl), λ _. omega arith)
@@ -58,7 +60,17 @@ unfolding security_at sk_of sk_bytes cell_at cells_of half word
 ring = record {
   circles = record { forward = refl; back = refl };
   apart = (tt, tt);
-  written = (record { security = record { fields = record { flink = 120; blink = 120; count = 1 }; descriptor = descriptor }; reads = refl; plain = refl; some = omega arith; short = omega arith }, tt);
+  written = (
+    record {
+      security = record { fields = record { flink = 120; blink = 120; count = 1 }; descriptor = descriptor };
+      reads = refl;
+      plain =
+          refl;
+      some = omega arith;
+      short = omega arith;
+    },
+    tt,
+  );
 }
 
 value_fields : ValueFields
@@ -139,7 +151,10 @@ valued-whole = record {
   whole = record {
     found = valued_found;
     walked = valued-walk;
-    once = (((λ e. absurd (omega arith)), ((λ e. absurd (omega arith)), ((λ e. absurd (omega arith)), tt))), (((λ e. absurd (omega arith)), ((λ e. absurd (omega arith)), tt)), (((λ e. absurd (omega arith)), tt), (tt, tt))));
+    once = (
+      ((λ e. absurd (omega arith)), ((λ e. absurd (omega arith)), ((λ e. absurd (omega arith)), tt))),
+      (((λ e. absurd (omega arith)), ((λ e. absurd (omega arith)), tt)), (((λ e. absurd (omega arith)), tt), (tt, tt))),
+    );
     exact = exact;
     first = 120;
     others = [];

@@ -30,7 +30,10 @@ met kind offset = record { kind = kind; offset = offset }
 abbrev key : ℕ → ℕ → ℕ → ℕ → ℕ → ℕ → List ℕ → List ℕ
 key subkeys list values values_list class_length class name =
     (110 ∷ 107 ∷ 32 ∷ 0 ∷ []) ++ (replicate 8 0 ++ (little_bytes 4 0 ++ (little_bytes 4 32 ++ (little_bytes 4 subkeys ++ (little_bytes 4 0 ++ (little_bytes 4 list ++ (little_bytes 4 4294967295
-    ++ (little_bytes 4 values ++ (little_bytes 4 values_list ++ (little_bytes 4 500 ++ (little_bytes 4 class ++ (replicate 20 0 ++ (little_bytes 2 (length name) ++ (little_bytes 2 class_length ++ name))))))))))))))
+    ++ (little_bytes 4 values ++
+    (little_bytes 4 values_list ++
+    (little_bytes 4 500 ++
+    (little_bytes 4 class ++ (replicate 20 0 ++ (little_bytes 2 (length name) ++ (little_bytes 2 class_length ++ name))))))))))))))
 
 -- a key security with a descriptor of one byte
 abbrev security : List ℕ

@@ -124,12 +124,16 @@ look-local h k offset node e s =
     let l = look-open h offset node e in
     let p = parts h k offset node l s in
     let key = node.key in
-    let class = pieces-local (if_any Class key.fields.class_length key.fields.class) h k (node.class, l.class_cells) l.class_is (agree-inner h k l.class_cells (class-inner h key.fields.class_length key.fields.class (node.class, l.class_cells) l.class_is) p.class_same) in
-    let values = members-local key.fields.values key.fields.values_list h k (node.values, l.value_cells) l.values_are (agree-inner h k l.value_cells (members-inner h key.fields.values key.fields.values_list (node.values, l.value_cells) l.values_are) p.values_same) in
+    let class = pieces-local (if_any Class key.fields.class_length key.fields.class) h k (node.class, l.class_cells) l.class_is
+    (agree-inner h k l.class_cells (class-inner h key.fields.class_length key.fields.class (node.class, l.class_cells) l.class_is) p.class_same) in
+    let values = members-local key.fields.values key.fields.values_list h k (node.values, l.value_cells) l.values_are
+    (agree-inner h k l.value_cells (members-inner h key.fields.values key.fields.values_list (node.values, l.value_cells) l.values_are)
+    p.values_same) in
     let index = index-local h k key.fields.subkeys key.fields.subkeys_list node.index l.index_is p.index_same in
     ap (λ c. option_and_then (node_in k offset) (option_and_then (λ content. result_ok (nk_of content)) c)) (p.here ∙ l.here)
     ∙ (ap (option_and_then (node_in k offset)) l.key_is
-    ∙ (ap (option_and_then (λ class. option_and_then (λ values. option_map (node_of offset key class values) (index_at k key.fields.subkeys key.fields.subkeys_list)) (members_at key.fields.values key.fields.values_list k))) class
+    ∙ (ap (option_and_then (λ class. option_and_then (λ values. option_map (node_of offset key class values)
+    (index_at k key.fields.subkeys key.fields.subkeys_list)) (members_at key.fields.values key.fields.values_list k))) class
     ∙ (ap (option_and_then (λ values. option_map (node_of offset key (node.class, l.class_cells) values) (index_at k key.fields.subkeys key.fields.subkeys_list))) values
     ∙ (ap (option_map (node_of offset key (node.class, l.class_cells) (node.values, l.value_cells))) index
     ∙ (λ i. Some (record { key = key; class = node.class; values = node.values; cells = sym l.cells i; index = node.index }))))))

@@ -63,7 +63,8 @@ eaches r p (x ∷ xs) = bound (r x) (λ y. each r xs >>= (λ ys. give (y ∷ ys)
 -- ---- a key's class and values
 
 bytes-local : (n : Named) → IsLocal (bytes_at n)
-bytes-local n = bound (cell n.kind n.offset) (λ content. guard (nat_le n.size (length content)) (give (take n.size content))) (cells n.kind n.offset) (λ content. guards (nat_le n.size (length content)) (give (take n.size content)) (gives (take n.size content)))
+bytes-local n = bound (cell n.kind n.offset) (λ content. guard (nat_le n.size (length content)) (give (take n.size content))) (cells n.kind n.offset)
+    (λ content. guards (nat_le n.size (length content)) (give (take n.size content)) (gives (take n.size content)))
 
 pub pieces-local : (names : List Named) → IsLocal (pieces_at names)
 pieces-local names = bound (each bytes_at names) (λ pieces. give (concat pieces)) (eaches bytes_at bytes-local names) (λ pieces. gives (concat pieces))
@@ -72,7 +73,8 @@ pub row-local : (kind : Kind) (count offset : ℕ) → IsLocal (row_at kind coun
 row-local kind count offset = bound (cell kind offset) (λ content. given (row_in count content)) (cells kind offset) (λ content. givens (row_in count content))
 
 pub big-local : (size : ℕ) (big : BigData) → IsLocal (big_in size big)
-big-local size big = bound (row_at BigList (segments_for size) big.list) (λ row. pieces_at (segments size row)) (row-local BigList (segments_for size) big.list) (λ row. pieces-local (segments size row))
+big-local size big = bound (row_at BigList (segments_for size) big.list) (λ row. pieces_at (segments size row))
+    (row-local BigList (segments_for size) big.list) (λ row. pieces-local (segments size row))
 
 pub far-local : (size offset : ℕ) → IsLocal (big_at size offset)
 far-local size offset =
@@ -89,7 +91,8 @@ pub member-local : (offset : ℕ) → IsLocal (member_at offset)
 member-local offset =
     bound (cell Value offset) (λ content. given (result_ok (vk_of content)) >>= (λ value. data_at value.fields >>= (λ bytes. give (member_of value bytes)))) (cells Value offset) (λ content.
     bound (given (result_ok (vk_of content))) (λ value. data_at value.fields >>= (λ bytes. give (member_of value bytes))) (givens (result_ok (vk_of content))) (λ value.
-    bound (data_at value.fields) (λ bytes. give (member_of value bytes)) (data-local (is_inline value.fields.size) (nat_le value.fields.size segment_size) value.fields.size value.fields.place) (λ bytes.
+    bound (data_at value.fields) (λ bytes. give (member_of value bytes)) (data-local (is_inline value.fields.size)
+    (nat_le value.fields.size segment_size) value.fields.size value.fields.place) (λ bytes.
     gives (member_of value bytes))))
 
 pub members-local : (count offset : ℕ) → IsLocal (members_at count offset)

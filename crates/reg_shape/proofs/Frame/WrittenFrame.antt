@@ -34,7 +34,8 @@ same-held h k o e = ap (λ (c : Option (List ℕ)). unwrap_or c []) e
 -- ---- one value
 
 -- the big data record of data that is in no single cell is among what is met
-big-met : (h k : Heap) (size place : ℕ) (inline small : Bool) → inline ≡ false → small ≡ false → (y : List ℕ × List Found) → data_by inline small size place h ≡ Some y → Agree h k y.1 → k place ≡ h place
+big-met : (h k : Heap) (size place : ℕ) (inline small : Bool) → inline ≡ false → small ≡ false → (y : List ℕ × List Found) →
+    data_by inline small size place h ≡ Some y → Agree h k y.1 → k place ≡ h place
 big-met h k size place true small i s y e a = absurd (false≢true (sym i))
 big-met h k size place false true i s y e a = absurd (false≢true (sym s))
 big-met h k size place false false i s y e a =
@@ -78,7 +79,8 @@ value-kept h k offset y e a w =
 
 -- ---- all values
 
-pub each-kept : (h k : Heap) (row : List ℕ) (y : List Member × List Found) → each member_at row h ≡ Some y → Agree h k y.1 → AllByRecursion (IsWrittenValue h) row → AllByRecursion (IsWrittenValue k) row
+pub each-kept : (h k : Heap) (row : List ℕ) (y : List Member × List Found) → each member_at row h ≡ Some y → Agree h k y.1 →
+    AllByRecursion (IsWrittenValue h) row → AllByRecursion (IsWrittenValue k) row
 each-kept h k [] y e a w = tt
 each-kept h k (offset ∷ row) y e a w =
     let o = each-open member_at h offset row y.0 y.1 e in
@@ -95,7 +97,8 @@ row-is count content row e = by (nat_le (4 * count) (length content)) e
     by true e = same_Some _ _ e
     by false e = absurd (none-some _ e)
 
-values-kept : (h k : Heap) (count list : ℕ) (y : List Member × List Found) → members_at count list h ≡ Some y → Agree h k y.1 → AllByRecursion (IsWrittenValue h) (offsets_at count 0 (held h list)) → AllByRecursion (IsWrittenValue k) (offsets_at count 0 (held k list))
+values-kept : (h k : Heap) (count list : ℕ) (y : List Member × List Found) → members_at count list h ≡ Some y → Agree h k y.1 →
+    AllByRecursion (IsWrittenValue h) (offsets_at count 0 (held h list)) → AllByRecursion (IsWrittenValue k) (offsets_at count 0 (held k list))
 unfolding offsets_at
 values-kept h k zero list y e a w = tt
 values-kept h k (suc n) list y e a w =
@@ -110,7 +113,8 @@ values-kept h k (suc n) list y e a w =
     subst (λ c. AllByRecursion (IsWrittenValue k) (offsets_at (suc n) 0 c)) (sym (same-held h k list same))
     (subst (AllByRecursion (IsWrittenValue k)) (sym row) (each-kept h k o.first o.then o.then_is back (subst (AllByRecursion (IsWrittenValue h)) row w)))
 
-pub list-kept : (h k : Heap) (count list : ℕ) (members : List Member) (zs : List Found) → members_at count list h ≡ Some (members, zs) → Agree h k zs → AreWritten h count list members → AreWritten k count list members
+pub list-kept : (h k : Heap) (count list : ℕ) (members : List Member) (zs : List Found) → members_at count list h ≡ Some (members, zs) →
+    Agree h k zs → AreWritten h count list members → AreWritten k count list members
 list-kept h k count list members zs e a w =
     record { few = w.few; none = w.none; each = values-kept h k count list (members, zs) e a w.each; names = w.names; apart = w.apart; sizes = w.sizes }
 

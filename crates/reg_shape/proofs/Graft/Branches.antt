@@ -48,14 +48,19 @@ module _ (was : Branch Node) (m : Node) (c : Forest Node) (P : Path → Forest N
   graft-way (x ∷ p) End e = absurd (none-some _ e)
   graft-way (x ∷ []) (Hangs o k b s) e = by (graft-way (x ∷ []) s) (is_named x k) refl e
     where
-      by : (branch_in (x ∷ []) s ≡ Some was → P (x ∷ []) s (graft_in (x ∷ []) m c s)) → (t : Bool) → is_named x k ≡ t → cond t (Some (record { place = o; node = k; below = b })) (branch_in (x ∷ []) s) ≡ Some was → P (x ∷ []) (Hangs o k b s) (cond t (Hangs o m c s) (Hangs o k b (graft_in (x ∷ []) m c s)))
+      by : (branch_in (x ∷ []) s ≡ Some was → P (x ∷ []) s (graft_in (x ∷ []) m c s)) → (t : Bool) → is_named x k ≡ t →
+          cond t (Some (record { place = o; node = k; below = b })) (branch_in (x ∷ []) s) ≡ Some was →
+          P (x ∷ []) (Hangs o k b s) (cond t (Hangs o m c s) (Hangs o k b (graft_in (x ∷ []) m c s)))
       by rest true t e =
           let q : ◌≡◌ {A = Branch Node} (record { place = o; node = k; below = b }) was = same_Some _ _ e in
           subst (λ (z : Branch Node). P (x ∷ []) (Hangs z.place z.node z.below s) (Hangs z.place m c s)) (sym q) (here x s (ap (λ (z : Branch Node). is_named x z.node) (sym q) ∙ t))
       by rest false t e = next x [] o k b s (graft_in (x ∷ []) m c s) t (rest e)
   graft-way (x ∷ y ∷ p) (Hangs o k b s) e = by (graft-way (y ∷ p) b) (graft-way (x ∷ y ∷ p) s) (is_named x k) refl e
     where
-      by : (branch_in (y ∷ p) b ≡ Some was → P (y ∷ p) b (graft_in (y ∷ p) m c b)) → (branch_in (x ∷ y ∷ p) s ≡ Some was → P (x ∷ y ∷ p) s (graft_in (x ∷ y ∷ p) m c s)) → (t : Bool) → is_named x k ≡ t → cond t (branch_in (y ∷ p) b) (branch_in (x ∷ y ∷ p) s) ≡ Some was → P (x ∷ y ∷ p) (Hangs o k b s) (cond t (Hangs o k (graft_in (y ∷ p) m c b) s) (Hangs o k b (graft_in (x ∷ y ∷ p) m c s)))
+      by : (branch_in (y ∷ p) b ≡ Some was → P (y ∷ p) b (graft_in (y ∷ p) m c b)) →
+          (branch_in (x ∷ y ∷ p) s ≡ Some was → P (x ∷ y ∷ p) s (graft_in (x ∷ y ∷ p) m c s)) → (t : Bool) → is_named x k ≡ t →
+          cond t (branch_in (y ∷ p) b) (branch_in (x ∷ y ∷ p) s) ≡ Some was →
+          P (x ∷ y ∷ p) (Hangs o k b s) (cond t (Hangs o k (graft_in (y ∷ p) m c b) s) (Hangs o k b (graft_in (x ∷ y ∷ p) m c s)))
       by down along true t e = under x y p o k b (graft_in (y ∷ p) m c b) s t (down e)
       by down along false t e = next x (y ∷ p) o k b s (graft_in (x ∷ y ∷ p) m c s) t (along e)
 
@@ -95,12 +100,16 @@ forest-branch-found [] F = refl
 forest-branch-found (x ∷ p) End = refl
 forest-branch-found (x ∷ []) (Hangs o k b s) = by (is_named x k) (forest-branch-found (x ∷ []) s)
   where
-    by : (t : Bool) → found_in (x ∷ []) s ≡ option_map its_key (branch_in (x ∷ []) s) → cond t (Some (o, k)) (found_in (x ∷ []) s) ≡ option_map its_key (cond t (Some (record { place = o; node = k; below = b })) (branch_in (x ∷ []) s))
+    by : (t : Bool) → found_in (x ∷ []) s ≡ option_map its_key (branch_in (x ∷ []) s) →
+        cond t (Some (o, k)) (found_in (x ∷ []) s) ≡ option_map its_key (cond t (Some (record { place = o; node = k; below = b }))
+        (branch_in (x ∷ []) s))
     by true e = refl
     by false e = e
 forest-branch-found (x ∷ y ∷ p) (Hangs o k b s) = by (is_named x k) (forest-branch-found (y ∷ p) b) (forest-branch-found (x ∷ y ∷ p) s)
   where
-    by : (t : Bool) → found_in (y ∷ p) b ≡ option_map its_key (branch_in (y ∷ p) b) → found_in (x ∷ y ∷ p) s ≡ option_map its_key (branch_in (x ∷ y ∷ p) s) → cond t (found_in (y ∷ p) b) (found_in (x ∷ y ∷ p) s) ≡ option_map its_key (cond t (branch_in (y ∷ p) b) (branch_in (x ∷ y ∷ p) s))
+    by : (t : Bool) → found_in (y ∷ p) b ≡ option_map its_key (branch_in (y ∷ p) b) →
+        found_in (x ∷ y ∷ p) s ≡ option_map its_key (branch_in (x ∷ y ∷ p) s) →
+        cond t (found_in (y ∷ p) b) (found_in (x ∷ y ∷ p) s) ≡ option_map its_key (cond t (branch_in (y ∷ p) b) (branch_in (x ∷ y ∷ p) s))
     by true d e = d
     by false d e = e
 

@@ -93,7 +93,8 @@ first-entry : ℕ × Node → List (ℕ × Node) → ℕ × Node
 first-entry d [] = d
 first-entry d (e ∷ es) = e
 
-pub leaf-at : (h : Heap) (root i o : ℕ) (n : Node) (F : Forest Node) (rest : List (ℕ × Node)) → Stand (IsSeen h root) Fits F → drop i (heads F) ≡ (o, n) ∷ rest → n.key.fields.subkeys ≡ 0 → IsLeafAt i o n F
+pub leaf-at : (h : Heap) (root i o : ℕ) (n : Node) (F : Forest Node) (rest : List (ℕ × Node)) → Stand (IsSeen h root) Fits F →
+    drop i (heads F) ≡ (o, n) ∷ rest → n.key.fields.subkeys ≡ 0 → IsLeafAt i o n F
 unfolding some-entry first-entry
 leaf-at h root zero o n End rest a e z = absurd (false≢true (ap some-entry e))
 leaf-at h root (suc i) o n End rest a e z = absurd (false≢true (ap some-entry e))
@@ -120,7 +121,8 @@ pub not-found : (x : List ℕ) (F : Forest Node) → found_in (x ∷ []) F ≡ N
 not-found x End e = tt
 not-found x (Hangs v k b s) e = by (is_named x k) refl e (not-found x s)
   where
-    by : (t : Bool) → is_named x k ≡ t → cond t (Some (v, k)) (found_in (x ∷ []) s) ≡ None → (found_in (x ∷ []) s ≡ None → AllByRecursion (IsOther x) (heads s)) → AllByRecursion (IsOther x) (heads (Hangs v k b s))
+    by : (t : Bool) → is_named x k ≡ t → cond t (Some (v, k)) (found_in (x ∷ []) s) ≡ None →
+        (found_in (x ∷ []) s ≡ None → AllByRecursion (IsOther x) (heads s)) → AllByRecursion (IsOther x) (heads (Hangs v k b s))
     by true t e h = absurd (none-some _ (sym e))
     by false t e h = (t, h e)
 
@@ -139,24 +141,29 @@ first-named y n k e f = by (is_named y n) refl
 abbrev pub its_leaf : ℕ → Node → Branch Node
 its_leaf o n = record { place = o; node = n; below = End }
 
-found-among : (i o : ℕ) (n : Node) (F : Forest Node) → AllByRecursion (IsOther (folded (name_of n.key))) (heads F) → (y : List ℕ) (r : Path) → found_in (y ∷ r) (hang i o n F) ≡ cond (is_named y n) (found_at r (its_leaf o n)) (found_in (y ∷ r) F)
+found-among : (i o : ℕ) (n : Node) (F : Forest Node) → AllByRecursion (IsOther (folded (name_of n.key))) (heads F) → (y : List ℕ) (r : Path) →
+    found_in (y ∷ r) (hang i o n F) ≡ cond (is_named y n) (found_at r (its_leaf o n)) (found_in (y ∷ r) F)
 found-among zero o n F a y [] = refl
 found-among zero o n F a y (z ∷ r) = refl
 found-among (suc i) o n End a y [] = refl
 found-among (suc i) o n End a y (z ∷ r) = refl
 found-among (suc i) o n (Hangs v k b s) a y [] = by (is_named y k) refl (found-among i o n s a.1 y [])
   where
-    by : (t : Bool) → is_named y k ≡ t → found_in (y ∷ []) (hang i o n s) ≡ cond (is_named y n) (Some (o, n)) (found_in (y ∷ []) s) → cond t (Some (v, k)) (found_in (y ∷ []) (hang i o n s)) ≡ cond (is_named y n) (Some (o, n)) (cond t (Some (v, k)) (found_in (y ∷ []) s))
+    by : (t : Bool) → is_named y k ≡ t → found_in (y ∷ []) (hang i o n s) ≡ cond (is_named y n) (Some (o, n)) (found_in (y ∷ []) s) →
+        cond t (Some (v, k)) (found_in (y ∷ []) (hang i o n s)) ≡ cond (is_named y n) (Some (o, n)) (cond t (Some (v, k)) (found_in (y ∷ []) s))
     by true t h = sym (ap (λ t. cond t (Some (o, n)) (Some (v, k))) (first-named y n k a.0 t))
     by false t h = h
 found-among (suc i) o n (Hangs v k b s) a y (z ∷ r) = by (is_named y k) refl (found-among i o n s a.1 y (z ∷ r))
   where
-    by : (t : Bool) → is_named y k ≡ t → found_in (y ∷ z ∷ r) (hang i o n s) ≡ cond (is_named y n) None (found_in (y ∷ z ∷ r) s) → cond t (found_in (z ∷ r) b) (found_in (y ∷ z ∷ r) (hang i o n s)) ≡ cond (is_named y n) None (cond t (found_in (z ∷ r) b) (found_in (y ∷ z ∷ r) s))
+    by : (t : Bool) → is_named y k ≡ t → found_in (y ∷ z ∷ r) (hang i o n s) ≡ cond (is_named y n) None (found_in (y ∷ z ∷ r) s) →
+        cond t (found_in (z ∷ r) b) (found_in (y ∷ z ∷ r) (hang i o n s)) ≡ cond (is_named y n) None
+        (cond t (found_in (z ∷ r) b) (found_in (y ∷ z ∷ r) s))
     by true t h = sym (ap (λ t. cond t None (found_in (z ∷ r) b)) (first-named y n k a.0 t))
     by false t h = h
 
 -- a key of another name was put among these
-pub found-hang : (i o : ℕ) (n : Node) (F : Forest Node) → found_in (folded (name_of n.key) ∷ []) F ≡ None → (y : List ℕ) (r : Path) → found_in (y ∷ r) (hang i o n F) ≡ cond (is_named y n) (found_at r (its_leaf o n)) (found_in (y ∷ r) F)
+pub found-hang : (i o : ℕ) (n : Node) (F : Forest Node) → found_in (folded (name_of n.key) ∷ []) F ≡ None → (y : List ℕ) (r : Path) →
+    found_in (y ∷ r) (hang i o n F) ≡ cond (is_named y n) (found_at r (its_leaf o n)) (found_in (y ∷ r) F)
 found-hang i o n F e y r = found-among i o n F (not-found (folded (name_of n.key)) F e) y r
 
 -- a leaf was taken from these
@@ -165,17 +172,21 @@ found-unhang i o n End a l y r = absurd l
 found-unhang zero o n (Hangs v k b s) a l y r = by (is_named y k) refl r ∙ ap (λ m. cond (is_named y m) None (found_in (y ∷ r) (Hangs v k b s))) l.1
   where
     by : (t : Bool) → is_named y k ≡ t → (r : Path) → found_in (y ∷ r) s ≡ cond (is_named y k) None (found_in (y ∷ r) (Hangs v k b s))
-    by true t r = none-found y r s (subst (λ x. AllByRecursion (IsOther x) (heads s)) (sym (name-is y (folded (name_of k.key)) t)) a.0) ∙ sym (ap (λ t. cond t None (found_in (y ∷ r) (Hangs v k b s))) t)
+    by true t r = none-found y r s (subst (λ x. AllByRecursion (IsOther x) (heads s)) (sym (name-is y (folded (name_of k.key)) t)) a.0) ∙
+        sym (ap (λ t. cond t None (found_in (y ∷ r) (Hangs v k b s))) t)
     by false t [] = sym (ap (λ t. cond t None (cond t (Some (v, k)) (found_in (y ∷ []) s))) t)
     by false t (z ∷ r) = sym (ap (λ t. cond t None (cond t (found_in (z ∷ r) b) (found_in (y ∷ z ∷ r) s))) t)
 found-unhang (suc i) o n (Hangs v k b s) a l y [] = by (is_named y k) refl (found-unhang i o n s a.2 l y [])
   where
-    by : (t : Bool) → is_named y k ≡ t → found_in (y ∷ []) (unhang i s) ≡ cond (is_named y n) None (found_in (y ∷ []) s) → cond t (Some (v, k)) (found_in (y ∷ []) (unhang i s)) ≡ cond (is_named y n) None (cond t (Some (v, k)) (found_in (y ∷ []) s))
+    by : (t : Bool) → is_named y k ≡ t → found_in (y ∷ []) (unhang i s) ≡ cond (is_named y n) None (found_in (y ∷ []) s) →
+        cond t (Some (v, k)) (found_in (y ∷ []) (unhang i s)) ≡ cond (is_named y n) None (cond t (Some (v, k)) (found_in (y ∷ []) s))
     by true t h = sym (ap (λ t. cond t None (Some (v, k))) (ap (λ y. is_named y n) (name-is y (folded (name_of k.key)) t) ∙ leaf-other (folded (name_of k.key)) i o n s l a.0))
     by false t h = h
 found-unhang (suc i) o n (Hangs v k b s) a l y (z ∷ r) = by (is_named y k) refl (found-unhang i o n s a.2 l y (z ∷ r))
   where
-    by : (t : Bool) → is_named y k ≡ t → found_in (y ∷ z ∷ r) (unhang i s) ≡ cond (is_named y n) None (found_in (y ∷ z ∷ r) s) → cond t (found_in (z ∷ r) b) (found_in (y ∷ z ∷ r) (unhang i s)) ≡ cond (is_named y n) None (cond t (found_in (z ∷ r) b) (found_in (y ∷ z ∷ r) s))
+    by : (t : Bool) → is_named y k ≡ t → found_in (y ∷ z ∷ r) (unhang i s) ≡ cond (is_named y n) None (found_in (y ∷ z ∷ r) s) →
+        cond t (found_in (z ∷ r) b) (found_in (y ∷ z ∷ r) (unhang i s)) ≡ cond (is_named y n) None
+        (cond t (found_in (z ∷ r) b) (found_in (y ∷ z ∷ r) s))
     by true t h = sym (ap (λ t. cond t None (found_in (z ∷ r) b)) (ap (λ y. is_named y n) (name-is y (folded (name_of k.key)) t) ∙ leaf-other (folded (name_of k.key)) i o n s l a.0))
     by false t h = h
 

@@ -45,7 +45,8 @@ module _ {A : Type 0} where
   all-cut P zero (y ∷ xs) a = a.1
   all-cut P (suc i) (y ∷ xs) a = (a.0, all-cut P i xs a.1)
 
-  pub pairwise-inserted : (R : A → A → Type 0) (i : ℕ) (x : A) (xs : List A) → AllByRecursion (λ a. R a x) (take i xs) → AllByRecursion (R x) (drop i xs) → Pairwise R xs → Pairwise R (take i xs ++ x ∷ drop i xs)
+  pub pairwise-inserted : (R : A → A → Type 0) (i : ℕ) (x : A) (xs : List A) → AllByRecursion (λ a. R a x) (take i xs) →
+      AllByRecursion (R x) (drop i xs) → Pairwise R xs → Pairwise R (take i xs ++ x ∷ drop i xs)
   pairwise-inserted R zero x xs b f a = (f, a)
   pairwise-inserted R (suc i) x [] b f a = (tt, tt)
   pairwise-inserted R (suc i) x (y ∷ xs) b f a = (all-inserted (R y) i x xs b.0 a.0, pairwise-inserted R i x xs b.1 f a.1)
@@ -82,13 +83,16 @@ abbrev Rising : ℕ × Node → ℕ × Node → Type 0
 Rising a b = Precedes a.1.key.name b.1.key.name
 
 -- a key more, in the order of the names
-module _ (o i p : ℕ) (was m n : Node) (entry : Entry) (entries : entries_of m.index ≡ take i (entries_of was.index) ++ entry ∷ drop i (entries_of was.index)) (place : entry.place ≡ p) (hint : entry.hint ≡ hash n.key.name)
+module _ (o i p : ℕ) (was m n : Node) (entry : Entry) (entries : entries_of m.index ≡ take i (entries_of was.index) ++ entry ∷ drop i
+    (entries_of was.index)) (place : entry.place ≡ p) (hint : entry.hint ≡ hash n.key.name)
     (parent : n.key.fields.parent ≡ o)
     (name : 2 * length n.key.name ≤ m.key.fields.largest_subkey_name % 65536)
     (names : was.key.fields.largest_subkey_name % 65536 ≤ m.key.fields.largest_subkey_name % 65536)
     (class : n.key.fields.class_length ≤ m.key.fields.largest_subkey_class)
     (classes : was.key.fields.largest_subkey_class ≤ m.key.fields.largest_subkey_class) where
-  fits-inserted : (below : Below) → AllByRecursion (λ (e : ℕ × Node). Precedes e.1.key.name n.key.name) (take i below) → AllByRecursion (λ (e : ℕ × Node). Precedes n.key.name e.1.key.name) (drop i below) → Fits o was below → Fits o m (take i below ++ (p, n) ∷ drop i below)
+  fits-inserted : (below : Below) → AllByRecursion (λ (e : ℕ × Node). Precedes e.1.key.name n.key.name) (take i below) →
+      AllByRecursion (λ (e : ℕ × Node). Precedes n.key.name e.1.key.name) (drop i below) → Fits o was below →
+      Fits o m (take i below ++ (p, n) ∷ drop i below)
   fits-inserted below before behind f = record {
     places =
         map-inserted (λ (e : ℕ × Node). e.0) i (p, n) below
@@ -106,13 +110,18 @@ module _ (o i p : ℕ) (was m n : Node) (entry : Entry) (entries : entries_of m.
     parents = all-inserted (λ (e : ℕ × Node). e.1.key.fields.parent ≡ o) i (p, n) below parent f.parents;
     longest_name =
         all-inserted (λ (e : ℕ × Node). 2 * length e.1.key.name ≤ m.key.fields.largest_subkey_name % 65536) i (p, n) below name
-        (all-weaker (λ (e : ℕ × Node). 2 * length e.1.key.name ≤ was.key.fields.largest_subkey_name % 65536) (λ (e : ℕ × Node). 2 * length e.1.key.name ≤ m.key.fields.largest_subkey_name % 65536) (λ e l. omega (arith, l, names)) below f.longest_name);
+        (all-weaker (λ (e : ℕ × Node). 2 * length e.1.key.name ≤ was.key.fields.largest_subkey_name % 65536)
+        (λ (e : ℕ × Node). 2 * length e.1.key.name ≤ m.key.fields.largest_subkey_name % 65536)
+        (λ e l. omega (arith, l, names)) below f.longest_name);
     longest_class =
         all-inserted (λ (e : ℕ × Node). e.1.key.fields.class_length ≤ m.key.fields.largest_subkey_class) i (p, n) below class
-        (all-weaker (λ (e : ℕ × Node). e.1.key.fields.class_length ≤ was.key.fields.largest_subkey_class) (λ (e : ℕ × Node). e.1.key.fields.class_length ≤ m.key.fields.largest_subkey_class) (λ e l. omega (arith, l, classes)) below f.longest_class);
+        (all-weaker (λ (e : ℕ × Node). e.1.key.fields.class_length ≤ was.key.fields.largest_subkey_class)
+        (λ (e : ℕ × Node). e.1.key.fields.class_length ≤ m.key.fields.largest_subkey_class)
+        (λ e l. omega (arith, l, classes)) below f.longest_class);
   }
 
-  pub fits-hung : (F : Forest Node) → AllByRecursion (λ (e : ℕ × Node). Precedes e.1.key.name n.key.name) (take i (heads F)) → AllByRecursion (λ (e : ℕ × Node). Precedes n.key.name e.1.key.name) (drop i (heads F)) → Fits o was (heads F) → Fits o m (heads (hang i p n F))
+  pub fits-hung : (F : Forest Node) → AllByRecursion (λ (e : ℕ × Node). Precedes e.1.key.name n.key.name) (take i (heads F)) →
+      AllByRecursion (λ (e : ℕ × Node). Precedes n.key.name e.1.key.name) (drop i (heads F)) → Fits o was (heads F) → Fits o m (heads (hang i p n F))
   fits-hung F before behind f = subst (Fits o m) (sym (heads-hang i p n F)) (fits-inserted (heads F) before behind f)
 
 -- a key less
@@ -140,10 +149,14 @@ module _ (o i : ℕ) (was m : Node) (entries : entries_of m.index ≡ take i (en
     parents = all-cut (λ (e : ℕ × Node). e.1.key.fields.parent ≡ o) i below f.parents;
     longest_name =
         all-cut (λ (e : ℕ × Node). 2 * length e.1.key.name ≤ m.key.fields.largest_subkey_name % 65536) i below
-        (all-weaker (λ (e : ℕ × Node). 2 * length e.1.key.name ≤ was.key.fields.largest_subkey_name % 65536) (λ (e : ℕ × Node). 2 * length e.1.key.name ≤ m.key.fields.largest_subkey_name % 65536) (λ e l. omega (arith, l, names)) below f.longest_name);
+        (all-weaker (λ (e : ℕ × Node). 2 * length e.1.key.name ≤ was.key.fields.largest_subkey_name % 65536)
+        (λ (e : ℕ × Node). 2 * length e.1.key.name ≤ m.key.fields.largest_subkey_name % 65536)
+        (λ e l. omega (arith, l, names)) below f.longest_name);
     longest_class =
         all-cut (λ (e : ℕ × Node). e.1.key.fields.class_length ≤ m.key.fields.largest_subkey_class) i below
-        (all-weaker (λ (e : ℕ × Node). e.1.key.fields.class_length ≤ was.key.fields.largest_subkey_class) (λ (e : ℕ × Node). e.1.key.fields.class_length ≤ m.key.fields.largest_subkey_class) (λ e l. omega (arith, l, classes)) below f.longest_class);
+        (all-weaker (λ (e : ℕ × Node). e.1.key.fields.class_length ≤ was.key.fields.largest_subkey_class)
+        (λ (e : ℕ × Node). e.1.key.fields.class_length ≤ m.key.fields.largest_subkey_class)
+        (λ e l. omega (arith, l, classes)) below f.longest_class);
   }
 
   pub fits-unhung : (F : Forest Node) → Fits o was (heads F) → Fits o m (heads (unhang i F))
@@ -163,10 +176,12 @@ fits-none o n e = record {
 -- ---- a key and those below it stand
 
 module _ (h k : Heap) (root : ℕ) (was : Branch Node) (m : Node) (i : ℕ) (seen : IsSeen k root was.place m) (below : Stand (IsSeen h root) Fits was.below) where
-  pub stands-hung : (p : ℕ) (n : Node) → Fits was.place m (heads (hang i p n was.below)) → IsSeen k root p n → entries_of n.index ≡ [] → ((z : ℕ) → 0 < total (owns z) was.below → k z ≡ h z) → StandsIn k root (record { place = was.place; node = m; below = hang i p n was.below })
+  pub stands-hung : (p : ℕ) (n : Node) → Fits was.place m (heads (hang i p n was.below)) → IsSeen k root p n → entries_of n.index ≡ [] →
+      ((z : ℕ) → 0 < total (owns z) was.below → k z ≡ h z) → StandsIn k root (record { place = was.place; node = m; below = hang i p n was.below })
   stands-hung p n f s e same = (seen, f, stand-hang (IsSeen k root) Fits i p n was.below s (fits-none p n e) (forest-kept h k root was.below below same))
 
-  pub stands-unhung : Fits was.place m (heads (unhang i was.below)) → ((z : ℕ) → 0 < total (owns z) (unhang i was.below) → k z ≡ h z) → StandsIn k root (record { place = was.place; node = m; below = unhang i was.below })
+  pub stands-unhung : Fits was.place m (heads (unhang i was.below)) → ((z : ℕ) → 0 < total (owns z) (unhang i was.below) → k z ≡ h z) →
+      StandsIn k root (record { place = was.place; node = m; below = unhang i was.below })
   stands-unhung f same = (seen, f, forest-kept h k root (unhang i was.below) (stand-unhang (IsSeen h root) Fits i was.below below) same)
 
 -- ---- how many keys lead down

@@ -18,10 +18,12 @@ use Rattle.reg_shape.proofs.Wholeness.WholeAfterExchange.{keep, forest-kept}
 use Rattle.reg_shape.proofs.Graft.Branches.{branch-total}
 
 -- what a branch owns, the ring and the spare cells are allocated, each once
-pub branch-room : (h : Heap) (root : ℕ) (p : Path) (keys was : Branch Node) (first : ℕ) (others spare : List ℕ) → branch_at p keys ≡ Some was → IsShape h root keys first others spare → (z : ℕ) → total_of (owns z) was + (times z (first ∷ others) + times z spare) ≤ allocated h z
+pub branch-room : (h : Heap) (root : ℕ) (p : Path) (keys was : Branch Node) (first : ℕ) (others spare : List ℕ) → branch_at p keys ≡ Some was →
+    IsShape h root keys first others spare → (z : ℕ) → total_of (owns z) was + (times z (first ∷ others) + times z spare) ≤ allocated h z
 branch-room h root p keys was first others spare e w z = let t = branch-total (owns z) was p keys e in let x = w.exact z in omega (arith, t, x)
 
-module _ (h k : Heap) (root : ℕ) (was : Branch Node) (m : Node) (first : ℕ) (others spare : List ℕ) (x : IsExchanged h k root was.place was.node m) (room : (z : ℕ) → total_of (owns z) was + (times z (first ∷ others) + times z spare) ≤ allocated h z) where
+module _ (h k : Heap) (root : ℕ) (was : Branch Node) (m : Node) (first : ℕ) (others spare : List ℕ) (x : IsExchanged h k root was.place was.node m)
+    (room : (z : ℕ) → total_of (owns z) was + (times z (first ∷ others) + times z spare) ≤ allocated h z) where
   -- a security has the count that it had
   same-count : (z : ℕ) → k z ≡ h z → IsWrittenSecurity h z → IsRecounted h k (total_of (shares z) was) (total_of (shares z) (record was { node = m })) z
   same-count z e s = record {
@@ -52,5 +54,7 @@ module _ (h k : Heap) (root : ℕ) (was : Branch Node) (m : Node) (first : ℕ) 
   }
 
 -- the same where no cell is spare
-pub exchange-grafts-alone : (h k : Heap) (root : ℕ) (was : Branch Node) (m : Node) (first : ℕ) (others : List ℕ) → IsExchanged h k root was.place was.node m → ((z : ℕ) → total_of (owns z) was + times z (first ∷ others) ≤ allocated h z) → StandsIn h root was → IsRing h first others → IsGrafted h k root was (record was { node = m }) first others [] []
+pub exchange-grafts-alone : (h k : Heap) (root : ℕ) (was : Branch Node) (m : Node) (first : ℕ) (others : List ℕ) →
+    IsExchanged h k root was.place was.node m → ((z : ℕ) → total_of (owns z) was + times z (first ∷ others) ≤ allocated h z) → StandsIn h root was →
+    IsRing h first others → IsGrafted h k root was (record was { node = m }) first others [] []
 exchange-grafts-alone h k root was m first others x room = exchange-grafts h k root was m first others [] x (λ z. (let t = room z in omega (arith, t)))

@@ -61,17 +61,21 @@ module _ (was : Branch Node) (m : Node) (c : Forest Node) (alike : name_of m.key
   finds-here x s e y [] =
       ap (λ t. cond t (Some (was.place, m)) (found_in (y ∷ []) s)) (ap (λ z. same_name y (folded z)) alike ∙ ap (same_name y) (sym (name-is x (folded (name_of was.node.key)) e)))
       ∙ (by (same_name y x)
-      ∙ ap (λ t. by_rest (λ r. found_at r grafted_branch) (cond t (Some (was.place, was.node)) (found_in (y ∷ []) s)) (cond (same_name y x) (Some []) None)) (ap (same_name y) (name-is x (folded (name_of was.node.key)) e)))
+      ∙ ap (λ t. by_rest (λ r. found_at r grafted_branch) (cond t (Some (was.place, was.node)) (found_in (y ∷ []) s))
+      (cond (same_name y x) (Some []) None)) (ap (same_name y) (name-is x (folded (name_of was.node.key)) e)))
     where
-      by : (t : Bool) → cond t (Some (was.place, m)) (found_in (y ∷ []) s) ≡ by_rest (λ r. found_at r grafted_branch) (cond t (Some (was.place, was.node)) (found_in (y ∷ []) s)) (cond t (Some []) None)
+      by : (t : Bool) → cond t (Some (was.place, m)) (found_in (y ∷ []) s) ≡ by_rest (λ r. found_at r grafted_branch)
+          (cond t (Some (was.place, was.node)) (found_in (y ∷ []) s)) (cond t (Some []) None)
       by true = refl
       by false = refl
   finds-here x s e y (z ∷ q) =
       ap (λ t. cond t (found_in (z ∷ q) c) (found_in (y ∷ z ∷ q) s)) (ap (λ z. same_name y (folded z)) alike ∙ ap (same_name y) (sym (name-is x (folded (name_of was.node.key)) e)))
       ∙ (by (same_name y x)
-      ∙ ap (λ t. by_rest (λ r. found_at r grafted_branch) (cond t (found_in (z ∷ q) was.below) (found_in (y ∷ z ∷ q) s)) (cond (same_name y x) (Some (z ∷ q)) None)) (ap (same_name y) (name-is x (folded (name_of was.node.key)) e)))
+      ∙ ap (λ t. by_rest (λ r. found_at r grafted_branch) (cond t (found_in (z ∷ q) was.below) (found_in (y ∷ z ∷ q) s))
+      (cond (same_name y x) (Some (z ∷ q)) None)) (ap (same_name y) (name-is x (folded (name_of was.node.key)) e)))
     where
-      by : (t : Bool) → cond t (found_in (z ∷ q) c) (found_in (y ∷ z ∷ q) s) ≡ by_rest (λ r. found_at r grafted_branch) (cond t (found_in (z ∷ q) was.below) (found_in (y ∷ z ∷ q) s)) (cond t (Some (z ∷ q)) None)
+      by : (t : Bool) → cond t (found_in (z ∷ q) c) (found_in (y ∷ z ∷ q) s) ≡ by_rest (λ r. found_at r grafted_branch)
+          (cond t (found_in (z ∷ q) was.below) (found_in (y ∷ z ∷ q) s)) (cond t (Some (z ∷ q)) None)
       by true = refl
       by false = refl
 
@@ -84,9 +88,11 @@ module _ (was : Branch Node) (m : Node) (c : Forest Node) (alike : name_of m.key
   finds-under x v p o k b d s e h y (z ∷ q) =
       ap (λ t. cond t (found_in (z ∷ q) d) (found_in (y ∷ z ∷ q) s)) (ap (same_name y) (sym (name-is x (folded (name_of k.key)) e)))
       ∙ (by (same_name y x)
-      ∙ ap (λ t. by_rest (λ r. found_at r grafted_branch) (cond t (found_in (z ∷ q) b) (found_in (y ∷ z ∷ q) s)) (cond (same_name y x) (rest_of (v ∷ p) (z ∷ q)) None)) (ap (same_name y) (name-is x (folded (name_of k.key)) e)))
+      ∙ ap (λ t. by_rest (λ r. found_at r grafted_branch) (cond t (found_in (z ∷ q) b) (found_in (y ∷ z ∷ q) s))
+      (cond (same_name y x) (rest_of (v ∷ p) (z ∷ q)) None)) (ap (same_name y) (name-is x (folded (name_of k.key)) e)))
     where
-      by : (t : Bool) → cond t (found_in (z ∷ q) d) (found_in (y ∷ z ∷ q) s) ≡ by_rest (λ r. found_at r grafted_branch) (cond t (found_in (z ∷ q) b) (found_in (y ∷ z ∷ q) s)) (cond t (rest_of (v ∷ p) (z ∷ q)) None)
+      by : (t : Bool) → cond t (found_in (z ∷ q) d) (found_in (y ∷ z ∷ q) s) ≡ by_rest (λ r. found_at r grafted_branch)
+          (cond t (found_in (z ∷ q) b) (found_in (y ∷ z ∷ q) s)) (cond t (rest_of (v ∷ p) (z ∷ q)) None)
       by true = h z q
       by false = refl
 
@@ -101,17 +107,22 @@ module _ (was : Branch Node) (m : Node) (c : Forest Node) (alike : name_of m.key
   finds-next : (x : List ℕ) (p : Path) (o : ℕ) (k : Node) (b s t : Forest Node) → is_named x k ≡ false → FindsIn (x ∷ p) s t → FindsIn (x ∷ p) (Hangs o k b s) (Hangs o k b t)
   finds-next x p o k b s t e h y [] = by (is_named y k) refl (h y [])
     where
-      by : (v : Bool) → is_named y k ≡ v → found_in (y ∷ []) t ≡ by_rest (λ r. found_at r grafted_branch) (found_in (y ∷ []) s) (rest_of (x ∷ p) (y ∷ [])) → cond v (Some (o, k)) (found_in (y ∷ []) t) ≡ by_rest (λ r. found_at r grafted_branch) (cond v (Some (o, k)) (found_in (y ∷ []) s)) (rest_of (x ∷ p) (y ∷ []))
+      by : (v : Bool) → is_named y k ≡ v → found_in (y ∷ []) t ≡ by_rest (λ r. found_at r grafted_branch) (found_in (y ∷ []) s)
+          (rest_of (x ∷ p) (y ∷ [])) → cond v (Some (o, k)) (found_in (y ∷ []) t) ≡ by_rest (λ r. found_at r grafted_branch)
+          (cond v (Some (o, k)) (found_in (y ∷ []) s)) (rest_of (x ∷ p) (y ∷ []))
       by true f h = sym (ap (λ t. by_rest (λ r. found_at r grafted_branch) (Some (o, k)) (cond t (rest_of p []) None)) (other-way x y k e f))
       by false f h = h
   finds-next x p o k b s t e h y (z ∷ q) = by (is_named y k) refl (h y (z ∷ q))
     where
-      by : (v : Bool) → is_named y k ≡ v → found_in (y ∷ z ∷ q) t ≡ by_rest (λ r. found_at r grafted_branch) (found_in (y ∷ z ∷ q) s) (rest_of (x ∷ p) (y ∷ z ∷ q)) → cond v (found_in (z ∷ q) b) (found_in (y ∷ z ∷ q) t) ≡ by_rest (λ r. found_at r grafted_branch) (cond v (found_in (z ∷ q) b) (found_in (y ∷ z ∷ q) s)) (rest_of (x ∷ p) (y ∷ z ∷ q))
+      by : (v : Bool) → is_named y k ≡ v → found_in (y ∷ z ∷ q) t ≡ by_rest (λ r. found_at r grafted_branch) (found_in (y ∷ z ∷ q) s)
+          (rest_of (x ∷ p) (y ∷ z ∷ q)) → cond v (found_in (z ∷ q) b) (found_in (y ∷ z ∷ q) t) ≡ by_rest (λ r. found_at r grafted_branch)
+          (cond v (found_in (z ∷ q) b) (found_in (y ∷ z ∷ q) s)) (rest_of (x ∷ p) (y ∷ z ∷ q))
       by true f h = sym (ap (λ t. by_rest (λ r. found_at r grafted_branch) (found_in (z ∷ q) b) (cond t (rest_of p (z ∷ q)) None)) (other-way x y k e f))
       by false f h = h
 
   -- where the path begins with the graft's it goes on there, and elsewhere the key is the same
-  pub found-graft : (p : Path) (keys : Branch Node) → branch_at p keys ≡ Some was → (q : Path) → found_at q (graft_at p m c keys) ≡ by_rest (λ r. found_at r grafted_branch) (found_at q keys) (rest_of p q)
+  pub found-graft : (p : Path) (keys : Branch Node) → branch_at p keys ≡ Some was → (q : Path) →
+      found_at q (graft_at p m c keys) ≡ by_rest (λ r. found_at r grafted_branch) (found_at q keys) (rest_of p q)
   found-graft [] keys e q = ap (λ o. found_at q (record { place = o; node = m; below = c })) (ap (λ (b : Branch Node). b.place) (same_Some _ _ e))
   found-graft (x ∷ p) keys e [] = refl
   found-graft (x ∷ p) keys e (y ∷ q) = graft-way was m c FindsIn finds-here finds-under finds-next (x ∷ p) keys.below e y q

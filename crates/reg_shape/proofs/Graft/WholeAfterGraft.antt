@@ -22,12 +22,14 @@ use Rattle.reg_shape.proofs.Graft.Branches.{graft-way, branch-total}
 
 -- ---- numbers of all keys
 
-pub forest-graft-total : (f : ℕ → Node → ℕ) (was : Branch Node) (m : Node) (c : Forest Node) (p : Path) (F : Forest Node) → branch_in p F ≡ Some was → total f (graft_in p m c F) + total_of f was ≡ total f F + (f was.place m + total f c)
+pub forest-graft-total : (f : ℕ → Node → ℕ) (was : Branch Node) (m : Node) (c : Forest Node) (p : Path) (F : Forest Node) →
+    branch_in p F ≡ Some was → total f (graft_in p m c F) + total_of f was ≡ total f F + (f was.place m + total f c)
 forest-graft-total f was m c = graft-way was m c (λ p F G. total f G + total_of f was ≡ total f F + (f was.place m + total f c))
     (λ x s e. omega arith) (λ x y p o k b d s e h. omega (arith, h)) (λ x p o k b s t e h. omega (arith, h))
 
 -- what the others have, and the branch that came
-pub graft-total : (f : ℕ → Node → ℕ) (was : Branch Node) (m : Node) (c : Forest Node) (p : Path) (keys : Branch Node) → branch_at p keys ≡ Some was → total_of f (graft_at p m c keys) + total_of f was ≡ total_of f keys + (f was.place m + total f c)
+pub graft-total : (f : ℕ → Node → ℕ) (was : Branch Node) (m : Node) (c : Forest Node) (p : Path) (keys : Branch Node) → branch_at p keys ≡ Some was →
+    total_of f (graft_at p m c keys) + total_of f was ≡ total_of f keys + (f was.place m + total f c)
 graft-total f was m c [] keys e =
     let q : keys ≡ was = same_Some _ _ e in
     let a : total_of f keys ≡ total_of f was = ap (total_of f) q in
@@ -39,7 +41,8 @@ forest-graft-has : (f : ℕ → Node → ℕ) (was : Branch Node) (m : Node) (c 
 forest-graft-has f was m c = graft-way was m c (λ p F G. f was.place m + total f c ≤ total f G)
     (λ x s e. omega arith) (λ x y p o k b d s e h. omega (arith, h)) (λ x p o k b s t e h. omega (arith, h))
 
-graft-has : (f : ℕ → Node → ℕ) (was : Branch Node) (m : Node) (c : Forest Node) (p : Path) (keys : Branch Node) → branch_at p keys ≡ Some was → f was.place m + total f c ≤ total_of f (graft_at p m c keys)
+graft-has : (f : ℕ → Node → ℕ) (was : Branch Node) (m : Node) (c : Forest Node) (p : Path) (keys : Branch Node) → branch_at p keys ≡ Some was →
+    f was.place m + total f c ≤ total_of f (graft_at p m c keys)
 graft-has f was m c [] keys e =
     let b : f keys.place m ≡ f was.place m = ap (λ (b : Branch Node). f b.place m) (same_Some _ _ e) in
     omega (arith, b)
@@ -49,7 +52,8 @@ forest-graft-depth : (was : Branch Node) (m : Node) (c : Forest Node) (p : Path)
 forest-graft-depth was m c = graft-way was m c (λ p F G. depth G ≤ max (depth F) (length p + depth c))
     (λ x s e. omega arith) (λ x y p o k b d s e h. omega (arith, h)) (λ x p o k b s t e h. omega (arith, h))
 
-pub graft-depth : (was : Branch Node) (m : Node) (c : Forest Node) (p : Path) (keys : Branch Node) → branch_at p keys ≡ Some was → depth (graft_at p m c keys).below ≤ max (depth keys.below) (length p + depth c)
+pub graft-depth : (was : Branch Node) (m : Node) (c : Forest Node) (p : Path) (keys : Branch Node) → branch_at p keys ≡ Some was →
+    depth (graft_at p m c keys).below ≤ max (depth keys.below) (length p + depth c)
 graft-depth was m c [] keys e = omega arith
 graft-depth was m c (y ∷ p) keys e = forest-graft-depth was m c (y ∷ p) keys.below e
 
@@ -105,7 +109,9 @@ module _ (h k : Heap) (root : ℕ) (was : Branch Node) (m : Node) (c : Forest No
   grows = graft-way was m c (λ p F G. Grows F G) (λ x s e. grows-here s) (λ x y p o key b d s e g. grows-under o key b d s g) (λ x p o key b s t e g. grows-next o key b s t g)
 
   -- the keys of a branch
-  pub graft-stands : (p : Path) (keys : Branch Node) → branch_at p keys ≡ Some was → StandsIn h root keys → ((z : ℕ) → 0 < total_of (owns z) keys → total_of (owns z) was ≡ 0 → k z ≡ h z) → ((z : ℕ) → total_of (owns z) keys ≤ 1) → StandsIn k root (graft_at p m c keys)
+  pub graft-stands : (p : Path) (keys : Branch Node) → branch_at p keys ≡ Some was → StandsIn h root keys →
+      ((z : ℕ) → 0 < total_of (owns z) keys → total_of (owns z) was ≡ 0 → k z ≡ h z) → ((z : ℕ) → total_of (owns z) keys ≤ 1) →
+      StandsIn k root (graft_at p m c keys)
   graft-stands [] keys e a t one =
       subst (λ o. StandsIn k root (record { place = o; node = m; below = c })) (sym (ap (λ (b : Branch Node). b.place) (same_Some _ _ e))) stands
   graft-stands (y ∷ p) keys e a t one =
@@ -175,7 +181,8 @@ module _ (h k : Heap) (was is : Branch Node) where
       let counted = r.counted in
       ap (option_map (λ (s : KeySecurityRecord). s.fields.count)) r.now ∙ ap Some (omega (arith, was_count, counted, e))
 
-  counts-recounted : (f g : ℕ → ℕ) → ((z : ℕ) → g z + total_of (shares z) was ≡ f z + total_of (shares z) is) → (ring : List ℕ) → AllByRecursion Recounts ring → AllByRecursion (λ z. count_at h z ≡ Some (f z)) ring → AllByRecursion (λ z. count_at k z ≡ Some (g z)) ring
+  counts-recounted : (f g : ℕ → ℕ) → ((z : ℕ) → g z + total_of (shares z) was ≡ f z + total_of (shares z) is) → (ring : List ℕ) →
+      AllByRecursion Recounts ring → AllByRecursion (λ z. count_at h z ≡ Some (f z)) ring → AllByRecursion (λ z. count_at k z ≡ Some (g z)) ring
   counts-recounted f g e [] a c = tt
   counts-recounted f g e (z ∷ ring) a c = (count-recounted z (f z) (g z) (e z) a.0 c.0, counts-recounted f g e ring a.1 c.1)
 
@@ -191,7 +198,8 @@ named-still all was zero new e a b s = (λ l. omega (arith, e, l, a, b), λ l. (
 named-still all was (suc is) new e a b s = (λ l. (let w = s.0 (omega arith) in omega (arith, w, a)), λ l. omega (arith, b))
 
 -- the rows of a graft that its shape needs, as they follow from the counts before and after
-module _ (h k : Heap) (root : ℕ) (p : Path) (keys was is : Branch Node) (first : ℕ) (others spare left : List ℕ) (e : branch_at p keys ≡ Some was) (g : IsGrafted h k root was is first others spare left) (w : IsShape h root keys first others spare) where
+module _ (h k : Heap) (root : ℕ) (p : Path) (keys was is : Branch Node) (first : ℕ) (others spare left : List ℕ) (e : branch_at p keys ≡ Some was)
+    (g : IsGrafted h k root was is first others spare left) (w : IsShape h root keys first others spare) where
   placed-there : StandsIn k root (record { place = was.place; node = is.node; below = is.below })
   placed-there = subst (λ o. StandsIn k root (record { place = o; node = is.node; below = is.below })) g.place g.stands
 
@@ -214,7 +222,9 @@ module _ (h k : Heap) (root : ℕ) (p : Path) (keys was is : Branch Node) (first
 
   pub grafted-ringed : (z : ℕ) → 0 < total_of (shares z) (graft_at p is.node is.below keys) ↔ 0 < times z (first ∷ others)
   grafted-ringed z =
-      let s = named-still (total_of (shares z) keys) (total_of (shares z) was) (total_of (shares z) is) (total_of (shares z) (graft_at p is.node is.below keys)) (has-all (shares z)) (branch-total (shares z) was p keys e) (has-new (shares z)) (g.securities z) in
+      let s = named-still (total_of (shares z) keys) (total_of (shares z) was) (total_of (shares z) is)
+      (total_of (shares z) (graft_at p is.node is.below keys)) (has-all (shares z)) (branch-total (shares z) was p keys e) (has-new (shares z))
+      (g.securities z) in
       (λ l. (w.ringed z).0 (s.0 l), λ l. s.1 ((w.ringed z).1 l))
 
   pub grafted-whole : length p + depth is.below ≤ 512 → IsShape k root (graft_at p is.node is.below keys) first others left
@@ -229,5 +239,7 @@ module _ (h k : Heap) (root : ℕ) (p : Path) (keys was is : Branch Node) (first
   }
 
 -- the hive is whole with the branch that came
-pub grafted : (h k : Heap) (root : ℕ) (p : Path) (keys was is : Branch Node) (first : ℕ) (others spare left : List ℕ) → branch_at p keys ≡ Some was → IsGrafted h k root was is first others spare left → length p + depth is.below ≤ 512 → IsShape h root keys first others spare → IsShape k root (graft_at p is.node is.below keys) first others left
+pub grafted : (h k : Heap) (root : ℕ) (p : Path) (keys was is : Branch Node) (first : ℕ) (others spare left : List ℕ) → branch_at p keys ≡ Some was →
+    IsGrafted h k root was is first others spare left → length p + depth is.below ≤ 512 → IsShape h root keys first others spare →
+    IsShape k root (graft_at p is.node is.below keys) first others left
 grafted h k root p keys was is first others spare left e g deep w = grafted-whole h k root p keys was is first others spare left e g w deep

@@ -35,7 +35,8 @@ place-found h root keys e a q =
     by None = refl
     by (Some b) = refl
 
-module _ (h k : Heap) (root : ℕ) (p : Path) (keys was is : Branch Node) (first : ℕ) (others spare left : List ℕ) (e : branch_at p keys ≡ Some was) (g : IsGrafted h k root was is first others spare left) (w : IsShape h root keys first others spare) where
+module _ (h k : Heap) (root : ℕ) (p : Path) (keys was is : Branch Node) (first : ℕ) (others spare left : List ℕ) (e : branch_at p keys ≡ Some was)
+    (g : IsGrafted h k root was is first others spare left) (w : IsShape h root keys first others spare) where
   abbrev new_keys : Branch Node
   new_keys = graft_at p is.node is.below keys
 
@@ -89,7 +90,8 @@ module _ (h k : Heap) (root : ℕ) (p : Path) (keys was is : Branch Node) (first
         one true y = refl
         one false y = refl
 
-        more : (y z : List ℕ) (r : Path) (t : Bool) → same_name y x ≡ t → its_place (cond t None (found_in (y ∷ z ∷ r) was.below)) ≡ cond (t && false) (Some o) (its_place (found_in (y ∷ z ∷ r) was.below))
+        more : (y z : List ℕ) (r : Path) (t : Bool) → same_name y x ≡ t →
+            its_place (cond t None (found_in (y ∷ z ∷ r) was.below)) ≡ cond (t && false) (Some o) (its_place (found_in (y ∷ z ∷ r) was.below))
         more y z r true t = sym (ap its_place (ap (λ y. found_in (y ∷ z ∷ r) was.below) (name-is y x t) ∙ none-deeper x (z ∷ r) was.below none))
         more y z r false t = refl
 

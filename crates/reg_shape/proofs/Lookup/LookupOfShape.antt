@@ -41,12 +41,14 @@ place-append h o (x ∷ p) q =
     ∙ (by (subkey_named h x o) (λ c. place-append h c p q)
     ∙ sym (ap (option_and_then (λ c. place_at h c q)) (place-more h o x p)))
   where
-    by : (s : Option ℕ) → ((c : ℕ) → place_at h c (p ++ q) ≡ option_and_then (λ c. place_at h c q) (place_at h c p)) → option_and_then (λ c. place_at h c (p ++ q)) s ≡ option_and_then (λ c. place_at h c q) (option_and_then (λ c. place_at h c p) s)
+    by : (s : Option ℕ) → ((c : ℕ) → place_at h c (p ++ q) ≡ option_and_then (λ c. place_at h c q) (place_at h c p)) →
+        option_and_then (λ c. place_at h c (p ++ q)) s ≡ option_and_then (λ c. place_at h c q) (option_and_then (λ c. place_at h c p) s)
     by None e = refl
     by (Some c) e = e c
 
 -- a key's lists name the keys below it
-pub subkey-named : (h : Heap) (x : List ℕ) (place : ℕ) (node : Node) (below : Forest Node) → look h place ≡ Some node → Fits place node (heads below) → subkey_named h x place ≡ key_named h x (places below)
+pub subkey-named : (h : Heap) (x : List ℕ) (place : ℕ) (node : Node) (below : Forest Node) → look h place ≡ Some node →
+    Fits place node (heads below) → subkey_named h x place ≡ key_named h x (places below)
 subkey-named h x place node below e f =
     ap (option_and_then (λ (node : Node). key_named h x (places_in (entries_of node.index)))) e
     ∙ ap (key_named h x) (sym f.places ∙ heads-places below)
@@ -55,7 +57,8 @@ abbrev pub its_place : Branch Node → ℕ
 its_place b = b.place
 
 module _ (h : Heap) (root : ℕ) where
-  placed-forest : (x : List ℕ) (p : Path) (F : Forest Node) → Stand (IsSeen h root) Fits F → option_and_then (λ c. place_at h c p) (key_named h x (places F)) ≡ option_map its_place (branch_in (x ∷ p) F)
+  placed-forest : (x : List ℕ) (p : Path) (F : Forest Node) → Stand (IsSeen h root) Fits F →
+      option_and_then (λ c. place_at h c p) (key_named h x (places F)) ≡ option_map its_place (branch_in (x ∷ p) F)
   placed-forest x p End a = by p
     where
       by : (p : Path) → None ≡ option_map its_place (branch_in (x ∷ p) End)
@@ -65,14 +68,19 @@ module _ (h : Heap) (root : ℕ) where
       ap (λ t. option_and_then (λ c. place_at h c []) (cond t (Some o) (key_named h x (places s)))) (is-called h x o n a.0.0.reads)
       ∙ by (is_named x n) (placed-forest x [] s a.1)
     where
-      by : (t : Bool) → option_and_then (λ c. place_at h c []) (key_named h x (places s)) ≡ option_map its_place (branch_in (x ∷ []) s) → option_and_then (λ c. place_at h c []) (cond t (Some o) (key_named h x (places s))) ≡ option_map its_place (cond t (Some (record { place = o; node = n; below = b })) (branch_in (x ∷ []) s))
+      by : (t : Bool) → option_and_then (λ c. place_at h c []) (key_named h x (places s)) ≡ option_map its_place (branch_in (x ∷ []) s) →
+          option_and_then (λ c. place_at h c []) (cond t (Some o) (key_named h x (places s))) ≡ option_map its_place
+          (cond t (Some (record { place = o; node = n; below = b })) (branch_in (x ∷ []) s))
       by true e = place-none h o
       by false e = e
   placed-forest x (y ∷ p) (Hangs o n b s) a =
       ap (λ t. option_and_then (λ c. place_at h c (y ∷ p)) (cond t (Some o) (key_named h x (places s)))) (is-called h x o n a.0.0.reads)
       ∙ by (is_named x n) (placed-forest y p b a.0.2) (placed-forest x (y ∷ p) s a.1)
     where
-      by : (t : Bool) → option_and_then (λ c. place_at h c p) (key_named h y (places b)) ≡ option_map its_place (branch_in (y ∷ p) b) → option_and_then (λ c. place_at h c (y ∷ p)) (key_named h x (places s)) ≡ option_map its_place (branch_in (x ∷ y ∷ p) s) → option_and_then (λ c. place_at h c (y ∷ p)) (cond t (Some o) (key_named h x (places s))) ≡ option_map its_place (cond t (branch_in (y ∷ p) b) (branch_in (x ∷ y ∷ p) s))
+      by : (t : Bool) → option_and_then (λ c. place_at h c p) (key_named h y (places b)) ≡ option_map its_place (branch_in (y ∷ p) b) →
+          option_and_then (λ c. place_at h c (y ∷ p)) (key_named h x (places s)) ≡ option_map its_place (branch_in (x ∷ y ∷ p) s) →
+          option_and_then (λ c. place_at h c (y ∷ p)) (cond t (Some o) (key_named h x (places s))) ≡ option_map its_place
+          (cond t (branch_in (y ∷ p) b) (branch_in (x ∷ y ∷ p) s))
       by true d e = place-more h o y p ∙ (ap (option_and_then (λ c. place_at h c p)) (subkey-named h y o n b a.0.0.reads a.0.1) ∙ d)
       by false d e = e
 

@@ -57,7 +57,8 @@ find-append : (q : Path) (a b : Keys) → find path_cmp q (a ++ b) ≡ or_else (
 find-append q [] b = refl
 find-append q (e ∷ a) b = by (same_path q e.0) (find-append q a b)
   where
-    by : (t : Bool) → find path_cmp q (a ++ b) ≡ or_else (find path_cmp q a) (find path_cmp q b) → cond t (Some e.1) (find path_cmp q (a ++ b)) ≡ or_else (cond t (Some e.1) (find path_cmp q a)) (find path_cmp q b)
+    by : (t : Bool) → find path_cmp q (a ++ b) ≡ or_else (find path_cmp q a) (find path_cmp q b) →
+        cond t (Some e.1) (find path_cmp q (a ++ b)) ≡ or_else (cond t (Some e.1) (find path_cmp q a)) (find path_cmp q b)
     by true h = refl
     by false h = h
 
@@ -74,7 +75,9 @@ find-prefixed name x q (e ∷ keys) =
     ap (λ t. cond t (Some e.1) (find path_cmp (x ∷ q) (prefixed name keys))) (same-cons x name q e.0)
     ∙ by (same_name x name) (find-prefixed name x q keys)
   where
-    by : (t : Bool) → find path_cmp (x ∷ q) (prefixed name keys) ≡ cond t (find path_cmp q keys) None → cond (t && same_path q e.0) (Some e.1) (find path_cmp (x ∷ q) (prefixed name keys)) ≡ cond t (cond (same_path q e.0) (Some e.1) (find path_cmp q keys)) None
+    by : (t : Bool) → find path_cmp (x ∷ q) (prefixed name keys) ≡ cond t (find path_cmp q keys) None →
+        cond (t && same_path q e.0) (Some e.1) (find path_cmp (x ∷ q) (prefixed name keys)) ≡ cond t
+        (cond (same_path q e.0) (Some e.1) (find path_cmp q keys)) None
     by true h = ap (cond (same_path q e.0) (Some e.1)) h
     by false h = h
 
@@ -87,7 +90,9 @@ pub find-within : (rec : Rec) (keys : Keys) (q : Path) → find path_cmp q (([],
 find-within rec keys [] = refl
 find-within rec keys (x ∷ q) = refl
 
-pub find-behind : (rec : Rec) (below beside : Keys) (x : List ℕ) (q : Path) → find path_cmp (x ∷ q) (behind rec below ++ beside) ≡ or_else (cond (same_name x (folded rec.name)) (within rec below q) None) (find path_cmp (x ∷ q) beside)
+pub find-behind : (rec : Rec) (below beside : Keys) (x : List ℕ) (q : Path) →
+    find path_cmp (x ∷ q) (behind rec below ++ beside) ≡ or_else (cond (same_name x (folded rec.name)) (within rec below q) None)
+    (find path_cmp (x ∷ q) beside)
 find-behind rec below beside x q =
     find-append (x ∷ q) (behind rec below) beside
     ∙ ap (λ o. or_else o (find path_cmp (x ∷ q) beside)) (find-prefixed (folded rec.name) x q (([], rec) ∷ below) ∙ ap (λ o. cond (same_name x (folded rec.name)) o None) (find-within rec below q))
@@ -133,7 +138,8 @@ module _ (h k : Heap) (same : (z : ℕ) → descriptor_in k z ≡ descriptor_in 
       here : x ≡ folded (name_of n.key)
       here = name-is x (folded (name_of n.key)) e
 
-      by : (q : Path) (t : Bool) → or_else (cond t (within (rec m) (spelled h b) q) None) (find path_cmp (y ∷ q) (spelled h s)) ≡ cond (t && same_path q []) (Some (rec m)) (or_else (cond t (within (rec n) (spelled h b) q) None) (find path_cmp (y ∷ q) (spelled h s)))
+      by : (q : Path) (t : Bool) → or_else (cond t (within (rec m) (spelled h b) q) None) (find path_cmp (y ∷ q) (spelled h s)) ≡ cond
+          (t && same_path q []) (Some (rec m)) (or_else (cond t (within (rec n) (spelled h b) q) None) (find path_cmp (y ∷ q) (spelled h s)))
       by [] true = refl
       by (z ∷ q) true = refl
       by q false = refl
@@ -145,15 +151,18 @@ module _ (h k : Heap) (same : (z : ℕ) → descriptor_in k z ≡ descriptor_in 
       ∙ (ap (λ name. or_else (cond (same_name z name) (within (rec node) (spelled h c) q) None) (find path_cmp (z ∷ q) (spelled h s))) (sym here)
       ∙ (by q (same_name z x)
       ∙ (ap (λ name. cond (same_name z x && same_path q (y ∷ p)) (Some (rec m)) (or_else (cond (same_name z name) (within (rec node) (spelled h b) q) None) (find path_cmp (z ∷ q) (spelled h s)))) here
-      ∙ (ap (λ t. cond t (Some (rec m)) (or_else (cond (same_name z (folded (name_of node.key))) (within (rec node) (spelled h b) q) None) (find path_cmp (z ∷ q) (spelled h s)))) (sym (same-cons z x q (y ∷ p)))
+      ∙ (ap (λ t. cond t (Some (rec m)) (or_else (cond (same_name z (folded (name_of node.key))) (within (rec node) (spelled h b) q) None)
+      (find path_cmp (z ∷ q) (spelled h s)))) (sym (same-cons z x q (y ∷ p)))
       ∙ ap (cond (same_path (z ∷ q) (x ∷ y ∷ p)) (Some (rec m))) (sym (find-behind (rec node) (spelled h b) (spelled h s) z q))))))
     where
       here : x ≡ folded (name_of node.key)
       here = name-is x (folded (name_of node.key)) e
 
-      by : (q : Path) (t : Bool) → or_else (cond t (within (rec node) (spelled h c) q) None) (find path_cmp (z ∷ q) (spelled h s)) ≡ cond (t && same_path q (y ∷ p)) (Some (rec m)) (or_else (cond t (within (rec node) (spelled h b) q) None) (find path_cmp (z ∷ q) (spelled h s)))
+      by : (q : Path) (t : Bool) → or_else (cond t (within (rec node) (spelled h c) q) None) (find path_cmp (z ∷ q) (spelled h s)) ≡ cond
+          (t && same_path q (y ∷ p)) (Some (rec m)) (or_else (cond t (within (rec node) (spelled h b) q) None) (find path_cmp (z ∷ q) (spelled h s)))
       by [] true = refl
-      by (v ∷ q) true = ap (λ o. or_else o (find path_cmp (z ∷ v ∷ q) (spelled h s))) (r (v ∷ q)) ∙ either (same_path (v ∷ q) (y ∷ p)) (find path_cmp (v ∷ q) (spelled h b)) None (find path_cmp (z ∷ v ∷ q) (spelled h s))
+      by (v ∷ q) true = ap (λ o. or_else o (find path_cmp (z ∷ v ∷ q) (spelled h s))) (r (v ∷ q)) ∙ either (same_path (v ∷ q) (y ∷ p))
+          (find path_cmp (v ∷ q) (spelled h b)) None (find path_cmp (z ∷ v ∷ q) (spelled h s))
       by q false = refl
 
   retold-next : (x : List ℕ) (p : Path) (o : ℕ) (node : Node) (b s t : Forest Node) → is_named x node ≡ false → Retells (x ∷ p) s t → Retells (x ∷ p) (Hangs o node b s) (Hangs o node b t)
@@ -171,7 +180,9 @@ module _ (h k : Heap) (same : (z : ℕ) → descriptor_in k z ≡ descriptor_in 
       other : (d : Bool) (a : Option Rec) → or_else (cond d a None) (find path_cmp (z ∷ q) (spelled h s)) ≡ or_else (cond d a None) (find path_cmp (z ∷ q) (spelled h s))
       other d a = refl
 
-      by : (c : Bool) → same_path (z ∷ q) (x ∷ p) ≡ c → (d : Bool) → same_name z (folded (name_of node.key)) ≡ d → or_else (cond d (within (rec node) (spelled h b) q) None) (cond c (Some (rec m)) (find path_cmp (z ∷ q) (spelled h s))) ≡ cond c (Some (rec m)) (or_else (cond d (within (rec node) (spelled h b) q) None) (find path_cmp (z ∷ q) (spelled h s)))
+      by : (c : Bool) → same_path (z ∷ q) (x ∷ p) ≡ c → (d : Bool) → same_name z (folded (name_of node.key)) ≡ d →
+          or_else (cond d (within (rec node) (spelled h b) q) None) (cond c (Some (rec m)) (find path_cmp (z ∷ q) (spelled h s))) ≡ cond c
+          (Some (rec m)) (or_else (cond d (within (rec node) (spelled h b) q) None) (find path_cmp (z ∷ q) (spelled h s)))
       by true f true g =
           let zx = name-is z x (first (same_name z x) (same_path q p) (sym (same-cons z x q p) ∙ f)) in
           absurd (false≢true (sym e ∙ (ap (λ y. same_name y (folded (name_of node.key))) (sym zx) ∙ g)))
@@ -195,7 +206,8 @@ module _ (h k : Heap) (same : (z : ℕ) → descriptor_in k z ≡ descriptor_in 
   tree-new keys =
       (λ i. from_entries (map below_root (behind (rec-same keys.node i) (spelled-same keys.below i)))) ∙ tree-old keys
 
-  find-root : (p : Path) (keys : Branch Node) → found_at p keys ≡ Some (place, n) → (q : Path) → find path_cmp q (after_root (edit_at p m keys)) ≡ cond (same_path q p) (Some (rec m)) (find path_cmp q (after_root keys))
+  find-root : (p : Path) (keys : Branch Node) → found_at p keys ≡ Some (place, n) → (q : Path) →
+      find path_cmp q (after_root (edit_at p m keys)) ≡ cond (same_path q p) (Some (rec m)) (find path_cmp q (after_root keys))
   find-root [] keys e [] = refl
   find-root [] keys e (z ∷ q) = refl
   find-root (x ∷ p) keys e [] = refl

@@ -22,7 +22,8 @@ use Rattle.reg_shape.proofs.Refinement.RefinementAtPath.{name-written, Apart, ap
 use Rattle.reg_shape.proofs.Graft.GraftPaths.{rest_of, same_rest, same-rest, by_rest, grafted_branch, found-graft, found-rest}
 use Rattle.reg_shape.proofs.Graft.ForestInsert.{its_leaf, none-deeper, found-hang, found-unhang, leaf-deeper}
 
-module _ (h k : Heap) (root : ℕ) (p : Path) (keys was is : Branch Node) (first : ℕ) (others spare left : List ℕ) (e : branch_at p keys ≡ Some was) (g : IsGrafted h k root was is first others spare left) (w : IsShape h root keys first others spare) where
+module _ (h k : Heap) (root : ℕ) (p : Path) (keys was is : Branch Node) (first : ℕ) (others spare left : List ℕ) (e : branch_at p keys ≡ Some was)
+    (g : IsGrafted h k root was is first others spare left) (w : IsShape h root keys first others spare) where
   abbrev new_keys : Branch Node
   new_keys = graft_at p is.node is.below keys
 
@@ -54,7 +55,8 @@ module _ (h k : Heap) (root : ℕ) (p : Path) (keys was is : Branch Node) (first
   abbrev came : Branch Node
   came = grafted_branch was is.node is.below grafted-name
 
-  map-rest : (go : Path → Option (ℕ × Node)) (other : Option (ℕ × Node)) (r : Option Path) → option_map (tells h) (by_rest go other r) ≡ by_rest (λ r. option_map (tells h) (go r)) (option_map (tells h) other) r
+  map-rest : (go : Path → Option (ℕ × Node)) (other : Option (ℕ × Node)) (r : Option Path) →
+      option_map (tells h) (by_rest go other r) ≡ by_rest (λ r. option_map (tells h) (go r)) (option_map (tells h) other) r
   map-rest go other None = refl
   map-rest go other (Some r) = refl
 
@@ -92,7 +94,8 @@ module _ (h k : Heap) (root : ℕ) (p : Path) (keys was is : Branch Node) (first
       at q [] f = refl
       at q (x ∷ r) f = ap (λ F. option_map (tells h) (found_in (x ∷ r) F)) below ∙ sym (told-before q (x ∷ r) f)
 
-      by : (q : Path) (o : Option Path) → rest_of p q ≡ o → by_rest (λ r. option_map (tells h) (found_at r came)) (get (tree_of h keys) q) o ≡ cond (same_rest o []) (Some (its_rec is.node)) (get (tree_of h keys) q)
+      by : (q : Path) (o : Option Path) → rest_of p q ≡ o → by_rest (λ r. option_map (tells h) (found_at r came)) (get (tree_of h keys) q) o ≡ cond
+          (same_rest o []) (Some (its_rec is.node)) (get (tree_of h keys) q)
       by q None f = refl
       by q (Some r) f = at q r f
 
@@ -105,7 +108,10 @@ module _ (h k : Heap) (root : ℕ) (p : Path) (keys was is : Branch Node) (first
     named-so : (y : List ℕ) → is_named y n ≡ same_name y x
     named-so y = ap (same_name y) name
 
-    pub tree-hung : is.below ≡ hang i o n was.below → branch_at (x ∷ []) was ≡ None → tree_of k (graft_at p is.node is.below keys) ≡ insert (insert (tree_of h keys) p (rec_of is.node (descriptor_in h is.node.key.fields.security))) (p ++ x ∷ []) (rec_of n (descriptor_in h n.key.fields.security))
+    pub tree-hung : is.below ≡ hang i o n was.below → branch_at (x ∷ []) was ≡ None →
+        tree_of k (graft_at p is.node is.below keys) ≡ insert
+        (insert (tree_of h keys) p (rec_of is.node (descriptor_in h is.node.key.fields.security))) (p ++ x ∷ [])
+        (rec_of n (descriptor_in h n.key.fields.security))
     tree-hung below free = same_map path_total path_same (tree_of k new_keys) (insert with_rec below_path (its_rec n)) (λ q. told-graft q ∙ (by q (rest_of p q) refl ∙ sym (got q)))
       where
         none : found_in (x ∷ []) was.below ≡ None
@@ -117,21 +123,25 @@ module _ (h k : Heap) (root : ℕ) (p : Path) (keys was is : Branch Node) (first
             ∙ (found-hang i o n was.below (ap (λ x. found_in (x ∷ []) was.below) name ∙ none) y r
             ∙ ap (λ t. cond t (found_at r (its_leaf o n)) (found_in (y ∷ r) was.below)) (named-so y))
 
-        got : (q : Path) → get (insert with_rec below_path (its_rec n)) q ≡ cond (same_rest (rest_of p q) (x ∷ [])) (Some (its_rec n)) (cond (same_rest (rest_of p q) []) (Some (its_rec is.node)) (get (tree_of h keys) q))
+        got : (q : Path) → get (insert with_rec below_path (its_rec n)) q ≡ cond (same_rest (rest_of p q) (x ∷ [])) (Some (its_rec n))
+            (cond (same_rest (rest_of p q) []) (Some (its_rec is.node)) (get (tree_of h keys) q))
         got q =
             get-insert path_total with_rec below_path (its_rec n) q
             ∙ (ap (λ t. cond t (Some (its_rec n)) (get with_rec q)) (same-rest p q (x ∷ []))
             ∙ ap (cond (same_rest (rest_of p q) (x ∷ [])) (Some (its_rec n))) (get-with q))
 
-        one : (t : Bool) (y : List ℕ) → option_map (tells h) (cond t (Some (o, n)) (found_in (y ∷ []) was.below)) ≡ cond (t && true) (Some (its_rec n)) (option_map (tells h) (found_in (y ∷ []) was.below))
+        one : (t : Bool) (y : List ℕ) → option_map (tells h) (cond t (Some (o, n)) (found_in (y ∷ []) was.below)) ≡ cond (t && true)
+            (Some (its_rec n)) (option_map (tells h) (found_in (y ∷ []) was.below))
         one true y = refl
         one false y = refl
 
-        more : (y z : List ℕ) (r : Path) (t : Bool) → same_name y x ≡ t → option_map (tells h) (cond t None (found_in (y ∷ z ∷ r) was.below)) ≡ cond (t && false) (Some (its_rec n)) (option_map (tells h) (found_in (y ∷ z ∷ r) was.below))
+        more : (y z : List ℕ) (r : Path) (t : Bool) → same_name y x ≡ t → option_map (tells h) (cond t None (found_in (y ∷ z ∷ r) was.below)) ≡ cond
+            (t && false) (Some (its_rec n)) (option_map (tells h) (found_in (y ∷ z ∷ r) was.below))
         more y z r true t = sym (ap (option_map (tells h)) (ap (λ y. found_in (y ∷ z ∷ r) was.below) (name-is y x t) ∙ none-deeper x (z ∷ r) was.below none))
         more y z r false t = refl
 
-        at : (q r : Path) → rest_of p q ≡ Some r → option_map (tells h) (found_at r came) ≡ cond (same_path r (x ∷ [])) (Some (its_rec n)) (cond (same_path r []) (Some (its_rec is.node)) (get (tree_of h keys) q))
+        at : (q r : Path) → rest_of p q ≡ Some r → option_map (tells h) (found_at r came) ≡ cond (same_path r (x ∷ [])) (Some (its_rec n))
+            (cond (same_path r []) (Some (its_rec is.node)) (get (tree_of h keys) q))
         at q [] f = refl
         at q (y ∷ []) f =
             ap (option_map (tells h)) (finds y [])
@@ -144,13 +154,16 @@ module _ (h k : Heap) (root : ℕ) (p : Path) (keys was is : Branch Node) (first
             ∙ (ap (λ t. cond t (Some (its_rec n)) (option_map (tells h) (found_in (y ∷ z ∷ r) was.below))) (sym (same-cons y x (z ∷ r) []))
             ∙ ap (cond (same_path (y ∷ z ∷ r) (x ∷ [])) (Some (its_rec n))) (sym (told-before q (y ∷ z ∷ r) f))))
 
-        by : (q : Path) (s : Option Path) → rest_of p q ≡ s → by_rest (λ r. option_map (tells h) (found_at r came)) (get (tree_of h keys) q) s ≡ cond (same_rest s (x ∷ [])) (Some (its_rec n)) (cond (same_rest s []) (Some (its_rec is.node)) (get (tree_of h keys) q))
+        by : (q : Path) (s : Option Path) → rest_of p q ≡ s → by_rest (λ r. option_map (tells h) (found_at r came)) (get (tree_of h keys) q) s ≡ cond
+            (same_rest s (x ∷ [])) (Some (its_rec n)) (cond (same_rest s []) (Some (its_rec is.node)) (get (tree_of h keys) q))
         by q None f = refl
         by q (Some r) f = at q r f
 
     -- ---- a key less
 
-    pub tree-unhung : is.below ≡ unhang i was.below → IsLeafAt i o n was.below → tree_of k (graft_at p is.node is.below keys) ≡ remove (insert (tree_of h keys) p (rec_of is.node (descriptor_in h is.node.key.fields.security))) (p ++ x ∷ [])
+    pub tree-unhung : is.below ≡ unhang i was.below → IsLeafAt i o n was.below →
+        tree_of k (graft_at p is.node is.below keys) ≡ remove
+        (insert (tree_of h keys) p (rec_of is.node (descriptor_in h is.node.key.fields.security))) (p ++ x ∷ [])
     tree-unhung below leaf = same_map path_total path_same (tree_of k new_keys) (remove with_rec below_path) (λ q. told-graft q ∙ (by q (rest_of p q) refl ∙ sym (got q)))
       where
         apart : Apart was.below
@@ -172,7 +185,8 @@ module _ (h k : Heap) (root : ℕ) (p : Path) (keys was is : Branch Node) (first
         one true y = refl
         one false y = refl
 
-        more : (y z : List ℕ) (r : Path) (t : Bool) → same_name y x ≡ t → option_map (tells h) (cond t None (found_in (y ∷ z ∷ r) was.below)) ≡ cond (t && false) None (option_map (tells h) (found_in (y ∷ z ∷ r) was.below))
+        more : (y z : List ℕ) (r : Path) (t : Bool) → same_name y x ≡ t → option_map (tells h) (cond t None (found_in (y ∷ z ∷ r) was.below)) ≡ cond
+            (t && false) None (option_map (tells h) (found_in (y ∷ z ∷ r) was.below))
         more y z r true t = sym (ap (option_map (tells h)) (leaf-deeper i o n was.below apart leaf y z r (named-so y ∙ t)))
         more y z r false t = refl
 
@@ -189,6 +203,7 @@ module _ (h k : Heap) (root : ℕ) (p : Path) (keys was is : Branch Node) (first
             ∙ (ap (λ t. cond t None (option_map (tells h) (found_in (y ∷ z ∷ r) was.below))) (sym (same-cons y x (z ∷ r) []))
             ∙ ap (cond (same_path (y ∷ z ∷ r) (x ∷ [])) None) (sym (told-before q (y ∷ z ∷ r) f))))
 
-        by : (q : Path) (s : Option Path) → rest_of p q ≡ s → by_rest (λ r. option_map (tells h) (found_at r came)) (get (tree_of h keys) q) s ≡ cond (same_rest s (x ∷ [])) None (cond (same_rest s []) (Some (its_rec is.node)) (get (tree_of h keys) q))
+        by : (q : Path) (s : Option Path) → rest_of p q ≡ s → by_rest (λ r. option_map (tells h) (found_at r came)) (get (tree_of h keys) q) s ≡ cond
+            (same_rest s (x ∷ [])) None (cond (same_rest s []) (Some (its_rec is.node)) (get (tree_of h keys) q))
         by q None f = refl
         by q (Some r) f = at q r f

@@ -47,10 +47,12 @@ other-name a n d = by (is_named a n) refl
 
 module _ (h : Heap) (root : ℕ) where
   -- one before all that follow it
-  apart-first : (place : ℕ) (node : Node) (F : Forest Node) → IsSeen h root place node → Stand (IsSeen h root) Fits F → AllByRecursion (λ (b : ℕ × Node). Precedes node.key.name b.1.key.name) (heads F) → AllByRecursion (IsOther (folded (name_of node.key))) (heads F)
+  apart-first : (place : ℕ) (node : Node) (F : Forest Node) → IsSeen h root place node → Stand (IsSeen h root) Fits F →
+      AllByRecursion (λ (b : ℕ × Node). Precedes node.key.name b.1.key.name) (heads F) → AllByRecursion (IsOther (folded (name_of node.key))) (heads F)
   apart-first place node End w a l = tt
   apart-first place node (Hangs o n b s) w a l = (
-    other-name (folded (name_of node.key)) n (λ e. precedes-apart node.key.name n.key.name l.0 (ap folded (sym (name-written h root place node w.written)) ∙ (e ∙ ap folded (name-written h root o n a.0.0.written)))),
+    other-name (folded (name_of node.key)) n (λ e. precedes-apart node.key.name n.key.name l.0
+        (ap folded (sym (name-written h root place node w.written)) ∙ (e ∙ ap folded (name-written h root o n a.0.0.written)))),
     apart-first place node s w a.1 l.1,
   )
 
@@ -90,12 +92,17 @@ module _ (h : Heap) where
   told-forest x q End a = refl
   told-forest x [] (Hangs o n b s) a = find-behind (rec_in_tree n) (spelled h b) (spelled h s) x [] ∙ by (is_named x n) refl (told-forest x [] s a.2)
     where
-      by : (t : Bool) → is_named x n ≡ t → find path_cmp (x ∷ []) (spelled h s) ≡ option_map (tells_branch h) (branch_in (x ∷ []) s) → or_else (cond t (Some (rec_in_tree n)) None) (find path_cmp (x ∷ []) (spelled h s)) ≡ option_map (tells_branch h) (cond t (Some (record { place = o; node = n; below = b })) (branch_in (x ∷ []) s))
+      by : (t : Bool) → is_named x n ≡ t → find path_cmp (x ∷ []) (spelled h s) ≡ option_map (tells_branch h) (branch_in (x ∷ []) s) →
+          or_else (cond t (Some (rec_in_tree n)) None) (find path_cmp (x ∷ []) (spelled h s)) ≡ option_map (tells_branch h)
+          (cond t (Some (record { place = o; node = n; below = b })) (branch_in (x ∷ []) s))
       by true e r = refl
       by false e r = r
   told-forest x (y ∷ q) (Hangs o n b s) a = find-behind (rec_in_tree n) (spelled h b) (spelled h s) x (y ∷ q) ∙ by (is_named x n) refl (told-forest y q b a.1) (told-forest x (y ∷ q) s a.2)
     where
-      by : (t : Bool) → is_named x n ≡ t → find path_cmp (y ∷ q) (spelled h b) ≡ option_map (tells_branch h) (branch_in (y ∷ q) b) → find path_cmp (x ∷ y ∷ q) (spelled h s) ≡ option_map (tells_branch h) (branch_in (x ∷ y ∷ q) s) → or_else (cond t (find path_cmp (y ∷ q) (spelled h b)) None) (find path_cmp (x ∷ y ∷ q) (spelled h s)) ≡ option_map (tells_branch h) (cond t (branch_in (y ∷ q) b) (branch_in (x ∷ y ∷ q) s))
+      by : (t : Bool) → is_named x n ≡ t → find path_cmp (y ∷ q) (spelled h b) ≡ option_map (tells_branch h) (branch_in (y ∷ q) b) →
+          find path_cmp (x ∷ y ∷ q) (spelled h s) ≡ option_map (tells_branch h) (branch_in (x ∷ y ∷ q) s) →
+          or_else (cond t (find path_cmp (y ∷ q) (spelled h b)) None) (find path_cmp (x ∷ y ∷ q) (spelled h s)) ≡ option_map (tells_branch h)
+          (cond t (branch_in (y ∷ q) b) (branch_in (x ∷ y ∷ q) s))
       by true e d r =
           let none = none-named x (y ∷ q) s (subst (λ z. AllByRecursion (IsOther z) (heads s)) (sym (name-is x (folded (name_of n.key)) e)) a.0) in
           ap (or_else (find path_cmp (y ∷ q) (spelled h b))) none ∙ (or-none (find path_cmp (y ∷ q) (spelled h b)) ∙ d)
@@ -116,7 +123,8 @@ module _ (h : Heap) where
       by [] = refl
       by (x ∷ q) = told-forest x q keys.below a
 
-  pub told : (root : ℕ) (keys : Branch Node) → StandsIn h root keys → (q : Path) → get (tree_of h keys) q ≡ option_map (λ (b : Branch Node). rec_of b.node (descriptor_in h b.node.key.fields.security)) (branch_at q keys)
+  pub told : (root : ℕ) (keys : Branch Node) → StandsIn h root keys → (q : Path) →
+      get (tree_of h keys) q ≡ option_map (λ (b : Branch Node). rec_of b.node (descriptor_in h b.node.key.fields.security)) (branch_at q keys)
   told root keys a q = told-apart keys (apart-stands h root keys a) q
 
   pub told-found : (keys : Branch Node) → Apart keys.below → (q : Path) → get (tree_of h keys) q ≡ option_map (tells h) (found_at q keys)

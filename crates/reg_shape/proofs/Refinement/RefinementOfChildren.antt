@@ -53,7 +53,8 @@ paired-find : (q : Name) (xs : List Name) → find name_order q (paired xs) ≡ 
 paired-find q [] = refl
 paired-find q (x ∷ xs) = by (same_name q x) (paired-find q xs)
   where
-    by : (b : Bool) → find name_order q (paired xs) ≡ cond (list_any (same_name q) xs) (Some tt) None → cond b (Some tt) (find name_order q (paired xs)) ≡ cond (b || list_any (same_name q) xs) (Some tt) None
+    by : (b : Bool) → find name_order q (paired xs) ≡ cond (list_any (same_name q) xs) (Some tt) None →
+        cond b (Some tt) (find name_order q (paired xs)) ≡ cond (b || list_any (same_name q) xs) (Some tt) None
     by true e = refl
     by false e = e
 
@@ -64,7 +65,9 @@ unpaired (x ∷ xs) = ap (λ ys. x ∷ ys) (unpaired xs)
 names-same : (xs ys : List Name) → IsStrictlySortedBy name_order xs → IsStrictlySortedBy name_order ys → ((q : Name) → list_any (same_name q) xs ≡ list_any (same_name q) ys) → xs ≡ ys
 names-same xs ys a b e =
     sym (unpaired xs)
-    ∙ (ap (map (λ (e : Name × Unit {0}). e.0)) (same_entries name_order nat_list_cmp_total (slice_cmp-IsAntisymmetric nat_cmp-IsAntisymmetric) (paired xs) (paired ys) (paired-sorted xs a) (paired-sorted ys b) (λ q. paired-find q xs ∙ (ap (λ b. cond b (Some tt) None) (e q) ∙ sym (paired-find q ys))))
+    ∙ (ap (map (λ (e : Name × Unit {0}). e.0)) (same_entries name_order nat_list_cmp_total (slice_cmp-IsAntisymmetric nat_cmp-IsAntisymmetric)
+    (paired xs) (paired ys) (paired-sorted xs a) (paired-sorted ys b) (λ q. paired-find q xs ∙ (ap (λ b. cond b (Some tt) None) (e q) ∙
+    sym (paired-find q ys))))
     ∙ unpaired ys)
 
 -- ---- the names of the keys right below a key
@@ -76,10 +79,13 @@ abbrev names_below : Forest Node → List Name
 names_below F = map its_name (heads F)
 
 module _ (h : Heap) (root : ℕ) where
-  rise-first : (place : ℕ) (node : Node) (F : Forest Node) → IsSeen h root place node → Stand (IsSeen h root) Fits F → AllByRecursion (λ (b : ℕ × Node). Precedes node.key.name b.1.key.name) (heads F) → AllByRecursion (λ y. name_order (folded (name_of node.key)) y ≡ Less) (names_below F)
+  rise-first : (place : ℕ) (node : Node) (F : Forest Node) → IsSeen h root place node → Stand (IsSeen h root) Fits F →
+      AllByRecursion (λ (b : ℕ × Node). Precedes node.key.name b.1.key.name) (heads F) →
+      AllByRecursion (λ y. name_order (folded (name_of node.key)) y ≡ Less) (names_below F)
   rise-first place node End w a l = tt
   rise-first place node (Hangs o n b s) w a l = (
-    ap (λ a. slice_cmp nat_cmp (folded a) (folded (name_of n.key))) (name-written h root place node w.written) ∙ (ap (λ b. slice_cmp nat_cmp (folded node.key.name) (folded b)) (name-written h root o n a.0.0.written) ∙ l.0),
+    ap (λ a. slice_cmp nat_cmp (folded a) (folded (name_of n.key))) (name-written h root place node w.written) ∙
+        (ap (λ b. slice_cmp nat_cmp (folded node.key.name) (folded b)) (name-written h root o n a.0.0.written) ∙ l.0),
     rise-first place node s w a.1 l.1,
   )
 
@@ -92,7 +98,8 @@ among : (x : Name) (F : Forest Node) → is_some (branch_in (x ∷ []) F) ≡ li
 among x End = refl
 among x (Hangs o n b s) = by (is_named x n) (among x s)
   where
-    by : (t : Bool) → is_some (branch_in (x ∷ []) s) ≡ list_any (same_name x) (names_below s) → is_some (cond t (Some (record { place = o; node = n; below = b })) (branch_in (x ∷ []) s)) ≡ (t || list_any (same_name x) (names_below s))
+    by : (t : Bool) → is_some (branch_in (x ∷ []) s) ≡ list_any (same_name x) (names_below s) →
+        is_some (cond t (Some (record { place = o; node = n; below = b })) (branch_in (x ∷ []) s)) ≡ (t || list_any (same_name x) (names_below s))
     by true e = refl
     by false e = e
 

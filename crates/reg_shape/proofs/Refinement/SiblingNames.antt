@@ -41,15 +41,20 @@ same-read heap (x ∷ xs) (y ∷ ys) e a b =
     let node : x.1 ≡ y.1 = same_Some _ _ (sym a.0 ∙ (ap (look heap) place ∙ b.0)) in
     ap (λ p. (p, x.1) ∷ xs) place ∙ (ap (λ n. (y.0, n) ∷ xs) node ∙ ap (λ zs. y ∷ zs) (same-read heap xs ys (ap tail-of e) a.1 b.1))
 
-one-apart : (heap : Heap) (root offset : ℕ) → IsWritten heap root offset → (below : List (ℕ × Node)) → HasSubkeys heap offset below → Pairwise (λ (a b : ℕ × Node). folded a.1.key.name ≢ folded b.1.key.name) below
+one-apart : (heap : Heap) (root offset : ℕ) → IsWritten heap root offset → (below : List (ℕ × Node)) → HasSubkeys heap offset below →
+    Pairwise (λ (a b : ℕ × Node). folded a.1.key.name ≢ folded b.1.key.name) below
 one-apart heap root offset w below h =
     let node : w.node ≡ h.node = same_Some _ _ (sym w.seen ∙ h.seen) in
     let same = same-read heap w.below below (w.fits.places ∙ (ap (λ (n : Node). places_in (entries_of n.index)) node ∙ sym h.places)) w.reads h.reads in
     subst (λ es. Pairwise (λ (a b : ℕ × Node). folded a.1.key.name ≢ folded b.1.key.name) es) same (names-apart w.below w.fits.order)
 
-all-apart : (heap : Heap) (root : ℕ) (found : List Found) → AllByRecursion (λ (f : Found). f.kind ≡ Key → IsWritten heap root f.offset) found → AllByRecursion (λ (f : Found). f.kind ≡ Key → (below : List (ℕ × Node)) → HasSubkeys heap f.offset below → Pairwise (λ (a b : ℕ × Node). folded a.1.key.name ≢ folded b.1.key.name) below) found
+all-apart : (heap : Heap) (root : ℕ) (found : List Found) → AllByRecursion (λ (f : Found). f.kind ≡ Key → IsWritten heap root f.offset) found →
+    AllByRecursion (λ (f : Found). f.kind ≡ Key → (below : List (ℕ × Node)) → HasSubkeys heap f.offset below →
+    Pairwise (λ (a b : ℕ × Node). folded a.1.key.name ≢ folded b.1.key.name) below) found
 all-apart heap root [] a = tt
 all-apart heap root (f ∷ found) a = ((λ k. one-apart heap root f.offset (a.0 k)), all-apart heap root found a.1)
 
-pub siblings-apart : (heap : Heap) (cells root : ℕ) (whole : IsWhole heap cells root) → AllByRecursion (λ (f : Found). f.kind ≡ Key → (below : List (ℕ × Node)) → HasSubkeys heap f.offset below → Pairwise (λ (a b : ℕ × Node). folded a.1.key.name ≢ folded b.1.key.name) below) whole.found
+pub siblings-apart : (heap : Heap) (cells root : ℕ) (whole : IsWhole heap cells root) → AllByRecursion (λ (f : Found). f.kind ≡ Key →
+    (below : List (ℕ × Node)) → HasSubkeys heap f.offset below →
+    Pairwise (λ (a b : ℕ × Node). folded a.1.key.name ≢ folded b.1.key.name) below) whole.found
 siblings-apart heap cells root whole = all-apart heap root whole.found whole.keys

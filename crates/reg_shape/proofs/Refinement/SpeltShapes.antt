@@ -81,9 +81,19 @@ secured-rec heap node s =
     ap (option_map (λ (s : KeySecurityRecord). rec_of node s.descriptor)) s.reads
     ∙ ap (λ d. Some (rec_of node d)) (sym (ap (λ (o : Option KeySecurityRecord). unwrap_or (option_map (λ (s : KeySecurityRecord). s.descriptor) o) []) s.reads))
 
-key-spelt : (heap : Heap) (offset : ℕ) (node : Node) (k : ℕ) (below : Keys) → look heap offset ≡ Some node → IsWrittenSecurity heap node.key.fields.security → gather (keys_from k heap) (places_in (entries_of node.index)) ≡ Some below → keys_from (suc k) heap offset ≡ Some (behind (rec_of node (descriptor_in heap node.key.fields.security)) below)
+key-spelt : (heap : Heap) (offset : ℕ) (node : Node) (k : ℕ) (below : Keys) → look heap offset ≡ Some node →
+    IsWrittenSecurity heap node.key.fields.security → gather (keys_from k heap) (places_in (entries_of node.index)) ≡ Some below →
+    keys_from (suc k) heap offset ≡ Some (behind (rec_of node (descriptor_in heap node.key.fields.security)) below)
 key-spelt heap offset node k below e s g =
-    keys-made k heap offset _ (record { node = node; rec = rec_of node (descriptor_in heap node.key.fields.security); below = below; node_is = e; rec_is = secured-rec heap node s; below_is = g; all = refl })
+    keys-made k heap offset _ (record {
+      node = node;
+      rec = rec_of node (descriptor_in heap node.key.fields.security);
+      below = below;
+      node_is = e;
+      rec_is = secured-rec heap node s;
+      below_is = g;
+      all = refl;
+    })
 
 -- as much fuel as keys lead down is enough
 pub forest-spelt : (heap : Heap) (root k : ℕ) (F : Forest Node) → Stand (IsSeen heap root) Fits F → AreSecured heap F → depth F ≤ k → gather (keys_from k heap) (places F) ≡ Some (spelled heap F)
@@ -95,7 +105,9 @@ forest-spelt heap root (suc k) (Hangs place node below beside) a s l =
     (ap (gather (keys_from k heap)) (sym a.0.1.places ∙ heads-places below) ∙ forest-spelt heap root k below a.0.2 s.1 (omega arith)))
     (forest-spelt heap root (suc k) beside a.1 s.2 (omega arith))
 
-pub branch-spelt : (heap : Heap) (root k : ℕ) (keys : Branch Node) → StandsIn heap root keys → IsWrittenSecurity heap keys.node.key.fields.security → AreSecured heap keys.below → depth keys.below ≤ k → keys_from (suc k) heap keys.place ≡ Some (behind (rec_of keys.node (descriptor_in heap keys.node.key.fields.security)) (spelled heap keys.below))
+pub branch-spelt : (heap : Heap) (root k : ℕ) (keys : Branch Node) → StandsIn heap root keys → IsWrittenSecurity heap keys.node.key.fields.security →
+    AreSecured heap keys.below → depth keys.below ≤ k →
+    keys_from (suc k) heap keys.place ≡ Some (behind (rec_of keys.node (descriptor_in heap keys.node.key.fields.security)) (spelled heap keys.below))
 branch-spelt heap root k keys a one s l =
     key-spelt heap keys.place keys.node k (spelled heap keys.below) a.0.reads one
     (ap (gather (keys_from k heap)) (sym a.1.places ∙ heads-places keys.below) ∙ forest-spelt heap root k keys.below a.2 s l)
@@ -106,7 +118,8 @@ pub longer : (n m : ℕ) → n ≤ m → (keys : Keys) → AllByRecursion (λ (e
 longer n m l [] a = tt
 longer n m l (e ∷ keys) a = (omega arith, longer n m l keys a.1)
 
-one-longer : (name : List ℕ) (n : ℕ) (keys : Keys) → AllByRecursion (λ (e : Path × Rec). length e.0 ≤ n) keys → AllByRecursion (λ (e : Path × Rec). length e.0 ≤ suc n) (map (λ (e : Path × Rec). (name ∷ e.0, e.1)) keys)
+one-longer : (name : List ℕ) (n : ℕ) (keys : Keys) → AllByRecursion (λ (e : Path × Rec). length e.0 ≤ n) keys →
+    AllByRecursion (λ (e : Path × Rec). length e.0 ≤ suc n) (map (λ (e : Path × Rec). (name ∷ e.0, e.1)) keys)
 one-longer name n [] a = tt
 one-longer name n (e ∷ keys) a = (omega arith, one-longer name n keys a.1)
 
@@ -118,5 +131,6 @@ spelled-short heap End = tt
 spelled-short heap (Hangs place node below beside) =
     let rec = rec_of node (descriptor_in heap node.key.fields.security) in
     all-append (λ (e : Path × Rec). length e.0 ≤ depth (Hangs place node below beside)) (behind rec (spelled heap below)) (spelled heap beside)
-    (longer (suc (depth below)) (depth (Hangs place node below beside)) (omega arith) (behind rec (spelled heap below)) (behind-short rec (depth below) (spelled heap below) (spelled-short heap below)))
+    (longer (suc (depth below)) (depth (Hangs place node below beside)) (omega arith) (behind rec (spelled heap below))
+    (behind-short rec (depth below) (spelled heap below) (spelled-short heap below)))
     (longer (depth beside) (depth (Hangs place node below beside)) (omega arith) (spelled heap beside) (spelled-short heap beside))

@@ -242,7 +242,8 @@ pub precedes-apart : (a b : List ℕ) → Precedes a b → folded a ≢ folded b
 precedes-apart a b l e =
     false≢true (ap is_less (sym (tied_itself nat_list_cmp_total (folded a))) ∙ (ap (λ n. is_less (slice_cmp nat_cmp (folded a) n)) e ∙ ap is_less l))
 
-apart-one : (a : ℕ × Node) (bs : List (ℕ × Node)) → AllByRecursion (λ (b : ℕ × Node). Precedes a.1.key.name b.1.key.name) bs → AllByRecursion (λ (b : ℕ × Node). folded a.1.key.name ≢ folded b.1.key.name) bs
+apart-one : (a : ℕ × Node) (bs : List (ℕ × Node)) → AllByRecursion (λ (b : ℕ × Node). Precedes a.1.key.name b.1.key.name) bs →
+    AllByRecursion (λ (b : ℕ × Node). folded a.1.key.name ≢ folded b.1.key.name) bs
 apart-one a [] l = tt
 apart-one a (b ∷ bs) l = (precedes-apart a.1.key.name b.1.key.name l.0, apart-one a bs l.1)
 

@@ -115,14 +115,18 @@ key-list-open heap offset list e =
     let k = as-key-list offset o.0 o.0.form list o.2 in
     record { content = c.0; here = c.1; list_is = c.2 ∙ ap Some k.2; no_root = ap (λ (l : SubkeysList). is_root l.form) (sym k.2) ∙ k.0; place = k.1 }
 
-key-list-walks : (heap : Heap) (offset : ℕ) (list : KeyList) (traces : List (List Found)) → IsKeyList heap offset list → AllWalk heap (places_in list.list.entries) traces → Walks heap (plainly Leaf offset ∷ []) (record { kind = Leaf; offset = list.place } ∷ joined traces)
+key-list-walks : (heap : Heap) (offset : ℕ) (list : KeyList) (traces : List (List Found)) → IsKeyList heap offset list →
+    AllWalk heap (places_in list.list.entries) traces →
+    Walks heap (plainly Leaf offset ∷ []) (record { kind = Leaf; offset = list.place } ∷ joined traces)
 key-list-walks heap offset list traces k a =
     subst (λ place. Walks heap (plainly Leaf offset ∷ []) (record { kind = Leaf; offset = place } ∷ joined traces)) k.place
     (walks-met heap (plainly Leaf offset) k.content (map (plainly Key) (places_in list.list.entries)) (joined traces) k.here
     (ap (option_and_then (λ list. keys_named list.form list.entries)) k.list_is ∙ keys-are list.list.form list.list.entries k.no_root)
     (keys-walk heap (places_in list.list.entries) traces a))
 
-lists-walk : (heap : Heap) (offsets : List ℕ) (lists : List KeyList) (traces : List (List Found)) → key_lists_at heap offsets ≡ Some lists → AllWalk heap (places_in (flat_map (λ (l : KeyList). l.list.entries) lists)) traces → Walks heap (map (plainly Leaf) offsets) (lists_met lists traces)
+lists-walk : (heap : Heap) (offsets : List ℕ) (lists : List KeyList) (traces : List (List Found)) → key_lists_at heap offsets ≡ Some lists →
+    AllWalk heap (places_in (flat_map (λ (l : KeyList). l.list.entries) lists)) traces →
+    Walks heap (map (plainly Leaf) offsets) (lists_met lists traces)
 lists-walk heap [] lists traces e a = subst (λ ls. Walks heap [] (lists_met ls traces)) (same_Some _ _ e) (walks-none heap)
 lists-walk heap (offset ∷ offsets) lists traces e a =
     let o = then-open (λ list. option_map (λ lists. list ∷ lists) (key_lists_at heap offsets)) (key_list_at heap offset) lists e in
@@ -138,7 +142,9 @@ lists-walk heap (offset ∷ offsets) lists traces e a =
 -- ---- an index
 
 -- a leaf is the whole index
-leaf-walks : (heap : Heap) (count offset : ℕ) (l : SubkeysList) (content : List ℕ) (index : Index) (traces : List (List Found)) → heap offset ≡ Some content → list_of content ≡ Some l → is_root l.form ≡ false → Listed (record { place = offset; list = l }) ≡ index → AllWalk heap (places_in (entries_of index)) traces → Walks heap (if_any SubList (suc count) offset) (index_met index traces)
+leaf-walks : (heap : Heap) (count offset : ℕ) (l : SubkeysList) (content : List ℕ) (index : Index) (traces : List (List Found)) →
+    heap offset ≡ Some content → list_of content ≡ Some l → is_root l.form ≡ false → Listed (record { place = offset; list = l }) ≡ index →
+    AllWalk heap (places_in (entries_of index)) traces → Walks heap (if_any SubList (suc count) offset) (index_met index traces)
 leaf-walks heap count offset l content index traces here are no_root is a =
     let b = subst (λ i. AllWalk heap (places_in (entries_of i)) traces) (sym is) a in
     subst (λ i. Walks heap (if_any SubList (suc count) offset) (index_met i traces)) is
@@ -156,7 +162,10 @@ roots-are IndexLeaf entries r = absurd (false≢true r)
 roots-are FastLeaf entries r = absurd (false≢true r)
 roots-are HashLeaf entries r = absurd (false≢true r)
 
-root-walks : (heap : Heap) (count offset : ℕ) (l : SubkeysList) (content : List ℕ) (index : Index) (traces : List (List Found)) → heap offset ≡ Some content → list_of content ≡ Some l → is_root l.form ≡ true → option_map (Rooted offset) (key_lists_at heap (places_in l.entries)) ≡ Some index → AllWalk heap (places_in (entries_of index)) traces → Walks heap (if_any SubList (suc count) offset) (index_met index traces)
+root-walks : (heap : Heap) (count offset : ℕ) (l : SubkeysList) (content : List ℕ) (index : Index) (traces : List (List Found)) →
+    heap offset ≡ Some content → list_of content ≡ Some l → is_root l.form ≡ true →
+    option_map (Rooted offset) (key_lists_at heap (places_in l.entries)) ≡ Some index → AllWalk heap (places_in (entries_of index)) traces →
+    Walks heap (if_any SubList (suc count) offset) (index_met index traces)
 root-walks heap count offset l content index traces here are root e a =
     let o = map-open (Rooted offset) (key_lists_at heap (places_in l.entries)) index e in
     let b = subst (λ i. AllWalk heap (places_in (entries_of i)) traces) (sym o.2) a in
@@ -169,14 +178,16 @@ root-walks heap count offset l content index traces here are root e a =
     kind : kind_met SubList content ≡ SubList
     kind = ap (λ b. cond b SubList Leaf) (root-signed content l are ∙ root)
 
-pub index-walks : (heap : Heap) (count offset : ℕ) (index : Index) (traces : List (List Found)) → index_at heap count offset ≡ Some index → AllWalk heap (places_in (entries_of index)) traces → Walks heap (if_any SubList count offset) (index_met index traces)
+pub index-walks : (heap : Heap) (count offset : ℕ) (index : Index) (traces : List (List Found)) → index_at heap count offset ≡ Some index →
+    AllWalk heap (places_in (entries_of index)) traces → Walks heap (if_any SubList count offset) (index_met index traces)
 index-walks heap zero offset index traces e a = subst (λ i. Walks heap [] (index_met i traces)) (same_Some _ _ e) (walks-none heap)
 index-walks heap (suc count) offset index traces e a =
     let o = then-open (λ list. index_as heap offset list list.form) (list_at heap offset) index e in
     let c = then-open list_of (heap offset) o.0 o.1 in
     by o.0 c.0 c.1 c.2 o.0.form refl o.2
   where
-    by : (l : SubkeysList) (content : List ℕ) → heap offset ≡ Some content → list_of content ≡ Some l → (form : Form) → l.form ≡ form → index_as heap offset l form ≡ Some index → Walks heap (if_any SubList (suc count) offset) (index_met index traces)
+    by : (l : SubkeysList) (content : List ℕ) → heap offset ≡ Some content → list_of content ≡ Some l → (form : Form) → l.form ≡ form →
+        index_as heap offset l form ≡ Some index → Walks heap (if_any SubList (suc count) offset) (index_met index traces)
     by l content here are IndexRoot f e = root-walks heap count offset l content index traces here are (ap is_root f) e a
     by l content here are IndexLeaf f e = leaf-walks heap count offset l content index traces here are (ap is_root f) (same_Some _ _ e) a
     by l content here are FastLeaf f e = leaf-walks heap count offset l content index traces here are (ap is_root f) (same_Some _ _ e) a

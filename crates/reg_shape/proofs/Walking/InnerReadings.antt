@@ -36,7 +36,8 @@ AreInner found = AllByRecursion (λ (f : Found). is_inner f.kind ≡ true) found
 joins : (xs ys : List Found) → AreInner xs → AreInner ys → AreInner (xs ++ ys)
 joins xs ys a b = all-append (λ (f : Found). is_inner f.kind ≡ true) xs ys a b
 
-bound : {A B : Type 0} (r : Reading A) (f : A → Reading B) (heap : Heap) → ((x : A) (zs : List Found) → r heap ≡ Some (x, zs) → AreInner zs) → ((x : A) (y : B × List Found) → f x heap ≡ Some y → AreInner y.1) → (y : B × List Found) → ◌>>=◌ r f heap ≡ Some y → AreInner y.1
+bound : {A B : Type 0} (r : Reading A) (f : A → Reading B) (heap : Heap) → ((x : A) (zs : List Found) → r heap ≡ Some (x, zs) → AreInner zs) →
+    ((x : A) (y : B × List Found) → f x heap ≡ Some y → AreInner y.1) → (y : B × List Found) → ◌>>=◌ r f heap ≡ Some y → AreInner y.1
 bound r f heap h k y e =
     let o = bind-open r f heap y e in subst AreInner o.all (joins o.before o.then.1 (h o.first o.before o.first_is) (k o.first o.then o.then_is))
 
@@ -49,7 +50,8 @@ givens x heap y e = let g = given-open x heap y e in subst AreInner (sym g.1) tt
 cells : (kind : Kind) → is_inner kind ≡ true → (offset : ℕ) (heap : Heap) (content : List ℕ) (zs : List Found) → cell kind offset heap ≡ Some (content, zs) → AreInner zs
 cells kind k offset heap content zs e = let c = cell-open kind offset heap content zs e in subst AreInner (sym c.1) (k, tt)
 
-pub eaches : {A B : Type 0} (P : A → Type 0) (r : A → Reading B) (heap : Heap) → ((x : A) (y : B × List Found) → P x → r x heap ≡ Some y → AreInner y.1) → (xs : List A) → AllByRecursion P xs → (y : List B × List Found) → each r xs heap ≡ Some y → AreInner y.1
+pub eaches : {A B : Type 0} (P : A → Type 0) (r : A → Reading B) (heap : Heap) → ((x : A) (y : B × List Found) → P x → r x heap ≡ Some y →
+    AreInner y.1) → (xs : List A) → AllByRecursion P xs → (y : List B × List Found) → each r xs heap ≡ Some y → AreInner y.1
 eaches {A} {B} P r heap h [] a y e = subst AreInner (ap (λ (p : List B × List Found). p.1) (same_Some _ _ e)) tt
 eaches P r heap h (x ∷ xs) a y e =
     let o = each-open r heap x xs y.0 y.1 e in

@@ -30,7 +30,8 @@ bind-open {A} {B} r f heap y e = outer (r heap) refl e
     outer None a e = absurd (none-some _ e)
     outer (Some x) a e = inner x.0 x.1 a (f x.0 heap) refl e
 
-pub bind-made : {A B : Type 0} (r : Reading A) (f : A → Reading B) (heap : Heap) (x : A) (zs : List Found) (w : B × List Found) → r heap ≡ Some (x, zs) → f x heap ≡ Some w → ◌>>=◌ r f heap ≡ Some (noted zs w)
+pub bind-made : {A B : Type 0} (r : Reading A) (f : A → Reading B) (heap : Heap) (x : A) (zs : List Found) (w : B × List Found) →
+    r heap ≡ Some (x, zs) → f x heap ≡ Some w → ◌>>=◌ r f heap ≡ Some (noted zs w)
 bind-made r f heap x zs w a b = ap (option_and_then (λ x. option_map (noted x.1) (f x.0 heap))) a ∙ ap (option_map (noted zs)) b
 
 pub guard-made : {A : Type 0} (test : Bool) (r : Reading A) (heap : Heap) (y : A × List Found) → test ≡ true → r heap ≡ Some y → guard test r heap ≡ Some y
@@ -51,10 +52,13 @@ given-open None heap y e = absurd (none-some _ e)
 given-open {A} (Some x) heap y e =
     let p : ◌≡◌ {A = A × List Found} (x, []) y = same_Some _ _ e in (ap (λ (p : A × List Found). Some p.0) p, sym (ap (λ (p : A × List Found). p.1) p))
 
-pub cell-open : (kind : Kind) (offset : ℕ) (heap : Heap) (content : List ℕ) (zs : List Found) → cell kind offset heap ≡ Some (content, zs) → (heap offset ≡ Some content) × (zs ≡ record { kind = kind; offset = offset } ∷ [])
+pub cell-open : (kind : Kind) (offset : ℕ) (heap : Heap) (content : List ℕ) (zs : List Found) → cell kind offset heap ≡ Some (content, zs) →
+    (heap offset ≡ Some content) × (zs ≡ record { kind = kind; offset = offset } ∷ [])
 cell-open kind offset heap content zs e = by (heap offset) refl e
   where
-    by : (r : Option (List ℕ)) → heap offset ≡ r → ◌≡◌ {A = Option (List ℕ × List Found)} (option_map (λ (c : List ℕ). (c, record { kind = kind; offset = offset } ∷ [])) r) (Some (content, zs)) → (heap offset ≡ Some content) × (zs ≡ record { kind = kind; offset = offset } ∷ [])
+    by : (r : Option (List ℕ)) → heap offset ≡ r →
+        ◌≡◌ {A = Option (List ℕ × List Found)} (option_map (λ (c : List ℕ). (c, record { kind = kind; offset = offset } ∷ [])) r)
+        (Some (content, zs)) → (heap offset ≡ Some content) × (zs ≡ record { kind = kind; offset = offset } ∷ [])
     by None a e = absurd (none-some _ e)
     by (Some c) a e =
         let p : ◌≡◌ {A = List ℕ × List Found} (c, record { kind = kind; offset = offset } ∷ []) (content, zs) = same_Some _ _ e in

@@ -46,7 +46,8 @@ bytes-walks heap n k y e =
     (ap (λ kind. record { kind = kind; offset = n.offset } ∷ []) (k.met o.first) ∙ (sym c.1 ∙ (sym (append-nil o.before) ∙ (ap (λ (p : List ℕ × List Found). o.before ++ p.1) p ∙ o.all))))
     w
 
-each-bytes : (heap : Heap) (names : List Named) → AllByRecursion (λ (n : Named). IsBytes n.kind) names → (ys : List (List ℕ)) (zs : List Found) → each bytes_at names heap ≡ Some (ys, zs) → Walks heap names zs
+each-bytes : (heap : Heap) (names : List Named) → AllByRecursion (λ (n : Named). IsBytes n.kind) names → (ys : List (List ℕ)) (zs : List Found) →
+    each bytes_at names heap ≡ Some (ys, zs) → Walks heap names zs
 each-bytes heap [] a ys zs e = subst (λ zs. Walks heap [] zs) (ap (λ (p : List (List ℕ) × List Found). p.1) (same_Some _ _ e)) (walks-none heap)
 each-bytes heap (n ∷ names) a ys zs e =
     let o = each-open bytes_at heap n names ys zs e in
@@ -128,25 +129,29 @@ record IsNamed (heap : Heap) (value : KeyValueRecord) (zs : List Found) : Type 0
 data-walks : (heap : Heap) (value : KeyValueRecord) (y : List ℕ × List Found) → data_at value.fields heap ≡ Some y → IsNamed heap value y.1
 data-walks heap value y e = by (is_inline value.fields.size) refl (nat_le value.fields.size segment_size) refl e
   where
-    by : (inline : Bool) → is_inline value.fields.size ≡ inline → (small : Bool) → nat_le value.fields.size segment_size ≡ small → data_by inline small value.fields.size value.fields.place heap ≡ Some y → IsNamed heap value y.1
+    by : (inline : Bool) → is_inline value.fields.size ≡ inline → (small : Bool) → nat_le value.fields.size segment_size ≡ small →
+        data_by inline small value.fields.size value.fields.place heap ≡ Some y → IsNamed heap value y.1
     by true i small s e =
         let g = guard-open (nat_le (inline_size value.fields.size) 4) (give (take (inline_size value.fields.size) (little_bytes 4 value.fields.place))) heap y e in
         let p : ◌≡◌ {A = List ℕ × List Found} (take (inline_size value.fields.size) (little_bytes 4 value.fields.place), []) y = same_Some _ _ g.1 in
         record {
           names = [];
-          names_are = ap (λ b. cond b (cond (nat_le (inline_size value.fields.size) 4) (Some []) None) (cond (nat_le value.fields.size segment_size) (Some (if_any Data value.fields.size value.fields.place)) (Some (named BigHead value.fields.size value.fields.place ∷ [])))) i
+          names_are = ap (λ b. cond b (cond (nat_le (inline_size value.fields.size) 4) (Some []) None) (cond (nat_le value.fields.size segment_size)
+              (Some (if_any Data value.fields.size value.fields.place)) (Some (named BigHead value.fields.size value.fields.place ∷ [])))) i
               ∙ ap (λ b. cond b (Some []) None) g.0;
           walks = subst (λ zs. Walks heap [] zs) (ap (λ (p : List ℕ × List Found). p.1) p) (walks-none heap);
         }
     by false i true s e = record {
       names = if_any Data value.fields.size value.fields.place;
-      names_are = ap (λ b. cond b (cond (nat_le (inline_size value.fields.size) 4) (Some []) None) (cond (nat_le value.fields.size segment_size) (Some (if_any Data value.fields.size value.fields.place)) (Some (named BigHead value.fields.size value.fields.place ∷ [])))) i
+      names_are = ap (λ b. cond b (cond (nat_le (inline_size value.fields.size) 4) (Some []) None) (cond (nat_le value.fields.size segment_size)
+          (Some (if_any Data value.fields.size value.fields.place)) (Some (named BigHead value.fields.size value.fields.place ∷ [])))) i
           ∙ ap (λ b. cond b (Some (if_any Data value.fields.size value.fields.place)) (Some (named BigHead value.fields.size value.fields.place ∷ []))) s;
       walks = pieces-walk heap (if_any Data value.fields.size value.fields.place) (if_any-bytes Data data-bytes value.fields.size value.fields.place) y e;
     }
     by false i false s e = record {
       names = named BigHead value.fields.size value.fields.place ∷ [];
-      names_are = ap (λ b. cond b (cond (nat_le (inline_size value.fields.size) 4) (Some []) None) (cond (nat_le value.fields.size segment_size) (Some (if_any Data value.fields.size value.fields.place)) (Some (named BigHead value.fields.size value.fields.place ∷ [])))) i
+      names_are = ap (λ b. cond b (cond (nat_le (inline_size value.fields.size) 4) (Some []) None) (cond (nat_le value.fields.size segment_size)
+          (Some (if_any Data value.fields.size value.fields.place)) (Some (named BigHead value.fields.size value.fields.place ∷ [])))) i
           ∙ ap (λ b. cond b (Some (if_any Data value.fields.size value.fields.place)) (Some (named BigHead value.fields.size value.fields.place ∷ []))) s;
       walks = big-head heap value.fields.size value.fields.place y e;
     }
@@ -171,7 +176,8 @@ each-member heap [] y e = subst (λ zs. Walks heap [] zs) (ap (λ (p : List Memb
 each-member heap (offset ∷ row) y e =
     let o = each-open member_at heap offset row y.0 y.1 e in
     subst (λ zs. Walks heap (plainly Value offset ∷ map (plainly Value) row) zs) o.all
-    (walks-join heap (plainly Value offset ∷ []) (map (plainly Value) row) o.head_cells o.tail_cells (member-walks heap offset (o.head, o.head_cells) o.head_is) (each-member heap row (o.tail, o.tail_cells) o.tail_is))
+    (walks-join heap (plainly Value offset ∷ []) (map (plainly Value) row) o.head_cells o.tail_cells
+    (member-walks heap offset (o.head, o.head_cells) o.head_is) (each-member heap row (o.tail, o.tail_cells) o.tail_is))
 
 pub members-walks : (heap : Heap) (count offset : ℕ) (y : List Member × List Found) → members_at count offset heap ≡ Some y → Walks heap (if_any ValueList count offset) y.1
 members-walks heap zero offset y e = subst (λ zs. Walks heap [] zs) (ap (λ (p : List Member × List Found). p.1) (same_Some _ _ e)) (walks-none heap)

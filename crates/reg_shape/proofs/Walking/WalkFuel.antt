@@ -43,7 +43,8 @@ security-bare Security size content names k e = by (result_ok (sk_of content)) e
     by (Some s) e = test (length s.descriptor == 0) e
 
 -- each of several is walked by a bound on the records that all of them meet
-gather-within : (f g : Named → Option (List Found)) (bound : ℕ) → ((n : Named) (found : List Found) → f n ≡ Some found → load found ≤ bound → g n ≡ Some found) → (names : List Named) (below : List Found) → gather f names ≡ Some below → load below ≤ bound → gather g names ≡ Some below
+gather-within : (f g : Named → Option (List Found)) (bound : ℕ) → ((n : Named) (found : List Found) → f n ≡ Some found → load found ≤ bound →
+    g n ≡ Some found) → (names : List Named) (below : List Found) → gather f names ≡ Some below → load below ≤ bound → gather g names ≡ Some below
 gather-within f g bound h [] below e l = e
 gather-within f g bound h (n ∷ names) below e l =
     let o = gather-open f n names below e in
@@ -58,7 +59,8 @@ walk-enough (suc k) heap n found e =
     let m = walk-open k heap n found e in
     by m (walk-enough k heap) (is_security (kind_met n.kind m.content)) refl
   where
-    by : (m : IsMet (walk k heap) heap n found) → ((x : Named) (ys : List Found) → walk k heap x ≡ Some ys → walk (suc (load ys)) heap x ≡ Some ys) → (b : Bool) → is_security (kind_met n.kind m.content) ≡ b → walk (suc (load found)) heap n ≡ Some found
+    by : (m : IsMet (walk k heap) heap n found) → ((x : Named) (ys : List Found) → walk k heap x ≡ Some ys → walk (suc (load ys)) heap x ≡ Some ys) →
+        (b : Bool) → is_security (kind_met n.kind m.content) ≡ b → walk (suc (load found)) heap n ≡ Some found
     by m ih true s =
         let bare = security-bare (kind_met n.kind m.content) n.size m.content m.names s m.names_are in
         walk-made (load found) heap n found (record {

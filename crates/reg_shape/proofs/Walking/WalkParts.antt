@@ -56,14 +56,19 @@ pub record IsMet (go : Named → Option (List Found)) (heap : Heap) (n : Named) 
   pub below_is : gather go names ≡ Some below
   pub all : record { kind = kind_met n.kind content; offset = n.offset } ∷ below ≡ found
 
-pub met-open : (go : Named → Option (List Found)) (heap : Heap) (n : Named) (found : List Found) → option_and_then (λ content. met go (kind_met n.kind content) n content) (heap n.offset) ≡ Some found → IsMet go heap n found
+pub met-open : (go : Named → Option (List Found)) (heap : Heap) (n : Named) (found : List Found) →
+    option_and_then (λ content. met go (kind_met n.kind content) n content) (heap n.offset) ≡ Some found → IsMet go heap n found
 met-open go heap n found e = first (heap n.offset) refl e
   where
-    third : (content : List ℕ) → heap n.offset ≡ Some content → (names : List Named) → names_of (kind_met n.kind content) n.size content ≡ Some names → (s : Option (List Found)) → gather go names ≡ s → option_map (λ below. record { kind = kind_met n.kind content; offset = n.offset } ∷ below) s ≡ Some found → IsMet go heap n found
+    third : (content : List ℕ) → heap n.offset ≡ Some content → (names : List Named) →
+        names_of (kind_met n.kind content) n.size content ≡ Some names → (s : Option (List Found)) → gather go names ≡ s →
+        option_map (λ below. record { kind = kind_met n.kind content; offset = n.offset } ∷ below) s ≡ Some found → IsMet go heap n found
     third content a names b None c e = absurd (none-some _ e)
     third content a names b (Some below) c e = record { content = content; names = names; below = below; here = a; names_are = b; below_is = c; all = same_Some _ _ e }
 
-    second : (content : List ℕ) → heap n.offset ≡ Some content → (r : Option (List Named)) → names_of (kind_met n.kind content) n.size content ≡ r → option_map (λ below. record { kind = kind_met n.kind content; offset = n.offset } ∷ below) (option_and_then (gather go) r) ≡ Some found → IsMet go heap n found
+    second : (content : List ℕ) → heap n.offset ≡ Some content → (r : Option (List Named)) → names_of (kind_met n.kind content) n.size content ≡ r →
+        option_map (λ below. record { kind = kind_met n.kind content; offset = n.offset } ∷ below) (option_and_then (gather go) r) ≡ Some found →
+        IsMet go heap n found
     second content a None b e = absurd (none-some _ e)
     second content a (Some names) b e = third content a names b (gather go names) refl e
 
@@ -71,7 +76,8 @@ met-open go heap n found e = first (heap n.offset) refl e
     first None a e = absurd (none-some _ e)
     first (Some content) a e = second content a (names_of (kind_met n.kind content) n.size content) refl e
 
-pub met-made : (go : Named → Option (List Found)) (heap : Heap) (n : Named) (found : List Found) → IsMet go heap n found → option_and_then (λ content. met go (kind_met n.kind content) n content) (heap n.offset) ≡ Some found
+pub met-made : (go : Named → Option (List Found)) (heap : Heap) (n : Named) (found : List Found) → IsMet go heap n found →
+    option_and_then (λ content. met go (kind_met n.kind content) n content) (heap n.offset) ≡ Some found
 met-made go heap n found m =
     ap (option_and_then (λ content. met go (kind_met n.kind content) n content)) m.here
     ∙ ap (λ r. option_map (λ below. record { kind = kind_met n.kind m.content; offset = n.offset } ∷ below) (option_and_then (gather go) r)) m.names_are
@@ -125,10 +131,13 @@ walks-join heap xs us ys ws a b = record {
 }
 
 -- one record, and what it names
-pub walks-met : (heap : Heap) (n : Named) (content : List ℕ) (names : List Named) (below : List Found) → heap n.offset ≡ Some content → names_of (kind_met n.kind content) n.size content ≡ Some names → Walks heap names below → Walks heap (n ∷ []) (record { kind = kind_met n.kind content; offset = n.offset } ∷ below)
+pub walks-met : (heap : Heap) (n : Named) (content : List ℕ) (names : List Named) (below : List Found) → heap n.offset ≡ Some content →
+    names_of (kind_met n.kind content) n.size content ≡ Some names → Walks heap names below →
+    Walks heap (n ∷ []) (record { kind = kind_met n.kind content; offset = n.offset } ∷ below)
 walks-met heap n content names below here are w = record {
   fuel = suc w.fuel;
   walked = gather-made (walk (suc w.fuel) heap) n [] _ []
-      (walk-made w.fuel heap n (record { kind = kind_met n.kind content; offset = n.offset } ∷ below) (record { content = content; names = names; below = below; here = here; names_are = are; below_is = w.walked; all = refl }))
+      (walk-made w.fuel heap n (record { kind = kind_met n.kind content; offset = n.offset } ∷ below)
+      (record { content = content; names = names; below = below; here = here; names_are = are; below_is = w.walked; all = refl }))
       refl ∙ ap Some (append-nil _);
 }

@@ -64,16 +64,36 @@ look-open heap offset node e =
     let k = then-open (node_in heap offset) (key_at heap offset) node e in
     let r = read-open nk_of heap offset k.0 k.1 in
     let key = k.0 in
-    let c = then-open (λ class. option_and_then (λ values. option_map (node_of offset key class values) (index_at heap key.fields.subkeys key.fields.subkeys_list)) (members_at key.fields.values key.fields.values_list heap)) (pieces_at (if_any Class key.fields.class_length key.fields.class) heap) node k.2 in
-    let v = then-open (λ values. option_map (node_of offset key c.0 values) (index_at heap key.fields.subkeys key.fields.subkeys_list)) (members_at key.fields.values key.fields.values_list heap) node c.2 in
+    let c = then-open (λ class. option_and_then (λ values. option_map (node_of offset key class values)
+    (index_at heap key.fields.subkeys key.fields.subkeys_list)) (members_at key.fields.values key.fields.values_list heap))
+    (pieces_at (if_any Class key.fields.class_length key.fields.class) heap) node k.2 in
+    let v = then-open (λ values. option_map (node_of offset key c.0 values) (index_at heap key.fields.subkeys key.fields.subkeys_list))
+    (members_at key.fields.values key.fields.values_list heap) node c.2 in
     let i = map-open (node_of offset key c.0 v.0) (index_at heap key.fields.subkeys key.fields.subkeys_list) node v.2 in
     parts key c.0 v.0 i.0 i.2 r.content r.here r.reads c.1 v.1 i.1
   where
-    parts : (key : KeyRecord) (class : List ℕ × List Found) (values : List Member × List Found) (index : Index) → node_of offset key class values index ≡ node → (content : List ℕ) → heap offset ≡ Some content → result_ok (nk_of content) ≡ Some key → pieces_at (if_any Class key.fields.class_length key.fields.class) heap ≡ Some class → members_at key.fields.values key.fields.values_list heap ≡ Some values → index_at heap key.fields.subkeys key.fields.subkeys_list ≡ Some index → IsLooked heap offset node
+    parts : (key : KeyRecord) (class : List ℕ × List Found) (values : List Member × List Found) (index : Index) →
+        node_of offset key class values index ≡ node → (content : List ℕ) → heap offset ≡ Some content → result_ok (nk_of content) ≡ Some key →
+        pieces_at (if_any Class key.fields.class_length key.fields.class) heap ≡ Some class →
+        members_at key.fields.values key.fields.values_list heap ≡ Some values →
+        index_at heap key.fields.subkeys key.fields.subkeys_list ≡ Some index → IsLooked heap offset node
     parts key class values index is content here reads c v i =
-        subst (λ n. IsLooked heap offset n) is (record { content = content; class_cells = class.1; value_cells = values.1; here = here; key_is = reads; class_is = c; values_are = v; index_is = i; cells = refl })
+        subst (λ n. IsLooked heap offset n) is (record {
+          content = content;
+          class_cells = class.1;
+          value_cells = values.1;
+          here = here;
+          key_is =
+              reads;
+          class_is = c;
+          values_are = v;
+          index_is = i;
+          cells = refl;
+        })
 
-pub key-walks : (heap : Heap) (offset : ℕ) (node : Node) (below : List (List Found)) → look heap offset ≡ Some node → IsWrittenSecurity heap node.key.fields.security → AllWalk heap (places_in (entries_of node.index)) below → Walks heap (plainly Key offset ∷ []) (node.cells ++ index_met node.index below)
+pub key-walks : (heap : Heap) (offset : ℕ) (node : Node) (below : List (List Found)) → look heap offset ≡ Some node →
+    IsWrittenSecurity heap node.key.fields.security → AllWalk heap (places_in (entries_of node.index)) below →
+    Walks heap (plainly Key offset ∷ []) (node.cells ++ index_met node.index below)
 key-walks heap offset node below e s a =
     let l = look-open heap offset node e in
     let key = node.key in
@@ -81,8 +101,10 @@ key-walks heap offset node below e s a =
     let values = members-walks heap key.fields.values key.fields.values_list (node.values, l.value_cells) l.values_are in
     let index = index-walks heap key.fields.subkeys key.fields.subkeys_list node.index below l.index_is a in
     let security = security-walks heap key.fields.security s in
-    let rest = walks-join heap (if_any ValueList key.fields.values key.fields.values_list) (if_any SubList key.fields.subkeys key.fields.subkeys_list) l.value_cells (index_met node.index below) values index in
-    let more = walks-join heap (plainly Security key.fields.security ∷ []) _ (record { kind = Security; offset = key.fields.security } ∷ []) (l.value_cells ++ index_met node.index below) security rest in
+    let rest = walks-join heap (if_any ValueList key.fields.values key.fields.values_list)
+    (if_any SubList key.fields.subkeys key.fields.subkeys_list) l.value_cells (index_met node.index below) values index in
+    let more = walks-join heap (plainly Security key.fields.security ∷ []) _ (record { kind = Security; offset = key.fields.security } ∷ [])
+    (l.value_cells ++ index_met node.index below) security rest in
     let all = walks-join heap (if_any Class key.fields.class_length key.fields.class) _ l.class_cells _ class more in
     subst (λ zs. Walks heap (plainly Key offset ∷ []) zs)
     (ap (λ zs. record { kind = Key; offset = offset } ∷ zs) (sym (append_assoc l.class_cells (record { kind = Security; offset = key.fields.security } ∷ l.value_cells) (index_met node.index below)))
@@ -108,7 +130,8 @@ forest-walks heap root (Hangs place node below beside) a s = (
   forest-walks heap root beside a.1 s.2,
 )
 
-pub branch-walks : (heap : Heap) (root : ℕ) (branch : Branch Node) → StandsIn heap root branch → IsWrittenSecurity heap branch.node.key.fields.security → AreSecured heap branch.below → Walks heap (plainly Key branch.place ∷ []) (trace branch)
+pub branch-walks : (heap : Heap) (root : ℕ) (branch : Branch Node) → StandsIn heap root branch →
+    IsWrittenSecurity heap branch.node.key.fields.security → AreSecured heap branch.below → Walks heap (plainly Key branch.place ∷ []) (trace branch)
 branch-walks heap root branch a one s =
     key-walks heap branch.place branch.node (traces branch.below) a.0.reads one
     (subst (λ ps. AllWalk heap ps (traces branch.below)) (sym (heads-places branch.below) ∙ a.1.places) (forest-walks heap root branch.below a.2 s))

@@ -25,7 +25,8 @@ use Rattle.reg_shape.specs.Internal.Shapes.{IsWholeShape, tree_of}
 some-is : {A : Type 0} (o : Option A) (x : A) → o ≡ Some x → IsSome o
 some-is o x e = ap is_some e
 
-all-gathered : (P : Found → Type 0) (go : Named → Option (List Found)) → ((n : Named) (found : List Found) → go n ≡ Some found → AllByRecursion P found) → (names : List Named) (below : List Found) → gather go names ≡ Some below → AllByRecursion P below
+all-gathered : (P : Found → Type 0) (go : Named → Option (List Found)) → ((n : Named) (found : List Found) → go n ≡ Some found →
+    AllByRecursion P found) → (names : List Named) (below : List Found) → gather go names ≡ Some below → AllByRecursion P below
 all-gathered P go h [] below e = subst (AllByRecursion P) (same_Some _ _ e) tt
 all-gathered P go h (n ∷ names) below e =
     let o = gather-open go n names below e in
@@ -45,11 +46,13 @@ held-allocated bytes cells offset e s = by (cell_at bytes offset) refl s
     by None a s = absurd (false≢true s)
     by (Some content) a s = let h = holder-is bytes cells offset content e a in (h.0, h.1, h.2, h.3)
 
-each-allocated : (bytes : List ℕ) (cells : List Cell) → cells_of bytes ≡ Some cells → (found : List Found) → AllByRecursion (λ (f : Found). IsSome (cell_at bytes f.offset)) found → AllByRecursion (λ (f : Found). IsAllocatedIn cells f.offset) found
+each-allocated : (bytes : List ℕ) (cells : List Cell) → cells_of bytes ≡ Some cells → (found : List Found) →
+    AllByRecursion (λ (f : Found). IsSome (cell_at bytes f.offset)) found → AllByRecursion (λ (f : Found). IsAllocatedIn cells f.offset) found
 each-allocated bytes cells e [] a = tt
 each-allocated bytes cells e (f ∷ found) a = (held-allocated bytes cells f.offset e a.0, each-allocated bytes cells e found a.1)
 
-pub walked-allocated : (bytes : List ℕ) (cells : List Cell) (k : ℕ) (n : Named) (found : List Found) → cells_of bytes ≡ Some cells → walk k (cell_at bytes) n ≡ Some found → AllByRecursion (λ (f : Found). IsAllocatedIn cells f.offset) found
+pub walked-allocated : (bytes : List ℕ) (cells : List Cell) (k : ℕ) (n : Named) (found : List Found) → cells_of bytes ≡ Some cells →
+    walk k (cell_at bytes) n ≡ Some found → AllByRecursion (λ (f : Found). IsAllocatedIn cells f.offset) found
 walked-allocated bytes cells k n found e w = each-allocated bytes cells e found (walked-held k (cell_at bytes) n found w)
 
 -- ---- how many
@@ -82,9 +85,11 @@ cells-most bytes cells e = record { offsets = offsets-of cells; all = all; few =
 
 -- ---- a shape in bytes
 
-pub whole-in : (bytes : List ℕ) (root : ℕ) (keys : Branch Node) (first : ℕ) (others : List ℕ) (cells : List Cell) → cells_of bytes ≡ Some cells → IsWholeShape (cell_at bytes) root keys first others → Whole bytes root
+pub whole-in : (bytes : List ℕ) (root : ℕ) (keys : Branch Node) (first : ℕ) (others : List ℕ) (cells : List Cell) → cells_of bytes ≡ Some cells →
+    IsWholeShape (cell_at bytes) root keys first others → Whole bytes root
 whole-in bytes root keys first others cells e w =
     record { cells = cells; cells_are = e; whole = whole-from-shape (cell_at bytes) root keys first others w (length cells) (cells-most bytes cells e) }
 
-pub spelt-in : (bytes : List ℕ) (root : ℕ) (keys : Branch Node) (first : ℕ) (others : List ℕ) (cells : List Cell) → cells_of bytes ≡ Some cells → IsWholeShape (cell_at bytes) root keys first others → spelt (length cells) (cell_at bytes) root ≡ Some (tree_of (cell_at bytes) keys)
+pub spelt-in : (bytes : List ℕ) (root : ℕ) (keys : Branch Node) (first : ℕ) (others : List ℕ) (cells : List Cell) → cells_of bytes ≡ Some cells →
+    IsWholeShape (cell_at bytes) root keys first others → spelt (length cells) (cell_at bytes) root ≡ Some (tree_of (cell_at bytes) keys)
 spelt-in bytes root keys first others cells e w = spelt-from-shape (cell_at bytes) root keys first others w (length cells) (cells-most bytes cells e)

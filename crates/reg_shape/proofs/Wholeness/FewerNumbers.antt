@@ -9,7 +9,8 @@ abbrev without : ℕ → List ℕ → List ℕ
 without x [] = []
 without x (y ∷ ys) = cond (eqb y x) ys (y ∷ without x ys)
 
-without-length-by : (x y : ℕ) (ys : List ℕ) (b : Bool) → (0 < times x ys → length ys ≡ suc (length (without x ys))) → 0 < cond b 1 0 + times x ys → suc (length ys) ≡ suc (length (cond b ys (y ∷ without x ys)))
+without-length-by : (x y : ℕ) (ys : List ℕ) (b : Bool) → (0 < times x ys → length ys ≡ suc (length (without x ys))) → 0 < cond b 1 0 + times x ys →
+    suc (length ys) ≡ suc (length (cond b ys (y ∷ without x ys)))
 without-length-by x y ys true h l = refl
 without-length-by x y ys false h l = ap suc (h (omega arith))
 
@@ -17,7 +18,8 @@ without-length : (x : ℕ) (ys : List ℕ) → 0 < times x ys → length ys ≡ 
 without-length x [] l = absurd (omega arith)
 without-length x (y ∷ ys) l = without-length-by x y ys (eqb y x) (λ l. without-length x ys l) l
 
-without-times-by : (x y z : ℕ) (ys : List ℕ) (b : Bool) → eqb y x ≡ b → (0 < times x ys → times z ys ≡ cond (eqb x z) 1 0 + times z (without x ys)) → 0 < cond b 1 0 + times x ys → cond (eqb y z) 1 0 + times z ys ≡ cond (eqb x z) 1 0 + times z (cond b ys (y ∷ without x ys))
+without-times-by : (x y z : ℕ) (ys : List ℕ) (b : Bool) → eqb y x ≡ b → (0 < times x ys → times z ys ≡ cond (eqb x z) 1 0 + times z (without x ys)) →
+    0 < cond b 1 0 + times x ys → cond (eqb y z) 1 0 + times z ys ≡ cond (eqb x z) 1 0 + times z (cond b ys (y ∷ without x ys))
 without-times-by x y z ys true e h l = ap (λ y. cond (eqb y z) 1 0 + times z ys) (eqb-true y x e)
 without-times-by x y z ys false e h l = let r = h (omega arith) in omega arith
 

@@ -37,7 +37,8 @@ module _ (m : Found → ℕ) where
   no-traces (t ∷ ts) e = absurd (omega arith)
 
   -- lists of keys: what is met below the keys comes between
-  tally-lists : (lists : List KeyList) (ts : List (List Found)) → length ts ≡ length (flat_map (λ (l : KeyList). l.list.entries) lists) → tally m (lists_met lists ts) ≡ tally m (lists_met lists []) + tally m (joined ts)
+  tally-lists : (lists : List KeyList) (ts : List (List Found)) → length ts ≡ length (flat_map (λ (l : KeyList). l.list.entries) lists) →
+      tally m (lists_met lists ts) ≡ tally m (lists_met lists []) + tally m (joined ts)
   tally-lists [] ts e = let z = no-traces ts e in omega arith
   tally-lists (list ∷ lists) ts e =
       let n = length list.list.entries in
@@ -66,7 +67,8 @@ module _ (m : Found → ℕ) where
 
   module _ (heap : Heap) (root : ℕ) where
     -- a key: its own cells, and what is met below it
-    tally-key : (place : ℕ) (node : Node) (below : Forest Node) → Fits place node (heads below) → tally m (node.cells ++ index_met node.index (traces below)) ≡ tally m (cells_of node) + tally m (joined (traces below))
+    tally-key : (place : ℕ) (node : Node) (below : Forest Node) → Fits place node (heads below) →
+        tally m (node.cells ++ index_met node.index (traces below)) ≡ tally m (cells_of node) + tally m (joined (traces below))
     tally-key place node below fits =
         let long : length (traces below) ≡ length (entries_of node.index) = length-traces below ∙ (ap length fits.places ∙ length-places (entries_of node.index)) in
         let index = tally-index node.index (traces below) long in

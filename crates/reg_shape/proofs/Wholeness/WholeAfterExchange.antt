@@ -33,14 +33,19 @@ module _ (place : ℕ) (n m : Node) (P : Path → Forest Node → Forest Node �
   way (x ∷ p) End e = absurd (none-some _ e)
   way (x ∷ []) (Hangs o k b s) e = by (way (x ∷ []) s) (is_named x k) refl e
     where
-      by : (found_in (x ∷ []) s ≡ Some (place, n) → P (x ∷ []) s (edit_in (x ∷ []) m s)) → (t : Bool) → is_named x k ≡ t → cond t (Some (o, k)) (found_in (x ∷ []) s) ≡ Some (place, n) → P (x ∷ []) (Hangs o k b s) (cond t (Hangs o m b s) (Hangs o k b (edit_in (x ∷ []) m s)))
+      by : (found_in (x ∷ []) s ≡ Some (place, n) → P (x ∷ []) s (edit_in (x ∷ []) m s)) → (t : Bool) → is_named x k ≡ t →
+          cond t (Some (o, k)) (found_in (x ∷ []) s) ≡ Some (place, n) →
+          P (x ∷ []) (Hangs o k b s) (cond t (Hangs o m b s) (Hangs o k b (edit_in (x ∷ []) m s)))
       by rest true t e =
           let q : ◌≡◌ {A = ℕ × Node} (o, k) (place, n) = same_Some _ _ e in
           subst (λ (z : ℕ × Node). P (x ∷ []) (Hangs z.0 z.1 b s) (Hangs z.0 m b s)) (sym q) (here x b s (ap (λ (z : ℕ × Node). is_named x z.1) (sym q) ∙ t))
       by rest false t e = next x [] o k b s (edit_in (x ∷ []) m s) t (rest e)
   way (x ∷ y ∷ p) (Hangs o k b s) e = by (way (y ∷ p) b) (way (x ∷ y ∷ p) s) (is_named x k) refl e
     where
-      by : (found_in (y ∷ p) b ≡ Some (place, n) → P (y ∷ p) b (edit_in (y ∷ p) m b)) → (found_in (x ∷ y ∷ p) s ≡ Some (place, n) → P (x ∷ y ∷ p) s (edit_in (x ∷ y ∷ p) m s)) → (t : Bool) → is_named x k ≡ t → cond t (found_in (y ∷ p) b) (found_in (x ∷ y ∷ p) s) ≡ Some (place, n) → P (x ∷ y ∷ p) (Hangs o k b s) (cond t (Hangs o k (edit_in (y ∷ p) m b) s) (Hangs o k b (edit_in (x ∷ y ∷ p) m s)))
+      by : (found_in (y ∷ p) b ≡ Some (place, n) → P (y ∷ p) b (edit_in (y ∷ p) m b)) → (found_in (x ∷ y ∷ p) s ≡ Some (place, n) →
+          P (x ∷ y ∷ p) s (edit_in (x ∷ y ∷ p) m s)) → (t : Bool) → is_named x k ≡ t →
+          cond t (found_in (y ∷ p) b) (found_in (x ∷ y ∷ p) s) ≡ Some (place, n) →
+          P (x ∷ y ∷ p) (Hangs o k b s) (cond t (Hangs o k (edit_in (y ∷ p) m b) s) (Hangs o k b (edit_in (x ∷ y ∷ p) m s)))
       by down along true t e = under x y p o k b (edit_in (y ∷ p) m b) s t (down e)
       by down along false t e = next x (y ∷ p) o k b s (edit_in (x ∷ y ∷ p) m s) t (along e)
 
@@ -111,8 +116,10 @@ fits-alike o k us bs a f = record {
   hashes = map-alike (λ (e : ℕ × Node). hash e.1.key.name) (λ x y e s. ap hash s.name) us bs a ∙ f.hashes;
   order = order-alike us bs a f.order;
   parents = all-alike (λ (e : ℕ × Node). e.1.key.fields.parent ≡ o) (λ x y e s t. s.parent ∙ t) us bs a f.parents;
-  longest_name = all-alike (λ (e : ℕ × Node). 2 * length e.1.key.name ≤ k.key.fields.largest_subkey_name % 65536) (λ x y e s t. subst (λ name. 2 * length name ≤ k.key.fields.largest_subkey_name % 65536) (sym s.name) t) us bs a f.longest_name;
-  longest_class = all-alike (λ (e : ℕ × Node). e.1.key.fields.class_length ≤ k.key.fields.largest_subkey_class) (λ x y e s t. subst (λ l. l ≤ k.key.fields.largest_subkey_class) (sym s.class_length) t) us bs a f.longest_class;
+  longest_name = all-alike (λ (e : ℕ × Node). 2 * length e.1.key.name ≤ k.key.fields.largest_subkey_name % 65536)
+      (λ x y e s t. subst (λ name. 2 * length name ≤ k.key.fields.largest_subkey_name % 65536) (sym s.name) t) us bs a f.longest_name;
+  longest_class = all-alike (λ (e : ℕ × Node). e.1.key.fields.class_length ≤ k.key.fields.largest_subkey_class)
+      (λ x y e s t. subst (λ l. l ≤ k.key.fields.largest_subkey_class) (sym s.class_length) t) us bs a f.longest_class;
 }
 
 -- ---- the keys stand
@@ -182,7 +189,8 @@ module _ (h k : Heap) (root : ℕ) where
     goes = way place n m (λ p F G. Goes F G) (λ x b s e. goes-here b s) (λ x y p o key b c s e g. goes-under o key b c s g) (λ x p o key b s t e g. goes-next o key b s t g)
 
     -- the keys of a branch
-    branch-exchanged : (p : Path) (keys : Branch Node) → found_at p keys ≡ Some (place, n) → StandsIn h root keys → ((z : ℕ) → total_of (owns z) keys ≤ allocated h z) → StandsIn k root (edit_at p m keys)
+    branch-exchanged : (p : Path) (keys : Branch Node) → found_at p keys ≡ Some (place, n) → StandsIn h root keys →
+        ((z : ℕ) → total_of (owns z) keys ≤ allocated h z) → StandsIn k root (edit_at p m keys)
     branch-exchanged [] keys e a c =
         let q : ◌≡◌ {A = ℕ × Node} (keys.place, keys.node) (place, n) = same_Some _ _ e in
         let here : keys.place ≡ place = ap (λ (z : ℕ × Node). z.0) q in
@@ -235,7 +243,8 @@ module _ (h k : Heap) where
   differ-one : (y : ℕ) → k y ≡ h y → (ring : List ℕ) → AllByRecursion (λ z. k z ≡ h z) ring → AllByRecursion (λ z. descriptor_at h y ≡ descriptor_at h z → ⊥) ring → AllByRecursion (Differ y) ring
   differ-one y e [] a d = tt
   differ-one y e (z ∷ ring) a d = (
-    (λ same. d.0 (sym (ap (option_map (λ (s : KeySecurityRecord). s.descriptor)) (security_at-same h k y e)) ∙ (same ∙ ap (option_map (λ (s : KeySecurityRecord). s.descriptor)) (security_at-same h k z a.0)))),
+    (λ same. d.0 (sym (ap (option_map (λ (s : KeySecurityRecord). s.descriptor)) (security_at-same h k y e)) ∙
+        (same ∙ ap (option_map (λ (s : KeySecurityRecord). s.descriptor)) (security_at-same h k z a.0)))),
     differ-one y e ring a.1 d.1,
   )
 
@@ -246,7 +255,14 @@ module _ (h k : Heap) where
   securities-kept : (ring : List ℕ) → AllByRecursion (λ z. k z ≡ h z) ring → AllByRecursion (IsWrittenSecurity h) ring → AllByRecursion (IsWrittenSecurity k) ring
   securities-kept [] a w = tt
   securities-kept (z ∷ ring) a w = (
-    record { security = w.0.security; reads = security_at-same h k z a.0 ∙ w.0.reads; plain = subst IsPlainSecurity (sym (ap (λ (c : Option (List ℕ)). unwrap_or c []) a.0)) w.0.plain; some = w.0.some; short = w.0.short },
+    record {
+      security = w.0.security;
+      reads = security_at-same h k z a.0 ∙ w.0.reads;
+      plain =
+          subst IsPlainSecurity (sym (ap (λ (c : Option (List ℕ)). unwrap_or c []) a.0)) w.0.plain;
+      some = w.0.some;
+      short = w.0.short;
+    },
     securities-kept ring a.1 w.1,
   )
 
@@ -271,19 +287,25 @@ branch-has f place n m [] keys e =
     omega (arith, a)
 branch-has f place n m (y ∷ p) keys e = let t = total-has f place n m (y ∷ p) keys.below e in omega (arith, t)
 
-counts-kept : (h k : Heap) (f g : ℕ → ℕ) → ((z : ℕ) → g z ≡ f z) → (ring : List ℕ) → AllByRecursion (λ z. k z ≡ h z) ring → AllByRecursion (λ z. count_at h z ≡ Some (f z)) ring → AllByRecursion (λ z. count_at k z ≡ Some (g z)) ring
+counts-kept : (h k : Heap) (f g : ℕ → ℕ) → ((z : ℕ) → g z ≡ f z) → (ring : List ℕ) → AllByRecursion (λ z. k z ≡ h z) ring →
+    AllByRecursion (λ z. count_at h z ≡ Some (f z)) ring → AllByRecursion (λ z. count_at k z ≡ Some (g z)) ring
 counts-kept h k f g e [] a c = tt
 counts-kept h k f g e (z ∷ ring) a c =
     (ap (option_map (λ (s : KeySecurityRecord). s.fields.count)) (security_at-same h k z a.0) ∙ (c.0 ∙ ap Some (sym (e z))), counts-kept h k f g e ring a.1 c.1)
 
 -- ---- whole
 
-pub exchanged : (h k : Heap) (root place : ℕ) (n m : Node) (p : Path) (keys : Branch Node) (first : ℕ) (others : List ℕ) → found_at p keys ≡ Some (place, n) → IsExchanged h k root place n m → IsWholeShape h root keys first others → IsWholeShape k root (edit_at p m keys) first others
+pub exchanged : (h k : Heap) (root place : ℕ) (n m : Node) (p : Path) (keys : Branch Node) (first : ℕ) (others : List ℕ) →
+    found_at p keys ≡ Some (place, n) → IsExchanged h k root place n m → IsWholeShape h root keys first others →
+    IsWholeShape k root (edit_at p m keys) first others
 exchanged h k root place n m p keys first others e x w =
     let own : (z : ℕ) → total_of (owns z) (edit_at p m keys) + owned z (cells_of n) ≡ total_of (owns z) keys + owned z (cells_of m) = λ z. branch-total (owns z) place n m p keys e in
-    let share : (z : ℕ) → total_of (shares z) (edit_at p m keys) ≡ total_of (shares z) keys = λ z. (let t = branch-total (shares z) place n m p keys e in let s = x.security z in omega (arith, t, s)) in
+    let share : (z : ℕ) → total_of (shares z) (edit_at p m keys) ≡ total_of (shares z) keys =
+    λ z. (let t = branch-total (shares z) place n m p keys e in let s = x.security z in omega (arith, t, s)) in
     let has : (z : ℕ) → owned z (cells_of n) ≤ total_of (owns z) keys = λ z. branch-has (owns z) place n m p keys e in
-    let calm : AllByRecursion (λ z. k z ≡ h z) (first ∷ others) = all-members (λ z. k z ≡ h z) (first ∷ others) (λ z l. keep h k root place n m x z (let a = w.exact z in let b = has z in let o = at-most-one h z in omega (arith, a, b, o, l)) (let a = w.exact z in omega (arith, a, l))) in
+    let calm : AllByRecursion (λ z. k z ≡ h z) (first ∷ others) = all-members (λ z. k z ≡ h z) (first ∷ others)
+    (λ z l. keep h k root place n m x z (let a = w.exact z in let b = has z in let o = at-most-one h z in
+    omega (arith, a, b, o, l)) (let a = w.exact z in omega (arith, a, l))) in
     record {
       place = branch-place m p keys ∙ w.place;
       stands = branch-exchanged h k root place n m x p keys e w.stands (λ z. (let a = w.exact z in omega (arith, a)));

@@ -1,5 +1,6 @@
 -- A hive whose keys stand in the cells, and whose cells are all theirs, is whole.
-use Rattle.std.proofs.Common.{◌≡◌, ◌↔◌, ℕ, zero, suc, ◌+◌, ◌<◌, ◌≤◌, Bool, true, false, cond, eqb, is_some, IsSome, Some, List, [], ◌∷◌, ◌++◌, map, length, take, drop, refl, sym, ap, ◌∙◌, subst, arith}
+use Rattle.std.proofs.Common.{◌≡◌, ◌↔◌, ℕ, zero, suc, ◌+◌, ◌<◌, ◌≤◌, Bool, true, false, cond, eqb, is_some, IsSome, Some, List, [], ◌∷◌, ◌++◌, map, length, take, drop, refl, sym, ap, ◌∙◌}
+use Rattle.std.proofs.Common.{subst, arith}
 use Rattle.std.specs.List.{AllByRecursion}
 use Rattle.std.specs.Option.{option_map}
 use Rattle.std.specs.FinMap.{from_entries}
@@ -61,7 +62,8 @@ pub shared-here : (f : Found) → is_security f.kind ≡ true → is_shared f.of
 shared-here f s = ap (λ b. cond b (cond (eqb f.offset f.offset) 1 0) 0) s ∙ ap (λ b. cond b 1 0) (same-number f.offset)
 
 -- the first is met nowhere else, save as a security
-first-apart : (f : Found) (fs : List Found) → is_own f.offset f + owned f.offset fs ≤ 1 → (0 < is_own f.offset f + owned f.offset fs → is_shared f.offset f + shared f.offset fs ≡ 0) → AllByRecursion (AreApart f) fs
+first-apart : (f : Found) (fs : List Found) → is_own f.offset f + owned f.offset fs ≤ 1 → (0 < is_own f.offset f + owned f.offset fs →
+    is_shared f.offset f + shared f.offset fs ≡ 0) → AllByRecursion (AreApart f) fs
 first-apart f [] l s = tt
 first-apart f (g ∷ fs) l s = (one, first-apart f fs (omega arith) (λ h. let r = s (omega arith) in omega arith))
   where
@@ -153,7 +155,9 @@ module _ (heap : Heap) (root : ℕ) where
   written : (place : ℕ) (node : Node) (below : Forest Node) → IsSeen heap root place node → Fits place node (heads below) → Stand (IsSeen heap root) Fits below → IsWritten heap root place
   written place node below seen fits a = record { node = node; seen = seen.reads; written = seen.written; below = heads below; reads = heads-seen below a; fits = fits }
 
-  key-fine : (place : ℕ) (node : Node) (below : Forest Node) → IsSeen heap root place node → Fits place node (heads below) → Stand (IsSeen heap root) Fits below → AllByRecursion (AllByRecursion IsFine) (traces below) → AllByRecursion IsFine (node.cells ++ index_met node.index (traces below))
+  key-fine : (place : ℕ) (node : Node) (below : Forest Node) → IsSeen heap root place node → Fits place node (heads below) →
+      Stand (IsSeen heap root) Fits below → AllByRecursion (AllByRecursion IsFine) (traces below) →
+      AllByRecursion IsFine (node.cells ++ index_met node.index (traces below))
   key-fine place node below seen fits a under =
       all-append IsFine node.cells (index_met node.index (traces below)) (own-fine place node (written place node below seen fits a) seen.reads) (index-fine node.index (traces below) under)
 
@@ -346,7 +350,8 @@ module _ (heap : Heap) (root : ℕ) (keys : Branch Node) (first : ℕ) (others :
   pub whole-from-shape : (cells : ℕ) → AreAtMost heap cells → IsWhole heap cells root
   whole-from-shape cells a = record {
     found = trace keys;
-    walked = ap (λ z. walk cells heap (plainly Key z)) (sym w.place) ∙ walk-more (suc (load (trace keys))) cells heap (roomy cells a) (plainly Key keys.place) (trace keys) (walk-enough walks.fuel heap (plainly Key keys.place) (trace keys) walked);
+    walked = ap (λ z. walk cells heap (plainly Key z)) (sym w.place) ∙ walk-more (suc (load (trace keys))) cells heap (roomy cells a)
+        (plainly Key keys.place) (trace keys) (walk-enough walks.fuel heap (plainly Key keys.place) (trace keys) walked);
     once = once (trace keys) owned-once owned-unshared;
     exact = exact;
     first = first;

@@ -33,7 +33,8 @@ found_at (name ∷ path) keys = found_in (name ∷ path) keys.below
 abbrev pub edit_in : Path → Node → Forest Node → Forest Node
 edit_in [] new keys = keys
 edit_in (name ∷ path) new End = End
-edit_in (name ∷ []) new (Hangs place node below beside) = cond (is_named name node) (Hangs place new below beside) (Hangs place node below (edit_in (name ∷ []) new beside))
+edit_in (name ∷ []) new (Hangs place node below beside) = cond (is_named name node) (Hangs place new below beside)
+    (Hangs place node below (edit_in (name ∷ []) new beside))
 edit_in (name ∷ next ∷ path) new (Hangs place node below beside) =
     cond (is_named name node) (Hangs place node (edit_in (next ∷ path) new below) beside) (Hangs place node below (edit_in (name ∷ next ∷ path) new beside))
 

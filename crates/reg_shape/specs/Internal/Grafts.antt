@@ -30,7 +30,8 @@ branch_in [] keys = None
 branch_in (name ∷ path) End = None
 branch_in (name ∷ []) (Hangs place node below beside) =
     cond (is_named name node) (Some (record { place = place; node = node; below = below })) (branch_in (name ∷ []) beside)
-branch_in (name ∷ next ∷ path) (Hangs place node below beside) = cond (is_named name node) (branch_in (next ∷ path) below) (branch_in (name ∷ next ∷ path) beside)
+branch_in (name ∷ next ∷ path) (Hangs place node below beside) = cond (is_named name node) (branch_in (next ∷ path) below)
+    (branch_in (name ∷ next ∷ path) beside)
 
 abbrev pub branch_at : Path → Branch Node → Option (Branch Node)
 branch_at [] keys = Some keys
@@ -43,7 +44,8 @@ graft_in (name ∷ path) new under End = End
 graft_in (name ∷ []) new under (Hangs place node below beside) =
     cond (is_named name node) (Hangs place new under beside) (Hangs place node below (graft_in (name ∷ []) new under beside))
 graft_in (name ∷ next ∷ path) new under (Hangs place node below beside) =
-    cond (is_named name node) (Hangs place node (graft_in (next ∷ path) new under below) beside) (Hangs place node below (graft_in (name ∷ next ∷ path) new under beside))
+    cond (is_named name node) (Hangs place node (graft_in (next ∷ path) new under below) beside)
+    (Hangs place node below (graft_in (name ∷ next ∷ path) new under beside))
 
 abbrev pub graft_at : Path → Node → Forest Node → Branch Node → Branch Node
 graft_at [] new under keys = record keys { node = new; below = under }
@@ -76,8 +78,10 @@ pub record IsGrafted (old new : Heap) (root : ℕ) (was is : Branch Node) (first
   pub place : is.place ≡ was.place
   pub alike : IsAlike was.node is.node
   pub stands : StandsIn new root is
-  pub count : (offset : ℕ) → allocated new offset + (total_of (owns offset) was + times offset spare) ≡ allocated old offset + (total_of (owns offset) is + times offset left)
-  pub same : (offset : ℕ) → 0 < allocated old offset → total_of (owns offset) was ≡ 0 → times offset spare ≡ 0 → times offset (first ∷ others) ≡ 0 → new offset ≡ old offset
+  pub count : (offset : ℕ) → allocated new offset + (total_of (owns offset) was + times offset spare) ≡ allocated old offset +
+      (total_of (owns offset) is + times offset left)
+  pub same : (offset : ℕ) → 0 < allocated old offset → total_of (owns offset) was ≡ 0 → times offset spare ≡ 0 →
+      times offset (first ∷ others) ≡ 0 → new offset ≡ old offset
   pub securities : (offset : ℕ) → 0 < total_of (shares offset) is ↔ 0 < total_of (shares offset) was
   pub ring : (offset : ℕ) → 0 < times offset (first ∷ others) → IsRecounted old new (total_of (shares offset) was) (total_of (shares offset) is) offset
 

@@ -35,7 +35,8 @@ module _ (bins : Bins) (root : ℕ) (holds : Holds bins.bytes root) (now : Keys)
         stays d q other at n = let a = subst (λ k. IsAt k q other) (sym view_is) at in record { place = d.places q n ∙ a.place; depth = a.depth }
 
   -- what holds of the tree spelt holds of the tree seen
-  pub children_seen : ((t : Here) → ((result ≡ Err HasChildren) ↔ (children_of (tree_in bins.bytes t.root) t.path ≢ []))) → (p : Path) → IsAt now p node → ((result ≡ Err HasChildren) ↔ (children_of now.tree p ≢ []))
+  pub children_seen : ((t : Here) → ((result ≡ Err HasChildren) ↔ (children_of (tree_in bins.bytes t.root) t.path ≢ []))) → (p : Path) →
+      IsAt now p node → ((result ≡ Err HasChildren) ↔ (children_of now.tree p ≢ []))
   children_seen told p at = of_tree bins root holds now view_is (λ t. ((result ≡ Err HasChildren) ↔ (children_of t p ≢ []))) (told (here_at bins root holds now view_is node p at))
 
   pub kept_seen : ((t : Here) → ((result ≡ Err NoDelete) ↔ ((children_of (tree_in bins.bytes t.root) t.path ≡ []) × IsKept (tree_in bins.bytes t.root) t.path))) → (p : Path) → IsAt now p node

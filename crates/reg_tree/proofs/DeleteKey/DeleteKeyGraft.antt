@@ -45,7 +45,8 @@ use Rattle.reg_tree.proofs.DeleteKey.DeletedKeyParent as before
 
 -- ---- the parent `was`, and the key `b` below it
 
-module _ (h0 : Heap) (root : ℕ) (keys : Branch Node) (first : ℕ) (w : IsShape h0 root keys first [] []) (p : Path) (was : Branch Node) (e : branch_at p keys ≡ Some was) (single : IsSingle was.node.index)
+module _ (h0 : Heap) (root : ℕ) (keys : Branch Node) (first : ℕ) (w : IsShape h0 root keys first [] []) (p : Path) (was : Branch Node)
+    (e : branch_at p keys ≡ Some was) (single : IsSingle was.node.index)
     (x : List ℕ) (b : Branch Node) (found : branch_in (x ∷ []) was.below ≡ Some b) (childless : b.node.key.fields.subkeys ≡ 0) where
   abbrev m : Node
   m = was.node
@@ -127,7 +128,8 @@ module _ (h0 : Heap) (root : ℕ) (keys : Branch Node) (first : ℕ) (w : IsShap
 
     same-number : (z : ℕ) → allocated h2 z ≡ allocated h1 z
     same-number z = elim (cases_eq z was.place) [
-      | inl e ↦ subst (λ x. allocated h2 x ≡ allocated h1 x) (sym e) (allocated-is h2 was.place (key-exists h2 was.place (is_some_of _ _ key-then)) ∙ sym (allocated-is h1 was.place (key-exists h1 was.place (is_some_of _ _ key-mid))))
+      | inl e ↦ subst (λ x. allocated h2 x ≡ allocated h1 x) (sym e) (allocated-is h2 was.place (key-exists h2 was.place (is_some_of _ _ key-then)) ∙
+          sym (allocated-is h1 was.place (key-exists h1 was.place (is_some_of _ _ key-mid))))
       | inr n ↦ ap (λ (c : Option (List ℕ)). cond (is_some c) 1 0) (un.notes.others z n)
     ]
 
@@ -152,7 +154,8 @@ module _ (h0 : Heap) (root : ℕ) (keys : Branch Node) (first : ℕ) (w : IsShap
           once = λ z. (let r = room z in let c = un.moves.count z in let o = at-most-one h0 z in let q = same-number z in omega (arith, r, c, o, q));
           values = list-kept h0 h2 k.fields.values k.fields.values_list n.values n_l.value_cells v
               (agree-inner h0 h2 n_l.value_cells (members-inner h0 k.fields.values k.fields.values_list (n.values, n_l.value_cells) v)
-              (λ z some. key-calm z (let a = tally-append (is_own z) n.cells (index_cells n.index) in let c = ap (owned z) n_l.cells ∙ own-met z b.place k n_l.class_cells n_l.value_cells in omega (arith, a, c, some))))
+              (λ z some. key-calm z (let a = tally-append (is_own z) n.cells (index_cells n.index) in
+              let c = ap (owned z) n_l.cells ∙ own-met z b.place k n_l.class_cells n_l.value_cells in omega (arith, a, c, some))))
               key_stands.0.written.values.list;
         }
 
@@ -184,7 +187,9 @@ module _ (h0 : Heap) (root : ℕ) (keys : Branch Node) (first : ℕ) (w : IsShap
           let c = inner-unshared first n_l.class_cells (class-inner h0 k.fields.class_length k.fields.class (n.class, n_l.class_cells) n_l.class_is) in
           let v = inner-unshared first n_l.value_cells (members-inner h0 k.fields.values k.fields.values_list (n.values, n_l.value_cells) n_l.values_are) in
           let i : ◌≡◌ {A = ℕ} (shared first (index_cells n.index)) 0 = ap (λ i. shared first (index_cells i)) n-unlisted in
-          let o : is_shared first (record { kind = Security; offset = s }) ≡ 1 = subst (λ z. is_shared z (record { kind = Security; offset = s }) ≡ 1) secured (shared-here (record { kind = Security; offset = s }) refl) in
+          let o : is_shared first (record { kind = Security; offset = s }) ≡ 1 =
+          subst (λ z. is_shared z (record { kind = Security; offset = s }) ≡ 1) secured
+          (shared-here (record { kind = Security; offset = s }) refl) in
           omega (arith, a, c, v, i, o)
 
       some-count : 1 ≤ ring0.security.fields.count
@@ -218,13 +223,19 @@ module _ (h0 : Heap) (root : ℕ) (keys : Branch Node) (first : ℕ) (w : IsShap
         calm z some a c d f = other z f ∙ calm-freed z some a c d
 
         class-calm : Keeps h0 h5 l.class_cells
-        class-calm z some = let r = room z in let o = at-most-one h0 z in calm z (omega (arith, r, some)) (omega (arith, r, o, some)) (omega (arith, r, o, some)) (omega (arith, r, o, some)) (omega (arith, r, o, some))
+        class-calm z some = let r = room z in let o = at-most-one h0 z in
+            calm z (omega (arith, r, some)) (omega (arith, r, o, some)) (omega (arith, r, o, some)) (omega (arith, r, o, some))
+            (omega (arith, r, o, some))
 
         values-calm : Keeps h0 h5 l.value_cells
-        values-calm z some = let r = room z in let o = at-most-one h0 z in calm z (omega (arith, r, some)) (omega (arith, r, o, some)) (omega (arith, r, o, some)) (omega (arith, r, o, some)) (omega (arith, r, o, some))
+        values-calm z some = let r = room z in let o = at-most-one h0 z in
+            calm z (omega (arith, r, some)) (omega (arith, r, o, some)) (omega (arith, r, o, some)) (omega (arith, r, o, some))
+            (omega (arith, r, o, some))
 
         rest-calm : (z : ℕ) → 0 < total (owns z) rest → h5 z ≡ h0 z
-        rest-calm z some = let r = room z in let o = at-most-one h0 z in calm z (omega (arith, r, some)) (omega (arith, r, o, some)) (omega (arith, r, o, some)) (omega (arith, r, o, some)) (omega (arith, r, o, some))
+        rest-calm z some = let r = room z in let o = at-most-one h0 z in
+            calm z (omega (arith, r, some)) (omega (arith, r, o, some)) (omega (arith, r, o, some)) (omega (arith, r, o, some))
+            (omega (arith, r, o, some))
 
         -- the parent's key node
 
@@ -243,7 +254,14 @@ module _ (h0 : Heap) (root : ℕ) (keys : Branch Node) (first : ℕ) (w : IsShap
         -- its subkeys
 
         abbrev pub after : Node
-        after = record { key = noted_subkeys un.count un.list 0 moment m.key; class = m.class; values = m.values; cells = met_of was.place (noted_subkeys un.count un.list 0 moment m.key) l.class_cells l.value_cells; index = index_for un.count un.list entries' }
+        after = record {
+          key = noted_subkeys un.count un.list 0 moment m.key;
+          class = m.class;
+          values = m.values;
+          cells =
+              met_of was.place (noted_subkeys un.count un.list 0 moment m.key) l.class_cells l.value_cells;
+          index = index_for un.count un.list entries';
+        }
 
         fits : Fits was.place after (heads rest)
         fits =
@@ -302,7 +320,9 @@ module _ (h0 : Heap) (root : ℕ) (keys : Branch Node) (first : ℕ) (w : IsShap
 
         same-allocated : (z : ℕ) → allocated h5 z ≡ allocated h4 z
         same-allocated z = elim (cases_eq z first) [
-          | inl e ↦ subst (λ x. allocated h5 x ≡ allocated h4 x) (sym e) (allocated-is h5 first (security-exists h5 first (is_some_of _ _ security-now)) ∙ sym (allocated-is h4 first (security-exists h4 first (is_some_of _ _ security-then))))
+          | inl e ↦ subst (λ x. allocated h5 x ≡ allocated h4 x) (sym e)
+              (allocated-is h5 first (security-exists h5 first (is_some_of _ _ security-now)) ∙
+              sym (allocated-is h4 first (security-exists h4 first (is_some_of _ _ security-then))))
           | inr n ↦ ap (λ (c : Option (List ℕ)). cond (is_some c) 1 0) (re.others z (λ e. n (e ∙ secured)))
         ]
 
@@ -334,7 +354,8 @@ module _ (h0 : Heap) (root : ℕ) (keys : Branch Node) (first : ℕ) (w : IsShap
           count = ring0.security.fields.count - 1;
           reads = ring0.reads;
           now = security-now;
-          plain = λ q. subst (λ z. IsPlainSecurity (held h5 z)) secured (re.plain (subst (λ z. IsPlainSecurity (held h4 z)) (sym secured) (subst IsPlainSecurity (sym (same-held h0 h4 first first-calm)) q)));
+          plain = λ q. subst (λ z. IsPlainSecurity (held h5 z)) secured
+              (re.plain (subst (λ z. IsPlainSecurity (held h4 z)) (sym secured) (subst IsPlainSecurity (sym (same-held h0 h4 first first-calm)) q)));
           counted = (let a = shared-now first in let c = below-parts (shares first) in let d = names-once in let o = some-count in omega (arith, a, c, d, o));
         }
 

@@ -126,12 +126,14 @@ module _ (old : List ℕ) (key : ℕ) (t : IsHere old key) (childless : (branch 
     its-security = ap (λ (f : KeyFields). f.security) (are b.node.key (key_is old key t))
 
     listed-here : IsListed h fields.parent key was.node.key entries index
-    listed-here = subst (λ o. IsListed h o key was.node.key entries index) (sym parent-place) (subst (λ k. IsListed h was.place k was.node.key entries index) (place old key t) (listed h t.root was stands-was single x b found))
+    listed-here = subst (λ o. IsListed h o key was.node.key entries index) (sym parent-place)
+        (subst (λ k. IsListed h was.place k was.node.key entries index) (place old key t) (listed h t.root was stands-was single x b found))
 
     pub unlink-ready : (above : KeyRecord) × (entries : List Entry) × (index : ℕ) × IsListed h fields.parent key above entries index
     unlink-ready = (was.node.key, entries, index, listed-here)
 
-    module _ (h2 : Heap) (moment : ℕ) (unlinks : (above : KeyRecord) → (entries : List Entry) → (index : ℕ) → IsListed h fields.parent key above entries index → IsUnlinked h h2 fields.parent above entries index moment) where
+    module _ (h2 : Heap) (moment : ℕ) (unlinks : (above : KeyRecord) → (entries : List Entry) → (index : ℕ) →
+        IsListed h fields.parent key above entries index → IsUnlinked h h2 fields.parent above entries index moment) where
       un : IsUnlinked h h2 was.place was.node.key entries index moment
       un = subst (λ o. IsUnlinked h h2 o was.node.key entries index moment) parent-place (unlinks was.node.key entries index listed-here)
 

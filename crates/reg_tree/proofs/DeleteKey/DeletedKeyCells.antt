@@ -77,7 +77,8 @@ module _ (h : Heap) (key : ℕ) (s : IsSole h key) where
       class-reads : class_at node.key.fields h1 ≡ Some (node.class, class_cells)
       class-reads =
           pieces-local (if_any Class size node.key.fields.class) h h1 (node.class, class_cells) l.class_is
-          (agree-apart h h1 _ _ values-gone class_cells (class-inner h size node.key.fields.class (node.class, class_cells) l.class_is) (λ z. let o = s.once z in let p = parts z in omega (arith, o, p)))
+          (agree-apart h h1 _ _ values-gone class_cells (class-inner h size node.key.fields.class (node.class, class_cells) l.class_is)
+          (λ z. let o = s.once z in let p = parts z in omega (arith, o, p)))
 
       pub sole-class : Owns (class_at fields) h1
       sole-class = subst (λ f. Owns (class_at f) h1) (sym (are node.key key_is)) (record {
@@ -94,7 +95,8 @@ module _ (h : Heap) (key : ℕ) (s : IsSole h key) where
         both-gone : Swaps h h2 (λ z. owned z value_cells + owned z class_cells) (λ z. 0)
         both-gone =
             swaps-then h h1 h2 (λ z. owned z value_cells + owned z class_cells) (λ z. owned z class_cells) (λ z. 0)
-            (swaps-with h h1 (λ z. owned z value_cells) (λ z. 0) (λ z. owned z class_cells) (λ z. owned z value_cells + owned z class_cells) (λ z. owned z class_cells) values-gone (λ z. refl) (λ z. omega arith))
+            (swaps-with h h1 (λ z. owned z value_cells) (λ z. 0) (λ z. owned z class_cells) (λ z. owned z value_cells + owned z class_cells)
+            (λ z. owned z class_cells) values-gone (λ z. refl) (λ z. omega arith))
             class-gone
 
         pub sole-left : IsSome (h2 key)

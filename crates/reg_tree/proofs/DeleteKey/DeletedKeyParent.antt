@@ -41,7 +41,8 @@ own-some (suc count) list l = refl
 
 -- ---- before: the parent `was`, and the key `b` below it
 
-module _ (h0 : Heap) (root : ℕ) (keys : Branch Node) (first : ℕ) (w : IsShape h0 root keys first [] []) (p : Path) (was : Branch Node) (e : branch_at p keys ≡ Some was) (single : IsSingle was.node.index)
+module _ (h0 : Heap) (root : ℕ) (keys : Branch Node) (first : ℕ) (w : IsShape h0 root keys first [] []) (p : Path) (was : Branch Node)
+    (e : branch_at p keys ≡ Some was) (single : IsSingle was.node.index)
     (x : List ℕ) (b : Branch Node) (found : branch_in (x ∷ []) was.below ≡ Some b) (childless : b.node.key.fields.subkeys ≡ 0) where
   abbrev m : Node
   m = was.node
@@ -123,7 +124,8 @@ module _ (h0 : Heap) (root : ℕ) (keys : Branch Node) (first : ℕ) (w : IsShap
   below-parts f = total-unhang f spot.index b.place n was.below leaf
 
   -- each of these cells is met once
-  pub room : (z : ℕ) → (times z (was.place ∷ []) + (owned z l.class_cells + owned z l.value_cells) + times z (list ∷ [])) + (total (owns z) rest + owned z n.cells) + times z (first ∷ []) ≤ allocated h0 z
+  pub room : (z : ℕ) → (times z (was.place ∷ []) + (owned z l.class_cells + owned z l.value_cells) + times z (list ∷ [])) +
+      (total (owns z) rest + owned z n.cells) + times z (first ∷ []) ≤ allocated h0 z
   room z =
       let t = branch-total (owns z) was p keys e in
       let x = w.exact z in

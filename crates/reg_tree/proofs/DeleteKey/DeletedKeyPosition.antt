@@ -35,7 +35,8 @@ pub head-at : (x : List ℕ) (F : Forest Node) (b : Branch Node) → branch_in (
 head-at x End b e = absurd (none-some _ e)
 head-at x (Hangs o k f s) b e = by (is_named x k) refl e (head-at x s b)
   where
-    by : (t : Bool) → is_named x k ≡ t → cond t (Some (record { place = o; node = k; below = f })) (branch_in (x ∷ []) s) ≡ Some b → (branch_in (x ∷ []) s ≡ Some b → IsHead x s b) → IsHead x (Hangs o k f s) b
+    by : (t : Bool) → is_named x k ≡ t → cond t (Some (record { place = o; node = k; below = f })) (branch_in (x ∷ []) s) ≡ Some b →
+        (branch_in (x ∷ []) s ≡ Some b → IsHead x s b) → IsHead x (Hangs o k f s) b
     by true t e more =
         let same : ◌≡◌ {A = Branch Node} (record { place = o; node = k; below = f }) b = same_Some _ _ e in
         record { index = 0; rest = heads s; at = ap (λ (c : Branch Node). (c.place, c.node) ∷ heads s) same; named = ap (λ (c : Branch Node). is_named x c.node) (sym same) ∙ t }
@@ -70,7 +71,8 @@ entry-there (suc i) (x ∷ entries) (z ∷ below) y rest p e =
     (omega (arith, l), r.1)
 
 -- what is known of each key's offset is known of each entry's
-pub by-places : (P : ℕ → Type 0) (below : List (ℕ × Node)) (entries : List Entry) → map (λ (e : ℕ × Node). e.0) below ≡ places_in entries → AllByRecursion (λ (e : ℕ × Node). P e.0) below → AllByRecursion (λ (e : Entry). P e.place) entries
+pub by-places : (P : ℕ → Type 0) (below : List (ℕ × Node)) (entries : List Entry) → map (λ (e : ℕ × Node). e.0) below ≡ places_in entries →
+    AllByRecursion (λ (e : ℕ × Node). P e.0) below → AllByRecursion (λ (e : Entry). P e.place) entries
 by-places P below [] p a = tt
 by-places P [] (x ∷ entries) p a = absurd (let n = ap length p in omega (arith, n))
 by-places P (z ∷ below) (x ∷ entries) p a =
@@ -118,7 +120,8 @@ above-is q x =
 
 -- ---- as its parent lists it
 
-module _ (h : Heap) (root : ℕ) (was : Branch Node) (stands : StandsIn h root was) (single : IsSingle was.node.index) (x : List ℕ) (b : Branch Node) (found : branch_in (x ∷ []) was.below ≡ Some b) where
+module _ (h : Heap) (root : ℕ) (was : Branch Node) (stands : StandsIn h root was) (single : IsSingle was.node.index) (x : List ℕ) (b : Branch Node)
+    (found : branch_in (x ∷ []) was.below ≡ Some b) where
   abbrev pub head : IsHead x was.below b
   head = head-at x was.below b found
 

@@ -102,7 +102,8 @@ module _ (h : Heap) (parent key : ℕ) (above : KeyRecord) (entries : List Entry
     parent-stays k after m = key-stays h k (λ z. times z (list ∷ [])) (λ z. times z after) parent m parent-there (times-not parent list [] (λ e. apart (sym e)) (omega arith))
 
     pub unlinked : (found count' list' : ℕ) (mid new : Heap) (moment : ℕ) → found ≡ index
-        → ((es : List Entry) → AreSubkeys h count list es → AreSubkeys mid count' list' (without found es)) → Moves h mid (list ∷ []) (own count' list') → Notes mid new parent (noted_subkeys count' list' 0 moment)
+        → ((es : List Entry) → AreSubkeys h count list es → AreSubkeys mid count' list' (without found es)) →
+        Moves h mid (list ∷ []) (own count' list') → Notes mid new parent (noted_subkeys count' list' 0 moment)
         → IsUnlinked h new parent above entries index moment
     unlinked found count' list' mid new moment e after moves notes = record {
       mid = mid;

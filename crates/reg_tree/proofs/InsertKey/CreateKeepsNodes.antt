@@ -46,7 +46,8 @@ module _ (bins : Bins) (root : ℕ) (holds : Holds bins.bytes root) (now : Keys)
         → (p : Path) → IsAt now p from → IfOk result (λ made. IsAt (seen_as new root) (p ++ folded_path text) made.node × ((made.is_new ≡ true) ↔ (missing now.tree p (path_of text) ≢ [])))
     opened_created new_is p at = by result (its p at) (new_is (here_at bins root holds now view_is from p at))
       where
-        by : (r : Answer) → IfOk r (λ made. IsCreated bins.bytes new.bytes root p from (path_of text) moment made.node) → IfOk r (λ made. (made.is_new ≡ true) ↔ (missing (tree_in bins.bytes root) p (path_of text) ≢ []))
+        by : (r : Answer) → IfOk r (λ made. IsCreated bins.bytes new.bytes root p from (path_of text) moment made.node) →
+            IfOk r (λ made. (made.is_new ≡ true) ↔ (missing (tree_in bins.bytes root) p (path_of text) ≢ []))
             → IfOk r (λ made. IsAt (seen_as new root) (p ++ folded_path text) made.node × ((made.is_new ≡ true) ↔ (missing now.tree p (path_of text) ≢ [])))
         by (Ok made) c n =
             let d = at.depth in

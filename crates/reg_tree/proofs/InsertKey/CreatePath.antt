@@ -1,5 +1,6 @@
 -- The keys of a path made where they are missing: what is there already, and what stands at the end.
-use Rattle.std.proofs.Common.{◌≡◌, ◌≢◌, ◌↔◌, ℕ, ◌+◌, ◌≤◌, ◌<◌, ◌⊎◌, inl, inr, true, false, cond, Option, Some, None, is_some, List, [], ◌∷◌, ◌++◌, map, length, refl, sym, ap, ◌∙◌, subst, arith, length-append}
+use Rattle.std.proofs.Common.{◌≡◌, ◌≢◌, ◌↔◌, ℕ, ◌+◌, ◌≤◌, ◌<◌, ◌⊎◌, inl, inr, true, false, cond, Option, Some, None, is_some, List, [], ◌∷◌, ◌++◌, map, length, refl, sym, ap, ◌∙◌, subst}
+use Rattle.std.proofs.Common.{arith, length-append}
 use Rattle.std.specs.Option.{option_and_then}
 use Rattle.std.proofs.lemmas.Bool.{false≢true}
 use Rattle.std.proofs.lemmas.List.{append-nil, append_assoc, map-append}
@@ -138,7 +139,8 @@ module _ (old : List ℕ) (from : TreeNode) (t : IsHere old from.offset) (path :
   created_none e = record {
     holds = t.holds;
     tree = sym (with-left ∙ ap (λ ns. with_keys tree (t.path ++ map folded passed) ns moment) e);
-    place = subst (λ p. place_at (cell_at old) t.root p ≡ Some parent.offset) (sym (append-nil (t.path ++ map folded passed)) ∙ (ap (λ ns. (t.path ++ map folded passed) ++ map folded ns) (sym e) ∙ all-names)) parent-at;
+    place = subst (λ p. place_at (cell_at old) t.root p ≡ Some parent.offset) (sym (append-nil (t.path ++ map folded passed)) ∙
+        (ap (λ ns. (t.path ++ map folded passed) ++ map folded ns) (sym e) ∙ all-names)) parent-at;
     depth = (let d = r.passes.depth in let n = number in let z = ap length e in omega (arith, d, n, z));
     keeps = λ q o e. e;
   }
@@ -202,7 +204,9 @@ module _ (old : List ℕ) (from : TreeNode) (t : IsHere old from.offset) (path :
     pub may_make : MayGrowAll mid parent left spare
     may_make = may_grow_all old mid parent parent_here left spare s missing-first deep few
 
-    module _ (new : List ℕ) (made : TreeNode) (grown : GrowsAll (cell_at mid) (cell_at new) may_make.growing.root may_make.growing.path may_make.growing.keys may_make.growing.first parent made left moment) where
+    module _ (new : List ℕ) (made : TreeNode)
+        (grown : GrowsAll (cell_at mid) (cell_at new) may_make.growing.root may_make.growing.path may_make.growing.keys may_make.growing.first parent
+        made left moment) where
       pub created : IsCreated old new t.root t.path from names moment made
       unfolding may_make may_grow_all here_then
       created =
@@ -211,7 +215,9 @@ module _ (old : List ℕ) (from : TreeNode) (t : IsHere old from.offset) (path :
             holds = h;
             tree = spelt_is new t.root h
                 ∙ (grown.tree
-                ∙ (ap (λ (tree : Tree). with_keys tree (t.path ++ map folded passed) left moment) (tree-spared (cell_at old) (cell_at mid) t.root t.holds.keys t.holds.first spare t.holds.shape s.come ∙ sym (spelt_is old t.root t.holds))
+                ∙ (ap (λ (tree : Tree). with_keys tree (t.path ++ map folded passed) left moment)
+                (tree-spared (cell_at old) (cell_at mid) t.root t.holds.keys t.holds.first spare t.holds.shape s.come ∙
+                sym (spelt_is old t.root t.holds))
                 ∙ sym with-left));
             place = subst (λ p. place_at (cell_at new) t.root p ≡ Some made.offset) all-names grown.place;
             depth = (let d = r.passes.depth in let n = number in let g = grown.depth in omega (arith, d, n, g));

@@ -1,5 +1,6 @@
 -- A key made below another: from what the code's steps do to the cells, to the shape with a key more.
-use Rattle.std.proofs.Common.{◌≡◌, ◌≢◌, ℕ, zero, suc, ◌+◌, ◌*◌, ◌%◌, ◌≤◌, ◌<◌, max, true, cond, Option, Some, None, IsSome, List, [], ◌∷◌, ◌++◌, ◌⊎◌, inl, inr, take, drop, map, length, get_or, refl, sym, ap, ◌∙◌, subst, arith}
+use Rattle.std.proofs.Common.{◌≡◌, ◌≢◌, ℕ, zero, suc, ◌+◌, ◌*◌, ◌%◌, ◌≤◌, ◌<◌, max, true, cond, Option, Some, None, IsSome, List, [], ◌∷◌, ◌++◌, ◌⊎◌, inl, inr, take, drop, map, length}
+use Rattle.std.proofs.Common.{get_or, refl, sym, ap, ◌∙◌, subst, arith}
 use Rattle.std.specs.Prelude.{Err}
 use Rattle.std.specs.List.{AllByRecursion}
 use Rattle.std.specs.Option.{option_map, option_and_then}
@@ -58,7 +59,8 @@ abbrev pub name_of_head : ℕ × Node → List ℕ
 name_of_head e = folded e.1.key.name
 
 -- the names in a list are those of the keys below, also where other cells changed
-pub names-heads : (h k : Heap) (root : ℕ) (F : Forest Node) (es : List Entry) → Stand (IsSeen h root) Fits F → map (λ (e : ℕ × Node). e.0) (heads F) ≡ places_in es → ((z : ℕ) → 0 < total (owns z) F → k z ≡ h z) → names_in k es ≡ map name_of_head (heads F)
+pub names-heads : (h k : Heap) (root : ℕ) (F : Forest Node) (es : List Entry) → Stand (IsSeen h root) Fits F →
+    map (λ (e : ℕ × Node). e.0) (heads F) ≡ places_in es → ((z : ℕ) → 0 < total (owns z) F → k z ≡ h z) → names_in k es ≡ map name_of_head (heads F)
 names-heads h k root End [] a q c = refl
 names-heads h k root End (e ∷ es) a q c = absurd (let n = ap length q in omega (arith, n))
 names-heads h k root (Hangs o n b s) [] a q c = absurd (let n = ap length q in omega (arith, n))
@@ -140,7 +142,8 @@ module _ (h0 h1 h2 h3 h4 : Heap) (root : ℕ) (keys : Branch Node) (first : ℕ)
       omega (arith, own, x, m, s, t)
 
   -- every cell is one thing alone
-  pub budget : (z : ℕ) → ((K z + (owned z looked.class_cells + owned z looked.value_cells)) + (times z old_list + total (owns z) was.below)) + (times z (first ∷ []) + (times z (taken plan list_cell) + (times z (key ∷ []) + times z left))) ≤ allocated h0 z
+  pub budget : (z : ℕ) → ((K z + (owned z looked.class_cells + owned z looked.value_cells)) + (times z old_list + total (owns z) was.below)) +
+      (times z (first ∷ []) + (times z (taken plan list_cell) + (times z (key ∷ []) + times z left))) ≤ allocated h0 z
   budget z =
       let all = keyed.branch_once h0 root keys first [] spare w p parent at z in
       let o = ap (λ (found : List Found). owned z (found ++ index_cells node.index)) looked.cells ∙ own-parts z was.place above looked.class_cells looked.value_cells node.index in
@@ -227,7 +230,8 @@ module _ (h0 h1 h2 h3 h4 : Heap) (root : ℕ) (keys : Branch Node) (first : ℕ)
         first-once = times-one first
 
         first-calm : h3 first ≡ h0 first
-        first-calm = let b = budget first in let o = one first in let k = first-once in calm3 first (omega (arith, b, o, k)) ∙ (calm2 first (omega (arith, b, k)) (omega (arith, b, o, k)) (omega (arith, b, o, k)) ∙ calm1 first (omega (arith, b, o, k)))
+        first-calm = let b = budget first in let o = one first in let k = first-once in calm3 first (omega (arith, b, o, k)) ∙
+            (calm2 first (omega (arith, b, k)) (omega (arith, b, o, k)) (omega (arith, b, o, k)) ∙ calm1 first (omega (arith, b, o, k)))
 
         pub first-there : security_at h3 first ≡ Some written.security
         first-there = security_at-same h0 h3 first first-calm ∙ written.reads
@@ -254,7 +258,8 @@ module _ (h0 h1 h2 h3 h4 : Heap) (root : ℕ) (keys : Branch Node) (first : ℕ)
           its-recounts = subst (λ s. Recounts h3 h4 s (λ n. users)) security_is recounts
 
           not-new-list : (z : ℕ) → 0 < allocated h0 z → times z old_list ≡ 0 → times z (taken plan list_cell) ≡ 0 → times z (list1 ∷ []) ≡ 0
-          not-new-list z some a b = sym (new-list z) ∙ (let x = allocated1 z in let y = before z in moved-none h1 h2 (old_list ++ taken plan list_cell) (own count1 list1) moves z (omega (arith, some, x)) (omega (arith, a, b, y)))
+          not-new-list z some a b = sym (new-list z) ∙ (let x = allocated1 z in let y = before z in
+              moved-none h1 h2 (old_list ++ taken plan list_cell) (own count1 list1) moves z (omega (arith, some, x)) (omega (arith, a, b, y)))
 
           calm4 : (z : ℕ) → times z (first ∷ []) ≡ 0 → h4 z ≡ h3 z
           calm4 z none = its-recounts.others z (not-there z first none)
@@ -263,13 +268,16 @@ module _ (h0 h1 h2 h3 h4 : Heap) (root : ℕ) (keys : Branch Node) (first : ℕ)
           calm z some k a b c d = calm4 z d ∙ (calm3 z c ∙ (calm2 z some a b ∙ calm1 z k))
 
           calm-below : (z : ℕ) → 0 < total (owns z) was.below → h4 z ≡ h0 z
-          calm-below z l = let b = budget z in let o = one z in calm z (omega (arith, b, l)) (omega (arith, b, o, l)) (omega (arith, b, o, l)) (omega (arith, b, o, l)) (omega (arith, b, o, l)) (omega (arith, b, o, l))
+          calm-below z l = let b = budget z in let o = one z in calm z (omega (arith, b, l)) (omega (arith, b, o, l)) (omega (arith, b, o, l))
+              (omega (arith, b, o, l)) (omega (arith, b, o, l)) (omega (arith, b, o, l))
 
           pub calm-class : (z : ℕ) → 0 < owned z looked.class_cells → h4 z ≡ h0 z
-          calm-class z l = let b = budget z in let o = one z in calm z (omega (arith, b, l)) (omega (arith, b, o, l)) (omega (arith, b, o, l)) (omega (arith, b, o, l)) (omega (arith, b, o, l)) (omega (arith, b, o, l))
+          calm-class z l = let b = budget z in let o = one z in calm z (omega (arith, b, l)) (omega (arith, b, o, l)) (omega (arith, b, o, l))
+              (omega (arith, b, o, l)) (omega (arith, b, o, l)) (omega (arith, b, o, l))
 
           pub calm-values : (z : ℕ) → 0 < owned z looked.value_cells → h4 z ≡ h0 z
-          calm-values z l = let b = budget z in let o = one z in calm z (omega (arith, b, l)) (omega (arith, b, o, l)) (omega (arith, b, o, l)) (omega (arith, b, o, l)) (omega (arith, b, o, l)) (omega (arith, b, o, l))
+          calm-values z l = let b = budget z in let o = one z in calm z (omega (arith, b, l)) (omega (arith, b, o, l)) (omega (arith, b, o, l))
+              (omega (arith, b, o, l)) (omega (arith, b, o, l)) (omega (arith, b, o, l))
 
           P-last : h4 P ≡ h3 P
           P-last = let b = budget P in let o = one P in let k = P-own in calm4 P (omega (arith, b, o, k))
@@ -292,7 +300,8 @@ module _ (h0 h1 h2 h3 h4 : Heap) (root : ℕ) (keys : Branch Node) (first : ℕ)
           key-once = times-one key
 
           key-calm : h4 key ≡ h1 key
-          key-calm = let b = budget key in let o = one key in let k = key-once in calm4 key (omega (arith, b, o, k)) ∙ (calm3 key (omega (arith, b, o, k)) ∙ calm2 key (omega (arith, b, k)) (omega (arith, b, o, k)) (omega (arith, b, o, k)))
+          key-calm = let b = budget key in let o = one key in let k = key-once in calm4 key (omega (arith, b, o, k)) ∙
+              (calm3 key (omega (arith, b, o, k)) ∙ calm2 key (omega (arith, b, k)) (omega (arith, b, o, k)) (omega (arith, b, o, k)))
 
           abbrev made : Node
           made = made_node key (made_record parent security moment name)
@@ -303,7 +312,8 @@ module _ (h0 h1 h2 h3 h4 : Heap) (root : ℕ) (keys : Branch Node) (first : ℕ)
           -- ---- the subkeys
 
           pub subkeys4 : AreSubkeys h4 count1 list1 entries1
-          subkeys4 = subkeys-elsewhere h2 h4 count1 list1 entries1 subkeys2 (inr list-calm) (all-inserted (λ (e : Entry). key_at h4 e.place ≡ key_at h2 e.place) index (entry_for h1 key) entries key-same
+          subkeys4 = subkeys-elsewhere h2 h4 count1 list1 entries1 subkeys2 (inr list-calm)
+              (all-inserted (λ (e : Entry). key_at h4 e.place ≡ key_at h2 e.place) index (entry_for h1 key) entries key-same
               (below-all (λ o. key_at h4 o ≡ key_at h2 o) (λ z l. key_at-same h2 h4 z (below-late z l))))
             where
               not-one : (x : ℕ) → times x (list1 ∷ []) ≡ 0 → times list1 (x ∷ []) ≡ 0
@@ -369,7 +379,8 @@ module _ (h0 h1 h2 h3 h4 : Heap) (root : ℕ) (keys : Branch Node) (first : ℕ)
 
           allocated-now : (z : ℕ) → allocated h4 z ≡ allocated h2 z
           allocated-now z =
-              written-allocated h3 h4 first its-recounts.others (security-exists h3 first (is_some_of _ _ first-there)) (security-exists h4 first (is_some_of _ _ (its-recounts.reads written.security first-there))) z
+              written-allocated h3 h4 first its-recounts.others (security-exists h3 first (is_some_of _ _ first-there))
+              (security-exists h4 first (is_some_of _ _ (its-recounts.reads written.security first-there))) z
               ∙ written-allocated h2 h3 P its-notes.others (key-exists h2 P (is_some_of _ _ P-then)) (key-exists h3 P (is_some_of _ _ key-noted)) z
 
           owned-now : (z : ℕ) → owned z (cells_of now) + times z old_list ≡ owned z (cells_of node) + times z (list1 ∷ [])
@@ -423,7 +434,9 @@ module _ (h0 h1 h2 h3 h4 : Heap) (root : ℕ) (keys : Branch Node) (first : ℕ)
             reads = written.reads;
             now = its-recounts.reads written.security first-there;
             plain = λ q. its-recounts.plain (subst IsPlainSecurity (sym (same-held h0 h3 first first-calm)) q);
-            counted = (let s = shares-now first in let o = first-once in let u = users_are written.security (subst (λ s. security_at h0 s ≡ Some written.security) (sym security_is) written.reads) in omega (arith, s, o, u));
+            counted = (let s = shares-now first in let o = first-once in
+                let u = users_are written.security (subst (λ s. security_at h0 s ≡ Some written.security) (sym security_is) written.reads) in
+                omega (arith, s, o, u));
           })
 
           grafts : IsGrafted h0 h4 root was is first [] spare left
@@ -446,7 +459,8 @@ module _ (h0 h1 h2 h3 h4 : Heap) (root : ℕ) (keys : Branch Node) (first : ℕ)
 
           -- the other spare cells stay
           pub spare-made : (z : ℕ) → 0 < times z left → h4 z ≡ h0 z
-          spare-made z l = let b = budget z in let o = one z in calm z (omega (arith, b, l)) (omega (arith, b, o, l)) (omega (arith, b, o, l)) (omega (arith, b, o, l)) (omega (arith, b, o, l)) (omega (arith, b, o, l))
+          spare-made z l = let b = budget z in let o = one z in calm z (omega (arith, b, l)) (omega (arith, b, o, l)) (omega (arith, b, o, l))
+              (omega (arith, b, o, l)) (omega (arith, b, o, l)) (omega (arith, b, o, l))
 
           -- ---- what stands then
 
@@ -454,7 +468,8 @@ module _ (h0 h1 h2 h3 h4 : Heap) (root : ℕ) (keys : Branch Node) (first : ℕ)
           keys_now = graft_at p now (hang index key made was.below) keys
 
           pub shape-made : length p + 1 ≤ 512 → IsShape h4 root keys_now first [] left
-          shape-made deep = grafted h0 h4 root p keys was is first [] spare left (keyed.branch_is h0 root keys first [] spare w p parent at) grafts (deep-hung p keys was index key made (keyed.branch_is h0 root keys first [] spare w p parent at) w.shallow deep) w
+          shape-made deep = grafted h0 h4 root p keys was is first [] spare left (keyed.branch_is h0 root keys first [] spare w p parent at) grafts
+              (deep-hung p keys was index key made (keyed.branch_is h0 root keys first [] spare w p parent at) w.shallow deep) w
 
           pub unrooted-made : total_of rooted keys_now ≡ 0
           unrooted-made =
@@ -495,7 +510,18 @@ module _ (h0 h1 h2 h3 h4 : Heap) (root : ℕ) (keys : Branch Node) (first : ℕ)
 
           pub grows : length p < 512 → Grows h0 h4 root p keys first key left name moment
           unfolding insert_size
-          grows deep = record { now = keys_now; shape = shape-made (omega (arith, deep)); unrooted = unrooted-made; tree = tree-made; places = places-made; spare = spare-made; childless = childless; unlisted = unlisted; none = none }
+          grows deep = record {
+            now = keys_now;
+            shape = shape-made (omega (arith, deep));
+            unrooted = unrooted-made;
+            tree = tree-made;
+            places =
+                places-made;
+            spare = spare-made;
+            childless = childless;
+            unlisted = unlisted;
+            none = none;
+          }
             where
               key4 : key_at h4 key ≡ Some (made_record parent above.fields.security moment name)
               key4 = key_at-same h1 h4 key key-calm ∙ key1

@@ -97,12 +97,14 @@ module _ (bytes : List ℕ) (parent list_cell key : ℕ) (name left : List ℕ) 
 
     -- ---- the key node was written
 
-    module _ (h1 : Heap) (others1 : (z : ℕ) → z ≢ key → h1 z ≡ h z) (there1 : IsSome (h1 key)) (new_fields : KeyFields) (key1 : key_at h1 key ≡ Some (record { fields = new_fields; name = name })) where
+    module _ (h1 : Heap) (others1 : (z : ℕ) → z ≢ key → h1 z ≡ h z) (there1 : IsSome (h1 key)) (new_fields : KeyFields)
+        (key1 : key_at h1 key ≡ Some (record { fields = new_fields; name = name })) where
       calm1 : (z : ℕ) → times z (key ∷ []) ≡ 0 → h1 z ≡ h z
       calm1 = made.calm1 h h1 h1 h1 h1 g.root g.keys g.first g.path parent plan list_cell key left g.shape g.unrooted g.at others1 there1
 
       pub subkeys1 : AreSubkeys h1 fields.subkeys fields.subkeys_list entries
-      subkeys1 = subst (λ (f : KeyFields). AreSubkeys h1 f.subkeys f.subkeys_list entries) fields_are (made.subkeys1 h h1 h1 h1 h1 g.root g.keys g.first g.path parent plan list_cell key left g.shape g.unrooted g.at others1 there1)
+      subkeys1 = subst (λ (f : KeyFields). AreSubkeys h1 f.subkeys f.subkeys_list entries) fields_are
+          (made.subkeys1 h h1 h1 h1 h1 g.root g.keys g.first g.path parent plan list_cell key left g.shape g.unrooted g.at others1 there1)
 
       its_name : name_at h1 key ≡ name
       its_name = ap name_or_none key1
@@ -113,7 +115,9 @@ module _ (bytes : List ℕ) (parent list_cell key : ℕ) (name left : List ℕ) 
         entries,
         subkeys1,
         subst (λ n. IsPlace (names_in h1 entries) (folded n) (Err index)) (sym its_name)
-            (subst (λ ns. IsPlace ns (folded name) (Err index)) (sym (made.names1 h h1 h1 h1 h1 g.root g.keys g.first g.path parent plan list_cell key left g.shape g.unrooted g.at others1 there1)) (find entries subkeys0)),
+            (subst (λ ns. IsPlace ns (folded name) (Err index))
+            (sym (made.names1 h h1 h1 h1 h1 g.root g.keys g.first g.path parent plan list_cell key left g.shape g.unrooted g.at others1 there1))
+            (find entries subkeys0)),
       )
 
       pub key1_there : IsSome (key_at h1 key)
@@ -126,7 +130,8 @@ module _ (bytes : List ℕ) (parent list_cell key : ℕ) (name left : List ℕ) 
       same_size (suc count) list a b =
           let budget = made.budget h h1 h1 h1 h1 g.root g.keys g.first g.path parent plan list_cell key left g.shape g.unrooted g.at list in
           let one = made.one h h1 h1 h1 h1 g.root g.keys g.first g.path parent plan list_cell key left g.shape g.unrooted g.at list in
-          let t : times list (own node.key.fields.subkeys node.key.fields.subkeys_list) ≡ 1 = ap (λ n. times list (own n node.key.fields.subkeys_list)) (sym a) ∙ (ap (λ o. times list (o ∷ [])) (sym b) ∙ times-one list) in
+          let t : times list (own node.key.fields.subkeys node.key.fields.subkeys_list) ≡ 1 =
+          ap (λ n. times list (own n node.key.fields.subkeys_list)) (sym a) ∙ (ap (λ o. times list (o ∷ [])) (sym b) ∙ times-one list) in
           ap (λ (bytes : List ℕ). cond (nat_le (4 + 8 * suc (suc count)) (length bytes)) None (Some (8 + 8 * suc (suc count)))) (same-held h h1 list (calm1 list (omega (arith, budget, one, t))))
 
       pub size1 : insert_size h1 fields.subkeys fields.subkeys_list ≡ plan
@@ -151,7 +156,9 @@ module _ (bytes : List ℕ) (parent list_cell key : ℕ) (name left : List ℕ) 
 
       -- ---- the key is among the subkeys
 
-      module _ (h2 : Heap) (count1 list1 : ℕ) (moves : Moves h1 h2 (own fields.subkeys fields.subkeys_list ++ taken (insert_size h1 fields.subkeys fields.subkeys_list) list_cell) (own count1 list1)) where
+      module _ (h2 : Heap) (count1 list1 : ℕ)
+          (moves : Moves h1 h2 (own fields.subkeys fields.subkeys_list ++ taken (insert_size h1 fields.subkeys fields.subkeys_list) list_cell)
+          (own count1 list1)) where
         pub moved : Moves h1 h2 (own node.key.fields.subkeys node.key.fields.subkeys_list ++ taken plan list_cell) (own count1 list1)
         moved =
             subst (λ (f : KeyFields). Moves h1 h2 (own f.subkeys f.subkeys_list ++ taken plan list_cell) (own count1 list1)) (sym fields_are)
@@ -171,7 +178,8 @@ module _ (bytes : List ℕ) (parent list_cell key : ℕ) (name left : List ℕ) 
 
           module _ (h4 : Heap) (good : is_key_name name ≡ true) (short : length name ≤ 255) (made_so : new_fields ≡ made_fields parent fields.security moment) (plain1 : IsPlainKey (held h1 key))
               (index : ℕ) (find : (es : List Entry) → AreSubkeys h fields.subkeys fields.subkeys_list es → IsPlace (names_in h es) (folded name) (Err index))
-              (subkeys2 : (es : List Entry) → AreSubkeys h1 fields.subkeys fields.subkeys_list es → AreSubkeys h2 count1 list1 (with_one index (entry_for h1 key) es)) (count2 : count1 ≡ fields.subkeys + 1)
+              (subkeys2 : (es : List Entry) → AreSubkeys h1 fields.subkeys fields.subkeys_list es →
+              AreSubkeys h2 count1 list1 (with_one index (entry_for h1 key) es)) (count2 : count1 ≡ fields.subkeys + 1)
               (users : ℕ) (users_are : (s : KeySecurityRecord) → security_at h fields.security ≡ Some s → users ≡ s.fields.count + 1) (recounts : Recounts h3 h4 fields.security (λ n. users)) where
             pub grown : Grows h h4 g.root g.path g.keys g.first key left name moment
             grown =

@@ -50,7 +50,8 @@ module _ (t : Tree) (p : Path) (names : List (List ℕ)) where
 
   pub too_many-test : AreTooMany t p names → are_too_many t p names ≡ true
   too_many-test m =
-      and_from (nat_lt 0 (length left)) (is_over 32 512 500 (length left) (length p + length names) below) (some-are left m.some) (told-over 32 512 500 (length left) (length p + length names) below m.many)
+      and_from (nat_lt 0 (length left)) (is_over 32 512 500 (length left) (length p + length names) below) (some-are left m.some)
+      (told-over 32 512 500 (length left) (length p + length names) below m.many)
 
   pub test-too_many : are_too_many t p names ≡ true → AreTooMany t p names
   test-too_many e =

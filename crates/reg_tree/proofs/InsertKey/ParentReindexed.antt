@@ -64,11 +64,15 @@ module _ (h k : Heap) (root place : ℕ) (node : Node) (seen : IsSeen h root pla
   unfolding look
   looks-reindexed =
       let key = node.key in
-      let class = pieces-local (if_any Class key.fields.class_length key.fields.class) h k (node.class, l.class_cells) l.class_is (agree-inner h k l.class_cells (class-inner h key.fields.class_length key.fields.class (node.class, l.class_cells) l.class_is) class-calm) in
-      let values = members-local key.fields.values key.fields.values_list h k (node.values, l.value_cells) l.values_are (agree-inner h k l.value_cells (members-inner h key.fields.values key.fields.values_list (node.values, l.value_cells) l.values_are) values-calm) in
+      let class = pieces-local (if_any Class key.fields.class_length key.fields.class) h k (node.class, l.class_cells) l.class_is
+      (agree-inner h k l.class_cells (class-inner h key.fields.class_length key.fields.class (node.class, l.class_cells) l.class_is) class-calm) in
+      let values = members-local key.fields.values key.fields.values_list h k (node.values, l.value_cells) l.values_are
+      (agree-inner h k l.value_cells (members-inner h key.fields.values key.fields.values_list (node.values, l.value_cells) l.values_are)
+      values-calm) in
       let index = subkeys-index k count list entries subkeys in
       ap (option_and_then (node_in k place)) key-now
-      ∙ (ap (option_and_then (λ class. option_and_then (λ values. option_map (node_of place new_key class values) (index_at k count list)) (members_at key.fields.values key.fields.values_list k))) class
+      ∙ (ap (option_and_then (λ class. option_and_then (λ values. option_map (node_of place new_key class values) (index_at k count list))
+      (members_at key.fields.values key.fields.values_list k))) class
       ∙ (ap (option_and_then (λ values. option_map (node_of place new_key (node.class, l.class_cells) values) (index_at k count list))) values
       ∙ ap (option_map (node_of place new_key (node.class, l.class_cells) (node.values, l.value_cells))) index))
 
@@ -89,7 +93,9 @@ module _ (h k : Heap) (root place : ℕ) (node : Node) (seen : IsSeen h root pla
           parent = w.parent;
           class = w.class;
           values = record {
-            list = list-kept h k key.fields.values key.fields.values_list node.values l.value_cells l.values_are (agree-inner h k l.value_cells (members-inner h key.fields.values key.fields.values_list (node.values, l.value_cells) l.values_are) values-calm) w.values.list;
+            list = list-kept h k key.fields.values key.fields.values_list node.values l.value_cells l.values_are
+                (agree-inner h k l.value_cells (members-inner h key.fields.values key.fields.values_list (node.values, l.value_cells) l.values_are)
+                values-calm) w.values.list;
             longest_name = w.values.longest_name;
             largest = w.values.largest;
           };
@@ -139,7 +145,8 @@ module _ (h : Heap) where
   key-of : (place : ℕ) (node : Node) (e : Entry) → look h place ≡ Some node → place ≡ e.place → key_at h e.place ≡ Some node.key
   key-of place node e l p = subst (λ o. key_at h o ≡ Some node.key) p (key-looked h place node l)
 
-  keys-there : (below : List (ℕ × Node)) (entries : List Entry) → AreLooked h below → map (λ (e : ℕ × Node). e.0) below ≡ places_in entries → AllByRecursion (λ (e : Entry). IsSome (key_at h e.place)) entries
+  keys-there : (below : List (ℕ × Node)) (entries : List Entry) → AreLooked h below → map (λ (e : ℕ × Node). e.0) below ≡ places_in entries →
+      AllByRecursion (λ (e : Entry). IsSome (key_at h e.place)) entries
   keys-there below [] a p = tt
   keys-there [] (e ∷ entries) a p = absurd (let n = ap length p in omega (arith, n))
   keys-there ((place, node) ∷ below) (e ∷ entries) a p =
@@ -154,7 +161,8 @@ module _ (h : Heap) where
       let more = names-there below entries a.1 (rest-of _ _ _ _ p) in
       λ i. folded (one i) ∷ more i
 
-  hashes-there : (below : List (ℕ × Node)) (entries : List Entry) → AreLooked h below → map (λ (e : ℕ × Node). e.0) below ≡ places_in entries → map (λ (e : ℕ × Node). hash e.1.key.name) below ≡ map (λ (e : Entry). e.hint) entries
+  hashes-there : (below : List (ℕ × Node)) (entries : List Entry) → AreLooked h below → map (λ (e : ℕ × Node). e.0) below ≡ places_in entries →
+      map (λ (e : ℕ × Node). hash e.1.key.name) below ≡ map (λ (e : Entry). e.hint) entries
       → AllByRecursion (λ (e : Entry). e.hint ≡ hash (name_at h e.place)) entries
   hashes-there below [] a p q = tt
   hashes-there [] (e ∷ entries) a p q = absurd (let n = ap length p in omega (arith, n))
@@ -193,7 +201,8 @@ subkeys-below h root place node below seen single fits looked =
       rising = subst Rises (sym (names-there h below entries looked fits.places)) (rises-of (names_of below) (names-ordered below fits.order));
     }
 
-pub branch-subkeys : (h : Heap) (root : ℕ) (b : Branch Node) → StandsIn h root b → IsSingle b.node.index → AreSubkeys h b.node.key.fields.subkeys b.node.key.fields.subkeys_list (entries_of b.node.index)
+pub branch-subkeys : (h : Heap) (root : ℕ) (b : Branch Node) → StandsIn h root b → IsSingle b.node.index →
+    AreSubkeys h b.node.key.fields.subkeys b.node.key.fields.subkeys_list (entries_of b.node.index)
 branch-subkeys h root b stands single = subkeys-below h root b.place b.node (heads b.below) stands.0 single stands.1 (heads-looked h root b.below stands.2)
 
 -- the cells of one list are the list's own cell

@@ -1,5 +1,6 @@
 -- The cells carved for keys of a path's names: their sizes, and that they are ready.
-use Rattle.std.proofs.Common.{◌≡◌, ◌≢◌, ℕ, zero, suc, ◌+◌, ◌-◌, ◌*◌, ◌%◌, ◌≤◌, ◌<◌, Bool, true, false, cond, nat_le, nat_lt, Option, Some, None, IsSome, List, [], ◌∷◌, length, get_or, replicate, refl, sym, ap, ◌∙◌, subst, arith, Vec, Global}
+use Rattle.std.proofs.Common.{◌≡◌, ◌≢◌, ℕ, zero, suc, ◌+◌, ◌-◌, ◌*◌, ◌%◌, ◌≤◌, ◌<◌, Bool, true, false, cond, nat_le, nat_lt, Option, Some, None, IsSome, List, [], ◌∷◌, length, get_or}
+use Rattle.std.proofs.Common.{replicate, refl, sym, ap, ◌∙◌, subst, arith, Vec, Global}
 use Rattle.std.specs.Prelude.{unwrap_or, Result, Err}
 use Rattle.std.specs.List.{list_all, AllByRecursion}
 use Rattle.std.specs.Option.{option_and_then}
@@ -40,7 +41,8 @@ growing bytes key t = record { root = t.root; path = t.path; keys = t.holds.keys
 pub parent_there : (bytes : List ℕ) (key : ℕ) → IsHere bytes key → IsSome (key_at (cell_at bytes) key)
 parent_there bytes key t = growing_there bytes key [] (growing bytes key t)
 
-pub parent_subkeys : (bytes : List ℕ) (key : ℕ) → IsHere bytes key → (count list : ℕ) → HasSubkeysList (cell_at bytes) key count list → (entries : List Entry) × AreSubkeys (cell_at bytes) count list entries
+pub parent_subkeys : (bytes : List ℕ) (key : ℕ) → IsHere bytes key → (count list : ℕ) → HasSubkeysList (cell_at bytes) key count list →
+    (entries : List Entry) × AreSubkeys (cell_at bytes) count list entries
 parent_subkeys bytes key t count list has = growing_subkeys bytes key [] (growing bytes key t) count list has
 
 -- ---- new cells
@@ -115,7 +117,8 @@ pub near-limit : (bytes : List ℕ) (total : ℕ) → total ≤ 15536 → Passes
 near-limit bytes total small past = let l = past.least.least 1310720 refl (omega (arith, small)) in let p = past.passes in omega (arith, l, p)
 
 -- a plan that was answered is good
-pub plan_told : (bytes : List ℕ) (key : ℕ) → IsHere bytes key → (count list : ℕ) → HasSubkeysList (cell_at bytes) key count list → (plan : Option ℕ) → plan ≡ insert_size (cell_at bytes) count list → IsPlan plan
+pub plan_told : (bytes : List ℕ) (key : ℕ) → IsHere bytes key → (count list : ℕ) → HasSubkeysList (cell_at bytes) key count list →
+    (plan : Option ℕ) → plan ≡ insert_size (cell_at bytes) count list → IsPlan plan
 plan_told bytes key t count list has plan e = subst IsPlan (sym e) (plan_good bytes key t count list has)
 
 -- only where the arena is full is the tree
@@ -153,7 +156,8 @@ zeros-ready h cell size z l = (
 abbrev Zeros : Heap → List ℕ → List ℕ → Type 0
 Zeros h cells sizes = (index : ℕ) → index < length sizes → h (get_or cells index 0) ≡ Some (replicate (get_or sizes index 0 - 4) 0)
 
-ready-all : (h : Heap) (plan : Option ℕ) (names : List (List ℕ)) (cells : List ℕ) → IsPlan plan → length cells ≡ length (sizes_of plan names) → Zeros h cells (sizes_of plan names) → AreReady h plan names cells
+ready-all : (h : Heap) (plan : Option ℕ) (names : List (List ℕ)) (cells : List ℕ) → IsPlan plan → length cells ≡ length (sizes_of plan names) →
+    Zeros h cells (sizes_of plan names) → AreReady h plan names cells
 ready-all h plan [] [] p n z = refl
 ready-all h plan [] (cell ∷ cells) p n z = absurd (omega (arith, n))
 ready-all h None (name ∷ names) [] p n z = absurd (omega (arith, n))
@@ -179,13 +183,17 @@ ready-all h (Some size) (name ∷ names) (list ∷ key ∷ left) p n z = record 
 }
 
 -- cells carved by these sizes are those that the keys take
-pub spared : (old new : List ℕ) (key : ℕ) (t : IsHere old key) (count list : ℕ) → HasSubkeysList (cell_at old) key count list → (path : List ℕ) (plan : Option ℕ) → plan ≡ insert_size (cell_at old) count list → (sizes offsets cells : List ℕ) → sizes ≡ sizes_of plan (path_of path) → cells ≡ offsets → AddsCells old new sizes offsets → IsSpared old new key (path_of path) cells
+pub spared : (old new : List ℕ) (key : ℕ) (t : IsHere old key) (count list : ℕ) → HasSubkeysList (cell_at old) key count list →
+    (path : List ℕ) (plan : Option ℕ) → plan ≡ insert_size (cell_at old) count list → (sizes offsets cells : List ℕ) →
+    sizes ≡ sizes_of plan (path_of path) → cells ≡ offsets → AddsCells old new sizes offsets → IsSpared old new key (path_of path) cells
 spared old new key t count list has path plan plan_is sizes offsets cells sizes_are cells_are adds =
     let sized : sizes ≡ sizes_of (insert_size (cell_at old) count list) (path_of path) = sizes_are ∙ ap (λ p. sizes_of p (path_of path)) plan_is in
     let a : AreNew (cell_at old) (cell_at new) cells (sizes_of (insert_size (cell_at old) count list) (path_of path)) =
-    subst (λ c. AreNew (cell_at old) (cell_at new) c (sizes_of (insert_size (cell_at old) count list) (path_of path))) (sym cells_are) (subst (AreNew (cell_at old) (cell_at new) offsets) sized adds.are_new) in
+    subst (λ c. AreNew (cell_at old) (cell_at new) c (sizes_of (insert_size (cell_at old) count list) (path_of path))) (sym cells_are)
+    (subst (AreNew (cell_at old) (cell_at new) offsets) sized adds.are_new) in
     let p = planned_is old key [] (growing old key t) count list has in
     record {
       come = a.come;
-      ready = subst (λ plan. AreReady (cell_at new) plan (path_of path) cells) (sym p) (ready-all (cell_at new) (insert_size (cell_at old) count list) (path_of path) cells (plan_good old key t count list has) a.as_many a.zeros);
+      ready = subst (λ plan. AreReady (cell_at new) plan (path_of path) cells) (sym p)
+          (ready-all (cell_at new) (insert_size (cell_at old) count list) (path_of path) cells (plan_good old key t count list has) a.as_many a.zeros);
     }

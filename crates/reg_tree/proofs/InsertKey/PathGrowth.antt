@@ -1,5 +1,6 @@
 -- Keys made one below the other: what stands after each.
-use Rattle.std.proofs.Common.{◌≡◌, ℕ, ◌+◌, ◌-◌, ◌≤◌, ◌<◌, Bool, true, false, cond, ◌&&◌, nat_lt, nat_le, Option, Some, None, IsSome, is_some, List, [], ◌∷◌, ◌++◌, map, length, drop, take, refl, sym, ap, ◌∙◌, subst, arith, length-append, length-drop}
+use Rattle.std.proofs.Common.{◌≡◌, ℕ, ◌+◌, ◌-◌, ◌≤◌, ◌<◌, Bool, true, false, cond, ◌&&◌, nat_lt, nat_le, Option, Some, None, IsSome, is_some, List, [], ◌∷◌, ◌++◌, map, length, drop, take}
+use Rattle.std.proofs.Common.{refl, sym, ap, ◌∙◌, subst, arith, length-append, length-drop}
 use Rattle.std.specs.List.{list_all}
 use Rattle.std.specs.Option.{option_and_then, option_map}
 use Rattle.std.specs.Ordering.{is_eq, eq_by_cmp}
@@ -91,7 +92,9 @@ module _ (bytes : List ℕ) (key : ℕ) (spare : List ℕ) (g : IsGrowing bytes 
       ∙ (place-more h key (folded name) [] ∙ ap (option_and_then (λ c. place_at h c [])) missing))
 
   pub no_child : has_child (tree_of h g.keys) g.path name ≡ false
-  no_child = ap is_some (keyed.rec_in h g.root g.keys g.first [] spare g.shape (child_path g.path name) ∙ by (branch_at (child_path g.path name) g.keys) (sym (keyed.place_in h g.root g.keys g.first [] spare g.shape (child_path g.path name)) ∙ place_missing))
+  no_child = ap is_some (keyed.rec_in h g.root g.keys g.first [] spare g.shape (child_path g.path name) ∙
+      by (branch_at (child_path g.path name) g.keys) (sym (keyed.place_in h g.root g.keys g.first [] spare g.shape (child_path g.path name)) ∙
+      place_missing))
     where
       by : (o : Option (Branch Node)) → option_map (λ (b : Branch Node). b.place) o ≡ None → option_map (λ (b : Branch Node). rec_of b.node (descriptor_in h b.node.key.fields.security)) o ≡ None
       by None e = refl
@@ -100,7 +103,8 @@ module _ (bytes : List ℕ) (key : ℕ) (spare : List ℕ) (g : IsGrowing bytes 
 -- ---- on the way
 
 -- some of the keys were made: a node, what is left of the path and of the spare cells, and that the rest leads to the same end
-pub record Midway (bytes0 : List ℕ) (from : TreeNode) (names0 : List (List ℕ)) (spare0 : List ℕ) (m : MayGrowAll bytes0 from names0 spare0) (moment : ℕ) (bytes : List ℕ) (node : TreeNode) (rest spare : List ℕ) : Type 0 where
+pub record Midway (bytes0 : List ℕ) (from : TreeNode) (names0 : List (List ℕ)) (spare0 : List ℕ) (m : MayGrowAll bytes0 from names0 spare0)
+    (moment : ℕ) (bytes : List ℕ) (node : TreeNode) (rest spare : List ℕ) : Type 0 where
   pub grow : MayGrowAll bytes node (path_of rest) spare
   pub root_is : grow.growing.root ≡ m.growing.root
   pub first_is : grow.growing.first ≡ m.growing.first
@@ -110,10 +114,12 @@ pub record Midway (bytes0 : List ℕ) (from : TreeNode) (names0 : List (List ℕ
   pub depth : node.depth + length (path_of rest) ≡ from.depth + length names0
   pub keeps : (q : Path) (o : ℕ) → place_at (cell_at bytes0) m.growing.root q ≡ Some o → place_at (cell_at bytes) m.growing.root q ≡ Some o
 
-pub at_start : (bytes : List ℕ) (from : TreeNode) (path spare : List ℕ) (m : MayGrowAll bytes from (path_of path) spare) (moment : ℕ) → is_path path ≡ true → Midway bytes from (path_of path) spare m moment bytes from path spare
+pub at_start : (bytes : List ℕ) (from : TreeNode) (path spare : List ℕ) (m : MayGrowAll bytes from (path_of path) spare) (moment : ℕ) →
+    is_path path ≡ true → Midway bytes from (path_of path) spare m moment bytes from path spare
 at_start bytes from path spare m moment v = record { grow = m; root_is = refl; first_is = refl; valid = v; tree = refl; end = refl; depth = refl; keeps = λ q o e. e }
 
-module _ (bytes0 : List ℕ) (from : TreeNode) (names0 : List (List ℕ)) (spare0 : List ℕ) (m : MayGrowAll bytes0 from names0 spare0) (moment : ℕ) (bytes : List ℕ) (node : TreeNode) (rest spare : List ℕ) (mid : Midway bytes0 from names0 spare0 m moment bytes node rest spare) where
+module _ (bytes0 : List ℕ) (from : TreeNode) (names0 : List (List ℕ)) (spare0 : List ℕ) (m : MayGrowAll bytes0 from names0 spare0) (moment : ℕ)
+    (bytes : List ℕ) (node : TreeNode) (rest spare : List ℕ) (mid : Midway bytes0 from names0 spare0 m moment bytes node rest spare) where
   pub deep_now : from.depth ≤ 512 → node.depth + 1 < 4096
   deep_now d = let e = mid.depth in let l = m.deep in omega (arith, d, e, l)
 
@@ -132,7 +138,9 @@ module _ (bytes0 : List ℕ) (from : TreeNode) (names0 : List (List ℕ)) (spare
     pub ready_next : AreReady (cell_at bytes) (planned (cell_at bytes) node.offset) (name ∷ path_of behind) spare
     ready_next = subst (λ ns. AreReady (cell_at bytes) (planned (cell_at bytes) node.offset) ns spare) f.names mid.grow.ready
 
-    module _ (new : List ℕ) (made : ℕ) (left : List ℕ) (grows : Grows (cell_at bytes) (cell_at new) g.root g.path g.keys g.first made left name moment) (ready : AreReady (cell_at bytes) (Some 16) (path_of behind) left) where
+    module _ (new : List ℕ) (made : ℕ) (left : List ℕ)
+        (grows : Grows (cell_at bytes) (cell_at new) g.root g.path g.keys g.first made left name moment) (ready : AreReady (cell_at bytes) (Some 16)
+        (path_of behind) left) where
       abbrev k : Heap
       k = cell_at new
 
@@ -173,7 +181,8 @@ module _ (bytes0 : List ℕ) (from : TreeNode) (names0 : List (List ℕ)) (spare
       tree_then : with_keys (tree_of k grows.now) (child_path g.path name) (path_of behind) moment ≡ with_keys (tree_of (cell_at bytes) g.keys) g.path (path_of rest) moment
       tree_then =
           ap (λ (t : Tree). with_keys t (child_path g.path name) (path_of behind) moment) grows.tree
-          ∙ (ap (λ b. with_keys (cond b (tree_of (cell_at bytes) g.keys) (with_key (tree_of (cell_at bytes) g.keys) g.path name moment)) (child_path g.path name) (path_of behind) moment) (sym (no_child bytes node.offset spare g name may_next.missing))
+          ∙ (ap (λ b. with_keys (cond b (tree_of (cell_at bytes) g.keys) (with_key (tree_of (cell_at bytes) g.keys) g.path name moment))
+          (child_path g.path name) (path_of behind) moment) (sym (no_child bytes node.offset spare g name may_next.missing))
           ∙ ap (λ ns. with_keys (tree_of (cell_at bytes) g.keys) g.path ns moment) (sym f.names))
 
       pub one_further : Midway bytes0 from names0 spare0 m moment new (record { offset = made; depth = node.depth + 1 }) behind left
@@ -195,10 +204,14 @@ module _ (bytes0 : List ℕ) (from : TreeNode) (names0 : List (List ℕ)) (spare
       let none : spare ≡ [] = subst (λ ns. AreReady (cell_at bytes) (planned (cell_at bytes) node.offset) ns spare) e mid.grow.ready in
       record {
         now = g.keys;
-        shape = subst (λ r. IsShape (cell_at bytes) r g.keys m.growing.first [] []) mid.root_is (subst (λ f. IsShape (cell_at bytes) g.root g.keys f [] []) mid.first_is (subst (λ s. IsShape (cell_at bytes) g.root g.keys g.first [] s) none g.shape));
+        shape = subst (λ r. IsShape (cell_at bytes) r g.keys m.growing.first [] []) mid.root_is
+            (subst (λ f. IsShape (cell_at bytes) g.root g.keys f [] []) mid.first_is
+            (subst (λ s. IsShape (cell_at bytes) g.root g.keys g.first [] s) none g.shape));
         unrooted = g.unrooted;
         tree = ap (λ ns. with_keys (tree_of (cell_at bytes) g.keys) g.path ns moment) (sym e) ∙ mid.tree;
-        place = subst (λ q. place_at (cell_at bytes) m.growing.root q ≡ Some node.offset) (sym (append-nil g.path) ∙ (ap (λ ns. g.path ++ map folded ns) (sym e) ∙ mid.end)) (subst (λ r. place_at (cell_at bytes) r g.path ≡ Some node.offset) mid.root_is g.at);
+        place = subst (λ q. place_at (cell_at bytes) m.growing.root q ≡ Some node.offset) (sym (append-nil g.path) ∙
+            (ap (λ ns. g.path ++ map folded ns) (sym e) ∙ mid.end))
+            (subst (λ r. place_at (cell_at bytes) r g.path ≡ Some node.offset) mid.root_is g.at);
         depth = (let d = mid.depth in let n = ap length e in omega (arith, d, n));
         keeps = mid.keeps;
       }

@@ -73,7 +73,8 @@ alone (Some size) list_cell key left spare e s = absurd (none-some _ (sym e))
 
 pub beside : (plan : Option ℕ) (size list_cell key : ℕ) (left spare : List ℕ) → plan ≡ Some size → spare ≡ taken plan list_cell ++ key ∷ left → IsBeside plan list_cell key left spare
 beside None size list_cell key left spare e s = absurd (none-some _ e)
-beside (Some n) size list_cell key left spare e s = subst (λ s. IsBeside (Some n) list_cell key left s) (sym s) (record { all = refl; list_is = refl; key_is = refl; left_is = refl; long = omega arith })
+beside (Some n) size list_cell key left spare e s = subst (λ s. IsBeside (Some n) list_cell key left s) (sym s)
+    (record { all = refl; list_is = refl; key_is = refl; left_is = refl; long = omega arith })
 
 -- ---- what may be made in them
 

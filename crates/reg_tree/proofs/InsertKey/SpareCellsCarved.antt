@@ -165,7 +165,8 @@ module _ (old mid : List ℕ) (parent : TreeNode) (t : IsHere old parent.offset)
   list-same (suc count) list a b =
       let n = (branch old P t).node in
       let i = owned-single h list n.key.fields.subkeys n.key.fields.subkeys_list n.index (looked old P t).index_is (single old P t) in
-      let one : times list (own n.key.fields.subkeys n.key.fields.subkeys_list) ≡ 1 = ap (λ m. times list (own m n.key.fields.subkeys_list)) (sym a) ∙ (ap (λ o. times list (o ∷ [])) (sym b) ∙ times-one list) in
+      let one : times list (own n.key.fields.subkeys n.key.fields.subkeys_list) ≡ 1 = ap (λ m. times list (own m n.key.fields.subkeys_list))
+      (sym a) ∙ (ap (λ o. times list (o ∷ [])) (sym b) ∙ times-one list) in
       let own_list = here.own_once old P t list in
       let there = tally-index list n in
       ap (λ (bytes : List ℕ). cond (nat_le (4 + 8 * suc (suc count)) (length bytes)) None (Some (8 + 8 * suc (suc count)))) (same-held h k list (still list (omega (arith, i, one, own_list, there))))
@@ -183,7 +184,16 @@ module _ (old mid : List ℕ) (parent : TreeNode) (t : IsHere old parent.offset)
 
   unfoldable pub may_grow_all : MayGrowAll mid parent names spare
   may_grow_all = record {
-    growing = record { root = t.root; path = t.path; keys = keys; first = t.holds.first; shape = shape-spared h k t.root keys t.holds.first spare t.holds.shape s.come; unrooted = t.holds.unrooted; at = at-then };
+    growing = record {
+      root = t.root;
+      path = t.path;
+      keys = keys;
+      first = t.holds.first;
+      shape =
+          shape-spared h k t.root keys t.holds.first spare t.holds.shape s.come;
+      unrooted = t.holds.unrooted;
+      at = at-then;
+    };
     missing = missing-then;
     deep = deep;
     few = λ r e. few r (sym key-then ∙ e);

@@ -62,7 +62,8 @@ module _ (h : Heap) (x : List ℕ) where
   abbrev names : List Entry → List (List ℕ)
   names entries = names_in h entries
 
-  named-first : (entries : List Entry) (i : ℕ) → AreCalled h entries → i < length entries → get_or (names entries) i [] ≡ x → ((j : ℕ) → j < i → slice_cmp nat_cmp (get_or (names entries) j []) x ≡ Less)
+  named-first : (entries : List Entry) (i : ℕ) → AreCalled h entries → i < length entries → get_or (names entries) i [] ≡ x →
+      ((j : ℕ) → j < i → slice_cmp nat_cmp (get_or (names entries) j []) x ≡ Less)
       → key_named h x (places_in entries) ≡ Some (get_or entries i no_entry).place
   named-first [] i a l e b = absurd (omega (arith, l))
   named-first (entry ∷ entries) zero a l e b =
@@ -110,7 +111,8 @@ module _ (h : Heap) (root : ℕ) (b : Branch Node) (stands : StandsIn h root b) 
   pub named-ok : (index : ℕ) → Rises (names_in h entries) → IsPlace (names_in h entries) x (Ok index) → subkey_named h x b.place ≡ Some (get_or entries index no_entry).place
   named-ok index rises p =
       let n = length-names h entries in
-      by-list ∙ named-first h x entries index called (let l = p.0 in omega (arith, l, n)) p.1 (λ j m. subst (λ y. slice_cmp nat_cmp (get_or (names_in h entries) j []) y ≡ Less) p.1 (rises j index m p.0))
+      by-list ∙ named-first h x entries index called (let l = p.0 in
+      omega (arith, l, n)) p.1 (λ j m. subst (λ y. slice_cmp nat_cmp (get_or (names_in h entries) j []) y ≡ Less) p.1 (rises j index m p.0))
 
   -- none where the name is missing
   pub named-err : (index : ℕ) → IsPlace (names_in h entries) x (Err index) → subkey_named h x b.place ≡ None

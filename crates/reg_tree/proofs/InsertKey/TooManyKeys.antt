@@ -13,7 +13,8 @@ use Rattle.reg_tree.proofs.Invariant.KeyOfTree.{key_is, branch}
 subkeys-told : (bytes : List ℕ) (key : ℕ) (t : IsHere bytes key) (count list : ℕ) → HasSubkeysList (cell_at bytes) key count list → length (children_of (tree_in bytes t.root) t.path) ≡ count
 subkeys-told bytes key t count list has = number bytes key t ∙ sym (has (branch bytes key t).node.key (key_is bytes key t)).0
 
-third : (limit most deep names depth children count : ℕ) → names ≤ most → depth + names ≤ deep → children ≡ count → (nat_le limit count ≡ true) ↔ ((most < names) ⊎ ((deep < depth + names) ⊎ (limit ≤ children)))
+third : (limit most deep names depth children count : ℕ) → names ≤ most → depth + names ≤ deep → children ≡ count →
+    (nat_le limit count ≡ true) ↔ ((most < names) ⊎ ((deep < depth + names) ⊎ (limit ≤ children)))
 third limit most deep names depth children count few shallow told = (
   λ e. inr (inr (grind (arith, nat_tests))),
   λ many. by many,
@@ -25,6 +26,7 @@ third limit most deep names depth children count few shallow told = (
     by (inr (inr s)) = grind (arith, nat_tests)
 
 -- neither the names nor the path they make are too many
-pub many-below : (bytes : List ℕ) (key : ℕ) (count list : ℕ) → HasSubkeysList (cell_at bytes) key count list → (number_of : ℕ) → number_of ≡ count → (names depth : ℕ) → names ≤ 32 → depth + names ≤ 512 → (t : IsHere bytes key)
+pub many-below : (bytes : List ℕ) (key : ℕ) (count list : ℕ) → HasSubkeysList (cell_at bytes) key count list → (number_of : ℕ) → number_of ≡ count →
+    (names depth : ℕ) → names ≤ 32 → depth + names ≤ 512 → (t : IsHere bytes key)
     → (nat_le 500 number_of ≡ true) ↔ ((32 < names) ⊎ ((512 < depth + names) ⊎ (500 ≤ length (children_of (tree_in bytes t.root) t.path))))
 many-below bytes key count list has number_of is names depth few shallow t = third 500 32 512 names depth _ number_of few shallow (subkeys-told bytes key t count list has ∙ sym is)

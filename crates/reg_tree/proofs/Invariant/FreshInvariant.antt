@@ -12,9 +12,16 @@ use Rattle.reg_tree.proofs.Invariant.KeyOfTree.{spelt_is}
 
 pub fresh_holds : (bytes : List ℕ) (root : ℕ) (name descriptor : List ℕ) (moment : ℕ) → IsMade (cell_at bytes) root name descriptor moment → Holds bytes root
 fresh_holds bytes root name descriptor moment m =
-    record { keys = _; first = m.root_is.key.fields.security; shape = whole-shape (cell_at bytes) root _ m.root_is.key.fields.security [] (fresh-shape (cell_at bytes) root m.root_is); unrooted = refl }
+    record {
+      keys = _;
+      first = m.root_is.key.fields.security;
+      shape = whole-shape (cell_at bytes) root _ m.root_is.key.fields.security []
+          (fresh-shape (cell_at bytes) root m.root_is);
+      unrooted = refl;
+    }
 
-pub fresh_tree : (bytes : List ℕ) (root : ℕ) (name descriptor : List ℕ) (moment : ℕ) → IsMade (cell_at bytes) root name descriptor moment → tree_in bytes root ≡ insert empty [] (made_root name descriptor moment)
+pub fresh_tree : (bytes : List ℕ) (root : ℕ) (name descriptor : List ℕ) (moment : ℕ) → IsMade (cell_at bytes) root name descriptor moment →
+    tree_in bytes root ≡ insert empty [] (made_root name descriptor moment)
 unfolding fresh_holds
 fresh_tree bytes root name descriptor moment m =
     spelt_is bytes root (fresh_holds bytes root name descriptor moment m)

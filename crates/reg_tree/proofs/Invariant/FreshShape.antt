@@ -41,8 +41,11 @@ root-look : (h : Heap) (root : ℕ) (r : IsFreshRoot h root) → look h root ≡
 unfolding look
 root-look h root r =
     ap (option_and_then (node_in h root)) r.key_is
-    ∙ (ap (λ n. option_and_then (λ class. option_and_then (λ values. option_map (node_of root r.key class values) (index_at h r.key.fields.subkeys r.key.fields.subkeys_list)) (members_at r.key.fields.values r.key.fields.values_list h)) (pieces_at (if_any Class n r.key.fields.class) h)) r.fields.class_length
-    ∙ (ap (λ n. option_and_then (λ values. option_map (node_of root r.key ([], []) values) (index_at h r.key.fields.subkeys r.key.fields.subkeys_list)) (members_at n r.key.fields.values_list h)) r.fields.values
+    ∙ (ap (λ n. option_and_then (λ class. option_and_then (λ values. option_map (node_of root r.key class values)
+    (index_at h r.key.fields.subkeys r.key.fields.subkeys_list)) (members_at r.key.fields.values r.key.fields.values_list h))
+    (pieces_at (if_any Class n r.key.fields.class) h)) r.fields.class_length
+    ∙ (ap (λ n. option_and_then (λ values. option_map (node_of root r.key ([], []) values)
+    (index_at h r.key.fields.subkeys r.key.fields.subkeys_list)) (members_at n r.key.fields.values_list h)) r.fields.values
     ∙ ap (λ n. option_map (node_of root r.key ([], []) ([], [])) (index_at h n r.key.fields.subkeys_list)) r.fields.subkeys))
 
 written-none : (h : Heap) (root : ℕ) (r : IsFreshRoot h root) → AreWrittenValues h (node_with root r.key)
@@ -107,7 +110,13 @@ fresh-shape h root r = record {
   exact = λ z. (let x = r.exact z in omega (arith, x));
   ring = only-ring h r.key.fields.security r.security r.only;
   ringed = λ z. ((λ l. (let s = shares-all h root r z in omega (arith, s, l))), λ l. (let s = shares-all h root r z in omega (arith, s, l)));
-  counts = (only-count h r.key.fields.security r.security r.only ∙ ap Some (sym (shares-all h root r r.key.fields.security ∙ (let one : ◌≡◌ {A = ℕ} (cond (eqb r.key.fields.security r.key.fields.security) 1 0) 1 = ap (λ b. cond b 1 0) (same-number r.key.fields.security) in omega (arith, one)))), tt);
+  counts = (
+    only-count h r.key.fields.security r.security r.only ∙
+        ap Some (sym (shares-all h root r r.key.fields.security ∙
+        (let one : ◌≡◌ {A = ℕ} (cond (eqb r.key.fields.security r.key.fields.security) 1 0) 1 =
+        ap (λ b. cond b 1 0) (same-number r.key.fields.security) in omega (arith, one)))),
+    tt,
+  );
   shallow = omega arith;
 }
 
@@ -115,7 +124,8 @@ fresh-shape h root r = record {
 pub fresh-rec : (h : Heap) (root : ℕ) (r : IsFreshRoot h root) → rec_of (node_with root r.key) (descriptor_in h r.key.fields.security) ≡ made_root r.key.name r.security.descriptor r.key.fields.time
 fresh-rec h root r =
     let name : name_of r.key ≡ r.key.name = ap (λ f. letters (not (bit_and f 32 == 0)) r.key.name) r.fields.flags in
-    let described : descriptor_in h r.key.fields.security ≡ r.security.descriptor = ap (λ (o : Option KeySecurityRecord). unwrap_or (option_map (λ (s : KeySecurityRecord). s.descriptor) o) []) r.only.security_is in
+    let described : descriptor_in h r.key.fields.security ≡ r.security.descriptor =
+    ap (λ (o : Option KeySecurityRecord). unwrap_or (option_map (λ (s : KeySecurityRecord). s.descriptor) o) []) r.only.security_is in
     let marks : marks_of r.key.fields.flags ≡ 8 = ap marks_of r.fields.flags in
     λ i. record { name = name i; marks = marks i; class = []; descriptor = described i; time = r.key.fields.time; values = [] }
 
@@ -177,10 +187,13 @@ pub record IsMade (h : Heap) (root : ℕ) (name descriptor : List ℕ) (moment :
   pub time : root_is.key.fields.time ≡ moment
 
 -- a new root's two cells
-pub made : (e b i k : Bins) (root security node_size ring_size n m : ℕ) (fields : KeyFields) (ring : SecurityFields) (name descriptor : List ℕ) (moment : ℕ) → fields ≡ new_fields security moment → ring ≡ record { flink = security; blink = security; count = 1 }
+pub made : (e b i k : Bins) (root security node_size ring_size n m : ℕ) (fields : KeyFields) (ring : SecurityFields) (name descriptor : List ℕ)
+    (moment : ℕ) → fields ≡ new_fields security moment → ring ≡ record { flink = security; blink = security; count = 1 }
     → is_key_name name ≡ true → 1 ≤ length descriptor → length descriptor ≤ 65535 → e.bytes ≡ [] → AreCarved e b root security node_size ring_size
-    → WritesRecord b i security n (sk_bytes ring descriptor) → IsPlainSecurity (held (cell_at i.bytes) security) → security_at (cell_at i.bytes) security ≡ Some (record { fields = ring; descriptor = descriptor })
-    → WritesRecord i k root m (nk_bytes fields name) → IsPlainKey (held (cell_at k.bytes) root) → key_at (cell_at k.bytes) root ≡ Some (record { fields = fields; name = name }) → IsMade (cell_at k.bytes) root name descriptor moment
+    → WritesRecord b i security n (sk_bytes ring descriptor) → IsPlainSecurity (held (cell_at i.bytes) security) →
+    security_at (cell_at i.bytes) security ≡ Some (record { fields = ring; descriptor = descriptor })
+    → WritesRecord i k root m (nk_bytes fields name) → IsPlainKey (held (cell_at k.bytes) root) →
+    key_at (cell_at k.bytes) root ≡ Some (record { fields = fields; name = name }) → IsMade (cell_at k.bytes) root name descriptor moment
 made e b i k root security node_size ring_size n m fields ring name descriptor moment is ring_is valid some short none carved sk_written sk_plain secured nk_written nk_plain keyed =
     let key : KeyRecord = record { fields = new_fields security moment; name = name } in
     let off : security ≢ root = λ e. carved.apart (sym e) in

@@ -79,7 +79,9 @@ module _ (bytes : List ℕ) (root : ℕ) (t : Holds bytes root) where
   pub get-some : (p : Path) (o : ℕ) → place_at heap root p ≡ Some o → IsSome (get (tree_in bytes root) p)
   get-some p o e = by (branch_at p keys) (sym (place_is p) ∙ e) (rec_is p)
     where
-      by : (b : Option (Branch Node)) → option_map (λ (b : Branch Node). b.place) b ≡ Some o → get (tree_in bytes root) p ≡ option_map (λ (b : Branch Node). rec_of b.node (descriptor_in heap b.node.key.fields.security)) b → IsSome (get (tree_in bytes root) p)
+      by : (b : Option (Branch Node)) → option_map (λ (b : Branch Node). b.place) b ≡ Some o →
+          get (tree_in bytes root) p ≡ option_map (λ (b : Branch Node). rec_of b.node (descriptor_in heap b.node.key.fields.security)) b →
+          IsSome (get (tree_in bytes root) p)
       by None e g = absurd (none-some _ e)
       by (Some b) e g = ap is_some g
 
@@ -142,7 +144,9 @@ module _ (bytes : List ℕ) (key : ℕ) (t : IsHere bytes key) where
     members = branch.node.values;
     met = looked.value_cells;
     reads = looked.values_are;
-    once = λ z. (let a = own_once z in let o = ap (λ (found : List Found). owned z (found ++ index_cells branch.node.index)) looked.cells ∙ own-parts z branch.place branch.node.key looked.class_cells looked.value_cells branch.node.index in omega (arith, a, o));
+    once = λ z. (let a = own_once z in
+        let o = ap (λ (found : List Found). owned z (found ++ index_cells branch.node.index)) looked.cells ∙
+        own-parts z branch.place branch.node.key looked.class_cells looked.value_cells branch.node.index in omega (arith, a, o));
     written = seen.written.values.list;
   }
 

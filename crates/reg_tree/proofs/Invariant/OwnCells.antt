@@ -12,13 +12,17 @@ use Rattle.reg_shape.proofs.Wholeness.WholeShapes.{own-here}
 
 -- ---- what a key has as its own, and as its security
 
-pub own-parts : (z place : ℕ) (key : KeyRecord) (class values : List Found) (index : Index) → owned z (met_of place key class values ++ index_cells index) ≡ is_own z (record { kind = Key; offset = place }) + ((owned z class + owned z values) + owned z (index_cells index))
+pub own-parts : (z place : ℕ) (key : KeyRecord) (class values : List Found) (index : Index) →
+    owned z (met_of place key class values ++ index_cells index) ≡ is_own z (record { kind = Key; offset = place }) +
+    ((owned z class + owned z values) + owned z (index_cells index))
 own-parts z place key class values index =
     let a = tally-append (is_own z) (met_of place key class values) (index_cells index) in
     let b = tally-append (is_own z) class (record { kind = Security; offset = key.fields.security } ∷ values) in
     omega (arith, a, b)
 
-pub shared-parts : (z place : ℕ) (key : KeyRecord) (class values : List Found) (index : Index) → shared z (met_of place key class values ++ index_cells index) ≡ shared z class + ((is_shared z (record { kind = Security; offset = key.fields.security }) + shared z values) + shared z (index_cells index))
+pub shared-parts : (z place : ℕ) (key : KeyRecord) (class values : List Found) (index : Index) →
+    shared z (met_of place key class values ++ index_cells index) ≡ shared z class +
+    ((is_shared z (record { kind = Security; offset = key.fields.security }) + shared z values) + shared z (index_cells index))
 shared-parts z place key class values index =
     let a = tally-append (is_shared z) (met_of place key class values) (index_cells index) in
     let b = tally-append (is_shared z) class (record { kind = Security; offset = key.fields.security } ∷ values) in

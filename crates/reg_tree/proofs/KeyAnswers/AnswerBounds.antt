@@ -32,13 +32,17 @@ module _ (bytes : List ℕ) (key : ℕ) (t : IsHere bytes key) where
       let same = ap (λ (k : KeyRecord). k.name) (key-fields (cell_at bytes) key content (branch bytes key t).node.key read (key_is bytes key t) here reads) in
       subst (λ (name : List ℕ). length name ≤ 255) (sym same) (name_short (branch bytes key t).node.key.name (seen bytes key t).written.name)
 
-  pub descriptor-bound : (fields : KeyFields) → ((k : KeyRecord) → key_at (cell_at bytes) key ≡ Some k → fields ≡ k.fields) → (content : List ℕ) (read : KeySecurityRecord) → cell_at bytes fields.security ≡ Some content → sk_of content ≡ Ok read → length read.descriptor ≤ 65535
+  pub descriptor-bound : (fields : KeyFields) → ((k : KeyRecord) → key_at (cell_at bytes) key ≡ Some k → fields ≡ k.fields) →
+      (content : List ℕ) (read : KeySecurityRecord) → cell_at bytes fields.security ≡ Some content → sk_of content ≡ Ok read →
+      length read.descriptor ≤ 65535
   descriptor-bound fields are content read here reads =
       let security = t.holds.shape.ring.written.0 in
       let same = ap (λ (s : KeySecurityRecord). s.descriptor) (security-read_is (cell_at bytes) fields.security content security.security read (its_security bytes key t fields are) here reads) in
       subst (λ (descriptor : List ℕ). length descriptor ≤ 65535) (sym same) security.short
 
-  pub value-bound : (count place : ℕ) → HasList (cell_at bytes) key count place → (index : ℕ) (told : List ℕ) (kind size : ℕ) → ((ms : List Member) (met : List Found) → members_at count place (cell_at bytes) ≡ Some (ms, met) → (member : Member) × (slice_get ms index ≡ Some member) × Tells member told kind size)
+  pub value-bound : (count place : ℕ) → HasList (cell_at bytes) key count place → (index : ℕ) (told : List ℕ) (kind size : ℕ) →
+      ((ms : List Member) (met : List Found) → members_at count place (cell_at bytes) ≡ Some (ms, met) →
+      (member : Member) × (slice_get ms index ≡ Some member) × Tells member told kind size)
       → length told ≤ 16383
   value-bound count place has index told kind size k =
       let m = k _ _ (list_reads bytes key t count place has) in

@@ -93,7 +93,8 @@ module _ (bytes : List ℕ) (key : ℕ) (t : IsHere bytes key) where
     pub security_told : IsSome (security_at h fields.security)
     security_told = is_some_of _ _ its_security
 
-    pub descriptor_told : (content : List ℕ) (read : KeySecurityRecord) → h fields.security ≡ Some content → sk_of content ≡ Ok read → (r : Rec) → get tree t.path ≡ Some r → read.descriptor ≡ r.descriptor
+    pub descriptor_told : (content : List ℕ) (read : KeySecurityRecord) → h fields.security ≡ Some content → sk_of content ≡ Ok read → (r : Rec) →
+        get tree t.path ≡ Some r → read.descriptor ≡ r.descriptor
     descriptor_told content read here reads r e =
         ap (λ (s : KeySecurityRecord). s.descriptor) (security-read_is h fields.security content t.holds.shape.ring.written.0.security read its_security here reads)
         ∙ (sym (ap (λ (o : Option KeySecurityRecord). unwrap_or (option_map (λ (s : KeySecurityRecord). s.descriptor) o) []) its_security)
@@ -117,7 +118,8 @@ module _ (bytes : List ℕ) (key : ℕ) (t : IsHere bytes key) where
         let l = length-names h (entries_of node.index) in
         omega (arith, n, a, c, l)
 
-    written-names : (es : List (ℕ × Node)) → AllWritten es → (i : ℕ) → i < length es → get_or (map (λ (e : ℕ × Node). t.path ++ folded (name_of e.1.key) ∷ []) es) i [] ≡ t.path ++ get_or (map name_of_head es) i [] ∷ []
+    written-names : (es : List (ℕ × Node)) → AllWritten es → (i : ℕ) → i < length es →
+        get_or (map (λ (e : ℕ × Node). t.path ++ folded (name_of e.1.key) ∷ []) es) i [] ≡ t.path ++ get_or (map name_of_head es) i [] ∷ []
     written-names [] a i l = absurd (omega (arith, l))
     written-names (e ∷ es) a zero l = ap (λ n. t.path ++ folded n ∷ []) a.0
     written-names (e ∷ es) a (suc i) l = written-names es a.1 i (omega (arith, l))
@@ -129,7 +131,9 @@ module _ (bytes : List ℕ) (key : ℕ) (t : IsHere bytes key) where
     child-path : (i : ℕ) → i < count → get_or (children_of tree t.path) i [] ≡ t.path ++ get_or (names_in h (entries_of node.index)) i [] ∷ []
     child-path i l =
         ap (λ ps. get_or ps i []) children
-        ∙ (written-names (heads b.below) (all-written b.below (stands bytes key t).2) i (let n = number_told in let c = ap length children ∙ length-map (heads b.below) (λ (e : ℕ × Node). t.path ++ folded (name_of e.1.key) ∷ []) in omega (arith, l, n, c))
+        ∙ (written-names (heads b.below) (all-written b.below (stands bytes key t).2) i (let n = number_told in
+        let c = ap length children ∙ length-map (heads b.below) (λ (e : ℕ × Node). t.path ++ folded (name_of e.1.key) ∷ []) in
+        omega (arith, l, n, c))
         ∙ ap (λ ns. t.path ++ get_or ns i [] ∷ []) (sym names-are))
 
     pub subkey_told : (from : TreeNode) (index child : ℕ) → index < count → ((es : List Entry) → AreSubkeys h count list es → (get_or es index no_entry).place ≡ child)
@@ -140,7 +144,8 @@ module _ (bytes : List ℕ) (key : ℕ) (t : IsHere bytes key) where
         let x = get_or (names_in h es) index [] in
         let n = length-subkeys h count list es s.read in
         let m = length-names h es in
-        let named : subkey_named h x key ≡ Some child = subst (λ o. subkey_named h x o ≡ Some child) (place bytes key t) (named-ok h t.root b (stands bytes key t) x index s.rising (omega (arith, l, n, m), refl) ∙ ap Some (at es s)) in (
+        let named : subkey_named h x key ≡ Some child = subst (λ o. subkey_named h x o ≡ Some child) (place bytes key t)
+        (named-ok h t.root b (stands bytes key t) x index s.rising (omega (arith, l, n, m), refl) ∙ ap Some (at es s)) in (
           (let n = number_told in omega (arith, l, n)),
           ap (place_at h t.root) (child-path index l)
               ∙ (place-append h t.root t.path (x ∷ [])

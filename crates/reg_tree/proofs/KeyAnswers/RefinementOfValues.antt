@@ -1,5 +1,6 @@
 -- What is told of a key's values.
-use Rattle.std.proofs.Common.{◌≡◌, ℕ, ◌<◌, ◌≤◌, ◌⊎◌, inl, inr, true, false, Option, Some, None, IsSome, List, [], length, refl, sym, ap, ◌∙◌, subst, arith, slice_get, get_or, is_some, is_none, Bool, not}
+use Rattle.std.proofs.Common.{◌≡◌, ℕ, ◌<◌, ◌≤◌, ◌⊎◌, inl, inr, true, false, Option, Some, None, IsSome, List, [], length, refl, sym, ap, ◌∙◌, subst, arith, slice_get, get_or, is_some}
+use Rattle.std.proofs.Common.{is_none, Bool, not}
 use Rattle.std.specs.Option.{option_and_then}
 use Rattle.reg_heap.specs.Paths.{Member}
 use Rattle.reg_heap.specs.Internal.Kinds.{Found}
@@ -32,11 +33,13 @@ module _ (bytes : List ℕ) (key : ℕ) (t : IsHere bytes key) (count place : �
   pub of_members : (P : List Member → Type 0) → ((ms : List Member) (met : List Found) → members_at count place (cell_at bytes) ≡ Some (ms, met) → P ms) → P members
   of_members P h = subst P (sym (values_are bytes key t)) (h _ _ (list_reads bytes key t count place has))
 
-  pub found_none : (found : Option ℕ) → ((ms : List Member) (met : List Found) → members_at count place (cell_at bytes) ≡ Some (ms, met) → found ≡ place_named name ms) → found ≡ None → value_named name members ≡ None
+  pub found_none : (found : Option ℕ) → ((ms : List Member) (met : List Found) → members_at count place (cell_at bytes) ≡ Some (ms, met) →
+      found ≡ place_named name ms) → found ≡ None → value_named name members ≡ None
   found_none found h none =
       named-at name members ∙ ap (option_and_then (slice_get members)) (sym (of_members (λ ms. found ≡ place_named name ms) h) ∙ none)
 
-  pub none_told : (found : Option ℕ) → ((ms : List Member) (met : List Found) → members_at count place (cell_at bytes) ≡ Some (ms, met) → found ≡ place_named name ms) → found ≡ None → IsFound members (value_named name members) None
+  pub none_told : (found : Option ℕ) → ((ms : List Member) (met : List Found) → members_at count place (cell_at bytes) ≡ Some (ms, met) →
+      found ≡ place_named name ms) → found ≡ None → IsFound members (value_named name members) None
   none_told found h none = subst (λ (o : Option Member). IsFound members o None) (sym (found_none found h none)) tt
 
   pub some_within : (index : ℕ) → ((ms : List Member) (met : List Found) → members_at count place (cell_at bytes) ≡ Some (ms, met) → Some index ≡ place_named name ms) → index < count
@@ -53,7 +56,8 @@ module _ (bytes : List ℕ) (key : ℕ) (t : IsHere bytes key) (count place : �
       subst (λ (o : Option Member). IsFound members o (Some (record { index = index; kind = kind; size = size }))) (sym is) (m.1, m.2.kind_is, m.2.size_is)
 
   -- what is told of the value at a place
-  pub value_at_told : (index : ℕ) (told : List ℕ) (kind size : ℕ) → ((ms : List Member) (met : List Found) → members_at count place (cell_at bytes) ≡ Some (ms, met) → (member : Member) × (slice_get ms index ≡ Some member) × Tells member told kind size)
+  pub value_at_told : (index : ℕ) (told : List ℕ) (kind size : ℕ) → ((ms : List Member) (met : List Found) →
+      members_at count place (cell_at bytes) ≡ Some (ms, met) → (member : Member) × (slice_get ms index ≡ Some member) × Tells member told kind size)
       → (member : Member) × (slice_get members index ≡ Some member) × Tells member told kind size
   value_at_told index told kind size k = of_members (λ ms. (member : Member) × (slice_get ms index ≡ Some member) × Tells member told kind size) k
 
@@ -85,7 +89,8 @@ module _ (bytes : List ℕ) (key : ℕ) (t : IsHere bytes key) (count place : �
       let there = subst (λ (ms : List Member). IsSome (value_named name ms)) (same ∙ sym (values_are bytes key t)) n.there in
       absurd (false≢true (sym (ap is_some none) ∙ there))
 
-  pub full_by : (found : Option ℕ) → ((ms : List Member) (met : List Found) → members_at count place (cell_at bytes) ≡ Some (ms, met) → found ≡ place_named name ms) → 16384 ≤ count → is_none found ≡ true
+  pub full_by : (found : Option ℕ) → ((ms : List Member) (met : List Found) → members_at count place (cell_at bytes) ≡ Some (ms, met) →
+      found ≡ place_named name ms) → 16384 ≤ count → is_none found ≡ true
       → (16384 ≤ length members) × (value_named name members ≡ None)
   full_by None h many e = (omega (arith, many, list_length bytes key t count place has), found_none None h refl)
   full_by (Some index) h many e = absurd (false≢true e)
@@ -107,7 +112,8 @@ module _ (bytes : List ℕ) (key : ℕ) (t : IsHere bytes key) (count place : �
       not_limit Full e = cc
       not_limit Memory e = cc
 
-  pub no_fault : (count < 16384) ⊎ IsNamed (cell_at bytes) count place name → (◌≡◌ {A = Result (Unit {0}) TreeFault} (Ok tt) (Err Limit)) ↔ ((16384 ≤ length members) × (value_named name members ≡ None))
+  pub no_fault : (count < 16384) ⊎ IsNamed (cell_at bytes) count place name → (◌≡◌ {A = Result (Unit {0}) TreeFault} (Ok tt) (Err Limit)) ↔
+      ((16384 ≤ length members) × (value_named name members ≡ None))
   no_fault room = (λ e. absurd (cc), λ full. absurd (not_full room full.0 full.1))
 
 -- what `is_none` answers

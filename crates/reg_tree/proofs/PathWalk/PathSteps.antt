@@ -33,11 +33,13 @@ module _ (h : Heap) (from : Node) (path : List ℕ) where
   starts v = record { names = []; parts = refl; place = place-none h from.offset; depth = omega arith; valid = v }
 
   module _ (node : Node) (rest : List ℕ) (s : Passes h from path node rest) where
-    pub next : (name behind : List ℕ) (offset : ℕ) → IsFirst rest name behind → Some offset ≡ subkey_named h (folded name) node.offset → Passes h from path (record { offset = offset; depth = node.depth + 1 }) behind
+    pub next : (name behind : List ℕ) (offset : ℕ) → IsFirst rest name behind → Some offset ≡ subkey_named h (folded name) node.offset →
+        Passes h from path (record { offset = offset; depth = node.depth + 1 }) behind
     next name behind offset f e = record {
       names = s.names ++ name ∷ [];
       parts = s.parts ∙ (ap (λ ns. s.names ++ ns) f.names ∙ sym (append_assoc s.names (name ∷ []) (path_of behind)));
-      place = subst (λ p. place_at h from.offset p ≡ Some offset) (sym (map-append folded s.names (name ∷ []))) (place-then h from.offset (map folded s.names) (folded name) node.offset offset s.place (sym e));
+      place = subst (λ p. place_at h from.offset p ≡ Some offset) (sym (map-append folded s.names (name ∷ [])))
+          (place-then h from.offset (map folded s.names) (folded name) node.offset offset s.place (sym e));
       depth = (let d = s.depth in let l = length-append s.names (name ∷ []) in omega (arith, d, l));
       valid = f.valid;
     }
@@ -81,7 +83,8 @@ place-missing h o p x q c e f =
     ∙ (ap (option_and_then (λ c. place_at h c (x ∷ q))) e
     ∙ (place-more h c x q ∙ ap (option_and_then (λ d. place_at h d q)) f))
 
-missing-by : (h : Heap) (from : Node) (path : List ℕ) (node : Node) (rest : List ℕ) (s : Passes h from path node rest) (left : List (List ℕ)) → path_of rest ≡ left → (left ≡ [] → ⊥) → Stops h node.offset left → place_at h from.offset (folded_path path) ≡ None
+missing-by : (h : Heap) (from : Node) (path : List ℕ) (node : Node) (rest : List ℕ) (s : Passes h from path node rest) (left : List (List ℕ)) →
+    path_of rest ≡ left → (left ≡ [] → ⊥) → Stops h node.offset left → place_at h from.offset (folded_path path) ≡ None
 missing-by h from path node rest s [] e some stops = absurd (some refl)
 missing-by h from path node rest s (name ∷ names) e some stops =
     ap (λ ns. place_at h from.offset (map folded ns)) (s.parts ∙ ap (λ ns. s.names ++ ns) e)

@@ -56,7 +56,8 @@ module _ (bytes : List ℕ) (key : ℕ) (t : IsHere bytes key) where
         subst (λ o. Some child ≡ subkey_named h (folded name) o) (place bytes key t)
         (sym (named-ok h t.root (branch bytes key t) (stands bytes key t) (folded name) index subkeys.rising (find e subkeys) ∙ ap Some (at e subkeys)))
 
-    pub child_missing : (name : List ℕ) (index : ℕ) → ((entries : List Entry) → AreSubkeys h count list entries → IsPlace (names_in h entries) (folded name) (Err index)) → None ≡ subkey_named h (folded name) key
+    pub child_missing : (name : List ℕ) (index : ℕ) → ((entries : List Entry) → AreSubkeys h count list entries →
+        IsPlace (names_in h entries) (folded name) (Err index)) → None ≡ subkey_named h (folded name) key
     child_missing name index find =
         subst (λ o. None ≡ subkey_named h (folded name) o) (place bytes key t)
         (sym (named-err h t.root (branch bytes key t) (stands bytes key t) (folded name) index (find (entries_of node.index) subkeys)))

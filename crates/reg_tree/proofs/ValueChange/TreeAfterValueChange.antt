@@ -100,8 +100,10 @@ module _ (old mid new : List ℕ) (key : ℕ) (t : IsHere old key) (count list n
   }
 
 -- a value was set
-pub set_changed : (old mid new : List ℕ) (key count list : ℕ) (name : List ℕ) (kind : ℕ) (bytes : List ℕ) (moment after_count after_place : ℕ) (t : IsHere old key) → HasList (cell_at old) key count list
-    → ((members : List Member) (met : List Found) → members_at count list (cell_at old) ≡ Some (members, met) → Became (cell_at old) (cell_at mid) met after_count after_place (values_with name kind bytes members))
+pub set_changed : (old mid new : List ℕ) (key count list : ℕ) (name : List ℕ) (kind : ℕ) (bytes : List ℕ) (moment after_count after_place : ℕ)
+    (t : IsHere old key) → HasList (cell_at old) key count list
+    → ((members : List Member) (met : List Found) → members_at count list (cell_at old) ≡ Some (members, met) →
+    Became (cell_at old) (cell_at mid) met after_count after_place (values_with name kind bytes members))
     → Notes (cell_at mid) (cell_at new) key (noted after_count after_place (length name) (length bytes) moment) → IsChanged old new t.root t.path (with_value name kind bytes moment)
 set_changed old mid new key count list name kind bytes moment after_count after_place t has became notes =
     let node = (branch old key t).node in
@@ -114,7 +116,8 @@ set_changed old mid new key count list name kind bytes moment after_count after_
 
 -- a value was removed
 pub delete_changed : (old mid new : List ℕ) (key count list : ℕ) (name : List ℕ) (moment after_count after_place : ℕ) (t : IsHere old key) → HasList (cell_at old) key count list
-    → ((members : List Member) (met : List Found) → members_at count list (cell_at old) ≡ Some (members, met) → Became (cell_at old) (cell_at mid) met after_count after_place (values_without name members))
+    → ((members : List Member) (met : List Found) → members_at count list (cell_at old) ≡ Some (members, met) →
+    Became (cell_at old) (cell_at mid) met after_count after_place (values_without name members))
     → Notes (cell_at mid) (cell_at new) key (noted after_count after_place 0 0 moment) → IsChanged old new t.root t.path (without_value name moment)
 delete_changed old mid new key count list name moment after_count after_place t has became notes =
     let node = (branch old key t).node in
@@ -126,6 +129,9 @@ delete_changed old mid new key count list name moment after_count after_place t 
     (without_value name moment) (λ r e. ap (λ (ms : List Member). record r { time = moment; values = values_without name ms }) e)
 
 -- the key node stands when the values had changed
-pub key_mid : (old mid : List ℕ) (key : ℕ) (t : IsHere old key) (after_count after_place : ℕ) (members : List Member) → Became (cell_at old) (cell_at mid) (looked old key t).value_cells after_count after_place members → IsSome (key_at (cell_at mid) key)
+pub key_mid : (old mid : List ℕ) (key : ℕ) (t : IsHere old key) (after_count after_place : ℕ) (members : List Member) →
+    Became (cell_at old) (cell_at mid) (looked old key t).value_cells after_count after_place members → IsSome (key_at (cell_at mid) key)
 key_mid old mid key t after_count after_place members became =
-    is_some_of _ _ (subst (λ p. key_at (cell_at mid) p ≡ Some (branch old key t).node.key) (place old key t) (key-then (cell_at old) (cell_at mid) (branch old key t).place (branch old key t).node (own_once old key t) after_count after_place members (looked old key t) became))
+    is_some_of _ _ (subst (λ p. key_at (cell_at mid) p ≡ Some (branch old key t).node.key) (place old key t)
+    (key-then (cell_at old) (cell_at mid) (branch old key t).place (branch old key t).node (own_once old key t) after_count after_place members
+    (looked old key t) became))

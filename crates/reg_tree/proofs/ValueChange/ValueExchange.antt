@@ -25,7 +25,8 @@ use Rattle.reg_tree.proofs.Invariant.CellReadings.{is_some_of, key-exists, key-m
 
 -- ---- a key's values changed: `h` before, `i` when the values had changed, `j` when that was noted in the key node
 
-module _ (h i : Heap) (place : ℕ) (node : Node) (exact : (z : ℕ) → owned z (cells_of node) ≤ allocated h z) (count list : ℕ) (members : List Member) (l : IsLooked h place node) (became : Became h i l.value_cells count list members) where
+module _ (h i : Heap) (place : ℕ) (node : Node) (exact : (z : ℕ) → owned z (cells_of node) ≤ allocated h z) (count list : ℕ) (members : List Member)
+    (l : IsLooked h place node) (became : Became h i l.value_cells count list members) where
   pub old-cells : (z : ℕ) → owned z (cells_of node) ≡ is_own z (record { kind = Key; offset = place }) + ((owned z l.class_cells + owned z l.value_cells) + owned z (index_cells node.index))
   old-cells z = ap (λ (found : List Found). owned z (found ++ index_cells node.index)) l.cells ∙ own-parts z place node.key l.class_cells l.value_cells node.index
 
@@ -75,10 +76,14 @@ module _ (h i j : Heap) (root place : ℕ) (node : Node) (seen : IsSeen h root p
 
   -- and after the note, where it isn't the key node
   class-calm : Keeps h j l.class_cells
-  class-calm z some = notes.others z (λ e. (let one = key-here z place e in let o = old-cells h i place node exact count list members l became z in let x = exact z in let m = at-most-one h z in absurd (omega (arith, one, o, x, m, some)))) ∙ calm h i place node exact count list members l became z (omega (arith, some))
+  class-calm z some = notes.others z (λ e. (let one = key-here z place e in let o = old-cells h i place node exact count list members l became z in
+      let x = exact z in let m = at-most-one h z in absurd (omega (arith, one, o, x, m, some)))) ∙
+      calm h i place node exact count list members l became z (omega (arith, some))
 
   index-calm : Keeps h j (index_cells node.index)
-  index-calm z some = notes.others z (λ e. (let one = key-here z place e in let o = old-cells h i place node exact count list members l became z in let x = exact z in let m = at-most-one h z in absurd (omega (arith, one, o, x, m, some)))) ∙ calm h i place node exact count list members l became z (omega (arith, some))
+  index-calm z some = notes.others z (λ e. (let one = key-here z place e in let o = old-cells h i place node exact count list members l became z in
+      let x = exact z in let m = at-most-one h z in absurd (omega (arith, one, o, x, m, some)))) ∙
+      calm h i place node exact count list members l became z (omega (arith, some))
 
   values-calm : Keeps i j became.cells
   values-calm z some = notes.others z (no-value z some)
@@ -91,12 +96,14 @@ module _ (h i j : Heap) (root place : ℕ) (node : Node) (seen : IsSeen h root p
   allocated-calm : (z : ℕ) → (z ≡ place) ⊎ (z ≢ place) → allocated j z ≡ allocated i z
   allocated-calm z (inl e) =
       subst (λ x. allocated j x ≡ allocated i x) (sym e)
-      (allocated-is j place (key-exists j place (is_some_of _ _ key-now)) ∙ sym (allocated-is i place (key-exists i place (is_some_of _ _ (key-then h i place node exact count list members l became)))))
+      (allocated-is j place (key-exists j place (is_some_of _ _ key-now)) ∙
+      sym (allocated-is i place (key-exists i place (is_some_of _ _ (key-then h i place node exact count list members l became)))))
   allocated-calm z (inr n) = ap (λ (c : Option (List ℕ)). cond (is_some c) 1 0) (notes.others z n)
 
   pub exchanges : Swaps h j (λ z. owned z (cells_of node)) (λ z. owned z (cells_of changed_node))
   exchanges = record {
-    count = λ z. (let a = allocated-calm z (cases_eq z place) in let c = became.swaps.count z in let o = old-cells h i place node exact count list members l became z in let n = new-cells z in omega (arith, a, c, o, n));
+    count = λ z. (let a = allocated-calm z (cases_eq z place) in let c = became.swaps.count z in
+        let o = old-cells h i place node exact count list members l became z in let n = new-cells z in omega (arith, a, c, o, n));
     same = λ z gone came.
         let o = old-cells h i place node exact count list members l became z in
         let n = new-cells z in
@@ -109,11 +116,13 @@ module _ (h i j : Heap) (root place : ℕ) (node : Node) (seen : IsSeen h root p
   unfolding look
   looks =
       let key = node.key in
-      let class = pieces-local (if_any Class key.fields.class_length key.fields.class) h j (node.class, l.class_cells) l.class_is (agree-inner h j l.class_cells (class-inner h key.fields.class_length key.fields.class (node.class, l.class_cells) l.class_is) class-calm) in
+      let class = pieces-local (if_any Class key.fields.class_length key.fields.class) h j (node.class, l.class_cells) l.class_is
+      (agree-inner h j l.class_cells (class-inner h key.fields.class_length key.fields.class (node.class, l.class_cells) l.class_is) class-calm) in
       let values = members-local count list i j (members, became.cells) became.reads (agree-inner i j became.cells (members-inner i count list (members, became.cells) became.reads) values-calm) in
       let index = index-local h j key.fields.subkeys key.fields.subkeys_list node.index l.index_is index-calm in
       ap (option_and_then (node_in j place)) key-now
-      ∙ (ap (option_and_then (λ class. option_and_then (λ values. option_map (node_of place new_key class values) (index_at j key.fields.subkeys key.fields.subkeys_list)) (members_at count list j))) class
+      ∙ (ap (option_and_then (λ class. option_and_then (λ values. option_map (node_of place new_key class values)
+      (index_at j key.fields.subkeys key.fields.subkeys_list)) (members_at count list j))) class
       ∙ (ap (option_and_then (λ values. option_map (node_of place new_key (node.class, l.class_cells) values) (index_at j key.fields.subkeys key.fields.subkeys_list))) values
       ∙ ap (option_map (node_of place new_key (node.class, l.class_cells) (members, became.cells))) index))
 
@@ -128,7 +137,8 @@ module _ (h i j : Heap) (root place : ℕ) (node : Node) (seen : IsSeen h root p
           parent = w.parent;
           class = w.class;
           values = record {
-            list = list-kept i j count list members became.cells became.reads (agree-inner i j became.cells (members-inner i count list (members, became.cells) became.reads) values-calm) became.written;
+            list = list-kept i j count list members became.cells became.reads
+                (agree-inner i j became.cells (members-inner i count list (members, became.cells) became.reads) values-calm) became.written;
             longest_name = longest;
             largest = largest;
           };

@@ -64,7 +64,8 @@ HasSubkeysList heap cell count place = (key : KeyRecord) → key_at heap cell �
 
 -- a key security counts more keys or fewer, and no other cell changed
 pub record Recounts (old new : Heap) (cell : ℕ) (change : ℕ → ℕ) : Type 0 where
-  pub reads : (s : KeySecurityRecord) → security_at old cell ≡ Some s → security_at new cell ≡ Some (record s { fields = record s.fields { count = change s.fields.count } })
+  pub reads : (s : KeySecurityRecord) → security_at old cell ≡ Some s →
+      security_at new cell ≡ Some (record s { fields = record s.fields { count = change s.fields.count } })
   pub plain : IsPlainSecurity (held old cell) → IsPlainSecurity (held new cell)
   pub others : (offset : ℕ) → offset ≢ cell → new offset ≡ old offset
 

@@ -33,4 +33,5 @@ pub record Reaches (heap : Heap) (from : Node) (path : List ℕ) (node : Node) (
 abbrev pub IsSubkey : Heap → ℕ → Path → List Path → Node → ℕ → Option Node → Type 0
 IsSubkey heap root path paths node index None = length paths ≤ index
 IsSubkey heap root path paths node index (Some child) =
-    (index < length paths) × (place_at heap root (get_or paths index []) ≡ Some child.offset) × (child.depth ≡ node.depth + 1) × (length (get_or paths index []) ≡ length path + 1)
+    (index < length paths) × (place_at heap root (get_or paths index []) ≡ Some child.offset) × (child.depth ≡ node.depth + 1) ×
+    (length (get_or paths index []) ≡ length path + 1)

@@ -90,7 +90,8 @@ pub record MayGrowAll (bytes : List ℕ) (from : TreeNode) (names : List (List �
   pub ready : AreReady (cell_at bytes) (planned (cell_at bytes) from.offset) names spare
 
 -- keys of these names were made one below the other, below the one at a path; each other key stays where it stands
-pub record GrowsAll (old new : Heap) (root : ℕ) (path : Path) (keys : Branch Node) (first : ℕ) (from made : TreeNode) (names : List (List ℕ)) (moment : ℕ) : Type 0 where
+pub record GrowsAll (old new : Heap) (root : ℕ) (path : Path) (keys : Branch Node) (first : ℕ) (from made : TreeNode)
+    (names : List (List ℕ)) (moment : ℕ) : Type 0 where
   pub now : Branch Node
   pub shape : IsShape new root now first [] []
   pub unrooted : total_of rooted now ≡ 0

@@ -1,5 +1,6 @@
 -- An offset taken out of a row.
-use Rattle.std.proofs.Common.{◌≡◌, ℕ, zero, suc, ◌+◌, ◌-◌, ◌*◌, ◌<◌, ◌≤◌, ◌==◌, cond, Some, IsSome, List, [], ◌∷◌, ◌++◌, length, take, drop, get_or, refl, sym, ap, ◌∙◌, subst, arith, rules, length-take, length-drop}
+use Rattle.std.proofs.Common.{◌≡◌, ℕ, zero, suc, ◌+◌, ◌-◌, ◌*◌, ◌<◌, ◌≤◌, ◌==◌, cond, Some, IsSome, List, [], ◌∷◌, ◌++◌, length, take, drop, get_or, refl, sym, ap, ◌∙◌, subst, arith, rules}
+use Rattle.std.proofs.Common.{length-take, length-drop}
 use Rattle.std.proofs.lemmas.Bool.{eq-eqb}
 use Rattle.std.proofs.lemmas.List.{places}
 use Rattle.reg_heap.specs.ByteWords.{word, splice}
@@ -68,7 +69,9 @@ unfolding word
 below at piece xs f p h = number-below at piece xs f 4 p h
 
 -- the later offsets of a row closed up
-pub shifted : (c : List ℕ) (i n : ℕ) → 4 * (i + suc n) ≤ length c → offsets_at (i + n) 0 (splice (4 * i) (take (4 * n) (drop (4 * i + 4) c)) c) ≡ take i (offsets_at (i + suc n) 0 c) ++ drop (i + 1) (offsets_at (i + suc n) 0 c)
+pub shifted : (c : List ℕ) (i n : ℕ) → 4 * (i + suc n) ≤ length c →
+    offsets_at (i + n) 0 (splice (4 * i) (take (4 * n) (drop (4 * i + 4) c)) c) ≡ take i (offsets_at (i + suc n) 0 c) ++ drop (i + 1)
+    (offsets_at (i + suc n) 0 c)
 shifted c i n l =
     let piece : List ℕ = take (4 * n) (drop (4 * i + 4) c) in
     let long : length piece ≡ 4 * n = omega (arith, length-take (4 * n) (drop (4 * i + 4) c), length-drop (4 * i + 4) c) in
@@ -78,7 +81,8 @@ shifted c i n l =
     word-same (0 + 4 * (i + 1) + 4 * j) (0 + 4 * i + 4 * j) c d (λ k b.
     let e : 0 + 4 * i + 4 * j + k ≡ 4 * i + (4 * j + k) = omega arith in
     let e2 : (4 * i + 4) + (4 * j + k) ≡ 0 + 4 * (i + 1) + 4 * j + k = omega arith in
-    ap (λ n. get_or d n 0) e ∙ (get_or-within (4 * i) (4 * j + k) piece c (omega (arith, long)) (omega (arith, long)) ∙ (get_or-take-drop (4 * i + 4) (4 * n) (4 * j + k) c (omega arith) ∙ ap (λ n. get_or c n 0) e2)))) in
+    ap (λ n. get_or d n 0) e ∙ (get_or-within (4 * i) (4 * j + k) piece c (omega (arith, long)) (omega (arith, long)) ∙
+    (get_or-take-drop (4 * i + 4) (4 * n) (4 * j + k) c (omega arith) ∙ ap (λ n. get_or c n 0) e2)))) in
     let m : i + suc n ≡ (i + 1) + n = omega arith in
     offsets-append i n 0 d ∙ ap (λ xs. xs ++ offsets_at n (0 + 4 * i) d) front ∙ ap (λ xs. offsets_at i 0 c ++ xs) back
     ∙ ap (λ xs. xs ++ offsets_at n (0 + 4 * (i + 1)) c) (sym (take-offsets i (suc n) 0 c))
@@ -86,7 +90,8 @@ shifted c i n l =
 
 -- ---- the list
 
-pub emptied : (h k : Heap) (place index : ℕ) (row : List ℕ) (met : List Found) → index < 1 → list_at 1 place h ≡ Some (row, met) → GivesUp h k (place ∷ []) → BecameList h k (λ z. owned z met) 0 4294967295 (take index row ++ drop (index + 1) row)
+pub emptied : (h k : Heap) (place index : ℕ) (row : List ℕ) (met : List Found) → index < 1 → list_at 1 place h ≡ Some (row, met) →
+    GivesUp h k (place ∷ []) → BecameList h k (λ z. owned z met) 0 4294967295 (take index row ++ drop (index + 1) row)
 emptied h k place zero row met l e g =
     let r = list-open h 1 place row met e (omega arith) in
     let n : length row ≡ 1 = ap length r.is ∙ length-offsets 1 0 (held h place) in
@@ -112,7 +117,8 @@ module _ (h k : Heap) (count place index : ℕ) (row : List ℕ) (met : List Fou
   pub list-long : 4 * count ≤ length (held h place)
   list-long = list.long
 
-  pub closed-up : k place ≡ Some (splice (4 * index) (take (4 * (count - 1 - index)) (drop (4 * index + 4) (held h place))) (held h place)) → Writes h k (place ∷ []) → BecameList h k (λ z. owned z met) (count - 1) place (take index row ++ drop (index + 1) row)
+  pub closed-up : k place ≡ Some (splice (4 * index) (take (4 * (count - 1 - index)) (drop (4 * index + 4) (held h place))) (held h place)) →
+      Writes h k (place ∷ []) → BecameList h k (λ z. owned z met) (count - 1) place (take index row ++ drop (index + 1) row)
   closed-up w s =
       let c : List ℕ = held h place in
       let n : ℕ = count - 1 - index in

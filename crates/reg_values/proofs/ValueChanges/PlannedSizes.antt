@@ -25,7 +25,8 @@ sized-none count size base =
     let m : count - 0 ≡ count = omega arith in
     record { is = ap (λ s. base ++ segment_sizes (count - 0) s) n ∙ ap (λ k. base ++ segment_sizes k size) m }
 
-pub sized-more : (count size i n : ℕ) (base done : List ℕ) → i < count → n ≡ cell_size (min segment_size (size - segment_size * i)) → Sized count size i base done → Sized count size (i + 1) base (done ++ n ∷ [])
+pub sized-more : (count size i n : ℕ) (base done : List ℕ) → i < count → n ≡ cell_size (min segment_size (size - segment_size * i)) →
+    Sized count size i base done → Sized count size (i + 1) base (done ++ n ∷ [])
 sized-more count size i n base done l e s =
     let m : count - i ≡ suc (count - suc i) = omega arith in
     let left : ℕ = size - segment_size * i in
@@ -66,7 +67,9 @@ pub added_sizes : (a b c d : List ℕ) (n : ℕ) → b ≡ (a ++ n ∷ []) ++ c 
 added_sizes a b c d n e z = ap (λ b. b ++ d) e ∙ ap (λ a. ((a ++ n ∷ []) ++ c) ++ d) z
 
 module _ (heap : Heap) (count place : ℕ) (name : List ℕ) (size : ℕ) (members : List Member) (met : List Found) (e : members_at count place heap ≡ Some (members, met)) where
-  pub sizes-some : (index : ℕ) (old : KeyValueRecord) → Some index ≡ place_named name members → value_record_at heap (offset_in (held heap place) index) ≡ Some old → cond (stays heap old.fields size) [] (data_sizes size) ≡ set_sizes heap count place name size
+  pub sizes-some : (index : ℕ) (old : KeyValueRecord) → Some index ≡ place_named name members →
+      value_record_at heap (offset_in (held heap place) index) ≡ Some old →
+      cond (stays heap old.fields size) [] (data_sizes size) ≡ set_sizes heap count place name size
   unfolding set_sizes
   sizes-some index old p r =
       sym (ap (λ o. sizes_by heap count place (length name) size (option_and_then (λ (read : List Member × List Found). place_named name read.0) o)) e
@@ -78,9 +81,11 @@ module _ (heap : Heap) (count place : ℕ) (name : List ℕ) (size : ℕ) (membe
       sym (ap (λ o. sizes_by heap count place (length name) size (option_and_then (λ (read : List Member × List Found). place_named name read.0) o)) e
       ∙ ap (sizes_by heap count place (length name) size) (sym p))
 
-pub sizes-there : (heap : Heap) (count place : ℕ) (name : List ℕ) (size : ℕ) (members : List Member) (met : List Found) (index cell : ℕ) → members_at count place heap ≡ Some (members, met) → Some index ≡ place_named name members → cell ≡ offset_in (held heap place) index
+pub sizes-there : (heap : Heap) (count place : ℕ) (name : List ℕ) (size : ℕ) (members : List Member) (met : List Found) (index cell : ℕ) →
+    members_at count place heap ≡ Some (members, met) → Some index ≡ place_named name members → cell ≡ offset_in (held heap place) index
     → new_data_sizes heap size (value_record_at heap cell) ≡ set_sizes heap count place name size
 unfolding set_sizes
 sizes-there heap count place name size members met index cell e p c =
     ap (λ o. new_data_sizes heap size (value_record_at heap o)) c
-    ∙ sym (ap (λ o. sizes_by heap count place (length name) size (option_and_then (λ (read : List Member × List Found). place_named name read.0) o)) e ∙ ap (sizes_by heap count place (length name) size) (sym p))
+    ∙ sym (ap (λ o. sizes_by heap count place (length name) size (option_and_then (λ (read : List Member × List Found). place_named name read.0) o))
+    e ∙ ap (sizes_by heap count place (length name) size) (sym p))

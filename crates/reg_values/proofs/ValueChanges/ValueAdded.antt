@@ -23,8 +23,10 @@ use Rattle.reg_values.proofs.ValueFreeing.SwapChains.{owned-append, swaps-then, 
 use Rattle.reg_values.proofs.ValueListing.ValueListFrame.{IsOpened, opened, AreRead, values-join, values-one, values-kept, closed, closed-written, list-kept, list-open}
 use Rattle.reg_values.proofs.ValueListing.NamedValues.{new-apart, pairs-push}
 
-module _ (h0 h1 h2 : Heap) (count place : ℕ) (members : List Member) (met : List Found) (e : members_at count place h0 ≡ Some (members, met)) (once : (z : ℕ) → owned z met ≤ allocated h0 z) (w : AreWritten h0 count place members)
-    (all spare cells : List ℕ) (cell : ℕ) (parts : (z : ℕ) → times z all ≡ times z (cell ∷ cells) + times z spare) (new : Swaps h0 h1 (λ z. 0) (λ z. times z all)) (f : Fills h1 h2 (cell ∷ cells)) where
+module _ (h0 h1 h2 : Heap) (count place : ℕ) (members : List Member) (met : List Found) (e : members_at count place h0 ≡ Some (members, met))
+    (once : (z : ℕ) → owned z met ≤ allocated h0 z) (w : AreWritten h0 count place members)
+    (all spare cells : List ℕ) (cell : ℕ) (parts : (z : ℕ) → times z all ≡ times z (cell ∷ cells) + times z spare)
+    (new : Swaps h0 h1 (λ z. 0) (λ z. times z all)) (f : Fills h1 h2 (cell ∷ cells)) where
   pub was : IsOpened h0 count place members met
   was = opened h0 count place members met e w.each
 
@@ -49,7 +51,8 @@ module _ (h0 h1 h2 : Heap) (count place : ℕ) (members : List Member) (met : Li
   pub beside2 : OwnsBeside (list_at count place) h2 spare
   beside2 = record { result = was.row; met = was.list_met; reads = list2; once = λ z. (let t = there z in omega (arith, t)) }
 
-  module _ (h3 : Heap) (count3 place3 : ℕ) (t : BecameList h2 h3 (λ z. owned z was.list_met + times z spare) count3 place3 (was.row ++ cell ∷ [])) (m : Member) (v : HoldsValue h2 cell m (cell ∷ cells)) where
+  module _ (h3 : Heap) (count3 place3 : ℕ) (t : BecameList h2 h3 (λ z. owned z was.list_met + times z spare) count3 place3 (was.row ++ cell ∷ []))
+      (m : Member) (v : HoldsValue h2 cell m (cell ∷ cells)) where
     values3 : AreRead h3 (was.row ++ cell ∷ []) (members ++ m ∷ []) (was.value_met ++ v.met)
     values3 =
         let a1 = values-kept h0 h1 _ _ new _ _ _ (λ z. let s = split z in let o = once z in omega (arith, s, o)) was.values in
@@ -70,7 +73,8 @@ module _ (h0 h1 h2 : Heap) (count place : ℕ) (members : List Member) (met : Li
               (swaps-then h1 h2 h3 T T (λ z. owned z (t.cells ++ (was.value_met ++ v.met)))
               (writes-in h1 h2 (cell ∷ cells) T f.writes (λ z. let p = parts z in omega (arith, p)))
               (swaps-with h2 h3 _ _ (λ z. owned z was.value_met + times z (cell ∷ cells)) T (λ z. owned z (t.cells ++ (was.value_met ++ v.met))) t.swaps
-              (λ z. let s = split z in let p = parts z in omega (arith, s, p)) (λ z. let o = v.owns z in omega (arith, o, owned-append z t.cells (was.value_met ++ v.met), owned-append z was.value_met v.met))));
+              (λ z. let s = split z in let p = parts z in omega (arith, s, p)) (λ z. let o = v.owns z in
+              omega (arith, o, owned-append z t.cells (was.value_met ++ v.met), owned-append z was.value_met v.met))));
           written = record {
             few = omega (arith, less, few);
             none = λ z. absurd (omega (arith, less, z));
@@ -81,7 +85,8 @@ module _ (h0 h1 h2 : Heap) (count place : ℕ) (members : List Member) (met : Li
           };
         }
 
-    pub add-makes : (sizes : List ℕ) → AreNew h0 h1 all sizes → AreSizes sizes → KeepsSizes h2 h3 → 0 < count3 → ((z : ℕ) → times z (place3 ∷ []) ≤ owned z was.list_met + times z spare) → ((z : ℕ) → times z spare ≤ times z (place3 ∷ [])) → Makes h0 h3 sizes
+    pub add-makes : (sizes : List ℕ) → AreNew h0 h1 all sizes → AreSizes sizes → KeepsSizes h2 h3 → 0 < count3 →
+        ((z : ℕ) → times z (place3 ∷ []) ≤ owned z was.list_met + times z spare) → ((z : ℕ) → times z spare ≤ times z (place3 ∷ [])) → Makes h0 h3 sizes
     add-makes sizes a s k some less more =
         let r = list-open h3 count3 place3 _ t.cells t.reads some in
         let came : (z : ℕ) → owned z t.cells ≡ times z (place3 ∷ []) = λ z. ap (owned z) r.met_is in
@@ -150,7 +155,8 @@ unfolding list_sizes
 full-sizes h count place name size r = ap (λ b. cell_size (20 + name) ∷ (cond b [] (cell_size (4 * count + 4) ∷ []) ++ data_sizes size)) r
 
 -- the list's own cell has room
-pub list-space : (h0 h1 h2 : Heap) (count place : ℕ) (cells more : List ℕ) → has_room h0 count place ≡ true → IsSome (h0 place) → Swaps h0 h1 (λ z. 0) (λ z. times z more) → Fills h1 h2 cells → HasRoom h2 place (4 * count + 4)
+pub list-space : (h0 h1 h2 : Heap) (count place : ℕ) (cells more : List ℕ) → has_room h0 count place ≡ true → IsSome (h0 place) →
+    Swaps h0 h1 (λ z. 0) (λ z. times z more) → Fills h1 h2 cells → HasRoom h2 place (4 * count + 4)
 list-space h0 h1 h2 count place cells more r s n f =
     let b = and_parts (not (count == 0)) (nat_le (4 * count + 4) (length (held h0 place))) r in
     let l : 4 * count + 4 ≤ length (held h0 place) = leb-true _ _ b.1 in

@@ -1,5 +1,6 @@
 -- A list with one offset more.
-use Rattle.std.proofs.Common.{◌≡◌, ◌≢◌, ℕ, ◌+◌, ◌*◌, ◌<◌, ◌≤◌, ◌==◌, cond, Option, Some, IsSome, List, [], ◌∷◌, ◌++◌, length, take, drop, get_or, refl, sym, ap, ◌∙◌, subst, arith, length-take, length-drop}
+use Rattle.std.proofs.Common.{◌≡◌, ◌≢◌, ℕ, ◌+◌, ◌*◌, ◌<◌, ◌≤◌, ◌==◌, cond, Option, Some, IsSome, List, [], ◌∷◌, ◌++◌, length, take, drop, get_or, refl, sym, ap, ◌∙◌, subst, arith}
+use Rattle.std.proofs.Common.{length-take, length-drop}
 use Rattle.std.proofs.Common.{unwrap_or}
 use Rattle.std.proofs.lemmas.Option.{same_Some}
 use Rattle.reg_heap.specs.ByteWords.{word, splice}
@@ -58,7 +59,8 @@ module _ (h k : Heap) (count place cell : ℕ) (fills : Fills h k (place ∷ [])
       }
 
   -- the first offset of all
-  pub started : (old : ℕ) (row : List ℕ) (met : List Found) → count ≡ 0 → list_at 0 old h ≡ Some (row, met) → BecameList h k (λ z. owned z met + times z (place ∷ [])) (count + 1) place (row ++ cell ∷ [])
+  pub started : (old : ℕ) (row : List ℕ) (met : List Found) → count ≡ 0 → list_at 0 old h ≡ Some (row, met) →
+      BecameList h k (λ z. owned z met + times z (place ∷ [])) (count + 1) place (row ++ cell ∷ [])
   unfolding offsets_at
   started old row met z e =
       let p : ◌≡◌ {A = List ℕ × List Found} ([], []) (row, met) = same_Some _ _ e in
@@ -85,9 +87,11 @@ copied c d n lc ld j l =
     let long : length piece ≡ 4 * n = omega (arith, length-take (4 * n) (drop 0 c), length-drop 0 c, lc) in
     word-same (4 * j) (4 * j) c (splice 0 piece d) (λ k b.
     let e : 4 * j + k ≡ 0 + (4 * j + k) = omega arith in
-    ap (λ n. get_or (splice 0 piece d) n 0) e ∙ (get_or-within 0 (4 * j + k) piece d (omega (arith, long, ld)) (omega (arith, long, l, b)) ∙ (get_or-take-drop 0 (4 * n) (4 * j + k) c (omega (arith, l, b)) ∙ ap (λ n. get_or c n 0) (sym e))))
+    ap (λ n. get_or (splice 0 piece d) n 0) e ∙ (get_or-within 0 (4 * j + k) piece d (omega (arith, long, ld)) (omega (arith, long, l, b)) ∙
+    (get_or-take-drop 0 (4 * n) (4 * j + k) c (omega (arith, l, b)) ∙ ap (λ n. get_or c n 0) (sym e))))
 
-module _ (h0 h1 h2 h3 : Heap) (count old place cell : ℕ) (some : 0 < count) (row : List ℕ) (met : List Found) (e : list_at count old h0 ≡ Some (row, met)) (once : (z : ℕ) → owned z met + times z (place ∷ []) ≤ allocated h0 z)
+module _ (h0 h1 h2 h3 : Heap) (count old place cell : ℕ) (some : 0 < count) (row : List ℕ) (met : List Found)
+    (e : list_at count old h0 ≡ Some (row, met)) (once : (z : ℕ) → owned z met + times z (place ∷ []) ≤ allocated h0 z)
     (room : HasRoom h0 place (4 * count + 4)) (f1 : Fills h0 h1 (place ∷ [])) (c1 : h1 place ≡ Some (splice 0 (take (4 * count) (drop 0 (held h0 old))) (held h0 place)))
     (f2 : Fills h1 h2 (place ∷ [])) (here : offset_in (held h2 place) count ≡ cell) (others : (other : ℕ) → other ≢ count → offset_in (held h2 place) other ≡ offset_in (held h1 place) other)
     (g : GivesUp h2 h3 (old ∷ [])) where
@@ -106,24 +110,28 @@ module _ (h0 h1 h2 h3 : Heap) (count old place cell : ℕ) (some : 0 < count) (r
       let enough = room.enough in
       offsets-same count 0 0 (held h0 old) (held h1 place) (λ j l. same j l (copied (held h0 old) (held h0 place) count long (omega (arith, enough)) j l)) ∙ sym list.is
     where
-      same : (j : ℕ) → j < count → offset_in (splice 0 (take (4 * count) (drop 0 (held h0 old))) (held h0 place)) j ≡ offset_in (held h0 old) j → word (held h1 place) (0 + 4 * j) ≡ word (held h0 old) (0 + 4 * j)
+      same : (j : ℕ) → j < count → offset_in (splice 0 (take (4 * count) (drop 0 (held h0 old))) (held h0 place)) j ≡ offset_in (held h0 old) j →
+          word (held h1 place) (0 + 4 * j) ≡ word (held h0 old) (0 + 4 * j)
       same j l q = words (held h0 old) (held h1 place) j (ap (λ c. offset_in c j) (held-is h1 place _ c1) ∙ q)
 
   pub moved : BecameList h0 h3 (λ z. owned z met + times z (place ∷ [])) (count + 1) place (row ++ cell ∷ [])
   moved =
-      let reads2 = pushed-reads h1 h2 count place cell f2 (fills-room h0 h1 (place ∷ []) place _ f1 room) here others ∙ ap (λ xs. Some (xs ++ cell ∷ [], record { kind = ValueList; offset = place } ∷ [])) row1 in
+      let reads2 = pushed-reads h1 h2 count place cell f2 (fills-room h0 h1 (place ∷ []) place _ f1 room) here others ∙
+      ap (λ xs. Some (xs ++ cell ∷ [], record { kind = ValueList; offset = place } ∷ [])) row1 in
       record {
         cells = record { kind = ValueList; offset = place } ∷ [];
         reads = list-kept (count + 1) place h2 h3 _ _ _ _ g reads2 (λ z. let o = once z in let m = met-times z in let c = writes02.count z in omega (arith, o, m, c));
         swaps = swaps-then h0 h2 h3 (λ z. owned z met + times z (place ∷ [])) (λ z. owned z met + times z (place ∷ [])) (λ z. times z (place ∷ []))
             (writes-in h0 h2 (place ∷ []) (λ z. owned z met + times z (place ∷ [])) writes02 (λ z. omega arith))
-            (swaps-with h2 h3 _ _ (λ z. times z (place ∷ [])) (λ z. owned z met + times z (place ∷ [])) (λ z. times z (place ∷ [])) g (λ z. let m = met-times z in omega (arith, m)) (λ z. omega arith));
+            (swaps-with h2 h3 _ _ (λ z. times z (place ∷ [])) (λ z. owned z met + times z (place ∷ [])) (λ z. times z (place ∷ [])) g
+            (λ z. let m = met-times z in omega (arith, m)) (λ z. omega arith));
       }
 
 pub keeps-three : (h0 h1 h2 h3 : Heap) (cells : List ℕ) (f : ℕ → ℕ) → Fills h0 h1 cells → Fills h1 h2 cells → Swaps h2 h3 f (λ z. 0) → KeepsSizes h0 h3
 keeps-three h0 h1 h2 h3 cells f f1 f2 g = λ z s. gives-keeps h2 h3 f g z s ∙ (f2.sizes z ∙ f1.sizes z)
 
-pub old-gone : (h0 h1 h2 : Heap) (count old place : ℕ) → 0 < count → (row : List ℕ) (met : List Found) → list_at count old h0 ≡ Some (row, met) → ((z : ℕ) → owned z met + times z (place ∷ []) ≤ allocated h0 z) → Fills h0 h1 (place ∷ []) → Fills h1 h2 (place ∷ []) → IsSome (h2 old)
+pub old-gone : (h0 h1 h2 : Heap) (count old place : ℕ) → 0 < count → (row : List ℕ) (met : List Found) → list_at count old h0 ≡ Some (row, met) →
+    ((z : ℕ) → owned z met + times z (place ∷ []) ≤ allocated h0 z) → Fills h0 h1 (place ∷ []) → Fills h1 h2 (place ∷ []) → IsSome (h2 old)
 old-gone h0 h1 h2 count old place some row met e once f1 f2 =
     let m = ap (owned old) (list-open h0 count old row met e some).met_is in
     let o = once old in

@@ -47,7 +47,8 @@ pub record IsAt (heap : Heap) (count place : ℕ) (members : List Member) (met :
   pub is : members ≡ front ++ first.head ∷ first.tail
   pub owned_are : (z : ℕ) → owned z met ≡ owned z list_met + (owned z front_met + (owned z first.head_met + owned z first.tail_met))
 
-pub at-index : (heap : Heap) (count place : ℕ) (members : List Member) (met : List Found) (index : ℕ) → members_at count place heap ≡ Some (members, met) → AreWritten heap count place members → index < count → IsAt heap count place members met index
+pub at-index : (heap : Heap) (count place : ℕ) (members : List Member) (met : List Found) (index : ℕ) →
+    members_at count place heap ≡ Some (members, met) → AreWritten heap count place members → index < count → IsAt heap count place members met index
 at-index heap count place members met index e w l =
     let o = opened heap count place members met e w.each in
     let row_is = list-row heap count place o.row o.list_met o.list_is in
@@ -123,9 +124,13 @@ module _ (h : Heap) (count place : ℕ) (members : List Member) (met : List Foun
           subst (Became h h2 met count1 place1) (sym left) (record {
             cells = t.cells ++ (a.front_met ++ a.first.tail_met);
             reads = closed h2 count1 place1 _ _ t.cells _ list2 values2;
-            swaps = swaps-then h h1 h2 (λ z. owned z met) (λ z. owned z t.cells + (owned z a.front_met + (owned z a.first.head_met + owned z a.first.tail_met))) (λ z. owned z (t.cells ++ (a.front_met ++ a.first.tail_met)))
+            swaps = swaps-then h h1 h2 (λ z. owned z met)
+                (λ z. owned z t.cells + (owned z a.front_met + (owned z a.first.head_met + owned z a.first.tail_met)))
+                (λ z. owned z (t.cells ++ (a.front_met ++ a.first.tail_met)))
                 (swaps-with h h1 _ _ (λ z. owned z a.front_met + (owned z a.first.head_met + owned z a.first.tail_met)) _ _ t.swaps (λ z. a.owned_are z) (λ z. refl))
-                (swaps-with h1 h2 _ _ (λ z. owned z (t.cells ++ (a.front_met ++ a.first.tail_met))) _ _ gone (λ z. omega (arith, owned-append z t.cells (a.front_met ++ a.first.tail_met), owned-append z a.front_met a.first.tail_met)) (λ z. omega arith));
+                (swaps-with h1 h2 _ _ (λ z. owned z (t.cells ++ (a.front_met ++ a.first.tail_met))) _ _ gone
+                (λ z. omega (arith, owned-append z t.cells (a.front_met ++ a.first.tail_met), owned-append z a.front_met a.first.tail_met))
+                (λ z. omega arith));
             written = record {
               few = omega (arith, few, less);
               none = none;

@@ -1,5 +1,6 @@
 -- A value with other data.
-use Rattle.std.proofs.Common.{◌≡◌, ℕ, ◌+◌, ◌<◌, ◌≤◌, ◌==◌, ◌&&◌, nat_le, nat_lt, cond, Bool, true, not, Option, Some, IsSome, List, [], ◌∷◌, length, is_some, refl, sym, ap, ◌∙◌, subst, arith, unwrap_or}
+use Rattle.std.proofs.Common.{◌≡◌, ℕ, ◌+◌, ◌<◌, ◌≤◌, ◌==◌, ◌&&◌, nat_le, nat_lt, cond, Bool, true, not, Option, Some, IsSome, List, [], ◌∷◌, length, is_some, refl, sym, ap, ◌∙◌, subst}
+use Rattle.std.proofs.Common.{arith, unwrap_or}
 use Rattle.std.specs.Prelude.{bit_and}
 use Rattle.std.proofs.lemmas.Option.{same_Some}
 use Rattle.std.proofs.lemmas.Bool.{and_parts, leb-true, eqb-true, ltb-true}
@@ -73,9 +74,11 @@ abbrev pub refilled : ValueFields → List ℕ → ℕ → ℕ → ℕ → KeyVa
 refilled old name size place kind = record { fields = record { size = size; place = place; kind = kind; flags = old.flags }; name = name }
 
 -- the record after a change of its data
-module _ (h k : Heap) (cell : ℕ) (w : IsWrittenValue h cell) (old : ValueFields) (name : List ℕ) (r : value_record_at h cell ≡ Some (record { fields = old; name = name })) (size place kind : ℕ) (bytes cells : List ℕ)
+module _ (h k : Heap) (cell : ℕ) (w : IsWrittenValue h cell) (old : ValueFields) (name : List ℕ)
+    (r : value_record_at h cell ≡ Some (record { fields = old; name = name })) (size place kind : ℕ) (bytes cells : List ℕ)
     (d : HoldsData k size place bytes cells) (s : value_record_at k cell ≡ Some (refilled old name size place kind)) (p : IsPlainValue (held k cell)) where
-  pub refilled-reads : (m : Member) (met : List Found) → member_at cell h ≡ Some (m, met) → member_at cell k ≡ Some (record { name = m.name; kind = kind; bytes = bytes }, record { kind = Value; offset = cell } ∷ d.met)
+  pub refilled-reads : (m : Member) (met : List Found) → member_at cell h ≡ Some (m, met) →
+      member_at cell k ≡ Some (record { name = m.name; kind = kind; bytes = bytes }, record { kind = Value; offset = cell } ∷ d.met)
   refilled-reads m met e =
       value-reads k cell (refilled old name size place kind) bytes d.met s p (flags-are h cell w old name r) d.reads (d.written kind old.flags)
       ∙ ap (λ n. Some (record { name = n; kind = kind; bytes = bytes }, record { kind = Value; offset = cell } ∷ d.met)) (sym (told-as h cell w old name r m met e))
@@ -85,7 +88,8 @@ module _ (h k : Heap) (cell : ℕ) (w : IsWrittenValue h cell) (old : ValueField
 
 -- ---- in place
 
-module _ (h0 h1 h2 : Heap) (cell : ℕ) (own : Owns (member_at cell) h0) (w : IsWrittenValue h0 cell) (old : ValueFields) (name : List ℕ) (r : value_record_at h0 cell ≡ Some (record { fields = old; name = name })) (bytes : List ℕ) (st : stays h0 old (length bytes) ≡ true) where
+module _ (h0 h1 h2 : Heap) (cell : ℕ) (own : Owns (member_at cell) h0) (w : IsWrittenValue h0 cell) (old : ValueFields) (name : List ℕ)
+    (r : value_record_at h0 cell ≡ Some (record { fields = old; name = name })) (bytes : List ℕ) (st : stays h0 old (length bytes) ≡ true) where
   st' : Stays h0 old (length bytes)
   st' = stays-open h0 old (length bytes) st
 
@@ -124,7 +128,8 @@ module _ (h0 h1 h2 : Heap) (cell : ℕ) (own : Owns (member_at cell) h0) (w : Is
 
     module _ (kind : ℕ) (f2 : Fills h1 h2 (cell ∷ [])) (s : value_record_at h2 cell ≡ Some (refilled old name (length bytes) old.place kind)) (p : IsPlainValue (held h2 cell)) where
       d2 : HoldsData h2 (length bytes) old.place bytes (old.place ∷ [])
-      d2 = holds-kept h1 h2 (length bytes) old.place bytes (old.place ∷ []) (λ z l. let a = apart z in f2.writes.same z (omega (arith, a, l)) (omega (arith, a, l))) (one-holds h0 h1 old.place bytes st'.large st'.small place-room written writes)
+      d2 = holds-kept h1 h2 (length bytes) old.place bytes (old.place ∷ []) (λ z l. let a = apart z in
+          f2.writes.same z (omega (arith, a, l)) (omega (arith, a, l))) (one-holds h0 h1 old.place bytes st'.large st'.small place-room written writes)
 
       pub rewritten : (m : Member) (met : List Found) → member_at cell h0 ≡ Some (m, met) → BecameValue h0 h2 (λ z. owned z met) cell (record { name = m.name; kind = kind; bytes = bytes })
       rewritten m met e =
@@ -135,7 +140,8 @@ module _ (h0 h1 h2 : Heap) (cell : ℕ) (own : Owns (member_at cell) h0) (w : Is
             written = refilled-written h0 h2 cell w old name r (length bytes) old.place kind bytes (old.place ∷ []) d2 s p;
             swaps = swaps-then h0 h1 h2 T T (λ z. owned z (record { kind = Value; offset = cell } ∷ d2.met))
                 (writes-in h0 h1 (old.place ∷ []) T f1.writes (λ z. let o = one-met m met e z in omega (arith, o)))
-                (swaps-with h1 h2 _ _ (λ z. times z (old.place ∷ [])) T (λ z. owned z (record { kind = Value; offset = cell } ∷ d2.met)) f2.writes (λ z. let o = one-met m met e z in omega (arith, o)) (λ z. let o = d2.owns z in omega (arith, o)));
+                (swaps-with h1 h2 _ _ (λ z. times z (old.place ∷ [])) T (λ z. owned z (record { kind = Value; offset = cell } ∷ d2.met)) f2.writes
+                (λ z. let o = one-met m met e z in omega (arith, o)) (λ z. let o = d2.owns z in omega (arith, o)));
           }
 
       pub makes-none : Makes h0 h2 []
@@ -143,12 +149,14 @@ module _ (h0 h1 h2 : Heap) (cell : ℕ) (own : Owns (member_at cell) h0) (w : Is
         offsets = [];
         sizes_are = refl;
         fresh = λ z l. absurd (omega arith);
-        only = λ z e t. absurd (let a = f1.writes.count z in let b = f2.writes.count z in let c = there-one h2 z t in let n : allocated h0 z ≡ 0 = ap (λ (o : Option (List ℕ)). cond (is_some o) 1 0) e in omega (arith, a, b, c, n));
+        only = λ z e t. absurd (let a = f1.writes.count z in let b = f2.writes.count z in let c = there-one h2 z t in
+            let n : allocated h0 z ≡ 0 = ap (λ (o : Option (List ℕ)). cond (is_some o) 1 0) e in omega (arith, a, b, c, n));
       }
 
 -- ---- in new cells
 
-module _ (h1 h2 h3 : Heap) (cell : ℕ) (cells : List ℕ) (own : OwnsBeside (member_at cell) h1 cells) (w : IsWrittenValue h1 cell) (old : ValueFields) (name : List ℕ) (r : value_record_at h1 cell ≡ Some (record { fields = old; name = name }))
+module _ (h1 h2 h3 : Heap) (cell : ℕ) (cells : List ℕ) (own : OwnsBeside (member_at cell) h1 cells) (w : IsWrittenValue h1 cell) (old : ValueFields)
+    (name : List ℕ) (r : value_record_at h1 cell ≡ Some (record { fields = old; name = name }))
     (f1 : Fills h1 h2 cells) where
   own-cells : (z : ℕ) → owned z own.met ≡ owned z (member-parts h1 cell own.result own.met own.reads old name r).cells + times z (cell ∷ [])
   own-cells z = member-owned h1 cell own.result own.met own.reads old name r z
@@ -166,11 +174,13 @@ module _ (h1 h2 h3 : Heap) (cell : ℕ) (cells : List ℕ) (own : OwnsBeside (me
   plain-kept2 = subst IsPlainValue (sym (same-held h1 h2 cell cell-kept2)) w.plain
 
   module _ (f2 : Fills h2 h3 (cell ∷ [])) where
-    data-there3 : (all : List ℕ) (dmet : List Found) → data_at old h1 ≡ Some (all, dmet) → ((z : ℕ) → owned z dmet + times z cells + times z (cell ∷ []) ≤ allocated h1 z) → data_at old h3 ≡ Some (all, dmet)
+    data-there3 : (all : List ℕ) (dmet : List Found) → data_at old h1 ≡ Some (all, dmet) →
+        ((z : ℕ) → owned z dmet + times z cells + times z (cell ∷ []) ≤ allocated h1 z) → data_at old h3 ≡ Some (all, dmet)
     data-there3 all dmet e l =
         let i = data-inner h1 (is_inline old.size) (nat_le old.size segment_size) old.size old.place (all, dmet) e in
         let k = data-local (is_inline old.size) (nat_le old.size segment_size) old.size old.place h1 h2 (all, dmet) e (agree-apart h1 h2 _ _ f1.writes dmet i (λ z. let a = l z in omega (arith, a))) in
-        data-local (is_inline old.size) (nat_le old.size segment_size) old.size old.place h2 h3 (all, dmet) k (agree-apart h2 h3 _ _ f2.writes dmet i (λ z. let a = l z in let c = f1.writes.count z in omega (arith, a, c)))
+        data-local (is_inline old.size) (nat_le old.size segment_size) old.size old.place h2 h3 (all, dmet) k
+        (agree-apart h2 h3 _ _ f2.writes dmet i (λ z. let a = l z in let c = f1.writes.count z in omega (arith, a, c)))
 
     room1 : (z : ℕ) → owned z (member-parts h1 cell own.result own.met own.reads old name r).cells + times z cells + times z (cell ∷ []) ≤ allocated h1 z
     room1 z = let o = own.once z in let p = own-cells z in omega (arith, o, p)
@@ -199,9 +209,11 @@ module _ (h1 h2 h3 : Heap) (cell : ℕ) (cells : List ℕ) (own : OwnsBeside (me
         sizes = λ z l. ap (λ (o : Option (List ℕ)). length (unwrap_or o [])) (cells-kept4 z l) ∙ (f2.sizes z ∙ f1.sizes z);
       }
 
-      module _ (size place kind : ℕ) (bytes : List ℕ) (d : HoldsData h2 size place bytes cells) (s : value_record_at h3 cell ≡ Some (refilled old name size place kind)) (p : IsPlainValue (held h3 cell)) where
+      module _ (size place kind : ℕ) (bytes : List ℕ) (d : HoldsData h2 size place bytes cells)
+          (s : value_record_at h3 cell ≡ Some (refilled old name size place kind)) (p : IsPlainValue (held h3 cell)) where
         d4 : HoldsData h4 size place bytes cells
-        d4 = holds-kept h3 h4 size place bytes cells cells-kept4 (holds-kept h2 h3 size place bytes cells (λ z l. let a = room1 z in let b = allocated-le h1 z in f2.writes.same z (omega (arith, a, l, b)) (omega (arith, a, l, b))) d)
+        d4 = holds-kept h3 h4 size place bytes cells cells-kept4 (holds-kept h2 h3 size place bytes cells (λ z l. let a = room1 z in
+            let b = allocated-le h1 z in f2.writes.same z (omega (arith, a, l, b)) (omega (arith, a, l, b))) d)
 
         s4 : value_record_at h4 cell ≡ Some (refilled old name size place kind)
         s4 = value_record_at-same h3 h4 cell cell-kept4 ∙ s
@@ -209,7 +221,8 @@ module _ (h1 h2 h3 : Heap) (cell : ℕ) (cells : List ℕ) (own : OwnsBeside (me
         p4 : IsPlainValue (held h4 cell)
         p4 = subst IsPlainValue (sym (same-held h3 h4 cell cell-kept4)) p
 
-        pub exchanged : (m : Member) (met : List Found) → member_at cell h1 ≡ Some (m, met) → BecameValue h1 h4 (λ z. owned z met + times z cells) cell (record { name = m.name; kind = kind; bytes = bytes })
+        pub exchanged : (m : Member) (met : List Found) → member_at cell h1 ≡ Some (m, met) →
+            BecameValue h1 h4 (λ z. owned z met + times z cells) cell (record { name = m.name; kind = kind; bytes = bytes })
         exchanged m met e =
             let q : (z : ℕ) → owned z own.met ≡ owned z met = λ z. ap (λ (p : Member × List Found). owned z p.1) (same_Some _ _ (sym own.reads ∙ e)) in
             let T : ℕ → ℕ = λ z. owned z met + times z cells in
@@ -220,7 +233,8 @@ module _ (h1 h2 h3 : Heap) (cell : ℕ) (cells : List ℕ) (own : OwnsBeside (me
               written = refilled-written h1 h4 cell w old name r size place kind bytes cells d4 s4 p4;
               swaps = swaps-then h1 h2 h4 T T last (writes-in h1 h2 cells T f1.writes (λ z. omega arith))
                   (swaps-then h2 h3 h4 T T last (writes-in h2 h3 (cell ∷ []) T f2.writes (λ z. let o = own-cells z in let x = q z in omega (arith, o, x)))
-                  (swaps-with h3 h4 _ _ (λ z. times z (cell ∷ []) + times z cells) T last gone (λ z. let o = own-cells z in let x = q z in omega (arith, o, x)) (λ z. let o = d4.owns z in omega (arith, o))));
+                  (swaps-with h3 h4 _ _ (λ z. times z (cell ∷ []) + times z cells) T last gone (λ z. let o = own-cells z in let x = q z in
+                  omega (arith, o, x)) (λ z. let o = d4.owns z in omega (arith, o))));
             }
 
 -- ---- before that, cells that are new
@@ -245,7 +259,10 @@ module _ (h0 h1 : Heap) (cell : ℕ) (cells sizes : List ℕ) (own : Owns (membe
       let s = there-one h0 cell (record-there h0 cell (is-some _ v r)) in
       value_record_at-same h0 h1 cell (kept-apart h0 h1 _ _ a.come cell (omega (arith, s)) refl) ∙ r
 
-  pub exchanged-new : (h4 : Heap) (m m2 : Member) (met : List Found) → member_at cell h0 ≡ Some (m, met) → ((n : Member) (ns : List Found) → member_at cell h1 ≡ Some (n, ns) → BecameValue h1 h4 (λ z. owned z ns + times z cells) cell (record { name = n.name; kind = m2.kind; bytes = m2.bytes })) → BecameValue h0 h4 (λ z. owned z met) cell (record { name = m.name; kind = m2.kind; bytes = m2.bytes })
+  pub exchanged-new : (h4 : Heap) (m m2 : Member) (met : List Found) → member_at cell h0 ≡ Some (m, met) →
+      ((n : Member) (ns : List Found) → member_at cell h1 ≡ Some (n, ns) →
+      BecameValue h1 h4 (λ z. owned z ns + times z cells) cell (record { name = n.name; kind = m2.kind; bytes = m2.bytes })) →
+      BecameValue h0 h4 (λ z. owned z met) cell (record { name = m.name; kind = m2.kind; bytes = m2.bytes })
   exchanged-new h4 m m2 met e f =
       let once : (z : ℕ) → owned z met ≤ allocated h0 z = λ z. let q = ap (λ (p : Member × List Found). owned z p.1) (same_Some _ _ (sym own.reads ∙ e)) in let o = own.once z in omega (arith, q, o) in
       let b = f m met (member-local cell h0 h1 (m, met) e (met-kept m met e once)) in
@@ -262,11 +279,13 @@ made-new h0 h1 h4 cells sizes size a e k = makes h0 h1 h4 cells (data_sizes size
 
 -- ---- the sizes
 
-pub replace-sizes : (h : Heap) (cell size : ℕ) (v : KeyValueRecord) (b : Bool) → value_record_at h cell ≡ Some v → stays h v.fields size ≡ b → new_data_sizes h size (value_record_at h cell) ≡ cond b [] (data_sizes size)
+pub replace-sizes : (h : Heap) (cell size : ℕ) (v : KeyValueRecord) (b : Bool) → value_record_at h cell ≡ Some v → stays h v.fields size ≡ b →
+    new_data_sizes h size (value_record_at h cell) ≡ cond b [] (data_sizes size)
 replace-sizes h cell size v b r s = ap (new_data_sizes h size) r ∙ ap (λ b. cond b [] (data_sizes size)) s
 
 -- the data's one cell is there
-pub old-there : (h : Heap) (cell : ℕ) (own : Owns (member_at cell) h) (w : IsWrittenValue h cell) (old : ValueFields) (name : List ℕ) → value_record_at h cell ≡ Some (record { fields = old; name = name }) → old.size ≤ 16344 → IsSome (h old.place)
+pub old-there : (h : Heap) (cell : ℕ) (own : Owns (member_at cell) h) (w : IsWrittenValue h cell) (old : ValueFields) (name : List ℕ) →
+    value_record_at h cell ≡ Some (record { fields = old; name = name }) → old.size ≤ 16344 → IsSome (h old.place)
 old-there h cell own w old name r l = data-there h old own.result.bytes _ (member-data h cell own.result own.met own.reads old name r) (data-written h cell w old name r) l
 
 pub new-cells : (h0 h1 : Heap) (os all ss sizes : List ℕ) → AreNew h0 h1 os ss → all ≡ os → ss ≡ sizes → AreNew h0 h1 all sizes

@@ -18,7 +18,8 @@ use Rattle.reg_values.proofs.ValueListing.ValueListFrame.{AreRead, values-join, 
 use Rattle.reg_values.proofs.ValueListing.NamedValues.{Apart, changed, with-at, pairs-changed, named-place}
 use Rattle.reg_values.proofs.ValueChanges.ValueRemoved.{IsAt}
 
-module _ (h : Heap) (count place : ℕ) (members : List Member) (met : List Found) (index : ℕ) (once : (z : ℕ) → owned z met ≤ allocated h z) (w : AreWritten h count place members) (a : IsAt h count place members met index) where
+module _ (h : Heap) (count place : ℕ) (members : List Member) (met : List Found) (index : ℕ) (once : (z : ℕ) → owned z met ≤ allocated h z)
+    (w : AreWritten h count place members) (a : IsAt h count place members met index) where
   pub value-owns : Owns (member_at a.cell) h
   value-owns = record { result = a.first.head; met = a.first.head_met; reads = a.first.reads; once = λ z. (let o = once z in let p = a.owned_are z in omega (arith, o, p)) }
 
@@ -39,7 +40,8 @@ module _ (h : Heap) (count place : ℕ) (members : List Member) (met : List Foun
     set-again name n small =
         let ms = a.is in
         let p : place_named name (a.front ++ a.first.head ∷ a.first.tail) ≡ Some (length a.front) = ap (place_named name) (sym ms) ∙ (n ∙ ap (λ n. Some n) (sym a.as_many)) in
-        let is : values_with name kind bytes members ≡ a.front ++ changed a.first.head kind bytes ∷ a.first.tail = ap (values_with name kind bytes) ms ∙ with-at name kind bytes a.front a.first.head a.first.tail p in
+        let is : values_with name kind bytes members ≡ a.front ++ changed a.first.head kind bytes ∷ a.first.tail =
+        ap (values_with name kind bytes) ms ∙ with-at name kind bytes a.front a.first.head a.first.tail p in
         let names = subst (AllByRecursion (λ (m : Member). is_value_name m.name ≡ true)) ms w.names in
         let sizes = subst (AllByRecursion (λ (m : Member). length m.bytes ≤ 1048576)) ms w.sizes in
         let back_names = all-back _ a.front (a.first.head ∷ a.first.tail) names in
@@ -47,9 +49,15 @@ module _ (h : Heap) (count place : ℕ) (members : List Member) (met : List Foun
         subst (Became h k met count place) (sym is) (record {
           cells = a.list_met ++ (a.front_met ++ (b.cells ++ a.first.tail_met));
           reads = closed k count place _ _ a.list_met _ list-then values-then;
-          swaps = swaps-with h k _ _ (λ z. owned z a.list_met + (owned z a.front_met + owned z a.first.tail_met)) (λ z. owned z met) (λ z. owned z (a.list_met ++ (a.front_met ++ (b.cells ++ a.first.tail_met)))) b.swaps
+          swaps = swaps-with h k _ _ (λ z. owned z a.list_met + (owned z a.front_met + owned z a.first.tail_met)) (λ z. owned z met)
+              (λ z. owned z (a.list_met ++ (a.front_met ++ (b.cells ++ a.first.tail_met)))) b.swaps
               (λ z. let o = a.owned_are z in omega (arith, o))
-              (λ z. omega (arith, owned-append z a.list_met (a.front_met ++ (b.cells ++ a.first.tail_met)), owned-append z a.front_met (b.cells ++ a.first.tail_met), owned-append z b.cells a.first.tail_met));
+              (λ z. omega (
+                arith,
+                owned-append z a.list_met (a.front_met ++ (b.cells ++ a.first.tail_met)),
+                owned-append z a.front_met (b.cells ++ a.first.tail_met),
+                owned-append z b.cells a.first.tail_met,
+              ));
           written = record {
             few = w.few;
             none = w.none;
@@ -61,6 +69,7 @@ module _ (h : Heap) (count place : ℕ) (members : List Member) (met : List Foun
         })
 
 -- room for one more
-pub has-space : (h : Heap) (count place : ℕ) (name : List ℕ) → (count < 16384) ⊎ IsNamed h count place name → ((members : List Member) → (met : List Found) → members_at count place h ≡ Some (members, met) → None ≡ place_named name members) → count < 16384
+pub has-space : (h : Heap) (count place : ℕ) (name : List ℕ) → (count < 16384) ⊎ IsNamed h count place name →
+    ((members : List Member) → (met : List Found) → members_at count place h ≡ Some (members, met) → None ≡ place_named name members) → count < 16384
 has-space h count place name (inl l) f = l
 has-space h count place name (inr n) f = absurd (named-place name n.members n.there (sym (f n.members n.met n.reads)))

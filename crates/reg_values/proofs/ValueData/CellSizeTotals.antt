@@ -1,5 +1,6 @@
 -- The sizes of new cells, one by one and together.
-use Rattle.std.proofs.Common.{◌≡◌, ℕ, zero, suc, ◌+◌, ◌-◌, ◌*◌, ◌%◌, ◌<◌, ◌≤◌, nat_le, min, cond, Bool, true, false, Option, Some, None, List, [], ◌∷◌, ◌++◌, length, map, is_some, get_or, refl, ap, ◌∙◌, arith}
+use Rattle.std.proofs.Common.{◌≡◌, ℕ, zero, suc, ◌+◌, ◌-◌, ◌*◌, ◌%◌, ◌<◌, ◌≤◌, nat_le, min, cond, Bool, true, false, Option, Some, None, List, [], ◌∷◌, ◌++◌, length, map, is_some, get_or}
+use Rattle.std.proofs.Common.{refl, ap, ◌∙◌, arith}
 use Rattle.std.specs.List.{AllByRecursion, list_all}
 use Rattle.std.proofs.lemmas.Bool.{and_parts, leb-true}
 use Rattle.reg_names.specs.Names.{is_value_name, is_value_name_byte}
@@ -102,7 +103,8 @@ times-in [] i l = absurd (omega arith)
 times-in (o ∷ os) zero l = let s = times-same o in omega (arith, s)
 times-in (o ∷ os) (suc i) l = let k = times-in os i (omega arith) in omega (arith, k)
 
-pub makes : (h0 h1 h : Heap) (offsets sizes : List ℕ) → AreNew h0 h1 offsets sizes → AreSizes sizes → ((z : ℕ) → allocated h z ≤ allocated h1 z) → ((z : ℕ) → 0 < times z offsets → length (held h z) ≡ length (held h1 z)) → Makes h0 h sizes
+pub makes : (h0 h1 h : Heap) (offsets sizes : List ℕ) → AreNew h0 h1 offsets sizes → AreSizes sizes → ((z : ℕ) → allocated h z ≤ allocated h1 z) →
+    ((z : ℕ) → 0 < times z offsets → length (held h z) ≡ length (held h1 z)) → Makes h0 h sizes
 makes h0 h1 h offsets sizes a s less same = record {
   offsets = offsets;
   sizes_are = mapped (λ o. length (held h o) + 4) offsets sizes a.as_many (λ i l.
@@ -113,7 +115,8 @@ makes h0 h1 h offsets sizes a s less same = record {
       let eight = sizes-at sizes i s l in
       omega (arith, k, e, eight, length-replicate {A = ℕ} (get_or sizes i 0 - 4) 0));
   fresh = λ z l. none-there (h0 z) (let c = a.come.count z in let b = allocated-le h1 z in omega (arith, c, b, l));
-  only = λ z e s. (let c = a.come.count z in let b = less z in let t = there-one h z s in let n : allocated h0 z ≡ 0 = ap (λ (o : Option (List ℕ)). cond (is_some o) 1 0) e in omega (arith, c, b, t, n));
+  only = λ z e s. (let c = a.come.count z in let b = less z in let t = there-one h z s in
+      let n : allocated h0 z ≡ 0 = ap (λ (o : Option (List ℕ)). cond (is_some o) 1 0) e in omega (arith, c, b, t, n));
 }
 
 pub value-name : (name : List ℕ) → is_value_name name ≡ true → length name ≤ 16383

@@ -1,5 +1,6 @@
 -- The data of a value, in pieces.
-use Rattle.std.proofs.Common.{◌≡◌, ℕ, zero, suc, ◌+◌, ◌-◌, ◌*◌, ◌<◌, ◌≤◌, ◌==◌, nat_le, min, not, cond, Bool, true, false, Some, None, IsSome, List, [], ◌∷◌, ◌++◌, length, drop, take, get_or, refl, sym, ap, ◌∙◌, subst, arith, length-append, length-take, add-one, append_assoc}
+use Rattle.std.proofs.Common.{◌≡◌, ℕ, zero, suc, ◌+◌, ◌-◌, ◌*◌, ◌<◌, ◌≤◌, ◌==◌, nat_le, min, not, cond, Bool, true, false, Some, None, IsSome, List, [], ◌∷◌, ◌++◌, length, drop, take}
+use Rattle.std.proofs.Common.{get_or, refl, sym, ap, ◌∙◌, subst, arith, length-append, length-take, add-one, append_assoc}
 use Rattle.std.specs.List.{concat}
 use Rattle.std.proofs.lemmas.Option.{none-some, same_Some}
 use Rattle.std.proofs.lemmas.Bool.{leb-true, le-leb}
@@ -51,17 +52,23 @@ pieces-none heap bytes zs e =
     (sym (ap (λ (p : List ℕ × List Found). p.0) p), sym (ap (λ (p : List ℕ × List Found). p.1) p))
 
 -- the pieces together, and those that are put together
-together-open : (heap : Heap) (names : List Named) (bytes : List ℕ) (zs : List Found) → pieces_at names heap ≡ Some (bytes, zs) → (pieces : List (List ℕ)) × (each bytes_at names heap ≡ Some (pieces, zs)) × (bytes ≡ concat pieces)
+together-open : (heap : Heap) (names : List Named) (bytes : List ℕ) (zs : List Found) → pieces_at names heap ≡ Some (bytes, zs) →
+    (pieces : List (List ℕ)) × (each bytes_at names heap ≡ Some (pieces, zs)) × (bytes ≡ concat pieces)
 together-open heap names bytes zs e =
     let o = bind-open (each bytes_at names) (λ pieces. give (concat pieces)) heap (bytes, zs) e in
-    let p : ◌≡◌ {A = List ℕ × List Found} (concat o.first, []) o.then = same_Some _ _ o.then_is in
-    (o.first, o.first_is ∙ ap (λ zs. Some (o.first, zs)) (sym (append-nil o.before) ∙ (ap (λ (p : List ℕ × List Found). o.before ++ p.1) p ∙ o.all)), sym (ap (λ (p : List ℕ × List Found). p.0) p ∙ o.result))
+    let p : ◌≡◌ {A = List ℕ × List Found} (concat o.first, []) o.then = same_Some _ _ o.then_is in (
+      o.first,
+      o.first_is ∙ ap (λ zs. Some (o.first, zs)) (sym (append-nil o.before) ∙ (ap (λ (p : List ℕ × List Found). o.before ++ p.1) p ∙ o.all)),
+      sym (ap (λ (p : List ℕ × List Found). p.0) p ∙ o.result),
+    )
 
 together-made : (heap : Heap) (names : List Named) (pieces : List (List ℕ)) (zs : List Found) → each bytes_at names heap ≡ Some (pieces, zs) → pieces_at names heap ≡ Some (concat pieces, zs)
 together-made heap names pieces zs e =
     bind-made (each bytes_at names) (λ pieces. give (concat pieces)) heap pieces zs (concat pieces, []) e refl ∙ ap (λ zs. Some (concat pieces, zs)) (append-nil zs)
 
-bytes-open : (heap : Heap) (n : Named) (bytes : List ℕ) (zs : List Found) → bytes_at n heap ≡ Some (bytes, zs) → (content : List ℕ) × (heap n.offset ≡ Some content) × (n.size ≤ length content) × (bytes ≡ take n.size content) × (zs ≡ record { kind = n.kind; offset = n.offset } ∷ [])
+bytes-open : (heap : Heap) (n : Named) (bytes : List ℕ) (zs : List Found) → bytes_at n heap ≡ Some (bytes, zs) →
+    (content : List ℕ) × (heap n.offset ≡ Some content) × (n.size ≤ length content) × (bytes ≡ take n.size content) ×
+    (zs ≡ record { kind = n.kind; offset = n.offset } ∷ [])
 bytes-open heap n bytes zs e =
     let o = bind-open (cell n.kind n.offset) (λ content. guard (nat_le n.size (length content)) (give (take n.size content))) heap (bytes, zs) e in
     let c = cell-open n.kind n.offset heap o.first o.before o.first_is in
@@ -69,9 +76,11 @@ bytes-open heap n bytes zs e =
     let p : ◌≡◌ {A = List ℕ × List Found} (take n.size o.first, []) o.then = same_Some _ _ g.1 in
     (o.first, c.0, leb-true _ _ g.0, sym (ap (λ (p : List ℕ × List Found). p.0) p ∙ o.result), sym o.all ∙ (ap (λ (p : List ℕ × List Found). o.before ++ p.1) (sym p) ∙ (append-nil o.before ∙ c.1)))
 
-bytes-made : (heap : Heap) (n : Named) (content : List ℕ) → heap n.offset ≡ Some content → n.size ≤ length content → bytes_at n heap ≡ Some (take n.size content, record { kind = n.kind; offset = n.offset } ∷ [])
+bytes-made : (heap : Heap) (n : Named) (content : List ℕ) → heap n.offset ≡ Some content → n.size ≤ length content →
+    bytes_at n heap ≡ Some (take n.size content, record { kind = n.kind; offset = n.offset } ∷ [])
 bytes-made heap n content e l =
-    bind-made (cell n.kind n.offset) (λ content. guard (nat_le n.size (length content)) (give (take n.size content))) heap content _ (take n.size content, []) (cell-made n.kind n.offset heap content e)
+    bind-made (cell n.kind n.offset) (λ content. guard (nat_le n.size (length content)) (give (take n.size content))) heap content _
+    (take n.size content, []) (cell-made n.kind n.offset heap content e)
     (guard-made (nat_le n.size (length content)) (give (take n.size content)) heap (take n.size content, []) (le-leb _ _ l) refl)
 
 pub piece-open : (heap : Heap) (n : Named) (names : List Named) (bytes : List ℕ) (zs : List Found) → pieces_at (n ∷ names) heap ≡ Some (bytes, zs) → IsPiece heap n names bytes zs
@@ -90,12 +99,14 @@ piece-open heap n names bytes zs e =
       met = sym o.all ∙ ap (λ xs. xs ++ o.tail_cells) b.4;
     }
 
-pub piece-made : (heap : Heap) (n : Named) (names : List Named) (content rest : List ℕ) (cells : List Found) → heap n.offset ≡ Some content → n.size ≤ length content → pieces_at names heap ≡ Some (rest, cells)
+pub piece-made : (heap : Heap) (n : Named) (names : List Named) (content rest : List ℕ) (cells : List Found) → heap n.offset ≡ Some content →
+    n.size ≤ length content → pieces_at names heap ≡ Some (rest, cells)
     → pieces_at (n ∷ names) heap ≡ Some (take n.size content ++ rest, record { kind = n.kind; offset = n.offset } ∷ cells)
 piece-made heap n names content rest cells e l r =
     let t = together-open heap names rest cells r in
     let one : List Found = record { kind = n.kind; offset = n.offset } ∷ [] in
-    let more : ◌>>=◌ (each bytes_at names) (λ ys. give (take n.size content ∷ ys)) heap ≡ Some (take n.size content ∷ t.0, cells ++ []) = bind-made (each bytes_at names) (λ ys. give (take n.size content ∷ ys)) heap t.0 cells (take n.size content ∷ t.0, []) t.1 refl in
+    let more : ◌>>=◌ (each bytes_at names) (λ ys. give (take n.size content ∷ ys)) heap ≡ Some (take n.size content ∷ t.0, cells ++ []) =
+    bind-made (each bytes_at names) (λ ys. give (take n.size content ∷ ys)) heap t.0 cells (take n.size content ∷ t.0, []) t.1 refl in
     let all : each bytes_at (n ∷ names) heap ≡ Some (take n.size content ∷ t.0, one ++ (cells ++ [])) =
     bind-made (bytes_at n) (λ y. each bytes_at names >>= (λ ys. give (y ∷ ys))) heap (take n.size content) one (take n.size content ∷ t.0, cells ++ []) (bytes-made heap n content e l) more in
     together-made heap (n ∷ names) (take n.size content ∷ t.0) (one ++ (cells ++ [])) all
@@ -163,21 +174,29 @@ big-open heap size offset bytes zs e =
       long = subst (λ (c : List ℕ). 4 * segments_for size ≤ length c) (sym h) long;
       cells = b.then.1;
       pieces = ap (λ row. pieces_at (segments size row) heap) (sym row) ∙ (b.then_is ∙ ap (λ x. Some (x, b.then.1)) bytes_are);
-      met = sym o.all ∙ (ap (λ xs. xs ++ o.then.1) c.1 ∙ ap (λ xs. record { kind = BigHead; offset = offset } ∷ xs) (sym t.all ∙ (ap (λ xs. xs ++ t.then.1) d.1 ∙ (sym b.all ∙ ap (λ xs. xs ++ b.then.1) r.met))));
+      met = sym o.all ∙ (ap (λ xs. xs ++ o.then.1) c.1 ∙ ap (λ xs. record { kind = BigHead; offset = offset } ∷ xs) (sym t.all ∙
+          (ap (λ xs. xs ++ t.then.1) d.1 ∙ (sym b.all ∙ ap (λ xs. xs ++ b.then.1) r.met))));
     }
 
-pub big-made : (heap : Heap) (size offset : ℕ) (big : BigData) (bytes : List ℕ) (cells : List Found) → IsSome (heap offset) → db_of (held heap offset) ≡ Some big → segments_for size ≤ big.count → IsSome (heap big.list) → 4 * segments_for size ≤ length (held heap big.list)
+pub big-made : (heap : Heap) (size offset : ℕ) (big : BigData) (bytes : List ℕ) (cells : List Found) → IsSome (heap offset) →
+    db_of (held heap offset) ≡ Some big → segments_for size ≤ big.count → IsSome (heap big.list) → 4 * segments_for size ≤ length (held heap big.list)
     → pieces_at (segments size (offsets_at (segments_for size) 0 (held heap big.list))) heap ≡ Some (bytes, cells)
     → big_at size offset heap ≡ Some (bytes, record { kind = BigHead; offset = offset } ∷ record { kind = BigList; offset = big.list } ∷ cells)
 big-made heap size offset big bytes cells h d n l m p =
     let row : List ℕ = offsets_at (segments_for size) 0 (held heap big.list) in
     let row_is : row_at BigList (segments_for size) big.list heap ≡ Some (row, record { kind = BigList; offset = big.list } ∷ []) =
-    bind-made (cell BigList big.list) (λ content. given (row_in (segments_for size) content)) heap (held heap big.list) _ (row, []) (cell-made BigList big.list heap _ (here-held heap big.list l)) (given-made _ row heap (row-in (segments_for size) (held heap big.list) m)) in
-    let inner : big_in size big heap ≡ Some (bytes, record { kind = BigList; offset = big.list } ∷ cells) = bind-made (row_at BigList (segments_for size) big.list) (λ row. pieces_at (segments size row)) heap row _ (bytes, cells) row_is p in
+    bind-made (cell BigList big.list) (λ content. given (row_in (segments_for size) content)) heap (held heap big.list) _ (row, [])
+    (cell-made BigList big.list heap _ (here-held heap big.list l)) (given-made _ row heap (row-in (segments_for size) (held heap big.list) m)) in
+    let inner : big_in size big heap ≡ Some (bytes, record { kind = BigList; offset = big.list } ∷ cells) =
+    bind-made (row_at BigList (segments_for size) big.list) (λ row. pieces_at (segments size row)) heap row _ (bytes, cells) row_is p in
     let guarded = guard-made (nat_le (segments_for size) big.count) (big_in size big) heap _ (le-leb _ _ n) inner in
-    let then : ◌>>=◌ (given (db_of (held heap offset))) (λ big. guard (nat_le (segments_for size) big.count) (big_in size big)) heap ≡ Some (bytes, record { kind = BigList; offset = big.list } ∷ cells) =
+    let then : ◌>>=◌ (given (db_of (held heap offset))) (λ big. guard (nat_le (segments_for size) big.count) (big_in size big)) heap ≡ Some (
+      bytes,
+      record { kind = BigList; offset = big.list } ∷ cells,
+    ) =
     bind-made (given (db_of (held heap offset))) (λ big. guard (nat_le (segments_for size) big.count) (big_in size big)) heap big [] _ (given-made _ big heap d) guarded in
-    bind-made (cell BigHead offset) (λ content. given (db_of content) >>= (λ big. guard (nat_le (segments_for size) big.count) (big_in size big))) heap (held heap offset) _ _ (cell-made BigHead offset heap _ (here-held heap offset h)) then
+    bind-made (cell BigHead offset) (λ content. given (db_of content) >>= (λ big. guard (nat_le (segments_for size) big.count) (big_in size big)))
+    heap (held heap offset) _ _ (cell-made BigHead offset heap _ (here-held heap offset h)) then
 
 -- ---- data
 
@@ -185,7 +204,8 @@ pub enough-segments : (size : ℕ) → size ≤ segment_size * segments_for size
 unfolding segment_size
 enough-segments size = omega arith
 
-pub data-length : (heap : Heap) (inline small : Bool) (size place : ℕ) (bytes : List ℕ) (zs : List Found) → data_by inline small size place heap ≡ Some (bytes, zs) → length bytes ≡ cond inline (inline_size size) size
+pub data-length : (heap : Heap) (inline small : Bool) (size place : ℕ) (bytes : List ℕ) (zs : List Found) →
+    data_by inline small size place heap ≡ Some (bytes, zs) → length bytes ≡ cond inline (inline_size size) size
 data-length heap true small size place bytes zs e =
     let g = guard-open (nat_le (inline_size size) 4) (give (take (inline_size size) (little_bytes 4 place))) heap (bytes, zs) e in
     let p : ◌≡◌ {A = List ℕ × List Found} (take (inline_size size) (little_bytes 4 place), []) (bytes, zs) = same_Some _ _ g.1 in
@@ -202,7 +222,8 @@ data-length heap false true (suc n) place bytes zs e =
     omega (arith, whole, length-append (take (suc n) p.content) p.rest, length-take (suc n) p.content, long, none)
 data-length heap false false size place bytes zs e =
     let b = big-open heap size place bytes zs e in
-    segments-length heap size (offsets_at (segments_for size) 0 (held heap b.big.list)) bytes b.cells (subst (λ n. size ≤ segment_size * n) (sym (length-offsets (segments_for size) 0 (held heap b.big.list))) (enough-segments size)) b.pieces
+    segments-length heap size (offsets_at (segments_for size) 0 (held heap b.big.list)) bytes b.cells
+    (subst (λ n. size ≤ segment_size * n) (sym (length-offsets (segments_for size) 0 (held heap b.big.list))) (enough-segments size)) b.pieces
 
 -- ---- a value as it is told
 
@@ -272,7 +293,8 @@ joined-next heap size i row done bytes l j =
       more = record {
         rest = p.rest;
         cells = p.cells;
-        reads = ap (λ n. pieces_at (segments (size - segment_size * n) (drop n row)) heap) (add-one i) ∙ (ap (λ s. pieces_at (segments s (drop (suc i) row)) heap) (sym (next-size segment_size size i)) ∙ p.rest_is);
+        reads = ap (λ n. pieces_at (segments (size - segment_size * n) (drop n row)) heap) (add-one i) ∙
+            (ap (λ s. pieces_at (segments s (drop (suc i) row)) heap) (sym (next-size segment_size size i)) ∙ p.rest_is);
         is = j.is ∙ (ap (λ xs. done ++ xs) p.is ∙ sym (append_assoc done (take (min segment_size left) p.content) p.rest));
       };
     }
@@ -348,7 +370,8 @@ pub record IsOne (heap : Heap) (place size : ℕ) (all : List ℕ) (met : List F
   pub is : all ≡ take size content
   pub met_is : met ≡ record { kind = Data; offset = place } ∷ []
 
-pub one-data : (heap : Heap) (fields : ValueFields) (all : List ℕ) (met : List Found) → data_at fields heap ≡ Some (all, met) → 0 < fields.size → fields.size ≤ 16344 → IsOne heap fields.place fields.size all met
+pub one-data : (heap : Heap) (fields : ValueFields) (all : List ℕ) (met : List Found) → data_at fields heap ≡ Some (all, met) → 0 < fields.size →
+    fields.size ≤ 16344 → IsOne heap fields.place fields.size all met
 one-data heap fields all met e pos l = by fields.size refl (small-data heap fields all met e l)
   where
     by : (s : ℕ) → s ≡ fields.size → pieces_at (if_any Data s fields.place) heap ≡ Some (all, met) → IsOne heap fields.place s all met
@@ -356,10 +379,17 @@ one-data heap fields all met e pos l = by fields.size refl (small-data heap fiel
     by (suc n) z p =
         let o = piece-open heap (named Data (suc n) fields.place) [] all met p in
         let r = pieces-none heap o.rest o.cells o.rest_is in
-        record { content = o.content; here = o.here; long = o.long; is = o.is ∙ (ap (λ xs. take (suc n) o.content ++ xs) r.0 ∙ append-nil _); met_is = o.met ∙ ap (λ xs. record { kind = Data; offset = fields.place } ∷ xs) r.1 }
+        record {
+          content = o.content;
+          here = o.here;
+          long = o.long;
+          is = o.is ∙ (ap (λ xs. take (suc n) o.content ++ xs) r.0 ∙ append-nil _);
+          met_is = o.met ∙ ap (λ xs. record { kind = Data; offset = fields.place } ∷ xs) r.1;
+        }
 
 -- data of at most 16,344 bytes that isn't inline has a cell
-pub data-there : (heap : Heap) (fields : ValueFields) (all : List ℕ) (met : List Found) → data_at fields heap ≡ Some (all, met) → IsWrittenData heap fields → fields.size ≤ 16344 → IsSome (heap fields.place)
+pub data-there : (heap : Heap) (fields : ValueFields) (all : List ℕ) (met : List Found) → data_at fields heap ≡ Some (all, met) →
+    IsWrittenData heap fields → fields.size ≤ 16344 → IsSome (heap fields.place)
 data-there heap fields all met e w l =
     let f = w.far (le-false 2147483648 fields.size (omega arith)) in
     let o = one-data heap fields all met e (omega (arith, f)) l in

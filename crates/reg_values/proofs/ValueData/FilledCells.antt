@@ -1,5 +1,6 @@
 -- Cells that are written.
-use Rattle.std.proofs.Common.{◌≡◌, ◌≢◌, ℕ, zero, suc, ◌+◌, ◌-◌, ◌*◌, ◌<◌, ◌≤◌, ◌==◌, min, cond, Option, Some, IsSome, List, [], ◌∷◌, ◌++◌, length, take, drop, get_or, refl, sym, ap, ◌∙◌, subst, arith, ◌⊎◌, inl, inr, length-append, length-take, length-drop, unwrap_or}
+use Rattle.std.proofs.Common.{◌≡◌, ◌≢◌, ℕ, zero, suc, ◌+◌, ◌-◌, ◌*◌, ◌<◌, ◌≤◌, ◌==◌, min, cond, Option, Some, IsSome, List, [], ◌∷◌, ◌++◌, length, take, drop, get_or, refl, sym, ap, ◌∙◌}
+use Rattle.std.proofs.Common.{subst, arith, ◌⊎◌, inl, inr, length-append, length-take, length-drop, unwrap_or}
 use Rattle.std.proofs.lemmas.Bool.{eq-eqb, ne_eqb, cases_eq}
 use Rattle.std.proofs.lemmas.List.{take-append-drop, drop-drop}
 use Rattle.std.proofs.Math.Seq.{take-append_seam}
@@ -21,7 +22,8 @@ use Rattle.reg_values.proofs.ValueFreeing.SwapChains.{there-one, one-there, writ
 
 -- ---- one cell
 
-pub fills-one : (h k : Heap) (cell : ℕ) (content : List ℕ) → k cell ≡ Some content → length content ≡ length (held h cell) → ((offset : ℕ) → offset ≢ cell → k offset ≡ h offset) → Writes h k (cell ∷ []) → Fills h k (cell ∷ [])
+pub fills-one : (h k : Heap) (cell : ℕ) (content : List ℕ) → k cell ≡ Some content → length content ≡ length (held h cell) →
+    ((offset : ℕ) → offset ≢ cell → k offset ≡ h offset) → Writes h k (cell ∷ []) → Fills h k (cell ∷ [])
 fills-one h k cell content e n others w = record { writes = w; sizes = λ offset. by offset (cases_eq offset cell) }
   where
     by : (offset : ℕ) → (offset ≡ cell) ⊎ (offset ≡ cell → ⊥) → length (held k offset) ≡ length (held h offset)
@@ -32,7 +34,8 @@ pub fills-cell : (old new : Bins) (cell : ℕ) (content : List ℕ) → WritesCe
 fills-cell old new cell content w = fills-one (cell_at old.bytes) (cell_at new.bytes) cell content w.here w.as_many w.others w.writes
 
 -- what a write of the arena does
-module _ (h k : Heap) (cell at : ℕ) (bytes : List ℕ) (room : at + length bytes ≤ length (held h cell)) (w : (offset : ℕ) → k offset ≡ cond (offset == cell) (Some (splice at bytes (held h cell))) (h offset)) where
+module _ (h k : Heap) (cell at : ℕ) (bytes : List ℕ) (room : at + length bytes ≤ length (held h cell)) (w : (offset : ℕ) →
+    k offset ≡ cond (offset == cell) (Some (splice at bytes (held h cell))) (h offset)) where
   pub written-here : k cell ≡ Some (splice at bytes (held h cell))
   written-here = w cell ∙ ap (λ b. cond b (Some (splice at bytes (held h cell))) (h cell)) (eq-eqb cell cell refl)
 
@@ -74,8 +77,11 @@ pub record RowFilled (h k : Heap) (list : ℕ) (segments : List ℕ) (i : ℕ) :
 pub row-none : (h : Heap) (list : ℕ) (segments : List ℕ) → RowFilled h h list segments 0
 row-none h list segments = record { fills = fills-none h (list ∷ []); done = λ j l. absurd (omega arith) }
 
-pub row-more : (h : Heap) (old new : Bins) (list : ℕ) (segments : List ℕ) (i offset : ℕ) (content : List ℕ) → RowFilled h (cell_at old.bytes) list segments i → WritesCell old new list content → offset ≡ get_or segments i 0
-    → offset_in (held (cell_at new.bytes) list) i ≡ offset → ((other : ℕ) → other ≢ i → offset_in (held (cell_at new.bytes) list) other ≡ offset_in (held (cell_at old.bytes) list) other) → RowFilled h (cell_at new.bytes) list segments (i + 1)
+pub row-more : (h : Heap) (old new : Bins) (list : ℕ) (segments : List ℕ) (i offset : ℕ) (content : List ℕ) →
+    RowFilled h (cell_at old.bytes) list segments i → WritesCell old new list content → offset ≡ get_or segments i 0
+    → offset_in (held (cell_at new.bytes) list) i ≡ offset →
+    ((other : ℕ) → other ≢ i → offset_in (held (cell_at new.bytes) list) other ≡ offset_in (held (cell_at old.bytes) list) other) →
+    RowFilled h (cell_at new.bytes) list segments (i + 1)
 row-more h old new list segments i offset content r w e here others = record {
   fills = fills-then h (cell_at old.bytes) (cell_at new.bytes) (list ∷ []) r.fills (fills-cell old new list content w);
   done = λ j l. by j l (cases_eq j i);
@@ -140,7 +146,9 @@ nothing : (xs : List ℕ) → length xs ≤ 0 → [] ≡ xs
 nothing [] l = refl
 nothing (x ∷ xs) l = absurd (omega arith)
 
-pub pieces-made : (h : Heap) (os bytes : List ℕ) → length bytes ≤ segment_size * length os → ((j : ℕ) → j < length os → Begins h (get_or os j 0) (take segment_size (drop (segment_size * j) bytes))) → (met : List Found) × (pieces_at (segments (length bytes) os) h ≡ Some (bytes, met))
+pub pieces-made : (h : Heap) (os bytes : List ℕ) → length bytes ≤ segment_size * length os →
+    ((j : ℕ) → j < length os → Begins h (get_or os j 0) (take segment_size (drop (segment_size * j) bytes))) →
+    (met : List Found) × (pieces_at (segments (length bytes) os) h ≡ Some (bytes, met))
 pieces-made h [] bytes l f =
     let z : segment_size * 0 ≡ 0 = omega arith in
     let n : [] ≡ bytes = nothing bytes (omega (arith, l, z)) in
@@ -158,8 +166,12 @@ pieces-made h (o ∷ os) bytes l f =
     subst (Begins h (get_or os j 0)) (ap (take m) (ap (λ n. drop n bytes) (times-suc m j ∙ (omega arith)) ∙ sym (drop-drop (m * j) m bytes))) (f (suc j) (omega arith))) in
     let rest : pieces_at (segments (length bytes - m) os) h ≡ Some (drop m bytes, r.0) = ap (λ n. pieces_at (segments n os) h) (sym left) ∙ r.1 in
     let long = p.long in
-    let made = piece-made h (named Segment (min m (length bytes)) o) (segments (length bytes - m) os) p.content (drop m bytes) r.0 p.here (omega (arith, n, long)) rest in
-    (_, made ∙ ap (λ k. Some (take k p.content ++ drop m bytes, record { kind = Segment; offset = o } ∷ r.0)) n ∙ ap (λ y. Some (y ++ drop m bytes, record { kind = Segment; offset = o } ∷ r.0)) p.is ∙ ap (λ y. Some (y, record { kind = Segment; offset = o } ∷ r.0)) (take-append-drop m bytes))
+    let made = piece-made h (named Segment (min m (length bytes)) o) (segments (length bytes - m) os) p.content (drop m bytes) r.0 p.here (omega (arith, n, long)) rest in (
+      _,
+      made ∙ ap (λ k. Some (take k p.content ++ drop m bytes, record { kind = Segment; offset = o } ∷ r.0)) n ∙
+          ap (λ y. Some (y ++ drop m bytes, record { kind = Segment; offset = o } ∷ r.0)) p.is ∙
+          ap (λ y. Some (y, record { kind = Segment; offset = o } ∷ r.0)) (take-append-drop m bytes),
+    )
 
 -- the first pieces are written
 pub record PiecesFilled (h k : Heap) (os bytes : List ℕ) (i : ℕ) : Type 0 where
@@ -174,19 +186,24 @@ one-in [] i l z = absurd (omega arith)
 one-in (o ∷ os) zero l z = omega arith
 one-in (o ∷ os) (suc i) l z = let k = one-in os i (omega arith) z in omega (arith, k)
 
-pub pieces-more : (h k l : Heap) (os bytes : List ℕ) (i : ℕ) (x : List ℕ) → ((z : ℕ) → times z os ≤ 1) → i < length os → x ≡ take 16344 (drop (16344 * i) bytes) → 0 + length x ≤ length (held k (get_or os i 0))
-    → ((offset : ℕ) → l offset ≡ cond (offset == get_or os i 0) (Some (splice 0 x (held k (get_or os i 0)))) (k offset)) → Writes k l (get_or os i 0 ∷ []) → PiecesFilled h k os bytes i → PiecesFilled h l os bytes (i + 1)
+pub pieces-more : (h k l : Heap) (os bytes : List ℕ) (i : ℕ) (x : List ℕ) → ((z : ℕ) → times z os ≤ 1) → i < length os →
+    x ≡ take 16344 (drop (16344 * i) bytes) → 0 + length x ≤ length (held k (get_or os i 0))
+    → ((offset : ℕ) → l offset ≡ cond (offset == get_or os i 0) (Some (splice 0 x (held k (get_or os i 0)))) (k offset)) →
+    Writes k l (get_or os i 0 ∷ []) → PiecesFilled h k os bytes i → PiecesFilled h l os bytes (i + 1)
 pieces-more h k l os bytes i x t il q room w s p = record {
   done = λ j jl. by j jl (cases_eq j i);
   fills = fills-then h k l os p.fills (fills-in k l (get_or os i 0 ∷ []) os (one-in os i il) (fills-written k l (get_or os i 0) 0 x room w s));
 }
   where
     by : (j : ℕ) → j < i + 1 → (j ≡ i) ⊎ (j ≡ i → ⊥) → Begins l (get_or os j 0) (take 16344 (drop (16344 * j) bytes))
-    by j jl (inl r) = subst (λ j. Begins l (get_or os j 0) (take 16344 (drop (16344 * j) bytes))) (sym r) (subst (Begins l (get_or os i 0)) q (begins k l (get_or os i 0) x (omega (arith, room)) (written-here k l (get_or os i 0) 0 x room w)))
+    by j jl (inl r) = subst (λ j. Begins l (get_or os j 0) (take 16344 (drop (16344 * j) bytes))) (sym r)
+        (subst (Begins l (get_or os i 0)) q (begins k l (get_or os i 0) x (omega (arith, room)) (written-here k l (get_or os i 0) 0 x room w)))
     by j jl (inr r) =
         let d = p.done j (omega (arith, jl, r)) in
         record { content = d.content; here = written-others k l (get_or os i 0) 0 x room w (get_or os j 0) (apart-at os t j i r (omega (arith, jl, il)) il) ∙ d.here; long = d.long; is = d.is }
 
-pub pieces-all : (h k : Heap) (os bytes : List ℕ) (i : ℕ) → length os ≤ i → length bytes ≤ 16344 * length os → PiecesFilled h k os bytes i → (met : List Found) × (pieces_at (segments (length bytes) os) k ≡ Some (bytes, met))
+pub pieces-all : (h k : Heap) (os bytes : List ℕ) (i : ℕ) → length os ≤ i → length bytes ≤ 16344 * length os → PiecesFilled h k os bytes i →
+    (met : List Found) × (pieces_at (segments (length bytes) os) k ≡ Some (bytes, met))
 pieces-all h k os bytes i l a p =
-    pieces-made k os bytes (subst (λ m. length bytes ≤ m * length os) (sym segment-is) a) (λ j jl. subst (λ m. Begins k (get_or os j 0) (take m (drop (m * j) bytes))) (sym segment-is) (p.done j (omega (arith, jl, l))))
+    pieces-made k os bytes (subst (λ m. length bytes ≤ m * length os) (sym segment-is) a)
+    (λ j jl. subst (λ m. Begins k (get_or os j 0) (take m (drop (m * j) bytes))) (sym segment-is) (p.done j (omega (arith, jl, l))))

@@ -98,7 +98,8 @@ module _ (h : Heap) (cells bytes : List ℕ) (small : length bytes ≤ 1048576) 
     big-room i l =
         let n = big-long in
         let c = big-count in
-        let s = at-two (data_sizes (length bytes)) _ _ _ i (big-sizes (length bytes) large) ∙ (segment-at count (length bytes) i (omega (arith, l, c)) ∙ ap (λ m. cell_size (min m (length bytes - m * i))) segment-is) in
+        let s = at-two (data_sizes (length bytes)) _ _ _ i (big-sizes (length bytes) large) ∙
+        (segment-at count (length bytes) i (omega (arith, l, c)) ∙ ap (λ m. cell_size (min m (length bytes - m * i))) segment-is) in
         let o = at-two cells _ _ _ i big-cells in
         subst (λ o. HasRoom h o (length (take 16344 (drop (16344 * i) bytes)))) o
         (room-less h (get_or cells (suc (suc i)) 0) _ _ (omega (arith, s, length-take 16344 (drop (16344 * i) bytes), length-drop (16344 * i) bytes)) (r.room (suc (suc i)) (omega (arith, l, c, n))))

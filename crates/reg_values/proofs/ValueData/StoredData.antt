@@ -1,5 +1,6 @@
 -- Data that was written, read back.
-use Rattle.std.proofs.Common.{◌≡◌, ℕ, zero, suc, ◌+◌, ◌-◌, ◌*◌, ◌<◌, ◌≤◌, ◌==◌, nat_le, min, cond, true, false, Option, Some, List, [], ◌∷◌, ◌++◌, length, take, drop, get_or, replicate, refl, sym, ap, ◌∙◌, subst, arith, unwrap_or, length-append, length-drop}
+use Rattle.std.proofs.Common.{◌≡◌, ℕ, zero, suc, ◌+◌, ◌-◌, ◌*◌, ◌<◌, ◌≤◌, ◌==◌, nat_le, min, cond, true, false, Option, Some, List, [], ◌∷◌, ◌++◌, length, take, drop, get_or, replicate}
+use Rattle.std.proofs.Common.{refl, sym, ap, ◌∙◌, subst, arith, unwrap_or, length-append, length-drop}
 use Rattle.std.proofs.lemmas.Bool.{le-leb, false≢true, leb-true}
 use Rattle.std.proofs.lemmas.List.{append-nil}
 use Rattle.std.proofs.Math.Seq.{take-append_seam}
@@ -83,11 +84,14 @@ module _ (h0 h1 h2 h3 : Heap) (head list : ℕ) (segs bytes : List ℕ) (small :
             let size : ℕ = length bytes in
             let r = fills-room h0 h3 (head ∷ list ∷ segs) list _ big-fills list_room in
             let enough = r.enough in
-            let big = big-made h3 size head (record { count = count; list = list }) bytes met (fills-there h0 h3 _ head big-fills head_room.exists) db3 (omega (arith, n, count_is)) r.exists (subst (λ n. 4 * n ≤ length (held h3 list)) n enough)
+            let big = big-made h3 size head (record { count = count; list = list }) bytes met
+            (fills-there h0 h3 _ head big-fills head_room.exists) db3 (omega (arith, n, count_is)) r.exists
+            (subst (λ n. 4 * n ≤ length (held h3 list)) n enough)
             (ap (λ row. pieces_at (segments size row) h3) row3 ∙ reads) in
             record {
               met = record { kind = BigHead; offset = head } ∷ record { kind = BigList; offset = list } ∷ met;
-              reads = ap (λ b. data_by b (nat_le size segment_size) size head h3) (le-false 2147483648 size (omega arith)) ∙ (ap (λ b. data_by false b size head h3) (le-false size segment_size (subst (λ n. n < size) (sym segment-is) large)) ∙ big);
+              reads = ap (λ b. data_by b (nat_le size segment_size) size head h3) (le-false 2147483648 size (omega arith)) ∙
+                  (ap (λ b. data_by false b size head h3) (le-false size segment_size (subst (λ n. n < size) (sym segment-is) large)) ∙ big);
               owns = λ z. (let o = segments-owned h3 z size segs bytes met reads in omega (arith, o));
               written = λ kind flags. record {
                 inline = λ e. absurd (let l = leb-true 2147483648 size e in omega (arith, l, small));
@@ -152,15 +156,20 @@ pub none-of : (cells : List ℕ) → length cells ≡ 0 → cells ≡ []
 none-of [] e = refl
 none-of (x ∷ xs) e = absurd (omega arith)
 
-pub near-holds : (h : Heap) (place : ℕ) (bytes cells : List ℕ) → length bytes ≤ 4 → length cells ≡ length (data_sizes (length bytes)) → little_bytes 4 place ≡ get_or bytes 0 0 ∷ get_or bytes 1 0 ∷ get_or bytes 2 0 ∷ get_or bytes 3 0 ∷ [] → HoldsData h (2147483648 + length bytes) place bytes cells
+pub near-holds : (h : Heap) (place : ℕ) (bytes cells : List ℕ) → length bytes ≤ 4 → length cells ≡ length (data_sizes (length bytes)) →
+    little_bytes 4 place ≡ get_or bytes 0 0 ∷ get_or bytes 1 0 ∷ get_or bytes 2 0 ∷ get_or bytes 3 0 ∷ [] →
+    HoldsData h (2147483648 + length bytes) place bytes cells
 near-holds h place bytes cells l n e =
     let size : ℕ = 2147483648 + length bytes in
     let none : cells ≡ [] = none-of cells (n ∙ ap length (few-sizes (length bytes) l)) in
     let plain : inline_size size ≡ length bytes = omega arith in
-    let guarded : data_by true (nat_le size segment_size) size place h ≡ Some (take (inline_size size) (little_bytes 4 place), []) = guard-made (nat_le (inline_size size) 4) (give (take (inline_size size) (little_bytes 4 place))) h _ (le-leb _ _ (omega (arith, plain, l))) refl in
+    let guarded : data_by true (nat_le size segment_size) size place h ≡ Some (take (inline_size size) (little_bytes 4 place), []) =
+    guard-made (nat_le (inline_size size) 4) (give (take (inline_size size) (little_bytes 4 place))) h _
+    (le-leb _ _ (omega (arith, plain, l))) refl in
     subst (HoldsData h size place bytes) (sym none) (record {
       met = [];
-      reads = ap (λ b. data_by b (nat_le size segment_size) size place h) (le-leb 2147483648 size (omega arith)) ∙ (guarded ∙ ap (λ xs. Some (xs, [])) (ap (λ n. take n (little_bytes 4 place)) plain ∙ (ap (take (length bytes)) e ∙ front4 bytes l)));
+      reads = ap (λ b. data_by b (nat_le size segment_size) size place h) (le-leb 2147483648 size (omega arith)) ∙
+          (guarded ∙ ap (λ xs. Some (xs, [])) (ap (λ n. take n (little_bytes 4 place)) plain ∙ (ap (take (length bytes)) e ∙ front4 bytes l)));
       owns = λ z. refl;
       written = λ kind flags. record {
         inline = λ i. ap (λ n. drop n (little_bytes 4 place)) plain ∙ (ap (drop (length bytes)) e ∙ (back4 bytes l ∙ ap (λ n. replicate (4 - n) 0) (sym plain)));

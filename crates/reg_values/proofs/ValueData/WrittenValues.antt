@@ -32,7 +32,8 @@ holds-kept h k size place bytes cells same d =
 abbrev pub told : KeyValueRecord → List ℕ → Member
 told value bytes = record { name = value.name; kind = value.fields.kind; bytes = bytes }
 
-module _ (h : Heap) (cell : ℕ) (value : KeyValueRecord) (bytes : List ℕ) (met : List Found) (r : value_record_at h cell ≡ Some value) (p : IsPlainValue (held h cell)) (f : value.fields.flags ≡ cond (length value.name == 0) 0 1)
+module _ (h : Heap) (cell : ℕ) (value : KeyValueRecord) (bytes : List ℕ) (met : List Found) (r : value_record_at h cell ≡ Some value)
+    (p : IsPlainValue (held h cell)) (f : value.fields.flags ≡ cond (length value.name == 0) 0 1)
     (d : data_at value.fields h ≡ Some (bytes, met)) (w : IsWrittenData h value.fields) where
   pub value-reads : member_at cell h ≡ Some (told value bytes, record { kind = Value; offset = cell } ∷ met)
   value-reads =
@@ -43,8 +44,10 @@ module _ (h : Heap) (cell : ℕ) (value : KeyValueRecord) (bytes : List ℕ) (me
   value-written = record { value = value; reads = r; plain = p; flags = f; data_is = w }
 
 -- a value in new cells
-module _ (h0 h1 h2 : Heap) (cell size place kind flags : ℕ) (cells name bytes : List ℕ) (once : (z : ℕ) → times z (cell ∷ cells) ≤ 1) (f1 : Fills h0 h1 cells) (d : HoldsData h1 size place bytes cells) (f2 : Fills h1 h2 (cell ∷ []))
-    (r : value_record_at h2 cell ≡ Some (record { fields = record { size = size; place = place; kind = kind; flags = flags }; name = name })) (p : IsPlainValue (held h2 cell)) (f : flags ≡ cond (length name == 0) 0 1) where
+module _ (h0 h1 h2 : Heap) (cell size place kind flags : ℕ) (cells name bytes : List ℕ) (once : (z : ℕ) →
+    times z (cell ∷ cells) ≤ 1) (f1 : Fills h0 h1 cells) (d : HoldsData h1 size place bytes cells) (f2 : Fills h1 h2 (cell ∷ []))
+    (r : value_record_at h2 cell ≡ Some (record { fields = record { size = size; place = place; kind = kind; flags = flags }; name = name }))
+    (p : IsPlainValue (held h2 cell)) (f : flags ≡ cond (length name == 0) 0 1) where
   pub put-fills : Fills h0 h2 (cell ∷ cells)
   put-fills = fills-then h0 h1 h2 (cell ∷ cells) (fills-in h0 h1 cells _ (λ z. omega arith) f1) (fills-in h1 h2 (cell ∷ []) _ (λ z. omega arith) f2)
 

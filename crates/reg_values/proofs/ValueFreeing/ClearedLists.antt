@@ -131,7 +131,8 @@ module _ (h0 h : Heap) (count place index : ℕ) (f : AreFreed h0 h count place 
   pub list-left : 0 < count → IsSome (h place)
   list-left p = (list-open h count place f.row f.list_met f.list_is p).here
 
-  pub list-freed : 0 < count → (k : Heap) → GivesUp h k (place ∷ []) → (members : List Member) (met : List Found) → members_at count place h0 ≡ Some (members, met) → Swaps h0 k (λ z. owned z met) (λ z. 0)
+  pub list-freed : 0 < count → (k : Heap) → GivesUp h k (place ∷ []) → (members : List Member) (met : List Found) →
+      members_at count place h0 ≡ Some (members, met) → Swaps h0 k (λ z. owned z met) (λ z. 0)
   list-freed p k g members met e =
       let own : (z : ℕ) → owned z met ≡ f.gone z + times z (place ∷ []) = λ z. (
       let a = ap (owned z) (same-met members met e) in let b = ap (owned z) none-left in

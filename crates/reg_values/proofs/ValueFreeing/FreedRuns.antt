@@ -81,7 +81,8 @@ still-there a b f x s l = let c = s.count x in let t = times-same x in one-there
 
 -- ---- big data
 
-module _ (h : Heap) (size cell : ℕ) (all : List ℕ) (met : List Found) (e : big_at size cell h ≡ Some (all, met)) (list count : ℕ) (d : db_of (held h cell) ≡ Some (record { count = count; list = list })) where
+module _ (h : Heap) (size cell : ℕ) (all : List ℕ) (met : List Found) (e : big_at size cell h ≡ Some (all, met)) (list count : ℕ)
+    (d : db_of (held h cell) ≡ Some (record { count = count; list = list })) where
   big : IsBig h size cell all met
   big = big-open h size cell all met e
 
@@ -106,7 +107,8 @@ big-same h size cell b all met e z = let q = ap (λ (p : List ℕ × List Found)
 
 -- ---- a value
 
-module _ (h : Heap) (cell : ℕ) (m : Member) (met : List Found) (e : member_at cell h ≡ Some (m, met)) (fields : ValueFields) (name : List ℕ) (r : value_record_at h cell ≡ Some (record { fields = fields; name = name })) where
+module _ (h : Heap) (cell : ℕ) (m : Member) (met : List Found) (e : member_at cell h ≡ Some (m, met)) (fields : ValueFields) (name : List ℕ)
+    (r : value_record_at h cell ≡ Some (record { fields = fields; name = name })) where
   pub member-parts : IsMember h cell m met
   member-parts = member-open h cell m met e
 
@@ -116,5 +118,6 @@ module _ (h : Heap) (cell : ℕ) (m : Member) (met : List Found) (e : member_at 
   pub member-owned : (z : ℕ) → owned z met ≡ owned z member-parts.cells + times z (cell ∷ [])
   member-owned z = let q = ap (owned z) member-parts.met in omega (arith, q)
 
-pub one-owned : (h : Heap) (fields : ValueFields) (all : List ℕ) (met : List Found) → data_at fields h ≡ Some (all, met) → 0 < fields.size → fields.size ≤ 16344 → (z : ℕ) → owned z met ≡ times z (fields.place ∷ [])
+pub one-owned : (h : Heap) (fields : ValueFields) (all : List ℕ) (met : List Found) → data_at fields h ≡ Some (all, met) → 0 < fields.size →
+    fields.size ≤ 16344 → (z : ℕ) → owned z met ≡ times z (fields.place ∷ [])
 one-owned h fields all met e p l z = ap (owned z) (one-data h fields all met e p l).met_is

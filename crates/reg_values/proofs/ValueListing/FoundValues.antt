@@ -1,5 +1,6 @@
 -- Values that are read from a list.
-use Rattle.std.proofs.Common.{◌≡◌, ℕ, zero, suc, ◌+◌, ◌*◌, ◌<◌, ◌≤◌, nat_le, ◌==◌, not, cond, Bool, true, false, Option, Some, None, IsSome, List, [], ◌∷◌, ◌++◌, length, drop, get_or, slice_get, is_some, refl, sym, ap, ◌∙◌, subst, arith, unwrap_or}
+use Rattle.std.proofs.Common.{◌≡◌, ℕ, zero, suc, ◌+◌, ◌*◌, ◌<◌, ◌≤◌, nat_le, ◌==◌, not, cond, Bool, true, false, Option, Some, None, IsSome, List, [], ◌∷◌, ◌++◌, length, drop, get_or}
+use Rattle.std.proofs.Common.{slice_get, is_some, refl, sym, ap, ◌∙◌, subst, arith, unwrap_or}
 use Rattle.std.specs.Prelude.{bit_and}
 use Rattle.std.specs.List.{AllByRecursion}
 use Rattle.std.specs.Result.{result_ok}
@@ -112,10 +113,14 @@ pub member-made : (heap : Heap) (offset : ℕ) (value : KeyValueRecord) (bytes :
     → member_at offset heap ≡ Some (member_of value bytes, record { kind = Value; offset = offset } ∷ cells)
 member-made heap offset value bytes cells r d =
     let o = value_record_at-open heap offset value r in
-    let last : ◌>>=◌ (data_at value.fields) (λ bytes. give (member_of value bytes)) heap ≡ Some (member_of value bytes, cells ++ []) = bind-made (data_at value.fields) (λ bytes. give (member_of value bytes)) heap bytes cells (member_of value bytes, []) d refl in
+    let last : ◌>>=◌ (data_at value.fields) (λ bytes. give (member_of value bytes)) heap ≡ Some (member_of value bytes, cells ++ []) =
+    bind-made (data_at value.fields) (λ bytes. give (member_of value bytes)) heap bytes cells (member_of value bytes, []) d refl in
     let then : ◌>>=◌ (given (result_ok (vk_of o.0))) (λ value. data_at value.fields >>= (λ bytes. give (member_of value bytes))) heap ≡ Some (member_of value bytes, cells ++ []) =
-    bind-made (given (result_ok (vk_of o.0))) (λ value. data_at value.fields >>= (λ bytes. give (member_of value bytes))) heap value [] (member_of value bytes, cells ++ []) (given-made (result_ok (vk_of o.0)) value heap (ap result_ok o.2)) last in
-    bind-made (cell Value offset) (λ content. given (result_ok (vk_of content)) >>= (λ value. data_at value.fields >>= (λ bytes. give (member_of value bytes)))) heap o.0 _ (member_of value bytes, cells ++ []) (cell-made Value offset heap o.0 o.1) then
+    bind-made (given (result_ok (vk_of o.0))) (λ value. data_at value.fields >>= (λ bytes. give (member_of value bytes))) heap value []
+    (member_of value bytes, cells ++ []) (given-made (result_ok (vk_of o.0)) value heap (ap result_ok o.2)) last in
+    bind-made (cell Value offset) (λ content. given (result_ok (vk_of content)) >>=
+    (λ value. data_at value.fields >>= (λ bytes. give (member_of value bytes)))) heap o.0 _ (member_of value bytes, cells ++ [])
+    (cell-made Value offset heap o.0 o.1) then
     ∙ ap (λ xs. Some (member_of value bytes, record { kind = Value; offset = offset } ∷ xs)) (append-nil cells)
 
 -- the name that is told is the record's
@@ -164,7 +169,9 @@ pub record Stands (heap : Heap) (place : ℕ) (members : List Member) (index : �
   pub at : slice_get members index ≡ Some member
   pub rest : drop index members ≡ member ∷ drop (suc index) members
 
-pub stands : (heap : Heap) (count place : ℕ) (members : List Member) (met : List Found) (index : ℕ) → members_at count place heap ≡ Some (members, met) → AllByRecursion (IsWrittenValue heap) (offsets_at count 0 (held heap place)) → index < count → Stands heap place members index
+pub stands : (heap : Heap) (count place : ℕ) (members : List Member) (met : List Found) (index : ℕ) →
+    members_at count place heap ≡ Some (members, met) → AllByRecursion (IsWrittenValue heap) (offsets_at count 0 (held heap place)) → index < count →
+    Stands heap place members index
 stands heap zero place members met index e w l = absurd (omega arith)
 stands heap (suc n) place members met index e w l =
     let o = bind-open (row_at ValueList (suc n) place) (λ row. each member_at row) heap (members, met) e in
@@ -188,7 +195,8 @@ stands heap (suc n) place members met index e w l =
     }
 
 -- a list of values reads as one list of members
-pub same-read : (heap : Heap) (count place : ℕ) (values : AreValues heap count place) (members : List Member) (met : List Found) → members_at count place heap ≡ Some (members, met) → (values.members ≡ members) × (values.met ≡ met)
+pub same-read : (heap : Heap) (count place : ℕ) (values : AreValues heap count place) (members : List Member) (met : List Found) →
+    members_at count place heap ≡ Some (members, met) → (values.members ≡ members) × (values.met ≡ met)
 same-read heap count place values members met e =
     let p : ◌≡◌ {A = List Member × List Found} (values.members, values.met) (members, met) = same_Some _ _ (sym values.reads ∙ e) in
     (ap (λ (p : List Member × List Found). p.0) p, ap (λ (p : List Member × List Found). p.1) p)
@@ -226,13 +234,15 @@ add-none None = refl
 add-none (Some k) = ap (λ n. Some n) (omega arith)
 
 -- so many values are passed
-pub passed : (name : List ℕ) (members : List Member) (i : ℕ) (m : Member) → drop i members ≡ m ∷ drop (suc i) members → same_name m.name name ≡ false → add-to i (place_named name (drop i members)) ≡ add-to (i + 1) (place_named name (drop (i + 1) members))
+pub passed : (name : List ℕ) (members : List Member) (i : ℕ) (m : Member) → drop i members ≡ m ∷ drop (suc i) members →
+    same_name m.name name ≡ false → add-to i (place_named name (drop i members)) ≡ add-to (i + 1) (place_named name (drop (i + 1) members))
 passed name members i m e s =
     ap (λ ms. add-to i (place_named name ms)) e
     ∙ (ap (λ b. add-to i (cond b (Some 0) (option_map suc (place_named name (drop (suc i) members))))) s
     ∙ (add-suc i (place_named name (drop (suc i) members)) ∙ ap (λ n. add-to (i + 1) (place_named name (drop n members))) (sym (add-one i))))
 
-pub met-here : (name : List ℕ) (members : List Member) (i : ℕ) (m : Member) → drop i members ≡ m ∷ drop (suc i) members → same_name m.name name ≡ true → add-to i (place_named name (drop i members)) ≡ Some i
+pub met-here : (name : List ℕ) (members : List Member) (i : ℕ) (m : Member) → drop i members ≡ m ∷ drop (suc i) members →
+    same_name m.name name ≡ true → add-to i (place_named name (drop i members)) ≡ Some i
 unfolding add-to
 met-here name members i m e s =
     ap (λ ms. add-to i (place_named name ms)) e
@@ -259,7 +269,8 @@ same-is a b r f = by (name_cmp a b) refl r f
     by Equal e false f = absurd (false≢true (f.1 (slice_cmp-IsAntisymmetric nat_cmp-IsAntisymmetric (folded a) (folded b) e)))
 
 -- an offset that is read from a list's content is that of its row
-pub offset-of : (heap : Heap) (list count index : ℕ) (content : List ℕ) (offset : ℕ) → heap list ≡ Some content → index < count → offset ≡ offset_in content index → offset ≡ get_or (offsets_at count 0 (held heap list)) index 0
+pub offset-of : (heap : Heap) (list count index : ℕ) (content : List ℕ) (offset : ℕ) → heap list ≡ Some content → index < count →
+    offset ≡ offset_in content index → offset ≡ get_or (offsets_at count 0 (held heap list)) index 0
 offset-of heap list count index content offset e l o = o ∙ (ap (λ c. offset_in c index) (sym (held-is heap list content e)) ∙ sym (offset-at count (held heap list) index l))
 
 pub is-ok : {A E : Type 0} (P Q : A → Type 0) (r : Result A E) → ((x : A) → P x → Q x) → IfOk r P → IfOk r Q
@@ -280,7 +291,8 @@ place-within name (m ∷ ms) index e = by (λ i q. place-within name ms i q) (sa
     by f true e = let n = same_Some _ _ e in omega (arith, n)
     by f false e = later f (place_named name ms) refl e
 
-pub named-stands : (heap : Heap) (count place : ℕ) (values : AreValues heap count place) (name : List ℕ) (index : ℕ) → Some index ≡ place_named name values.members → Stands heap place values.members index
+pub named-stands : (heap : Heap) (count place : ℕ) (values : AreValues heap count place) (name : List ℕ) (index : ℕ) →
+    Some index ≡ place_named name values.members → Stands heap place values.members index
 named-stands heap count place values name index e =
     let w = place-within name values.members index (sym e) in
     let n = members-length heap count place values.members values.met values.reads in

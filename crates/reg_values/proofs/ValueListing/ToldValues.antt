@@ -13,6 +13,7 @@ named-at name (v ∷ vs) = by (named-at name vs) (same_name v.name name)
     later None = refl
     later (Some i) = refl
 
-    by : value_named name vs ≡ option_and_then (slice_get vs) (place_named name vs) → (b : Bool) → cond b (Some v) (value_named name vs) ≡ option_and_then (slice_get (v ∷ vs)) (cond b (Some 0) (option_map suc (place_named name vs)))
+    by : value_named name vs ≡ option_and_then (slice_get vs) (place_named name vs) → (b : Bool) →
+        cond b (Some v) (value_named name vs) ≡ option_and_then (slice_get (v ∷ vs)) (cond b (Some 0) (option_map suc (place_named name vs)))
     by rest true = refl
     by rest false = rest ∙ later (place_named name vs)

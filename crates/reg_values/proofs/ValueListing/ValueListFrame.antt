@@ -43,10 +43,14 @@ list-open heap (suc n) place row met e l =
       met_is = r.met;
     }
 
-pub list-made : (heap : Heap) (count place : ℕ) → 0 < count → IsSome (heap place) → 4 * count ≤ length (held heap place) → list_at count place heap ≡ Some (offsets_at count 0 (held heap place), record { kind = ValueList; offset = place } ∷ [])
+pub list-made : (heap : Heap) (count place : ℕ) → 0 < count → IsSome (heap place) → 4 * count ≤ length (held heap place) →
+    list_at count place heap ≡ Some (offsets_at count 0 (held heap place), record { kind = ValueList; offset = place } ∷ [])
 list-made heap zero place p s l = absurd (omega arith)
 list-made heap (suc n) place p s l =
-    bind-made (cell ValueList place) (λ content. given (row_in (suc n) content)) heap (held heap place) (record { kind = ValueList; offset = place } ∷ []) (offsets_at (suc n) 0 (held heap place), []) (cell-made ValueList place heap _ (here-held heap place s)) (given-made _ (offsets_at (suc n) 0 (held heap place)) heap (row-in (suc n) (held heap place) l))
+    bind-made (cell ValueList place) (λ content. given (row_in (suc n) content)) heap (held heap place)
+    (record { kind = ValueList; offset = place } ∷ []) (offsets_at (suc n) 0 (held heap place), [])
+    (cell-made ValueList place heap _ (here-held heap place s)) (given-made _ (offsets_at (suc n) 0 (held heap place)) heap
+    (row-in (suc n) (held heap place) l))
 
 pub list-row : (heap : Heap) (count place : ℕ) (row : List ℕ) (met : List Found) → list_at count place heap ≡ Some (row, met) → offsets_at count 0 (held heap place) ≡ row
 unfolding offsets_at
@@ -54,7 +58,8 @@ list-row heap zero place row met e = ap (λ (p : List ℕ × List Found). p.0) (
 list-row heap (suc n) place row met e = sym (list-open heap (suc n) place row met e (omega arith)).is
 
 -- a change elsewhere leaves it
-pub list-kept : (count place : ℕ) (h k : Heap) (f g : ℕ → ℕ) (row : List ℕ) (met : List Found) → Swaps h k f g → list_at count place h ≡ Some (row, met) → ((z : ℕ) → owned z met + f z ≤ allocated h z) → list_at count place k ≡ Some (row, met)
+pub list-kept : (count place : ℕ) (h k : Heap) (f g : ℕ → ℕ) (row : List ℕ) (met : List Found) → Swaps h k f g →
+    list_at count place h ≡ Some (row, met) → ((z : ℕ) → owned z met + f z ≤ allocated h z) → list_at count place k ≡ Some (row, met)
 list-kept zero place h k f g row met s e l = e
 list-kept (suc n) place h k f g row met s e l =
     let r = list-open h (suc n) place row met e (omega arith) in
@@ -79,7 +84,8 @@ pub record AreSplit (heap : Heap) (xs ys : List ℕ) (members : List Member) (me
   pub is : members ≡ front ++ back
   pub met_is : met ≡ front_met ++ back_met
 
-pub each-cons : (heap : Heap) (x : ℕ) (xs : List ℕ) (m : Member) (zs : List Found) (ms : List Member) (qs : List Found) → member_at x heap ≡ Some (m, zs) → each member_at xs heap ≡ Some (ms, qs) → each member_at (x ∷ xs) heap ≡ Some (m ∷ ms, zs ++ qs)
+pub each-cons : (heap : Heap) (x : ℕ) (xs : List ℕ) (m : Member) (zs : List Found) (ms : List Member) (qs : List Found) →
+    member_at x heap ≡ Some (m, zs) → each member_at xs heap ≡ Some (ms, qs) → each member_at (x ∷ xs) heap ≡ Some (m ∷ ms, zs ++ qs)
 each-cons heap x xs m zs ms qs a b =
     let then : ◌>>=◌ (each member_at xs) (λ ys. give (m ∷ ys)) heap ≡ Some (m ∷ ms, qs ++ []) = bind-made (each member_at xs) (λ ys. give (m ∷ ys)) heap ms qs (m ∷ ms, []) b refl in
     bind-made (member_at x) (λ y. each member_at xs >>= (λ ys. give (y ∷ ys))) heap m zs (m ∷ ms, qs ++ []) a then ∙ ap (λ qs. Some (m ∷ ms, zs ++ qs)) (append-nil qs)
@@ -97,7 +103,8 @@ each-split heap (x ∷ xs) ys members met e =
       sym o.all ∙ (ap (λ zs. o.head_cells ++ zs) s.4 ∙ sym (append_assoc o.head_cells s.0.0.1 s.0.1.1)),
     )
 
-each-join : (heap : Heap) (xs ys : List ℕ) (ms ns : List Member) (zs qs : List Found) → each member_at xs heap ≡ Some (ms, zs) → each member_at ys heap ≡ Some (ns, qs) → each member_at (xs ++ ys) heap ≡ Some (ms ++ ns, zs ++ qs)
+each-join : (heap : Heap) (xs ys : List ℕ) (ms ns : List Member) (zs qs : List Found) → each member_at xs heap ≡ Some (ms, zs) →
+    each member_at ys heap ≡ Some (ns, qs) → each member_at (xs ++ ys) heap ≡ Some (ms ++ ns, zs ++ qs)
 each-join heap [] ys ms ns zs qs a b =
     let p : ◌≡◌ {A = List Member × List Found} ([], []) (ms, zs) = same_Some _ _ a in
     b ∙ ap (λ (p : List Member × List Found). Some (p.0 ++ ns, p.1 ++ qs)) p
@@ -163,7 +170,8 @@ values-first heap x xs members met r =
     }
 
 -- a change elsewhere leaves them
-pub values-kept : (h k : Heap) (f g : ℕ → ℕ) → Swaps h k f g → (row : List ℕ) (members : List Member) (met : List Found) → ((z : ℕ) → owned z met + f z ≤ allocated h z) → AreRead h row members met → AreRead k row members met
+pub values-kept : (h k : Heap) (f g : ℕ → ℕ) → Swaps h k f g → (row : List ℕ) (members : List Member) (met : List Found) →
+    ((z : ℕ) → owned z met + f z ≤ allocated h z) → AreRead h row members met → AreRead k row members met
 values-kept h k f g s row members met l r =
     let a = agree-apart h k f g s met r.inner l in
     record { reads = eaches member_at member-local row h k (members, met) r.reads a; written = each-kept h k row (members, met) r.reads a r.written; inner = r.inner }
@@ -182,7 +190,8 @@ by-list : (heap : Heap) (count place : ℕ) → members_at count place heap ≡ 
 by-list heap zero place = refl
 by-list heap (suc n) place = refl
 
-pub opened : (heap : Heap) (count place : ℕ) (members : List Member) (met : List Found) → members_at count place heap ≡ Some (members, met) → AllByRecursion (IsWrittenValue heap) (offsets_at count 0 (held heap place)) → IsOpened heap count place members met
+pub opened : (heap : Heap) (count place : ℕ) (members : List Member) (met : List Found) → members_at count place heap ≡ Some (members, met) →
+    AllByRecursion (IsWrittenValue heap) (offsets_at count 0 (held heap place)) → IsOpened heap count place members met
 opened heap count place members met e w =
     let o = bind-open (list_at count place) (λ row. each member_at row) heap (members, met) (sym (by-list heap count place) ∙ e) in
     let row = list-row heap count place o.first o.before o.first_is in
@@ -196,9 +205,13 @@ opened heap count place members met e w =
       met_is = sym o.all;
     }
 
-pub closed : (heap : Heap) (count place : ℕ) (row : List ℕ) (members : List Member) (list_met value_met : List Found) → list_at count place heap ≡ Some (row, list_met) → AreRead heap row members value_met → members_at count place heap ≡ Some (members, list_met ++ value_met)
+pub closed : (heap : Heap) (count place : ℕ) (row : List ℕ) (members : List Member) (list_met value_met : List Found) →
+    list_at count place heap ≡ Some (row, list_met) → AreRead heap row members value_met →
+    members_at count place heap ≡ Some (members, list_met ++ value_met)
 closed heap count place row members list_met value_met l r =
     by-list heap count place ∙ bind-made (list_at count place) (λ row. each member_at row) heap row list_met (members, value_met) l r.reads
 
-pub closed-written : (heap : Heap) (count place : ℕ) (row : List ℕ) (members : List Member) (list_met value_met : List Found) → list_at count place heap ≡ Some (row, list_met) → AreRead heap row members value_met → AllByRecursion (IsWrittenValue heap) (offsets_at count 0 (held heap place))
+pub closed-written : (heap : Heap) (count place : ℕ) (row : List ℕ) (members : List Member) (list_met value_met : List Found) →
+    list_at count place heap ≡ Some (row, list_met) → AreRead heap row members value_met →
+    AllByRecursion (IsWrittenValue heap) (offsets_at count 0 (held heap place))
 closed-written heap count place row members list_met value_met l r = subst (AllByRecursion (IsWrittenValue heap)) (sym (list-row heap count place row list_met l)) r.written

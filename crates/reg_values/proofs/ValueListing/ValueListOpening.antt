@@ -45,7 +45,8 @@ no-values heap = record {
 pub values-length : (heap : Heap) (count place : ℕ) (values : AreValues heap count place) → length values.members ≡ count
 values-length heap count place values = members-length heap count place values.members values.met values.reads
 
-pub values-again : (old new : Heap) (count place : ℕ) (values : AreValues old count place) (count' place' : ℕ) (members : List Member) → Became old new values.met count' place' members → AreValues new count' place'
+pub values-again : (old new : Heap) (count place : ℕ) (values : AreValues old count place) (count' place' : ℕ) (members : List Member) →
+    Became old new values.met count' place' members → AreValues new count' place'
 values-again old new count place values count' place' members b = record {
   members = members;
   met = b.cells;

@@ -19,8 +19,11 @@ loop-size-preserved c =
     let items = rw ok at c.push.ensures.items in
     let len = rw ok at c.push.ensures.len in
     record {
-      cut = rw more (cut-more c.args.bins.now.items c.loop-size.bins.items c.cut_one.new.bins.items c.args.cell (take i sizes) (get_or sizes i 0) c.loop-size.at v.at v.cut c.cut_one.ensures.region c.cut_one.ensures.cell c.cut_one.ensures.zero);
+      cut = rw more (cut-more c.args.bins.now.items c.loop-size.bins.items c.cut_one.new.bins.items c.args.cell (take i sizes)
+          (get_or sizes i 0) c.loop-size.at v.at v.cut c.cut_one.ensures.region c.cut_one.ensures.cell c.cut_one.ensures.zero);
       at = omega (arith, v.at, total_of-more sizes i c.loop-size-test.true);
-      out = rw (more, offsets_of-push c.args.cell (take i sizes) (get_or sizes i 0), ← v.at) (items ∙ ap (λ (t : List ℕ). t ++ c.loop-size.at ∷ []) v.out ∙ append_assoc c.args.out.now.items (offsets_of c.args.cell (take i sizes)) (c.loop-size.at ∷ []));
+      out = rw (more, offsets_of-push c.args.cell (take i sizes) (get_or sizes i 0), ← v.at) (items ∙
+          ap (λ (t : List ℕ). t ++ c.loop-size.at ∷ []) v.out ∙ append_assoc c.args.out.now.items (offsets_of c.args.cell (take i sizes))
+          (c.loop-size.at ∷ []));
       room = omega (arith, v.room, len, c.push.ensures.capacity, c.loop-size-test.true);
     }

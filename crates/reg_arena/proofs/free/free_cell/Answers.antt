@@ -43,7 +43,9 @@ unlink-requires-clause-facts c =
     let st = site _ _ _ _ _ c.args.cell c.size_at.result c.requires.arena c.requires.exists sz in
     let w = around _ _ _ _ _ c.args.cell c.size_at.result c.ending_at-left.result c.free_size_at-right.result c.requires.arena st c.ending_at-left.ensures c.free_size_at-right.ensures in
     let t0 = threads _ _ _ _ _ c.requires.arena in
-    let rin : 0 < c.free_size_at-right.result → 0 < times (c.args.cell + c.size_at.result) (chain c.args.count.now c.args.bins.now.items c.args.head.now) = λ h. (let x = right-in _ _ _ _ _ w h in omega (arith, x, t0.exact (c.args.cell + c.size_at.result))) in
+    let rin : 0 < c.free_size_at-right.result →
+    0 < times (c.args.cell + c.size_at.result) (chain c.args.count.now c.args.bins.now.items c.args.head.now) =
+    λ h. (let x = right-in _ _ _ _ _ w h in omega (arith, x, t0.exact (c.args.cell + c.size_at.result))) in
     λ h. in_list _ _ _ _ _ _ _ _ t0 (rin h)
 
 pub unlink-requires-2-clause-facts : goal.unlink-requires-2-clause-facts
@@ -52,7 +54,9 @@ unlink-requires-2-clause-facts c =
     let st = site _ _ _ _ _ c.args.cell c.size_at.result c.requires.arena c.requires.exists sz in
     let w = around _ _ _ _ _ c.args.cell c.size_at.result c.ending_at-left.result c.free_size_at-right.result c.requires.arena st c.ending_at-left.ensures c.free_size_at-right.ensures in
     let t0 = threads _ _ _ _ _ c.requires.arena in
-    let rin : 0 < c.free_size_at-right.result → 0 < times (c.args.cell + c.size_at.result) (chain c.args.count.now c.args.bins.now.items c.args.head.now) = λ h. (let x = right-in _ _ _ _ _ w h in omega (arith, x, t0.exact (c.args.cell + c.size_at.result))) in
+    let rin : 0 < c.free_size_at-right.result →
+    0 < times (c.args.cell + c.size_at.result) (chain c.args.count.now c.args.bins.now.items c.args.head.now) =
+    λ h. (let x = right-in _ _ _ _ _ w h in omega (arith, x, t0.exact (c.args.cell + c.size_at.result))) in
     let d1 = detached _ _ _ _ _ _ _ _ _ _ _ c.free_size_at-right.result (c.args.cell + c.size_at.result) t0 c.requires.arena.arena.small c.requires.arena.backs_long rin c.unlink.ensures in
     let lin : 0 < c.ending_at-left.result → 0 < times c.ending_at-left.result d1.offsets = λ h. left-still _ _ _ _ _ _ _ _ _ _ w d1.threads h in
     let small : length c.unlink.new.bins.items ≤ 268435456 = omega (arith, d1.long, c.requires.arena.arena.small) in
@@ -65,7 +69,9 @@ unlink-requires-2-clause-room c =
     let st = site _ _ _ _ _ c.args.cell c.size_at.result c.requires.arena c.requires.exists sz in
     let w = around _ _ _ _ _ c.args.cell c.size_at.result c.ending_at-left.result c.free_size_at-right.result c.requires.arena st c.ending_at-left.ensures c.free_size_at-right.ensures in
     let t0 = threads _ _ _ _ _ c.requires.arena in
-    let rin : 0 < c.free_size_at-right.result → 0 < times (c.args.cell + c.size_at.result) (chain c.args.count.now c.args.bins.now.items c.args.head.now) = λ h. (let x = right-in _ _ _ _ _ w h in omega (arith, x, t0.exact (c.args.cell + c.size_at.result))) in
+    let rin : 0 < c.free_size_at-right.result →
+    0 < times (c.args.cell + c.size_at.result) (chain c.args.count.now c.args.bins.now.items c.args.head.now) =
+    λ h. (let x = right-in _ _ _ _ _ w h in omega (arith, x, t0.exact (c.args.cell + c.size_at.result))) in
     let d1 = detached _ _ _ _ _ _ _ _ _ _ _ c.free_size_at-right.result (c.args.cell + c.size_at.result) t0 c.requires.arena.arena.small c.requires.arena.backs_long rin c.unlink.ensures in
     let lin : 0 < c.ending_at-left.result → 0 < times c.ending_at-left.result d1.offsets = λ h. left-still _ _ _ _ _ _ _ _ _ _ w d1.threads h in
     let small : length c.unlink.new.bins.items ≤ 268435456 = omega (arith, d1.long, c.requires.arena.arena.small) in
@@ -78,7 +84,9 @@ overflow_add-hi c =
     let st = site _ _ _ _ _ c.args.cell c.size_at.result c.requires.arena c.requires.exists sz in
     let w = around _ _ _ _ _ c.args.cell c.size_at.result c.ending_at-left.result c.free_size_at-right.result c.requires.arena st c.ending_at-left.ensures c.free_size_at-right.ensures in
     let t0 = threads _ _ _ _ _ c.requires.arena in
-    let rin : 0 < c.free_size_at-right.result → 0 < times (c.args.cell + c.size_at.result) (chain c.args.count.now c.args.bins.now.items c.args.head.now) = λ h. (let x = right-in _ _ _ _ _ w h in omega (arith, x, t0.exact (c.args.cell + c.size_at.result))) in
+    let rin : 0 < c.free_size_at-right.result →
+    0 < times (c.args.cell + c.size_at.result) (chain c.args.count.now c.args.bins.now.items c.args.head.now) =
+    λ h. (let x = right-in _ _ _ _ _ w h in omega (arith, x, t0.exact (c.args.cell + c.size_at.result))) in
     let d1 = detached _ _ _ _ _ _ _ _ _ _ _ c.free_size_at-right.result (c.args.cell + c.size_at.result) t0 c.requires.arena.arena.small c.requires.arena.backs_long rin c.unlink.ensures in
     let lin : 0 < c.ending_at-left.result → 0 < times c.ending_at-left.result d1.offsets = λ h. left-still _ _ _ _ _ _ _ _ _ _ w d1.threads h in
     let small : length c.unlink.new.bins.items ≤ 268435456 = omega (arith, d1.long, c.requires.arena.arena.small) in
@@ -93,7 +101,9 @@ overflow_sub-hi c =
     let st = site _ _ _ _ _ c.args.cell c.size_at.result c.requires.arena c.requires.exists sz in
     let w = around _ _ _ _ _ c.args.cell c.size_at.result c.ending_at-left.result c.free_size_at-right.result c.requires.arena st c.ending_at-left.ensures c.free_size_at-right.ensures in
     let t0 = threads _ _ _ _ _ c.requires.arena in
-    let rin : 0 < c.free_size_at-right.result → 0 < times (c.args.cell + c.size_at.result) (chain c.args.count.now c.args.bins.now.items c.args.head.now) = λ h. (let x = right-in _ _ _ _ _ w h in omega (arith, x, t0.exact (c.args.cell + c.size_at.result))) in
+    let rin : 0 < c.free_size_at-right.result →
+    0 < times (c.args.cell + c.size_at.result) (chain c.args.count.now c.args.bins.now.items c.args.head.now) =
+    λ h. (let x = right-in _ _ _ _ _ w h in omega (arith, x, t0.exact (c.args.cell + c.size_at.result))) in
     let d1 = detached _ _ _ _ _ _ _ _ _ _ _ c.free_size_at-right.result (c.args.cell + c.size_at.result) t0 c.requires.arena.arena.small c.requires.arena.backs_long rin c.unlink.ensures in
     let lin : 0 < c.ending_at-left.result → 0 < times c.ending_at-left.result d1.offsets = λ h. left-still _ _ _ _ _ _ _ _ _ _ w d1.threads h in
     let small : length c.unlink.new.bins.items ≤ 268435456 = omega (arith, d1.long, c.requires.arena.arena.small) in
@@ -108,7 +118,9 @@ put_free-requires c =
     let st = site _ _ _ _ _ c.args.cell c.size_at.result c.requires.arena c.requires.exists sz in
     let w = around _ _ _ _ _ c.args.cell c.size_at.result c.ending_at-left.result c.free_size_at-right.result c.requires.arena st c.ending_at-left.ensures c.free_size_at-right.ensures in
     let t0 = threads _ _ _ _ _ c.requires.arena in
-    let rin : 0 < c.free_size_at-right.result → 0 < times (c.args.cell + c.size_at.result) (chain c.args.count.now c.args.bins.now.items c.args.head.now) = λ h. (let x = right-in _ _ _ _ _ w h in omega (arith, x, t0.exact (c.args.cell + c.size_at.result))) in
+    let rin : 0 < c.free_size_at-right.result →
+    0 < times (c.args.cell + c.size_at.result) (chain c.args.count.now c.args.bins.now.items c.args.head.now) =
+    λ h. (let x = right-in _ _ _ _ _ w h in omega (arith, x, t0.exact (c.args.cell + c.size_at.result))) in
     let d1 = detached _ _ _ _ _ _ _ _ _ _ _ c.free_size_at-right.result (c.args.cell + c.size_at.result) t0 c.requires.arena.arena.small c.requires.arena.backs_long rin c.unlink.ensures in
     let lin : 0 < c.ending_at-left.result → 0 < times c.ending_at-left.result d1.offsets = λ h. left-still _ _ _ _ _ _ _ _ _ _ w d1.threads h in
     let small : length c.unlink.new.bins.items ≤ 268435456 = omega (arith, d1.long, c.requires.arena.arena.small) in
@@ -135,7 +147,9 @@ note_free-requires-clause-end c =
     let st = site _ _ _ _ _ c.args.cell c.size_at.result c.requires.arena c.requires.exists sz in
     let w = around _ _ _ _ _ c.args.cell c.size_at.result c.ending_at-left.result c.free_size_at-right.result c.requires.arena st c.ending_at-left.ensures c.free_size_at-right.ensures in
     let t0 = threads _ _ _ _ _ c.requires.arena in
-    let rin : 0 < c.free_size_at-right.result → 0 < times (c.args.cell + c.size_at.result) (chain c.args.count.now c.args.bins.now.items c.args.head.now) = λ h. (let x = right-in _ _ _ _ _ w h in omega (arith, x, t0.exact (c.args.cell + c.size_at.result))) in
+    let rin : 0 < c.free_size_at-right.result →
+    0 < times (c.args.cell + c.size_at.result) (chain c.args.count.now c.args.bins.now.items c.args.head.now) =
+    λ h. (let x = right-in _ _ _ _ _ w h in omega (arith, x, t0.exact (c.args.cell + c.size_at.result))) in
     let d1 = detached _ _ _ _ _ _ _ _ _ _ _ c.free_size_at-right.result (c.args.cell + c.size_at.result) t0 c.requires.arena.arena.small c.requires.arena.backs_long rin c.unlink.ensures in
     let lin : 0 < c.ending_at-left.result → 0 < times c.ending_at-left.result d1.offsets = λ h. left-still _ _ _ _ _ _ _ _ _ _ w d1.threads h in
     let small : length c.unlink.new.bins.items ≤ 268435456 = omega (arith, d1.long, c.requires.arena.arena.small) in
@@ -150,7 +164,9 @@ note_free-requires-clause-some c =
     let st = site _ _ _ _ _ c.args.cell c.size_at.result c.requires.arena c.requires.exists sz in
     let w = around _ _ _ _ _ c.args.cell c.size_at.result c.ending_at-left.result c.free_size_at-right.result c.requires.arena st c.ending_at-left.ensures c.free_size_at-right.ensures in
     let t0 = threads _ _ _ _ _ c.requires.arena in
-    let rin : 0 < c.free_size_at-right.result → 0 < times (c.args.cell + c.size_at.result) (chain c.args.count.now c.args.bins.now.items c.args.head.now) = λ h. (let x = right-in _ _ _ _ _ w h in omega (arith, x, t0.exact (c.args.cell + c.size_at.result))) in
+    let rin : 0 < c.free_size_at-right.result →
+    0 < times (c.args.cell + c.size_at.result) (chain c.args.count.now c.args.bins.now.items c.args.head.now) =
+    λ h. (let x = right-in _ _ _ _ _ w h in omega (arith, x, t0.exact (c.args.cell + c.size_at.result))) in
     let d1 = detached _ _ _ _ _ _ _ _ _ _ _ c.free_size_at-right.result (c.args.cell + c.size_at.result) t0 c.requires.arena.arena.small c.requires.arena.backs_long rin c.unlink.ensures in
     let lin : 0 < c.ending_at-left.result → 0 < times c.ending_at-left.result d1.offsets = λ h. left-still _ _ _ _ _ _ _ _ _ _ w d1.threads h in
     let small : length c.unlink.new.bins.items ≤ 268435456 = omega (arith, d1.long, c.requires.arena.arena.small) in
@@ -165,7 +181,9 @@ note_free-requires-clause-next c =
     let st = site _ _ _ _ _ c.args.cell c.size_at.result c.requires.arena c.requires.exists sz in
     let w = around _ _ _ _ _ c.args.cell c.size_at.result c.ending_at-left.result c.free_size_at-right.result c.requires.arena st c.ending_at-left.ensures c.free_size_at-right.ensures in
     let t0 = threads _ _ _ _ _ c.requires.arena in
-    let rin : 0 < c.free_size_at-right.result → 0 < times (c.args.cell + c.size_at.result) (chain c.args.count.now c.args.bins.now.items c.args.head.now) = λ h. (let x = right-in _ _ _ _ _ w h in omega (arith, x, t0.exact (c.args.cell + c.size_at.result))) in
+    let rin : 0 < c.free_size_at-right.result →
+    0 < times (c.args.cell + c.size_at.result) (chain c.args.count.now c.args.bins.now.items c.args.head.now) =
+    λ h. (let x = right-in _ _ _ _ _ w h in omega (arith, x, t0.exact (c.args.cell + c.size_at.result))) in
     let d1 = detached _ _ _ _ _ _ _ _ _ _ _ c.free_size_at-right.result (c.args.cell + c.size_at.result) t0 c.requires.arena.arena.small c.requires.arena.backs_long rin c.unlink.ensures in
     let lin : 0 < c.ending_at-left.result → 0 < times c.ending_at-left.result d1.offsets = λ h. left-still _ _ _ _ _ _ _ _ _ _ w d1.threads h in
     let small : length c.unlink.new.bins.items ≤ 268435456 = omega (arith, d1.long, c.requires.arena.arena.small) in
@@ -180,7 +198,9 @@ note_free-requires-clause-cell c =
     let st = site _ _ _ _ _ c.args.cell c.size_at.result c.requires.arena c.requires.exists sz in
     let w = around _ _ _ _ _ c.args.cell c.size_at.result c.ending_at-left.result c.free_size_at-right.result c.requires.arena st c.ending_at-left.ensures c.free_size_at-right.ensures in
     let t0 = threads _ _ _ _ _ c.requires.arena in
-    let rin : 0 < c.free_size_at-right.result → 0 < times (c.args.cell + c.size_at.result) (chain c.args.count.now c.args.bins.now.items c.args.head.now) = λ h. (let x = right-in _ _ _ _ _ w h in omega (arith, x, t0.exact (c.args.cell + c.size_at.result))) in
+    let rin : 0 < c.free_size_at-right.result →
+    0 < times (c.args.cell + c.size_at.result) (chain c.args.count.now c.args.bins.now.items c.args.head.now) =
+    λ h. (let x = right-in _ _ _ _ _ w h in omega (arith, x, t0.exact (c.args.cell + c.size_at.result))) in
     let d1 = detached _ _ _ _ _ _ _ _ _ _ _ c.free_size_at-right.result (c.args.cell + c.size_at.result) t0 c.requires.arena.arena.small c.requires.arena.backs_long rin c.unlink.ensures in
     let lin : 0 < c.ending_at-left.result → 0 < times c.ending_at-left.result d1.offsets = λ h. left-still _ _ _ _ _ _ _ _ _ _ w d1.threads h in
     let small : length c.unlink.new.bins.items ≤ 268435456 = omega (arith, d1.long, c.requires.arena.arena.small) in
@@ -195,7 +215,9 @@ overflow_add-count c =
     let st = site _ _ _ _ _ c.args.cell c.size_at.result c.requires.arena c.requires.exists sz in
     let w = around _ _ _ _ _ c.args.cell c.size_at.result c.ending_at-left.result c.free_size_at-right.result c.requires.arena st c.ending_at-left.ensures c.free_size_at-right.ensures in
     let t0 = threads _ _ _ _ _ c.requires.arena in
-    let rin : 0 < c.free_size_at-right.result → 0 < times (c.args.cell + c.size_at.result) (chain c.args.count.now c.args.bins.now.items c.args.head.now) = λ h. (let x = right-in _ _ _ _ _ w h in omega (arith, x, t0.exact (c.args.cell + c.size_at.result))) in
+    let rin : 0 < c.free_size_at-right.result →
+    0 < times (c.args.cell + c.size_at.result) (chain c.args.count.now c.args.bins.now.items c.args.head.now) =
+    λ h. (let x = right-in _ _ _ _ _ w h in omega (arith, x, t0.exact (c.args.cell + c.size_at.result))) in
     let d1 = detached _ _ _ _ _ _ _ _ _ _ _ c.free_size_at-right.result (c.args.cell + c.size_at.result) t0 c.requires.arena.arena.small c.requires.arena.backs_long rin c.unlink.ensures in
     let lin : 0 < c.ending_at-left.result → 0 < times c.ending_at-left.result d1.offsets = λ h. left-still _ _ _ _ _ _ _ _ _ _ w d1.threads h in
     let small : length c.unlink.new.bins.items ≤ 268435456 = omega (arith, d1.long, c.requires.arena.arena.small) in
@@ -210,14 +232,19 @@ returns-clause-arena c =
     let st = site _ _ _ _ _ c.args.cell c.size_at.result c.requires.arena c.requires.exists sz in
     let w = around _ _ _ _ _ c.args.cell c.size_at.result c.ending_at-left.result c.free_size_at-right.result c.requires.arena st c.ending_at-left.ensures c.free_size_at-right.ensures in
     let t0 = threads _ _ _ _ _ c.requires.arena in
-    let rin : 0 < c.free_size_at-right.result → 0 < times (c.args.cell + c.size_at.result) (chain c.args.count.now c.args.bins.now.items c.args.head.now) = λ h. (let x = right-in _ _ _ _ _ w h in omega (arith, x, t0.exact (c.args.cell + c.size_at.result))) in
+    let rin : 0 < c.free_size_at-right.result →
+    0 < times (c.args.cell + c.size_at.result) (chain c.args.count.now c.args.bins.now.items c.args.head.now) =
+    λ h. (let x = right-in _ _ _ _ _ w h in omega (arith, x, t0.exact (c.args.cell + c.size_at.result))) in
     let d1 = detached _ _ _ _ _ _ _ _ _ _ _ c.free_size_at-right.result (c.args.cell + c.size_at.result) t0 c.requires.arena.arena.small c.requires.arena.backs_long rin c.unlink.ensures in
     let lin : 0 < c.ending_at-left.result → 0 < times c.ending_at-left.result d1.offsets = λ h. left-still _ _ _ _ _ _ _ _ _ _ w d1.threads h in
     let small : length c.unlink.new.bins.items ≤ 268435456 = omega (arith, d1.long, c.requires.arena.arena.small) in
     let room : length c.unlink.new.bins.items ≤ 8 * length c.unlink.new.backs.items = omega (arith, d1.long, d1.table, c.requires.arena.backs_long) in
     let d2 = detached _ _ _ _ _ _ _ _ _ _ _ c.ending_at-left.result c.ending_at-left.result d1.threads small room lin c.unlink-2.ensures in
     let e = end-facts _ _ _ _ _ _ _ _ _ _ _ _ _ _ _ _ _ c.requires.arena st w d1 d2 in
-    rw (c.put_free.ensures, c.start-lo.ensures) (free-done _ _ _ _ _ _ _ _ _ _ _ _ _ _ _ c.args.cell c.size_at.result c.ending_at-left.result c.free_size_at-right.result c.requires.arena st c.ending_at-left.ensures w d1 d2 (rw (c.mark_end.ensures, c.start-lo.ensures) at c.note_free.ensures.ends) (rw c.start-lo.ensures at c.note_free.ensures.backs)).indexed
+    rw (c.put_free.ensures, c.start-lo.ensures)
+    (free-done _ _ _ _ _ _ _ _ _ _ _ _ _ _ _ c.args.cell c.size_at.result c.ending_at-left.result c.free_size_at-right.result c.requires.arena st
+    c.ending_at-left.ensures w d1 d2 (rw (c.mark_end.ensures, c.start-lo.ensures) at c.note_free.ensures.ends)
+    (rw c.start-lo.ensures at c.note_free.ensures.backs)).indexed
 
 pub returns-clause-frees : goal.returns-clause-frees
 returns-clause-frees c =
@@ -225,14 +252,19 @@ returns-clause-frees c =
     let st = site _ _ _ _ _ c.args.cell c.size_at.result c.requires.arena c.requires.exists sz in
     let w = around _ _ _ _ _ c.args.cell c.size_at.result c.ending_at-left.result c.free_size_at-right.result c.requires.arena st c.ending_at-left.ensures c.free_size_at-right.ensures in
     let t0 = threads _ _ _ _ _ c.requires.arena in
-    let rin : 0 < c.free_size_at-right.result → 0 < times (c.args.cell + c.size_at.result) (chain c.args.count.now c.args.bins.now.items c.args.head.now) = λ h. (let x = right-in _ _ _ _ _ w h in omega (arith, x, t0.exact (c.args.cell + c.size_at.result))) in
+    let rin : 0 < c.free_size_at-right.result →
+    0 < times (c.args.cell + c.size_at.result) (chain c.args.count.now c.args.bins.now.items c.args.head.now) =
+    λ h. (let x = right-in _ _ _ _ _ w h in omega (arith, x, t0.exact (c.args.cell + c.size_at.result))) in
     let d1 = detached _ _ _ _ _ _ _ _ _ _ _ c.free_size_at-right.result (c.args.cell + c.size_at.result) t0 c.requires.arena.arena.small c.requires.arena.backs_long rin c.unlink.ensures in
     let lin : 0 < c.ending_at-left.result → 0 < times c.ending_at-left.result d1.offsets = λ h. left-still _ _ _ _ _ _ _ _ _ _ w d1.threads h in
     let small : length c.unlink.new.bins.items ≤ 268435456 = omega (arith, d1.long, c.requires.arena.arena.small) in
     let room : length c.unlink.new.bins.items ≤ 8 * length c.unlink.new.backs.items = omega (arith, d1.long, d1.table, c.requires.arena.backs_long) in
     let d2 = detached _ _ _ _ _ _ _ _ _ _ _ c.ending_at-left.result c.ending_at-left.result d1.threads small room lin c.unlink-2.ensures in
     let e = end-facts _ _ _ _ _ _ _ _ _ _ _ _ _ _ _ _ _ c.requires.arena st w d1 d2 in
-    rw (c.put_free.ensures, c.start-lo.ensures) (free-done _ _ _ _ _ _ _ _ _ _ _ _ _ _ _ c.args.cell c.size_at.result c.ending_at-left.result c.free_size_at-right.result c.requires.arena st c.ending_at-left.ensures w d1 d2 (rw (c.mark_end.ensures, c.start-lo.ensures) at c.note_free.ensures.ends) (rw c.start-lo.ensures at c.note_free.ensures.backs)).frees
+    rw (c.put_free.ensures, c.start-lo.ensures)
+    (free-done _ _ _ _ _ _ _ _ _ _ _ _ _ _ _ c.args.cell c.size_at.result c.ending_at-left.result c.free_size_at-right.result c.requires.arena st
+    c.ending_at-left.ensures w d1 d2 (rw (c.mark_end.ensures, c.start-lo.ensures) at c.note_free.ensures.ends)
+    (rw c.start-lo.ensures at c.note_free.ensures.backs)).frees
 
 pub returns-clause-contents : goal.returns-clause-contents
 returns-clause-contents c =
@@ -240,11 +272,16 @@ returns-clause-contents c =
     let st = site _ _ _ _ _ c.args.cell c.size_at.result c.requires.arena c.requires.exists sz in
     let w = around _ _ _ _ _ c.args.cell c.size_at.result c.ending_at-left.result c.free_size_at-right.result c.requires.arena st c.ending_at-left.ensures c.free_size_at-right.ensures in
     let t0 = threads _ _ _ _ _ c.requires.arena in
-    let rin : 0 < c.free_size_at-right.result → 0 < times (c.args.cell + c.size_at.result) (chain c.args.count.now c.args.bins.now.items c.args.head.now) = λ h. (let x = right-in _ _ _ _ _ w h in omega (arith, x, t0.exact (c.args.cell + c.size_at.result))) in
+    let rin : 0 < c.free_size_at-right.result →
+    0 < times (c.args.cell + c.size_at.result) (chain c.args.count.now c.args.bins.now.items c.args.head.now) =
+    λ h. (let x = right-in _ _ _ _ _ w h in omega (arith, x, t0.exact (c.args.cell + c.size_at.result))) in
     let d1 = detached _ _ _ _ _ _ _ _ _ _ _ c.free_size_at-right.result (c.args.cell + c.size_at.result) t0 c.requires.arena.arena.small c.requires.arena.backs_long rin c.unlink.ensures in
     let lin : 0 < c.ending_at-left.result → 0 < times c.ending_at-left.result d1.offsets = λ h. left-still _ _ _ _ _ _ _ _ _ _ w d1.threads h in
     let small : length c.unlink.new.bins.items ≤ 268435456 = omega (arith, d1.long, c.requires.arena.arena.small) in
     let room : length c.unlink.new.bins.items ≤ 8 * length c.unlink.new.backs.items = omega (arith, d1.long, d1.table, c.requires.arena.backs_long) in
     let d2 = detached _ _ _ _ _ _ _ _ _ _ _ c.ending_at-left.result c.ending_at-left.result d1.threads small room lin c.unlink-2.ensures in
     let e = end-facts _ _ _ _ _ _ _ _ _ _ _ _ _ _ _ _ _ c.requires.arena st w d1 d2 in
-    rw (c.put_free.ensures, c.start-lo.ensures) (free-done _ _ _ _ _ _ _ _ _ _ _ _ _ _ _ c.args.cell c.size_at.result c.ending_at-left.result c.free_size_at-right.result c.requires.arena st c.ending_at-left.ensures w d1 d2 (rw (c.mark_end.ensures, c.start-lo.ensures) at c.note_free.ensures.ends) (rw c.start-lo.ensures at c.note_free.ensures.backs)).contents
+    rw (c.put_free.ensures, c.start-lo.ensures)
+    (free-done _ _ _ _ _ _ _ _ _ _ _ _ _ _ _ c.args.cell c.size_at.result c.ending_at-left.result c.free_size_at-right.result c.requires.arena st
+    c.ending_at-left.ensures w d1 d2 (rw (c.mark_end.ensures, c.start-lo.ensures) at c.note_free.ensures.ends)
+    (rw c.start-lo.ensures at c.note_free.ensures.backs)).contents

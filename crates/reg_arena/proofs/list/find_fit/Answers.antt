@@ -19,7 +19,8 @@ pub returns-then-size_at-total : goal.returns-then-size_at-total
 returns-then-size_at-total c = passed-fit _ _ _ _ _ _ _ c.loop-i-test.true (let e = rw c.deref.ensures.value at c.size_at.ensures in omega (arith, e)) c.loop-i.invariant
 
 pub loop-i-preserved : goal.loop-i-preserved
-loop-i-preserved c = passed-more _ _ _ _ _ _ _ _ c.loop-i-test.true (rw c.deref-in-loop-i.ensures.value at c.word_at-cell.ensures) (let e = rw c.deref.ensures.value at c.size_at.ensures in omega (arith, e)) c.loop-i.invariant
+loop-i-preserved c = passed-more _ _ _ _ _ _ _ _ c.loop-i-test.true (rw c.deref-in-loop-i.ensures.value at c.word_at-cell.ensures)
+    (let e = rw c.deref.ensures.value at c.size_at.ensures in omega (arith, e)) c.loop-i.invariant
 
 pub returns : goal.returns
 returns c = passed-all _ _ _ _ _ _ _ (omega arith) c.loop-i.invariant

@@ -10,4 +10,6 @@ loop-index-preserved c = λ p at.
     let members = values_at c.args.tree.now.tree p in
     let value = c.in-Some.ensures.told p at in
     let tells = value.2 in
-    largest-step (λ (v : Member). length v.bytes) members c.loop-index.index value.0 value.0 _ _ c.larger-largest.result (slice_get_within members c.loop-index.index value.0 value.1) (get_or_from_slice_get members c.loop-index.index value.0 value.0 value.1) (c.loop-index.invariant p at) tells.size_is c.larger-largest.ensures
+    largest-step (λ (v : Member). length v.bytes) members c.loop-index.index value.0 value.0 _ _ c.larger-largest.result
+    (slice_get_within members c.loop-index.index value.0 value.1) (get_or_from_slice_get members c.loop-index.index value.0 value.0 value.1)
+    (c.loop-index.invariant p at) tells.size_is c.larger-largest.ensures

@@ -11,4 +11,5 @@ loop-index-preserved c = λ p at.
     let child = c.in-Some.ensures p at in
     let q = get_or (children_of tree p) c.loop-index.index [] in
     let name = name-told (get tree q) c.name.result.now (c.name.ensures.told q child.1) (c.name.ensures.key q child.1) in
-    largest-step (λ (x : Path). length (name_of (get tree x))) (children_of tree p) c.loop-index.index [] q _ _ c.larger-longest.result child.0 refl (c.loop-index.invariant p at) (ap (λ (n : List ℕ). length n) name) c.larger-longest.ensures
+    largest-step (λ (x : Path). length (name_of (get tree x))) (children_of tree p) c.loop-index.index [] q _ _ c.larger-longest.result child.0 refl
+    (c.loop-index.invariant p at) (ap (λ (n : List ℕ). length n) name) c.larger-longest.ensures

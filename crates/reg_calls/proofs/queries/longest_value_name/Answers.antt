@@ -10,4 +10,6 @@ loop-index-preserved c = λ p at.
     let members = values_at c.args.tree.now.tree p in
     let value = c.in-Some.ensures.told p at in
     let tells = value.2 in
-    largest-step (λ (v : Member). length v.name) members c.loop-index.index value.0 value.0 _ _ c.larger-longest.result (slice_get_within members c.loop-index.index value.0 value.1) (get_or_from_slice_get members c.loop-index.index value.0 value.0 value.1) (c.loop-index.invariant p at) (ap (λ (n : List ℕ). length n) tells.name_is) c.larger-longest.ensures
+    largest-step (λ (v : Member). length v.name) members c.loop-index.index value.0 value.0 _ _ c.larger-longest.result
+    (slice_get_within members c.loop-index.index value.0 value.1) (get_or_from_slice_get members c.loop-index.index value.0 value.0 value.1)
+    (c.loop-index.invariant p at) (ap (λ (n : List ℕ). length n) tells.name_is) c.larger-longest.ensures

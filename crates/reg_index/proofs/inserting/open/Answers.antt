@@ -24,7 +24,8 @@ returns-in-None-clause-gap c =
 
 pub returns-in-None-clause-moves : goal.returns-in-None-clause-moves
 returns-in-None-clause-moves c =
-    within-moves (cell_at c.args.arena.now.bytes) (cell_at c.open_within.new.arena.bytes) c.args.list.count c.args.list.place c.args.fresh c.if-list-eq0.false (sym c.plan_insert.ensures ∙ c.in-None.is) c.open_within.ensures.writes
+    within-moves (cell_at c.args.arena.now.bytes) (cell_at c.open_within.new.arena.bytes) c.args.list.count c.args.list.place c.args.fresh
+    c.if-list-eq0.false (sym c.plan_insert.ensures ∙ c.in-None.is) c.open_within.ensures.writes
 
 pub move_open-requires-clause-leaf : goal.move_open-requires-clause-leaf
 move_open-requires-clause-leaf c = leaf-needs (cell_at c.args.arena.now.bytes) c.args.list.count c.args.list.place c.args.index c.if-list-eq0.false c.requires.subkeys
@@ -46,4 +47,5 @@ returns-in-Some-clause-gap c =
 
 pub returns-in-Some-clause-moves : goal.returns-in-Some-clause-moves
 returns-in-Some-clause-moves c =
-    move-moves (cell_at c.args.arena.now.bytes) (cell_at c.move_open.new.arena.bytes) c.args.list.count c.args.list.place c.args.fresh c.in-Some.field-0 c.if-list-eq0.false (sym c.plan_insert.ensures ∙ c.in-Some.is) c.move_open.ensures.moves
+    move-moves (cell_at c.args.arena.now.bytes) (cell_at c.move_open.new.arena.bytes) c.args.list.count c.args.list.place c.args.fresh
+    c.in-Some.field-0 c.if-list-eq0.false (sym c.plan_insert.ensures ∙ c.in-Some.is) c.move_open.ensures.moves

@@ -22,4 +22,6 @@ put_leaf_head-requires-clause-room c =
 
 pub returns-clause-leaf : goal.returns-clause-leaf
 returns-clause-leaf c =
-    closed (cell_at c.args.arena.now.bytes) (cell_at c.shift.new.self.bytes) (cell_at c.put_leaf_head.new.arena.bytes) c.args.cell c.args.left c.args.index c.requires.few c.requires.index c.shift.ensures.written c.put_leaf_head.ensures.here
+    closed (cell_at c.args.arena.now.bytes) (cell_at c.shift.new.self.bytes)
+    (cell_at c.put_leaf_head.new.arena.bytes) c.args.cell c.args.left c.args.index c.requires.few c.requires.index c.shift.ensures.written
+    c.put_leaf_head.ensures.here

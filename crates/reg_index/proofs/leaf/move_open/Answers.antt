@@ -25,5 +25,6 @@ copy-requires-2-clause-fits c =
 
 pub returns-clause-gap : goal.returns-clause-gap
 returns-clause-gap c =
-    moved-gap (cell_at c.args.arena.now.bytes) (cell_at c.copy.new.self.bytes) (cell_at c.copy-2.new.self.bytes) (cell_at c.free.new.self.bytes) c.args.cell c.args.fresh c.args.count c.args.index c.requires.index c.requires.room.enough c.requires.apart
+    moved-gap (cell_at c.args.arena.now.bytes) (cell_at c.copy.new.self.bytes) (cell_at c.copy-2.new.self.bytes)
+    (cell_at c.free.new.self.bytes) c.args.cell c.args.fresh c.args.count c.args.index c.requires.index c.requires.room.enough c.requires.apart
     c.copy.ensures.written c.copy-2.ensures.written c.free.ensures.contents

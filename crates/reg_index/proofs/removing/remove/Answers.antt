@@ -9,7 +9,8 @@ free-requires c = list-here (cell_at c.args.arena.now.bytes) c.args.list.count c
 
 pub returns-then-count-eq0-clause-subkeys : goal.returns-then-count-eq0-clause-subkeys
 returns-then-count-eq0-clause-subkeys c =
-    emptied (cell_at c.args.arena.now.bytes) (cell_at c.free.new.self.bytes) c.args.list.count c.args.list.place (c.args.list.count - 1) c.args.index c.requires.index (omega (arith, c.requires.index)) c.if-count-eq0.true c.free.ensures.gone
+    emptied (cell_at c.args.arena.now.bytes) (cell_at c.free.new.self.bytes) c.args.list.count c.args.list.place
+    (c.args.list.count - 1) c.args.index c.requires.index (omega (arith, c.requires.index)) c.if-count-eq0.true c.free.ensures.gone
 
 pub returns-then-count-eq0-clause-moves : goal.returns-then-count-eq0-clause-moves
 returns-then-count-eq0-clause-moves c =
@@ -23,7 +24,9 @@ close-requires-clause-few c = omega (arith, c.requires.subkeys.1.few)
 
 pub returns-clause-subkeys : goal.returns-clause-subkeys
 returns-clause-subkeys c =
-    fewer (cell_at c.args.arena.now.bytes) (cell_at c.close.new.arena.bytes) c.args.list.count c.args.list.place (c.args.list.count - 1) c.args.index c.requires.index (omega (arith, c.requires.index)) c.if-count-eq0.false c.close.ensures.writes c.close.ensures.leaf
+    fewer (cell_at c.args.arena.now.bytes) (cell_at c.close.new.arena.bytes) c.args.list.count c.args.list.place
+    (c.args.list.count - 1) c.args.index c.requires.index (omega (arith, c.requires.index)) c.if-count-eq0.false c.close.ensures.writes
+    c.close.ensures.leaf
 
 pub returns-clause-moves : goal.returns-clause-moves
 returns-clause-moves c = fewer-moves (cell_at c.args.arena.now.bytes) (cell_at c.close.new.arena.bytes) c.args.list.place (c.args.list.count - 1) c.if-count-eq0.false c.close.ensures.writes

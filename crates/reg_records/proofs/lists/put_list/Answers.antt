@@ -7,7 +7,9 @@ loop-index-init c = none-listed _ _ c.args.cell c.args.form c.args.entries.now _
 
 pub loop-index-preserved : goal.loop-index-preserved
 loop-index-preserved c =
-    one-listed _ _ _ c.args.cell c.args.form c.args.entries.now c.loop-index.index _ (record { place = 0; hint = 0 }) c.loop-index-test.true refl c.loop-index.invariant c.put_entry.ensures.written c.put_entry.ensures.place c.put_entry.ensures.hint
+    one-listed _ _ _ c.args.cell c.args.form c.args.entries.now c.loop-index.index _
+    (record { place = 0; hint = 0 }) c.loop-index-test.true refl c.loop-index.invariant c.put_entry.ensures.written c.put_entry.ensures.place
+    c.put_entry.ensures.hint
 
 pub returns-clause-written : goal.returns-clause-written
 returns-clause-written c = all-written _ _ c.args.cell c.args.form c.args.entries.now c.loop-index.index c.loop-index-test.false c.loop-index.invariant

@@ -12,7 +12,8 @@ returns-clause-written c = rw c.word_bytes.ensures.bytes at c.write_part.ensures
 
 pub returns-clause-reads : goal.returns-clause-reads
 returns-clause-reads c =
-    key-changed 52 (little_bytes 4 c.args.largest) (λ r. record r { fields = record r.fields { largest_subkey_name = c.args.largest } }) (nk-widened c.args.largest c.word_bytes.ensures.fits) _ _ c.args.cell (returns-clause-written c)
+    key-changed 52 (little_bytes 4 c.args.largest) (λ r. record r { fields = record r.fields { largest_subkey_name = c.args.largest } })
+    (nk-widened c.args.largest c.word_bytes.ensures.fits) _ _ c.args.cell (returns-clause-written c)
 
 pub returns-clause-plain : goal.returns-clause-plain
 returns-clause-plain c = plain-widened _ _ c.args.cell c.args.largest c.requires (returns-clause-written c)

@@ -12,7 +12,8 @@ returns-clause-written c = rw c.long_bytes.ensures.bytes at c.write_part.ensures
 
 pub returns-clause-reads : goal.returns-clause-reads
 returns-clause-reads c =
-    key-changed 4 (little_bytes 8 c.args.time) (λ r. record r { fields = record r.fields { time = c.args.time } }) (nk-timed c.args.time c.long_bytes.ensures.fits) _ _ c.args.cell (returns-clause-written c)
+    key-changed 4 (little_bytes 8 c.args.time) (λ r. record r { fields = record r.fields { time = c.args.time } })
+    (nk-timed c.args.time c.long_bytes.ensures.fits) _ _ c.args.cell (returns-clause-written c)
 
 pub returns-clause-plain : goal.returns-clause-plain
 returns-clause-plain c = plain-timed _ _ c.args.cell c.args.time c.requires (returns-clause-written c)

@@ -12,7 +12,9 @@ returns-clause-written c = rw (c.word_bytes.ensures.bytes, c.word_bytes-2.ensure
 
 pub returns-clause-reads : goal.returns-clause-reads
 returns-clause-reads c =
-    key-changed 36 (little_bytes 4 c.args.values ++ little_bytes 4 c.args.values_list) (λ r. record r { fields = record r.fields { values = c.args.values; values_list = c.args.values_list } }) (nk-valued c.args.values c.word_bytes.ensures.fits c.args.values_list c.word_bytes-2.ensures.fits) _ _ c.args.cell (returns-clause-written c)
+    key-changed 36 (little_bytes 4 c.args.values ++ little_bytes 4 c.args.values_list)
+    (λ r. record r { fields = record r.fields { values = c.args.values; values_list = c.args.values_list } })
+    (nk-valued c.args.values c.word_bytes.ensures.fits c.args.values_list c.word_bytes-2.ensures.fits) _ _ c.args.cell (returns-clause-written c)
 
 pub returns-clause-plain : goal.returns-clause-plain
 returns-clause-plain c = plain-valued _ _ c.args.cell c.args.values c.args.values_list c.requires (returns-clause-written c)

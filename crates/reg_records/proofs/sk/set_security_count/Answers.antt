@@ -12,7 +12,8 @@ returns-clause-written c = rw c.word_bytes.ensures.bytes at c.write_part.ensures
 
 pub returns-clause-reads : goal.returns-clause-reads
 returns-clause-reads c =
-    security-changed 12 (little_bytes 4 c.args.count) (λ r. record r { fields = record r.fields { count = c.args.count } }) (sk-counted c.args.count c.word_bytes.ensures.fits) _ _ c.args.cell (returns-clause-written c)
+    security-changed 12 (little_bytes 4 c.args.count) (λ r. record r { fields = record r.fields { count = c.args.count } })
+    (sk-counted c.args.count c.word_bytes.ensures.fits) _ _ c.args.cell (returns-clause-written c)
 
 pub returns-clause-plain : goal.returns-clause-plain
 returns-clause-plain c = plain-shared _ _ c.args.cell c.args.count c.requires (returns-clause-written c)

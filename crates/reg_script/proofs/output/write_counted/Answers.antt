@@ -7,5 +7,6 @@ pub loop-taken-preserved : goal.loop-taken-preserved
 loop-taken-preserved g c = record {
   within = rest_fits c.loop-taken.taken c.in-Ok.count c.args.bytes.now c.loop-taken-test.true c.in-Ok.ensures.bound;
   written = Appends-more _ _ _ c.args.bytes.now c.loop-taken.taken c.in-Ok.count c.loop-taken.invariant.written
-      (subst (λ (w : List ℕ). Appends (g.W.Write.contents c.loop-taken.writer) (g.W.Write.contents c.write.new.self) (take c.in-Ok.count w)) (rest_is c.loop-taken.taken c.args.bytes.now) c.in-Ok.ensures.bytes);
+      (subst (λ (w : List ℕ). Appends (g.W.Write.contents c.loop-taken.writer) (g.W.Write.contents c.write.new.self) (take c.in-Ok.count w))
+      (rest_is c.loop-taken.taken c.args.bytes.now) c.in-Ok.ensures.bytes);
 }

@@ -7,7 +7,8 @@ use Rattle.reg_arena.proofs.Layout.CellLayout.{allocated-some}
 use Rattle.reg_tests.proofs.arena.has_cell.Goals as goal
 
 -- an allocated cell of the list stands where it says
-listed-stands : (bytes : List ℕ) (cells items : List Cell) (i : ℕ) (d : Cell) (offset : ℕ) → cells_of bytes ≡ Some cells → items ≡ cells → i < length items → (get_or items i d).offset ≡ offset → (get_or items i d).allocated ≡ true → IsSome (cell_at bytes offset)
+listed-stands : (bytes : List ℕ) (cells items : List Cell) (i : ℕ) (d : Cell) (offset : ℕ) → cells_of bytes ≡ Some cells → items ≡ cells →
+    i < length items → (get_or items i d).offset ≡ offset → (get_or items i d).allocated ≡ true → IsSome (cell_at bytes offset)
 listed-stands bytes cells items i d offset e v l o a =
     let have = allocated-some bytes items (get_or items i d) (e ∙ sym (ap Some v)) (Contains-get_or items i d l) a in
     subst (λ n. IsSome (cell_at bytes n)) o (rw have refl)

@@ -15,7 +15,8 @@ pub returns-then-is_empty-clause-new : goal.returns-then-is_empty-clause-new
 returns-then-is_empty-clause-new c = λ t. new_none _ c.args.from t c.args.path.now _ _ c.reach.ensures c.args.moment (empty_names _ c.is_empty.result c.is_empty.ensures c.if-is_empty.true)
 
 pub returns-then-is_empty-clause-limit : goal.returns-then-is_empty-clause-limit
-returns-then-is_empty-clause-limit c = λ t d. limit_none _ (none_many _ c.args.from t c.args.path.now _ _ c.reach.ensures c.args.moment (empty_names _ c.is_empty.result c.is_empty.ensures c.if-is_empty.true))
+returns-then-is_empty-clause-limit c = λ t d. limit_none _ (none_many _ c.args.from t c.args.path.now _ _ c.reach.ensures c.args.moment
+    (empty_names _ c.is_empty.result c.is_empty.ensures c.if-is_empty.true))
 
 pub pass_limits-requires-clause-here : goal.pass_limits-requires-clause-here
 pass_limits-requires-clause-here c = parent_here _ c.args.from c.requires.here.0 c.args.path.now _ _ c.reach.ensures c.args.moment
@@ -36,7 +37,9 @@ carve_for-requires-clause-here c = parent_here _ c.args.from c.requires.here.0 c
 pub returns-in-Err-clause-limit : goal.returns-in-Err-clause-limit
 returns-in-Err-clause-limit c = λ t d.
     limit_other c.in-Err.fault c.in-Err.ensures.others
-    (λ m. false≢true (sym c.if-pass_limits.false ∙ (c.pass_limits.ensures.many (parent_here _ c.args.from t c.args.path.now _ _ c.reach.ensures c.args.moment)).1 (are_many _ c.args.from t c.args.path.now _ _ c.reach.ensures c.args.moment d m)))
+    (λ m. false≢true (sym c.if-pass_limits.false ∙
+    (c.pass_limits.ensures.many (parent_here _ c.args.from t c.args.path.now _ _ c.reach.ensures c.args.moment)).1
+    (are_many _ c.args.from t c.args.path.now _ _ c.reach.ensures c.args.moment d m)))
 
 pub make_all-node-requires-clause-grow : goal.make_all-node-requires-clause-grow
 make_all-node-requires-clause-grow c =
@@ -57,4 +60,6 @@ returns-clause-new c = λ t. new_some _ c.args.from t c.args.path.now _ _ c.reac
 pub returns-clause-limit : goal.returns-clause-limit
 returns-clause-limit c = λ t d.
     limit_none _
-    (λ m. false≢true (sym c.if-pass_limits.false ∙ (c.pass_limits.ensures.many (parent_here _ c.args.from t c.args.path.now _ _ c.reach.ensures c.args.moment)).1 (are_many _ c.args.from t c.args.path.now _ _ c.reach.ensures c.args.moment d m)))
+    (λ m. false≢true (sym c.if-pass_limits.false ∙
+    (c.pass_limits.ensures.many (parent_here _ c.args.from t c.args.path.now _ _ c.reach.ensures c.args.moment)).1
+    (are_many _ c.args.from t c.args.path.now _ _ c.reach.ensures c.args.moment d m)))

@@ -19,7 +19,8 @@ unreachable-requires c = not_found _ _ _ _ _ _ c.requires.grow.1 _ c.fields-abov
 
 pub insert-list-requires-clause-subkeys : goal.insert-list-requires-clause-subkeys
 insert-list-requires-clause-subkeys c =
-    inserts _ _ _ _ _ _ c.requires.grow.1 _ c.fields-above.ensures _ c.put_nk.ensures.written.others (is_some_of _ _ c.put_nk.ensures.written.here) _ c.put_nk.ensures.reads c.in-Err.index c.in-Err.ensures
+    inserts _ _ _ _ _ _ c.requires.grow.1 _ c.fields-above.ensures _ c.put_nk.ensures.written.others
+    (is_some_of _ _ c.put_nk.ensures.written.here) _ c.put_nk.ensures.reads c.in-Err.index c.in-Err.ensures
 
 pub insert-list-requires-clause-few : goal.insert-list-requires-clause-few
 insert-list-requires-clause-few c = few_subkeys _ _ _ _ _ _ c.requires.grow.1 _ c.fields-above.ensures

@@ -31,9 +31,11 @@ pub loop-name-preserved : goal.loop-name-preserved
 loop-name-preserved c = λ m.
     let mid = c.loop-name.invariant m in
     subst
-    (λ left. Midway _ c.args.from (path_of c.args.path.now) c.args.spare.now m c.args.moment c.make_in-taken.new.arena.bytes (record { offset = get_or c.loop-name.spare.now (c.make_in-taken.result - 1) 0; depth = c.loop-name.node.depth + 1 }) c.in-Some.behind.now left)
+    (λ left. Midway _ c.args.from (path_of c.args.path.now) c.args.spare.now m c.args.moment c.make_in-taken.new.arena.bytes
+    (record { offset = get_or c.loop-name.spare.now (c.make_in-taken.result - 1) 0; depth = c.loop-name.node.depth + 1 }) c.in-Some.behind.now left)
     (sym (rest_all c.make_in-taken.result c.loop-name.spare.now))
-    (one_further _ _ _ _ _ _ _ _ _ _ mid c.in-Some.name.now c.in-Some.behind.now c.in-Some.ensures _ (get_or c.loop-name.spare.now (c.make_in-taken.result - 1) 0) (drop c.make_in-taken.result c.loop-name.spare.now)
+    (one_further _ _ _ _ _ _ _ _ _ _ mid c.in-Some.name.now c.in-Some.behind.now c.in-Some.ensures _
+    (get_or c.loop-name.spare.now (c.make_in-taken.result - 1) 0) (drop c.make_in-taken.result c.loop-name.spare.now)
     (c.make_in-taken.ensures.grows (may_next _ _ _ _ _ _ _ _ _ _ mid _ _ c.in-Some.ensures)) (c.make_in-taken.ensures.ready _ (ready_next _ _ _ _ _ _ _ _ _ _ mid _ _ c.in-Some.ensures)))
 
 pub returns : goal.returns

@@ -5,7 +5,8 @@ use Rattle.reg_tree.proofs.InsertKey.PathGrowth.{Midway}
 use Rattle.reg_tree.proofs.make.make_all.Given as goal
 
 abbrev pub invariant-loop-name : goal.invariant-loop-name
-invariant-loop-name l = (m : MayGrowAll l.fn.arena.bytes l.fn.from (path_of l.fn.path) l.fn.spare) → Midway l.fn.arena.bytes l.fn.from (path_of l.fn.path) l.fn.spare m l.fn.moment l.arena.bytes l.node l.rest l.spare
+invariant-loop-name l = (m : MayGrowAll l.fn.arena.bytes l.fn.from (path_of l.fn.path) l.fn.spare) →
+    Midway l.fn.arena.bytes l.fn.from (path_of l.fn.path) l.fn.spare m l.fn.moment l.arena.bytes l.node l.rest l.spare
 
 abbrev pub decreases-loop-name : goal.decreases-loop-name
 decreases-loop-name l = length l.rest

@@ -38,7 +38,8 @@ returns-in-None-clause-grows c =
     let r = c.requires.ready.1 in
     let p = planned_is _ _ _ c.requires.grow.growing _ _ c.subkeys_list-list.ensures ∙ (sym c.plan_insert.ensures ∙ c.in-None.is) in
     let a = alone _ r.list_cell r.key r.left c.args.spare.now p r.spare_is in
-    respelt _ _ _ (λ path root keys first. Grows (cell_at c.args.arena.now.bytes) (cell_at c.make.new.arena.bytes) root path keys first (get_or c.args.spare.now 0 0) (drop 1 c.args.spare.now) c.args.name.now c.args.moment)
+    respelt _ _ _ (λ path root keys first. Grows (cell_at c.args.arena.now.bytes) (cell_at c.make.new.arena.bytes) root path keys first
+    (get_or c.args.spare.now 0 0) (drop 1 c.args.spare.now) c.args.name.now c.args.moment)
     _ _ (a.all 4294967295) (c.make.ensures (drop 1 c.args.spare.now))
 
 pub returns-in-Some-clause-taken : goal.returns-in-Some-clause-taken
@@ -54,7 +55,8 @@ returns-in-Some-clause-grows c =
     let r = c.requires.ready.1 in
     let p = planned_is _ _ _ c.requires.grow.growing _ _ c.subkeys_list-list.ensures ∙ (sym c.plan_insert.ensures ∙ c.in-Some.is) in
     let b = beside _ _ r.list_cell r.key r.left c.args.spare.now p r.spare_is in
-    respelt _ _ _ (λ path root keys first. Grows (cell_at c.args.arena.now.bytes) (cell_at c.make-in-Some.new.arena.bytes) root path keys first (get_or c.args.spare.now 1 0) (drop 2 c.args.spare.now) c.args.name.now c.args.moment)
+    respelt _ _ _ (λ path root keys first. Grows (cell_at c.args.arena.now.bytes) (cell_at c.make-in-Some.new.arena.bytes) root path keys first
+    (get_or c.args.spare.now 1 0) (drop 2 c.args.spare.now) c.args.name.now c.args.moment)
     _ _ b.all (c.make-in-Some.ensures (drop 2 c.args.spare.now))
 
 pub returns-in-Some-clause-ready : goal.returns-in-Some-clause-ready

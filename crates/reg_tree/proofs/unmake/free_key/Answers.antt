@@ -16,8 +16,10 @@ free_class-requires c = sole-class _ _ c.requires _ _ c.values_list-values.ensur
 
 pub free-requires : goal.free-requires
 free-requires c =
-    sole-left _ _ c.requires _ _ c.values_list-values.ensures (cell_at c.clear.new.arena.bytes) c.clear.ensures c.fields-head.result c.fields-head.ensures (cell_at c.free_class.new.arena.bytes) c.free_class.ensures
+    sole-left _ _ c.requires _ _ c.values_list-values.ensures (cell_at c.clear.new.arena.bytes) c.clear.ensures c.fields-head.result
+    c.fields-head.ensures (cell_at c.free_class.new.arena.bytes) c.free_class.ensures
 
 pub returns : goal.returns
 returns c =
-    sole-gone _ _ c.requires _ _ c.values_list-values.ensures (cell_at c.clear.new.arena.bytes) c.clear.ensures c.fields-head.result c.fields-head.ensures (cell_at c.free_class.new.arena.bytes) c.free_class.ensures (cell_at c.free.new.self.bytes) c.free.ensures.gone
+    sole-gone _ _ c.requires _ _ c.values_list-values.ensures (cell_at c.clear.new.arena.bytes) c.clear.ensures c.fields-head.result
+    c.fields-head.ensures (cell_at c.free_class.new.arena.bytes) c.free_class.ensures (cell_at c.free.new.self.bytes) c.free.ensures.gone

@@ -23,5 +23,7 @@ note_subkeys-requires-clause-exists c =
 
 pub returns : goal.returns
 returns c = λ above entries index l.
-    let e = found-there _ _ _ above entries index l c.name_of.result.now c.name_of.ensures c.in-Ok.index (c.in-Ok.ensures entries (listed-subkeys _ _ _ above entries index l _ _ c.subkeys_list-list.ensures)) in
-    unlinked _ _ _ above entries index l _ _ c.subkeys_list-list.ensures c.in-Ok.index _ _ (cell_at c.remove-after.new.arena.bytes) (cell_at c.note_subkeys.new.arena.bytes) c.args.moment e c.remove-after.ensures.subkeys c.remove-after.ensures.moves c.note_subkeys.ensures
+    let e = found-there _ _ _ above entries index l c.name_of.result.now c.name_of.ensures c.in-Ok.index
+    (c.in-Ok.ensures entries (listed-subkeys _ _ _ above entries index l _ _ c.subkeys_list-list.ensures)) in
+    unlinked _ _ _ above entries index l _ _ c.subkeys_list-list.ensures c.in-Ok.index _ _ (cell_at c.remove-after.new.arena.bytes)
+    (cell_at c.note_subkeys.new.arena.bytes) c.args.moment e c.remove-after.ensures.subkeys c.remove-after.ensures.moves c.note_subkeys.ensures

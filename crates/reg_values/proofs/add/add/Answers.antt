@@ -10,7 +10,8 @@ use Rattle.reg_values.proofs.ValueListing.ValueListFrame.{list-open}
 use Rattle.reg_values.proofs.ValueData.FilledCells.{fills-room}
 use Rattle.reg_values.proofs.ValueData.NewCellRoom.{room-less}
 use Rattle.reg_values.proofs.ValueData.CellSizeTotals.{add-ok, add-total, value-name}
-use Rattle.reg_values.proofs.ValueChanges.ValueAdded.{was, list2, owns2, beside2, added, add-makes, new-all, one-rooms, one-parts, two-long, two-rooms, two-list, two-parts, room-sizes, full-sizes, list-space, some-count, became-as}
+use Rattle.reg_values.proofs.ValueChanges.ValueAdded.{was, list2, owns2, beside2, added, add-makes, new-all, one-rooms, one-parts, two-long, two-rooms, two-list, two-parts, room-sizes}
+use Rattle.reg_values.proofs.ValueChanges.ValueAdded.{full-sizes, list-space, some-count, became-as}
 use Rattle.reg_values.proofs.add.add.Goals as goal
 
 pub plan_add-requires-clause-list : goal.plan_add-requires-clause-list
@@ -26,7 +27,8 @@ carve-requires-clause-sizes c =
 pub carve-requires-clause-total : goal.carve-requires-clause-total
 carve-requires-clause-total c =
     let f = c.requires.few in
-    let t = add-total (cell_at c.args.arena.now.bytes) c.args.list.count c.args.list.place (length c.args.name.now) (length c.args.bytes.now) (omega (arith, f)) (value-name c.args.name.now c.requires.name) c.requires.bytes in
+    let t = add-total (cell_at c.args.arena.now.bytes) c.args.list.count c.args.list.place (length c.args.name.now) (length c.args.bytes.now)
+    (omega (arith, f)) (value-name c.args.name.now c.requires.name) c.requires.bytes in
     subst (λ sizes. total_of sizes ≤ 1306592) (sym (c.deref.ensures.value ∙ c.in-Ok.ensures)) t
 
 pub put_value-requires-clause-cells : goal.put_value-requires-clause-cells
@@ -50,7 +52,8 @@ grow-requires-clause-owns c =
     let a = new-all h0 h1 c.in_ok-cells.cells.items all c.deref.result.now _ c.in_ok-cells.ensures.ok c.as_slice-all.ensures.value (c.deref.ensures.value ∙ c.in-Ok.ensures) in
     let a1 = subst (AreNew h0 h1 all) (room-sizes h0 n p (length c.args.name.now) (length c.args.bytes.now) (sym c.has_room-room.ensures ∙ c.if-room.true)) a in
     let v = c.requires.values in
-    owns2 h0 h1 (cell_at c.put_value.new.arena.bytes) n p v.members v.met v.reads v.once v.written all [] (take (length all - 1) (drop 1 all)) (get_or all 0 0) (one-parts h0 h1 all _ _ a1) a.come c.put_value.ensures.fills
+    owns2 h0 h1 (cell_at c.put_value.new.arena.bytes) n p v.members v.met v.reads v.once v.written all [] (take (length all - 1) (drop 1 all))
+    (get_or all 0 0) (one-parts h0 h1 all _ _ a1) a.come c.put_value.ensures.fills
 
 pub grow-requires-clause-some : goal.grow-requires-clause-some
 grow-requires-clause-some c = some-count (cell_at c.args.arena.now.bytes) c.args.list.count c.args.list.place (sym c.has_room-room.ensures ∙ c.if-room.true)
@@ -82,10 +85,14 @@ returns-then-room-clause-ok c = λ members met e.
     let member : Member = record { name = c.args.name.now; kind = c.args.kind; bytes = c.args.bytes.now } in
     let h2 = cell_at c.put_value.new.arena.bytes in
     let h3 = cell_at c.grow.new.arena.bytes in
-    let o = was h0 h1 (cell_at c.put_value.new.arena.bytes) n p members met e once w all [] (take (length all - 1) (drop 1 all)) (get_or all 0 0) (one-parts h0 h1 all _ _ a1) a.come c.put_value.ensures.fills in
-    let l = list2 h0 h1 (cell_at c.put_value.new.arena.bytes) n p members met e once w all [] (take (length all - 1) (drop 1 all)) (get_or all 0 0) (one-parts h0 h1 all _ _ a1) a.come c.put_value.ensures.fills in
+    let o = was h0 h1 (cell_at c.put_value.new.arena.bytes) n p members met e once w all [] (take (length all - 1) (drop 1 all)) (get_or all 0 0)
+    (one-parts h0 h1 all _ _ a1) a.come c.put_value.ensures.fills in
+    let l = list2 h0 h1 (cell_at c.put_value.new.arena.bytes) n p members met e once w all [] (take (length all - 1) (drop 1 all)) (get_or all 0 0)
+    (one-parts h0 h1 all _ _ a1) a.come c.put_value.ensures.fills in
     let t = became-as h2 h3 _ (λ z. owned z o.list_met + times z []) (n + 1) p _ (λ z. omega arith) (c.grow.ensures.list o.row o.list_met l) in
-    added h0 h1 (cell_at c.put_value.new.arena.bytes) n p members met e once w all [] (take (length all - 1) (drop 1 all)) (get_or all 0 0) (one-parts h0 h1 all _ _ a1) a.come c.put_value.ensures.fills h3 (n + 1) p t member c.put_value.ensures.holds (sym (c.requires.new members met e)) refl c.requires.few c.requires.name c.requires.bytes
+    added h0 h1 (cell_at c.put_value.new.arena.bytes) n p members met e once w all [] (take (length all - 1) (drop 1 all)) (get_or all 0 0)
+    (one-parts h0 h1 all _ _ a1) a.come c.put_value.ensures.fills h3 (n + 1) p t member c.put_value.ensures.holds
+    (sym (c.requires.new members met e)) refl c.requires.few c.requires.name c.requires.bytes
 
 pub returns-then-room-clause-cells : goal.returns-then-room-clause-cells
 returns-then-room-clause-cells c =
@@ -100,11 +107,15 @@ returns-then-room-clause-cells c =
     let member : Member = record { name = c.args.name.now; kind = c.args.kind; bytes = c.args.bytes.now } in
     let h2 = cell_at c.put_value.new.arena.bytes in
     let h3 = cell_at c.grow.new.arena.bytes in
-    let o = was h0 h1 (cell_at c.put_value.new.arena.bytes) n p v.members v.met v.reads v.once v.written all [] (take (length all - 1) (drop 1 all)) (get_or all 0 0) (one-parts h0 h1 all _ _ a1) a.come c.put_value.ensures.fills in
-    let l = list2 h0 h1 (cell_at c.put_value.new.arena.bytes) n p v.members v.met v.reads v.once v.written all [] (take (length all - 1) (drop 1 all)) (get_or all 0 0) (one-parts h0 h1 all _ _ a1) a.come c.put_value.ensures.fills in
+    let o = was h0 h1 (cell_at c.put_value.new.arena.bytes) n p v.members v.met v.reads v.once v.written all [] (take (length all - 1) (drop 1 all))
+    (get_or all 0 0) (one-parts h0 h1 all _ _ a1) a.come c.put_value.ensures.fills in
+    let l = list2 h0 h1 (cell_at c.put_value.new.arena.bytes) n p v.members v.met v.reads v.once v.written all []
+    (take (length all - 1) (drop 1 all)) (get_or all 0 0) (one-parts h0 h1 all _ _ a1) a.come c.put_value.ensures.fills in
     let t = became-as h2 h3 _ (λ z. owned z o.list_met + times z []) (n + 1) p _ (λ z. omega arith) (c.grow.ensures.list o.row o.list_met l) in
     let m = (list-open h0 n p o.row o.list_met o.list_is (some-count h0 n p (sym c.has_room-room.ensures ∙ c.if-room.true))).met_is in
-    add-makes h0 h1 (cell_at c.put_value.new.arena.bytes) n p v.members v.met v.reads v.once v.written all [] (take (length all - 1) (drop 1 all)) (get_or all 0 0) (one-parts h0 h1 all _ _ a1) a.come c.put_value.ensures.fills h3 (n + 1) p t member c.put_value.ensures.holds _ a (add-ok h0 n p (length c.args.name.now) (length c.args.bytes.now)) c.grow.ensures.sizes (omega arith)
+    add-makes h0 h1 (cell_at c.put_value.new.arena.bytes) n p v.members v.met v.reads v.once v.written all [] (take (length all - 1) (drop 1 all))
+    (get_or all 0 0) (one-parts h0 h1 all _ _ a1) a.come c.put_value.ensures.fills h3 (n + 1) p t member c.put_value.ensures.holds _ a
+    (add-ok h0 n p (length c.args.name.now) (length c.args.bytes.now)) c.grow.ensures.sizes (omega arith)
     (λ z. let q = ap (owned z) m in omega (arith, q)) (λ z. omega arith)
 
 pub bounds-all-1 : goal.bounds-all-1
@@ -162,7 +173,8 @@ move_list-requires-clause-owns c =
     let a = new-all h0 h1 c.in_ok-cells.cells.items all c.deref.result.now _ c.in_ok-cells.ensures.ok c.as_slice-all.ensures.value (c.deref.ensures.value ∙ c.in-Ok.ensures) in
     let a1 = subst (AreNew h0 h1 all) (full-sizes h0 n p (length c.args.name.now) (length c.args.bytes.now) (sym c.has_room-room.ensures ∙ c.if-room.false)) a in
     let v = c.requires.values in
-    beside2 h0 h1 (cell_at c.put_value-2.new.arena.bytes) n p v.members v.met v.reads v.once v.written all (get_or all 1 0 ∷ []) (take (length all - 2) (drop 2 all)) (get_or all 0 0) (two-parts h0 h1 all _ _ _ a1) a.come c.put_value-2.ensures.fills
+    beside2 h0 h1 (cell_at c.put_value-2.new.arena.bytes) n p v.members v.met v.reads v.once v.written all (get_or all 1 0 ∷ [])
+    (take (length all - 2) (drop 2 all)) (get_or all 0 0) (two-parts h0 h1 all _ _ _ a1) a.come c.put_value-2.ensures.fills
 
 pub move_list-requires-clause-room : goal.move_list-requires-clause-room
 move_list-requires-clause-room c =
@@ -188,9 +200,14 @@ returns-clause-ok c = λ members met e.
     let w = subst (AreWritten h0 n p) same.0 c.requires.values.written in
     let once = subst (λ (zs : List Found). (z : ℕ) → owned z zs ≤ allocated h0 z) same.1 c.requires.values.once in
     let member : Member = record { name = c.args.name.now; kind = c.args.kind; bytes = c.args.bytes.now } in
-    let o = was h0 h1 (cell_at c.put_value-2.new.arena.bytes) n p members met e once w all (get_or all 1 0 ∷ []) (take (length all - 2) (drop 2 all)) (get_or all 0 0) (two-parts h0 h1 all _ _ _ a1) a.come c.put_value-2.ensures.fills in
-    let l = list2 h0 h1 (cell_at c.put_value-2.new.arena.bytes) n p members met e once w all (get_or all 1 0 ∷ []) (take (length all - 2) (drop 2 all)) (get_or all 0 0) (two-parts h0 h1 all _ _ _ a1) a.come c.put_value-2.ensures.fills in
-    added h0 h1 (cell_at c.put_value-2.new.arena.bytes) n p members met e once w all (get_or all 1 0 ∷ []) (take (length all - 2) (drop 2 all)) (get_or all 0 0) (two-parts h0 h1 all _ _ _ a1) a.come c.put_value-2.ensures.fills (cell_at c.move_list.new.arena.bytes) (n + 1) (get_or all 1 0) (c.move_list.ensures.list o.row o.list_met l) member c.put_value-2.ensures.holds (sym (c.requires.new members met e)) refl c.requires.few c.requires.name c.requires.bytes
+    let o = was h0 h1 (cell_at c.put_value-2.new.arena.bytes) n p members met e once w all (get_or all 1 0 ∷ []) (take (length all - 2) (drop 2 all))
+    (get_or all 0 0) (two-parts h0 h1 all _ _ _ a1) a.come c.put_value-2.ensures.fills in
+    let l = list2 h0 h1 (cell_at c.put_value-2.new.arena.bytes) n p members met e once w all (get_or all 1 0 ∷ [])
+    (take (length all - 2) (drop 2 all)) (get_or all 0 0) (two-parts h0 h1 all _ _ _ a1) a.come c.put_value-2.ensures.fills in
+    added h0 h1 (cell_at c.put_value-2.new.arena.bytes) n p members met e once w all (get_or all 1 0 ∷ []) (take (length all - 2) (drop 2 all))
+    (get_or all 0 0) (two-parts h0 h1 all _ _ _ a1) a.come c.put_value-2.ensures.fills (cell_at c.move_list.new.arena.bytes) (n + 1)
+    (get_or all 1 0) (c.move_list.ensures.list o.row o.list_met l) member c.put_value-2.ensures.holds
+    (sym (c.requires.new members met e)) refl c.requires.few c.requires.name c.requires.bytes
 
 pub returns-clause-cells : goal.returns-clause-cells
 returns-clause-cells c =
@@ -203,7 +220,12 @@ returns-clause-cells c =
     let a1 = subst (AreNew h0 h1 all) (full-sizes h0 n p (length c.args.name.now) (length c.args.bytes.now) (sym c.has_room-room.ensures ∙ c.if-room.false)) a in
     let v = c.requires.values in
     let member : Member = record { name = c.args.name.now; kind = c.args.kind; bytes = c.args.bytes.now } in
-    let o = was h0 h1 (cell_at c.put_value-2.new.arena.bytes) n p v.members v.met v.reads v.once v.written all (get_or all 1 0 ∷ []) (take (length all - 2) (drop 2 all)) (get_or all 0 0) (two-parts h0 h1 all _ _ _ a1) a.come c.put_value-2.ensures.fills in
-    let l = list2 h0 h1 (cell_at c.put_value-2.new.arena.bytes) n p v.members v.met v.reads v.once v.written all (get_or all 1 0 ∷ []) (take (length all - 2) (drop 2 all)) (get_or all 0 0) (two-parts h0 h1 all _ _ _ a1) a.come c.put_value-2.ensures.fills in
-    add-makes h0 h1 (cell_at c.put_value-2.new.arena.bytes) n p v.members v.met v.reads v.once v.written all (get_or all 1 0 ∷ []) (take (length all - 2) (drop 2 all)) (get_or all 0 0) (two-parts h0 h1 all _ _ _ a1) a.come c.put_value-2.ensures.fills (cell_at c.move_list.new.arena.bytes) (n + 1) (get_or all 1 0) (c.move_list.ensures.list o.row o.list_met l) member c.put_value-2.ensures.holds _ a (add-ok h0 n p (length c.args.name.now) (length c.args.bytes.now)) c.move_list.ensures.sizes (omega arith)
+    let o = was h0 h1 (cell_at c.put_value-2.new.arena.bytes) n p v.members v.met v.reads v.once v.written all (get_or all 1 0 ∷ [])
+    (take (length all - 2) (drop 2 all)) (get_or all 0 0) (two-parts h0 h1 all _ _ _ a1) a.come c.put_value-2.ensures.fills in
+    let l = list2 h0 h1 (cell_at c.put_value-2.new.arena.bytes) n p v.members v.met v.reads v.once v.written all (get_or all 1 0 ∷ [])
+    (take (length all - 2) (drop 2 all)) (get_or all 0 0) (two-parts h0 h1 all _ _ _ a1) a.come c.put_value-2.ensures.fills in
+    add-makes h0 h1 (cell_at c.put_value-2.new.arena.bytes) n p v.members v.met v.reads v.once v.written all (get_or all 1 0 ∷ [])
+    (take (length all - 2) (drop 2 all)) (get_or all 0 0) (two-parts h0 h1 all _ _ _ a1) a.come c.put_value-2.ensures.fills
+    (cell_at c.move_list.new.arena.bytes) (n + 1) (get_or all 1 0) (c.move_list.ensures.list o.row o.list_met l) member c.put_value-2.ensures.holds
+    _ a (add-ok h0 n p (length c.args.name.now) (length c.args.bytes.now)) c.move_list.ensures.sizes (omega arith)
     (λ z. omega arith) (λ z. omega arith)

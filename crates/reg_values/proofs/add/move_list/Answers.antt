@@ -16,7 +16,9 @@ returns-then-list-eq0-clause-list c = λ row met e.
     let z = c.if-list-eq0.true in
     let at = ap (λ n. list_at n c.args.list.place h) (sym z) ∙ e in
     let r = fills-room h h [] c.args.place _ (fills-none h []) c.requires.room in
-    let s = started h (cell_at c.put_offset.new.arena.bytes) 0 c.args.place c.args.cell (fills-cell _ _ c.args.place _ c.put_offset.ensures.written) (room-less h c.args.place _ (4 * 0 + 4) (omega arith) r) c.put_offset.ensures.here c.put_offset.ensures.others c.args.list.place row met refl at in
+    let s = started h (cell_at c.put_offset.new.arena.bytes) 0 c.args.place c.args.cell (fills-cell _ _ c.args.place _ c.put_offset.ensures.written)
+    (room-less h c.args.place _ (4 * 0 + 4) (omega arith) r) c.put_offset.ensures.here c.put_offset.ensures.others c.args.list.place row met refl
+    at in
     subst (λ n. BecameList h (cell_at c.put_offset.new.arena.bytes) (λ z. owned z met + times z (c.args.place ∷ [])) (n + 1) c.args.place (row ++ c.args.cell ∷ [])) (sym z) s
 
 pub returns-then-list-eq0-clause-sizes : goal.returns-then-list-eq0-clause-sizes
@@ -52,7 +54,8 @@ free-requires c =
     let n = c.if-list-eq0.false in
     let p : 0 < c.args.list.count = omega (arith, n) in
     let f1 = copy-fills h k c.args.list.count c.args.list.place c.args.place p r.result r.met r.reads c.requires.room c.copy.ensures.written c.copy.ensures.writes in
-    old-gone h k (cell_at c.put_offset-2.new.arena.bytes) c.args.list.count c.args.list.place c.args.place p r.result r.met r.reads r.once f1 (fills-cell _ _ c.args.place _ c.put_offset-2.ensures.written)
+    old-gone h k (cell_at c.put_offset-2.new.arena.bytes) c.args.list.count c.args.list.place c.args.place p r.result r.met r.reads r.once f1
+    (fills-cell _ _ c.args.place _ c.put_offset-2.ensures.written)
 
 pub returns-clause-list : goal.returns-clause-list
 returns-clause-list c = λ row met e.

@@ -10,15 +10,22 @@ put_data-data-requires-clause-cells c = room-tail (cell_at c.args.arena.now.byte
 
 pub put_vk-requires-clause-room : goal.put_vk-requires-clause-room
 put_vk-requires-clause-room c =
-    let r = room-less (cell_at c.args.arena.now.bytes) c.args.cell _ (20 + length c.args.name.now) (omega arith) (room-head (cell_at c.args.arena.now.bytes) c.args.cell c.args.cells.now _ _ c.requires.cells) in
+    let r = room-less (cell_at c.args.arena.now.bytes) c.args.cell _ (20 + length c.args.name.now) (omega arith)
+    (room-head (cell_at c.args.arena.now.bytes) c.args.cell c.args.cells.now _ _ c.requires.cells) in
     fills-room (cell_at c.args.arena.now.bytes) (cell_at c.put_data-data.new.arena.bytes) c.args.cells.now c.args.cell _ c.put_data-data.ensures.fills r
 
 pub returns-clause-fills : goal.returns-clause-fills
 returns-clause-fills c =
-    put-fills (cell_at c.args.arena.now.bytes) (cell_at c.put_data-data.new.arena.bytes) (cell_at c.put_vk.new.arena.bytes) c.args.cell c.put_data-data.result.size c.put_data-data.result.place c.args.kind c.flags_of.result c.args.cells.now c.args.name.now c.args.bytes.now
-    c.requires.cells.once c.put_data-data.ensures.fills c.put_data-data.ensures.holds (fills-cell _ _ c.args.cell _ c.put_vk.ensures.written) c.put_vk.ensures.reads c.put_vk.ensures.plain c.flags_of.ensures
+    put-fills (cell_at c.args.arena.now.bytes) (cell_at c.put_data-data.new.arena.bytes)
+    (cell_at c.put_vk.new.arena.bytes) c.args.cell c.put_data-data.result.size c.put_data-data.result.place c.args.kind c.flags_of.result
+    c.args.cells.now c.args.name.now c.args.bytes.now
+    c.requires.cells.once c.put_data-data.ensures.fills c.put_data-data.ensures.holds
+    (fills-cell _ _ c.args.cell _ c.put_vk.ensures.written) c.put_vk.ensures.reads c.put_vk.ensures.plain c.flags_of.ensures
 
 pub returns-clause-holds : goal.returns-clause-holds
 returns-clause-holds c =
-    put-holds (cell_at c.args.arena.now.bytes) (cell_at c.put_data-data.new.arena.bytes) (cell_at c.put_vk.new.arena.bytes) c.args.cell c.put_data-data.result.size c.put_data-data.result.place c.args.kind c.flags_of.result c.args.cells.now c.args.name.now c.args.bytes.now
-    c.requires.cells.once c.put_data-data.ensures.fills c.put_data-data.ensures.holds (fills-cell _ _ c.args.cell _ c.put_vk.ensures.written) c.put_vk.ensures.reads c.put_vk.ensures.plain c.flags_of.ensures
+    put-holds (cell_at c.args.arena.now.bytes) (cell_at c.put_data-data.new.arena.bytes)
+    (cell_at c.put_vk.new.arena.bytes) c.args.cell c.put_data-data.result.size c.put_data-data.result.place c.args.kind c.flags_of.result
+    c.args.cells.now c.args.name.now c.args.bytes.now
+    c.requires.cells.once c.put_data-data.ensures.fills c.put_data-data.ensures.holds
+    (fills-cell _ _ c.args.cell _ c.put_vk.ensures.written) c.put_vk.ensures.reads c.put_vk.ensures.plain c.flags_of.ensures

@@ -42,7 +42,9 @@ joined-requires-clause-pieces c =
 pub returns : goal.returns
 returns c =
     let h = cell_at c.args.arena.now.bytes in
-    is-ok (λ bytes. (all : List ℕ) → (met : List Found) → segments_at c.args.size (held h c.big_at-list.result.list) h ≡ Some (all, met) → bytes.items ≡ all) (λ bytes. (all : List ℕ) → (met : List Found) → big_at c.args.size c.args.cell h ≡ Some (all, met) → bytes.items ≡ all) c.joined.result
+    is-ok (λ bytes. (all : List ℕ) → (met : List Found) → segments_at c.args.size (held h c.big_at-list.result.list) h ≡ Some (all, met) →
+    bytes.items ≡ all) (λ bytes. (all : List ℕ) → (met : List Found) → big_at c.args.size c.args.cell h ≡ Some (all, met) →
+    bytes.items ≡ all) c.joined.result
     (λ bytes f all met e.
     let b = big-open h c.args.size c.args.cell all met e in
     let l = ap (λ (b : BigData). b.list) (same_Some _ _ (sym b.big_is ∙ c.big_at-list.ensures)) in

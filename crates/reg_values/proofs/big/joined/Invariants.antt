@@ -10,4 +10,5 @@ use Rattle.reg_values.proofs.big.joined.Given as goal
 
 abbrev pub invariant-loop-index : goal.invariant-loop-index
 invariant-loop-index l =
-    (all : List ℕ) → (met : List Found) → segments_at l.size (held (cell_at l.arena.bytes) l.list) (cell_at l.arena.bytes) ≡ Some (all, met) → Joined (cell_at l.arena.bytes) l.size l.index (offsets_at (segments_for l.size) 0 (held (cell_at l.arena.bytes) l.list)) l.bytes.items all
+    (all : List ℕ) → (met : List Found) → segments_at l.size (held (cell_at l.arena.bytes) l.list) (cell_at l.arena.bytes) ≡ Some (all, met) →
+    Joined (cell_at l.arena.bytes) l.size l.index (offsets_at (segments_for l.size) 0 (held (cell_at l.arena.bytes) l.list)) l.bytes.items all

@@ -17,5 +17,7 @@ pub returns-clause-holds : goal.returns-clause-holds
 returns-clause-holds c =
     let r = c.requires in
     let m = c.put_pieces.ensures.reads in
-    big-holds (cell_at c.args.arena.now.bytes) (cell_at c.put_db.new.arena.bytes) (cell_at c.put_row.new.arena.bytes) (cell_at c.put_pieces.new.arena.bytes) c.args.head c.args.list c.args.segments.now c.args.bytes.now r.small r.big r.count r.once r.head r.list r.room
+    big-holds (cell_at c.args.arena.now.bytes) (cell_at c.put_db.new.arena.bytes) (cell_at c.put_row.new.arena.bytes)
+    (cell_at c.put_pieces.new.arena.bytes) c.args.head c.args.list c.args.segments.now c.args.bytes.now r.small r.big r.count r.once r.head r.list
+    r.room
     (fills-cell _ _ c.args.head _ c.put_db.ensures.written) c.put_row.ensures.fills c.put_pieces.ensures.fills (length c.args.segments.now) refl c.put_db.ensures.reads c.put_row.ensures.row m.0 m.1

@@ -13,18 +13,23 @@ write-requires-clause-exists c =
 
 pub write-requires-clause-fits : goal.write-requires-clause-fits
 write-requires-clause-fits c =
-    let r = fills-room (cell_at c.args.arena.now.bytes) (cell_at c.loop-index.arena.bytes) c.args.segments.now _ _ c.loop-index.invariant.fills (c.requires.room c.loop-index.index c.loop-index-test.true) in
+    let r = fills-room (cell_at c.args.arena.now.bytes) (cell_at c.loop-index.arena.bytes) c.args.segments.now _ _ c.loop-index.invariant.fills
+    (c.requires.room c.loop-index.index c.loop-index-test.true) in
     let e = r.enough in
     let n = ap length c.piece.ensures in
     omega (arith, e, n)
 
 pub loop-index-preserved : goal.loop-index-preserved
 loop-index-preserved c =
-    let r = fills-room (cell_at c.args.arena.now.bytes) (cell_at c.loop-index.arena.bytes) c.args.segments.now _ _ c.loop-index.invariant.fills (c.requires.room c.loop-index.index c.loop-index-test.true) in
+    let r = fills-room (cell_at c.args.arena.now.bytes) (cell_at c.loop-index.arena.bytes) c.args.segments.now _ _ c.loop-index.invariant.fills
+    (c.requires.room c.loop-index.index c.loop-index-test.true) in
     let e = r.enough in
     let n = ap length c.piece.ensures in
-    pieces-more (cell_at c.args.arena.now.bytes) (cell_at c.loop-index.arena.bytes) (cell_at c.write.new.self.bytes) c.args.segments.now c.args.bytes.now c.loop-index.index c.piece.result.now c.requires.once c.loop-index-test.true c.piece.ensures
+    pieces-more (cell_at c.args.arena.now.bytes) (cell_at c.loop-index.arena.bytes)
+    (cell_at c.write.new.self.bytes) c.args.segments.now c.args.bytes.now c.loop-index.index c.piece.result.now c.requires.once
+    c.loop-index-test.true c.piece.ensures
     (omega (arith, e, n)) c.write.ensures.written c.write.ensures.writes c.loop-index.invariant
 
 pub returns-clause-reads : goal.returns-clause-reads
-returns-clause-reads c = pieces-all (cell_at c.args.arena.now.bytes) (cell_at c.loop-index.arena.bytes) c.args.segments.now c.args.bytes.now c.loop-index.index c.loop-index-test.false c.requires.all c.loop-index.invariant
+returns-clause-reads c = pieces-all (cell_at c.args.arena.now.bytes) (cell_at c.loop-index.arena.bytes) c.args.segments.now c.args.bytes.now
+    c.loop-index.index c.loop-index-test.false c.requires.all c.loop-index.invariant

@@ -37,7 +37,8 @@ returns c =
     let v = c.requires.values in
     let r = ap (value_record_at h) (sym c.cell_of.ensures) ∙ c.record_at.ensures in
     is-ok (λ b. (all : List ℕ) → (met : List Found) → data_at c.record_at.result.fields h ≡ Some (all, met) → b.items ≡ all)
-    (λ b. (members : List Member) → (met : List Found) → members_at c.args.list.count c.args.list.place h ≡ Some (members, met) → (member : Member) × (slice_get members c.args.index ≡ Some member) × (b.items ≡ member.bytes)) c.data_bytes.result
+    (λ b. (members : List Member) → (met : List Found) → members_at c.args.list.count c.args.list.place h ≡ Some (members, met) →
+    (member : Member) × (slice_get members c.args.index ≡ Some member) × (b.items ≡ member.bytes)) c.data_bytes.result
     (λ b f members met e.
     let s = stands h c.args.list.count c.args.list.place members met c.args.index e v.written.each c.requires.index in
     (s.member, s.at, f s.member.bytes _ (told-data h c.args.list.place members c.args.index s _ _ r))) c.data_bytes.ensures

@@ -15,7 +15,8 @@ big_bytes-requires-clause-big c =
 pub returns-then-size-gt-SEGMENT : goal.returns-then-size-gt-SEGMENT
 returns-then-size-gt-SEGMENT c =
     let h = cell_at c.args.arena.now.bytes in
-    is-ok (λ b. (all : List ℕ) → (met : List Found) → big_at c.args.fields.size c.args.fields.place h ≡ Some (all, met) → b.items ≡ all) (λ b. (all : List ℕ) → (met : List Found) → data_at c.args.fields h ≡ Some (all, met) → b.items ≡ all) c.big_bytes.result
+    is-ok (λ b. (all : List ℕ) → (met : List Found) → big_at c.args.fields.size c.args.fields.place h ≡ Some (all, met) →
+    b.items ≡ all) (λ b. (all : List ℕ) → (met : List Found) → data_at c.args.fields h ≡ Some (all, met) → b.items ≡ all) c.big_bytes.result
     (λ b f all met e. f all met (big-data h c.args.fields all met e c.if-size-gt-SEGMENT.true c.if-fields-ge-INLINE.false)) c.big_bytes.ensures
 
 pub slice_bounds-from_slice-end-2 : goal.slice_bounds-from_slice-end-2

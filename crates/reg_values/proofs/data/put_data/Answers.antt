@@ -47,7 +47,8 @@ pub returns-then-bytes-gt-SEGMENT-clause-holds : goal.returns-then-bytes-gt-SEGM
 returns-then-bytes-gt-SEGMENT-clause-holds c =
     let h = cell_at c.args.arena.now.bytes in
     let k = cell_at c.put_big.new.arena.bytes in
-    subst (HoldsData k (length c.args.bytes.now) (get_or c.args.cells.now 0 0) c.args.bytes.now) (sym (big-cells h c.args.cells.now c.args.bytes.now c.requires.small c.requires.cells c.if-bytes-gt-SEGMENT.true)) c.put_big.ensures.holds
+    subst (HoldsData k (length c.args.bytes.now) (get_or c.args.cells.now 0 0) c.args.bytes.now)
+    (sym (big-cells h c.args.cells.now c.args.bytes.now c.requires.small c.requires.cells c.if-bytes-gt-SEGMENT.true)) c.put_big.ensures.holds
 
 pub write-requires-clause-exists : goal.write-requires-clause-exists
 write-requires-clause-exists c =
@@ -65,7 +66,9 @@ returns-clause-fills c =
     let k = cell_at c.write.new.self.bytes in
     let r = one-room h c.args.cells.now c.args.bytes.now c.requires.small c.requires.cells c.if-bytes-le-INLINE_LIMIT.false c.if-bytes-gt-SEGMENT.false in
     let n = one-long h c.args.cells.now c.args.bytes.now c.requires.small c.requires.cells c.if-bytes-le-INLINE_LIMIT.false c.if-bytes-gt-SEGMENT.false in
-    subst (Fills h k) (sym (list-one c.args.cells.now n)) (one-fills h k (get_or c.args.cells.now 0 0) c.args.bytes.now c.if-bytes-le-INLINE_LIMIT.false c.if-bytes-gt-SEGMENT.false r c.write.ensures.written c.write.ensures.writes)
+    subst (Fills h k) (sym (list-one c.args.cells.now n))
+    (one-fills h k (get_or c.args.cells.now 0 0) c.args.bytes.now c.if-bytes-le-INLINE_LIMIT.false c.if-bytes-gt-SEGMENT.false r
+    c.write.ensures.written c.write.ensures.writes)
 
 pub returns-clause-holds : goal.returns-clause-holds
 returns-clause-holds c =
@@ -73,7 +76,9 @@ returns-clause-holds c =
     let k = cell_at c.write.new.self.bytes in
     let r = one-room h c.args.cells.now c.args.bytes.now c.requires.small c.requires.cells c.if-bytes-le-INLINE_LIMIT.false c.if-bytes-gt-SEGMENT.false in
     let n = one-long h c.args.cells.now c.args.bytes.now c.requires.small c.requires.cells c.if-bytes-le-INLINE_LIMIT.false c.if-bytes-gt-SEGMENT.false in
-    subst (HoldsData k (length c.args.bytes.now) (get_or c.args.cells.now 0 0) c.args.bytes.now) (sym (list-one c.args.cells.now n)) (one-holds h k (get_or c.args.cells.now 0 0) c.args.bytes.now c.if-bytes-le-INLINE_LIMIT.false c.if-bytes-gt-SEGMENT.false r c.write.ensures.written c.write.ensures.writes)
+    subst (HoldsData k (length c.args.bytes.now) (get_or c.args.cells.now 0 0) c.args.bytes.now) (sym (list-one c.args.cells.now n))
+    (one-holds h k (get_or c.args.cells.now 0 0) c.args.bytes.now c.if-bytes-le-INLINE_LIMIT.false c.if-bytes-gt-SEGMENT.false r
+    c.write.ensures.written c.write.ensures.writes)
 
 pub slice_bounds-put_big-start : goal.slice_bounds-put_big-start
 slice_bounds-put_big-start c = let n = big-long (cell_at c.args.arena.now.bytes) c.args.cells.now c.args.bytes.now c.requires.small c.requires.cells c.if-bytes-gt-SEGMENT.true in omega (arith, n)

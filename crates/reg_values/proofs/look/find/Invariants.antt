@@ -9,4 +9,5 @@ use Rattle.reg_values.proofs.look.find.Given as goal
 
 abbrev pub invariant-loop-index : goal.invariant-loop-index
 invariant-loop-index l =
-    (members : List Member) → (met : List Found) → members_at l.list.count l.list.place (cell_at l.arena.bytes) ≡ Some (members, met) → add-to l.index (place_named l.name (drop l.index members)) ≡ place_named l.name members
+    (members : List Member) → (met : List Found) → members_at l.list.count l.list.place (cell_at l.arena.bytes) ≡ Some (members, met) →
+    add-to l.index (place_named l.name (drop l.index members)) ≡ place_named l.name members

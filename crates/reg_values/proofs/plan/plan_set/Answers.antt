@@ -37,8 +37,10 @@ returns-in-Some c =
     let h = cell_at c.args.arena.now.bytes in
     let v = c.requires.values in
     let r = ap (value_record_at h) (sym c.cell_of.ensures) ∙ c.record_at.ensures in
-    is-ok (λ sizes. sizes.items ≡ cond (stays h c.record_at.result.fields c.args.size) [] (data_sizes c.args.size)) (λ sizes. sizes.items ≡ set_sizes h c.args.list.count c.args.list.place c.args.name.now c.args.size) c.plan_replace.result
-    (λ sizes f. f ∙ sizes-some h c.args.list.count c.args.list.place c.args.name.now c.args.size v.members v.met v.reads c.in-Some.index _ (c.in-Some.ensures v.members v.met v.reads) r) c.plan_replace.ensures
+    is-ok (λ sizes. sizes.items ≡ cond (stays h c.record_at.result.fields c.args.size) [] (data_sizes c.args.size))
+    (λ sizes. sizes.items ≡ set_sizes h c.args.list.count c.args.list.place c.args.name.now c.args.size) c.plan_replace.result
+    (λ sizes f. f ∙ sizes-some h c.args.list.count c.args.list.place c.args.name.now c.args.size v.members v.met v.reads c.in-Some.index _
+    (c.in-Some.ensures v.members v.met v.reads) r) c.plan_replace.ensures
 
 pub plan_add-requires-clause-list : goal.plan_add-requires-clause-list
 plan_add-requires-clause-list c = λ l. list-there (cell_at c.args.arena.now.bytes) c.args.list.count c.args.list.place c.requires.values l
@@ -47,5 +49,6 @@ pub returns-in-None : goal.returns-in-None
 returns-in-None c =
     let h = cell_at c.args.arena.now.bytes in
     let v = c.requires.values in
-    is-ok (λ sizes. sizes.items ≡ sizes_by h c.args.list.count c.args.list.place (length c.args.name.now) c.args.size None) (λ sizes. sizes.items ≡ set_sizes h c.args.list.count c.args.list.place c.args.name.now c.args.size) c.plan_add.result
+    is-ok (λ sizes. sizes.items ≡ sizes_by h c.args.list.count c.args.list.place (length c.args.name.now) c.args.size None)
+    (λ sizes. sizes.items ≡ set_sizes h c.args.list.count c.args.list.place c.args.name.now c.args.size) c.plan_add.result
     (λ sizes f. f ∙ sizes-none h c.args.list.count c.args.list.place c.args.name.now c.args.size v.members v.met v.reads (c.in-None.ensures v.members v.met v.reads)) c.plan_add.ensures

@@ -12,14 +12,18 @@ cell_of-cell-requires-clause-index c =
 
 pub free_value-requires : goal.free_value-requires
 free_value-requires c =
-    next-owns (cell_at c.args.arena.now.bytes) (cell_at c.loop-index.arena.bytes) c.args.list.count c.args.list.place c.loop-index.index c.loop-index.invariant c.loop-index-test.true c.cell_of-cell.result c.cell_of-cell.ensures
+    next-owns (cell_at c.args.arena.now.bytes) (cell_at c.loop-index.arena.bytes) c.args.list.count c.args.list.place c.loop-index.index
+    c.loop-index.invariant c.loop-index-test.true c.cell_of-cell.result c.cell_of-cell.ensures
 
 pub loop-index-preserved : goal.loop-index-preserved
 loop-index-preserved c =
-    one-freed (cell_at c.args.arena.now.bytes) (cell_at c.loop-index.arena.bytes) c.args.list.count c.args.list.place c.loop-index.index c.loop-index.invariant c.loop-index-test.true c.cell_of-cell.result c.cell_of-cell.ensures (cell_at c.free_value.new.arena.bytes) c.free_value.ensures
+    one-freed (cell_at c.args.arena.now.bytes) (cell_at c.loop-index.arena.bytes) c.args.list.count c.args.list.place c.loop-index.index
+    c.loop-index.invariant c.loop-index-test.true c.cell_of-cell.result c.cell_of-cell.ensures
+    (cell_at c.free_value.new.arena.bytes) c.free_value.ensures
 
 pub returns : goal.returns
 returns c =
     let p = c.if-list-eq0.false in
     let l = c.loop-index-test.false in
-    list-freed (cell_at c.args.arena.now.bytes) (cell_at c.loop-index.arena.bytes) c.args.list.count c.args.list.place c.loop-index.index c.loop-index.invariant (omega (arith, l)) (omega (arith, p)) (cell_at c.free.new.self.bytes) c.free.ensures.gone
+    list-freed (cell_at c.args.arena.now.bytes) (cell_at c.loop-index.arena.bytes) c.args.list.count c.args.list.place c.loop-index.index
+    c.loop-index.invariant (omega (arith, l)) (omega (arith, p)) (cell_at c.free.new.self.bytes) c.free.ensures.gone

@@ -26,10 +26,12 @@ free-requires c =
     let h = cell_at c.args.arena.now.bytes in
     let o = member-owned h c.args.cell r.result r.met r.reads _ _ c.record_at.ensures c.args.cell in
     let w = r.once c.args.cell in
-    still-there h (cell_at c.free_data.new.arena.bytes) _ c.args.cell (c.free_data.ensures r.result.bytes _ (member-data h c.args.cell r.result r.met r.reads _ _ c.record_at.ensures)) (omega (arith, o, w))
+    still-there h (cell_at c.free_data.new.arena.bytes) _ c.args.cell
+    (c.free_data.ensures r.result.bytes _ (member-data h c.args.cell r.result r.met r.reads _ _ c.record_at.ensures)) (omega (arith, o, w))
 
 pub returns : goal.returns
 returns c = λ m met e.
     let h = cell_at c.args.arena.now.bytes in
-    gone-more h (cell_at c.free_data.new.arena.bytes) (cell_at c.free.new.self.bytes) c.args.cell _ (λ z. owned z met) (c.free_data.ensures m.bytes _ (member-data h c.args.cell m met e _ _ c.record_at.ensures)) c.free.ensures.gone
+    gone-more h (cell_at c.free_data.new.arena.bytes) (cell_at c.free.new.self.bytes) c.args.cell _ (λ z. owned z met)
+    (c.free_data.ensures m.bytes _ (member-data h c.args.cell m met e _ _ c.record_at.ensures)) c.free.ensures.gone
     (λ z. member-owned h c.args.cell m met e _ _ c.record_at.ensures z)

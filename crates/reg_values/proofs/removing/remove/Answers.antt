@@ -69,4 +69,5 @@ returns c = λ members met e.
     let once = subst (λ (zs : List Found). (z : ℕ) → owned z zs ≤ allocated h z) same.1 v.once in
     let a = at-index h n p members met c.in-Some.index e written (omega (arith, w, l)) in
     let g = subst (λ o. GivesUpRead (member_at o) h1 h2) (c.cell_of-cell.ensures ∙ sym a.cell_is) c.free_value.ensures in
-    removed h n p members met c.in-Some.index e once written a h1 _ _ (c.take_out-after.ensures.list a.row a.list_met a.list_is) h2 g c.args.name.now named c.take_out-after.ensures.count c.take_out-after.ensures.none
+    removed h n p members met c.in-Some.index e once written a h1 _ _ (c.take_out-after.ensures.list a.row a.list_met a.list_is) h2 g c.args.name.now
+    named c.take_out-after.ensures.count c.take_out-after.ensures.none

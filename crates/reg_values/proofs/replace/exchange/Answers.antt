@@ -27,7 +27,8 @@ returns-clause-value c = λ m met e.
     let h3 = cell_at c.set_data.new.arena.bytes in
     let k = record-kept2 h1 h2 h3 c.args.cell c.args.cells.now c.requires.owns c.requires.written c.args.old r.0 r.1 c.put_data-data.ensures.fills in
     let p = plain-kept2 h1 h2 h3 c.args.cell c.args.cells.now c.requires.owns c.requires.written c.args.old r.0 r.1 c.put_data-data.ensures.fills in
-    exchanged h1 h2 h3 c.args.cell c.args.cells.now c.requires.owns c.requires.written c.args.old r.0 r.1 c.put_data-data.ensures.fills (fills-cell _ _ c.args.cell _ c.set_data.ensures.written) (cell_at c.free_data.new.arena.bytes) c.free_data.ensures
+    exchanged h1 h2 h3 c.args.cell c.args.cells.now c.requires.owns c.requires.written c.args.old r.0 r.1 c.put_data-data.ensures.fills
+    (fills-cell _ _ c.args.cell _ c.set_data.ensures.written) (cell_at c.free_data.new.arena.bytes) c.free_data.ensures
     c.put_data-data.result.size c.put_data-data.result.place c.args.kind c.args.bytes.now c.put_data-data.ensures.holds (c.set_data.ensures.reads _ k) (c.set_data.ensures.plain p) m met e
 
 pub returns-clause-keeps : goal.returns-clause-keeps
@@ -36,4 +37,5 @@ returns-clause-keeps c =
     let h1 = cell_at c.args.arena.now.bytes in
     let h2 = cell_at c.put_data-data.new.arena.bytes in
     let h3 = cell_at c.set_data.new.arena.bytes in
-    keeps-cells h1 h2 h3 c.args.cell c.args.cells.now c.requires.owns c.requires.written c.args.old r.0 r.1 c.put_data-data.ensures.fills (fills-cell _ _ c.args.cell _ c.set_data.ensures.written) (cell_at c.free_data.new.arena.bytes) c.free_data.ensures
+    keeps-cells h1 h2 h3 c.args.cell c.args.cells.now c.requires.owns c.requires.written c.args.old r.0 r.1 c.put_data-data.ensures.fills
+    (fills-cell _ _ c.args.cell _ c.set_data.ensures.written) (cell_at c.free_data.new.arena.bytes) c.free_data.ensures

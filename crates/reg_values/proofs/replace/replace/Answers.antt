@@ -18,7 +18,8 @@ plan_replace-requires-clause-old c = λ l. old-there (cell_at c.args.arena.now.b
 pub returns-then-stays-clause-cells : goal.returns-then-stays-clause-cells
 returns-then-stays-clause-cells c =
     let h0 = cell_at c.args.arena.now.bytes in
-    subst (Makes h0 (cell_at c.rewrite.new.arena.bytes)) (sym (replace-sizes h0 c.args.cell (length c.args.bytes.now) _ true c.record_at.ensures (sym c.stays.ensures ∙ c.if-stays.true))) c.rewrite.ensures.cells
+    subst (Makes h0 (cell_at c.rewrite.new.arena.bytes)) (sym (replace-sizes h0 c.args.cell (length c.args.bytes.now) _ true c.record_at.ensures
+    (sym c.stays.ensures ∙ c.if-stays.true))) c.rewrite.ensures.cells
 
 pub carve-requires-clause-sizes : goal.carve-requires-clause-sizes
 carve-requires-clause-sizes c =

@@ -8,12 +8,14 @@ use Rattle.reg_values.proofs.replace.rewrite.Goals as goal
 pub write-requires-clause-exists : goal.write-requires-clause-exists
 write-requires-clause-exists c =
     let r = c.requires.record_is in
-    place-there (cell_at c.args.arena.now.bytes) (cell_at c.args.arena.now.bytes) (cell_at c.args.arena.now.bytes) c.args.cell c.requires.owns c.requires.written c.args.old r.0 r.1 c.args.bytes.now c.requires.stays
+    place-there (cell_at c.args.arena.now.bytes) (cell_at c.args.arena.now.bytes)
+    (cell_at c.args.arena.now.bytes) c.args.cell c.requires.owns c.requires.written c.args.old r.0 r.1 c.args.bytes.now c.requires.stays
 
 pub write-requires-clause-fits : goal.write-requires-clause-fits
 write-requires-clause-fits c =
     let r = c.requires.record_is in
-    let e = (place-room (cell_at c.args.arena.now.bytes) (cell_at c.args.arena.now.bytes) (cell_at c.args.arena.now.bytes) c.args.cell c.requires.owns c.requires.written c.args.old r.0 r.1 c.args.bytes.now c.requires.stays).enough in
+    let e = (place-room (cell_at c.args.arena.now.bytes) (cell_at c.args.arena.now.bytes)
+    (cell_at c.args.arena.now.bytes) c.args.cell c.requires.owns c.requires.written c.args.old r.0 r.1 c.args.bytes.now c.requires.stays).enough in
     omega (arith, e)
 
 pub set_data-requires : goal.set_data-requires
@@ -31,7 +33,9 @@ returns-clause-value c = λ m met e.
     let h2 = cell_at c.set_data.new.arena.bytes in
     let k = record-kept h0 h1 h2 c.args.cell c.requires.owns c.requires.written c.args.old r.0 r.1 c.args.bytes.now c.requires.stays c.write.ensures.written c.write.ensures.writes in
     let p = plain-kept h0 h1 h2 c.args.cell c.requires.owns c.requires.written c.args.old r.0 r.1 c.args.bytes.now c.requires.stays c.write.ensures.written c.write.ensures.writes in
-    rewritten h0 h1 h2 c.args.cell c.requires.owns c.requires.written c.args.old r.0 r.1 c.args.bytes.now c.requires.stays c.write.ensures.written c.write.ensures.writes c.args.kind (fills-cell _ _ c.args.cell _ c.set_data.ensures.written) (c.set_data.ensures.reads _ k) (c.set_data.ensures.plain p) m met e
+    rewritten h0 h1 h2 c.args.cell c.requires.owns c.requires.written c.args.old r.0 r.1 c.args.bytes.now c.requires.stays c.write.ensures.written
+    c.write.ensures.writes c.args.kind (fills-cell _ _ c.args.cell _ c.set_data.ensures.written) (c.set_data.ensures.reads _ k)
+    (c.set_data.ensures.plain p) m met e
 
 pub returns-clause-cells : goal.returns-clause-cells
 returns-clause-cells c =
@@ -41,4 +45,6 @@ returns-clause-cells c =
     let h2 = cell_at c.set_data.new.arena.bytes in
     let k = record-kept h0 h1 h2 c.args.cell c.requires.owns c.requires.written c.args.old r.0 r.1 c.args.bytes.now c.requires.stays c.write.ensures.written c.write.ensures.writes in
     let p = plain-kept h0 h1 h2 c.args.cell c.requires.owns c.requires.written c.args.old r.0 r.1 c.args.bytes.now c.requires.stays c.write.ensures.written c.write.ensures.writes in
-    makes-none h0 h1 h2 c.args.cell c.requires.owns c.requires.written c.args.old r.0 r.1 c.args.bytes.now c.requires.stays c.write.ensures.written c.write.ensures.writes c.args.kind (fills-cell _ _ c.args.cell _ c.set_data.ensures.written) (c.set_data.ensures.reads _ k) (c.set_data.ensures.plain p)
+    makes-none h0 h1 h2 c.args.cell c.requires.owns c.requires.written c.args.old r.0 r.1 c.args.bytes.now c.requires.stays c.write.ensures.written
+    c.write.ensures.writes c.args.kind (fills-cell _ _ c.args.cell _ c.set_data.ensures.written) (c.set_data.ensures.reads _ k)
+    (c.set_data.ensures.plain p)

@@ -22,7 +22,8 @@ use Rattle.reg_values.proofs.ValueChanges.ValueSetAgain.{value-owns, set-again, 
 use Rattle.reg_values.proofs.setting.set.Goals as goal
 
 pub add-requires-clause-few : goal.add-requires-clause-few
-add-requires-clause-few c = has-space (cell_at c.args.arena.now.bytes) c.args.list.count c.args.list.place c.args.name.now c.requires.room (λ members met e. sym (sym (c.find.ensures members met e) ∙ c.in_default.is))
+add-requires-clause-few c = has-space (cell_at c.args.arena.now.bytes) c.args.list.count c.args.list.place c.args.name.now c.requires.room
+    (λ members met e. sym (sym (c.find.ensures members met e) ∙ c.in_default.is))
 
 pub add-requires-clause-new : goal.add-requires-clause-new
 add-requires-clause-new c = λ members met e. sym (sym (c.find.ensures members met e) ∙ c.in_default.is)
@@ -34,7 +35,9 @@ returns-in_default-clause-ok c =
     let p = c.args.list.place in
     let v = c.requires.values in
     is-ok _ _ c.add.result (λ after f members met e.
-    subst (Became h (cell_at c.add.new.arena.bytes) met after.count after.place) (sym (with-new c.args.name.now c.args.kind c.args.bytes.now members (sym (c.find.ensures members met e) ∙ c.in_default.is))) (f members met e)) c.add.ensures.ok
+    subst (Became h (cell_at c.add.new.arena.bytes) met after.count after.place)
+    (sym (with-new c.args.name.now c.args.kind c.args.bytes.now members (sym (c.find.ensures members met e) ∙ c.in_default.is)))
+    (f members met e)) c.add.ensures.ok
 
 pub returns-in_default-clause-cells : goal.returns-in_default-clause-cells
 returns-in_default-clause-cells c =
@@ -69,7 +72,8 @@ returns-in_default-clause-near c = λ q.
     let n = c.args.list.count in
     let p = c.args.list.place in
     let f = has-space h n p c.args.name.now c.requires.room (λ members met e. sym (sym (c.find.ensures members met e) ∙ c.in_default.is)) in
-    near c.args.arena.now.bytes _ (add-total h n p (length c.args.name.now) (length c.args.bytes.now) (omega (arith, f)) (value-name c.args.name.now c.requires.name) c.requires.bytes) (c.add.ensures.limit q)
+    near c.args.arena.now.bytes _ (add-total h n p (length c.args.name.now) (length c.args.bytes.now) (omega (arith, f))
+    (value-name c.args.name.now c.requires.name) c.requires.bytes) (c.add.ensures.limit q)
 
 pub cell_of-cell-requires-clause-list : goal.cell_of-cell-requires-clause-list
 cell_of-cell-requires-clause-list c =
@@ -119,7 +123,8 @@ returns-in_err-replace-clause-full c = λ q.
     let n = c.args.list.count in
     let p = c.args.list.place in
     let v = c.requires.values in
-    let z = sizes-there h n p c.args.name.now (length c.args.bytes.now) v.members v.met c.in-Some.index c.cell_of-cell.result v.reads (c.in-Some.ensures v.members v.met v.reads) c.cell_of-cell.ensures in
+    let z = sizes-there h n p c.args.name.now (length c.args.bytes.now) v.members v.met c.in-Some.index c.cell_of-cell.result v.reads
+    (c.in-Some.ensures v.members v.met v.reads) c.cell_of-cell.ensures in
     let e = err_from_is_err_and c.from_residual.result c.from_residual.ensures.1 in
     let f : c.replace.result ≡ Err Full = cc (q, e.1, e.2, c.in_err-replace.was) in
     subst (λ sizes. NoFit c.args.arena.now.bytes (total_of sizes)) z (c.replace.ensures.full f)
@@ -130,7 +135,8 @@ returns-in_err-replace-clause-limit c = λ q.
     let n = c.args.list.count in
     let p = c.args.list.place in
     let v = c.requires.values in
-    let z = sizes-there h n p c.args.name.now (length c.args.bytes.now) v.members v.met c.in-Some.index c.cell_of-cell.result v.reads (c.in-Some.ensures v.members v.met v.reads) c.cell_of-cell.ensures in
+    let z = sizes-there h n p c.args.name.now (length c.args.bytes.now) v.members v.met c.in-Some.index c.cell_of-cell.result v.reads
+    (c.in-Some.ensures v.members v.met v.reads) c.cell_of-cell.ensures in
     let e = err_from_is_err_and c.from_residual.result c.from_residual.ensures.1 in
     let f : c.replace.result ≡ Err Full = cc (q, e.1, e.2, c.in_err-replace.was) in
     subst (λ sizes. PassesLimit c.args.arena.now.bytes (total_of sizes)) z (c.replace.ensures.limit f)
@@ -159,7 +165,8 @@ returns-clause-cells c =
     let n = c.args.list.count in
     let p = c.args.list.place in
     let v = c.requires.values in
-    let z = sizes-there h n p c.args.name.now (length c.args.bytes.now) v.members v.met c.in-Some.index c.cell_of-cell.result v.reads (c.in-Some.ensures v.members v.met v.reads) c.cell_of-cell.ensures in
+    let z = sizes-there h n p c.args.name.now (length c.args.bytes.now) v.members v.met c.in-Some.index c.cell_of-cell.result v.reads
+    (c.in-Some.ensures v.members v.met v.reads) c.cell_of-cell.ensures in
     subst (Makes h (cell_at c.replace.new.arena.bytes)) z c.in_ok-replace.ensures.cells
 
 pub returns-in_err-replace-clause-near : goal.returns-in_err-replace-clause-near

@@ -34,9 +34,13 @@ carve_found-requires-clause-positive c =
 
 pub returns-in_default-clause-full : goal.returns-in_default-clause-full
 returns-in_default-clause-full c =
-    rw (← c.self.view_is) ((λ e. absurd (not-full _ c.carve_bin.ensures.fault e)), λ h. absurd (room-or-not _ _ (rw c.sum_of-total.ensures at (c.passes_limit.ensures.room c.if-passes_limit.false)) h.1))
+    rw (← c.self.view_is) (
+      (λ e. absurd (not-full _ c.carve_bin.ensures.fault e)),
+      λ h. absurd (room-or-not _ _ (rw c.sum_of-total.ensures at (c.passes_limit.ensures.room c.if-passes_limit.false)) h.1),
+    )
 
 pub returns-clause-full : goal.returns-clause-full
 returns-clause-full c =
-    let fit : IsFit c.self.inside.bins.items c.sum_of-total.result (chain c.self.inside.count c.self.inside.bins.items c.self.inside.head) c.in-Some.place.previous c.in-Some.place.cell = c.in-Some.ensures in
+    let fit : IsFit c.self.inside.bins.items c.sum_of-total.result (chain c.self.inside.count c.self.inside.bins.items c.self.inside.head)
+    c.in-Some.place.previous c.in-Some.place.cell = c.in-Some.ensures in
     rw (← c.self.view_is) ((λ e. absurd (not-full _ c.carve_found.ensures.fault e)), λ h. absurd (fit-some _ _ _ _ _ _ c.self.invariant.arena (rw c.sum_of-total.ensures at fit) h.2))

@@ -7,13 +7,18 @@ pub write_part-requires : goal.write_part-requires
 write_part-requires c = write_fits _ _ _ c.args.cell c.args.at (length c.args.bytes.now) c.self.invariant.arena (rw (← c.self.view_is) at c.requires.exists) (rw (← c.self.view_is) at c.requires.fits)
 
 pub invariant_of-self : goal.invariant_of-self
-invariant_of-self c = rw c.write_part.ensures (indexed-wrote _ _ _ _ _ _ c.args.cell c.args.at c.args.bytes.now c.self.invariant (wrote _ _ _ c.args.cell c.args.at c.args.bytes.now c.self.invariant.arena (rw (← c.self.view_is) at c.requires.exists) (rw (← c.self.view_is) at c.requires.fits)))
+invariant_of-self c = rw c.write_part.ensures (indexed-wrote _ _ _ _ _ _ c.args.cell c.args.at c.args.bytes.now c.self.invariant
+    (wrote _ _ _ c.args.cell c.args.at c.args.bytes.now c.self.invariant.arena (rw (← c.self.view_is) at c.requires.exists)
+    (rw (← c.self.view_is) at c.requires.fits)))
 
 pub returns-clause-written : goal.returns-clause-written
-returns-clause-written c = rw (c.write_part.ensures, ← c.self.view_is) (wrote _ _ _ c.args.cell c.args.at c.args.bytes.now c.self.invariant.arena (rw (← c.self.view_is) at c.requires.exists) (rw (← c.self.view_is) at c.requires.fits)).contents
+returns-clause-written c = rw (c.write_part.ensures, ← c.self.view_is) (wrote _ _ _ c.args.cell c.args.at c.args.bytes.now c.self.invariant.arena
+    (rw (← c.self.view_is) at c.requires.exists) (rw (← c.self.view_is) at c.requires.fits)).contents
 
 pub returns-clause-cells : goal.returns-clause-cells
-returns-clause-cells c = rw (c.write_part.ensures, ← c.self.view_is) (wrote _ _ _ c.args.cell c.args.at c.args.bytes.now c.self.invariant.arena (rw (← c.self.view_is) at c.requires.exists) (rw (← c.self.view_is) at c.requires.fits)).cells
+returns-clause-cells c = rw (c.write_part.ensures, ← c.self.view_is) (wrote _ _ _ c.args.cell c.args.at c.args.bytes.now c.self.invariant.arena
+    (rw (← c.self.view_is) at c.requires.exists) (rw (← c.self.view_is) at c.requires.fits)).cells
 
 pub returns-clause-writes : goal.returns-clause-writes
-returns-clause-writes c = rw (c.write_part.ensures, ← c.self.view_is) (wrote _ _ _ c.args.cell c.args.at c.args.bytes.now c.self.invariant.arena (rw (← c.self.view_is) at c.requires.exists) (rw (← c.self.view_is) at c.requires.fits)).writes
+returns-clause-writes c = rw (c.write_part.ensures, ← c.self.view_is) (wrote _ _ _ c.args.cell c.args.at c.args.bytes.now c.self.invariant.arena
+    (rw (← c.self.view_is) at c.requires.exists) (rw (← c.self.view_is) at c.requires.fits)).writes

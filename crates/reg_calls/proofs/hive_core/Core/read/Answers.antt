@@ -9,4 +9,5 @@ answer-body-requires c = let r = ready-kept c.self.invariant in r.stand
 
 pub returns-clause-body : goal.returns-clause-body
 returns-clause-body c =
-    subst (λ (s : State). IsRead s c.args.session c.args.query.now c.answer-body.result) (sym (state-view _ c.self.invariant c.self.view_is)) (c.answer-body.ensures (length c.self.inside.journal.entries))
+    subst (λ (s : State). IsRead s c.args.session c.args.query.now c.answer-body.result) (sym (state-view _ c.self.invariant c.self.view_is))
+    (c.answer-body.ensures (length c.self.inside.journal.entries))

@@ -1,7 +1,8 @@
 use Rattle.std.proofs.Common.{◌≡◌, true, is_some, List, subst, refl, sym, ap, ◌∙◌, Some, Err, ℕ, true≢false}
 use Rattle.reg_model.specs.Worlds.{Handle, look, closed}
 use Rattle.reg_model.specs.declared.call.Change.TheVariants.{CreateKey}
-use Rattle.reg_calls.proofs.StoreAfterChange.{create-target, create-path, create-room, create-short, create-few, create-done, not_refused_by, look-push, closed-push, store-same, disposition-is, is_lack, lacking, opening}
+use Rattle.reg_calls.proofs.StoreAfterChange.{create-target, create-path, create-room, create-short, create-few, create-done, not_refused_by, look-push, closed-push, store-same}
+use Rattle.reg_calls.proofs.StoreAfterChange.{disposition-is, is_lack, lacking, opening}
 use Rattle.reg_calls.proofs.store.Store.create_key.Goals as goal
 
 pub path_to-requires-clause-target : goal.path_to-requires-clause-target
@@ -40,12 +41,16 @@ lack_of-requires c =
 pub returns-in-Ok-create : goal.returns-in-Ok-create
 returns-in-Ok-create c =
     let k = c.in-Ok-key_of.ensures in
-    let told = c.opened.ensures ∙ ap (λ (d : ℕ). opening c.args.number c.args.self.now c.args.session c.requires.ready (Some d)) (c.disposition.ensures ∙ disposition-is _ c.in-Ok-create.created.is_new (c.in-Ok-create.ensures.opened k.target.path k.node).1) in
-    create-done c.args.number c.args.self.now c.args.session c.requires.ready c.args.handle c.args.path.now c.args.mask c.requires.cause k.target c.args.moment c.create.new.self c.add.new.self c.in-Ok.text.items c.in-Ok.ensures.names (c.in-Ok-create.ensures.ok k.target.path k.node) c.in-Ok-add.ensures.ok c.opened.result told
+    let told = c.opened.ensures ∙ ap (λ (d : ℕ). opening c.args.number c.args.self.now c.args.session c.requires.ready (Some d))
+    (c.disposition.ensures ∙ disposition-is _ c.in-Ok-create.created.is_new (c.in-Ok-create.ensures.opened k.target.path k.node).1) in
+    create-done c.args.number c.args.self.now c.args.session c.requires.ready c.args.handle c.args.path.now c.args.mask c.requires.cause k.target
+    c.args.moment c.create.new.self c.add.new.self c.in-Ok.text.items c.in-Ok.ensures.names
+    (c.in-Ok-create.ensures.ok k.target.path k.node) c.in-Ok-add.ensures.ok c.opened.result told
 
 pub returns-in-Err-create : goal.returns-in-Err-create
 returns-in-Err-create c =
     let hs = c.args.self.now.handles.handles in
     let handles = c.close.ensures ∙ (ap (closed c.args.number) c.in-Ok-add.ensures.ok ∙ closed-push c.args.number hs c.requires.ready.below _ refl) in
     let same = store-same c.args.self.now c.create.new.self c.close.new.self c.in-Err-create.ensures.err handles in
-    lacking c.args.self.now _ c.args.session c.args.moment c.args.number (CreateKey c.args.handle c.args.path.now c.args.mask) c.lack_of.result same refl (λ space. c.in-Err-create.ensures.full (ap (λ f. Err f) (c.lack_of.ensures space)))
+    lacking c.args.self.now _ c.args.session c.args.moment c.args.number (CreateKey c.args.handle c.args.path.now c.args.mask) c.lack_of.result same
+    refl (λ space. c.in-Err-create.ensures.full (ap (λ f. Err f) (c.lack_of.ensures space)))

@@ -27,11 +27,15 @@ pub unreachable-requires-in-Err-delete_key : goal.unreachable-requires-in-Err-de
 unreachable-requires-in-Err-delete_key c =
     let k = c.in-Ok-key_of.ensures in
     let found = c.in-Some.ensures.found k.target.path k.node in
-    delete-refused c.args.number c.args.self.now c.args.session c.requires.ready c.args.handle c.args.path.now c.requires.cause k.target c.in-Err-delete_key.field-0 (c.in-Err-delete_key.ensures.children _ found.0) (c.in-Err-delete_key.ensures.kept _ found.0) c.in-Err-delete_key.ensures.others
+    delete-refused c.args.number c.args.self.now c.args.session c.requires.ready c.args.handle c.args.path.now c.requires.cause k.target
+    c.in-Err-delete_key.field-0 (c.in-Err-delete_key.ensures.children _ found.0)
+    (c.in-Err-delete_key.ensures.kept _ found.0) c.in-Err-delete_key.ensures.others
 
 pub returns : goal.returns
 returns c =
     let k = c.in-Ok-key_of.ensures in
     let found = c.in-Some.ensures.found k.target.path k.node in
     let handles = c.mark_deleted.ensures ∙ ap (λ (text : List ℕ). turned (path_of text) c.args.self.now.handles.handles) c.as_slice.ensures.value in
-    delete-done c.args.number c.args.self.now c.args.session c.requires.ready c.args.handle c.args.path.now c.requires.cause k.target c.args.moment c.delete_key.new.self c.mark_deleted.new.self c.in-Ok.text.items c.in-Ok.ensures.names (c.in-Ok-delete_key.ensures.ok _ found.0) handles c.accepted.result c.accepted.ensures
+    delete-done c.args.number c.args.self.now c.args.session c.requires.ready c.args.handle c.args.path.now c.requires.cause k.target c.args.moment
+    c.delete_key.new.self c.mark_deleted.new.self c.in-Ok.text.items c.in-Ok.ensures.names
+    (c.in-Ok-delete_key.ensures.ok _ found.0) handles c.accepted.result c.accepted.ensures

@@ -22,7 +22,8 @@ returns-in-Some c = λ n.
     let due = key-due n c.args.self.now c.args.session c.args.handle c.args.index c.args.room k.target in
     let child = c.in-Some.ensures k.target.path k.node in
     let below = child.0 in
-    told (at n c.args.self.now) c.args.session (EnumKey c.args.handle c.args.index c.args.room) _ c.key_told.result (grind (arith, nat_tests, common_steps, chain, below)) due (c.key_told.ensures _ child.1)
+    told (at n c.args.self.now) c.args.session (EnumKey c.args.handle c.args.index c.args.room) _ c.key_told.result
+    (grind (arith, nat_tests, common_steps, chain, below)) due (c.key_told.ensures _ child.1)
 
 pub returns-in-None : goal.returns-in-None
 returns-in-None c = λ n.

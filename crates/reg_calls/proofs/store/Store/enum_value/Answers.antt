@@ -18,4 +18,5 @@ returns-then-key-ne-QUERY_VALUE c = λ n.
 pub returns : goal.returns
 returns c = λ n.
     let k = c.in-Ok.ensures in
-    member-read n c.args.self.now c.args.session c.args.handle c.args.index c.args.name_room c.args.room c.in-Ok.key.mask k.target c.member_told.result k.mask (allowed_is c.in-Ok.key.mask c.if-key-ne-QUERY_VALUE.false) (c.member_told.ensures k.target.path k.node)
+    member-read n c.args.self.now c.args.session c.args.handle c.args.index c.args.name_room c.args.room c.in-Ok.key.mask k.target
+    c.member_told.result k.mask (allowed_is c.in-Ok.key.mask c.if-key-ne-QUERY_VALUE.false) (c.member_told.ensures k.target.path k.node)

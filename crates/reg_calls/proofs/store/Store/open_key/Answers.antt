@@ -16,4 +16,5 @@ add-requires-clause-path c =
 
 pub returns-in-Ok-add : goal.returns-in-Ok-add
 returns-in-Ok-add c = λ moment.
-    open-done c.args.number c.args.self.now c.args.session c.requires.ready c.args.handle c.args.path.now c.args.mask c.requires.cause moment c.add.new.self c.in-Ok.text.items c.in-Ok.ensures.names c.in-Ok-add.ensures.ok c.opened.result c.opened.ensures
+    open-done c.args.number c.args.self.now c.args.session c.requires.ready c.args.handle c.args.path.now c.args.mask c.requires.cause moment
+    c.add.new.self c.in-Ok.text.items c.in-Ok.ensures.names c.in-Ok-add.ensures.ok c.opened.result c.opened.ensures

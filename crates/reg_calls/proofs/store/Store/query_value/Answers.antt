@@ -35,7 +35,8 @@ returns-in-Some c = λ n.
     let found = found_as _ _ _ (c.in-Some.ensures k.target.path k.node) in
     let is = found.is in
     let due = value-due n c.args.self.now c.args.session c.args.handle c.args.name.now c.args.room k.target ∙ ap (λ o. value_told o c.args.room) is in
-    told (at n c.args.self.now) c.args.session (QueryValue c.args.handle c.args.name.now c.args.room) _ c.told.result (grind (arith, nat_tests, common_steps, chain, is)) due (c.told.ensures k.target.path k.node found.member found.at_index found.kind found.size)
+    told (at n c.args.self.now) c.args.session (QueryValue c.args.handle c.args.name.now c.args.room) _ c.told.result
+    (grind (arith, nat_tests, common_steps, chain, is)) due (c.told.ensures k.target.path k.node found.member found.at_index found.kind found.size)
 
 pub returns-in-None : goal.returns-in-None
 returns-in-None c = λ n.

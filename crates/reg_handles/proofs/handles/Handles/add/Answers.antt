@@ -19,7 +19,8 @@ invariant_of-self-2 c =
     let before = ordered c.self.inside.rows.by_number.entries in
     let row : Row = record { session = c.args.session; mask = c.args.mask; key = c.in_ok-key.key } in
     let pushed = c.push.ensures ∙ ap (λ es. es ++ (c.args.number, row) ∷ []) c.reserve.ensures.rows in
-    added_table c.self.inside.keys.slots c.hold.new.self.slots (key_at c.self.inside.keys.by_path.entries) (key_at c.hold.new.self.by_path.entries) before c.self.inside.counts c.args.number row c.args.path.items c.self.invariant c.in_ok-key.ensures.ok
+    added_table c.self.inside.keys.slots c.hold.new.self.slots (key_at c.self.inside.keys.by_path.entries)
+    (key_at c.hold.new.self.by_path.entries) before c.self.inside.counts c.args.number row c.args.path.items c.self.invariant c.in_ok-key.ensures.ok
     (ordered c.push.new.self.by_number.entries) pushed c.self.told c.requires.session (record { path = c.requires.path; folded = c.requires.folded })
 
 pub returns-clause-ok : goal.returns-clause-ok
@@ -28,4 +29,6 @@ returns-clause-ok c =
     let row : Row = record { session = c.args.session; mask = c.args.mask; key = c.in_ok-key.key } in
     let pushed = c.push.ensures ∙ ap (λ es. es ++ (c.args.number, row) ∷ []) c.reserve.ensures.rows in
     let view = ap (λ (t : Table). t.handles) c.self.view_is in
-    rw (← view, pushed) (added_handles c.self.inside.keys.slots c.hold.new.self.slots (key_at c.self.inside.keys.by_path.entries) (key_at c.hold.new.self.by_path.entries) before c.self.inside.counts c.args.number row c.args.path.items c.self.invariant c.in_ok-key.ensures.ok)
+    rw (← view, pushed) (added_handles c.self.inside.keys.slots c.hold.new.self.slots (key_at c.self.inside.keys.by_path.entries)
+    (key_at c.hold.new.self.by_path.entries) before c.self.inside.counts c.args.number row c.args.path.items c.self.invariant
+    c.in_ok-key.ensures.ok)

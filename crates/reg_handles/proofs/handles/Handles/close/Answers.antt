@@ -18,7 +18,8 @@ bounds-self-inside-session c =
     let rows = ordered c.self.inside.rows.by_number.entries in
     let has = subst (λ (t : Table). is_some (look c.args.session c.args.number t.handles) ≡ true) (sym c.self.view_is) c.requires in
     let own : c.in-Some.row.session ≡ c.args.session = owner c.self.inside.keys.slots c.args.session c.args.number rows c.in-Some.row c.in-Some.ensures.row has in
-    let fit : c.in-Some.row.session < 64 = taken_fit c.self.inside.keys.slots (key_at c.self.inside.keys.by_path.entries) rows c.self.inside.counts c.args.number c.in-Some.row c.self.invariant (sym c.in-Some.ensures.row) in
+    let fit : c.in-Some.row.session < 64 = taken_fit c.self.inside.keys.slots (key_at c.self.inside.keys.by_path.entries) rows c.self.inside.counts
+    c.args.number c.in-Some.row c.self.invariant (sym c.in-Some.ensures.row) in
     omega (arith, own, fit)
 
 pub bounds-self-inside-session-in-Some : goal.bounds-self-inside-session-in-Some
@@ -26,7 +27,8 @@ bounds-self-inside-session-in-Some c =
     let rows = ordered c.self.inside.rows.by_number.entries in
     let has = subst (λ (t : Table). is_some (look c.args.session c.args.number t.handles) ≡ true) (sym c.self.view_is) c.requires in
     let own : c.in-Some.row.session ≡ c.args.session = owner c.self.inside.keys.slots c.args.session c.args.number rows c.in-Some.row c.in-Some.ensures.row has in
-    let fit : c.in-Some.row.session < 64 = taken_fit c.self.inside.keys.slots (key_at c.self.inside.keys.by_path.entries) rows c.self.inside.counts c.args.number c.in-Some.row c.self.invariant (sym c.in-Some.ensures.row) in
+    let fit : c.in-Some.row.session < 64 = taken_fit c.self.inside.keys.slots (key_at c.self.inside.keys.by_path.entries) rows c.self.inside.counts
+    c.args.number c.in-Some.row c.self.invariant (sym c.in-Some.ensures.row) in
     omega (arith, own, fit)
 
 pub overflow_sub-self : goal.overflow_sub-self
@@ -34,21 +36,28 @@ overflow_sub-self c =
     let rows = ordered c.self.inside.rows.by_number.entries in
     let has = subst (λ (t : Table). is_some (look c.args.session c.args.number t.handles) ≡ true) (sym c.self.view_is) c.requires in
     let own : c.in-Some.row.session ≡ c.args.session = owner c.self.inside.keys.slots c.args.session c.args.number rows c.in-Some.row c.in-Some.ensures.row has in
-    subst (λ s. 0 < get_or c.self.inside.counts s 0) own (taken_session c.self.inside.keys.slots (key_at c.self.inside.keys.by_path.entries) rows c.self.inside.counts c.args.number c.in-Some.row c.self.invariant (sym c.in-Some.ensures.row))
+    subst (λ s. 0 < get_or c.self.inside.counts s 0) own
+    (taken_session c.self.inside.keys.slots (key_at c.self.inside.keys.by_path.entries) rows c.self.inside.counts c.args.number c.in-Some.row
+    c.self.invariant (sym c.in-Some.ensures.row))
 
 pub invariant_of-self : goal.invariant_of-self
 invariant_of-self c =
     let rows = ordered c.self.inside.rows.by_number.entries in
     let has = subst (λ (t : Table). is_some (look c.args.session c.args.number t.handles) ≡ true) (sym c.self.view_is) c.requires in
     let own : c.in-Some.row.session ≡ c.args.session = owner c.self.inside.keys.slots c.args.session c.args.number rows c.in-Some.row c.in-Some.ensures.row has in
-    taken_to c.self.inside.keys.slots (key_at c.self.inside.keys.by_path.entries) rows c.self.inside.counts c.args.number c.in-Some.row c.self.invariant (sym c.in-Some.ensures.row) c.release.new.self.slots (key_at c.release.new.self.by_path.entries) c.release.ensures.slots c.release.ensures.paths
+    taken_to c.self.inside.keys.slots (key_at c.self.inside.keys.by_path.entries) rows c.self.inside.counts c.args.number c.in-Some.row
+    c.self.invariant (sym c.in-Some.ensures.row) c.release.new.self.slots
+    (key_at c.release.new.self.by_path.entries) c.release.ensures.slots c.release.ensures.paths
     (ordered c.remove.new.self.by_number.entries) c.args.session c.in-Some.ensures.rest own c.self.told
 
 pub returns-in-Some : goal.returns-in-Some
 returns-in-Some c =
     let rows = ordered c.self.inside.rows.by_number.entries in
     let view = ap (λ (t : Table). t.handles) c.self.view_is in
-    rw (← view, c.in-Some.ensures.rest) (taken_handles c.self.inside.keys.slots (key_at c.self.inside.keys.by_path.entries) rows c.self.inside.counts c.args.number c.in-Some.row c.self.invariant (sym c.in-Some.ensures.row) c.release.new.self.slots (key_at c.release.new.self.by_path.entries) c.release.ensures.slots c.release.ensures.paths (rises_ordered c.self.inside.rows.by_number.entries))
+    rw (← view, c.in-Some.ensures.rest) (taken_handles c.self.inside.keys.slots (key_at c.self.inside.keys.by_path.entries) rows c.self.inside.counts
+    c.args.number c.in-Some.row c.self.invariant (sym c.in-Some.ensures.row) c.release.new.self.slots
+    (key_at c.release.new.self.by_path.entries) c.release.ensures.slots c.release.ensures.paths
+    (rises_ordered c.self.inside.rows.by_number.entries))
 
 pub invariant_of-self-in_default : goal.invariant_of-self-in_default
 invariant_of-self-in_default c =

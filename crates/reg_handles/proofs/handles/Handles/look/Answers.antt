@@ -8,7 +8,8 @@ use Rattle.reg_handles.proofs.handles.Handles.look.Goals.{in_default-via-in-Some
 pub returns-in-Some-clause-handle : goal.returns-in-Some-clause-handle
 returns-in-Some-clause-handle c =
     let view = ap (λ (t : Table). t.handles) c.self.view_is in
-    rw (← view) (look_found c.self.inside.keys.slots c.args.session c.args.number (ordered c.self.inside.rows.by_number.entries) c.in-Some.row.now _ c.in-Some.ensures c.if-row-session.true c.path.ensures.place)
+    rw (← view) (look_found c.self.inside.keys.slots c.args.session c.args.number
+    (ordered c.self.inside.rows.by_number.entries) c.in-Some.row.now _ c.in-Some.ensures c.if-row-session.true c.path.ensures.place)
 
 pub returns-in_default-clause-handle : goal.returns-in_default-clause-handle
 returns-in_default-clause-handle c =

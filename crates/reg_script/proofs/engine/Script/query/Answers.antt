@@ -12,4 +12,10 @@ returns-clause-ok c =
 
 pub returns-in_err-write_answered-clause-err : goal.returns-in_err-write_answered-clause-err
 returns-in_err-write_answered-clause-err c =
-    on_err c.from_residual.result (record { reply = answer_text (Query c.args.query.now) c.read-answer.result.body; next = _; said = (Answered c.read-answer.result, (c.read-answer.ensures.at, c.read-answer.ensures.body, refl), refl, refl); hive = refl })
+    on_err c.from_residual.result (record {
+      reply = answer_text (Query c.args.query.now) c.read-answer.result.body;
+      next = _;
+      said =
+          (Answered c.read-answer.result, (c.read-answer.ensures.at, c.read-answer.ensures.body, refl), refl, refl);
+      hive = refl;
+    })

@@ -6,4 +6,7 @@ use Rattle.reg_script.proofs.engine.Script.read_all.Given as goal
 
 abbrev pub invariant-loop-read : goal.invariant-loop-read
 invariant-loop-read g l =
-    IsSteady (place_of l.initial.self (view_of l.initial.hive) (g.W.Write.contents l.initial.writer)) → (taken : List ℕ) × Consumes (g.R.Read.remaining l.initial.reader) (g.R.Read.remaining l.reader) taken × Takes (place_of l.initial.self (view_of l.initial.hive) (g.W.Write.contents l.initial.writer)) taken (place_of l.self (view_of l.hive) (g.W.Write.contents l.writer)) × (l._read ≤ length taken)
+    IsSteady (place_of l.initial.self (view_of l.initial.hive) (g.W.Write.contents l.initial.writer)) →
+    (taken : List ℕ) × Consumes (g.R.Read.remaining l.initial.reader) (g.R.Read.remaining l.reader) taken ×
+    Takes (place_of l.initial.self (view_of l.initial.hive) (g.W.Write.contents l.initial.writer)) taken
+    (place_of l.self (view_of l.hive) (g.W.Write.contents l.writer)) × (l._read ≤ length taken)

@@ -14,7 +14,9 @@ returns-in_err-end_line-clause-err g c = if_err _ c.from_residual.result _ c.fro
 
 pub returns-in_err-settle-clause-err : goal.returns-in_err-settle-clause-err
 returns-in_err-settle-clause-err g c = if_err _ c.from_residual-in_err-settle.result _ c.from_residual-in_err-settle.ensures.1
-    (λ steady. let said = c.in_ok-end_line.ensures.said in halts_cut _ _ c.args.byte _ _ _ _ c.if-byte-eq10.true steady (few_lines _ c.if-self-ge-LINES_LIMIT.false) said.1 said.2 said.3 c.in_err-settle.ensures.err)
+    (λ steady. let said = c.in_ok-end_line.ensures.said in
+    halts_cut _ _ c.args.byte _ _ _ _ c.if-byte-eq10.true steady
+    (few_lines _ c.if-self-ge-LINES_LIMIT.false) said.1 said.2 said.3 c.in_err-settle.ensures.err)
 
 pub returns-then-byte-eq10-clause-ok : goal.returns-then-byte-eq10-clause-ok
 returns-then-byte-eq10-clause-ok g c =

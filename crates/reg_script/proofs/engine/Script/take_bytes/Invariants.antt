@@ -5,4 +5,6 @@ use Rattle.reg_script.proofs.engine.Script.take_bytes.Given as goal
 
 abbrev pub invariant-loop-byte : goal.invariant-loop-byte
 invariant-loop-byte g l =
-    IsSteady (place_of l.initial.self (view_of l.initial.hive) (g.W.Write.contents l.initial.writer)) → Takes (place_of l.initial.self (view_of l.initial.hive) (g.W.Write.contents l.initial.writer)) (take l.byte-index l.bytes) (place_of l.self (view_of l.hive) (g.W.Write.contents l.writer))
+    IsSteady (place_of l.initial.self (view_of l.initial.hive) (g.W.Write.contents l.initial.writer)) →
+    Takes (place_of l.initial.self (view_of l.initial.hive) (g.W.Write.contents l.initial.writer)) (take l.byte-index l.bytes)
+    (place_of l.self (view_of l.hive) (g.W.Write.contents l.writer))

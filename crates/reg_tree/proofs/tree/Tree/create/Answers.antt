@@ -18,7 +18,8 @@ pub returns-clause-ok : goal.returns-clause-ok
 returns-clause-ok c = tree_created _ _ c.self.invariant _ c.self.view_is _ c.create.result c.args.from c.requires.from c.args.path.now c.args.moment c.create.ensures.ok c.create.ensures.err
 
 pub returns-clause-opened : goal.returns-clause-opened
-returns-clause-opened c = opened_created _ _ c.self.invariant _ c.self.view_is _ c.create.result c.args.from c.requires.from c.args.path.now c.args.moment c.create.ensures.ok c.create.ensures.err c.create.ensures.new
+returns-clause-opened c = opened_created _ _ c.self.invariant _ c.self.view_is _ c.create.result c.args.from c.requires.from c.args.path.now
+    c.args.moment c.create.ensures.ok c.create.ensures.err c.create.ensures.new
 
 pub returns-clause-depth : goal.returns-clause-depth
 returns-clause-depth c = depth_created _ _ c.self.invariant _ c.self.view_is _ c.create.result c.args.from c.requires.from c.args.path.now c.args.moment c.create.ensures.ok c.create.ensures.err

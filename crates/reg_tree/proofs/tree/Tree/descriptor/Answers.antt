@@ -9,4 +9,5 @@ descriptor-requires c = there_at _ _ c.self.invariant _ c.self.view_is _ c.requi
 
 pub returns-clause-told : goal.returns-clause-told
 returns-clause-told c = λ p at.
-    of_tree _ _ c.self.invariant _ c.self.view_is (λ (t : Tree). (r : Rec) → get t p ≡ Some r → c.descriptor.result.now ≡ r.descriptor) (c.descriptor.ensures.told (here_at _ _ c.self.invariant _ c.self.view_is c.args.node p at))
+    of_tree _ _ c.self.invariant _ c.self.view_is (λ (t : Tree). (r : Rec) → get t p ≡ Some r → c.descriptor.result.now ≡ r.descriptor)
+    (c.descriptor.ensures.told (here_at _ _ c.self.invariant _ c.self.view_is c.args.node p at))

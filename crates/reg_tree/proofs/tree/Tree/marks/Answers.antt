@@ -9,4 +9,5 @@ marks-requires c = there_at _ _ c.self.invariant _ c.self.view_is _ c.requires
 
 pub returns : goal.returns
 returns c = λ p at.
-    of_tree _ _ c.self.invariant _ c.self.view_is (λ (t : Tree). (r : Rec) → get t p ≡ Some r → c.marks.result ≡ r.marks) (c.marks.ensures (here_at _ _ c.self.invariant _ c.self.view_is c.args.node p at))
+    of_tree _ _ c.self.invariant _ c.self.view_is (λ (t : Tree). (r : Rec) → get t p ≡ Some r →
+    c.marks.result ≡ r.marks) (c.marks.ensures (here_at _ _ c.self.invariant _ c.self.view_is c.args.node p at))

@@ -9,7 +9,8 @@ name-requires c = there_at _ _ c.self.invariant _ c.self.view_is _ c.requires
 
 pub returns-clause-told : goal.returns-clause-told
 returns-clause-told c = λ p at.
-    of_tree _ _ c.self.invariant _ c.self.view_is (λ (t : Tree). (r : Rec) → get t p ≡ Some r → c.name.result.now ≡ r.name) (c.name.ensures.told (here_at _ _ c.self.invariant _ c.self.view_is c.args.node p at))
+    of_tree _ _ c.self.invariant _ c.self.view_is (λ (t : Tree). (r : Rec) → get t p ≡ Some r →
+    c.name.result.now ≡ r.name) (c.name.ensures.told (here_at _ _ c.self.invariant _ c.self.view_is c.args.node p at))
 
 pub returns-clause-key : goal.returns-clause-key
 returns-clause-key c = λ p at. at-there _ _ c.self.invariant _ c.self.view_is c.args.node p at

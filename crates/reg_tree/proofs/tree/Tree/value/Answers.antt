@@ -11,5 +11,6 @@ at-requires c = there_at _ _ c.self.invariant _ c.self.view_is _ c.requires
 
 pub returns-clause-told : goal.returns-clause-told
 returns-clause-told c = λ p at.
-    of_tree _ _ c.self.invariant _ c.self.view_is (λ (t : Tree). MatchOption c.at.result (length (values_at t p) ≤ c.args.index) (λ value. (member : Member) × (slice_get (values_at t p) c.args.index ≡ Some member) × Tells member value.name.now value.kind value.size))
+    of_tree _ _ c.self.invariant _ c.self.view_is (λ (t : Tree). MatchOption c.at.result (length (values_at t p) ≤ c.args.index)
+    (λ value. (member : Member) × (slice_get (values_at t p) c.args.index ≡ Some member) × Tells member value.name.now value.kind value.size))
     (c.at.ensures.told (here_at _ _ c.self.invariant _ c.self.view_is c.args.node p at))

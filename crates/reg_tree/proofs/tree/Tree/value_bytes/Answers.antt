@@ -14,5 +14,6 @@ bytes-requires c = (
 
 pub returns : goal.returns
 returns c = λ p at.
-    of_tree _ _ c.self.invariant _ c.self.view_is (λ (t : Tree). IfOk c.bytes.result (λ bytes. (member : Member) × (slice_get (values_at t p) c.args.index ≡ Some member) × (bytes.items ≡ member.bytes)))
+    of_tree _ _ c.self.invariant _ c.self.view_is (λ (t : Tree). IfOk c.bytes.result (λ bytes. (member : Member) ×
+    (slice_get (values_at t p) c.args.index ≡ Some member) × (bytes.items ≡ member.bytes)))
     (c.bytes.ensures (here_at _ _ c.self.invariant _ c.self.view_is c.args.node p at))
