@@ -1,5 +1,5 @@
 pub mod Contents
-pub mod Layout
+pub mod Tiling
 pub mod FreeList
 pub mod Carving
 pub mod RowsOfCells

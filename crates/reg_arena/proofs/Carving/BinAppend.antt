@@ -16,8 +16,8 @@ use Rattle.reg_arena.specs.Carves.{or_else}
 use Rattle.reg_arena.proofs.Contents.ByteSplices.{word-at}
 use Rattle.reg_arena.proofs.Carving.NewBinBytes.{says_bin, length-new_bin, appended}
 use Rattle.reg_arena.proofs.Carving.CarveWhole.{free-size, free-flag}
-use Rattle.reg_arena.proofs.Layout.Tilings.{IsCell-same, IsCell-eight, cells_of-AreBins, cell_at-AreBins, Tiles-le}
-use Rattle.reg_arena.proofs.Layout.CellPositions.{stands}
+use Rattle.reg_arena.proofs.Tiling.Tilings.{IsCell-same, IsCell-eight, cells_of-AreBins, cell_at-AreBins, Tiles-le}
+use Rattle.reg_arena.proofs.Tiling.CellPositions.{stands}
 use Rattle.reg_arena.proofs.Contents.CellContents.{content_in-append}
 use Rattle.reg_arena.proofs.FreeList.FreeLinks.{all_from_times}
 use Rattle.reg_arena.proofs.FreeList.FreeListTake.{free_at, times-append, free_of-append}

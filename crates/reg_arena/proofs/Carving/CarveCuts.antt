@@ -11,7 +11,7 @@ use Rattle.reg_arena.specs.declared.Cell.{Cell}
 use Rattle.reg_arena.specs.Cells.{IsCell, Tiles, content_in, size_in, is_allocated_in}
 use Rattle.reg_arena.specs.NewCells.{total_of, used, carved, offsets_of, zeroed}
 use Rattle.reg_arena.proofs.Contents.ByteSplices.{same-splice, same-trans, word-same_below, word-splice, length-splice, drop-splice}
-use Rattle.reg_arena.proofs.Layout.Tilings.{Tiles-append, Tiles-same_below, IsCell-eight}
+use Rattle.reg_arena.proofs.Tiling.Tilings.{Tiles-append, Tiles-same_below, IsCell-eight}
 use Rattle.reg_arena.proofs.Contents.CellContents.{content_in-append, IsBeside, content_in-beside}
 
 -- the bytes of one new cell

@@ -8,8 +8,8 @@ use Rattle.reg_arena.specs.Arena.{IsArena, one_class}
 use Rattle.reg_arena.specs.NewCells.{total_of, used, carved}
 use Rattle.reg_arena.specs.NewCells.{unused}
 use Rattle.reg_arena.specs.Carves.{rest_of}
-use Rattle.reg_arena.proofs.Layout.Tilings.{with_cells}
-use Rattle.reg_arena.proofs.Layout.CellPositions.{Placed}
+use Rattle.reg_arena.proofs.Tiling.Tilings.{with_cells}
+use Rattle.reg_arena.proofs.Tiling.CellPositions.{Placed}
 use Rattle.reg_arena.proofs.Contents.CellContents.{AreOrdered}
 use Rattle.reg_arena.proofs.FreeList.Relinks.{free-content}
 

@@ -14,8 +14,8 @@ use Rattle.reg_arena.specs.NewCells.{unused}
 use Rattle.reg_arena.specs.Carves.{rest_of, or_else, IsInNoFree, Carves}
 use Rattle.byteorder.specs.Endian.{little_bytes}
 use Rattle.reg_arena.proofs.Contents.ByteSplices.{same-trans, same-splice, length-splice, word-same_below, word-same_above, word-splice}
-use Rattle.reg_arena.proofs.Layout.Tilings.{with_cells, AreBins-edit, cells_of-AreBins, cell_at-AreBins, Tiles-append, Tiles-same_above}
-use Rattle.reg_arena.proofs.Layout.CellPositions.{stands}
+use Rattle.reg_arena.proofs.Tiling.Tilings.{with_cells, AreBins-edit, cells_of-AreBins, cell_at-AreBins, Tiles-append, Tiles-same_above}
+use Rattle.reg_arena.proofs.Tiling.CellPositions.{stands}
 use Rattle.reg_arena.proofs.Contents.CellContents.{content_in-append, content_in-beside, AreOrdered, AreOrdered-AreBins, besides-before, besides-after}
 use Rattle.reg_arena.proofs.FreeList.FreeLinks.{IsClear, free_of-all}
 use Rattle.reg_arena.proofs.Contents.CellWrites.{clear-cells, content_in-none, all-at}

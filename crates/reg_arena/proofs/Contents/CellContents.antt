@@ -7,7 +7,7 @@ use Rattle.reg_heap.specs.ByteWords.{SameOutside}
 use Rattle.reg_arena.specs.Carves.{or_else}
 use Rattle.reg_arena.specs.declared.Cell.{Cell}
 use Rattle.reg_arena.specs.Cells.{Bin, Tiles, AreBins, cells_in, content_in}
-use Rattle.reg_arena.proofs.Layout.Tilings.{IsCell-eight}
+use Rattle.reg_arena.proofs.Tiling.Tilings.{IsCell-eight}
 
 pub content_in-append : (bytes : List ℕ) (xs ys : List Cell) (offset : ℕ) → content_in bytes (xs ++ ys) offset ≡ or_else (content_in bytes xs offset) (content_in bytes ys offset)
 content_in-append bytes [] ys offset = refl

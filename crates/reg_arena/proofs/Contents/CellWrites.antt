@@ -13,8 +13,8 @@ use Rattle.reg_arena.specs.Cells.{Bin, IsCell, Tiles, AreBins, cells_in, content
 use Rattle.reg_arena.specs.Free.{free_of, Follows, IsFreeList, AreLists}
 use Rattle.reg_arena.specs.Arena.{IsArena, one_class}
 use Rattle.reg_arena.proofs.Contents.ByteSplices.{same-splice, word-same_below, length-splice, get_or-splice_below, get_or-splice_above, get_or-splice_in}
-use Rattle.reg_arena.proofs.Layout.Tilings.{with_cells, AreBins-edit, cells_of-AreBins, cell_at-AreBins, IsCell-same, IsCell-within}
-use Rattle.reg_arena.proofs.Layout.CellPositions.{looked, Stands, stands}
+use Rattle.reg_arena.proofs.Tiling.Tilings.{with_cells, AreBins-edit, cells_of-AreBins, cell_at-AreBins, IsCell-same, IsCell-within}
+use Rattle.reg_arena.proofs.Tiling.CellPositions.{looked, Stands, stands}
 use Rattle.reg_arena.proofs.Contents.CellContents.{content_in-append, IsBeside, content_in-beside, AreOrdered, AreOrdered-AreBins, besides-before, besides-after}
 use Rattle.reg_arena.proofs.FreeList.FreeLinks.{IsClear, Follows-same, all_from_times, times-all, free_of-all}
 

@@ -11,8 +11,8 @@ use Rattle.reg_arena.specs.Free.{IsFit, is_free_of, free_of, chain, NoneFits}
 use Rattle.reg_arena.specs.Arena.{IsArena, one_class}
 use Rattle.reg_arena.specs.NewCells.{total_of, AreSizes}
 use Rattle.reg_arena.specs.Carves.{NoFit}
-use Rattle.reg_arena.proofs.Layout.Tilings.{cells_of-AreBins}
-use Rattle.reg_arena.proofs.Layout.CellPositions.{stands}
+use Rattle.reg_arena.proofs.Tiling.Tilings.{cells_of-AreBins}
+use Rattle.reg_arena.proofs.Tiling.CellPositions.{stands}
 use Rattle.reg_arena.proofs.FreeList.FreeLinks.{all_from_times, times-all}
 use Rattle.reg_arena.proofs.FreeList.FreeListTake.{taken, free_at, times-append, free_of-append, free_of-one}
 use Rattle.reg_arena.proofs.Contents.CellWrites.{all-at}

@@ -12,7 +12,7 @@ use Rattle.reg_heap.specs.Internal.Kinds.{times}
 use Rattle.reg_arena.specs.Free.{Follows, is_free_of, free_of, EndsAt, linked, head_after}
 use Rattle.reg_arena.specs.Arena.{one_class}
 use Rattle.reg_arena.proofs.Contents.ByteSplices.{same-splice, word-same_below, word-splice}
-use Rattle.reg_arena.proofs.Layout.CellPositions.{stands}
+use Rattle.reg_arena.proofs.Tiling.CellPositions.{stands}
 use Rattle.reg_arena.proofs.Contents.CellContents.{content_in-append, content_in-beside, AreOrdered, AreOrdered-AreBins, besides-before, besides-after}
 use Rattle.reg_arena.proofs.FreeList.FreeLinks.{IsClear, word-clear, free_of-all}
 use Rattle.reg_arena.proofs.Contents.CellWrites.{clear-cells, layout-same, all-at}

@@ -11,7 +11,7 @@ use Rattle.reg_arena.specs.Free.{Follows, free_of, linked, head_after}
 use Rattle.reg_arena.specs.Arena.{one_class}
 use Rattle.reg_arena.specs.Internal.SideTables.{AreBacks, marked}
 use Rattle.reg_arena.specs.Frees.{InList, Unlinks}
-use Rattle.reg_arena.proofs.Layout.CellPositions.{stands}
+use Rattle.reg_arena.proofs.Tiling.CellPositions.{stands}
 use Rattle.reg_arena.proofs.Contents.CellContents.{IsBeside, AreOrdered, AreOrdered-AreBins, besides-before, besides-after}
 use Rattle.reg_arena.proofs.FreeList.FreeLinks.{free_of-all}
 use Rattle.reg_arena.proofs.FreeList.FreeListTake.{taken-some, others-some, times-append, Follows-back}

@@ -14,12 +14,12 @@ use Rattle.reg_arena.specs.NewCells.{used, unused}
 use Rattle.reg_arena.specs.Carves.{or_else}
 use Rattle.reg_arena.specs.Internal.SideTables.{ending, IsIndexed, marked}
 use Rattle.reg_arena.specs.Frees.{IsFreePiece, Frees, start_of}
-use Rattle.reg_arena.proofs.Layout.Tilings.{sizes, cells_of-AreBins}
+use Rattle.reg_arena.proofs.Tiling.Tilings.{sizes, cells_of-AreBins}
 use Rattle.reg_arena.proofs.Contents.CellContents.{content_in-append, IsBeside, AreOrdered, AreOrdered-AreBins, besides-before, besides-after}
 use Rattle.reg_arena.proofs.FreeList.FreeListTake.{times-append, free_of-append}
 use Rattle.reg_arena.proofs.Freeing.MergedCells.{PlacedRow, EndsFree, freeing}
 use Rattle.reg_arena.proofs.TableUpkeep.TableChanges.{cells-are, alone-in, ends-edit, ending-alone, ending-there}
-use Rattle.reg_arena.proofs.Layout.CellPositions.{stands}
+use Rattle.reg_arena.proofs.Tiling.CellPositions.{stands}
 use Rattle.reg_arena.proofs.TableUpkeep.TableEdits.{IsTail, backs-insert, open-front, length-marked}
 use Rattle.reg_arena.proofs.FreeList.Unlinks.{Detached, tail-front}
 use Rattle.reg_arena.proofs.Freeing.FreeNeighbours.{ending-append, ending-beside}

@@ -10,8 +10,8 @@ use Rattle.reg_arena.specs.Free.{Touch, AreApart}
 use Rattle.reg_arena.specs.NewCells.{unused}
 use Rattle.reg_arena.specs.Internal.SideTables.{ending}
 use Rattle.reg_arena.specs.Frees.{IsFreePiece, IsRight, start_of}
-use Rattle.reg_arena.proofs.Layout.Tilings.{Tiles-back}
-use Rattle.reg_arena.proofs.Layout.CellPositions.{Placed, placed, stands, AreBins-at}
+use Rattle.reg_arena.proofs.Tiling.Tilings.{Tiles-back}
+use Rattle.reg_arena.proofs.Tiling.CellPositions.{Placed, placed, stands, AreBins-at}
 use Rattle.reg_arena.proofs.Contents.CellContents.{IsBeside, AreOrdered, AreOrdered-AreBins, besides-before, besides-after}
 use Rattle.reg_arena.proofs.Carving.CarveWhole.{as_unused, free-size, free-flag}
 use Rattle.reg_arena.proofs.Freeing.MergedCells.{PlacedRow, apart-back}

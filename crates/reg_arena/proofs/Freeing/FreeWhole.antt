@@ -12,9 +12,9 @@ use Rattle.reg_arena.specs.Arena.{one_class}
 use Rattle.reg_arena.specs.NewCells.{used, unused}
 use Rattle.reg_arena.specs.Internal.SideTables.{ending, IsIndexed}
 use Rattle.reg_arena.specs.Frees.{IsFreePiece, IsRight, start_of}
-use Rattle.reg_arena.proofs.Layout.Tilings.{sizes, cells_of-AreBins, cell_at-AreBins}
-use Rattle.reg_arena.proofs.Layout.CellPositions.{looked, stands}
-use Rattle.reg_arena.proofs.Layout.ArenaInvariant.{sound, AreBins-eights}
+use Rattle.reg_arena.proofs.Tiling.Tilings.{sizes, cells_of-AreBins, cell_at-AreBins}
+use Rattle.reg_arena.proofs.Tiling.CellPositions.{looked, stands}
+use Rattle.reg_arena.proofs.Tiling.ArenaInvariant.{sound, AreBins-eights}
 use Rattle.reg_arena.proofs.Contents.CellWrites.{all-at}
 use Rattle.reg_arena.proofs.FreeList.Relinks.{free-content}
 use Rattle.reg_arena.proofs.FreeList.FreeListWalk.{Follows-chain}

@@ -10,8 +10,8 @@ use Rattle.reg_arena.specs.Arena.{IsArena, one_class}
 use Rattle.reg_arena.specs.declared.Cell.{Cell}
 use Rattle.reg_arena.specs.NewCells.{unused}
 use Rattle.reg_arena.specs.Carves.{or_else}
-use Rattle.reg_arena.proofs.Layout.Tilings.{sizes, with_cells, AreBins-edit, cells_of-AreBins, cell_at-AreBins, Tiles-back, Tiles-front, Tiles-le, IsCell-eight}
-use Rattle.reg_arena.proofs.Layout.CellPositions.{AreBins-at}
+use Rattle.reg_arena.proofs.Tiling.Tilings.{sizes, with_cells, AreBins-edit, cells_of-AreBins, cell_at-AreBins, Tiles-back, Tiles-front, Tiles-le, IsCell-eight}
+use Rattle.reg_arena.proofs.Tiling.CellPositions.{AreBins-at}
 use Rattle.reg_arena.proofs.Contents.CellContents.{content_in-append, content_in-beside, AreOrdered, AreOrdered-AreBins, AreOrdered-back, besides-before, beside-after}
 use Rattle.reg_arena.proofs.FreeList.FreeLinks.{IsClear, Follows-same, free_of-all}
 use Rattle.reg_arena.proofs.Contents.CellWrites.{clear-cells, content_in-none}

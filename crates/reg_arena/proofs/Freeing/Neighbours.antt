@@ -2,8 +2,8 @@
 use Rattle.std.proofs.Common.{◌≡◌, ℕ, ◌+◌, ◌≤◌, List, [], ◌∷◌, ◌++◌, refl, sym, ap, ◌∙◌, subst, arith, append_assoc}
 use Rattle.reg_arena.specs.declared.Cell.{Cell}
 use Rattle.reg_arena.specs.Cells.{Bin, AreBins, cells_in}
-use Rattle.reg_arena.proofs.Layout.Tilings.{Tiles-back}
-use Rattle.reg_arena.proofs.Layout.CellPositions.{Falls, first, second, falls, Placed, placed, AreBins-at}
+use Rattle.reg_arena.proofs.Tiling.Tilings.{Tiles-back}
+use Rattle.reg_arena.proofs.Tiling.CellPositions.{Falls, first, second, falls, Placed, placed, AreBins-at}
 use Rattle.reg_arena.proofs.Contents.CellContents.{AreOrdered, AreOrdered-AreBins, AreOrdered-back, AreOrdered-Tiles}
 use Rattle.reg_arena.proofs.Freeing.MergedCells.{PlacedRow}
 

@@ -11,10 +11,10 @@ use Rattle.reg_arena.specs.NewBin.{AppendsBin, IsBinSize, new_bin}
 use Rattle.reg_arena.specs.Internal.SideTables.{ending, AreBacks, IsIndexed, marked, NotesTaken, IsLonger}
 use Rattle.reg_arena.proofs.Carving.NewBinBytes.{length-new_bin}
 use Rattle.reg_arena.proofs.Contents.CellContents.{AreOrdered, AreOrdered-AreBins, besides-before}
-use Rattle.reg_arena.proofs.Layout.ArenaInvariant.{sound}
+use Rattle.reg_arena.proofs.Tiling.ArenaInvariant.{sound}
 use Rattle.reg_arena.proofs.FreeList.FreeListTake.{Follows-back}
 use Rattle.reg_arena.proofs.Contents.CellWrites.{Wrote}
-use Rattle.reg_arena.proofs.Layout.Tilings.{cells_of-AreBins}
+use Rattle.reg_arena.proofs.Tiling.Tilings.{cells_of-AreBins}
 use Rattle.reg_arena.proofs.FreeList.FreeListWalk.{Follows-chain}
 use Rattle.reg_arena.proofs.Carving.CarveFromCell.{one_list, rest_offsets}
 use Rattle.reg_arena.proofs.Carving.CarveWhole.{CarvingAt, facts-at}

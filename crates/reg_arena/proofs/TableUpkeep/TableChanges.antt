@@ -13,10 +13,10 @@ use Rattle.reg_arena.specs.Arena.{IsArena, one_class}
 use Rattle.reg_arena.specs.NewCells.{total_of, unused, carved, offsets_of}
 use Rattle.reg_arena.specs.Carves.{rest_of, Carves}
 use Rattle.reg_arena.specs.Internal.SideTables.{ending}
-use Rattle.reg_arena.proofs.Layout.Tilings.{cells_of-AreBins}
-use Rattle.reg_arena.proofs.Layout.CellPositions.{stands}
+use Rattle.reg_arena.proofs.Tiling.Tilings.{cells_of-AreBins}
+use Rattle.reg_arena.proofs.Tiling.CellPositions.{stands}
 use Rattle.reg_arena.proofs.Contents.CellContents.{IsBeside, AreOrdered, AreOrdered-AreBins, besides-before, besides-after}
-use Rattle.reg_arena.proofs.Layout.ArenaInvariant.{AreBins-eights}
+use Rattle.reg_arena.proofs.Tiling.ArenaInvariant.{AreBins-eights}
 use Rattle.reg_arena.proofs.Contents.CellWrites.{all-at}
 use Rattle.reg_arena.proofs.FreeList.FreeListWalk.{Follows-chain}
 use Rattle.reg_arena.proofs.Carving.CarveFromCell.{one_list}

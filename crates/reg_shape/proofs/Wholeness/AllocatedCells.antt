@@ -7,7 +7,7 @@ use Rattle.reg_heap.specs.Internal.Heaps.{Heap, allocated}
 use Rattle.reg_heap.specs.Internal.Kinds.{Found, times}
 use Rattle.reg_arena.specs.declared.Cell.{Cell}
 use Rattle.reg_arena.specs.Cells.{cells_of, cell_at}
-use Rattle.reg_arena.proofs.Layout.CellLayout.{among, holder-is}
+use Rattle.reg_arena.proofs.Tiling.CellLayout.{among, holder-is}
 use Rattle.reg_arena.proofs.Contents.CellWrites.{all-append}
 use Rattle.reg_records.specs.BigData.{Named}
 use Rattle.reg_shape.specs.Walk.{gather, walk}

@@ -11,7 +11,7 @@ use Rattle.reg_heap.specs.Edits.{values_at, values_of}
 use Rattle.reg_shape.specs.Internal.Forests.{Branch, total_of}
 use Rattle.reg_arena.specs.declared.Cell.{Cell}
 use Rattle.reg_arena.specs.Cells.{cells_of, cell_at}
-use Rattle.reg_arena.proofs.Layout.CellLayout.{has_cells}
+use Rattle.reg_arena.proofs.Tiling.CellLayout.{has_cells}
 use Rattle.reg_records.specs.KeyNodes.{key_at}
 use Rattle.reg_shape.specs.Nodes.{Node, members_at}
 use Rattle.reg_shape.specs.Spelt.{spelt, rec_of}

@@ -1,4 +1,4 @@
-use Rattle.reg_arena.proofs.Layout.CellLayout.{has_cells}
+use Rattle.reg_arena.proofs.Tiling.CellLayout.{has_cells}
 use Rattle.reg_arena.proofs.laws.content_needs_cells.Goals as goal
 
 pub returns : goal.returns

@@ -1,5 +1,5 @@
 use Rattle.std.proofs.Common.{arith, ◌≡◌, true, is_ok}
-use Rattle.reg_arena.proofs.Layout.CellWalkSteps.{walked-none, walked-more, walked-all, at_cell}
+use Rattle.reg_arena.proofs.Tiling.CellWalkSteps.{walked-none, walked-more, walked-all, at_cell}
 use Rattle.reg_arena.proofs.walk.list_bin.Goals as goal
 
 pub loop-at-init : goal.loop-at-init

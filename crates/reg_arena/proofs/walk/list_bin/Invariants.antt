@@ -1,5 +1,5 @@
 use Rattle.std.proofs.Common.{◌-◌}
-use Rattle.reg_arena.proofs.Layout.CellWalkSteps.{Walked}
+use Rattle.reg_arena.proofs.Tiling.CellWalkSteps.{Walked}
 use Rattle.reg_arena.proofs.walk.list_bin.Given as goal
 
 abbrev pub invariant-loop-at : goal.invariant-loop-at

@@ -1,5 +1,5 @@
 use Rattle.std.proofs.Common.{arith}
-use Rattle.reg_arena.proofs.Layout.CellWalkSteps.{walked_bins-none, walked_bins-more, walked_bins-all, at_bin}
+use Rattle.reg_arena.proofs.Tiling.CellWalkSteps.{walked_bins-none, walked_bins-more, walked_bins-all, at_bin}
 use Rattle.reg_arena.proofs.walk.list_cells.Goals as goal
 
 pub loop-at-init : goal.loop-at-init

@@ -1,5 +1,5 @@
 use Rattle.std.proofs.Common.{◌-◌, length}
-use Rattle.reg_arena.proofs.Layout.CellWalkSteps.{WalkedBins}
+use Rattle.reg_arena.proofs.Tiling.CellWalkSteps.{WalkedBins}
 use Rattle.reg_arena.proofs.walk.list_cells.Given as goal
 
 abbrev pub invariant-loop-at : goal.invariant-loop-at

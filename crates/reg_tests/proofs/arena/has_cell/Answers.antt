@@ -3,7 +3,7 @@ use Rattle.std.specs.Prelude.{IsSome}
 use Rattle.std.proofs.lemmas.List.Elements.{Contains-get_or}
 use Rattle.reg_arena.specs.declared.Cell.{Cell}
 use Rattle.reg_arena.specs.Cells.{cells_of, cell_at}
-use Rattle.reg_arena.proofs.Layout.CellLayout.{allocated-some}
+use Rattle.reg_arena.proofs.Tiling.CellLayout.{allocated-some}
 use Rattle.reg_tests.proofs.arena.has_cell.Goals as goal
 
 -- an allocated cell of the list stands where it says

@@ -1,4 +1,4 @@
-use Rattle.reg_arena.proofs.Layout.ArenaInvariant.{sound}
+use Rattle.reg_arena.proofs.Tiling.ArenaInvariant.{sound}
 use Rattle.reg_arena.proofs.arena.Arena.bins_size.Goals as goal
 
 pub returns-clause-sound : goal.returns-clause-sound

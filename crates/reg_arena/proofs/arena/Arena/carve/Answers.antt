@@ -2,7 +2,7 @@ use Rattle.std.proofs.Common.{arith, ◌≢◌, length, sym, ◌∙◌, refl}
 use Rattle.std.proofs.lemmas.Bool.{eqb-false}
 use Rattle.reg_arena.specs.Free.{NoneFits, IsFit, chain}
 use Rattle.reg_arena.proofs.FreeList.FreeListChoice.{total-positive, chain-within, no-fit, fit-some}
-use Rattle.reg_arena.proofs.Layout.ArenaFaults.{not-full, room-or-not}
+use Rattle.reg_arena.proofs.Tiling.ArenaFaults.{not-full, room-or-not}
 use Rattle.reg_arena.proofs.arena.Arena.carve.Goals as goal
 
 pub find_fit-requires : goal.find_fit-requires

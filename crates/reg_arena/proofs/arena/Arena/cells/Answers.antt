@@ -1,4 +1,4 @@
-use Rattle.reg_arena.proofs.Layout.ArenaInvariant.{row_of_bins}
+use Rattle.reg_arena.proofs.Tiling.ArenaInvariant.{row_of_bins}
 use Rattle.reg_arena.proofs.arena.Arena.cells.Goals as goal
 
 pub list_cells-requires-clause-bins : goal.list_cells-requires-clause-bins

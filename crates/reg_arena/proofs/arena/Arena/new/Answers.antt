@@ -1,4 +1,4 @@
-use Rattle.reg_arena.proofs.Layout.EmptyArena.{fresh}
+use Rattle.reg_arena.proofs.Tiling.EmptyArena.{fresh}
 use Rattle.reg_arena.proofs.TableUpkeep.IndexedArena.{indexed-fresh}
 use Rattle.reg_arena.proofs.arena.Arena.new.Goals as goal
 

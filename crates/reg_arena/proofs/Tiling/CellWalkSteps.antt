@@ -6,7 +6,7 @@ use Rattle.reg_heap.specs.ByteWords.{word}
 use Rattle.reg_arena.specs.declared.Cell.{Cell}
 use Rattle.reg_arena.specs.Cells.{Bin, Tiles, AreBins, cells_in, cells_of, size_in, is_allocated_in}
 use Rattle.reg_arena.specs.Internal.CellWalks.{IsTiled, IsRowOfBins, PushesCells}
-use Rattle.reg_arena.proofs.Layout.Tilings.{Tiles-le, Tiles-append, cells_from-Tiles, cells_of-AreBins, IsCell-eight, IsCell-within}
+use Rattle.reg_arena.proofs.Tiling.Tilings.{Tiles-le, Tiles-append, cells_from-Tiles, cells_of-AreBins, IsCell-eight, IsCell-within}
 use Rattle.reg_arena.proofs.Carving.BinAppend.{cells_in-append}
 
 -- the cells up to at were met

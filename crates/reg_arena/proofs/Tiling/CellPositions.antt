@@ -3,7 +3,7 @@ use Rattle.std.proofs.Common.{◌≡◌, ℕ, ◌+◌, ◌-◌, ◌≤◌, Bool,
 use Rattle.std.proofs.lemmas.Bool.{and_parts, eqb-true}
 use Rattle.reg_arena.specs.declared.Cell.{Cell}
 use Rattle.reg_arena.specs.Cells.{Bin, IsCell, IsHeader, Tiles, AreBins, cells_in, content_in}
-use Rattle.reg_arena.proofs.Layout.Tilings.{sizes, Tiles-back}
+use Rattle.reg_arena.proofs.Tiling.Tilings.{sizes, Tiles-back}
 
 -- where the head of the second part of a list falls, when the list is also cut elsewhere
 pub data Falls {A : Type 0} (us vs xs : List A) (c : A) (ys : List A) : Type 0 where

@@ -5,7 +5,7 @@ use Rattle.reg_arena.specs.declared.Cell.{Cell}
 use Rattle.reg_arena.specs.Cells.{Bin, Tiles, AreBins, cells_in}
 use Rattle.reg_arena.specs.Arena.{IsArena, IsSound}
 use Rattle.reg_arena.specs.Internal.CellWalks.{IsRowOfBins}
-use Rattle.reg_arena.proofs.Layout.Tilings.{cells_of-AreBins}
+use Rattle.reg_arena.proofs.Tiling.Tilings.{cells_of-AreBins}
 use Rattle.reg_arena.proofs.Contents.CellWrites.{all-append}
 
 Tiles-eights : (bytes : List ℕ) (at stop : ℕ) (cells : List Cell) → at % 8 ≡ 0 → Tiles bytes at stop cells → AllByRecursion (λ (c : Cell). c.offset % 8 ≡ 0) cells
