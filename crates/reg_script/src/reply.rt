@@ -1,24 +1,39 @@
 ghost use Rattle.std.specs.Prelude.{◌≡◌, ◌++◌, string_bytes, OnOk, codes};
 ghost use Rattle.std.specs.Fmt.{decimal};
 ghost use Rattle.reg_model.specs.declared.call.Call.TheVariants.{Query as Asks};
-ghost use Rattle.reg_script.specs.ReplyTexts.{changed_text, answer_text, short_text, name_text, value_text, asks_key, data_text, byte_text};
+ghost use Rattle.reg_script.specs.ReplyTexts.{changed_text, handle_text, disposition_text, answer_text, short_text, name_text, value_text, asks_key, data_text, byte_text};
 ghost use Rattle.reg_script.specs.ReplyTexts.{escaped as escaped_text, line_feed, is_plain as is_plain_byte};
 
 use reg_model::{Answer, AnswerBody, Bytes, ChangeReply, Query};
 use std::alloc::{AllocError, Global};
+
+/// The handle that a change opened, if it opened one.
+fn write_handle(text: &mut String, handle: Option<u64>) -> Result<(), AllocError>
+    ensures { OnOk result (string_bytes text.new ≡ string_bytes text.old ++ handle_text handle) }
+{
+    match handle {
+        Some(handle) => write!(text, " handle {handle}"),
+        None => Ok(()),
+    }
+}
+
+/// The end of the line: the disposition, where a change tells it.
+fn write_disposition(text: &mut String, disposition: Option<u32>) -> Result<(), AllocError>
+    ensures { OnOk result (string_bytes text.new ≡ string_bytes text.old ++ (disposition_text disposition ++ line_feed)) }
+{
+    match disposition {
+        Some(disposition) => writeln!(text, " disposition {disposition}"),
+        None => writeln!(text),
+    }
+}
 
 /// The line of a reply to a change: the status, and the handle and the disposition where it tells them.
 pub fn write_changed(text: &mut String, reply: &ChangeReply) -> Result<(), AllocError>
     ensures { OnOk result (string_bytes text.new ≡ string_bytes text.old ++ changed_text reply.now) }
 {
     write!(text, "{}", reply.status)?;
-    if let Some(handle) = reply.handle {
-        write!(text, " handle {handle}")?;
-    }
-    if let Some(disposition) = reply.disposition {
-        write!(text, " disposition {disposition}")?;
-    }
-    text.push_str("\n")
+    write_handle(text, reply.handle)?;
+    write_disposition(text, reply.disposition)
 }
 
 /// Whether a byte of a name stands for itself: 0x21 to 0x7E, but `%`.
