@@ -17,6 +17,8 @@ mod names;
 #[cfg(test)]
 mod records;
 #[cfg(test)]
+mod scripts;
+#[cfg(test)]
 mod support;
 #[cfg(test)]
 mod values;

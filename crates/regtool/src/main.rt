@@ -1,13 +1,9 @@
 //! The command-line tool: `regtool run` reads a script of registry calls on standard input and writes the replies.
 #![tactic(auto)]
 
-#[cfg(test)]
-mod tests;
-mod tool;
-
+use reg_command::tool;
 use std::process::ExitCode;
 use std::{env, io};
-pub use tool::tool;
 
 fn main(rt: HostRuntime) -> ExitCode {
     let alloc = rt.alloc();

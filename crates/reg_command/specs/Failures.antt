@@ -4,9 +4,9 @@ use Rattle.clap.specs.declared.error.kind.ErrorKind.{ErrorKind}
 use Rattle.clap.specs.declared.error.kind.ErrorKind.TheVariants.{OutOfMemory}
 use Rattle.reg_script.specs.Stops.{StopsFresh}
 use Rattle.reg_script.specs.declared.engine.ScriptFault.{ScriptFault}
-use Rattle.regtool.specs.CommandLines.{faults_in}
-use Rattle.regtool.specs.declared.tool.Failure.{Failure}
-use Rattle.regtool.specs.declared.tool.Failure.TheVariants.{Usage, Script, Memory}
+use Rattle.reg_command.specs.CommandLines.{faults_in}
+use Rattle.reg_command.specs.declared.Failure.{Failure}
+use Rattle.reg_command.specs.declared.Failure.TheVariants.{Usage, Script, Memory}
 
 -- nothing was read, and nothing written
 abbrev pub IsUntouched : (unread left before after : Option (List ℕ)) → Type 0

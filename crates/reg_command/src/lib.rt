@@ -1,10 +1,14 @@
+//! The command line of regtool: which words it takes, and the exit status and the texts of a run. It stands on the script alone;
+//! the program is a crate of its own, so that tests and edits of this one link nothing.
+#![tactic(auto)]
+
 ghost use Rattle.std.specs.Prelude.{◌≡◌, ◌≤◌, ℕ, List, OnOk, IfErr};
 ghost use Rattle.std.specs.Io.KnownBytes.{IsAtEnd, Appends, Consumes};
 ghost use Rattle.clap.specs.Values.{kind_of};
 ghost use Rattle.clap.specs.Words.{FailsBy};
 ghost use Rattle.reg_script.specs.Lines.{Writes};
-ghost use Rattle.regtool.specs.CommandLines.{faults_in, texts};
-ghost use Rattle.regtool.specs.Failures.{IsCommandLine, IsRefused, IsBefore, IsFailure, IsStopped};
+ghost use Rattle.reg_command.specs.CommandLines.{faults_in, texts};
+ghost use Rattle.reg_command.specs.Failures.{IsCommandLine, IsRefused, IsBefore, IsFailure, IsStopped};
 
 use clap::error::ErrorKind;
 use clap::{Command, Error};

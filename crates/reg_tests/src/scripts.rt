@@ -1,7 +1,7 @@
 //! The tool on scripts, readers and writers of every kind. The wanted replies come from the script's rules.
 mod keys;
 
-use crate::tool;
+use reg_command::tool;
 use std::alloc::Global;
 use std::io;
 use std::io::{Read, Write};

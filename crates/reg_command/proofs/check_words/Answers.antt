@@ -2,9 +2,9 @@
 use Rattle.std.proofs.Common.{◌∙◌, ap, rules}
 use Rattle.clap.specs.Simple.{app_of_fields}
 use Rattle.clap.proofs.KindLemmas.{fails_by_from}
-use Rattle.regtool.specs.CommandLines.{required}
-use Rattle.regtool.proofs.CommandLineLemmas.{command_is, taken, refused}
-use Rattle.regtool.proofs.tool.check_words.Goals as goal
+use Rattle.reg_command.specs.CommandLines.{required}
+use Rattle.reg_command.proofs.CommandLineLemmas.{command_is, taken, refused}
+use Rattle.reg_command.proofs.check_words.Goals as goal
 
 pub returns-in_err-_matches : goal.returns-in_err-_matches
 returns-in_err-_matches c =

@@ -4,7 +4,7 @@ use Rattle.clap.specs.Words.{App, HasKind, Kinds, app_of, fault_of, is_simple_an
 use Rattle.clap.specs.declared.builder.command.Command.{Command}
 use Rattle.clap.specs.declared.error.Error.{Error}
 use Rattle.clap.proofs.OnLiterals.{clap_on_literals}
-use Rattle.regtool.specs.CommandLines.{required, regtool, faults_in}
+use Rattle.reg_command.specs.CommandLines.{required, regtool, faults_in}
 
 simple : is_simple_and_free regtool ≡ true
 unfolding regtool clap_on_literals
