@@ -1,6 +1,7 @@
-//! The tool on scripts, readers and writers of every kind. The wanted replies come from the script's rules.
+//! The command line's tool on scripts, readers and writers of every kind. The wanted replies come from the script's rules.
 mod keys;
 
+use crate::support::assert_told;
 use reg_command::tool;
 use std::alloc::Global;
 use std::io;
@@ -121,15 +122,48 @@ fn outcome_of_run(
     outcome_of(alloc, &["regtool", "run"], input, output, wide(alloc))
 }
 
-/// Runs the lines of a table on a fresh hive. After ` -> ` stands a line's reply, if it has one.
-fn check_table(rt: &impl Abort, alloc: Global, table: &str) -> Result<(), Fail> {
-    let mut script = String::new(alloc);
-    let mut replies = String::new(alloc);
+/// What `regtool run` left behind, as one text: the status, what was told of faults, and the replies.
+fn told(alloc: Global, input: FakeReader<'_>, output: FakeWriter) -> Result<String, Fail> {
+    told_on(alloc, input, output, wide(alloc))
+}
+
+/// The same, with this writer for what is told of faults.
+fn told_on(
+    alloc: Global,
+    input: FakeReader<'_>,
+    output: FakeWriter,
+    errors: FakeWriter,
+) -> Result<String, Fail> {
+    let found = outcome_of(alloc, &["regtool", "run"], input, output, errors)?;
+    Ok(format!(in alloc;
+        "{};{};{}",
+        found.status,
+        found.errors.as_str(),
+        found.output.as_str()
+    )?)
+}
+
+/// Whether what a writer of so much room took is the start of the replies: the status, that, and what was told of faults.
+fn told_of_start(
+    alloc: Global,
+    script: &str,
+    replies: &str,
+    room: usize,
+    fault: Fault,
+) -> Result<String, Fail> {
+    let found = outcome_of_run(alloc, whole(script), narrow(alloc, room, fault))?;
+    let is_start = replies.get(..room.min(replies.len())) == Some(found.output.as_str());
+    Ok(format!(in alloc; "{};{is_start};{}", found.status, found.errors.as_str())?)
+}
+
+/// A table's lines as a script, and what is wanted of it as `told` has it. After ` -> ` stands a line's reply, if it has one.
+fn read_table(table: &str, script: &mut String, wanted: &mut String) -> Result<(), Fail> {
+    wanted.push_str("0;;")?;
     for row in table.split('\n') {
         let line = match row.split_once(" -> ") {
             Some((line, reply)) => {
-                replies.push_str(reply)?;
-                replies.push_str("\n")?;
+                wanted.push_str(reply)?;
+                wanted.push_str("\n")?;
                 line
             }
             None => row,
@@ -137,11 +171,16 @@ fn check_table(rt: &impl Abort, alloc: Global, table: &str) -> Result<(), Fail> 
         script.push_str(line)?;
         script.push_str("\n")?;
     }
-    let found = outcome_of_run(alloc, whole(script.as_str()), wide(alloc))?;
-    assert_eq!(rt; found.output.as_str(), replies.as_str(), "after {script}");
-    assert_eq!(rt; found.errors.as_str(), "");
-    assert_eq!(rt; found.status, 0);
     Ok(())
+}
+
+/// Runs the lines of a table on a fresh hive.
+fn check_table(rt: &impl Abort, alloc: Global, table: &str) -> Result<(), Fail> {
+    let mut script = String::new(alloc);
+    let mut wanted = String::new(alloc);
+    read_table(table, &mut script, &mut wanted)?;
+    let found = told(alloc, whole(script.as_str()), wide(alloc));
+    assert_told(rt, found, wanted.as_str())
 }
 
 const ANSWERS: &str = "\
@@ -295,6 +334,22 @@ fn passes_over_bad_lines(rt: HostRuntime) -> Result<(), Fail> {
     check_table(&rt, alloc, table.as_str())
 }
 
+/// What a command line with this input left behind: the status, and whether nothing was written and nothing told.
+fn told_of_words(
+    alloc: Global,
+    words: &[&str],
+    script: &str,
+    errors: FakeWriter,
+) -> Result<String, Fail> {
+    let found = outcome_of(alloc, words, whole(script), wide(alloc), errors)?;
+    Ok(format!(in alloc;
+        "{};{};{}",
+        found.status,
+        found.output.is_empty(),
+        found.errors.is_empty()
+    )?)
+}
+
 #[test]
 fn refuses_command_lines(rt: HostRuntime) -> Result<(), Fail> {
     let alloc = rt.alloc();
@@ -307,14 +362,10 @@ fn refuses_command_lines(rt: HostRuntime) -> Result<(), Fail> {
         &[],
     ];
     for words in command_lines {
-        let input = whole("frob\n");
-        let found = outcome_of(alloc, words, input, wide(alloc), wide(alloc))?;
-        assert_eq!(rt; found.status, 2, "for {words:?}");
-        assert_eq!(rt; found.output.as_str(), "");
-        assert!(rt; !found.errors.is_empty());
-        let errors = narrow(alloc, 0, Fault::Write);
-        let found = outcome_of(alloc, words, whole(""), wide(alloc), errors)?;
-        assert_eq!(rt; found.status, 2, "for {words:?}");
+        let found = told_of_words(alloc, words, "frob\n", wide(alloc));
+        assert_told(&rt, found, "2;true;false")?;
+        let found = told_of_words(alloc, words, "", narrow(alloc, 0, Fault::Write));
+        assert_told(&rt, found, "2;true;true")?;
     }
     Ok(())
 }
@@ -323,106 +374,110 @@ const SCRIPT: &str = "root 983103\nset 0 = 4 x01000000\nquery 0 = 4";
 
 const REPLIES: &str = "0 handle 0\n0\n0 type 4 size 4 x01000000\n";
 
+/// What is told of that script where so many bytes a call are read and written.
+fn told_in_pieces(alloc: Global, step: usize) -> Result<String, Fail> {
+    let mut input = whole(SCRIPT);
+    input.step = step;
+    let mut output = wide(alloc);
+    output.step = step;
+    told(alloc, input, output)
+}
+
 #[test]
 fn reads_and_writes_in_pieces(rt: HostRuntime) -> Result<(), Fail> {
-    let alloc = rt.alloc();
     for step in [1, 7, usize::MAX] {
-        let mut input = whole(SCRIPT);
-        input.step = step;
-        let mut output = wide(alloc);
-        output.step = step;
-        let found = outcome_of_run(alloc, input, output)?;
-        assert_eq!(rt; found.output.as_str(), REPLIES, "at {step}");
-        assert_eq!(rt; found.errors.as_str(), "");
-        assert_eq!(rt; found.status, 0);
+        assert_told(
+            &rt,
+            told_in_pieces(rt.alloc(), step),
+            "0;;0 handle 0\n0\n0 type 4 size 4 x01000000\n",
+        )?;
+    }
+    Ok(())
+}
+
+/// A reader that fails after a script.
+fn failing(script: &str) -> FakeReader<'_> {
+    FakeReader {
+        rest: script.as_bytes(),
+        step: usize::MAX,
+        fails: true,
+    }
+}
+
+// what stands before a reader's fault: the replies to the lines that ended
+#[test]
+fn tells_faults_of_readers(rt: HostRuntime) -> Result<(), Fail> {
+    let alloc = rt.alloc();
+    for (script, wanted) in [
+        ("", "1;error script 1\n;"),
+        ("root 1", "1;error script 1\n;"),
+        ("root 1\nfrob\nr", "1;error script 1\n;0 handle 0\nbad\n"),
+    ] {
+        assert_told(&rt, told(alloc, failing(script), wide(alloc)), wanted)?;
     }
     Ok(())
 }
 
 #[test]
-fn tells_faults(rt: HostRuntime) -> Result<(), Fail> {
+fn tells_faults_of_writers(rt: HostRuntime) -> Result<(), Fail> {
     let alloc = rt.alloc();
-    // what stands before a reader's fault: the replies to the lines that ended
-    for (read, replies) in [
-        ("", ""),
-        ("root 1", ""),
-        ("root 1\nfrob\nr", "0 handle 0\nbad\n"),
-    ] {
-        let mut input = whole(read);
-        input.fails = true;
-        let found = outcome_of_run(alloc, input, wide(alloc))?;
-        assert_eq!(rt; found.output.as_str(), replies, "after {read}");
-        assert_eq!(rt; found.errors.as_str(), "error script 1\n");
-        assert_eq!(rt; found.status, 1);
-    }
     for fault in [Fault::Write, Fault::Zero] {
         for room in [0, 5, 12, 38] {
-            let found = outcome_of_run(alloc, whole(SCRIPT), narrow(alloc, room, fault))?;
-            let taken = Some(found.output.as_str());
-            assert_eq!(rt; taken, REPLIES.get(..room), "{fault:?}");
-            assert_eq!(rt; found.errors.as_str(), "error script 2\n");
-            assert_eq!(rt; found.status, 1);
+            let found = told_of_start(alloc, SCRIPT, REPLIES, room, fault);
+            assert_told(&rt, found, "1;true;error script 2\n")?;
         }
     }
-    let found = outcome_of_run(alloc, whole(SCRIPT), narrow(alloc, 100, Fault::Flush))?;
-    assert_eq!(rt; found.output.as_str(), REPLIES);
-    assert_eq!(rt; found.errors.as_str(), "error script 2\n");
-    assert_eq!(rt; found.status, 1);
-    let mut input = whole("frob\n");
-    input.fails = true;
-    let errors = narrow(alloc, 0, Fault::Write);
-    let found = outcome_of(alloc, &["regtool", "run"], input, wide(alloc), errors)?;
-    assert_eq!(rt; found.output.as_str(), "bad\n");
-    assert_eq!(rt; found.status, 1);
-    Ok(())
+    let found = told_of_start(alloc, SCRIPT, REPLIES, 100, Fault::Flush);
+    assert_told(&rt, found, "1;true;error script 2\n")
 }
 
-/// Whether a text so many times, and then another, is within the limits. Its replies are given.
-fn is_read_whole(
-    rt: &impl Abort,
-    alloc: Global,
-    text: &str,
-    times: usize,
-    rest: &str,
-    replies: &str,
-) -> Result<bool, Fail> {
+#[test]
+fn passes_over_faults_of_the_errors(rt: HostRuntime) -> Result<(), Fail> {
+    let alloc = rt.alloc();
+    let errors = narrow(alloc, 0, Fault::Write);
+    let found = told_on(alloc, failing("frob\n"), wide(alloc), errors);
+    assert_told(&rt, found, "1;;bad\n")
+}
+
+/// What is told of a text so many times, and then another.
+fn told_of_many(alloc: Global, text: &str, times: usize, rest: &str) -> Result<String, Fail> {
     let mut script = text.repeat(alloc, times)?;
     script.push_str(rest)?;
-    let found = outcome_of_run(alloc, whole(script.as_str()), wide(alloc))?;
-    assert_eq!(rt; found.output.as_str(), replies, "after {times} {text:?}");
-    let is_whole = found.status == 0;
-    let errors = if is_whole { "" } else { "error script 3\n" };
-    assert_eq!(rt; found.errors.as_str(), errors);
-    Ok(is_whole)
+    told(alloc, whole(script.as_str()), wide(alloc))
 }
 
 #[test]
 fn keeps_the_limit_of_a_line(rt: HostRuntime) -> Result<(), Fail> {
     let alloc = rt.alloc();
-    assert!(rt; is_read_whole(&rt, alloc, "#", 2_200_000, "\nfrob", "bad\n")?);
-    assert!(rt; !is_read_whole(&rt, alloc, "#", 2_200_001, "\nfrob", "")?);
-    Ok(())
+    let found = told_of_many(alloc, "#", 2_200_000, "\nfrob");
+    assert_told(&rt, found, "0;;bad\n")?;
+    let found = told_of_many(alloc, "#", 2_200_001, "\nfrob");
+    assert_told(&rt, found, "1;error script 3\n;")
 }
 
 #[test]
 fn keeps_the_limit_of_lines(rt: HostRuntime) -> Result<(), Fail> {
     let alloc = rt.alloc();
-    assert!(rt; is_read_whole(&rt, alloc, "\n", 999_998, "frob\nfrob\n", "bad\nbad\n")?);
-    assert!(rt; !is_read_whole(&rt, alloc, "\n", 999_999, "frob\nfrob", "bad\n")?);
-    Ok(())
+    let found = told_of_many(alloc, "\n", 999_998, "frob\nfrob\n");
+    assert_told(&rt, found, "0;;bad\nbad\n")?;
+    let found = told_of_many(alloc, "\n", 999_999, "frob\nfrob");
+    assert_told(&rt, found, "1;error script 3\n;bad\n")
+}
+
+/// The same as `told_of_start` of a script of 40,000 lines.
+fn told_of_long_start(alloc: Global, room: usize) -> Result<String, Fail> {
+    let script = "frob\n".repeat(alloc, 40_000)?;
+    let replies = "bad\n".repeat(alloc, 40_000)?;
+    told_of_start(alloc, script.as_str(), replies.as_str(), room, Fault::Zero)
 }
 
 #[test]
 fn counts_a_long_output(rt: HostRuntime) -> Result<(), Fail> {
     let alloc = rt.alloc();
-    let script = "frob\n".repeat(alloc, 40_000)?;
-    let replies = "bad\n".repeat(alloc, 40_000)?;
-    for (room, status) in [(65_535, 1), (65_537, 1), (159_999, 1), (160_000, 0)] {
-        let output = narrow(alloc, room, Fault::Zero);
-        let found = outcome_of_run(alloc, whole(script.as_str()), output)?;
-        assert_eq!(rt; found.status, status, "at {room}");
-        let is_start = replies.get(..room) == Some(found.output.as_str());
-        assert!(rt; is_start, "at {room}");
+    for room in [65_535, 65_537, 159_999] {
+        let found = told_of_long_start(alloc, room);
+        assert_told(&rt, found, "1;true;error script 2\n")?;
     }
-    Ok(())
+    let found = told_of_long_start(alloc, 160_000);
+    assert_told(&rt, found, "0;true;")
 }

@@ -1,5 +1,6 @@
 //! The tool on scripts that make, open, list and delete keys.
 use super::check_table;
+use std::alloc::Global;
 use std::test::Fail;
 
 const MADE_KEYS: &str = "\
@@ -79,32 +80,41 @@ fn lists_values_as_they_came(rt: HostRuntime) -> Result<(), Fail> {
     check_table(&rt, rt.alloc(), LISTED_VALUES)
 }
 
+/// The first row of a table, and so many names `A` to stand before the last names of its paths.
+fn begun(alloc: Global, names: usize) -> Result<(String, String), Fail> {
+    let above = "A\\".repeat(alloc, names)?;
+    let table = "root 983103 -> 0 handle 0\n".to_string(alloc)?;
+    Ok((table, above))
+}
+
+/// One row more, which makes the key at a path.
+fn push_creation(table: &mut String, above: &str, rest: &str) -> Result<(), Fail> {
+    table.push_str("create 0 =")?;
+    table.push_str(above)?;
+    table.push_str(rest)?;
+    table.push_str("\n")?;
+    Ok(())
+}
+
 #[test]
 fn makes_at_most_thirty_two_keys(rt: HostRuntime) -> Result<(), Fail> {
     let alloc = rt.alloc();
-    let above = "A\\".repeat(alloc, 31)?;
-    let mut table = "root 983103 -> 0 handle 0\n".to_string(alloc)?;
-    write!(table, "create 0 ={above}A\\A 983103 -> 1450\n")?;
-    write!(
-        table,
-        "create 0 ={above}A 983103 -> 0 handle 1 disposition 1\n"
-    )?;
+    let (mut table, above) = begun(alloc, 31)?;
+    let above = above.as_str();
+    push_creation(&mut table, above, "A\\A 983103 -> 1450")?;
+    push_creation(&mut table, above, "A 983103 -> 0 handle 1 disposition 1")?;
     // now one is missing
-    write!(
-        table,
-        "create 0 ={above}A\\A 983103 -> 0 handle 2 disposition 1"
-    )?;
+    push_creation(&mut table, above, "A\\A 983103 -> 0 handle 2 disposition 1")?;
     check_table(&rt, alloc, table.as_str())
 }
 
 #[test]
 fn refuses_a_path_of_too_many_names(rt: HostRuntime) -> Result<(), Fail> {
     let alloc = rt.alloc();
-    let above = "A\\".repeat(alloc, 511)?;
-    let mut table = "root 983103 -> 0 handle 0\n".to_string(alloc)?;
-    write!(table, "create 0 ={above}A\\A 983103 -> 87\n")?;
+    let (mut table, above) = begun(alloc, 511)?;
+    push_creation(&mut table, above.as_str(), "A\\A 983103 -> 87")?;
     // 512 names are a path, and too many keys for one call
-    write!(table, "create 0 ={above}A 983103 -> 1450")?;
+    push_creation(&mut table, above.as_str(), "A 983103 -> 1450")?;
     check_table(&rt, alloc, table.as_str())
 }
 
