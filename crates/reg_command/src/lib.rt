@@ -1,5 +1,5 @@
-//! The command line of regtool: which words it takes, and the exit status and the texts of a run. It stands on the script alone;
-//! the program is a crate of its own, so that tests and edits of this one link nothing.
+//! The command line of regtool: which words it takes, and the exit status and the texts of a run. The program is the crate
+//! regtool, which only passes on what it is started with: nothing can stand on a program, no test of another crate either.
 #![tactic(auto)]
 
 ghost use Rattle.std.specs.Prelude.{◌≡◌, ◌≤◌, ℕ, List, OnOk, IfErr};
