@@ -1,8 +1,9 @@
 //! The library's example, which README.md shows: a program that makes a hive, opens its root, sets a value and asks for it.
 //!
 //! Its one contract is that of `set_and_ask`: what it hands out is what the rules answer to that question, where the hive stands
-//! then. It stands on reg_calls, which has the hive, and on reg_model, which has the calls as values. Who makes a hive does
-//! nothing but lend it: a function is the longer to check the more it does while it owns one.
+//! then. It stands on reg_calls, which has the hive, and on reg_model, which has the calls as values. It has no type of its own.
+//!
+//! Who makes a hive does nothing but lend it: a function is the longer to check the more it does while it owns one.
 #![tactic(auto)]
 
 ghost use Rattle.std.specs.Prelude.{IfOk, Some};
