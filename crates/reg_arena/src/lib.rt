@@ -4,8 +4,9 @@
 //! bytes, and the list of the free cells, which is threaded through them: the four bytes behind a free cell's size field
 //! are the offset of the next one. Offsets count from the first bin. Sizes and offsets are in bytes.
 //!
-//! The contracts speak of the bytes by three words: `cells_of` (all cells, in order), `cell_at` (what the allocated cell at
-//! an offset holds) and `IsSound` (what holds of every arena). Crates above need only `cell_at`.
+//! Its one contract: the cells fill the bins and the list has just the free ones (`IsSound`, of every arena); `carve` and `free`
+//! change which cells there are, exactly as the rules say, and the writers what one cell holds. Crates above need only `cell_at`,
+//! what the allocated cell at an offset holds. It stands on reg_heap. Its types are [`Arena`], [`Cell`] and [`ArenaFault`].
 //!
 //! Suhanov, Windows registry file format specification, sections "Hive bin" and "Cell".
 #![tactic(auto)]

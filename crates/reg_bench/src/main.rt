@@ -2,6 +2,10 @@
 //!
 //! `reg_bench measure SUBJECT` prints how long the calls of a subject take, at three sizes of what it works on. Without an
 //! argument each subject runs at a small size and prints counts alone, which are the same on every run.
+//!
+//! Its one contract: the calls of a batch are one operation by some handles, all accepted, and each change of them is an entry more.
+//! It stands on reg_workload, which says what is done, and on the crates that it measures. Its main type is `OpenHive`, a hive with
+//! handles.
 #![tactic(auto)]
 
 mod arena;

@@ -1,7 +1,10 @@
 //! A key's subkeys, in one list of hashes in the order of their folded names.
 //!
-//! The functions work on an arena that they are lent and on a list's place in it. The key node that names the list is the
-//! caller's: nothing of it is written here, and of the subkeys only their names are read.
+//! Its one contract: the list has just the subkeys, in order and each with its hash, before and after each change; a search tells
+//! exactly whether a name is there, and where. The functions work on an arena that they are lent and on a list's offset in it. The
+//! key node that names the list is the caller's: nothing of it is written here, and of the subkeys only their names are read.
+//!
+//! It stands on reg_records, reg_shape and reg_names. Its type is [`SubkeysIndex`], a list as its key node names it.
 //!
 //! Suhanov, Windows registry file format specification, section "Subkeys list".
 #![tactic(auto)]

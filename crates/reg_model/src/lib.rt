@@ -1,7 +1,14 @@
 //! Calls on a hive and their replies, as plain values, and the definitions of what each call means.
 //!
-//! Win32 registry reference: `RegOpenKeyEx`, `RegSetValueEx`, `RegQueryValueEx`; the journal of accepted changes is this
-//! project's own. What a call means stands in `specs/`: worlds, causes of refusals, replies, legal journals.
+//! Its one contract: a copy equals its source. What a call means stands in `specs/`, for the contracts of the crates above: worlds
+//! and what a change makes of them, causes of refusals, replies, legal journals; [`laws`] says what holds of these. It stands on
+//! reg_names and reg_heap.
+//!
+//! Its types are [`Change`] and [`Query`], which are [`Call`]s; [`ChangeReply`] and [`Answer`]; [`Entry`], an accepted change; [`Step`]
+//! and [`Outcome`], a call made and told; and [`Bytes`].
+//!
+//! Win32 registry reference, of each call the function that its variant names; the journal of accepted changes is this project's
+//! own.
 #![tactic(auto)]
 
 mod answer;

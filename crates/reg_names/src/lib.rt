@@ -1,4 +1,9 @@
-//! Names of keys and values: which are allowed, and how they are compared.
+//! Names of keys and values, and paths of them: which are allowed, and how they fold, compare and hash.
+//!
+//! Its one contract: each function is exactly its definition in `specs/Names.antt`, and a check tells the fault of the earliest
+//! byte. It stands on no other crate of this repository.
+//!
+//! Its type is [`NameFault`]. A name is a slice of bytes, and a path is names joined by backslashes.
 //!
 //! Win32 registry reference, "Registry Element Size Limits"; the limits to bytes 0x01 to 0x7F are this project's own.
 #![tactic(auto)]

@@ -1,9 +1,14 @@
 //! The records of a registry hive: key nodes, key values, key securities, big data records, lists of subkeys and rows of
-//! offsets.
+//! offsets, one at a time.
+//!
+//! Its one contract: what is put reads back as itself, a field writer changes its one field, and a reader tells the first fault
+//! that holds. What records say of one another is reg_shape's. It stands on reg_arena: a record stands at the start of what its
+//! cell holds, and the cell may be longer than the record. All numbers are little endian.
+//!
+//! Its main types are [`KeyNode`], [`ValueRecord`], [`SecurityRecord`], [`BigFields`], [`ListForm`] and [`RecordFault`].
 //!
 //! Suhanov, Windows registry file format specification, sections "Key node", "Key value", "Key security", "Subkeys list",
-//! "Key values list" and "Big data". All numbers are little endian. A record stands at the
-//! start of what its cell holds, and the cell may be longer than the record.
+//! "Key values list" and "Big data".
 #![tactic(auto)]
 
 ghost use Rattle.std.specs.Prelude.{◌≡◌, ◌+◌, ◌^◌, ◌<◌, ◌≤◌, length};

@@ -1,5 +1,8 @@
-//! Tests of the libraries, by their public calls. The wanted bytes come from the format's tables, and the wanted replies from
-//! the rules of the calls. There is nothing here but tests.
+//! Tests of the libraries, by their public calls. There is nothing here but tests, and so no contract.
+//!
+//! The wanted bytes come from the format's tables, and the wanted replies from the rules of the calls. The tests stand in a crate
+//! of their own since a crate with tests is proved twice; it stands on the crates that it tests. What the tests share is in
+//! `support`: its main types are `Deed`, what is done to a hive, and `Question`, what is asked of it.
 #![tactic(auto)]
 
 #[cfg(test)]

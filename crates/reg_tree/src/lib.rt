@@ -1,7 +1,11 @@
 //! The tree of a hive's keys, in the cells of an arena.
 //!
-//! A [`Tree`] owns its arena. Contracts see the finite map from paths to keys, and for each [`Node`] the path of its key; above
-//! this crate nobody speaks of a cell, save who reads the bytes by [`Tree::arena`].
+//! Its one contract: contracts see the finite map from paths to keys, and each change is one step of it, or a fault that changes
+//! nothing; and the cells of every tree are a whole hive's that spells the map (`Tree::arena`, clause `whole`). Above this crate
+//! nobody speaks of a cell, save who reads the bytes by [`Tree::arena`].
+//!
+//! It stands on reg_values and reg_index for a key's lists, and on reg_shape for what a whole hive is. Its types are [`Tree`], which
+//! owns its arena; [`Node`], a key of it; [`ValueFound`] and [`TreeFault`].
 //!
 //! Win32 registry reference, "Structure of the Registry"; Suhanov, Windows registry file format specification.
 #![tactic(auto)]

@@ -1,8 +1,11 @@
 //! A key's values: a list of offsets, a record for each value, and its data.
 //!
-//! The functions work on an arena that they are lent and on a list's place in it. The key node that names the list is the
-//! caller's: nothing of it is read or written here. What a value holds, and how, is in `reg_records`; the contracts say which
-//! values a list reads as, before and after.
+//! Its one contract: a list reads as the values that the rules give it, before and after each change, and gives up and takes just
+//! its own cells. The functions work on an arena that they are lent and on a list's offset in it; the key node that names the list
+//! is the caller's, and nothing of it is read or written here.
+//!
+//! It stands on reg_records and on reg_shape, by whose readings a list reads. Its types are [`ValuesList`], a list as its key node
+//! names it, and [`Value`], a value as it is told.
 //!
 //! Suhanov, Windows registry file format specification, sections "Key values list", "Key value" and "Big data".
 #![tactic(auto)]

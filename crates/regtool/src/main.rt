@@ -1,4 +1,8 @@
 //! The command-line tool: `regtool run` reads a script of registry calls on standard input and writes the replies.
+//!
+//! Its one contract is that of [`tool`]: the status is 0 only where the words are a command line, the input was read to its end and
+//! its replies were written; 1 after a script's fault or for want of memory, 2 for any other command line. It stands on reg_script
+//! and reg_calls, and reads its words by `clap`. It has no type of its own that others see.
 #![tactic(auto)]
 
 use reg_command::tool;

@@ -3,6 +3,20 @@ use super::check_table;
 use std::alloc::Global;
 use std::test::Fail;
 
+// the script that README.md shows
+const README_SCRIPT: &str = "\
+root 983103 -> 0 handle 0
+create 0 =Software\\Zug 983103 -> 0 handle 1 disposition 1
+set 1 =Version 4 x01000000 -> 0
+query 1 =version 4 -> 0 type 4 size 4 x01000000
+delkey 0 =Software -> 5
+close 1 -> 0";
+
+#[test]
+fn answers_the_script_of_the_readme(rt: HostRuntime) -> Result<(), Fail> {
+    check_table(&rt, rt.alloc(), README_SCRIPT)
+}
+
 const MADE_KEYS: &str = "\
 root 983103 -> 0 handle 0
 create 0 =A\\b\\C 983103 -> 0 handle 1 disposition 1
