@@ -3,6 +3,7 @@ use Rattle.std.specs.Prelude.{◌≡◌, ℕ, ◌+◌, ◌≤◌, List, [], ◌�
 use Rattle.std.specs.FinMap.{get}
 use Rattle.std.specs.Coded.{Coded, code_by, coded×, coded_list}
 use Rattle.reg_heap.specs.Paths.{Tree, coded_tree}
+use Rattle.reg_model.specs.declared.limits.TheConstants.{JOURNAL_LIMIT}
 use Rattle.reg_model.specs.Worlds.{Handle}
 use Rattle.reg_model.specs.Causes.{State, query_cause}
 use Rattle.reg_model.specs.Replies.{reply_to, refusal, body_of}
@@ -44,7 +45,7 @@ pub record IsKept (origin : Tree) (journal : List Entry) (store : Store) (room :
   pub rooted : IsSome (get origin [])
   pub tree_is : store.tree.tree ≡ (replay origin journal).tree
   pub handles_are : store.handles.handles ≡ (replay origin journal).handles
-  pub small : length journal + length store.handles.handles ≤ 16777216
+  pub small : length journal + length store.handles.handles ≤ JOURNAL_LIMIT
   pub room_kept : length store.handles.handles ≤ room
 
 -- the entry of an accepted change

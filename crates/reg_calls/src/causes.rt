@@ -10,11 +10,12 @@ ghost use Rattle.reg_model.specs.Causes.{is_bad_open as is_bad_open_of, is_bad_t
 ghost use Rattle.reg_tree.specs.TreeKeys.{IsAt, IsThere};
 ghost use Rattle.reg_calls.specs.Internal.Stores.{at, IsReady};
 
-use crate::statuses::{
-    ACCESS_DENIED, FILE_NOT_FOUND, HANDLES_LIMIT, INVALID_HANDLE, INVALID_PARAMETER, JOURNAL_LIMIT,
-    NO_DELETE, NO_RIGHTS, NO_SYSTEM_RESOURCES, SET_VALUE, VALUE_LIMIT, VALUES_LIMIT,
-};
 use crate::store::Store;
+use reg_heap::limits::{DATA_LIMIT, VALUES_LIMIT};
+use reg_heap::marks::NO_DELETE;
+use reg_model::limits::{HANDLES_LIMIT, JOURNAL_LIMIT};
+use reg_model::rights::{NO_RIGHTS, SET_VALUE};
+use reg_model::statuses::{ACCESS_DENIED, FILE_NOT_FOUND, INVALID_HANDLE, INVALID_PARAMETER, NO_SYSTEM_RESOURCES};
 use reg_model::{Bytes, Change};
 use reg_names::{check_path, check_value_name};
 use reg_tree::{Node, Tree};
@@ -22,7 +23,7 @@ use reg_tree::{Node, Tree};
 fn is_bad_value(name: &[u8], bytes: &[u8]) -> bool
     ensures { result ≡ is_bad_value_of name.now bytes.now }
 {
-    check_value_name(name).is_err() || bytes.len() > VALUE_LIMIT
+    check_value_name(name).is_err() || bytes.len() > DATA_LIMIT
 }
 
 fn is_bad_open(path: &[u8], mask: u32) -> bool
@@ -66,7 +67,7 @@ impl Store {
 
     /// Whether the journal has no room for one more entry beside the closings of the open handles.
     fn is_full(&self, entries: usize) -> bool
-        requires { entries + length self.now.handles.handles ≤ 16777216 }
+        requires { entries + length self.now.handles.handles ≤ JOURNAL_LIMIT }
         ensures { result ≡ is_full_of 1 (at entries self.now) }
     {
         entries + 1 + self.handles.len() > JOURNAL_LIMIT
@@ -76,7 +77,7 @@ impl Store {
     /// the handle that it opens.
     fn has_no_handle_room(&self, entries: usize, session: u8) -> bool
         requires session { session < 64 }
-        requires small { entries + length self.now.handles.handles ≤ 16777216 }
+        requires small { entries + length self.now.handles.handles ≤ JOURNAL_LIMIT }
         ensures { result ≡ no_handle_room session (at entries self.now) }
     {
         self.handles.count(session) >= HANDLES_LIMIT

@@ -9,14 +9,12 @@ ghost use Rattle.reg_calls.specs.Views.{state, IsApplied, IsRead};
 
 use crate::hive_core::Core;
 use reg_arena::Arena;
+use reg_heap::limits::DESCRIPTOR_LIMIT;
 use reg_model::{Answer, Call, Change, ChangeReply, Entry, Outcome, Query, Step};
 use reg_names::check_key_name;
 use reg_tree::Tree;
 use std::alloc::{AllocError, Global};
 use thiserror::Error;
-
-/// The largest security descriptor, in bytes.
-const DESCRIPTOR_LIMIT: usize = 65_535;
 
 /// Why a hive wasn't made; the first that holds.
 #[derive(Clone, Copy, Debug, PartialEq, Eq, Error)]
@@ -61,7 +59,7 @@ impl Hive {
         ensures origin { IfOk result (λ h. (view_of h).origin ≡ insert empty [] (made_root root_name.now descriptor.now moment)) }
         ensures journal { IfOk result (λ h. (view_of h).journal ≡ []) }
         ensures name { IsErrOf result NewFault.Name ↔ (is_key_name root_name.now ≡ false) }
-        ensures descriptor { IsErrOf result NewFault.Descriptor ↔ ((is_key_name root_name.now ≡ true) × ((length descriptor.now ≡ 0) ⊎ (65535 < length descriptor.now))) }
+        ensures descriptor { IsErrOf result NewFault.Descriptor ↔ ((is_key_name root_name.now ≡ true) × ((length descriptor.now ≡ 0) ⊎ (DESCRIPTOR_LIMIT < length descriptor.now))) }
     {
         if check_key_name(root_name).is_err() {
             return Err(NewFault::Name);

@@ -1,6 +1,7 @@
 //! The open handles by their numbers.
 ghost use Rattle.std.specs.Prelude.{◌≡◌, ◌<◌, ◌++◌, ◌∷◌, [], OnOk, OnErr, All, length, map, is_some, true};
 ghost use Rattle.reg_names.specs.Names.{folded as folded_name, path_of, is_path};
+ghost use Rattle.reg_model.specs.declared.limits.TheConstants.{HANDLES_LIMIT};
 ghost use Rattle.reg_model.specs.Worlds.{look, closed, turned, At};
 ghost use Rattle.reg_model.specs.Causes.{handles_of as count_of};
 ghost use Rattle.reg_handles.specs.FoundHandles.{shown, IfLeads};
@@ -93,7 +94,7 @@ impl Handles {
     ) -> Result<(), AllocError>
         requires above { All (λ h. h.number < number) self.old.handles }
         requires session { session < 64 }
-        requires room { count_of session self.old.handles < 16384 }
+        requires room { count_of session self.old.handles < HANDLES_LIMIT }
         requires path { is_path path.items ≡ true }
         requires folded { map folded_name (path_of path.items) ≡ path_of path.items }
         ensures ok { OnOk result (self.new.handles ≡ self.old.handles ++ record { number = number; session = session; mask = mask; place = At (path_of path.items) } ∷ []) }

@@ -5,6 +5,7 @@ use Rattle.std.specs.FinMap.{get, insert, remove}
 use Rattle.reg_names.specs.declared.TheConstants.{PATH_LIMIT}
 use Rattle.reg_names.specs.Names.{folded, path_of}
 use Rattle.reg_heap.specs.declared.limits.TheConstants.{MADE_LIMIT, SUBKEYS_LIMIT}
+use Rattle.reg_heap.specs.declared.marks.TheConstants.{NO_DELETE}
 use Rattle.reg_heap.specs.Paths.{Path, Tree, Rec, Member, children_of}
 use Rattle.reg_heap.specs.Members.{values_with, values_without}
 
@@ -97,8 +98,8 @@ marks_of (Some r) = r.marks
 
 -- a key that may not be deleted: the root, or one with mark 0x08
 abbrev pub IsKept : Tree → Path → Type 0
-IsKept t p = (p ≡ []) ⊎ ((bit_and (marks_of (get t p)) 8 == 0) ≡ false)
+IsKept t p = (p ≡ []) ⊎ ((bit_and (marks_of (get t p)) NO_DELETE == 0) ≡ false)
 
 -- a key that has subkeys, or mark 0x08
 abbrev pub may_not_go : Tree → Path → Bool
-may_not_go t p = nat_lt 0 (length (children_of t p)) || not (bit_and (marks_of (get t p)) 8 == 0)
+may_not_go t p = nat_lt 0 (length (children_of t p)) || not (bit_and (marks_of (get t p)) NO_DELETE == 0)
