@@ -15,7 +15,9 @@ use reg_heap::limits::{DATA_LIMIT, VALUES_LIMIT};
 use reg_heap::marks::NO_DELETE;
 use reg_model::limits::{HANDLES_LIMIT, JOURNAL_LIMIT};
 use reg_model::rights::{NO_RIGHTS, SET_VALUE};
-use reg_model::statuses::{ACCESS_DENIED, FILE_NOT_FOUND, INVALID_HANDLE, INVALID_PARAMETER, NO_SYSTEM_RESOURCES};
+use reg_model::statuses::{
+    ACCESS_DENIED, FILE_NOT_FOUND, INVALID_HANDLE, INVALID_PARAMETER, NO_SYSTEM_RESOURCES,
+};
 use reg_model::{Bytes, Change};
 use reg_names::{check_path, check_value_name};
 use reg_tree::{Node, Tree};

@@ -3,7 +3,6 @@ ghost use Rattle.reg_calls.specs.Views.{status_of};
 
 use reg_model::statuses::{NO_SYSTEM_RESOURCES, NOT_ENOUGH_MEMORY};
 
-
 /// Why an acceptable change isn't made.
 #[derive(Clone, Copy)]
 pub enum Lack {

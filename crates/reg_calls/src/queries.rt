@@ -10,7 +10,9 @@ ghost use Rattle.reg_calls.specs.Views.{IsRead, IsTold};
 
 use crate::store::Store;
 use reg_model::rights::{ENUMERATE_SUB_KEYS, QUERY_VALUE};
-use reg_model::statuses::{ACCESS_DENIED, FILE_NOT_FOUND, INVALID_PARAMETER, MORE_DATA, NO_MORE_ITEMS, NOT_ENOUGH_MEMORY};
+use reg_model::statuses::{
+    ACCESS_DENIED, FILE_NOT_FOUND, INVALID_PARAMETER, MORE_DATA, NO_MORE_ITEMS, NOT_ENOUGH_MEMORY,
+};
 use reg_model::{AnswerBody, Bytes, Query};
 use reg_names::check_value_name;
 use reg_tree::{Node, Tree, ValueFound};

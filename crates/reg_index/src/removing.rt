@@ -5,8 +5,8 @@ ghost use Rattle.reg_arena.specs.Cells.{cell_at};
 ghost use Rattle.reg_records.specs.SubkeyLists.{Entry};
 ghost use Rattle.reg_index.specs.Subkeys.{AreSubkeys, Moves, own, without};
 
-use crate::leaf::close;
 use crate::SubkeysIndex;
+use crate::leaf::close;
 use reg_arena::Arena;
 use reg_heap::limits::NONE;
 

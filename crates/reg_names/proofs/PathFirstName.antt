@@ -75,7 +75,8 @@ module _ (text : List ℕ) (valid : is_path text ≡ true) (n : ℕ) (is_first :
   some : (e : Bool) → e ≡ (length text == 0) → e ≡ false → 0 < length text
   some e h k = let t : (length text == 0) ≡ false = sym h ∙ k in grind (arith, nat_tests)
 
-  by_leads : (limit : ℕ) (v : are_key_names limit (path_of text) ≡ true) (s : 0 < length text) (name rest : List ℕ) → Leads limit text v n is_first s name rest → limit ≡ PATH_LIMIT → IsFirst text name rest
+  by_leads : (limit : ℕ) (v : are_key_names limit (path_of text) ≡ true) (s : 0 < length text) (name rest : List ℕ) → Leads limit text v n is_first s name rest →
+      limit ≡ PATH_LIMIT → IsFirst text name rest
   by_leads limit v s name rest l e = record { names = l.names; good = l.key; valid = subst (λ k. are_key_names k (path_of rest) ≡ true) e l.path; shorter = l.shorter }
 
   -- a text without a backslash is one name, and nothing is behind it

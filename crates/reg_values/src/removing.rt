@@ -13,9 +13,9 @@ ghost use Rattle.reg_shape.specs.Nodes.{member_at, members_at};
 ghost use Rattle.reg_values.specs.ValueLists.{AreValues, IsNamed, Became};
 ghost use Rattle.reg_values.specs.Internal.ValueListParts.{list_at, Owns, GivesUpRead, BecameList};
 
+use crate::ValuesList;
 use crate::data::free_data;
 use crate::look::{cell_of, find, record_at};
-use crate::ValuesList;
 use reg_arena::Arena;
 use reg_heap::limits::NONE;
 

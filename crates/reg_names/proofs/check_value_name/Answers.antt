@@ -9,7 +9,8 @@ returns-then-not-are_value_name_bytes-clause-fault c =
 
 pub returns-then-not-are_value_name_bytes-clause-valid : goal.returns-then-not-are_value_name_bytes-clause-valid
 returns-then-not-are_value_name_bytes-clause-valid c =
-    value_not _ _ (fails is_value_name_byte VALUE_NAME_LIMIT c.args.name.now c.front.result.now c.are_value_name_bytes.result c.front.ensures c.are_value_name_bytes.ensures c.if-not-are_value_name_bytes.true)
+    value_not _ _ (fails is_value_name_byte VALUE_NAME_LIMIT c.args.name.now c.front.result.now c.are_value_name_bytes.result c.front.ensures c.are_value_name_bytes.ensures
+    c.if-not-are_value_name_bytes.true)
 
 pub returns-then-name-gt-VALUE_NAME_LIMIT-clause-fault : goal.returns-then-name-gt-VALUE_NAME_LIMIT-clause-fault
 returns-then-name-gt-VALUE_NAME_LIMIT-clause-fault c =

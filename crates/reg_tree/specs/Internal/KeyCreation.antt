@@ -23,4 +23,5 @@ pub record IsCreated (old new : List ℕ) (root : ℕ) (path : Path) (from : Nod
 -- one of the keys is missing, and they would be too many
 pub record AreTooMany (t : Tree) (p : Path) (names : List (List ℕ)) : Type 0 where
   pub some : missing t p names ≢ []
-  pub many : (MADE_LIMIT < length (missing t p names)) ⊎ ((PATH_LIMIT < length p + length names) ⊎ (SUBKEYS_LIMIT ≤ length (children_of t (last_there t p names))))
+  pub many : (MADE_LIMIT < length (missing t p names)) ⊎ ((PATH_LIMIT < length p + length names) ⊎
+      (SUBKEYS_LIMIT ≤ length (children_of t (last_there t p names))))
