@@ -92,16 +92,19 @@ early_cause s session change = by change
         by_handle (λ r. refuse (is_bad_open path mask) INVALID_PARAMETER or refuse (no_handle_room session s) NO_SYSTEM_RESOURCES)
         (look session h s.world.handles)
     by (CreateKey h path mask) =
-        by_handle (λ r. refuse (is_bad_open path mask) INVALID_PARAMETER or refuse
-        (no_handle_room session s || no_key_room s session h path) NO_SYSTEM_RESOURCES) (look session h s.world.handles)
+        by_handle (λ r. refuse (is_bad_open path mask) INVALID_PARAMETER or
+        refuse (no_handle_room session s || no_key_room s session h path) NO_SYSTEM_RESOURCES)
+        (look session h s.world.handles)
     by (SetValue h name kind bytes) =
-        by_handle (λ r. refuse (is_bad_value name bytes) INVALID_PARAMETER or refuse (not (has SET_VALUE r.mask)) ACCESS_DENIED or refuse
-        (is_full 1 s || no_value_room name (values_at s.world.tree (path_at session h s.world.handles))) NO_SYSTEM_RESOURCES)
+        by_handle (λ r. refuse (is_bad_value name bytes) INVALID_PARAMETER or refuse (not (has SET_VALUE r.mask)) ACCESS_DENIED or
+        refuse (is_full 1 s || no_value_room name (values_at s.world.tree (path_at session h s.world.handles))) NO_SYSTEM_RESOURCES)
         (look session h s.world.handles)
     by (DeleteValue h name) =
-        by_handle (λ r. refuse (not (is_value_name name)) INVALID_PARAMETER or refuse (not (has SET_VALUE r.mask)) ACCESS_DENIED or refuse
-        (is_full 1 s) NO_SYSTEM_RESOURCES) (look session h s.world.handles)
-    by (DeleteKey h path) = by_handle (λ r. refuse (is_bad_target path) INVALID_PARAMETER or refuse (is_full 1 s) NO_SYSTEM_RESOURCES)
+        by_handle (λ r. refuse (not (is_value_name name)) INVALID_PARAMETER or refuse (not (has SET_VALUE r.mask)) ACCESS_DENIED or
+        refuse (is_full 1 s) NO_SYSTEM_RESOURCES)
+        (look session h s.world.handles)
+    by (DeleteKey h path) =
+        by_handle (λ r. refuse (is_bad_target path) INVALID_PARAMETER or refuse (is_full 1 s) NO_SYSTEM_RESOURCES)
         (look session h s.world.handles)
     by (Close h) = refuse (not (is_some (look session h s.world.handles))) INVALID_HANDLE
 
@@ -123,8 +126,9 @@ late_cause s session change = by change
     by (CreateKey h path mask) = None
     by (SetValue h name kind bytes) = None
     by (DeleteValue h name) = refuse (lacks_value s session h name) FILE_NOT_FOUND
-    by (DeleteKey h path) = refuse (lacks_key s session h path) FILE_NOT_FOUND or refuse
-        (may_not_go s.world.tree (path_from session h s.world.handles path)) ACCESS_DENIED
+    by (DeleteKey h path) =
+        refuse (lacks_key s session h path) FILE_NOT_FOUND or
+        refuse (may_not_go s.world.tree (path_from session h s.world.handles path)) ACCESS_DENIED
     by (Close h) = None
 
 -- the callbacks' status, where they are asked: before every change but Close
@@ -152,8 +156,9 @@ unfoldable pub early_query_cause : State → ℕ → Query → Option ℕ
 early_query_cause s session query = by query
   where
     by : Query → Option ℕ
-    by (QueryValue h name room) = by_handle (λ r. refuse (not (is_value_name name)) INVALID_PARAMETER or refuse
-        (not (has QUERY_VALUE r.mask)) ACCESS_DENIED) (look session h s.world.handles)
+    by (QueryValue h name room) =
+        by_handle (λ r. refuse (not (is_value_name name)) INVALID_PARAMETER or refuse (not (has QUERY_VALUE r.mask)) ACCESS_DENIED)
+        (look session h s.world.handles)
     by (EnumKey h index room) = by_handle (λ r. refuse (not (has ENUMERATE_SUB_KEYS r.mask)) ACCESS_DENIED) (look session h s.world.handles)
     by (EnumValue h index name_room room) = by_handle (λ r. refuse (not (has QUERY_VALUE r.mask)) ACCESS_DENIED) (look session h s.world.handles)
     by (QueryInfo h) = by_handle (λ r. refuse (not (has QUERY_VALUE r.mask)) ACCESS_DENIED) (look session h s.world.handles)
