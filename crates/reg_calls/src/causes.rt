@@ -5,6 +5,7 @@ ghost use Rattle.reg_names.specs.Names.{is_path, path_of};
 ghost use Rattle.reg_heap.specs.Paths.{Path};
 ghost use Rattle.reg_heap.specs.Members.{value_named};
 ghost use Rattle.reg_heap.specs.Edits.{values_at, folded_path, may_not_go as may_not_go_of};
+ghost use Rattle.reg_model.specs.declared.limits.TheConstants.{SESSIONS_LIMIT};
 ghost use Rattle.reg_model.specs.Causes.{change_cause, is_full as is_full_of, no_handle_room, no_value_room, is_bad_value as is_bad_value_of};
 ghost use Rattle.reg_model.specs.Causes.{is_bad_open as is_bad_open_of, is_bad_target as is_bad_target_of};
 ghost use Rattle.reg_tree.specs.TreeKeys.{IsAt, IsThere};
@@ -78,7 +79,7 @@ impl Store {
     /// Whether the session has as many handles as there may be, or the journal has no room for an entry and the closing of
     /// the handle that it opens.
     fn has_no_handle_room(&self, entries: usize, session: u8) -> bool
-        requires session { session < 64 }
+        requires session { session < SESSIONS_LIMIT }
         requires small { entries + length self.now.handles.handles ≤ JOURNAL_LIMIT }
         ensures { result ≡ no_handle_room session (at entries self.now) }
     {
@@ -87,7 +88,7 @@ impl Store {
     }
 
     fn open_root_cause(&self, entries: usize, session: u8, mask: u32) -> Option<u32>
-        requires session { session < 64 }
+        requires session { session < SESSIONS_LIMIT }
         requires ready { IsReady entries self.now }
         ensures { result ≡ change_cause (at entries self.now) session (OpenRoot mask) 0 }
     {
@@ -108,7 +109,7 @@ impl Store {
         path: &[u8],
         mask: u32,
     ) -> Option<u32>
-        requires session { session < 64 }
+        requires session { session < SESSIONS_LIMIT }
         requires ready { IsReady entries self.now }
         ensures { result ≡ change_cause (at entries self.now) session (OpenKey handle path.now mask) 0 }
     {
@@ -136,7 +137,7 @@ impl Store {
         path: &[u8],
         mask: u32,
     ) -> Option<u32>
-        requires session { session < 64 }
+        requires session { session < SESSIONS_LIMIT }
         requires ready { IsReady entries self.now }
         ensures { result ≡ change_cause (at entries self.now) session (CreateKey handle path.now mask) 0 }
     {
@@ -246,7 +247,7 @@ impl Store {
 
     /// Why a change would be refused after so many entries.
     pub fn cause(&self, entries: usize, session: u8, change: &Change) -> Option<u32>
-        requires session { session < 64 }
+        requires session { session < SESSIONS_LIMIT }
         requires ready { IsReady entries self.now }
         ensures { result ≡ change_cause (at entries self.now) session change.now 0 }
     {

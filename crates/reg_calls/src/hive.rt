@@ -1,6 +1,7 @@
 ghost use Rattle.std.specs.Prelude.{◌≡◌, ◌<◌, ◌≤◌, ◌↔◌, ◌⊎◌, ◌+◌, [], true, false, length, slice_get, option_copied, vec_len, IfOk, OnErr, IsErrOf, All};
 ghost use Rattle.std.specs.FinMap.{insert, empty};
 ghost use Rattle.reg_names.specs.Names.{is_key_name};
+ghost use Rattle.reg_model.specs.declared.limits.TheConstants.{SESSIONS_LIMIT};
 ghost use Rattle.reg_arena.specs.Cells.{cell_at};
 ghost use Rattle.reg_model.specs.Causes.{change_cause};
 ghost use Rattle.reg_model.specs.Histories.{IsLegal, replay};
@@ -111,7 +112,7 @@ impl Hive {
     /// journal's next entry; after a refusal the hive is as before. 8 and 1450 for space come only in place of an
     /// acceptance.
     pub fn apply(&mut self, session: u8, moment: u64, change: Change) -> ChangeReply
-        requires { session < 64 }
+        requires { session < SESSIONS_LIMIT }
         ensures { IsApplied (change_cause (state (view_of self.old)) session change 0) (view_of self.old) (view_of self.new) session moment change result }
     {
         self.core.apply(session, moment, change)
@@ -119,7 +120,7 @@ impl Hive {
 
     /// Answers a question of a session, below 64. 8 comes only in place of an answer that holds a name or bytes.
     pub fn read(&self, session: u8, query: &Query) -> Answer
-        requires { session < 64 }
+        requires { session < SESSIONS_LIMIT }
         ensures at { result.at ≡ length (view_of self.now).journal }
         ensures body { IsRead (state (view_of self.now)) session query.now result.body }
     {
@@ -127,7 +128,7 @@ impl Hive {
     }
 
     fn answer(&mut self, step: Step) -> Outcome
-        requires { step.session < 64 }
+        requires { step.session < SESSIONS_LIMIT }
         ensures { IsStep (view_of self.old) step result (view_of self.new) }
     {
         let Step {
@@ -143,7 +144,7 @@ impl Hive {
 
     /// Answers calls in order. The only fault comes before the first of them.
     pub fn run(&mut self, alloc: Global, steps: Vec<Step>) -> Result<Vec<Outcome>, RunFault>
-        requires { All (λ s. s.session < 64) steps.items }
+        requires { All (λ s. s.session < SESSIONS_LIMIT) steps.items }
         ensures ok { IfOk result (λ outcomes. Run (view_of self.old) steps.items outcomes.items (view_of self.new)) }
         ensures err { OnErr result (self.new ≡ self.old) }
     {

@@ -1,7 +1,7 @@
 //! A hive without its callbacks.
 ghost use Rattle.std.specs.Prelude.{◌≡◌, ◌<◌, ◌≤◌, [], Some, None, IsSome, length, slice_get, option_copied, ◌+◌, false, OnOk, OnErr};
 ghost use Rattle.std.specs.FinMap.{get};
-ghost use Rattle.reg_model.specs.declared.limits.TheConstants.{JOURNAL_LIMIT};
+ghost use Rattle.reg_model.specs.declared.limits.TheConstants.{JOURNAL_LIMIT, SESSIONS_LIMIT};
 ghost use Rattle.reg_model.specs.Causes.{change_cause};
 ghost use Rattle.reg_model.specs.Replies.{refusal};
 ghost use Rattle.reg_tree.specs.TreeKeys.{IsWholeTree};
@@ -133,7 +133,7 @@ impl Core {
 
     /// Makes a change that nothing refuses, as the journal's next entry.
     fn accept(&mut self, session: u8, moment: u64, change: Change) -> ChangeReply
-        requires session { session < 64 }
+        requires session { session < SESSIONS_LIMIT }
         requires cause { change_cause (state self.old) session change 0 ≡ None }
         ensures { IsApplied None self.old self.new session moment change result }
     {
@@ -163,7 +163,7 @@ impl Core {
 
     /// Answers a change.
     pub fn apply(&mut self, session: u8, moment: u64, change: Change) -> ChangeReply
-        requires { session < 64 }
+        requires { session < SESSIONS_LIMIT }
         ensures { IsApplied (change_cause (state self.old) session change 0) self.old self.new session moment change result }
     {
         match self.store.cause(self.journal.len(), session, &change) {

@@ -1,9 +1,12 @@
 -- Limits, statuses and rights as the rules give them, in digits: who changes a constant changes the rules.
 use Rattle.std.proofs.Common.{◌≡◌, refl}
-use Rattle.reg_model.specs.declared.limits.TheConstants.{HANDLES_LIMIT, JOURNAL_LIMIT}
+use Rattle.reg_model.specs.declared.limits.TheConstants.{SESSIONS_LIMIT, HANDLES_LIMIT, JOURNAL_LIMIT}
 use Rattle.reg_model.specs.declared.rights.TheConstants.{NO_RIGHTS, QUERY_VALUE, SET_VALUE, ENUMERATE_SUB_KEYS}
 use Rattle.reg_model.specs.declared.statuses.TheConstants.{FILE_NOT_FOUND, ACCESS_DENIED, INVALID_HANDLE, NOT_ENOUGH_MEMORY, INVALID_PARAMETER, MORE_DATA}
 use Rattle.reg_model.specs.declared.statuses.TheConstants.{NO_MORE_ITEMS, KEY_DELETED, NO_SYSTEM_RESOURCES}
+
+sessions_limit_is : SESSIONS_LIMIT ≡ 64
+sessions_limit_is = refl
 
 handles_limit_is : HANDLES_LIMIT ≡ 16384
 handles_limit_is = refl
