@@ -3,6 +3,7 @@ use Rattle.std.proofs.Common.{arith}
 use Rattle.std.specs.Prelude.{◌≡◌, ℕ, ◌-◌, List, [], ◌∷◌, ◌++◌, replicate, Some, None, refl}
 use Rattle.byteorder.specs.Endian.{little_bytes}
 use Rattle.reg_heap.specs.ByteWords.{word}
+use Rattle.reg_arena.specs.declared.TheConstants.{CARVE_LIMIT}
 use Rattle.reg_arena.specs.Cells.{cells_of, cell_at}
 use Rattle.reg_arena.specs.NewCells.{used, unused}
 use Rattle.reg_arena.specs.Free.{Follows, free_of}
@@ -259,3 +260,7 @@ header_has_no_content = refl
 no_cells_no_content : cell_at (header 0 4096 ++ replicate 4064 0) 32 ≡ None
 unfolding cell_at cells_of word
 no_cells_no_content = refl
+
+-- the most that one carve may be asked for, in digits: who changes the constant changes the rules
+carve_limit_is : CARVE_LIMIT ≡ 16777216
+carve_limit_is = refl

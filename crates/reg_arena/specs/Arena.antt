@@ -1,6 +1,7 @@
 -- The arena as a value.
 use Rattle.std.specs.Prelude.{◌≡◌, ℕ, ◌≤◌, ◌%◌, List, length, map, Some}
 use Rattle.std.specs.List.{AllByRecursion}
+use Rattle.reg_heap.specs.declared.limits.TheConstants.{BINS_LIMIT}
 use Rattle.reg_arena.specs.declared.Cell.{Cell}
 use Rattle.reg_arena.specs.Cells.{Bin, AreBins, cells_in, cells_of}
 use Rattle.reg_arena.specs.Free.{AreFreeLists}
@@ -23,7 +24,7 @@ pub record IsArena (bytes heads counts : List ℕ) : Type 0 where
   pub free : AreFreeLists one_class bytes heads (cells_in layout) lists
   pub counted : map length lists ≡ counts
   pub few : AllByRecursion (λ count. count ≤ length bytes) counts
-  pub small : length bytes ≤ 268435456
+  pub small : length bytes ≤ BINS_LIMIT
 
 -- what holds of every arena: its bytes are bins of cells, whose offsets are multiples of 8, and its free lists hold precisely
 -- the free cells; all bins together have a multiple of 4096 bytes, at most 256 MiB
@@ -34,4 +35,4 @@ pub record IsSound (bytes heads : List ℕ) : Type 0 where
   pub eights : AllByRecursion (λ cell. cell.offset % 8 ≡ 0) cells
   pub free : AreFreeLists one_class bytes heads cells lists
   pub pages : length bytes % 4096 ≡ 0
-  pub small : length bytes ≤ 268435456
+  pub small : length bytes ≤ BINS_LIMIT

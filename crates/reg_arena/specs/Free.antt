@@ -4,6 +4,7 @@ use Rattle.std.specs.Prelude.{◌≡◌, ℕ, ◌+◌, ◌<◌, Bool, false, not
 use Rattle.std.specs.Prelude.{if◌then◌else◌, ⊤, suc}
 use Rattle.std.specs.List.{AllByRecursion}
 use Rattle.byteorder.specs.Endian.{little_bytes}
+use Rattle.reg_heap.specs.declared.limits.TheConstants.{NONE}
 use Rattle.reg_heap.specs.ByteWords.{word, splice}
 use Rattle.reg_heap.specs.Internal.Kinds.{times}
 use Rattle.reg_arena.specs.declared.Cell.{Cell}
@@ -11,7 +12,7 @@ use Rattle.reg_arena.specs.Cells.{size_in}
 
 -- the offsets met by following the links from a head to 0xFFFFFFFF
 abbrev pub Follows : List ℕ → ℕ → List ℕ → Type 0
-Follows bins head [] = head ≡ 4294967295
+Follows bins head [] = head ≡ NONE
 Follows bins head (offset ∷ offsets) = (head ≡ offset) × Follows bins (word bins (offset + 4)) offsets
 
 -- the first offsets that the links from a cell lead through
@@ -21,7 +22,7 @@ chain (suc count) bins cell = cell ∷ chain count bins (word bins (cell + 4))
 
 -- the cells before a place, of which the last is previous
 abbrev pub EndsAt : List ℕ → ℕ → Type 0
-EndsAt front previous = ((front ≡ []) × (previous ≡ 4294967295)) ⊎ ((first : List ℕ) × (front ≡ first ++ previous ∷ []))
+EndsAt front previous = ((front ≡ []) × (previous ≡ NONE)) ⊎ ((first : List ℕ) × (front ≡ first ++ previous ∷ []))
 
 -- a free cell of the list that has room, and the one before it
 pub record IsFit (bins : List ℕ) (total : ℕ) (offsets : List ℕ) (previous cell : ℕ) : Type 0 where
@@ -37,11 +38,11 @@ NoneFits bins total offsets = AllByRecursion (λ offset. size_in (word bins offs
 
 -- the bytes, and the head, after the link of a list that stands after previous is set to next
 abbrev pub linked : ℕ → ℕ → List ℕ → List ℕ
-linked previous next bytes = if previous == 4294967295 then bytes else splice (previous + 4) (little_bytes 4 next) bytes
+linked previous next bytes = if previous == NONE then bytes else splice (previous + 4) (little_bytes 4 next) bytes
 
 -- the head after that
 abbrev pub head_after : ℕ → ℕ → ℕ → ℕ
-head_after previous next head = if previous == 4294967295 then next else head
+head_after previous next head = if previous == NONE then next else head
 
 -- the bytes after the two words of a free cell were written
 abbrev pub freed : ℕ → ℕ → ℕ → List ℕ → List ℕ

@@ -1,5 +1,6 @@
 -- What freeing a cell does to the cells.
 use Rattle.std.specs.Prelude.{◌≡◌, ℕ, ◌+◌, ◌-◌, ◌/◌, ◌<◌, ◌≤◌, ◌==◌, ◌⊎◌, get_or, List, [], ◌∷◌, ◌++◌, length, Some, if◌then◌else◌}
+use Rattle.reg_heap.specs.declared.limits.TheConstants.{BINS_LIMIT, NONE}
 use Rattle.reg_heap.specs.ByteWords.{word}
 use Rattle.reg_arena.specs.declared.Cell.{Cell}
 use Rattle.reg_arena.specs.Cells.{cells_of}
@@ -32,7 +33,7 @@ pub record Frees (old new : List ℕ) (cell : ℕ) : Type 0 where
 -- the size of the free cell that stands at a place, or 0
 abbrev pub IsRight : List ℕ → ℕ → ℕ → Type 0
 IsRight bytes at size =
-    ((at < length bytes) × (word bytes at ≤ 268435456) × (size ≡ word bytes at)) ⊎ ((size ≡ 0) × (at < length bytes → word bytes at ≤ 268435456 → ⊥))
+    ((at < length bytes) × (word bytes at ≤ BINS_LIMIT) × (size ≡ word bytes at)) ⊎ ((size ≡ 0) × (at < length bytes → word bytes at ≤ BINS_LIMIT → ⊥))
 
 -- where a cell begins once the free cell on its left, if there is one, is part of it
 abbrev pub start_of : ℕ → ℕ → ℕ
@@ -42,8 +43,8 @@ start_of left cell = if left == 0 then cell else left
 pub record InList (bytes : List ℕ) (count : ℕ) (backs : List ℕ) (cell : ℕ) : Type 0 where
   pub place : cell + 8 ≤ length bytes
   pub some : 0 < count
-  pub previous_in : (get_or backs (cell / 8) 0 ≡ 4294967295 → ⊥) → get_or backs (cell / 8) 0 + 8 ≤ length bytes
-  pub next_in : (word bytes (cell + 4) ≡ 4294967295 → ⊥) → word bytes (cell + 4) + 8 ≤ length bytes
+  pub previous_in : (get_or backs (cell / 8) 0 ≡ NONE → ⊥) → get_or backs (cell / 8) 0 + 8 ≤ length bytes
+  pub next_in : (word bytes (cell + 4) ≡ NONE → ⊥) → word bytes (cell + 4) + 8 ≤ length bytes
 
 -- a cell was taken out of its list, unless there is none
 abbrev pub Unlinks : ℕ → ℕ → List ℕ → ℕ → ℕ → List ℕ → List ℕ → ℕ → ℕ → List ℕ → Type 0

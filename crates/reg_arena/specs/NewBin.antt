@@ -1,6 +1,7 @@
 -- A bin more at the end of the bins.
 use Rattle.std.specs.Prelude.{◌≡◌, ℕ, ◌+◌, ◌-◌, ◌<◌, ◌≤◌, ◌%◌, List, [], ◌∷◌, ◌++◌, length, replicate, Some}
 use Rattle.byteorder.specs.Endian.{little_bytes}
+use Rattle.reg_heap.specs.declared.limits.TheConstants.{BINS_LIMIT}
 use Rattle.reg_heap.specs.ByteWords.{splice}
 use Rattle.reg_arena.specs.declared.Cell.{Cell}
 use Rattle.reg_arena.specs.Cells.{cells_of, cell_at}
@@ -17,11 +18,11 @@ pub record IsBinSize (size total : ℕ) : Type 0 where
 pub record PassesLimit (bytes : List ℕ) (total : ℕ) : Type 0 where
   pub size : ℕ
   pub least : IsBinSize size total
-  pub passes : 268435456 < length bytes + size
+  pub passes : BINS_LIMIT < length bytes + size
 
 -- with a bin of the least size more, all bins have at most 256 MiB
 abbrev pub HasRoomForBin : List ℕ → ℕ → Type 0
-HasRoomForBin bytes total = (size : ℕ) → IsBinSize size total → length bytes + size ≤ 268435456
+HasRoomForBin bytes total = (size : ℕ) → IsBinSize size total → length bytes + size ≤ BINS_LIMIT
 
 -- a new bin's bytes: `hbin`, its offset, its size, 20 zeros, and one free cell, which has a size and a link and else zeros
 -- (Suhanov, sections "Hive bin" and "Cell")

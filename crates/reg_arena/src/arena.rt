@@ -1,8 +1,10 @@
 //! The arena as callers see it.
 ghost use Rattle.std.specs.Prelude.{◌≡◌, ◌==◌, ◌+◌, ◌-◌, ◌≤◌, ◌<◌, ℕ, List, [], ◌∷◌, ◌++◌, length, take, drop, IsSome, Some, None, unwrap_or};
 ghost use Rattle.std.specs.Prelude.{if◌then◌else◌, IfOk, IfErr, OnOk, OnErr, ◌↔◌};
+ghost use Rattle.reg_heap.specs.declared.limits.TheConstants.{BINS_LIMIT};
 ghost use Rattle.reg_heap.specs.Internal.Heaps.{GivesUp, Writes};
 ghost use Rattle.reg_heap.specs.ByteWords.{splice, word};
+ghost use Rattle.reg_arena.specs.declared.TheConstants.{CARVE_LIMIT};
 ghost use Rattle.reg_arena.specs.Arena.{IsSound};
 ghost use Rattle.reg_arena.specs.NewCells.{total_of, AreSizes};
 ghost use Rattle.reg_arena.specs.Carves.{AddsCells, CarvesExactly, NoFit};
@@ -13,10 +15,11 @@ ghost use Rattle.reg_arena.specs.Cells.{cells_of, cell_at, size_in};
 use crate::bin::passes_limit;
 use crate::carve::{carve_bin, carve_found};
 use crate::free::free_cell;
-use crate::list::{NONE, find_fit};
+use crate::list::find_fit;
 use crate::walk::list_cells;
 use crate::words::size_at;
 use crate::{ArenaFault, Cell};
+use reg_heap::limits::NONE;
 use std::alloc::Global;
 use std::marker::Model;
 
@@ -54,7 +57,7 @@ impl Arena {
     /// An arena with no bin.
     pub fn new(alloc: Global) -> Self
         ensures bytes { result.bytes ≡ [] }
-        ensures heads { result.heads ≡ 4294967295 ∷ [] }
+        ensures heads { result.heads ≡ NONE ∷ [] }
     {
         Arena {
             bins: Vec::new(alloc),
@@ -196,7 +199,7 @@ impl Arena {
     /// Suhanov, Windows registry file format specification, sections "Hive bin" and "Cell".
     pub fn carve(&mut self, sizes: &[u32], out: &mut Vec<u32>) -> Result<(), ArenaFault>
         requires sizes { AreSizes sizes.now }
-        requires total { total_of sizes.now ≤ 16777216 }
+        requires total { total_of sizes.now ≤ CARVE_LIMIT }
         ensures nothing { sizes.now ≡ [] → (result ≡ Ok tt) × (self.new ≡ self.old) × (out.new.items ≡ out.old.items) }
         ensures ok { OnOk result (0 < length sizes.now → (offsets : List ℕ) × (out.new.items ≡ out.old.items ++ offsets) × CarvesExactly self.old.bytes self.new.bytes sizes.now offsets × AddsCells self.old.bytes self.new.bytes sizes.now offsets) }
         ensures full { (result ≡ Err ArenaFault.Full) ↔ ((0 < length sizes.now) × PassesLimit self.old.bytes (total_of sizes.now) × NoFit self.old.bytes (total_of sizes.now)) }
@@ -236,7 +239,7 @@ impl Arena {
 }
 
 fn sum_of(sizes: &[u32]) -> u32
-    requires { total_of sizes.now ≤ 16777216 }
+    requires { total_of sizes.now ≤ CARVE_LIMIT }
     ensures { result ≡ total_of sizes.now }
 {
     let mut total = 0;
@@ -249,7 +252,7 @@ fn sum_of(sizes: &[u32]) -> u32
 fn content_part(bins: &[u8], cell: u32) -> &[u8]
     requires eight { 8 ≤ size_in (word bins.now cell) }
     requires within { cell + size_in (word bins.now cell) ≤ length bins.now }
-    requires small { length bins.now ≤ 268435456 }
+    requires small { length bins.now ≤ BINS_LIMIT }
     ensures { result.now ≡ take (size_in (word bins.now cell) - 4) (drop (cell + 4) bins.now) }
 {
     let size = size_at(bins, cell as usize);

@@ -2,14 +2,16 @@
 //!
 //! Suhanov, Windows registry file format specification, section "Hive bin".
 ghost use Rattle.std.specs.Prelude.{◌≡◌, ◌+◌, ◌-◌, ◌≤◌, ◌<◌, ℕ, List, [], ◌∷◌, ◌++◌, length, replicate, OnOk, OnErr, IfOk, true, false};
+ghost use Rattle.reg_arena.specs.declared.TheConstants.{CARVE_LIMIT};
 ghost use Rattle.reg_arena.specs.Arena.{IsArena};
 ghost use Rattle.reg_arena.specs.Internal.SideTables.{IsIndexed};
 ghost use Rattle.reg_arena.specs.Free.{chain, IsFit};
 ghost use Rattle.reg_arena.specs.NewBin.{AppendsBin, IsBinSize, PassesLimit, HasRoomForBin, headed};
 
-use crate::list::{NONE, Place, put_free};
+use crate::list::{Place, put_free};
 use crate::tables::{make_room, note_free};
 use crate::words::put_word;
+use reg_heap::limits::{BINS_LIMIT, NONE};
 use std::alloc::AllocError;
 
 /// The bytes of a bin's header.
@@ -18,15 +20,12 @@ pub const HEADER_SIZE: u32 = 32;
 /// A bin's size is a multiple of so many bytes.
 const PAGE_SIZE: u32 = 4096;
 
-/// All bins together have at most so many bytes.
-pub const LIMIT: u32 = 268_435_456;
-
 /// The letters `hbin`.
 const SIGNATURE: u32 = 0x6E69_6268;
 
 // The least size of a bin that has room for `total` bytes of cells.
 fn bin_size(total: u32) -> u32
-    requires { total ≤ 16777216 }
+    requires { total ≤ CARVE_LIMIT }
     ensures least { IsBinSize result total }
     ensures small { result ≤ total + 4128 }
 {
@@ -35,12 +34,12 @@ fn bin_size(total: u32) -> u32
 
 // Whether a bin more, with room for `total` bytes of cells, would pass the limit.
 pub fn passes_limit(bins: &Vec<u8>, total: u32) -> bool
-    requires total { total ≤ 16777216 }
-    requires small { length bins.now.items ≤ 268435456 }
+    requires total { total ≤ CARVE_LIMIT }
+    requires small { length bins.now.items ≤ BINS_LIMIT }
     ensures passes { result ≡ true → PassesLimit bins.now.items total }
     ensures room { result ≡ false → HasRoomForBin bins.now.items total }
 {
-    bin_size(total) > LIMIT - bins.len() as u32
+    bin_size(total) > BINS_LIMIT - bins.len() as u32
 }
 
 // Writes a bin's header, the zeros at its end left out.
@@ -55,7 +54,7 @@ fn put_header(bins: &mut Vec<u8>, at: u32, size: u32)
 
 // Appends `n` zeros.
 fn lengthen(bins: &mut Vec<u8>, n: u32) -> Result<(), AllocError>
-    requires { length bins.old.items + n ≤ 268435456 }
+    requires { length bins.old.items + n ≤ BINS_LIMIT }
     ensures ok { OnOk result (bins.new.items ≡ bins.old.items ++ replicate n 0) }
     ensures err { OnErr result (bins.new.items ≡ bins.old.items) }
 {
@@ -72,12 +71,12 @@ fn add_bin(
 ) -> Result<Place, AllocError>
     requires arena { IsArena bins.old.items (head.old ∷ []) (count.old ∷ []) }
     requires positive { 0 < total }
-    requires total { total ≤ 16777216 }
+    requires total { total ≤ CARVE_LIMIT }
     requires room { HasRoomForBin bins.old.items total }
     ensures arena { IsArena bins.new.items (head.new ∷ []) (count.new ∷ []) }
     ensures ok { OnOk result (AppendsBin bins.old.items bins.new.items total) }
     ensures fit { IfOk result (λ place. IsFit bins.new.items total (chain count.new bins.new.items head.new) place.previous place.cell) }
-    ensures place { IfOk result (λ place. (place.previous ≡ 4294967295) × (place.cell ≡ head.new)) }
+    ensures place { IfOk result (λ place. (place.previous ≡ NONE) × (place.cell ≡ head.new)) }
     ensures head { OnOk result (head.new ≡ length bins.old.items + 32) }
     ensures chained { OnOk result (chain count.new bins.new.items head.new ≡ head.new ∷ chain count.old bins.old.items head.old) }
     ensures err { OnErr result ((bins.new.items ≡ bins.old.items) × (head.new ≡ head.old) × (count.new ≡ count.old)) }
@@ -107,7 +106,7 @@ pub fn add_indexed_bin(
 ) -> Result<Place, AllocError>
     requires arena { IsIndexed bins.old.items (head.old ∷ []) (count.old ∷ []) ends.old.items backs.old.items }
     requires positive { 0 < total }
-    requires total { total ≤ 16777216 }
+    requires total { total ≤ CARVE_LIMIT }
     requires room { HasRoomForBin bins.old.items total }
     ensures arena { IsIndexed bins.new.items (head.new ∷ []) (count.new ∷ []) ends.new.items backs.new.items }
     ensures ok { OnOk result (AppendsBin bins.old.items bins.new.items total) }

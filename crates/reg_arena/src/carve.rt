@@ -1,7 +1,9 @@
 //! Allocated cells from one free cell.
 ghost use Rattle.std.specs.Prelude.{◌≡◌, ◌+◌, ◌-◌, ◌≤◌, ◌<◌, ℕ, List, [], ◌∷◌, ◌++◌, length, vec_len, vec_capacity, IfErr, OnErr, OnOk};
+ghost use Rattle.reg_heap.specs.declared.limits.TheConstants.{BINS_LIMIT, NONE};
 ghost use Rattle.reg_arena.specs.Internal.SideTables.{IsIndexed};
 ghost use Rattle.reg_heap.specs.ByteWords.{word};
+ghost use Rattle.reg_arena.specs.declared.TheConstants.{CARVE_LIMIT};
 ghost use Rattle.reg_arena.specs.Cells.{size_in};
 ghost use Rattle.reg_arena.specs.NewCells.{total_of, AreSizes, offsets_of};
 ghost use Rattle.reg_arena.specs.Carves.{AddsCells, Carves, CarvesExactly, NoFit};
@@ -21,9 +23,9 @@ fn take_out(bins: &mut Vec<u8>, head: &mut u32, count: &mut usize, place: Place,
     requires fits { total ≤ size_in (word bins.old.items place.cell) }
     requires rest { total < size_in (word bins.old.items place.cell) → total + 8 ≤ size_in (word bins.old.items place.cell) }
     requires positive { 8 ≤ total }
-    requires previous { (place.previous ≡ 4294967295 → ⊥) → place.previous + 8 ≤ length bins.old.items }
+    requires previous { (place.previous ≡ NONE → ⊥) → place.previous + 8 ≤ length bins.old.items }
     requires count { 0 < count.old }
-    requires small { length bins.old.items ≤ 268435456 }
+    requires small { length bins.old.items ≤ BINS_LIMIT }
     ensures next { word bins.old.items (place.cell + 4) < 4294967296 }
     ensures long { length bins.new.items ≡ length bins.old.items }
     ensures taken { TakesOut bins.old.items head.old count.old place.previous place.cell total bins.new.items head.new count.new }
@@ -117,7 +119,7 @@ pub fn carve_bin(
     requires sizes { AreSizes sizes.now }
     requires total { total ≡ total_of sizes.now }
     requires positive { 0 < total }
-    requires small { total ≤ 16777216 }
+    requires small { total ≤ CARVE_LIMIT }
     requires room { HasRoomForBin bins.old.items total }
     ensures arena { IsIndexed bins.new.items (head.new ∷ []) (count.new ∷ []) ends.new.items backs.new.items }
     ensures ok { OnOk result ((offsets : List ℕ) × (out.new.items ≡ out.old.items ++ offsets) × CarvesExactly bins.old.items bins.new.items sizes.now offsets × AddsCells bins.old.items bins.new.items sizes.now offsets) }

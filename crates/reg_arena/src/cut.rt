@@ -1,6 +1,7 @@
 //! Allocated cells, side by side, cut from a piece of the bins.
 ghost use Rattle.std.specs.Prelude.{◌≡◌, ◌+◌, ◌-◌, ◌≤◌, ◌<◌, ◌%◌, ℕ, List, [], ◌∷◌, ◌++◌, length, take, drop, replicate, vec_len, vec_capacity};
 ghost use Rattle.byteorder.specs.Endian.{little_bytes};
+ghost use Rattle.reg_heap.specs.declared.limits.TheConstants.{BINS_LIMIT};
 ghost use Rattle.reg_heap.specs.ByteWords.{splice, word, SameOutside};
 ghost use Rattle.reg_arena.specs.Cells.{IsCell, Tiles, content_in};
 ghost use Rattle.reg_arena.specs.NewCells.{total_of, AreSizes, used, carved, offsets_of, zeroed};
@@ -20,7 +21,7 @@ fn cut_one(bins: &mut Vec<u8>, at: u32, size: u32)
     requires positive { 0 < size }
     requires eights { size % 8 ≡ 0 }
     requires fits { at + size ≤ length bins.old.items }
-    requires small { length bins.old.items ≤ 268435456 }
+    requires small { length bins.old.items ≤ BINS_LIMIT }
     ensures region { SameOutside at (at + size) bins.old.items bins.new.items }
     ensures cell { IsCell bins.new.items (at + size) (used at size) }
     ensures zero { take (size - 4) (drop (at + 4) bins.new.items) ≡ replicate (size - 4) 0 }
@@ -33,7 +34,7 @@ fn cut_one(bins: &mut Vec<u8>, at: u32, size: u32)
 pub fn cut(bins: &mut Vec<u8>, cell: u32, sizes: &[u32], out: &mut Vec<u32>)
     requires sizes { AreSizes sizes.now }
     requires fits { cell + total_of sizes.now ≤ length bins.old.items }
-    requires small { length bins.old.items ≤ 268435456 }
+    requires small { length bins.old.items ≤ BINS_LIMIT }
     requires room { vec_len out.old + length sizes.now ≤ vec_capacity out.old }
     ensures region { SameOutside cell (cell + total_of sizes.now) bins.old.items bins.new.items }
     ensures tiles { Tiles bins.new.items cell (cell + total_of sizes.now) (carved cell sizes.now) }

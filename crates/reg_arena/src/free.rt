@@ -5,10 +5,10 @@ ghost use Rattle.reg_arena.specs.Cells.{cell_at};
 ghost use Rattle.reg_arena.specs.Internal.SideTables.{IsIndexed};
 ghost use Rattle.reg_arena.specs.Frees.{Frees, IsRight, InList, Unlinks, start_of};
 
-use crate::bin::LIMIT;
-use crate::list::{NONE, Place, put_free, set_link};
+use crate::list::{Place, put_free, set_link};
 use crate::tables::{mark, mark_end, note_free};
 use crate::words::{size_at, word_at};
+use reg_heap::limits::{BINS_LIMIT, NONE};
 
 // The size of the free cell that stands at a place, or 0. What stands there is the end of the bins, a bin's header, or a
 // cell; the header's letters and an allocated cell's negative size are above the limit.
@@ -20,7 +20,7 @@ fn free_size_at(bins: &Vec<u8>, at: u32) -> u32
         return 0;
     }
     let field = word_at(bins, at as usize);
-    if field > LIMIT {
+    if field > BINS_LIMIT {
         return 0;
     }
     field

@@ -25,6 +25,9 @@ mod words;
 pub use arena::Arena;
 use thiserror::Error;
 
+/// The most bytes of cells that one carve may be asked for, their size fields too: 16 MiB, this project's own limit.
+pub const CARVE_LIMIT: u32 = 16_777_216;
+
 /// A cell as it stands in the bins.
 ///
 /// Suhanov, Windows registry file format specification, section "Cell".

@@ -7,9 +7,7 @@ ghost use Rattle.reg_arena.specs.Cells.{size_in};
 ghost use Rattle.reg_arena.specs.Free.{chain, IsFit, NoneFits};
 
 use crate::words::{put_word, size_at, word_at};
-
-// No cell: the end of a free list.
-pub const NONE: u32 = 0xFFFF_FFFF;
+use reg_heap::limits::NONE;
 
 // A free cell that fits, with the free cell before it in the list, or `NONE`.
 #[derive(Clone, Copy)]
@@ -37,9 +35,9 @@ pub fn find_fit(bins: &Vec<u8>, head: u32, count: usize, total: u32) -> Option<P
 
 // Sets the link that stands in the free cell `previous`, or the head.
 pub fn set_link(bins: &mut Vec<u8>, head: &mut u32, previous: u32, next: u32)
-    requires { (previous ≡ 4294967295 → ⊥) → previous + 8 ≤ length bins.old.items }
-    ensures bytes { bins.new.items ≡ (if previous == 4294967295 then bins.old.items else splice (previous + 4) (little_bytes 4 next) bins.old.items) }
-    ensures head { head.new ≡ (if previous == 4294967295 then next else head.old) }
+    requires { (previous ≡ NONE → ⊥) → previous + 8 ≤ length bins.old.items }
+    ensures bytes { bins.new.items ≡ (if previous == NONE then bins.old.items else splice (previous + 4) (little_bytes 4 next) bins.old.items) }
+    ensures head { head.new ≡ (if previous == NONE then next else head.old) }
 {
     if previous == NONE {
         *head = next;

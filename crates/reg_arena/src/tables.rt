@@ -3,14 +3,16 @@
 //! `ends` has, at a free cell's last eight bytes, the cell's offset, and elsewhere 0. `backs` has, at a free cell's first
 //! eight bytes, the cell before it in its list, or `NONE`.
 ghost use Rattle.std.specs.Prelude.{◌≡◌, ◌+◌, ◌-◌, ◌*◌, ◌/◌, ◌≤◌, ◌<◌, set, length, get_or, OnOk};
+ghost use Rattle.reg_heap.specs.declared.limits.TheConstants.{BINS_LIMIT};
 ghost use Rattle.reg_arena.specs.Internal.SideTables.{marked, NotesTaken, IsLonger};
 
-use crate::list::{NONE, Place};
+use crate::list::Place;
+use reg_heap::limits::NONE;
 use std::alloc::AllocError;
 
 // Sets the number at a cell's first eight bytes, if there is a cell.
 pub fn mark(backs: &mut Vec<u32>, cell: u32, value: u32)
-    requires { (cell ≡ 4294967295 → ⊥) → cell / 8 < length backs.old.items }
+    requires { (cell ≡ NONE → ⊥) → cell / 8 < length backs.old.items }
     ensures { backs.new.items ≡ marked cell value backs.old.items }
 {
     if cell != NONE {
@@ -31,7 +33,7 @@ pub fn mark_end(ends: &mut Vec<u32>, end: u32, cell: u32)
 pub fn note_free(ends: &mut Vec<u32>, backs: &mut Vec<u32>, place: Place, next: u32, end: u32)
     requires end { end / 8 - 1 < length ends.old.items }
     requires some { 8 ≤ end }
-    requires next { (next ≡ 4294967295 → ⊥) → next / 8 < length backs.old.items }
+    requires next { (next ≡ NONE → ⊥) → next / 8 < length backs.old.items }
     requires cell { place.cell / 8 < length backs.old.items }
     ensures ends { ends.new.items ≡ set ends.old.items (end / 8 - 1) place.cell }
     ensures backs { backs.new.items ≡ set (marked next place.cell backs.old.items) (place.cell / 8) place.previous }
@@ -53,8 +55,8 @@ pub fn note_taken(
     requires end { (place.cell + size) / 8 - 1 < length ends.old.items }
     requires some { 8 ≤ size }
     requires total { total ≤ size }
-    requires small { place.cell + size ≤ 268435456 }
-    requires next { (next ≡ 4294967295 → ⊥) → next / 8 < length backs.old.items }
+    requires small { place.cell + size ≤ BINS_LIMIT }
+    requires next { (next ≡ NONE → ⊥) → next / 8 < length backs.old.items }
     requires cell { total < size → (place.cell + total) / 8 < length backs.old.items }
     ensures { NotesTaken place.previous place.cell size total next ends.old.items backs.old.items ends.new.items backs.new.items }
 {

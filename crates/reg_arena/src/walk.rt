@@ -1,5 +1,6 @@
 //! A walk over the cells, bin after bin.
 ghost use Rattle.std.specs.Prelude.{◌≡◌, ◌+◌, ◌≤◌, length, IfErr, IfOk, OnOk, Some};
+ghost use Rattle.reg_heap.specs.declared.limits.TheConstants.{BINS_LIMIT};
 ghost use Rattle.reg_heap.specs.ByteWords.{word};
 ghost use Rattle.reg_arena.specs.Cells.{cells_of, is_allocated_in};
 ghost use Rattle.reg_arena.specs.Internal.CellWalks.{IsRowOfBins, IsTiled, PushesCells};
@@ -20,7 +21,7 @@ fn is_allocated_at(bins: &[u8], at: usize) -> bool
 fn list_bin(bins: &[u8], from: usize, stop: usize, cells: &mut Vec<Cell>) -> Result<(), ArenaFault>
     requires tiled { IsTiled bins.now from stop }
     requires within { stop ≤ length bins.now }
-    requires small { length bins.now ≤ 268435456 }
+    requires small { length bins.now ≤ BINS_LIMIT }
     ensures ok { OnOk result (PushesCells bins.now from stop cells.old.items cells.new.items) }
     ensures fault { IfErr result (λ fault. fault ≡ ArenaFault.Memory) }
 {
@@ -43,7 +44,7 @@ fn list_bin(bins: &[u8], from: usize, stop: usize, cells: &mut Vec<Cell>) -> Res
 // The cells of all bins.
 pub fn list_cells(bins: &[u8], alloc: Global) -> Result<Vec<Cell>, ArenaFault>
     requires bins { IsRowOfBins bins.now }
-    requires small { length bins.now ≤ 268435456 }
+    requires small { length bins.now ≤ BINS_LIMIT }
     ensures ok { IfOk result (λ cells. cells_of bins.now ≡ Some cells.items) }
     ensures fault { IfErr result (λ fault. fault ≡ ArenaFault.Memory) }
 {

@@ -3,6 +3,7 @@
 use crate::hives::new_hive;
 use anyhow::{Result, bail};
 use reg_calls::Hive;
+use reg_heap::limits::DATA_LIMIT;
 use reg_model::{AnswerBody, Bytes, Change, Query};
 use reg_workload::{ALL_RIGHTS, PerCall};
 use std::alloc::Global;
@@ -20,9 +21,6 @@ const CALLS: u32 = 10_000;
 
 /// The size of most values, in bytes.
 const SIZE: usize = 100;
-
-/// The largest value, in bytes.
-const LARGEST: usize = 1_048_576;
 
 /// How many calls on the largest value are timed together.
 const LARGE_CALLS: u32 = 50;
@@ -114,7 +112,7 @@ pub fn measure(rt: &(impl Print + Clock), alloc: Global) -> Result<()> {
     for values in SIZES {
         measure_at(rt, alloc, values, CALLS, SIZE)?;
     }
-    measure_at(rt, alloc, 1, LARGE_CALLS, LARGEST)?;
+    measure_at(rt, alloc, 1, LARGE_CALLS, DATA_LIMIT)?;
     measure_copy(rt, alloc)
 }
 
@@ -161,12 +159,12 @@ fn time_queries(rt: &(impl Print + Clock), hive: &Hive, queries: &[Query]) -> Re
 }
 
 fn measure_copy(rt: &(impl Print + Clock), alloc: Global) -> Result<()> {
-    let bytes = vec![in alloc; 7; LARGEST]?;
+    let bytes = vec![in alloc; 7; DATA_LIMIT]?;
     let start = Instant::now(rt)?;
     for _call in 0..LARGE_CALLS {
         let _copy = Bytes::from_slice(alloc, bytes.as_slice())?;
     }
     let copied = PerCall::new(start.elapsed(rt)?, LARGE_CALLS as usize);
-    println!(rt; "a plain copy of {LARGEST} bytes, {copied}")?;
+    println!(rt; "a plain copy of {DATA_LIMIT} bytes, {copied}")?;
     Ok(())
 }

@@ -6,6 +6,7 @@ use Rattle.std.proofs.lemmas.List.{length-map}
 use Rattle.std.proofs.lemmas.Bool.{false≢true}
 use Rattle.std.proofs.lemmas.Bool.Decides.{nat_tests}
 use Rattle.reg_heap.specs.Paths.{Tree}
+use Rattle.reg_model.specs.declared.limits.TheConstants.{HANDLES_LIMIT, JOURNAL_LIMIT}
 use Rattle.reg_model.specs.Worlds.{World, Handle, IsStanding, look, numbered, owned, closed, turned, path_from, after}
 use Rattle.reg_model.specs.Causes.{State, change_cause, is_full, no_handle_room, handles_of}
 use Rattle.reg_model.specs.Replies.{reply_to}
@@ -70,19 +71,19 @@ closed-less number (h ∷ hs) e = by (eqb h.number number) e (closed-less number
 closed-fewer : (session number : ℕ) (hs : List Handle) → is_some (look session number hs) ≡ true → length (closed number hs) + 1 ≤ length hs
 closed-fewer session number hs e = closed-less number hs (owned-found session (numbered number hs) e)
 
-not_full : (more : ℕ) (s : State) → is_full more s ≡ false → s.count + more + length s.world.handles ≤ 16777216
+not_full : (more : ℕ) (s : State) → is_full more s ≡ false → s.count + more + length s.world.handles ≤ JOURNAL_LIMIT
 not_full more s e = grind (arith, nat_tests, e)
 
 -- the journal has room for the entry and the closings of all handles after it; one handle more is open at most, and one less
 -- after a Close
 record Fits (s : State) (change : Change) (hs : List Handle) : Type 0 where
-  small : s.count + 1 + length hs ≤ 16777216
+  small : s.count + 1 + length hs ≤ JOURNAL_LIMIT
   grown : length hs ≤ length s.world.handles + 1
   closing : is_closing change ≡ true → length hs + 1 ≤ length s.world.handles
 
 fits-push : (s : State) (session : ℕ) (change : Change) (h : Handle) → is_closing change ≡ false → no_handle_room session s ≡ false → Fits s change (s.world.handles ++ h ∷ [])
 fits-push s session change h opens room =
-    let b = both_false (nat_le 16384 (handles_of session s.world.handles)) (is_full 2 s) room in
+    let b = both_false (nat_le HANDLES_LIMIT (handles_of session s.world.handles)) (is_full 2 s) room in
     let f = not_full 2 s b.1 in
     let l = length-append s.world.handles (h ∷ []) in
     record { small = omega (arith, f, l); grown = omega (arith, l); closing = λ c. absurd (true≢false (sym c ∙ opens)) }
@@ -92,7 +93,7 @@ fits-same s change hs same opens room =
     let f = not_full 1 s room in
     record { small = omega (arith, f, same); grown = omega (arith, same); closing = λ c. absurd (true≢false (sym c ∙ opens)) }
 
-fits : (s : State) (e : Entry) → s.count + length s.world.handles ≤ 16777216 → change_cause s e.session e.change 0 ≡ None → Fits s e.change (after s.world e).handles
+fits : (s : State) (e : Entry) → s.count + length s.world.handles ≤ JOURNAL_LIMIT → change_cause s e.session e.change 0 ≡ None → Fits s e.change (after s.world e).handles
 unfolding after
 fits s e small = elim e.change as (λ (change : Change). change_cause s e.session change 0 ≡ None → Fits s change (after s.world (record e { change = change })).handles) [
   | OpenRoot mask ↦ λ none. let m = root-met s e.session mask 0 none in fits-push s e.session (OpenRoot mask) _ refl m.room

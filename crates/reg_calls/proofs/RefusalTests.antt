@@ -7,6 +7,8 @@ use Rattle.reg_names.specs.Names.{is_value_name, path_of}
 use Rattle.reg_heap.specs.Paths.{Path}
 use Rattle.reg_heap.specs.Members.{value_named}
 use Rattle.reg_heap.specs.Edits.{values_at, folded_path, are_too_many, may_not_go}
+use Rattle.reg_model.specs.declared.rights.TheConstants.{SET_VALUE}
+use Rattle.reg_model.specs.declared.statuses.TheConstants.{ACCESS_DENIED, FILE_NOT_FOUND, INVALID_PARAMETER, NO_SYSTEM_RESOURCES}
 use Rattle.reg_model.specs.Worlds.{Handle, look, path_at, path_from}
 use Rattle.reg_model.specs.Causes.{State, early_cause, late_cause, change_cause, refuse, ◌or◌, asked, is_mask, is_bad_value, is_bad_open, is_bad_target, no_handle_room, no_key_room}
 use Rattle.reg_model.specs.Causes.{no_value_room, lacks_value, lacks_key, has, is_full, by_handle}
@@ -46,87 +48,87 @@ module _ (n : ℕ) (store : Store) (session h : ℕ) where
 
   pub open-refused : (path : List ℕ) (mask status : ℕ) → Refuses store session h status → change_cause s session (OpenKey h path mask) 0 ≡ Some status
   unfolding early_cause late_cause
-  open-refused path mask status r = first _ _ _ status (r (λ x. refuse (is_bad_open path mask) 87 or refuse (no_handle_room session s) 1450))
+  open-refused path mask status r = first _ _ _ status (r (λ x. refuse (is_bad_open path mask) INVALID_PARAMETER or refuse (no_handle_room session s) NO_SYSTEM_RESOURCES))
 
   pub open-causes : (path : List ℕ) (mask : ℕ) (g : t) →
-      change_cause s session (OpenKey h path mask) 0 ≡ (refuse (is_bad_open path mask) 87 or refuse
-      (no_handle_room session s) 1450 or asked 0 or refuse (not (is_some (get store.tree.tree (g.path ++ folded_path path)))) 2)
+      change_cause s session (OpenKey h path mask) 0 ≡ (refuse (is_bad_open path mask) INVALID_PARAMETER or refuse
+      (no_handle_room session s) NO_SYSTEM_RESOURCES or asked 0 or refuse (not (is_some (get store.tree.tree (g.path ++ folded_path path)))) FILE_NOT_FOUND)
   unfolding early_cause late_cause
   open-causes path mask g =
-      ap (λ (a : Option ℕ). a or asked 0 or refuse (lacks_key s session h path) 2) (by_handle-at store session h g (λ x. refuse (is_bad_open path mask) 87 or refuse (no_handle_room session s) 1450))
-      ∙ ap (λ (q : Path). refuse (is_bad_open path mask) 87 or refuse (no_handle_room session s) 1450 or asked 0 or refuse
+      ap (λ (a : Option ℕ). a or asked 0 or refuse (lacks_key s session h path) FILE_NOT_FOUND) (by_handle-at store session h g (λ x. refuse (is_bad_open path mask) INVALID_PARAMETER or refuse (no_handle_room session s) NO_SYSTEM_RESOURCES))
+      ∙ ap (λ (q : Path). refuse (is_bad_open path mask) INVALID_PARAMETER or refuse (no_handle_room session s) NO_SYSTEM_RESOURCES or asked 0 or refuse
       (not (is_some (get store.tree.tree q))) 2) (target-from store session h g path)
 
   -- ---- CreateKey
 
   pub create-refused : (path : List ℕ) (mask status : ℕ) → Refuses store session h status → change_cause s session (CreateKey h path mask) 0 ≡ Some status
   unfolding early_cause late_cause
-  create-refused path mask status r = first _ _ _ status (r (λ x. refuse (is_bad_open path mask) 87 or refuse (no_handle_room session s || no_key_room s session h path) 1450))
+  create-refused path mask status r = first _ _ _ status (r (λ x. refuse (is_bad_open path mask) INVALID_PARAMETER or refuse (no_handle_room session s || no_key_room s session h path) NO_SYSTEM_RESOURCES))
 
   pub create-causes : (path : List ℕ) (mask : ℕ) (g : t) →
-      change_cause s session (CreateKey h path mask) 0 ≡ (refuse (is_bad_open path mask) 87 or refuse
-      (no_handle_room session s || are_too_many store.tree.tree g.path (path_of path)) 1450 or asked 0 or None)
+      change_cause s session (CreateKey h path mask) 0 ≡ (refuse (is_bad_open path mask) INVALID_PARAMETER or refuse
+      (no_handle_room session s || are_too_many store.tree.tree g.path (path_of path)) NO_SYSTEM_RESOURCES or asked 0 or None)
   unfolding early_cause late_cause
   create-causes path mask g =
-      ap (λ (a : Option ℕ). a or asked 0 or None) (by_handle-at store session h g (λ x. refuse (is_bad_open path mask) 87 or refuse (no_handle_room session s || no_key_room s session h path) 1450))
-      ∙ ap (λ (q : Path). refuse (is_bad_open path mask) 87 or refuse (no_handle_room session s || are_too_many store.tree.tree q (path_of path)) 1450 or asked 0 or None) (target-at store session h g)
+      ap (λ (a : Option ℕ). a or asked 0 or None) (by_handle-at store session h g (λ x. refuse (is_bad_open path mask) INVALID_PARAMETER or refuse (no_handle_room session s || no_key_room s session h path) NO_SYSTEM_RESOURCES))
+      ∙ ap (λ (q : Path). refuse (is_bad_open path mask) INVALID_PARAMETER or refuse (no_handle_room session s || are_too_many store.tree.tree q (path_of path)) NO_SYSTEM_RESOURCES or asked 0 or None) (target-at store session h g)
 
   -- ---- SetValue
 
   pub set-refused : (name bytes : List ℕ) (kind status : ℕ) → Refuses store session h status → change_cause s session (SetValue h name kind bytes) 0 ≡ Some status
   unfolding early_cause late_cause
   set-refused name bytes kind status r =
-      first _ _ _ status (r (λ x. refuse (is_bad_value name bytes) 87 or refuse (not (has 2 x.mask)) 5 or refuse
-      (is_full 1 s || no_value_room name (values_at store.tree.tree (path_at session h store.handles.handles))) 1450))
+      first _ _ _ status (r (λ x. refuse (is_bad_value name bytes) INVALID_PARAMETER or refuse (not (has SET_VALUE x.mask)) ACCESS_DENIED or refuse
+      (is_full 1 s || no_value_room name (values_at store.tree.tree (path_at session h store.handles.handles))) NO_SYSTEM_RESOURCES))
 
   pub set-causes : (name bytes : List ℕ) (kind mask : ℕ) (g : t) → mask ≡ g.handle.mask →
-      change_cause s session (SetValue h name kind bytes) 0 ≡ (refuse (is_bad_value name bytes) 87 or refuse (not (has 2 mask)) 5 or refuse
-      (is_full 1 s || no_value_room name (values_at store.tree.tree g.path)) 1450 or asked 0 or None)
+      change_cause s session (SetValue h name kind bytes) 0 ≡ (refuse (is_bad_value name bytes) INVALID_PARAMETER or refuse (not (has SET_VALUE mask)) ACCESS_DENIED or refuse
+      (is_full 1 s || no_value_room name (values_at store.tree.tree g.path)) NO_SYSTEM_RESOURCES or asked 0 or None)
   unfolding early_cause late_cause
   set-causes name bytes kind mask g m =
-      ap (λ (a : Option ℕ). a or asked 0 or None) (by_handle-at store session h g (λ x. refuse (is_bad_value name bytes) 87 or refuse
-      (not (has 2 x.mask)) 5 or refuse (is_full 1 s || no_value_room name (values_at store.tree.tree (path_at session h store.handles.handles)))
-      1450))
-      ∙ (ap (λ (q : Path). refuse (is_bad_value name bytes) 87 or refuse (not (has 2 g.handle.mask)) 5 or refuse
-      (is_full 1 s || no_value_room name (values_at store.tree.tree q)) 1450 or asked 0 or None) (target-at store session h g)
-      ∙ ap (λ (k : ℕ). refuse (is_bad_value name bytes) 87 or refuse (not (has 2 k)) 5 or refuse
-      (is_full 1 s || no_value_room name (values_at store.tree.tree g.path)) 1450 or asked 0 or None) (sym m))
+      ap (λ (a : Option ℕ). a or asked 0 or None) (by_handle-at store session h g (λ x. refuse (is_bad_value name bytes) INVALID_PARAMETER or refuse
+      (not (has SET_VALUE x.mask)) ACCESS_DENIED or refuse (is_full 1 s || no_value_room name (values_at store.tree.tree (path_at session h store.handles.handles)))
+      NO_SYSTEM_RESOURCES))
+      ∙ (ap (λ (q : Path). refuse (is_bad_value name bytes) INVALID_PARAMETER or refuse (not (has SET_VALUE g.handle.mask)) ACCESS_DENIED or refuse
+      (is_full 1 s || no_value_room name (values_at store.tree.tree q)) NO_SYSTEM_RESOURCES or asked 0 or None) (target-at store session h g)
+      ∙ ap (λ (k : ℕ). refuse (is_bad_value name bytes) INVALID_PARAMETER or refuse (not (has SET_VALUE k)) ACCESS_DENIED or refuse
+      (is_full 1 s || no_value_room name (values_at store.tree.tree g.path)) NO_SYSTEM_RESOURCES or asked 0 or None) (sym m))
 
   -- ---- DeleteValue
 
   pub drop-refused : (name : List ℕ) (status : ℕ) → Refuses store session h status → change_cause s session (DeleteValue h name) 0 ≡ Some status
   unfolding early_cause late_cause
-  drop-refused name status r = first _ _ _ status (r (λ x. refuse (not (is_value_name name)) 87 or refuse (not (has 2 x.mask)) 5 or refuse (is_full 1 s) 1450))
+  drop-refused name status r = first _ _ _ status (r (λ x. refuse (not (is_value_name name)) INVALID_PARAMETER or refuse (not (has SET_VALUE x.mask)) ACCESS_DENIED or refuse (is_full 1 s) NO_SYSTEM_RESOURCES))
 
   pub drop-causes : (name : List ℕ) (mask : ℕ) (g : t) → mask ≡ g.handle.mask →
-      change_cause s session (DeleteValue h name) 0 ≡ (refuse (not (is_value_name name)) 87 or refuse (not (has 2 mask)) 5 or refuse
-      (is_full 1 s) 1450 or asked 0 or refuse (not (is_some (value_named name (values_at store.tree.tree g.path)))) 2)
+      change_cause s session (DeleteValue h name) 0 ≡ (refuse (not (is_value_name name)) INVALID_PARAMETER or refuse (not (has SET_VALUE mask)) ACCESS_DENIED or refuse
+      (is_full 1 s) NO_SYSTEM_RESOURCES or asked 0 or refuse (not (is_some (value_named name (values_at store.tree.tree g.path)))) FILE_NOT_FOUND)
   unfolding early_cause late_cause
   drop-causes name mask g m =
-      ap (λ (a : Option ℕ). a or asked 0 or refuse (lacks_value s session h name) 2)
-      (by_handle-at store session h g (λ x. refuse (not (is_value_name name)) 87 or refuse (not (has 2 x.mask)) 5 or refuse (is_full 1 s) 1450))
-      ∙ (ap (λ (q : Path). refuse (not (is_value_name name)) 87 or refuse (not (has 2 g.handle.mask)) 5 or refuse
-      (is_full 1 s) 1450 or asked 0 or refuse (not (is_some (value_named name (values_at store.tree.tree q)))) 2) (target-at store session h g)
-      ∙ ap (λ (k : ℕ). refuse (not (is_value_name name)) 87 or refuse (not (has 2 k)) 5 or refuse (is_full 1 s) 1450 or asked 0 or refuse
+      ap (λ (a : Option ℕ). a or asked 0 or refuse (lacks_value s session h name) FILE_NOT_FOUND)
+      (by_handle-at store session h g (λ x. refuse (not (is_value_name name)) INVALID_PARAMETER or refuse (not (has SET_VALUE x.mask)) ACCESS_DENIED or refuse (is_full 1 s) NO_SYSTEM_RESOURCES))
+      ∙ (ap (λ (q : Path). refuse (not (is_value_name name)) INVALID_PARAMETER or refuse (not (has SET_VALUE g.handle.mask)) ACCESS_DENIED or refuse
+      (is_full 1 s) NO_SYSTEM_RESOURCES or asked 0 or refuse (not (is_some (value_named name (values_at store.tree.tree q)))) FILE_NOT_FOUND) (target-at store session h g)
+      ∙ ap (λ (k : ℕ). refuse (not (is_value_name name)) INVALID_PARAMETER or refuse (not (has SET_VALUE k)) ACCESS_DENIED or refuse (is_full 1 s) NO_SYSTEM_RESOURCES or asked 0 or refuse
       (not (is_some (value_named name (values_at store.tree.tree g.path)))) 2) (sym m))
 
   -- ---- DeleteKey
 
   pub delete-refused : (path : List ℕ) (status : ℕ) → Refuses store session h status → change_cause s session (DeleteKey h path) 0 ≡ Some status
   unfolding early_cause late_cause
-  delete-refused path status r = first _ _ _ status (r (λ x. refuse (is_bad_target path) 87 or refuse (is_full 1 s) 1450))
+  delete-refused path status r = first _ _ _ status (r (λ x. refuse (is_bad_target path) INVALID_PARAMETER or refuse (is_full 1 s) NO_SYSTEM_RESOURCES))
 
   pub delete-causes : (path : List ℕ) (g : t) →
-      change_cause s session (DeleteKey h path) 0 ≡ (refuse (is_bad_target path) 87 or refuse (is_full 1 s) 1450 or asked 0 or
-      (refuse (not (is_some (get store.tree.tree (g.path ++ folded_path path)))) 2 or refuse
-      (may_not_go store.tree.tree (g.path ++ folded_path path)) 5))
+      change_cause s session (DeleteKey h path) 0 ≡ (refuse (is_bad_target path) INVALID_PARAMETER or refuse (is_full 1 s) NO_SYSTEM_RESOURCES or asked 0 or
+      (refuse (not (is_some (get store.tree.tree (g.path ++ folded_path path)))) FILE_NOT_FOUND or refuse
+      (may_not_go store.tree.tree (g.path ++ folded_path path)) ACCESS_DENIED))
   unfolding early_cause late_cause
   delete-causes path g =
-      ap (λ (a : Option ℕ). a or asked 0 or (refuse (lacks_key s session h path) 2 or refuse
-      (may_not_go store.tree.tree (path_from session h store.handles.handles path)) 5))
-      (by_handle-at store session h g (λ x. refuse (is_bad_target path) 87 or refuse (is_full 1 s) 1450))
-      ∙ ap (λ (q : Path). refuse (is_bad_target path) 87 or refuse (is_full 1 s) 1450 or asked 0 or
-      (refuse (not (is_some (get store.tree.tree q))) 2 or refuse (may_not_go store.tree.tree q) 5)) (target-from store session h g path)
+      ap (λ (a : Option ℕ). a or asked 0 or (refuse (lacks_key s session h path) FILE_NOT_FOUND or refuse
+      (may_not_go store.tree.tree (path_from session h store.handles.handles path)) ACCESS_DENIED))
+      (by_handle-at store session h g (λ x. refuse (is_bad_target path) INVALID_PARAMETER or refuse (is_full 1 s) NO_SYSTEM_RESOURCES))
+      ∙ ap (λ (q : Path). refuse (is_bad_target path) INVALID_PARAMETER or refuse (is_full 1 s) NO_SYSTEM_RESOURCES or asked 0 or
+      (refuse (not (is_some (get store.tree.tree q))) FILE_NOT_FOUND or refuse (may_not_go store.tree.tree q) ACCESS_DENIED)) (target-from store session h g path)
 
   -- ---- Close
 

@@ -8,10 +8,13 @@ use Rattle.std.proofs.lemmas.List.{append-nil, length-map}
 use Rattle.std.proofs.lemmas.List.Elements.{recursion_from_All}
 use Rattle.std.proofs.lemmas.Bool.{eq-eqb, ne_eqb, false≢true}
 use Rattle.std.proofs.lemmas.Bool.Decides.{nat_tests}
+use Rattle.reg_names.specs.declared.TheConstants.{PATH_LIMIT}
 use Rattle.reg_names.specs.Names.{folded, path_of, is_path, is_value_name}
+use Rattle.reg_heap.specs.declared.limits.TheConstants.{DATA_LIMIT, VALUES_LIMIT}
 use Rattle.reg_heap.specs.Paths.{Path, Tree, Member, children_of}
 use Rattle.reg_heap.specs.Members.{value_named}
 use Rattle.reg_heap.specs.Edits.{edited, with_value, without_value, values_at, folded_path, with_keys, missing, has_child, child_path, are_too_many, may_not_go, marks_of, without_key, IsKept}
+use Rattle.reg_model.specs.declared.limits.TheConstants.{HANDLES_LIMIT}
 use Rattle.reg_model.specs.Worlds.{Handle, At, look, path_from, closed, turned, same_path, after}
 use Rattle.reg_model.specs.Causes.{State, change_cause, handles_of, no_handle_room, no_value_room, is_full}
 use Rattle.reg_model.specs.Replies.{reply_to, disposition_of}
@@ -85,15 +88,15 @@ all-there t p [] e h = subst (Has t) (sym (append-nil p)) h
 all-there t p (name ∷ names) e h =
     subst (Has t) (append_assoc p (folded name ∷ []) (map folded names)) (there-step (has_child t p name) t p name names refl (all-there t (child_path p name) names) e)
 
-path-short : (t : Tree) (p : Path) (names : List (List ℕ)) → ((q : Path) → Has t q → length q ≤ 512) → Has t p → are_too_many t p names ≡ false → length (p ++ map folded names) ≤ 512
+path-short : (t : Tree) (p : Path) (names : List (List ℕ)) → ((q : Path) → Has t q → length q ≤ PATH_LIMIT) → Has t p → are_too_many t p names ≡ false → length (p ++ map folded names) ≤ PATH_LIMIT
 path-short t p names shallow h few = by (missing t p names) refl
   where
-    by : (m : List (List ℕ)) → missing t p names ≡ m → length (p ++ map folded names) ≤ 512
+    by : (m : List (List ℕ)) → missing t p names ≡ m → length (p ++ map folded names) ≤ PATH_LIMIT
     by [] e = shallow (p ++ map folded names) (all-there t p names e h)
     by (x ∷ xs) e =
         let some : 0 < length (missing t p names) = rw e (omega arith) in
-        let b = few-of (length (missing t p names)) _ (nat_lt 512 (length p + length names)) _ some few in
-        let l = not_above 512 (length p + length names) b in
+        let b = few-of (length (missing t p names)) _ (nat_lt PATH_LIMIT (length p + length names)) _ some few in
+        let l = not_above PATH_LIMIT (length p + length names) b in
         let a = length-append p (map folded names) in
         let m = length-map names folded in
         omega (arith, l, a, m)
@@ -113,8 +116,8 @@ module _ (n : ℕ) (store : Store) (session : ℕ) (ready : IsReady n store) whe
   abbrev targeted : (h : ℕ) → Target (look session h hs) → IsTarget store session h
   targeted h t = record { handle = t.handle; path = t.path; found = t.found; place = t.place }
 
-  pub room-few : no_handle_room session s ≡ false → handles_of session hs < 16384
-  room-few e = let b = both_false (nat_le 16384 (handles_of session hs)) (is_full 2 s) e in grind (arith, nat_tests, b.0)
+  pub room-few : no_handle_room session s ≡ false → handles_of session hs < HANDLES_LIMIT
+  room-few e = let b = both_false (nat_le HANDLES_LIMIT (handles_of session hs)) (is_full 2 s) e in grind (arith, nat_tests, b.0)
 
   abbrev added : Table → ℕ → List ℕ → Type 0
   added table mask text = table.handles ≡ hs ++ record { number = n; session = session; mask = mask; place = At (path_of text) } ∷ []
@@ -127,7 +130,7 @@ module _ (n : ℕ) (store : Store) (session : ℕ) (ready : IsReady n store) whe
 
   -- ---- OpenRoot
 
-  pub root-room : (mask : ℕ) → change_cause s session (OpenRoot mask) 0 ≡ None → handles_of session hs < 16384
+  pub root-room : (mask : ℕ) → change_cause s session (OpenRoot mask) 0 ≡ None → handles_of session hs < HANDLES_LIMIT
   root-room mask c = let m = root-met s session mask 0 c in room-few m.room
 
   pub root-done : (moment mask : ℕ) (table : Table) (text : List ℕ) → text ≡ [] → added table mask text → (told : ChangeReply) →
@@ -149,10 +152,10 @@ module _ (n : ℕ) (store : Store) (session : ℕ) (ready : IsReady n store) whe
     pub open-path : is_path path ≡ true
     open-path = let b = both_false (not (is_path path)) _ open-facts.good in not_false (is_path path) b.0
 
-    pub open-room : handles_of session hs < 16384
+    pub open-room : handles_of session hs < HANDLES_LIMIT
     open-room = room-few open-facts.room
 
-    pub open-short : ((q : Path) → Has tree q → length q ≤ 512) → length (path_from session h hs path) ≤ 512
+    pub open-short : ((q : Path) → Has tree q → length q ≤ PATH_LIMIT) → length (path_from session h hs path) ≤ PATH_LIMIT
     open-short shallow = shallow (path_from session h hs path) open-facts.there
 
     pub open-done : (moment : ℕ) (table : Table) (text : List ℕ) → path_of text ≡ path_from session h hs path → added table mask text →
@@ -175,7 +178,7 @@ module _ (n : ℕ) (store : Store) (session : ℕ) (ready : IsReady n store) whe
     pub create-path : is_path path ≡ true
     create-path = let b = both_false (not (is_path path)) _ create-facts.good in not_false (is_path path) b.0
 
-    pub create-room : handles_of session hs < 16384
+    pub create-room : handles_of session hs < HANDLES_LIMIT
     create-room = room-few create-facts.room
 
     -- of any way in which the handle leads to a key
@@ -183,9 +186,9 @@ module _ (n : ℕ) (store : Store) (session : ℕ) (ready : IsReady n store) whe
       pub create-few : are_too_many tree t.path (path_of path) ≡ false
       create-few = subst (λ (p : Path). are_too_many tree p (path_of path) ≡ false) (target-at store session h t) create-facts.few
 
-      pub create-short : ((q : Path) → Has tree q → length q ≤ 512) → length (path_from session h hs path) ≤ 512
+      pub create-short : ((q : Path) → Has tree q → length q ≤ PATH_LIMIT) → length (path_from session h hs path) ≤ PATH_LIMIT
       create-short shallow =
-          subst (λ (p : Path). length p ≤ 512) (sym (target-from store session h t path)) (path-short tree t.path (path_of path) shallow (target-has store session h t ready.stand) create-few)
+          subst (λ (p : Path). length p ≤ PATH_LIMIT) (sym (target-from store session h t path)) (path-short tree t.path (path_of path) shallow (target-has store session h t ready.stand) create-few)
 
       pub create-done : (moment : ℕ) (keys : Keys) (table : Table) (text : List ℕ) → path_of text ≡ path_from session h hs path →
           keys.tree ≡ with_keys tree t.path (path_of path) moment → added table mask text → (told : ChangeReply) →
@@ -210,11 +213,11 @@ module _ (n : ℕ) (store : Store) (session : ℕ) (ready : IsReady n store) whe
     pub set-name : is_value_name name ≡ true
     set-name = let b = both_false (not (is_value_name name)) _ set-facts.good in not_false (is_value_name name) b.0
 
-    pub set-bytes : length bytes ≤ 1048576
-    set-bytes = let b = both_false (not (is_value_name name)) (nat_lt 1048576 (length bytes)) set-facts.good in not_above 1048576 (length bytes) b.1
+    pub set-bytes : length bytes ≤ DATA_LIMIT
+    set-bytes = let b = both_false (not (is_value_name name)) (nat_lt DATA_LIMIT (length bytes)) set-facts.good in not_above DATA_LIMIT (length bytes) b.1
 
     module _ (t : IsTarget store session h) where
-      pub set-room : 16384 ≤ length (values_at tree t.path) → value_named name (values_at tree t.path) ≡ None → ⊥
+      pub set-room : VALUES_LIMIT ≤ length (values_at tree t.path) → value_named name (values_at tree t.path) ≡ None → ⊥
       set-room many none =
           let room : no_value_room name (values_at tree t.path) ≡ false = subst (λ (p : Path). no_value_room name (values_at tree p) ≡ false) (target-at store session h t) set-facts.few in
           let lacks : is_some (value_named name (values_at tree t.path)) ≡ false = ap is_some none in

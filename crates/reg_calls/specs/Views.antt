@@ -3,6 +3,8 @@ use Rattle.std.specs.Prelude.{◌≡◌, ℕ, ◌+◌, ◌≤◌, List, [], ◌�
 use Rattle.std.specs.FinMap.{get}
 use Rattle.std.specs.Coded.{Coded, code_by, coded×, coded_list}
 use Rattle.reg_heap.specs.Paths.{Tree, coded_tree}
+use Rattle.reg_model.specs.declared.statuses.TheConstants.{NOT_ENOUGH_MEMORY, NO_SYSTEM_RESOURCES}
+use Rattle.reg_model.specs.declared.limits.TheConstants.{JOURNAL_LIMIT}
 use Rattle.reg_model.specs.Worlds.{Handle}
 use Rattle.reg_model.specs.Causes.{State, query_cause}
 use Rattle.reg_model.specs.Replies.{reply_to, refusal, body_of}
@@ -44,7 +46,7 @@ pub record IsKept (origin : Tree) (journal : List Entry) (store : Store) (room :
   pub rooted : IsSome (get origin [])
   pub tree_is : store.tree.tree ≡ (replay origin journal).tree
   pub handles_are : store.handles.handles ≡ (replay origin journal).handles
-  pub small : length journal + length store.handles.handles ≤ 16777216
+  pub small : length journal + length store.handles.handles ≤ JOURNAL_LIMIT
   pub room_kept : length store.handles.handles ≤ room
 
 -- the entry of an accepted change
@@ -65,12 +67,12 @@ pub record IsAccepted (old new : View) (session moment : ℕ) (change : Change) 
 
 -- the status that tells a lack: 1450 for space, 8 for memory
 abbrev pub status_of : Lack → ℕ
-status_of Space = 1450
-status_of Memory = 8
+status_of Space = NO_SYSTEM_RESOURCES
+status_of Memory = NOT_ENOUGH_MEMORY
 
 -- an acceptable change isn't made, for want of memory (never a Close) or of space in the bins, and nothing changed
 pub record Lacks (old new : View) (change : Change) (reply : ChangeReply) : Type 0 where
-  pub why : ((reply ≡ refusal 8) × (is_closing change ≡ false)) ⊎ ((reply ≡ refusal 1450) × LacksSpace old.keys change)
+  pub why : ((reply ≡ refusal NOT_ENOUGH_MEMORY) × (is_closing change ≡ false)) ⊎ ((reply ≡ refusal NO_SYSTEM_RESOURCES) × LacksSpace old.keys change)
   pub same : new ≡ old
 
 -- what a change may be answered, by the cause of its refusal
@@ -93,7 +95,7 @@ is_told None body = body
 
 -- what is told in the place of an answer that is due: that answer, or 8 where it holds a name or bytes
 abbrev pub IsTold : AnswerBody → AnswerBody → Type 0
-IsTold due body = (body ≡ due) ⊎ ((body ≡ Refused 8) × HoldsBytes due)
+IsTold due body = (body ≡ due) ⊎ ((body ≡ Refused NOT_ENOUGH_MEMORY) × HoldsBytes due)
 
 -- what a question may be answered: the refusal, or the answer due, or 8 in its place
 abbrev pub IsRead : State → ℕ → Query → AnswerBody → Type 0

@@ -5,16 +5,20 @@ ghost use Rattle.reg_names.specs.Names.{is_path, path_of};
 ghost use Rattle.reg_heap.specs.Paths.{Path};
 ghost use Rattle.reg_heap.specs.Members.{value_named};
 ghost use Rattle.reg_heap.specs.Edits.{values_at, folded_path, may_not_go as may_not_go_of};
+ghost use Rattle.reg_model.specs.declared.limits.TheConstants.{SESSIONS_LIMIT};
 ghost use Rattle.reg_model.specs.Causes.{change_cause, is_full as is_full_of, no_handle_room, no_value_room, is_bad_value as is_bad_value_of};
 ghost use Rattle.reg_model.specs.Causes.{is_bad_open as is_bad_open_of, is_bad_target as is_bad_target_of};
 ghost use Rattle.reg_tree.specs.TreeKeys.{IsAt, IsThere};
 ghost use Rattle.reg_calls.specs.Internal.Stores.{at, IsReady};
 
-use crate::statuses::{
-    ACCESS_DENIED, FILE_NOT_FOUND, HANDLES_LIMIT, INVALID_HANDLE, INVALID_PARAMETER, JOURNAL_LIMIT,
-    NO_DELETE, NO_RIGHTS, NO_SYSTEM_RESOURCES, SET_VALUE, VALUE_LIMIT, VALUES_LIMIT,
-};
 use crate::store::Store;
+use reg_heap::limits::{DATA_LIMIT, VALUES_LIMIT};
+use reg_heap::marks::NO_DELETE;
+use reg_model::limits::{HANDLES_LIMIT, JOURNAL_LIMIT};
+use reg_model::rights::{NO_RIGHTS, SET_VALUE};
+use reg_model::statuses::{
+    ACCESS_DENIED, FILE_NOT_FOUND, INVALID_HANDLE, INVALID_PARAMETER, NO_SYSTEM_RESOURCES,
+};
 use reg_model::{Bytes, Change};
 use reg_names::{check_path, check_value_name};
 use reg_tree::{Node, Tree};
@@ -22,7 +26,7 @@ use reg_tree::{Node, Tree};
 fn is_bad_value(name: &[u8], bytes: &[u8]) -> bool
     ensures { result ≡ is_bad_value_of name.now bytes.now }
 {
-    check_value_name(name).is_err() || bytes.len() > VALUE_LIMIT
+    check_value_name(name).is_err() || bytes.len() > DATA_LIMIT
 }
 
 fn is_bad_open(path: &[u8], mask: u32) -> bool
@@ -66,7 +70,7 @@ impl Store {
 
     /// Whether the journal has no room for one more entry beside the closings of the open handles.
     fn is_full(&self, entries: usize) -> bool
-        requires { entries + length self.now.handles.handles ≤ 16777216 }
+        requires { entries + length self.now.handles.handles ≤ JOURNAL_LIMIT }
         ensures { result ≡ is_full_of 1 (at entries self.now) }
     {
         entries + 1 + self.handles.len() > JOURNAL_LIMIT
@@ -75,8 +79,8 @@ impl Store {
     /// Whether the session has as many handles as there may be, or the journal has no room for an entry and the closing of
     /// the handle that it opens.
     fn has_no_handle_room(&self, entries: usize, session: u8) -> bool
-        requires session { session < 64 }
-        requires small { entries + length self.now.handles.handles ≤ 16777216 }
+        requires session { session < SESSIONS_LIMIT }
+        requires small { entries + length self.now.handles.handles ≤ JOURNAL_LIMIT }
         ensures { result ≡ no_handle_room session (at entries self.now) }
     {
         self.handles.count(session) >= HANDLES_LIMIT
@@ -84,7 +88,7 @@ impl Store {
     }
 
     fn open_root_cause(&self, entries: usize, session: u8, mask: u32) -> Option<u32>
-        requires session { session < 64 }
+        requires session { session < SESSIONS_LIMIT }
         requires ready { IsReady entries self.now }
         ensures { result ≡ change_cause (at entries self.now) session (OpenRoot mask) 0 }
     {
@@ -105,7 +109,7 @@ impl Store {
         path: &[u8],
         mask: u32,
     ) -> Option<u32>
-        requires session { session < 64 }
+        requires session { session < SESSIONS_LIMIT }
         requires ready { IsReady entries self.now }
         ensures { result ≡ change_cause (at entries self.now) session (OpenKey handle path.now mask) 0 }
     {
@@ -133,7 +137,7 @@ impl Store {
         path: &[u8],
         mask: u32,
     ) -> Option<u32>
-        requires session { session < 64 }
+        requires session { session < SESSIONS_LIMIT }
         requires ready { IsReady entries self.now }
         ensures { result ≡ change_cause (at entries self.now) session (CreateKey handle path.now mask) 0 }
     {
@@ -243,7 +247,7 @@ impl Store {
 
     /// Why a change would be refused after so many entries.
     pub fn cause(&self, entries: usize, session: u8, change: &Change) -> Option<u32>
-        requires session { session < 64 }
+        requires session { session < SESSIONS_LIMIT }
         requires ready { IsReady entries self.now }
         ensures { result ≡ change_cause (at entries self.now) session change.now 0 }
     {

@@ -1,5 +1,6 @@
 //! The changes of the tree and the handles that accepted calls make.
 ghost use Rattle.std.specs.Prelude.{ℕ, ◌≡◌, ◌⊎◌, ◌<◌, Some, None, Ok, if◌then◌else◌};
+ghost use Rattle.reg_model.specs.declared.limits.TheConstants.{SESSIONS_LIMIT};
 ghost use Rattle.reg_model.specs.Causes.{change_cause};
 ghost use Rattle.reg_calls.specs.Internal.Stores.{at, IsReady, IsMade};
 
@@ -63,7 +64,7 @@ impl Store {
         number: u64,
         mask: u32,
     ) -> Result<ChangeReply, Lack>
-        requires session { session < 64 }
+        requires session { session < SESSIONS_LIMIT }
         requires ready { IsReady number self.old }
         requires cause { change_cause (at number self.old) session (OpenRoot mask) 0 ≡ None }
         ensures { (moment : ℕ) → IsMade self.old self.new session moment number (OpenRoot mask) result }
@@ -83,7 +84,7 @@ impl Store {
         path: &[u8],
         mask: u32,
     ) -> Result<ChangeReply, Lack>
-        requires session { session < 64 }
+        requires session { session < SESSIONS_LIMIT }
         requires ready { IsReady number self.old }
         requires cause { change_cause (at number self.old) session (OpenKey handle path.now mask) 0 ≡ None }
         ensures { (moment : ℕ) → IsMade self.old self.new session moment number (OpenKey handle path.now mask) result }
@@ -109,7 +110,7 @@ impl Store {
         path: &[u8],
         mask: u32,
     ) -> Result<ChangeReply, Lack>
-        requires session { session < 64 }
+        requires session { session < SESSIONS_LIMIT }
         requires ready { IsReady number self.old }
         requires cause { change_cause (at number self.old) session (CreateKey handle path.now mask) 0 ≡ None }
         ensures { IsMade self.old self.new session moment number (CreateKey handle path.now mask) result }
@@ -233,7 +234,7 @@ impl Store {
         number: u64,
         change: &Change,
     ) -> Result<ChangeReply, Lack>
-        requires session { session < 64 }
+        requires session { session < SESSIONS_LIMIT }
         requires ready { IsReady number self.old }
         requires cause { change_cause (at number self.old) session change.now 0 ≡ None }
         ensures { IsMade self.old self.new session moment number change.now result }

@@ -1,6 +1,7 @@
 ghost use Rattle.std.specs.Prelude.{◌≡◌, ◌<◌, ◌≤◌, ◌↔◌, ◌⊎◌, ◌+◌, [], true, false, length, slice_get, option_copied, vec_len, IfOk, OnErr, IsErrOf, All};
 ghost use Rattle.std.specs.FinMap.{insert, empty};
 ghost use Rattle.reg_names.specs.Names.{is_key_name};
+ghost use Rattle.reg_model.specs.declared.limits.TheConstants.{SESSIONS_LIMIT};
 ghost use Rattle.reg_arena.specs.Cells.{cell_at};
 ghost use Rattle.reg_model.specs.Causes.{change_cause};
 ghost use Rattle.reg_model.specs.Histories.{IsLegal, replay};
@@ -9,14 +10,12 @@ ghost use Rattle.reg_calls.specs.Views.{state, IsApplied, IsRead};
 
 use crate::hive_core::Core;
 use reg_arena::Arena;
+use reg_heap::limits::DESCRIPTOR_LIMIT;
 use reg_model::{Answer, Call, Change, ChangeReply, Entry, Outcome, Query, Step};
 use reg_names::check_key_name;
 use reg_tree::Tree;
 use std::alloc::{AllocError, Global};
 use thiserror::Error;
-
-/// The largest security descriptor, in bytes.
-const DESCRIPTOR_LIMIT: usize = 65_535;
 
 /// Why a hive wasn't made; the first that holds.
 #[derive(Clone, Copy, Debug, PartialEq, Eq, Error)]
@@ -61,7 +60,7 @@ impl Hive {
         ensures origin { IfOk result (λ h. (view_of h).origin ≡ insert empty [] (made_root root_name.now descriptor.now moment)) }
         ensures journal { IfOk result (λ h. (view_of h).journal ≡ []) }
         ensures name { IsErrOf result NewFault.Name ↔ (is_key_name root_name.now ≡ false) }
-        ensures descriptor { IsErrOf result NewFault.Descriptor ↔ ((is_key_name root_name.now ≡ true) × ((length descriptor.now ≡ 0) ⊎ (65535 < length descriptor.now))) }
+        ensures descriptor { IsErrOf result NewFault.Descriptor ↔ ((is_key_name root_name.now ≡ true) × ((length descriptor.now ≡ 0) ⊎ (DESCRIPTOR_LIMIT < length descriptor.now))) }
     {
         if check_key_name(root_name).is_err() {
             return Err(NewFault::Name);
@@ -113,7 +112,7 @@ impl Hive {
     /// journal's next entry; after a refusal the hive is as before. 8 and 1450 for space come only in place of an
     /// acceptance.
     pub fn apply(&mut self, session: u8, moment: u64, change: Change) -> ChangeReply
-        requires { session < 64 }
+        requires { session < SESSIONS_LIMIT }
         ensures { IsApplied (change_cause (state (view_of self.old)) session change 0) (view_of self.old) (view_of self.new) session moment change result }
     {
         self.core.apply(session, moment, change)
@@ -121,7 +120,7 @@ impl Hive {
 
     /// Answers a question of a session, below 64. 8 comes only in place of an answer that holds a name or bytes.
     pub fn read(&self, session: u8, query: &Query) -> Answer
-        requires { session < 64 }
+        requires { session < SESSIONS_LIMIT }
         ensures at { result.at ≡ length (view_of self.now).journal }
         ensures body { IsRead (state (view_of self.now)) session query.now result.body }
     {
@@ -129,7 +128,7 @@ impl Hive {
     }
 
     fn answer(&mut self, step: Step) -> Outcome
-        requires { step.session < 64 }
+        requires { step.session < SESSIONS_LIMIT }
         ensures { IsStep (view_of self.old) step result (view_of self.new) }
     {
         let Step {
@@ -145,7 +144,7 @@ impl Hive {
 
     /// Answers calls in order. The only fault comes before the first of them.
     pub fn run(&mut self, alloc: Global, steps: Vec<Step>) -> Result<Vec<Outcome>, RunFault>
-        requires { All (λ s. s.session < 64) steps.items }
+        requires { All (λ s. s.session < SESSIONS_LIMIT) steps.items }
         ensures ok { IfOk result (λ outcomes. Run (view_of self.old) steps.items outcomes.items (view_of self.new)) }
         ensures err { OnErr result (self.new ≡ self.old) }
     {

@@ -1,6 +1,7 @@
 //! A hive without its callbacks.
 ghost use Rattle.std.specs.Prelude.{◌≡◌, ◌<◌, ◌≤◌, [], Some, None, IsSome, length, slice_get, option_copied, ◌+◌, false, OnOk, OnErr};
 ghost use Rattle.std.specs.FinMap.{get};
+ghost use Rattle.reg_model.specs.declared.limits.TheConstants.{JOURNAL_LIMIT, SESSIONS_LIMIT};
 ghost use Rattle.reg_model.specs.Causes.{change_cause};
 ghost use Rattle.reg_model.specs.Replies.{refusal};
 ghost use Rattle.reg_tree.specs.TreeKeys.{IsWholeTree};
@@ -8,10 +9,10 @@ ghost use Rattle.reg_calls.specs.Internal.Stores.{is_closing};
 ghost use Rattle.reg_calls.specs.Views.{state, IsApplied, IsRead};
 
 use crate::journal::Journal;
-use crate::statuses::NOT_ENOUGH_MEMORY;
 use crate::store::Store;
 use reg_arena::Arena;
 use reg_handles::Handles;
+use reg_model::statuses::NOT_ENOUGH_MEMORY;
 use reg_model::{Answer, Change, ChangeReply, Entry, Query};
 use reg_tree::Tree;
 use std::alloc::{AllocError, Global};
@@ -67,7 +68,7 @@ fn closes(change: &Change) -> bool
 
 /// Keeps room in the journal for a change's entry, and for the closing of each handle that is open then.
 fn keep_room(journal: &mut Journal, handles: usize, change: &Change) -> Result<(), AllocError>
-    requires { handles ≤ 16777216 }
+    requires { handles ≤ JOURNAL_LIMIT }
     ensures entries { journal.new.entries ≡ journal.old.entries }
     ensures room { journal.old.room ≤ journal.new.room }
     ensures ok { OnOk result (is_closing change.now ≡ false → handles + 2 ≤ journal.new.room) }
@@ -132,7 +133,7 @@ impl Core {
 
     /// Makes a change that nothing refuses, as the journal's next entry.
     fn accept(&mut self, session: u8, moment: u64, change: Change) -> ChangeReply
-        requires session { session < 64 }
+        requires session { session < SESSIONS_LIMIT }
         requires cause { change_cause (state self.old) session change 0 ≡ None }
         ensures { IsApplied None self.old self.new session moment change result }
     {
@@ -162,7 +163,7 @@ impl Core {
 
     /// Answers a change.
     pub fn apply(&mut self, session: u8, moment: u64, change: Change) -> ChangeReply
-        requires { session < 64 }
+        requires { session < SESSIONS_LIMIT }
         ensures { IsApplied (change_cause (state self.old) session change 0) self.old self.new session moment change result }
     {
         match self.store.cause(self.journal.len(), session, &change) {

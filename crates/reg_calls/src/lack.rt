@@ -1,7 +1,7 @@
 ghost use Rattle.std.specs.Prelude.{◌≡◌};
 ghost use Rattle.reg_calls.specs.Views.{status_of};
 
-use crate::statuses::{NO_SYSTEM_RESOURCES, NOT_ENOUGH_MEMORY};
+use reg_model::statuses::{NO_SYSTEM_RESOURCES, NOT_ENOUGH_MEMORY};
 
 /// Why an acceptable change isn't made.
 #[derive(Clone, Copy)]

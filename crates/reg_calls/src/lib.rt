@@ -29,7 +29,6 @@ mod hive_core;
 mod journal;
 mod lack;
 mod queries;
-mod statuses;
 mod store;
 
 pub use hive::{Hive, NewFault, RunFault};

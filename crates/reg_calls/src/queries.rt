@@ -8,11 +8,11 @@ ghost use Rattle.reg_tree.specs.TreeKeys.{IsAt, IsThere};
 ghost use Rattle.reg_calls.specs.Internal.Stores.{at, AreStanding};
 ghost use Rattle.reg_calls.specs.Views.{IsRead, IsTold};
 
-use crate::statuses::{
-    ACCESS_DENIED, ENUMERATE_SUB_KEYS, FILE_NOT_FOUND, INVALID_PARAMETER, MORE_DATA, NO_MORE_ITEMS,
-    NOT_ENOUGH_MEMORY, QUERY_VALUE,
-};
 use crate::store::Store;
+use reg_model::rights::{ENUMERATE_SUB_KEYS, QUERY_VALUE};
+use reg_model::statuses::{
+    ACCESS_DENIED, FILE_NOT_FOUND, INVALID_PARAMETER, MORE_DATA, NO_MORE_ITEMS, NOT_ENOUGH_MEMORY,
+};
 use reg_model::{AnswerBody, Bytes, Query};
 use reg_names::check_value_name;
 use reg_tree::{Node, Tree, ValueFound};

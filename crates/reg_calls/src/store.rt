@@ -1,12 +1,13 @@
 //! The keys of a hive and the open handles on them: what calls look up.
 ghost use Rattle.std.specs.Prelude.{◌≡◌, ◌≤◌, ◌+◌, ◌++◌, true, false, length, map, not, is_some, IfOk};
 ghost use Rattle.std.specs.FinMap.{get};
+ghost use Rattle.reg_names.specs.declared.TheConstants.{PATH_LIMIT};
 ghost use Rattle.reg_names.specs.Names.{is_path, path_of, folded};
 ghost use Rattle.reg_model.specs.Worlds.{path_from};
 ghost use Rattle.reg_calls.specs.Internal.Stores.{IsReady, IsLooked, IsTarget, AreStanding};
 
-use crate::statuses::{INVALID_HANDLE, KEY_DELETED};
 use reg_handles::{Found, Handles};
+use reg_model::statuses::{INVALID_HANDLE, KEY_DELETED};
 use reg_names::join_paths;
 use reg_tree::{Node, Tree};
 use std::alloc::{AllocError, Global};
@@ -61,7 +62,7 @@ impl Store {
         requires target { IsTarget self.now session handle }
         requires path { is_path path.now ≡ true }
         ensures names { IfOk result (λ text. path_of text.items ≡ path_from session handle self.now.handles.handles path.now) }
-        ensures valid { length (path_from session handle self.now.handles.handles path.now) ≤ 512 → IfOk result (λ text. is_path text.items ≡ true) }
+        ensures valid { length (path_from session handle self.now.handles.handles path.now) ≤ PATH_LIMIT → IfOk result (λ text. is_path text.items ≡ true) }
         ensures folded { IfOk result (λ text. map folded (path_of text.items) ≡ path_of text.items) }
     {
         match self.handles.look(session, handle) {

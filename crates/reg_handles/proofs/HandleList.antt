@@ -13,6 +13,7 @@ use Rattle.std.proofs.lemmas.List.Elements.{recursion_from_All, All-from_recursi
 use Rattle.std.proofs.lemmas.Map.Keys.{sorted_head, sorted_tail}
 use Rattle.std.proofs.lemmas.List.{get_or-replicate}
 use Rattle.std.proofs.lemmas.List.Sums.{sum_by-append, sum_by-cons}
+use Rattle.reg_model.specs.declared.limits.TheConstants.{SESSIONS_LIMIT}
 use Rattle.slab.specs.Slab.{Slab, get}
 use Rattle.reg_model.specs.Worlds.{Handle, numbered, closed}
 use Rattle.reg_model.specs.Causes.{handles_of as count_of}
@@ -140,10 +141,10 @@ count_push : (session : ℕ) (hs : List Handle) (h : Handle) → count_of sessio
 count_push session hs h = sum_by-append (λ (x : Handle). cond (x.session == session) 1 0) hs (h ∷ []) ∙ ap (λ n. count_of session hs + n) (zero-add (cond (h.session == session) 1 0))
 
 -- the counts after the session of a new handle was counted once more
-pub counts_push : (counts : List ℕ) (hs : List Handle) (h : Handle) → length counts ≡ 64 → AreCounts counts hs → AreCounts (set counts h.session (get_or counts h.session 0 + 1)) (hs ++ h ∷ [])
+pub counts_push : (counts : List ℕ) (hs : List Handle) (h : Handle) → length counts ≡ SESSIONS_LIMIT → AreCounts counts hs → AreCounts (set counts h.session (get_or counts h.session 0 + 1)) (hs ++ h ∷ [])
 counts_push counts hs h long are = λ session small. by session small (h.session == session) refl
   where
-    by : (session : ℕ) → session < 64 → (b : Bool) → (h.session == session) ≡ b → get_or (set counts h.session (get_or counts h.session 0 + 1)) session 0 ≡ count_of session (hs ++ h ∷ [])
+    by : (session : ℕ) → session < SESSIONS_LIMIT → (b : Bool) → (h.session == session) ≡ b → get_or (set counts h.session (get_or counts h.session 0 + 1)) session 0 ≡ count_of session (hs ++ h ∷ [])
     by session small true e =
         let same : h.session ≡ session = eq_of h.session session e in
         let within : session < length counts = omega (arith, long) in
@@ -152,15 +153,15 @@ counts_push counts hs h long are = λ session small. by session small (h.session
         let other : session ≢ h.session = grind (arith, nat_tests) in
         rw (count_push session hs h, e, get_or-set_other counts h.session session (get_or counts h.session 0 + 1) 0 other, are session small) (sym (add-zero (count_of session hs)))
 
-pub counts_none : AreCounts (replicate 64 0) []
-counts_none = λ session small. get_or-replicate 64 session 0 0 small
+pub counts_none : AreCounts (replicate SESSIONS_LIMIT 0) []
+counts_none = λ session small. get_or-replicate SESSIONS_LIMIT session 0 0 small
 
 -- the counts after the session of a row taken out was counted once less
-pub counts_taken : (counts : List ℕ) (s : Slab OpenKey) (k : ℕ) (es : List (ℕ × Row)) (row : Row) → length counts ≡ 64 → AreCounts counts (handles_of s es) → lookup (is_at (nat_cmp k)) es ≡ Some row
+pub counts_taken : (counts : List ℕ) (s : Slab OpenKey) (k : ℕ) (es : List (ℕ × Row)) (row : Row) → length counts ≡ SESSIONS_LIMIT → AreCounts counts (handles_of s es) → lookup (is_at (nat_cmp k)) es ≡ Some row
     → AreCounts (set counts row.session (get_or counts row.session 0 - 1)) (handles_of s (remove_entry (is_at (nat_cmp k)) es))
 counts_taken counts s k es row long are found = λ session small. by session small (row.session == session) refl (count_taken s session k es row found)
   where
-    by : (session : ℕ) → session < 64 → (b : Bool) → (row.session == session) ≡ b
+    by : (session : ℕ) → session < SESSIONS_LIMIT → (b : Bool) → (row.session == session) ≡ b
         → count_of session (handles_of s (remove_entry (is_at (nat_cmp k)) es)) + cond (row.session == session) 1 0 ≡ count_of session (handles_of s es)
         → get_or (set counts row.session (get_or counts row.session 0 - 1)) session 0 ≡ count_of session (handles_of s (remove_entry (is_at (nat_cmp k)) es))
     by session small true e whole =

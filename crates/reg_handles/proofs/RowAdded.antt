@@ -7,6 +7,7 @@ use Rattle.std.proofs.lemmas.Bool.Decides.{nat_tests}
 use Rattle.std.proofs.lemmas.List.Elements.{All-push}
 use Rattle.slab.specs.Slab.{Slab, get}
 use Rattle.reg_names.specs.Names.{path_of}
+use Rattle.reg_model.specs.declared.limits.TheConstants.{SESSIONS_LIMIT}
 use Rattle.reg_model.specs.Worlds.{At}
 use Rattle.reg_handles.specs.HandleTables.{IsFoldedPath}
 use Rattle.reg_handles.specs.Internal.OpenKeySlab.{rows_of, place_of, IsOpenAt, IsHeld}
@@ -75,7 +76,7 @@ module _ (s s' : Slab OpenKey) (paths paths' : List ℕ → Option ℕ) (es : Li
       by q apart is false e = held.paths text ∙ cond-false _ _ _ e ∙ table.listed text q is
 
   -- the table with the row behind all others, as the call names the rows
-  pub added_table : (es' : List (ℕ × Row)) → es' ≡ es ++ (number, row) ∷ [] → length counts ≡ 64 → row.session < 64 → IsFoldedPath path →
+  pub added_table : (es' : List (ℕ × Row)) → es' ≡ es ++ (number, row) ∷ [] → length counts ≡ SESSIONS_LIMIT → row.session < SESSIONS_LIMIT → IsFoldedPath path →
       IsTable s' paths' es' (set counts row.session (get_or counts row.session 0 + 1))
   added_table es' are long session folded =
       subst (λ l. IsTable s' paths' l (set counts row.session (get_or counts row.session 0 + 1))) (sym are)
@@ -86,5 +87,5 @@ module _ (s s' : Slab OpenKey) (paths paths' : List ℕ → Option ℕ) (es : Li
         keys = added_keys folded;
         found = added_found;
         listed = added_listed;
-        fit = All-push (λ (e : ℕ × Row). e.1.session < 64) es (number, row) table.fit session;
+        fit = All-push (λ (e : ℕ × Row). e.1.session < SESSIONS_LIMIT) es (number, row) table.fit session;
       })

@@ -11,6 +11,7 @@ use Rattle.std.proofs.lemmas.Bool.{cond-true, cond-false, false≢true}
 use Rattle.std.proofs.lemmas.Bool.Decides.{nat_tests}
 use Rattle.std.proofs.lemmas.List.Elements.{recursion_from_All, All-from_recursion}
 use Rattle.std.proofs.lemmas.Map.Entries.{All-lookup}
+use Rattle.reg_model.specs.declared.limits.TheConstants.{SESSIONS_LIMIT}
 use Rattle.slab.specs.Slab.{Slab, get, Updates}
 use Rattle.reg_model.specs.Worlds.{closed}
 use Rattle.reg_model.specs.Causes.{handles_of as count_of}
@@ -61,17 +62,17 @@ freed_open (Some k) text e = by (k.rows == 1) k.is_deleted refl e
     by true true is e = absurd (false≢true e)
     by true false is e = ((bytes_decides k.path.items text).0 e, is)
 
-remove_fit : (test : ℕ → Bool) (es : List (ℕ × Row)) → AllByRecursion (λ (e : ℕ × Row). e.1.session < 64) es → AllByRecursion (λ (e : ℕ × Row). e.1.session < 64) (remove_entry test es)
+remove_fit : (test : ℕ → Bool) (es : List (ℕ × Row)) → AllByRecursion (λ (e : ℕ × Row). e.1.session < SESSIONS_LIMIT) es → AllByRecursion (λ (e : ℕ × Row). e.1.session < SESSIONS_LIMIT) (remove_entry test es)
 remove_fit test [] fit = tt
 remove_fit test (e ∷ es) fit = by (test e.0) refl (remove_fit test es fit.1)
   where
-    by : (b : Bool) → test e.0 ≡ b → AllByRecursion (λ (e : ℕ × Row). e.1.session < 64) (remove_entry test es) → AllByRecursion (λ (e : ℕ × Row). e.1.session < 64) (remove_entry test (e ∷ es))
+    by : (b : Bool) → test e.0 ≡ b → AllByRecursion (λ (e : ℕ × Row). e.1.session < SESSIONS_LIMIT) (remove_entry test es) → AllByRecursion (λ (e : ℕ × Row). e.1.session < SESSIONS_LIMIT) (remove_entry test (e ∷ es))
     by true is rest = rw is fit.1
     by false is rest = rw is (fit.0, rest)
 
-fit_found : (o : Option Row) (row : Row) → o ≡ Some row → IfSome o (λ r. r.session < 64) → row.session < 64
+fit_found : (o : Option Row) (row : Row) → o ≡ Some row → IfSome o (λ r. r.session < SESSIONS_LIMIT) → row.session < SESSIONS_LIMIT
 fit_found None row e fit = absurd (cc)
-fit_found (Some r) row e fit = let same : r ≡ row = cc in subst (λ (x : Row). x.session < 64) same fit
+fit_found (Some r) row e fit = let same : r ≡ row = cc in subst (λ (x : Row). x.session < SESSIONS_LIMIT) same fit
 
 module _ (s : Slab OpenKey) (paths : List ℕ → Option ℕ) (es : List (ℕ × Row)) (counts : List ℕ) (number : ℕ) (row : Row)
     (table : IsTable s paths es counts) (found : lookup (is_at (nat_cmp number)) es ≡ Some row) where
@@ -83,8 +84,8 @@ module _ (s : Slab OpenKey) (paths : List ℕ → Option ℕ) (es : List (ℕ ×
   pub taken_rows : 0 < rows_of (get s row.key)
   taken_rows = let is : rows_of (get s row.key) ≡ times row.key es = rows_is _ _ (table.keys row.key) in let less = fewer in omega (arith, is, less)
 
-  pub taken_fit : row.session < 64
-  taken_fit = fit_found (lookup (is_at (nat_cmp number)) es) row found (All-lookup (λ (r : Row). r.session < 64) (is_at (nat_cmp number)) es table.fit)
+  pub taken_fit : row.session < SESSIONS_LIMIT
+  taken_fit = fit_found (lookup (is_at (nat_cmp number)) es) row found (All-lookup (λ (r : Row). r.session < SESSIONS_LIMIT) (is_at (nat_cmp number)) es table.fit)
 
   -- its session has a handle
   pub taken_session : 0 < get_or counts row.session 0
@@ -134,7 +135,7 @@ module _ (s : Slab OpenKey) (paths : List ℕ → Option ℕ) (es : List (ℕ ×
         there q apart is true e = absurd (apart (same_key q row.key (sym (table.listed text q is) ∙ table.listed text row.key (freed_open (get s row.key) text e))))
         there q apart is false e = freed text ∙ cond-false _ _ _ e ∙ table.listed text q is
 
-    taken_table : length counts ≡ 64 → IsTable s' paths' (remove_entry (is_at (nat_cmp number)) es) (set counts row.session (get_or counts row.session 0 - 1))
+    taken_table : length counts ≡ SESSIONS_LIMIT → IsTable s' paths' (remove_entry (is_at (nat_cmp number)) es) (set counts row.session (get_or counts row.session 0 - 1))
     taken_table long = record {
       counts = subst (AreCounts (set counts row.session (get_or counts row.session 0 - 1))) (sym taken_stays) (counts_taken counts s number es row long table.counts found);
       keys = at_each (λ q o. IsUsed o (times q (remove_entry (is_at (nat_cmp number)) es))) s s' row.key _ slots.changed slots.others
@@ -146,7 +147,7 @@ module _ (s : Slab OpenKey) (paths : List ℕ → Option ℕ) (es : List (ℕ ×
 
     -- the same of the rows and the session as the call names them
     pub taken_to : (es' : List (ℕ × Row)) (session : ℕ) → es' ≡ remove_entry (is_at (nat_cmp number)) es → row.session ≡ session →
-        length counts ≡ 64 → IsTable s' paths' es' (set counts session (get_or counts session 0 - 1))
+        length counts ≡ SESSIONS_LIMIT → IsTable s' paths' es' (set counts session (get_or counts session 0 - 1))
     taken_to es' session are own long =
         subst (λ l. IsTable s' paths' l (set counts session (get_or counts session 0 - 1))) (sym are)
         (subst (λ own. IsTable s' paths' (remove_entry (is_at (nat_cmp number)) es) (set counts own (get_or counts own 0 - 1))) own (taken_table long))

@@ -4,6 +4,7 @@ use Rattle.std.proofs.lemmas.Bool.Decides.{nat_tests}
 use Rattle.std.proofs.lemmas.List.Elements.{All-from_recursion}
 use Rattle.slab.specs.Slab.{Slab, get}
 use Rattle.reg_names.specs.Names.{path_of}
+use Rattle.reg_model.specs.declared.limits.TheConstants.{SESSIONS_LIMIT}
 use Rattle.reg_model.specs.Worlds.{At}
 use Rattle.reg_handles.specs.HandleTables.{IsFoldedPath}
 use Rattle.reg_handles.specs.Internal.OpenKeySlab.{rows_of, place_of, IsOpenAt}
@@ -36,7 +37,7 @@ open_place (Some k) text is = rw (is.1, is.0) refl
 
 -- ---- no rows
 
-pub none_table : (s : Slab OpenKey) (paths : List ℕ → Option ℕ) → ((key : ℕ) → get s key ≡ None) → ((text : List ℕ) → paths text ≡ None) → IsTable s paths [] (replicate 64 0)
+pub none_table : (s : Slab OpenKey) (paths : List ℕ → Option ℕ) → ((key : ℕ) → get s key ≡ None) → ((text : List ℕ) → paths text ≡ None) → IsTable s paths [] (replicate SESSIONS_LIMIT 0)
 none_table s paths none empty = record {
   counts = counts_none;
   keys = λ key. subst (λ o. IsUsed o 0) (sym (none key)) refl;

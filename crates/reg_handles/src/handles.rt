@@ -1,6 +1,7 @@
 //! The open handles by their numbers.
 ghost use Rattle.std.specs.Prelude.{◌≡◌, ◌<◌, ◌++◌, ◌∷◌, [], OnOk, OnErr, All, length, map, is_some, true};
 ghost use Rattle.reg_names.specs.Names.{folded as folded_name, path_of, is_path};
+ghost use Rattle.reg_model.specs.declared.limits.TheConstants.{HANDLES_LIMIT};
 ghost use Rattle.reg_model.specs.Worlds.{look, closed, turned, At};
 ghost use Rattle.reg_model.specs.Causes.{handles_of as count_of};
 ghost use Rattle.reg_handles.specs.FoundHandles.{shown, IfLeads};
@@ -8,6 +9,7 @@ ghost use Rattle.reg_handles.specs.HandleTables.{IsFoldedPath};
 
 use crate::keys::OpenKeys;
 use crate::rows::{Row, Rows};
+use reg_model::limits::SESSIONS_LIMIT;
 use std::alloc::{AllocError, Global};
 use std::marker::Model;
 
@@ -23,7 +25,7 @@ pub struct Found<'a> {
 pub struct Handles {
     rows: Rows,
     keys: OpenKeys,
-    counts: [u32; 64],
+    counts: [u32; SESSIONS_LIMIT],
 }
 
 impl Model for Handles {
@@ -50,7 +52,7 @@ impl Handles {
         Handles {
             rows: Rows::new(alloc),
             keys: OpenKeys::new(alloc),
-            counts: [0; 64],
+            counts: [0; SESSIONS_LIMIT],
         }
     }
 
@@ -63,7 +65,7 @@ impl Handles {
 
     /// How many handles the session has.
     pub fn count(&self, session: u8) -> u32
-        requires { session < 64 }
+        requires { session < SESSIONS_LIMIT }
         ensures { result ≡ count_of session self.now.handles }
     {
         self.counts[session as usize]
@@ -92,8 +94,8 @@ impl Handles {
         path: Vec<u8>,
     ) -> Result<(), AllocError>
         requires above { All (λ h. h.number < number) self.old.handles }
-        requires session { session < 64 }
-        requires room { count_of session self.old.handles < 16384 }
+        requires session { session < SESSIONS_LIMIT }
+        requires room { count_of session self.old.handles < HANDLES_LIMIT }
         requires path { is_path path.items ≡ true }
         requires folded { map folded_name (path_of path.items) ≡ path_of path.items }
         ensures ok { OnOk result (self.new.handles ≡ self.old.handles ++ record { number = number; session = session; mask = mask; place = At (path_of path.items) } ∷ []) }

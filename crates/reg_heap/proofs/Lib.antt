@@ -1,3 +1,4 @@
 pub mod CellFrame
 pub mod ChildrenOfPath
 pub mod RowsOfTrees
+mod RowsOfLimits

@@ -2,7 +2,10 @@
 use Rattle.std.specs.Prelude.{◌≡◌, ◌⊎◌, ℕ, ◌+◌, ◌-◌, ◌==◌, ◌&&◌, ◌||◌, nat_lt, nat_le, not, Bool, false, List, [], ◌∷◌, ◌++◌, map, length, take, cond}
 use Rattle.std.specs.Prelude.{is_some, bit_and, Option, Some, None}
 use Rattle.std.specs.FinMap.{get, insert, remove}
+use Rattle.reg_names.specs.declared.TheConstants.{PATH_LIMIT}
 use Rattle.reg_names.specs.Names.{folded, path_of}
+use Rattle.reg_heap.specs.declared.limits.TheConstants.{MADE_LIMIT, SUBKEYS_LIMIT}
+use Rattle.reg_heap.specs.declared.marks.TheConstants.{NO_DELETE}
 use Rattle.reg_heap.specs.Paths.{Path, Tree, Rec, Member, children_of}
 use Rattle.reg_heap.specs.Members.{values_with, values_without}
 
@@ -78,8 +81,8 @@ last_there t p (name ∷ names) = cond (has_child t p name) (last_there t (child
 -- a key has index roots) a 501st key right below one
 abbrev pub are_too_many : Tree → Path → List (List ℕ) → Bool
 are_too_many t p names =
-    nat_lt 0 (length (missing t p names)) && (nat_lt 32 (length (missing t p names)) || nat_lt 512
-    (length p + length names) || nat_le 500 (length (children_of t (last_there t p names))))
+    nat_lt 0 (length (missing t p names)) && (nat_lt MADE_LIMIT (length (missing t p names)) || nat_lt PATH_LIMIT
+    (length p + length names) || nat_le SUBKEYS_LIMIT (length (children_of t (last_there t p names))))
 
 -- the path of the key above
 abbrev pub above : Path → Path
@@ -95,8 +98,8 @@ marks_of (Some r) = r.marks
 
 -- a key that may not be deleted: the root, or one with mark 0x08
 abbrev pub IsKept : Tree → Path → Type 0
-IsKept t p = (p ≡ []) ⊎ ((bit_and (marks_of (get t p)) 8 == 0) ≡ false)
+IsKept t p = (p ≡ []) ⊎ ((bit_and (marks_of (get t p)) NO_DELETE == 0) ≡ false)
 
 -- a key that has subkeys, or mark 0x08
 abbrev pub may_not_go : Tree → Path → Bool
-may_not_go t p = nat_lt 0 (length (children_of t p)) || not (bit_and (marks_of (get t p)) 8 == 0)
+may_not_go t p = nat_lt 0 (length (children_of t p)) || not (bit_and (marks_of (get t p)) NO_DELETE == 0)

@@ -1,5 +1,5 @@
-//! Words that the contracts of several crates cite: numbers in bytes, paths, trees of keys and their changes. No code, and so no
-//! contract.
+//! Words that the contracts of several crates cite: numbers in bytes, paths, trees of keys and their changes, and the limits of a
+//! hive. The constants are all of its code, and so it has no contract.
 //!
 //! Right in `specs/` stand the rules' words: `ByteWords`, `Paths`, `Members` (a key's values) and `Edits` (keys changed in a tree).
 //! `specs/Internal/` has those of the layers between cells and tree: `Heaps` (a store of cells, and what changes in it) and
@@ -7,3 +7,6 @@
 //!
 //! It stands on reg_names: values are found by folded names. Its main types are `Path`, `Tree`, `Rec`, `Member` and `Heap`.
 #![tactic(auto)]
+
+pub mod limits;
+pub mod marks;

@@ -7,6 +7,7 @@ use Rattle.std.specs.Cmp.Lexicographic.{slice_cmp}
 use Rattle.std.proofs.lemmas.List.{get_or-map, length-map, append-nil}
 use Rattle.std.proofs.lemmas.Option.{none-some, same_Some, option_and_then_some}
 use Rattle.reg_names.specs.Names.{folded}
+use Rattle.reg_heap.specs.declared.limits.TheConstants.{NONE}
 use Rattle.reg_heap.specs.Internal.Heaps.{Heap}
 use Rattle.reg_records.specs.declared.lists.ListForm.TheVariants.{IndexRoot, IndexLeaf, FastLeaf, HashLeaf}
 use Rattle.reg_records.specs.KeyNodes.{key_at}
@@ -123,7 +124,7 @@ pub subkeys-elsewhere : (old new : Heap) (count place : ℕ) (entries : List Ent
 subkeys-elsewhere old new count place entries s elsewhere stay = subkeys-stay old new count place entries s elsewhere stay
 
 -- a key without subkeys has no list
-pub without-subkeys : (heap : Heap) → AreSubkeys heap 0 4294967295 []
+pub without-subkeys : (heap : Heap) → AreSubkeys heap 0 NONE []
 unfolding subkeys_at
 without-subkeys heap = record { read = refl; few = omega arith; unlisted = λ e. refl; keys = tt; hashes = tt; rising = λ i j l m. absurd (omega arith) }
 

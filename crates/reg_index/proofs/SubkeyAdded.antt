@@ -7,6 +7,7 @@ use Rattle.std.proofs.lemmas.Option.{same_Some}
 use Rattle.std.proofs.lemmas.List.{take-map, drop-map, map-append, length-append, length-take-le, length-drop}
 use Rattle.reg_arena.proofs.Contents.CellWrites.{all-append}
 use Rattle.reg_names.specs.Names.{folded, hash}
+use Rattle.reg_heap.specs.declared.limits.TheConstants.{SUBKEYS_LIMIT}
 use Rattle.reg_heap.specs.Internal.Heaps.{Heap, Swaps, Writes}
 use Rattle.reg_heap.specs.Internal.Kinds.{times}
 use Rattle.reg_records.specs.KeyNodes.{key_at}
@@ -62,7 +63,7 @@ given-none heap (suc count) place fresh key entries s ready some =
 
 -- ---- the subkeys with one more
 
-module _ (old between new : Heap) (count place fresh at after index key : ℕ) (more : after ≡ count + 1) (few : count < 500)
+module _ (old between new : Heap) (count place fresh at after index key : ℕ) (more : after ≡ count + 1) (few : count < SUBKEYS_LIMIT)
     (some : IsSome (key_at old key)) (ready : IsReady old (insert_size old count place) fresh)
     (opened : Moves old between (own count place ++ taken (insert_size old count place) fresh) (at ∷ [])) (filled : Writes between new (at ∷ [])) where
   moved : Swaps old new (λ z. times z (own count place ++ taken (insert_size old count place) fresh)) (λ z. times z (at ∷ []))

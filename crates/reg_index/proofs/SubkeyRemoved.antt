@@ -4,6 +4,7 @@ use Rattle.std.specs.List.{AllByRecursion}
 use Rattle.std.proofs.lemmas.List.{take-map, drop-map, map-append, length-append, length-take-le, length-drop}
 use Rattle.reg_arena.proofs.Contents.CellWrites.{all-append}
 use Rattle.reg_names.specs.Names.{folded, hash}
+use Rattle.reg_heap.specs.declared.limits.TheConstants.{NONE}
 use Rattle.reg_heap.specs.Internal.Heaps.{Heap, Swaps, GivesUp, Writes}
 use Rattle.reg_heap.specs.Internal.Kinds.{times}
 use Rattle.reg_records.specs.KeyNodes.{key_at}
@@ -54,7 +55,7 @@ module _ (old new : Heap) (count place left after index : ℕ) (came : ℕ → �
       (subst (λ z. IsSome (key_at old z)) (sym same) some)) refl))
       s.keys
 
-  pub taken-out : subkeys_at new left after ≡ Some (without index entries) → (left ≡ 0 → after ≡ 4294967295) → AreSubkeys new left after (without index entries)
+  pub taken-out : subkeys_at new left after ≡ Some (without index entries) → (left ≡ 0 → after ≡ NONE) → AreSubkeys new left after (without index entries)
   taken-out read unlisted =
       let number = length-subkeys old count place entries s.read in
       subkeys-of new left after (without index entries) read (omega (arith, s.few, less)) unlisted
@@ -74,11 +75,11 @@ no-subkeys heap (suc count) place e = absurd (omega arith)
 
 -- the last one
 pub emptied : (old new : Heap) (count place left index : ℕ) → index < count → left + 1 ≡ count → left ≡ 0 → GivesUp old new (place ∷ []) →
-    (entries : List Entry) → AreSubkeys old count place entries → AreSubkeys new left 4294967295 (without index entries)
+    (entries : List Entry) → AreSubkeys old count place entries → AreSubkeys new left NONE (without index entries)
 emptied old new count place left index within less none gone entries s =
     let number = length-subkeys old count place entries s.read in
-    taken-out old new count place left 4294967295 index (λ z. 0) within less gone entries s
-    (no-subkeys new left 4294967295 none ∙ ap Some (sym (none-left index entries (omega arith) (omega (arith, number))))) (λ e. refl)
+    taken-out old new count place left NONE index (λ z. 0) within less gone entries s
+    (no-subkeys new left NONE none ∙ ap Some (sym (none-left index entries (omega arith) (omega (arith, number))))) (λ e. refl)
 
 pub emptied-moves : (old new : Heap) (place left after : ℕ) → left ≡ 0 → GivesUp old new (place ∷ []) → Moves old new (place ∷ []) (own left after)
 emptied-moves old new place zero after none gone = gone

@@ -6,6 +6,7 @@ use Rattle.std.specs.Option.{option_and_then}
 use Rattle.std.proofs.lemmas.Bool.{false≢true, eqb-true, ne_eqb, and_parts}
 use Rattle.std.proofs.lemmas.Option.{none-some, same_Some}
 use Rattle.reg_names.specs.Names.{folded, hash}
+use Rattle.reg_heap.specs.declared.limits.TheConstants.{NONE, SUBKEYS_LIMIT}
 use Rattle.reg_heap.specs.Internal.Heaps.{Heap, Swaps, allocated}
 use Rattle.reg_heap.specs.Internal.Kinds.{times}
 use Rattle.reg_records.specs.RecordCells.{held}
@@ -105,8 +106,8 @@ keys-stay old new entries k stay = record {
   rising = subst Rises (sym (names-stay old new entries stay)) k.rising;
 }
 
-pub subkeys-of : (heap : Heap) (count place : ℕ) (entries : List Entry) → subkeys_at heap count place ≡ Some entries → count ≤ 500 →
-    (count ≡ 0 → place ≡ 4294967295) → AreKeys heap entries → AreSubkeys heap count place entries
+pub subkeys-of : (heap : Heap) (count place : ℕ) (entries : List Entry) → subkeys_at heap count place ≡ Some entries → count ≤ SUBKEYS_LIMIT →
+    (count ≡ 0 → place ≡ NONE) → AreKeys heap entries → AreSubkeys heap count place entries
 subkeys-of heap count place entries read few unlisted k = record { read = read; few = few; unlisted = unlisted; keys = k.keys; hashes = k.hashes; rising = k.rising }
 
 -- ---- where a change is elsewhere

@@ -8,6 +8,7 @@ use Rattle.std.specs.Ordering.{nat_cmp}
 use Rattle.std.specs.declared.cmp.Ordering.TheVariants.{Less}
 use Rattle.std.specs.Cmp.Lexicographic.{slice_cmp}
 use Rattle.reg_names.specs.Names.{folded, hash}
+use Rattle.reg_heap.specs.declared.limits.TheConstants.{NONE, SUBKEYS_LIMIT}
 use Rattle.reg_heap.specs.Internal.Heaps.{Heap, Swaps}
 use Rattle.reg_heap.specs.Internal.Kinds.{times}
 use Rattle.reg_records.specs.declared.lists.ListForm.TheVariants.{IndexRoot, IndexLeaf, FastLeaf, HashLeaf}
@@ -48,8 +49,8 @@ Rises names = (i j : ℕ) → i < j → j < length names → slice_cmp nat_cmp (
 -- a key has these subkeys: at most 500, each a key with the hash of its name, rising; without subkeys there is no list
 pub record AreSubkeys (heap : Heap) (count place : ℕ) (entries : List Entry) : Type 0 where
   pub read : subkeys_at heap count place ≡ Some entries
-  pub few : count ≤ 500
-  pub unlisted : count ≡ 0 → place ≡ 4294967295
+  pub few : count ≤ SUBKEYS_LIMIT
+  pub unlisted : count ≡ 0 → place ≡ NONE
   pub keys : AllByRecursion (λ (e : Entry). IsSome (key_at heap e.place)) entries
   pub hashes : AllByRecursion (λ (e : Entry). e.hint ≡ hash (name_at heap e.place)) entries
   pub rising : Rises (names_in heap entries)

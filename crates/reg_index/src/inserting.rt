@@ -2,6 +2,7 @@
 
 ghost use Rattle.std.specs.Prelude.{◌≡◌, ◌+◌, ◌<◌, ◌≤◌, ◌++◌, ◌∷◌, [], List, Some, IsSome, Err, length};
 ghost use Rattle.reg_names.specs.Names.{folded, hash};
+ghost use Rattle.reg_heap.specs.declared.limits.TheConstants.{SUBKEYS_LIMIT};
 ghost use Rattle.reg_arena.specs.Cells.{cell_at};
 ghost use Rattle.reg_records.specs.KeyNodes.{key_at};
 ghost use Rattle.reg_records.specs.SubkeyLists.{Entry};
@@ -48,7 +49,7 @@ pub fn insert(
     key: u32,
 ) -> SubkeysIndex
     requires subkeys { (entries : List Entry) × AreSubkeys (cell_at arena.old.bytes) list.count list.place entries × IsPlace (names_in (cell_at arena.old.bytes) entries) (folded (name_at (cell_at arena.old.bytes) key)) (Err index) }
-    requires few { list.count < 500 }
+    requires few { list.count < SUBKEYS_LIMIT }
     requires key { IsSome (key_at (cell_at arena.old.bytes) key) }
     requires ready { IsReady (cell_at arena.old.bytes) (insert_size (cell_at arena.old.bytes) list.count list.place) fresh }
     ensures subkeys { (entries : List Entry) → AreSubkeys (cell_at arena.old.bytes) list.count list.place entries → AreSubkeys (cell_at arena.new.bytes) result.count result.place (with_one index (entry_for (cell_at arena.old.bytes) key) entries) }

@@ -22,9 +22,6 @@ pub use look::{at, find};
 pub use plan::plan_insert;
 pub use removing::remove;
 
-/// No cell.
-const NONE: u32 = 0xFFFF_FFFF;
-
 /// A key's list of subkeys, as its key node names it.
 #[derive(Clone, Copy, Debug, PartialEq, Eq)]
 pub struct SubkeysIndex {

@@ -5,9 +5,10 @@ ghost use Rattle.reg_arena.specs.Cells.{cell_at};
 ghost use Rattle.reg_records.specs.SubkeyLists.{Entry};
 ghost use Rattle.reg_index.specs.Subkeys.{AreSubkeys, Moves, own, without};
 
+use crate::SubkeysIndex;
 use crate::leaf::close;
-use crate::{NONE, SubkeysIndex};
 use reg_arena::Arena;
+use reg_heap::limits::NONE;
 
 /// Takes the key at an index out of the subkeys; the later ones close up in the list's cell. A list left empty is freed.
 /// Answers where the list is now.

@@ -4,6 +4,8 @@ use Rattle.std.specs.FinMap.{get}
 use Rattle.reg_heap.specs.Paths.{Path}
 use Rattle.reg_heap.specs.Edits.{values_at, may_not_go}
 use Rattle.reg_names.specs.Names.{is_value_name}
+use Rattle.reg_model.specs.declared.rights.TheConstants.{SET_VALUE}
+use Rattle.reg_model.specs.declared.statuses.TheConstants.{ACCESS_DENIED, FILE_NOT_FOUND, INVALID_HANDLE, INVALID_PARAMETER, NO_SYSTEM_RESOURCES}
 use Rattle.reg_model.specs.Worlds.{Handle, Place, At, Deleted, look, path_at, path_from}
 use Rattle.reg_model.specs.Causes.{State, change_cause, early_cause, late_cause, asked_before, refuse, by_handle, has, is_mask, is_full, is_bad_open, is_bad_target, is_bad_value}
 use Rattle.reg_model.specs.Causes.{no_handle_room, no_key_room, no_value_room, lacks_value, ◌or◌}
@@ -74,7 +76,7 @@ unfolding early_cause
 root-met s session mask c e =
     let none = causes s session (OpenRoot mask) c e in
     let early = neither _ _ none.first in
-    record { good = not_false _ (not_refused _ 87 early.0); room = not_refused _ 1450 early.1 }
+    record { good = not_false _ (not_refused _ INVALID_PARAMETER early.0); room = not_refused _ NO_SYSTEM_RESOURCES early.1 }
 
 pub record OpenMet (s : State) (session h : ℕ) (path : List ℕ) (mask : ℕ) : Type 0 where
   pub target : Target (look session h s.world.handles)
@@ -86,9 +88,9 @@ pub open-met : (s : State) (session h : ℕ) (path : List ℕ) (mask c : ℕ) �
 unfolding early_cause late_cause
 open-met s session h path mask c e =
     let none = causes s session (OpenKey h path mask) c e in
-    let m = meets (λ r. refuse (is_bad_open path mask) 87 or refuse (no_handle_room session s) 1450) (look session h s.world.handles) none.first in
+    let m = meets (λ r. refuse (is_bad_open path mask) INVALID_PARAMETER or refuse (no_handle_room session s) NO_SYSTEM_RESOURCES) (look session h s.world.handles) none.first in
     let early = neither _ _ m.none in
-    record { target = m.target; good = not_refused _ 87 early.0; room = not_refused _ 1450 early.1; there = not_false _ (not_refused _ 2 none.third) }
+    record { target = m.target; good = not_refused _ INVALID_PARAMETER early.0; room = not_refused _ NO_SYSTEM_RESOURCES early.1; there = not_false _ (not_refused _ FILE_NOT_FOUND none.third) }
 
 pub record CreateMet (s : State) (session h : ℕ) (path : List ℕ) (mask : ℕ) : Type 0 where
   pub target : Target (look session h s.world.handles)
@@ -100,15 +102,15 @@ pub create-met : (s : State) (session h : ℕ) (path : List ℕ) (mask c : ℕ) 
 unfolding early_cause late_cause
 create-met s session h path mask c e =
     let none = causes s session (CreateKey h path mask) c e in
-    let m = meets (λ r. refuse (is_bad_open path mask) 87 or refuse (no_handle_room session s || no_key_room s session h path) 1450) (look session h s.world.handles) none.first in
+    let m = meets (λ r. refuse (is_bad_open path mask) INVALID_PARAMETER or refuse (no_handle_room session s || no_key_room s session h path) NO_SYSTEM_RESOURCES) (look session h s.world.handles) none.first in
     let early = neither _ _ m.none in
-    let counts = both_false _ _ (not_refused _ 1450 early.1) in
-    record { target = m.target; good = not_refused _ 87 early.0; room = counts.0; few = counts.1 }
+    let counts = both_false _ _ (not_refused _ NO_SYSTEM_RESOURCES early.1) in
+    record { target = m.target; good = not_refused _ INVALID_PARAMETER early.0; room = counts.0; few = counts.1 }
 
 pub record SetMet (s : State) (session h : ℕ) (name bytes : List ℕ) : Type 0 where
   pub target : Target (look session h s.world.handles)
   pub good : is_bad_value name bytes ≡ false
-  pub right : has 2 target.handle.mask ≡ true
+  pub right : has SET_VALUE target.handle.mask ≡ true
   pub room : is_full 1 s ≡ false
   pub few : no_value_room name (values_at s.world.tree (path_at session h s.world.handles)) ≡ false
 
@@ -116,17 +118,17 @@ pub set-met : (s : State) (session h : ℕ) (name : List ℕ) (kind : ℕ) (byte
 unfolding early_cause late_cause
 set-met s session h name kind bytes c e =
     let none = causes s session (SetValue h name kind bytes) c e in
-    let m = meets (λ r. refuse (is_bad_value name bytes) 87 or refuse (not (has 2 r.mask)) 5 or refuse
-    (is_full 1 s || no_value_room name (values_at s.world.tree (path_at session h s.world.handles))) 1450)
+    let m = meets (λ r. refuse (is_bad_value name bytes) INVALID_PARAMETER or refuse (not (has SET_VALUE r.mask)) ACCESS_DENIED or refuse
+    (is_full 1 s || no_value_room name (values_at s.world.tree (path_at session h s.world.handles))) NO_SYSTEM_RESOURCES)
     (look session h s.world.handles) none.first in
     let early = all_none _ _ _ m.none in
-    let counts = both_false _ _ (not_refused _ 1450 early.third) in
-    record { target = m.target; good = not_refused _ 87 early.first; right = not_false _ (not_refused _ 5 early.second); room = counts.0; few = counts.1 }
+    let counts = both_false _ _ (not_refused _ NO_SYSTEM_RESOURCES early.third) in
+    record { target = m.target; good = not_refused _ INVALID_PARAMETER early.first; right = not_false _ (not_refused _ ACCESS_DENIED early.second); room = counts.0; few = counts.1 }
 
 pub record DropMet (s : State) (session h : ℕ) (name : List ℕ) : Type 0 where
   pub target : Target (look session h s.world.handles)
   pub good : is_value_name name ≡ true
-  pub right : has 2 target.handle.mask ≡ true
+  pub right : has SET_VALUE target.handle.mask ≡ true
   pub room : is_full 1 s ≡ false
   pub there : lacks_value s session h name ≡ false
 
@@ -134,14 +136,14 @@ pub drop-met : (s : State) (session h : ℕ) (name : List ℕ) (c : ℕ) → cha
 unfolding early_cause late_cause
 drop-met s session h name c e =
     let none = causes s session (DeleteValue h name) c e in
-    let m = meets (λ r. refuse (not (is_value_name name)) 87 or refuse (not (has 2 r.mask)) 5 or refuse (is_full 1 s) 1450) (look session h s.world.handles) none.first in
+    let m = meets (λ r. refuse (not (is_value_name name)) INVALID_PARAMETER or refuse (not (has SET_VALUE r.mask)) ACCESS_DENIED or refuse (is_full 1 s) NO_SYSTEM_RESOURCES) (look session h s.world.handles) none.first in
     let early = all_none _ _ _ m.none in
     record {
       target = m.target;
-      good = not_false _ (not_refused _ 87 early.first);
-      right = not_false _ (not_refused _ 5 early.second);
-      room = not_refused _ 1450 early.third;
-      there = not_refused _ 2 none.third;
+      good = not_false _ (not_refused _ INVALID_PARAMETER early.first);
+      right = not_false _ (not_refused _ ACCESS_DENIED early.second);
+      room = not_refused _ NO_SYSTEM_RESOURCES early.third;
+      there = not_refused _ FILE_NOT_FOUND none.third;
     }
 
 pub record DeleteMet (s : State) (session h : ℕ) (path : List ℕ) : Type 0 where
@@ -155,17 +157,17 @@ pub delete-met : (s : State) (session h : ℕ) (path : List ℕ) (c : ℕ) → c
 unfolding early_cause late_cause
 delete-met s session h path c e =
     let none = causes s session (DeleteKey h path) c e in
-    let m = meets (λ r. refuse (is_bad_target path) 87 or refuse (is_full 1 s) 1450) (look session h s.world.handles) none.first in
+    let m = meets (λ r. refuse (is_bad_target path) INVALID_PARAMETER or refuse (is_full 1 s) NO_SYSTEM_RESOURCES) (look session h s.world.handles) none.first in
     let early = neither _ _ m.none in
     let late = neither _ _ none.third in
     record {
       target = m.target;
-      good = not_refused _ 87 early.0;
-      room = not_refused _ 1450 early.1;
-      there = not_false _ (not_refused _ 2 late.0);
-      goes = not_refused _ 5 late.1;
+      good = not_refused _ INVALID_PARAMETER early.0;
+      room = not_refused _ NO_SYSTEM_RESOURCES early.1;
+      there = not_false _ (not_refused _ FILE_NOT_FOUND late.0);
+      goes = not_refused _ ACCESS_DENIED late.1;
     }
 
 pub close-met : (s : State) (session h c : ℕ) → change_cause s session (Close h) c ≡ None → is_some (look session h s.world.handles) ≡ true
 unfolding early_cause late_cause
-close-met s session h c e = let none = causes s session (Close h) c e in not_false _ (not_refused _ 6 none.first)
+close-met s session h c e = let none = causes s session (Close h) c e in not_false _ (not_refused _ INVALID_HANDLE none.first)

@@ -7,3 +7,4 @@ pub mod RowsReplies
 pub mod RowsRefusals
 pub mod RowsKeys
 pub mod RowsInfos
+mod RowsOfConstants

@@ -4,6 +4,7 @@ use Rattle.std.specs.FinMap.{get}
 use Rattle.reg_heap.specs.Paths.{Path, Tree, Rec, Member, children_of}
 use Rattle.reg_names.specs.Names.{path_of}
 use Rattle.reg_heap.specs.Members.{value_named}
+use Rattle.reg_model.specs.declared.statuses.TheConstants.{FILE_NOT_FOUND, MORE_DATA, NO_MORE_ITEMS}
 use Rattle.reg_model.specs.Worlds.{path_at}
 use Rattle.reg_heap.specs.Edits.{values_at, descriptor_of, missing}
 use Rattle.reg_model.specs.Causes.{State, subkeys_of, members_of}
@@ -42,9 +43,9 @@ reply_to s session change = by change
 
 -- a value as it is told: its type and size, and its bytes if a room was given; 234 where the room is below the size
 abbrev pub value_told : Option Member → Option ℕ → AnswerBody
-value_told None room = Refused 2
+value_told None room = Refused FILE_NOT_FOUND
 value_told (Some v) None = Value v.kind (length v.bytes) None
-value_told (Some v) (Some room) = if nat_lt room (length v.bytes) then Short 234 v.kind (length v.bytes) else Value v.kind (length v.bytes) (Some v.bytes)
+value_told (Some v) (Some room) = if nat_lt room (length v.bytes) then Short MORE_DATA v.kind (length v.bytes) else Value v.kind (length v.bytes) (Some v.bytes)
 
 abbrev pub name_of : Option Rec → List ℕ
 name_of None = []
@@ -56,7 +57,7 @@ time_of (Some r) = r.time
 
 -- a subkey as it is told: its name as given and its time; 234 with the name's length where the room is below it
 abbrev pub key_told : Option Rec → ℕ → AnswerBody
-key_told key room = if nat_lt room (length (name_of key)) then Short 234 0 (length (name_of key)) else Key (name_of key) (time_of key)
+key_told key room = if nat_lt room (length (name_of key)) then Short MORE_DATA 0 (length (name_of key)) else Key (name_of key) (time_of key)
 
 -- a room is given, and below a size
 abbrev pub is_short : Option ℕ → ℕ → Bool
@@ -71,9 +72,9 @@ bytes_for (Some room) bytes = Some bytes
 -- a value at an index as it is told: name, type, size, and the bytes if a room was given; 234 with type and size where either
 -- room is short
 abbrev pub member_told : Option Member → ℕ → Option ℕ → AnswerBody
-member_told None name_room room = Refused 259
+member_told None name_room room = Refused NO_MORE_ITEMS
 member_told (Some v) name_room room =
-    if nat_lt name_room (length v.name) || is_short room (length v.bytes) then Short 234 v.kind
+    if nat_lt name_room (length v.name) || is_short room (length v.bytes) then Short MORE_DATA v.kind
     (length v.bytes) else Told v.name v.kind (length v.bytes) (bytes_for room v.bytes)
 
 -- the largest of some numbers; of none it is 0

@@ -15,7 +15,10 @@ mod answer;
 mod bytes;
 mod call;
 pub mod laws;
+pub mod limits;
 mod reply;
+pub mod rights;
+pub mod statuses;
 mod step;
 
 pub use answer::{Answer, AnswerBody};

@@ -3,6 +3,7 @@ use Rattle.std.proofs.Common.{◌≡◌, ◌≢◌, ◌⊎◌, inl, inr, ℕ, �
 use Rattle.std.specs.List.{list_all, slice_split, onto_first}
 use Rattle.std.proofs.lemmas.Bool.{and_parts, and_from, and_left, cases_Bool, cond-true, cond-false, leb-true, le-leb, lt-leb, ne_eqb}
 use Rattle.std.proofs.lemmas.List.{length-map}
+use Rattle.reg_names.specs.declared.TheConstants.{KEY_NAME_LIMIT}
 use Rattle.reg_names.specs.Names.{fold, folded, is_backslash, is_value_name_byte, is_key_name_byte, is_key_name, path_of}
 
 -- ---- one byte
@@ -70,8 +71,8 @@ bytes-folded (b ∷ bs) = ap (λ t. t && list_all is_key_name_byte (folded bs)) 
 
 pub name-folded : (name : List ℕ) → is_key_name (folded name) ≡ is_key_name name
 name-folded name =
-    ap (λ t. (t && nat_lt 0 (length (folded name))) && nat_le (length (folded name)) 255) (bytes-folded name)
-    ∙ ap (λ n. (list_all is_key_name_byte name && nat_lt 0 n) && nat_le n 255) (length-map name fold)
+    ap (λ t. (t && nat_lt 0 (length (folded name))) && nat_le (length (folded name)) KEY_NAME_LIMIT) (bytes-folded name)
+    ∙ ap (λ n. (list_all is_key_name_byte name && nat_lt 0 n) && nat_le n KEY_NAME_LIMIT) (length-map name fold)
 
 -- ---- a path
 

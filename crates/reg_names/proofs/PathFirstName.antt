@@ -6,6 +6,7 @@ use Rattle.std.proofs.lemmas.Bool.Decides.{nat_tests}
 use Rattle.std.proofs.lemmas.List.{take_all}
 use Rattle.std.proofs.lemmas.List.Sums.{prefix_len-le-length}
 use Rattle.std.proofs.lemmas.List.Splits.{slice_split_first}
+use Rattle.reg_names.specs.declared.TheConstants.{PATH_LIMIT}
 use Rattle.reg_names.specs.Names.{is_key_name, are_key_names, path_of, is_backslash, is_path, IsFirst}
 use Rattle.reg_names.proofs.PathParts.{path_of-some, only, are_key_names-none}
 
@@ -74,15 +75,16 @@ module _ (text : List ℕ) (valid : is_path text ≡ true) (n : ℕ) (is_first :
   some : (e : Bool) → e ≡ (length text == 0) → e ≡ false → 0 < length text
   some e h k = let t : (length text == 0) ≡ false = sym h ∙ k in grind (arith, nat_tests)
 
-  by_leads : (limit : ℕ) (v : are_key_names limit (path_of text) ≡ true) (s : 0 < length text) (name rest : List ℕ) → Leads limit text v n is_first s name rest → limit ≡ 512 → IsFirst text name rest
+  by_leads : (limit : ℕ) (v : are_key_names limit (path_of text) ≡ true) (s : 0 < length text) (name rest : List ℕ) → Leads limit text v n is_first s name rest →
+      limit ≡ PATH_LIMIT → IsFirst text name rest
   by_leads limit v s name rest l e = record { names = l.names; good = l.key; valid = subst (λ k. are_key_names k (path_of rest) ≡ true) e l.path; shorter = l.shorter }
 
   -- a text without a backslash is one name, and nothing is behind it
   pub whole_first : (e : Bool) → e ≡ (length text == 0) → e ≡ false → n ≡ length text → IsFirst text text []
-  whole_first e h k same = by_leads 512 valid (some e h k) text [] (last 512 text valid n is_first (some e h k) same (are_key_names-none 512)) refl
+  whole_first e h k same = by_leads PATH_LIMIT valid (some e h k) text [] (last PATH_LIMIT text valid n is_first (some e h k) same (are_key_names-none PATH_LIMIT)) refl
 
   -- else the first name ends at the backslash, and the path behind it begins after it
   pub front_first : (e : Bool) → e ≡ (length text == 0) → e ≡ false → n ≢ length text → IsFirst text (take n text) (take (length text - (n + 1)) (drop (n + 1) text))
   front_first e h k ne =
       let all : drop (n + 1) text ≡ take (length text - (n + 1)) (drop (n + 1) text) = sym (take_all (length text - (n + 1)) (drop (n + 1) text) (omega (arith, length-drop (n + 1) text))) in
-      subst (λ rest. IsFirst text (take n text) rest) all (by_leads 512 valid (some e h k) (take n text) (drop (n + 1) text) (more 512 text valid n is_first (some e h k) ne) refl)
+      subst (λ rest. IsFirst text (take n text) rest) all (by_leads PATH_LIMIT valid (some e h k) (take n text) (drop (n + 1) text) (more PATH_LIMIT text valid n is_first (some e h k) ne) refl)

@@ -7,6 +7,7 @@ use Rattle.std.specs.Option.{option_or}
 use Rattle.std.specs.Ordering.{nat_cmp}
 use Rattle.std.specs.declared.cmp.Ordering.{Ordering}
 use Rattle.std.specs.Cmp.Lexicographic.{slice_cmp}
+use Rattle.reg_names.specs.declared.TheConstants.{KEY_NAME_LIMIT, VALUE_NAME_LIMIT, PATH_LIMIT}
 use Rattle.reg_names.specs.declared.NameFault.{NameFault}
 use Rattle.reg_names.specs.declared.NameFault.TheVariants.{Empty, BadByte, NameTooLong, TooManyLevels}
 
@@ -36,17 +37,17 @@ fault_in limit is_allowed name =
 
 -- a key's name has 1 to 255 bytes
 abbrev pub key_name_fault : List ℕ → Option NameFault
-key_name_fault name = if length name == 0 then Some Empty else fault_in 255 is_key_name_byte name
+key_name_fault name = if length name == 0 then Some Empty else fault_in KEY_NAME_LIMIT is_key_name_byte name
 
 -- a value's name has at most 16,383 bytes; the empty name is the default value's
 abbrev pub value_name_fault : List ℕ → Option NameFault
-value_name_fault name = fault_in 16383 is_value_name_byte name
+value_name_fault name = fault_in VALUE_NAME_LIMIT is_value_name_byte name
 
 abbrev pub is_key_name : List ℕ → Bool
-is_key_name name = list_all is_key_name_byte name && nat_lt 0 (length name) && nat_le (length name) 255
+is_key_name name = list_all is_key_name_byte name && nat_lt 0 (length name) && nat_le (length name) KEY_NAME_LIMIT
 
 abbrev pub is_value_name : List ℕ → Bool
-is_value_name name = list_all is_value_name_byte name && nat_le (length name) 16383
+is_value_name name = list_all is_value_name_byte name && nat_le (length name) VALUE_NAME_LIMIT
 
 -- a hash with one more character: 37 times the hash, and the character, modulo 2^32 (section "Subkeys list")
 abbrev pub hash_with : ℕ → ℕ → ℕ
@@ -82,14 +83,14 @@ names_fault limit names =
 
 -- a path is a list of at most 512 key names; an empty name's fault is at the backslash or the end that closes it
 abbrev pub path_fault : List ℕ → Option NameFault
-path_fault text = names_fault 512 (path_of text)
+path_fault text = names_fault PATH_LIMIT (path_of text)
 
 -- at most so many names, each a key's
 unfoldable pub are_key_names : ℕ → List (List ℕ) → Bool
 are_key_names limit names = list_all is_key_name names && nat_le (length names) limit
 
 abbrev pub is_path : List ℕ → Bool
-is_path text = are_key_names 512 (path_of text)
+is_path text = are_key_names PATH_LIMIT (path_of text)
 
 abbrev pub has_no_backslash : List ℕ → Bool
 has_no_backslash name = list_all (λ b. not (b == 92)) name

@@ -182,7 +182,7 @@ pub fn join_paths(alloc: Global, above: &[u8], path: &[u8]) -> Result<Vec<u8>, A
     requires above { is_path above.now ≡ true }
     requires path { is_path path.now ≡ true }
     ensures names { IfOk result (λ text. path_of text.items ≡ map folded (path_of above.now) ++ map folded (path_of path.now)) }
-    ensures valid { IfOk result (λ text. length (path_of above.now) + length (path_of path.now) ≤ 512 → is_path text.items ≡ true) }
+    ensures valid { IfOk result (λ text. length (path_of above.now) + length (path_of path.now) ≤ PATH_LIMIT → is_path text.items ≡ true) }
 {
     let mut text = Vec::with_capacity(alloc, above.len() + path.len() + 1)?;
     push_folded(&mut text, above)?;

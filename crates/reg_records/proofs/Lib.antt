@@ -9,3 +9,4 @@ pub mod PlainRecords
 pub mod SubkeyListReading
 pub mod SubkeyListWriting
 pub mod RowsOfLists
+pub mod RowsOfBigData

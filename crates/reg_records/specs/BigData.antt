@@ -5,6 +5,7 @@ use Rattle.byteorder.specs.Endian.{little_bytes}
 use Rattle.reg_heap.specs.ByteWords.{half, word}
 use Rattle.reg_heap.specs.Internal.Kinds.{Kind}
 use Rattle.reg_heap.specs.Internal.Kinds.Kind.{Segment}
+use Rattle.reg_records.specs.declared.db.TheConstants.{SEGMENT_SIZE}
 use Rattle.reg_records.specs.declared.RecordFault.{RecordFault}
 use Rattle.reg_records.specs.declared.RecordFault.TheVariants.{Short, Signature}
 use Rattle.reg_records.specs.Letters.{is_signed}
@@ -30,7 +31,7 @@ if_any kind (suc n) offset = named kind (suc n) offset ∷ []
 
 -- how many bytes of data one cell holds at most, and each segment but the last (section "Big data")
 unfoldable pub segment_size : ℕ
-segment_size = 16344
+segment_size = SEGMENT_SIZE
 
 -- the size field has the top bit: the data stands in the field of its offset
 abbrev pub is_inline : ℕ → Bool

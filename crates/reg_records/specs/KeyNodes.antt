@@ -6,6 +6,7 @@ use Rattle.reg_records.specs.declared.RecordFault.{RecordFault}
 use Rattle.reg_records.specs.declared.RecordFault.TheVariants.{Short, Signature, Length, NotInProfile}
 use Rattle.reg_records.specs.declared.nk.KeyFields.{KeyFields}
 use Rattle.byteorder.specs.Endian.{little_bytes}
+use Rattle.reg_heap.specs.declared.limits.TheConstants.{NONE}
 use Rattle.reg_records.specs.Letters.{is_signed}
 use Rattle.reg_records.specs.RecordCells.{Heap, read_at}
 
@@ -100,5 +101,5 @@ nk_bytes fields name = nk_head fields (length name) ++ name
 pub record IsPlainKey (content : List ℕ) : Type 0 where
   pub access : word content 12 ≡ 0
   pub volatile_subkeys : word content 24 ≡ 0
-  pub volatile_list : word content 32 ≡ 4294967295
+  pub volatile_list : word content 32 ≡ NONE
   pub work : word content 68 ≡ 0

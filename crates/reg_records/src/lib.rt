@@ -27,7 +27,7 @@ mod rows;
 mod sk;
 mod vk;
 
-pub use db::{BigFields, put_db, read_db};
+pub use db::{BigFields, SEGMENT_SIZE, put_db, read_db};
 pub use lists::{
     ListEntry, ListForm, ListHead, entry_at, put_entry, put_head, put_list, read_list,
 };

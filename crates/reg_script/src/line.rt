@@ -1,4 +1,5 @@
 ghost use Rattle.std.specs.Prelude.{◌<◌};
+ghost use Rattle.reg_model.specs.declared.limits.TheConstants.{SESSIONS_LIMIT};
 
 use reg_model::Call;
 
@@ -30,7 +31,7 @@ pub enum Setting {
 #[derive(Clone, Copy, Debug)]
 pub struct Session {
     pub number: u8,
-    ghost in_range: { number < 64 },
+    ghost in_range: { number < SESSIONS_LIMIT },
 }
 
 /// The first word of a setting or a call.

@@ -9,6 +9,7 @@ use Rattle.std.specs.declared.cmp.Ordering.TheVariants.{Less}
 use Rattle.std.specs.Cmp.Lexicographic.{slice_cmp}
 use Rattle.byteorder.specs.Endian.{little_bytes}
 use Rattle.reg_names.specs.Names.{folded, hash, is_key_name, is_value_name}
+use Rattle.reg_heap.specs.declared.limits.TheConstants.{DATA_LIMIT, DESCRIPTOR_LIMIT, NONE, SUBKEYS_LIMIT, VALUES_LIMIT}
 use Rattle.reg_heap.specs.Paths.{Member}
 use Rattle.reg_heap.specs.Internal.Heaps.{Heap}
 use Rattle.reg_records.specs.declared.vk.ValueFields.{ValueFields}
@@ -36,7 +37,7 @@ Precedes a b = slice_cmp nat_cmp (folded a) (folded b) ≡ Less
 pub record IsWrittenList (list : KeyList) : Type 0 where
   pub form : list.list.form ≡ HashLeaf
   pub some : 1 ≤ length list.list.entries
-  pub few : length list.list.entries ≤ 500
+  pub few : length list.list.entries ≤ SUBKEYS_LIMIT
 
 -- a key's subkeys: none, one list, or an index root of two or more
 abbrev pub IsWrittenIndex : Index → Type 0
@@ -62,12 +63,12 @@ pub record IsWrittenValue (heap : Heap) (offset : ℕ) : Type 0 where
 
 -- a list of values: names that differ after folding, of the profile, data of at most 1,048,576 bytes; without values no list
 pub record AreWritten (heap : Heap) (count place : ℕ) (members : List Member) : Type 0 where
-  pub few : count ≤ 16384
-  pub none : count ≡ 0 → place ≡ 4294967295
+  pub few : count ≤ VALUES_LIMIT
+  pub none : count ≡ 0 → place ≡ NONE
   pub each : AllByRecursion (IsWrittenValue heap) (offsets_at count 0 (held heap place))
   pub names : AllByRecursion (λ (m : Member). is_value_name m.name ≡ true) members
   pub apart : Pairwise (λ (a b : Member). folded a.name ≢ folded b.name) members
-  pub sizes : AllByRecursion (λ (m : Member). length m.bytes ≤ 1048576) members
+  pub sizes : AllByRecursion (λ (m : Member). length m.bytes ≤ DATA_LIMIT) members
 
 -- a key's values: a list of them, and no name or data longer than the key says
 pub record AreWrittenValues (heap : Heap) (node : Node) : Type 0 where
@@ -80,12 +81,12 @@ pub record IsWrittenKey (heap : Heap) (root offset : ℕ) (node : Node) : Type 0
   pub plain : IsPlainKey (held heap offset)
   pub flags : bit_and node.key.fields.flags 103 ≡ (if offset == root then 36 else 32)
   pub name : is_key_name node.key.name ≡ true
-  pub parent : offset ≡ root → node.key.fields.parent ≡ 4294967295
-  pub class : node.key.fields.class_length ≡ 0 → node.key.fields.class ≡ 4294967295
+  pub parent : offset ≡ root → node.key.fields.parent ≡ NONE
+  pub class : node.key.fields.class_length ≡ 0 → node.key.fields.class ≡ NONE
   pub values : AreWrittenValues heap node
   pub subkeys : node.key.fields.subkeys ≡ length (entries_of node.index)
   pub few : node.key.fields.subkeys ≤ 60000
-  pub none : node.key.fields.subkeys ≡ 0 → node.key.fields.subkeys_list ≡ 4294967295
+  pub none : node.key.fields.subkeys ≡ 0 → node.key.fields.subkeys_list ≡ NONE
   pub index : IsWrittenIndex node.index
 
 -- what a key says of its subkeys, and they of it: the entries name them, in the strict order of their folded names and with their
@@ -104,4 +105,4 @@ pub record IsWrittenSecurity (heap : Heap) (offset : ℕ) : Type 0 where
   pub reads : security_at heap offset ≡ Some security
   pub plain : IsPlainSecurity (held heap offset)
   pub some : 1 ≤ length security.descriptor
-  pub short : length security.descriptor ≤ 65535
+  pub short : length security.descriptor ≤ DESCRIPTOR_LIMIT

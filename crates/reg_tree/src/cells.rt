@@ -1,4 +1,5 @@
 ghost use Rattle.std.specs.Prelude.{◌≡◌, ◌≢◌, ◌+◌, ◌^◌, Err, ◌-◌, ◌*◌, ◌/◌, ◌%◌, ◌≤◌, ◌<◌, [], ◌∷◌, IfOk, IfErr, OnErr, length};
+ghost use Rattle.reg_arena.specs.declared.TheConstants.{CARVE_LIMIT};
 ghost use Rattle.reg_arena.specs.Carves.{NoFit};
 ghost use Rattle.reg_arena.specs.NewBin.{PassesLimit};
 ghost use Rattle.reg_arena.specs.NewCells.{total_of};
@@ -26,7 +27,7 @@ pub fn carve_two(
 ) -> Result<(u32, u32), ArenaFault>
     requires first { (first % 8 ≡ 0) × (0 < first) }
     requires second { (second % 8 ≡ 0) × (0 < second) }
-    requires sum { first + second ≤ 16777216 }
+    requires sum { first + second ≤ CARVE_LIMIT }
     ensures ok { IfOk result (λ cells. AreCarved arena.old arena.new cells.0 cells.1 first second) }
     ensures err { OnErr result (arena.new ≡ arena.old) }
     ensures full { result ≡ Err ArenaFault.Full → arena.old.bytes ≡ [] → ⊥ }

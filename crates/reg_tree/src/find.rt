@@ -1,5 +1,6 @@
 //! Keys found by their names.
 ghost use Rattle.std.specs.Prelude.{◌≡◌, ◌≤◌, true};
+ghost use Rattle.reg_names.specs.declared.TheConstants.{PATH_LIMIT};
 ghost use Rattle.reg_names.specs.Names.{folded, is_path};
 ghost use Rattle.reg_heap.specs.Edits.{folded_path};
 ghost use Rattle.reg_arena.specs.Cells.{cell_at};
@@ -28,7 +29,7 @@ pub fn child(arena: &Arena, key: u32, name: &[u8]) -> Option<u32>
 /// The last key that is there on a path from a key, and the path behind it, which is empty where all are there.
 pub fn reach<'a>(arena: &Arena, from: Node, path: &'a [u8]) -> (Node, &'a [u8])
     requires here { IsHere arena.now.bytes from.offset }
-    requires depth { from.depth ≤ 512 }
+    requires depth { from.depth ≤ PATH_LIMIT }
     requires path { is_path path.now ≡ true }
     ensures { Reaches (cell_at arena.now.bytes) from path.now result.0 result.1.now }
 {
@@ -50,7 +51,7 @@ pub fn reach<'a>(arena: &Arena, from: Node, path: &'a [u8]) -> (Node, &'a [u8])
 /// The key at the end of a path from a key, if it is there.
 pub fn resolve(arena: &Arena, from: Node, path: &[u8]) -> Option<Node>
     requires here { IsHere arena.now.bytes from.offset }
-    requires depth { from.depth ≤ 512 }
+    requires depth { from.depth ≤ PATH_LIMIT }
     requires path { is_path path.now ≡ true }
     ensures { IsWalked (cell_at arena.now.bytes) from (folded_path path.now) result }
 {

@@ -1,19 +1,18 @@
 //! Key nodes, as the tree writes them.
 ghost use Rattle.std.specs.Prelude.{◌≡◌, ◌≤◌, ◌<◌, ◌^◌, IsSome, Some};
+ghost use Rattle.reg_names.specs.declared.TheConstants.{KEY_NAME_LIMIT};
 ghost use Rattle.reg_arena.specs.Cells.{cell_at};
 ghost use Rattle.reg_records.specs.KeyNodes.{KeyRecord, key_at};
 ghost use Rattle.reg_tree.specs.Internal.KeyNodeChanges.{HasList, HasSubkeysList, Notes, noted, noted_subkeys, raised, made_fields};
 
 use reg_arena::Arena;
+use reg_heap::limits::NONE;
 use reg_index::SubkeysIndex;
 use reg_records::{
     KeyFields, read_nk, set_largest_subkey_name, set_largest_value_data, set_largest_value_name,
     set_subkeys, set_subkeys_list, set_time, set_values,
 };
 use reg_values::ValuesList;
-
-/// No cell.
-pub const NONE: u32 = 0xFFFF_FFFF;
 
 /// The flags of a root: no delete, hive entry, and a name of one byte a character.
 const ROOT_FLAGS: u16 = 0x2C;
@@ -23,7 +22,7 @@ const MADE_FLAGS: u16 = 0x20;
 
 /// The fixed part of a new root's key node.
 pub fn new_root(security: u32, moment: u64) -> KeyFields
-    ensures { result ≡ record { flags = 44; time = moment; parent = 4294967295; subkeys = 0; subkeys_list = 4294967295; values = 0; values_list = 4294967295; security = security; class = 4294967295; class_length = 0; largest_subkey_name = 0; largest_subkey_class = 0; largest_value_name = 0; largest_value_data = 0 } }
+    ensures { result ≡ record { flags = 44; time = moment; parent = NONE; subkeys = 0; subkeys_list = NONE; values = 0; values_list = NONE; security = security; class = NONE; class_length = 0; largest_subkey_name = 0; largest_subkey_class = 0; largest_value_name = 0; largest_value_data = 0 } }
 {
     KeyFields {
         flags: ROOT_FLAGS,
@@ -115,7 +114,7 @@ fn raise(largest: u32, length: u32) -> u32
 /// where this one (in characters) is longer.
 pub fn note_subkeys(arena: &mut Arena, key: u32, list: SubkeysIndex, name: u32, moment: u64)
     requires exists { IsSome (key_at (cell_at arena.old.bytes) key) }
-    requires name { name ≤ 255 }
+    requires name { name ≤ KEY_NAME_LIMIT }
     ensures { Notes (cell_at arena.old.bytes) (cell_at arena.new.bytes) key (noted_subkeys list.count list.place name moment) }
 {
     let old = fields(arena, key);

@@ -3,7 +3,9 @@
 //! Win32 registry reference, `RegCreateKeyEx`.
 ghost use Rattle.std.specs.Prelude.{◌≡◌, ◌≢◌, ◌↔◌, ◌⊎◌, ◌≤◌, ◌<◌, ◌+◌, ◌-◌, ◌++◌, ◌∷◌, [], true, false, ℕ, List, Some, Err, IfOk, IfErr, OnErr};
 ghost use Rattle.std.specs.Prelude.{length, drop, get_or};
+ghost use Rattle.reg_names.specs.declared.TheConstants.{KEY_NAME_LIMIT};
 ghost use Rattle.reg_names.specs.Names.{is_key_name, is_path, path_of};
+ghost use Rattle.reg_heap.specs.declared.limits.TheConstants.{BINS_LIMIT, GROWTH_BOUND};
 ghost use Rattle.reg_heap.specs.Paths.{children_of};
 ghost use Rattle.reg_heap.specs.Edits.{missing, are_too_many};
 ghost use Rattle.reg_arena.specs.Cells.{cell_at};
@@ -17,23 +19,15 @@ ghost use Rattle.reg_tree.specs.Internal.KeyCreation.{IsCreated, AreTooMany};
 
 use crate::cells::cell_size;
 use crate::find::reach;
-use crate::key::{NONE, fields, new_key, note_subkeys, subkeys_list};
+use crate::key::{fields, new_key, note_subkeys, subkeys_list};
 use crate::ring::{recount, with_one_more};
 use crate::{Created, Node, TreeFault};
 use reg_arena::Arena;
+use reg_heap::limits::{MADE_LIMIT, NONE, SUBKEYS_LIMIT};
 use reg_index::{SubkeysIndex, find, insert, len, plan_insert};
-use reg_names::first_name;
+use reg_names::{PATH_LIMIT, first_name};
 use reg_records::put_nk;
 use std::alloc::{AllocError, Global};
-
-/// How many keys one call makes at most.
-const MADE_LIMIT: u32 = 32;
-
-/// How many names a key's path has at most.
-const DEPTH_LIMIT: u32 = 512;
-
-/// How many subkeys a key has at most, until it has index roots.
-const SUBKEYS_LIMIT: u32 = 500;
 
 /// The size of a cell for a list of one subkey.
 const FIRST_LIST: u32 = 16;
@@ -44,7 +38,7 @@ fn make(arena: &mut Arena, parent: u32, list_cell: u32, key: u32, name: &[u8], m
     requires grow { (left : List ℕ) × MayGrow arena.old.bytes parent (taken (planned (cell_at arena.old.bytes) parent) list_cell ++ key ∷ left) name.now }
     requires ready { IsReady (cell_at arena.old.bytes) (planned (cell_at arena.old.bytes) parent) list_cell }
     requires room { HasRoom (cell_at arena.old.bytes) key (76 + length name.now) }
-    requires name { (is_key_name name.now ≡ true) × (length name.now ≤ 255) }
+    requires name { (is_key_name name.now ≡ true) × (length name.now ≤ KEY_NAME_LIMIT) }
     ensures { (left : List ℕ) → (m : MayGrow arena.old.bytes parent (taken (planned (cell_at arena.old.bytes) parent) list_cell ++ key ∷ left) name.now) → Grows (cell_at arena.old.bytes) (cell_at arena.new.bytes) m.growing.root m.growing.path m.growing.keys m.growing.first key left name.now moment }
 {
     let above = fields(arena, parent);
@@ -66,7 +60,7 @@ fn make(arena: &mut Arena, parent: u32, list_cell: u32, key: u32, name: &[u8], m
 fn make_in(arena: &mut Arena, parent: u32, spare: &[u32], name: &[u8], moment: u64) -> usize
     requires grow { MayGrow arena.old.bytes parent spare.now name.now }
     requires ready { (names : List (List ℕ)) × AreReady (cell_at arena.old.bytes) (planned (cell_at arena.old.bytes) parent) (name.now ∷ names) spare.now }
-    requires name { (is_key_name name.now ≡ true) × (length name.now ≤ 255) }
+    requires name { (is_key_name name.now ≡ true) × (length name.now ≤ KEY_NAME_LIMIT) }
     ensures taken { (1 ≤ result) × (result ≤ 2) × (result ≤ length spare.now) }
     ensures grows { (m : MayGrow arena.old.bytes parent spare.now name.now) → Grows (cell_at arena.old.bytes) (cell_at arena.new.bytes) m.growing.root m.growing.path m.growing.keys m.growing.first (get_or spare.now (result - 1) 0) (drop result spare.now) name.now moment }
     ensures ready { (names : List (List ℕ)) → AreReady (cell_at arena.old.bytes) (planned (cell_at arena.old.bytes) parent) (name.now ∷ names) spare.now → AreReady (cell_at arena.old.bytes) (Some 16) names (drop result spare.now) }
@@ -87,7 +81,7 @@ fn make_in(arena: &mut Arena, parent: u32, spare: &[u32], name: &[u8], moment: u
 /// Makes the keys of a path, one below the other, in spare cells, and answers the last.
 fn make_all(arena: &mut Arena, from: Node, path: &[u8], spare: &[u32], moment: u64) -> Node
     requires grow { MayGrowAll arena.old.bytes from (path_of path.now) spare.now }
-    requires depth { from.depth ≤ 512 }
+    requires depth { from.depth ≤ PATH_LIMIT }
     requires path { is_path path.now ≡ true }
     ensures { (m : MayGrowAll arena.old.bytes from (path_of path.now) spare.now) → GrowsAll (cell_at arena.old.bytes) (cell_at arena.new.bytes) m.growing.root m.growing.path m.growing.keys m.growing.first from result (path_of path.now) moment }
 {
@@ -125,14 +119,14 @@ fn pass_limits(arena: &Arena, parent: Node, path: &[u8]) -> bool
     requires here { IsHere arena.now.bytes parent.offset }
     requires depth { parent.depth ≤ 1024 }
     requires path { is_path path.now ≡ true }
-    ensures many { (t : IsHere arena.now.bytes parent.offset) → ((result ≡ true) ↔ ((32 < length (path_of path.now)) ⊎ ((512 < parent.depth + length (path_of path.now)) ⊎ (500 ≤ length (children_of (tree_in arena.now.bytes t.root) t.path))))) }
-    ensures room { result ≡ false → (length (path_of path.now) ≤ 32) × (parent.depth + length (path_of path.now) ≤ 512) × ((k : KeyRecord) → key_at (cell_at arena.now.bytes) parent.offset ≡ Some k → k.fields.subkeys < 500) }
+    ensures many { (t : IsHere arena.now.bytes parent.offset) → ((result ≡ true) ↔ ((MADE_LIMIT < length (path_of path.now)) ⊎ ((PATH_LIMIT < parent.depth + length (path_of path.now)) ⊎ (SUBKEYS_LIMIT ≤ length (children_of (tree_in arena.now.bytes t.root) t.path))))) }
+    ensures room { result ≡ false → (length (path_of path.now) ≤ MADE_LIMIT) × (parent.depth + length (path_of path.now) ≤ PATH_LIMIT) × ((k : KeyRecord) → key_at (cell_at arena.now.bytes) parent.offset ≡ Some k → k.fields.subkeys < SUBKEYS_LIMIT) }
 {
     let count = count_names(path);
     if count > MADE_LIMIT {
         return true;
     }
-    if parent.depth + count > DEPTH_LIMIT {
+    if parent.depth + count > PATH_LIMIT as u32 {
         return true;
     }
     len(subkeys_list(arena, parent.offset)) >= SUBKEYS_LIMIT
@@ -181,9 +175,9 @@ fn carve_for(
     requires here { IsHere arena.old.bytes parent }
     requires path { is_path path.now ≡ true }
     requires some { path_of path.now ≢ [] }
-    requires few { length (path_of path.now) ≤ 32 }
+    requires few { length (path_of path.now) ≤ MADE_LIMIT }
     ensures ok { IfOk result (λ cells. IsSpared arena.old.bytes arena.new.bytes parent (path_of path.now) cells.items) }
-    ensures full { (result ≡ Err TreeFault.Full) → 268435456 < length arena.old.bytes + 1310720 }
+    ensures full { (result ≡ Err TreeFault.Full) → BINS_LIMIT < length arena.old.bytes + GROWTH_BOUND }
     ensures others { IfErr result (λ fault. (fault ≡ TreeFault.Full) ⊎ (fault ≡ TreeFault.Memory)) }
     ensures err { OnErr result (arena.new ≡ arena.old) }
 {
@@ -212,7 +206,7 @@ pub fn create(
     ensures ok { (t : IsHere arena.old.bytes from.offset) → from.depth ≡ length t.path → IfOk result (λ made. IsCreated arena.old.bytes arena.new.bytes t.root t.path from (path_of path.now) moment made.node) }
     ensures new { (t : IsHere arena.old.bytes from.offset) → IfOk result (λ made. (made.is_new ≡ true) ↔ (missing (tree_in arena.old.bytes t.root) t.path (path_of path.now) ≢ [])) }
     ensures limit { (t : IsHere arena.old.bytes from.offset) → from.depth ≡ length t.path → ((result ≡ Err TreeFault.Limit) ↔ AreTooMany (tree_in arena.old.bytes t.root) t.path (path_of path.now)) }
-    ensures full { (result ≡ Err TreeFault.Full) → 268435456 < length arena.old.bytes + 1310720 }
+    ensures full { (result ≡ Err TreeFault.Full) → BINS_LIMIT < length arena.old.bytes + GROWTH_BOUND }
     ensures others { IfErr result (λ fault. (fault ≡ TreeFault.Limit) ⊎ ((fault ≡ TreeFault.Full) ⊎ (fault ≡ TreeFault.Memory))) }
     ensures err { OnErr result (arena.new ≡ arena.old) }
 {

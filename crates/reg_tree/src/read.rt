@@ -1,6 +1,8 @@
 //! What is told of a key.
 ghost use Rattle.std.specs.Prelude.{◌≡◌, ◌≤◌, ◌+◌, Some, length};
 ghost use Rattle.std.specs.FinMap.{get};
+ghost use Rattle.reg_names.specs.declared.TheConstants.{KEY_NAME_LIMIT, PATH_LIMIT};
+ghost use Rattle.reg_heap.specs.declared.limits.TheConstants.{DESCRIPTOR_LIMIT};
 ghost use Rattle.reg_heap.specs.Paths.{Rec, children_of};
 ghost use Rattle.reg_arena.specs.Cells.{cell_at};
 ghost use Rattle.reg_tree.specs.TreeKeys.{tree_in};
@@ -20,7 +22,7 @@ const MARKS: u16 = 0xFFD8;
 pub fn name(arena: &Arena, key: u32) -> &[u8]
     requires { IsHere arena.now.bytes key }
     ensures told { (t : IsHere arena.now.bytes key) → (r : Rec) → get (tree_in arena.now.bytes t.root) t.path ≡ Some r → result.now ≡ r.name }
-    ensures short { length result.now ≤ 255 }
+    ensures short { length result.now ≤ KEY_NAME_LIMIT }
 {
     match read_nk(arena.content(key)) {
         Ok(node) => node.name,
@@ -48,7 +50,7 @@ pub fn marks(arena: &Arena, key: u32) -> u16
 pub fn descriptor(arena: &Arena, key: u32) -> &[u8]
     requires { IsHere arena.now.bytes key }
     ensures told { (t : IsHere arena.now.bytes key) → (r : Rec) → get (tree_in arena.now.bytes t.root) t.path ≡ Some r → result.now ≡ r.descriptor }
-    ensures short { length result.now ≤ 65535 }
+    ensures short { length result.now ≤ DESCRIPTOR_LIMIT }
 {
     let security = fields(arena, key).security;
     match read_sk(arena.content(security)) {
@@ -68,7 +70,7 @@ pub fn subkeys(arena: &Arena, key: u32) -> u32
 /// The key at an index among those right below a key, in the order of their folded names, if there are so many.
 pub fn subkey(arena: &Arena, node: Node, index: u32) -> Option<Node>
     requires here { IsHere arena.now.bytes node.offset }
-    requires depth { node.depth ≤ 512 }
+    requires depth { node.depth ≤ PATH_LIMIT }
     ensures { (t : IsHere arena.now.bytes node.offset) → IsSubkey (cell_at arena.now.bytes) t.root t.path (children_of (tree_in arena.now.bytes t.root) t.path) node index result }
 {
     let list = subkeys_list(arena, node.offset);

@@ -1,7 +1,9 @@
 ghost use Rattle.std.specs.Prelude.{true, ◌≡◌, ◌↔◌, ◌⊎◌, ◌≢◌, ◌≤◌, ◌<◌, ◌+◌, ◌++◌, ℕ, List, [], length, Err, Some, None, OnOk, OnErr, IfOk, IfErr};
 ghost use Rattle.std.specs.Prelude.{IsSome, IfSome, MatchOption, slice_get, get_or};
 ghost use Rattle.std.specs.FinMap.{insert, empty, get};
+ghost use Rattle.reg_names.specs.declared.TheConstants.{KEY_NAME_LIMIT, PATH_LIMIT, VALUE_NAME_LIMIT};
 ghost use Rattle.reg_names.specs.Names.{is_key_name, is_value_name, is_path, path_of};
+ghost use Rattle.reg_heap.specs.declared.limits.TheConstants.{BINS_LIMIT, DATA_LIMIT, DESCRIPTOR_LIMIT, GROWTH_BOUND, VALUES_LIMIT};
 ghost use Rattle.reg_heap.specs.Paths.{Path, path_cmp, Rec, Member, children_of};
 ghost use Rattle.reg_heap.specs.Members.{value_named};
 ghost use Rattle.reg_heap.specs.Edits.{edited, with_value, without_value, values_at, folded_path, with_keys, missing, are_too_many, without_key, IsKept};
@@ -49,8 +51,8 @@ impl Tree {
         descriptor: &[u8],
         moment: u64,
     ) -> Result<Tree, TreeFault>
-        requires name { (is_key_name root_name.now ≡ true) × (length root_name.now ≤ 255) }
-        requires descriptor { (1 ≤ length descriptor.now) × (length descriptor.now ≤ 65535) }
+        requires name { (is_key_name root_name.now ≡ true) × (length root_name.now ≤ KEY_NAME_LIMIT) }
+        requires descriptor { (1 ≤ length descriptor.now) × (length descriptor.now ≤ DESCRIPTOR_LIMIT) }
         ensures ok { IfOk result (λ t. t.tree ≡ insert empty [] (made_root root_name.now descriptor.now moment)) }
         ensures err { IfErr result (λ fault. fault ≡ TreeFault.Memory) }
     {
@@ -78,7 +80,7 @@ impl Tree {
     /// The root. Every key's path has at most 512 names.
     pub fn root(&self) -> Node
         ensures at { IsAt self.now [] result }
-        ensures shallow { (p : Path) → IsSome (get self.now.tree p) → length p ≤ 512 }
+        ensures shallow { (p : Path) → IsSome (get self.now.tree p) → length p ≤ PATH_LIMIT }
     {
         Node {
             offset: self.root,
@@ -92,7 +94,7 @@ impl Tree {
         requires from { IsThere self.now from }
         requires path { is_path path.now ≡ true }
         ensures found { (p : Path) → IsAt self.now p from → IsResolved self.now (p ++ folded_path path.now) result }
-        ensures depth { IfSome result (λ node. node.depth ≤ 512) }
+        ensures depth { IfSome result (λ node. node.depth ≤ PATH_LIMIT) }
     {
         find::resolve(&self.arena, from, path)
     }
@@ -101,7 +103,7 @@ impl Tree {
     pub fn name(&self, node: Node) -> &[u8]
         requires { IsThere self.now node }
         ensures told { (p : Path) → IsAt self.now p node → (r : Rec) → get self.now.tree p ≡ Some r → result.now ≡ r.name }
-        ensures short { length result.now ≤ 255 }
+        ensures short { length result.now ≤ KEY_NAME_LIMIT }
         ensures key { (p : Path) → IsAt self.now p node → IsSome (get self.now.tree p) }
     {
         read::name(&self.arena, node.offset)
@@ -127,7 +129,7 @@ impl Tree {
     pub fn descriptor(&self, node: Node) -> &[u8]
         requires { IsThere self.now node }
         ensures told { (p : Path) → IsAt self.now p node → (r : Rec) → get self.now.tree p ≡ Some r → result.now ≡ r.descriptor }
-        ensures short { length result.now ≤ 65535 }
+        ensures short { length result.now ≤ DESCRIPTOR_LIMIT }
     {
         read::descriptor(&self.arena, node.offset)
     }
@@ -154,7 +156,7 @@ impl Tree {
     pub fn value(&self, node: Node, index: u32) -> Option<Value<'_>>
         requires { IsThere self.now node }
         ensures told { (p : Path) → IsAt self.now p node → MatchOption result (length (values_at self.now.tree p) ≤ index) (λ value. (member : Member) × (slice_get (values_at self.now.tree p) index ≡ Some member) × Tells member value.name.now value.kind value.size) }
-        ensures short { IfSome result (λ value. length value.name.now ≤ 16383) }
+        ensures short { IfSome result (λ value. length value.name.now ≤ VALUE_NAME_LIMIT) }
     {
         values::at(&self.arena, node.offset, index)
     }
@@ -199,11 +201,11 @@ impl Tree {
     ) -> Result<(), TreeFault>
         requires node { IsThere self.old node }
         requires name { is_value_name name.now ≡ true }
-        requires bytes { length bytes.now ≤ 1048576 }
+        requires bytes { length bytes.now ≤ DATA_LIMIT }
         ensures ok { (p : Path) → IsAt self.old p node → OnOk result (self.new.tree ≡ edited self.old.tree p (with_value name.now kind bytes.now moment)) }
         ensures nodes { OnOk result (KeepsNodes self.old self.new) }
-        ensures limit { (p : Path) → IsAt self.old p node → ((result ≡ Err TreeFault.Limit) ↔ ((16384 ≤ length (values_at self.old.tree p)) × (value_named name.now (values_at self.old.tree p) ≡ None))) }
-        ensures full { (result ≡ Err TreeFault.Full) → 268435456 < length self.old.bins.bytes + 1310720 }
+        ensures limit { (p : Path) → IsAt self.old p node → ((result ≡ Err TreeFault.Limit) ↔ ((VALUES_LIMIT ≤ length (values_at self.old.tree p)) × (value_named name.now (values_at self.old.tree p) ≡ None))) }
+        ensures full { (result ≡ Err TreeFault.Full) → BINS_LIMIT < length self.old.bins.bytes + GROWTH_BOUND }
         ensures others { IfErr result (λ fault. (fault ≡ TreeFault.Limit) ⊎ ((fault ≡ TreeFault.Full) ⊎ (fault ≡ TreeFault.Memory))) }
         ensures err { OnErr result (self.new ≡ self.old) }
     {
@@ -248,10 +250,10 @@ impl Tree {
         requires path { is_path path.now ≡ true }
         ensures ok { (p : Path) → IsAt self.old p from → OnOk result (self.new.tree ≡ with_keys self.old.tree p (path_of path.now) moment) }
         ensures opened { (p : Path) → IsAt self.old p from → IfOk result (λ made. IsAt self.new (p ++ folded_path path.now) made.node × ((made.is_new ≡ true) ↔ (missing self.old.tree p (path_of path.now) ≢ []))) }
-        ensures depth { IfOk result (λ made. made.node.depth ≤ 512) }
+        ensures depth { IfOk result (λ made. made.node.depth ≤ PATH_LIMIT) }
         ensures nodes { OnOk result (KeepsNodes self.old self.new) }
         ensures limit { (p : Path) → IsAt self.old p from → ((result ≡ Err TreeFault.Limit) ↔ (are_too_many self.old.tree p (path_of path.now) ≡ true)) }
-        ensures full { (result ≡ Err TreeFault.Full) → 268435456 < length self.old.bins.bytes + 1310720 }
+        ensures full { (result ≡ Err TreeFault.Full) → BINS_LIMIT < length self.old.bins.bytes + GROWTH_BOUND }
         ensures others { IfErr result (λ fault. (fault ≡ TreeFault.Limit) ⊎ ((fault ≡ TreeFault.Full) ⊎ (fault ≡ TreeFault.Memory))) }
         ensures err { OnErr result (self.new ≡ self.old) }
     {

@@ -20,15 +20,13 @@ use crate::TreeFault;
 use crate::key::{fields, note_subkeys, subkeys_list, values_list};
 use crate::ring::release;
 use reg_arena::Arena;
+use reg_heap::marks::NO_DELETE;
 use reg_index::{find, remove};
 use reg_records::{KeyFields, read_nk};
 use reg_values::clear;
 
 /// The mark of a hive's root.
 const HIVE_ENTRY: u16 = 0x04;
-
-/// The mark of a key that may not be deleted.
-const NO_DELETE: u16 = 0x08;
 
 /// The name of a key, as its key node has it.
 fn name_of(arena: &Arena, key: u32) -> &[u8]

@@ -1,7 +1,9 @@
 //! A key's values, in its cells.
 ghost use Rattle.std.specs.Prelude.{true, false, ◌≡◌, ◌↔◌, ◌⊎◌, ◌≤◌, ◌<◌, ◌+◌, ℕ, List, [], length, Err, Some, None, OnOk, OnErr, IfOk, IfErr};
 ghost use Rattle.std.specs.Prelude.{MatchOption, IfSome, slice_get};
+ghost use Rattle.reg_names.specs.declared.TheConstants.{VALUE_NAME_LIMIT};
 ghost use Rattle.reg_names.specs.Names.{is_value_name};
+ghost use Rattle.reg_heap.specs.declared.limits.TheConstants.{BINS_LIMIT, DATA_LIMIT, GROWTH_BOUND};
 ghost use Rattle.reg_heap.specs.Paths.{Member};
 ghost use Rattle.reg_heap.specs.Members.{value_named};
 ghost use Rattle.reg_heap.specs.Edits.{with_value, without_value, values_at};
@@ -14,11 +16,9 @@ ghost use Rattle.reg_tree.specs.Internal.KeyNodeChanges.{HasList, IsFound};
 use crate::key::{note_values, values_list};
 use crate::{TreeFault, ValueFound};
 use reg_arena::Arena;
+use reg_heap::limits::VALUES_LIMIT;
 use reg_values::{Value, ValuesList};
 use std::alloc::{AllocError, Global};
-
-/// How many values a key has at most.
-const VALUES_LIMIT: u32 = 16_384;
 
 pub fn count(arena: &Arena, key: u32) -> u32
     requires { IsHere arena.now.bytes key }
@@ -53,7 +53,7 @@ pub fn bytes(arena: &Arena, alloc: Global, key: u32, index: u32) -> Result<Vec<u
 pub fn at(arena: &Arena, key: u32, index: u32) -> Option<Value<'_>>
     requires { IsHere arena.now.bytes key }
     ensures told { (t : IsHere arena.now.bytes key) → MatchOption result (length (values_at (tree_in arena.now.bytes t.root) t.path) ≤ index) (λ value. (member : Member) × (slice_get (values_at (tree_in arena.now.bytes t.root) t.path) index ≡ Some member) × Tells member value.name.now value.kind value.size) }
-    ensures short { IfSome result (λ value. length value.name.now ≤ 16383) }
+    ensures short { IfSome result (λ value. length value.name.now ≤ VALUE_NAME_LIMIT) }
 {
     let list = values_list(arena, key);
     if index >= list.count {
@@ -66,8 +66,8 @@ pub fn at(arena: &Arena, key: u32, index: u32) -> Option<Value<'_>>
 fn is_full(arena: &Arena, key: u32, list: ValuesList, name: &[u8]) -> bool
     requires here { IsHere arena.now.bytes key }
     requires list { HasList (cell_at arena.now.bytes) key list.count list.place }
-    ensures full { (t : IsHere arena.now.bytes key) → result ≡ true → (16384 ≤ length (values_at (tree_in arena.now.bytes t.root) t.path)) × (value_named name.now (values_at (tree_in arena.now.bytes t.root) t.path) ≡ None) }
-    ensures room { result ≡ false → (list.count < 16384) ⊎ IsNamed (cell_at arena.now.bytes) list.count list.place name.now }
+    ensures full { (t : IsHere arena.now.bytes key) → result ≡ true → (VALUES_LIMIT ≤ length (values_at (tree_in arena.now.bytes t.root) t.path)) × (value_named name.now (values_at (tree_in arena.now.bytes t.root) t.path) ≡ None) }
+    ensures room { result ≡ false → (list.count < VALUES_LIMIT) ⊎ IsNamed (cell_at arena.now.bytes) list.count list.place name.now }
 {
     if list.count < VALUES_LIMIT {
         return false;
@@ -87,11 +87,11 @@ pub fn set(
 ) -> Result<(), TreeFault>
     requires here { IsHere arena.old.bytes key }
     requires name { is_value_name name.now ≡ true }
-    requires bytes { length bytes.now ≤ 1048576 }
+    requires bytes { length bytes.now ≤ DATA_LIMIT }
     ensures ok { (t : IsHere arena.old.bytes key) → OnOk result (IsChanged arena.old.bytes arena.new.bytes t.root t.path (with_value name.now kind bytes.now moment)) }
-    ensures limit { (t : IsHere arena.old.bytes key) → ((result ≡ Err TreeFault.Limit) ↔ ((16384 ≤ length (values_at (tree_in arena.old.bytes t.root) t.path)) × (value_named name.now (values_at (tree_in arena.old.bytes t.root) t.path) ≡ None))) }
+    ensures limit { (t : IsHere arena.old.bytes key) → ((result ≡ Err TreeFault.Limit) ↔ ((VALUES_LIMIT ≤ length (values_at (tree_in arena.old.bytes t.root) t.path)) × (value_named name.now (values_at (tree_in arena.old.bytes t.root) t.path) ≡ None))) }
     ensures others { IfErr result (λ fault. (fault ≡ TreeFault.Limit) ⊎ ((fault ≡ TreeFault.Full) ⊎ (fault ≡ TreeFault.Memory))) }
-    ensures full { (result ≡ Err TreeFault.Full) → 268435456 < length arena.old.bytes + 1310720 }
+    ensures full { (result ≡ Err TreeFault.Full) → BINS_LIMIT < length arena.old.bytes + GROWTH_BOUND }
     ensures err { OnErr result (arena.new ≡ arena.old) }
 {
     let old = values_list(arena, key);

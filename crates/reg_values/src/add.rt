@@ -1,7 +1,9 @@
 //! A value more.
 
 ghost use Rattle.std.specs.Prelude.{◌≡◌, true, ◌≤◌, ◌<◌, ◌+◌, ◌*◌, ◌==◌, ◌++◌, ◌∷◌, [], if◌then◌else◌, ℕ, List, Some, None, Err, length, IfOk, OnOk, OnErr};
+ghost use Rattle.reg_names.specs.declared.TheConstants.{VALUE_NAME_LIMIT};
 ghost use Rattle.reg_names.specs.Names.{is_value_name};
+ghost use Rattle.reg_heap.specs.declared.limits.TheConstants.{DATA_LIMIT, VALUES_LIMIT};
 ghost use Rattle.reg_heap.specs.Paths.{Member};
 ghost use Rattle.reg_heap.specs.Internal.Heaps.{AreNew};
 ghost use Rattle.reg_heap.specs.Internal.Kinds.{Found, times, owned};
@@ -46,8 +48,8 @@ fn flags_of(name: &[u8]) -> u16
 
 /// Writes a value's data and its record into new cells.
 fn put_value(arena: &mut Arena, cell: u32, cells: &[u32], name: &[u8], kind: u32, bytes: &[u8])
-    requires name { length name.now ≤ 16383 }
-    requires small { length bytes.now ≤ 1048576 }
+    requires name { length name.now ≤ VALUE_NAME_LIMIT }
+    requires small { length bytes.now ≤ DATA_LIMIT }
     requires cells { HaveRoom (cell_at arena.old.bytes) (cell ∷ cells.now) (cell_size (20 + length name.now) ∷ data_sizes (length bytes.now)) }
     ensures fills { Fills (cell_at arena.old.bytes) (cell_at arena.new.bytes) (cell ∷ cells.now) }
     ensures holds { HoldsValue (cell_at arena.new.bytes) cell (record { name = name.now; kind = kind; bytes = bytes.now }) (cell ∷ cells.now) }
@@ -64,7 +66,7 @@ fn put_value(arena: &mut Arena, cell: u32, cells: &[u32], name: &[u8], kind: u32
 
 /// Puts an offset behind those of a list, whose cell has room for it.
 fn grow(arena: &mut Arena, list: ValuesList, cell: u32)
-    requires few { list.count < 16384 }
+    requires few { list.count < VALUES_LIMIT }
     requires owns { Owns (list_at list.count list.place) (cell_at arena.old.bytes) }
     requires room { HasRoom (cell_at arena.old.bytes) list.place (4 * list.count + 4) }
     requires some { 0 < list.count }
@@ -76,7 +78,7 @@ fn grow(arena: &mut Arena, list: ValuesList, cell: u32)
 
 /// Puts an offset behind those of a list in a new cell, and frees the list's own.
 fn move_list(arena: &mut Arena, list: ValuesList, place: u32, cell: u32)
-    requires few { list.count < 16384 }
+    requires few { list.count < VALUES_LIMIT }
     requires owns { OwnsBeside (list_at list.count list.place) (cell_at arena.old.bytes) (place ∷ []) }
     requires room { HasRoom (cell_at arena.old.bytes) place (4 * list.count + 4) }
     ensures list { (row : List ℕ) → (met : List Found) → list_at list.count list.place (cell_at arena.old.bytes) ≡ Some (row, met) → BecameList (cell_at arena.old.bytes) (cell_at arena.new.bytes) (λ offset. owned offset met + times offset (place ∷ [])) (list.count + 1) place (row ++ cell ∷ []) }
@@ -102,8 +104,8 @@ pub(crate) fn add(
 ) -> Result<ValuesList, ArenaFault>
     requires values { AreValues (cell_at arena.old.bytes) list.count list.place }
     requires name { is_value_name name.now ≡ true }
-    requires bytes { length bytes.now ≤ 1048576 }
-    requires few { list.count < 16384 }
+    requires bytes { length bytes.now ≤ DATA_LIMIT }
+    requires few { list.count < VALUES_LIMIT }
     requires new { (members : List Member) → (met : List Found) → members_at list.count list.place (cell_at arena.old.bytes) ≡ Some (members, met) → None ≡ place_named name.now members }
     ensures ok { IfOk result (λ after. (members : List Member) → (met : List Found) → members_at list.count list.place (cell_at arena.old.bytes) ≡ Some (members, met) → Became (cell_at arena.old.bytes) (cell_at arena.new.bytes) met after.count after.place (members ++ record { name = name.now; kind = kind; bytes = bytes.now } ∷ [])) }
     ensures cells { OnOk result (Makes (cell_at arena.old.bytes) (cell_at arena.new.bytes) (sizes_by (cell_at arena.old.bytes) list.count list.place (length name.now) (length bytes.now) None)) }

@@ -3,6 +3,7 @@
 //! Suhanov, Windows registry file format specification, section "Big data".
 
 ghost use Rattle.std.specs.Prelude.{◌≡◌, ◌<◌, ◌≤◌, ◌*◌, ◌+◌, ℕ, List, Some, IsSome, IfOk, length, get_or, take, drop, [], ◌∷◌};
+ghost use Rattle.reg_heap.specs.declared.limits.TheConstants.{DATA_LIMIT};
 ghost use Rattle.reg_heap.specs.Internal.Heaps.{GivesUp, allocated};
 ghost use Rattle.reg_heap.specs.Internal.Kinds.{Found, times};
 ghost use Rattle.reg_arena.specs.Cells.{cell_at};
@@ -12,9 +13,8 @@ ghost use Rattle.reg_records.specs.BigData.{segments_for as segments_for_of, seg
 ghost use Rattle.reg_shape.specs.Nodes.{pieces_at, big_at as big_data_at};
 ghost use Rattle.reg_values.specs.Internal.ValueListParts.{segments_at, Owns, GivesUpRead, Fills, HoldsData};
 
-use crate::SEGMENT;
 use reg_arena::Arena;
-use reg_records::{BigFields, offset_at, put_db, put_offset, read_db};
+use reg_records::{BigFields, SEGMENT_SIZE, offset_at, put_db, put_offset, read_db};
 use std::alloc::{AllocError, Global};
 
 /// How many segments data of a size has.
@@ -23,7 +23,7 @@ pub(crate) fn segments_for(size: usize) -> usize
     requires { size < 4294967296 }
     ensures { result ≡ segments_for_of size }
 {
-    (size + (SEGMENT - 1)) / SEGMENT
+    (size + (SEGMENT_SIZE - 1)) / SEGMENT_SIZE
 }
 
 /// The big data record in a cell.
@@ -64,7 +64,7 @@ fn joined(arena: &Arena, alloc: Global, size: usize, list: u32) -> Result<Vec<u8
     let mut bytes = Vec::with_capacity(alloc, size)?;
     for index in 0..segments_for(size) {
         let segment = offset_at(arena.content(list), index as u32);
-        let count = (size - SEGMENT * index).min(SEGMENT);
+        let count = (size - SEGMENT_SIZE * index).min(SEGMENT_SIZE);
         bytes.extend_from_slice(&arena.content(segment)[..count])?;
     }
     Ok(bytes)
@@ -72,12 +72,12 @@ fn joined(arena: &Arena, alloc: Global, size: usize, list: u32) -> Result<Vec<u8
 
 /// The bytes of one segment.
 fn piece(bytes: &[u8], index: usize) -> &[u8]
-    requires within { 16344 * index ≤ length bytes.now }
-    requires small { length bytes.now ≤ 1048576 }
-    ensures { result.now ≡ take 16344 (drop (16344 * index) bytes.now) }
+    requires within { SEGMENT_SIZE * index ≤ length bytes.now }
+    requires small { length bytes.now ≤ DATA_LIMIT }
+    ensures { result.now ≡ take SEGMENT_SIZE (drop (SEGMENT_SIZE * index) bytes.now) }
 {
-    let from = SEGMENT * index;
-    &bytes[from..bytes.len().min(from + SEGMENT)]
+    let from = SEGMENT_SIZE * index;
+    &bytes[from..bytes.len().min(from + SEGMENT_SIZE)]
 }
 
 /// Writes the offsets of segments into their list.
@@ -94,11 +94,11 @@ fn put_row(arena: &mut Arena, list: u32, segments: &[u32])
 
 /// Writes data into its segments.
 fn put_pieces(arena: &mut Arena, segments: &[u32], bytes: &[u8])
-    requires small { length bytes.now ≤ 1048576 }
-    requires all { length bytes.now ≤ 16344 * length segments.now }
-    requires none_over { 16344 * length segments.now < length bytes.now + 16344 }
+    requires small { length bytes.now ≤ DATA_LIMIT }
+    requires all { length bytes.now ≤ SEGMENT_SIZE * length segments.now }
+    requires none_over { SEGMENT_SIZE * length segments.now < length bytes.now + SEGMENT_SIZE }
     requires once { (offset : ℕ) → times offset segments.now ≤ 1 }
-    requires room { (index : ℕ) → index < length segments.now → HasRoom (cell_at arena.old.bytes) (get_or segments.now index 0) (length (take 16344 (drop (16344 * index) bytes.now))) }
+    requires room { (index : ℕ) → index < length segments.now → HasRoom (cell_at arena.old.bytes) (get_or segments.now index 0) (length (take SEGMENT_SIZE (drop (SEGMENT_SIZE * index) bytes.now))) }
     ensures fills { Fills (cell_at arena.old.bytes) (cell_at arena.new.bytes) segments.now }
     ensures reads { (met : List Found) × (pieces_at (segments_of (length bytes.now) segments.now) (cell_at arena.new.bytes) ≡ Some (bytes.now, met)) }
 {
@@ -109,13 +109,13 @@ fn put_pieces(arena: &mut Arena, segments: &[u32], bytes: &[u8])
 
 /// Writes data into new cells: a big data record's, its list's, and the segments'.
 pub(crate) fn put_big(arena: &mut Arena, head: u32, list: u32, segments: &[u32], bytes: &[u8])
-    requires big { 16344 < length bytes.now }
-    requires small { length bytes.now ≤ 1048576 }
+    requires big { SEGMENT_SIZE < length bytes.now }
+    requires small { length bytes.now ≤ DATA_LIMIT }
     requires count { length segments.now ≡ segments_for_of (length bytes.now) }
     requires once { (offset : ℕ) → times offset (head ∷ list ∷ segments.now) ≤ 1 }
     requires head { HasRoom (cell_at arena.old.bytes) head 8 }
     requires list { HasRoom (cell_at arena.old.bytes) list (4 * length segments.now) }
-    requires room { (index : ℕ) → index < length segments.now → HasRoom (cell_at arena.old.bytes) (get_or segments.now index 0) (length (take 16344 (drop (16344 * index) bytes.now))) }
+    requires room { (index : ℕ) → index < length segments.now → HasRoom (cell_at arena.old.bytes) (get_or segments.now index 0) (length (take SEGMENT_SIZE (drop (SEGMENT_SIZE * index) bytes.now))) }
     ensures fills { Fills (cell_at arena.old.bytes) (cell_at arena.new.bytes) (head ∷ list ∷ segments.now) }
     ensures holds { HoldsData (cell_at arena.new.bytes) (length bytes.now) head bytes.now (head ∷ list ∷ segments.now) }
 {

@@ -4,6 +4,7 @@
 
 ghost use Rattle.std.specs.Prelude.{◌≡◌, ◌<◌, ◌≤◌, ℕ, List, Some, IsSome, IfOk, slice_get, slice_index, length, [], ◌∷◌};
 ghost use Rattle.byteorder.specs.Endian.{little_bytes};
+ghost use Rattle.reg_heap.specs.declared.limits.TheConstants.{DATA_LIMIT};
 ghost use Rattle.reg_heap.specs.Paths.{Member};
 ghost use Rattle.reg_heap.specs.Internal.Kinds.{Found};
 ghost use Rattle.reg_arena.specs.Cells.{cell_at};
@@ -14,9 +15,9 @@ ghost use Rattle.reg_values.specs.ValueSizes.{data_sizes};
 
 use crate::big::{big_bytes, free_big, put_big};
 use crate::look::{cell_of, record_at};
-use crate::{INLINE, INLINE_LIMIT, SEGMENT, ValuesList};
+use crate::{INLINE, INLINE_LIMIT, ValuesList};
 use reg_arena::Arena;
-use reg_records::ValueFields;
+use reg_records::{SEGMENT_SIZE, ValueFields};
 use std::alloc::{AllocError, Global};
 
 /// What a value's record says of its data: the size with its top bit, and the offset or the data itself.
@@ -53,7 +54,7 @@ fn data_bytes(arena: &Arena, alloc: Global, fields: ValueFields) -> Result<Vec<u
         return Vec::from_slice(alloc, &bytes[..(fields.size - INLINE) as usize]);
     }
     let size = fields.size as usize;
-    if size > SEGMENT {
+    if size > SEGMENT_SIZE {
         return big_bytes(arena, alloc, size, fields.place);
     }
     if size == 0 {
@@ -82,7 +83,7 @@ fn packed(bytes: &[u8]) -> u32
 
 /// Writes a value's data into new cells of its sizes.
 pub(crate) fn put_data(arena: &mut Arena, cells: &[u32], bytes: &[u8]) -> DataFields
-    requires small { length bytes.now ≤ 1048576 }
+    requires small { length bytes.now ≤ DATA_LIMIT }
     requires cells { HaveRoom (cell_at arena.old.bytes) cells.now (data_sizes (length bytes.now)) }
     ensures fills { Fills (cell_at arena.old.bytes) (cell_at arena.new.bytes) cells.now }
     ensures holds { HoldsData (cell_at arena.new.bytes) result.size result.place bytes.now cells.now }
@@ -95,7 +96,7 @@ pub(crate) fn put_data(arena: &mut Arena, cells: &[u32], bytes: &[u8]) -> DataFi
         };
     }
     let head = cells[0];
-    if bytes.len() > SEGMENT {
+    if bytes.len() > SEGMENT_SIZE {
         put_big(arena, head, cells[1], &cells[2..], bytes);
         return DataFields { size, place: head };
     }
@@ -111,7 +112,7 @@ pub(crate) fn free_data(arena: &mut Arena, fields: ValueFields)
     if fields.size >= INLINE || fields.size == 0 {
         return;
     }
-    if fields.size as usize > SEGMENT {
+    if fields.size as usize > SEGMENT_SIZE {
         free_big(arena, fields.size as usize, fields.place);
         return;
     }

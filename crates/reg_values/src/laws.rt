@@ -4,6 +4,7 @@
 //! Suhanov, Windows registry file format specification, section "Key values list".
 ghost use Rattle.std.specs.Prelude.{◌≡◌, ℕ, List, Option, length, slice_get};
 ghost use Rattle.std.specs.Option.{option_and_then};
+ghost use Rattle.reg_heap.specs.declared.limits.TheConstants.{NONE};
 ghost use Rattle.reg_heap.specs.Paths.{Member};
 ghost use Rattle.reg_heap.specs.Members.{value_named, place_named};
 ghost use Rattle.reg_heap.specs.Internal.Heaps.{Heap};
@@ -11,7 +12,7 @@ ghost use Rattle.reg_values.specs.ValueLists.{AreValues, Became};
 
 /// A key without values has no list.
 pub fn no_values_are_no_list()
-    ensures { (heap : Heap) → AreValues heap 0 4294967295 }
+    ensures { (heap : Heap) → AreValues heap 0 NONE }
 {}
 
 /// There are as many values as the list counts.

@@ -26,17 +26,11 @@ pub use plan::plan_set;
 pub use removing::{clear, remove};
 pub use setting::set;
 
-/// No cell.
-const NONE: u32 = 0xFFFF_FFFF;
-
 /// The bit of a size field that says that the data stands in the record itself.
 const INLINE: u32 = 0x8000_0000;
 
 /// How many bytes of data stand in the record itself at most.
 const INLINE_LIMIT: usize = 4;
-
-/// How many bytes of data one cell holds at most, and each segment but the last.
-const SEGMENT: usize = 16_344;
 
 /// A key's list of values, as its key node names it.
 #[derive(Clone, Copy, Debug, PartialEq, Eq)]

@@ -3,7 +3,9 @@
 //! Suhanov, Windows registry file format specification, sections "Cell", "Key values list", "Key value" and "Big data".
 
 ghost use Rattle.std.specs.Prelude.{◌≡◌, true, ◌≤◌, ◌<◌, ◌+◌, ◌*◌, ◌++◌, [], length, IfOk, OnOk, IsSome, None, if◌then◌else◌};
+ghost use Rattle.reg_names.specs.declared.TheConstants.{VALUE_NAME_LIMIT};
 ghost use Rattle.reg_names.specs.Names.{is_value_name};
+ghost use Rattle.reg_heap.specs.declared.limits.TheConstants.{DATA_LIMIT, VALUES_LIMIT};
 ghost use Rattle.reg_arena.specs.Cells.{cell_at};
 ghost use Rattle.reg_values.specs.ValueLists.{AreValues};
 ghost use Rattle.reg_values.specs.ValueSizes.{cell_size as cell_size_of, data_sizes, segment_sizes, list_sizes, has_room as has_room_of};
@@ -11,9 +13,9 @@ ghost use Rattle.reg_values.specs.ValueSizes.{stays as stays_of, sizes_by, set_s
 
 use crate::big::segments_for;
 use crate::look::{cell_of, find, record_at};
-use crate::{INLINE_LIMIT, SEGMENT, ValuesList};
+use crate::{INLINE_LIMIT, ValuesList};
 use reg_arena::Arena;
-use reg_records::ValueFields;
+use reg_records::{SEGMENT_SIZE, ValueFields};
 use std::alloc::{AllocError, Global};
 
 /// The length of a value's record before its name, in bytes.
@@ -33,13 +35,13 @@ fn cell_size(bytes: usize) -> u32
 /// Puts the sizes of the cells of data of a size behind those of `sizes`.
 #[tactic(auto, unfolding(crate::specs::ValueSizes::data_sizes, reg_records::specs::BigData::segment_size))]
 pub(crate) fn plan_data(sizes: &mut Vec<u32>, size: usize) -> Result<(), AllocError>
-    requires { size ≤ 1048576 }
+    requires { size ≤ DATA_LIMIT }
     ensures { OnOk result (sizes.new.items ≡ sizes.old.items ++ data_sizes size) }
 {
     if size <= INLINE_LIMIT {
         return Ok(());
     }
-    if size <= SEGMENT {
+    if size <= SEGMENT_SIZE {
         sizes.push(cell_size(size))?;
         return Ok(());
     }
@@ -51,19 +53,19 @@ pub(crate) fn plan_data(sizes: &mut Vec<u32>, size: usize) -> Result<(), AllocEr
 
 /// Puts the sizes of the cells of so many segments behind those of `sizes`.
 fn plan_segments(sizes: &mut Vec<u32>, count: usize, size: usize) -> Result<(), AllocError>
-    requires size { size ≤ 1048576 }
-    requires all { 16344 * count < size + 16344 }
+    requires size { size ≤ DATA_LIMIT }
+    requires all { SEGMENT_SIZE * count < size + SEGMENT_SIZE }
     ensures { OnOk result (sizes.new.items ≡ sizes.old.items ++ segment_sizes count size) }
 {
     for index in 0..count {
-        sizes.push(cell_size((size - SEGMENT * index).min(SEGMENT)))?;
+        sizes.push(cell_size((size - SEGMENT_SIZE * index).min(SEGMENT_SIZE)))?;
     }
     Ok(())
 }
 
 /// Whether the list's cell has room for one value more.
 pub(crate) fn has_room(arena: &Arena, list: ValuesList) -> bool
-    requires few { list.count ≤ 16384 }
+    requires few { list.count ≤ VALUES_LIMIT }
     requires list { 0 < list.count → IsSome (cell_at arena.now.bytes list.place) }
     ensures { result ≡ has_room_of (cell_at arena.now.bytes) list.count list.place }
 {
@@ -73,19 +75,19 @@ pub(crate) fn has_room(arena: &Arena, list: ValuesList) -> bool
 /// Whether new data stays in the old data's one cell, which has the size that it needs.
 #[tactic(auto, unfolding(crate::specs::ValueSizes::stays, reg_records::specs::BigData::segment_size))]
 pub(crate) fn stays(arena: &Arena, old: ValueFields, size: usize) -> bool
-    requires { old.size ≤ 16344 → IsSome (cell_at arena.now.bytes old.place) }
+    requires { old.size ≤ SEGMENT_SIZE → IsSome (cell_at arena.now.bytes old.place) }
     ensures { result ≡ stays_of (cell_at arena.now.bytes) old size }
 {
     size > INLINE_LIMIT
-        && size <= SEGMENT
-        && old.size as usize <= SEGMENT
+        && size <= SEGMENT_SIZE
+        && old.size as usize <= SEGMENT_SIZE
         && cell_size(size) as usize == arena.content(old.place).len() + 4
 }
 
 /// Puts the size of the cell that a list moves to for one value more, if it moves, behind those of `sizes`.
 #[tactic(auto, unfolding(crate::specs::ValueSizes::list_sizes))]
 fn plan_list(sizes: &mut Vec<u32>, arena: &Arena, list: ValuesList) -> Result<(), AllocError>
-    requires few { list.count ≤ 16384 }
+    requires few { list.count ≤ VALUES_LIMIT }
     requires list { 0 < list.count → IsSome (cell_at arena.now.bytes list.place) }
     ensures { OnOk result (sizes.new.items ≡ sizes.old.items ++ list_sizes (cell_at arena.now.bytes) list.count list.place) }
 {
@@ -105,10 +107,10 @@ pub(crate) fn plan_add(
     name: usize,
     size: usize,
 ) -> Result<Vec<u32>, AllocError>
-    requires few { list.count ≤ 16384 }
+    requires few { list.count ≤ VALUES_LIMIT }
     requires list { 0 < list.count → IsSome (cell_at arena.now.bytes list.place) }
-    requires name { name ≤ 16383 }
-    requires size { size ≤ 1048576 }
+    requires name { name ≤ VALUE_NAME_LIMIT }
+    requires size { size ≤ DATA_LIMIT }
     ensures { IfOk result (λ sizes. sizes.items ≡ sizes_by (cell_at arena.now.bytes) list.count list.place name size None) }
 {
     let mut sizes = Vec::new(alloc);
@@ -125,8 +127,8 @@ pub(crate) fn plan_replace(
     old: ValueFields,
     size: usize,
 ) -> Result<Vec<u32>, AllocError>
-    requires old { old.size ≤ 16344 → IsSome (cell_at arena.now.bytes old.place) }
-    requires size { size ≤ 1048576 }
+    requires old { old.size ≤ SEGMENT_SIZE → IsSome (cell_at arena.now.bytes old.place) }
+    requires size { size ≤ DATA_LIMIT }
     ensures { IfOk result (λ sizes. sizes.items ≡ (if stays_of (cell_at arena.now.bytes) old size then [] else data_sizes size)) }
 {
     let mut sizes = Vec::new(alloc);
@@ -150,7 +152,7 @@ pub fn plan_set(
 ) -> Result<Vec<u32>, AllocError>
     requires values { AreValues (cell_at arena.now.bytes) list.count list.place }
     requires name { is_value_name name.now ≡ true }
-    requires size { size ≤ 1048576 }
+    requires size { size ≤ DATA_LIMIT }
     ensures { IfOk result (λ sizes. sizes.items ≡ set_sizes (cell_at arena.now.bytes) list.count list.place name.now size) }
 {
     match find(arena, list, name) {

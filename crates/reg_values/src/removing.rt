@@ -3,6 +3,7 @@
 //! Win32 registry reference, `RegDeleteValue`; Suhanov, Windows registry file format specification, section "Key values list".
 
 ghost use Rattle.std.specs.Prelude.{◌≡◌, ◌<◌, ◌≤◌, ◌+◌, ◌++◌, ℕ, List, Some, take, drop};
+ghost use Rattle.reg_heap.specs.declared.limits.TheConstants.{VALUES_LIMIT};
 ghost use Rattle.reg_heap.specs.Paths.{Member};
 ghost use Rattle.reg_heap.specs.Internal.Heaps.{Swaps};
 ghost use Rattle.reg_heap.specs.Internal.Kinds.{Found, owned};
@@ -12,10 +13,11 @@ ghost use Rattle.reg_shape.specs.Nodes.{member_at, members_at};
 ghost use Rattle.reg_values.specs.ValueLists.{AreValues, IsNamed, Became};
 ghost use Rattle.reg_values.specs.Internal.ValueListParts.{list_at, Owns, GivesUpRead, BecameList};
 
+use crate::ValuesList;
 use crate::data::free_data;
 use crate::look::{cell_of, find, record_at};
-use crate::{NONE, ValuesList};
 use reg_arena::Arena;
+use reg_heap::limits::NONE;
 
 /// Frees a value's record and its data.
 fn free_value(arena: &mut Arena, cell: u32)
@@ -29,12 +31,12 @@ fn free_value(arena: &mut Arena, cell: u32)
 
 /// Takes the offset at an index out of the list; the later ones close up. A list of one is freed.
 fn take_out(arena: &mut Arena, list: ValuesList, index: u32) -> ValuesList
-    requires few { list.count ≤ 16384 }
+    requires few { list.count ≤ VALUES_LIMIT }
     requires index { index < list.count }
     requires list { Owns (list_at list.count list.place) (cell_at arena.old.bytes) }
     ensures list { (row : List ℕ) → (met : List Found) → list_at list.count list.place (cell_at arena.old.bytes) ≡ Some (row, met) → BecameList (cell_at arena.old.bytes) (cell_at arena.new.bytes) (λ offset. owned offset met) result.count result.place (take index row ++ drop (index + 1) row) }
     ensures count { result.count + 1 ≡ list.count }
-    ensures none { result.count ≡ 0 → result.place ≡ 4294967295 }
+    ensures none { result.count ≡ 0 → result.place ≡ NONE }
 {
     if list.count == 1 {
         arena.free(list.place);

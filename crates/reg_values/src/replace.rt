@@ -1,6 +1,7 @@
 //! Other data for a value.
 
 ghost use Rattle.std.specs.Prelude.{◌≡◌, true, ◌≤◌, ◌+◌, ℕ, List, Some, Err, [], length, OnOk, OnErr};
+ghost use Rattle.reg_heap.specs.declared.limits.TheConstants.{DATA_LIMIT};
 ghost use Rattle.reg_heap.specs.Paths.{Member};
 ghost use Rattle.reg_heap.specs.Internal.Kinds.{Found, times, owned};
 ghost use Rattle.reg_arena.specs.Cells.{cell_at};
@@ -28,7 +29,7 @@ fn rewrite(arena: &mut Arena, cell: u32, old: ValueFields, kind: u32, bytes: &[u
     requires written { IsWrittenValue (cell_at arena.old.bytes) cell }
     requires record_is { (name : List ℕ) × (value_record_at (cell_at arena.old.bytes) cell ≡ Some (record { fields = old; name = name })) }
     requires stays { stays_of (cell_at arena.old.bytes) old (length bytes.now) ≡ true }
-    requires bytes { length bytes.now ≤ 1048576 }
+    requires bytes { length bytes.now ≤ DATA_LIMIT }
     ensures value { (m : Member) → (met : List Found) → member_at cell (cell_at arena.old.bytes) ≡ Some (m, met) → BecameValue (cell_at arena.old.bytes) (cell_at arena.new.bytes) (λ offset. owned offset met) cell (record { name = m.name; kind = kind; bytes = bytes.now }) }
     ensures cells { Makes (cell_at arena.old.bytes) (cell_at arena.new.bytes) [] }
 {
@@ -41,7 +42,7 @@ fn exchange(arena: &mut Arena, cell: u32, cells: &[u32], old: ValueFields, kind:
     requires owns { OwnsBeside (member_at cell) (cell_at arena.old.bytes) cells.now }
     requires written { IsWrittenValue (cell_at arena.old.bytes) cell }
     requires record_is { (name : List ℕ) × (value_record_at (cell_at arena.old.bytes) cell ≡ Some (record { fields = old; name = name })) }
-    requires bytes { length bytes.now ≤ 1048576 }
+    requires bytes { length bytes.now ≤ DATA_LIMIT }
     requires cells { HaveRoom (cell_at arena.old.bytes) cells.now (data_sizes (length bytes.now)) }
     ensures value { (m : Member) → (met : List Found) → member_at cell (cell_at arena.old.bytes) ≡ Some (m, met) → BecameValue (cell_at arena.old.bytes) (cell_at arena.new.bytes) (λ offset. owned offset met + times offset cells.now) cell (record { name = m.name; kind = kind; bytes = bytes.now }) }
     ensures keeps { Keeps (cell_at arena.old.bytes) (cell_at arena.new.bytes) cells.now }
@@ -61,7 +62,7 @@ pub(crate) fn replace(
 ) -> Result<(), ArenaFault>
     requires owns { Owns (member_at cell) (cell_at arena.old.bytes) }
     requires written { IsWrittenValue (cell_at arena.old.bytes) cell }
-    requires bytes { length bytes.now ≤ 1048576 }
+    requires bytes { length bytes.now ≤ DATA_LIMIT }
     ensures value { OnOk result ((m : Member) → (met : List Found) → member_at cell (cell_at arena.old.bytes) ≡ Some (m, met) → BecameValue (cell_at arena.old.bytes) (cell_at arena.new.bytes) (λ offset. owned offset met) cell (record { name = m.name; kind = kind; bytes = bytes.now })) }
     ensures cells { OnOk result (Makes (cell_at arena.old.bytes) (cell_at arena.new.bytes) (new_data_sizes (cell_at arena.old.bytes) (length bytes.now) (value_record_at (cell_at arena.old.bytes) cell))) }
     ensures err { OnErr result (arena.new ≡ arena.old) }

@@ -4,6 +4,7 @@
 
 ghost use Rattle.std.specs.Prelude.{◌≡◌, true, ◌≤◌, ◌<◌, ◌+◌, ◌⊎◌, ℕ, List, Some, Err, length, IfOk, OnOk, OnErr};
 ghost use Rattle.reg_names.specs.Names.{is_value_name};
+ghost use Rattle.reg_heap.specs.declared.limits.TheConstants.{BINS_LIMIT, DATA_LIMIT, GROWTH_BOUND, VALUES_LIMIT};
 ghost use Rattle.reg_heap.specs.Paths.{Member};
 ghost use Rattle.reg_heap.specs.Internal.Kinds.{Found};
 ghost use Rattle.reg_heap.specs.Members.{values_with};
@@ -39,14 +40,14 @@ pub fn set(
 ) -> Result<ValuesList, ArenaFault>
     requires values { AreValues (cell_at arena.old.bytes) list.count list.place }
     requires name { is_value_name name.now ≡ true }
-    requires bytes { length bytes.now ≤ 1048576 }
-    requires room { (list.count < 16384) ⊎ IsNamed (cell_at arena.old.bytes) list.count list.place name.now }
+    requires bytes { length bytes.now ≤ DATA_LIMIT }
+    requires room { (list.count < VALUES_LIMIT) ⊎ IsNamed (cell_at arena.old.bytes) list.count list.place name.now }
     ensures ok { IfOk result (λ after. (members : List Member) → (met : List Found) → members_at list.count list.place (cell_at arena.old.bytes) ≡ Some (members, met) → Became (cell_at arena.old.bytes) (cell_at arena.new.bytes) met after.count after.place (values_with name.now kind bytes.now members)) }
     ensures cells { OnOk result (Makes (cell_at arena.old.bytes) (cell_at arena.new.bytes) (set_sizes (cell_at arena.old.bytes) list.count list.place name.now (length bytes.now))) }
     ensures err { OnErr result (arena.new ≡ arena.old) }
     ensures full { result ≡ Err ArenaFault.Full → NoFit arena.old.bytes (total_of (set_sizes (cell_at arena.old.bytes) list.count list.place name.now (length bytes.now))) }
     ensures limit { result ≡ Err ArenaFault.Full → PassesLimit arena.old.bytes (total_of (set_sizes (cell_at arena.old.bytes) list.count list.place name.now (length bytes.now))) }
-    ensures near { result ≡ Err ArenaFault.Full → 268435456 < length arena.old.bytes + 1310720 }
+    ensures near { result ≡ Err ArenaFault.Full → BINS_LIMIT < length arena.old.bytes + GROWTH_BOUND }
 {
     let Some(index) = find(arena, list, name) else {
         return add(arena, alloc, list, name, kind, bytes);

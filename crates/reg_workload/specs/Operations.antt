@@ -1,5 +1,6 @@
 -- What is done by a handle.
 use Rattle.std.specs.Prelude.{ℕ, codes, Some}
+use Rattle.reg_names.specs.declared.TheConstants.{VALUE_NAME_LIMIT}
 use Rattle.reg_model.specs.declared.call.Call.{Call}
 use Rattle.reg_model.specs.declared.call.Call.TheVariants.{Change as Changes, Query as Asks}
 use Rattle.reg_model.specs.declared.call.Change.TheVariants.{OpenKey, CreateKey, SetValue, DeleteValue as DropsValue, DeleteKey as DropsKey, Close as Closes}
@@ -15,8 +16,8 @@ call_of CreateOld h = Changes (CreateKey h (codes "Old") 983103)
 call_of CreateNew h = Changes (CreateKey h (codes "New") 983103)
 call_of Query h = Asks (QueryValue h (codes "v") (Some 4294967295))
 call_of Set h = Changes (SetValue h (codes "v") 4 (codes "data"))
-call_of EnumKey h = Asks (ListsKey h 0 16383)
-call_of EnumValue h = Asks (ListsValue h 0 16383 (Some 4294967295))
+call_of EnumKey h = Asks (ListsKey h 0 VALUE_NAME_LIMIT)
+call_of EnumValue h = Asks (ListsValue h 0 VALUE_NAME_LIMIT (Some 4294967295))
 call_of Info h = Asks (QueryInfo h)
 call_of DeleteValue h = Changes (DropsValue h (codes "v"))
 call_of DeleteKey h = Changes (DropsKey h (codes "New"))

@@ -6,6 +6,7 @@ ghost use Rattle.reg_workload.specs.declared.operations.Operation.TheVariants.{Q
 ghost use Rattle.reg_workload.specs.Operations.{call_of};
 
 use reg_model::{Bytes, Call, Change, Query};
+use reg_names::VALUE_NAME_LIMIT;
 use std::alloc::{AllocError, Global};
 
 /// Every right.
@@ -27,7 +28,7 @@ const DATA: &str = "data";
 const KIND: u32 = 4;
 
 /// The largest room for a name, in bytes.
-const NAME_ROOM: u32 = 16_383;
+const NAME_ROOM: u32 = VALUE_NAME_LIMIT as u32;
 
 /// What can be done by a handle of a key.
 #[derive(Clone, Copy)]

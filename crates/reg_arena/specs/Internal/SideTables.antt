@@ -1,5 +1,6 @@
 -- Side tables of an arena, with a number for each eight bytes of the bins. They are no part of its value.
 use Rattle.std.specs.Prelude.{◌≡◌, ℕ, ◌/◌, ◌*◌, ◌+◌, ◌-◌, ◌<◌, ◌≤◌, ◌==◌, ◌&&◌, ◌⊎◌, not, set, if◌then◌else◌, List, [], ◌∷◌, length, get_or, ⊤, Some}
+use Rattle.reg_heap.specs.declared.limits.TheConstants.{NONE}
 use Rattle.reg_arena.specs.declared.Cell.{Cell}
 use Rattle.reg_arena.specs.Cells.{cells_of}
 use Rattle.reg_arena.specs.Free.{chain}
@@ -21,7 +22,7 @@ abbrev pub AreAllBacks : List ℕ → List ℕ → List ℕ → List ℕ → Typ
 AreAllBacks table bytes [] counts = ⊤
 AreAllBacks table bytes (head ∷ heads) [] = ⊤
 AreAllBacks table bytes (head ∷ heads) (count ∷ counts) =
-    AreBacks table 4294967295 (chain count bytes head) × AreAllBacks table bytes heads counts
+    AreBacks table NONE (chain count bytes head) × AreAllBacks table bytes heads counts
 
 -- an arena, with a table that has the free cell that ends at each place, and one that has the cell before each free one in its
 -- list
@@ -34,7 +35,7 @@ pub record IsIndexed (bytes heads counts ends backs : List ℕ) : Type 0 where
 
 -- the table after the number of a cell, if there is one, is set
 abbrev pub marked : ℕ → ℕ → List ℕ → List ℕ
-marked cell value table = if cell == 4294967295 then table else set table (cell / 8) value
+marked cell value table = if cell == NONE then table else set table (cell / 8) value
 
 -- the tables after the front of a free cell, or all of it, was taken
 abbrev pub NotesTaken : ℕ → ℕ → ℕ → ℕ → ℕ → List ℕ → List ℕ → List ℕ → List ℕ → Type 0

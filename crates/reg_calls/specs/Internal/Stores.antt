@@ -1,6 +1,8 @@
 -- The keys and the open handles on them, as calls find and leave them.
 use Rattle.std.specs.Prelude.{◌≡◌, ℕ, ◌+◌, ◌<◌, ◌≤◌, Bool, true, false, length, Option, Some, All, Result, Ok, Err}
+use Rattle.reg_heap.specs.declared.limits.TheConstants.{BINS_LIMIT, GROWTH_BOUND}
 use Rattle.reg_heap.specs.Paths.{Path}
+use Rattle.reg_model.specs.declared.limits.TheConstants.{JOURNAL_LIMIT}
 use Rattle.reg_model.specs.Worlds.{World, Handle, At, IsStanding, look, after}
 use Rattle.reg_model.specs.Causes.{State, by_handle}
 use Rattle.reg_model.specs.Replies.{reply_to}
@@ -30,7 +32,7 @@ AreStanding store = IsStanding store.tree.tree store.handles.handles
 pub record IsReady (entries : ℕ) (store : Store) : Type 0 where
   pub stand : IsStanding store.tree.tree store.handles.handles
   pub below : All (λ (h : Handle). h.number < entries) store.handles.handles
-  pub small : entries + length store.handles.handles ≤ 16777216
+  pub small : entries + length store.handles.handles ≤ JOURNAL_LIMIT
 
 -- the session's handle of that number leads to a key
 pub record IsTarget (store : Store) (session number : ℕ) : Type 0 where
@@ -62,8 +64,8 @@ is_closing (DeleteKey h path) = false
 
 -- a change may find no space in the bins: one that takes some, where they are within 1,310,720 bytes of their limit
 abbrev pub LacksSpace : Keys → Change → Type 0
-LacksSpace keys (CreateKey h path mask) = 268435456 < length keys.bins.bytes + 1310720
-LacksSpace keys (SetValue h name kind bytes) = 268435456 < length keys.bins.bytes + 1310720
+LacksSpace keys (CreateKey h path mask) = BINS_LIMIT < length keys.bins.bytes + GROWTH_BOUND
+LacksSpace keys (SetValue h name kind bytes) = BINS_LIMIT < length keys.bins.bytes + GROWTH_BOUND
 LacksSpace keys (OpenRoot mask) = ⊥
 LacksSpace keys (OpenKey h path mask) = ⊥
 LacksSpace keys (DeleteValue h name) = ⊥

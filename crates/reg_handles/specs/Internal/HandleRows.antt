@@ -1,5 +1,6 @@
 -- What the rows and keys of a table stand for.
 use Rattle.std.specs.Prelude.{◌≡◌, ℕ, ◌<◌, ◌==◌, List, map, count_by, All, Option, Some, None, slice_index}
+use Rattle.reg_model.specs.declared.limits.TheConstants.{SESSIONS_LIMIT}
 use Rattle.slab.specs.Slab.{Slab, get}
 use Rattle.reg_model.specs.Worlds.{Handle}
 use Rattle.reg_model.specs.Causes.{handles_of as count_of}
@@ -20,7 +21,7 @@ times key es = count_by (λ (e : ℕ × Row). e.1.key == key) es
 
 -- how many handles each of the 64 sessions has
 abbrev pub AreCounts : List ℕ → List Handle → Type 0
-AreCounts counts handles = (session : ℕ) → session < 64 → slice_index counts session ≡ count_of session handles
+AreCounts counts handles = (session : ℕ) → session < SESSIONS_LIMIT → slice_index counts session ≡ count_of session handles
 
 -- a key stands there exactly where it has rows; it says how many, and its path is a folded one
 abbrev pub IsUsed : Option OpenKey → ℕ → Type 0
@@ -34,4 +35,4 @@ pub record IsTable (s : Slab OpenKey) (paths : List ℕ → Option ℕ) (es : Li
   pub keys : (key : ℕ) → IsUsed (get s key) (times key es)
   pub found : (text : List ℕ) (key : ℕ) → paths text ≡ Some key → IsOpenAt (get s key) text
   pub listed : (text : List ℕ) (key : ℕ) → IsOpenAt (get s key) text → paths text ≡ Some key
-  pub fit : All (λ (e : ℕ × Row). e.1.session < 64) es
+  pub fit : All (λ (e : ℕ × Row). e.1.session < SESSIONS_LIMIT) es

@@ -1,3 +1,4 @@
+use Rattle.reg_names.specs.declared.TheConstants.{PATH_LIMIT}
 use Rattle.reg_names.proofs.PathJoins.{joined-names, joined-valid}
 use Rattle.reg_names.proofs.join_paths.Goals as goal
 
@@ -6,5 +7,5 @@ returns-clause-names c = joined-names c.args.above.now c.args.path.now _ _ _ _ c
 
 pub returns-clause-valid : goal.returns-clause-valid
 returns-clause-valid c =
-    joined-valid 512 c.args.above.now c.args.path.now c.push_folded-2.new.text.items c.requires.above c.requires.path
+    joined-valid PATH_LIMIT c.args.above.now c.args.path.now c.push_folded-2.new.text.items c.requires.above c.requires.path
     (joined-names c.args.above.now c.args.path.now _ _ _ _ c.in_ok-text.ensures.items c.in_ok-push_folded.ensures c.in_ok-push_backslash.ensures c.in_ok-push_folded-2.ensures)

@@ -2,6 +2,7 @@
 use Rattle.std.proofs.Common.{◌≡◌, ℕ, zero, suc, ◌+◌, ◌*◌, ◌%◌, ◌<◌, ◌≤◌, Bool, true, false, cond, Some, List, [], ◌∷◌, ◌++◌, map, length, take, drop, get_or, refl, sym, ap, ◌∙◌, subst, arith}
 use Rattle.std.specs.List.{AllByRecursion}
 use Rattle.std.proofs.lemmas.Bool.{false≢true}
+use Rattle.reg_names.specs.declared.TheConstants.{PATH_LIMIT}
 use Rattle.reg_names.specs.Names.{folded, hash}
 use Rattle.reg_heap.specs.Paths.{Path}
 use Rattle.reg_heap.specs.Internal.Heaps.{Heap}
@@ -186,10 +187,11 @@ module _ (h k : Heap) (root : ℕ) (was : Branch Node) (m : Node) (i : ℕ) (see
 
 -- ---- how many keys lead down
 
-pub deep-hung : (p : Path) (keys was : Branch Node) (i o : ℕ) (n : Node) → branch_at p keys ≡ Some was → depth keys.below ≤ 512 → length p + 1 ≤ 512 → length p + depth (hang i o n was.below) ≤ 512
+pub deep-hung : (p : Path) (keys was : Branch Node) (i o : ℕ) (n : Node) → branch_at p keys ≡ Some was → depth keys.below ≤ PATH_LIMIT → length p + 1 ≤ PATH_LIMIT →
+    length p + depth (hang i o n was.below) ≤ PATH_LIMIT
 deep-hung p keys was i o n e s l = let d = branch-depth was p keys e in let t = depth-hang i o n was.below in omega (arith, d, t, s, l)
 
-pub deep-unhung : (p : Path) (keys was : Branch Node) (i : ℕ) → branch_at p keys ≡ Some was → depth keys.below ≤ 512 → length p + depth (unhang i was.below) ≤ 512
+pub deep-unhung : (p : Path) (keys was : Branch Node) (i : ℕ) → branch_at p keys ≡ Some was → depth keys.below ≤ PATH_LIMIT → length p + depth (unhang i was.below) ≤ PATH_LIMIT
 deep-unhung p keys was i e s = let d = branch-depth was p keys e in let t = depth-unhang i was.below in omega (arith, d, t, s)
 
 -- ---- the key at an index, by its name

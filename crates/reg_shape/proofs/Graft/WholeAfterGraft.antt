@@ -3,6 +3,8 @@ use Rattle.std.proofs.Common.{◌≡◌, ◌↔◌, ℕ, zero, suc, ◌+◌, ◌
 use Rattle.std.specs.List.{AllByRecursion}
 use Rattle.std.specs.Option.{option_map}
 use Rattle.std.proofs.lemmas.Option.{same_Some}
+use Rattle.reg_names.specs.declared.TheConstants.{PATH_LIMIT}
+use Rattle.reg_heap.specs.declared.limits.TheConstants.{DESCRIPTOR_LIMIT}
 use Rattle.reg_heap.specs.Paths.{Path}
 use Rattle.reg_heap.specs.Internal.Heaps.{Heap}
 use Rattle.reg_heap.specs.Internal.Kinds.{times}
@@ -160,7 +162,7 @@ module _ (h k : Heap) (was is : Branch Node) where
         reads = r.now;
         plain = r.plain w.plain;
         some = subst (λ (s : KeySecurityRecord). 1 ≤ length s.descriptor) same w.some;
-        short = subst (λ (s : KeySecurityRecord). length s.descriptor ≤ 65535) same w.short;
+        short = subst (λ (s : KeySecurityRecord). length s.descriptor ≤ DESCRIPTOR_LIMIT) same w.short;
       }
 
   securities-recounted : (ring : List ℕ) → AllByRecursion Recounts ring → AllByRecursion (IsWrittenSecurity h) ring → AllByRecursion (IsWrittenSecurity k) ring
@@ -227,7 +229,7 @@ module _ (h k : Heap) (root : ℕ) (p : Path) (keys was is : Branch Node) (first
       (g.securities z) in
       (λ l. (w.ringed z).0 (s.0 l), λ l. s.1 ((w.ringed z).1 l))
 
-  pub grafted-whole : length p + depth is.below ≤ 512 → IsShape k root (graft_at p is.node is.below keys) first others left
+  pub grafted-whole : length p + depth is.below ≤ PATH_LIMIT → IsShape k root (graft_at p is.node is.below keys) first others left
   grafted-whole deep = record {
     place = graft-place is.node is.below p keys ∙ w.place;
     stands = grafted-stands;
@@ -240,6 +242,6 @@ module _ (h k : Heap) (root : ℕ) (p : Path) (keys was is : Branch Node) (first
 
 -- the hive is whole with the branch that came
 pub grafted : (h k : Heap) (root : ℕ) (p : Path) (keys was is : Branch Node) (first : ℕ) (others spare left : List ℕ) → branch_at p keys ≡ Some was →
-    IsGrafted h k root was is first others spare left → length p + depth is.below ≤ 512 → IsShape h root keys first others spare →
+    IsGrafted h k root was is first others spare left → length p + depth is.below ≤ PATH_LIMIT → IsShape h root keys first others spare →
     IsShape k root (graft_at p is.node is.below keys) first others left
 grafted h k root p keys was is first others spare left e g deep w = grafted-whole h k root p keys was is first others spare left e g w deep

@@ -1,6 +1,7 @@
 -- A key and all below it given way to others: what making a key, and deleting one, do to a shape.
 use Rattle.std.specs.Prelude.{◌≡◌, ◌↔◌, ℕ, zero, suc, ◌+◌, ◌<◌, ◌≤◌, cond, Option, Some, None, List, [], ◌∷◌}
 use Rattle.std.specs.List.{AllByRecursion}
+use Rattle.reg_names.specs.declared.TheConstants.{PATH_LIMIT}
 use Rattle.reg_heap.specs.Paths.{Path}
 use Rattle.reg_heap.specs.Internal.Heaps.{Heap, allocated}
 use Rattle.reg_heap.specs.Internal.Kinds.{times}
@@ -22,7 +23,7 @@ pub record IsShape (heap : Heap) (root : ℕ) (keys : Branch Node) (first : ℕ)
   pub ring : IsRing heap first others
   pub ringed : (offset : ℕ) → 0 < total_of (shares offset) keys ↔ 0 < times offset (first ∷ others)
   pub counts : AllByRecursion (λ offset. count_at heap offset ≡ Some (total_of (shares offset) keys)) (first ∷ others)
-  pub shallow : depth keys.below ≤ 512
+  pub shallow : depth keys.below ≤ PATH_LIMIT
 
 -- the key at a path, with all below it
 abbrev pub branch_in : Path → Forest Node → Option (Branch Node)

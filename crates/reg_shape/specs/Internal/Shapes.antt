@@ -3,6 +3,7 @@
 use Rattle.std.specs.Prelude.{◌≡◌, ◌↔◌, ℕ, suc, ◌+◌, ◌<◌, ◌≤◌, max, List, [], ◌∷◌, ◌++◌, map, length, take, drop, Some, unwrap_or}
 use Rattle.std.specs.List.{AllByRecursion}
 use Rattle.std.specs.FinMap.{from_entries}
+use Rattle.reg_names.specs.declared.TheConstants.{PATH_LIMIT}
 use Rattle.reg_heap.specs.Paths.{Path, Rec, Tree}
 use Rattle.reg_heap.specs.Internal.Heaps.{Heap, allocated}
 use Rattle.reg_heap.specs.Internal.Kinds.{Found, times, owned, shared}
@@ -94,4 +95,4 @@ pub record IsWholeShape (heap : Heap) (root : ℕ) (keys : Branch Node) (first :
   pub ring : IsRing heap first others
   pub ringed : (offset : ℕ) → 0 < total_of (shares offset) keys ↔ 0 < times offset (first ∷ others)
   pub counts : AllByRecursion (λ offset. count_at heap offset ≡ Some (total_of (shares offset) keys)) (first ∷ others)
-  pub shallow : depth keys.below ≤ 512
+  pub shallow : depth keys.below ≤ PATH_LIMIT

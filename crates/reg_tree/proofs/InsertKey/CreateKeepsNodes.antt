@@ -1,6 +1,7 @@
 -- A tree's nodes where keys were made.
 use Rattle.std.proofs.Common.{◌≡◌, ◌≢◌, ◌↔◌, ℕ, ◌≤◌, true, List, [], ◌++◌, map, length, sym, subst, arith, length-append}
 use Rattle.std.specs.Prelude.{Result, Ok, Err, OnOk, OnErr, IfOk}
+use Rattle.reg_names.specs.declared.TheConstants.{PATH_LIMIT}
 use Rattle.reg_names.specs.Names.{folded, path_of}
 use Rattle.reg_heap.specs.Paths.{Path}
 use Rattle.reg_heap.specs.Edits.{folded_path, with_keys, missing}
@@ -59,10 +60,10 @@ module _ (bins : Bins) (root : ℕ) (holds : Holds bins.bytes root) (now : Keys)
             )
         by (Err f) c n = c
 
-    pub depth_created : IfOk result (λ made. made.node.depth ≤ 512)
+    pub depth_created : IfOk result (λ made. made.node.depth ≤ PATH_LIMIT)
     depth_created = by result (its some.0 some.1)
       where
-        by : (r : Answer) → IfOk r (λ made. IsCreated bins.bytes new.bytes root some.0 from (path_of text) moment made.node) → IfOk r (λ made. made.node.depth ≤ 512)
+        by : (r : Answer) → IfOk r (λ made. IsCreated bins.bytes new.bytes root some.0 from (path_of text) moment made.node) → IfOk r (λ made. made.node.depth ≤ PATH_LIMIT)
         by (Ok made) c =
             let t : IsHere new.bytes made.node.offset = record { root = root; path = some.0 ++ map folded (path_of text); holds = c.holds; at = c.place } in
             let s = shallow new.bytes made.node.offset t in

@@ -5,7 +5,9 @@ use Rattle.std.specs.Option.{option_and_then}
 use Rattle.std.proofs.lemmas.Bool.{false≢true}
 use Rattle.std.proofs.lemmas.List.{append-nil, append_assoc, map-append}
 use Rattle.std.proofs.lemmas.Option.{none-some}
+use Rattle.reg_names.specs.declared.TheConstants.{PATH_LIMIT}
 use Rattle.reg_names.specs.Names.{folded, path_of}
+use Rattle.reg_heap.specs.declared.limits.TheConstants.{SUBKEYS_LIMIT, MADE_LIMIT}
 use Rattle.reg_heap.specs.Paths.{Path, Tree, children_of}
 use Rattle.reg_heap.specs.Edits.{child_path, has_child, with_key, with_keys, missing, last_there}
 use Rattle.reg_heap.specs.Internal.Heaps.{Heap}
@@ -158,7 +160,7 @@ module _ (old : List ℕ) (from : TreeNode) (t : IsHere old from.offset) (path :
 
   module _ (depth : from.depth ≡ length t.path) where
     abbrev Many : Type 0
-    Many = (32 < length left) ⊎ ((512 < parent.depth + length left) ⊎ (500 ≤ length (children_of (tree_in old parent_here.root) parent_here.path)))
+    Many = (MADE_LIMIT < length left) ⊎ ((PATH_LIMIT < parent.depth + length left) ⊎ (SUBKEYS_LIMIT ≤ length (children_of (tree_in old parent_here.root) parent_here.path)))
 
     same-depth : parent.depth + length left ≡ length t.path + length names
     same-depth = let d = r.passes.depth in let n = number in omega (arith, d, n, depth)
@@ -167,21 +169,21 @@ module _ (old : List ℕ) (from : TreeNode) (t : IsHere old from.offset) (path :
     unfolding here_then
     too_many some m = record { some = λ e. some (sym missing-are ∙ e); many = by m }
       where
-        by : Many → (32 < length (missing tree t.path names)) ⊎ ((512 < length t.path + length names) ⊎ (500 ≤ length (children_of tree (last_there tree t.path names))))
-        by (inl l) = inl (subst (λ ns. 32 < length ns) (sym missing-are) l)
-        by (inr (inl l)) = inr (inl (subst (λ n. 512 < n) same-depth l))
-        by (inr (inr l)) = inr (inr (subst (λ p. 500 ≤ length (children_of tree p)) (sym last-is) l))
+        by : Many → (MADE_LIMIT < length (missing tree t.path names)) ⊎ ((PATH_LIMIT < length t.path + length names) ⊎ (SUBKEYS_LIMIT ≤ length (children_of tree (last_there tree t.path names))))
+        by (inl l) = inl (subst (λ ns. MADE_LIMIT < length ns) (sym missing-are) l)
+        by (inr (inl l)) = inr (inl (subst (λ n. PATH_LIMIT < n) same-depth l))
+        by (inr (inr l)) = inr (inr (subst (λ p. SUBKEYS_LIMIT ≤ length (children_of tree p)) (sym last-is) l))
 
     pub are_many : AreTooMany tree t.path names → Many
     unfolding here_then
     are_many m = by m.many
       where
-        by : (32 < length (missing tree t.path names)) ⊎ ((512 < length t.path + length names) ⊎ (500 ≤ length (children_of tree (last_there tree t.path names)))) → Many
-        by (inl l) = inl (subst (λ ns. 32 < length ns) missing-are l)
-        by (inr (inl l)) = inr (inl (subst (λ n. 512 < n) (sym same-depth) l))
-        by (inr (inr l)) = inr (inr (subst (λ p. 500 ≤ length (children_of tree p)) last-is l))
+        by : (MADE_LIMIT < length (missing tree t.path names)) ⊎ ((PATH_LIMIT < length t.path + length names) ⊎ (SUBKEYS_LIMIT ≤ length (children_of tree (last_there tree t.path names)))) → Many
+        by (inl l) = inl (subst (λ ns. MADE_LIMIT < length ns) missing-are l)
+        by (inr (inl l)) = inr (inl (subst (λ n. PATH_LIMIT < n) (sym same-depth) l))
+        by (inr (inr l)) = inr (inr (subst (λ p. SUBKEYS_LIMIT ≤ length (children_of tree p)) last-is l))
 
-  pub parent-deep : from.depth ≤ 512 → parent.depth ≤ 1024
+  pub parent-deep : from.depth ≤ PATH_LIMIT → parent.depth ≤ 1024
   unfolding here_then
   parent-deep d =
       let s = shallow old parent.offset parent_here in
@@ -192,9 +194,9 @@ module _ (old : List ℕ) (from : TreeNode) (t : IsHere old from.offset) (path :
 
   -- ---- they are made
 
-  module _ (depth : from.depth ≡ length t.path) (mid : List ℕ) (spare : List ℕ) (s : IsSpared old mid parent.offset left spare) (short : parent.depth + length left ≤ 512)
-      (few : (k : KeyRecord) → key_at (cell_at old) parent.offset ≡ Some k → k.fields.subkeys < 500) where
-    deep : length parent_here.path + length left ≤ 512
+  module _ (depth : from.depth ≡ length t.path) (mid : List ℕ) (spare : List ℕ) (s : IsSpared old mid parent.offset left spare) (short : parent.depth + length left ≤ PATH_LIMIT)
+      (few : (k : KeyRecord) → key_at (cell_at old) parent.offset ≡ Some k → k.fields.subkeys < SUBKEYS_LIMIT) where
+    deep : length parent_here.path + length left ≤ PATH_LIMIT
     unfolding here_then
     deep = let d = r.passes.depth in let a = length-append t.path (map folded passed) in let m = as-many passed in omega (arith, d, a, m, depth, short)
 

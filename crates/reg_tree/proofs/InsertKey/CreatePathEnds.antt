@@ -2,6 +2,7 @@
 use Rattle.std.proofs.Common.{◌≡◌, ◌↔◌, ◌⊎◌, inl, inr, ℕ, ◌≤◌, Bool, true, ◌==◌, List, [], ◌∷◌, length, refl, sym, ◌∙◌, subst, arith}
 use Rattle.std.specs.Prelude.{Result, Ok, Err}
 use Rattle.std.proofs.lemmas.Bool.Decides.{nat_tests}
+use Rattle.reg_names.specs.declared.TheConstants.{PATH_LIMIT}
 use Rattle.reg_names.specs.Names.{path_of}
 use Rattle.reg_tree.specs.declared.node.Node.{Node}
 use Rattle.reg_tree.specs.declared.node.Created.{Created}
@@ -11,7 +12,7 @@ use Rattle.reg_tree.specs.TreeInvariant.{IsHere}
 use Rattle.reg_tree.specs.Internal.SpareCells.{IsSpared}
 use Rattle.reg_tree.proofs.Invariant.KeyOfTree.{shallow}
 
-pub from_shallow : (bytes : List ℕ) (from : Node) (t : IsHere bytes from.offset) → from.depth ≡ length t.path → from.depth ≤ 512
+pub from_shallow : (bytes : List ℕ) (from : Node) (t : IsHere bytes from.offset) → from.depth ≡ length t.path → from.depth ≤ PATH_LIMIT
 from_shallow bytes from t d = let s = shallow bytes from.offset t in omega (arith, s, d)
 
 -- a text without bytes has no names

@@ -10,6 +10,7 @@ use Rattle.std.specs.Cmp.Lexicographic.{slice_cmp}
 use Rattle.std.specs.FinMap.{get, insert}
 use Rattle.std.proofs.lemmas.List.{take-map, drop-map}
 use Rattle.std.proofs.lemmas.Option.{none-some, same_Some}
+use Rattle.reg_names.specs.declared.TheConstants.{PATH_LIMIT, KEY_NAME_LIMIT}
 use Rattle.reg_arena.proofs.FreeList.FreeListTake.{times-append}
 use Rattle.reg_names.specs.Names.{folded, hash, is_key_name}
 use Rattle.reg_heap.specs.Paths.{Path, Tree, Rec}
@@ -236,7 +237,7 @@ module _ (h0 h1 h2 h3 h4 : Heap) (root : ℕ) (keys : Branch Node) (first : ℕ)
         pub first-there : security_at h3 first ≡ Some written.security
         first-there = security_at-same h0 h3 first first-calm ∙ written.reads
 
-        module _ (index : ℕ) (good : is_key_name name ≡ true) (short : length name ≤ 255)
+        module _ (index : ℕ) (good : is_key_name name ≡ true) (short : length name ≤ KEY_NAME_LIMIT)
             (key1 : key_at h1 key ≡ Some (made_record parent above.fields.security moment name)) (plain1 : IsPlainKey (held h1 key))
             (stands_at : IsPlace (names_in h0 entries) (folded name) (Err index)) (missing : subkey_named h0 (folded name) parent ≡ None)
             (subkeys2 : AreSubkeys h2 count1 list1 (with_one index (entry_for h1 key) entries)) (count_is : count1 ≡ above.fields.subkeys + 1)
@@ -467,7 +468,7 @@ module _ (h0 h1 h2 h3 h4 : Heap) (root : ℕ) (keys : Branch Node) (first : ℕ)
           abbrev keys_now : Branch Node
           keys_now = graft_at p now (hang index key made was.below) keys
 
-          pub shape-made : length p + 1 ≤ 512 → IsShape h4 root keys_now first [] left
+          pub shape-made : length p + 1 ≤ PATH_LIMIT → IsShape h4 root keys_now first [] left
           shape-made deep = grafted h0 h4 root p keys was is first [] spare left (keyed.branch_is h0 root keys first [] spare w p parent at) grafts
               (deep-hung p keys was index key made (keyed.branch_is h0 root keys first [] spare w p parent at) w.shallow deep) w
 
@@ -508,7 +509,7 @@ module _ (h0 h1 h2 h3 h4 : Heap) (root : ℕ) (keys : Branch Node) (first : ℕ)
           pub places-made : (q : Path) → place_at h4 root q ≡ cond (same_path q (p ++ folded name ∷ [])) (Some key) (place_at h0 root q)
           places-made = places-hung h0 h4 root p keys was is first [] spare left (keyed.branch_is h0 root keys first [] spare w p parent at) grafts w index key made (folded name) refl refl free
 
-          pub grows : length p < 512 → Grows h0 h4 root p keys first key left name moment
+          pub grows : length p < PATH_LIMIT → Grows h0 h4 root p keys first key left name moment
           unfolding insert_size
           grows deep = record {
             now = keys_now;

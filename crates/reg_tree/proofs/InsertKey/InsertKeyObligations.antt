@@ -3,7 +3,9 @@ use Rattle.std.proofs.Common.{◌≡◌, ◌≢◌, ℕ, zero, suc, ◌+◌, ◌
 use Rattle.std.specs.Prelude.{Ok, Err}
 use Rattle.std.specs.Option.{option_and_then}
 use Rattle.std.proofs.lemmas.Option.{none-some}
+use Rattle.reg_names.specs.declared.TheConstants.{KEY_NAME_LIMIT}
 use Rattle.reg_names.specs.Names.{folded, is_key_name}
+use Rattle.reg_heap.specs.declared.limits.TheConstants.{SUBKEYS_LIMIT}
 use Rattle.reg_heap.specs.Internal.Heaps.{Heap}
 use Rattle.reg_heap.specs.Internal.Kinds.{times}
 use Rattle.reg_arena.specs.Cells.{cell_at}
@@ -92,8 +94,8 @@ module _ (bytes : List ℕ) (parent list_cell key : ℕ) (name left : List ℕ) 
         let none = subst (λ o. subkey_named h (folded name) o ≡ None) (sym (keyed.place h g.root g.keys g.first [] spare g.shape g.path parent g.at)) m.missing in
         none-some _ (sym none ∙ found)
 
-    pub few_subkeys : fields.subkeys < 500
-    few_subkeys = subst (λ (f : KeyFields). f.subkeys < 500) fields_are (m.few node.key key_is)
+    pub few_subkeys : fields.subkeys < SUBKEYS_LIMIT
+    few_subkeys = subst (λ (f : KeyFields). f.subkeys < SUBKEYS_LIMIT) fields_are (m.few node.key key_is)
 
     -- ---- the key node was written
 
@@ -176,7 +178,8 @@ module _ (bytes : List ℕ) (parent list_cell key : ℕ) (name left : List ℕ) 
               (subst (λ s. IsSome (security_at h3 s)) (sym security_is)
               (is_some_of _ _ (made.first-there h h1 h2 h3 h3 g.root g.keys g.first g.path parent plan list_cell key left g.shape g.unrooted g.at others1 there1 count1 list1 moved name moment notes)))
 
-          module _ (h4 : Heap) (good : is_key_name name ≡ true) (short : length name ≤ 255) (made_so : new_fields ≡ made_fields parent fields.security moment) (plain1 : IsPlainKey (held h1 key))
+          module _ (h4 : Heap) (good : is_key_name name ≡ true) (short : length name ≤ KEY_NAME_LIMIT) (made_so : new_fields ≡ made_fields parent fields.security moment)
+              (plain1 : IsPlainKey (held h1 key))
               (index : ℕ) (find : (es : List Entry) → AreSubkeys h fields.subkeys fields.subkeys_list es → IsPlace (names_in h es) (folded name) (Err index))
               (subkeys2 : (es : List Entry) → AreSubkeys h1 fields.subkeys fields.subkeys_list es →
               AreSubkeys h2 count1 list1 (with_one index (entry_for h1 key) es)) (count2 : count1 ≡ fields.subkeys + 1)

@@ -8,7 +8,9 @@ use Rattle.std.specs.Result.{result_ok}
 use Rattle.std.proofs.lemmas.Bool.{and_parts}
 use Rattle.std.proofs.lemmas.List.{length-replicate}
 use Rattle.std.proofs.lemmas.Option.{none-some, same_Some}
+use Rattle.reg_names.specs.declared.TheConstants.{PATH_LIMIT, KEY_NAME_LIMIT}
 use Rattle.reg_names.specs.Names.{is_key_name, are_key_names, is_path, path_of}
+use Rattle.reg_heap.specs.declared.limits.TheConstants.{BINS_LIMIT, GROWTH_BOUND, SUBKEYS_LIMIT, MADE_LIMIT}
 use Rattle.reg_heap.specs.Internal.Heaps.{Heap, AreNew}
 use Rattle.reg_arena.specs.declared.ArenaFault.{ArenaFault}
 use Rattle.reg_arena.specs.declared.ArenaFault.TheVariants as arena
@@ -69,7 +71,7 @@ IsPlan plan = (size : ℕ) → plan ≡ Some size → (size % 8 ≡ 0) × (16 �
 first_plan : IsPlan (Some 16)
 first_plan size e = let s = same_Some _ _ e in (omega (arith, s), omega (arith, s), omega (arith, s))
 
-plan_by : (heap : Heap) (count place : ℕ) → count ≤ 500 → IsPlan (insert_size heap count place)
+plan_by : (heap : Heap) (count place : ℕ) → count ≤ SUBKEYS_LIMIT → IsPlan (insert_size heap count place)
 unfolding insert_size
 plan_by heap zero place few size e = let s = same_Some _ _ e in (omega (arith, s), omega (arith, s), omega (arith, s))
 plan_by heap (suc count) place few size e = by (nat_le (4 + 8 * suc (suc count)) (length (held heap place))) e
@@ -89,7 +91,7 @@ are-sizes (Some size) (name ∷ names) p = let s = p size refl in ((omega (arith
 
 -- names of at most 255 bytes
 abbrev Short : List (List ℕ) → Type 0
-Short names = AllByRecursion (λ (name : List ℕ). length name ≤ 255) names
+Short names = AllByRecursion (λ (name : List ℕ). length name ≤ KEY_NAME_LIMIT) names
 
 short-by : (names : List (List ℕ)) → list_all is_key_name names ≡ true → Short names
 short-by [] e = tt
@@ -109,12 +111,12 @@ total-some plan [] p s = omega arith
 total-some None (name ∷ names) p s = let t = total-first names s.1 in let l = s.0 in omega (arith, t, l)
 total-some (Some size) (name ∷ names) p s = let t = total-first names s.1 in let l = s.0 in let q = (p size refl).2 in omega (arith, t, l, q)
 
-pub total-few : (plan : Option ℕ) (path : List ℕ) → IsPlan plan → is_path path ≡ true → length (path_of path) ≤ 32 → total_of (sizes_of plan (path_of path)) ≤ 15536
-total-few plan path p valid few = let t = total-some plan (path_of path) p (short-in 512 (path_of path) valid) in omega (arith, t, few)
+pub total-few : (plan : Option ℕ) (path : List ℕ) → IsPlan plan → is_path path ≡ true → length (path_of path) ≤ MADE_LIMIT → total_of (sizes_of plan (path_of path)) ≤ 15536
+total-few plan path p valid few = let t = total-some plan (path_of path) p (short-in PATH_LIMIT (path_of path) valid) in omega (arith, t, few)
 
 -- the bins are near their limit where no bin for them has room
-pub near-limit : (bytes : List ℕ) (total : ℕ) → total ≤ 15536 → PassesLimit bytes total → 268435456 < length bytes + 1310720
-near-limit bytes total small past = let l = past.least.least 1310720 refl (omega (arith, small)) in let p = past.passes in omega (arith, l, p)
+pub near-limit : (bytes : List ℕ) (total : ℕ) → total ≤ 15536 → PassesLimit bytes total → BINS_LIMIT < length bytes + GROWTH_BOUND
+near-limit bytes total small past = let l = past.least.least GROWTH_BOUND refl (omega (arith, small)) in let p = past.passes in omega (arith, l, p)
 
 -- a plan that was answered is good
 pub plan_told : (bytes : List ℕ) (key : ℕ) → IsHere bytes key → (count list : ℕ) → HasSubkeysList (cell_at bytes) key count list →

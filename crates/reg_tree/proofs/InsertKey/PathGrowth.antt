@@ -9,6 +9,7 @@ use Rattle.std.proofs.lemmas.Bool.Decides.{nat_tests}
 use Rattle.std.proofs.lemmas.Cmp.{tied_itself}
 use Rattle.std.proofs.lemmas.List.{append-nil, append_assoc, take_all}
 use Rattle.std.proofs.lemmas.Option.{none-some}
+use Rattle.reg_names.specs.declared.TheConstants.{PATH_LIMIT, KEY_NAME_LIMIT}
 use Rattle.reg_arena.proofs.FreeList.FreeListTake.{times-append}
 use Rattle.reg_arena.specs.Cells.{cell_at}
 use Rattle.reg_names.specs.Names.{folded, path_of, is_path, is_key_name, is_key_name_byte, IsFirst}
@@ -34,8 +35,8 @@ use Rattle.reg_tree.proofs.Invariant.KeyOfShape as keyed
 use Rattle.reg_tree.proofs.Invariant.UntouchedCells.{times-one}
 
 -- a key's name has at most 255 bytes
-pub name_short : (name : List ℕ) → is_key_name name ≡ true → length name ≤ 255
-name_short name e = let l = (and_parts (list_all is_key_name_byte name && nat_lt 0 (length name)) (nat_le (length name) 255) e).1 in grind (arith, nat_tests)
+pub name_short : (name : List ℕ) → is_key_name name ≡ true → length name ≤ KEY_NAME_LIMIT
+name_short name e = let l = (and_parts (list_all is_key_name_byte name && nat_lt 0 (length name)) (nat_le (length name) KEY_NAME_LIMIT) e).1 in grind (arith, nat_tests)
 
 -- a slice to the end is what is left
 pub rest_all : (n : ℕ) (xs : List ℕ) → take (length xs - n) (drop n xs) ≡ drop n xs
@@ -120,7 +121,7 @@ at_start bytes from path spare m moment v = record { grow = m; root_is = refl; f
 
 module _ (bytes0 : List ℕ) (from : TreeNode) (names0 : List (List ℕ)) (spare0 : List ℕ) (m : MayGrowAll bytes0 from names0 spare0) (moment : ℕ)
     (bytes : List ℕ) (node : TreeNode) (rest spare : List ℕ) (mid : Midway bytes0 from names0 spare0 m moment bytes node rest spare) where
-  pub deep_now : from.depth ≤ 512 → node.depth + 1 < 4096
+  pub deep_now : from.depth ≤ PATH_LIMIT → node.depth + 1 < 4096
   deep_now d = let e = mid.depth in let l = m.deep in omega (arith, d, e, l)
 
   module _ (name behind : List ℕ) (f : IsFirst rest name behind) where
@@ -155,7 +156,7 @@ module _ (bytes0 : List ℕ) (from : TreeNode) (names0 : List (List ℕ)) (spare
         at = grows.places (child_path g.path name) ∙ ap (λ b. cond b (Some made) (place_at (cell_at bytes) g.root (child_path g.path name))) (path-self (child_path g.path name));
       }
 
-      deep_then : length (child_path g.path name) + length (path_of behind) ≤ 512
+      deep_then : length (child_path g.path name) + length (path_of behind) ≤ PATH_LIMIT
       deep_then =
           let d = mid.grow.deep in
           let n : length (path_of rest) ≡ 1 + length (path_of behind) = ap length f.names ∙ omega arith in

@@ -4,7 +4,9 @@ use Rattle.std.specs.Option.{option_and_then}
 use Rattle.std.specs.Ordering.{eq_by_cmp}
 use Rattle.std.specs.FinMap.{get, insert, get-insert, same_map}
 use Rattle.std.proofs.lemmas.Option.{none-some}
+use Rattle.reg_names.specs.declared.TheConstants.{PATH_LIMIT}
 use Rattle.reg_names.specs.Names.{folded}
+use Rattle.reg_heap.specs.declared.limits.TheConstants.{SUBKEYS_LIMIT}
 use Rattle.reg_heap.specs.Paths.{Path, Tree, Rec, path_cmp}
 use Rattle.reg_heap.specs.Edits.{child_path}
 use Rattle.reg_heap.specs.Internal.Heaps.{Heap, allocated, Swaps}
@@ -108,8 +110,8 @@ module _ (h k : Heap) (root : ℕ) (keys : Branch Node) (first : ℕ) (spare : L
 
 module _ (old mid : List ℕ) (parent : TreeNode) (t : IsHere old parent.offset) (names : List (List ℕ)) (spare : List ℕ) (s : IsSpared old mid parent.offset names spare)
     (missing : (name : List ℕ) (others : List (List ℕ)) → names ≡ name ∷ others → subkey_named (cell_at old) (folded name) parent.offset ≡ None)
-    (deep : length t.path + length names ≤ 512)
-    (few : (r : KeyRecord) → key_at (cell_at old) parent.offset ≡ Some r → r.fields.subkeys < 500) where
+    (deep : length t.path + length names ≤ PATH_LIMIT)
+    (few : (r : KeyRecord) → key_at (cell_at old) parent.offset ≡ Some r → r.fields.subkeys < SUBKEYS_LIMIT) where
   abbrev h : Heap
   h = cell_at old
 

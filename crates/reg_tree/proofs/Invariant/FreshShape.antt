@@ -5,6 +5,7 @@ use Rattle.std.specs.List.{AllByRecursion}
 use Rattle.std.specs.Option.{option_map, option_and_then}
 use Rattle.std.proofs.lemmas.Bool.{eqb-true, eqb-false}
 use Rattle.reg_names.specs.Names.{is_key_name}
+use Rattle.reg_heap.specs.declared.limits.TheConstants.{NONE, DESCRIPTOR_LIMIT}
 use Rattle.reg_heap.specs.Internal.Heaps.{Heap, allocated}
 use Rattle.reg_heap.specs.Internal.Kinds.{times}
 use Rattle.reg_heap.specs.Internal.Kinds.Kind.{Class}
@@ -166,13 +167,13 @@ abbrev new_fields : ℕ → ℕ → KeyFields
 new_fields security moment = record {
   flags = 44;
   time = moment;
-  parent = 4294967295;
+  parent = NONE;
   subkeys = 0;
-  subkeys_list = 4294967295;
+  subkeys_list = NONE;
   values = 0;
-  values_list = 4294967295;
+  values_list = NONE;
   security = security;
-  class = 4294967295;
+  class = NONE;
   class_length = 0;
   largest_subkey_name = 0;
   largest_subkey_class = 0;
@@ -189,7 +190,7 @@ pub record IsMade (h : Heap) (root : ℕ) (name descriptor : List ℕ) (moment :
 -- a new root's two cells
 pub made : (e b i k : Bins) (root security node_size ring_size n m : ℕ) (fields : KeyFields) (ring : SecurityFields) (name descriptor : List ℕ)
     (moment : ℕ) → fields ≡ new_fields security moment → ring ≡ record { flink = security; blink = security; count = 1 }
-    → is_key_name name ≡ true → 1 ≤ length descriptor → length descriptor ≤ 65535 → e.bytes ≡ [] → AreCarved e b root security node_size ring_size
+    → is_key_name name ≡ true → 1 ≤ length descriptor → length descriptor ≤ DESCRIPTOR_LIMIT → e.bytes ≡ [] → AreCarved e b root security node_size ring_size
     → WritesRecord b i security n (sk_bytes ring descriptor) → IsPlainSecurity (held (cell_at i.bytes) security) →
     security_at (cell_at i.bytes) security ≡ Some (record { fields = ring; descriptor = descriptor })
     → WritesRecord i k root m (nk_bytes fields name) → IsPlainKey (held (cell_at k.bytes) root) →

@@ -3,6 +3,7 @@ use Rattle.std.proofs.Common.{◌≡◌, ℕ, ◌+◌, ◌≤◌, ◌<◌, Optio
 use Rattle.std.specs.Option.{option_map}
 use Rattle.std.specs.FinMap.{get}
 use Rattle.std.proofs.lemmas.Option.{none-some, same_Some}
+use Rattle.reg_names.specs.declared.TheConstants.{PATH_LIMIT}
 use Rattle.reg_heap.specs.Paths.{Path}
 use Rattle.reg_heap.specs.Internal.Heaps.{Heap, allocated}
 use Rattle.reg_heap.specs.Internal.Kinds.{times, owned}
@@ -68,7 +69,7 @@ module _ (h : Heap) (root : ℕ) (keys : Branch Node) (first : ℕ) (others spar
     pub own_once : (z : ℕ) → owned z (cells_of branch.node) ≤ allocated h z
     own_once z = let l = branch_once z in omega (arith, l)
 
-    pub shallow : length p + depth branch.below ≤ 512
+    pub shallow : length p + depth branch.below ≤ PATH_LIMIT
     shallow = let d = branch-depth branch p keys branch_is in let s = w.shallow in omega (arith, d, s)
 
     -- its security is in the ring

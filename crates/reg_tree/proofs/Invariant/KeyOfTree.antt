@@ -4,6 +4,7 @@ use Rattle.std.specs.Prelude.{unwrap_or}
 use Rattle.std.specs.Option.{option_map, option_and_then}
 use Rattle.std.specs.FinMap.{get, empty}
 use Rattle.std.proofs.lemmas.Option.{none-some, same_Some}
+use Rattle.reg_names.specs.declared.TheConstants.{PATH_LIMIT}
 use Rattle.reg_heap.specs.Paths.{Path, Tree, Member}
 use Rattle.reg_heap.specs.Internal.Heaps.{Heap, allocated}
 use Rattle.reg_heap.specs.Internal.Kinds.{Found, times, owned}
@@ -129,7 +130,7 @@ module _ (bytes : List ℕ) (key : ℕ) (t : IsHere bytes key) where
   pub own_once : (z : ℕ) → owned z (own_cells branch.node) ≤ allocated h z
   own_once = keyed.own_once h t.root all t.holds.first [] [] t.holds.shape t.path key t.at
 
-  pub shallow : length t.path + depth branch.below ≤ 512
+  pub shallow : length t.path + depth branch.below ≤ PATH_LIMIT
   shallow = keyed.shallow h t.root all t.holds.first [] [] t.holds.shape t.path key t.at
 
   -- what the tree has at its path

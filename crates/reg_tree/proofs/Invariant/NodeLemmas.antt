@@ -3,6 +3,7 @@ use Rattle.std.proofs.Common.{◌≡◌, ℕ, Option, Some, None, IsSome, is_som
 use Rattle.std.specs.Prelude.{Result, Ok, Err, OnOk, OnErr, IfSome, MatchOption, get_or, ◌<◌}
 use Rattle.std.specs.Option.{option_and_then}
 use Rattle.std.specs.FinMap.{get}
+use Rattle.reg_names.specs.declared.TheConstants.{PATH_LIMIT}
 use Rattle.reg_heap.specs.Paths.{Path, Tree, Rec, children_of}
 use Rattle.reg_heap.specs.Edits.{edited}
 use Rattle.reg_arena.specs.Arena.{Bins}
@@ -91,7 +92,7 @@ module _ (bins : Bins) (root : ℕ) (holds : Holds bins.bytes root) (now : Keys)
         of_tree (λ t. IsSome (get t (p ++ q))) (get-some bins.bytes root holds (p ++ q) node.offset place),
       )
 
-  pub shallow_at : (node : Node) → IsThere now node → node.depth ≤ 512
+  pub shallow_at : (node : Node) → IsThere now node → node.depth ≤ PATH_LIMIT
   shallow_at node some =
       let t = there_at node some in
       let s = shallow bins.bytes node.offset t in
@@ -105,10 +106,10 @@ module _ (bins : Bins) (root : ℕ) (holds : Holds bins.bytes root) (now : Keys)
       of_tree (λ (t : Tree). IsSome (get t p)) (get-some bins.bytes root holds p node.offset t.at)
 
   -- every key's path has at most 512 names
-  pub there-shallow : (p : Path) → IsSome (get now.tree p) → length p ≤ 512
+  pub there-shallow : (p : Path) → IsSome (get now.tree p) → length p ≤ PATH_LIMIT
   there-shallow p some = by (place_at (cell_at bins.bytes) root p) refl
     where
-      by : (o : Option ℕ) → place_at (cell_at bins.bytes) root p ≡ o → length p ≤ 512
+      by : (o : Option ℕ) → place_at (cell_at bins.bytes) root p ≡ o → length p ≤ PATH_LIMIT
       by None e =
           let none : get now.tree p ≡ None = of_tree (λ t. get t p ≡ None) (get-none bins.bytes root holds p e) in
           absurd (true≢false (sym some ∙ ap is_some none))
@@ -116,7 +117,7 @@ module _ (bins : Bins) (root : ℕ) (holds : Holds bins.bytes root) (now : Keys)
           let s = shallow bins.bytes o (record { root = root; path = p; holds = holds; at = e }) in
           omega (arith, s)
 
-  pub resolved-depth : (from : Node) → IsThere now from → (q : Path) (result : Option Node) → IsWalked (cell_at bins.bytes) from q result → IfSome result (λ node. node.depth ≤ 512)
+  pub resolved-depth : (from : Node) → IsThere now from → (q : Path) (result : Option Node) → IsWalked (cell_at bins.bytes) from q result → IfSome result (λ node. node.depth ≤ PATH_LIMIT)
   resolved-depth from some q None w = tt
   resolved-depth from some q (Some node) w = shallow_at node (some.0 ++ q, (resolved from q (Some node) w some.0 some.1).0)
 

@@ -3,7 +3,9 @@ use Rattle.std.proofs.Common.{◌≡◌, ℕ, zero, suc, ◌≤◌, true, Some, 
 use Rattle.std.specs.Prelude.{Ok}
 use Rattle.std.specs.List.{AllByRecursion, slice_get}
 use Rattle.std.proofs.lemmas.Option.{none-some, same_Some}
+use Rattle.reg_names.specs.declared.TheConstants.{VALUE_NAME_LIMIT, KEY_NAME_LIMIT}
 use Rattle.reg_names.specs.Names.{is_value_name}
+use Rattle.reg_heap.specs.declared.limits.TheConstants.{DESCRIPTOR_LIMIT}
 use Rattle.reg_heap.specs.Paths.{Member}
 use Rattle.reg_heap.specs.Internal.Kinds.{Found}
 use Rattle.reg_arena.specs.Cells.{cell_at}
@@ -27,23 +29,24 @@ named (v ∷ ms) a zero m e = ap (λ (m : Member). is_value_name m.name) (sym (s
 named (v ∷ ms) a (suc index) m e = named ms a.1 index m e
 
 module _ (bytes : List ℕ) (key : ℕ) (t : IsHere bytes key) where
-  pub name-bound : (content : List ℕ) (read : KeyRecord) → cell_at bytes key ≡ Some content → nk_of content ≡ Ok read → length read.name ≤ 255
+  pub name-bound : (content : List ℕ) (read : KeyRecord) → cell_at bytes key ≡ Some content → nk_of content ≡ Ok read → length read.name ≤ KEY_NAME_LIMIT
   name-bound content read here reads =
       let same = ap (λ (k : KeyRecord). k.name) (key-fields (cell_at bytes) key content (branch bytes key t).node.key read (key_is bytes key t) here reads) in
-      subst (λ (name : List ℕ). length name ≤ 255) (sym same) (name_short (branch bytes key t).node.key.name (seen bytes key t).written.name)
+      subst (λ (name : List ℕ). length name ≤ KEY_NAME_LIMIT) (sym same) (name_short (branch bytes key t).node.key.name (seen bytes key t).written.name)
 
   pub descriptor-bound : (fields : KeyFields) → ((k : KeyRecord) → key_at (cell_at bytes) key ≡ Some k → fields ≡ k.fields) →
       (content : List ℕ) (read : KeySecurityRecord) → cell_at bytes fields.security ≡ Some content → sk_of content ≡ Ok read →
-      length read.descriptor ≤ 65535
+      length read.descriptor ≤ DESCRIPTOR_LIMIT
   descriptor-bound fields are content read here reads =
       let security = t.holds.shape.ring.written.0 in
       let same = ap (λ (s : KeySecurityRecord). s.descriptor) (security-read_is (cell_at bytes) fields.security content security.security read (its_security bytes key t fields are) here reads) in
-      subst (λ (descriptor : List ℕ). length descriptor ≤ 65535) (sym same) security.short
+      subst (λ (descriptor : List ℕ). length descriptor ≤ DESCRIPTOR_LIMIT) (sym same) security.short
 
   pub value-bound : (count place : ℕ) → HasList (cell_at bytes) key count place → (index : ℕ) (told : List ℕ) (kind size : ℕ) →
       ((ms : List Member) (met : List Found) → members_at count place (cell_at bytes) ≡ Some (ms, met) →
       (member : Member) × (slice_get ms index ≡ Some member) × Tells member told kind size)
-      → length told ≤ 16383
+      → length told ≤ VALUE_NAME_LIMIT
   value-bound count place has index told kind size k =
       let m = k _ _ (list_reads bytes key t count place has) in
-      subst (λ (name : List ℕ). length name ≤ 16383) (sym m.2.name_is) (value-name m.0.name (named (branch bytes key t).node.values (seen bytes key t).written.values.list.names index m.0 m.1))
+      subst (λ (name : List ℕ). length name ≤ VALUE_NAME_LIMIT) (sym m.2.name_is)
+      (value-name m.0.name (named (branch bytes key t).node.values (seen bytes key t).written.values.list.names index m.0 m.1))

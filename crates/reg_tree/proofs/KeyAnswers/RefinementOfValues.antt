@@ -16,6 +16,7 @@ use Rattle.reg_values.proofs.ValueListing.ToldValues.{named-at}
 use Rattle.reg_tree.specs.TreeKeys.{tree_in}
 use Rattle.reg_tree.specs.TreeInvariant.{IsHere}
 use Rattle.std.specs.Prelude.{Result, Ok, Err, ◌↔◌}
+use Rattle.reg_heap.specs.declared.limits.TheConstants.{VALUES_LIMIT}
 use Rattle.reg_arena.specs.declared.ArenaFault.{ArenaFault}
 use Rattle.reg_arena.specs.declared.ArenaFault.TheVariants.{Full, Memory}
 use Rattle.reg_tree.specs.declared.fault.TreeFault.{TreeFault}
@@ -82,7 +83,7 @@ module _ (bytes : List ℕ) (key : ℕ) (t : IsHere bytes key) (count place : �
       slice-within ms i l = let none : Member = record { name = []; kind = 0; bytes = [] } in (get_or ms i none, slice_get-get_or ms i none l)
 
   -- and none is missing among fewer than 16,384, or among those that have it
-  pub not_full : (count < 16384) ⊎ IsNamed (cell_at bytes) count place name → 16384 ≤ length members → value_named name members ≡ None → ⊥
+  pub not_full : (count < VALUES_LIMIT) ⊎ IsNamed (cell_at bytes) count place name → VALUES_LIMIT ≤ length members → value_named name members ≡ None → ⊥
   not_full (inl few) many none = omega (arith, few, many, list_length bytes key t count place has)
   not_full (inr n) many none =
       let same : n.members ≡ (branch bytes key t).node.values = ap (λ (p : List Member × List Found). p.0) (same_Some _ _ (sym n.reads ∙ list_reads bytes key t count place has)) in
@@ -90,19 +91,19 @@ module _ (bytes : List ℕ) (key : ℕ) (t : IsHere bytes key) (count place : �
       absurd (false≢true (sym (ap is_some none) ∙ there))
 
   pub full_by : (found : Option ℕ) → ((ms : List Member) (met : List Found) → members_at count place (cell_at bytes) ≡ Some (ms, met) →
-      found ≡ place_named name ms) → 16384 ≤ count → is_none found ≡ true
-      → (16384 ≤ length members) × (value_named name members ≡ None)
+      found ≡ place_named name ms) → VALUES_LIMIT ≤ count → is_none found ≡ true
+      → (VALUES_LIMIT ≤ length members) × (value_named name members ≡ None)
   full_by None h many e = (omega (arith, many, list_length bytes key t count place has), found_none None h refl)
   full_by (Some index) h many e = absurd (false≢true e)
 
   pub room_by : (found : Option ℕ) → ((ms : List Member) (met : List Found) → members_at count place (cell_at bytes) ≡ Some (ms, met) → found ≡ place_named name ms) → is_none found ≡ false
-      → (count < 16384) ⊎ IsNamed (cell_at bytes) count place name
+      → (count < VALUES_LIMIT) ⊎ IsNamed (cell_at bytes) count place name
   room_by None h e = absurd (false≢true (sym e))
   room_by (Some index) h e = inr (some_named index h)
 
   -- Limit is no fault of the arena's, and none where there was room
-  pub other_fault : (fault : ArenaFault) (told : TreeFault) → told ≡ of_arena fault → (count < 16384) ⊎ IsNamed (cell_at bytes) count place name
-      → (◌≡◌ {A = Result (Unit {0}) TreeFault} (Err told) (Err Limit)) ↔ ((16384 ≤ length members) × (value_named name members ≡ None))
+  pub other_fault : (fault : ArenaFault) (told : TreeFault) → told ≡ of_arena fault → (count < VALUES_LIMIT) ⊎ IsNamed (cell_at bytes) count place name
+      → (◌≡◌ {A = Result (Unit {0}) TreeFault} (Err told) (Err Limit)) ↔ ((VALUES_LIMIT ≤ length members) × (value_named name members ≡ None))
   other_fault fault told is room = (λ e. absurd (not_limit fault (sym is ∙ same_err e)), λ full. absurd (not_full room full.0 full.1))
     where
       same_err : {a b : TreeFault} → ◌≡◌ {A = Result (Unit {0}) TreeFault} (Err a) (Err b) → a ≡ b
@@ -112,8 +113,8 @@ module _ (bytes : List ℕ) (key : ℕ) (t : IsHere bytes key) (count place : �
       not_limit Full e = cc
       not_limit Memory e = cc
 
-  pub no_fault : (count < 16384) ⊎ IsNamed (cell_at bytes) count place name → (◌≡◌ {A = Result (Unit {0}) TreeFault} (Ok tt) (Err Limit)) ↔
-      ((16384 ≤ length members) × (value_named name members ≡ None))
+  pub no_fault : (count < VALUES_LIMIT) ⊎ IsNamed (cell_at bytes) count place name → (◌≡◌ {A = Result (Unit {0}) TreeFault} (Ok tt) (Err Limit)) ↔
+      ((VALUES_LIMIT ≤ length members) × (value_named name members ≡ None))
   no_fault room = (λ e. absurd (cc), λ full. absurd (not_full room full.0 full.1))
 
 -- what `is_none` answers

@@ -4,6 +4,7 @@ use Rattle.std.specs.Option.{option_and_then}
 use Rattle.std.proofs.lemmas.List.{append-nil, append_assoc, map-append}
 use Rattle.std.proofs.lemmas.Bool.{false≢true}
 use Rattle.std.proofs.lemmas.List.Splits.{length-slice_split}
+use Rattle.reg_names.specs.declared.TheConstants.{PATH_LIMIT}
 use Rattle.reg_names.specs.Names.{folded, path_of, is_path, is_backslash, IsFirst}
 use Rattle.reg_heap.specs.Paths.{Path}
 use Rattle.reg_heap.specs.Internal.Heaps.{Heap}
@@ -60,7 +61,7 @@ module _ (bytes : List ℕ) (from : Node) (t : IsHere bytes from.offset) (path :
     at = place-append (cell_at bytes) t.root t.path (map folded s.names) ∙ (ap (option_and_then (λ c. place_at (cell_at bytes) c (map folded s.names))) t.at ∙ s.place);
   }
 
-  pub deep_then : from.depth ≤ 512 → node.depth + 1 < 2000
+  pub deep_then : from.depth ≤ PATH_LIMIT → node.depth + 1 < 2000
   unfolding here_then
   deep_then d =
       let l = shallow bytes node.offset here_then in

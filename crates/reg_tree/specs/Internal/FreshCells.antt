@@ -1,6 +1,7 @@
 -- The two cells of a new hive (Suhanov, Windows registry file format specification, "Key node", "Key security").
 use Rattle.std.specs.Prelude.{◌≡◌, ◌≢◌, ℕ, ◌-◌, ◌≤◌, true, [], ◌∷◌, length, Some, None, replicate}
 use Rattle.reg_names.specs.Names.{is_key_name}
+use Rattle.reg_heap.specs.declared.limits.TheConstants.{DESCRIPTOR_LIMIT, NONE}
 use Rattle.reg_heap.specs.Internal.Heaps.{Heap, allocated}
 use Rattle.reg_heap.specs.Internal.Kinds.{times}
 use Rattle.reg_arena.specs.Arena.{Bins}
@@ -23,13 +24,13 @@ pub record AreCarved (old new : Bins) (first second first_size second_size : ℕ
 -- class, no values
 pub record IsRootFields (fields : KeyFields) : Type 0 where
   pub flags : fields.flags ≡ 44
-  pub parent : fields.parent ≡ 4294967295
+  pub parent : fields.parent ≡ NONE
   pub subkeys : fields.subkeys ≡ 0
-  pub subkeys_list : fields.subkeys_list ≡ 4294967295
-  pub class : fields.class ≡ 4294967295
+  pub subkeys_list : fields.subkeys_list ≡ NONE
+  pub class : fields.class ≡ NONE
   pub class_length : fields.class_length ≡ 0
   pub values : fields.values ≡ 0
-  pub values_list : fields.values_list ≡ 4294967295
+  pub values_list : fields.values_list ≡ NONE
 
 -- the one key security of a hive: a ring of itself, which one key uses
 pub record IsOnlySecurity (h : Heap) (offset : ℕ) (security : KeySecurityRecord) : Type 0 where
@@ -39,7 +40,7 @@ pub record IsOnlySecurity (h : Heap) (offset : ℕ) (security : KeySecurityRecor
   pub blink : security.fields.blink ≡ offset
   pub count : security.fields.count ≡ 1
   pub some : 1 ≤ length security.descriptor
-  pub short : length security.descriptor ≤ 65535
+  pub short : length security.descriptor ≤ DESCRIPTOR_LIMIT
 
 -- a new root's cells, which are all that are allocated, each once
 pub record IsFreshRoot (h : Heap) (root : ℕ) : Type 0 where

@@ -1,6 +1,8 @@
 -- The keys of a path made where they are missing (Win32 registry reference, `RegCreateKeyEx`).
 use Rattle.std.specs.Prelude.{◌≡◌, ◌≢◌, ◌⊎◌, ◌<◌, ◌≤◌, ℕ, ◌+◌, Some, List, [], ◌++◌, map, length}
+use Rattle.reg_names.specs.declared.TheConstants.{PATH_LIMIT}
 use Rattle.reg_names.specs.Names.{folded}
+use Rattle.reg_heap.specs.declared.limits.TheConstants.{SUBKEYS_LIMIT, MADE_LIMIT}
 use Rattle.reg_heap.specs.Paths.{Path, Tree, children_of}
 use Rattle.reg_heap.specs.Edits.{with_keys, missing, last_there}
 use Rattle.reg_arena.specs.Cells.{cell_at}
@@ -21,4 +23,5 @@ pub record IsCreated (old new : List ℕ) (root : ℕ) (path : Path) (from : Nod
 -- one of the keys is missing, and they would be too many
 pub record AreTooMany (t : Tree) (p : Path) (names : List (List ℕ)) : Type 0 where
   pub some : missing t p names ≢ []
-  pub many : (32 < length (missing t p names)) ⊎ ((512 < length p + length names) ⊎ (500 ≤ length (children_of t (last_there t p names))))
+  pub many : (MADE_LIMIT < length (missing t p names)) ⊎ ((PATH_LIMIT < length p + length names) ⊎
+      (SUBKEYS_LIMIT ≤ length (children_of t (last_there t p names))))

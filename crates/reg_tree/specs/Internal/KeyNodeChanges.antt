@@ -1,5 +1,6 @@
 -- What is written into a key node, and what is told of a value.
 use Rattle.std.specs.Prelude.{◌≡◌, ◌≢◌, ℕ, ◌+◌, ◌-◌, ◌*◌, ◌%◌, max, List, length, Option, Some, None, slice_get}
+use Rattle.reg_heap.specs.declared.limits.TheConstants.{NONE}
 use Rattle.reg_heap.specs.Paths.{Member}
 use Rattle.reg_heap.specs.Internal.Heaps.{Heap}
 use Rattle.reg_records.specs.RecordCells.{held}
@@ -42,11 +43,11 @@ made_fields parent security moment = record {
   time = moment;
   parent = parent;
   subkeys = 0;
-  subkeys_list = 4294967295;
+  subkeys_list = NONE;
   values = 0;
-  values_list = 4294967295;
+  values_list = NONE;
   security = security;
-  class = 4294967295;
+  class = NONE;
   class_length = 0;
   largest_subkey_name = 0;
   largest_subkey_class = 0;

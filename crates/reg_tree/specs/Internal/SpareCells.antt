@@ -2,7 +2,9 @@
 use Rattle.std.specs.Prelude.{◌≡◌, ℕ, ◌+◌, ◌*◌, ◌/◌, ◌<◌, ◌≤◌, cond, Option, Some, None, List, [], ◌∷◌, ◌++◌, map, length}
 use Rattle.std.specs.Option.{option_and_then}
 use Rattle.std.specs.Ordering.{eq_by_cmp}
+use Rattle.reg_names.specs.declared.TheConstants.{PATH_LIMIT}
 use Rattle.reg_names.specs.Names.{folded}
+use Rattle.reg_heap.specs.declared.limits.TheConstants.{SUBKEYS_LIMIT}
 use Rattle.reg_heap.specs.Paths.{Path, path_cmp}
 use Rattle.reg_heap.specs.Internal.Heaps.{Heap, Swaps}
 use Rattle.reg_heap.specs.Internal.Kinds.{times}
@@ -37,8 +39,8 @@ pub record IsGrowing (bytes : List ℕ) (key : ℕ) (spare : List ℕ) : Type 0 
 pub record MayGrow (bytes : List ℕ) (key : ℕ) (spare : List ℕ) (name : List ℕ) : Type 0 where
   pub growing : IsGrowing bytes key spare
   pub missing : subkey_named (cell_at bytes) (folded name) key ≡ None
-  pub deep : length growing.path < 512
-  pub few : (k : KeyRecord) → key_at (cell_at bytes) key ≡ Some k → k.fields.subkeys < 500
+  pub deep : length growing.path < PATH_LIMIT
+  pub few : (k : KeyRecord) → key_at (cell_at bytes) key ≡ Some k → k.fields.subkeys < SUBKEYS_LIMIT
 
 -- a key of a name was made below the one at a path, at an offset; the tree has it, each other key stays where it stands, and so
 -- do the spare cells that are left; the key made has no subkeys
@@ -85,8 +87,8 @@ sizes_of plan (name ∷ names) = planned_sizes plan ++ key_size name ∷ sizes_o
 pub record MayGrowAll (bytes : List ℕ) (from : TreeNode) (names : List (List ℕ)) (spare : List ℕ) : Type 0 where
   pub growing : IsGrowing bytes from.offset spare
   pub missing : (name : List ℕ) (others : List (List ℕ)) → names ≡ name ∷ others → subkey_named (cell_at bytes) (folded name) from.offset ≡ None
-  pub deep : length growing.path + length names ≤ 512
-  pub few : (k : KeyRecord) → key_at (cell_at bytes) from.offset ≡ Some k → k.fields.subkeys < 500
+  pub deep : length growing.path + length names ≤ PATH_LIMIT
+  pub few : (k : KeyRecord) → key_at (cell_at bytes) from.offset ≡ Some k → k.fields.subkeys < SUBKEYS_LIMIT
   pub ready : AreReady (cell_at bytes) (planned (cell_at bytes) from.offset) names spare
 
 -- keys of these names were made one below the other, below the one at a path; each other key stays where it stands

@@ -3,6 +3,7 @@ use Rattle.std.proofs.Common.{◌≡◌, ℕ, zero, suc, ◌+◌, ◌-◌, ◌*�
 use Rattle.std.proofs.Common.{length-take, length-drop}
 use Rattle.std.proofs.lemmas.Bool.{eq-eqb}
 use Rattle.std.proofs.lemmas.List.{places}
+use Rattle.reg_heap.specs.declared.limits.TheConstants.{NONE}
 use Rattle.reg_heap.specs.ByteWords.{word, splice}
 use Rattle.reg_heap.specs.Internal.Heaps.{Heap, Swaps, Writes, GivesUp}
 use Rattle.reg_heap.specs.Internal.Kinds.{Found, owned, times}
@@ -91,11 +92,11 @@ shifted c i n l =
 -- ---- the list
 
 pub emptied : (h k : Heap) (place index : ℕ) (row : List ℕ) (met : List Found) → index < 1 → list_at 1 place h ≡ Some (row, met) →
-    GivesUp h k (place ∷ []) → BecameList h k (λ z. owned z met) 0 4294967295 (take index row ++ drop (index + 1) row)
+    GivesUp h k (place ∷ []) → BecameList h k (λ z. owned z met) 0 NONE (take index row ++ drop (index + 1) row)
 emptied h k place zero row met l e g =
     let r = list-open h 1 place row met e (omega arith) in
     let n : length row ≡ 1 = ap length r.is ∙ length-offsets 1 0 (held h place) in
-    subst (λ xs. BecameList h k (λ z. owned z met) 0 4294967295 xs) (sym (none row n)) (record {
+    subst (λ xs. BecameList h k (λ z. owned z met) 0 NONE xs) (sym (none row n)) (record {
       cells = [];
       reads = refl;
       swaps = subst (λ met. Swaps h k (λ z. owned z met) (λ z. 0)) (sym r.met_is) g;

@@ -8,6 +8,7 @@ use Rattle.reg_heap.specs.Paths.{Member}
 use Rattle.reg_heap.specs.Internal.Heaps.{Heap}
 use Rattle.reg_heap.specs.Internal.Kinds.{Found}
 use Rattle.reg_heap.specs.Members.{place_named}
+use Rattle.reg_records.specs.declared.db.TheConstants.{SEGMENT_SIZE}
 use Rattle.reg_records.specs.RecordCells.{held}
 use Rattle.reg_records.specs.OffsetRows.{offset_in}
 use Rattle.reg_records.specs.KeyValues.{KeyValueRecord, value_record_at}
@@ -43,7 +44,7 @@ sized-all count size i base done l s =
     let m : count - i ≡ 0 = omega arith in
     sym (append-nil done) ∙ ap (λ k. done ++ segment_sizes k (size - segment_size * i)) (sym m) ∙ s.is
 
-pub piece-size : (size i n k : ℕ) → k ≡ min (size - 16344 * i) 16344 → n ≡ cell_size k → n ≡ cell_size (min segment_size (size - segment_size * i))
+pub piece-size : (size i n k : ℕ) → k ≡ min (size - SEGMENT_SIZE * i) SEGMENT_SIZE → n ≡ cell_size k → n ≡ cell_size (min segment_size (size - segment_size * i))
 unfolding segment_size
 piece-size size i n k e f = f ∙ ap cell_size (omega (arith, e))
 
@@ -53,11 +54,11 @@ pub few-sizes : (size : ℕ) → size ≤ 4 → data_sizes size ≡ []
 unfolding data_sizes
 few-sizes size l = rw (le-leb size 4 l) refl
 
-pub one-size : (size : ℕ) → 4 < size → size ≤ 16344 → data_sizes size ≡ cell_size size ∷ []
+pub one-size : (size : ℕ) → 4 < size → size ≤ SEGMENT_SIZE → data_sizes size ≡ cell_size size ∷ []
 unfolding data_sizes
 one-size size l m = rw (le-false size 4 l, le-leb size segment_size (subst (λ n. size ≤ n) (sym segment-is) m)) refl
 
-pub big-sizes : (size : ℕ) → 16344 < size → data_sizes size ≡ cell_size 8 ∷ cell_size (4 * segments_for size) ∷ segment_sizes (segments_for size) size
+pub big-sizes : (size : ℕ) → SEGMENT_SIZE < size → data_sizes size ≡ cell_size 8 ∷ cell_size (4 * segments_for size) ∷ segment_sizes (segments_for size) size
 unfolding data_sizes
 big-sizes size l = rw (le-false size 4 (omega arith), le-false size segment_size (subst (λ n. n < size) (sym segment-is) l)) refl
 

@@ -6,6 +6,7 @@ use Rattle.reg_heap.specs.Paths.{Member}
 use Rattle.reg_heap.specs.Members.{place_named}
 use Rattle.std.proofs.Common.{false, not, nat_le, cond, ◌==◌, ◌-◌, ◌*◌, get_or, take, drop, unwrap_or}
 use Rattle.std.proofs.lemmas.Bool.{and_parts, leb-true, false≢true}
+use Rattle.reg_heap.specs.declared.limits.TheConstants.{VALUES_LIMIT, DATA_LIMIT}
 use Rattle.reg_arena.specs.NewCells.{AreSizes}
 use Rattle.reg_records.specs.RecordCells.{HasRoom, held}
 use Rattle.reg_values.specs.ValueSizes.{cell_size, data_sizes, list_sizes, sizes_by, has_room}
@@ -62,7 +63,8 @@ module _ (h0 h1 h2 : Heap) (count place : ℕ) (members : List Member) (met : Li
         let b3 = values-kept h2 h3 _ _ t.swaps _ _ _ (λ z. let t = there z in let o = v.owns z in omega (arith, t, o)) b2 in
         values-join h3 was.row (cell ∷ []) members (m ∷ []) was.value_met v.met a3 b3
 
-    pub added : place_named m.name members ≡ None → count3 ≡ count + 1 → count < 16384 → is_value_name m.name ≡ true → length m.bytes ≤ 1048576 → Became h0 h3 met count3 place3 (members ++ m ∷ [])
+    pub added : place_named m.name members ≡ None → count3 ≡ count + 1 → count < VALUES_LIMIT → is_value_name m.name ≡ true → length m.bytes ≤ DATA_LIMIT →
+        Became h0 h3 met count3 place3 (members ++ m ∷ [])
     added n less few named small =
         let T : ℕ → ℕ = λ z. owned z met + times z all in
         record {

@@ -3,6 +3,7 @@ use Rattle.std.proofs.Common.{◌≡◌, ℕ, zero, suc, ◌+◌, ◌<◌, ◌�
 use Rattle.std.specs.List.{AllByRecursion}
 use Rattle.reg_arena.proofs.Contents.CellWrites.{all-append}
 use Rattle.reg_names.specs.Names.{is_value_name}
+use Rattle.reg_heap.specs.declared.limits.TheConstants.{NONE, DATA_LIMIT}
 use Rattle.reg_heap.specs.Paths.{Member}
 use Rattle.reg_heap.specs.Members.{place_named, values_without}
 use Rattle.reg_heap.specs.Internal.Heaps.{Heap, Swaps, allocated}
@@ -113,13 +114,13 @@ module _ (h : Heap) (count place : ℕ) (members : List Member) (met : List Foun
       list2 : list_at count1 place1 h2 ≡ Some (take index a.row ++ drop (index + 1) a.row, t.cells)
       list2 = list-kept count1 place1 h1 h2 _ _ _ _ gone t.reads (λ z. let o = once z in let p = a.owned_are z in let c = t.swaps.count z in let x = allocated-le h1 z in omega (arith, o, p, c, x))
 
-      pub removed : (name : List ℕ) → place_named name members ≡ Some index → count1 + 1 ≡ count → (count1 ≡ 0 → place1 ≡ 4294967295) → Became h h2 met count1 place1 (values_without name members)
+      pub removed : (name : List ℕ) → place_named name members ≡ Some index → count1 + 1 ≡ count → (count1 ≡ 0 → place1 ≡ NONE) → Became h h2 met count1 place1 (values_without name members)
       removed name n less none =
           let ms = a.is in
           let p : place_named name (a.front ++ a.first.head ∷ a.first.tail) ≡ Some (length a.front) = ap (place_named name) (sym ms) ∙ (n ∙ ap (λ n. Some n) (sym a.as_many)) in
           let left : values_without name members ≡ a.front ++ a.first.tail = ap (values_without name) ms ∙ without-at name a.front a.first.head a.first.tail p in
           let names = subst (AllByRecursion (λ (m : Member). is_value_name m.name ≡ true)) ms w.names in
-          let sizes = subst (AllByRecursion (λ (m : Member). length m.bytes ≤ 1048576)) ms w.sizes in
+          let sizes = subst (AllByRecursion (λ (m : Member). length m.bytes ≤ DATA_LIMIT)) ms w.sizes in
           let few = w.few in
           subst (Became h h2 met count1 place1) (sym left) (record {
             cells = t.cells ++ (a.front_met ++ a.first.tail_met);

@@ -9,6 +9,7 @@ use Rattle.reg_heap.specs.Paths.{Member}
 use Rattle.reg_heap.specs.Internal.Heaps.{Heap, Swaps, Writes, AreNew, allocated}
 use Rattle.reg_heap.specs.Internal.Kinds.{Found, owned, times}
 use Rattle.reg_heap.specs.Internal.Kinds.Kind.{Value}
+use Rattle.reg_records.specs.declared.db.TheConstants.{SEGMENT_SIZE}
 use Rattle.reg_records.specs.declared.vk.ValueFields.{ValueFields}
 use Rattle.reg_records.specs.RecordCells.{HasRoom, held}
 use Rattle.reg_records.specs.KeyValues.{KeyValueRecord, value_record_at, IsPlainValue}
@@ -34,8 +35,8 @@ use Rattle.reg_values.proofs.ValueData.CellSizeTotals.{makes, data-ok}
 
 record Stays (h : Heap) (old : ValueFields) (size : ℕ) : Type 0 where
   large : 4 < size
-  small : size ≤ 16344
-  was_small : old.size ≤ 16344
+  small : size ≤ SEGMENT_SIZE
+  was_small : old.size ≤ SEGMENT_SIZE
   same : cell_size size ≡ length (held h old.place) + 4
 
 stays-open : (h : Heap) (old : ValueFields) (size : ℕ) → stays h old size ≡ true → Stays h old size
@@ -285,7 +286,7 @@ replace-sizes h cell size v b r s = ap (new_data_sizes h size) r ∙ ap (λ b. c
 
 -- the data's one cell is there
 pub old-there : (h : Heap) (cell : ℕ) (own : Owns (member_at cell) h) (w : IsWrittenValue h cell) (old : ValueFields) (name : List ℕ) →
-    value_record_at h cell ≡ Some (record { fields = old; name = name }) → old.size ≤ 16344 → IsSome (h old.place)
+    value_record_at h cell ≡ Some (record { fields = old; name = name }) → old.size ≤ SEGMENT_SIZE → IsSome (h old.place)
 old-there h cell own w old name r l = data-there h old own.result.bytes _ (member-data h cell own.result own.met own.reads old name r) (data-written h cell w old name r) l
 
 pub new-cells : (h0 h1 : Heap) (os all ss sizes : List ℕ) → AreNew h0 h1 os ss → all ≡ os → ss ≡ sizes → AreNew h0 h1 all sizes

@@ -3,6 +3,7 @@ use Rattle.std.proofs.Common.{◌≡◌, ℕ, ◌+◌, ◌<◌, ◌≤◌, ◌�
 use Rattle.std.specs.List.{AllByRecursion}
 use Rattle.reg_arena.proofs.Contents.CellWrites.{all-append}
 use Rattle.reg_names.specs.Names.{is_value_name}
+use Rattle.reg_heap.specs.declared.limits.TheConstants.{VALUES_LIMIT, DATA_LIMIT}
 use Rattle.reg_heap.specs.Paths.{Member}
 use Rattle.reg_heap.specs.Members.{place_named, values_with}
 use Rattle.reg_heap.specs.Internal.Heaps.{Heap, allocated}
@@ -36,14 +37,14 @@ module _ (h : Heap) (count place : ℕ) (members : List Member) (met : List Foun
         let all = values-join k (take index a.row) (a.cell ∷ drop (index + 1) a.row) a.front (changed a.first.head kind bytes ∷ a.first.tail) a.front_met (b.cells ++ a.first.tail_met) f tail in
         subst (λ row. AreRead k row (a.front ++ changed a.first.head kind bytes ∷ a.first.tail) (a.front_met ++ (b.cells ++ a.first.tail_met))) (sym a.row_is) all
 
-    pub set-again : (name : List ℕ) → place_named name members ≡ Some index → length bytes ≤ 1048576 → Became h k met count place (values_with name kind bytes members)
+    pub set-again : (name : List ℕ) → place_named name members ≡ Some index → length bytes ≤ DATA_LIMIT → Became h k met count place (values_with name kind bytes members)
     set-again name n small =
         let ms = a.is in
         let p : place_named name (a.front ++ a.first.head ∷ a.first.tail) ≡ Some (length a.front) = ap (place_named name) (sym ms) ∙ (n ∙ ap (λ n. Some n) (sym a.as_many)) in
         let is : values_with name kind bytes members ≡ a.front ++ changed a.first.head kind bytes ∷ a.first.tail =
         ap (values_with name kind bytes) ms ∙ with-at name kind bytes a.front a.first.head a.first.tail p in
         let names = subst (AllByRecursion (λ (m : Member). is_value_name m.name ≡ true)) ms w.names in
-        let sizes = subst (AllByRecursion (λ (m : Member). length m.bytes ≤ 1048576)) ms w.sizes in
+        let sizes = subst (AllByRecursion (λ (m : Member). length m.bytes ≤ DATA_LIMIT)) ms w.sizes in
         let back_names = all-back _ a.front (a.first.head ∷ a.first.tail) names in
         let back_sizes = all-back _ a.front (a.first.head ∷ a.first.tail) sizes in
         subst (Became h k met count place) (sym is) (record {
@@ -69,7 +70,7 @@ module _ (h : Heap) (count place : ℕ) (members : List Member) (met : List Foun
         })
 
 -- room for one more
-pub has-space : (h : Heap) (count place : ℕ) (name : List ℕ) → (count < 16384) ⊎ IsNamed h count place name →
-    ((members : List Member) → (met : List Found) → members_at count place h ≡ Some (members, met) → None ≡ place_named name members) → count < 16384
+pub has-space : (h : Heap) (count place : ℕ) (name : List ℕ) → (count < VALUES_LIMIT) ⊎ IsNamed h count place name →
+    ((members : List Member) → (met : List Found) → members_at count place h ≡ Some (members, met) → None ≡ place_named name members) → count < VALUES_LIMIT
 has-space h count place name (inl l) f = l
 has-space h count place name (inr n) f = absurd (named-place name n.members n.there (sym (f n.members n.met n.reads)))

@@ -5,6 +5,8 @@ use Rattle.std.specs.List.{AllByRecursion, list_all}
 use Rattle.std.proofs.lemmas.Bool.{and_parts, leb-true}
 use Rattle.reg_names.specs.Names.{is_value_name, is_value_name_byte}
 use Rattle.std.proofs.lemmas.List.{length-replicate}
+use Rattle.reg_names.specs.declared.TheConstants.{VALUE_NAME_LIMIT}
+use Rattle.reg_heap.specs.declared.limits.TheConstants.{BINS_LIMIT, GROWTH_BOUND, VALUES_LIMIT, DATA_LIMIT}
 use Rattle.reg_arena.specs.NewCells.{total_of, AreSizes}
 use Rattle.reg_arena.specs.NewBin.{PassesLimit}
 use Rattle.reg_heap.specs.Internal.Heaps.{Heap, AreNew, allocated}
@@ -38,7 +40,7 @@ data-ok size = by (nat_le size 4) (nat_le size segment_size)
     by false true = (cell-ok size, tt)
     by false false = (cell-ok 8, (cell-ok (4 * segments_for size), segments-ok (segments_for size) size))
 
-pub data-total : (size : ℕ) → size ≤ 1048576 → total_of (data_sizes size) ≤ 1049672
+pub data-total : (size : ℕ) → size ≤ DATA_LIMIT → total_of (data_sizes size) ≤ 1049672
 unfolding data_sizes
 data-total size l = by (nat_le size 4) (nat_le size segment_size)
   where
@@ -63,7 +65,7 @@ list-ok h count place = by (has_room h count place)
     by true = tt
     by false = (cell-ok (4 * count + 4), tt)
 
-list-total : (h : Heap) (count place : ℕ) → count ≤ 16384 → total_of (list_sizes h count place) ≤ 65560
+list-total : (h : Heap) (count place : ℕ) → count ≤ VALUES_LIMIT → total_of (list_sizes h count place) ≤ 65560
 unfolding list_sizes
 list-total h count place l = by (has_room h count place)
   where
@@ -74,7 +76,7 @@ list-total h count place l = by (has_room h count place)
 pub add-ok : (h : Heap) (count place name size : ℕ) → AreSizes (sizes_by h count place name size None)
 add-ok h count place name size = (cell-ok (20 + name), all-app _ (list_sizes h count place) (data_sizes size) (list-ok h count place) (data-ok size))
 
-pub add-total : (h : Heap) (count place name size : ℕ) → count ≤ 16384 → name ≤ 16383 → size ≤ 1048576 → total_of (sizes_by h count place name size None) ≤ 1306592
+pub add-total : (h : Heap) (count place name size : ℕ) → count ≤ VALUES_LIMIT → name ≤ VALUE_NAME_LIMIT → size ≤ DATA_LIMIT → total_of (sizes_by h count place name size None) ≤ 1306592
 add-total h count place name size c n s =
     let a = list-total h count place c in
     let d = data-total size s in
@@ -82,8 +84,8 @@ add-total h count place name size c n s =
 
 -- ---- near the limit
 
-pub near : (bytes : List ℕ) (total : ℕ) → total ≤ 1306592 → PassesLimit bytes total → 268435456 < length bytes + 1310720
-near bytes total l p = let s = p.least.least 1310720 (omega arith) (omega (arith, l)) in let q = p.passes in omega (arith, s, q)
+pub near : (bytes : List ℕ) (total : ℕ) → total ≤ 1306592 → PassesLimit bytes total → BINS_LIMIT < length bytes + GROWTH_BOUND
+near bytes total l p = let s = p.least.least GROWTH_BOUND (omega arith) (omega (arith, l)) in let q = p.passes in omega (arith, s, q)
 
 -- ---- the cells that were made
 
@@ -119,11 +121,11 @@ makes h0 h1 h offsets sizes a s less same = record {
       let n : allocated h0 z ≡ 0 = ap (λ (o : Option (List ℕ)). cond (is_some o) 1 0) e in omega (arith, c, b, t, n));
 }
 
-pub value-name : (name : List ℕ) → is_value_name name ≡ true → length name ≤ 16383
-value-name name e = leb-true _ _ (and_parts (list_all is_value_name_byte name) (nat_le (length name) 16383) e).1
+pub value-name : (name : List ℕ) → is_value_name name ≡ true → length name ≤ VALUE_NAME_LIMIT
+value-name name e = leb-true _ _ (and_parts (list_all is_value_name_byte name) (nat_le (length name) VALUE_NAME_LIMIT) e).1
 
 -- a set's sizes are few enough
-pub replace-total : (h : Heap) (size : ℕ) (v : Option KeyValueRecord) → size ≤ 1048576 → total_of (new_data_sizes h size v) ≤ 1306592
+pub replace-total : (h : Heap) (size : ℕ) (v : Option KeyValueRecord) → size ≤ DATA_LIMIT → total_of (new_data_sizes h size v) ≤ 1306592
 replace-total h size None l = omega arith
 replace-total h size (Some old) l = by (stays h old.fields size)
   where

@@ -15,6 +15,7 @@ use Rattle.std.specs.Prelude.{bit_and, Ok, Err}
 use Rattle.std.specs.Result.{result_ok}
 use Rattle.reg_records.specs.declared.RecordFault.{RecordFault}
 use Rattle.reg_heap.specs.Paths.{Member}
+use Rattle.reg_records.specs.declared.db.TheConstants.{SEGMENT_SIZE}
 use Rattle.reg_records.specs.KeyValues.{KeyValueRecord, value_record_at}
 use Rattle.reg_shape.specs.Written.{IsWrittenData}
 use Rattle.reg_records.specs.RecordCells.{held}
@@ -310,15 +311,15 @@ joined-all heap size i row done bytes l j =
     let e : pieces_at [] heap ≡ Some (j.rest, j.cells) = ap (λ xs. pieces_at (segments (size - segment_size * i) xs) heap) (sym (drop-all row i l)) ∙ j.reads in
     sym (j.is ∙ (ap (λ xs. done ++ xs) (pieces-none heap j.rest j.cells e).0 ∙ append-nil done))
 
-pub segment-is : segment_size ≡ 16344
+pub segment-is : segment_size ≡ SEGMENT_SIZE
 unfolding segment_size
 segment-is = refl
 
-pub count-is : (size i n : ℕ) → n ≡ min (size - 16344 * i) 16344 → n ≡ min segment_size (size - segment_size * i)
+pub count-is : (size i n : ℕ) → n ≡ min (size - SEGMENT_SIZE * i) SEGMENT_SIZE → n ≡ min segment_size (size - segment_size * i)
 unfolding segment_size
 count-is size i n e = omega (arith, e)
 
-pub within : (size i count : ℕ) → count ≡ segments_for size → i < count → 16344 * i ≤ size
+pub within : (size i count : ℕ) → count ≡ segments_for size → i < count → SEGMENT_SIZE * i ≤ size
 unfolding segment_size
 within size i count e l = omega (arith, e, l)
 
@@ -351,14 +352,14 @@ module _ (heap : Heap) (fields : ValueFields) (all : List ℕ) (met : List Found
   far : fields.size < 2147483648 → is_inline fields.size ≡ false
   far l = le-false 2147483648 fields.size l
 
-  pub small-data : fields.size ≤ 16344 → pieces_at (if_any Data fields.size fields.place) heap ≡ Some (all, met)
+  pub small-data : fields.size ≤ SEGMENT_SIZE → pieces_at (if_any Data fields.size fields.place) heap ≡ Some (all, met)
   unfolding segment_size
   small-data l = data-as false true (far (omega arith)) (le-leb _ _ l)
 
   pub no-data : fields.size ≡ 0 → (all ≡ []) × (met ≡ [])
   no-data z = pieces-none heap all met (ap (λ s. pieces_at (if_any Data s fields.place) heap) (sym z) ∙ small-data (omega arith))
 
-  pub big-data : 16344 < fields.size → fields.size < 2147483648 → big_at fields.size fields.place heap ≡ Some (all, met)
+  pub big-data : SEGMENT_SIZE < fields.size → fields.size < 2147483648 → big_at fields.size fields.place heap ≡ Some (all, met)
   unfolding segment_size
   big-data l m = data-as false false (far m) (le-false fields.size segment_size l)
 
@@ -371,7 +372,7 @@ pub record IsOne (heap : Heap) (place size : ℕ) (all : List ℕ) (met : List F
   pub met_is : met ≡ record { kind = Data; offset = place } ∷ []
 
 pub one-data : (heap : Heap) (fields : ValueFields) (all : List ℕ) (met : List Found) → data_at fields heap ≡ Some (all, met) → 0 < fields.size →
-    fields.size ≤ 16344 → IsOne heap fields.place fields.size all met
+    fields.size ≤ SEGMENT_SIZE → IsOne heap fields.place fields.size all met
 one-data heap fields all met e pos l = by fields.size refl (small-data heap fields all met e l)
   where
     by : (s : ℕ) → s ≡ fields.size → pieces_at (if_any Data s fields.place) heap ≡ Some (all, met) → IsOne heap fields.place s all met
@@ -389,7 +390,7 @@ one-data heap fields all met e pos l = by fields.size refl (small-data heap fiel
 
 -- data of at most 16,344 bytes that isn't inline has a cell
 pub data-there : (heap : Heap) (fields : ValueFields) (all : List ℕ) (met : List Found) → data_at fields heap ≡ Some (all, met) →
-    IsWrittenData heap fields → fields.size ≤ 16344 → IsSome (heap fields.place)
+    IsWrittenData heap fields → fields.size ≤ SEGMENT_SIZE → IsSome (heap fields.place)
 data-there heap fields all met e w l =
     let f = w.far (le-false 2147483648 fields.size (omega arith)) in
     let o = one-data heap fields all met e (omega (arith, f)) l in

@@ -8,6 +8,7 @@ use Rattle.reg_heap.specs.ByteWords.{word, splice}
 use Rattle.reg_heap.specs.Internal.Heaps.{Heap, Writes}
 use Rattle.reg_heap.specs.Internal.Kinds.{Found, times}
 use Rattle.reg_heap.specs.Internal.Kinds.Kind.{Segment}
+use Rattle.reg_records.specs.declared.db.TheConstants.{SEGMENT_SIZE}
 use Rattle.reg_arena.specs.Arena.{Bins}
 use Rattle.reg_arena.specs.Cells.{cell_at}
 use Rattle.reg_records.specs.RecordCells.{HasRoom, WritesCell, held}
@@ -175,7 +176,7 @@ pieces-made h (o ∷ os) bytes l f =
 
 -- the first pieces are written
 pub record PiecesFilled (h k : Heap) (os bytes : List ℕ) (i : ℕ) : Type 0 where
-  pub done : (j : ℕ) → j < i → Begins k (get_or os j 0) (take 16344 (drop (16344 * j) bytes))
+  pub done : (j : ℕ) → j < i → Begins k (get_or os j 0) (take SEGMENT_SIZE (drop (SEGMENT_SIZE * j) bytes))
   pub fills : Fills h k os
 
 pub pieces-none : (h : Heap) (os bytes : List ℕ) → PiecesFilled h h os bytes 0
@@ -187,7 +188,7 @@ one-in (o ∷ os) zero l z = omega arith
 one-in (o ∷ os) (suc i) l z = let k = one-in os i (omega arith) z in omega (arith, k)
 
 pub pieces-more : (h k l : Heap) (os bytes : List ℕ) (i : ℕ) (x : List ℕ) → ((z : ℕ) → times z os ≤ 1) → i < length os →
-    x ≡ take 16344 (drop (16344 * i) bytes) → 0 + length x ≤ length (held k (get_or os i 0))
+    x ≡ take SEGMENT_SIZE (drop (SEGMENT_SIZE * i) bytes) → 0 + length x ≤ length (held k (get_or os i 0))
     → ((offset : ℕ) → l offset ≡ cond (offset == get_or os i 0) (Some (splice 0 x (held k (get_or os i 0)))) (k offset)) →
     Writes k l (get_or os i 0 ∷ []) → PiecesFilled h k os bytes i → PiecesFilled h l os bytes (i + 1)
 pieces-more h k l os bytes i x t il q room w s p = record {
@@ -195,14 +196,14 @@ pieces-more h k l os bytes i x t il q room w s p = record {
   fills = fills-then h k l os p.fills (fills-in k l (get_or os i 0 ∷ []) os (one-in os i il) (fills-written k l (get_or os i 0) 0 x room w s));
 }
   where
-    by : (j : ℕ) → j < i + 1 → (j ≡ i) ⊎ (j ≡ i → ⊥) → Begins l (get_or os j 0) (take 16344 (drop (16344 * j) bytes))
-    by j jl (inl r) = subst (λ j. Begins l (get_or os j 0) (take 16344 (drop (16344 * j) bytes))) (sym r)
+    by : (j : ℕ) → j < i + 1 → (j ≡ i) ⊎ (j ≡ i → ⊥) → Begins l (get_or os j 0) (take SEGMENT_SIZE (drop (SEGMENT_SIZE * j) bytes))
+    by j jl (inl r) = subst (λ j. Begins l (get_or os j 0) (take SEGMENT_SIZE (drop (SEGMENT_SIZE * j) bytes))) (sym r)
         (subst (Begins l (get_or os i 0)) q (begins k l (get_or os i 0) x (omega (arith, room)) (written-here k l (get_or os i 0) 0 x room w)))
     by j jl (inr r) =
         let d = p.done j (omega (arith, jl, r)) in
         record { content = d.content; here = written-others k l (get_or os i 0) 0 x room w (get_or os j 0) (apart-at os t j i r (omega (arith, jl, il)) il) ∙ d.here; long = d.long; is = d.is }
 
-pub pieces-all : (h k : Heap) (os bytes : List ℕ) (i : ℕ) → length os ≤ i → length bytes ≤ 16344 * length os → PiecesFilled h k os bytes i →
+pub pieces-all : (h k : Heap) (os bytes : List ℕ) (i : ℕ) → length os ≤ i → length bytes ≤ SEGMENT_SIZE * length os → PiecesFilled h k os bytes i →
     (met : List Found) × (pieces_at (segments (length bytes) os) k ≡ Some (bytes, met))
 pieces-all h k os bytes i l a p =
     pieces-made k os bytes (subst (λ m. length bytes ≤ m * length os) (sym segment-is) a)

@@ -3,8 +3,10 @@ use Rattle.std.proofs.Common.{◌≡◌, ℕ, zero, suc, ◌+◌, ◌-◌, ◌*�
 use Rattle.std.proofs.Common.{◌⊎◌, inl, inr}
 use Rattle.std.proofs.lemmas.Bool.{cases_order}
 use Rattle.std.proofs.lemmas.List.{length-replicate}
+use Rattle.reg_heap.specs.declared.limits.TheConstants.{DATA_LIMIT}
 use Rattle.reg_heap.specs.Internal.Heaps.{Heap, AreNew}
 use Rattle.reg_heap.specs.Internal.Kinds.{times}
+use Rattle.reg_records.specs.declared.db.TheConstants.{SEGMENT_SIZE}
 use Rattle.reg_records.specs.RecordCells.{HasRoom}
 use Rattle.reg_records.specs.BigData.{segment_size, segments_for}
 use Rattle.reg_values.specs.Internal.ValueListParts.{HaveRoom}
@@ -53,8 +55,8 @@ list-two (x ∷ y ∷ xs) e = ap (λ zs. x ∷ y ∷ zs) (sym (take-length xs (l
 
 -- ---- the cells of data
 
-module _ (h : Heap) (cells bytes : List ℕ) (small : length bytes ≤ 1048576) (r : HaveRoom h cells (data_sizes (length bytes))) where
-  module _ (l : 4 < length bytes) (m : length bytes ≤ 16344) where
+module _ (h : Heap) (cells bytes : List ℕ) (small : length bytes ≤ DATA_LIMIT) (r : HaveRoom h cells (data_sizes (length bytes))) where
+  module _ (l : 4 < length bytes) (m : length bytes ≤ SEGMENT_SIZE) where
     pub one-long : length cells ≡ 1
     one-long = r.as_many ∙ ap length (one-size (length bytes) l m)
 
@@ -63,7 +65,7 @@ module _ (h : Heap) (cells bytes : List ℕ) (small : length bytes ≤ 1048576) 
         let n = one-long in
         room-less h (get_or cells 0 0) _ (length bytes) (let s = ap (λ xs. get_or xs 0 0) (one-size (length bytes) l m) in omega (arith, s)) (r.room 0 (omega (arith, n)))
 
-  module _ (large : 16344 < length bytes) where
+  module _ (large : SEGMENT_SIZE < length bytes) where
     abbrev segs : List ℕ
     segs = take (length cells - 2) (drop 2 cells)
 
@@ -94,20 +96,21 @@ module _ (h : Heap) (cells bytes : List ℕ) (small : length bytes ≤ 1048576) 
     at-two : (xs : List ℕ) (a b : ℕ) (ys : List ℕ) (i : ℕ) → xs ≡ a ∷ b ∷ ys → get_or xs (suc (suc i)) 0 ≡ get_or ys i 0
     at-two xs a b ys i e = ap (λ xs. get_or xs (suc (suc i)) 0) e
 
-    pub big-room : (i : ℕ) → i < length segs → HasRoom h (get_or segs i 0) (length (take 16344 (drop (16344 * i) bytes)))
+    pub big-room : (i : ℕ) → i < length segs → HasRoom h (get_or segs i 0) (length (take SEGMENT_SIZE (drop (SEGMENT_SIZE * i) bytes)))
     big-room i l =
         let n = big-long in
         let c = big-count in
         let s = at-two (data_sizes (length bytes)) _ _ _ i (big-sizes (length bytes) large) ∙
         (segment-at count (length bytes) i (omega (arith, l, c)) ∙ ap (λ m. cell_size (min m (length bytes - m * i))) segment-is) in
         let o = at-two cells _ _ _ i big-cells in
-        subst (λ o. HasRoom h o (length (take 16344 (drop (16344 * i) bytes)))) o
-        (room-less h (get_or cells (suc (suc i)) 0) _ _ (omega (arith, s, length-take 16344 (drop (16344 * i) bytes), length-drop (16344 * i) bytes)) (r.room (suc (suc i)) (omega (arith, l, c, n))))
+        subst (λ o. HasRoom h o (length (take SEGMENT_SIZE (drop (SEGMENT_SIZE * i) bytes)))) o
+        (room-less h (get_or cells (suc (suc i)) 0) _ _ (omega (arith, s, length-take SEGMENT_SIZE (drop (SEGMENT_SIZE * i) bytes), length-drop (SEGMENT_SIZE * i) bytes))
+        (r.room (suc (suc i)) (omega (arith, l, c, n))))
 
-pub some-long : (h : Heap) (cells bytes : List ℕ) → length bytes ≤ 1048576 → HaveRoom h cells (data_sizes (length bytes)) → 4 < length bytes → 0 < length cells
-some-long h cells bytes small r l = by (cases_order (length bytes) 16344)
+pub some-long : (h : Heap) (cells bytes : List ℕ) → length bytes ≤ DATA_LIMIT → HaveRoom h cells (data_sizes (length bytes)) → 4 < length bytes → 0 < length cells
+some-long h cells bytes small r l = by (cases_order (length bytes) SEGMENT_SIZE)
   where
-    by : (length bytes ≡ 16344) ⊎ ((length bytes < 16344) ⊎ (16344 < length bytes)) → 0 < length cells
+    by : (length bytes ≡ SEGMENT_SIZE) ⊎ ((length bytes < SEGMENT_SIZE) ⊎ (SEGMENT_SIZE < length bytes)) → 0 < length cells
     by (inl e) = let n = one-long h cells bytes small r l (omega (arith, e)) in omega (arith, n)
     by (inr (inl e)) = let n = one-long h cells bytes small r l (omega (arith, e)) in omega (arith, n)
     by (inr (inr e)) = let n = big-long h cells bytes small r e in omega (arith, n)

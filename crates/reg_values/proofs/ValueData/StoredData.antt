@@ -5,10 +5,12 @@ use Rattle.std.proofs.lemmas.Bool.{le-leb, false≢true, leb-true}
 use Rattle.std.proofs.lemmas.List.{append-nil}
 use Rattle.std.proofs.Math.Seq.{take-append_seam}
 use Rattle.byteorder.specs.Endian.{little_bytes}
+use Rattle.reg_heap.specs.declared.limits.TheConstants.{DATA_LIMIT}
 use Rattle.reg_heap.specs.ByteWords.{splice}
 use Rattle.reg_heap.specs.Internal.Heaps.{Heap, Writes}
 use Rattle.reg_heap.specs.Internal.Kinds.{Found, times}
 use Rattle.reg_heap.specs.Internal.Kinds.Kind.{Data, BigHead, BigList}
+use Rattle.reg_records.specs.declared.db.TheConstants.{SEGMENT_SIZE}
 use Rattle.reg_shape.specs.Internal.Readings.{give}
 use Rattle.reg_shape.proofs.Walking.ReadingParts.{guard-made}
 use Rattle.reg_records.specs.RecordCells.{HasRoom, held}
@@ -44,15 +46,16 @@ piece-is bytes from to m e l = let n = length-drop from bytes in take-min (drop 
 
 -- ---- big data
 
-module _ (h0 h1 h2 h3 : Heap) (head list : ℕ) (segs bytes : List ℕ) (small : length bytes ≤ 1048576) (large : 16344 < length bytes) (n : length segs ≡ segments_for (length bytes))
+module _ (h0 h1 h2 h3 : Heap) (head list : ℕ) (segs bytes : List ℕ) (small : length bytes ≤ DATA_LIMIT) (large : SEGMENT_SIZE < length bytes) (n : length segs ≡ segments_for (length bytes))
     (once : (z : ℕ) → times z (head ∷ list ∷ segs) ≤ 1)
-    (head_room : HasRoom h0 head 8) (list_room : HasRoom h0 list (4 * length segs)) (rooms : (i : ℕ) → i < length segs → HasRoom h0 (get_or segs i 0) (length (take 16344 (drop (16344 * i) bytes))))
+    (head_room : HasRoom h0 head 8) (list_room : HasRoom h0 list (4 * length segs)) (rooms : (i : ℕ) → i < length segs →
+    HasRoom h0 (get_or segs i 0) (length (take SEGMENT_SIZE (drop (SEGMENT_SIZE * i) bytes))))
     (f1 : Fills h0 h1 (head ∷ [])) where
   pub list-room : HasRoom h1 list (4 * length segs)
   list-room = fills-room h0 h1 (head ∷ []) list _ f1 list_room
 
   module _ (f2 : Fills h1 h2 (list ∷ [])) where
-    pub seg-room : (i : ℕ) → i < length segs → HasRoom h2 (get_or segs i 0) (length (take 16344 (drop (16344 * i) bytes)))
+    pub seg-room : (i : ℕ) → i < length segs → HasRoom h2 (get_or segs i 0) (length (take SEGMENT_SIZE (drop (SEGMENT_SIZE * i) bytes)))
     seg-room i l = fills-room h1 h2 (list ∷ []) _ _ f2 (fills-room h0 h1 (head ∷ []) _ _ f1 (rooms i l))
 
     module _ (f3 : Fills h2 h3 segs) where
@@ -102,7 +105,7 @@ module _ (h0 h1 h2 h3 : Heap) (head list : ℕ) (segs bytes : List ℕ) (small :
 
 -- ---- data in one cell
 
-module _ (h k : Heap) (cell : ℕ) (bytes : List ℕ) (l : 4 < length bytes) (m : length bytes ≤ 16344) (room : HasRoom h cell (length bytes))
+module _ (h k : Heap) (cell : ℕ) (bytes : List ℕ) (l : 4 < length bytes) (m : length bytes ≤ SEGMENT_SIZE) (room : HasRoom h cell (length bytes))
     (w : (offset : ℕ) → k offset ≡ cond (offset == cell) (Some (splice 0 bytes (held h cell))) (h offset)) (s : Writes h k (cell ∷ [])) where
   pub one-fills : Fills h k (cell ∷ [])
   one-fills = let e = room.enough in fills-written h k cell 0 bytes (omega (arith, e)) w s
@@ -178,10 +181,10 @@ near-holds h place bytes cells l n e =
       };
     })
 
-pub few-segments : (size : ℕ) → size ≤ 1048576 → segments_for size ≤ 65
+pub few-segments : (size : ℕ) → size ≤ DATA_LIMIT → segments_for size ≤ 65
 unfolding segment_size
 few-segments size l = omega arith
 
-pub all-segments : (size n : ℕ) → n ≡ segments_for size → (size ≤ 16344 * n) × (16344 * n < size + 16344)
+pub all-segments : (size n : ℕ) → n ≡ segments_for size → (size ≤ SEGMENT_SIZE * n) × (SEGMENT_SIZE * n < size + SEGMENT_SIZE)
 unfolding segment_size
 all-segments size n e = (omega (arith, e), omega (arith, e))

@@ -4,6 +4,7 @@ use Rattle.std.proofs.lemmas.Option.{same_Some}
 use Rattle.reg_heap.specs.Internal.Kinds.{Found, times, owned}
 use Rattle.reg_heap.specs.Paths.{Member}
 use Rattle.reg_heap.specs.Internal.Heaps.{Heap, Swaps, GivesUp, allocated}
+use Rattle.reg_records.specs.declared.db.TheConstants.{SEGMENT_SIZE}
 use Rattle.reg_records.specs.declared.vk.ValueFields.{ValueFields}
 use Rattle.reg_records.specs.RecordCells.{held}
 use Rattle.reg_records.specs.KeyValues.{KeyValueRecord, value_record_at}
@@ -119,5 +120,5 @@ module _ (h : Heap) (cell : ℕ) (m : Member) (met : List Found) (e : member_at 
   member-owned z = let q = ap (owned z) member-parts.met in omega (arith, q)
 
 pub one-owned : (h : Heap) (fields : ValueFields) (all : List ℕ) (met : List Found) → data_at fields h ≡ Some (all, met) → 0 < fields.size →
-    fields.size ≤ 16344 → (z : ℕ) → owned z met ≡ times z (fields.place ∷ [])
+    fields.size ≤ SEGMENT_SIZE → (z : ℕ) → owned z met ≡ times z (fields.place ∷ [])
 one-owned h fields all met e p l z = ap (owned z) (one-data h fields all met e p l).met_is

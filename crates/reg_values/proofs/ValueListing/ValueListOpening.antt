@@ -1,6 +1,7 @@
 -- A list of values taken apart.
 use Rattle.std.proofs.Common.{◌≡◌, ℕ, zero, suc, ◌+◌, Some, List, [], ◌∷◌, length, refl, sym, ap, ◌∙◌, arith}
 use Rattle.std.proofs.lemmas.Option.{same_Some}
+use Rattle.reg_heap.specs.declared.limits.TheConstants.{NONE}
 use Rattle.reg_heap.specs.Paths.{Member}
 use Rattle.reg_heap.specs.Internal.Heaps.{Heap}
 use Rattle.reg_heap.specs.Internal.Kinds.{Found}
@@ -32,7 +33,7 @@ members-length heap (suc n) place members met e =
     let row : offsets_at (suc n) 0 r.content ≡ o.first = row-is (suc n) r.content o.first r.row_is in
     ap length (sym o.result) ∙ (each-length heap o.first o.then.0 o.then.1 o.then_is ∙ (ap length (sym row) ∙ length-offsets (suc n) 0 r.content))
 
-pub no-values : (heap : Heap) → AreValues heap 0 4294967295
+pub no-values : (heap : Heap) → AreValues heap 0 NONE
 unfolding offsets_at
 no-values heap = record {
   members = [];

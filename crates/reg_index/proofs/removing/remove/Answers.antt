@@ -1,4 +1,5 @@
 use Rattle.std.proofs.Common.{◌-◌, arith}
+use Rattle.reg_heap.specs.declared.limits.TheConstants.{NONE}
 use Rattle.reg_arena.specs.Cells.{cell_at}
 use Rattle.reg_index.proofs.SubkeysOpening.{list-here}
 use Rattle.reg_index.proofs.SubkeyRemoved.{emptied, emptied-moves, fewer, fewer-moves, one-leaf}
@@ -14,7 +15,7 @@ returns-then-count-eq0-clause-subkeys c =
 
 pub returns-then-count-eq0-clause-moves : goal.returns-then-count-eq0-clause-moves
 returns-then-count-eq0-clause-moves c =
-    emptied-moves (cell_at c.args.arena.now.bytes) (cell_at c.free.new.self.bytes) c.args.list.place (c.args.list.count - 1) 4294967295 c.if-count-eq0.true c.free.ensures.gone
+    emptied-moves (cell_at c.args.arena.now.bytes) (cell_at c.free.new.self.bytes) c.args.list.place (c.args.list.count - 1) NONE c.if-count-eq0.true c.free.ensures.gone
 
 pub close-requires-clause-leaf : goal.close-requires-clause-leaf
 close-requires-clause-leaf c = one-leaf (cell_at c.args.arena.now.bytes) c.args.list.count c.args.list.place (c.args.list.count - 1) (omega (arith, c.requires.index)) c.requires.subkeys

@@ -3,6 +3,7 @@ use Rattle.reg_arena.specs.Cells.{cell_at}
 use Rattle.reg_records.specs.RecordCells.{HasRoom}
 use Rattle.reg_tree.specs.Internal.SpareCells.{Grows, AreReady}
 use Rattle.std.specs.Prelude.{Some}
+use Rattle.reg_heap.specs.declared.limits.TheConstants.{NONE}
 use Rattle.reg_tree.proofs.InsertKey.SpareCellTaken.{growing_there, growing_subkeys, planned_is, alone, beside, respelt, may_grow}
 use Rattle.reg_tree.proofs.make.make_in.Goals as goal
 
@@ -17,7 +18,7 @@ make-requires-clause-grow c =
     let r = c.requires.ready.1 in
     let p = planned_is _ _ _ c.requires.grow.growing _ _ c.subkeys_list-list.ensures ∙ (sym c.plan_insert.ensures ∙ c.in-None.is) in
     let a = alone _ r.list_cell r.key r.left c.args.spare.now p r.spare_is in
-    (drop 1 c.args.spare.now, may_grow _ _ _ _ _ (a.all 4294967295) c.requires.grow)
+    (drop 1 c.args.spare.now, may_grow _ _ _ _ _ (a.all NONE) c.requires.grow)
 
 pub make-requires-in-Some-clause-grow : goal.make-requires-in-Some-clause-grow
 make-requires-in-Some-clause-grow c =
@@ -40,7 +41,7 @@ returns-in-None-clause-grows c =
     let a = alone _ r.list_cell r.key r.left c.args.spare.now p r.spare_is in
     respelt _ _ _ (λ path root keys first. Grows (cell_at c.args.arena.now.bytes) (cell_at c.make.new.arena.bytes) root path keys first
     (get_or c.args.spare.now 0 0) (drop 1 c.args.spare.now) c.args.name.now c.args.moment)
-    _ _ (a.all 4294967295) (c.make.ensures (drop 1 c.args.spare.now))
+    _ _ (a.all NONE) (c.make.ensures (drop 1 c.args.spare.now))
 
 pub returns-in-Some-clause-taken : goal.returns-in-Some-clause-taken
 returns-in-Some-clause-taken c =

@@ -10,5 +10,5 @@ pub returns-clause-many : goal.returns-clause-many
 returns-clause-many c = λ t.
     let counted = c.count_names-count.ensures in
     let few = c.if-count-gt-MADE_LIMIT.false in
-    let shallow = c.if-parent-count-gt-DEPTH_LIMIT.false in
+    let shallow = c.if-parent-count.false in
     many-below _ _ _ _ c.subkeys_list.ensures c.len.result c.len.ensures _ _ (omega (arith, counted, few)) (omega (arith, counted, shallow)) t

@@ -10,20 +10,20 @@ use Rattle.reg_values.proofs.data.data_bytes.Goals as goal
 pub big_bytes-requires-clause-big : goal.big_bytes-requires-clause-big
 big_bytes-requires-clause-big c =
     let x = some-of _ c.requires in
-    is-some _ x.0 (big-data (cell_at c.args.arena.now.bytes) c.args.fields x.0.0 x.0.1 x.1 c.if-size-gt-SEGMENT.true c.if-fields-ge-INLINE.false)
+    is-some _ x.0 (big-data (cell_at c.args.arena.now.bytes) c.args.fields x.0.0 x.0.1 x.1 c.if-size-gt-SEGMENT_SIZE.true c.if-fields-ge-INLINE.false)
 
-pub returns-then-size-gt-SEGMENT : goal.returns-then-size-gt-SEGMENT
-returns-then-size-gt-SEGMENT c =
+pub returns-then-size-gt-SEGMENT_SIZE : goal.returns-then-size-gt-SEGMENT_SIZE
+returns-then-size-gt-SEGMENT_SIZE c =
     let h = cell_at c.args.arena.now.bytes in
     is-ok (λ b. (all : List ℕ) → (met : List Found) → big_at c.args.fields.size c.args.fields.place h ≡ Some (all, met) →
     b.items ≡ all) (λ b. (all : List ℕ) → (met : List Found) → data_at c.args.fields h ≡ Some (all, met) → b.items ≡ all) c.big_bytes.result
-    (λ b f all met e. f all met (big-data h c.args.fields all met e c.if-size-gt-SEGMENT.true c.if-fields-ge-INLINE.false)) c.big_bytes.ensures
+    (λ b f all met e. f all met (big-data h c.args.fields all met e c.if-size-gt-SEGMENT_SIZE.true c.if-fields-ge-INLINE.false)) c.big_bytes.ensures
 
 pub slice_bounds-from_slice-end-2 : goal.slice_bounds-from_slice-end-2
 slice_bounds-from_slice-end-2 c =
     let x = some-of _ c.requires in
     let n = c.if-size-eq0.false in
-    let o = one-data (cell_at c.args.arena.now.bytes) c.args.fields x.0.0 x.0.1 x.1 (omega (arith, n)) c.if-size-gt-SEGMENT.false in
+    let o = one-data (cell_at c.args.arena.now.bytes) c.args.fields x.0.0 x.0.1 x.1 (omega (arith, n)) c.if-size-gt-SEGMENT_SIZE.false in
     let s = ap length (same_Some _ _ (sym o.here ∙ c.content.ensures)) in
     let long = o.long in
     omega (arith, s, long, length-take c.args.fields.size c.content.result.now)
@@ -34,5 +34,5 @@ returns c =
     let n = c.if-size-eq0.false in
     is-ok (λ b. b.items ≡ take c.args.fields.size c.content.result.now) (λ b. (all : List ℕ) → (met : List Found) → data_at c.args.fields h ≡ Some (all, met) → b.items ≡ all) c.from_slice-2.result
     (λ b f all met e.
-    let o = one-data h c.args.fields all met e (omega (arith, n)) c.if-size-gt-SEGMENT.false in
+    let o = one-data h c.args.fields all met e (omega (arith, n)) c.if-size-gt-SEGMENT_SIZE.false in
     f ∙ (ap (take c.args.fields.size) (same_Some _ _ (sym c.content.ensures ∙ o.here)) ∙ sym o.is)) c.from_slice-2.ensures.items

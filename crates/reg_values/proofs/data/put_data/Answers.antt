@@ -17,46 +17,46 @@ pub bounds-cells-0 : goal.bounds-cells-0
 bounds-cells-0 c = some-long (cell_at c.args.arena.now.bytes) c.args.cells.now c.args.bytes.now c.requires.small c.requires.cells c.if-bytes-le-INLINE_LIMIT.false
 
 pub bounds-cells-1 : goal.bounds-cells-1
-bounds-cells-1 c = let n = big-long (cell_at c.args.arena.now.bytes) c.args.cells.now c.args.bytes.now c.requires.small c.requires.cells c.if-bytes-gt-SEGMENT.true in omega (arith, n)
+bounds-cells-1 c = let n = big-long (cell_at c.args.arena.now.bytes) c.args.cells.now c.args.bytes.now c.requires.small c.requires.cells c.if-bytes-gt-SEGMENT_SIZE.true in omega (arith, n)
 
 pub slice_bounds-put_big-count : goal.slice_bounds-put_big-count
-slice_bounds-put_big-count c = let n = big-long (cell_at c.args.arena.now.bytes) c.args.cells.now c.args.bytes.now c.requires.small c.requires.cells c.if-bytes-gt-SEGMENT.true in omega (arith, n)
+slice_bounds-put_big-count c = let n = big-long (cell_at c.args.arena.now.bytes) c.args.cells.now c.args.bytes.now c.requires.small c.requires.cells c.if-bytes-gt-SEGMENT_SIZE.true in omega (arith, n)
 
 pub put_big-requires-clause-count : goal.put_big-requires-clause-count
-put_big-requires-clause-count c = big-count (cell_at c.args.arena.now.bytes) c.args.cells.now c.args.bytes.now c.requires.small c.requires.cells c.if-bytes-gt-SEGMENT.true
+put_big-requires-clause-count c = big-count (cell_at c.args.arena.now.bytes) c.args.cells.now c.args.bytes.now c.requires.small c.requires.cells c.if-bytes-gt-SEGMENT_SIZE.true
 
 pub put_big-requires-clause-once : goal.put_big-requires-clause-once
-put_big-requires-clause-once c = λ z. big-once (cell_at c.args.arena.now.bytes) c.args.cells.now c.args.bytes.now c.requires.small c.requires.cells c.if-bytes-gt-SEGMENT.true z
+put_big-requires-clause-once c = λ z. big-once (cell_at c.args.arena.now.bytes) c.args.cells.now c.args.bytes.now c.requires.small c.requires.cells c.if-bytes-gt-SEGMENT_SIZE.true z
 
 pub put_big-requires-clause-head : goal.put_big-requires-clause-head
-put_big-requires-clause-head c = big-head (cell_at c.args.arena.now.bytes) c.args.cells.now c.args.bytes.now c.requires.small c.requires.cells c.if-bytes-gt-SEGMENT.true
+put_big-requires-clause-head c = big-head (cell_at c.args.arena.now.bytes) c.args.cells.now c.args.bytes.now c.requires.small c.requires.cells c.if-bytes-gt-SEGMENT_SIZE.true
 
 pub put_big-requires-clause-list : goal.put_big-requires-clause-list
-put_big-requires-clause-list c = big-list (cell_at c.args.arena.now.bytes) c.args.cells.now c.args.bytes.now c.requires.small c.requires.cells c.if-bytes-gt-SEGMENT.true
+put_big-requires-clause-list c = big-list (cell_at c.args.arena.now.bytes) c.args.cells.now c.args.bytes.now c.requires.small c.requires.cells c.if-bytes-gt-SEGMENT_SIZE.true
 
 pub put_big-requires-clause-room : goal.put_big-requires-clause-room
-put_big-requires-clause-room c = λ i l. big-room (cell_at c.args.arena.now.bytes) c.args.cells.now c.args.bytes.now c.requires.small c.requires.cells c.if-bytes-gt-SEGMENT.true i l
+put_big-requires-clause-room c = λ i l. big-room (cell_at c.args.arena.now.bytes) c.args.cells.now c.args.bytes.now c.requires.small c.requires.cells c.if-bytes-gt-SEGMENT_SIZE.true i l
 
-pub returns-then-bytes-gt-SEGMENT-clause-fills : goal.returns-then-bytes-gt-SEGMENT-clause-fills
-returns-then-bytes-gt-SEGMENT-clause-fills c =
+pub returns-then-bytes-gt-SEGMENT_SIZE-clause-fills : goal.returns-then-bytes-gt-SEGMENT_SIZE-clause-fills
+returns-then-bytes-gt-SEGMENT_SIZE-clause-fills c =
     let h = cell_at c.args.arena.now.bytes in
     let k = cell_at c.put_big.new.arena.bytes in
-    subst (Fills h k) (sym (big-cells h c.args.cells.now c.args.bytes.now c.requires.small c.requires.cells c.if-bytes-gt-SEGMENT.true)) c.put_big.ensures.fills
+    subst (Fills h k) (sym (big-cells h c.args.cells.now c.args.bytes.now c.requires.small c.requires.cells c.if-bytes-gt-SEGMENT_SIZE.true)) c.put_big.ensures.fills
 
-pub returns-then-bytes-gt-SEGMENT-clause-holds : goal.returns-then-bytes-gt-SEGMENT-clause-holds
-returns-then-bytes-gt-SEGMENT-clause-holds c =
+pub returns-then-bytes-gt-SEGMENT_SIZE-clause-holds : goal.returns-then-bytes-gt-SEGMENT_SIZE-clause-holds
+returns-then-bytes-gt-SEGMENT_SIZE-clause-holds c =
     let h = cell_at c.args.arena.now.bytes in
     let k = cell_at c.put_big.new.arena.bytes in
     subst (HoldsData k (length c.args.bytes.now) (get_or c.args.cells.now 0 0) c.args.bytes.now)
-    (sym (big-cells h c.args.cells.now c.args.bytes.now c.requires.small c.requires.cells c.if-bytes-gt-SEGMENT.true)) c.put_big.ensures.holds
+    (sym (big-cells h c.args.cells.now c.args.bytes.now c.requires.small c.requires.cells c.if-bytes-gt-SEGMENT_SIZE.true)) c.put_big.ensures.holds
 
 pub write-requires-clause-exists : goal.write-requires-clause-exists
 write-requires-clause-exists c =
-    (one-room (cell_at c.args.arena.now.bytes) c.args.cells.now c.args.bytes.now c.requires.small c.requires.cells c.if-bytes-le-INLINE_LIMIT.false c.if-bytes-gt-SEGMENT.false).exists
+    (one-room (cell_at c.args.arena.now.bytes) c.args.cells.now c.args.bytes.now c.requires.small c.requires.cells c.if-bytes-le-INLINE_LIMIT.false c.if-bytes-gt-SEGMENT_SIZE.false).exists
 
 pub write-requires-clause-fits : goal.write-requires-clause-fits
 write-requires-clause-fits c =
-    let r = one-room (cell_at c.args.arena.now.bytes) c.args.cells.now c.args.bytes.now c.requires.small c.requires.cells c.if-bytes-le-INLINE_LIMIT.false c.if-bytes-gt-SEGMENT.false in
+    let r = one-room (cell_at c.args.arena.now.bytes) c.args.cells.now c.args.bytes.now c.requires.small c.requires.cells c.if-bytes-le-INLINE_LIMIT.false c.if-bytes-gt-SEGMENT_SIZE.false in
     let e = r.enough in
     omega (arith, e)
 
@@ -64,21 +64,21 @@ pub returns-clause-fills : goal.returns-clause-fills
 returns-clause-fills c =
     let h = cell_at c.args.arena.now.bytes in
     let k = cell_at c.write.new.self.bytes in
-    let r = one-room h c.args.cells.now c.args.bytes.now c.requires.small c.requires.cells c.if-bytes-le-INLINE_LIMIT.false c.if-bytes-gt-SEGMENT.false in
-    let n = one-long h c.args.cells.now c.args.bytes.now c.requires.small c.requires.cells c.if-bytes-le-INLINE_LIMIT.false c.if-bytes-gt-SEGMENT.false in
+    let r = one-room h c.args.cells.now c.args.bytes.now c.requires.small c.requires.cells c.if-bytes-le-INLINE_LIMIT.false c.if-bytes-gt-SEGMENT_SIZE.false in
+    let n = one-long h c.args.cells.now c.args.bytes.now c.requires.small c.requires.cells c.if-bytes-le-INLINE_LIMIT.false c.if-bytes-gt-SEGMENT_SIZE.false in
     subst (Fills h k) (sym (list-one c.args.cells.now n))
-    (one-fills h k (get_or c.args.cells.now 0 0) c.args.bytes.now c.if-bytes-le-INLINE_LIMIT.false c.if-bytes-gt-SEGMENT.false r
+    (one-fills h k (get_or c.args.cells.now 0 0) c.args.bytes.now c.if-bytes-le-INLINE_LIMIT.false c.if-bytes-gt-SEGMENT_SIZE.false r
     c.write.ensures.written c.write.ensures.writes)
 
 pub returns-clause-holds : goal.returns-clause-holds
 returns-clause-holds c =
     let h = cell_at c.args.arena.now.bytes in
     let k = cell_at c.write.new.self.bytes in
-    let r = one-room h c.args.cells.now c.args.bytes.now c.requires.small c.requires.cells c.if-bytes-le-INLINE_LIMIT.false c.if-bytes-gt-SEGMENT.false in
-    let n = one-long h c.args.cells.now c.args.bytes.now c.requires.small c.requires.cells c.if-bytes-le-INLINE_LIMIT.false c.if-bytes-gt-SEGMENT.false in
+    let r = one-room h c.args.cells.now c.args.bytes.now c.requires.small c.requires.cells c.if-bytes-le-INLINE_LIMIT.false c.if-bytes-gt-SEGMENT_SIZE.false in
+    let n = one-long h c.args.cells.now c.args.bytes.now c.requires.small c.requires.cells c.if-bytes-le-INLINE_LIMIT.false c.if-bytes-gt-SEGMENT_SIZE.false in
     subst (HoldsData k (length c.args.bytes.now) (get_or c.args.cells.now 0 0) c.args.bytes.now) (sym (list-one c.args.cells.now n))
-    (one-holds h k (get_or c.args.cells.now 0 0) c.args.bytes.now c.if-bytes-le-INLINE_LIMIT.false c.if-bytes-gt-SEGMENT.false r
+    (one-holds h k (get_or c.args.cells.now 0 0) c.args.bytes.now c.if-bytes-le-INLINE_LIMIT.false c.if-bytes-gt-SEGMENT_SIZE.false r
     c.write.ensures.written c.write.ensures.writes)
 
 pub slice_bounds-put_big-start : goal.slice_bounds-put_big-start
-slice_bounds-put_big-start c = let n = big-long (cell_at c.args.arena.now.bytes) c.args.cells.now c.args.bytes.now c.requires.small c.requires.cells c.if-bytes-gt-SEGMENT.true in omega (arith, n)
+slice_bounds-put_big-start c = let n = big-long (cell_at c.args.arena.now.bytes) c.args.cells.now c.args.bytes.now c.requires.small c.requires.cells c.if-bytes-gt-SEGMENT_SIZE.true in omega (arith, n)

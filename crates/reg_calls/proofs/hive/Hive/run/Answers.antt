@@ -2,6 +2,7 @@ use Rattle.std.proofs.Common.{arith, subst, ◌<◌}
 use Rattle.std.specs.Prelude.{All}
 use Rattle.std.proofs.lemmas.Grind.{common_steps}
 use Rattle.std.proofs.lemmas.List.Elements.{All-tail}
+use Rattle.reg_model.specs.declared.limits.TheConstants.{SESSIONS_LIMIT}
 use Rattle.reg_model.specs.declared.step.Step.{Step}
 use Rattle.reg_calls.proofs.RunSteps.{Run-push}
 use Rattle.reg_calls.proofs.hive.Hive.run.Goals as goal
@@ -15,5 +16,5 @@ loop-step-preserved c =
       count = grind (arith, common_steps);
       left = grind (arith, common_steps);
       room = grind (arith, common_steps);
-      sessions = All-tail (λ (s : Step). s.session < 64) _ _ (subst (All (λ (s : Step). s.session < 64)) next.0 c.loop-step.invariant.sessions);
+      sessions = All-tail (λ (s : Step). s.session < SESSIONS_LIMIT) _ _ (subst (All (λ (s : Step). s.session < SESSIONS_LIMIT)) next.0 c.loop-step.invariant.sessions);
     }

@@ -1,6 +1,7 @@
 use Rattle.std.proofs.Common.{◌≡◌, ◌+◌, ◌≤◌, ◌<◌, length, vec_len, vec_capacity}
 use Rattle.std.specs.Prelude.{All}
 use Rattle.std.specs.Vec.Iter.{into_iter_items}
+use Rattle.reg_model.specs.declared.limits.TheConstants.{SESSIONS_LIMIT}
 use Rattle.reg_model.specs.declared.step.Step.{Step}
 use Rattle.reg_calls.specs.Runs.{Run}
 use Rattle.reg_calls.specs.HiveView.{view_of}
@@ -12,5 +13,5 @@ invariant-loop-step l = record {
   count : vec_len l.outcomes ≡ length l.yielded;
   left : length l.yielded + length (into_iter_items l.step-iterator) ≡ length l.fn.steps.items;
   room : length l.fn.steps.items ≤ vec_capacity l.outcomes;
-  sessions : All (λ (s : Step). s.session < 64) (into_iter_items l.step-iterator);
+  sessions : All (λ (s : Step). s.session < SESSIONS_LIMIT) (into_iter_items l.step-iterator);
 }

@@ -1,4 +1,5 @@
 use Rattle.std.proofs.Common.{◌≡◌, ◌<◌, true, get_or, is_some, ap, sym, subst, arith}
+use Rattle.reg_model.specs.declared.limits.TheConstants.{SESSIONS_LIMIT}
 use Rattle.reg_model.specs.Worlds.{look}
 use Rattle.reg_handles.specs.Internal.OpenKeySlab.{key_at}
 use Rattle.reg_handles.specs.Internal.OrderedRows.{ordered}
@@ -18,7 +19,7 @@ bounds-self-inside-session c =
     let rows = ordered c.self.inside.rows.by_number.entries in
     let has = subst (λ (t : Table). is_some (look c.args.session c.args.number t.handles) ≡ true) (sym c.self.view_is) c.requires in
     let own : c.in-Some.row.session ≡ c.args.session = owner c.self.inside.keys.slots c.args.session c.args.number rows c.in-Some.row c.in-Some.ensures.row has in
-    let fit : c.in-Some.row.session < 64 = taken_fit c.self.inside.keys.slots (key_at c.self.inside.keys.by_path.entries) rows c.self.inside.counts
+    let fit : c.in-Some.row.session < SESSIONS_LIMIT = taken_fit c.self.inside.keys.slots (key_at c.self.inside.keys.by_path.entries) rows c.self.inside.counts
     c.args.number c.in-Some.row c.self.invariant (sym c.in-Some.ensures.row) in
     omega (arith, own, fit)
 
@@ -27,7 +28,7 @@ bounds-self-inside-session-in-Some c =
     let rows = ordered c.self.inside.rows.by_number.entries in
     let has = subst (λ (t : Table). is_some (look c.args.session c.args.number t.handles) ≡ true) (sym c.self.view_is) c.requires in
     let own : c.in-Some.row.session ≡ c.args.session = owner c.self.inside.keys.slots c.args.session c.args.number rows c.in-Some.row c.in-Some.ensures.row has in
-    let fit : c.in-Some.row.session < 64 = taken_fit c.self.inside.keys.slots (key_at c.self.inside.keys.by_path.entries) rows c.self.inside.counts
+    let fit : c.in-Some.row.session < SESSIONS_LIMIT = taken_fit c.self.inside.keys.slots (key_at c.self.inside.keys.by_path.entries) rows c.self.inside.counts
     c.args.number c.in-Some.row c.self.invariant (sym c.in-Some.ensures.row) in
     omega (arith, own, fit)
 

@@ -1,4 +1,5 @@
 use Rattle.std.proofs.Common.{length, ◌≡◌, ◌↔◌, ◌≤◌, Err, None}
+use Rattle.reg_heap.specs.declared.limits.TheConstants.{VALUES_LIMIT}
 use Rattle.reg_heap.specs.Paths.{Tree}
 use Rattle.reg_heap.specs.Edits.{values_at}
 use Rattle.reg_heap.specs.Members.{value_named}
@@ -20,5 +21,5 @@ returns-clause-nodes c = changed_nodes _ _ c.self.invariant _ c.self.view_is _ c
 
 pub returns-clause-limit : goal.returns-clause-limit
 returns-clause-limit c = λ p at.
-    of_tree _ _ c.self.invariant _ c.self.view_is (λ (t : Tree). (c.set.result ≡ Err Limit) ↔ ((16384 ≤ length (values_at t p)) × (value_named c.args.name.now (values_at t p) ≡ None)))
+    of_tree _ _ c.self.invariant _ c.self.view_is (λ (t : Tree). (c.set.result ≡ Err Limit) ↔ ((VALUES_LIMIT ≤ length (values_at t p)) × (value_named c.args.name.now (values_at t p) ≡ None)))
     (c.set.ensures.limit (here_at _ _ c.self.invariant _ c.self.view_is c.args.node p at))

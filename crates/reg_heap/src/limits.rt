@@ -1,0 +1,36 @@
+//! Limits that several crates keep, and the number that stands for no cell.
+//!
+//! Where no standard is named, the limit is this project's own.
+
+/// The offset that names no cell, in each field that may name one.
+///
+/// Suhanov, Windows registry file format specification, sections "Key node" and "Key security".
+pub const NONE: u32 = 0xFFFF_FFFF;
+
+/// The most bytes that the bins of a hive have together, their headers too.
+pub const BINS_LIMIT: u32 = 268_435_456;
+
+/// The most bytes by which one call lets the bins grow, counted generously: 1.25 MiB, 320 pages of 4,096 bytes.
+///
+/// A call appends at most one bin, for all of its cells. SetValue takes most: a record of 16,408 bytes with a name of
+/// 16,383, a list of 65,544 for 16,384 values, and for data of 1,048,576 bytes a big data record of 16, its list of 264, 64
+/// segments of 16,352 and one of 2,568. With the bin's header of 32 that is 1,131,360, a bin of 1,134,592. The cells of
+/// CreateKey have at most 15,536.
+pub const GROWTH_BOUND: u32 = 1_310_720;
+
+/// The most subkeys of a key, until it has index roots.
+pub const SUBKEYS_LIMIT: u32 = 500;
+
+/// The most keys that one call makes.
+pub const MADE_LIMIT: u32 = 32;
+
+/// The most values of a key.
+pub const VALUES_LIMIT: u32 = 16_384;
+
+/// The most bytes of a value's data.
+///
+/// Win32 registry reference, "Registry Element Size Limits", recommends fewer and leaves the limit to the system.
+pub const DATA_LIMIT: usize = 1_048_576;
+
+/// The most bytes of a security descriptor.
+pub const DESCRIPTOR_LIMIT: usize = 65_535;

@@ -1,0 +1,13 @@
+//! The rights that calls want of a handle's mask (Win32 registry reference, "Registry Key Security and Access Rights").
+
+/// Bits that no mask has: those outside 0xF003F.
+pub const NO_RIGHTS: u32 = 0xFFF0_FFC0;
+
+/// To ask for values, and for what a key has.
+pub const QUERY_VALUE: u32 = 1;
+
+/// To set and to delete values.
+pub const SET_VALUE: u32 = 2;
+
+/// To list subkeys.
+pub const ENUMERATE_SUB_KEYS: u32 = 8;
