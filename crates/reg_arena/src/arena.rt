@@ -111,7 +111,10 @@ impl Arena {
     pub fn write(&mut self, cell: u32, at: u32, bytes: &[u8])
         requires exists { IsSome (cell_at self.old.bytes cell) }
         requires fits { at + length bytes.now ≤ length (unwrap_or (cell_at self.old.bytes cell) []) }
-        ensures written { (offset : ℕ) → cell_at self.new.bytes offset ≡ (if offset == cell then Some (splice at bytes.now (unwrap_or (cell_at self.old.bytes cell) [])) else cell_at self.old.bytes offset) }
+        ensures written { (offset : ℕ) →
+            cell_at self.new.bytes offset ≡
+            (if offset == cell then Some (splice at bytes.now (unwrap_or (cell_at self.old.bytes cell) []))
+            else cell_at self.old.bytes offset) }
         ensures writes { Writes (cell_at self.old.bytes) (cell_at self.new.bytes) (cell ∷ []) }
         ensures cells { cells_of self.new.bytes ≡ cells_of self.old.bytes }
         ensures heads { self.new.heads ≡ self.old.heads }
@@ -140,7 +143,10 @@ impl Arena {
         requires exists { IsSome (cell_at self.old.bytes cell) }
         requires source { from + len ≤ length (unwrap_or (cell_at self.old.bytes cell) []) }
         requires fits { at + len ≤ length (unwrap_or (cell_at self.old.bytes cell) []) }
-        ensures written { (offset : ℕ) → cell_at self.new.bytes offset ≡ (if offset == cell then Some (splice at (take len (drop from (unwrap_or (cell_at self.old.bytes cell) []))) (unwrap_or (cell_at self.old.bytes cell) [])) else cell_at self.old.bytes offset) }
+        ensures written { (offset : ℕ) →
+            cell_at self.new.bytes offset ≡
+            (if offset == cell then Some (splice at (take len (drop from (unwrap_or (cell_at self.old.bytes cell) [])))
+            (unwrap_or (cell_at self.old.bytes cell) [])) else cell_at self.old.bytes offset) }
         ensures writes { Writes (cell_at self.old.bytes) (cell_at self.new.bytes) (cell ∷ []) }
         ensures cells { cells_of self.new.bytes ≡ cells_of self.old.bytes }
         ensures heads { self.new.heads ≡ self.old.heads }
@@ -155,7 +161,10 @@ impl Arena {
         requires exists { IsSome (cell_at self.old.bytes cell) }
         requires within { from + len ≤ length (unwrap_or (cell_at self.old.bytes source) []) }
         requires fits { at + len ≤ length (unwrap_or (cell_at self.old.bytes cell) []) }
-        ensures written { (offset : ℕ) → cell_at self.new.bytes offset ≡ (if offset == cell then Some (splice at (take len (drop from (unwrap_or (cell_at self.old.bytes source) []))) (unwrap_or (cell_at self.old.bytes cell) [])) else cell_at self.old.bytes offset) }
+        ensures written { (offset : ℕ) →
+            cell_at self.new.bytes offset ≡
+            (if offset == cell then Some (splice at (take len (drop from (unwrap_or (cell_at self.old.bytes source) [])))
+            (unwrap_or (cell_at self.old.bytes cell) [])) else cell_at self.old.bytes offset) }
         ensures writes { Writes (cell_at self.old.bytes) (cell_at self.new.bytes) (cell ∷ []) }
         ensures cells { cells_of self.new.bytes ≡ cells_of self.old.bytes }
         ensures heads { self.new.heads ≡ self.old.heads }
@@ -201,8 +210,12 @@ impl Arena {
         requires sizes { AreSizes sizes.now }
         requires total { total_of sizes.now ≤ CARVE_LIMIT }
         ensures nothing { sizes.now ≡ [] → (result ≡ Ok tt) × (self.new ≡ self.old) × (out.new.items ≡ out.old.items) }
-        ensures ok { OnOk result (0 < length sizes.now → (offsets : List ℕ) × (out.new.items ≡ out.old.items ++ offsets) × CarvesExactly self.old.bytes self.new.bytes sizes.now offsets × AddsCells self.old.bytes self.new.bytes sizes.now offsets) }
-        ensures full { (result ≡ Err ArenaFault.Full) ↔ ((0 < length sizes.now) × PassesLimit self.old.bytes (total_of sizes.now) × NoFit self.old.bytes (total_of sizes.now)) }
+        ensures ok { OnOk result (0 < length sizes.now → (offsets : List ℕ) × (out.new.items ≡ out.old.items ++ offsets)
+            × CarvesExactly self.old.bytes self.new.bytes sizes.now offsets
+            × AddsCells self.old.bytes self.new.bytes sizes.now offsets) }
+        ensures full { (result ≡ Err ArenaFault.Full)
+            ↔ ((0 < length sizes.now) × PassesLimit self.old.bytes (total_of sizes.now)
+            × NoFit self.old.bytes (total_of sizes.now)) }
         ensures err { OnErr result ((self.new ≡ self.old) × (out.new.items ≡ out.old.items)) }
     {
         if sizes.is_empty() {

@@ -91,7 +91,9 @@ pub fn carve_found(
     requires total { total ≡ total_of sizes.now }
     requires positive { 0 < total }
     ensures arena { IsIndexed bins.new.items (head.new ∷ []) (count.new ∷ []) ends.new.items backs.new.items }
-    ensures ok { OnOk result ((offsets : List ℕ) × (out.new.items ≡ out.old.items ++ offsets) × CarvesExactly bins.old.items bins.new.items sizes.now offsets × AddsCells bins.old.items bins.new.items sizes.now offsets) }
+    ensures ok { OnOk result ((offsets : List ℕ) × (out.new.items ≡ out.old.items ++ offsets)
+        × CarvesExactly bins.old.items bins.new.items sizes.now offsets
+        × AddsCells bins.old.items bins.new.items sizes.now offsets) }
     ensures fault { IfErr result (λ fault. fault ≡ ArenaFault.Memory) }
     ensures err { OnErr result ((bins.new.items ≡ bins.old.items) × (head.new ≡ head.old) × (out.new.items ≡ out.old.items)) }
 {
@@ -122,7 +124,9 @@ pub fn carve_bin(
     requires small { total ≤ CARVE_LIMIT }
     requires room { HasRoomForBin bins.old.items total }
     ensures arena { IsIndexed bins.new.items (head.new ∷ []) (count.new ∷ []) ends.new.items backs.new.items }
-    ensures ok { OnOk result ((offsets : List ℕ) × (out.new.items ≡ out.old.items ++ offsets) × CarvesExactly bins.old.items bins.new.items sizes.now offsets × AddsCells bins.old.items bins.new.items sizes.now offsets) }
+    ensures ok { OnOk result ((offsets : List ℕ) × (out.new.items ≡ out.old.items ++ offsets)
+        × CarvesExactly bins.old.items bins.new.items sizes.now offsets
+        × AddsCells bins.old.items bins.new.items sizes.now offsets) }
     ensures fault { IfErr result (λ fault. fault ≡ ArenaFault.Memory) }
     ensures err { OnErr result ((bins.new.items ≡ bins.old.items) × (head.new ≡ head.old) × (out.new.items ≡ out.old.items)) }
 {

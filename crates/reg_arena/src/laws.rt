@@ -8,7 +8,8 @@ ghost use Rattle.reg_arena.specs.declared.Cell.{Cell};
 
 /// A bin's header of 32 bytes and its cells are the whole bin.
 pub fn bin_is_its_header_and_cells()
-    ensures { (bytes : List ℕ) → (layout : List Bin) → AreBins bytes 0 layout → All (λ (bin : Bin). 32 + sum_by (λ (cell : Cell). cell.size) bin.cells ≡ bin.size) layout }
+    ensures { (bytes : List ℕ) → (layout : List Bin) → AreBins bytes 0 layout →
+        All (λ (bin : Bin). 32 + sum_by (λ (cell : Cell). cell.size) bin.cells ≡ bin.size) layout }
 {}
 
 /// All bins together are all bytes.
@@ -28,22 +29,27 @@ pub fn cells_stand_in_bins()
 
 /// No cell begins before an earlier one ends.
 pub fn cells_are_apart()
-    ensures { (bytes : List ℕ) → (front middle rest : List Cell) → (first second : Cell) → cells_of bytes ≡ Some (front ++ first ∷ (middle ++ second ∷ rest)) → first.offset + first.size ≤ second.offset }
+    ensures { (bytes : List ℕ) → (front middle rest : List Cell) → (first second : Cell) →
+        cells_of bytes ≡ Some (front ++ first ∷ (middle ++ second ∷ rest)) → first.offset + first.size ≤ second.offset }
 {}
 
 /// A free cell has no content.
 pub fn free_cell_has_no_content()
-    ensures { (bytes : List ℕ) → (cells : List Cell) → (cell : Cell) → cells_of bytes ≡ Some cells → Contains cells cell → cell.allocated ≡ false → cell_at bytes cell.offset ≡ None }
+    ensures { (bytes : List ℕ) → (cells : List Cell) → (cell : Cell) → cells_of bytes ≡ Some cells → Contains cells cell →
+        cell.allocated ≡ false → cell_at bytes cell.offset ≡ None }
 {}
 
 /// An allocated cell's content is the bytes behind its size field.
 pub fn allocated_cell_has_its_content()
-    ensures { (bytes : List ℕ) → (cells : List Cell) → (cell : Cell) → cells_of bytes ≡ Some cells → Contains cells cell → cell.allocated ≡ true → cell_at bytes cell.offset ≡ Some (take (cell.size - 4) (drop (cell.offset + 4) bytes)) }
+    ensures { (bytes : List ℕ) → (cells : List Cell) → (cell : Cell) → cells_of bytes ≡ Some cells → Contains cells cell →
+        cell.allocated ≡ true → cell_at bytes cell.offset ≡ Some (take (cell.size - 4) (drop (cell.offset + 4) bytes)) }
 {}
 
 /// Where there is a content, an allocated cell stands there, four bytes larger than its content.
 pub fn content_is_an_allocated_cells()
-    ensures { (bytes : List ℕ) → (cells : List Cell) → (offset : ℕ) → (content : List ℕ) → cells_of bytes ≡ Some cells → cell_at bytes offset ≡ Some content → (cell : Cell) × Contains cells cell × (cell.offset ≡ offset) × (cell.allocated ≡ true) × (length content + 4 ≡ cell.size) }
+    ensures { (bytes : List ℕ) → (cells : List Cell) → (offset : ℕ) → (content : List ℕ) → cells_of bytes ≡ Some cells →
+        cell_at bytes offset ≡ Some content → (cell : Cell) × Contains cells cell × (cell.offset ≡ offset)
+        × (cell.allocated ≡ true) × (length content + 4 ≡ cell.size) }
 {}
 
 /// Bytes that have a content have cells.

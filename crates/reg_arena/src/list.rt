@@ -19,7 +19,8 @@ pub struct Place {
 // The first free cell of at least `total` bytes.
 pub fn find_fit(bins: &Vec<u8>, head: u32, count: usize, total: u32) -> Option<Place>
     requires cells { AllByRecursion (λ offset. offset + 8 ≤ length bins.now.items) (chain count bins.now.items head) }
-    ensures { MatchOption result (NoneFits bins.now.items total (chain count bins.now.items head)) (λ p. IsFit bins.now.items total (chain count bins.now.items head) p.previous p.cell) }
+    ensures { MatchOption result (NoneFits bins.now.items total (chain count bins.now.items head))
+        (λ p. IsFit bins.now.items total (chain count bins.now.items head) p.previous p.cell) }
 {
     let mut previous = NONE;
     let mut cell = head;

@@ -60,7 +60,9 @@ impl Hive {
         ensures origin { IfOk result (λ h. (view_of h).origin ≡ insert empty [] (made_root root_name.now descriptor.now moment)) }
         ensures journal { IfOk result (λ h. (view_of h).journal ≡ []) }
         ensures name { IsErrOf result NewFault.Name ↔ (is_key_name root_name.now ≡ false) }
-        ensures descriptor { IsErrOf result NewFault.Descriptor ↔ ((is_key_name root_name.now ≡ true) × ((length descriptor.now ≡ 0) ⊎ (DESCRIPTOR_LIMIT < length descriptor.now))) }
+        ensures descriptor { IsErrOf result NewFault.Descriptor
+            ↔ ((is_key_name root_name.now ≡ true)
+            × ((length descriptor.now ≡ 0) ⊎ (DESCRIPTOR_LIMIT < length descriptor.now))) }
     {
         if check_key_name(root_name).is_err() {
             return Err(NewFault::Name);

@@ -21,7 +21,9 @@ use std::alloc::Global;
 /// A value of a key as it is told: short where the room is below its size.
 fn told(alloc: Global, tree: &Tree, node: Node, value: ValueFound, room: Option<u32>) -> AnswerBody
     requires { (p : Path) × IsAt tree.now p node × (value.index < length (values_at tree.now.tree p)) }
-    ensures { (p : Path) → IsAt tree.now p node → (member : Member) → slice_get (values_at tree.now.tree p) value.index ≡ Some member → value.kind ≡ member.kind → value.size ≡ length member.bytes → IsTold (value_told (Some member) room) result }
+    ensures { (p : Path) → IsAt tree.now p node → (member : Member) →
+        slice_get (values_at tree.now.tree p) value.index ≡ Some member → value.kind ≡ member.kind →
+        value.size ≡ length member.bytes → IsTold (value_told (Some member) room) result }
 {
     let ValueFound { index, kind, size } = value;
     let Some(room) = room else {

@@ -73,7 +73,8 @@ fn attempt<R: Read, W: Write>(
     ensures lines { OnOk result ((script : List ℕ) × (text : List ℕ) × Consumes (R.remaining input.old) (R.remaining input.new) script
         × Writes script text × Appends (W.contents output.old) (W.contents output.new) text) }
     ensures words { OnOk result (IsCommandLine (texts words.now)) }
-    ensures failure { IfErr result (λ failure. IsFailure failure (texts words.now) (R.remaining input.old) (R.remaining input.new) (W.contents output.old) (W.contents output.new)) }
+    ensures failure { IfErr result (λ failure. IsFailure failure (texts words.now) (R.remaining input.old)
+        (R.remaining input.new) (W.contents output.old) (W.contents output.new)) }
 {
     if let Err(error) = check_words(alloc, words) {
         return Err(usage(alloc, &error));
@@ -104,7 +105,9 @@ pub fn tool<R: Read, W: Write, E: Write>(
     ensures read { result ≡ 0 → IsAtEnd (R.remaining input.new) }
     ensures lines { result ≡ 0 → (script : List ℕ) × (text : List ℕ) × Consumes (R.remaining input.old) (R.remaining input.new) script
         × Writes script text × Appends (W.contents output.old) (W.contents output.new) text }
-    ensures stopped { result ≡ 1 → IsStopped (texts words.items) (R.remaining input.old) (R.remaining input.new) (W.contents output.old) (W.contents output.new) }
+    ensures stopped { result ≡ 1 →
+        IsStopped (texts words.items) (R.remaining input.old) (R.remaining input.new) (W.contents output.old)
+        (W.contents output.new) }
     ensures usage { result ≡ 2 → IsRefused (texts words.items) (R.remaining input.old) (R.remaining input.new) (W.contents output.old) (W.contents output.new) }
 {
     match attempt(alloc, words.as_slice(), input, output) {

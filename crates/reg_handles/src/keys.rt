@@ -114,7 +114,9 @@ impl OpenKeys {
     pub fn release(&mut self, key: usize)
         requires { 0 < rows_of (get self.old.slots key) }
         ensures slots { Updates self.old.slots self.new.slots key (with_one_less (get self.old.slots key)) }
-        ensures paths { (text : List ℕ) → key_at self.new.by_path.entries text ≡ (if is_freed (get self.old.slots key) text then None else key_at self.old.by_path.entries text) }
+        ensures paths { (text : List ℕ) →
+            key_at self.new.by_path.entries text ≡
+            (if is_freed (get self.old.slots key) text then None else key_at self.old.by_path.entries text) }
     {
         if self.rows(key) == 1 {
             self.remove(key);
@@ -137,7 +139,9 @@ impl OpenKeys {
     fn remove(&mut self, key: usize)
         requires { rows_of (get self.old.slots key) ≡ 1 }
         ensures slots { Updates self.old.slots self.new.slots key None }
-        ensures paths { (text : List ℕ) → key_at self.new.by_path.entries text ≡ (if is_freed (get self.old.slots key) text then None else key_at self.old.by_path.entries text) }
+        ensures paths { (text : List ℕ) →
+            key_at self.new.by_path.entries text ≡
+            (if is_freed (get self.old.slots key) text then None else key_at self.old.by_path.entries text) }
     {
         if let Some(held) = self.slots.try_remove(key) {
             if !held.is_deleted {
@@ -159,7 +163,10 @@ impl OpenKeys {
 
     /// The key at a path was deleted, so that a key made later at the same path is another one.
     pub fn mark_deleted(&mut self, path: &[u8])
-        ensures slots { (key : ℕ) → get self.new.slots key ≡ (if leads_to (key_at self.old.by_path.entries path.now) key then option_map without_key (get self.old.slots key) else get self.old.slots key) }
+        ensures slots { (key : ℕ) →
+            get self.new.slots key ≡
+            (if leads_to (key_at self.old.by_path.entries path.now) key then option_map without_key (get self.old.slots key)
+            else get self.old.slots key) }
         ensures paths { UpdatesPath (key_at self.old.by_path.entries) path.now None (key_at self.new.by_path.entries) }
     {
         if let Some(key) = self.by_path.remove(path) {

@@ -21,8 +21,10 @@ use reg_records::ListEntry;
 fn open(arena: &mut Arena, list: SubkeysIndex, fresh: u32, index: u32) -> u32
     requires subkeys { (entries : List Entry) × AreSubkeys (cell_at arena.old.bytes) list.count list.place entries × (index ≤ length entries) }
     requires ready { IsReady (cell_at arena.old.bytes) (insert_size (cell_at arena.old.bytes) list.count list.place) fresh }
-    ensures gap { (entries : List Entry) → AreSubkeys (cell_at arena.old.bytes) list.count list.place entries → HasGap (cell_at arena.new.bytes) result index entries }
-    ensures moves { Moves (cell_at arena.old.bytes) (cell_at arena.new.bytes) (own list.count list.place ++ taken (insert_size (cell_at arena.old.bytes) list.count list.place) fresh) (result ∷ []) }
+    ensures gap { (entries : List Entry) → AreSubkeys (cell_at arena.old.bytes) list.count list.place entries →
+        HasGap (cell_at arena.new.bytes) result index entries }
+    ensures moves { Moves (cell_at arena.old.bytes) (cell_at arena.new.bytes)
+        (own list.count list.place ++ taken (insert_size (cell_at arena.old.bytes) list.count list.place) fresh) (result ∷ []) }
 {
     if list.count == 0 {
         return fresh;
@@ -48,13 +50,18 @@ pub fn insert(
     index: u32,
     key: u32,
 ) -> SubkeysIndex
-    requires subkeys { (entries : List Entry) × AreSubkeys (cell_at arena.old.bytes) list.count list.place entries × IsPlace (names_in (cell_at arena.old.bytes) entries) (folded (name_at (cell_at arena.old.bytes) key)) (Err index) }
+    requires subkeys { (entries : List Entry) × AreSubkeys (cell_at arena.old.bytes) list.count list.place entries
+        × IsPlace (names_in (cell_at arena.old.bytes) entries) (folded (name_at (cell_at arena.old.bytes) key)) (Err index) }
     requires few { list.count < SUBKEYS_LIMIT }
     requires key { IsSome (key_at (cell_at arena.old.bytes) key) }
     requires ready { IsReady (cell_at arena.old.bytes) (insert_size (cell_at arena.old.bytes) list.count list.place) fresh }
-    ensures subkeys { (entries : List Entry) → AreSubkeys (cell_at arena.old.bytes) list.count list.place entries → AreSubkeys (cell_at arena.new.bytes) result.count result.place (with_one index (entry_for (cell_at arena.old.bytes) key) entries) }
+    ensures subkeys { (entries : List Entry) → AreSubkeys (cell_at arena.old.bytes) list.count list.place entries →
+        AreSubkeys (cell_at arena.new.bytes) result.count result.place
+        (with_one index (entry_for (cell_at arena.old.bytes) key) entries) }
     ensures count { result.count ≡ list.count + 1 }
-    ensures moves { Moves (cell_at arena.old.bytes) (cell_at arena.new.bytes) (own list.count list.place ++ taken (insert_size (cell_at arena.old.bytes) list.count list.place) fresh) (own result.count result.place) }
+    ensures moves { Moves (cell_at arena.old.bytes) (cell_at arena.new.bytes)
+        (own list.count list.place ++ taken (insert_size (cell_at arena.old.bytes) list.count list.place) fresh)
+        (own result.count result.place) }
 {
     let hint = name_hash(name_of(arena, key));
     let place = open(arena, list, fresh, index);

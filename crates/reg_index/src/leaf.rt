@@ -36,7 +36,8 @@ pub(crate) fn open_within(arena: &mut Arena, cell: u32, count: u32, index: u32)
     requires few { count ≤ SUBKEYS_LIMIT }
     requires index { index ≤ count }
     requires room { 4 + 8 * (count + 1) ≤ length (held (cell_at arena.old.bytes) cell) }
-    ensures gap { (entries : List Entry) → IsLeaf (cell_at arena.old.bytes) cell entries → length entries ≡ count → HasGap (cell_at arena.new.bytes) cell index entries }
+    ensures gap { (entries : List Entry) → IsLeaf (cell_at arena.old.bytes) cell entries → length entries ≡ count →
+        HasGap (cell_at arena.new.bytes) cell index entries }
     ensures writes { Writes (cell_at arena.old.bytes) (cell_at arena.new.bytes) (cell ∷ []) }
 {
     arena.shift(cell, 4 + 8 * index, 12 + 8 * index, 8 * (count - index));
@@ -50,7 +51,8 @@ pub(crate) fn move_open(arena: &mut Arena, cell: u32, fresh: u32, count: u32, in
     requires index { index ≤ count }
     requires room { HasRoom (cell_at arena.old.bytes) fresh (4 + 8 * (count + 1)) }
     requires apart { fresh ≢ cell }
-    ensures gap { (entries : List Entry) → IsLeaf (cell_at arena.old.bytes) cell entries → length entries ≡ count → HasGap (cell_at arena.new.bytes) fresh index entries }
+    ensures gap { (entries : List Entry) → IsLeaf (cell_at arena.old.bytes) cell entries → length entries ≡ count →
+        HasGap (cell_at arena.new.bytes) fresh index entries }
     ensures moves { Swaps (cell_at arena.old.bytes) (cell_at arena.new.bytes) (λ z. times z (cell ∷ fresh ∷ [])) (λ z. times z (fresh ∷ [])) }
 {
     arena.copy(cell, 4, fresh, 4, 8 * index);
@@ -68,7 +70,8 @@ pub(crate) fn move_open(arena: &mut Arena, cell: u32, fresh: u32, count: u32, in
 pub(crate) fn fill(arena: &mut Arena, cell: u32, index: u32, count: u32, entry: ListEntry)
     requires gap { (entries : List Entry) × HasGap (cell_at arena.old.bytes) cell index entries × (length entries + 1 ≡ count) × (index ≤ length entries) }
     requires few { count ≤ SUBKEYS_LIMIT }
-    ensures leaf { (entries : List Entry) → HasGap (cell_at arena.old.bytes) cell index entries → length entries + 1 ≡ count → index ≤ length entries → IsLeaf (cell_at arena.new.bytes) cell (with_one index entry entries) }
+    ensures leaf { (entries : List Entry) → HasGap (cell_at arena.old.bytes) cell index entries → length entries + 1 ≡ count →
+        index ≤ length entries → IsLeaf (cell_at arena.new.bytes) cell (with_one index entry entries) }
     ensures writes { Writes (cell_at arena.old.bytes) (cell_at arena.new.bytes) (cell ∷ []) }
 {
     put_entry(arena, cell, ListForm::HashLeaf, index as u16, entry);
@@ -80,7 +83,8 @@ pub(crate) fn close(arena: &mut Arena, cell: u32, left: u32, index: u32)
     requires leaf { (entries : List Entry) × IsLeaf (cell_at arena.old.bytes) cell entries × (length entries ≡ left + 1) }
     requires few { left ≤ SUBKEYS_LIMIT }
     requires index { index ≤ left }
-    ensures leaf { (entries : List Entry) → IsLeaf (cell_at arena.old.bytes) cell entries → length entries ≡ left + 1 → IsLeaf (cell_at arena.new.bytes) cell (without index entries) }
+    ensures leaf { (entries : List Entry) → IsLeaf (cell_at arena.old.bytes) cell entries → length entries ≡ left + 1 →
+        IsLeaf (cell_at arena.new.bytes) cell (without index entries) }
     ensures writes { Writes (cell_at arena.old.bytes) (cell_at arena.new.bytes) (cell ∷ []) }
 {
     arena.shift(cell, 12 + 8 * index, 4 + 8 * index, 8 * (left - index));

@@ -28,7 +28,8 @@ pub(crate) fn name_of(arena: &Arena, key: u32) -> &[u8]
 pub fn at(arena: &Arena, list: SubkeysIndex, index: u32) -> u32
     requires subkeys { (entries : List Entry) × AreSubkeys (cell_at arena.now.bytes) list.count list.place entries }
     requires index { index < list.count }
-    ensures { (entries : List Entry) → AreSubkeys (cell_at arena.now.bytes) list.count list.place entries → (get_or entries index (record { place = 0; hint = 0 })).place ≡ result }
+    ensures { (entries : List Entry) → AreSubkeys (cell_at arena.now.bytes) list.count list.place entries →
+        (get_or entries index (record { place = 0; hint = 0 })).place ≡ result }
 {
     entry_at(arena.content(list.place), ListForm::HashLeaf, index as u16).place
 }
@@ -37,7 +38,8 @@ pub fn at(arena: &Arena, list: SubkeysIndex, index: u32) -> u32
 /// cells.
 pub fn find(arena: &Arena, list: SubkeysIndex, name: &[u8]) -> Result<u32, u32>
     requires { (entries : List Entry) × AreSubkeys (cell_at arena.now.bytes) list.count list.place entries }
-    ensures { (entries : List Entry) → AreSubkeys (cell_at arena.now.bytes) list.count list.place entries → IsPlace (names_in (cell_at arena.now.bytes) entries) (folded name.now) result }
+    ensures { (entries : List Entry) → AreSubkeys (cell_at arena.now.bytes) list.count list.place entries →
+        IsPlace (names_in (cell_at arena.now.bytes) entries) (folded name.now) result }
 {
     let mut low = 0;
     let mut high = list.count;

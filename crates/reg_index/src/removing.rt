@@ -15,7 +15,8 @@ use reg_heap::limits::NONE;
 pub fn remove(arena: &mut Arena, list: SubkeysIndex, index: u32) -> SubkeysIndex
     requires subkeys { (entries : List Entry) × AreSubkeys (cell_at arena.old.bytes) list.count list.place entries }
     requires index { index < list.count }
-    ensures subkeys { (entries : List Entry) → AreSubkeys (cell_at arena.old.bytes) list.count list.place entries → AreSubkeys (cell_at arena.new.bytes) result.count result.place (without index entries) }
+    ensures subkeys { (entries : List Entry) → AreSubkeys (cell_at arena.old.bytes) list.count list.place entries →
+        AreSubkeys (cell_at arena.new.bytes) result.count result.place (without index entries) }
     ensures count { result.count + 1 ≡ list.count }
     ensures moves { Moves (cell_at arena.old.bytes) (cell_at arena.new.bytes) (list.place ∷ []) (own result.count result.place) }
 {

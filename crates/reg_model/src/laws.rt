@@ -44,26 +44,37 @@ pub fn no_refusal_is_zero()
 
 /// A change that is told another status than 0 changes nothing.
 pub fn refusal_changes_nothing()
-    ensures { (s : State) → (session moment : ℕ) → (change : Change) → (c : ℕ) → (reply_given s session change c).status ≢ 0 → state_after s session moment change c ≡ s }
+    ensures { (s : State) → (session moment : ℕ) → (change : Change) → (c : ℕ) → (reply_given s session change c).status ≢ 0 →
+        state_after s session moment change c ≡ s }
 {}
 
 /// A change that is told status 0 becomes one entry, which fits.
 pub fn acceptance_is_an_entry()
-    ensures entry { (origin : Tree) → (past : List Entry) → (session moment : ℕ) → (change : Change) → (c : ℕ) → (reply_given (state_of origin past) session change c).status ≡ 0 → IsFit origin past (entry_due (state_of origin past) session moment change) }
-    ensures after { (origin : Tree) → (past : List Entry) → (session moment : ℕ) → (change : Change) → (c : ℕ) → (reply_given (state_of origin past) session change c).status ≡ 0 → state_after (state_of origin past) session moment change c ≡ state_of origin (past ++ entry_due (state_of origin past) session moment change ∷ []) }
+    ensures entry { (origin : Tree) → (past : List Entry) → (session moment : ℕ) → (change : Change) → (c : ℕ) →
+        (reply_given (state_of origin past) session change c).status ≡ 0 →
+        IsFit origin past (entry_due (state_of origin past) session moment change) }
+    ensures after { (origin : Tree) → (past : List Entry) → (session moment : ℕ) → (change : Change) → (c : ℕ) →
+        (reply_given (state_of origin past) session change c).status ≡ 0 →
+        state_after (state_of origin past) session moment change c ≡ state_of origin
+        (past ++ entry_due (state_of origin past) session moment change ∷ []) }
 {}
 
 /// A handle's number is that of an entry, and no two handles have one number: they rise.
 pub fn handle_numbers_rise()
-    ensures below { (origin : Tree) → (journal : List Entry) → IsLegal origin journal → All (λ (h : Handle). h.number < length journal) (replay origin journal).handles }
-    ensures rise { (origin : Tree) → (journal : List Entry) → IsLegal origin journal → IsStrictlyIncreasing (map (λ (h : Handle). h.number) (replay origin journal).handles) }
+    ensures below { (origin : Tree) → (journal : List Entry) → IsLegal origin journal →
+        All (λ (h : Handle). h.number < length journal) (replay origin journal).handles }
+    ensures rise { (origin : Tree) → (journal : List Entry) → IsLegal origin journal →
+        IsStrictlyIncreasing (map (λ (h : Handle). h.number) (replay origin journal).handles) }
 {}
 
 /// An entry that opens the root tells its own number as the handle's, by which its session then finds a handle to the root
 /// with the mask that it asked for.
 pub fn handle_has_its_entrys_number()
-    ensures told { (origin : Tree) → (past : List Entry) → (e : Entry) → (mask : ℕ) → IsFit origin past e → e.change ≡ OpenRoot mask → e.reply.handle ≡ Some e.number }
-    ensures found { (origin : Tree) → (past : List Entry) → (e : Entry) → (mask : ℕ) → IsLegal origin past → IsFit origin past e → e.change ≡ OpenRoot mask → look e.session e.number (replay origin (past ++ e ∷ [])).handles ≡ Some (opened e [] mask) }
+    ensures told { (origin : Tree) → (past : List Entry) → (e : Entry) → (mask : ℕ) → IsFit origin past e →
+        e.change ≡ OpenRoot mask → e.reply.handle ≡ Some e.number }
+    ensures found { (origin : Tree) → (past : List Entry) → (e : Entry) → (mask : ℕ) → IsLegal origin past →
+        IsFit origin past e → e.change ≡ OpenRoot mask →
+        look e.session e.number (replay origin (past ++ e ∷ [])).handles ≡ Some (opened e [] mask) }
 {}
 
 /// A tree that holds its root holds it after every legal journal.
@@ -73,5 +84,6 @@ pub fn root_stays()
 
 /// Every handle that leads to a key leads to one that is in the tree, after every legal journal of a tree that holds its root.
 pub fn handles_lead_to_keys()
-    ensures { (origin : Tree) → (journal : List Entry) → IsLegal origin journal → IsSome (get origin []) → All (λ (h : Handle). StandsIn (replay origin journal).tree h.place) (replay origin journal).handles }
+    ensures { (origin : Tree) → (journal : List Entry) → IsLegal origin journal → IsSome (get origin []) →
+        All (λ (h : Handle). StandsIn (replay origin journal).tree h.place) (replay origin journal).handles }
 {}

@@ -96,7 +96,10 @@ fn form_at(content: &[u8]) -> Option<ListForm>
 /// `Short` is for less than 4 bytes, `Signature` where they don't begin with `ri`, `li`, `lf` or `lh`, and `Length`
 /// where the entries would pass the end.
 pub fn read_list(content: &[u8]) -> Result<ListHead, RecordFault>
-    ensures read { MatchResult result (λ head. list_of content.now ≡ Some (record { form = head.form; entries = entries_as head.form head.count 4 content.now })) (λ fault. list_of content.now ≡ None) }
+    ensures read { MatchResult result
+        (λ head. list_of content.now ≡
+        Some (record { form = head.form; entries = entries_as head.form head.count 4 content.now }))
+        (λ fault. list_of content.now ≡ None) }
     ensures fault { MatchResult result (λ head. list_fault content.now ≡ None) (λ fault. list_fault content.now ≡ Some fault) }
     ensures enough { IfOk result (λ head. 4 + entry_size head.form * head.count ≤ length content.now) }
 {

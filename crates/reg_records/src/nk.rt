@@ -93,7 +93,8 @@ fn fields_at(content: &[u8]) -> KeyFields
 /// the name would pass the end, and `NotInProfile` where the flags have 0x40.
 #[tactic(auto, unfolding(crate::specs::KeyNodes::nk_of))]
 pub fn read_nk(content: &[u8]) -> Result<KeyNode<'_>, RecordFault>
-    ensures { MatchResult result (λ read. nk_of content.now ≡ Ok (record { fields = read.fields; name = read.name.now })) (λ fault. nk_of content.now ≡ Err fault) }
+    ensures { MatchResult result (λ read. nk_of content.now ≡ Ok (record { fields = read.fields; name = read.name.now }))
+        (λ fault. nk_of content.now ≡ Err fault) }
 {
     if content.len() < HEAD {
         return Err(RecordFault::Short);

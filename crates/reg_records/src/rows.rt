@@ -27,7 +27,8 @@ pub fn put_offset(arena: &mut Arena, cell: u32, index: u32, offset: u32)
     requires index { index < 2 ^ 30 }
     ensures written { WritesPart arena.old arena.new cell (4 * index) (little_bytes 4 offset) }
     ensures here { offset_in (held (cell_at arena.new.bytes) cell) index ≡ offset }
-    ensures others { (other : ℕ) → other ≢ index → offset_in (held (cell_at arena.new.bytes) cell) other ≡ offset_in (held (cell_at arena.old.bytes) cell) other }
+    ensures others { (other : ℕ) → other ≢ index →
+        offset_in (held (cell_at arena.new.bytes) cell) other ≡ offset_in (held (cell_at arena.old.bytes) cell) other }
 {
     write_part(arena, cell, 4 * index, &word_bytes(offset));
 }

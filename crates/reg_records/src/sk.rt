@@ -41,7 +41,9 @@ pub struct SecurityRecord<'a> {
 /// where the descriptor would pass the end.
 #[tactic(auto, unfolding(crate::specs::KeySecurities::sk_of))]
 pub fn read_sk(content: &[u8]) -> Result<SecurityRecord<'_>, RecordFault>
-    ensures { MatchResult result (λ read. sk_of content.now ≡ Ok (record { fields = read.fields; descriptor = read.descriptor.now })) (λ fault. sk_of content.now ≡ Err fault) }
+    ensures { MatchResult result
+        (λ read. sk_of content.now ≡ Ok (record { fields = read.fields; descriptor = read.descriptor.now }))
+        (λ fault. sk_of content.now ≡ Err fault) }
 {
     if content.len() < HEAD {
         return Err(RecordFault::Short);

@@ -43,7 +43,8 @@ pub struct ValueRecord<'a> {
 /// where the name would pass the end.
 #[tactic(auto, unfolding(crate::specs::KeyValues::vk_of))]
 pub fn read_vk(content: &[u8]) -> Result<ValueRecord<'_>, RecordFault>
-    ensures { MatchResult result (λ read. vk_of content.now ≡ Ok (record { fields = read.fields; name = read.name.now })) (λ fault. vk_of content.now ≡ Err fault) }
+    ensures { MatchResult result (λ read. vk_of content.now ≡ Ok (record { fields = read.fields; name = read.name.now }))
+        (λ fault. vk_of content.now ≡ Err fault) }
 {
     if content.len() < HEAD {
         return Err(RecordFault::Short);

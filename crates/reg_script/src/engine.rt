@@ -94,8 +94,12 @@ impl Script {
         writer: &mut W,
         byte: u8,
     ) -> Result<(), ScriptFault>
-        ensures ok { OnOk result (IsSteady (place_of self.old (view_of hive.old) (W.contents writer.old)) → Takes (place_of self.old (view_of hive.old) (W.contents writer.old)) (byte ∷ []) (place_of self.new (view_of hive.new) (W.contents writer.new))) }
-        ensures err { IfErr result (λ fault. IsSteady (place_of self.old (view_of hive.old) (W.contents writer.old)) → Halts (place_of self.old (view_of hive.old) (W.contents writer.old)) (byte ∷ []) (place_of self.new (view_of hive.new) (W.contents writer.new)) fault) }
+        ensures ok { OnOk result (IsSteady (place_of self.old (view_of hive.old) (W.contents writer.old)) →
+            Takes (place_of self.old (view_of hive.old) (W.contents writer.old)) (byte ∷ [])
+            (place_of self.new (view_of hive.new) (W.contents writer.new))) }
+        ensures err { IfErr result (λ fault. IsSteady (place_of self.old (view_of hive.old) (W.contents writer.old)) →
+            Halts (place_of self.old (view_of hive.old) (W.contents writer.old)) (byte ∷ [])
+            (place_of self.new (view_of hive.new) (W.contents writer.new)) fault) }
     {
         if self.lines >= LINES_LIMIT {
             return Err(ScriptFault::TooLong);
@@ -120,8 +124,12 @@ impl Script {
         writer: &mut W,
         bytes: &[u8],
     ) -> Result<(), ScriptFault>
-        ensures ok { OnOk result (IsSteady (place_of self.old (view_of hive.old) (W.contents writer.old)) → Takes (place_of self.old (view_of hive.old) (W.contents writer.old)) bytes.now (place_of self.new (view_of hive.new) (W.contents writer.new))) }
-        ensures err { IfErr result (λ fault. IsSteady (place_of self.old (view_of hive.old) (W.contents writer.old)) → Halts (place_of self.old (view_of hive.old) (W.contents writer.old)) bytes.now (place_of self.new (view_of hive.new) (W.contents writer.new)) fault) }
+        ensures ok { OnOk result (IsSteady (place_of self.old (view_of hive.old) (W.contents writer.old)) →
+            Takes (place_of self.old (view_of hive.old) (W.contents writer.old)) bytes.now
+            (place_of self.new (view_of hive.new) (W.contents writer.new))) }
+        ensures err { IfErr result (λ fault. IsSteady (place_of self.old (view_of hive.old) (W.contents writer.old)) →
+            Halts (place_of self.old (view_of hive.old) (W.contents writer.old)) bytes.now
+            (place_of self.new (view_of hive.new) (W.contents writer.new)) fault) }
     {
         for byte in bytes {
             self.take_byte(hive, writer, *byte)?;
@@ -134,7 +142,8 @@ impl Script {
         ensures said { OnOk result (Adds (IsSaid (meaning_of self.old.line.items)) self.old (view_of hive.old) self.new (view_of hive.new)) }
         ensures ended { OnOk result (self.new.line.items ≡ []) }
         ensures lines { OnOk result (self.old.lines < most_lines → self.new.lines ≡ self.old.lines + 1) }
-        ensures err { IfErr result (λ fault. (fault ≡ ScriptFault.Memory) × Loses (meaning_of self.old.line.items) self.old (view_of hive.old) self.new (view_of hive.new)) }
+        ensures err { IfErr result (λ fault. (fault ≡ ScriptFault.Memory)
+            × Loses (meaning_of self.old.line.items) self.old (view_of hive.old) self.new (view_of hive.new)) }
     {
         let line = parse(self.alloc, self.line.as_slice())?;
         self.line.clear();
@@ -170,7 +179,8 @@ impl Script {
 
     /// The reply to a call. It is whole before it joins the output, so that want of memory leaves no part of it there.
     fn call(&self, hive: &mut Hive, call: Call) -> Result<String, AllocError>
-        ensures ok { IfOk result (λ reply. IsSaid (asks call) (stand_of self.now (view_of hive.old)) (string_bytes reply) (stand_of self.now (view_of hive.new))) }
+        ensures ok { IfOk result (λ reply. IsSaid (asks call) (stand_of self.now (view_of hive.old)) (string_bytes reply)
+            (stand_of self.now (view_of hive.new))) }
         ensures err { OnErr result (IsOneMore (asks call) (stand_of self.now (view_of hive.old)) (view_of hive.new)) }
     {
         match call {
@@ -180,7 +190,8 @@ impl Script {
     }
 
     fn change(&self, hive: &mut Hive, change: Change) -> Result<String, AllocError>
-        ensures ok { IfOk result (λ reply. IsSaid (asks (Call.Change change)) (stand_of self.now (view_of hive.old)) (string_bytes reply) (stand_of self.now (view_of hive.new))) }
+        ensures ok { IfOk result (λ reply. IsSaid (asks (Call.Change change)) (stand_of self.now (view_of hive.old))
+            (string_bytes reply) (stand_of self.now (view_of hive.new))) }
         ensures err { OnErr result (IsOneMore (asks (Call.Change change)) (stand_of self.now (view_of hive.old)) (view_of hive.new)) }
     {
         let mut reply = String::new(self.alloc);
@@ -190,7 +201,8 @@ impl Script {
     }
 
     fn query(&self, hive: &Hive, query: &Query) -> Result<String, AllocError>
-        ensures ok { IfOk result (λ reply. IsSaid (asks (Call.Query query.now)) (stand_of self.now (view_of hive.now)) (string_bytes reply) (stand_of self.now (view_of hive.now))) }
+        ensures ok { IfOk result (λ reply. IsSaid (asks (Call.Query query.now)) (stand_of self.now (view_of hive.now))
+            (string_bytes reply) (stand_of self.now (view_of hive.now))) }
         ensures err { OnErr result (IsOneMore (asks (Call.Query query.now)) (stand_of self.now (view_of hive.now)) (view_of hive.now)) }
     {
         let mut reply = String::new(self.alloc);
@@ -201,8 +213,10 @@ impl Script {
 
     /// Answers a last line that lacks its LF.
     fn end(&mut self, hive: &mut Hive) -> Result<(), ScriptFault>
-        ensures ok { OnOk result (HasNoFeed self.old.line.items → Adds (AreSaid (lines_of self.old.line.items)) self.old (view_of hive.old) self.new (view_of hive.new)) }
-        ensures err { IfErr result (λ fault. (fault ≡ ScriptFault.Memory) × Loses (meaning_of self.old.line.items) self.old (view_of hive.old) self.new (view_of hive.new)) }
+        ensures ok { OnOk result (HasNoFeed self.old.line.items →
+            Adds (AreSaid (lines_of self.old.line.items)) self.old (view_of hive.old) self.new (view_of hive.new)) }
+        ensures err { IfErr result (λ fault. (fault ≡ ScriptFault.Memory)
+            × Loses (meaning_of self.old.line.items) self.old (view_of hive.old) self.new (view_of hive.new)) }
     {
         if self.line.is_empty() {
             return Ok(());
@@ -224,9 +238,11 @@ impl Script {
         ensures lines { OnOk result (IsSteady (place_of self.old (view_of hive.old) (W.contents writer.old)) →
             (script : List ℕ) × Consumes (R.remaining reader.old) (R.remaining reader.new) script
             × Ends (place_of self.old (view_of hive.old) (W.contents writer.old)) script (place_of self.new (view_of hive.new) (W.contents writer.new))) }
-        ensures err { IfErr result (λ fault. IsSteady (place_of self.old (view_of hive.old) (W.contents writer.old)) → self.old.lines ≡ 0 → self.old.line.items ≡ [] →
+        ensures err { IfErr result (λ fault. IsSteady (place_of self.old (view_of hive.old) (W.contents writer.old)) →
+            self.old.lines ≡ 0 → self.old.line.items ≡ [] →
             (script : List ℕ) × Consumes (R.remaining reader.old) (R.remaining reader.new) script
-            × Halts (place_of self.old (view_of hive.old) (W.contents writer.old)) script (place_of self.new (view_of hive.new) (W.contents writer.new)) fault) }
+            × Halts (place_of self.old (view_of hive.old) (W.contents writer.old)) script
+            (place_of self.new (view_of hive.new) (W.contents writer.new)) fault) }
     {
         for _read in 0..READS_LIMIT {
             let Ok(count) = reader.read(chunk) else {
@@ -252,8 +268,10 @@ pub fn run<R: Read, W: Write>(
 ) -> Result<(), ScriptFault>
     ensures at_end { OnOk result (IsAtEnd (R.remaining reader.new)) }
     ensures lines { OnOk result ((script : List ℕ) × (text : List ℕ) × Consumes (R.remaining reader.old) (R.remaining reader.new) script
-        × Lines (view_of hive.old) script text (view_of hive.new) × Appends (W.contents writer.old) (W.contents writer.new) text × AreWithin (lines_of script)) }
-    ensures stops { IfErr result (λ fault. Stops fault (R.remaining reader.old) (R.remaining reader.new) (view_of hive.old) (view_of hive.new) (W.contents writer.old) (W.contents writer.new)) }
+        × Lines (view_of hive.old) script text (view_of hive.new) × Appends (W.contents writer.old) (W.contents writer.new) text
+        × AreWithin (lines_of script)) }
+    ensures stops { IfErr result (λ fault. Stops fault (R.remaining reader.old) (R.remaining reader.new) (view_of hive.old)
+        (view_of hive.new) (W.contents writer.old) (W.contents writer.new)) }
 {
     let Ok(mut chunk) = vec![in alloc; 0; CHUNK] else {
         return Err(ScriptFault::Memory);

@@ -45,7 +45,8 @@ impl Output {
     /// Writes what was gathered, once it is enough.
     pub fn settle<W: Write>(&mut self, writer: &mut W) -> Result<(), ScriptFault>
         ensures few { OnOk result (length (string_bytes self.new.text) < 65536) }
-        ensures sent { OnOk result (IsSettled (W.contents writer.old) (W.contents writer.new) (string_bytes self.old.text) (string_bytes self.new.text) self.old.written self.new.written) }
+        ensures sent { OnOk result (IsSettled (W.contents writer.old) (W.contents writer.new) (string_bytes self.old.text)
+            (string_bytes self.new.text) self.old.written self.new.written) }
         ensures err { IfErr result (λ e. IsCut (W.contents writer.old) (W.contents writer.new) (string_bytes self.old.text) self.old.written e) }
     {
         if self.text.len() < ENOUGH {

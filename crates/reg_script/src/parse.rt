@@ -84,7 +84,8 @@ impl<'a> Words<'a> {
 
     #[tactic(auto, using(crate::proofs::WordReadingLemmas::readings))]
     fn session(&mut self) -> Result<Session, ParseFault>
-        ensures { MatchResult result (λ s. first_of (number_of 63) self.old ≡ Some (s.number, self.new)) (λ e. e ≡ ParseFault.Form → first_of (number_of 63) self.old ≡ None) }
+        ensures { MatchResult result (λ s. first_of (number_of 63) self.old ≡ Some (s.number, self.new))
+            (λ e. e ≡ ParseFault.Form → first_of (number_of 63) self.old ≡ None) }
     {
         session(self.next()?)
     }

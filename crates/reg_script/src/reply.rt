@@ -1,7 +1,8 @@
 ghost use Rattle.std.specs.Prelude.{◌≡◌, ◌++◌, string_bytes, OnOk, codes};
 ghost use Rattle.std.specs.Fmt.{decimal};
 ghost use Rattle.reg_model.specs.declared.call.Call.TheVariants.{Query as Asks};
-ghost use Rattle.reg_script.specs.ReplyTexts.{changed_text, handle_text, disposition_text, answer_text, short_text, name_text, value_text, asks_key, data_text, byte_text};
+ghost use Rattle.reg_script.specs.ReplyTexts.{changed_text, handle_text, disposition_text, answer_text, short_text, name_text, value_text, asks_key};
+ghost use Rattle.reg_script.specs.ReplyTexts.{data_text, byte_text};
 ghost use Rattle.reg_script.specs.ReplyTexts.{escaped as escaped_text, line_feed, is_plain as is_plain_byte};
 
 use reg_model::{Answer, AnswerBody, Bytes, ChangeReply, Query};
@@ -105,7 +106,8 @@ fn write_value(text: &mut String, kind: u32, size: u32) -> Result<(), AllocError
 
 /// The line of a subkey: its name and its time.
 fn write_key(text: &mut String, name: &[u8], time: u64) -> Result<(), AllocError>
-    ensures { OnOk result (string_bytes text.new ≡ string_bytes text.old ++ (codes "0" ++ (name_text name.now ++ (codes " time " ++ (decimal time ++ line_feed))))) }
+    ensures { OnOk result (string_bytes text.new ≡ string_bytes text.old
+        ++ (codes "0" ++ (name_text name.now ++ (codes " time " ++ (decimal time ++ line_feed))))) }
 {
     write_name(text, name)?;
     writeln!(text, " time {time}")

@@ -22,7 +22,22 @@ const MADE_FLAGS: u16 = 0x20;
 
 /// The fixed part of a new root's key node.
 pub fn new_root(security: u32, moment: u64) -> KeyFields
-    ensures { result ≡ record { flags = 44; time = moment; parent = NONE; subkeys = 0; subkeys_list = NONE; values = 0; values_list = NONE; security = security; class = NONE; class_length = 0; largest_subkey_name = 0; largest_subkey_class = 0; largest_value_name = 0; largest_value_data = 0 } }
+    ensures { result ≡ record {
+      flags = 44;
+      time = moment;
+      parent = NONE;
+      subkeys = 0;
+      subkeys_list = NONE;
+      values = 0;
+      values_list = NONE;
+      security = security;
+      class = NONE;
+      class_length = 0;
+      largest_subkey_name = 0;
+      largest_subkey_class = 0;
+      largest_value_name = 0;
+      largest_value_data = 0;
+    } }
 {
     KeyFields {
         flags: ROOT_FLAGS,

@@ -39,7 +39,11 @@ fn make(arena: &mut Arena, parent: u32, list_cell: u32, key: u32, name: &[u8], m
     requires ready { IsReady (cell_at arena.old.bytes) (planned (cell_at arena.old.bytes) parent) list_cell }
     requires room { HasRoom (cell_at arena.old.bytes) key (76 + length name.now) }
     requires name { (is_key_name name.now ≡ true) × (length name.now ≤ KEY_NAME_LIMIT) }
-    ensures { (left : List ℕ) → (m : MayGrow arena.old.bytes parent (taken (planned (cell_at arena.old.bytes) parent) list_cell ++ key ∷ left) name.now) → Grows (cell_at arena.old.bytes) (cell_at arena.new.bytes) m.growing.root m.growing.path m.growing.keys m.growing.first key left name.now moment }
+    ensures { (left : List ℕ) →
+        (m : MayGrow arena.old.bytes parent (taken (planned (cell_at arena.old.bytes) parent) list_cell
+        ++ key ∷ left) name.now) →
+        Grows (cell_at arena.old.bytes)
+        (cell_at arena.new.bytes) m.growing.root m.growing.path m.growing.keys m.growing.first key left name.now moment }
 {
     let above = fields(arena, parent);
     let users = with_one_more(arena, above.security);
@@ -62,8 +66,13 @@ fn make_in(arena: &mut Arena, parent: u32, spare: &[u32], name: &[u8], moment: u
     requires ready { (names : List (List ℕ)) × AreReady (cell_at arena.old.bytes) (planned (cell_at arena.old.bytes) parent) (name.now ∷ names) spare.now }
     requires name { (is_key_name name.now ≡ true) × (length name.now ≤ KEY_NAME_LIMIT) }
     ensures taken { (1 ≤ result) × (result ≤ 2) × (result ≤ length spare.now) }
-    ensures grows { (m : MayGrow arena.old.bytes parent spare.now name.now) → Grows (cell_at arena.old.bytes) (cell_at arena.new.bytes) m.growing.root m.growing.path m.growing.keys m.growing.first (get_or spare.now (result - 1) 0) (drop result spare.now) name.now moment }
-    ensures ready { (names : List (List ℕ)) → AreReady (cell_at arena.old.bytes) (planned (cell_at arena.old.bytes) parent) (name.now ∷ names) spare.now → AreReady (cell_at arena.old.bytes) (Some 16) names (drop result spare.now) }
+    ensures grows { (m : MayGrow arena.old.bytes parent spare.now name.now) →
+        Grows (cell_at arena.old.bytes)
+        (cell_at arena.new.bytes) m.growing.root m.growing.path m.growing.keys m.growing.first
+        (get_or spare.now (result - 1) 0) (drop result spare.now) name.now moment }
+    ensures ready { (names : List (List ℕ)) →
+        AreReady (cell_at arena.old.bytes) (planned (cell_at arena.old.bytes) parent) (name.now ∷ names) spare.now →
+        AreReady (cell_at arena.old.bytes) (Some 16) names (drop result spare.now) }
 {
     let list = subkeys_list(arena, parent);
     match plan_insert(arena, list) {
@@ -83,7 +92,10 @@ fn make_all(arena: &mut Arena, from: Node, path: &[u8], spare: &[u32], moment: u
     requires grow { MayGrowAll arena.old.bytes from (path_of path.now) spare.now }
     requires depth { from.depth ≤ PATH_LIMIT }
     requires path { is_path path.now ≡ true }
-    ensures { (m : MayGrowAll arena.old.bytes from (path_of path.now) spare.now) → GrowsAll (cell_at arena.old.bytes) (cell_at arena.new.bytes) m.growing.root m.growing.path m.growing.keys m.growing.first from result (path_of path.now) moment }
+    ensures { (m : MayGrowAll arena.old.bytes from (path_of path.now) spare.now) →
+        GrowsAll (cell_at arena.old.bytes)
+        (cell_at arena.new.bytes) m.growing.root m.growing.path m.growing.keys m.growing.first from result
+        (path_of path.now) moment }
 {
     let mut node = from;
     let mut rest = path;
@@ -119,8 +131,13 @@ fn pass_limits(arena: &Arena, parent: Node, path: &[u8]) -> bool
     requires here { IsHere arena.now.bytes parent.offset }
     requires depth { parent.depth ≤ 1024 }
     requires path { is_path path.now ≡ true }
-    ensures many { (t : IsHere arena.now.bytes parent.offset) → ((result ≡ true) ↔ ((MADE_LIMIT < length (path_of path.now)) ⊎ ((PATH_LIMIT < parent.depth + length (path_of path.now)) ⊎ (SUBKEYS_LIMIT ≤ length (children_of (tree_in arena.now.bytes t.root) t.path))))) }
-    ensures room { result ≡ false → (length (path_of path.now) ≤ MADE_LIMIT) × (parent.depth + length (path_of path.now) ≤ PATH_LIMIT) × ((k : KeyRecord) → key_at (cell_at arena.now.bytes) parent.offset ≡ Some k → k.fields.subkeys < SUBKEYS_LIMIT) }
+    ensures many { (t : IsHere arena.now.bytes parent.offset) →
+        ((result ≡ true) ↔ ((MADE_LIMIT < length (path_of path.now))
+        ⊎ ((PATH_LIMIT < parent.depth + length (path_of path.now))
+        ⊎ (SUBKEYS_LIMIT ≤ length (children_of (tree_in arena.now.bytes t.root) t.path))))) }
+    ensures room { result ≡ false → (length (path_of path.now) ≤ MADE_LIMIT)
+        × (parent.depth + length (path_of path.now) ≤ PATH_LIMIT)
+        × ((k : KeyRecord) → key_at (cell_at arena.now.bytes) parent.offset ≡ Some k → k.fields.subkeys < SUBKEYS_LIMIT) }
 {
     let count = count_names(path);
     if count > MADE_LIMIT {
@@ -136,7 +153,8 @@ fn pass_limits(arena: &Arena, parent: Node, path: &[u8]) -> bool
 pub fn is_limited(arena: &Arena, from: Node, path: &[u8]) -> bool
     requires here { (t : IsHere arena.now.bytes from.offset) × (from.depth ≡ length t.path) }
     requires path { is_path path.now ≡ true }
-    ensures { (t : IsHere arena.now.bytes from.offset) → from.depth ≡ length t.path → result ≡ are_too_many (tree_in arena.now.bytes t.root) t.path (path_of path.now) }
+    ensures { (t : IsHere arena.now.bytes from.offset) → from.depth ≡ length t.path →
+        result ≡ are_too_many (tree_in arena.now.bytes t.root) t.path (path_of path.now) }
 {
     let (parent, rest) = reach(arena, from, path);
     if rest.is_empty() {
@@ -203,9 +221,14 @@ pub fn create(
 ) -> Result<Created, TreeFault>
     requires here { (t : IsHere arena.old.bytes from.offset) × (from.depth ≡ length t.path) }
     requires path { is_path path.now ≡ true }
-    ensures ok { (t : IsHere arena.old.bytes from.offset) → from.depth ≡ length t.path → IfOk result (λ made. IsCreated arena.old.bytes arena.new.bytes t.root t.path from (path_of path.now) moment made.node) }
-    ensures new { (t : IsHere arena.old.bytes from.offset) → IfOk result (λ made. (made.is_new ≡ true) ↔ (missing (tree_in arena.old.bytes t.root) t.path (path_of path.now) ≢ [])) }
-    ensures limit { (t : IsHere arena.old.bytes from.offset) → from.depth ≡ length t.path → ((result ≡ Err TreeFault.Limit) ↔ AreTooMany (tree_in arena.old.bytes t.root) t.path (path_of path.now)) }
+    ensures ok { (t : IsHere arena.old.bytes from.offset) → from.depth ≡ length t.path →
+        IfOk result (λ made. IsCreated arena.old.bytes arena.new.bytes t.root t.path from
+        (path_of path.now) moment made.node) }
+    ensures new { (t : IsHere arena.old.bytes from.offset) →
+        IfOk result (λ made. (made.is_new ≡ true)
+        ↔ (missing (tree_in arena.old.bytes t.root) t.path (path_of path.now) ≢ [])) }
+    ensures limit { (t : IsHere arena.old.bytes from.offset) → from.depth ≡ length t.path →
+        ((result ≡ Err TreeFault.Limit) ↔ AreTooMany (tree_in arena.old.bytes t.root) t.path (path_of path.now)) }
     ensures full { (result ≡ Err TreeFault.Full) → BINS_LIMIT < length arena.old.bytes + GROWTH_BOUND }
     ensures others { IfErr result (λ fault. (fault ≡ TreeFault.Limit) ⊎ ((fault ≡ TreeFault.Full) ⊎ (fault ≡ TreeFault.Memory))) }
     ensures err { OnErr result (arena.new ≡ arena.old) }

@@ -71,7 +71,9 @@ pub fn subkeys(arena: &Arena, key: u32) -> u32
 pub fn subkey(arena: &Arena, node: Node, index: u32) -> Option<Node>
     requires here { IsHere arena.now.bytes node.offset }
     requires depth { node.depth ≤ PATH_LIMIT }
-    ensures { (t : IsHere arena.now.bytes node.offset) → IsSubkey (cell_at arena.now.bytes) t.root t.path (children_of (tree_in arena.now.bytes t.root) t.path) node index result }
+    ensures { (t : IsHere arena.now.bytes node.offset) →
+        IsSubkey (cell_at arena.now.bytes) t.root t.path
+        (children_of (tree_in arena.now.bytes t.root) t.path) node index result }
 {
     let list = subkeys_list(arena, node.offset);
     if index >= len(list) {

@@ -146,7 +146,10 @@ impl Tree {
     /// there are not so many.
     pub fn subkey(&self, node: Node, index: u32) -> Option<Node>
         requires { IsThere self.now node }
-        ensures { (p : Path) → IsAt self.now p node → MatchOption result (length (children_of self.now.tree p) ≤ index) (λ child. (index < length (children_of self.now.tree p)) × IsAt self.now (get_or (children_of self.now.tree p) index []) child) }
+        ensures { (p : Path) → IsAt self.now p node →
+            MatchOption result (length (children_of self.now.tree p) ≤ index)
+            (λ child. (index < length (children_of self.now.tree p))
+            × IsAt self.now (get_or (children_of self.now.tree p) index []) child) }
     {
         read::subkey(&self.arena, node, index)
     }
@@ -155,7 +158,10 @@ impl Tree {
     /// there are not so many.
     pub fn value(&self, node: Node, index: u32) -> Option<Value<'_>>
         requires { IsThere self.now node }
-        ensures told { (p : Path) → IsAt self.now p node → MatchOption result (length (values_at self.now.tree p) ≤ index) (λ value. (member : Member) × (slice_get (values_at self.now.tree p) index ≡ Some member) × Tells member value.name.now value.kind value.size) }
+        ensures told { (p : Path) → IsAt self.now p node →
+            MatchOption result (length (values_at self.now.tree p) ≤ index) (λ value. (member : Member)
+            × (slice_get (values_at self.now.tree p) index ≡ Some member)
+            × Tells member value.name.now value.kind value.size) }
         ensures short { IfSome result (λ value. length value.name.now ≤ VALUE_NAME_LIMIT) }
     {
         values::at(&self.arena, node.offset, index)
@@ -180,7 +186,9 @@ impl Tree {
     /// The bytes of a key's value at a place, counted from 0.
     pub fn value_bytes(&self, alloc: Global, node: Node, index: u32) -> Result<Vec<u8>, AllocError>
         requires { (p : Path) × IsAt self.now p node × (index < length (values_at self.now.tree p)) }
-        ensures { (p : Path) → IsAt self.now p node → IfOk result (λ bytes. (member : Member) × (slice_get (values_at self.now.tree p) index ≡ Some member) × (bytes.items ≡ member.bytes)) }
+        ensures { (p : Path) → IsAt self.now p node →
+            IfOk result (λ bytes. (member : Member) × (slice_get (values_at self.now.tree p) index ≡ Some member)
+            × (bytes.items ≡ member.bytes)) }
     {
         values::bytes(&self.arena, alloc, node.offset, index)
     }
@@ -204,7 +212,9 @@ impl Tree {
         requires bytes { length bytes.now ≤ DATA_LIMIT }
         ensures ok { (p : Path) → IsAt self.old p node → OnOk result (self.new.tree ≡ edited self.old.tree p (with_value name.now kind bytes.now moment)) }
         ensures nodes { OnOk result (KeepsNodes self.old self.new) }
-        ensures limit { (p : Path) → IsAt self.old p node → ((result ≡ Err TreeFault.Limit) ↔ ((VALUES_LIMIT ≤ length (values_at self.old.tree p)) × (value_named name.now (values_at self.old.tree p) ≡ None))) }
+        ensures limit { (p : Path) → IsAt self.old p node →
+            ((result ≡ Err TreeFault.Limit) ↔ ((VALUES_LIMIT ≤ length (values_at self.old.tree p))
+            × (value_named name.now (values_at self.old.tree p) ≡ None))) }
         ensures full { (result ≡ Err TreeFault.Full) → BINS_LIMIT < length self.old.bins.bytes + GROWTH_BOUND }
         ensures others { IfErr result (λ fault. (fault ≡ TreeFault.Limit) ⊎ ((fault ≡ TreeFault.Full) ⊎ (fault ≡ TreeFault.Memory))) }
         ensures err { OnErr result (self.new ≡ self.old) }
@@ -226,7 +236,9 @@ impl Tree {
         requires { IsThere self.old node }
         ensures ok { (p : Path) → IsAt self.old p node → OnOk result (self.new.tree ≡ edited self.old.tree p (without_value name.now moment)) }
         ensures nodes { OnOk result (KeepsNodes self.old self.new) }
-        ensures found { (p : Path) → IsAt self.old p node → IfErr result (λ fault. (fault ≡ TreeFault.NotFound) × (value_named name.now (values_at self.old.tree p) ≡ None)) }
+        ensures found { (p : Path) → IsAt self.old p node →
+            IfErr result (λ fault. (fault ≡ TreeFault.NotFound)
+            × (value_named name.now (values_at self.old.tree p) ≡ None)) }
         ensures err { OnErr result (self.new ≡ self.old) }
     {
         values::delete(&mut self.arena, node.offset, name, moment)
@@ -249,7 +261,9 @@ impl Tree {
         requires from { IsThere self.old from }
         requires path { is_path path.now ≡ true }
         ensures ok { (p : Path) → IsAt self.old p from → OnOk result (self.new.tree ≡ with_keys self.old.tree p (path_of path.now) moment) }
-        ensures opened { (p : Path) → IsAt self.old p from → IfOk result (λ made. IsAt self.new (p ++ folded_path path.now) made.node × ((made.is_new ≡ true) ↔ (missing self.old.tree p (path_of path.now) ≢ []))) }
+        ensures opened { (p : Path) → IsAt self.old p from →
+            IfOk result (λ made. IsAt self.new (p ++ folded_path path.now) made.node
+            × ((made.is_new ≡ true) ↔ (missing self.old.tree p (path_of path.now) ≢ []))) }
         ensures depth { IfOk result (λ made. made.node.depth ≤ PATH_LIMIT) }
         ensures nodes { OnOk result (KeepsNodes self.old self.new) }
         ensures limit { (p : Path) → IsAt self.old p from → ((result ≡ Err TreeFault.Limit) ↔ (are_too_many self.old.tree p (path_of path.now) ≡ true)) }

@@ -42,7 +42,9 @@ fn name_of(arena: &Arena, key: u32) -> &[u8]
 /// Takes a key out of its parent's subkeys, and notes that with the time.
 fn unlink(arena: &mut Arena, parent: u32, key: u32, moment: u64)
     requires { (above : KeyRecord) × (entries : List Entry) × (index : ℕ) × IsListed (cell_at arena.old.bytes) parent key above entries index }
-    ensures { (above : KeyRecord) → (entries : List Entry) → (index : ℕ) → IsListed (cell_at arena.old.bytes) parent key above entries index → IsUnlinked (cell_at arena.old.bytes) (cell_at arena.new.bytes) parent above entries index moment }
+    ensures { (above : KeyRecord) → (entries : List Entry) → (index : ℕ) →
+        IsListed (cell_at arena.old.bytes) parent key above entries index →
+        IsUnlinked (cell_at arena.old.bytes) (cell_at arena.new.bytes) parent above entries index moment }
 {
     let list = subkeys_list(arena, parent);
     let Ok(index) = find(arena, list, name_of(arena, key)) else {
@@ -66,7 +68,8 @@ fn free_class(arena: &mut Arena, fields: KeyFields)
 /// Frees a key's values, its class and its key node.
 fn free_key(arena: &mut Arena, key: u32)
     requires { IsSole (cell_at arena.old.bytes) key }
-    ensures { (node : KeyWithCells) → look (cell_at arena.old.bytes) key ≡ Some node → Swaps (cell_at arena.old.bytes) (cell_at arena.new.bytes) (λ offset. owned offset node.cells) (λ offset. 0) }
+    ensures { (node : KeyWithCells) → look (cell_at arena.old.bytes) key ≡ Some node →
+        Swaps (cell_at arena.old.bytes) (cell_at arena.new.bytes) (λ offset. owned offset node.cells) (λ offset. 0) }
 {
     let head = fields(arena, key);
     let values = values_list(arena, key);
@@ -97,7 +100,9 @@ pub fn delete(arena: &mut Arena, key: u32, moment: u64) -> Result<(), TreeFault>
     requires { IsHere arena.old.bytes key }
     ensures ok { (t : IsHere arena.old.bytes key) → OnOk result (IsDeleted arena.old.bytes arena.new.bytes t.root t.path moment) }
     ensures children { (t : IsHere arena.old.bytes key) → ((result ≡ Err TreeFault.HasChildren) ↔ (children_of (tree_in arena.old.bytes t.root) t.path ≢ [])) }
-    ensures kept { (t : IsHere arena.old.bytes key) → ((result ≡ Err TreeFault.NoDelete) ↔ ((children_of (tree_in arena.old.bytes t.root) t.path ≡ []) × IsKept (tree_in arena.old.bytes t.root) t.path)) }
+    ensures kept { (t : IsHere arena.old.bytes key) →
+        ((result ≡ Err TreeFault.NoDelete) ↔ ((children_of (tree_in arena.old.bytes t.root) t.path ≡ [])
+        × IsKept (tree_in arena.old.bytes t.root) t.path)) }
     ensures others { IfErr result (λ fault. (fault ≡ TreeFault.HasChildren) ⊎ (fault ≡ TreeFault.NoDelete)) }
     ensures err { OnErr result (arena.new ≡ arena.old) }
 {

@@ -29,7 +29,9 @@ pub fn count(arena: &Arena, key: u32) -> u32
 
 pub fn find(arena: &Arena, key: u32, name: &[u8]) -> Option<ValueFound>
     requires { IsHere arena.now.bytes key }
-    ensures { (t : IsHere arena.now.bytes key) → IsFound (values_at (tree_in arena.now.bytes t.root) t.path) (value_named name.now (values_at (tree_in arena.now.bytes t.root) t.path)) result }
+    ensures { (t : IsHere arena.now.bytes key) →
+        IsFound (values_at (tree_in arena.now.bytes t.root) t.path)
+        (value_named name.now (values_at (tree_in arena.now.bytes t.root) t.path)) result }
 {
     let list = values_list(arena, key);
     let Some(index) = reg_values::find(arena, list, name) else {
@@ -45,14 +47,20 @@ pub fn find(arena: &Arena, key: u32, name: &[u8]) -> Option<ValueFound>
 
 pub fn bytes(arena: &Arena, alloc: Global, key: u32, index: u32) -> Result<Vec<u8>, AllocError>
     requires { (t : IsHere arena.now.bytes key) × (index < length (values_at (tree_in arena.now.bytes t.root) t.path)) }
-    ensures { (t : IsHere arena.now.bytes key) → IfOk result (λ bytes. (member : Member) × (slice_get (values_at (tree_in arena.now.bytes t.root) t.path) index ≡ Some member) × (bytes.items ≡ member.bytes)) }
+    ensures { (t : IsHere arena.now.bytes key) →
+        IfOk result (λ bytes. (member : Member)
+        × (slice_get (values_at (tree_in arena.now.bytes t.root) t.path) index ≡ Some member)
+        × (bytes.items ≡ member.bytes)) }
 {
     reg_values::bytes_of(arena, alloc, values_list(arena, key), index)
 }
 
 pub fn at(arena: &Arena, key: u32, index: u32) -> Option<Value<'_>>
     requires { IsHere arena.now.bytes key }
-    ensures told { (t : IsHere arena.now.bytes key) → MatchOption result (length (values_at (tree_in arena.now.bytes t.root) t.path) ≤ index) (λ value. (member : Member) × (slice_get (values_at (tree_in arena.now.bytes t.root) t.path) index ≡ Some member) × Tells member value.name.now value.kind value.size) }
+    ensures told { (t : IsHere arena.now.bytes key) →
+        MatchOption result (length (values_at (tree_in arena.now.bytes t.root) t.path) ≤ index) (λ value. (member : Member)
+        × (slice_get (values_at (tree_in arena.now.bytes t.root) t.path) index ≡ Some member)
+        × Tells member value.name.now value.kind value.size) }
     ensures short { IfSome result (λ value. length value.name.now ≤ VALUE_NAME_LIMIT) }
 {
     let list = values_list(arena, key);
@@ -66,7 +74,9 @@ pub fn at(arena: &Arena, key: u32, index: u32) -> Option<Value<'_>>
 fn is_full(arena: &Arena, key: u32, list: ValuesList, name: &[u8]) -> bool
     requires here { IsHere arena.now.bytes key }
     requires list { HasList (cell_at arena.now.bytes) key list.count list.place }
-    ensures full { (t : IsHere arena.now.bytes key) → result ≡ true → (VALUES_LIMIT ≤ length (values_at (tree_in arena.now.bytes t.root) t.path)) × (value_named name.now (values_at (tree_in arena.now.bytes t.root) t.path) ≡ None) }
+    ensures full { (t : IsHere arena.now.bytes key) → result ≡ true →
+        (VALUES_LIMIT ≤ length (values_at (tree_in arena.now.bytes t.root) t.path))
+        × (value_named name.now (values_at (tree_in arena.now.bytes t.root) t.path) ≡ None) }
     ensures room { result ≡ false → (list.count < VALUES_LIMIT) ⊎ IsNamed (cell_at arena.now.bytes) list.count list.place name.now }
 {
     if list.count < VALUES_LIMIT {
@@ -88,8 +98,11 @@ pub fn set(
     requires here { IsHere arena.old.bytes key }
     requires name { is_value_name name.now ≡ true }
     requires bytes { length bytes.now ≤ DATA_LIMIT }
-    ensures ok { (t : IsHere arena.old.bytes key) → OnOk result (IsChanged arena.old.bytes arena.new.bytes t.root t.path (with_value name.now kind bytes.now moment)) }
-    ensures limit { (t : IsHere arena.old.bytes key) → ((result ≡ Err TreeFault.Limit) ↔ ((VALUES_LIMIT ≤ length (values_at (tree_in arena.old.bytes t.root) t.path)) × (value_named name.now (values_at (tree_in arena.old.bytes t.root) t.path) ≡ None))) }
+    ensures ok { (t : IsHere arena.old.bytes key) →
+        OnOk result (IsChanged arena.old.bytes arena.new.bytes t.root t.path (with_value name.now kind bytes.now moment)) }
+    ensures limit { (t : IsHere arena.old.bytes key) →
+        ((result ≡ Err TreeFault.Limit) ↔ ((VALUES_LIMIT ≤ length (values_at (tree_in arena.old.bytes t.root) t.path))
+        × (value_named name.now (values_at (tree_in arena.old.bytes t.root) t.path) ≡ None))) }
     ensures others { IfErr result (λ fault. (fault ≡ TreeFault.Limit) ⊎ ((fault ≡ TreeFault.Full) ⊎ (fault ≡ TreeFault.Memory))) }
     ensures full { (result ≡ Err TreeFault.Full) → BINS_LIMIT < length arena.old.bytes + GROWTH_BOUND }
     ensures err { OnErr result (arena.new ≡ arena.old) }
@@ -117,7 +130,9 @@ pub fn set(
 pub fn delete(arena: &mut Arena, key: u32, name: &[u8], moment: u64) -> Result<(), TreeFault>
     requires { IsHere arena.old.bytes key }
     ensures ok { (t : IsHere arena.old.bytes key) → OnOk result (IsChanged arena.old.bytes arena.new.bytes t.root t.path (without_value name.now moment)) }
-    ensures found { (t : IsHere arena.old.bytes key) → IfErr result (λ fault. (fault ≡ TreeFault.NotFound) × (value_named name.now (values_at (tree_in arena.old.bytes t.root) t.path) ≡ None)) }
+    ensures found { (t : IsHere arena.old.bytes key) →
+        IfErr result (λ fault. (fault ≡ TreeFault.NotFound)
+        × (value_named name.now (values_at (tree_in arena.old.bytes t.root) t.path) ≡ None)) }
     ensures err { OnErr result (arena.new ≡ arena.old) }
 {
     let old = values_list(arena, key);

@@ -70,7 +70,10 @@ fn grow(arena: &mut Arena, list: ValuesList, cell: u32)
     requires owns { Owns (list_at list.count list.place) (cell_at arena.old.bytes) }
     requires room { HasRoom (cell_at arena.old.bytes) list.place (4 * list.count + 4) }
     requires some { 0 < list.count }
-    ensures list { (row : List ℕ) → (met : List Found) → list_at list.count list.place (cell_at arena.old.bytes) ≡ Some (row, met) → BecameList (cell_at arena.old.bytes) (cell_at arena.new.bytes) (λ offset. owned offset met) (list.count + 1) list.place (row ++ cell ∷ []) }
+    ensures list { (row : List ℕ) → (met : List Found) →
+        list_at list.count list.place (cell_at arena.old.bytes) ≡ Some (row, met) →
+        BecameList (cell_at arena.old.bytes) (cell_at arena.new.bytes) (λ offset. owned offset met)
+        (list.count + 1) list.place (row ++ cell ∷ []) }
     ensures sizes { KeepsSizes (cell_at arena.old.bytes) (cell_at arena.new.bytes) }
 {
     put_offset(arena, list.place, list.count, cell);
@@ -81,7 +84,10 @@ fn move_list(arena: &mut Arena, list: ValuesList, place: u32, cell: u32)
     requires few { list.count < VALUES_LIMIT }
     requires owns { OwnsBeside (list_at list.count list.place) (cell_at arena.old.bytes) (place ∷ []) }
     requires room { HasRoom (cell_at arena.old.bytes) place (4 * list.count + 4) }
-    ensures list { (row : List ℕ) → (met : List Found) → list_at list.count list.place (cell_at arena.old.bytes) ≡ Some (row, met) → BecameList (cell_at arena.old.bytes) (cell_at arena.new.bytes) (λ offset. owned offset met + times offset (place ∷ [])) (list.count + 1) place (row ++ cell ∷ []) }
+    ensures list { (row : List ℕ) → (met : List Found) →
+        list_at list.count list.place (cell_at arena.old.bytes) ≡ Some (row, met) →
+        BecameList (cell_at arena.old.bytes) (cell_at arena.new.bytes)
+        (λ offset. owned offset met + times offset (place ∷ [])) (list.count + 1) place (row ++ cell ∷ []) }
     ensures sizes { KeepsSizes (cell_at arena.old.bytes) (cell_at arena.new.bytes) }
 {
     if list.count == 0 {
@@ -106,12 +112,22 @@ pub(crate) fn add(
     requires name { is_value_name name.now ≡ true }
     requires bytes { length bytes.now ≤ DATA_LIMIT }
     requires few { list.count < VALUES_LIMIT }
-    requires new { (members : List Member) → (met : List Found) → members_at list.count list.place (cell_at arena.old.bytes) ≡ Some (members, met) → None ≡ place_named name.now members }
-    ensures ok { IfOk result (λ after. (members : List Member) → (met : List Found) → members_at list.count list.place (cell_at arena.old.bytes) ≡ Some (members, met) → Became (cell_at arena.old.bytes) (cell_at arena.new.bytes) met after.count after.place (members ++ record { name = name.now; kind = kind; bytes = bytes.now } ∷ [])) }
-    ensures cells { OnOk result (Makes (cell_at arena.old.bytes) (cell_at arena.new.bytes) (sizes_by (cell_at arena.old.bytes) list.count list.place (length name.now) (length bytes.now) None)) }
+    requires new { (members : List Member) → (met : List Found) →
+        members_at list.count list.place (cell_at arena.old.bytes) ≡ Some (members, met) →
+        None ≡ place_named name.now members }
+    ensures ok { IfOk result (λ after. (members : List Member) → (met : List Found) →
+        members_at list.count list.place (cell_at arena.old.bytes) ≡ Some (members, met) →
+        Became (cell_at arena.old.bytes) (cell_at arena.new.bytes) met after.count after.place
+        (members ++ record { name = name.now; kind = kind; bytes = bytes.now } ∷ [])) }
+    ensures cells { OnOk result (Makes (cell_at arena.old.bytes) (cell_at arena.new.bytes)
+        (sizes_by (cell_at arena.old.bytes) list.count list.place (length name.now) (length bytes.now) None)) }
     ensures err { OnErr result (arena.new ≡ arena.old) }
-    ensures full { result ≡ Err ArenaFault.Full → NoFit arena.old.bytes (total_of (sizes_by (cell_at arena.old.bytes) list.count list.place (length name.now) (length bytes.now) None)) }
-    ensures limit { result ≡ Err ArenaFault.Full → PassesLimit arena.old.bytes (total_of (sizes_by (cell_at arena.old.bytes) list.count list.place (length name.now) (length bytes.now) None)) }
+    ensures full { result ≡ Err ArenaFault.Full →
+        NoFit arena.old.bytes (total_of (sizes_by (cell_at arena.old.bytes) list.count list.place (length name.now)
+        (length bytes.now) None)) }
+    ensures limit { result ≡ Err ArenaFault.Full →
+        PassesLimit arena.old.bytes
+        (total_of (sizes_by (cell_at arena.old.bytes) list.count list.place (length name.now) (length bytes.now) None)) }
 {
     let Ok(sizes) = plan_add(arena, alloc, list, name.len(), bytes.len()) else {
         return Err(ArenaFault::Memory);

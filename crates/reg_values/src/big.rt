@@ -47,7 +47,8 @@ pub(crate) fn big_bytes(
 ) -> Result<Vec<u8>, AllocError>
     requires size { size < 4294967296 }
     requires big { IsSome (big_data_at size cell (cell_at arena.now.bytes)) }
-    ensures { IfOk result (λ bytes. (all : List ℕ) → (met : List Found) → big_data_at size cell (cell_at arena.now.bytes) ≡ Some (all, met) → bytes.items ≡ all) }
+    ensures { IfOk result (λ bytes. (all : List ℕ) → (met : List Found) →
+        big_data_at size cell (cell_at arena.now.bytes) ≡ Some (all, met) → bytes.items ≡ all) }
 {
     let list = big_at(arena, cell).list;
     joined(arena, alloc, size, list)
@@ -59,7 +60,8 @@ fn joined(arena: &Arena, alloc: Global, size: usize, list: u32) -> Result<Vec<u8
     requires exists { IsSome (cell_at arena.now.bytes list) }
     requires long { 4 * segments_for_of size ≤ length (held (cell_at arena.now.bytes) list) }
     requires pieces { IsSome (segments_at size (held (cell_at arena.now.bytes) list) (cell_at arena.now.bytes)) }
-    ensures { IfOk result (λ bytes. (all : List ℕ) → (met : List Found) → segments_at size (held (cell_at arena.now.bytes) list) (cell_at arena.now.bytes) ≡ Some (all, met) → bytes.items ≡ all) }
+    ensures { IfOk result (λ bytes. (all : List ℕ) → (met : List Found) →
+        segments_at size (held (cell_at arena.now.bytes) list) (cell_at arena.now.bytes) ≡ Some (all, met) → bytes.items ≡ all) }
 {
     let mut bytes = Vec::with_capacity(alloc, size)?;
     for index in 0..segments_for(size) {
@@ -98,7 +100,9 @@ fn put_pieces(arena: &mut Arena, segments: &[u32], bytes: &[u8])
     requires all { length bytes.now ≤ SEGMENT_SIZE * length segments.now }
     requires none_over { SEGMENT_SIZE * length segments.now < length bytes.now + SEGMENT_SIZE }
     requires once { (offset : ℕ) → times offset segments.now ≤ 1 }
-    requires room { (index : ℕ) → index < length segments.now → HasRoom (cell_at arena.old.bytes) (get_or segments.now index 0) (length (take SEGMENT_SIZE (drop (SEGMENT_SIZE * index) bytes.now))) }
+    requires room { (index : ℕ) → index < length segments.now →
+        HasRoom (cell_at arena.old.bytes) (get_or segments.now index 0)
+        (length (take SEGMENT_SIZE (drop (SEGMENT_SIZE * index) bytes.now))) }
     ensures fills { Fills (cell_at arena.old.bytes) (cell_at arena.new.bytes) segments.now }
     ensures reads { (met : List Found) × (pieces_at (segments_of (length bytes.now) segments.now) (cell_at arena.new.bytes) ≡ Some (bytes.now, met)) }
 {
@@ -115,7 +119,9 @@ pub(crate) fn put_big(arena: &mut Arena, head: u32, list: u32, segments: &[u32],
     requires once { (offset : ℕ) → times offset (head ∷ list ∷ segments.now) ≤ 1 }
     requires head { HasRoom (cell_at arena.old.bytes) head 8 }
     requires list { HasRoom (cell_at arena.old.bytes) list (4 * length segments.now) }
-    requires room { (index : ℕ) → index < length segments.now → HasRoom (cell_at arena.old.bytes) (get_or segments.now index 0) (length (take SEGMENT_SIZE (drop (SEGMENT_SIZE * index) bytes.now))) }
+    requires room { (index : ℕ) → index < length segments.now →
+        HasRoom (cell_at arena.old.bytes) (get_or segments.now index 0)
+        (length (take SEGMENT_SIZE (drop (SEGMENT_SIZE * index) bytes.now))) }
     ensures fills { Fills (cell_at arena.old.bytes) (cell_at arena.new.bytes) (head ∷ list ∷ segments.now) }
     ensures holds { HoldsData (cell_at arena.new.bytes) (length bytes.now) head bytes.now (head ∷ list ∷ segments.now) }
 {
@@ -133,7 +139,8 @@ fn free_segments(arena: &mut Arena, list: u32, count: usize)
     requires few { count < 1073741824 }
     requires exists { IsSome (cell_at arena.old.bytes list) }
     requires long { 4 * count ≤ length (held (cell_at arena.old.bytes) list) }
-    requires once { (offset : ℕ) → times offset (offsets_at count 0 (held (cell_at arena.old.bytes) list)) + times offset (list ∷ []) ≤ allocated (cell_at arena.old.bytes) offset }
+    requires once { (offset : ℕ) → times offset (offsets_at count 0 (held (cell_at arena.old.bytes) list)) + times offset
+        (list ∷ []) ≤ allocated (cell_at arena.old.bytes) offset }
     ensures { GivesUp (cell_at arena.old.bytes) (cell_at arena.new.bytes) (offsets_at count 0 (held (cell_at arena.old.bytes) list)) }
 {
     for index in 0..count {

@@ -38,7 +38,9 @@ pub fn bytes_of(
 ) -> Result<Vec<u8>, AllocError>
     requires values { AreValues (cell_at arena.now.bytes) list.count list.place }
     requires index { index < list.count }
-    ensures { IfOk result (λ bytes. (members : List Member) → (met : List Found) → members_at list.count list.place (cell_at arena.now.bytes) ≡ Some (members, met) → (member : Member) × (slice_get members index ≡ Some member) × (bytes.items ≡ member.bytes)) }
+    ensures { IfOk result (λ bytes. (members : List Member) → (met : List Found) →
+        members_at list.count list.place (cell_at arena.now.bytes) ≡ Some (members, met) → (member : Member)
+        × (slice_get members index ≡ Some member) × (bytes.items ≡ member.bytes)) }
 {
     let fields = record_at(arena, cell_of(arena, list, index)).fields;
     data_bytes(arena, alloc, fields)

@@ -22,7 +22,9 @@ pub fn list_has_its_number_of_values()
 
 /// A list that a change left is a list of values again.
 pub fn changed_list_is_a_list()
-    ensures { (old new : Heap) → (count place : ℕ) → (values : AreValues old count place) → (after_count after_place : ℕ) → (members : List Member) → Became old new values.met after_count after_place members → AreValues new after_count after_place }
+    ensures { (old new : Heap) → (count place : ℕ) → (values : AreValues old count place) → (after_count after_place : ℕ) →
+        (members : List Member) → Became old new values.met after_count after_place members →
+        AreValues new after_count after_place }
 {}
 
 /// The value of a name stands at that name's place.

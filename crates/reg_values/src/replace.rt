@@ -30,7 +30,9 @@ fn rewrite(arena: &mut Arena, cell: u32, old: ValueFields, kind: u32, bytes: &[u
     requires record_is { (name : List ℕ) × (value_record_at (cell_at arena.old.bytes) cell ≡ Some (record { fields = old; name = name })) }
     requires stays { stays_of (cell_at arena.old.bytes) old (length bytes.now) ≡ true }
     requires bytes { length bytes.now ≤ DATA_LIMIT }
-    ensures value { (m : Member) → (met : List Found) → member_at cell (cell_at arena.old.bytes) ≡ Some (m, met) → BecameValue (cell_at arena.old.bytes) (cell_at arena.new.bytes) (λ offset. owned offset met) cell (record { name = m.name; kind = kind; bytes = bytes.now }) }
+    ensures value { (m : Member) → (met : List Found) → member_at cell (cell_at arena.old.bytes) ≡ Some (m, met) →
+        BecameValue (cell_at arena.old.bytes) (cell_at arena.new.bytes) (λ offset. owned offset met) cell
+        (record { name = m.name; kind = kind; bytes = bytes.now }) }
     ensures cells { Makes (cell_at arena.old.bytes) (cell_at arena.new.bytes) [] }
 {
     arena.write(old.place, 0, bytes);
@@ -44,7 +46,10 @@ fn exchange(arena: &mut Arena, cell: u32, cells: &[u32], old: ValueFields, kind:
     requires record_is { (name : List ℕ) × (value_record_at (cell_at arena.old.bytes) cell ≡ Some (record { fields = old; name = name })) }
     requires bytes { length bytes.now ≤ DATA_LIMIT }
     requires cells { HaveRoom (cell_at arena.old.bytes) cells.now (data_sizes (length bytes.now)) }
-    ensures value { (m : Member) → (met : List Found) → member_at cell (cell_at arena.old.bytes) ≡ Some (m, met) → BecameValue (cell_at arena.old.bytes) (cell_at arena.new.bytes) (λ offset. owned offset met + times offset cells.now) cell (record { name = m.name; kind = kind; bytes = bytes.now }) }
+    ensures value { (m : Member) → (met : List Found) → member_at cell (cell_at arena.old.bytes) ≡ Some (m, met) →
+        BecameValue (cell_at arena.old.bytes) (cell_at arena.new.bytes)
+        (λ offset. owned offset met + times offset cells.now) cell
+        (record { name = m.name; kind = kind; bytes = bytes.now }) }
     ensures keeps { Keeps (cell_at arena.old.bytes) (cell_at arena.new.bytes) cells.now }
 {
     let data = put_data(arena, cells, bytes);
@@ -63,11 +68,19 @@ pub(crate) fn replace(
     requires owns { Owns (member_at cell) (cell_at arena.old.bytes) }
     requires written { IsWrittenValue (cell_at arena.old.bytes) cell }
     requires bytes { length bytes.now ≤ DATA_LIMIT }
-    ensures value { OnOk result ((m : Member) → (met : List Found) → member_at cell (cell_at arena.old.bytes) ≡ Some (m, met) → BecameValue (cell_at arena.old.bytes) (cell_at arena.new.bytes) (λ offset. owned offset met) cell (record { name = m.name; kind = kind; bytes = bytes.now })) }
-    ensures cells { OnOk result (Makes (cell_at arena.old.bytes) (cell_at arena.new.bytes) (new_data_sizes (cell_at arena.old.bytes) (length bytes.now) (value_record_at (cell_at arena.old.bytes) cell))) }
+    ensures value { OnOk result ((m : Member) → (met : List Found) → member_at cell (cell_at arena.old.bytes) ≡ Some (m, met) →
+        BecameValue (cell_at arena.old.bytes) (cell_at arena.new.bytes) (λ offset. owned offset met) cell
+        (record { name = m.name; kind = kind; bytes = bytes.now })) }
+    ensures cells { OnOk result (Makes (cell_at arena.old.bytes) (cell_at arena.new.bytes)
+        (new_data_sizes (cell_at arena.old.bytes) (length bytes.now) (value_record_at (cell_at arena.old.bytes) cell))) }
     ensures err { OnErr result (arena.new ≡ arena.old) }
-    ensures full { result ≡ Err ArenaFault.Full → NoFit arena.old.bytes (total_of (new_data_sizes (cell_at arena.old.bytes) (length bytes.now) (value_record_at (cell_at arena.old.bytes) cell))) }
-    ensures limit { result ≡ Err ArenaFault.Full → PassesLimit arena.old.bytes (total_of (new_data_sizes (cell_at arena.old.bytes) (length bytes.now) (value_record_at (cell_at arena.old.bytes) cell))) }
+    ensures full { result ≡ Err ArenaFault.Full →
+        NoFit arena.old.bytes (total_of (new_data_sizes (cell_at arena.old.bytes) (length bytes.now)
+        (value_record_at (cell_at arena.old.bytes) cell))) }
+    ensures limit { result ≡ Err ArenaFault.Full →
+        PassesLimit arena.old.bytes
+        (total_of (new_data_sizes (cell_at arena.old.bytes) (length bytes.now)
+        (value_record_at (cell_at arena.old.bytes) cell))) }
 {
     let old = record_at(arena, cell).fields;
     if stays(arena, old, bytes.len()) {

@@ -42,11 +42,18 @@ pub fn set(
     requires name { is_value_name name.now ≡ true }
     requires bytes { length bytes.now ≤ DATA_LIMIT }
     requires room { (list.count < VALUES_LIMIT) ⊎ IsNamed (cell_at arena.old.bytes) list.count list.place name.now }
-    ensures ok { IfOk result (λ after. (members : List Member) → (met : List Found) → members_at list.count list.place (cell_at arena.old.bytes) ≡ Some (members, met) → Became (cell_at arena.old.bytes) (cell_at arena.new.bytes) met after.count after.place (values_with name.now kind bytes.now members)) }
-    ensures cells { OnOk result (Makes (cell_at arena.old.bytes) (cell_at arena.new.bytes) (set_sizes (cell_at arena.old.bytes) list.count list.place name.now (length bytes.now))) }
+    ensures ok { IfOk result (λ after. (members : List Member) → (met : List Found) →
+        members_at list.count list.place (cell_at arena.old.bytes) ≡ Some (members, met) →
+        Became (cell_at arena.old.bytes) (cell_at arena.new.bytes) met after.count after.place
+        (values_with name.now kind bytes.now members)) }
+    ensures cells { OnOk result (Makes (cell_at arena.old.bytes) (cell_at arena.new.bytes)
+        (set_sizes (cell_at arena.old.bytes) list.count list.place name.now (length bytes.now))) }
     ensures err { OnErr result (arena.new ≡ arena.old) }
-    ensures full { result ≡ Err ArenaFault.Full → NoFit arena.old.bytes (total_of (set_sizes (cell_at arena.old.bytes) list.count list.place name.now (length bytes.now))) }
-    ensures limit { result ≡ Err ArenaFault.Full → PassesLimit arena.old.bytes (total_of (set_sizes (cell_at arena.old.bytes) list.count list.place name.now (length bytes.now))) }
+    ensures full { result ≡ Err ArenaFault.Full →
+        NoFit arena.old.bytes (total_of (set_sizes (cell_at arena.old.bytes) list.count list.place name.now (length bytes.now))) }
+    ensures limit { result ≡ Err ArenaFault.Full →
+        PassesLimit arena.old.bytes
+        (total_of (set_sizes (cell_at arena.old.bytes) list.count list.place name.now (length bytes.now))) }
     ensures near { result ≡ Err ArenaFault.Full → BINS_LIMIT < length arena.old.bytes + GROWTH_BOUND }
 {
     let Some(index) = find(arena, list, name) else {

@@ -58,7 +58,9 @@ impl LiveCells {
     /// Chooses cells at random, to be freed. Where there are fewer, all are chosen.
     pub fn choose_some(&mut self, cells: usize) -> Result<(), AllocError>
         ensures left { OnOk result (length self.new.offsets.items ≡ length self.old.offsets.items - cells) }
-        ensures chosen { OnOk result (length self.new.chosen.items + length self.new.offsets.items ≡ length self.old.chosen.items + length self.old.offsets.items) }
+        ensures chosen { OnOk result
+            (length self.new.chosen.items + length self.new.offsets.items ≡ length self.old.chosen.items
+            + length self.old.offsets.items) }
         ensures arena { self.new.arena ≡ self.old.arena }
     {
         for _i in 0..cells {
@@ -89,7 +91,9 @@ impl LiveCells {
 
     fn choose_one(&mut self) -> Result<(), AllocError>
         ensures left { length self.new.offsets.items ≡ length self.old.offsets.items - 1 }
-        ensures chosen { OnOk result (length self.new.chosen.items + length self.new.offsets.items ≡ length self.old.chosen.items + length self.old.offsets.items) }
+        ensures chosen { OnOk result
+            (length self.new.chosen.items + length self.new.offsets.items ≡ length self.old.chosen.items
+            + length self.old.offsets.items) }
         ensures arena { self.new.arena ≡ self.old.arena }
     {
         if self.offsets.is_empty() {
