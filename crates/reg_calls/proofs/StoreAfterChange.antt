@@ -1,20 +1,17 @@
 -- What the changes of accepted calls make of a store.
-use Rattle.std.proofs.Common.{◌≡◌, ◌≢◌, ◌⊎◌, ◌↔◌, inl, inr, ℕ, ◌+◌, ◌<◌, ◌≤◌, Bool, true, false, not, ◌||◌, ◌&&◌, nat_lt, nat_le, cond, is_some, List, [], ◌∷◌, ◌++◌, map, length, Option}
-use Rattle.std.proofs.Common.{Some, None, refl, sym, ap, ◌∙◌, subst, arith, true≢false, append_assoc, length-append}
-use Rattle.std.specs.Prelude.{All, Result, Err, bit_and, ◌==◌}
-use Rattle.std.specs.List.{AllByRecursion}
+use Rattle.std.proofs.Common.{◌≡◌, ◌≢◌, ◌⊎◌, ◌↔◌, inl, inr, ℕ, ◌+◌, ◌<◌, ◌≤◌, Bool, true, false, not, nat_lt, nat_le, cond, is_some, List, [], ◌∷◌, ◌++◌, length, Option}
+use Rattle.std.proofs.Common.{Some, None, refl, sym, ap, ◌∙◌, subst, arith, true≢false}
+use Rattle.std.specs.Prelude.{Result, Err, bit_and, ◌==◌}
 use Rattle.std.specs.FinMap.{get}
-use Rattle.std.proofs.lemmas.List.{append-nil, length-map}
-use Rattle.std.proofs.lemmas.List.Elements.{recursion_from_All}
-use Rattle.std.proofs.lemmas.Bool.{eq-eqb, ne_eqb, false≢true}
+use Rattle.std.proofs.lemmas.Bool.{false≢true}
 use Rattle.std.proofs.lemmas.Bool.Decides.{nat_tests}
-use Rattle.reg_names.specs.declared.TheConstants.{PATH_LIMIT}
-use Rattle.reg_names.specs.Names.{folded, path_of, is_path, is_value_name}
+use Rattle.reg_model.specs.declared.limits.TheConstants.{HANDLES_LIMIT}
 use Rattle.reg_heap.specs.declared.limits.TheConstants.{DATA_LIMIT, VALUES_LIMIT}
+use Rattle.reg_names.specs.declared.TheConstants.{PATH_LIMIT}
+use Rattle.reg_names.specs.Names.{path_of, is_path, is_value_name}
 use Rattle.reg_heap.specs.Paths.{Path, Tree, Member, children_of}
 use Rattle.reg_heap.specs.Members.{value_named}
-use Rattle.reg_heap.specs.Edits.{edited, with_value, without_value, values_at, folded_path, with_keys, missing, has_child, child_path, are_too_many, may_not_go, marks_of, without_key, IsKept}
-use Rattle.reg_model.specs.declared.limits.TheConstants.{HANDLES_LIMIT}
+use Rattle.reg_heap.specs.Edits.{edited, with_value, without_value, values_at, folded_path, with_keys, missing, are_too_many, may_not_go, marks_of, without_key, IsKept}
 use Rattle.reg_model.specs.Worlds.{Handle, At, look, path_from, closed, turned, same_path, after}
 use Rattle.reg_model.specs.Causes.{State, change_cause, handles_of, no_handle_room, no_value_room, is_full}
 use Rattle.reg_model.specs.Replies.{reply_to, disposition_of}
@@ -23,7 +20,6 @@ use Rattle.reg_model.specs.declared.call.Change.{Change}
 use Rattle.reg_model.specs.declared.call.Change.TheVariants.{OpenRoot, OpenKey, CreateKey, SetValue, DeleteValue, DeleteKey, Close}
 use Rattle.reg_model.proofs.AcceptedCalls.{Target, both_false, not_false, root-met, OpenMet, open-met, CreateMet, create-met, SetMet, set-met, DropMet, drop-met, DeleteMet, delete-met, close-met}
 use Rattle.reg_model.proofs.HandleInvariant.{Has, target-below}
-use Rattle.reg_model.proofs.LegalJournals.{numbered-push}
 use Rattle.reg_handles.specs.HandleTables.{Table}
 use Rattle.reg_tree.specs.TreeKeys.{Keys}
 use Rattle.reg_tree.specs.declared.fault.TreeFault.{TreeFault}
@@ -32,74 +28,8 @@ use Rattle.reg_calls.specs.declared.store.Store.{Store}
 use Rattle.reg_calls.specs.declared.lack.Lack.{Lack}
 use Rattle.reg_calls.specs.declared.lack.Lack.TheVariants.{Space, Memory as Short}
 use Rattle.reg_calls.specs.Internal.Stores.{at, IsReady, IsTarget, IsDone, IsMade, LacksSpace, is_closing}
-use Rattle.reg_calls.proofs.HandleLookUps.{by_handle-at, target-at, target-from, target-has}
-use Rattle.reg_calls.proofs.RefusalTests.{Refuses}
-
--- ---- handles
-
-some-none : {A : Type 0} (o : Option A) (a : A) → o ≡ None → o ≡ Some a → ⊥
-some-none None a e f = absurd (cc)
-some-none (Some x) a e f = absurd (cc)
-
--- a handle that leads to a key isn't refused
-pub not_refused_by : (store : Store) (session h status : ℕ) → IsTarget store session h → Refuses store session h status → ⊥
-not_refused_by store session h status t r = some-none _ status (by_handle-at store session h t (λ x. None)) (r (λ x. None))
-
-closed-all : (n : ℕ) (hs : List Handle) → AllByRecursion (λ (x : Handle). x.number < n) hs → (h : Handle) → h.number ≡ n → closed n (hs ++ h ∷ []) ≡ hs
-closed-all n [] b h e = rw (eq-eqb h.number n e) refl
-closed-all n (x ∷ hs) b h e = rw (ne_eqb x.number n (λ same. omega (arith, b.0))) (ap (λ (r : List Handle). x ∷ r) (closed-all n hs b.1 h e))
-
--- a handle that was added and closed leaves the others
-pub closed-push : (n : ℕ) (hs : List Handle) → All (λ (x : Handle). x.number < n) hs → (h : Handle) → h.number ≡ n → closed n (hs ++ h ∷ []) ≡ hs
-closed-push n hs all h e = closed-all n hs (recursion_from_All (λ (x : Handle). x.number < n) hs all) h e
-
--- its session has it
-pub look-push : (session n : ℕ) (hs : List Handle) → All (λ (x : Handle). x.number < n) hs → (h : Handle) → h.number ≡ n → h.session ≡ session → is_some (look session n (hs ++ h ∷ [])) ≡ true
-look-push session n hs all h e f =
-    rw (numbered-push n hs h e (recursion_from_All (λ (x : Handle). x.number < n) hs all), eq-eqb h.session session f) refl
-
-pub store-same : (store : Store) (tree : Keys) (handles : Table) → tree ≡ store.tree → handles.handles ≡ store.handles.handles → ◌≡◌ {A = Store} (record { tree = tree; handles = handles }) store
-store-same store tree handles a b = λ i. record { tree = a i; handles = record { handles = b i } }
-
--- ---- limits
-
-few-of : (count : ℕ) (a b c : Bool) → 0 < count → (nat_lt 0 count && (a || b || c)) ≡ false → b ≡ false
-few-of count a b c some e =
-    let t : nat_lt 0 count ≡ true = grind (arith, nat_tests, some) in
-    by a b c (sym (ap (λ (x : Bool). x && (a || b || c)) t) ∙ e)
-  where
-    by : (a b c : Bool) → (a || b || c) ≡ false → b ≡ false
-    by true b c e = absurd (true≢false e)
-    by false true c e = absurd (true≢false e)
-    by false false c e = refl
-
-not_above : (m n : ℕ) → nat_lt m n ≡ false → n ≤ m
-not_above m n e = grind (arith, nat_tests)
-
--- where no key is missing on a path, the last one is there
-there-step : (b : Bool) (t : Tree) (p : Path) (name : List ℕ) (names : List (List ℕ)) → has_child t p name ≡ b →
-    (missing t (child_path p name) names ≡ [] → Has t (child_path p name) → Has t (child_path p name ++ map folded names)) →
-    cond b (missing t (child_path p name) names) (name ∷ names) ≡ [] → Has t (child_path p name ++ map folded names)
-there-step true t p name names there on none = on none there
-there-step false t p name names there on none = absurd (cc)
-
-all-there : (t : Tree) (p : Path) (names : List (List ℕ)) → missing t p names ≡ [] → Has t p → Has t (p ++ map folded names)
-all-there t p [] e h = subst (Has t) (sym (append-nil p)) h
-all-there t p (name ∷ names) e h =
-    subst (Has t) (append_assoc p (folded name ∷ []) (map folded names)) (there-step (has_child t p name) t p name names refl (all-there t (child_path p name) names) e)
-
-path-short : (t : Tree) (p : Path) (names : List (List ℕ)) → ((q : Path) → Has t q → length q ≤ PATH_LIMIT) → Has t p → are_too_many t p names ≡ false → length (p ++ map folded names) ≤ PATH_LIMIT
-path-short t p names shallow h few = by (missing t p names) refl
-  where
-    by : (m : List (List ℕ)) → missing t p names ≡ m → length (p ++ map folded names) ≤ PATH_LIMIT
-    by [] e = shallow (p ++ map folded names) (all-there t p names e h)
-    by (x ∷ xs) e =
-        let some : 0 < length (missing t p names) = rw e (omega arith) in
-        let b = few-of (length (missing t p names)) _ (nat_lt PATH_LIMIT (length p + length names)) _ some few in
-        let l = not_above PATH_LIMIT (length p + length names) b in
-        let a = length-append p (map folded names) in
-        let m = length-map names folded in
-        omega (arith, l, a, m)
+use Rattle.reg_calls.proofs.HandleLookUps.{target-at, target-from, target-has}
+use Rattle.reg_calls.proofs.TableAndLimitLemmas.{not_above, path-short}
 
 -- ---- the calls
 

@@ -18,7 +18,7 @@ use Rattle.reg_shape.specs.Walk.{walk}
 use Rattle.reg_arena.specs.NewCells.{used, unused}
 use Rattle.reg_shape.specs.Nodes.{Node}
 use Rattle.reg_shape.specs.Nodes.Index.{Unlisted}
-use Rattle.reg_shape.proofs.Wholeness.WholeShapes.{is_key, all-at}
+use Rattle.reg_shape.proofs.Wholeness.ShapeRecords.{is_key, all-at}
 use Rattle.reg_shape.specs.Nodes.{look}
 use Rattle.reg_shape.specs.Spelt.{keys_from}
 use Rattle.reg_shape.specs.Written.{IsWrittenValue, AreWrittenValues}

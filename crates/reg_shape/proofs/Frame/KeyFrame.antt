@@ -18,7 +18,7 @@ use Rattle.reg_shape.proofs.Walking.IndexWalks.{then-open, map-open, as-key-list
 use Rattle.reg_shape.proofs.Walking.InnerReadings.{is_inner, AreInner, class-inner, members-inner}
 use Rattle.reg_shape.proofs.Walking.WalkRefinement.{IsLooked, look-open}
 use Rattle.reg_shape.proofs.Wholeness.ShapeCounts.{tally-append, nothing-met}
-use Rattle.reg_shape.proofs.Wholeness.WholeShapes.{own-here}
+use Rattle.reg_shape.proofs.Wholeness.ShapeRecords.{own-here}
 use Rattle.reg_shape.proofs.Frame.ReadingFrame.{Agree, pieces-local, members-local}
 
 -- the cells that are met as own hold the same

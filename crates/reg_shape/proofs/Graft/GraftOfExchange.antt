@@ -12,7 +12,7 @@ use Rattle.reg_shape.specs.Internal.Shapes.{owns, shares, StandsIn}
 use Rattle.reg_shape.specs.Internal.Exchanges.{IsExchanged}
 use Rattle.reg_shape.specs.Internal.Grafts.{IsShape, branch_at, IsRecounted, IsGrafted}
 use Rattle.reg_records.proofs.KeySecurityCodec.{security_at-same}
-use Rattle.reg_shape.proofs.Wholeness.WholeShapes.{at-most-one, all-at}
+use Rattle.reg_shape.proofs.Wholeness.ShapeRecords.{at-most-one, all-at}
 use Rattle.reg_shape.proofs.Frame.WrittenFrame.{same-held}
 use Rattle.reg_shape.proofs.Wholeness.WholeAfterExchange.{keep, forest-kept}
 use Rattle.reg_shape.proofs.Graft.Branches.{branch-total}

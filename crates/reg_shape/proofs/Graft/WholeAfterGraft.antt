@@ -17,7 +17,7 @@ use Rattle.reg_shape.specs.Whole.{IsRing, Links, Circles, count_at, descriptor_a
 use Rattle.reg_shape.specs.Internal.Shapes.{owns, shares, IsSeen, StandsIn, depth}
 use Rattle.reg_shape.specs.Internal.Exchanges.{IsAlike}
 use Rattle.reg_shape.specs.Internal.Grafts.{IsShape, branch_in, branch_at, graft_in, graft_at, IsRecounted, IsGrafted}
-use Rattle.reg_shape.proofs.Wholeness.WholeShapes.{at-most-one}
+use Rattle.reg_shape.proofs.Wholeness.ShapeRecords.{at-most-one}
 use Rattle.reg_shape.proofs.Frame.WrittenFrame.{seen-kept}
 use Rattle.reg_shape.proofs.Wholeness.WholeAfterExchange.{AreAlike, alike-self, fits-alike, forest-kept, all-members}
 use Rattle.reg_shape.proofs.Graft.Branches.{graft-way, branch-total}

@@ -13,7 +13,7 @@ use Rattle.reg_shape.specs.Spelt.{name_of, rec_of}
 use Rattle.reg_shape.specs.Internal.Shapes.{shares, StandsIn, descriptor_in, tree_of}
 use Rattle.reg_shape.specs.Internal.Exchanges.{is_named, found_in, found_at}
 use Rattle.reg_shape.specs.Internal.Grafts.{IsShape, branch_at, graft_at, hang, unhang, IsLeafAt, IsGrafted}
-use Rattle.reg_shape.proofs.Wholeness.WholeShapes.{shares-own}
+use Rattle.reg_shape.proofs.Wholeness.ShapeRecords.{shares-own}
 use Rattle.reg_shape.proofs.Refinement.SpeltTrees.{path_total, path_same}
 use Rattle.reg_shape.proofs.Refinement.RefinementAfterEdit.{same_name, same_path, same-cons, name-is}
 use Rattle.reg_shape.proofs.Graft.Branches.{its_key, branch-stands, branch-total, branch-found}

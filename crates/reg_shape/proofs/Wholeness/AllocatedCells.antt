@@ -14,7 +14,8 @@ use Rattle.reg_shape.specs.Walk.{gather, walk}
 use Rattle.reg_shape.specs.Whole.{IsAllocatedIn, Whole}
 use Rattle.reg_shape.proofs.Walking.WalkParts.{gather-open, walk-open, walk-none}
 use Rattle.reg_shape.proofs.Wholeness.FewerNumbers.{same-number}
-use Rattle.reg_shape.proofs.Wholeness.WholeShapes.{AreAtMost, whole-from-shape, spelt-from-shape}
+use Rattle.reg_shape.proofs.Wholeness.ShapeRecords.{AreAtMost}
+use Rattle.reg_shape.proofs.Wholeness.WholeShapes.{whole-from-shape, spelt-from-shape}
 use Rattle.reg_shape.specs.Internal.Forests.{Branch}
 use Rattle.reg_shape.specs.Nodes.{Node}
 use Rattle.reg_shape.specs.Spelt.{spelt}

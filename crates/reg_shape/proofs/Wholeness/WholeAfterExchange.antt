@@ -17,7 +17,7 @@ use Rattle.reg_shape.specs.Whole.{IsRing, Links, Circles, count_at, descriptor_a
 use Rattle.reg_shape.specs.Internal.Shapes.{cells_of, owns, shares, IsSeen, StandsIn, depth, IsWholeShape}
 use Rattle.reg_shape.specs.Internal.Exchanges.{is_named, found_in, found_at, edit_in, edit_at, IsAlike, IsExchanged}
 use Rattle.reg_records.proofs.KeySecurityCodec.{security_at-same}
-use Rattle.reg_shape.proofs.Wholeness.WholeShapes.{at-most-one}
+use Rattle.reg_shape.proofs.Wholeness.ShapeRecords.{at-most-one}
 use Rattle.reg_shape.proofs.Wholeness.FewerNumbers.{same-number}
 use Rattle.reg_shape.proofs.Frame.WrittenFrame.{seen-kept}
 

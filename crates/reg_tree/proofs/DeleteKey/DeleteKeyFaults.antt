@@ -22,7 +22,7 @@ use Rattle.reg_shape.specs.Internal.Shapes.{cells_of, owns}
 use Rattle.reg_shape.specs.Internal.Grafts.{IsShape, branch_at}
 use Rattle.reg_shape.proofs.Graft.Branches.{forest-branch-total}
 use Rattle.reg_shape.proofs.Refinement.RefinementOfChildren.{children-told}
-use Rattle.reg_shape.proofs.Wholeness.WholeShapes.{at-most-one}
+use Rattle.reg_shape.proofs.Wholeness.ShapeRecords.{at-most-one}
 use Rattle.reg_tree.specs.TreeKeys.{tree_in}
 use Rattle.reg_tree.specs.TreeInvariant.{IsHere}
 use Rattle.reg_tree.proofs.DeleteKey.DeletedKeyPosition.{key-owned}

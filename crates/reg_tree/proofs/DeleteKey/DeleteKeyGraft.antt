@@ -29,7 +29,7 @@ use Rattle.reg_shape.proofs.Frame.WrittenFrame.{same-held, list-kept}
 use Rattle.reg_shape.proofs.Lookup.LookupOfShape.{key-looked}
 use Rattle.reg_records.proofs.KeySecurityCodec.{security_at-same}
 use Rattle.reg_shape.proofs.Walking.WalkRefinement.{IsLooked}
-use Rattle.reg_shape.proofs.Wholeness.WholeShapes.{shared-here, shares-own, at-most-one, allocated-is}
+use Rattle.reg_shape.proofs.Wholeness.ShapeRecords.{shared-here, shares-own, at-most-one, allocated-is}
 use Rattle.reg_values.proofs.ValueFreeing.SwapChains.{times-same}
 use Rattle.reg_index.specs.Subkeys.{AreSubkeys, own, without}
 use Rattle.reg_index.proofs.RefinementOfSubkeys.{index_for, IsSingle, index-entries, subkeys-elsewhere}

@@ -14,7 +14,7 @@ use Rattle.reg_shape.proofs.Graft.Branches.{branch-stands, branch-total}
 use Rattle.reg_shape.proofs.Wholeness.ShapeCounts.{tally-append}
 use Rattle.reg_shape.proofs.Graft.ForestInsert.{leaf-at, total-unhang}
 use Rattle.reg_shape.proofs.Walking.WalkRefinement.{IsLooked, look-open}
-use Rattle.reg_shape.proofs.Wholeness.WholeShapes.{shares-own}
+use Rattle.reg_shape.proofs.Wholeness.ShapeRecords.{shares-own}
 use Rattle.reg_values.proofs.ValueFreeing.SwapChains.{times-same}
 use Rattle.reg_index.specs.Subkeys.{own}
 use Rattle.reg_index.proofs.SubkeysOpening.{length-subkeys}

@@ -34,7 +34,7 @@ use Rattle.reg_records.proofs.KeyNodeCodec.{key_at-same}
 use Rattle.reg_records.proofs.KeySecurityCodec.{security_at-same}
 use Rattle.reg_shape.proofs.Frame.WrittenFrame.{same-held}
 use Rattle.reg_shape.proofs.Walking.WalkRefinement.{IsLooked}
-use Rattle.reg_shape.proofs.Wholeness.WholeShapes.{at-most-one, shares-own}
+use Rattle.reg_shape.proofs.Wholeness.ShapeRecords.{at-most-one, shares-own}
 use Rattle.reg_shape.proofs.Graft.ForestInsert.{total-hang}
 use Rattle.reg_shape.proofs.Graft.ForestInsertFits.{all-inserted, all-before, all-behind, all-mapped, fits-hung, stands-hung, deep-hung}
 use Rattle.reg_shape.proofs.Refinement.RefinementAfterEdit.{same_path}

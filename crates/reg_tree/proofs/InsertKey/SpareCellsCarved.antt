@@ -26,7 +26,7 @@ use Rattle.reg_records.proofs.KeySecurityCodec.{security_at-same}
 use Rattle.reg_shape.proofs.Frame.WrittenFrame.{seen-kept, same-held}
 use Rattle.reg_shape.proofs.Refinement.SpeltTrees.{path_total, path_same}
 use Rattle.reg_shape.proofs.Wholeness.ShapeCounts.{tally-append}
-use Rattle.reg_shape.proofs.Wholeness.WholeShapes.{at-most-one}
+use Rattle.reg_shape.proofs.Wholeness.ShapeRecords.{at-most-one}
 use Rattle.reg_shape.proofs.Wholeness.WholeAfterExchange.{forest-kept}
 use Rattle.reg_shape.proofs.Graft.WholeAfterGraft.{grafted}
 use Rattle.reg_shape.proofs.Refinement.RefinementAfterGraft.{tree-same-below}

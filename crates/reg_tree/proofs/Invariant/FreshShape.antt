@@ -28,7 +28,7 @@ use Rattle.reg_shape.specs.Spelt.{rec_of, name_of, marks_of}
 use Rattle.reg_shape.specs.Internal.Shapes.{shares, IsSeen, descriptor_in, IsWholeShape}
 use Rattle.reg_records.proofs.KeySecurityCodec.{security_at-same}
 use Rattle.reg_shape.proofs.Wholeness.FewerNumbers.{same-number}
-use Rattle.reg_shape.proofs.Wholeness.WholeShapes.{allocated-is}
+use Rattle.reg_shape.proofs.Wholeness.ShapeRecords.{allocated-is}
 use Rattle.reg_tree.specs.TreeKeys.{made_root}
 use Rattle.reg_tree.specs.Internal.FreshCells.{AreCarved, IsOnlySecurity, IsFreshRoot}
 use Rattle.reg_tree.proofs.Invariant.CellReadings.{is_some_of}

@@ -15,7 +15,7 @@ use Rattle.reg_shape.specs.Internal.Shapes.{cells_of, owns, shares, descriptor_i
 use Rattle.reg_shape.specs.Internal.Grafts.{IsShape, branch_at}
 use Rattle.reg_shape.specs.Internal.PathLookup.{place_at}
 use Rattle.reg_shape.proofs.Walking.WalkRefinement.{IsLooked, look-open}
-use Rattle.reg_shape.proofs.Wholeness.WholeShapes.{shares-own}
+use Rattle.reg_shape.proofs.Wholeness.ShapeRecords.{shares-own}
 use Rattle.reg_shape.proofs.Graft.Branches.{branch-stands, branch-total, branch-depth}
 use Rattle.reg_shape.proofs.Lookup.LookupOfShape.{placed, key-looked}
 use Rattle.reg_shape.proofs.Refinement.RefinementAtPath.{told}

@@ -8,7 +8,7 @@ use Rattle.reg_shape.specs.Internal.Shapes.{index_cells}
 use Rattle.reg_shape.proofs.Wholeness.ShapeCounts.{tally-append}
 use Rattle.reg_shape.proofs.Walking.InnerReadings.{AreInner}
 use Rattle.reg_shape.proofs.Frame.KeyFrame.{inner-own}
-use Rattle.reg_shape.proofs.Wholeness.WholeShapes.{own-here}
+use Rattle.reg_shape.proofs.Wholeness.ShapeRecords.{own-here}
 
 -- ---- what a key has as its own, and as its security
 

@@ -12,7 +12,7 @@ use Rattle.reg_shape.specs.Written.{Fits}
 use Rattle.reg_shape.specs.Internal.Shapes.{index_cells, cells_of, owns, IsSeen}
 use Rattle.reg_shape.proofs.Walking.WalkRefinement.{look-open}
 use Rattle.reg_shape.proofs.Wholeness.FewerNumbers.{same-number}
-use Rattle.reg_shape.proofs.Wholeness.WholeShapes.{at-most-one, allocated-is}
+use Rattle.reg_shape.proofs.Wholeness.ShapeRecords.{at-most-one, allocated-is}
 use Rattle.reg_index.proofs.RefinementOfSubkeys.{IsSingle}
 use Rattle.reg_index.specs.Subkeys.{Moves}
 use Rattle.reg_tree.specs.TreeInvariant.{is_rooted}

@@ -17,7 +17,7 @@ use Rattle.reg_shape.proofs.Walking.InnerReadings.{class-inner, members-inner}
 use Rattle.reg_shape.proofs.Frame.ReadingFrame.{pieces-local, members-local}
 use Rattle.reg_shape.proofs.Frame.KeyFrame.{Keeps, agree-inner, index-local}
 use Rattle.reg_shape.proofs.Frame.WrittenFrame.{same-held, list-kept}
-use Rattle.reg_shape.proofs.Wholeness.WholeShapes.{at-most-one, allocated-is}
+use Rattle.reg_shape.proofs.Wholeness.ShapeRecords.{at-most-one, allocated-is}
 use Rattle.reg_values.specs.ValueLists.{Became}
 use Rattle.reg_tree.specs.Internal.KeyNodeChanges.{Notes, noted}
 use Rattle.reg_tree.proofs.Invariant.OwnCells.{own-parts, shared-parts, inner-unshared, key-here}

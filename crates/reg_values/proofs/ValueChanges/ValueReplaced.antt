@@ -24,7 +24,9 @@ use Rattle.reg_values.specs.ValueLists.{Makes}
 use Rattle.reg_values.specs.ValueSizes.{cell_size, stays, data_sizes, new_data_sizes}
 use Rattle.reg_values.specs.Internal.ValueListParts.{Fills, HoldsData, Owns, OwnsBeside, GivesUpRead, BecameValue, Keeps}
 use Rattle.reg_values.proofs.ValueListing.FoundValues.{member-open, name-told, record-there, is-some}
-use Rattle.reg_values.proofs.ValueData.DataPieces.{le-false, segment-is, data-there}
+use Rattle.reg_values.proofs.ValueData.DataPieces.{le-false}
+use Rattle.reg_values.proofs.ValueData.SegmentReading.{segment-is}
+use Rattle.reg_values.proofs.ValueData.DataForms.{data-there}
 use Rattle.reg_values.proofs.ValueFreeing.SwapChains.{times-same, swaps-then, swaps-with, writes-in, kept-apart, agree-apart, allocated-le, there-one, one-there}
 use Rattle.reg_values.proofs.ValueFreeing.FreedRuns.{member-parts, member-data, member-owned, one-owned}
 use Rattle.reg_values.proofs.ValueData.StoredData.{one-fills, one-holds}

@@ -1,8 +1,8 @@
 -- The data of a value, in pieces.
-use Rattle.std.proofs.Common.{◌≡◌, ℕ, zero, suc, ◌+◌, ◌-◌, ◌*◌, ◌<◌, ◌≤◌, ◌==◌, nat_le, min, not, cond, Bool, true, false, Some, None, IsSome, List, [], ◌∷◌, ◌++◌, length, drop, take}
-use Rattle.std.proofs.Common.{get_or, refl, sym, ap, ◌∙◌, subst, arith, length-append, length-take, add-one, append_assoc}
+use Rattle.std.proofs.Common.{◌≡◌, ℕ, zero, suc, ◌+◌, ◌-◌, ◌*◌, ◌<◌, ◌≤◌, ◌==◌, nat_le, min, cond, Bool, true, false, Some, IsSome, List, [], ◌∷◌, ◌++◌, length, take}
+use Rattle.std.proofs.Common.{refl, sym, ap, ◌∙◌, subst, arith, length-append, length-take}
 use Rattle.std.specs.List.{concat}
-use Rattle.std.proofs.lemmas.Option.{none-some, same_Some}
+use Rattle.std.proofs.lemmas.Option.{same_Some}
 use Rattle.std.proofs.lemmas.Bool.{leb-true, le-leb}
 use Rattle.std.proofs.lemmas.List.{append-nil}
 use Rattle.byteorder.specs.Endian.{little_bytes}
@@ -11,21 +11,13 @@ use Rattle.reg_heap.specs.Internal.Kinds.{Found, owned, times}
 use Rattle.reg_heap.specs.Internal.Kinds.Kind.{BigHead, BigList, Segment, Data}
 use Rattle.reg_shape.specs.Internal.Readings.{◌>>=◌, give, given, cell, guard, each}
 use Rattle.reg_shape.proofs.Walking.ReadingParts.{bind-open, bind-made, given-open, given-made, cell-open, cell-made, each-open, guard-open, guard-made}
-use Rattle.std.specs.Prelude.{bit_and, Ok, Err}
-use Rattle.std.specs.Result.{result_ok}
-use Rattle.reg_records.specs.declared.RecordFault.{RecordFault}
-use Rattle.reg_heap.specs.Paths.{Member}
-use Rattle.reg_records.specs.declared.db.TheConstants.{SEGMENT_SIZE}
-use Rattle.reg_records.specs.KeyValues.{KeyValueRecord, value_record_at}
-use Rattle.reg_shape.specs.Written.{IsWrittenData}
 use Rattle.reg_records.specs.RecordCells.{held}
-use Rattle.reg_records.specs.declared.vk.ValueFields.{ValueFields}
-use Rattle.reg_records.specs.OffsetRows.{row_in, offsets_at, offset_in}
-use Rattle.reg_records.specs.BigData.{Named, named, if_any, BigData, segment_size, is_inline, inline_size, segments_for, segments, db_of, db_in}
-use Rattle.reg_shape.specs.Nodes.{bytes_at, pieces_at, row_at, big_in, big_at, data_by, data_at, letters}
+use Rattle.reg_records.specs.OffsetRows.{row_in, offsets_at}
+use Rattle.reg_records.specs.BigData.{Named, named, BigData, segment_size, inline_size, segments_for, segments, db_of}
+use Rattle.reg_shape.specs.Nodes.{bytes_at, pieces_at, row_at, big_in, big_at, data_by}
 use Rattle.reg_shape.proofs.Walking.ReadingWalks.{row-open}
 use Rattle.reg_shape.proofs.Frame.WrittenFrame.{row-is}
-use Rattle.reg_values.proofs.ValueListing.FoundValues.{is-some, some-of, held-is, here-held, row-long, row-in, Stands, IsMember, member-open, name-told}
+use Rattle.reg_values.proofs.ValueListing.FoundValues.{is-some, held-is, here-held, row-long, row-in}
 use Rattle.reg_values.proofs.ValueListing.ValueListOpening.{length-offsets}
 
 pub le-false : (m n : ℕ) → n < m → nat_le m n ≡ false
@@ -225,173 +217,3 @@ data-length heap false false size place bytes zs e =
     let b = big-open heap size place bytes zs e in
     segments-length heap size (offsets_at (segments_for size) 0 (held heap b.big.list)) bytes b.cells
     (subst (λ n. size ≤ segment_size * n) (sym (length-offsets (segments_for size) 0 (held heap b.big.list))) (enough-segments size)) b.pieces
-
--- ---- a value as it is told
-
-module _ (heap : Heap) (place : ℕ) (members : List Member) (index : ℕ) (s : Stands heap place members index) (fields : ValueFields) (name : List ℕ)
-    (e : value_record_at heap (offset_in (held heap place) index) ≡ Some (record { fields = fields; name = name })) where
-  abbrev value : KeyValueRecord
-  value = record { fields = fields; name = name }
-
-  pub opened : IsMember heap (offset_in (held heap place) index) s.member s.cells
-  opened = member-open heap (offset_in (held heap place) index) s.member s.cells s.reads
-
-  same : opened.value ≡ value
-  same = same_Some _ _ (sym opened.reads ∙ e)
-
-  pub told-name : s.member.name ≡ name
-  told-name =
-      let w : s.written.value ≡ value = same_Some _ _ (sym s.written.reads ∙ e) in
-      let flags : fields.flags ≡ cond (length name == 0) 0 1 = subst (λ (v : KeyValueRecord). v.fields.flags ≡ cond (length v.name == 0) 0 1) w s.written.flags in
-      ap (λ (m : Member). m.name) opened.is ∙ (ap (λ (v : KeyValueRecord). letters (not (bit_and v.fields.flags 1 == 0)) v.name) same ∙ name-told fields.flags name flags)
-
-  pub told-kind : s.member.kind ≡ fields.kind
-  told-kind = ap (λ (m : Member). m.kind) opened.is ∙ ap (λ (v : KeyValueRecord). v.fields.kind) same
-
-  pub told-data : data_at fields heap ≡ Some (s.member.bytes, opened.cells)
-  told-data = ap (λ (v : KeyValueRecord). data_at v.fields heap) (sym same) ∙ opened.data_is
-
-  pub told-size : length s.member.bytes ≡ cond (is_inline fields.size) (inline_size fields.size) fields.size
-  told-size = data-length heap (is_inline fields.size) (nat_le fields.size segment_size) fields.size fields.place s.member.bytes opened.cells told-data
-
-  pub told-written : IsWrittenData heap fields
-  told-written = subst (λ (v : KeyValueRecord). IsWrittenData heap v.fields) (same_Some _ _ (sym s.written.reads ∙ e)) s.written.data_is
-
--- ---- segments that are joined, one after the other
-
-pub record Joined (heap : Heap) (size i : ℕ) (row done bytes : List ℕ) : Type 0 where
-  pub rest : List ℕ
-  pub cells : List Found
-  pub reads : pieces_at (segments (size - segment_size * i) (drop i row)) heap ≡ Some (rest, cells)
-  pub is : bytes ≡ done ++ rest
-
-pub joined-none : (heap : Heap) (size : ℕ) (row bytes : List ℕ) (zs : List Found) → pieces_at (segments size row) heap ≡ Some (bytes, zs) → Joined heap size 0 row [] bytes
-joined-none heap size row bytes zs e =
-    let n : size - segment_size * 0 ≡ size = omega arith in
-    record { rest = bytes; cells = zs; reads = ap (λ s. pieces_at (segments s row) heap) n ∙ e; is = refl }
-
-drop-next : (row : List ℕ) (i : ℕ) → i < length row → drop i row ≡ get_or row i 0 ∷ drop (suc i) row
-drop-next [] i l = absurd (omega arith)
-drop-next (o ∷ row) zero l = refl
-drop-next (o ∷ row) (suc i) l = drop-next row i (omega arith)
-
--- the next one, and what is joined with it
-pub record JoinedNext (heap : Heap) (size i : ℕ) (row done bytes : List ℕ) : Type 0 where
-  pub content : List ℕ
-  pub here : heap (get_or row i 0) ≡ Some content
-  pub long : min segment_size (size - segment_size * i) ≤ length content
-  pub more : Joined heap size (i + 1) row (done ++ take (min segment_size (size - segment_size * i)) content) bytes
-
-pub joined-next : (heap : Heap) (size i : ℕ) (row done bytes : List ℕ) → i < length row → Joined heap size i row done bytes → JoinedNext heap size i row done bytes
-joined-next heap size i row done bytes l j =
-    let left : ℕ = size - segment_size * i in
-    let e : pieces_at (segments left (get_or row i 0 ∷ drop (suc i) row)) heap ≡ Some (j.rest, j.cells) = ap (λ xs. pieces_at (segments left xs) heap) (sym (drop-next row i l)) ∙ j.reads in
-    let p = piece-open heap (named Segment (min segment_size left) (get_or row i 0)) (segments (left - segment_size) (drop (suc i) row)) j.rest j.cells e in
-    record {
-      content = p.content;
-      here = p.here;
-      long = p.long;
-      more = record {
-        rest = p.rest;
-        cells = p.cells;
-        reads = ap (λ n. pieces_at (segments (size - segment_size * n) (drop n row)) heap) (add-one i) ∙
-            (ap (λ s. pieces_at (segments s (drop (suc i) row)) heap) (sym (next-size segment_size size i)) ∙ p.rest_is);
-        is = j.is ∙ (ap (λ xs. done ++ xs) p.is ∙ sym (append_assoc done (take (min segment_size left) p.content) p.rest));
-      };
-    }
-
-drop-all : (row : List ℕ) (i : ℕ) → length row ≤ i → drop i row ≡ []
-drop-all [] zero l = refl
-drop-all [] (suc i) l = refl
-drop-all (x ∷ row) zero l = absurd (omega arith)
-drop-all (x ∷ row) (suc i) l = drop-all row i (omega arith)
-
-pub joined-all : (heap : Heap) (size i : ℕ) (row done bytes : List ℕ) → length row ≤ i → Joined heap size i row done bytes → done ≡ bytes
-joined-all heap size i row done bytes l j =
-    let e : pieces_at [] heap ≡ Some (j.rest, j.cells) = ap (λ xs. pieces_at (segments (size - segment_size * i) xs) heap) (sym (drop-all row i l)) ∙ j.reads in
-    sym (j.is ∙ (ap (λ xs. done ++ xs) (pieces-none heap j.rest j.cells e).0 ∙ append-nil done))
-
-pub segment-is : segment_size ≡ SEGMENT_SIZE
-unfolding segment_size
-segment-is = refl
-
-pub count-is : (size i n : ℕ) → n ≡ min (size - SEGMENT_SIZE * i) SEGMENT_SIZE → n ≡ min segment_size (size - segment_size * i)
-unfolding segment_size
-count-is size i n e = omega (arith, e)
-
-pub within : (size i count : ℕ) → count ≡ segments_for size → i < count → SEGMENT_SIZE * i ≤ size
-unfolding segment_size
-within size i count e l = omega (arith, e, l)
-
--- ---- big data records, read
-
-pub db-read : (heap : Heap) (offset : ℕ) (content : List ℕ) (big : BigData) → heap offset ≡ Some content → db_in content ≡ Ok big → db_of (held heap offset) ≡ Some big
-unfolding db_of
-db-read heap offset content big e d = ap (λ c. result_ok (db_in c)) (held-is heap offset content e) ∙ ap result_ok d
-
-pub no-db-fault : (heap : Heap) (offset : ℕ) (content : List ℕ) (fault : RecordFault) → heap offset ≡ Some content → db_in content ≡ Err fault → IsSome (db_of (held heap offset)) → ⊥
-unfolding db_of
-no-db-fault heap offset content fault e d s =
-    let none : db_of (held heap offset) ≡ None = ap (λ c. result_ok (db_in c)) (held-is heap offset content e) ∙ ap result_ok d in
-    let x = some-of (db_of (held heap offset)) s in
-    none-some _ (sym none ∙ x.1)
-
--- ---- the forms of data
-
-module _ (heap : Heap) (fields : ValueFields) (all : List ℕ) (met : List Found) (e : data_at fields heap ≡ Some (all, met)) where
-  data-as : (i s : Bool) → is_inline fields.size ≡ i → nat_le fields.size segment_size ≡ s → data_by i s fields.size fields.place heap ≡ Some (all, met)
-  data-as i s p q = ap (λ i. data_by i s fields.size fields.place heap) (sym p) ∙ (ap (λ s. data_by (is_inline fields.size) s fields.size fields.place heap) (sym q) ∙ e)
-
-  pub inline-data : 2147483648 ≤ fields.size → (all ≡ take (inline_size fields.size) (little_bytes 4 fields.place)) × (inline_size fields.size ≤ 4) × (met ≡ [])
-  inline-data l =
-      let d = data-as true (nat_le fields.size segment_size) (le-leb _ _ l) refl in
-      let g = guard-open (nat_le (inline_size fields.size) 4) (give (take (inline_size fields.size) (little_bytes 4 fields.place))) heap (all, met) d in
-      let p : ◌≡◌ {A = List ℕ × List Found} (take (inline_size fields.size) (little_bytes 4 fields.place), []) (all, met) = same_Some _ _ g.1 in
-      (sym (ap (λ (p : List ℕ × List Found). p.0) p), leb-true _ _ g.0, sym (ap (λ (p : List ℕ × List Found). p.1) p))
-
-  far : fields.size < 2147483648 → is_inline fields.size ≡ false
-  far l = le-false 2147483648 fields.size l
-
-  pub small-data : fields.size ≤ SEGMENT_SIZE → pieces_at (if_any Data fields.size fields.place) heap ≡ Some (all, met)
-  unfolding segment_size
-  small-data l = data-as false true (far (omega arith)) (le-leb _ _ l)
-
-  pub no-data : fields.size ≡ 0 → (all ≡ []) × (met ≡ [])
-  no-data z = pieces-none heap all met (ap (λ s. pieces_at (if_any Data s fields.place) heap) (sym z) ∙ small-data (omega arith))
-
-  pub big-data : SEGMENT_SIZE < fields.size → fields.size < 2147483648 → big_at fields.size fields.place heap ≡ Some (all, met)
-  unfolding segment_size
-  big-data l m = data-as false false (far m) (le-false fields.size segment_size l)
-
--- data in one cell
-pub record IsOne (heap : Heap) (place size : ℕ) (all : List ℕ) (met : List Found) : Type 0 where
-  pub content : List ℕ
-  pub here : heap place ≡ Some content
-  pub long : size ≤ length content
-  pub is : all ≡ take size content
-  pub met_is : met ≡ record { kind = Data; offset = place } ∷ []
-
-pub one-data : (heap : Heap) (fields : ValueFields) (all : List ℕ) (met : List Found) → data_at fields heap ≡ Some (all, met) → 0 < fields.size →
-    fields.size ≤ SEGMENT_SIZE → IsOne heap fields.place fields.size all met
-one-data heap fields all met e pos l = by fields.size refl (small-data heap fields all met e l)
-  where
-    by : (s : ℕ) → s ≡ fields.size → pieces_at (if_any Data s fields.place) heap ≡ Some (all, met) → IsOne heap fields.place s all met
-    by zero z p = absurd (omega arith)
-    by (suc n) z p =
-        let o = piece-open heap (named Data (suc n) fields.place) [] all met p in
-        let r = pieces-none heap o.rest o.cells o.rest_is in
-        record {
-          content = o.content;
-          here = o.here;
-          long = o.long;
-          is = o.is ∙ (ap (λ xs. take (suc n) o.content ++ xs) r.0 ∙ append-nil _);
-          met_is = o.met ∙ ap (λ xs. record { kind = Data; offset = fields.place } ∷ xs) r.1;
-        }
-
--- data of at most 16,344 bytes that isn't inline has a cell
-pub data-there : (heap : Heap) (fields : ValueFields) (all : List ℕ) (met : List Found) → data_at fields heap ≡ Some (all, met) →
-    IsWrittenData heap fields → fields.size ≤ SEGMENT_SIZE → IsSome (heap fields.place)
-data-there heap fields all met e w l =
-    let f = w.far (le-false 2147483648 fields.size (omega arith)) in
-    let o = one-data heap fields all met e (omega (arith, f)) l in
-    is-some _ o.content o.here

@@ -18,7 +18,8 @@ use Rattle.reg_shape.specs.Nodes.{pieces_at}
 use Rattle.reg_records.proofs.SplicedNumbers.{length-splice}
 use Rattle.reg_values.specs.Internal.ValueListParts.{Fills}
 use Rattle.reg_values.proofs.ValueListing.FoundValues.{held-is}
-use Rattle.reg_values.proofs.ValueData.DataPieces.{piece-made, segment-is, times-suc}
+use Rattle.reg_values.proofs.ValueData.DataPieces.{piece-made, times-suc}
+use Rattle.reg_values.proofs.ValueData.SegmentReading.{segment-is}
 use Rattle.reg_values.proofs.ValueFreeing.SwapChains.{there-one, one-there, writes-in}
 
 -- ---- one cell

@@ -12,7 +12,7 @@ use Rattle.reg_records.specs.BigData.{segment_size, segments_for}
 use Rattle.reg_values.specs.Internal.ValueListParts.{HaveRoom}
 use Rattle.reg_values.specs.ValueSizes.{cell_size, segment_sizes, data_sizes}
 use Rattle.reg_values.proofs.ValueListing.FoundValues.{is-some, held-is}
-use Rattle.reg_values.proofs.ValueData.DataPieces.{segment-is}
+use Rattle.reg_values.proofs.ValueData.SegmentReading.{segment-is}
 use Rattle.reg_values.proofs.ValueFreeing.SwapChains.{allocated-le}
 use Rattle.reg_values.proofs.ValueChanges.PlannedSizes.{one-size, big-sizes}
 

@@ -19,7 +19,8 @@ use Rattle.reg_records.specs.BigData.{named, if_any, segment_size, inline_size, 
 use Rattle.reg_shape.specs.Nodes.{pieces_at, data_by}
 use Rattle.reg_values.specs.Internal.ValueListParts.{Fills, HoldsData}
 use Rattle.reg_values.specs.ValueSizes.{data_sizes}
-use Rattle.reg_values.proofs.ValueData.DataPieces.{le-false, piece-made, big-made, segments-owned, segment-is}
+use Rattle.reg_values.proofs.ValueData.DataPieces.{le-false, piece-made, big-made, segments-owned}
+use Rattle.reg_values.proofs.ValueData.SegmentReading.{segment-is}
 use Rattle.reg_values.proofs.ValueFreeing.SwapChains.{times-same}
 use Rattle.reg_values.proofs.ValueData.FilledCells.{fills-in, fills-then, fills-there, fills-room, fills-same, written-here, fills-written}
 use Rattle.reg_values.proofs.ValueChanges.PlannedSizes.{few-sizes}

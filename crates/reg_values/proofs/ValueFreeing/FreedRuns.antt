@@ -13,7 +13,8 @@ use Rattle.reg_records.specs.BigData.{BigData, segments_for, db_of}
 use Rattle.reg_shape.specs.Nodes.{big_at, data_at, member_at}
 use Rattle.reg_values.specs.Internal.ValueListParts.{Owns}
 use Rattle.reg_values.proofs.ValueListing.FoundValues.{IsMember, member-open}
-use Rattle.reg_values.proofs.ValueData.DataPieces.{IsBig, big-open, segments-owned, one-data}
+use Rattle.reg_values.proofs.ValueData.DataPieces.{IsBig, big-open, segments-owned}
+use Rattle.reg_values.proofs.ValueData.DataForms.{one-data}
 use Rattle.reg_values.proofs.ValueFreeing.SwapChains.{times-same, times-append, allocated-le, one-there, swaps-none, swaps-then, swaps-with, kept-apart}
 
 take-suc : (row : List ℕ) (i : ℕ) → i < length row → take (suc i) row ≡ take i row ++ get_or row i 0 ∷ []

@@ -1,6 +1,7 @@
 use Rattle.std.proofs.Common.{lit≤}
 use Rattle.byteorder.specs.Endian.{little_bytes}
-use Rattle.reg_records.proofs.KeyNodeCodec.{key-room, key-changed, nk-timed}
+use Rattle.reg_records.proofs.KeyNodeCodec.{key-room, key-changed}
+use Rattle.reg_records.proofs.KeyNodeFieldWrites.{nk-timed}
 use Rattle.reg_records.proofs.PlainRecords.{plain-timed}
 use Rattle.reg_records.proofs.nk.set_time.Goals as goal
 

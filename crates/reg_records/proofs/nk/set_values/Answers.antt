@@ -1,6 +1,7 @@
 use Rattle.std.proofs.Common.{◌++◌, lit≤}
 use Rattle.byteorder.specs.Endian.{little_bytes}
-use Rattle.reg_records.proofs.KeyNodeCodec.{key-room, key-changed, nk-valued}
+use Rattle.reg_records.proofs.KeyNodeCodec.{key-room, key-changed}
+use Rattle.reg_records.proofs.KeyNodeFieldWrites.{nk-valued}
 use Rattle.reg_records.proofs.PlainRecords.{plain-valued}
 use Rattle.reg_records.proofs.nk.set_values.Goals as goal
 

@@ -1,5 +1,5 @@
 use Rattle.reg_arena.specs.Cells.{cell_at}
-use Rattle.reg_values.proofs.ValueData.DataPieces.{db-read, no-db-fault}
+use Rattle.reg_values.proofs.ValueData.SegmentReading.{db-read, no-db-fault}
 use Rattle.reg_values.proofs.big.big_at.Goals as goal
 
 pub unreachable-requires : goal.unreachable-requires

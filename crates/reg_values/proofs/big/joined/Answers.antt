@@ -6,7 +6,7 @@ use Rattle.reg_records.specs.OffsetRows.{offsets_at}
 use Rattle.reg_records.specs.BigData.{segments_for}
 use Rattle.reg_values.proofs.ValueListing.ValueListOpening.{length-offsets}
 use Rattle.reg_values.proofs.ValueListing.FoundValues.{is-some, some-of, offset-of}
-use Rattle.reg_values.proofs.ValueData.DataPieces.{Joined, joined-none, joined-next, joined-all, count-is, within}
+use Rattle.reg_values.proofs.ValueData.SegmentReading.{Joined, joined-none, joined-next, joined-all, count-is, within}
 use Rattle.reg_values.proofs.big.joined.Goals as goal
 
 pub loop-index-init : goal.loop-index-init

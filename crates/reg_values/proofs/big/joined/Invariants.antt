@@ -5,7 +5,7 @@ use Rattle.reg_records.specs.RecordCells.{held}
 use Rattle.reg_records.specs.OffsetRows.{offsets_at}
 use Rattle.reg_records.specs.BigData.{segments_for}
 use Rattle.reg_values.specs.Internal.ValueListParts.{segments_at}
-use Rattle.reg_values.proofs.ValueData.DataPieces.{Joined}
+use Rattle.reg_values.proofs.ValueData.SegmentReading.{Joined}
 use Rattle.reg_values.proofs.big.joined.Given as goal
 
 abbrev pub invariant-loop-index : goal.invariant-loop-index

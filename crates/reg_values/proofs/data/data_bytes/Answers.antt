@@ -4,7 +4,7 @@ use Rattle.reg_heap.specs.Internal.Kinds.{Found}
 use Rattle.reg_arena.specs.Cells.{cell_at}
 use Rattle.reg_shape.specs.Nodes.{big_at, data_at}
 use Rattle.reg_values.proofs.ValueListing.FoundValues.{is-some, some-of, is-ok}
-use Rattle.reg_values.proofs.ValueData.DataPieces.{big-data, one-data}
+use Rattle.reg_values.proofs.ValueData.DataForms.{big-data, one-data}
 use Rattle.reg_values.proofs.data.data_bytes.Goals as goal
 
 pub big_bytes-requires-clause-big : goal.big_bytes-requires-clause-big

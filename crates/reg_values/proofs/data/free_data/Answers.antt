@@ -1,7 +1,7 @@
 use Rattle.std.proofs.Common.{arith}
 use Rattle.reg_heap.specs.Internal.Kinds.{owned}
 use Rattle.reg_arena.specs.Cells.{cell_at}
-use Rattle.reg_values.proofs.ValueData.DataPieces.{big-data}
+use Rattle.reg_values.proofs.ValueData.DataForms.{big-data}
 use Rattle.reg_values.proofs.ValueFreeing.FreedRuns.{gone-as, one-owned}
 use Rattle.reg_values.proofs.data.free_data.Goals as goal
 

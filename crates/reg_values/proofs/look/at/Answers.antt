@@ -2,7 +2,7 @@ use Rattle.std.proofs.Common.{sym, ap, ◌∙◌}
 use Rattle.reg_arena.specs.Cells.{cell_at}
 use Rattle.reg_records.specs.KeyValues.{value_record_at}
 use Rattle.reg_values.proofs.ValueListing.FoundValues.{is-some, stands}
-use Rattle.reg_values.proofs.ValueData.DataPieces.{told-name, told-kind, told-size}
+use Rattle.reg_values.proofs.ValueData.DataForms.{told-name, told-kind, told-size}
 use Rattle.reg_values.proofs.look.at.Goals as goal
 
 pub cell_of-requires-clause-list : goal.cell_of-requires-clause-list

@@ -4,7 +4,7 @@ use Rattle.reg_arena.specs.Cells.{cell_at}
 use Rattle.reg_records.specs.KeyValues.{value_record_at}
 use Rattle.reg_values.proofs.ValueListing.ValueListOpening.{members-length}
 use Rattle.reg_values.proofs.ValueListing.FoundValues.{is-some, stands, add-none, passed, met-here, none-left, same-is}
-use Rattle.reg_values.proofs.ValueData.DataPieces.{told-name}
+use Rattle.reg_values.proofs.ValueData.DataForms.{told-name}
 use Rattle.reg_values.proofs.look.find.Goals as goal
 
 pub loop-index-init : goal.loop-index-init

@@ -3,7 +3,7 @@ use Rattle.reg_arena.specs.Cells.{cell_at}
 use Rattle.reg_records.specs.KeyValues.{value_record_at}
 use Rattle.reg_values.specs.ValueSizes.{data_sizes, stays, sizes_by, set_sizes}
 use Rattle.reg_values.proofs.ValueListing.FoundValues.{is-some, named-stands, list-there, is-ok}
-use Rattle.reg_values.proofs.ValueData.DataPieces.{told-data, told-written, data-there}
+use Rattle.reg_values.proofs.ValueData.DataForms.{told-data, told-written, data-there}
 use Rattle.reg_values.proofs.ValueChanges.PlannedSizes.{sizes-some, sizes-none}
 use Rattle.reg_values.proofs.plan.plan_set.Goals as goal
 

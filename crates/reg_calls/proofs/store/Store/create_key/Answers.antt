@@ -1,7 +1,8 @@
 use Rattle.std.proofs.Common.{◌≡◌, true, is_some, List, subst, refl, sym, ap, ◌∙◌, Some, Err, ℕ, true≢false}
 use Rattle.reg_model.specs.Worlds.{Handle, look, closed}
 use Rattle.reg_model.specs.declared.call.Change.TheVariants.{CreateKey}
-use Rattle.reg_calls.proofs.StoreAfterChange.{create-target, create-path, create-room, create-short, create-few, create-done, not_refused_by, look-push, closed-push, store-same}
+use Rattle.reg_calls.proofs.TableAndLimitLemmas.{not_refused_by, look-push, closed-push, store-same}
+use Rattle.reg_calls.proofs.StoreAfterChange.{create-target, create-path, create-room, create-short, create-few, create-done}
 use Rattle.reg_calls.proofs.StoreAfterChange.{disposition-is, is_lack, lacking, opening}
 use Rattle.reg_calls.proofs.store.Store.create_key.Goals as goal
 

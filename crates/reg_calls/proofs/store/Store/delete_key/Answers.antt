@@ -1,7 +1,8 @@
 use Rattle.std.proofs.Common.{ap, ◌∙◌, List, ℕ}
 use Rattle.reg_names.specs.Names.{path_of}
 use Rattle.reg_model.specs.Worlds.{turned}
-use Rattle.reg_calls.proofs.StoreAfterChange.{delete-target, delete-path, delete-there, delete-refused, delete-done, not_refused_by}
+use Rattle.reg_calls.proofs.TableAndLimitLemmas.{not_refused_by}
+use Rattle.reg_calls.proofs.StoreAfterChange.{delete-target, delete-path, delete-there, delete-refused, delete-done}
 use Rattle.reg_calls.proofs.store.Store.delete_key.Goals as goal
 
 pub path_to-requires-clause-target : goal.path_to-requires-clause-target

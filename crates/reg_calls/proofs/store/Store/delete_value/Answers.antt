@@ -1,4 +1,5 @@
-use Rattle.reg_calls.proofs.StoreAfterChange.{drop-target, drop-there, drop-done, not_refused_by}
+use Rattle.reg_calls.proofs.TableAndLimitLemmas.{not_refused_by}
+use Rattle.reg_calls.proofs.StoreAfterChange.{drop-target, drop-there, drop-done}
 use Rattle.reg_calls.proofs.store.Store.delete_value.Goals as goal
 
 pub unreachable-requires : goal.unreachable-requires

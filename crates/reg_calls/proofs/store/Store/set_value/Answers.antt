@@ -1,5 +1,6 @@
 use Rattle.std.proofs.Common.{ap, Err}
-use Rattle.reg_calls.proofs.StoreAfterChange.{set-target, set-name, set-bytes, set-room, set-done, not_refused_by, is_lack}
+use Rattle.reg_calls.proofs.TableAndLimitLemmas.{not_refused_by}
+use Rattle.reg_calls.proofs.StoreAfterChange.{set-target, set-name, set-bytes, set-room, set-done, is_lack}
 use Rattle.reg_calls.proofs.store.Store.set_value.Goals as goal
 
 pub unreachable-requires : goal.unreachable-requires
