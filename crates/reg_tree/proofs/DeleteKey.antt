@@ -3,6 +3,7 @@ pub mod SubkeyUnlinked
 pub mod DeletedKeyCells
 pub mod DeletedKeyPosition
 pub mod DeletedKeyParent
+pub mod DeleteKeyFrame
 pub mod DeleteKeyGraft
 pub mod DeleteKeyObligations
 pub mod DeleteKeyFaults

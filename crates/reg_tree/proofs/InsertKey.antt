@@ -2,6 +2,9 @@
 pub mod MadeKeyRecord
 pub mod ParentReindexed
 pub mod SubkeyByName
+pub mod InsertKeyFrame
+pub mod InsertKeyCells
+pub mod InsertKeyGraft
 pub mod InsertKeyLemmas
 pub mod PathNameCount
 pub mod PathCarve

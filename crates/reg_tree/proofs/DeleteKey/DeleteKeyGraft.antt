@@ -1,49 +1,38 @@
 -- A key taken from its parent and its cells given up, as a graft of the parent's branch.
-use Rattle.std.proofs.Common.{◌≡◌, ◌⊎◌, inl, inr, ◌↔◌, ℕ, zero, suc, ◌+◌, ◌-◌, ◌%◌, ◌<◌, ◌≤◌, cond, is_some, Option, Some, IsSome, List, [], ◌∷◌, ◌++◌, refl, sym, ap, ◌∙◌, subst, arith}
+use Rattle.std.proofs.Common.{◌≡◌, ◌⊎◌, inl, inr, ◌↔◌, ℕ, zero, suc, ◌+◌, ◌-◌, ◌%◌, ◌<◌, ◌≤◌, cond, is_some, Option, Some, List, [], ◌∷◌, refl, sym, ap, ◌∙◌, subst, arith}
 use Rattle.std.specs.List.{AllByRecursion}
-use Rattle.std.specs.Option.{option_map}
 use Rattle.std.proofs.lemmas.Bool.{cases_eq}
-use Rattle.std.proofs.lemmas.Option.{same_Some}
 use Rattle.reg_heap.specs.Paths.{Path}
 use Rattle.reg_heap.specs.Internal.Heaps.{Heap, Swaps, allocated}
-use Rattle.reg_heap.specs.Internal.Kinds.{Found, times, is_own, is_shared, owned, shared}
-use Rattle.reg_heap.specs.Internal.Kinds.Kind.{Security}
+use Rattle.reg_heap.specs.Internal.Kinds.{times, owned, shared}
 use Rattle.reg_shape.specs.Internal.Forests.{Forest, Branch, heads, total, total_of}
 use Rattle.reg_records.specs.RecordCells.{held}
 use Rattle.reg_records.specs.KeyNodes.{key_at, IsPlainKey}
 use Rattle.reg_records.specs.KeySecurities.{KeySecurityRecord, security_at, IsPlainSecurity}
 use Rattle.reg_records.specs.SubkeyLists.{Entry, places_in}
-use Rattle.reg_shape.specs.Nodes.{Node, entries_of, look, met_of}
-use Rattle.reg_shape.specs.Nodes.Index.{Unlisted}
+use Rattle.reg_shape.specs.Nodes.{Node, entries_of, met_of}
 use Rattle.reg_shape.specs.Written.{Fits, IsWrittenSecurity}
 use Rattle.reg_shape.specs.Internal.Shapes.{index_cells, cells_of, owns, shares, IsSeen, StandsIn}
 use Rattle.reg_shape.specs.Internal.Grafts.{IsShape, IsGrafted, IsRecounted, branch_in, branch_at, unhang}
 use Rattle.reg_shape.proofs.Graft.Branches.{branch-total}
-use Rattle.reg_shape.proofs.Wholeness.ShapeCounts.{tally-append}
 use Rattle.reg_shape.proofs.Wholeness.WholeAfterExchange.{all-weaker}
 use Rattle.reg_shape.proofs.Graft.ForestInsert.{stand-unhang}
 use Rattle.reg_shape.proofs.Graft.ForestInsertFits.{fits-unhung, stands-unhung}
-use Rattle.reg_shape.proofs.Walking.InnerReadings.{class-inner, members-inner}
-use Rattle.reg_shape.proofs.Frame.KeyFrame.{Keeps, agree-inner, look-local}
-use Rattle.reg_shape.proofs.Frame.WrittenFrame.{same-held, list-kept}
-use Rattle.reg_shape.proofs.Lookup.LookupOfShape.{key-looked}
-use Rattle.reg_records.proofs.KeySecurityCodec.{security_at-same}
+use Rattle.reg_shape.proofs.Frame.KeyFrame.{Keeps}
+use Rattle.reg_shape.proofs.Frame.WrittenFrame.{same-held}
 use Rattle.reg_shape.proofs.Walking.WalkRefinement.{IsLooked}
-use Rattle.reg_shape.proofs.Wholeness.ShapeRecords.{shared-here, shares-own, at-most-one, allocated-is}
+use Rattle.reg_shape.proofs.Wholeness.ShapeRecords.{shares-own, at-most-one, allocated-is}
 use Rattle.reg_values.proofs.ValueFreeing.SwapChains.{times-same}
 use Rattle.reg_index.specs.Subkeys.{AreSubkeys, own, without}
 use Rattle.reg_index.proofs.RefinementOfSubkeys.{index_for, IsSingle, index-entries, subkeys-elsewhere}
 use Rattle.reg_tree.specs.Internal.KeyNodeChanges.{Recounts, noted_subkeys}
-use Rattle.reg_tree.specs.Internal.KeyDeletion.{IsUnlinked, IsSole}
-use Rattle.reg_tree.proofs.DeleteKey.DeletedKeyCells.{own-met}
+use Rattle.reg_tree.specs.Internal.KeyDeletion.{IsUnlinked}
 use Rattle.reg_tree.proofs.DeleteKey.DeletedKeyPosition.{IsHead, by-places, heads-owned}
-use Rattle.reg_tree.proofs.Invariant.CellReadings.{is_some_of, key-moved, key-exists, security-exists}
-use Rattle.reg_tree.proofs.Invariant.OwnCells.{shared-parts, inner-unshared}
+use Rattle.reg_tree.proofs.Invariant.CellReadings.{is_some_of, key-moved, security-exists}
 use Rattle.reg_tree.proofs.InsertKey.ParentReindexed.{owned-list, sees-reindexed, owned-reindexed, shared-reindexed}
 use Rattle.reg_tree.proofs.DeleteKey.DeletedKeyParent.{not-there, there-is, raised-none}
 use Rattle.reg_tree.proofs.DeleteKey.DeletedKeyParent as before
-
--- ---- the parent `was`, and the key `b` below it
+use Rattle.reg_tree.proofs.DeleteKey.DeleteKeyFrame as frame
 
 module _ (h0 : Heap) (root : ℕ) (keys : Branch Node) (first : ℕ) (w : IsShape h0 root keys first [] []) (p : Path) (was : Branch Node)
     (e : branch_at p keys ≡ Some was) (single : IsSingle was.node.index)
@@ -63,154 +52,76 @@ module _ (h0 : Heap) (root : ℕ) (keys : Branch Node) (first : ℕ) (w : IsShap
   abbrev list : ℕ
   list = m.key.fields.subkeys_list
 
-  -- what is known of them before
-
   stands : StandsIn h0 root was
-  stands = before.stands h0 root keys first w p was e single x b found childless
+  stands = frame.stands h0 root keys first w p was e single x b found childless
 
-  key_stands : StandsIn h0 root b
-  key_stands = before.key_stands h0 root keys first w p was e single x b found childless
-
-  abbrev pub l : IsLooked h0 was.place m
+  abbrev l : IsLooked h0 was.place m
   l = before.l h0 root keys first w p was e single x b found childless
 
-  abbrev n_l : IsLooked h0 b.place n
-  n_l = before.n_l h0 root keys first w p was e single x b found childless
-
-  abbrev pub spot : IsHead x was.below b
+  abbrev spot : IsHead x was.below b
   spot = before.spot h0 root keys first w p was e single x b found childless
 
   abbrev rest : Forest Node
   rest = unhang spot.index was.below
 
   first-is : (z : ℕ) → 0 < total_of (shares z) keys → z ≡ first
-  first-is = before.first-is h0 root keys first w p was e single x b found childless
+  first-is = frame.first-is h0 root keys first w p was e single x b found childless
 
   secured : s ≡ first
-  secured = before.secured h0 root keys first w p was e single x b found childless
+  secured = frame.secured h0 root keys first w p was e single x b found childless
 
   index-cells : (z : ℕ) → owned z (index_cells m.index) ≡ times z (list ∷ [])
-  index-cells = before.index-cells h0 root keys first w p was e single x b found childless
+  index-cells = frame.index-cells h0 root keys first w p was e single x b found childless
 
   m-parts : (z : ℕ) → owned z (cells_of m) ≡ times z (was.place ∷ []) + (owned z l.class_cells + owned z l.value_cells) + times z (list ∷ [])
-  m-parts = before.m-parts h0 root keys first w p was e single x b found childless
-
-  n-unlisted : n.index ≡ Unlisted
-  n-unlisted = before.n-unlisted h0 root keys first w p was e single x b found childless
+  m-parts = frame.m-parts h0 root keys first w p was e single x b found childless
 
   n-parts : (z : ℕ) → owned z (cells_of n) ≡ owned z n.cells
-  n-parts = before.n-parts h0 root keys first w p was e single x b found childless
+  n-parts = frame.n-parts h0 root keys first w p was e single x b found childless
 
   below-parts : (f : ℕ → Node → ℕ) → total f rest + f b.place n ≡ total f was.below
-  below-parts = before.below-parts h0 root keys first w p was e single x b found childless
+  below-parts = frame.below-parts h0 root keys first w p was e single x b found childless
 
   room : (z : ℕ) → (times z (was.place ∷ []) + (owned z l.class_cells + owned z l.value_cells) + times z (list ∷ [])) + (total (owns z) rest + owned z n.cells) + times z (first ∷ []) ≤ allocated h0 z
-  room = before.room h0 root keys first w p was e single x b found childless
-
-  -- ---- when the key was taken from the list, and that was noted
+  room = frame.room h0 root keys first w p was e single x b found childless
 
   module _ (h2 : Heap) (moment : ℕ) (un : IsUnlinked h0 h2 was.place m.key entries spot.index moment) where
     abbrev h1 : Heap
     h1 = un.mid
 
     calm-mid : (z : ℕ) → 0 < allocated h0 z → times z (list ∷ []) ≡ 0 → h1 z ≡ h0 z
-    calm-mid z some a = let c = un.moves.count z in let o = at-most-one h1 z in un.moves.same z a (omega (arith, c, o, some, a))
+    calm-mid = frame.calm-mid h0 root keys first w p was e single x b found childless h2 moment un
 
     place-mid : h1 was.place ≡ h0 was.place
-    place-mid =
-        let z = was.place in let r = room z in let t = times-same z in let o = at-most-one h0 z in calm-mid z (omega (arith, r, t)) (omega (arith, r, t, o))
-
-    key-mid : key_at h1 was.place ≡ Some m.key
-    key-mid = key-moved h0 h1 was.place place-mid ∙ key-looked h0 was.place m stands.0.reads
+    place-mid = frame.place-mid h0 root keys first w p was e single x b found childless h2 moment un
 
     key-then : key_at h2 was.place ≡ Some (noted_subkeys un.count un.list 0 moment m.key)
-    key-then = un.notes.reads m.key key-mid
+    key-then = frame.key-then h0 root keys first w p was e single x b found childless h2 moment un
 
     same-number : (z : ℕ) → allocated h2 z ≡ allocated h1 z
-    same-number z = elim (cases_eq z was.place) [
-      | inl e ↦ subst (λ x. allocated h2 x ≡ allocated h1 x) (sym e) (allocated-is h2 was.place (key-exists h2 was.place (is_some_of _ _ key-then)) ∙
-          sym (allocated-is h1 was.place (key-exists h1 was.place (is_some_of _ _ key-mid))))
-      | inr n ↦ ap (λ (c : Option (List ℕ)). cond (is_some c) 1 0) (un.notes.others z n)
-    ]
-
-    pub calm-then : (z : ℕ) → 0 < allocated h0 z → times z (list ∷ []) ≡ 0 → times z (was.place ∷ []) ≡ 0 → h2 z ≡ h0 z
-    calm-then z some a c = un.notes.others z (not-there z was.place c) ∙ calm-mid z some a
-
-    key-calm : Keeps h0 h2 (cells_of n)
-    key-calm z some =
-        let r = room z in let o = at-most-one h0 z in let q = n-parts z in
-        calm-then z (omega (arith, r, q, some)) (omega (arith, r, o, q, some)) (omega (arith, r, o, q, some))
-
-    pub key-left : look h2 b.place ≡ Some n
-    key-left = look-local h0 h2 b.place n key_stands.0.reads key-calm
-
-    pub sole : IsSole h2 b.place
-    sole =
-        let v = n_l.values_are in
-        let k = n.key in
-        record {
-          node = n;
-          reads = key-left;
-          once = λ z. (let r = room z in let c = un.moves.count z in let o = at-most-one h0 z in let q = same-number z in omega (arith, r, c, o, q));
-          values = list-kept h0 h2 k.fields.values k.fields.values_list n.values n_l.value_cells v
-              (agree-inner h0 h2 n_l.value_cells (members-inner h0 k.fields.values k.fields.values_list (n.values, n_l.value_cells) v)
-              (λ z some. key-calm z (let a = tally-append (is_own z) n.cells (index_cells n.index) in
-              let c = ap (owned z) n_l.cells ∙ own-met z b.place k n_l.class_cells n_l.value_cells in omega (arith, a, c, some))))
-              key_stands.0.written.values.list;
-        }
-
-    -- ---- when its cells were given up
+    same-number = frame.same-number h0 root keys first w p was e single x b found childless h2 moment un
 
     module _ (h4 : Heap) (freed : Swaps h2 h4 (λ z. owned z n.cells) (λ z. 0)) where
       calm-freed : (z : ℕ) → 0 < allocated h0 z → times z (list ∷ []) ≡ 0 → times z (was.place ∷ []) ≡ 0 → owned z n.cells ≡ 0 → h4 z ≡ h0 z
-      calm-freed z some a c d = freed.same z d refl ∙ calm-then z some a c
+      calm-freed = frame.calm-freed h0 root keys first w p was e single x b found childless h2 moment un h4 freed
 
-      ring0 : IsWrittenSecurity h0 first
-      ring0 = w.ring.written.0
+      abbrev ring0 : IsWrittenSecurity h0 first
+      ring0 = frame.ring0 h0 root keys first w p was e single x b found childless h2 moment un h4 freed
 
       first-calm : h4 first ≡ h0 first
-      first-calm =
-          let r = room first in let t = times-same first in let o = at-most-one h0 first in
-          calm-freed first (omega (arith, r, t)) (omega (arith, r, t, o)) (omega (arith, r, t, o)) (omega (arith, r, t, o))
+      first-calm = frame.first-calm h0 root keys first w p was e single x b found childless h2 moment un h4 freed
 
       security-then : security_at h4 first ≡ Some ring0.security
-      security-then = security_at-same h0 h4 first first-calm ∙ ring0.reads
+      security-then = frame.security-then h0 root keys first w p was e single x b found childless h2 moment un h4 freed
 
       counted : ring0.security.fields.count ≡ total_of (shares first) keys
-      counted = same_Some _ _ (sym (ap (option_map (λ (s : KeySecurityRecord). s.fields.count)) ring0.reads) ∙ w.counts.0)
+      counted = frame.counted h0 root keys first w p was e single x b found childless h2 moment un h4 freed
 
-      -- the key names the security once
       names-once : shared first (cells_of n) ≡ 1
-      names-once =
-          let k = n.key in
-          let a = ap (λ (found : List Found). shared first (found ++ index_cells n.index)) n_l.cells ∙ shared-parts first b.place k n_l.class_cells n_l.value_cells n.index in
-          let c = inner-unshared first n_l.class_cells (class-inner h0 k.fields.class_length k.fields.class (n.class, n_l.class_cells) n_l.class_is) in
-          let v = inner-unshared first n_l.value_cells (members-inner h0 k.fields.values k.fields.values_list (n.values, n_l.value_cells) n_l.values_are) in
-          let i : ◌≡◌ {A = ℕ} (shared first (index_cells n.index)) 0 = ap (λ i. shared first (index_cells i)) n-unlisted in
-          let o : is_shared first (record { kind = Security; offset = s }) ≡ 1 =
-          subst (λ z. is_shared z (record { kind = Security; offset = s }) ≡ 1) secured
-          (shared-here (record { kind = Security; offset = s }) refl) in
-          omega (arith, a, c, v, i, o)
+      names-once = frame.names-once h0 root keys first w p was e single x b found childless h2 moment un h4 freed
 
       some-count : 1 ≤ ring0.security.fields.count
-      some-count =
-          let a = counted in
-          let c = names-once in
-          let d = below-parts (shares first) in
-          let t = branch-total (shares first) was p keys e in
-          omega (arith, a, c, d, t)
-
-      pub release-there : IsSome (security_at h4 s)
-      release-there = subst (λ z. IsSome (security_at h4 z)) (sym secured) (is_some_of _ _ security-then)
-
-      pub release-some : (r : KeySecurityRecord) → security_at h4 s ≡ Some r → 1 ≤ r.fields.count
-      release-some r e =
-          let q : ring0.security ≡ r = same_Some _ _ (sym security-then ∙ (ap (security_at h4) (sym secured) ∙ e)) in
-          let c = ap (λ (r : KeySecurityRecord). r.fields.count) q in
-          let o = some-count in
-          omega (arith, c, o)
-
-      -- ---- when the security had its count
+      some-count = frame.some-count h0 root keys first w p was e single x b found childless h2 moment un h4 freed
 
       module _ (h5 : Heap) (re : Recounts h4 h5 s (λ count. count - 1)) where
         abbrev entries' : List Entry

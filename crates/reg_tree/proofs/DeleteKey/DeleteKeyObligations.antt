@@ -34,7 +34,8 @@ use Rattle.reg_tree.specs.TreeInvariant.{rooted, Holds, IsHere}
 use Rattle.reg_tree.specs.Internal.KeyNodeChanges.{Recounts}
 use Rattle.reg_tree.specs.Internal.KeyDeletion.{IsListed, IsUnlinked, IsSole, IsDeleted}
 use Rattle.reg_tree.proofs.ValueChange.TreeAfterValueChange.{edited-at}
-use Rattle.reg_tree.proofs.DeleteKey.DeleteKeyGraft.{key-left, sole, release-there, release-some, is, grafts}
+use Rattle.reg_tree.proofs.DeleteKey.DeleteKeyFrame.{key-left, sole, release-there, release-some}
+use Rattle.reg_tree.proofs.DeleteKey.DeleteKeyGraft.{is, grafts}
 use Rattle.reg_tree.proofs.DeleteKey.DeletedKeyParent.{spot, leaf, below-parts}
 use Rattle.reg_tree.proofs.DeleteKey.DeletedKeyPosition.{snoc, above-is, listed, parent-is}
 use Rattle.reg_tree.proofs.Invariant.KeyOfTree.{spelt_is, rec_is, branch, branch_is, place, key_is}

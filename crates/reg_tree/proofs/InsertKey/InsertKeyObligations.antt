@@ -27,6 +27,7 @@ use Rattle.reg_tree.proofs.InsertKey.ParentReindexed.{branch-subkeys}
 use Rattle.reg_tree.proofs.InsertKey.SubkeyByName.{named-ok}
 use Rattle.reg_tree.proofs.Invariant.UntouchedCells.{times-one, single-of}
 use Rattle.reg_tree.proofs.Invariant.KeyCountBound.{count-few}
+use Rattle.reg_tree.proofs.InsertKey.InsertKeyFrame as frame
 use Rattle.reg_tree.proofs.InsertKey.InsertKeyLemmas as made
 
 module _ (bytes : List ℕ) (parent list_cell key : ℕ) (name left : List ℕ) (m : MayGrow bytes parent (taken (planned (cell_at bytes) parent) list_cell ++ key ∷ left) name) where
@@ -58,7 +59,7 @@ module _ (bytes : List ℕ) (parent list_cell key : ℕ) (name left : List ℕ) 
   plan_is = ap (option_and_then (λ (k : KeyRecord). insert_size h k.fields.subkeys k.fields.subkeys_list)) key_is
 
   security_is : node.key.fields.security ≡ g.first
-  security_is = made.security_is h h h h h g.root g.keys g.first g.path parent plan list_cell key left g.shape g.unrooted g.at
+  security_is = frame.security_is h h h h h g.root g.keys g.first g.path parent plan list_cell key left g.shape g.unrooted g.at
 
   -- ---- by the fields that were read
 
@@ -102,11 +103,11 @@ module _ (bytes : List ℕ) (parent list_cell key : ℕ) (name left : List ℕ) 
     module _ (h1 : Heap) (others1 : (z : ℕ) → z ≢ key → h1 z ≡ h z) (there1 : IsSome (h1 key)) (new_fields : KeyFields)
         (key1 : key_at h1 key ≡ Some (record { fields = new_fields; name = name })) where
       calm1 : (z : ℕ) → times z (key ∷ []) ≡ 0 → h1 z ≡ h z
-      calm1 = made.calm1 h h1 h1 h1 h1 g.root g.keys g.first g.path parent plan list_cell key left g.shape g.unrooted g.at others1 there1
+      calm1 = frame.calm1 h h1 h1 h1 h1 g.root g.keys g.first g.path parent plan list_cell key left g.shape g.unrooted g.at others1 there1
 
       pub subkeys1 : AreSubkeys h1 fields.subkeys fields.subkeys_list entries
       subkeys1 = subst (λ (f : KeyFields). AreSubkeys h1 f.subkeys f.subkeys_list entries) fields_are
-          (made.subkeys1 h h1 h1 h1 h1 g.root g.keys g.first g.path parent plan list_cell key left g.shape g.unrooted g.at others1 there1)
+          (frame.subkeys1 h h1 h1 h1 h1 g.root g.keys g.first g.path parent plan list_cell key left g.shape g.unrooted g.at others1 there1)
 
       its_name : name_at h1 key ≡ name
       its_name = ap name_or_none key1
@@ -118,7 +119,7 @@ module _ (bytes : List ℕ) (parent list_cell key : ℕ) (name left : List ℕ) 
         subkeys1,
         subst (λ n. IsPlace (names_in h1 entries) (folded n) (Err index)) (sym its_name)
             (subst (λ ns. IsPlace ns (folded name) (Err index))
-            (sym (made.names1 h h1 h1 h1 h1 g.root g.keys g.first g.path parent plan list_cell key left g.shape g.unrooted g.at others1 there1))
+            (sym (frame.names1 h h1 h1 h1 h1 g.root g.keys g.first g.path parent plan list_cell key left g.shape g.unrooted g.at others1 there1))
             (find entries subkeys0)),
       )
 
@@ -130,8 +131,8 @@ module _ (bytes : List ℕ) (parent list_cell key : ℕ) (name left : List ℕ) 
       unfolding insert_size
       same_size zero list a b = refl
       same_size (suc count) list a b =
-          let budget = made.budget h h1 h1 h1 h1 g.root g.keys g.first g.path parent plan list_cell key left g.shape g.unrooted g.at list in
-          let one = made.one h h1 h1 h1 h1 g.root g.keys g.first g.path parent plan list_cell key left g.shape g.unrooted g.at list in
+          let budget = frame.budget h h1 h1 h1 h1 g.root g.keys g.first g.path parent plan list_cell key left g.shape g.unrooted g.at list in
+          let one = frame.one h h1 h1 h1 h1 g.root g.keys g.first g.path parent plan list_cell key left g.shape g.unrooted g.at list in
           let t : times list (own node.key.fields.subkeys node.key.fields.subkeys_list) ≡ 1 =
           ap (λ n. times list (own n node.key.fields.subkeys_list)) (sym a) ∙ (ap (λ o. times list (o ∷ [])) (sym b) ∙ times-one list) in
           ap (λ (bytes : List ℕ). cond (nat_le (4 + 8 * suc (suc count)) (length bytes)) None (Some (8 + 8 * suc (suc count)))) (same-held h h1 list (calm1 list (omega (arith, budget, one, t))))
@@ -144,8 +145,8 @@ module _ (bytes : List ℕ) (parent list_cell key : ℕ) (name left : List ℕ) 
       ready-same : (o : Option ℕ) → o ≡ plan → IsReady h o list_cell → IsReady h1 o list_cell
       ready-same None e r = r
       ready-same (Some size) e r =
-          let budget = made.budget h h1 h1 h1 h1 g.root g.keys g.first g.path parent plan list_cell key left g.shape g.unrooted g.at list_cell in
-          let one = made.one h h1 h1 h1 h1 g.root g.keys g.first g.path parent plan list_cell key left g.shape g.unrooted g.at list_cell in
+          let budget = frame.budget h h1 h1 h1 h1 g.root g.keys g.first g.path parent plan list_cell key left g.shape g.unrooted g.at list_cell in
+          let one = frame.one h h1 h1 h1 h1 g.root g.keys g.first g.path parent plan list_cell key left g.shape g.unrooted g.at list_cell in
           let t : times list_cell (taken plan list_cell) ≡ 1 = ap (λ o. times list_cell (taken o list_cell)) (sym e) ∙ times-one list_cell in
           let calm = calm1 list_cell (omega (arith, budget, one, t)) in (
             subst IsSome (sym calm) r.0,
@@ -169,14 +170,14 @@ module _ (bytes : List ℕ) (parent list_cell key : ℕ) (name left : List ℕ) 
         pub parent2 : IsSome (key_at h2 parent)
         parent2 =
             subst (λ o. IsSome (key_at h2 o)) (keyed.place h g.root g.keys g.first [] spare g.shape g.path parent g.at)
-            (is_some_of _ _ (made.P-then h h1 h2 h2 h2 g.root g.keys g.first g.path parent plan list_cell key left g.shape g.unrooted g.at others1 there1 count1 list1 moved))
+            (is_some_of _ _ (frame.P-then h h1 h2 h2 h2 g.root g.keys g.first g.path parent plan list_cell key left g.shape g.unrooted g.at others1 there1 count1 list1 moved))
 
         module _ (h3 : Heap) (moment : ℕ) (notes : Notes h2 h3 parent (noted_subkeys count1 list1 (length name) moment)) where
           pub security3 : IsSome (security_at h3 fields.security)
           security3 =
               subst (λ (f : KeyFields). IsSome (security_at h3 f.security)) fields_are
               (subst (λ s. IsSome (security_at h3 s)) (sym security_is)
-              (is_some_of _ _ (made.first-there h h1 h2 h3 h3 g.root g.keys g.first g.path parent plan list_cell key left g.shape g.unrooted g.at others1 there1 count1 list1 moved name moment notes)))
+              (is_some_of _ _ (frame.first-there h h1 h2 h3 h3 g.root g.keys g.first g.path parent plan list_cell key left g.shape g.unrooted g.at others1 there1 count1 list1 moved name moment notes)))
 
           module _ (h4 : Heap) (good : is_key_name name ≡ true) (short : length name ≤ KEY_NAME_LIMIT) (made_so : new_fields ≡ made_fields parent fields.security moment)
               (plain1 : IsPlainKey (held h1 key))

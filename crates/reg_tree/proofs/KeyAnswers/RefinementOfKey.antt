@@ -38,7 +38,7 @@ use Rattle.reg_tree.proofs.Invariant.KeyOfTree.{spelt_is, branch, branch_is, pla
 use Rattle.reg_tree.proofs.PathWalk.SubkeysFound.{subkeys}
 use Rattle.reg_tree.proofs.InsertKey.SubkeyByName.{no_entry, named-ok}
 use Rattle.reg_tree.proofs.Invariant.UntouchedCells.{there-is}
-use Rattle.reg_tree.proofs.InsertKey.InsertKeyLemmas.{name_of_head, names-heads}
+use Rattle.reg_tree.proofs.InsertKey.InsertKeyFrame.{name_of_head, names-heads}
 
 -- each key's name is as it was given
 abbrev AllWritten : List (ℕ × Node) → Type 0

@@ -1,0 +1,256 @@
+-- A key made below another: the made key, its parent's key node and the subkeys, as they are in the cells then.
+use Rattle.std.proofs.Common.{◌≡◌, ◌≢◌, ℕ, zero, suc, ◌+◌, ◌*◌, ◌%◌, ◌≤◌, ◌<◌, max, true, Option, Some, None, IsSome, List, [], ◌∷◌, ◌++◌, inr, map, length}
+use Rattle.std.proofs.Common.{refl, sym, ap, ◌∙◌, subst, arith}
+use Rattle.std.specs.Prelude.{Err}
+use Rattle.std.specs.List.{AllByRecursion}
+use Rattle.reg_names.specs.declared.TheConstants.{KEY_NAME_LIMIT}
+use Rattle.reg_names.specs.Names.{folded, is_key_name}
+use Rattle.reg_heap.specs.Paths.{Path}
+use Rattle.reg_heap.specs.Internal.Heaps.{Heap, allocated}
+use Rattle.reg_heap.specs.Internal.Kinds.{times, is_own, owned}
+use Rattle.reg_heap.specs.Internal.Kinds.Kind.{Key}
+use Rattle.reg_shape.specs.Internal.Forests.{Branch, heads, total, total_of}
+use Rattle.reg_records.specs.RecordCells.{held}
+use Rattle.reg_records.specs.KeyNodes.{KeyRecord, key_at, IsPlainKey}
+use Rattle.reg_records.specs.KeySecurities.{KeySecurityRecord, security_at}
+use Rattle.reg_records.specs.SubkeyLists.{Entry}
+use Rattle.reg_shape.specs.Nodes.{Node, entries_of}
+use Rattle.reg_shape.specs.Written.{IsWrittenSecurity}
+use Rattle.reg_shape.specs.Internal.Shapes.{index_cells, owns, IsSeen, StandsIn}
+use Rattle.reg_shape.specs.Internal.Grafts.{IsShape}
+use Rattle.reg_shape.specs.Internal.PathLookup.{place_at, subkey_named}
+use Rattle.reg_records.proofs.KeyNodeCodec.{key_at-same}
+use Rattle.reg_shape.proofs.Frame.WrittenFrame.{same-held}
+use Rattle.reg_shape.proofs.Walking.WalkRefinement.{IsLooked}
+use Rattle.reg_shape.proofs.Graft.ForestInsertFits.{all-inserted}
+use Rattle.reg_index.specs.Subkeys.{AreSubkeys, IsPlace, Moves, names_in, entry_for, with_one, own, taken}
+use Rattle.reg_index.proofs.RefinementOfSubkeys.{IsSingle, subkeys-elsewhere}
+use Rattle.reg_tree.specs.Internal.KeyNodeChanges.{Notes, Recounts, noted_subkeys, raised}
+use Rattle.reg_tree.specs.TreeInvariant.{rooted}
+use Rattle.reg_tree.proofs.InsertKey.MadeKeyRecord.{made_record, made_node, made-seen}
+use Rattle.reg_tree.proofs.InsertKey.ParentReindexed.{reindexed, sees-reindexed}
+use Rattle.reg_tree.proofs.Invariant.UntouchedCells.{times-one, not-there, there-is, moved-none}
+use Rattle.reg_tree.proofs.Invariant.KeyOfShape as keyed
+use Rattle.reg_tree.proofs.InsertKey.InsertKeyFrame.{name_of_head, raised-low}
+use Rattle.reg_tree.proofs.InsertKey.InsertKeyFrame as frame
+
+module _ (h0 h1 h2 h3 h4 : Heap) (root : ℕ) (keys : Branch Node) (first : ℕ) (p : Path) (parent : ℕ)
+    (plan : Option ℕ) (list_cell key : ℕ) (left : List ℕ)
+    (w : IsShape h0 root keys first [] (taken plan list_cell ++ key ∷ left)) (unrooted : total_of rooted keys ≡ 0) (at : place_at h0 root p ≡ Some parent) where
+  abbrev spare : List ℕ
+  spare = taken plan list_cell ++ key ∷ left
+
+  abbrev was : Branch Node
+  was = keyed.branch h0 root keys first [] spare w p parent at
+
+  abbrev node : Node
+  node = was.node
+
+  abbrev above : KeyRecord
+  above = node.key
+
+  abbrev entries : List Entry
+  entries = entries_of node.index
+
+  abbrev pub looked : IsLooked h0 was.place node
+  looked = frame.looked h0 h1 h2 h3 h4 root keys first p parent plan list_cell key left w unrooted at
+
+  abbrev pub seen : IsSeen h0 root was.place node
+  seen = frame.seen h0 h1 h2 h3 h4 root keys first p parent plan list_cell key left w unrooted at
+
+  pub place : was.place ≡ parent
+  place = frame.place h0 h1 h2 h3 h4 root keys first p parent plan list_cell key left w unrooted at
+
+  pub single : IsSingle node.index
+  single = frame.single h0 h1 h2 h3 h4 root keys first p parent plan list_cell key left w unrooted at
+
+  pub security_is : above.fields.security ≡ first
+  security_is = frame.security_is h0 h1 h2 h3 h4 root keys first p parent plan list_cell key left w unrooted at
+
+  abbrev stands0 : StandsIn h0 root was
+  stands0 = keyed.stands h0 root keys first [] spare w p parent at
+
+  pub names0 : names_in h0 entries ≡ map name_of_head (heads was.below)
+  names0 = frame.names0 h0 h1 h2 h3 h4 root keys first p parent plan list_cell key left w unrooted at
+
+  abbrev K : ℕ → ℕ
+  K z = is_own z (record { kind = Key; offset = was.place })
+
+  abbrev old_list : List ℕ
+  old_list = own above.fields.subkeys above.fields.subkeys_list
+
+  pub own-index : (z : ℕ) → owned z (index_cells node.index) ≡ times z old_list
+  own-index = frame.own-index h0 h1 h2 h3 h4 root keys first p parent plan list_cell key left w unrooted at
+
+  not-root : key ≢ root
+  not-root = frame.not-root h0 h1 h2 h3 h4 root keys first p parent plan list_cell key left w unrooted at
+
+  pub budget : (z : ℕ) → ((K z + (owned z looked.class_cells + owned z looked.value_cells)) + (times z old_list + total (owns z) was.below)) +
+      (times z (first ∷ []) + (times z (taken plan list_cell) + (times z (key ∷ []) + times z left))) ≤ allocated h0 z
+  budget = frame.budget h0 h1 h2 h3 h4 root keys first p parent plan list_cell key left w unrooted at
+
+  pub one : (z : ℕ) → allocated h0 z ≤ 1
+  one = frame.one h0 h1 h2 h3 h4 root keys first p parent plan list_cell key left w unrooted at
+
+  module _ (others1 : (z : ℕ) → z ≢ key → h1 z ≡ h0 z) (there1 : IsSome (h1 key)) where
+    calm1 : (z : ℕ) → times z (key ∷ []) ≡ 0 → h1 z ≡ h0 z
+    calm1 = frame.calm1 h0 h1 h2 h3 h4 root keys first p parent plan list_cell key left w unrooted at others1 there1
+
+    pub allocated1 : (z : ℕ) → allocated h1 z ≡ allocated h0 z
+    allocated1 = frame.allocated1 h0 h1 h2 h3 h4 root keys first p parent plan list_cell key left w unrooted at others1 there1
+
+    below-all : (Q : ℕ → Type 0) → ((z : ℕ) → 0 < total (owns z) was.below → Q z) → AllByRecursion (λ (e : Entry). Q e.place) entries
+    below-all = frame.below-all h0 h1 h2 h3 h4 root keys first p parent plan list_cell key left w unrooted at others1 there1
+
+    module _ (count1 list1 : ℕ) (moves : Moves h1 h2 (old_list ++ taken plan list_cell) (own count1 list1)) where
+      pub before : (z : ℕ) → times z (old_list ++ taken plan list_cell) ≡ times z old_list + times z (taken plan list_cell)
+      before = frame.before h0 h1 h2 h3 h4 root keys first p parent plan list_cell key left w unrooted at others1 there1 count1 list1 moves
+
+      calm2 : (z : ℕ) → 0 < allocated h0 z → times z old_list ≡ 0 → times z (taken plan list_cell) ≡ 0 → h2 z ≡ h1 z
+      calm2 = frame.calm2 h0 h1 h2 h3 h4 root keys first p parent plan list_cell key left w unrooted at others1 there1 count1 list1 moves
+
+      abbrev P : ℕ
+      P = was.place
+
+      P-own : K P ≡ 1
+      P-own = frame.P-own h0 h1 h2 h3 h4 root keys first p parent plan list_cell key left w unrooted at others1 there1 count1 list1 moves
+
+      P-calm : h2 P ≡ h0 P
+      P-calm = frame.P-calm h0 h1 h2 h3 h4 root keys first p parent plan list_cell key left w unrooted at others1 there1 count1 list1 moves
+
+      pub P-then : key_at h2 P ≡ Some above
+      P-then = frame.P-then h0 h1 h2 h3 h4 root keys first p parent plan list_cell key left w unrooted at others1 there1 count1 list1 moves
+
+      module _ (name : List ℕ) (moment : ℕ) (notes : Notes h2 h3 parent (noted_subkeys count1 list1 (length name) moment)) where
+        pub its-notes : Notes h2 h3 was.place (noted_subkeys count1 list1 (length name) moment)
+        its-notes = frame.its-notes h0 h1 h2 h3 h4 root keys first p parent plan list_cell key left w unrooted at others1 there1 count1 list1 moves name moment notes
+
+        calm3 : (z : ℕ) → K z ≡ 0 → h3 z ≡ h2 z
+        calm3 = frame.calm3 h0 h1 h2 h3 h4 root keys first p parent plan list_cell key left w unrooted at others1 there1 count1 list1 moves name moment notes
+
+        abbrev pub written : IsWrittenSecurity h0 first
+        written = frame.written h0 h1 h2 h3 h4 root keys first p parent plan list_cell key left w unrooted at others1 there1 count1 list1 moves name moment notes
+
+        pub first-once : times first (first ∷ []) ≡ 1
+        first-once = frame.first-once h0 h1 h2 h3 h4 root keys first p parent plan list_cell key left w unrooted at others1 there1 count1 list1 moves name moment notes
+
+        pub first-calm : h3 first ≡ h0 first
+        first-calm = frame.first-calm h0 h1 h2 h3 h4 root keys first p parent plan list_cell key left w unrooted at others1 there1 count1 list1 moves name moment notes
+
+        pub first-there : security_at h3 first ≡ Some written.security
+        first-there = frame.first-there h0 h1 h2 h3 h4 root keys first p parent plan list_cell key left w unrooted at others1 there1 count1 list1 moves name moment notes
+
+        module _ (index : ℕ) (good : is_key_name name ≡ true) (short : length name ≤ KEY_NAME_LIMIT)
+            (key1 : key_at h1 key ≡ Some (made_record parent above.fields.security moment name)) (plain1 : IsPlainKey (held h1 key))
+            (stands_at : IsPlace (names_in h0 entries) (folded name) (Err index)) (missing : subkey_named h0 (folded name) parent ≡ None)
+            (subkeys2 : AreSubkeys h2 count1 list1 (with_one index (entry_for h1 key) entries)) (count_is : count1 ≡ above.fields.subkeys + 1)
+            (users : ℕ) (users_are : (s : KeySecurityRecord) → security_at h0 above.fields.security ≡ Some s → users ≡ s.fields.count + 1)
+            (recounts : Recounts h3 h4 above.fields.security (λ n. users)) where
+          abbrev security : ℕ
+          security = above.fields.security
+
+          abbrev entries1 : List Entry
+          entries1 = with_one index (entry_for h1 key) entries
+
+          pub new-list : (z : ℕ) → times z (own count1 list1) ≡ times z (list1 ∷ [])
+          new-list z = ap (λ n. times z (own n list1)) (count_is ∙ add-one above.fields.subkeys)
+            where
+              add-one : (n : ℕ) → n + 1 ≡ suc n
+              add-one n = omega arith
+
+          pub its-recounts : Recounts h3 h4 first (λ n. users)
+          its-recounts = subst (λ s. Recounts h3 h4 s (λ n. users)) security_is recounts
+
+          not-new-list : (z : ℕ) → 0 < allocated h0 z → times z old_list ≡ 0 → times z (taken plan list_cell) ≡ 0 → times z (list1 ∷ []) ≡ 0
+          not-new-list z some a b = sym (new-list z) ∙ (let x = allocated1 z in let y = before z in
+              moved-none h1 h2 (old_list ++ taken plan list_cell) (own count1 list1) moves z (omega (arith, some, x)) (omega (arith, a, b, y)))
+
+          calm4 : (z : ℕ) → times z (first ∷ []) ≡ 0 → h4 z ≡ h3 z
+          calm4 z none = its-recounts.others z (not-there z first none)
+
+          pub calm : (z : ℕ) → 0 < allocated h0 z → times z (key ∷ []) ≡ 0 → times z old_list ≡ 0 → times z (taken plan list_cell) ≡ 0 → K z ≡ 0 → times z (first ∷ []) ≡ 0 → h4 z ≡ h0 z
+          calm z some k a b c d = calm4 z d ∙ (calm3 z c ∙ (calm2 z some a b ∙ calm1 z k))
+
+          pub calm-below : (z : ℕ) → 0 < total (owns z) was.below → h4 z ≡ h0 z
+          calm-below z l = let b = budget z in let o = one z in calm z (omega (arith, b, l)) (omega (arith, b, o, l)) (omega (arith, b, o, l))
+              (omega (arith, b, o, l)) (omega (arith, b, o, l)) (omega (arith, b, o, l))
+
+          pub calm-class : (z : ℕ) → 0 < owned z looked.class_cells → h4 z ≡ h0 z
+          calm-class z l = let b = budget z in let o = one z in calm z (omega (arith, b, l)) (omega (arith, b, o, l)) (omega (arith, b, o, l))
+              (omega (arith, b, o, l)) (omega (arith, b, o, l)) (omega (arith, b, o, l))
+
+          pub calm-values : (z : ℕ) → 0 < owned z looked.value_cells → h4 z ≡ h0 z
+          calm-values z l = let b = budget z in let o = one z in calm z (omega (arith, b, l)) (omega (arith, b, o, l)) (omega (arith, b, o, l))
+              (omega (arith, b, o, l)) (omega (arith, b, o, l)) (omega (arith, b, o, l))
+
+          P-last : h4 P ≡ h3 P
+          P-last = let b = budget P in let o = one P in let k = P-own in calm4 P (omega (arith, b, o, k))
+
+          abbrev new_above : KeyRecord
+          new_above = noted_subkeys count1 list1 (length name) moment above
+
+          pub key-noted : key_at h3 P ≡ Some new_above
+          key-noted = its-notes.reads above P-then
+
+          pub key-now : key_at h4 P ≡ Some new_above
+          key-now = key_at-same h3 h4 P P-last ∙ key-noted
+
+          pub plain-now : IsPlainKey (held h4 P)
+          plain-now = subst IsPlainKey (sym (same-held h3 h4 P P-last)) (its-notes.plain (subst IsPlainKey (sym (same-held h0 h2 P P-calm)) seen.written.plain))
+
+          -- ---- the made key
+
+          key-once : times key (key ∷ []) ≡ 1
+          key-once = times-one key
+
+          pub key-calm : h4 key ≡ h1 key
+          key-calm = let b = budget key in let o = one key in let k = key-once in calm4 key (omega (arith, b, o, k)) ∙
+              (calm3 key (omega (arith, b, o, k)) ∙ calm2 key (omega (arith, b, k)) (omega (arith, b, o, k)) (omega (arith, b, o, k)))
+
+          abbrev made : Node
+          made = made_node key (made_record parent security moment name)
+
+          pub made-is : IsSeen h4 root key made
+          made-is = made-seen h4 key parent security moment name root not-root (key_at-same h1 h4 key key-calm ∙ key1) good (subst IsPlainKey (sym (same-held h1 h4 key key-calm)) plain1)
+
+          -- ---- the subkeys
+
+          pub subkeys4 : AreSubkeys h4 count1 list1 entries1
+          subkeys4 = subkeys-elsewhere h2 h4 count1 list1 entries1 subkeys2 (inr list-calm)
+              (all-inserted (λ (e : Entry). key_at h4 e.place ≡ key_at h2 e.place) index (entry_for h1 key) entries key-same
+              (below-all (λ o. key_at h4 o ≡ key_at h2 o) (λ z l. key_at-same h2 h4 z (below-late z l))))
+            where
+              not-one : (x : ℕ) → times x (list1 ∷ []) ≡ 0 → times list1 (x ∷ []) ≡ 0
+              not-one x none = by (times list1 (x ∷ [])) refl
+                where
+                  by : (n : ℕ) → times list1 (x ∷ []) ≡ n → n ≡ 0
+                  by zero e = refl
+                  by (suc n) e =
+                      let same = there-is list1 x (omega (arith, e)) in
+                      let t = subst (λ y. times y (list1 ∷ []) ≡ 1) same (times-one list1) in
+                      absurd (omega (arith, t, none))
+
+              list-calm : h4 list1 ≡ h2 list1
+              list-calm =
+                  let b = budget P in let o = one P in let k = P-own in
+                  let c = budget first in let q = one first in let f = times-one first in
+                  let not-P = not-one P (not-new-list P (omega (arith, b, k)) (omega (arith, b, o, k)) (omega (arith, b, o, k))) in
+                  let not-first = not-one first (not-new-list first (omega (arith, c, f)) (omega (arith, c, q, f)) (omega (arith, c, q, f))) in
+                  calm4 list1 not-first ∙ its-notes.others list1 (not-there list1 P not-P)
+
+              below-late : (z : ℕ) → 0 < total (owns z) was.below → h4 z ≡ h2 z
+              below-late z l = let b = budget z in let o = one z in calm4 z (omega (arith, b, o, l)) ∙ calm3 z (omega (arith, b, o, l))
+
+              key-same : key_at h4 key ≡ key_at h2 key
+              key-same = let b = budget key in let o = one key in let k = key-once in key_at-same h2 h4 key (calm4 key (omega (arith, b, o, k)) ∙ calm3 key (omega (arith, b, o, k)))
+
+          -- ---- the parent as it is now
+
+          abbrev now : Node
+          now = reindexed h0 h4 root P node seen looked count1 list1 (length name) moment entries1 key-now plain-now calm-class calm-values subkeys4
+
+          pub now-is : IsSeen h4 root P now
+          now-is = sees-reindexed h0 h4 root P node seen looked count1 list1 (length name) moment entries1 key-now plain-now calm-class calm-values subkeys4
+
+          pub raised-is : raised above.fields.largest_subkey_name (2 * length name) % 65536 ≡ max (above.fields.largest_subkey_name % 65536) (2 * length name)
+          raised-is = raised-low above.fields.largest_subkey_name (2 * length name) (omega (arith, short))

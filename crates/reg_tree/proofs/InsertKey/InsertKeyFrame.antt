@@ -1,0 +1,216 @@
+-- Which cells stay, and what reads as before, when a key is made below another: up to its parent's key node.
+use Rattle.std.proofs.Common.{◌≡◌, ◌≢◌, ℕ, zero, suc, ◌+◌, ◌%◌, ◌≤◌, ◌<◌, max, Option, Some, None, IsSome, List, [], ◌∷◌, ◌++◌, ◌⊎◌, inl, inr, drop, map, length}
+use Rattle.std.proofs.Common.{get_or, refl, sym, ap, ◌∙◌, subst, arith}
+use Rattle.std.specs.List.{AllByRecursion}
+use Rattle.reg_arena.proofs.FreeList.FreeListTake.{times-append}
+use Rattle.reg_names.specs.Names.{folded}
+use Rattle.reg_heap.specs.Paths.{Path}
+use Rattle.reg_heap.specs.Internal.Heaps.{Heap, allocated}
+use Rattle.reg_heap.specs.Internal.Kinds.{Found, times, is_own, owned}
+use Rattle.reg_heap.specs.Internal.Kinds.Kind.{Key}
+use Rattle.reg_shape.specs.Internal.Forests.{Forest, Branch, heads, total, total_of, Stand}
+use Rattle.reg_shape.specs.Internal.Forests.Forest.{End, Rooted as Hangs}
+use Rattle.reg_records.specs.KeyNodes.{KeyRecord, key_at}
+use Rattle.reg_records.specs.KeySecurities.{security_at}
+use Rattle.reg_records.specs.SubkeyLists.{Entry, places_in}
+use Rattle.reg_shape.specs.Nodes.{Node, entries_of}
+use Rattle.reg_shape.specs.Written.{Fits, IsWrittenSecurity}
+use Rattle.reg_shape.specs.Internal.Shapes.{index_cells, owns, IsSeen, StandsIn}
+use Rattle.reg_shape.specs.Internal.Grafts.{IsShape}
+use Rattle.reg_shape.specs.Internal.PathLookup.{place_at}
+use Rattle.reg_records.proofs.KeyNodeCodec.{key_at-same}
+use Rattle.reg_records.proofs.KeySecurityCodec.{security_at-same}
+use Rattle.reg_shape.proofs.Walking.WalkRefinement.{IsLooked}
+use Rattle.reg_shape.proofs.Wholeness.ShapeRecords.{at-most-one}
+use Rattle.reg_shape.proofs.Graft.ForestInsertFits.{all-mapped}
+use Rattle.reg_shape.proofs.Lookup.LookupOfShape.{key-looked}
+use Rattle.reg_index.specs.Subkeys.{AreSubkeys, Moves, names_in, name_at, name_or_none, own, taken}
+use Rattle.reg_index.proofs.RefinementOfSubkeys.{IsSingle, subkeys-elsewhere}
+use Rattle.reg_tree.specs.Internal.KeyNodeChanges.{Notes, noted_subkeys, raised}
+use Rattle.reg_tree.specs.TreeInvariant.{rooted}
+use Rattle.reg_tree.proofs.Invariant.OwnCells.{own-parts, key-here}
+use Rattle.reg_tree.proofs.InsertKey.ParentReindexed.{owned-single, branch-subkeys}
+use Rattle.reg_tree.proofs.Invariant.UntouchedCells.{place-own, times-one, not-there, there-is, written-allocated, moved-calm, all-heads, all-of, single-of}
+use Rattle.reg_tree.proofs.Invariant.KeyOfShape as keyed
+
+-- the folded name of a key that was looked at
+abbrev pub name_of_head : ℕ × Node → List ℕ
+name_of_head e = folded e.1.key.name
+
+-- the names in a list are those of the keys below, also where other cells changed
+pub names-heads : (h k : Heap) (root : ℕ) (F : Forest Node) (es : List Entry) → Stand (IsSeen h root) Fits F →
+    map (λ (e : ℕ × Node). e.0) (heads F) ≡ places_in es → ((z : ℕ) → 0 < total (owns z) F → k z ≡ h z) → names_in k es ≡ map name_of_head (heads F)
+names-heads h k root End [] a q c = refl
+names-heads h k root End (e ∷ es) a q c = absurd (let n = ap length q in omega (arith, n))
+names-heads h k root (Hangs o n b s) [] a q c = absurd (let n = ap length q in omega (arith, n))
+names-heads h k root (Hangs o n b s) (e ∷ es) a q c =
+    let first : o ≡ e.place = ap (λ (ps : List ℕ). get_or ps 0 0) q in
+    let rest : map (λ (e : ℕ × Node). e.0) (heads s) ≡ places_in es = ap (λ (ps : List ℕ). drop 1 ps) q in
+    let here : key_at k o ≡ Some n.key = key_at-same h k o (c o (let l = place-own h o n a.0.0.reads in omega (arith, l))) ∙ key-looked h o n a.0.0.reads in
+    let named : name_at k e.place ≡ n.key.name = ap (λ z. name_or_none (key_at k z)) (sym first) ∙ ap name_or_none here in
+    ap (λ x. folded x ∷ names_in k es) named ∙ ap (λ xs. name_of_head (o, n) ∷ xs) (names-heads h k root s es a.1 rest (λ z l. c z (omega (arith, l))))
+
+-- a length raised is the greater of both
+pub raised-low : (o s : ℕ) → s < 65536 → raised o s % 65536 ≡ max (o % 65536) s
+raised-low o s l = omega (arith, l)
+
+-- ---- the cells: `h0` before, `h1` with the key node written, `h2` with the key among its parent's subkeys, `h3` when that was noted
+-- in the parent's key node, `h4` when the security was counted
+
+module _ (h0 h1 h2 h3 h4 : Heap) (root : ℕ) (keys : Branch Node) (first : ℕ) (p : Path) (parent : ℕ)
+    (plan : Option ℕ) (list_cell key : ℕ) (left : List ℕ)
+    (w : IsShape h0 root keys first [] (taken plan list_cell ++ key ∷ left)) (unrooted : total_of rooted keys ≡ 0) (at : place_at h0 root p ≡ Some parent) where
+  abbrev spare : List ℕ
+  spare = taken plan list_cell ++ key ∷ left
+
+  abbrev was : Branch Node
+  was = keyed.branch h0 root keys first [] spare w p parent at
+
+  abbrev node : Node
+  node = was.node
+
+  abbrev above : KeyRecord
+  above = node.key
+
+  abbrev entries : List Entry
+  entries = entries_of node.index
+
+  pub looked : IsLooked h0 was.place node
+  looked = keyed.looked h0 root keys first [] spare w p parent at
+
+  pub seen : IsSeen h0 root was.place node
+  seen = keyed.seen h0 root keys first [] spare w p parent at
+
+  pub place : was.place ≡ parent
+  place = keyed.place h0 root keys first [] spare w p parent at
+
+  pub single : IsSingle node.index
+  single = single-of node.index (keyed.unrooted_here h0 root keys first [] spare w p parent at unrooted)
+
+  -- its security is the one of the ring
+  pub security_is : above.fields.security ≡ first
+  security_is = there-is above.fields.security first (keyed.secured h0 root keys first [] spare w p parent at)
+
+  abbrev stands0 : StandsIn h0 root was
+  stands0 = keyed.stands h0 root keys first [] spare w p parent at
+
+  -- the names of its subkeys
+  pub names0 : names_in h0 entries ≡ map name_of_head (heads was.below)
+  names0 = names-heads h0 h0 root was.below entries stands0.2 stands0.1.places (λ z l. refl)
+
+  abbrev K : ℕ → ℕ
+  K z = is_own z (record { kind = Key; offset = was.place })
+
+  abbrev old_list : List ℕ
+  old_list = own above.fields.subkeys above.fields.subkeys_list
+
+  pub own-index : (z : ℕ) → owned z (index_cells node.index) ≡ times z old_list
+  own-index z = owned-single h0 z above.fields.subkeys above.fields.subkeys_list node.index looked.index_is single
+
+  not-place : (z : ℕ) → K z ≡ 0 → z ≢ was.place
+  not-place z none e = let one = key-here z was.place e in omega (arith, none, one)
+
+  -- it is no key of the tree that is there
+  pub not-root : key ≢ root
+  not-root e =
+      let own = place-own h0 keys.place keys.node w.stands.0.reads in
+      let x = w.exact keys.place in
+      let m = at-most-one h0 keys.place in
+      let s = times-append keys.place (taken plan list_cell) (key ∷ left) in
+      let t = subst (λ z. times z (key ∷ []) ≡ 1) (e ∙ sym w.place) (times-one key) in
+      omega (arith, own, x, m, s, t)
+
+  -- every cell is one thing alone
+  pub budget : (z : ℕ) → ((K z + (owned z looked.class_cells + owned z looked.value_cells)) + (times z old_list + total (owns z) was.below)) +
+      (times z (first ∷ []) + (times z (taken plan list_cell) + (times z (key ∷ []) + times z left))) ≤ allocated h0 z
+  budget z =
+      let all = keyed.branch_once h0 root keys first [] spare w p parent at z in
+      let o = ap (λ (found : List Found). owned z (found ++ index_cells node.index)) looked.cells ∙ own-parts z was.place above looked.class_cells looked.value_cells node.index in
+      let i = own-index z in
+      let s = times-append z (taken plan list_cell) (key ∷ left) in
+      omega (arith, all, o, i, s)
+
+  pub one : (z : ℕ) → allocated h0 z ≤ 1
+  one z = at-most-one h0 z
+
+  module _ (others1 : (z : ℕ) → z ≢ key → h1 z ≡ h0 z) (there1 : IsSome (h1 key)) where
+    key-allocated : IsSome (h0 key)
+    key-allocated = is-some (h0 key) (let b = budget key in let t = times-one key in omega (arith, b, t))
+      where
+        is-some : (o : Option (List ℕ)) → 0 < allocated (λ z. o) key → IsSome o
+        is-some None l = absurd (omega (arith, l))
+        is-some (Some c) l = refl
+
+    pub calm1 : (z : ℕ) → times z (key ∷ []) ≡ 0 → h1 z ≡ h0 z
+    calm1 z none = others1 z (not-there z key none)
+
+    pub allocated1 : (z : ℕ) → allocated h1 z ≡ allocated h0 z
+    allocated1 z = written-allocated h0 h1 key others1 key-allocated there1 z
+
+    -- the keys below read the same
+    below1 : (z : ℕ) → 0 < total (owns z) was.below → h1 z ≡ h0 z
+    below1 z l = calm1 z (let b = budget z in let o = one z in omega (arith, b, o, l))
+
+    -- a name stands among theirs where it stood
+    pub names1 : names_in h1 entries ≡ names_in h0 entries
+    names1 = names-heads h0 h1 root was.below entries stands0.2 stands0.1.places below1 ∙ sym names0
+
+    -- what holds of the cells of the keys below holds of the cells that the list names
+    pub below-all : (Q : ℕ → Type 0) → ((z : ℕ) → 0 < total (owns z) was.below → Q z) → AllByRecursion (λ (e : Entry). Q e.place) entries
+    below-all Q q =
+        all-mapped (λ (e : Entry). e.place) Q entries
+        (subst (AllByRecursion Q) stands0.1.places (all-of (λ (e : ℕ × Node). e.0) Q (heads was.below) (all-heads h0 root Q was.below stands0.2 q)))
+
+    -- its subkeys are what they were
+    same-list : (count : ℕ) → above.fields.subkeys ≡ count → (above.fields.subkeys ≡ 0) ⊎ (h1 above.fields.subkeys_list ≡ h0 above.fields.subkeys_list)
+    same-list zero e = inl e
+    same-list (suc count) e =
+        let list = above.fields.subkeys_list in
+        let b = budget list in
+        let o = one list in
+        let t : times list old_list ≡ 1 = ap (λ n. times list (own n list)) e ∙ times-one list in
+        inr (calm1 list (omega (arith, b, o, t)))
+
+    pub subkeys1 : AreSubkeys h1 above.fields.subkeys above.fields.subkeys_list entries
+    subkeys1 =
+        subkeys-elsewhere h0 h1 above.fields.subkeys above.fields.subkeys_list entries (branch-subkeys h0 root was stands0 single) (same-list above.fields.subkeys refl)
+        (below-all (λ o. key_at h1 o ≡ key_at h0 o) (λ z l. key_at-same h0 h1 z (below1 z l)))
+
+    module _ (count1 list1 : ℕ) (moves : Moves h1 h2 (old_list ++ taken plan list_cell) (own count1 list1)) where
+      pub before : (z : ℕ) → times z (old_list ++ taken plan list_cell) ≡ times z old_list + times z (taken plan list_cell)
+      before z = times-append z old_list (taken plan list_cell)
+
+      pub calm2 : (z : ℕ) → 0 < allocated h0 z → times z old_list ≡ 0 → times z (taken plan list_cell) ≡ 0 → h2 z ≡ h1 z
+      calm2 z some a b = (let x = allocated1 z in let y = before z in moved-calm h1 h2 (old_list ++ taken plan list_cell) (own count1 list1) moves z (omega (arith, some, x)) (omega (arith, a, b, y)))
+
+      abbrev P : ℕ
+      P = was.place
+
+      pub P-own : K P ≡ 1
+      P-own = key-here P P refl
+
+      pub P-calm : h2 P ≡ h0 P
+      P-calm = let b = budget P in let o = one P in let k = P-own in calm2 P (omega (arith, b, k)) (omega (arith, b, o, k)) (omega (arith, b, o, k)) ∙ calm1 P (omega (arith, b, o, k))
+
+      pub P-then : key_at h2 P ≡ Some above
+      P-then = key_at-same h0 h2 P P-calm ∙ key-looked h0 P node seen.reads
+
+      module _ (name : List ℕ) (moment : ℕ) (notes : Notes h2 h3 parent (noted_subkeys count1 list1 (length name) moment)) where
+        pub its-notes : Notes h2 h3 was.place (noted_subkeys count1 list1 (length name) moment)
+        its-notes = subst (λ o. Notes h2 h3 o (noted_subkeys count1 list1 (length name) moment)) (sym place) notes
+
+        pub calm3 : (z : ℕ) → K z ≡ 0 → h3 z ≡ h2 z
+        calm3 z none = its-notes.others z (not-place z none)
+
+        pub written : IsWrittenSecurity h0 first
+        written = w.ring.written.0
+
+        pub first-once : times first (first ∷ []) ≡ 1
+        first-once = times-one first
+
+        pub first-calm : h3 first ≡ h0 first
+        first-calm = let b = budget first in let o = one first in let k = first-once in calm3 first (omega (arith, b, o, k)) ∙
+            (calm2 first (omega (arith, b, k)) (omega (arith, b, o, k)) (omega (arith, b, o, k)) ∙ calm1 first (omega (arith, b, o, k)))
+
+        pub first-there : security_at h3 first ≡ Some written.security
+        first-there = security_at-same h0 h3 first first-calm ∙ written.reads
