@@ -1,7 +1,12 @@
 -- New cells, side by side.
-use Rattle.std.specs.Prelude.{◌≡◌, ℕ, ◌+◌, ◌-◌, ◌<◌, ◌%◌, true, false, List, [], ◌∷◌, Option, Some, None, if◌then◌else◌, ◌==◌, replicate}
+use Rattle.std.specs.Prelude.{◌≡◌, ℕ, ◌+◌, ◌-◌, ◌*◌, ◌/◌, ◌<◌, ◌%◌, true, false, List, [], ◌∷◌, Option, Some, None, if◌then◌else◌, ◌==◌, replicate}
 use Rattle.std.specs.List.{AllByRecursion}
 use Rattle.reg_arena.specs.declared.Cell.{Cell}
+
+-- the size of the cell for so many bytes: the size field's 4 more, rounded up to a multiple of 8 (Suhanov, Windows registry file
+-- format specification, section "Cell")
+abbrev pub cell_size : ℕ → ℕ
+cell_size bytes = (bytes + 11) / 8 * 8
 
 -- all sizes together
 abbrev pub total_of : List ℕ → ℕ

@@ -124,19 +124,6 @@ impl Arena {
         write_part(&mut self.bins, from, bytes);
     }
 
-    /// Writes all of what the allocated cell at the offset `cell` holds. Nothing else changes.
-    #[tactic(auto, using(crate::proofs::Contents::ByteSplices::splice_whole))]
-    pub fn write_whole(&mut self, cell: u32, bytes: &[u8])
-        requires exists { IsSome (cell_at self.old.bytes cell) }
-        requires whole { length bytes.now ≡ length (unwrap_or (cell_at self.old.bytes cell) []) }
-        ensures written { (offset : ℕ) → cell_at self.new.bytes offset ≡ (if offset == cell then Some bytes.now else cell_at self.old.bytes offset) }
-        ensures writes { Writes (cell_at self.old.bytes) (cell_at self.new.bytes) (cell ∷ []) }
-        ensures cells { cells_of self.new.bytes ≡ cells_of self.old.bytes }
-        ensures heads { self.new.heads ≡ self.old.heads }
-    {
-        self.write(cell, 0, bytes);
-    }
-
     /// Copies the `len` bytes from `from` on of what the allocated cell at the offset `cell` holds to its bytes from `at`
     /// on; the two ranges may overlap. Nothing else changes, and it takes no memory.
     pub fn shift(&mut self, cell: u32, from: u32, at: u32, len: u32)

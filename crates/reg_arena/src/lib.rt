@@ -18,11 +18,13 @@ mod cut;
 mod free;
 pub mod laws;
 mod list;
+mod size;
 mod tables;
 mod walk;
 mod words;
 
 pub use arena::Arena;
+pub use size::cell_size;
 use thiserror::Error;
 
 /// The most bytes of cells that one carve may be asked for, their size fields too: 16 MiB, this project's own limit.

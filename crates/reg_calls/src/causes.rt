@@ -178,6 +178,8 @@ impl Store {
         if key.mask & SET_VALUE != SET_VALUE {
             return Some(ACCESS_DENIED);
         }
+        // Not `||`: the rules name both limits as one cause, and without a branch the proof has one equation for it. The look-up
+        // that `||` would save is needed wherever the journal has room.
         if self.is_full(entries) | has_no_value_room(&self.tree, key.node, name) {
             return Some(NO_SYSTEM_RESOURCES);
         }
@@ -245,7 +247,8 @@ impl Store {
         }
     }
 
-    /// Why a change would be refused after so many entries.
+    /// Why a change would be refused, by its status, when the journal has so many entries: the first cause in the order of the
+    /// rules. `None` where nothing refuses it.
     pub fn cause(&self, entries: usize, session: u8, change: &Change) -> Option<u32>
         requires session { session < SESSIONS_LIMIT }
         requires ready { IsReady entries self.now }

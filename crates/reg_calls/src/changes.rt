@@ -89,7 +89,7 @@ impl Store {
         requires cause { change_cause (at number self.old) session (OpenKey handle path.now mask) 0 ≡ None }
         ensures { (moment : ℕ) → IsMade self.old self.new session moment number (OpenKey handle path.now mask) result }
     {
-        // every key's path is short enough for the table
+        // Only for its clause `shallow`: no key is deeper than 512 names, so that the path's text is one that the table takes.
         let _ = self.tree.root();
         let Ok(text) = self.path_to(alloc, session, handle, path) else {
             return Err(Lack::Memory);
@@ -115,7 +115,7 @@ impl Store {
         requires cause { change_cause (at number self.old) session (CreateKey handle path.now mask) 0 ≡ None }
         ensures { IsMade self.old self.new session moment number (CreateKey handle path.now mask) result }
     {
-        // every key's path is short enough for the table
+        // Only for its clause `shallow`: no key is deeper than 512 names, so that the path's text is one that the table takes.
         let _ = self.tree.root();
         let Ok(text) = self.path_to(alloc, session, handle, path) else {
             return Err(Lack::Memory);
@@ -225,7 +225,8 @@ impl Store {
         accepted(number)
     }
 
-    /// Makes a change that nothing refuses, as the entry of that number. Then nothing is as before only after `Ok`.
+    /// Makes a change that nothing refuses, and tells the reply that is due for it as the journal's entry of that number. `Err`
+    /// says what was lacking, memory or space in the bins; then the store is as it was.
     pub fn make(
         &mut self,
         alloc: Global,

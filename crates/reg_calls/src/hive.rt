@@ -50,7 +50,8 @@ impl Hive {
     ghost use Rattle.reg_calls.specs.Runs.{Run, IsStep};
 
     /// A hive of one root: the name as given, mark 8 (no delete), no class, the descriptor, the moment (100 ns units
-    /// since 1601) and no values.
+    /// since 1601) and no values. No handle is open, and the journal is empty. `Name` where the name is none that a key may
+    /// have, else `Descriptor` where that is empty or above 65,535 bytes, else `Memory`.
     pub fn new(
         alloc: Global,
         root_name: &[u8],
@@ -78,7 +79,7 @@ impl Hive {
         }
     }
 
-    /// How many entries the journal has.
+    /// How many entries the journal has. They are legal: each was accepted after those before it.
     pub fn len(&self) -> usize
         ensures len { result ≡ length (view_of self.now).journal }
         ensures legal { IsLegal (view_of self.now).origin (view_of self.now).journal }
@@ -94,14 +95,18 @@ impl Hive {
         self.core.open_handles()
     }
 
-    /// The entry of that number.
+    /// The journal's entry of that number, counted from 0; `None` where there are not so many.
     pub fn entry(&self, place: usize) -> Option<&Entry>
         ensures { option_copied result ≡ slice_get (view_of self.now).journal place }
     {
         self.core.entry(place)
     }
 
-    /// The bins with their cells.
+    /// The hive's bytes: its bins with all their cells, to be read byte by byte.
+    ///
+    /// Whatever calls came before, they are a whole hive, and it is that of the journal. The cells tile the bins; each allocated
+    /// cell is reached from the root exactly as often as the references to it say, and each record is as it is written (clause
+    /// `whole`); and the tree that these records spell is that of the journal's replay (clauses `whole` and `tree`).
     pub fn arena(&self) -> &Arena
         ensures bins { result.now ≡ (view_of self.now).keys.bins }
         ensures tree { (view_of self.now).keys.tree ≡ (replay (view_of self.now).origin (view_of self.now).journal).tree }
@@ -144,7 +149,8 @@ impl Hive {
         }
     }
 
-    /// Answers calls in order. The only fault comes before the first of them.
+    /// Answers calls in order, and tells of each what `apply` or `read` would. Its one fault is that memory for the answers was
+    /// refused, before the first call; then the hive is as before.
     pub fn run(&mut self, alloc: Global, steps: Vec<Step>) -> Result<Vec<Outcome>, RunFault>
         requires { All (λ s. s.session < SESSIONS_LIMIT) steps.items }
         ensures ok { IfOk result (λ outcomes. Run (view_of self.old) steps.items outcomes.items (view_of self.new)) }

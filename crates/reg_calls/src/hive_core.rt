@@ -83,6 +83,7 @@ fn keep_room(journal: &mut Journal, handles: usize, change: &Change) -> Result<(
 impl Core {
     ghost use Rattle.reg_model.specs.Histories.{IsLegal, replay};
 
+    /// A hive of the keys of a tree, with no handle open and an empty journal. The tree as it is now is its origin.
     pub fn new(alloc: Global, tree: Tree) -> Core
         requires { IsSome (get tree.tree []) }
         ensures origin { result.origin ≡ tree.tree }
@@ -102,7 +103,7 @@ impl Core {
         }
     }
 
-    /// How many entries there are.
+    /// How many entries the journal has.
     pub fn len(&self) -> usize
         ensures len { result ≡ length self.now.journal }
         ensures legal { IsLegal self.now.origin self.now.journal }
@@ -110,6 +111,7 @@ impl Core {
         self.journal.len()
     }
 
+    /// How many handles are open, of all sessions.
     pub fn open_handles(&self) -> usize
         ensures number { result ≡ length self.now.handles }
         ensures replayed { self.now.handles ≡ (replay self.now.origin self.now.journal).handles }
@@ -117,12 +119,14 @@ impl Core {
         self.store.handles.len()
     }
 
+    /// The journal's entry of that number, if there are so many.
     pub fn entry(&self, place: usize) -> Option<&Entry>
         ensures { option_copied result ≡ slice_get self.now.journal place }
     {
         self.journal.entry(place)
     }
 
+    /// The bins with their cells: whole, and spelling the tree of the journal's replay.
     pub fn arena(&self) -> &Arena
         ensures bins { result.now ≡ self.now.keys.bins }
         ensures tree { self.now.keys.tree ≡ (replay self.now.origin self.now.journal).tree }
@@ -161,7 +165,7 @@ impl Core {
         }
     }
 
-    /// Answers a change.
+    /// Answers a change: refused by its cause, or made and noted, or given up for want of memory or space.
     pub fn apply(&mut self, session: u8, moment: u64, change: Change) -> ChangeReply
         requires { session < SESSIONS_LIMIT }
         ensures { IsApplied (change_cause (state self.old) session change 0) self.old self.new session moment change result }
@@ -172,7 +176,7 @@ impl Core {
         }
     }
 
-    /// Answers a question.
+    /// Answers a question, with the number of entries at which it was answered.
     pub fn read(&self, session: u8, query: &Query) -> Answer
         ensures at { result.at ≡ length self.now.journal }
         ensures body { IsRead (state self.now) session query.now result.body }

@@ -20,6 +20,7 @@ impl Model for Journal {
 }
 
 impl Journal {
+    /// A journal with no entry.
     pub fn new(alloc: Global) -> Journal
         ensures { result.entries ≡ [] }
     {
@@ -28,19 +29,21 @@ impl Journal {
         }
     }
 
+    /// How many entries there are.
     pub fn len(&self) -> usize
         ensures { result ≡ length self.now.entries }
     {
         self.entries.len()
     }
 
+    /// The entry of that number, counted from 0; `None` where there are not so many.
     pub fn entry(&self, place: usize) -> Option<&Entry>
         ensures { option_copied result ≡ slice_get self.now.entries place }
     {
         self.entries.get(place)
     }
 
-    /// Keeps room for so many more entries.
+    /// Keeps room for so many more entries. Its one fault is that memory was refused; then the entries are as before.
     pub fn reserve(&mut self, more: usize) -> Result<(), AllocError>
         ensures entries { self.new.entries ≡ self.old.entries }
         ensures room { self.old.room ≤ self.new.room }

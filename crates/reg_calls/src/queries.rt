@@ -196,7 +196,7 @@ fn info(tree: &Tree, node: Node) -> AnswerBody
     requires { IsThere tree.now node }
     ensures { (p : Path) → IsAt tree.now p node → result ≡ info_told tree.now.tree p }
 {
-    // every node's key is in the tree
+    // Only for its clause `key`: the node's key is in the tree, of which the clauses of what follows speak.
     let _ = tree.name(node);
     AnswerBody::Info {
         subkeys: tree.subkeys(node),
@@ -306,7 +306,7 @@ impl Store {
         info(&self.tree, key.node)
     }
 
-    /// Answers a question.
+    /// Answers a question of a session: the refusal, what is told, or 8 where memory was refused for a name or bytes.
     pub fn answer(&self, alloc: Global, session: u8, query: &Query) -> AnswerBody
         requires { AreStanding self.now }
         ensures { (n : ℕ) → IsRead (at n self.now) session query.now result }

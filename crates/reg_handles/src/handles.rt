@@ -71,7 +71,8 @@ impl Handles {
         self.counts[session as usize]
     }
 
-    /// Finds a handle of the session. Lends the folded path of its key as text, or `None` where the key was deleted.
+    /// Finds the handle of that number, if it is the session's. Lends the folded path of its key as text, or `None` where the
+    /// key was deleted.
     pub fn look(&self, session: u8, number: u64) -> Option<Found<'_>>
         ensures handle { shown session number result ≡ look session number self.now.handles }
         ensures path { IfLeads result IsFoldedPath }

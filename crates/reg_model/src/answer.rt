@@ -57,7 +57,7 @@ pub enum AnswerBody {
 }
 
 impl AnswerBody {
-    /// A copy, which equals its source.
+    /// A copy, which equals its source. Its one fault is that memory was refused.
     pub fn try_clone(&self, alloc: Global) -> Result<AnswerBody, AllocError>
         ensures { IfOk result (λ copy. copy ≡ self.now) }
     {
@@ -110,7 +110,7 @@ impl AnswerBody {
 }
 
 impl Answer {
-    /// A copy, which equals its source.
+    /// A copy, which equals its source. Its one fault is that memory was refused.
     pub fn try_clone(&self, alloc: Global) -> Result<Answer, AllocError>
         ensures { IfOk result (λ copy. copy ≡ self.now) }
     {

@@ -33,13 +33,14 @@ impl Bytes {
         items
     }
 
+    /// The bytes, lent.
     pub fn as_slice(&self) -> &[u8]
         ensures { result.now ≡ self.now }
     {
         self.items.as_slice()
     }
 
-    /// A copy of a slice's bytes.
+    /// A copy of a slice's bytes. Its one fault is that memory was refused.
     pub fn from_slice(alloc: Global, bytes: &[u8]) -> Result<Bytes, AllocError>
         ensures { IfOk result (λ copy. copy ≡ bytes.now) }
     {
@@ -47,7 +48,7 @@ impl Bytes {
         Ok(Bytes { items })
     }
 
-    /// A copy, which equals its source.
+    /// A copy, which equals its source. Its one fault is that memory was refused.
     pub fn try_clone(&self, alloc: Global) -> Result<Bytes, AllocError>
         ensures { IfOk result (λ copy. copy ≡ self.now) }
     {

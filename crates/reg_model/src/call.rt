@@ -48,7 +48,7 @@ pub enum Change {
 }
 
 impl Change {
-    /// A copy, which equals its source.
+    /// A copy, which equals its source. Its one fault is that memory was refused.
     pub fn try_clone(&self, alloc: Global) -> Result<Change, AllocError>
         ensures { IfOk result (λ copy. copy ≡ self.now) }
     {
@@ -121,7 +121,7 @@ pub enum Query {
 }
 
 impl Query {
-    /// A copy, which equals its source.
+    /// A copy, which equals its source. Its one fault is that memory was refused.
     pub fn try_clone(&self, alloc: Global) -> Result<Query, AllocError>
         ensures { IfOk result (λ copy. copy ≡ self.now) }
     {
@@ -164,7 +164,7 @@ pub enum Call {
 }
 
 impl Call {
-    /// A copy, which equals its source.
+    /// A copy, which equals its source. Its one fault is that memory was refused.
     pub fn try_clone(&self, alloc: Global) -> Result<Call, AllocError>
         ensures { IfOk result (λ copy. copy ≡ self.now) }
     {

@@ -30,7 +30,7 @@ pub struct Entry {
 }
 
 impl Entry {
-    /// A copy, which equals its source.
+    /// A copy, which equals its source. Its one fault is that memory was refused.
     pub fn try_clone(&self, alloc: Global) -> Result<Entry, AllocError>
         ensures { IfOk result (λ copy. copy ≡ self.now) }
     {

@@ -14,7 +14,7 @@ pub struct Step {
 }
 
 impl Step {
-    /// A copy, which equals its source.
+    /// A copy, which equals its source. Its one fault is that memory was refused.
     pub fn try_clone(&self, alloc: Global) -> Result<Step, AllocError>
         ensures { IfOk result (λ copy. copy ≡ self.now) }
     {
@@ -34,7 +34,7 @@ pub enum Outcome {
 }
 
 impl Outcome {
-    /// A copy, which equals its source.
+    /// A copy, which equals its source. Its one fault is that memory was refused.
     pub fn try_clone(&self, alloc: Global) -> Result<Outcome, AllocError>
         ensures { IfOk result (λ copy. copy ≡ self.now) }
     {

@@ -176,8 +176,9 @@ fn push_backslash(text: &mut Vec<u8>, above: &[u8], path: &[u8]) -> Result<(), A
     Ok(())
 }
 
-/// A path behind another, folded: the names of both, with one backslash between each two. Neither text alone says how many
-/// names there are together.
+/// A path behind another, folded: the names of both, with one backslash between each two. Two paths of at most 512 names may
+/// have more together, and only with at most 512 is the text a path again (clause `valid`). Its one fault is that memory was
+/// refused.
 pub fn join_paths(alloc: Global, above: &[u8], path: &[u8]) -> Result<Vec<u8>, AllocError>
     requires above { is_path above.now ≡ true }
     requires path { is_path path.now ≡ true }

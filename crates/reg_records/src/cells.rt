@@ -5,7 +5,7 @@ ghost use Rattle.reg_records.specs.RecordCells.{HasRoom, WritesPart, WritesRecor
 
 use reg_arena::Arena;
 
-/// Writes a part of what a cell holds.
+/// Writes a part of what a cell holds, from byte `at` of it on. The bytes before and behind it stay.
 pub fn write_part(arena: &mut Arena, cell: u32, at: u32, bytes: &[u8])
     requires { HasRoom (cell_at arena.old.bytes) cell (at + length bytes.now) }
     ensures { WritesPart arena.old arena.new cell at bytes.now }
@@ -13,7 +13,7 @@ pub fn write_part(arena: &mut Arena, cell: u32, at: u32, bytes: &[u8])
     arena.write(cell, at, bytes);
 }
 
-/// Writes a record of two parts at the start of what a cell holds.
+/// Writes a record of two parts, the one behind the other, at the start of what a cell holds. What follows it there stays.
 pub fn write_record(arena: &mut Arena, cell: u32, head: &[u8], tail: &[u8])
     requires room { HasRoom (cell_at arena.old.bytes) cell (length head.now + length tail.now) }
     requires head { length head.now < 2 ^ 32 }

@@ -259,7 +259,8 @@ impl Script {
 }
 
 /// Runs a script of registry calls on a hive and writes the replies, each on a line of its own. Where it succeeds, what
-/// was written is what the rules give for all that was read.
+/// was written is what the rules give for all that was read. A fault says what ended it early ([`ScriptFault`]); then the
+/// replies to all lines before it stand, and the hive is as those lines left it.
 pub fn run<R: Read, W: Write>(
     alloc: Global,
     reader: &mut R,

@@ -32,6 +32,7 @@ fn write_counted<W: Write>(writer: &mut W, bytes: &[u8]) -> usize
 }
 
 impl Output {
+    /// Nothing gathered, and nothing written.
     pub fn new(alloc: Global) -> Output
         ensures text { string_bytes result.text ≡ [] }
         ensures written { result.written ≡ 0 }

@@ -9,7 +9,7 @@ use reg_model::{Bytes, Call, Change, Query};
 use std::alloc::{AllocError, Global};
 use std::marker::Model;
 
-/// Understands a line, without its LF.
+/// Understands a line, without its LF. One of no known form is `Line::Bad`. Its one fault is that memory was refused.
 pub fn parse(alloc: Global, line: &[u8]) -> Result<Line, AllocError>
     ensures { IfOk result (λ l. said l ≡ meaning_of line.now) }
 {

@@ -8,16 +8,6 @@ ghost use Rattle.reg_tree.specs.Internal.FreshCells.{AreCarved};
 use reg_arena::{Arena, ArenaFault};
 use std::alloc::Global;
 
-/// The size of the cell that holds so many bytes: 4 more, rounded up to a multiple of 8.
-pub fn cell_size(content: u32) -> u32
-    requires { content < 2 ^ 24 - 16 }
-    ensures multiple { result % 8 ≡ 0 }
-    ensures holds { content + 4 ≤ result }
-    ensures least { result < content + 12 }
-{
-    (content + 11) / 8 * 8
-}
-
 /// Two new cells of zeros, side by side.
 pub fn carve_two(
     arena: &mut Arena,

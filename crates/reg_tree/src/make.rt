@@ -17,12 +17,11 @@ ghost use Rattle.reg_tree.specs.TreeInvariant.{IsHere};
 ghost use Rattle.reg_tree.specs.Internal.SpareCells.{planned, MayGrow, Grows, AreReady, MayGrowAll, GrowsAll, sizes_of, IsSpared};
 ghost use Rattle.reg_tree.specs.Internal.KeyCreation.{IsCreated, AreTooMany};
 
-use crate::cells::cell_size;
 use crate::find::reach;
 use crate::key::{fields, new_key, note_subkeys, subkeys_list};
 use crate::ring::{recount, with_one_more};
 use crate::{Created, Node, TreeFault};
-use reg_arena::Arena;
+use reg_arena::{Arena, cell_size};
 use reg_heap::limits::{MADE_LIMIT, NONE, SUBKEYS_LIMIT};
 use reg_index::{SubkeysIndex, find, insert, len, plan_insert};
 use reg_names::{PATH_LIMIT, first_name};
@@ -211,7 +210,9 @@ fn carve_for(
     }
 }
 
-/// Makes the keys of a path from a key on that are missing, and answers the last key and whether one was made.
+/// Makes the keys of a path from a key on that are missing, and answers the last key and whether one was made. All cells are
+/// carved before the first key is made, so that only that can fail for want of room: `Limit` by `is_limited`, `Full`, `Memory`.
+/// After a fault the arena is as before.
 pub fn create(
     arena: &mut Arena,
     alloc: Global,

@@ -30,7 +30,7 @@ pub fn name(arena: &Arena, key: u32) -> &[u8]
     }
 }
 
-/// A key's last write time.
+/// A key's last write time, in 100 ns ticks since 1601.
 pub fn time(arena: &Arena, key: u32) -> u64
     requires { IsHere arena.now.bytes key }
     ensures { (t : IsHere arena.now.bytes key) → (r : Rec) → get (tree_in arena.now.bytes t.root) t.path ≡ Some r → result ≡ r.time }

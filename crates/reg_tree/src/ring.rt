@@ -1,4 +1,5 @@
-//! The hive's key security, and how many keys use it.
+//! The ring of key securities, in which each names the next and the one before. All keys share one so far: it is its own
+//! neighbour on both sides, and counts the key nodes that name it, each once.
 ghost use Rattle.std.specs.Prelude.{◌≡◌, ◌≤◌, ◌<◌, ◌+◌, ◌-◌, IsSome, Some, length};
 ghost use Rattle.reg_arena.specs.Cells.{cell_at};
 ghost use Rattle.reg_records.specs.KeySecurities.{KeySecurityRecord, security_at};
@@ -29,7 +30,8 @@ fn count(arena: &Arena, security: u32) -> u32
     }
 }
 
-/// How many keys use a key security, with one key more. There are fewer keys than bytes.
+/// How many keys use a key security, with one key more. The sum stays within four bytes, since there are fewer keys than bytes
+/// of bins.
 pub fn with_one_more(arena: &Arena, security: u32) -> u32
     requires there { IsSome (security_at (cell_at arena.now.bytes) security) }
     requires few { (s : KeySecurityRecord) → security_at (cell_at arena.now.bytes) security ≡ Some s → s.fields.count < length arena.now.bytes }

@@ -9,11 +9,11 @@ ghost use Rattle.reg_heap.specs.Members.{value_named};
 ghost use Rattle.reg_heap.specs.Edits.{edited, with_value, without_value, values_at, folded_path, with_keys, missing, are_too_many, without_key, IsKept};
 ghost use Rattle.reg_values.specs.ValueLists.{Tells};
 
-use crate::cells::{carve_two, cell_size};
+use crate::cells::carve_two;
 use crate::key::new_root;
 use crate::ring::new_ring;
 use crate::{Created, Node, TreeFault, ValueFound, find, make, read, unmake, values};
-use reg_arena::{Arena, ArenaFault};
+use reg_arena::{Arena, ArenaFault, cell_size};
 use reg_records::{put_nk, put_sk};
 use reg_values::Value;
 use std::alloc::{AllocError, Global};
@@ -43,8 +43,8 @@ impl Tree {
     ghost use Rattle.reg_tree.specs.TreeKeys.{made_root, IsWholeTree, IsAt, IsThere, IsResolved, KeepsNodes};
     ghost use Rattle.reg_tree.specs.Internal.KeyNodeChanges.{IsFound};
 
-    /// A tree of one root: the name as given, no delete, no class, the descriptor, the moment (100 ns ticks since 1601), no
-    /// values.
+    /// A tree of one root: the name as given, mark 8 (no delete), no class, the descriptor, the moment (100 ns ticks since
+    /// 1601), no values. Its one fault is `Memory`.
     pub fn new(
         alloc: Global,
         root_name: &[u8],
@@ -69,7 +69,8 @@ impl Tree {
         Ok(Tree { arena, root })
     }
 
-    /// The bins with their cells.
+    /// The bins with their cells, to be read byte by byte. They are whole, and spell the tree: each allocated cell is met from the
+    /// root exactly as often as the records say, and the keys that are read there are those of the map.
     pub fn arena(&self) -> &Arena
         ensures bins { result.now ≡ self.now.bins }
         ensures whole { IsWholeTree self.now.bins.bytes self.now.root self.now.tree }
@@ -77,7 +78,7 @@ impl Tree {
         &self.arena
     }
 
-    /// The root. Every key's path has at most 512 names.
+    /// The root. It also tells (clause `shallow`) that every key's path has at most 512 names.
     pub fn root(&self) -> Node
         ensures at { IsAt self.now [] result }
         ensures shallow { (p : Path) → IsSome (get self.now.tree p) → length p ≤ PATH_LIMIT }
@@ -183,7 +184,7 @@ impl Tree {
         values::find(&self.arena, node.offset, name)
     }
 
-    /// The bytes of a key's value at a place, counted from 0.
+    /// A copy of the bytes of a key's value at an index, counted from 0. Its one fault is that memory was refused.
     pub fn value_bytes(&self, alloc: Global, node: Node, index: u32) -> Result<Vec<u8>, AllocError>
         requires { (p : Path) × IsAt self.now p node × (index < length (values_at self.now.tree p)) }
         ensures { (p : Path) → IsAt self.now p node →

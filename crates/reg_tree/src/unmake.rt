@@ -95,7 +95,8 @@ fn is_kept(arena: &Arena, key: u32) -> bool
     flags & HIVE_ENTRY != 0 || flags & NO_DELETE != 0
 }
 
-/// Deletes a key with its values, and sets its parent's time. It takes no memory.
+/// Deletes a key with its values, and sets its parent's time. It takes no memory. `HasChildren` where the key has subkeys,
+/// and `NoDelete` where it has none, and is the root or is marked; then the arena is as before.
 pub fn delete(arena: &mut Arena, key: u32, moment: u64) -> Result<(), TreeFault>
     requires { IsHere arena.old.bytes key }
     ensures ok { (t : IsHere arena.old.bytes key) → OnOk result (IsDeleted arena.old.bytes arena.new.bytes t.root t.path moment) }

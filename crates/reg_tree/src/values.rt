@@ -20,6 +20,7 @@ use reg_heap::limits::VALUES_LIMIT;
 use reg_values::{Value, ValuesList};
 use std::alloc::{AllocError, Global};
 
+/// How many values a key has.
 pub fn count(arena: &Arena, key: u32) -> u32
     requires { IsHere arena.now.bytes key }
     ensures { (t : IsHere arena.now.bytes key) → result ≡ length (values_at (tree_in arena.now.bytes t.root) t.path) }
@@ -27,6 +28,7 @@ pub fn count(arena: &Arena, key: u32) -> u32
     values_list(arena, key).count
 }
 
+/// The value of that name, after folding, with its index, if the key has one.
 pub fn find(arena: &Arena, key: u32, name: &[u8]) -> Option<ValueFound>
     requires { IsHere arena.now.bytes key }
     ensures { (t : IsHere arena.now.bytes key) →
@@ -45,6 +47,7 @@ pub fn find(arena: &Arena, key: u32, name: &[u8]) -> Option<ValueFound>
     })
 }
 
+/// A copy of the data of a key's value at an index, counted from 0. Its one fault is that memory was refused.
 pub fn bytes(arena: &Arena, alloc: Global, key: u32, index: u32) -> Result<Vec<u8>, AllocError>
     requires { (t : IsHere arena.now.bytes key) × (index < length (values_at (tree_in arena.now.bytes t.root) t.path)) }
     ensures { (t : IsHere arena.now.bytes key) →
@@ -55,6 +58,7 @@ pub fn bytes(arena: &Arena, alloc: Global, key: u32, index: u32) -> Result<Vec<u
     reg_values::bytes_of(arena, alloc, values_list(arena, key), index)
 }
 
+/// A key's value at an index, counted from 0, without its data; `None` where there are not so many.
 pub fn at(arena: &Arena, key: u32, index: u32) -> Option<Value<'_>>
     requires { IsHere arena.now.bytes key }
     ensures told { (t : IsHere arena.now.bytes key) →
@@ -85,7 +89,9 @@ fn is_full(arena: &Arena, key: u32, list: ValuesList, name: &[u8]) -> bool
     reg_values::find(arena, list, name).is_none()
 }
 
-/// Sets a value, and notes it in the root's key node.
+/// Sets a value of a key: the cells of its list and data first, which may fail, then the key's own node, which notes the list
+/// and the time. `Limit` where there are 16,384 values and none of that name; `Full` and `Memory` as `reg_values::set` has
+/// them. After a fault the arena is as before.
 pub fn set(
     arena: &mut Arena,
     alloc: Global,
@@ -126,7 +132,8 @@ pub fn set(
     Ok(())
 }
 
-/// Removes a value, and notes it in the root's key node.
+/// Removes a value of a key, and notes the list that is left and the time in the key's own node. `NotFound` where there is
+/// none of that name, its one fault; then the arena is as before.
 pub fn delete(arena: &mut Arena, key: u32, name: &[u8], moment: u64) -> Result<(), TreeFault>
     requires { IsHere arena.old.bytes key }
     ensures ok { (t : IsHere arena.old.bytes key) → OnOk result (IsChanged arena.old.bytes arena.new.bytes t.root t.path (without_value name.now moment)) }

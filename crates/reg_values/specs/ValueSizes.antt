@@ -1,20 +1,17 @@
 -- The cells that a set of a value takes (Suhanov, Windows registry file format specification, "Cell", "Key values list",
 -- "Key value", "Big data").
-use Rattle.std.specs.Prelude.{ℕ, zero, suc, ◌+◌, ◌-◌, ◌*◌, ◌/◌, ◌==◌, ◌&&◌, nat_lt, nat_le, not, min, Bool, if◌then◌else◌, Option, Some, None, List}
+use Rattle.std.specs.Prelude.{ℕ, zero, suc, ◌+◌, ◌-◌, ◌*◌, ◌==◌, ◌&&◌, nat_lt, nat_le, not, min, Bool, if◌then◌else◌, Option, Some, None, List}
 use Rattle.std.specs.Prelude.{[], ◌∷◌, ◌++◌, length}
 use Rattle.std.specs.Option.{option_and_then}
 use Rattle.reg_heap.specs.Members.{place_named}
 use Rattle.reg_heap.specs.Internal.Heaps.{Heap}
+use Rattle.reg_arena.specs.NewCells.{cell_size}
 use Rattle.reg_records.specs.declared.vk.ValueFields.{ValueFields}
 use Rattle.reg_records.specs.RecordCells.{held}
 use Rattle.reg_records.specs.KeyValues.{KeyValueRecord, value_record_at}
 use Rattle.reg_records.specs.OffsetRows.{offset_in}
 use Rattle.reg_records.specs.BigData.{segment_size, segments_for}
 use Rattle.reg_shape.specs.Nodes.{members_at}
-
--- the size of the cell for so many bytes: the size field's 4 more, rounded up to a multiple of 8
-abbrev pub cell_size : ℕ → ℕ
-cell_size bytes = (bytes + 11) / 8 * 8
 
 -- the cells of so many segments, each of the largest size but the last, which has the rest
 abbrev pub segment_sizes : ℕ → ℕ → List ℕ

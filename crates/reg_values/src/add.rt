@@ -16,7 +16,8 @@ ghost use Rattle.reg_records.specs.RecordCells.{HasRoom};
 ghost use Rattle.reg_shape.specs.Nodes.{members_at};
 ghost use Rattle.reg_values.specs.ValueLists.{AreValues, Became, Makes};
 ghost use Rattle.reg_values.specs.Internal.ValueListParts.{list_at, Owns, OwnsBeside, BecameList, Fills, HaveRoom, HoldsValue, KeepsSizes};
-ghost use Rattle.reg_values.specs.ValueSizes.{cell_size, data_sizes, sizes_by};
+ghost use Rattle.reg_arena.specs.NewCells.{cell_size};
+ghost use Rattle.reg_values.specs.ValueSizes.{data_sizes, sizes_by};
 
 use crate::ValuesList;
 use crate::data::put_data;

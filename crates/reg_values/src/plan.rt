@@ -8,29 +8,21 @@ ghost use Rattle.reg_names.specs.Names.{is_value_name};
 ghost use Rattle.reg_heap.specs.declared.limits.TheConstants.{DATA_LIMIT, VALUES_LIMIT};
 ghost use Rattle.reg_arena.specs.Cells.{cell_at};
 ghost use Rattle.reg_values.specs.ValueLists.{AreValues};
-ghost use Rattle.reg_values.specs.ValueSizes.{cell_size as cell_size_of, data_sizes, segment_sizes, list_sizes, has_room as has_room_of};
+ghost use Rattle.reg_values.specs.ValueSizes.{data_sizes, segment_sizes, list_sizes, has_room as has_room_of};
 ghost use Rattle.reg_values.specs.ValueSizes.{stays as stays_of, sizes_by, set_sizes};
 
 use crate::big::segments_for;
 use crate::look::{cell_of, find, record_at};
 use crate::{INLINE_LIMIT, ValuesList};
-use reg_arena::Arena;
+use reg_arena::{Arena, cell_size};
 use reg_records::{SEGMENT_SIZE, ValueFields};
 use std::alloc::{AllocError, Global};
 
 /// The length of a value's record before its name, in bytes.
-const HEAD: usize = 20;
+const HEAD: u32 = 20;
 
 /// The length of a big data record, in bytes.
-const BIG_HEAD: usize = 8;
-
-/// The size of the cell that holds so many bytes: 4 more, rounded up to a multiple of 8.
-fn cell_size(bytes: usize) -> u32
-    requires { bytes ≤ 4294967280 }
-    ensures { result ≡ cell_size_of bytes }
-{
-    ((bytes + 11) / 8 * 8) as u32
-}
+const BIG_HEAD: u32 = 8;
 
 /// Puts the sizes of the cells of data of a size behind those of `sizes`.
 #[tactic(auto, unfolding(crate::specs::ValueSizes::data_sizes, reg_records::specs::BigData::segment_size))]
@@ -42,12 +34,12 @@ pub(crate) fn plan_data(sizes: &mut Vec<u32>, size: usize) -> Result<(), AllocEr
         return Ok(());
     }
     if size <= SEGMENT_SIZE {
-        sizes.push(cell_size(size))?;
+        sizes.push(cell_size(size as u32))?;
         return Ok(());
     }
     let count = segments_for(size);
     sizes.push(cell_size(BIG_HEAD))?;
-    sizes.push(cell_size(4 * count))?;
+    sizes.push(cell_size(4 * count as u32))?;
     plan_segments(sizes, count, size)
 }
 
@@ -58,7 +50,7 @@ fn plan_segments(sizes: &mut Vec<u32>, count: usize, size: usize) -> Result<(), 
     ensures { OnOk result (sizes.new.items ≡ sizes.old.items ++ segment_sizes count size) }
 {
     for index in 0..count {
-        sizes.push(cell_size((size - SEGMENT_SIZE * index).min(SEGMENT_SIZE)))?;
+        sizes.push(cell_size((size - SEGMENT_SIZE * index).min(SEGMENT_SIZE) as u32))?;
     }
     Ok(())
 }
@@ -81,7 +73,7 @@ pub(crate) fn stays(arena: &Arena, old: ValueFields, size: usize) -> bool
     size > INLINE_LIMIT
         && size <= SEGMENT_SIZE
         && old.size as usize <= SEGMENT_SIZE
-        && cell_size(size) as usize == arena.content(old.place).len() + 4
+        && cell_size(size as u32) as usize == arena.content(old.place).len() + 4
 }
 
 /// Puts the size of the cell that a list moves to for one value more, if it moves, behind those of `sizes`.
@@ -94,7 +86,7 @@ fn plan_list(sizes: &mut Vec<u32>, arena: &Arena, list: ValuesList) -> Result<()
     if has_room(arena, list) {
         return Ok(());
     }
-    sizes.push(cell_size(4 * list.count as usize + 4))?;
+    sizes.push(cell_size(4 * list.count + 4))?;
     Ok(())
 }
 
@@ -114,7 +106,7 @@ pub(crate) fn plan_add(
     ensures { IfOk result (λ sizes. sizes.items ≡ sizes_by (cell_at arena.now.bytes) list.count list.place name size None) }
 {
     let mut sizes = Vec::new(alloc);
-    sizes.push(cell_size(HEAD + name))?;
+    sizes.push(cell_size(HEAD + name as u32))?;
     plan_list(&mut sizes, arena, list)?;
     plan_data(&mut sizes, size)?;
     Ok(sizes)

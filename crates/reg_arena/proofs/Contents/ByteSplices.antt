@@ -68,8 +68,3 @@ pub word-splice : (p n : ℕ) (xs : List ℕ) → p ≤ length xs → n < 429496
 unfolding word
 word-splice p n xs h l =
     rw (drop-splice p (little_bytes 4 n) xs h) (little_number-reads_back 4 n (drop (p + 4) xs) (omega arith))
-
--- all of the bytes written over
-pub splice_whole : (piece xs : List ℕ) → length piece ≡ length xs → splice 0 piece xs ≡ piece
-unfolding splice
-splice_whole piece xs e = rw (drop_all (0 + length piece) xs (omega arith)) (append-nil piece)

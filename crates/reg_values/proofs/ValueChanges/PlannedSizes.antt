@@ -13,7 +13,8 @@ use Rattle.reg_records.specs.RecordCells.{held}
 use Rattle.reg_records.specs.OffsetRows.{offset_in}
 use Rattle.reg_records.specs.KeyValues.{KeyValueRecord, value_record_at}
 use Rattle.reg_shape.specs.Nodes.{members_at}
-use Rattle.reg_values.specs.ValueSizes.{cell_size, segment_sizes, data_sizes, stays, sizes_by, new_data_sizes, set_sizes}
+use Rattle.reg_arena.specs.NewCells.{cell_size}
+use Rattle.reg_values.specs.ValueSizes.{segment_sizes, data_sizes, stays, sizes_by, new_data_sizes, set_sizes}
 use Rattle.reg_values.proofs.ValueData.DataPieces.{le-false, next-size}
 use Rattle.reg_values.proofs.ValueData.SegmentReading.{segment-is}
 

@@ -9,7 +9,8 @@ use Rattle.std.proofs.lemmas.Bool.{and_parts, leb-true, false≢true}
 use Rattle.reg_heap.specs.declared.limits.TheConstants.{VALUES_LIMIT, DATA_LIMIT}
 use Rattle.reg_arena.specs.NewCells.{AreSizes}
 use Rattle.reg_records.specs.RecordCells.{HasRoom, held}
-use Rattle.reg_values.specs.ValueSizes.{cell_size, data_sizes, list_sizes, sizes_by, has_room}
+use Rattle.reg_arena.specs.NewCells.{cell_size}
+use Rattle.reg_values.specs.ValueSizes.{data_sizes, list_sizes, sizes_by, has_room}
 use Rattle.reg_values.proofs.ValueData.NewCellRoom.{new-room, list-one-more, list-two}
 use Rattle.reg_values.proofs.ValueData.FilledCells.{fills-room}
 use Rattle.reg_values.proofs.ValueData.CellSizeTotals.{makes}

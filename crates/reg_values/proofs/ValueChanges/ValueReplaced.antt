@@ -21,7 +21,8 @@ use Rattle.reg_shape.proofs.Walking.InnerReadings.{data-inner, member-inner}
 use Rattle.reg_shape.proofs.Frame.ReadingFrame.{Agree, data-local, member-local}
 use Rattle.reg_shape.proofs.Frame.WrittenFrame.{value-kept, same-held}
 use Rattle.reg_values.specs.ValueLists.{Makes}
-use Rattle.reg_values.specs.ValueSizes.{cell_size, stays, data_sizes, new_data_sizes}
+use Rattle.reg_arena.specs.NewCells.{cell_size}
+use Rattle.reg_values.specs.ValueSizes.{stays, data_sizes, new_data_sizes}
 use Rattle.reg_values.specs.Internal.ValueListParts.{Fills, HoldsData, Owns, OwnsBeside, GivesUpRead, BecameValue, Keeps}
 use Rattle.reg_values.proofs.ValueListing.FoundValues.{member-open, name-told, record-there, is-some}
 use Rattle.reg_values.proofs.ValueData.DataPieces.{le-false}

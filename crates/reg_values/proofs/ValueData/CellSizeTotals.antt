@@ -14,7 +14,8 @@ use Rattle.reg_heap.specs.Internal.Kinds.{times}
 use Rattle.reg_records.specs.RecordCells.{held}
 use Rattle.reg_records.specs.BigData.{segment_size, segments_for}
 use Rattle.reg_values.specs.ValueLists.{Makes}
-use Rattle.reg_values.specs.ValueSizes.{cell_size, segment_sizes, data_sizes, list_sizes, sizes_by, has_room, stays, new_data_sizes}
+use Rattle.reg_arena.specs.NewCells.{cell_size}
+use Rattle.reg_values.specs.ValueSizes.{segment_sizes, data_sizes, list_sizes, sizes_by, has_room, stays, new_data_sizes}
 use Rattle.reg_records.specs.KeyValues.{KeyValueRecord}
 use Rattle.reg_values.proofs.ValueListing.FoundValues.{held-is}
 use Rattle.reg_values.proofs.ValueFreeing.SwapChains.{allocated-le, none-there, there-one, times-same}

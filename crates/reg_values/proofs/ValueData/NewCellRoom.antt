@@ -10,7 +10,8 @@ use Rattle.reg_records.specs.declared.db.TheConstants.{SEGMENT_SIZE}
 use Rattle.reg_records.specs.RecordCells.{HasRoom}
 use Rattle.reg_records.specs.BigData.{segment_size, segments_for}
 use Rattle.reg_values.specs.Internal.ValueListParts.{HaveRoom}
-use Rattle.reg_values.specs.ValueSizes.{cell_size, segment_sizes, data_sizes}
+use Rattle.reg_arena.specs.NewCells.{cell_size}
+use Rattle.reg_values.specs.ValueSizes.{segment_sizes, data_sizes}
 use Rattle.reg_values.proofs.ValueListing.FoundValues.{is-some, held-is}
 use Rattle.reg_values.proofs.ValueData.SegmentReading.{segment-is}
 use Rattle.reg_values.proofs.ValueFreeing.SwapChains.{allocated-le}
