@@ -1,6 +1,7 @@
 -- What each line of a script means (this project's own rules of the script).
-use Rattle.std.specs.Prelude.{ℕ, ◌==◌, if◌then◌else◌, List, [], ◌∷◌, codes, Option, Some, None, option_map, option_and_then, unwrap_or}
+use Rattle.std.specs.Prelude.{ℕ, ◌-◌, ◌==◌, if◌then◌else◌, List, [], ◌∷◌, codes, Option, Some, None, option_map, option_and_then, unwrap_or}
 use Rattle.std.specs.Str.{bytes_eq}
+use Rattle.reg_model.specs.declared.limits.TheConstants.{SESSIONS_LIMIT}
 use Rattle.reg_model.specs.declared.call.Call.{Call}
 use Rattle.reg_model.specs.declared.call.Call.TheVariants.{Change, Query}
 use Rattle.reg_model.specs.declared.call.Change.TheVariants.{OpenRoot, OpenKey, CreateKey, SetValue, DeleteValue, DeleteKey, Close}
@@ -40,6 +41,10 @@ small_number_of = number_of 4294967295
 abbrev pub long_number_of : List ℕ → Option ℕ
 long_number_of = number_of 18446744073709551615
 
+-- a session: a number below how many there are
+abbrev pub session_number_of : List ℕ → Option ℕ
+session_number_of = number_of (SESSIONS_LIMIT - 1)
+
 -- a ROOM word: `-` for none, or a number
 unfoldable pub room_of : List ℕ → Option (Option ℕ)
 room_of word = if bytes_eq word (codes "-") then Some None else option_map Some (small_number_of word)
@@ -71,7 +76,7 @@ verb_of word =
 -- what the words after the first mean; a PATH word is of the form of a name
 unfoldable pub by_verb : Verb → List (List ℕ) → Option Meaning
 by_verb At = reading long_number_of (λ moment. ending (at_moment moment))
-by_verb As = reading (number_of 63) (λ session. ending (as_session session))
+by_verb As = reading session_number_of (λ session. ending (as_session session))
 by_verb Hive = reading (number_of 0) (λ hive. ending on_hive)
 by_verb Root = reading small_number_of (λ mask. ending (asks (Change (OpenRoot mask))))
 by_verb Open =

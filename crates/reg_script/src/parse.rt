@@ -1,6 +1,6 @@
 ghost use Rattle.std.specs.Prelude.{◌≡◌, ◌≢◌, ◌==◌, ◌∷◌, [], position, IfOk, MatchResult, option_copied};
 ghost use Rattle.reg_script.specs.LineWords.{words_of, number_of, name_of, data_of};
-ghost use Rattle.reg_script.specs.LineMeanings.{reading, first_of, small_number_of, room_of, verb_of, by_verb, meaning_of};
+ghost use Rattle.reg_script.specs.LineMeanings.{reading, first_of, session_number_of, small_number_of, room_of, verb_of, by_verb, meaning_of};
 ghost use Rattle.reg_script.specs.Internal.WordReadings.{words_left, Reads, Means, said};
 
 use crate::line::{Line, Session, Setting, Verb};
@@ -84,8 +84,8 @@ impl<'a> Words<'a> {
 
     #[tactic(auto, using(crate::proofs::WordReadingLemmas::readings))]
     fn session(&mut self) -> Result<Session, ParseFault>
-        ensures { MatchResult result (λ s. first_of (number_of 63) self.old ≡ Some (s.number, self.new))
-            (λ e. e ≡ ParseFault.Form → first_of (number_of 63) self.old ≡ None) }
+        ensures { MatchResult result (λ s. first_of session_number_of self.old ≡ Some (s.number, self.new))
+            (λ e. e ≡ ParseFault.Form → first_of session_number_of self.old ≡ None) }
     {
         session(self.next()?)
     }

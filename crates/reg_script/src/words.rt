@@ -4,11 +4,12 @@ ghost use Rattle.std.specs.Prelude.{◌≡◌, ◌<◌, ◌≤◌, ◌∷◌, []
 ghost use Rattle.hex.specs.Hex.{hex_digit_value};
 ghost use Rattle.reg_script.specs.declared.words.ParseFault.TheVariants.{Memory};
 ghost use Rattle.reg_script.specs.LineWords.{after_mark as after_mark_of, number_of, escaped_byte, unescaped, name_of, data_of};
-ghost use Rattle.reg_script.specs.LineMeanings.{small_number_of, room_of, call_verb_of, verb_of};
+ghost use Rattle.reg_script.specs.LineMeanings.{small_number_of, session_number_of, room_of, call_verb_of, verb_of};
 
 use crate::line::{Session, Verb};
 use hex::FromHexError;
 use reg_model::Bytes;
+use reg_model::limits::SESSIONS_LIMIT;
 use std::alloc::{AllocError, AllocFailed, Global};
 
 /// Why a line isn't understood.
@@ -129,11 +130,11 @@ pub fn small_number(word: &[u8]) -> Result<u32, ParseFault>
     Ok(number(word, u64::from(u32::MAX))? as u32)
 }
 
-/// A number below 64.
+/// A session: a number below [`SESSIONS_LIMIT`].
 pub fn session(word: &[u8]) -> Result<Session, ParseFault>
-    ensures { MatchResult result (λ s. number_of 63 word.now ≡ Some s.number) (λ e. (e ≡ ParseFault.Form) × (number_of 63 word.now ≡ None)) }
+    ensures { MatchResult result (λ s. session_number_of word.now ≡ Some s.number) (λ e. (e ≡ ParseFault.Form) × (session_number_of word.now ≡ None)) }
 {
-    let number = number(word, 63)? as u8;
+    let number = number(word, SESSIONS_LIMIT as u64 - 1)? as u8;
     Ok(Session { number })
 }
 
