@@ -1,7 +1,7 @@
 -- What a carve does to the cells.
 use Rattle.std.specs.Prelude.{◌≡◌, ℕ, zero, suc, ◌+◌, ◌-◌, ◌≤◌, ◌<◌, ◌⊎◌, false, List, [], ◌∷◌, ◌++◌, length, get_or, Option, Some, None, IsSome}
 use Rattle.std.specs.List.{AllByRecursion}
-use Rattle.reg_heap.specs.Internal.Heaps.{AreNew}
+use Rattle.reg_heap.specs.Heaps.{AreNew}
 use Rattle.reg_arena.specs.declared.Cell.{Cell}
 use Rattle.reg_arena.specs.Cells.{cells_of, cell_at}
 use Rattle.reg_arena.specs.NewBin.{AppendsBin}

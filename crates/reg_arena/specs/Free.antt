@@ -6,7 +6,7 @@ use Rattle.std.specs.List.{AllByRecursion}
 use Rattle.byteorder.specs.Endian.{little_bytes}
 use Rattle.reg_heap.specs.declared.limits.TheConstants.{NONE}
 use Rattle.reg_heap.specs.ByteWords.{word, splice}
-use Rattle.reg_heap.specs.Internal.Kinds.{times}
+use Rattle.reg_heap.specs.Kinds.{times}
 use Rattle.reg_arena.specs.declared.Cell.{Cell}
 use Rattle.reg_arena.specs.Cells.{size_in}
 

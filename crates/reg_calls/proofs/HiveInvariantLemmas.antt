@@ -20,7 +20,8 @@ use Rattle.reg_model.proofs.JournalGrowth.{replay-push, legal-push}
 use Rattle.reg_model.proofs.LegalJournals.{is_standing, handles-below}
 use Rattle.reg_model.proofs.AcceptedCalls.{both_false, root-met, open-met, create-met, set-met, drop-met, delete-met, close-met}
 use Rattle.reg_calls.specs.declared.store.Store.{Store}
-use Rattle.reg_calls.specs.Internal.Stores.{at, world_of, IsReady, IsDone, is_closing}
+use Rattle.reg_calls.specs.Internal.Stores.{at, world_of, IsReady, IsDone}
+use Rattle.reg_calls.specs.Shortages.{is_closing}
 use Rattle.reg_calls.specs.Views.{IsKept, View, state}
 
 -- ---- what is kept

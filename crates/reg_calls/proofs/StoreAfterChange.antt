@@ -27,7 +27,8 @@ use Rattle.reg_tree.specs.declared.fault.TreeFault.TheVariants.{Limit, Full, Mem
 use Rattle.reg_calls.specs.declared.store.Store.{Store}
 use Rattle.reg_calls.specs.declared.lack.Lack.{Lack}
 use Rattle.reg_calls.specs.declared.lack.Lack.TheVariants.{Space, Memory as Short}
-use Rattle.reg_calls.specs.Internal.Stores.{at, IsReady, IsTarget, IsDone, IsMade, LacksSpace, is_closing}
+use Rattle.reg_calls.specs.Internal.Stores.{at, IsReady, IsTarget, IsDone, IsMade}
+use Rattle.reg_calls.specs.Shortages.{LacksSpace, is_closing}
 use Rattle.reg_calls.proofs.HandleLookUps.{target-at, target-from, target-has}
 use Rattle.reg_calls.proofs.TableAndLimitLemmas.{not_above, path-short}
 

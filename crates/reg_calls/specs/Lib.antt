@@ -1,4 +1,5 @@
 pub mod JournalView
+pub mod Shortages
 pub mod Internal
 pub mod Views
 pub mod HiveView

@@ -21,7 +21,7 @@ use Rattle.reg_handles.specs.HandleTables.{coded_handle}
 use Rattle.reg_calls.specs.declared.store.Store.{Store}
 use Rattle.reg_calls.specs.declared.lack.Lack.{Lack}
 use Rattle.reg_calls.specs.declared.lack.Lack.TheVariants.{Space, Memory}
-use Rattle.reg_calls.specs.Internal.Stores.{is_closing, LacksSpace}
+use Rattle.reg_calls.specs.Shortages.{is_closing, LacksSpace}
 
 -- a hive: the tree that it was made with, its journal, its keys in their bins, and its open handles in the order of their numbers
 pub record View : Type 0 where

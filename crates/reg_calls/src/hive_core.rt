@@ -5,7 +5,7 @@ ghost use Rattle.reg_model.specs.declared.limits.TheConstants.{JOURNAL_LIMIT, SE
 ghost use Rattle.reg_model.specs.Causes.{change_cause};
 ghost use Rattle.reg_model.specs.Replies.{refusal};
 ghost use Rattle.reg_tree.specs.TreeKeys.{IsWholeTree};
-ghost use Rattle.reg_calls.specs.Internal.Stores.{is_closing};
+ghost use Rattle.reg_calls.specs.Shortages.{is_closing};
 ghost use Rattle.reg_calls.specs.Views.{state, IsApplied, IsRead};
 
 use crate::journal::Journal;

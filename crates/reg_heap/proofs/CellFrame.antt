@@ -1,8 +1,8 @@
 -- Cells that were written, given up or added.
 use Rattle.std.proofs.Common.{◌≡◌, ℕ, ◌+◌, Bool, true, false, cond, ◌⊎◌, inl, inr, Option, Some, None, List, [], ◌∷◌, refl, sym, ap, ◌∙◌, subst, arith, eqb, is_some}
 use Rattle.std.proofs.lemmas.Bool.{cases_eq, eq-eqb, ne_eqb}
-use Rattle.reg_heap.specs.Internal.Kinds.{times}
-use Rattle.reg_heap.specs.Internal.Heaps.{Heap, allocated, Writes, GivesUp}
+use Rattle.reg_heap.specs.Kinds.{times}
+use Rattle.reg_heap.specs.Heaps.{Heap, allocated, Writes, GivesUp}
 
 -- one cell is named once, and no other
 times-same : (cell : ℕ) → times cell (cell ∷ []) ≡ 1

@@ -1,5 +1,6 @@
 pub mod ByteWords
 pub mod Paths
 pub mod Members
-pub mod Internal
+pub mod Kinds
+pub mod Heaps
 pub mod Edits

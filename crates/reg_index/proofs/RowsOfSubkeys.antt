@@ -1,6 +1,6 @@
 -- Subkeys in bytes that were worked out by hand.
 use Rattle.std.proofs.Common.{◌≡◌, ◌==◌, Some, None, ℕ, [], ◌∷◌, cond, refl, replicate}
-use Rattle.reg_heap.specs.Internal.Heaps.{Heap}
+use Rattle.reg_heap.specs.Heaps.{Heap}
 use Rattle.reg_heap.specs.ByteWords.{half, word}
 use Rattle.reg_records.specs.SubkeyLists.{list_of}
 use Rattle.reg_index.specs.Subkeys.{subkeys_at, insert_size}

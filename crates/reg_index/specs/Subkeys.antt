@@ -9,8 +9,8 @@ use Rattle.std.specs.declared.cmp.Ordering.TheVariants.{Less}
 use Rattle.std.specs.Cmp.Lexicographic.{slice_cmp}
 use Rattle.reg_names.specs.Names.{folded, hash}
 use Rattle.reg_heap.specs.declared.limits.TheConstants.{NONE, SUBKEYS_LIMIT}
-use Rattle.reg_heap.specs.Internal.Heaps.{Heap, Swaps}
-use Rattle.reg_heap.specs.Internal.Kinds.{times}
+use Rattle.reg_heap.specs.Heaps.{Heap, Swaps}
+use Rattle.reg_heap.specs.Kinds.{times}
 use Rattle.reg_records.specs.declared.lists.ListForm.TheVariants.{IndexRoot, IndexLeaf, FastLeaf, HashLeaf}
 use Rattle.reg_records.specs.RecordCells.{held}
 use Rattle.reg_records.specs.KeyNodes.{KeyRecord, key_at}

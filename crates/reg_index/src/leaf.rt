@@ -2,8 +2,8 @@
 
 ghost use Rattle.std.specs.Prelude.{◌≡◌, ◌≢◌, ◌+◌, ◌*◌, ◌≤◌, ℕ, ◌∷◌, [], List, length};
 ghost use Rattle.reg_heap.specs.declared.limits.TheConstants.{SUBKEYS_LIMIT};
-ghost use Rattle.reg_heap.specs.Internal.Heaps.{Writes, Swaps};
-ghost use Rattle.reg_heap.specs.Internal.Kinds.{times};
+ghost use Rattle.reg_heap.specs.Heaps.{Writes, Swaps};
+ghost use Rattle.reg_heap.specs.Kinds.{times};
 ghost use Rattle.reg_arena.specs.Cells.{cell_at};
 ghost use Rattle.reg_records.specs.declared.lists.ListForm.TheVariants.{HashLeaf};
 ghost use Rattle.reg_records.specs.RecordCells.{HasRoom, WritesPart, held};

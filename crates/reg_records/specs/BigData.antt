@@ -3,8 +3,8 @@ use Rattle.std.specs.Prelude.{ℕ, zero, suc, ◌+◌, ◌-◌, ◌/◌, nat_lt,
 use Rattle.std.specs.Result.{result_ok}
 use Rattle.byteorder.specs.Endian.{little_bytes}
 use Rattle.reg_heap.specs.ByteWords.{half, word}
-use Rattle.reg_heap.specs.Internal.Kinds.{Kind}
-use Rattle.reg_heap.specs.Internal.Kinds.Kind.{Segment}
+use Rattle.reg_heap.specs.Kinds.{Kind}
+use Rattle.reg_heap.specs.Kinds.Kind.{Segment}
 use Rattle.reg_records.specs.declared.db.TheConstants.{SEGMENT_SIZE}
 use Rattle.reg_records.specs.declared.RecordFault.{RecordFault}
 use Rattle.reg_records.specs.declared.RecordFault.TheVariants.{Short, Signature}

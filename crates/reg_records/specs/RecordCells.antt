@@ -3,7 +3,7 @@ use Rattle.std.specs.Prelude.{◌≡◌, ◌≢◌, ℕ, ◌≤◌, List, [], �
 use Rattle.std.specs.Option.{option_and_then}
 use Rattle.std.specs.Result.{result_ok}
 use Rattle.reg_heap.specs.ByteWords.{splice}
-use Rattle.reg_heap.specs.Internal.Heaps.{Writes}
+use Rattle.reg_heap.specs.Heaps.{Writes}
 use Rattle.reg_arena.specs.Arena.{Bins}
 use Rattle.reg_arena.specs.Cells.{cells_of, cell_at}
 

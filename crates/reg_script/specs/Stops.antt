@@ -1,5 +1,5 @@
 -- Where a script ends with a fault (this project's own rules of the script).
-use Rattle.std.specs.Prelude.{◌≡◌, ◌≢◌, ℕ, ◌<◌, ◌≤◌, ◌⊎◌, List, [], ◌∷◌, ◌++◌, length, take, Option}
+use Rattle.std.specs.Prelude.{◌≡◌, ◌≢◌, ℕ, ◌+◌, min, ◌<◌, ◌≤◌, ◌⊎◌, List, [], ◌∷◌, ◌++◌, length, take, Option}
 use Rattle.std.specs.List.{AllByRecursion}
 use Rattle.std.specs.Io.KnownBytes.{Appends, Consumes}
 use Rattle.reg_calls.specs.Views.{View}
@@ -8,7 +8,10 @@ use Rattle.reg_script.specs.declared.engine.ScriptFault.TheVariants.{Read, Write
 use Rattle.reg_script.specs.LineWords.{lines_of}
 use Rattle.reg_script.specs.LineMeanings.{Meaning, meaning_of}
 use Rattle.reg_script.specs.Lines.{Stand, IsSaid, AreSaid, IsFresh}
-use Rattle.reg_script.specs.Internal.Outputs.{counted}
+
+-- a count of 64 bits, which stays at its end
+abbrev pub counted : ℕ → ℕ → ℕ
+counted before count = min (before + count) 18446744073709551615
 
 -- the number of a fault
 abbrev pub fault_number : ScriptFault → ℕ

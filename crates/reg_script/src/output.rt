@@ -1,6 +1,7 @@
 ghost use Rattle.std.specs.Prelude.{◌≡◌, ◌<◌, ◌≤◌, [], length, take, string_bytes, OnOk, IfErr};
 ghost use Rattle.std.specs.Io.KnownBytes.{Appends};
-ghost use Rattle.reg_script.specs.Internal.Outputs.{counted, IsSettled, IsCut, Closes};
+ghost use Rattle.reg_script.specs.Internal.Outputs.{IsSettled, IsCut, Closes};
+ghost use Rattle.reg_script.specs.Stops.{counted};
 
 use crate::engine::ScriptFault;
 use std::alloc::Global;

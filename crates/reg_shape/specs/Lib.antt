@@ -1,3 +1,5 @@
+pub mod Readings
+pub mod PathLookup
 pub mod Internal
 pub mod Walk
 pub mod Nodes

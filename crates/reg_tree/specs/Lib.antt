@@ -1,3 +1,4 @@
 pub mod TreeKeys
+pub mod ValueAnswers
 pub mod Internal
 pub mod TreeInvariant

@@ -9,7 +9,7 @@ use Rattle.reg_arena.specs.Arena.{Bins}
 use Rattle.reg_arena.specs.Cells.{cells_of, cell_at}
 use Rattle.reg_shape.specs.Spelt.{spelt}
 use Rattle.reg_shape.specs.Whole.{IsWhole}
-use Rattle.reg_shape.specs.Internal.PathLookup.{place_at}
+use Rattle.reg_shape.specs.PathLookup.{place_at}
 use Rattle.reg_tree.specs.declared.node.Node.{Node}
 
 -- the bins, the root's cell, and the finite map from paths to keys

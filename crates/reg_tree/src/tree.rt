@@ -41,7 +41,7 @@ impl Model for Tree {
 
 impl Tree {
     ghost use Rattle.reg_tree.specs.TreeKeys.{made_root, IsWholeTree, IsAt, IsThere, IsResolved, KeepsNodes};
-    ghost use Rattle.reg_tree.specs.Internal.KeyNodeChanges.{IsFound};
+    ghost use Rattle.reg_tree.specs.ValueAnswers.{IsFound};
 
     /// A tree of one root: the name as given, mark 8 (no delete), no class, the descriptor, the moment (100 ns ticks since
     /// 1601), no values. Its one fault is `Memory`.

@@ -5,8 +5,8 @@
 ghost use Rattle.std.specs.Prelude.{◌≡◌, ◌≢◌, ◌⊎◌, ◌↔◌, ◌==◌, not, true, ℕ, List, [], length, Some, Err, IsSome, OnOk, OnErr, IfErr};
 ghost use Rattle.reg_heap.specs.Paths.{children_of};
 ghost use Rattle.reg_heap.specs.Edits.{IsKept};
-ghost use Rattle.reg_heap.specs.Internal.Heaps.{Swaps};
-ghost use Rattle.reg_heap.specs.Internal.Kinds.{owned};
+ghost use Rattle.reg_heap.specs.Heaps.{Swaps};
+ghost use Rattle.reg_heap.specs.Kinds.{owned};
 ghost use Rattle.reg_arena.specs.Cells.{cell_at};
 ghost use Rattle.reg_records.specs.KeyNodes.{KeyRecord, key_at};
 ghost use Rattle.reg_records.specs.SubkeyLists.{Entry};

@@ -11,7 +11,8 @@ ghost use Rattle.reg_arena.specs.Cells.{cell_at};
 ghost use Rattle.reg_values.specs.ValueLists.{IsNamed, Tells};
 ghost use Rattle.reg_tree.specs.TreeKeys.{tree_in};
 ghost use Rattle.reg_tree.specs.TreeInvariant.{IsHere, IsChanged};
-ghost use Rattle.reg_tree.specs.Internal.KeyNodeChanges.{HasList, IsFound};
+ghost use Rattle.reg_tree.specs.Internal.KeyNodeChanges.{HasList};
+ghost use Rattle.reg_tree.specs.ValueAnswers.{IsFound};
 
 use crate::key::{note_values, values_list};
 use crate::{TreeFault, ValueFound};

@@ -3,8 +3,8 @@
 use Rattle.std.specs.Prelude.{◌≡◌, ℕ, ◌+◌, ◌<◌, ◌≤◌, IsSome, Some, None, List, map, length}
 use Rattle.reg_heap.specs.Paths.{Member}
 use Rattle.reg_heap.specs.Members.{value_named}
-use Rattle.reg_heap.specs.Internal.Heaps.{Heap, Swaps, allocated}
-use Rattle.reg_heap.specs.Internal.Kinds.{Found, times, owned}
+use Rattle.reg_heap.specs.Heaps.{Heap, Swaps, allocated}
+use Rattle.reg_heap.specs.Kinds.{Found, times, owned}
 use Rattle.reg_records.specs.RecordCells.{held}
 use Rattle.reg_shape.specs.Nodes.{members_at}
 use Rattle.reg_shape.specs.Written.{AreWritten}

@@ -4,8 +4,8 @@
 
 ghost use Rattle.std.specs.Prelude.{◌≡◌, ◌<◌, ◌≤◌, ◌*◌, ◌+◌, ℕ, List, Some, IsSome, IfOk, length, get_or, take, drop, [], ◌∷◌};
 ghost use Rattle.reg_heap.specs.declared.limits.TheConstants.{DATA_LIMIT};
-ghost use Rattle.reg_heap.specs.Internal.Heaps.{GivesUp, allocated};
-ghost use Rattle.reg_heap.specs.Internal.Kinds.{Found, times};
+ghost use Rattle.reg_heap.specs.Heaps.{GivesUp, allocated};
+ghost use Rattle.reg_heap.specs.Kinds.{Found, times};
 ghost use Rattle.reg_arena.specs.Cells.{cell_at};
 ghost use Rattle.reg_records.specs.RecordCells.{HasRoom, held};
 ghost use Rattle.reg_records.specs.OffsetRows.{offsets_at};

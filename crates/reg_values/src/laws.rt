@@ -7,7 +7,7 @@ ghost use Rattle.std.specs.Option.{option_and_then};
 ghost use Rattle.reg_heap.specs.declared.limits.TheConstants.{NONE};
 ghost use Rattle.reg_heap.specs.Paths.{Member};
 ghost use Rattle.reg_heap.specs.Members.{value_named, place_named};
-ghost use Rattle.reg_heap.specs.Internal.Heaps.{Heap};
+ghost use Rattle.reg_heap.specs.Heaps.{Heap};
 ghost use Rattle.reg_values.specs.ValueLists.{AreValues, Became};
 
 /// A key without values has no list.

@@ -4,7 +4,7 @@
 
 ghost use Rattle.std.specs.Prelude.{◌≡◌, ◌<◌, ◌+◌, ◌*◌, ◌≤◌, ℕ, List, Some, IsSome, slice_get, length, if◌then◌else◌};
 ghost use Rattle.reg_heap.specs.Paths.{Member};
-ghost use Rattle.reg_heap.specs.Internal.Kinds.{Found};
+ghost use Rattle.reg_heap.specs.Kinds.{Found};
 ghost use Rattle.reg_heap.specs.Members.{place_named};
 ghost use Rattle.reg_arena.specs.Cells.{cell_at};
 ghost use Rattle.reg_records.specs.RecordCells.{held};

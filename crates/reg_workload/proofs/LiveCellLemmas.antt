@@ -4,8 +4,8 @@ use Rattle.std.specs.Prelude.{sum_by, IsSome, Result, Ok, Err, OnOk, OnErr}
 use Rattle.std.specs.List.{swap_remove}
 use Rattle.std.proofs.lemmas.Bool.{eq-eqb}
 use Rattle.std.proofs.lemmas.List.Sums.{sum_by-cons, sum_by-swap_remove}
-use Rattle.reg_heap.specs.Internal.Heaps.{GivesUp, AreNew}
-use Rattle.reg_heap.specs.Internal.Kinds.{times}
+use Rattle.reg_heap.specs.Heaps.{GivesUp, AreNew}
+use Rattle.reg_heap.specs.Kinds.{times}
 use Rattle.reg_arena.specs.Cells.{cell_at}
 use Rattle.reg_arena.specs.Arena.{Bins}
 use Rattle.reg_arena.specs.Carves.{CarvesExactly, AddsCells}

@@ -1,7 +1,7 @@
 -- The cells that a subject works on.
 use Rattle.std.specs.Prelude.{◌≡◌, ℕ, ◌+◌, ◌≤◌, List}
-use Rattle.reg_heap.specs.Internal.Heaps.{allocated}
-use Rattle.reg_heap.specs.Internal.Kinds.{times}
+use Rattle.reg_heap.specs.Heaps.{allocated}
+use Rattle.reg_heap.specs.Kinds.{times}
 use Rattle.reg_arena.specs.Cells.{cell_at}
 
 -- each offset of the two lists is that of an allocated cell, and stands once

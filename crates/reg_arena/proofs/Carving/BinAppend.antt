@@ -6,7 +6,7 @@ use Rattle.std.specs.List.{AllByRecursion}
 use Rattle.reg_heap.specs.ByteWords.{word}
 use Rattle.reg_arena.specs.declared.Cell.{Cell}
 use Rattle.reg_arena.specs.Cells.{Bin, IsCell, IsHeader, Tiles, AreBins, cells_in, content_in}
-use Rattle.reg_heap.specs.Internal.Kinds.{times}
+use Rattle.reg_heap.specs.Kinds.{times}
 use Rattle.reg_arena.specs.Free.{Follows, free_of, Touch, AreApart}
 use Rattle.reg_arena.specs.Arena.{IsArena, one_class}
 use Rattle.reg_arena.specs.NewBin.{new_bin, headed, IsBinSize, AppendsBin}

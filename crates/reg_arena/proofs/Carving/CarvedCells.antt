@@ -2,8 +2,8 @@
 use Rattle.std.proofs.Common.{◌≡◌, ℕ, zero, suc, ◌+◌, ◌-◌, ◌<◌, ◌≤◌, Bool, true, false, cond, List, [], ◌∷◌, length, get_or, replicate, refl, sym, ap, ◌∙◌, subst, arith, eqb, Option, Some}
 use Rattle.std.proofs.Common.{None, is_some}
 use Rattle.std.proofs.lemmas.Bool.{eqb-true, eq-eqb}
-use Rattle.reg_heap.specs.Internal.Kinds.{times}
-use Rattle.reg_heap.specs.Internal.Heaps.{Heap, AreNew}
+use Rattle.reg_heap.specs.Kinds.{times}
+use Rattle.reg_heap.specs.Heaps.{Heap, AreNew}
 use Rattle.reg_arena.specs.Cells.{cell_at}
 use Rattle.reg_arena.specs.NewBin.{AppendsBin}
 use Rattle.reg_arena.specs.NewCells.{AreSizes, offsets_of, zeroed}

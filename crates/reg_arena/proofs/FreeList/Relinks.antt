@@ -8,7 +8,7 @@ use Rattle.reg_heap.specs.ByteWords.{word, splice, SameOutside}
 use Rattle.reg_arena.specs.Carves.{or_else, IsInNoFree}
 use Rattle.reg_arena.specs.declared.Cell.{Cell}
 use Rattle.reg_arena.specs.Cells.{Bin, AreBins, cells_in, content_in}
-use Rattle.reg_heap.specs.Internal.Kinds.{times}
+use Rattle.reg_heap.specs.Kinds.{times}
 use Rattle.reg_arena.specs.Free.{Follows, is_free_of, free_of, EndsAt, linked, head_after}
 use Rattle.reg_arena.specs.Arena.{one_class}
 use Rattle.reg_arena.proofs.Contents.ByteSplices.{same-splice, word-same_below, word-splice}

@@ -6,7 +6,7 @@ use Rattle.std.specs.List.{AllByRecursion}
 use Rattle.reg_heap.specs.ByteWords.{word}
 use Rattle.reg_arena.specs.declared.Cell.{Cell}
 use Rattle.reg_arena.specs.Cells.{Bin, cells_in, cell_at, content_in, size_in}
-use Rattle.reg_heap.specs.Internal.Kinds.{times}
+use Rattle.reg_heap.specs.Kinds.{times}
 use Rattle.reg_arena.specs.Free.{free_of, chain}
 use Rattle.reg_arena.specs.Arena.{one_class}
 use Rattle.reg_arena.specs.NewCells.{used, unused}

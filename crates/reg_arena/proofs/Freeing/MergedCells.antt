@@ -4,7 +4,7 @@ use Rattle.std.proofs.lemmas.Bool.{cases_eq, eq-eqb, ne_eqb}
 use Rattle.std.specs.List.{AllByRecursion}
 use Rattle.reg_heap.specs.ByteWords.{SameOutside}
 use Rattle.reg_arena.specs.Cells.{Bin, Tiles, AreBins, cells_in, content_in, cells_of, cell_at}
-use Rattle.reg_heap.specs.Internal.Kinds.{times}
+use Rattle.reg_heap.specs.Kinds.{times}
 use Rattle.reg_arena.specs.Free.{Follows, free_of, Touch, AreApart, freed, chain}
 use Rattle.reg_arena.specs.Arena.{IsArena, one_class}
 use Rattle.reg_arena.specs.declared.Cell.{Cell}

@@ -1,6 +1,5 @@
 -- The keys and the open handles on them, as calls find and leave them.
 use Rattle.std.specs.Prelude.{◌≡◌, ℕ, ◌+◌, ◌<◌, ◌≤◌, Bool, true, false, length, Option, Some, All, Result, Ok, Err}
-use Rattle.reg_heap.specs.declared.limits.TheConstants.{BINS_LIMIT, GROWTH_BOUND}
 use Rattle.reg_heap.specs.Paths.{Path}
 use Rattle.reg_model.specs.declared.limits.TheConstants.{JOURNAL_LIMIT}
 use Rattle.reg_model.specs.Worlds.{World, Handle, At, IsStanding, look, after}
@@ -11,6 +10,7 @@ use Rattle.reg_model.specs.declared.reply.ChangeReply.{ChangeReply}
 use Rattle.reg_model.specs.declared.call.Change.{Change}
 use Rattle.reg_model.specs.declared.call.Change.TheVariants.{OpenRoot, OpenKey, CreateKey, SetValue, DeleteValue, DeleteKey, Close}
 use Rattle.reg_tree.specs.TreeKeys.{Keys, IsAt}
+use Rattle.reg_calls.specs.Shortages.{is_closing, LacksSpace}
 use Rattle.reg_calls.specs.declared.store.Store.{Store}
 use Rattle.reg_calls.specs.declared.store.KeyHandle.{KeyHandle}
 use Rattle.reg_calls.specs.declared.lack.Lack.{Lack}
@@ -51,26 +51,6 @@ pub record IsOpened (store : Store) (session number : ℕ) (key : KeyHandle) : T
 abbrev pub IsLooked : Store → ℕ → ℕ → Result KeyHandle ℕ → Type 0
 IsLooked store session number (Ok key) = IsOpened store session number key
 IsLooked store session number (Err status) = (f : Handle → Option ℕ) → by_handle f (look session number store.handles.handles) ≡ Some status
-
--- a Close takes no memory
-abbrev pub is_closing : Change → Bool
-is_closing (Close h) = true
-is_closing (OpenRoot mask) = false
-is_closing (OpenKey h path mask) = false
-is_closing (CreateKey h path mask) = false
-is_closing (SetValue h name kind bytes) = false
-is_closing (DeleteValue h name) = false
-is_closing (DeleteKey h path) = false
-
--- a change may find no space in the bins: one that takes some, where they are within 1,310,720 bytes of their limit
-abbrev pub LacksSpace : Keys → Change → Type 0
-LacksSpace keys (CreateKey h path mask) = BINS_LIMIT < length keys.bins.bytes + GROWTH_BOUND
-LacksSpace keys (SetValue h name kind bytes) = BINS_LIMIT < length keys.bins.bytes + GROWTH_BOUND
-LacksSpace keys (OpenRoot mask) = ⊥
-LacksSpace keys (OpenKey h path mask) = ⊥
-LacksSpace keys (DeleteValue h name) = ⊥
-LacksSpace keys (DeleteKey h path) = ⊥
-LacksSpace keys (Close h) = ⊥
 
 -- a change was made on the store, and this is its reply
 pub record IsDone (old new : Store) (session moment number : ℕ) (change : Change) (told : ChangeReply) : Type 0 where

@@ -1,7 +1,7 @@
 -- A hash leaf in a cell, and one on its way to an entry more (Suhanov, Windows registry file format specification, "Subkeys
 -- list").
 use Rattle.std.specs.Prelude.{◌≡◌, ℕ, ◌+◌, ◌-◌, ◌*◌, ◌≤◌, Some, List, length, take, drop, IsSome}
-use Rattle.reg_heap.specs.Internal.Heaps.{Heap}
+use Rattle.reg_heap.specs.Heaps.{Heap}
 use Rattle.reg_records.specs.declared.lists.ListForm.TheVariants.{HashLeaf}
 use Rattle.reg_records.specs.RecordCells.{held}
 use Rattle.reg_records.specs.SubkeyLists.{Entry, hinted_entries}

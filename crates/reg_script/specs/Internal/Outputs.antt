@@ -3,10 +3,7 @@ use Rattle.std.specs.Prelude.{◌≡◌, ℕ, ◌+◌, ◌≤◌, ◌⊎◌, min
 use Rattle.std.specs.Io.KnownBytes.{Appends}
 use Rattle.reg_script.specs.declared.engine.ScriptFault.{ScriptFault}
 use Rattle.reg_script.specs.declared.engine.ScriptFault.TheVariants.{Read, Write, TooLong, Memory}
-
--- a count of 64 bits, which stays at its end
-abbrev pub counted : ℕ → ℕ → ℕ
-counted before count = min (before + count) 18446744073709551615
+use Rattle.reg_script.specs.Stops.{counted}
 
 -- nothing was sent, or all of the text, and none is left; the count of what was sent goes along
 abbrev pub IsSettled : Option (List ℕ) → Option (List ℕ) → List ℕ → List ℕ → ℕ → ℕ → Type 0

@@ -9,8 +9,8 @@ use Rattle.reg_script.specs.declared.engine.ScriptFault.TheVariants.{Read, Write
 use Rattle.reg_script.specs.LineWords.{lines_of}
 use Rattle.reg_script.specs.LineMeanings.{Meaning}
 use Rattle.reg_script.specs.Lines.{Stand, AreSaid}
-use Rattle.reg_script.specs.Internal.Outputs.{counted, IsCut}
-use Rattle.reg_script.specs.Stops.{longest_line, most_lines, HasNoFeed, PassesBound, IsOneMore, IsReached}
+use Rattle.reg_script.specs.Internal.Outputs.{IsCut}
+use Rattle.reg_script.specs.Stops.{counted, longest_line, most_lines, HasNoFeed, PassesBound, IsOneMore, IsReached}
 
 -- a place in a script: where it stands, how many lines have ended, the bytes of the line that hasn't, the replies that were
 -- gathered, what the writer holds, and the count of what it took

@@ -1,8 +1,8 @@
 -- The definitions at the bytes of hives that were worked out by hand: a fresh hive, and the same after its first value.
 use Rattle.std.proofs.Common.{◌≡◌, ℕ, List, [], ◌∷◌, ◌++◌, replicate, Some, refl}
 use Rattle.reg_heap.specs.ByteWords.{half, word, long}
-use Rattle.reg_heap.specs.Internal.Kinds.{Found}
-use Rattle.reg_heap.specs.Internal.Kinds.Kind.{Key, ValueList, Value, Security}
+use Rattle.reg_heap.specs.Kinds.{Found}
+use Rattle.reg_heap.specs.Kinds.Kind.{Key, ValueList, Value, Security}
 use Rattle.reg_arena.specs.Cells.{cells_of, cell_at}
 use Rattle.reg_arena.specs.NewCells.{used, unused}
 use Rattle.reg_records.specs.KeyNodes.{nk_of, key_at}

@@ -5,8 +5,8 @@ use Rattle.std.proofs.lemmas.Option.{same_Some}
 use Rattle.std.specs.List.{AllByRecursion}
 use Rattle.reg_heap.specs.ByteWords.{half, word, long}
 use Rattle.reg_heap.specs.Paths.{Path, Rec}
-use Rattle.reg_heap.specs.Internal.Kinds.{Kind, Found, shared}
-use Rattle.reg_heap.specs.Internal.Kinds.Kind.{Key, ValueList, Value, Security}
+use Rattle.reg_heap.specs.Kinds.{Kind, Found, shared}
+use Rattle.reg_heap.specs.Kinds.Kind.{Key, ValueList, Value, Security}
 use Rattle.reg_arena.specs.Cells.{cells_of, cell_at, content_of}
 use Rattle.reg_records.specs.KeyNodes.{nk_of, nk_bytes, key_at}
 use Rattle.reg_records.specs.KeySecurities.{sk_of, sk_bytes, security_at}

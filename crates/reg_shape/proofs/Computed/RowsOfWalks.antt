@@ -3,9 +3,9 @@ use Rattle.std.proofs.Common.{◌≡◌, ℕ, ◌==◌, cond, List, [], ◌∷�
 use Rattle.byteorder.specs.Endian.{little_bytes}
 use Rattle.reg_heap.specs.ByteWords.{half, word, long}
 use Rattle.reg_heap.specs.Paths.{Rec}
-use Rattle.reg_heap.specs.Internal.Heaps.{Heap}
-use Rattle.reg_heap.specs.Internal.Kinds.{Kind, Found}
-use Rattle.reg_heap.specs.Internal.Kinds.Kind.{Key, Class, SubList, Leaf, Value, Data, BigHead, BigList, Segment, Security}
+use Rattle.reg_heap.specs.Heaps.{Heap}
+use Rattle.reg_heap.specs.Kinds.{Kind, Found}
+use Rattle.reg_heap.specs.Kinds.Kind.{Key, Class, SubList, Leaf, Value, Data, BigHead, BigList, Segment, Security}
 use Rattle.reg_arena.specs.Cells.{cells_of, cell_at}
 use Rattle.reg_records.specs.KeyNodes.{nk_of, key_at}
 use Rattle.reg_records.specs.KeyValues.{vk_of}

@@ -3,10 +3,10 @@ use Rattle.std.proofs.Common.{◌≡◌, ℕ, zero, suc, Bool, true, false, nat_
 use Rattle.std.specs.List.{AllByRecursion, concat}
 use Rattle.std.specs.Result.{result_ok}
 use Rattle.byteorder.specs.Endian.{little_bytes}
-use Rattle.reg_heap.specs.Internal.Heaps.{Heap}
-use Rattle.reg_heap.specs.Internal.Kinds.{Kind, Found}
-use Rattle.reg_heap.specs.Internal.Kinds.Kind.{ValueList, Value, Data, BigHead, BigList}
-use Rattle.reg_shape.specs.Internal.Readings.{Reading, ◌>>=◌, give, given, cell, guard, each}
+use Rattle.reg_heap.specs.Heaps.{Heap}
+use Rattle.reg_heap.specs.Kinds.{Kind, Found}
+use Rattle.reg_heap.specs.Kinds.Kind.{ValueList, Value, Data, BigHead, BigList}
+use Rattle.reg_shape.specs.Readings.{Reading, ◌>>=◌, give, given, cell, guard, each}
 use Rattle.reg_shape.proofs.Walking.ReadingParts.{bind-open, bind-made, guard-open, guard-made, cell-open, cell-made}
 use Rattle.reg_records.specs.KeyValues.{vk_of}
 use Rattle.reg_records.specs.OffsetRows.{row_in}

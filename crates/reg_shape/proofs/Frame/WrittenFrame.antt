@@ -8,10 +8,10 @@ use Rattle.std.proofs.lemmas.Option.{none-some, same_Some}
 use Rattle.std.proofs.lemmas.Bool.{false≢true}
 use Rattle.std.proofs.lemmas.Bool.Decides.{nat_tests}
 use Rattle.reg_heap.specs.Paths.{Member}
-use Rattle.reg_heap.specs.Internal.Heaps.{Heap}
-use Rattle.reg_heap.specs.Internal.Kinds.{Found}
-use Rattle.reg_heap.specs.Internal.Kinds.Kind.{ValueList, Value, BigHead}
-use Rattle.reg_shape.specs.Internal.Readings.{◌>>=◌, give, given, cell, guard, each}
+use Rattle.reg_heap.specs.Heaps.{Heap}
+use Rattle.reg_heap.specs.Kinds.{Found}
+use Rattle.reg_heap.specs.Kinds.Kind.{ValueList, Value, BigHead}
+use Rattle.reg_shape.specs.Readings.{◌>>=◌, give, given, cell, guard, each}
 use Rattle.reg_shape.proofs.Walking.ReadingParts.{bind-open, given-open, cell-open, each-open}
 use Rattle.reg_records.specs.declared.vk.ValueFields.{ValueFields}
 use Rattle.reg_records.specs.RecordCells.{held}

@@ -1,8 +1,8 @@
 -- One key's own cells exchanged, as a graft of the same keys below it.
 use Rattle.std.proofs.Common.{◌≡◌, ℕ, ◌+◌, ◌≤◌, Some, List, [], ◌∷◌, refl, sym, subst, ◌∙◌, arith}
 use Rattle.reg_heap.specs.Paths.{Path}
-use Rattle.reg_heap.specs.Internal.Heaps.{Heap, allocated}
-use Rattle.reg_heap.specs.Internal.Kinds.{times}
+use Rattle.reg_heap.specs.Heaps.{Heap, allocated}
+use Rattle.reg_heap.specs.Kinds.{times}
 use Rattle.reg_shape.specs.Internal.Forests.{Branch, heads, total_of}
 use Rattle.reg_records.specs.KeySecurities.{IsPlainSecurity}
 use Rattle.reg_shape.specs.Nodes.{Node}

@@ -3,14 +3,14 @@ use Rattle.std.proofs.Common.{◌≡◌, ℕ, Bool, true, false, cond, ◌&&◌,
 use Rattle.std.specs.Option.{option_map}
 use Rattle.reg_names.specs.Names.{folded}
 use Rattle.reg_heap.specs.Paths.{Path}
-use Rattle.reg_heap.specs.Internal.Heaps.{Heap}
+use Rattle.reg_heap.specs.Heaps.{Heap}
 use Rattle.reg_shape.specs.Internal.Forests.{Branch}
 use Rattle.reg_shape.specs.Nodes.{Node}
 use Rattle.reg_shape.specs.Spelt.{name_of}
 use Rattle.reg_shape.specs.Internal.Shapes.{StandsIn}
 use Rattle.reg_shape.specs.Internal.Exchanges.{found_in, found_at}
 use Rattle.reg_shape.specs.Internal.Grafts.{IsShape, branch_at, graft_at, hang, unhang, IsLeafAt, IsGrafted}
-use Rattle.reg_shape.specs.Internal.PathLookup.{place_at}
+use Rattle.reg_shape.specs.PathLookup.{place_at}
 use Rattle.reg_shape.proofs.Refinement.RefinementAfterEdit.{same_name, same_path, same-cons, name-is}
 use Rattle.reg_shape.proofs.Graft.Branches.{its_key, branch-found, branch-stands}
 use Rattle.reg_shape.proofs.Graft.WholeAfterGraft.{grafted-stands, graft-place}

@@ -3,7 +3,7 @@ use Rattle.std.proofs.Common.{◌≡◌, ℕ, Bool, true, false, cond, Option, S
 use Rattle.std.specs.Option.{option_map, option_and_then}
 use Rattle.std.specs.Result.{result_ok}
 use Rattle.reg_heap.specs.Paths.{Path}
-use Rattle.reg_heap.specs.Internal.Heaps.{Heap}
+use Rattle.reg_heap.specs.Heaps.{Heap}
 use Rattle.reg_shape.specs.Internal.Forests.{Forest, Branch, heads, places, Stand}
 use Rattle.reg_shape.specs.Internal.Forests.Forest.{End, Rooted as Hangs}
 use Rattle.reg_records.specs.KeyNodes.{nk_of, key_at}
@@ -13,7 +13,7 @@ use Rattle.reg_shape.specs.Written.{Fits}
 use Rattle.reg_shape.specs.Internal.Shapes.{IsSeen, StandsIn}
 use Rattle.reg_shape.specs.Internal.Exchanges.{is_named}
 use Rattle.reg_shape.specs.Internal.Grafts.{branch_in, branch_at}
-use Rattle.reg_shape.specs.Internal.PathLookup.{calls, is_called, key_named, subkey_named, place_at}
+use Rattle.reg_shape.specs.PathLookup.{calls, is_called, key_named, subkey_named, place_at}
 use Rattle.reg_shape.proofs.Walking.WalkRefinement.{look-open, heads-places}
 
 pub key-looked : (h : Heap) (place : ℕ) (node : Node) → look h place ≡ Some node → key_at h place ≡ Some node.key

@@ -6,7 +6,7 @@ use Rattle.std.specs.FinMap.{get, insert, remove, get-insert, get-remove, same_m
 use Rattle.std.proofs.lemmas.List.{append-nil}
 use Rattle.reg_names.specs.Names.{folded}
 use Rattle.reg_heap.specs.Paths.{Path, Rec, Tree}
-use Rattle.reg_heap.specs.Internal.Heaps.{Heap}
+use Rattle.reg_heap.specs.Heaps.{Heap}
 use Rattle.reg_shape.specs.Internal.Forests.{Branch, total_of}
 use Rattle.reg_shape.specs.Nodes.{Node}
 use Rattle.reg_shape.specs.Spelt.{name_of, rec_of}

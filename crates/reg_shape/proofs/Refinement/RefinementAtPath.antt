@@ -6,7 +6,7 @@ use Rattle.std.specs.FinMap.{get, find, from_entries, get-from_entries}
 use Rattle.std.proofs.lemmas.Nat.{and_assoc}
 use Rattle.reg_names.specs.Names.{folded}
 use Rattle.reg_heap.specs.Paths.{Path, Rec, path_cmp}
-use Rattle.reg_heap.specs.Internal.Heaps.{Heap}
+use Rattle.reg_heap.specs.Heaps.{Heap}
 use Rattle.reg_shape.specs.Internal.Forests.{Forest, Branch, heads, Stand}
 use Rattle.reg_shape.specs.Internal.Forests.Forest.{End, Rooted as Hangs}
 use Rattle.reg_shape.specs.Nodes.{Node, letters}

@@ -11,7 +11,7 @@ use Rattle.std.specs.FinMap.{find, is_sorted, contains_key, slice_cmp-IsAntisymm
 use Rattle.std.specs.FinMap.Entries.{below_all, same_entries}
 use Rattle.reg_names.specs.Names.{folded}
 use Rattle.reg_heap.specs.Paths.{Path, path_cmp, children_of}
-use Rattle.reg_heap.specs.Internal.Heaps.{Heap}
+use Rattle.reg_heap.specs.Heaps.{Heap}
 use Rattle.reg_shape.specs.Internal.Forests.{Forest, Branch, heads, Stand}
 use Rattle.reg_shape.specs.Internal.Forests.Forest.{End, Rooted as Hangs}
 use Rattle.reg_heap.proofs.ChildrenOfPath.{below, is_child-below, path_cmp-below, AreNamed, children-named, children-contain}

@@ -4,9 +4,9 @@ use Rattle.std.specs.List.{AllByRecursion}
 use Rattle.std.proofs.lemmas.Option.{same_Some}
 use Rattle.std.proofs.lemmas.Bool.{false≢true}
 use Rattle.reg_names.specs.Names.{folded}
-use Rattle.reg_heap.specs.Internal.Heaps.{Heap}
-use Rattle.reg_heap.specs.Internal.Kinds.{Found}
-use Rattle.reg_heap.specs.Internal.Kinds.Kind.{Key}
+use Rattle.reg_heap.specs.Heaps.{Heap}
+use Rattle.reg_heap.specs.Kinds.{Found}
+use Rattle.reg_heap.specs.Kinds.Kind.{Key}
 use Rattle.reg_records.specs.SubkeyLists.{places_in}
 use Rattle.reg_shape.specs.Nodes.{Node, entries_of, look}
 use Rattle.reg_shape.specs.Written.{Pairwise}

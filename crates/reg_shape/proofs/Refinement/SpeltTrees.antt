@@ -12,7 +12,7 @@ use Rattle.std.proofs.lemmas.Bool.{false≢true}
 use Rattle.std.proofs.lemmas.Option.{same_Some}
 use Rattle.reg_names.specs.Names.{folded}
 use Rattle.reg_heap.specs.Paths.{Path, Rec, Tree, path_cmp}
-use Rattle.reg_heap.specs.Internal.Heaps.{Heap}
+use Rattle.reg_heap.specs.Heaps.{Heap}
 use Rattle.reg_heap.proofs.ChildrenOfPath.{path-is}
 use Rattle.reg_records.specs.SubkeyLists.{places_in}
 use Rattle.reg_shape.specs.Nodes.{Node, entries_of}

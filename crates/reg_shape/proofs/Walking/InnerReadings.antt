@@ -5,10 +5,10 @@ use Rattle.std.specs.Result.{result_ok}
 use Rattle.std.proofs.lemmas.Option.{same_Some}
 use Rattle.byteorder.specs.Endian.{little_bytes}
 use Rattle.reg_heap.specs.Paths.{Member}
-use Rattle.reg_heap.specs.Internal.Heaps.{Heap}
-use Rattle.reg_heap.specs.Internal.Kinds.{Kind, Found}
-use Rattle.reg_heap.specs.Internal.Kinds.Kind.{Key, Class, SubList, Leaf, ValueList, Value, Data, BigHead, BigList, Segment, Security}
-use Rattle.reg_shape.specs.Internal.Readings.{Reading, ◌>>=◌, give, given, cell, guard, each}
+use Rattle.reg_heap.specs.Heaps.{Heap}
+use Rattle.reg_heap.specs.Kinds.{Kind, Found}
+use Rattle.reg_heap.specs.Kinds.Kind.{Key, Class, SubList, Leaf, ValueList, Value, Data, BigHead, BigList, Segment, Security}
+use Rattle.reg_shape.specs.Readings.{Reading, ◌>>=◌, give, given, cell, guard, each}
 use Rattle.reg_shape.proofs.Walking.ReadingParts.{bind-open, guard-open, given-open, cell-open, each-open}
 use Rattle.reg_records.specs.KeyValues.{vk_of}
 use Rattle.reg_records.specs.OffsetRows.{row_in}

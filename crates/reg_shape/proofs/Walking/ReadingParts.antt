@@ -3,9 +3,9 @@ use Rattle.std.proofs.Common.{◌≡◌, Bool, true, false, ℕ, Option, Some, N
 use Rattle.std.specs.Option.{option_map, option_and_then}
 use Rattle.std.proofs.lemmas.Option.{none-some, same_Some}
 use Rattle.std.proofs.lemmas.List.{append-nil}
-use Rattle.reg_heap.specs.Internal.Heaps.{Heap}
-use Rattle.reg_heap.specs.Internal.Kinds.{Kind, Found}
-use Rattle.reg_shape.specs.Internal.Readings.{Reading, noted, ◌>>=◌, give, given, cell, guard, each}
+use Rattle.reg_heap.specs.Heaps.{Heap}
+use Rattle.reg_heap.specs.Kinds.{Kind, Found}
+use Rattle.reg_shape.specs.Readings.{Reading, noted, ◌>>=◌, give, given, cell, guard, each}
 
 -- the first reading, and what it was asked for then
 pub record IsBound {A B : Type 0} (r : Reading A) (f : A → Reading B) (heap : Heap) (y : B × List Found) : Type 0 where

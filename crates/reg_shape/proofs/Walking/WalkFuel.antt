@@ -4,9 +4,9 @@ use Rattle.std.specs.Option.{option_and_then}
 use Rattle.std.specs.Result.{result_ok}
 use Rattle.std.proofs.lemmas.Option.{none-some, same_Some}
 use Rattle.std.proofs.lemmas.Bool.{false≢true}
-use Rattle.reg_heap.specs.Internal.Heaps.{Heap}
-use Rattle.reg_heap.specs.Internal.Kinds.{Kind, Found, is_security, tally}
-use Rattle.reg_heap.specs.Internal.Kinds.Kind.{Key, Class, SubList, Leaf, ValueList, Value, Data, BigHead, BigList, Segment, Security}
+use Rattle.reg_heap.specs.Heaps.{Heap}
+use Rattle.reg_heap.specs.Kinds.{Kind, Found, is_security, tally}
+use Rattle.reg_heap.specs.Kinds.Kind.{Key, Class, SubList, Leaf, ValueList, Value, Data, BigHead, BigList, Segment, Security}
 use Rattle.reg_records.specs.KeySecurities.{KeySecurityRecord, sk_of}
 use Rattle.reg_records.specs.BigData.{Named}
 use Rattle.reg_shape.specs.Walk.{names_of, security_names, kind_met, gather, walk}

@@ -7,9 +7,9 @@ use Rattle.std.specs.FinMap.{from_entries}
 use Rattle.std.proofs.lemmas.List.{append-nil}
 use Rattle.std.proofs.lemmas.Option.{same_Some}
 use Rattle.reg_heap.specs.Paths.{Path, Rec}
-use Rattle.reg_heap.specs.Internal.Heaps.{Heap, allocated}
-use Rattle.reg_heap.specs.Internal.Kinds.{is_security, is_own, is_shared, times, owned, shared}
-use Rattle.reg_heap.specs.Internal.Kinds.Kind.{Key}
+use Rattle.reg_heap.specs.Heaps.{Heap, allocated}
+use Rattle.reg_heap.specs.Kinds.{is_security, is_own, is_shared, times, owned, shared}
+use Rattle.reg_heap.specs.Kinds.Kind.{Key}
 use Rattle.reg_shape.specs.Internal.Forests.{Branch, total_of}
 use Rattle.reg_records.specs.BigData.{plainly}
 use Rattle.reg_shape.specs.Nodes.{Node}

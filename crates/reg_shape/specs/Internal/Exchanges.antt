@@ -5,8 +5,8 @@ use Rattle.std.specs.Ordering.{nat_cmp, eq_by_cmp}
 use Rattle.std.specs.Cmp.Lexicographic.{slice_cmp}
 use Rattle.reg_names.specs.Names.{folded}
 use Rattle.reg_heap.specs.Paths.{Path}
-use Rattle.reg_heap.specs.Internal.Heaps.{Heap, Swaps}
-use Rattle.reg_heap.specs.Internal.Kinds.{owned, shared}
+use Rattle.reg_heap.specs.Heaps.{Heap, Swaps}
+use Rattle.reg_heap.specs.Kinds.{owned, shared}
 use Rattle.reg_shape.specs.Internal.Forests.{Forest, Branch}
 use Rattle.reg_shape.specs.Internal.Forests.Forest.{End, Rooted as Hangs}
 use Rattle.reg_shape.specs.Nodes.{Node}

@@ -3,8 +3,8 @@ use Rattle.std.specs.Prelude.{◌≡◌, ◌↔◌, ℕ, zero, suc, ◌+◌, ◌
 use Rattle.std.specs.List.{AllByRecursion}
 use Rattle.reg_names.specs.declared.TheConstants.{PATH_LIMIT}
 use Rattle.reg_heap.specs.Paths.{Path}
-use Rattle.reg_heap.specs.Internal.Heaps.{Heap, allocated}
-use Rattle.reg_heap.specs.Internal.Kinds.{times}
+use Rattle.reg_heap.specs.Heaps.{Heap, allocated}
+use Rattle.reg_heap.specs.Kinds.{times}
 use Rattle.reg_shape.specs.Internal.Forests.{Forest, Branch, total_of}
 use Rattle.reg_shape.specs.Internal.Forests.Forest.{End, Rooted as Hangs}
 use Rattle.reg_records.specs.RecordCells.{held}

@@ -5,9 +5,9 @@ use Rattle.std.specs.List.{AllByRecursion}
 use Rattle.std.specs.FinMap.{from_entries}
 use Rattle.reg_names.specs.declared.TheConstants.{PATH_LIMIT}
 use Rattle.reg_heap.specs.Paths.{Path, Rec, Tree}
-use Rattle.reg_heap.specs.Internal.Heaps.{Heap, allocated}
-use Rattle.reg_heap.specs.Internal.Kinds.{Found, times, owned, shared}
-use Rattle.reg_heap.specs.Internal.Kinds.Kind.{SubList, Leaf}
+use Rattle.reg_heap.specs.Heaps.{Heap, allocated}
+use Rattle.reg_heap.specs.Kinds.{Found, times, owned, shared}
+use Rattle.reg_heap.specs.Kinds.Kind.{SubList, Leaf}
 use Rattle.reg_shape.specs.Internal.Forests.{Forest, Branch, Stands, total_of}
 use Rattle.reg_shape.specs.Internal.Forests.Forest.{End, Rooted as Hangs}
 use Rattle.reg_shape.specs.Nodes.{Node, KeyList, Index, look}

@@ -9,8 +9,8 @@ use Rattle.std.specs.FinMap.{get}
 use Rattle.reg_names.specs.Names.{folded}
 use Rattle.reg_heap.specs.Paths.{Path, Tree, children_of}
 use Rattle.reg_heap.specs.Edits.{marks_of, IsKept}
-use Rattle.reg_heap.specs.Internal.Heaps.{Heap}
-use Rattle.reg_heap.specs.Internal.Kinds.{owned}
+use Rattle.reg_heap.specs.Heaps.{Heap}
+use Rattle.reg_heap.specs.Kinds.{owned}
 use Rattle.reg_shape.specs.Internal.Forests.{Branch, heads}
 use Rattle.reg_arena.specs.Cells.{cell_at}
 use Rattle.reg_records.specs.declared.nk.KeyFields.{KeyFields}

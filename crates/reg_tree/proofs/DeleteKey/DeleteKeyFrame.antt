@@ -4,9 +4,9 @@ use Rattle.std.specs.Option.{option_map}
 use Rattle.std.proofs.lemmas.Bool.{cases_eq}
 use Rattle.std.proofs.lemmas.Option.{same_Some}
 use Rattle.reg_heap.specs.Paths.{Path}
-use Rattle.reg_heap.specs.Internal.Heaps.{Heap, Swaps, allocated}
-use Rattle.reg_heap.specs.Internal.Kinds.{Found, times, is_own, is_shared, owned, shared}
-use Rattle.reg_heap.specs.Internal.Kinds.Kind.{Security}
+use Rattle.reg_heap.specs.Heaps.{Heap, Swaps, allocated}
+use Rattle.reg_heap.specs.Kinds.{Found, times, is_own, is_shared, owned, shared}
+use Rattle.reg_heap.specs.Kinds.Kind.{Security}
 use Rattle.reg_shape.specs.Internal.Forests.{Forest, Branch, total, total_of}
 use Rattle.reg_records.specs.KeyNodes.{key_at}
 use Rattle.reg_records.specs.KeySecurities.{KeySecurityRecord, security_at}

@@ -3,8 +3,8 @@ use Rattle.std.proofs.Common.{◌≡◌, ◌⊎◌, inl, inr, ◌↔◌, ℕ, ze
 use Rattle.std.specs.List.{AllByRecursion}
 use Rattle.std.proofs.lemmas.Bool.{cases_eq}
 use Rattle.reg_heap.specs.Paths.{Path}
-use Rattle.reg_heap.specs.Internal.Heaps.{Heap, Swaps, allocated}
-use Rattle.reg_heap.specs.Internal.Kinds.{times, owned, shared}
+use Rattle.reg_heap.specs.Heaps.{Heap, Swaps, allocated}
+use Rattle.reg_heap.specs.Kinds.{times, owned, shared}
 use Rattle.reg_shape.specs.Internal.Forests.{Forest, Branch, heads, total, total_of}
 use Rattle.reg_records.specs.RecordCells.{held}
 use Rattle.reg_records.specs.KeyNodes.{key_at, IsPlainKey}

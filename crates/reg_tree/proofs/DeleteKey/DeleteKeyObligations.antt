@@ -5,8 +5,8 @@ use Rattle.std.specs.FinMap.{get, insert, remove}
 use Rattle.reg_names.specs.Names.{folded}
 use Rattle.reg_heap.specs.Paths.{Path, Tree, Rec}
 use Rattle.reg_heap.specs.Edits.{edited, at_time, without_key}
-use Rattle.reg_heap.specs.Internal.Heaps.{Heap, Swaps}
-use Rattle.reg_heap.specs.Internal.Kinds.{owned}
+use Rattle.reg_heap.specs.Heaps.{Heap, Swaps}
+use Rattle.reg_heap.specs.Kinds.{owned}
 use Rattle.reg_shape.specs.Internal.Forests.{Branch}
 use Rattle.reg_heap.proofs.ChildrenOfPath.{path-is}
 use Rattle.reg_arena.specs.Cells.{cell_at}
@@ -19,7 +19,7 @@ use Rattle.reg_shape.specs.Nodes.Index.{Unlisted, Listed, Rooted}
 use Rattle.reg_shape.specs.Spelt.{rec_of, name_of}
 use Rattle.reg_shape.specs.Internal.Shapes.{descriptor_in, StandsIn}
 use Rattle.reg_shape.specs.Internal.Grafts.{IsShape, IsGrafted, branch_in, branch_at, graft_at}
-use Rattle.reg_shape.specs.Internal.PathLookup.{place_at}
+use Rattle.reg_shape.specs.PathLookup.{place_at}
 use Rattle.reg_shape.proofs.Graft.Branches.{branch-append, branch-stands}
 use Rattle.reg_shape.proofs.Graft.WholeAfterGraft.{grafted, graft-total}
 use Rattle.reg_shape.proofs.Graft.ForestInsertFits.{deep-unhung}

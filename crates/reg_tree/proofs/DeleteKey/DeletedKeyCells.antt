@@ -2,9 +2,9 @@
 use Rattle.std.proofs.Common.{◌≡◌, ℕ, ◌+◌, Some, IsSome, List, [], ◌∷◌, refl, sym, ap, ◌∙◌, subst, arith}
 use Rattle.std.proofs.lemmas.Option.{same_Some}
 use Rattle.reg_heap.specs.Paths.{Member}
-use Rattle.reg_heap.specs.Internal.Heaps.{Heap, Swaps, GivesUp}
-use Rattle.reg_heap.specs.Internal.Kinds.{Found, times, is_own, owned}
-use Rattle.reg_heap.specs.Internal.Kinds.Kind.{Class, Security}
+use Rattle.reg_heap.specs.Heaps.{Heap, Swaps, GivesUp}
+use Rattle.reg_heap.specs.Kinds.{Found, times, is_own, owned}
+use Rattle.reg_heap.specs.Kinds.Kind.{Class, Security}
 use Rattle.reg_records.specs.declared.nk.KeyFields.{KeyFields}
 use Rattle.reg_records.specs.KeyNodes.{KeyRecord, key_at}
 use Rattle.reg_records.specs.BigData.{if_any}

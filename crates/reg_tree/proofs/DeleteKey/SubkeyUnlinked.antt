@@ -10,8 +10,8 @@ use Rattle.std.proofs.lemmas.Bool.{cases_lt}
 use Rattle.std.proofs.lemmas.Cmp.{tied_itself}
 use Rattle.std.proofs.lemmas.List.{get_or-map, length-map}
 use Rattle.reg_names.specs.Names.{folded}
-use Rattle.reg_heap.specs.Internal.Heaps.{Heap}
-use Rattle.reg_heap.specs.Internal.Kinds.{times}
+use Rattle.reg_heap.specs.Heaps.{Heap}
+use Rattle.reg_heap.specs.Kinds.{times}
 use Rattle.reg_records.specs.KeyNodes.{KeyRecord, key_at}
 use Rattle.reg_records.specs.SubkeyLists.{Entry}
 use Rattle.reg_index.specs.Subkeys.{AreSubkeys, IsPlace, Moves, Rises, name_at, name_or_none, names_in, own, without}

@@ -10,10 +10,10 @@ use Rattle.reg_names.specs.Names.{folded, path_of}
 use Rattle.reg_heap.specs.declared.limits.TheConstants.{SUBKEYS_LIMIT, MADE_LIMIT}
 use Rattle.reg_heap.specs.Paths.{Path, Tree, children_of}
 use Rattle.reg_heap.specs.Edits.{child_path, has_child, with_key, with_keys, missing, last_there}
-use Rattle.reg_heap.specs.Internal.Heaps.{Heap}
+use Rattle.reg_heap.specs.Heaps.{Heap}
 use Rattle.reg_arena.specs.Cells.{cell_at}
 use Rattle.reg_records.specs.KeyNodes.{KeyRecord, key_at}
-use Rattle.reg_shape.specs.Internal.PathLookup.{place_at, subkey_named}
+use Rattle.reg_shape.specs.PathLookup.{place_at, subkey_named}
 use Rattle.reg_shape.proofs.Lookup.LookupOfShape.{place-none, place-more, place-append}
 use Rattle.reg_tree.specs.declared.node.Node.{Node as TreeNode}
 use Rattle.reg_tree.specs.TreeKeys.{tree_in}

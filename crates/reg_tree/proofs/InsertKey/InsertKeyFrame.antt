@@ -5,9 +5,9 @@ use Rattle.std.specs.List.{AllByRecursion}
 use Rattle.reg_arena.proofs.FreeList.FreeListTake.{times-append}
 use Rattle.reg_names.specs.Names.{folded}
 use Rattle.reg_heap.specs.Paths.{Path}
-use Rattle.reg_heap.specs.Internal.Heaps.{Heap, allocated}
-use Rattle.reg_heap.specs.Internal.Kinds.{Found, times, is_own, owned}
-use Rattle.reg_heap.specs.Internal.Kinds.Kind.{Key}
+use Rattle.reg_heap.specs.Heaps.{Heap, allocated}
+use Rattle.reg_heap.specs.Kinds.{Found, times, is_own, owned}
+use Rattle.reg_heap.specs.Kinds.Kind.{Key}
 use Rattle.reg_shape.specs.Internal.Forests.{Forest, Branch, heads, total, total_of, Stand}
 use Rattle.reg_shape.specs.Internal.Forests.Forest.{End, Rooted as Hangs}
 use Rattle.reg_records.specs.KeyNodes.{KeyRecord, key_at}
@@ -17,7 +17,7 @@ use Rattle.reg_shape.specs.Nodes.{Node, entries_of}
 use Rattle.reg_shape.specs.Written.{Fits, IsWrittenSecurity}
 use Rattle.reg_shape.specs.Internal.Shapes.{index_cells, owns, IsSeen, StandsIn}
 use Rattle.reg_shape.specs.Internal.Grafts.{IsShape}
-use Rattle.reg_shape.specs.Internal.PathLookup.{place_at}
+use Rattle.reg_shape.specs.PathLookup.{place_at}
 use Rattle.reg_records.proofs.KeyNodeCodec.{key_at-same}
 use Rattle.reg_records.proofs.KeySecurityCodec.{security_at-same}
 use Rattle.reg_shape.proofs.Walking.WalkRefinement.{IsLooked}

@@ -11,9 +11,9 @@ use Rattle.reg_names.specs.declared.TheConstants.{KEY_NAME_LIMIT}
 use Rattle.reg_arena.proofs.FreeList.FreeListTake.{times-append}
 use Rattle.reg_names.specs.Names.{folded, hash, is_key_name}
 use Rattle.reg_heap.specs.Paths.{Path}
-use Rattle.reg_heap.specs.Internal.Heaps.{Heap, allocated}
-use Rattle.reg_heap.specs.Internal.Kinds.{Found, times, is_own, owned}
-use Rattle.reg_heap.specs.Internal.Kinds.Kind.{Key}
+use Rattle.reg_heap.specs.Heaps.{Heap, allocated}
+use Rattle.reg_heap.specs.Kinds.{Found, times, is_own, owned}
+use Rattle.reg_heap.specs.Kinds.Kind.{Key}
 use Rattle.reg_shape.specs.Internal.Forests.{Branch, heads, total, total_of}
 use Rattle.reg_records.specs.RecordCells.{held}
 use Rattle.reg_records.specs.KeyNodes.{KeyRecord, key_at, IsPlainKey}
@@ -23,7 +23,7 @@ use Rattle.reg_shape.specs.Nodes.{Node, entries_of}
 use Rattle.reg_shape.specs.Written.{Precedes, Fits, IsWrittenSecurity}
 use Rattle.reg_shape.specs.Internal.Shapes.{cells_of, index_cells, owns, shares, IsSeen, StandsIn}
 use Rattle.reg_shape.specs.Internal.Grafts.{IsShape, IsGrafted, IsRecounted, hang}
-use Rattle.reg_shape.specs.Internal.PathLookup.{place_at, subkey_named}
+use Rattle.reg_shape.specs.PathLookup.{place_at, subkey_named}
 use Rattle.reg_shape.proofs.Frame.WrittenFrame.{same-held}
 use Rattle.reg_shape.proofs.Walking.WalkRefinement.{IsLooked}
 use Rattle.reg_shape.proofs.Wholeness.ShapeRecords.{shares-own}

@@ -9,8 +9,8 @@ use Rattle.reg_names.specs.declared.TheConstants.{PATH_LIMIT, KEY_NAME_LIMIT}
 use Rattle.reg_names.specs.Names.{folded, is_key_name}
 use Rattle.reg_heap.specs.Paths.{Path, Tree, Rec}
 use Rattle.reg_heap.specs.Edits.{edited, at_time, made_key, with_key, descriptor_of}
-use Rattle.reg_heap.specs.Internal.Heaps.{Heap}
-use Rattle.reg_heap.specs.Internal.Kinds.{times, owned}
+use Rattle.reg_heap.specs.Heaps.{Heap}
+use Rattle.reg_heap.specs.Kinds.{times, owned}
 use Rattle.reg_shape.specs.Internal.Forests.{Branch, total_of}
 use Rattle.reg_records.specs.RecordCells.{held}
 use Rattle.reg_records.specs.KeyNodes.{KeyRecord, key_at, IsPlainKey}
@@ -20,7 +20,7 @@ use Rattle.reg_shape.specs.Nodes.{Node, entries_of}
 use Rattle.reg_shape.specs.Internal.Shapes.{descriptor_in, tree_of, IsSeen, StandsIn}
 use Rattle.reg_shape.specs.Spelt.{rec_of}
 use Rattle.reg_shape.specs.Internal.Grafts.{IsShape, IsGrafted, branch_at, graft_at, hang}
-use Rattle.reg_shape.specs.Internal.PathLookup.{place_at, key_named, subkey_named}
+use Rattle.reg_shape.specs.PathLookup.{place_at, key_named, subkey_named}
 use Rattle.reg_records.proofs.KeyNodeCodec.{key_at-same}
 use Rattle.reg_shape.proofs.Walking.WalkRefinement.{IsLooked}
 use Rattle.reg_shape.proofs.Graft.ForestInsert.{total-hang}

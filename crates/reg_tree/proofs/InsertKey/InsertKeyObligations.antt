@@ -6,8 +6,8 @@ use Rattle.std.proofs.lemmas.Option.{none-some}
 use Rattle.reg_names.specs.declared.TheConstants.{KEY_NAME_LIMIT}
 use Rattle.reg_names.specs.Names.{folded, is_key_name}
 use Rattle.reg_heap.specs.declared.limits.TheConstants.{SUBKEYS_LIMIT}
-use Rattle.reg_heap.specs.Internal.Heaps.{Heap}
-use Rattle.reg_heap.specs.Internal.Kinds.{times}
+use Rattle.reg_heap.specs.Heaps.{Heap}
+use Rattle.reg_heap.specs.Kinds.{times}
 use Rattle.reg_arena.specs.Cells.{cell_at}
 use Rattle.reg_records.specs.declared.nk.KeyFields.{KeyFields}
 use Rattle.reg_records.specs.RecordCells.{held}
@@ -15,7 +15,7 @@ use Rattle.reg_records.specs.KeyNodes.{KeyRecord, key_at, IsPlainKey}
 use Rattle.reg_records.specs.KeySecurities.{KeySecurityRecord, security_at}
 use Rattle.reg_records.specs.SubkeyLists.{Entry}
 use Rattle.reg_shape.specs.Nodes.{Node, entries_of}
-use Rattle.reg_shape.specs.Internal.PathLookup.{subkey_named}
+use Rattle.reg_shape.specs.PathLookup.{subkey_named}
 use Rattle.reg_records.proofs.KeyNodeCodec.{key_at-same}
 use Rattle.reg_shape.proofs.Frame.WrittenFrame.{same-held}
 use Rattle.reg_index.specs.Subkeys.{AreSubkeys, IsPlace, IsReady, Moves, names_in, name_at, name_or_none, entry_for, with_one, own, taken, insert_size}

@@ -11,7 +11,7 @@ use Rattle.std.proofs.lemmas.Option.{none-some, same_Some}
 use Rattle.reg_names.specs.declared.TheConstants.{PATH_LIMIT, KEY_NAME_LIMIT}
 use Rattle.reg_names.specs.Names.{is_key_name, are_key_names, is_path, path_of}
 use Rattle.reg_heap.specs.declared.limits.TheConstants.{BINS_LIMIT, GROWTH_BOUND, SUBKEYS_LIMIT, MADE_LIMIT}
-use Rattle.reg_heap.specs.Internal.Heaps.{Heap, AreNew}
+use Rattle.reg_heap.specs.Heaps.{Heap, AreNew}
 use Rattle.reg_arena.specs.declared.ArenaFault.{ArenaFault}
 use Rattle.reg_arena.specs.declared.ArenaFault.TheVariants as arena
 use Rattle.reg_arena.specs.Cells.{cell_at}

@@ -15,15 +15,15 @@ use Rattle.reg_arena.specs.Cells.{cell_at}
 use Rattle.reg_names.specs.Names.{folded, path_of, is_path, is_key_name, is_key_name_byte, IsFirst}
 use Rattle.reg_heap.specs.Paths.{Path, Tree, path_cmp}
 use Rattle.reg_heap.specs.Edits.{child_path, has_child, with_key, with_keys}
-use Rattle.reg_heap.specs.Internal.Heaps.{Heap}
-use Rattle.reg_heap.specs.Internal.Kinds.{times}
+use Rattle.reg_heap.specs.Heaps.{Heap}
+use Rattle.reg_heap.specs.Kinds.{times}
 use Rattle.reg_shape.specs.Internal.Forests.{Branch}
 use Rattle.reg_heap.proofs.ChildrenOfPath.{path-is}
 use Rattle.reg_shape.specs.Nodes.{Node}
 use Rattle.reg_shape.specs.Spelt.{rec_of}
 use Rattle.reg_shape.specs.Internal.Shapes.{descriptor_in, tree_of}
 use Rattle.reg_shape.specs.Internal.Grafts.{IsShape, branch_at}
-use Rattle.reg_shape.specs.Internal.PathLookup.{place_at, subkey_named}
+use Rattle.reg_shape.specs.PathLookup.{place_at, subkey_named}
 use Rattle.reg_records.proofs.KeyNodeCodec.{key_at-same}
 use Rattle.reg_shape.proofs.Frame.WrittenFrame.{same-held}
 use Rattle.reg_shape.proofs.Refinement.SpeltTrees.{path_total}

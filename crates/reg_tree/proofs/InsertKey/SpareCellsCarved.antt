@@ -9,8 +9,8 @@ use Rattle.reg_names.specs.Names.{folded}
 use Rattle.reg_heap.specs.declared.limits.TheConstants.{SUBKEYS_LIMIT}
 use Rattle.reg_heap.specs.Paths.{Path, Tree, Rec, path_cmp}
 use Rattle.reg_heap.specs.Edits.{child_path}
-use Rattle.reg_heap.specs.Internal.Heaps.{Heap, allocated, Swaps}
-use Rattle.reg_heap.specs.Internal.Kinds.{times, is_own, owned}
+use Rattle.reg_heap.specs.Heaps.{Heap, allocated, Swaps}
+use Rattle.reg_heap.specs.Kinds.{times, is_own, owned}
 use Rattle.reg_shape.specs.Internal.Forests.{Branch, total_of}
 use Rattle.reg_heap.proofs.ChildrenOfPath.{path-is}
 use Rattle.reg_arena.specs.Cells.{cell_at}
@@ -20,7 +20,7 @@ use Rattle.reg_shape.specs.Nodes.{Node}
 use Rattle.reg_shape.specs.Spelt.{rec_of}
 use Rattle.reg_shape.specs.Internal.Shapes.{cells_of, index_cells, owns, shares, descriptor_in, tree_of, StandsIn}
 use Rattle.reg_shape.specs.Internal.Grafts.{IsShape, IsGrafted, IsRecounted}
-use Rattle.reg_shape.specs.Internal.PathLookup.{place_at, subkey_named}
+use Rattle.reg_shape.specs.PathLookup.{place_at, subkey_named}
 use Rattle.reg_records.proofs.KeyNodeCodec.{key_at-same}
 use Rattle.reg_records.proofs.KeySecurityCodec.{security_at-same}
 use Rattle.reg_shape.proofs.Frame.WrittenFrame.{seen-kept, same-held}

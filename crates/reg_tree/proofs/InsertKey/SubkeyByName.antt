@@ -9,7 +9,7 @@ use Rattle.std.specs.Cmp.Lexicographic.{slice_cmp, nat_list_cmp_total}
 use Rattle.std.proofs.lemmas.Cmp.{tied_itself}
 use Rattle.std.proofs.lemmas.Bool.{ltb-true, ltb-false}
 use Rattle.reg_names.specs.Names.{folded}
-use Rattle.reg_heap.specs.Internal.Heaps.{Heap}
+use Rattle.reg_heap.specs.Heaps.{Heap}
 use Rattle.reg_shape.specs.Internal.Forests.{Forest, Branch, heads, Stand}
 use Rattle.reg_shape.specs.Internal.Forests.Forest.{End, Rooted as Hangs}
 use Rattle.reg_records.specs.KeyNodes.{KeyRecord}
@@ -17,7 +17,7 @@ use Rattle.reg_records.specs.SubkeyLists.{Entry, places_in}
 use Rattle.reg_shape.specs.Nodes.{Node, entries_of}
 use Rattle.reg_shape.specs.Written.{Fits}
 use Rattle.reg_shape.specs.Internal.Shapes.{StandsIn, IsSeen}
-use Rattle.reg_shape.specs.Internal.PathLookup.{calls, is_called, key_named, subkey_named}
+use Rattle.reg_shape.specs.PathLookup.{calls, is_called, key_named, subkey_named}
 use Rattle.reg_shape.proofs.Refinement.RefinementAfterEdit.{same_name, name-is, name-self}
 use Rattle.reg_shape.proofs.Refinement.RefinementAtPath.{name-written}
 use Rattle.reg_shape.proofs.Lookup.LookupOfShape.{key-looked}

@@ -6,9 +6,9 @@ use Rattle.std.specs.Option.{option_map, option_and_then}
 use Rattle.std.proofs.lemmas.Bool.{eqb-true, eqb-false}
 use Rattle.reg_names.specs.Names.{is_key_name}
 use Rattle.reg_heap.specs.declared.limits.TheConstants.{NONE, DESCRIPTOR_LIMIT}
-use Rattle.reg_heap.specs.Internal.Heaps.{Heap, allocated}
-use Rattle.reg_heap.specs.Internal.Kinds.{times}
-use Rattle.reg_heap.specs.Internal.Kinds.Kind.{Class}
+use Rattle.reg_heap.specs.Heaps.{Heap, allocated}
+use Rattle.reg_heap.specs.Kinds.{times}
+use Rattle.reg_heap.specs.Kinds.Kind.{Class}
 use Rattle.reg_shape.specs.Internal.Forests.{Branch, total_of}
 use Rattle.reg_shape.specs.Internal.Forests.Forest.{End}
 use Rattle.reg_arena.specs.Arena.{Bins}

@@ -6,8 +6,8 @@ use Rattle.reg_arena.proofs.FreeList.FreeListTake.{times-append}
 use Rattle.reg_arena.specs.declared.Cell.{Cell}
 use Rattle.reg_arena.specs.Cells.{Bin, Tiles, AreBins, cells_in, cells_of, cell_at}
 use Rattle.reg_arena.proofs.Tiling.CellLayout.{in_bins, has_cells}
-use Rattle.reg_heap.specs.Internal.Heaps.{Heap, allocated}
-use Rattle.reg_heap.specs.Internal.Kinds.{Found, times, owned, shared}
+use Rattle.reg_heap.specs.Heaps.{Heap, allocated}
+use Rattle.reg_heap.specs.Kinds.{Found, times, owned, shared}
 use Rattle.reg_shape.specs.Internal.Forests.{Forest, Branch, total, total_of, Stand}
 use Rattle.reg_shape.specs.Internal.Forests.Forest.{End, Rooted as Hangs}
 use Rattle.reg_records.specs.KeySecurities.{KeySecurityRecord, security_at}

@@ -5,15 +5,15 @@ use Rattle.std.specs.FinMap.{get}
 use Rattle.std.proofs.lemmas.Option.{none-some, same_Some}
 use Rattle.reg_names.specs.declared.TheConstants.{PATH_LIMIT}
 use Rattle.reg_heap.specs.Paths.{Path}
-use Rattle.reg_heap.specs.Internal.Heaps.{Heap, allocated}
-use Rattle.reg_heap.specs.Internal.Kinds.{times, owned}
+use Rattle.reg_heap.specs.Heaps.{Heap, allocated}
+use Rattle.reg_heap.specs.Kinds.{times, owned}
 use Rattle.reg_shape.specs.Internal.Forests.{Branch, total_of}
 use Rattle.reg_records.specs.KeyNodes.{key_at}
 use Rattle.reg_shape.specs.Nodes.{Node}
 use Rattle.reg_shape.specs.Spelt.{rec_of}
 use Rattle.reg_shape.specs.Internal.Shapes.{cells_of, owns, shares, descriptor_in, tree_of, depth, StandsIn, IsSeen}
 use Rattle.reg_shape.specs.Internal.Grafts.{IsShape, branch_at}
-use Rattle.reg_shape.specs.Internal.PathLookup.{place_at}
+use Rattle.reg_shape.specs.PathLookup.{place_at}
 use Rattle.reg_shape.proofs.Walking.WalkRefinement.{IsLooked, look-open}
 use Rattle.reg_shape.proofs.Wholeness.ShapeRecords.{shares-own}
 use Rattle.reg_shape.proofs.Graft.Branches.{branch-stands, branch-total, branch-depth}

@@ -6,8 +6,8 @@ use Rattle.std.specs.FinMap.{get, empty}
 use Rattle.std.proofs.lemmas.Option.{none-some, same_Some}
 use Rattle.reg_names.specs.declared.TheConstants.{PATH_LIMIT}
 use Rattle.reg_heap.specs.Paths.{Path, Tree, Member}
-use Rattle.reg_heap.specs.Internal.Heaps.{Heap, allocated}
-use Rattle.reg_heap.specs.Internal.Kinds.{Found, times, owned}
+use Rattle.reg_heap.specs.Heaps.{Heap, allocated}
+use Rattle.reg_heap.specs.Kinds.{Found, times, owned}
 use Rattle.reg_heap.specs.Edits.{values_at, values_of}
 use Rattle.reg_shape.specs.Internal.Forests.{Branch, total_of}
 use Rattle.reg_arena.specs.declared.Cell.{Cell}
@@ -18,7 +18,7 @@ use Rattle.reg_shape.specs.Nodes.{Node, members_at}
 use Rattle.reg_shape.specs.Spelt.{spelt, rec_of}
 use Rattle.reg_shape.specs.Internal.Shapes.{cells_of as own_cells, index_cells, owns, descriptor_in, tree_of, depth, StandsIn, IsSeen, IsWholeShape}
 use Rattle.reg_shape.specs.Internal.Grafts.{branch_at}
-use Rattle.reg_shape.specs.Internal.PathLookup.{place_at}
+use Rattle.reg_shape.specs.PathLookup.{place_at}
 use Rattle.reg_shape.proofs.Walking.WalkRefinement.{IsLooked, look-open}
 use Rattle.reg_shape.proofs.Wholeness.AllocatedCells.{whole-in, spelt-in}
 use Rattle.reg_shape.proofs.Graft.Branches.{shape-whole}

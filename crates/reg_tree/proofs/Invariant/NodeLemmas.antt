@@ -8,7 +8,7 @@ use Rattle.reg_heap.specs.Paths.{Path, Tree, Rec, children_of}
 use Rattle.reg_heap.specs.Edits.{edited}
 use Rattle.reg_arena.specs.Arena.{Bins}
 use Rattle.reg_arena.specs.Cells.{cell_at}
-use Rattle.reg_shape.specs.Internal.PathLookup.{place_at}
+use Rattle.reg_shape.specs.PathLookup.{place_at}
 use Rattle.reg_shape.proofs.Lookup.LookupOfShape.{place-append}
 use Rattle.reg_tree.specs.declared.node.Node.{Node}
 use Rattle.reg_tree.specs.declared.fault.TreeFault.{TreeFault}

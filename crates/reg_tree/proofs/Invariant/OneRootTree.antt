@@ -2,7 +2,7 @@
 use Rattle.std.proofs.Common.{◌≡◌, [], ◌∷◌, map, refl, ap, ◌∙◌}
 use Rattle.std.specs.FinMap.{insert, empty, from_entries}
 use Rattle.reg_heap.specs.Paths.{path_cmp, Rec}
-use Rattle.reg_heap.specs.Internal.Heaps.{Heap}
+use Rattle.reg_heap.specs.Heaps.{Heap}
 use Rattle.reg_shape.specs.Internal.Forests.{Forest, Branch}
 use Rattle.reg_shape.specs.Internal.Forests.Forest.{End}
 use Rattle.reg_shape.specs.Nodes.{Node}

@@ -1,7 +1,7 @@
 -- What a key has as its own cells, and as its security.
 use Rattle.std.proofs.Common.{◌≡◌, ℕ, ◌+◌, cond, eqb, List, [], ◌∷◌, ◌++◌, refl, ap, ◌∙◌, arith}
-use Rattle.reg_heap.specs.Internal.Kinds.{Found, is_own, is_shared, owned, shared}
-use Rattle.reg_heap.specs.Internal.Kinds.Kind.{Key, Security}
+use Rattle.reg_heap.specs.Kinds.{Found, is_own, is_shared, owned, shared}
+use Rattle.reg_heap.specs.Kinds.Kind.{Key, Security}
 use Rattle.reg_records.specs.KeyNodes.{KeyRecord}
 use Rattle.reg_shape.specs.Nodes.{Index, met_of}
 use Rattle.reg_shape.specs.Internal.Shapes.{index_cells}

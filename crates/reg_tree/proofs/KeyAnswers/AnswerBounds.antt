@@ -7,7 +7,7 @@ use Rattle.reg_names.specs.declared.TheConstants.{VALUE_NAME_LIMIT, KEY_NAME_LIM
 use Rattle.reg_names.specs.Names.{is_value_name}
 use Rattle.reg_heap.specs.declared.limits.TheConstants.{DESCRIPTOR_LIMIT}
 use Rattle.reg_heap.specs.Paths.{Member}
-use Rattle.reg_heap.specs.Internal.Kinds.{Found}
+use Rattle.reg_heap.specs.Kinds.{Found}
 use Rattle.reg_arena.specs.Cells.{cell_at}
 use Rattle.reg_records.specs.declared.nk.KeyFields.{KeyFields}
 use Rattle.reg_records.specs.KeyNodes.{KeyRecord, key_at, nk_of}

@@ -3,7 +3,7 @@ use Rattle.std.proofs.Common.{◌≡◌, ℕ, ◌<◌, ◌≤◌, ◌⊎◌, inl
 use Rattle.std.proofs.Common.{is_none, Bool, not}
 use Rattle.std.specs.Option.{option_and_then}
 use Rattle.reg_heap.specs.Paths.{Member}
-use Rattle.reg_heap.specs.Internal.Kinds.{Found}
+use Rattle.reg_heap.specs.Kinds.{Found}
 use Rattle.reg_heap.specs.Members.{value_named, place_named}
 use Rattle.reg_heap.specs.Edits.{values_at}
 use Rattle.reg_arena.specs.Cells.{cell_at}
@@ -22,7 +22,8 @@ use Rattle.reg_arena.specs.declared.ArenaFault.TheVariants.{Full, Memory}
 use Rattle.reg_tree.specs.declared.fault.TreeFault.{TreeFault}
 use Rattle.reg_tree.specs.declared.fault.TreeFault.TheVariants.{Limit}
 use Rattle.reg_tree.specs.Internal.TreeFaults.{of_arena}
-use Rattle.reg_tree.specs.Internal.KeyNodeChanges.{HasList, IsFound}
+use Rattle.reg_tree.specs.Internal.KeyNodeChanges.{HasList}
+use Rattle.reg_tree.specs.ValueAnswers.{IsFound}
 use Rattle.reg_tree.proofs.Invariant.CellReadings.{is_some_of}
 use Rattle.reg_tree.proofs.Invariant.KeyOfTree.{branch, values_are, looked, list_reads, list_length}
 

@@ -7,10 +7,10 @@ use Rattle.std.proofs.lemmas.List.Splits.{length-slice_split}
 use Rattle.reg_names.specs.declared.TheConstants.{PATH_LIMIT}
 use Rattle.reg_names.specs.Names.{folded, path_of, is_path, is_backslash, IsFirst}
 use Rattle.reg_heap.specs.Paths.{Path}
-use Rattle.reg_heap.specs.Internal.Heaps.{Heap}
+use Rattle.reg_heap.specs.Heaps.{Heap}
 use Rattle.reg_heap.specs.Edits.{folded_path}
 use Rattle.reg_arena.specs.Cells.{cell_at}
-use Rattle.reg_shape.specs.Internal.PathLookup.{place_at, subkey_named}
+use Rattle.reg_shape.specs.PathLookup.{place_at, subkey_named}
 use Rattle.reg_shape.proofs.Lookup.LookupOfShape.{place-none, place-more, place-append}
 use Rattle.reg_tree.specs.declared.node.Node.{Node}
 use Rattle.reg_tree.specs.TreeInvariant.{IsHere}

@@ -2,11 +2,11 @@
 use Rattle.std.proofs.Common.{◌≡◌, ℕ, ◌<◌, Some, None, List, [], get_or, sym, ap, ◌∙◌, subst, arith}
 use Rattle.std.specs.Prelude.{Ok, Err}
 use Rattle.reg_names.specs.Names.{folded}
-use Rattle.reg_heap.specs.Internal.Heaps.{Heap}
+use Rattle.reg_heap.specs.Heaps.{Heap}
 use Rattle.reg_arena.specs.Cells.{cell_at}
 use Rattle.reg_records.specs.SubkeyLists.{Entry}
 use Rattle.reg_shape.specs.Nodes.{Node, entries_of}
-use Rattle.reg_shape.specs.Internal.PathLookup.{subkey_named}
+use Rattle.reg_shape.specs.PathLookup.{subkey_named}
 use Rattle.reg_index.specs.Subkeys.{AreSubkeys, IsPlace, names_in}
 use Rattle.reg_index.proofs.SubkeysOpening.{length-subkeys}
 use Rattle.reg_index.proofs.RefinementOfSubkeys.{IsSingle, length-names}

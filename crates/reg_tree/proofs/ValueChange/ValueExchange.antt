@@ -4,9 +4,9 @@ use Rattle.std.specs.List.{AllByRecursion}
 use Rattle.std.specs.Option.{option_map, option_and_then}
 use Rattle.std.proofs.lemmas.Bool.{cases_eq}
 use Rattle.reg_heap.specs.Paths.{Member}
-use Rattle.reg_heap.specs.Internal.Heaps.{Heap, Swaps, allocated}
-use Rattle.reg_heap.specs.Internal.Kinds.{Found, is_own, owned, shared}
-use Rattle.reg_heap.specs.Internal.Kinds.Kind.{Key, Class}
+use Rattle.reg_heap.specs.Heaps.{Heap, Swaps, allocated}
+use Rattle.reg_heap.specs.Kinds.{Found, is_own, owned, shared}
+use Rattle.reg_heap.specs.Kinds.Kind.{Key, Class}
 use Rattle.reg_records.specs.KeyNodes.{KeyRecord, key_at, IsPlainKey}
 use Rattle.reg_records.specs.BigData.{if_any}
 use Rattle.reg_shape.specs.Nodes.{Node, members_at, index_at, node_of, node_in, met_of, look}

@@ -2,8 +2,8 @@
 use Rattle.std.specs.Prelude.{◌≡◌, ◌≢◌, ℕ, ◌-◌, ◌≤◌, true, [], ◌∷◌, length, Some, None, replicate}
 use Rattle.reg_names.specs.Names.{is_key_name}
 use Rattle.reg_heap.specs.declared.limits.TheConstants.{DESCRIPTOR_LIMIT, NONE}
-use Rattle.reg_heap.specs.Internal.Heaps.{Heap, allocated}
-use Rattle.reg_heap.specs.Internal.Kinds.{times}
+use Rattle.reg_heap.specs.Heaps.{Heap, allocated}
+use Rattle.reg_heap.specs.Kinds.{times}
 use Rattle.reg_arena.specs.Arena.{Bins}
 use Rattle.reg_arena.specs.Cells.{cell_at}
 use Rattle.reg_records.specs.RecordCells.{held}

@@ -6,7 +6,7 @@ use Rattle.reg_heap.specs.declared.limits.TheConstants.{SUBKEYS_LIMIT, MADE_LIMI
 use Rattle.reg_heap.specs.Paths.{Path, Tree, children_of}
 use Rattle.reg_heap.specs.Edits.{with_keys, missing, last_there}
 use Rattle.reg_arena.specs.Cells.{cell_at}
-use Rattle.reg_shape.specs.Internal.PathLookup.{place_at}
+use Rattle.reg_shape.specs.PathLookup.{place_at}
 use Rattle.reg_tree.specs.declared.node.Node.{Node}
 use Rattle.reg_tree.specs.TreeKeys.{tree_in}
 use Rattle.reg_tree.specs.TreeInvariant.{Holds}

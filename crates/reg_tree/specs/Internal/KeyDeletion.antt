@@ -1,10 +1,10 @@
 -- A key taken out of its parent's subkeys, its cells given up, and the tree without it.
 use Rattle.std.specs.Prelude.{◌≡◌, ◌≢◌, ℕ, ◌<◌, ◌≤◌, List, [], ◌∷◌, length, get_or, Some}
 use Rattle.reg_heap.specs.Paths.{Path}
-use Rattle.reg_heap.specs.Internal.Heaps.{Heap, allocated}
-use Rattle.reg_heap.specs.Internal.Kinds.{owned}
-use Rattle.reg_heap.specs.Internal.Kinds.Kind.{Class}
-use Rattle.reg_shape.specs.Internal.Readings.{Reading}
+use Rattle.reg_heap.specs.Heaps.{Heap, allocated}
+use Rattle.reg_heap.specs.Kinds.{owned}
+use Rattle.reg_heap.specs.Kinds.Kind.{Class}
+use Rattle.reg_shape.specs.Readings.{Reading}
 use Rattle.reg_heap.specs.Edits.{without_key}
 use Rattle.reg_arena.specs.Cells.{cell_at}
 use Rattle.reg_records.specs.declared.nk.KeyFields.{KeyFields}
@@ -13,7 +13,7 @@ use Rattle.reg_records.specs.SubkeyLists.{Entry}
 use Rattle.reg_records.specs.BigData.{if_any}
 use Rattle.reg_shape.specs.Nodes.{Node, pieces_at, look}
 use Rattle.reg_shape.specs.Written.{AreWritten}
-use Rattle.reg_shape.specs.Internal.PathLookup.{place_at}
+use Rattle.reg_shape.specs.PathLookup.{place_at}
 use Rattle.reg_index.specs.Subkeys.{AreSubkeys, Moves, own, without}
 use Rattle.reg_tree.specs.Internal.KeyNodeChanges.{Notes, noted_subkeys}
 use Rattle.reg_tree.specs.TreeInvariant.{Holds}

@@ -1,13 +1,11 @@
 -- What is written into a key node, and what is told of a value.
-use Rattle.std.specs.Prelude.{◌≡◌, ◌≢◌, ℕ, ◌+◌, ◌-◌, ◌*◌, ◌%◌, max, List, length, Option, Some, None, slice_get}
+use Rattle.std.specs.Prelude.{◌≡◌, ◌≢◌, ℕ, ◌+◌, ◌-◌, ◌*◌, ◌%◌, max}
 use Rattle.reg_heap.specs.declared.limits.TheConstants.{NONE}
-use Rattle.reg_heap.specs.Paths.{Member}
-use Rattle.reg_heap.specs.Internal.Heaps.{Heap}
+use Rattle.reg_heap.specs.Heaps.{Heap}
 use Rattle.reg_records.specs.RecordCells.{held}
 use Rattle.reg_records.specs.KeyNodes.{KeyRecord, key_at, IsPlainKey}
 use Rattle.reg_records.specs.KeySecurities.{KeySecurityRecord, security_at, IsPlainSecurity}
 use Rattle.reg_records.specs.declared.nk.KeyFields.{KeyFields}
-use Rattle.reg_tree.specs.declared.value.ValueFound.{ValueFound}
 
 -- a key node after its values changed: their number and list, the time, and the two largest lengths, which only grow
 abbrev pub noted : ℕ → ℕ → ℕ → ℕ → ℕ → KeyRecord → KeyRecord
@@ -75,10 +73,3 @@ pub record Notes (old new : Heap) (cell : ℕ) (change : KeyRecord → KeyRecord
   pub reads : (key : KeyRecord) → key_at old cell ≡ Some key → key_at new cell ≡ Some (change key)
   pub plain : IsPlainKey (held old cell) → IsPlainKey (held new cell)
   pub others : (offset : ℕ) → offset ≢ cell → new offset ≡ old offset
-
--- a value that was found: its place among the values, its type and the size of its data; or there is none
-abbrev pub IsFound : List Member → Option Member → Option ValueFound → Type 0
-IsFound members None None = Unit {0}
-IsFound members None (Some found) = ⊥
-IsFound members (Some member) None = ⊥
-IsFound members (Some member) (Some found) = (slice_get members found.index ≡ Some member) × (found.kind ≡ member.kind) × (found.size ≡ length member.bytes)

@@ -2,8 +2,8 @@
 use Rattle.std.specs.Prelude.{◌≡◌, ℕ, ◌+◌, ◌≤◌, ◌<◌, get_or, true, Option, Some, None, List, [], ◌∷◌, ◌++◌, length, map}
 use Rattle.reg_names.specs.Names.{folded, path_of, is_path}
 use Rattle.reg_heap.specs.Paths.{Path}
-use Rattle.reg_heap.specs.Internal.Heaps.{Heap}
-use Rattle.reg_shape.specs.Internal.PathLookup.{place_at, subkey_named}
+use Rattle.reg_heap.specs.Heaps.{Heap}
+use Rattle.reg_shape.specs.PathLookup.{place_at, subkey_named}
 use Rattle.reg_tree.specs.declared.node.Node.{Node}
 
 -- the key at the end of a path from a node, or none

@@ -6,8 +6,8 @@ use Rattle.reg_names.specs.declared.TheConstants.{PATH_LIMIT}
 use Rattle.reg_names.specs.Names.{folded}
 use Rattle.reg_heap.specs.declared.limits.TheConstants.{SUBKEYS_LIMIT}
 use Rattle.reg_heap.specs.Paths.{Path, path_cmp}
-use Rattle.reg_heap.specs.Internal.Heaps.{Heap, Swaps}
-use Rattle.reg_heap.specs.Internal.Kinds.{times}
+use Rattle.reg_heap.specs.Heaps.{Heap, Swaps}
+use Rattle.reg_heap.specs.Kinds.{times}
 use Rattle.reg_heap.specs.Edits.{child_path, with_key, with_keys}
 use Rattle.reg_shape.specs.Internal.Forests.{Branch, total_of}
 use Rattle.reg_arena.specs.Cells.{cell_at}
@@ -15,7 +15,7 @@ use Rattle.reg_records.specs.KeyNodes.{KeyRecord, key_at}
 use Rattle.reg_shape.specs.Nodes.{Node}
 use Rattle.reg_shape.specs.Internal.Shapes.{tree_of}
 use Rattle.reg_shape.specs.Internal.Grafts.{IsShape}
-use Rattle.reg_shape.specs.Internal.PathLookup.{place_at, subkey_named}
+use Rattle.reg_shape.specs.PathLookup.{place_at, subkey_named}
 use Rattle.reg_records.specs.RecordCells.{HasRoom}
 use Rattle.reg_index.specs.Subkeys.{insert_size, IsReady, taken}
 use Rattle.reg_tree.specs.declared.node.Node.{Node as TreeNode}

@@ -5,9 +5,9 @@ use Rattle.std.proofs.lemmas.Bool.{eq-eqb}
 use Rattle.std.proofs.lemmas.List.{places}
 use Rattle.reg_heap.specs.declared.limits.TheConstants.{NONE}
 use Rattle.reg_heap.specs.ByteWords.{word, splice}
-use Rattle.reg_heap.specs.Internal.Heaps.{Heap, Swaps, Writes, GivesUp}
-use Rattle.reg_heap.specs.Internal.Kinds.{Found, owned, times}
-use Rattle.reg_heap.specs.Internal.Kinds.Kind.{ValueList}
+use Rattle.reg_heap.specs.Heaps.{Heap, Swaps, Writes, GivesUp}
+use Rattle.reg_heap.specs.Kinds.{Found, owned, times}
+use Rattle.reg_heap.specs.Kinds.Kind.{ValueList}
 use Rattle.reg_records.specs.RecordCells.{held}
 use Rattle.reg_records.specs.OffsetRows.{offsets_at}
 use Rattle.reg_records.proofs.SplicedNumbers.{length-splice, number-below, word-same}

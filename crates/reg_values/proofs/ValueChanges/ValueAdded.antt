@@ -14,8 +14,8 @@ use Rattle.reg_values.specs.ValueSizes.{data_sizes, list_sizes, sizes_by, has_ro
 use Rattle.reg_values.proofs.ValueData.NewCellRoom.{new-room, list-one-more, list-two}
 use Rattle.reg_values.proofs.ValueData.FilledCells.{fills-room}
 use Rattle.reg_values.proofs.ValueData.CellSizeTotals.{makes}
-use Rattle.reg_heap.specs.Internal.Heaps.{Heap, Swaps, AreNew, allocated}
-use Rattle.reg_heap.specs.Internal.Kinds.{Found, owned, times}
+use Rattle.reg_heap.specs.Heaps.{Heap, Swaps, AreNew, allocated}
+use Rattle.reg_heap.specs.Kinds.{Found, owned, times}
 use Rattle.reg_shape.specs.Nodes.{members_at}
 use Rattle.reg_shape.specs.Written.{AreWritten}
 use Rattle.reg_shape.proofs.Walking.InnerReadings.{member-inner}

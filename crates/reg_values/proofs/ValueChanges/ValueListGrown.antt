@@ -4,9 +4,9 @@ use Rattle.std.proofs.Common.{length-take, length-drop}
 use Rattle.std.proofs.Common.{unwrap_or}
 use Rattle.std.proofs.lemmas.Option.{same_Some}
 use Rattle.reg_heap.specs.ByteWords.{word, splice}
-use Rattle.reg_heap.specs.Internal.Heaps.{Heap, Swaps, Writes, GivesUp, allocated}
-use Rattle.reg_heap.specs.Internal.Kinds.{Found, owned, times}
-use Rattle.reg_heap.specs.Internal.Kinds.Kind.{ValueList}
+use Rattle.reg_heap.specs.Heaps.{Heap, Swaps, Writes, GivesUp, allocated}
+use Rattle.reg_heap.specs.Kinds.{Found, owned, times}
+use Rattle.reg_heap.specs.Kinds.Kind.{ValueList}
 use Rattle.reg_records.specs.RecordCells.{HasRoom, held}
 use Rattle.reg_records.specs.OffsetRows.{offsets_at, offset_in}
 use Rattle.reg_records.proofs.SplicedNumbers.{word-same}

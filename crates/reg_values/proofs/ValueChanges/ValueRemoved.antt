@@ -6,8 +6,8 @@ use Rattle.reg_names.specs.Names.{is_value_name}
 use Rattle.reg_heap.specs.declared.limits.TheConstants.{NONE, DATA_LIMIT}
 use Rattle.reg_heap.specs.Paths.{Member}
 use Rattle.reg_heap.specs.Members.{place_named, values_without}
-use Rattle.reg_heap.specs.Internal.Heaps.{Heap, Swaps, allocated}
-use Rattle.reg_heap.specs.Internal.Kinds.{Found, owned}
+use Rattle.reg_heap.specs.Heaps.{Heap, Swaps, allocated}
+use Rattle.reg_heap.specs.Kinds.{Found, owned}
 use Rattle.reg_records.specs.RecordCells.{held}
 use Rattle.reg_records.specs.OffsetRows.{offset_in}
 use Rattle.reg_shape.specs.Nodes.{member_at, members_at}

@@ -6,9 +6,9 @@ use Rattle.std.proofs.lemmas.Option.{same_Some}
 use Rattle.std.proofs.lemmas.Bool.{and_parts, leb-true, eqb-true, ltb-true}
 use Rattle.reg_heap.specs.ByteWords.{splice}
 use Rattle.reg_heap.specs.Paths.{Member}
-use Rattle.reg_heap.specs.Internal.Heaps.{Heap, Swaps, Writes, AreNew, allocated}
-use Rattle.reg_heap.specs.Internal.Kinds.{Found, owned, times}
-use Rattle.reg_heap.specs.Internal.Kinds.Kind.{Value}
+use Rattle.reg_heap.specs.Heaps.{Heap, Swaps, Writes, AreNew, allocated}
+use Rattle.reg_heap.specs.Kinds.{Found, owned, times}
+use Rattle.reg_heap.specs.Kinds.Kind.{Value}
 use Rattle.reg_records.specs.declared.db.TheConstants.{SEGMENT_SIZE}
 use Rattle.reg_records.specs.declared.vk.ValueFields.{ValueFields}
 use Rattle.reg_records.specs.RecordCells.{HasRoom, held}

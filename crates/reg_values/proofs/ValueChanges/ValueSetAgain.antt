@@ -6,8 +6,8 @@ use Rattle.reg_names.specs.Names.{is_value_name}
 use Rattle.reg_heap.specs.declared.limits.TheConstants.{VALUES_LIMIT, DATA_LIMIT}
 use Rattle.reg_heap.specs.Paths.{Member}
 use Rattle.reg_heap.specs.Members.{place_named, values_with}
-use Rattle.reg_heap.specs.Internal.Heaps.{Heap, allocated}
-use Rattle.reg_heap.specs.Internal.Kinds.{Found, owned}
+use Rattle.reg_heap.specs.Heaps.{Heap, allocated}
+use Rattle.reg_heap.specs.Kinds.{Found, owned}
 use Rattle.reg_shape.specs.Nodes.{member_at, members_at}
 use Rattle.reg_shape.specs.Written.{Pairwise, AreWritten}
 use Rattle.reg_shape.proofs.Walking.InnerReadings.{member-inner}

@@ -9,8 +9,8 @@ use Rattle.reg_names.specs.declared.TheConstants.{VALUE_NAME_LIMIT}
 use Rattle.reg_heap.specs.declared.limits.TheConstants.{BINS_LIMIT, GROWTH_BOUND, VALUES_LIMIT, DATA_LIMIT}
 use Rattle.reg_arena.specs.NewCells.{total_of, AreSizes}
 use Rattle.reg_arena.specs.NewBin.{PassesLimit}
-use Rattle.reg_heap.specs.Internal.Heaps.{Heap, AreNew, allocated}
-use Rattle.reg_heap.specs.Internal.Kinds.{times}
+use Rattle.reg_heap.specs.Heaps.{Heap, AreNew, allocated}
+use Rattle.reg_heap.specs.Kinds.{times}
 use Rattle.reg_records.specs.RecordCells.{held}
 use Rattle.reg_records.specs.BigData.{segment_size, segments_for}
 use Rattle.reg_values.specs.ValueLists.{Makes}

@@ -6,10 +6,10 @@ use Rattle.std.proofs.lemmas.Bool.{leb-true, le-leb}
 use Rattle.std.proofs.lemmas.List.{append-nil}
 use Rattle.byteorder.specs.Endian.{little_bytes}
 use Rattle.reg_records.specs.declared.db.TheConstants.{SEGMENT_SIZE}
-use Rattle.reg_heap.specs.Internal.Heaps.{Heap}
-use Rattle.reg_heap.specs.Internal.Kinds.{Found}
-use Rattle.reg_heap.specs.Internal.Kinds.Kind.{Data}
-use Rattle.reg_shape.specs.Internal.Readings.{give}
+use Rattle.reg_heap.specs.Heaps.{Heap}
+use Rattle.reg_heap.specs.Kinds.{Found}
+use Rattle.reg_heap.specs.Kinds.Kind.{Data}
+use Rattle.reg_shape.specs.Readings.{give}
 use Rattle.reg_shape.proofs.Walking.ReadingParts.{guard-open}
 use Rattle.std.specs.Prelude.{bit_and}
 use Rattle.reg_heap.specs.Paths.{Member}

@@ -6,10 +6,10 @@ use Rattle.std.proofs.lemmas.Option.{same_Some}
 use Rattle.std.proofs.lemmas.Bool.{leb-true, le-leb}
 use Rattle.std.proofs.lemmas.List.{append-nil}
 use Rattle.byteorder.specs.Endian.{little_bytes}
-use Rattle.reg_heap.specs.Internal.Heaps.{Heap}
-use Rattle.reg_heap.specs.Internal.Kinds.{Found, owned, times}
-use Rattle.reg_heap.specs.Internal.Kinds.Kind.{BigHead, BigList, Segment, Data}
-use Rattle.reg_shape.specs.Internal.Readings.{◌>>=◌, give, given, cell, guard, each}
+use Rattle.reg_heap.specs.Heaps.{Heap}
+use Rattle.reg_heap.specs.Kinds.{Found, owned, times}
+use Rattle.reg_heap.specs.Kinds.Kind.{BigHead, BigList, Segment, Data}
+use Rattle.reg_shape.specs.Readings.{◌>>=◌, give, given, cell, guard, each}
 use Rattle.reg_shape.proofs.Walking.ReadingParts.{bind-open, bind-made, given-open, given-made, cell-open, cell-made, each-open, guard-open, guard-made}
 use Rattle.reg_records.specs.RecordCells.{held}
 use Rattle.reg_records.specs.OffsetRows.{row_in, offsets_at}

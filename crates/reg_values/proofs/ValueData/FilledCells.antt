@@ -5,9 +5,9 @@ use Rattle.std.proofs.lemmas.Bool.{eq-eqb, ne_eqb, cases_eq}
 use Rattle.std.proofs.lemmas.List.{take-append-drop, drop-drop}
 use Rattle.std.proofs.Math.Seq.{take-append_seam}
 use Rattle.reg_heap.specs.ByteWords.{word, splice}
-use Rattle.reg_heap.specs.Internal.Heaps.{Heap, Writes}
-use Rattle.reg_heap.specs.Internal.Kinds.{Found, times}
-use Rattle.reg_heap.specs.Internal.Kinds.Kind.{Segment}
+use Rattle.reg_heap.specs.Heaps.{Heap, Writes}
+use Rattle.reg_heap.specs.Kinds.{Found, times}
+use Rattle.reg_heap.specs.Kinds.Kind.{Segment}
 use Rattle.reg_records.specs.declared.db.TheConstants.{SEGMENT_SIZE}
 use Rattle.reg_arena.specs.Arena.{Bins}
 use Rattle.reg_arena.specs.Cells.{cell_at}

@@ -4,8 +4,8 @@ use Rattle.std.proofs.Common.{◌⊎◌, inl, inr}
 use Rattle.std.proofs.lemmas.Bool.{cases_order}
 use Rattle.std.proofs.lemmas.List.{length-replicate}
 use Rattle.reg_heap.specs.declared.limits.TheConstants.{DATA_LIMIT}
-use Rattle.reg_heap.specs.Internal.Heaps.{Heap, AreNew}
-use Rattle.reg_heap.specs.Internal.Kinds.{times}
+use Rattle.reg_heap.specs.Heaps.{Heap, AreNew}
+use Rattle.reg_heap.specs.Kinds.{times}
 use Rattle.reg_records.specs.declared.db.TheConstants.{SEGMENT_SIZE}
 use Rattle.reg_records.specs.RecordCells.{HasRoom}
 use Rattle.reg_records.specs.BigData.{segment_size, segments_for}

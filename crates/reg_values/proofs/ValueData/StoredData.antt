@@ -7,11 +7,11 @@ use Rattle.std.proofs.Math.Seq.{take-append_seam}
 use Rattle.byteorder.specs.Endian.{little_bytes}
 use Rattle.reg_heap.specs.declared.limits.TheConstants.{DATA_LIMIT}
 use Rattle.reg_heap.specs.ByteWords.{splice}
-use Rattle.reg_heap.specs.Internal.Heaps.{Heap, Writes}
-use Rattle.reg_heap.specs.Internal.Kinds.{Found, times}
-use Rattle.reg_heap.specs.Internal.Kinds.Kind.{Data, BigHead, BigList}
+use Rattle.reg_heap.specs.Heaps.{Heap, Writes}
+use Rattle.reg_heap.specs.Kinds.{Found, times}
+use Rattle.reg_heap.specs.Kinds.Kind.{Data, BigHead, BigList}
 use Rattle.reg_records.specs.declared.db.TheConstants.{SEGMENT_SIZE}
-use Rattle.reg_shape.specs.Internal.Readings.{give}
+use Rattle.reg_shape.specs.Readings.{give}
 use Rattle.reg_shape.proofs.Walking.ReadingParts.{guard-made}
 use Rattle.reg_records.specs.RecordCells.{HasRoom, held}
 use Rattle.reg_records.specs.OffsetRows.{offsets_at}

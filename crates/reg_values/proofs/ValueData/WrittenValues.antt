@@ -1,9 +1,9 @@
 -- A value's record that was written, read back with its data.
 use Rattle.std.proofs.Common.{◌≡◌, ℕ, ◌<◌, ◌≤◌, ◌==◌, nat_le, cond, Some, List, [], ◌∷◌, length, ap, ◌∙◌, arith}
 use Rattle.reg_heap.specs.Paths.{Member}
-use Rattle.reg_heap.specs.Internal.Heaps.{Heap}
-use Rattle.reg_heap.specs.Internal.Kinds.{Found, times}
-use Rattle.reg_heap.specs.Internal.Kinds.Kind.{Value}
+use Rattle.reg_heap.specs.Heaps.{Heap}
+use Rattle.reg_heap.specs.Kinds.{Found, times}
+use Rattle.reg_heap.specs.Kinds.Kind.{Value}
 use Rattle.reg_records.specs.RecordCells.{held}
 use Rattle.reg_records.specs.KeyValues.{KeyValueRecord, value_record_at, IsPlainValue}
 use Rattle.reg_records.specs.BigData.{segment_size, is_inline}

@@ -2,9 +2,9 @@
 use Rattle.std.proofs.Common.{◌≡◌, ℕ, zero, suc, ◌+◌, ◌*◌, ◌<◌, ◌≤◌, Some, IsSome, List, [], ◌∷◌, length, drop, get_or, refl, sym, ap, ◌∙◌, subst, arith, add-one}
 use Rattle.std.proofs.lemmas.Option.{same_Some}
 use Rattle.reg_heap.specs.Paths.{Member}
-use Rattle.reg_heap.specs.Internal.Heaps.{Heap, Swaps, GivesUp, allocated}
-use Rattle.reg_heap.specs.Internal.Kinds.{Found, times, owned}
-use Rattle.reg_shape.specs.Internal.Readings.{each}
+use Rattle.reg_heap.specs.Heaps.{Heap, Swaps, GivesUp, allocated}
+use Rattle.reg_heap.specs.Kinds.{Found, times, owned}
+use Rattle.reg_shape.specs.Readings.{each}
 use Rattle.reg_records.specs.RecordCells.{held}
 use Rattle.reg_records.specs.OffsetRows.{offset_in}
 use Rattle.reg_shape.specs.Nodes.{member_at, members_at}

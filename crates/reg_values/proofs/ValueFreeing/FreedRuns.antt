@@ -1,9 +1,9 @@
 -- Cells that are freed, one after another.
 use Rattle.std.proofs.Common.{◌≡◌, ℕ, zero, suc, ◌+◌, ◌*◌, ◌<◌, ◌≤◌, Some, IsSome, List, [], ◌∷◌, ◌++◌, length, take, get_or, refl, sym, ap, ◌∙◌, subst, arith, add-one}
 use Rattle.std.proofs.lemmas.Option.{same_Some}
-use Rattle.reg_heap.specs.Internal.Kinds.{Found, times, owned}
+use Rattle.reg_heap.specs.Kinds.{Found, times, owned}
 use Rattle.reg_heap.specs.Paths.{Member}
-use Rattle.reg_heap.specs.Internal.Heaps.{Heap, Swaps, GivesUp, allocated}
+use Rattle.reg_heap.specs.Heaps.{Heap, Swaps, GivesUp, allocated}
 use Rattle.reg_records.specs.declared.db.TheConstants.{SEGMENT_SIZE}
 use Rattle.reg_records.specs.declared.vk.ValueFields.{ValueFields}
 use Rattle.reg_records.specs.RecordCells.{held}

@@ -1,8 +1,8 @@
 -- Cells that go and come, one change after another.
 use Rattle.std.proofs.Common.{◌≡◌, ℕ, zero, suc, ◌+◌, ◌<◌, ◌≤◌, true, false, cond, Option, Some, None, IsSome, List, [], ◌∷◌, ◌++◌, refl, sym, ap, ◌∙◌, arith, is_some}
 use Rattle.std.proofs.lemmas.Bool.{eq-eqb}
-use Rattle.reg_heap.specs.Internal.Kinds.{Found, times, owned, is_own}
-use Rattle.reg_heap.specs.Internal.Heaps.{Heap, Swaps, Writes, allocated}
+use Rattle.reg_heap.specs.Kinds.{Found, times, owned, is_own}
+use Rattle.reg_heap.specs.Heaps.{Heap, Swaps, Writes, allocated}
 use Rattle.reg_shape.proofs.Walking.InnerReadings.{AreInner}
 use Rattle.reg_shape.proofs.Frame.ReadingFrame.{Agree}
 use Rattle.reg_shape.proofs.Frame.KeyFrame.{agree-inner}

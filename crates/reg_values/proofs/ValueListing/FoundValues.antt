@@ -21,10 +21,10 @@ use Rattle.reg_records.specs.declared.RecordFault.{RecordFault}
 use Rattle.reg_heap.specs.ByteWords.{word}
 use Rattle.reg_heap.specs.Paths.{Member}
 use Rattle.reg_heap.specs.Members.{same_name, place_named}
-use Rattle.reg_heap.specs.Internal.Heaps.{Heap}
-use Rattle.reg_heap.specs.Internal.Kinds.{Found}
-use Rattle.reg_heap.specs.Internal.Kinds.Kind.{Value, ValueList}
-use Rattle.reg_shape.specs.Internal.Readings.{◌>>=◌, give, given, cell, each}
+use Rattle.reg_heap.specs.Heaps.{Heap}
+use Rattle.reg_heap.specs.Kinds.{Found}
+use Rattle.reg_heap.specs.Kinds.Kind.{Value, ValueList}
+use Rattle.reg_shape.specs.Readings.{◌>>=◌, give, given, cell, each}
 use Rattle.reg_shape.proofs.Walking.ReadingParts.{bind-open, bind-made, given-open, given-made, cell-open, cell-made, each-open}
 use Rattle.reg_records.specs.RecordCells.{held}
 use Rattle.reg_records.specs.KeyValues.{KeyValueRecord, vk_of, value_record_at}

@@ -5,10 +5,10 @@ use Rattle.std.proofs.lemmas.Option.{same_Some}
 use Rattle.std.proofs.lemmas.List.{append-nil}
 use Rattle.reg_arena.proofs.Contents.CellWrites.{all-append}
 use Rattle.reg_heap.specs.Paths.{Member}
-use Rattle.reg_heap.specs.Internal.Heaps.{Heap, Swaps, allocated}
-use Rattle.reg_heap.specs.Internal.Kinds.{Found, owned}
-use Rattle.reg_heap.specs.Internal.Kinds.Kind.{ValueList}
-use Rattle.reg_shape.specs.Internal.Readings.{◌>>=◌, give, given, cell, each}
+use Rattle.reg_heap.specs.Heaps.{Heap, Swaps, allocated}
+use Rattle.reg_heap.specs.Kinds.{Found, owned}
+use Rattle.reg_heap.specs.Kinds.Kind.{ValueList}
+use Rattle.reg_shape.specs.Readings.{◌>>=◌, give, given, cell, each}
 use Rattle.reg_shape.proofs.Walking.ReadingParts.{bind-open, bind-made, each-open, cell-made, given-made}
 use Rattle.reg_records.specs.RecordCells.{held}
 use Rattle.reg_records.specs.OffsetRows.{row_in, offsets_at}

@@ -3,10 +3,10 @@ use Rattle.std.proofs.Common.{◌≡◌, ℕ, zero, suc, ◌+◌, Some, List, []
 use Rattle.std.proofs.lemmas.Option.{same_Some}
 use Rattle.reg_heap.specs.declared.limits.TheConstants.{NONE}
 use Rattle.reg_heap.specs.Paths.{Member}
-use Rattle.reg_heap.specs.Internal.Heaps.{Heap}
-use Rattle.reg_heap.specs.Internal.Kinds.{Found}
-use Rattle.reg_heap.specs.Internal.Kinds.Kind.{ValueList}
-use Rattle.reg_shape.specs.Internal.Readings.{each}
+use Rattle.reg_heap.specs.Heaps.{Heap}
+use Rattle.reg_heap.specs.Kinds.{Found}
+use Rattle.reg_heap.specs.Kinds.Kind.{ValueList}
+use Rattle.reg_shape.specs.Readings.{each}
 use Rattle.reg_shape.proofs.Walking.ReadingParts.{bind-open, each-open}
 use Rattle.reg_records.specs.OffsetRows.{offsets_at}
 use Rattle.reg_shape.specs.Nodes.{row_at, member_at, members_at}

@@ -1,10 +1,10 @@
 -- The parts of a list of values, and what is written into cells (Suhanov, Windows registry file format specification, "Key
 -- values list", "Big data").
 use Rattle.std.specs.Prelude.{◌≡◌, ℕ, ◌+◌, ◌-◌, ◌<◌, ◌≤◌, zero, suc, nat_le, List, [], length, get_or, Some, IsSome}
-use Rattle.reg_heap.specs.Internal.Heaps.{Heap, Swaps, Writes, allocated}
-use Rattle.reg_heap.specs.Internal.Kinds.{Found, times, owned}
-use Rattle.reg_heap.specs.Internal.Kinds.Kind.{ValueList}
-use Rattle.reg_shape.specs.Internal.Readings.{Reading, give}
+use Rattle.reg_heap.specs.Heaps.{Heap, Swaps, Writes, allocated}
+use Rattle.reg_heap.specs.Kinds.{Found, times, owned}
+use Rattle.reg_heap.specs.Kinds.Kind.{ValueList}
+use Rattle.reg_shape.specs.Readings.{Reading, give}
 use Rattle.reg_heap.specs.Paths.{Member}
 use Rattle.reg_records.specs.RecordCells.{HasRoom, held}
 use Rattle.reg_records.specs.OffsetRows.{offsets_at}

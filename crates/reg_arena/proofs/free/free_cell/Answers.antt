@@ -1,6 +1,6 @@
 use Rattle.std.proofs.Common.{arith, ◌+◌, ◌-◌, ◌*◌, ◌/◌, ◌≤◌, ◌<◌, length}
 use Rattle.std.proofs.lemmas.List.{length-set}
-use Rattle.reg_heap.specs.Internal.Kinds.{times}
+use Rattle.reg_heap.specs.Kinds.{times}
 use Rattle.reg_arena.specs.Free.{chain}
 use Rattle.reg_arena.proofs.Contents.CellWrites.{found}
 use Rattle.reg_arena.proofs.FreeList.Unlinks.{detached, in_list}

@@ -1,7 +1,7 @@
 use Rattle.std.proofs.Common.{ℕ, List, ◌+◌, ◌-◌, ◌*◌, ◌≤◌, ◌∷◌, [], ap, sym, ◌∙◌, subst, length, arith, refl, get_or, take, drop}
 use Rattle.reg_heap.specs.Paths.{Member}
-use Rattle.reg_heap.specs.Internal.Heaps.{AreNew, allocated}
-use Rattle.reg_heap.specs.Internal.Kinds.{Found, owned, times}
+use Rattle.reg_heap.specs.Heaps.{AreNew, allocated}
+use Rattle.reg_heap.specs.Kinds.{Found, owned, times}
 use Rattle.reg_arena.specs.Cells.{cell_at}
 use Rattle.reg_arena.specs.NewCells.{total_of, AreSizes}
 use Rattle.reg_shape.specs.Written.{AreWritten}

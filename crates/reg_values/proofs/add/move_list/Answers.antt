@@ -1,7 +1,7 @@
 use Rattle.std.proofs.Common.{ℕ, List, ◌++◌, ◌+◌, ◌*◌, ◌≤◌, ◌<◌, ◌∷◌, [], ap, sym, ◌∙◌, subst, arith, refl}
 use Rattle.std.proofs.lemmas.Option.{same_Some}
-use Rattle.reg_heap.specs.Internal.Kinds.{Found, owned, times}
-use Rattle.reg_heap.specs.Internal.Heaps.{allocated}
+use Rattle.reg_heap.specs.Kinds.{Found, owned, times}
+use Rattle.reg_heap.specs.Heaps.{allocated}
 use Rattle.reg_arena.specs.Cells.{cell_at}
 use Rattle.reg_values.specs.Internal.ValueListParts.{list_at, BecameList}
 use Rattle.reg_values.proofs.ValueListing.ValueListFrame.{list-open}

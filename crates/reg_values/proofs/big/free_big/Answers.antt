@@ -1,6 +1,6 @@
 use Rattle.std.proofs.Common.{ℕ, ◌+◌, ◌*◌, ◌≤◌, ◌∷◌, [], length, sym, subst, arith}
-use Rattle.reg_heap.specs.Internal.Heaps.{GivesUp, allocated}
-use Rattle.reg_heap.specs.Internal.Kinds.{times}
+use Rattle.reg_heap.specs.Heaps.{GivesUp, allocated}
+use Rattle.reg_heap.specs.Kinds.{times}
 use Rattle.reg_arena.specs.Cells.{cell_at}
 use Rattle.reg_records.specs.RecordCells.{held}
 use Rattle.reg_records.specs.OffsetRows.{offsets_at}

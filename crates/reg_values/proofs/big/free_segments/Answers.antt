@@ -1,5 +1,5 @@
 use Rattle.std.proofs.Common.{ℕ, List, IsSome, ◌∙◌, ◌∷◌, [], length, sym, ap, subst, arith}
-use Rattle.reg_heap.specs.Internal.Heaps.{GivesUp}
+use Rattle.reg_heap.specs.Heaps.{GivesUp}
 use Rattle.reg_arena.specs.Cells.{cell_at}
 use Rattle.reg_records.specs.RecordCells.{held}
 use Rattle.reg_records.specs.OffsetRows.{offsets_at}

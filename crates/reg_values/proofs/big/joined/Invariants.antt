@@ -1,5 +1,5 @@
 use Rattle.std.proofs.Common.{◌≡◌, List, ℕ, Some}
-use Rattle.reg_heap.specs.Internal.Kinds.{Found}
+use Rattle.reg_heap.specs.Kinds.{Found}
 use Rattle.reg_arena.specs.Cells.{cell_at}
 use Rattle.reg_records.specs.RecordCells.{held}
 use Rattle.reg_records.specs.OffsetRows.{offsets_at}

@@ -1,6 +1,6 @@
 use Rattle.std.proofs.Common.{sym, ap, ◌∙◌, ◌≡◌, ℕ, List, Some, length, take, arith, length-take}
 use Rattle.std.proofs.lemmas.Option.{same_Some}
-use Rattle.reg_heap.specs.Internal.Kinds.{Found}
+use Rattle.reg_heap.specs.Kinds.{Found}
 use Rattle.reg_arena.specs.Cells.{cell_at}
 use Rattle.reg_shape.specs.Nodes.{big_at, data_at}
 use Rattle.reg_values.proofs.ValueListing.FoundValues.{is-some, some-of, is-ok}

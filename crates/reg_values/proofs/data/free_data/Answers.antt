@@ -1,5 +1,5 @@
 use Rattle.std.proofs.Common.{arith}
-use Rattle.reg_heap.specs.Internal.Kinds.{owned}
+use Rattle.reg_heap.specs.Kinds.{owned}
 use Rattle.reg_arena.specs.Cells.{cell_at}
 use Rattle.reg_values.proofs.ValueData.DataForms.{big-data}
 use Rattle.reg_values.proofs.ValueFreeing.FreedRuns.{gone-as, one-owned}

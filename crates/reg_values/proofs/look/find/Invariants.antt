@@ -1,6 +1,6 @@
 use Rattle.std.proofs.Common.{◌≡◌, List, Some, drop}
 use Rattle.reg_heap.specs.Paths.{Member}
-use Rattle.reg_heap.specs.Internal.Kinds.{Found}
+use Rattle.reg_heap.specs.Kinds.{Found}
 use Rattle.reg_heap.specs.Members.{place_named}
 use Rattle.reg_arena.specs.Cells.{cell_at}
 use Rattle.reg_shape.specs.Nodes.{members_at}

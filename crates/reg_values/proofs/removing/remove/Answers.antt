@@ -1,6 +1,6 @@
 use Rattle.std.proofs.Common.{◌≤◌, ℕ, List, arith, subst, sym, ◌∙◌}
-use Rattle.reg_heap.specs.Internal.Heaps.{allocated}
-use Rattle.reg_heap.specs.Internal.Kinds.{Found, owned}
+use Rattle.reg_heap.specs.Heaps.{allocated}
+use Rattle.reg_heap.specs.Kinds.{Found, owned}
 use Rattle.reg_arena.specs.Cells.{cell_at}
 use Rattle.reg_shape.specs.Nodes.{member_at}
 use Rattle.reg_shape.specs.Written.{AreWritten}

@@ -1,8 +1,8 @@
 use Rattle.std.proofs.Common.{ℕ, List, Err, ◌≡◌, ◌≤◌, ap, sym, ◌∙◌, subst, length, arith}
 use Rattle.std.proofs.lemmas.Result.{on_ok_weaker, err_from_is_err_and}
 use Rattle.reg_arena.specs.declared.ArenaFault.TheVariants.{Full}
-use Rattle.reg_heap.specs.Internal.Heaps.{allocated}
-use Rattle.reg_heap.specs.Internal.Kinds.{Found, owned}
+use Rattle.reg_heap.specs.Heaps.{allocated}
+use Rattle.reg_heap.specs.Kinds.{Found, owned}
 use Rattle.reg_arena.specs.Cells.{cell_at}
 use Rattle.reg_arena.specs.NewCells.{total_of}
 use Rattle.reg_arena.specs.Carves.{NoFit}

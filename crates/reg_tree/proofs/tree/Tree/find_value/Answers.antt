@@ -1,7 +1,7 @@
 use Rattle.reg_heap.specs.Paths.{Tree}
 use Rattle.reg_heap.specs.Edits.{values_at}
 use Rattle.reg_heap.specs.Members.{value_named}
-use Rattle.reg_tree.specs.Internal.KeyNodeChanges.{IsFound}
+use Rattle.reg_tree.specs.ValueAnswers.{IsFound}
 use Rattle.reg_tree.proofs.Invariant.NodeLemmas.{here_at, there_at, of_tree}
 use Rattle.reg_tree.proofs.tree.Tree.find_value.Goals as goal
 

@@ -1,8 +1,8 @@
 -- Readings of a heap, each with the records that it meets, in order.
 use Rattle.std.specs.Prelude.{ℕ, Bool, cond, Option, Some, None, List, [], ◌∷◌, ◌++◌}
 use Rattle.std.specs.Option.{option_map, option_and_then}
-use Rattle.reg_heap.specs.Internal.Heaps.{Heap}
-use Rattle.reg_heap.specs.Internal.Kinds.{Kind, Found}
+use Rattle.reg_heap.specs.Heaps.{Heap}
+use Rattle.reg_heap.specs.Kinds.{Kind, Found}
 
 abbrev pub Reading : Type 0 → Type 0
 Reading A = Heap → Option (A × List Found)

@@ -1,6 +1,6 @@
 -- A store of cells, and what changes in it.
 use Rattle.std.specs.Prelude.{◌≡◌, ℕ, ◌+◌, ◌-◌, ◌<◌, cond, is_some, Option, Some, List, length, get_or, replicate}
-use Rattle.reg_heap.specs.Internal.Kinds.{times}
+use Rattle.reg_heap.specs.Kinds.{times}
 
 -- what each allocated cell holds, by its offset (Suhanov, Windows registry file format specification, section "Cell")
 abbrev pub Heap : Type 0
