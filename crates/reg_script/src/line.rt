@@ -4,7 +4,7 @@ ghost use Rattle.reg_model.specs.declared.limits.TheConstants.{SESSIONS_LIMIT};
 use reg_model::Call;
 
 /// A line of a script, understood.
-#[derive(Debug, Drop)]
+#[derive(Drop)]
 pub enum Line {
     /// An empty line or a comment: no reply.
     Nothing,
@@ -17,7 +17,7 @@ pub enum Line {
 }
 
 /// What later lines go by.
-#[derive(Clone, Copy, Debug)]
+#[derive(Clone, Copy)]
 pub enum Setting {
     /// The moment of later calls, in units of 100 ns since 1601.
     At(u64),
@@ -28,14 +28,14 @@ pub enum Setting {
 }
 
 /// The number of a session.
-#[derive(Clone, Copy, Debug)]
+#[derive(Clone, Copy)]
 pub struct Session {
     pub number: u8,
     ghost in_range: { number < SESSIONS_LIMIT },
 }
 
 /// The first word of a setting or a call.
-#[derive(Clone, Copy, Debug)]
+#[derive(Clone, Copy)]
 pub enum Verb {
     At,
     As,
