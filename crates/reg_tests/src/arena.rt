@@ -20,7 +20,7 @@ fn shown(alloc: Global, arena: &Arena) -> Result<String, Fail> {
 }
 
 // One cell of 16 bytes at least.
-fn carved(alloc: Global, arena: &mut Arena, size: u32) -> Result<u32, Fail>
+pub fn carved(alloc: Global, arena: &mut Arena, size: u32) -> Result<u32, Fail>
     requires large { 16 ≤ size }
     requires eights { size % 8 ≡ 0 }
     requires small { size ≤ 16777216 }

@@ -58,7 +58,9 @@ fn copies_of_changes(rt: HostRuntime) -> Result<(), Fail> {
     assert_told(
         &rt,
         copied_entry(rt.alloc()),
-        "Entry { number: 5, session: 3, moment: 9, change: SetValue { handle: 7, name: Bytes { items: [110, 97, 109, 101] }, kind: 4, bytes: Bytes { items: [1, 0, 0, 0] } }, reply: ChangeReply { status: 0, number: Some(5), handle: None, disposition: None } }",
+        "Entry { number: 5, session: 3, moment: 9, \
+         change: SetValue { handle: 7, name: Bytes { items: [110, 97, 109, 101] }, kind: 4, bytes: Bytes { items: [1, 0, 0, 0] } }, \
+         reply: ChangeReply { status: 0, number: Some(5), handle: None, disposition: None } }",
     )
 }
 
@@ -179,4 +181,16 @@ fn copies_of_enumerations(rt: HostRuntime) -> Result<(), Fail> {
         copied_enumeration(rt.alloc()),
         "EnumValue { handle: 7, index: 2, name_room: 5, room: None }",
     )
+}
+
+/// The vector that bytes give back.
+fn vector_of_bytes(alloc: Global) -> Result<String, Fail> {
+    let bytes = Bytes::from_slice(alloc, b"name")?;
+    let vector = bytes.into_vec();
+    shown(alloc, &vector)
+}
+
+#[test]
+fn bytes_give_their_vector_back(rt: HostRuntime) -> Result<(), Fail> {
+    assert_told(&rt, vector_of_bytes(rt.alloc()), "[110, 97, 109, 101]")
 }

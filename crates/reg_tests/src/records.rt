@@ -1,9 +1,18 @@
 //! Bytes written by hand from the format's tables, and what is read of them.
-use crate::support::assert_same;
+ghost use Rattle.std.specs.Prelude.{◌≤◌};
+
+use crate::arena::carved;
+use crate::support::{assert_same, assert_told};
+use reg_arena::Arena;
+use reg_names::check_value_name;
 use reg_records::{
     KeyFields, ListEntry, ListForm, ListHead, RecordFault, SecurityFields, ValueFields, entry_at,
-    offset_at, read_list, read_nk, read_sk, read_vk,
+    offset_at, put_list, read_list, read_nk, read_sk, read_vk,
 };
+use reg_values::laws::no_values_are_no_list;
+use reg_values::{ValuesList, plan_set};
+use std::alloc::Global;
+use std::test::Fail;
 
 /// The key node of the root of a fresh hive.
 const ROOT: [u8; 80] = [
@@ -129,4 +138,62 @@ fn a_list_is_read(rt: HostRuntime) -> Result<(), RecordFault> {
     };
     assert_same(&rt, &second, &wanted);
     Ok(())
+}
+
+// What a new cell holds once the list was put into it.
+fn list_put_in(alloc: Global, arena: &mut Arena) -> Result<Vec<u8>, Fail> {
+    let cell = carved(alloc, arena, 24)?;
+    put_list(arena, cell, ListForm::HashLeaf, &LEAF_ENTRIES);
+    Ok(Vec::from_slice(alloc, arena.content(cell))?)
+}
+
+// The same in a new arena.
+fn list_put(alloc: Global) -> Result<Vec<u8>, Fail> {
+    let mut arena = Arena::new(alloc);
+    list_put_in(alloc, &mut arena)
+}
+
+#[test]
+fn a_list_is_put(rt: HostRuntime) -> Result<(), Fail> {
+    let content = list_put(rt.alloc())?;
+    assert_same(&rt, &content.as_slice(), &LEAF.as_slice());
+    Ok(())
+}
+
+// The sizes of the cells that a key's first value takes, with so many bytes of data.
+fn planned_in(alloc: Global, arena: &Arena, name: &[u8], size: u32) -> Result<String, Fail>
+    requires { size ≤ 1048576 }
+{
+    check_value_name(name)?;
+    no_values_are_no_list();
+    let list = ValuesList {
+        count: 0,
+        place: 0xFFFF_FFFF,
+    };
+    let sizes = plan_set(arena, alloc, list, name, size)?;
+    Ok(format!(in alloc; "{sizes:?}")?)
+}
+
+// The same in a new arena, for a name of four characters.
+fn planned(alloc: Global, size: u32) -> Result<String, Fail>
+    requires { size ≤ 1048576 }
+{
+    let arena = Arena::new(alloc);
+    planned_in(alloc, &arena, b"Mode", size)
+}
+
+// A record of 24 bytes and a list of 4, each with its size field and rounded up to eights; the data stands in the record.
+#[test]
+fn a_small_value_is_planned(rt: HostRuntime) -> Result<(), Fail> {
+    assert_told(&rt, planned(rt.alloc(), 4), "[32, 8]")
+}
+
+// Then a big data record of 8 bytes, its list of two offsets, and segments of 16,344 and 3,656 bytes.
+#[test]
+fn a_large_value_is_planned(rt: HostRuntime) -> Result<(), Fail> {
+    assert_told(
+        &rt,
+        planned(rt.alloc(), 20_000),
+        "[32, 8, 16, 16, 16352, 3664]",
+    )
 }
