@@ -5,7 +5,7 @@
 //! and reg_calls, and reads its words by `clap`. It has no type of its own that others see.
 #![tactic(auto)]
 
-use reg_command::tool;
+pub use reg_command::tool;
 use std::process::ExitCode;
 use std::{env, io};
 
