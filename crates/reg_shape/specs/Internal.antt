@@ -1,4 +1,4 @@
--- Words that only contracts between crates and proofs use: readings with what they meet, forests, shapes, grafts.
+-- Words that only contracts between crates and proofs use: forests, shapes, a key that gave way to another.
 pub mod Forests
 pub mod Shapes
 pub mod Exchanges

@@ -5,8 +5,9 @@
 //! `reg_tree` stand on it. Its main types are `Node`, a key with all that is its own, and `Branch`, a key with all below it.
 //!
 //! The definitions right in `specs/` are the rules' own: `Walk` (the records met from the root), `Nodes` (a key with all that is
-//! its own), `Spelt` (the tree), `Written` and `Whole` (when a hive is whole). Those in `specs/Internal/` are the words of the
-//! contracts between crates and of proofs: readings with what they meet, forests, shapes, and a key that gave way to another.
+//! its own), `Spelt` (the tree), `Written` and `Whole` (when a hive is whole), over `Readings` (what is read, with what is met).
+//! Those in `specs/Internal/` are the words of the contracts between crates and of proofs: forests, shapes, and a key that gave
+//! way to another.
 //!
 //! Suhanov, Windows registry file format specification, sections "Key node", "Key value", "Key security", "Subkeys list",
 //! "Key values list" and "Big data".
