@@ -7,6 +7,7 @@ use Rattle.reg_model.specs.declared.call.Call.TheVariants.{Change, Query}
 use Rattle.reg_model.specs.declared.call.Change.TheVariants.{OpenRoot, OpenKey, CreateKey, SetValue, DeleteValue, DeleteKey, Close}
 use Rattle.reg_model.specs.declared.call.Query.TheVariants.{QueryValue, EnumKey, EnumValue, QueryInfo}
 use Rattle.reg_model.specs.declared.answer.AnswerBody.TheVariants.{Refused, Short, Value, Key, Member, Info}
+use Rattle.reg_script.specs.declared.engine.TheConstants.{LINE_LIMIT, LINES_LIMIT}
 use Rattle.reg_script.specs.LineWords.{lines_of, words_of, number_of, unescaped, after_mark, name_of, data_of}
 use Rattle.reg_script.specs.LineMeanings.{first_of, ending, room_of, call_verb_of, verb_of, by_verb, meaning_of, nothing, at_moment, as_session, on_hive, asks, bad}
 use Rattle.reg_script.specs.ReplyTexts.{changed_text, answer_text, byte_text}
@@ -256,3 +257,10 @@ text-info = refl
 text-no_more : answer_text (Query (EnumKey 0 9 255)) (Refused 259) ≡ codes "259\n"
 unfolding digits
 text-no_more = refl
+
+-- the bounds of a script in digits: who changes a constant changes the rules
+line_limit_is : LINE_LIMIT ≡ 2200000
+line_limit_is = refl
+
+lines_limit_is : LINES_LIMIT ≡ 1000000
+lines_limit_is = refl

@@ -4,6 +4,7 @@ use Rattle.std.specs.List.{AllByRecursion}
 use Rattle.std.specs.Io.KnownBytes.{Appends, Consumes}
 use Rattle.std.proofs.Math.Seq.{take-append-add}
 use Rattle.std.proofs.lemmas.List.{take_more, take-append-drop, length-append, length-take}
+use Rattle.reg_script.specs.declared.engine.TheConstants.{LINES_LIMIT, LINE_LIMIT, READS_LIMIT}
 use Rattle.reg_calls.specs.Views.{View}
 use Rattle.reg_script.specs.declared.engine.Script.{Script}
 use Rattle.reg_script.specs.declared.engine.ScriptFault.{ScriptFault}
@@ -113,7 +114,7 @@ unfolding longest_line
 fed_length [] h = omega arith
 fed_length (line ∷ lines) h = let rest = fed_length lines h.1 in omega (arith, rest, h.0.short, length-append line (10 ∷ with_feeds lines))
 
-pub not_so_many : (old new : Place) (bytes : List ℕ) → old.lines ≡ 0 → old.begun ≡ [] → Takes old bytes new → length bytes < 2200001000001
+pub not_so_many : (old new : Place) (bytes : List ℕ) → old.lines ≡ 0 → old.begun ≡ [] → Takes old bytes new → length bytes < READS_LIMIT
 unfolding longest_line most_lines
 not_so_many old new bytes none empty h =
     let same : bytes ≡ with_feeds h.ended ++ new.begun = ap (λ (w : List ℕ). w ++ bytes) (sym empty) ∙ h.splits in
@@ -123,7 +124,7 @@ not_so_many old new bytes none empty h =
   where
     by : (begun : List ℕ) → length bytes ≡ length (with_feeds h.ended) + length begun → length begun ≤ longest_line →
         (0 < length begun → new.lines < most_lines) → new.lines ≡ length h.ended → new.lines ≤ most_lines
-        → length (with_feeds h.ended) ≤ length h.ended * (longest_line + 1) → length bytes < 2200001000001
+        → length (with_feeds h.ended) ≤ length h.ended * (longest_line + 1) → length bytes < READS_LIMIT
     by [] total short one_more counts few fed = omega (arith, total, counts, few, fed)
     by (b ∷ bs) total short one_more counts few fed = let fewer = one_more (omega arith) in omega (arith, total, short, fewer, counts, fed)
 
@@ -185,19 +186,19 @@ cut_sent old mid replies final written p empty zero cut =
     written_is e = cc
 
 -- the bounds as the code tests them
-pub many_lines : (lines : ℕ) → 1000000 ≤ lines → most_lines ≤ lines
+pub many_lines : (lines : ℕ) → LINES_LIMIT ≤ lines → most_lines ≤ lines
 unfolding most_lines
 many_lines lines h = h
 
-pub few_lines : (lines : ℕ) → lines < 1000000 → lines < most_lines
+pub few_lines : (lines : ℕ) → lines < LINES_LIMIT → lines < most_lines
 unfolding most_lines
 few_lines lines h = h
 
-pub long_line : (line : List ℕ) → 2200000 ≤ length line → longest_line ≤ length line
+pub long_line : (line : List ℕ) → LINE_LIMIT ≤ length line → longest_line ≤ length line
 unfolding longest_line
 long_line line h = h
 
-pub short_line : (line : List ℕ) → length line < 2200000 → length line < longest_line
+pub short_line : (line : List ℕ) → length line < LINE_LIMIT → length line < longest_line
 unfolding longest_line
 short_line line h = h
 

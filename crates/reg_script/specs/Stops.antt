@@ -2,6 +2,7 @@
 use Rattle.std.specs.Prelude.{◌≡◌, ◌≢◌, ℕ, ◌+◌, min, ◌<◌, ◌≤◌, ◌⊎◌, List, [], ◌∷◌, ◌++◌, length, take, Option}
 use Rattle.std.specs.List.{AllByRecursion}
 use Rattle.std.specs.Io.KnownBytes.{Appends, Consumes}
+use Rattle.reg_script.specs.declared.engine.TheConstants.{LINES_LIMIT, LINE_LIMIT}
 use Rattle.reg_calls.specs.Views.{View}
 use Rattle.reg_script.specs.declared.engine.ScriptFault.{ScriptFault}
 use Rattle.reg_script.specs.declared.engine.ScriptFault.TheVariants.{Read, Write, TooLong, Memory}
@@ -22,10 +23,10 @@ fault_number Memory = 4
 
 -- the longest line of a script, in bytes without its LF, and how many lines it has at most
 unfoldable pub longest_line : ℕ
-longest_line = 2200000
+longest_line = LINE_LIMIT
 
 unfoldable pub most_lines : ℕ
-most_lines = 1000000
+most_lines = LINES_LIMIT
 
 -- no byte is an LF
 abbrev pub HasNoFeed : List ℕ → Type 0

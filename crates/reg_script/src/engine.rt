@@ -20,11 +20,11 @@ use std::alloc::{AllocError, Global};
 use std::io::{Read, Write};
 use thiserror::Error;
 
-/// The longest line of a script, in bytes without its LF.
-const LINE_LIMIT: usize = 2_200_000;
+/// The longest line of a script, in bytes without its LF. The limit is this project's own.
+pub const LINE_LIMIT: usize = 2_200_000;
 
-/// How many lines a script has at most.
-const LINES_LIMIT: u32 = 1_000_000;
+/// How many lines a script has at most. The limit is this project's own.
+pub const LINES_LIMIT: u32 = 1_000_000;
 
 /// More reads than these, of a byte or more each, pass the limits of lines.
 const READS_LIMIT: u64 = 2_200_001_000_001;

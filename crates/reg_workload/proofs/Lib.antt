@@ -1,1 +1,2 @@
 pub mod LiveCellLemmas
+mod RowsOfConstants

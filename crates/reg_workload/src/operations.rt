@@ -131,7 +131,7 @@ impl Operation {
 }
 
 fn open(alloc: Global, handle: u64, path: &[u8]) -> Result<Call, AllocError>
-    ensures { IfOk result (λ call. call ≡ Changes (OpenKey handle path.now 983103)) }
+    ensures { IfOk result (λ call. call ≡ Changes (OpenKey handle path.now ALL_RIGHTS)) }
 {
     Ok(Call::Change(Change::OpenKey {
         handle,
@@ -141,7 +141,7 @@ fn open(alloc: Global, handle: u64, path: &[u8]) -> Result<Call, AllocError>
 }
 
 fn create(alloc: Global, handle: u64, path: &[u8]) -> Result<Call, AllocError>
-    ensures { IfOk result (λ call. call ≡ Changes (CreateKey handle path.now 983103)) }
+    ensures { IfOk result (λ call. call ≡ Changes (CreateKey handle path.now ALL_RIGHTS)) }
 {
     Ok(Call::Change(Change::CreateKey {
         handle,

@@ -23,7 +23,7 @@ impl Size {
 
     /// How many handles stay open while those of one batch are closed and opened.
     pub fn staying(self) -> u32
-        ensures { result ≡ self.open - 8 }
+        ensures { result ≡ self.open - BATCH }
     {
         self.open.saturating_sub(BATCH)
     }
