@@ -67,7 +67,7 @@ closed-handles_of s k (e ∷ es) rises = by (eqb e.0 k) refl (closed-handles_of 
         rw (at_is_eqb k e.0, same) (none_equal s k es above)
     by false other rest = rw (at_is_eqb k e.0, other) (ap (λ l. handle_of s e ∷ l) rest)
 
--- ---- places
+-- ---- destinations
 
 itself : (n : ℕ) → (n == n) ≡ true
 itself n = grind (arith, nat_tests)
@@ -88,7 +88,7 @@ times_more t e es = rw (times_cons t e es) (at_least (e.1.key == t) (times t es)
 pub some_more : (t : ℕ) (e : ℕ × Row) (es : List (ℕ × Row)) → 0 < times t es → 0 < times t (e ∷ es)
 some_more t e es some = let more : times t es ≤ times t (e ∷ es) = times_more t e es in omega (arith, more, some)
 
--- the handles stay where the place of each row's key does
+-- the handles stay where the destination of each row's key does
 pub handles_same : (s s' : Slab OpenKey) (es : List (ℕ × Row)) → ((t : ℕ) → 0 < times t es → place_of (get s' t) ≡ place_of (get s t)) → handles_of s' es ≡ handles_of s es
 handles_same s s' [] same = refl
 handles_same s s' (e ∷ es) same =

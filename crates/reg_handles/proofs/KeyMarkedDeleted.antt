@@ -28,7 +28,7 @@ deleted_closed : (o : Option OpenKey) (text : List ℕ) → IsOpenAt (option_map
 deleted_closed None text is = is
 deleted_closed (Some k) text is = false≢true (sym is.1)
 
--- a place stays that is not the path's
+-- a destination stays that is not the path's
 other_place : (o : Option OpenKey) (p : List ℕ) → ¬ (IsOpenAt o p) → place_of o ≡ place_without (path_of p) (place_of o)
 other_place None p apart = refl
 other_place (Some k) p apart = by k.is_deleted refl (bytes_eq p k.path.items) refl

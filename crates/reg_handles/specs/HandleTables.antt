@@ -14,7 +14,7 @@ pub record IsFoldedPath (text : List ℕ) : Type 0 where
   pub path : is_path text ≡ true
   pub folded : map folded (path_of text) ≡ path_of text
 
--- a place as the path that it leads to, if it leads to one
+-- a destination as the path that it leads to, if it leads to one
 abbrev pub path_to : Place → Option Path
 path_to (At path) = Some path
 path_to Deleted = None

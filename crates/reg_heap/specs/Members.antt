@@ -14,7 +14,7 @@ abbrev pub value_named : List ℕ → List Member → Option Member
 value_named name [] = None
 value_named name (v ∷ vs) = if same_name v.name name then Some v else value_named name vs
 
--- the place of the value of that name, counted from 0
+-- the index of the value of that name, counted from 0
 abbrev pub place_named : List ℕ → List Member → Option ℕ
 place_named name [] = None
 place_named name (v ∷ vs) = if same_name v.name name then Some 0 else option_map suc (place_named name vs)

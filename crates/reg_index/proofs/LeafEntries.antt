@@ -65,7 +65,7 @@ get_or-part a m k c l = search (rules, places)
 pub length-part : (a m : ℕ) (c : List ℕ) → a + m ≤ length c → length (take m (drop a c)) ≡ m
 length-part a m c l = omega (arith, length-take m (drop a c), length-drop a c)
 
--- the bytes of one content from a place on, put into another at a place
+-- the bytes of one content from an offset on, put into another at an offset
 module _ (from at m : ℕ) (c d : List ℕ) (source : from + m ≤ length c) (fits : at + m ≤ length d) where
   long : length (take m (drop from c)) ≡ m
   long = length-part from m c source

@@ -1,4 +1,4 @@
--- What callers ask of a key's subkeys: as an index of reg_records, as names in order, and where other cells change.
+-- What callers ask of a key's subkeys: as an index of reg_shape, as names in order, and where other cells change.
 use Rattle.std.proofs.Common.{◌≡◌, ◌⊎◌, ℕ, zero, suc, ◌<◌, Option, Some, None, List, [], ◌∷◌, ◌++◌, map, length, get_or, refl, sym, ap, ◌∙◌, subst, arith}
 use Rattle.std.specs.List.{AllByRecursion}
 use Rattle.std.specs.Option.{option_and_then, option_map}

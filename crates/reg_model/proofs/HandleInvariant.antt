@@ -74,7 +74,7 @@ pub has-without : (t : Tree) (p : Path) (moment : ℕ) (q : Path) → same_path 
 has-without t p moment q other h =
     rw (get-remove path_total (edited t (above p) (at_time moment)) p q, other) (has-edited t (above p) (at_time moment) q h)
 
--- ---- the places of handles
+-- ---- where handles lead
 
 abbrev pub Stands : Tree → List Handle → Type 0
 Stands t hs = AllByRecursion (λ (h : Handle). StandsIn t h.place) hs

@@ -36,7 +36,7 @@ legal_after-at origin past (x ∷ es) e more l =
 pub legal-at : (origin : Tree) (past : List Entry) (e : Entry) (more : List Entry) → IsLegal origin (past ++ e ∷ more) → IsFit origin past e
 legal-at origin past e more l = legal_after-at origin [] past e more l
 
--- its number is its place
+-- its number is its index
 pub number-is : (origin : Tree) (past : List Entry) (e : Entry) (more : List Entry) → IsLegal origin (past ++ e ∷ more) → e.number ≡ length past
 number-is origin past e more l = let f = legal-at origin past e more l in f.number
 

@@ -154,7 +154,7 @@ handles_of_another : change_cause (many 16384) 1 (OpenRoot 0) 0 ≡ None
 unfolding early_cause late_cause
 handles_of_another = refl
 
--- an open takes two places, its own and its handle's closing, and a set takes one
+-- an open takes two entries' room, its own and its handle's closing, and a set takes one
 room_for_an_open : change_cause (state 16777209 handles root) 0 (OpenRoot 0) 0 ≡ None
 unfolding early_cause late_cause
 room_for_an_open = refl
@@ -221,7 +221,7 @@ query_right_before_callbacks : query_cause few 0 (ask 3) 31 ≡ Some 5
 unfolding early_query_cause late_query_cause
 query_right_before_callbacks = refl
 
--- no such value comes after the callbacks' status; a question takes no place of the journal
+-- no such value comes after the callbacks' status; a question takes no room of the journal
 query_callbacks : query_cause (state 16777216 handles bare) 0 (ask 0) 31 ≡ Some 31
 unfolding early_query_cause late_query_cause
 query_callbacks = refl

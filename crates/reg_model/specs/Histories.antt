@@ -22,7 +22,7 @@ replay origin es = replay_from (opening origin) es
 abbrev pub state_of : Tree → List Entry → State
 state_of origin es = record { count = length es; world = replay origin es }
 
--- an entry is legal after the entries so far: its number is its place, nothing refused it, and its reply is the one due
+-- an entry is legal after the entries so far: its number is its index, nothing refused it, and its reply is the one due
 pub record IsFit (origin : Tree) (past : List Entry) (e : Entry) : Type 0 where
   pub number : e.number ≡ length past
   pub accepted : change_cause (state_of origin past) e.session e.change 0 ≡ None

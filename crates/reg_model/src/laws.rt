@@ -17,7 +17,7 @@ pub fn front_is_legal()
     ensures { (origin : Tree) → (past more : List Entry) → IsLegal origin (past ++ more) → IsLegal origin past }
 {}
 
-/// The number of an entry of a legal journal is its place.
+/// The number of an entry of a legal journal is its index.
 pub fn number_is_place()
     ensures { (origin : Tree) → (past : List Entry) → (e : Entry) → (more : List Entry) → IsLegal origin (past ++ e ∷ more) → e.number ≡ length past }
 {}

@@ -19,7 +19,7 @@ pub struct ChangeReply {
 /// An accepted change, as the journal holds it.
 #[derive(Debug, Drop)]
 pub struct Entry {
-    /// The place in the journal, from 0.
+    /// The index in the journal, from 0.
     pub number: u64,
     /// The session that made the change, below 64.
     pub session: u8,

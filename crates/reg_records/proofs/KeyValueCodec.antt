@@ -88,7 +88,7 @@ module _ (at : ℕ) (piece content : List ℕ) (r : KeyValueRecord) (low : 4 ≤
       vk-made new (omega arith) signed (omega arith)
       ∙ (λ i. Ok (record { fields = e i; name = name i }))
 
--- another size, place and type of the data
+-- another size, offset and type of the data
 pub vk-filled : (size : ℕ) → size < 2 ^ 32 → (place : ℕ) → place < 2 ^ 32 → (kind : ℕ) → kind < 2 ^ 32 → (content : List ℕ) (r : KeyValueRecord) → vk_of content ≡ Ok r
     → vk_of (splice 4 (little_bytes 4 size ++ little_bytes 4 place ++ little_bytes 4 kind) content) ≡ Ok (record r { fields = record r.fields { size = size; place = place; kind = kind } })
 unfolding half word

@@ -36,7 +36,7 @@ pub record FitKey (fields : KeyFields) : Type 0 where
   pub largest_value_name : fields.largest_value_name < 2 ^ 32
   pub largest_value_data : fields.largest_value_data < 2 ^ 32
 
--- what is read: each field at its place
+-- what is read: each field at its offset
 abbrev pub nk_fields_of : List ℕ → KeyFields
 nk_fields_of content = record {
   flags = half content 2;

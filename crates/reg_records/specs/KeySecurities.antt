@@ -19,7 +19,7 @@ pub record FitSecurity (fields : SecurityFields) : Type 0 where
   pub blink : fields.blink < 2 ^ 32
   pub count : fields.count < 2 ^ 32
 
--- what is read: each field at its place
+-- what is read: each field at its offset
 abbrev pub sk_fields_of : List ℕ → SecurityFields
 sk_fields_of content = record {
   flink = word content 4;

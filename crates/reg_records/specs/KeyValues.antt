@@ -20,7 +20,7 @@ pub record FitValue (fields : ValueFields) : Type 0 where
   pub kind : fields.kind < 2 ^ 32
   pub flags : fields.flags < 2 ^ 16
 
--- what is read: each field at its place
+-- what is read: each field at its offset
 abbrev pub vk_fields_of : List ℕ → ValueFields
 vk_fields_of content = record {
   size = word content 4;

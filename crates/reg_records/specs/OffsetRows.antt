@@ -6,7 +6,7 @@ use Rattle.reg_heap.specs.ByteWords.{word}
 unfoldable pub offset_in : List ℕ → ℕ → ℕ
 offset_in row index = word row (4 * index)
 
--- so many offsets of 4 bytes each, from a place on
+-- so many offsets of 4 bytes each, from an offset on
 unfoldable pub offsets_at : ℕ → ℕ → List ℕ → List ℕ
 offsets_at zero at content = []
 offsets_at (suc count) at content = word content at ∷ offsets_at count (at + 4) content

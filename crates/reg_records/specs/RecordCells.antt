@@ -37,7 +37,7 @@ pub record WritesCell (old new : Bins) (cell : ℕ) (content : List ℕ) : Type 
 abbrev pub WritesRecord : Bins → Bins → ℕ → ℕ → List ℕ → Type 0
 WritesRecord old new cell size bytes = WritesCell old new cell (bytes ++ drop size (held (cell_at old.bytes) cell))
 
--- these bytes stand at a place of what the cell holds, and the others there stay
+-- these bytes stand at an offset of what the cell holds, and the others there stay
 abbrev pub WritesPart : Bins → Bins → ℕ → ℕ → List ℕ → Type 0
 WritesPart old new cell at bytes = WritesCell old new cell (splice at bytes (held (cell_at old.bytes) cell))
 

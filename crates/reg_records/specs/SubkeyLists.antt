@@ -31,12 +31,12 @@ form_of content =
     else if is_signed 108 104 content then Some HashLeaf
     else None
 
--- so many entries of 4 bytes each, which are offsets, from a place on
+-- so many entries of 4 bytes each, which are offsets, from an offset on
 abbrev pub plain_entries : ℕ → ℕ → List ℕ → List Entry
 plain_entries zero at content = []
 plain_entries (suc count) at content = record { place = word content at; hint = 0 } ∷ plain_entries count (at + 4) content
 
--- so many entries of 8 bytes each, an offset and a hint, from a place on
+-- so many entries of 8 bytes each, an offset and a hint, from an offset on
 abbrev pub hinted_entries : ℕ → ℕ → List ℕ → List Entry
 hinted_entries zero at content = []
 hinted_entries (suc count) at content = record { place = word content at; hint = word content (at + 4) } ∷ hinted_entries count (at + 8) content
@@ -79,7 +79,7 @@ entry_size IndexLeaf = 4
 entry_size FastLeaf = 8
 entry_size HashLeaf = 8
 
--- so many entries of a form, from a place on
+-- so many entries of a form, from an offset on
 abbrev pub entries_as : Form → ℕ → ℕ → List ℕ → List Entry
 entries_as IndexRoot count at content = plain_entries count at content
 entries_as IndexLeaf count at content = plain_entries count at content

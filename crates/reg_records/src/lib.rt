@@ -64,7 +64,7 @@ fn is_signed(content: &[u8], first: u8, second: u8) -> bool
     content[0] == first && content[1] == second
 }
 
-/// The 16-bit number at a place.
+/// The 16-bit number at an offset.
 #[tactic(auto, unfolding(reg_heap::specs::ByteWords::half))]
 fn half_at(content: &[u8], at: usize) -> u16
     requires { at + 2 ≤ length content.now }
@@ -73,7 +73,7 @@ fn half_at(content: &[u8], at: usize) -> u16
     LittleEndian::read_u16(&content[at..])
 }
 
-/// The 32-bit number at a place.
+/// The 32-bit number at an offset.
 #[tactic(auto, unfolding(reg_heap::specs::ByteWords::word))]
 fn word_at(content: &[u8], at: usize) -> u32
     requires { at + 4 ≤ length content.now }
@@ -82,7 +82,7 @@ fn word_at(content: &[u8], at: usize) -> u32
     LittleEndian::read_u32(&content[at..])
 }
 
-/// The 64-bit number at a place.
+/// The 64-bit number at an offset.
 #[tactic(auto, unfolding(reg_heap::specs::ByteWords::long))]
 fn long_at(content: &[u8], at: usize) -> u64
     requires { at + 8 ≤ length content.now }

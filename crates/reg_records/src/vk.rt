@@ -18,7 +18,7 @@ const HEAD: usize = 20;
 /// What a key value holds beside its name.
 #[derive(Clone, Copy, Debug, PartialEq, Eq)]
 pub struct ValueFields {
-    /// The size of the data in bytes; with the top bit 0x80000000 the data stands in `place`.
+    /// The size of the data in bytes; with the top bit 0x80000000 the data stands in `offset`.
     pub size: u32,
     /// The offset of the data, or the data itself.
     pub place: u32,

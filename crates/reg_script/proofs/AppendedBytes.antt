@@ -12,7 +12,7 @@ Appends-more (Some xs) (Some ys) None bytes i n a b = absurd b
 Appends-more (Some xs) (Some ys) (Some zs) bytes i n a b =
     b ∙ (ap (λ (w : List ℕ). w ++ take n (drop i bytes)) a ∙ (append_assoc xs (take i bytes) (take n (drop i bytes)) ∙ ap (λ (w : List ℕ). xs ++ w) (sym (take-add i n bytes))))
 
--- the rest of a list, as a slice from a place to the end
+-- the rest of a list, as a slice from an index to the end
 pub rest_is : (i : ℕ) (bytes : List ℕ) → take (length bytes - i) (drop i bytes) ≡ drop i bytes
 rest_is i bytes = take_all (length bytes - i) (drop i bytes) (omega (arith, length-drop i bytes))
 

@@ -22,7 +22,7 @@ use Rattle.reg_script.specs.ReplyTexts.{outcome_text}
 use Rattle.reg_script.specs.Lines.{Stand, IsSaid, AreSaid}
 use Rattle.reg_script.specs.Ample.{IsDue, IsAmple, AreAmple, HasOneText}
 
--- two places where replies are the same
+-- two positions where replies are the same
 pub record Same (a b : Stand) : Type 0 where
   pub origin : a.hive.origin ≡ b.hive.origin
   pub journal : a.hive.journal ≡ b.hive.journal

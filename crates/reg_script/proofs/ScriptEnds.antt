@@ -199,7 +199,7 @@ nothing_done hive unread before = record {
   stands = (inl refl, appends_none before);
 }
 
--- ---- a whole run, where the script's place at its start and at its end are `old` and `new`
+-- ---- a whole run, where the script's position at its start and at its end are `old` and `new`
 
 module _ (old new : Place) (hive : View) (unread left final : Option (List ℕ)) (ended result : Result (Unit {0}) ScriptFault)
     (lines : old.lines ≡ 0) (begun : old.begun ≡ []) (gathered : old.gathered ≡ []) (written : old.written ≡ 0) (stand : old.stand ≡ begins hive)

@@ -89,7 +89,7 @@ fn write_data(alloc: Global, text: &mut String, bytes: &Option<Bytes>) -> Result
     }
 }
 
-/// The status and a name: what the line of a subkey, or of a value at its place, begins with.
+/// The status and a name: what the line of a subkey, or of a value at its index, begins with.
 fn write_name(text: &mut String, name: &[u8]) -> Result<(), AllocError>
     ensures { OnOk result (string_bytes text.new ≡ string_bytes text.old ++ (codes "0" ++ name_text name.now)) }
 {

@@ -3,7 +3,7 @@ use Rattle.std.specs.Prelude.{◌≡◌, List, length, Option, Some, None, slice
 use Rattle.reg_heap.specs.Paths.{Member}
 use Rattle.reg_tree.specs.declared.value.ValueFound.{ValueFound}
 
--- a value that was found: its place among the values, its type and the size of its data; or there is none
+-- a value that was found: its index among the values, its type and the size of its data; or there is none
 abbrev pub IsFound : List Member → Option Member → Option ValueFound → Type 0
 IsFound members None None = Unit {0}
 IsFound members None (Some found) = ⊥

@@ -9,7 +9,7 @@ use Rattle.reg_records.specs.RecordCells.{held}
 use Rattle.reg_shape.specs.Nodes.{members_at}
 use Rattle.reg_shape.specs.Written.{AreWritten}
 
--- a list of so many values stands at a place: it reads as these, its cells are allocated and each is met once, and it is as it is
+-- a list of so many values stands at an offset: it reads as these, its cells are allocated and each is met once, and it is as it is
 -- written
 pub record AreValues (heap : Heap) (count place : ℕ) : Type 0 where
   pub members : List Member

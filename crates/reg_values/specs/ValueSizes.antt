@@ -48,7 +48,7 @@ abbrev pub sizes_by : Heap → ℕ → ℕ → ℕ → ℕ → Option ℕ → Li
 sizes_by heap count place name size None = cell_size (20 + name) ∷ list_sizes heap count place ++ data_sizes size
 sizes_by heap count place name size (Some index) = new_data_sizes heap size (value_record_at heap (offset_in (held heap place) index))
 
--- the place of the value of that name, in the list as it reads
+-- the index of the value of that name, in the list as it reads
 abbrev pub place_in : Heap → ℕ → ℕ → List ℕ → Option ℕ
 place_in heap count place name = option_and_then (λ read. place_named name read.0) (members_at count place heap)
 

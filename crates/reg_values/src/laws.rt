@@ -27,7 +27,7 @@ pub fn changed_list_is_a_list()
         AreValues new after_count after_place }
 {}
 
-/// The value of a name stands at that name's place.
+/// The value of a name stands at that name's index.
 pub fn value_of_a_name_is_at_its_place()
     ensures { (name : List ℕ) → (members : List Member) → value_named name members ≡ option_and_then (slice_get members) (place_named name members) }
 {}

@@ -12,7 +12,7 @@ use Rattle.reg_script.specs.Lines.{Stand, AreSaid}
 use Rattle.reg_script.specs.Internal.Outputs.{IsCut}
 use Rattle.reg_script.specs.Stops.{counted, longest_line, most_lines, HasNoFeed, PassesBound, IsOneMore, IsReached}
 
--- a place in a script: where it stands, how many lines have ended, the bytes of the line that hasn't, the replies that were
+-- a position in a script: where it stands, how many lines have ended, the bytes of the line that hasn't, the replies that were
 -- gathered, what the writer holds, and the count of what it took
 pub record Place : Type 0 where
   pub stand : Stand

@@ -31,7 +31,7 @@ abbrev tail-of : List ℕ → List ℕ
 tail-of [] = []
 tail-of (x ∷ xs) = xs
 
--- what is read at the same places is the same
+-- what is read at the same offsets is the same
 same-read : (heap : Heap) (xs ys : List (ℕ × Node)) → places-of xs ≡ places-of ys → AreRead heap xs → AreRead heap ys → xs ≡ ys
 same-read heap [] [] e a b = refl
 same-read heap [] (y ∷ ys) e a b = absurd (false≢true (sym (ap is_end e)))

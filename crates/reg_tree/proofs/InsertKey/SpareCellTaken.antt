@@ -1,4 +1,4 @@
--- The cells of one key among the spare ones, by the places where they stand.
+-- The cells of one key among the spare ones, by the offsets where they stand.
 use Rattle.std.proofs.Common.{◌≡◌, ℕ, ◌<◌, Option, Some, None, IsSome, List, [], ◌∷◌, ◌++◌, length, drop, get_or, refl, sym, ap, ◌∙◌, subst, arith}
 use Rattle.std.specs.Option.{option_and_then}
 use Rattle.std.proofs.lemmas.Option.{none-some}

@@ -107,7 +107,7 @@ module _ (h : Heap) (root : ℕ) (b : Branch Node) (stands : StandsIn h root b) 
   by-list : subkey_named h x b.place ≡ key_named h x (places_in entries)
   by-list = ap (option_and_then (λ (node : Node). key_named h x (places_in (entries_of node.index)))) stands.0.reads
 
-  -- the subkey at the place of its name
+  -- the subkey at the index of its name
   pub named-ok : (index : ℕ) → Rises (names_in h entries) → IsPlace (names_in h entries) x (Ok index) → subkey_named h x b.place ≡ Some (get_or entries index no_entry).place
   named-ok index rises p =
       let n = length-names h entries in

@@ -36,6 +36,6 @@ inner-unshared z (f ∷ found) a =
     let rest = inner-unshared z found a.1 in
     omega (arith, none, rest)
 
--- a key's own cell is met at its place, and at no other
+-- a key's own cell is met at its offset, and at no other
 pub key-here : (z place : ℕ) → z ≡ place → is_own z (record { kind = Key; offset = place }) ≡ 1
 key-here z place e = ap (λ x. is_own x (record { kind = Key; offset = place })) e ∙ own-here (record { kind = Key; offset = place }) refl

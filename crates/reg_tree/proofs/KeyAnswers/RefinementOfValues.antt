@@ -57,7 +57,7 @@ module _ (bytes : List ℕ) (key : ℕ) (t : IsHere bytes key) (count place : �
       let is : value_named name members ≡ Some m.0 = named-at name members ∙ (ap (option_and_then (slice_get members)) (sym at) ∙ m.1) in
       subst (λ (o : Option Member). IsFound members o (Some (record { index = index; kind = kind; size = size }))) (sym is) (m.1, m.2.kind_is, m.2.size_is)
 
-  -- what is told of the value at a place
+  -- what is told of the value at an index
   pub value_at_told : (index : ℕ) (told : List ℕ) (kind size : ℕ) → ((ms : List Member) (met : List Found) →
       members_at count place (cell_at bytes) ≡ Some (ms, met) → (member : Member) × (slice_get ms index ≡ Some member) × Tells member told kind size)
       → (member : Member) × (slice_get members index ≡ Some member) × Tells member told kind size

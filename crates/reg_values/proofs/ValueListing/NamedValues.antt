@@ -27,7 +27,7 @@ later-zero : (p : Option ℕ) → option_map suc p ≡ Some 0 → ⊥
 later-zero None e = none-some _ e
 later-zero (Some k) e = let n = same_Some _ _ e in omega (arith, n)
 
--- the value of that name is at its place, and the values before it have other names
+-- the value of that name is at its index, and the values before it have other names
 pub without-at : (name : List ℕ) (front : List Member) (m : Member) (back : List Member) →
     place_named name (front ++ m ∷ back) ≡ Some (length front) → values_without name (front ++ m ∷ back) ≡ front ++ back
 without-at name [] m back e = by (same_name m.name name) e
@@ -109,7 +109,7 @@ pairs-changed (v ∷ front) m kind bytes back p =
     let b = all-back (Apart v) front (m ∷ back) p.0 in
     (all-append (Apart v) front (changed m kind bytes ∷ back) (all-front (Apart v) front (m ∷ back) p.0) (b.0, b.1), pairs-changed front m kind bytes back p.1)
 
--- ---- a value that is there has a place
+-- ---- a value that is there has an index
 
 pub named-place : (name : List ℕ) (members : List Member) → IsSome (value_named name members) → place_named name members ≡ None → ⊥
 named-place name [] s e = false≢true s

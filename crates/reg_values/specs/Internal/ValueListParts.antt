@@ -57,7 +57,7 @@ pub record HaveRoom (heap : Heap) (cells sizes : List ℕ) : Type 0 where
   pub once : (offset : ℕ) → times offset cells ≤ 1
   pub room : (index : ℕ) → index < length cells → HasRoom heap (get_or cells index 0) (get_or sizes index 0 - 4)
 
--- a record with this size field and place has these bytes as its data, in just these cells, as it is written
+-- a record with this size field and data offset has these bytes as its data, in just these cells, as it is written
 pub record HoldsData (heap : Heap) (size place : ℕ) (bytes cells : List ℕ) : Type 0 where
   pub met : List Found
   pub reads : data_by (is_inline size) (nat_le size segment_size) size place heap ≡ Some (bytes, met)
