@@ -2,9 +2,9 @@
 //!
 //! Where no standard is named, the limit is this project's own.
 
-/// The offset that names no cell, in each field that may name one.
+/// The offset that names no cell: of a class, a list or a parent that isn't there, and of the free cell after the last one.
 ///
-/// Suhanov, Windows registry file format specification, sections "Key node" and "Key security".
+/// Suhanov, Windows registry file format specification, section "Key node"; the end of a free list is this project's own.
 pub const NONE: u32 = 0xFFFF_FFFF;
 
 /// The most bytes that the bins of a hive have together, their headers too.
@@ -22,6 +22,8 @@ pub const GROWTH_BOUND: u32 = 1_310_720;
 pub const SUBKEYS_LIMIT: u32 = 500;
 
 /// The most keys that one call makes.
+///
+/// Win32 registry reference, "Registry Element Size Limits".
 pub const MADE_LIMIT: u32 = 32;
 
 /// The most values of a key.
@@ -29,7 +31,7 @@ pub const VALUES_LIMIT: u32 = 16_384;
 
 /// The most bytes of a value's data.
 ///
-/// Win32 registry reference, "Registry Element Size Limits", recommends fewer and leaves the limit to the system.
+/// Win32 registry reference, "Registry Element Size Limits": 1 MB in the standard format.
 pub const DATA_LIMIT: usize = 1_048_576;
 
 /// The most bytes of a security descriptor.

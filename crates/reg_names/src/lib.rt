@@ -19,13 +19,13 @@ use std::alloc::{AllocError, Global};
 use std::cmp::Ordering;
 use thiserror::Error;
 
-/// The longest key name, in bytes.
+/// The longest key name, in bytes (Win32, "Registry Element Size Limits").
 pub const KEY_NAME_LIMIT: usize = 255;
 
-/// The longest value name, in bytes.
+/// The longest value name, in bytes (Win32, "Registry Element Size Limits").
 pub const VALUE_NAME_LIMIT: usize = 16_383;
 
-/// The most names in a path.
+/// The most names in a path (Win32, "Registry Element Size Limits": the levels of a tree).
 pub const PATH_LIMIT: usize = 512;
 
 /// What is wrong with a name or a path.

@@ -11,7 +11,7 @@ use crate::cells::write_record;
 use crate::{RecordFault, half_at, half_bytes, is_signed, word_at, word_bytes};
 use reg_arena::Arena;
 
-/// The most bytes of data that one cell holds, and the size of each segment but the last.
+/// The most bytes of data that one cell holds, and the size of each segment but the last (section "Big data").
 pub const SEGMENT_SIZE: usize = 16_344;
 
 /// The length of a big data record, in bytes.
