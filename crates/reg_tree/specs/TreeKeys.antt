@@ -1,8 +1,11 @@
 -- A hive's keys as they are seen from above: the finite map that its cells spell.
-use Rattle.std.specs.Prelude.{◌≡◌, ℕ, List, [], length, Option, Some, None, IsSome, unwrap_or, refl}
+use Rattle.std.specs.Prelude.{◌≡◌, ◌≢◌, ◌↔◌, ◌≤◌, ◌++◌, true, map, ℕ, List, [], length, Option, Some, None, IsSome, unwrap_or, refl}
 use Rattle.std.specs.Option.{option_and_then}
 use Rattle.std.specs.Coded.{Coded, code_by, coded×, coded_ℕ}
 use Rattle.std.specs.FinMap.{empty, get}
+use Rattle.reg_names.specs.declared.TheConstants.{PATH_LIMIT}
+use Rattle.reg_names.specs.Names.{folded}
+use Rattle.reg_heap.specs.Edits.{with_keys, missing}
 use Rattle.reg_heap.specs.Paths.{Path, Tree, Rec, coded_bytes, coded_tree}
 use Rattle.reg_arena.specs.declared.Cell.{Cell}
 use Rattle.reg_arena.specs.Arena.{Bins}
@@ -11,6 +14,7 @@ use Rattle.reg_shape.specs.Spelt.{spelt}
 use Rattle.reg_shape.specs.Whole.{IsWhole}
 use Rattle.reg_shape.specs.PathLookup.{place_at}
 use Rattle.reg_tree.specs.declared.node.Node.{Node}
+use Rattle.reg_tree.specs.declared.node.Created.{Created}
 
 -- the bins, the root's cell, and the finite map from paths to keys
 pub record Keys : Type 0 where
@@ -59,3 +63,12 @@ IsResolved keys path (Some node) = IsAt keys path node × IsSome (get keys.tree 
 -- each node stays that of the key at its path
 abbrev pub KeepsNodes : Keys → Keys → Type 0
 KeepsNodes old new = (path : Path) → (node : Node) → IsAt old path node → IsAt new path node
+
+-- the keys of those names that were missing from the key at a path on were made: the tree is the map's own step, `made` has the
+-- last key and whether one was made, that key is no deeper than 512 names, and each node stays that of the key at its path
+pub record MakesKeys (old new : Keys) (path : Path) (names : List (List ℕ)) (moment : ℕ) (made : Created) : Type 0 where
+  pub tree : new.tree ≡ with_keys old.tree path names moment
+  pub last : IsAt new (path ++ map folded names) made.node
+  pub is_new : (made.is_new ≡ true) ↔ (missing old.tree path names ≢ [])
+  pub shallow : made.node.depth ≤ PATH_LIMIT
+  pub nodes : KeepsNodes old new

@@ -6,7 +6,7 @@ ghost use Rattle.reg_names.specs.Names.{is_key_name, is_value_name, is_path, pat
 ghost use Rattle.reg_heap.specs.declared.limits.TheConstants.{BINS_LIMIT, DATA_LIMIT, DESCRIPTOR_LIMIT, GROWTH_BOUND, VALUES_LIMIT};
 ghost use Rattle.reg_heap.specs.Paths.{Path, path_cmp, Rec, Member, children_of};
 ghost use Rattle.reg_heap.specs.Members.{value_named};
-ghost use Rattle.reg_heap.specs.Edits.{edited, with_value, without_value, values_at, folded_path, with_keys, missing, are_too_many, without_key, IsKept};
+ghost use Rattle.reg_heap.specs.Edits.{edited, with_value, without_value, values_at, folded_path, are_too_many, without_key, IsKept};
 ghost use Rattle.reg_values.specs.ValueLists.{Tells};
 
 use crate::cells::carve_two;
@@ -40,7 +40,7 @@ impl Model for Tree {
 }
 
 impl Tree {
-    ghost use Rattle.reg_tree.specs.TreeKeys.{made_root, IsWholeTree, IsAt, IsThere, IsResolved, KeepsNodes};
+    ghost use Rattle.reg_tree.specs.TreeKeys.{made_root, IsWholeTree, IsAt, IsThere, IsResolved, KeepsNodes, MakesKeys};
     ghost use Rattle.reg_tree.specs.ValueAnswers.{IsFound};
 
     /// A tree of one root: the name as given, mark 8 (no delete), no class, the descriptor, the moment (100 ns ticks since
@@ -261,12 +261,7 @@ impl Tree {
     ) -> Result<Created, TreeFault>
         requires from { IsThere self.old from }
         requires path { is_path path.now ≡ true }
-        ensures ok { (p : Path) → IsAt self.old p from → OnOk result (self.new.tree ≡ with_keys self.old.tree p (path_of path.now) moment) }
-        ensures opened { (p : Path) → IsAt self.old p from →
-            IfOk result (λ made. IsAt self.new (p ++ folded_path path.now) made.node
-            × ((made.is_new ≡ true) ↔ (missing self.old.tree p (path_of path.now) ≢ []))) }
-        ensures depth { IfOk result (λ made. made.node.depth ≤ PATH_LIMIT) }
-        ensures nodes { OnOk result (KeepsNodes self.old self.new) }
+        ensures ok { (p : Path) → IsAt self.old p from → IfOk result (λ made. MakesKeys self.old self.new p (path_of path.now) moment made) }
         ensures limit { (p : Path) → IsAt self.old p from → ((result ≡ Err TreeFault.Limit) ↔ (are_too_many self.old.tree p (path_of path.now) ≡ true)) }
         ensures full { (result ≡ Err TreeFault.Full) → BINS_LIMIT < length self.old.bins.bytes + GROWTH_BOUND }
         ensures others { IfErr result (λ fault. (fault ≡ TreeFault.Limit) ⊎ ((fault ≡ TreeFault.Full) ⊎ (fault ≡ TreeFault.Memory))) }

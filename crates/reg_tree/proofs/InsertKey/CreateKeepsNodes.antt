@@ -9,7 +9,7 @@ use Rattle.reg_arena.specs.Arena.{Bins}
 use Rattle.reg_tree.specs.declared.node.Node.{Node}
 use Rattle.reg_tree.specs.declared.node.Created.{Created}
 use Rattle.reg_tree.specs.declared.fault.TreeFault.{TreeFault}
-use Rattle.reg_tree.specs.TreeKeys.{Keys, tree_in, IsAt, IsThere, KeepsNodes}
+use Rattle.reg_tree.specs.TreeKeys.{Keys, tree_in, IsAt, IsThere, KeepsNodes, MakesKeys}
 use Rattle.reg_tree.specs.TreeInvariant.{Holds, IsHere}
 use Rattle.reg_tree.specs.Internal.KeyCreation.{IsCreated}
 use Rattle.reg_tree.proofs.Invariant.NodeLemmas.{seen_as, here_at, of_tree}
@@ -36,14 +36,14 @@ module _ (bins : Bins) (root : ℕ) (holds : Holds bins.bytes root) (now : Keys)
         by (Ok made) c e = c.holds
         by (Err f) c e = subst (λ (b : Bins). Holds b.bytes root) (sym e) holds
 
-    pub tree_created : (p : Path) → IsAt now p from → OnOk result (tree_in new.bytes root ≡ with_keys now.tree p (path_of text) moment)
+    tree_created : (p : Path) → IsAt now p from → OnOk result (tree_in new.bytes root ≡ with_keys now.tree p (path_of text) moment)
     tree_created p at = by result (its p at)
       where
         by : (r : Answer) → IfOk r (λ made. IsCreated bins.bytes new.bytes root p from (path_of text) moment made.node) → OnOk r (tree_in new.bytes root ≡ with_keys now.tree p (path_of text) moment)
         by (Ok made) c = of_tree bins root holds now view_is (λ t. tree_in new.bytes root ≡ with_keys t p (path_of text) moment) c.tree
         by (Err f) c = c
 
-    pub opened_created : (new_is : (t : IsHere bins.bytes from.offset) → IfOk result (λ made. (made.is_new ≡ true) ↔ (missing (tree_in bins.bytes t.root) t.path (path_of text) ≢ [])))
+    opened_created : (new_is : (t : IsHere bins.bytes from.offset) → IfOk result (λ made. (made.is_new ≡ true) ↔ (missing (tree_in bins.bytes t.root) t.path (path_of text) ≢ [])))
         → (p : Path) → IsAt now p from → IfOk result (λ made. IsAt (seen_as new root) (p ++ folded_path text) made.node × ((made.is_new ≡ true) ↔ (missing now.tree p (path_of text) ≢ [])))
     opened_created new_is p at = by result (its p at) (new_is (here_at bins root holds now view_is from p at))
       where
@@ -60,7 +60,7 @@ module _ (bins : Bins) (root : ℕ) (holds : Holds bins.bytes root) (now : Keys)
             )
         by (Err f) c n = c
 
-    pub depth_created : IfOk result (λ made. made.node.depth ≤ PATH_LIMIT)
+    depth_created : IfOk result (λ made. made.node.depth ≤ PATH_LIMIT)
     depth_created = by result (its some.0 some.1)
       where
         by : (r : Answer) → IfOk r (λ made. IsCreated bins.bytes new.bytes root some.0 from (path_of text) moment made.node) → IfOk r (λ made. made.node.depth ≤ PATH_LIMIT)
@@ -74,9 +74,21 @@ module _ (bins : Bins) (root : ℕ) (holds : Holds bins.bytes root) (now : Keys)
             omega (arith, s, d, e, l, m)
         by (Err f) c = tt
 
-    pub nodes_created : OnOk result (KeepsNodes now (seen_as new root))
+    nodes_created : OnOk result (KeepsNodes now (seen_as new root))
     nodes_created = by result (its some.0 some.1)
       where
         by : (r : Answer) → IfOk r (λ made. IsCreated bins.bytes new.bytes root some.0 from (path_of text) moment made.node) → OnOk r (KeepsNodes now (seen_as new root))
         by (Ok made) c = subst (λ k. KeepsNodes k (seen_as new root)) view_is (λ q node at. record { place = c.keeps q node.offset at.place; depth = at.depth })
         by (Err f) c = c
+
+    -- all of it together
+    pub keys_created : (new_is : (t : IsHere bins.bytes from.offset) → IfOk result (λ made. (made.is_new ≡ true) ↔ (missing (tree_in bins.bytes t.root) t.path (path_of text) ≢ [])))
+        → (p : Path) → IsAt now p from → IfOk result (λ made. MakesKeys now (seen_as new root) p (path_of text) moment made)
+    keys_created new_is p at = by result (tree_created p at) (opened_created new_is p at) depth_created nodes_created
+      where
+        by : (r : Answer) → OnOk r (tree_in new.bytes root ≡ with_keys now.tree p (path_of text) moment)
+            → IfOk r (λ made. IsAt (seen_as new root) (p ++ folded_path text) made.node × ((made.is_new ≡ true) ↔ (missing now.tree p (path_of text) ≢ [])))
+            → IfOk r (λ made. made.node.depth ≤ 512) → OnOk r (KeepsNodes now (seen_as new root))
+            → IfOk r (λ made. MakesKeys now (seen_as new root) p (path_of text) moment made)
+        by (Ok made) tree opened depth nodes = record { tree = tree; last = opened.0; is_new = opened.1; shallow = depth; nodes = nodes }
+        by (Err fault) tree opened depth nodes = tt

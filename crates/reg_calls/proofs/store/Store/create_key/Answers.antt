@@ -43,10 +43,10 @@ pub returns-in-Ok-create : goal.returns-in-Ok-create
 returns-in-Ok-create c =
     let k = c.in-Ok-key_of.ensures in
     let told = c.opened.ensures ∙ ap (λ (d : ℕ). opening c.args.number c.args.self.now c.args.session c.requires.ready (Some d))
-    (c.disposition.ensures ∙ disposition-is _ c.in-Ok-create.created.is_new (c.in-Ok-create.ensures.opened k.target.path k.node).1) in
+    (c.disposition.ensures ∙ disposition-is _ c.in-Ok-create.created.is_new (c.in-Ok-create.ensures.ok k.target.path k.node).is_new) in
     create-done c.args.number c.args.self.now c.args.session c.requires.ready c.args.handle c.args.path.now c.args.mask c.requires.cause k.target
     c.args.moment c.create.new.self c.add.new.self c.in-Ok.text.items c.in-Ok.ensures.names
-    (c.in-Ok-create.ensures.ok k.target.path k.node) c.in-Ok-add.ensures.ok c.opened.result told
+    (c.in-Ok-create.ensures.ok k.target.path k.node).tree c.in-Ok-add.ensures.ok c.opened.result told
 
 pub returns-in-Err-create : goal.returns-in-Err-create
 returns-in-Err-create c =

@@ -4,7 +4,7 @@ use Rattle.reg_heap.specs.Paths.{Tree}
 use Rattle.reg_heap.specs.Edits.{are_too_many}
 use Rattle.reg_tree.specs.declared.fault.TreeFault.TheVariants.{Limit}
 use Rattle.reg_tree.proofs.Invariant.NodeLemmas.{here_at, of_tree}
-use Rattle.reg_tree.proofs.InsertKey.CreateKeepsNodes.{from_at, holds_created, tree_created, opened_created, depth_created, nodes_created}
+use Rattle.reg_tree.proofs.InsertKey.CreateKeepsNodes.{from_at, holds_created, keys_created}
 use Rattle.reg_tree.proofs.InsertKey.KeyLimits.{by_test}
 use Rattle.reg_tree.proofs.tree.Tree.create.Goals as goal
 
@@ -15,17 +15,8 @@ pub invariant_of-self : goal.invariant_of-self
 invariant_of-self c = holds_created _ _ c.self.invariant _ c.self.view_is _ c.create.result c.args.from c.requires.from c.args.path.now c.args.moment c.create.ensures.ok c.create.ensures.err
 
 pub returns-clause-ok : goal.returns-clause-ok
-returns-clause-ok c = tree_created _ _ c.self.invariant _ c.self.view_is _ c.create.result c.args.from c.requires.from c.args.path.now c.args.moment c.create.ensures.ok c.create.ensures.err
-
-pub returns-clause-opened : goal.returns-clause-opened
-returns-clause-opened c = opened_created _ _ c.self.invariant _ c.self.view_is _ c.create.result c.args.from c.requires.from c.args.path.now
+returns-clause-ok c = keys_created _ _ c.self.invariant _ c.self.view_is _ c.create.result c.args.from c.requires.from c.args.path.now
     c.args.moment c.create.ensures.ok c.create.ensures.err c.create.ensures.new
-
-pub returns-clause-depth : goal.returns-clause-depth
-returns-clause-depth c = depth_created _ _ c.self.invariant _ c.self.view_is _ c.create.result c.args.from c.requires.from c.args.path.now c.args.moment c.create.ensures.ok c.create.ensures.err
-
-pub returns-clause-nodes : goal.returns-clause-nodes
-returns-clause-nodes c = nodes_created _ _ c.self.invariant _ c.self.view_is _ c.create.result c.args.from c.requires.from c.args.path.now c.args.moment c.create.ensures.ok c.create.ensures.err
 
 pub returns-clause-limit : goal.returns-clause-limit
 returns-clause-limit c = λ p at.
