@@ -9,6 +9,7 @@ ghost use Rattle.clap.specs.Words.{FailsBy};
 ghost use Rattle.reg_script.specs.Lines.{Writes};
 ghost use Rattle.reg_command.specs.CommandLines.{faults_in, texts};
 ghost use Rattle.reg_command.specs.Failures.{IsCommandLine, IsRefused, IsBefore, IsFailure, IsStopped};
+ghost use Rattle.reg_command.specs.ScriptRuns.{RunsScript};
 
 use clap::error::ErrorKind;
 use clap::{Command, Error};
@@ -100,11 +101,9 @@ pub fn tool<R: Read, W: Write, E: Write>(
     errors: &mut E,
 ) -> u8
     ensures status { result ≤ 2 }
-    ensures words { result ≡ 0 → IsCommandLine (texts words.items) }
-    ensures silent { result ≡ 0 → E.contents errors.new ≡ E.contents errors.old }
-    ensures read { result ≡ 0 → IsAtEnd (R.remaining input.new) }
-    ensures lines { result ≡ 0 → (script : List ℕ) × (text : List ℕ) × Consumes (R.remaining input.old) (R.remaining input.new) script
-        × Writes script text × Appends (W.contents output.old) (W.contents output.new) text }
+    ensures answered { result ≡ 0 →
+        RunsScript (texts words.items) (R.remaining input.old) (R.remaining input.new) (W.contents output.old) (W.contents output.new)
+        (E.contents errors.old) (E.contents errors.new) }
     ensures stopped { result ≡ 1 →
         IsStopped (texts words.items) (R.remaining input.old) (R.remaining input.new) (W.contents output.old)
         (W.contents output.new) }
