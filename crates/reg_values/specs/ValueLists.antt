@@ -6,8 +6,13 @@ use Rattle.reg_heap.specs.Members.{value_named}
 use Rattle.reg_heap.specs.Heaps.{Heap, Swaps, allocated}
 use Rattle.reg_heap.specs.Kinds.{Found, times, owned}
 use Rattle.reg_records.specs.RecordCells.{held}
+use Rattle.reg_shape.specs.Readings.{Reading}
 use Rattle.reg_shape.specs.Nodes.{members_at}
 use Rattle.reg_shape.specs.Written.{AreWritten}
+
+-- what holds of all that is read, and of the cells that it meets
+abbrev pub OfRead : {A : Type 0} → Reading A → Heap → (A → List Found → Type 0) → Type 0
+OfRead {A = A} r heap holds = (x : A) → (met : List Found) → r heap ≡ Some (x, met) → holds x met
 
 -- a list of so many values stands at an offset: it reads as these, its cells are allocated and each is met once, and it is as it is
 -- written

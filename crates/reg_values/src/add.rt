@@ -14,7 +14,7 @@ ghost use Rattle.reg_arena.specs.Carves.{NoFit};
 ghost use Rattle.reg_arena.specs.NewBin.{PassesLimit};
 ghost use Rattle.reg_records.specs.RecordCells.{HasRoom};
 ghost use Rattle.reg_shape.specs.Nodes.{members_at};
-ghost use Rattle.reg_values.specs.ValueLists.{AreValues, Became, Makes};
+ghost use Rattle.reg_values.specs.ValueLists.{AreValues, Became, Makes, OfRead};
 ghost use Rattle.reg_values.specs.Internal.ValueListParts.{list_at, Owns, OwnsBeside, BecameList, Fills, HaveRoom, HoldsValue, KeepsSizes};
 ghost use Rattle.reg_arena.specs.NewCells.{cell_size};
 ghost use Rattle.reg_values.specs.ValueSizes.{data_sizes, sizes_by};
@@ -71,10 +71,9 @@ fn grow(arena: &mut Arena, list: ValuesList, cell: u32)
     requires owns { Owns (list_at list.count list.place) (cell_at arena.old.bytes) }
     requires room { HasRoom (cell_at arena.old.bytes) list.place (4 * list.count + 4) }
     requires some { 0 < list.count }
-    ensures list { (row : List ℕ) → (met : List Found) →
-        list_at list.count list.place (cell_at arena.old.bytes) ≡ Some (row, met) →
-        BecameList (cell_at arena.old.bytes) (cell_at arena.new.bytes) (λ offset. owned offset met)
-        (list.count + 1) list.place (row ++ cell ∷ []) }
+    ensures list { OfRead (list_at list.count list.place) (cell_at arena.old.bytes)
+        (λ row met. BecameList (cell_at arena.old.bytes) (cell_at arena.new.bytes) (λ offset. owned offset met)
+        (list.count + 1) list.place (row ++ cell ∷ [])) }
     ensures sizes { KeepsSizes (cell_at arena.old.bytes) (cell_at arena.new.bytes) }
 {
     put_offset(arena, list.place, list.count, cell);
@@ -85,10 +84,9 @@ fn move_list(arena: &mut Arena, list: ValuesList, place: u32, cell: u32)
     requires few { list.count < VALUES_LIMIT }
     requires owns { OwnsBeside (list_at list.count list.place) (cell_at arena.old.bytes) (place ∷ []) }
     requires room { HasRoom (cell_at arena.old.bytes) place (4 * list.count + 4) }
-    ensures list { (row : List ℕ) → (met : List Found) →
-        list_at list.count list.place (cell_at arena.old.bytes) ≡ Some (row, met) →
-        BecameList (cell_at arena.old.bytes) (cell_at arena.new.bytes)
-        (λ offset. owned offset met + times offset (place ∷ [])) (list.count + 1) place (row ++ cell ∷ []) }
+    ensures list { OfRead (list_at list.count list.place) (cell_at arena.old.bytes)
+        (λ row met. BecameList (cell_at arena.old.bytes) (cell_at arena.new.bytes)
+        (λ offset. owned offset met + times offset (place ∷ [])) (list.count + 1) place (row ++ cell ∷ [])) }
     ensures sizes { KeepsSizes (cell_at arena.old.bytes) (cell_at arena.new.bytes) }
 {
     if list.count == 0 {
@@ -113,13 +111,10 @@ pub(crate) fn add(
     requires name { is_value_name name.now ≡ true }
     requires bytes { length bytes.now ≤ DATA_LIMIT }
     requires few { list.count < VALUES_LIMIT }
-    requires new { (members : List Member) → (met : List Found) →
-        members_at list.count list.place (cell_at arena.old.bytes) ≡ Some (members, met) →
-        None ≡ place_named name.now members }
-    ensures ok { IfOk result (λ after. (members : List Member) → (met : List Found) →
-        members_at list.count list.place (cell_at arena.old.bytes) ≡ Some (members, met) →
-        Became (cell_at arena.old.bytes) (cell_at arena.new.bytes) met after.count after.place
-        (members ++ record { name = name.now; kind = kind; bytes = bytes.now } ∷ [])) }
+    requires new { OfRead (members_at list.count list.place) (cell_at arena.old.bytes) (λ members met. None ≡ place_named name.now members) }
+    ensures ok { IfOk result (λ after. OfRead (members_at list.count list.place) (cell_at arena.old.bytes)
+        (λ members met. Became (cell_at arena.old.bytes) (cell_at arena.new.bytes) met after.count after.place
+        (members ++ record { name = name.now; kind = kind; bytes = bytes.now } ∷ []))) }
     ensures cells { OnOk result (Makes (cell_at arena.old.bytes) (cell_at arena.new.bytes)
         (sizes_by (cell_at arena.old.bytes) list.count list.place (length name.now) (length bytes.now) None)) }
     ensures err { OnErr result (arena.new ≡ arena.old) }

@@ -12,6 +12,7 @@ ghost use Rattle.reg_records.specs.OffsetRows.{offsets_at};
 ghost use Rattle.reg_records.specs.BigData.{segments_for as segments_for_of, segments as segments_of, db_of};
 ghost use Rattle.reg_shape.specs.Nodes.{pieces_at, big_at as big_data_at};
 ghost use Rattle.reg_values.specs.Internal.ValueListParts.{segments_at, Owns, GivesUpRead, Fills, HoldsData};
+ghost use Rattle.reg_values.specs.ValueLists.{OfRead};
 
 use reg_arena::Arena;
 use reg_records::{BigFields, SEGMENT_SIZE, offset_at, put_db, put_offset, read_db};
@@ -47,8 +48,7 @@ pub(crate) fn big_bytes(
 ) -> Result<Vec<u8>, AllocError>
     requires size { size < 4294967296 }
     requires big { IsSome (big_data_at size cell (cell_at arena.now.bytes)) }
-    ensures { IfOk result (λ bytes. (all : List ℕ) → (met : List Found) →
-        big_data_at size cell (cell_at arena.now.bytes) ≡ Some (all, met) → bytes.items ≡ all) }
+    ensures { IfOk result (λ bytes. OfRead (big_data_at size cell) (cell_at arena.now.bytes) (λ all met. bytes.items ≡ all)) }
 {
     let list = big_at(arena, cell).list;
     joined(arena, alloc, size, list)
@@ -60,8 +60,7 @@ fn joined(arena: &Arena, alloc: Global, size: usize, list: u32) -> Result<Vec<u8
     requires exists { IsSome (cell_at arena.now.bytes list) }
     requires long { 4 * segments_for_of size ≤ length (held (cell_at arena.now.bytes) list) }
     requires pieces { IsSome (segments_at size (held (cell_at arena.now.bytes) list) (cell_at arena.now.bytes)) }
-    ensures { IfOk result (λ bytes. (all : List ℕ) → (met : List Found) →
-        segments_at size (held (cell_at arena.now.bytes) list) (cell_at arena.now.bytes) ≡ Some (all, met) → bytes.items ≡ all) }
+    ensures { IfOk result (λ bytes. OfRead (segments_at size (held (cell_at arena.now.bytes) list)) (cell_at arena.now.bytes) (λ all met. bytes.items ≡ all)) }
 {
     let mut bytes = Vec::with_capacity(alloc, size)?;
     for index in 0..segments_for(size) {

@@ -9,7 +9,7 @@ ghost use Rattle.reg_heap.specs.Paths.{Member};
 ghost use Rattle.reg_heap.specs.Kinds.{Found};
 ghost use Rattle.reg_arena.specs.Cells.{cell_at};
 ghost use Rattle.reg_shape.specs.Nodes.{members_at, data_at};
-ghost use Rattle.reg_values.specs.ValueLists.{AreValues};
+ghost use Rattle.reg_values.specs.ValueLists.{AreValues, OfRead};
 ghost use Rattle.reg_values.specs.Internal.ValueListParts.{Owns, GivesUpRead, Fills, HaveRoom, HoldsData};
 ghost use Rattle.reg_values.specs.ValueSizes.{data_sizes};
 
@@ -38,9 +38,8 @@ pub fn bytes_of(
 ) -> Result<Vec<u8>, AllocError>
     requires values { AreValues (cell_at arena.now.bytes) list.count list.place }
     requires index { index < list.count }
-    ensures { IfOk result (λ bytes. (members : List Member) → (met : List Found) →
-        members_at list.count list.place (cell_at arena.now.bytes) ≡ Some (members, met) → (member : Member)
-        × (slice_get members index ≡ Some member) × (bytes.items ≡ member.bytes)) }
+    ensures { IfOk result (λ bytes. OfRead (members_at list.count list.place) (cell_at arena.now.bytes)
+        (λ members met. (member : Member) × (slice_get members index ≡ Some member) × (bytes.items ≡ member.bytes))) }
 {
     let fields = record_at(arena, cell_of(arena, list, index)).fields;
     data_bytes(arena, alloc, fields)

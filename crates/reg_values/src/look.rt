@@ -12,7 +12,7 @@ ghost use Rattle.reg_records.specs.OffsetRows.{offset_in};
 ghost use Rattle.reg_records.specs.KeyValues.{value_record_at};
 ghost use Rattle.reg_records.specs.BigData.{is_inline, inline_size};
 ghost use Rattle.reg_shape.specs.Nodes.{members_at};
-ghost use Rattle.reg_values.specs.ValueLists.{AreValues, Tells};
+ghost use Rattle.reg_values.specs.ValueLists.{AreValues, Tells, OfRead};
 
 use crate::{INLINE, ValuesList};
 use reg_arena::Arena;
@@ -53,9 +53,7 @@ pub(crate) fn cell_of(arena: &Arena, list: ValuesList, index: u32) -> u32
 /// The index of the first value of that name, after folding, counted from 0; `None` where there is none.
 pub fn find(arena: &Arena, list: ValuesList, name: &[u8]) -> Option<u32>
     requires { AreValues (cell_at arena.now.bytes) list.count list.place }
-    ensures { (members : List Member) → (met : List Found) →
-        members_at list.count list.place (cell_at arena.now.bytes) ≡ Some (members, met) →
-        result ≡ place_named name.now members }
+    ensures { OfRead (members_at list.count list.place) (cell_at arena.now.bytes) (λ members met. result ≡ place_named name.now members) }
 {
     for index in 0..list.count {
         let record = record_at(arena, cell_of(arena, list, index));
@@ -77,9 +75,8 @@ fn size_in(size: u32) -> u32
 pub fn at(arena: &Arena, list: ValuesList, index: u32) -> Value<'_>
     requires values { AreValues (cell_at arena.now.bytes) list.count list.place }
     requires index { index < list.count }
-    ensures { (members : List Member) → (met : List Found) →
-        members_at list.count list.place (cell_at arena.now.bytes) ≡ Some (members, met) → (member : Member)
-        × (slice_get members index ≡ Some member) × Tells member result.name.now result.kind result.size }
+    ensures { OfRead (members_at list.count list.place) (cell_at arena.now.bytes) (λ members met. (member : Member)
+        × (slice_get members index ≡ Some member) × Tells member result.name.now result.kind result.size) }
 {
     let record = record_at(arena, cell_of(arena, list, index));
     Value {

@@ -10,7 +10,7 @@ ghost use Rattle.reg_heap.specs.Kinds.{Found, owned};
 ghost use Rattle.reg_heap.specs.Members.{values_without};
 ghost use Rattle.reg_arena.specs.Cells.{cell_at};
 ghost use Rattle.reg_shape.specs.Nodes.{member_at, members_at};
-ghost use Rattle.reg_values.specs.ValueLists.{AreValues, IsNamed, Became};
+ghost use Rattle.reg_values.specs.ValueLists.{AreValues, IsNamed, Became, OfRead};
 ghost use Rattle.reg_values.specs.Internal.ValueListParts.{list_at, Owns, GivesUpRead, BecameList};
 
 use crate::ValuesList;
@@ -34,10 +34,9 @@ fn take_out(arena: &mut Arena, list: ValuesList, index: u32) -> ValuesList
     requires few { list.count ≤ VALUES_LIMIT }
     requires index { index < list.count }
     requires list { Owns (list_at list.count list.place) (cell_at arena.old.bytes) }
-    ensures list { (row : List ℕ) → (met : List Found) →
-        list_at list.count list.place (cell_at arena.old.bytes) ≡ Some (row, met) →
-        BecameList (cell_at arena.old.bytes) (cell_at arena.new.bytes)
-        (λ offset. owned offset met) result.count result.place (take index row ++ drop (index + 1) row) }
+    ensures list { OfRead (list_at list.count list.place) (cell_at arena.old.bytes)
+        (λ row met. BecameList (cell_at arena.old.bytes) (cell_at arena.new.bytes)
+        (λ offset. owned offset met) result.count result.place (take index row ++ drop (index + 1) row)) }
     ensures count { result.count + 1 ≡ list.count }
     ensures none { result.count ≡ 0 → result.place ≡ NONE }
 {
@@ -61,10 +60,9 @@ fn take_out(arena: &mut Arena, list: ValuesList, index: u32) -> ValuesList
 pub fn remove(arena: &mut Arena, list: ValuesList, name: &[u8]) -> ValuesList
     requires values { AreValues (cell_at arena.old.bytes) list.count list.place }
     requires named { IsNamed (cell_at arena.old.bytes) list.count list.place name.now }
-    ensures { (members : List Member) → (met : List Found) →
-        members_at list.count list.place (cell_at arena.old.bytes) ≡ Some (members, met) →
-        Became (cell_at arena.old.bytes) (cell_at arena.new.bytes) met result.count result.place
-        (values_without name.now members) }
+    ensures { OfRead (members_at list.count list.place) (cell_at arena.old.bytes)
+        (λ members met. Became (cell_at arena.old.bytes) (cell_at arena.new.bytes) met result.count result.place
+        (values_without name.now members)) }
 {
     let Some(index) = find(arena, list, name) else {
         unreachable!()
@@ -78,9 +76,8 @@ pub fn remove(arena: &mut Arena, list: ValuesList, name: &[u8]) -> ValuesList
 /// Frees a list of values with all that it names: each value's cells, and then the list's own. It takes no memory.
 pub fn clear(arena: &mut Arena, list: ValuesList)
     requires { AreValues (cell_at arena.old.bytes) list.count list.place }
-    ensures { (members : List Member) → (met : List Found) →
-        members_at list.count list.place (cell_at arena.old.bytes) ≡ Some (members, met) →
-        Swaps (cell_at arena.old.bytes) (cell_at arena.new.bytes) (λ offset. owned offset met) (λ offset. 0) }
+    ensures { OfRead (members_at list.count list.place) (cell_at arena.old.bytes)
+        (λ members met. Swaps (cell_at arena.old.bytes) (cell_at arena.new.bytes) (λ offset. owned offset met) (λ offset. 0)) }
 {
     for index in 0..list.count {
         let cell = cell_of(arena, list, index);

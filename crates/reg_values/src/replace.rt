@@ -11,7 +11,7 @@ ghost use Rattle.reg_arena.specs.NewBin.{PassesLimit};
 ghost use Rattle.reg_records.specs.KeyValues.{value_record_at};
 ghost use Rattle.reg_shape.specs.Nodes.{member_at};
 ghost use Rattle.reg_shape.specs.Written.{IsWrittenValue};
-ghost use Rattle.reg_values.specs.ValueLists.{Makes};
+ghost use Rattle.reg_values.specs.ValueLists.{Makes, OfRead};
 ghost use Rattle.reg_values.specs.Internal.ValueListParts.{Owns, OwnsBeside, HaveRoom, BecameValue, Keeps};
 ghost use Rattle.reg_values.specs.ValueSizes.{data_sizes, stays as stays_of, new_data_sizes};
 
@@ -30,9 +30,9 @@ fn rewrite(arena: &mut Arena, cell: u32, old: ValueFields, kind: u32, bytes: &[u
     requires record_is { (name : List ℕ) × (value_record_at (cell_at arena.old.bytes) cell ≡ Some (record { fields = old; name = name })) }
     requires stays { stays_of (cell_at arena.old.bytes) old (length bytes.now) ≡ true }
     requires bytes { length bytes.now ≤ DATA_LIMIT }
-    ensures value { (m : Member) → (met : List Found) → member_at cell (cell_at arena.old.bytes) ≡ Some (m, met) →
-        BecameValue (cell_at arena.old.bytes) (cell_at arena.new.bytes) (λ offset. owned offset met) cell
-        (record { name = m.name; kind = kind; bytes = bytes.now }) }
+    ensures value { OfRead (member_at cell) (cell_at arena.old.bytes)
+        (λ m met. BecameValue (cell_at arena.old.bytes) (cell_at arena.new.bytes) (λ offset. owned offset met) cell
+        (record { name = m.name; kind = kind; bytes = bytes.now })) }
     ensures cells { Makes (cell_at arena.old.bytes) (cell_at arena.new.bytes) [] }
 {
     arena.write(old.place, 0, bytes);
@@ -46,10 +46,10 @@ fn exchange(arena: &mut Arena, cell: u32, cells: &[u32], old: ValueFields, kind:
     requires record_is { (name : List ℕ) × (value_record_at (cell_at arena.old.bytes) cell ≡ Some (record { fields = old; name = name })) }
     requires bytes { length bytes.now ≤ DATA_LIMIT }
     requires cells { HaveRoom (cell_at arena.old.bytes) cells.now (data_sizes (length bytes.now)) }
-    ensures value { (m : Member) → (met : List Found) → member_at cell (cell_at arena.old.bytes) ≡ Some (m, met) →
-        BecameValue (cell_at arena.old.bytes) (cell_at arena.new.bytes)
+    ensures value { OfRead (member_at cell) (cell_at arena.old.bytes)
+        (λ m met. BecameValue (cell_at arena.old.bytes) (cell_at arena.new.bytes)
         (λ offset. owned offset met + times offset cells.now) cell
-        (record { name = m.name; kind = kind; bytes = bytes.now }) }
+        (record { name = m.name; kind = kind; bytes = bytes.now })) }
     ensures keeps { Keeps (cell_at arena.old.bytes) (cell_at arena.new.bytes) cells.now }
 {
     let data = put_data(arena, cells, bytes);
@@ -68,9 +68,10 @@ pub(crate) fn replace(
     requires owns { Owns (member_at cell) (cell_at arena.old.bytes) }
     requires written { IsWrittenValue (cell_at arena.old.bytes) cell }
     requires bytes { length bytes.now ≤ DATA_LIMIT }
-    ensures value { OnOk result ((m : Member) → (met : List Found) → member_at cell (cell_at arena.old.bytes) ≡ Some (m, met) →
-        BecameValue (cell_at arena.old.bytes) (cell_at arena.new.bytes) (λ offset. owned offset met) cell
-        (record { name = m.name; kind = kind; bytes = bytes.now })) }
+    ensures value { OnOk result
+        (OfRead (member_at cell) (cell_at arena.old.bytes)
+        (λ m met. BecameValue (cell_at arena.old.bytes) (cell_at arena.new.bytes) (λ offset. owned offset met) cell
+        (record { name = m.name; kind = kind; bytes = bytes.now }))) }
     ensures cells { OnOk result (Makes (cell_at arena.old.bytes) (cell_at arena.new.bytes)
         (new_data_sizes (cell_at arena.old.bytes) (length bytes.now) (value_record_at (cell_at arena.old.bytes) cell))) }
     ensures err { OnErr result (arena.new ≡ arena.old) }

@@ -13,7 +13,7 @@ ghost use Rattle.reg_arena.specs.NewCells.{total_of};
 ghost use Rattle.reg_arena.specs.Carves.{NoFit};
 ghost use Rattle.reg_arena.specs.NewBin.{PassesLimit};
 ghost use Rattle.reg_shape.specs.Nodes.{members_at};
-ghost use Rattle.reg_values.specs.ValueLists.{AreValues, IsNamed, Became, Makes};
+ghost use Rattle.reg_values.specs.ValueLists.{AreValues, IsNamed, Became, Makes, OfRead};
 ghost use Rattle.reg_values.specs.ValueSizes.{set_sizes};
 
 use crate::ValuesList;
@@ -42,10 +42,9 @@ pub fn set(
     requires name { is_value_name name.now ≡ true }
     requires bytes { length bytes.now ≤ DATA_LIMIT }
     requires room { (list.count < VALUES_LIMIT) ⊎ IsNamed (cell_at arena.old.bytes) list.count list.place name.now }
-    ensures ok { IfOk result (λ after. (members : List Member) → (met : List Found) →
-        members_at list.count list.place (cell_at arena.old.bytes) ≡ Some (members, met) →
-        Became (cell_at arena.old.bytes) (cell_at arena.new.bytes) met after.count after.place
-        (values_with name.now kind bytes.now members)) }
+    ensures ok { IfOk result (λ after. OfRead (members_at list.count list.place) (cell_at arena.old.bytes)
+        (λ members met. Became (cell_at arena.old.bytes) (cell_at arena.new.bytes) met after.count after.place
+        (values_with name.now kind bytes.now members))) }
     ensures cells { OnOk result (Makes (cell_at arena.old.bytes) (cell_at arena.new.bytes)
         (set_sizes (cell_at arena.old.bytes) list.count list.place name.now (length bytes.now))) }
     ensures err { OnErr result (arena.new ≡ arena.old) }
