@@ -3,10 +3,11 @@ use Rattle.std.proofs.Common.{◌≡◌, ℕ, zero, suc, ◌+◌, ◌*◌, ◌<�
 use Rattle.std.specs.Prelude.{unwrap_or}
 use Rattle.std.proofs.lemmas.Bool.Decides.{nat_tests}
 use Rattle.reg_heap.specs.Heaps.{Heap}
+use Rattle.reg_index.specs.declared.plan.TheConstants.{FIRST_LIST_SIZE}
 use Rattle.reg_records.specs.RecordCells.{held}
 use Rattle.reg_index.specs.Subkeys.{insert_size}
 
-pub first-size : (heap : Heap) (count place : ℕ) → count ≡ 0 → Some 16 ≡ insert_size heap count place
+pub first-size : (heap : Heap) (count place : ℕ) → count ≡ 0 → Some FIRST_LIST_SIZE ≡ insert_size heap count place
 unfolding insert_size
 first-size heap zero place e = refl
 first-size heap (suc count) place e = absurd (omega arith)

@@ -4,6 +4,7 @@ use Rattle.std.proofs.lemmas.Bool.{cases_lt}
 use Rattle.std.proofs.lemmas.Option.{none-some, same_Some}
 use Rattle.reg_heap.specs.Heaps.{Heap, Swaps, Writes}
 use Rattle.reg_heap.specs.Kinds.{times}
+use Rattle.reg_index.specs.declared.plan.TheConstants.{FIRST_LIST_SIZE}
 use Rattle.reg_records.specs.RecordCells.{held, HasRoom}
 use Rattle.reg_records.specs.SubkeyLists.{Entry}
 use Rattle.reg_index.specs.Internal.HashLeaves.{IsLeaf, HasGap}
@@ -37,11 +38,11 @@ pub first-gap : (heap : Heap) (count place fresh index : ℕ) → count ≡ 0 �
     ((entries : List Entry) × AreSubkeys heap count place entries × (index ≤ length entries))
     → (entries : List Entry) → AreSubkeys heap count place entries → HasGap heap fresh index entries
 first-gap heap count place fresh index none ready s entries t =
-    let r : IsReady heap (Some 16) fresh = subst (λ size. IsReady heap size fresh) (sym (first-size heap count place none)) ready in
+    let r : IsReady heap (Some FIRST_LIST_SIZE) fresh = subst (λ size. IsReady heap size fresh) (sym (first-size heap count place none)) ready in
     let nothing : (es : List Entry) → AreSubkeys heap count place es → length es ≡ 0 = λ es t. length-subkeys heap count place es t.read ∙ none in
     by r index entries (nothing entries t) (let n = nothing s.0 s.1 in omega (arith, s.2, n))
   where
-    by : IsReady heap (Some 16) fresh → (index : ℕ) (entries : List Entry) → length entries ≡ 0 → index ≤ 0 → HasGap heap fresh index entries
+    by : IsReady heap (Some FIRST_LIST_SIZE) fresh → (index : ℕ) (entries : List Entry) → length entries ≡ 0 → index ≤ 0 → HasGap heap fresh index entries
     by r zero [] n l = record { exists = r.0; room = omega (arith, r.1); before = refl; behind = refl }
     by r zero (e ∷ es) n l = absurd (omega arith)
     by r (suc index) entries n l = absurd (omega arith)

@@ -11,6 +11,7 @@ use Rattle.reg_names.specs.Names.{folded, hash}
 use Rattle.reg_heap.specs.declared.limits.TheConstants.{NONE, SUBKEYS_LIMIT}
 use Rattle.reg_heap.specs.Heaps.{Heap, Swaps}
 use Rattle.reg_heap.specs.Kinds.{times}
+use Rattle.reg_index.specs.declared.plan.TheConstants.{FIRST_LIST_SIZE}
 use Rattle.reg_records.specs.declared.lists.ListForm.TheVariants.{IndexRoot, IndexLeaf, FastLeaf, HashLeaf}
 use Rattle.reg_records.specs.RecordCells.{held}
 use Rattle.reg_records.specs.KeyNodes.{KeyRecord, key_at}
@@ -75,7 +76,7 @@ without index entries = take index entries ++ drop (index + 1) entries
 
 -- the size of the cell that one subkey more takes: none where the list's cell has room for it
 unfoldable pub insert_size : Heap → ℕ → ℕ → Option ℕ
-insert_size heap zero place = Some 16
+insert_size heap zero place = Some FIRST_LIST_SIZE
 insert_size heap (suc count) place =
     if nat_le (4 + 8 * suc (suc count)) (length (held heap place)) then None else Some (8 + 8 * suc (suc count))
 

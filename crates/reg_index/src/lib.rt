@@ -19,7 +19,7 @@ mod removing;
 
 pub use inserting::insert;
 pub use look::{at, find};
-pub use plan::plan_insert;
+pub use plan::{FIRST_LIST_SIZE, plan_insert};
 pub use removing::remove;
 
 /// A key's list of subkeys, as its key node names it.

@@ -8,8 +8,8 @@ ghost use Rattle.reg_index.specs.Subkeys.{AreSubkeys, insert_size};
 use crate::SubkeysIndex;
 use reg_arena::Arena;
 
-/// The size of the cell of a list of one.
-const FIRST: u32 = 16;
+/// The size of the cell of a list of one subkey, in bytes, its size field counted.
+pub const FIRST_LIST_SIZE: u32 = 16;
 
 /// The size of the cell that one subkey more takes, its size field counted; `None` where the list's cell has room for
 /// it.
@@ -18,7 +18,7 @@ pub fn plan_insert(arena: &Arena, list: SubkeysIndex) -> Option<u32>
     ensures { result ≡ insert_size (cell_at arena.now.bytes) list.count list.place }
 {
     if list.count == 0 {
-        return Some(FIRST);
+        return Some(FIRST_LIST_SIZE);
     }
     let needed = 12 + 8 * list.count;
     if arena.content(list.place).len() >= needed as usize {

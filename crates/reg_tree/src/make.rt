@@ -23,13 +23,10 @@ use crate::ring::{recount, with_one_more};
 use crate::{Created, Node, TreeFault};
 use reg_arena::{Arena, cell_size};
 use reg_heap::limits::{MADE_LIMIT, NONE, SUBKEYS_LIMIT};
-use reg_index::{SubkeysIndex, find, insert, len, plan_insert};
+use reg_index::{FIRST_LIST_SIZE, SubkeysIndex, find, insert, len, plan_insert};
 use reg_names::{PATH_LIMIT, first_name};
 use reg_records::put_nk;
 use std::alloc::{AllocError, Global};
-
-/// The size of a cell for a list of one subkey.
-const FIRST_LIST: u32 = 16;
 
 /// Makes a key below another in cells carved for it: its key node, and its parent's list where that takes another cell. What
 /// its parent says of it is noted, with the time.
@@ -176,7 +173,7 @@ fn sizes_for(alloc: Global, planned: Option<u32>, path: &[u8]) -> Result<Vec<u32
             sizes.push(size)?;
         }
         sizes.push(cell_size(76 + name.len() as u32))?;
-        list = Some(FIRST_LIST);
+        list = Some(FIRST_LIST_SIZE);
         rest = behind;
     }
     Ok(sizes)

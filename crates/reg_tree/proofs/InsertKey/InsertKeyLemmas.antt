@@ -12,6 +12,7 @@ use Rattle.reg_heap.specs.Edits.{edited, at_time, made_key, with_key, descriptor
 use Rattle.reg_heap.specs.Heaps.{Heap}
 use Rattle.reg_heap.specs.Kinds.{times, owned}
 use Rattle.reg_shape.specs.Internal.Forests.{Branch, total_of}
+use Rattle.reg_index.specs.declared.plan.TheConstants.{FIRST_LIST_SIZE}
 use Rattle.reg_records.specs.RecordCells.{held}
 use Rattle.reg_records.specs.KeyNodes.{KeyRecord, key_at, IsPlainKey}
 use Rattle.reg_records.specs.KeySecurities.{KeySecurityRecord, security_at}
@@ -199,7 +200,7 @@ module _ (h0 h1 h2 h3 h4 : Heap) (root : ℕ) (keys : Branch Node) (first : ℕ)
               childless : (x : List ℕ) → subkey_named h4 x key ≡ None
               childless x = ap (option_and_then (λ (node : Node). key_named h4 x (places_in (entries_of node.index)))) made-is.reads
 
-              unlisted : planned h4 key ≡ Some 16
+              unlisted : planned h4 key ≡ Some FIRST_LIST_SIZE
               unlisted = ap (option_and_then (λ (k : KeyRecord). insert_size h4 k.fields.subkeys k.fields.subkeys_list)) key4
 
               none : (k : KeyRecord) → key_at h4 key ≡ Some k → k.fields.subkeys ≡ 0

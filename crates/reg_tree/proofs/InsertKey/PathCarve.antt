@@ -12,6 +12,7 @@ use Rattle.reg_names.specs.declared.TheConstants.{PATH_LIMIT, KEY_NAME_LIMIT}
 use Rattle.reg_names.specs.Names.{is_key_name, are_key_names, is_path, path_of}
 use Rattle.reg_heap.specs.declared.limits.TheConstants.{BINS_LIMIT, GROWTH_BOUND, SUBKEYS_LIMIT, MADE_LIMIT}
 use Rattle.reg_heap.specs.Heaps.{Heap, AreNew}
+use Rattle.reg_index.specs.declared.plan.TheConstants.{FIRST_LIST_SIZE}
 use Rattle.reg_arena.specs.declared.ArenaFault.{ArenaFault}
 use Rattle.reg_arena.specs.declared.ArenaFault.TheVariants as arena
 use Rattle.reg_arena.specs.Cells.{cell_at}
@@ -68,7 +69,7 @@ no_zeros size = rw (no_letters size) (by (nat_lt (length (replicate {A = ℕ} si
 abbrev pub IsPlan : Option ℕ → Type 0
 IsPlan plan = (size : ℕ) → plan ≡ Some size → (size % 8 ≡ 0) × (16 ≤ size) × (size ≤ 4016)
 
-first_plan : IsPlan (Some 16)
+first_plan : IsPlan (Some FIRST_LIST_SIZE)
 first_plan size e = let s = same_Some _ _ e in (omega (arith, s), omega (arith, s), omega (arith, s))
 
 plan_by : (heap : Heap) (count place : ℕ) → count ≤ SUBKEYS_LIMIT → IsPlan (insert_size heap count place)
@@ -86,8 +87,8 @@ plan_good bytes key t count list has = plan_by (cell_at bytes) count list (paren
 -- each is one that a cell may have
 pub are-sizes : (plan : Option ℕ) (names : List (List ℕ)) → IsPlan plan → AreSizes (sizes_of plan names)
 are-sizes plan [] p = tt
-are-sizes None (name ∷ names) p = ((omega arith, omega arith), are-sizes (Some 16) names first_plan)
-are-sizes (Some size) (name ∷ names) p = let s = p size refl in ((omega (arith, s), s.0), ((omega arith, omega arith), are-sizes (Some 16) names first_plan))
+are-sizes None (name ∷ names) p = ((omega arith, omega arith), are-sizes (Some FIRST_LIST_SIZE) names first_plan)
+are-sizes (Some size) (name ∷ names) p = let s = p size refl in ((omega (arith, s), s.0), ((omega arith, omega arith), are-sizes (Some FIRST_LIST_SIZE) names first_plan))
 
 -- names of at most 255 bytes
 abbrev Short : List (List ℕ) → Type 0
@@ -102,7 +103,7 @@ unfolding are_key_names
 short-in limit names e = short-by names (and_parts (list_all is_key_name names) (nat_le (length names) limit) e).0
 
 -- all together, by the number of keys
-total-first : (names : List (List ℕ)) → Short names → total_of (sizes_of (Some 16) names) ≤ 360 * length names
+total-first : (names : List (List ℕ)) → Short names → total_of (sizes_of (Some FIRST_LIST_SIZE) names) ≤ 360 * length names
 total-first [] s = omega arith
 total-first (name ∷ names) s = let t = total-first names s.1 in let l = s.0 in omega (arith, t, l)
 
@@ -170,7 +171,7 @@ ready-all h None (name ∷ names) (key ∷ left) p n z = record {
   spare_is = refl;
   ready = tt;
   room = zeros-room h key (key_size name) (76 + length name) (z 0 (omega arith)) (omega arith);
-  rest = ready-all h (Some 16) names left first_plan (omega (arith, n)) (λ i l. z (suc i) (omega (arith, l)));
+  rest = ready-all h (Some FIRST_LIST_SIZE) names left first_plan (omega (arith, n)) (λ i l. z (suc i) (omega (arith, l)));
 }
 ready-all h (Some size) (name ∷ names) [] p n z = absurd (omega (arith, n))
 ready-all h (Some size) (name ∷ names) (list ∷ []) p n z = absurd (omega (arith, n))
@@ -181,7 +182,7 @@ ready-all h (Some size) (name ∷ names) (list ∷ key ∷ left) p n z = record 
   spare_is = refl;
   ready = zeros-ready h list size (z 0 (omega arith)) (let q = (p size refl).1 in omega (arith, q));
   room = zeros-room h key (key_size name) (76 + length name) (z 1 (omega arith)) (omega arith);
-  rest = ready-all h (Some 16) names left first_plan (omega (arith, n)) (λ i l. z (suc (suc i)) (omega (arith, l)));
+  rest = ready-all h (Some FIRST_LIST_SIZE) names left first_plan (omega (arith, n)) (λ i l. z (suc (suc i)) (omega (arith, l)));
 }
 
 -- cells carved by these sizes are those that the keys take

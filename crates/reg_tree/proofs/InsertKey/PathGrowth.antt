@@ -19,6 +19,7 @@ use Rattle.reg_heap.specs.Heaps.{Heap}
 use Rattle.reg_heap.specs.Kinds.{times}
 use Rattle.reg_shape.specs.Internal.Forests.{Branch}
 use Rattle.reg_heap.proofs.ChildrenOfPath.{path-is}
+use Rattle.reg_index.specs.declared.plan.TheConstants.{FIRST_LIST_SIZE}
 use Rattle.reg_shape.specs.Nodes.{Node}
 use Rattle.reg_shape.specs.Spelt.{rec_of}
 use Rattle.reg_shape.specs.Internal.Shapes.{descriptor_in, tree_of}
@@ -70,7 +71,7 @@ ready-kept h k plan (name ∷ names) spare c r = record {
       let same = c r.key (subst (λ s. 0 < times r.key s) (sym r.spare_is) (some-times r.key (taken plan r.list_cell) r.left)) in
       record { exists = subst IsSome (sym same) r.room.exists; enough = subst (λ (bytes : List ℕ). 76 + length name ≤ length bytes) (sym (same-held h k r.key same)) r.room.enough }
       );
-  rest = ready-kept h k (Some 16) names r.left (λ z l. c z (subst (λ s. 0 < times z s) (sym r.spare_is) (left-there z l))) r.rest;
+  rest = ready-kept h k (Some FIRST_LIST_SIZE) names r.left (λ z l. c z (subst (λ s. 0 < times z s) (sym r.spare_is) (left-there z l))) r.rest;
 }
   where
     list-there : (o : Option ℕ) (size : ℕ) → o ≡ Some size → 0 < times r.list_cell (taken o r.list_cell ++ r.key ∷ r.left)
@@ -140,7 +141,7 @@ module _ (bytes0 : List ℕ) (from : TreeNode) (names0 : List (List ℕ)) (spare
     ready_next = subst (λ ns. AreReady (cell_at bytes) (planned (cell_at bytes) node.offset) ns spare) f.names mid.grow.ready
 
     module _ (new : List ℕ) (made : ℕ) (left : List ℕ)
-        (grows : Grows (cell_at bytes) (cell_at new) g.root g.path g.keys g.first made left name moment) (ready : AreReady (cell_at bytes) (Some 16)
+        (grows : Grows (cell_at bytes) (cell_at new) g.root g.path g.keys g.first made left name moment) (ready : AreReady (cell_at bytes) (Some FIRST_LIST_SIZE)
         (path_of behind) left) where
       abbrev k : Heap
       k = cell_at new
@@ -169,7 +170,7 @@ module _ (bytes0 : List ℕ) (from : TreeNode) (names0 : List (List ℕ)) (spare
         missing = λ n others e. grows.childless (folded n);
         deep = deep_then;
         few = λ r e. (let z = grows.none r e in omega (arith, z));
-        ready = subst (λ o. AreReady k o (path_of behind) left) (sym grows.unlisted) (ready-kept (cell_at bytes) k (Some 16) (path_of behind) left grows.spare ready);
+        ready = subst (λ o. AreReady k o (path_of behind) left) (sym grows.unlisted) (ready-kept (cell_at bytes) k (Some FIRST_LIST_SIZE) (path_of behind) left grows.spare ready);
       }
 
       keeps_then : (q : Path) (o : ℕ) → place_at (cell_at bytes) g.root q ≡ Some o → place_at k g.root q ≡ Some o

@@ -9,6 +9,7 @@ use Rattle.reg_heap.specs.Paths.{Path, path_cmp}
 use Rattle.reg_heap.specs.Heaps.{Heap, Swaps}
 use Rattle.reg_heap.specs.Kinds.{times}
 use Rattle.reg_heap.specs.Edits.{child_path, with_key, with_keys}
+use Rattle.reg_index.specs.declared.plan.TheConstants.{FIRST_LIST_SIZE}
 use Rattle.reg_shape.specs.Internal.Forests.{Branch, total_of}
 use Rattle.reg_arena.specs.Cells.{cell_at}
 use Rattle.reg_records.specs.KeyNodes.{KeyRecord, key_at}
@@ -52,7 +53,7 @@ pub record Grows (old new : Heap) (root : ℕ) (path : Path) (keys : Branch Node
   pub places : (q : Path) → place_at new root q ≡ cond (eq_by_cmp path_cmp q (child_path path name)) (Some made) (place_at old root q)
   pub spare : (z : ℕ) → 0 < times z left → new z ≡ old z
   pub childless : (x : List ℕ) → subkey_named new x made ≡ None
-  pub unlisted : planned new made ≡ Some 16
+  pub unlisted : planned new made ≡ Some FIRST_LIST_SIZE
   pub none : (k : KeyRecord) → key_at new made ≡ Some k → k.fields.subkeys ≡ 0
 
 -- the spare cells begin with those of one key: its parent's list's, where one is planned, and its key node's; what holds of those
@@ -69,7 +70,7 @@ pub record IsNext (heap : Heap) (plan : Option ℕ) (name spare : List ℕ) (Res
 -- the spare cells are those that keys of these names take, one below the other; each but the first begins a list
 abbrev pub AreReady : Heap → Option ℕ → List (List ℕ) → List ℕ → Type 0
 AreReady heap plan [] spare = spare ≡ []
-AreReady heap plan (name ∷ names) spare = IsNext heap plan name spare (AreReady heap (Some 16) names)
+AreReady heap plan (name ∷ names) spare = IsNext heap plan name spare (AreReady heap (Some FIRST_LIST_SIZE) names)
 
 -- the sizes of these cells, in order; a key node of a name takes a cell of that size
 abbrev pub planned_sizes : Option ℕ → List ℕ
@@ -81,7 +82,7 @@ key_size name = (87 + length name) / 8 * 8
 
 abbrev pub sizes_of : Option ℕ → List (List ℕ) → List ℕ
 sizes_of plan [] = []
-sizes_of plan (name ∷ names) = planned_sizes plan ++ key_size name ∷ sizes_of (Some 16) names
+sizes_of plan (name ∷ names) = planned_sizes plan ++ key_size name ∷ sizes_of (Some FIRST_LIST_SIZE) names
 
 -- keys of these names may be made one below the other, from a node on, in the spare cells
 pub record MayGrowAll (bytes : List ℕ) (from : TreeNode) (names : List (List ℕ)) (spare : List ℕ) : Type 0 where

@@ -4,6 +4,7 @@ use Rattle.reg_records.specs.RecordCells.{HasRoom}
 use Rattle.reg_tree.specs.Internal.SpareCells.{Grows, AreReady}
 use Rattle.std.specs.Prelude.{Some}
 use Rattle.reg_heap.specs.declared.limits.TheConstants.{NONE}
+use Rattle.reg_index.specs.declared.plan.TheConstants.{FIRST_LIST_SIZE}
 use Rattle.reg_tree.proofs.InsertKey.SpareCellTaken.{growing_there, growing_subkeys, planned_is, alone, beside, respelt, may_grow}
 use Rattle.reg_tree.proofs.make.make_in.Goals as goal
 
@@ -64,7 +65,7 @@ pub returns-in-Some-clause-ready : goal.returns-in-Some-clause-ready
 returns-in-Some-clause-ready c = λ names r.
     let p = planned_is _ _ _ c.requires.grow.growing _ _ c.subkeys_list-list.ensures ∙ (sym c.plan_insert.ensures ∙ c.in-Some.is) in
     let b = beside _ _ r.list_cell r.key r.left c.args.spare.now p r.spare_is in
-    subst (λ s. AreReady (cell_at c.args.arena.now.bytes) (Some 16) names s) (sym b.left_is) r.rest
+    subst (λ s. AreReady (cell_at c.args.arena.now.bytes) (Some FIRST_LIST_SIZE) names s) (sym b.left_is) r.rest
 
 pub bounds-spare-1 : goal.bounds-spare-1
 bounds-spare-1 c =
