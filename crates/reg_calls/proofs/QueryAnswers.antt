@@ -18,7 +18,7 @@ use Rattle.reg_model.specs.declared.answer.AnswerBody.TheVariants.{Refused}
 use Rattle.reg_model.specs.declared.call.Query.{Query}
 use Rattle.reg_model.specs.declared.call.Query.TheVariants.{QueryValue, EnumKey, EnumValue, QueryInfo}
 use Rattle.reg_tree.specs.declared.value.ValueFound.{ValueFound}
-use Rattle.reg_tree.specs.Internal.KeyNodeChanges.{IsFound}
+use Rattle.reg_tree.specs.ValueAnswers.{IsFound}
 use Rattle.reg_calls.specs.declared.store.Store.{Store}
 use Rattle.reg_calls.specs.Internal.Stores.{at, IsTarget}
 use Rattle.reg_calls.specs.Views.{IsRead, IsTold, is_told}
