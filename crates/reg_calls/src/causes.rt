@@ -1,5 +1,5 @@
 //! Why a change would be refused: the first cause in the order of the rules.
-ghost use Rattle.std.specs.Prelude.{ℕ, ◌≡◌, ◌<◌, ◌≤◌, ◌+◌, ◌++◌, true, Some, None, length, not, is_some};
+ghost use Rattle.std.specs.Prelude.{ℕ, ◌≡◌, ◌<◌, ◌≤◌, ◌+◌, ◌++◌, true, false, Some, None, length, not, is_some, IfOk, IfErr, OnOk};
 ghost use Rattle.std.specs.FinMap.{get};
 ghost use Rattle.reg_names.specs.Names.{is_path, path_of};
 ghost use Rattle.reg_heap.specs.Paths.{Path};
@@ -9,9 +9,9 @@ ghost use Rattle.reg_model.specs.declared.limits.TheConstants.{SESSIONS_LIMIT};
 ghost use Rattle.reg_model.specs.Causes.{change_cause, is_full as is_full_of, no_handle_room, no_value_room, is_bad_value as is_bad_value_of};
 ghost use Rattle.reg_model.specs.Causes.{is_bad_open as is_bad_open_of, is_bad_target as is_bad_target_of};
 ghost use Rattle.reg_tree.specs.TreeKeys.{IsAt, IsThere};
-ghost use Rattle.reg_calls.specs.Internal.Stores.{at, IsReady};
+ghost use Rattle.reg_calls.specs.Internal.Stores.{at, IsReady, IsOpened};
 
-use crate::store::Store;
+use crate::store::{KeyHandle, Store};
 use reg_heap::limits::{DATA_LIMIT, VALUES_LIMIT};
 use reg_heap::marks::NO_DELETE;
 use reg_model::limits::{HANDLES_LIMIT, JOURNAL_LIMIT};
@@ -101,6 +101,37 @@ impl Store {
         None
     }
 
+    /// What is asked first by the two calls that open a handle by another: that handle's key, or why both are refused, for the
+    /// handle, the path or the mask, or for want of room for one more handle.
+    fn key_to_open_at(
+        &self,
+        entries: usize,
+        session: u8,
+        handle: u64,
+        path: &[u8],
+        mask: u32,
+    ) -> Result<KeyHandle, u32>
+        requires session { session < SESSIONS_LIMIT }
+        requires ready { IsReady entries self.now }
+        ensures open { IfErr result (λ status. change_cause (at entries self.now) session (OpenKey handle path.now mask) 0 ≡ Some status) }
+        ensures create { IfErr result (λ status. change_cause (at entries self.now) session (CreateKey handle path.now mask) 0 ≡ Some status) }
+        ensures key { IfOk result (λ key. IsOpened self.now session handle key) }
+        ensures good { OnOk result (is_bad_open_of path.now mask ≡ false) }
+        ensures room { OnOk result (no_handle_room session (at entries self.now) ≡ false) }
+    {
+        let key = match self.key_of(session, handle) {
+            Ok(key) => key,
+            Err(status) => return Err(status),
+        };
+        if is_bad_open(path, mask) {
+            return Err(INVALID_PARAMETER);
+        }
+        if self.has_no_handle_room(entries, session) {
+            return Err(NO_SYSTEM_RESOURCES);
+        }
+        Ok(key)
+    }
+
     fn open_key_cause(
         &self,
         entries: usize,
@@ -113,16 +144,10 @@ impl Store {
         requires ready { IsReady entries self.now }
         ensures { result ≡ change_cause (at entries self.now) session (OpenKey handle path.now mask) 0 }
     {
-        let key = match self.key_of(session, handle) {
+        let key = match self.key_to_open_at(entries, session, handle, path, mask) {
             Ok(key) => key,
             Err(status) => return Some(status),
         };
-        if is_bad_open(path, mask) {
-            return Some(INVALID_PARAMETER);
-        }
-        if self.has_no_handle_room(entries, session) {
-            return Some(NO_SYSTEM_RESOURCES);
-        }
         match self.tree.resolve(key.node, path) {
             Some(_) => None,
             None => Some(FILE_NOT_FOUND),
@@ -141,16 +166,10 @@ impl Store {
         requires ready { IsReady entries self.now }
         ensures { result ≡ change_cause (at entries self.now) session (CreateKey handle path.now mask) 0 }
     {
-        let key = match self.key_of(session, handle) {
+        let key = match self.key_to_open_at(entries, session, handle, path, mask) {
             Ok(key) => key,
             Err(status) => return Some(status),
         };
-        if is_bad_open(path, mask) {
-            return Some(INVALID_PARAMETER);
-        }
-        if self.has_no_handle_room(entries, session) {
-            return Some(NO_SYSTEM_RESOURCES);
-        }
         if self.tree.is_limited(key.node, path) {
             return Some(NO_SYSTEM_RESOURCES);
         }
