@@ -112,8 +112,7 @@ fn put_pieces(arena: &mut Arena, segments: &[u32], bytes: &[u8])
 
 /// Writes data into new cells: a big data record's, its list's, and the segments'.
 pub(crate) fn put_big(arena: &mut Arena, head: u32, list: u32, segments: &[u32], bytes: &[u8])
-    requires big { SEGMENT_SIZE < length bytes.now }
-    requires small { length bytes.now ≤ DATA_LIMIT }
+    requires size { (SEGMENT_SIZE < length bytes.now) × (length bytes.now ≤ DATA_LIMIT) }
     requires count { length segments.now ≡ segments_for_of (length bytes.now) }
     requires once { (offset : ℕ) → times offset (head ∷ list ∷ segments.now) ≤ 1 }
     requires head { HasRoom (cell_at arena.old.bytes) head 8 }
