@@ -13,10 +13,12 @@ use reg_model::limits::SESSIONS_LIMIT;
 use std::alloc::{AllocError, Global};
 use std::marker::Model;
 
-/// A handle that was found: its rights, and the folded path of its key as text, or `None` where that key was deleted.
+/// A handle that was found.
 #[derive(Clone, Copy)]
 pub struct Found<'a> {
+    /// Its rights.
     pub mask: u32,
+    /// The folded path of its key as text, or `None` where that key was deleted.
     pub path: Option<&'a [u8]>,
 }
 

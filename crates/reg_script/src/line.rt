@@ -30,6 +30,7 @@ pub enum Setting {
 /// The number of a session.
 #[derive(Clone, Copy)]
 pub struct Session {
+    /// Below 64.
     pub number: u8,
     ghost in_range: { number < SESSIONS_LIMIT },
 }

@@ -12,10 +12,11 @@ use reg_model::Bytes;
 use reg_model::limits::SESSIONS_LIMIT;
 use std::alloc::{AllocError, AllocFailed, Global};
 
-/// Why a line isn't understood.
+/// Why a line isn't understood. The functions here answer `Form` for a word that is none of theirs, and `Memory` only where
+/// they keep bytes.
 #[derive(Drop)]
 pub enum ParseFault {
-    /// It has another form.
+    /// A word isn't one that may stand there, or there are too few words or too many.
     Form,
     /// There is no memory for its bytes.
     Memory,
@@ -78,7 +79,7 @@ fn call_verb(word: &[u8]) -> Result<Verb, ParseFault>
     Err(ParseFault::Form)
 }
 
-/// The first word of a setting or a call.
+/// What a line is, by its first word: a setting or a call.
 #[tactic(auto, unfolding(crate::specs::LineMeanings::verb_of))]
 pub fn verb(word: &[u8]) -> Result<Verb, ParseFault>
     ensures { result ≡ ok_or (verb_of word.now) ParseFault.Form }
@@ -95,7 +96,7 @@ pub fn verb(word: &[u8]) -> Result<Verb, ParseFault>
     call_verb(word)
 }
 
-/// Decimal digits, leading zeros allowed, of a number up to a limit.
+/// The number that decimal digits spell, leading zeros allowed, if it is at most `limit`.
 pub fn number(word: &[u8], limit: u64) -> Result<u64, ParseFault>
     ensures value { result ≡ ok_or (number_of limit word.now) ParseFault.Form }
     ensures within { IfOk result (λ n. n ≤ limit) }
@@ -123,7 +124,7 @@ pub fn number(word: &[u8], limit: u64) -> Result<u64, ParseFault>
     Ok(number)
 }
 
-/// A number of 32 bits.
+/// A number of at most 32 bits.
 pub fn small_number(word: &[u8]) -> Result<u32, ParseFault>
     ensures { result ≡ ok_or (small_number_of word.now) ParseFault.Form }
 {
