@@ -12,42 +12,42 @@ use Rattle.reg_model.specs.Worlds.{Handle, At, look, path_at, path_from}
 use Rattle.reg_model.specs.Causes.{by_handle}
 use Rattle.reg_model.proofs.HandleInvariant.{Has, target-there}
 use Rattle.reg_handles.specs.HandleTables.{IsFoldedPath}
-use Rattle.reg_handles.specs.FoundHandles.{place_shown}
+use Rattle.reg_handles.specs.FoundHandles.{destination_shown}
 use Rattle.reg_handles.specs.declared.handles.Found.{Found}
 use Rattle.reg_calls.specs.declared.store.Store.{Store}
 use Rattle.reg_calls.specs.Internal.Stores.{IsTarget, AreStanding}
 
 abbrev handle_of : ℕ → ℕ → Found → Handle
-handle_of session number f = record { number = number; session = session; mask = f.mask; place = place_shown f.path }
+handle_of session number f = record { number = number; session = session; mask = f.mask; destination = destination_shown f.path }
 
 -- a handle with a path leads to the key at it
 abbrev pub lent : (store : Store) (session number : ℕ) (f : Found) (text : Bor (List ℕ)) →
     Some (handle_of session number f) ≡ look session number store.handles.handles → f.path ≡ Some text → IsTarget store session number
-lent store session number f text e is = record { handle = handle_of session number f; path = path_of text.now; found = sym e; place = ap place_shown is }
+lent store session number f text e is = record { handle = handle_of session number f; path = path_of text.now; found = sym e; destination = ap destination_shown is }
 
 pub lent-path : (f : Found) (text : Bor (List ℕ)) → IfSome f.path (λ path. IsFoldedPath path.now) → f.path ≡ Some text → IsFoldedPath text.now
 lent-path f text l is = subst (λ (o : Option (Bor (List ℕ))). IfSome o (λ path. IsFoldedPath path.now)) is l
 
 -- the key of a target is there
 pub target-has : (store : Store) (session number : ℕ) (t : IsTarget store session number) → AreStanding store → Has store.tree.tree t.path
-target-has store session number t s = target-there store.tree.tree session number store.handles.handles t.handle t.path t.found t.place s
+target-has store session number t s = target-there store.tree.tree session number store.handles.handles t.handle t.path t.found t.destination s
 
 pub not_gone : (t : Tree) (p q : Path) → p ≡ q → Has t p → get t q ≡ None → ⊥
 not_gone t p q e h none = absurd (true≢false (sym (subst (Has t) e h) ∙ ap is_some none))
 
 -- the path that a handle's number leads to
 pub target-at : (store : Store) (session number : ℕ) (t : IsTarget store session number) → path_at session number store.handles.handles ≡ t.path
-target-at store session number t = rw (t.found, t.place) refl
+target-at store session number t = rw (t.found, t.destination) refl
 
 pub target-from : (store : Store) (session number : ℕ) (t : IsTarget store session number) (text : List ℕ) → path_from session number store.handles.handles text ≡ t.path ++ folded_path text
 target-from store session number t text = ap (λ (p : Path). p ++ folded_path text) (target-at store session number t)
 
 -- what its handle's causes are is what they are of the handle that it is
 pub by_handle-at : (store : Store) (session number : ℕ) (t : IsTarget store session number) (f : Handle → Option ℕ) → by_handle f (look session number store.handles.handles) ≡ f t.handle
-by_handle-at store session number t f = ap (by_handle f) t.found ∙ by_place t.handle t.place
+by_handle-at store session number t f = ap (by_handle f) t.found ∙ by_destination t.handle t.destination
   where
-    by_place : (h : Handle) → h.place ≡ At t.path → by_handle f (Some h) ≡ f h
-    by_place h e = rw e refl
+    by_destination : (h : Handle) → h.destination ≡ At t.path → by_handle f (Some h) ≡ f h
+    by_destination h e = rw e refl
 
 pub if_ok : {A E : Type 0} (P Q : A → Type 0) → ((a : A) → P a → Q a) → (r : Result A E) → IfOk r P → IfOk r Q
 if_ok P Q f (Ok a) p = f a p

@@ -22,22 +22,22 @@ use Rattle.reg_model.proofs.AcceptedCalls.{both_false, root-met, open-met, creat
 use Rattle.reg_calls.specs.declared.store.Store.{Store}
 use Rattle.reg_calls.specs.Internal.Stores.{at, world_of, IsReady, IsDone}
 use Rattle.reg_calls.specs.Shortages.{is_closing}
-use Rattle.reg_calls.specs.Views.{IsKept, View, state}
+use Rattle.reg_calls.specs.Views.{HiveInvariant, View, state}
 
 -- ---- what is kept
 
-pub world-kept : {origin : Tree} {es : List Entry} {store : Store} {room : ℕ} → IsKept origin es store room → world_of store ≡ replay origin es
+pub world-kept : {origin : Tree} {es : List Entry} {store : Store} {room : ℕ} → HiveInvariant origin es store room → world_of store ≡ replay origin es
 world-kept kept = λ i. record { tree = kept.tree_is i; handles = kept.handles_are i }
 
-pub state-kept : {origin : Tree} {es : List Entry} {store : Store} {room : ℕ} → IsKept origin es store room → state_of origin es ≡ at (length es) store
+pub state-kept : {origin : Tree} {es : List Entry} {store : Store} {room : ℕ} → HiveInvariant origin es store room → state_of origin es ≡ at (length es) store
 state-kept {es = es} kept = λ i. record { count = length es; world = sym (world-kept kept) i }
 
 -- the same at a hive's view
-pub state-view : {origin : Tree} {es : List Entry} {store : Store} {room : ℕ} (v : View) → IsKept origin es store room →
+pub state-view : {origin : Tree} {es : List Entry} {store : Store} {room : ℕ} (v : View) → HiveInvariant origin es store room →
     record { origin = origin; journal = es; keys = store.tree; handles = store.handles.handles } ≡ v → state v ≡ at (length es) store
 state-view v kept e = ap state (sym e) ∙ state-kept kept
 
-pub ready-kept : {origin : Tree} {es : List Entry} {store : Store} {room : ℕ} → IsKept origin es store room → IsReady (length es) store
+pub ready-kept : {origin : Tree} {es : List Entry} {store : Store} {room : ℕ} → HiveInvariant origin es store room → IsReady (length es) store
 ready-kept {origin = origin} {es = es} {store = store} kept = record {
   stand = subst (λ (w : World). IsStanding w.tree w.handles) (sym (world-kept kept)) (is_standing origin es kept.legal kept.rooted);
   below = subst (All (λ (h : Handle). h.number < length es)) (sym kept.handles_are) (handles-below origin es kept.legal);
@@ -118,7 +118,7 @@ entry_with es session moment change told = record { number = length es; session 
 abbrev pub HasRoom : ℕ → Store → Change → Type 0
 HasRoom room store change = (is_closing change ≡ false → length store.handles.handles + 2 ≤ room) × (is_closing change ≡ true → length store.handles.handles ≤ room)
 
-module _ {origin : Tree} {es : List Entry} {store : Store} {room : ℕ} (kept : IsKept origin es store room) (session moment : ℕ) (change : Change)
+module _ {origin : Tree} {es : List Entry} {store : Store} {room : ℕ} (kept : HiveInvariant origin es store room) (session moment : ℕ) (change : Change)
     (none : change_cause (at (length es) store) session change 0 ≡ None)
     (new : Store) (told : ChangeReply) (done : IsDone store new session moment (length es) change told) where
   abbrev e : Entry
@@ -154,7 +154,7 @@ module _ {origin : Tree} {es : List Entry} {store : Store} {room : ℕ} (kept : 
   append-room room' h =
       by_closing (0 < room') (λ c. let f = fits-done in let l = f.closing c in let r = h.1 c in omega (arith, l, r)) (λ c. let r = h.0 c in omega (arith, r))
 
-  pub kept-done : (room' room'' : ℕ) → HasRoom room' store change → room' ≤ room'' + 1 → IsKept origin (es ++ e ∷ []) new room''
+  pub kept-done : (room' room'' : ℕ) → HasRoom room' store change → room' ≤ room'' + 1 → HiveInvariant origin (es ++ e ∷ []) new room''
   kept-done room' room'' h used =
       let f = fits-done in
       let l = length-append es (e ∷ []) in

@@ -55,7 +55,9 @@ module _ (n : ℕ) (store : Store) (session h : ℕ) where
       (no_handle_room session s) NO_SYSTEM_RESOURCES or asked 0 or refuse (not (is_some (get store.tree.tree (g.path ++ folded_path path)))) FILE_NOT_FOUND)
   unfolding early_cause late_cause
   open-causes path mask g =
-      ap (λ (a : Option ℕ). a or asked 0 or refuse (lacks_key s session h path) FILE_NOT_FOUND) (by_handle-at store session h g (λ x. refuse (is_bad_open path mask) INVALID_PARAMETER or refuse (no_handle_room session s) NO_SYSTEM_RESOURCES))
+      ap (λ (a : Option ℕ). a or asked 0 or refuse (lacks_key s session h path) FILE_NOT_FOUND)
+      (by_handle-at store session h g (λ x. refuse (is_bad_open path mask) INVALID_PARAMETER or refuse
+      (no_handle_room session s) NO_SYSTEM_RESOURCES))
       ∙ ap (λ (q : Path). refuse (is_bad_open path mask) INVALID_PARAMETER or refuse (no_handle_room session s) NO_SYSTEM_RESOURCES or asked 0 or refuse
       (not (is_some (get store.tree.tree q))) 2) (target-from store session h g path)
 
@@ -63,15 +65,19 @@ module _ (n : ℕ) (store : Store) (session h : ℕ) where
 
   pub create-refused : (path : List ℕ) (mask status : ℕ) → Refuses store session h status → change_cause s session (CreateKey h path mask) 0 ≡ Some status
   unfolding early_cause late_cause
-  create-refused path mask status r = first _ _ _ status (r (λ x. refuse (is_bad_open path mask) INVALID_PARAMETER or refuse (no_handle_room session s || no_key_room s session h path) NO_SYSTEM_RESOURCES))
+  create-refused path mask status r =
+      first _ _ _ status (r (λ x. refuse (is_bad_open path mask) INVALID_PARAMETER or refuse
+      (no_handle_room session s || no_key_room s session h path) NO_SYSTEM_RESOURCES))
 
   pub create-causes : (path : List ℕ) (mask : ℕ) (g : t) →
       change_cause s session (CreateKey h path mask) 0 ≡ (refuse (is_bad_open path mask) INVALID_PARAMETER or refuse
       (no_handle_room session s || are_too_many store.tree.tree g.path (path_of path)) NO_SYSTEM_RESOURCES or asked 0 or None)
   unfolding early_cause late_cause
   create-causes path mask g =
-      ap (λ (a : Option ℕ). a or asked 0 or None) (by_handle-at store session h g (λ x. refuse (is_bad_open path mask) INVALID_PARAMETER or refuse (no_handle_room session s || no_key_room s session h path) NO_SYSTEM_RESOURCES))
-      ∙ ap (λ (q : Path). refuse (is_bad_open path mask) INVALID_PARAMETER or refuse (no_handle_room session s || are_too_many store.tree.tree q (path_of path)) NO_SYSTEM_RESOURCES or asked 0 or None) (target-at store session h g)
+      ap (λ (a : Option ℕ). a or asked 0 or None) (by_handle-at store session h g (λ x. refuse (is_bad_open path mask) INVALID_PARAMETER or refuse
+      (no_handle_room session s || no_key_room s session h path) NO_SYSTEM_RESOURCES))
+      ∙ ap (λ (q : Path). refuse (is_bad_open path mask) INVALID_PARAMETER or refuse (no_handle_room session s || are_too_many store.tree.tree q
+      (path_of path)) NO_SYSTEM_RESOURCES or asked 0 or None) (target-at store session h g)
 
   -- ---- SetValue
 
@@ -98,7 +104,9 @@ module _ (n : ℕ) (store : Store) (session h : ℕ) where
 
   pub drop-refused : (name : List ℕ) (status : ℕ) → Refuses store session h status → change_cause s session (DeleteValue h name) 0 ≡ Some status
   unfolding early_cause late_cause
-  drop-refused name status r = first _ _ _ status (r (λ x. refuse (not (is_value_name name)) INVALID_PARAMETER or refuse (not (has SET_VALUE x.mask)) ACCESS_DENIED or refuse (is_full 1 s) NO_SYSTEM_RESOURCES))
+  drop-refused name status r =
+      first _ _ _ status (r (λ x. refuse (not (is_value_name name)) INVALID_PARAMETER or refuse (not (has SET_VALUE x.mask)) ACCESS_DENIED or refuse
+      (is_full 1 s) NO_SYSTEM_RESOURCES))
 
   pub drop-causes : (name : List ℕ) (mask : ℕ) (g : t) → mask ≡ g.handle.mask →
       change_cause s session (DeleteValue h name) 0 ≡ (refuse (not (is_value_name name)) INVALID_PARAMETER or refuse (not (has SET_VALUE mask)) ACCESS_DENIED or refuse

@@ -45,13 +45,13 @@ module _ (n : ℕ) (store : Store) (session : ℕ) (ready : IsReady n store) whe
   tree = store.tree.tree
 
   abbrev targeted : (h : ℕ) → Target (look session h hs) → IsTarget store session h
-  targeted h t = record { handle = t.handle; path = t.path; found = t.found; place = t.place }
+  targeted h t = record { handle = t.handle; path = t.path; found = t.found; destination = t.destination }
 
   pub room-few : no_handle_room session s ≡ false → handles_of session hs < HANDLES_LIMIT
   room-few e = let b = both_false (nat_le HANDLES_LIMIT (handles_of session hs)) (is_full 2 s) e in grind (arith, nat_tests, b.0)
 
   abbrev added : Table → ℕ → List ℕ → Type 0
-  added table mask text = table.handles ≡ hs ++ record { number = n; session = session; mask = mask; place = At (path_of text) } ∷ []
+  added table mask text = table.handles ≡ hs ++ record { number = n; session = session; mask = mask; destination = At (path_of text) } ∷ []
 
   abbrev pub opening : Option ℕ → ChangeReply
   opening disposition = record { status = 0; number = Some n; handle = Some n; disposition = disposition }
@@ -68,7 +68,7 @@ module _ (n : ℕ) (store : Store) (session : ℕ) (ready : IsReady n store) whe
       told ≡ opening None → IsDone store (record { tree = store.tree; handles = table }) session moment n (OpenRoot mask) told
   unfolding after reply_to
   root-done moment mask table text empty add told e =
-      let handles = add ∙ ap (λ (t : List ℕ). hs ++ record { number = n; session = session; mask = mask; place = At (path_of t) } ∷ []) empty in
+      let handles = add ∙ ap (λ (t : List ℕ). hs ++ record { number = n; session = session; mask = mask; destination = At (path_of t) } ∷ []) empty in
       record { world = λ i. record { tree = tree; handles = handles i }; reply = e }
 
   -- ---- OpenKey
@@ -94,7 +94,7 @@ module _ (n : ℕ) (store : Store) (session : ℕ) (ready : IsReady n store) whe
         (OpenKey h path mask) told
     unfolding after reply_to
     open-done moment table text names add told e =
-        let handles = add ∙ ap (λ (p : Path). hs ++ record { number = n; session = session; mask = mask; place = At p } ∷ []) names in
+        let handles = add ∙ ap (λ (p : Path). hs ++ record { number = n; session = session; mask = mask; destination = At p } ∷ []) names in
         record { world = λ i. record { tree = tree; handles = handles i }; reply = e }
 
   -- ---- CreateKey
@@ -127,7 +127,7 @@ module _ (n : ℕ) (store : Store) (session : ℕ) (ready : IsReady n store) whe
           IsDone store (record { tree = keys; handles = table }) session moment n (CreateKey h path mask) told
       unfolding after reply_to
       create-done moment keys table text names made add told e =
-          let handles = add ∙ ap (λ (p : Path). hs ++ record { number = n; session = session; mask = mask; place = At p } ∷ []) names in
+          let handles = add ∙ ap (λ (p : Path). hs ++ record { number = n; session = session; mask = mask; destination = At p } ∷ []) names in
           let grown = made ∙ ap (λ (p : Path). with_keys tree p (path_of path) moment) (sym (target-at store session h t)) in
           let reply = e ∙ ap (λ (p : Path). opening (Some (disposition_of (missing tree p (path_of path))))) (sym (target-at store session h t)) in
           record { world = λ i. record { tree = grown i; handles = handles i }; reply = reply }

@@ -41,7 +41,7 @@ state v = state_of v.origin v.journal
 
 -- the journal is legal and the origin has its root; the tree and the handles are those of the replay; and room is kept for the
 -- closing of each open handle
-pub record IsKept (origin : Tree) (journal : List Entry) (store : Store) (room : ℕ) : Type 0 where
+pub record HiveInvariant (origin : Tree) (journal : List Entry) (store : Store) (room : ℕ) : Type 0 where
   pub legal : IsLegal origin journal
   pub rooted : IsSome (get origin [])
   pub tree_is : store.tree.tree ≡ (replay origin journal).tree

@@ -96,10 +96,10 @@ impl Hive {
     }
 
     /// The journal's entry of that number, counted from 0; `None` where there are not so many.
-    pub fn entry(&self, place: usize) -> Option<&Entry>
-        ensures { option_copied result ≡ slice_get (view_of self.now).journal place }
+    pub fn entry(&self, number: usize) -> Option<&Entry>
+        ensures { option_copied result ≡ slice_get (view_of self.now).journal number }
     {
-        self.core.entry(place)
+        self.core.entry(number)
     }
 
     /// The hive's bytes: its bins with all their cells, to be read byte by byte.

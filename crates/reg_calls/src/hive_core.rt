@@ -29,7 +29,7 @@ pub struct Core {
 }
 
 impl Model for Core {
-    ghost use Rattle.reg_calls.specs.Views.{View, IsKept, coded_view};
+    ghost use Rattle.reg_calls.specs.Views.{View, HiveInvariant, coded_view};
 
     ghost Value = { View };
 
@@ -37,7 +37,7 @@ impl Model for Core {
 
     ghost view = { λ h. record { origin = h.origin.value.tree; journal = h.journal.entries; keys = h.store.tree; handles = h.store.handles.handles } };
 
-    ghost invariant = { λ h. IsKept h.origin.value.tree h.journal.entries h.store h.journal.room };
+    ghost invariant = { λ h. HiveInvariant h.origin.value.tree h.journal.entries h.store h.journal.room };
 }
 
 fn refuse(status: u32) -> ChangeReply
@@ -120,10 +120,10 @@ impl Core {
     }
 
     /// The journal's entry of that number, if there are so many.
-    pub fn entry(&self, place: usize) -> Option<&Entry>
-        ensures { option_copied result ≡ slice_get self.now.journal place }
+    pub fn entry(&self, number: usize) -> Option<&Entry>
+        ensures { option_copied result ≡ slice_get self.now.journal number }
     {
-        self.journal.entry(place)
+        self.journal.entry(number)
     }
 
     /// The bins with their cells: whole, and spelling the tree of the journal's replay.

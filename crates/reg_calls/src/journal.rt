@@ -37,10 +37,10 @@ impl Journal {
     }
 
     /// The entry of that number, counted from 0; `None` where there are not so many.
-    pub fn entry(&self, place: usize) -> Option<&Entry>
-        ensures { option_copied result ≡ slice_get self.now.entries place }
+    pub fn entry(&self, number: usize) -> Option<&Entry>
+        ensures { option_copied result ≡ slice_get self.now.entries number }
     {
-        self.entries.get(place)
+        self.entries.get(number)
     }
 
     /// Keeps room for so many more entries. Its one fault is that memory was refused; then the entries are as before.

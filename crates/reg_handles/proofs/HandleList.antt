@@ -17,7 +17,7 @@ use Rattle.reg_model.specs.declared.limits.TheConstants.{SESSIONS_LIMIT}
 use Rattle.slab.specs.Slab.{Slab, get}
 use Rattle.reg_model.specs.Worlds.{Handle, numbered, closed}
 use Rattle.reg_model.specs.Causes.{handles_of as count_of}
-use Rattle.reg_handles.specs.Internal.OpenKeySlab.{place_of}
+use Rattle.reg_handles.specs.Internal.OpenKeySlab.{destination_of}
 use Rattle.reg_handles.specs.Internal.HandleRows.{handle_of, handles_of, times, AreCounts}
 use Rattle.reg_handles.specs.declared.keys.OpenKey.{OpenKey}
 use Rattle.reg_handles.specs.declared.rows.Row.{Row}
@@ -89,10 +89,10 @@ pub some_more : (t : ℕ) (e : ℕ × Row) (es : List (ℕ × Row)) → 0 < time
 some_more t e es some = let more : times t es ≤ times t (e ∷ es) = times_more t e es in omega (arith, more, some)
 
 -- the handles stay where the destination of each row's key does
-pub handles_same : (s s' : Slab OpenKey) (es : List (ℕ × Row)) → ((t : ℕ) → 0 < times t es → place_of (get s' t) ≡ place_of (get s t)) → handles_of s' es ≡ handles_of s es
+pub handles_same : (s s' : Slab OpenKey) (es : List (ℕ × Row)) → ((t : ℕ) → 0 < times t es → destination_of (get s' t) ≡ destination_of (get s t)) → handles_of s' es ≡ handles_of s es
 handles_same s s' [] same = refl
 handles_same s s' (e ∷ es) same =
-    ap (λ p. record { number = e.0; session = e.1.session; mask = e.1.mask; place = p } ∷ handles_of s' es) (same e.1.key (times_here e es))
+    ap (λ p. record { number = e.0; session = e.1.session; mask = e.1.mask; destination = p } ∷ handles_of s' es) (same e.1.key (times_here e es))
     ∙ ap (λ l. handle_of s e ∷ l) (handles_same s s' es (λ t some. same t (some_more t e es some)))
 
 -- ---- sums over the rows
@@ -141,7 +141,8 @@ count_push : (session : ℕ) (hs : List Handle) (h : Handle) → count_of sessio
 count_push session hs h = sum_by-append (λ (x : Handle). cond (x.session == session) 1 0) hs (h ∷ []) ∙ ap (λ n. count_of session hs + n) (zero-add (cond (h.session == session) 1 0))
 
 -- the counts after the session of a new handle was counted once more
-pub counts_push : (counts : List ℕ) (hs : List Handle) (h : Handle) → length counts ≡ SESSIONS_LIMIT → AreCounts counts hs → AreCounts (set counts h.session (get_or counts h.session 0 + 1)) (hs ++ h ∷ [])
+pub counts_push : (counts : List ℕ) (hs : List Handle) (h : Handle) → length counts ≡ SESSIONS_LIMIT → AreCounts counts hs →
+    AreCounts (set counts h.session (get_or counts h.session 0 + 1)) (hs ++ h ∷ [])
 counts_push counts hs h long are = λ session small. by session small (h.session == session) refl
   where
     by : (session : ℕ) → session < SESSIONS_LIMIT → (b : Bool) → (h.session == session) ≡ b → get_or (set counts h.session (get_or counts h.session 0 + 1)) session 0 ≡ count_of session (hs ++ h ∷ [])
@@ -157,7 +158,8 @@ pub counts_none : AreCounts (replicate SESSIONS_LIMIT 0) []
 counts_none = λ session small. get_or-replicate SESSIONS_LIMIT session 0 0 small
 
 -- the counts after the session of a row taken out was counted once less
-pub counts_taken : (counts : List ℕ) (s : Slab OpenKey) (k : ℕ) (es : List (ℕ × Row)) (row : Row) → length counts ≡ SESSIONS_LIMIT → AreCounts counts (handles_of s es) → lookup (is_at (nat_cmp k)) es ≡ Some row
+pub counts_taken : (counts : List ℕ) (s : Slab OpenKey) (k : ℕ) (es : List (ℕ × Row)) (row : Row) → length counts ≡ SESSIONS_LIMIT →
+    AreCounts counts (handles_of s es) → lookup (is_at (nat_cmp k)) es ≡ Some row
     → AreCounts (set counts row.session (get_or counts row.session 0 - 1)) (handles_of s (remove_entry (is_at (nat_cmp k)) es))
 counts_taken counts s k es row long are found = λ session small. by session small (row.session == session) refl (count_taken s session k es row found)
   where

@@ -7,33 +7,33 @@ use Rattle.std.proofs.lemmas.Bool.Decides.{nat_tests}
 use Rattle.std.proofs.lemmas.Cmp.{nat_list_eq_equiv}
 use Rattle.slab.specs.Slab.{Slab, get}
 use Rattle.reg_names.specs.Names.{path_of}
-use Rattle.reg_model.specs.Worlds.{Deleted, turned, place_without}
-use Rattle.reg_handles.specs.Internal.OpenKeySlab.{place_of, leads_to, without_key, IsOpenAt, UpdatesPath}
+use Rattle.reg_model.specs.Worlds.{Deleted, turned, destination_without}
+use Rattle.reg_handles.specs.Internal.OpenKeySlab.{destination_of, leads_to, without_key, IsOpenAt, UpdatesPath}
 use Rattle.reg_handles.specs.Internal.HandleRows.{handles_of, times, IsUsed, IsTable}
 use Rattle.reg_handles.specs.declared.keys.OpenKey.{OpenKey}
 use Rattle.reg_handles.specs.declared.rows.Row.{Row}
 use Rattle.reg_handles.proofs.PathTextKeys.{same_path-texts}
 use Rattle.reg_handles.proofs.HandleList.{count_any}
-use Rattle.reg_handles.proofs.TableEntries.{open_place, open_one}
+use Rattle.reg_handles.proofs.TableEntries.{open_destination, open_one}
 
 deleted_used : (o : Option OpenKey) (rows : ℕ) → IsUsed o rows → IsUsed (option_map without_key o) rows
 deleted_used None rows used = used
 deleted_used (Some k) rows used = used
 
-deleted_place : (o : Option OpenKey) → place_of (option_map without_key o) ≡ Deleted
-deleted_place None = refl
-deleted_place (Some k) = refl
+deleted_destination : (o : Option OpenKey) → destination_of (option_map without_key o) ≡ Deleted
+deleted_destination None = refl
+deleted_destination (Some k) = refl
 
 deleted_closed : (o : Option OpenKey) (text : List ℕ) → IsOpenAt (option_map without_key o) text → ⊥
 deleted_closed None text is = is
 deleted_closed (Some k) text is = false≢true (sym is.1)
 
 -- a destination stays that is not the path's
-other_place : (o : Option OpenKey) (p : List ℕ) → ¬ (IsOpenAt o p) → place_of o ≡ place_without (path_of p) (place_of o)
-other_place None p apart = refl
-other_place (Some k) p apart = by k.is_deleted refl (bytes_eq p k.path.items) refl
+other_destination : (o : Option OpenKey) (p : List ℕ) → ¬ (IsOpenAt o p) → destination_of o ≡ destination_without (path_of p) (destination_of o)
+other_destination None p apart = refl
+other_destination (Some k) p apart = by k.is_deleted refl (bytes_eq p k.path.items) refl
   where
-    by : (gone : Bool) → k.is_deleted ≡ gone → (same : Bool) → bytes_eq p k.path.items ≡ same → place_of (Some k) ≡ place_without (path_of p) (place_of (Some k))
+    by : (gone : Bool) → k.is_deleted ≡ gone → (same : Bool) → bytes_eq p k.path.items ≡ same → destination_of (Some k) ≡ destination_without (path_of p) (destination_of (Some k))
     by true is same e = rw is refl
     by false is true e = absurd (apart (sym ((bytes_decides p k.path.items).0 e), is))
     by false is false e = rw (is, same_path-texts k.path.items p, e) refl
@@ -57,16 +57,16 @@ module _ (s s' : Slab OpenKey) (paths paths' : List ℕ → Option ℕ) (p : Lis
       by true e = subst (P q) (sym (slots q ∙ cond-true _ _ _ e)) (here q (table.found p q (leads_is (paths p) q e)))
       by false e = subst (P q) (sym (slots q ∙ cond-false _ _ _ e)) (there q (λ is. false≢true (sym e ∙ is_leads (paths p) q (table.listed p q is))))
 
-  place : (q : ℕ) → place_of (get s' q) ≡ place_without (path_of p) (place_of (get s q))
-  place = by_key (λ q o. place_of o ≡ place_without (path_of p) (place_of (get s q)))
-      (λ q is. deleted_place (get s q) ∙ sym (ap (place_without (path_of p)) (open_place (get s q) p is) ∙
-      rw (same_path-texts p p, nat_list_eq_equiv.refl p) refl)) (λ q apart. other_place (get s q) p apart)
+  destination : (q : ℕ) → destination_of (get s' q) ≡ destination_without (path_of p) (destination_of (get s q))
+  destination = by_key (λ q o. destination_of o ≡ destination_without (path_of p) (destination_of (get s q)))
+      (λ q is. deleted_destination (get s q) ∙ sym (ap (destination_without (path_of p)) (open_destination (get s q) p is) ∙
+      rw (same_path-texts p p, nat_list_eq_equiv.refl p) refl)) (λ q apart. other_destination (get s q) p apart)
 
   at_rows : (rows : List (ℕ × Row)) → handles_of s' rows ≡ turned (path_of p) (handles_of s rows)
   at_rows [] = refl
   at_rows (e ∷ rows) =
-      ap (λ q. record { number = e.0; session = e.1.session; mask = e.1.mask; place = q } ∷ handles_of s' rows) (place e.1.key)
-      ∙ ap (λ l. record { number = e.0; session = e.1.session; mask = e.1.mask; place = place_without (path_of p) (place_of (get s e.1.key)) } ∷ l) (at_rows rows)
+      ap (λ q. record { number = e.0; session = e.1.session; mask = e.1.mask; destination = q } ∷ handles_of s' rows) (destination e.1.key)
+      ∙ ap (λ l. record { number = e.0; session = e.1.session; mask = e.1.mask; destination = destination_without (path_of p) (destination_of (get s e.1.key)) } ∷ l) (at_rows rows)
 
   pub marked_handles : handles_of s' es ≡ turned (path_of p) (handles_of s es)
   marked_handles = at_rows es

@@ -16,8 +16,8 @@ more_rows : (o : Option OpenKey) (text : List ℕ) → IsOpenAt o text → rows_
 more_rows None text is = absurd is
 more_rows (Some k) text is = refl
 
-same_place : (a b : ℕ) → Some a ≡ Some b → a ≡ b
-same_place a b e = cc
+same_destination : (a b : ℕ) → Some a ≡ Some b → a ≡ b
+same_destination a b e = cc
 
 module _ (s s' : Slab OpenKey) (before after : List ℕ → Option ℕ) (path : List ℕ) (key : ℕ) where
   pub held_found : ((text : List ℕ) (at : ℕ) → before text ≡ Some at → IsOpenAt (get s at) text) → before path ≡ Some key →
@@ -25,7 +25,7 @@ module _ (s s' : Slab OpenKey) (before after : List ℕ → Option ℕ) (path : 
       → IsHeld s s' before after path key
   held_found found here slots same = record {
     was = λ k is. found path key here;
-    alone = λ other is. same_place other key (sym is ∙ here);
+    alone = λ other is. same_destination other key (sym is ∙ here);
     stands = subst (λ o. IsOpenAt o path) (sym slots.changed) (more_stands (get s key) path (found path key here));
     rows = ap rows_of slots.changed ∙ more_rows (get s key) path (found path key here);
     others = slots.others;

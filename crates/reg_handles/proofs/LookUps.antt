@@ -7,8 +7,8 @@ use Rattle.std.specs.Map.{lookup}
 use Rattle.std.proofs.lemmas.Bool.{false≢true}
 use Rattle.std.proofs.lemmas.Bool.Decides.{nat_tests}
 use Rattle.slab.specs.Slab.{Slab, get}
-use Rattle.reg_model.specs.Worlds.{Place, look, owned}
-use Rattle.reg_handles.specs.Internal.OpenKeySlab.{place_of}
+use Rattle.reg_model.specs.Worlds.{Destination, look, owned}
+use Rattle.reg_handles.specs.Internal.OpenKeySlab.{destination_of}
 use Rattle.reg_handles.specs.Internal.HandleRows.{handle_of, handles_of}
 use Rattle.reg_handles.specs.declared.keys.OpenKey.{OpenKey}
 use Rattle.reg_handles.specs.declared.rows.Row.{Row}
@@ -18,12 +18,12 @@ module _ (s : Slab OpenKey) (session number : ℕ) (es : List (ℕ × Row)) wher
   told : (o : Option Row) → o ≡ lookup (is_at (nat_cmp number)) es → look session number (handles_of s es) ≡ owned session (option_map (λ row. handle_of s (number, row)) o)
   told o e = ap (owned session) (numbered-handles_of s number es ∙ ap (option_map (λ row. handle_of s (number, row))) (sym e))
 
-  pub look_found : (row : Row) (place : Place) → Some row ≡ lookup (is_at (nat_cmp number)) es → row.session ≡ session → place ≡ place_of (get s row.key)
-      → Some (record { number = number; session = session; mask = row.mask; place = place }) ≡ look session number (handles_of s es)
-  look_found row place found own is =
+  pub look_found : (row : Row) (destination : Destination) → Some row ≡ lookup (is_at (nat_cmp number)) es → row.session ≡ session → destination ≡ destination_of (get s row.key)
+      → Some (record { number = number; session = session; mask = row.mask; destination = destination }) ≡ look session number (handles_of s es)
+  look_found row destination found own is =
       let test : (row.session == session) ≡ true = grind (arith, nat_tests) in
-      rw (told (Some row) found, test) (ap (λ p. Some (record { number = number; session = session; mask = row.mask; place = p })) is ∙
-      ap (λ own. Some (record { number = number; session = own; mask = row.mask; place = place_of (get s row.key) })) (sym own))
+      rw (told (Some row) found, test) (ap (λ p. Some (record { number = number; session = session; mask = row.mask; destination = p })) is ∙
+      ap (λ own. Some (record { number = number; session = own; mask = row.mask; destination = destination_of (get s row.key) })) (sym own))
 
   pub look_other : (row : Row) → Some row ≡ lookup (is_at (nat_cmp number)) es → row.session ≢ session → None ≡ look session number (handles_of s es)
   look_other row found other =

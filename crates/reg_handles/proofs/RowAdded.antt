@@ -10,29 +10,29 @@ use Rattle.reg_names.specs.Names.{path_of}
 use Rattle.reg_model.specs.declared.limits.TheConstants.{SESSIONS_LIMIT}
 use Rattle.reg_model.specs.Worlds.{At}
 use Rattle.reg_handles.specs.HandleTables.{IsFoldedPath}
-use Rattle.reg_handles.specs.Internal.OpenKeySlab.{rows_of, place_of, IsOpenAt, IsHeld}
+use Rattle.reg_handles.specs.Internal.OpenKeySlab.{rows_of, destination_of, IsOpenAt, IsHeld}
 use Rattle.reg_handles.specs.Internal.HandleRows.{handle_of, handles_of, times, AreCounts, IsUsed, IsTable}
 use Rattle.reg_handles.specs.declared.keys.OpenKey.{OpenKey}
 use Rattle.reg_handles.specs.declared.rows.Row.{Row}
 use Rattle.reg_handles.proofs.HandleList.{counts_push, times_push, handles_same}
-use Rattle.reg_handles.proofs.TableEntries.{at_each, rows_is, open_place, open_one, open_some, used_some, used_open, same_key}
+use Rattle.reg_handles.proofs.TableEntries.{at_each, rows_is, open_destination, open_one, open_some, used_some, used_open, same_key}
 
 module _ (s s' : Slab OpenKey) (paths paths' : List ℕ → Option ℕ) (es : List (ℕ × Row)) (counts : List ℕ) (number : ℕ) (row : Row) (path : List ℕ)
     (table : IsTable s paths es counts) (held : IsHeld s s' paths paths' path row.key) where
   held_stays : handles_of s' es ≡ handles_of s es
   held_stays =
-      handles_same s s' es (λ t some. at_each (λ q o. 0 < times q es → place_of o ≡ place_of (get s q)) s s' row.key (get s' row.key) refl held.others
-      (λ some. let k = used_some (get s row.key) (times row.key es) (table.keys row.key) some in open_place _ path held.stands ∙ sym (open_place _ path (held.was k.0 k.1)))
+      handles_same s s' es (λ t some. at_each (λ q o. 0 < times q es → destination_of o ≡ destination_of (get s q)) s s' row.key (get s' row.key) refl held.others
+      (λ some. let k = used_some (get s row.key) (times row.key es) (table.keys row.key) some in open_destination _ path held.stands ∙ sym (open_destination _ path (held.was k.0 k.1)))
       (λ q apart some. refl) t some)
 
   push : (hs : List (ℕ × Row)) → handles_of s' (hs ++ (number, row) ∷ []) ≡ handles_of s' hs ++ handle_of s' (number, row) ∷ []
   push [] = refl
   push (h ∷ hs) = ap (λ l. handle_of s' h ∷ l) (push hs)
 
-  pub added_handles : handles_of s' (es ++ (number, row) ∷ []) ≡ handles_of s es ++ record { number = number; session = row.session; mask = row.mask; place = At (path_of path) } ∷ []
+  pub added_handles : handles_of s' (es ++ (number, row) ∷ []) ≡ handles_of s es ++ record { number = number; session = row.session; mask = row.mask; destination = At (path_of path) } ∷ []
   added_handles =
       push es ∙ ap (λ l. l ++ handle_of s' (number, row) ∷ []) held_stays
-      ∙ ap (λ p. handles_of s es ++ record { number = number; session = row.session; mask = row.mask; place = p } ∷ []) (open_place _ path held.stands)
+      ∙ ap (λ p. handles_of s es ++ record { number = number; session = row.session; mask = row.mask; destination = p } ∷ []) (open_destination _ path held.stands)
 
   one_more : times row.key (es ++ (number, row) ∷ []) ≡ times row.key es + 1
   one_more = let same : (row.key == row.key) ≡ true = grind (arith, nat_tests) in times_push row.key es (number, row) ∙ ap (λ b. times row.key es + cond b 1 0) same
@@ -82,7 +82,7 @@ module _ (s s' : Slab OpenKey) (paths paths' : List ℕ → Option ℕ) (es : Li
       subst (λ l. IsTable s' paths' l (set counts row.session (get_or counts row.session 0 + 1))) (sym are)
       (record {
         counts = subst (AreCounts (set counts row.session (get_or counts row.session 0 + 1))) (sym added_handles)
-            (counts_push counts (handles_of s es) (record { number = number; session = row.session; mask = row.mask; place = At (path_of path) }) long
+            (counts_push counts (handles_of s es) (record { number = number; session = row.session; mask = row.mask; destination = At (path_of path) }) long
             table.counts);
         keys = added_keys folded;
         found = added_found;

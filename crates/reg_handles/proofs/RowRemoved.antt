@@ -15,7 +15,7 @@ use Rattle.reg_model.specs.declared.limits.TheConstants.{SESSIONS_LIMIT}
 use Rattle.slab.specs.Slab.{Slab, get, Updates}
 use Rattle.reg_model.specs.Worlds.{closed}
 use Rattle.reg_model.specs.Causes.{handles_of as count_of}
-use Rattle.reg_handles.specs.Internal.OpenKeySlab.{rows_of, place_of, is_freed, with_one_less, IsOpenAt}
+use Rattle.reg_handles.specs.Internal.OpenKeySlab.{rows_of, destination_of, is_freed, with_one_less, IsOpenAt}
 use Rattle.reg_handles.specs.Internal.HandleRows.{handles_of, times, AreCounts, IsUsed, IsTable}
 use Rattle.reg_handles.specs.declared.keys.OpenKey.{OpenKey}
 use Rattle.reg_handles.specs.declared.rows.Row.{Row}
@@ -30,9 +30,9 @@ one_less (Some k) n m e less = by (k.rows == 1) refl
     by true is = let one : k.rows ≡ 1 = grind (arith, nat_tests) in rw is (omega (arith, one, e.0, less))
     by false is = rw is (omega (arith, e.0, less), grind (arith, nat_tests, e.0, e.1, less, is), e.2)
 
-less_place : (o : Option OpenKey) (n m : ℕ) → IsUsed o n → m + 1 ≡ n → 0 < m → place_of (with_one_less o) ≡ place_of o
-less_place None n m e less some = refl
-less_place (Some k) n m e less some = let more : (k.rows == 1) ≡ false = grind (arith, nat_tests, e.0, less, some) in rw more refl
+less_destination : (o : Option OpenKey) (n m : ℕ) → IsUsed o n → m + 1 ≡ n → 0 < m → destination_of (with_one_less o) ≡ destination_of o
+less_destination None n m e less some = refl
+less_destination (Some k) n m e less some = let more : (k.rows == 1) ≡ false = grind (arith, nat_tests, e.0, less, some) in rw more refl
 
 -- a key that stood open and whose path was not freed stands open with one row less
 open_less : (o : Option OpenKey) (text : List ℕ) → IsOpenAt o text → is_freed o text ≡ false → IsOpenAt (with_one_less o) text
@@ -62,11 +62,13 @@ freed_open (Some k) text e = by (k.rows == 1) k.is_deleted refl e
     by true true is e = absurd (false≢true e)
     by true false is e = ((bytes_decides k.path.items text).0 e, is)
 
-remove_fit : (test : ℕ → Bool) (es : List (ℕ × Row)) → AllByRecursion (λ (e : ℕ × Row). e.1.session < SESSIONS_LIMIT) es → AllByRecursion (λ (e : ℕ × Row). e.1.session < SESSIONS_LIMIT) (remove_entry test es)
+remove_fit : (test : ℕ → Bool) (es : List (ℕ × Row)) → AllByRecursion (λ (e : ℕ × Row). e.1.session < SESSIONS_LIMIT) es →
+    AllByRecursion (λ (e : ℕ × Row). e.1.session < SESSIONS_LIMIT) (remove_entry test es)
 remove_fit test [] fit = tt
 remove_fit test (e ∷ es) fit = by (test e.0) refl (remove_fit test es fit.1)
   where
-    by : (b : Bool) → test e.0 ≡ b → AllByRecursion (λ (e : ℕ × Row). e.1.session < SESSIONS_LIMIT) (remove_entry test es) → AllByRecursion (λ (e : ℕ × Row). e.1.session < SESSIONS_LIMIT) (remove_entry test (e ∷ es))
+    by : (b : Bool) → test e.0 ≡ b → AllByRecursion (λ (e : ℕ × Row). e.1.session < SESSIONS_LIMIT) (remove_entry test es) →
+        AllByRecursion (λ (e : ℕ × Row). e.1.session < SESSIONS_LIMIT) (remove_entry test (e ∷ es))
     by true is rest = rw is fit.1
     by false is rest = rw is (fit.0, rest)
 
@@ -109,7 +111,7 @@ module _ (s : Slab OpenKey) (paths : List ℕ → Option ℕ) (es : List (ℕ ×
     taken_stays =
         handles_same s s' (remove_entry (is_at (nat_cmp number)) es)
         (at_each (λ q o. 0 < times q (remove_entry (is_at (nat_cmp number)) es) →
-        place_of o ≡ place_of (get s q)) s s' row.key _ slots.changed slots.others (less_place _ _ _ (table.keys row.key) fewer)
+        destination_of o ≡ destination_of (get s q)) s s' row.key _ slots.changed slots.others (less_destination _ _ _ (table.keys row.key) fewer)
         (λ q apart some. refl))
 
     pub taken_handles : IsStrictlySortedBy nat_cmp (keys_of es) → handles_of s' (remove_entry (is_at (nat_cmp number)) es) ≡ closed number (handles_of s es)

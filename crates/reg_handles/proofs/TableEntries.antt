@@ -7,7 +7,7 @@ use Rattle.reg_names.specs.Names.{path_of}
 use Rattle.reg_model.specs.declared.limits.TheConstants.{SESSIONS_LIMIT}
 use Rattle.reg_model.specs.Worlds.{At}
 use Rattle.reg_handles.specs.HandleTables.{IsFoldedPath}
-use Rattle.reg_handles.specs.Internal.OpenKeySlab.{rows_of, place_of, IsOpenAt}
+use Rattle.reg_handles.specs.Internal.OpenKeySlab.{rows_of, destination_of, IsOpenAt}
 use Rattle.reg_handles.specs.Internal.HandleRows.{IsUsed, IsTable}
 use Rattle.reg_handles.specs.declared.keys.OpenKey.{OpenKey}
 use Rattle.reg_handles.proofs.HandleList.{counts_none}
@@ -31,9 +31,9 @@ pub rows_is : (o : Option OpenKey) (n : ℕ) → IsUsed o n → rows_of o ≡ n
 rows_is None n e = sym e
 rows_is (Some k) n e = e.0
 
-pub open_place : (o : Option OpenKey) (text : List ℕ) → IsOpenAt o text → place_of o ≡ At (path_of text)
-open_place None text is = absurd is
-open_place (Some k) text is = rw (is.1, is.0) refl
+pub open_destination : (o : Option OpenKey) (text : List ℕ) → IsOpenAt o text → destination_of o ≡ At (path_of text)
+open_destination None text is = absurd is
+open_destination (Some k) text is = rw (is.1, is.0) refl
 
 -- ---- no rows
 

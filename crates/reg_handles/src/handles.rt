@@ -103,7 +103,7 @@ impl Handles {
         requires folded { map folded_name (path_of path.items) ≡ path_of path.items }
         ensures ok { OnOk result
             (self.new.handles ≡ self.old.handles
-            ++ record { number = number; session = session; mask = mask; place = At (path_of path.items) } ∷ []) }
+            ++ record { number = number; session = session; mask = mask; destination = At (path_of path.items) } ∷ []) }
         ensures err { OnErr result (self.new ≡ self.old) }
     {
         // A key has no more rows than the table, so that its count has room for one more.

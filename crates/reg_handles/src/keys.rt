@@ -1,8 +1,8 @@
 //! The keys that handles lead to, and those that were deleted under a handle.
 ghost use Rattle.std.specs.Prelude.{◌≡◌, ◌+◌, ◌^◌, ◌<◌, List, [], ℕ, None, Some, OnErr, IfOk, if◌then◌else◌, IfSome, option_map, false};
 ghost use Rattle.slab.specs.Slab.{get, Updates};
-ghost use Rattle.reg_handles.specs.FoundHandles.{place_shown};
-ghost use Rattle.reg_handles.specs.Internal.OpenKeySlab.{key_at, rows_of, place_of, is_freed, leads_to, with_one_more, with_one_less, without_key};
+ghost use Rattle.reg_handles.specs.FoundHandles.{destination_shown};
+ghost use Rattle.reg_handles.specs.Internal.OpenKeySlab.{key_at, rows_of, destination_of, is_freed, leads_to, with_one_more, with_one_less, without_key};
 ghost use Rattle.reg_handles.specs.Internal.OpenKeySlab.{UpdatesPath, IsHeld, IsOpenAt};
 
 use slab::Slab;
@@ -38,7 +38,7 @@ impl OpenKeys {
 
     /// The path of a key as text, or `None` where the key was deleted.
     pub fn path(&self, key: usize) -> Option<&[u8]>
-        ensures place { place_shown result ≡ place_of (get self.now.slots key) }
+        ensures destination { destination_shown result ≡ destination_of (get self.now.slots key) }
         ensures text { IfSome result (λ path. IsOpenAt (get self.now.slots key) path.now) }
     {
         match self.slots.get(key) {

@@ -15,9 +15,9 @@ value_named name [] = None
 value_named name (v ∷ vs) = if same_name v.name name then Some v else value_named name vs
 
 -- the index of the value of that name, counted from 0
-abbrev pub place_named : List ℕ → List Member → Option ℕ
-place_named name [] = None
-place_named name (v ∷ vs) = if same_name v.name name then Some 0 else option_map suc (place_named name vs)
+abbrev pub index_named : List ℕ → List Member → Option ℕ
+index_named name [] = None
+index_named name (v ∷ vs) = if same_name v.name name then Some 0 else option_map suc (index_named name vs)
 
 -- a value is replaced in its place and keeps the name that it was first given; a new one goes to the end
 abbrev pub values_with : List ℕ → ℕ → List ℕ → List Member → List Member

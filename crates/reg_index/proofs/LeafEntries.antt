@@ -18,13 +18,13 @@ hinted-append (suc i) n at c =
     let m : suc i + n ≡ suc (i + n) = omega arith in
     let z : (at + 8) + 8 * i ≡ at + 8 * suc i = omega arith in
     ap (λ n. hinted_entries n at c) m
-    ∙ ap (λ xs. record { place = word c at; hint = word c (at + 4) } ∷ xs) (hinted-append i n (at + 8) c ∙ ap (λ a. hinted_entries i (at + 8) c ++ hinted_entries n a c) z)
+    ∙ ap (λ xs. record { offset = word c at; hint = word c (at + 4) } ∷ xs) (hinted-append i n (at + 8) c ∙ ap (λ a. hinted_entries i (at + 8) c ++ hinted_entries n a c) z)
 
 pub take-hinted : (i n at : ℕ) (c : List ℕ) → take i (hinted_entries (i + n) at c) ≡ hinted_entries i at c
 take-hinted zero n at c = refl
 take-hinted (suc i) n at c =
     let m : suc i + n ≡ suc (i + n) = omega arith in
-    ap (λ n. take (suc i) (hinted_entries n at c)) m ∙ ap (λ xs. record { place = word c at; hint = word c (at + 4) } ∷ xs) (take-hinted i n (at + 8) c)
+    ap (λ n. take (suc i) (hinted_entries n at c)) m ∙ ap (λ xs. record { offset = word c at; hint = word c (at + 4) } ∷ xs) (take-hinted i n (at + 8) c)
 
 pub drop-hinted : (i n at : ℕ) (c : List ℕ) → drop i (hinted_entries (i + n) at c) ≡ hinted_entries n (at + 8 * i) c
 drop-hinted zero n at c =
@@ -41,7 +41,7 @@ drop-hinted (suc i) n at c =
 pub hinted-same : (n a b : ℕ) (c d : List ℕ) → ((k : ℕ) → k < 8 * n → get_or d (b + k) 0 ≡ get_or c (a + k) 0) → hinted_entries n b d ≡ hinted_entries n a c
 hinted-same zero a b c d same = refl
 hinted-same (suc n) a b c d same =
-    let place : word d b ≡ word c a = word-same a b c d (λ k l. same k (omega arith)) in
+    let offset : word d b ≡ word c a = word-same a b c d (λ k l. same k (omega arith)) in
     let hint : word d (b + 4) ≡ word c (a + 4) =
     word-same (a + 4) (b + 4) c d (λ k l.
     let p : (b + 4) + k ≡ b + (4 + k) = omega arith in
@@ -51,7 +51,7 @@ hinted-same (suc n) a b c d same =
     let p : (b + 8) + k ≡ b + (8 + k) = omega arith in
     let q : a + (8 + k) ≡ (a + 8) + k = omega arith in
     ap (λ n. get_or d n 0) p ∙ (same (8 + k) (omega arith) ∙ ap (λ n. get_or c n 0) q)) in
-    (λ i. record { place = place i; hint = hint i } ∷ others i)
+    (λ i. record { offset = offset i; hint = hint i } ∷ others i)
 
 -- ---- bytes of a content with a piece written over
 

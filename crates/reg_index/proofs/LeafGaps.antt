@@ -161,16 +161,16 @@ module _ (heap : Heap) (cell count : ℕ) (c : List ℕ) (entries : List Entry) 
 
 -- ---- the gap filled
 
-module _ (c : List ℕ) (at : ℕ) (entry : Entry) (fits : at + 8 ≤ length c) (place : entry.place < 2 ^ 32) (hint : entry.hint < 2 ^ 32) where
+module _ (c : List ℕ) (at : ℕ) (entry : Entry) (fits : at + 8 ≤ length c) (offset : entry.offset < 2 ^ 32) (hint : entry.hint < 2 ^ 32) where
   abbrev put : List ℕ
   put = splice at (entry_bytes HashLeaf entry) c
 
-  place-put : word put at ≡ entry.place
+  offset-put : word put at ≡ entry.offset
   unfolding word
-  place-put =
+  offset-put =
       let z : at + 0 ≡ at = omega arith in
       let there : drop at put ≡ entry_bytes HashLeaf entry ++ drop (at + 8) c = ap (λ n. drop n put) (sym z) ∙ drop-within at (entry_bytes HashLeaf entry) c fits 0 (omega arith) in
-      ap (little_number 4) there ∙ little_number-reads_back 4 entry.place [] place
+      ap (little_number 4) there ∙ little_number-reads_back 4 entry.offset [] offset
 
   hint-put : word put (at + 4) ≡ entry.hint
   unfolding word
@@ -178,13 +178,13 @@ module _ (c : List ℕ) (at : ℕ) (entry : Entry) (fits : at + 8 ≤ length c) 
       let there : drop (at + 4) put ≡ little_bytes 4 entry.hint ++ drop (at + 8) c = drop-within at (entry_bytes HashLeaf entry) c fits 4 (omega arith) in
       ap (little_number 4) there ∙ little_number-reads_back 4 entry.hint [] hint
 
-  pub entry-put : ◌≡◌ {A = Entry} (record { place = word put at; hint = word put (at + 4) }) entry
-  entry-put = λ i. record { place = place-put i; hint = hint-put i }
+  pub entry-put : ◌≡◌ {A = Entry} (record { offset = word put at; hint = word put (at + 4) }) entry
+  entry-put = λ i. record { offset = offset-put i; hint = hint-put i }
 
-pub filled : (h0 h1 h2 : Heap) (cell index count : ℕ) (entry : Entry) → count ≤ SUBKEYS_LIMIT → entry.place < 2 ^ 32 → entry.hint < 2 ^ 32
+pub filled : (h0 h1 h2 : Heap) (cell index count : ℕ) (entry : Entry) → count ≤ SUBKEYS_LIMIT → entry.offset < 2 ^ 32 → entry.hint < 2 ^ 32
     → h1 cell ≡ Some (splice (4 + 8 * index) (entry_bytes HashLeaf entry) (held h0 cell)) → h2 cell ≡ Some (splice 0 (head_bytes HashLeaf count) (held h1 cell))
     → (entries : List Entry) → HasGap h0 cell index entries → length entries + 1 ≡ count → index ≤ length entries → IsLeaf h2 cell (with_one index entry entries)
-filled h0 h1 h2 cell index count entry few place hint one two entries gap number within =
+filled h0 h1 h2 cell index count entry few offset hint one two entries gap number within =
     let c : List ℕ = held h0 cell in
     let room = gap.room in
     let m : ℕ = length entries - index in
@@ -202,7 +202,7 @@ filled h0 h1 h2 cell index count entry few place hint one two entries gap number
     headed h2 cell count d (with_one index entry entries) here few (omega (arith, long, room, number))
     (ap (λ n. hinted_entries n 4 d) parted
     ∙ (hinted-append index (suc m) 4 d
-    ∙ (λ i. front i ++ entry-put c (4 + 8 * index) entry fits place hint i ∷ back i)))
+    ∙ (λ i. front i ++ entry-put c (4 + 8 * index) entry fits offset hint i ∷ back i)))
 
 -- ---- an entry taken out
 

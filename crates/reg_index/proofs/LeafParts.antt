@@ -20,10 +20,10 @@ pub record Says (content : List ℕ) (entries : List Entry) : Type 0 where
   pub long : 4 + 8 * length entries ≤ length content
   pub body : hinted_entries (length entries) 4 content ≡ entries
 
-pub record Leaf (heap : Heap) (place : ℕ) (entries : List Entry) : Type 0 where
-  pub exists : IsSome (heap place)
-  pub here : heap place ≡ Some (held heap place)
-  pub says : Says (held heap place) entries
+pub record Leaf (heap : Heap) (offset : ℕ) (entries : List Entry) : Type 0 where
+  pub exists : IsSome (heap offset)
+  pub here : heap offset ≡ Some (held heap offset)
+  pub says : Says (held heap offset) entries
 
 abbrev entries-in : SubkeysList → List Entry
 entries-in list = list.entries
@@ -61,20 +61,20 @@ says-of : (content : List ℕ) (entries : List Entry) → list_of content ≡ So
 unfolding list_of
 says-of content entries e = option_and_then_some (λ form. list_as form content) (form_of content) _ e (λ form is reads. says-as content entries form is reads)
 
-pub leaf-open : (heap : Heap) (place : ℕ) (entries : List Entry) → IsLeaf heap place entries → Leaf heap place entries
-leaf-open heap place entries e =
-    option_and_then_some list_of (heap place) _ e (λ content here reads.
-    let same : held heap place ≡ content = ap (λ (o : Option (List ℕ)). unwrap_or o []) here in
+pub leaf-open : (heap : Heap) (offset : ℕ) (entries : List Entry) → IsLeaf heap offset entries → Leaf heap offset entries
+leaf-open heap offset entries e =
+    option_and_then_some list_of (heap offset) _ e (λ content here reads.
+    let same : held heap offset ≡ content = ap (λ (o : Option (List ℕ)). unwrap_or o []) here in
     record {
       exists = subst IsSome (sym here) refl;
       here = here ∙ ap Some (sym same);
       says = subst (λ c. Says c entries) (sym same) (says-of content entries reads);
     })
 
-pub leaf-made : (heap : Heap) (place : ℕ) (content : List ℕ) (entries : List Entry) (count : ℕ) → heap place ≡ Some content →
+pub leaf-made : (heap : Heap) (offset : ℕ) (content : List ℕ) (entries : List Entry) (count : ℕ) → heap offset ≡ Some content →
     form_of content ≡ Some HashLeaf → half content 2 ≡ count → 4 + 8 * count ≤ length content → hinted_entries count 4 content ≡ entries
-    → IsLeaf heap place entries
-leaf-made heap place content entries count here form number long body =
+    → IsLeaf heap offset entries
+leaf-made heap offset content entries count here form number long body =
     ap (option_and_then list_of) here
     ∙ (is-read content (omega arith) HashLeaf form count 8 (sym number) refl long
     ∙ ap (λ es. Some (record { form = HashLeaf; entries = es })) body)

@@ -2,7 +2,7 @@
 use Rattle.std.proofs.Common.{◌≡◌, ◌≢◌, ℕ, zero, suc, ◌+◌, ◌*◌, ◌<◌, ◌≤◌, Some, None, List, [], ◌∷◌, ◌++◌, length, refl, sym, ap, ◌∙◌, subst, arith, inl, inr, ◌⊎◌}
 use Rattle.std.proofs.lemmas.Bool.{cases_lt}
 use Rattle.std.proofs.lemmas.Option.{none-some, same_Some}
-use Rattle.reg_heap.specs.Heaps.{Heap, Swaps, Writes}
+use Rattle.reg_heap.specs.Heaps.{Heap, CellFrame, Writes}
 use Rattle.reg_heap.specs.Kinds.{times}
 use Rattle.reg_index.specs.declared.plan.TheConstants.{FIRST_LIST_SIZE}
 use Rattle.reg_records.specs.RecordCells.{held, HasRoom}
@@ -14,32 +14,32 @@ use Rattle.reg_index.proofs.InsertSizes.{first-size, no-size, next-size}
 
 -- ---- what the size says
 
-pub size-none : (heap : Heap) (count place : ℕ) → 0 < count → insert_size heap count place ≡ None → 4 + 8 * (count + 1) ≤ length (held heap place)
-size-none heap count place some e = by (cases_lt (length (held heap place)) (12 + 8 * count))
+pub size-none : (heap : Heap) (count offset : ℕ) → 0 < count → insert_size heap count offset ≡ None → 4 + 8 * (count + 1) ≤ length (held heap offset)
+size-none heap count offset some e = by (cases_lt (length (held heap offset)) (12 + 8 * count))
   where
-    by : (length (held heap place) < 12 + 8 * count) ⊎ (12 + 8 * count ≤ length (held heap place)) → 4 + 8 * (count + 1) ≤ length (held heap place)
-    by (inl l) = absurd (none-some _ (sym e ∙ sym (next-size heap count place some l)))
+    by : (length (held heap offset) < 12 + 8 * count) ⊎ (12 + 8 * count ≤ length (held heap offset)) → 4 + 8 * (count + 1) ≤ length (held heap offset)
+    by (inl l) = absurd (none-some _ (sym e ∙ sym (next-size heap count offset some l)))
     by (inr l) = omega (arith, l)
 
-pub record IsNext (heap : Heap) (count place size : ℕ) : Type 0 where
-  pub short : length (held heap place) < 12 + 8 * count
+pub record IsNext (heap : Heap) (count offset size : ℕ) : Type 0 where
+  pub short : length (held heap offset) < 12 + 8 * count
   pub size_is : size ≡ 12 + 8 * count + 4
 
-pub size-some : (heap : Heap) (count place size : ℕ) → 0 < count → insert_size heap count place ≡ Some size → IsNext heap count place size
-size-some heap count place size some e = by (cases_lt (length (held heap place)) (12 + 8 * count))
+pub size-some : (heap : Heap) (count offset size : ℕ) → 0 < count → insert_size heap count offset ≡ Some size → IsNext heap count offset size
+size-some heap count offset size some e = by (cases_lt (length (held heap offset)) (12 + 8 * count))
   where
-    by : (length (held heap place) < 12 + 8 * count) ⊎ (12 + 8 * count ≤ length (held heap place)) → IsNext heap count place size
-    by (inl l) = record { short = l; size_is = same_Some _ _ (sym e ∙ sym (next-size heap count place some l)) }
-    by (inr l) = absurd (none-some _ (no-size heap count place some l ∙ e))
+    by : (length (held heap offset) < 12 + 8 * count) ⊎ (12 + 8 * count ≤ length (held heap offset)) → IsNext heap count offset size
+    by (inl l) = record { short = l; size_is = same_Some _ _ (sym e ∙ sym (next-size heap count offset some l)) }
+    by (inr l) = absurd (none-some _ (no-size heap count offset some l ∙ e))
 
 -- ---- the first subkey
 
-pub first-gap : (heap : Heap) (count place fresh index : ℕ) → count ≡ 0 → IsReady heap (insert_size heap count place) fresh →
-    ((entries : List Entry) × AreSubkeys heap count place entries × (index ≤ length entries))
-    → (entries : List Entry) → AreSubkeys heap count place entries → HasGap heap fresh index entries
-first-gap heap count place fresh index none ready s entries t =
-    let r : IsReady heap (Some FIRST_LIST_SIZE) fresh = subst (λ size. IsReady heap size fresh) (sym (first-size heap count place none)) ready in
-    let nothing : (es : List Entry) → AreSubkeys heap count place es → length es ≡ 0 = λ es t. length-subkeys heap count place es t.read ∙ none in
+pub first-gap : (heap : Heap) (count offset fresh index : ℕ) → count ≡ 0 → IsReady heap (insert_size heap count offset) fresh →
+    ((entries : List Entry) × AreSubkeys heap count offset entries × (index ≤ length entries))
+    → (entries : List Entry) → AreSubkeys heap count offset entries → HasGap heap fresh index entries
+first-gap heap count offset fresh index none ready s entries t =
+    let r : IsReady heap (Some FIRST_LIST_SIZE) fresh = subst (λ size. IsReady heap size fresh) (sym (first-size heap count offset none)) ready in
+    let nothing : (es : List Entry) → AreSubkeys heap count offset es → length es ≡ 0 = λ es t. length-subkeys heap count offset es t.read ∙ none in
     by r index entries (nothing entries t) (let n = nothing s.0 s.1 in omega (arith, s.2, n))
   where
     by : IsReady heap (Some FIRST_LIST_SIZE) fresh → (index : ℕ) (entries : List Entry) → length entries ≡ 0 → index ≤ 0 → HasGap heap fresh index entries
@@ -47,39 +47,39 @@ first-gap heap count place fresh index none ready s entries t =
     by r zero (e ∷ es) n l = absurd (omega arith)
     by r (suc index) entries n l = absurd (omega arith)
 
-pub first-moves : (heap : Heap) (count place fresh : ℕ) → count ≡ 0 → Moves heap heap (own count place ++ taken (insert_size heap count place) fresh) (fresh ∷ [])
-first-moves heap zero place fresh none = subst (λ size. Moves heap heap (taken size fresh) (fresh ∷ [])) (first-size heap zero place none) (record { count = λ z. refl; same = λ z gone came. refl })
-first-moves heap (suc count) place fresh none = absurd (omega arith)
+pub first-moves : (heap : Heap) (count offset fresh : ℕ) → count ≡ 0 → Moves heap heap (own count offset ++ taken (insert_size heap count offset) fresh) (fresh ∷ [])
+first-moves heap zero offset fresh none = subst (λ size. Moves heap heap (taken size fresh) (fresh ∷ [])) (first-size heap zero offset none) (record { count = λ z. refl; same = λ z gone came. refl })
+first-moves heap (suc count) offset fresh none = absurd (omega arith)
 
 -- ---- the list as it is
 
-pub leaf-of : (heap : Heap) (count place : ℕ) → (count ≡ 0 → ⊥) → (entries : List Entry) → AreSubkeys heap count place entries → IsLeaf heap place entries × (length entries ≡ count)
-leaf-of heap count place some entries s = let h = subkeys-open heap count place entries s.read (omega (arith, some)) in (h.leaf, h.number)
+pub leaf-of : (heap : Heap) (count offset : ℕ) → (count ≡ 0 → ⊥) → (entries : List Entry) → AreSubkeys heap count offset entries → IsLeaf heap offset entries × (length entries ≡ count)
+leaf-of heap count offset some entries s = let h = subkeys-open heap count offset entries s.read (omega (arith, some)) in (h.leaf, h.number)
 
-pub leaf-needs : (heap : Heap) (count place index : ℕ) → (count ≡ 0 → ⊥) →
-    ((entries : List Entry) × AreSubkeys heap count place entries × (index ≤ length entries)) → (entries : List Entry) × IsLeaf heap place entries ×
+pub leaf-needs : (heap : Heap) (count offset index : ℕ) → (count ≡ 0 → ⊥) →
+    ((entries : List Entry) × AreSubkeys heap count offset entries × (index ≤ length entries)) → (entries : List Entry) × IsLeaf heap offset entries ×
     (length entries ≡ count)
-leaf-needs heap count place index some s = let h = leaf-of heap count place some s.0 s.1 in (s.0, h.0, h.1)
+leaf-needs heap count offset index some s = let h = leaf-of heap count offset some s.0 s.1 in (s.0, h.0, h.1)
 
-pub index-fits : (heap : Heap) (count place index : ℕ) → ((entries : List Entry) × AreSubkeys heap count place entries × (index ≤ length entries)) → index ≤ count
-index-fits heap count place index s = omega (arith, s.2, length-subkeys heap count place s.0 s.1.read)
+pub index-fits : (heap : Heap) (count offset index : ℕ) → ((entries : List Entry) × AreSubkeys heap count offset entries × (index ≤ length entries)) → index ≤ count
+index-fits heap count offset index s = omega (arith, s.2, length-subkeys heap count offset s.0 s.1.read)
 
-pub gap-of : (old new : Heap) (count place at index : ℕ) → (count ≡ 0 → ⊥) → ((entries : List Entry) → IsLeaf old place entries → length entries ≡ count → HasGap new at index entries)
-    → (entries : List Entry) → AreSubkeys old count place entries → HasGap new at index entries
-gap-of old new count place at index some gap entries s = let h = leaf-of old count place some entries s in gap entries h.0 h.1
+pub gap-of : (old new : Heap) (count offset at index : ℕ) → (count ≡ 0 → ⊥) → ((entries : List Entry) → IsLeaf old offset entries → length entries ≡ count → HasGap new at index entries)
+    → (entries : List Entry) → AreSubkeys old count offset entries → HasGap new at index entries
+gap-of old new count offset at index some gap entries s = let h = leaf-of old count offset some entries s in gap entries h.0 h.1
 
 -- ---- in the list's cell
 
-pub within-moves : (old new : Heap) (count place fresh : ℕ) → (count ≡ 0 → ⊥) → insert_size old count place ≡ None → Writes old new (place ∷ []) →
-    Moves old new (own count place ++ taken (insert_size old count place) fresh) (place ∷ [])
-within-moves old new zero place fresh some e w = absurd (some refl)
-within-moves old new (suc count) place fresh some e w = subst (λ size. Moves old new (place ∷ taken size fresh) (place ∷ [])) (sym e) w
+pub within-moves : (old new : Heap) (count offset fresh : ℕ) → (count ≡ 0 → ⊥) → insert_size old count offset ≡ None → Writes old new (offset ∷ []) →
+    Moves old new (own count offset ++ taken (insert_size old count offset) fresh) (offset ∷ [])
+within-moves old new zero offset fresh some e w = absurd (some refl)
+within-moves old new (suc count) offset fresh some e w = subst (λ size. Moves old new (offset ∷ taken size fresh) (offset ∷ [])) (sym e) w
 
 -- ---- in another cell
 
-module _ (heap : Heap) (count place fresh size : ℕ) (some : count ≡ 0 → ⊥) (is : insert_size heap count place ≡ Some size) (ready : IsReady heap (insert_size heap count place) fresh) where
-  next : IsNext heap count place size
-  next = size-some heap count place size (omega (arith, some)) is
+module _ (heap : Heap) (count offset fresh size : ℕ) (some : count ≡ 0 → ⊥) (is : insert_size heap count offset ≡ Some size) (ready : IsReady heap (insert_size heap count offset) fresh) where
+  next : IsNext heap count offset size
+  next = size-some heap count offset size (omega (arith, some)) is
 
   carved : IsReady heap (Some size) fresh
   carved = subst (λ size. IsReady heap size fresh) is ready
@@ -87,13 +87,13 @@ module _ (heap : Heap) (count place fresh size : ℕ) (some : count ≡ 0 → �
   pub fresh-room : HasRoom heap fresh (4 + 8 * (count + 1))
   fresh-room = record { exists = carved.0; enough = omega (arith, carved.1, next.size_is) }
 
-  pub fresh-apart : fresh ≢ place
+  pub fresh-apart : fresh ≢ offset
   fresh-apart e =
-      let same : length (held heap fresh) ≡ length (held heap place) = ap (λ z. length (held heap z)) e in
+      let same : length (held heap fresh) ≡ length (held heap offset) = ap (λ z. length (held heap z)) e in
       absurd (omega (arith, same, carved.1, next.size_is, next.short))
 
-pub move-moves : (old new : Heap) (count place fresh size : ℕ) → (count ≡ 0 → ⊥) → insert_size old count place ≡ Some size →
-    Swaps old new (λ z. times z (place ∷ fresh ∷ [])) (λ z. times z (fresh ∷ []))
-    → Moves old new (own count place ++ taken (insert_size old count place) fresh) (fresh ∷ [])
-move-moves old new zero place fresh size some e w = absurd (some refl)
-move-moves old new (suc count) place fresh size some e w = subst (λ size. Moves old new (place ∷ taken size fresh) (fresh ∷ [])) (sym e) w
+pub move-moves : (old new : Heap) (count offset fresh size : ℕ) → (count ≡ 0 → ⊥) → insert_size old count offset ≡ Some size →
+    CellFrame old new (λ z. times z (offset ∷ fresh ∷ [])) (λ z. times z (fresh ∷ []))
+    → Moves old new (own count offset ++ taken (insert_size old count offset) fresh) (fresh ∷ [])
+move-moves old new zero offset fresh size some e w = absurd (some refl)
+move-moves old new (suc count) offset fresh size some e w = subst (λ size. Moves old new (offset ∷ taken size fresh) (fresh ∷ [])) (sym e) w

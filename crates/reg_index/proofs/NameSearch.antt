@@ -14,7 +14,7 @@ use Rattle.reg_heap.specs.Heaps.{Heap}
 use Rattle.reg_records.specs.declared.RecordFault.{RecordFault}
 use Rattle.reg_records.specs.KeyNodes.{KeyRecord, nk_of, key_at}
 use Rattle.reg_records.specs.SubkeyLists.{Entry}
-use Rattle.reg_index.specs.Subkeys.{AreSubkeys, IsPlace, name_at, name_or_none, names_in}
+use Rattle.reg_index.specs.Subkeys.{AreSubkeys, IsIndexFor, name_at, name_or_none, names_in}
 use Rattle.reg_index.proofs.SubkeysOpening.{length-subkeys}
 use Rattle.reg_index.proofs.SortedNames.{Between, to_right, to_left, order-back, order-same}
 
@@ -41,10 +41,10 @@ key-read heap key content fault s here reads = absurd (false≢true (subst IsSom
 -- ---- names of entries
 
 pub length-names : (heap : Heap) (entries : List Entry) → length (names_in heap entries) ≡ length entries
-length-names heap entries = length-map entries (λ (e : Entry). folded (name_at heap e.place))
+length-names heap entries = length-map entries (λ (e : Entry). folded (name_at heap e.offset))
 
-pub get-name : (heap : Heap) (entries : List Entry) (index : ℕ) (d : Entry) → index < length entries → get_or (names_in heap entries) index [] ≡ folded (name_at heap (get_or entries index d).place)
-get-name heap entries index d l = get_or-map (λ (e : Entry). folded (name_at heap e.place)) entries index d [] l
+pub get-name : (heap : Heap) (entries : List Entry) (index : ℕ) (d : Entry) → index < length entries → get_or (names_in heap entries) index [] ≡ folded (name_at heap (get_or entries index d).offset)
+get-name heap entries index d l = get_or-map (λ (e : Entry). folded (name_at heap e.offset)) entries index d [] l
 
 pub all-at : (P : Entry → Type 0) (entries : List Entry) → AllByRecursion P entries → (index : ℕ) (d : Entry) → index < length entries → P (get_or entries index d)
 all-at P [] all index d l = absurd (omega arith)
@@ -54,34 +54,34 @@ all-at P (e ∷ es) all (suc index) d l = all-at P es all.1 index d (omega arith
 -- ---- the search
 
 -- where a search may begin
-pub all-between : (heap : Heap) (count place : ℕ) (name : List ℕ) (entries : List Entry) → AreSubkeys heap count place entries → Between (names_in heap entries) name 0 count
-all-between heap count place name entries s =
+pub all-between : (heap : Heap) (count offset : ℕ) (name : List ℕ) (entries : List Entry) → AreSubkeys heap count offset entries → Between (names_in heap entries) name 0 count
+all-between heap count offset name entries s =
     let n = length-names heap entries in
-    let m = length-subkeys heap count place entries s.read in
+    let m = length-subkeys heap count offset entries s.read in
     record { order_is = omega arith; within = omega arith; before = λ k l. absurd (omega arith); behind = λ k l r. absurd (omega arith) }
 
 -- the middle is in the list
-pub in-list : (heap : Heap) (count place low high middle : ℕ) (name : List ℕ) → middle < high →
-    ((entries : List Entry) → AreSubkeys heap count place entries → Between (names_in heap entries) (folded name) low high)
-    → (entries : List Entry) × AreSubkeys heap count place entries → middle < count
-in-list heap count place low high middle name to so_far s = omega (arith, (so_far s.0 s.1).within, length-names heap s.0, length-subkeys heap count place s.0 s.1.read, to)
+pub in-list : (heap : Heap) (count offset low high middle : ℕ) (name : List ℕ) → middle < high →
+    ((entries : List Entry) → AreSubkeys heap count offset entries → Between (names_in heap entries) (folded name) low high)
+    → (entries : List Entry) × AreSubkeys heap count offset entries → middle < count
+in-list heap count offset low high middle name to so_far s = omega (arith, (so_far s.0 s.1).within, length-names heap s.0, length-subkeys heap count offset s.0 s.1.read, to)
 
-module _ (heap : Heap) (count place low high middle key : ℕ) (name : List ℕ) (from : low ≤ middle) (to : middle < high)
-    (so_far : (entries : List Entry) → AreSubkeys heap count place entries → Between (names_in heap entries) (folded name) low high)
-    (is : (entries : List Entry) → AreSubkeys heap count place entries → (get_or entries middle (record { place = 0; hint = 0 })).place ≡ key) where
-  within_list : (entries : List Entry) × AreSubkeys heap count place entries → middle < count
-  within_list s = in-list heap count place low high middle name to so_far s
+module _ (heap : Heap) (count offset low high middle key : ℕ) (name : List ℕ) (from : low ≤ middle) (to : middle < high)
+    (so_far : (entries : List Entry) → AreSubkeys heap count offset entries → Between (names_in heap entries) (folded name) low high)
+    (is : (entries : List Entry) → AreSubkeys heap count offset entries → (get_or entries middle (record { offset = 0; hint = 0 })).offset ≡ key) where
+  within_list : (entries : List Entry) × AreSubkeys heap count offset entries → middle < count
+  within_list s = in-list heap count offset low high middle name to so_far s
 
-  pub is-key : (entries : List Entry) × AreSubkeys heap count place entries → IsSome (key_at heap key)
+  pub is-key : (entries : List Entry) × AreSubkeys heap count offset entries → IsSome (key_at heap key)
   is-key s =
-      let l : middle < length s.0 = omega (arith, within_list s, length-subkeys heap count place s.0 s.1.read) in
-      subst (λ k. IsSome (key_at heap k)) (is s.0 s.1) (all-at (λ (e : Entry). IsSome (key_at heap e.place)) s.0 s.1.keys middle (record { place = 0; hint = 0 }) l)
+      let l : middle < length s.0 = omega (arith, within_list s, length-subkeys heap count offset s.0 s.1.read) in
+      subst (λ k. IsSome (key_at heap k)) (is s.0 s.1) (all-at (λ (e : Entry). IsSome (key_at heap e.offset)) s.0 s.1.keys middle (record { offset = 0; hint = 0 }) l)
 
-  module _ (found : List ℕ) (name_is : found ≡ name_at heap key) (entries : List Entry) (s : AreSubkeys heap count place entries) where
+  module _ (found : List ℕ) (name_is : found ≡ name_at heap key) (entries : List Entry) (s : AreSubkeys heap count offset entries) where
     named : get_or (names_in heap entries) middle [] ≡ folded found
     named =
-        let l : middle < length entries = omega (arith, within_list (entries, s), length-subkeys heap count place entries s.read) in
-        get-name heap entries middle (record { place = 0; hint = 0 }) l ∙ (ap (λ k. folded (name_at heap k)) (is entries s) ∙ ap folded (sym name_is))
+        let l : middle < length entries = omega (arith, within_list (entries, s), length-subkeys heap count offset entries s.read) in
+        get-name heap entries middle (record { offset = 0; hint = 0 }) l ∙ (ap (λ k. folded (name_at heap k)) (is entries s) ∙ ap folded (sym name_is))
 
     pub is-before : Less ≡ name_cmp found name → Between (names_in heap entries) (folded name) (middle + 1) high
     is-before e = to_right (names_in heap entries) (folded name) low high middle s.rising (so_far entries s) from to (ap (λ n. slice_cmp nat_cmp n (folded name)) named ∙ sym e)
@@ -91,9 +91,9 @@ module _ (heap : Heap) (count place low high middle key : ℕ) (name : List ℕ)
         to_left (names_in heap entries) (folded name) low high middle s.rising (so_far entries s) from to
         (order-back (get_or (names_in heap entries) middle []) (folded name) (ap (λ n. slice_cmp nat_cmp n (folded name)) named ∙ sym e))
 
-    pub is-found : Equal ≡ name_cmp found name → IsPlace (names_in heap entries) (folded name) (Ok middle)
+    pub is-found : Equal ≡ name_cmp found name → IsIndexFor (names_in heap entries) (folded name) (Ok middle)
     is-found e =
         let n = length-names heap entries in
         let l = within_list (entries, s) in
-        let m = length-subkeys heap count place entries s.read in
+        let m = length-subkeys heap count offset entries s.read in
         (omega arith, named ∙ order-same (folded found) (folded name) (sym e))

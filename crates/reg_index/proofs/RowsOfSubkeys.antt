@@ -9,7 +9,7 @@ use Rattle.reg_index.specs.Subkeys.{subkeys_at, insert_size}
 abbrev heap_with : ℕ → Heap
 heap_with more offset = cond (offset == 120) (Some (108 ∷ 104 ∷ 1 ∷ 0 ∷ 32 ∷ 0 ∷ 0 ∷ 0 ∷ 25 ∷ 195 ∷ 1 ∷ 0 ∷ replicate more 0)) None
 
-one_subkey : subkeys_at (heap_with 0) 1 120 ≡ Some (record { place = 32; hint = 115481 } ∷ [])
+one_subkey : subkeys_at (heap_with 0) 1 120 ≡ Some (record { offset = 32; hint = 115481 } ∷ [])
 unfolding subkeys_at list_of half word
 one_subkey = refl
 

@@ -8,7 +8,7 @@ use Rattle.std.specs.Ordering.{nat_cmp, ordering_then, ordering_reverse}
 use Rattle.std.specs.declared.cmp.Ordering.{Ordering}
 use Rattle.std.specs.declared.cmp.Ordering.TheVariants.{Less, Equal, Greater}
 use Rattle.std.specs.Cmp.Lexicographic.{slice_cmp}
-use Rattle.reg_index.specs.Subkeys.{Rises, IsPlace}
+use Rattle.reg_index.specs.Subkeys.{Rises, IsIndexFor}
 
 abbrev Name : Type 0
 Name = List ℕ
@@ -107,7 +107,7 @@ module _ (names : List Name) (i : ℕ) (x : Name) (w : i ≤ length names) where
   at : (k : ℕ) → k ≡ i → get_or (added i x names) k [] ≡ x
   at k e = ap (λ n. get_or (added i x names) n []) e ∙ get-here
 
-  pub rises-added : Rises names → IsPlace names x (Err i) → Rises (take i names ++ x ∷ drop i names)
+  pub rises-added : Rises names → IsIndexFor names x (Err i) → Rises (take i names ++ x ∷ drop i names)
   rises-added r p a b l m =
       let n = length-added in
       elim (cases_lt b i) [

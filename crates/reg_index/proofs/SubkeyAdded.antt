@@ -8,12 +8,12 @@ use Rattle.std.proofs.lemmas.List.{take-map, drop-map, map-append, length-append
 use Rattle.reg_arena.proofs.Contents.CellWrites.{all-append}
 use Rattle.reg_names.specs.Names.{folded, hash}
 use Rattle.reg_heap.specs.declared.limits.TheConstants.{SUBKEYS_LIMIT}
-use Rattle.reg_heap.specs.Heaps.{Heap, Swaps, Writes}
+use Rattle.reg_heap.specs.Heaps.{Heap, CellFrame, Writes}
 use Rattle.reg_heap.specs.Kinds.{times}
 use Rattle.reg_records.specs.KeyNodes.{key_at}
 use Rattle.reg_records.specs.SubkeyLists.{Entry}
 use Rattle.reg_index.specs.Internal.HashLeaves.{IsLeaf, HasGap}
-use Rattle.reg_index.specs.Subkeys.{name_at, names_in, Rises, IsPlace, IsReady, AreSubkeys, Moves, own, taken, with_one, entry_for, insert_size}
+use Rattle.reg_index.specs.Subkeys.{name_at, names_in, Rises, IsIndexFor, IsReady, AreSubkeys, Moves, own, taken, with_one, entry_for, insert_size}
 use Rattle.reg_index.proofs.SubkeysOpening.{subkeys-open, subkeys-made, length-subkeys}
 use Rattle.reg_index.proofs.NameSearch.{length-names}
 use Rattle.reg_index.proofs.SortedNames.{rises-added}
@@ -26,19 +26,19 @@ all-with : (P : Entry → Type 0) (index : ℕ) (entry : Entry) (entries : List 
 all-with P index entry entries one all = all-append P (take index entries) (entry ∷ drop index entries) (all-take P index entries all) (one, all-drop P index entries all)
 
 names-with : (heap : Heap) (index : ℕ) (entry : Entry) (entries : List Entry) →
-    names_in heap (with_one index entry entries) ≡ take index (names_in heap entries) ++ folded (name_at heap entry.place) ∷ drop index
+    names_in heap (with_one index entry entries) ≡ take index (names_in heap entries) ++ folded (name_at heap entry.offset) ∷ drop index
     (names_in heap entries)
 names-with heap index entry entries =
-    map-append (λ (e : Entry). folded (name_at heap e.place)) (take index entries) (entry ∷ drop index entries)
-    ∙ (λ i. sym (take-map (λ (e : Entry). folded (name_at heap e.place)) index entries) i ++ folded (name_at heap entry.place) ∷ sym
-    (drop-map (λ (e : Entry). folded (name_at heap e.place)) index entries) i)
+    map-append (λ (e : Entry). folded (name_at heap e.offset)) (take index entries) (entry ∷ drop index entries)
+    ∙ (λ i. sym (take-map (λ (e : Entry). folded (name_at heap e.offset)) index entries) i ++ folded (name_at heap entry.offset) ∷ sym
+    (drop-map (λ (e : Entry). folded (name_at heap e.offset)) index entries) i)
 
 keys-with : (heap : Heap) (index key : ℕ) (entries : List Entry) → IsSome (key_at heap key) → AreKeys heap entries →
-    IsPlace (names_in heap entries) (folded (name_at heap key)) (Err index) → AreKeys heap (with_one index (entry_for heap key) entries)
-keys-with heap index key entries some k place = record {
-  keys = all-with (λ (e : Entry). IsSome (key_at heap e.place)) index (entry_for heap key) entries some k.keys;
-  hashes = all-with (λ (e : Entry). e.hint ≡ hash (name_at heap e.place)) index (entry_for heap key) entries refl k.hashes;
-  rising = subst Rises (sym (names-with heap index (entry_for heap key) entries)) (rises-added (names_in heap entries) index (folded (name_at heap key)) place.0 k.rising place);
+    IsIndexFor (names_in heap entries) (folded (name_at heap key)) (Err index) → AreKeys heap (with_one index (entry_for heap key) entries)
+keys-with heap index key entries some k offset = record {
+  keys = all-with (λ (e : Entry). IsSome (key_at heap e.offset)) index (entry_for heap key) entries some k.keys;
+  hashes = all-with (λ (e : Entry). e.hint ≡ hash (name_at heap e.offset)) index (entry_for heap key) entries refl k.hashes;
+  rising = subst Rises (sym (names-with heap index (entry_for heap key) entries)) (rises-added (names_in heap entries) index (folded (name_at heap key)) offset.0 k.rising offset);
 }
 
 length-with : (index : ℕ) (entry : Entry) (entries : List Entry) → index ≤ length entries → length (with_one index entry entries) ≡ length entries + 1
@@ -51,80 +51,80 @@ taken-none heap None fresh key ready some = refl
 taken-none heap (Some size) fresh key ready some =
     times-not key fresh [] (λ same. false≢true (subst IsSome ready.2 (subst (λ z. IsSome (key_at heap z)) (sym same) some))) refl
 
-given-none : (heap : Heap) (count place fresh key : ℕ) (entries : List Entry) → AreSubkeys heap count place entries →
-    IsReady heap (insert_size heap count place) fresh → IsSome (key_at heap key) →
-    times key (own count place ++ taken (insert_size heap count place) fresh) ≡ 0
-given-none heap zero place fresh key entries s ready some = taken-none heap (insert_size heap zero place) fresh key ready some
-given-none heap (suc count) place fresh key entries s ready some =
-    times-not key place (taken (insert_size heap (suc count) place) fresh)
-    (λ same. key-or-leaf heap place entries (subkeys-open heap (suc count) place entries s.read (omega arith)).leaf
+given-none : (heap : Heap) (count offset fresh key : ℕ) (entries : List Entry) → AreSubkeys heap count offset entries →
+    IsReady heap (insert_size heap count offset) fresh → IsSome (key_at heap key) →
+    times key (own count offset ++ taken (insert_size heap count offset) fresh) ≡ 0
+given-none heap zero offset fresh key entries s ready some = taken-none heap (insert_size heap zero offset) fresh key ready some
+given-none heap (suc count) offset fresh key entries s ready some =
+    times-not key offset (taken (insert_size heap (suc count) offset) fresh)
+    (λ same. key-or-leaf heap offset entries (subkeys-open heap (suc count) offset entries s.read (omega arith)).leaf
     (subst (λ z. IsSome (key_at heap z)) (sym same) some))
-    (taken-none heap (insert_size heap (suc count) place) fresh key ready some)
+    (taken-none heap (insert_size heap (suc count) offset) fresh key ready some)
 
 -- ---- the subkeys with one more
 
-module _ (old between new : Heap) (count place fresh at after index key : ℕ) (more : after ≡ count + 1) (few : count < SUBKEYS_LIMIT)
-    (some : IsSome (key_at old key)) (ready : IsReady old (insert_size old count place) fresh)
-    (opened : Moves old between (own count place ++ taken (insert_size old count place) fresh) (at ∷ [])) (filled : Writes between new (at ∷ [])) where
-  moved : Swaps old new (λ z. times z (own count place ++ taken (insert_size old count place) fresh)) (λ z. times z (at ∷ []))
+module _ (old between new : Heap) (count offset fresh at after index key : ℕ) (more : after ≡ count + 1) (few : count < SUBKEYS_LIMIT)
+    (some : IsSome (key_at old key)) (ready : IsReady old (insert_size old count offset) fresh)
+    (opened : Moves old between (own count offset ++ taken (insert_size old count offset) fresh) (at ∷ [])) (filled : Writes between new (at ∷ [])) where
+  moved : CellFrame old new (λ z. times z (own count offset ++ taken (insert_size old count offset) fresh)) (λ z. times z (at ∷ []))
   moved = record {
     count = λ z. omega (arith, opened.count z, filled.count z);
     same = λ z gone came. filled.same z came came ∙ opened.same z gone came;
   }
 
-  own-now : Moves old new (own count place ++ taken (insert_size old count place) fresh) (at ∷ []) → (n : ℕ) → n ≡ count + 1 →
-      Moves old new (own count place ++ taken (insert_size old count place) fresh) (own n at)
+  own-now : Moves old new (own count offset ++ taken (insert_size old count offset) fresh) (at ∷ []) → (n : ℕ) → n ≡ count + 1 →
+      Moves old new (own count offset ++ taken (insert_size old count offset) fresh) (own n at)
   own-now m zero e = absurd (omega arith)
   own-now m (suc n) e = m
 
-  pub one-moves : Moves old new (own count place ++ taken (insert_size old count place) fresh) (own after at)
+  pub one-moves : Moves old new (own count offset ++ taken (insert_size old count offset) fresh) (own after at)
   one-moves = own-now moved after more
 
   module _ (hint : ℕ) (hint_is : hint ≡ hash (name_at old key))
       (put : (entries : List Entry) → HasGap between at index entries → length entries + 1 ≡ after → index ≤ length entries →
-      IsLeaf new at (with_one index (record { place = key; hint = hint }) entries))
-      (gap : (entries : List Entry) → AreSubkeys old count place entries → HasGap between at index entries)
-      (fits : (entries : List Entry) × AreSubkeys old count place entries × IsPlace (names_in old entries) (folded (name_at old key)) (Err index))
-      (entries : List Entry) (s : AreSubkeys old count place entries) where
+      IsLeaf new at (with_one index (record { offset = key; hint = hint }) entries))
+      (gap : (entries : List Entry) → AreSubkeys old count offset entries → HasGap between at index entries)
+      (fits : (entries : List Entry) × AreSubkeys old count offset entries × IsIndexFor (names_in old entries) (folded (name_at old key)) (Err index))
+      (entries : List Entry) (s : AreSubkeys old count offset entries) where
     same : fits.0 ≡ entries
     same = same_Some _ _ (sym fits.1.read ∙ s.read)
 
-    place_is : IsPlace (names_in old entries) (folded (name_at old key)) (Err index)
-    place_is = subst (λ es. IsPlace (names_in old es) (folded (name_at old key)) (Err index)) same fits.2
+    offset_is : IsIndexFor (names_in old entries) (folded (name_at old key)) (Err index)
+    offset_is = subst (λ es. IsIndexFor (names_in old es) (folded (name_at old key)) (Err index)) same fits.2
 
     within : index ≤ length entries
-    within = omega (arith, place_is.0, length-names old entries)
+    within = omega (arith, offset_is.0, length-names old entries)
 
     leaf : IsLeaf new at (with_one index (entry_for old key) entries)
     leaf =
-        subst (λ h. IsLeaf new at (with_one index (record { place = key; hint = h }) entries)) hint_is
-        (put entries (gap entries s) (omega (arith, length-subkeys old count place entries s.read, more)) within)
+        subst (λ h. IsLeaf new at (with_one index (record { offset = key; hint = h }) entries)) hint_is
+        (put entries (gap entries s) (omega (arith, length-subkeys old count offset entries s.read, more)) within)
 
     stay : (z : ℕ) → IsSome (key_at old z) → key_at new z ≡ key_at old z
-    stay z is = key-stays old new (λ z. times z (own count place ++ taken (insert_size old count place) fresh)) (λ z. times z (at ∷ [])) z moved is
-        (given-none old count place fresh z entries s ready is)
+    stay z is = key-stays old new (λ z. times z (own count offset ++ taken (insert_size old count offset) fresh)) (λ z. times z (at ∷ [])) z moved is
+        (given-none old count offset fresh z entries s ready is)
 
     all-stay : Stay old new (with_one index (entry_for old key) entries)
     all-stay =
-        all-with (λ (e : Entry). key_at new e.place ≡ key_at old e.place) index (entry_for old key) entries (stay key some)
-        (all-map (λ (e : Entry). IsSome (key_at old e.place)) (λ (e : Entry). key_at new e.place ≡ key_at old e.place) entries (λ e is. stay e.place is) s.keys)
+        all-with (λ (e : Entry). key_at new e.offset ≡ key_at old e.offset) index (entry_for old key) entries (stay key some)
+        (all-map (λ (e : Entry). IsSome (key_at old e.offset)) (λ (e : Entry). key_at new e.offset ≡ key_at old e.offset) entries (λ e is. stay e.offset is) s.keys)
 
     pub one-more : AreSubkeys new after at (with_one index (entry_for old key) entries)
     one-more =
         subkeys-of new after at (with_one index (entry_for old key) entries)
         (subkeys-made new after at (with_one index (entry_for old key) entries) (omega (arith, more)) leaf
-        (omega (arith, length-with index (entry_for old key) entries within, length-subkeys old count place entries s.read, more)))
+        (omega (arith, length-with index (entry_for old key) entries within, length-subkeys old count offset entries s.read, more)))
         (omega (arith, few, more)) (λ e. absurd (omega (arith, e, more)))
-        (keys-stay old new (with_one index (entry_for old key) entries) (keys-with old index key entries some (keys-of old count place entries s) place_is) all-stay)
+        (keys-stay old new (with_one index (entry_for old key) entries) (keys-with old index key entries some (keys-of old count offset entries s) offset_is) all-stay)
 
 -- what filling the gap needs
-pub fill-needs : (old between : Heap) (count place at index after : ℕ) (name : List ℕ) → after ≡ count + 1
-    → (fits : (entries : List Entry) × AreSubkeys old count place entries × IsPlace (names_in old entries) name (Err index))
-    → ((entries : List Entry) → AreSubkeys old count place entries → HasGap between at index entries)
+pub fill-needs : (old between : Heap) (count offset at index after : ℕ) (name : List ℕ) → after ≡ count + 1
+    → (fits : (entries : List Entry) × AreSubkeys old count offset entries × IsIndexFor (names_in old entries) name (Err index))
+    → ((entries : List Entry) → AreSubkeys old count offset entries → HasGap between at index entries)
     → (entries : List Entry) × HasGap between at index entries × (length entries + 1 ≡ after) × (index ≤ length entries)
-fill-needs old between count place at index after name more fits gap =
-    (fits.0, gap fits.0 fits.1, omega (arith, length-subkeys old count place fits.0 fits.1.read, more), omega (arith, fits.2.0, length-names old fits.0))
+fill-needs old between count offset at index after name more fits gap =
+    (fits.0, gap fits.0 fits.1, omega (arith, length-subkeys old count offset fits.0 fits.1.read, more), omega (arith, fits.2.0, length-names old fits.0))
 
-pub open-needs : (heap : Heap) (count place index : ℕ) (name : List ℕ) → (entries : List Entry) × AreSubkeys heap count place entries ×
-    IsPlace (names_in heap entries) name (Err index) → (entries : List Entry) × AreSubkeys heap count place entries × (index ≤ length entries)
-open-needs heap count place index name fits = (fits.0, fits.1, omega (arith, fits.2.0, length-names heap fits.0))
+pub open-needs : (heap : Heap) (count offset index : ℕ) (name : List ℕ) → (entries : List Entry) × AreSubkeys heap count offset entries ×
+    IsIndexFor (names_in heap entries) name (Err index) → (entries : List Entry) × AreSubkeys heap count offset entries × (index ≤ length entries)
+open-needs heap count offset index name fits = (fits.0, fits.1, omega (arith, fits.2.0, length-names heap fits.0))

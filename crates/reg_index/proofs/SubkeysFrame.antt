@@ -7,7 +7,7 @@ use Rattle.std.proofs.lemmas.Bool.{false≢true, eqb-true, ne_eqb, and_parts}
 use Rattle.std.proofs.lemmas.Option.{none-some, same_Some}
 use Rattle.reg_names.specs.Names.{folded, hash}
 use Rattle.reg_heap.specs.declared.limits.TheConstants.{NONE, SUBKEYS_LIMIT}
-use Rattle.reg_heap.specs.Heaps.{Heap, Swaps, allocated}
+use Rattle.reg_heap.specs.Heaps.{Heap, CellFrame, allocated}
 use Rattle.reg_heap.specs.Kinds.{times}
 use Rattle.reg_records.specs.RecordCells.{held}
 use Rattle.reg_records.specs.KeyNodes.{KeyRecord, nk_of, key_at}
@@ -39,13 +39,13 @@ some-is : {A : Type 0} (o : Option A) → IsSome o → (x : A) × (o ≡ Some x)
 some-is None s = absurd (false≢true s)
 some-is (Some x) s = (x, refl)
 
-pub key-or-leaf : (heap : Heap) (place : ℕ) (entries : List Entry) → IsLeaf heap place entries → IsSome (key_at heap place) → ⊥
+pub key-or-leaf : (heap : Heap) (offset : ℕ) (entries : List Entry) → IsLeaf heap offset entries → IsSome (key_at heap offset) → ⊥
 unfolding key_at
-key-or-leaf heap place entries leaf some =
-    let key = some-is (key_at heap place) some in
-    let read = read_at-open nk_of heap place key.0 key.1 in
-    let l = leaf-open heap place entries leaf in
-    let same : held heap place ≡ read.0 = same_Some _ _ (sym l.here ∙ read.1) in
+key-or-leaf heap offset entries leaf some =
+    let key = some-is (key_at heap offset) some in
+    let read = read_at-open nk_of heap offset key.0 key.1 in
+    let l = leaf-open heap offset entries leaf in
+    let same : held heap offset ≡ read.0 = same_Some _ _ (sym l.here ∙ read.1) in
     none-some _ (sym (without_form read.0 (signed-key read.0 key.0 read.2)) ∙ (ap form_of (sym same) ∙ l.says.form))
 
 -- ---- a cell that nothing took
@@ -57,15 +57,15 @@ few (Some x) = omega arith
 there : (heap : Heap) (cell : ℕ) → IsSome (heap cell) → allocated heap cell ≡ 1
 there heap cell some = ap (λ b. cond b 1 0) some
 
-pub cell-stays : (old new : Heap) (gone came : ℕ → ℕ) (cell : ℕ) → Swaps old new gone came → IsSome (old cell) → gone cell ≡ 0 → new cell ≡ old cell
-cell-stays old new gone came cell swaps some none = swaps.same cell none (omega (arith, swaps.count cell, there old cell some, few (new cell), none))
+pub cell-stays : (old new : Heap) (gone came : ℕ → ℕ) (cell : ℕ) → CellFrame old new gone came → IsSome (old cell) → gone cell ≡ 0 → new cell ≡ old cell
+cell-stays old new gone came cell frame some none = frame.same cell none (omega (arith, frame.count cell, there old cell some, few (new cell), none))
 
 key-same : (old new : Heap) (cell : ℕ) → new cell ≡ old cell → key_at new cell ≡ key_at old cell
 unfolding key_at
 key-same old new cell same = read_at-same nk_of old new cell same
 
-pub key-stays : (old new : Heap) (gone came : ℕ → ℕ) (key : ℕ) → Swaps old new gone came → IsSome (key_at old key) → gone key ≡ 0 → key_at new key ≡ key_at old key
-key-stays old new gone came key swaps some none = key-same old new key (cell-stays old new gone came key swaps (key-here old key some) none)
+pub key-stays : (old new : Heap) (gone came : ℕ → ℕ) (key : ℕ) → CellFrame old new gone came → IsSome (key_at old key) → gone key ≡ 0 → key_at new key ≡ key_at old key
+key-stays old new gone came key frame some none = key-same old new key (cell-stays old new gone came key frame (key-here old key some) none)
 
 pub times-not : (offset cell : ℕ) (cells : List ℕ) → cell ≢ offset → times offset cells ≡ 0 → times offset (cell ∷ cells) ≡ 0
 times-not offset cell cells n none = let one : ◌≡◌ {A = ℕ} (cond (cell == offset) 1 0) 0 = ap (λ b. cond b 1 0) (ne_eqb cell offset n) in omega (arith, one, none)
@@ -82,44 +82,44 @@ all-both P Q R (e ∷ es) f p q = (f e p.0 q.0, all-both P Q R es f p.1 q.1)
 
 -- these keys are what they were
 abbrev pub Stay : Heap → Heap → List Entry → Type 0
-Stay old new entries = AllByRecursion (λ (e : Entry). key_at new e.place ≡ key_at old e.place) entries
+Stay old new entries = AllByRecursion (λ (e : Entry). key_at new e.offset ≡ key_at old e.offset) entries
 
 pub names-stay : (old new : Heap) (entries : List Entry) → Stay old new entries → names_in new entries ≡ names_in old entries
 names-stay old new [] stay = refl
-names-stay old new (e ∷ es) stay = let one : folded (name_at new e.place) ≡ folded (name_at old e.place) = ap (λ k. folded (name_or_none k)) stay.0 in (λ i. one i ∷ names-stay old new es stay.1 i)
+names-stay old new (e ∷ es) stay = let one : folded (name_at new e.offset) ≡ folded (name_at old e.offset) = ap (λ k. folded (name_or_none k)) stay.0 in (λ i. one i ∷ names-stay old new es stay.1 i)
 
 -- what a list of keys needs beside its reading: keys with the hashes of their names, rising
 pub record AreKeys (heap : Heap) (entries : List Entry) : Type 0 where
-  pub keys : AllByRecursion (λ (e : Entry). IsSome (key_at heap e.place)) entries
-  pub hashes : AllByRecursion (λ (e : Entry). e.hint ≡ hash (name_at heap e.place)) entries
+  pub keys : AllByRecursion (λ (e : Entry). IsSome (key_at heap e.offset)) entries
+  pub hashes : AllByRecursion (λ (e : Entry). e.hint ≡ hash (name_at heap e.offset)) entries
   pub rising : Rises (names_in heap entries)
 
-pub keys-of : (heap : Heap) (count place : ℕ) (entries : List Entry) → AreSubkeys heap count place entries → AreKeys heap entries
-keys-of heap count place entries s = record { keys = s.keys; hashes = s.hashes; rising = s.rising }
+pub keys-of : (heap : Heap) (count offset : ℕ) (entries : List Entry) → AreSubkeys heap count offset entries → AreKeys heap entries
+keys-of heap count offset entries s = record { keys = s.keys; hashes = s.hashes; rising = s.rising }
 
 pub keys-stay : (old new : Heap) (entries : List Entry) → AreKeys old entries → Stay old new entries → AreKeys new entries
 keys-stay old new entries k stay = record {
-  keys = all-both (λ (e : Entry). IsSome (key_at old e.place)) (λ (e : Entry). key_at new e.place ≡ key_at old e.place)
-      (λ (e : Entry). IsSome (key_at new e.place)) entries (λ e s same. subst IsSome (sym same) s) k.keys stay;
-  hashes = all-both (λ (e : Entry). e.hint ≡ hash (name_at old e.place)) (λ (e : Entry). key_at new e.place ≡ key_at old e.place) (λ (e : Entry). e.hint ≡ hash (name_at new e.place)) entries
+  keys = all-both (λ (e : Entry). IsSome (key_at old e.offset)) (λ (e : Entry). key_at new e.offset ≡ key_at old e.offset)
+      (λ (e : Entry). IsSome (key_at new e.offset)) entries (λ e s same. subst IsSome (sym same) s) k.keys stay;
+  hashes = all-both (λ (e : Entry). e.hint ≡ hash (name_at old e.offset)) (λ (e : Entry). key_at new e.offset ≡ key_at old e.offset) (λ (e : Entry). e.hint ≡ hash (name_at new e.offset)) entries
       (λ e h same. h ∙ ap (λ key. hash (name_or_none key)) (sym same)) k.hashes stay;
   rising = subst Rises (sym (names-stay old new entries stay)) k.rising;
 }
 
-pub subkeys-of : (heap : Heap) (count place : ℕ) (entries : List Entry) → subkeys_at heap count place ≡ Some entries → count ≤ SUBKEYS_LIMIT →
-    (count ≡ 0 → place ≡ NONE) → AreKeys heap entries → AreSubkeys heap count place entries
-subkeys-of heap count place entries read few unlisted k = record { read = read; few = few; unlisted = unlisted; keys = k.keys; hashes = k.hashes; rising = k.rising }
+pub subkeys-of : (heap : Heap) (count offset : ℕ) (entries : List Entry) → subkeys_at heap count offset ≡ Some entries → count ≤ SUBKEYS_LIMIT →
+    (count ≡ 0 → offset ≡ NONE) → AreKeys heap entries → AreSubkeys heap count offset entries
+subkeys-of heap count offset entries read few unlisted k = record { read = read; few = few; unlisted = unlisted; keys = k.keys; hashes = k.hashes; rising = k.rising }
 
 -- ---- where a change is elsewhere
 
-reading-stays : (old new : Heap) (count place : ℕ) → (count ≡ 0) ⊎ (new place ≡ old place) → subkeys_at new count place ≡ subkeys_at old count place
+reading-stays : (old new : Heap) (count offset : ℕ) → (count ≡ 0) ⊎ (new offset ≡ old offset) → subkeys_at new count offset ≡ subkeys_at old count offset
 unfolding subkeys_at
-reading-stays old new zero place elsewhere = refl
-reading-stays old new (suc count) place (inl e) = absurd (omega arith)
-reading-stays old new (suc count) place (inr same) = ap (λ o. option_and_then (λ (list : SubkeysList). hashed (suc count) list.form list.entries) (option_and_then list_of o)) same
+reading-stays old new zero offset elsewhere = refl
+reading-stays old new (suc count) offset (inl e) = absurd (omega arith)
+reading-stays old new (suc count) offset (inr same) = ap (λ o. option_and_then (λ (list : SubkeysList). hashed (suc count) list.form list.entries) (option_and_then list_of o)) same
 
 -- subkeys stay, where the list's cell and the keys do
-pub subkeys-stay : (old new : Heap) (count place : ℕ) (entries : List Entry) → AreSubkeys old count place entries →
-    (count ≡ 0) ⊎ (new place ≡ old place) → Stay old new entries → AreSubkeys new count place entries
-subkeys-stay old new count place entries s elsewhere stay =
-    subkeys-of new count place entries (reading-stays old new count place elsewhere ∙ s.read) s.few s.unlisted (keys-stay old new entries (keys-of old count place entries s) stay)
+pub subkeys-stay : (old new : Heap) (count offset : ℕ) (entries : List Entry) → AreSubkeys old count offset entries →
+    (count ≡ 0) ⊎ (new offset ≡ old offset) → Stay old new entries → AreSubkeys new count offset entries
+subkeys-stay old new count offset entries s elsewhere stay =
+    subkeys-of new count offset entries (reading-stays old new count offset elsewhere ∙ s.read) s.few s.unlisted (keys-stay old new entries (keys-of old count offset entries s) stay)

@@ -9,7 +9,7 @@ use Rattle.std.specs.declared.cmp.Ordering.TheVariants.{Less}
 use Rattle.std.specs.Cmp.Lexicographic.{slice_cmp}
 use Rattle.reg_names.specs.Names.{folded, hash}
 use Rattle.reg_heap.specs.declared.limits.TheConstants.{NONE, SUBKEYS_LIMIT}
-use Rattle.reg_heap.specs.Heaps.{Heap, Swaps}
+use Rattle.reg_heap.specs.Heaps.{Heap, CellFrame}
 use Rattle.reg_heap.specs.Kinds.{times}
 use Rattle.reg_index.specs.declared.plan.TheConstants.{FIRST_LIST_SIZE}
 use Rattle.reg_records.specs.declared.lists.ListForm.TheVariants.{IndexRoot, IndexLeaf, FastLeaf, HashLeaf}
@@ -27,8 +27,8 @@ hashed count HashLeaf entries = if length entries == count then Some entries els
 
 -- the subkeys that a key node's number and list name: none, or those of the hash leaf in the list's cell
 unfoldable pub subkeys_at : Heap → ℕ → ℕ → Option (List Entry)
-subkeys_at heap zero place = Some []
-subkeys_at heap (suc count) place = option_and_then (λ (list : SubkeysList). hashed (suc count) list.form list.entries) (list_at heap place)
+subkeys_at heap zero offset = Some []
+subkeys_at heap (suc count) offset = option_and_then (λ (list : SubkeysList). hashed (suc count) list.form list.entries) (list_at heap offset)
 
 -- the name of a key, empty where there is none
 abbrev pub name_or_none : Option KeyRecord → List ℕ
@@ -41,32 +41,32 @@ name_at heap key = name_or_none (key_at heap key)
 
 -- the folded names of the keys that a list names
 abbrev pub names_in : Heap → List Entry → List (List ℕ)
-names_in heap entries = map (λ (e : Entry). folded (name_at heap e.place)) entries
+names_in heap entries = map (λ (e : Entry). folded (name_at heap e.offset)) entries
 
 -- each before those behind it, byte by byte
 abbrev pub Rises : List (List ℕ) → Type 0
 Rises names = (i j : ℕ) → i < j → j < length names → slice_cmp nat_cmp (get_or names i []) (get_or names j []) ≡ Less
 
 -- a key has these subkeys: at most 500, each a key with the hash of its name, rising; without subkeys there is no list
-pub record AreSubkeys (heap : Heap) (count place : ℕ) (entries : List Entry) : Type 0 where
-  pub read : subkeys_at heap count place ≡ Some entries
+pub record AreSubkeys (heap : Heap) (count offset : ℕ) (entries : List Entry) : Type 0 where
+  pub read : subkeys_at heap count offset ≡ Some entries
   pub few : count ≤ SUBKEYS_LIMIT
-  pub unlisted : count ≡ 0 → place ≡ NONE
-  pub keys : AllByRecursion (λ (e : Entry). IsSome (key_at heap e.place)) entries
-  pub hashes : AllByRecursion (λ (e : Entry). e.hint ≡ hash (name_at heap e.place)) entries
+  pub unlisted : count ≡ 0 → offset ≡ NONE
+  pub keys : AllByRecursion (λ (e : Entry). IsSome (key_at heap e.offset)) entries
+  pub hashes : AllByRecursion (λ (e : Entry). e.hint ≡ hash (name_at heap e.offset)) entries
   pub rising : Rises (names_in heap entries)
 
 -- where a folded name stands among rising names, or where it belongs
-abbrev pub IsPlace : List (List ℕ) → List ℕ → Result ℕ ℕ → Type 0
-IsPlace names name (Ok index) = (index < length names) × (get_or names index [] ≡ name)
-IsPlace names name (Err index) =
+abbrev pub IsIndexFor : List (List ℕ) → List ℕ → Result ℕ ℕ → Type 0
+IsIndexFor names name (Ok index) = (index < length names) × (get_or names index [] ≡ name)
+IsIndexFor names name (Err index) =
     (index ≤ length names)
     × ((k : ℕ) → k < index → slice_cmp nat_cmp (get_or names k []) name ≡ Less)
     × ((k : ℕ) → index ≤ k → k < length names → slice_cmp nat_cmp name (get_or names k []) ≡ Less)
 
 -- the entry of a key: its offset, and the hash of its name
 abbrev pub entry_for : Heap → ℕ → Entry
-entry_for heap key = record { place = key; hint = hash (name_at heap key) }
+entry_for heap key = record { offset = key; hint = hash (name_at heap key) }
 
 abbrev pub with_one : ℕ → Entry → List Entry → List Entry
 with_one index entry entries = take index entries ++ entry ∷ drop index entries
@@ -76,14 +76,14 @@ without index entries = take index entries ++ drop (index + 1) entries
 
 -- the size of the cell that one subkey more takes: none where the list's cell has room for it
 unfoldable pub insert_size : Heap → ℕ → ℕ → Option ℕ
-insert_size heap zero place = Some FIRST_LIST_SIZE
-insert_size heap (suc count) place =
-    if nat_le (4 + 8 * suc (suc count)) (length (held heap place)) then None else Some (8 + 8 * suc (suc count))
+insert_size heap zero offset = Some FIRST_LIST_SIZE
+insert_size heap (suc count) offset =
+    if nat_le (4 + 8 * suc (suc count)) (length (held heap offset)) then None else Some (8 + 8 * suc (suc count))
 
 -- the list's own cell
 abbrev pub own : ℕ → ℕ → List ℕ
-own zero place = []
-own (suc count) place = place ∷ []
+own zero offset = []
+own (suc count) offset = offset ∷ []
 
 -- the cell that was carved for an insert, where one was
 abbrev pub taken : Option ℕ → ℕ → List ℕ
@@ -97,4 +97,4 @@ IsReady heap (Some size) fresh = IsSome (heap fresh) × (length (held heap fresh
 
 -- the list's cells of before, and one carved for it, gave way to the list's cells of now; nothing else changed
 abbrev pub Moves : Heap → Heap → List ℕ → List ℕ → Type 0
-Moves old new before after = Swaps old new (λ z. times z before) (λ z. times z after)
+Moves old new before after = CellFrame old new (λ z. times z before) (λ z. times z after)

@@ -6,7 +6,7 @@ ghost use Rattle.reg_heap.specs.declared.limits.TheConstants.{SUBKEYS_LIMIT};
 ghost use Rattle.reg_arena.specs.Cells.{cell_at};
 ghost use Rattle.reg_records.specs.KeyNodes.{key_at};
 ghost use Rattle.reg_records.specs.SubkeyLists.{Entry};
-ghost use Rattle.reg_index.specs.Subkeys.{AreSubkeys, IsPlace, IsReady, Moves, entry_for, insert_size, name_at, names_in, own, taken, with_one};
+ghost use Rattle.reg_index.specs.Subkeys.{AreSubkeys, IsIndexFor, IsReady, Moves, entry_for, insert_size, name_at, names_in, own, taken, with_one};
 ghost use Rattle.reg_index.specs.Internal.HashLeaves.{HasGap};
 
 use crate::SubkeysIndex;
@@ -19,23 +19,23 @@ use reg_records::ListEntry;
 
 /// Makes a gap for one subkey at an index, in the list's cell or in one carved for it, and answers which.
 fn open(arena: &mut Arena, list: SubkeysIndex, fresh: u32, index: u32) -> u32
-    requires subkeys { (entries : List Entry) × AreSubkeys (cell_at arena.old.bytes) list.count list.place entries × (index ≤ length entries) }
-    requires ready { IsReady (cell_at arena.old.bytes) (insert_size (cell_at arena.old.bytes) list.count list.place) fresh }
-    ensures gap { (entries : List Entry) → AreSubkeys (cell_at arena.old.bytes) list.count list.place entries →
+    requires subkeys { (entries : List Entry) × AreSubkeys (cell_at arena.old.bytes) list.count list.offset entries × (index ≤ length entries) }
+    requires ready { IsReady (cell_at arena.old.bytes) (insert_size (cell_at arena.old.bytes) list.count list.offset) fresh }
+    ensures gap { (entries : List Entry) → AreSubkeys (cell_at arena.old.bytes) list.count list.offset entries →
         HasGap (cell_at arena.new.bytes) result index entries }
     ensures moves { Moves (cell_at arena.old.bytes) (cell_at arena.new.bytes)
-        (own list.count list.place ++ taken (insert_size (cell_at arena.old.bytes) list.count list.place) fresh) (result ∷ []) }
+        (own list.count list.offset ++ taken (insert_size (cell_at arena.old.bytes) list.count list.offset) fresh) (result ∷ []) }
 {
     if list.count == 0 {
         return fresh;
     }
     match plan_insert(arena, list) {
         None => {
-            open_within(arena, list.place, list.count, index);
-            list.place
+            open_within(arena, list.offset, list.count, index);
+            list.offset
         }
         Some(_) => {
-            move_open(arena, list.place, fresh, list.count, index);
+            move_open(arena, list.offset, fresh, list.count, index);
             fresh
         }
     }
@@ -50,22 +50,22 @@ pub fn insert(
     index: u32,
     key: u32,
 ) -> SubkeysIndex
-    requires subkeys { (entries : List Entry) × AreSubkeys (cell_at arena.old.bytes) list.count list.place entries
-        × IsPlace (names_in (cell_at arena.old.bytes) entries) (folded (name_at (cell_at arena.old.bytes) key)) (Err index) }
+    requires subkeys { (entries : List Entry) × AreSubkeys (cell_at arena.old.bytes) list.count list.offset entries
+        × IsIndexFor (names_in (cell_at arena.old.bytes) entries) (folded (name_at (cell_at arena.old.bytes) key)) (Err index) }
     requires few { list.count < SUBKEYS_LIMIT }
     requires key { IsSome (key_at (cell_at arena.old.bytes) key) }
-    requires ready { IsReady (cell_at arena.old.bytes) (insert_size (cell_at arena.old.bytes) list.count list.place) fresh }
-    ensures subkeys { (entries : List Entry) → AreSubkeys (cell_at arena.old.bytes) list.count list.place entries →
-        AreSubkeys (cell_at arena.new.bytes) result.count result.place
+    requires ready { IsReady (cell_at arena.old.bytes) (insert_size (cell_at arena.old.bytes) list.count list.offset) fresh }
+    ensures subkeys { (entries : List Entry) → AreSubkeys (cell_at arena.old.bytes) list.count list.offset entries →
+        AreSubkeys (cell_at arena.new.bytes) result.count result.offset
         (with_one index (entry_for (cell_at arena.old.bytes) key) entries) }
     ensures count { result.count ≡ list.count + 1 }
     ensures moves { Moves (cell_at arena.old.bytes) (cell_at arena.new.bytes)
-        (own list.count list.place ++ taken (insert_size (cell_at arena.old.bytes) list.count list.place) fresh)
-        (own result.count result.place) }
+        (own list.count list.offset ++ taken (insert_size (cell_at arena.old.bytes) list.count list.offset) fresh)
+        (own result.count result.offset) }
 {
     let hint = name_hash(name_of(arena, key));
-    let place = open(arena, list, fresh, index);
+    let offset = open(arena, list, fresh, index);
     let count = list.count + 1;
-    fill(arena, place, index, count, ListEntry { place: key, hint });
-    SubkeysIndex { count, place }
+    fill(arena, offset, index, count, ListEntry { offset: key, hint });
+    SubkeysIndex { count, offset }
 }

@@ -2,7 +2,7 @@
 
 ghost use Rattle.std.specs.Prelude.{◌≡◌, ◌≢◌, ◌+◌, ◌*◌, ◌≤◌, ℕ, ◌∷◌, [], List, length};
 ghost use Rattle.reg_heap.specs.declared.limits.TheConstants.{SUBKEYS_LIMIT};
-ghost use Rattle.reg_heap.specs.Heaps.{Writes, Swaps};
+ghost use Rattle.reg_heap.specs.Heaps.{Writes, CellFrame};
 ghost use Rattle.reg_heap.specs.Kinds.{times};
 ghost use Rattle.reg_arena.specs.Cells.{cell_at};
 ghost use Rattle.reg_records.specs.declared.lists.ListForm.TheVariants.{HashLeaf};
@@ -53,7 +53,7 @@ pub(crate) fn move_open(arena: &mut Arena, cell: u32, fresh: u32, count: u32, in
     requires apart { fresh ≢ cell }
     ensures gap { (entries : List Entry) → IsLeaf (cell_at arena.old.bytes) cell entries → length entries ≡ count →
         HasGap (cell_at arena.new.bytes) fresh index entries }
-    ensures moves { Swaps (cell_at arena.old.bytes) (cell_at arena.new.bytes) (λ z. times z (cell ∷ fresh ∷ [])) (λ z. times z (fresh ∷ [])) }
+    ensures moves { CellFrame (cell_at arena.old.bytes) (cell_at arena.new.bytes) (λ z. times z (cell ∷ fresh ∷ [])) (λ z. times z (fresh ∷ [])) }
 {
     arena.copy(cell, 4, fresh, 4, 8 * index);
     arena.copy(

@@ -28,7 +28,7 @@ pub struct SubkeysIndex {
     /// How many subkeys there are, at most 500.
     pub count: u32,
     /// The offset of the list's cell; 0xFFFFFFFF where there are no subkeys.
-    pub place: u32,
+    pub offset: u32,
 }
 
 /// How many subkeys there are.

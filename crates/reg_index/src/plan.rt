@@ -14,14 +14,14 @@ pub const FIRST_LIST_SIZE: u32 = 16;
 /// The size of the cell that one subkey more takes, its size field counted; `None` where the list's cell has room for
 /// it.
 pub fn plan_insert(arena: &Arena, list: SubkeysIndex) -> Option<u32>
-    requires { (entries : List Entry) × AreSubkeys (cell_at arena.now.bytes) list.count list.place entries }
-    ensures { result ≡ insert_size (cell_at arena.now.bytes) list.count list.place }
+    requires { (entries : List Entry) × AreSubkeys (cell_at arena.now.bytes) list.count list.offset entries }
+    ensures { result ≡ insert_size (cell_at arena.now.bytes) list.count list.offset }
 {
     if list.count == 0 {
         return Some(FIRST_LIST_SIZE);
     }
     let needed = 12 + 8 * list.count;
-    if arena.content(list.place).len() >= needed as usize {
+    if arena.content(list.offset).len() >= needed as usize {
         return None;
     }
     Some(needed + 4)

@@ -13,21 +13,24 @@ use reg_heap::limits::NONE;
 /// Takes the key at an index out of the subkeys; the later ones close up in the list's cell. A list left empty is freed.
 /// Answers where the list is now.
 pub fn remove(arena: &mut Arena, list: SubkeysIndex, index: u32) -> SubkeysIndex
-    requires subkeys { (entries : List Entry) × AreSubkeys (cell_at arena.old.bytes) list.count list.place entries }
+    requires subkeys { (entries : List Entry) × AreSubkeys (cell_at arena.old.bytes) list.count list.offset entries }
     requires index { index < list.count }
-    ensures subkeys { (entries : List Entry) → AreSubkeys (cell_at arena.old.bytes) list.count list.place entries →
-        AreSubkeys (cell_at arena.new.bytes) result.count result.place (without index entries) }
+    ensures subkeys { (entries : List Entry) → AreSubkeys (cell_at arena.old.bytes) list.count list.offset entries →
+        AreSubkeys (cell_at arena.new.bytes) result.count result.offset (without index entries) }
     ensures count { result.count + 1 ≡ list.count }
-    ensures moves { Moves (cell_at arena.old.bytes) (cell_at arena.new.bytes) (list.place ∷ []) (own result.count result.place) }
+    ensures moves { Moves (cell_at arena.old.bytes) (cell_at arena.new.bytes) (list.offset ∷ []) (own result.count result.offset) }
 {
     let count = list.count - 1;
     if count == 0 {
-        arena.free(list.place);
-        return SubkeysIndex { count, place: NONE };
+        arena.free(list.offset);
+        return SubkeysIndex {
+            count,
+            offset: NONE,
+        };
     }
-    close(arena, list.place, count, index);
+    close(arena, list.offset, count, index);
     SubkeysIndex {
         count,
-        place: list.place,
+        offset: list.offset,
     }
 }

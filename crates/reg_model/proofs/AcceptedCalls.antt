@@ -6,7 +6,7 @@ use Rattle.reg_heap.specs.Edits.{values_at, may_not_go}
 use Rattle.reg_names.specs.Names.{is_value_name}
 use Rattle.reg_model.specs.declared.rights.TheConstants.{SET_VALUE}
 use Rattle.reg_model.specs.declared.statuses.TheConstants.{ACCESS_DENIED, FILE_NOT_FOUND, INVALID_HANDLE, INVALID_PARAMETER, NO_SYSTEM_RESOURCES}
-use Rattle.reg_model.specs.Worlds.{Handle, Place, At, Deleted, look, path_at, path_from}
+use Rattle.reg_model.specs.Worlds.{Handle, Destination, At, Deleted, look, path_at, path_from}
 use Rattle.reg_model.specs.Causes.{State, change_cause, early_cause, late_cause, asked_before, refuse, by_handle, has, is_mask, is_full, is_bad_open, is_bad_target, is_bad_value}
 use Rattle.reg_model.specs.Causes.{no_handle_room, no_key_room, no_value_room, lacks_value, ◌or◌}
 use Rattle.reg_model.specs.declared.call.Change.{Change}
@@ -33,26 +33,26 @@ pub record Target (o : Option Handle) : Type 0 where
   pub handle : Handle
   pub path : Path
   pub found : o ≡ Some handle
-  pub place : handle.place ≡ At path
+  pub destination : handle.destination ≡ At path
 
 pub record Meets (f : Handle → Option ℕ) (o : Option Handle) : Type 0 where
   pub target : Target o
   pub none : f target.handle ≡ None
 
-meets-place : (f : Handle → Option ℕ) (h : Handle) → by_handle f (Some h) ≡ None → Meets f (Some h)
-meets-place f h = elim h.place as (λ (p : Place). by_handle f (Some (record h { place = p })) ≡ None → Meets f (Some (record h { place = p }))) [
-  | At p ↦ λ e. record { target = record { handle = record h { place = At p }; path = p; found = refl; place = refl }; none = e }
+meets-destination : (f : Handle → Option ℕ) (h : Handle) → by_handle f (Some h) ≡ None → Meets f (Some h)
+meets-destination f h = elim h.destination as (λ (p : Destination). by_handle f (Some (record h { destination = p })) ≡ None → Meets f (Some (record h { destination = p }))) [
+  | At p ↦ λ e. record { target = record { handle = record h { destination = At p }; path = p; found = refl; destination = refl }; none = e }
   | Deleted ↦ λ e. absurd (cc)
 ]
 
 -- a change that its handle's causes don't refuse
 pub meets : (f : Handle → Option ℕ) (o : Option Handle) → by_handle f o ≡ None → Meets f o
 meets f None e = absurd (cc)
-meets f (Some h) e = meets-place f h e
+meets f (Some h) e = meets-destination f h e
 
 -- the path of the key that the handle leads to
 pub target-path : (session number : ℕ) (hs : List Handle) (t : Target (look session number hs)) → path_at session number hs ≡ t.path
-target-path session number hs t = rw (t.found, t.place) refl
+target-path session number hs t = rw (t.found, t.destination) refl
 
 record AreNone (a b c : Option ℕ) : Type 0 where
   first : a ≡ None
@@ -102,7 +102,8 @@ pub create-met : (s : State) (session h : ℕ) (path : List ℕ) (mask c : ℕ) 
 unfolding early_cause late_cause
 create-met s session h path mask c e =
     let none = causes s session (CreateKey h path mask) c e in
-    let m = meets (λ r. refuse (is_bad_open path mask) INVALID_PARAMETER or refuse (no_handle_room session s || no_key_room s session h path) NO_SYSTEM_RESOURCES) (look session h s.world.handles) none.first in
+    let m = meets (λ r. refuse (is_bad_open path mask) INVALID_PARAMETER or refuse
+    (no_handle_room session s || no_key_room s session h path) NO_SYSTEM_RESOURCES) (look session h s.world.handles) none.first in
     let early = neither _ _ m.none in
     let counts = both_false _ _ (not_refused _ NO_SYSTEM_RESOURCES early.1) in
     record { target = m.target; good = not_refused _ INVALID_PARAMETER early.0; room = counts.0; few = counts.1 }
@@ -136,7 +137,8 @@ pub drop-met : (s : State) (session h : ℕ) (name : List ℕ) (c : ℕ) → cha
 unfolding early_cause late_cause
 drop-met s session h name c e =
     let none = causes s session (DeleteValue h name) c e in
-    let m = meets (λ r. refuse (not (is_value_name name)) INVALID_PARAMETER or refuse (not (has SET_VALUE r.mask)) ACCESS_DENIED or refuse (is_full 1 s) NO_SYSTEM_RESOURCES) (look session h s.world.handles) none.first in
+    let m = meets (λ r. refuse (not (is_value_name name)) INVALID_PARAMETER or refuse (not (has SET_VALUE r.mask)) ACCESS_DENIED or refuse
+    (is_full 1 s) NO_SYSTEM_RESOURCES) (look session h s.world.handles) none.first in
     let early = all_none _ _ _ m.none in
     record {
       target = m.target;

@@ -2,7 +2,7 @@
 use Rattle.std.proofs.Common.{◌≡◌, ◌≢◌, ℕ, Bool, true, false, not, eqb, List, [], ◌∷◌, ◌++◌, Option, Some, None, refl, arith, length-append}
 use Rattle.std.proofs.lemmas.Bool.{eqb-false}
 use Rattle.reg_heap.specs.Paths.{Tree}
-use Rattle.reg_model.specs.Worlds.{Handle, Place, At, Deleted}
+use Rattle.reg_model.specs.Worlds.{Handle, Destination, At, Deleted}
 use Rattle.reg_model.specs.Causes.{State, change_cause, early_cause, late_cause, asked, refuse, by_handle, asked_before, ◌or◌}
 use Rattle.reg_model.specs.Replies.{reply_to}
 use Rattle.reg_model.specs.Calls.{entry_due, reply_given, state_after, or_refusal, or_same}
@@ -54,15 +54,15 @@ zero-asked c = by (eqb c 0) refl
     by true e = no_status
     by false e = status (eqb-false c 0 e)
 
-zero-place : (f : Handle → Option ℕ) → ((h : Handle) → NotZero (f h)) → (h : Handle) → NotZero (by_handle f (Some h))
-zero-place f z h = elim h.place as (λ (p : Place). NotZero (by_handle f (Some (record h { place = p })))) [
-  | At p ↦ z (record h { place = At p })
+zero-destination : (f : Handle → Option ℕ) → ((h : Handle) → NotZero (f h)) → (h : Handle) → NotZero (by_handle f (Some h))
+zero-destination f z h = elim h.destination as (λ (p : Destination). NotZero (by_handle f (Some (record h { destination = p })))) [
+  | At p ↦ z (record h { destination = At p })
   | Deleted ↦ status (λ e. omega (arith, e))
 ]
 
 zero-handle : (f : Handle → Option ℕ) → ((h : Handle) → NotZero (f h)) → (o : Option Handle) → NotZero (by_handle f o)
 zero-handle f z None = status (λ e. omega (arith, e))
-zero-handle f z (Some h) = zero-place f z h
+zero-handle f z (Some h) = zero-destination f z h
 
 zero-5 : (b : Bool) → NotZero (refuse b 5)
 zero-5 b = zero-refuse b 5 (λ e. omega (arith, e))

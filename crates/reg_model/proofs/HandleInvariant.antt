@@ -12,7 +12,7 @@ use Rattle.std.proofs.lemmas.List.Elements.{recursion_from_All}
 use Rattle.reg_names.specs.Names.{folded, path_of, is_path, is_backslash}
 use Rattle.reg_heap.specs.Paths.{Path, Tree, Rec, path_cmp}
 use Rattle.reg_heap.specs.Edits.{edited, at_time, above, with_key, with_keys, without_key, has_child, child_path, made_key, descriptor_of, folded_path}
-use Rattle.reg_model.specs.Worlds.{Handle, Place, At, Deleted, StandsIn, IsStanding, look, numbered, owned, path_at, path_from, closed, turned, place_without, same_path, opened, after}
+use Rattle.reg_model.specs.Worlds.{Handle, Destination, At, Deleted, StandsIn, IsStanding, look, numbered, owned, path_at, path_from, closed, turned, destination_without, same_path, opened, after}
 use Rattle.reg_model.specs.Causes.{State, is_bad_target}
 use Rattle.reg_model.specs.declared.call.Change.{Change}
 use Rattle.reg_model.specs.declared.call.Change.TheVariants.{OpenRoot, OpenKey, CreateKey, SetValue, DeleteValue, DeleteKey, Close}
@@ -77,21 +77,21 @@ has-without t p moment q other h =
 -- ---- where handles lead
 
 abbrev pub Stands : Tree → List Handle → Type 0
-Stands t hs = AllByRecursion (λ (h : Handle). StandsIn t h.place) hs
+Stands t hs = AllByRecursion (λ (h : Handle). StandsIn t h.destination) hs
 
-place-kept : (t u : Tree) → ((q : Path) → Has t q → Has u q) → (place : Place) → StandsIn t place → StandsIn u place
-place-kept t u k (At q) s = k q s
-place-kept t u k Deleted s = tt
+destination-kept : (t u : Tree) → ((q : Path) → Has t q → Has u q) → (destination : Destination) → StandsIn t destination → StandsIn u destination
+destination-kept t u k (At q) s = k q s
+destination-kept t u k Deleted s = tt
 
 stands-kept : (t u : Tree) → ((q : Path) → Has t q → Has u q) → (hs : List Handle) → Stands t hs → Stands u hs
 stands-kept t u k [] s = tt
-stands-kept t u k (h ∷ hs) s = (place-kept t u k h.place s.0, stands-kept t u k hs s.1)
+stands-kept t u k (h ∷ hs) s = (destination-kept t u k h.destination s.0, stands-kept t u k hs s.1)
 
-stands-push : (t : Tree) (hs : List Handle) (h : Handle) → StandsIn t h.place → Stands t hs → Stands t (hs ++ h ∷ [])
+stands-push : (t : Tree) (hs : List Handle) (h : Handle) → StandsIn t h.destination → Stands t hs → Stands t (hs ++ h ∷ [])
 stands-push t [] h new s = (new, tt)
 stands-push t (x ∷ hs) h new s = (s.0, stands-push t hs h new s.1)
 
-stands-cond : (b : Bool) (t : Tree) (h : Handle) (hs : List Handle) → StandsIn t h.place → Stands t hs → Stands t (cond b (h ∷ hs) hs)
+stands-cond : (b : Bool) (t : Tree) (h : Handle) (hs : List Handle) → StandsIn t h.destination → Stands t hs → Stands t (cond b (h ∷ hs) hs)
 stands-cond true t h hs one s = (one, s)
 stands-cond false t h hs one s = s
 
@@ -99,25 +99,25 @@ stands-closed : (t : Tree) (number : ℕ) (hs : List Handle) → Stands t hs →
 stands-closed t number [] s = tt
 stands-closed t number (h ∷ hs) s = stands-cond (not (eqb h.number number)) t h (closed number hs) s.0 (stands-closed t number hs s.1)
 
-place-at : (b : Bool) (t : Tree) (p : Path) (moment : ℕ) (q : Path) → same_path q p ≡ b → Has t q → StandsIn (without_key t p moment) (cond b Deleted (At q))
-place-at true t p moment q same h = tt
-place-at false t p moment q other h = has-without t p moment q other h
+destination-at : (b : Bool) (t : Tree) (p : Path) (moment : ℕ) (q : Path) → same_path q p ≡ b → Has t q → StandsIn (without_key t p moment) (cond b Deleted (At q))
+destination-at true t p moment q same h = tt
+destination-at false t p moment q other h = has-without t p moment q other h
 
-place-turned : (t : Tree) (p : Path) (moment : ℕ) (place : Place) → StandsIn t place → StandsIn (without_key t p moment) (place_without p place)
-place-turned t p moment (At q) h = place-at (same_path q p) t p moment q refl h
-place-turned t p moment Deleted h = tt
+destination-turned : (t : Tree) (p : Path) (moment : ℕ) (destination : Destination) → StandsIn t destination → StandsIn (without_key t p moment) (destination_without p destination)
+destination-turned t p moment (At q) h = destination-at (same_path q p) t p moment q refl h
+destination-turned t p moment Deleted h = tt
 
 stands-turned : (t : Tree) (p : Path) (moment : ℕ) (hs : List Handle) → Stands t hs → Stands (without_key t p moment) (turned p hs)
 stands-turned t p moment [] s = tt
-stands-turned t p moment (h ∷ hs) s = (place-turned t p moment h.place s.0, stands-turned t p moment hs s.1)
+stands-turned t p moment (h ∷ hs) s = (destination-turned t p moment h.destination s.0, stands-turned t p moment hs s.1)
 
 -- the handle that is found stands
-numbered-stands : (b : Bool) (t : Tree) (number : ℕ) (h : Handle) (hs : List Handle) (found : Handle) → StandsIn t h.place →
-    (numbered number hs ≡ Some found → StandsIn t found.place) → cond b (Some h) (numbered number hs) ≡ Some found → StandsIn t found.place
-numbered-stands true t number h hs found one rest e = subst (λ (o : Option Handle). StandsIn t (elim o as (λ _. Place) [ None ↦ Deleted | Some x ↦ x.place ])) e one
+numbered-stands : (b : Bool) (t : Tree) (number : ℕ) (h : Handle) (hs : List Handle) (found : Handle) → StandsIn t h.destination →
+    (numbered number hs ≡ Some found → StandsIn t found.destination) → cond b (Some h) (numbered number hs) ≡ Some found → StandsIn t found.destination
+numbered-stands true t number h hs found one rest e = subst (λ (o : Option Handle). StandsIn t (elim o as (λ _. Destination) [ None ↦ Deleted | Some x ↦ x.destination ])) e one
 numbered-stands false t number h hs found one rest e = rest e
 
-stands-numbered : (t : Tree) (number : ℕ) (hs : List Handle) (found : Handle) → Stands t hs → numbered number hs ≡ Some found → StandsIn t found.place
+stands-numbered : (t : Tree) (number : ℕ) (hs : List Handle) (found : Handle) → Stands t hs → numbered number hs ≡ Some found → StandsIn t found.destination
 stands-numbered t number [] found s e = absurd (cc)
 stands-numbered t number (h ∷ hs) found s e =
     numbered-stands (eqb h.number number) t number h hs found s.0 (stands-numbered t number hs found s.1) e
@@ -133,12 +133,13 @@ owned-some session (Some h) found e = by (eqb h.session session) e
 -- the key of a handle that leads to one is there
 pub stands-at : (t : Tree) (session number : ℕ) (hs : List Handle) (target : Target (look session number hs)) → Stands t hs → Has t target.path
 stands-at t session number hs target s =
-    subst (StandsIn t) target.place (stands-numbered t number hs target.handle s (owned-some session (numbered number hs) target.handle target.found))
+    subst (StandsIn t) target.destination (stands-numbered t number hs target.handle s (owned-some session (numbered number hs) target.handle target.found))
 
 -- the same of a world whose handles all stand
-pub target-there : (t : Tree) (session number : ℕ) (hs : List Handle) (handle : Handle) (path : Path) → look session number hs ≡ Some handle → handle.place ≡ At path → IsStanding t hs → Has t path
-target-there t session number hs handle path found place s =
-    stands-at t session number hs (record { handle = handle; path = path; found = found; place = place }) (recursion_from_All (λ (h : Handle). StandsIn t h.place) hs s.stand)
+pub target-there : (t : Tree) (session number : ℕ) (hs : List Handle) (handle : Handle) (path : Path) → look session number hs ≡ Some handle →
+    handle.destination ≡ At path → IsStanding t hs → Has t path
+target-there t session number hs handle path found destination s =
+    stands-at t session number hs (record { handle = handle; path = path; found = found; destination = destination }) (recursion_from_All (λ (h : Handle). StandsIn t h.destination) hs s.stand)
 
 -- ---- the root stays
 

@@ -193,9 +193,9 @@ root-stays origin es l h = let r = standing-all origin es l h in r.root
 pub handles-stand : (origin : Tree) (es : List Entry) → IsLegal origin es → Has origin [] → Stands (replay origin es).tree (replay origin es).handles
 handles-stand origin es l h = let r = standing-all origin es l h in r.stand
 
-pub all-stand : (origin : Tree) (es : List Entry) → IsLegal origin es → Has origin [] → All (λ (h : Handle). StandsIn (replay origin es).tree h.place) (replay origin es).handles
+pub all-stand : (origin : Tree) (es : List Entry) → IsLegal origin es → Has origin [] → All (λ (h : Handle). StandsIn (replay origin es).tree h.destination) (replay origin es).handles
 all-stand origin es l h =
-    All-from_recursion (λ (h : Handle). StandsIn (replay origin es).tree h.place) (replay origin es).handles (handles-stand origin es l h)
+    All-from_recursion (λ (h : Handle). StandsIn (replay origin es).tree h.destination) (replay origin es).handles (handles-stand origin es l h)
 
 -- a legal journal's replay stands
 pub is_standing : (origin : Tree) (es : List Entry) → IsLegal origin es → Has origin [] → IsStanding (replay origin es).tree (replay origin es).handles

@@ -2,7 +2,7 @@
 use Rattle.std.proofs.Common.{◌≡◌, ℕ, List, [], ◌∷◌, replicate, Some, None, refl}
 use Rattle.std.specs.FinMap.{insert, empty}
 use Rattle.reg_heap.specs.Paths.{Rec}
-use Rattle.reg_model.specs.Worlds.{Handle, Place, At, Deleted}
+use Rattle.reg_model.specs.Worlds.{Handle, Destination, At, Deleted}
 use Rattle.reg_model.specs.Causes.{State, early_cause, late_cause, change_cause, early_query_cause, late_query_cause, query_cause}
 use Rattle.reg_model.specs.Replies.{body_of, refusal}
 use Rattle.reg_model.specs.declared.call.Change.{Change}
@@ -20,8 +20,8 @@ root = record { name = 82 ∷ 79 ∷ 79 ∷ 84 ∷ []; marks = 8; class = []; de
 abbrev bare : Rec
 bare = record { name = 82 ∷ 79 ∷ 79 ∷ 84 ∷ []; marks = 8; class = []; descriptor = replicate 20 0; time = 0; values = [] }
 
-abbrev pub handle : ℕ → ℕ → ℕ → Place → Handle
-handle number session mask place = record { number = number; session = session; mask = mask; place = place }
+abbrev pub handle : ℕ → ℕ → ℕ → Destination → Handle
+handle number session mask destination = record { number = number; session = session; mask = mask; destination = destination }
 
 -- session 0 has handle 0 with all rights, 1 on a deleted key, 2 that may only query, 3 that may only set; session 1 has 4
 abbrev pub handles : List Handle

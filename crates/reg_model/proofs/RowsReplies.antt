@@ -45,7 +45,7 @@ opened_reply = refl
 abbrev opening_entry : Entry
 opening_entry = record { number = 0; session = 0; moment = 0; change = OpenRoot 983103; reply = record { status = 0; number = Some 0; handle = Some 0; disposition = None } }
 
-opened_world : replay origin (opening_entry ∷ []) ≡ record { tree = origin; handles = record { number = 0; session = 0; mask = 983103; place = At [] } ∷ [] }
+opened_world : replay origin (opening_entry ∷ []) ≡ record { tree = origin; handles = record { number = 0; session = 0; mask = 983103; destination = At [] } ∷ [] }
 unfolding after
 opened_world = refl
 
@@ -66,7 +66,7 @@ setting_entry = record { number = 1; session = 0; moment = 7; change = SetValue 
 abbrev root_after : Rec
 root_after = record { name = 82 ∷ 79 ∷ 79 ∷ 84 ∷ []; marks = 8; class = []; descriptor = descriptor; time = 7; values = record { name = []; kind = 4; bytes = 1 ∷ 0 ∷ 0 ∷ 0 ∷ [] } ∷ [] }
 
-set_world : replay origin (opening_entry ∷ setting_entry ∷ []) ≡ record { tree = insert origin [] root_after; handles = record { number = 0; session = 0; mask = 983103; place = At [] } ∷ [] }
+set_world : replay origin (opening_entry ∷ setting_entry ∷ []) ≡ record { tree = insert origin [] root_after; handles = record { number = 0; session = 0; mask = 983103; destination = At [] } ∷ [] }
 unfolding after
 set_world = rw root_put refl
 

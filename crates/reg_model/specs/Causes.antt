@@ -10,7 +10,7 @@ use Rattle.reg_model.specs.declared.limits.TheConstants.{JOURNAL_LIMIT, HANDLES_
 use Rattle.reg_model.specs.declared.rights.TheConstants.{NO_RIGHTS, QUERY_VALUE, SET_VALUE, ENUMERATE_SUB_KEYS}
 use Rattle.reg_model.specs.declared.statuses.TheConstants.{FILE_NOT_FOUND, ACCESS_DENIED, INVALID_HANDLE, INVALID_PARAMETER, NO_MORE_ITEMS}
 use Rattle.reg_model.specs.declared.statuses.TheConstants.{KEY_DELETED, NO_SYSTEM_RESOURCES}
-use Rattle.reg_model.specs.Worlds.{World, Handle, Place, At, Deleted, look, path_at, path_from}
+use Rattle.reg_model.specs.Worlds.{World, Handle, Destination, At, Deleted, look, path_at, path_from}
 use Rattle.reg_model.specs.declared.call.Change.{Change}
 use Rattle.reg_model.specs.declared.call.Change.TheVariants.{OpenRoot, OpenKey, CreateKey, SetValue, DeleteValue, DeleteKey, Close}
 use Rattle.reg_model.specs.declared.call.Query.{Query}
@@ -37,11 +37,11 @@ asked c = refuse (not (c == 0)) c
 -- 6 where the session has no such handle, 1018 where its key was deleted, and else what the handle's causes are
 abbrev pub by_handle : (Handle → Option ℕ) → Option Handle → Option ℕ
 by_handle f None = Some INVALID_HANDLE
-by_handle f (Some h) = by_place h.place
+by_handle f (Some h) = by_destination h.destination
   where
-    by_place : Place → Option ℕ
-    by_place (At p) = f h
-    by_place Deleted = Some KEY_DELETED
+    by_destination : Destination → Option ℕ
+    by_destination (At p) = f h
+    by_destination Deleted = Some KEY_DELETED
 
 -- rights are bits of 0xF003F
 abbrev pub is_mask : ℕ → Bool

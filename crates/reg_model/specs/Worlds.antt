@@ -10,12 +10,12 @@ use Rattle.reg_model.specs.declared.call.Change.TheVariants.{OpenRoot, OpenKey, 
 use Rattle.reg_model.specs.declared.reply.Entry.{Entry}
 
 -- where a handle leads: to a key, or nowhere any more
-pub data Place : Type 0 where
-  At : Path → Place
-  Deleted : Place
+pub data Destination : Type 0 where
+  At : Path → Destination
+  Deleted : Destination
 
 -- a key that a handle leads to is in the tree
-abbrev pub StandsIn : Tree → Place → Type 0
+abbrev pub StandsIn : Tree → Destination → Type 0
 StandsIn t (At p) = IsSome (get t p)
 StandsIn t Deleted = Unit {0}
 
@@ -24,7 +24,7 @@ pub record Handle : Type 0 where
   pub number : ℕ
   pub session : ℕ
   pub mask : ℕ
-  pub place : Place
+  pub destination : Destination
 
 -- the tree, and the open handles in the order of their numbers
 pub record World : Type 0 where
@@ -34,7 +34,7 @@ pub record World : Type 0 where
 -- the root is in the tree, and so is each key that a handle leads to
 pub record IsStanding (t : Tree) (hs : List Handle) : Type 0 where
   pub root : IsSome (get t [])
-  pub stand : All (λ (h : Handle). StandsIn t h.place) hs
+  pub stand : All (λ (h : Handle). StandsIn t h.destination) hs
 
 -- the handle of that number
 abbrev pub numbered : ℕ → List Handle → Option Handle
@@ -49,7 +49,7 @@ owned session (Some h) = if h.session == session then Some h else None
 abbrev pub look : ℕ → ℕ → List Handle → Option Handle
 look session number hs = owned session (numbered number hs)
 
-abbrev pub path_in : Place → Path
+abbrev pub path_in : Destination → Path
 path_in (At p) = p
 path_in Deleted = []
 
@@ -59,7 +59,7 @@ path_at session number hs = by (look session number hs)
   where
     by : Option Handle → Path
     by None = []
-    by (Some h) = path_in h.place
+    by (Some h) = path_in h.destination
 
 -- the path that is written as text, from a handle's key on
 abbrev pub path_from : ℕ → ℕ → List Handle → List ℕ → Path
@@ -67,7 +67,7 @@ path_from session number hs text = path_at session number hs ++ folded_path text
 
 -- a handle that an entry opens has the entry's number
 abbrev pub opened : Entry → Path → ℕ → Handle
-opened e p mask = record { number = e.number; session = e.session; mask = mask; place = At p }
+opened e p mask = record { number = e.number; session = e.session; mask = mask; destination = At p }
 
 -- the handles without the one of that number
 abbrev pub closed : ℕ → List Handle → List Handle
@@ -77,13 +77,13 @@ abbrev pub same_path : Path → Path → Bool
 same_path = eq_by_cmp path_cmp
 
 -- where a handle leads once the key at a path is gone
-abbrev pub place_without : Path → Place → Place
-place_without p (At q) = if same_path q p then Deleted else At q
-place_without p Deleted = Deleted
+abbrev pub destination_without : Path → Destination → Destination
+destination_without p (At q) = if same_path q p then Deleted else At q
+destination_without p Deleted = Deleted
 
 -- the handles once the key at a path is gone: those on it lead nowhere any more
 abbrev pub turned : Path → List Handle → List Handle
-turned p hs = map (λ (h : Handle). record h { place = place_without p h.place }) hs
+turned p hs = map (λ (h : Handle). record h { destination = destination_without p h.destination }) hs
 
 -- the world after an accepted change (`RegOpenKeyEx`, `RegCreateKeyEx`, `RegSetValueEx`, `RegDeleteValue`, `RegDeleteKey`,
 -- `RegCloseKey`): one line for each change

@@ -18,7 +18,7 @@ pub fn front_is_legal()
 {}
 
 /// The number of an entry of a legal journal is its index.
-pub fn number_is_place()
+pub fn number_is_index()
     ensures { (origin : Tree) → (past : List Entry) → (e : Entry) → (more : List Entry) → IsLegal origin (past ++ e ∷ more) → e.number ≡ length past }
 {}
 
@@ -85,5 +85,5 @@ pub fn root_stays()
 /// Every handle that leads to a key leads to one that is in the tree, after every legal journal of a tree that holds its root.
 pub fn handles_lead_to_keys()
     ensures { (origin : Tree) → (journal : List Entry) → IsLegal origin journal → IsSome (get origin []) →
-        All (λ (h : Handle). StandsIn (replay origin journal).tree h.place) (replay origin journal).handles }
+        All (λ (h : Handle). StandsIn (replay origin journal).tree h.destination) (replay origin journal).handles }
 {}

@@ -226,8 +226,8 @@ pub fn same_name(a: &[u8], b: &[u8]) -> bool
 pub fn name_order(a: &[u8], b: &[u8]) -> Ordering
     ensures { result ≡ name_cmp a.now b.now }
 {
-    for place in 0..a.len().min(b.len()) {
-        let order = fold(a[place]).cmp(&fold(b[place]));
+    for index in 0..a.len().min(b.len()) {
+        let order = fold(a[index]).cmp(&fold(b[index]));
         if order != Ordering::Equal {
             return order;
         }

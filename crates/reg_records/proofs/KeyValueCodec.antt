@@ -28,13 +28,13 @@ vk-reads_back fields name rest fit size =
     let content : List ℕ = vk_bytes fields name ++ rest in
     let at_2 : half content 2 ≡ length name = little_number-reads_back 2 (length name) [] size in
     let at_4 : word content 4 ≡ fields.size = little_number-reads_back 4 fields.size [] fit.size in
-    let at_8 : word content 8 ≡ fields.place = little_number-reads_back 4 fields.place [] fit.place in
+    let at_8 : word content 8 ≡ fields.offset = little_number-reads_back 4 fields.offset [] fit.offset in
     let at_12 : word content 12 ≡ fields.kind = little_number-reads_back 4 fields.kind [] fit.kind in
     let at_16 : half content 16 ≡ fields.flags = little_number-reads_back 2 fields.flags [] fit.flags in
     let long : length content ≡ 20 + (length name + length rest) = omega (arith, length-append name rest) in
     let text : take (half content 2) (drop 20 content) ≡ name = ap (λ n. take n (name ++ rest)) at_2 ∙ take-append_seam name rest in
     vk-made content (omega (arith, long)) refl (omega (arith, long, at_2))
-    ∙ (λ i. Ok (record { fields = record { size = at_4 i; place = at_8 i; kind = at_12 i; flags = at_16 i }; name = text i }))
+    ∙ (λ i. Ok (record { fields = record { size = at_4 i; offset = at_8 i; kind = at_12 i; flags = at_16 i }; name = text i }))
 
 -- a cell that a key value was written into reads as it
 pub value_record_at-written : (old new : Bins) (cell : ℕ) (fields : ValueFields) (name rest : List ℕ)
@@ -89,20 +89,20 @@ module _ (at : ℕ) (piece content : List ℕ) (r : KeyValueRecord) (low : 4 ≤
       ∙ (λ i. Ok (record { fields = e i; name = name i }))
 
 -- another size, offset and type of the data
-pub vk-filled : (size : ℕ) → size < 2 ^ 32 → (place : ℕ) → place < 2 ^ 32 → (kind : ℕ) → kind < 2 ^ 32 → (content : List ℕ) (r : KeyValueRecord) → vk_of content ≡ Ok r
-    → vk_of (splice 4 (little_bytes 4 size ++ little_bytes 4 place ++ little_bytes 4 kind) content) ≡ Ok (record r { fields = record r.fields { size = size; place = place; kind = kind } })
+pub vk-filled : (size : ℕ) → size < 2 ^ 32 → (offset : ℕ) → offset < 2 ^ 32 → (kind : ℕ) → kind < 2 ^ 32 → (content : List ℕ) (r : KeyValueRecord) → vk_of content ≡ Ok r
+    → vk_of (splice 4 (little_bytes 4 size ++ little_bytes 4 offset ++ little_bytes 4 kind) content) ≡ Ok (record r { fields = record r.fields { size = size; offset = offset; kind = kind } })
 unfolding half word
-vk-filled size fit0 place fit1 kind fit2 content r is =
-    let piece : List ℕ = little_bytes 4 size ++ little_bytes 4 place ++ little_bytes 4 kind in
+vk-filled size fit0 offset fit1 kind fit2 content r is =
+    let piece : List ℕ = little_bytes 4 size ++ little_bytes 4 offset ++ little_bytes 4 kind in
     let f : 4 + length piece ≤ length content = fits 4 piece content r (lit≤ tt) (lit≤ tt) is in
     let old : r.fields ≡ vk_fields_of content = ap (λ (k : KeyValueRecord). k.fields) (vk-open content r is).same in
     let new : List ℕ = splice 4 piece content in
     let to_size : word new 4 ≡ size = ap (little_number 4) (drop-within 4 piece content f 0 (lit≤ tt)) ∙ little_number-reads_back 4 size [] fit0 in
-    let to_place : word new 8 ≡ place = ap (little_number 4) (drop-within 4 piece content f 4 (lit≤ tt)) ∙ little_number-reads_back 4 place [] fit1 in
+    let to_offset : word new 8 ≡ offset = ap (little_number 4) (drop-within 4 piece content f 4 (lit≤ tt)) ∙ little_number-reads_back 4 offset [] fit1 in
     let to_kind : word new 12 ≡ kind = ap (little_number 4) (drop-within 4 piece content f 8 (lit≤ tt)) ∙ little_number-reads_back 4 kind [] fit2 in
     let to_flags : half new 16 ≡ r.fields.flags = number-above 4 piece content f 2 16 (lit≤ tt) ∙ sym (ap (λ (k : ValueFields). k.flags) old) in
-    vk-spliced 4 piece content r (lit≤ tt) (lit≤ tt) is (record r.fields { size = size; place = place; kind = kind })
-    (λ i. record { size = to_size i; place = to_place i; kind = to_kind i; flags = to_flags i })
+    vk-spliced 4 piece content r (lit≤ tt) (lit≤ tt) is (record r.fields { size = size; offset = offset; kind = kind })
+    (λ i. record { size = to_size i; offset = to_offset i; kind = to_kind i; flags = to_flags i })
 
 -- a key value has room for its fixed part
 pub value-room : (heap : Heap) (cell size : ℕ) → size ≤ 20 → IsSome (value_record_at heap cell) → HasRoom heap cell size

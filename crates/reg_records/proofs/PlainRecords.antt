@@ -103,13 +103,13 @@ plain-widened old new cell largest s w k =
 
 -- ---- key values
 
-pub plain-data : (old new : Bins) (cell size place kind : ℕ) → IsSome (value_record_at (cell_at old.bytes) cell) →
-    WritesPart old new cell 4 (little_bytes 4 size ++ little_bytes 4 place ++ little_bytes 4 kind) → IsPlainValue (held (cell_at old.bytes) cell) →
+pub plain-data : (old new : Bins) (cell size offset kind : ℕ) → IsSome (value_record_at (cell_at old.bytes) cell) →
+    WritesPart old new cell 4 (little_bytes 4 size ++ little_bytes 4 offset ++ little_bytes 4 kind) → IsPlainValue (held (cell_at old.bytes) cell) →
     IsPlainValue (held (cell_at new.bytes) cell)
-plain-data old new cell size place kind s w k =
+plain-data old new cell size offset kind s w k =
     let room = value-room (cell_at old.bytes) cell 20 (omega arith) s in
     ap (λ c. half c 18) (held-written old new cell _ w)
-    ∙ (half-kept 4 (little_bytes 4 size ++ little_bytes 4 place ++ little_bytes 4 kind) (held (cell_at old.bytes) cell) (omega (arith, room.enough)) 18 (inr (omega arith)) ∙ k)
+    ∙ (half-kept 4 (little_bytes 4 size ++ little_bytes 4 offset ++ little_bytes 4 kind) (held (cell_at old.bytes) cell) (omega (arith, room.enough)) 18 (inr (omega arith)) ∙ k)
 
 vk-plain : (fields : ValueFields) (name rest : List ℕ) → IsPlainValue (vk_bytes fields name ++ rest)
 unfolding vk_bytes half

@@ -7,22 +7,23 @@ use Rattle.reg_records.specs.SubkeyLists.{list_of, list_fault, list_bytes, entri
 
 -- `lh` with the keys at 32 and 120, with the hashes of `Run` and `ab`, and a byte that isn't the list's
 hash_leaf : list_of (108 ∷ 104 ∷ 2 ∷ 0 ∷ 32 ∷ 0 ∷ 0 ∷ 0 ∷ 25 ∷ 195 ∷ 1 ∷ 0 ∷ 120 ∷ 0 ∷ 0 ∷ 0 ∷ 167 ∷ 9 ∷ 0 ∷ 0 ∷ 7 ∷ [])
-    ≡ Some (record { form = HashLeaf; entries = record { place = 32; hint = 115481 } ∷ record { place = 120; hint = 2471 } ∷ [] })
+    ≡ Some (record { form = HashLeaf; entries = record { offset = 32; hint = 115481 } ∷ record { offset = 120; hint = 2471 } ∷ [] })
 unfolding list_of half word
 hash_leaf = refl
 
 -- `lf` with the key `Run` at 32
-fast_leaf : list_of (108 ∷ 102 ∷ 1 ∷ 0 ∷ 32 ∷ 0 ∷ 0 ∷ 0 ∷ 82 ∷ 117 ∷ 110 ∷ 0 ∷ []) ≡ Some (record { form = FastLeaf; entries = record { place = 32; hint = 7238994 } ∷ [] })
+fast_leaf : list_of (108 ∷ 102 ∷ 1 ∷ 0 ∷ 32 ∷ 0 ∷ 0 ∷ 0 ∷ 82 ∷ 117 ∷ 110 ∷ 0 ∷ []) ≡ Some (record { form = FastLeaf; entries = record { offset = 32; hint = 7238994 } ∷ [] })
 unfolding list_of half word
 fast_leaf = refl
 
 -- `li` with the keys at 32 and 120
-index_leaf : list_of (108 ∷ 105 ∷ 2 ∷ 0 ∷ 32 ∷ 0 ∷ 0 ∷ 0 ∷ 120 ∷ 0 ∷ 0 ∷ 0 ∷ []) ≡ Some (record { form = IndexLeaf; entries = record { place = 32; hint = 0 } ∷ record { place = 120; hint = 0 } ∷ [] })
+index_leaf : list_of (108 ∷ 105 ∷ 2 ∷ 0 ∷ 32 ∷ 0 ∷ 0 ∷ 0 ∷ 120 ∷ 0 ∷ 0 ∷ 0 ∷ []) ≡ Some
+    (record { form = IndexLeaf; entries = record { offset = 32; hint = 0 } ∷ record { offset = 120; hint = 0 } ∷ [] })
 unfolding list_of half word
 index_leaf = refl
 
 -- `ri` with the list at 168
-index_root : list_of (114 ∷ 105 ∷ 1 ∷ 0 ∷ 168 ∷ 0 ∷ 0 ∷ 0 ∷ []) ≡ Some (record { form = IndexRoot; entries = record { place = 168; hint = 0 } ∷ [] })
+index_root : list_of (114 ∷ 105 ∷ 1 ∷ 0 ∷ 168 ∷ 0 ∷ 0 ∷ 0 ∷ []) ≡ Some (record { form = IndexRoot; entries = record { offset = 168; hint = 0 } ∷ [] })
 unfolding list_of half word
 index_root = refl
 
@@ -51,10 +52,10 @@ without_fault = refl
 
 -- ---- as they are written
 
-hash_leaf_written : list_bytes HashLeaf (record { place = 32; hint = 115481 } ∷ []) ≡ 108 ∷ 104 ∷ 1 ∷ 0 ∷ 32 ∷ 0 ∷ 0 ∷ 0 ∷ 25 ∷ 195 ∷ 1 ∷ 0 ∷ []
+hash_leaf_written : list_bytes HashLeaf (record { offset = 32; hint = 115481 } ∷ []) ≡ 108 ∷ 104 ∷ 1 ∷ 0 ∷ 32 ∷ 0 ∷ 0 ∷ 0 ∷ 25 ∷ 195 ∷ 1 ∷ 0 ∷ []
 unfolding list_bytes entries_bytes
 hash_leaf_written = refl
 
-index_root_written : list_bytes IndexRoot (record { place = 168; hint = 0 } ∷ record { place = 256; hint = 0 } ∷ []) ≡ 114 ∷ 105 ∷ 2 ∷ 0 ∷ 168 ∷ 0 ∷ 0 ∷ 0 ∷ 0 ∷ 1 ∷ 0 ∷ 0 ∷ []
+index_root_written : list_bytes IndexRoot (record { offset = 168; hint = 0 } ∷ record { offset = 256; hint = 0 } ∷ []) ≡ 114 ∷ 105 ∷ 2 ∷ 0 ∷ 168 ∷ 0 ∷ 0 ∷ 0 ∷ 0 ∷ 1 ∷ 0 ∷ 0 ∷ []
 unfolding list_bytes entries_bytes
 index_root_written = refl

@@ -81,48 +81,48 @@ module _ (content : List ℕ) where
 
 -- ---- an entry among its neighbours
 
-plain-at : (content : List ℕ) (index count at place : ℕ) → index < count → place ≡ word content (at + 4 * index) →
-    slice_get (plain_entries count at content) index ≡ Some (record { place = place; hint = 0 })
-plain-at content zero zero at place l e = absurd (omega arith)
-plain-at content zero (suc count) at place l e = let here : at + 4 * 0 ≡ at = omega arith in ap (λ n. Some (record { place = n; hint = 0 })) (sym (e ∙ ap (word content) here))
-plain-at content (suc index) zero at place l e = absurd (omega arith)
-plain-at content (suc index) (suc count) at place l e =
+plain-at : (content : List ℕ) (index count at offset : ℕ) → index < count → offset ≡ word content (at + 4 * index) →
+    slice_get (plain_entries count at content) index ≡ Some (record { offset = offset; hint = 0 })
+plain-at content zero zero at offset l e = absurd (omega arith)
+plain-at content zero (suc count) at offset l e = let here : at + 4 * 0 ≡ at = omega arith in ap (λ n. Some (record { offset = n; hint = 0 })) (sym (e ∙ ap (word content) here))
+plain-at content (suc index) zero at offset l e = absurd (omega arith)
+plain-at content (suc index) (suc count) at offset l e =
     let further : at + 4 * suc index ≡ at + 4 + 4 * index = omega arith in
-    plain-at content index count (at + 4) place (omega arith) (e ∙ ap (word content) further)
+    plain-at content index count (at + 4) offset (omega arith) (e ∙ ap (word content) further)
 
-hinted-at : (content : List ℕ) (index count at place hint : ℕ) → index < count → place ≡ word content (at + 8 * index) →
-    hint ≡ word content (at + 8 * index + 4) → slice_get (hinted_entries count at content) index ≡ Some (record { place = place; hint = hint })
-hinted-at content zero zero at place hint l e h = absurd (omega arith)
-hinted-at content zero (suc count) at place hint l e h =
+hinted-at : (content : List ℕ) (index count at offset hint : ℕ) → index < count → offset ≡ word content (at + 8 * index) →
+    hint ≡ word content (at + 8 * index + 4) → slice_get (hinted_entries count at content) index ≡ Some (record { offset = offset; hint = hint })
+hinted-at content zero zero at offset hint l e h = absurd (omega arith)
+hinted-at content zero (suc count) at offset hint l e h =
     let here : at + 8 * 0 ≡ at = omega arith in
     let there : at + 8 * 0 + 4 ≡ at + 4 = omega arith in
-    (λ i. Some (record { place = sym (e ∙ ap (word content) here) i; hint = sym (h ∙ ap (word content) there) i }))
-hinted-at content (suc index) zero at place hint l e h = absurd (omega arith)
-hinted-at content (suc index) (suc count) at place hint l e h =
+    (λ i. Some (record { offset = sym (e ∙ ap (word content) here) i; hint = sym (h ∙ ap (word content) there) i }))
+hinted-at content (suc index) zero at offset hint l e h = absurd (omega arith)
+hinted-at content (suc index) (suc count) at offset hint l e h =
     let further : at + 8 * suc index ≡ at + 8 + 8 * index = omega arith in
     let beyond : at + 8 * suc index + 4 ≡ at + 8 + 8 * index + 4 = omega arith in
-    hinted-at content index count (at + 8) place hint (omega arith) (e ∙ ap (word content) further) (h ∙ ap (word content) beyond)
+    hinted-at content index count (at + 8) offset hint (omega arith) (e ∙ ap (word content) further) (h ∙ ap (word content) beyond)
 
-pub plainly-at : (form : Form) → (form ≡ IndexRoot) ⊎ (form ≡ IndexLeaf) → (content : List ℕ) (size index number place : ℕ) →
-    size ≡ entry_size form → number ≡ index → place ≡ word content (4 + size * number)
-    → (count : ℕ) → index < count → slice_get (entries_as form count 4 content) index ≡ Some (record { place = place; hint = 0 })
-plainly-at IndexRoot h content size index number place s n e count l = plain-at content index count 4 place l (e ∙ (ap (λ k. word content (4 + k * number)) s ∙ ap (λ k. word content (4 + 4 * k)) n))
-plainly-at IndexLeaf h content size index number place s n e count l = plain-at content index count 4 place l (e ∙ (ap (λ k. word content (4 + k * number)) s ∙ ap (λ k. word content (4 + 4 * k)) n))
-plainly-at FastLeaf (inl h) content size index number place s n e count l = absurd (cc h)
-plainly-at FastLeaf (inr h) content size index number place s n e count l = absurd (cc h)
-plainly-at HashLeaf (inl h) content size index number place s n e count l = absurd (cc h)
-plainly-at HashLeaf (inr h) content size index number place s n e count l = absurd (cc h)
+pub plainly-at : (form : Form) → (form ≡ IndexRoot) ⊎ (form ≡ IndexLeaf) → (content : List ℕ) (size index number offset : ℕ) →
+    size ≡ entry_size form → number ≡ index → offset ≡ word content (4 + size * number)
+    → (count : ℕ) → index < count → slice_get (entries_as form count 4 content) index ≡ Some (record { offset = offset; hint = 0 })
+plainly-at IndexRoot h content size index number offset s n e count l = plain-at content index count 4 offset l (e ∙ (ap (λ k. word content (4 + k * number)) s ∙ ap (λ k. word content (4 + 4 * k)) n))
+plainly-at IndexLeaf h content size index number offset s n e count l = plain-at content index count 4 offset l (e ∙ (ap (λ k. word content (4 + k * number)) s ∙ ap (λ k. word content (4 + 4 * k)) n))
+plainly-at FastLeaf (inl h) content size index number offset s n e count l = absurd (cc h)
+plainly-at FastLeaf (inr h) content size index number offset s n e count l = absurd (cc h)
+plainly-at HashLeaf (inl h) content size index number offset s n e count l = absurd (cc h)
+plainly-at HashLeaf (inr h) content size index number offset s n e count l = absurd (cc h)
 
-pub hintedly-at : (form : Form) → (form ≡ FastLeaf) ⊎ (form ≡ HashLeaf) → (content : List ℕ) (size index number place hint : ℕ) →
-    size ≡ entry_size form → number ≡ index → place ≡ word content (4 + size * number) → hint ≡ word content (4 + size * number + 4)
-    → (count : ℕ) → index < count → slice_get (entries_as form count 4 content) index ≡ Some (record { place = place; hint = hint })
-hintedly-at FastLeaf f content size index number place hint s n e h count l =
-    hinted-at content index count 4 place hint l (e ∙ (ap (λ k. word content (4 + k * number)) s ∙ ap (λ k. word content (4 + 8 * k)) n))
+pub hintedly-at : (form : Form) → (form ≡ FastLeaf) ⊎ (form ≡ HashLeaf) → (content : List ℕ) (size index number offset hint : ℕ) →
+    size ≡ entry_size form → number ≡ index → offset ≡ word content (4 + size * number) → hint ≡ word content (4 + size * number + 4)
+    → (count : ℕ) → index < count → slice_get (entries_as form count 4 content) index ≡ Some (record { offset = offset; hint = hint })
+hintedly-at FastLeaf f content size index number offset hint s n e h count l =
+    hinted-at content index count 4 offset hint l (e ∙ (ap (λ k. word content (4 + k * number)) s ∙ ap (λ k. word content (4 + 8 * k)) n))
     (h ∙ (ap (λ k. word content (4 + k * number + 4)) s ∙ ap (λ k. word content (4 + 8 * k + 4)) n))
-hintedly-at HashLeaf f content size index number place hint s n e h count l =
-    hinted-at content index count 4 place hint l (e ∙ (ap (λ k. word content (4 + k * number)) s ∙ ap (λ k. word content (4 + 8 * k)) n))
+hintedly-at HashLeaf f content size index number offset hint s n e h count l =
+    hinted-at content index count 4 offset hint l (e ∙ (ap (λ k. word content (4 + k * number)) s ∙ ap (λ k. word content (4 + 8 * k)) n))
     (h ∙ (ap (λ k. word content (4 + k * number + 4)) s ∙ ap (λ k. word content (4 + 8 * k + 4)) n))
-hintedly-at IndexRoot (inl f) content size index number place hint s n e h count l = absurd (cc f)
-hintedly-at IndexRoot (inr f) content size index number place hint s n e h count l = absurd (cc f)
-hintedly-at IndexLeaf (inl f) content size index number place hint s n e h count l = absurd (cc f)
-hintedly-at IndexLeaf (inr f) content size index number place hint s n e h count l = absurd (cc f)
+hintedly-at IndexRoot (inl f) content size index number offset hint s n e h count l = absurd (cc f)
+hintedly-at IndexRoot (inr f) content size index number offset hint s n e h count l = absurd (cc f)
+hintedly-at IndexLeaf (inl f) content size index number offset hint s n e h count l = absurd (cc f)
+hintedly-at IndexLeaf (inr f) content size index number offset hint s n e h count l = absurd (cc f)

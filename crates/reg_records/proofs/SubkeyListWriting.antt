@@ -17,7 +17,7 @@ use Rattle.reg_records.proofs.RecordWriting.{wrote_record}
 use Rattle.reg_records.proofs.SubkeyListReading.{is-read}
 
 pub record IsFit (entry : Entry) : Type 0 where
-  pub place : entry.place < 2 ^ 32
+  pub offset : entry.offset < 2 ^ 32
   pub hint : entry.hint < 2 ^ 32
 
 -- ---- bytes of entries
@@ -94,41 +94,41 @@ none-listed old now cell form all count e w = record {
 
 pub one-listed : (old between now : Bins) (cell : ℕ) (form : Form) (all : List Entry) (i : ℕ) (e d : Entry) → i < length all → e ≡ get_or all i d →
     IsListed old between cell form all i → WritesPart between now cell (4 + entry_size form * i) (entry_bytes form e)
-    → e.place < 2 ^ 32 → e.hint < 2 ^ 32 → IsListed old now cell form all (i + 1)
-one-listed old between now cell form all i e d l is before w place hint =
+    → e.offset < 2 ^ 32 → e.hint < 2 ^ 32 → IsListed old now cell form all (i + 1)
+one-listed old between now cell form all i e d l is before w offset hint =
     let one : take i all ++ e ∷ [] ≡ take (i + 1) all = ap (λ x. take i all ++ x ∷ []) is ∙ sym (take_more all i d l) in
     let so_far : length (take i all) ≡ i = length-take-le i all (omega arith) in
     record {
       written = subst (λ es. WritesCell old now cell (splice 0 (front form (length all) es) (held (cell_at old.bytes) cell))) one
           (one-written old between now cell form (length all) (take i all) e before.written (subst (λ n. WritesPart between now cell (4 + entry_size form * n) (entry_bytes form e)) (sym so_far) w));
-      fit = subst (AllByRecursion IsFit) one (all-append IsFit (take i all) (e ∷ []) before.fit (record { place = place; hint = hint }, tt));
+      fit = subst (AllByRecursion IsFit) one (all-append IsFit (take i all) (e ∷ []) before.fit (record { offset = offset; hint = hint }, tt));
     }
 
 -- ---- read back
 
-plain-on : (bytes : List Entry → List ℕ) → ((e : Entry) (es : List Entry) → bytes (e ∷ es) ≡ little_bytes 4 e.place ++ bytes es)
+plain-on : (bytes : List Entry → List ℕ) → ((e : Entry) (es : List Entry) → bytes (e ∷ es) ≡ little_bytes 4 e.offset ++ bytes es)
     → (es : List Entry) → AllByRecursion IsFit es → (at : ℕ) (content rest : List ℕ) → drop at content ≡ bytes es ++ rest → plain_entries (length es) at content ≡ map without_hint es
 unfolding word
 plain-on bytes cut [] fit at content rest h = refl
 plain-on bytes cut (e ∷ es) fit at content rest h =
-    let here : drop at content ≡ (little_bytes 4 e.place ++ bytes es) ++ rest = h ∙ ap (λ t. t ++ rest) (cut e es) in
-    let place : word content at ≡ e.place = ap (little_number 4) here ∙ little_number-reads_back 4 e.place [] fit.0.place in
+    let here : drop at content ≡ (little_bytes 4 e.offset ++ bytes es) ++ rest = h ∙ ap (λ t. t ++ rest) (cut e es) in
+    let offset : word content at ≡ e.offset = ap (little_number 4) here ∙ little_number-reads_back 4 e.offset [] fit.0.offset in
     let behind : drop (at + 4) content ≡ bytes es ++ rest = sym (drop-drop 4 at content) ∙ ap (drop 4) here in
     let others = plain-on bytes cut es fit.1 (at + 4) content rest behind in
-    (λ i. record { place = place i; hint = 0 } ∷ others i)
+    (λ i. record { offset = offset i; hint = 0 } ∷ others i)
 
-hinted-on : (bytes : List Entry → List ℕ) → ((e : Entry) (es : List Entry) → bytes (e ∷ es) ≡ (little_bytes 4 e.place ++ little_bytes 4 e.hint) ++ bytes es)
+hinted-on : (bytes : List Entry → List ℕ) → ((e : Entry) (es : List Entry) → bytes (e ∷ es) ≡ (little_bytes 4 e.offset ++ little_bytes 4 e.hint) ++ bytes es)
     → (es : List Entry) → AllByRecursion IsFit es → (at : ℕ) (content rest : List ℕ) → drop at content ≡ bytes es ++ rest → hinted_entries (length es) at content ≡ es
 unfolding word
 hinted-on bytes cut [] fit at content rest h = refl
 hinted-on bytes cut (e ∷ es) fit at content rest h =
-    let here : drop at content ≡ ((little_bytes 4 e.place ++ little_bytes 4 e.hint) ++ bytes es) ++ rest = h ∙ ap (λ t. t ++ rest) (cut e es) in
+    let here : drop at content ≡ ((little_bytes 4 e.offset ++ little_bytes 4 e.hint) ++ bytes es) ++ rest = h ∙ ap (λ t. t ++ rest) (cut e es) in
     let between : drop (at + 4) content ≡ (little_bytes 4 e.hint ++ bytes es) ++ rest = sym (drop-drop 4 at content) ∙ ap (drop 4) here in
     let behind : drop (at + 8) content ≡ bytes es ++ rest = sym (drop-drop 8 at content) ∙ ap (drop 8) here in
-    let place : word content at ≡ e.place = ap (little_number 4) here ∙ little_number-reads_back 4 e.place [] fit.0.place in
+    let offset : word content at ≡ e.offset = ap (little_number 4) here ∙ little_number-reads_back 4 e.offset [] fit.0.offset in
     let hint : word content (at + 4) ≡ e.hint = ap (little_number 4) between ∙ little_number-reads_back 4 e.hint [] fit.0.hint in
     let others = hinted-on bytes cut es fit.1 (at + 8) content rest behind in
-    (λ i. record { place = place i; hint = hint i } ∷ others i)
+    (λ i. record { offset = offset i; hint = hint i } ∷ others i)
 
 entries-on : (form : Form) (es : List Entry) → AllByRecursion IsFit es → (at : ℕ) (content rest : List ℕ) →
     drop at content ≡ entries_bytes form es ++ rest → entries_as form (length es) at content ≡ as_read form es

@@ -16,7 +16,7 @@ pub record KeyValueRecord : Type 0 where
 -- the numbers fit their fields
 pub record FitValue (fields : ValueFields) : Type 0 where
   pub size : fields.size < 2 ^ 32
-  pub place : fields.place < 2 ^ 32
+  pub offset : fields.offset < 2 ^ 32
   pub kind : fields.kind < 2 ^ 32
   pub flags : fields.flags < 2 ^ 16
 
@@ -24,7 +24,7 @@ pub record FitValue (fields : ValueFields) : Type 0 where
 abbrev pub vk_fields_of : List ℕ → ValueFields
 vk_fields_of content = record {
   size = word content 4;
-  place = word content 8;
+  offset = word content 8;
   kind = word content 12;
   flags = half content 16;
 }
@@ -46,7 +46,7 @@ abbrev pub vk_head : ValueFields → ℕ → List ℕ
 vk_head fields name_length =
     118 ∷ 107 ∷ little_bytes 2 name_length
     ++ little_bytes 4 fields.size
-    ++ little_bytes 4 fields.place
+    ++ little_bytes 4 fields.offset
     ++ little_bytes 4 fields.kind
     ++ little_bytes 2 fields.flags
     ++ little_bytes 2 0

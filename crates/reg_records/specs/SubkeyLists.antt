@@ -34,12 +34,12 @@ form_of content =
 -- so many entries of 4 bytes each, which are offsets, from an offset on
 abbrev pub plain_entries : ℕ → ℕ → List ℕ → List Entry
 plain_entries zero at content = []
-plain_entries (suc count) at content = record { place = word content at; hint = 0 } ∷ plain_entries count (at + 4) content
+plain_entries (suc count) at content = record { offset = word content at; hint = 0 } ∷ plain_entries count (at + 4) content
 
 -- so many entries of 8 bytes each, an offset and a hint, from an offset on
 abbrev pub hinted_entries : ℕ → ℕ → List ℕ → List Entry
 hinted_entries zero at content = []
-hinted_entries (suc count) at content = record { place = word content at; hint = word content (at + 4) } ∷ hinted_entries count (at + 8) content
+hinted_entries (suc count) at content = record { offset = word content at; hint = word content (at + 4) } ∷ hinted_entries count (at + 8) content
 
 abbrev pub plain : Form → List ℕ → Option SubkeysList
 plain form content =
@@ -61,8 +61,8 @@ unfoldable pub list_of : List ℕ → Option SubkeysList
 list_of content = option_and_then (λ form. list_as form content) (form_of content)
 
 -- the offsets in a list
-abbrev pub places_in : List Entry → List ℕ
-places_in entries = map (λ (e : Entry). e.place) entries
+abbrev pub offsets_in : List Entry → List ℕ
+offsets_in entries = map (λ (e : Entry). e.offset) entries
 
 -- ---- why a content is no list, and lists as they are written
 
@@ -96,10 +96,10 @@ list_fault content = if nat_lt (length content) 4 then Some Short else form_faul
 
 -- an entry as it is written: its offset, and its hint where the form has hints
 abbrev pub entry_bytes : Form → Entry → List ℕ
-entry_bytes IndexRoot entry = little_bytes 4 entry.place
-entry_bytes IndexLeaf entry = little_bytes 4 entry.place
-entry_bytes FastLeaf entry = little_bytes 4 entry.place ++ little_bytes 4 entry.hint
-entry_bytes HashLeaf entry = little_bytes 4 entry.place ++ little_bytes 4 entry.hint
+entry_bytes IndexRoot entry = little_bytes 4 entry.offset
+entry_bytes IndexLeaf entry = little_bytes 4 entry.offset
+entry_bytes FastLeaf entry = little_bytes 4 entry.offset ++ little_bytes 4 entry.hint
+entry_bytes HashLeaf entry = little_bytes 4 entry.offset ++ little_bytes 4 entry.hint
 
 unfoldable pub entries_bytes : Form → List Entry → List ℕ
 entries_bytes form [] = []
@@ -114,7 +114,7 @@ unfoldable pub list_bytes : Form → List Entry → List ℕ
 list_bytes form entries = head_bytes form (length entries) ++ entries_bytes form entries
 
 abbrev pub without_hint : Entry → Entry
-without_hint entry = record { place = entry.place; hint = 0 }
+without_hint entry = record { offset = entry.offset; hint = 0 }
 
 -- entries as they are read back: with hint 0 where the form has no hints
 abbrev pub as_read : Form → List Entry → List Entry

@@ -32,7 +32,7 @@ pub enum ListForm {
 #[derive(Clone, Copy, Debug, PartialEq, Eq)]
 pub struct ListEntry {
     /// The offset of a key, or in an `ri` of a list.
-    pub place: u32,
+    pub offset: u32,
     /// The first letters of the key's name in an `lf`, its hash in an `lh`, and else 0.
     pub hint: u32,
 }
@@ -122,12 +122,12 @@ pub fn entry_at(content: &[u8], form: ListForm, index: u16) -> ListEntry
     ensures { (count : ℕ) → index < count → slice_get (entries_as form count 4 content.now) index ≡ Some result }
 {
     let at = HEAD + form.entry_size() as usize * usize::from(index);
-    let place = word_at(content, at);
+    let offset = word_at(content, at);
     let hint = match form {
         ListForm::IndexRoot | ListForm::IndexLeaf => 0,
         ListForm::FastLeaf | ListForm::HashLeaf => word_at(content, at + 4),
     };
-    ListEntry { place, hint }
+    ListEntry { offset, hint }
 }
 
 /// Writes the entry at an index, counted from 0, of the list that a cell holds. An `ri` or `li` has no room for a hint,
@@ -135,10 +135,10 @@ pub fn entry_at(content: &[u8], form: ListForm, index: u16) -> ListEntry
 pub fn put_entry(arena: &mut Arena, cell: u32, form: ListForm, index: u16, entry: ListEntry)
     requires { HasRoom (cell_at arena.old.bytes) cell (4 + entry_size form * (index + 1)) }
     ensures written { WritesPart arena.old arena.new cell (4 + entry_size form * index) (entry_bytes form entry) }
-    ensures place { entry.place < 2 ^ 32 }
+    ensures offset { entry.offset < 2 ^ 32 }
     ensures hint { entry.hint < 2 ^ 32 }
 {
-    let [p0, p1, p2, p3] = word_bytes(entry.place);
+    let [p0, p1, p2, p3] = word_bytes(entry.offset);
     let [h0, h1, h2, h3] = word_bytes(entry.hint);
     let at = 4 + form.entry_size() * u32::from(index);
     match form {

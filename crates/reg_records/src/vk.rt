@@ -21,7 +21,7 @@ pub struct ValueFields {
     /// The size of the data in bytes; with the top bit 0x80000000 the data stands in `offset`.
     pub size: u32,
     /// The offset of the data, or the data itself.
-    pub place: u32,
+    pub offset: u32,
     /// The type of the data.
     pub kind: u32,
     /// The flags.
@@ -59,7 +59,7 @@ pub fn read_vk(content: &[u8]) -> Result<ValueRecord<'_>, RecordFault>
     Ok(ValueRecord {
         fields: ValueFields {
             size: word_at(content, 4),
-            place: word_at(content, 8),
+            offset: word_at(content, 8),
             kind: word_at(content, 12),
             flags: half_at(content, 16),
         },
@@ -74,7 +74,7 @@ fn head(fields: &ValueFields, name_length: u16) -> [u8; HEAD]
 {
     let [n0, n1] = half_bytes(name_length);
     let [s0, s1, s2, s3] = word_bytes(fields.size);
-    let [p0, p1, p2, p3] = word_bytes(fields.place);
+    let [p0, p1, p2, p3] = word_bytes(fields.offset);
     let [k0, k1, k2, k3] = word_bytes(fields.kind);
     let [f0, f1] = half_bytes(fields.flags);
     [
@@ -98,14 +98,15 @@ pub fn put_vk(arena: &mut Arena, cell: u32, fields: &ValueFields, name: &[u8])
 
 /// Writes the size of a key value's data with its top bit, the offset of the data or the data
 /// itself, and its type.
-pub fn set_data(arena: &mut Arena, cell: u32, size: u32, place: u32, kind: u32)
+pub fn set_data(arena: &mut Arena, cell: u32, size: u32, offset: u32, kind: u32)
     requires { IsSome (value_record_at (cell_at arena.old.bytes) cell) }
-    ensures written { WritesPart arena.old arena.new cell 4 (little_bytes 4 size ++ little_bytes 4 place ++ little_bytes 4 kind) }
-    ensures reads { Rereads value_record_at arena.old arena.new cell (λ r. record r { fields = record r.fields { size = size; place = place; kind = kind } }) }
+    ensures written { WritesPart arena.old arena.new cell 4 (little_bytes 4 size ++ little_bytes 4 offset ++ little_bytes 4 kind) }
+    ensures reads { Rereads value_record_at arena.old arena.new cell
+        (λ r. record r { fields = record r.fields { size = size; offset = offset; kind = kind } }) }
     ensures plain { IsPlainValue (held (cell_at arena.old.bytes) cell) → IsPlainValue (held (cell_at arena.new.bytes) cell) }
 {
     let [s0, s1, s2, s3] = word_bytes(size);
-    let [p0, p1, p2, p3] = word_bytes(place);
+    let [p0, p1, p2, p3] = word_bytes(offset);
     let [k0, k1, k2, k3] = word_bytes(kind);
     let bytes = [s0, s1, s2, s3, p0, p1, p2, p3, k0, k1, k2, k3];
     write_part(arena, cell, 4, &bytes);

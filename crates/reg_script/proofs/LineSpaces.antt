@@ -11,23 +11,23 @@ use Rattle.reg_script.proofs.AppendedBytes.{rest_is}
 abbrev is_space : ℕ → Bool
 is_space b = b == 32
 
-place_is : (p n place : ℕ) → cond (nat_lt p n) (Some p) None ≡ Some place → (place ≡ p) × (p < n)
-place_is p n place e = grind (arith, nat_tests)
+index_is : (p n index : ℕ) → cond (nat_lt p n) (Some p) None ≡ Some index → (index ≡ p) × (p < n)
+index_is p n index e = grind (arith, nat_tests)
 
-no_place : (p n : ℕ) → cond (nat_lt p n) (Some p) None ≡ None → n ≤ p
-no_place p n e = grind (arith, nat_tests)
+no_index : (p n : ℕ) → cond (nat_lt p n) (Some p) None ≡ None → n ≤ p
+no_index p n e = grind (arith, nat_tests)
 
-pub words_first : (line : List ℕ) (place : ℕ) → position is_space line ≡ Some place
-    → words_of line ≡ take place line ∷ words_of (take (length line - (place + 1)) (drop (place + 1) line))
+pub words_first : (line : List ℕ) (index : ℕ) → position is_space line ≡ Some index
+    → words_of line ≡ take index line ∷ words_of (take (length line - (index + 1)) (drop (index + 1) line))
 unfolding words_of
-words_first line place e =
-    let found = place_is (position_or_len is_space line) (length line) place e in
-    rw (rest_is (place + 1) line, found.0) (slice_split_first is_space line 0 found.1)
+words_first line index e =
+    let found = index_is (position_or_len is_space line) (length line) index e in
+    rw (rest_is (index + 1) line, found.0) (slice_split_first is_space line 0 found.1)
 
 pub words_one : (line : List ℕ) → position is_space line ≡ None → words_of line ≡ line ∷ []
 unfolding words_of
 words_one line e =
-    let past = no_place (position_or_len is_space line) (length line) e in
+    let past = no_index (position_or_len is_space line) (length line) e in
     slice_split_none is_space line (All-from_get_or (λ x. is_space x ≡ false) line 0 (λ i below. fails_before_first is_space line i 0 (omega (arith, past, below))))
 
 -- every line has a word, an empty one too

@@ -10,7 +10,7 @@ use Rattle.reg_script.specs.LineMeanings.{meaning_of}
 use Rattle.reg_script.specs.Lines.{Stand, IsSaid, AreSaid}
 use Rattle.reg_script.specs.Internal.Outputs.{IsSettled}
 use Rattle.reg_script.specs.Stops.{longest_line, most_lines, HasNoFeed}
-use Rattle.reg_script.specs.Internal.Progress.{Place, IsSteady, with_feeds, IsLine, Passes, Takes, Ends}
+use Rattle.reg_script.specs.Internal.Progress.{Position, IsSteady, with_feeds, IsLine, Passes, Takes, Ends}
 
 -- ---- lines
 
@@ -73,7 +73,7 @@ gathers_then : (a b c r s p q : List ℕ) → a ++ r ≡ p ++ b → b ++ s ≡ q
 gathers_then a b c r s p q h k =
     sym (append_assoc a r s) ∙ (ap (λ (w : List ℕ). w ++ s) h ∙ (append_assoc p b s ∙ (ap (λ (w : List ℕ). p ++ w) k ∙ sym (append_assoc p q c))))
 
-pub passes_then : (a b c : Place) (r s : List ℕ) → Passes a r b → Passes b s c → Passes a (r ++ s) c
+pub passes_then : (a b c : Position) (r s : List ℕ) → Passes a r b → Passes b s c → Passes a (r ++ s) c
 passes_then a b c r s h k = record {
   passed = h.passed ++ k.passed;
   appends = appends_then a.sent b.sent c.sent h.passed k.passed h.appends k.appends;
@@ -83,19 +83,19 @@ passes_then a b c r s h k = record {
 
 -- ---- both
 
-pub takes_none : (place : Place) → IsSteady place → Takes place [] place
-takes_none place steady = record {
+pub takes_none : (position : Position) → IsSteady position → Takes position [] position
+takes_none position steady = record {
   steady = steady;
   ended = [];
-  splits = append-nil place.begun;
+  splits = append-nil position.begun;
   are_lines = tt;
   counts = omega arith;
   replies = [];
   said = (refl, refl);
-  passes = record { passed = []; appends = appends_none place.sent; gathers = append-nil place.gathered; counts = omega (arith, steady.count) };
+  passes = record { passed = []; appends = appends_none position.sent; gathers = append-nil position.gathered; counts = omega (arith, steady.count) };
 }
 
-pub takes_then : (a b c : Place) (xs ys : List ℕ) → Takes a xs b → Takes b ys c → Takes a (xs ++ ys) c
+pub takes_then : (a b c : Position) (xs ys : List ℕ) → Takes a xs b → Takes b ys c → Takes a (xs ++ ys) c
 takes_then a b c xs ys h k = record {
   steady = k.steady;
   ended = h.ended ++ k.ended;
@@ -108,7 +108,7 @@ takes_then a b c xs ys h k = record {
 }
 
 -- a byte that is no LF joins the line that was begun
-pub takes_byte : (old : Place) (b : ℕ) (line : List ℕ) → IsSteady old → old.lines < most_lines → length old.begun < longest_line → b ≢ 10 →
+pub takes_byte : (old : Position) (b : ℕ) (line : List ℕ) → IsSteady old → old.lines < most_lines → length old.begun < longest_line → b ≢ 10 →
     line ≡ old.begun ++ b ∷ [] → Takes old (b ∷ []) (record old { begun = line })
 takes_byte old b line steady fewer shorter plain e =
     subst (λ (w : List ℕ). Takes old (b ∷ []) (record old { begun = w })) (sym e) (record {
@@ -129,10 +129,10 @@ takes_byte old b line steady fewer shorter plain e =
     })
 
 -- where a script stands once an LF has ended the line that was begun, and its reply is gathered
-abbrev pub after_line : Place → Stand → List ℕ → Place
+abbrev pub after_line : Position → Stand → List ℕ → Position
 after_line old stand text = record { stand = stand; lines = old.lines + 1; begun = []; gathered = text; sent = old.sent; written = old.written }
 
-pub takes_feed : (old : Place) (stand : Stand) (b : ℕ) (reply text : List ℕ) → b ≡ 10 → IsSteady old → old.lines < most_lines →
+pub takes_feed : (old : Position) (stand : Stand) (b : ℕ) (reply text : List ℕ) → b ≡ 10 → IsSteady old → old.lines < most_lines →
     IsSaid (meaning_of old.begun) old.stand reply stand → text ≡ old.gathered ++ reply
     → Takes old (b ∷ []) (after_line old stand text)
 takes_feed old stand b reply text is steady fewer said adds =
@@ -147,7 +147,7 @@ takes_feed old stand b reply text is steady fewer said adds =
       passes = record { passed = []; appends = appends_none old.sent; gathers = sym adds; counts = omega (arith, steady.count) };
     })
 
-settled : (mid new : Place) → mid.written ≤ 18446744073709551615 → IsSettled mid.sent new.sent mid.gathered new.gathered mid.written new.written → Passes mid [] new
+settled : (mid new : Position) → mid.written ≤ 18446744073709551615 → IsSettled mid.sent new.sent mid.gathered new.gathered mid.written new.written → Passes mid [] new
 settled mid new below (inl h) = record {
   passed = [];
   appends = subst (λ (o : Option (List ℕ)). Appends mid.sent o []) (sym h.0) (appends_none mid.sent);
@@ -162,7 +162,7 @@ settled mid new below (inr h) = record {
 }
 
 -- then what was gathered may be sent
-pub takes_line : (old new : Place) (b : ℕ) (reply text : List ℕ) (before : ℕ) → b ≡ 10 → IsSteady old → old.lines < most_lines →
+pub takes_line : (old new : Position) (b : ℕ) (reply text : List ℕ) (before : ℕ) → b ≡ 10 → IsSteady old → old.lines < most_lines →
     IsSaid (meaning_of old.begun) old.stand reply new.stand → text ≡ old.gathered ++ reply
     → new.begun ≡ [] → new.lines ≡ old.lines + 1 → before ≡ old.written → IsSettled old.sent new.sent text new.gathered before new.written → Takes old (b ∷ []) new
 takes_line old new b reply text before is steady fewer said adds cleared counts same settles =
@@ -188,7 +188,7 @@ takes_line old new b reply text before is steady fewer said adds cleared counts 
     }
 
 -- one more byte of some bytes
-pub takes_more : (a b c : Place) (bytes : List ℕ) (i : ℕ) → i < length bytes → Takes a (take i bytes) b → Takes b (get_or bytes i 0 ∷ []) c → Takes a (take (i + 1) bytes) c
+pub takes_more : (a b c : Position) (bytes : List ℕ) (i : ℕ) → i < length bytes → Takes a (take i bytes) b → Takes b (get_or bytes i 0 ∷ []) c → Takes a (take (i + 1) bytes) c
 takes_more a b c bytes i below h k =
     subst (λ (w : List ℕ). Takes a w c) (sym (take_more bytes i 0 below)) (takes_then a b c (take i bytes) (get_or bytes i 0 ∷ []) h k)
 
@@ -242,7 +242,7 @@ begun_few (b ∷ bs) n no_feed few one_more =
     let one : length (lines_of (b ∷ bs)) ≡ 1 = ap (λ (ls : List (List ℕ)). length ls) (line_last b bs no_feed) in
     omega (arith, fewer, one)
 
-pub ends_at : (old mid new : Place) (script reply : List ℕ) → Takes old script mid → AreSaid (lines_of mid.begun) mid.stand reply new.stand
+pub ends_at : (old mid new : Position) (script reply : List ℕ) → Takes old script mid → AreSaid (lines_of mid.begun) mid.stand reply new.stand
     → new.gathered ≡ mid.gathered ++ reply → new.sent ≡ mid.sent → new.written ≡ mid.written → Ends old script new
 ends_at old mid new script reply h said adds same counts =
     let lines : lines_of (old.begun ++ script) ≡ h.ended ++ lines_of mid.begun = ap lines_of h.splits ∙ lines_fed h.ended mid.begun h.are_lines in

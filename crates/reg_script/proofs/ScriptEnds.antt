@@ -9,28 +9,28 @@ use Rattle.reg_script.specs.LineWords.{lines_of}
 use Rattle.reg_script.specs.Lines.{Stand, AreSaid, Lines}
 use Rattle.reg_script.specs.Internal.Outputs.{IsCut, Closes}
 use Rattle.reg_script.specs.Stops.{HasNoFeed, AreWithin, PassesBound, IsReached, Stops}
-use Rattle.reg_script.specs.Internal.Progress.{Place, IsSteady, IsIdle, Halts, Ends}
+use Rattle.reg_script.specs.Internal.Progress.{Position, IsSteady, IsIdle, Halts, Ends}
 use Rattle.reg_script.proofs.ProgressLemmas.{consumes_none, appends_none}
 use Rattle.reg_script.proofs.ScriptHalts.{begins, stops_with, all_sent, cut_sent}
 
 -- a script at its start
-pub record IsStart (place : Place) (hive : View) : Type 0 where
-  pub lines : place.lines ≡ 0
-  pub begun : place.begun ≡ []
-  pub gathered : place.gathered ≡ []
-  pub written : place.written ≡ 0
-  pub stand : place.stand ≡ begins hive
+pub record IsStart (position : Position) (hive : View) : Type 0 where
+  pub lines : position.lines ≡ 0
+  pub begun : position.begun ≡ []
+  pub gathered : position.gathered ≡ []
+  pub written : position.written ≡ 0
+  pub stand : position.stand ≡ begins hive
 
 -- ---- a script that was read to its end
 
-same_place : (place : Place) → IsIdle place place
-same_place place = record { gathered = refl; sent = refl; written = refl }
+same_position : (position : Position) → IsIdle position position
+same_position position = record { gathered = refl; sent = refl; written = refl }
 
-said_whole : (old new : Place) (hive : View) (script : List ℕ) → IsStart old hive → (e : Ends old script new) → AreSaid (lines_of script) (begins hive) e.replies new.stand
+said_whole : (old new : Position) (hive : View) (script : List ℕ) → IsStart old hive → (e : Ends old script new) → AreSaid (lines_of script) (begins hive) e.replies new.stand
 said_whole old new hive script start e =
     subst (λ (s : Stand). AreSaid (lines_of script) s e.replies new.stand) start.stand (subst (λ (w : List ℕ). AreSaid (lines_of (w ++ script)) old.stand e.replies new.stand) start.begun e.said)
 
-within_whole : (old new : Place) (hive : View) (script : List ℕ) → IsStart old hive → Ends old script new → AreWithin (lines_of script)
+within_whole : (old new : Position) (hive : View) (script : List ℕ) → IsStart old hive → Ends old script new → AreWithin (lines_of script)
 within_whole old new hive script start e =
     subst (λ (w : List ℕ). AreWithin (lines_of (w ++ script))) start.begun (record { few = omega (arith, e.few, start.lines); short = e.short })
 
@@ -39,19 +39,19 @@ abbrev pub IsWhole : View → View → Option (List ℕ) → Option (List ℕ) �
 IsWhole hive new unread left before after =
     (script : List ℕ) × (text : List ℕ) × Consumes unread left script × Lines hive script text new × Appends before after text × AreWithin (lines_of script)
 
-ended_whole : (old new : Place) (hive : View) (script : List ℕ) (unread left final : Option (List ℕ)) → IsStart old hive →
+ended_whole : (old new : Position) (hive : View) (script : List ℕ) (unread left final : Option (List ℕ)) → IsStart old hive →
     Consumes unread left script → Ends old script new → Appends new.sent final new.gathered → IsWhole hive new.stand.hive unread left old.sent final
 ended_whole old new hive script unread left final start consumes e sent = (
   script,
   e.replies,
   consumes,
   (new.stand, said_whole old new hive script start e, refl),
-  all_sent old new new e.replies final e.passes start.gathered (same_place new) sent,
+  all_sent old new new e.replies final e.passes start.gathered (same_position new) sent,
   within_whole old new hive script start e,
 )
 
 -- the last write was cut
-ended_cut : (old new : Place) (hive : View) (script : List ℕ) (unread left final : Option (List ℕ)) (fault : ScriptFault) → IsStart old hive →
+ended_cut : (old new : Position) (hive : View) (script : List ℕ) (unread left final : Option (List ℕ)) (fault : ScriptFault) → IsStart old hive →
     Consumes unread left script → Ends old script new → IsCut new.sent final new.gathered new.written fault
     → Stops fault unread left hive new.stand.hive old.sent final
 ended_cut old new hive script unread left final fault start consumes e cut =
@@ -69,14 +69,14 @@ ended_cut old new hive script unread left final fault start consumes e cut =
 
 -- ---- a script that stopped before
 
-read_failed : (old new : Place) (hive : View) (script : List ℕ) (unread left final : Option (List ℕ)) → IsStart old hive →
+read_failed : (old new : Position) (hive : View) (script : List ℕ) (unread left final : Option (List ℕ)) → IsStart old hive →
     Consumes unread left script → Halts old script new Read → Appends new.sent final new.gathered →
     Stops Read unread left hive new.stand.hive old.sent final
 read_failed old new hive script unread left final start consumes k sent =
     stops_with old new hive new.stand.hive script Read Read unread left final k consumes start.lines start.begun start.stand
     (k.faults.1, all_sent old k.mid new k.takes.replies final k.takes.passes start.gathered k.faults.0 sent)
 
-too_long : (old new : Place) (hive : View) (script : List ℕ) (unread left final : Option (List ℕ)) → IsStart old hive → Consumes unread left script →
+too_long : (old new : Position) (hive : View) (script : List ℕ) (unread left final : Option (List ℕ)) → IsStart old hive → Consumes unread left script →
     Halts old script new TooLong → Appends new.sent final new.gathered → Stops TooLong unread left hive new.stand.hive old.sent final
 too_long old new hive script unread left final start consumes k sent =
     stops_with old new hive new.stand.hive script TooLong TooLong unread left final k consumes start.lines start.begun start.stand (
@@ -90,14 +90,14 @@ too_long old new hive script unread left final start consumes k sent =
     counted_from lines before ended rest none counts (inl h) = inl (omega (arith, none, counts, h.0), h.1)
     counted_from lines before ended rest none counts (inr h) = inr h
 
-no_memory : (old new : Place) (hive : View) (script : List ℕ) (unread left final : Option (List ℕ)) → IsStart old hive →
+no_memory : (old new : Position) (hive : View) (script : List ℕ) (unread left final : Option (List ℕ)) → IsStart old hive →
     Consumes unread left script → Halts old script new Memory → Appends new.sent final new.gathered →
     Stops Memory unread left hive new.stand.hive old.sent final
 no_memory old new hive script unread left final start consumes k sent =
     stops_with old new hive new.stand.hive script Memory Memory unread left final k consumes start.lines start.begun start.stand
     (k.faults.1, all_sent old k.mid new k.takes.replies final k.takes.passes start.gathered k.faults.0 sent)
 
-write_failed : (old new : Place) (hive : View) (script : List ℕ) (written : ℕ) (unread left final : Option (List ℕ)) → IsStart old hive →
+write_failed : (old new : Position) (hive : View) (script : List ℕ) (written : ℕ) (unread left final : Option (List ℕ)) → IsStart old hive →
     Consumes unread left script → Halts old script new (Write written) → final ≡ new.sent
     → Stops (Write written) unread left hive new.stand.hive old.sent final
 write_failed old new hive script written unread left final start consumes k same =
@@ -108,7 +108,7 @@ write_failed old new hive script written unread left final start consumes k same
     )
 
 -- the write after another fault was cut
-then_cut : (old new : Place) (hive : View) (script : List ℕ) (first fault : ScriptFault) (unread left final : Option (List ℕ)) → IsStart old hive →
+then_cut : (old new : Position) (hive : View) (script : List ℕ) (first fault : ScriptFault) (unread left final : Option (List ℕ)) → IsStart old hive →
     Consumes unread left script → (k : Halts old script new first) → IsIdle k.mid new → IsReached k.mid.stand (k.mid.begun ++ k.back) new.stand.hive
     → IsCut new.sent final new.gathered new.written fault → Stops fault unread left hive new.stand.hive old.sent final
 then_cut old new hive script first fault unread left final start consumes k idle reached cut =
@@ -142,13 +142,13 @@ closed_well A B (Err TooLong) result text before old new (inr h) a f = on_ok_of 
 closed_well A B (Err Memory) result text before old new (inl h) a f = on_ok_of _ result Memory h.0
 closed_well A B (Err Memory) result text before old new (inr h) a f = on_ok_of _ result h.0 h.1
 
-pub run_whole : (old new : Place) (hive : View) (unread left final : Option (List ℕ)) (ended result : Result (Unit {0}) ScriptFault) →
+pub run_whole : (old new : Position) (hive : View) (unread left final : Option (List ℕ)) (ended result : Result (Unit {0}) ScriptFault) →
     IsStart old hive → OnOk ended ((script : List ℕ) × Consumes unread left script × Ends old script new)
     → Closes ended new.gathered new.written new.sent final result → OnOk result (IsWhole hive new.stand.hive unread left old.sent final)
 run_whole old new hive unread left final ended result start done closes =
     closed_well _ _ ended result new.gathered new.written new.sent final closes done (λ e sent. ended_whole old new hive e.0 unread left final start e.1 e.2 sent)
 
-pub run_stops : (old new : Place) (hive : View) (unread left final : Option (List ℕ)) (ended result : Result (Unit {0}) ScriptFault) →
+pub run_stops : (old new : Position) (hive : View) (unread left final : Option (List ℕ)) (ended result : Result (Unit {0}) ScriptFault) →
     IsStart old hive → OnOk ended ((script : List ℕ) × Consumes unread left script × Ends old script new)
     → IfErr ended (λ fault. (script : List ℕ) × Consumes unread left script × Halts old script new fault) →
     Closes ended new.gathered new.written new.sent final result → IfErr result (λ fault. Stops fault unread left hive new.stand.hive old.sent final)
@@ -168,8 +168,8 @@ run_stops old new hive unread left final (Err Memory) result start e k (inr h) =
 
 -- ---- from the start
 
-pub steady_start : (place : Place) (hive : View) → IsStart place hive → IsSteady place
-steady_start place hive start = record {
+pub steady_start : (position : Position) (hive : View) → IsStart position hive → IsSteady position
+steady_start position hive start = record {
   no_feed = subst (λ (w : List ℕ). HasNoFeed w) (sym start.begun) tt;
   short = omega (arith, ap (λ (w : List ℕ). length w) start.begun);
   few = omega (arith, start.lines);
@@ -201,7 +201,7 @@ nothing_done hive unread before = record {
 
 -- ---- a whole run, where the script's position at its start and at its end are `old` and `new`
 
-module _ (old new : Place) (hive : View) (unread left final : Option (List ℕ)) (ended result : Result (Unit {0}) ScriptFault)
+module _ (old new : Position) (hive : View) (unread left final : Option (List ℕ)) (ended result : Result (Unit {0}) ScriptFault)
     (lines : old.lines ≡ 0) (begun : old.begun ≡ []) (gathered : old.gathered ≡ []) (written : old.written ≡ 0) (stand : old.stand ≡ begins hive)
     (ends : OnOk ended (IsSteady old → (script : List ℕ) × Consumes unread left script × Ends old script new))
     (closes : Closes ended new.gathered new.written new.sent final result) where

@@ -18,7 +18,7 @@ use Rattle.reg_script.specs.Internal.WordReadings.{said}
 use Rattle.reg_script.specs.Lines.{Stand, IsSaid, AreSaid}
 use Rattle.reg_script.specs.Internal.Outputs.{IsCut}
 use Rattle.reg_script.specs.Stops.{longest_line, most_lines, HasNoFeed, AreWithin, IsTooLong, PassesBound, IsOneMore, IsReached, IsTaken, IsLeft, Stops}
-use Rattle.reg_script.specs.Internal.Progress.{Place, IsSteady, with_feeds, IsLine, Passes, Takes, IsIdle, IsFault, Halts, stand_of}
+use Rattle.reg_script.specs.Internal.Progress.{Position, IsSteady, with_feeds, IsLine, Passes, Takes, IsIdle, IsFault, Halts, stand_of}
 use Rattle.reg_script.proofs.ProgressLemmas.{lines_fed, lines_short, no_feed_push, takes_none, takes_then, after_line, takes_feed, appends_then}
 
 -- ---- more bytes behind those that were not taken
@@ -45,7 +45,7 @@ reached_more last rest more new (inr h) = inr (record {
   answered = h.answered;
 })
 
-fault_more : (fault : ScriptFault) (mid new : Place) (back more : List ℕ) → IsFault fault mid back new → IsFault fault mid (back ++ more) new
+fault_more : (fault : ScriptFault) (mid new : Position) (back more : List ℕ) → IsFault fault mid back new → IsFault fault mid (back ++ more) new
 fault_more Read mid new back more h = h
 fault_more (Write written) mid new back more h = h
 fault_more TooLong mid new back more h =
@@ -55,10 +55,10 @@ fault_more Memory mid new back more h =
 
 -- ---- where it halts
 
-pub halts_here : (old new : Place) (bytes : List ℕ) (fault : ScriptFault) → IsSteady old → IsFault fault old bytes new → Halts old bytes new fault
+pub halts_here : (old new : Position) (bytes : List ℕ) (fault : ScriptFault) → IsSteady old → IsFault fault old bytes new → Halts old bytes new fault
 halts_here old new bytes fault steady faults = record { mid = old; front = []; back = bytes; splits = refl; takes = takes_none old steady; faults = faults }
 
-pub halts_after : (a b new : Place) (xs ys : List ℕ) (fault : ScriptFault) → Takes a xs b → Halts b ys new fault → Halts a (xs ++ ys) new fault
+pub halts_after : (a b new : Position) (xs ys : List ℕ) (fault : ScriptFault) → Takes a xs b → Halts b ys new fault → Halts a (xs ++ ys) new fault
 halts_after a b new xs ys fault h k = record {
   mid = k.mid;
   front = xs ++ k.front;
@@ -68,7 +68,7 @@ halts_after a b new xs ys fault h k = record {
   faults = k.faults;
 }
 
-pub halts_before : (a new : Place) (xs ys : List ℕ) (fault : ScriptFault) → Halts a xs new fault → Halts a (xs ++ ys) new fault
+pub halts_before : (a new : Position) (xs ys : List ℕ) (fault : ScriptFault) → Halts a xs new fault → Halts a (xs ++ ys) new fault
 halts_before a new xs ys fault h = record {
   mid = h.mid;
   front = h.front;
@@ -79,11 +79,11 @@ halts_before a new xs ys fault h = record {
 }
 
 -- after the bytes taken so far, nothing was done
-pub halts_at : (old new : Place) (bytes : List ℕ) (fault : ScriptFault) (now : Place) → Takes old bytes now → IsFault fault now [] new → Halts old bytes new fault
+pub halts_at : (old new : Position) (bytes : List ℕ) (fault : ScriptFault) (now : Position) → Takes old bytes now → IsFault fault now [] new → Halts old bytes new fault
 halts_at old new bytes fault now h faults = record { mid = now; front = bytes; back = []; splits = sym (append-nil bytes); takes = h; faults = faults }
 
 -- at one of some bytes
-pub halts_in : (a b new : Place) (bytes : List ℕ) (i : ℕ) (fault : ScriptFault) → i < length bytes → Takes a (take i bytes) b → Halts b (get_or bytes i 0 ∷ []) new fault → Halts a bytes new fault
+pub halts_in : (a b new : Position) (bytes : List ℕ) (i : ℕ) (fault : ScriptFault) → i < length bytes → Takes a (take i bytes) b → Halts b (get_or bytes i 0 ∷ []) new fault → Halts a bytes new fault
 halts_in a b new bytes i fault below h k =
     let front = halts_after a b new (take i bytes) (get_or bytes i 0 ∷ []) fault h k in
     let upto = subst (λ (w : List ℕ). Halts a w new fault) (sym (take_more bytes i 0 below)) front in
@@ -114,7 +114,7 @@ unfolding longest_line
 fed_length [] h = omega arith
 fed_length (line ∷ lines) h = let rest = fed_length lines h.1 in omega (arith, rest, h.0.short, length-append line (10 ∷ with_feeds lines))
 
-pub not_so_many : (old new : Place) (bytes : List ℕ) → old.lines ≡ 0 → old.begun ≡ [] → Takes old bytes new → length bytes < READS_LIMIT
+pub not_so_many : (old new : Position) (bytes : List ℕ) → old.lines ≡ 0 → old.begun ≡ [] → Takes old bytes new → length bytes < READS_LIMIT
 unfolding longest_line most_lines
 not_so_many old new bytes none empty h =
     let same : bytes ≡ with_feeds h.ended ++ new.begun = ap (λ (w : List ℕ). w ++ bytes) (sym empty) ∙ h.splits in
@@ -133,7 +133,7 @@ not_so_many old new bytes none empty h =
 abbrev pub begins : View → Stand
 begins hive = record { hive = hive; moment = 0; session = 0 }
 
-pub stops_with : (old new : Place) (hive new_hive : View) (script : List ℕ) (fault result : ScriptFault) (unread left final : Option (List ℕ)) →
+pub stops_with : (old new : Position) (hive new_hive : View) (script : List ℕ) (fault result : ScriptFault) (unread left final : Option (List ℕ)) →
     (k : Halts old script new fault) → Consumes unread left script
     → old.lines ≡ 0 → old.begun ≡ [] → old.stand ≡ begins hive →
     IsLeft result (length k.takes.ended) k.mid.stand (k.mid.begun ++ k.back) k.takes.replies new_hive old.sent final →
@@ -159,7 +159,7 @@ stops_with old new hive new_hive script fault result unread left final k consume
     }
 
 -- all replies were sent
-pub all_sent : (old mid new : Place) (replies : List ℕ) (final : Option (List ℕ)) → Passes old replies mid → old.gathered ≡ [] → IsIdle mid new →
+pub all_sent : (old mid new : Position) (replies : List ℕ) (final : Option (List ℕ)) → Passes old replies mid → old.gathered ≡ [] → IsIdle mid new →
     Appends new.sent final new.gathered → Appends old.sent final replies
 all_sent old mid new replies final p empty idle sent =
     let whole : replies ≡ p.passed ++ mid.gathered = ap (λ (w : List ℕ). w ++ replies) (sym empty) ∙ p.gathers in
@@ -168,7 +168,7 @@ all_sent old mid new replies final p empty idle sent =
     subst (λ (w : List ℕ). Appends old.sent final w) (sym whole) (appends_then old.sent mid.sent final p.passed mid.gathered p.appends rest')
 
 -- the writer took a front of what was left of them
-pub cut_sent : (old mid : Place) (replies : List ℕ) (final : Option (List ℕ)) (written : ℕ) → Passes old replies mid → old.gathered ≡ [] →
+pub cut_sent : (old mid : Position) (replies : List ℕ) (final : Option (List ℕ)) (written : ℕ) → Passes old replies mid → old.gathered ≡ [] →
     old.written ≡ 0 → IsCut mid.sent final mid.gathered mid.written (Write written)
     → IsTaken old.sent final replies written
 cut_sent old mid replies final written p empty zero cut =
@@ -209,7 +209,7 @@ one_more script hive new line call reply is h =
     subst (λ (l : Line). IsOneMore (said l) (stand_of script hive) new) (sym is) (record { reply = reply; next = stand_of script new; said = h; hive = refl })
 
 -- no memory for the reply to the line that was begun
-pub halts_lost : (old new : Place) (b : ℕ) (fault : ScriptFault) → IsSteady old → fault ≡ Memory → new.gathered ≡ old.gathered →
+pub halts_lost : (old new : Position) (b : ℕ) (fault : ScriptFault) → IsSteady old → fault ≡ Memory → new.gathered ≡ old.gathered →
     new.sent ≡ old.sent → new.written ≡ old.written → ((new.stand.hive ≡ old.stand.hive) ⊎ IsOneMore (meaning_of old.begun) old.stand new.stand.hive)
     → Halts old (b ∷ []) new fault
 halts_lost old new b fault steady is gathered sent written reached =
@@ -217,7 +217,7 @@ halts_lost old new b fault steady is gathered sent written reached =
     (halts_here old new (b ∷ []) Memory steady (record { gathered = gathered; sent = sent; written = written }, reply_lost old.begun (b ∷ []) old.stand old.stand.hive new.stand.hive refl reached))
 
 -- the replies were gathered, and the writer took a front of them
-pub halts_cut : (old new : Place) (b : ℕ) (reply text : List ℕ) (before : ℕ) (fault : ScriptFault) → b ≡ 10 → IsSteady old → old.lines < most_lines →
+pub halts_cut : (old new : Position) (b : ℕ) (reply text : List ℕ) (before : ℕ) (fault : ScriptFault) → b ≡ 10 → IsSteady old → old.lines < most_lines →
     IsSaid (meaning_of old.begun) old.stand reply new.stand → text ≡ old.gathered ++ reply → before ≡ old.written
     → IsCut old.sent new.sent text before fault → Halts old (b ∷ []) new fault
 halts_cut old new b reply text before fault is steady fewer said adds same cut =
@@ -236,7 +236,7 @@ unfolding most_lines
 one_more_line lines sum new fewer e same = omega (arith, fewer, e, same)
 
 -- no memory for the reply to the last line
-pub halts_last : (old now new : Place) (bytes : List ℕ) (fault : ScriptFault) → Takes old bytes now → fault ≡ Memory → new.gathered ≡ now.gathered →
+pub halts_last : (old now new : Position) (bytes : List ℕ) (fault : ScriptFault) → Takes old bytes now → fault ≡ Memory → new.gathered ≡ now.gathered →
     new.sent ≡ now.sent → new.written ≡ now.written → ((new.stand.hive ≡ now.stand.hive) ⊎ IsOneMore (meaning_of now.begun) now.stand new.stand.hive)
     → Halts old bytes new fault
 halts_last old now new bytes fault h is gathered sent written reached =

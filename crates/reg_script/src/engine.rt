@@ -8,7 +8,7 @@ ghost use Rattle.reg_script.specs.LineMeanings.{asks, meaning_of};
 ghost use Rattle.reg_script.specs.Internal.WordReadings.{said};
 ghost use Rattle.reg_script.specs.Lines.{IsSaid, AreSaid, Lines};
 ghost use Rattle.reg_script.specs.Stops.{fault_number, most_lines, HasNoFeed, AreWithin, IsOneMore, Stops};
-ghost use Rattle.reg_script.specs.Internal.Progress.{IsSteady, Adds, Loses, Takes, Halts, Ends, place_of, stand_of};
+ghost use Rattle.reg_script.specs.Internal.Progress.{IsSteady, Adds, Loses, Takes, Halts, Ends, position_of, stand_of};
 
 use crate::line::{Line, Session, Setting};
 use crate::output::Output;
@@ -94,12 +94,12 @@ impl Script {
         writer: &mut W,
         byte: u8,
     ) -> Result<(), ScriptFault>
-        ensures ok { OnOk result (IsSteady (place_of self.old (view_of hive.old) (W.contents writer.old)) →
-            Takes (place_of self.old (view_of hive.old) (W.contents writer.old)) (byte ∷ [])
-            (place_of self.new (view_of hive.new) (W.contents writer.new))) }
-        ensures err { IfErr result (λ fault. IsSteady (place_of self.old (view_of hive.old) (W.contents writer.old)) →
-            Halts (place_of self.old (view_of hive.old) (W.contents writer.old)) (byte ∷ [])
-            (place_of self.new (view_of hive.new) (W.contents writer.new)) fault) }
+        ensures ok { OnOk result (IsSteady (position_of self.old (view_of hive.old) (W.contents writer.old)) →
+            Takes (position_of self.old (view_of hive.old) (W.contents writer.old)) (byte ∷ [])
+            (position_of self.new (view_of hive.new) (W.contents writer.new))) }
+        ensures err { IfErr result (λ fault. IsSteady (position_of self.old (view_of hive.old) (W.contents writer.old)) →
+            Halts (position_of self.old (view_of hive.old) (W.contents writer.old)) (byte ∷ [])
+            (position_of self.new (view_of hive.new) (W.contents writer.new)) fault) }
     {
         if self.lines >= LINES_LIMIT {
             return Err(ScriptFault::TooLong);
@@ -124,12 +124,12 @@ impl Script {
         writer: &mut W,
         bytes: &[u8],
     ) -> Result<(), ScriptFault>
-        ensures ok { OnOk result (IsSteady (place_of self.old (view_of hive.old) (W.contents writer.old)) →
-            Takes (place_of self.old (view_of hive.old) (W.contents writer.old)) bytes.now
-            (place_of self.new (view_of hive.new) (W.contents writer.new))) }
-        ensures err { IfErr result (λ fault. IsSteady (place_of self.old (view_of hive.old) (W.contents writer.old)) →
-            Halts (place_of self.old (view_of hive.old) (W.contents writer.old)) bytes.now
-            (place_of self.new (view_of hive.new) (W.contents writer.new)) fault) }
+        ensures ok { OnOk result (IsSteady (position_of self.old (view_of hive.old) (W.contents writer.old)) →
+            Takes (position_of self.old (view_of hive.old) (W.contents writer.old)) bytes.now
+            (position_of self.new (view_of hive.new) (W.contents writer.new))) }
+        ensures err { IfErr result (λ fault. IsSteady (position_of self.old (view_of hive.old) (W.contents writer.old)) →
+            Halts (position_of self.old (view_of hive.old) (W.contents writer.old)) bytes.now
+            (position_of self.new (view_of hive.new) (W.contents writer.new)) fault) }
     {
         for byte in bytes {
             self.take_byte(hive, writer, *byte)?;
@@ -235,14 +235,14 @@ impl Script {
     ) -> Result<(), ScriptFault>
         requires { 0 < length chunk.old }
         ensures at_end { OnOk result (IsAtEnd (R.remaining reader.new)) }
-        ensures lines { OnOk result (IsSteady (place_of self.old (view_of hive.old) (W.contents writer.old)) →
+        ensures lines { OnOk result (IsSteady (position_of self.old (view_of hive.old) (W.contents writer.old)) →
             (script : List ℕ) × Consumes (R.remaining reader.old) (R.remaining reader.new) script
-            × Ends (place_of self.old (view_of hive.old) (W.contents writer.old)) script (place_of self.new (view_of hive.new) (W.contents writer.new))) }
-        ensures err { IfErr result (λ fault. IsSteady (place_of self.old (view_of hive.old) (W.contents writer.old)) →
+            × Ends (position_of self.old (view_of hive.old) (W.contents writer.old)) script (position_of self.new (view_of hive.new) (W.contents writer.new))) }
+        ensures err { IfErr result (λ fault. IsSteady (position_of self.old (view_of hive.old) (W.contents writer.old)) →
             self.old.lines ≡ 0 → self.old.line.items ≡ [] →
             (script : List ℕ) × Consumes (R.remaining reader.old) (R.remaining reader.new) script
-            × Halts (place_of self.old (view_of hive.old) (W.contents writer.old)) script
-            (place_of self.new (view_of hive.new) (W.contents writer.new)) fault) }
+            × Halts (position_of self.old (view_of hive.old) (W.contents writer.old)) script
+            (position_of self.new (view_of hive.new) (W.contents writer.new)) fault) }
     {
         for _read in 0..READS_LIMIT {
             let Ok(count) = reader.read(chunk) else {

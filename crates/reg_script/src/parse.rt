@@ -35,7 +35,7 @@ fn split_word(line: &[u8]) -> (&[u8], Option<&[u8]>)
     ensures { words_of line.now ≡ result.0.now ∷ words_left (option_copied result.1) }
 {
     match first_space(line) {
-        Some(place) => (&line[..place], Some(&line[place + 1..])),
+        Some(position) => (&line[..position], Some(&line[position + 1..])),
         None => (line, None),
     }
 }

@@ -15,7 +15,7 @@ use Rattle.reg_records.specs.declared.vk.ValueFields.{ValueFields}
 use Rattle.reg_records.specs.KeyNodes.{KeyRecord, key_at}
 use Rattle.reg_records.specs.KeyValues.{KeyValueRecord, vk_of}
 use Rattle.reg_records.specs.OffsetRows.{row_in}
-use Rattle.reg_records.specs.SubkeyLists.{SubkeysList, Entry, Form, list_of, places_in}
+use Rattle.reg_records.specs.SubkeyLists.{SubkeysList, Entry, Form, list_of, offsets_in}
 use Rattle.reg_records.specs.declared.lists.ListForm.TheVariants.{IndexRoot, IndexLeaf, FastLeaf, HashLeaf}
 use Rattle.reg_records.specs.BigData.{Named, if_any, BigData, segment_size, is_inline, inline_size, segments_for, segments, db_of}
 
@@ -52,13 +52,13 @@ big_at size offset = do
 
 -- the data of a size that stands in the value, in one cell, or behind a big data record
 abbrev pub data_by : Bool → Bool → ℕ → ℕ → Reading (List ℕ)
-data_by true small size place = guard (nat_le (inline_size size) 4) (give (take (inline_size size) (little_bytes 4 place)))
-data_by false true size place = pieces_at (if_any Data size place)
-data_by false false size place = big_at size place
+data_by true small size offset = guard (nat_le (inline_size size) 4) (give (take (inline_size size) (little_bytes 4 offset)))
+data_by false true size offset = pieces_at (if_any Data size offset)
+data_by false false size offset = big_at size offset
 
 -- a value's data
 abbrev pub data_at : ValueFields → Reading (List ℕ)
-data_at value = data_by (is_inline value.size) (nat_le value.size segment_size) value.size value.place
+data_at value = data_by (is_inline value.size) (nat_le value.size segment_size) value.size value.offset
 
 -- a name of one byte a character, or of UTF-16LE units
 abbrev pub letters : Bool → List ℕ → List ℕ
@@ -91,7 +91,7 @@ members_at (suc n) offset = do
 
 -- a list of keys: its offset, its form and its entries
 pub record KeyList : Type 0 where
-  pub place : ℕ
+  pub offset : ℕ
   pub list : SubkeysList
 
 -- a key's subkeys: none, a list of keys, or an index root with several
@@ -103,9 +103,9 @@ pub data Index : Type 0 where
 -- a list of keys of a form; an index root is none
 abbrev pub key_list_as : ℕ → SubkeysList → Form → Option KeyList
 key_list_as offset list IndexRoot = None
-key_list_as offset list IndexLeaf = Some (record { place = offset; list = list })
-key_list_as offset list FastLeaf = Some (record { place = offset; list = list })
-key_list_as offset list HashLeaf = Some (record { place = offset; list = list })
+key_list_as offset list IndexLeaf = Some (record { offset = offset; list = list })
+key_list_as offset list FastLeaf = Some (record { offset = offset; list = list })
+key_list_as offset list HashLeaf = Some (record { offset = offset; list = list })
 
 -- the subkeys list that a cell holds
 abbrev pub list_at : Heap → ℕ → Option SubkeysList
@@ -121,10 +121,10 @@ key_lists_at heap (offset ∷ offsets) = option_and_then (λ list. option_map (�
 
 -- a key's subkeys, by the form of the list
 abbrev pub index_as : Heap → ℕ → SubkeysList → Form → Option Index
-index_as heap offset list IndexRoot = option_map (Rooted offset) (key_lists_at heap (places_in list.entries))
-index_as heap offset list IndexLeaf = Some (Listed (record { place = offset; list = list }))
-index_as heap offset list FastLeaf = Some (Listed (record { place = offset; list = list }))
-index_as heap offset list HashLeaf = Some (Listed (record { place = offset; list = list }))
+index_as heap offset list IndexRoot = option_map (Rooted offset) (key_lists_at heap (offsets_in list.entries))
+index_as heap offset list IndexLeaf = Some (Listed (record { offset = offset; list = list }))
+index_as heap offset list FastLeaf = Some (Listed (record { offset = offset; list = list }))
+index_as heap offset list HashLeaf = Some (Listed (record { offset = offset; list = list }))
 
 -- a key's subkeys, from the number of them and the offset of the list
 abbrev pub index_at : Heap → ℕ → ℕ → Option Index
@@ -135,7 +135,7 @@ index_at heap (suc count) offset = option_and_then (λ list. index_as heap offse
 abbrev pub lists_of : Index → List KeyList
 lists_of Unlisted = []
 lists_of (Listed list) = list ∷ []
-lists_of (Rooted place lists) = lists
+lists_of (Rooted offset lists) = lists
 
 -- the entries of all lists of an index
 abbrev pub entries_of : Index → List Entry

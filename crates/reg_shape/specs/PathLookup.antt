@@ -7,7 +7,7 @@ use Rattle.reg_names.specs.Names.{folded}
 use Rattle.reg_heap.specs.Paths.{Path}
 use Rattle.reg_heap.specs.Heaps.{Heap}
 use Rattle.reg_records.specs.KeyNodes.{KeyRecord, key_at}
-use Rattle.reg_records.specs.SubkeyLists.{places_in}
+use Rattle.reg_records.specs.SubkeyLists.{offsets_in}
 use Rattle.reg_shape.specs.Nodes.{Node, entries_of, look}
 use Rattle.reg_shape.specs.Spelt.{name_of}
 
@@ -27,9 +27,9 @@ key_named heap name (offset ∷ offsets) = cond (is_called heap name offset) (So
 
 -- the subkey of this folded name, of the key at an offset
 abbrev pub subkey_named : Heap → List ℕ → ℕ → Option ℕ
-subkey_named heap name offset = option_and_then (λ (node : Node). key_named heap name (places_in (entries_of node.index))) (look heap offset)
+subkey_named heap name offset = option_and_then (λ (node : Node). key_named heap name (offsets_in (entries_of node.index))) (look heap offset)
 
 -- the offset of the key at a path from the key at an offset on
-unfoldable pub place_at : Heap → ℕ → Path → Option ℕ
-place_at heap offset [] = Some offset
-place_at heap offset (name ∷ path) = option_and_then (λ place. place_at heap place path) (subkey_named heap name offset)
+unfoldable pub key_offset_at : Heap → ℕ → Path → Option ℕ
+key_offset_at heap offset [] = Some offset
+key_offset_at heap offset (name ∷ path) = option_and_then (λ node_offset. key_offset_at heap node_offset path) (subkey_named heap name offset)

@@ -8,7 +8,7 @@ use Rattle.reg_heap.specs.Paths.{Path, Rec, Tree}
 use Rattle.reg_heap.specs.Heaps.{Heap}
 use Rattle.reg_records.specs.KeyNodes.{KeyRecord}
 use Rattle.reg_records.specs.KeySecurities.{KeySecurityRecord, security_at}
-use Rattle.reg_records.specs.SubkeyLists.{places_in}
+use Rattle.reg_records.specs.SubkeyLists.{offsets_in}
 use Rattle.reg_shape.specs.Nodes.{Node, letters, entries_of, look}
 use Rattle.reg_shape.specs.Walk.{gather}
 
@@ -42,7 +42,7 @@ behind rec below = map (λ (e : Path × Rec). (folded rec.name ∷ e.0, e.1)) ((
 
 -- a key and those below it, each made by `go`
 abbrev pub keys_of : (ℕ → Option (List (Path × Rec))) → Heap → Node → Option (List (Path × Rec))
-keys_of go heap node = option_and_then (λ rec. option_map (behind rec) (gather go (places_in (entries_of node.index)))) (rec_in heap node)
+keys_of go heap node = option_and_then (λ rec. option_map (behind rec) (gather go (offsets_in (entries_of node.index)))) (rec_in heap node)
 
 -- the key at an offset and all below it, each behind the folded names that lead to it, the first key's among them; each step
 -- down takes one of fuel

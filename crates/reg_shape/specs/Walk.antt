@@ -11,7 +11,7 @@ use Rattle.reg_records.specs.KeyNodes.{KeyRecord, nk_of}
 use Rattle.reg_records.specs.KeyValues.{KeyValueRecord, vk_of}
 use Rattle.reg_records.specs.KeySecurities.{KeySecurityRecord, sk_of}
 use Rattle.reg_records.specs.OffsetRows.{row_in}
-use Rattle.reg_records.specs.SubkeyLists.{Entry, Form, list_of, places_in}
+use Rattle.reg_records.specs.SubkeyLists.{Entry, Form, list_of, offsets_in}
 use Rattle.reg_records.specs.declared.lists.ListForm.TheVariants.{IndexRoot, IndexLeaf, FastLeaf, HashLeaf}
 use Rattle.reg_records.specs.BigData.{Named, named, plainly, if_any, BigData, segment_size, is_inline, inline_size, segments_for, segments, db_of}
 
@@ -31,8 +31,8 @@ key_names key =
 abbrev pub value_names : KeyValueRecord → Option (List Named)
 value_names value =
     if is_inline value.fields.size then (if nat_le (inline_size value.fields.size) 4 then Some [] else None)
-    else if nat_le value.fields.size segment_size then Some (if_any Data value.fields.size value.fields.place)
-    else Some (named BigHead value.fields.size value.fields.place ∷ [])
+    else if nat_le value.fields.size segment_size then Some (if_any Data value.fields.size value.fields.offset)
+    else Some (named BigHead value.fields.size value.fields.offset ∷ [])
 
 -- a big data record names its list of segments, which it has as many of as the size needs, or more
 abbrev pub big_names : ℕ → BigData → Option (List Named)
@@ -41,7 +41,7 @@ big_names size big =
 
 -- an index root names leaves, and no other list names lists
 abbrev pub leaves_named : Form → List Entry → Option (List Named)
-leaves_named IndexRoot entries = Some (map (plainly Leaf) (places_in entries))
+leaves_named IndexRoot entries = Some (map (plainly Leaf) (offsets_in entries))
 leaves_named IndexLeaf entries = None
 leaves_named FastLeaf entries = None
 leaves_named HashLeaf entries = None
@@ -49,9 +49,9 @@ leaves_named HashLeaf entries = None
 -- a leaf names keys
 abbrev pub keys_named : Form → List Entry → Option (List Named)
 keys_named IndexRoot entries = None
-keys_named IndexLeaf entries = Some (map (plainly Key) (places_in entries))
-keys_named FastLeaf entries = Some (map (plainly Key) (places_in entries))
-keys_named HashLeaf entries = Some (map (plainly Key) (places_in entries))
+keys_named IndexLeaf entries = Some (map (plainly Key) (offsets_in entries))
+keys_named FastLeaf entries = Some (map (plainly Key) (offsets_in entries))
+keys_named HashLeaf entries = Some (map (plainly Key) (offsets_in entries))
 
 -- a security has a descriptor, and names nothing that is walked
 abbrev pub security_names : KeySecurityRecord → Option (List Named)

@@ -13,7 +13,7 @@ use Rattle.reg_records.specs.KeySecurities.{KeySecurityRecord, security_at}
 use Rattle.reg_shape.specs.Walk.{walk}
 use Rattle.reg_records.specs.BigData.{plainly}
 use Rattle.reg_shape.specs.Nodes.{Node, entries_of, look}
-use Rattle.reg_records.specs.SubkeyLists.{places_in}
+use Rattle.reg_records.specs.SubkeyLists.{offsets_in}
 use Rattle.reg_shape.specs.Spelt.{keys_from}
 use Rattle.reg_shape.specs.Written.{Pairwise, IsWrittenKey, Fits, IsWrittenSecurity}
 
@@ -94,4 +94,4 @@ pub record HasSubkeys (heap : Heap) (offset : ℕ) (below : List (ℕ × Node)) 
   pub node : Node
   pub seen : look heap offset ≡ Some node
   pub reads : AllByRecursion (λ (e : ℕ × Node). look heap e.0 ≡ Some e.1) below
-  pub places : map (λ (e : ℕ × Node). e.0) below ≡ places_in (entries_of node.index)
+  pub offsets : map (λ (e : ℕ × Node). e.0) below ≡ offsets_in (entries_of node.index)

@@ -18,7 +18,7 @@ use Rattle.reg_records.specs.KeyNodes.{IsPlainKey}
 use Rattle.reg_records.specs.KeyValues.{KeyValueRecord, value_record_at, IsPlainValue}
 use Rattle.reg_records.specs.KeySecurities.{KeySecurityRecord, security_at, IsPlainSecurity}
 use Rattle.reg_records.specs.OffsetRows.{offsets_at}
-use Rattle.reg_records.specs.SubkeyLists.{Entry, places_in}
+use Rattle.reg_records.specs.SubkeyLists.{Entry, offsets_in}
 use Rattle.reg_records.specs.declared.lists.ListForm.TheVariants.{HashLeaf}
 use Rattle.reg_records.specs.BigData.{BigData, segment_size, is_inline, inline_size, segments_for, db_of}
 use Rattle.reg_shape.specs.Nodes.{Node, KeyList, Index, entries_of}
@@ -43,15 +43,15 @@ pub record IsWrittenList (list : KeyList) : Type 0 where
 abbrev pub IsWrittenIndex : Index → Type 0
 IsWrittenIndex Unlisted = ⊤
 IsWrittenIndex (Listed list) = IsWrittenList list
-IsWrittenIndex (Rooted place lists) = (2 ≤ length lists) × AllByRecursion IsWrittenList lists
+IsWrittenIndex (Rooted offset lists) = (2 ≤ length lists) × AllByRecursion IsWrittenList lists
 
 -- data of up to 4 bytes stands in the value, with the top bit set and unused bytes 0; more than 16,344 bytes stand behind a big
 -- data record, which has exactly the segments that they need
 pub record IsWrittenData (heap : Heap) (value : ValueFields) : Type 0 where
-  pub inline : is_inline value.size ≡ true → drop (inline_size value.size) (little_bytes 4 value.place) ≡ replicate (4 - inline_size value.size) 0
+  pub inline : is_inline value.size ≡ true → drop (inline_size value.size) (little_bytes 4 value.offset) ≡ replicate (4 - inline_size value.size) 0
   pub far : is_inline value.size ≡ false → 4 < value.size
   pub big : is_inline value.size ≡ false → segment_size < value.size →
-      (big : BigData) × (db_of (held heap value.place) ≡ Some big) × (big.count ≡ segments_for value.size)
+      (big : BigData) × (db_of (held heap value.offset) ≡ Some big) × (big.count ≡ segments_for value.size)
 
 -- a value's record; its flag says that it has a name
 pub record IsWrittenValue (heap : Heap) (offset : ℕ) : Type 0 where
@@ -62,10 +62,10 @@ pub record IsWrittenValue (heap : Heap) (offset : ℕ) : Type 0 where
   pub data_is : IsWrittenData heap value.fields
 
 -- a list of values: names that differ after folding, of the profile, data of at most 1,048,576 bytes; without values no list
-pub record AreWritten (heap : Heap) (count place : ℕ) (members : List Member) : Type 0 where
+pub record AreWritten (heap : Heap) (count offset : ℕ) (members : List Member) : Type 0 where
   pub few : count ≤ VALUES_LIMIT
-  pub none : count ≡ 0 → place ≡ NONE
-  pub each : AllByRecursion (IsWrittenValue heap) (offsets_at count 0 (held heap place))
+  pub none : count ≡ 0 → offset ≡ NONE
+  pub each : AllByRecursion (IsWrittenValue heap) (offsets_at count 0 (held heap offset))
   pub names : AllByRecursion (λ (m : Member). is_value_name m.name ≡ true) members
   pub apart : Pairwise (λ (a b : Member). folded a.name ≢ folded b.name) members
   pub sizes : AllByRecursion (λ (m : Member). length m.bytes ≤ DATA_LIMIT) members
@@ -92,7 +92,7 @@ pub record IsWrittenKey (heap : Heap) (root offset : ℕ) (node : Node) : Type 0
 -- what a key says of its subkeys, and they of it: the entries name them, in the strict order of their folded names and with their
 -- hashes; each names the key as its parent, and none is longer than the key says
 pub record Fits (offset : ℕ) (node : Node) (below : List (ℕ × Node)) : Type 0 where
-  pub places : map (λ (e : ℕ × Node). e.0) below ≡ places_in (entries_of node.index)
+  pub offsets : map (λ (e : ℕ × Node). e.0) below ≡ offsets_in (entries_of node.index)
   pub hashes : map (λ (e : ℕ × Node). hash e.1.key.name) below ≡ map (λ (e : Entry). e.hint) (entries_of node.index)
   pub order : Pairwise (λ (a b : ℕ × Node). Precedes a.1.key.name b.1.key.name) below
   pub parents : AllByRecursion (λ (e : ℕ × Node). e.1.key.fields.parent ≡ offset) below

@@ -13,7 +13,7 @@ ghost use Rattle.reg_heap.specs.Kinds.Kind.{Key};
 ghost use Rattle.reg_shape.specs.Internal.Forests.{Branch};
 ghost use Rattle.reg_arena.specs.declared.Cell.{Cell};
 ghost use Rattle.reg_arena.specs.Cells.{cells_of, cell_at};
-ghost use Rattle.reg_records.specs.SubkeyLists.{places_in};
+ghost use Rattle.reg_records.specs.SubkeyLists.{offsets_in};
 ghost use Rattle.reg_records.specs.BigData.{Named};
 ghost use Rattle.reg_shape.specs.Walk.{walk};
 ghost use Rattle.reg_shape.specs.Nodes.{Node, entries_of, look};
@@ -55,20 +55,20 @@ pub fn whole_shape_is_whole()
 
 /// A key whose own cells hold what they held reads as it did, and is as it was written, whatever changed elsewhere.
 pub fn key_stays_where_its_cells_stay()
-    ensures { (old new : Heap) → (root place : ℕ) → (node : Node) → IsSeen old root place node →
-        ((offset : ℕ) → 0 < owned offset (own_cells_of node) → new offset ≡ old offset) → IsSeen new root place node }
+    ensures { (old new : Heap) → (root offset : ℕ) → (node : Node) → IsSeen old root offset node →
+        ((offset : ℕ) → 0 < owned offset (own_cells_of node) → new offset ≡ old offset) → IsSeen new root offset node }
 {}
 
 /// Where one key's own cells are exchanged for others, the hive stays whole, and its tree has the key's new record at its path
 /// and no other change.
 pub fn one_keys_cells_are_exchanged()
-    ensures whole { (old new : Heap) → (root place : ℕ) → (before after : Node) → (path : Path) → (keys : Branch Node) →
-        (first : ℕ) → (others : List ℕ) → found_at path keys ≡ Some (place, before) →
-        IsExchanged old new root place before after → IsWholeShape old root keys first others →
+    ensures whole { (old new : Heap) → (root offset : ℕ) → (before after : Node) → (path : Path) → (keys : Branch Node) →
+        (first : ℕ) → (others : List ℕ) → found_at path keys ≡ Some (offset, before) →
+        IsExchanged old new root offset before after → IsWholeShape old root keys first others →
         IsWholeShape new root (edit_at path after keys) first others }
-    ensures tree { (old new : Heap) → ((offset : ℕ) → descriptor_in new offset ≡ descriptor_in old offset) → (place : ℕ) →
+    ensures tree { (old new : Heap) → ((offset : ℕ) → descriptor_in new offset ≡ descriptor_in old offset) → (offset : ℕ) →
         (before after : Node) → name_of after.key ≡ name_of before.key → (path : Path) → (keys : Branch Node) →
-        found_at path keys ≡ Some (place, before) →
+        found_at path keys ≡ Some (offset, before) →
         tree_of new (edit_at path after keys) ≡ insert (tree_of old keys) path
         (rec_of after (descriptor_in old after.key.fields.security)) }
 {}

@@ -66,7 +66,7 @@ const MODE: [u8; 24] = [
 
 const MODE_FIELDS: ValueFields = ValueFields {
     size: 0x8000_0004,
-    place: 7,
+    offset: 7,
     kind: 4,
     flags: 1,
 };
@@ -96,11 +96,11 @@ const LEAF: [u8; 20] = [
 
 const LEAF_ENTRIES: [ListEntry; 2] = [
     ListEntry {
-        place: 32,
+        offset: 32,
         hint: 115_481,
     },
     ListEntry {
-        place: 120,
+        offset: 120,
         hint: 2_471,
     },
 ];
@@ -133,7 +133,7 @@ fn a_list_is_read(rt: HostRuntime) -> Result<(), RecordFault> {
     assert_same(&rt, &second, &LEAF_ENTRIES[1]);
     let second = entry_at(&LEAF, ListForm::IndexLeaf, 1);
     let wanted = ListEntry {
-        place: 115_481,
+        offset: 115_481,
         hint: 0,
     };
     assert_same(&rt, &second, &wanted);
@@ -168,7 +168,7 @@ fn planned_in(alloc: Global, arena: &Arena, name: &[u8], size: u32) -> Result<St
     no_values_are_no_list();
     let list = ValuesList {
         count: 0,
-        place: 0xFFFF_FFFF,
+        offset: 0xFFFF_FFFF,
     };
     let sizes = plan_set(arena, alloc, list, name, size)?;
     Ok(format!(in alloc; "{sizes:?}")?)

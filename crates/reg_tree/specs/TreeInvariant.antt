@@ -7,22 +7,22 @@ use Rattle.reg_arena.specs.Cells.{cell_at}
 use Rattle.reg_shape.specs.Nodes.{Node, Index}
 use Rattle.reg_shape.specs.Nodes.Index.{Unlisted, Listed, Rooted}
 use Rattle.reg_shape.specs.Internal.Grafts.{IsShape}
-use Rattle.reg_shape.specs.PathLookup.{place_at}
+use Rattle.reg_shape.specs.PathLookup.{key_offset_at}
 use Rattle.reg_tree.specs.TreeKeys.{tree_in}
 
 -- 1 for an index root, and else 0
 abbrev pub is_rooted : Index → ℕ
 is_rooted Unlisted = 0
 is_rooted (Listed list) = 0
-is_rooted (Rooted place lists) = 1
+is_rooted (Rooted offset lists) = 1
 
 -- 1 for a key whose subkeys stand in an index root, and else 0
 abbrev pub rooted : ℕ → Node → ℕ
-rooted place node = is_rooted node.index
+rooted offset node = is_rooted node.index
 
 -- the keys stand in the cells, and have all of them (temporary: they all use one security, until keys can have their own, and none
 -- has more than one list of subkeys, until there are index roots)
-pub record Holds (bytes : List ℕ) (root : ℕ) : Type 0 where
+pub record TreeInvariant (bytes : List ℕ) (root : ℕ) : Type 0 where
   pub keys : Branch Node
   pub first : ℕ
   pub shape : IsShape (cell_at bytes) root keys first [] []
@@ -32,11 +32,11 @@ pub record Holds (bytes : List ℕ) (root : ℕ) : Type 0 where
 pub record IsHere (bytes : List ℕ) (key : ℕ) : Type 0 where
   pub root : ℕ
   pub path : Path
-  pub holds : Holds bytes root
-  pub at : place_at (cell_at bytes) root path ≡ Some key
+  pub holds : TreeInvariant bytes root
+  pub at : key_offset_at (cell_at bytes) root path ≡ Some key
 
 -- the key at a path was changed so, and nothing else of the tree; each key stays where it stands
 pub record IsChanged (old new : List ℕ) (root : ℕ) (path : Path) (f : Rec → Rec) : Type 0 where
-  pub holds : Holds new root
+  pub holds : TreeInvariant new root
   pub tree : tree_in new root ≡ edited (tree_in old root) path f
-  pub places : (p : Path) → place_at (cell_at new) root p ≡ place_at (cell_at old) root p
+  pub offsets : (p : Path) → key_offset_at (cell_at new) root p ≡ key_offset_at (cell_at old) root p

@@ -12,7 +12,7 @@ use Rattle.reg_arena.specs.Arena.{Bins}
 use Rattle.reg_arena.specs.Cells.{cells_of, cell_at}
 use Rattle.reg_shape.specs.Spelt.{spelt}
 use Rattle.reg_shape.specs.Whole.{IsWhole}
-use Rattle.reg_shape.specs.PathLookup.{place_at}
+use Rattle.reg_shape.specs.PathLookup.{key_offset_at}
 use Rattle.reg_tree.specs.declared.node.Node.{Node}
 use Rattle.reg_tree.specs.declared.node.Created.{Created}
 
@@ -48,7 +48,7 @@ made_root name descriptor moment = record { name = name; marks = 8; class = []; 
 
 -- a node is that of the key at a path: it has the offset of the key node at the end of the path, and the path's length
 pub record IsAt (keys : Keys) (path : Path) (node : Node) : Type 0 where
-  pub place : place_at (cell_at keys.bins.bytes) keys.root path ≡ Some node.offset
+  pub offset : key_offset_at (cell_at keys.bins.bytes) keys.root path ≡ Some node.offset
   pub depth : node.depth ≡ length path
 
 -- a node is that of a key

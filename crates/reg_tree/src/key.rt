@@ -81,24 +81,24 @@ pub fn fields(arena: &Arena, key: u32) -> KeyFields
 /// The list of a key's values, as its key node names it.
 pub fn values_list(arena: &Arena, key: u32) -> ValuesList
     requires { IsSome (key_at (cell_at arena.now.bytes) key) }
-    ensures { HasList (cell_at arena.now.bytes) key result.count result.place }
+    ensures { HasList (cell_at arena.now.bytes) key result.count result.offset }
 {
     let fields = fields(arena, key);
     ValuesList {
         count: fields.values,
-        place: fields.values_list,
+        offset: fields.values_list,
     }
 }
 
 /// The list of a key's subkeys, as its key node names it.
 pub fn subkeys_list(arena: &Arena, key: u32) -> SubkeysIndex
     requires { IsSome (key_at (cell_at arena.now.bytes) key) }
-    ensures { HasSubkeysList (cell_at arena.now.bytes) key result.count result.place }
+    ensures { HasSubkeysList (cell_at arena.now.bytes) key result.count result.offset }
 {
     let fields = fields(arena, key);
     SubkeysIndex {
         count: fields.subkeys,
-        place: fields.subkeys_list,
+        offset: fields.subkeys_list,
     }
 }
 
@@ -107,10 +107,10 @@ pub fn subkeys_list(arena: &Arena, key: u32) -> SubkeysIndex
 pub fn note_values(arena: &mut Arena, key: u32, list: ValuesList, name: u32, size: u32, moment: u64)
     requires exists { IsSome (key_at (cell_at arena.old.bytes) key) }
     requires name { name < 2 ^ 31 }
-    ensures { Notes (cell_at arena.old.bytes) (cell_at arena.new.bytes) key (noted list.count list.place name size moment) }
+    ensures { Notes (cell_at arena.old.bytes) (cell_at arena.new.bytes) key (noted list.count list.offset name size moment) }
 {
     let old = fields(arena, key);
-    set_values(arena, key, list.count, list.place);
+    set_values(arena, key, list.count, list.offset);
     set_time(arena, key, moment);
     set_largest_value_name(arena, key, old.largest_value_name.max(2 * name));
     set_largest_value_data(arena, key, old.largest_value_data.max(size));
@@ -130,11 +130,11 @@ fn raise(largest: u32, length: u32) -> u32
 pub fn note_subkeys(arena: &mut Arena, key: u32, list: SubkeysIndex, name: u32, moment: u64)
     requires exists { IsSome (key_at (cell_at arena.old.bytes) key) }
     requires name { name ≤ KEY_NAME_LIMIT }
-    ensures { Notes (cell_at arena.old.bytes) (cell_at arena.new.bytes) key (noted_subkeys list.count list.place name moment) }
+    ensures { Notes (cell_at arena.old.bytes) (cell_at arena.new.bytes) key (noted_subkeys list.count list.offset name moment) }
 {
     let old = fields(arena, key);
     set_subkeys(arena, key, list.count);
-    set_subkeys_list(arena, key, list.place);
+    set_subkeys_list(arena, key, list.offset);
     set_time(arena, key, moment);
     set_largest_subkey_name(arena, key, raise(old.largest_subkey_name, 2 * name));
 }

@@ -45,7 +45,7 @@ fn make(arena: &mut Arena, parent: u32, list_cell: u32, key: u32, name: &[u8], m
     let users = with_one_more(arena, above.security);
     let list = SubkeysIndex {
         count: above.subkeys,
-        place: above.subkeys_list,
+        offset: above.subkeys_list,
     };
     let Err(index) = find(arena, list, name) else {
         unreachable!()

@@ -28,7 +28,7 @@ pub struct Tree {
 
 impl Model for Tree {
     ghost use Rattle.reg_tree.specs.TreeKeys.{Keys, coded_keys, tree_in};
-    ghost use Rattle.reg_tree.specs.TreeInvariant.{Holds};
+    ghost use Rattle.reg_tree.specs.TreeInvariant.{TreeInvariant};
 
     ghost Value = { Keys };
 
@@ -36,7 +36,7 @@ impl Model for Tree {
 
     ghost view = { λ t. record { bins = t.arena; root = t.root; tree = tree_in t.arena.bytes t.root } };
 
-    ghost invariant = { λ t. Holds t.arena.bytes t.root };
+    ghost invariant = { λ t. TreeInvariant t.arena.bytes t.root };
 }
 
 impl Tree {

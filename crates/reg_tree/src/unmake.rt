@@ -5,7 +5,7 @@
 ghost use Rattle.std.specs.Prelude.{◌≡◌, ◌≢◌, ◌⊎◌, ◌↔◌, ◌==◌, not, true, ℕ, List, [], length, Some, Err, IsSome, OnOk, OnErr, IfErr};
 ghost use Rattle.reg_heap.specs.Paths.{children_of};
 ghost use Rattle.reg_heap.specs.Edits.{IsKept};
-ghost use Rattle.reg_heap.specs.Heaps.{Swaps};
+ghost use Rattle.reg_heap.specs.Heaps.{CellFrame};
 ghost use Rattle.reg_heap.specs.Kinds.{owned};
 ghost use Rattle.reg_arena.specs.Cells.{cell_at};
 ghost use Rattle.reg_records.specs.KeyNodes.{KeyRecord, key_at};
@@ -69,7 +69,7 @@ fn free_class(arena: &mut Arena, fields: KeyFields)
 fn free_key(arena: &mut Arena, key: u32)
     requires { IsSole (cell_at arena.old.bytes) key }
     ensures { (node : KeyWithCells) → look (cell_at arena.old.bytes) key ≡ Some node →
-        Swaps (cell_at arena.old.bytes) (cell_at arena.new.bytes) (λ offset. owned offset node.cells) (λ offset. 0) }
+        CellFrame (cell_at arena.old.bytes) (cell_at arena.new.bytes) (λ offset. owned offset node.cells) (λ offset. 0) }
 {
     let head = fields(arena, key);
     let values = values_list(arena, key);

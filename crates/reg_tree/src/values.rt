@@ -78,11 +78,11 @@ pub fn at(arena: &Arena, key: u32, index: u32) -> Option<Value<'_>>
 /// Whether there are as many values as there may be, and none of that name.
 fn is_full(arena: &Arena, key: u32, list: ValuesList, name: &[u8]) -> bool
     requires here { IsHere arena.now.bytes key }
-    requires list { HasList (cell_at arena.now.bytes) key list.count list.place }
+    requires list { HasList (cell_at arena.now.bytes) key list.count list.offset }
     ensures full { (t : IsHere arena.now.bytes key) → result ≡ true →
         (VALUES_LIMIT ≤ length (values_at (tree_in arena.now.bytes t.root) t.path))
         × (value_named name.now (values_at (tree_in arena.now.bytes t.root) t.path) ≡ None) }
-    ensures room { result ≡ false → (list.count < VALUES_LIMIT) ⊎ IsNamed (cell_at arena.now.bytes) list.count list.place name.now }
+    ensures room { result ≡ false → (list.count < VALUES_LIMIT) ⊎ IsNamed (cell_at arena.now.bytes) list.count list.offset name.now }
 {
     if list.count < VALUES_LIMIT {
         return false;

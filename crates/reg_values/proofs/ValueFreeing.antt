@@ -1,4 +1,4 @@
 -- Cells given up, one after another.
-pub mod SwapChains
+pub mod FrameChains
 pub mod FreedRuns
 pub mod ClearedLists

@@ -3,7 +3,7 @@
 use Rattle.std.specs.Prelude.{◌≡◌, ℕ, ◌+◌, ◌<◌, ◌≤◌, IsSome, Some, None, List, map, length}
 use Rattle.reg_heap.specs.Paths.{Member}
 use Rattle.reg_heap.specs.Members.{value_named}
-use Rattle.reg_heap.specs.Heaps.{Heap, Swaps, allocated}
+use Rattle.reg_heap.specs.Heaps.{Heap, CellFrame, allocated}
 use Rattle.reg_heap.specs.Kinds.{Found, times, owned}
 use Rattle.reg_records.specs.RecordCells.{held}
 use Rattle.reg_shape.specs.Readings.{Reading}
@@ -16,27 +16,27 @@ OfRead {A = A} r heap holds = (x : A) → (met : List Found) → r heap ≡ Some
 
 -- a list of so many values stands at an offset: it reads as these, its cells are allocated and each is met once, and it is as it is
 -- written
-pub record AreValues (heap : Heap) (count place : ℕ) : Type 0 where
+pub record AreValues (heap : Heap) (count list_offset : ℕ) : Type 0 where
   pub members : List Member
   pub met : List Found
-  pub reads : members_at count place heap ≡ Some (members, met)
+  pub reads : members_at count list_offset heap ≡ Some (members, met)
   pub once : (offset : ℕ) → owned offset met ≤ allocated heap offset
-  pub written : AreWritten heap count place members
+  pub written : AreWritten heap count list_offset members
 
 -- one of the values has that name, after folding
-pub record IsNamed (heap : Heap) (count place : ℕ) (name : List ℕ) : Type 0 where
+pub record IsNamed (heap : Heap) (count offset : ℕ) (name : List ℕ) : Type 0 where
   pub members : List Member
   pub met : List Found
-  pub reads : members_at count place heap ≡ Some (members, met)
+  pub reads : members_at count offset heap ≡ Some (members, met)
   pub there : IsSome (value_named name members)
 
 -- the list reads as these values now, and is as it is written; it gave up the cells that it had for those that it has, and no
 -- other cell changed
-pub record Became (old new : Heap) (met : List Found) (count place : ℕ) (members : List Member) : Type 0 where
+pub record Became (old new : Heap) (met : List Found) (count list_offset : ℕ) (members : List Member) : Type 0 where
   pub cells : List Found
-  pub reads : members_at count place new ≡ Some (members, cells)
-  pub swaps : Swaps old new (λ offset. owned offset met) (λ offset. owned offset cells)
-  pub written : AreWritten new count place members
+  pub reads : members_at count list_offset new ≡ Some (members, cells)
+  pub frame : CellFrame old new (λ offset. owned offset met) (λ offset. owned offset cells)
+  pub written : AreWritten new count list_offset members
 
 -- the cells that came have these sizes, in order
 pub record Makes (old new : Heap) (sizes : List ℕ) : Type 0 where

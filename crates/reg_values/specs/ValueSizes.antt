@@ -3,7 +3,7 @@
 use Rattle.std.specs.Prelude.{ℕ, zero, suc, ◌+◌, ◌-◌, ◌*◌, ◌==◌, ◌&&◌, nat_lt, nat_le, not, min, Bool, if◌then◌else◌, Option, Some, None, List}
 use Rattle.std.specs.Prelude.{[], ◌∷◌, ◌++◌, length}
 use Rattle.std.specs.Option.{option_and_then}
-use Rattle.reg_heap.specs.Members.{place_named}
+use Rattle.reg_heap.specs.Members.{index_named}
 use Rattle.reg_heap.specs.Heaps.{Heap}
 use Rattle.reg_arena.specs.NewCells.{cell_size}
 use Rattle.reg_records.specs.declared.vk.ValueFields.{ValueFields}
@@ -27,16 +27,16 @@ data_sizes size =
 
 -- there is a list, and its cell has room for one value more
 abbrev pub has_room : Heap → ℕ → ℕ → Bool
-has_room heap count place = not (count == 0) && nat_le (4 * count + 4) (length (held heap place))
+has_room heap count offset = not (count == 0) && nat_le (4 * count + 4) (length (held heap offset))
 
 -- the cell of a list that gets one value more: none where the list's own cell has room
 unfoldable pub list_sizes : Heap → ℕ → ℕ → List ℕ
-list_sizes heap count place = if has_room heap count place then [] else cell_size (4 * count + 4) ∷ []
+list_sizes heap count offset = if has_room heap count offset then [] else cell_size (4 * count + 4) ∷ []
 
 -- new data stays in the old data's one cell, which has the size that it needs
 unfoldable pub stays : Heap → ValueFields → ℕ → Bool
 stays heap old size =
-    nat_lt 4 size && nat_le size segment_size && nat_le old.size segment_size && (cell_size size == length (held heap old.place) + 4)
+    nat_lt 4 size && nat_le size segment_size && nat_le old.size segment_size && (cell_size size == length (held heap old.offset) + 4)
 
 -- the cells of other data for a value
 abbrev pub new_data_sizes : Heap → ℕ → Option KeyValueRecord → List ℕ
@@ -45,13 +45,13 @@ new_data_sizes heap size (Some old) = if stays heap old.fields size then [] else
 
 -- the cells of a value that is set: for a new one its record, a list if it moves, and its data
 abbrev pub sizes_by : Heap → ℕ → ℕ → ℕ → ℕ → Option ℕ → List ℕ
-sizes_by heap count place name size None = cell_size (20 + name) ∷ list_sizes heap count place ++ data_sizes size
-sizes_by heap count place name size (Some index) = new_data_sizes heap size (value_record_at heap (offset_in (held heap place) index))
+sizes_by heap count offset name size None = cell_size (20 + name) ∷ list_sizes heap count offset ++ data_sizes size
+sizes_by heap count offset name size (Some index) = new_data_sizes heap size (value_record_at heap (offset_in (held heap offset) index))
 
 -- the index of the value of that name, in the list as it reads
-abbrev pub place_in : Heap → ℕ → ℕ → List ℕ → Option ℕ
-place_in heap count place name = option_and_then (λ read. place_named name read.0) (members_at count place heap)
+abbrev pub index_in : Heap → ℕ → ℕ → List ℕ → Option ℕ
+index_in heap count offset name = option_and_then (λ read. index_named name read.0) (members_at count offset heap)
 
 -- the sizes of the cells that a set of a value of that name, with data of a size, takes
 unfoldable pub set_sizes : Heap → ℕ → ℕ → List ℕ → ℕ → List ℕ
-set_sizes heap count place name size = sizes_by heap count place (length name) size (place_in heap count place name)
+set_sizes heap count offset name size = sizes_by heap count offset (length name) size (index_in heap count offset name)

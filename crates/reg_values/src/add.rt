@@ -7,7 +7,7 @@ ghost use Rattle.reg_heap.specs.declared.limits.TheConstants.{DATA_LIMIT, VALUES
 ghost use Rattle.reg_heap.specs.Paths.{Member};
 ghost use Rattle.reg_heap.specs.Heaps.{AreNew};
 ghost use Rattle.reg_heap.specs.Kinds.{Found, times, owned};
-ghost use Rattle.reg_heap.specs.Members.{place_named};
+ghost use Rattle.reg_heap.specs.Members.{index_named};
 ghost use Rattle.reg_arena.specs.Cells.{cell_at};
 ghost use Rattle.reg_arena.specs.NewCells.{total_of, AreSizes};
 ghost use Rattle.reg_arena.specs.Carves.{NoFit};
@@ -58,7 +58,7 @@ fn put_value(arena: &mut Arena, cell: u32, cells: &[u32], name: &[u8], kind: u32
     let data = put_data(arena, cells, bytes);
     let fields = ValueFields {
         size: data.size,
-        place: data.place,
+        offset: data.offset,
         kind,
         flags: flags_of(name),
     };
@@ -68,34 +68,34 @@ fn put_value(arena: &mut Arena, cell: u32, cells: &[u32], name: &[u8], kind: u32
 /// Puts an offset behind those of a list, whose cell has room for it.
 fn grow(arena: &mut Arena, list: ValuesList, cell: u32)
     requires few { list.count < VALUES_LIMIT }
-    requires owns { Owns (list_at list.count list.place) (cell_at arena.old.bytes) }
-    requires room { HasRoom (cell_at arena.old.bytes) list.place (4 * list.count + 4) }
+    requires owns { Owns (list_at list.count list.offset) (cell_at arena.old.bytes) }
+    requires room { HasRoom (cell_at arena.old.bytes) list.offset (4 * list.count + 4) }
     requires some { 0 < list.count }
-    ensures list { OfRead (list_at list.count list.place) (cell_at arena.old.bytes)
+    ensures list { OfRead (list_at list.count list.offset) (cell_at arena.old.bytes)
         (λ row met. BecameList (cell_at arena.old.bytes) (cell_at arena.new.bytes) (λ offset. owned offset met)
-        (list.count + 1) list.place (row ++ cell ∷ [])) }
+        (list.count + 1) list.offset (row ++ cell ∷ [])) }
     ensures sizes { KeepsSizes (cell_at arena.old.bytes) (cell_at arena.new.bytes) }
 {
-    put_offset(arena, list.place, list.count, cell);
+    put_offset(arena, list.offset, list.count, cell);
 }
 
 /// Puts an offset behind those of a list in a new cell, and frees the list's own.
-fn move_list(arena: &mut Arena, list: ValuesList, place: u32, cell: u32)
+fn move_list(arena: &mut Arena, list: ValuesList, fresh: u32, cell: u32)
     requires few { list.count < VALUES_LIMIT }
-    requires owns { OwnsBeside (list_at list.count list.place) (cell_at arena.old.bytes) (place ∷ []) }
-    requires room { HasRoom (cell_at arena.old.bytes) place (4 * list.count + 4) }
-    ensures list { OfRead (list_at list.count list.place) (cell_at arena.old.bytes)
+    requires owns { OwnsBeside (list_at list.count list.offset) (cell_at arena.old.bytes) (fresh ∷ []) }
+    requires room { HasRoom (cell_at arena.old.bytes) fresh (4 * list.count + 4) }
+    ensures list { OfRead (list_at list.count list.offset) (cell_at arena.old.bytes)
         (λ row met. BecameList (cell_at arena.old.bytes) (cell_at arena.new.bytes)
-        (λ offset. owned offset met + times offset (place ∷ [])) (list.count + 1) place (row ++ cell ∷ [])) }
+        (λ offset. owned offset met + times offset (fresh ∷ [])) (list.count + 1) fresh (row ++ cell ∷ [])) }
     ensures sizes { KeepsSizes (cell_at arena.old.bytes) (cell_at arena.new.bytes) }
 {
     if list.count == 0 {
-        put_offset(arena, place, 0, cell);
+        put_offset(arena, fresh, 0, cell);
         return;
     }
-    arena.copy(list.place, 0, place, 0, 4 * list.count);
-    put_offset(arena, place, list.count, cell);
-    arena.free(list.place);
+    arena.copy(list.offset, 0, fresh, 0, 4 * list.count);
+    put_offset(arena, fresh, list.count, cell);
+    arena.free(list.offset);
 }
 
 /// Adds a value of a new name at the end.
@@ -107,23 +107,23 @@ pub(crate) fn add(
     kind: u32,
     bytes: &[u8],
 ) -> Result<ValuesList, ArenaFault>
-    requires values { AreValues (cell_at arena.old.bytes) list.count list.place }
+    requires values { AreValues (cell_at arena.old.bytes) list.count list.offset }
     requires name { is_value_name name.now ≡ true }
     requires bytes { length bytes.now ≤ DATA_LIMIT }
     requires few { list.count < VALUES_LIMIT }
-    requires new { OfRead (members_at list.count list.place) (cell_at arena.old.bytes) (λ members met. None ≡ place_named name.now members) }
-    ensures ok { IfOk result (λ after. OfRead (members_at list.count list.place) (cell_at arena.old.bytes)
-        (λ members met. Became (cell_at arena.old.bytes) (cell_at arena.new.bytes) met after.count after.place
+    requires new { OfRead (members_at list.count list.offset) (cell_at arena.old.bytes) (λ members met. None ≡ index_named name.now members) }
+    ensures ok { IfOk result (λ after. OfRead (members_at list.count list.offset) (cell_at arena.old.bytes)
+        (λ members met. Became (cell_at arena.old.bytes) (cell_at arena.new.bytes) met after.count after.offset
         (members ++ record { name = name.now; kind = kind; bytes = bytes.now } ∷ []))) }
     ensures cells { OnOk result (Makes (cell_at arena.old.bytes) (cell_at arena.new.bytes)
-        (sizes_by (cell_at arena.old.bytes) list.count list.place (length name.now) (length bytes.now) None)) }
+        (sizes_by (cell_at arena.old.bytes) list.count list.offset (length name.now) (length bytes.now) None)) }
     ensures err { OnErr result (arena.new ≡ arena.old) }
     ensures full { result ≡ Err ArenaFault.Full →
-        NoFit arena.old.bytes (total_of (sizes_by (cell_at arena.old.bytes) list.count list.place (length name.now)
+        NoFit arena.old.bytes (total_of (sizes_by (cell_at arena.old.bytes) list.count list.offset (length name.now)
         (length bytes.now) None)) }
     ensures limit { result ≡ Err ArenaFault.Full →
         PassesLimit arena.old.bytes
-        (total_of (sizes_by (cell_at arena.old.bytes) list.count list.place (length name.now) (length bytes.now) None)) }
+        (total_of (sizes_by (cell_at arena.old.bytes) list.count list.offset (length name.now) (length bytes.now) None)) }
 {
     let Ok(sizes) = plan_add(arena, alloc, list, name.len(), bytes.len()) else {
         return Err(ArenaFault::Memory);
@@ -137,14 +137,14 @@ pub(crate) fn add(
         grow(arena, list, cell);
         return Ok(ValuesList {
             count: list.count + 1,
-            place: list.place,
+            offset: list.offset,
         });
     }
-    let place = all[1];
+    let fresh = all[1];
     put_value(arena, cell, &all[2..], name, kind, bytes);
-    move_list(arena, list, place, cell);
+    move_list(arena, list, fresh, cell);
     Ok(ValuesList {
         count: list.count + 1,
-        place,
+        offset: fresh,
     })
 }

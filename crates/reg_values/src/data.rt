@@ -24,7 +24,7 @@ use std::alloc::{AllocError, Global};
 #[derive(Clone, Copy)]
 pub(crate) struct DataFields {
     pub size: u32,
-    pub place: u32,
+    pub offset: u32,
 }
 
 /// A copy of the data of the value at an index of the list, counted from 0.
@@ -36,9 +36,9 @@ pub fn bytes_of(
     list: ValuesList,
     index: u32,
 ) -> Result<Vec<u8>, AllocError>
-    requires values { AreValues (cell_at arena.now.bytes) list.count list.place }
+    requires values { AreValues (cell_at arena.now.bytes) list.count list.offset }
     requires index { index < list.count }
-    ensures { IfOk result (λ bytes. OfRead (members_at list.count list.place) (cell_at arena.now.bytes)
+    ensures { IfOk result (λ bytes. OfRead (members_at list.count list.offset) (cell_at arena.now.bytes)
         (λ members met. (member : Member) × (slice_get members index ≡ Some member) × (bytes.items ≡ member.bytes))) }
 {
     let fields = record_at(arena, cell_of(arena, list, index)).fields;
@@ -51,17 +51,17 @@ fn data_bytes(arena: &Arena, alloc: Global, fields: ValueFields) -> Result<Vec<u
     ensures { IfOk result (λ bytes. (all : List ℕ) → (met : List Found) → data_at fields (cell_at arena.now.bytes) ≡ Some (all, met) → bytes.items ≡ all) }
 {
     if fields.size >= INLINE {
-        let bytes = fields.place.to_le_bytes();
+        let bytes = fields.offset.to_le_bytes();
         return Vec::from_slice(alloc, &bytes[..(fields.size - INLINE) as usize]);
     }
     let size = fields.size as usize;
     if size > SEGMENT_SIZE {
-        return big_bytes(arena, alloc, size, fields.place);
+        return big_bytes(arena, alloc, size, fields.offset);
     }
     if size == 0 {
         return Ok(Vec::new(alloc));
     }
-    Vec::from_slice(alloc, &arena.content(fields.place)[..size])
+    Vec::from_slice(alloc, &arena.content(fields.offset)[..size])
 }
 
 fn byte_or_zero(bytes: &[u8], index: usize) -> u8
@@ -87,22 +87,22 @@ pub(crate) fn put_data(arena: &mut Arena, cells: &[u32], bytes: &[u8]) -> DataFi
     requires small { length bytes.now ≤ DATA_LIMIT }
     requires cells { HaveRoom (cell_at arena.old.bytes) cells.now (data_sizes (length bytes.now)) }
     ensures fills { Fills (cell_at arena.old.bytes) (cell_at arena.new.bytes) cells.now }
-    ensures holds { HoldsData (cell_at arena.new.bytes) result.size result.place bytes.now cells.now }
+    ensures holds { HoldsData (cell_at arena.new.bytes) result.size result.offset bytes.now cells.now }
 {
     let size = bytes.len() as u32;
     if bytes.len() <= INLINE_LIMIT {
         return DataFields {
             size: INLINE + size,
-            place: packed(bytes),
+            offset: packed(bytes),
         };
     }
     let head = cells[0];
     if bytes.len() > SEGMENT_SIZE {
         put_big(arena, head, cells[1], &cells[2..], bytes);
-        return DataFields { size, place: head };
+        return DataFields { size, offset: head };
     }
     arena.write(head, 0, bytes);
-    DataFields { size, place: head }
+    DataFields { size, offset: head }
 }
 
 /// Frees the cells of a value's data.
@@ -114,8 +114,8 @@ pub(crate) fn free_data(arena: &mut Arena, fields: ValueFields)
         return;
     }
     if fields.size as usize > SEGMENT_SIZE {
-        free_big(arena, fields.size as usize, fields.place);
+        free_big(arena, fields.size as usize, fields.offset);
         return;
     }
-    arena.free(fields.place);
+    arena.free(fields.offset);
 }

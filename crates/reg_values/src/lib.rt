@@ -38,5 +38,5 @@ pub struct ValuesList {
     /// How many values there are, at most 16,384.
     pub count: u32,
     /// The offset of the list's cell; 0xFFFFFFFF where there are no values.
-    pub place: u32,
+    pub offset: u32,
 }

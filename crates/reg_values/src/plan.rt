@@ -58,30 +58,30 @@ fn plan_segments(sizes: &mut Vec<u32>, count: usize, size: usize) -> Result<(), 
 /// Whether the list's cell has room for one value more.
 pub(crate) fn has_room(arena: &Arena, list: ValuesList) -> bool
     requires few { list.count ≤ VALUES_LIMIT }
-    requires list { 0 < list.count → IsSome (cell_at arena.now.bytes list.place) }
-    ensures { result ≡ has_room_of (cell_at arena.now.bytes) list.count list.place }
+    requires list { 0 < list.count → IsSome (cell_at arena.now.bytes list.offset) }
+    ensures { result ≡ has_room_of (cell_at arena.now.bytes) list.count list.offset }
 {
-    list.count != 0 && 4 * list.count as usize + 4 <= arena.content(list.place).len()
+    list.count != 0 && 4 * list.count as usize + 4 <= arena.content(list.offset).len()
 }
 
 /// Whether new data stays in the old data's one cell, which has the size that it needs.
 #[tactic(auto, unfolding(crate::specs::ValueSizes::stays, reg_records::specs::BigData::segment_size))]
 pub(crate) fn stays(arena: &Arena, old: ValueFields, size: usize) -> bool
-    requires { old.size ≤ SEGMENT_SIZE → IsSome (cell_at arena.now.bytes old.place) }
+    requires { old.size ≤ SEGMENT_SIZE → IsSome (cell_at arena.now.bytes old.offset) }
     ensures { result ≡ stays_of (cell_at arena.now.bytes) old size }
 {
     size > INLINE_LIMIT
         && size <= SEGMENT_SIZE
         && old.size as usize <= SEGMENT_SIZE
-        && cell_size(size as u32) as usize == arena.content(old.place).len() + 4
+        && cell_size(size as u32) as usize == arena.content(old.offset).len() + 4
 }
 
 /// Puts the size of the cell that a list moves to for one value more, if it moves, behind those of `sizes`.
 #[tactic(auto, unfolding(crate::specs::ValueSizes::list_sizes))]
 fn plan_list(sizes: &mut Vec<u32>, arena: &Arena, list: ValuesList) -> Result<(), AllocError>
     requires few { list.count ≤ VALUES_LIMIT }
-    requires list { 0 < list.count → IsSome (cell_at arena.now.bytes list.place) }
-    ensures { OnOk result (sizes.new.items ≡ sizes.old.items ++ list_sizes (cell_at arena.now.bytes) list.count list.place) }
+    requires list { 0 < list.count → IsSome (cell_at arena.now.bytes list.offset) }
+    ensures { OnOk result (sizes.new.items ≡ sizes.old.items ++ list_sizes (cell_at arena.now.bytes) list.count list.offset) }
 {
     if has_room(arena, list) {
         return Ok(());
@@ -100,10 +100,10 @@ pub(crate) fn plan_add(
     size: usize,
 ) -> Result<Vec<u32>, AllocError>
     requires few { list.count ≤ VALUES_LIMIT }
-    requires list { 0 < list.count → IsSome (cell_at arena.now.bytes list.place) }
+    requires list { 0 < list.count → IsSome (cell_at arena.now.bytes list.offset) }
     requires name { name ≤ VALUE_NAME_LIMIT }
     requires size { size ≤ DATA_LIMIT }
-    ensures { IfOk result (λ sizes. sizes.items ≡ sizes_by (cell_at arena.now.bytes) list.count list.place name size None) }
+    ensures { IfOk result (λ sizes. sizes.items ≡ sizes_by (cell_at arena.now.bytes) list.count list.offset name size None) }
 {
     let mut sizes = Vec::new(alloc);
     sizes.push(cell_size(HEAD + name as u32))?;
@@ -119,7 +119,7 @@ pub(crate) fn plan_replace(
     old: ValueFields,
     size: usize,
 ) -> Result<Vec<u32>, AllocError>
-    requires old { old.size ≤ SEGMENT_SIZE → IsSome (cell_at arena.now.bytes old.place) }
+    requires old { old.size ≤ SEGMENT_SIZE → IsSome (cell_at arena.now.bytes old.offset) }
     requires size { size ≤ DATA_LIMIT }
     ensures { IfOk result (λ sizes. sizes.items ≡ (if stays_of (cell_at arena.now.bytes) old size then [] else data_sizes size)) }
 {
@@ -142,10 +142,10 @@ pub fn plan_set(
     name: &[u8],
     size: u32,
 ) -> Result<Vec<u32>, AllocError>
-    requires values { AreValues (cell_at arena.now.bytes) list.count list.place }
+    requires values { AreValues (cell_at arena.now.bytes) list.count list.offset }
     requires name { is_value_name name.now ≡ true }
     requires size { size ≤ DATA_LIMIT }
-    ensures { IfOk result (λ sizes. sizes.items ≡ set_sizes (cell_at arena.now.bytes) list.count list.place name.now size) }
+    ensures { IfOk result (λ sizes. sizes.items ≡ set_sizes (cell_at arena.now.bytes) list.count list.offset name.now size) }
 {
     match find(arena, list, name) {
         Some(index) => {

@@ -5,7 +5,7 @@
 ghost use Rattle.std.specs.Prelude.{◌≡◌, ◌<◌, ◌≤◌, ◌+◌, ◌++◌, ℕ, List, Some, take, drop};
 ghost use Rattle.reg_heap.specs.declared.limits.TheConstants.{VALUES_LIMIT};
 ghost use Rattle.reg_heap.specs.Paths.{Member};
-ghost use Rattle.reg_heap.specs.Heaps.{Swaps};
+ghost use Rattle.reg_heap.specs.Heaps.{CellFrame};
 ghost use Rattle.reg_heap.specs.Kinds.{Found, owned};
 ghost use Rattle.reg_heap.specs.Members.{values_without};
 ghost use Rattle.reg_arena.specs.Cells.{cell_at};
@@ -33,35 +33,35 @@ fn free_value(arena: &mut Arena, cell: u32)
 fn take_out(arena: &mut Arena, list: ValuesList, index: u32) -> ValuesList
     requires few { list.count ≤ VALUES_LIMIT }
     requires index { index < list.count }
-    requires list { Owns (list_at list.count list.place) (cell_at arena.old.bytes) }
-    ensures list { OfRead (list_at list.count list.place) (cell_at arena.old.bytes)
+    requires list { Owns (list_at list.count list.offset) (cell_at arena.old.bytes) }
+    ensures list { OfRead (list_at list.count list.offset) (cell_at arena.old.bytes)
         (λ row met. BecameList (cell_at arena.old.bytes) (cell_at arena.new.bytes)
-        (λ offset. owned offset met) result.count result.place (take index row ++ drop (index + 1) row)) }
+        (λ offset. owned offset met) result.count result.offset (take index row ++ drop (index + 1) row)) }
     ensures count { result.count + 1 ≡ list.count }
-    ensures none { result.count ≡ 0 → result.place ≡ NONE }
+    ensures none { result.count ≡ 0 → result.offset ≡ NONE }
 {
     if list.count == 1 {
-        arena.free(list.place);
+        arena.free(list.offset);
         return ValuesList {
             count: 0,
-            place: NONE,
+            offset: NONE,
         };
     }
     let at = 4 * index;
-    arena.shift(list.place, at + 4, at, 4 * (list.count - 1 - index));
+    arena.shift(list.offset, at + 4, at, 4 * (list.count - 1 - index));
     ValuesList {
         count: list.count - 1,
-        place: list.place,
+        offset: list.offset,
     }
 }
 
 /// Removes the value of that name, after folding, and frees its cells; the values behind it close up. Answers the list as
 /// it is then. A list without values is freed too. It takes no memory.
 pub fn remove(arena: &mut Arena, list: ValuesList, name: &[u8]) -> ValuesList
-    requires values { AreValues (cell_at arena.old.bytes) list.count list.place }
-    requires named { IsNamed (cell_at arena.old.bytes) list.count list.place name.now }
-    ensures { OfRead (members_at list.count list.place) (cell_at arena.old.bytes)
-        (λ members met. Became (cell_at arena.old.bytes) (cell_at arena.new.bytes) met result.count result.place
+    requires values { AreValues (cell_at arena.old.bytes) list.count list.offset }
+    requires named { IsNamed (cell_at arena.old.bytes) list.count list.offset name.now }
+    ensures { OfRead (members_at list.count list.offset) (cell_at arena.old.bytes)
+        (λ members met. Became (cell_at arena.old.bytes) (cell_at arena.new.bytes) met result.count result.offset
         (values_without name.now members)) }
 {
     let Some(index) = find(arena, list, name) else {
@@ -75,9 +75,9 @@ pub fn remove(arena: &mut Arena, list: ValuesList, name: &[u8]) -> ValuesList
 
 /// Frees a list of values with all that it names: each value's cells, and then the list's own. It takes no memory.
 pub fn clear(arena: &mut Arena, list: ValuesList)
-    requires { AreValues (cell_at arena.old.bytes) list.count list.place }
-    ensures { OfRead (members_at list.count list.place) (cell_at arena.old.bytes)
-        (λ members met. Swaps (cell_at arena.old.bytes) (cell_at arena.new.bytes) (λ offset. owned offset met) (λ offset. 0)) }
+    requires { AreValues (cell_at arena.old.bytes) list.count list.offset }
+    ensures { OfRead (members_at list.count list.offset) (cell_at arena.old.bytes)
+        (λ members met. CellFrame (cell_at arena.old.bytes) (cell_at arena.new.bytes) (λ offset. owned offset met) (λ offset. 0)) }
 {
     for index in 0..list.count {
         let cell = cell_of(arena, list, index);
@@ -86,5 +86,5 @@ pub fn clear(arena: &mut Arena, list: ValuesList)
     if list.count == 0 {
         return;
     }
-    arena.free(list.place);
+    arena.free(list.offset);
 }

@@ -35,8 +35,8 @@ fn rewrite(arena: &mut Arena, cell: u32, old: ValueFields, kind: u32, bytes: &[u
         (record { name = m.name; kind = kind; bytes = bytes.now })) }
     ensures cells { Makes (cell_at arena.old.bytes) (cell_at arena.new.bytes) [] }
 {
-    arena.write(old.place, 0, bytes);
-    set_data(arena, cell, bytes.len() as u32, old.place, kind);
+    arena.write(old.offset, 0, bytes);
+    set_data(arena, cell, bytes.len() as u32, old.offset, kind);
 }
 
 /// Writes other data into new cells, and frees those that a value's data has.
@@ -53,7 +53,7 @@ fn exchange(arena: &mut Arena, cell: u32, cells: &[u32], old: ValueFields, kind:
     ensures keeps { Keeps (cell_at arena.old.bytes) (cell_at arena.new.bytes) cells.now }
 {
     let data = put_data(arena, cells, bytes);
-    set_data(arena, cell, data.size, data.place, kind);
+    set_data(arena, cell, data.size, data.offset, kind);
     free_data(arena, old);
 }
 

@@ -38,21 +38,21 @@ pub fn set(
     kind: u32,
     bytes: &[u8],
 ) -> Result<ValuesList, ArenaFault>
-    requires values { AreValues (cell_at arena.old.bytes) list.count list.place }
+    requires values { AreValues (cell_at arena.old.bytes) list.count list.offset }
     requires name { is_value_name name.now ≡ true }
     requires bytes { length bytes.now ≤ DATA_LIMIT }
-    requires room { (list.count < VALUES_LIMIT) ⊎ IsNamed (cell_at arena.old.bytes) list.count list.place name.now }
-    ensures ok { IfOk result (λ after. OfRead (members_at list.count list.place) (cell_at arena.old.bytes)
-        (λ members met. Became (cell_at arena.old.bytes) (cell_at arena.new.bytes) met after.count after.place
+    requires room { (list.count < VALUES_LIMIT) ⊎ IsNamed (cell_at arena.old.bytes) list.count list.offset name.now }
+    ensures ok { IfOk result (λ after. OfRead (members_at list.count list.offset) (cell_at arena.old.bytes)
+        (λ members met. Became (cell_at arena.old.bytes) (cell_at arena.new.bytes) met after.count after.offset
         (values_with name.now kind bytes.now members))) }
     ensures cells { OnOk result (Makes (cell_at arena.old.bytes) (cell_at arena.new.bytes)
-        (set_sizes (cell_at arena.old.bytes) list.count list.place name.now (length bytes.now))) }
+        (set_sizes (cell_at arena.old.bytes) list.count list.offset name.now (length bytes.now))) }
     ensures err { OnErr result (arena.new ≡ arena.old) }
     ensures full { result ≡ Err ArenaFault.Full →
-        NoFit arena.old.bytes (total_of (set_sizes (cell_at arena.old.bytes) list.count list.place name.now (length bytes.now))) }
+        NoFit arena.old.bytes (total_of (set_sizes (cell_at arena.old.bytes) list.count list.offset name.now (length bytes.now))) }
     ensures limit { result ≡ Err ArenaFault.Full →
         PassesLimit arena.old.bytes
-        (total_of (set_sizes (cell_at arena.old.bytes) list.count list.place name.now (length bytes.now))) }
+        (total_of (set_sizes (cell_at arena.old.bytes) list.count list.offset name.now (length bytes.now))) }
     ensures near { result ≡ Err ArenaFault.Full → BINS_LIMIT < length arena.old.bytes + GROWTH_BOUND }
 {
     let Some(index) = find(arena, list, name) else {

@@ -39,7 +39,7 @@ pub record IsTarget (store : Store) (session number : ℕ) : Type 0 where
   pub handle : Handle
   pub path : Path
   pub found : look session number store.handles.handles ≡ Some handle
-  pub place : handle.place ≡ At path
+  pub destination : handle.destination ≡ At path
 
 -- it was found, with its rights and its key
 pub record IsOpened (store : Store) (session number : ℕ) (key : KeyHandle) : Type 0 where

@@ -5,12 +5,12 @@ use Rattle.slab.specs.Slab.{Slab, get}
 use Rattle.reg_model.specs.Worlds.{Handle}
 use Rattle.reg_model.specs.Causes.{handles_of as count_of}
 use Rattle.reg_handles.specs.HandleTables.{IsFoldedPath}
-use Rattle.reg_handles.specs.Internal.OpenKeySlab.{place_of, IsOpenAt}
+use Rattle.reg_handles.specs.Internal.OpenKeySlab.{destination_of, IsOpenAt}
 use Rattle.reg_handles.specs.declared.keys.OpenKey.{OpenKey}
 use Rattle.reg_handles.specs.declared.rows.Row.{Row}
 
 abbrev pub handle_of : Slab OpenKey → ℕ × Row → Handle
-handle_of s e = record { number = e.0; session = e.1.session; mask = e.1.mask; place = place_of (get s e.1.key) }
+handle_of s e = record { number = e.0; session = e.1.session; mask = e.1.mask; destination = destination_of (get s e.1.key) }
 
 abbrev pub handles_of : Slab OpenKey → List (ℕ × Row) → List Handle
 handles_of s es = map (handle_of s) es

@@ -6,7 +6,7 @@ use Rattle.std.specs.BTreeMap.{is_at}
 use Rattle.std.specs.Map.{lookup}
 use Rattle.slab.specs.Slab.{Slab, get}
 use Rattle.reg_names.specs.Names.{path_of}
-use Rattle.reg_model.specs.Worlds.{Place, At, Deleted}
+use Rattle.reg_model.specs.Worlds.{Destination, At, Deleted}
 use Rattle.reg_handles.specs.declared.keys.OpenKey.{OpenKey}
 
 -- where the key at a path stands that was not deleted, if it has rows
@@ -19,9 +19,9 @@ rows_of None = 0
 rows_of (Some k) = k.rows
 
 -- where the key's rows lead
-abbrev pub place_of : Option OpenKey → Place
-place_of None = Deleted
-place_of (Some k) = if k.is_deleted then Deleted else At (path_of k.path.items)
+abbrev pub destination_of : Option OpenKey → Destination
+destination_of None = Deleted
+destination_of (Some k) = if k.is_deleted then Deleted else At (path_of k.path.items)
 
 -- the key stands there, has that text as its path, and was not deleted
 abbrev pub IsOpenAt : Option OpenKey → List ℕ → Type 0

@@ -3,4 +3,4 @@ use Rattle.reg_names.proofs.NameOrders.{ended}
 use Rattle.reg_names.proofs.name_order.Goals as goal
 
 pub returns : goal.returns
-returns c = c.cmp.ensures ∙ (sym (ended c.args.a.now c.args.b.now _ (omega arith)) ∙ sym c.loop-place.invariant)
+returns c = c.cmp.ensures ∙ (sym (ended c.args.a.now c.args.b.now _ (omega arith)) ∙ sym c.loop-index.invariant)

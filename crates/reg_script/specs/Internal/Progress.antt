@@ -14,7 +14,7 @@ use Rattle.reg_script.specs.Stops.{counted, longest_line, most_lines, HasNoFeed,
 
 -- a position in a script: where it stands, how many lines have ended, the bytes of the line that hasn't, the replies that were
 -- gathered, what the writer holds, and the count of what it took
-pub record Place : Type 0 where
+pub record Position : Type 0 where
   pub stand : Stand
   pub lines : ℕ
   pub begun : List ℕ
@@ -25,8 +25,8 @@ pub record Place : Type 0 where
 abbrev pub stand_of : Script → View → Stand
 stand_of s hive = record { hive = hive; moment = s.moment; session = s.session.number }
 
-abbrev pub place_of : Script → View → Option (List ℕ) → Place
-place_of s hive sent = record {
+abbrev pub position_of : Script → View → Option (List ℕ) → Position
+position_of s hive sent = record {
   stand = stand_of s hive;
   lines = s.lines;
   begun = s.line.items;
@@ -36,12 +36,12 @@ place_of s hive sent = record {
 }
 
 -- the bounds are kept, and the line that was begun has no LF
-pub record IsSteady (place : Place) : Type 0 where
-  pub no_feed : HasNoFeed place.begun
-  pub short : length place.begun ≤ longest_line
-  pub few : place.lines ≤ most_lines
-  pub one_more : 0 < length place.begun → place.lines < most_lines
-  pub count : place.written ≤ 18446744073709551615
+pub record IsSteady (position : Position) : Type 0 where
+  pub no_feed : HasNoFeed position.begun
+  pub short : length position.begun ≤ longest_line
+  pub few : position.lines ≤ most_lines
+  pub one_more : 0 < length position.begun → position.lines < most_lines
+  pub count : position.written ≤ 18446744073709551615
 
 -- lines, each with its LF
 abbrev pub with_feeds : List (List ℕ) → List ℕ
@@ -54,14 +54,14 @@ pub record IsLine (line : List ℕ) : Type 0 where
   pub short : length line ≤ longest_line
 
 -- some of the replies were passed on to the writer, and the rest gathered
-pub record Passes (old : Place) (replies : List ℕ) (new : Place) : Type 0 where
+pub record Passes (old : Position) (replies : List ℕ) (new : Position) : Type 0 where
   pub passed : List ℕ
   pub appends : Appends old.sent new.sent passed
   pub gathers : old.gathered ++ replies ≡ passed ++ new.gathered
   pub counts : new.written ≡ counted old.written (length passed)
 
 -- these bytes were taken: they ended these lines, whose replies were gathered or sent
-pub record Takes (old : Place) (bytes : List ℕ) (new : Place) : Type 0 where
+pub record Takes (old : Position) (bytes : List ℕ) (new : Position) : Type 0 where
   pub steady : IsSteady new
   pub ended : List (List ℕ)
   pub splits : old.begun ++ bytes ≡ with_feeds ended ++ new.begun
@@ -72,21 +72,21 @@ pub record Takes (old : Place) (bytes : List ℕ) (new : Place) : Type 0 where
   pub passes : Passes old replies new
 
 -- nothing was gathered or sent
-pub record IsIdle (old new : Place) : Type 0 where
+pub record IsIdle (old new : Position) : Type 0 where
   pub gathered : new.gathered ≡ old.gathered
   pub sent : new.sent ≡ old.sent
   pub written : new.written ≡ old.written
 
 -- what a fault leaves, where the bytes behind `mid` were not taken
-abbrev pub IsFault : ScriptFault → Place → List ℕ → Place → Type 0
+abbrev pub IsFault : ScriptFault → Position → List ℕ → Position → Type 0
 IsFault Read mid back new = IsIdle mid new × (new.stand.hive ≡ mid.stand.hive)
 IsFault (Write written) mid back new = IsCut mid.sent new.sent mid.gathered mid.written (Write written) × (new.stand.hive ≡ mid.stand.hive)
 IsFault TooLong mid back new = IsIdle mid new × (new.stand.hive ≡ mid.stand.hive) × PassesBound mid.lines (mid.begun ++ back)
 IsFault Memory mid back new = IsIdle mid new × IsReached mid.stand (mid.begun ++ back) new.stand.hive
 
 -- of these bytes a front was taken, and then came a fault
-pub record Halts (old : Place) (bytes : List ℕ) (new : Place) (fault : ScriptFault) : Type 0 where
-  pub mid : Place
+pub record Halts (old : Position) (bytes : List ℕ) (new : Position) (fault : ScriptFault) : Type 0 where
+  pub mid : Position
   pub front : List ℕ
   pub back : List ℕ
   pub splits : bytes ≡ front ++ back
@@ -106,7 +106,7 @@ pub record Loses (meaning : Meaning) (old : Script) (old_hive : View) (new : Scr
   pub reached : (new_hive ≡ old_hive) ⊎ IsOneMore meaning (stand_of old old_hive) new_hive
 
 -- these were the last bytes, and the replies of all lines were gathered or sent
-pub record Ends (old : Place) (bytes : List ℕ) (new : Place) : Type 0 where
+pub record Ends (old : Position) (bytes : List ℕ) (new : Position) : Type 0 where
   pub few : old.lines + length (lines_of (old.begun ++ bytes)) ≤ most_lines
   pub short : AllByRecursion (λ (line : List ℕ). length line ≤ longest_line) (lines_of (old.begun ++ bytes))
   pub replies : List ℕ

@@ -70,7 +70,7 @@ root-written = record {
   };
   below = [];
   reads = tt;
-  fits = record { places = refl; hashes = refl; order = tt; parents = tt; longest_name = tt; longest_class = tt };
+  fits = record { offsets = refl; hashes = refl; order = tt; parents = tt; longest_name = tt; longest_class = tt };
 }
 
 root_rec : Rec

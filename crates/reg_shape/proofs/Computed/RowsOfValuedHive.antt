@@ -74,7 +74,7 @@ ring = record {
 }
 
 value_fields : ValueFields
-value_fields = record { size = 2147483652; place = 1; kind = 4; flags = 0 }
+value_fields = record { size = 2147483652; offset = 1; kind = 4; flags = 0 }
 
 written : IsWrittenValue (cell_at valued) 168
 unfolding value_record_at vk_of vk_bytes cell_at cells_of half word value_fields
@@ -124,7 +124,7 @@ root-written = record {
   };
   below = [];
   reads = tt;
-  fits = record { places = refl; hashes = refl; order = tt; parents = tt; longest_name = tt; longest_class = tt };
+  fits = record { offsets = refl; hashes = refl; order = tt; parents = tt; longest_name = tt; longest_class = tt };
 }
 
 root_rec : Rec

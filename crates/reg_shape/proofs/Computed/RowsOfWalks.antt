@@ -41,7 +41,7 @@ security = (115 ∷ 107 ∷ 0 ∷ 0 ∷ []) ++ (little_bytes 4 500 ++ (little_by
 
 -- a value without a name
 abbrev value : ℕ → ℕ → List ℕ
-value size place = (118 ∷ 107 ∷ 0 ∷ 0 ∷ []) ++ (little_bytes 4 size ++ (little_bytes 4 place ++ (little_bytes 4 3 ++ little_bytes 4 0)))
+value size offset = (118 ∷ 107 ∷ 0 ∷ 0 ∷ []) ++ (little_bytes 4 size ++ (little_bytes 4 offset ++ (little_bytes 4 3 ++ little_bytes 4 0)))
 
 -- ---- lists of subkeys: an index root of an index leaf and a hash leaf, and a fast leaf alone
 
@@ -83,8 +83,8 @@ rooted-keys = refl
 -- ---- data: 16,344 bytes in one cell; 16,345 behind a big data record, with two segments
 
 abbrev far : ℕ → ℕ → Heap
-far size place = store
-    ((32, value size place)
+far size offset = store
+    ((32, value size offset)
     ∷ (100, replicate 16348 5)
     ∷ (200, (100 ∷ 98 ∷ 2 ∷ 0 ∷ []) ++ little_bytes 4 300)
     ∷ (300, little_bytes 4 400 ++ little_bytes 4 100)

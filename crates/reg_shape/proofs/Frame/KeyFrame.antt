@@ -8,7 +8,7 @@ use Rattle.reg_heap.specs.Heaps.{Heap}
 use Rattle.reg_heap.specs.Kinds.{Kind, Found, is_security, is_own, owned}
 use Rattle.reg_heap.specs.Kinds.Kind.{Key, Class, SubList, Leaf, ValueList, Value, Data, BigHead, BigList, Segment, Security}
 use Rattle.reg_records.specs.KeyNodes.{nk_of, key_at}
-use Rattle.reg_records.specs.SubkeyLists.{SubkeysList, Form, list_of, places_in}
+use Rattle.reg_records.specs.SubkeyLists.{SubkeysList, Form, list_of, offsets_in}
 use Rattle.reg_records.specs.declared.lists.ListForm.TheVariants.{IndexRoot, IndexLeaf, FastLeaf, HashLeaf}
 use Rattle.reg_records.specs.BigData.{if_any}
 use Rattle.reg_shape.specs.Nodes.{Node, KeyList, Index, key_list_as, list_at, key_list_at, key_lists_at, index_as, index_at, node_of, node_in, met_of, members_at, look}
@@ -48,8 +48,8 @@ agree-inner h k (f ∷ found) a s =
 one-list : (h k : Heap) (offset : ℕ) (list : KeyList) → k offset ≡ h offset → key_list_at h offset ≡ Some list → key_list_at k offset ≡ Some list
 one-list h k offset list same e = ap (λ c. option_and_then (λ l. key_list_as offset l l.form) (option_and_then list_of c)) same ∙ e
 
-list-place : (h : Heap) (offset : ℕ) (list : KeyList) → key_list_at h offset ≡ Some list → offset ≡ list.place
-list-place h offset list e =
+list-offset : (h : Heap) (offset : ℕ) (list : KeyList) → key_list_at h offset ≡ Some list → offset ≡ list.offset
+list-offset h offset list e =
     let o = then-open (λ l. key_list_as offset l l.form) (list_at h offset) list e in (as-key-list offset o.0 o.0.form list o.2).1
 
 lists-local : (h k : Heap) (offsets : List ℕ) (lists : List KeyList) → key_lists_at h offsets ≡ Some lists → Keeps h k (lists_met lists []) → key_lists_at k offsets ≡ Some lists
@@ -58,9 +58,9 @@ lists-local h k (offset ∷ offsets) lists e s =
     let o = then-open (λ list. option_map (λ lists. list ∷ lists) (key_lists_at h offsets)) (key_list_at h offset) lists e in
     let t = map-open (λ lists. o.0 ∷ lists) (key_lists_at h offsets) lists o.2 in
     let b : Keeps h k (lists_met (o.0 ∷ t.0) []) = subst (λ ls. Keeps h k (lists_met ls [])) (sym t.2) s in
-    let place = list-place h offset o.0 o.1 in
+    let node_offset = list-offset h offset o.0 o.1 in
     let n = length o.0.list.entries in
-    let here : k offset ≡ h offset = subst (λ z. k z ≡ h z) (sym place) (b o.0.place (let one = own-here (record { kind = Leaf; offset = o.0.place }) refl in omega (arith, one))) in
+    let here : k offset ≡ h offset = subst (λ z. k z ≡ h z) (sym node_offset) (b o.0.offset (let one = own-here (record { kind = Leaf; offset = o.0.offset }) refl in omega (arith, one))) in
     let rest : Keeps h k (lists_met t.0 []) = λ z l. b z (
     let parts = tally-append (is_own z) (joined (take n [])) (lists_met t.0 (drop n [])) in
     let same = nothing-met (is_own z) t.0 n in
@@ -70,7 +70,7 @@ lists-local h k (offset ∷ offsets) lists e s =
 
 -- the offset of an index's first list
 abbrev listed : ℕ → SubkeysList → Index
-listed offset l = Listed (record { place = offset; list = l })
+listed offset l = Listed (record { offset = offset; list = l })
 
 pub index-local : (h k : Heap) (count offset : ℕ) (index : Index) → index_at h count offset ≡ Some index → Keeps h k (index_cells index) → index_at k count offset ≡ Some index
 index-local h k zero offset index e s = e
@@ -86,10 +86,10 @@ index-local h k (suc count) offset index e s =
 
     by : (l : SubkeysList) → list_at h offset ≡ Some l → (form : Form) → l.form ≡ form → index_as h offset l form ≡ Some index → index_at k (suc count) offset ≡ Some index
     by l e IndexRoot f i =
-        let m = map-open (Rooted offset) (key_lists_at h (places_in l.entries)) index i in
+        let m = map-open (Rooted offset) (key_lists_at h (offsets_in l.entries)) index i in
         let b : Keeps h k (index_cells (Rooted offset m.0)) = subst (λ i. Keeps h k (index_cells i)) (sym m.2) s in
         again l e (b offset (let one = own-here (record { kind = SubList; offset = offset }) refl in omega (arith, one)))
-        (ap (index_as k offset l) f ∙ (ap (option_map (Rooted offset)) (lists-local h k (places_in l.entries) m.0 m.1 (λ z l. b z (omega arith))) ∙ ap Some m.2))
+        (ap (index_as k offset l) f ∙ (ap (option_map (Rooted offset)) (lists-local h k (offsets_in l.entries) m.0 m.1 (λ z l. b z (omega arith))) ∙ ap Some m.2))
     by l e IndexLeaf f i = again l e (alone l (same_Some _ _ i)) (ap (index_as k offset l) f ∙ i)
     by l e FastLeaf f i = again l e (alone l (same_Some _ _ i)) (ap (index_as k offset l) f ∙ i)
     by l e HashLeaf f i = again l e (alone l (same_Some _ _ i)) (ap (index_as k offset l) f ∙ i)

@@ -82,17 +82,17 @@ far-local size offset =
     bound (given (db_of content)) (λ big. guard (nat_le (segments_for size) big.count) (big_in size big)) (givens (db_of content)) (λ big.
     guards (nat_le (segments_for size) big.count) (big_in size big) (big-local size big)))
 
-pub data-local : (inline small : Bool) (size place : ℕ) → IsLocal (data_by inline small size place)
-data-local true small size place = guards (nat_le (inline_size size) 4) (give (take (inline_size size) (little_bytes 4 place))) (gives (take (inline_size size) (little_bytes 4 place)))
-data-local false true size place = pieces-local (if_any Data size place)
-data-local false false size place = far-local size place
+pub data-local : (inline small : Bool) (size offset : ℕ) → IsLocal (data_by inline small size offset)
+data-local true small size offset = guards (nat_le (inline_size size) 4) (give (take (inline_size size) (little_bytes 4 offset))) (gives (take (inline_size size) (little_bytes 4 offset)))
+data-local false true size offset = pieces-local (if_any Data size offset)
+data-local false false size offset = far-local size offset
 
 pub member-local : (offset : ℕ) → IsLocal (member_at offset)
 member-local offset =
     bound (cell Value offset) (λ content. given (result_ok (vk_of content)) >>= (λ value. data_at value.fields >>= (λ bytes. give (member_of value bytes)))) (cells Value offset) (λ content.
     bound (given (result_ok (vk_of content))) (λ value. data_at value.fields >>= (λ bytes. give (member_of value bytes))) (givens (result_ok (vk_of content))) (λ value.
     bound (data_at value.fields) (λ bytes. give (member_of value bytes)) (data-local (is_inline value.fields.size)
-    (nat_le value.fields.size segment_size) value.fields.size value.fields.place) (λ bytes.
+    (nat_le value.fields.size segment_size) value.fields.size value.fields.offset) (λ bytes.
     gives (member_of value bytes))))
 
 pub members-local : (count offset : ℕ) → IsLocal (members_at count offset)

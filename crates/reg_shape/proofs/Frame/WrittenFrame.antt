@@ -34,13 +34,13 @@ same-held h k o e = ap (λ (c : Option (List ℕ)). unwrap_or c []) e
 -- ---- one value
 
 -- the big data record of data that is in no single cell is among what is met
-big-met : (h k : Heap) (size place : ℕ) (inline small : Bool) → inline ≡ false → small ≡ false → (y : List ℕ × List Found) →
-    data_by inline small size place h ≡ Some y → Agree h k y.1 → k place ≡ h place
-big-met h k size place true small i s y e a = absurd (false≢true (sym i))
-big-met h k size place false true i s y e a = absurd (false≢true (sym s))
-big-met h k size place false false i s y e a =
-    let o = bind-open (cell BigHead place) (λ content. given (db_of content) >>= (λ big. guard (nat_le (segments_for size) big.count) (big_in size big))) h y e in
-    let c = cell-open BigHead place h o.first o.before o.first_is in
+big-met : (h k : Heap) (size offset : ℕ) (inline small : Bool) → inline ≡ false → small ≡ false → (y : List ℕ × List Found) →
+    data_by inline small size offset h ≡ Some y → Agree h k y.1 → k offset ≡ h offset
+big-met h k size offset true small i s y e a = absurd (false≢true (sym i))
+big-met h k size offset false true i s y e a = absurd (false≢true (sym s))
+big-met h k size offset false false i s y e a =
+    let o = bind-open (cell BigHead offset) (λ content. given (db_of content) >>= (λ big. guard (nat_le (segments_for size) big.count) (big_in size big))) h y e in
+    let c = cell-open BigHead offset h o.first o.before o.first_is in
     (subst (Agree h k) c.1 (all-front (λ (f : Found). k f.offset ≡ h f.offset) o.before o.then.1 (subst (Agree h k) (sym o.all) a))).0
 
 pub data-kept : (h k : Heap) (v : ValueFields) (y : List ℕ × List Found) → data_at v h ≡ Some y → Agree h k y.1 → IsWrittenData h v → IsWrittenData k v
@@ -48,9 +48,9 @@ data-kept h k v y e a w = record {
   inline = w.inline;
   far = w.far;
   big = λ i l. (
-      let same = big-met h k v.size v.place (is_inline v.size) (nat_le v.size segment_size) i (grind (arith, nat_tests)) y e a in
+      let same = big-met h k v.size v.offset (is_inline v.size) (nat_le v.size segment_size) i (grind (arith, nat_tests)) y e a in
       let b = w.big i l in
-      (b.0, ap db_of (same-held h k v.place same) ∙ b.1, b.2));
+      (b.0, ap db_of (same-held h k v.offset same) ∙ b.1, b.2));
 }
 
 pub value-kept : (h k : Heap) (offset : ℕ) (y : Member × List Found) → member_at offset h ≡ Some y → Agree h k y.1 → IsWrittenValue h offset → IsWrittenValue k offset

@@ -16,7 +16,7 @@ use Rattle.reg_shape.specs.Internal.Grafts.{IsShape, branch_in, branch_at, graft
 
 pub shape-whole : (heap : Heap) (root : ℕ) (keys : Branch Node) (first : ℕ) (others : List ℕ) → IsShape heap root keys first others [] → IsWholeShape heap root keys first others
 shape-whole heap root keys first others w = record {
-  place = w.place;
+  offset = w.offset;
   stands = w.stands;
   exact = λ z. (let e = w.exact z in omega (arith, e));
   ring = w.ring;
@@ -27,7 +27,7 @@ shape-whole heap root keys first others w = record {
 
 pub whole-shape : (heap : Heap) (root : ℕ) (keys : Branch Node) (first : ℕ) (others : List ℕ) → IsWholeShape heap root keys first others → IsShape heap root keys first others []
 whole-shape heap root keys first others w = record {
-  place = w.place;
+  offset = w.offset;
   stands = w.stands;
   exact = λ z. (let e = w.exact z in omega (arith, e));
   ring = w.ring;
@@ -40,7 +40,7 @@ whole-shape heap root keys first others w = record {
 
 -- what holds where the key stands, and goes on from the keys below and beside, holds of the whole way
 module _ (was : Branch Node) (m : Node) (c : Forest Node) (P : Path → Forest Node → Forest Node → Type 0)
-    (here : (x : List ℕ) (s : Forest Node) → is_named x was.node ≡ true → P (x ∷ []) (Hangs was.place was.node was.below s) (Hangs was.place m c s))
+    (here : (x : List ℕ) (s : Forest Node) → is_named x was.node ≡ true → P (x ∷ []) (Hangs was.offset was.node was.below s) (Hangs was.offset m c s))
     (under : (x y : List ℕ) (p : Path) (o : ℕ) (k : Node) (b d s : Forest Node) → is_named x k ≡ true → P (y ∷ p) b d → P (x ∷ y ∷ p) (Hangs o k b s) (Hangs o k d s))
     (next : (x : List ℕ) (p : Path) (o : ℕ) (k : Node) (b s t : Forest Node) → is_named x k ≡ false → P (x ∷ p) s t → P (x ∷ p) (Hangs o k b s) (Hangs o k b t)) where
   pub graft-way : (p : Path) (F : Forest Node) → branch_in p F ≡ Some was → P p F (graft_in p m c F)
@@ -49,11 +49,11 @@ module _ (was : Branch Node) (m : Node) (c : Forest Node) (P : Path → Forest N
   graft-way (x ∷ []) (Hangs o k b s) e = by (graft-way (x ∷ []) s) (is_named x k) refl e
     where
       by : (branch_in (x ∷ []) s ≡ Some was → P (x ∷ []) s (graft_in (x ∷ []) m c s)) → (t : Bool) → is_named x k ≡ t →
-          cond t (Some (record { place = o; node = k; below = b })) (branch_in (x ∷ []) s) ≡ Some was →
+          cond t (Some (record { offset = o; node = k; below = b })) (branch_in (x ∷ []) s) ≡ Some was →
           P (x ∷ []) (Hangs o k b s) (cond t (Hangs o m c s) (Hangs o k b (graft_in (x ∷ []) m c s)))
       by rest true t e =
-          let q : ◌≡◌ {A = Branch Node} (record { place = o; node = k; below = b }) was = same_Some _ _ e in
-          subst (λ (z : Branch Node). P (x ∷ []) (Hangs z.place z.node z.below s) (Hangs z.place m c s)) (sym q) (here x s (ap (λ (z : Branch Node). is_named x z.node) (sym q) ∙ t))
+          let q : ◌≡◌ {A = Branch Node} (record { offset = o; node = k; below = b }) was = same_Some _ _ e in
+          subst (λ (z : Branch Node). P (x ∷ []) (Hangs z.offset z.node z.below s) (Hangs z.offset m c s)) (sym q) (here x s (ap (λ (z : Branch Node). is_named x z.node) (sym q) ∙ t))
       by rest false t e = next x [] o k b s (graft_in (x ∷ []) m c s) t (rest e)
   graft-way (x ∷ y ∷ p) (Hangs o k b s) e = by (graft-way (y ∷ p) b) (graft-way (x ∷ y ∷ p) s) (is_named x k) refl e
     where
@@ -93,7 +93,7 @@ branch-depth b (x ∷ p) keys e = forest-branch-depth b (x ∷ p) keys.below e
 -- ---- the key alone, and further down
 
 abbrev pub its_key : Branch Node → ℕ × Node
-its_key b = (b.place, b.node)
+its_key b = (b.offset, b.node)
 
 pub forest-branch-found : (p : Path) (F : Forest Node) → found_in p F ≡ option_map its_key (branch_in p F)
 forest-branch-found [] F = refl
@@ -101,7 +101,7 @@ forest-branch-found (x ∷ p) End = refl
 forest-branch-found (x ∷ []) (Hangs o k b s) = by (is_named x k) (forest-branch-found (x ∷ []) s)
   where
     by : (t : Bool) → found_in (x ∷ []) s ≡ option_map its_key (branch_in (x ∷ []) s) →
-        cond t (Some (o, k)) (found_in (x ∷ []) s) ≡ option_map its_key (cond t (Some (record { place = o; node = k; below = b }))
+        cond t (Some (o, k)) (found_in (x ∷ []) s) ≡ option_map its_key (cond t (Some (record { offset = o; node = k; below = b }))
         (branch_in (x ∷ []) s))
     by true e = refl
     by false e = e
@@ -123,12 +123,12 @@ forest-branch-append b q = graft-way b b.node b.below (λ p F G. branch_in (p ++
     (λ x y p o k f d s e r. ap (λ t. cond t (branch_in (y ∷ p ++ q) f) (branch_in (x ∷ y ∷ p ++ q) s)) e ∙ r)
     (λ x p o k f s t e r. beside x p o k f s e (p ++ q) ∙ r)
   where
-    at-end : (x : List ℕ) (s : Forest Node) → is_named x b.node ≡ true → (q : Path) → branch_in (x ∷ q) (Hangs b.place b.node b.below s) ≡ branch_at q b
+    at-end : (x : List ℕ) (s : Forest Node) → is_named x b.node ≡ true → (q : Path) → branch_in (x ∷ q) (Hangs b.offset b.node b.below s) ≡ branch_at q b
     at-end x s e [] = ap (λ t. cond t (Some b) (branch_in (x ∷ []) s)) e
     at-end x s e (y ∷ q) = ap (λ t. cond t (branch_in (y ∷ q) b.below) (branch_in (x ∷ y ∷ q) s)) e
 
     beside : (x : List ℕ) (p : Path) (o : ℕ) (k : Node) (f s : Forest Node) → is_named x k ≡ false → (r : Path) → branch_in (x ∷ r) (Hangs o k f s) ≡ branch_in (x ∷ r) s
-    beside x p o k f s e [] = ap (λ t. cond t (Some (record { place = o; node = k; below = f })) (branch_in (x ∷ []) s)) e
+    beside x p o k f s e [] = ap (λ t. cond t (Some (record { offset = o; node = k; below = f })) (branch_in (x ∷ []) s)) e
     beside x p o k f s e (y ∷ r) = ap (λ t. cond t (branch_in (y ∷ r) f) (branch_in (x ∷ y ∷ r) s)) e
 
 pub branch-append : (b : Branch Node) (q p : Path) (keys : Branch Node) → branch_at p keys ≡ Some b → branch_at (p ++ q) keys ≡ branch_at q b

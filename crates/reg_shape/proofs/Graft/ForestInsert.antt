@@ -8,7 +8,7 @@ use Rattle.reg_heap.specs.Paths.{Path}
 use Rattle.reg_heap.specs.Heaps.{Heap}
 use Rattle.reg_shape.specs.Internal.Forests.{Forest, Branch, heads, total, Stand}
 use Rattle.reg_shape.specs.Internal.Forests.Forest.{End, Rooted as Hangs}
-use Rattle.reg_records.specs.SubkeyLists.{Entry, places_in}
+use Rattle.reg_records.specs.SubkeyLists.{Entry, offsets_in}
 use Rattle.reg_shape.specs.Nodes.{Node, entries_of}
 use Rattle.reg_shape.specs.Spelt.{name_of}
 use Rattle.reg_shape.specs.Written.{Fits}
@@ -77,13 +77,13 @@ module _ (Sees : ℕ → Node → Type 0) (Suits : ℕ → Node → List (ℕ ×
 -- ---- leaves
 
 -- a key that says it has no subkeys is a leaf
-no-heads : (F : Forest Node) (entries : List Entry) → map (λ (e : ℕ × Node). e.0) (heads F) ≡ places_in entries → length entries ≡ 0 → F ≡ End
+no-heads : (F : Forest Node) (entries : List Entry) → map (λ (e : ℕ × Node). e.0) (heads F) ≡ offsets_in entries → length entries ≡ 0 → F ≡ End
 no-heads End entries e l = refl
 no-heads (Hangs v k b s) [] e l = absurd (let n = ap length e in omega (arith, n))
 no-heads (Hangs v k b s) (x ∷ entries) e l = absurd (omega (arith, l))
 
 pub leaf-below : (h : Heap) (root o : ℕ) (n : Node) (b : Forest Node) → IsSeen h root o n → Fits o n (heads b) → n.key.fields.subkeys ≡ 0 → b ≡ End
-leaf-below h root o n b s f z = no-heads b (entries_of n.index) f.places (sym s.written.subkeys ∙ z)
+leaf-below h root o n b s f z = no-heads b (entries_of n.index) f.offsets (sym s.written.subkeys ∙ z)
 
 some-entry : List (ℕ × Node) → Bool
 some-entry [] = false
@@ -139,7 +139,7 @@ first-named y n k e f = by (is_named y n) refl
     by false t = refl
 
 abbrev pub its_leaf : ℕ → Node → Branch Node
-its_leaf o n = record { place = o; node = n; below = End }
+its_leaf o n = record { offset = o; node = n; below = End }
 
 found-among : (i o : ℕ) (n : Node) (F : Forest Node) → AllByRecursion (IsOther (folded (name_of n.key))) (heads F) → (y : List ℕ) (r : Path) →
     found_in (y ∷ r) (hang i o n F) ≡ cond (is_named y n) (found_at r (its_leaf o n)) (found_in (y ∷ r) F)

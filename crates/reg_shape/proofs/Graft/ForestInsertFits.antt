@@ -8,7 +8,7 @@ use Rattle.reg_heap.specs.Paths.{Path}
 use Rattle.reg_heap.specs.Heaps.{Heap}
 use Rattle.reg_shape.specs.Internal.Forests.{Forest, Branch, heads, total, Stand}
 use Rattle.reg_shape.specs.Internal.Forests.Forest.{End, Rooted as Hangs}
-use Rattle.reg_records.specs.SubkeyLists.{Entry, places_in}
+use Rattle.reg_records.specs.SubkeyLists.{Entry, offsets_in}
 use Rattle.reg_shape.specs.Nodes.{Node, entries_of}
 use Rattle.reg_shape.specs.Spelt.{name_of}
 use Rattle.reg_shape.specs.Written.{Pairwise, Precedes, Fits}
@@ -85,7 +85,7 @@ Rising a b = Precedes a.1.key.name b.1.key.name
 
 -- a key more, in the order of the names
 module _ (o i p : ℕ) (was m n : Node) (entry : Entry) (entries : entries_of m.index ≡ take i (entries_of was.index) ++ entry ∷ drop i
-    (entries_of was.index)) (place : entry.place ≡ p) (hint : entry.hint ≡ hash n.key.name)
+    (entries_of was.index)) (offset : entry.offset ≡ p) (hint : entry.hint ≡ hash n.key.name)
     (parent : n.key.fields.parent ≡ o)
     (name : 2 * length n.key.name ≤ m.key.fields.largest_subkey_name % 65536)
     (names : was.key.fields.largest_subkey_name % 65536 ≤ m.key.fields.largest_subkey_name % 65536)
@@ -95,12 +95,12 @@ module _ (o i p : ℕ) (was m n : Node) (entry : Entry) (entries : entries_of m.
       AllByRecursion (λ (e : ℕ × Node). Precedes n.key.name e.1.key.name) (drop i below) → Fits o was below →
       Fits o m (take i below ++ (p, n) ∷ drop i below)
   fits-inserted below before behind f = record {
-    places =
+    offsets =
         map-inserted (λ (e : ℕ × Node). e.0) i (p, n) below
-        ∙ (ap (λ ps. take i ps ++ p ∷ drop i ps) f.places
-        ∙ (ap (λ p. take i (places_in (entries_of was.index)) ++ p ∷ drop i (places_in (entries_of was.index))) (sym place)
-        ∙ (sym (map-inserted (λ (e : Entry). e.place) i entry (entries_of was.index))
-        ∙ ap places_in (sym entries))));
+        ∙ (ap (λ ps. take i ps ++ p ∷ drop i ps) f.offsets
+        ∙ (ap (λ p. take i (offsets_in (entries_of was.index)) ++ p ∷ drop i (offsets_in (entries_of was.index))) (sym offset)
+        ∙ (sym (map-inserted (λ (e : Entry). e.offset) i entry (entries_of was.index))
+        ∙ ap offsets_in (sym entries))));
     hashes =
         map-inserted (λ (e : ℕ × Node). hash e.1.key.name) i (p, n) below
         ∙ (ap (λ hs. take i hs ++ hash n.key.name ∷ drop i hs) f.hashes
@@ -134,12 +134,12 @@ module _ (o i : ℕ) (was m : Node) (entries : entries_of m.index ≡ take i (en
 
   fits-cut : (below : Below) → Fits o was below → Fits o m (take i below ++ drop (suc i) below)
   fits-cut below f = record {
-    places =
+    offsets =
         map-cut (λ (e : ℕ × Node). e.0) i below
-        ∙ (ap (λ ps. take i ps ++ drop (suc i) ps) f.places
-        ∙ (sym (map-cut (λ (e : Entry). e.place) i (entries_of was.index))
-        ∙ (ap (λ j. places_in (take i (entries_of was.index) ++ drop j (entries_of was.index))) next
-        ∙ ap places_in (sym entries))));
+        ∙ (ap (λ ps. take i ps ++ drop (suc i) ps) f.offsets
+        ∙ (sym (map-cut (λ (e : Entry). e.offset) i (entries_of was.index))
+        ∙ (ap (λ j. offsets_in (take i (entries_of was.index) ++ drop j (entries_of was.index))) next
+        ∙ ap offsets_in (sym entries))));
     hashes =
         map-cut (λ (e : ℕ × Node). hash e.1.key.name) i below
         ∙ (ap (λ hs. take i hs ++ drop (suc i) hs) f.hashes
@@ -166,7 +166,7 @@ module _ (o i : ℕ) (was m : Node) (entries : entries_of m.index ≡ take i (en
 -- a key without subkeys
 pub fits-none : (o : ℕ) (n : Node) → entries_of n.index ≡ [] → Fits o n []
 fits-none o n e = record {
-  places = ap places_in (sym e);
+  offsets = ap offsets_in (sym e);
   hashes = ap (map (λ (e : Entry). e.hint)) (sym e);
   order = tt;
   parents = tt;
@@ -176,13 +176,13 @@ fits-none o n e = record {
 
 -- ---- a key and those below it stand
 
-module _ (h k : Heap) (root : ℕ) (was : Branch Node) (m : Node) (i : ℕ) (seen : IsSeen k root was.place m) (below : Stand (IsSeen h root) Fits was.below) where
-  pub stands-hung : (p : ℕ) (n : Node) → Fits was.place m (heads (hang i p n was.below)) → IsSeen k root p n → entries_of n.index ≡ [] →
-      ((z : ℕ) → 0 < total (owns z) was.below → k z ≡ h z) → StandsIn k root (record { place = was.place; node = m; below = hang i p n was.below })
+module _ (h k : Heap) (root : ℕ) (was : Branch Node) (m : Node) (i : ℕ) (seen : IsSeen k root was.offset m) (below : Stand (IsSeen h root) Fits was.below) where
+  pub stands-hung : (p : ℕ) (n : Node) → Fits was.offset m (heads (hang i p n was.below)) → IsSeen k root p n → entries_of n.index ≡ [] →
+      ((z : ℕ) → 0 < total (owns z) was.below → k z ≡ h z) → StandsIn k root (record { offset = was.offset; node = m; below = hang i p n was.below })
   stands-hung p n f s e same = (seen, f, stand-hang (IsSeen k root) Fits i p n was.below s (fits-none p n e) (forest-kept h k root was.below below same))
 
-  pub stands-unhung : Fits was.place m (heads (unhang i was.below)) → ((z : ℕ) → 0 < total (owns z) (unhang i was.below) → k z ≡ h z) →
-      StandsIn k root (record { place = was.place; node = m; below = unhang i was.below })
+  pub stands-unhung : Fits was.offset m (heads (unhang i was.below)) → ((z : ℕ) → 0 < total (owns z) (unhang i was.below) → k z ≡ h z) →
+      StandsIn k root (record { offset = was.offset; node = m; below = unhang i was.below })
   stands-unhung f same = (seen, f, forest-kept h k root (unhang i was.below) (stand-unhang (IsSeen h root) Fits i was.below below) same)
 
 -- ---- how many keys lead down
@@ -210,11 +210,11 @@ turn-named n k e = by (is_named (folded (name_of n.key)) k) refl
 pub leaf-found : (i o : ℕ) (n : Node) (F : Forest Node) → Apart F → IsLeafAt i o n F → branch_in (folded (name_of n.key) ∷ []) F ≡ Some (its_leaf o n)
 leaf-found i o n End a l = absurd l
 leaf-found zero o n (Hangs v k b s) a l =
-    let same : ◌≡◌ {A = Branch Node} (record { place = v; node = k; below = b }) (its_leaf o n) = λ j. record { place = l.0 j; node = l.1 j; below = l.2 j } in
+    let same : ◌≡◌ {A = Branch Node} (record { offset = v; node = k; below = b }) (its_leaf o n) = λ j. record { offset = l.0 j; node = l.1 j; below = l.2 j } in
     let named : is_named (folded (name_of n.key)) k ≡ true = ap (is_named (folded (name_of n.key))) l.1 ∙ name-self (folded (name_of n.key)) in
-    ap (λ t. cond t (Some (record { place = v; node = k; below = b })) (branch_in (folded (name_of n.key) ∷ []) s)) named ∙ ap Some same
+    ap (λ t. cond t (Some (record { offset = v; node = k; below = b })) (branch_in (folded (name_of n.key) ∷ []) s)) named ∙ ap Some same
 leaf-found (suc i) o n (Hangs v k b s) a l =
-    ap (λ t. cond t (Some (record { place = v; node = k; below = b })) (branch_in (folded (name_of n.key) ∷ []) s)) (other-first i s l a.0) ∙ leaf-found i o n s a.2 l
+    ap (λ t. cond t (Some (record { offset = v; node = k; below = b })) (branch_in (folded (name_of n.key) ∷ []) s)) (other-first i s l a.0) ∙ leaf-found i o n s a.2 l
   where
     other-first : (i : ℕ) (s : Forest Node) → IsLeafAt i o n s → AllByRecursion (IsOther (folded (name_of k.key))) (heads s) → is_named (folded (name_of n.key)) k ≡ false
     other-first i End l a = absurd l

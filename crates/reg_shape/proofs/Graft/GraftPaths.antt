@@ -52,20 +52,20 @@ by_rest go other (Some r) = go r
 
 module _ (was : Branch Node) (m : Node) (c : Forest Node) (alike : name_of m.key ≡ name_of was.node.key) where
   abbrev pub grafted_branch : Branch Node
-  grafted_branch = record { place = was.place; node = m; below = c }
+  grafted_branch = record { offset = was.offset; node = m; below = c }
 
   abbrev FindsIn : Path → Forest Node → Forest Node → Type 0
   FindsIn p F G = (y : List ℕ) (q : Path) → found_in (y ∷ q) G ≡ by_rest (λ r. found_at r grafted_branch) (found_in (y ∷ q) F) (rest_of p (y ∷ q))
 
-  finds-here : (x : List ℕ) (s : Forest Node) → is_named x was.node ≡ true → FindsIn (x ∷ []) (Hangs was.place was.node was.below s) (Hangs was.place m c s)
+  finds-here : (x : List ℕ) (s : Forest Node) → is_named x was.node ≡ true → FindsIn (x ∷ []) (Hangs was.offset was.node was.below s) (Hangs was.offset m c s)
   finds-here x s e y [] =
-      ap (λ t. cond t (Some (was.place, m)) (found_in (y ∷ []) s)) (ap (λ z. same_name y (folded z)) alike ∙ ap (same_name y) (sym (name-is x (folded (name_of was.node.key)) e)))
+      ap (λ t. cond t (Some (was.offset, m)) (found_in (y ∷ []) s)) (ap (λ z. same_name y (folded z)) alike ∙ ap (same_name y) (sym (name-is x (folded (name_of was.node.key)) e)))
       ∙ (by (same_name y x)
-      ∙ ap (λ t. by_rest (λ r. found_at r grafted_branch) (cond t (Some (was.place, was.node)) (found_in (y ∷ []) s))
+      ∙ ap (λ t. by_rest (λ r. found_at r grafted_branch) (cond t (Some (was.offset, was.node)) (found_in (y ∷ []) s))
       (cond (same_name y x) (Some []) None)) (ap (same_name y) (name-is x (folded (name_of was.node.key)) e)))
     where
-      by : (t : Bool) → cond t (Some (was.place, m)) (found_in (y ∷ []) s) ≡ by_rest (λ r. found_at r grafted_branch)
-          (cond t (Some (was.place, was.node)) (found_in (y ∷ []) s)) (cond t (Some []) None)
+      by : (t : Bool) → cond t (Some (was.offset, m)) (found_in (y ∷ []) s) ≡ by_rest (λ r. found_at r grafted_branch)
+          (cond t (Some (was.offset, was.node)) (found_in (y ∷ []) s)) (cond t (Some []) None)
       by true = refl
       by false = refl
   finds-here x s e y (z ∷ q) =
@@ -123,7 +123,7 @@ module _ (was : Branch Node) (m : Node) (c : Forest Node) (alike : name_of m.key
   -- where the path begins with the graft's it goes on there, and elsewhere the key is the same
   pub found-graft : (p : Path) (keys : Branch Node) → branch_at p keys ≡ Some was → (q : Path) →
       found_at q (graft_at p m c keys) ≡ by_rest (λ r. found_at r grafted_branch) (found_at q keys) (rest_of p q)
-  found-graft [] keys e q = ap (λ o. found_at q (record { place = o; node = m; below = c })) (ap (λ (b : Branch Node). b.place) (same_Some _ _ e))
+  found-graft [] keys e q = ap (λ o. found_at q (record { offset = o; node = m; below = c })) (ap (λ (b : Branch Node). b.offset) (same_Some _ _ e))
   found-graft (x ∷ p) keys e [] = refl
   found-graft (x ∷ p) keys e (y ∷ q) = graft-way was m c FindsIn finds-here finds-under finds-next (x ∷ p) keys.below e y q
 

@@ -25,28 +25,28 @@ use Rattle.reg_shape.proofs.Graft.Branches.{graft-way, branch-total}
 -- ---- numbers of all keys
 
 pub forest-graft-total : (f : ℕ → Node → ℕ) (was : Branch Node) (m : Node) (c : Forest Node) (p : Path) (F : Forest Node) →
-    branch_in p F ≡ Some was → total f (graft_in p m c F) + total_of f was ≡ total f F + (f was.place m + total f c)
-forest-graft-total f was m c = graft-way was m c (λ p F G. total f G + total_of f was ≡ total f F + (f was.place m + total f c))
+    branch_in p F ≡ Some was → total f (graft_in p m c F) + total_of f was ≡ total f F + (f was.offset m + total f c)
+forest-graft-total f was m c = graft-way was m c (λ p F G. total f G + total_of f was ≡ total f F + (f was.offset m + total f c))
     (λ x s e. omega arith) (λ x y p o k b d s e h. omega (arith, h)) (λ x p o k b s t e h. omega (arith, h))
 
 -- what the others have, and the branch that came
 pub graft-total : (f : ℕ → Node → ℕ) (was : Branch Node) (m : Node) (c : Forest Node) (p : Path) (keys : Branch Node) → branch_at p keys ≡ Some was →
-    total_of f (graft_at p m c keys) + total_of f was ≡ total_of f keys + (f was.place m + total f c)
+    total_of f (graft_at p m c keys) + total_of f was ≡ total_of f keys + (f was.offset m + total f c)
 graft-total f was m c [] keys e =
     let q : keys ≡ was = same_Some _ _ e in
     let a : total_of f keys ≡ total_of f was = ap (total_of f) q in
-    let b : f keys.place m ≡ f was.place m = ap (λ (b : Branch Node). f b.place m) q in
+    let b : f keys.offset m ≡ f was.offset m = ap (λ (b : Branch Node). f b.offset m) q in
     omega (arith, a, b)
 graft-total f was m c (y ∷ p) keys e = let t = forest-graft-total f was m c (y ∷ p) keys.below e in omega (arith, t)
 
-forest-graft-has : (f : ℕ → Node → ℕ) (was : Branch Node) (m : Node) (c : Forest Node) (p : Path) (F : Forest Node) → branch_in p F ≡ Some was → f was.place m + total f c ≤ total f (graft_in p m c F)
-forest-graft-has f was m c = graft-way was m c (λ p F G. f was.place m + total f c ≤ total f G)
+forest-graft-has : (f : ℕ → Node → ℕ) (was : Branch Node) (m : Node) (c : Forest Node) (p : Path) (F : Forest Node) → branch_in p F ≡ Some was → f was.offset m + total f c ≤ total f (graft_in p m c F)
+forest-graft-has f was m c = graft-way was m c (λ p F G. f was.offset m + total f c ≤ total f G)
     (λ x s e. omega arith) (λ x y p o k b d s e h. omega (arith, h)) (λ x p o k b s t e h. omega (arith, h))
 
 graft-has : (f : ℕ → Node → ℕ) (was : Branch Node) (m : Node) (c : Forest Node) (p : Path) (keys : Branch Node) → branch_at p keys ≡ Some was →
-    f was.place m + total f c ≤ total_of f (graft_at p m c keys)
+    f was.offset m + total f c ≤ total_of f (graft_at p m c keys)
 graft-has f was m c [] keys e =
-    let b : f keys.place m ≡ f was.place m = ap (λ (b : Branch Node). f b.place m) (same_Some _ _ e) in
+    let b : f keys.offset m ≡ f was.offset m = ap (λ (b : Branch Node). f b.offset m) (same_Some _ _ e) in
     omega (arith, b)
 graft-has f was m c (y ∷ p) keys e = let t = forest-graft-has f was m c (y ∷ p) keys.below e in omega (arith, t)
 
@@ -59,20 +59,20 @@ pub graft-depth : (was : Branch Node) (m : Node) (c : Forest Node) (p : Path) (k
 graft-depth was m c [] keys e = omega arith
 graft-depth was m c (y ∷ p) keys e = forest-graft-depth was m c (y ∷ p) keys.below e
 
-pub graft-place : (m : Node) (c : Forest Node) (p : Path) (keys : Branch Node) → (graft_at p m c keys).place ≡ keys.place
-graft-place m c [] keys = refl
-graft-place m c (y ∷ p) keys = refl
+pub graft-offset : (m : Node) (c : Forest Node) (p : Path) (keys : Branch Node) → (graft_at p m c keys).offset ≡ keys.offset
+graft-offset m c [] keys = refl
+graft-offset m c (y ∷ p) keys = refl
 
 -- ---- the keys stand
 
-module _ (h k : Heap) (root : ℕ) (was : Branch Node) (m : Node) (c : Forest Node) (alike : IsAlike was.node m) (stands : StandsIn k root (record { place = was.place; node = m; below = c })) where
+module _ (h k : Heap) (root : ℕ) (was : Branch Node) (m : Node) (c : Forest Node) (alike : IsAlike was.node m) (stands : StandsIn k root (record { offset = was.offset; node = m; below = c })) where
   -- what a graft in a forest does
   record Grows (F G : Forest Node) : Type 0 where
     has : (z : ℕ) → total_of (owns z) was ≤ total (owns z) F
     shows : AreAlike (heads F) (heads G)
     stand : Stand (IsSeen h root) Fits F → ((z : ℕ) → 0 < total (owns z) F → total_of (owns z) was ≡ 0 → k z ≡ h z) → ((z : ℕ) → total (owns z) F ≤ 1) → Stand (IsSeen k root) Fits G
 
-  grows-here : (s : Forest Node) → Grows (Hangs was.place was.node was.below s) (Hangs was.place m c s)
+  grows-here : (s : Forest Node) → Grows (Hangs was.offset was.node was.below s) (Hangs was.offset m c s)
   grows-here s = record {
     has = λ z. omega arith;
     shows = (refl, alike, alike-self (heads s));
@@ -115,11 +115,11 @@ module _ (h k : Heap) (root : ℕ) (was : Branch Node) (m : Node) (c : Forest No
       ((z : ℕ) → 0 < total_of (owns z) keys → total_of (owns z) was ≡ 0 → k z ≡ h z) → ((z : ℕ) → total_of (owns z) keys ≤ 1) →
       StandsIn k root (graft_at p m c keys)
   graft-stands [] keys e a t one =
-      subst (λ o. StandsIn k root (record { place = o; node = m; below = c })) (sym (ap (λ (b : Branch Node). b.place) (same_Some _ _ e))) stands
+      subst (λ o. StandsIn k root (record { offset = o; node = m; below = c })) (sym (ap (λ (b : Branch Node). b.offset) (same_Some _ _ e))) stands
   graft-stands (y ∷ p) keys e a t one =
       let g = grows (y ∷ p) keys.below e in (
-        seen-kept h k root keys.place keys.node a.0 (λ z l. (let w = one z in let u = g.has z in t z (omega (arith, l)) (omega (arith, w, u, l)))),
-        fits-alike keys.place keys.node (heads keys.below) (heads (graft_in (y ∷ p) m c keys.below)) g.shows a.1,
+        seen-kept h k root keys.offset keys.node a.0 (λ z l. (let w = one z in let u = g.has z in t z (omega (arith, l)) (omega (arith, w, u, l)))),
+        fits-alike keys.offset keys.node (heads keys.below) (heads (graft_in (y ∷ p) m c keys.below)) g.shows a.1,
         g.stand a.2 (λ z l n. t z (omega (arith, l)) n) (λ z. (let w = one z in omega (arith, w))),
       )
 
@@ -202,15 +202,15 @@ named-still all was (suc is) new e a b s = (λ l. (let w = s.0 (omega arith) in 
 -- the rows of a graft that its shape needs, as they follow from the counts before and after
 module _ (h k : Heap) (root : ℕ) (p : Path) (keys was is : Branch Node) (first : ℕ) (others spare left : List ℕ) (e : branch_at p keys ≡ Some was)
     (g : IsGrafted h k root was is first others spare left) (w : IsShape h root keys first others spare) where
-  placed-there : StandsIn k root (record { place = was.place; node = is.node; below = is.below })
-  placed-there = subst (λ o. StandsIn k root (record { place = o; node = is.node; below = is.below })) g.place g.stands
+  placed-there : StandsIn k root (record { offset = was.offset; node = is.node; below = is.below })
+  placed-there = subst (λ o. StandsIn k root (record { offset = o; node = is.node; below = is.below })) g.offset g.stands
 
   -- numbers that don't ask for the offset, or ask for the one offset that stays
   has-all : (f : ℕ → Node → ℕ) → total_of f (graft_at p is.node is.below keys) + total_of f was ≡ total_of f keys + total_of f is
-  has-all f = let t = graft-total f was is.node is.below p keys e in let o : f is.place is.node ≡ f was.place is.node = ap (λ o. f o is.node) g.place in omega (arith, t, o)
+  has-all f = let t = graft-total f was is.node is.below p keys e in let o : f is.offset is.node ≡ f was.offset is.node = ap (λ o. f o is.node) g.offset in omega (arith, t, o)
 
   has-new : (f : ℕ → Node → ℕ) → total_of f is ≤ total_of f (graft_at p is.node is.below keys)
-  has-new f = let t = graft-has f was is.node is.below p keys e in let o : f is.place is.node ≡ f was.place is.node = ap (λ o. f o is.node) g.place in omega (arith, t, o)
+  has-new f = let t = graft-has f was is.node is.below p keys e in let o : f is.offset is.node ≡ f was.offset is.node = ap (λ o. f o is.node) g.offset in omega (arith, t, o)
 
   recounts : AllByRecursion (Recounts h k was is) (first ∷ others)
   recounts = all-members (Recounts h k was is) (first ∷ others) g.ring
@@ -231,7 +231,7 @@ module _ (h k : Heap) (root : ℕ) (p : Path) (keys was is : Branch Node) (first
 
   pub grafted-whole : length p + depth is.below ≤ PATH_LIMIT → IsShape k root (graft_at p is.node is.below keys) first others left
   grafted-whole deep = record {
-    place = graft-place is.node is.below p keys ∙ w.place;
+    offset = graft-offset is.node is.below p keys ∙ w.offset;
     stands = grafted-stands;
     exact = λ z. (let x = w.exact z in let t = has-all (owns z) in let c = g.count z in omega (arith, x, t, c));
     ring = ring-recounted h k was is first others recounts w.ring;

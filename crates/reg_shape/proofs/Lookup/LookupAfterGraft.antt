@@ -10,10 +10,10 @@ use Rattle.reg_shape.specs.Spelt.{name_of}
 use Rattle.reg_shape.specs.Internal.Shapes.{StandsIn}
 use Rattle.reg_shape.specs.Internal.Exchanges.{found_in, found_at}
 use Rattle.reg_shape.specs.Internal.Grafts.{IsShape, branch_at, graft_at, hang, unhang, IsLeafAt, IsGrafted}
-use Rattle.reg_shape.specs.PathLookup.{place_at}
+use Rattle.reg_shape.specs.PathLookup.{key_offset_at}
 use Rattle.reg_shape.proofs.Refinement.RefinementAfterEdit.{same_name, same_path, same-cons, name-is}
 use Rattle.reg_shape.proofs.Graft.Branches.{its_key, branch-found, branch-stands}
-use Rattle.reg_shape.proofs.Graft.WholeAfterGraft.{grafted-stands, graft-place}
+use Rattle.reg_shape.proofs.Graft.WholeAfterGraft.{grafted-stands, graft-offset}
 use Rattle.reg_shape.proofs.Refinement.RefinementAtPath.{Apart, apart-stands}
 use Rattle.reg_shape.proofs.Graft.GraftPaths.{rest_of, same_rest, same-rest, by_rest, grafted_branch, found-graft, found-rest}
 use Rattle.reg_shape.proofs.Graft.ForestInsert.{its_leaf, none-deeper, found-hang, found-unhang, leaf-deeper}
@@ -21,17 +21,17 @@ use Rattle.reg_shape.proofs.Lookup.LookupOfShape.{placed}
 use Rattle.reg_shape.proofs.Refinement.RefinementAfterGraft.{grafted-name}
 
 -- the offset of a key that was found
-abbrev its_place : Option (ℕ × Node) → Option ℕ
-its_place o = option_map (λ (z : ℕ × Node). z.0) o
+abbrev its_offset : Option (ℕ × Node) → Option ℕ
+its_offset o = option_map (λ (z : ℕ × Node). z.0) o
 
 -- the key at the end of a path is the one found in the shape
-pub place-found : (h : Heap) (root : ℕ) (keys : Branch Node) → keys.place ≡ root → StandsIn h root keys → (q : Path) → place_at h root q ≡ its_place (found_at q keys)
-place-found h root keys e a q =
-    subst (λ r. place_at h r q ≡ option_map (λ (b : Branch Node). b.place) (branch_at q keys)) e (placed h root keys q a)
+pub offset-found : (h : Heap) (root : ℕ) (keys : Branch Node) → keys.offset ≡ root → StandsIn h root keys → (q : Path) → key_offset_at h root q ≡ its_offset (found_at q keys)
+offset-found h root keys e a q =
+    subst (λ r. key_offset_at h r q ≡ option_map (λ (b : Branch Node). b.offset) (branch_at q keys)) e (placed h root keys q a)
     ∙ (by (branch_at q keys)
-    ∙ ap its_place (sym (branch-found q keys)))
+    ∙ ap its_offset (sym (branch-found q keys)))
   where
-    by : (o : Option (Branch Node)) → option_map (λ (b : Branch Node). b.place) o ≡ its_place (option_map its_key o)
+    by : (o : Option (Branch Node)) → option_map (λ (b : Branch Node). b.offset) o ≡ its_offset (option_map its_key o)
     by None = refl
     by (Some b) = refl
 
@@ -46,36 +46,36 @@ module _ (h k : Heap) (root : ℕ) (p : Path) (keys was is : Branch Node) (first
   abbrev came : Branch Node
   came = grafted_branch was is.node is.below name
 
-  map-rest : (go : Path → Option (ℕ × Node)) (other : Option (ℕ × Node)) (r : Option Path) → its_place (by_rest go other r) ≡ by_rest (λ r. its_place (go r)) (its_place other) r
+  map-rest : (go : Path → Option (ℕ × Node)) (other : Option (ℕ × Node)) (r : Option Path) → its_offset (by_rest go other r) ≡ by_rest (λ r. its_offset (go r)) (its_offset other) r
   map-rest go other None = refl
   map-rest go other (Some r) = refl
 
-  placed-graft : (q : Path) → place_at k root q ≡ by_rest (λ r. its_place (found_at r came)) (place_at h root q) (rest_of p q)
+  placed-graft : (q : Path) → key_offset_at k root q ≡ by_rest (λ r. its_offset (found_at r came)) (key_offset_at h root q) (rest_of p q)
   placed-graft q =
-      place-found k root new_keys (graft-place is.node is.below p keys ∙ w.place) (grafted-stands h k root p keys was is first others spare left e g w) q
-      ∙ (ap its_place (found-graft was is.node is.below name p keys e q)
+      offset-found k root new_keys (graft-offset is.node is.below p keys ∙ w.offset) (grafted-stands h k root p keys was is first others spare left e g w) q
+      ∙ (ap its_offset (found-graft was is.node is.below name p keys e q)
       ∙ (map-rest (λ r. found_at r came) (found_at q keys) (rest_of p q)
-      ∙ ap (λ o. by_rest (λ r. its_place (found_at r came)) o (rest_of p q)) (sym (place-found h root keys w.place w.stands q))))
+      ∙ ap (λ o. by_rest (λ r. its_offset (found_at r came)) o (rest_of p q)) (sym (offset-found h root keys w.offset w.stands q))))
 
-  placed-before : (q r : Path) → rest_of p q ≡ Some r → place_at h root q ≡ its_place (found_at r was)
-  placed-before q r f = place-found h root keys w.place w.stands q ∙ ap its_place (found-rest was p keys e q r f)
+  placed-before : (q r : Path) → rest_of p q ≡ Some r → key_offset_at h root q ≡ its_offset (found_at r was)
+  placed-before q r f = offset-found h root keys w.offset w.stands q ∙ ap its_offset (found-rest was p keys e q r f)
 
   -- the keys below are the same: each stays where it stands
-  pub places-same : is.below ≡ was.below → (q : Path) → place_at k root q ≡ place_at h root q
-  places-same below q = placed-graft q ∙ by (rest_of p q) refl
+  pub offsets-same : is.below ≡ was.below → (q : Path) → key_offset_at k root q ≡ key_offset_at h root q
+  offsets-same below q = placed-graft q ∙ by (rest_of p q) refl
     where
-      at : (r : Path) → rest_of p q ≡ Some r → its_place (found_at r came) ≡ place_at h root q
+      at : (r : Path) → rest_of p q ≡ Some r → its_offset (found_at r came) ≡ key_offset_at h root q
       at [] f = sym (placed-before q [] f)
-      at (x ∷ r) f = ap (λ F. its_place (found_in (x ∷ r) F)) below ∙ sym (placed-before q (x ∷ r) f)
+      at (x ∷ r) f = ap (λ F. its_offset (found_in (x ∷ r) F)) below ∙ sym (placed-before q (x ∷ r) f)
 
-      by : (o : Option Path) → rest_of p q ≡ o → by_rest (λ r. its_place (found_at r came)) (place_at h root q) o ≡ place_at h root q
+      by : (o : Option Path) → rest_of p q ≡ o → by_rest (λ r. its_offset (found_at r came)) (key_offset_at h root q) o ≡ key_offset_at h root q
       by None f = refl
       by (Some r) f = at r f
 
   module _ (i o : ℕ) (n : Node) (x : List ℕ) (called : folded (name_of n.key) ≡ x) where
     -- a key more: it stands at its offset, and each other where it stood
-    pub places-hung : is.below ≡ hang i o n was.below → branch_at (x ∷ []) was ≡ None → (q : Path) → place_at k root q ≡ cond (same_path q (p ++ x ∷ [])) (Some o) (place_at h root q)
-    places-hung below free q = placed-graft q ∙ (by (rest_of p q) refl ∙ ap (λ t. cond t (Some o) (place_at h root q)) (sym (same-rest p q (x ∷ []))))
+    pub offsets-hung : is.below ≡ hang i o n was.below → branch_at (x ∷ []) was ≡ None → (q : Path) → key_offset_at k root q ≡ cond (same_path q (p ++ x ∷ [])) (Some o) (key_offset_at h root q)
+    offsets-hung below free q = placed-graft q ∙ (by (rest_of p q) refl ∙ ap (λ t. cond t (Some o) (key_offset_at h root q)) (sym (same-rest p q (x ∷ []))))
       where
         none : found_in (x ∷ []) was.below ≡ None
         none = branch-found (x ∷ []) was ∙ ap (option_map its_key) free
@@ -86,35 +86,35 @@ module _ (h k : Heap) (root : ℕ) (p : Path) (keys was is : Branch Node) (first
             ∙ (found-hang i o n was.below (ap (λ x. found_in (x ∷ []) was.below) called ∙ none) y r
             ∙ ap (λ t. cond t (found_at r (its_leaf o n)) (found_in (y ∷ r) was.below)) (ap (same_name y) called))
 
-        one : (t : Bool) (y : List ℕ) → its_place (cond t (Some (o, n)) (found_in (y ∷ []) was.below)) ≡ cond (t && true) (Some o) (its_place (found_in (y ∷ []) was.below))
+        one : (t : Bool) (y : List ℕ) → its_offset (cond t (Some (o, n)) (found_in (y ∷ []) was.below)) ≡ cond (t && true) (Some o) (its_offset (found_in (y ∷ []) was.below))
         one true y = refl
         one false y = refl
 
         more : (y z : List ℕ) (r : Path) (t : Bool) → same_name y x ≡ t →
-            its_place (cond t None (found_in (y ∷ z ∷ r) was.below)) ≡ cond (t && false) (Some o) (its_place (found_in (y ∷ z ∷ r) was.below))
-        more y z r true t = sym (ap its_place (ap (λ y. found_in (y ∷ z ∷ r) was.below) (name-is y x t) ∙ none-deeper x (z ∷ r) was.below none))
+            its_offset (cond t None (found_in (y ∷ z ∷ r) was.below)) ≡ cond (t && false) (Some o) (its_offset (found_in (y ∷ z ∷ r) was.below))
+        more y z r true t = sym (ap its_offset (ap (λ y. found_in (y ∷ z ∷ r) was.below) (name-is y x t) ∙ none-deeper x (z ∷ r) was.below none))
         more y z r false t = refl
 
-        at : (r : Path) → rest_of p q ≡ Some r → its_place (found_at r came) ≡ cond (same_path r (x ∷ [])) (Some o) (place_at h root q)
+        at : (r : Path) → rest_of p q ≡ Some r → its_offset (found_at r came) ≡ cond (same_path r (x ∷ [])) (Some o) (key_offset_at h root q)
         at [] f = sym (placed-before q [] f)
         at (y ∷ []) f =
-            ap its_place (finds y [])
+            ap its_offset (finds y [])
             ∙ (one (same_name y x) y
-            ∙ (ap (λ t. cond t (Some o) (its_place (found_in (y ∷ []) was.below))) (sym (same-cons y x [] []))
+            ∙ (ap (λ t. cond t (Some o) (its_offset (found_in (y ∷ []) was.below))) (sym (same-cons y x [] []))
             ∙ ap (cond (same_path (y ∷ []) (x ∷ [])) (Some o)) (sym (placed-before q (y ∷ []) f))))
         at (y ∷ z ∷ r) f =
-            ap its_place (finds y (z ∷ r))
+            ap its_offset (finds y (z ∷ r))
             ∙ (more y z r (same_name y x) refl
-            ∙ (ap (λ t. cond t (Some o) (its_place (found_in (y ∷ z ∷ r) was.below))) (sym (same-cons y x (z ∷ r) []))
+            ∙ (ap (λ t. cond t (Some o) (its_offset (found_in (y ∷ z ∷ r) was.below))) (sym (same-cons y x (z ∷ r) []))
             ∙ ap (cond (same_path (y ∷ z ∷ r) (x ∷ [])) (Some o)) (sym (placed-before q (y ∷ z ∷ r) f))))
 
-        by : (s : Option Path) → rest_of p q ≡ s → by_rest (λ r. its_place (found_at r came)) (place_at h root q) s ≡ cond (same_rest s (x ∷ [])) (Some o) (place_at h root q)
+        by : (s : Option Path) → rest_of p q ≡ s → by_rest (λ r. its_offset (found_at r came)) (key_offset_at h root q) s ≡ cond (same_rest s (x ∷ [])) (Some o) (key_offset_at h root q)
         by None f = refl
         by (Some r) f = at r f
 
     -- a key less: it stands nowhere, and each other where it stood
-    pub places-unhung : is.below ≡ unhang i was.below → IsLeafAt i o n was.below → (q : Path) → place_at k root q ≡ cond (same_path q (p ++ x ∷ [])) None (place_at h root q)
-    places-unhung below leaf q = placed-graft q ∙ (by (rest_of p q) refl ∙ ap (λ t. cond t None (place_at h root q)) (sym (same-rest p q (x ∷ []))))
+    pub offsets-unhung : is.below ≡ unhang i was.below → IsLeafAt i o n was.below → (q : Path) → key_offset_at k root q ≡ cond (same_path q (p ++ x ∷ [])) None (key_offset_at h root q)
+    offsets-unhung below leaf q = placed-graft q ∙ (by (rest_of p q) refl ∙ ap (λ t. cond t None (key_offset_at h root q)) (sym (same-rest p q (x ∷ []))))
       where
         apart : Apart was.below
         apart = apart-stands h root was (branch-stands h root was p keys e w.stands)
@@ -125,27 +125,28 @@ module _ (h k : Heap) (root : ℕ) (p : Path) (keys was is : Branch Node) (first
             ∙ (found-unhang i o n was.below apart leaf y r
             ∙ ap (λ t. cond t None (found_in (y ∷ r) was.below)) (ap (same_name y) called))
 
-        one : (t : Bool) (y : List ℕ) → its_place (cond t None (found_in (y ∷ []) was.below)) ≡ cond (t && true) None (its_place (found_in (y ∷ []) was.below))
+        one : (t : Bool) (y : List ℕ) → its_offset (cond t None (found_in (y ∷ []) was.below)) ≡ cond (t && true) None (its_offset (found_in (y ∷ []) was.below))
         one true y = refl
         one false y = refl
 
-        more : (y z : List ℕ) (r : Path) (t : Bool) → same_name y x ≡ t → its_place (cond t None (found_in (y ∷ z ∷ r) was.below)) ≡ cond (t && false) None (its_place (found_in (y ∷ z ∷ r) was.below))
-        more y z r true t = sym (ap its_place (leaf-deeper i o n was.below apart leaf y z r (ap (same_name y) called ∙ t)))
+        more : (y z : List ℕ) (r : Path) (t : Bool) → same_name y x ≡ t →
+            its_offset (cond t None (found_in (y ∷ z ∷ r) was.below)) ≡ cond (t && false) None (its_offset (found_in (y ∷ z ∷ r) was.below))
+        more y z r true t = sym (ap its_offset (leaf-deeper i o n was.below apart leaf y z r (ap (same_name y) called ∙ t)))
         more y z r false t = refl
 
-        at : (r : Path) → rest_of p q ≡ Some r → its_place (found_at r came) ≡ cond (same_path r (x ∷ [])) None (place_at h root q)
+        at : (r : Path) → rest_of p q ≡ Some r → its_offset (found_at r came) ≡ cond (same_path r (x ∷ [])) None (key_offset_at h root q)
         at [] f = sym (placed-before q [] f)
         at (y ∷ []) f =
-            ap its_place (finds y [])
+            ap its_offset (finds y [])
             ∙ (one (same_name y x) y
-            ∙ (ap (λ t. cond t None (its_place (found_in (y ∷ []) was.below))) (sym (same-cons y x [] []))
+            ∙ (ap (λ t. cond t None (its_offset (found_in (y ∷ []) was.below))) (sym (same-cons y x [] []))
             ∙ ap (cond (same_path (y ∷ []) (x ∷ [])) None) (sym (placed-before q (y ∷ []) f))))
         at (y ∷ z ∷ r) f =
-            ap its_place (finds y (z ∷ r))
+            ap its_offset (finds y (z ∷ r))
             ∙ (more y z r (same_name y x) refl
-            ∙ (ap (λ t. cond t None (its_place (found_in (y ∷ z ∷ r) was.below))) (sym (same-cons y x (z ∷ r) []))
+            ∙ (ap (λ t. cond t None (its_offset (found_in (y ∷ z ∷ r) was.below))) (sym (same-cons y x (z ∷ r) []))
             ∙ ap (cond (same_path (y ∷ z ∷ r) (x ∷ [])) None) (sym (placed-before q (y ∷ z ∷ r) f))))
 
-        by : (s : Option Path) → rest_of p q ≡ s → by_rest (λ r. its_place (found_at r came)) (place_at h root q) s ≡ cond (same_rest s (x ∷ [])) None (place_at h root q)
+        by : (s : Option Path) → rest_of p q ≡ s → by_rest (λ r. its_offset (found_at r came)) (key_offset_at h root q) s ≡ cond (same_rest s (x ∷ [])) None (key_offset_at h root q)
         by None f = refl
         by (Some r) f = at r f

@@ -106,7 +106,7 @@ find-end rec below beside = find-append [] (behind rec below) beside ∙ ap (λ 
 
 -- ---- one record exchanged
 
-module _ (h k : Heap) (same : (z : ℕ) → descriptor_in k z ≡ descriptor_in h z) (place : ℕ) (n m : Node) (alike : name_of m.key ≡ name_of n.key) where
+module _ (h k : Heap) (same : (z : ℕ) → descriptor_in k z ≡ descriptor_in h z) (offset : ℕ) (n m : Node) (alike : name_of m.key ≡ name_of n.key) where
   abbrev rec : Node → Rec
   rec node = rec_of node (descriptor_in h node.key.fields.security)
 
@@ -124,7 +124,7 @@ module _ (h k : Heap) (same : (z : ℕ) → descriptor_in k z ≡ descriptor_in 
   either true a b c = refl
   either false a b c = refl
 
-  retold-here : (x : List ℕ) (b s : Forest Node) → is_named x n ≡ true → Retells (x ∷ []) (Hangs place n b s) (Hangs place m b s)
+  retold-here : (x : List ℕ) (b s : Forest Node) → is_named x n ≡ true → Retells (x ∷ []) (Hangs offset n b s) (Hangs offset m b s)
   retold-here x b s e [] = find-end (rec m) (spelled h b) (spelled h s) ∙ sym (find-end (rec n) (spelled h b) (spelled h s))
   retold-here x b s e (y ∷ q) =
       find-behind (rec m) (spelled h b) (spelled h s) y q
@@ -189,8 +189,8 @@ module _ (h k : Heap) (same : (z : ℕ) → descriptor_in k z ≡ descriptor_in 
       by true f false g = refl
       by false f d g = refl
 
-  retold : (p : Path) (F : Forest Node) → found_in p F ≡ Some (place, n) → Retells p F (edit_in p m F)
-  retold = way place n m (λ p F G. Retells p F G) retold-here retold-under retold-next
+  retold : (p : Path) (F : Forest Node) → found_in p F ≡ Some (offset, n) → Retells p F (edit_in p m F)
+  retold = way offset n m (λ p F G. Retells p F G) retold-here retold-under retold-next
 
   abbrev after_root : Branch Node → Keys
   after_root keys = ([], rec keys.node) ∷ spelled h keys.below
@@ -206,7 +206,7 @@ module _ (h k : Heap) (same : (z : ℕ) → descriptor_in k z ≡ descriptor_in 
   tree-new keys =
       (λ i. from_entries (map below_root (behind (rec-same keys.node i) (spelled-same keys.below i)))) ∙ tree-old keys
 
-  find-root : (p : Path) (keys : Branch Node) → found_at p keys ≡ Some (place, n) → (q : Path) →
+  find-root : (p : Path) (keys : Branch Node) → found_at p keys ≡ Some (offset, n) → (q : Path) →
       find path_cmp q (after_root (edit_at p m keys)) ≡ cond (same_path q p) (Some (rec m)) (find path_cmp q (after_root keys))
   find-root [] keys e [] = refl
   find-root [] keys e (z ∷ q) = refl
@@ -214,7 +214,8 @@ module _ (h k : Heap) (same : (z : ℕ) → descriptor_in k z ≡ descriptor_in 
   find-root (x ∷ p) keys e (z ∷ q) = retold (x ∷ p) keys.below e (z ∷ q)
 
   -- the tree has the new record at the key's path
-  pub tree-exchanged : (p : Path) (keys : Branch Node) → found_at p keys ≡ Some (place, n) → tree_of k (edit_at p m keys) ≡ insert (tree_of h keys) p (rec_of m (descriptor_in h m.key.fields.security))
+  pub tree-exchanged : (p : Path) (keys : Branch Node) → found_at p keys ≡ Some (offset, n) →
+      tree_of k (edit_at p m keys) ≡ insert (tree_of h keys) p (rec_of m (descriptor_in h m.key.fields.security))
   tree-exchanged p keys e =
       tree-new (edit_at p m keys)
       ∙ (same_map path_total path_same (from_entries (after_root (edit_at p m keys))) (insert (from_entries (after_root keys)) p (rec m)) (λ q.

@@ -35,7 +35,7 @@ module _ (h k : Heap) (root : ℕ) (p : Path) (keys was is : Branch Node) (first
 
   -- the key has the name that it had
   pub grafted-name : name_of is.node.key ≡ name_of was.node.key
-  grafted-name = name-written k root is.place is.node g.stands.0.written ∙ (g.alike.name ∙ sym (name-written h root was.place was.node old-stands.0.written))
+  grafted-name = name-written k root is.offset is.node g.stands.0.written ∙ (g.alike.name ∙ sym (name-written h root was.offset was.node old-stands.0.written))
 
   -- securities describe what they did
   described : (z : ℕ) → 0 < total_of (shares z) new_keys → descriptor_in k z ≡ descriptor_in h z
@@ -48,7 +48,7 @@ module _ (h k : Heap) (root : ℕ) (p : Path) (keys was is : Branch Node) (first
       by None f = refl
       by (Some b) f =
           let s = branch-stands k root b q new_keys f new-stands in
-          let own = shares-own k root b.place b.node s.0.reads in
+          let own = shares-own k root b.offset b.node s.0.reads in
           let all = branch-total (shares b.node.key.fields.security) b q new_keys f in
           ap (λ d. Some (rec_of b.node d)) (described b.node.key.fields.security (omega (arith, own, all)))
 

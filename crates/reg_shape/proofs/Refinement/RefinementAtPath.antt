@@ -22,8 +22,8 @@ use Rattle.reg_shape.proofs.Graft.Branches.{its_key, branch-found}
 
 -- ---- a written key's name is the one that its record holds
 
-pub name-written : (h : Heap) (root place : ℕ) (node : Node) → IsWrittenKey h root place node → name_of node.key ≡ node.key.name
-name-written h root place node w = ap (λ f. letters (not (f == 0)) node.key.name) (sym (and_assoc 32 node.key.fields.flags 103) ∙ (ap (λ f. bit_and f 32) w.flags ∙ by (place == root)))
+pub name-written : (h : Heap) (root offset : ℕ) (node : Node) → IsWrittenKey h root offset node → name_of node.key ≡ node.key.name
+name-written h root offset node w = ap (λ f. letters (not (f == 0)) node.key.name) (sym (and_assoc 32 node.key.fields.flags 103) ∙ (ap (λ f. bit_and f 32) w.flags ∙ by (offset == root)))
   where
     by : (b : Bool) → bit_and (if b then 36 else 32) 32 ≡ 32
     by true = refl
@@ -36,7 +36,7 @@ IsOther name e = is_named name e.1 ≡ false
 
 abbrev pub Apart : Forest Node → Type 0
 Apart End = Unit {0}
-Apart (Hangs place node below beside) = AllByRecursion (IsOther (folded (name_of node.key))) (heads beside) × Apart below × Apart beside
+Apart (Hangs offset node below beside) = AllByRecursion (IsOther (folded (name_of node.key))) (heads beside) × Apart below × Apart beside
 
 other-name : (a : List ℕ) (n : Node) → a ≢ folded (name_of n.key) → is_named a n ≡ false
 other-name a n d = by (is_named a n) refl
@@ -47,13 +47,13 @@ other-name a n d = by (is_named a n) refl
 
 module _ (h : Heap) (root : ℕ) where
   -- one before all that follow it
-  apart-first : (place : ℕ) (node : Node) (F : Forest Node) → IsSeen h root place node → Stand (IsSeen h root) Fits F →
+  apart-first : (offset : ℕ) (node : Node) (F : Forest Node) → IsSeen h root offset node → Stand (IsSeen h root) Fits F →
       AllByRecursion (λ (b : ℕ × Node). Precedes node.key.name b.1.key.name) (heads F) → AllByRecursion (IsOther (folded (name_of node.key))) (heads F)
-  apart-first place node End w a l = tt
-  apart-first place node (Hangs o n b s) w a l = (
+  apart-first offset node End w a l = tt
+  apart-first offset node (Hangs o n b s) w a l = (
     other-name (folded (name_of node.key)) n (λ e. precedes-apart node.key.name n.key.name l.0
-        (ap folded (sym (name-written h root place node w.written)) ∙ (e ∙ ap folded (name-written h root o n a.0.0.written)))),
-    apart-first place node s w a.1 l.1,
+        (ap folded (sym (name-written h root offset node w.written)) ∙ (e ∙ ap folded (name-written h root o n a.0.0.written)))),
+    apart-first offset node s w a.1 l.1,
   )
 
   pub apart-stand : (F : Forest Node) → Stand (IsSeen h root) Fits F → Pairwise (λ (a b : ℕ × Node). Precedes a.1.key.name b.1.key.name) (heads F) → Apart F
@@ -94,7 +94,7 @@ module _ (h : Heap) where
     where
       by : (t : Bool) → is_named x n ≡ t → find path_cmp (x ∷ []) (spelled h s) ≡ option_map (tells_branch h) (branch_in (x ∷ []) s) →
           or_else (cond t (Some (rec_in_tree n)) None) (find path_cmp (x ∷ []) (spelled h s)) ≡ option_map (tells_branch h)
-          (cond t (Some (record { place = o; node = n; below = b })) (branch_in (x ∷ []) s))
+          (cond t (Some (record { offset = o; node = n; below = b })) (branch_in (x ∷ []) s))
       by true e r = refl
       by false e r = r
   told-forest x (y ∷ q) (Hangs o n b s) a = find-behind (rec_in_tree n) (spelled h b) (spelled h s) x (y ∷ q) ∙ by (is_named x n) refl (told-forest y q b a.1) (told-forest x (y ∷ q) s a.2)

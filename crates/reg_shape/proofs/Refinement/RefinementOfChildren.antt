@@ -79,14 +79,14 @@ abbrev names_below : Forest Node → List Name
 names_below F = map its_name (heads F)
 
 module _ (h : Heap) (root : ℕ) where
-  rise-first : (place : ℕ) (node : Node) (F : Forest Node) → IsSeen h root place node → Stand (IsSeen h root) Fits F →
+  rise-first : (offset : ℕ) (node : Node) (F : Forest Node) → IsSeen h root offset node → Stand (IsSeen h root) Fits F →
       AllByRecursion (λ (b : ℕ × Node). Precedes node.key.name b.1.key.name) (heads F) →
       AllByRecursion (λ y. name_order (folded (name_of node.key)) y ≡ Less) (names_below F)
-  rise-first place node End w a l = tt
-  rise-first place node (Hangs o n b s) w a l = (
-    ap (λ a. slice_cmp nat_cmp (folded a) (folded (name_of n.key))) (name-written h root place node w.written) ∙
+  rise-first offset node End w a l = tt
+  rise-first offset node (Hangs o n b s) w a l = (
+    ap (λ a. slice_cmp nat_cmp (folded a) (folded (name_of n.key))) (name-written h root offset node w.written) ∙
         (ap (λ b. slice_cmp nat_cmp (folded node.key.name) (folded b)) (name-written h root o n a.0.0.written) ∙ l.0),
-    rise-first place node s w a.1 l.1,
+    rise-first offset node s w a.1 l.1,
   )
 
   names-rise : (F : Forest Node) → Stand (IsSeen h root) Fits F → Pairwise (λ (a b : ℕ × Node). Precedes a.1.key.name b.1.key.name) (heads F) → IsStrictlySortedBy name_order (names_below F)
@@ -99,7 +99,7 @@ among x End = refl
 among x (Hangs o n b s) = by (is_named x n) (among x s)
   where
     by : (t : Bool) → is_some (branch_in (x ∷ []) s) ≡ list_any (same_name x) (names_below s) →
-        is_some (cond t (Some (record { place = o; node = n; below = b })) (branch_in (x ∷ []) s)) ≡ (t || list_any (same_name x) (names_below s))
+        is_some (cond t (Some (record { offset = o; node = n; below = b })) (branch_in (x ∷ []) s)) ≡ (t || list_any (same_name x) (names_below s))
     by true e = refl
     by false e = e
 

@@ -7,7 +7,7 @@ use Rattle.reg_names.specs.Names.{folded}
 use Rattle.reg_heap.specs.Heaps.{Heap}
 use Rattle.reg_heap.specs.Kinds.{Found}
 use Rattle.reg_heap.specs.Kinds.Kind.{Key}
-use Rattle.reg_records.specs.SubkeyLists.{places_in}
+use Rattle.reg_records.specs.SubkeyLists.{offsets_in}
 use Rattle.reg_shape.specs.Nodes.{Node, entries_of, look}
 use Rattle.reg_shape.specs.Written.{Pairwise}
 use Rattle.reg_shape.specs.Whole.{IsWritten, IsWhole, HasSubkeys}
@@ -16,8 +16,8 @@ use Rattle.reg_shape.proofs.Refinement.SpeltTrees.{names-apart}
 abbrev AreRead : Heap → List (ℕ × Node) → Type 0
 AreRead heap es = AllByRecursion (λ (e : ℕ × Node). look heap e.0 ≡ Some e.1) es
 
-abbrev places-of : List (ℕ × Node) → List ℕ
-places-of es = map (λ (e : ℕ × Node). e.0) es
+abbrev offsets-of : List (ℕ × Node) → List ℕ
+offsets-of es = map (λ (e : ℕ × Node). e.0) es
 
 abbrev is_end : List ℕ → Bool
 is_end [] = true
@@ -32,20 +32,20 @@ tail-of [] = []
 tail-of (x ∷ xs) = xs
 
 -- what is read at the same offsets is the same
-same-read : (heap : Heap) (xs ys : List (ℕ × Node)) → places-of xs ≡ places-of ys → AreRead heap xs → AreRead heap ys → xs ≡ ys
+same-read : (heap : Heap) (xs ys : List (ℕ × Node)) → offsets-of xs ≡ offsets-of ys → AreRead heap xs → AreRead heap ys → xs ≡ ys
 same-read heap [] [] e a b = refl
 same-read heap [] (y ∷ ys) e a b = absurd (false≢true (sym (ap is_end e)))
 same-read heap (x ∷ xs) [] e a b = absurd (false≢true (ap is_end e))
 same-read heap (x ∷ xs) (y ∷ ys) e a b =
-    let place : x.0 ≡ y.0 = ap head-of e in
-    let node : x.1 ≡ y.1 = same_Some _ _ (sym a.0 ∙ (ap (look heap) place ∙ b.0)) in
-    ap (λ p. (p, x.1) ∷ xs) place ∙ (ap (λ n. (y.0, n) ∷ xs) node ∙ ap (λ zs. y ∷ zs) (same-read heap xs ys (ap tail-of e) a.1 b.1))
+    let offset : x.0 ≡ y.0 = ap head-of e in
+    let node : x.1 ≡ y.1 = same_Some _ _ (sym a.0 ∙ (ap (look heap) offset ∙ b.0)) in
+    ap (λ p. (p, x.1) ∷ xs) offset ∙ (ap (λ n. (y.0, n) ∷ xs) node ∙ ap (λ zs. y ∷ zs) (same-read heap xs ys (ap tail-of e) a.1 b.1))
 
 one-apart : (heap : Heap) (root offset : ℕ) → IsWritten heap root offset → (below : List (ℕ × Node)) → HasSubkeys heap offset below →
     Pairwise (λ (a b : ℕ × Node). folded a.1.key.name ≢ folded b.1.key.name) below
 one-apart heap root offset w below h =
     let node : w.node ≡ h.node = same_Some _ _ (sym w.seen ∙ h.seen) in
-    let same = same-read heap w.below below (w.fits.places ∙ (ap (λ (n : Node). places_in (entries_of n.index)) node ∙ sym h.places)) w.reads h.reads in
+    let same = same-read heap w.below below (w.fits.offsets ∙ (ap (λ (n : Node). offsets_in (entries_of n.index)) node ∙ sym h.offsets)) w.reads h.reads in
     subst (λ es. Pairwise (λ (a b : ℕ × Node). folded a.1.key.name ≢ folded b.1.key.name) es) same (names-apart w.below w.fits.order)
 
 all-apart : (heap : Heap) (root : ℕ) (found : List Found) → AllByRecursion (λ (f : Found). f.kind ≡ Key → IsWritten heap root f.offset) found →

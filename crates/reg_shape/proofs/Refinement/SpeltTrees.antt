@@ -14,7 +14,7 @@ use Rattle.reg_names.specs.Names.{folded}
 use Rattle.reg_heap.specs.Paths.{Path, Rec, Tree, path_cmp}
 use Rattle.reg_heap.specs.Heaps.{Heap}
 use Rattle.reg_heap.proofs.ChildrenOfPath.{path-is}
-use Rattle.reg_records.specs.SubkeyLists.{places_in}
+use Rattle.reg_records.specs.SubkeyLists.{offsets_in}
 use Rattle.reg_shape.specs.Nodes.{Node, entries_of}
 use Rattle.reg_shape.specs.Walk.{gather}
 use Rattle.reg_shape.specs.Spelt.{behind, below_root, keys_from, spelt}
@@ -161,7 +161,7 @@ closed-keys : (k : ℕ) (heap : Heap) (offset : ℕ) (keys : Keys) → keys_from
 closed-keys zero heap offset keys e = absurd (keys-none heap offset keys e)
 closed-keys (suc k) heap offset keys e =
     let m = keys-open k heap offset keys e in
-    subst AreClosed m.all (closed-behind m.rec m.below (closed-gathered (keys_from k heap) (closed-keys k heap) (places_in (entries_of m.node.index)) m.below m.below_is))
+    subst AreClosed m.all (closed-behind m.rec m.below (closed-gathered (keys_from k heap) (closed-keys k heap) (offsets_in (entries_of m.node.index)) m.below m.below_is))
 
 -- ---- the tree
 
@@ -202,7 +202,7 @@ spelt-open (suc k) heap root tree e =
     record {
       rec = m.rec;
       below = m.below;
-      closed = closed-gathered (keys_from k heap) (closed-keys k heap) (places_in (entries_of m.node.index)) m.below m.below_is;
+      closed = closed-gathered (keys_from k heap) (closed-keys k heap) (offsets_in (entries_of m.node.index)) m.below m.below_is;
       tree_is = ap (λ keys. from_entries (below_all keys)) m.all ∙ o.2;
     }
 

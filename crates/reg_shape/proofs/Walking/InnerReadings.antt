@@ -105,11 +105,11 @@ big-inner heap size offset y e =
         (λ row zs c. row-inner heap BigList refl (segments_for size) big.list row zs c)
         (λ row y g. pieces-inner heap (segments size row) (segments-bytes size row) y g) y e
 
-pub data-inner : (heap : Heap) (inline small : Bool) (size place : ℕ) (y : List ℕ × List Found) → data_by inline small size place heap ≡ Some y → AreInner y.1
-data-inner heap true small size place y e =
-    gives (take (inline_size size) (little_bytes 4 place)) heap y (guard-open (nat_le (inline_size size) 4) (give (take (inline_size size) (little_bytes 4 place))) heap y e).1
-data-inner heap false true size place y e = pieces-inner heap (if_any Data size place) (any-bytes Data refl size place) y e
-data-inner heap false false size place y e = big-inner heap size place y e
+pub data-inner : (heap : Heap) (inline small : Bool) (size offset : ℕ) (y : List ℕ × List Found) → data_by inline small size offset heap ≡ Some y → AreInner y.1
+data-inner heap true small size offset y e =
+    gives (take (inline_size size) (little_bytes 4 offset)) heap y (guard-open (nat_le (inline_size size) 4) (give (take (inline_size size) (little_bytes 4 offset))) heap y e).1
+data-inner heap false true size offset y e = pieces-inner heap (if_any Data size offset) (any-bytes Data refl size offset) y e
+data-inner heap false false size offset y e = big-inner heap size offset y e
 
 pub member-inner : (heap : Heap) (offset : ℕ) (y : Member × List Found) → member_at offset heap ≡ Some y → AreInner y.1
 member-inner heap offset y e =
@@ -118,7 +118,7 @@ member-inner heap offset y e =
     (λ content y g. bound (given (result_ok (vk_of content))) (λ value. data_at value.fields >>= (λ bytes. give (member_of value bytes))) heap
     (λ value zs c. givens (result_ok (vk_of content)) heap (value, zs) c)
     (λ value y g. bound (data_at value.fields) (λ bytes. give (member_of value bytes)) heap
-    (λ bytes zs c. data-inner heap (is_inline value.fields.size) (nat_le value.fields.size segment_size) value.fields.size value.fields.place (bytes, zs) c)
+    (λ bytes zs c. data-inner heap (is_inline value.fields.size) (nat_le value.fields.size segment_size) value.fields.size value.fields.offset (bytes, zs) c)
     (λ bytes y g. gives (member_of value bytes) heap y g) y g) y g) y e
 
 all-of : {A : Type 0} (xs : List A) → AllByRecursion (λ (x : A). Unit {0}) xs

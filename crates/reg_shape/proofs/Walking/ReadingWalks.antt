@@ -130,30 +130,30 @@ data-walks : (heap : Heap) (value : KeyValueRecord) (y : List ℕ × List Found)
 data-walks heap value y e = by (is_inline value.fields.size) refl (nat_le value.fields.size segment_size) refl e
   where
     by : (inline : Bool) → is_inline value.fields.size ≡ inline → (small : Bool) → nat_le value.fields.size segment_size ≡ small →
-        data_by inline small value.fields.size value.fields.place heap ≡ Some y → IsNamed heap value y.1
+        data_by inline small value.fields.size value.fields.offset heap ≡ Some y → IsNamed heap value y.1
     by true i small s e =
-        let g = guard-open (nat_le (inline_size value.fields.size) 4) (give (take (inline_size value.fields.size) (little_bytes 4 value.fields.place))) heap y e in
-        let p : ◌≡◌ {A = List ℕ × List Found} (take (inline_size value.fields.size) (little_bytes 4 value.fields.place), []) y = same_Some _ _ g.1 in
+        let g = guard-open (nat_le (inline_size value.fields.size) 4) (give (take (inline_size value.fields.size) (little_bytes 4 value.fields.offset))) heap y e in
+        let p : ◌≡◌ {A = List ℕ × List Found} (take (inline_size value.fields.size) (little_bytes 4 value.fields.offset), []) y = same_Some _ _ g.1 in
         record {
           names = [];
           names_are = ap (λ b. cond b (cond (nat_le (inline_size value.fields.size) 4) (Some []) None) (cond (nat_le value.fields.size segment_size)
-              (Some (if_any Data value.fields.size value.fields.place)) (Some (named BigHead value.fields.size value.fields.place ∷ [])))) i
+              (Some (if_any Data value.fields.size value.fields.offset)) (Some (named BigHead value.fields.size value.fields.offset ∷ [])))) i
               ∙ ap (λ b. cond b (Some []) None) g.0;
           walks = subst (λ zs. Walks heap [] zs) (ap (λ (p : List ℕ × List Found). p.1) p) (walks-none heap);
         }
     by false i true s e = record {
-      names = if_any Data value.fields.size value.fields.place;
+      names = if_any Data value.fields.size value.fields.offset;
       names_are = ap (λ b. cond b (cond (nat_le (inline_size value.fields.size) 4) (Some []) None) (cond (nat_le value.fields.size segment_size)
-          (Some (if_any Data value.fields.size value.fields.place)) (Some (named BigHead value.fields.size value.fields.place ∷ [])))) i
-          ∙ ap (λ b. cond b (Some (if_any Data value.fields.size value.fields.place)) (Some (named BigHead value.fields.size value.fields.place ∷ []))) s;
-      walks = pieces-walk heap (if_any Data value.fields.size value.fields.place) (if_any-bytes Data data-bytes value.fields.size value.fields.place) y e;
+          (Some (if_any Data value.fields.size value.fields.offset)) (Some (named BigHead value.fields.size value.fields.offset ∷ [])))) i
+          ∙ ap (λ b. cond b (Some (if_any Data value.fields.size value.fields.offset)) (Some (named BigHead value.fields.size value.fields.offset ∷ []))) s;
+      walks = pieces-walk heap (if_any Data value.fields.size value.fields.offset) (if_any-bytes Data data-bytes value.fields.size value.fields.offset) y e;
     }
     by false i false s e = record {
-      names = named BigHead value.fields.size value.fields.place ∷ [];
+      names = named BigHead value.fields.size value.fields.offset ∷ [];
       names_are = ap (λ b. cond b (cond (nat_le (inline_size value.fields.size) 4) (Some []) None) (cond (nat_le value.fields.size segment_size)
-          (Some (if_any Data value.fields.size value.fields.place)) (Some (named BigHead value.fields.size value.fields.place ∷ [])))) i
-          ∙ ap (λ b. cond b (Some (if_any Data value.fields.size value.fields.place)) (Some (named BigHead value.fields.size value.fields.place ∷ []))) s;
-      walks = big-head heap value.fields.size value.fields.place y e;
+          (Some (if_any Data value.fields.size value.fields.offset)) (Some (named BigHead value.fields.size value.fields.offset ∷ [])))) i
+          ∙ ap (λ b. cond b (Some (if_any Data value.fields.size value.fields.offset)) (Some (named BigHead value.fields.size value.fields.offset ∷ []))) s;
+      walks = big-head heap value.fields.size value.fields.offset y e;
     }
 
 -- ---- values

@@ -7,12 +7,12 @@ use Rattle.reg_heap.specs.Paths.{Member}
 use Rattle.reg_heap.specs.Heaps.{Heap}
 use Rattle.reg_heap.specs.Kinds.{Found}
 use Rattle.reg_heap.specs.Kinds.Kind.{Key, Class, SubList, ValueList, Security}
-use Rattle.reg_shape.specs.Internal.Forests.{Forest, Branch, places, heads, Stand}
+use Rattle.reg_shape.specs.Internal.Forests.{Forest, Branch, offsets, heads, Stand}
 use Rattle.reg_shape.specs.Internal.Forests.Forest.{End, Rooted as Hangs}
 use Rattle.reg_records.specs.KeyNodes.{KeyRecord, nk_of, key_at}
 use Rattle.reg_records.specs.RecordCells.{read_at}
 use Rattle.reg_records.specs.KeySecurities.{sk_of, security_at}
-use Rattle.reg_records.specs.SubkeyLists.{places_in}
+use Rattle.reg_records.specs.SubkeyLists.{offsets_in}
 use Rattle.reg_records.specs.BigData.{plainly, if_any}
 use Rattle.reg_shape.specs.Walk.{key_names, security_names}
 use Rattle.reg_shape.specs.Nodes.{Node, Index, pieces_at, members_at, index_at, entries_of, node_of, node_in, met_of, look}
@@ -92,7 +92,7 @@ look-open heap offset node e =
         })
 
 pub key-walks : (heap : Heap) (offset : ℕ) (node : Node) (below : List (List Found)) → look heap offset ≡ Some node →
-    IsWrittenSecurity heap node.key.fields.security → AllWalk heap (places_in (entries_of node.index)) below →
+    IsWrittenSecurity heap node.key.fields.security → AllWalk heap (offsets_in (entries_of node.index)) below →
     Walks heap (plainly Key offset ∷ []) (node.cells ++ index_met node.index below)
 key-walks heap offset node below e s a =
     let l = look-open heap offset node e in
@@ -113,25 +113,25 @@ key-walks heap offset node below e s a =
 
 -- ---- keys side by side, and all below them
 
-pub heads-places : (F : Forest Node) → map (λ (e : ℕ × Node). e.0) (heads F) ≡ places F
-heads-places End = refl
-heads-places (Hangs place node below beside) = ap (λ ps. place ∷ ps) (heads-places beside)
+pub heads-offsets : (F : Forest Node) → map (λ (e : ℕ × Node). e.0) (heads F) ≡ offsets F
+heads-offsets End = refl
+heads-offsets (Hangs offset node below beside) = ap (λ ps. offset ∷ ps) (heads-offsets beside)
 
 -- the securities that the keys name are as they are written
 abbrev pub AreSecured : Heap → Forest Node → Type 0
 AreSecured heap End = Unit {0}
-AreSecured heap (Hangs place node below beside) = IsWrittenSecurity heap node.key.fields.security × AreSecured heap below × AreSecured heap beside
+AreSecured heap (Hangs offset node below beside) = IsWrittenSecurity heap node.key.fields.security × AreSecured heap below × AreSecured heap beside
 
-pub forest-walks : (heap : Heap) (root : ℕ) (F : Forest Node) → Stand (IsSeen heap root) Fits F → AreSecured heap F → AllWalk heap (places F) (traces F)
+pub forest-walks : (heap : Heap) (root : ℕ) (F : Forest Node) → Stand (IsSeen heap root) Fits F → AreSecured heap F → AllWalk heap (offsets F) (traces F)
 forest-walks heap root End a s = tt
-forest-walks heap root (Hangs place node below beside) a s = (
-  key-walks heap place node (traces below) a.0.0.reads s.0
-      (subst (λ ps. AllWalk heap ps (traces below)) (sym (heads-places below) ∙ a.0.1.places) (forest-walks heap root below a.0.2 s.1)),
+forest-walks heap root (Hangs offset node below beside) a s = (
+  key-walks heap offset node (traces below) a.0.0.reads s.0
+      (subst (λ ps. AllWalk heap ps (traces below)) (sym (heads-offsets below) ∙ a.0.1.offsets) (forest-walks heap root below a.0.2 s.1)),
   forest-walks heap root beside a.1 s.2,
 )
 
 pub branch-walks : (heap : Heap) (root : ℕ) (branch : Branch Node) → StandsIn heap root branch →
-    IsWrittenSecurity heap branch.node.key.fields.security → AreSecured heap branch.below → Walks heap (plainly Key branch.place ∷ []) (trace branch)
+    IsWrittenSecurity heap branch.node.key.fields.security → AreSecured heap branch.below → Walks heap (plainly Key branch.offset ∷ []) (trace branch)
 branch-walks heap root branch a one s =
-    key-walks heap branch.place branch.node (traces branch.below) a.0.reads one
-    (subst (λ ps. AllWalk heap ps (traces branch.below)) (sym (heads-places branch.below) ∙ a.1.places) (forest-walks heap root branch.below a.2 s))
+    key-walks heap branch.offset branch.node (traces branch.below) a.0.reads one
+    (subst (λ ps. AllWalk heap ps (traces branch.below)) (sym (heads-offsets branch.below) ∙ a.1.offsets) (forest-walks heap root branch.below a.2 s))

@@ -4,7 +4,7 @@ use Rattle.reg_heap.specs.Heaps.{Heap}
 use Rattle.reg_heap.specs.Kinds.{Found, tally}
 use Rattle.reg_shape.specs.Internal.Forests.{Forest, Branch, heads, total, total_of, Stand}
 use Rattle.reg_shape.specs.Internal.Forests.Forest.{End, Rooted as Hangs}
-use Rattle.reg_records.specs.SubkeyLists.{Entry, places_in}
+use Rattle.reg_records.specs.SubkeyLists.{Entry, offsets_in}
 use Rattle.reg_shape.specs.Nodes.{Node, KeyList, Index, entries_of}
 use Rattle.reg_shape.specs.Nodes.Index.{Unlisted, Listed, Rooted}
 use Rattle.reg_shape.specs.Written.{Fits}
@@ -55,40 +55,40 @@ module _ (m : Found → ℕ) where
   tally-index : (index : Index) (ts : List (List Found)) → length ts ≡ length (entries_of index) → tally m (index_met index ts) ≡ tally m (index_cells index) + tally m (joined ts)
   tally-index Unlisted ts e = let z = no-traces ts e in omega arith
   tally-index (Listed list) ts e = omega arith
-  tally-index (Rooted place lists) ts e = let l = tally-lists lists ts e in omega arith
+  tally-index (Rooted offset lists) ts e = let l = tally-lists lists ts e in omega arith
 
   length-traces : (F : Forest Node) → length (traces F) ≡ length (map (λ (e : ℕ × Node). e.0) (heads F))
   length-traces End = refl
-  length-traces (Hangs place node below beside) = ap suc (length-traces beside)
+  length-traces (Hangs offset node below beside) = ap suc (length-traces beside)
 
-  length-places : (entries : List Entry) → length (places_in entries) ≡ length entries
-  length-places [] = refl
-  length-places (e ∷ entries) = ap suc (length-places entries)
+  length-offsets : (entries : List Entry) → length (offsets_in entries) ≡ length entries
+  length-offsets [] = refl
+  length-offsets (e ∷ entries) = ap suc (length-offsets entries)
 
   module _ (heap : Heap) (root : ℕ) where
     -- a key: its own cells, and what is met below it
-    tally-key : (place : ℕ) (node : Node) (below : Forest Node) → Fits place node (heads below) →
+    tally-key : (offset : ℕ) (node : Node) (below : Forest Node) → Fits offset node (heads below) →
         tally m (node.cells ++ index_met node.index (traces below)) ≡ tally m (cells_of node) + tally m (joined (traces below))
-    tally-key place node below fits =
-        let long : length (traces below) ≡ length (entries_of node.index) = length-traces below ∙ (ap length fits.places ∙ length-places (entries_of node.index)) in
+    tally-key offset node below fits =
+        let long : length (traces below) ≡ length (entries_of node.index) = length-traces below ∙ (ap length fits.offsets ∙ length-offsets (entries_of node.index)) in
         let index = tally-index node.index (traces below) long in
         let one = tally-append node.cells (index_met node.index (traces below)) in
         let two = tally-append node.cells (index_cells node.index) in
         omega arith
 
     -- all keys of a forest
-    pub tally-forest : (F : Forest Node) → Stand (IsSeen heap root) Fits F → tally m (joined (traces F)) ≡ total (λ place node. tally m (cells_of node)) F
+    pub tally-forest : (F : Forest Node) → Stand (IsSeen heap root) Fits F → tally m (joined (traces F)) ≡ total (λ offset node. tally m (cells_of node)) F
     tally-forest End a = refl
-    tally-forest (Hangs place node below beside) a =
+    tally-forest (Hangs offset node below beside) a =
         let one = tally-append (node.cells ++ index_met node.index (traces below)) (joined (traces beside)) in
-        let key = tally-key place node below a.0.1 in
+        let key = tally-key offset node below a.0.1 in
         let under = tally-forest below a.0.2 in
         let next = tally-forest beside a.1 in
         omega arith
 
     -- a key with all below it
-    pub tally-branch : (branch : Branch Node) → StandsIn heap root branch → tally m (trace branch) ≡ total_of (λ place node. tally m (cells_of node)) branch
+    pub tally-branch : (branch : Branch Node) → StandsIn heap root branch → tally m (trace branch) ≡ total_of (λ offset node. tally m (cells_of node)) branch
     tally-branch branch a =
-        let key = tally-key branch.place branch.node branch.below a.1 in
+        let key = tally-key branch.offset branch.node branch.below a.1 in
         let under = tally-forest branch.below a.2 in
         omega arith

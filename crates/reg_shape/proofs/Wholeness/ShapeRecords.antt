@@ -126,12 +126,12 @@ module _ (heap : Heap) (root : ℕ) where
   index-fine : (index : Index) (ts : List (List Found)) → AllByRecursion (AllByRecursion IsFine) ts → AllByRecursion IsFine (index_met index ts)
   index-fine Unlisted ts a = tt
   index-fine (Listed list) ts a = ((λ e. absurd (no-key Leaf refl e)), joined-fine ts a)
-  index-fine (Rooted place lists) ts a = ((λ e. absurd (no-key SubList refl e)), lists-fine lists ts a)
+  index-fine (Rooted offset lists) ts a = ((λ e. absurd (no-key SubList refl e)), lists-fine lists ts a)
 
   -- a key's own records
-  own-fine : (place : ℕ) (node : Node) → IsWritten heap root place → look heap place ≡ Some node → AllByRecursion IsFine node.cells
-  own-fine place node w e =
-      let l = look-open heap place node e in
+  own-fine : (offset : ℕ) (node : Node) → IsWritten heap root offset → look heap offset ≡ Some node → AllByRecursion IsFine node.cells
+  own-fine offset node w e =
+      let l = look-open heap offset node e in
       let key = node.key in
       let class = inner-fine l.class_cells (class-inner heap key.fields.class_length key.fields.class (node.class, l.class_cells) l.class_is) in
       let values = inner-fine l.value_cells (members-inner heap key.fields.values key.fields.values_list (node.values, l.value_cells) l.values_are) in
@@ -140,43 +140,43 @@ module _ (heap : Heap) (root : ℕ) where
 
   heads-seen : (F : Forest Node) → Stand (IsSeen heap root) Fits F → AllByRecursion (λ (e : ℕ × Node). look heap e.0 ≡ Some e.1) (heads F)
   heads-seen End a = tt
-  heads-seen (Hangs place node below beside) a = (a.0.0.reads, heads-seen beside a.1)
+  heads-seen (Hangs offset node below beside) a = (a.0.0.reads, heads-seen beside a.1)
 
-  written : (place : ℕ) (node : Node) (below : Forest Node) → IsSeen heap root place node → Fits place node (heads below) → Stand (IsSeen heap root) Fits below → IsWritten heap root place
-  written place node below seen fits a = record { node = node; seen = seen.reads; written = seen.written; below = heads below; reads = heads-seen below a; fits = fits }
+  written : (offset : ℕ) (node : Node) (below : Forest Node) → IsSeen heap root offset node → Fits offset node (heads below) → Stand (IsSeen heap root) Fits below → IsWritten heap root offset
+  written offset node below seen fits a = record { node = node; seen = seen.reads; written = seen.written; below = heads below; reads = heads-seen below a; fits = fits }
 
-  key-fine : (place : ℕ) (node : Node) (below : Forest Node) → IsSeen heap root place node → Fits place node (heads below) →
+  key-fine : (offset : ℕ) (node : Node) (below : Forest Node) → IsSeen heap root offset node → Fits offset node (heads below) →
       Stand (IsSeen heap root) Fits below → AllByRecursion (AllByRecursion IsFine) (traces below) →
       AllByRecursion IsFine (node.cells ++ index_met node.index (traces below))
-  key-fine place node below seen fits a under =
-      all-append IsFine node.cells (index_met node.index (traces below)) (own-fine place node (written place node below seen fits a) seen.reads) (index-fine node.index (traces below) under)
+  key-fine offset node below seen fits a under =
+      all-append IsFine node.cells (index_met node.index (traces below)) (own-fine offset node (written offset node below seen fits a) seen.reads) (index-fine node.index (traces below) under)
 
   forest-fine : (F : Forest Node) → Stand (IsSeen heap root) Fits F → AllByRecursion (AllByRecursion IsFine) (traces F)
   forest-fine End a = tt
-  forest-fine (Hangs place node below beside) a =
-      (key-fine place node below a.0.0 a.0.1 a.0.2 (forest-fine below a.0.2), forest-fine beside a.1)
+  forest-fine (Hangs offset node below beside) a =
+      (key-fine offset node below a.0.0 a.0.1 a.0.2 (forest-fine below a.0.2), forest-fine beside a.1)
 
   pub branch-fine : (keys : Branch Node) → StandsIn heap root keys → AllByRecursion IsFine (trace keys)
-  branch-fine keys a = key-fine keys.place keys.node keys.below a.0 a.1 a.2 (forest-fine keys.below a.2)
+  branch-fine keys a = key-fine keys.offset keys.node keys.below a.0 a.1 a.2 (forest-fine keys.below a.2)
 
   -- ---- securities
 
   -- a key names its security
-  pub shares-own : (place : ℕ) (node : Node) → look heap place ≡ Some node → 0 < shared node.key.fields.security (cells_of node)
-  shares-own place node e =
-      let l = look-open heap place node e in
+  pub shares-own : (offset : ℕ) (node : Node) → look heap offset ≡ Some node → 0 < shared node.key.fields.security (cells_of node)
+  shares-own offset node e =
+      let l = look-open heap offset node e in
       let s = node.key.fields.security in
       let f : Found = record { kind = Security; offset = s } in
       let one : is_shared s f ≡ 1 = shared-here f refl in
-      let cells : shared s node.cells ≡ shared s (met_of place node.key l.class_cells l.value_cells) = ap (shared s) l.cells in
+      let cells : shared s node.cells ≡ shared s (met_of offset node.key l.class_cells l.value_cells) = ap (shared s) l.cells in
       let parts = tally-append (is_shared s) l.class_cells (f ∷ l.value_cells) in
       let all = tally-append (is_shared s) node.cells (index_met node.index []) in
       omega (arith, one, cells, parts, all)
 
   pub forest-secured : (F : Forest Node) → Stand (IsSeen heap root) Fits F → ((z : ℕ) → 0 < total (shares z) F → IsWrittenSecurity heap z) → AreSecured heap F
   forest-secured End a h = tt
-  forest-secured (Hangs place node below beside) a h = (
-    h node.key.fields.security (let l = shares-own place node a.0.0.reads in omega arith),
+  forest-secured (Hangs offset node below beside) a h = (
+    h node.key.fields.security (let l = shares-own offset node a.0.0.reads in omega arith),
     forest-secured below a.0.2 (λ z l. h z (omega arith)),
     forest-secured beside a.1 (λ z l. h z (omega arith)),
   )
@@ -184,41 +184,41 @@ module _ (heap : Heap) (root : ℕ) where
   -- ---- how many keys, and cells
 
   -- each key is met as a record that is no security
-  pub key-load : (place : ℕ) (node : Node) → look heap place ≡ Some node → 0 < load (cells_of node)
-  key-load place node e =
-      let l = look-open heap place node e in
-      let cells : load node.cells ≡ load (met_of place node.key l.class_cells l.value_cells) = ap load l.cells in
+  pub key-load : (offset : ℕ) (node : Node) → look heap offset ≡ Some node → 0 < load (cells_of node)
+  key-load offset node e =
+      let l = look-open heap offset node e in
+      let cells : load node.cells ≡ load (met_of offset node.key l.class_cells l.value_cells) = ap load l.cells in
       let all = tally-append (λ f. cond (is_security f.kind) 0 1) node.cells (index_met node.index []) in
       omega (arith, cells, all)
 
-  pub forest-deep : (F : Forest Node) → Stand (IsSeen heap root) Fits F → depth F ≤ total (λ place node. load (cells_of node)) F
+  pub forest-deep : (F : Forest Node) → Stand (IsSeen heap root) Fits F → depth F ≤ total (λ offset node. load (cells_of node)) F
   forest-deep End a = omega arith
-  forest-deep (Hangs place node below beside) a =
-      let l = key-load place node a.0.0.reads in
+  forest-deep (Hangs offset node below beside) a =
+      let l = key-load offset node a.0.0.reads in
       let b = forest-deep below a.0.2 in
       let s = forest-deep beside a.1 in
       omega arith
 
 -- the offsets that are met as own cells
-pub own_places : List Found → List ℕ
-own_places [] = []
-own_places (f ∷ fs) = cond (is_security f.kind) (own_places fs) (f.offset ∷ own_places fs)
+pub own_offsets : List Found → List ℕ
+own_offsets [] = []
+own_offsets (f ∷ fs) = cond (is_security f.kind) (own_offsets fs) (f.offset ∷ own_offsets fs)
 
-pub own-times : (z : ℕ) (fs : List Found) → times z (own_places fs) ≡ owned z fs
-unfolding own_places
+pub own-times : (z : ℕ) (fs : List Found) → times z (own_offsets fs) ≡ owned z fs
+unfolding own_offsets
 own-times z [] = refl
 own-times z (f ∷ fs) = by (is_security f.kind) (own-times z fs)
   where
-    by : (b : Bool) → times z (own_places fs) ≡ owned z fs → times z (cond b (own_places fs) (f.offset ∷ own_places fs)) ≡ cond b 0 (cond (eqb f.offset z) 1 0) + owned z fs
+    by : (b : Bool) → times z (own_offsets fs) ≡ owned z fs → times z (cond b (own_offsets fs) (f.offset ∷ own_offsets fs)) ≡ cond b 0 (cond (eqb f.offset z) 1 0) + owned z fs
     by true e = omega arith
     by false e = omega arith
 
-pub own-length : (fs : List Found) → length (own_places fs) ≡ load fs
-unfolding own_places
+pub own-length : (fs : List Found) → length (own_offsets fs) ≡ load fs
+unfolding own_offsets
 own-length [] = refl
 own-length (f ∷ fs) = by (is_security f.kind) (own-length fs)
   where
-    by : (b : Bool) → length (own_places fs) ≡ load fs → length (cond b (own_places fs) (f.offset ∷ own_places fs)) ≡ cond b 0 1 + load fs
+    by : (b : Bool) → length (own_offsets fs) ≡ load fs → length (cond b (own_offsets fs) (f.offset ∷ own_offsets fs)) ≡ cond b 0 1 + load fs
     by true e = omega arith
     by false e = omega arith
 

@@ -24,43 +24,43 @@ use Rattle.reg_shape.proofs.Frame.WrittenFrame.{seen-kept}
 -- ---- the way to a key
 
 -- what holds where the key stands, and goes on from the keys below and beside, holds of the whole way
-module _ (place : ℕ) (n m : Node) (P : Path → Forest Node → Forest Node → Type 0)
-    (here : (x : List ℕ) (b s : Forest Node) → is_named x n ≡ true → P (x ∷ []) (Hangs place n b s) (Hangs place m b s))
+module _ (offset : ℕ) (n m : Node) (P : Path → Forest Node → Forest Node → Type 0)
+    (here : (x : List ℕ) (b s : Forest Node) → is_named x n ≡ true → P (x ∷ []) (Hangs offset n b s) (Hangs offset m b s))
     (under : (x y : List ℕ) (p : Path) (o : ℕ) (k : Node) (b c s : Forest Node) → is_named x k ≡ true → P (y ∷ p) b c → P (x ∷ y ∷ p) (Hangs o k b s) (Hangs o k c s))
     (next : (x : List ℕ) (p : Path) (o : ℕ) (k : Node) (b s t : Forest Node) → is_named x k ≡ false → P (x ∷ p) s t → P (x ∷ p) (Hangs o k b s) (Hangs o k b t)) where
-  pub way : (p : Path) (F : Forest Node) → found_in p F ≡ Some (place, n) → P p F (edit_in p m F)
+  pub way : (p : Path) (F : Forest Node) → found_in p F ≡ Some (offset, n) → P p F (edit_in p m F)
   way [] F e = absurd (none-some _ e)
   way (x ∷ p) End e = absurd (none-some _ e)
   way (x ∷ []) (Hangs o k b s) e = by (way (x ∷ []) s) (is_named x k) refl e
     where
-      by : (found_in (x ∷ []) s ≡ Some (place, n) → P (x ∷ []) s (edit_in (x ∷ []) m s)) → (t : Bool) → is_named x k ≡ t →
-          cond t (Some (o, k)) (found_in (x ∷ []) s) ≡ Some (place, n) →
+      by : (found_in (x ∷ []) s ≡ Some (offset, n) → P (x ∷ []) s (edit_in (x ∷ []) m s)) → (t : Bool) → is_named x k ≡ t →
+          cond t (Some (o, k)) (found_in (x ∷ []) s) ≡ Some (offset, n) →
           P (x ∷ []) (Hangs o k b s) (cond t (Hangs o m b s) (Hangs o k b (edit_in (x ∷ []) m s)))
       by rest true t e =
-          let q : ◌≡◌ {A = ℕ × Node} (o, k) (place, n) = same_Some _ _ e in
+          let q : ◌≡◌ {A = ℕ × Node} (o, k) (offset, n) = same_Some _ _ e in
           subst (λ (z : ℕ × Node). P (x ∷ []) (Hangs z.0 z.1 b s) (Hangs z.0 m b s)) (sym q) (here x b s (ap (λ (z : ℕ × Node). is_named x z.1) (sym q) ∙ t))
       by rest false t e = next x [] o k b s (edit_in (x ∷ []) m s) t (rest e)
   way (x ∷ y ∷ p) (Hangs o k b s) e = by (way (y ∷ p) b) (way (x ∷ y ∷ p) s) (is_named x k) refl e
     where
-      by : (found_in (y ∷ p) b ≡ Some (place, n) → P (y ∷ p) b (edit_in (y ∷ p) m b)) → (found_in (x ∷ y ∷ p) s ≡ Some (place, n) →
+      by : (found_in (y ∷ p) b ≡ Some (offset, n) → P (y ∷ p) b (edit_in (y ∷ p) m b)) → (found_in (x ∷ y ∷ p) s ≡ Some (offset, n) →
           P (x ∷ y ∷ p) s (edit_in (x ∷ y ∷ p) m s)) → (t : Bool) → is_named x k ≡ t →
-          cond t (found_in (y ∷ p) b) (found_in (x ∷ y ∷ p) s) ≡ Some (place, n) →
+          cond t (found_in (y ∷ p) b) (found_in (x ∷ y ∷ p) s) ≡ Some (offset, n) →
           P (x ∷ y ∷ p) (Hangs o k b s) (cond t (Hangs o k (edit_in (y ∷ p) m b) s) (Hangs o k b (edit_in (x ∷ y ∷ p) m s)))
       by down along true t e = under x y p o k b (edit_in (y ∷ p) m b) s t (down e)
       by down along false t e = next x (y ∷ p) o k b s (edit_in (x ∷ y ∷ p) m s) t (along e)
 
 -- ---- numbers of all keys
 
-pub total-exchanged : (f : ℕ → Node → ℕ) (place : ℕ) (n m : Node) (p : Path) (F : Forest Node) → found_in p F ≡ Some (place, n) → total f (edit_in p m F) + f place n ≡ total f F + f place m
-total-exchanged f place n m = way place n m (λ p F G. total f G + f place n ≡ total f F + f place m)
+pub total-exchanged : (f : ℕ → Node → ℕ) (offset : ℕ) (n m : Node) (p : Path) (F : Forest Node) → found_in p F ≡ Some (offset, n) → total f (edit_in p m F) + f offset n ≡ total f F + f offset m
+total-exchanged f offset n m = way offset n m (λ p F G. total f G + f offset n ≡ total f F + f offset m)
     (λ x b s e. omega arith) (λ x y p o k b c s e h. omega (arith, h)) (λ x p o k b s t e h. omega (arith, h))
 
-total-has : (f : ℕ → Node → ℕ) (place : ℕ) (n m : Node) (p : Path) (F : Forest Node) → found_in p F ≡ Some (place, n) → f place n ≤ total f F
-total-has f place n m = way place n m (λ p F G. f place n ≤ total f F)
+total-has : (f : ℕ → Node → ℕ) (offset : ℕ) (n m : Node) (p : Path) (F : Forest Node) → found_in p F ≡ Some (offset, n) → f offset n ≤ total f F
+total-has f offset n m = way offset n m (λ p F G. f offset n ≤ total f F)
     (λ x b s e. omega arith) (λ x y p o k b c s e h. omega (arith, h)) (λ x p o k b s t e h. omega (arith, h))
 
-depth-same : (place : ℕ) (n m : Node) (p : Path) (F : Forest Node) → found_in p F ≡ Some (place, n) → depth (edit_in p m F) ≡ depth F
-depth-same place n m = way place n m (λ p F G. depth G ≡ depth F)
+depth-same : (offset : ℕ) (n m : Node) (p : Path) (F : Forest Node) → found_in p F ≡ Some (offset, n) → depth (edit_in p m F) ≡ depth F
+depth-same offset n m = way offset n m (λ p F G. depth G ≡ depth F)
     (λ x b s e. refl) (λ x y p o k b c s e h. ap (λ d. max (suc d) (depth s)) h) (λ x p o k b s t e h. ap (λ d. max (suc (depth b)) d) h)
 
 -- ---- what the keys show
@@ -75,8 +75,8 @@ pub alike-self : (us : List (ℕ × Node)) → AreAlike us us
 alike-self [] = tt
 alike-self (a ∷ us) = (refl, record { name = refl; parent = refl; class_length = refl }, alike-self us)
 
-heads-alike : (place : ℕ) (n m : Node) → IsAlike n m → (p : Path) (F : Forest Node) → found_in p F ≡ Some (place, n) → AreAlike (heads F) (heads (edit_in p m F))
-heads-alike place n m a = way place n m (λ p F G. AreAlike (heads F) (heads G))
+heads-alike : (offset : ℕ) (n m : Node) → IsAlike n m → (p : Path) (F : Forest Node) → found_in p F ≡ Some (offset, n) → AreAlike (heads F) (heads (edit_in p m F))
+heads-alike offset n m a = way offset n m (λ p F G. AreAlike (heads F) (heads G))
     (λ x b s e. (refl, a, alike-self (heads s)))
     (λ x y p o k b c s e h. (refl, record { name = refl; parent = refl; class_length = refl }, alike-self (heads s)))
     (λ x p o k b s t e h. (refl, record { name = refl; parent = refl; class_length = refl }, h))
@@ -112,7 +112,7 @@ order-alike (x ∷ xs) (y ∷ ys) a l = (
 
 pub fits-alike : (o : ℕ) (k : Node) (us bs : List (ℕ × Node)) → AreAlike us bs → Fits o k us → Fits o k bs
 fits-alike o k us bs a f = record {
-  places = map-alike (λ (e : ℕ × Node). e.0) (λ x y e s. e) us bs a ∙ f.places;
+  offsets = map-alike (λ (e : ℕ × Node). e.0) (λ x y e s. e) us bs a ∙ f.offsets;
   hashes = map-alike (λ (e : ℕ × Node). hash e.1.key.name) (λ x y e s. ap hash s.name) us bs a ∙ f.hashes;
   order = order-alike us bs a f.order;
   parents = all-alike (λ (e : ℕ × Node). e.1.key.fields.parent ≡ o) (λ x y e s t. s.parent ∙ t) us bs a f.parents;
@@ -132,14 +132,14 @@ module _ (h k : Heap) (root : ℕ) where
     forest-kept f a.1 (λ z l. s z (omega arith)),
   )
 
-  module _ (place : ℕ) (n m : Node) (x : IsExchanged h k root place n m) where
+  module _ (offset : ℕ) (n m : Node) (x : IsExchanged h k root offset n m) where
     -- a cell that the key did not have holds the same
     pub keep : (z : ℕ) → owned z (cells_of n) ≡ 0 → 0 < allocated h z → k z ≡ h z
     keep z none some =
-        let c = x.swaps.count z in
+        let c = x.frame.count z in
         let a = at-most-one h z in
         let b = at-most-one k z in
-        x.swaps.same z none (omega (arith, c, a, b, none, some))
+        x.frame.same z none (omega (arith, c, a, b, none, some))
 
     -- what an edit of a forest does
     record Goes (F G : Forest Node) : Type 0 where
@@ -147,7 +147,7 @@ module _ (h k : Heap) (root : ℕ) where
       shows : AreAlike (heads F) (heads G)
       stand : Stand (IsSeen h root) Fits F → ((z : ℕ) → total (owns z) F ≤ allocated h z) → Stand (IsSeen k root) Fits G
 
-    goes-here : (b s : Forest Node) → Goes (Hangs place n b s) (Hangs place m b s)
+    goes-here : (b s : Forest Node) → Goes (Hangs offset n b s) (Hangs offset m b s)
     goes-here b s = record {
       has = λ z. omega arith;
       shows = (refl, x.alike, alike-self (heads s));
@@ -185,43 +185,44 @@ module _ (h k : Heap) (root : ℕ) where
       );
     }
 
-    goes : (p : Path) (F : Forest Node) → found_in p F ≡ Some (place, n) → Goes F (edit_in p m F)
-    goes = way place n m (λ p F G. Goes F G) (λ x b s e. goes-here b s) (λ x y p o key b c s e g. goes-under o key b c s g) (λ x p o key b s t e g. goes-next o key b s t g)
+    goes : (p : Path) (F : Forest Node) → found_in p F ≡ Some (offset, n) → Goes F (edit_in p m F)
+    goes = way offset n m (λ p F G. Goes F G) (λ x b s e. goes-here b s) (λ x y p o key b c s e g. goes-under o key b c s g) (λ x p o key b s t e g. goes-next o key b s t g)
 
     -- the keys of a branch
-    branch-exchanged : (p : Path) (keys : Branch Node) → found_at p keys ≡ Some (place, n) → StandsIn h root keys →
+    branch-exchanged : (p : Path) (keys : Branch Node) → found_at p keys ≡ Some (offset, n) → StandsIn h root keys →
         ((z : ℕ) → total_of (owns z) keys ≤ allocated h z) → StandsIn k root (edit_at p m keys)
     branch-exchanged [] keys e a c =
-        let q : ◌≡◌ {A = ℕ × Node} (keys.place, keys.node) (place, n) = same_Some _ _ e in
-        let here : keys.place ≡ place = ap (λ (z : ℕ × Node). z.0) q in
+        let q : ◌≡◌ {A = ℕ × Node} (keys.offset, keys.node) (offset, n) = same_Some _ _ e in
+        let here : keys.offset ≡ offset = ap (λ (z : ℕ × Node). z.0) q in
         let node : keys.node ≡ n = ap (λ (z : ℕ × Node). z.1) q in
         let own : (z : ℕ) → owned z (cells_of keys.node) ≡ owned z (cells_of n) = λ z. ap (λ (t : Node). owned z (cells_of t)) node in (
           subst (λ o. IsSeen k root o m) (sym here) x.seen,
-          subst (λ o. Fits o m (heads keys.below)) (sym here) (x.fits (heads keys.below) (subst (λ o. Fits o n (heads keys.below)) here (subst (λ t. Fits keys.place t (heads keys.below)) node a.1))),
+          subst (λ o. Fits o m (heads keys.below)) (sym here) (x.fits (heads keys.below) (subst (λ o. Fits o n (heads keys.below)) here (subst (λ t. Fits keys.offset t (heads keys.below)) node a.1))),
           forest-kept keys.below a.2 (λ z l. (let t = c z in let u = own z in let one = at-most-one h z in keep z (omega (arith, t, u, one, l)) (omega (arith, t, l)))),
         )
     branch-exchanged (y ∷ p) keys e a c =
         let g = goes (y ∷ p) keys.below e in (
-          seen-kept h k root keys.place keys.node a.0 (λ z l. (let t = c z in let u = g.has z in let one = at-most-one h z in keep z (omega (arith, t, u, one, l)) (omega (arith, t, l)))),
-          fits-alike keys.place keys.node (heads keys.below) (heads (edit_in (y ∷ p) m keys.below)) g.shows a.1,
+          seen-kept h k root keys.offset keys.node a.0 (λ z l. (let t = c z in let u = g.has z in let one = at-most-one h z in keep z (omega (arith, t, u, one, l)) (omega (arith, t, l)))),
+          fits-alike keys.offset keys.node (heads keys.below) (heads (edit_in (y ∷ p) m keys.below)) g.shows a.1,
           g.stand a.2 (λ z. (let t = c z in omega (arith, t))),
         )
 
-branch-total : (f : ℕ → Node → ℕ) (place : ℕ) (n m : Node) (p : Path) (keys : Branch Node) → found_at p keys ≡ Some (place, n) → total_of f (edit_at p m keys) + f place n ≡ total_of f keys + f place m
-branch-total f place n m [] keys e =
-    let q : ◌≡◌ {A = ℕ × Node} (keys.place, keys.node) (place, n) = same_Some _ _ e in
-    let a : f keys.place keys.node ≡ f place n = ap (λ (z : ℕ × Node). f z.0 z.1) q in
-    let b : f keys.place m ≡ f place m = ap (λ (z : ℕ × Node). f z.0 m) q in
+branch-total : (f : ℕ → Node → ℕ) (offset : ℕ) (n m : Node) (p : Path) (keys : Branch Node) → found_at p keys ≡ Some (offset, n) →
+    total_of f (edit_at p m keys) + f offset n ≡ total_of f keys + f offset m
+branch-total f offset n m [] keys e =
+    let q : ◌≡◌ {A = ℕ × Node} (keys.offset, keys.node) (offset, n) = same_Some _ _ e in
+    let a : f keys.offset keys.node ≡ f offset n = ap (λ (z : ℕ × Node). f z.0 z.1) q in
+    let b : f keys.offset m ≡ f offset m = ap (λ (z : ℕ × Node). f z.0 m) q in
     omega (arith, a, b)
-branch-total f place n m (y ∷ p) keys e = let t = total-exchanged f place n m (y ∷ p) keys.below e in omega (arith, t)
+branch-total f offset n m (y ∷ p) keys e = let t = total-exchanged f offset n m (y ∷ p) keys.below e in omega (arith, t)
 
-branch-depth : (place : ℕ) (n m : Node) (p : Path) (keys : Branch Node) → found_at p keys ≡ Some (place, n) → depth (edit_at p m keys).below ≡ depth keys.below
-branch-depth place n m [] keys e = refl
-branch-depth place n m (y ∷ p) keys e = depth-same place n m (y ∷ p) keys.below e
+branch-depth : (offset : ℕ) (n m : Node) (p : Path) (keys : Branch Node) → found_at p keys ≡ Some (offset, n) → depth (edit_at p m keys).below ≡ depth keys.below
+branch-depth offset n m [] keys e = refl
+branch-depth offset n m (y ∷ p) keys e = depth-same offset n m (y ∷ p) keys.below e
 
-branch-place : (m : Node) (p : Path) (keys : Branch Node) → (edit_at p m keys).place ≡ keys.place
-branch-place m [] keys = refl
-branch-place m (y ∷ p) keys = refl
+branch-offset : (m : Node) (p : Path) (keys : Branch Node) → (edit_at p m keys).offset ≡ keys.offset
+branch-offset m [] keys = refl
+branch-offset m (y ∷ p) keys = refl
 
 -- ---- the ring
 
@@ -280,12 +281,12 @@ all-members P (x ∷ xs) h = (
   all-members P xs (λ z l. h z (omega arith)),
 )
 
-branch-has : (f : ℕ → Node → ℕ) (place : ℕ) (n m : Node) (p : Path) (keys : Branch Node) → found_at p keys ≡ Some (place, n) → f place n ≤ total_of f keys
-branch-has f place n m [] keys e =
-    let q : ◌≡◌ {A = ℕ × Node} (keys.place, keys.node) (place, n) = same_Some _ _ e in
-    let a : f keys.place keys.node ≡ f place n = ap (λ (z : ℕ × Node). f z.0 z.1) q in
+branch-has : (f : ℕ → Node → ℕ) (offset : ℕ) (n m : Node) (p : Path) (keys : Branch Node) → found_at p keys ≡ Some (offset, n) → f offset n ≤ total_of f keys
+branch-has f offset n m [] keys e =
+    let q : ◌≡◌ {A = ℕ × Node} (keys.offset, keys.node) (offset, n) = same_Some _ _ e in
+    let a : f keys.offset keys.node ≡ f offset n = ap (λ (z : ℕ × Node). f z.0 z.1) q in
     omega (arith, a)
-branch-has f place n m (y ∷ p) keys e = let t = total-has f place n m (y ∷ p) keys.below e in omega (arith, t)
+branch-has f offset n m (y ∷ p) keys e = let t = total-has f offset n m (y ∷ p) keys.below e in omega (arith, t)
 
 counts-kept : (h k : Heap) (f g : ℕ → ℕ) → ((z : ℕ) → g z ≡ f z) → (ring : List ℕ) → AllByRecursion (λ z. k z ≡ h z) ring →
     AllByRecursion (λ z. count_at h z ≡ Some (f z)) ring → AllByRecursion (λ z. count_at k z ≡ Some (g z)) ring
@@ -295,23 +296,23 @@ counts-kept h k f g e (z ∷ ring) a c =
 
 -- ---- whole
 
-pub exchanged : (h k : Heap) (root place : ℕ) (n m : Node) (p : Path) (keys : Branch Node) (first : ℕ) (others : List ℕ) →
-    found_at p keys ≡ Some (place, n) → IsExchanged h k root place n m → IsWholeShape h root keys first others →
+pub exchanged : (h k : Heap) (root offset : ℕ) (n m : Node) (p : Path) (keys : Branch Node) (first : ℕ) (others : List ℕ) →
+    found_at p keys ≡ Some (offset, n) → IsExchanged h k root offset n m → IsWholeShape h root keys first others →
     IsWholeShape k root (edit_at p m keys) first others
-exchanged h k root place n m p keys first others e x w =
-    let own : (z : ℕ) → total_of (owns z) (edit_at p m keys) + owned z (cells_of n) ≡ total_of (owns z) keys + owned z (cells_of m) = λ z. branch-total (owns z) place n m p keys e in
+exchanged h k root offset n m p keys first others e x w =
+    let own : (z : ℕ) → total_of (owns z) (edit_at p m keys) + owned z (cells_of n) ≡ total_of (owns z) keys + owned z (cells_of m) = λ z. branch-total (owns z) offset n m p keys e in
     let share : (z : ℕ) → total_of (shares z) (edit_at p m keys) ≡ total_of (shares z) keys =
-    λ z. (let t = branch-total (shares z) place n m p keys e in let s = x.security z in omega (arith, t, s)) in
-    let has : (z : ℕ) → owned z (cells_of n) ≤ total_of (owns z) keys = λ z. branch-has (owns z) place n m p keys e in
+    λ z. (let t = branch-total (shares z) offset n m p keys e in let s = x.security z in omega (arith, t, s)) in
+    let has : (z : ℕ) → owned z (cells_of n) ≤ total_of (owns z) keys = λ z. branch-has (owns z) offset n m p keys e in
     let calm : AllByRecursion (λ z. k z ≡ h z) (first ∷ others) = all-members (λ z. k z ≡ h z) (first ∷ others)
-    (λ z l. keep h k root place n m x z (let a = w.exact z in let b = has z in let o = at-most-one h z in
+    (λ z l. keep h k root offset n m x z (let a = w.exact z in let b = has z in let o = at-most-one h z in
     omega (arith, a, b, o, l)) (let a = w.exact z in omega (arith, a, l))) in
     record {
-      place = branch-place m p keys ∙ w.place;
-      stands = branch-exchanged h k root place n m x p keys e w.stands (λ z. (let a = w.exact z in omega (arith, a)));
-      exact = λ z. (let a = w.exact z in let b = own z in let c = x.swaps.count z in omega (arith, a, b, c));
+      offset = branch-offset m p keys ∙ w.offset;
+      stands = branch-exchanged h k root offset n m x p keys e w.stands (λ z. (let a = w.exact z in omega (arith, a)));
+      exact = λ z. (let a = w.exact z in let b = own z in let c = x.frame.count z in omega (arith, a, b, c));
       ring = ring-kept h k first others calm w.ring;
       ringed = λ z. ((λ l. (w.ringed z).0 (let s = share z in omega (arith, s, l))), λ l. (let r = (w.ringed z).1 l in let s = share z in omega (arith, r, s)));
       counts = counts-kept h k (λ z. total_of (shares z) keys) (λ z. total_of (shares z) (edit_at p m keys)) share (first ∷ others) calm w.counts;
-      shallow = (let d = branch-depth place n m p keys e in let s = w.shallow in omega (arith, d, s));
+      shallow = (let d = branch-depth offset n m p keys e in let s = w.shallow in omega (arith, d, s));
     }

@@ -24,7 +24,8 @@ use Rattle.reg_shape.proofs.Wholeness.FewerNumbers.{fewer}
 use Rattle.reg_shape.proofs.Walking.WalkRefinement.{AreSecured, branch-walks}
 use Rattle.reg_shape.proofs.Wholeness.ShapeCounts.{tally-branch}
 use Rattle.reg_shape.proofs.Refinement.SpeltShapes.{keys-one, keys-more, branch-spelt, longer, behind-short, spelled-short}
-use Rattle.reg_shape.proofs.Wholeness.ShapeRecords.{all-at, once, branch-fine, shares-own, forest-secured, forest-deep, own_places, own-times, own-length, AreAtMost, at-most-one, is-allocated, allocated-is}
+use Rattle.reg_shape.proofs.Wholeness.ShapeRecords.{all-at, once, branch-fine, shares-own, forest-secured, forest-deep, own_offsets, own-times, own-length, AreAtMost, at-most-one}
+use Rattle.reg_shape.proofs.Wholeness.ShapeRecords.{is-allocated, allocated-is}
 
 -- ---- whole
 
@@ -39,24 +40,24 @@ module _ (heap : Heap) (root : ℕ) (keys : Branch Node) (first : ℕ) (others :
   secured z l = all-at (IsWrittenSecurity heap) (first ∷ others) z w.ring.written ((w.ringed z).0 l)
 
   one-secured : IsWrittenSecurity heap keys.node.key.fields.security
-  one-secured = secured keys.node.key.fields.security (let l = shares-own heap root keys.place keys.node w.stands.0.reads in omega arith)
+  one-secured = secured keys.node.key.fields.security (let l = shares-own heap root keys.offset keys.node w.stands.0.reads in omega arith)
 
   all-secured : AreSecured heap keys.below
   all-secured = forest-secured heap root keys.below w.stands.2 (λ z l. secured z (omega arith))
 
-  walks : Walks heap (plainly Key keys.place ∷ []) (trace keys)
+  walks : Walks heap (plainly Key keys.offset ∷ []) (trace keys)
   walks = branch-walks heap root keys w.stands one-secured all-secured
 
   -- some fuel walks it
-  walked : walk walks.fuel heap (plainly Key keys.place) ≡ Some (trace keys)
+  walked : walk walks.fuel heap (plainly Key keys.offset) ≡ Some (trace keys)
   walked =
-      let o = gather-open (walk walks.fuel heap) (plainly Key keys.place) [] (trace keys) walks.walked in
+      let o = gather-open (walk walks.fuel heap) (plainly Key keys.offset) [] (trace keys) walks.walked in
       o.head_is ∙ ap Some (sym (append-nil o.head) ∙ (ap (λ t. o.head ++ t) (same_Some _ _ o.tail_is) ∙ o.all))
 
   -- the records met that are no securities, and one security, are as many cells
   roomy : (cells : ℕ) → AreAtMost heap cells → suc (load (trace keys)) ≤ cells
   roomy cells a =
-      let less : length (first ∷ own_places (trace keys)) ≤ length a.offsets = fewer (first ∷ own_places (trace keys)) a.offsets (λ z.
+      let less : length (first ∷ own_offsets (trace keys)) ≤ length a.offsets = fewer (first ∷ own_offsets (trace keys)) a.offsets (λ z.
       let o = own-times z (trace keys) ∙ owned-is z in
       let e = w.exact z in
       let l = a.all z in
@@ -111,7 +112,7 @@ module _ (heap : Heap) (root : ℕ) (keys : Branch Node) (first : ℕ) (others :
   its_keys = behind (rec_of keys.node (descriptor_in heap keys.node.key.fields.security)) (spelled heap keys.below)
 
   keys-are : keys_from (suc (depth keys.below)) heap root ≡ Some its_keys
-  keys-are = ap (keys_from (suc (depth keys.below)) heap) (sym w.place) ∙ branch-spelt heap root (depth keys.below) keys w.stands one-secured all-secured (omega arith)
+  keys-are = ap (keys_from (suc (depth keys.below)) heap) (sym w.offset) ∙ branch-spelt heap root (depth keys.below) keys w.stands one-secured all-secured (omega arith)
 
   short : AllByRecursion (λ (e : Path × Rec). length e.0 ≤ 513) its_keys
   short = longer (suc (depth keys.below)) 513 (let s = w.shallow in omega arith) its_keys
@@ -121,8 +122,8 @@ module _ (heap : Heap) (root : ℕ) (keys : Branch Node) (first : ℕ) (others :
   pub whole-from-shape : (cells : ℕ) → AreAtMost heap cells → IsWhole heap cells root
   whole-from-shape cells a = record {
     found = trace keys;
-    walked = ap (λ z. walk cells heap (plainly Key z)) (sym w.place) ∙ walk-more (suc (load (trace keys))) cells heap (roomy cells a)
-        (plainly Key keys.place) (trace keys) (walk-enough walks.fuel heap (plainly Key keys.place) (trace keys) walked);
+    walked = ap (λ z. walk cells heap (plainly Key z)) (sym w.offset) ∙ walk-more (suc (load (trace keys))) cells heap (roomy cells a)
+        (plainly Key keys.offset) (trace keys) (walk-enough walks.fuel heap (plainly Key keys.offset) (trace keys) walked);
     once = once (trace keys) owned-once owned-unshared;
     exact = exact;
     first = first;

@@ -5,7 +5,7 @@ use Rattle.std.specs.Ordering.{nat_cmp, eq_by_cmp}
 use Rattle.std.specs.Cmp.Lexicographic.{slice_cmp}
 use Rattle.reg_names.specs.Names.{folded}
 use Rattle.reg_heap.specs.Paths.{Path}
-use Rattle.reg_heap.specs.Heaps.{Heap, Swaps}
+use Rattle.reg_heap.specs.Heaps.{Heap, CellFrame}
 use Rattle.reg_heap.specs.Kinds.{owned, shared}
 use Rattle.reg_shape.specs.Internal.Forests.{Forest, Branch}
 use Rattle.reg_shape.specs.Internal.Forests.Forest.{End, Rooted as Hangs}
@@ -22,21 +22,21 @@ is_named name node = eq_by_cmp (slice_cmp nat_cmp) name (folded (name_of node.ke
 abbrev pub found_in : Path → Forest Node → Option (ℕ × Node)
 found_in [] keys = None
 found_in (name ∷ path) End = None
-found_in (name ∷ []) (Hangs place node below beside) = cond (is_named name node) (Some (place, node)) (found_in (name ∷ []) beside)
-found_in (name ∷ next ∷ path) (Hangs place node below beside) = cond (is_named name node) (found_in (next ∷ path) below) (found_in (name ∷ next ∷ path) beside)
+found_in (name ∷ []) (Hangs offset node below beside) = cond (is_named name node) (Some (offset, node)) (found_in (name ∷ []) beside)
+found_in (name ∷ next ∷ path) (Hangs offset node below beside) = cond (is_named name node) (found_in (next ∷ path) below) (found_in (name ∷ next ∷ path) beside)
 
 abbrev pub found_at : Path → Branch Node → Option (ℕ × Node)
-found_at [] keys = Some (keys.place, keys.node)
+found_at [] keys = Some (keys.offset, keys.node)
 found_at (name ∷ path) keys = found_in (name ∷ path) keys.below
 
 -- another node for the key at a path
 abbrev pub edit_in : Path → Node → Forest Node → Forest Node
 edit_in [] new keys = keys
 edit_in (name ∷ path) new End = End
-edit_in (name ∷ []) new (Hangs place node below beside) = cond (is_named name node) (Hangs place new below beside)
-    (Hangs place node below (edit_in (name ∷ []) new beside))
-edit_in (name ∷ next ∷ path) new (Hangs place node below beside) =
-    cond (is_named name node) (Hangs place node (edit_in (next ∷ path) new below) beside) (Hangs place node below (edit_in (name ∷ next ∷ path) new beside))
+edit_in (name ∷ []) new (Hangs offset node below beside) = cond (is_named name node) (Hangs offset new below beside)
+    (Hangs offset node below (edit_in (name ∷ []) new beside))
+edit_in (name ∷ next ∷ path) new (Hangs offset node below beside) =
+    cond (is_named name node) (Hangs offset node (edit_in (next ∷ path) new below) beside) (Hangs offset node below (edit_in (name ∷ next ∷ path) new beside))
 
 abbrev pub edit_at : Path → Node → Branch Node → Branch Node
 edit_at [] new keys = record keys { node = new }
@@ -50,9 +50,9 @@ pub record IsAlike (old new : Node) : Type 0 where
 
 -- the key at an offset gave up its own cells for others, and is as it is written; it shows the same above and fits the same below,
 -- and names the same security
-pub record IsExchanged (old new : Heap) (root place : ℕ) (was is : Node) : Type 0 where
-  pub swaps : Swaps old new (λ offset. owned offset (cells_of was)) (λ offset. owned offset (cells_of is))
-  pub seen : IsSeen new root place is
+pub record IsExchanged (old new : Heap) (root node_offset : ℕ) (was is : Node) : Type 0 where
+  pub frame : CellFrame old new (λ offset. owned offset (cells_of was)) (λ offset. owned offset (cells_of is))
+  pub seen : IsSeen new root node_offset is
   pub alike : IsAlike was is
-  pub fits : (below : List (ℕ × Node)) → Fits place was below → Fits place is below
+  pub fits : (below : List (ℕ × Node)) → Fits node_offset was below → Fits node_offset is below
   pub security : (offset : ℕ) → shared offset (cells_of is) ≡ shared offset (cells_of was)

@@ -17,7 +17,7 @@ use Rattle.reg_shape.specs.Internal.Exchanges.{is_named, IsAlike}
 -- the keys stand in the cells, and these are all that the cells hold: each allocated cell is one key's, or in the ring, or spare for a
 -- key to come, once; each security is named as often as it counts, and at least once; no key is deeper than 512 names
 pub record IsShape (heap : Heap) (root : ℕ) (keys : Branch Node) (first : ℕ) (others : List ℕ) (spare : List ℕ) : Type 0 where
-  pub place : keys.place ≡ root
+  pub offset : keys.offset ≡ root
   pub stands : StandsIn heap root keys
   pub exact : (offset : ℕ) → total_of (owns offset) keys + times offset (first ∷ others) + times offset spare ≡ allocated heap offset
   pub ring : IsRing heap first others
@@ -29,9 +29,9 @@ pub record IsShape (heap : Heap) (root : ℕ) (keys : Branch Node) (first : ℕ)
 abbrev pub branch_in : Path → Forest Node → Option (Branch Node)
 branch_in [] keys = None
 branch_in (name ∷ path) End = None
-branch_in (name ∷ []) (Hangs place node below beside) =
-    cond (is_named name node) (Some (record { place = place; node = node; below = below })) (branch_in (name ∷ []) beside)
-branch_in (name ∷ next ∷ path) (Hangs place node below beside) = cond (is_named name node) (branch_in (next ∷ path) below)
+branch_in (name ∷ []) (Hangs offset node below beside) =
+    cond (is_named name node) (Some (record { offset = offset; node = node; below = below })) (branch_in (name ∷ []) beside)
+branch_in (name ∷ next ∷ path) (Hangs offset node below beside) = cond (is_named name node) (branch_in (next ∷ path) below)
     (branch_in (name ∷ next ∷ path) beside)
 
 abbrev pub branch_at : Path → Branch Node → Option (Branch Node)
@@ -42,11 +42,11 @@ branch_at (name ∷ path) keys = branch_in (name ∷ path) keys.below
 abbrev pub graft_in : Path → Node → Forest Node → Forest Node → Forest Node
 graft_in [] new under keys = keys
 graft_in (name ∷ path) new under End = End
-graft_in (name ∷ []) new under (Hangs place node below beside) =
-    cond (is_named name node) (Hangs place new under beside) (Hangs place node below (graft_in (name ∷ []) new under beside))
-graft_in (name ∷ next ∷ path) new under (Hangs place node below beside) =
-    cond (is_named name node) (Hangs place node (graft_in (next ∷ path) new under below) beside)
-    (Hangs place node below (graft_in (name ∷ next ∷ path) new under beside))
+graft_in (name ∷ []) new under (Hangs offset node below beside) =
+    cond (is_named name node) (Hangs offset new under beside) (Hangs offset node below (graft_in (name ∷ []) new under beside))
+graft_in (name ∷ next ∷ path) new under (Hangs offset node below beside) =
+    cond (is_named name node) (Hangs offset node (graft_in (next ∷ path) new under below) beside)
+    (Hangs offset node below (graft_in (name ∷ next ∷ path) new under beside))
 
 abbrev pub graft_at : Path → Node → Forest Node → Branch Node → Branch Node
 graft_at [] new under keys = record keys { node = new; below = under }
@@ -54,9 +54,9 @@ graft_at (name ∷ path) new under keys = record keys { below = graft_in (name �
 
 -- a key without keys below it, put among others at an index
 abbrev pub hang : ℕ → ℕ → Node → Forest Node → Forest Node
-hang zero place node keys = Hangs place node End keys
-hang (suc n) place node End = Hangs place node End End
-hang (suc n) place node (Hangs other key below beside) = Hangs other key below (hang n place node beside)
+hang zero offset node keys = Hangs offset node End keys
+hang (suc n) offset node End = Hangs offset node End End
+hang (suc n) offset node (Hangs other key below beside) = Hangs other key below (hang n offset node beside)
 
 -- the others without the one at an index
 abbrev pub unhang : ℕ → Forest Node → Forest Node
@@ -76,7 +76,7 @@ pub record IsRecounted (old new : Heap) (was is : ℕ) (offset : ℕ) : Type 0 w
 -- a key and all below it gave way to others at its offset, which stand in its cells and in cells that were spare; what it shows
 -- above is the same, and the securities that it names
 pub record IsGrafted (old new : Heap) (root : ℕ) (was is : Branch Node) (first : ℕ) (others spare left : List ℕ) : Type 0 where
-  pub place : is.place ≡ was.place
+  pub offset : is.offset ≡ was.offset
   pub alike : IsAlike was.node is.node
   pub stands : StandsIn new root is
   pub count : (offset : ℕ) → allocated new offset + (total_of (owns offset) was + times offset spare) ≡ allocated old offset +
@@ -88,6 +88,6 @@ pub record IsGrafted (old new : Heap) (root : ℕ) (was is : Branch Node) (first
 
 -- the key at an index is this one, and no key is below it
 abbrev pub IsLeafAt : ℕ → ℕ → Node → Forest Node → Type 0
-IsLeafAt n place node End = ⊥
-IsLeafAt zero place node (Hangs other key below beside) = (other ≡ place) × (key ≡ node) × (below ≡ End)
-IsLeafAt (suc n) place node (Hangs other key below beside) = IsLeafAt n place node beside
+IsLeafAt n offset node End = ⊥
+IsLeafAt zero offset node (Hangs other key below beside) = (other ≡ offset) × (key ≡ node) × (below ≡ End)
+IsLeafAt (suc n) offset node (Hangs other key below beside) = IsLeafAt n offset node beside

@@ -25,18 +25,18 @@ joined (xs ∷ xss) = xs ++ joined xss
 abbrev pub lists_met : List KeyList → List (List Found) → List Found
 lists_met [] below = []
 lists_met (list ∷ lists) below =
-    record { kind = Leaf; offset = list.place } ∷ joined (take (length list.list.entries) below) ++ lists_met lists (drop (length list.list.entries) below)
+    record { kind = Leaf; offset = list.offset } ∷ joined (take (length list.list.entries) below) ++ lists_met lists (drop (length list.list.entries) below)
 
 -- the records met in an index, with what is met below each key
 abbrev pub index_met : Index → List (List Found) → List Found
 index_met Unlisted below = []
-index_met (Listed list) below = record { kind = Leaf; offset = list.place } ∷ joined below
-index_met (Rooted place lists) below = record { kind = SubList; offset = place } ∷ lists_met lists below
+index_met (Listed list) below = record { kind = Leaf; offset = list.offset } ∷ joined below
+index_met (Rooted offset lists) below = record { kind = SubList; offset = offset } ∷ lists_met lists below
 
 -- the records met from each key on, those side by side apart
 abbrev pub traces : Forest Node → List (List Found)
 traces End = []
-traces (Hangs place node below beside) = (node.cells ++ index_met node.index (traces below)) ∷ traces beside
+traces (Hangs offset node below beside) = (node.cells ++ index_met node.index (traces below)) ∷ traces beside
 
 -- the records met from a key on
 abbrev pub trace : Branch Node → List Found
@@ -52,16 +52,16 @@ cells_of node = node.cells ++ index_cells node.index
 
 -- how often a key has an offset as its own cell
 abbrev pub owns : ℕ → ℕ → Node → ℕ
-owns offset place node = owned offset (cells_of node)
+owns offset node_offset node = owned offset (cells_of node)
 
 -- how often a key has an offset as its security
 abbrev pub shares : ℕ → ℕ → Node → ℕ
-shares offset place node = shared offset (cells_of node)
+shares offset node_offset node = shared offset (cells_of node)
 
 -- a key reads as this node, and is as it is written
-pub record IsSeen (heap : Heap) (root place : ℕ) (node : Node) : Type 0 where
-  pub reads : look heap place ≡ Some node
-  pub written : IsWrittenKey heap root place node
+pub record IsSeen (heap : Heap) (root offset : ℕ) (node : Node) : Type 0 where
+  pub reads : look heap offset ≡ Some node
+  pub written : IsWrittenKey heap root offset node
 
 -- the keys of a branch stand in the cells: each reads as its node and fits those right below it
 abbrev pub StandsIn : Heap → ℕ → Branch Node → Type 0
@@ -70,7 +70,7 @@ StandsIn heap root branch = Stands (IsSeen heap root) Fits branch
 -- how many keys lead down at most
 abbrev pub depth : Forest Node → ℕ
 depth End = 0
-depth (Hangs place node below beside) = max (suc (depth below)) (depth beside)
+depth (Hangs offset node below beside) = max (suc (depth below)) (depth beside)
 
 -- what a security cell describes
 abbrev pub descriptor_in : Heap → ℕ → List ℕ
@@ -79,7 +79,7 @@ descriptor_in heap offset = unwrap_or (descriptor_at heap offset) []
 -- the keys of a forest, each behind the folded names that lead to it
 abbrev pub spelled : Heap → Forest Node → List (Path × Rec)
 spelled heap End = []
-spelled heap (Hangs place node below beside) = behind (rec_of node (descriptor_in heap node.key.fields.security)) (spelled heap below) ++ spelled heap beside
+spelled heap (Hangs offset node below beside) = behind (rec_of node (descriptor_in heap node.key.fields.security)) (spelled heap below) ++ spelled heap beside
 
 -- the tree that a shape spells
 abbrev pub tree_of : Heap → Branch Node → Tree
@@ -89,7 +89,7 @@ tree_of heap keys =
 -- the keys stand in the cells, and these are all that the cells hold: each allocated cell is one key's, or in the ring, once; each
 -- security is named as often as it counts, and at least once; no key is deeper than 512 names
 pub record IsWholeShape (heap : Heap) (root : ℕ) (keys : Branch Node) (first : ℕ) (others : List ℕ) : Type 0 where
-  pub place : keys.place ≡ root
+  pub offset : keys.offset ≡ root
   pub stands : StandsIn heap root keys
   pub exact : (offset : ℕ) → total_of (owns offset) keys + times offset (first ∷ others) ≡ allocated heap offset
   pub ring : IsRing heap first others

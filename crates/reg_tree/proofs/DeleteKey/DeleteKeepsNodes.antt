@@ -8,21 +8,21 @@ use Rattle.reg_tree.specs.declared.node.Node.{Node}
 use Rattle.reg_tree.specs.declared.fault.TreeFault.{TreeFault}
 use Rattle.reg_tree.specs.declared.fault.TreeFault.TheVariants.{HasChildren, NoDelete}
 use Rattle.reg_tree.specs.TreeKeys.{Keys, tree_in, IsAt, IsThere}
-use Rattle.reg_tree.specs.TreeInvariant.{Holds, IsHere}
+use Rattle.reg_tree.specs.TreeInvariant.{TreeInvariant, IsHere}
 use Rattle.reg_tree.specs.Internal.KeyDeletion.{IsDeleted}
 use Rattle.reg_tree.proofs.Invariant.NodeLemmas.{on_ok, seen_as, here_at, there_at, of_tree}
 
-module _ (bins : Bins) (root : ℕ) (holds : Holds bins.bytes root) (now : Keys) (view_is : seen_as bins root ≡ now) (result : Result (Unit {0}) TreeFault) (node : Node) where
+module _ (bins : Bins) (root : ℕ) (holds : TreeInvariant bins.bytes root) (now : Keys) (view_is : seen_as bins root ≡ now) (result : Result (Unit {0}) TreeFault) (node : Node) where
   abbrev Here : Type 0
   Here = IsHere bins.bytes node.offset
 
   module _ (new : Bins) (moment : ℕ) (ok : (t : Here) → OnOk result (IsDeleted bins.bytes new.bytes t.root t.path moment)) where
-    pub deleted_holds : IsThere now node → OnErr result (new ≡ bins) → Holds new.bytes root
+    pub deleted_holds : IsThere now node → OnErr result (new ≡ bins) → TreeInvariant new.bytes root
     deleted_holds some err = by result (ok (there_at bins root holds now view_is node some)) err
       where
-        by : (r : Result (Unit {0}) TreeFault) → OnOk r (IsDeleted bins.bytes new.bytes root some.0 moment) → OnErr r (new ≡ bins) → Holds new.bytes root
+        by : (r : Result (Unit {0}) TreeFault) → OnOk r (IsDeleted bins.bytes new.bytes root some.0 moment) → OnErr r (new ≡ bins) → TreeInvariant new.bytes root
         by (Ok x) d e = d.holds
-        by (Err x) d e = subst (λ (b : Bins). Holds b.bytes root) (sym e) holds
+        by (Err x) d e = subst (λ (b : Bins). TreeInvariant b.bytes root) (sym e) holds
 
     pub deleted_tree : (p : Path) → IsAt now p node → OnOk result (tree_in new.bytes root ≡ without_key now.tree p moment)
     deleted_tree p at = on_ok result (λ d. of_tree bins root holds now view_is (λ t. tree_in new.bytes root ≡ without_key t p moment) d.tree) (ok (here_at bins root holds now view_is node p at))
@@ -32,7 +32,7 @@ module _ (bins : Bins) (root : ℕ) (holds : Holds bins.bytes root) (now : Keys)
     deleted_nodes p at = on_ok result (λ d. stays d) (ok (here_at bins root holds now view_is node p at))
       where
         stays : IsDeleted bins.bytes new.bytes root p moment → (q : Path) → (other : Node) → IsAt now q other → q ≢ p → IsAt (seen_as new root) q other
-        stays d q other at n = let a = subst (λ k. IsAt k q other) (sym view_is) at in record { place = d.places q n ∙ a.place; depth = a.depth }
+        stays d q other at n = let a = subst (λ k. IsAt k q other) (sym view_is) at in record { offset = d.offsets q n ∙ a.offset; depth = a.depth }
 
   -- what holds of the tree spelt holds of the tree seen
   pub children_seen : ((t : Here) → ((result ≡ Err HasChildren) ↔ (children_of (tree_in bins.bytes t.root) t.path ≢ []))) → (p : Path) →

@@ -60,9 +60,9 @@ module _ (old : List ℕ) (key : ℕ) (t : IsHere old key) where
       let spelt = ap (λ tree. length (children_of tree t.path)) (spelt_is old t.root t.holds) in
       let c = ap length told in
       let d = length-map (heads b.below) (λ (e : ℕ × Node). t.path ++ folded (name_of e.1.key) ∷ []) in
-      let f = ap length (stands old key t).1.places in
+      let f = ap length (stands old key t).1.offsets in
       let g = length-map (heads b.below) (λ (e : ℕ × Node). e.0) in
-      let i = length-map (entries_of b.node.index) (λ (e : Entry). e.place) in
+      let i = length-map (entries_of b.node.index) (λ (e : Entry). e.offset) in
       let s = (seen old key t).written.subkeys in
       omega (arith, spelt, c, d, f, g, i, s)
 
@@ -80,27 +80,27 @@ module _ (old : List ℕ) (key : ℕ) (t : IsHere old key) where
   abbrev flags : ℕ
   flags = b.node.key.fields.flags
 
-  root-mark : bit_and flags 4 ≡ bit_and (if b.place == t.root then 36 else 32) 4
+  root-mark : bit_and flags 4 ≡ bit_and (if b.offset == t.root then 36 else 32) 4
   root-mark = sym (and_assoc 4 flags 103) ∙ ap (λ f. bit_and f 4) (seen old key t).written.flags
 
-  unmarked : (r : Bool) → (b.place == t.root) ≡ r → r ≡ false → bit_and flags 4 ≡ 0
+  unmarked : (r : Bool) → (b.offset == t.root) ≡ r → r ≡ false → bit_and flags 4 ≡ 0
   unmarked r e f = root-mark ∙ ap (λ r. bit_and (if r then 36 else 32) 4) (e ∙ f)
 
-  root-placed : bit_and flags 4 ≢ 0 → b.place ≡ t.root
-  root-placed n = by (b.place == t.root) refl
+  root-placed : bit_and flags 4 ≢ 0 → b.offset ≡ t.root
+  root-placed n = by (b.offset == t.root) refl
     where
-      by : (r : Bool) → (b.place == t.root) ≡ r → b.place ≡ t.root
+      by : (r : Bool) → (b.offset == t.root) ≡ r → b.offset ≡ t.root
       by true e = eqb-true _ _ e
       by false e = absurd (n (unmarked false e refl))
 
   -- no other key stands at the root's offset
-  alone : b.place ≡ t.root → (q : Path) → branch_at q keys ≡ Some b → q ≡ []
+  alone : b.offset ≡ t.root → (q : Path) → branch_at q keys ≡ Some b → q ≡ []
   alone e [] f = refl
   alone e (x ∷ q) f =
       let z = t.root in
       let below = forest-branch-total (owns z) b (x ∷ q) keys.below f in
-      let own_key : 0 < owned z (cells_of b.node) = subst (λ z. 0 < owned z (cells_of b.node)) e (key-owned h t.root b.place b.node (seen old key t)) in
-      let own_root : 0 < owned z (cells_of keys.node) = subst (λ z. 0 < owned z (cells_of keys.node)) w.place (key-owned h t.root keys.place keys.node w.stands.0) in
+      let own_key : 0 < owned z (cells_of b.node) = subst (λ z. 0 < owned z (cells_of b.node)) e (key-owned h t.root b.offset b.node (seen old key t)) in
+      let own_root : 0 < owned z (cells_of keys.node) = subst (λ z. 0 < owned z (cells_of keys.node)) w.offset (key-owned h t.root keys.offset keys.node w.stands.0) in
       let exact = w.exact z in
       let one = at-most-one h z in
       absurd (omega (arith, below, own_key, own_root, exact, one))
@@ -111,8 +111,8 @@ module _ (old : List ℕ) (key : ℕ) (t : IsHere old key) where
   path-marked : t.path ≡ [] → bit_and flags 4 ≢ 0
   path-marked e =
       let same : keys ≡ b = same_Some _ _ (ap (λ q. branch_at q keys) (sym e) ∙ branch_is old key t) in
-      let place : b.place ≡ t.root = ap (λ (b : Branch Node). b.place) (sym same) ∙ w.place in
-      let four : bit_and flags 4 ≡ 4 = root-mark ∙ ap (λ r. bit_and (if r then 36 else 32) 4) (eq-eqb b.place t.root place) in
+      let offset : b.offset ≡ t.root = ap (λ (b : Branch Node). b.offset) (sym same) ∙ w.offset in
+      let four : bit_and flags 4 ≡ 4 = root-mark ∙ ap (λ r. bit_and (if r then 36 else 32) 4) (eq-eqb b.offset t.root offset) in
       λ z. omega (arith, four, z)
 
   -- ---- marks

@@ -4,7 +4,7 @@ use Rattle.std.specs.Option.{option_map}
 use Rattle.std.proofs.lemmas.Bool.{cases_eq}
 use Rattle.std.proofs.lemmas.Option.{same_Some}
 use Rattle.reg_heap.specs.Paths.{Path}
-use Rattle.reg_heap.specs.Heaps.{Heap, Swaps, allocated}
+use Rattle.reg_heap.specs.Heaps.{Heap, CellFrame, allocated}
 use Rattle.reg_heap.specs.Kinds.{Found, times, is_own, is_shared, owned, shared}
 use Rattle.reg_heap.specs.Kinds.Kind.{Security}
 use Rattle.reg_shape.specs.Internal.Forests.{Forest, Branch, total, total_of}
@@ -25,7 +25,7 @@ use Rattle.reg_shape.proofs.Lookup.LookupOfShape.{key-looked}
 use Rattle.reg_records.proofs.KeySecurityCodec.{security_at-same}
 use Rattle.reg_shape.proofs.Walking.WalkRefinement.{IsLooked}
 use Rattle.reg_shape.proofs.Wholeness.ShapeRecords.{shared-here, at-most-one, allocated-is}
-use Rattle.reg_values.proofs.ValueFreeing.SwapChains.{times-same}
+use Rattle.reg_values.proofs.ValueFreeing.FrameChains.{times-same}
 use Rattle.reg_index.proofs.RefinementOfSubkeys.{IsSingle}
 use Rattle.reg_tree.specs.Internal.KeyNodeChanges.{noted_subkeys}
 use Rattle.reg_tree.specs.Internal.KeyDeletion.{IsUnlinked, IsSole}
@@ -64,10 +64,10 @@ module _ (h0 : Heap) (root : ℕ) (keys : Branch Node) (first : ℕ) (w : IsShap
   key_stands : StandsIn h0 root b
   key_stands = before.key_stands h0 root keys first w p was e single x b found childless
 
-  abbrev pub l : IsLooked h0 was.place m
+  abbrev pub l : IsLooked h0 was.offset m
   l = before.l h0 root keys first w p was e single x b found childless
 
-  abbrev n_l : IsLooked h0 b.place n
+  abbrev n_l : IsLooked h0 b.offset n
   n_l = before.n_l h0 root keys first w p was e single x b found childless
 
   abbrev pub spot : IsHead x was.below b
@@ -85,7 +85,7 @@ module _ (h0 : Heap) (root : ℕ) (keys : Branch Node) (first : ℕ) (w : IsShap
   pub index-cells : (z : ℕ) → owned z (index_cells m.index) ≡ times z (list ∷ [])
   index-cells = before.index-cells h0 root keys first w p was e single x b found childless
 
-  pub m-parts : (z : ℕ) → owned z (cells_of m) ≡ times z (was.place ∷ []) + (owned z l.class_cells + owned z l.value_cells) + times z (list ∷ [])
+  pub m-parts : (z : ℕ) → owned z (cells_of m) ≡ times z (was.offset ∷ []) + (owned z l.class_cells + owned z l.value_cells) + times z (list ∷ [])
   m-parts = before.m-parts h0 root keys first w p was e single x b found childless
 
   n-unlisted : n.index ≡ Unlisted
@@ -94,50 +94,51 @@ module _ (h0 : Heap) (root : ℕ) (keys : Branch Node) (first : ℕ) (w : IsShap
   pub n-parts : (z : ℕ) → owned z (cells_of n) ≡ owned z n.cells
   n-parts = before.n-parts h0 root keys first w p was e single x b found childless
 
-  pub below-parts : (f : ℕ → Node → ℕ) → total f rest + f b.place n ≡ total f was.below
+  pub below-parts : (f : ℕ → Node → ℕ) → total f rest + f b.offset n ≡ total f was.below
   below-parts = before.below-parts h0 root keys first w p was e single x b found childless
 
-  pub room : (z : ℕ) → (times z (was.place ∷ []) + (owned z l.class_cells + owned z l.value_cells) + times z (list ∷ [])) + (total (owns z) rest + owned z n.cells) + times z (first ∷ []) ≤ allocated h0 z
+  pub room : (z : ℕ) → (times z (was.offset ∷ []) + (owned z l.class_cells + owned z l.value_cells) + times z (list ∷ [])) +
+      (total (owns z) rest + owned z n.cells) + times z (first ∷ []) ≤ allocated h0 z
   room = before.room h0 root keys first w p was e single x b found childless
 
   -- ---- when the key was taken from the list, and that was noted
 
-  module _ (h2 : Heap) (moment : ℕ) (un : IsUnlinked h0 h2 was.place m.key entries spot.index moment) where
+  module _ (h2 : Heap) (moment : ℕ) (un : IsUnlinked h0 h2 was.offset m.key entries spot.index moment) where
     abbrev h1 : Heap
     h1 = un.mid
 
     pub calm-mid : (z : ℕ) → 0 < allocated h0 z → times z (list ∷ []) ≡ 0 → h1 z ≡ h0 z
     calm-mid z some a = let c = un.moves.count z in let o = at-most-one h1 z in un.moves.same z a (omega (arith, c, o, some, a))
 
-    pub place-mid : h1 was.place ≡ h0 was.place
-    place-mid =
-        let z = was.place in let r = room z in let t = times-same z in let o = at-most-one h0 z in calm-mid z (omega (arith, r, t)) (omega (arith, r, t, o))
+    pub offset-mid : h1 was.offset ≡ h0 was.offset
+    offset-mid =
+        let z = was.offset in let r = room z in let t = times-same z in let o = at-most-one h0 z in calm-mid z (omega (arith, r, t)) (omega (arith, r, t, o))
 
-    key-mid : key_at h1 was.place ≡ Some m.key
-    key-mid = key-moved h0 h1 was.place place-mid ∙ key-looked h0 was.place m stands.0.reads
+    key-mid : key_at h1 was.offset ≡ Some m.key
+    key-mid = key-moved h0 h1 was.offset offset-mid ∙ key-looked h0 was.offset m stands.0.reads
 
-    pub key-then : key_at h2 was.place ≡ Some (noted_subkeys un.count un.list 0 moment m.key)
+    pub key-then : key_at h2 was.offset ≡ Some (noted_subkeys un.count un.list 0 moment m.key)
     key-then = un.notes.reads m.key key-mid
 
     pub same-number : (z : ℕ) → allocated h2 z ≡ allocated h1 z
-    same-number z = elim (cases_eq z was.place) [
-      | inl e ↦ subst (λ x. allocated h2 x ≡ allocated h1 x) (sym e) (allocated-is h2 was.place (key-exists h2 was.place (is_some_of _ _ key-then)) ∙
-          sym (allocated-is h1 was.place (key-exists h1 was.place (is_some_of _ _ key-mid))))
+    same-number z = elim (cases_eq z was.offset) [
+      | inl e ↦ subst (λ x. allocated h2 x ≡ allocated h1 x) (sym e) (allocated-is h2 was.offset (key-exists h2 was.offset (is_some_of _ _ key-then)) ∙
+          sym (allocated-is h1 was.offset (key-exists h1 was.offset (is_some_of _ _ key-mid))))
       | inr n ↦ ap (λ (c : Option (List ℕ)). cond (is_some c) 1 0) (un.notes.others z n)
     ]
 
-    pub calm-then : (z : ℕ) → 0 < allocated h0 z → times z (list ∷ []) ≡ 0 → times z (was.place ∷ []) ≡ 0 → h2 z ≡ h0 z
-    calm-then z some a c = un.notes.others z (not-there z was.place c) ∙ calm-mid z some a
+    pub calm-then : (z : ℕ) → 0 < allocated h0 z → times z (list ∷ []) ≡ 0 → times z (was.offset ∷ []) ≡ 0 → h2 z ≡ h0 z
+    calm-then z some a c = un.notes.others z (not-there z was.offset c) ∙ calm-mid z some a
 
     key-calm : Keeps h0 h2 (cells_of n)
     key-calm z some =
         let r = room z in let o = at-most-one h0 z in let q = n-parts z in
         calm-then z (omega (arith, r, q, some)) (omega (arith, r, o, q, some)) (omega (arith, r, o, q, some))
 
-    pub key-left : look h2 b.place ≡ Some n
-    key-left = look-local h0 h2 b.place n key_stands.0.reads key-calm
+    pub key-left : look h2 b.offset ≡ Some n
+    key-left = look-local h0 h2 b.offset n key_stands.0.reads key-calm
 
-    pub sole : IsSole h2 b.place
+    pub sole : IsSole h2 b.offset
     sole =
         let v = n_l.values_are in
         let k = n.key in
@@ -148,14 +149,14 @@ module _ (h0 : Heap) (root : ℕ) (keys : Branch Node) (first : ℕ) (w : IsShap
           values = list-kept h0 h2 k.fields.values k.fields.values_list n.values n_l.value_cells v
               (agree-inner h0 h2 n_l.value_cells (members-inner h0 k.fields.values k.fields.values_list (n.values, n_l.value_cells) v)
               (λ z some. key-calm z (let a = tally-append (is_own z) n.cells (index_cells n.index) in
-              let c = ap (owned z) n_l.cells ∙ own-met z b.place k n_l.class_cells n_l.value_cells in omega (arith, a, c, some))))
+              let c = ap (owned z) n_l.cells ∙ own-met z b.offset k n_l.class_cells n_l.value_cells in omega (arith, a, c, some))))
               key_stands.0.written.values.list;
         }
 
     -- ---- when its cells were given up
 
-    module _ (h4 : Heap) (freed : Swaps h2 h4 (λ z. owned z n.cells) (λ z. 0)) where
-      pub calm-freed : (z : ℕ) → 0 < allocated h0 z → times z (list ∷ []) ≡ 0 → times z (was.place ∷ []) ≡ 0 → owned z n.cells ≡ 0 → h4 z ≡ h0 z
+    module _ (h4 : Heap) (freed : CellFrame h2 h4 (λ z. owned z n.cells) (λ z. 0)) where
+      pub calm-freed : (z : ℕ) → 0 < allocated h0 z → times z (list ∷ []) ≡ 0 → times z (was.offset ∷ []) ≡ 0 → owned z n.cells ≡ 0 → h4 z ≡ h0 z
       calm-freed z some a c d = freed.same z d refl ∙ calm-then z some a c
 
       pub ring0 : IsWrittenSecurity h0 first
@@ -176,7 +177,7 @@ module _ (h0 : Heap) (root : ℕ) (keys : Branch Node) (first : ℕ) (w : IsShap
       pub names-once : shared first (cells_of n) ≡ 1
       names-once =
           let k = n.key in
-          let a = ap (λ (found : List Found). shared first (found ++ index_cells n.index)) n_l.cells ∙ shared-parts first b.place k n_l.class_cells n_l.value_cells n.index in
+          let a = ap (λ (found : List Found). shared first (found ++ index_cells n.index)) n_l.cells ∙ shared-parts first b.offset k n_l.class_cells n_l.value_cells n.index in
           let c = inner-unshared first n_l.class_cells (class-inner h0 k.fields.class_length k.fields.class (n.class, n_l.class_cells) n_l.class_is) in
           let v = inner-unshared first n_l.value_cells (members-inner h0 k.fields.values k.fields.values_list (n.values, n_l.value_cells) n_l.values_are) in
           let i : ◌≡◌ {A = ℕ} (shared first (index_cells n.index)) 0 = ap (λ i. shared first (index_cells i)) n-unlisted in

@@ -3,13 +3,13 @@ use Rattle.std.proofs.Common.{◌≡◌, ◌⊎◌, inl, inr, ◌↔◌, ℕ, ze
 use Rattle.std.specs.List.{AllByRecursion}
 use Rattle.std.proofs.lemmas.Bool.{cases_eq}
 use Rattle.reg_heap.specs.Paths.{Path}
-use Rattle.reg_heap.specs.Heaps.{Heap, Swaps, allocated}
+use Rattle.reg_heap.specs.Heaps.{Heap, CellFrame, allocated}
 use Rattle.reg_heap.specs.Kinds.{times, owned, shared}
 use Rattle.reg_shape.specs.Internal.Forests.{Forest, Branch, heads, total, total_of}
 use Rattle.reg_records.specs.RecordCells.{held}
 use Rattle.reg_records.specs.KeyNodes.{key_at, IsPlainKey}
 use Rattle.reg_records.specs.KeySecurities.{KeySecurityRecord, security_at, IsPlainSecurity}
-use Rattle.reg_records.specs.SubkeyLists.{Entry, places_in}
+use Rattle.reg_records.specs.SubkeyLists.{Entry, offsets_in}
 use Rattle.reg_shape.specs.Nodes.{Node, entries_of, met_of}
 use Rattle.reg_shape.specs.Written.{Fits, IsWrittenSecurity}
 use Rattle.reg_shape.specs.Internal.Shapes.{index_cells, cells_of, owns, shares, IsSeen, StandsIn}
@@ -22,12 +22,12 @@ use Rattle.reg_shape.proofs.Frame.KeyFrame.{Keeps}
 use Rattle.reg_shape.proofs.Frame.WrittenFrame.{same-held}
 use Rattle.reg_shape.proofs.Walking.WalkRefinement.{IsLooked}
 use Rattle.reg_shape.proofs.Wholeness.ShapeRecords.{shares-own, at-most-one, allocated-is}
-use Rattle.reg_values.proofs.ValueFreeing.SwapChains.{times-same}
+use Rattle.reg_values.proofs.ValueFreeing.FrameChains.{times-same}
 use Rattle.reg_index.specs.Subkeys.{AreSubkeys, own, without}
 use Rattle.reg_index.proofs.RefinementOfSubkeys.{index_for, IsSingle, index-entries, subkeys-elsewhere}
 use Rattle.reg_tree.specs.Internal.KeyNodeChanges.{Recounts, noted_subkeys}
 use Rattle.reg_tree.specs.Internal.KeyDeletion.{IsUnlinked}
-use Rattle.reg_tree.proofs.DeleteKey.DeletedKeyPosition.{IsHead, by-places, heads-owned}
+use Rattle.reg_tree.proofs.DeleteKey.DeletedKeyPosition.{IsHead, by-offsets, heads-owned}
 use Rattle.reg_tree.proofs.Invariant.CellReadings.{is_some_of, key-moved, security-exists}
 use Rattle.reg_tree.proofs.InsertKey.ParentReindexed.{owned-list, sees-reindexed, owned-reindexed, shared-reindexed}
 use Rattle.reg_tree.proofs.DeleteKey.DeletedKeyParent.{not-there, there-is, raised-none}
@@ -55,7 +55,7 @@ module _ (h0 : Heap) (root : ℕ) (keys : Branch Node) (first : ℕ) (w : IsShap
   stands : StandsIn h0 root was
   stands = frame.stands h0 root keys first w p was e single x b found childless
 
-  abbrev l : IsLooked h0 was.place m
+  abbrev l : IsLooked h0 was.offset m
   l = before.l h0 root keys first w p was e single x b found childless
 
   abbrev spot : IsHead x was.below b
@@ -73,36 +73,36 @@ module _ (h0 : Heap) (root : ℕ) (keys : Branch Node) (first : ℕ) (w : IsShap
   index-cells : (z : ℕ) → owned z (index_cells m.index) ≡ times z (list ∷ [])
   index-cells = frame.index-cells h0 root keys first w p was e single x b found childless
 
-  m-parts : (z : ℕ) → owned z (cells_of m) ≡ times z (was.place ∷ []) + (owned z l.class_cells + owned z l.value_cells) + times z (list ∷ [])
+  m-parts : (z : ℕ) → owned z (cells_of m) ≡ times z (was.offset ∷ []) + (owned z l.class_cells + owned z l.value_cells) + times z (list ∷ [])
   m-parts = frame.m-parts h0 root keys first w p was e single x b found childless
 
   n-parts : (z : ℕ) → owned z (cells_of n) ≡ owned z n.cells
   n-parts = frame.n-parts h0 root keys first w p was e single x b found childless
 
-  below-parts : (f : ℕ → Node → ℕ) → total f rest + f b.place n ≡ total f was.below
+  below-parts : (f : ℕ → Node → ℕ) → total f rest + f b.offset n ≡ total f was.below
   below-parts = frame.below-parts h0 root keys first w p was e single x b found childless
 
-  room : (z : ℕ) → (times z (was.place ∷ []) + (owned z l.class_cells + owned z l.value_cells) + times z (list ∷ [])) + (total (owns z) rest + owned z n.cells) + times z (first ∷ []) ≤ allocated h0 z
+  room : (z : ℕ) → (times z (was.offset ∷ []) + (owned z l.class_cells + owned z l.value_cells) + times z (list ∷ [])) + (total (owns z) rest + owned z n.cells) + times z (first ∷ []) ≤ allocated h0 z
   room = frame.room h0 root keys first w p was e single x b found childless
 
-  module _ (h2 : Heap) (moment : ℕ) (un : IsUnlinked h0 h2 was.place m.key entries spot.index moment) where
+  module _ (h2 : Heap) (moment : ℕ) (un : IsUnlinked h0 h2 was.offset m.key entries spot.index moment) where
     abbrev h1 : Heap
     h1 = un.mid
 
     calm-mid : (z : ℕ) → 0 < allocated h0 z → times z (list ∷ []) ≡ 0 → h1 z ≡ h0 z
     calm-mid = frame.calm-mid h0 root keys first w p was e single x b found childless h2 moment un
 
-    place-mid : h1 was.place ≡ h0 was.place
-    place-mid = frame.place-mid h0 root keys first w p was e single x b found childless h2 moment un
+    offset-mid : h1 was.offset ≡ h0 was.offset
+    offset-mid = frame.offset-mid h0 root keys first w p was e single x b found childless h2 moment un
 
-    key-then : key_at h2 was.place ≡ Some (noted_subkeys un.count un.list 0 moment m.key)
+    key-then : key_at h2 was.offset ≡ Some (noted_subkeys un.count un.list 0 moment m.key)
     key-then = frame.key-then h0 root keys first w p was e single x b found childless h2 moment un
 
     same-number : (z : ℕ) → allocated h2 z ≡ allocated h1 z
     same-number = frame.same-number h0 root keys first w p was e single x b found childless h2 moment un
 
-    module _ (h4 : Heap) (freed : Swaps h2 h4 (λ z. owned z n.cells) (λ z. 0)) where
-      calm-freed : (z : ℕ) → 0 < allocated h0 z → times z (list ∷ []) ≡ 0 → times z (was.place ∷ []) ≡ 0 → owned z n.cells ≡ 0 → h4 z ≡ h0 z
+    module _ (h4 : Heap) (freed : CellFrame h2 h4 (λ z. owned z n.cells) (λ z. 0)) where
+      calm-freed : (z : ℕ) → 0 < allocated h0 z → times z (list ∷ []) ≡ 0 → times z (was.offset ∷ []) ≡ 0 → owned z n.cells ≡ 0 → h4 z ≡ h0 z
       calm-freed = frame.calm-freed h0 root keys first w p was e single x b found childless h2 moment un h4 freed
 
       abbrev ring0 : IsWrittenSecurity h0 first
@@ -130,7 +130,7 @@ module _ (h0 : Heap) (root : ℕ) (keys : Branch Node) (first : ℕ) (w : IsShap
         other : (z : ℕ) → times z (first ∷ []) ≡ 0 → h5 z ≡ h4 z
         other z a = re.others z (λ e. not-there z first a (e ∙ secured))
 
-        calm : (z : ℕ) → 0 < allocated h0 z → times z (list ∷ []) ≡ 0 → times z (was.place ∷ []) ≡ 0 → owned z n.cells ≡ 0 → times z (first ∷ []) ≡ 0 → h5 z ≡ h0 z
+        calm : (z : ℕ) → 0 < allocated h0 z → times z (list ∷ []) ≡ 0 → times z (was.offset ∷ []) ≡ 0 → owned z n.cells ≡ 0 → times z (first ∷ []) ≡ 0 → h5 z ≡ h0 z
         calm z some a c d f = other z f ∙ calm-freed z some a c d
 
         class-calm : Keeps h0 h5 l.class_cells
@@ -150,17 +150,17 @@ module _ (h0 : Heap) (root : ℕ) (keys : Branch Node) (first : ℕ) (w : IsShap
 
         -- the parent's key node
 
-        place-calm : h5 was.place ≡ h2 was.place
-        place-calm =
-            let z = was.place in let r = room z in let t = times-same z in let o = at-most-one h0 z in
+        offset-calm : h5 was.offset ≡ h2 was.offset
+        offset-calm =
+            let z = was.offset in let r = room z in let t = times-same z in let o = at-most-one h0 z in
             other z (omega (arith, r, t, o)) ∙ freed.same z (omega (arith, r, t, o)) refl
 
-        key-now : key_at h5 was.place ≡ Some (noted_subkeys un.count un.list 0 moment m.key)
-        key-now = key-moved h2 h5 was.place place-calm ∙ key-then
+        key-now : key_at h5 was.offset ≡ Some (noted_subkeys un.count un.list 0 moment m.key)
+        key-now = key-moved h2 h5 was.offset offset-calm ∙ key-then
 
-        plain-now : IsPlainKey (held h5 was.place)
+        plain-now : IsPlainKey (held h5 was.offset)
         plain-now =
-            subst IsPlainKey (sym (same-held h2 h5 was.place place-calm)) (un.notes.plain (subst IsPlainKey (sym (same-held h0 h1 was.place place-mid)) stands.0.written.plain))
+            subst IsPlainKey (sym (same-held h2 h5 was.offset offset-calm)) (un.notes.plain (subst IsPlainKey (sym (same-held h0 h1 was.offset offset-mid)) stands.0.written.plain))
 
         -- its subkeys
 
@@ -170,24 +170,24 @@ module _ (h0 : Heap) (root : ℕ) (keys : Branch Node) (first : ℕ) (w : IsShap
           class = m.class;
           values = m.values;
           cells =
-              met_of was.place (noted_subkeys un.count un.list 0 moment m.key) l.class_cells l.value_cells;
+              met_of was.offset (noted_subkeys un.count un.list 0 moment m.key) l.class_cells l.value_cells;
           index = index_for un.count un.list entries';
         }
 
-        fits : Fits was.place after (heads rest)
+        fits : Fits was.offset after (heads rest)
         fits =
             let r = ap (λ n. n % 65536) (raised-none m.key.fields.largest_subkey_name) in
-            fits-unhung was.place spot.index m after (index-entries h1 un.count un.list entries' un.subkeys) (omega (arith, r)) (omega arith) was.below stands.1
+            fits-unhung was.offset spot.index m after (index-entries h1 un.count un.list entries' un.subkeys) (omega (arith, r)) (omega arith) was.below stands.1
 
-        entries-owned : AllByRecursion (λ (e : Entry). 0 < total (owns e.place) rest) entries'
+        entries-owned : AllByRecursion (λ (e : Entry). 0 < total (owns e.offset) rest) entries'
         entries-owned =
-            by-places (λ z. 0 < total (owns z) rest) (heads rest) entries' (fits.places ∙ ap places_in (index-entries h1 un.count un.list entries' un.subkeys))
+            by-offsets (λ z. 0 < total (owns z) rest) (heads rest) entries' (fits.offsets ∙ ap offsets_in (index-entries h1 un.count un.list entries' un.subkeys))
             (heads-owned h0 root rest (stand-unhang (IsSeen h0 root) Fits spot.index was.below stands.2))
 
-        entries-stay : AllByRecursion (λ (e : Entry). key_at h5 e.place ≡ key_at h1 e.place) entries'
-        entries-stay = all-weaker (λ (e : Entry). 0 < total (owns e.place) rest) (λ (e : Entry). key_at h5 e.place ≡ key_at h1 e.place)
+        entries-stay : AllByRecursion (λ (e : Entry). key_at h5 e.offset ≡ key_at h1 e.offset) entries'
+        entries-stay = all-weaker (λ (e : Entry). 0 < total (owns e.offset) rest) (λ (e : Entry). key_at h5 e.offset ≡ key_at h1 e.offset)
             (λ e some. (
-            let z = e.place in let r = room z in let o = at-most-one h0 z in
+            let z = e.offset in let r = room z in let o = at-most-one h0 z in
             key-moved h1 h5 z (rest-calm z some ∙ sym (calm-mid z (omega (arith, r, some)) (omega (arith, r, o, some))))))
             entries' entries-owned
 
@@ -203,25 +203,25 @@ module _ (h0 : Heap) (root : ℕ) (keys : Branch Node) (first : ℕ) (w : IsShap
                 let i = ap (λ c. times z (own c z)) e in
                 let t = times-same z in
                 let o = at-most-one h1 z in
-                inr (other z (omega (arith, r, c, i, t, o)) ∙ (freed.same z (omega (arith, r, c, i, t, o)) refl ∙ un.notes.others z (not-there z was.place (omega (arith, r, c, i, t, o)))))
+                inr (other z (omega (arith, r, c, i, t, o)) ∙ (freed.same z (omega (arith, r, c, i, t, o)) refl ∙ un.notes.others z (not-there z was.offset (omega (arith, r, c, i, t, o)))))
 
         subkeys-now : AreSubkeys h5 un.count un.list entries'
         subkeys-now = subkeys-elsewhere h1 h5 un.count un.list entries' un.subkeys list-stays entries-stay
 
-        seen-now : IsSeen h5 root was.place after
-        seen-now = sees-reindexed h0 h5 root was.place m stands.0 l un.count un.list 0 moment entries' key-now plain-now class-calm values-calm subkeys-now
+        seen-now : IsSeen h5 root was.offset after
+        seen-now = sees-reindexed h0 h5 root was.offset m stands.0 l un.count un.list 0 moment entries' key-now plain-now class-calm values-calm subkeys-now
 
         -- the counts
 
         owned-now : (z : ℕ) → owned z (cells_of after) + times z (list ∷ []) ≡ owned z (cells_of m) + times z (own un.count un.list)
         owned-now z =
-            let a = owned-reindexed h0 h5 root was.place m stands.0 l un.count un.list 0 moment entries' key-now plain-now class-calm values-calm subkeys-now z in
+            let a = owned-reindexed h0 h5 root was.offset m stands.0 l un.count un.list 0 moment entries' key-now plain-now class-calm values-calm subkeys-now z in
             let c = index-cells z in
             let d = owned-list z un.count un.list entries' in
             omega (arith, a, c, d)
 
         shared-now : (z : ℕ) → shared z (cells_of after) ≡ shared z (cells_of m)
-        shared-now z = shared-reindexed h0 h5 root was.place m stands.0 l un.count un.list 0 moment entries' key-now plain-now class-calm values-calm subkeys-now single z
+        shared-now z = shared-reindexed h0 h5 root was.offset m stands.0 l un.count un.list 0 moment entries' key-now plain-now class-calm values-calm subkeys-now single z
 
         abbrev recounted : KeySecurityRecord
         recounted = record ring0.security { fields = record ring0.security.fields { count = ring0.security.fields.count - 1 } }
@@ -240,7 +240,7 @@ module _ (h0 : Heap) (root : ℕ) (keys : Branch Node) (first : ℕ) (w : IsShap
         -- ---- the graft
 
         abbrev pub is : Branch Node
-        is = record { place = was.place; node = after; below = rest }
+        is = record { offset = was.offset; node = after; below = rest }
 
         abbrev was-shared : ℕ → ℕ
         was-shared z = total_of (shares z) was
@@ -251,7 +251,7 @@ module _ (h0 : Heap) (root : ℕ) (keys : Branch Node) (first : ℕ) (w : IsShap
           (λ some. (
               let t = branch-total (shares z) was p keys e in
               let q = first-is z (omega (arith, t, some)) in
-              let o = shares-own h0 root was.place m stands.0.reads in
+              let o = shares-own h0 root was.offset m stands.0.reads in
               let u = branch-total (shares m.key.fields.security) was p keys e in
               let v = first-is m.key.fields.security (omega (arith, o, u)) in
               let own_here : 0 < shared z (cells_of m) = subst (λ z. 0 < shared z (cells_of m)) (v ∙ sym q) o in
@@ -272,7 +272,7 @@ module _ (h0 : Heap) (root : ℕ) (keys : Branch Node) (first : ℕ) (w : IsShap
 
         pub grafts : IsGrafted h0 h5 root was is first [] [] []
         grafts = record {
-          place = refl;
+          offset = refl;
           alike = record { name = refl; parent = refl; class_length = refl };
           stands = stands-unhung h0 h5 root was after spot.index seen-now stands.2 fits rest-calm;
           count = λ z. (

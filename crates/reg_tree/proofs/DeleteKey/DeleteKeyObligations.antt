@@ -5,7 +5,7 @@ use Rattle.std.specs.FinMap.{get, insert, remove}
 use Rattle.reg_names.specs.Names.{folded}
 use Rattle.reg_heap.specs.Paths.{Path, Tree, Rec}
 use Rattle.reg_heap.specs.Edits.{edited, at_time, without_key}
-use Rattle.reg_heap.specs.Heaps.{Heap, Swaps}
+use Rattle.reg_heap.specs.Heaps.{Heap, CellFrame}
 use Rattle.reg_heap.specs.Kinds.{owned}
 use Rattle.reg_shape.specs.Internal.Forests.{Branch}
 use Rattle.reg_heap.proofs.ChildrenOfPath.{path-is}
@@ -19,18 +19,18 @@ use Rattle.reg_shape.specs.Nodes.Index.{Unlisted, Listed, Rooted}
 use Rattle.reg_shape.specs.Spelt.{rec_of, name_of}
 use Rattle.reg_shape.specs.Internal.Shapes.{descriptor_in, StandsIn}
 use Rattle.reg_shape.specs.Internal.Grafts.{IsShape, IsGrafted, branch_in, branch_at, graft_at}
-use Rattle.reg_shape.specs.PathLookup.{place_at}
+use Rattle.reg_shape.specs.PathLookup.{key_offset_at}
 use Rattle.reg_shape.proofs.Graft.Branches.{branch-append, branch-stands}
 use Rattle.reg_shape.proofs.Graft.WholeAfterGraft.{grafted, graft-total}
 use Rattle.reg_shape.proofs.Graft.ForestInsertFits.{deep-unhung}
 use Rattle.reg_shape.proofs.Walking.IndexWalks.{then-open}
-use Rattle.reg_shape.proofs.Lookup.LookupOfShape.{place-append}
+use Rattle.reg_shape.proofs.Lookup.LookupOfShape.{offset-append}
 use Rattle.reg_shape.proofs.Refinement.RefinementAfterGraft.{tree-unhung}
-use Rattle.reg_shape.proofs.Lookup.LookupAfterGraft.{places-unhung}
+use Rattle.reg_shape.proofs.Lookup.LookupAfterGraft.{offsets-unhung}
 use Rattle.reg_shape.proofs.Refinement.RefinementAfterEdit.{same_path, name-is}
 use Rattle.reg_index.proofs.RefinementOfSubkeys.{index_for, IsSingle}
 use Rattle.reg_tree.specs.TreeKeys.{tree_in}
-use Rattle.reg_tree.specs.TreeInvariant.{rooted, Holds, IsHere}
+use Rattle.reg_tree.specs.TreeInvariant.{rooted, TreeInvariant, IsHere}
 use Rattle.reg_tree.specs.Internal.KeyNodeChanges.{Recounts}
 use Rattle.reg_tree.specs.Internal.KeyDeletion.{IsListed, IsUnlinked, IsSole, IsDeleted}
 use Rattle.reg_tree.proofs.ValueChange.TreeAfterValueChange.{edited-at}
@@ -38,7 +38,7 @@ use Rattle.reg_tree.proofs.DeleteKey.DeleteKeyFrame.{key-left, sole, release-the
 use Rattle.reg_tree.proofs.DeleteKey.DeleteKeyGraft.{is, grafts}
 use Rattle.reg_tree.proofs.DeleteKey.DeletedKeyParent.{spot, leaf, below-parts}
 use Rattle.reg_tree.proofs.DeleteKey.DeletedKeyPosition.{snoc, above-is, listed, parent-is}
-use Rattle.reg_tree.proofs.Invariant.KeyOfTree.{spelt_is, rec_is, branch, branch_is, place, key_is}
+use Rattle.reg_tree.proofs.Invariant.KeyOfTree.{spelt_is, rec_is, branch, branch_is, offset, key_is}
 use Rattle.reg_tree.proofs.Invariant.KeyOfShape as keyed
 
 -- ---- lists of subkeys that are no several lists
@@ -90,8 +90,8 @@ module _ (old : List ℕ) (key : ℕ) (t : IsHere old key) (childless : (branch 
   abbrev x : List ℕ
   x = parts.1
 
-  parent : (o : ℕ) × (place_at h t.root p ≡ Some o) × (place_at h o (x ∷ []) ≡ Some key)
-  parent = then-open (λ o. place_at h o (x ∷ [])) (place_at h t.root p) key (sym (place-append h t.root p (x ∷ [])) ∙ (ap (place_at h t.root) (sym parts.2) ∙ t.at))
+  parent : (o : ℕ) × (key_offset_at h t.root p ≡ Some o) × (key_offset_at h o (x ∷ []) ≡ Some key)
+  parent = then-open (λ o. key_offset_at h o (x ∷ [])) (key_offset_at h t.root p) key (sym (offset-append h t.root p (x ∷ [])) ∙ (ap (key_offset_at h t.root) (sym parts.2) ∙ t.at))
 
   abbrev was : Branch Node
   was = keyed.branch h t.root keys first [] [] w p parent.0 parent.1
@@ -106,7 +106,7 @@ module _ (old : List ℕ) (key : ℕ) (t : IsHere old key) (childless : (branch 
   found = sym (branch-append was (x ∷ []) p keys was-is) ∙ (ap (λ q. branch_at q keys) (sym parts.2) ∙ branch_is old key t)
 
   single : IsSingle was.node.index
-  single = single-of was.place was.node (keyed.unrooted_here h t.root keys first [] [] w p parent.0 parent.1 t.holds.unrooted)
+  single = single-of was.offset was.node (keyed.unrooted_here h t.root keys first [] [] w p parent.0 parent.1 t.holds.unrooted)
 
   abbrev entries : List Entry
   entries = entries_of was.node.index
@@ -120,30 +120,30 @@ module _ (old : List ℕ) (key : ℕ) (t : IsHere old key) (childless : (branch 
   -- ---- what the steps need
 
   module _ (fields : KeyFields) (are : (r : KeyRecord) → key_at h key ≡ Some r → fields ≡ r.fields) where
-    parent-place : fields.parent ≡ was.place
-    parent-place = ap (λ (f : KeyFields). f.parent) (are b.node.key (key_is old key t)) ∙ parent-is h t.root was stands-was single x b found
+    parent-offset : fields.parent ≡ was.offset
+    parent-offset = ap (λ (f : KeyFields). f.parent) (are b.node.key (key_is old key t)) ∙ parent-is h t.root was stands-was single x b found
 
     its-security : fields.security ≡ b.node.key.fields.security
     its-security = ap (λ (f : KeyFields). f.security) (are b.node.key (key_is old key t))
 
     listed-here : IsListed h fields.parent key was.node.key entries index
-    listed-here = subst (λ o. IsListed h o key was.node.key entries index) (sym parent-place)
-        (subst (λ k. IsListed h was.place k was.node.key entries index) (place old key t) (listed h t.root was stands-was single x b found))
+    listed-here = subst (λ o. IsListed h o key was.node.key entries index) (sym parent-offset)
+        (subst (λ k. IsListed h was.offset k was.node.key entries index) (offset old key t) (listed h t.root was stands-was single x b found))
 
     pub unlink-ready : (above : KeyRecord) × (entries : List Entry) × (index : ℕ) × IsListed h fields.parent key above entries index
     unlink-ready = (was.node.key, entries, index, listed-here)
 
     module _ (h2 : Heap) (moment : ℕ) (unlinks : (above : KeyRecord) → (entries : List Entry) → (index : ℕ) →
         IsListed h fields.parent key above entries index → IsUnlinked h h2 fields.parent above entries index moment) where
-      un : IsUnlinked h h2 was.place was.node.key entries index moment
-      un = subst (λ o. IsUnlinked h h2 o was.node.key entries index moment) parent-place (unlinks was.node.key entries index listed-here)
+      un : IsUnlinked h h2 was.offset was.node.key entries index moment
+      un = subst (λ o. IsUnlinked h h2 o was.node.key entries index moment) parent-offset (unlinks was.node.key entries index listed-here)
 
       pub free-ready : IsSole h2 key
-      free-ready = subst (IsSole h2) (place old key t) (sole h t.root keys first w p was was-is single x b found childless h2 moment un)
+      free-ready = subst (IsSole h2) (offset old key t) (sole h t.root keys first w p was was-is single x b found childless h2 moment un)
 
-      module _ (h4 : Heap) (frees : (node : Node) → look h2 key ≡ Some node → Swaps h2 h4 (λ z. owned z node.cells) (λ z. 0)) where
-        freed : Swaps h2 h4 (λ z. owned z b.node.cells) (λ z. 0)
-        freed = frees b.node (subst (λ k. look h2 k ≡ Some b.node) (place old key t) (key-left h t.root keys first w p was was-is single x b found childless h2 moment un))
+      module _ (h4 : Heap) (frees : (node : Node) → look h2 key ≡ Some node → CellFrame h2 h4 (λ z. owned z node.cells) (λ z. 0)) where
+        freed : CellFrame h2 h4 (λ z. owned z b.node.cells) (λ z. 0)
+        freed = frees b.node (subst (λ k. look h2 k ≡ Some b.node) (offset old key t) (key-left h t.root keys first w p was was-is single x b found childless h2 moment un))
 
         pub count-there : IsSome (security_at h4 fields.security)
         count-there = subst (λ s. IsSome (security_at h4 s)) (sym its-security) (release-there h t.root keys first w p was was-is single x b found childless h2 moment un h4 freed)
@@ -167,7 +167,7 @@ module _ (old : List ℕ) (key : ℕ) (t : IsHere old key) (childless : (branch 
           abbrev now : Branch Node
           now = graft_at p came.node came.below keys
 
-          holds-now : Holds new t.root
+          holds-now : TreeInvariant new t.root
           holds-now = record {
             keys = now;
             first = first;
@@ -176,7 +176,7 @@ module _ (old : List ℕ) (key : ℕ) (t : IsHere old key) (childless : (branch 
                 let g = graft-total rooted was came.node came.below p keys was-is in
                 let u = t.holds.unrooted in
                 let c = below-parts h t.root keys first w p was was-is single x b found childless rooted in
-                let n : rooted was.place came.node ≡ 0 = rooted-for was.place un.count un.list _ came.node in
+                let n : rooted was.offset came.node ≡ 0 = rooted-for was.offset un.count un.list _ came.node in
                 omega (arith, g, u, c, n));
           }
 
@@ -190,16 +190,16 @@ module _ (old : List ℕ) (key : ℕ) (t : IsHere old key) (childless : (branch 
           unfolding holds-now
           tree-now =
               spelt_is new t.root holds-now
-              ∙ (tree-unhung h h5 t.root p keys was came first [] [] [] was-is grafts-here w index b.place b.node x called refl (leaf h t.root keys first w p was was-is single x b found childless)
+              ∙ (tree-unhung h h5 t.root p keys was came first [] [] [] was-is grafts-here w index b.offset b.node x called refl (leaf h t.root keys first w p was was-is single x b found childless)
               ∙ (ap (λ (tree : Tree). remove (insert tree p (at_time moment rec)) (p ++ x ∷ [])) (sym (spelt_is old t.root t.holds))
               ∙ (ap (λ (tree : Tree). remove tree (p ++ x ∷ [])) (sym (edited-at (tree_in old t.root) p rec (at_time moment) rec-there))
               ∙ (ap (λ q. remove (edited (tree_in old t.root) q (at_time moment)) (p ++ x ∷ [])) (sym (above-is p x))
               ∙ ap (λ q. without_key (tree_in old t.root) q moment) (sym parts.2)))))
 
-          places-now : (q : Path) → q ≢ t.path → place_at h5 t.root q ≡ place_at h t.root q
-          places-now q n =
-              places-unhung h h5 t.root p keys was came first [] [] [] was-is grafts-here w index b.place b.node x called refl (leaf h t.root keys first w p was was-is single x b found childless) q
-              ∙ ap (λ same. cond same None (place_at h t.root q)) (other-path q (p ++ x ∷ []) (λ e. n (e ∙ sym parts.2)))
+          offsets-now : (q : Path) → q ≢ t.path → key_offset_at h5 t.root q ≡ key_offset_at h t.root q
+          offsets-now q n =
+              offsets-unhung h h5 t.root p keys was came first [] [] [] was-is grafts-here w index b.offset b.node x called refl (leaf h t.root keys first w p was was-is single x b found childless) q
+              ∙ ap (λ same. cond same None (key_offset_at h t.root q)) (other-path q (p ++ x ∷ []) (λ e. n (e ∙ sym parts.2)))
 
           pub is-deleted : IsDeleted old new t.root t.path moment
-          is-deleted = record { holds = holds-now; tree = tree-now; places = places-now }
+          is-deleted = record { holds = holds-now; tree = tree-now; offsets = offsets-now }

@@ -2,7 +2,7 @@
 use Rattle.std.proofs.Common.{◌≡◌, ℕ, ◌+◌, Some, IsSome, List, [], ◌∷◌, refl, sym, ap, ◌∙◌, subst, arith}
 use Rattle.std.proofs.lemmas.Option.{same_Some}
 use Rattle.reg_heap.specs.Paths.{Member}
-use Rattle.reg_heap.specs.Heaps.{Heap, Swaps, GivesUp}
+use Rattle.reg_heap.specs.Heaps.{Heap, CellFrame, GivesUp}
 use Rattle.reg_heap.specs.Kinds.{Found, times, is_own, owned}
 use Rattle.reg_heap.specs.Kinds.Kind.{Class, Security}
 use Rattle.reg_records.specs.declared.nk.KeyFields.{KeyFields}
@@ -16,14 +16,14 @@ use Rattle.reg_shape.proofs.Lookup.LookupOfShape.{key-looked}
 use Rattle.reg_shape.proofs.Walking.WalkRefinement.{IsLooked, look-open}
 use Rattle.reg_values.specs.ValueLists.{AreValues}
 use Rattle.reg_values.specs.Internal.ValueListParts.{Owns, GivesUpRead}
-use Rattle.reg_values.proofs.ValueFreeing.SwapChains.{times-same, one-there, swaps-then, swaps-with, agree-apart}
+use Rattle.reg_values.proofs.ValueFreeing.FrameChains.{times-same, one-there, frame-then, frame-with, agree-apart}
 use Rattle.reg_values.proofs.ValueFreeing.FreedRuns.{gone-more}
 use Rattle.reg_tree.specs.Internal.KeyNodeChanges.{HasList}
 use Rattle.reg_tree.specs.Internal.KeyDeletion.{IsSole, class_at}
 use Rattle.reg_tree.proofs.Invariant.CellReadings.{is_some_of}
 
-pub own-met : (z place : ℕ) (key : KeyRecord) (class values : List Found) → owned z (met_of place key class values) ≡ times z (place ∷ []) + (owned z class + owned z values)
-own-met z place key class values = let a = tally-append (is_own z) class (record { kind = Security; offset = key.fields.security } ∷ values) in omega (arith, a)
+pub own-met : (z offset : ℕ) (key : KeyRecord) (class values : List Found) → owned z (met_of offset key class values) ≡ times z (offset ∷ []) + (owned z class + owned z values)
+own-met z offset key class values = let a = tally-append (is_own z) class (record { kind = Security; offset = key.fields.security } ∷ values) in omega (arith, a)
 
 module _ (h : Heap) (key : ℕ) (s : IsSole h key) where
   abbrev node : Node
@@ -66,9 +66,9 @@ module _ (h : Heap) (key : ℕ) (s : IsSole h key) where
     pub sole-values : AreValues h count list
     sole-values = subst (λ n. AreValues h n list) (sym same.0) (subst (λ o. AreValues h node.key.fields.values o) (sym same.1) listed)
 
-    module _ (h1 : Heap) (cleared : (members : List Member) → (met : List Found) → members_at count list h ≡ Some (members, met) → Swaps h h1 (λ z. owned z met) (λ z. 0))
+    module _ (h1 : Heap) (cleared : (members : List Member) → (met : List Found) → members_at count list h ≡ Some (members, met) → CellFrame h h1 (λ z. owned z met) (λ z. 0))
         (fields : KeyFields) (are : (r : KeyRecord) → key_at h key ≡ Some r → fields ≡ r.fields) where
-      values-gone : Swaps h h1 (λ z. owned z value_cells) (λ z. 0)
+      values-gone : CellFrame h h1 (λ z. owned z value_cells) (λ z. 0)
       values-gone = cleared node.values value_cells reads
 
       abbrev size : ℕ
@@ -89,13 +89,13 @@ module _ (h : Heap) (key : ℕ) (s : IsSole h key) where
       })
 
       module _ (h2 : Heap) (freed : GivesUpRead (class_at fields) h1 h2) where
-        class-gone : Swaps h1 h2 (λ z. owned z class_cells) (λ z. 0)
+        class-gone : CellFrame h1 h2 (λ z. owned z class_cells) (λ z. 0)
         class-gone = subst (λ f. GivesUpRead (class_at f) h1 h2) (are node.key key_is) freed node.class class_cells class-reads
 
-        both-gone : Swaps h h2 (λ z. owned z value_cells + owned z class_cells) (λ z. 0)
+        both-gone : CellFrame h h2 (λ z. owned z value_cells + owned z class_cells) (λ z. 0)
         both-gone =
-            swaps-then h h1 h2 (λ z. owned z value_cells + owned z class_cells) (λ z. owned z class_cells) (λ z. 0)
-            (swaps-with h h1 (λ z. owned z value_cells) (λ z. 0) (λ z. owned z class_cells) (λ z. owned z value_cells + owned z class_cells)
+            frame-then h h1 h2 (λ z. owned z value_cells + owned z class_cells) (λ z. owned z class_cells) (λ z. 0)
+            (frame-with h h1 (λ z. owned z value_cells) (λ z. 0) (λ z. owned z class_cells) (λ z. owned z value_cells + owned z class_cells)
             (λ z. owned z class_cells) values-gone (λ z. refl) (λ z. omega arith))
             class-gone
 
@@ -107,7 +107,7 @@ module _ (h : Heap) (key : ℕ) (s : IsSole h key) where
             let t = times-same key in
             one-there (h2 key) (omega (arith, o, p, c, t))
 
-        pub sole-gone : (h3 : Heap) → GivesUp h2 h3 (key ∷ []) → (n : Node) → look h key ≡ Some n → Swaps h h3 (λ z. owned z n.cells) (λ z. 0)
+        pub sole-gone : (h3 : Heap) → GivesUp h2 h3 (key ∷ []) → (n : Node) → look h key ≡ Some n → CellFrame h h3 (λ z. owned z n.cells) (λ z. 0)
         sole-gone h3 g n e =
-            subst (λ (n : Node). Swaps h h3 (λ z. owned z n.cells) (λ z. 0)) (same_Some _ _ (sym s.reads ∙ e))
+            subst (λ (n : Node). CellFrame h h3 (λ z. owned z n.cells) (λ z. 0)) (same_Some _ _ (sym s.reads ∙ e))
             (gone-more h h2 h3 key (λ z. owned z value_cells + owned z class_cells) (λ z. owned z node.cells) both-gone g (λ z. let p = parts z in omega (arith, p)))

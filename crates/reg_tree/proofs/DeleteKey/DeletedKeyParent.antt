@@ -15,7 +15,7 @@ use Rattle.reg_shape.proofs.Wholeness.ShapeCounts.{tally-append}
 use Rattle.reg_shape.proofs.Graft.ForestInsert.{leaf-at, total-unhang}
 use Rattle.reg_shape.proofs.Walking.WalkRefinement.{IsLooked, look-open}
 use Rattle.reg_shape.proofs.Wholeness.ShapeRecords.{shares-own}
-use Rattle.reg_values.proofs.ValueFreeing.SwapChains.{times-same}
+use Rattle.reg_values.proofs.ValueFreeing.FrameChains.{times-same}
 use Rattle.reg_index.specs.Subkeys.{own}
 use Rattle.reg_index.proofs.SubkeysOpening.{length-subkeys}
 use Rattle.reg_index.proofs.SubkeysFrame.{times-not}
@@ -59,11 +59,11 @@ module _ (h0 : Heap) (root : ℕ) (keys : Branch Node) (first : ℕ) (w : IsShap
   pub key_stands : StandsIn h0 root b
   key_stands = branch-stands h0 root b (x ∷ []) was found stands
 
-  pub l : IsLooked h0 was.place m
-  l = look-open h0 was.place m stands.0.reads
+  pub l : IsLooked h0 was.offset m
+  l = look-open h0 was.offset m stands.0.reads
 
-  pub n_l : IsLooked h0 b.place n
-  n_l = look-open h0 b.place n key_stands.0.reads
+  pub n_l : IsLooked h0 b.offset n
+  n_l = look-open h0 b.offset n key_stands.0.reads
 
   abbrev pub spot : IsHead x was.below b
   spot = head h0 root was stands single x b found
@@ -71,8 +71,8 @@ module _ (h0 : Heap) (root : ℕ) (keys : Branch Node) (first : ℕ) (w : IsShap
   abbrev rest : Forest Node
   rest = unhang spot.index was.below
 
-  pub leaf : IsLeafAt spot.index b.place n was.below
-  leaf = leaf-at h0 root spot.index b.place n was.below spot.rest stands.2 spot.at childless
+  pub leaf : IsLeafAt spot.index b.offset n was.below
+  leaf = leaf-at h0 root spot.index b.offset n was.below spot.rest stands.2 spot.at childless
 
   -- all use the one security
   pub first-is : (z : ℕ) → 0 < total_of (shares z) keys → z ≡ first
@@ -83,7 +83,7 @@ module _ (h0 : Heap) (root : ℕ) (keys : Branch Node) (first : ℕ) (w : IsShap
 
   named : 0 < total_of (shares s) was
   named =
-      let o = shares-own h0 root b.place n key_stands.0.reads in
+      let o = shares-own h0 root b.offset n key_stands.0.reads in
       let t = branch-total (shares s) b (x ∷ []) was found in
       omega (arith, o, t)
 
@@ -104,10 +104,10 @@ module _ (h0 : Heap) (root : ℕ) (keys : Branch Node) (first : ℕ) (w : IsShap
   pub index-cells : (z : ℕ) → owned z (index_cells m.index) ≡ times z (list ∷ [])
   index-cells z = owned-single h0 z m.key.fields.subkeys list m.index l.index_is single ∙ ap (times z) (own-some m.key.fields.subkeys list some-subkeys)
 
-  pub m-parts : (z : ℕ) → owned z (cells_of m) ≡ times z (was.place ∷ []) + (owned z l.class_cells + owned z l.value_cells) + times z (list ∷ [])
+  pub m-parts : (z : ℕ) → owned z (cells_of m) ≡ times z (was.offset ∷ []) + (owned z l.class_cells + owned z l.value_cells) + times z (list ∷ [])
   m-parts z =
       let a = tally-append (is_own z) m.cells (index_cells m.index) in
-      let c = ap (owned z) l.cells ∙ own-met z was.place m.key l.class_cells l.value_cells in
+      let c = ap (owned z) l.cells ∙ own-met z was.offset m.key l.class_cells l.value_cells in
       let i = index-cells z in
       omega (arith, a, c, i)
 
@@ -120,11 +120,11 @@ module _ (h0 : Heap) (root : ℕ) (keys : Branch Node) (first : ℕ) (w : IsShap
       let i : ◌≡◌ {A = ℕ} (owned z (index_cells n.index)) 0 = ap (λ i. owned z (index_cells i)) n-unlisted in
       omega (arith, a, i)
 
-  pub below-parts : (f : ℕ → Node → ℕ) → total f rest + f b.place n ≡ total f was.below
-  below-parts f = total-unhang f spot.index b.place n was.below leaf
+  pub below-parts : (f : ℕ → Node → ℕ) → total f rest + f b.offset n ≡ total f was.below
+  below-parts f = total-unhang f spot.index b.offset n was.below leaf
 
   -- each of these cells is met once
-  pub room : (z : ℕ) → (times z (was.place ∷ []) + (owned z l.class_cells + owned z l.value_cells) + times z (list ∷ [])) +
+  pub room : (z : ℕ) → (times z (was.offset ∷ []) + (owned z l.class_cells + owned z l.value_cells) + times z (list ∷ [])) +
       (total (owns z) rest + owned z n.cells) + times z (first ∷ []) ≤ allocated h0 z
   room z =
       let t = branch-total (owns z) was p keys e in

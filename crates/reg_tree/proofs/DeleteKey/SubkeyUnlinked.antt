@@ -14,7 +14,7 @@ use Rattle.reg_heap.specs.Heaps.{Heap}
 use Rattle.reg_heap.specs.Kinds.{times}
 use Rattle.reg_records.specs.KeyNodes.{KeyRecord, key_at}
 use Rattle.reg_records.specs.SubkeyLists.{Entry}
-use Rattle.reg_index.specs.Subkeys.{AreSubkeys, IsPlace, Moves, Rises, name_at, name_or_none, names_in, own, without}
+use Rattle.reg_index.specs.Subkeys.{AreSubkeys, IsIndexFor, Moves, Rises, name_at, name_or_none, names_in, own, without}
 use Rattle.reg_index.proofs.SubkeysOpening.{length-subkeys, subkeys-open}
 use Rattle.reg_index.proofs.SubkeysFrame.{key-or-leaf, key-stays, times-not}
 use Rattle.reg_tree.specs.Internal.KeyNodeChanges.{HasSubkeysList, Notes, noted_subkeys}
@@ -22,7 +22,7 @@ use Rattle.reg_tree.specs.Internal.KeyDeletion.{IsListed, IsUnlinked}
 use Rattle.reg_tree.proofs.Invariant.CellReadings.{some_of, is_some_of}
 
 abbrev none : Entry
-none = record { place = 0; hint = 0 }
+none = record { offset = 0; hint = 0 }
 
 abbrev order : List ℕ → List ℕ → Ordering
 order = slice_cmp nat_cmp
@@ -49,7 +49,7 @@ all-at P (e ∷ es) (suc i) a l = all-at P es i a.1 (omega arith)
 module _ (h : Heap) (parent key : ℕ) (above : KeyRecord) (entries : List Entry) (index : ℕ) (l : IsListed h parent key above entries index) where
   -- the key is there
   pub listed-there : IsSome (key_at h key)
-  listed-there = subst (λ o. IsSome (key_at h o)) l.place (all-at (λ (e : Entry). IsSome (key_at h e.place)) entries index l.subkeys.keys l.within)
+  listed-there = subst (λ o. IsSome (key_at h o)) l.offset (all-at (λ (e : Entry). IsSome (key_at h e.offset)) entries index l.subkeys.keys l.within)
 
   pub parent-there : IsSome (key_at h parent)
   parent-there = is_some_of _ _ l.reads
@@ -58,28 +58,28 @@ module _ (h : Heap) (parent key : ℕ) (above : KeyRecord) (entries : List Entry
   names = names_in h entries
 
   many : length names ≡ length entries
-  many = length-map entries (λ (e : Entry). folded (name_at h e.place))
+  many = length-map entries (λ (e : Entry). folded (name_at h e.offset))
 
   its-name : get_or names index [] ≡ folded (name_at h key)
-  its-name = get_or-map (λ (e : Entry). folded (name_at h e.place)) entries index none [] l.within ∙ ap (λ o. folded (name_at h o)) l.place
+  its-name = get_or-map (λ (e : Entry). folded (name_at h e.offset)) entries index none [] l.within ∙ ap (λ o. folded (name_at h o)) l.offset
 
   module _ (name : List ℕ) (named : (r : KeyRecord) → key_at h key ≡ Some r → name ≡ r.name) where
     name-is : folded name ≡ folded (name_at h key)
     name-is = let k = some_of (key_at h key) listed-there in ap folded (named k.0 k.1 ∙ sym (ap name_or_none k.1))
 
     -- it is found at its index
-    pub found-there : (found : ℕ) → IsPlace names (folded name) (Ok found) → found ≡ index
+    pub found-there : (found : ℕ) → IsIndexFor names (folded name) (Ok found) → found ≡ index
     found-there found p =
         let n = many in
         let w = l.within in
         once names (folded name) found index l.subkeys.rising p.0 (omega (arith, n, w)) p.1 (its-name ∙ sym name-is)
 
-    pub not-missing : (place : ℕ) → IsPlace names (folded name) (Err place) → ⊥
-    not-missing place p =
+    pub not-missing : (offset : ℕ) → IsIndexFor names (folded name) (Err offset) → ⊥
+    not-missing offset p =
         let n = many in
         let w = l.within in
         let here = its-name ∙ sym name-is in
-        elim (cases_lt index place) [
+        elim (cases_lt index offset) [
           | inl b ↦ not-itself (get_or names index []) (folded name) (folded name) here refl (p.1 index b)
           | inr b ↦ not-itself (folded name) (get_or names index []) (folded name) refl here (p.2 index b (omega (arith, n, w)))
         ]

@@ -10,7 +10,7 @@ use Rattle.reg_tree.specs.declared.node.Node.{Node}
 use Rattle.reg_tree.specs.declared.node.Created.{Created}
 use Rattle.reg_tree.specs.declared.fault.TreeFault.{TreeFault}
 use Rattle.reg_tree.specs.TreeKeys.{Keys, tree_in, IsAt, IsThere, KeepsNodes, MakesKeys}
-use Rattle.reg_tree.specs.TreeInvariant.{Holds, IsHere}
+use Rattle.reg_tree.specs.TreeInvariant.{TreeInvariant, IsHere}
 use Rattle.reg_tree.specs.Internal.KeyCreation.{IsCreated}
 use Rattle.reg_tree.proofs.Invariant.NodeLemmas.{seen_as, here_at, of_tree}
 use Rattle.reg_tree.proofs.PathWalk.PathSteps.{as-many}
@@ -19,7 +19,7 @@ use Rattle.reg_tree.proofs.Invariant.KeyOfTree.{shallow}
 abbrev Answer : Type 0
 Answer = Result Created TreeFault
 
-module _ (bins : Bins) (root : ℕ) (holds : Holds bins.bytes root) (now : Keys) (view_is : seen_as bins root ≡ now) where
+module _ (bins : Bins) (root : ℕ) (holds : TreeInvariant bins.bytes root) (now : Keys) (view_is : seen_as bins root ≡ now) where
   pub from_at : (node : Node) → IsThere now node → (t : IsHere bins.bytes node.offset) × (node.depth ≡ length t.path)
   from_at node some = (here_at bins root holds now view_is node some.0 some.1, some.1.depth)
 
@@ -29,12 +29,12 @@ module _ (bins : Bins) (root : ℕ) (holds : Holds bins.bytes root) (now : Keys)
     its : (p : Path) → IsAt now p from → IfOk result (λ made. IsCreated bins.bytes new.bytes root p from (path_of text) moment made.node)
     its p at = ok (here_at bins root holds now view_is from p at) at.depth
 
-    pub holds_created : Holds new.bytes root
+    pub holds_created : TreeInvariant new.bytes root
     holds_created = by result (its some.0 some.1) err
       where
-        by : (r : Answer) → IfOk r (λ made. IsCreated bins.bytes new.bytes root some.0 from (path_of text) moment made.node) → OnErr r (new ≡ bins) → Holds new.bytes root
+        by : (r : Answer) → IfOk r (λ made. IsCreated bins.bytes new.bytes root some.0 from (path_of text) moment made.node) → OnErr r (new ≡ bins) → TreeInvariant new.bytes root
         by (Ok made) c e = c.holds
-        by (Err f) c e = subst (λ (b : Bins). Holds b.bytes root) (sym e) holds
+        by (Err f) c e = subst (λ (b : Bins). TreeInvariant b.bytes root) (sym e) holds
 
     tree_created : (p : Path) → IsAt now p from → OnOk result (tree_in new.bytes root ≡ with_keys now.tree p (path_of text) moment)
     tree_created p at = by result (its p at)
@@ -55,7 +55,7 @@ module _ (bins : Bins) (root : ℕ) (holds : Holds bins.bytes root) (now : Keys)
             let e = c.depth in
             let l = length-append p (map folded (path_of text)) in
             let m = as-many (path_of text) in (
-              record { place = c.place; depth = omega (arith, d, e, l, m) },
+              record { offset = c.offset; depth = omega (arith, d, e, l, m) },
               of_tree bins root holds now view_is (λ t. (made.is_new ≡ true) ↔ (missing t p (path_of text) ≢ [])) n,
             )
         by (Err f) c n = c
@@ -65,7 +65,7 @@ module _ (bins : Bins) (root : ℕ) (holds : Holds bins.bytes root) (now : Keys)
       where
         by : (r : Answer) → IfOk r (λ made. IsCreated bins.bytes new.bytes root some.0 from (path_of text) moment made.node) → IfOk r (λ made. made.node.depth ≤ PATH_LIMIT)
         by (Ok made) c =
-            let t : IsHere new.bytes made.node.offset = record { root = root; path = some.0 ++ map folded (path_of text); holds = c.holds; at = c.place } in
+            let t : IsHere new.bytes made.node.offset = record { root = root; path = some.0 ++ map folded (path_of text); holds = c.holds; at = c.offset } in
             let s = shallow new.bytes made.node.offset t in
             let d = some.1.depth in
             let e = c.depth in
@@ -78,7 +78,7 @@ module _ (bins : Bins) (root : ℕ) (holds : Holds bins.bytes root) (now : Keys)
     nodes_created = by result (its some.0 some.1)
       where
         by : (r : Answer) → IfOk r (λ made. IsCreated bins.bytes new.bytes root some.0 from (path_of text) moment made.node) → OnOk r (KeepsNodes now (seen_as new root))
-        by (Ok made) c = subst (λ k. KeepsNodes k (seen_as new root)) view_is (λ q node at. record { place = c.keeps q node.offset at.place; depth = at.depth })
+        by (Ok made) c = subst (λ k. KeepsNodes k (seen_as new root)) view_is (λ q node at. record { offset = c.keeps q node.offset at.offset; depth = at.depth })
         by (Err f) c = c
 
     -- all of it together

@@ -13,17 +13,17 @@ use Rattle.reg_heap.specs.Edits.{child_path, has_child, with_key, with_keys, mis
 use Rattle.reg_heap.specs.Heaps.{Heap}
 use Rattle.reg_arena.specs.Cells.{cell_at}
 use Rattle.reg_records.specs.KeyNodes.{KeyRecord, key_at}
-use Rattle.reg_shape.specs.PathLookup.{place_at, subkey_named}
-use Rattle.reg_shape.proofs.Lookup.LookupOfShape.{place-none, place-more, place-append}
+use Rattle.reg_shape.specs.PathLookup.{key_offset_at, subkey_named}
+use Rattle.reg_shape.proofs.Lookup.LookupOfShape.{offset-none, offset-more, offset-append}
 use Rattle.reg_tree.specs.declared.node.Node.{Node as TreeNode}
 use Rattle.reg_tree.specs.TreeKeys.{tree_in}
-use Rattle.reg_tree.specs.TreeInvariant.{Holds, IsHere}
+use Rattle.reg_tree.specs.TreeInvariant.{TreeInvariant, IsHere}
 use Rattle.reg_tree.specs.Internal.PathWalks.{Stops, Reaches}
 use Rattle.reg_tree.specs.Internal.SpareCells.{MayGrowAll, GrowsAll, IsSpared}
 use Rattle.reg_tree.specs.Internal.KeyCreation.{IsCreated, AreTooMany}
 use Rattle.reg_tree.proofs.Invariant.KeyOfTree.{spelt_is, get-none, get-some, shallow}
 use Rattle.reg_tree.proofs.PathWalk.PathSteps.{as-many, here_then}
-use Rattle.reg_tree.proofs.InsertKey.SpareCellsCarved.{tree-spared, places-spared, may_grow_all}
+use Rattle.reg_tree.proofs.InsertKey.SpareCellsCarved.{tree-spared, offsets-spared, may_grow_all}
 
 -- ---- keys that are there
 
@@ -33,30 +33,30 @@ pub record IsThrough (t : Tree) (p : Path) (names more : List (List ℕ)) (momen
   pub missed : missing t p (names ++ more) ≡ missing t (p ++ map folded names) more
   pub last : last_there t p (names ++ more) ≡ last_there t (p ++ map folded names) more
 
-module _ (bytes : List ℕ) (root : ℕ) (holds : Holds bytes root) (more : List (List ℕ)) (moment : ℕ) where
+module _ (bytes : List ℕ) (root : ℕ) (holds : TreeInvariant bytes root) (more : List (List ℕ)) (moment : ℕ) where
   abbrev h : Heap
   h = cell_at bytes
 
   abbrev T : Tree
   T = tree_in bytes root
 
-  one-there : (p : Path) (name : List ℕ) (o : ℕ) → place_at h root (child_path p name) ≡ Some o → has_child T p name ≡ true
+  one-there : (p : Path) (name : List ℕ) (o : ℕ) → key_offset_at h root (child_path p name) ≡ Some o → has_child T p name ≡ true
   one-there p name o e = get-some bytes root holds (child_path p name) o e
 
-  next-there : (x : List ℕ) (o c : ℕ) (xs : Path) → place_at h o (x ∷ xs) ≡ Some c → (d : ℕ) × (subkey_named h x o ≡ Some d) × (place_at h d xs ≡ Some c)
-  next-there x o c xs e = by (subkey_named h x o) refl (sym (place-more h o x xs) ∙ e)
+  next-there : (x : List ℕ) (o c : ℕ) (xs : Path) → key_offset_at h o (x ∷ xs) ≡ Some c → (d : ℕ) × (subkey_named h x o ≡ Some d) × (key_offset_at h d xs ≡ Some c)
+  next-there x o c xs e = by (subkey_named h x o) refl (sym (offset-more h o x xs) ∙ e)
     where
-      by : (s : Option ℕ) → subkey_named h x o ≡ s → option_and_then (λ d. place_at h d xs) s ≡ Some c → (d : ℕ) × (subkey_named h x o ≡ Some d) × (place_at h d xs ≡ Some c)
+      by : (s : Option ℕ) → subkey_named h x o ≡ s → option_and_then (λ d. key_offset_at h d xs) s ≡ Some c → (d : ℕ) × (subkey_named h x o ≡ Some d) × (key_offset_at h d xs ≡ Some c)
       by None f e = absurd (none-some _ e)
       by (Some d) f e = (d, f, e)
 
-  child-place : (p : Path) (x : List ℕ) (o d : ℕ) → place_at h root p ≡ Some o → subkey_named h x o ≡ Some d → place_at h root (p ++ x ∷ []) ≡ Some d
-  child-place p x o d e f =
-      place-append h root p (x ∷ [])
-      ∙ (ap (option_and_then (λ c. place_at h c (x ∷ []))) e
-      ∙ (place-more h o x [] ∙ (ap (option_and_then (λ d. place_at h d [])) f ∙ place-none h d)))
+  child-offset : (p : Path) (x : List ℕ) (o d : ℕ) → key_offset_at h root p ≡ Some o → subkey_named h x o ≡ Some d → key_offset_at h root (p ++ x ∷ []) ≡ Some d
+  child-offset p x o d e f =
+      offset-append h root p (x ∷ [])
+      ∙ (ap (option_and_then (λ c. key_offset_at h c (x ∷ []))) e
+      ∙ (offset-more h o x [] ∙ (ap (option_and_then (λ d. key_offset_at h d [])) f ∙ offset-none h d)))
 
-  pub through : (names : List (List ℕ)) (p : Path) (o c : ℕ) → place_at h root p ≡ Some o → place_at h o (map folded names) ≡ Some c → IsThrough T p names more moment
+  pub through : (names : List (List ℕ)) (p : Path) (o c : ℕ) → key_offset_at h root p ≡ Some o → key_offset_at h o (map folded names) ≡ Some c → IsThrough T p names more moment
   through [] p o c e f = record {
     made = ap (λ p. with_keys T p more moment) (sym (append-nil p));
     missed = ap (λ p. missing T p more) (sym (append-nil p));
@@ -64,7 +64,7 @@ module _ (bytes : List ℕ) (root : ℕ) (holds : Holds bytes root) (more : List
   }
   through (name ∷ names) p o c e f =
       let n = next-there (folded name) o c (map folded names) f in
-      let q = child-place p (folded name) o n.0 e n.1 in
+      let q = child-offset p (folded name) o n.0 e n.1 in
       let r = through names (child_path p name) n.0 c q n.2 in
       let b = one-there p name n.0 q in
       let all : child_path p name ++ map folded names ≡ p ++ folded name ∷ map folded names = append_assoc p (folded name ∷ []) (map folded names) in
@@ -76,19 +76,19 @@ module _ (bytes : List ℕ) (root : ℕ) (holds : Holds bytes root) (more : List
 
   -- ---- the first that is missing
 
-  none-there : (p : Path) (name : List ℕ) (o : ℕ) → place_at h root p ≡ Some o → subkey_named h (folded name) o ≡ None → has_child T p name ≡ false
+  none-there : (p : Path) (name : List ℕ) (o : ℕ) → key_offset_at h root p ≡ Some o → subkey_named h (folded name) o ≡ None → has_child T p name ≡ false
   none-there p name o e f =
       ap is_some (get-none bytes root holds (child_path p name)
-      (place-append h root p (folded name ∷ [])
-      ∙ (ap (option_and_then (λ c. place_at h c (folded name ∷ []))) e
-      ∙ (place-more h o (folded name) [] ∙ ap (option_and_then (λ d. place_at h d [])) f))))
+      (offset-append h root p (folded name ∷ [])
+      ∙ (ap (option_and_then (λ c. key_offset_at h c (folded name ∷ []))) e
+      ∙ (offset-more h o (folded name) [] ∙ ap (option_and_then (λ d. key_offset_at h d [])) f))))
 
   -- where the first of some names is missing, all are, and the path leads no further
-  pub missing-all : (names : List (List ℕ)) (p : Path) (o : ℕ) → place_at h root p ≡ Some o → Stops h o names → missing T p names ≡ names
+  pub missing-all : (names : List (List ℕ)) (p : Path) (o : ℕ) → key_offset_at h root p ≡ Some o → Stops h o names → missing T p names ≡ names
   missing-all [] p o e s = refl
   missing-all (name ∷ names) p o e s = ap (λ b. cond b (missing T (child_path p name) names) (name ∷ names)) (none-there p name o e s)
 
-  pub last-here : (names : List (List ℕ)) (p : Path) (o : ℕ) → place_at h root p ≡ Some o → Stops h o names → last_there T p names ≡ p
+  pub last-here : (names : List (List ℕ)) (p : Path) (o : ℕ) → key_offset_at h root p ≡ Some o → Stops h o names → last_there T p names ≡ p
   last-here [] p o e s = refl
   last-here (name ∷ names) p o e s = ap (λ b. cond b (last_there T (child_path p name) names) p) (none-there p name o e s)
 
@@ -112,9 +112,9 @@ module _ (old : List ℕ) (from : TreeNode) (t : IsHere old from.offset) (path :
   tree = tree_in old t.root
 
   way : IsThrough tree t.path passed left moment
-  way = through old t.root t.holds left moment passed t.path from.offset parent.offset t.at r.passes.place
+  way = through old t.root t.holds left moment passed t.path from.offset parent.offset t.at r.passes.offset
 
-  parent-at : place_at (cell_at old) t.root (t.path ++ map folded passed) ≡ Some parent.offset
+  parent-at : key_offset_at (cell_at old) t.root (t.path ++ map folded passed) ≡ Some parent.offset
   unfolding here_then
   parent-at = parent_here.at
 
@@ -141,7 +141,7 @@ module _ (old : List ℕ) (from : TreeNode) (t : IsHere old from.offset) (path :
   created_none e = record {
     holds = t.holds;
     tree = sym (with-left ∙ ap (λ ns. with_keys tree (t.path ++ map folded passed) ns moment) e);
-    place = subst (λ p. place_at (cell_at old) t.root p ≡ Some parent.offset) (sym (append-nil (t.path ++ map folded passed)) ∙
+    offset = subst (λ p. key_offset_at (cell_at old) t.root p ≡ Some parent.offset) (sym (append-nil (t.path ++ map folded passed)) ∙
         (ap (λ ns. (t.path ++ map folded passed) ++ map folded ns) (sym e) ∙ all-names)) parent-at;
     depth = (let d = r.passes.depth in let n = number in let z = ap length e in omega (arith, d, n, z));
     keeps = λ q o e. e;
@@ -212,7 +212,7 @@ module _ (old : List ℕ) (from : TreeNode) (t : IsHere old from.offset) (path :
       pub created : IsCreated old new t.root t.path from names moment made
       unfolding may_make may_grow_all here_then
       created =
-          let h : Holds new t.root = record { keys = grown.now; first = t.holds.first; shape = grown.shape; unrooted = grown.unrooted } in
+          let h : TreeInvariant new t.root = record { keys = grown.now; first = t.holds.first; shape = grown.shape; unrooted = grown.unrooted } in
           record {
             holds = h;
             tree = spelt_is new t.root h
@@ -221,7 +221,7 @@ module _ (old : List ℕ) (from : TreeNode) (t : IsHere old from.offset) (path :
                 (tree-spared (cell_at old) (cell_at mid) t.root t.holds.keys t.holds.first spare t.holds.shape s.come ∙
                 sym (spelt_is old t.root t.holds))
                 ∙ sym with-left));
-            place = subst (λ p. place_at (cell_at new) t.root p ≡ Some made.offset) all-names grown.place;
+            offset = subst (λ p. key_offset_at (cell_at new) t.root p ≡ Some made.offset) all-names grown.offset;
             depth = (let d = r.passes.depth in let n = number in let g = grown.depth in omega (arith, d, n, g));
-            keeps = λ q o e. grown.keeps q o (places-spared (cell_at old) (cell_at mid) t.root t.holds.keys t.holds.first spare t.holds.shape s.come q ∙ e);
+            keeps = λ q o e. grown.keeps q o (offsets-spared (cell_at old) (cell_at mid) t.root t.holds.keys t.holds.first spare t.holds.shape s.come q ∙ e);
           }

@@ -18,12 +18,12 @@ use Rattle.reg_shape.specs.Nodes.{Node, entries_of}
 use Rattle.reg_shape.specs.Written.{IsWrittenSecurity}
 use Rattle.reg_shape.specs.Internal.Shapes.{index_cells, owns, IsSeen, StandsIn}
 use Rattle.reg_shape.specs.Internal.Grafts.{IsShape}
-use Rattle.reg_shape.specs.PathLookup.{place_at, subkey_named}
+use Rattle.reg_shape.specs.PathLookup.{key_offset_at, subkey_named}
 use Rattle.reg_records.proofs.KeyNodeCodec.{key_at-same}
 use Rattle.reg_shape.proofs.Frame.WrittenFrame.{same-held}
 use Rattle.reg_shape.proofs.Walking.WalkRefinement.{IsLooked}
 use Rattle.reg_shape.proofs.Graft.ForestInsertFits.{all-inserted}
-use Rattle.reg_index.specs.Subkeys.{AreSubkeys, IsPlace, Moves, names_in, entry_for, with_one, own, taken}
+use Rattle.reg_index.specs.Subkeys.{AreSubkeys, IsIndexFor, Moves, names_in, entry_for, with_one, own, taken}
 use Rattle.reg_index.proofs.RefinementOfSubkeys.{IsSingle, subkeys-elsewhere}
 use Rattle.reg_tree.specs.Internal.KeyNodeChanges.{Notes, Recounts, noted_subkeys, raised}
 use Rattle.reg_tree.specs.TreeInvariant.{rooted}
@@ -36,7 +36,7 @@ use Rattle.reg_tree.proofs.InsertKey.InsertKeyFrame as frame
 
 module _ (h0 h1 h2 h3 h4 : Heap) (root : ℕ) (keys : Branch Node) (first : ℕ) (p : Path) (parent : ℕ)
     (plan : Option ℕ) (list_cell key : ℕ) (left : List ℕ)
-    (w : IsShape h0 root keys first [] (taken plan list_cell ++ key ∷ left)) (unrooted : total_of rooted keys ≡ 0) (at : place_at h0 root p ≡ Some parent) where
+    (w : IsShape h0 root keys first [] (taken plan list_cell ++ key ∷ left)) (unrooted : total_of rooted keys ≡ 0) (at : key_offset_at h0 root p ≡ Some parent) where
   abbrev spare : List ℕ
   spare = taken plan list_cell ++ key ∷ left
 
@@ -52,14 +52,14 @@ module _ (h0 h1 h2 h3 h4 : Heap) (root : ℕ) (keys : Branch Node) (first : ℕ)
   abbrev entries : List Entry
   entries = entries_of node.index
 
-  abbrev pub looked : IsLooked h0 was.place node
+  abbrev pub looked : IsLooked h0 was.offset node
   looked = frame.looked h0 h1 h2 h3 h4 root keys first p parent plan list_cell key left w unrooted at
 
-  abbrev pub seen : IsSeen h0 root was.place node
+  abbrev pub seen : IsSeen h0 root was.offset node
   seen = frame.seen h0 h1 h2 h3 h4 root keys first p parent plan list_cell key left w unrooted at
 
-  pub place : was.place ≡ parent
-  place = frame.place h0 h1 h2 h3 h4 root keys first p parent plan list_cell key left w unrooted at
+  pub offset : was.offset ≡ parent
+  offset = frame.offset h0 h1 h2 h3 h4 root keys first p parent plan list_cell key left w unrooted at
 
   pub single : IsSingle node.index
   single = frame.single h0 h1 h2 h3 h4 root keys first p parent plan list_cell key left w unrooted at
@@ -74,7 +74,7 @@ module _ (h0 h1 h2 h3 h4 : Heap) (root : ℕ) (keys : Branch Node) (first : ℕ)
   names0 = frame.names0 h0 h1 h2 h3 h4 root keys first p parent plan list_cell key left w unrooted at
 
   abbrev K : ℕ → ℕ
-  K z = is_own z (record { kind = Key; offset = was.place })
+  K z = is_own z (record { kind = Key; offset = was.offset })
 
   abbrev old_list : List ℕ
   old_list = own above.fields.subkeys above.fields.subkeys_list
@@ -99,7 +99,7 @@ module _ (h0 h1 h2 h3 h4 : Heap) (root : ℕ) (keys : Branch Node) (first : ℕ)
     pub allocated1 : (z : ℕ) → allocated h1 z ≡ allocated h0 z
     allocated1 = frame.allocated1 h0 h1 h2 h3 h4 root keys first p parent plan list_cell key left w unrooted at others1 there1
 
-    below-all : (Q : ℕ → Type 0) → ((z : ℕ) → 0 < total (owns z) was.below → Q z) → AllByRecursion (λ (e : Entry). Q e.place) entries
+    below-all : (Q : ℕ → Type 0) → ((z : ℕ) → 0 < total (owns z) was.below → Q z) → AllByRecursion (λ (e : Entry). Q e.offset) entries
     below-all = frame.below-all h0 h1 h2 h3 h4 root keys first p parent plan list_cell key left w unrooted at others1 there1
 
     module _ (count1 list1 : ℕ) (moves : Moves h1 h2 (old_list ++ taken plan list_cell) (own count1 list1)) where
@@ -110,7 +110,7 @@ module _ (h0 h1 h2 h3 h4 : Heap) (root : ℕ) (keys : Branch Node) (first : ℕ)
       calm2 = frame.calm2 h0 h1 h2 h3 h4 root keys first p parent plan list_cell key left w unrooted at others1 there1 count1 list1 moves
 
       abbrev P : ℕ
-      P = was.place
+      P = was.offset
 
       P-own : K P ≡ 1
       P-own = frame.P-own h0 h1 h2 h3 h4 root keys first p parent plan list_cell key left w unrooted at others1 there1 count1 list1 moves
@@ -122,7 +122,7 @@ module _ (h0 h1 h2 h3 h4 : Heap) (root : ℕ) (keys : Branch Node) (first : ℕ)
       P-then = frame.P-then h0 h1 h2 h3 h4 root keys first p parent plan list_cell key left w unrooted at others1 there1 count1 list1 moves
 
       module _ (name : List ℕ) (moment : ℕ) (notes : Notes h2 h3 parent (noted_subkeys count1 list1 (length name) moment)) where
-        pub its-notes : Notes h2 h3 was.place (noted_subkeys count1 list1 (length name) moment)
+        pub its-notes : Notes h2 h3 was.offset (noted_subkeys count1 list1 (length name) moment)
         its-notes = frame.its-notes h0 h1 h2 h3 h4 root keys first p parent plan list_cell key left w unrooted at others1 there1 count1 list1 moves name moment notes
 
         calm3 : (z : ℕ) → K z ≡ 0 → h3 z ≡ h2 z
@@ -142,7 +142,7 @@ module _ (h0 h1 h2 h3 h4 : Heap) (root : ℕ) (keys : Branch Node) (first : ℕ)
 
         module _ (index : ℕ) (good : is_key_name name ≡ true) (short : length name ≤ KEY_NAME_LIMIT)
             (key1 : key_at h1 key ≡ Some (made_record parent above.fields.security moment name)) (plain1 : IsPlainKey (held h1 key))
-            (stands_at : IsPlace (names_in h0 entries) (folded name) (Err index)) (missing : subkey_named h0 (folded name) parent ≡ None)
+            (stands_at : IsIndexFor (names_in h0 entries) (folded name) (Err index)) (missing : subkey_named h0 (folded name) parent ≡ None)
             (subkeys2 : AreSubkeys h2 count1 list1 (with_one index (entry_for h1 key) entries)) (count_is : count1 ≡ above.fields.subkeys + 1)
             (users : ℕ) (users_are : (s : KeySecurityRecord) → security_at h0 above.fields.security ≡ Some s → users ≡ s.fields.count + 1)
             (recounts : Recounts h3 h4 above.fields.security (λ n. users)) where
@@ -217,7 +217,7 @@ module _ (h0 h1 h2 h3 h4 : Heap) (root : ℕ) (keys : Branch Node) (first : ℕ)
 
           pub subkeys4 : AreSubkeys h4 count1 list1 entries1
           subkeys4 = subkeys-elsewhere h2 h4 count1 list1 entries1 subkeys2 (inr list-calm)
-              (all-inserted (λ (e : Entry). key_at h4 e.place ≡ key_at h2 e.place) index (entry_for h1 key) entries key-same
+              (all-inserted (λ (e : Entry). key_at h4 e.offset ≡ key_at h2 e.offset) index (entry_for h1 key) entries key-same
               (below-all (λ o. key_at h4 o ≡ key_at h2 o) (λ z l. key_at-same h2 h4 z (below-late z l))))
             where
               not-one : (x : ℕ) → times x (list1 ∷ []) ≡ 0 → times list1 (x ∷ []) ≡ 0

@@ -12,12 +12,12 @@ use Rattle.reg_shape.specs.Internal.Forests.{Forest, Branch, heads, total, total
 use Rattle.reg_shape.specs.Internal.Forests.Forest.{End, Rooted as Hangs}
 use Rattle.reg_records.specs.KeyNodes.{KeyRecord, key_at}
 use Rattle.reg_records.specs.KeySecurities.{security_at}
-use Rattle.reg_records.specs.SubkeyLists.{Entry, places_in}
+use Rattle.reg_records.specs.SubkeyLists.{Entry, offsets_in}
 use Rattle.reg_shape.specs.Nodes.{Node, entries_of}
 use Rattle.reg_shape.specs.Written.{Fits, IsWrittenSecurity}
 use Rattle.reg_shape.specs.Internal.Shapes.{index_cells, owns, IsSeen, StandsIn}
 use Rattle.reg_shape.specs.Internal.Grafts.{IsShape}
-use Rattle.reg_shape.specs.PathLookup.{place_at}
+use Rattle.reg_shape.specs.PathLookup.{key_offset_at}
 use Rattle.reg_records.proofs.KeyNodeCodec.{key_at-same}
 use Rattle.reg_records.proofs.KeySecurityCodec.{security_at-same}
 use Rattle.reg_shape.proofs.Walking.WalkRefinement.{IsLooked}
@@ -30,7 +30,7 @@ use Rattle.reg_tree.specs.Internal.KeyNodeChanges.{Notes, noted_subkeys, raised}
 use Rattle.reg_tree.specs.TreeInvariant.{rooted}
 use Rattle.reg_tree.proofs.Invariant.OwnCells.{own-parts, key-here}
 use Rattle.reg_tree.proofs.InsertKey.ParentReindexed.{owned-single, branch-subkeys}
-use Rattle.reg_tree.proofs.Invariant.UntouchedCells.{place-own, times-one, not-there, there-is, written-allocated, moved-calm, all-heads, all-of, single-of}
+use Rattle.reg_tree.proofs.Invariant.UntouchedCells.{offset-own, times-one, not-there, there-is, written-allocated, moved-calm, all-heads, all-of, single-of}
 use Rattle.reg_tree.proofs.Invariant.KeyOfShape as keyed
 
 -- the folded name of a key that was looked at
@@ -39,15 +39,15 @@ name_of_head e = folded e.1.key.name
 
 -- the names in a list are those of the keys below, also where other cells changed
 pub names-heads : (h k : Heap) (root : ℕ) (F : Forest Node) (es : List Entry) → Stand (IsSeen h root) Fits F →
-    map (λ (e : ℕ × Node). e.0) (heads F) ≡ places_in es → ((z : ℕ) → 0 < total (owns z) F → k z ≡ h z) → names_in k es ≡ map name_of_head (heads F)
+    map (λ (e : ℕ × Node). e.0) (heads F) ≡ offsets_in es → ((z : ℕ) → 0 < total (owns z) F → k z ≡ h z) → names_in k es ≡ map name_of_head (heads F)
 names-heads h k root End [] a q c = refl
 names-heads h k root End (e ∷ es) a q c = absurd (let n = ap length q in omega (arith, n))
 names-heads h k root (Hangs o n b s) [] a q c = absurd (let n = ap length q in omega (arith, n))
 names-heads h k root (Hangs o n b s) (e ∷ es) a q c =
-    let first : o ≡ e.place = ap (λ (ps : List ℕ). get_or ps 0 0) q in
-    let rest : map (λ (e : ℕ × Node). e.0) (heads s) ≡ places_in es = ap (λ (ps : List ℕ). drop 1 ps) q in
-    let here : key_at k o ≡ Some n.key = key_at-same h k o (c o (let l = place-own h o n a.0.0.reads in omega (arith, l))) ∙ key-looked h o n a.0.0.reads in
-    let named : name_at k e.place ≡ n.key.name = ap (λ z. name_or_none (key_at k z)) (sym first) ∙ ap name_or_none here in
+    let first : o ≡ e.offset = ap (λ (ps : List ℕ). get_or ps 0 0) q in
+    let rest : map (λ (e : ℕ × Node). e.0) (heads s) ≡ offsets_in es = ap (λ (ps : List ℕ). drop 1 ps) q in
+    let here : key_at k o ≡ Some n.key = key_at-same h k o (c o (let l = offset-own h o n a.0.0.reads in omega (arith, l))) ∙ key-looked h o n a.0.0.reads in
+    let named : name_at k e.offset ≡ n.key.name = ap (λ z. name_or_none (key_at k z)) (sym first) ∙ ap name_or_none here in
     ap (λ x. folded x ∷ names_in k es) named ∙ ap (λ xs. name_of_head (o, n) ∷ xs) (names-heads h k root s es a.1 rest (λ z l. c z (omega (arith, l))))
 
 -- a length raised is the greater of both
@@ -59,7 +59,7 @@ raised-low o s l = omega (arith, l)
 
 module _ (h0 h1 h2 h3 h4 : Heap) (root : ℕ) (keys : Branch Node) (first : ℕ) (p : Path) (parent : ℕ)
     (plan : Option ℕ) (list_cell key : ℕ) (left : List ℕ)
-    (w : IsShape h0 root keys first [] (taken plan list_cell ++ key ∷ left)) (unrooted : total_of rooted keys ≡ 0) (at : place_at h0 root p ≡ Some parent) where
+    (w : IsShape h0 root keys first [] (taken plan list_cell ++ key ∷ left)) (unrooted : total_of rooted keys ≡ 0) (at : key_offset_at h0 root p ≡ Some parent) where
   abbrev spare : List ℕ
   spare = taken plan list_cell ++ key ∷ left
 
@@ -75,14 +75,14 @@ module _ (h0 h1 h2 h3 h4 : Heap) (root : ℕ) (keys : Branch Node) (first : ℕ)
   abbrev entries : List Entry
   entries = entries_of node.index
 
-  pub looked : IsLooked h0 was.place node
+  pub looked : IsLooked h0 was.offset node
   looked = keyed.looked h0 root keys first [] spare w p parent at
 
-  pub seen : IsSeen h0 root was.place node
+  pub seen : IsSeen h0 root was.offset node
   seen = keyed.seen h0 root keys first [] spare w p parent at
 
-  pub place : was.place ≡ parent
-  place = keyed.place h0 root keys first [] spare w p parent at
+  pub offset : was.offset ≡ parent
+  offset = keyed.offset h0 root keys first [] spare w p parent at
 
   pub single : IsSingle node.index
   single = single-of node.index (keyed.unrooted_here h0 root keys first [] spare w p parent at unrooted)
@@ -96,10 +96,10 @@ module _ (h0 h1 h2 h3 h4 : Heap) (root : ℕ) (keys : Branch Node) (first : ℕ)
 
   -- the names of its subkeys
   pub names0 : names_in h0 entries ≡ map name_of_head (heads was.below)
-  names0 = names-heads h0 h0 root was.below entries stands0.2 stands0.1.places (λ z l. refl)
+  names0 = names-heads h0 h0 root was.below entries stands0.2 stands0.1.offsets (λ z l. refl)
 
   abbrev K : ℕ → ℕ
-  K z = is_own z (record { kind = Key; offset = was.place })
+  K z = is_own z (record { kind = Key; offset = was.offset })
 
   abbrev old_list : List ℕ
   old_list = own above.fields.subkeys above.fields.subkeys_list
@@ -107,17 +107,17 @@ module _ (h0 h1 h2 h3 h4 : Heap) (root : ℕ) (keys : Branch Node) (first : ℕ)
   pub own-index : (z : ℕ) → owned z (index_cells node.index) ≡ times z old_list
   own-index z = owned-single h0 z above.fields.subkeys above.fields.subkeys_list node.index looked.index_is single
 
-  not-place : (z : ℕ) → K z ≡ 0 → z ≢ was.place
-  not-place z none e = let one = key-here z was.place e in omega (arith, none, one)
+  not-offset : (z : ℕ) → K z ≡ 0 → z ≢ was.offset
+  not-offset z none e = let one = key-here z was.offset e in omega (arith, none, one)
 
   -- it is no key of the tree that is there
   pub not-root : key ≢ root
   not-root e =
-      let own = place-own h0 keys.place keys.node w.stands.0.reads in
-      let x = w.exact keys.place in
-      let m = at-most-one h0 keys.place in
-      let s = times-append keys.place (taken plan list_cell) (key ∷ left) in
-      let t = subst (λ z. times z (key ∷ []) ≡ 1) (e ∙ sym w.place) (times-one key) in
+      let own = offset-own h0 keys.offset keys.node w.stands.0.reads in
+      let x = w.exact keys.offset in
+      let m = at-most-one h0 keys.offset in
+      let s = times-append keys.offset (taken plan list_cell) (key ∷ left) in
+      let t = subst (λ z. times z (key ∷ []) ≡ 1) (e ∙ sym w.offset) (times-one key) in
       omega (arith, own, x, m, s, t)
 
   -- every cell is one thing alone
@@ -125,7 +125,7 @@ module _ (h0 h1 h2 h3 h4 : Heap) (root : ℕ) (keys : Branch Node) (first : ℕ)
       (times z (first ∷ []) + (times z (taken plan list_cell) + (times z (key ∷ []) + times z left))) ≤ allocated h0 z
   budget z =
       let all = keyed.branch_once h0 root keys first [] spare w p parent at z in
-      let o = ap (λ (found : List Found). owned z (found ++ index_cells node.index)) looked.cells ∙ own-parts z was.place above looked.class_cells looked.value_cells node.index in
+      let o = ap (λ (found : List Found). owned z (found ++ index_cells node.index)) looked.cells ∙ own-parts z was.offset above looked.class_cells looked.value_cells node.index in
       let i = own-index z in
       let s = times-append z (taken plan list_cell) (key ∷ left) in
       omega (arith, all, o, i, s)
@@ -153,13 +153,13 @@ module _ (h0 h1 h2 h3 h4 : Heap) (root : ℕ) (keys : Branch Node) (first : ℕ)
 
     -- a name stands among theirs where it stood
     pub names1 : names_in h1 entries ≡ names_in h0 entries
-    names1 = names-heads h0 h1 root was.below entries stands0.2 stands0.1.places below1 ∙ sym names0
+    names1 = names-heads h0 h1 root was.below entries stands0.2 stands0.1.offsets below1 ∙ sym names0
 
     -- what holds of the cells of the keys below holds of the cells that the list names
-    pub below-all : (Q : ℕ → Type 0) → ((z : ℕ) → 0 < total (owns z) was.below → Q z) → AllByRecursion (λ (e : Entry). Q e.place) entries
+    pub below-all : (Q : ℕ → Type 0) → ((z : ℕ) → 0 < total (owns z) was.below → Q z) → AllByRecursion (λ (e : Entry). Q e.offset) entries
     below-all Q q =
-        all-mapped (λ (e : Entry). e.place) Q entries
-        (subst (AllByRecursion Q) stands0.1.places (all-of (λ (e : ℕ × Node). e.0) Q (heads was.below) (all-heads h0 root Q was.below stands0.2 q)))
+        all-mapped (λ (e : Entry). e.offset) Q entries
+        (subst (AllByRecursion Q) stands0.1.offsets (all-of (λ (e : ℕ × Node). e.0) Q (heads was.below) (all-heads h0 root Q was.below stands0.2 q)))
 
     -- its subkeys are what they were
     same-list : (count : ℕ) → above.fields.subkeys ≡ count → (above.fields.subkeys ≡ 0) ⊎ (h1 above.fields.subkeys_list ≡ h0 above.fields.subkeys_list)
@@ -184,7 +184,7 @@ module _ (h0 h1 h2 h3 h4 : Heap) (root : ℕ) (keys : Branch Node) (first : ℕ)
       calm2 z some a b = (let x = allocated1 z in let y = before z in moved-calm h1 h2 (old_list ++ taken plan list_cell) (own count1 list1) moves z (omega (arith, some, x)) (omega (arith, a, b, y)))
 
       abbrev P : ℕ
-      P = was.place
+      P = was.offset
 
       pub P-own : K P ≡ 1
       P-own = key-here P P refl
@@ -196,11 +196,11 @@ module _ (h0 h1 h2 h3 h4 : Heap) (root : ℕ) (keys : Branch Node) (first : ℕ)
       P-then = key_at-same h0 h2 P P-calm ∙ key-looked h0 P node seen.reads
 
       module _ (name : List ℕ) (moment : ℕ) (notes : Notes h2 h3 parent (noted_subkeys count1 list1 (length name) moment)) where
-        pub its-notes : Notes h2 h3 was.place (noted_subkeys count1 list1 (length name) moment)
-        its-notes = subst (λ o. Notes h2 h3 o (noted_subkeys count1 list1 (length name) moment)) (sym place) notes
+        pub its-notes : Notes h2 h3 was.offset (noted_subkeys count1 list1 (length name) moment)
+        its-notes = subst (λ o. Notes h2 h3 o (noted_subkeys count1 list1 (length name) moment)) (sym offset) notes
 
         pub calm3 : (z : ℕ) → K z ≡ 0 → h3 z ≡ h2 z
-        calm3 z none = its-notes.others z (not-place z none)
+        calm3 z none = its-notes.others z (not-offset z none)
 
         pub written : IsWrittenSecurity h0 first
         written = w.ring.written.0

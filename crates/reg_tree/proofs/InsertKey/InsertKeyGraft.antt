@@ -23,13 +23,13 @@ use Rattle.reg_shape.specs.Nodes.{Node, entries_of}
 use Rattle.reg_shape.specs.Written.{Precedes, Fits, IsWrittenSecurity}
 use Rattle.reg_shape.specs.Internal.Shapes.{cells_of, index_cells, owns, shares, IsSeen, StandsIn}
 use Rattle.reg_shape.specs.Internal.Grafts.{IsShape, IsGrafted, IsRecounted, hang}
-use Rattle.reg_shape.specs.PathLookup.{place_at, subkey_named}
+use Rattle.reg_shape.specs.PathLookup.{key_offset_at, subkey_named}
 use Rattle.reg_shape.proofs.Frame.WrittenFrame.{same-held}
 use Rattle.reg_shape.proofs.Walking.WalkRefinement.{IsLooked}
 use Rattle.reg_shape.proofs.Wholeness.ShapeRecords.{shares-own}
 use Rattle.reg_shape.proofs.Graft.ForestInsert.{total-hang}
 use Rattle.reg_shape.proofs.Graft.ForestInsertFits.{all-before, all-behind, all-mapped, fits-hung, stands-hung}
-use Rattle.reg_index.specs.Subkeys.{AreSubkeys, IsPlace, Moves, names_in, name_at, name_or_none, entry_for, with_one, own, taken}
+use Rattle.reg_index.specs.Subkeys.{AreSubkeys, IsIndexFor, Moves, names_in, name_at, name_or_none, entry_for, with_one, own, taken}
 use Rattle.reg_index.proofs.RefinementOfSubkeys.{IsSingle, index-entries}
 use Rattle.reg_tree.specs.Internal.KeyNodeChanges.{Notes, Recounts, noted_subkeys, raised}
 use Rattle.reg_tree.specs.TreeInvariant.{rooted}
@@ -44,7 +44,7 @@ use Rattle.reg_tree.proofs.InsertKey.InsertKeyCells as cells
 
 module _ (h0 h1 h2 h3 h4 : Heap) (root : ℕ) (keys : Branch Node) (first : ℕ) (p : Path) (parent : ℕ)
     (plan : Option ℕ) (list_cell key : ℕ) (left : List ℕ)
-    (w : IsShape h0 root keys first [] (taken plan list_cell ++ key ∷ left)) (unrooted : total_of rooted keys ≡ 0) (at : place_at h0 root p ≡ Some parent) where
+    (w : IsShape h0 root keys first [] (taken plan list_cell ++ key ∷ left)) (unrooted : total_of rooted keys ≡ 0) (at : key_offset_at h0 root p ≡ Some parent) where
   abbrev spare : List ℕ
   spare = taken plan list_cell ++ key ∷ left
 
@@ -60,14 +60,14 @@ module _ (h0 h1 h2 h3 h4 : Heap) (root : ℕ) (keys : Branch Node) (first : ℕ)
   abbrev entries : List Entry
   entries = entries_of node.index
 
-  abbrev looked : IsLooked h0 was.place node
+  abbrev looked : IsLooked h0 was.offset node
   looked = cells.looked h0 h1 h2 h3 h4 root keys first p parent plan list_cell key left w unrooted at
 
-  abbrev seen : IsSeen h0 root was.place node
+  abbrev seen : IsSeen h0 root was.offset node
   seen = cells.seen h0 h1 h2 h3 h4 root keys first p parent plan list_cell key left w unrooted at
 
-  place : was.place ≡ parent
-  place = cells.place h0 h1 h2 h3 h4 root keys first p parent plan list_cell key left w unrooted at
+  offset : was.offset ≡ parent
+  offset = cells.offset h0 h1 h2 h3 h4 root keys first p parent plan list_cell key left w unrooted at
 
   single : IsSingle node.index
   single = cells.single h0 h1 h2 h3 h4 root keys first p parent plan list_cell key left w unrooted at
@@ -82,7 +82,7 @@ module _ (h0 h1 h2 h3 h4 : Heap) (root : ℕ) (keys : Branch Node) (first : ℕ)
   names0 = cells.names0 h0 h1 h2 h3 h4 root keys first p parent plan list_cell key left w unrooted at
 
   abbrev K : ℕ → ℕ
-  K z = is_own z (record { kind = Key; offset = was.place })
+  K z = is_own z (record { kind = Key; offset = was.offset })
 
   abbrev old_list : List ℕ
   old_list = own above.fields.subkeys above.fields.subkeys_list
@@ -106,13 +106,13 @@ module _ (h0 h1 h2 h3 h4 : Heap) (root : ℕ) (keys : Branch Node) (first : ℕ)
       before = cells.before h0 h1 h2 h3 h4 root keys first p parent plan list_cell key left w unrooted at others1 there1 count1 list1 moves
 
       abbrev P : ℕ
-      P = was.place
+      P = was.offset
 
       P-then : key_at h2 P ≡ Some above
       P-then = cells.P-then h0 h1 h2 h3 h4 root keys first p parent plan list_cell key left w unrooted at others1 there1 count1 list1 moves
 
       module _ (name : List ℕ) (moment : ℕ) (notes : Notes h2 h3 parent (noted_subkeys count1 list1 (length name) moment)) where
-        its-notes : Notes h2 h3 was.place (noted_subkeys count1 list1 (length name) moment)
+        its-notes : Notes h2 h3 was.offset (noted_subkeys count1 list1 (length name) moment)
         its-notes = cells.its-notes h0 h1 h2 h3 h4 root keys first p parent plan list_cell key left w unrooted at others1 there1 count1 list1 moves name moment notes
 
         abbrev written : IsWrittenSecurity h0 first
@@ -129,7 +129,7 @@ module _ (h0 h1 h2 h3 h4 : Heap) (root : ℕ) (keys : Branch Node) (first : ℕ)
 
         module _ (index : ℕ) (good : is_key_name name ≡ true) (short : length name ≤ KEY_NAME_LIMIT)
             (key1 : key_at h1 key ≡ Some (made_record parent above.fields.security moment name)) (plain1 : IsPlainKey (held h1 key))
-            (stands_at : IsPlace (names_in h0 entries) (folded name) (Err index)) (missing : subkey_named h0 (folded name) parent ≡ None)
+            (stands_at : IsIndexFor (names_in h0 entries) (folded name) (Err index)) (missing : subkey_named h0 (folded name) parent ≡ None)
             (subkeys2 : AreSubkeys h2 count1 list1 (with_one index (entry_for h1 key) entries)) (count_is : count1 ≡ above.fields.subkeys + 1)
             (users : ℕ) (users_are : (s : KeySecurityRecord) → security_at h0 above.fields.security ≡ Some s → users ≡ s.fields.count + 1)
             (recounts : Recounts h3 h4 above.fields.security (λ n. users)) where
@@ -140,52 +140,65 @@ module _ (h0 h1 h2 h3 h4 : Heap) (root : ℕ) (keys : Branch Node) (first : ℕ)
           entries1 = with_one index (entry_for h1 key) entries
 
           new-list : (z : ℕ) → times z (own count1 list1) ≡ times z (list1 ∷ [])
-          new-list = cells.new-list h0 h1 h2 h3 h4 root keys first p parent plan list_cell key left w unrooted at others1 there1 count1 list1 moves name moment notes index good short key1 plain1 stands_at missing subkeys2 count_is users users_are recounts
+          new-list = cells.new-list h0 h1 h2 h3 h4 root keys first p parent plan list_cell key left w unrooted at others1 there1 count1 list1 moves
+              name moment notes index good short key1 plain1 stands_at missing subkeys2 count_is users users_are recounts
 
           its-recounts : Recounts h3 h4 first (λ n. users)
-          its-recounts = cells.its-recounts h0 h1 h2 h3 h4 root keys first p parent plan list_cell key left w unrooted at others1 there1 count1 list1 moves name moment notes index good short key1 plain1 stands_at missing subkeys2 count_is users users_are recounts
+          its-recounts = cells.its-recounts h0 h1 h2 h3 h4 root keys first p parent plan list_cell key left w unrooted at others1 there1 count1 list1
+              moves name moment notes index good short key1 plain1 stands_at missing subkeys2 count_is users users_are recounts
 
           calm : (z : ℕ) → 0 < allocated h0 z → times z (key ∷ []) ≡ 0 → times z old_list ≡ 0 → times z (taken plan list_cell) ≡ 0 → K z ≡ 0 → times z (first ∷ []) ≡ 0 → h4 z ≡ h0 z
-          calm = cells.calm h0 h1 h2 h3 h4 root keys first p parent plan list_cell key left w unrooted at others1 there1 count1 list1 moves name moment notes index good short key1 plain1 stands_at missing subkeys2 count_is users users_are recounts
+          calm = cells.calm h0 h1 h2 h3 h4 root keys first p parent plan list_cell key left w unrooted at others1 there1 count1 list1 moves name
+              moment notes index good short key1 plain1 stands_at missing subkeys2 count_is users users_are recounts
 
           calm-below : (z : ℕ) → 0 < total (owns z) was.below → h4 z ≡ h0 z
-          calm-below = cells.calm-below h0 h1 h2 h3 h4 root keys first p parent plan list_cell key left w unrooted at others1 there1 count1 list1 moves name moment notes index good short key1 plain1 stands_at missing subkeys2 count_is users users_are recounts
+          calm-below = cells.calm-below h0 h1 h2 h3 h4 root keys first p parent plan list_cell key left w unrooted at others1 there1 count1 list1
+              moves name moment notes index good short key1 plain1 stands_at missing subkeys2 count_is users users_are recounts
 
           pub calm-class : (z : ℕ) → 0 < owned z looked.class_cells → h4 z ≡ h0 z
-          calm-class = cells.calm-class h0 h1 h2 h3 h4 root keys first p parent plan list_cell key left w unrooted at others1 there1 count1 list1 moves name moment notes index good short key1 plain1 stands_at missing subkeys2 count_is users users_are recounts
+          calm-class = cells.calm-class h0 h1 h2 h3 h4 root keys first p parent plan list_cell key left w unrooted at others1 there1 count1 list1
+              moves name moment notes index good short key1 plain1 stands_at missing subkeys2 count_is users users_are recounts
 
           pub calm-values : (z : ℕ) → 0 < owned z looked.value_cells → h4 z ≡ h0 z
-          calm-values = cells.calm-values h0 h1 h2 h3 h4 root keys first p parent plan list_cell key left w unrooted at others1 there1 count1 list1 moves name moment notes index good short key1 plain1 stands_at missing subkeys2 count_is users users_are recounts
+          calm-values = cells.calm-values h0 h1 h2 h3 h4 root keys first p parent plan list_cell key left w unrooted at others1 there1 count1 list1
+              moves name moment notes index good short key1 plain1 stands_at missing subkeys2 count_is users users_are recounts
 
           abbrev new_above : KeyRecord
           new_above = noted_subkeys count1 list1 (length name) moment above
 
           key-noted : key_at h3 P ≡ Some new_above
-          key-noted = cells.key-noted h0 h1 h2 h3 h4 root keys first p parent plan list_cell key left w unrooted at others1 there1 count1 list1 moves name moment notes index good short key1 plain1 stands_at missing subkeys2 count_is users users_are recounts
+          key-noted = cells.key-noted h0 h1 h2 h3 h4 root keys first p parent plan list_cell key left w unrooted at others1 there1 count1 list1 moves
+              name moment notes index good short key1 plain1 stands_at missing subkeys2 count_is users users_are recounts
 
           pub key-now : key_at h4 P ≡ Some new_above
-          key-now = cells.key-now h0 h1 h2 h3 h4 root keys first p parent plan list_cell key left w unrooted at others1 there1 count1 list1 moves name moment notes index good short key1 plain1 stands_at missing subkeys2 count_is users users_are recounts
+          key-now = cells.key-now h0 h1 h2 h3 h4 root keys first p parent plan list_cell key left w unrooted at others1 there1 count1 list1 moves
+              name moment notes index good short key1 plain1 stands_at missing subkeys2 count_is users users_are recounts
 
           pub plain-now : IsPlainKey (held h4 P)
-          plain-now = cells.plain-now h0 h1 h2 h3 h4 root keys first p parent plan list_cell key left w unrooted at others1 there1 count1 list1 moves name moment notes index good short key1 plain1 stands_at missing subkeys2 count_is users users_are recounts
+          plain-now = cells.plain-now h0 h1 h2 h3 h4 root keys first p parent plan list_cell key left w unrooted at others1 there1 count1 list1 moves
+              name moment notes index good short key1 plain1 stands_at missing subkeys2 count_is users users_are recounts
 
           abbrev made : Node
           made = made_node key (made_record parent security moment name)
 
           made-is : IsSeen h4 root key made
-          made-is = cells.made-is h0 h1 h2 h3 h4 root keys first p parent plan list_cell key left w unrooted at others1 there1 count1 list1 moves name moment notes index good short key1 plain1 stands_at missing subkeys2 count_is users users_are recounts
+          made-is = cells.made-is h0 h1 h2 h3 h4 root keys first p parent plan list_cell key left w unrooted at others1 there1 count1 list1 moves
+              name moment notes index good short key1 plain1 stands_at missing subkeys2 count_is users users_are recounts
 
           pub subkeys4 : AreSubkeys h4 count1 list1 entries1
-          subkeys4 = cells.subkeys4 h0 h1 h2 h3 h4 root keys first p parent plan list_cell key left w unrooted at others1 there1 count1 list1 moves name moment notes index good short key1 plain1 stands_at missing subkeys2 count_is users users_are recounts
+          subkeys4 = cells.subkeys4 h0 h1 h2 h3 h4 root keys first p parent plan list_cell key left w unrooted at others1 there1 count1 list1 moves
+              name moment notes index good short key1 plain1 stands_at missing subkeys2 count_is users users_are recounts
 
           abbrev now : Node
           now = reindexed h0 h4 root P node seen looked count1 list1 (length name) moment entries1 key-now plain-now calm-class calm-values subkeys4
 
           now-is : IsSeen h4 root P now
-          now-is = cells.now-is h0 h1 h2 h3 h4 root keys first p parent plan list_cell key left w unrooted at others1 there1 count1 list1 moves name moment notes index good short key1 plain1 stands_at missing subkeys2 count_is users users_are recounts
+          now-is = cells.now-is h0 h1 h2 h3 h4 root keys first p parent plan list_cell key left w unrooted at others1 there1 count1 list1 moves name
+              moment notes index good short key1 plain1 stands_at missing subkeys2 count_is users users_are recounts
 
           raised-is : raised above.fields.largest_subkey_name (2 * length name) % 65536 ≡ max (above.fields.largest_subkey_name % 65536) (2 * length name)
-          raised-is = cells.raised-is h0 h1 h2 h3 h4 root keys first p parent plan list_cell key left w unrooted at others1 there1 count1 list1 moves name moment notes index good short key1 plain1 stands_at missing subkeys2 count_is users users_are recounts
+          raised-is = cells.raised-is h0 h1 h2 h3 h4 root keys first p parent plan list_cell key left w unrooted at others1 there1 count1 list1 moves
+              name moment notes index good short key1 plain1 stands_at missing subkeys2 count_is users users_are recounts
 
           ordered-before : AllByRecursion (λ (e : ℕ × Node). Precedes e.1.key.name name) (take index (heads was.below))
           ordered-before =
@@ -203,11 +216,11 @@ module _ (h0 h1 h2 h3 h4 : Heap) (root : ℕ) (keys : Branch Node) (first : ℕ)
           its-name = ap name_or_none key1
 
           fits-now : Fits P now (heads (hang index key made was.below))
-          fits-now = fits-hung P index key node now made (entry_for h1 key) (index-entries h4 count1 list1 entries1 subkeys4) refl (ap hash its-name) (sym place)
+          fits-now = fits-hung P index key node now made (entry_for h1 key) (index-entries h4 count1 list1 entries1 subkeys4) refl (ap hash its-name) (sym offset)
               (let r = raised-is in omega (arith, r)) (let r = raised-is in omega (arith, r)) (omega arith) (omega arith) was.below ordered-before ordered-behind stands0.1
 
           abbrev is : Branch Node
-          is = record { place = P; node = now; below = hang index key made was.below }
+          is = record { offset = P; node = now; below = hang index key made was.below }
 
           stands-now : StandsIn h4 root is
           stands-now = stands-hung h0 h4 root was now index now-is stands0.2 key made fits-now made-is refl calm-below
@@ -276,7 +289,7 @@ module _ (h0 h1 h2 h3 h4 : Heap) (root : ℕ) (keys : Branch Node) (first : ℕ)
 
           pub grafts : IsGrafted h0 h4 root was is first [] spare left
           grafts = record {
-            place = refl;
+            offset = refl;
             alike = record { name = refl; parent = refl; class_length = refl };
             stands = stands-now;
             count = count-now;

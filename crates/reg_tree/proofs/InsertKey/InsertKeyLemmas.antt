@@ -16,12 +16,12 @@ use Rattle.reg_index.specs.declared.plan.TheConstants.{FIRST_LIST_SIZE}
 use Rattle.reg_records.specs.RecordCells.{held}
 use Rattle.reg_records.specs.KeyNodes.{KeyRecord, key_at, IsPlainKey}
 use Rattle.reg_records.specs.KeySecurities.{KeySecurityRecord, security_at}
-use Rattle.reg_records.specs.SubkeyLists.{Entry, places_in}
+use Rattle.reg_records.specs.SubkeyLists.{Entry, offsets_in}
 use Rattle.reg_shape.specs.Nodes.{Node, entries_of}
 use Rattle.reg_shape.specs.Internal.Shapes.{descriptor_in, tree_of, IsSeen, StandsIn}
 use Rattle.reg_shape.specs.Spelt.{rec_of}
 use Rattle.reg_shape.specs.Internal.Grafts.{IsShape, IsGrafted, branch_at, graft_at, hang}
-use Rattle.reg_shape.specs.PathLookup.{place_at, key_named, subkey_named}
+use Rattle.reg_shape.specs.PathLookup.{key_offset_at, key_named, subkey_named}
 use Rattle.reg_records.proofs.KeyNodeCodec.{key_at-same}
 use Rattle.reg_shape.proofs.Walking.WalkRefinement.{IsLooked}
 use Rattle.reg_shape.proofs.Graft.ForestInsert.{total-hang}
@@ -29,9 +29,9 @@ use Rattle.reg_shape.proofs.Graft.ForestInsertFits.{deep-hung}
 use Rattle.reg_shape.proofs.Refinement.RefinementAfterEdit.{same_path}
 use Rattle.reg_shape.proofs.Graft.WholeAfterGraft.{grafted, graft-total}
 use Rattle.reg_shape.proofs.Refinement.RefinementAfterGraft.{tree-hung}
-use Rattle.reg_shape.proofs.Lookup.LookupAfterGraft.{places-hung}
-use Rattle.reg_shape.proofs.Lookup.LookupOfShape.{placed, place-more}
-use Rattle.reg_index.specs.Subkeys.{AreSubkeys, IsPlace, Moves, names_in, entry_for, with_one, own, taken, insert_size}
+use Rattle.reg_shape.proofs.Lookup.LookupAfterGraft.{offsets-hung}
+use Rattle.reg_shape.proofs.Lookup.LookupOfShape.{placed, offset-more}
+use Rattle.reg_index.specs.Subkeys.{AreSubkeys, IsIndexFor, Moves, names_in, entry_for, with_one, own, taken, insert_size}
 use Rattle.reg_index.proofs.RefinementOfSubkeys.{index_for}
 use Rattle.reg_tree.specs.Internal.KeyNodeChanges.{Notes, Recounts, noted_subkeys}
 use Rattle.reg_tree.specs.TreeInvariant.{is_rooted, rooted}
@@ -45,7 +45,7 @@ use Rattle.reg_tree.proofs.InsertKey.InsertKeyGraft as grafting
 
 module _ (h0 h1 h2 h3 h4 : Heap) (root : ℕ) (keys : Branch Node) (first : ℕ) (p : Path) (parent : ℕ)
     (plan : Option ℕ) (list_cell key : ℕ) (left : List ℕ)
-    (w : IsShape h0 root keys first [] (taken plan list_cell ++ key ∷ left)) (unrooted : total_of rooted keys ≡ 0) (at : place_at h0 root p ≡ Some parent) where
+    (w : IsShape h0 root keys first [] (taken plan list_cell ++ key ∷ left)) (unrooted : total_of rooted keys ≡ 0) (at : key_offset_at h0 root p ≡ Some parent) where
   abbrev spare : List ℕ
   spare = taken plan list_cell ++ key ∷ left
 
@@ -61,14 +61,14 @@ module _ (h0 h1 h2 h3 h4 : Heap) (root : ℕ) (keys : Branch Node) (first : ℕ)
   abbrev entries : List Entry
   entries = entries_of node.index
 
-  abbrev looked : IsLooked h0 was.place node
+  abbrev looked : IsLooked h0 was.offset node
   looked = cells.looked h0 h1 h2 h3 h4 root keys first p parent plan list_cell key left w unrooted at
 
-  abbrev seen : IsSeen h0 root was.place node
+  abbrev seen : IsSeen h0 root was.offset node
   seen = cells.seen h0 h1 h2 h3 h4 root keys first p parent plan list_cell key left w unrooted at
 
-  place : was.place ≡ parent
-  place = cells.place h0 h1 h2 h3 h4 root keys first p parent plan list_cell key left w unrooted at
+  offset : was.offset ≡ parent
+  offset = cells.offset h0 h1 h2 h3 h4 root keys first p parent plan list_cell key left w unrooted at
 
   abbrev stands0 : StandsIn h0 root was
   stands0 = keyed.stands h0 root keys first [] spare w p parent at
@@ -79,12 +79,12 @@ module _ (h0 h1 h2 h3 h4 : Heap) (root : ℕ) (keys : Branch Node) (first : ℕ)
   module _ (others1 : (z : ℕ) → z ≢ key → h1 z ≡ h0 z) (there1 : IsSome (h1 key)) where
     module _ (count1 list1 : ℕ) (moves : Moves h1 h2 (old_list ++ taken plan list_cell) (own count1 list1)) where
       abbrev P : ℕ
-      P = was.place
+      P = was.offset
 
       module _ (name : List ℕ) (moment : ℕ) (notes : Notes h2 h3 parent (noted_subkeys count1 list1 (length name) moment)) where
         module _ (index : ℕ) (good : is_key_name name ≡ true) (short : length name ≤ KEY_NAME_LIMIT)
             (key1 : key_at h1 key ≡ Some (made_record parent above.fields.security moment name)) (plain1 : IsPlainKey (held h1 key))
-            (stands_at : IsPlace (names_in h0 entries) (folded name) (Err index)) (missing : subkey_named h0 (folded name) parent ≡ None)
+            (stands_at : IsIndexFor (names_in h0 entries) (folded name) (Err index)) (missing : subkey_named h0 (folded name) parent ≡ None)
             (subkeys2 : AreSubkeys h2 count1 list1 (with_one index (entry_for h1 key) entries)) (count_is : count1 ≡ above.fields.subkeys + 1)
             (users : ℕ) (users_are : (s : KeySecurityRecord) → security_at h0 above.fields.security ≡ Some s → users ≡ s.fields.count + 1)
             (recounts : Recounts h3 h4 above.fields.security (λ n. users)) where
@@ -95,43 +95,52 @@ module _ (h0 h1 h2 h3 h4 : Heap) (root : ℕ) (keys : Branch Node) (first : ℕ)
           entries1 = with_one index (entry_for h1 key) entries
 
           pub calm-class : (z : ℕ) → 0 < owned z looked.class_cells → h4 z ≡ h0 z
-          calm-class = cells.calm-class h0 h1 h2 h3 h4 root keys first p parent plan list_cell key left w unrooted at others1 there1 count1 list1 moves name moment notes index good short key1 plain1 stands_at missing subkeys2 count_is users users_are recounts
+          calm-class = cells.calm-class h0 h1 h2 h3 h4 root keys first p parent plan list_cell key left w unrooted at others1 there1 count1 list1
+              moves name moment notes index good short key1 plain1 stands_at missing subkeys2 count_is users users_are recounts
 
           pub calm-values : (z : ℕ) → 0 < owned z looked.value_cells → h4 z ≡ h0 z
-          calm-values = cells.calm-values h0 h1 h2 h3 h4 root keys first p parent plan list_cell key left w unrooted at others1 there1 count1 list1 moves name moment notes index good short key1 plain1 stands_at missing subkeys2 count_is users users_are recounts
+          calm-values = cells.calm-values h0 h1 h2 h3 h4 root keys first p parent plan list_cell key left w unrooted at others1 there1 count1 list1
+              moves name moment notes index good short key1 plain1 stands_at missing subkeys2 count_is users users_are recounts
 
           abbrev new_above : KeyRecord
           new_above = noted_subkeys count1 list1 (length name) moment above
 
           pub key-now : key_at h4 P ≡ Some new_above
-          key-now = cells.key-now h0 h1 h2 h3 h4 root keys first p parent plan list_cell key left w unrooted at others1 there1 count1 list1 moves name moment notes index good short key1 plain1 stands_at missing subkeys2 count_is users users_are recounts
+          key-now = cells.key-now h0 h1 h2 h3 h4 root keys first p parent plan list_cell key left w unrooted at others1 there1 count1 list1 moves
+              name moment notes index good short key1 plain1 stands_at missing subkeys2 count_is users users_are recounts
 
           pub plain-now : IsPlainKey (held h4 P)
-          plain-now = cells.plain-now h0 h1 h2 h3 h4 root keys first p parent plan list_cell key left w unrooted at others1 there1 count1 list1 moves name moment notes index good short key1 plain1 stands_at missing subkeys2 count_is users users_are recounts
+          plain-now = cells.plain-now h0 h1 h2 h3 h4 root keys first p parent plan list_cell key left w unrooted at others1 there1 count1 list1 moves
+              name moment notes index good short key1 plain1 stands_at missing subkeys2 count_is users users_are recounts
 
           key-calm : h4 key ≡ h1 key
-          key-calm = cells.key-calm h0 h1 h2 h3 h4 root keys first p parent plan list_cell key left w unrooted at others1 there1 count1 list1 moves name moment notes index good short key1 plain1 stands_at missing subkeys2 count_is users users_are recounts
+          key-calm = cells.key-calm h0 h1 h2 h3 h4 root keys first p parent plan list_cell key left w unrooted at others1 there1 count1 list1 moves
+              name moment notes index good short key1 plain1 stands_at missing subkeys2 count_is users users_are recounts
 
           abbrev made : Node
           made = made_node key (made_record parent security moment name)
 
           made-is : IsSeen h4 root key made
-          made-is = cells.made-is h0 h1 h2 h3 h4 root keys first p parent plan list_cell key left w unrooted at others1 there1 count1 list1 moves name moment notes index good short key1 plain1 stands_at missing subkeys2 count_is users users_are recounts
+          made-is = cells.made-is h0 h1 h2 h3 h4 root keys first p parent plan list_cell key left w unrooted at others1 there1 count1 list1 moves
+              name moment notes index good short key1 plain1 stands_at missing subkeys2 count_is users users_are recounts
 
           pub subkeys4 : AreSubkeys h4 count1 list1 entries1
-          subkeys4 = cells.subkeys4 h0 h1 h2 h3 h4 root keys first p parent plan list_cell key left w unrooted at others1 there1 count1 list1 moves name moment notes index good short key1 plain1 stands_at missing subkeys2 count_is users users_are recounts
+          subkeys4 = cells.subkeys4 h0 h1 h2 h3 h4 root keys first p parent plan list_cell key left w unrooted at others1 there1 count1 list1 moves
+              name moment notes index good short key1 plain1 stands_at missing subkeys2 count_is users users_are recounts
 
           abbrev now : Node
           now = reindexed h0 h4 root P node seen looked count1 list1 (length name) moment entries1 key-now plain-now calm-class calm-values subkeys4
 
           abbrev is : Branch Node
-          is = record { place = P; node = now; below = hang index key made was.below }
+          is = record { offset = P; node = now; below = hang index key made was.below }
 
           grafts : IsGrafted h0 h4 root was is first [] spare left
-          grafts = grafting.grafts h0 h1 h2 h3 h4 root keys first p parent plan list_cell key left w unrooted at others1 there1 count1 list1 moves name moment notes index good short key1 plain1 stands_at missing subkeys2 count_is users users_are recounts
+          grafts = grafting.grafts h0 h1 h2 h3 h4 root keys first p parent plan list_cell key left w unrooted at others1 there1 count1 list1 moves
+              name moment notes index good short key1 plain1 stands_at missing subkeys2 count_is users users_are recounts
 
           spare-made : (z : ℕ) → 0 < times z left → h4 z ≡ h0 z
-          spare-made = grafting.spare-made h0 h1 h2 h3 h4 root keys first p parent plan list_cell key left w unrooted at others1 there1 count1 list1 moves name moment notes index good short key1 plain1 stands_at missing subkeys2 count_is users users_are recounts
+          spare-made = grafting.spare-made h0 h1 h2 h3 h4 root keys first p parent plan list_cell key left w unrooted at others1 there1 count1 list1
+              moves name moment notes index good short key1 plain1 stands_at missing subkeys2 count_is users users_are recounts
 
           -- ---- what stands then
 
@@ -157,10 +166,10 @@ module _ (h0 h1 h2 h3 h4 : Heap) (root : ℕ) (keys : Branch Node) (first : ℕ)
           free =
               none-mapped (branch_at (folded name ∷ []) was)
               (sym (placed h0 root was (folded name ∷ []) stands0)
-              ∙ (place-more h0 P (folded name) []
-              ∙ ap (option_and_then (λ c. place_at h0 c [])) (subst (λ o. subkey_named h0 (folded name) o ≡ None) (sym place) missing)))
+              ∙ (offset-more h0 P (folded name) []
+              ∙ ap (option_and_then (λ c. key_offset_at h0 c [])) (subst (λ o. subkey_named h0 (folded name) o ≡ None) (sym offset) missing)))
             where
-              none-mapped : (o : Option (Branch Node)) → option_map (λ (b : Branch Node). b.place) o ≡ None → o ≡ None
+              none-mapped : (o : Option (Branch Node)) → option_map (λ (b : Branch Node). b.offset) o ≡ None → o ≡ None
               none-mapped None e = refl
               none-mapped (Some b) e = absurd (none-some _ (sym e))
 
@@ -176,8 +185,8 @@ module _ (h0 h1 h2 h3 h4 : Heap) (root : ℕ) (keys : Branch Node) (first : ℕ)
               ∙ (ap (λ (t : Tree). insert t (p ++ folded name ∷ []) (made_key name (descriptor_in h0 security) moment)) (sym (edited-at (tree_of h0 keys) p rec_above (at_time moment) above-there))
               ∙ ap (λ (o : Option Rec). insert (edited (tree_of h0 keys) p (at_time moment)) (p ++ folded name ∷ []) (made_key name (descriptor_of o) moment)) (sym above-there))
 
-          pub places-made : (q : Path) → place_at h4 root q ≡ cond (same_path q (p ++ folded name ∷ [])) (Some key) (place_at h0 root q)
-          places-made = places-hung h0 h4 root p keys was is first [] spare left (keyed.branch_is h0 root keys first [] spare w p parent at) grafts w index key made (folded name) refl refl free
+          pub offsets-made : (q : Path) → key_offset_at h4 root q ≡ cond (same_path q (p ++ folded name ∷ [])) (Some key) (key_offset_at h0 root q)
+          offsets-made = offsets-hung h0 h4 root p keys was is first [] spare left (keyed.branch_is h0 root keys first [] spare w p parent at) grafts w index key made (folded name) refl refl free
 
           pub grows : length p < PATH_LIMIT → Grows h0 h4 root p keys first key left name moment
           unfolding insert_size
@@ -186,8 +195,8 @@ module _ (h0 h1 h2 h3 h4 : Heap) (root : ℕ) (keys : Branch Node) (first : ℕ)
             shape = shape-made (omega (arith, deep));
             unrooted = unrooted-made;
             tree = tree-made;
-            places =
-                places-made;
+            offsets =
+                offsets-made;
             spare = spare-made;
             childless = childless;
             unlisted = unlisted;
@@ -198,7 +207,7 @@ module _ (h0 h1 h2 h3 h4 : Heap) (root : ℕ) (keys : Branch Node) (first : ℕ)
               key4 = key_at-same h1 h4 key key-calm ∙ key1
 
               childless : (x : List ℕ) → subkey_named h4 x key ≡ None
-              childless x = ap (option_and_then (λ (node : Node). key_named h4 x (places_in (entries_of node.index)))) made-is.reads
+              childless x = ap (option_and_then (λ (node : Node). key_named h4 x (offsets_in (entries_of node.index)))) made-is.reads
 
               unlisted : planned h4 key ≡ Some FIRST_LIST_SIZE
               unlisted = ap (option_and_then (λ (k : KeyRecord). insert_size h4 k.fields.subkeys k.fields.subkeys_list)) key4

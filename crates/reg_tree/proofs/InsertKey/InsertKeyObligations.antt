@@ -18,7 +18,7 @@ use Rattle.reg_shape.specs.Nodes.{Node, entries_of}
 use Rattle.reg_shape.specs.PathLookup.{subkey_named}
 use Rattle.reg_records.proofs.KeyNodeCodec.{key_at-same}
 use Rattle.reg_shape.proofs.Frame.WrittenFrame.{same-held}
-use Rattle.reg_index.specs.Subkeys.{AreSubkeys, IsPlace, IsReady, Moves, names_in, name_at, name_or_none, entry_for, with_one, own, taken, insert_size}
+use Rattle.reg_index.specs.Subkeys.{AreSubkeys, IsIndexFor, IsReady, Moves, names_in, name_at, name_or_none, entry_for, with_one, own, taken, insert_size}
 use Rattle.reg_tree.specs.Internal.KeyNodeChanges.{Notes, Recounts, noted_subkeys, made_fields}
 use Rattle.reg_tree.specs.Internal.SpareCells.{planned, IsGrowing, MayGrow, Grows}
 use Rattle.reg_tree.proofs.Invariant.CellReadings.{is_some_of}
@@ -88,11 +88,11 @@ module _ (bytes : List ℕ) (parent list_cell key : ℕ) (name left : List ℕ) 
     some_subkeys = (entries, subkeys0)
 
     -- the name is none of a subkey's
-    pub not_found : (index : ℕ) → ((es : List Entry) → AreSubkeys h fields.subkeys fields.subkeys_list es → IsPlace (names_in h es) (folded name) (Ok index)) → ⊥
+    pub not_found : (index : ℕ) → ((es : List Entry) → AreSubkeys h fields.subkeys fields.subkeys_list es → IsIndexFor (names_in h es) (folded name) (Ok index)) → ⊥
     not_found index find =
         let b = keyed.branch h g.root g.keys g.first [] spare g.shape g.path parent g.at in
         let found = named-ok h g.root b (keyed.stands h g.root g.keys g.first [] spare g.shape g.path parent g.at) (folded name) index subkeys0.rising (find entries subkeys0) in
-        let none = subst (λ o. subkey_named h (folded name) o ≡ None) (sym (keyed.place h g.root g.keys g.first [] spare g.shape g.path parent g.at)) m.missing in
+        let none = subst (λ o. subkey_named h (folded name) o ≡ None) (sym (keyed.offset h g.root g.keys g.first [] spare g.shape g.path parent g.at)) m.missing in
         none-some _ (sym none ∙ found)
 
     pub few_subkeys : fields.subkeys < SUBKEYS_LIMIT
@@ -112,13 +112,13 @@ module _ (bytes : List ℕ) (parent list_cell key : ℕ) (name left : List ℕ) 
       its_name : name_at h1 key ≡ name
       its_name = ap name_or_none key1
 
-      pub inserts : (index : ℕ) → ((es : List Entry) → AreSubkeys h fields.subkeys fields.subkeys_list es → IsPlace (names_in h es) (folded name) (Err index))
-          → (es : List Entry) × AreSubkeys h1 fields.subkeys fields.subkeys_list es × IsPlace (names_in h1 es) (folded (name_at h1 key)) (Err index)
+      pub inserts : (index : ℕ) → ((es : List Entry) → AreSubkeys h fields.subkeys fields.subkeys_list es → IsIndexFor (names_in h es) (folded name) (Err index))
+          → (es : List Entry) × AreSubkeys h1 fields.subkeys fields.subkeys_list es × IsIndexFor (names_in h1 es) (folded (name_at h1 key)) (Err index)
       inserts index find = (
         entries,
         subkeys1,
-        subst (λ n. IsPlace (names_in h1 entries) (folded n) (Err index)) (sym its_name)
-            (subst (λ ns. IsPlace ns (folded name) (Err index))
+        subst (λ n. IsIndexFor (names_in h1 entries) (folded n) (Err index)) (sym its_name)
+            (subst (λ ns. IsIndexFor ns (folded name) (Err index))
             (sym (frame.names1 h h1 h1 h1 h1 g.root g.keys g.first g.path parent plan list_cell key left g.shape g.unrooted g.at others1 there1))
             (find entries subkeys0)),
       )
@@ -169,7 +169,7 @@ module _ (bytes : List ℕ) (parent list_cell key : ℕ) (name left : List ℕ) 
 
         pub parent2 : IsSome (key_at h2 parent)
         parent2 =
-            subst (λ o. IsSome (key_at h2 o)) (keyed.place h g.root g.keys g.first [] spare g.shape g.path parent g.at)
+            subst (λ o. IsSome (key_at h2 o)) (keyed.offset h g.root g.keys g.first [] spare g.shape g.path parent g.at)
             (is_some_of _ _ (frame.P-then h h1 h2 h2 h2 g.root g.keys g.first g.path parent plan list_cell key left g.shape g.unrooted g.at others1 there1 count1 list1 moved))
 
         module _ (h3 : Heap) (moment : ℕ) (notes : Notes h2 h3 parent (noted_subkeys count1 list1 (length name) moment)) where
@@ -177,11 +177,12 @@ module _ (bytes : List ℕ) (parent list_cell key : ℕ) (name left : List ℕ) 
           security3 =
               subst (λ (f : KeyFields). IsSome (security_at h3 f.security)) fields_are
               (subst (λ s. IsSome (security_at h3 s)) (sym security_is)
-              (is_some_of _ _ (frame.first-there h h1 h2 h3 h3 g.root g.keys g.first g.path parent plan list_cell key left g.shape g.unrooted g.at others1 there1 count1 list1 moved name moment notes)))
+              (is_some_of _ _ (frame.first-there h h1 h2 h3 h3 g.root g.keys g.first g.path parent plan list_cell key left g.shape g.unrooted g.at
+              others1 there1 count1 list1 moved name moment notes)))
 
           module _ (h4 : Heap) (good : is_key_name name ≡ true) (short : length name ≤ KEY_NAME_LIMIT) (made_so : new_fields ≡ made_fields parent fields.security moment)
               (plain1 : IsPlainKey (held h1 key))
-              (index : ℕ) (find : (es : List Entry) → AreSubkeys h fields.subkeys fields.subkeys_list es → IsPlace (names_in h es) (folded name) (Err index))
+              (index : ℕ) (find : (es : List Entry) → AreSubkeys h fields.subkeys fields.subkeys_list es → IsIndexFor (names_in h es) (folded name) (Err index))
               (subkeys2 : (es : List Entry) → AreSubkeys h1 fields.subkeys fields.subkeys_list es →
               AreSubkeys h2 count1 list1 (with_one index (entry_for h1 key) es)) (count2 : count1 ≡ fields.subkeys + 1)
               (users : ℕ) (users_are : (s : KeySecurityRecord) → security_at h fields.security ≡ Some s → users ≡ s.fields.count + 1) (recounts : Recounts h3 h4 fields.security (λ n. users)) where

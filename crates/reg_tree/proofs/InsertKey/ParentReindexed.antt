@@ -13,7 +13,7 @@ use Rattle.reg_shape.specs.Internal.Forests.{Forest, Branch, heads, Stand}
 use Rattle.reg_shape.specs.Internal.Forests.Forest.{End, Rooted as Hangs}
 use Rattle.reg_records.specs.RecordCells.{held}
 use Rattle.reg_records.specs.KeyNodes.{KeyRecord, key_at, IsPlainKey}
-use Rattle.reg_records.specs.SubkeyLists.{SubkeysList, Form, Entry, places_in}
+use Rattle.reg_records.specs.SubkeyLists.{SubkeysList, Form, Entry, offsets_in}
 use Rattle.reg_records.specs.declared.lists.ListForm.TheVariants.{IndexRoot, IndexLeaf, FastLeaf, HashLeaf}
 use Rattle.reg_records.specs.BigData.{if_any}
 use Rattle.reg_shape.specs.Nodes.{Node, KeyList, Index, members_at, list_at, key_lists_at, index_as, index_at, entries_of, node_of, node_in, met_of, look}
@@ -47,21 +47,21 @@ shared-list z (suc count) list entries = refl
 pub shared-single : (z : ℕ) (index : Index) → IsSingle index → ◌≡◌ {A = ℕ} (shared z (index_cells index)) 0
 shared-single z Unlisted s = refl
 shared-single z (Listed list) s = refl
-shared-single z (Rooted place lists) s = absurd s
+shared-single z (Rooted offset lists) s = absurd s
 
 -- ---- a key's subkeys changed: `h` before, `k` when that was noted in the key node
 
-module _ (h k : Heap) (root place : ℕ) (node : Node) (seen : IsSeen h root place node) (l : IsLooked h place node) (count list name moment : ℕ) (entries : List Entry)
-    (key-now : key_at k place ≡ Some (noted_subkeys count list name moment node.key)) (plain-now : IsPlainKey (held k place))
+module _ (h k : Heap) (root offset : ℕ) (node : Node) (seen : IsSeen h root offset node) (l : IsLooked h offset node) (count list name moment : ℕ) (entries : List Entry)
+    (key-now : key_at k offset ≡ Some (noted_subkeys count list name moment node.key)) (plain-now : IsPlainKey (held k offset))
     (class-calm : Keeps h k l.class_cells) (values-calm : Keeps h k l.value_cells) (subkeys : AreSubkeys k count list entries) where
   abbrev new_key : KeyRecord
   new_key = noted_subkeys count list name moment node.key
 
   -- the key as it is after the change
   abbrev pub reindexed : Node
-  reindexed = record { key = new_key; class = node.class; values = node.values; cells = met_of place new_key l.class_cells l.value_cells; index = index_for count list entries }
+  reindexed = record { key = new_key; class = node.class; values = node.values; cells = met_of offset new_key l.class_cells l.value_cells; index = index_for count list entries }
 
-  pub looks-reindexed : look k place ≡ Some reindexed
+  pub looks-reindexed : look k offset ≡ Some reindexed
   unfolding look
   looks-reindexed =
       let key = node.key in
@@ -71,16 +71,16 @@ module _ (h k : Heap) (root place : ℕ) (node : Node) (seen : IsSeen h root pla
       (agree-inner h k l.value_cells (members-inner h key.fields.values key.fields.values_list (node.values, l.value_cells) l.values_are)
       values-calm) in
       let index = subkeys-index k count list entries subkeys in
-      ap (option_and_then (node_in k place)) key-now
-      ∙ (ap (option_and_then (λ class. option_and_then (λ values. option_map (node_of place new_key class values) (index_at k count list))
+      ap (option_and_then (node_in k offset)) key-now
+      ∙ (ap (option_and_then (λ class. option_and_then (λ values. option_map (node_of offset new_key class values) (index_at k count list))
       (members_at key.fields.values key.fields.values_list k))) class
-      ∙ (ap (option_and_then (λ values. option_map (node_of place new_key (node.class, l.class_cells) values) (index_at k count list))) values
-      ∙ ap (option_map (node_of place new_key (node.class, l.class_cells) (node.values, l.value_cells))) index))
+      ∙ (ap (option_and_then (λ values. option_map (node_of offset new_key (node.class, l.class_cells) values) (index_at k count list))) values
+      ∙ ap (option_map (node_of offset new_key (node.class, l.class_cells) (node.values, l.value_cells))) index))
 
   number : count ≡ length (entries_of (index_for count list entries))
   number = sym (length-subkeys k count list entries subkeys.read) ∙ ap length (sym (index-entries k count list entries subkeys))
 
-  pub sees-reindexed : IsSeen k root place reindexed
+  pub sees-reindexed : IsSeen k root offset reindexed
   sees-reindexed =
       let w = seen.written in
       let few = subkeys.few in
@@ -110,14 +110,14 @@ module _ (h k : Heap) (root place : ℕ) (node : Node) (seen : IsSeen h root pla
   -- its own cells are what they were, but for the list
   pub owned-reindexed : (z : ℕ) → owned z (cells_of reindexed) + owned z (index_cells node.index) ≡ owned z (cells_of node) + owned z (index_cells (index_for count list entries))
   owned-reindexed z =
-      let a = ap (λ (found : List Found). owned z (found ++ index_cells node.index)) l.cells ∙ own-parts z place node.key l.class_cells l.value_cells node.index in
-      let b = own-parts z place new_key l.class_cells l.value_cells (index_for count list entries) in
+      let a = ap (λ (found : List Found). owned z (found ++ index_cells node.index)) l.cells ∙ own-parts z offset node.key l.class_cells l.value_cells node.index in
+      let b = own-parts z offset new_key l.class_cells l.value_cells (index_for count list entries) in
       omega (arith, a, b)
 
   pub shared-reindexed : IsSingle node.index → (z : ℕ) → shared z (cells_of reindexed) ≡ shared z (cells_of node)
   shared-reindexed single z =
-      let a = ap (λ (found : List Found). shared z (found ++ index_cells node.index)) l.cells ∙ shared-parts z place node.key l.class_cells l.value_cells node.index in
-      let b = shared-parts z place new_key l.class_cells l.value_cells (index_for count list entries) in
+      let a = ap (λ (found : List Found). shared z (found ++ index_cells node.index)) l.cells ∙ shared-parts z offset node.key l.class_cells l.value_cells node.index in
+      let b = shared-parts z offset new_key l.class_cells l.value_cells (index_for count list entries) in
       let c = shared-single z node.index single in
       let d = shared-list z count list entries in
       omega (arith, a, b, c, d)
@@ -130,7 +130,7 @@ AreLooked h below = AllByRecursion (λ (e : ℕ × Node). look h e.0 ≡ Some e.
 
 pub heads-looked : (h : Heap) (root : ℕ) (F : Forest Node) → Stand (IsSeen h root) Fits F → AreLooked h (heads F)
 heads-looked h root End a = tt
-heads-looked h root (Hangs place node below beside) a = (a.0.0.reads, heads-looked h root beside a.1)
+heads-looked h root (Hangs offset node below beside) a = (a.0.0.reads, heads-looked h root beside a.1)
 
 abbrev names_of : List (ℕ × Node) → List (List ℕ)
 names_of below = map (λ (e : ℕ × Node). e.1.key.name) below
@@ -143,32 +143,32 @@ rest-of x y xs ys e = cc
 
 -- entries name the keys below in order
 module _ (h : Heap) where
-  key-of : (place : ℕ) (node : Node) (e : Entry) → look h place ≡ Some node → place ≡ e.place → key_at h e.place ≡ Some node.key
-  key-of place node e l p = subst (λ o. key_at h o ≡ Some node.key) p (key-looked h place node l)
+  key-of : (offset : ℕ) (node : Node) (e : Entry) → look h offset ≡ Some node → offset ≡ e.offset → key_at h e.offset ≡ Some node.key
+  key-of offset node e l p = subst (λ o. key_at h o ≡ Some node.key) p (key-looked h offset node l)
 
-  keys-there : (below : List (ℕ × Node)) (entries : List Entry) → AreLooked h below → map (λ (e : ℕ × Node). e.0) below ≡ places_in entries →
-      AllByRecursion (λ (e : Entry). IsSome (key_at h e.place)) entries
+  keys-there : (below : List (ℕ × Node)) (entries : List Entry) → AreLooked h below → map (λ (e : ℕ × Node). e.0) below ≡ offsets_in entries →
+      AllByRecursion (λ (e : Entry). IsSome (key_at h e.offset)) entries
   keys-there below [] a p = tt
   keys-there [] (e ∷ entries) a p = absurd (let n = ap length p in omega (arith, n))
-  keys-there ((place, node) ∷ below) (e ∷ entries) a p =
-      (is_some_of _ _ (key-of place node e a.0 (first-of _ _ _ _ p)), keys-there below entries a.1 (rest-of _ _ _ _ p))
+  keys-there ((offset, node) ∷ below) (e ∷ entries) a p =
+      (is_some_of _ _ (key-of offset node e a.0 (first-of _ _ _ _ p)), keys-there below entries a.1 (rest-of _ _ _ _ p))
 
-  names-there : (below : List (ℕ × Node)) (entries : List Entry) → AreLooked h below → map (λ (e : ℕ × Node). e.0) below ≡ places_in entries → names_in h entries ≡ map folded (names_of below)
+  names-there : (below : List (ℕ × Node)) (entries : List Entry) → AreLooked h below → map (λ (e : ℕ × Node). e.0) below ≡ offsets_in entries → names_in h entries ≡ map folded (names_of below)
   names-there [] [] a p = refl
-  names-there ((place, node) ∷ below) [] a p = absurd (let n = ap length p in omega (arith, n))
+  names-there ((offset, node) ∷ below) [] a p = absurd (let n = ap length p in omega (arith, n))
   names-there [] (e ∷ entries) a p = absurd (let n = ap length p in omega (arith, n))
-  names-there ((place, node) ∷ below) (e ∷ entries) a p =
-      let one : name_at h e.place ≡ node.key.name = ap name_or_none (key-of place node e a.0 (first-of _ _ _ _ p)) in
+  names-there ((offset, node) ∷ below) (e ∷ entries) a p =
+      let one : name_at h e.offset ≡ node.key.name = ap name_or_none (key-of offset node e a.0 (first-of _ _ _ _ p)) in
       let more = names-there below entries a.1 (rest-of _ _ _ _ p) in
       λ i. folded (one i) ∷ more i
 
-  hashes-there : (below : List (ℕ × Node)) (entries : List Entry) → AreLooked h below → map (λ (e : ℕ × Node). e.0) below ≡ places_in entries →
+  hashes-there : (below : List (ℕ × Node)) (entries : List Entry) → AreLooked h below → map (λ (e : ℕ × Node). e.0) below ≡ offsets_in entries →
       map (λ (e : ℕ × Node). hash e.1.key.name) below ≡ map (λ (e : Entry). e.hint) entries
-      → AllByRecursion (λ (e : Entry). e.hint ≡ hash (name_at h e.place)) entries
+      → AllByRecursion (λ (e : Entry). e.hint ≡ hash (name_at h e.offset)) entries
   hashes-there below [] a p q = tt
   hashes-there [] (e ∷ entries) a p q = absurd (let n = ap length p in omega (arith, n))
-  hashes-there ((place, node) ∷ below) (e ∷ entries) a p q =
-      let one : name_at h e.place ≡ node.key.name = ap name_or_none (key-of place node e a.0 (first-of _ _ _ _ p)) in
+  hashes-there ((offset, node) ∷ below) (e ∷ entries) a p q =
+      let one : name_at h e.offset ≡ node.key.name = ap name_or_none (key-of offset node e a.0 (first-of _ _ _ _ p)) in
       (sym (first-of _ _ _ _ q) ∙ ap hash (sym one), hashes-there below entries a.1 (rest-of _ _ _ _ p) (rest-of _ _ _ _ q))
 
 all-names : (P : List ℕ → Type 0) (below : List (ℕ × Node)) → AllByRecursion (λ (e : ℕ × Node). P e.1.key.name) below → AllByRecursion P (names_of below)
@@ -182,13 +182,13 @@ names-ordered (e ∷ below) a = (all-names (Precedes e.1.key.name) below a.0, na
 few-entries : (index : Index) → IsWrittenIndex index → IsSingle index → length (entries_of index) ≤ SUBKEYS_LIMIT
 few-entries Unlisted w s = omega arith
 few-entries (Listed list) w s = let few = w.few in let all = ap length (append-nil list.list.entries) in omega (arith, few, all)
-few-entries (Rooted place lists) w s = absurd s
+few-entries (Rooted offset lists) w s = absurd s
 
 -- a key whose subkeys stand in at most one list has these subkeys
-pub subkeys-below : (h : Heap) (root place : ℕ) (node : Node) (below : List (ℕ × Node)) → IsSeen h root place node → IsSingle node.index → Fits place node below → AreLooked h below
+pub subkeys-below : (h : Heap) (root offset : ℕ) (node : Node) (below : List (ℕ × Node)) → IsSeen h root offset node → IsSingle node.index → Fits offset node below → AreLooked h below
     → AreSubkeys h node.key.fields.subkeys node.key.fields.subkeys_list (entries_of node.index)
-subkeys-below h root place node below seen single fits looked =
-    let l = look-open h place node seen.reads in
+subkeys-below h root offset node below seen single fits looked =
+    let l = look-open h offset node seen.reads in
     let w = seen.written in
     let entries : List Entry = entries_of node.index in
     let few = few-entries node.index w.index single in
@@ -197,14 +197,14 @@ subkeys-below h root place node below seen single fits looked =
       read = index-subkeys h node.key.fields.subkeys node.key.fields.subkeys_list node.index l.index_is w.index single w.subkeys;
       few = omega (arith, few, number);
       unlisted = w.none;
-      keys = keys-there h below entries looked fits.places;
-      hashes = hashes-there h below entries looked fits.places fits.hashes;
-      rising = subst Rises (sym (names-there h below entries looked fits.places)) (rises-of (names_of below) (names-ordered below fits.order));
+      keys = keys-there h below entries looked fits.offsets;
+      hashes = hashes-there h below entries looked fits.offsets fits.hashes;
+      rising = subst Rises (sym (names-there h below entries looked fits.offsets)) (rises-of (names_of below) (names-ordered below fits.order));
     }
 
 pub branch-subkeys : (h : Heap) (root : ℕ) (b : Branch Node) → StandsIn h root b → IsSingle b.node.index →
     AreSubkeys h b.node.key.fields.subkeys b.node.key.fields.subkeys_list (entries_of b.node.index)
-branch-subkeys h root b stands single = subkeys-below h root b.place b.node (heads b.below) stands.0 single stands.1 (heads-looked h root b.below stands.2)
+branch-subkeys h root b stands single = subkeys-below h root b.offset b.node (heads b.below) stands.0 single stands.1 (heads-looked h root b.below stands.2)
 
 -- the cells of one list are the list's own cell
 module _ (h : Heap) (z count list : ℕ) where
@@ -214,7 +214,7 @@ module _ (h : Heap) (z count list : ℕ) where
 
   by-form : (l : SubkeysList) (form : Form) (index : Index) → index_as h list l form ≡ Some index → IsSingle index → owned z (index_cells index) ≡ times z (list ∷ [])
   unfolding some-cells
-  by-form l IndexRoot index e single = absurd (rooted (key_lists_at h (places_in l.entries)) e)
+  by-form l IndexRoot index e single = absurd (rooted (key_lists_at h (offsets_in l.entries)) e)
     where
       rooted : (o : Option (List KeyList)) → option_map (Rooted list) o ≡ Some index → ⊥
       rooted None e = none-some _ e

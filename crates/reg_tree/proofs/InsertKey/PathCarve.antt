@@ -72,10 +72,10 @@ IsPlan plan = (size : ℕ) → plan ≡ Some size → (size % 8 ≡ 0) × (16 �
 first_plan : IsPlan (Some FIRST_LIST_SIZE)
 first_plan size e = let s = same_Some _ _ e in (omega (arith, s), omega (arith, s), omega (arith, s))
 
-plan_by : (heap : Heap) (count place : ℕ) → count ≤ SUBKEYS_LIMIT → IsPlan (insert_size heap count place)
+plan_by : (heap : Heap) (count offset : ℕ) → count ≤ SUBKEYS_LIMIT → IsPlan (insert_size heap count offset)
 unfolding insert_size
-plan_by heap zero place few size e = let s = same_Some _ _ e in (omega (arith, s), omega (arith, s), omega (arith, s))
-plan_by heap (suc count) place few size e = by (nat_le (4 + 8 * suc (suc count)) (length (held heap place))) e
+plan_by heap zero offset few size e = let s = same_Some _ _ e in (omega (arith, s), omega (arith, s), omega (arith, s))
+plan_by heap (suc count) offset few size e = by (nat_le (4 + 8 * suc (suc count)) (length (held heap offset))) e
   where
     by : (b : Bool) → cond b None (Some (8 + 8 * suc (suc count))) ≡ Some size → (size % 8 ≡ 0) × (16 ≤ size) × (size ≤ 4016)
     by true e = absurd (none-some _ e)

@@ -24,11 +24,11 @@ use Rattle.reg_shape.specs.Nodes.{Node}
 use Rattle.reg_shape.specs.Spelt.{rec_of}
 use Rattle.reg_shape.specs.Internal.Shapes.{descriptor_in, tree_of}
 use Rattle.reg_shape.specs.Internal.Grafts.{IsShape, branch_at}
-use Rattle.reg_shape.specs.PathLookup.{place_at, subkey_named}
+use Rattle.reg_shape.specs.PathLookup.{key_offset_at, subkey_named}
 use Rattle.reg_records.proofs.KeyNodeCodec.{key_at-same}
 use Rattle.reg_shape.proofs.Frame.WrittenFrame.{same-held}
 use Rattle.reg_shape.proofs.Refinement.SpeltTrees.{path_total}
-use Rattle.reg_shape.proofs.Lookup.LookupOfShape.{place-more, place-append}
+use Rattle.reg_shape.proofs.Lookup.LookupOfShape.{offset-more, offset-append}
 use Rattle.reg_index.specs.Subkeys.{IsReady, taken}
 use Rattle.reg_tree.specs.declared.node.Node.{Node as TreeNode}
 use Rattle.reg_tree.specs.Internal.SpareCells.{planned, IsGrowing, MayGrow, Grows, AreReady, MayGrowAll, GrowsAll}
@@ -87,18 +87,18 @@ module _ (bytes : List ℕ) (key : ℕ) (spare : List ℕ) (g : IsGrowing bytes 
   abbrev h : Heap
   h = cell_at bytes
 
-  pub place_missing : place_at h g.root (child_path g.path name) ≡ None
-  place_missing =
-      place-append h g.root g.path (folded name ∷ [])
-      ∙ (ap (option_and_then (λ c. place_at h c (folded name ∷ []))) g.at
-      ∙ (place-more h key (folded name) [] ∙ ap (option_and_then (λ c. place_at h c [])) missing))
+  pub offset_missing : key_offset_at h g.root (child_path g.path name) ≡ None
+  offset_missing =
+      offset-append h g.root g.path (folded name ∷ [])
+      ∙ (ap (option_and_then (λ c. key_offset_at h c (folded name ∷ []))) g.at
+      ∙ (offset-more h key (folded name) [] ∙ ap (option_and_then (λ c. key_offset_at h c [])) missing))
 
   pub no_child : has_child (tree_of h g.keys) g.path name ≡ false
   no_child = ap is_some (keyed.rec_in h g.root g.keys g.first [] spare g.shape (child_path g.path name) ∙
-      by (branch_at (child_path g.path name) g.keys) (sym (keyed.place_in h g.root g.keys g.first [] spare g.shape (child_path g.path name)) ∙
-      place_missing))
+      by (branch_at (child_path g.path name) g.keys) (sym (keyed.key_offset_in h g.root g.keys g.first [] spare g.shape (child_path g.path name)) ∙
+      offset_missing))
     where
-      by : (o : Option (Branch Node)) → option_map (λ (b : Branch Node). b.place) o ≡ None → option_map (λ (b : Branch Node). rec_of b.node (descriptor_in h b.node.key.fields.security)) o ≡ None
+      by : (o : Option (Branch Node)) → option_map (λ (b : Branch Node). b.offset) o ≡ None → option_map (λ (b : Branch Node). rec_of b.node (descriptor_in h b.node.key.fields.security)) o ≡ None
       by None e = refl
       by (Some b) e = absurd (none-some _ (sym e))
 
@@ -114,7 +114,7 @@ pub record Midway (bytes0 : List ℕ) (from : TreeNode) (names0 : List (List ℕ
   pub tree : with_keys (tree_of (cell_at bytes) grow.growing.keys) grow.growing.path (path_of rest) moment ≡ with_keys (tree_of (cell_at bytes0) m.growing.keys) m.growing.path names0 moment
   pub end : grow.growing.path ++ map folded (path_of rest) ≡ m.growing.path ++ map folded names0
   pub depth : node.depth + length (path_of rest) ≡ from.depth + length names0
-  pub keeps : (q : Path) (o : ℕ) → place_at (cell_at bytes0) m.growing.root q ≡ Some o → place_at (cell_at bytes) m.growing.root q ≡ Some o
+  pub keeps : (q : Path) (o : ℕ) → key_offset_at (cell_at bytes0) m.growing.root q ≡ Some o → key_offset_at (cell_at bytes) m.growing.root q ≡ Some o
 
 pub at_start : (bytes : List ℕ) (from : TreeNode) (path spare : List ℕ) (m : MayGrowAll bytes from (path_of path) spare) (moment : ℕ) →
     is_path path ≡ true → Midway bytes from (path_of path) spare m moment bytes from path spare
@@ -154,7 +154,7 @@ module _ (bytes0 : List ℕ) (from : TreeNode) (names0 : List (List ℕ)) (spare
         first = g.first;
         shape = grows.shape;
         unrooted = grows.unrooted;
-        at = grows.places (child_path g.path name) ∙ ap (λ b. cond b (Some made) (place_at (cell_at bytes) g.root (child_path g.path name))) (path-self (child_path g.path name));
+        at = grows.offsets (child_path g.path name) ∙ ap (λ b. cond b (Some made) (key_offset_at (cell_at bytes) g.root (child_path g.path name))) (path-self (child_path g.path name));
       }
 
       deep_then : length (child_path g.path name) + length (path_of behind) ≤ PATH_LIMIT
@@ -173,11 +173,11 @@ module _ (bytes0 : List ℕ) (from : TreeNode) (names0 : List (List ℕ)) (spare
         ready = subst (λ o. AreReady k o (path_of behind) left) (sym grows.unlisted) (ready-kept (cell_at bytes) k (Some FIRST_LIST_SIZE) (path_of behind) left grows.spare ready);
       }
 
-      keeps_then : (q : Path) (o : ℕ) → place_at (cell_at bytes) g.root q ≡ Some o → place_at k g.root q ≡ Some o
-      keeps_then q o e = grows.places q ∙ by (eq_by_cmp path_cmp q (child_path g.path name)) refl
+      keeps_then : (q : Path) (o : ℕ) → key_offset_at (cell_at bytes) g.root q ≡ Some o → key_offset_at k g.root q ≡ Some o
+      keeps_then q o e = grows.offsets q ∙ by (eq_by_cmp path_cmp q (child_path g.path name)) refl
         where
-          by : (b : Bool) → eq_by_cmp path_cmp q (child_path g.path name) ≡ b → cond b (Some made) (place_at (cell_at bytes) g.root q) ≡ Some o
-          by true t = absurd (none-some _ (sym (ap (place_at (cell_at bytes) g.root) (path-is q (child_path g.path name) t) ∙ place_missing bytes node.offset spare g name may_next.missing) ∙ e))
+          by : (b : Bool) → eq_by_cmp path_cmp q (child_path g.path name) ≡ b → cond b (Some made) (key_offset_at (cell_at bytes) g.root q) ≡ Some o
+          by true t = absurd (none-some _ (sym (ap (key_offset_at (cell_at bytes) g.root) (path-is q (child_path g.path name) t) ∙ offset_missing bytes node.offset spare g name may_next.missing) ∙ e))
           by false t = e
 
       tree_then : with_keys (tree_of k grows.now) (child_path g.path name) (path_of behind) moment ≡ with_keys (tree_of (cell_at bytes) g.keys) g.path (path_of rest) moment
@@ -196,7 +196,7 @@ module _ (bytes0 : List ℕ) (from : TreeNode) (names0 : List (List ℕ)) (spare
         tree = tree_then ∙ mid.tree;
         end = append_assoc g.path (folded name ∷ []) (map folded (path_of behind)) ∙ (ap (λ ns. g.path ++ map folded ns) (sym f.names) ∙ mid.end);
         depth = (let d = mid.depth in let n = ap length f.names in omega (arith, d, n));
-        keeps = λ q o e. subst (λ r. place_at k r q ≡ Some o) mid.root_is (keeps_then q o (subst (λ r. place_at (cell_at bytes) r q ≡ Some o) (sym mid.root_is) (mid.keeps q o e)));
+        keeps = λ q o e. subst (λ r. key_offset_at k r q ≡ Some o) mid.root_is (keeps_then q o (subst (λ r. key_offset_at (cell_at bytes) r q ≡ Some o) (sym mid.root_is) (mid.keeps q o e)));
       }
 
   -- nothing is left of the path, and so no cell is spare
@@ -211,9 +211,9 @@ module _ (bytes0 : List ℕ) (from : TreeNode) (names0 : List (List ℕ)) (spare
             (subst (λ s. IsShape (cell_at bytes) g.root g.keys g.first [] s) none g.shape));
         unrooted = g.unrooted;
         tree = ap (λ ns. with_keys (tree_of (cell_at bytes) g.keys) g.path ns moment) (sym e) ∙ mid.tree;
-        place = subst (λ q. place_at (cell_at bytes) m.growing.root q ≡ Some node.offset) (sym (append-nil g.path) ∙
+        offset = subst (λ q. key_offset_at (cell_at bytes) m.growing.root q ≡ Some node.offset) (sym (append-nil g.path) ∙
             (ap (λ ns. g.path ++ map folded ns) (sym e) ∙ mid.end))
-            (subst (λ r. place_at (cell_at bytes) r g.path ≡ Some node.offset) mid.root_is g.at);
+            (subst (λ r. key_offset_at (cell_at bytes) r g.path ≡ Some node.offset) mid.root_is g.at);
         depth = (let d = mid.depth in let n = ap length e in omega (arith, d, n));
         keeps = mid.keeps;
       }

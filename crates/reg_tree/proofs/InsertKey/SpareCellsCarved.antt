@@ -9,7 +9,7 @@ use Rattle.reg_names.specs.Names.{folded}
 use Rattle.reg_heap.specs.declared.limits.TheConstants.{SUBKEYS_LIMIT}
 use Rattle.reg_heap.specs.Paths.{Path, Tree, Rec, path_cmp}
 use Rattle.reg_heap.specs.Edits.{child_path}
-use Rattle.reg_heap.specs.Heaps.{Heap, allocated, Swaps}
+use Rattle.reg_heap.specs.Heaps.{Heap, allocated, CellFrame}
 use Rattle.reg_heap.specs.Kinds.{times, is_own, owned}
 use Rattle.reg_shape.specs.Internal.Forests.{Branch, total_of}
 use Rattle.reg_heap.proofs.ChildrenOfPath.{path-is}
@@ -20,7 +20,7 @@ use Rattle.reg_shape.specs.Nodes.{Node}
 use Rattle.reg_shape.specs.Spelt.{rec_of}
 use Rattle.reg_shape.specs.Internal.Shapes.{cells_of, index_cells, owns, shares, descriptor_in, tree_of, StandsIn}
 use Rattle.reg_shape.specs.Internal.Grafts.{IsShape, IsGrafted, IsRecounted}
-use Rattle.reg_shape.specs.PathLookup.{place_at, subkey_named}
+use Rattle.reg_shape.specs.PathLookup.{key_offset_at, subkey_named}
 use Rattle.reg_records.proofs.KeyNodeCodec.{key_at-same}
 use Rattle.reg_records.proofs.KeySecurityCodec.{security_at-same}
 use Rattle.reg_shape.proofs.Frame.WrittenFrame.{seen-kept, same-held}
@@ -30,18 +30,18 @@ use Rattle.reg_shape.proofs.Wholeness.ShapeRecords.{at-most-one}
 use Rattle.reg_shape.proofs.Wholeness.WholeAfterExchange.{forest-kept}
 use Rattle.reg_shape.proofs.Graft.WholeAfterGraft.{grafted}
 use Rattle.reg_shape.proofs.Refinement.RefinementAfterGraft.{tree-same-below}
-use Rattle.reg_shape.proofs.Lookup.LookupAfterGraft.{places-same}
-use Rattle.reg_shape.proofs.Lookup.LookupOfShape.{place-none, place-more, place-append}
+use Rattle.reg_shape.proofs.Lookup.LookupAfterGraft.{offsets-same}
+use Rattle.reg_shape.proofs.Lookup.LookupOfShape.{offset-none, offset-more, offset-append}
 use Rattle.reg_shape.proofs.Refinement.RefinementAtPath.{told}
 use Rattle.reg_index.specs.Subkeys.{insert_size, own}
 use Rattle.reg_tree.specs.declared.node.Node.{Node as TreeNode}
 use Rattle.reg_tree.specs.TreeInvariant.{IsHere}
 use Rattle.reg_tree.specs.Internal.SpareCells.{planned, AreReady, MayGrowAll, IsSpared}
 use Rattle.reg_tree.proofs.Invariant.KeyOfTree as here
-use Rattle.reg_tree.proofs.Invariant.KeyOfTree.{branch, key_is, looked, place}
+use Rattle.reg_tree.proofs.Invariant.KeyOfTree.{branch, key_is, looked, offset}
 use Rattle.reg_tree.proofs.InsertKey.ParentReindexed.{owned-single}
 use Rattle.reg_tree.proofs.PathWalk.SubkeysFound.{single}
-use Rattle.reg_tree.proofs.Invariant.UntouchedCells.{times-one, there-is, place-own}
+use Rattle.reg_tree.proofs.Invariant.UntouchedCells.{times-one, there-is, offset-own}
 
 -- a record put where it is changes nothing
 insert-same : (t : Tree) (p : Path) (r : Rec) → get t p ≡ Some r → insert t p r ≡ t
@@ -51,7 +51,7 @@ insert-same t p r e = same_map path_total path_same (insert t p r) t (λ q. get-
     by q true f = sym (ap (get t) (path-is q p f) ∙ e)
     by q false f = refl
 
-module _ (h k : Heap) (root : ℕ) (keys : Branch Node) (first : ℕ) (spare : List ℕ) (w : IsShape h root keys first [] []) (come : Swaps h k (λ z. 0) (λ z. times z spare)) where
+module _ (h k : Heap) (root : ℕ) (keys : Branch Node) (first : ℕ) (spare : List ℕ) (w : IsShape h root keys first [] []) (come : CellFrame h k (λ z. 0) (λ z. times z spare)) where
   -- a cell that was allocated holds what it held
   pub calm : (z : ℕ) → 0 < allocated h z → k z ≡ h z
   calm z l = come.same z refl (let c = come.count z in let o = at-most-one k z in omega (arith, c, o, l))
@@ -61,7 +61,7 @@ module _ (h k : Heap) (root : ℕ) (keys : Branch Node) (first : ℕ) (spare : L
 
   stands : StandsIn k root keys
   stands = (
-    seen-kept h k root keys.place keys.node w.stands.0 (λ z l. calm-own z (omega (arith, l))),
+    seen-kept h k root keys.offset keys.node w.stands.0 (λ z l. calm-own z (omega (arith, l))),
     w.stands.1,
     forest-kept h k root keys.below w.stands.2 (λ z l. calm-own z (omega (arith, l))),
   )
@@ -86,7 +86,7 @@ module _ (h k : Heap) (root : ℕ) (keys : Branch Node) (first : ℕ) (spare : L
 
   grafts : IsGrafted h k root keys keys first [] [] spare
   grafts = record {
-    place = refl;
+    offset = refl;
     alike = record { name = refl; parent = refl; class_length = refl };
     stands = stands;
     count = λ z. (let c = come.count z in omega (arith, c));
@@ -103,8 +103,8 @@ module _ (h k : Heap) (root : ℕ) (keys : Branch Node) (first : ℕ) (spare : L
       tree-same-below h k root [] keys keys keys first [] [] spare refl grafts w refl
       ∙ insert-same (tree_of h keys) [] (rec_of keys.node (descriptor_in h keys.node.key.fields.security)) (told h root keys w.stands [])
 
-  pub places-spared : (q : Path) → place_at k root q ≡ place_at h root q
-  places-spared q = places-same h k root [] keys keys keys first [] [] spare refl grafts w refl q
+  pub offsets-spared : (q : Path) → key_offset_at k root q ≡ key_offset_at h root q
+  offsets-spared q = offsets-same h k root [] keys keys keys first [] [] spare refl grafts w refl q
 
 -- ---- keys may be made in them
 
@@ -124,11 +124,11 @@ module _ (old mid : List ℕ) (parent : TreeNode) (t : IsHere old parent.offset)
   still : (z : ℕ) → 0 < allocated h z → k z ≡ h z
   still = calm h k t.root keys t.holds.first spare t.holds.shape s.come
 
-  place-then : (q : Path) → place_at k t.root q ≡ place_at h t.root q
-  place-then = places-spared h k t.root keys t.holds.first spare t.holds.shape s.come
+  offset-then : (q : Path) → key_offset_at k t.root q ≡ key_offset_at h t.root q
+  offset-then = offsets-spared h k t.root keys t.holds.first spare t.holds.shape s.come
 
-  pub at-then : place_at k t.root t.path ≡ Some parent.offset
-  at-then = place-then t.path ∙ t.at
+  pub at-then : key_offset_at k t.root t.path ≡ Some parent.offset
+  at-then = offset-then t.path ∙ t.at
 
   node : Node
   node = (branch old parent.offset t).node
@@ -139,7 +139,7 @@ module _ (old mid : List ℕ) (parent : TreeNode) (t : IsHere old parent.offset)
   P-allocated : 0 < allocated h P
   P-allocated =
       let b = branch old P t in
-      let o = subst (λ p. 0 < total_of (owns p) b) (place old P t) (let o = place-own h b.place b.node (here.seen old P t).reads in omega (arith, o)) in
+      let o = subst (λ p. 0 < total_of (owns p) b) (offset old P t) (let o = offset-own h b.offset b.node (here.seen old P t).reads in omega (arith, o)) in
       let l = here.branch_once old P t P in
       omega (arith, o, l)
 
@@ -149,17 +149,17 @@ module _ (old mid : List ℕ) (parent : TreeNode) (t : IsHere old parent.offset)
   pub missing-then : (name : List ℕ) (others : List (List ℕ)) → names ≡ name ∷ others → subkey_named k (folded name) P ≡ None
   missing-then name others e =
       none-of (subkey_named k (folded name) P)
-      (sym (place-more k P (folded name) [])
-      ∙ (sym (ap (option_and_then (λ c. place_at k c (folded name ∷ []))) at-then)
-      ∙ (sym (place-append k t.root t.path (folded name ∷ []))
-      ∙ (place-then (child_path t.path name)
-      ∙ (place-append h t.root t.path (folded name ∷ [])
-      ∙ (ap (option_and_then (λ c. place_at h c (folded name ∷ []))) t.at
-      ∙ (place-more h P (folded name) [] ∙ ap (option_and_then (λ d. place_at h d [])) (missing name others e))))))))
+      (sym (offset-more k P (folded name) [])
+      ∙ (sym (ap (option_and_then (λ c. key_offset_at k c (folded name ∷ []))) at-then)
+      ∙ (sym (offset-append k t.root t.path (folded name ∷ []))
+      ∙ (offset-then (child_path t.path name)
+      ∙ (offset-append h t.root t.path (folded name ∷ [])
+      ∙ (ap (option_and_then (λ c. key_offset_at h c (folded name ∷ []))) t.at
+      ∙ (offset-more h P (folded name) [] ∙ ap (option_and_then (λ d. key_offset_at h d [])) (missing name others e))))))))
     where
-      none-of : (o : Option ℕ) → option_and_then (λ d. place_at k d []) o ≡ None → o ≡ None
+      none-of : (o : Option ℕ) → option_and_then (λ d. key_offset_at k d []) o ≡ None → o ≡ None
       none-of None e = refl
-      none-of (Some d) e = absurd (none-some _ (sym e ∙ place-none k d))
+      none-of (Some d) e = absurd (none-some _ (sym e ∙ offset-none k d))
 
   list-same : (count list : ℕ) → count ≡ (branch old P t).node.key.fields.subkeys → list ≡ (branch old P t).node.key.fields.subkeys_list → insert_size k count list ≡ insert_size h count list
   unfolding insert_size

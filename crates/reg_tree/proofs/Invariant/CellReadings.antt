@@ -78,6 +78,6 @@ unfolding key_at
 key-moved h k o e = ap (λ (c : Option (List ℕ)). option_and_then (λ content. result_ok (nk_of content)) c) e
 
 -- the key node of a key that was looked at
-pub look-key : (h : Heap) (place : ℕ) (node : Node) → IsLooked h place node → key_at h place ≡ Some node.key
+pub look-key : (h : Heap) (offset : ℕ) (node : Node) → IsLooked h offset node → key_at h offset ≡ Some node.key
 unfolding key_at
-look-key h place node l = ap (λ (c : Option (List ℕ)). option_and_then (λ content. result_ok (nk_of content)) c) l.here ∙ l.key_is
+look-key h offset node l = ap (λ (c : Option (List ℕ)). option_and_then (λ content. result_ok (nk_of content)) c) l.here ∙ l.key_is

@@ -5,12 +5,12 @@ use Rattle.reg_heap.specs.Paths.{path_cmp}
 use Rattle.reg_arena.specs.Cells.{cell_at}
 use Rattle.reg_shape.proofs.Graft.Branches.{whole-shape}
 use Rattle.reg_tree.specs.TreeKeys.{tree_in, made_root}
-use Rattle.reg_tree.specs.TreeInvariant.{Holds}
+use Rattle.reg_tree.specs.TreeInvariant.{TreeInvariant}
 use Rattle.reg_tree.proofs.Invariant.OneRootTree.{tree-alone}
 use Rattle.reg_tree.proofs.Invariant.FreshShape.{IsMade, fresh-shape, fresh-rec}
 use Rattle.reg_tree.proofs.Invariant.KeyOfTree.{spelt_is}
 
-pub fresh_holds : (bytes : List ℕ) (root : ℕ) (name descriptor : List ℕ) (moment : ℕ) → IsMade (cell_at bytes) root name descriptor moment → Holds bytes root
+pub fresh_holds : (bytes : List ℕ) (root : ℕ) (name descriptor : List ℕ) (moment : ℕ) → IsMade (cell_at bytes) root name descriptor moment → TreeInvariant bytes root
 fresh_holds bytes root name descriptor moment m =
     record {
       keys = _;

@@ -99,15 +99,15 @@ only-count h at security o = ap (option_map (λ (s : KeySecurityRecord). s.field
 -- ---- the shape
 
 abbrev branch : ℕ → Node → Branch Node
-branch root node = record { place = root; node = node; below = End }
+branch root node = record { offset = root; node = node; below = End }
 
 shares-all : (h : Heap) (root : ℕ) (r : IsFreshRoot h root) (z : ℕ) → total_of (shares z) (branch root (node_with root r.key)) ≡ times z (r.key.fields.security ∷ [])
 shares-all h root r z = omega arith
 
 pub fresh-shape : (h : Heap) (root : ℕ) (r : IsFreshRoot h root) → IsWholeShape h root (branch root (node_with root r.key)) r.key.fields.security []
 fresh-shape h root r = record {
-  place = refl;
-  stands = (root-seen h root r, record { places = refl; hashes = refl; order = tt; parents = tt; longest_name = tt; longest_class = tt }, tt);
+  offset = refl;
+  stands = (root-seen h root r, record { offsets = refl; hashes = refl; order = tt; parents = tt; longest_name = tt; longest_class = tt }, tt);
   exact = λ z. (let x = r.exact z in omega (arith, x));
   ring = only-ring h r.key.fields.security r.security r.only;
   ringed = λ z. ((λ l. (let s = shares-all h root r z in omega (arith, s, l))), λ l. (let s = shares-all h root r z in omega (arith, s, l)));

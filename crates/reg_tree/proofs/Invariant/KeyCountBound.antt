@@ -46,24 +46,24 @@ few-cells bytes cells e = let b = in_bins bytes cells e in let l = bins-many byt
 
 -- ---- keys and cells
 
-places_of : Forest Node → List ℕ
-places_of End = []
-places_of (Hangs o n b s) = o ∷ places_of b ++ places_of s
+offsets_of : Forest Node → List ℕ
+offsets_of End = []
+offsets_of (Hangs o n b s) = o ∷ offsets_of b ++ offsets_of s
 
-own-place : (h : Heap) (root o : ℕ) (n : Node) → IsSeen h root o n → (z : ℕ) → cond (eqb o z) 1 0 ≤ owned z (own_cells n)
-own-place h root o n s z =
+own-offset : (h : Heap) (root o : ℕ) (n : Node) → IsSeen h root o n → (z : ℕ) → cond (eqb o z) 1 0 ≤ owned z (own_cells n)
+own-offset h root o n s z =
     let l = look-open h o n s.reads in
     let p = ap (λ (found : List Found). owned z (found ++ index_cells n.index)) l.cells ∙ own-parts z o n.key l.class_cells l.value_cells n.index in
     omega (arith, p)
 
-own-places : (h : Heap) (root : ℕ) (F : Forest Node) → Stand (IsSeen h root) Fits F → (z : ℕ) → times z (places_of F) ≤ total (owns z) F
-unfolding places_of
-own-places h root End a z = omega arith
-own-places h root (Hangs o n b s) a z =
-    let here = own-place h root o n a.0.0 z in
-    let under = own-places h root b a.0.2 z in
-    let next = own-places h root s a.1 z in
-    let t = times-append z (places_of b) (places_of s) in
+own-offsets : (h : Heap) (root : ℕ) (F : Forest Node) → Stand (IsSeen h root) Fits F → (z : ℕ) → times z (offsets_of F) ≤ total (owns z) F
+unfolding offsets_of
+own-offsets h root End a z = omega arith
+own-offsets h root (Hangs o n b s) a z =
+    let here = own-offset h root o n a.0.0 z in
+    let under = own-offsets h root b a.0.2 z in
+    let next = own-offsets h root s a.1 z in
+    let t = times-append z (offsets_of b) (offsets_of s) in
     omega (arith, here, under, next, t)
 
 -- a key names one security
@@ -82,14 +82,14 @@ one-shared h root o n s r z =
     at-most true = omega arith
     at-most false = omega arith
 
-shared-places : (h : Heap) (root : ℕ) (F : Forest Node) → Stand (IsSeen h root) Fits F → total rooted F ≡ 0 → (z : ℕ) → total (shares z) F ≤ length (places_of F)
-unfolding places_of
-shared-places h root End a r z = omega arith
-shared-places h root (Hangs o n b s) a r z =
+shared-offsets : (h : Heap) (root : ℕ) (F : Forest Node) → Stand (IsSeen h root) Fits F → total rooted F ≡ 0 → (z : ℕ) → total (shares z) F ≤ length (offsets_of F)
+unfolding offsets_of
+shared-offsets h root End a r z = omega arith
+shared-offsets h root (Hangs o n b s) a r z =
     let here = one-shared h root o n a.0.0 (omega (arith, r)) z in
-    let under = shared-places h root b a.0.2 (omega (arith, r)) z in
-    let next = shared-places h root s a.1 (omega (arith, r)) z in
-    let l = length-append (places_of b) (places_of s) in
+    let under = shared-offsets h root b a.0.2 (omega (arith, r)) z in
+    let next = shared-offsets h root s a.1 (omega (arith, r)) z in
+    let l = length-append (offsets_of b) (offsets_of s) in
     omega (arith, here, under, next, l)
 
 module _ (bytes : List ℕ) (root : ℕ) (keys : Branch Node) (first : ℕ) (others spare : List ℕ) (w : IsShape (cell_at bytes) root keys first others spare) (unrooted : total_of rooted keys ≡ 0) where
@@ -97,17 +97,17 @@ module _ (bytes : List ℕ) (root : ℕ) (keys : Branch Node) (first : ℕ) (oth
   h = cell_at bytes
 
   abbrev all : List ℕ
-  all = keys.place ∷ places_of keys.below
+  all = keys.offset ∷ offsets_of keys.below
 
   own-all : (z : ℕ) → times z all + times z (first ∷ others) ≤ allocated h z
   own-all z =
-      let here = own-place h root keys.place keys.node w.stands.0 z in
-      let under = own-places h root keys.below w.stands.2 z in
+      let here = own-offset h root keys.offset keys.node w.stands.0 z in
+      let under = own-offsets h root keys.below w.stands.2 z in
       let x = w.exact z in
       omega (arith, here, under, x)
 
   there : (cells : List Cell) × (cells_of bytes ≡ Some cells)
-  there = let l = look-open h keys.place keys.node w.stands.0.reads in has_cells bytes keys.place l.content l.here
+  there = let l = look-open h keys.offset keys.node w.stands.0.reads in has_cells bytes keys.offset l.content l.here
 
   few : length (first ∷ all) ≤ length bytes
   few =
@@ -119,8 +119,8 @@ module _ (bytes : List ℕ) (root : ℕ) (keys : Branch Node) (first : ℕ) (oth
 
   pub users-few : (z : ℕ) → total_of (shares z) keys < length bytes
   users-few z =
-      let here = one-shared h root keys.place keys.node w.stands.0 (omega (arith, unrooted)) z in
-      let under = shared-places h root keys.below w.stands.2 (omega (arith, unrooted)) z in
+      let here = one-shared h root keys.offset keys.node w.stands.0 (omega (arith, unrooted)) z in
+      let under = shared-offsets h root keys.below w.stands.2 (omega (arith, unrooted)) z in
       let f = few in
       omega (arith, here, under, f)
 

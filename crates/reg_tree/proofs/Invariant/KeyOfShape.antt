@@ -13,7 +13,7 @@ use Rattle.reg_shape.specs.Nodes.{Node}
 use Rattle.reg_shape.specs.Spelt.{rec_of}
 use Rattle.reg_shape.specs.Internal.Shapes.{cells_of, owns, shares, descriptor_in, tree_of, depth, StandsIn, IsSeen}
 use Rattle.reg_shape.specs.Internal.Grafts.{IsShape, branch_at}
-use Rattle.reg_shape.specs.PathLookup.{place_at}
+use Rattle.reg_shape.specs.PathLookup.{key_offset_at}
 use Rattle.reg_shape.proofs.Walking.WalkRefinement.{IsLooked, look-open}
 use Rattle.reg_shape.proofs.Wholeness.ShapeRecords.{shares-own}
 use Rattle.reg_shape.proofs.Graft.Branches.{branch-stands, branch-total, branch-depth}
@@ -22,22 +22,22 @@ use Rattle.reg_shape.proofs.Refinement.RefinementAtPath.{told}
 use Rattle.reg_tree.specs.TreeInvariant.{rooted}
 
 -- the branch whose key stands at an offset
-branch_of : (o : Option (Branch Node)) (key : ℕ) → option_map (λ (b : Branch Node). b.place) o ≡ Some key → (b : Branch Node) × (o ≡ Some b) × (b.place ≡ key)
+branch_of : (o : Option (Branch Node)) (key : ℕ) → option_map (λ (b : Branch Node). b.offset) o ≡ Some key → (b : Branch Node) × (o ≡ Some b) × (b.offset ≡ key)
 branch_of None key e = absurd (none-some _ e)
 branch_of (Some b) key e = (b, refl, same_Some _ _ e)
 
 module _ (h : Heap) (root : ℕ) (keys : Branch Node) (first : ℕ) (others spare : List ℕ) (w : IsShape h root keys first others spare) where
   -- the key at the end of a path is the branch there
-  pub place_in : (p : Path) → place_at h root p ≡ option_map (λ (b : Branch Node). b.place) (branch_at p keys)
-  place_in p = subst (λ r. place_at h r p ≡ option_map (λ (b : Branch Node). b.place) (branch_at p keys)) w.place (placed h root keys p w.stands)
+  pub key_offset_in : (p : Path) → key_offset_at h root p ≡ option_map (λ (b : Branch Node). b.offset) (branch_at p keys)
+  key_offset_in p = subst (λ r. key_offset_at h r p ≡ option_map (λ (b : Branch Node). b.offset) (branch_at p keys)) w.offset (placed h root keys p w.stands)
 
   -- what the tree has at a path is what is told of the branch there
   pub rec_in : (p : Path) → get (tree_of h keys) p ≡ option_map (λ (b : Branch Node). rec_of b.node (descriptor_in h b.node.key.fields.security)) (branch_at p keys)
   rec_in p = told h root keys w.stands p
 
-  module _ (p : Path) (key : ℕ) (at : place_at h root p ≡ Some key) where
-    found : (b : Branch Node) × (branch_at p keys ≡ Some b) × (b.place ≡ key)
-    found = branch_of (branch_at p keys) key (sym (place_in p) ∙ at)
+  module _ (p : Path) (key : ℕ) (at : key_offset_at h root p ≡ Some key) where
+    found : (b : Branch Node) × (branch_at p keys ≡ Some b) × (b.offset ≡ key)
+    found = branch_of (branch_at p keys) key (sym (key_offset_in p) ∙ at)
 
     pub branch : Branch Node
     branch = found.0
@@ -46,21 +46,21 @@ module _ (h : Heap) (root : ℕ) (keys : Branch Node) (first : ℕ) (others spar
     unfolding branch
     branch_is = found.1
 
-    pub place : branch.place ≡ key
+    pub offset : branch.offset ≡ key
     unfolding branch
-    place = found.2
+    offset = found.2
 
     pub stands : StandsIn h root branch
     stands = branch-stands h root branch p keys branch_is w.stands
 
-    pub seen : IsSeen h root branch.place branch.node
+    pub seen : IsSeen h root branch.offset branch.node
     seen = stands.0
 
-    pub looked : IsLooked h branch.place branch.node
-    looked = look-open h branch.place branch.node seen.reads
+    pub looked : IsLooked h branch.offset branch.node
+    looked = look-open h branch.offset branch.node seen.reads
 
     pub key_is : key_at h key ≡ Some branch.node.key
-    key_is = subst (λ o. key_at h o ≡ Some branch.node.key) place (key-looked h branch.place branch.node seen.reads)
+    key_is = subst (λ o. key_at h o ≡ Some branch.node.key) offset (key-looked h branch.offset branch.node seen.reads)
 
     pub branch_once : (z : ℕ) → total_of (owns z) branch + (times z (first ∷ others) + times z spare) ≤ allocated h z
     branch_once z = let l = branch-total (owns z) branch p keys branch_is in let e = w.exact z in omega (arith, l, e)
@@ -76,11 +76,11 @@ module _ (h : Heap) (root : ℕ) (keys : Branch Node) (first : ℕ) (others spar
     pub secured : 0 < times branch.node.key.fields.security (first ∷ others)
     secured =
         let s = branch.node.key.fields.security in
-        let own = shares-own h root branch.place branch.node seen.reads in
+        let own = shares-own h root branch.offset branch.node seen.reads in
         let all = branch-total (shares s) branch p keys branch_is in
         (w.ringed s).0 (omega (arith, own, all))
 
-    pub unrooted_here : total_of rooted keys ≡ 0 → rooted branch.place branch.node ≡ 0
+    pub unrooted_here : total_of rooted keys ≡ 0 → rooted branch.offset branch.node ≡ 0
     unrooted_here u = let l = branch-total rooted branch p keys branch_is in omega (arith, l, u)
 
     -- what the tree has at its path

@@ -18,7 +18,7 @@ use Rattle.reg_shape.specs.Nodes.{Node, members_at}
 use Rattle.reg_shape.specs.Spelt.{spelt, rec_of}
 use Rattle.reg_shape.specs.Internal.Shapes.{cells_of as own_cells, index_cells, owns, descriptor_in, tree_of, depth, StandsIn, IsSeen, IsWholeShape}
 use Rattle.reg_shape.specs.Internal.Grafts.{branch_at}
-use Rattle.reg_shape.specs.PathLookup.{place_at}
+use Rattle.reg_shape.specs.PathLookup.{key_offset_at}
 use Rattle.reg_shape.proofs.Walking.WalkRefinement.{IsLooked, look-open}
 use Rattle.reg_shape.proofs.Wholeness.AllocatedCells.{whole-in, spelt-in}
 use Rattle.reg_shape.proofs.Graft.Branches.{shape-whole}
@@ -27,7 +27,7 @@ use Rattle.reg_shape.proofs.Refinement.RefinementAtPath.{told}
 use Rattle.reg_values.specs.ValueLists.{AreValues}
 use Rattle.reg_values.proofs.ValueListing.ValueListOpening.{values-length}
 use Rattle.reg_tree.specs.TreeKeys.{tree_in, IsWholeTree}
-use Rattle.reg_tree.specs.TreeInvariant.{Holds, IsHere}
+use Rattle.reg_tree.specs.TreeInvariant.{TreeInvariant, IsHere}
 use Rattle.reg_tree.specs.Internal.KeyNodeChanges.{HasList}
 use Rattle.reg_tree.proofs.Invariant.CellReadings.{is_some_of}
 use Rattle.reg_tree.proofs.Invariant.OwnCells.{own-parts}
@@ -35,7 +35,7 @@ use Rattle.reg_tree.proofs.Invariant.KeyOfShape as keyed
 
 -- ---- a whole tree
 
-module _ (bytes : List ℕ) (root : ℕ) (t : Holds bytes root) where
+module _ (bytes : List ℕ) (root : ℕ) (t : TreeInvariant bytes root) where
   abbrev pub heap : Heap
   heap = cell_at bytes
 
@@ -45,11 +45,11 @@ module _ (bytes : List ℕ) (root : ℕ) (t : Holds bytes root) where
   pub whole : IsWholeShape heap root keys t.first []
   whole = shape-whole heap root keys t.first [] t.shape
 
-  root_looked : IsLooked heap keys.place keys.node
-  root_looked = look-open heap keys.place keys.node t.shape.stands.0.reads
+  root_looked : IsLooked heap keys.offset keys.node
+  root_looked = look-open heap keys.offset keys.node t.shape.stands.0.reads
 
   there : (cells : List Cell) × (cells_of bytes ≡ Some cells)
-  there = has_cells bytes keys.place root_looked.content root_looked.here
+  there = has_cells bytes keys.offset root_looked.content root_looked.here
 
   pub spelt_is : tree_in bytes root ≡ tree_of heap keys
   unfolding tree_in
@@ -63,32 +63,32 @@ module _ (bytes : List ℕ) (root : ℕ) (t : Holds bytes root) where
       record { cells = w.cells; cells_are = w.cells_are; whole = w.whole; spells = spelt-in bytes root keys t.first [] w.cells w.cells_are whole ∙ ap Some (sym spelt_is) }
 
   -- the key at the end of a path is the branch there
-  pub place_is : (p : Path) → place_at heap root p ≡ option_map (λ (b : Branch Node). b.place) (branch_at p keys)
-  place_is p = subst (λ r. place_at heap r p ≡ option_map (λ (b : Branch Node). b.place) (branch_at p keys)) t.shape.place (placed heap root keys p t.shape.stands)
+  pub offset_is : (p : Path) → key_offset_at heap root p ≡ option_map (λ (b : Branch Node). b.offset) (branch_at p keys)
+  offset_is p = subst (λ r. key_offset_at heap r p ≡ option_map (λ (b : Branch Node). b.offset) (branch_at p keys)) t.shape.offset (placed heap root keys p t.shape.stands)
 
   -- what the tree has at a path is what is told of the branch there
   pub rec_is : (p : Path) → get (tree_in bytes root) p ≡ option_map (λ (b : Branch Node). rec_of b.node (descriptor_in heap b.node.key.fields.security)) (branch_at p keys)
   rec_is p = ap (λ (tree : Tree). get tree p) spelt_is ∙ told heap root keys t.shape.stands p
 
-  pub get-none : (p : Path) → place_at heap root p ≡ None → get (tree_in bytes root) p ≡ None
-  get-none p e = rec_is p ∙ by (branch_at p keys) (sym (place_is p) ∙ e)
+  pub get-none : (p : Path) → key_offset_at heap root p ≡ None → get (tree_in bytes root) p ≡ None
+  get-none p e = rec_is p ∙ by (branch_at p keys) (sym (offset_is p) ∙ e)
     where
-      by : (o : Option (Branch Node)) → option_map (λ (b : Branch Node). b.place) o ≡ None → option_map (λ (b : Branch Node). rec_of b.node (descriptor_in heap b.node.key.fields.security)) o ≡ None
+      by : (o : Option (Branch Node)) → option_map (λ (b : Branch Node). b.offset) o ≡ None → option_map (λ (b : Branch Node). rec_of b.node (descriptor_in heap b.node.key.fields.security)) o ≡ None
       by None e = refl
       by (Some b) e = absurd (none-some _ (sym e))
 
-  pub get-some : (p : Path) (o : ℕ) → place_at heap root p ≡ Some o → IsSome (get (tree_in bytes root) p)
-  get-some p o e = by (branch_at p keys) (sym (place_is p) ∙ e) (rec_is p)
+  pub get-some : (p : Path) (o : ℕ) → key_offset_at heap root p ≡ Some o → IsSome (get (tree_in bytes root) p)
+  get-some p o e = by (branch_at p keys) (sym (offset_is p) ∙ e) (rec_is p)
     where
-      by : (b : Option (Branch Node)) → option_map (λ (b : Branch Node). b.place) b ≡ Some o →
+      by : (b : Option (Branch Node)) → option_map (λ (b : Branch Node). b.offset) b ≡ Some o →
           get (tree_in bytes root) p ≡ option_map (λ (b : Branch Node). rec_of b.node (descriptor_in heap b.node.key.fields.security)) b →
           IsSome (get (tree_in bytes root) p)
       by None e g = absurd (none-some _ e)
       by (Some b) e g = ap is_some g
 
-  pub place-root : place_at heap root [] ≡ Some root
-  unfolding place_at
-  place-root = refl
+  pub offset-root : key_offset_at heap root [] ≡ Some root
+  unfolding key_offset_at
+  offset-root = refl
 
 -- ---- one key
 
@@ -105,17 +105,17 @@ module _ (bytes : List ℕ) (key : ℕ) (t : IsHere bytes key) where
   pub branch_is : branch_at t.path all ≡ Some branch
   branch_is = keyed.branch_is h t.root all t.holds.first [] [] t.holds.shape t.path key t.at
 
-  pub place : branch.place ≡ key
-  place = keyed.place h t.root all t.holds.first [] [] t.holds.shape t.path key t.at
+  pub offset : branch.offset ≡ key
+  offset = keyed.offset h t.root all t.holds.first [] [] t.holds.shape t.path key t.at
 
   pub stands : StandsIn h t.root branch
   stands = keyed.stands h t.root all t.holds.first [] [] t.holds.shape t.path key t.at
 
-  pub seen : IsSeen h t.root branch.place branch.node
+  pub seen : IsSeen h t.root branch.offset branch.node
   seen = stands.0
 
-  pub looked : IsLooked h branch.place branch.node
-  looked = look-open h branch.place branch.node seen.reads
+  pub looked : IsLooked h branch.offset branch.node
+  looked = look-open h branch.offset branch.node seen.reads
 
   pub key_is : key_at h key ≡ Some branch.node.key
   key_is = keyed.key_is h t.root all t.holds.first [] [] t.holds.shape t.path key t.at
@@ -147,7 +147,7 @@ module _ (bytes : List ℕ) (key : ℕ) (t : IsHere bytes key) where
     reads = looked.values_are;
     once = λ z. (let a = own_once z in
         let o = ap (λ (found : List Found). owned z (found ++ index_cells branch.node.index)) looked.cells ∙
-        own-parts z branch.place branch.node.key looked.class_cells looked.value_cells branch.node.index in omega (arith, a, o));
+        own-parts z branch.offset branch.node.key looked.class_cells looked.value_cells branch.node.index in omega (arith, a, o));
     written = seen.written.values.list;
   }
 

@@ -8,25 +8,25 @@ use Rattle.reg_heap.specs.Paths.{Path, Tree, Rec, children_of}
 use Rattle.reg_heap.specs.Edits.{edited}
 use Rattle.reg_arena.specs.Arena.{Bins}
 use Rattle.reg_arena.specs.Cells.{cell_at}
-use Rattle.reg_shape.specs.PathLookup.{place_at}
-use Rattle.reg_shape.proofs.Lookup.LookupOfShape.{place-append}
+use Rattle.reg_shape.specs.PathLookup.{key_offset_at}
+use Rattle.reg_shape.proofs.Lookup.LookupOfShape.{offset-append}
 use Rattle.reg_tree.specs.declared.node.Node.{Node}
 use Rattle.reg_tree.specs.declared.fault.TreeFault.{TreeFault}
 use Rattle.reg_tree.specs.TreeKeys.{Keys, tree_in, IsAt, IsThere, IsResolved, KeepsNodes}
 use Rattle.reg_tree.specs.Internal.PathWalks.{IsWalked, IsSubkey}
-use Rattle.reg_tree.proofs.Invariant.KeyOfTree.{place-root, get-none, get-some, shallow}
-use Rattle.reg_tree.specs.TreeInvariant.{Holds, IsHere, IsChanged}
+use Rattle.reg_tree.proofs.Invariant.KeyOfTree.{offset-root, get-none, get-some, shallow}
+use Rattle.reg_tree.specs.TreeInvariant.{TreeInvariant, IsHere, IsChanged}
 
 -- a node that is there is a key's
-abbrev pub here : (k : Keys) (node : Node) (p : Path) → Holds k.bins.bytes k.root → IsAt k p node → IsHere k.bins.bytes node.offset
-here k node p holds at = record { root = k.root; path = p; holds = holds; at = at.place }
+abbrev pub here : (k : Keys) (node : Node) (p : Path) → TreeInvariant k.bins.bytes k.root → IsAt k p node → IsHere k.bins.bytes node.offset
+here k node p holds at = record { root = k.root; path = p; holds = holds; at = at.offset }
 
-abbrev pub there : (k : Keys) (node : Node) → Holds k.bins.bytes k.root → IsThere k node → IsHere k.bins.bytes node.offset
+abbrev pub there : (k : Keys) (node : Node) → TreeInvariant k.bins.bytes k.root → IsThere k node → IsHere k.bins.bytes node.offset
 there k node holds some = here k node some.0 holds some.1
 
 -- keys that stay where they stand keep their nodes
-pub keeps : (old new : Keys) → new.root ≡ old.root → ((p : Path) → place_at (cell_at new.bins.bytes) old.root p ≡ place_at (cell_at old.bins.bytes) old.root p) → KeepsNodes old new
-keeps old new root same p node at = record { place = subst (λ r. place_at (cell_at new.bins.bytes) r p ≡ Some node.offset) (sym root) (same p ∙ at.place); depth = at.depth }
+pub keeps : (old new : Keys) → new.root ≡ old.root → ((p : Path) → key_offset_at (cell_at new.bins.bytes) old.root p ≡ key_offset_at (cell_at old.bins.bytes) old.root p) → KeepsNodes old new
+keeps old new root same p node at = record { offset = subst (λ r. key_offset_at (cell_at new.bins.bytes) r p ≡ Some node.offset) (sym root) (same p ∙ at.offset); depth = at.depth }
 
 pub on_ok : {A B : Type 0} (r : Result (Unit {0}) TreeFault) → (A → B) → OnOk r A → OnOk r B
 on_ok (Ok x) f a = f a
@@ -37,7 +37,7 @@ on_ok (Err e) f a = a
 abbrev pub seen_as : Bins → ℕ → Keys
 seen_as bins root = record { bins = bins; root = root; tree = tree_in bins.bytes root }
 
-module _ (bins : Bins) (root : ℕ) (holds : Holds bins.bytes root) (now : Keys) (view_is : seen_as bins root ≡ now) where
+module _ (bins : Bins) (root : ℕ) (holds : TreeInvariant bins.bytes root) (now : Keys) (view_is : seen_as bins root ≡ now) where
   abbrev pub here_at : (node : Node) (p : Path) → IsAt now p node → IsHere bins.bytes node.offset
   here_at node p at = here (seen_as bins root) node p holds (subst (λ k. IsAt k p node) (sym view_is) at)
 
@@ -50,18 +50,18 @@ module _ (bins : Bins) (root : ℕ) (holds : Holds bins.bytes root) (now : Keys)
 
   module _ (new : Bins) (result : Result (Unit {0}) TreeFault) (node : Node) (some : IsThere now node) (f : Rec → Rec)
       (ok : (t : IsHere bins.bytes node.offset) → OnOk result (IsChanged bins.bytes new.bytes t.root t.path f)) (err : OnErr result (new ≡ bins)) where
-    pub holds_then : Holds new.bytes root
+    pub holds_then : TreeInvariant new.bytes root
     holds_then = by result (ok (there_at node some)) err
       where
-        by : (r : Result (Unit {0}) TreeFault) → OnOk r (IsChanged bins.bytes new.bytes root some.0 f) → OnErr r (new ≡ bins) → Holds new.bytes root
+        by : (r : Result (Unit {0}) TreeFault) → OnOk r (IsChanged bins.bytes new.bytes root some.0 f) → OnErr r (new ≡ bins) → TreeInvariant new.bytes root
         by (Ok x) c e = c.holds
-        by (Err x) c e = subst (λ (b : Bins). Holds b.bytes root) (sym e) holds
+        by (Err x) c e = subst (λ (b : Bins). TreeInvariant b.bytes root) (sym e) holds
 
     pub changed_ok : (p : Path) → IsAt now p node → OnOk result (tree_in new.bytes root ≡ edited now.tree p f)
     changed_ok p at = on_ok result (λ c. of_tree (λ t. tree_in new.bytes root ≡ edited t p f) c.tree) (ok (here_at node p at))
 
     pub changed_nodes : OnOk result (KeepsNodes now (seen_as new root))
-    changed_nodes = on_ok result (λ c. subst (λ k. KeepsNodes k (seen_as new root)) view_is (keeps (seen_as bins root) (seen_as new root) refl c.places)) (ok (there_at node some))
+    changed_nodes = on_ok result (λ c. subst (λ k. KeepsNodes k (seen_as new root)) view_is (keeps (seen_as bins root) (seen_as new root) refl c.offsets)) (ok (there_at node some))
 
     pub unchanged : OnErr result (seen_as new root ≡ now)
     unchanged = by result err
@@ -73,10 +73,10 @@ module _ (bins : Bins) (root : ℕ) (holds : Holds bins.bytes root) (now : Keys)
   -- ---- nodes found
 
   pub root_at : IsAt now [] (record { offset = root; depth = 0 })
-  root_at = subst (λ k. IsAt k [] (record { offset = root; depth = 0 })) view_is (record { place = place-root bins.bytes root holds; depth = refl })
+  root_at = subst (λ k. IsAt k [] (record { offset = root; depth = 0 })) view_is (record { offset = offset-root bins.bytes root holds; depth = refl })
 
-  walked-on : (from : Node) (p q : Path) → IsAt (seen_as bins root) p from → place_at (cell_at bins.bytes) root (p ++ q) ≡ place_at (cell_at bins.bytes) from.offset q
-  walked-on from p q at = place-append (cell_at bins.bytes) root p q ∙ ap (option_and_then (λ c. place_at (cell_at bins.bytes) c q)) at.place
+  walked-on : (from : Node) (p q : Path) → IsAt (seen_as bins root) p from → key_offset_at (cell_at bins.bytes) root (p ++ q) ≡ key_offset_at (cell_at bins.bytes) from.offset q
+  walked-on from p q at = offset-append (cell_at bins.bytes) root p q ∙ ap (option_and_then (λ c. key_offset_at (cell_at bins.bytes) c q)) at.offset
 
   pub resolved : (from : Node) (q : Path) (result : Option Node) → IsWalked (cell_at bins.bytes) from q result → (p : Path) → IsAt now p from → IsResolved now (p ++ q) result
   resolved from q None w p at =
@@ -84,12 +84,12 @@ module _ (bins : Bins) (root : ℕ) (holds : Holds bins.bytes root) (now : Keys)
       of_tree (λ t. get t (p ++ q) ≡ None) (get-none bins.bytes root holds (p ++ q) (walked-on from p q a ∙ w))
   resolved from q (Some node) w p at =
       let a = subst (λ k. IsAt k p from) (sym view_is) at in
-      let place = walked-on from p q a ∙ w.0 in
+      let offset = walked-on from p q a ∙ w.0 in
       let l = length-append p q in
       let d = w.1 in
       let e = a.depth in (
-        subst (λ k. IsAt k (p ++ q) node) view_is (record { place = place; depth = omega (arith, l, d, e) }),
-        of_tree (λ t. IsSome (get t (p ++ q))) (get-some bins.bytes root holds (p ++ q) node.offset place),
+        subst (λ k. IsAt k (p ++ q) node) view_is (record { offset = offset; depth = omega (arith, l, d, e) }),
+        of_tree (λ t. IsSome (get t (p ++ q))) (get-some bins.bytes root holds (p ++ q) node.offset offset),
       )
 
   pub shallow_at : (node : Node) → IsThere now node → node.depth ≤ PATH_LIMIT
@@ -107,9 +107,9 @@ module _ (bins : Bins) (root : ℕ) (holds : Holds bins.bytes root) (now : Keys)
 
   -- every key's path has at most 512 names
   pub there-shallow : (p : Path) → IsSome (get now.tree p) → length p ≤ PATH_LIMIT
-  there-shallow p some = by (place_at (cell_at bins.bytes) root p) refl
+  there-shallow p some = by (key_offset_at (cell_at bins.bytes) root p) refl
     where
-      by : (o : Option ℕ) → place_at (cell_at bins.bytes) root p ≡ o → length p ≤ PATH_LIMIT
+      by : (o : Option ℕ) → key_offset_at (cell_at bins.bytes) root p ≡ o → length p ≤ PATH_LIMIT
       by None e =
           let none : get now.tree p ≡ None = of_tree (λ t. get t p ≡ None) (get-none bins.bytes root holds p e) in
           absurd (true≢false (sym some ∙ ap is_some none))
@@ -130,4 +130,4 @@ module _ (bins : Bins) (root : ℕ) (holds : Holds bins.bytes root) (now : Keys)
       let e = s.2 in
       let n = s.3 in
       subst (λ (k : Keys). (index < length (children_of k.tree p)) × IsAt k (get_or (children_of k.tree p) index []) child) view_is
-      (s.0, record { place = s.1; depth = omega (arith, d, e, n) })
+      (s.0, record { offset = s.1; depth = omega (arith, d, e, n) })

@@ -12,19 +12,19 @@ use Rattle.reg_shape.proofs.Wholeness.ShapeRecords.{own-here}
 
 -- ---- what a key has as its own, and as its security
 
-pub own-parts : (z place : ℕ) (key : KeyRecord) (class values : List Found) (index : Index) →
-    owned z (met_of place key class values ++ index_cells index) ≡ is_own z (record { kind = Key; offset = place }) +
+pub own-parts : (z offset : ℕ) (key : KeyRecord) (class values : List Found) (index : Index) →
+    owned z (met_of offset key class values ++ index_cells index) ≡ is_own z (record { kind = Key; offset = offset }) +
     ((owned z class + owned z values) + owned z (index_cells index))
-own-parts z place key class values index =
-    let a = tally-append (is_own z) (met_of place key class values) (index_cells index) in
+own-parts z offset key class values index =
+    let a = tally-append (is_own z) (met_of offset key class values) (index_cells index) in
     let b = tally-append (is_own z) class (record { kind = Security; offset = key.fields.security } ∷ values) in
     omega (arith, a, b)
 
-pub shared-parts : (z place : ℕ) (key : KeyRecord) (class values : List Found) (index : Index) →
-    shared z (met_of place key class values ++ index_cells index) ≡ shared z class +
+pub shared-parts : (z offset : ℕ) (key : KeyRecord) (class values : List Found) (index : Index) →
+    shared z (met_of offset key class values ++ index_cells index) ≡ shared z class +
     ((is_shared z (record { kind = Security; offset = key.fields.security }) + shared z values) + shared z (index_cells index))
-shared-parts z place key class values index =
-    let a = tally-append (is_shared z) (met_of place key class values) (index_cells index) in
+shared-parts z offset key class values index =
+    let a = tally-append (is_shared z) (met_of offset key class values) (index_cells index) in
     let b = tally-append (is_shared z) class (record { kind = Security; offset = key.fields.security } ∷ values) in
     omega (arith, a, b)
 
@@ -37,5 +37,5 @@ inner-unshared z (f ∷ found) a =
     omega (arith, none, rest)
 
 -- a key's own cell is met at its offset, and at no other
-pub key-here : (z place : ℕ) → z ≡ place → is_own z (record { kind = Key; offset = place }) ≡ 1
-key-here z place e = ap (λ x. is_own x (record { kind = Key; offset = place })) e ∙ own-here (record { kind = Key; offset = place }) refl
+pub key-here : (z offset : ℕ) → z ≡ offset → is_own z (record { kind = Key; offset = offset }) ≡ 1
+key-here z offset e = ap (λ x. is_own x (record { kind = Key; offset = offset })) e ∙ own-here (record { kind = Key; offset = offset }) refl

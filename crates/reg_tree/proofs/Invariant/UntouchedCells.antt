@@ -48,18 +48,18 @@ pub moved-calm : (h k : Heap) (before after : List ℕ) → Moves h k before aft
 moved-calm h k before after m z some none = m.same z none (moved-none h k before after m z some none)
 
 -- a key has its own cell
-pub place-own : (h : Heap) (place : ℕ) (node : Node) → look h place ≡ Some node → 0 < owned place (cells_of node)
-place-own h place node e =
-    let l = look-open h place node e in
-    let o = ap (λ (found : List Found). owned place (found ++ index_cells node.index)) l.cells ∙ own-parts place place node.key l.class_cells l.value_cells node.index in
-    let one = key-here place place refl in
+pub offset-own : (h : Heap) (offset : ℕ) (node : Node) → look h offset ≡ Some node → 0 < owned offset (cells_of node)
+offset-own h offset node e =
+    let l = look-open h offset node e in
+    let o = ap (λ (found : List Found). owned offset (found ++ index_cells node.index)) l.cells ∙ own-parts offset offset node.key l.class_cells l.value_cells node.index in
+    let one = key-here offset offset refl in
     omega (arith, o, one)
 
 -- what holds of the cells of keys side by side holds of their offsets
 pub all-heads : (h : Heap) (root : ℕ) (Q : ℕ → Type 0) (F : Forest Node) → Stand (IsSeen h root) Fits F → ((z : ℕ) → 0 < total (owns z) F → Q z) → AllByRecursion (λ (e : ℕ × Node). Q e.0) (heads F)
 all-heads h root Q End a q = tt
-all-heads h root Q (Hangs place node below beside) a q = (
-  q place (let o = place-own h place node a.0.0.reads in omega (arith, o)),
+all-heads h root Q (Hangs offset node below beside) a q = (
+  q offset (let o = offset-own h offset node a.0.0.reads in omega (arith, o)),
   all-heads h root Q beside a.1 (λ z l. q z (omega (arith, l))),
 )
 
@@ -70,4 +70,4 @@ all-of f P (x ∷ xs) a = (a.0, all-of f P xs a.1)
 pub single-of : (index : Index) → is_rooted index ≡ 0 → IsSingle index
 single-of Unlisted e = tt
 single-of (Listed list) e = tt
-single-of (Rooted place lists) e = absurd (omega (arith, e))
+single-of (Rooted offset lists) e = absurd (omega (arith, e))

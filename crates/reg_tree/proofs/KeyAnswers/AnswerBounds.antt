@@ -42,11 +42,11 @@ module _ (bytes : List ℕ) (key : ℕ) (t : IsHere bytes key) where
       let same = ap (λ (s : KeySecurityRecord). s.descriptor) (security-read_is (cell_at bytes) fields.security content security.security read (its_security bytes key t fields are) here reads) in
       subst (λ (descriptor : List ℕ). length descriptor ≤ DESCRIPTOR_LIMIT) (sym same) security.short
 
-  pub value-bound : (count place : ℕ) → HasList (cell_at bytes) key count place → (index : ℕ) (told : List ℕ) (kind size : ℕ) →
-      ((ms : List Member) (met : List Found) → members_at count place (cell_at bytes) ≡ Some (ms, met) →
+  pub value-bound : (count offset : ℕ) → HasList (cell_at bytes) key count offset → (index : ℕ) (told : List ℕ) (kind size : ℕ) →
+      ((ms : List Member) (met : List Found) → members_at count offset (cell_at bytes) ≡ Some (ms, met) →
       (member : Member) × (slice_get ms index ≡ Some member) × Tells member told kind size)
       → length told ≤ VALUE_NAME_LIMIT
-  value-bound count place has index told kind size k =
-      let m = k _ _ (list_reads bytes key t count place has) in
+  value-bound count offset has index told kind size k =
+      let m = k _ _ (list_reads bytes key t count offset has) in
       subst (λ (name : List ℕ). length name ≤ VALUE_NAME_LIMIT) (sym m.2.name_is)
       (value-name m.0.name (named (branch bytes key t).node.values (seen bytes key t).written.values.list.names index m.0 m.1))

@@ -20,10 +20,10 @@ use Rattle.reg_shape.specs.Nodes.{Node, entries_of}
 use Rattle.reg_shape.specs.Spelt.{rec_of, name_of, marks_of}
 use Rattle.reg_shape.specs.Internal.Shapes.{descriptor_in, IsSeen}
 use Rattle.reg_shape.specs.Written.{Fits}
-use Rattle.reg_shape.specs.PathLookup.{place_at, subkey_named}
+use Rattle.reg_shape.specs.PathLookup.{key_offset_at, subkey_named}
 use Rattle.reg_shape.proofs.Refinement.RefinementOfChildren.{children-told}
 use Rattle.reg_shape.proofs.Refinement.RefinementAtPath.{name-written}
-use Rattle.reg_shape.proofs.Lookup.LookupOfShape.{place-none, place-more, place-append}
+use Rattle.reg_shape.proofs.Lookup.LookupOfShape.{offset-none, offset-more, offset-append}
 use Rattle.reg_index.specs.Subkeys.{AreSubkeys, names_in}
 use Rattle.reg_index.proofs.SubkeysOpening.{length-subkeys}
 use Rattle.reg_index.proofs.RefinementOfSubkeys.{length-names}
@@ -34,7 +34,7 @@ use Rattle.reg_tree.specs.Internal.PathWalks.{IsSubkey}
 use Rattle.reg_tree.specs.Internal.KeyNodeChanges.{HasSubkeysList}
 use Rattle.reg_tree.proofs.Invariant.CellReadings.{is_some_of, key-fields, security-read_is}
 use Rattle.reg_tree.proofs.Invariant.KeyOfShape as keyed
-use Rattle.reg_tree.proofs.Invariant.KeyOfTree.{spelt_is, branch, branch_is, place, stands, seen, key_is, rec_there}
+use Rattle.reg_tree.proofs.Invariant.KeyOfTree.{spelt_is, branch, branch_is, offset, stands, seen, key_is, rec_there}
 use Rattle.reg_tree.proofs.PathWalk.SubkeysFound.{subkeys}
 use Rattle.reg_tree.proofs.InsertKey.SubkeyByName.{no_entry, named-ok}
 use Rattle.reg_tree.proofs.Invariant.UntouchedCells.{there-is}
@@ -68,7 +68,7 @@ module _ (bytes : List ℕ) (key : ℕ) (t : IsHere bytes key) where
   pub name_told : (content : List ℕ) (read : KeyRecord) → h key ≡ Some content → nk_of content ≡ Ok read → (r : Rec) → get tree t.path ≡ Some r → read.name ≡ r.name
   name_told content read here reads r e =
       ap (λ (k : KeyRecord). k.name) (key-fields h key content node.key read (key_is bytes key t) here reads)
-      ∙ (sym (name-written h t.root b.place node (seen bytes key t).written) ∙ ap (λ (r : Rec). r.name) (is-rec r e))
+      ∙ (sym (name-written h t.root b.offset node (seen bytes key t).written) ∙ ap (λ (r : Rec). r.name) (is-rec r e))
 
   pub time_told : (fields : KeyFields) → ((k : KeyRecord) → key_at h key ≡ Some k → fields ≡ k.fields) → (r : Rec) → get tree t.path ≡ Some r → fields.time ≡ r.time
   time_told fields are r e = ap (λ (f : KeyFields). f.time) (are node.key (key_is bytes key t)) ∙ ap (λ (r : Rec). r.time) (is-rec r e)
@@ -107,7 +107,7 @@ module _ (bytes : List ℕ) (key : ℕ) (t : IsHere bytes key) where
   children = ap (λ (tree : Tree). children_of tree t.path) (spelt_is bytes t.root t.holds) ∙ children-told h t.root t.holds.keys t.holds.shape.stands t.path b (branch_is bytes key t)
 
   names-are : names_in h (entries_of node.index) ≡ map name_of_head (heads b.below)
-  names-are = names-heads h h t.root b.below (entries_of node.index) (stands bytes key t).2 (stands bytes key t).1.places (λ z l. refl)
+  names-are = names-heads h h t.root b.below (entries_of node.index) (stands bytes key t).2 (stands bytes key t).1.offsets (λ z l. refl)
 
   module _ (count list : ℕ) (has : HasSubkeysList h key count list) where
     pub number_told : count ≡ length (children_of tree t.path)
@@ -136,7 +136,7 @@ module _ (bytes : List ℕ) (key : ℕ) (t : IsHere bytes key) where
         omega (arith, l, n, c))
         ∙ ap (λ ns. t.path ++ get_or ns i [] ∷ []) (sym names-are))
 
-    pub subkey_told : (from : TreeNode) (index child : ℕ) → index < count → ((es : List Entry) → AreSubkeys h count list es → (get_or es index no_entry).place ≡ child)
+    pub subkey_told : (from : TreeNode) (index child : ℕ) → index < count → ((es : List Entry) → AreSubkeys h count list es → (get_or es index no_entry).offset ≡ child)
         → IsSubkey h t.root t.path (children_of tree t.path) from index (Some (record { offset = child; depth = from.depth + 1 }))
     subkey_told from index child l at =
         let es = entries_of node.index in
@@ -144,13 +144,13 @@ module _ (bytes : List ℕ) (key : ℕ) (t : IsHere bytes key) where
         let x = get_or (names_in h es) index [] in
         let n = length-subkeys h count list es s.read in
         let m = length-names h es in
-        let named : subkey_named h x key ≡ Some child = subst (λ o. subkey_named h x o ≡ Some child) (place bytes key t)
+        let named : subkey_named h x key ≡ Some child = subst (λ o. subkey_named h x o ≡ Some child) (offset bytes key t)
         (named-ok h t.root b (stands bytes key t) x index s.rising (omega (arith, l, n, m), refl) ∙ ap Some (at es s)) in (
           (let n = number_told in omega (arith, l, n)),
-          ap (place_at h t.root) (child-path index l)
-              ∙ (place-append h t.root t.path (x ∷ [])
-              ∙ (ap (option_and_then (λ c. place_at h c (x ∷ []))) t.at
-              ∙ (place-more h key x [] ∙ (ap (option_and_then (λ d. place_at h d [])) named ∙ place-none h child)))),
+          ap (key_offset_at h t.root) (child-path index l)
+              ∙ (offset-append h t.root t.path (x ∷ [])
+              ∙ (ap (option_and_then (λ c. key_offset_at h c (x ∷ []))) t.at
+              ∙ (offset-more h key x [] ∙ (ap (option_and_then (λ d. key_offset_at h d [])) named ∙ offset-none h child)))),
           refl,
           ap length (child-path index l) ∙ length-append t.path (x ∷ []),
         )

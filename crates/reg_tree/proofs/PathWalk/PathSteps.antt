@@ -10,8 +10,8 @@ use Rattle.reg_heap.specs.Paths.{Path}
 use Rattle.reg_heap.specs.Heaps.{Heap}
 use Rattle.reg_heap.specs.Edits.{folded_path}
 use Rattle.reg_arena.specs.Cells.{cell_at}
-use Rattle.reg_shape.specs.PathLookup.{place_at, subkey_named}
-use Rattle.reg_shape.proofs.Lookup.LookupOfShape.{place-none, place-more, place-append}
+use Rattle.reg_shape.specs.PathLookup.{key_offset_at, subkey_named}
+use Rattle.reg_shape.proofs.Lookup.LookupOfShape.{offset-none, offset-more, offset-append}
 use Rattle.reg_tree.specs.declared.node.Node.{Node}
 use Rattle.reg_tree.specs.TreeInvariant.{IsHere}
 use Rattle.reg_tree.specs.Internal.PathWalks.{IsWalked, Stops, Passes, Reaches}
@@ -22,16 +22,16 @@ as-many [] = refl
 as-many (n ∷ ns) = ap suc (as-many ns)
 
 -- one key further
-place-then : (h : Heap) (o : ℕ) (p : Path) (x : List ℕ) (c d : ℕ) → place_at h o p ≡ Some c → subkey_named h x c ≡ Some d → place_at h o (p ++ x ∷ []) ≡ Some d
-place-then h o p x c d e f =
-    place-append h o p (x ∷ [])
-    ∙ (ap (option_and_then (λ c. place_at h c (x ∷ []))) e
-    ∙ (place-more h c x []
-    ∙ (ap (option_and_then (λ d. place_at h d [])) f ∙ place-none h d)))
+offset-then : (h : Heap) (o : ℕ) (p : Path) (x : List ℕ) (c d : ℕ) → key_offset_at h o p ≡ Some c → subkey_named h x c ≡ Some d → key_offset_at h o (p ++ x ∷ []) ≡ Some d
+offset-then h o p x c d e f =
+    offset-append h o p (x ∷ [])
+    ∙ (ap (option_and_then (λ c. key_offset_at h c (x ∷ []))) e
+    ∙ (offset-more h c x []
+    ∙ (ap (option_and_then (λ d. key_offset_at h d [])) f ∙ offset-none h d)))
 
 module _ (h : Heap) (from : Node) (path : List ℕ) where
   pub starts : is_path path ≡ true → Passes h from path from path
-  starts v = record { names = []; parts = refl; place = place-none h from.offset; depth = omega arith; valid = v }
+  starts v = record { names = []; parts = refl; offset = offset-none h from.offset; depth = omega arith; valid = v }
 
   module _ (node : Node) (rest : List ℕ) (s : Passes h from path node rest) where
     pub next : (name behind : List ℕ) (offset : ℕ) → IsFirst rest name behind → Some offset ≡ subkey_named h (folded name) node.offset →
@@ -39,8 +39,8 @@ module _ (h : Heap) (from : Node) (path : List ℕ) where
     next name behind offset f e = record {
       names = s.names ++ name ∷ [];
       parts = s.parts ∙ (ap (λ ns. s.names ++ ns) f.names ∙ sym (append_assoc s.names (name ∷ []) (path_of behind)));
-      place = subst (λ p. place_at h from.offset p ≡ Some offset) (sym (map-append folded s.names (name ∷ [])))
-          (place-then h from.offset (map folded s.names) (folded name) node.offset offset s.place (sym e));
+      offset = subst (λ p. key_offset_at h from.offset p ≡ Some offset) (sym (map-append folded s.names (name ∷ [])))
+          (offset-then h from.offset (map folded s.names) (folded name) node.offset offset s.offset (sym e));
       depth = (let d = s.depth in let l = length-append s.names (name ∷ []) in omega (arith, d, l));
       valid = f.valid;
     }
@@ -58,7 +58,7 @@ module _ (bytes : List ℕ) (from : Node) (t : IsHere bytes from.offset) (path :
     root = t.root;
     path = t.path ++ map folded s.names;
     holds = t.holds;
-    at = place-append (cell_at bytes) t.root t.path (map folded s.names) ∙ (ap (option_and_then (λ c. place_at (cell_at bytes) c (map folded s.names))) t.at ∙ s.place);
+    at = offset-append (cell_at bytes) t.root t.path (map folded s.names) ∙ (ap (option_and_then (λ c. key_offset_at (cell_at bytes) c (map folded s.names))) t.at ∙ s.offset);
   }
 
   pub deep_then : from.depth ≤ PATH_LIMIT → node.depth + 1 < 2000
@@ -74,23 +74,23 @@ module _ (bytes : List ℕ) (from : Node) (t : IsHere bytes from.offset) (path :
 pub walked : (h : Heap) (from : Node) (path : List ℕ) (node : Node) → Passes h from path node [] → IsWalked h from (folded_path path) (Some node)
 walked h from path node s =
     let all : path_of path ≡ s.names = s.parts ∙ append-nil s.names in (
-      ap (λ ns. place_at h from.offset (map folded ns)) all ∙ s.place,
+      ap (λ ns. key_offset_at h from.offset (map folded ns)) all ∙ s.offset,
       s.depth ∙ ap (λ k. from.depth + k) (ap length (sym all) ∙ sym (as-many (path_of path))),
     )
 
-place-missing : (h : Heap) (o : ℕ) (p : Path) (x : List ℕ) (q : Path) (c : ℕ) → place_at h o p ≡ Some c → subkey_named h x c ≡ None → place_at h o (p ++ x ∷ q) ≡ None
-place-missing h o p x q c e f =
-    place-append h o p (x ∷ q)
-    ∙ (ap (option_and_then (λ c. place_at h c (x ∷ q))) e
-    ∙ (place-more h c x q ∙ ap (option_and_then (λ d. place_at h d q)) f))
+offset-missing : (h : Heap) (o : ℕ) (p : Path) (x : List ℕ) (q : Path) (c : ℕ) → key_offset_at h o p ≡ Some c → subkey_named h x c ≡ None → key_offset_at h o (p ++ x ∷ q) ≡ None
+offset-missing h o p x q c e f =
+    offset-append h o p (x ∷ q)
+    ∙ (ap (option_and_then (λ c. key_offset_at h c (x ∷ q))) e
+    ∙ (offset-more h c x q ∙ ap (option_and_then (λ d. key_offset_at h d q)) f))
 
 missing-by : (h : Heap) (from : Node) (path : List ℕ) (node : Node) (rest : List ℕ) (s : Passes h from path node rest) (left : List (List ℕ)) →
-    path_of rest ≡ left → (left ≡ [] → ⊥) → Stops h node.offset left → place_at h from.offset (folded_path path) ≡ None
+    path_of rest ≡ left → (left ≡ [] → ⊥) → Stops h node.offset left → key_offset_at h from.offset (folded_path path) ≡ None
 missing-by h from path node rest s [] e some stops = absurd (some refl)
 missing-by h from path node rest s (name ∷ names) e some stops =
-    ap (λ ns. place_at h from.offset (map folded ns)) (s.parts ∙ ap (λ ns. s.names ++ ns) e)
-    ∙ (ap (place_at h from.offset) (map-append folded s.names (name ∷ names))
-    ∙ place-missing h from.offset (map folded s.names) (folded name) (map folded names) node.offset s.place stops)
+    ap (λ ns. key_offset_at h from.offset (map folded ns)) (s.parts ∙ ap (λ ns. s.names ++ ns) e)
+    ∙ (ap (key_offset_at h from.offset) (map-append folded s.names (name ∷ names))
+    ∙ offset-missing h from.offset (map folded s.names) (folded name) (map folded names) node.offset s.offset stops)
 
 pub not_walked : (h : Heap) (from : Node) (path : List ℕ) (node : Node) (rest : List ℕ) → Reaches h from path node rest → (path_of rest ≡ [] → ⊥) → IsWalked h from (folded_path path) None
 not_walked h from path node rest r some = missing-by h from path node rest r.passes (path_of rest) refl some r.stops

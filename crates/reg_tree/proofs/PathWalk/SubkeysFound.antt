@@ -7,13 +7,13 @@ use Rattle.reg_arena.specs.Cells.{cell_at}
 use Rattle.reg_records.specs.SubkeyLists.{Entry}
 use Rattle.reg_shape.specs.Nodes.{Node, entries_of}
 use Rattle.reg_shape.specs.PathLookup.{subkey_named}
-use Rattle.reg_index.specs.Subkeys.{AreSubkeys, IsPlace, names_in}
+use Rattle.reg_index.specs.Subkeys.{AreSubkeys, IsIndexFor, names_in}
 use Rattle.reg_index.proofs.SubkeysOpening.{length-subkeys}
 use Rattle.reg_index.proofs.RefinementOfSubkeys.{IsSingle, length-names}
 use Rattle.reg_tree.specs.TreeInvariant.{IsHere}
 use Rattle.reg_tree.specs.Internal.KeyNodeChanges.{HasSubkeysList}
 use Rattle.reg_tree.proofs.Invariant.KeyOfShape as keyed
-use Rattle.reg_tree.proofs.Invariant.KeyOfTree.{branch, stands, place, key_is}
+use Rattle.reg_tree.proofs.Invariant.KeyOfTree.{branch, stands, offset, key_is}
 use Rattle.reg_tree.proofs.InsertKey.ParentReindexed.{branch-subkeys}
 use Rattle.reg_tree.proofs.Invariant.UntouchedCells.{single-of}
 use Rattle.reg_tree.proofs.InsertKey.SubkeyByName.{no_entry, named-ok, named-err}
@@ -41,7 +41,7 @@ module _ (bytes : List ℕ) (key : ℕ) (t : IsHere bytes key) where
     pub some_subkeys : (entries : List Entry) × AreSubkeys h count list entries
     some_subkeys = (entries_of node.index, subkeys)
 
-    pub index_within : (name : List ℕ) (index : ℕ) → ((entries : List Entry) → AreSubkeys h count list entries → IsPlace (names_in h entries) name (Ok index)) → index < count
+    pub index_within : (name : List ℕ) (index : ℕ) → ((entries : List Entry) → AreSubkeys h count list entries → IsIndexFor (names_in h entries) name (Ok index)) → index < count
     index_within name index find =
         let p = find (entries_of node.index) subkeys in
         let n = length-subkeys h count list (entries_of node.index) subkeys.read in
@@ -49,15 +49,15 @@ module _ (bytes : List ℕ) (key : ℕ) (t : IsHere bytes key) where
         let m = length-names h (entries_of node.index) in
         omega (arith, l, n, m)
 
-    pub child_found : (name : List ℕ) (index child : ℕ) → ((entries : List Entry) → AreSubkeys h count list entries → IsPlace (names_in h entries) (folded name) (Ok index))
-        → ((entries : List Entry) → AreSubkeys h count list entries → (get_or entries index no_entry).place ≡ child) → Some child ≡ subkey_named h (folded name) key
+    pub child_found : (name : List ℕ) (index child : ℕ) → ((entries : List Entry) → AreSubkeys h count list entries → IsIndexFor (names_in h entries) (folded name) (Ok index))
+        → ((entries : List Entry) → AreSubkeys h count list entries → (get_or entries index no_entry).offset ≡ child) → Some child ≡ subkey_named h (folded name) key
     child_found name index child find at =
         let e = entries_of node.index in
-        subst (λ o. Some child ≡ subkey_named h (folded name) o) (place bytes key t)
+        subst (λ o. Some child ≡ subkey_named h (folded name) o) (offset bytes key t)
         (sym (named-ok h t.root (branch bytes key t) (stands bytes key t) (folded name) index subkeys.rising (find e subkeys) ∙ ap Some (at e subkeys)))
 
     pub child_missing : (name : List ℕ) (index : ℕ) → ((entries : List Entry) → AreSubkeys h count list entries →
-        IsPlace (names_in h entries) (folded name) (Err index)) → None ≡ subkey_named h (folded name) key
+        IsIndexFor (names_in h entries) (folded name) (Err index)) → None ≡ subkey_named h (folded name) key
     child_missing name index find =
-        subst (λ o. None ≡ subkey_named h (folded name) o) (place bytes key t)
+        subst (λ o. None ≡ subkey_named h (folded name) o) (offset bytes key t)
         (sym (named-err h t.root (branch bytes key t) (stands bytes key t) (folded name) index (find (entries_of node.index) subkeys)))

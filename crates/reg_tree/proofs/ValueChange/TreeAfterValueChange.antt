@@ -18,13 +18,13 @@ use Rattle.reg_shape.specs.Internal.Grafts.{IsShape, IsGrafted, graft_at}
 use Rattle.reg_shape.proofs.Graft.GraftOfExchange.{exchange-grafts}
 use Rattle.reg_shape.proofs.Graft.WholeAfterGraft.{grafted, graft-total}
 use Rattle.reg_shape.proofs.Refinement.RefinementAfterGraft.{tree-same-below}
-use Rattle.reg_shape.proofs.Lookup.LookupAfterGraft.{places-same}
+use Rattle.reg_shape.proofs.Lookup.LookupAfterGraft.{offsets-same}
 use Rattle.reg_values.specs.ValueLists.{Became}
 use Rattle.reg_tree.specs.TreeKeys.{tree_in}
-use Rattle.reg_tree.specs.TreeInvariant.{rooted, Holds, IsHere, IsChanged}
+use Rattle.reg_tree.specs.TreeInvariant.{rooted, TreeInvariant, IsHere, IsChanged}
 use Rattle.reg_tree.specs.Internal.KeyNodeChanges.{HasList, Notes, noted}
 use Rattle.reg_tree.proofs.Invariant.CellReadings.{is_some_of}
-use Rattle.reg_tree.proofs.Invariant.KeyOfTree.{spelt_is, branch, branch_is, branch_once, place, stands, seen, looked, own_once, shallow, rec_there, list_reads}
+use Rattle.reg_tree.proofs.Invariant.KeyOfTree.{spelt_is, branch, branch_is, branch_once, offset, stands, seen, looked, own_once, shallow, rec_there, list_reads}
 use Rattle.reg_tree.proofs.ValueChange.ValueExchange.{key-then, changed_node, exchanged_key}
 use Rattle.reg_tree.proofs.ValueChange.LargestLengths.{names-with, sizes-with, names-without, sizes-without}
 
@@ -55,14 +55,14 @@ module _ (old mid new : List ℕ) (key : ℕ) (t : IsHere old key) (count list n
   abbrev first : ℕ
   first = t.holds.first
 
-  there-notes : Notes (cell_at mid) j was.place (noted count list name size moment)
-  there-notes = subst (λ p. Notes (cell_at mid) j p (noted count list name size moment)) (sym (place old key t)) notes
+  there-notes : Notes (cell_at mid) j was.offset (noted count list name size moment)
+  there-notes = subst (λ p. Notes (cell_at mid) j p (noted count list name size moment)) (sym (offset old key t)) notes
 
   abbrev after : Node
-  after = changed_node h (cell_at mid) j t.root was.place was.node (seen old key t) (own_once old key t) count list name size moment members (looked old key t) became there-notes longest largest
+  after = changed_node h (cell_at mid) j t.root was.offset was.node (seen old key t) (own_once old key t) count list name size moment members (looked old key t) became there-notes longest largest
 
-  exchanged : IsExchanged h j t.root was.place was.node after
-  exchanged = exchanged_key h (cell_at mid) j t.root was.place was.node (seen old key t) (own_once old key t) count list name size moment members (looked old key t) became there-notes longest largest
+  exchanged : IsExchanged h j t.root was.offset was.node after
+  exchanged = exchanged_key h (cell_at mid) j t.root was.offset was.node (seen old key t) (own_once old key t) count list name size moment members (looked old key t) became there-notes longest largest
 
   abbrev is : Branch Node
   is = record was { node = after }
@@ -76,7 +76,7 @@ module _ (old mid new : List ℕ) (key : ℕ) (t : IsHere old key) (count list n
   shape : IsShape j t.root now first [] []
   shape = grafted h j t.root t.path keys was is first [] [] [] (branch_is old key t) grafts (shallow old key t) t.holds.shape
 
-  holds-now : Holds new t.root
+  holds-now : TreeInvariant new t.root
   holds-now = record {
     keys = now;
     first = first;
@@ -96,42 +96,42 @@ module _ (old mid new : List ℕ) (key : ℕ) (t : IsHere old key) (count list n
         ∙ (ap (λ (tree : Tree). insert tree t.path (rec_of after (descriptor_in h after.key.fields.security))) (sym (spelt_is old t.root t.holds))
         ∙ (ap (insert (tree_in old t.root) t.path) (sym (does rec refl))
         ∙ sym (edited-at (tree_in old t.root) t.path rec f (rec_there old key t)))));
-    places = λ q. places-same h j t.root t.path keys was is first [] [] [] (branch_is old key t) grafts t.holds.shape refl q;
+    offsets = λ q. offsets-same h j t.root t.path keys was is first [] [] [] (branch_is old key t) grafts t.holds.shape refl q;
   }
 
 -- a value was set
-pub set_changed : (old mid new : List ℕ) (key count list : ℕ) (name : List ℕ) (kind : ℕ) (bytes : List ℕ) (moment after_count after_place : ℕ)
+pub set_changed : (old mid new : List ℕ) (key count list : ℕ) (name : List ℕ) (kind : ℕ) (bytes : List ℕ) (moment after_count after_offset : ℕ)
     (t : IsHere old key) → HasList (cell_at old) key count list
     → ((members : List Member) (met : List Found) → members_at count list (cell_at old) ≡ Some (members, met) →
-    Became (cell_at old) (cell_at mid) met after_count after_place (values_with name kind bytes members))
-    → Notes (cell_at mid) (cell_at new) key (noted after_count after_place (length name) (length bytes) moment) → IsChanged old new t.root t.path (with_value name kind bytes moment)
-set_changed old mid new key count list name kind bytes moment after_count after_place t has became notes =
+    Became (cell_at old) (cell_at mid) met after_count after_offset (values_with name kind bytes members))
+    → Notes (cell_at mid) (cell_at new) key (noted after_count after_offset (length name) (length bytes) moment) → IsChanged old new t.root t.path (with_value name kind bytes moment)
+set_changed old mid new key count list name kind bytes moment after_count after_offset t has became notes =
     let node = (branch old key t).node in
     let values = (seen old key t).written.values in
-    is_changed old mid new key t after_count after_place (length name) (length bytes) moment (values_with name kind bytes node.values)
+    is_changed old mid new key t after_count after_offset (length name) (length bytes) moment (values_with name kind bytes node.values)
     (became _ _ (list_reads old key t count list has)) notes
     (names-with node.key.fields.largest_value_name name kind bytes node.values values.longest_name)
     (sizes-with node.key.fields.largest_value_data name kind bytes node.values values.largest)
     (with_value name kind bytes moment) (λ r e. ap (λ (ms : List Member). record r { time = moment; values = values_with name kind bytes ms }) e)
 
 -- a value was removed
-pub delete_changed : (old mid new : List ℕ) (key count list : ℕ) (name : List ℕ) (moment after_count after_place : ℕ) (t : IsHere old key) → HasList (cell_at old) key count list
+pub delete_changed : (old mid new : List ℕ) (key count list : ℕ) (name : List ℕ) (moment after_count after_offset : ℕ) (t : IsHere old key) → HasList (cell_at old) key count list
     → ((members : List Member) (met : List Found) → members_at count list (cell_at old) ≡ Some (members, met) →
-    Became (cell_at old) (cell_at mid) met after_count after_place (values_without name members))
-    → Notes (cell_at mid) (cell_at new) key (noted after_count after_place 0 0 moment) → IsChanged old new t.root t.path (without_value name moment)
-delete_changed old mid new key count list name moment after_count after_place t has became notes =
+    Became (cell_at old) (cell_at mid) met after_count after_offset (values_without name members))
+    → Notes (cell_at mid) (cell_at new) key (noted after_count after_offset 0 0 moment) → IsChanged old new t.root t.path (without_value name moment)
+delete_changed old mid new key count list name moment after_count after_offset t has became notes =
     let node = (branch old key t).node in
     let values = (seen old key t).written.values in
-    is_changed old mid new key t after_count after_place 0 0 moment (values_without name node.values)
+    is_changed old mid new key t after_count after_offset 0 0 moment (values_without name node.values)
     (became _ _ (list_reads old key t count list has)) notes
     (names-without node.key.fields.largest_value_name name node.values values.longest_name)
     (sizes-without node.key.fields.largest_value_data name node.values values.largest)
     (without_value name moment) (λ r e. ap (λ (ms : List Member). record r { time = moment; values = values_without name ms }) e)
 
 -- the key node stands when the values had changed
-pub key_mid : (old mid : List ℕ) (key : ℕ) (t : IsHere old key) (after_count after_place : ℕ) (members : List Member) →
-    Became (cell_at old) (cell_at mid) (looked old key t).value_cells after_count after_place members → IsSome (key_at (cell_at mid) key)
-key_mid old mid key t after_count after_place members became =
-    is_some_of _ _ (subst (λ p. key_at (cell_at mid) p ≡ Some (branch old key t).node.key) (place old key t)
-    (key-then (cell_at old) (cell_at mid) (branch old key t).place (branch old key t).node (own_once old key t) after_count after_place members
+pub key_mid : (old mid : List ℕ) (key : ℕ) (t : IsHere old key) (after_count after_offset : ℕ) (members : List Member) →
+    Became (cell_at old) (cell_at mid) (looked old key t).value_cells after_count after_offset members → IsSome (key_at (cell_at mid) key)
+key_mid old mid key t after_count after_offset members became =
+    is_some_of _ _ (subst (λ p. key_at (cell_at mid) p ≡ Some (branch old key t).node.key) (offset old key t)
+    (key-then (cell_at old) (cell_at mid) (branch old key t).offset (branch old key t).node (own_once old key t) after_count after_offset members
     (looked old key t) became))

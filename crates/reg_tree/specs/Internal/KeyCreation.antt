@@ -6,19 +6,19 @@ use Rattle.reg_heap.specs.declared.limits.TheConstants.{SUBKEYS_LIMIT, MADE_LIMI
 use Rattle.reg_heap.specs.Paths.{Path, Tree, children_of}
 use Rattle.reg_heap.specs.Edits.{with_keys, missing, last_there}
 use Rattle.reg_arena.specs.Cells.{cell_at}
-use Rattle.reg_shape.specs.PathLookup.{place_at}
+use Rattle.reg_shape.specs.PathLookup.{key_offset_at}
 use Rattle.reg_tree.specs.declared.node.Node.{Node}
 use Rattle.reg_tree.specs.TreeKeys.{tree_in}
-use Rattle.reg_tree.specs.TreeInvariant.{Holds}
+use Rattle.reg_tree.specs.TreeInvariant.{TreeInvariant}
 
 -- the tree has the missing ones of the keys that some names lead to from a path on, a node is the last one's, and each key that
 -- was there stays where it stands
 pub record IsCreated (old new : List ℕ) (root : ℕ) (path : Path) (from : Node) (names : List (List ℕ)) (moment : ℕ) (made : Node) : Type 0 where
-  pub holds : Holds new root
+  pub holds : TreeInvariant new root
   pub tree : tree_in new root ≡ with_keys (tree_in old root) path names moment
-  pub place : place_at (cell_at new) root (path ++ map folded names) ≡ Some made.offset
+  pub offset : key_offset_at (cell_at new) root (path ++ map folded names) ≡ Some made.offset
   pub depth : made.depth ≡ from.depth + length names
-  pub keeps : (q : Path) (o : ℕ) → place_at (cell_at old) root q ≡ Some o → place_at (cell_at new) root q ≡ Some o
+  pub keeps : (q : Path) (o : ℕ) → key_offset_at (cell_at old) root q ≡ Some o → key_offset_at (cell_at new) root q ≡ Some o
 
 -- one of the keys is missing, and they would be too many
 pub record AreTooMany (t : Tree) (p : Path) (names : List (List ℕ)) : Type 0 where

@@ -13,10 +13,10 @@ use Rattle.reg_records.specs.SubkeyLists.{Entry}
 use Rattle.reg_records.specs.BigData.{if_any}
 use Rattle.reg_shape.specs.Nodes.{Node, pieces_at, look}
 use Rattle.reg_shape.specs.Written.{AreWritten}
-use Rattle.reg_shape.specs.PathLookup.{place_at}
+use Rattle.reg_shape.specs.PathLookup.{key_offset_at}
 use Rattle.reg_index.specs.Subkeys.{AreSubkeys, Moves, own, without}
 use Rattle.reg_tree.specs.Internal.KeyNodeChanges.{Notes, noted_subkeys}
-use Rattle.reg_tree.specs.TreeInvariant.{Holds}
+use Rattle.reg_tree.specs.TreeInvariant.{TreeInvariant}
 use Rattle.reg_tree.specs.TreeKeys.{tree_in}
 
 -- a key is the subkey at an index of another, whose key node and subkeys are these
@@ -24,7 +24,7 @@ pub record IsListed (heap : Heap) (parent key : ℕ) (above : KeyRecord) (entrie
   pub reads : key_at heap parent ≡ Some above
   pub subkeys : AreSubkeys heap above.fields.subkeys above.fields.subkeys_list entries
   pub within : index < length entries
-  pub place : (get_or entries index (record { place = 0; hint = 0 })).place ≡ key
+  pub offset : (get_or entries index (record { offset = 0; hint = 0 })).offset ≡ key
 
 -- the subkey at an index was taken out of a key's list, and then that was noted in its key node, with the time
 pub record IsUnlinked (old new : Heap) (parent : ℕ) (above : KeyRecord) (entries : List Entry) (index moment : ℕ) : Type 0 where
@@ -49,6 +49,6 @@ pub record IsSole (heap : Heap) (key : ℕ) : Type 0 where
 -- the key at a path was deleted, and nothing else of the tree changed but the time of the key above; each other key stays where it
 -- stands
 pub record IsDeleted (old new : List ℕ) (root : ℕ) (path : Path) (moment : ℕ) : Type 0 where
-  pub holds : Holds new root
+  pub holds : TreeInvariant new root
   pub tree : tree_in new root ≡ without_key (tree_in old root) path moment
-  pub places : (other : Path) → other ≢ path → place_at (cell_at new) root other ≡ place_at (cell_at old) root other
+  pub offsets : (other : Path) → other ≢ path → key_offset_at (cell_at new) root other ≡ key_offset_at (cell_at old) root other

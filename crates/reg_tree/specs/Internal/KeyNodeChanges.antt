@@ -9,11 +9,11 @@ use Rattle.reg_records.specs.declared.nk.KeyFields.{KeyFields}
 
 -- a key node after its values changed: their number and list, the time, and the two largest lengths, which only grow
 abbrev pub noted : ℕ → ℕ → ℕ → ℕ → ℕ → KeyRecord → KeyRecord
-noted count place name size moment key = record key {
+noted count offset name size moment key = record key {
   fields = record key.fields {
     time = moment;
     values = count;
-    values_list = place;
+    values_list = offset;
     largest_value_name = max key.fields.largest_value_name (2 * name);
     largest_value_data = max key.fields.largest_value_data size;
   };
@@ -25,11 +25,11 @@ raised largest size = largest - largest % 65536 + max (largest % 65536) size
 
 -- a key node after its subkeys changed: their number and list, the time, and the largest length of a name, which only grows
 abbrev pub noted_subkeys : ℕ → ℕ → ℕ → ℕ → KeyRecord → KeyRecord
-noted_subkeys count place name moment key = record key {
+noted_subkeys count offset name moment key = record key {
   fields = record key.fields {
     time = moment;
     subkeys = count;
-    subkeys_list = place;
+    subkeys_list = offset;
     largest_subkey_name = raised key.fields.largest_subkey_name (2 * name);
   };
 }
@@ -55,11 +55,11 @@ made_fields parent security moment = record {
 
 -- a key node names a list of so many values
 abbrev pub HasList : Heap → ℕ → ℕ → ℕ → Type 0
-HasList heap cell count place = (key : KeyRecord) → key_at heap cell ≡ Some key → (count ≡ key.fields.values) × (place ≡ key.fields.values_list)
+HasList heap cell count offset = (key : KeyRecord) → key_at heap cell ≡ Some key → (count ≡ key.fields.values) × (offset ≡ key.fields.values_list)
 
 -- a key node names a list of so many subkeys
 abbrev pub HasSubkeysList : Heap → ℕ → ℕ → ℕ → Type 0
-HasSubkeysList heap cell count place = (key : KeyRecord) → key_at heap cell ≡ Some key → (count ≡ key.fields.subkeys) × (place ≡ key.fields.subkeys_list)
+HasSubkeysList heap cell count offset = (key : KeyRecord) → key_at heap cell ≡ Some key → (count ≡ key.fields.subkeys) × (offset ≡ key.fields.subkeys_list)
 
 -- a key security counts more keys or fewer, and no other cell changed
 pub record Recounts (old new : Heap) (cell : ℕ) (change : ℕ → ℕ) : Type 0 where

@@ -6,7 +6,7 @@ use Rattle.reg_names.specs.declared.TheConstants.{PATH_LIMIT}
 use Rattle.reg_names.specs.Names.{folded}
 use Rattle.reg_heap.specs.declared.limits.TheConstants.{SUBKEYS_LIMIT}
 use Rattle.reg_heap.specs.Paths.{Path, path_cmp}
-use Rattle.reg_heap.specs.Heaps.{Heap, Swaps}
+use Rattle.reg_heap.specs.Heaps.{Heap, CellFrame}
 use Rattle.reg_heap.specs.Kinds.{times}
 use Rattle.reg_heap.specs.Edits.{child_path, with_key, with_keys}
 use Rattle.reg_index.specs.declared.plan.TheConstants.{FIRST_LIST_SIZE}
@@ -16,7 +16,7 @@ use Rattle.reg_records.specs.KeyNodes.{KeyRecord, key_at}
 use Rattle.reg_shape.specs.Nodes.{Node}
 use Rattle.reg_shape.specs.Internal.Shapes.{tree_of}
 use Rattle.reg_shape.specs.Internal.Grafts.{IsShape}
-use Rattle.reg_shape.specs.PathLookup.{place_at, subkey_named}
+use Rattle.reg_shape.specs.PathLookup.{key_offset_at, subkey_named}
 use Rattle.reg_records.specs.RecordCells.{HasRoom}
 use Rattle.reg_index.specs.Subkeys.{insert_size, IsReady, taken}
 use Rattle.reg_tree.specs.declared.node.Node.{Node as TreeNode}
@@ -34,7 +34,7 @@ pub record IsGrowing (bytes : List ℕ) (key : ℕ) (spare : List ℕ) : Type 0 
   pub first : ℕ
   pub shape : IsShape (cell_at bytes) root keys first [] spare
   pub unrooted : total_of rooted keys ≡ 0
-  pub at : place_at (cell_at bytes) root path ≡ Some key
+  pub at : key_offset_at (cell_at bytes) root path ≡ Some key
 
 -- a key of a name may be made below it: none of that name is there, the path has room, and there are fewer than 500 subkeys
 pub record MayGrow (bytes : List ℕ) (key : ℕ) (spare : List ℕ) (name : List ℕ) : Type 0 where
@@ -50,7 +50,7 @@ pub record Grows (old new : Heap) (root : ℕ) (path : Path) (keys : Branch Node
   pub shape : IsShape new root now first [] left
   pub unrooted : total_of rooted now ≡ 0
   pub tree : tree_of new now ≡ with_key (tree_of old keys) path name moment
-  pub places : (q : Path) → place_at new root q ≡ cond (eq_by_cmp path_cmp q (child_path path name)) (Some made) (place_at old root q)
+  pub offsets : (q : Path) → key_offset_at new root q ≡ cond (eq_by_cmp path_cmp q (child_path path name)) (Some made) (key_offset_at old root q)
   pub spare : (z : ℕ) → 0 < times z left → new z ≡ old z
   pub childless : (x : List ℕ) → subkey_named new x made ≡ None
   pub unlisted : planned new made ≡ Some FIRST_LIST_SIZE
@@ -99,11 +99,11 @@ pub record GrowsAll (old new : Heap) (root : ℕ) (path : Path) (keys : Branch N
   pub shape : IsShape new root now first [] []
   pub unrooted : total_of rooted now ≡ 0
   pub tree : tree_of new now ≡ with_keys (tree_of old keys) path names moment
-  pub place : place_at new root (path ++ map folded names) ≡ Some made.offset
+  pub offset : key_offset_at new root (path ++ map folded names) ≡ Some made.offset
   pub depth : made.depth ≡ from.depth + length names
-  pub keeps : (q : Path) (o : ℕ) → place_at old root q ≡ Some o → place_at new root q ≡ Some o
+  pub keeps : (q : Path) (o : ℕ) → key_offset_at old root q ≡ Some o → key_offset_at new root q ≡ Some o
 
 -- the cells that keys of these names take below a key are new, each once, and no other cell changed
 pub record IsSpared (old new : List ℕ) (key : ℕ) (names : List (List ℕ)) (spare : List ℕ) : Type 0 where
-  pub come : Swaps (cell_at old) (cell_at new) (λ z. 0) (λ z. times z spare)
+  pub come : CellFrame (cell_at old) (cell_at new) (λ z. 0) (λ z. times z spare)
   pub ready : AreReady (cell_at new) (planned (cell_at old) key) names spare

@@ -5,7 +5,7 @@ use Rattle.std.proofs.lemmas.Bool.{eq-eqb}
 use Rattle.std.proofs.lemmas.List.{places}
 use Rattle.reg_heap.specs.declared.limits.TheConstants.{NONE}
 use Rattle.reg_heap.specs.ByteWords.{word, splice}
-use Rattle.reg_heap.specs.Heaps.{Heap, Swaps, Writes, GivesUp}
+use Rattle.reg_heap.specs.Heaps.{Heap, CellFrame, Writes, GivesUp}
 use Rattle.reg_heap.specs.Kinds.{Found, owned, times}
 use Rattle.reg_heap.specs.Kinds.Kind.{ValueList}
 use Rattle.reg_records.specs.RecordCells.{held}
@@ -91,54 +91,54 @@ shifted c i n l =
 
 -- ---- the list
 
-pub emptied : (h k : Heap) (place index : ℕ) (row : List ℕ) (met : List Found) → index < 1 → list_at 1 place h ≡ Some (row, met) →
-    GivesUp h k (place ∷ []) → BecameList h k (λ z. owned z met) 0 NONE (take index row ++ drop (index + 1) row)
-emptied h k place zero row met l e g =
-    let r = list-open h 1 place row met e (omega arith) in
-    let n : length row ≡ 1 = ap length r.is ∙ length-offsets 1 0 (held h place) in
+pub emptied : (h k : Heap) (offset index : ℕ) (row : List ℕ) (met : List Found) → index < 1 → list_at 1 offset h ≡ Some (row, met) →
+    GivesUp h k (offset ∷ []) → BecameList h k (λ z. owned z met) 0 NONE (take index row ++ drop (index + 1) row)
+emptied h k offset zero row met l e g =
+    let r = list-open h 1 offset row met e (omega arith) in
+    let n : length row ≡ 1 = ap length r.is ∙ length-offsets 1 0 (held h offset) in
     subst (λ xs. BecameList h k (λ z. owned z met) 0 NONE xs) (sym (none row n)) (record {
       cells = [];
       reads = refl;
-      swaps = subst (λ met. Swaps h k (λ z. owned z met) (λ z. 0)) (sym r.met_is) g;
+      frame = subst (λ met. CellFrame h k (λ z. owned z met) (λ z. 0)) (sym r.met_is) g;
     })
   where
     none : (row : List ℕ) → length row ≡ 1 → take 0 row ++ drop 1 row ≡ []
     none [] n = refl
     none (x ∷ []) n = refl
     none (x ∷ y ∷ xs) n = absurd (omega arith)
-emptied h k place (suc i) row met l e g = absurd (omega arith)
+emptied h k offset (suc i) row met l e g = absurd (omega arith)
 
-module _ (h k : Heap) (count place index : ℕ) (row : List ℕ) (met : List Found) (e : list_at count place h ≡ Some (row, met)) (l : index < count) (more : 1 < count) where
-  list : IsRow h count place row met
-  list = list-open h count place row met e (omega arith)
+module _ (h k : Heap) (count offset index : ℕ) (row : List ℕ) (met : List Found) (e : list_at count offset h ≡ Some (row, met)) (l : index < count) (more : 1 < count) where
+  list : IsRow h count offset row met
+  list = list-open h count offset row met e (omega arith)
 
-  pub list-exists : IsSome (h place)
+  pub list-exists : IsSome (h offset)
   list-exists = list.here
 
-  pub list-long : 4 * count ≤ length (held h place)
+  pub list-long : 4 * count ≤ length (held h offset)
   list-long = list.long
 
-  pub closed-up : k place ≡ Some (splice (4 * index) (take (4 * (count - 1 - index)) (drop (4 * index + 4) (held h place))) (held h place)) →
-      Writes h k (place ∷ []) → BecameList h k (λ z. owned z met) (count - 1) place (take index row ++ drop (index + 1) row)
+  pub closed-up : k offset ≡ Some (splice (4 * index) (take (4 * (count - 1 - index)) (drop (4 * index + 4) (held h offset))) (held h offset)) →
+      Writes h k (offset ∷ []) → BecameList h k (λ z. owned z met) (count - 1) offset (take index row ++ drop (index + 1) row)
   closed-up w s =
-      let c : List ℕ = held h place in
+      let c : List ℕ = held h offset in
       let n : ℕ = count - 1 - index in
       let piece : List ℕ = take (4 * n) (drop (4 * index + 4) c) in
       let long = list.long in
       let size : length piece ≡ 4 * n = omega (arith, length-take (4 * n) (drop (4 * index + 4) c), length-drop (4 * index + 4) c, long, l) in
-      let now : held k place ≡ splice (4 * index) piece c = held-is k place _ w in
-      let as_long : length (held k place) ≡ length c = ap length now ∙ length-splice (4 * index) piece c (omega (arith, size, long, l)) in
-      let made = list-made k (count - 1) place (omega (arith, more)) (is-some _ _ w) (omega (arith, as_long, long)) in
+      let now : held k offset ≡ splice (4 * index) piece c = held-is k offset _ w in
+      let as_long : length (held k offset) ≡ length c = ap length now ∙ length-splice (4 * index) piece c (omega (arith, size, long, l)) in
+      let made = list-made k (count - 1) offset (omega (arith, more)) (is-some _ _ w) (omega (arith, as_long, long)) in
       let all : count ≡ index + suc n = omega (arith, l) in
       let less : count - 1 ≡ index + n = omega (arith, l) in
-      let row_is : offsets_at (count - 1) 0 (held k place) ≡ take index row ++ drop (index + 1) row =
+      let row_is : offsets_at (count - 1) 0 (held k offset) ≡ take index row ++ drop (index + 1) row =
       ap (λ x. offsets_at (count - 1) 0 x) now ∙ (ap (λ m. offsets_at m 0 (splice (4 * index) piece c)) less ∙ (shifted c index n (omega (arith, long, all))
       ∙ (ap (λ m. take index (offsets_at m 0 c) ++ drop (index + 1) (offsets_at m 0 c)) (sym all) ∙ ap (λ xs. take index xs ++ drop (index + 1) xs) (sym list.is)))) in
       record {
-        cells = record { kind = ValueList; offset = place } ∷ [];
-        reads = made ∙ ap (λ xs. Some (xs, record { kind = ValueList; offset = place } ∷ [])) row_is;
-        swaps = subst (λ met. Swaps h k (λ z. owned z met) (λ z. times z (place ∷ []))) (sym list.met_is) s;
+        cells = record { kind = ValueList; offset = offset } ∷ [];
+        reads = made ∙ ap (λ xs. Some (xs, record { kind = ValueList; offset = offset } ∷ [])) row_is;
+        frame = subst (λ met. CellFrame h k (λ z. owned z met) (λ z. times z (offset ∷ []))) (sym list.met_is) s;
       }
 
-pub written-here : (h k : Heap) (place : ℕ) (content : List ℕ) → ((offset : ℕ) → k offset ≡ cond (offset == place) (Some content) (h offset)) → k place ≡ Some content
-written-here h k place content w = w place ∙ ap (λ b. cond b (Some content) (h place)) (eq-eqb place place refl)
+pub written-here : (h k : Heap) (list_offset : ℕ) (content : List ℕ) → ((offset : ℕ) → k offset ≡ cond (offset == list_offset) (Some content) (h offset)) → k list_offset ≡ Some content
+written-here h k list_offset content w = w list_offset ∙ ap (λ b. cond b (Some content) (h list_offset)) (eq-eqb list_offset list_offset refl)

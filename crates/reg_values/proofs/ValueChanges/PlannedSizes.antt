@@ -7,7 +7,7 @@ use Rattle.std.specs.Option.{option_and_then}
 use Rattle.reg_heap.specs.Paths.{Member}
 use Rattle.reg_heap.specs.Heaps.{Heap}
 use Rattle.reg_heap.specs.Kinds.{Found}
-use Rattle.reg_heap.specs.Members.{place_named}
+use Rattle.reg_heap.specs.Members.{index_named}
 use Rattle.reg_records.specs.declared.db.TheConstants.{SEGMENT_SIZE}
 use Rattle.reg_records.specs.RecordCells.{held}
 use Rattle.reg_records.specs.OffsetRows.{offset_in}
@@ -69,26 +69,26 @@ big-sizes size l = rw (le-false size 4 (omega arith), le-false size segment_size
 pub added_sizes : (a b c d : List ℕ) (n : ℕ) → b ≡ (a ++ n ∷ []) ++ c → a ≡ [] → b ++ d ≡ n ∷ c ++ d
 added_sizes a b c d n e z = ap (λ b. b ++ d) e ∙ ap (λ a. ((a ++ n ∷ []) ++ c) ++ d) z
 
-module _ (heap : Heap) (count place : ℕ) (name : List ℕ) (size : ℕ) (members : List Member) (met : List Found) (e : members_at count place heap ≡ Some (members, met)) where
-  pub sizes-some : (index : ℕ) (old : KeyValueRecord) → Some index ≡ place_named name members →
-      value_record_at heap (offset_in (held heap place) index) ≡ Some old →
-      cond (stays heap old.fields size) [] (data_sizes size) ≡ set_sizes heap count place name size
+module _ (heap : Heap) (count offset : ℕ) (name : List ℕ) (size : ℕ) (members : List Member) (met : List Found) (e : members_at count offset heap ≡ Some (members, met)) where
+  pub sizes-some : (index : ℕ) (old : KeyValueRecord) → Some index ≡ index_named name members →
+      value_record_at heap (offset_in (held heap offset) index) ≡ Some old →
+      cond (stays heap old.fields size) [] (data_sizes size) ≡ set_sizes heap count offset name size
   unfolding set_sizes
   sizes-some index old p r =
-      sym (ap (λ o. sizes_by heap count place (length name) size (option_and_then (λ (read : List Member × List Found). place_named name read.0) o)) e
-      ∙ ap (sizes_by heap count place (length name) size) (sym p) ∙ ap (new_data_sizes heap size) r)
+      sym (ap (λ o. sizes_by heap count offset (length name) size (option_and_then (λ (read : List Member × List Found). index_named name read.0) o)) e
+      ∙ ap (sizes_by heap count offset (length name) size) (sym p) ∙ ap (new_data_sizes heap size) r)
 
-  pub sizes-none : None ≡ place_named name members → sizes_by heap count place (length name) size None ≡ set_sizes heap count place name size
+  pub sizes-none : None ≡ index_named name members → sizes_by heap count offset (length name) size None ≡ set_sizes heap count offset name size
   unfolding set_sizes
   sizes-none p =
-      sym (ap (λ o. sizes_by heap count place (length name) size (option_and_then (λ (read : List Member × List Found). place_named name read.0) o)) e
-      ∙ ap (sizes_by heap count place (length name) size) (sym p))
+      sym (ap (λ o. sizes_by heap count offset (length name) size (option_and_then (λ (read : List Member × List Found). index_named name read.0) o)) e
+      ∙ ap (sizes_by heap count offset (length name) size) (sym p))
 
-pub sizes-there : (heap : Heap) (count place : ℕ) (name : List ℕ) (size : ℕ) (members : List Member) (met : List Found) (index cell : ℕ) →
-    members_at count place heap ≡ Some (members, met) → Some index ≡ place_named name members → cell ≡ offset_in (held heap place) index
-    → new_data_sizes heap size (value_record_at heap cell) ≡ set_sizes heap count place name size
+pub sizes-there : (heap : Heap) (count offset : ℕ) (name : List ℕ) (size : ℕ) (members : List Member) (met : List Found) (index cell : ℕ) →
+    members_at count offset heap ≡ Some (members, met) → Some index ≡ index_named name members → cell ≡ offset_in (held heap offset) index
+    → new_data_sizes heap size (value_record_at heap cell) ≡ set_sizes heap count offset name size
 unfolding set_sizes
-sizes-there heap count place name size members met index cell e p c =
+sizes-there heap count offset name size members met index cell e p c =
     ap (λ o. new_data_sizes heap size (value_record_at heap o)) c
-    ∙ sym (ap (λ o. sizes_by heap count place (length name) size (option_and_then (λ (read : List Member × List Found). place_named name read.0) o))
-    e ∙ ap (sizes_by heap count place (length name) size) (sym p))
+    ∙ sym (ap (λ o. sizes_by heap count offset (length name) size (option_and_then (λ (read : List Member × List Found). index_named name read.0) o))
+    e ∙ ap (sizes_by heap count offset (length name) size) (sym p))

@@ -6,7 +6,7 @@ use Rattle.std.proofs.lemmas.Option.{same_Some}
 use Rattle.std.proofs.lemmas.Bool.{and_parts, leb-true, eqb-true, ltb-true}
 use Rattle.reg_heap.specs.ByteWords.{splice}
 use Rattle.reg_heap.specs.Paths.{Member}
-use Rattle.reg_heap.specs.Heaps.{Heap, Swaps, Writes, AreNew, allocated}
+use Rattle.reg_heap.specs.Heaps.{Heap, CellFrame, Writes, AreNew, allocated}
 use Rattle.reg_heap.specs.Kinds.{Found, owned, times}
 use Rattle.reg_heap.specs.Kinds.Kind.{Value}
 use Rattle.reg_records.specs.declared.db.TheConstants.{SEGMENT_SIZE}
@@ -28,7 +28,7 @@ use Rattle.reg_values.proofs.ValueListing.FoundValues.{member-open, name-told, r
 use Rattle.reg_values.proofs.ValueData.DataPieces.{le-false}
 use Rattle.reg_values.proofs.ValueData.SegmentReading.{segment-is}
 use Rattle.reg_values.proofs.ValueData.DataForms.{data-there}
-use Rattle.reg_values.proofs.ValueFreeing.SwapChains.{times-same, swaps-then, swaps-with, writes-in, kept-apart, agree-apart, allocated-le, there-one, one-there}
+use Rattle.reg_values.proofs.ValueFreeing.FrameChains.{times-same, frame-then, frame-with, writes-in, kept-apart, agree-apart, allocated-le, there-one, one-there}
 use Rattle.reg_values.proofs.ValueFreeing.FreedRuns.{member-parts, member-data, member-owned, one-owned}
 use Rattle.reg_values.proofs.ValueData.StoredData.{one-fills, one-holds}
 use Rattle.reg_values.proofs.ValueData.WrittenValues.{holds-kept, value-reads, value-written}
@@ -40,12 +40,12 @@ record Stays (h : Heap) (old : ValueFields) (size : ℕ) : Type 0 where
   large : 4 < size
   small : size ≤ SEGMENT_SIZE
   was_small : old.size ≤ SEGMENT_SIZE
-  same : cell_size size ≡ length (held h old.place) + 4
+  same : cell_size size ≡ length (held h old.offset) + 4
 
 stays-open : (h : Heap) (old : ValueFields) (size : ℕ) → stays h old size ≡ true → Stays h old size
 unfolding stays
 stays-open h old size e =
-    let a = and_parts ((nat_lt 4 size && nat_le size segment_size) && nat_le old.size segment_size) (cell_size size == length (held h old.place) + 4) e in
+    let a = and_parts ((nat_lt 4 size && nat_le size segment_size) && nat_le old.size segment_size) (cell_size size == length (held h old.offset) + 4) e in
     let b = and_parts (nat_lt 4 size && nat_le size segment_size) (nat_le old.size segment_size) a.0 in
     let c = and_parts (nat_lt 4 size) (nat_le size segment_size) b.0 in
     record {
@@ -75,20 +75,20 @@ module _ (h : Heap) (cell : ℕ) (w : IsWrittenValue h cell) (old : ValueFields)
 
 -- what a record is with other data
 abbrev pub refilled : ValueFields → List ℕ → ℕ → ℕ → ℕ → KeyValueRecord
-refilled old name size place kind = record { fields = record { size = size; place = place; kind = kind; flags = old.flags }; name = name }
+refilled old name size offset kind = record { fields = record { size = size; offset = offset; kind = kind; flags = old.flags }; name = name }
 
 -- the record after a change of its data
 module _ (h k : Heap) (cell : ℕ) (w : IsWrittenValue h cell) (old : ValueFields) (name : List ℕ)
-    (r : value_record_at h cell ≡ Some (record { fields = old; name = name })) (size place kind : ℕ) (bytes cells : List ℕ)
-    (d : HoldsData k size place bytes cells) (s : value_record_at k cell ≡ Some (refilled old name size place kind)) (p : IsPlainValue (held k cell)) where
+    (r : value_record_at h cell ≡ Some (record { fields = old; name = name })) (size offset kind : ℕ) (bytes cells : List ℕ)
+    (d : HoldsData k size offset bytes cells) (s : value_record_at k cell ≡ Some (refilled old name size offset kind)) (p : IsPlainValue (held k cell)) where
   pub refilled-reads : (m : Member) (met : List Found) → member_at cell h ≡ Some (m, met) →
       member_at cell k ≡ Some (record { name = m.name; kind = kind; bytes = bytes }, record { kind = Value; offset = cell } ∷ d.met)
   refilled-reads m met e =
-      value-reads k cell (refilled old name size place kind) bytes d.met s p (flags-are h cell w old name r) d.reads (d.written kind old.flags)
+      value-reads k cell (refilled old name size offset kind) bytes d.met s p (flags-are h cell w old name r) d.reads (d.written kind old.flags)
       ∙ ap (λ n. Some (record { name = n; kind = kind; bytes = bytes }, record { kind = Value; offset = cell } ∷ d.met)) (sym (told-as h cell w old name r m met e))
 
   pub refilled-written : IsWrittenValue k cell
-  refilled-written = value-written k cell (refilled old name size place kind) bytes d.met s p (flags-are h cell w old name r) d.reads (d.written kind old.flags)
+  refilled-written = value-written k cell (refilled old name size offset kind) bytes d.met s p (flags-are h cell w old name r) d.reads (d.written kind old.flags)
 
 -- ---- in place
 
@@ -97,7 +97,7 @@ module _ (h0 h1 h2 : Heap) (cell : ℕ) (own : Owns (member_at cell) h0) (w : Is
   st' : Stays h0 old (length bytes)
   st' = stays-open h0 old (length bytes) st
 
-  one-met : (m : Member) (met : List Found) → member_at cell h0 ≡ Some (m, met) → (z : ℕ) → owned z met ≡ times z (old.place ∷ []) + times z (cell ∷ [])
+  one-met : (m : Member) (met : List Found) → member_at cell h0 ≡ Some (m, met) → (z : ℕ) → owned z met ≡ times z (old.offset ∷ []) + times z (cell ∷ [])
   one-met m met e z =
       let f = (data-written h0 cell w old name r).far in
       let d = member-data h0 cell m met e old name r in
@@ -108,18 +108,18 @@ module _ (h0 h1 h2 : Heap) (cell : ℕ) (own : Owns (member_at cell) h0) (w : Is
       let p = member-owned h0 cell m met e old name r z in
       omega (arith, o, p)
 
-  pub place-there : IsSome (h0 old.place)
-  place-there = let o = own.once old.place in let p = one-met own.result own.met own.reads old.place in let t = times-same old.place in one-there (h0 old.place) (omega (arith, o, p, t))
+  pub offset-there : IsSome (h0 old.offset)
+  offset-there = let o = own.once old.offset in let p = one-met own.result own.met own.reads old.offset in let t = times-same old.offset in one-there (h0 old.offset) (omega (arith, o, p, t))
 
-  pub place-room : HasRoom h0 old.place (length bytes)
-  place-room = record { exists = place-there; enough = (let s = st'.same in omega (arith, s)) }
+  pub offset-room : HasRoom h0 old.offset (length bytes)
+  offset-room = record { exists = offset-there; enough = (let s = st'.same in omega (arith, s)) }
 
-  apart : (z : ℕ) → times z (old.place ∷ []) + times z (cell ∷ []) ≤ 1
+  apart : (z : ℕ) → times z (old.offset ∷ []) + times z (cell ∷ []) ≤ 1
   apart z = let o = own.once z in let p = one-met own.result own.met own.reads z in let a = allocated-le h0 z in omega (arith, o, p, a)
 
-  module _ (written : (offset : ℕ) → h1 offset ≡ cond (offset == old.place) (Some (splice 0 bytes (held h0 old.place))) (h0 offset)) (writes : Writes h0 h1 (old.place ∷ [])) where
-    f1 : Fills h0 h1 (old.place ∷ [])
-    f1 = one-fills h0 h1 old.place bytes st'.large st'.small place-room written writes
+  module _ (written : (offset : ℕ) → h1 offset ≡ cond (offset == old.offset) (Some (splice 0 bytes (held h0 old.offset))) (h0 offset)) (writes : Writes h0 h1 (old.offset ∷ [])) where
+    f1 : Fills h0 h1 (old.offset ∷ [])
+    f1 = one-fills h0 h1 old.offset bytes st'.large st'.small offset-room written writes
 
     cell-kept : h1 cell ≡ h0 cell
     cell-kept = let a = apart cell in let t = times-same cell in f1.writes.same cell (omega (arith, a, t)) (omega (arith, a, t))
@@ -130,21 +130,21 @@ module _ (h0 h1 h2 : Heap) (cell : ℕ) (own : Owns (member_at cell) h0) (w : Is
     pub plain-kept : IsPlainValue (held h1 cell)
     plain-kept = subst IsPlainValue (sym (same-held h0 h1 cell cell-kept)) w.plain
 
-    module _ (kind : ℕ) (f2 : Fills h1 h2 (cell ∷ [])) (s : value_record_at h2 cell ≡ Some (refilled old name (length bytes) old.place kind)) (p : IsPlainValue (held h2 cell)) where
-      d2 : HoldsData h2 (length bytes) old.place bytes (old.place ∷ [])
-      d2 = holds-kept h1 h2 (length bytes) old.place bytes (old.place ∷ []) (λ z l. let a = apart z in
-          f2.writes.same z (omega (arith, a, l)) (omega (arith, a, l))) (one-holds h0 h1 old.place bytes st'.large st'.small place-room written writes)
+    module _ (kind : ℕ) (f2 : Fills h1 h2 (cell ∷ [])) (s : value_record_at h2 cell ≡ Some (refilled old name (length bytes) old.offset kind)) (p : IsPlainValue (held h2 cell)) where
+      d2 : HoldsData h2 (length bytes) old.offset bytes (old.offset ∷ [])
+      d2 = holds-kept h1 h2 (length bytes) old.offset bytes (old.offset ∷ []) (λ z l. let a = apart z in
+          f2.writes.same z (omega (arith, a, l)) (omega (arith, a, l))) (one-holds h0 h1 old.offset bytes st'.large st'.small offset-room written writes)
 
       pub rewritten : (m : Member) (met : List Found) → member_at cell h0 ≡ Some (m, met) → BecameValue h0 h2 (λ z. owned z met) cell (record { name = m.name; kind = kind; bytes = bytes })
       rewritten m met e =
           let T : ℕ → ℕ = λ z. owned z met in
           record {
             cells = record { kind = Value; offset = cell } ∷ d2.met;
-            reads = refilled-reads h0 h2 cell w old name r (length bytes) old.place kind bytes (old.place ∷ []) d2 s p m met e;
-            written = refilled-written h0 h2 cell w old name r (length bytes) old.place kind bytes (old.place ∷ []) d2 s p;
-            swaps = swaps-then h0 h1 h2 T T (λ z. owned z (record { kind = Value; offset = cell } ∷ d2.met))
-                (writes-in h0 h1 (old.place ∷ []) T f1.writes (λ z. let o = one-met m met e z in omega (arith, o)))
-                (swaps-with h1 h2 _ _ (λ z. times z (old.place ∷ [])) T (λ z. owned z (record { kind = Value; offset = cell } ∷ d2.met)) f2.writes
+            reads = refilled-reads h0 h2 cell w old name r (length bytes) old.offset kind bytes (old.offset ∷ []) d2 s p m met e;
+            written = refilled-written h0 h2 cell w old name r (length bytes) old.offset kind bytes (old.offset ∷ []) d2 s p;
+            frame = frame-then h0 h1 h2 T T (λ z. owned z (record { kind = Value; offset = cell } ∷ d2.met))
+                (writes-in h0 h1 (old.offset ∷ []) T f1.writes (λ z. let o = one-met m met e z in omega (arith, o)))
+                (frame-with h1 h2 _ _ (λ z. times z (old.offset ∷ [])) T (λ z. owned z (record { kind = Value; offset = cell } ∷ d2.met)) f2.writes
                 (λ z. let o = one-met m met e z in omega (arith, o)) (λ z. let o = d2.owns z in omega (arith, o)));
           }
 
@@ -181,9 +181,10 @@ module _ (h1 h2 h3 : Heap) (cell : ℕ) (cells : List ℕ) (own : OwnsBeside (me
     data-there3 : (all : List ℕ) (dmet : List Found) → data_at old h1 ≡ Some (all, dmet) →
         ((z : ℕ) → owned z dmet + times z cells + times z (cell ∷ []) ≤ allocated h1 z) → data_at old h3 ≡ Some (all, dmet)
     data-there3 all dmet e l =
-        let i = data-inner h1 (is_inline old.size) (nat_le old.size segment_size) old.size old.place (all, dmet) e in
-        let k = data-local (is_inline old.size) (nat_le old.size segment_size) old.size old.place h1 h2 (all, dmet) e (agree-apart h1 h2 _ _ f1.writes dmet i (λ z. let a = l z in omega (arith, a))) in
-        data-local (is_inline old.size) (nat_le old.size segment_size) old.size old.place h2 h3 (all, dmet) k
+        let i = data-inner h1 (is_inline old.size) (nat_le old.size segment_size) old.size old.offset (all, dmet) e in
+        let k = data-local (is_inline old.size) (nat_le old.size segment_size) old.size old.offset h1 h2 (all, dmet) e
+        (agree-apart h1 h2 _ _ f1.writes dmet i (λ z. let a = l z in omega (arith, a))) in
+        data-local (is_inline old.size) (nat_le old.size segment_size) old.size old.offset h2 h3 (all, dmet) k
         (agree-apart h2 h3 _ _ f2.writes dmet i (λ z. let a = l z in let c = f1.writes.count z in omega (arith, a, c)))
 
     room1 : (z : ℕ) → owned z (member-parts h1 cell own.result own.met own.reads old name r).cells + times z cells + times z (cell ∷ []) ≤ allocated h1 z
@@ -198,7 +199,7 @@ module _ (h1 h2 h3 : Heap) (cell : ℕ) (cells : List ℕ) (own : OwnsBeside (me
     }
 
     module _ (h4 : Heap) (g : GivesUpRead (data_at old) h3 h4) where
-      gone : Swaps h3 h4 (λ z. owned z (member-parts h1 cell own.result own.met own.reads old name r).cells) (λ z. 0)
+      gone : CellFrame h3 h4 (λ z. owned z (member-parts h1 cell own.result own.met own.reads old name r).cells) (λ z. 0)
       gone = g own.result.bytes _ (data-there3 own.result.bytes _ (member-data h1 cell own.result own.met own.reads old name r) room1)
 
       cell-kept4 : h4 cell ≡ h3 cell
@@ -213,13 +214,13 @@ module _ (h1 h2 h3 : Heap) (cell : ℕ) (cells : List ℕ) (own : OwnsBeside (me
         sizes = λ z l. ap (λ (o : Option (List ℕ)). length (unwrap_or o [])) (cells-kept4 z l) ∙ (f2.sizes z ∙ f1.sizes z);
       }
 
-      module _ (size place kind : ℕ) (bytes : List ℕ) (d : HoldsData h2 size place bytes cells)
-          (s : value_record_at h3 cell ≡ Some (refilled old name size place kind)) (p : IsPlainValue (held h3 cell)) where
-        d4 : HoldsData h4 size place bytes cells
-        d4 = holds-kept h3 h4 size place bytes cells cells-kept4 (holds-kept h2 h3 size place bytes cells (λ z l. let a = room1 z in
+      module _ (size offset kind : ℕ) (bytes : List ℕ) (d : HoldsData h2 size offset bytes cells)
+          (s : value_record_at h3 cell ≡ Some (refilled old name size offset kind)) (p : IsPlainValue (held h3 cell)) where
+        d4 : HoldsData h4 size offset bytes cells
+        d4 = holds-kept h3 h4 size offset bytes cells cells-kept4 (holds-kept h2 h3 size offset bytes cells (λ z l. let a = room1 z in
             let b = allocated-le h1 z in f2.writes.same z (omega (arith, a, l, b)) (omega (arith, a, l, b))) d)
 
-        s4 : value_record_at h4 cell ≡ Some (refilled old name size place kind)
+        s4 : value_record_at h4 cell ≡ Some (refilled old name size offset kind)
         s4 = value_record_at-same h3 h4 cell cell-kept4 ∙ s
 
         p4 : IsPlainValue (held h4 cell)
@@ -233,11 +234,11 @@ module _ (h1 h2 h3 : Heap) (cell : ℕ) (cells : List ℕ) (own : OwnsBeside (me
             let last : ℕ → ℕ = λ z. owned z (record { kind = Value; offset = cell } ∷ d4.met) in
             record {
               cells = record { kind = Value; offset = cell } ∷ d4.met;
-              reads = refilled-reads h1 h4 cell w old name r size place kind bytes cells d4 s4 p4 m met e;
-              written = refilled-written h1 h4 cell w old name r size place kind bytes cells d4 s4 p4;
-              swaps = swaps-then h1 h2 h4 T T last (writes-in h1 h2 cells T f1.writes (λ z. omega arith))
-                  (swaps-then h2 h3 h4 T T last (writes-in h2 h3 (cell ∷ []) T f2.writes (λ z. let o = own-cells z in let x = q z in omega (arith, o, x)))
-                  (swaps-with h3 h4 _ _ (λ z. times z (cell ∷ []) + times z cells) T last gone (λ z. let o = own-cells z in let x = q z in
+              reads = refilled-reads h1 h4 cell w old name r size offset kind bytes cells d4 s4 p4 m met e;
+              written = refilled-written h1 h4 cell w old name r size offset kind bytes cells d4 s4 p4;
+              frame = frame-then h1 h2 h4 T T last (writes-in h1 h2 cells T f1.writes (λ z. omega arith))
+                  (frame-then h2 h3 h4 T T last (writes-in h2 h3 (cell ∷ []) T f2.writes (λ z. let o = own-cells z in let x = q z in omega (arith, o, x)))
+                  (frame-with h3 h4 _ _ (λ z. times z (cell ∷ []) + times z cells) T last gone (λ z. let o = own-cells z in let x = q z in
                   omega (arith, o, x)) (λ z. let o = d4.owns z in omega (arith, o))));
             }
 
@@ -274,8 +275,8 @@ module _ (h0 h1 : Heap) (cell : ℕ) (cells sizes : List ℕ) (own : Owns (membe
         cells = b.cells;
         reads = b.reads;
         written = b.written;
-        swaps = swaps-then h0 h1 h4 (λ z. owned z met) (λ z. owned z met + times z cells) (λ z. owned z b.cells)
-            (swaps-with h0 h1 _ _ (λ z. owned z met) (λ z. owned z met) (λ z. owned z met + times z cells) a.come (λ z. omega arith) (λ z. omega arith)) b.swaps;
+        frame = frame-then h0 h1 h4 (λ z. owned z met) (λ z. owned z met + times z cells) (λ z. owned z b.cells)
+            (frame-with h0 h1 _ _ (λ z. owned z met) (λ z. owned z met) (λ z. owned z met + times z cells) a.come (λ z. omega arith) (λ z. omega arith)) b.frame;
       }
 
 pub made-new : (h0 h1 h4 : Heap) (cells sizes : List ℕ) (size : ℕ) → AreNew h0 h1 cells sizes → sizes ≡ data_sizes size → Keeps h1 h4 cells → Makes h0 h4 (data_sizes size)
@@ -289,7 +290,7 @@ replace-sizes h cell size v b r s = ap (new_data_sizes h size) r ∙ ap (λ b. c
 
 -- the data's one cell is there
 pub old-there : (h : Heap) (cell : ℕ) (own : Owns (member_at cell) h) (w : IsWrittenValue h cell) (old : ValueFields) (name : List ℕ) →
-    value_record_at h cell ≡ Some (record { fields = old; name = name }) → old.size ≤ SEGMENT_SIZE → IsSome (h old.place)
+    value_record_at h cell ≡ Some (record { fields = old; name = name }) → old.size ≤ SEGMENT_SIZE → IsSome (h old.offset)
 old-there h cell own w old name r l = data-there h old own.result.bytes _ (member-data h cell own.result own.met own.reads old name r) (data-written h cell w old name r) l
 
 pub new-cells : (h0 h1 : Heap) (os all ss sizes : List ℕ) → AreNew h0 h1 os ss → all ≡ os → ss ≡ sizes → AreNew h0 h1 all sizes

@@ -18,7 +18,7 @@ use Rattle.reg_arena.specs.NewCells.{cell_size}
 use Rattle.reg_values.specs.ValueSizes.{segment_sizes, data_sizes, list_sizes, sizes_by, has_room, stays, new_data_sizes}
 use Rattle.reg_records.specs.KeyValues.{KeyValueRecord}
 use Rattle.reg_values.proofs.ValueListing.FoundValues.{held-is}
-use Rattle.reg_values.proofs.ValueFreeing.SwapChains.{allocated-le, none-there, there-one, times-same}
+use Rattle.reg_values.proofs.ValueFreeing.FrameChains.{allocated-le, none-there, there-one, times-same}
 use Rattle.reg_values.proofs.ValueData.StoredData.{few-segments}
 
 cell-ok : (n : ℕ) → (0 < cell_size n) × (cell_size n % 8 ≡ 0)
@@ -58,30 +58,30 @@ total-append : (xs ys : List ℕ) → total_of (xs ++ ys) ≡ total_of xs + tota
 total-append [] ys = omega arith
 total-append (x ∷ xs) ys = let k = total-append xs ys in omega (arith, k)
 
-list-ok : (h : Heap) (count place : ℕ) → AreSizes (list_sizes h count place)
+list-ok : (h : Heap) (count offset : ℕ) → AreSizes (list_sizes h count offset)
 unfolding list_sizes
-list-ok h count place = by (has_room h count place)
+list-ok h count offset = by (has_room h count offset)
   where
     by : (b : Bool) → AreSizes (cond b [] (cell_size (4 * count + 4) ∷ []))
     by true = tt
     by false = (cell-ok (4 * count + 4), tt)
 
-list-total : (h : Heap) (count place : ℕ) → count ≤ VALUES_LIMIT → total_of (list_sizes h count place) ≤ 65560
+list-total : (h : Heap) (count offset : ℕ) → count ≤ VALUES_LIMIT → total_of (list_sizes h count offset) ≤ 65560
 unfolding list_sizes
-list-total h count place l = by (has_room h count place)
+list-total h count offset l = by (has_room h count offset)
   where
     by : (b : Bool) → total_of (cond b [] (cell_size (4 * count + 4) ∷ [])) ≤ 65560
     by true = omega arith
     by false = omega (arith, l)
 
-pub add-ok : (h : Heap) (count place name size : ℕ) → AreSizes (sizes_by h count place name size None)
-add-ok h count place name size = (cell-ok (20 + name), all-app _ (list_sizes h count place) (data_sizes size) (list-ok h count place) (data-ok size))
+pub add-ok : (h : Heap) (count offset name size : ℕ) → AreSizes (sizes_by h count offset name size None)
+add-ok h count offset name size = (cell-ok (20 + name), all-app _ (list_sizes h count offset) (data_sizes size) (list-ok h count offset) (data-ok size))
 
-pub add-total : (h : Heap) (count place name size : ℕ) → count ≤ VALUES_LIMIT → name ≤ VALUE_NAME_LIMIT → size ≤ DATA_LIMIT → total_of (sizes_by h count place name size None) ≤ 1306592
-add-total h count place name size c n s =
-    let a = list-total h count place c in
+pub add-total : (h : Heap) (count offset name size : ℕ) → count ≤ VALUES_LIMIT → name ≤ VALUE_NAME_LIMIT → size ≤ DATA_LIMIT → total_of (sizes_by h count offset name size None) ≤ 1306592
+add-total h count offset name size c n s =
+    let a = list-total h count offset c in
     let d = data-total size s in
-    omega (arith, a, d, n, total-append (list_sizes h count place) (data_sizes size))
+    omega (arith, a, d, n, total-append (list_sizes h count offset) (data_sizes size))
 
 -- ---- near the limit
 

@@ -197,23 +197,23 @@ pub enough-segments : (size : ℕ) → size ≤ segment_size * segments_for size
 unfolding segment_size
 enough-segments size = omega arith
 
-pub data-length : (heap : Heap) (inline small : Bool) (size place : ℕ) (bytes : List ℕ) (zs : List Found) →
-    data_by inline small size place heap ≡ Some (bytes, zs) → length bytes ≡ cond inline (inline_size size) size
-data-length heap true small size place bytes zs e =
-    let g = guard-open (nat_le (inline_size size) 4) (give (take (inline_size size) (little_bytes 4 place))) heap (bytes, zs) e in
-    let p : ◌≡◌ {A = List ℕ × List Found} (take (inline_size size) (little_bytes 4 place), []) (bytes, zs) = same_Some _ _ g.1 in
+pub data-length : (heap : Heap) (inline small : Bool) (size offset : ℕ) (bytes : List ℕ) (zs : List Found) →
+    data_by inline small size offset heap ≡ Some (bytes, zs) → length bytes ≡ cond inline (inline_size size) size
+data-length heap true small size offset bytes zs e =
+    let g = guard-open (nat_le (inline_size size) 4) (give (take (inline_size size) (little_bytes 4 offset))) heap (bytes, zs) e in
+    let p : ◌≡◌ {A = List ℕ × List Found} (take (inline_size size) (little_bytes 4 offset), []) (bytes, zs) = same_Some _ _ g.1 in
     let few = leb-true _ _ g.0 in
-    let four : length (little_bytes 4 place) ≡ 4 = refl in
-    ap (λ (p : List ℕ × List Found). length p.0) (sym p) ∙ omega (arith, few, length-take (inline_size size) (little_bytes 4 place), four)
-data-length heap false true zero place bytes zs e = ap length (pieces-none heap bytes zs e).0
-data-length heap false true (suc n) place bytes zs e =
-    let p = piece-open heap (named Data (suc n) place) [] bytes zs e in
+    let four : length (little_bytes 4 offset) ≡ 4 = refl in
+    ap (λ (p : List ℕ × List Found). length p.0) (sym p) ∙ omega (arith, few, length-take (inline_size size) (little_bytes 4 offset), four)
+data-length heap false true zero offset bytes zs e = ap length (pieces-none heap bytes zs e).0
+data-length heap false true (suc n) offset bytes zs e =
+    let p = piece-open heap (named Data (suc n) offset) [] bytes zs e in
     let r = (pieces-none heap p.rest p.cells p.rest_is).0 in
     let whole = ap length p.is in
     let long = p.long in
     let none = ap length r in
     omega (arith, whole, length-append (take (suc n) p.content) p.rest, length-take (suc n) p.content, long, none)
-data-length heap false false size place bytes zs e =
-    let b = big-open heap size place bytes zs e in
+data-length heap false false size offset bytes zs e =
+    let b = big-open heap size offset bytes zs e in
     segments-length heap size (offsets_at (segments_for size) 0 (held heap b.big.list)) bytes b.cells
     (subst (λ n. size ≤ segment_size * n) (sym (length-offsets (segments_for size) 0 (held heap b.big.list))) (enough-segments size)) b.pieces

@@ -20,7 +20,7 @@ use Rattle.reg_values.specs.Internal.ValueListParts.{Fills}
 use Rattle.reg_values.proofs.ValueListing.FoundValues.{held-is}
 use Rattle.reg_values.proofs.ValueData.DataPieces.{piece-made, times-suc}
 use Rattle.reg_values.proofs.ValueData.SegmentReading.{segment-is}
-use Rattle.reg_values.proofs.ValueFreeing.SwapChains.{there-one, one-there, writes-in}
+use Rattle.reg_values.proofs.ValueFreeing.FrameChains.{there-one, one-there, writes-in}
 
 -- ---- one cell
 

@@ -14,7 +14,7 @@ use Rattle.reg_arena.specs.NewCells.{cell_size}
 use Rattle.reg_values.specs.ValueSizes.{segment_sizes, data_sizes}
 use Rattle.reg_values.proofs.ValueListing.FoundValues.{is-some, held-is}
 use Rattle.reg_values.proofs.ValueData.SegmentReading.{segment-is}
-use Rattle.reg_values.proofs.ValueFreeing.SwapChains.{allocated-le}
+use Rattle.reg_values.proofs.ValueFreeing.FrameChains.{allocated-le}
 use Rattle.reg_values.proofs.ValueChanges.PlannedSizes.{one-size, big-sizes}
 
 pub segment-count : (n size : ℕ) → length (segment_sizes n size) ≡ n

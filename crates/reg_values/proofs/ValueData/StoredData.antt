@@ -21,7 +21,7 @@ use Rattle.reg_values.specs.Internal.ValueListParts.{Fills, HoldsData}
 use Rattle.reg_values.specs.ValueSizes.{data_sizes}
 use Rattle.reg_values.proofs.ValueData.DataPieces.{le-false, piece-made, big-made, segments-owned}
 use Rattle.reg_values.proofs.ValueData.SegmentReading.{segment-is}
-use Rattle.reg_values.proofs.ValueFreeing.SwapChains.{times-same}
+use Rattle.reg_values.proofs.ValueFreeing.FrameChains.{times-same}
 use Rattle.reg_values.proofs.ValueData.FilledCells.{fills-in, fills-then, fills-there, fills-room, fills-same, written-here, fills-written}
 use Rattle.reg_values.proofs.ValueChanges.PlannedSizes.{few-sizes}
 
@@ -160,23 +160,23 @@ pub none-of : (cells : List ℕ) → length cells ≡ 0 → cells ≡ []
 none-of [] e = refl
 none-of (x ∷ xs) e = absurd (omega arith)
 
-pub near-holds : (h : Heap) (place : ℕ) (bytes cells : List ℕ) → length bytes ≤ 4 → length cells ≡ length (data_sizes (length bytes)) →
-    little_bytes 4 place ≡ get_or bytes 0 0 ∷ get_or bytes 1 0 ∷ get_or bytes 2 0 ∷ get_or bytes 3 0 ∷ [] →
-    HoldsData h (2147483648 + length bytes) place bytes cells
-near-holds h place bytes cells l n e =
+pub near-holds : (h : Heap) (offset : ℕ) (bytes cells : List ℕ) → length bytes ≤ 4 → length cells ≡ length (data_sizes (length bytes)) →
+    little_bytes 4 offset ≡ get_or bytes 0 0 ∷ get_or bytes 1 0 ∷ get_or bytes 2 0 ∷ get_or bytes 3 0 ∷ [] →
+    HoldsData h (2147483648 + length bytes) offset bytes cells
+near-holds h offset bytes cells l n e =
     let size : ℕ = 2147483648 + length bytes in
     let none : cells ≡ [] = none-of cells (n ∙ ap length (few-sizes (length bytes) l)) in
     let plain : inline_size size ≡ length bytes = omega arith in
-    let guarded : data_by true (nat_le size segment_size) size place h ≡ Some (take (inline_size size) (little_bytes 4 place), []) =
-    guard-made (nat_le (inline_size size) 4) (give (take (inline_size size) (little_bytes 4 place))) h _
+    let guarded : data_by true (nat_le size segment_size) size offset h ≡ Some (take (inline_size size) (little_bytes 4 offset), []) =
+    guard-made (nat_le (inline_size size) 4) (give (take (inline_size size) (little_bytes 4 offset))) h _
     (le-leb _ _ (omega (arith, plain, l))) refl in
-    subst (HoldsData h size place bytes) (sym none) (record {
+    subst (HoldsData h size offset bytes) (sym none) (record {
       met = [];
-      reads = ap (λ b. data_by b (nat_le size segment_size) size place h) (le-leb 2147483648 size (omega arith)) ∙
-          (guarded ∙ ap (λ xs. Some (xs, [])) (ap (λ n. take n (little_bytes 4 place)) plain ∙ (ap (take (length bytes)) e ∙ front4 bytes l)));
+      reads = ap (λ b. data_by b (nat_le size segment_size) size offset h) (le-leb 2147483648 size (omega arith)) ∙
+          (guarded ∙ ap (λ xs. Some (xs, [])) (ap (λ n. take n (little_bytes 4 offset)) plain ∙ (ap (take (length bytes)) e ∙ front4 bytes l)));
       owns = λ z. refl;
       written = λ kind flags. record {
-        inline = λ i. ap (λ n. drop n (little_bytes 4 place)) plain ∙ (ap (drop (length bytes)) e ∙ (back4 bytes l ∙ ap (λ n. replicate (4 - n) 0) (sym plain)));
+        inline = λ i. ap (λ n. drop n (little_bytes 4 offset)) plain ∙ (ap (drop (length bytes)) e ∙ (back4 bytes l ∙ ap (λ n. replicate (4 - n) 0) (sym plain)));
         far = λ i. absurd (false≢true (sym i ∙ le-leb 2147483648 size (omega arith)));
         big = λ i q. absurd (false≢true (sym i ∙ le-leb 2147483648 size (omega arith)));
       };

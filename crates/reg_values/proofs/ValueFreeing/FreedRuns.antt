@@ -3,7 +3,7 @@ use Rattle.std.proofs.Common.{◌≡◌, ℕ, zero, suc, ◌+◌, ◌*◌, ◌<�
 use Rattle.std.proofs.lemmas.Option.{same_Some}
 use Rattle.reg_heap.specs.Kinds.{Found, times, owned}
 use Rattle.reg_heap.specs.Paths.{Member}
-use Rattle.reg_heap.specs.Heaps.{Heap, Swaps, GivesUp, allocated}
+use Rattle.reg_heap.specs.Heaps.{Heap, CellFrame, GivesUp, allocated}
 use Rattle.reg_records.specs.declared.db.TheConstants.{SEGMENT_SIZE}
 use Rattle.reg_records.specs.declared.vk.ValueFields.{ValueFields}
 use Rattle.reg_records.specs.RecordCells.{held}
@@ -15,7 +15,7 @@ use Rattle.reg_values.specs.Internal.ValueListParts.{Owns}
 use Rattle.reg_values.proofs.ValueListing.FoundValues.{IsMember, member-open}
 use Rattle.reg_values.proofs.ValueData.DataPieces.{IsBig, big-open, segments-owned}
 use Rattle.reg_values.proofs.ValueData.DataForms.{one-data}
-use Rattle.reg_values.proofs.ValueFreeing.SwapChains.{times-same, times-append, allocated-le, one-there, swaps-none, swaps-then, swaps-with, kept-apart}
+use Rattle.reg_values.proofs.ValueFreeing.FrameChains.{times-same, times-append, allocated-le, one-there, frame-none, frame-then, frame-with, kept-apart}
 
 take-suc : (row : List ℕ) (i : ℕ) → i < length row → take (suc i) row ≡ take i row ++ get_or row i 0 ∷ []
 take-suc [] i l = absurd (omega arith)
@@ -60,25 +60,25 @@ module _ (h0 h : Heap) (list i : ℕ) (row : List ℕ) (once : (z : ℕ) → tim
     pub freed-more : (k : Heap) → GivesUp h k (get_or row i 0 ∷ []) → GivesUp h0 k (take (i + 1) row)
     freed-more k g =
         let x = get_or row i 0 in
-        swaps-then h0 h k _ (λ z. times z (x ∷ [])) _
-        (swaps-with h0 h _ _ (λ z. times z (x ∷ [])) (λ z. times z (take (i + 1) row)) (λ z. times z (x ∷ [])) s (λ z. next-times z row i l) (λ z. omega arith))
+        frame-then h0 h k _ (λ z. times z (x ∷ [])) _
+        (frame-with h0 h _ _ (λ z. times z (x ∷ [])) (λ z. times z (take (i + 1) row)) (λ z. times z (x ∷ [])) s (λ z. next-times z row i l) (λ z. omega arith))
         g
 
 pub freed-none : (h : Heap) (row : List ℕ) → GivesUp h h (take 0 row)
-freed-none h row = swaps-none h
+freed-none h row = frame-none h
 
 pub freed-all : (h k : Heap) (row : List ℕ) (i : ℕ) → length row ≤ i → GivesUp h k (take i row) → GivesUp h k row
 freed-all h k row i l g = subst (GivesUp h k) (take-whole row i l) g
 
 -- one more cell is given up
-pub gone-more : (a b c : Heap) (x : ℕ) (f f' : ℕ → ℕ) → Swaps a b f (λ z. 0) → GivesUp b c (x ∷ []) → ((z : ℕ) → f' z ≡ f z + times z (x ∷ [])) → Swaps a c f' (λ z. 0)
-gone-more a b c x f f' s g e = swaps-then a b c f' (λ z. times z (x ∷ [])) (λ z. 0) (swaps-with a b f (λ z. 0) (λ z. times z (x ∷ [])) f' (λ z. times z (x ∷ [])) s e (λ z. omega arith)) g
+pub gone-more : (a b c : Heap) (x : ℕ) (f f' : ℕ → ℕ) → CellFrame a b f (λ z. 0) → GivesUp b c (x ∷ []) → ((z : ℕ) → f' z ≡ f z + times z (x ∷ [])) → CellFrame a c f' (λ z. 0)
+gone-more a b c x f f' s g e = frame-then a b c f' (λ z. times z (x ∷ [])) (λ z. 0) (frame-with a b f (λ z. 0) (λ z. times z (x ∷ [])) f' (λ z. times z (x ∷ [])) s e (λ z. omega arith)) g
 
-pub gone-as : (a b : Heap) (f f' : ℕ → ℕ) → Swaps a b f (λ z. 0) → ((z : ℕ) → f' z ≡ f z) → Swaps a b f' (λ z. 0)
-gone-as a b f f' s e = swaps-with a b f (λ z. 0) (λ z. 0) f' (λ z. 0) s (λ z. e z ∙ omega arith) (λ z. omega arith)
+pub gone-as : (a b : Heap) (f f' : ℕ → ℕ) → CellFrame a b f (λ z. 0) → ((z : ℕ) → f' z ≡ f z) → CellFrame a b f' (λ z. 0)
+gone-as a b f f' s e = frame-with a b f (λ z. 0) (λ z. 0) f' (λ z. 0) s (λ z. e z ∙ omega arith) (λ z. omega arith)
 
 -- a cell that is met and not yet given up is there
-pub still-there : (a b : Heap) (f : ℕ → ℕ) (x : ℕ) → Swaps a b f (λ z. 0) → f x + times x (x ∷ []) ≤ allocated a x → IsSome (b x)
+pub still-there : (a b : Heap) (f : ℕ → ℕ) (x : ℕ) → CellFrame a b f (λ z. 0) → f x + times x (x ∷ []) ≤ allocated a x → IsSome (b x)
 still-there a b f x s l = let c = s.count x in let t = times-same x in one-there (b x) (omega (arith, c, l, t))
 
 -- ---- big data
@@ -121,5 +121,5 @@ module _ (h : Heap) (cell : ℕ) (m : Member) (met : List Found) (e : member_at 
   member-owned z = let q = ap (owned z) member-parts.met in omega (arith, q)
 
 pub one-owned : (h : Heap) (fields : ValueFields) (all : List ℕ) (met : List Found) → data_at fields h ≡ Some (all, met) → 0 < fields.size →
-    fields.size ≤ SEGMENT_SIZE → (z : ℕ) → owned z met ≡ times z (fields.place ∷ [])
+    fields.size ≤ SEGMENT_SIZE → (z : ℕ) → owned z met ≡ times z (fields.offset ∷ [])
 one-owned h fields all met e p l z = ap (owned z) (one-data h fields all met e p l).met_is

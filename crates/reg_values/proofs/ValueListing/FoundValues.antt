@@ -20,7 +20,7 @@ use Rattle.reg_names.specs.Names.{folded, name_cmp}
 use Rattle.reg_records.specs.declared.RecordFault.{RecordFault}
 use Rattle.reg_heap.specs.ByteWords.{word}
 use Rattle.reg_heap.specs.Paths.{Member}
-use Rattle.reg_heap.specs.Members.{same_name, place_named}
+use Rattle.reg_heap.specs.Members.{same_name, index_named}
 use Rattle.reg_heap.specs.Heaps.{Heap}
 use Rattle.reg_heap.specs.Kinds.{Found}
 use Rattle.reg_heap.specs.Kinds.Kind.{Value, ValueList}
@@ -159,28 +159,28 @@ all-at P (o ∷ row) zero a l = a.0
 all-at P (o ∷ row) (suc i) a l = all-at P row i a.1 (omega arith)
 
 -- what a loop over a list knows of the value at an index
-pub record Stands (heap : Heap) (place : ℕ) (members : List Member) (index : ℕ) : Type 0 where
-  pub list_here : IsSome (heap place)
-  pub long : 4 * index + 4 ≤ length (held heap place)
+pub record Stands (heap : Heap) (offset : ℕ) (members : List Member) (index : ℕ) : Type 0 where
+  pub list_here : IsSome (heap offset)
+  pub long : 4 * index + 4 ≤ length (held heap offset)
   pub member : Member
   pub cells : List Found
-  pub reads : member_at (offset_in (held heap place) index) heap ≡ Some (member, cells)
-  pub written : IsWrittenValue heap (offset_in (held heap place) index)
+  pub reads : member_at (offset_in (held heap offset) index) heap ≡ Some (member, cells)
+  pub written : IsWrittenValue heap (offset_in (held heap offset) index)
   pub at : slice_get members index ≡ Some member
   pub rest : drop index members ≡ member ∷ drop (suc index) members
 
-pub stands : (heap : Heap) (count place : ℕ) (members : List Member) (met : List Found) (index : ℕ) →
-    members_at count place heap ≡ Some (members, met) → AllByRecursion (IsWrittenValue heap) (offsets_at count 0 (held heap place)) → index < count →
-    Stands heap place members index
-stands heap zero place members met index e w l = absurd (omega arith)
-stands heap (suc n) place members met index e w l =
-    let o = bind-open (row_at ValueList (suc n) place) (λ row. each member_at row) heap (members, met) e in
-    let r = row-open heap ValueList (suc n) place o.first o.before o.first_is in
-    let h : held heap place ≡ r.content = held-is heap place r.content r.here in
-    let row : offsets_at (suc n) 0 (held heap place) ≡ o.first = ap (offsets_at (suc n) 0) h ∙ row-is (suc n) r.content o.first r.row_is in
-    let many : length o.first ≡ suc n = ap length (sym row) ∙ length-offsets (suc n) 0 (held heap place) in
+pub stands : (heap : Heap) (count list_offset : ℕ) (members : List Member) (met : List Found) (index : ℕ) →
+    members_at count list_offset heap ≡ Some (members, met) → AllByRecursion (IsWrittenValue heap) (offsets_at count 0 (held heap list_offset)) → index < count →
+    Stands heap list_offset members index
+stands heap zero list_offset members met index e w l = absurd (omega arith)
+stands heap (suc n) list_offset members met index e w l =
+    let o = bind-open (row_at ValueList (suc n) list_offset) (λ row. each member_at row) heap (members, met) e in
+    let r = row-open heap ValueList (suc n) list_offset o.first o.before o.first_is in
+    let h : held heap list_offset ≡ r.content = held-is heap list_offset r.content r.here in
+    let row : offsets_at (suc n) 0 (held heap list_offset) ≡ o.first = ap (offsets_at (suc n) 0) h ∙ row-is (suc n) r.content o.first r.row_is in
+    let many : length o.first ≡ suc n = ap length (sym row) ∙ length-offsets (suc n) 0 (held heap list_offset) in
     let a = each-at heap o.first o.then.0 o.then.1 index o.then_is (omega (arith, many)) in
-    let offset : get_or o.first index 0 ≡ offset_in (held heap place) index = ap (λ row. get_or row index 0) (sym row) ∙ offset-at (suc n) (held heap place) index l in
+    let offset : get_or o.first index 0 ≡ offset_in (held heap list_offset) index = ap (λ row. get_or row index 0) (sym row) ∙ offset-at (suc n) (held heap list_offset) index l in
     let long = row-long (suc n) r.content o.first r.row_is in
     let size = ap length h in
     record {
@@ -195,9 +195,9 @@ stands heap (suc n) place members met index e w l =
     }
 
 -- a list of values reads as one list of members
-pub same-read : (heap : Heap) (count place : ℕ) (values : AreValues heap count place) (members : List Member) (met : List Found) →
-    members_at count place heap ≡ Some (members, met) → (values.members ≡ members) × (values.met ≡ met)
-same-read heap count place values members met e =
+pub same-read : (heap : Heap) (count offset : ℕ) (values : AreValues heap count offset) (members : List Member) (met : List Found) →
+    members_at count offset heap ≡ Some (members, met) → (values.members ≡ members) × (values.met ≡ met)
+same-read heap count offset values members met e =
     let p : ◌≡◌ {A = List Member × List Found} (values.members, values.met) (members, met) = same_Some _ _ (sym values.reads ∙ e) in
     (ap (λ (p : List Member × List Found). p.0) p, ap (λ (p : List Member × List Found). p.1) p)
 
@@ -235,22 +235,22 @@ add-none (Some k) = ap (λ n. Some n) (omega arith)
 
 -- so many values are passed
 pub passed : (name : List ℕ) (members : List Member) (i : ℕ) (m : Member) → drop i members ≡ m ∷ drop (suc i) members →
-    same_name m.name name ≡ false → add-to i (place_named name (drop i members)) ≡ add-to (i + 1) (place_named name (drop (i + 1) members))
+    same_name m.name name ≡ false → add-to i (index_named name (drop i members)) ≡ add-to (i + 1) (index_named name (drop (i + 1) members))
 passed name members i m e s =
-    ap (λ ms. add-to i (place_named name ms)) e
-    ∙ (ap (λ b. add-to i (cond b (Some 0) (option_map suc (place_named name (drop (suc i) members))))) s
-    ∙ (add-suc i (place_named name (drop (suc i) members)) ∙ ap (λ n. add-to (i + 1) (place_named name (drop n members))) (sym (add-one i))))
+    ap (λ ms. add-to i (index_named name ms)) e
+    ∙ (ap (λ b. add-to i (cond b (Some 0) (option_map suc (index_named name (drop (suc i) members))))) s
+    ∙ (add-suc i (index_named name (drop (suc i) members)) ∙ ap (λ n. add-to (i + 1) (index_named name (drop n members))) (sym (add-one i))))
 
 pub met-here : (name : List ℕ) (members : List Member) (i : ℕ) (m : Member) → drop i members ≡ m ∷ drop (suc i) members →
-    same_name m.name name ≡ true → add-to i (place_named name (drop i members)) ≡ Some i
+    same_name m.name name ≡ true → add-to i (index_named name (drop i members)) ≡ Some i
 unfolding add-to
 met-here name members i m e s =
-    ap (λ ms. add-to i (place_named name ms)) e
-    ∙ (ap (λ b. add-to i (cond b (Some 0) (option_map suc (place_named name (drop (suc i) members))))) s ∙ ap (λ n. Some n) (omega arith))
+    ap (λ ms. add-to i (index_named name ms)) e
+    ∙ (ap (λ b. add-to i (cond b (Some 0) (option_map suc (index_named name (drop (suc i) members))))) s ∙ ap (λ n. Some n) (omega arith))
 
-pub none-left : (name : List ℕ) (members : List Member) (i : ℕ) → length members ≤ i → add-to i (place_named name (drop i members)) ≡ None
+pub none-left : (name : List ℕ) (members : List Member) (i : ℕ) → length members ≤ i → add-to i (index_named name (drop i members)) ≡ None
 unfolding add-to
-none-left name members i l = ap (λ ms. add-to i (place_named name ms)) (drop-past members i l)
+none-left name members i l = ap (λ ms. add-to i (index_named name ms)) (drop-past members i l)
   where
     drop-past : (xs : List Member) (i : ℕ) → length xs ≤ i → drop i xs ≡ []
     drop-past [] zero l = refl
@@ -279,24 +279,24 @@ is-ok P Q (Err e) f p = p
 
 -- ---- a value of a name
 
-pub place-within : (name : List ℕ) (members : List Member) (index : ℕ) → place_named name members ≡ Some index → index < length members
-place-within name [] index e = absurd (none-some _ e)
-place-within name (m ∷ ms) index e = by (λ i q. place-within name ms i q) (same_name m.name name) e
+pub offset-within : (name : List ℕ) (members : List Member) (index : ℕ) → index_named name members ≡ Some index → index < length members
+offset-within name [] index e = absurd (none-some _ e)
+offset-within name (m ∷ ms) index e = by (λ i q. offset-within name ms i q) (same_name m.name name) e
   where
-    later : ((i : ℕ) → place_named name ms ≡ Some i → i < length ms) → (p : Option ℕ) → place_named name ms ≡ p → option_map suc p ≡ Some index → index < length (m ∷ ms)
+    later : ((i : ℕ) → index_named name ms ≡ Some i → i < length ms) → (p : Option ℕ) → index_named name ms ≡ p → option_map suc p ≡ Some index → index < length (m ∷ ms)
     later f None q e = absurd (none-some _ e)
     later f (Some i) q e = let w = f i q in let n = same_Some _ _ e in omega (arith, w, n)
 
-    by : ((i : ℕ) → place_named name ms ≡ Some i → i < length ms) → (b : Bool) → cond b (Some 0) (option_map suc (place_named name ms)) ≡ Some index → index < length (m ∷ ms)
+    by : ((i : ℕ) → index_named name ms ≡ Some i → i < length ms) → (b : Bool) → cond b (Some 0) (option_map suc (index_named name ms)) ≡ Some index → index < length (m ∷ ms)
     by f true e = let n = same_Some _ _ e in omega (arith, n)
-    by f false e = later f (place_named name ms) refl e
+    by f false e = later f (index_named name ms) refl e
 
-pub named-stands : (heap : Heap) (count place : ℕ) (values : AreValues heap count place) (name : List ℕ) (index : ℕ) →
-    Some index ≡ place_named name values.members → Stands heap place values.members index
-named-stands heap count place values name index e =
-    let w = place-within name values.members index (sym e) in
-    let n = members-length heap count place values.members values.met values.reads in
-    stands heap count place values.members values.met index values.reads values.written.each (omega (arith, w, n))
+pub named-stands : (heap : Heap) (count offset : ℕ) (values : AreValues heap count offset) (name : List ℕ) (index : ℕ) →
+    Some index ≡ index_named name values.members → Stands heap offset values.members index
+named-stands heap count offset values name index e =
+    let w = offset-within name values.members index (sym e) in
+    let n = members-length heap count offset values.members values.met values.reads in
+    stands heap count offset values.members values.met index values.reads values.written.each (omega (arith, w, n))
 
-pub list-there : (heap : Heap) (count place : ℕ) → AreValues heap count place → 0 < count → IsSome (heap place)
-list-there heap count place values l = (stands heap count place values.members values.met 0 values.reads values.written.each l).list_here
+pub list-there : (heap : Heap) (count offset : ℕ) → AreValues heap count offset → 0 < count → IsSome (heap offset)
+list-there heap count offset values l = (stands heap count offset values.members values.met 0 values.reads values.written.each l).list_here

@@ -10,7 +10,7 @@ use Rattle.std.proofs.lemmas.Bool.{false≢true}
 use Rattle.reg_arena.proofs.Contents.CellWrites.{all-append}
 use Rattle.reg_names.specs.Names.{folded}
 use Rattle.reg_heap.specs.Paths.{Member}
-use Rattle.reg_heap.specs.Members.{same_name, place_named, value_named, values_with, values_without}
+use Rattle.reg_heap.specs.Members.{same_name, index_named, value_named, values_with, values_without}
 use Rattle.reg_shape.specs.Written.{Pairwise}
 use Rattle.reg_shape.proofs.Frame.ReadingFrame.{all-front, all-back}
 
@@ -29,16 +29,16 @@ later-zero (Some k) e = let n = same_Some _ _ e in omega (arith, n)
 
 -- the value of that name is at its index, and the values before it have other names
 pub without-at : (name : List ℕ) (front : List Member) (m : Member) (back : List Member) →
-    place_named name (front ++ m ∷ back) ≡ Some (length front) → values_without name (front ++ m ∷ back) ≡ front ++ back
+    index_named name (front ++ m ∷ back) ≡ Some (length front) → values_without name (front ++ m ∷ back) ≡ front ++ back
 without-at name [] m back e = by (same_name m.name name) e
   where
-    by : (b : Bool) → cond b (Some 0) (option_map suc (place_named name back)) ≡ Some 0 → cond b back (m ∷ values_without name back) ≡ back
+    by : (b : Bool) → cond b (Some 0) (option_map suc (index_named name back)) ≡ Some 0 → cond b back (m ∷ values_without name back) ≡ back
     by true e = refl
     by false e = absurd (later-zero _ e)
 without-at name (v ∷ front) m back e = by (λ q. without-at name front m back q) (same_name v.name name) e
   where
-    by : (place_named name (front ++ m ∷ back) ≡ Some (length front) → values_without name (front ++ m ∷ back) ≡ front ++ back) → (b : Bool) →
-        cond b (Some 0) (option_map suc (place_named name (front ++ m ∷ back))) ≡ Some (suc (length front)) →
+    by : (index_named name (front ++ m ∷ back) ≡ Some (length front) → values_without name (front ++ m ∷ back) ≡ front ++ back) → (b : Bool) →
+        cond b (Some 0) (option_map suc (index_named name (front ++ m ∷ back))) ≡ Some (suc (length front)) →
         cond b (front ++ m ∷ back) (v ∷ values_without name (front ++ m ∷ back)) ≡ v ∷ (front ++ back)
     by f true e = absurd (let n = same_Some _ _ e in omega (arith, n))
     by f false e = ap (λ ms. v ∷ ms) (f (later-some _ _ e))
@@ -47,28 +47,28 @@ abbrev pub changed : Member → ℕ → List ℕ → Member
 changed m kind bytes = record { name = m.name; kind = kind; bytes = bytes }
 
 pub with-at : (name : List ℕ) (kind : ℕ) (bytes : List ℕ) (front : List Member) (m : Member) (back : List Member) →
-    place_named name (front ++ m ∷ back) ≡ Some (length front) → values_with name kind bytes (front ++ m ∷ back) ≡ front ++ changed m kind bytes ∷ back
+    index_named name (front ++ m ∷ back) ≡ Some (length front) → values_with name kind bytes (front ++ m ∷ back) ≡ front ++ changed m kind bytes ∷ back
 with-at name kind bytes [] m back e = by (same_name m.name name) e
   where
-    by : (b : Bool) → cond b (Some 0) (option_map suc (place_named name back)) ≡ Some 0 → cond b (changed m kind bytes ∷ back) (m ∷ values_with name kind bytes back) ≡ changed m kind bytes ∷ back
+    by : (b : Bool) → cond b (Some 0) (option_map suc (index_named name back)) ≡ Some 0 → cond b (changed m kind bytes ∷ back) (m ∷ values_with name kind bytes back) ≡ changed m kind bytes ∷ back
     by true e = refl
     by false e = absurd (later-zero _ e)
 with-at name kind bytes (v ∷ front) m back e = by (λ q. with-at name kind bytes front m back q) (same_name v.name name) e
   where
-    by : (place_named name (front ++ m ∷ back) ≡ Some (length front) →
+    by : (index_named name (front ++ m ∷ back) ≡ Some (length front) →
         values_with name kind bytes (front ++ m ∷ back) ≡ front ++ changed m kind bytes ∷ back) → (b : Bool) →
-        cond b (Some 0) (option_map suc (place_named name (front ++ m ∷ back))) ≡ Some (suc (length front))
+        cond b (Some 0) (option_map suc (index_named name (front ++ m ∷ back))) ≡ Some (suc (length front))
         → cond b (changed v kind bytes ∷ (front ++ m ∷ back)) (v ∷ values_with name kind bytes (front ++ m ∷ back)) ≡ v ∷ (front ++ changed m kind bytes ∷ back)
     by f true e = absurd (let n = same_Some _ _ e in omega (arith, n))
     by f false e = ap (λ ms. v ∷ ms) (f (later-some _ _ e))
 
-pub with-new : (name : List ℕ) (kind : ℕ) (bytes : List ℕ) (members : List Member) → place_named name members ≡ None →
+pub with-new : (name : List ℕ) (kind : ℕ) (bytes : List ℕ) (members : List Member) → index_named name members ≡ None →
     values_with name kind bytes members ≡ members ++ record { name = name; kind = kind; bytes = bytes } ∷ []
 with-new name kind bytes [] e = refl
 with-new name kind bytes (v ∷ vs) e = by (λ q. with-new name kind bytes vs q) (same_name v.name name) e
   where
-    by : (place_named name vs ≡ None → values_with name kind bytes vs ≡ vs ++ record { name = name; kind = kind; bytes = bytes } ∷ []) → (b : Bool) →
-        ◌≡◌ {A = Option ℕ} (cond b (Some 0) (option_map suc (place_named name vs))) None
+    by : (index_named name vs ≡ None → values_with name kind bytes vs ≡ vs ++ record { name = name; kind = kind; bytes = bytes } ∷ []) → (b : Bool) →
+        ◌≡◌ {A = Option ℕ} (cond b (Some 0) (option_map suc (index_named name vs))) None
         → cond b (changed v kind bytes ∷ vs) (v ∷ values_with name kind bytes vs) ≡ v ∷ (vs ++ record { name = name; kind = kind; bytes = bytes } ∷ [])
     by f true e = absurd (none-some _ (sym e))
     by f false e = ap (λ ms. v ∷ ms) (f (later-none _ e))
@@ -83,13 +83,13 @@ not-same a b e q =
     let one : same_name a b ≡ true = ap (λ n. is_eq (slice_cmp nat_cmp n (folded b))) q ∙ ap is_eq (tied_itself nat_list_cmp_total (folded b)) in
     false≢true (sym e ∙ one)
 
-pub new-apart : (name : List ℕ) (kind : ℕ) (bytes : List ℕ) (members : List Member) → place_named name members ≡ None →
+pub new-apart : (name : List ℕ) (kind : ℕ) (bytes : List ℕ) (members : List Member) → index_named name members ≡ None →
     AllByRecursion (λ (m : Member). Apart m (record { name = name; kind = kind; bytes = bytes })) members
 new-apart name kind bytes [] e = tt
 new-apart name kind bytes (v ∷ vs) e = by (λ q. new-apart name kind bytes vs q) (same_name v.name name) refl e
   where
-    by : (place_named name vs ≡ None → AllByRecursion (λ (m : Member). Apart m (record { name = name; kind = kind; bytes = bytes })) vs) →
-        (b : Bool) → same_name v.name name ≡ b → ◌≡◌ {A = Option ℕ} (cond b (Some 0) (option_map suc (place_named name vs))) None →
+    by : (index_named name vs ≡ None → AllByRecursion (λ (m : Member). Apart m (record { name = name; kind = kind; bytes = bytes })) vs) →
+        (b : Bool) → same_name v.name name ≡ b → ◌≡◌ {A = Option ℕ} (cond b (Some 0) (option_map suc (index_named name vs))) None →
         AllByRecursion (λ (m : Member). Apart m (record { name = name; kind = kind; bytes = bytes })) (v ∷ vs)
     by f true s e = absurd (none-some _ (sym e))
     by f false s e = (not-same v.name name s, f (later-none _ e))
@@ -111,11 +111,11 @@ pairs-changed (v ∷ front) m kind bytes back p =
 
 -- ---- a value that is there has an index
 
-pub named-place : (name : List ℕ) (members : List Member) → IsSome (value_named name members) → place_named name members ≡ None → ⊥
-named-place name [] s e = false≢true s
-named-place name (v ∷ vs) s e = by (λ s q. named-place name vs s q) (same_name v.name name) s e
+pub named-index : (name : List ℕ) (members : List Member) → IsSome (value_named name members) → index_named name members ≡ None → ⊥
+named-index name [] s e = false≢true s
+named-index name (v ∷ vs) s e = by (λ s q. named-index name vs s q) (same_name v.name name) s e
   where
-    by : (IsSome (value_named name vs) → place_named name vs ≡ None → ⊥) → (b : Bool) → IsSome (cond b (Some v) (value_named name vs)) →
-        ◌≡◌ {A = Option ℕ} (cond b (Some 0) (option_map suc (place_named name vs))) None → ⊥
+    by : (IsSome (value_named name vs) → index_named name vs ≡ None → ⊥) → (b : Bool) → IsSome (cond b (Some v) (value_named name vs)) →
+        ◌≡◌ {A = Option ℕ} (cond b (Some 0) (option_map suc (index_named name vs))) None → ⊥
     by f true s e = none-some _ (sym e)
     by f false s e = f s (later-none _ e)

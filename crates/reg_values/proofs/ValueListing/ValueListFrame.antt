@@ -5,7 +5,7 @@ use Rattle.std.proofs.lemmas.Option.{same_Some}
 use Rattle.std.proofs.lemmas.List.{append-nil}
 use Rattle.reg_arena.proofs.Contents.CellWrites.{all-append}
 use Rattle.reg_heap.specs.Paths.{Member}
-use Rattle.reg_heap.specs.Heaps.{Heap, Swaps, allocated}
+use Rattle.reg_heap.specs.Heaps.{Heap, CellFrame, allocated}
 use Rattle.reg_heap.specs.Kinds.{Found, owned}
 use Rattle.reg_heap.specs.Kinds.Kind.{ValueList}
 use Rattle.reg_shape.specs.Readings.{◌>>=◌, give, given, cell, each}
@@ -20,21 +20,21 @@ use Rattle.reg_shape.proofs.Frame.ReadingFrame.{all-front, all-back, member-loca
 use Rattle.reg_shape.proofs.Frame.WrittenFrame.{row-is, each-kept}
 use Rattle.reg_values.specs.Internal.ValueListParts.{list_at}
 use Rattle.reg_values.proofs.ValueListing.FoundValues.{is-some, held-is, here-held, row-long, row-in}
-use Rattle.reg_values.proofs.ValueFreeing.SwapChains.{agree-apart}
+use Rattle.reg_values.proofs.ValueFreeing.FrameChains.{agree-apart}
 
 -- ---- the list itself
 
-pub record IsRow (heap : Heap) (count place : ℕ) (row : List ℕ) (met : List Found) : Type 0 where
-  pub here : IsSome (heap place)
-  pub long : 4 * count ≤ length (held heap place)
-  pub is : row ≡ offsets_at count 0 (held heap place)
-  pub met_is : met ≡ record { kind = ValueList; offset = place } ∷ []
+pub record IsRow (heap : Heap) (count offset : ℕ) (row : List ℕ) (met : List Found) : Type 0 where
+  pub here : IsSome (heap offset)
+  pub long : 4 * count ≤ length (held heap offset)
+  pub is : row ≡ offsets_at count 0 (held heap offset)
+  pub met_is : met ≡ record { kind = ValueList; offset = offset } ∷ []
 
-pub list-open : (heap : Heap) (count place : ℕ) (row : List ℕ) (met : List Found) → list_at count place heap ≡ Some (row, met) → 0 < count → IsRow heap count place row met
-list-open heap zero place row met e l = absurd (omega arith)
-list-open heap (suc n) place row met e l =
-    let r = row-open heap ValueList (suc n) place row met e in
-    let h : held heap place ≡ r.content = held-is heap place r.content r.here in
+pub list-open : (heap : Heap) (count offset : ℕ) (row : List ℕ) (met : List Found) → list_at count offset heap ≡ Some (row, met) → 0 < count → IsRow heap count offset row met
+list-open heap zero offset row met e l = absurd (omega arith)
+list-open heap (suc n) offset row met e l =
+    let r = row-open heap ValueList (suc n) offset row met e in
+    let h : held heap offset ≡ r.content = held-is heap offset r.content r.here in
     let long = row-long (suc n) r.content row r.row_is in
     record {
       here = is-some _ r.content r.here;
@@ -43,28 +43,28 @@ list-open heap (suc n) place row met e l =
       met_is = r.met;
     }
 
-pub list-made : (heap : Heap) (count place : ℕ) → 0 < count → IsSome (heap place) → 4 * count ≤ length (held heap place) →
-    list_at count place heap ≡ Some (offsets_at count 0 (held heap place), record { kind = ValueList; offset = place } ∷ [])
-list-made heap zero place p s l = absurd (omega arith)
-list-made heap (suc n) place p s l =
-    bind-made (cell ValueList place) (λ content. given (row_in (suc n) content)) heap (held heap place)
-    (record { kind = ValueList; offset = place } ∷ []) (offsets_at (suc n) 0 (held heap place), [])
-    (cell-made ValueList place heap _ (here-held heap place s)) (given-made _ (offsets_at (suc n) 0 (held heap place)) heap
-    (row-in (suc n) (held heap place) l))
+pub list-made : (heap : Heap) (count offset : ℕ) → 0 < count → IsSome (heap offset) → 4 * count ≤ length (held heap offset) →
+    list_at count offset heap ≡ Some (offsets_at count 0 (held heap offset), record { kind = ValueList; offset = offset } ∷ [])
+list-made heap zero offset p s l = absurd (omega arith)
+list-made heap (suc n) offset p s l =
+    bind-made (cell ValueList offset) (λ content. given (row_in (suc n) content)) heap (held heap offset)
+    (record { kind = ValueList; offset = offset } ∷ []) (offsets_at (suc n) 0 (held heap offset), [])
+    (cell-made ValueList offset heap _ (here-held heap offset s)) (given-made _ (offsets_at (suc n) 0 (held heap offset)) heap
+    (row-in (suc n) (held heap offset) l))
 
-pub list-row : (heap : Heap) (count place : ℕ) (row : List ℕ) (met : List Found) → list_at count place heap ≡ Some (row, met) → offsets_at count 0 (held heap place) ≡ row
+pub list-row : (heap : Heap) (count offset : ℕ) (row : List ℕ) (met : List Found) → list_at count offset heap ≡ Some (row, met) → offsets_at count 0 (held heap offset) ≡ row
 unfolding offsets_at
-list-row heap zero place row met e = ap (λ (p : List ℕ × List Found). p.0) (same_Some _ _ e)
-list-row heap (suc n) place row met e = sym (list-open heap (suc n) place row met e (omega arith)).is
+list-row heap zero offset row met e = ap (λ (p : List ℕ × List Found). p.0) (same_Some _ _ e)
+list-row heap (suc n) offset row met e = sym (list-open heap (suc n) offset row met e (omega arith)).is
 
 -- a change elsewhere leaves it
-pub list-kept : (count place : ℕ) (h k : Heap) (f g : ℕ → ℕ) (row : List ℕ) (met : List Found) → Swaps h k f g →
-    list_at count place h ≡ Some (row, met) → ((z : ℕ) → owned z met + f z ≤ allocated h z) → list_at count place k ≡ Some (row, met)
-list-kept zero place h k f g row met s e l = e
-list-kept (suc n) place h k f g row met s e l =
-    let r = list-open h (suc n) place row met e (omega arith) in
+pub list-kept : (count offset : ℕ) (h k : Heap) (f g : ℕ → ℕ) (row : List ℕ) (met : List Found) → CellFrame h k f g →
+    list_at count offset h ≡ Some (row, met) → ((z : ℕ) → owned z met + f z ≤ allocated h z) → list_at count offset k ≡ Some (row, met)
+list-kept zero offset h k f g row met s e l = e
+list-kept (suc n) offset h k f g row met s e l =
+    let r = list-open h (suc n) offset row met e (omega arith) in
     let i : AreInner met = subst AreInner (sym r.met_is) (refl, tt) in
-    row-local ValueList (suc n) place h k (row, met) e (agree-apart h k f g s met i l)
+    row-local ValueList (suc n) offset h k (row, met) e (agree-apart h k f g s met i l)
 
 -- ---- the values of a row
 
@@ -170,7 +170,7 @@ values-first heap x xs members met r =
     }
 
 -- a change elsewhere leaves them
-pub values-kept : (h k : Heap) (f g : ℕ → ℕ) → Swaps h k f g → (row : List ℕ) (members : List Member) (met : List Found) →
+pub values-kept : (h k : Heap) (f g : ℕ → ℕ) → CellFrame h k f g → (row : List ℕ) (members : List Member) (met : List Found) →
     ((z : ℕ) → owned z met + f z ≤ allocated h z) → AreRead h row members met → AreRead k row members met
 values-kept h k f g s row members met l r =
     let a = agree-apart h k f g s met r.inner l in
@@ -178,24 +178,24 @@ values-kept h k f g s row members met l r =
 
 -- ---- a list with its values
 
-pub record IsOpened (heap : Heap) (count place : ℕ) (members : List Member) (met : List Found) : Type 0 where
+pub record IsOpened (heap : Heap) (count offset : ℕ) (members : List Member) (met : List Found) : Type 0 where
   pub row : List ℕ
   pub list_met : List Found
-  pub list_is : list_at count place heap ≡ Some (row, list_met)
+  pub list_is : list_at count offset heap ≡ Some (row, list_met)
   pub value_met : List Found
   pub values : AreRead heap row members value_met
   pub met_is : met ≡ list_met ++ value_met
 
-by-list : (heap : Heap) (count place : ℕ) → members_at count place heap ≡ ◌>>=◌ (list_at count place) (λ row. each member_at row) heap
-by-list heap zero place = refl
-by-list heap (suc n) place = refl
+by-list : (heap : Heap) (count offset : ℕ) → members_at count offset heap ≡ ◌>>=◌ (list_at count offset) (λ row. each member_at row) heap
+by-list heap zero offset = refl
+by-list heap (suc n) offset = refl
 
-pub opened : (heap : Heap) (count place : ℕ) (members : List Member) (met : List Found) → members_at count place heap ≡ Some (members, met) →
-    AllByRecursion (IsWrittenValue heap) (offsets_at count 0 (held heap place)) → IsOpened heap count place members met
-opened heap count place members met e w =
-    let o = bind-open (list_at count place) (λ row. each member_at row) heap (members, met) (sym (by-list heap count place) ∙ e) in
-    let row = list-row heap count place o.first o.before o.first_is in
-    let i = subst AreInner (sym o.all) (members-inner heap count place (members, met) e) in
+pub opened : (heap : Heap) (count offset : ℕ) (members : List Member) (met : List Found) → members_at count offset heap ≡ Some (members, met) →
+    AllByRecursion (IsWrittenValue heap) (offsets_at count 0 (held heap offset)) → IsOpened heap count offset members met
+opened heap count offset members met e w =
+    let o = bind-open (list_at count offset) (λ row. each member_at row) heap (members, met) (sym (by-list heap count offset) ∙ e) in
+    let row = list-row heap count offset o.first o.before o.first_is in
+    let i = subst AreInner (sym o.all) (members-inner heap count offset (members, met) e) in
     record {
       row = o.first;
       list_met = o.before;
@@ -205,13 +205,13 @@ opened heap count place members met e w =
       met_is = sym o.all;
     }
 
-pub closed : (heap : Heap) (count place : ℕ) (row : List ℕ) (members : List Member) (list_met value_met : List Found) →
-    list_at count place heap ≡ Some (row, list_met) → AreRead heap row members value_met →
-    members_at count place heap ≡ Some (members, list_met ++ value_met)
-closed heap count place row members list_met value_met l r =
-    by-list heap count place ∙ bind-made (list_at count place) (λ row. each member_at row) heap row list_met (members, value_met) l r.reads
+pub closed : (heap : Heap) (count offset : ℕ) (row : List ℕ) (members : List Member) (list_met value_met : List Found) →
+    list_at count offset heap ≡ Some (row, list_met) → AreRead heap row members value_met →
+    members_at count offset heap ≡ Some (members, list_met ++ value_met)
+closed heap count offset row members list_met value_met l r =
+    by-list heap count offset ∙ bind-made (list_at count offset) (λ row. each member_at row) heap row list_met (members, value_met) l r.reads
 
-pub closed-written : (heap : Heap) (count place : ℕ) (row : List ℕ) (members : List Member) (list_met value_met : List Found) →
-    list_at count place heap ≡ Some (row, list_met) → AreRead heap row members value_met →
-    AllByRecursion (IsWrittenValue heap) (offsets_at count 0 (held heap place))
-closed-written heap count place row members list_met value_met l r = subst (AllByRecursion (IsWrittenValue heap)) (sym (list-row heap count place row list_met l)) r.written
+pub closed-written : (heap : Heap) (count offset : ℕ) (row : List ℕ) (members : List Member) (list_met value_met : List Found) →
+    list_at count offset heap ≡ Some (row, list_met) → AreRead heap row members value_met →
+    AllByRecursion (IsWrittenValue heap) (offsets_at count 0 (held heap offset))
+closed-written heap count offset row members list_met value_met l r = subst (AllByRecursion (IsWrittenValue heap)) (sym (list-row heap count offset row list_met l)) r.written

@@ -25,11 +25,11 @@ each-length heap (offset ∷ row) members cells e =
     let o = each-open member_at heap offset row members cells e in
     ap length (sym o.result) ∙ ap suc (each-length heap row o.tail o.tail_cells o.tail_is)
 
-pub members-length : (heap : Heap) (count place : ℕ) (members : List Member) (met : List Found) → members_at count place heap ≡ Some (members, met) → length members ≡ count
-members-length heap zero place members met e = ap (λ (p : List Member × List Found). length p.0) (sym (same_Some _ _ e))
-members-length heap (suc n) place members met e =
-    let o = bind-open (row_at ValueList (suc n) place) (λ row. each member_at row) heap (members, met) e in
-    let r = row-open heap ValueList (suc n) place o.first o.before o.first_is in
+pub members-length : (heap : Heap) (count offset : ℕ) (members : List Member) (met : List Found) → members_at count offset heap ≡ Some (members, met) → length members ≡ count
+members-length heap zero offset members met e = ap (λ (p : List Member × List Found). length p.0) (sym (same_Some _ _ e))
+members-length heap (suc n) offset members met e =
+    let o = bind-open (row_at ValueList (suc n) offset) (λ row. each member_at row) heap (members, met) e in
+    let r = row-open heap ValueList (suc n) offset o.first o.before o.first_is in
     let row : offsets_at (suc n) 0 r.content ≡ o.first = row-is (suc n) r.content o.first r.row_is in
     ap length (sym o.result) ∙ (each-length heap o.first o.then.0 o.then.1 o.then_is ∙ (ap length (sym row) ∙ length-offsets (suc n) 0 r.content))
 
@@ -43,15 +43,15 @@ no-values heap = record {
   written = record { few = omega arith; none = λ _. refl; each = tt; names = tt; apart = tt; sizes = tt };
 }
 
-pub values-length : (heap : Heap) (count place : ℕ) (values : AreValues heap count place) → length values.members ≡ count
-values-length heap count place values = members-length heap count place values.members values.met values.reads
+pub values-length : (heap : Heap) (count offset : ℕ) (values : AreValues heap count offset) → length values.members ≡ count
+values-length heap count offset values = members-length heap count offset values.members values.met values.reads
 
-pub values-again : (old new : Heap) (count place : ℕ) (values : AreValues old count place) (count' place' : ℕ) (members : List Member) →
-    Became old new values.met count' place' members → AreValues new count' place'
-values-again old new count place values count' place' members b = record {
+pub values-again : (old new : Heap) (count list_offset : ℕ) (values : AreValues old count list_offset) (count' offset' : ℕ) (members : List Member) →
+    Became old new values.met count' offset' members → AreValues new count' offset'
+values-again old new count list_offset values count' offset' members b = record {
   members = members;
   met = b.cells;
   reads = b.reads;
-  once = λ offset. (let c = b.swaps.count offset in let o = values.once offset in omega (arith, c, o));
+  once = λ offset. (let c = b.frame.count offset in let o = values.once offset in omega (arith, c, o));
   written = b.written;
 }

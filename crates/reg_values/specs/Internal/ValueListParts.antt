@@ -1,7 +1,7 @@
 -- The parts of a list of values, and what is written into cells (Suhanov, Windows registry file format specification, "Key
 -- values list", "Big data").
 use Rattle.std.specs.Prelude.{◌≡◌, ℕ, ◌+◌, ◌-◌, ◌<◌, ◌≤◌, zero, suc, nat_le, List, [], length, get_or, Some, IsSome}
-use Rattle.reg_heap.specs.Heaps.{Heap, Swaps, Writes, allocated}
+use Rattle.reg_heap.specs.Heaps.{Heap, CellFrame, Writes, allocated}
 use Rattle.reg_heap.specs.Kinds.{Found, times, owned}
 use Rattle.reg_heap.specs.Kinds.Kind.{ValueList}
 use Rattle.reg_shape.specs.Readings.{Reading, give}
@@ -18,8 +18,8 @@ segments_at size list = pieces_at (segments size (offsets_at (segments_for size)
 
 -- the offsets of so many values: without values no list is read
 abbrev pub list_at : ℕ → ℕ → Reading (List ℕ)
-list_at zero place = give []
-list_at (suc n) place = row_at ValueList (suc n) place
+list_at zero offset = give []
+list_at (suc n) offset = row_at ValueList (suc n) offset
 
 -- these cells may hold other bytes now, as many as before, and nothing else changed
 pub record Fills (old new : Heap) (cells : List ℕ) : Type 0 where
@@ -43,13 +43,13 @@ pub record OwnsBeside {A : Type 0} (r : Reading A) (heap : Heap) (spare : List �
 -- the cells that a reading meets were given up, and nothing else changed
 abbrev pub GivesUpRead : {A : Type 0} → Reading A → Heap → Heap → Type 0
 GivesUpRead {A = A} r old new =
-    (x : A) → (met : List Found) → r old ≡ Some (x, met) → Swaps old new (λ offset. owned offset met) (λ offset. 0)
+    (x : A) → (met : List Found) → r old ≡ Some (x, met) → CellFrame old new (λ offset. owned offset met) (λ offset. 0)
 
 -- the list reads as these offsets now; cells that are counted so were given up for its own, and nothing else changed
-pub record BecameList (old new : Heap) (gone : ℕ → ℕ) (count place : ℕ) (row : List ℕ) : Type 0 where
+pub record BecameList (old new : Heap) (gone : ℕ → ℕ) (count list_offset : ℕ) (row : List ℕ) : Type 0 where
   pub cells : List Found
-  pub reads : list_at count place new ≡ Some (row, cells)
-  pub swaps : Swaps old new gone (λ offset. owned offset cells)
+  pub reads : list_at count list_offset new ≡ Some (row, cells)
+  pub frame : CellFrame old new gone (λ offset. owned offset cells)
 
 -- these cells differ, and each holds as many bytes as a cell of its size has room for
 pub record HaveRoom (heap : Heap) (cells sizes : List ℕ) : Type 0 where
@@ -58,11 +58,11 @@ pub record HaveRoom (heap : Heap) (cells sizes : List ℕ) : Type 0 where
   pub room : (index : ℕ) → index < length cells → HasRoom heap (get_or cells index 0) (get_or sizes index 0 - 4)
 
 -- a record with this size field and data offset has these bytes as its data, in just these cells, as it is written
-pub record HoldsData (heap : Heap) (size place : ℕ) (bytes cells : List ℕ) : Type 0 where
+pub record HoldsData (heap : Heap) (size data_offset : ℕ) (bytes cells : List ℕ) : Type 0 where
   pub met : List Found
-  pub reads : data_by (is_inline size) (nat_le size segment_size) size place heap ≡ Some (bytes, met)
+  pub reads : data_by (is_inline size) (nat_le size segment_size) size data_offset heap ≡ Some (bytes, met)
   pub owns : (offset : ℕ) → owned offset met ≡ times offset cells
-  pub written : (kind flags : ℕ) → IsWrittenData heap (record { size = size; place = place; kind = kind; flags = flags })
+  pub written : (kind flags : ℕ) → IsWrittenData heap (record { size = size; offset = data_offset; kind = kind; flags = flags })
 
 -- a cell holds a value's record, whose cells are just these
 pub record HoldsValue (heap : Heap) (cell : ℕ) (member : Member) (cells : List ℕ) : Type 0 where
@@ -77,7 +77,7 @@ pub record BecameValue (old new : Heap) (gone : ℕ → ℕ) (cell : ℕ) (membe
   pub cells : List Found
   pub reads : member_at cell new ≡ Some (member, cells)
   pub written : IsWrittenValue new cell
-  pub swaps : Swaps old new gone (λ offset. owned offset cells)
+  pub frame : CellFrame old new gone (λ offset. owned offset cells)
 
 -- no cell came, and these cells hold as many bytes as before
 pub record Keeps (old new : Heap) (cells : List ℕ) : Type 0 where

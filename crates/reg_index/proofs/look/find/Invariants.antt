@@ -8,7 +8,7 @@ use Rattle.reg_index.proofs.look.find.Given as goal
 
 abbrev pub invariant-loop-low : goal.invariant-loop-low
 invariant-loop-low l =
-    (entries : List Entry) → AreSubkeys (cell_at l.arena.bytes) l.list.count l.list.place entries → Between (names_in (cell_at l.arena.bytes) entries) (folded l.name) l.low l.high
+    (entries : List Entry) → AreSubkeys (cell_at l.arena.bytes) l.list.count l.list.offset entries → Between (names_in (cell_at l.arena.bytes) entries) (folded l.name) l.low l.high
 
 abbrev pub decreases-loop-low : goal.decreases-loop-low
 decreases-loop-low l = l.high - l.low

@@ -8,7 +8,7 @@ loop-index-init c = none-listed _ _ c.args.cell c.args.form c.args.entries.now _
 pub loop-index-preserved : goal.loop-index-preserved
 loop-index-preserved c =
     one-listed _ _ _ c.args.cell c.args.form c.args.entries.now c.loop-index.index _
-    (record { place = 0; hint = 0 }) c.loop-index-test.true refl c.loop-index.invariant c.put_entry.ensures.written c.put_entry.ensures.place
+    (record { offset = 0; hint = 0 }) c.loop-index-test.true refl c.loop-index.invariant c.put_entry.ensures.written c.put_entry.ensures.offset
     c.put_entry.ensures.hint
 
 pub returns-clause-written : goal.returns-clause-written

@@ -12,9 +12,9 @@ returns-clause-written c = rw (c.word_bytes.ensures.bytes, c.word_bytes-2.ensure
 
 pub returns-clause-reads : goal.returns-clause-reads
 returns-clause-reads c =
-    value-changed 4 (little_bytes 4 c.args.size ++ little_bytes 4 c.args.place ++ little_bytes 4 c.args.kind)
-    (λ r. record r { fields = record r.fields { size = c.args.size; place = c.args.place; kind = c.args.kind } })
-    (vk-filled c.args.size c.word_bytes.ensures.fits c.args.place c.word_bytes-2.ensures.fits c.args.kind c.word_bytes-3.ensures.fits) _ _ c.args.cell (returns-clause-written c)
+    value-changed 4 (little_bytes 4 c.args.size ++ little_bytes 4 c.args.offset ++ little_bytes 4 c.args.kind)
+    (λ r. record r { fields = record r.fields { size = c.args.size; offset = c.args.offset; kind = c.args.kind } })
+    (vk-filled c.args.size c.word_bytes.ensures.fits c.args.offset c.word_bytes-2.ensures.fits c.args.kind c.word_bytes-3.ensures.fits) _ _ c.args.cell (returns-clause-written c)
 
 pub returns-clause-plain : goal.returns-clause-plain
-returns-clause-plain c = plain-data _ _ c.args.cell c.args.size c.args.place c.args.kind c.requires (returns-clause-written c)
+returns-clause-plain c = plain-data _ _ c.args.cell c.args.size c.args.offset c.args.kind c.requires (returns-clause-written c)

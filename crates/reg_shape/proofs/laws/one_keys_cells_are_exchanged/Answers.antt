@@ -6,4 +6,4 @@ pub returns-clause-whole : goal.returns-clause-whole
 returns-clause-whole c = exchanged
 
 pub returns-clause-tree : goal.returns-clause-tree
-returns-clause-tree c = λ old new same place before after alike path keys found. tree-exchanged old new same place before after alike path keys found
+returns-clause-tree c = λ old new same offset before after alike path keys found. tree-exchanged old new same offset before after alike path keys found

@@ -24,4 +24,4 @@ note_values-requires-clause-exists c = key_mid _ _ _ c.requires _ _ _ (c.remove-
 
 pub returns-clause-ok : goal.returns-clause-ok
 returns-clause-ok c =
-    λ t. delete_changed _ _ _ _ _ _ c.args.name.now c.args.moment c.remove-list.result.count c.remove-list.result.place t c.values_list-old.ensures c.remove-list.ensures c.note_values.ensures
+    λ t. delete_changed _ _ _ _ _ _ c.args.name.now c.args.moment c.remove-list.result.count c.remove-list.result.offset t c.values_list-old.ensures c.remove-list.ensures c.note_values.ensures

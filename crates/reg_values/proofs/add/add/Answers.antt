@@ -15,19 +15,19 @@ use Rattle.reg_values.proofs.ValueChanges.ValueAdded.{full-sizes, list-space, so
 use Rattle.reg_values.proofs.add.add.Goals as goal
 
 pub plan_add-requires-clause-list : goal.plan_add-requires-clause-list
-plan_add-requires-clause-list c = λ l. list-there (cell_at c.args.arena.now.bytes) c.args.list.count c.args.list.place c.requires.values l
+plan_add-requires-clause-list c = λ l. list-there (cell_at c.args.arena.now.bytes) c.args.list.count c.args.list.offset c.requires.values l
 
 pub has_room-room-requires-clause-list : goal.has_room-room-requires-clause-list
-has_room-room-requires-clause-list c = λ l. list-there (cell_at c.args.arena.now.bytes) c.args.list.count c.args.list.place c.requires.values l
+has_room-room-requires-clause-list c = λ l. list-there (cell_at c.args.arena.now.bytes) c.args.list.count c.args.list.offset c.requires.values l
 
 pub carve-requires-clause-sizes : goal.carve-requires-clause-sizes
 carve-requires-clause-sizes c =
-    subst AreSizes (sym (c.deref.ensures.value ∙ c.in-Ok.ensures)) (add-ok (cell_at c.args.arena.now.bytes) c.args.list.count c.args.list.place (length c.args.name.now) (length c.args.bytes.now))
+    subst AreSizes (sym (c.deref.ensures.value ∙ c.in-Ok.ensures)) (add-ok (cell_at c.args.arena.now.bytes) c.args.list.count c.args.list.offset (length c.args.name.now) (length c.args.bytes.now))
 
 pub carve-requires-clause-total : goal.carve-requires-clause-total
 carve-requires-clause-total c =
     let f = c.requires.few in
-    let t = add-total (cell_at c.args.arena.now.bytes) c.args.list.count c.args.list.place (length c.args.name.now) (length c.args.bytes.now)
+    let t = add-total (cell_at c.args.arena.now.bytes) c.args.list.count c.args.list.offset (length c.args.name.now) (length c.args.bytes.now)
     (omega (arith, f)) (value-name c.args.name.now c.requires.name) c.requires.bytes in
     subst (λ sizes. total_of sizes ≤ 1306592) (sym (c.deref.ensures.value ∙ c.in-Ok.ensures)) t
 
@@ -36,7 +36,7 @@ put_value-requires-clause-cells c =
     let h0 = cell_at c.args.arena.now.bytes in
     let h1 = cell_at c.carve.new.arena.bytes in
     let n = c.args.list.count in
-    let p = c.args.list.place in
+    let p = c.args.list.offset in
     let all = c.as_slice-all.result.now in
     let a = new-all h0 h1 c.in_ok-cells.cells.items all c.deref.result.now _ c.in_ok-cells.ensures.ok c.as_slice-all.ensures.value (c.deref.ensures.value ∙ c.in-Ok.ensures) in
     let a1 = subst (AreNew h0 h1 all) (room-sizes h0 n p (length c.args.name.now) (length c.args.bytes.now) (sym c.has_room-room.ensures ∙ c.if-room.true)) a in
@@ -47,7 +47,7 @@ grow-requires-clause-owns c =
     let h0 = cell_at c.args.arena.now.bytes in
     let h1 = cell_at c.carve.new.arena.bytes in
     let n = c.args.list.count in
-    let p = c.args.list.place in
+    let p = c.args.list.offset in
     let all = c.as_slice-all.result.now in
     let a = new-all h0 h1 c.in_ok-cells.cells.items all c.deref.result.now _ c.in_ok-cells.ensures.ok c.as_slice-all.ensures.value (c.deref.ensures.value ∙ c.in-Ok.ensures) in
     let a1 = subst (AreNew h0 h1 all) (room-sizes h0 n p (length c.args.name.now) (length c.args.bytes.now) (sym c.has_room-room.ensures ∙ c.if-room.true)) a in
@@ -56,14 +56,14 @@ grow-requires-clause-owns c =
     (get_or all 0 0) (one-parts h0 h1 all _ _ a1) a.come c.put_value.ensures.fills
 
 pub grow-requires-clause-some : goal.grow-requires-clause-some
-grow-requires-clause-some c = some-count (cell_at c.args.arena.now.bytes) c.args.list.count c.args.list.place (sym c.has_room-room.ensures ∙ c.if-room.true)
+grow-requires-clause-some c = some-count (cell_at c.args.arena.now.bytes) c.args.list.count c.args.list.offset (sym c.has_room-room.ensures ∙ c.if-room.true)
 
 pub grow-requires-clause-room : goal.grow-requires-clause-room
 grow-requires-clause-room c =
     let h0 = cell_at c.args.arena.now.bytes in
     let h1 = cell_at c.carve.new.arena.bytes in
     let n = c.args.list.count in
-    let p = c.args.list.place in
+    let p = c.args.list.offset in
     let all = c.as_slice-all.result.now in
     let a = new-all h0 h1 c.in_ok-cells.cells.items all c.deref.result.now _ c.in_ok-cells.ensures.ok c.as_slice-all.ensures.value (c.deref.ensures.value ∙ c.in-Ok.ensures) in
     let a1 = subst (AreNew h0 h1 all) (room-sizes h0 n p (length c.args.name.now) (length c.args.bytes.now) (sym c.has_room-room.ensures ∙ c.if-room.true)) a in
@@ -75,7 +75,7 @@ returns-then-room-clause-ok c = λ members met e.
     let h0 = cell_at c.args.arena.now.bytes in
     let h1 = cell_at c.carve.new.arena.bytes in
     let n = c.args.list.count in
-    let p = c.args.list.place in
+    let p = c.args.list.offset in
     let all = c.as_slice-all.result.now in
     let a = new-all h0 h1 c.in_ok-cells.cells.items all c.deref.result.now _ c.in_ok-cells.ensures.ok c.as_slice-all.ensures.value (c.deref.ensures.value ∙ c.in-Ok.ensures) in
     let a1 = subst (AreNew h0 h1 all) (room-sizes h0 n p (length c.args.name.now) (length c.args.bytes.now) (sym c.has_room-room.ensures ∙ c.if-room.true)) a in
@@ -99,7 +99,7 @@ returns-then-room-clause-cells c =
     let h0 = cell_at c.args.arena.now.bytes in
     let h1 = cell_at c.carve.new.arena.bytes in
     let n = c.args.list.count in
-    let p = c.args.list.place in
+    let p = c.args.list.offset in
     let all = c.as_slice-all.result.now in
     let a = new-all h0 h1 c.in_ok-cells.cells.items all c.deref.result.now _ c.in_ok-cells.ensures.ok c.as_slice-all.ensures.value (c.deref.ensures.value ∙ c.in-Ok.ensures) in
     let a1 = subst (AreNew h0 h1 all) (room-sizes h0 n p (length c.args.name.now) (length c.args.bytes.now) (sym c.has_room-room.ensures ∙ c.if-room.true)) a in
@@ -123,7 +123,7 @@ bounds-all-1 c =
     let h0 = cell_at c.args.arena.now.bytes in
     let h1 = cell_at c.carve.new.arena.bytes in
     let n = c.args.list.count in
-    let p = c.args.list.place in
+    let p = c.args.list.offset in
     let all = c.as_slice-all.result.now in
     let a = new-all h0 h1 c.in_ok-cells.cells.items all c.deref.result.now _ c.in_ok-cells.ensures.ok c.as_slice-all.ensures.value (c.deref.ensures.value ∙ c.in-Ok.ensures) in
     let a1 = subst (AreNew h0 h1 all) (full-sizes h0 n p (length c.args.name.now) (length c.args.bytes.now) (sym c.has_room-room.ensures ∙ c.if-room.false)) a in
@@ -135,7 +135,7 @@ slice_bounds-put_value-count-2 c =
     let h0 = cell_at c.args.arena.now.bytes in
     let h1 = cell_at c.carve.new.arena.bytes in
     let n = c.args.list.count in
-    let p = c.args.list.place in
+    let p = c.args.list.offset in
     let all = c.as_slice-all.result.now in
     let a = new-all h0 h1 c.in_ok-cells.cells.items all c.deref.result.now _ c.in_ok-cells.ensures.ok c.as_slice-all.ensures.value (c.deref.ensures.value ∙ c.in-Ok.ensures) in
     let a1 = subst (AreNew h0 h1 all) (full-sizes h0 n p (length c.args.name.now) (length c.args.bytes.now) (sym c.has_room-room.ensures ∙ c.if-room.false)) a in
@@ -146,7 +146,7 @@ slice_bounds-put_value-start-2 c =
     let h0 = cell_at c.args.arena.now.bytes in
     let h1 = cell_at c.carve.new.arena.bytes in
     let n = c.args.list.count in
-    let p = c.args.list.place in
+    let p = c.args.list.offset in
     let all = c.as_slice-all.result.now in
     let a = new-all h0 h1 c.in_ok-cells.cells.items all c.deref.result.now _ c.in_ok-cells.ensures.ok c.as_slice-all.ensures.value (c.deref.ensures.value ∙ c.in-Ok.ensures) in
     let a1 = subst (AreNew h0 h1 all) (full-sizes h0 n p (length c.args.name.now) (length c.args.bytes.now) (sym c.has_room-room.ensures ∙ c.if-room.false)) a in
@@ -157,7 +157,7 @@ put_value-requires-2-clause-cells c =
     let h0 = cell_at c.args.arena.now.bytes in
     let h1 = cell_at c.carve.new.arena.bytes in
     let n = c.args.list.count in
-    let p = c.args.list.place in
+    let p = c.args.list.offset in
     let all = c.as_slice-all.result.now in
     let a = new-all h0 h1 c.in_ok-cells.cells.items all c.deref.result.now _ c.in_ok-cells.ensures.ok c.as_slice-all.ensures.value (c.deref.ensures.value ∙ c.in-Ok.ensures) in
     let a1 = subst (AreNew h0 h1 all) (full-sizes h0 n p (length c.args.name.now) (length c.args.bytes.now) (sym c.has_room-room.ensures ∙ c.if-room.false)) a in
@@ -168,7 +168,7 @@ move_list-requires-clause-owns c =
     let h0 = cell_at c.args.arena.now.bytes in
     let h1 = cell_at c.carve.new.arena.bytes in
     let n = c.args.list.count in
-    let p = c.args.list.place in
+    let p = c.args.list.offset in
     let all = c.as_slice-all.result.now in
     let a = new-all h0 h1 c.in_ok-cells.cells.items all c.deref.result.now _ c.in_ok-cells.ensures.ok c.as_slice-all.ensures.value (c.deref.ensures.value ∙ c.in-Ok.ensures) in
     let a1 = subst (AreNew h0 h1 all) (full-sizes h0 n p (length c.args.name.now) (length c.args.bytes.now) (sym c.has_room-room.ensures ∙ c.if-room.false)) a in
@@ -181,7 +181,7 @@ move_list-requires-clause-room c =
     let h0 = cell_at c.args.arena.now.bytes in
     let h1 = cell_at c.carve.new.arena.bytes in
     let n = c.args.list.count in
-    let p = c.args.list.place in
+    let p = c.args.list.offset in
     let all = c.as_slice-all.result.now in
     let a = new-all h0 h1 c.in_ok-cells.cells.items all c.deref.result.now _ c.in_ok-cells.ensures.ok c.as_slice-all.ensures.value (c.deref.ensures.value ∙ c.in-Ok.ensures) in
     let a1 = subst (AreNew h0 h1 all) (full-sizes h0 n p (length c.args.name.now) (length c.args.bytes.now) (sym c.has_room-room.ensures ∙ c.if-room.false)) a in
@@ -192,7 +192,7 @@ returns-clause-ok c = λ members met e.
     let h0 = cell_at c.args.arena.now.bytes in
     let h1 = cell_at c.carve.new.arena.bytes in
     let n = c.args.list.count in
-    let p = c.args.list.place in
+    let p = c.args.list.offset in
     let all = c.as_slice-all.result.now in
     let a = new-all h0 h1 c.in_ok-cells.cells.items all c.deref.result.now _ c.in_ok-cells.ensures.ok c.as_slice-all.ensures.value (c.deref.ensures.value ∙ c.in-Ok.ensures) in
     let a1 = subst (AreNew h0 h1 all) (full-sizes h0 n p (length c.args.name.now) (length c.args.bytes.now) (sym c.has_room-room.ensures ∙ c.if-room.false)) a in
@@ -214,7 +214,7 @@ returns-clause-cells c =
     let h0 = cell_at c.args.arena.now.bytes in
     let h1 = cell_at c.carve.new.arena.bytes in
     let n = c.args.list.count in
-    let p = c.args.list.place in
+    let p = c.args.list.offset in
     let all = c.as_slice-all.result.now in
     let a = new-all h0 h1 c.in_ok-cells.cells.items all c.deref.result.now _ c.in_ok-cells.ensures.ok c.as_slice-all.ensures.value (c.deref.ensures.value ∙ c.in-Ok.ensures) in
     let a1 = subst (AreNew h0 h1 all) (full-sizes h0 n p (length c.args.name.now) (length c.args.bytes.now) (sym c.has_room-room.ensures ∙ c.if-room.false)) a in

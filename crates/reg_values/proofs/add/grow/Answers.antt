@@ -5,9 +5,9 @@ use Rattle.reg_values.proofs.add.grow.Goals as goal
 
 pub returns-clause-list : goal.returns-clause-list
 returns-clause-list c = λ row met e.
-    grown (cell_at c.args.arena.now.bytes) (cell_at c.put_offset.new.arena.bytes) c.args.list.count c.args.list.place c.args.cell
-    (fills-cell _ _ c.args.list.place _ c.put_offset.ensures.written) c.requires.room c.put_offset.ensures.here c.put_offset.ensures.others row met
+    grown (cell_at c.args.arena.now.bytes) (cell_at c.put_offset.new.arena.bytes) c.args.list.count c.args.list.offset c.args.cell
+    (fills-cell _ _ c.args.list.offset _ c.put_offset.ensures.written) c.requires.room c.put_offset.ensures.here c.put_offset.ensures.others row met
     c.requires.some e
 
 pub returns-clause-sizes : goal.returns-clause-sizes
-returns-clause-sizes c = fills-keeps _ _ _ (fills-cell _ _ c.args.list.place _ c.put_offset.ensures.written)
+returns-clause-sizes c = fills-keeps _ _ _ (fills-cell _ _ c.args.list.offset _ c.put_offset.ensures.written)

@@ -14,27 +14,27 @@ pub returns-then-list-eq0-clause-list : goal.returns-then-list-eq0-clause-list
 returns-then-list-eq0-clause-list c = λ row met e.
     let h = cell_at c.args.arena.now.bytes in
     let z = c.if-list-eq0.true in
-    let at = ap (λ n. list_at n c.args.list.place h) (sym z) ∙ e in
-    let r = fills-room h h [] c.args.place _ (fills-none h []) c.requires.room in
-    let s = started h (cell_at c.put_offset.new.arena.bytes) 0 c.args.place c.args.cell (fills-cell _ _ c.args.place _ c.put_offset.ensures.written)
-    (room-less h c.args.place _ (4 * 0 + 4) (omega arith) r) c.put_offset.ensures.here c.put_offset.ensures.others c.args.list.place row met refl
+    let at = ap (λ n. list_at n c.args.list.offset h) (sym z) ∙ e in
+    let r = fills-room h h [] c.args.fresh _ (fills-none h []) c.requires.room in
+    let s = started h (cell_at c.put_offset.new.arena.bytes) 0 c.args.fresh c.args.cell (fills-cell _ _ c.args.fresh _ c.put_offset.ensures.written)
+    (room-less h c.args.fresh _ (4 * 0 + 4) (omega arith) r) c.put_offset.ensures.here c.put_offset.ensures.others c.args.list.offset row met refl
     at in
-    subst (λ n. BecameList h (cell_at c.put_offset.new.arena.bytes) (λ z. owned z met + times z (c.args.place ∷ [])) (n + 1) c.args.place (row ++ c.args.cell ∷ [])) (sym z) s
+    subst (λ n. BecameList h (cell_at c.put_offset.new.arena.bytes) (λ z. owned z met + times z (c.args.fresh ∷ [])) (n + 1) c.args.fresh (row ++ c.args.cell ∷ [])) (sym z) s
 
 pub returns-then-list-eq0-clause-sizes : goal.returns-then-list-eq0-clause-sizes
-returns-then-list-eq0-clause-sizes c = fills-keeps _ _ _ (fills-cell _ _ c.args.place _ c.put_offset.ensures.written)
+returns-then-list-eq0-clause-sizes c = fills-keeps _ _ _ (fills-cell _ _ c.args.fresh _ c.put_offset.ensures.written)
 
 pub copy-requires-clause-source : goal.copy-requires-clause-source
 copy-requires-clause-source c =
     let r = c.requires.owns in
     let n = c.if-list-eq0.false in
-    (list-open (cell_at c.args.arena.now.bytes) c.args.list.count c.args.list.place r.result r.met r.reads (omega (arith, n))).here
+    (list-open (cell_at c.args.arena.now.bytes) c.args.list.count c.args.list.offset r.result r.met r.reads (omega (arith, n))).here
 
 pub copy-requires-clause-within : goal.copy-requires-clause-within
 copy-requires-clause-within c =
     let r = c.requires.owns in
     let n = c.if-list-eq0.false in
-    let l = (list-open (cell_at c.args.arena.now.bytes) c.args.list.count c.args.list.place r.result r.met r.reads (omega (arith, n))).long in
+    let l = (list-open (cell_at c.args.arena.now.bytes) c.args.list.count c.args.list.offset r.result r.met r.reads (omega (arith, n))).long in
     omega (arith, l)
 
 pub put_offset-requires-2-clause-room : goal.put_offset-requires-2-clause-room
@@ -43,8 +43,8 @@ put_offset-requires-2-clause-room c =
     let k = cell_at c.copy.new.self.bytes in
     let r = c.requires.owns in
     let n = c.if-list-eq0.false in
-    let f = copy-fills h k c.args.list.count c.args.list.place c.args.place (omega (arith, n)) r.result r.met r.reads c.requires.room c.copy.ensures.written c.copy.ensures.writes in
-    fills-room h k (c.args.place ∷ []) c.args.place _ f c.requires.room
+    let f = copy-fills h k c.args.list.count c.args.list.offset c.args.fresh (omega (arith, n)) r.result r.met r.reads c.requires.room c.copy.ensures.written c.copy.ensures.writes in
+    fills-room h k (c.args.fresh ∷ []) c.args.fresh _ f c.requires.room
 
 pub free-requires : goal.free-requires
 free-requires c =
@@ -53,9 +53,9 @@ free-requires c =
     let r = c.requires.owns in
     let n = c.if-list-eq0.false in
     let p : 0 < c.args.list.count = omega (arith, n) in
-    let f1 = copy-fills h k c.args.list.count c.args.list.place c.args.place p r.result r.met r.reads c.requires.room c.copy.ensures.written c.copy.ensures.writes in
-    old-gone h k (cell_at c.put_offset-2.new.arena.bytes) c.args.list.count c.args.list.place c.args.place p r.result r.met r.reads r.once f1
-    (fills-cell _ _ c.args.place _ c.put_offset-2.ensures.written)
+    let f1 = copy-fills h k c.args.list.count c.args.list.offset c.args.fresh p r.result r.met r.reads c.requires.room c.copy.ensures.written c.copy.ensures.writes in
+    old-gone h k (cell_at c.put_offset-2.new.arena.bytes) c.args.list.count c.args.list.offset c.args.fresh p r.result r.met r.reads r.once f1
+    (fills-cell _ _ c.args.fresh _ c.put_offset-2.ensures.written)
 
 pub returns-clause-list : goal.returns-clause-list
 returns-clause-list c = λ row met e.
@@ -65,11 +65,11 @@ returns-clause-list c = λ row met e.
     let n = c.if-list-eq0.false in
     let p : 0 < c.args.list.count = omega (arith, n) in
     let q = ap (λ (p : List ℕ × List Found). p.1) (same_Some _ _ (sym r.reads ∙ e)) in
-    let once = subst (λ met. (z : ℕ) → owned z met + times z (c.args.place ∷ []) ≤ allocated h z) q r.once in
-    let f1 = copy-fills h k c.args.list.count c.args.list.place c.args.place p row met e c.requires.room c.copy.ensures.written c.copy.ensures.writes in
-    let c1 = copy-here h k c.args.list.count c.args.list.place c.args.place p row met e c.requires.room c.copy.ensures.written in
-    moved h k (cell_at c.put_offset-2.new.arena.bytes) (cell_at c.free.new.self.bytes) c.args.list.count c.args.list.place c.args.place c.args.cell p row met e once c.requires.room f1 c1
-    (fills-cell _ _ c.args.place _ c.put_offset-2.ensures.written) c.put_offset-2.ensures.here c.put_offset-2.ensures.others c.free.ensures.gone
+    let once = subst (λ met. (z : ℕ) → owned z met + times z (c.args.fresh ∷ []) ≤ allocated h z) q r.once in
+    let f1 = copy-fills h k c.args.list.count c.args.list.offset c.args.fresh p row met e c.requires.room c.copy.ensures.written c.copy.ensures.writes in
+    let c1 = copy-here h k c.args.list.count c.args.list.offset c.args.fresh p row met e c.requires.room c.copy.ensures.written in
+    moved h k (cell_at c.put_offset-2.new.arena.bytes) (cell_at c.free.new.self.bytes) c.args.list.count c.args.list.offset c.args.fresh c.args.cell p row met e once c.requires.room f1 c1
+    (fills-cell _ _ c.args.fresh _ c.put_offset-2.ensures.written) c.put_offset-2.ensures.here c.put_offset-2.ensures.others c.free.ensures.gone
 
 pub returns-clause-sizes : goal.returns-clause-sizes
 returns-clause-sizes c =
@@ -78,5 +78,5 @@ returns-clause-sizes c =
     let r = c.requires.owns in
     let n = c.if-list-eq0.false in
     let p : 0 < c.args.list.count = omega (arith, n) in
-    let f1 = copy-fills h k c.args.list.count c.args.list.place c.args.place p r.result r.met r.reads c.requires.room c.copy.ensures.written c.copy.ensures.writes in
-    keeps-three h k (cell_at c.put_offset-2.new.arena.bytes) (cell_at c.free.new.self.bytes) (c.args.place ∷ []) _ f1 (fills-cell _ _ c.args.place _ c.put_offset-2.ensures.written) c.free.ensures.gone
+    let f1 = copy-fills h k c.args.list.count c.args.list.offset c.args.fresh p r.result r.met r.reads c.requires.room c.copy.ensures.written c.copy.ensures.writes in
+    keeps-three h k (cell_at c.put_offset-2.new.arena.bytes) (cell_at c.free.new.self.bytes) (c.args.fresh ∷ []) _ f1 (fills-cell _ _ c.args.fresh _ c.put_offset-2.ensures.written) c.free.ensures.gone

@@ -17,7 +17,7 @@ put_vk-requires-clause-room c =
 pub returns-clause-fills : goal.returns-clause-fills
 returns-clause-fills c =
     put-fills (cell_at c.args.arena.now.bytes) (cell_at c.put_data-data.new.arena.bytes)
-    (cell_at c.put_vk.new.arena.bytes) c.args.cell c.put_data-data.result.size c.put_data-data.result.place c.args.kind c.flags_of.result
+    (cell_at c.put_vk.new.arena.bytes) c.args.cell c.put_data-data.result.size c.put_data-data.result.offset c.args.kind c.flags_of.result
     c.args.cells.now c.args.name.now c.args.bytes.now
     c.requires.cells.once c.put_data-data.ensures.fills c.put_data-data.ensures.holds
     (fills-cell _ _ c.args.cell _ c.put_vk.ensures.written) c.put_vk.ensures.reads c.put_vk.ensures.plain c.flags_of.ensures
@@ -25,7 +25,7 @@ returns-clause-fills c =
 pub returns-clause-holds : goal.returns-clause-holds
 returns-clause-holds c =
     put-holds (cell_at c.args.arena.now.bytes) (cell_at c.put_data-data.new.arena.bytes)
-    (cell_at c.put_vk.new.arena.bytes) c.args.cell c.put_data-data.result.size c.put_data-data.result.place c.args.kind c.flags_of.result
+    (cell_at c.put_vk.new.arena.bytes) c.args.cell c.put_data-data.result.size c.put_data-data.result.offset c.args.kind c.flags_of.result
     c.args.cells.now c.args.name.now c.args.bytes.now
     c.requires.cells.once c.put_data-data.ensures.fills c.put_data-data.ensures.holds
     (fills-cell _ _ c.args.cell _ c.put_vk.ensures.written) c.put_vk.ensures.reads c.put_vk.ensures.plain c.flags_of.ensures

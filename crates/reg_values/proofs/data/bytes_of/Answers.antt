@@ -10,26 +10,26 @@ use Rattle.reg_values.proofs.data.bytes_of.Goals as goal
 
 pub cell_of-requires-clause-list : goal.cell_of-requires-clause-list
 cell_of-requires-clause-list c =
-    let v = c.requires.values in (stands (cell_at c.args.arena.now.bytes) c.args.list.count c.args.list.place v.members v.met c.args.index v.reads v.written.each c.requires.index).list_here
+    let v = c.requires.values in (stands (cell_at c.args.arena.now.bytes) c.args.list.count c.args.list.offset v.members v.met c.args.index v.reads v.written.each c.requires.index).list_here
 
 pub cell_of-requires-clause-index : goal.cell_of-requires-clause-index
 cell_of-requires-clause-index c =
-    let v = c.requires.values in (stands (cell_at c.args.arena.now.bytes) c.args.list.count c.args.list.place v.members v.met c.args.index v.reads v.written.each c.requires.index).long
+    let v = c.requires.values in (stands (cell_at c.args.arena.now.bytes) c.args.list.count c.args.list.offset v.members v.met c.args.index v.reads v.written.each c.requires.index).long
 
 pub record_at-requires : goal.record_at-requires
 record_at-requires c =
     let h = cell_at c.args.arena.now.bytes in
     let v = c.requires.values in
-    let s = stands h c.args.list.count c.args.list.place v.members v.met c.args.index v.reads v.written.each c.requires.index in
+    let s = stands h c.args.list.count c.args.list.offset v.members v.met c.args.index v.reads v.written.each c.requires.index in
     is-some _ s.written.value (ap (value_record_at h) c.cell_of.ensures ∙ s.written.reads)
 
 pub data_bytes-requires : goal.data_bytes-requires
 data_bytes-requires c =
     let h = cell_at c.args.arena.now.bytes in
     let v = c.requires.values in
-    let s = stands h c.args.list.count c.args.list.place v.members v.met c.args.index v.reads v.written.each c.requires.index in
+    let s = stands h c.args.list.count c.args.list.offset v.members v.met c.args.index v.reads v.written.each c.requires.index in
     let r = ap (value_record_at h) (sym c.cell_of.ensures) ∙ c.record_at.ensures in
-    is-some _ _ (told-data h c.args.list.place v.members c.args.index s _ _ r)
+    is-some _ _ (told-data h c.args.list.offset v.members c.args.index s _ _ r)
 
 pub returns : goal.returns
 returns c =
@@ -37,8 +37,8 @@ returns c =
     let v = c.requires.values in
     let r = ap (value_record_at h) (sym c.cell_of.ensures) ∙ c.record_at.ensures in
     is-ok (λ b. (all : List ℕ) → (met : List Found) → data_at c.record_at.result.fields h ≡ Some (all, met) → b.items ≡ all)
-    (λ b. (members : List Member) → (met : List Found) → members_at c.args.list.count c.args.list.place h ≡ Some (members, met) →
+    (λ b. (members : List Member) → (met : List Found) → members_at c.args.list.count c.args.list.offset h ≡ Some (members, met) →
     (member : Member) × (slice_get members c.args.index ≡ Some member) × (b.items ≡ member.bytes)) c.data_bytes.result
     (λ b f members met e.
-    let s = stands h c.args.list.count c.args.list.place members met c.args.index e v.written.each c.requires.index in
-    (s.member, s.at, f s.member.bytes _ (told-data h c.args.list.place members c.args.index s _ _ r))) c.data_bytes.ensures
+    let s = stands h c.args.list.count c.args.list.offset members met c.args.index e v.written.each c.requires.index in
+    (s.member, s.at, f s.member.bytes _ (told-data h c.args.list.offset members c.args.index s _ _ r))) c.data_bytes.ensures

@@ -15,7 +15,7 @@ big_bytes-requires-clause-big c =
 pub returns-then-size-gt-SEGMENT_SIZE : goal.returns-then-size-gt-SEGMENT_SIZE
 returns-then-size-gt-SEGMENT_SIZE c =
     let h = cell_at c.args.arena.now.bytes in
-    is-ok (λ b. (all : List ℕ) → (met : List Found) → big_at c.args.fields.size c.args.fields.place h ≡ Some (all, met) →
+    is-ok (λ b. (all : List ℕ) → (met : List Found) → big_at c.args.fields.size c.args.fields.offset h ≡ Some (all, met) →
     b.items ≡ all) (λ b. (all : List ℕ) → (met : List Found) → data_at c.args.fields h ≡ Some (all, met) → b.items ≡ all) c.big_bytes.result
     (λ b f all met e. f all met (big-data h c.args.fields all met e c.if-size-gt-SEGMENT_SIZE.true c.if-fields-ge-INLINE.false)) c.big_bytes.ensures
 

@@ -1,7 +1,7 @@
 use Rattle.std.proofs.Common.{◌≡◌, List, Some, drop}
 use Rattle.reg_heap.specs.Paths.{Member}
 use Rattle.reg_heap.specs.Kinds.{Found}
-use Rattle.reg_heap.specs.Members.{place_named}
+use Rattle.reg_heap.specs.Members.{index_named}
 use Rattle.reg_arena.specs.Cells.{cell_at}
 use Rattle.reg_shape.specs.Nodes.{members_at}
 use Rattle.reg_values.proofs.ValueListing.FoundValues.{add-to}
@@ -9,5 +9,5 @@ use Rattle.reg_values.proofs.look.find.Given as goal
 
 abbrev pub invariant-loop-index : goal.invariant-loop-index
 invariant-loop-index l =
-    (members : List Member) → (met : List Found) → members_at l.list.count l.list.place (cell_at l.arena.bytes) ≡ Some (members, met) →
-    add-to l.index (place_named l.name (drop l.index members)) ≡ place_named l.name members
+    (members : List Member) → (met : List Found) → members_at l.list.count l.list.offset (cell_at l.arena.bytes) ≡ Some (members, met) →
+    add-to l.index (index_named l.name (drop l.index members)) ≡ index_named l.name members

@@ -6,48 +6,48 @@ use Rattle.reg_shape.specs.Nodes.{member_at}
 use Rattle.reg_shape.specs.Written.{AreWritten}
 use Rattle.reg_values.specs.Internal.ValueListParts.{Owns, GivesUpRead}
 use Rattle.reg_values.proofs.ValueListing.ValueListOpening.{members-length}
-use Rattle.reg_values.proofs.ValueListing.FoundValues.{named-stands, place-within, same-read}
+use Rattle.reg_values.proofs.ValueListing.FoundValues.{named-stands, offset-within, same-read}
 use Rattle.reg_values.proofs.ValueChanges.ValueRemoved.{at-index, list-owns, item-owns, removed}
-use Rattle.reg_values.proofs.ValueListing.NamedValues.{named-place}
+use Rattle.reg_values.proofs.ValueListing.NamedValues.{named-index}
 use Rattle.reg_values.proofs.removing.remove.Goals as goal
 
 pub unreachable-requires : goal.unreachable-requires
 unreachable-requires c =
     let n = c.requires.named in
-    named-place c.args.name.now n.members n.there (sym (c.find.ensures n.members n.met n.reads) ∙ c.in_default.is)
+    named-index c.args.name.now n.members n.there (sym (c.find.ensures n.members n.met n.reads) ∙ c.in_default.is)
 
 pub cell_of-cell-requires-clause-list : goal.cell_of-cell-requires-clause-list
 cell_of-cell-requires-clause-list c =
     let v = c.requires.values in
-    (named-stands (cell_at c.args.arena.now.bytes) c.args.list.count c.args.list.place v c.args.name.now c.in-Some.index (c.in-Some.ensures v.members v.met v.reads)).list_here
+    (named-stands (cell_at c.args.arena.now.bytes) c.args.list.count c.args.list.offset v c.args.name.now c.in-Some.index (c.in-Some.ensures v.members v.met v.reads)).list_here
 
 pub cell_of-cell-requires-clause-index : goal.cell_of-cell-requires-clause-index
 cell_of-cell-requires-clause-index c =
     let v = c.requires.values in
-    (named-stands (cell_at c.args.arena.now.bytes) c.args.list.count c.args.list.place v c.args.name.now c.in-Some.index (c.in-Some.ensures v.members v.met v.reads)).long
+    (named-stands (cell_at c.args.arena.now.bytes) c.args.list.count c.args.list.offset v c.args.name.now c.in-Some.index (c.in-Some.ensures v.members v.met v.reads)).long
 
 pub take_out-after-requires-clause-index : goal.take_out-after-requires-clause-index
 take_out-after-requires-clause-index c =
     let v = c.requires.values in
-    let w = place-within c.args.name.now v.members c.in-Some.index (sym (c.in-Some.ensures v.members v.met v.reads)) in
-    let n = members-length (cell_at c.args.arena.now.bytes) c.args.list.count c.args.list.place v.members v.met v.reads in
+    let w = offset-within c.args.name.now v.members c.in-Some.index (sym (c.in-Some.ensures v.members v.met v.reads)) in
+    let n = members-length (cell_at c.args.arena.now.bytes) c.args.list.count c.args.list.offset v.members v.met v.reads in
     omega (arith, w, n)
 
 pub take_out-after-requires-clause-list : goal.take_out-after-requires-clause-list
 take_out-after-requires-clause-list c =
     let v = c.requires.values in
     let h = cell_at c.args.arena.now.bytes in
-    let a = at-index h c.args.list.count c.args.list.place v.members v.met c.in-Some.index v.reads v.written (take_out-after-requires-clause-index c) in
-    list-owns h c.args.list.count c.args.list.place v.members v.met c.in-Some.index v.reads v.once v.written a
+    let a = at-index h c.args.list.count c.args.list.offset v.members v.met c.in-Some.index v.reads v.written (take_out-after-requires-clause-index c) in
+    list-owns h c.args.list.count c.args.list.offset v.members v.met c.in-Some.index v.reads v.once v.written a
 
 pub free_value-requires : goal.free_value-requires
 free_value-requires c =
     let v = c.requires.values in
     let h = cell_at c.args.arena.now.bytes in
     let n = c.args.list.count in
-    let p = c.args.list.place in
+    let p = c.args.list.offset in
     let h1 = cell_at c.take_out-after.new.arena.bytes in
-    let w = place-within c.args.name.now v.members c.in-Some.index (sym (c.in-Some.ensures v.members v.met v.reads)) in
+    let w = offset-within c.args.name.now v.members c.in-Some.index (sym (c.in-Some.ensures v.members v.met v.reads)) in
     let l = members-length h n p v.members v.met v.reads in
     let a = at-index h n p v.members v.met c.in-Some.index v.reads v.written (omega (arith, w, l)) in
     let i = item-owns h n p v.members v.met c.in-Some.index v.reads v.once v.written a h1 _ _ (c.take_out-after.ensures.list a.row a.list_met a.list_is) in
@@ -58,11 +58,11 @@ returns c = λ members met e.
     let v = c.requires.values in
     let h = cell_at c.args.arena.now.bytes in
     let n = c.args.list.count in
-    let p = c.args.list.place in
+    let p = c.args.list.offset in
     let h1 = cell_at c.take_out-after.new.arena.bytes in
     let h2 = cell_at c.free_value.new.arena.bytes in
     let named = sym (c.in-Some.ensures members met e) in
-    let w = place-within c.args.name.now members c.in-Some.index named in
+    let w = offset-within c.args.name.now members c.in-Some.index named in
     let l = members-length h n p members met e in
     let same = same-read h n p v members met e in
     let written = subst (AreWritten h n p) same.0 v.written in

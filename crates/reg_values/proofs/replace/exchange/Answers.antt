@@ -29,7 +29,7 @@ returns-clause-value c = λ m met e.
     let p = plain-kept2 h1 h2 h3 c.args.cell c.args.cells.now c.requires.owns c.requires.written c.args.old r.0 r.1 c.put_data-data.ensures.fills in
     exchanged h1 h2 h3 c.args.cell c.args.cells.now c.requires.owns c.requires.written c.args.old r.0 r.1 c.put_data-data.ensures.fills
     (fills-cell _ _ c.args.cell _ c.set_data.ensures.written) (cell_at c.free_data.new.arena.bytes) c.free_data.ensures
-    c.put_data-data.result.size c.put_data-data.result.place c.args.kind c.args.bytes.now c.put_data-data.ensures.holds (c.set_data.ensures.reads _ k) (c.set_data.ensures.plain p) m met e
+    c.put_data-data.result.size c.put_data-data.result.offset c.args.kind c.args.bytes.now c.put_data-data.ensures.holds (c.set_data.ensures.reads _ k) (c.set_data.ensures.plain p) m met e
 
 pub returns-clause-keeps : goal.returns-clause-keeps
 returns-clause-keeps c =

@@ -2,19 +2,19 @@ use Rattle.std.proofs.Common.{arith}
 use Rattle.reg_arena.specs.Cells.{cell_at}
 use Rattle.reg_values.proofs.ValueListing.FoundValues.{is-some}
 use Rattle.reg_values.proofs.ValueData.FilledCells.{fills-cell}
-use Rattle.reg_values.proofs.ValueChanges.ValueReplaced.{place-there, place-room, record-kept, plain-kept, rewritten, makes-none}
+use Rattle.reg_values.proofs.ValueChanges.ValueReplaced.{offset-there, offset-room, record-kept, plain-kept, rewritten, makes-none}
 use Rattle.reg_values.proofs.replace.rewrite.Goals as goal
 
 pub write-requires-clause-exists : goal.write-requires-clause-exists
 write-requires-clause-exists c =
     let r = c.requires.record_is in
-    place-there (cell_at c.args.arena.now.bytes) (cell_at c.args.arena.now.bytes)
+    offset-there (cell_at c.args.arena.now.bytes) (cell_at c.args.arena.now.bytes)
     (cell_at c.args.arena.now.bytes) c.args.cell c.requires.owns c.requires.written c.args.old r.0 r.1 c.args.bytes.now c.requires.stays
 
 pub write-requires-clause-fits : goal.write-requires-clause-fits
 write-requires-clause-fits c =
     let r = c.requires.record_is in
-    let e = (place-room (cell_at c.args.arena.now.bytes) (cell_at c.args.arena.now.bytes)
+    let e = (offset-room (cell_at c.args.arena.now.bytes) (cell_at c.args.arena.now.bytes)
     (cell_at c.args.arena.now.bytes) c.args.cell c.requires.owns c.requires.written c.args.old r.0 r.1 c.args.bytes.now c.requires.stays).enough in
     omega (arith, e)
 

@@ -13,7 +13,7 @@ use Rattle.reg_shape.specs.Written.{IsWrittenValue, AreWritten}
 use Rattle.reg_values.specs.ValueLists.{Became, Makes}
 use Rattle.reg_values.specs.Internal.ValueListParts.{Owns, BecameValue}
 use Rattle.reg_values.proofs.ValueListing.ValueListOpening.{members-length}
-use Rattle.reg_values.proofs.ValueListing.FoundValues.{named-stands, place-within, same-read, is-ok}
+use Rattle.reg_values.proofs.ValueListing.FoundValues.{named-stands, offset-within, same-read, is-ok}
 use Rattle.reg_values.proofs.ValueChanges.PlannedSizes.{sizes-there, sizes-none}
 use Rattle.reg_values.proofs.ValueData.CellSizeTotals.{near, add-total, replace-total, value-name}
 use Rattle.reg_values.proofs.ValueListing.NamedValues.{with-new}
@@ -22,7 +22,7 @@ use Rattle.reg_values.proofs.ValueChanges.ValueSetAgain.{value-owns, set-again, 
 use Rattle.reg_values.proofs.setting.set.Goals as goal
 
 pub add-requires-clause-few : goal.add-requires-clause-few
-add-requires-clause-few c = has-space (cell_at c.args.arena.now.bytes) c.args.list.count c.args.list.place c.args.name.now c.requires.room
+add-requires-clause-few c = has-space (cell_at c.args.arena.now.bytes) c.args.list.count c.args.list.offset c.args.name.now c.requires.room
     (λ members met e. sym (sym (c.find.ensures members met e) ∙ c.in_default.is))
 
 pub add-requires-clause-new : goal.add-requires-clause-new
@@ -32,10 +32,10 @@ pub returns-in_default-clause-ok : goal.returns-in_default-clause-ok
 returns-in_default-clause-ok c =
     let h = cell_at c.args.arena.now.bytes in
     let n = c.args.list.count in
-    let p = c.args.list.place in
+    let p = c.args.list.offset in
     let v = c.requires.values in
     is-ok _ _ c.add.result (λ after f members met e.
-    subst (Became h (cell_at c.add.new.arena.bytes) met after.count after.place)
+    subst (Became h (cell_at c.add.new.arena.bytes) met after.count after.offset)
     (sym (with-new c.args.name.now c.args.kind c.args.bytes.now members (sym (c.find.ensures members met e) ∙ c.in_default.is)))
     (f members met e)) c.add.ensures.ok
 
@@ -43,7 +43,7 @@ pub returns-in_default-clause-cells : goal.returns-in_default-clause-cells
 returns-in_default-clause-cells c =
     let h = cell_at c.args.arena.now.bytes in
     let n = c.args.list.count in
-    let p = c.args.list.place in
+    let p = c.args.list.offset in
     let v = c.requires.values in
     let z = sizes-none h n p c.args.name.now (length c.args.bytes.now) v.members v.met v.reads (sym (sym (c.find.ensures v.members v.met v.reads) ∙ c.in_default.is)) in
     on_ok_weaker c.add.result (λ f. subst (Makes h (cell_at c.add.new.arena.bytes)) z f) c.add.ensures.cells
@@ -52,7 +52,7 @@ pub returns-in_default-clause-full : goal.returns-in_default-clause-full
 returns-in_default-clause-full c = λ q.
     let h = cell_at c.args.arena.now.bytes in
     let n = c.args.list.count in
-    let p = c.args.list.place in
+    let p = c.args.list.offset in
     let v = c.requires.values in
     let z = sizes-none h n p c.args.name.now (length c.args.bytes.now) v.members v.met v.reads (sym (sym (c.find.ensures v.members v.met v.reads) ∙ c.in_default.is)) in
     subst (λ sizes. NoFit c.args.arena.now.bytes (total_of sizes)) z (c.add.ensures.full q)
@@ -61,7 +61,7 @@ pub returns-in_default-clause-limit : goal.returns-in_default-clause-limit
 returns-in_default-clause-limit c = λ q.
     let h = cell_at c.args.arena.now.bytes in
     let n = c.args.list.count in
-    let p = c.args.list.place in
+    let p = c.args.list.offset in
     let v = c.requires.values in
     let z = sizes-none h n p c.args.name.now (length c.args.bytes.now) v.members v.met v.reads (sym (sym (c.find.ensures v.members v.met v.reads) ∙ c.in_default.is)) in
     subst (λ sizes. PassesLimit c.args.arena.now.bytes (total_of sizes)) z (c.add.ensures.limit q)
@@ -70,7 +70,7 @@ pub returns-in_default-clause-near : goal.returns-in_default-clause-near
 returns-in_default-clause-near c = λ q.
     let h = cell_at c.args.arena.now.bytes in
     let n = c.args.list.count in
-    let p = c.args.list.place in
+    let p = c.args.list.offset in
     let f = has-space h n p c.args.name.now c.requires.room (λ members met e. sym (sym (c.find.ensures members met e) ∙ c.in_default.is)) in
     near c.args.arena.now.bytes _ (add-total h n p (length c.args.name.now) (length c.args.bytes.now) (omega (arith, f))
     (value-name c.args.name.now c.requires.name) c.requires.bytes) (c.add.ensures.limit q)
@@ -79,7 +79,7 @@ pub cell_of-cell-requires-clause-list : goal.cell_of-cell-requires-clause-list
 cell_of-cell-requires-clause-list c =
     let h = cell_at c.args.arena.now.bytes in
     let n = c.args.list.count in
-    let p = c.args.list.place in
+    let p = c.args.list.offset in
     let v = c.requires.values in
     let s = named-stands h n p v c.args.name.now c.in-Some.index (c.in-Some.ensures v.members v.met v.reads) in
     s.list_here
@@ -88,7 +88,7 @@ pub cell_of-cell-requires-clause-index : goal.cell_of-cell-requires-clause-index
 cell_of-cell-requires-clause-index c =
     let h = cell_at c.args.arena.now.bytes in
     let n = c.args.list.count in
-    let p = c.args.list.place in
+    let p = c.args.list.offset in
     let v = c.requires.values in
     let s = named-stands h n p v c.args.name.now c.in-Some.index (c.in-Some.ensures v.members v.met v.reads) in
     s.long
@@ -97,11 +97,11 @@ pub replace-requires-clause-owns : goal.replace-requires-clause-owns
 replace-requires-clause-owns c =
     let h = cell_at c.args.arena.now.bytes in
     let n = c.args.list.count in
-    let p = c.args.list.place in
+    let p = c.args.list.offset in
     let v = c.requires.values in
     let named = sym (c.in-Some.ensures v.members v.met v.reads) in
     let l = members-length h n p v.members v.met v.reads in
-    let w = place-within c.args.name.now v.members c.in-Some.index named in
+    let w = offset-within c.args.name.now v.members c.in-Some.index named in
     let a = at-index h n p v.members v.met c.in-Some.index v.reads v.written (omega (arith, l, w)) in
     subst (λ o. Owns (member_at o) h) (a.cell_is ∙ sym c.cell_of-cell.ensures) (value-owns h n p v.members v.met c.in-Some.index v.once v.written a)
 
@@ -109,11 +109,11 @@ pub replace-requires-clause-written : goal.replace-requires-clause-written
 replace-requires-clause-written c =
     let h = cell_at c.args.arena.now.bytes in
     let n = c.args.list.count in
-    let p = c.args.list.place in
+    let p = c.args.list.offset in
     let v = c.requires.values in
     let named = sym (c.in-Some.ensures v.members v.met v.reads) in
     let l = members-length h n p v.members v.met v.reads in
-    let w = place-within c.args.name.now v.members c.in-Some.index named in
+    let w = offset-within c.args.name.now v.members c.in-Some.index named in
     let a = at-index h n p v.members v.met c.in-Some.index v.reads v.written (omega (arith, l, w)) in
     subst (IsWrittenValue h) (a.cell_is ∙ sym c.cell_of-cell.ensures) a.first.written
 
@@ -121,7 +121,7 @@ pub returns-in_err-replace-clause-full : goal.returns-in_err-replace-clause-full
 returns-in_err-replace-clause-full c = λ q.
     let h = cell_at c.args.arena.now.bytes in
     let n = c.args.list.count in
-    let p = c.args.list.place in
+    let p = c.args.list.offset in
     let v = c.requires.values in
     let z = sizes-there h n p c.args.name.now (length c.args.bytes.now) v.members v.met c.in-Some.index c.cell_of-cell.result v.reads
     (c.in-Some.ensures v.members v.met v.reads) c.cell_of-cell.ensures in
@@ -133,7 +133,7 @@ pub returns-in_err-replace-clause-limit : goal.returns-in_err-replace-clause-lim
 returns-in_err-replace-clause-limit c = λ q.
     let h = cell_at c.args.arena.now.bytes in
     let n = c.args.list.count in
-    let p = c.args.list.place in
+    let p = c.args.list.offset in
     let v = c.requires.values in
     let z = sizes-there h n p c.args.name.now (length c.args.bytes.now) v.members v.met c.in-Some.index c.cell_of-cell.result v.reads
     (c.in-Some.ensures v.members v.met v.reads) c.cell_of-cell.ensures in
@@ -146,10 +146,10 @@ returns-clause-ok c = λ members met e.
     let h = cell_at c.args.arena.now.bytes in
     let k = cell_at c.replace.new.arena.bytes in
     let n = c.args.list.count in
-    let p = c.args.list.place in
+    let p = c.args.list.offset in
     let named = sym (c.in-Some.ensures members met e) in
     let l = members-length h n p members met e in
-    let w = place-within c.args.name.now members c.in-Some.index named in
+    let w = offset-within c.args.name.now members c.in-Some.index named in
     let same = same-read h n p c.requires.values members met e in
     let written = subst (AreWritten h n p) same.0 c.requires.values.written in
     let once = subst (λ (zs : List Found). (z : ℕ) → owned z zs ≤ allocated h z) same.1 c.requires.values.once in
@@ -163,7 +163,7 @@ pub returns-clause-cells : goal.returns-clause-cells
 returns-clause-cells c =
     let h = cell_at c.args.arena.now.bytes in
     let n = c.args.list.count in
-    let p = c.args.list.place in
+    let p = c.args.list.offset in
     let v = c.requires.values in
     let z = sizes-there h n p c.args.name.now (length c.args.bytes.now) v.members v.met c.in-Some.index c.cell_of-cell.result v.reads
     (c.in-Some.ensures v.members v.met v.reads) c.cell_of-cell.ensures in

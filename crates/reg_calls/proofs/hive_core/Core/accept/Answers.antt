@@ -2,7 +2,7 @@ use Rattle.std.proofs.Common.{◌≡◌, ◌++◌, ◌∷◌, [], ℕ, List, len
 use Rattle.reg_model.specs.Causes.{State, change_cause}
 use Rattle.reg_model.specs.declared.reply.Entry.{Entry}
 use Rattle.reg_calls.specs.Internal.Stores.{IsReady, IsDone}
-use Rattle.reg_calls.specs.Views.{IsKept}
+use Rattle.reg_calls.specs.Views.{HiveInvariant}
 use Rattle.reg_calls.proofs.HiveInvariantLemmas.{ready-kept, state-view, append-room, kept-done}
 use Rattle.reg_calls.proofs.hive_core.Core.accept.Goals as goal
 
@@ -37,4 +37,4 @@ invariant_of-self-in-Ok-make c =
     ((λ opens. let r = c.in-Ok.ensures.ok opens in omega (arith, r, handles)), (λ closing. omega (arith, kept, more))) c.append.ensures.room in
     let entry : ℕ → Entry = λ k. record { number = k; session = c.args.session; moment = c.args.moment; change = c.args.change; reply = c.in-Ok-make.reply } in
     let entries = c.append.ensures.entries ∙ (ap (λ (x : List Entry). x ++ entry c.len-number.result ∷ []) c.in-Ok.ensures.entries ∙ ap (λ (k : ℕ). es ++ entry k ∷ []) n) in
-    subst (λ (x : List Entry). IsKept c.self.inside.origin.value.tree x c.make.new.self c.append.new.self.room) (sym entries) all
+    subst (λ (x : List Entry). HiveInvariant c.self.inside.origin.value.tree x c.make.new.self c.append.new.self.room) (sym entries) all

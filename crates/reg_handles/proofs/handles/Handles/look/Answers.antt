@@ -9,7 +9,7 @@ pub returns-in-Some-clause-handle : goal.returns-in-Some-clause-handle
 returns-in-Some-clause-handle c =
     let view = ap (λ (t : Table). t.handles) c.self.view_is in
     rw (← view) (look_found c.self.inside.keys.slots c.args.session c.args.number
-    (ordered c.self.inside.rows.by_number.entries) c.in-Some.row.now _ c.in-Some.ensures c.if-row-session.true c.path.ensures.place)
+    (ordered c.self.inside.rows.by_number.entries) c.in-Some.row.now _ c.in-Some.ensures c.if-row-session.true c.path.ensures.destination)
 
 pub returns-in_default-clause-handle : goal.returns-in_default-clause-handle
 returns-in_default-clause-handle c =
