@@ -1,5 +1,9 @@
 //! The command line of regtool: which words it takes, and the exit status and the texts of a run. The program is the crate
 //! regtool, which only passes on what it is started with: nothing can stand on a program, no test of another crate either.
+//!
+//! Its one contract is that of [`tool`]: the status is 0 only where the words are a command line, the input was read to its end and
+//! its replies were written; 1 after a script's fault or for want of memory; 2 for any other command line. It stands on reg_script
+//! and reg_calls, and reads its words by `clap`. It has no type of its own that others see.
 #![tactic(auto)]
 
 ghost use Rattle.std.specs.Prelude.{◌≡◌, ◌≤◌, ℕ, List, OnOk, IfErr};

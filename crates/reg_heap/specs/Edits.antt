@@ -4,7 +4,7 @@ use Rattle.std.specs.Prelude.{is_some, bit_and, Option, Some, None}
 use Rattle.std.specs.FinMap.{get, insert, remove}
 use Rattle.reg_names.specs.declared.TheConstants.{PATH_LIMIT}
 use Rattle.reg_names.specs.Names.{folded, path_of}
-use Rattle.reg_heap.specs.declared.limits.TheConstants.{MADE_LIMIT, SUBKEYS_LIMIT}
+use Rattle.reg_heap.specs.declared.limits.TheConstants.{MADE_LIMIT, LEAF_LIMIT}
 use Rattle.reg_heap.specs.declared.marks.TheConstants.{NO_DELETE}
 use Rattle.reg_heap.specs.Paths.{Path, Tree, Rec, Member, children_of}
 use Rattle.reg_heap.specs.Members.{values_with, values_without}
@@ -82,7 +82,7 @@ last_there t p (name ∷ names) = cond (has_child t p name) (last_there t (child
 abbrev pub are_too_many : Tree → Path → List (List ℕ) → Bool
 are_too_many t p names =
     nat_lt 0 (length (missing t p names)) && (nat_lt MADE_LIMIT (length (missing t p names)) || nat_lt PATH_LIMIT
-    (length p + length names) || nat_le SUBKEYS_LIMIT (length (children_of t (last_there t p names))))
+    (length p + length names) || nat_le LEAF_LIMIT (length (children_of t (last_there t p names))))
 
 -- the path of the key above
 abbrev pub above : Path → Path

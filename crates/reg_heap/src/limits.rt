@@ -15,11 +15,16 @@ pub const BINS_LIMIT: u32 = 268_435_456;
 /// A call appends at most one bin, for all of its cells. SetValue takes most: a record of 16,408 bytes with a name of
 /// 16,383, a list of 65,544 for 16,384 values, and for data of 1,048,576 bytes a big data record of 16, its list of 264, 64
 /// segments of 16,352 and one of 2,568. With the bin's header of 32 that is 1,131,360, a bin of 1,134,592. The cells of
-/// CreateKey have at most 15,536.
+/// CreateKey have at most 15,256.
 pub const GROWTH_BOUND: u32 = 1_310_720;
 
-/// The most subkeys of a key, until it has index roots.
-pub const SUBKEYS_LIMIT: u32 = 500;
+/// The most subkeys of a key.
+pub const SUBKEYS_LIMIT: u32 = 60_000;
+
+/// The most entries of a leaf of subkeys; until there are index roots, the most subkeys that a key gets.
+///
+/// Suhanov, Windows registry file format specification, section "Subkeys list", leaves it open.
+pub const LEAF_LIMIT: u32 = 500;
 
 /// The most keys that one call makes.
 ///

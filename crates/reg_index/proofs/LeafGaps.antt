@@ -4,7 +4,7 @@ use Rattle.std.specs.Prelude.{unwrap_or}
 use Rattle.std.proofs.lemmas.Bool.{eq-eqb, ne_eqb}
 use Rattle.byteorder.specs.Endian.{little_bytes, little_number}
 use Rattle.byteorder.specs.Numbers.{little_number-reads_back}
-use Rattle.reg_heap.specs.declared.limits.TheConstants.{SUBKEYS_LIMIT}
+use Rattle.reg_heap.specs.declared.limits.TheConstants.{LEAF_LIMIT}
 use Rattle.reg_heap.specs.Heaps.{Heap}
 use Rattle.reg_heap.specs.ByteWords.{half, word, splice}
 use Rattle.reg_records.specs.declared.lists.ListForm.TheVariants.{HashLeaf}
@@ -142,7 +142,7 @@ module _ (h0 h1 h2 h3 : Heap) (cell fresh count index : ℕ) (within : index ≤
 -- ---- the head written over entries
 
 module _ (heap : Heap) (cell count : ℕ) (c : List ℕ) (entries : List Entry) (here : heap cell ≡ Some (splice 0 (head_bytes HashLeaf count) c))
-    (few : count ≤ SUBKEYS_LIMIT) (long : 4 + 8 * count ≤ length c) where
+    (few : count ≤ LEAF_LIMIT) (long : 4 + 8 * count ≤ length c) where
   fits : 0 + length (head_bytes HashLeaf count) ≤ length c
   fits = omega arith
 
@@ -181,7 +181,7 @@ module _ (c : List ℕ) (at : ℕ) (entry : Entry) (fits : at + 8 ≤ length c) 
   pub entry-put : ◌≡◌ {A = Entry} (record { offset = word put at; hint = word put (at + 4) }) entry
   entry-put = λ i. record { offset = offset-put i; hint = hint-put i }
 
-pub filled : (h0 h1 h2 : Heap) (cell index count : ℕ) (entry : Entry) → count ≤ SUBKEYS_LIMIT → entry.offset < 2 ^ 32 → entry.hint < 2 ^ 32
+pub filled : (h0 h1 h2 : Heap) (cell index count : ℕ) (entry : Entry) → count ≤ LEAF_LIMIT → entry.offset < 2 ^ 32 → entry.hint < 2 ^ 32
     → h1 cell ≡ Some (splice (4 + 8 * index) (entry_bytes HashLeaf entry) (held h0 cell)) → h2 cell ≡ Some (splice 0 (head_bytes HashLeaf count) (held h1 cell))
     → (entries : List Entry) → HasGap h0 cell index entries → length entries + 1 ≡ count → index ≤ length entries → IsLeaf h2 cell (with_one index entry entries)
 filled h0 h1 h2 cell index count entry few offset hint one two entries gap number within =
@@ -206,7 +206,7 @@ filled h0 h1 h2 cell index count entry few offset hint one two entries gap numbe
 
 -- ---- an entry taken out
 
-pub closed : (h0 h1 h2 : Heap) (cell left index : ℕ) → left ≤ SUBKEYS_LIMIT → index ≤ left
+pub closed : (h0 h1 h2 : Heap) (cell left index : ℕ) → left ≤ LEAF_LIMIT → index ≤ left
     → ((offset : ℕ) → h1 offset ≡ cond (offset == cell) (Some (splice (4 + 8 * index) (take (8 * (left - index)) (drop (12 + 8 * index) (held h0 cell))) (held h0 cell))) (h0 offset))
     → h2 cell ≡ Some (splice 0 (head_bytes HashLeaf left) (held h1 cell))
     → (entries : List Entry) → IsLeaf h0 cell entries → length entries ≡ left + 1 → IsLeaf h2 cell (without index entries)

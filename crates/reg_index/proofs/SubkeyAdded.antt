@@ -7,7 +7,7 @@ use Rattle.std.proofs.lemmas.Option.{same_Some}
 use Rattle.std.proofs.lemmas.List.{take-map, drop-map, map-append, length-append, length-take-le, length-drop}
 use Rattle.reg_arena.proofs.Contents.CellWrites.{all-append}
 use Rattle.reg_names.specs.Names.{folded, hash}
-use Rattle.reg_heap.specs.declared.limits.TheConstants.{SUBKEYS_LIMIT}
+use Rattle.reg_heap.specs.declared.limits.TheConstants.{LEAF_LIMIT}
 use Rattle.reg_heap.specs.Heaps.{Heap, CellFrame, Writes}
 use Rattle.reg_heap.specs.Kinds.{times}
 use Rattle.reg_records.specs.KeyNodes.{key_at}
@@ -63,7 +63,7 @@ given-none heap (suc count) offset fresh key entries s ready some =
 
 -- ---- the subkeys with one more
 
-module _ (old between new : Heap) (count offset fresh at after index key : ℕ) (more : after ≡ count + 1) (few : count < SUBKEYS_LIMIT)
+module _ (old between new : Heap) (count offset fresh at after index key : ℕ) (more : after ≡ count + 1) (few : count < LEAF_LIMIT)
     (some : IsSome (key_at old key)) (ready : IsReady old (insert_size old count offset) fresh)
     (opened : Moves old between (own count offset ++ taken (insert_size old count offset) fresh) (at ∷ [])) (filled : Writes between new (at ∷ [])) where
   moved : CellFrame old new (λ z. times z (own count offset ++ taken (insert_size old count offset) fresh)) (λ z. times z (at ∷ []))

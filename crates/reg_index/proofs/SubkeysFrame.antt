@@ -6,7 +6,7 @@ use Rattle.std.specs.Option.{option_and_then}
 use Rattle.std.proofs.lemmas.Bool.{false≢true, eqb-true, ne_eqb, and_parts}
 use Rattle.std.proofs.lemmas.Option.{none-some, same_Some}
 use Rattle.reg_names.specs.Names.{folded, hash}
-use Rattle.reg_heap.specs.declared.limits.TheConstants.{NONE, SUBKEYS_LIMIT}
+use Rattle.reg_heap.specs.declared.limits.TheConstants.{NONE, LEAF_LIMIT}
 use Rattle.reg_heap.specs.Heaps.{Heap, CellFrame, allocated}
 use Rattle.reg_heap.specs.Kinds.{times}
 use Rattle.reg_records.specs.RecordCells.{held}
@@ -106,7 +106,7 @@ keys-stay old new entries k stay = record {
   rising = subst Rises (sym (names-stay old new entries stay)) k.rising;
 }
 
-pub subkeys-of : (heap : Heap) (count offset : ℕ) (entries : List Entry) → subkeys_at heap count offset ≡ Some entries → count ≤ SUBKEYS_LIMIT →
+pub subkeys-of : (heap : Heap) (count offset : ℕ) (entries : List Entry) → subkeys_at heap count offset ≡ Some entries → count ≤ LEAF_LIMIT →
     (count ≡ 0 → offset ≡ NONE) → AreKeys heap entries → AreSubkeys heap count offset entries
 subkeys-of heap count offset entries read few unlisted k = record { read = read; few = few; unlisted = unlisted; keys = k.keys; hashes = k.hashes; rising = k.rising }
 

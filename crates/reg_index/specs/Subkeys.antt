@@ -8,7 +8,7 @@ use Rattle.std.specs.Ordering.{nat_cmp}
 use Rattle.std.specs.declared.cmp.Ordering.TheVariants.{Less}
 use Rattle.std.specs.Cmp.Lexicographic.{slice_cmp}
 use Rattle.reg_names.specs.Names.{folded, hash}
-use Rattle.reg_heap.specs.declared.limits.TheConstants.{NONE, SUBKEYS_LIMIT}
+use Rattle.reg_heap.specs.declared.limits.TheConstants.{NONE, LEAF_LIMIT}
 use Rattle.reg_heap.specs.Heaps.{Heap, CellFrame}
 use Rattle.reg_heap.specs.Kinds.{times}
 use Rattle.reg_index.specs.declared.plan.TheConstants.{FIRST_LIST_SIZE}
@@ -50,7 +50,7 @@ Rises names = (i j : ℕ) → i < j → j < length names → slice_cmp nat_cmp (
 -- a key has these subkeys: at most 500, each a key with the hash of its name, rising; without subkeys there is no list
 pub record AreSubkeys (heap : Heap) (count offset : ℕ) (entries : List Entry) : Type 0 where
   pub read : subkeys_at heap count offset ≡ Some entries
-  pub few : count ≤ SUBKEYS_LIMIT
+  pub few : count ≤ LEAF_LIMIT
   pub unlisted : count ≡ 0 → offset ≡ NONE
   pub keys : AllByRecursion (λ (e : Entry). IsSome (key_at heap e.offset)) entries
   pub hashes : AllByRecursion (λ (e : Entry). e.hint ≡ hash (name_at heap e.offset)) entries

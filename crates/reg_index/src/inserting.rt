@@ -2,7 +2,7 @@
 
 ghost use Rattle.std.specs.Prelude.{◌≡◌, ◌+◌, ◌<◌, ◌≤◌, ◌++◌, ◌∷◌, [], List, Some, IsSome, Err, length};
 ghost use Rattle.reg_names.specs.Names.{folded, hash};
-ghost use Rattle.reg_heap.specs.declared.limits.TheConstants.{SUBKEYS_LIMIT};
+ghost use Rattle.reg_heap.specs.declared.limits.TheConstants.{LEAF_LIMIT};
 ghost use Rattle.reg_arena.specs.Cells.{cell_at};
 ghost use Rattle.reg_records.specs.KeyNodes.{key_at};
 ghost use Rattle.reg_records.specs.SubkeyLists.{Entry};
@@ -52,7 +52,7 @@ pub fn insert(
 ) -> SubkeysIndex
     requires subkeys { (entries : List Entry) × AreSubkeys (cell_at arena.old.bytes) list.count list.offset entries
         × IsIndexFor (names_in (cell_at arena.old.bytes) entries) (folded (name_at (cell_at arena.old.bytes) key)) (Err index) }
-    requires few { list.count < SUBKEYS_LIMIT }
+    requires few { list.count < LEAF_LIMIT }
     requires key { IsSome (key_at (cell_at arena.old.bytes) key) }
     requires ready { IsReady (cell_at arena.old.bytes) (insert_size (cell_at arena.old.bytes) list.count list.offset) fresh }
     ensures subkeys { (entries : List Entry) → AreSubkeys (cell_at arena.old.bytes) list.count list.offset entries →

@@ -1,7 +1,7 @@
 //! A hash leaf in its cell: entries moved, an entry put, the head written.
 
 ghost use Rattle.std.specs.Prelude.{◌≡◌, ◌≢◌, ◌+◌, ◌*◌, ◌≤◌, ℕ, ◌∷◌, [], List, length};
-ghost use Rattle.reg_heap.specs.declared.limits.TheConstants.{SUBKEYS_LIMIT};
+ghost use Rattle.reg_heap.specs.declared.limits.TheConstants.{LEAF_LIMIT};
 ghost use Rattle.reg_heap.specs.Heaps.{Writes, CellFrame};
 ghost use Rattle.reg_heap.specs.Kinds.{times};
 ghost use Rattle.reg_arena.specs.Cells.{cell_at};
@@ -17,7 +17,7 @@ use reg_records::{ListEntry, ListForm, ListHead, put_entry, put_head};
 /// Writes the head of a hash leaf of so many entries.
 fn put_leaf_head(arena: &mut Arena, cell: u32, count: u32)
     requires room { HasRoom (cell_at arena.old.bytes) cell 4 }
-    requires few { count ≤ SUBKEYS_LIMIT }
+    requires few { count ≤ LEAF_LIMIT }
     ensures { WritesPart arena.old arena.new cell 0 (head_bytes HashLeaf count) }
 {
     put_head(
@@ -33,7 +33,7 @@ fn put_leaf_head(arena: &mut Arena, cell: u32, count: u32)
 /// Makes a gap of one entry at an index of the leaf of so many entries.
 pub(crate) fn open_within(arena: &mut Arena, cell: u32, count: u32, index: u32)
     requires leaf { (entries : List Entry) × IsLeaf (cell_at arena.old.bytes) cell entries × (length entries ≡ count) }
-    requires few { count ≤ SUBKEYS_LIMIT }
+    requires few { count ≤ LEAF_LIMIT }
     requires index { index ≤ count }
     requires room { 4 + 8 * (count + 1) ≤ length (held (cell_at arena.old.bytes) cell) }
     ensures gap { (entries : List Entry) → IsLeaf (cell_at arena.old.bytes) cell entries → length entries ≡ count →
@@ -47,7 +47,7 @@ pub(crate) fn open_within(arena: &mut Arena, cell: u32, count: u32, index: u32)
 /// leaf's cell.
 pub(crate) fn move_open(arena: &mut Arena, cell: u32, fresh: u32, count: u32, index: u32)
     requires leaf { (entries : List Entry) × IsLeaf (cell_at arena.old.bytes) cell entries × (length entries ≡ count) }
-    requires few { count ≤ SUBKEYS_LIMIT }
+    requires few { count ≤ LEAF_LIMIT }
     requires index { index ≤ count }
     requires room { HasRoom (cell_at arena.old.bytes) fresh (4 + 8 * (count + 1)) }
     requires apart { fresh ≢ cell }
@@ -69,7 +69,7 @@ pub(crate) fn move_open(arena: &mut Arena, cell: u32, fresh: u32, count: u32, in
 /// Puts an entry into the gap at an index, and the head of a leaf of so many entries.
 pub(crate) fn fill(arena: &mut Arena, cell: u32, index: u32, count: u32, entry: ListEntry)
     requires gap { (entries : List Entry) × HasGap (cell_at arena.old.bytes) cell index entries × (length entries + 1 ≡ count) × (index ≤ length entries) }
-    requires few { count ≤ SUBKEYS_LIMIT }
+    requires few { count ≤ LEAF_LIMIT }
     ensures leaf { (entries : List Entry) → HasGap (cell_at arena.old.bytes) cell index entries → length entries + 1 ≡ count →
         index ≤ length entries → IsLeaf (cell_at arena.new.bytes) cell (with_one index entry entries) }
     ensures writes { Writes (cell_at arena.old.bytes) (cell_at arena.new.bytes) (cell ∷ []) }
@@ -81,7 +81,7 @@ pub(crate) fn fill(arena: &mut Arena, cell: u32, index: u32, count: u32, entry: 
 /// Takes the entry at an index out of a leaf, of which so many are left; the later ones close up.
 pub(crate) fn close(arena: &mut Arena, cell: u32, left: u32, index: u32)
     requires leaf { (entries : List Entry) × IsLeaf (cell_at arena.old.bytes) cell entries × (length entries ≡ left + 1) }
-    requires few { left ≤ SUBKEYS_LIMIT }
+    requires few { left ≤ LEAF_LIMIT }
     requires index { index ≤ left }
     ensures leaf { (entries : List Entry) → IsLeaf (cell_at arena.old.bytes) cell entries → length entries ≡ left + 1 →
         IsLeaf (cell_at arena.new.bytes) cell (without index entries) }

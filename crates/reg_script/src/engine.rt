@@ -26,13 +26,13 @@ pub const LINE_LIMIT: usize = 2_200_000;
 /// How many lines a script has at most. The limit is this project's own.
 pub const LINES_LIMIT: u32 = 1_000_000;
 
-/// More reads than these, of a byte or more each, pass the limits of lines.
+/// More reads than these, of a byte or more each, pass the limits of lines: each line with its LF, and one byte more.
 const READS_LIMIT: u64 = 2_200_001_000_001;
 
 /// How many bytes are read at a time.
 const CHUNK: usize = 65_536;
 
-/// What ended a script early. Replies to all lines before stand.
+/// What ended a script early. Replies to all lines before stand, save after `Write`, which says how much of them was taken.
 #[derive(Clone, Copy, Debug, PartialEq, Eq, Error)]
 pub enum ScriptFault {
     /// A read failed.
@@ -259,8 +259,9 @@ impl Script {
 }
 
 /// Runs a script of registry calls on a hive and writes the replies, each on a line of its own. Where it succeeds, what
-/// was written is what the rules give for all that was read. A fault says what ended it early ([`ScriptFault`]); then the
-/// replies to all lines before it stand, and the hive is as those lines left it.
+/// was written is what the rules give for all that was read. A fault says what ended it early ([`ScriptFault`]); the
+/// replies to the lines before it stand, after `Write` just as many of their bytes as the writer took. The hive is as those lines
+/// left it; after `Write` and `Memory` it may be one call further.
 pub fn run<R: Read, W: Write>(
     alloc: Global,
     reader: &mut R,

@@ -3,6 +3,7 @@
 use Rattle.std.specs.Prelude.{◌≡◌, ◌≢◌, ◌↔◌, ℕ, ◌+◌, ◌<◌, ◌≤◌, Option, Some, List, [], ◌∷◌, length, map, IsSome, true, Contains}
 use Rattle.std.specs.Option.{option_map}
 use Rattle.std.specs.List.{AllByRecursion}
+use Rattle.reg_names.specs.declared.TheConstants.{PATH_LIMIT}
 use Rattle.reg_heap.specs.Paths.{Path, Rec}
 use Rattle.reg_heap.specs.Heaps.{Heap}
 use Rattle.reg_heap.specs.Kinds.{Found, times, owned, shared}
@@ -77,7 +78,7 @@ pub record IsWhole (heap : Heap) (cells root : ℕ) : Type 0 where
   pub ringed : (offset : ℕ) → 0 < shared offset found ↔ 0 < times offset (first ∷ others)
   pub counts : AllByRecursion (λ offset. count_at heap offset ≡ Some (shared offset found)) (first ∷ others)
   pub keys : AllByRecursion (λ (f : Found). f.kind ≡ Key → IsWritten heap root f.offset) found
-  pub depth : (keys : List (Path × Rec)) → keys_from cells heap root ≡ Some keys → AllByRecursion (λ (e : Path × Rec). length e.0 ≤ 513) keys
+  pub depth : (keys : List (Path × Rec)) → keys_from cells heap root ≡ Some keys → AllByRecursion (λ (e : Path × Rec). length e.0 ≤ PATH_LIMIT + 1) keys
 
 -- the hive in these bytes is whole
 pub record Whole (bytes : List ℕ) (root : ℕ) : Type 0 where

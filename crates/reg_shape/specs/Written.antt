@@ -9,7 +9,7 @@ use Rattle.std.specs.declared.cmp.Ordering.TheVariants.{Less}
 use Rattle.std.specs.Cmp.Lexicographic.{slice_cmp}
 use Rattle.byteorder.specs.Endian.{little_bytes}
 use Rattle.reg_names.specs.Names.{folded, hash, is_key_name, is_value_name}
-use Rattle.reg_heap.specs.declared.limits.TheConstants.{DATA_LIMIT, DESCRIPTOR_LIMIT, NONE, SUBKEYS_LIMIT, VALUES_LIMIT}
+use Rattle.reg_heap.specs.declared.limits.TheConstants.{DATA_LIMIT, DESCRIPTOR_LIMIT, NONE, LEAF_LIMIT, SUBKEYS_LIMIT, VALUES_LIMIT}
 use Rattle.reg_heap.specs.Paths.{Member}
 use Rattle.reg_heap.specs.Heaps.{Heap}
 use Rattle.reg_records.specs.declared.vk.ValueFields.{ValueFields}
@@ -37,7 +37,7 @@ Precedes a b = slice_cmp nat_cmp (folded a) (folded b) ≡ Less
 pub record IsWrittenList (list : KeyList) : Type 0 where
   pub form : list.list.form ≡ HashLeaf
   pub some : 1 ≤ length list.list.entries
-  pub few : length list.list.entries ≤ SUBKEYS_LIMIT
+  pub few : length list.list.entries ≤ LEAF_LIMIT
 
 -- a key's subkeys: none, one list, or an index root of two or more
 abbrev pub IsWrittenIndex : Index → Type 0
@@ -85,7 +85,7 @@ pub record IsWrittenKey (heap : Heap) (root offset : ℕ) (node : Node) : Type 0
   pub class : node.key.fields.class_length ≡ 0 → node.key.fields.class ≡ NONE
   pub values : AreWrittenValues heap node
   pub subkeys : node.key.fields.subkeys ≡ length (entries_of node.index)
-  pub few : node.key.fields.subkeys ≤ 60000
+  pub few : node.key.fields.subkeys ≤ SUBKEYS_LIMIT
   pub none : node.key.fields.subkeys ≡ 0 → node.key.fields.subkeys_list ≡ NONE
   pub index : IsWrittenIndex node.index
 

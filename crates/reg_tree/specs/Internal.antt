@@ -6,3 +6,4 @@ pub mod PathWalks
 pub mod KeyDeletion
 pub mod SpareCells
 pub mod KeyCreation
+pub mod TreeInvariant

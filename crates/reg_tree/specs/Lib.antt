@@ -1,4 +1,3 @@
 pub mod TreeKeys
 pub mod ValueAnswers
 pub mod Internal
-pub mod TreeInvariant

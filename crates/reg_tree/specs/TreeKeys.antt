@@ -6,6 +6,7 @@ use Rattle.std.specs.FinMap.{empty, get}
 use Rattle.reg_names.specs.declared.TheConstants.{PATH_LIMIT}
 use Rattle.reg_names.specs.Names.{folded}
 use Rattle.reg_heap.specs.Edits.{with_keys, missing}
+use Rattle.reg_heap.specs.declared.marks.TheConstants.{NO_DELETE}
 use Rattle.reg_heap.specs.Paths.{Path, Tree, Rec, coded_bytes, coded_tree}
 use Rattle.reg_arena.specs.declared.Cell.{Cell}
 use Rattle.reg_arena.specs.Arena.{Bins}
@@ -44,7 +45,7 @@ pub record IsWholeTree (bytes : List ℕ) (root : ℕ) (tree : Tree) : Type 0 wh
 
 -- the key that a new hive's root is
 abbrev pub made_root : List ℕ → List ℕ → ℕ → Rec
-made_root name descriptor moment = record { name = name; marks = 8; class = []; descriptor = descriptor; time = moment; values = [] }
+made_root name descriptor moment = record { name = name; marks = NO_DELETE; class = []; descriptor = descriptor; time = moment; values = [] }
 
 -- a node is that of the key at a path: it has the offset of the key node at the end of the path, and the path's length
 pub record IsAt (keys : Keys) (path : Path) (node : Node) : Type 0 where

@@ -5,7 +5,7 @@ ghost use Rattle.reg_names.specs.Names.{folded, is_path};
 ghost use Rattle.reg_heap.specs.Edits.{folded_path};
 ghost use Rattle.reg_arena.specs.Cells.{cell_at};
 ghost use Rattle.reg_shape.specs.PathLookup.{key_offset_at, subkey_named};
-ghost use Rattle.reg_tree.specs.TreeInvariant.{IsHere};
+ghost use Rattle.reg_tree.specs.Internal.TreeInvariant.{IsHere};
 ghost use Rattle.reg_tree.specs.Internal.PathWalks.{IsWalked, Reaches};
 
 use crate::Node;

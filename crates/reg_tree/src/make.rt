@@ -13,7 +13,7 @@ ghost use Rattle.reg_records.specs.RecordCells.{HasRoom};
 ghost use Rattle.reg_records.specs.KeyNodes.{KeyRecord, key_at};
 ghost use Rattle.reg_index.specs.Subkeys.{IsReady, taken};
 ghost use Rattle.reg_tree.specs.TreeKeys.{tree_in};
-ghost use Rattle.reg_tree.specs.TreeInvariant.{IsHere};
+ghost use Rattle.reg_tree.specs.Internal.TreeInvariant.{IsHere};
 ghost use Rattle.reg_tree.specs.Internal.SpareCells.{planned, MayGrow, Grows, AreReady, MayGrowAll, GrowsAll, sizes_of, IsSpared};
 ghost use Rattle.reg_tree.specs.Internal.KeyCreation.{IsCreated, AreTooMany};
 
@@ -22,7 +22,7 @@ use crate::key::{fields, new_key, note_subkeys, subkeys_list};
 use crate::ring::{recount, with_one_more};
 use crate::{Created, Node, TreeFault};
 use reg_arena::{Arena, cell_size};
-use reg_heap::limits::{MADE_LIMIT, NONE, SUBKEYS_LIMIT};
+use reg_heap::limits::{LEAF_LIMIT, MADE_LIMIT, NONE};
 use reg_index::{FIRST_LIST_SIZE, SubkeysIndex, find, insert, len, plan_insert};
 use reg_names::{PATH_LIMIT, first_name};
 use reg_records::put_nk;
@@ -130,10 +130,10 @@ fn pass_limits(arena: &Arena, parent: Node, path: &[u8]) -> bool
     ensures many { (t : IsHere arena.now.bytes parent.offset) →
         ((result ≡ true) ↔ ((MADE_LIMIT < length (path_of path.now))
         ⊎ ((PATH_LIMIT < parent.depth + length (path_of path.now))
-        ⊎ (SUBKEYS_LIMIT ≤ length (children_of (tree_in arena.now.bytes t.root) t.path))))) }
+        ⊎ (LEAF_LIMIT ≤ length (children_of (tree_in arena.now.bytes t.root) t.path))))) }
     ensures room { result ≡ false → (length (path_of path.now) ≤ MADE_LIMIT)
         × (parent.depth + length (path_of path.now) ≤ PATH_LIMIT)
-        × ((k : KeyRecord) → key_at (cell_at arena.now.bytes) parent.offset ≡ Some k → k.fields.subkeys < SUBKEYS_LIMIT) }
+        × ((k : KeyRecord) → key_at (cell_at arena.now.bytes) parent.offset ≡ Some k → k.fields.subkeys < LEAF_LIMIT) }
 {
     let count = count_names(path);
     if count > MADE_LIMIT {
@@ -142,7 +142,7 @@ fn pass_limits(arena: &Arena, parent: Node, path: &[u8]) -> bool
     if parent.depth + count > PATH_LIMIT as u32 {
         return true;
     }
-    len(subkeys_list(arena, parent.offset)) >= SUBKEYS_LIMIT
+    len(subkeys_list(arena, parent.offset)) >= LEAF_LIMIT
 }
 
 /// Whether keys of a path from a key on are missing, and too many to be made.

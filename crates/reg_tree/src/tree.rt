@@ -28,7 +28,7 @@ pub struct Tree {
 
 impl Model for Tree {
     ghost use Rattle.reg_tree.specs.TreeKeys.{Keys, coded_keys, tree_in};
-    ghost use Rattle.reg_tree.specs.TreeInvariant.{TreeInvariant};
+    ghost use Rattle.reg_tree.specs.Internal.TreeInvariant.{TreeInvariant};
 
     ghost Value = { Keys };
 

@@ -13,7 +13,7 @@ ghost use Rattle.reg_records.specs.SubkeyLists.{Entry};
 ghost use Rattle.reg_shape.specs.Nodes.{Node as KeyWithCells, look};
 ghost use Rattle.reg_values.specs.Internal.ValueListParts.{Owns, GivesUpRead};
 ghost use Rattle.reg_tree.specs.TreeKeys.{tree_in};
-ghost use Rattle.reg_tree.specs.TreeInvariant.{IsHere};
+ghost use Rattle.reg_tree.specs.Internal.TreeInvariant.{IsHere};
 ghost use Rattle.reg_tree.specs.Internal.KeyDeletion.{IsListed, IsUnlinked, IsSole, IsDeleted, class_at};
 
 use crate::TreeFault;

@@ -10,7 +10,7 @@ ghost use Rattle.reg_heap.specs.Edits.{with_value, without_value, values_at};
 ghost use Rattle.reg_arena.specs.Cells.{cell_at};
 ghost use Rattle.reg_values.specs.ValueLists.{IsNamed, Tells};
 ghost use Rattle.reg_tree.specs.TreeKeys.{tree_in};
-ghost use Rattle.reg_tree.specs.TreeInvariant.{IsHere, IsChanged};
+ghost use Rattle.reg_tree.specs.Internal.TreeInvariant.{IsHere, IsChanged};
 ghost use Rattle.reg_tree.specs.Internal.KeyNodeChanges.{HasList};
 ghost use Rattle.reg_tree.specs.ValueAnswers.{IsFound};
 

@@ -1,8 +1,7 @@
 //! The command-line tool: `regtool run` reads a script of registry calls on standard input and writes the replies.
 //!
-//! Its one contract is that of [`tool`]: the status is 0 only where the words are a command line, the input was read to its end and
-//! its replies were written; 1 after a script's fault or for want of memory, 2 for any other command line. It stands on reg_script
-//! and reg_calls, and reads its words by `clap`. It has no type of its own that others see.
+//! It stands on reg_command alone and does nothing but pass on what it is started with: its arguments, its input and its outputs go
+//! to [`tool`], whose answer is its exit status. It has no contract: what a program is given and prints no clause can say.
 #![tactic(auto)]
 
 pub use reg_command::tool;

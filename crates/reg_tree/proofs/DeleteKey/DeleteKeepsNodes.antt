@@ -8,7 +8,7 @@ use Rattle.reg_tree.specs.declared.node.Node.{Node}
 use Rattle.reg_tree.specs.declared.fault.TreeFault.{TreeFault}
 use Rattle.reg_tree.specs.declared.fault.TreeFault.TheVariants.{HasChildren, NoDelete}
 use Rattle.reg_tree.specs.TreeKeys.{Keys, tree_in, IsAt, IsThere}
-use Rattle.reg_tree.specs.TreeInvariant.{TreeInvariant, IsHere}
+use Rattle.reg_tree.specs.Internal.TreeInvariant.{TreeInvariant, IsHere}
 use Rattle.reg_tree.specs.Internal.KeyDeletion.{IsDeleted}
 use Rattle.reg_tree.proofs.Invariant.NodeLemmas.{on_ok, seen_as, here_at, there_at, of_tree}
 

@@ -24,7 +24,7 @@ use Rattle.reg_shape.proofs.Graft.Branches.{forest-branch-total}
 use Rattle.reg_shape.proofs.Refinement.RefinementOfChildren.{children-told}
 use Rattle.reg_shape.proofs.Wholeness.ShapeRecords.{at-most-one}
 use Rattle.reg_tree.specs.TreeKeys.{tree_in}
-use Rattle.reg_tree.specs.TreeInvariant.{IsHere}
+use Rattle.reg_tree.specs.Internal.TreeInvariant.{IsHere}
 use Rattle.reg_tree.proofs.DeleteKey.DeletedKeyPosition.{key-owned}
 use Rattle.reg_tree.proofs.Invariant.KeyOfTree.{spelt_is, branch, branch_is, key_is, stands, seen, rec_there}
 

@@ -30,7 +30,7 @@ use Rattle.reg_shape.proofs.Lookup.LookupAfterGraft.{offsets-unhung}
 use Rattle.reg_shape.proofs.Refinement.RefinementAfterEdit.{same_path, name-is}
 use Rattle.reg_index.proofs.RefinementOfSubkeys.{index_for, IsSingle}
 use Rattle.reg_tree.specs.TreeKeys.{tree_in}
-use Rattle.reg_tree.specs.TreeInvariant.{rooted, TreeInvariant, IsHere}
+use Rattle.reg_tree.specs.Internal.TreeInvariant.{rooted, TreeInvariant, IsHere}
 use Rattle.reg_tree.specs.Internal.KeyNodeChanges.{Recounts}
 use Rattle.reg_tree.specs.Internal.KeyDeletion.{IsListed, IsUnlinked, IsSole, IsDeleted}
 use Rattle.reg_tree.proofs.ValueChange.TreeAfterValueChange.{edited-at}

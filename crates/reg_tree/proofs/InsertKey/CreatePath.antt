@@ -7,7 +7,7 @@ use Rattle.std.proofs.lemmas.List.{append-nil, append_assoc, map-append}
 use Rattle.std.proofs.lemmas.Option.{none-some}
 use Rattle.reg_names.specs.declared.TheConstants.{PATH_LIMIT}
 use Rattle.reg_names.specs.Names.{folded, path_of}
-use Rattle.reg_heap.specs.declared.limits.TheConstants.{SUBKEYS_LIMIT, MADE_LIMIT}
+use Rattle.reg_heap.specs.declared.limits.TheConstants.{LEAF_LIMIT, MADE_LIMIT}
 use Rattle.reg_heap.specs.Paths.{Path, Tree, children_of}
 use Rattle.reg_heap.specs.Edits.{child_path, has_child, with_key, with_keys, missing, last_there}
 use Rattle.reg_heap.specs.Heaps.{Heap}
@@ -17,7 +17,7 @@ use Rattle.reg_shape.specs.PathLookup.{key_offset_at, subkey_named}
 use Rattle.reg_shape.proofs.Lookup.LookupOfShape.{offset-none, offset-more, offset-append}
 use Rattle.reg_tree.specs.declared.node.Node.{Node as TreeNode}
 use Rattle.reg_tree.specs.TreeKeys.{tree_in}
-use Rattle.reg_tree.specs.TreeInvariant.{TreeInvariant, IsHere}
+use Rattle.reg_tree.specs.Internal.TreeInvariant.{TreeInvariant, IsHere}
 use Rattle.reg_tree.specs.Internal.PathWalks.{Stops, Reaches}
 use Rattle.reg_tree.specs.Internal.SpareCells.{MayGrowAll, GrowsAll, IsSpared}
 use Rattle.reg_tree.specs.Internal.KeyCreation.{IsCreated, AreTooMany}
@@ -160,7 +160,7 @@ module _ (old : List ℕ) (from : TreeNode) (t : IsHere old from.offset) (path :
 
   module _ (depth : from.depth ≡ length t.path) where
     abbrev Many : Type 0
-    Many = (MADE_LIMIT < length left) ⊎ ((PATH_LIMIT < parent.depth + length left) ⊎ (SUBKEYS_LIMIT ≤ length (children_of (tree_in old parent_here.root) parent_here.path)))
+    Many = (MADE_LIMIT < length left) ⊎ ((PATH_LIMIT < parent.depth + length left) ⊎ (LEAF_LIMIT ≤ length (children_of (tree_in old parent_here.root) parent_here.path)))
 
     same-depth : parent.depth + length left ≡ length t.path + length names
     same-depth = let d = r.passes.depth in let n = number in omega (arith, d, n, depth)
@@ -169,19 +169,19 @@ module _ (old : List ℕ) (from : TreeNode) (t : IsHere old from.offset) (path :
     unfolding here_then
     too_many some m = record { some = λ e. some (sym missing-are ∙ e); many = by m }
       where
-        by : Many → (MADE_LIMIT < length (missing tree t.path names)) ⊎ ((PATH_LIMIT < length t.path + length names) ⊎ (SUBKEYS_LIMIT ≤ length (children_of tree (last_there tree t.path names))))
+        by : Many → (MADE_LIMIT < length (missing tree t.path names)) ⊎ ((PATH_LIMIT < length t.path + length names) ⊎ (LEAF_LIMIT ≤ length (children_of tree (last_there tree t.path names))))
         by (inl l) = inl (subst (λ ns. MADE_LIMIT < length ns) (sym missing-are) l)
         by (inr (inl l)) = inr (inl (subst (λ n. PATH_LIMIT < n) same-depth l))
-        by (inr (inr l)) = inr (inr (subst (λ p. SUBKEYS_LIMIT ≤ length (children_of tree p)) (sym last-is) l))
+        by (inr (inr l)) = inr (inr (subst (λ p. LEAF_LIMIT ≤ length (children_of tree p)) (sym last-is) l))
 
     pub are_many : AreTooMany tree t.path names → Many
     unfolding here_then
     are_many m = by m.many
       where
-        by : (MADE_LIMIT < length (missing tree t.path names)) ⊎ ((PATH_LIMIT < length t.path + length names) ⊎ (SUBKEYS_LIMIT ≤ length (children_of tree (last_there tree t.path names)))) → Many
+        by : (MADE_LIMIT < length (missing tree t.path names)) ⊎ ((PATH_LIMIT < length t.path + length names) ⊎ (LEAF_LIMIT ≤ length (children_of tree (last_there tree t.path names)))) → Many
         by (inl l) = inl (subst (λ ns. MADE_LIMIT < length ns) missing-are l)
         by (inr (inl l)) = inr (inl (subst (λ n. PATH_LIMIT < n) (sym same-depth) l))
-        by (inr (inr l)) = inr (inr (subst (λ p. SUBKEYS_LIMIT ≤ length (children_of tree p)) last-is l))
+        by (inr (inr l)) = inr (inr (subst (λ p. LEAF_LIMIT ≤ length (children_of tree p)) last-is l))
 
   pub parent-deep : from.depth ≤ PATH_LIMIT → parent.depth ≤ 1024
   unfolding here_then
@@ -195,7 +195,7 @@ module _ (old : List ℕ) (from : TreeNode) (t : IsHere old from.offset) (path :
   -- ---- they are made
 
   module _ (depth : from.depth ≡ length t.path) (mid : List ℕ) (spare : List ℕ) (s : IsSpared old mid parent.offset left spare) (short : parent.depth + length left ≤ PATH_LIMIT)
-      (few : (k : KeyRecord) → key_at (cell_at old) parent.offset ≡ Some k → k.fields.subkeys < SUBKEYS_LIMIT) where
+      (few : (k : KeyRecord) → key_at (cell_at old) parent.offset ≡ Some k → k.fields.subkeys < LEAF_LIMIT) where
     deep : length parent_here.path + length left ≤ PATH_LIMIT
     unfolding here_then
     deep = let d = r.passes.depth in let a = length-append t.path (map folded passed) in let m = as-many passed in omega (arith, d, a, m, depth, short)

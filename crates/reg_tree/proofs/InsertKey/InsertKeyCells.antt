@@ -26,7 +26,7 @@ use Rattle.reg_shape.proofs.Graft.ForestInsertFits.{all-inserted}
 use Rattle.reg_index.specs.Subkeys.{AreSubkeys, IsIndexFor, Moves, names_in, entry_for, with_one, own, taken}
 use Rattle.reg_index.proofs.RefinementOfSubkeys.{IsSingle, subkeys-elsewhere}
 use Rattle.reg_tree.specs.Internal.KeyNodeChanges.{Notes, Recounts, noted_subkeys, raised}
-use Rattle.reg_tree.specs.TreeInvariant.{rooted}
+use Rattle.reg_tree.specs.Internal.TreeInvariant.{rooted}
 use Rattle.reg_tree.proofs.InsertKey.MadeKeyRecord.{made_record, made_node, made-seen}
 use Rattle.reg_tree.proofs.InsertKey.ParentReindexed.{reindexed, sees-reindexed}
 use Rattle.reg_tree.proofs.Invariant.UntouchedCells.{times-one, not-there, there-is, moved-none}

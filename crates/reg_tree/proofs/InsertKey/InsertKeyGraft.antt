@@ -32,7 +32,7 @@ use Rattle.reg_shape.proofs.Graft.ForestInsertFits.{all-before, all-behind, all-
 use Rattle.reg_index.specs.Subkeys.{AreSubkeys, IsIndexFor, Moves, names_in, name_at, name_or_none, entry_for, with_one, own, taken}
 use Rattle.reg_index.proofs.RefinementOfSubkeys.{IsSingle, index-entries}
 use Rattle.reg_tree.specs.Internal.KeyNodeChanges.{Notes, Recounts, noted_subkeys, raised}
-use Rattle.reg_tree.specs.TreeInvariant.{rooted}
+use Rattle.reg_tree.specs.Internal.TreeInvariant.{rooted}
 use Rattle.reg_tree.proofs.Invariant.CellReadings.{key-exists, security-exists, is_some_of}
 use Rattle.reg_tree.proofs.Invariant.OwnCells.{own-parts}
 use Rattle.reg_tree.proofs.InsertKey.MadeKeyRecord.{made_record, made_node, made-owns, made-shares}

@@ -34,7 +34,7 @@ use Rattle.reg_shape.proofs.Lookup.LookupOfShape.{placed, offset-more}
 use Rattle.reg_index.specs.Subkeys.{AreSubkeys, IsIndexFor, Moves, names_in, entry_for, with_one, own, taken, insert_size}
 use Rattle.reg_index.proofs.RefinementOfSubkeys.{index_for}
 use Rattle.reg_tree.specs.Internal.KeyNodeChanges.{Notes, Recounts, noted_subkeys}
-use Rattle.reg_tree.specs.TreeInvariant.{is_rooted, rooted}
+use Rattle.reg_tree.specs.Internal.TreeInvariant.{is_rooted, rooted}
 use Rattle.reg_tree.specs.Internal.SpareCells.{planned, Grows}
 use Rattle.reg_tree.proofs.InsertKey.MadeKeyRecord.{made_record, made_node}
 use Rattle.reg_tree.proofs.InsertKey.ParentReindexed.{reindexed}

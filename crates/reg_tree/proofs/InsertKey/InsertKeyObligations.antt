@@ -5,7 +5,7 @@ use Rattle.std.specs.Option.{option_and_then}
 use Rattle.std.proofs.lemmas.Option.{none-some}
 use Rattle.reg_names.specs.declared.TheConstants.{KEY_NAME_LIMIT}
 use Rattle.reg_names.specs.Names.{folded, is_key_name}
-use Rattle.reg_heap.specs.declared.limits.TheConstants.{SUBKEYS_LIMIT}
+use Rattle.reg_heap.specs.declared.limits.TheConstants.{LEAF_LIMIT}
 use Rattle.reg_heap.specs.Heaps.{Heap}
 use Rattle.reg_heap.specs.Kinds.{times}
 use Rattle.reg_arena.specs.Cells.{cell_at}
@@ -95,8 +95,8 @@ module _ (bytes : List ℕ) (parent list_cell key : ℕ) (name left : List ℕ) 
         let none = subst (λ o. subkey_named h (folded name) o ≡ None) (sym (keyed.offset h g.root g.keys g.first [] spare g.shape g.path parent g.at)) m.missing in
         none-some _ (sym none ∙ found)
 
-    pub few_subkeys : fields.subkeys < SUBKEYS_LIMIT
-    few_subkeys = subst (λ (f : KeyFields). f.subkeys < SUBKEYS_LIMIT) fields_are (m.few node.key key_is)
+    pub few_subkeys : fields.subkeys < LEAF_LIMIT
+    few_subkeys = subst (λ (f : KeyFields). f.subkeys < LEAF_LIMIT) fields_are (m.few node.key key_is)
 
     -- ---- the key node was written
 

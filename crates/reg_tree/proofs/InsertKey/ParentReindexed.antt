@@ -5,7 +5,7 @@ use Rattle.std.specs.Option.{option_map, option_and_then}
 use Rattle.std.proofs.lemmas.List.{append-nil}
 use Rattle.std.proofs.lemmas.Option.{none-some, same_Some}
 use Rattle.reg_names.specs.Names.{folded, hash}
-use Rattle.reg_heap.specs.declared.limits.TheConstants.{SUBKEYS_LIMIT}
+use Rattle.reg_heap.specs.declared.limits.TheConstants.{LEAF_LIMIT}
 use Rattle.reg_heap.specs.Heaps.{Heap}
 use Rattle.reg_heap.specs.Kinds.{Found, times, owned, shared}
 use Rattle.reg_heap.specs.Kinds.Kind.{Class}
@@ -179,7 +179,7 @@ names-ordered : (below : List (ℕ × Node)) → Pairwise (λ (a b : ℕ × Node
 names-ordered [] a = tt
 names-ordered (e ∷ below) a = (all-names (Precedes e.1.key.name) below a.0, names-ordered below a.1)
 
-few-entries : (index : Index) → IsWrittenIndex index → IsSingle index → length (entries_of index) ≤ SUBKEYS_LIMIT
+few-entries : (index : Index) → IsWrittenIndex index → IsSingle index → length (entries_of index) ≤ LEAF_LIMIT
 few-entries Unlisted w s = omega arith
 few-entries (Listed list) w s = let few = w.few in let all = ap length (append-nil list.list.entries) in omega (arith, few, all)
 few-entries (Rooted offset lists) w s = absurd s

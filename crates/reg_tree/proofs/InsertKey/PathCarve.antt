@@ -10,7 +10,7 @@ use Rattle.std.proofs.lemmas.List.{length-replicate}
 use Rattle.std.proofs.lemmas.Option.{none-some, same_Some}
 use Rattle.reg_names.specs.declared.TheConstants.{PATH_LIMIT, KEY_NAME_LIMIT}
 use Rattle.reg_names.specs.Names.{is_key_name, are_key_names, is_path, path_of}
-use Rattle.reg_heap.specs.declared.limits.TheConstants.{BINS_LIMIT, GROWTH_BOUND, SUBKEYS_LIMIT, MADE_LIMIT}
+use Rattle.reg_heap.specs.declared.limits.TheConstants.{BINS_LIMIT, GROWTH_BOUND, LEAF_LIMIT, MADE_LIMIT}
 use Rattle.reg_heap.specs.Heaps.{Heap, AreNew}
 use Rattle.reg_index.specs.declared.plan.TheConstants.{FIRST_LIST_SIZE}
 use Rattle.reg_arena.specs.declared.ArenaFault.{ArenaFault}
@@ -30,7 +30,7 @@ use Rattle.reg_tree.specs.declared.fault.TreeFault.{TreeFault}
 use Rattle.reg_tree.specs.declared.fault.TreeFault.TheVariants.{Full}
 use Rattle.reg_tree.specs.Internal.TreeFaults.{of_arena}
 use Rattle.reg_tree.specs.Internal.KeyNodeChanges.{HasSubkeysList}
-use Rattle.reg_tree.specs.TreeInvariant.{IsHere}
+use Rattle.reg_tree.specs.Internal.TreeInvariant.{IsHere}
 use Rattle.reg_tree.specs.Internal.SpareCells.{key_size, sizes_of, IsGrowing, AreReady, IsSpared}
 use Rattle.reg_tree.proofs.InsertKey.PathGrowth.{name_short}
 use Rattle.reg_tree.proofs.InsertKey.SpareCellTaken.{growing_there, growing_subkeys, planned_is}
@@ -72,7 +72,7 @@ IsPlan plan = (size : ℕ) → plan ≡ Some size → (size % 8 ≡ 0) × (16 �
 first_plan : IsPlan (Some FIRST_LIST_SIZE)
 first_plan size e = let s = same_Some _ _ e in (omega (arith, s), omega (arith, s), omega (arith, s))
 
-plan_by : (heap : Heap) (count offset : ℕ) → count ≤ SUBKEYS_LIMIT → IsPlan (insert_size heap count offset)
+plan_by : (heap : Heap) (count offset : ℕ) → count ≤ LEAF_LIMIT → IsPlan (insert_size heap count offset)
 unfolding insert_size
 plan_by heap zero offset few size e = let s = same_Some _ _ e in (omega (arith, s), omega (arith, s), omega (arith, s))
 plan_by heap (suc count) offset few size e = by (nat_le (4 + 8 * suc (suc count)) (length (held heap offset))) e

@@ -6,7 +6,7 @@ use Rattle.std.specs.FinMap.{get, insert, get-insert, same_map}
 use Rattle.std.proofs.lemmas.Option.{none-some}
 use Rattle.reg_names.specs.declared.TheConstants.{PATH_LIMIT}
 use Rattle.reg_names.specs.Names.{folded}
-use Rattle.reg_heap.specs.declared.limits.TheConstants.{SUBKEYS_LIMIT}
+use Rattle.reg_heap.specs.declared.limits.TheConstants.{LEAF_LIMIT}
 use Rattle.reg_heap.specs.Paths.{Path, Tree, Rec, path_cmp}
 use Rattle.reg_heap.specs.Edits.{child_path}
 use Rattle.reg_heap.specs.Heaps.{Heap, allocated, CellFrame}
@@ -35,7 +35,7 @@ use Rattle.reg_shape.proofs.Lookup.LookupOfShape.{offset-none, offset-more, offs
 use Rattle.reg_shape.proofs.Refinement.RefinementAtPath.{told}
 use Rattle.reg_index.specs.Subkeys.{insert_size, own}
 use Rattle.reg_tree.specs.declared.node.Node.{Node as TreeNode}
-use Rattle.reg_tree.specs.TreeInvariant.{IsHere}
+use Rattle.reg_tree.specs.Internal.TreeInvariant.{IsHere}
 use Rattle.reg_tree.specs.Internal.SpareCells.{planned, AreReady, MayGrowAll, IsSpared}
 use Rattle.reg_tree.proofs.Invariant.KeyOfTree as here
 use Rattle.reg_tree.proofs.Invariant.KeyOfTree.{branch, key_is, looked, offset}
@@ -111,7 +111,7 @@ module _ (h k : Heap) (root : ℕ) (keys : Branch Node) (first : ℕ) (spare : L
 module _ (old mid : List ℕ) (parent : TreeNode) (t : IsHere old parent.offset) (names : List (List ℕ)) (spare : List ℕ) (s : IsSpared old mid parent.offset names spare)
     (missing : (name : List ℕ) (others : List (List ℕ)) → names ≡ name ∷ others → subkey_named (cell_at old) (folded name) parent.offset ≡ None)
     (deep : length t.path + length names ≤ PATH_LIMIT)
-    (few : (r : KeyRecord) → key_at (cell_at old) parent.offset ≡ Some r → r.fields.subkeys < SUBKEYS_LIMIT) where
+    (few : (r : KeyRecord) → key_at (cell_at old) parent.offset ≡ Some r → r.fields.subkeys < LEAF_LIMIT) where
   abbrev h : Heap
   h = cell_at old
 

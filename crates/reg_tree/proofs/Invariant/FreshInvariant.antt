@@ -5,7 +5,7 @@ use Rattle.reg_heap.specs.Paths.{path_cmp}
 use Rattle.reg_arena.specs.Cells.{cell_at}
 use Rattle.reg_shape.proofs.Graft.Branches.{whole-shape}
 use Rattle.reg_tree.specs.TreeKeys.{tree_in, made_root}
-use Rattle.reg_tree.specs.TreeInvariant.{TreeInvariant}
+use Rattle.reg_tree.specs.Internal.TreeInvariant.{TreeInvariant}
 use Rattle.reg_tree.proofs.Invariant.OneRootTree.{tree-alone}
 use Rattle.reg_tree.proofs.Invariant.FreshShape.{IsMade, fresh-shape, fresh-rec}
 use Rattle.reg_tree.proofs.Invariant.KeyOfTree.{spelt_is}

@@ -19,7 +19,7 @@ use Rattle.reg_shape.proofs.Wholeness.FewerNumbers.{fewer}
 use Rattle.reg_shape.proofs.Walking.WalkRefinement.{look-open}
 use Rattle.reg_shape.proofs.Wholeness.AllocatedCells.{cells-most}
 use Rattle.reg_shape.proofs.Walking.InnerReadings.{class-inner, members-inner}
-use Rattle.reg_tree.specs.TreeInvariant.{rooted}
+use Rattle.reg_tree.specs.Internal.TreeInvariant.{rooted}
 use Rattle.reg_tree.proofs.Invariant.OwnCells.{own-parts, shared-parts, inner-unshared}
 use Rattle.reg_tree.proofs.InsertKey.ParentReindexed.{shared-single}
 use Rattle.reg_tree.proofs.Invariant.UntouchedCells.{single-of}

@@ -19,7 +19,7 @@ use Rattle.reg_shape.proofs.Wholeness.ShapeRecords.{shares-own}
 use Rattle.reg_shape.proofs.Graft.Branches.{branch-stands, branch-total, branch-depth}
 use Rattle.reg_shape.proofs.Lookup.LookupOfShape.{placed, key-looked}
 use Rattle.reg_shape.proofs.Refinement.RefinementAtPath.{told}
-use Rattle.reg_tree.specs.TreeInvariant.{rooted}
+use Rattle.reg_tree.specs.Internal.TreeInvariant.{rooted}
 
 -- the branch whose key stands at an offset
 branch_of : (o : Option (Branch Node)) (key : ℕ) → option_map (λ (b : Branch Node). b.offset) o ≡ Some key → (b : Branch Node) × (o ≡ Some b) × (b.offset ≡ key)

@@ -27,7 +27,7 @@ use Rattle.reg_shape.proofs.Refinement.RefinementAtPath.{told}
 use Rattle.reg_values.specs.ValueLists.{AreValues}
 use Rattle.reg_values.proofs.ValueListing.ValueListOpening.{values-length}
 use Rattle.reg_tree.specs.TreeKeys.{tree_in, IsWholeTree}
-use Rattle.reg_tree.specs.TreeInvariant.{TreeInvariant, IsHere}
+use Rattle.reg_tree.specs.Internal.TreeInvariant.{TreeInvariant, IsHere}
 use Rattle.reg_tree.specs.Internal.KeyNodeChanges.{HasList}
 use Rattle.reg_tree.proofs.Invariant.CellReadings.{is_some_of}
 use Rattle.reg_tree.proofs.Invariant.OwnCells.{own-parts}

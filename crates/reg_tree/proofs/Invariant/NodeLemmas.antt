@@ -15,7 +15,7 @@ use Rattle.reg_tree.specs.declared.fault.TreeFault.{TreeFault}
 use Rattle.reg_tree.specs.TreeKeys.{Keys, tree_in, IsAt, IsThere, IsResolved, KeepsNodes}
 use Rattle.reg_tree.specs.Internal.PathWalks.{IsWalked, IsSubkey}
 use Rattle.reg_tree.proofs.Invariant.KeyOfTree.{offset-root, get-none, get-some, shallow}
-use Rattle.reg_tree.specs.TreeInvariant.{TreeInvariant, IsHere, IsChanged}
+use Rattle.reg_tree.specs.Internal.TreeInvariant.{TreeInvariant, IsHere, IsChanged}
 
 -- a node that is there is a key's
 abbrev pub here : (k : Keys) (node : Node) (p : Path) → TreeInvariant k.bins.bytes k.root → IsAt k p node → IsHere k.bins.bytes node.offset

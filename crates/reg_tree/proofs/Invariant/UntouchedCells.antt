@@ -15,7 +15,7 @@ use Rattle.reg_shape.proofs.Wholeness.FewerNumbers.{same-number}
 use Rattle.reg_shape.proofs.Wholeness.ShapeRecords.{at-most-one, allocated-is}
 use Rattle.reg_index.proofs.RefinementOfSubkeys.{IsSingle}
 use Rattle.reg_index.specs.Subkeys.{Moves}
-use Rattle.reg_tree.specs.TreeInvariant.{is_rooted}
+use Rattle.reg_tree.specs.Internal.TreeInvariant.{is_rooted}
 use Rattle.reg_tree.proofs.Invariant.OwnCells.{own-parts, key-here}
 
 -- a number stands once in a list of itself, and in a list of another it doesn't stand

@@ -16,7 +16,7 @@ use Rattle.reg_shape.specs.Nodes.{members_at}
 use Rattle.reg_values.specs.ValueLists.{Tells}
 use Rattle.reg_values.proofs.ValueData.CellSizeTotals.{value-name}
 use Rattle.reg_tree.specs.Internal.KeyNodeChanges.{HasList}
-use Rattle.reg_tree.specs.TreeInvariant.{IsHere}
+use Rattle.reg_tree.specs.Internal.TreeInvariant.{IsHere}
 use Rattle.reg_tree.proofs.InsertKey.PathGrowth.{name_short}
 use Rattle.reg_tree.proofs.Invariant.CellReadings.{key-fields, security-read_is}
 use Rattle.reg_tree.proofs.Invariant.KeyOfTree.{branch, seen, key_is, list_reads}

@@ -14,7 +14,7 @@ use Rattle.std.proofs.lemmas.Bool.{false≢true}
 use Rattle.reg_values.proofs.ValueListing.FoundValues.{offset-within}
 use Rattle.reg_values.proofs.ValueListing.ToldValues.{named-at}
 use Rattle.reg_tree.specs.TreeKeys.{tree_in}
-use Rattle.reg_tree.specs.TreeInvariant.{IsHere}
+use Rattle.reg_tree.specs.Internal.TreeInvariant.{IsHere}
 use Rattle.std.specs.Prelude.{Result, Ok, Err, ◌↔◌}
 use Rattle.reg_heap.specs.declared.limits.TheConstants.{VALUES_LIMIT}
 use Rattle.reg_arena.specs.declared.ArenaFault.{ArenaFault}

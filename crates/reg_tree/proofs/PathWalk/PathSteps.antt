@@ -13,7 +13,7 @@ use Rattle.reg_arena.specs.Cells.{cell_at}
 use Rattle.reg_shape.specs.PathLookup.{key_offset_at, subkey_named}
 use Rattle.reg_shape.proofs.Lookup.LookupOfShape.{offset-none, offset-more, offset-append}
 use Rattle.reg_tree.specs.declared.node.Node.{Node}
-use Rattle.reg_tree.specs.TreeInvariant.{IsHere}
+use Rattle.reg_tree.specs.Internal.TreeInvariant.{IsHere}
 use Rattle.reg_tree.specs.Internal.PathWalks.{IsWalked, Stops, Passes, Reaches}
 use Rattle.reg_tree.proofs.Invariant.KeyOfTree.{shallow}
 

@@ -10,7 +10,7 @@ use Rattle.reg_shape.specs.PathLookup.{subkey_named}
 use Rattle.reg_index.specs.Subkeys.{AreSubkeys, IsIndexFor, names_in}
 use Rattle.reg_index.proofs.SubkeysOpening.{length-subkeys}
 use Rattle.reg_index.proofs.RefinementOfSubkeys.{IsSingle, length-names}
-use Rattle.reg_tree.specs.TreeInvariant.{IsHere}
+use Rattle.reg_tree.specs.Internal.TreeInvariant.{IsHere}
 use Rattle.reg_tree.specs.Internal.KeyNodeChanges.{HasSubkeysList}
 use Rattle.reg_tree.proofs.Invariant.KeyOfShape as keyed
 use Rattle.reg_tree.proofs.Invariant.KeyOfTree.{branch, stands, offset, key_is}

@@ -2,14 +2,14 @@
 use Rattle.std.specs.Prelude.{◌≡◌, ◌≢◌, ◌⊎◌, ◌<◌, ◌≤◌, ℕ, ◌+◌, Some, List, [], ◌++◌, map, length}
 use Rattle.reg_names.specs.declared.TheConstants.{PATH_LIMIT}
 use Rattle.reg_names.specs.Names.{folded}
-use Rattle.reg_heap.specs.declared.limits.TheConstants.{SUBKEYS_LIMIT, MADE_LIMIT}
+use Rattle.reg_heap.specs.declared.limits.TheConstants.{LEAF_LIMIT, MADE_LIMIT}
 use Rattle.reg_heap.specs.Paths.{Path, Tree, children_of}
 use Rattle.reg_heap.specs.Edits.{with_keys, missing, last_there}
 use Rattle.reg_arena.specs.Cells.{cell_at}
 use Rattle.reg_shape.specs.PathLookup.{key_offset_at}
 use Rattle.reg_tree.specs.declared.node.Node.{Node}
 use Rattle.reg_tree.specs.TreeKeys.{tree_in}
-use Rattle.reg_tree.specs.TreeInvariant.{TreeInvariant}
+use Rattle.reg_tree.specs.Internal.TreeInvariant.{TreeInvariant}
 
 -- the tree has the missing ones of the keys that some names lead to from a path on, a node is the last one's, and each key that
 -- was there stays where it stands
@@ -24,4 +24,4 @@ pub record IsCreated (old new : List ℕ) (root : ℕ) (path : Path) (from : Nod
 pub record AreTooMany (t : Tree) (p : Path) (names : List (List ℕ)) : Type 0 where
   pub some : missing t p names ≢ []
   pub many : (MADE_LIMIT < length (missing t p names)) ⊎ ((PATH_LIMIT < length p + length names) ⊎
-      (SUBKEYS_LIMIT ≤ length (children_of t (last_there t p names))))
+      (LEAF_LIMIT ≤ length (children_of t (last_there t p names))))

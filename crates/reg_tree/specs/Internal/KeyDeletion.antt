@@ -16,7 +16,7 @@ use Rattle.reg_shape.specs.Written.{AreWritten}
 use Rattle.reg_shape.specs.PathLookup.{key_offset_at}
 use Rattle.reg_index.specs.Subkeys.{AreSubkeys, Moves, own, without}
 use Rattle.reg_tree.specs.Internal.KeyNodeChanges.{Notes, noted_subkeys}
-use Rattle.reg_tree.specs.TreeInvariant.{TreeInvariant}
+use Rattle.reg_tree.specs.Internal.TreeInvariant.{TreeInvariant}
 use Rattle.reg_tree.specs.TreeKeys.{tree_in}
 
 -- a key is the subkey at an index of another, whose key node and subkeys are these

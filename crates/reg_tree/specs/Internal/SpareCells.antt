@@ -4,7 +4,7 @@ use Rattle.std.specs.Option.{option_and_then}
 use Rattle.std.specs.Ordering.{eq_by_cmp}
 use Rattle.reg_names.specs.declared.TheConstants.{PATH_LIMIT}
 use Rattle.reg_names.specs.Names.{folded}
-use Rattle.reg_heap.specs.declared.limits.TheConstants.{SUBKEYS_LIMIT}
+use Rattle.reg_heap.specs.declared.limits.TheConstants.{LEAF_LIMIT}
 use Rattle.reg_heap.specs.Paths.{Path, path_cmp}
 use Rattle.reg_heap.specs.Heaps.{Heap, CellFrame}
 use Rattle.reg_heap.specs.Kinds.{times}
@@ -20,7 +20,7 @@ use Rattle.reg_shape.specs.PathLookup.{key_offset_at, subkey_named}
 use Rattle.reg_records.specs.RecordCells.{HasRoom}
 use Rattle.reg_index.specs.Subkeys.{insert_size, IsReady, taken}
 use Rattle.reg_tree.specs.declared.node.Node.{Node as TreeNode}
-use Rattle.reg_tree.specs.TreeInvariant.{rooted}
+use Rattle.reg_tree.specs.Internal.TreeInvariant.{rooted}
 
 -- the size of the cell that one subkey more takes of a key; none where its list has room for it
 abbrev pub planned : Heap → ℕ → Option ℕ
@@ -41,7 +41,7 @@ pub record MayGrow (bytes : List ℕ) (key : ℕ) (spare : List ℕ) (name : Lis
   pub growing : IsGrowing bytes key spare
   pub missing : subkey_named (cell_at bytes) (folded name) key ≡ None
   pub deep : length growing.path < PATH_LIMIT
-  pub few : (k : KeyRecord) → key_at (cell_at bytes) key ≡ Some k → k.fields.subkeys < SUBKEYS_LIMIT
+  pub few : (k : KeyRecord) → key_at (cell_at bytes) key ≡ Some k → k.fields.subkeys < LEAF_LIMIT
 
 -- a key of a name was made below the one at a path, at an offset; the tree has it, each other key stays where it stands, and so
 -- do the spare cells that are left; the key made has no subkeys
@@ -89,7 +89,7 @@ pub record MayGrowAll (bytes : List ℕ) (from : TreeNode) (names : List (List �
   pub growing : IsGrowing bytes from.offset spare
   pub missing : (name : List ℕ) (others : List (List ℕ)) → names ≡ name ∷ others → subkey_named (cell_at bytes) (folded name) from.offset ≡ None
   pub deep : length growing.path + length names ≤ PATH_LIMIT
-  pub few : (k : KeyRecord) → key_at (cell_at bytes) from.offset ≡ Some k → k.fields.subkeys < SUBKEYS_LIMIT
+  pub few : (k : KeyRecord) → key_at (cell_at bytes) from.offset ≡ Some k → k.fields.subkeys < LEAF_LIMIT
   pub ready : AreReady (cell_at bytes) (planned (cell_at bytes) from.offset) names spare
 
 -- keys of these names were made one below the other, below the one at a path; each other key stays where it stands
