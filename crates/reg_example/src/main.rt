@@ -1,15 +1,18 @@
 //! The library's example, which README.md shows: a program that makes a hive, opens its root, sets a value and asks for it.
 //!
-//! Its one contract is that of `set_and_ask`: what it hands out is what the rules answer to that question, where the hive stands
-//! then. It stands on reg_calls, which has the hive, and on reg_model, which has the calls as values. It has no type of its own.
+//! Its one contract is that of `set_and_ask`: the value was set, and what it hands out is what the rules answer to that question,
+//! where the hive stands then. It stands on reg_calls, which has the hive, and on reg_model, which has the calls as values. It has no type of its own.
 //!
 //! Who makes a hive does nothing but lend it: a function is the longer to check the more it does while it owns one.
 #![tactic(auto)]
 
-ghost use Rattle.std.specs.Prelude.{IfOk, Some};
+ghost use Rattle.std.specs.Prelude.{◌≡◌, IfOk, OnOk, Some};
 ghost use Rattle.reg_calls.specs.HiveView.{view_of};
-ghost use Rattle.reg_calls.specs.Views.{state, IsRead};
+ghost use Rattle.reg_calls.specs.Views.{state, IsApplied, IsRead};
+ghost use Rattle.reg_model.specs.Causes.{change_cause};
+ghost use Rattle.reg_model.specs.declared.call.Change.TheVariants.{SetValue};
 ghost use Rattle.reg_model.specs.declared.call.Query.TheVariants.{QueryValue};
+ghost use Rattle.reg_model.specs.declared.reply.ChangeReply.{ChangeReply};
 
 use anyhow::{Result, bail};
 use reg_calls::Hive;
@@ -24,7 +27,10 @@ fn set_and_ask(
     name: &[u8],
     number: [u8; 4],
 ) -> Result<AnswerBody>
-    ensures { IfOk result (λ body. IsRead (state (view_of hive.new)) 0 (QueryValue handle name.now (Some 4)) body) }
+    ensures set { OnOk result ((reply : ChangeReply) × (reply.status ≡ 0) ×
+        IsApplied (change_cause (state (view_of hive.old)) 0 (SetValue handle name.now 4 number) 0) (view_of hive.old)
+        (view_of hive.new) 0 0 (SetValue handle name.now 4 number) reply) }
+    ensures asked { IfOk result (λ body. IsRead (state (view_of hive.new)) 0 (QueryValue handle name.now (Some 4)) body) }
 {
     let set = Change::SetValue {
         handle,
