@@ -2,14 +2,19 @@
 use Rattle.std.specs.Prelude.{◌≡◌, ℕ, ◌≤◌, ◌%◌, List, length, map, Some}
 use Rattle.std.specs.List.{AllByRecursion}
 use Rattle.reg_heap.specs.declared.limits.TheConstants.{BINS_LIMIT}
+use Rattle.reg_heap.specs.Heaps.{Heap}
 use Rattle.reg_arena.specs.declared.Cell.{Cell}
-use Rattle.reg_arena.specs.Cells.{Bin, AreBins, cells_in, cells_of}
+use Rattle.reg_arena.specs.Cells.{Bin, AreBins, cells_in, cells_of, cell_at}
 use Rattle.reg_arena.specs.Free.{AreFreeLists}
 
 -- the bytes of the bins, and the heads of the free lists
 pub record Bins : Type 0 where
   pub bytes : List ℕ
   pub heads : List ℕ
+
+-- what the allocated cells of the bins hold, by their offsets
+abbrev pub heap_of : Bins → Heap
+heap_of bins = cell_at bins.bytes
 
 -- one list has all free cells
 abbrev pub one_class : ℕ → ℕ

@@ -5,12 +5,12 @@ ghost use Rattle.reg_heap.specs.declared.limits.TheConstants.{BINS_LIMIT};
 ghost use Rattle.reg_heap.specs.Heaps.{GivesUp, Writes};
 ghost use Rattle.reg_heap.specs.ByteWords.{splice, word};
 ghost use Rattle.reg_arena.specs.declared.TheConstants.{CARVE_LIMIT};
-ghost use Rattle.reg_arena.specs.Arena.{IsSound};
+ghost use Rattle.reg_arena.specs.Arena.{IsSound, heap_of};
 ghost use Rattle.reg_arena.specs.NewCells.{total_of, AreSizes};
 ghost use Rattle.reg_arena.specs.Carves.{AddsCells, CarvesExactly, NoFit};
 ghost use Rattle.reg_arena.specs.NewBin.{PassesLimit};
 ghost use Rattle.reg_arena.specs.Frees.{Frees};
-ghost use Rattle.reg_arena.specs.Cells.{cells_of, cell_at, size_in};
+ghost use Rattle.reg_arena.specs.Cells.{cells_of, size_in};
 
 use crate::bin::passes_limit;
 use crate::carve::{carve_bin, carve_found};
@@ -100,8 +100,8 @@ impl Arena {
     ///
     /// Suhanov, Windows registry file format specification, section "Cell".
     pub fn content(&self, cell: u32) -> &[u8]
-        requires { IsSome (cell_at self.now.bytes cell) }
-        ensures { cell_at self.now.bytes cell ≡ Some result.now }
+        requires { IsSome (heap_of self.now cell) }
+        ensures { heap_of self.now cell ≡ Some result.now }
     {
         content_part(&self.bins, cell)
     }
@@ -109,13 +109,13 @@ impl Arena {
     /// Writes `bytes` into the allocated cell at the offset `cell`, from byte `at` of what it holds on. They end within the
     /// cell. Nothing else changes.
     pub fn write(&mut self, cell: u32, at: u32, bytes: &[u8])
-        requires exists { IsSome (cell_at self.old.bytes cell) }
-        requires fits { at + length bytes.now ≤ length (unwrap_or (cell_at self.old.bytes cell) []) }
+        requires exists { IsSome (heap_of self.old cell) }
+        requires fits { at + length bytes.now ≤ length (unwrap_or (heap_of self.old cell) []) }
         ensures written { (offset : ℕ) →
-            cell_at self.new.bytes offset ≡
-            (if offset == cell then Some (splice at bytes.now (unwrap_or (cell_at self.old.bytes cell) []))
-            else cell_at self.old.bytes offset) }
-        ensures writes { Writes (cell_at self.old.bytes) (cell_at self.new.bytes) (cell ∷ []) }
+            heap_of self.new offset ≡
+            (if offset == cell then Some (splice at bytes.now (unwrap_or (heap_of self.old cell) []))
+            else heap_of self.old offset) }
+        ensures writes { Writes (heap_of self.old) (heap_of self.new) (cell ∷ []) }
         ensures cells { cells_of self.new.bytes ≡ cells_of self.old.bytes }
         ensures heads { self.new.heads ≡ self.old.heads }
         ensures bytes { self.new.bytes ≡ splice (cell + 4 + at) bytes.now self.old.bytes }
@@ -127,14 +127,14 @@ impl Arena {
     /// Copies the `len` bytes from `from` on of what the allocated cell at the offset `cell` holds to its bytes from `at`
     /// on; the two ranges may overlap. Nothing else changes, and it takes no memory.
     pub fn shift(&mut self, cell: u32, from: u32, at: u32, len: u32)
-        requires exists { IsSome (cell_at self.old.bytes cell) }
-        requires source { from + len ≤ length (unwrap_or (cell_at self.old.bytes cell) []) }
-        requires fits { at + len ≤ length (unwrap_or (cell_at self.old.bytes cell) []) }
+        requires exists { IsSome (heap_of self.old cell) }
+        requires source { from + len ≤ length (unwrap_or (heap_of self.old cell) []) }
+        requires fits { at + len ≤ length (unwrap_or (heap_of self.old cell) []) }
         ensures written { (offset : ℕ) →
-            cell_at self.new.bytes offset ≡
-            (if offset == cell then Some (splice at (take len (drop from (unwrap_or (cell_at self.old.bytes cell) [])))
-            (unwrap_or (cell_at self.old.bytes cell) [])) else cell_at self.old.bytes offset) }
-        ensures writes { Writes (cell_at self.old.bytes) (cell_at self.new.bytes) (cell ∷ []) }
+            heap_of self.new offset ≡
+            (if offset == cell then Some (splice at (take len (drop from (unwrap_or (heap_of self.old cell) [])))
+            (unwrap_or (heap_of self.old cell) [])) else heap_of self.old offset) }
+        ensures writes { Writes (heap_of self.old) (heap_of self.new) (cell ∷ []) }
         ensures cells { cells_of self.new.bytes ≡ cells_of self.old.bytes }
         ensures heads { self.new.heads ≡ self.old.heads }
     {
@@ -144,15 +144,15 @@ impl Arena {
     /// Copies the `len` bytes from `from` on of what the allocated cell at the offset `source` holds to the bytes from `at`
     /// on of the one at the offset `cell`. Nothing else changes, and it takes no memory.
     pub fn copy(&mut self, source: u32, from: u32, cell: u32, at: u32, len: u32)
-        requires source { IsSome (cell_at self.old.bytes source) }
-        requires exists { IsSome (cell_at self.old.bytes cell) }
-        requires within { from + len ≤ length (unwrap_or (cell_at self.old.bytes source) []) }
-        requires fits { at + len ≤ length (unwrap_or (cell_at self.old.bytes cell) []) }
+        requires source { IsSome (heap_of self.old source) }
+        requires exists { IsSome (heap_of self.old cell) }
+        requires within { from + len ≤ length (unwrap_or (heap_of self.old source) []) }
+        requires fits { at + len ≤ length (unwrap_or (heap_of self.old cell) []) }
         ensures written { (offset : ℕ) →
-            cell_at self.new.bytes offset ≡
-            (if offset == cell then Some (splice at (take len (drop from (unwrap_or (cell_at self.old.bytes source) [])))
-            (unwrap_or (cell_at self.old.bytes cell) [])) else cell_at self.old.bytes offset) }
-        ensures writes { Writes (cell_at self.old.bytes) (cell_at self.new.bytes) (cell ∷ []) }
+            heap_of self.new offset ≡
+            (if offset == cell then Some (splice at (take len (drop from (unwrap_or (heap_of self.old source) [])))
+            (unwrap_or (heap_of self.old cell) [])) else heap_of self.old offset) }
+        ensures writes { Writes (heap_of self.old) (heap_of self.new) (cell ∷ []) }
         ensures cells { cells_of self.new.bytes ≡ cells_of self.old.bytes }
         ensures heads { self.new.heads ≡ self.old.heads }
     {
@@ -167,10 +167,10 @@ impl Arena {
     /// Suhanov, Windows registry file format specification, section "Cell".
     #[tactic(auto, using(reg_heap::proofs::CellFrame::gives_up_one))]
     pub fn free(&mut self, cell: u32)
-        requires { IsSome (cell_at self.old.bytes cell) }
+        requires { IsSome (heap_of self.old cell) }
         ensures frees { Frees self.old.bytes self.new.bytes cell }
-        ensures contents { (offset : ℕ) → cell_at self.new.bytes offset ≡ (if offset == cell then None else cell_at self.old.bytes offset) }
-        ensures gone { GivesUp (cell_at self.old.bytes) (cell_at self.new.bytes) (cell ∷ []) }
+        ensures contents { (offset : ℕ) → heap_of self.new offset ≡ (if offset == cell then None else heap_of self.old offset) }
+        ensures gone { GivesUp (heap_of self.old) (heap_of self.new) (cell ∷ []) }
     {
         free_cell(
             &mut self.bins,

@@ -3,7 +3,7 @@
 ghost use Rattle.std.specs.Prelude.{◌≡◌, ◌+◌, ◌<◌, ◌≤◌, ◌++◌, ◌∷◌, [], List, Some, IsSome, Err, length};
 ghost use Rattle.reg_names.specs.Names.{folded, hash};
 ghost use Rattle.reg_heap.specs.declared.limits.TheConstants.{LEAF_LIMIT};
-ghost use Rattle.reg_arena.specs.Cells.{cell_at};
+ghost use Rattle.reg_arena.specs.Arena.{heap_of};
 ghost use Rattle.reg_records.specs.KeyNodes.{key_at};
 ghost use Rattle.reg_records.specs.SubkeyLists.{Entry};
 ghost use Rattle.reg_index.specs.Subkeys.{AreSubkeys, IsIndexFor, IsReady, Moves, entry_for, insert_size, name_at, names_in, own, taken, with_one};
@@ -19,12 +19,12 @@ use reg_records::ListEntry;
 
 /// Makes a gap for one subkey at an index, in the list's cell or in one carved for it, and answers which.
 fn open(arena: &mut Arena, list: SubkeysIndex, fresh: u32, index: u32) -> u32
-    requires subkeys { (entries : List Entry) × AreSubkeys (cell_at arena.old.bytes) list.count list.offset entries × (index ≤ length entries) }
-    requires ready { IsReady (cell_at arena.old.bytes) (insert_size (cell_at arena.old.bytes) list.count list.offset) fresh }
-    ensures gap { (entries : List Entry) → AreSubkeys (cell_at arena.old.bytes) list.count list.offset entries →
-        HasGap (cell_at arena.new.bytes) result index entries }
-    ensures moves { Moves (cell_at arena.old.bytes) (cell_at arena.new.bytes)
-        (own list.count list.offset ++ taken (insert_size (cell_at arena.old.bytes) list.count list.offset) fresh) (result ∷ []) }
+    requires subkeys { (entries : List Entry) × AreSubkeys (heap_of arena.old) list.count list.offset entries × (index ≤ length entries) }
+    requires ready { IsReady (heap_of arena.old) (insert_size (heap_of arena.old) list.count list.offset) fresh }
+    ensures gap { (entries : List Entry) → AreSubkeys (heap_of arena.old) list.count list.offset entries →
+        HasGap (heap_of arena.new) result index entries }
+    ensures moves { Moves (heap_of arena.old) (heap_of arena.new)
+        (own list.count list.offset ++ taken (insert_size (heap_of arena.old) list.count list.offset) fresh) (result ∷ []) }
 {
     if list.count == 0 {
         return fresh;
@@ -50,17 +50,17 @@ pub fn insert(
     index: u32,
     key: u32,
 ) -> SubkeysIndex
-    requires subkeys { (entries : List Entry) × AreSubkeys (cell_at arena.old.bytes) list.count list.offset entries
-        × IsIndexFor (names_in (cell_at arena.old.bytes) entries) (folded (name_at (cell_at arena.old.bytes) key)) (Err index) }
+    requires subkeys { (entries : List Entry) × AreSubkeys (heap_of arena.old) list.count list.offset entries
+        × IsIndexFor (names_in (heap_of arena.old) entries) (folded (name_at (heap_of arena.old) key)) (Err index) }
     requires few { list.count < LEAF_LIMIT }
-    requires key { IsSome (key_at (cell_at arena.old.bytes) key) }
-    requires ready { IsReady (cell_at arena.old.bytes) (insert_size (cell_at arena.old.bytes) list.count list.offset) fresh }
-    ensures subkeys { (entries : List Entry) → AreSubkeys (cell_at arena.old.bytes) list.count list.offset entries →
-        AreSubkeys (cell_at arena.new.bytes) result.count result.offset
-        (with_one index (entry_for (cell_at arena.old.bytes) key) entries) }
+    requires key { IsSome (key_at (heap_of arena.old) key) }
+    requires ready { IsReady (heap_of arena.old) (insert_size (heap_of arena.old) list.count list.offset) fresh }
+    ensures subkeys { (entries : List Entry) → AreSubkeys (heap_of arena.old) list.count list.offset entries →
+        AreSubkeys (heap_of arena.new) result.count result.offset
+        (with_one index (entry_for (heap_of arena.old) key) entries) }
     ensures count { result.count ≡ list.count + 1 }
-    ensures moves { Moves (cell_at arena.old.bytes) (cell_at arena.new.bytes)
-        (own list.count list.offset ++ taken (insert_size (cell_at arena.old.bytes) list.count list.offset) fresh)
+    ensures moves { Moves (heap_of arena.old) (heap_of arena.new)
+        (own list.count list.offset ++ taken (insert_size (heap_of arena.old) list.count list.offset) fresh)
         (own result.count result.offset) }
 {
     let hint = name_hash(name_of(arena, key));

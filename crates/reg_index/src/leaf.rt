@@ -4,7 +4,7 @@ ghost use Rattle.std.specs.Prelude.{◌≡◌, ◌≢◌, ◌+◌, ◌*◌, ◌�
 ghost use Rattle.reg_heap.specs.declared.limits.TheConstants.{LEAF_LIMIT};
 ghost use Rattle.reg_heap.specs.Heaps.{Writes, CellFrame};
 ghost use Rattle.reg_heap.specs.Kinds.{times};
-ghost use Rattle.reg_arena.specs.Cells.{cell_at};
+ghost use Rattle.reg_arena.specs.Arena.{heap_of};
 ghost use Rattle.reg_records.specs.declared.lists.ListForm.TheVariants.{HashLeaf};
 ghost use Rattle.reg_records.specs.RecordCells.{HasRoom, WritesPart, held};
 ghost use Rattle.reg_records.specs.SubkeyLists.{Entry, head_bytes};
@@ -16,7 +16,7 @@ use reg_records::{ListEntry, ListForm, ListHead, put_entry, put_head};
 
 /// Writes the head of a hash leaf of so many entries.
 fn put_leaf_head(arena: &mut Arena, cell: u32, count: u32)
-    requires room { HasRoom (cell_at arena.old.bytes) cell 4 }
+    requires room { HasRoom (heap_of arena.old) cell 4 }
     requires few { count ≤ LEAF_LIMIT }
     ensures { WritesPart arena.old arena.new cell 0 (head_bytes HashLeaf count) }
 {
@@ -32,13 +32,13 @@ fn put_leaf_head(arena: &mut Arena, cell: u32, count: u32)
 
 /// Makes a gap of one entry at an index of the leaf of so many entries.
 pub(crate) fn open_within(arena: &mut Arena, cell: u32, count: u32, index: u32)
-    requires leaf { (entries : List Entry) × IsLeaf (cell_at arena.old.bytes) cell entries × (length entries ≡ count) }
+    requires leaf { (entries : List Entry) × IsLeaf (heap_of arena.old) cell entries × (length entries ≡ count) }
     requires few { count ≤ LEAF_LIMIT }
     requires index { index ≤ count }
-    requires room { 4 + 8 * (count + 1) ≤ length (held (cell_at arena.old.bytes) cell) }
-    ensures gap { (entries : List Entry) → IsLeaf (cell_at arena.old.bytes) cell entries → length entries ≡ count →
-        HasGap (cell_at arena.new.bytes) cell index entries }
-    ensures writes { Writes (cell_at arena.old.bytes) (cell_at arena.new.bytes) (cell ∷ []) }
+    requires room { 4 + 8 * (count + 1) ≤ length (held (heap_of arena.old) cell) }
+    ensures gap { (entries : List Entry) → IsLeaf (heap_of arena.old) cell entries → length entries ≡ count →
+        HasGap (heap_of arena.new) cell index entries }
+    ensures writes { Writes (heap_of arena.old) (heap_of arena.new) (cell ∷ []) }
 {
     arena.shift(cell, 4 + 8 * index, 12 + 8 * index, 8 * (count - index));
 }
@@ -46,14 +46,14 @@ pub(crate) fn open_within(arena: &mut Arena, cell: u32, count: u32, index: u32)
 /// Moves the entries of the leaf of so many entries to another cell, with a gap of one entry at an index, and frees the
 /// leaf's cell.
 pub(crate) fn move_open(arena: &mut Arena, cell: u32, fresh: u32, count: u32, index: u32)
-    requires leaf { (entries : List Entry) × IsLeaf (cell_at arena.old.bytes) cell entries × (length entries ≡ count) }
+    requires leaf { (entries : List Entry) × IsLeaf (heap_of arena.old) cell entries × (length entries ≡ count) }
     requires few { count ≤ LEAF_LIMIT }
     requires index { index ≤ count }
-    requires room { HasRoom (cell_at arena.old.bytes) fresh (4 + 8 * (count + 1)) }
+    requires room { HasRoom (heap_of arena.old) fresh (4 + 8 * (count + 1)) }
     requires apart { fresh ≢ cell }
-    ensures gap { (entries : List Entry) → IsLeaf (cell_at arena.old.bytes) cell entries → length entries ≡ count →
-        HasGap (cell_at arena.new.bytes) fresh index entries }
-    ensures moves { CellFrame (cell_at arena.old.bytes) (cell_at arena.new.bytes) (λ z. times z (cell ∷ fresh ∷ [])) (λ z. times z (fresh ∷ [])) }
+    ensures gap { (entries : List Entry) → IsLeaf (heap_of arena.old) cell entries → length entries ≡ count →
+        HasGap (heap_of arena.new) fresh index entries }
+    ensures moves { CellFrame (heap_of arena.old) (heap_of arena.new) (λ z. times z (cell ∷ fresh ∷ [])) (λ z. times z (fresh ∷ [])) }
 {
     arena.copy(cell, 4, fresh, 4, 8 * index);
     arena.copy(
@@ -68,11 +68,11 @@ pub(crate) fn move_open(arena: &mut Arena, cell: u32, fresh: u32, count: u32, in
 
 /// Puts an entry into the gap at an index, and the head of a leaf of so many entries.
 pub(crate) fn fill(arena: &mut Arena, cell: u32, index: u32, count: u32, entry: ListEntry)
-    requires gap { (entries : List Entry) × HasGap (cell_at arena.old.bytes) cell index entries × (length entries + 1 ≡ count) × (index ≤ length entries) }
+    requires gap { (entries : List Entry) × HasGap (heap_of arena.old) cell index entries × (length entries + 1 ≡ count) × (index ≤ length entries) }
     requires few { count ≤ LEAF_LIMIT }
-    ensures leaf { (entries : List Entry) → HasGap (cell_at arena.old.bytes) cell index entries → length entries + 1 ≡ count →
-        index ≤ length entries → IsLeaf (cell_at arena.new.bytes) cell (with_one index entry entries) }
-    ensures writes { Writes (cell_at arena.old.bytes) (cell_at arena.new.bytes) (cell ∷ []) }
+    ensures leaf { (entries : List Entry) → HasGap (heap_of arena.old) cell index entries → length entries + 1 ≡ count →
+        index ≤ length entries → IsLeaf (heap_of arena.new) cell (with_one index entry entries) }
+    ensures writes { Writes (heap_of arena.old) (heap_of arena.new) (cell ∷ []) }
 {
     put_entry(arena, cell, ListForm::HashLeaf, index as u16, entry);
     put_leaf_head(arena, cell, count);
@@ -80,12 +80,12 @@ pub(crate) fn fill(arena: &mut Arena, cell: u32, index: u32, count: u32, entry: 
 
 /// Takes the entry at an index out of a leaf, of which so many are left; the later ones close up.
 pub(crate) fn close(arena: &mut Arena, cell: u32, left: u32, index: u32)
-    requires leaf { (entries : List Entry) × IsLeaf (cell_at arena.old.bytes) cell entries × (length entries ≡ left + 1) }
+    requires leaf { (entries : List Entry) × IsLeaf (heap_of arena.old) cell entries × (length entries ≡ left + 1) }
     requires few { left ≤ LEAF_LIMIT }
     requires index { index ≤ left }
-    ensures leaf { (entries : List Entry) → IsLeaf (cell_at arena.old.bytes) cell entries → length entries ≡ left + 1 →
-        IsLeaf (cell_at arena.new.bytes) cell (without index entries) }
-    ensures writes { Writes (cell_at arena.old.bytes) (cell_at arena.new.bytes) (cell ∷ []) }
+    ensures leaf { (entries : List Entry) → IsLeaf (heap_of arena.old) cell entries → length entries ≡ left + 1 →
+        IsLeaf (heap_of arena.new) cell (without index entries) }
+    ensures writes { Writes (heap_of arena.old) (heap_of arena.new) (cell ∷ []) }
 {
     arena.shift(cell, 12 + 8 * index, 4 + 8 * index, 8 * (left - index));
     put_leaf_head(arena, cell, left);

@@ -1,7 +1,7 @@
 //! The size of the cell that a subkey more takes.
 
 ghost use Rattle.std.specs.Prelude.{◌≡◌, List};
-ghost use Rattle.reg_arena.specs.Cells.{cell_at};
+ghost use Rattle.reg_arena.specs.Arena.{heap_of};
 ghost use Rattle.reg_records.specs.SubkeyLists.{Entry};
 ghost use Rattle.reg_index.specs.Subkeys.{AreSubkeys, insert_size};
 
@@ -14,8 +14,8 @@ pub const FIRST_LIST_SIZE: u32 = 16;
 /// The size of the cell that one subkey more takes, its size field counted; `None` where the list's cell has room for
 /// it.
 pub fn plan_insert(arena: &Arena, list: SubkeysIndex) -> Option<u32>
-    requires { (entries : List Entry) × AreSubkeys (cell_at arena.now.bytes) list.count list.offset entries }
-    ensures { result ≡ insert_size (cell_at arena.now.bytes) list.count list.offset }
+    requires { (entries : List Entry) × AreSubkeys (heap_of arena.now) list.count list.offset entries }
+    ensures { result ≡ insert_size (heap_of arena.now) list.count list.offset }
 {
     if list.count == 0 {
         return Some(FIRST_LIST_SIZE);

@@ -1,7 +1,7 @@
 //! A subkey removed.
 
 ghost use Rattle.std.specs.Prelude.{◌≡◌, ◌+◌, ◌<◌, ◌∷◌, [], List};
-ghost use Rattle.reg_arena.specs.Cells.{cell_at};
+ghost use Rattle.reg_arena.specs.Arena.{heap_of};
 ghost use Rattle.reg_records.specs.SubkeyLists.{Entry};
 ghost use Rattle.reg_index.specs.Subkeys.{AreSubkeys, Moves, own, without};
 
@@ -13,12 +13,12 @@ use reg_heap::limits::NONE;
 /// Takes the key at an index out of the subkeys; the later ones close up in the list's cell. A list left empty is freed.
 /// Answers where the list is now.
 pub fn remove(arena: &mut Arena, list: SubkeysIndex, index: u32) -> SubkeysIndex
-    requires subkeys { (entries : List Entry) × AreSubkeys (cell_at arena.old.bytes) list.count list.offset entries }
+    requires subkeys { (entries : List Entry) × AreSubkeys (heap_of arena.old) list.count list.offset entries }
     requires index { index < list.count }
-    ensures subkeys { (entries : List Entry) → AreSubkeys (cell_at arena.old.bytes) list.count list.offset entries →
-        AreSubkeys (cell_at arena.new.bytes) result.count result.offset (without index entries) }
+    ensures subkeys { (entries : List Entry) → AreSubkeys (heap_of arena.old) list.count list.offset entries →
+        AreSubkeys (heap_of arena.new) result.count result.offset (without index entries) }
     ensures count { result.count + 1 ≡ list.count }
-    ensures moves { Moves (cell_at arena.old.bytes) (cell_at arena.new.bytes) (list.offset ∷ []) (own result.count result.offset) }
+    ensures moves { Moves (heap_of arena.old) (heap_of arena.new) (list.offset ∷ []) (own result.count result.offset) }
 {
     let count = list.count - 1;
     if count == 0 {

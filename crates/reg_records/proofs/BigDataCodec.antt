@@ -5,8 +5,7 @@ use Rattle.std.specs.Prelude.{unwrap_or}
 use Rattle.std.specs.Result.{result_ok}
 use Rattle.byteorder.specs.Numbers.{little_number-reads_back}
 use Rattle.reg_heap.specs.ByteWords.{half, word}
-use Rattle.reg_arena.specs.Arena.{Bins}
-use Rattle.reg_arena.specs.Cells.{cell_at}
+use Rattle.reg_arena.specs.Arena.{Bins, heap_of}
 use Rattle.reg_records.specs.RecordCells.{WritesCell, held}
 use Rattle.reg_records.specs.BigData.{db_in, db_of, db_bytes}
 
@@ -21,6 +20,6 @@ db-reads_back count list rest fits fits_list =
 
 -- a cell that a big data record was written into reads as it
 pub db-written : (old new : Bins) (cell count list : ℕ) (rest : List ℕ) → WritesCell old new cell (db_bytes count list ++ rest) → count < 2 ^ 16 →
-    list < 2 ^ 32 → db_of (held (cell_at new.bytes) cell) ≡ Some (record { count = count; list = list })
+    list < 2 ^ 32 → db_of (held (heap_of new) cell) ≡ Some (record { count = count; list = list })
 db-written old new cell count list rest written fits fits_list =
     ap (λ (o : Option (List ℕ)). db_of (unwrap_or o [])) written.here ∙ db-reads_back count list rest fits fits_list

@@ -6,8 +6,7 @@ use Rattle.std.specs.Prelude.{Ok, Some, IsSome}
 use Rattle.byteorder.specs.Numbers.{little_number-reads_back}
 use Rattle.reg_heap.specs.ByteWords.{half, word, long, splice}
 use Rattle.reg_records.specs.declared.nk.KeyFields.{KeyFields}
-use Rattle.reg_arena.specs.Arena.{Bins}
-use Rattle.reg_arena.specs.Cells.{cell_at}
+use Rattle.reg_arena.specs.Arena.{Bins, heap_of}
 use Rattle.reg_records.specs.Letters.{is_signed}
 use Rattle.reg_records.specs.RecordCells.{Heap, HasRoom, WritesCell, held}
 use Rattle.reg_records.proofs.RecordWriting.{read_at-same, read_at-open, read_at-made, read_at-room, read_at-changed, no_fault, same_ok}
@@ -67,10 +66,10 @@ nk-reads_back fields name rest fit size profile =
 -- a cell that a key node was written into reads as it
 pub key_at-written : (old new : Bins) (cell : ℕ) (fields : KeyFields) (name rest : List ℕ)
     → WritesCell old new cell (nk_bytes fields name ++ rest) → FitKey fields → length name < 2 ^ 16 → is_in_profile fields.flags ≡ true
-    → key_at (cell_at new.bytes) cell ≡ Some (record { fields = fields; name = name })
+    → key_at (heap_of new) cell ≡ Some (record { fields = fields; name = name })
 unfolding key_at
 key_at-written old new cell fields name rest written fit size profile =
-    read_at-made nk_of (cell_at new.bytes) cell _ _ written.here (nk-reads_back fields name rest fit size profile)
+    read_at-made nk_of (heap_of new) cell _ _ written.here (nk-reads_back fields name rest fit size profile)
 
 -- what a content that is a key node is like
 pub record IsKey (content : List ℕ) (r : KeyRecord) : Type 0 where
@@ -127,8 +126,8 @@ key-room heap cell size small some = read_at-room nk_of 76 (λ content r is. (nk
 
 -- what a part written over does to a key node
 pub key-changed : (at : ℕ) (piece : List ℕ) (change : KeyRecord → KeyRecord) → ((content : List ℕ) (r : KeyRecord) → nk_of content ≡ Ok r → nk_of (splice at piece content) ≡ Ok (change r))
-    → (old new : Bins) (cell : ℕ) → WritesCell old new cell (splice at piece (held (cell_at old.bytes) cell))
-    → (r : KeyRecord) → key_at (cell_at old.bytes) cell ≡ Some r → key_at (cell_at new.bytes) cell ≡ Some (change r)
+    → (old new : Bins) (cell : ℕ) → WritesCell old new cell (splice at piece (held (heap_of old) cell))
+    → (r : KeyRecord) → key_at (heap_of old) cell ≡ Some r → key_at (heap_of new) cell ≡ Some (change r)
 unfolding key_at
 key-changed at piece change changes old new cell written r e = read_at-changed nk_of at piece change changes old new cell written r e
 

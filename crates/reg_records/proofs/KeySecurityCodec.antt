@@ -7,8 +7,7 @@ use Rattle.byteorder.specs.Numbers.{little_number-reads_back}
 use Rattle.byteorder.specs.Endian.{little_bytes, little_number}
 use Rattle.reg_heap.specs.ByteWords.{word, splice}
 use Rattle.reg_records.specs.declared.sk.SecurityFields.{SecurityFields}
-use Rattle.reg_arena.specs.Arena.{Bins}
-use Rattle.reg_arena.specs.Cells.{cell_at}
+use Rattle.reg_arena.specs.Arena.{Bins, heap_of}
 use Rattle.reg_records.specs.Letters.{is_signed}
 use Rattle.reg_records.specs.RecordCells.{Heap, HasRoom, WritesCell, held}
 use Rattle.reg_records.proofs.RecordWriting.{read_at-same, read_at-open, read_at-made, read_at-room, read_at-changed, no_fault, same_ok}
@@ -38,10 +37,10 @@ sk-reads_back fields descriptor rest fit size =
 -- a cell that a key security was written into reads as it
 pub security_at-written : (old new : Bins) (cell : ℕ) (fields : SecurityFields) (descriptor rest : List ℕ)
     → WritesCell old new cell (sk_bytes fields descriptor ++ rest) → FitSecurity fields → length descriptor < 2 ^ 32
-    → security_at (cell_at new.bytes) cell ≡ Some (record { fields = fields; descriptor = descriptor })
+    → security_at (heap_of new) cell ≡ Some (record { fields = fields; descriptor = descriptor })
 unfolding security_at
 security_at-written old new cell fields descriptor rest written fit size =
-    read_at-made sk_of (cell_at new.bytes) cell _ _ written.here (sk-reads_back fields descriptor rest fit size)
+    read_at-made sk_of (heap_of new) cell _ _ written.here (sk-reads_back fields descriptor rest fit size)
 
 -- a key security stands in one cell
 pub security_at-same : (old new : Heap) (cell : ℕ) → new cell ≡ old cell → security_at new cell ≡ security_at old cell
@@ -106,7 +105,7 @@ security-room heap cell size small some = read_at-room sk_of 20 (λ content r is
 -- what a part written over does to a key security
 pub security-changed : (at : ℕ) (piece : List ℕ) (change : KeySecurityRecord → KeySecurityRecord) → ((content : List ℕ) (r : KeySecurityRecord) →
     sk_of content ≡ Ok r → sk_of (splice at piece content) ≡ Ok (change r))
-    → (old new : Bins) (cell : ℕ) → WritesCell old new cell (splice at piece (held (cell_at old.bytes) cell))
-    → (r : KeySecurityRecord) → security_at (cell_at old.bytes) cell ≡ Some r → security_at (cell_at new.bytes) cell ≡ Some (change r)
+    → (old new : Bins) (cell : ℕ) → WritesCell old new cell (splice at piece (held (heap_of old) cell))
+    → (r : KeySecurityRecord) → security_at (heap_of old) cell ≡ Some r → security_at (heap_of new) cell ≡ Some (change r)
 unfolding security_at
 security-changed at piece change changes old new cell written r e = read_at-changed sk_of at piece change changes old new cell written r e

@@ -7,8 +7,7 @@ use Rattle.byteorder.specs.Endian.{little_bytes, little_number}
 use Rattle.byteorder.specs.Numbers.{little_number-reads_back}
 use Rattle.reg_heap.specs.ByteWords.{half, word, splice}
 use Rattle.reg_records.specs.declared.vk.ValueFields.{ValueFields}
-use Rattle.reg_arena.specs.Arena.{Bins}
-use Rattle.reg_arena.specs.Cells.{cell_at}
+use Rattle.reg_arena.specs.Arena.{Bins, heap_of}
 use Rattle.reg_records.specs.Letters.{is_signed}
 use Rattle.reg_records.specs.RecordCells.{Heap, HasRoom, WritesCell, held}
 use Rattle.reg_records.proofs.RecordWriting.{read_at-same, read_at-open, read_at-made, read_at-room, read_at-changed, no_fault, same_ok}
@@ -39,10 +38,10 @@ vk-reads_back fields name rest fit size =
 -- a cell that a key value was written into reads as it
 pub value_record_at-written : (old new : Bins) (cell : ℕ) (fields : ValueFields) (name rest : List ℕ)
     → WritesCell old new cell (vk_bytes fields name ++ rest) → FitValue fields → length name < 2 ^ 16
-    → value_record_at (cell_at new.bytes) cell ≡ Some (record { fields = fields; name = name })
+    → value_record_at (heap_of new) cell ≡ Some (record { fields = fields; name = name })
 unfolding value_record_at
 value_record_at-written old new cell fields name rest written fit size =
-    read_at-made vk_of (cell_at new.bytes) cell _ _ written.here (vk-reads_back fields name rest fit size)
+    read_at-made vk_of (heap_of new) cell _ _ written.here (vk-reads_back fields name rest fit size)
 
 -- what a content that is a key value is like
 pub record IsValue (content : List ℕ) (r : KeyValueRecord) : Type 0 where
@@ -112,8 +111,8 @@ value-room heap cell size small some = read_at-room vk_of 20 (λ content r is. (
 -- what a part written over does to a key value
 pub value-changed : (at : ℕ) (piece : List ℕ) (change : KeyValueRecord → KeyValueRecord) → ((content : List ℕ) (r : KeyValueRecord) →
     vk_of content ≡ Ok r → vk_of (splice at piece content) ≡ Ok (change r))
-    → (old new : Bins) (cell : ℕ) → WritesCell old new cell (splice at piece (held (cell_at old.bytes) cell))
-    → (r : KeyValueRecord) → value_record_at (cell_at old.bytes) cell ≡ Some r → value_record_at (cell_at new.bytes) cell ≡ Some (change r)
+    → (old new : Bins) (cell : ℕ) → WritesCell old new cell (splice at piece (held (heap_of old) cell))
+    → (r : KeyValueRecord) → value_record_at (heap_of old) cell ≡ Some r → value_record_at (heap_of new) cell ≡ Some (change r)
 unfolding value_record_at
 value-changed at piece change changes old new cell written r e = read_at-changed vk_of at piece change changes old new cell written r e
 

@@ -4,8 +4,7 @@ use Rattle.std.proofs.lemmas.Bool.{cases_order}
 use Rattle.byteorder.specs.Endian.{little_bytes, little_number}
 use Rattle.byteorder.specs.Numbers.{little_number-reads_back}
 use Rattle.reg_heap.specs.ByteWords.{word, splice}
-use Rattle.reg_arena.specs.Arena.{Bins}
-use Rattle.reg_arena.specs.Cells.{cell_at}
+use Rattle.reg_arena.specs.Arena.{Bins, heap_of}
 use Rattle.reg_records.specs.RecordCells.{WritesCell, HasRoom, held}
 use Rattle.reg_records.specs.OffsetRows.{offset_in}
 use Rattle.reg_records.proofs.SplicedNumbers.{number-below, number-above, drop-within}
@@ -26,13 +25,13 @@ module _ (row : List ℕ) (index offset : ℕ) (fits : 4 * index + 4 ≤ length 
       by (inr (inl l)) = number-below (4 * index) (little_bytes 4 offset) row fits 4 (4 * other) (omega arith)
       by (inr (inr l)) = number-above (4 * index) (little_bytes 4 offset) row fits 4 (4 * other) (omega arith)
 
-module _ (old new : Bins) (cell index offset : ℕ) (room : HasRoom (cell_at old.bytes) cell (4 * index + 4))
-    (written : WritesCell old new cell (splice (4 * index) (little_bytes 4 offset) (held (cell_at old.bytes) cell))) where
-  now : held (cell_at new.bytes) cell ≡ splice (4 * index) (little_bytes 4 offset) (held (cell_at old.bytes) cell)
+module _ (old new : Bins) (cell index offset : ℕ) (room : HasRoom (heap_of old) cell (4 * index + 4))
+    (written : WritesCell old new cell (splice (4 * index) (little_bytes 4 offset) (held (heap_of old) cell))) where
+  now : held (heap_of new) cell ≡ splice (4 * index) (little_bytes 4 offset) (held (heap_of old) cell)
   now = ap (λ (o : Option (List ℕ)). unwrap_or o []) written.here
 
-  pub put-here : offset < 2 ^ 32 → offset_in (held (cell_at new.bytes) cell) index ≡ offset
-  put-here small = ap (λ row. offset_in row index) now ∙ offset-written (held (cell_at old.bytes) cell) index offset room.enough small
+  pub put-here : offset < 2 ^ 32 → offset_in (held (heap_of new) cell) index ≡ offset
+  put-here small = ap (λ row. offset_in row index) now ∙ offset-written (held (heap_of old) cell) index offset room.enough small
 
-  pub put-others : (other : ℕ) → other ≢ index → offset_in (held (cell_at new.bytes) cell) other ≡ offset_in (held (cell_at old.bytes) cell) other
-  put-others other apart = ap (λ row. offset_in row other) now ∙ offset-beside (held (cell_at old.bytes) cell) index offset room.enough other apart
+  pub put-others : (other : ℕ) → other ≢ index → offset_in (held (heap_of new) cell) other ≡ offset_in (held (heap_of old) cell) other
+  put-others other apart = ap (λ row. offset_in row other) now ∙ offset-beside (held (heap_of old) cell) index offset room.enough other apart

@@ -11,20 +11,20 @@ use Rattle.std.specs.Result.{result_ok}
 use Rattle.reg_heap.specs.ByteWords.{splice}
 use Rattle.reg_heap.specs.Heaps.{Writes}
 use Rattle.reg_heap.proofs.CellFrame.{writes_twice}
-use Rattle.reg_arena.specs.Arena.{Bins}
-use Rattle.reg_arena.specs.Cells.{cells_of, cell_at}
+use Rattle.reg_arena.specs.Arena.{Bins, heap_of}
+use Rattle.reg_arena.specs.Cells.{cells_of}
 use Rattle.reg_records.proofs.SplicedNumbers.{length-splice}
 use Rattle.reg_records.specs.RecordCells.{Heap, held, read_at, HasRoom, WritesCell}
 
 -- what a write of the arena does to a cell
-pub wrote : (old new : Bins) (cell at : ℕ) (piece : List ℕ) → HasRoom (cell_at old.bytes) cell (at + length piece)
-    → ((offset : ℕ) → cell_at new.bytes offset ≡ cond (eqb offset cell) (Some (splice at piece (held (cell_at old.bytes) cell))) (cell_at old.bytes offset))
+pub wrote : (old new : Bins) (cell at : ℕ) (piece : List ℕ) → HasRoom (heap_of old) cell (at + length piece)
+    → ((offset : ℕ) → heap_of new offset ≡ cond (eqb offset cell) (Some (splice at piece (held (heap_of old) cell))) (heap_of old offset))
     → cells_of new.bytes ≡ cells_of old.bytes → new.heads ≡ old.heads
-    → Writes (cell_at old.bytes) (cell_at new.bytes) (cell ∷ [])
-    → WritesCell old new cell (splice at piece (held (cell_at old.bytes) cell))
+    → Writes (heap_of old) (heap_of new) (cell ∷ [])
+    → WritesCell old new cell (splice at piece (held (heap_of old) cell))
 wrote old new cell at piece room written cells heads writes = record {
   here = written cell ∙ rw (eq-eqb cell cell refl) refl;
-  as_many = length-splice at piece (held (cell_at old.bytes) cell) room.enough;
+  as_many = length-splice at piece (held (heap_of old) cell) room.enough;
   others = λ offset n. written offset ∙ rw (ne_eqb offset cell n) refl;
   cells = cells;
   heads = heads;
@@ -46,20 +46,20 @@ splice-twice head tail content =
 
 -- a record of two parts, written by two writes
 pub wrote_record : (old between new : Bins) (cell : ℕ) (head tail : List ℕ)
-    → WritesCell old between cell (splice 0 head (held (cell_at old.bytes) cell))
-    → WritesCell between new cell (splice (length head) tail (held (cell_at between.bytes) cell))
-    → WritesCell old new cell (head ++ tail ++ drop (length head + length tail) (held (cell_at old.bytes) cell))
+    → WritesCell old between cell (splice 0 head (held (heap_of old) cell))
+    → WritesCell between new cell (splice (length head) tail (held (heap_of between) cell))
+    → WritesCell old new cell (head ++ tail ++ drop (length head + length tail) (held (heap_of old) cell))
 wrote_record old between new cell head tail first second =
-    let now : held (cell_at between.bytes) cell ≡ splice 0 head (held (cell_at old.bytes) cell) = ap (λ (o : Option (List ℕ)). unwrap_or o []) first.here in
-    let whole : splice (length head) tail (held (cell_at between.bytes) cell) ≡ head ++ tail ++ drop (length head + length tail) (held (cell_at old.bytes) cell) =
-    ap (splice (length head) tail) now ∙ splice-twice head tail (held (cell_at old.bytes) cell) in
+    let now : held (heap_of between) cell ≡ splice 0 head (held (heap_of old) cell) = ap (λ (o : Option (List ℕ)). unwrap_or o []) first.here in
+    let whole : splice (length head) tail (held (heap_of between) cell) ≡ head ++ tail ++ drop (length head + length tail) (held (heap_of old) cell) =
+    ap (splice (length head) tail) now ∙ splice-twice head tail (held (heap_of old) cell) in
     record {
       here = second.here ∙ ap Some whole;
       as_many = ap length (sym whole) ∙ second.as_many ∙ ap length now ∙ first.as_many;
       others = λ offset n. second.others offset n ∙ first.others offset n;
       cells = second.cells ∙ first.cells;
       heads = second.heads ∙ first.heads;
-      writes = writes_twice _ (cell_at between.bytes) _ (cell ∷ []) first.writes second.writes;
+      writes = writes_twice _ (heap_of between) _ (cell ∷ []) first.writes second.writes;
     }
 
 -- a cell reads as what its content reads as
@@ -101,12 +101,12 @@ read_at-room reading n long heap cell size small some =
 -- a part written over changes what the cell reads as, as it changes what contents read as
 pub read_at-changed : {R F : Type 0} (reading : List ℕ → Result R F) (at : ℕ) (piece : List ℕ) (change : R → R)
     → ((content : List ℕ) (r : R) → reading content ≡ Ok r → reading (splice at piece content) ≡ Ok (change r))
-    → (old new : Bins) (cell : ℕ) → WritesCell old new cell (splice at piece (held (cell_at old.bytes) cell))
-    → (r : R) → read_at reading (cell_at old.bytes) cell ≡ Some r → read_at reading (cell_at new.bytes) cell ≡ Some (change r)
+    → (old new : Bins) (cell : ℕ) → WritesCell old new cell (splice at piece (held (heap_of old) cell))
+    → (r : R) → read_at reading (heap_of old) cell ≡ Some r → read_at reading (heap_of new) cell ≡ Some (change r)
 read_at-changed reading at piece change changes old new cell written r e =
-    let opened = read_at-open reading (cell_at old.bytes) cell r e in
-    let now : cell_at new.bytes cell ≡ Some (splice at piece opened.0) = written.here ∙ ap (λ (o : Option (List ℕ)). Some (splice at piece (unwrap_or o []))) opened.1 in
-    read_at-made reading (cell_at new.bytes) cell (splice at piece opened.0) (change r) now (changes opened.0 r opened.2)
+    let opened = read_at-open reading (heap_of old) cell r e in
+    let now : heap_of new cell ≡ Some (splice at piece opened.0) = written.here ∙ ap (λ (o : Option (List ℕ)). Some (splice at piece (unwrap_or o []))) opened.1 in
+    read_at-made reading (heap_of new) cell (splice at piece opened.0) (change r) now (changes opened.0 r opened.2)
 
 -- a test that finds a fault was false where none was found
 pub no_fault : {R F : Type 0} (b : Bool) (fault : F) (rest : Result R F) (r : R) → cond b (Err fault) rest ≡ Ok r → (b ≡ false) × (rest ≡ Ok r)

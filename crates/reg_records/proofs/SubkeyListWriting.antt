@@ -6,8 +6,7 @@ use Rattle.std.proofs.lemmas.List.{take_all, take_more, length-take-le, drop-dro
 use Rattle.byteorder.specs.Endian.{little_bytes, little_number}
 use Rattle.byteorder.specs.Numbers.{little_number-reads_back}
 use Rattle.reg_heap.specs.ByteWords.{half, word, splice}
-use Rattle.reg_arena.specs.Arena.{Bins}
-use Rattle.reg_arena.specs.Cells.{cell_at}
+use Rattle.reg_arena.specs.Arena.{Bins, heap_of}
 use Rattle.reg_arena.proofs.Contents.CellWrites.{all-append}
 use Rattle.reg_records.specs.RecordCells.{held, WritesCell, WritesPart, WritesRecord}
 use Rattle.reg_records.specs.declared.lists.ListForm.TheVariants.{IndexRoot, IndexLeaf, FastLeaf, HashLeaf}
@@ -61,34 +60,34 @@ length-front form count entries = length-append (head_bytes form count) (entries
 -- ---- one entry more
 
 one-written : (old between now : Bins) (cell : ℕ) (form : Form) (count : ℕ) (es : List Entry) (e : Entry)
-    → WritesCell old between cell (splice 0 (front form count es) (held (cell_at old.bytes) cell))
+    → WritesCell old between cell (splice 0 (front form count es) (held (heap_of old) cell))
     → WritesPart between now cell (4 + entry_size form * length es) (entry_bytes form e)
-    → WritesCell old now cell (splice 0 (front form count (es ++ e ∷ [])) (held (cell_at old.bytes) cell))
+    → WritesCell old now cell (splice 0 (front form count (es ++ e ∷ [])) (held (heap_of old) cell))
 unfolding splice
 one-written old between now cell form count es e first second =
     let piece = entry_bytes form e in
     let whole : front form count (es ++ e ∷ []) ≡ front form count es ++ piece = ap (λ t. head_bytes form count ++ t)
     (entries_bytes-push form es e) ∙ sym (append_assoc (head_bytes form count) (entries_bytes form es) piece) in
     let behind : length (front form count es) + length piece ≡ length (front form count (es ++ e ∷ [])) = sym (length-append (front form count es) piece) ∙ ap length (sym whole) in
-    let there : WritesCell between now cell (splice (length (front form count es)) piece (held (cell_at between.bytes) cell)) =
-    subst (λ at. WritesCell between now cell (splice at piece (held (cell_at between.bytes) cell))) (sym (length-front form count es)) second in
+    let there : WritesCell between now cell (splice (length (front form count es)) piece (held (heap_of between) cell)) =
+    subst (λ at. WritesCell between now cell (splice at piece (held (heap_of between) cell))) (sym (length-front form count es)) second in
     subst (WritesCell old now cell)
-    (ap (λ t. t ++ drop (length (front form count es) + length piece) (held (cell_at old.bytes) cell)) (sym whole)
-    ∙ ap (λ n. front form count (es ++ e ∷ []) ++ drop n (held (cell_at old.bytes) cell)) (behind ∙ sym (zero_more _)))
+    (ap (λ t. t ++ drop (length (front form count es) + length piece) (held (heap_of old) cell)) (sym whole)
+    ∙ ap (λ n. front form count (es ++ e ∷ []) ++ drop n (held (heap_of old) cell)) (behind ∙ sym (zero_more _)))
     (wrote_record old between now cell (front form count es) piece first there)
   where
     zero_more : (n : ℕ) → 0 + n ≡ n
     zero_more n = omega arith
 
 pub record IsListed (old now : Bins) (cell : ℕ) (form : Form) (all : List Entry) (i : ℕ) : Type 0 where
-  pub written : WritesCell old now cell (splice 0 (front form (length all) (take i all)) (held (cell_at old.bytes) cell))
+  pub written : WritesCell old now cell (splice 0 (front form (length all) (take i all)) (held (heap_of old) cell))
   pub fit : AllByRecursion IsFit (take i all)
 
 -- before the first entry
 pub none-listed : (old now : Bins) (cell : ℕ) (form : Form) (all : List Entry) (count : ℕ) → count ≡ length all → WritesPart old now cell 0 (head_bytes form count) → IsListed old now cell form all 0
 unfolding entries_bytes
 none-listed old now cell form all count e w = record {
-  written = subst (λ bytes. WritesCell old now cell (splice 0 bytes (held (cell_at old.bytes) cell))) (sym (append-nil (head_bytes form count)) ∙ ap (λ n. front form n []) e) w;
+  written = subst (λ bytes. WritesCell old now cell (splice 0 bytes (held (heap_of old) cell))) (sym (append-nil (head_bytes form count)) ∙ ap (λ n. front form n []) e) w;
   fit = tt;
 }
 
@@ -99,7 +98,7 @@ one-listed old between now cell form all i e d l is before w offset hint =
     let one : take i all ++ e ∷ [] ≡ take (i + 1) all = ap (λ x. take i all ++ x ∷ []) is ∙ sym (take_more all i d l) in
     let so_far : length (take i all) ≡ i = length-take-le i all (omega arith) in
     record {
-      written = subst (λ es. WritesCell old now cell (splice 0 (front form (length all) es) (held (cell_at old.bytes) cell))) one
+      written = subst (λ es. WritesCell old now cell (splice 0 (front form (length all) es) (held (heap_of old) cell))) one
           (one-written old between now cell form (length all) (take i all) e before.written (subst (λ n. WritesPart between now cell (4 + entry_size form * n) (entry_bytes form e)) (sym so_far) w));
       fit = subst (AllByRecursion IsFit) one (all-append IsFit (take i all) (e ∷ []) before.fit (record { offset = offset; hint = hint }, tt));
     }
@@ -181,8 +180,8 @@ module _ (old now : Bins) (cell : ℕ) (form : Form) (all : List Entry) (i : ℕ
   unfolding splice list_bytes
   all-written =
       subst (WritesCell old now cell)
-      (ap (λ es. front form (length all) es ++ drop (0 + length (front form (length all) es)) (held (cell_at old.bytes) cell)) every
-      ∙ ap (λ n. front form (length all) all ++ drop n (held (cell_at old.bytes) cell)) (zero_more _ ∙ length-front form (length all) all))
+      (ap (λ es. front form (length all) es ++ drop (0 + length (front form (length all) es)) (held (heap_of old) cell)) every
+      ∙ ap (λ n. front form (length all) all ++ drop n (held (heap_of old) cell)) (zero_more _ ∙ length-front form (length all) all))
       listed.written
     where
       zero_more : (n : ℕ) → 0 + n ≡ n
@@ -191,6 +190,6 @@ module _ (old now : Bins) (cell : ℕ) (form : Form) (all : List Entry) (i : ℕ
   all-fit : AllByRecursion IsFit all
   all-fit = subst (AllByRecursion IsFit) every listed.fit
 
-  pub all-reads : length all < 2 ^ 16 → list_of (held (cell_at now.bytes) cell) ≡ Some (record { form = form; entries = as_read form all })
+  pub all-reads : length all < 2 ^ 16 → list_of (held (heap_of now) cell) ≡ Some (record { form = form; entries = as_read form all })
   all-reads few =
-      ap list_of (ap (λ (o : Option (List ℕ)). unwrap_or o []) all-written.here) ∙ list-reads_back form all (drop (4 + entry_size form * length all) (held (cell_at old.bytes) cell)) all-fit few
+      ap list_of (ap (λ (o : Option (List ℕ)). unwrap_or o []) all-written.here) ∙ list-reads_back form all (drop (4 + entry_size form * length all) (held (heap_of old) cell)) all-fit few

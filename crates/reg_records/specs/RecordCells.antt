@@ -4,8 +4,8 @@ use Rattle.std.specs.Option.{option_and_then}
 use Rattle.std.specs.Result.{result_ok}
 use Rattle.reg_heap.specs.ByteWords.{splice}
 use Rattle.reg_heap.specs.Heaps.{Writes}
-use Rattle.reg_arena.specs.Arena.{Bins}
-use Rattle.reg_arena.specs.Cells.{cells_of, cell_at}
+use Rattle.reg_arena.specs.Arena.{Bins, heap_of}
+use Rattle.reg_arena.specs.Cells.{cells_of}
 
 -- what the allocated cell at each offset holds
 abbrev pub Heap : Type 0
@@ -26,22 +26,22 @@ pub record HasRoom (heap : Heap) (cell size : ℕ) : Type 0 where
 
 -- the cell holds other bytes now, as many as before, and nothing else changed
 pub record WritesCell (old new : Bins) (cell : ℕ) (content : List ℕ) : Type 0 where
-  pub here : cell_at new.bytes cell ≡ Some content
-  pub as_many : length content ≡ length (held (cell_at old.bytes) cell)
-  pub others : (offset : ℕ) → offset ≢ cell → cell_at new.bytes offset ≡ cell_at old.bytes offset
+  pub here : heap_of new cell ≡ Some content
+  pub as_many : length content ≡ length (held (heap_of old) cell)
+  pub others : (offset : ℕ) → offset ≢ cell → heap_of new offset ≡ heap_of old offset
   pub cells : cells_of new.bytes ≡ cells_of old.bytes
   pub heads : new.heads ≡ old.heads
-  pub writes : Writes (cell_at old.bytes) (cell_at new.bytes) (cell ∷ [])
+  pub writes : Writes (heap_of old) (heap_of new) (cell ∷ [])
 
 -- the cell begins with these bytes, a record of that size, and what followed them stays
 abbrev pub WritesRecord : Bins → Bins → ℕ → ℕ → List ℕ → Type 0
-WritesRecord old new cell size bytes = WritesCell old new cell (bytes ++ drop size (held (cell_at old.bytes) cell))
+WritesRecord old new cell size bytes = WritesCell old new cell (bytes ++ drop size (held (heap_of old) cell))
 
 -- these bytes stand at an offset of what the cell holds, and the others there stay
 abbrev pub WritesPart : Bins → Bins → ℕ → ℕ → List ℕ → Type 0
-WritesPart old new cell at bytes = WritesCell old new cell (splice at bytes (held (cell_at old.bytes) cell))
+WritesPart old new cell at bytes = WritesCell old new cell (splice at bytes (held (heap_of old) cell))
 
 -- whatever the cell read as before, it reads as that with a change now
 abbrev pub Rereads : {R : Type 0} → (Heap → ℕ → Option R) → Bins → Bins → ℕ → (R → R) → Type 0
 Rereads {R = R} reading old new cell change =
-    (r : R) → reading (cell_at old.bytes) cell ≡ Some r → reading (cell_at new.bytes) cell ≡ Some (change r)
+    (r : R) → reading (heap_of old) cell ≡ Some r → reading (heap_of new) cell ≡ Some (change r)

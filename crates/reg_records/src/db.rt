@@ -3,7 +3,7 @@
 //! Suhanov, Windows registry file format specification, section "Big data".
 
 ghost use Rattle.std.specs.Prelude.{◌≡◌, ◌^◌, ◌<◌, Some, MatchResult};
-ghost use Rattle.reg_arena.specs.Cells.{cell_at};
+ghost use Rattle.reg_arena.specs.Arena.{heap_of};
 ghost use Rattle.reg_records.specs.RecordCells.{held, HasRoom, WritesRecord};
 ghost use Rattle.reg_records.specs.BigData.{db_in, db_of, db_bytes};
 
@@ -59,9 +59,9 @@ fn head(fields: &BigFields) -> [u8; HEAD]
 
 /// Writes a big data record at the start of what a cell holds. What follows it there stays.
 pub fn put_db(arena: &mut Arena, cell: u32, fields: &BigFields)
-    requires { HasRoom (cell_at arena.old.bytes) cell 8 }
+    requires { HasRoom (heap_of arena.old) cell 8 }
     ensures written { WritesRecord arena.old arena.new cell 8 (db_bytes fields.now.count fields.now.list) }
-    ensures reads { db_of (held (cell_at arena.new.bytes) cell) ≡ Some (record { count = fields.now.count; list = fields.now.list }) }
+    ensures reads { db_of (held (heap_of arena.new) cell) ≡ Some (record { count = fields.now.count; list = fields.now.list }) }
 {
     let head = head(fields);
     write_record(arena, cell, &head, &[]);

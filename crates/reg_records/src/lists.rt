@@ -4,7 +4,7 @@
 
 ghost use Rattle.std.specs.Prelude.{◌≡◌, ℕ, ◌+◌, ◌*◌, ◌<◌, ◌≤◌, ◌^◌, ◌++◌, length, MatchResult, IfOk, slice_get, Some, None};
 ghost use Rattle.byteorder.specs.Endian.{little_bytes};
-ghost use Rattle.reg_arena.specs.Cells.{cell_at};
+ghost use Rattle.reg_arena.specs.Arena.{heap_of};
 ghost use Rattle.reg_records.specs.RecordCells.{held, HasRoom, WritesPart, WritesRecord};
 ghost use Rattle.reg_records.specs.SubkeyLists.{form_of, list_of, list_fault, letters_of, entry_size, entries_as, entry_bytes, head_bytes, list_bytes, as_read};
 
@@ -133,7 +133,7 @@ pub fn entry_at(content: &[u8], form: ListForm, index: u16) -> ListEntry
 /// Writes the entry at an index, counted from 0, of the list that a cell holds. An `ri` or `li` has no room for a hint,
 /// which is not written. The other entries stay, and so does their number.
 pub fn put_entry(arena: &mut Arena, cell: u32, form: ListForm, index: u16, entry: ListEntry)
-    requires { HasRoom (cell_at arena.old.bytes) cell (4 + entry_size form * (index + 1)) }
+    requires { HasRoom (heap_of arena.old) cell (4 + entry_size form * (index + 1)) }
     ensures written { WritesPart arena.old arena.new cell (4 + entry_size form * index) (entry_bytes form entry) }
     ensures offset { entry.offset < 2 ^ 32 }
     ensures hint { entry.hint < 2 ^ 32 }
@@ -153,7 +153,7 @@ pub fn put_entry(arena: &mut Arena, cell: u32, form: ListForm, index: u16, entry
 
 /// Writes the form of the list that a cell holds, and how many entries it has. The entries stay.
 pub fn put_head(arena: &mut Arena, cell: u32, head: ListHead)
-    requires { HasRoom (cell_at arena.old.bytes) cell 4 }
+    requires { HasRoom (heap_of arena.old) cell 4 }
     ensures written { WritesPart arena.old arena.new cell 0 (head_bytes head.form head.count) }
     ensures count { head.count < 2 ^ 16 }
 {
@@ -166,10 +166,10 @@ pub fn put_head(arena: &mut Arena, cell: u32, head: ListHead)
 ///
 /// An `ri` or `li` has no room for hints, which are not written.
 pub fn put_list(arena: &mut Arena, cell: u32, form: ListForm, entries: &[ListEntry])
-    requires room { HasRoom (cell_at arena.old.bytes) cell (4 + entry_size form * length entries.now) }
+    requires room { HasRoom (heap_of arena.old) cell (4 + entry_size form * length entries.now) }
     requires count { length entries.now < 2 ^ 16 }
     ensures written { WritesRecord arena.old arena.new cell (4 + entry_size form * length entries.now) (list_bytes form entries.now) }
-    ensures reads { list_of (held (cell_at arena.new.bytes) cell) ≡ Some (record { form = form; entries = as_read form entries.now }) }
+    ensures reads { list_of (held (heap_of arena.new) cell) ≡ Some (record { form = form; entries = as_read form entries.now }) }
 {
     let count = entries.len() as u16;
     put_head(arena, cell, ListHead { form, count });

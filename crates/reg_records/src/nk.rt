@@ -4,7 +4,7 @@
 
 ghost use Rattle.std.specs.Prelude.{◌≡◌, ◌+◌, ◌<◌, ◌≤◌, ◌^◌, ◌++◌, length, IsSome, MatchResult, IsTrue};
 ghost use Rattle.byteorder.specs.Endian.{little_bytes};
-ghost use Rattle.reg_arena.specs.Cells.{cell_at};
+ghost use Rattle.reg_arena.specs.Arena.{heap_of};
 ghost use Rattle.reg_records.specs.RecordCells.{held, HasRoom, WritesRecord, WritesPart, Rereads};
 ghost use Rattle.reg_records.specs.KeyNodes.{FitKey, is_in_profile, nk_of, nk_fields_of, nk_head, nk_bytes, key_at, IsPlainKey};
 
@@ -148,12 +148,12 @@ fn head(fields: &KeyFields, name_length: u16) -> [u8; HEAD]
 /// volatile subkeys as 0xFFFFFFFF. Flags with 0x40 would not be read back, so they can't be
 /// written.
 pub fn put_nk(arena: &mut Arena, cell: u32, fields: &KeyFields, name: &[u8])
-    requires room { HasRoom (cell_at arena.old.bytes) cell (76 + length name.now) }
+    requires room { HasRoom (heap_of arena.old) cell (76 + length name.now) }
     requires name { length name.now < 2 ^ 16 }
     requires profile { IsTrue (is_in_profile fields.now.flags) }
     ensures written { WritesRecord arena.old arena.new cell (76 + length name.now) (nk_bytes fields.now name.now) }
-    ensures reads { key_at (cell_at arena.new.bytes) cell ≡ Some (record { fields = fields.now; name = name.now }) }
-    ensures plain { IsPlainKey (held (cell_at arena.new.bytes) cell) }
+    ensures reads { key_at (heap_of arena.new) cell ≡ Some (record { fields = fields.now; name = name.now }) }
+    ensures plain { IsPlainKey (held (heap_of arena.new) cell) }
 {
     let head = head(fields, name.len() as u16);
     write_record(arena, cell, &head, name);
@@ -161,50 +161,50 @@ pub fn put_nk(arena: &mut Arena, cell: u32, fields: &KeyFields, name: &[u8])
 
 /// Writes the last write time of a key node, in units of 100 nanoseconds since 1601.
 pub fn set_time(arena: &mut Arena, cell: u32, time: u64)
-    requires { IsSome (key_at (cell_at arena.old.bytes) cell) }
+    requires { IsSome (key_at (heap_of arena.old) cell) }
     ensures written { WritesPart arena.old arena.new cell 4 (little_bytes 8 time) }
     ensures reads { Rereads key_at arena.old arena.new cell (λ r. record r { fields = record r.fields { time = time } }) }
-    ensures plain { IsPlainKey (held (cell_at arena.old.bytes) cell) → IsPlainKey (held (cell_at arena.new.bytes) cell) }
+    ensures plain { IsPlainKey (held (heap_of arena.old) cell) → IsPlainKey (held (heap_of arena.new) cell) }
 {
     write_part(arena, cell, 4, &long_bytes(time));
 }
 
 /// Writes how many subkeys a key node has.
 pub fn set_subkeys(arena: &mut Arena, cell: u32, subkeys: u32)
-    requires { IsSome (key_at (cell_at arena.old.bytes) cell) }
+    requires { IsSome (key_at (heap_of arena.old) cell) }
     ensures written { WritesPart arena.old arena.new cell 20 (little_bytes 4 subkeys) }
     ensures reads { Rereads key_at arena.old arena.new cell (λ r. record r { fields = record r.fields { subkeys = subkeys } }) }
-    ensures plain { IsPlainKey (held (cell_at arena.old.bytes) cell) → IsPlainKey (held (cell_at arena.new.bytes) cell) }
+    ensures plain { IsPlainKey (held (heap_of arena.old) cell) → IsPlainKey (held (heap_of arena.new) cell) }
 {
     write_part(arena, cell, 20, &word_bytes(subkeys));
 }
 
 /// Writes the offset of the list of a key node's subkeys.
 pub fn set_subkeys_list(arena: &mut Arena, cell: u32, list: u32)
-    requires { IsSome (key_at (cell_at arena.old.bytes) cell) }
+    requires { IsSome (key_at (heap_of arena.old) cell) }
     ensures written { WritesPart arena.old arena.new cell 28 (little_bytes 4 list) }
     ensures reads { Rereads key_at arena.old arena.new cell (λ r. record r { fields = record r.fields { subkeys_list = list } }) }
-    ensures plain { IsPlainKey (held (cell_at arena.old.bytes) cell) → IsPlainKey (held (cell_at arena.new.bytes) cell) }
+    ensures plain { IsPlainKey (held (heap_of arena.old) cell) → IsPlainKey (held (heap_of arena.new) cell) }
 {
     write_part(arena, cell, 28, &word_bytes(list));
 }
 
 /// Writes the largest length of a subkey's name, as the key node counts it: two for each character.
 pub fn set_largest_subkey_name(arena: &mut Arena, cell: u32, largest: u32)
-    requires { IsSome (key_at (cell_at arena.old.bytes) cell) }
+    requires { IsSome (key_at (heap_of arena.old) cell) }
     ensures written { WritesPart arena.old arena.new cell 52 (little_bytes 4 largest) }
     ensures reads { Rereads key_at arena.old arena.new cell (λ r. record r { fields = record r.fields { largest_subkey_name = largest } }) }
-    ensures plain { IsPlainKey (held (cell_at arena.old.bytes) cell) → IsPlainKey (held (cell_at arena.new.bytes) cell) }
+    ensures plain { IsPlainKey (held (heap_of arena.old) cell) → IsPlainKey (held (heap_of arena.new) cell) }
 {
     write_part(arena, cell, 52, &word_bytes(largest));
 }
 
 /// Writes how many values a key node has, and the offset of their list.
 pub fn set_values(arena: &mut Arena, cell: u32, values: u32, values_list: u32)
-    requires { IsSome (key_at (cell_at arena.old.bytes) cell) }
+    requires { IsSome (key_at (heap_of arena.old) cell) }
     ensures written { WritesPart arena.old arena.new cell 36 (little_bytes 4 values ++ little_bytes 4 values_list) }
     ensures reads { Rereads key_at arena.old arena.new cell (λ r. record r { fields = record r.fields { values = values; values_list = values_list } }) }
-    ensures plain { IsPlainKey (held (cell_at arena.old.bytes) cell) → IsPlainKey (held (cell_at arena.new.bytes) cell) }
+    ensures plain { IsPlainKey (held (heap_of arena.old) cell) → IsPlainKey (held (heap_of arena.new) cell) }
 {
     let [v0, v1, v2, v3] = word_bytes(values);
     let [l0, l1, l2, l3] = word_bytes(values_list);
@@ -213,20 +213,20 @@ pub fn set_values(arena: &mut Arena, cell: u32, values: u32, values_list: u32)
 
 /// Writes the largest length of a value's name, in bytes.
 pub fn set_largest_value_name(arena: &mut Arena, cell: u32, largest: u32)
-    requires { IsSome (key_at (cell_at arena.old.bytes) cell) }
+    requires { IsSome (key_at (heap_of arena.old) cell) }
     ensures written { WritesPart arena.old arena.new cell 60 (little_bytes 4 largest) }
     ensures reads { Rereads key_at arena.old arena.new cell (λ r. record r { fields = record r.fields { largest_value_name = largest } }) }
-    ensures plain { IsPlainKey (held (cell_at arena.old.bytes) cell) → IsPlainKey (held (cell_at arena.new.bytes) cell) }
+    ensures plain { IsPlainKey (held (heap_of arena.old) cell) → IsPlainKey (held (heap_of arena.new) cell) }
 {
     write_part(arena, cell, 60, &word_bytes(largest));
 }
 
 /// Writes the largest size of a value's data, in bytes.
 pub fn set_largest_value_data(arena: &mut Arena, cell: u32, largest: u32)
-    requires { IsSome (key_at (cell_at arena.old.bytes) cell) }
+    requires { IsSome (key_at (heap_of arena.old) cell) }
     ensures written { WritesPart arena.old arena.new cell 64 (little_bytes 4 largest) }
     ensures reads { Rereads key_at arena.old arena.new cell (λ r. record r { fields = record r.fields { largest_value_data = largest } }) }
-    ensures plain { IsPlainKey (held (cell_at arena.old.bytes) cell) → IsPlainKey (held (cell_at arena.new.bytes) cell) }
+    ensures plain { IsPlainKey (held (heap_of arena.old) cell) → IsPlainKey (held (heap_of arena.new) cell) }
 {
     write_part(arena, cell, 64, &word_bytes(largest));
 }

@@ -4,7 +4,7 @@
 
 ghost use Rattle.std.specs.Prelude.{◌≡◌, ◌≢◌, ◌+◌, ◌*◌, ◌^◌, ◌<◌, ◌≤◌, ℕ, length};
 ghost use Rattle.byteorder.specs.Endian.{little_bytes};
-ghost use Rattle.reg_arena.specs.Cells.{cell_at};
+ghost use Rattle.reg_arena.specs.Arena.{heap_of};
 ghost use Rattle.reg_records.specs.RecordCells.{HasRoom, WritesPart, held};
 ghost use Rattle.reg_records.specs.OffsetRows.{offset_in};
 
@@ -23,12 +23,12 @@ pub fn offset_at(content: &[u8], index: u32) -> u32
 
 /// Writes the offset at an index, counted from 0, of the row that a cell holds. The others stay.
 pub fn put_offset(arena: &mut Arena, cell: u32, index: u32, offset: u32)
-    requires room { HasRoom (cell_at arena.old.bytes) cell (4 * index + 4) }
+    requires room { HasRoom (heap_of arena.old) cell (4 * index + 4) }
     requires index { index < 2 ^ 30 }
     ensures written { WritesPart arena.old arena.new cell (4 * index) (little_bytes 4 offset) }
-    ensures here { offset_in (held (cell_at arena.new.bytes) cell) index ≡ offset }
+    ensures here { offset_in (held (heap_of arena.new) cell) index ≡ offset }
     ensures others { (other : ℕ) → other ≢ index →
-        offset_in (held (cell_at arena.new.bytes) cell) other ≡ offset_in (held (cell_at arena.old.bytes) cell) other }
+        offset_in (held (heap_of arena.new) cell) other ≡ offset_in (held (heap_of arena.old) cell) other }
 {
     write_part(arena, cell, 4 * index, &word_bytes(offset));
 }

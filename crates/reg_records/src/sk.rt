@@ -4,7 +4,7 @@
 
 ghost use Rattle.std.specs.Prelude.{◌≡◌, ◌+◌, ◌<◌, ◌^◌, length, MatchResult, IsSome};
 ghost use Rattle.byteorder.specs.Endian.{little_bytes};
-ghost use Rattle.reg_arena.specs.Cells.{cell_at};
+ghost use Rattle.reg_arena.specs.Arena.{heap_of};
 ghost use Rattle.reg_records.specs.RecordCells.{held, HasRoom, WritesRecord, WritesPart, Rereads};
 ghost use Rattle.reg_records.specs.KeySecurities.{FitSecurity, sk_of, sk_head, sk_bytes, security_at, IsPlainSecurity};
 
@@ -83,11 +83,11 @@ fn head(fields: &SecurityFields, size: u32) -> [u8; HEAD]
 ///
 /// The reserved bytes are written as 0.
 pub fn put_sk(arena: &mut Arena, cell: u32, fields: &SecurityFields, descriptor: &[u8])
-    requires room { HasRoom (cell_at arena.old.bytes) cell (20 + length descriptor.now) }
+    requires room { HasRoom (heap_of arena.old) cell (20 + length descriptor.now) }
     requires size { length descriptor.now < 2 ^ 32 }
     ensures written { WritesRecord arena.old arena.new cell (20 + length descriptor.now) (sk_bytes fields.now descriptor.now) }
-    ensures reads { security_at (cell_at arena.new.bytes) cell ≡ Some (record { fields = fields.now; descriptor = descriptor.now }) }
-    ensures plain { IsPlainSecurity (held (cell_at arena.new.bytes) cell) }
+    ensures reads { security_at (heap_of arena.new) cell ≡ Some (record { fields = fields.now; descriptor = descriptor.now }) }
+    ensures plain { IsPlainSecurity (held (heap_of arena.new) cell) }
 {
     let head = head(fields, descriptor.len() as u32);
     write_record(arena, cell, &head, descriptor);
@@ -95,10 +95,10 @@ pub fn put_sk(arena: &mut Arena, cell: u32, fields: &SecurityFields, descriptor:
 
 /// Writes how many key nodes use the descriptor of a key security.
 pub fn set_security_count(arena: &mut Arena, cell: u32, count: u32)
-    requires { IsSome (security_at (cell_at arena.old.bytes) cell) }
+    requires { IsSome (security_at (heap_of arena.old) cell) }
     ensures written { WritesPart arena.old arena.new cell 12 (little_bytes 4 count) }
     ensures reads { Rereads security_at arena.old arena.new cell (λ r. record r { fields = record r.fields { count = count } }) }
-    ensures plain { IsPlainSecurity (held (cell_at arena.old.bytes) cell) → IsPlainSecurity (held (cell_at arena.new.bytes) cell) }
+    ensures plain { IsPlainSecurity (held (heap_of arena.old) cell) → IsPlainSecurity (held (heap_of arena.new) cell) }
 {
     write_part(arena, cell, 12, &word_bytes(count));
 }

@@ -4,7 +4,7 @@
 
 ghost use Rattle.std.specs.Prelude.{◌≡◌, ◌+◌, ◌<◌, ◌^◌, ◌++◌, length, IsSome, MatchResult};
 ghost use Rattle.byteorder.specs.Endian.{little_bytes};
-ghost use Rattle.reg_arena.specs.Cells.{cell_at};
+ghost use Rattle.reg_arena.specs.Arena.{heap_of};
 ghost use Rattle.reg_records.specs.RecordCells.{held, HasRoom, WritesRecord, WritesPart, Rereads};
 ghost use Rattle.reg_records.specs.KeyValues.{FitValue, vk_of, vk_head, vk_bytes, value_record_at, IsPlainValue};
 
@@ -86,11 +86,11 @@ fn head(fields: &ValueFields, name_length: u16) -> [u8; HEAD]
 ///
 /// The spare bytes are written as 0.
 pub fn put_vk(arena: &mut Arena, cell: u32, fields: &ValueFields, name: &[u8])
-    requires room { HasRoom (cell_at arena.old.bytes) cell (20 + length name.now) }
+    requires room { HasRoom (heap_of arena.old) cell (20 + length name.now) }
     requires name { length name.now < 2 ^ 16 }
     ensures written { WritesRecord arena.old arena.new cell (20 + length name.now) (vk_bytes fields.now name.now) }
-    ensures reads { value_record_at (cell_at arena.new.bytes) cell ≡ Some (record { fields = fields.now; name = name.now }) }
-    ensures plain { IsPlainValue (held (cell_at arena.new.bytes) cell) }
+    ensures reads { value_record_at (heap_of arena.new) cell ≡ Some (record { fields = fields.now; name = name.now }) }
+    ensures plain { IsPlainValue (held (heap_of arena.new) cell) }
 {
     let head = head(fields, name.len() as u16);
     write_record(arena, cell, &head, name);
@@ -99,11 +99,11 @@ pub fn put_vk(arena: &mut Arena, cell: u32, fields: &ValueFields, name: &[u8])
 /// Writes the size of a key value's data with its top bit, the offset of the data or the data
 /// itself, and its type.
 pub fn set_data(arena: &mut Arena, cell: u32, size: u32, offset: u32, kind: u32)
-    requires { IsSome (value_record_at (cell_at arena.old.bytes) cell) }
+    requires { IsSome (value_record_at (heap_of arena.old) cell) }
     ensures written { WritesPart arena.old arena.new cell 4 (little_bytes 4 size ++ little_bytes 4 offset ++ little_bytes 4 kind) }
     ensures reads { Rereads value_record_at arena.old arena.new cell
         (λ r. record r { fields = record r.fields { size = size; offset = offset; kind = kind } }) }
-    ensures plain { IsPlainValue (held (cell_at arena.old.bytes) cell) → IsPlainValue (held (cell_at arena.new.bytes) cell) }
+    ensures plain { IsPlainValue (held (heap_of arena.old) cell) → IsPlainValue (held (heap_of arena.new) cell) }
 {
     let [s0, s1, s2, s3] = word_bytes(size);
     let [p0, p1, p2, p3] = word_bytes(offset);

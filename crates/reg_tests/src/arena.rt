@@ -1,7 +1,7 @@
 //! Cells carved and freed, bins appended, and the limit of all bins. The wanted bytes come from the format's description.
 //! Whoever owns an arena does nothing but hand it on: a function is the longer to check the more it does while it owns one.
 ghost use Rattle.std.specs.Prelude.{◌≡◌, ◌-◌, ◌≤◌, ◌%◌, replicate, true, Some, IsSome, IfOk};
-ghost use Rattle.reg_arena.specs.Cells.{cell_at};
+ghost use Rattle.reg_arena.specs.Arena.{heap_of};
 
 use crate::support::assert_told;
 use reg_arena::{Arena, ArenaFault};
@@ -24,7 +24,7 @@ pub fn carved(alloc: Global, arena: &mut Arena, size: u32) -> Result<u32, Fail>
     requires large { 16 ≤ size }
     requires eights { size % 8 ≡ 0 }
     requires small { size ≤ 16777216 }
-    ensures { IfOk result (λ cell. cell_at arena.new.bytes cell ≡ Some (replicate (size - 4) 0)) }
+    ensures { IfOk result (λ cell. heap_of arena.new cell ≡ Some (replicate (size - 4) 0)) }
 {
     let mut offsets = Vec::new(alloc);
     arena.carve(&[size], &mut offsets)?;
@@ -33,7 +33,7 @@ pub fn carved(alloc: Global, arena: &mut Arena, size: u32) -> Result<u32, Fail>
 
 // Whether an allocated cell stands at an offset.
 fn has_cell(alloc: Global, arena: &Arena, offset: u32) -> Result<bool, Fail>
-    ensures { IfOk result (λ found. found ≡ true → IsSome (cell_at arena.now.bytes offset)) }
+    ensures { IfOk result (λ found. found ≡ true → IsSome (heap_of arena.now offset)) }
 {
     let cells = arena.cells(alloc)?;
     for cell in &cells {

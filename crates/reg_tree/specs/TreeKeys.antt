@@ -9,7 +9,7 @@ use Rattle.reg_heap.specs.Edits.{with_keys, missing}
 use Rattle.reg_heap.specs.declared.marks.TheConstants.{NO_DELETE}
 use Rattle.reg_heap.specs.Paths.{Path, Tree, Rec, coded_bytes, coded_tree}
 use Rattle.reg_arena.specs.declared.Cell.{Cell}
-use Rattle.reg_arena.specs.Arena.{Bins}
+use Rattle.reg_arena.specs.Arena.{Bins, heap_of}
 use Rattle.reg_arena.specs.Cells.{cells_of, cell_at}
 use Rattle.reg_shape.specs.Spelt.{spelt}
 use Rattle.reg_shape.specs.Whole.{IsWhole}
@@ -49,7 +49,7 @@ made_root name descriptor moment = record { name = name; marks = NO_DELETE; clas
 
 -- a node is that of the key at a path: it has the offset of the key node at the end of the path, and the path's length
 pub record IsAt (keys : Keys) (path : Path) (node : Node) : Type 0 where
-  pub offset : key_offset_at (cell_at keys.bins.bytes) keys.root path ≡ Some node.offset
+  pub offset : key_offset_at (heap_of keys.bins) keys.root path ≡ Some node.offset
   pub depth : node.depth ≡ length path
 
 -- a node is that of a key

@@ -3,7 +3,7 @@ ghost use Rattle.std.specs.Prelude.{◌≡◌, ◌≤◌, true};
 ghost use Rattle.reg_names.specs.declared.TheConstants.{PATH_LIMIT};
 ghost use Rattle.reg_names.specs.Names.{folded, is_path};
 ghost use Rattle.reg_heap.specs.Edits.{folded_path};
-ghost use Rattle.reg_arena.specs.Cells.{cell_at};
+ghost use Rattle.reg_arena.specs.Arena.{heap_of};
 ghost use Rattle.reg_shape.specs.PathLookup.{key_offset_at, subkey_named};
 ghost use Rattle.reg_tree.specs.Internal.TreeInvariant.{IsHere};
 ghost use Rattle.reg_tree.specs.Internal.PathWalks.{IsWalked, Reaches};
@@ -17,7 +17,7 @@ use reg_names::first_name;
 /// The key of that name right below a key, after folding, if there is one.
 pub fn child(arena: &Arena, key: u32, name: &[u8]) -> Option<u32>
     requires { IsHere arena.now.bytes key }
-    ensures { result ≡ subkey_named (cell_at arena.now.bytes) (folded name.now) key }
+    ensures { result ≡ subkey_named (heap_of arena.now) (folded name.now) key }
 {
     let list = subkeys_list(arena, key);
     match find(arena, list, name) {
@@ -31,7 +31,7 @@ pub fn reach<'a>(arena: &Arena, from: Node, path: &'a [u8]) -> (Node, &'a [u8])
     requires here { IsHere arena.now.bytes from.offset }
     requires depth { from.depth ≤ PATH_LIMIT }
     requires path { is_path path.now ≡ true }
-    ensures { Reaches (cell_at arena.now.bytes) from path.now result.0 result.1.now }
+    ensures { Reaches (heap_of arena.now) from path.now result.0 result.1.now }
 {
     let mut node = from;
     let mut rest = path;
@@ -53,7 +53,7 @@ pub fn resolve(arena: &Arena, from: Node, path: &[u8]) -> Option<Node>
     requires here { IsHere arena.now.bytes from.offset }
     requires depth { from.depth ≤ PATH_LIMIT }
     requires path { is_path path.now ≡ true }
-    ensures { IsWalked (cell_at arena.now.bytes) from (folded_path path.now) result }
+    ensures { IsWalked (heap_of arena.now) from (folded_path path.now) result }
 {
     let (node, rest) = reach(arena, from, path);
     if rest.is_empty() { Some(node) } else { None }

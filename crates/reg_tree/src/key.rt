@@ -1,7 +1,7 @@
 //! Key nodes, as the tree writes them.
 ghost use Rattle.std.specs.Prelude.{◌≡◌, ◌≤◌, ◌<◌, ◌^◌, IsSome, Some};
 ghost use Rattle.reg_names.specs.declared.TheConstants.{KEY_NAME_LIMIT};
-ghost use Rattle.reg_arena.specs.Cells.{cell_at};
+ghost use Rattle.reg_arena.specs.Arena.{heap_of};
 ghost use Rattle.reg_records.specs.KeyNodes.{KeyRecord, key_at};
 ghost use Rattle.reg_tree.specs.Internal.KeyNodeChanges.{HasList, HasSubkeysList, Notes, noted, noted_subkeys, raised, made_fields};
 
@@ -69,8 +69,8 @@ pub fn new_key(parent: u32, security: u32, moment: u64) -> KeyFields
 
 /// The fixed part of a key node.
 pub fn fields(arena: &Arena, key: u32) -> KeyFields
-    requires { IsSome (key_at (cell_at arena.now.bytes) key) }
-    ensures { (record_is : KeyRecord) → key_at (cell_at arena.now.bytes) key ≡ Some record_is → result ≡ record_is.fields }
+    requires { IsSome (key_at (heap_of arena.now) key) }
+    ensures { (record_is : KeyRecord) → key_at (heap_of arena.now) key ≡ Some record_is → result ≡ record_is.fields }
 {
     match read_nk(arena.content(key)) {
         Ok(node) => node.fields,
@@ -80,8 +80,8 @@ pub fn fields(arena: &Arena, key: u32) -> KeyFields
 
 /// The list of a key's values, as its key node names it.
 pub fn values_list(arena: &Arena, key: u32) -> ValuesList
-    requires { IsSome (key_at (cell_at arena.now.bytes) key) }
-    ensures { HasList (cell_at arena.now.bytes) key result.count result.offset }
+    requires { IsSome (key_at (heap_of arena.now) key) }
+    ensures { HasList (heap_of arena.now) key result.count result.offset }
 {
     let fields = fields(arena, key);
     ValuesList {
@@ -92,8 +92,8 @@ pub fn values_list(arena: &Arena, key: u32) -> ValuesList
 
 /// The list of a key's subkeys, as its key node names it.
 pub fn subkeys_list(arena: &Arena, key: u32) -> SubkeysIndex
-    requires { IsSome (key_at (cell_at arena.now.bytes) key) }
-    ensures { HasSubkeysList (cell_at arena.now.bytes) key result.count result.offset }
+    requires { IsSome (key_at (heap_of arena.now) key) }
+    ensures { HasSubkeysList (heap_of arena.now) key result.count result.offset }
 {
     let fields = fields(arena, key);
     SubkeysIndex {
@@ -105,9 +105,9 @@ pub fn subkeys_list(arena: &Arena, key: u32) -> SubkeysIndex
 /// Notes a change of a key's values in its key node: their number and list, the time, and the largest lengths where the name
 /// (in characters) and the data (in bytes) are longer.
 pub fn note_values(arena: &mut Arena, key: u32, list: ValuesList, name: u32, size: u32, moment: u64)
-    requires exists { IsSome (key_at (cell_at arena.old.bytes) key) }
+    requires exists { IsSome (key_at (heap_of arena.old) key) }
     requires name { name < 2 ^ 31 }
-    ensures { Notes (cell_at arena.old.bytes) (cell_at arena.new.bytes) key (noted list.count list.offset name size moment) }
+    ensures { Notes (heap_of arena.old) (heap_of arena.new) key (noted list.count list.offset name size moment) }
 {
     let old = fields(arena, key);
     set_values(arena, key, list.count, list.offset);
@@ -128,9 +128,9 @@ fn raise(largest: u32, length: u32) -> u32
 /// Notes a change of a key's subkeys in its key node: their number and list, the time, and the largest length of a name
 /// where this one (in characters) is longer.
 pub fn note_subkeys(arena: &mut Arena, key: u32, list: SubkeysIndex, name: u32, moment: u64)
-    requires exists { IsSome (key_at (cell_at arena.old.bytes) key) }
+    requires exists { IsSome (key_at (heap_of arena.old) key) }
     requires name { name ≤ KEY_NAME_LIMIT }
-    ensures { Notes (cell_at arena.old.bytes) (cell_at arena.new.bytes) key (noted_subkeys list.count list.offset name moment) }
+    ensures { Notes (heap_of arena.old) (heap_of arena.new) key (noted_subkeys list.count list.offset name moment) }
 {
     let old = fields(arena, key);
     set_subkeys(arena, key, list.count);

@@ -8,7 +8,7 @@ ghost use Rattle.reg_names.specs.Names.{is_key_name, is_path, path_of};
 ghost use Rattle.reg_heap.specs.declared.limits.TheConstants.{BINS_LIMIT, GROWTH_BOUND};
 ghost use Rattle.reg_heap.specs.Paths.{children_of};
 ghost use Rattle.reg_heap.specs.Edits.{missing, are_too_many};
-ghost use Rattle.reg_arena.specs.Cells.{cell_at};
+ghost use Rattle.reg_arena.specs.Arena.{heap_of};
 ghost use Rattle.reg_records.specs.RecordCells.{HasRoom};
 ghost use Rattle.reg_records.specs.KeyNodes.{KeyRecord, key_at};
 ghost use Rattle.reg_index.specs.Subkeys.{IsReady, taken};
@@ -31,15 +31,15 @@ use std::alloc::{AllocError, Global};
 /// Makes a key below another in cells carved for it: its key node, and its parent's list where that takes another cell. What
 /// its parent says of it is noted, with the time.
 fn make(arena: &mut Arena, parent: u32, list_cell: u32, key: u32, name: &[u8], moment: u64)
-    requires grow { (left : List ℕ) × MayGrow arena.old.bytes parent (taken (planned (cell_at arena.old.bytes) parent) list_cell ++ key ∷ left) name.now }
-    requires ready { IsReady (cell_at arena.old.bytes) (planned (cell_at arena.old.bytes) parent) list_cell }
-    requires room { HasRoom (cell_at arena.old.bytes) key (76 + length name.now) }
+    requires grow { (left : List ℕ) × MayGrow arena.old.bytes parent (taken (planned (heap_of arena.old) parent) list_cell ++ key ∷ left) name.now }
+    requires ready { IsReady (heap_of arena.old) (planned (heap_of arena.old) parent) list_cell }
+    requires room { HasRoom (heap_of arena.old) key (76 + length name.now) }
     requires name { (is_key_name name.now ≡ true) × (length name.now ≤ KEY_NAME_LIMIT) }
     ensures { (left : List ℕ) →
-        (m : MayGrow arena.old.bytes parent (taken (planned (cell_at arena.old.bytes) parent) list_cell
+        (m : MayGrow arena.old.bytes parent (taken (planned (heap_of arena.old) parent) list_cell
         ++ key ∷ left) name.now) →
-        Grows (cell_at arena.old.bytes)
-        (cell_at arena.new.bytes) m.growing.root m.growing.path m.growing.keys m.growing.first key left name.now moment }
+        Grows (heap_of arena.old)
+        (heap_of arena.new) m.growing.root m.growing.path m.growing.keys m.growing.first key left name.now moment }
 {
     let above = fields(arena, parent);
     let users = with_one_more(arena, above.security);
@@ -59,16 +59,16 @@ fn make(arena: &mut Arena, parent: u32, list_cell: u32, key: u32, name: &[u8], m
 /// Makes a key below another in the first of some spare cells, and answers how many it took; the last of these is the key's.
 fn make_in(arena: &mut Arena, parent: u32, spare: &[u32], name: &[u8], moment: u64) -> usize
     requires grow { MayGrow arena.old.bytes parent spare.now name.now }
-    requires ready { (names : List (List ℕ)) × AreReady (cell_at arena.old.bytes) (planned (cell_at arena.old.bytes) parent) (name.now ∷ names) spare.now }
+    requires ready { (names : List (List ℕ)) × AreReady (heap_of arena.old) (planned (heap_of arena.old) parent) (name.now ∷ names) spare.now }
     requires name { (is_key_name name.now ≡ true) × (length name.now ≤ KEY_NAME_LIMIT) }
     ensures taken { (1 ≤ result) × (result ≤ 2) × (result ≤ length spare.now) }
     ensures grows { (m : MayGrow arena.old.bytes parent spare.now name.now) →
-        Grows (cell_at arena.old.bytes)
-        (cell_at arena.new.bytes) m.growing.root m.growing.path m.growing.keys m.growing.first
+        Grows (heap_of arena.old)
+        (heap_of arena.new) m.growing.root m.growing.path m.growing.keys m.growing.first
         (get_or spare.now (result - 1) 0) (drop result spare.now) name.now moment }
     ensures ready { (names : List (List ℕ)) →
-        AreReady (cell_at arena.old.bytes) (planned (cell_at arena.old.bytes) parent) (name.now ∷ names) spare.now →
-        AreReady (cell_at arena.old.bytes) (Some 16) names (drop result spare.now) }
+        AreReady (heap_of arena.old) (planned (heap_of arena.old) parent) (name.now ∷ names) spare.now →
+        AreReady (heap_of arena.old) (Some 16) names (drop result spare.now) }
 {
     let list = subkeys_list(arena, parent);
     match plan_insert(arena, list) {
@@ -89,8 +89,8 @@ fn make_all(arena: &mut Arena, from: Node, path: &[u8], spare: &[u32], moment: u
     requires depth { from.depth ≤ PATH_LIMIT }
     requires path { is_path path.now ≡ true }
     ensures { (m : MayGrowAll arena.old.bytes from (path_of path.now) spare.now) →
-        GrowsAll (cell_at arena.old.bytes)
-        (cell_at arena.new.bytes) m.growing.root m.growing.path m.growing.keys m.growing.first from result
+        GrowsAll (heap_of arena.old)
+        (heap_of arena.new) m.growing.root m.growing.path m.growing.keys m.growing.first from result
         (path_of path.now) moment }
 {
     let mut node = from;
@@ -133,7 +133,7 @@ fn pass_limits(arena: &Arena, parent: Node, path: &[u8]) -> bool
         ⊎ (LEAF_LIMIT ≤ length (children_of (tree_in arena.now.bytes t.root) t.path))))) }
     ensures room { result ≡ false → (length (path_of path.now) ≤ MADE_LIMIT)
         × (parent.depth + length (path_of path.now) ≤ PATH_LIMIT)
-        × ((k : KeyRecord) → key_at (cell_at arena.now.bytes) parent.offset ≡ Some k → k.fields.subkeys < LEAF_LIMIT) }
+        × ((k : KeyRecord) → key_at (heap_of arena.now) parent.offset ≡ Some k → k.fields.subkeys < LEAF_LIMIT) }
 {
     let count = count_names(path);
     if count > MADE_LIMIT {

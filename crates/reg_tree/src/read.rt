@@ -4,7 +4,7 @@ ghost use Rattle.std.specs.FinMap.{get};
 ghost use Rattle.reg_names.specs.declared.TheConstants.{KEY_NAME_LIMIT, PATH_LIMIT};
 ghost use Rattle.reg_heap.specs.declared.limits.TheConstants.{DESCRIPTOR_LIMIT};
 ghost use Rattle.reg_heap.specs.Paths.{Rec, children_of};
-ghost use Rattle.reg_arena.specs.Cells.{cell_at};
+ghost use Rattle.reg_arena.specs.Arena.{heap_of};
 ghost use Rattle.reg_tree.specs.TreeKeys.{tree_in};
 ghost use Rattle.reg_tree.specs.Internal.TreeInvariant.{IsHere};
 ghost use Rattle.reg_tree.specs.Internal.PathWalks.{IsSubkey};
@@ -72,7 +72,7 @@ pub fn subkey(arena: &Arena, node: Node, index: u32) -> Option<Node>
     requires here { IsHere arena.now.bytes node.offset }
     requires depth { node.depth ≤ PATH_LIMIT }
     ensures { (t : IsHere arena.now.bytes node.offset) →
-        IsSubkey (cell_at arena.now.bytes) t.root t.path
+        IsSubkey (heap_of arena.now) t.root t.path
         (children_of (tree_in arena.now.bytes t.root) t.path) node index result }
 {
     let list = subkeys_list(arena, node.offset);

@@ -1,7 +1,7 @@
 //! The ring of key securities, in which each names the next and the one before. All keys share one so far: it is its own
 //! neighbour on both sides, and counts the key nodes that name it, each once.
 ghost use Rattle.std.specs.Prelude.{◌≡◌, ◌≤◌, ◌<◌, ◌+◌, ◌-◌, IsSome, Some, length};
-ghost use Rattle.reg_arena.specs.Cells.{cell_at};
+ghost use Rattle.reg_arena.specs.Arena.{heap_of};
 ghost use Rattle.reg_records.specs.KeySecurities.{KeySecurityRecord, security_at};
 ghost use Rattle.reg_tree.specs.Internal.KeyNodeChanges.{Recounts};
 
@@ -21,8 +21,8 @@ pub fn new_ring(security: u32) -> SecurityFields
 
 /// How many keys use a key security.
 fn count(arena: &Arena, security: u32) -> u32
-    requires { IsSome (security_at (cell_at arena.now.bytes) security) }
-    ensures { (s : KeySecurityRecord) → security_at (cell_at arena.now.bytes) security ≡ Some s → result ≡ s.fields.count }
+    requires { IsSome (security_at (heap_of arena.now) security) }
+    ensures { (s : KeySecurityRecord) → security_at (heap_of arena.now) security ≡ Some s → result ≡ s.fields.count }
 {
     match read_sk(arena.content(security)) {
         Ok(read) => read.fields.count,
@@ -33,9 +33,9 @@ fn count(arena: &Arena, security: u32) -> u32
 /// How many keys use a key security, with one key more. The sum stays within four bytes, since there are fewer keys than bytes
 /// of bins.
 pub fn with_one_more(arena: &Arena, security: u32) -> u32
-    requires there { IsSome (security_at (cell_at arena.now.bytes) security) }
-    requires few { (s : KeySecurityRecord) → security_at (cell_at arena.now.bytes) security ≡ Some s → s.fields.count < length arena.now.bytes }
-    ensures { (s : KeySecurityRecord) → security_at (cell_at arena.now.bytes) security ≡ Some s → result ≡ s.fields.count + 1 }
+    requires there { IsSome (security_at (heap_of arena.now) security) }
+    requires few { (s : KeySecurityRecord) → security_at (heap_of arena.now) security ≡ Some s → s.fields.count < length arena.now.bytes }
+    ensures { (s : KeySecurityRecord) → security_at (heap_of arena.now) security ≡ Some s → result ≡ s.fields.count + 1 }
 {
     let count = count(arena, security);
     prove!(count < arena.bins_size());
@@ -44,17 +44,17 @@ pub fn with_one_more(arena: &Arena, security: u32) -> u32
 
 /// Writes how many keys use a key security.
 pub fn recount(arena: &mut Arena, security: u32, count: u32)
-    requires { IsSome (security_at (cell_at arena.old.bytes) security) }
-    ensures { Recounts (cell_at arena.old.bytes) (cell_at arena.new.bytes) security (λ n. count) }
+    requires { IsSome (security_at (heap_of arena.old) security) }
+    ensures { Recounts (heap_of arena.old) (heap_of arena.new) security (λ n. count) }
 {
     set_security_count(arena, security, count);
 }
 
 /// Counts one key less that uses a key security.
 pub fn release(arena: &mut Arena, security: u32)
-    requires there { IsSome (security_at (cell_at arena.old.bytes) security) }
-    requires some { (s : KeySecurityRecord) → security_at (cell_at arena.old.bytes) security ≡ Some s → 1 ≤ s.fields.count }
-    ensures { Recounts (cell_at arena.old.bytes) (cell_at arena.new.bytes) security (λ n. n - 1) }
+    requires there { IsSome (security_at (heap_of arena.old) security) }
+    requires some { (s : KeySecurityRecord) → security_at (heap_of arena.old) security ≡ Some s → 1 ≤ s.fields.count }
+    ensures { Recounts (heap_of arena.old) (heap_of arena.new) security (λ n. n - 1) }
 {
     let count = count(arena, security);
     set_security_count(arena, security, count - 1);

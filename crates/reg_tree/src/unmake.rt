@@ -7,7 +7,7 @@ ghost use Rattle.reg_heap.specs.Paths.{children_of};
 ghost use Rattle.reg_heap.specs.Edits.{IsKept};
 ghost use Rattle.reg_heap.specs.Heaps.{CellFrame};
 ghost use Rattle.reg_heap.specs.Kinds.{owned};
-ghost use Rattle.reg_arena.specs.Cells.{cell_at};
+ghost use Rattle.reg_arena.specs.Arena.{heap_of};
 ghost use Rattle.reg_records.specs.KeyNodes.{KeyRecord, key_at};
 ghost use Rattle.reg_records.specs.SubkeyLists.{Entry};
 ghost use Rattle.reg_shape.specs.Nodes.{Node as KeyWithCells, look};
@@ -30,8 +30,8 @@ const HIVE_ENTRY: u16 = 0x04;
 
 /// The name of a key, as its key node has it.
 fn name_of(arena: &Arena, key: u32) -> &[u8]
-    requires { IsSome (key_at (cell_at arena.now.bytes) key) }
-    ensures { (record_is : KeyRecord) → key_at (cell_at arena.now.bytes) key ≡ Some record_is → result.now ≡ record_is.name }
+    requires { IsSome (key_at (heap_of arena.now) key) }
+    ensures { (record_is : KeyRecord) → key_at (heap_of arena.now) key ≡ Some record_is → result.now ≡ record_is.name }
 {
     match read_nk(arena.content(key)) {
         Ok(node) => node.name,
@@ -41,10 +41,10 @@ fn name_of(arena: &Arena, key: u32) -> &[u8]
 
 /// Takes a key out of its parent's subkeys, and notes that with the time.
 fn unlink(arena: &mut Arena, parent: u32, key: u32, moment: u64)
-    requires { (above : KeyRecord) × (entries : List Entry) × (index : ℕ) × IsListed (cell_at arena.old.bytes) parent key above entries index }
+    requires { (above : KeyRecord) × (entries : List Entry) × (index : ℕ) × IsListed (heap_of arena.old) parent key above entries index }
     ensures { (above : KeyRecord) → (entries : List Entry) → (index : ℕ) →
-        IsListed (cell_at arena.old.bytes) parent key above entries index →
-        IsUnlinked (cell_at arena.old.bytes) (cell_at arena.new.bytes) parent above entries index moment }
+        IsListed (heap_of arena.old) parent key above entries index →
+        IsUnlinked (heap_of arena.old) (heap_of arena.new) parent above entries index moment }
 {
     let list = subkeys_list(arena, parent);
     let Ok(index) = find(arena, list, name_of(arena, key)) else {
@@ -56,8 +56,8 @@ fn unlink(arena: &mut Arena, parent: u32, key: u32, moment: u64)
 
 /// Frees a key's class, where it has one.
 fn free_class(arena: &mut Arena, fields: KeyFields)
-    requires { Owns (class_at fields) (cell_at arena.old.bytes) }
-    ensures { GivesUpRead (class_at fields) (cell_at arena.old.bytes) (cell_at arena.new.bytes) }
+    requires { Owns (class_at fields) (heap_of arena.old) }
+    ensures { GivesUpRead (class_at fields) (heap_of arena.old) (heap_of arena.new) }
 {
     if fields.class_length == 0 {
         return;
@@ -67,9 +67,9 @@ fn free_class(arena: &mut Arena, fields: KeyFields)
 
 /// Frees a key's values, its class and its key node.
 fn free_key(arena: &mut Arena, key: u32)
-    requires { IsSole (cell_at arena.old.bytes) key }
-    ensures { (node : KeyWithCells) → look (cell_at arena.old.bytes) key ≡ Some node →
-        CellFrame (cell_at arena.old.bytes) (cell_at arena.new.bytes) (λ offset. owned offset node.cells) (λ offset. 0) }
+    requires { IsSole (heap_of arena.old) key }
+    ensures { (node : KeyWithCells) → look (heap_of arena.old) key ≡ Some node →
+        CellFrame (heap_of arena.old) (heap_of arena.new) (λ offset. owned offset node.cells) (λ offset. 0) }
 {
     let head = fields(arena, key);
     let values = values_list(arena, key);

@@ -7,7 +7,7 @@ ghost use Rattle.reg_heap.specs.declared.limits.TheConstants.{BINS_LIMIT, DATA_L
 ghost use Rattle.reg_heap.specs.Paths.{Member};
 ghost use Rattle.reg_heap.specs.Members.{value_named};
 ghost use Rattle.reg_heap.specs.Edits.{with_value, without_value, values_at};
-ghost use Rattle.reg_arena.specs.Cells.{cell_at};
+ghost use Rattle.reg_arena.specs.Arena.{heap_of};
 ghost use Rattle.reg_values.specs.ValueLists.{IsNamed, Tells};
 ghost use Rattle.reg_tree.specs.TreeKeys.{tree_in};
 ghost use Rattle.reg_tree.specs.Internal.TreeInvariant.{IsHere, IsChanged};
@@ -78,11 +78,11 @@ pub fn at(arena: &Arena, key: u32, index: u32) -> Option<Value<'_>>
 /// Whether there are as many values as there may be, and none of that name.
 fn is_full(arena: &Arena, key: u32, list: ValuesList, name: &[u8]) -> bool
     requires here { IsHere arena.now.bytes key }
-    requires list { HasList (cell_at arena.now.bytes) key list.count list.offset }
+    requires list { HasList (heap_of arena.now) key list.count list.offset }
     ensures full { (t : IsHere arena.now.bytes key) → result ≡ true →
         (VALUES_LIMIT ≤ length (values_at (tree_in arena.now.bytes t.root) t.path))
         × (value_named name.now (values_at (tree_in arena.now.bytes t.root) t.path) ≡ None) }
-    ensures room { result ≡ false → (list.count < VALUES_LIMIT) ⊎ IsNamed (cell_at arena.now.bytes) list.count list.offset name.now }
+    ensures room { result ≡ false → (list.count < VALUES_LIMIT) ⊎ IsNamed (heap_of arena.now) list.count list.offset name.now }
 {
     if list.count < VALUES_LIMIT {
         return false;

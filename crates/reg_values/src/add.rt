@@ -8,7 +8,7 @@ ghost use Rattle.reg_heap.specs.Paths.{Member};
 ghost use Rattle.reg_heap.specs.Heaps.{AreNew};
 ghost use Rattle.reg_heap.specs.Kinds.{Found, times, owned};
 ghost use Rattle.reg_heap.specs.Members.{index_named};
-ghost use Rattle.reg_arena.specs.Cells.{cell_at};
+ghost use Rattle.reg_arena.specs.Arena.{heap_of};
 ghost use Rattle.reg_arena.specs.NewCells.{total_of, AreSizes};
 ghost use Rattle.reg_arena.specs.Carves.{NoFit};
 ghost use Rattle.reg_arena.specs.NewBin.{PassesLimit};
@@ -30,7 +30,7 @@ use std::alloc::Global;
 pub(crate) fn carve(arena: &mut Arena, alloc: Global, sizes: &[u32]) -> Result<Vec<u32>, ArenaFault>
     requires sizes { AreSizes sizes.now }
     requires total { total_of sizes.now ≤ 1306592 }
-    ensures ok { IfOk result (λ cells. AreNew (cell_at arena.old.bytes) (cell_at arena.new.bytes) cells.items sizes.now) }
+    ensures ok { IfOk result (λ cells. AreNew (heap_of arena.old) (heap_of arena.new) cells.items sizes.now) }
     ensures err { OnErr result (arena.new ≡ arena.old) }
     ensures full { result ≡ Err ArenaFault.Full → NoFit arena.old.bytes (total_of sizes.now) }
     ensures limit { result ≡ Err ArenaFault.Full → PassesLimit arena.old.bytes (total_of sizes.now) }
@@ -51,9 +51,9 @@ fn flags_of(name: &[u8]) -> u16
 fn put_value(arena: &mut Arena, cell: u32, cells: &[u32], name: &[u8], kind: u32, bytes: &[u8])
     requires name { length name.now ≤ VALUE_NAME_LIMIT }
     requires small { length bytes.now ≤ DATA_LIMIT }
-    requires cells { HaveRoom (cell_at arena.old.bytes) (cell ∷ cells.now) (cell_size (20 + length name.now) ∷ data_sizes (length bytes.now)) }
-    ensures fills { Fills (cell_at arena.old.bytes) (cell_at arena.new.bytes) (cell ∷ cells.now) }
-    ensures holds { HoldsValue (cell_at arena.new.bytes) cell (record { name = name.now; kind = kind; bytes = bytes.now }) (cell ∷ cells.now) }
+    requires cells { HaveRoom (heap_of arena.old) (cell ∷ cells.now) (cell_size (20 + length name.now) ∷ data_sizes (length bytes.now)) }
+    ensures fills { Fills (heap_of arena.old) (heap_of arena.new) (cell ∷ cells.now) }
+    ensures holds { HoldsValue (heap_of arena.new) cell (record { name = name.now; kind = kind; bytes = bytes.now }) (cell ∷ cells.now) }
 {
     let data = put_data(arena, cells, bytes);
     let fields = ValueFields {
@@ -68,13 +68,13 @@ fn put_value(arena: &mut Arena, cell: u32, cells: &[u32], name: &[u8], kind: u32
 /// Puts an offset behind those of a list, whose cell has room for it.
 fn grow(arena: &mut Arena, list: ValuesList, cell: u32)
     requires few { list.count < VALUES_LIMIT }
-    requires owns { Owns (list_at list.count list.offset) (cell_at arena.old.bytes) }
-    requires room { HasRoom (cell_at arena.old.bytes) list.offset (4 * list.count + 4) }
+    requires owns { Owns (list_at list.count list.offset) (heap_of arena.old) }
+    requires room { HasRoom (heap_of arena.old) list.offset (4 * list.count + 4) }
     requires some { 0 < list.count }
-    ensures list { OfRead (list_at list.count list.offset) (cell_at arena.old.bytes)
-        (λ row met. BecameList (cell_at arena.old.bytes) (cell_at arena.new.bytes) (λ offset. owned offset met)
+    ensures list { OfRead (list_at list.count list.offset) (heap_of arena.old)
+        (λ row met. BecameList (heap_of arena.old) (heap_of arena.new) (λ offset. owned offset met)
         (list.count + 1) list.offset (row ++ cell ∷ [])) }
-    ensures sizes { KeepsSizes (cell_at arena.old.bytes) (cell_at arena.new.bytes) }
+    ensures sizes { KeepsSizes (heap_of arena.old) (heap_of arena.new) }
 {
     put_offset(arena, list.offset, list.count, cell);
 }
@@ -82,12 +82,12 @@ fn grow(arena: &mut Arena, list: ValuesList, cell: u32)
 /// Puts an offset behind those of a list in a new cell, and frees the list's own.
 fn move_list(arena: &mut Arena, list: ValuesList, fresh: u32, cell: u32)
     requires few { list.count < VALUES_LIMIT }
-    requires owns { OwnsBeside (list_at list.count list.offset) (cell_at arena.old.bytes) (fresh ∷ []) }
-    requires room { HasRoom (cell_at arena.old.bytes) fresh (4 * list.count + 4) }
-    ensures list { OfRead (list_at list.count list.offset) (cell_at arena.old.bytes)
-        (λ row met. BecameList (cell_at arena.old.bytes) (cell_at arena.new.bytes)
+    requires owns { OwnsBeside (list_at list.count list.offset) (heap_of arena.old) (fresh ∷ []) }
+    requires room { HasRoom (heap_of arena.old) fresh (4 * list.count + 4) }
+    ensures list { OfRead (list_at list.count list.offset) (heap_of arena.old)
+        (λ row met. BecameList (heap_of arena.old) (heap_of arena.new)
         (λ offset. owned offset met + times offset (fresh ∷ [])) (list.count + 1) fresh (row ++ cell ∷ [])) }
-    ensures sizes { KeepsSizes (cell_at arena.old.bytes) (cell_at arena.new.bytes) }
+    ensures sizes { KeepsSizes (heap_of arena.old) (heap_of arena.new) }
 {
     if list.count == 0 {
         put_offset(arena, fresh, 0, cell);
@@ -107,23 +107,23 @@ pub(crate) fn add(
     kind: u32,
     bytes: &[u8],
 ) -> Result<ValuesList, ArenaFault>
-    requires values { AreValues (cell_at arena.old.bytes) list.count list.offset }
+    requires values { AreValues (heap_of arena.old) list.count list.offset }
     requires name { is_value_name name.now ≡ true }
     requires bytes { length bytes.now ≤ DATA_LIMIT }
     requires few { list.count < VALUES_LIMIT }
-    requires new { OfRead (members_at list.count list.offset) (cell_at arena.old.bytes) (λ members met. None ≡ index_named name.now members) }
-    ensures ok { IfOk result (λ after. OfRead (members_at list.count list.offset) (cell_at arena.old.bytes)
-        (λ members met. Became (cell_at arena.old.bytes) (cell_at arena.new.bytes) met after.count after.offset
+    requires new { OfRead (members_at list.count list.offset) (heap_of arena.old) (λ members met. None ≡ index_named name.now members) }
+    ensures ok { IfOk result (λ after. OfRead (members_at list.count list.offset) (heap_of arena.old)
+        (λ members met. Became (heap_of arena.old) (heap_of arena.new) met after.count after.offset
         (members ++ record { name = name.now; kind = kind; bytes = bytes.now } ∷ []))) }
-    ensures cells { OnOk result (Makes (cell_at arena.old.bytes) (cell_at arena.new.bytes)
-        (sizes_by (cell_at arena.old.bytes) list.count list.offset (length name.now) (length bytes.now) None)) }
+    ensures cells { OnOk result (Makes (heap_of arena.old) (heap_of arena.new)
+        (sizes_by (heap_of arena.old) list.count list.offset (length name.now) (length bytes.now) None)) }
     ensures err { OnErr result (arena.new ≡ arena.old) }
     ensures full { result ≡ Err ArenaFault.Full →
-        NoFit arena.old.bytes (total_of (sizes_by (cell_at arena.old.bytes) list.count list.offset (length name.now)
+        NoFit arena.old.bytes (total_of (sizes_by (heap_of arena.old) list.count list.offset (length name.now)
         (length bytes.now) None)) }
     ensures limit { result ≡ Err ArenaFault.Full →
         PassesLimit arena.old.bytes
-        (total_of (sizes_by (cell_at arena.old.bytes) list.count list.offset (length name.now) (length bytes.now) None)) }
+        (total_of (sizes_by (heap_of arena.old) list.count list.offset (length name.now) (length bytes.now) None)) }
 {
     let Ok(sizes) = plan_add(arena, alloc, list, name.len(), bytes.len()) else {
         return Err(ArenaFault::Memory);

@@ -6,7 +6,7 @@ ghost use Rattle.std.specs.Prelude.{◌≡◌, ◌<◌, ◌≤◌, ◌*◌, ◌+
 ghost use Rattle.reg_heap.specs.declared.limits.TheConstants.{DATA_LIMIT};
 ghost use Rattle.reg_heap.specs.Heaps.{GivesUp, allocated};
 ghost use Rattle.reg_heap.specs.Kinds.{Found, times};
-ghost use Rattle.reg_arena.specs.Cells.{cell_at};
+ghost use Rattle.reg_arena.specs.Arena.{heap_of};
 ghost use Rattle.reg_records.specs.RecordCells.{HasRoom, held};
 ghost use Rattle.reg_records.specs.OffsetRows.{offsets_at};
 ghost use Rattle.reg_records.specs.BigData.{segments_for as segments_for_of, segments as segments_of, db_of};
@@ -29,9 +29,9 @@ pub(crate) fn segments_for(size: usize) -> usize
 
 /// The big data record in a cell.
 fn big_at(arena: &Arena, cell: u32) -> BigFields
-    requires exists { IsSome (cell_at arena.now.bytes cell) }
-    requires big { IsSome (db_of (held (cell_at arena.now.bytes) cell)) }
-    ensures { db_of (held (cell_at arena.now.bytes) cell) ≡ Some (record { count = result.count; list = result.list }) }
+    requires exists { IsSome (heap_of arena.now cell) }
+    requires big { IsSome (db_of (held (heap_of arena.now) cell)) }
+    ensures { db_of (held (heap_of arena.now) cell) ≡ Some (record { count = result.count; list = result.list }) }
 {
     match read_db(arena.content(cell)) {
         Ok(big) => big,
@@ -47,8 +47,8 @@ pub(crate) fn big_bytes(
     cell: u32,
 ) -> Result<Vec<u8>, AllocError>
     requires size { size < 4294967296 }
-    requires big { IsSome (big_data_at size cell (cell_at arena.now.bytes)) }
-    ensures { IfOk result (λ bytes. OfRead (big_data_at size cell) (cell_at arena.now.bytes) (λ all met. bytes.items ≡ all)) }
+    requires big { IsSome (big_data_at size cell (heap_of arena.now)) }
+    ensures { IfOk result (λ bytes. OfRead (big_data_at size cell) (heap_of arena.now) (λ all met. bytes.items ≡ all)) }
 {
     let list = big_at(arena, cell).list;
     joined(arena, alloc, size, list)
@@ -57,10 +57,10 @@ pub(crate) fn big_bytes(
 /// A copy of the bytes of the segments that a list names.
 fn joined(arena: &Arena, alloc: Global, size: usize, list: u32) -> Result<Vec<u8>, AllocError>
     requires size { size < 4294967296 }
-    requires exists { IsSome (cell_at arena.now.bytes list) }
-    requires long { 4 * segments_for_of size ≤ length (held (cell_at arena.now.bytes) list) }
-    requires pieces { IsSome (segments_at size (held (cell_at arena.now.bytes) list) (cell_at arena.now.bytes)) }
-    ensures { IfOk result (λ bytes. OfRead (segments_at size (held (cell_at arena.now.bytes) list)) (cell_at arena.now.bytes) (λ all met. bytes.items ≡ all)) }
+    requires exists { IsSome (heap_of arena.now list) }
+    requires long { 4 * segments_for_of size ≤ length (held (heap_of arena.now) list) }
+    requires pieces { IsSome (segments_at size (held (heap_of arena.now) list) (heap_of arena.now)) }
+    ensures { IfOk result (λ bytes. OfRead (segments_at size (held (heap_of arena.now) list)) (heap_of arena.now) (λ all met. bytes.items ≡ all)) }
 {
     let mut bytes = Vec::with_capacity(alloc, size)?;
     for index in 0..segments_for(size) {
@@ -84,9 +84,9 @@ fn piece(bytes: &[u8], index: usize) -> &[u8]
 /// Writes the offsets of segments into their list.
 fn put_row(arena: &mut Arena, list: u32, segments: &[u32])
     requires few { length segments.now < 1073741824 }
-    requires room { HasRoom (cell_at arena.old.bytes) list (4 * length segments.now) }
-    ensures fills { Fills (cell_at arena.old.bytes) (cell_at arena.new.bytes) (list ∷ []) }
-    ensures row { offsets_at (length segments.now) 0 (held (cell_at arena.new.bytes) list) ≡ segments.now }
+    requires room { HasRoom (heap_of arena.old) list (4 * length segments.now) }
+    ensures fills { Fills (heap_of arena.old) (heap_of arena.new) (list ∷ []) }
+    ensures row { offsets_at (length segments.now) 0 (held (heap_of arena.new) list) ≡ segments.now }
 {
     for index in 0..segments.len() {
         put_offset(arena, list, index as u32, segments[index]);
@@ -100,10 +100,10 @@ fn put_pieces(arena: &mut Arena, segments: &[u32], bytes: &[u8])
     requires none_over { SEGMENT_SIZE * length segments.now < length bytes.now + SEGMENT_SIZE }
     requires once { (offset : ℕ) → times offset segments.now ≤ 1 }
     requires room { (index : ℕ) → index < length segments.now →
-        HasRoom (cell_at arena.old.bytes) (get_or segments.now index 0)
+        HasRoom (heap_of arena.old) (get_or segments.now index 0)
         (length (take SEGMENT_SIZE (drop (SEGMENT_SIZE * index) bytes.now))) }
-    ensures fills { Fills (cell_at arena.old.bytes) (cell_at arena.new.bytes) segments.now }
-    ensures reads { (met : List Found) × (pieces_at (segments_of (length bytes.now) segments.now) (cell_at arena.new.bytes) ≡ Some (bytes.now, met)) }
+    ensures fills { Fills (heap_of arena.old) (heap_of arena.new) segments.now }
+    ensures reads { (met : List Found) × (pieces_at (segments_of (length bytes.now) segments.now) (heap_of arena.new) ≡ Some (bytes.now, met)) }
 {
     for index in 0..segments.len() {
         arena.write(segments[index], 0, piece(bytes, index));
@@ -115,13 +115,13 @@ pub(crate) fn put_big(arena: &mut Arena, head: u32, list: u32, segments: &[u32],
     requires size { (SEGMENT_SIZE < length bytes.now) × (length bytes.now ≤ DATA_LIMIT) }
     requires count { length segments.now ≡ segments_for_of (length bytes.now) }
     requires once { (offset : ℕ) → times offset (head ∷ list ∷ segments.now) ≤ 1 }
-    requires head { HasRoom (cell_at arena.old.bytes) head 8 }
-    requires list { HasRoom (cell_at arena.old.bytes) list (4 * length segments.now) }
+    requires head { HasRoom (heap_of arena.old) head 8 }
+    requires list { HasRoom (heap_of arena.old) list (4 * length segments.now) }
     requires room { (index : ℕ) → index < length segments.now →
-        HasRoom (cell_at arena.old.bytes) (get_or segments.now index 0)
+        HasRoom (heap_of arena.old) (get_or segments.now index 0)
         (length (take SEGMENT_SIZE (drop (SEGMENT_SIZE * index) bytes.now))) }
-    ensures fills { Fills (cell_at arena.old.bytes) (cell_at arena.new.bytes) (head ∷ list ∷ segments.now) }
-    ensures holds { HoldsData (cell_at arena.new.bytes) (length bytes.now) head bytes.now (head ∷ list ∷ segments.now) }
+    ensures fills { Fills (heap_of arena.old) (heap_of arena.new) (head ∷ list ∷ segments.now) }
+    ensures holds { HoldsData (heap_of arena.new) (length bytes.now) head bytes.now (head ∷ list ∷ segments.now) }
 {
     let fields = BigFields {
         count: segments.len() as u16,
@@ -135,11 +135,11 @@ pub(crate) fn put_big(arena: &mut Arena, head: u32, list: u32, segments: &[u32],
 /// Frees the segments that a list names.
 fn free_segments(arena: &mut Arena, list: u32, count: usize)
     requires few { count < 1073741824 }
-    requires exists { IsSome (cell_at arena.old.bytes list) }
-    requires long { 4 * count ≤ length (held (cell_at arena.old.bytes) list) }
-    requires once { (offset : ℕ) → times offset (offsets_at count 0 (held (cell_at arena.old.bytes) list)) + times offset
-        (list ∷ []) ≤ allocated (cell_at arena.old.bytes) offset }
-    ensures { GivesUp (cell_at arena.old.bytes) (cell_at arena.new.bytes) (offsets_at count 0 (held (cell_at arena.old.bytes) list)) }
+    requires exists { IsSome (heap_of arena.old list) }
+    requires long { 4 * count ≤ length (held (heap_of arena.old) list) }
+    requires once { (offset : ℕ) → times offset (offsets_at count 0 (held (heap_of arena.old) list)) + times offset
+        (list ∷ []) ≤ allocated (heap_of arena.old) offset }
+    ensures { GivesUp (heap_of arena.old) (heap_of arena.new) (offsets_at count 0 (held (heap_of arena.old) list)) }
 {
     for index in 0..count {
         let segment = offset_at(arena.content(list), index as u32);
@@ -150,8 +150,8 @@ fn free_segments(arena: &mut Arena, list: u32, count: usize)
 /// Frees a big data record, its list and its segments.
 pub(crate) fn free_big(arena: &mut Arena, size: usize, cell: u32)
     requires size { size < 4294967296 }
-    requires big { Owns (big_data_at size cell) (cell_at arena.old.bytes) }
-    ensures { GivesUpRead (big_data_at size cell) (cell_at arena.old.bytes) (cell_at arena.new.bytes) }
+    requires big { Owns (big_data_at size cell) (heap_of arena.old) }
+    ensures { GivesUpRead (big_data_at size cell) (heap_of arena.old) (heap_of arena.new) }
 {
     let list = big_at(arena, cell).list;
     free_segments(arena, list, segments_for(size));

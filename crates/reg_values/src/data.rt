@@ -7,7 +7,7 @@ ghost use Rattle.byteorder.specs.Endian.{little_bytes};
 ghost use Rattle.reg_heap.specs.declared.limits.TheConstants.{DATA_LIMIT};
 ghost use Rattle.reg_heap.specs.Paths.{Member};
 ghost use Rattle.reg_heap.specs.Kinds.{Found};
-ghost use Rattle.reg_arena.specs.Cells.{cell_at};
+ghost use Rattle.reg_arena.specs.Arena.{heap_of};
 ghost use Rattle.reg_shape.specs.Nodes.{members_at, data_at};
 ghost use Rattle.reg_values.specs.ValueLists.{AreValues, OfRead};
 ghost use Rattle.reg_values.specs.Internal.ValueListParts.{Owns, GivesUpRead, Fills, HaveRoom, HoldsData};
@@ -36,9 +36,9 @@ pub fn bytes_of(
     list: ValuesList,
     index: u32,
 ) -> Result<Vec<u8>, AllocError>
-    requires values { AreValues (cell_at arena.now.bytes) list.count list.offset }
+    requires values { AreValues (heap_of arena.now) list.count list.offset }
     requires index { index < list.count }
-    ensures { IfOk result (λ bytes. OfRead (members_at list.count list.offset) (cell_at arena.now.bytes)
+    ensures { IfOk result (λ bytes. OfRead (members_at list.count list.offset) (heap_of arena.now)
         (λ members met. (member : Member) × (slice_get members index ≡ Some member) × (bytes.items ≡ member.bytes))) }
 {
     let fields = record_at(arena, cell_of(arena, list, index)).fields;
@@ -47,8 +47,8 @@ pub fn bytes_of(
 
 /// A copy of the data that a record tells of.
 fn data_bytes(arena: &Arena, alloc: Global, fields: ValueFields) -> Result<Vec<u8>, AllocError>
-    requires { IsSome (data_at fields (cell_at arena.now.bytes)) }
-    ensures { IfOk result (λ bytes. (all : List ℕ) → (met : List Found) → data_at fields (cell_at arena.now.bytes) ≡ Some (all, met) → bytes.items ≡ all) }
+    requires { IsSome (data_at fields (heap_of arena.now)) }
+    ensures { IfOk result (λ bytes. (all : List ℕ) → (met : List Found) → data_at fields (heap_of arena.now) ≡ Some (all, met) → bytes.items ≡ all) }
 {
     if fields.size >= INLINE {
         let bytes = fields.offset.to_le_bytes();
@@ -85,9 +85,9 @@ fn packed(bytes: &[u8]) -> u32
 /// Writes a value's data into new cells of its sizes.
 pub(crate) fn put_data(arena: &mut Arena, cells: &[u32], bytes: &[u8]) -> DataFields
     requires small { length bytes.now ≤ DATA_LIMIT }
-    requires cells { HaveRoom (cell_at arena.old.bytes) cells.now (data_sizes (length bytes.now)) }
-    ensures fills { Fills (cell_at arena.old.bytes) (cell_at arena.new.bytes) cells.now }
-    ensures holds { HoldsData (cell_at arena.new.bytes) result.size result.offset bytes.now cells.now }
+    requires cells { HaveRoom (heap_of arena.old) cells.now (data_sizes (length bytes.now)) }
+    ensures fills { Fills (heap_of arena.old) (heap_of arena.new) cells.now }
+    ensures holds { HoldsData (heap_of arena.new) result.size result.offset bytes.now cells.now }
 {
     let size = bytes.len() as u32;
     if bytes.len() <= INLINE_LIMIT {
@@ -107,8 +107,8 @@ pub(crate) fn put_data(arena: &mut Arena, cells: &[u32], bytes: &[u8]) -> DataFi
 
 /// Frees the cells of a value's data.
 pub(crate) fn free_data(arena: &mut Arena, fields: ValueFields)
-    requires { Owns (data_at fields) (cell_at arena.old.bytes) }
-    ensures { GivesUpRead (data_at fields) (cell_at arena.old.bytes) (cell_at arena.new.bytes) }
+    requires { Owns (data_at fields) (heap_of arena.old) }
+    ensures { GivesUpRead (data_at fields) (heap_of arena.old) (heap_of arena.new) }
 {
     if fields.size >= INLINE || fields.size == 0 {
         return;

@@ -6,7 +6,7 @@ ghost use Rattle.std.specs.Prelude.{◌≡◌, ◌<◌, ◌+◌, ◌*◌, ◌≤
 ghost use Rattle.reg_heap.specs.Paths.{Member};
 ghost use Rattle.reg_heap.specs.Kinds.{Found};
 ghost use Rattle.reg_heap.specs.Members.{index_named};
-ghost use Rattle.reg_arena.specs.Cells.{cell_at};
+ghost use Rattle.reg_arena.specs.Arena.{heap_of};
 ghost use Rattle.reg_records.specs.RecordCells.{held};
 ghost use Rattle.reg_records.specs.OffsetRows.{offset_in};
 ghost use Rattle.reg_records.specs.KeyValues.{value_record_at};
@@ -32,8 +32,8 @@ pub struct Value<'a> {
 
 /// The value's record in a cell.
 pub(crate) fn record_at(arena: &Arena, cell: u32) -> ValueRecord<'_>
-    requires { IsSome (value_record_at (cell_at arena.now.bytes) cell) }
-    ensures { value_record_at (cell_at arena.now.bytes) cell ≡ Some (record { fields = result.fields; name = result.name.now }) }
+    requires { IsSome (value_record_at (heap_of arena.now) cell) }
+    ensures { value_record_at (heap_of arena.now) cell ≡ Some (record { fields = result.fields; name = result.name.now }) }
 {
     match read_vk(arena.content(cell)) {
         Ok(record) => record,
@@ -43,17 +43,17 @@ pub(crate) fn record_at(arena: &Arena, cell: u32) -> ValueRecord<'_>
 
 /// The offset of the value's record at an index of a list, counted from 0.
 pub(crate) fn cell_of(arena: &Arena, list: ValuesList, index: u32) -> u32
-    requires list { IsSome (cell_at arena.now.bytes list.offset) }
-    requires index { 4 * index + 4 ≤ length (held (cell_at arena.now.bytes) list.offset) }
-    ensures { result ≡ offset_in (held (cell_at arena.now.bytes) list.offset) index }
+    requires list { IsSome (heap_of arena.now list.offset) }
+    requires index { 4 * index + 4 ≤ length (held (heap_of arena.now) list.offset) }
+    ensures { result ≡ offset_in (held (heap_of arena.now) list.offset) index }
 {
     offset_at(arena.content(list.offset), index)
 }
 
 /// The index of the first value of that name, after folding, counted from 0; `None` where there is none.
 pub fn find(arena: &Arena, list: ValuesList, name: &[u8]) -> Option<u32>
-    requires { AreValues (cell_at arena.now.bytes) list.count list.offset }
-    ensures { OfRead (members_at list.count list.offset) (cell_at arena.now.bytes) (λ members met. result ≡ index_named name.now members) }
+    requires { AreValues (heap_of arena.now) list.count list.offset }
+    ensures { OfRead (members_at list.count list.offset) (heap_of arena.now) (λ members met. result ≡ index_named name.now members) }
 {
     for index in 0..list.count {
         let record = record_at(arena, cell_of(arena, list, index));
@@ -73,9 +73,9 @@ fn size_in(size: u32) -> u32
 
 /// The value at an index of the list, counted from 0.
 pub fn at(arena: &Arena, list: ValuesList, index: u32) -> Value<'_>
-    requires values { AreValues (cell_at arena.now.bytes) list.count list.offset }
+    requires values { AreValues (heap_of arena.now) list.count list.offset }
     requires index { index < list.count }
-    ensures { OfRead (members_at list.count list.offset) (cell_at arena.now.bytes) (λ members met. (member : Member)
+    ensures { OfRead (members_at list.count list.offset) (heap_of arena.now) (λ members met. (member : Member)
         × (slice_get members index ≡ Some member) × Tells member result.name.now result.kind result.size) }
 {
     let record = record_at(arena, cell_of(arena, list, index));

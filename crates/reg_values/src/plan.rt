@@ -6,7 +6,7 @@ ghost use Rattle.std.specs.Prelude.{◌≡◌, true, ◌≤◌, ◌<◌, ◌+◌
 ghost use Rattle.reg_names.specs.declared.TheConstants.{VALUE_NAME_LIMIT};
 ghost use Rattle.reg_names.specs.Names.{is_value_name};
 ghost use Rattle.reg_heap.specs.declared.limits.TheConstants.{DATA_LIMIT, VALUES_LIMIT};
-ghost use Rattle.reg_arena.specs.Cells.{cell_at};
+ghost use Rattle.reg_arena.specs.Arena.{heap_of};
 ghost use Rattle.reg_values.specs.ValueLists.{AreValues};
 ghost use Rattle.reg_values.specs.ValueSizes.{data_sizes, segment_sizes, list_sizes, has_room as has_room_of};
 ghost use Rattle.reg_values.specs.ValueSizes.{stays as stays_of, sizes_by, set_sizes};
@@ -58,8 +58,8 @@ fn plan_segments(sizes: &mut Vec<u32>, count: usize, size: usize) -> Result<(), 
 /// Whether the list's cell has room for one value more.
 pub(crate) fn has_room(arena: &Arena, list: ValuesList) -> bool
     requires few { list.count ≤ VALUES_LIMIT }
-    requires list { 0 < list.count → IsSome (cell_at arena.now.bytes list.offset) }
-    ensures { result ≡ has_room_of (cell_at arena.now.bytes) list.count list.offset }
+    requires list { 0 < list.count → IsSome (heap_of arena.now list.offset) }
+    ensures { result ≡ has_room_of (heap_of arena.now) list.count list.offset }
 {
     list.count != 0 && 4 * list.count as usize + 4 <= arena.content(list.offset).len()
 }
@@ -67,8 +67,8 @@ pub(crate) fn has_room(arena: &Arena, list: ValuesList) -> bool
 /// Whether new data stays in the old data's one cell, which has the size that it needs.
 #[tactic(auto, unfolding(crate::specs::ValueSizes::stays, reg_records::specs::BigData::segment_size))]
 pub(crate) fn stays(arena: &Arena, old: ValueFields, size: usize) -> bool
-    requires { old.size ≤ SEGMENT_SIZE → IsSome (cell_at arena.now.bytes old.offset) }
-    ensures { result ≡ stays_of (cell_at arena.now.bytes) old size }
+    requires { old.size ≤ SEGMENT_SIZE → IsSome (heap_of arena.now old.offset) }
+    ensures { result ≡ stays_of (heap_of arena.now) old size }
 {
     size > INLINE_LIMIT
         && size <= SEGMENT_SIZE
@@ -80,8 +80,8 @@ pub(crate) fn stays(arena: &Arena, old: ValueFields, size: usize) -> bool
 #[tactic(auto, unfolding(crate::specs::ValueSizes::list_sizes))]
 fn plan_list(sizes: &mut Vec<u32>, arena: &Arena, list: ValuesList) -> Result<(), AllocError>
     requires few { list.count ≤ VALUES_LIMIT }
-    requires list { 0 < list.count → IsSome (cell_at arena.now.bytes list.offset) }
-    ensures { OnOk result (sizes.new.items ≡ sizes.old.items ++ list_sizes (cell_at arena.now.bytes) list.count list.offset) }
+    requires list { 0 < list.count → IsSome (heap_of arena.now list.offset) }
+    ensures { OnOk result (sizes.new.items ≡ sizes.old.items ++ list_sizes (heap_of arena.now) list.count list.offset) }
 {
     if has_room(arena, list) {
         return Ok(());
@@ -100,10 +100,10 @@ pub(crate) fn plan_add(
     size: usize,
 ) -> Result<Vec<u32>, AllocError>
     requires few { list.count ≤ VALUES_LIMIT }
-    requires list { 0 < list.count → IsSome (cell_at arena.now.bytes list.offset) }
+    requires list { 0 < list.count → IsSome (heap_of arena.now list.offset) }
     requires name { name ≤ VALUE_NAME_LIMIT }
     requires size { size ≤ DATA_LIMIT }
-    ensures { IfOk result (λ sizes. sizes.items ≡ sizes_by (cell_at arena.now.bytes) list.count list.offset name size None) }
+    ensures { IfOk result (λ sizes. sizes.items ≡ sizes_by (heap_of arena.now) list.count list.offset name size None) }
 {
     let mut sizes = Vec::new(alloc);
     sizes.push(cell_size(HEAD + name as u32))?;
@@ -119,9 +119,9 @@ pub(crate) fn plan_replace(
     old: ValueFields,
     size: usize,
 ) -> Result<Vec<u32>, AllocError>
-    requires old { old.size ≤ SEGMENT_SIZE → IsSome (cell_at arena.now.bytes old.offset) }
+    requires old { old.size ≤ SEGMENT_SIZE → IsSome (heap_of arena.now old.offset) }
     requires size { size ≤ DATA_LIMIT }
-    ensures { IfOk result (λ sizes. sizes.items ≡ (if stays_of (cell_at arena.now.bytes) old size then [] else data_sizes size)) }
+    ensures { IfOk result (λ sizes. sizes.items ≡ (if stays_of (heap_of arena.now) old size then [] else data_sizes size)) }
 {
     let mut sizes = Vec::new(alloc);
     if !stays(arena, old, size) {
@@ -142,10 +142,10 @@ pub fn plan_set(
     name: &[u8],
     size: u32,
 ) -> Result<Vec<u32>, AllocError>
-    requires values { AreValues (cell_at arena.now.bytes) list.count list.offset }
+    requires values { AreValues (heap_of arena.now) list.count list.offset }
     requires name { is_value_name name.now ≡ true }
     requires size { size ≤ DATA_LIMIT }
-    ensures { IfOk result (λ sizes. sizes.items ≡ set_sizes (cell_at arena.now.bytes) list.count list.offset name.now size) }
+    ensures { IfOk result (λ sizes. sizes.items ≡ set_sizes (heap_of arena.now) list.count list.offset name.now size) }
 {
     match find(arena, list, name) {
         Some(index) => {

@@ -8,7 +8,7 @@ ghost use Rattle.reg_heap.specs.Paths.{Member};
 ghost use Rattle.reg_heap.specs.Heaps.{CellFrame};
 ghost use Rattle.reg_heap.specs.Kinds.{Found, owned};
 ghost use Rattle.reg_heap.specs.Members.{values_without};
-ghost use Rattle.reg_arena.specs.Cells.{cell_at};
+ghost use Rattle.reg_arena.specs.Arena.{heap_of};
 ghost use Rattle.reg_shape.specs.Nodes.{member_at, members_at};
 ghost use Rattle.reg_values.specs.ValueLists.{AreValues, IsNamed, Became, OfRead};
 ghost use Rattle.reg_values.specs.Internal.ValueListParts.{list_at, Owns, GivesUpRead, BecameList};
@@ -21,8 +21,8 @@ use reg_heap::limits::NONE;
 
 /// Frees a value's record and its data.
 fn free_value(arena: &mut Arena, cell: u32)
-    requires { Owns (member_at cell) (cell_at arena.old.bytes) }
-    ensures { GivesUpRead (member_at cell) (cell_at arena.old.bytes) (cell_at arena.new.bytes) }
+    requires { Owns (member_at cell) (heap_of arena.old) }
+    ensures { GivesUpRead (member_at cell) (heap_of arena.old) (heap_of arena.new) }
 {
     let fields = record_at(arena, cell).fields;
     free_data(arena, fields);
@@ -33,9 +33,9 @@ fn free_value(arena: &mut Arena, cell: u32)
 fn take_out(arena: &mut Arena, list: ValuesList, index: u32) -> ValuesList
     requires few { list.count ≤ VALUES_LIMIT }
     requires index { index < list.count }
-    requires list { Owns (list_at list.count list.offset) (cell_at arena.old.bytes) }
-    ensures list { OfRead (list_at list.count list.offset) (cell_at arena.old.bytes)
-        (λ row met. BecameList (cell_at arena.old.bytes) (cell_at arena.new.bytes)
+    requires list { Owns (list_at list.count list.offset) (heap_of arena.old) }
+    ensures list { OfRead (list_at list.count list.offset) (heap_of arena.old)
+        (λ row met. BecameList (heap_of arena.old) (heap_of arena.new)
         (λ offset. owned offset met) result.count result.offset (take index row ++ drop (index + 1) row)) }
     ensures count { result.count + 1 ≡ list.count }
     ensures none { result.count ≡ 0 → result.offset ≡ NONE }
@@ -58,10 +58,10 @@ fn take_out(arena: &mut Arena, list: ValuesList, index: u32) -> ValuesList
 /// Removes the value of that name, after folding, and frees its cells; the values behind it close up. Answers the list as
 /// it is then. A list without values is freed too. It takes no memory.
 pub fn remove(arena: &mut Arena, list: ValuesList, name: &[u8]) -> ValuesList
-    requires values { AreValues (cell_at arena.old.bytes) list.count list.offset }
-    requires named { IsNamed (cell_at arena.old.bytes) list.count list.offset name.now }
-    ensures { OfRead (members_at list.count list.offset) (cell_at arena.old.bytes)
-        (λ members met. Became (cell_at arena.old.bytes) (cell_at arena.new.bytes) met result.count result.offset
+    requires values { AreValues (heap_of arena.old) list.count list.offset }
+    requires named { IsNamed (heap_of arena.old) list.count list.offset name.now }
+    ensures { OfRead (members_at list.count list.offset) (heap_of arena.old)
+        (λ members met. Became (heap_of arena.old) (heap_of arena.new) met result.count result.offset
         (values_without name.now members)) }
 {
     let Some(index) = find(arena, list, name) else {
@@ -75,9 +75,9 @@ pub fn remove(arena: &mut Arena, list: ValuesList, name: &[u8]) -> ValuesList
 
 /// Frees a list of values with all that it names: each value's cells, and then the list's own. It takes no memory.
 pub fn clear(arena: &mut Arena, list: ValuesList)
-    requires { AreValues (cell_at arena.old.bytes) list.count list.offset }
-    ensures { OfRead (members_at list.count list.offset) (cell_at arena.old.bytes)
-        (λ members met. CellFrame (cell_at arena.old.bytes) (cell_at arena.new.bytes) (λ offset. owned offset met) (λ offset. 0)) }
+    requires { AreValues (heap_of arena.old) list.count list.offset }
+    ensures { OfRead (members_at list.count list.offset) (heap_of arena.old)
+        (λ members met. CellFrame (heap_of arena.old) (heap_of arena.new) (λ offset. owned offset met) (λ offset. 0)) }
 {
     for index in 0..list.count {
         let cell = cell_of(arena, list, index);

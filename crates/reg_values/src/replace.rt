@@ -4,7 +4,7 @@ ghost use Rattle.std.specs.Prelude.{◌≡◌, true, ◌≤◌, ◌+◌, ℕ, Li
 ghost use Rattle.reg_heap.specs.declared.limits.TheConstants.{DATA_LIMIT};
 ghost use Rattle.reg_heap.specs.Paths.{Member};
 ghost use Rattle.reg_heap.specs.Kinds.{Found, times, owned};
-ghost use Rattle.reg_arena.specs.Cells.{cell_at};
+ghost use Rattle.reg_arena.specs.Arena.{heap_of};
 ghost use Rattle.reg_arena.specs.NewCells.{total_of};
 ghost use Rattle.reg_arena.specs.Carves.{NoFit};
 ghost use Rattle.reg_arena.specs.NewBin.{PassesLimit};
@@ -25,15 +25,15 @@ use std::alloc::Global;
 
 /// Writes other data into the one cell that a value's data has.
 fn rewrite(arena: &mut Arena, cell: u32, old: ValueFields, kind: u32, bytes: &[u8])
-    requires owns { Owns (member_at cell) (cell_at arena.old.bytes) }
-    requires written { IsWrittenValue (cell_at arena.old.bytes) cell }
-    requires record_is { (name : List ℕ) × (value_record_at (cell_at arena.old.bytes) cell ≡ Some (record { fields = old; name = name })) }
-    requires stays { stays_of (cell_at arena.old.bytes) old (length bytes.now) ≡ true }
+    requires owns { Owns (member_at cell) (heap_of arena.old) }
+    requires written { IsWrittenValue (heap_of arena.old) cell }
+    requires record_is { (name : List ℕ) × (value_record_at (heap_of arena.old) cell ≡ Some (record { fields = old; name = name })) }
+    requires stays { stays_of (heap_of arena.old) old (length bytes.now) ≡ true }
     requires bytes { length bytes.now ≤ DATA_LIMIT }
-    ensures value { OfRead (member_at cell) (cell_at arena.old.bytes)
-        (λ m met. BecameValue (cell_at arena.old.bytes) (cell_at arena.new.bytes) (λ offset. owned offset met) cell
+    ensures value { OfRead (member_at cell) (heap_of arena.old)
+        (λ m met. BecameValue (heap_of arena.old) (heap_of arena.new) (λ offset. owned offset met) cell
         (record { name = m.name; kind = kind; bytes = bytes.now })) }
-    ensures cells { Makes (cell_at arena.old.bytes) (cell_at arena.new.bytes) [] }
+    ensures cells { Makes (heap_of arena.old) (heap_of arena.new) [] }
 {
     arena.write(old.offset, 0, bytes);
     set_data(arena, cell, bytes.len() as u32, old.offset, kind);
@@ -41,16 +41,16 @@ fn rewrite(arena: &mut Arena, cell: u32, old: ValueFields, kind: u32, bytes: &[u
 
 /// Writes other data into new cells, and frees those that a value's data has.
 fn exchange(arena: &mut Arena, cell: u32, cells: &[u32], old: ValueFields, kind: u32, bytes: &[u8])
-    requires owns { OwnsBeside (member_at cell) (cell_at arena.old.bytes) cells.now }
-    requires written { IsWrittenValue (cell_at arena.old.bytes) cell }
-    requires record_is { (name : List ℕ) × (value_record_at (cell_at arena.old.bytes) cell ≡ Some (record { fields = old; name = name })) }
+    requires owns { OwnsBeside (member_at cell) (heap_of arena.old) cells.now }
+    requires written { IsWrittenValue (heap_of arena.old) cell }
+    requires record_is { (name : List ℕ) × (value_record_at (heap_of arena.old) cell ≡ Some (record { fields = old; name = name })) }
     requires bytes { length bytes.now ≤ DATA_LIMIT }
-    requires cells { HaveRoom (cell_at arena.old.bytes) cells.now (data_sizes (length bytes.now)) }
-    ensures value { OfRead (member_at cell) (cell_at arena.old.bytes)
-        (λ m met. BecameValue (cell_at arena.old.bytes) (cell_at arena.new.bytes)
+    requires cells { HaveRoom (heap_of arena.old) cells.now (data_sizes (length bytes.now)) }
+    ensures value { OfRead (member_at cell) (heap_of arena.old)
+        (λ m met. BecameValue (heap_of arena.old) (heap_of arena.new)
         (λ offset. owned offset met + times offset cells.now) cell
         (record { name = m.name; kind = kind; bytes = bytes.now })) }
-    ensures keeps { Keeps (cell_at arena.old.bytes) (cell_at arena.new.bytes) cells.now }
+    ensures keeps { Keeps (heap_of arena.old) (heap_of arena.new) cells.now }
 {
     let data = put_data(arena, cells, bytes);
     set_data(arena, cell, data.size, data.offset, kind);
@@ -65,23 +65,23 @@ pub(crate) fn replace(
     kind: u32,
     bytes: &[u8],
 ) -> Result<(), ArenaFault>
-    requires owns { Owns (member_at cell) (cell_at arena.old.bytes) }
-    requires written { IsWrittenValue (cell_at arena.old.bytes) cell }
+    requires owns { Owns (member_at cell) (heap_of arena.old) }
+    requires written { IsWrittenValue (heap_of arena.old) cell }
     requires bytes { length bytes.now ≤ DATA_LIMIT }
     ensures value { OnOk result
-        (OfRead (member_at cell) (cell_at arena.old.bytes)
-        (λ m met. BecameValue (cell_at arena.old.bytes) (cell_at arena.new.bytes) (λ offset. owned offset met) cell
+        (OfRead (member_at cell) (heap_of arena.old)
+        (λ m met. BecameValue (heap_of arena.old) (heap_of arena.new) (λ offset. owned offset met) cell
         (record { name = m.name; kind = kind; bytes = bytes.now }))) }
-    ensures cells { OnOk result (Makes (cell_at arena.old.bytes) (cell_at arena.new.bytes)
-        (new_data_sizes (cell_at arena.old.bytes) (length bytes.now) (value_record_at (cell_at arena.old.bytes) cell))) }
+    ensures cells { OnOk result (Makes (heap_of arena.old) (heap_of arena.new)
+        (new_data_sizes (heap_of arena.old) (length bytes.now) (value_record_at (heap_of arena.old) cell))) }
     ensures err { OnErr result (arena.new ≡ arena.old) }
     ensures full { result ≡ Err ArenaFault.Full →
-        NoFit arena.old.bytes (total_of (new_data_sizes (cell_at arena.old.bytes) (length bytes.now)
-        (value_record_at (cell_at arena.old.bytes) cell))) }
+        NoFit arena.old.bytes (total_of (new_data_sizes (heap_of arena.old) (length bytes.now)
+        (value_record_at (heap_of arena.old) cell))) }
     ensures limit { result ≡ Err ArenaFault.Full →
         PassesLimit arena.old.bytes
-        (total_of (new_data_sizes (cell_at arena.old.bytes) (length bytes.now)
-        (value_record_at (cell_at arena.old.bytes) cell))) }
+        (total_of (new_data_sizes (heap_of arena.old) (length bytes.now)
+        (value_record_at (heap_of arena.old) cell))) }
 {
     let old = record_at(arena, cell).fields;
     if stays(arena, old, bytes.len()) {

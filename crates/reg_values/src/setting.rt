@@ -8,7 +8,7 @@ ghost use Rattle.reg_heap.specs.declared.limits.TheConstants.{BINS_LIMIT, DATA_L
 ghost use Rattle.reg_heap.specs.Paths.{Member};
 ghost use Rattle.reg_heap.specs.Kinds.{Found};
 ghost use Rattle.reg_heap.specs.Members.{values_with};
-ghost use Rattle.reg_arena.specs.Cells.{cell_at};
+ghost use Rattle.reg_arena.specs.Arena.{heap_of};
 ghost use Rattle.reg_arena.specs.NewCells.{total_of};
 ghost use Rattle.reg_arena.specs.Carves.{NoFit};
 ghost use Rattle.reg_arena.specs.NewBin.{PassesLimit};
@@ -38,21 +38,21 @@ pub fn set(
     kind: u32,
     bytes: &[u8],
 ) -> Result<ValuesList, ArenaFault>
-    requires values { AreValues (cell_at arena.old.bytes) list.count list.offset }
+    requires values { AreValues (heap_of arena.old) list.count list.offset }
     requires name { is_value_name name.now ≡ true }
     requires bytes { length bytes.now ≤ DATA_LIMIT }
-    requires room { (list.count < VALUES_LIMIT) ⊎ IsNamed (cell_at arena.old.bytes) list.count list.offset name.now }
-    ensures ok { IfOk result (λ after. OfRead (members_at list.count list.offset) (cell_at arena.old.bytes)
-        (λ members met. Became (cell_at arena.old.bytes) (cell_at arena.new.bytes) met after.count after.offset
+    requires room { (list.count < VALUES_LIMIT) ⊎ IsNamed (heap_of arena.old) list.count list.offset name.now }
+    ensures ok { IfOk result (λ after. OfRead (members_at list.count list.offset) (heap_of arena.old)
+        (λ members met. Became (heap_of arena.old) (heap_of arena.new) met after.count after.offset
         (values_with name.now kind bytes.now members))) }
-    ensures cells { OnOk result (Makes (cell_at arena.old.bytes) (cell_at arena.new.bytes)
-        (set_sizes (cell_at arena.old.bytes) list.count list.offset name.now (length bytes.now))) }
+    ensures cells { OnOk result (Makes (heap_of arena.old) (heap_of arena.new)
+        (set_sizes (heap_of arena.old) list.count list.offset name.now (length bytes.now))) }
     ensures err { OnErr result (arena.new ≡ arena.old) }
     ensures full { result ≡ Err ArenaFault.Full →
-        NoFit arena.old.bytes (total_of (set_sizes (cell_at arena.old.bytes) list.count list.offset name.now (length bytes.now))) }
+        NoFit arena.old.bytes (total_of (set_sizes (heap_of arena.old) list.count list.offset name.now (length bytes.now))) }
     ensures limit { result ≡ Err ArenaFault.Full →
         PassesLimit arena.old.bytes
-        (total_of (set_sizes (cell_at arena.old.bytes) list.count list.offset name.now (length bytes.now))) }
+        (total_of (set_sizes (heap_of arena.old) list.count list.offset name.now (length bytes.now))) }
     ensures near { result ≡ Err ArenaFault.Full → BINS_LIMIT < length arena.old.bytes + GROWTH_BOUND }
 {
     let Some(index) = find(arena, list, name) else {

@@ -11,7 +11,7 @@ use Rattle.reg_heap.specs.Kinds.{times}
 use Rattle.reg_heap.specs.Kinds.Kind.{Class}
 use Rattle.reg_shape.specs.Internal.Forests.{Branch, total_of}
 use Rattle.reg_shape.specs.Internal.Forests.Forest.{End}
-use Rattle.reg_arena.specs.Arena.{Bins}
+use Rattle.reg_arena.specs.Arena.{Bins, heap_of}
 use Rattle.reg_arena.specs.Cells.{cells_of, cell_at}
 use Rattle.reg_records.specs.declared.nk.KeyFields.{KeyFields}
 use Rattle.reg_records.specs.declared.sk.SecurityFields.{SecurityFields}
@@ -191,16 +191,16 @@ pub record IsMade (h : Heap) (root : ℕ) (name descriptor : List ℕ) (moment :
 pub made : (e b i k : Bins) (root security node_size ring_size n m : ℕ) (fields : KeyFields) (ring : SecurityFields) (name descriptor : List ℕ)
     (moment : ℕ) → fields ≡ new_fields security moment → ring ≡ record { flink = security; blink = security; count = 1 }
     → is_key_name name ≡ true → 1 ≤ length descriptor → length descriptor ≤ DESCRIPTOR_LIMIT → e.bytes ≡ [] → AreCarved e b root security node_size ring_size
-    → WritesRecord b i security n (sk_bytes ring descriptor) → IsPlainSecurity (held (cell_at i.bytes) security) →
-    security_at (cell_at i.bytes) security ≡ Some (record { fields = ring; descriptor = descriptor })
-    → WritesRecord i k root m (nk_bytes fields name) → IsPlainKey (held (cell_at k.bytes) root) →
-    key_at (cell_at k.bytes) root ≡ Some (record { fields = fields; name = name }) → IsMade (cell_at k.bytes) root name descriptor moment
+    → WritesRecord b i security n (sk_bytes ring descriptor) → IsPlainSecurity (held (heap_of i) security) →
+    security_at (heap_of i) security ≡ Some (record { fields = ring; descriptor = descriptor })
+    → WritesRecord i k root m (nk_bytes fields name) → IsPlainKey (held (heap_of k) root) →
+    key_at (heap_of k) root ≡ Some (record { fields = fields; name = name }) → IsMade (heap_of k) root name descriptor moment
 made e b i k root security node_size ring_size n m fields ring name descriptor moment is ring_is valid some short none carved sk_written sk_plain secured nk_written nk_plain keyed =
     let key : KeyRecord = record { fields = new_fields security moment; name = name } in
     let off : security ≢ root = λ e. carved.apart (sym e) in
-    let key_now : key_at (cell_at k.bytes) root ≡ Some key = keyed ∙ ap (λ (f : KeyFields). Some (let r : KeyRecord = record { fields = f; name = name } in r)) is in
-    let at_now : cell_at k.bytes security ≡ cell_at i.bytes security = nk_written.others security off in
-    let security_now = security_at-same (cell_at i.bytes) (cell_at k.bytes) security at_now ∙ secured in
+    let key_now : key_at (heap_of k) root ≡ Some key = keyed ∙ ap (λ (f : KeyFields). Some (let r : KeyRecord = record { fields = f; name = name } in r)) is in
+    let at_now : heap_of k security ≡ heap_of i security = nk_written.others security off in
+    let security_now = security_at-same (heap_of i) (heap_of k) security at_now ∙ secured in
     record {
       root_is = record {
         key = key;
@@ -218,10 +218,10 @@ made e b i k root security node_size ring_size n m fields ring name descriptor m
           some = some;
           short = short;
         };
-        exact = two-alone (cell_at k.bytes) root security carved.apart
-            (allocated-is (cell_at k.bytes) root (is_some_of _ _ nk_written.here))
-            (allocated-is (cell_at k.bytes) security (is_some_of _ _ (at_now ∙ sk_written.here)))
-            (λ o r s. held-none (cell_at k.bytes) o (nk_written.others o r ∙ (sk_written.others o s ∙ (carved.others o r s ∙ no-cells e.bytes none o))));
+        exact = two-alone (heap_of k) root security carved.apart
+            (allocated-is (heap_of k) root (is_some_of _ _ nk_written.here))
+            (allocated-is (heap_of k) security (is_some_of _ _ (at_now ∙ sk_written.here)))
+            (λ o r s. held-none (heap_of k) o (nk_written.others o r ∙ (sk_written.others o s ∙ (carved.others o r s ∙ no-cells e.bytes none o))));
       };
       name_is = refl;
       described = refl;

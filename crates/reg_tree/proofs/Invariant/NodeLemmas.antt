@@ -6,8 +6,7 @@ use Rattle.std.specs.FinMap.{get}
 use Rattle.reg_names.specs.declared.TheConstants.{PATH_LIMIT}
 use Rattle.reg_heap.specs.Paths.{Path, Tree, Rec, children_of}
 use Rattle.reg_heap.specs.Edits.{edited}
-use Rattle.reg_arena.specs.Arena.{Bins}
-use Rattle.reg_arena.specs.Cells.{cell_at}
+use Rattle.reg_arena.specs.Arena.{Bins, heap_of}
 use Rattle.reg_shape.specs.PathLookup.{key_offset_at}
 use Rattle.reg_shape.proofs.Lookup.LookupOfShape.{offset-append}
 use Rattle.reg_tree.specs.declared.node.Node.{Node}
@@ -25,8 +24,8 @@ abbrev pub there : (k : Keys) (node : Node) → TreeInvariant k.bins.bytes k.roo
 there k node holds some = here k node some.0 holds some.1
 
 -- keys that stay where they stand keep their nodes
-pub keeps : (old new : Keys) → new.root ≡ old.root → ((p : Path) → key_offset_at (cell_at new.bins.bytes) old.root p ≡ key_offset_at (cell_at old.bins.bytes) old.root p) → KeepsNodes old new
-keeps old new root same p node at = record { offset = subst (λ r. key_offset_at (cell_at new.bins.bytes) r p ≡ Some node.offset) (sym root) (same p ∙ at.offset); depth = at.depth }
+pub keeps : (old new : Keys) → new.root ≡ old.root → ((p : Path) → key_offset_at (heap_of new.bins) old.root p ≡ key_offset_at (heap_of old.bins) old.root p) → KeepsNodes old new
+keeps old new root same p node at = record { offset = subst (λ r. key_offset_at (heap_of new.bins) r p ≡ Some node.offset) (sym root) (same p ∙ at.offset); depth = at.depth }
 
 pub on_ok : {A B : Type 0} (r : Result (Unit {0}) TreeFault) → (A → B) → OnOk r A → OnOk r B
 on_ok (Ok x) f a = f a
@@ -75,10 +74,10 @@ module _ (bins : Bins) (root : ℕ) (holds : TreeInvariant bins.bytes root) (now
   pub root_at : IsAt now [] (record { offset = root; depth = 0 })
   root_at = subst (λ k. IsAt k [] (record { offset = root; depth = 0 })) view_is (record { offset = offset-root bins.bytes root holds; depth = refl })
 
-  walked-on : (from : Node) (p q : Path) → IsAt (seen_as bins root) p from → key_offset_at (cell_at bins.bytes) root (p ++ q) ≡ key_offset_at (cell_at bins.bytes) from.offset q
-  walked-on from p q at = offset-append (cell_at bins.bytes) root p q ∙ ap (option_and_then (λ c. key_offset_at (cell_at bins.bytes) c q)) at.offset
+  walked-on : (from : Node) (p q : Path) → IsAt (seen_as bins root) p from → key_offset_at (heap_of bins) root (p ++ q) ≡ key_offset_at (heap_of bins) from.offset q
+  walked-on from p q at = offset-append (heap_of bins) root p q ∙ ap (option_and_then (λ c. key_offset_at (heap_of bins) c q)) at.offset
 
-  pub resolved : (from : Node) (q : Path) (result : Option Node) → IsWalked (cell_at bins.bytes) from q result → (p : Path) → IsAt now p from → IsResolved now (p ++ q) result
+  pub resolved : (from : Node) (q : Path) (result : Option Node) → IsWalked (heap_of bins) from q result → (p : Path) → IsAt now p from → IsResolved now (p ++ q) result
   resolved from q None w p at =
       let a = subst (λ k. IsAt k p from) (sym view_is) at in
       of_tree (λ t. get t (p ++ q) ≡ None) (get-none bins.bytes root holds (p ++ q) (walked-on from p q a ∙ w))
@@ -107,9 +106,9 @@ module _ (bins : Bins) (root : ℕ) (holds : TreeInvariant bins.bytes root) (now
 
   -- every key's path has at most 512 names
   pub there-shallow : (p : Path) → IsSome (get now.tree p) → length p ≤ PATH_LIMIT
-  there-shallow p some = by (key_offset_at (cell_at bins.bytes) root p) refl
+  there-shallow p some = by (key_offset_at (heap_of bins) root p) refl
     where
-      by : (o : Option ℕ) → key_offset_at (cell_at bins.bytes) root p ≡ o → length p ≤ PATH_LIMIT
+      by : (o : Option ℕ) → key_offset_at (heap_of bins) root p ≡ o → length p ≤ PATH_LIMIT
       by None e =
           let none : get now.tree p ≡ None = of_tree (λ t. get t p ≡ None) (get-none bins.bytes root holds p e) in
           absurd (true≢false (sym some ∙ ap is_some none))
@@ -117,12 +116,12 @@ module _ (bins : Bins) (root : ℕ) (holds : TreeInvariant bins.bytes root) (now
           let s = shallow bins.bytes o (record { root = root; path = p; holds = holds; at = e }) in
           omega (arith, s)
 
-  pub resolved-depth : (from : Node) → IsThere now from → (q : Path) (result : Option Node) → IsWalked (cell_at bins.bytes) from q result → IfSome result (λ node. node.depth ≤ PATH_LIMIT)
+  pub resolved-depth : (from : Node) → IsThere now from → (q : Path) (result : Option Node) → IsWalked (heap_of bins) from q result → IfSome result (λ node. node.depth ≤ PATH_LIMIT)
   resolved-depth from some q None w = tt
   resolved-depth from some q (Some node) w = shallow_at node (some.0 ++ q, (resolved from q (Some node) w some.0 some.1).0)
 
   -- a subkey's node
-  pub subkey_found : (node : Node) (index : ℕ) (result : Option Node) (p : Path) → IsAt now p node → IsSubkey (cell_at bins.bytes) root p (children_of (tree_in bins.bytes root) p) node index result
+  pub subkey_found : (node : Node) (index : ℕ) (result : Option Node) (p : Path) → IsAt now p node → IsSubkey (heap_of bins) root p (children_of (tree_in bins.bytes root) p) node index result
       → MatchOption result (length (children_of now.tree p) ≤ index) (λ child. (index < length (children_of now.tree p)) × IsAt now (get_or (children_of now.tree p) index []) child)
   subkey_found node index None p at s = of_tree (λ t. length (children_of t p) ≤ index) s
   subkey_found node index (Some child) p at s =

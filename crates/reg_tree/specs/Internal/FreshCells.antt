@@ -4,8 +4,7 @@ use Rattle.reg_names.specs.Names.{is_key_name}
 use Rattle.reg_heap.specs.declared.limits.TheConstants.{DESCRIPTOR_LIMIT, NONE}
 use Rattle.reg_heap.specs.Heaps.{Heap, allocated}
 use Rattle.reg_heap.specs.Kinds.{times}
-use Rattle.reg_arena.specs.Arena.{Bins}
-use Rattle.reg_arena.specs.Cells.{cell_at}
+use Rattle.reg_arena.specs.Arena.{Bins, heap_of}
 use Rattle.reg_records.specs.RecordCells.{held}
 use Rattle.reg_records.specs.KeyNodes.{KeyRecord, key_at, IsPlainKey}
 use Rattle.reg_records.specs.KeySecurities.{KeySecurityRecord, security_at, IsPlainSecurity}
@@ -14,11 +13,11 @@ use Rattle.reg_records.specs.declared.nk.KeyFields.{KeyFields}
 -- cells of these sizes came, zero, at two offsets where there was none; every other cell is as it was
 pub record AreCarved (old new : Bins) (first second first_size second_size : ℕ) : Type 0 where
   pub apart : first ≢ second
-  pub first_fresh : cell_at old.bytes first ≡ None
-  pub second_fresh : cell_at old.bytes second ≡ None
-  pub first_is : cell_at new.bytes first ≡ Some (replicate (first_size - 4) 0)
-  pub second_is : cell_at new.bytes second ≡ Some (replicate (second_size - 4) 0)
-  pub others : (offset : ℕ) → offset ≢ first → offset ≢ second → cell_at new.bytes offset ≡ cell_at old.bytes offset
+  pub first_fresh : heap_of old first ≡ None
+  pub second_fresh : heap_of old second ≡ None
+  pub first_is : heap_of new first ≡ Some (replicate (first_size - 4) 0)
+  pub second_is : heap_of new second ≡ Some (replicate (second_size - 4) 0)
+  pub others : (offset : ℕ) → offset ≢ first → offset ≢ second → heap_of new offset ≡ heap_of old offset
 
 -- the fixed part of a new root's key node: no delete, hive entry, a name of one byte a character; no parent, no subkeys, no
 -- class, no values

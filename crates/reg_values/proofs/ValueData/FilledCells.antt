@@ -9,8 +9,7 @@ use Rattle.reg_heap.specs.Heaps.{Heap, Writes}
 use Rattle.reg_heap.specs.Kinds.{Found, times}
 use Rattle.reg_heap.specs.Kinds.Kind.{Segment}
 use Rattle.reg_records.specs.declared.db.TheConstants.{SEGMENT_SIZE}
-use Rattle.reg_arena.specs.Arena.{Bins}
-use Rattle.reg_arena.specs.Cells.{cell_at}
+use Rattle.reg_arena.specs.Arena.{Bins, heap_of}
 use Rattle.reg_records.specs.RecordCells.{HasRoom, WritesCell, held}
 use Rattle.reg_records.specs.OffsetRows.{offsets_at, offset_in}
 use Rattle.reg_records.specs.BigData.{named, segment_size, segments}
@@ -32,8 +31,8 @@ fills-one h k cell content e n others w = record { writes = w; sizes = λ offset
     by offset (inl q) = ap (λ o. length (held k o)) q ∙ (ap length (held-is k cell content e) ∙ (n ∙ ap (λ o. length (held h o)) (sym q)))
     by offset (inr q) = ap (λ (c : Option (List ℕ)). length (unwrap_or c [])) (others offset q)
 
-pub fills-cell : (old new : Bins) (cell : ℕ) (content : List ℕ) → WritesCell old new cell content → Fills (cell_at old.bytes) (cell_at new.bytes) (cell ∷ [])
-fills-cell old new cell content w = fills-one (cell_at old.bytes) (cell_at new.bytes) cell content w.here w.as_many w.others w.writes
+pub fills-cell : (old new : Bins) (cell : ℕ) (content : List ℕ) → WritesCell old new cell content → Fills (heap_of old) (heap_of new) (cell ∷ [])
+fills-cell old new cell content w = fills-one (heap_of old) (heap_of new) cell content w.here w.as_many w.others w.writes
 
 -- what a write of the arena does
 module _ (h k : Heap) (cell at : ℕ) (bytes : List ℕ) (room : at + length bytes ≤ length (held h cell)) (w : (offset : ℕ) →
@@ -80,17 +79,17 @@ pub row-none : (h : Heap) (list : ℕ) (segments : List ℕ) → RowFilled h h l
 row-none h list segments = record { fills = fills-none h (list ∷ []); done = λ j l. absurd (omega arith) }
 
 pub row-more : (h : Heap) (old new : Bins) (list : ℕ) (segments : List ℕ) (i offset : ℕ) (content : List ℕ) →
-    RowFilled h (cell_at old.bytes) list segments i → WritesCell old new list content → offset ≡ get_or segments i 0
-    → offset_in (held (cell_at new.bytes) list) i ≡ offset →
-    ((other : ℕ) → other ≢ i → offset_in (held (cell_at new.bytes) list) other ≡ offset_in (held (cell_at old.bytes) list) other) →
-    RowFilled h (cell_at new.bytes) list segments (i + 1)
+    RowFilled h (heap_of old) list segments i → WritesCell old new list content → offset ≡ get_or segments i 0
+    → offset_in (held (heap_of new) list) i ≡ offset →
+    ((other : ℕ) → other ≢ i → offset_in (held (heap_of new) list) other ≡ offset_in (held (heap_of old) list) other) →
+    RowFilled h (heap_of new) list segments (i + 1)
 row-more h old new list segments i offset content r w e here others = record {
-  fills = fills-then h (cell_at old.bytes) (cell_at new.bytes) (list ∷ []) r.fills (fills-cell old new list content w);
+  fills = fills-then h (heap_of old) (heap_of new) (list ∷ []) r.fills (fills-cell old new list content w);
   done = λ j l. by j l (cases_eq j i);
 }
   where
-    by : (j : ℕ) → j < i + 1 → (j ≡ i) ⊎ (j ≡ i → ⊥) → offset_in (held (cell_at new.bytes) list) j ≡ get_or segments j 0
-    by j l (inl q) = ap (offset_in (held (cell_at new.bytes) list)) q ∙ (here ∙ (e ∙ ap (λ i. get_or segments i 0) (sym q)))
+    by : (j : ℕ) → j < i + 1 → (j ≡ i) ⊎ (j ≡ i → ⊥) → offset_in (held (heap_of new) list) j ≡ get_or segments j 0
+    by j l (inl q) = ap (offset_in (held (heap_of new) list)) q ∙ (here ∙ (e ∙ ap (λ i. get_or segments i 0) (sym q)))
     by j l (inr q) = others j q ∙ r.done j (omega (arith, l, q))
 
 offsets-are : (xs : List ℕ) (at : ℕ) (c : List ℕ) → ((j : ℕ) → j < length xs → word c (at + 4 * j) ≡ get_or xs j 0) → offsets_at (length xs) at c ≡ xs

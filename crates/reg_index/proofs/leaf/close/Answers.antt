@@ -1,27 +1,27 @@
 use Rattle.std.proofs.Common.{◌+◌, ◌-◌, ◌*◌, arith, take, drop}
-use Rattle.reg_arena.specs.Cells.{cell_at}
+use Rattle.reg_arena.specs.Arena.{heap_of}
 use Rattle.reg_records.specs.RecordCells.{held}
 use Rattle.reg_index.proofs.LeafEntries.{length-part}
 use Rattle.reg_index.proofs.LeafGaps.{leaf-long, spliced-room, closed}
 use Rattle.reg_index.proofs.leaf.close.Goals as goal
 
 pub shift-requires-clause-source : goal.shift-requires-clause-source
-shift-requires-clause-source c = omega (arith, leaf-long (cell_at c.args.arena.now.bytes) c.args.cell (c.args.left + 1) c.requires.leaf, c.requires.index)
+shift-requires-clause-source c = omega (arith, leaf-long (heap_of c.args.arena.now) c.args.cell (c.args.left + 1) c.requires.leaf, c.requires.index)
 
 pub shift-requires-clause-fits : goal.shift-requires-clause-fits
-shift-requires-clause-fits c = omega (arith, leaf-long (cell_at c.args.arena.now.bytes) c.args.cell (c.args.left + 1) c.requires.leaf, c.requires.index)
+shift-requires-clause-fits c = omega (arith, leaf-long (heap_of c.args.arena.now) c.args.cell (c.args.left + 1) c.requires.leaf, c.requires.index)
 
 pub put_leaf_head-requires-clause-room : goal.put_leaf_head-requires-clause-room
 put_leaf_head-requires-clause-room c =
-    let h = cell_at c.args.arena.now.bytes in
+    let h = heap_of c.args.arena.now in
     let all = leaf-long h c.args.cell (c.args.left + 1) c.requires.leaf in
     let i = c.requires.index in
     let piece = take (8 * (c.args.left - c.args.index)) (drop (12 + 8 * c.args.index) (held h c.args.cell)) in
     let long = length-part (12 + 8 * c.args.index) (8 * (c.args.left - c.args.index)) (held h c.args.cell) (omega (arith, all, i)) in
-    spliced-room h (cell_at c.shift.new.self.bytes) c.args.cell (4 + 8 * c.args.index) 4 piece (omega (arith, long, all, i)) (omega (arith, all)) c.shift.ensures.written
+    spliced-room h (heap_of c.shift.new.self) c.args.cell (4 + 8 * c.args.index) 4 piece (omega (arith, long, all, i)) (omega (arith, all)) c.shift.ensures.written
 
 pub returns-clause-leaf : goal.returns-clause-leaf
 returns-clause-leaf c =
-    closed (cell_at c.args.arena.now.bytes) (cell_at c.shift.new.self.bytes)
-    (cell_at c.put_leaf_head.new.arena.bytes) c.args.cell c.args.left c.args.index c.requires.few c.requires.index c.shift.ensures.written
+    closed (heap_of c.args.arena.now) (heap_of c.shift.new.self)
+    (heap_of c.put_leaf_head.new.arena) c.args.cell c.args.left c.args.index c.requires.few c.requires.index c.shift.ensures.written
     c.put_leaf_head.ensures.here

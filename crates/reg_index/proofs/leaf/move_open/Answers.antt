@@ -1,30 +1,30 @@
 use Rattle.std.proofs.Common.{◌*◌, arith, take, drop}
-use Rattle.reg_arena.specs.Cells.{cell_at}
+use Rattle.reg_arena.specs.Arena.{heap_of}
 use Rattle.reg_records.specs.RecordCells.{held}
 use Rattle.reg_index.proofs.LeafEntries.{length-part}
 use Rattle.reg_index.proofs.LeafGaps.{leaf-long, source-long, spliced-long, moved-gap}
 use Rattle.reg_index.proofs.leaf.move_open.Goals as goal
 
 pub copy-requires-clause-within : goal.copy-requires-clause-within
-copy-requires-clause-within c = omega (arith, leaf-long (cell_at c.args.arena.now.bytes) c.args.cell c.args.count c.requires.leaf, c.requires.index)
+copy-requires-clause-within c = omega (arith, leaf-long (heap_of c.args.arena.now) c.args.cell c.args.count c.requires.leaf, c.requires.index)
 
 pub copy-requires-2-clause-within : goal.copy-requires-2-clause-within
 copy-requires-2-clause-within c =
-    let h = cell_at c.args.arena.now.bytes in
-    omega (arith, source-long h (cell_at c.copy.new.self.bytes) c.args.cell c.args.fresh c.args.count c.args.index c.requires.apart c.copy.ensures.written c.requires.leaf, c.requires.index)
+    let h = heap_of c.args.arena.now in
+    omega (arith, source-long h (heap_of c.copy.new.self) c.args.cell c.args.fresh c.args.count c.args.index c.requires.apart c.copy.ensures.written c.requires.leaf, c.requires.index)
 
 pub copy-requires-2-clause-fits : goal.copy-requires-2-clause-fits
 copy-requires-2-clause-fits c =
-    let h = cell_at c.args.arena.now.bytes in
+    let h = heap_of c.args.arena.now in
     let room = c.requires.room.enough in
     let all = leaf-long h c.args.cell c.args.count c.requires.leaf in
     let i = c.requires.index in
     let piece = take (8 * c.args.index) (drop 4 (held h c.args.cell)) in
     let long = length-part 4 (8 * c.args.index) (held h c.args.cell) (omega (arith, all, i)) in
-    omega (arith, spliced-long h (cell_at c.copy.new.self.bytes) c.args.fresh 4 piece (omega (arith, long, room, i)) c.copy.ensures.written, room, i)
+    omega (arith, spliced-long h (heap_of c.copy.new.self) c.args.fresh 4 piece (omega (arith, long, room, i)) c.copy.ensures.written, room, i)
 
 pub returns-clause-gap : goal.returns-clause-gap
 returns-clause-gap c =
-    moved-gap (cell_at c.args.arena.now.bytes) (cell_at c.copy.new.self.bytes) (cell_at c.copy-2.new.self.bytes)
-    (cell_at c.free.new.self.bytes) c.args.cell c.args.fresh c.args.count c.args.index c.requires.index c.requires.room.enough c.requires.apart
+    moved-gap (heap_of c.args.arena.now) (heap_of c.copy.new.self) (heap_of c.copy-2.new.self)
+    (heap_of c.free.new.self) c.args.cell c.args.fresh c.args.count c.args.index c.requires.index c.requires.room.enough c.requires.apart
     c.copy.ensures.written c.copy-2.ensures.written c.free.ensures.contents

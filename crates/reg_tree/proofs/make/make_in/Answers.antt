@@ -1,5 +1,5 @@
 use Rattle.std.proofs.Common.{◌∙◌, sym, subst, arith, get_or, drop, length, ◌+◌}
-use Rattle.reg_arena.specs.Cells.{cell_at}
+use Rattle.reg_arena.specs.Arena.{heap_of}
 use Rattle.reg_records.specs.RecordCells.{HasRoom}
 use Rattle.reg_tree.specs.Internal.SpareCells.{Grows, AreReady}
 use Rattle.std.specs.Prelude.{Some}
@@ -33,14 +33,14 @@ make-requires-in-Some-clause-room c =
     let r = c.requires.ready.1 in
     let p = planned_is _ _ _ c.requires.grow.growing _ _ c.subkeys_list-list.ensures ∙ (sym c.plan_insert.ensures ∙ c.in-Some.is) in
     let b = beside _ _ r.list_cell r.key r.left c.args.spare.now p r.spare_is in
-    subst (λ k. HasRoom (cell_at c.args.arena.now.bytes) k (76 + length c.args.name.now)) (sym b.key_is) r.room
+    subst (λ k. HasRoom (heap_of c.args.arena.now) k (76 + length c.args.name.now)) (sym b.key_is) r.room
 
 pub returns-in-None-clause-grows : goal.returns-in-None-clause-grows
 returns-in-None-clause-grows c =
     let r = c.requires.ready.1 in
     let p = planned_is _ _ _ c.requires.grow.growing _ _ c.subkeys_list-list.ensures ∙ (sym c.plan_insert.ensures ∙ c.in-None.is) in
     let a = alone _ r.list_cell r.key r.left c.args.spare.now p r.spare_is in
-    respelt _ _ _ (λ path root keys first. Grows (cell_at c.args.arena.now.bytes) (cell_at c.make.new.arena.bytes) root path keys first
+    respelt _ _ _ (λ path root keys first. Grows (heap_of c.args.arena.now) (heap_of c.make.new.arena) root path keys first
     (get_or c.args.spare.now 0 0) (drop 1 c.args.spare.now) c.args.name.now c.args.moment)
     _ _ (a.all NONE) (c.make.ensures (drop 1 c.args.spare.now))
 
@@ -57,7 +57,7 @@ returns-in-Some-clause-grows c =
     let r = c.requires.ready.1 in
     let p = planned_is _ _ _ c.requires.grow.growing _ _ c.subkeys_list-list.ensures ∙ (sym c.plan_insert.ensures ∙ c.in-Some.is) in
     let b = beside _ _ r.list_cell r.key r.left c.args.spare.now p r.spare_is in
-    respelt _ _ _ (λ path root keys first. Grows (cell_at c.args.arena.now.bytes) (cell_at c.make-in-Some.new.arena.bytes) root path keys first
+    respelt _ _ _ (λ path root keys first. Grows (heap_of c.args.arena.now) (heap_of c.make-in-Some.new.arena) root path keys first
     (get_or c.args.spare.now 1 0) (drop 2 c.args.spare.now) c.args.name.now c.args.moment)
     _ _ b.all (c.make-in-Some.ensures (drop 2 c.args.spare.now))
 
@@ -65,7 +65,7 @@ pub returns-in-Some-clause-ready : goal.returns-in-Some-clause-ready
 returns-in-Some-clause-ready c = λ names r.
     let p = planned_is _ _ _ c.requires.grow.growing _ _ c.subkeys_list-list.ensures ∙ (sym c.plan_insert.ensures ∙ c.in-Some.is) in
     let b = beside _ _ r.list_cell r.key r.left c.args.spare.now p r.spare_is in
-    subst (λ s. AreReady (cell_at c.args.arena.now.bytes) (Some FIRST_LIST_SIZE) names s) (sym b.left_is) r.rest
+    subst (λ s. AreReady (heap_of c.args.arena.now) (Some FIRST_LIST_SIZE) names s) (sym b.left_is) r.rest
 
 pub bounds-spare-1 : goal.bounds-spare-1
 bounds-spare-1 c =

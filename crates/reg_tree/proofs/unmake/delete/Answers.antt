@@ -1,4 +1,4 @@
-use Rattle.reg_arena.specs.Cells.{cell_at}
+use Rattle.reg_arena.specs.Arena.{heap_of}
 use Rattle.reg_tree.proofs.DeleteKey.DeleteKeyObligations.{unlink-ready, free-ready, count-there, count-some, is-deleted}
 use Rattle.reg_tree.proofs.DeleteKey.DeleteKeyFaults.{childless, inner}
 use Rattle.reg_tree.proofs.Invariant.KeyOfTree.{key_there}
@@ -18,24 +18,24 @@ free_key-requires c =
     let t = c.requires in
     free-ready _ _ t (childless _ _ t c.has_children.result (c.has_children.ensures t) c.if-has_children.false)
     (inner _ _ t c.is_kept.result (c.is_kept.ensures t) c.if-is_kept.false) c.fields-head.result c.fields-head.ensures
-    (cell_at c.unlink.new.arena.bytes) c.args.moment c.unlink.ensures
+    (heap_of c.unlink.new.arena) c.args.moment c.unlink.ensures
 
 pub release-requires-clause-there : goal.release-requires-clause-there
 release-requires-clause-there c =
     let t = c.requires in
     count-there _ _ t (childless _ _ t c.has_children.result (c.has_children.ensures t) c.if-has_children.false)
     (inner _ _ t c.is_kept.result (c.is_kept.ensures t) c.if-is_kept.false) c.fields-head.result c.fields-head.ensures
-    (cell_at c.unlink.new.arena.bytes) c.args.moment c.unlink.ensures (cell_at c.free_key.new.arena.bytes) c.free_key.ensures
+    (heap_of c.unlink.new.arena) c.args.moment c.unlink.ensures (heap_of c.free_key.new.arena) c.free_key.ensures
 
 pub release-requires-clause-some : goal.release-requires-clause-some
 release-requires-clause-some c =
     let t = c.requires in
     count-some _ _ t (childless _ _ t c.has_children.result (c.has_children.ensures t) c.if-has_children.false)
     (inner _ _ t c.is_kept.result (c.is_kept.ensures t) c.if-is_kept.false) c.fields-head.result c.fields-head.ensures
-    (cell_at c.unlink.new.arena.bytes) c.args.moment c.unlink.ensures (cell_at c.free_key.new.arena.bytes) c.free_key.ensures
+    (heap_of c.unlink.new.arena) c.args.moment c.unlink.ensures (heap_of c.free_key.new.arena) c.free_key.ensures
 
 pub returns-clause-ok : goal.returns-clause-ok
 returns-clause-ok c = λ t.
     is-deleted _ _ t (childless _ _ t c.has_children.result (c.has_children.ensures t) c.if-has_children.false)
     (inner _ _ t c.is_kept.result (c.is_kept.ensures t) c.if-is_kept.false) c.fields-head.result c.fields-head.ensures
-    (cell_at c.unlink.new.arena.bytes) c.args.moment c.unlink.ensures (cell_at c.free_key.new.arena.bytes) c.free_key.ensures c.release.new.arena.bytes c.release.ensures
+    (heap_of c.unlink.new.arena) c.args.moment c.unlink.ensures (heap_of c.free_key.new.arena) c.free_key.ensures c.release.new.arena.bytes c.release.ensures

@@ -1,4 +1,4 @@
-use Rattle.reg_arena.specs.Cells.{cell_at}
+use Rattle.reg_arena.specs.Arena.{heap_of}
 use Rattle.reg_tree.proofs.DeleteKey.DeletedKeyCells.{sole-there, sole-values, sole-class, sole-left, sole-gone}
 use Rattle.reg_tree.proofs.unmake.free_key.Goals as goal
 
@@ -12,14 +12,14 @@ pub clear-requires : goal.clear-requires
 clear-requires c = sole-values _ _ c.requires _ _ c.values_list-values.ensures
 
 pub free_class-requires : goal.free_class-requires
-free_class-requires c = sole-class _ _ c.requires _ _ c.values_list-values.ensures (cell_at c.clear.new.arena.bytes) c.clear.ensures c.fields-head.result c.fields-head.ensures
+free_class-requires c = sole-class _ _ c.requires _ _ c.values_list-values.ensures (heap_of c.clear.new.arena) c.clear.ensures c.fields-head.result c.fields-head.ensures
 
 pub free-requires : goal.free-requires
 free-requires c =
-    sole-left _ _ c.requires _ _ c.values_list-values.ensures (cell_at c.clear.new.arena.bytes) c.clear.ensures c.fields-head.result
-    c.fields-head.ensures (cell_at c.free_class.new.arena.bytes) c.free_class.ensures
+    sole-left _ _ c.requires _ _ c.values_list-values.ensures (heap_of c.clear.new.arena) c.clear.ensures c.fields-head.result
+    c.fields-head.ensures (heap_of c.free_class.new.arena) c.free_class.ensures
 
 pub returns : goal.returns
 returns c =
-    sole-gone _ _ c.requires _ _ c.values_list-values.ensures (cell_at c.clear.new.arena.bytes) c.clear.ensures c.fields-head.result
-    c.fields-head.ensures (cell_at c.free_class.new.arena.bytes) c.free_class.ensures (cell_at c.free.new.self.bytes) c.free.ensures.gone
+    sole-gone _ _ c.requires _ _ c.values_list-values.ensures (heap_of c.clear.new.arena) c.clear.ensures c.fields-head.result
+    c.fields-head.ensures (heap_of c.free_class.new.arena) c.free_class.ensures (heap_of c.free.new.self) c.free.ensures.gone

@@ -1,6 +1,6 @@
 use Rattle.std.proofs.Common.{subst, sym, arith}
 use Rattle.std.specs.Prelude.{IsSome}
-use Rattle.reg_arena.specs.Cells.{cell_at}
+use Rattle.reg_arena.specs.Arena.{heap_of}
 use Rattle.reg_tree.proofs.DeleteKey.SubkeyUnlinked.{found-there, not-missing, listed-subkeys, listed-within, parent-there, parent-stays, unlinked}
 use Rattle.reg_tree.proofs.unmake.unlink.Goals as goal
 
@@ -19,11 +19,11 @@ remove-after-requires-clause-index c =
 pub note_subkeys-requires-clause-exists : goal.note_subkeys-requires-clause-exists
 note_subkeys-requires-clause-exists c =
     let r = c.requires in
-    subst IsSome (sym (parent-stays _ _ _ r.0 r.1 r.2 r.3 _ _ c.subkeys_list-list.ensures (cell_at c.remove-after.new.arena.bytes) _ c.remove-after.ensures.moves)) (parent-there _ _ _ r.0 r.1 r.2 r.3)
+    subst IsSome (sym (parent-stays _ _ _ r.0 r.1 r.2 r.3 _ _ c.subkeys_list-list.ensures (heap_of c.remove-after.new.arena) _ c.remove-after.ensures.moves)) (parent-there _ _ _ r.0 r.1 r.2 r.3)
 
 pub returns : goal.returns
 returns c = λ above entries index l.
     let e = found-there _ _ _ above entries index l c.name_of.result.now c.name_of.ensures c.in-Ok.index
     (c.in-Ok.ensures entries (listed-subkeys _ _ _ above entries index l _ _ c.subkeys_list-list.ensures)) in
-    unlinked _ _ _ above entries index l _ _ c.subkeys_list-list.ensures c.in-Ok.index _ _ (cell_at c.remove-after.new.arena.bytes)
-    (cell_at c.note_subkeys.new.arena.bytes) c.args.moment e c.remove-after.ensures.subkeys c.remove-after.ensures.moves c.note_subkeys.ensures
+    unlinked _ _ _ above entries index l _ _ c.subkeys_list-list.ensures c.in-Ok.index _ _ (heap_of c.remove-after.new.arena)
+    (heap_of c.note_subkeys.new.arena) c.args.moment e c.remove-after.ensures.subkeys c.remove-after.ensures.moves c.note_subkeys.ensures

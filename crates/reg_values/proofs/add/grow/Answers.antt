@@ -1,11 +1,11 @@
-use Rattle.reg_arena.specs.Cells.{cell_at}
+use Rattle.reg_arena.specs.Arena.{heap_of}
 use Rattle.reg_values.proofs.ValueData.FilledCells.{fills-cell}
 use Rattle.reg_values.proofs.ValueChanges.ValueListGrown.{grown, fills-keeps}
 use Rattle.reg_values.proofs.add.grow.Goals as goal
 
 pub returns-clause-list : goal.returns-clause-list
 returns-clause-list c = λ row met e.
-    grown (cell_at c.args.arena.now.bytes) (cell_at c.put_offset.new.arena.bytes) c.args.list.count c.args.list.offset c.args.cell
+    grown (heap_of c.args.arena.now) (heap_of c.put_offset.new.arena) c.args.list.count c.args.list.offset c.args.cell
     (fills-cell _ _ c.args.list.offset _ c.put_offset.ensures.written) c.requires.room c.put_offset.ensures.here c.put_offset.ensures.others row met
     c.requires.some e
 

@@ -2,7 +2,7 @@ use Rattle.std.proofs.Common.{ℕ, List, ◌++◌, ◌+◌, ◌*◌, ◌≤◌, 
 use Rattle.std.proofs.lemmas.Option.{same_Some}
 use Rattle.reg_heap.specs.Kinds.{Found, owned, times}
 use Rattle.reg_heap.specs.Heaps.{allocated}
-use Rattle.reg_arena.specs.Cells.{cell_at}
+use Rattle.reg_arena.specs.Arena.{heap_of}
 use Rattle.reg_values.specs.Internal.ValueListParts.{list_at, BecameList}
 use Rattle.reg_values.proofs.ValueListing.ValueListFrame.{list-open}
 use Rattle.reg_values.proofs.ValueData.FilledCells.{fills-none, fills-cell, fills-room}
@@ -12,14 +12,14 @@ use Rattle.reg_values.proofs.add.move_list.Goals as goal
 
 pub returns-then-list-eq0-clause-list : goal.returns-then-list-eq0-clause-list
 returns-then-list-eq0-clause-list c = λ row met e.
-    let h = cell_at c.args.arena.now.bytes in
+    let h = heap_of c.args.arena.now in
     let z = c.if-list-eq0.true in
     let at = ap (λ n. list_at n c.args.list.offset h) (sym z) ∙ e in
     let r = fills-room h h [] c.args.fresh _ (fills-none h []) c.requires.room in
-    let s = started h (cell_at c.put_offset.new.arena.bytes) 0 c.args.fresh c.args.cell (fills-cell _ _ c.args.fresh _ c.put_offset.ensures.written)
+    let s = started h (heap_of c.put_offset.new.arena) 0 c.args.fresh c.args.cell (fills-cell _ _ c.args.fresh _ c.put_offset.ensures.written)
     (room-less h c.args.fresh _ (4 * 0 + 4) (omega arith) r) c.put_offset.ensures.here c.put_offset.ensures.others c.args.list.offset row met refl
     at in
-    subst (λ n. BecameList h (cell_at c.put_offset.new.arena.bytes) (λ z. owned z met + times z (c.args.fresh ∷ [])) (n + 1) c.args.fresh (row ++ c.args.cell ∷ [])) (sym z) s
+    subst (λ n. BecameList h (heap_of c.put_offset.new.arena) (λ z. owned z met + times z (c.args.fresh ∷ [])) (n + 1) c.args.fresh (row ++ c.args.cell ∷ [])) (sym z) s
 
 pub returns-then-list-eq0-clause-sizes : goal.returns-then-list-eq0-clause-sizes
 returns-then-list-eq0-clause-sizes c = fills-keeps _ _ _ (fills-cell _ _ c.args.fresh _ c.put_offset.ensures.written)
@@ -28,19 +28,19 @@ pub copy-requires-clause-source : goal.copy-requires-clause-source
 copy-requires-clause-source c =
     let r = c.requires.owns in
     let n = c.if-list-eq0.false in
-    (list-open (cell_at c.args.arena.now.bytes) c.args.list.count c.args.list.offset r.result r.met r.reads (omega (arith, n))).here
+    (list-open (heap_of c.args.arena.now) c.args.list.count c.args.list.offset r.result r.met r.reads (omega (arith, n))).here
 
 pub copy-requires-clause-within : goal.copy-requires-clause-within
 copy-requires-clause-within c =
     let r = c.requires.owns in
     let n = c.if-list-eq0.false in
-    let l = (list-open (cell_at c.args.arena.now.bytes) c.args.list.count c.args.list.offset r.result r.met r.reads (omega (arith, n))).long in
+    let l = (list-open (heap_of c.args.arena.now) c.args.list.count c.args.list.offset r.result r.met r.reads (omega (arith, n))).long in
     omega (arith, l)
 
 pub put_offset-requires-2-clause-room : goal.put_offset-requires-2-clause-room
 put_offset-requires-2-clause-room c =
-    let h = cell_at c.args.arena.now.bytes in
-    let k = cell_at c.copy.new.self.bytes in
+    let h = heap_of c.args.arena.now in
+    let k = heap_of c.copy.new.self in
     let r = c.requires.owns in
     let n = c.if-list-eq0.false in
     let f = copy-fills h k c.args.list.count c.args.list.offset c.args.fresh (omega (arith, n)) r.result r.met r.reads c.requires.room c.copy.ensures.written c.copy.ensures.writes in
@@ -48,19 +48,19 @@ put_offset-requires-2-clause-room c =
 
 pub free-requires : goal.free-requires
 free-requires c =
-    let h = cell_at c.args.arena.now.bytes in
-    let k = cell_at c.copy.new.self.bytes in
+    let h = heap_of c.args.arena.now in
+    let k = heap_of c.copy.new.self in
     let r = c.requires.owns in
     let n = c.if-list-eq0.false in
     let p : 0 < c.args.list.count = omega (arith, n) in
     let f1 = copy-fills h k c.args.list.count c.args.list.offset c.args.fresh p r.result r.met r.reads c.requires.room c.copy.ensures.written c.copy.ensures.writes in
-    old-gone h k (cell_at c.put_offset-2.new.arena.bytes) c.args.list.count c.args.list.offset c.args.fresh p r.result r.met r.reads r.once f1
+    old-gone h k (heap_of c.put_offset-2.new.arena) c.args.list.count c.args.list.offset c.args.fresh p r.result r.met r.reads r.once f1
     (fills-cell _ _ c.args.fresh _ c.put_offset-2.ensures.written)
 
 pub returns-clause-list : goal.returns-clause-list
 returns-clause-list c = λ row met e.
-    let h = cell_at c.args.arena.now.bytes in
-    let k = cell_at c.copy.new.self.bytes in
+    let h = heap_of c.args.arena.now in
+    let k = heap_of c.copy.new.self in
     let r = c.requires.owns in
     let n = c.if-list-eq0.false in
     let p : 0 < c.args.list.count = omega (arith, n) in
@@ -68,15 +68,15 @@ returns-clause-list c = λ row met e.
     let once = subst (λ met. (z : ℕ) → owned z met + times z (c.args.fresh ∷ []) ≤ allocated h z) q r.once in
     let f1 = copy-fills h k c.args.list.count c.args.list.offset c.args.fresh p row met e c.requires.room c.copy.ensures.written c.copy.ensures.writes in
     let c1 = copy-here h k c.args.list.count c.args.list.offset c.args.fresh p row met e c.requires.room c.copy.ensures.written in
-    moved h k (cell_at c.put_offset-2.new.arena.bytes) (cell_at c.free.new.self.bytes) c.args.list.count c.args.list.offset c.args.fresh c.args.cell p row met e once c.requires.room f1 c1
+    moved h k (heap_of c.put_offset-2.new.arena) (heap_of c.free.new.self) c.args.list.count c.args.list.offset c.args.fresh c.args.cell p row met e once c.requires.room f1 c1
     (fills-cell _ _ c.args.fresh _ c.put_offset-2.ensures.written) c.put_offset-2.ensures.here c.put_offset-2.ensures.others c.free.ensures.gone
 
 pub returns-clause-sizes : goal.returns-clause-sizes
 returns-clause-sizes c =
-    let h = cell_at c.args.arena.now.bytes in
-    let k = cell_at c.copy.new.self.bytes in
+    let h = heap_of c.args.arena.now in
+    let k = heap_of c.copy.new.self in
     let r = c.requires.owns in
     let n = c.if-list-eq0.false in
     let p : 0 < c.args.list.count = omega (arith, n) in
     let f1 = copy-fills h k c.args.list.count c.args.list.offset c.args.fresh p r.result r.met r.reads c.requires.room c.copy.ensures.written c.copy.ensures.writes in
-    keeps-three h k (cell_at c.put_offset-2.new.arena.bytes) (cell_at c.free.new.self.bytes) (c.args.fresh ∷ []) _ f1 (fills-cell _ _ c.args.fresh _ c.put_offset-2.ensures.written) c.free.ensures.gone
+    keeps-three h k (heap_of c.put_offset-2.new.arena) (heap_of c.free.new.self) (c.args.fresh ∷ []) _ f1 (fills-cell _ _ c.args.fresh _ c.put_offset-2.ensures.written) c.free.ensures.gone

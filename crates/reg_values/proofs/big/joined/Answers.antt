@@ -1,6 +1,6 @@
 use Rattle.std.proofs.Common.{sym, ap, ◌∙◌, ◌≡◌, ◌<◌, ◌+◌, ℕ, List, length, take, ◌++◌, arith, subst, length-take}
 use Rattle.std.proofs.lemmas.Option.{same_Some}
-use Rattle.reg_arena.specs.Cells.{cell_at}
+use Rattle.reg_arena.specs.Arena.{heap_of}
 use Rattle.reg_records.specs.RecordCells.{held}
 use Rattle.reg_records.specs.OffsetRows.{offsets_at}
 use Rattle.reg_records.specs.BigData.{segments_for}
@@ -11,7 +11,7 @@ use Rattle.reg_values.proofs.big.joined.Goals as goal
 
 pub loop-index-init : goal.loop-index-init
 loop-index-init c = λ all met e.
-    let h = cell_at c.args.arena.now.bytes in
+    let h = heap_of c.args.arena.now in
     let row : List ℕ = offsets_at (segments_for c.args.size) 0 (held h c.args.list) in
     subst (λ done. Joined h c.args.size 0 row done all) (sym c.in_ok-bytes.ensures.items) (joined-none h c.args.size row all met e)
 
@@ -20,7 +20,7 @@ overflow_sub-size c = within c.args.size c.loop-index.index c.segments_for-index
 
 pub content-requires-in-loop-index : goal.content-requires-in-loop-index
 content-requires-in-loop-index c =
-    let h = cell_at c.args.arena.now.bytes in
+    let h = heap_of c.args.arena.now in
     let n = segments_for c.args.size in
     let l : c.loop-index.index < n = subst (λ n. c.loop-index.index < n) c.segments_for-index-end.ensures c.loop-index-test.true in
     let x = some-of _ c.requires.pieces in
@@ -31,7 +31,7 @@ content-requires-in-loop-index c =
 
 pub slice_bounds-extend_from_slice-end : goal.slice_bounds-extend_from_slice-end
 slice_bounds-extend_from_slice-end c =
-    let h = cell_at c.args.arena.now.bytes in
+    let h = heap_of c.args.arena.now in
     let n = segments_for c.args.size in
     let l : c.loop-index.index < n = subst (λ n. c.loop-index.index < n) c.segments_for-index-end.ensures c.loop-index-test.true in
     let x = some-of _ c.requires.pieces in
@@ -47,7 +47,7 @@ slice_bounds-extend_from_slice-end c =
 
 pub loop-index-preserved : goal.loop-index-preserved
 loop-index-preserved c = λ all met e.
-    let h = cell_at c.args.arena.now.bytes in
+    let h = heap_of c.args.arena.now in
     let n = segments_for c.args.size in
     let l : c.loop-index.index < n = subst (λ n. c.loop-index.index < n) c.segments_for-index-end.ensures c.loop-index-test.true in
     let row : List ℕ = offsets_at n 0 (held h c.args.list) in
@@ -61,7 +61,7 @@ loop-index-preserved c = λ all met e.
 
 pub returns : goal.returns
 returns c = λ all met e.
-    let h = cell_at c.args.arena.now.bytes in
+    let h = heap_of c.args.arena.now in
     let n = segments_for c.args.size in
     let row : List ℕ = offsets_at n 0 (held h c.args.list) in
     let many = length-offsets n 0 (held h c.args.list) in

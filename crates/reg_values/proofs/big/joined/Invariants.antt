@@ -1,6 +1,6 @@
 use Rattle.std.proofs.Common.{◌≡◌, List, ℕ, Some}
 use Rattle.reg_heap.specs.Kinds.{Found}
-use Rattle.reg_arena.specs.Cells.{cell_at}
+use Rattle.reg_arena.specs.Arena.{heap_of}
 use Rattle.reg_records.specs.RecordCells.{held}
 use Rattle.reg_records.specs.OffsetRows.{offsets_at}
 use Rattle.reg_records.specs.BigData.{segments_for}
@@ -10,5 +10,5 @@ use Rattle.reg_values.proofs.big.joined.Given as goal
 
 abbrev pub invariant-loop-index : goal.invariant-loop-index
 invariant-loop-index l =
-    (all : List ℕ) → (met : List Found) → segments_at l.size (held (cell_at l.arena.bytes) l.list) (cell_at l.arena.bytes) ≡ Some (all, met) →
-    Joined (cell_at l.arena.bytes) l.size l.index (offsets_at (segments_for l.size) 0 (held (cell_at l.arena.bytes) l.list)) l.bytes.items all
+    (all : List ℕ) → (met : List Found) → segments_at l.size (held (heap_of l.arena) l.list) (heap_of l.arena) ≡ Some (all, met) →
+    Joined (heap_of l.arena) l.size l.index (offsets_at (segments_for l.size) 0 (held (heap_of l.arena) l.list)) l.bytes.items all

@@ -1,5 +1,5 @@
 use Rattle.std.proofs.Common.{length, arith, refl}
-use Rattle.reg_arena.specs.Cells.{cell_at}
+use Rattle.reg_arena.specs.Arena.{heap_of}
 use Rattle.reg_values.proofs.ValueData.FilledCells.{fills-cell}
 use Rattle.reg_values.proofs.ValueData.StoredData.{big-holds, few-segments, all-segments}
 use Rattle.reg_values.proofs.big.put_big.Goals as goal
@@ -17,7 +17,7 @@ pub returns-clause-holds : goal.returns-clause-holds
 returns-clause-holds c =
     let r = c.requires in
     let m = c.put_pieces.ensures.reads in
-    big-holds (cell_at c.args.arena.now.bytes) (cell_at c.put_db.new.arena.bytes) (cell_at c.put_row.new.arena.bytes)
-    (cell_at c.put_pieces.new.arena.bytes) c.args.head c.args.list c.args.segments.now c.args.bytes.now r.size.1 r.size.0 r.count r.once r.head r.list
+    big-holds (heap_of c.args.arena.now) (heap_of c.put_db.new.arena) (heap_of c.put_row.new.arena)
+    (heap_of c.put_pieces.new.arena) c.args.head c.args.list c.args.segments.now c.args.bytes.now r.size.1 r.size.0 r.count r.once r.head r.list
     r.room
     (fills-cell _ _ c.args.head _ c.put_db.ensures.written) c.put_row.ensures.fills c.put_pieces.ensures.fills (length c.args.segments.now) refl c.put_db.ensures.reads c.put_row.ensures.row m.0 m.1

@@ -1,6 +1,6 @@
-use Rattle.reg_arena.specs.Cells.{cell_at}
+use Rattle.reg_arena.specs.Arena.{heap_of}
 use Rattle.reg_values.proofs.ValueData.FilledCells.{PiecesFilled}
 use Rattle.reg_values.proofs.big.put_pieces.Given as goal
 
 abbrev pub invariant-loop-index : goal.invariant-loop-index
-invariant-loop-index l = PiecesFilled (cell_at l.initial.arena.bytes) (cell_at l.arena.bytes) l.segments l.bytes l.index
+invariant-loop-index l = PiecesFilled (heap_of l.initial.arena) (heap_of l.arena) l.segments l.bytes l.index

@@ -1,7 +1,7 @@
 use Rattle.std.proofs.Common.{sym, ap, ◌∙◌, ◌≡◌, slice_get, Some, List, ℕ}
 use Rattle.reg_heap.specs.Paths.{Member}
 use Rattle.reg_heap.specs.Kinds.{Found}
-use Rattle.reg_arena.specs.Cells.{cell_at}
+use Rattle.reg_arena.specs.Arena.{heap_of}
 use Rattle.reg_records.specs.KeyValues.{value_record_at}
 use Rattle.reg_shape.specs.Nodes.{members_at, data_at}
 use Rattle.reg_values.proofs.ValueListing.FoundValues.{is-some, stands, is-ok}
@@ -10,22 +10,22 @@ use Rattle.reg_values.proofs.data.bytes_of.Goals as goal
 
 pub cell_of-requires-clause-list : goal.cell_of-requires-clause-list
 cell_of-requires-clause-list c =
-    let v = c.requires.values in (stands (cell_at c.args.arena.now.bytes) c.args.list.count c.args.list.offset v.members v.met c.args.index v.reads v.written.each c.requires.index).list_here
+    let v = c.requires.values in (stands (heap_of c.args.arena.now) c.args.list.count c.args.list.offset v.members v.met c.args.index v.reads v.written.each c.requires.index).list_here
 
 pub cell_of-requires-clause-index : goal.cell_of-requires-clause-index
 cell_of-requires-clause-index c =
-    let v = c.requires.values in (stands (cell_at c.args.arena.now.bytes) c.args.list.count c.args.list.offset v.members v.met c.args.index v.reads v.written.each c.requires.index).long
+    let v = c.requires.values in (stands (heap_of c.args.arena.now) c.args.list.count c.args.list.offset v.members v.met c.args.index v.reads v.written.each c.requires.index).long
 
 pub record_at-requires : goal.record_at-requires
 record_at-requires c =
-    let h = cell_at c.args.arena.now.bytes in
+    let h = heap_of c.args.arena.now in
     let v = c.requires.values in
     let s = stands h c.args.list.count c.args.list.offset v.members v.met c.args.index v.reads v.written.each c.requires.index in
     is-some _ s.written.value (ap (value_record_at h) c.cell_of.ensures ∙ s.written.reads)
 
 pub data_bytes-requires : goal.data_bytes-requires
 data_bytes-requires c =
-    let h = cell_at c.args.arena.now.bytes in
+    let h = heap_of c.args.arena.now in
     let v = c.requires.values in
     let s = stands h c.args.list.count c.args.list.offset v.members v.met c.args.index v.reads v.written.each c.requires.index in
     let r = ap (value_record_at h) (sym c.cell_of.ensures) ∙ c.record_at.ensures in
@@ -33,7 +33,7 @@ data_bytes-requires c =
 
 pub returns : goal.returns
 returns c =
-    let h = cell_at c.args.arena.now.bytes in
+    let h = heap_of c.args.arena.now in
     let v = c.requires.values in
     let r = ap (value_record_at h) (sym c.cell_of.ensures) ∙ c.record_at.ensures in
     is-ok (λ b. (all : List ℕ) → (met : List Found) → data_at c.record_at.result.fields h ≡ Some (all, met) → b.items ≡ all)

@@ -1,7 +1,7 @@
 use Rattle.std.proofs.Common.{◌≤◌, ℕ, List, arith, subst, sym, ◌∙◌}
 use Rattle.reg_heap.specs.Heaps.{allocated}
 use Rattle.reg_heap.specs.Kinds.{Found, owned}
-use Rattle.reg_arena.specs.Cells.{cell_at}
+use Rattle.reg_arena.specs.Arena.{heap_of}
 use Rattle.reg_shape.specs.Nodes.{member_at}
 use Rattle.reg_shape.specs.Written.{AreWritten}
 use Rattle.reg_values.specs.Internal.ValueListParts.{Owns, GivesUpRead}
@@ -19,34 +19,34 @@ unreachable-requires c =
 pub cell_of-cell-requires-clause-list : goal.cell_of-cell-requires-clause-list
 cell_of-cell-requires-clause-list c =
     let v = c.requires.values in
-    (named-stands (cell_at c.args.arena.now.bytes) c.args.list.count c.args.list.offset v c.args.name.now c.in-Some.index (c.in-Some.ensures v.members v.met v.reads)).list_here
+    (named-stands (heap_of c.args.arena.now) c.args.list.count c.args.list.offset v c.args.name.now c.in-Some.index (c.in-Some.ensures v.members v.met v.reads)).list_here
 
 pub cell_of-cell-requires-clause-index : goal.cell_of-cell-requires-clause-index
 cell_of-cell-requires-clause-index c =
     let v = c.requires.values in
-    (named-stands (cell_at c.args.arena.now.bytes) c.args.list.count c.args.list.offset v c.args.name.now c.in-Some.index (c.in-Some.ensures v.members v.met v.reads)).long
+    (named-stands (heap_of c.args.arena.now) c.args.list.count c.args.list.offset v c.args.name.now c.in-Some.index (c.in-Some.ensures v.members v.met v.reads)).long
 
 pub take_out-after-requires-clause-index : goal.take_out-after-requires-clause-index
 take_out-after-requires-clause-index c =
     let v = c.requires.values in
     let w = offset-within c.args.name.now v.members c.in-Some.index (sym (c.in-Some.ensures v.members v.met v.reads)) in
-    let n = members-length (cell_at c.args.arena.now.bytes) c.args.list.count c.args.list.offset v.members v.met v.reads in
+    let n = members-length (heap_of c.args.arena.now) c.args.list.count c.args.list.offset v.members v.met v.reads in
     omega (arith, w, n)
 
 pub take_out-after-requires-clause-list : goal.take_out-after-requires-clause-list
 take_out-after-requires-clause-list c =
     let v = c.requires.values in
-    let h = cell_at c.args.arena.now.bytes in
+    let h = heap_of c.args.arena.now in
     let a = at-index h c.args.list.count c.args.list.offset v.members v.met c.in-Some.index v.reads v.written (take_out-after-requires-clause-index c) in
     list-owns h c.args.list.count c.args.list.offset v.members v.met c.in-Some.index v.reads v.once v.written a
 
 pub free_value-requires : goal.free_value-requires
 free_value-requires c =
     let v = c.requires.values in
-    let h = cell_at c.args.arena.now.bytes in
+    let h = heap_of c.args.arena.now in
     let n = c.args.list.count in
     let p = c.args.list.offset in
-    let h1 = cell_at c.take_out-after.new.arena.bytes in
+    let h1 = heap_of c.take_out-after.new.arena in
     let w = offset-within c.args.name.now v.members c.in-Some.index (sym (c.in-Some.ensures v.members v.met v.reads)) in
     let l = members-length h n p v.members v.met v.reads in
     let a = at-index h n p v.members v.met c.in-Some.index v.reads v.written (omega (arith, w, l)) in
@@ -56,11 +56,11 @@ free_value-requires c =
 pub returns : goal.returns
 returns c = λ members met e.
     let v = c.requires.values in
-    let h = cell_at c.args.arena.now.bytes in
+    let h = heap_of c.args.arena.now in
     let n = c.args.list.count in
     let p = c.args.list.offset in
-    let h1 = cell_at c.take_out-after.new.arena.bytes in
-    let h2 = cell_at c.free_value.new.arena.bytes in
+    let h1 = heap_of c.take_out-after.new.arena in
+    let h2 = heap_of c.free_value.new.arena in
     let named = sym (c.in-Some.ensures members met e) in
     let w = offset-within c.args.name.now members c.in-Some.index named in
     let l = members-length h n p members met e in

@@ -1,4 +1,4 @@
-use Rattle.reg_arena.specs.Cells.{cell_at}
+use Rattle.reg_arena.specs.Arena.{heap_of}
 use Rattle.reg_values.proofs.ValueListing.FoundValues.{is-some}
 use Rattle.reg_values.proofs.ValueData.FilledCells.{fills-cell}
 use Rattle.reg_values.proofs.ValueChanges.ValueReplaced.{record-kept2, plain-kept2, data-owns3, keeps-cells, exchanged}
@@ -7,35 +7,35 @@ use Rattle.reg_values.proofs.replace.exchange.Goals as goal
 pub set_data-requires : goal.set_data-requires
 set_data-requires c =
     let r = c.requires.record_is in
-    let h1 = cell_at c.args.arena.now.bytes in
-    let h2 = cell_at c.put_data-data.new.arena.bytes in
+    let h1 = heap_of c.args.arena.now in
+    let h2 = heap_of c.put_data-data.new.arena in
     is-some _ _ (record-kept2 h1 h2 h2 c.args.cell c.args.cells.now c.requires.owns c.requires.written c.args.old r.0 r.1 c.put_data-data.ensures.fills)
 
 pub free_data-requires : goal.free_data-requires
 free_data-requires c =
     let r = c.requires.record_is in
-    let h1 = cell_at c.args.arena.now.bytes in
-    let h2 = cell_at c.put_data-data.new.arena.bytes in
-    let h3 = cell_at c.set_data.new.arena.bytes in
+    let h1 = heap_of c.args.arena.now in
+    let h2 = heap_of c.put_data-data.new.arena in
+    let h3 = heap_of c.set_data.new.arena in
     data-owns3 h1 h2 h3 c.args.cell c.args.cells.now c.requires.owns c.requires.written c.args.old r.0 r.1 c.put_data-data.ensures.fills (fills-cell _ _ c.args.cell _ c.set_data.ensures.written)
 
 pub returns-clause-value : goal.returns-clause-value
 returns-clause-value c = λ m met e.
     let r = c.requires.record_is in
-    let h1 = cell_at c.args.arena.now.bytes in
-    let h2 = cell_at c.put_data-data.new.arena.bytes in
-    let h3 = cell_at c.set_data.new.arena.bytes in
+    let h1 = heap_of c.args.arena.now in
+    let h2 = heap_of c.put_data-data.new.arena in
+    let h3 = heap_of c.set_data.new.arena in
     let k = record-kept2 h1 h2 h3 c.args.cell c.args.cells.now c.requires.owns c.requires.written c.args.old r.0 r.1 c.put_data-data.ensures.fills in
     let p = plain-kept2 h1 h2 h3 c.args.cell c.args.cells.now c.requires.owns c.requires.written c.args.old r.0 r.1 c.put_data-data.ensures.fills in
     exchanged h1 h2 h3 c.args.cell c.args.cells.now c.requires.owns c.requires.written c.args.old r.0 r.1 c.put_data-data.ensures.fills
-    (fills-cell _ _ c.args.cell _ c.set_data.ensures.written) (cell_at c.free_data.new.arena.bytes) c.free_data.ensures
+    (fills-cell _ _ c.args.cell _ c.set_data.ensures.written) (heap_of c.free_data.new.arena) c.free_data.ensures
     c.put_data-data.result.size c.put_data-data.result.offset c.args.kind c.args.bytes.now c.put_data-data.ensures.holds (c.set_data.ensures.reads _ k) (c.set_data.ensures.plain p) m met e
 
 pub returns-clause-keeps : goal.returns-clause-keeps
 returns-clause-keeps c =
     let r = c.requires.record_is in
-    let h1 = cell_at c.args.arena.now.bytes in
-    let h2 = cell_at c.put_data-data.new.arena.bytes in
-    let h3 = cell_at c.set_data.new.arena.bytes in
+    let h1 = heap_of c.args.arena.now in
+    let h2 = heap_of c.put_data-data.new.arena in
+    let h3 = heap_of c.set_data.new.arena in
     keeps-cells h1 h2 h3 c.args.cell c.args.cells.now c.requires.owns c.requires.written c.args.old r.0 r.1 c.put_data-data.ensures.fills
-    (fills-cell _ _ c.args.cell _ c.set_data.ensures.written) (cell_at c.free_data.new.arena.bytes) c.free_data.ensures
+    (fills-cell _ _ c.args.cell _ c.set_data.ensures.written) (heap_of c.free_data.new.arena) c.free_data.ensures

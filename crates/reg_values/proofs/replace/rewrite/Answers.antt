@@ -1,5 +1,5 @@
 use Rattle.std.proofs.Common.{arith}
-use Rattle.reg_arena.specs.Cells.{cell_at}
+use Rattle.reg_arena.specs.Arena.{heap_of}
 use Rattle.reg_values.proofs.ValueListing.FoundValues.{is-some}
 use Rattle.reg_values.proofs.ValueData.FilledCells.{fills-cell}
 use Rattle.reg_values.proofs.ValueChanges.ValueReplaced.{offset-there, offset-room, record-kept, plain-kept, rewritten, makes-none}
@@ -8,29 +8,29 @@ use Rattle.reg_values.proofs.replace.rewrite.Goals as goal
 pub write-requires-clause-exists : goal.write-requires-clause-exists
 write-requires-clause-exists c =
     let r = c.requires.record_is in
-    offset-there (cell_at c.args.arena.now.bytes) (cell_at c.args.arena.now.bytes)
-    (cell_at c.args.arena.now.bytes) c.args.cell c.requires.owns c.requires.written c.args.old r.0 r.1 c.args.bytes.now c.requires.stays
+    offset-there (heap_of c.args.arena.now) (heap_of c.args.arena.now)
+    (heap_of c.args.arena.now) c.args.cell c.requires.owns c.requires.written c.args.old r.0 r.1 c.args.bytes.now c.requires.stays
 
 pub write-requires-clause-fits : goal.write-requires-clause-fits
 write-requires-clause-fits c =
     let r = c.requires.record_is in
-    let e = (offset-room (cell_at c.args.arena.now.bytes) (cell_at c.args.arena.now.bytes)
-    (cell_at c.args.arena.now.bytes) c.args.cell c.requires.owns c.requires.written c.args.old r.0 r.1 c.args.bytes.now c.requires.stays).enough in
+    let e = (offset-room (heap_of c.args.arena.now) (heap_of c.args.arena.now)
+    (heap_of c.args.arena.now) c.args.cell c.requires.owns c.requires.written c.args.old r.0 r.1 c.args.bytes.now c.requires.stays).enough in
     omega (arith, e)
 
 pub set_data-requires : goal.set_data-requires
 set_data-requires c =
     let r = c.requires.record_is in
-    let h0 = cell_at c.args.arena.now.bytes in
-    let h1 = cell_at c.write.new.self.bytes in
+    let h0 = heap_of c.args.arena.now in
+    let h1 = heap_of c.write.new.self in
     is-some _ _ (record-kept h0 h1 h1 c.args.cell c.requires.owns c.requires.written c.args.old r.0 r.1 c.args.bytes.now c.requires.stays c.write.ensures.written c.write.ensures.writes)
 
 pub returns-clause-value : goal.returns-clause-value
 returns-clause-value c = λ m met e.
     let r = c.requires.record_is in
-    let h0 = cell_at c.args.arena.now.bytes in
-    let h1 = cell_at c.write.new.self.bytes in
-    let h2 = cell_at c.set_data.new.arena.bytes in
+    let h0 = heap_of c.args.arena.now in
+    let h1 = heap_of c.write.new.self in
+    let h2 = heap_of c.set_data.new.arena in
     let k = record-kept h0 h1 h2 c.args.cell c.requires.owns c.requires.written c.args.old r.0 r.1 c.args.bytes.now c.requires.stays c.write.ensures.written c.write.ensures.writes in
     let p = plain-kept h0 h1 h2 c.args.cell c.requires.owns c.requires.written c.args.old r.0 r.1 c.args.bytes.now c.requires.stays c.write.ensures.written c.write.ensures.writes in
     rewritten h0 h1 h2 c.args.cell c.requires.owns c.requires.written c.args.old r.0 r.1 c.args.bytes.now c.requires.stays c.write.ensures.written
@@ -40,9 +40,9 @@ returns-clause-value c = λ m met e.
 pub returns-clause-cells : goal.returns-clause-cells
 returns-clause-cells c =
     let r = c.requires.record_is in
-    let h0 = cell_at c.args.arena.now.bytes in
-    let h1 = cell_at c.write.new.self.bytes in
-    let h2 = cell_at c.set_data.new.arena.bytes in
+    let h0 = heap_of c.args.arena.now in
+    let h1 = heap_of c.write.new.self in
+    let h2 = heap_of c.set_data.new.arena in
     let k = record-kept h0 h1 h2 c.args.cell c.requires.owns c.requires.written c.args.old r.0 r.1 c.args.bytes.now c.requires.stays c.write.ensures.written c.write.ensures.writes in
     let p = plain-kept h0 h1 h2 c.args.cell c.requires.owns c.requires.written c.args.old r.0 r.1 c.args.bytes.now c.requires.stays c.write.ensures.written c.write.ensures.writes in
     makes-none h0 h1 h2 c.args.cell c.requires.owns c.requires.written c.args.old r.0 r.1 c.args.bytes.now c.requires.stays c.write.ensures.written

@@ -3,7 +3,7 @@ use Rattle.std.proofs.lemmas.Result.{on_ok_weaker, err_from_is_err_and}
 use Rattle.reg_arena.specs.declared.ArenaFault.TheVariants.{Full}
 use Rattle.reg_heap.specs.Heaps.{allocated}
 use Rattle.reg_heap.specs.Kinds.{Found, owned}
-use Rattle.reg_arena.specs.Cells.{cell_at}
+use Rattle.reg_arena.specs.Arena.{heap_of}
 use Rattle.reg_arena.specs.NewCells.{total_of}
 use Rattle.reg_arena.specs.Carves.{NoFit}
 use Rattle.reg_arena.specs.NewBin.{PassesLimit}
@@ -22,7 +22,7 @@ use Rattle.reg_values.proofs.ValueChanges.ValueSetAgain.{value-owns, set-again, 
 use Rattle.reg_values.proofs.setting.set.Goals as goal
 
 pub add-requires-clause-few : goal.add-requires-clause-few
-add-requires-clause-few c = has-space (cell_at c.args.arena.now.bytes) c.args.list.count c.args.list.offset c.args.name.now c.requires.room
+add-requires-clause-few c = has-space (heap_of c.args.arena.now) c.args.list.count c.args.list.offset c.args.name.now c.requires.room
     (λ members met e. sym (sym (c.find.ensures members met e) ∙ c.in_default.is))
 
 pub add-requires-clause-new : goal.add-requires-clause-new
@@ -30,27 +30,27 @@ add-requires-clause-new c = λ members met e. sym (sym (c.find.ensures members m
 
 pub returns-in_default-clause-ok : goal.returns-in_default-clause-ok
 returns-in_default-clause-ok c =
-    let h = cell_at c.args.arena.now.bytes in
+    let h = heap_of c.args.arena.now in
     let n = c.args.list.count in
     let p = c.args.list.offset in
     let v = c.requires.values in
     is-ok _ _ c.add.result (λ after f members met e.
-    subst (Became h (cell_at c.add.new.arena.bytes) met after.count after.offset)
+    subst (Became h (heap_of c.add.new.arena) met after.count after.offset)
     (sym (with-new c.args.name.now c.args.kind c.args.bytes.now members (sym (c.find.ensures members met e) ∙ c.in_default.is)))
     (f members met e)) c.add.ensures.ok
 
 pub returns-in_default-clause-cells : goal.returns-in_default-clause-cells
 returns-in_default-clause-cells c =
-    let h = cell_at c.args.arena.now.bytes in
+    let h = heap_of c.args.arena.now in
     let n = c.args.list.count in
     let p = c.args.list.offset in
     let v = c.requires.values in
     let z = sizes-none h n p c.args.name.now (length c.args.bytes.now) v.members v.met v.reads (sym (sym (c.find.ensures v.members v.met v.reads) ∙ c.in_default.is)) in
-    on_ok_weaker c.add.result (λ f. subst (Makes h (cell_at c.add.new.arena.bytes)) z f) c.add.ensures.cells
+    on_ok_weaker c.add.result (λ f. subst (Makes h (heap_of c.add.new.arena)) z f) c.add.ensures.cells
 
 pub returns-in_default-clause-full : goal.returns-in_default-clause-full
 returns-in_default-clause-full c = λ q.
-    let h = cell_at c.args.arena.now.bytes in
+    let h = heap_of c.args.arena.now in
     let n = c.args.list.count in
     let p = c.args.list.offset in
     let v = c.requires.values in
@@ -59,7 +59,7 @@ returns-in_default-clause-full c = λ q.
 
 pub returns-in_default-clause-limit : goal.returns-in_default-clause-limit
 returns-in_default-clause-limit c = λ q.
-    let h = cell_at c.args.arena.now.bytes in
+    let h = heap_of c.args.arena.now in
     let n = c.args.list.count in
     let p = c.args.list.offset in
     let v = c.requires.values in
@@ -68,7 +68,7 @@ returns-in_default-clause-limit c = λ q.
 
 pub returns-in_default-clause-near : goal.returns-in_default-clause-near
 returns-in_default-clause-near c = λ q.
-    let h = cell_at c.args.arena.now.bytes in
+    let h = heap_of c.args.arena.now in
     let n = c.args.list.count in
     let p = c.args.list.offset in
     let f = has-space h n p c.args.name.now c.requires.room (λ members met e. sym (sym (c.find.ensures members met e) ∙ c.in_default.is)) in
@@ -77,7 +77,7 @@ returns-in_default-clause-near c = λ q.
 
 pub cell_of-cell-requires-clause-list : goal.cell_of-cell-requires-clause-list
 cell_of-cell-requires-clause-list c =
-    let h = cell_at c.args.arena.now.bytes in
+    let h = heap_of c.args.arena.now in
     let n = c.args.list.count in
     let p = c.args.list.offset in
     let v = c.requires.values in
@@ -86,7 +86,7 @@ cell_of-cell-requires-clause-list c =
 
 pub cell_of-cell-requires-clause-index : goal.cell_of-cell-requires-clause-index
 cell_of-cell-requires-clause-index c =
-    let h = cell_at c.args.arena.now.bytes in
+    let h = heap_of c.args.arena.now in
     let n = c.args.list.count in
     let p = c.args.list.offset in
     let v = c.requires.values in
@@ -95,7 +95,7 @@ cell_of-cell-requires-clause-index c =
 
 pub replace-requires-clause-owns : goal.replace-requires-clause-owns
 replace-requires-clause-owns c =
-    let h = cell_at c.args.arena.now.bytes in
+    let h = heap_of c.args.arena.now in
     let n = c.args.list.count in
     let p = c.args.list.offset in
     let v = c.requires.values in
@@ -107,7 +107,7 @@ replace-requires-clause-owns c =
 
 pub replace-requires-clause-written : goal.replace-requires-clause-written
 replace-requires-clause-written c =
-    let h = cell_at c.args.arena.now.bytes in
+    let h = heap_of c.args.arena.now in
     let n = c.args.list.count in
     let p = c.args.list.offset in
     let v = c.requires.values in
@@ -119,7 +119,7 @@ replace-requires-clause-written c =
 
 pub returns-in_err-replace-clause-full : goal.returns-in_err-replace-clause-full
 returns-in_err-replace-clause-full c = λ q.
-    let h = cell_at c.args.arena.now.bytes in
+    let h = heap_of c.args.arena.now in
     let n = c.args.list.count in
     let p = c.args.list.offset in
     let v = c.requires.values in
@@ -131,7 +131,7 @@ returns-in_err-replace-clause-full c = λ q.
 
 pub returns-in_err-replace-clause-limit : goal.returns-in_err-replace-clause-limit
 returns-in_err-replace-clause-limit c = λ q.
-    let h = cell_at c.args.arena.now.bytes in
+    let h = heap_of c.args.arena.now in
     let n = c.args.list.count in
     let p = c.args.list.offset in
     let v = c.requires.values in
@@ -143,8 +143,8 @@ returns-in_err-replace-clause-limit c = λ q.
 
 pub returns-clause-ok : goal.returns-clause-ok
 returns-clause-ok c = λ members met e.
-    let h = cell_at c.args.arena.now.bytes in
-    let k = cell_at c.replace.new.arena.bytes in
+    let h = heap_of c.args.arena.now in
+    let k = heap_of c.replace.new.arena in
     let n = c.args.list.count in
     let p = c.args.list.offset in
     let named = sym (c.in-Some.ensures members met e) in
@@ -161,17 +161,17 @@ returns-clause-ok c = λ members met e.
 
 pub returns-clause-cells : goal.returns-clause-cells
 returns-clause-cells c =
-    let h = cell_at c.args.arena.now.bytes in
+    let h = heap_of c.args.arena.now in
     let n = c.args.list.count in
     let p = c.args.list.offset in
     let v = c.requires.values in
     let z = sizes-there h n p c.args.name.now (length c.args.bytes.now) v.members v.met c.in-Some.index c.cell_of-cell.result v.reads
     (c.in-Some.ensures v.members v.met v.reads) c.cell_of-cell.ensures in
-    subst (Makes h (cell_at c.replace.new.arena.bytes)) z c.in_ok-replace.ensures.cells
+    subst (Makes h (heap_of c.replace.new.arena)) z c.in_ok-replace.ensures.cells
 
 pub returns-in_err-replace-clause-near : goal.returns-in_err-replace-clause-near
 returns-in_err-replace-clause-near c = λ q.
-    let h = cell_at c.args.arena.now.bytes in
+    let h = heap_of c.args.arena.now in
     let e = err_from_is_err_and c.from_residual.result c.from_residual.ensures.1 in
     let f : c.replace.result ≡ Err Full = cc (q, e.1, e.2, c.in_err-replace.was) in
     near c.args.arena.now.bytes _ (replace-total h (length c.args.bytes.now) (value_record_at h c.cell_of-cell.result) c.requires.bytes) (c.replace.ensures.limit f)
