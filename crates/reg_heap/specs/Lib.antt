@@ -4,3 +4,4 @@ pub mod Members
 pub mod Kinds
 pub mod Heaps
 pub mod Edits
+pub mod Trees

@@ -1,5 +1,5 @@
 -- Legal journals: their fronts, their entries, and what holds of their replay.
-use Rattle.std.proofs.Common.{◌≡◌, ℕ, ◌+◌, ◌<◌, Bool, true, false, cond, not, eqb, ap, List, [], ◌∷◌, ◌++◌, length, map, Some, refl, sym, subst, arith, append_assoc, length-append}
+use Rattle.std.proofs.Common.{◌≡◌, ℕ, ◌+◌, ◌<◌, Bool, true, false, cond, not, eqb, ap, List, [], ◌∷◌, ◌++◌, length, map, Some, None, refl, sym, subst, arith, append_assoc, length-append}
 use Rattle.std.specs.List.{AllByRecursion, All}
 use Rattle.std.specs.List.Sorted.{IsStrictlyIncreasing, IsStrictlySortedBy}
 use Rattle.std.specs.Ordering.{nat_cmp}
@@ -10,7 +10,9 @@ use Rattle.std.proofs.lemmas.List.{append-nil}
 use Rattle.std.proofs.lemmas.List.Elements.{All-from_recursion}
 use Rattle.std.proofs.lemmas.Map.Keys.{IsStrictlyIncreasing-from_sorted}
 use Rattle.reg_heap.specs.Paths.{Path, Tree}
-use Rattle.reg_model.specs.Worlds.{World, Handle, StandsIn, IsStanding, after, opened, closed, turned, numbered, look, path_from}
+use Rattle.reg_heap.specs.Edits.{folded_path}
+use Rattle.reg_model.specs.Worlds.{World, Handle, StandsIn, IsStanding, after, opened, closed, turned, numbered, look, path_at, path_from}
+use Rattle.reg_model.specs.Causes.{Opening, rule_of, path_asked}
 use Rattle.reg_model.specs.Replies.{reply_to}
 use Rattle.reg_model.specs.Histories.{replay, state_of, IsFit, IsLegalAfter, IsLegal}
 use Rattle.reg_model.specs.declared.call.Change.{Change}
@@ -41,7 +43,7 @@ pub number-is : (origin : Tree) (past : List Entry) (e : Entry) (more : List Ent
 number-is origin past e more l = let f = legal-at origin past e more l in f.number
 
 -- what holds of no entries, and of one fit entry more, holds of every legal journal
-by_entries : (origin : Tree) (P : List Entry → Type 0) → ((past : List Entry) (e : Entry) → IsFit origin past e → P past → P (past ++ e ∷ [])) →
+pub by_entries : (origin : Tree) (P : List Entry → Type 0) → ((past : List Entry) (e : Entry) → IsFit origin past e → P past → P (past ++ e ∷ [])) →
     (past es : List Entry) → P past → IsLegalAfter origin past es → P (past ++ es)
 by_entries origin P more past [] p l = subst P (sym (append-nil past)) p
 by_entries origin P more past (e ∷ es) p l =
@@ -50,9 +52,9 @@ by_entries origin P more past (e ∷ es) p l =
 -- ---- handles
 
 -- the handles' numbers rise, and all are below n
-record AreRising (n : ℕ) (hs : List Handle) : Type 0 where
-  below : AllByRecursion (λ (h : Handle). h.number < n) hs
-  rising : IsStrictlySortedBy nat_cmp (map (λ (h : Handle). h.number) hs)
+pub record AreRising (n : ℕ) (hs : List Handle) : Type 0 where
+  pub below : AllByRecursion (λ (h : Handle). h.number < n) hs
+  pub rising : IsStrictlySortedBy nat_cmp (map (λ (h : Handle). h.number) hs)
 
 rising-weaker : (n : ℕ) (hs : List Handle) → AllByRecursion (λ (h : Handle). h.number < n) hs → AllByRecursion (λ (h : Handle). h.number < n + 1) hs
 rising-weaker n [] b = tt
@@ -141,7 +143,7 @@ rising-after w n e number r = elim e.change as (λ (change : Change). AreRising 
   | Close h ↦ record { below = rising-weaker n (closed h w.handles) (below-closed n h w.handles r.below); rising = rising-closed h w.handles r.rising }
 ]
 
-rising-all : (origin : Tree) (es : List Entry) → IsLegal origin es → AreRising (length es) (replay origin es).handles
+pub rising-all : (origin : Tree) (es : List Entry) → IsLegal origin es → AreRising (length es) (replay origin es).handles
 rising-all origin es l =
     by_entries origin (λ past. AreRising (length past) (replay origin past).handles)
     (λ past e f r. rw (replay-push origin past e, length-append past (e ∷ [])) (rising-after (replay origin past) (length past) e f.number r)) [] es rising-none l
@@ -161,22 +163,44 @@ pub numbered-push : (n : ℕ) (hs : List Handle) (h : Handle) → h.number ≡ n
 numbered-push n [] h e b = rw (eq-eqb h.number n e) refl
 numbered-push n (x ∷ hs) h e b = rw (ne_eqb x.number n (λ same. omega (arith, b.0))) (numbered-push n hs h e b.1)
 
-opened-after : (w : World) (e : Entry) (mask : ℕ) → AreRising e.number w.handles → e.change ≡ OpenRoot mask → look e.session e.number (after w e).handles ≡ Some (opened e [] mask)
-unfolding after
-opened-after w e mask r is =
-    rw (is, numbered-push e.number w.handles (opened e [] mask) refl r.below, eq-eqb e.session e.session refl) refl
+opening-is : (x y : Opening) → Some x ≡ Some y → x ≡ y
+opening-is x y e = cc
 
--- the session of an entry that opens the root finds its handle by the entry's number
-pub handle-opened : (origin : Tree) (past : List Entry) (e : Entry) (mask : ℕ) → IsLegal origin past → IsFit origin past e →
-    e.change ≡ OpenRoot mask → look e.session e.number (replay origin (past ++ e ∷ [])).handles ≡ Some (opened e [] mask)
-handle-opened origin past e mask l f is =
+-- a handle that an entry opens is found by the entry's number
+opened-one : (w : World) (e : Entry) (base : Path) (x y : Opening) → AreRising e.number w.handles → Some x ≡ Some y →
+    look e.session e.number (w.handles ++ opened e (base ++ folded_path x.path) x.mask ∷ []) ≡ Some (opened e (base ++ folded_path y.path) y.mask)
+opened-one w e base x y r same =
+    rw (numbered-push e.number w.handles (opened e (base ++ folded_path x.path) x.mask) refl r.below, eq-eqb e.session e.session refl)
+    (ap (λ (o : Opening). Some (opened e (base ++ folded_path o.path) o.mask)) (opening-is x y same))
+
+abbrev Opens : World → Entry → Opening → Change → Type 0
+Opens w e o change = (rule_of change).opens ≡ Some o →
+    look e.session e.number (after w (record e { change = change })).handles ≡ Some (opened e (path_asked w e.session (rule_of change).of ++ folded_path o.path) o.mask)
+
+opened-after : (w : World) (e : Entry) (o : Opening) → AreRising e.number w.handles → Opens w e o e.change
+unfolding after
+opened-after w e o r = elim e.change as (Opens w e o) [
+  | OpenRoot mask ↦ opened-one w e [] (record { path = []; mask = mask }) o r
+  | OpenKey h path mask ↦ opened-one w e (path_at e.session h w.handles) (record { path = path; mask = mask }) o r
+  | CreateKey h path mask ↦ opened-one w e (path_at e.session h w.handles) (record { path = path; mask = mask }) o r
+  | SetValue h name kind bytes ↦ λ none. absurd (cc)
+  | DeleteValue h name ↦ λ none. absurd (cc)
+  | DeleteKey h path ↦ λ none. absurd (cc)
+  | Close h ↦ λ none. absurd (cc)
+]
+
+-- the session of an entry that opens a handle finds it by the entry's number
+pub handle-opened : (origin : Tree) (past : List Entry) (e : Entry) (o : Opening) → IsLegal origin past → IsFit origin past e →
+    (rule_of e.change).opens ≡ Some o → look e.session e.number (replay origin (past ++ e ∷ [])).handles ≡
+    Some (opened e (path_asked (replay origin past) e.session (rule_of e.change).of ++ folded_path o.path) o.mask)
+handle-opened origin past e o l f is =
     let r : AreRising e.number (replay origin past).handles = rw f.number (rising-all origin past l) in
-    rw (replay-push origin past e) (opened-after (replay origin past) e mask r is)
+    rw (replay-push origin past e) (opened-after (replay origin past) e o r is)
 
 -- and the reply names it
-pub handle-told : (origin : Tree) (past : List Entry) (e : Entry) (mask : ℕ) → IsFit origin past e → e.change ≡ OpenRoot mask → e.reply.handle ≡ Some e.number
+pub handle-told : (origin : Tree) (past : List Entry) (e : Entry) (o : Opening) → IsFit origin past e → (rule_of e.change).opens ≡ Some o → e.reply.handle ≡ Some e.number
 unfolding reply_to
-handle-told origin past e mask f is = rw (f.reply, is, f.number) refl
+handle-told origin past e o f is = rw (f.reply, is, f.number) refl
 
 -- ---- the root, and the keys that handles lead to
 

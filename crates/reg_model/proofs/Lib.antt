@@ -8,3 +8,5 @@ pub mod RowsRefusals
 pub mod RowsKeys
 pub mod RowsInfos
 mod RowsOfConstants
+pub mod TreesOfJournals
+pub mod DeletedHandles

@@ -28,7 +28,7 @@ abbrev pub handles : List Handle
 handles = handle 0 0 983103 (At []) ∷ handle 1 0 983103 Deleted ∷ handle 2 0 1 (At []) ∷ handle 3 0 2 (At []) ∷ handle 4 1 983103 (At []) ∷ []
 
 abbrev pub state : ℕ → List Handle → Rec → State
-state count hs r = record { count = count; world = record { tree = insert empty [] r; handles = hs } }
+state count hs r = record { kept = count; next = count; world = record { tree = insert empty [] r; handles = hs }; pending = [] }
 
 abbrev pub few : State
 few = state 5 handles root

@@ -79,7 +79,7 @@ asked_cause : query_cause (state_of origin (opening_entry ∷ setting_entry ∷ 
 unfolding early_query_cause late_query_cause
 asked_cause = rw (set_world, root_put) refl
 
-asked_count : (state_of origin (opening_entry ∷ setting_entry ∷ [])).count ≡ 2
+asked_count : (state_of origin (opening_entry ∷ setting_entry ∷ [])).next ≡ 2
 asked_count = refl
 
 asked_body : body_of (state_of origin (opening_entry ∷ setting_entry ∷ [])) 0 (QueryValue 0 [] (Some 4)) ≡ Value 4 4 (Some (1 ∷ 0 ∷ 0 ∷ 0 ∷ []))

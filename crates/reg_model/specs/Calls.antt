@@ -9,7 +9,7 @@ use Rattle.reg_model.specs.declared.reply.ChangeReply.{ChangeReply}
 
 -- the entry of a change that is accepted there
 abbrev pub entry_due : State → ℕ → ℕ → Change → Entry
-entry_due s session moment change = record { number = s.count; session = session; moment = moment; change = change; reply = reply_to s session change }
+entry_due s session moment change = record { number = s.next; session = session; moment = moment; change = change; reply = reply_to s session change }
 
 -- the reply due, or the refusal that there is
 abbrev pub or_refusal : Option ℕ → ChangeReply → ChangeReply
@@ -28,4 +28,4 @@ or_same (Some status) next s = s
 -- where a change leaves the hive: after one entry more, or where it was
 unfoldable pub state_after : State → ℕ → ℕ → Change → ℕ → State
 state_after s session moment change c = or_same (change_cause s session change c)
-    (record { count = s.count + 1; world = after s.world (entry_due s session moment change) }) s
+    (record { kept = s.kept + 1; next = s.next + 1; world = after s.world (entry_due s session moment change); pending = s.pending }) s

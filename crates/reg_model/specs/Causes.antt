@@ -1,5 +1,5 @@
 -- Which calls are refused: the first refusal in the order of the rules.
-use Rattle.std.specs.Prelude.{ℕ, ◌+◌, ◌==◌, ◌||◌, ◌&&◌, not, nat_lt, nat_le, Bool, List, count_by, length, if◌then◌else◌, Option, Some, None, is_some, bit_and}
+use Rattle.std.specs.Prelude.{ℕ, true, false, [], ◌+◌, ◌==◌, ◌||◌, ◌&&◌, not, nat_lt, nat_le, Bool, List, count_by, length, if◌then◌else◌, Option, Some, None, is_some, bit_and}
 use Rattle.std.specs.FinMap.{get}
 use Rattle.reg_names.specs.Names.{is_value_name, is_path, path_of}
 use Rattle.reg_heap.specs.declared.limits.TheConstants.{DATA_LIMIT, VALUES_LIMIT}
@@ -11,15 +11,19 @@ use Rattle.reg_model.specs.declared.rights.TheConstants.{NO_RIGHTS, QUERY_VALUE,
 use Rattle.reg_model.specs.declared.statuses.TheConstants.{FILE_NOT_FOUND, ACCESS_DENIED, INVALID_HANDLE, INVALID_PARAMETER, NO_MORE_ITEMS}
 use Rattle.reg_model.specs.declared.statuses.TheConstants.{KEY_DELETED, NO_SYSTEM_RESOURCES}
 use Rattle.reg_model.specs.Worlds.{World, Handle, Destination, At, Deleted, look, path_at, path_from}
+use Rattle.reg_model.specs.declared.reply.Entry.{Entry}
 use Rattle.reg_model.specs.declared.call.Change.{Change}
 use Rattle.reg_model.specs.declared.call.Change.TheVariants.{OpenRoot, OpenKey, CreateKey, SetValue, DeleteValue, DeleteKey, Close}
 use Rattle.reg_model.specs.declared.call.Query.{Query}
 use Rattle.reg_model.specs.declared.call.Query.TheVariants.{QueryValue, EnumKey, EnumValue, QueryInfo}
 
--- where a call finds the hive: the number of entries so far, and the world
+-- where a call finds the hive: how many entries the journal keeps, the number of the next one, the world, and the entries whose
+-- notifications are pending
 pub record State : Type 0 where
-  pub count : ℕ
+  pub kept : ℕ
+  pub next : ℕ
   pub world : World
+  pub pending : List Entry
 
 -- the first refusal of two
 infixl 10 ◌or◌
@@ -56,7 +60,7 @@ handles_of session hs = count_by (λ (h : Handle). h.session == session) hs
 
 -- the journal has no room for so many more entries beside the closings of the open handles
 abbrev pub is_full : ℕ → State → Bool
-is_full more s = nat_lt JOURNAL_LIMIT (s.count + more + length s.world.handles)
+is_full more s = nat_lt JOURNAL_LIMIT (s.kept + more + length s.world.handles)
 
 -- the session has 16,384 handles, or the journal has no room for the entry and the new handle's closing
 abbrev pub no_handle_room : ℕ → State → Bool
@@ -82,32 +86,6 @@ is_bad_target path = not (is_path path) || length path == 0
 abbrev pub no_key_room : State → ℕ → ℕ → List ℕ → Bool
 no_key_room s session h path = are_too_many s.world.tree (path_at session h s.world.handles) (path_of path)
 
--- what is refused before the callbacks are asked: 6, 1018, 87, 5 and 1450 by a count
-unfoldable pub early_cause : State → ℕ → Change → Option ℕ
-early_cause s session change = by change
-  where
-    by : Change → Option ℕ
-    by (OpenRoot mask) = refuse (not (is_mask mask)) INVALID_PARAMETER or refuse (no_handle_room session s) NO_SYSTEM_RESOURCES
-    by (OpenKey h path mask) =
-        by_handle (λ r. refuse (is_bad_open path mask) INVALID_PARAMETER or refuse (no_handle_room session s) NO_SYSTEM_RESOURCES)
-        (look session h s.world.handles)
-    by (CreateKey h path mask) =
-        by_handle (λ r. refuse (is_bad_open path mask) INVALID_PARAMETER or
-        refuse (no_handle_room session s || no_key_room s session h path) NO_SYSTEM_RESOURCES)
-        (look session h s.world.handles)
-    by (SetValue h name kind bytes) =
-        by_handle (λ r. refuse (is_bad_value name bytes) INVALID_PARAMETER or refuse (not (has SET_VALUE r.mask)) ACCESS_DENIED or
-        refuse (is_full 1 s || no_value_room name (values_at s.world.tree (path_at session h s.world.handles))) NO_SYSTEM_RESOURCES)
-        (look session h s.world.handles)
-    by (DeleteValue h name) =
-        by_handle (λ r. refuse (not (is_value_name name)) INVALID_PARAMETER or refuse (not (has SET_VALUE r.mask)) ACCESS_DENIED or
-        refuse (is_full 1 s) NO_SYSTEM_RESOURCES)
-        (look session h s.world.handles)
-    by (DeleteKey h path) =
-        by_handle (λ r. refuse (is_bad_target path) INVALID_PARAMETER or refuse (is_full 1 s) NO_SYSTEM_RESOURCES)
-        (look session h s.world.handles)
-    by (Close h) = refuse (not (is_some (look session h s.world.handles))) INVALID_HANDLE
-
 -- the handle's key has no value of that name
 abbrev pub lacks_value : State → ℕ → ℕ → List ℕ → Bool
 lacks_value s session h name = not (is_some (value_named name (values_at s.world.tree (path_at session h s.world.handles))))
@@ -116,30 +94,101 @@ lacks_value s session h name = not (is_some (value_named name (values_at s.world
 abbrev pub lacks_key : State → ℕ → ℕ → List ℕ → Bool
 lacks_key s session h path = not (is_some (get s.world.tree (path_from session h s.world.handles path)))
 
+-- the key at the end of the path from the handle's key has subkeys, or mark 0x08
+abbrev pub stays : State → ℕ → ℕ → List ℕ → Bool
+stays s session h path = may_not_go s.world.tree (path_from session h s.world.handles path)
+
+-- what a change is asked of: the root, the key that a handle leads to, or a handle alone, wherever it leads
+pub data AskedOf : Type 0 where
+  Root : AskedOf
+  KeyOf : ℕ → AskedOf
+  HandleAlone : ℕ → AskedOf
+
+-- the path of the key that a call is asked of, the root's where it is asked of none
+abbrev pub path_asked : World → ℕ → AskedOf → Path
+path_asked w session Root = []
+path_asked w session (KeyOf h) = path_at session h w.handles
+path_asked w session (HandleAlone h) = path_at session h w.handles
+
+-- a handle that a change opens: the path from the key of which it is asked, and the mask
+pub record Opening : Type 0 where
+  pub path : List ℕ
+  pub mask : ℕ
+
+-- the rules of one change: of what it is asked; that its arguments are bad (87); the rights that it asks (5); that what is counted
+-- has no room for it (1450); its own cause; the handle that it opens, if it opens one; and whether it takes space in the bins
+pub record Rule : Type 0 where
+  pub of : AskedOf
+  pub bad : Bool
+  pub rights : Option ℕ
+  pub counted : State → ℕ → Bool
+  pub own : State → ℕ → Option ℕ
+  pub opens : Option Opening
+  pub takes_space : Bool
+
+-- a change that asks no rights, is one entry, has no cause of its own, opens nothing and takes no space
+abbrev pub plain : AskedOf → Bool → Rule
+plain of bad = record { of = of; bad = bad; rights = None; counted = λ s session. is_full 1 s; own = λ s session. None; opens = None; takes_space = false }
+
+-- one that opens a handle, for whose closing the journal has room
+abbrev pub opening : AskedOf → Bool → List ℕ → ℕ → Rule
+opening of bad path mask = record (plain of bad) { counted = λ s session. no_handle_room session s; opens = Some (record { path = path; mask = mask }) }
+
+-- the rules of each change (`RegOpenKeyEx`, `RegCreateKeyEx`, `RegSetValueEx`, `RegDeleteValue`, `RegDeleteKey`, `RegCloseKey`)
+abbrev pub rule_of : Change → Rule
+rule_of (OpenRoot mask) = opening Root (not (is_mask mask)) [] mask
+rule_of (OpenKey h path mask) =
+    record (opening (KeyOf h) (is_bad_open path mask) path mask) { own = λ s session. refuse (lacks_key s session h path) FILE_NOT_FOUND }
+rule_of (CreateKey h path mask) =
+    record (opening (KeyOf h) (is_bad_open path mask) path mask) {
+      counted = λ s session. no_handle_room session s || no_key_room s session h path;
+      takes_space = true;
+    }
+rule_of (SetValue h name kind bytes) =
+    record (plain (KeyOf h) (is_bad_value name bytes)) {
+      rights = Some SET_VALUE;
+      counted = λ s session. is_full 1 s || no_value_room name (values_at s.world.tree (path_at session h s.world.handles));
+      takes_space = true;
+    }
+rule_of (DeleteValue h name) =
+    record (plain (KeyOf h) (not (is_value_name name))) {
+      rights = Some SET_VALUE;
+      own = λ s session. refuse (lacks_value s session h name) FILE_NOT_FOUND;
+    }
+rule_of (DeleteKey h path) =
+    record (plain (KeyOf h) (is_bad_target path)) {
+      own = λ s session. refuse (lacks_key s session h path) FILE_NOT_FOUND or refuse (stays s session h path) ACCESS_DENIED;
+    }
+rule_of (Close h) = plain (HandleAlone h) false
+
+-- the causes so far, and then 5 where rights are asked that the handle lacks
+abbrev pub and_rights : Option ℕ → Option ℕ → Handle → Option ℕ
+and_rights before None r = before
+and_rights before (Some rights) r = before or refuse (not (has rights r.mask)) ACCESS_DENIED
+
+-- what is refused before the callbacks are asked: 6, 1018, 87, 5 and 1450 by a count; of a handle alone only 6
+unfoldable pub early_cause : State → ℕ → Change → Option ℕ
+early_cause s session change = by (rule_of change) (rule_of change).of
+  where
+    by : Rule → AskedOf → Option ℕ
+    by rule Root = refuse rule.bad INVALID_PARAMETER or refuse (rule.counted s session) NO_SYSTEM_RESOURCES
+    by rule (KeyOf h) =
+        by_handle (λ r. and_rights (refuse rule.bad INVALID_PARAMETER) rule.rights r or refuse (rule.counted s session) NO_SYSTEM_RESOURCES)
+        (look session h s.world.handles)
+    by rule (HandleAlone h) = refuse (not (is_some (look session h s.world.handles))) INVALID_HANDLE
+
 -- what is refused after them: the call's own cause
 unfoldable pub late_cause : State → ℕ → Change → Option ℕ
-late_cause s session change = by change
-  where
-    by : Change → Option ℕ
-    by (OpenRoot mask) = None
-    by (OpenKey h path mask) = refuse (lacks_key s session h path) FILE_NOT_FOUND
-    by (CreateKey h path mask) = None
-    by (SetValue h name kind bytes) = None
-    by (DeleteValue h name) = refuse (lacks_value s session h name) FILE_NOT_FOUND
-    by (DeleteKey h path) =
-        refuse (lacks_key s session h path) FILE_NOT_FOUND or
-        refuse (may_not_go s.world.tree (path_from session h s.world.handles path)) ACCESS_DENIED
-    by (Close h) = None
+late_cause s session change = (rule_of change).own s session
 
--- the callbacks' status, where they are asked: before every change but Close
+-- the callbacks' status, where they are asked: before every change but one of a handle alone
+abbrev pub asked_of : AskedOf → ℕ → Option ℕ
+asked_of Root c = asked c
+asked_of (KeyOf h) c = asked c
+asked_of (HandleAlone h) c = None
+
 abbrev pub asked_before : Change → ℕ → Option ℕ
-asked_before (Close h) c = None
-asked_before (OpenRoot mask) c = asked c
-asked_before (OpenKey h path mask) c = asked c
-asked_before (CreateKey h path mask) c = asked c
-asked_before (SetValue h name kind bytes) c = asked c
-asked_before (DeleteValue h name) c = asked c
-asked_before (DeleteKey h path) c = asked c
+asked_before change c = asked_of (rule_of change).of c
 
 -- the first refusal of a change; c is the callbacks' status
 abbrev pub change_cause : State → ℕ → Change → ℕ → Option ℕ

@@ -18,13 +18,17 @@ replay_from w (e ∷ es) = replay_from (after w e) es
 abbrev pub replay : Tree → List Entry → World
 replay origin es = replay_from (opening origin) es
 
+-- the entries whose notifications are pending: none, as no change asks for one
+abbrev pub pending_of : List Entry → List Entry
+pending_of es = []
+
 -- where a call finds the hive after these entries
 abbrev pub state_of : Tree → List Entry → State
-state_of origin es = record { count = length es; world = replay origin es }
+state_of origin es = record { kept = length es; next = length es; world = replay origin es; pending = pending_of es }
 
 -- an entry is legal after the entries so far: its number is its index, nothing refused it, and its reply is the one due
 pub record IsFit (origin : Tree) (past : List Entry) (e : Entry) : Type 0 where
-  pub number : e.number ≡ length past
+  pub number : e.number ≡ (state_of origin past).next
   pub accepted : change_cause (state_of origin past) e.session e.change 0 ≡ None
   pub reply : e.reply ≡ reply_to (state_of origin past) e.session e.change
 

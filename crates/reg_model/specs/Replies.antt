@@ -7,9 +7,9 @@ use Rattle.reg_heap.specs.Members.{value_named}
 use Rattle.reg_model.specs.declared.statuses.TheConstants.{FILE_NOT_FOUND, MORE_DATA, NO_MORE_ITEMS}
 use Rattle.reg_model.specs.Worlds.{path_at}
 use Rattle.reg_heap.specs.Edits.{values_at, descriptor_of, missing}
-use Rattle.reg_model.specs.Causes.{State, subkeys_of, members_of}
+use Rattle.reg_model.specs.Causes.{State, Opening, rule_of, subkeys_of, members_of}
 use Rattle.reg_model.specs.declared.call.Change.{Change}
-use Rattle.reg_model.specs.declared.call.Change.TheVariants.{OpenRoot, OpenKey, CreateKey, SetValue, DeleteValue, DeleteKey, Close}
+use Rattle.reg_model.specs.declared.call.Change.TheVariants.{CreateKey}
 use Rattle.reg_model.specs.declared.call.Query.{Query}
 use Rattle.reg_model.specs.declared.call.Query.TheVariants.{QueryValue, EnumKey, EnumValue, QueryInfo}
 use Rattle.reg_model.specs.declared.reply.ChangeReply.{ChangeReply}
@@ -25,21 +25,25 @@ abbrev pub disposition_of : List (List ℕ) → ℕ
 disposition_of [] = 2
 disposition_of (name ∷ names) = 1
 
+-- what is told of the key that is opened: only CreateKey tells it
+abbrev pub disposition_told : State → ℕ → Change → Option ℕ
+disposition_told s session (CreateKey h path mask) =
+    Some (disposition_of (missing s.world.tree (path_at session h s.world.handles) (path_of path)))
+disposition_told s session change = None
+
+-- a number, where a handle is opened
+abbrev pub if_opened : Option Opening → ℕ → Option ℕ
+if_opened None number = None
+if_opened (Some opening) number = Some number
+
 -- status 0, the entry's number, and the same number for a handle that was opened
 unfoldable pub reply_to : State → ℕ → Change → ChangeReply
-reply_to s session change = by change
-  where
-    accepted : Option ℕ → Option ℕ → ChangeReply
-    accepted handle disposition = record { status = 0; number = Some s.count; handle = handle; disposition = disposition }
-
-    by : Change → ChangeReply
-    by (OpenRoot mask) = accepted (Some s.count) None
-    by (OpenKey h path mask) = accepted (Some s.count) None
-    by (CreateKey h path mask) = accepted (Some s.count) (Some (disposition_of (missing s.world.tree (path_at session h s.world.handles) (path_of path))))
-    by (SetValue h name kind bytes) = accepted None None
-    by (DeleteValue h name) = accepted None None
-    by (DeleteKey h path) = accepted None None
-    by (Close h) = accepted None None
+reply_to s session change = record {
+  status = 0;
+  number = Some s.next;
+  handle = if_opened (rule_of change).opens s.next;
+  disposition = disposition_told s session change;
+}
 
 -- a value as it is told: its type and size, and its bytes if a room was given; 234 where the room is below the size
 abbrev pub value_told : Option Member → Option ℕ → AnswerBody

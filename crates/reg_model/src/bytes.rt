@@ -1,4 +1,4 @@
-ghost use Rattle.std.specs.Prelude.{◌≡◌, IfOk};
+ghost use Rattle.std.specs.Prelude.{◌≡◌, ◌≢◌, [], IfOk, OnErr};
 
 use std::alloc::{AllocError, Global};
 use std::marker::Model;
@@ -40,10 +40,16 @@ impl Bytes {
         self.items.as_slice()
     }
 
-    /// A copy of a slice's bytes. Its one fault is that memory was refused.
+    /// A copy of a slice's bytes. Its one fault is that memory was refused; no bytes take no memory.
     pub fn from_slice(alloc: Global, bytes: &[u8]) -> Result<Bytes, AllocError>
-        ensures { IfOk result (λ copy. copy ≡ bytes.now) }
+        ensures ok { IfOk result (λ copy. copy ≡ bytes.now) }
+        ensures err { OnErr result (bytes.now ≢ []) }
     {
+        if bytes.is_empty() {
+            return Ok(Bytes {
+                items: Vec::new(alloc),
+            });
+        }
         let items = Vec::from_slice(alloc, bytes)?;
         Ok(Bytes { items })
     }

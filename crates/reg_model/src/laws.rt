@@ -1,15 +1,16 @@
 //! Laws of calls, journals and what these make of a tree. Each function is one law: it does nothing, and its contract says
 //! what holds of the definitions in `specs/`.
-ghost use Rattle.std.specs.Prelude.{◌≡◌, ◌≢◌, ◌<◌, ◌+◌, ℕ, List, [], ◌∷◌, ◌++◌, length, map, All, IsSome, Some};
+ghost use Rattle.std.specs.Prelude.{◌≡◌, ◌≢◌, ◌⊎◌, ◌<◌, ◌+◌, ℕ, List, [], ◌∷◌, ◌++◌, length, map, All, IsSome, Some};
 ghost use Rattle.std.specs.List.Sorted.{IsStrictlyIncreasing};
 ghost use Rattle.std.specs.FinMap.{get};
 ghost use Rattle.reg_heap.specs.Paths.{Tree};
-ghost use Rattle.reg_model.specs.Worlds.{after, look, opened, Handle, StandsIn};
-ghost use Rattle.reg_model.specs.Causes.{State, change_cause};
+ghost use Rattle.reg_heap.specs.Edits.{folded_path};
+ghost use Rattle.reg_heap.specs.Trees.{IsTree};
+ghost use Rattle.reg_model.specs.Worlds.{after, look, opened, Handle, Deleted, StandsIn};
+ghost use Rattle.reg_model.specs.Causes.{State, Opening, rule_of, path_asked, change_cause};
 ghost use Rattle.reg_model.specs.Calls.{entry_due, reply_given, state_after};
 ghost use Rattle.reg_model.specs.Histories.{IsFit, IsLegal, replay, state_of};
 ghost use Rattle.reg_model.specs.declared.call.Change.{Change};
-ghost use Rattle.reg_model.specs.declared.call.Change.TheVariants.{OpenRoot};
 ghost use Rattle.reg_model.specs.declared.reply.Entry.{Entry};
 
 /// The front of a legal journal is legal.
@@ -67,14 +68,29 @@ pub fn handle_numbers_rise()
         IsStrictlyIncreasing (map (λ (h : Handle). h.number) (replay origin journal).handles) }
 {}
 
-/// An entry that opens the root tells its own number as the handle's, by which its session then finds a handle to the root
-/// with the mask that it asked for.
+/// An entry that opens a handle tells its own number as the handle's, by which its session then finds a handle to the key at
+/// the end of the path, with the mask that it asked for.
 pub fn handle_has_its_entrys_number()
-    ensures told { (origin : Tree) → (past : List Entry) → (e : Entry) → (mask : ℕ) → IsFit origin past e →
-        e.change ≡ OpenRoot mask → e.reply.handle ≡ Some e.number }
-    ensures found { (origin : Tree) → (past : List Entry) → (e : Entry) → (mask : ℕ) → IsLegal origin past →
-        IsFit origin past e → e.change ≡ OpenRoot mask →
-        look e.session e.number (replay origin (past ++ e ∷ [])).handles ≡ Some (opened e [] mask) }
+    ensures told { (origin : Tree) → (past : List Entry) → (e : Entry) → (opening : Opening) → IsFit origin past e →
+        (rule_of e.change).opens ≡ Some opening → e.reply.handle ≡ Some e.number }
+    ensures found { (origin : Tree) → (past : List Entry) → (e : Entry) → (opening : Opening) → IsLegal origin past →
+        IsFit origin past e → (rule_of e.change).opens ≡ Some opening →
+        look e.session e.number (replay origin (past ++ e ∷ [])).handles ≡
+        Some (opened e (path_asked (replay origin past) e.session (rule_of e.change).of ++ folded_path opening.path) opening.mask) }
+{}
+
+/// A handle whose key was deleted leads nowhere after every further entry, until it is closed; its number then finds nothing.
+pub fn handle_of_a_deleted_key_stays_so()
+    ensures { (origin : Tree) → (past more : List Entry) → (session number : ℕ) → (h : Handle) → IsLegal origin (past ++ more) →
+        look session number (replay origin past).handles ≡ Some h → h.destination ≡ Deleted →
+        (look session number (replay origin (past ++ more)).handles ≡ Some h)
+        ⊎ (look session number (replay origin (past ++ more)).handles ≡ None) }
+{}
+
+/// A tree stays a tree after every legal journal: it holds its root and each key's parent, the last name of a path is its key's
+/// name, folded, and the names of a key's values differ after folding.
+pub fn tree_stays_a_tree()
+    ensures { (origin : Tree) → (journal : List Entry) → IsLegal origin journal → IsTree origin → IsTree (replay origin journal).tree }
 {}
 
 /// A tree that holds its root holds it after every legal journal.
