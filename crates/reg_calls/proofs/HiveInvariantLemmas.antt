@@ -2,13 +2,15 @@
 use Rattle.std.proofs.Common.{◌≡◌, ℕ, ◌+◌, ◌<◌, ◌≤◌, Bool, true, false, not, nat_le, eqb, cond, is_some, List, [], ◌∷◌, ◌++◌, length, Option, Some, None, refl, sym, ap, ◌∙◌, subst, arith}
 use Rattle.std.proofs.Common.{length-append, true≢false}
 use Rattle.std.specs.Prelude.{All}
+use Rattle.std.specs.List.{AllByRecursion}
 use Rattle.std.proofs.lemmas.List.{length-map}
 use Rattle.std.proofs.lemmas.Bool.{false≢true}
 use Rattle.std.proofs.lemmas.Bool.Decides.{nat_tests}
 use Rattle.reg_heap.specs.Paths.{Tree}
-use Rattle.reg_model.specs.declared.limits.TheConstants.{HANDLES_LIMIT, JOURNAL_LIMIT}
+use Rattle.reg_model.specs.declared.limits.TheConstants.{HANDLES_LIMIT, JOURNAL_LIMIT, SESSIONS_LIMIT}
 use Rattle.reg_model.specs.Worlds.{World, Handle, IsStanding, look, numbered, owned, closed, turned, path_from, after}
 use Rattle.reg_model.specs.Causes.{State, change_cause, is_full, no_handle_room, handles_of}
+use Rattle.reg_model.specs.Callbacks.{no_callbacks}
 use Rattle.reg_model.specs.Replies.{reply_to}
 use Rattle.reg_model.specs.Calls.{entry_due}
 use Rattle.reg_model.specs.Histories.{state_of, replay, IsFit}
@@ -19,18 +21,20 @@ use Rattle.reg_model.specs.declared.call.Change.TheVariants.{OpenRoot, OpenKey, 
 use Rattle.reg_model.proofs.JournalGrowth.{replay-push, legal-push}
 use Rattle.reg_model.proofs.LegalJournals.{is_standing, handles-below}
 use Rattle.reg_model.proofs.AcceptedCalls.{both_false, root-met, open-met, create-met, set-met, drop-met, delete-met, close-met}
+use Rattle.reg_arena.specs.Arena.{IsSound}
+use Rattle.reg_tree.specs.TreeKeys.{IsWholeTree}
 use Rattle.reg_calls.specs.declared.store.Store.{Store}
 use Rattle.reg_calls.specs.Internal.Stores.{at, world_of, IsReady, IsDone}
 use Rattle.reg_calls.specs.Shortages.{is_closing}
-use Rattle.reg_calls.specs.Views.{HiveInvariant, View, state}
+use Rattle.reg_calls.specs.Views.{HiveInvariant, View, state, IsHive, IsAccepted, IsAppliedBy, IsApplied}
 
 -- ---- what is kept
 
 pub world-kept : {origin : Tree} {es : List Entry} {store : Store} {room : ℕ} → HiveInvariant origin es store room → world_of store ≡ replay origin es
-world-kept kept = λ i. record { tree = kept.tree_is i; handles = kept.handles_are i }
+world-kept kept = λ i. record { tree = kept.hive.tree i; handles = kept.hive.handles i }
 
 pub state-kept : {origin : Tree} {es : List Entry} {store : Store} {room : ℕ} → HiveInvariant origin es store room → state_of origin es ≡ at (length es) store
-state-kept {es = es} kept = λ i. record { count = length es; world = sym (world-kept kept) i }
+state-kept {es = es} kept = λ i. record { kept = length es; next = length es; world = sym (world-kept kept) i; pending = [] }
 
 -- the same at a hive's view
 pub state-view : {origin : Tree} {es : List Entry} {store : Store} {room : ℕ} (v : View) → HiveInvariant origin es store room →
@@ -39,9 +43,9 @@ state-view v kept e = ap state (sym e) ∙ state-kept kept
 
 pub ready-kept : {origin : Tree} {es : List Entry} {store : Store} {room : ℕ} → HiveInvariant origin es store room → IsReady (length es) store
 ready-kept {origin = origin} {es = es} {store = store} kept = record {
-  stand = subst (λ (w : World). IsStanding w.tree w.handles) (sym (world-kept kept)) (is_standing origin es kept.legal kept.rooted);
-  below = subst (All (λ (h : Handle). h.number < length es)) (sym kept.handles_are) (handles-below origin es kept.legal);
-  small = kept.small;
+  stand = subst (λ (w : World). IsStanding w.tree w.handles) (sym (world-kept kept)) (is_standing origin es kept.hive.legal kept.hive.origin.root);
+  below = subst (All (λ (h : Handle). h.number < length es)) (sym kept.hive.handles) (handles-below origin es kept.hive.legal);
+  small = kept.hive.small;
 }
 
 -- ---- how many handles there are after a change
@@ -72,13 +76,13 @@ closed-less number (h ∷ hs) e = by (eqb h.number number) e (closed-less number
 closed-fewer : (session number : ℕ) (hs : List Handle) → is_some (look session number hs) ≡ true → length (closed number hs) + 1 ≤ length hs
 closed-fewer session number hs e = closed-less number hs (owned-found session (numbered number hs) e)
 
-not_full : (more : ℕ) (s : State) → is_full more s ≡ false → s.count + more + length s.world.handles ≤ JOURNAL_LIMIT
+not_full : (more : ℕ) (s : State) → is_full more s ≡ false → s.kept + more + length s.world.handles ≤ JOURNAL_LIMIT
 not_full more s e = grind (arith, nat_tests, e)
 
 -- the journal has room for the entry and the closings of all handles after it; one handle more is open at most, and one less
 -- after a Close
 record Fits (s : State) (change : Change) (hs : List Handle) : Type 0 where
-  small : s.count + 1 + length hs ≤ JOURNAL_LIMIT
+  small : s.kept + 1 + length hs ≤ JOURNAL_LIMIT
   grown : length hs ≤ length s.world.handles + 1
   closing : is_closing change ≡ true → length hs + 1 ≤ length s.world.handles
 
@@ -94,7 +98,7 @@ fits-same s change hs same opens room =
     let f = not_full 1 s room in
     record { small = omega (arith, f, same); grown = omega (arith, same); closing = λ c. absurd (true≢false (sym c ∙ opens)) }
 
-fits : (s : State) (e : Entry) → s.count + length s.world.handles ≤ JOURNAL_LIMIT → change_cause s e.session e.change 0 ≡ None → Fits s e.change (after s.world e).handles
+fits : (s : State) (e : Entry) → s.kept + length s.world.handles ≤ JOURNAL_LIMIT → change_cause s e.session e.change 0 ≡ None → Fits s e.change (after s.world e).handles
 unfolding after
 fits s e small = elim e.change as (λ (change : Change). change_cause s e.session change 0 ≡ None → Fits s change (after s.world (record e { change = change })).handles) [
   | OpenRoot mask ↦ λ none. let m = root-met s e.session mask 0 none in fits-push s e.session (OpenRoot mask) _ refl m.room
@@ -109,6 +113,13 @@ fits s e small = elim e.change as (λ (change : Change). change_cause s e.sessio
 ]
 
 -- ---- one entry more
+
+abbrev SessionsBelow : List Entry → Type 0
+SessionsBelow es = AllByRecursion (λ (e : Entry). e.session < SESSIONS_LIMIT) es
+
+sessions-push : (es : List Entry) (e : Entry) → SessionsBelow es → e.session < SESSIONS_LIMIT → SessionsBelow (es ++ e ∷ [])
+sessions-push [] e b l = (l, tt)
+sessions-push (x ∷ es) e b l = (b.0, sessions-push es e b.1 l)
 
 -- the entry that an accepted change becomes
 abbrev pub entry_with : List Entry → ℕ → ℕ → Change → ChangeReply → Entry
@@ -139,7 +150,7 @@ module _ {origin : Tree} {es : List Entry} {store : Store} {room : ℕ} (kept : 
 
   fits-done : Fits (at (length es) store) change new.handles.handles
   fits-done =
-      let f = fits (at (length es) store) (entry_due (at (length es) store) session moment change) kept.small none in
+      let f = fits (at (length es) store) (entry_due (at (length es) store) session moment change) kept.hive.small none in
       subst (λ (w : World). Fits (at (length es) store) change w.handles) (sym done.world) f
 
   by_closing : (P : Type 0) → (is_closing change ≡ true → P) → (is_closing change ≡ false → P) → P
@@ -154,17 +165,48 @@ module _ {origin : Tree} {es : List Entry} {store : Store} {room : ℕ} (kept : 
   append-room room' h =
       by_closing (0 < room') (λ c. let f = fits-done in let l = f.closing c in let r = h.1 c in omega (arith, l, r)) (λ c. let r = h.0 c in omega (arith, r))
 
-  pub kept-done : (room' room'' : ℕ) → HasRoom room' store change → room' ≤ room'' + 1 → HiveInvariant origin (es ++ e ∷ []) new room''
-  kept-done room' room'' h used =
+  -- the hive after it, whose cells are sound and whole
+  pub kept-done : (room' room'' : ℕ) → session < SESSIONS_LIMIT → IsSound new.tree.bins.bytes new.tree.bins.heads →
+      IsWholeTree new.tree.bins.bytes new.tree.root new.tree.tree → HasRoom room' store change → room' ≤ room'' + 1 →
+      HiveInvariant origin (es ++ e ∷ []) new room''
+  kept-done room' room'' below sound whole h used =
       let f = fits-done in
       let l = length-append es (e ∷ []) in
       let small = f.small in
       record {
-        legal = legal-push origin es e kept.legal fit-done;
-        rooted = kept.rooted;
-        tree_is = ap (λ (w : World). w.tree) world-done;
-        handles_are = ap (λ (w : World). w.handles) world-done;
-        small = omega (arith, small, l);
+        hive = record {
+          origin = kept.hive.origin;
+          limits = kept.hive.limits;
+          legal = legal-push origin es e kept.hive.legal fit-done;
+          sessions = sessions-push es e kept.hive.sessions below;
+          small = omega (arith, small, l);
+          tree = ap (λ (w : World). w.tree) world-done;
+          handles = ap (λ (w : World). w.handles) world-done;
+          sound = sound;
+          whole = whole;
+        };
         room_kept = by_closing (length new.handles.handles ≤ room'') (λ c. let x = f.closing c in let r = h.1 c in
             omega (arith, x, r, used)) (λ c. let g = f.grown in let r = h.0 c in omega (arith, g, r, used));
       }
+
+-- ---- what a change is answered
+
+-- a change that was made is accepted
+pub accepted : {origin : Tree} {es : List Entry} {store : Store} {room : ℕ} (kept : HiveInvariant origin es store room) (v new : View) →
+    record { origin = origin; journal = es; keys = store.tree; handles = store.handles.handles } ≡ v → (session moment : ℕ) (change : Change) (told : ChangeReply) →
+    told ≡ reply_to (at (length es) store) session change → new.journal ≡ es ++ entry_with es session moment change told ∷ [] → new.origin ≡ origin →
+    IsHive new → IsAccepted v new session moment change told
+accepted {origin = origin} {es = es} {store = store} kept v new view_is session moment change told reply journal same hive =
+    let says = reply ∙ ap (λ (s : State). reply_to s session change) (sym (state-kept kept)) in
+    subst (λ (w : View). IsAccepted w new session moment change told) view_is (record {
+      says = says;
+      journal = journal ∙ ap (λ (r : ChangeReply). es ++ entry_with es session moment change r ∷ []) says;
+      origin = same;
+      hive = hive;
+    })
+
+-- where nobody is asked, the cause alone decides
+pub applied-by : (v new : View) (session moment : ℕ) (change : Change) (reply : ChangeReply) (n : ℕ) (store : Store) (o : Option ℕ) → state v ≡ at n store →
+    o ≡ change_cause (at n store) session change 0 → IsAppliedBy o v new session moment change reply → IsApplied no_callbacks v new session moment change reply
+applied-by v new session moment change reply n store o is cause by =
+    subst (λ (x : Option ℕ). IsAppliedBy x v new session moment change reply) (cause ∙ ap (λ (s : State). change_cause s session change 0) (sym is)) by

@@ -21,17 +21,18 @@ use Rattle.reg_tree.specs.declared.value.ValueFound.{ValueFound}
 use Rattle.reg_tree.specs.ValueAnswers.{IsFound}
 use Rattle.reg_calls.specs.declared.store.Store.{Store}
 use Rattle.reg_calls.specs.Internal.Stores.{at, IsTarget}
+use Rattle.reg_model.specs.Callbacks.{no_callbacks}
 use Rattle.reg_calls.specs.Views.{IsRead, IsTold, is_told}
 use Rattle.reg_calls.proofs.HandleLookUps.{by_handle-at, target-at}
 use Rattle.reg_model.proofs.HandleInvariant.{has-put}
 use Rattle.reg_calls.proofs.RefusalTests.{Refuses, first}
 
 -- a refusal is told
-pub refused : (s : State) (session status : ℕ) (q : Query) → query_cause s session q 0 ≡ Some status → IsRead s session q (Refused status)
+pub refused : (s : State) (session status : ℕ) (q : Query) → query_cause s session q 0 ≡ Some status → IsRead no_callbacks s session q (Refused status)
 refused s session status q e = rw e (inl refl)
 
 -- the answer due is told, or 8 in its place
-pub told : (s : State) (session : ℕ) (q : Query) (due body : AnswerBody) → query_cause s session q 0 ≡ None → body_of s session q ≡ due → IsTold due body → IsRead s session q body
+pub told : (s : State) (session : ℕ) (q : Query) (due body : AnswerBody) → query_cause s session q 0 ≡ None → body_of s session q ≡ due → IsTold due body → IsRead no_callbacks s session q body
 told s session q due body none is t = rw (none, is) t
 
 module _ (n : ℕ) (store : Store) (session h : ℕ) where
@@ -46,7 +47,7 @@ module _ (n : ℕ) (store : Store) (session h : ℕ) where
 
   -- ---- QueryValue
 
-  pub value-refused : (name : List ℕ) (room : Option ℕ) (status : ℕ) → Refuses store session h status → IsRead s session (QueryValue h name room) (Refused status)
+  pub value-refused : (name : List ℕ) (room : Option ℕ) (status : ℕ) → Refuses store session h status → IsRead no_callbacks s session (QueryValue h name room) (Refused status)
   unfolding early_query_cause late_query_cause
   value-refused name room status r =
       refused s session status (QueryValue h name room) (first _ _ _ status (r (λ x. refuse (not (is_value_name name)) 87 or refuse (not (has 1 x.mask)) 5)))
@@ -67,7 +68,7 @@ module _ (n : ℕ) (store : Store) (session h : ℕ) where
 
   -- ---- EnumKey
 
-  pub key-refused : (index room status : ℕ) → Refuses store session h status → IsRead s session (EnumKey h index room) (Refused status)
+  pub key-refused : (index room status : ℕ) → Refuses store session h status → IsRead no_callbacks s session (EnumKey h index room) (Refused status)
   unfolding early_query_cause late_query_cause
   key-refused index room status r = refused s session status (EnumKey h index room) (first _ _ _ status (r (λ x. refuse (not (has 8 x.mask)) 5)))
 
@@ -86,7 +87,7 @@ module _ (n : ℕ) (store : Store) (session h : ℕ) where
 
   -- ---- EnumValue
 
-  pub member-refused : (index name_room : ℕ) (room : Option ℕ) (status : ℕ) → Refuses store session h status → IsRead s session (EnumValue h index name_room room) (Refused status)
+  pub member-refused : (index name_room : ℕ) (room : Option ℕ) (status : ℕ) → Refuses store session h status → IsRead no_callbacks s session (EnumValue h index name_room room) (Refused status)
   unfolding early_query_cause late_query_cause
   member-refused index name_room room status r = refused s session status (EnumValue h index name_room room) (first _ _ _ status (r (λ x. refuse (not (has 1 x.mask)) 5)))
 
@@ -105,7 +106,7 @@ module _ (n : ℕ) (store : Store) (session h : ℕ) where
 
   -- an index past the last is told 259, and any other the member
   pub member-read : (index name_room : ℕ) (room : Option ℕ) (mask : ℕ) (g : t) (body : AnswerBody) → mask ≡ g.handle.mask → has 1 mask ≡ true →
-      IsTold (member_told (slice_get (values_at tree g.path) index) name_room room) body → IsRead s session (EnumValue h index name_room room) body
+      IsTold (member_told (slice_get (values_at tree g.path) index) name_room room) body → IsRead no_callbacks s session (EnumValue h index name_room room) body
   member-read index name_room room mask g body m right is =
       let chain = member-causes index name_room room mask g m in
       let due = member-due index name_room room g in
@@ -117,7 +118,7 @@ module _ (n : ℕ) (store : Store) (session h : ℕ) where
           body_of s session (EnumValue h index name_room room) ≡ member_told (slice_get (values_at tree g.path) index) name_room room
           → (((x : Member) × (index < length (values_at tree g.path)) × (slice_get (values_at tree g.path) index ≡ Some x) ×
           (get_or (values_at tree g.path) index x ≡ x)) ⊎ ((length (values_at tree g.path) ≤ index) ×
-          (slice_get (values_at tree g.path) index ≡ None))) → IsRead s session (EnumValue h index name_room room) body
+          (slice_get (values_at tree g.path) index ≡ None))) → IsRead no_callbacks s session (EnumValue h index name_room room) body
       by chain due (inl x) =
           let below : nat_le (length (values_at tree g.path)) index ≡ false = let l = x.1 in grind (arith, nat_tests, l) in
           told s session (EnumValue h index name_room room) _ body (chain ∙ rw (right, below) refl) due is
@@ -129,7 +130,7 @@ module _ (n : ℕ) (store : Store) (session h : ℕ) where
 
   -- ---- QueryInfo
 
-  pub info-refused : (status : ℕ) → Refuses store session h status → IsRead s session (QueryInfo h) (Refused status)
+  pub info-refused : (status : ℕ) → Refuses store session h status → IsRead no_callbacks s session (QueryInfo h) (Refused status)
   unfolding early_query_cause late_query_cause
   info-refused status r = refused s session status (QueryInfo h) (first _ _ _ status (r (λ x. refuse (not (has 1 x.mask)) 5)))
 

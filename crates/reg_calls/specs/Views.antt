@@ -1,12 +1,15 @@
 -- What callers see of a hive, and what is true of every hive.
-use Rattle.std.specs.Prelude.{◌≡◌, ℕ, ◌+◌, ◌≤◌, List, [], ◌∷◌, ◌++◌, length, Option, Some, None, IsSome, false, true, ◌⊎◌, refl, is_some}
-use Rattle.std.specs.FinMap.{get}
+use Rattle.std.specs.Prelude.{◌≡◌, ◌≢◌, ℕ, ◌+◌, ◌<◌, ◌≤◌, List, [], ◌∷◌, ◌++◌, length, Option, Some, None, false, ◌⊎◌, refl}
+use Rattle.std.specs.List.{AllByRecursion}
 use Rattle.std.specs.Coded.{Coded, code_by, coded×, coded_list}
 use Rattle.reg_heap.specs.Paths.{Tree, coded_tree}
+use Rattle.reg_heap.specs.Trees.{IsTree, IsWithinLimits}
+use Rattle.reg_arena.specs.Arena.{IsSound}
 use Rattle.reg_model.specs.declared.statuses.TheConstants.{NOT_ENOUGH_MEMORY, NO_SYSTEM_RESOURCES}
-use Rattle.reg_model.specs.declared.limits.TheConstants.{JOURNAL_LIMIT}
+use Rattle.reg_model.specs.declared.limits.TheConstants.{JOURNAL_LIMIT, SESSIONS_LIMIT}
 use Rattle.reg_model.specs.Worlds.{Handle}
-use Rattle.reg_model.specs.Causes.{State, query_cause}
+use Rattle.reg_model.specs.Causes.{State, change_cause, query_cause}
+use Rattle.reg_model.specs.Callbacks.{Callbacks, change_status, query_status}
 use Rattle.reg_model.specs.Replies.{reply_to, refusal, body_of}
 use Rattle.reg_model.specs.Histories.{state_of, IsLegal, replay}
 use Rattle.reg_model.specs.contracts.reply.Entry.{the_row}
@@ -16,7 +19,7 @@ use Rattle.reg_model.specs.declared.answer.AnswerBody.{AnswerBody}
 use Rattle.reg_model.specs.declared.answer.AnswerBody.TheVariants.{Refused, Short, Value, Key, Member, Info}
 use Rattle.reg_model.specs.declared.call.Change.{Change}
 use Rattle.reg_model.specs.declared.call.Query.{Query}
-use Rattle.reg_tree.specs.TreeKeys.{Keys, coded_keys}
+use Rattle.reg_tree.specs.TreeKeys.{Keys, coded_keys, IsWholeTree}
 use Rattle.reg_handles.specs.HandleTables.{coded_handle}
 use Rattle.reg_calls.specs.declared.store.Store.{Store}
 use Rattle.reg_calls.specs.declared.lack.Lack.{Lack}
@@ -39,14 +42,23 @@ coded_view =
 abbrev pub state : View → State
 state v = state_of v.origin v.journal
 
--- the journal is legal and the origin has its root; the tree and the handles are those of the replay; and room is kept for the
--- closing of each open handle
+-- what is true of every hive: its origin is a tree, its journal is legal, of sessions below 64, and leaves room for the closings;
+-- the tree and the handles are those of the replay; and its bins are sound (cells tile them, and the free lists hold precisely the
+-- free ones) and whole: each allocated cell is reached from the root exactly as often as its references say, and they spell the tree
+pub record IsHive (v : View) : Type 0 where
+  pub origin : IsTree v.origin
+  pub limits : IsWithinLimits v.origin
+  pub legal : IsLegal v.origin v.journal
+  pub sessions : AllByRecursion (λ (e : Entry). e.session < SESSIONS_LIMIT) v.journal
+  pub small : length v.journal + length v.handles ≤ JOURNAL_LIMIT
+  pub tree : v.keys.tree ≡ (replay v.origin v.journal).tree
+  pub handles : v.handles ≡ (replay v.origin v.journal).handles
+  pub sound : IsSound v.keys.bins.bytes v.keys.bins.heads
+  pub whole : IsWholeTree v.keys.bins.bytes v.keys.root v.keys.tree
+
+-- the same of a hive's parts, and room is kept for the closing of each open handle
 pub record HiveInvariant (origin : Tree) (journal : List Entry) (store : Store) (room : ℕ) : Type 0 where
-  pub legal : IsLegal origin journal
-  pub rooted : IsSome (get origin [])
-  pub tree_is : store.tree.tree ≡ (replay origin journal).tree
-  pub handles_are : store.handles.handles ≡ (replay origin journal).handles
-  pub small : length journal + length store.handles.handles ≤ JOURNAL_LIMIT
+  pub hive : IsHive (record { origin = origin; journal = journal; keys = store.tree; handles = store.handles.handles })
   pub room_kept : length store.handles.handles ≤ room
 
 -- the entry of an accepted change
@@ -64,6 +76,7 @@ pub record IsAccepted (old new : View) (session moment : ℕ) (change : Change) 
   pub says : reply ≡ reply_to (state old) session change
   pub journal : new.journal ≡ old.journal ++ entry_of old session moment change ∷ []
   pub origin : new.origin ≡ old.origin
+  pub hive : IsHive new
 
 -- the status that tells a lack: 1450 for space, 8 for memory
 abbrev pub status_of : Lack → ℕ
@@ -76,17 +89,27 @@ pub record Lacks (old new : View) (change : Change) (reply : ChangeReply) : Type
   pub same : new ≡ old
 
 -- what a change may be answered, by the cause of its refusal
-abbrev pub IsApplied : Option ℕ → View → View → ℕ → ℕ → Change → ChangeReply → Type 0
-IsApplied (Some status) old new session moment change reply = (reply ≡ refusal status) × (new ≡ old)
-IsApplied None old new session moment change reply = IsAccepted old new session moment change reply ⊎ Lacks old new change reply
+abbrev pub IsAppliedBy : Option ℕ → View → View → ℕ → ℕ → Change → ChangeReply → Type 0
+IsAppliedBy (Some status) old new session moment change reply = (reply ≡ refusal status) × (new ≡ old)
+IsAppliedBy None old new session moment change reply = IsAccepted old new session moment change reply ⊎ Lacks old new change reply
 
--- the answer holds a name or bytes
+-- what a change may be answered, where these callbacks are asked
+abbrev pub IsApplied : Callbacks → View → View → ℕ → ℕ → Change → ChangeReply → Type 0
+IsApplied callbacks old new session moment change reply =
+    IsAppliedBy (change_cause (state old) session change (change_status callbacks (state old).world session moment change)) old new session moment change reply
+
+-- there are some bytes, if any were asked for
+abbrev pub AreSome : Option (List ℕ) → Type 0
+AreSome None = ⊥
+AreSome (Some bytes) = bytes ≢ []
+
+-- the answer holds a name or bytes: a byte at least
 abbrev pub HoldsBytes : AnswerBody → Type 0
 HoldsBytes (Refused status) = ⊥
 HoldsBytes (Short status kind size) = ⊥
-HoldsBytes (Value kind size bytes) = is_some bytes ≡ true
-HoldsBytes (Key name time) = Unit {0}
-HoldsBytes (Member name kind size bytes) = Unit {0}
+HoldsBytes (Value kind size bytes) = AreSome bytes
+HoldsBytes (Key name time) = name ≢ []
+HoldsBytes (Member name kind size bytes) = (name ≢ []) ⊎ AreSome bytes
 HoldsBytes (Info subkeys longest_key values longest_value largest security time) = ⊥
 
 abbrev pub is_told : Option ℕ → AnswerBody → AnswerBody
@@ -97,6 +120,7 @@ is_told None body = body
 abbrev pub IsTold : AnswerBody → AnswerBody → Type 0
 IsTold due body = (body ≡ due) ⊎ ((body ≡ Refused NOT_ENOUGH_MEMORY) × HoldsBytes due)
 
--- what a question may be answered: the refusal, or the answer due, or 8 in its place
-abbrev pub IsRead : State → ℕ → Query → AnswerBody → Type 0
-IsRead s session query body = IsTold (is_told (query_cause s session query 0) (body_of s session query)) body
+-- what a question may be answered, where these callbacks are asked: the refusal, or the answer due, or 8 in its place
+abbrev pub IsRead : Callbacks → State → ℕ → Query → AnswerBody → Type 0
+IsRead callbacks s session query body =
+    IsTold (is_told (query_cause s session query (query_status callbacks s.world session query)) (body_of s session query)) body

@@ -3,10 +3,10 @@ ghost use Rattle.std.specs.FinMap.{insert, empty};
 ghost use Rattle.reg_names.specs.Names.{is_key_name};
 ghost use Rattle.reg_model.specs.declared.limits.TheConstants.{SESSIONS_LIMIT};
 ghost use Rattle.reg_arena.specs.Cells.{cell_at};
-ghost use Rattle.reg_model.specs.Causes.{change_cause};
+ghost use Rattle.reg_model.specs.Callbacks.{no_callbacks};
 ghost use Rattle.reg_model.specs.Histories.{IsLegal, replay};
 ghost use Rattle.reg_tree.specs.TreeKeys.{made_root, IsWholeTree};
-ghost use Rattle.reg_calls.specs.Views.{state, IsApplied, IsRead};
+ghost use Rattle.reg_calls.specs.Views.{state, IsApplied, IsRead, IsHive};
 
 use crate::hive_core::Core;
 use reg_arena::Arena;
@@ -79,10 +79,12 @@ impl Hive {
         }
     }
 
-    /// How many entries the journal has. They are legal: each was accepted after those before it.
+    /// How many entries the journal has. They are legal: each was accepted after those before it (clause `legal`); and all else
+    /// that is true of every hive is so of this one (clause `hive`).
     pub fn len(&self) -> usize
         ensures len { result ≡ length (view_of self.now).journal }
         ensures legal { IsLegal (view_of self.now).origin (view_of self.now).journal }
+        ensures hive { IsHive (view_of self.now) }
     {
         self.core.len()
     }
@@ -120,7 +122,7 @@ impl Hive {
     /// acceptance.
     pub fn apply(&mut self, session: u8, moment: u64, change: Change) -> ChangeReply
         requires { session < SESSIONS_LIMIT }
-        ensures { IsApplied (change_cause (state (view_of self.old)) session change 0) (view_of self.old) (view_of self.new) session moment change result }
+        ensures { IsApplied no_callbacks (view_of self.old) (view_of self.new) session moment change result }
     {
         self.core.apply(session, moment, change)
     }
@@ -129,14 +131,14 @@ impl Hive {
     pub fn read(&self, session: u8, query: &Query) -> Answer
         requires { session < SESSIONS_LIMIT }
         ensures at { result.at ≡ length (view_of self.now).journal }
-        ensures body { IsRead (state (view_of self.now)) session query.now result.body }
+        ensures body { IsRead no_callbacks (state (view_of self.now)) session query.now result.body }
     {
         self.core.read(session, query)
     }
 
     fn answer(&mut self, step: Step) -> Outcome
         requires { step.session < SESSIONS_LIMIT }
-        ensures { IsStep (view_of self.old) step result (view_of self.new) }
+        ensures { IsStep no_callbacks (view_of self.old) step result (view_of self.new) }
     {
         let Step {
             session,
@@ -153,7 +155,7 @@ impl Hive {
     /// refused, before the first call; then the hive is as before.
     pub fn run(&mut self, alloc: Global, steps: Vec<Step>) -> Result<Vec<Outcome>, RunFault>
         requires { All (λ s. s.session < SESSIONS_LIMIT) steps.items }
-        ensures ok { IfOk result (λ outcomes. Run (view_of self.old) steps.items outcomes.items (view_of self.new)) }
+        ensures ok { IfOk result (λ outcomes. Run no_callbacks (view_of self.old) steps.items outcomes.items (view_of self.new)) }
         ensures err { OnErr result (self.new ≡ self.old) }
     {
         let Ok(mut outcomes) = Vec::with_capacity(alloc, steps.len()) else {

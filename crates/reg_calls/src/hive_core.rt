@@ -1,12 +1,14 @@
 //! A hive without its callbacks.
 ghost use Rattle.std.specs.Prelude.{◌≡◌, ◌<◌, ◌≤◌, [], Some, None, IsSome, length, slice_get, option_copied, ◌+◌, false, OnOk, OnErr};
-ghost use Rattle.std.specs.FinMap.{get};
+ghost use Rattle.reg_heap.specs.Trees.{IsTree, IsWithinLimits};
+ghost use Rattle.reg_arena.specs.Arena.{IsSound};
 ghost use Rattle.reg_model.specs.declared.limits.TheConstants.{JOURNAL_LIMIT, SESSIONS_LIMIT};
 ghost use Rattle.reg_model.specs.Causes.{change_cause};
+ghost use Rattle.reg_model.specs.Callbacks.{no_callbacks};
 ghost use Rattle.reg_model.specs.Replies.{refusal};
 ghost use Rattle.reg_tree.specs.TreeKeys.{IsWholeTree};
 ghost use Rattle.reg_calls.specs.Shortages.{is_closing};
-ghost use Rattle.reg_calls.specs.Views.{state, IsApplied, IsRead};
+ghost use Rattle.reg_calls.specs.Views.{state, IsApplied, IsAppliedBy, IsRead, IsHive};
 
 use crate::journal::Journal;
 use crate::store::Store;
@@ -80,17 +82,27 @@ fn keep_room(journal: &mut Journal, handles: usize, change: &Change) -> Result<(
     journal.reserve(handles + 2)
 }
 
+/// The size of a tree's bins, for its clauses: what is true of every tree's cells.
+fn bins_size(tree: &Tree) -> u32
+    ensures sound { IsSound tree.now.bins.bytes tree.now.bins.heads }
+    ensures whole { IsWholeTree tree.now.bins.bytes tree.now.root tree.now.tree }
+{
+    tree.arena().bins_size()
+}
+
 impl Core {
     ghost use Rattle.reg_model.specs.Histories.{IsLegal, replay};
 
     /// A hive of the keys of a tree, with no handle open and an empty journal. The tree as it is now is its origin.
     pub fn new(alloc: Global, tree: Tree) -> Core
-        requires { IsSome (get tree.tree []) }
+        requires tree { IsTree tree.tree }
+        requires limits { IsWithinLimits tree.tree }
         ensures origin { result.origin ≡ tree.tree }
         ensures journal { result.journal ≡ [] }
         ensures keys { result.keys ≡ tree }
         ensures handles { result.handles ≡ [] }
     {
+        let _ = bins_size(&tree);
         let origin = Snapshot::of(&tree);
         Core {
             alloc,
@@ -107,6 +119,7 @@ impl Core {
     pub fn len(&self) -> usize
         ensures len { result ≡ length self.now.journal }
         ensures legal { IsLegal self.now.origin self.now.journal }
+        ensures hive { IsHive self.now }
     {
         self.journal.len()
     }
@@ -139,7 +152,7 @@ impl Core {
     fn accept(&mut self, session: u8, moment: u64, change: Change) -> ChangeReply
         requires session { session < SESSIONS_LIMIT }
         requires cause { change_cause (state self.old) session change 0 ≡ None }
-        ensures { IsApplied None self.old self.new session moment change result }
+        ensures { IsAppliedBy None self.old self.new session moment change result }
     {
         let handles = self.store.handles.len();
         match keep_room(&mut self.journal, handles, &change) {
@@ -152,6 +165,7 @@ impl Core {
             .make(self.alloc, session, moment, number, &change)
         {
             Ok(reply) => {
+                let _ = bins_size(&self.store.tree);
                 self.journal.append(Entry {
                     number,
                     session,
@@ -168,7 +182,7 @@ impl Core {
     /// Answers a change: refused by its cause, or made and noted, or given up for want of memory or space.
     pub fn apply(&mut self, session: u8, moment: u64, change: Change) -> ChangeReply
         requires { session < SESSIONS_LIMIT }
-        ensures { IsApplied (change_cause (state self.old) session change 0) self.old self.new session moment change result }
+        ensures { IsApplied no_callbacks self.old self.new session moment change result }
     {
         match self.store.cause(self.journal.len(), session, &change) {
             Some(status) => refuse(status),
@@ -179,7 +193,7 @@ impl Core {
     /// Answers a question, with the number of entries at which it was answered.
     pub fn read(&self, session: u8, query: &Query) -> Answer
         ensures at { result.at ≡ length self.now.journal }
-        ensures body { IsRead (state self.now) session query.now result.body }
+        ensures body { IsRead no_callbacks (state self.now) session query.now result.body }
     {
         let body = self.store.answer(self.alloc, session, query);
         Answer {

@@ -6,15 +6,15 @@ use Rattle.std.specs.List.{AllByRecursion, list_any}
 use Rattle.std.specs.Ordering.{eq_by_cmp, is_eq}
 use Rattle.std.specs.FinMap.{get, get-empty, insert, remove, empty, contains_key, get-insert, get-remove}
 use Rattle.std.specs.Cmp.Lexicographic.{nat_list_cmp_total}
-use Rattle.std.proofs.lemmas.Bool.{false≢true}
+use Rattle.std.proofs.lemmas.Bool.{false≢true, and_parts}
 use Rattle.std.proofs.lemmas.Bool.Decides.{nat_tests}
-use Rattle.std.proofs.lemmas.Cmp.{tied_itself}
+use Rattle.std.proofs.lemmas.Cmp.{tied_itself, eq_by_cmp_equiv}
 use Rattle.reg_names.specs.Names.{folded, path_of}
-use Rattle.reg_heap.specs.Paths.{Path, Tree, Rec, Member, path_cmp, children_of}
+use Rattle.reg_heap.specs.Paths.{Path, Tree, Rec, Member, path_cmp, is_child, children_of}
 use Rattle.reg_heap.specs.Members.{values_with, values_without, same_name}
 use Rattle.reg_heap.specs.Edits.{edited, at_time, above, with_key, with_keys, without_key, with_value, without_value, has_child, child_path, made_key, descriptor_of, may_not_go}
-use Rattle.reg_heap.specs.Trees.{IsTree, NamesDiffer}
-use Rattle.reg_heap.proofs.ChildrenOfPath.{children-contain, is_child-below, path-is}
+use Rattle.reg_heap.specs.Trees.{IsTree, IsSmallKey, IsWithinLimits, NamesDiffer}
+use Rattle.reg_heap.proofs.ChildrenOfPath.{children-contain, is_child-below, named, path-is}
 use Rattle.reg_model.specs.Worlds.{World, Handle, same_path, path_at, path_from, after}
 use Rattle.reg_model.specs.Causes.{State, change_cause}
 use Rattle.reg_model.specs.Histories.{replay, state_of, IsFit, IsLegal}
@@ -236,7 +236,7 @@ tree-without t p moment i below none =
 not-root : (p : Path) (name : List ℕ) → p ++ name ∷ [] ≡ [] → ⊥
 not-root p name e = let l = ap length e in let s = snoc-long p name in omega (arith, l, s)
 
-abbrev one_root : Rec → Tree
+abbrev pub one_root : Rec → Tree
 one_root r = insert empty [] r
 
 empty-has : (p : Path) (r : Rec) → get {R = path_cmp} empty p ≡ Some r → ⊥
@@ -251,6 +251,28 @@ tree-root r d = record {
   parents = λ p name h. let x = some-of (get (one_root r) (p ++ name ∷ [])) h in absurd (none-below r p name x.0 x.1);
   names = λ p name r' e. absurd (none-below r p name r' e);
   apart = λ p r' e. by-same empty [] r (λ (k : Rec). NamesDiffer k.values) p r' e (λ same. d) (λ was. absurd (empty-has _ r' was));
+}
+
+-- a tree of one root within the limits
+root-only : (r : Rec) (p : Path) → IsSome (get (one_root r) p) → p ≡ []
+root-only r p h = let x = some-of (get (one_root r) p) h in by-same empty [] r (λ _. p ≡ []) p x.0 x.1 (λ same. same) (λ was. absurd (empty-has p x.0 was))
+
+first-any : (q : Path) (qs : List Path) → list_any (eq_by_cmp path_cmp q) (q ∷ qs) ≡ true
+first-any q qs = let o = eq_by_cmp_equiv path_total in rw (o.refl q) refl
+
+childless : (r : Rec) (p : Path) (qs : List Path) → children_of (one_root r) p ≡ qs → length qs ≤ 0
+childless r p [] e = omega arith
+childless r p (q ∷ qs) e =
+    let any = subst (λ (xs : List Path). list_any (eq_by_cmp path_cmp q) xs ≡ true) (sym e) (first-any q qs) in
+    let both = and_parts (is_child p q) (contains_key (one_root r) q) (sym (children-contain (one_root r) p q) ∙ any) in
+    let below = named p q both.0 in
+    absurd (not-root p below.0 (sym below.1 ∙ root-only r q both.1))
+
+pub limits-root : (r : Rec) → IsSmallKey r → IsWithinLimits (one_root r)
+limits-root r k = record {
+  keys = λ p r' e. by-same empty [] r IsSmallKey p r' e (λ same. k) (λ was. absurd (empty-has p r' was));
+  few = λ p. let l = childless r p (children_of (one_root r) p) refl in omega (arith, l);
+  shallow = λ p h. let l = ap length (root-only r p h) in omega (arith, l);
 }
 
 -- ---- after an accepted change

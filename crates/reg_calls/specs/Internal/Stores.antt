@@ -1,5 +1,5 @@
 -- The keys and the open handles on them, as calls find and leave them.
-use Rattle.std.specs.Prelude.{◌≡◌, ℕ, ◌+◌, ◌<◌, ◌≤◌, false, length, Option, Some, All, Result, Ok, Err}
+use Rattle.std.specs.Prelude.{◌≡◌, ℕ, [], ◌+◌, ◌<◌, ◌≤◌, false, length, Option, Some, All, Result, Ok, Err}
 use Rattle.reg_heap.specs.Paths.{Path}
 use Rattle.reg_model.specs.declared.limits.TheConstants.{JOURNAL_LIMIT}
 use Rattle.reg_model.specs.Worlds.{World, Handle, At, IsStanding, look, after}
@@ -21,7 +21,7 @@ world_of store = record { tree = store.tree.tree; handles = store.handles.handle
 
 -- where a call finds it after so many entries
 abbrev pub at : ℕ → Store → State
-at entries store = record { count = entries; world = world_of store }
+at entries store = record { kept = entries; next = entries; world = world_of store; pending = [] }
 
 -- the root is there, and each key that a handle leads to
 abbrev pub AreStanding : Store → Type 0

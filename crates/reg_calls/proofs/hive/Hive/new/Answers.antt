@@ -1,5 +1,24 @@
-use Rattle.reg_calls.proofs.QueryAnswers.{made-rooted}
+use Rattle.std.proofs.Common.{rules, arith, ◌≡◌, ◌≤◌, true, length, sym, subst}
+use Rattle.std.proofs.lemmas.Bool.Decides.{nat_tests}
+use Rattle.reg_names.specs.Names.{is_key_name}
+use Rattle.reg_heap.specs.Trees.{IsTree, IsWithinLimits}
+use Rattle.reg_tree.specs.TreeKeys.{made_root}
+use Rattle.reg_model.proofs.TreesOfJournals.{tree-root, limits-root}
 use Rattle.reg_calls.proofs.hive.Hive.new.Goals as goal
 
-pub new-requires-in-Ok : goal.new-requires-in-Ok
-new-requires-in-Ok c = made-rooted _ _ c.in-Ok.ensures.ok
+pub new-requires-in-Ok-clause-tree : goal.new-requires-in-Ok-clause-tree
+new-requires-in-Ok-clause-tree c = subst IsTree (sym c.in-Ok.ensures.ok) (tree-root (made_root c.args.root_name.now c.args.descriptor.now c.args.moment) tt)
+
+pub new-requires-in-Ok-clause-limits : goal.new-requires-in-Ok-clause-limits
+new-requires-in-Ok-clause-limits c =
+    let name : is_key_name c.args.root_name.now ≡ true = search rules in
+    let some = c.if-is_empty.ensures in
+    let described : 1 ≤ length c.args.descriptor.now = grind (arith, nat_tests, some) in
+    let short = c.if-descriptor-gt-DESCRIPTOR_LIMIT.false in
+    subst IsWithinLimits (sym c.in-Ok.ensures.ok) (limits-root (made_root c.args.root_name.now c.args.descriptor.now c.args.moment) (record {
+      name = name;
+      described = described;
+      descriptor = short;
+      few = omega arith;
+      values = tt;
+    }))

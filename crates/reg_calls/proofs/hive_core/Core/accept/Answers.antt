@@ -1,9 +1,9 @@
-use Rattle.std.proofs.Common.{◌≡◌, ◌++◌, ◌∷◌, [], ℕ, List, length, sym, ap, ◌∙◌, subst, arith, None}
+use Rattle.std.proofs.Common.{◌≡◌, ◌++◌, ◌∷◌, [], ℕ, List, length, sym, ap, ◌∙◌, subst, arith, None, inl, refl}
 use Rattle.reg_model.specs.Causes.{State, change_cause}
 use Rattle.reg_model.specs.declared.reply.Entry.{Entry}
 use Rattle.reg_calls.specs.Internal.Stores.{IsReady, IsDone}
 use Rattle.reg_calls.specs.Views.{HiveInvariant}
-use Rattle.reg_calls.proofs.HiveInvariantLemmas.{ready-kept, state-view, append-room, kept-done}
+use Rattle.reg_calls.proofs.HiveInvariantLemmas.{ready-kept, state-view, append-room, kept-done, accepted}
 use Rattle.reg_calls.proofs.hive_core.Core.accept.Goals as goal
 
 pub make-requires-clause-ready : goal.make-requires-clause-ready
@@ -33,8 +33,19 @@ invariant_of-self-in-Ok-make c =
     let kept = c.self.invariant.room_kept in
     let more = c.in-Ok.ensures.room in
     let handles = c.len-handles.ensures in
-    let all = kept-done c.self.invariant c.args.session c.args.moment c.args.change none c.make.new.self c.in-Ok-make.reply done c.keep_room.new.journal.room c.append.new.self.room
+    let all = kept-done c.self.invariant c.args.session c.args.moment c.args.change none c.make.new.self c.in-Ok-make.reply done c.keep_room.new.journal.room c.append.new.self.room c.requires.session c.bins_size.ensures.sound c.bins_size.ensures.whole
     ((λ opens. let r = c.in-Ok.ensures.ok opens in omega (arith, r, handles)), (λ closing. omega (arith, kept, more))) c.append.ensures.room in
     let entry : ℕ → Entry = λ k. record { number = k; session = c.args.session; moment = c.args.moment; change = c.args.change; reply = c.in-Ok-make.reply } in
     let entries = c.append.ensures.entries ∙ (ap (λ (x : List Entry). x ++ entry c.len-number.result ∷ []) c.in-Ok.ensures.entries ∙ ap (λ (k : ℕ). es ++ entry k ∷ []) n) in
     subst (λ (x : List Entry). HiveInvariant c.self.inside.origin.value.tree x c.make.new.self c.append.new.self.room) (sym entries) all
+
+pub returns-in-Ok-make : goal.returns-in-Ok-make
+returns-in-Ok-make c =
+    let store = c.self.inside.store in
+    let es = c.self.inside.journal.entries in
+    let n = c.len-number.ensures ∙ ap (λ (x : List Entry). length x) c.in-Ok.ensures.entries in
+    let done = subst (λ (k : ℕ). IsDone store c.make.new.self c.args.session c.args.moment k c.args.change c.in-Ok-make.reply) n c.in-Ok-make.ensures in
+    let entry : ℕ → Entry = λ k. record { number = k; session = c.args.session; moment = c.args.moment; change = c.args.change; reply = c.in-Ok-make.reply } in
+    let entries = c.append.ensures.entries ∙ (ap (λ (x : List Entry). x ++ entry c.len-number.result ∷ []) c.in-Ok.ensures.entries ∙ ap (λ (k : ℕ). es ++ entry k ∷ []) n) in
+    let all = invariant_of-self-in-Ok-make c in
+    inl (accepted c.self.invariant c.args.self.now _ c.self.view_is c.args.session c.args.moment c.args.change c.in-Ok-make.reply done.reply entries refl all.hive)

@@ -1,5 +1,6 @@
 use Rattle.std.proofs.Common.{sym, subst, length}
 use Rattle.reg_model.specs.Causes.{State}
+use Rattle.reg_model.specs.Callbacks.{no_callbacks}
 use Rattle.reg_calls.specs.Views.{IsRead}
 use Rattle.reg_calls.proofs.HiveInvariantLemmas.{ready-kept, state-view}
 use Rattle.reg_calls.proofs.hive_core.Core.read.Goals as goal
@@ -9,5 +10,5 @@ answer-body-requires c = let r = ready-kept c.self.invariant in r.stand
 
 pub returns-clause-body : goal.returns-clause-body
 returns-clause-body c =
-    subst (λ (s : State). IsRead s c.args.session c.args.query.now c.answer-body.result) (sym (state-view _ c.self.invariant c.self.view_is))
+    subst (λ (s : State). IsRead no_callbacks s c.args.session c.args.query.now c.answer-body.result) (sym (state-view _ c.self.invariant c.self.view_is))
     (c.answer-body.ensures (length c.self.inside.journal.entries))
