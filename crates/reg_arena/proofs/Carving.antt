@@ -5,3 +5,4 @@ pub mod CarveWhole
 pub mod CarvedCells
 pub mod NewBinBytes
 pub mod BinAppend
+pub mod BinGrowth

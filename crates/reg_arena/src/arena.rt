@@ -119,6 +119,7 @@ impl Arena {
         ensures cells { cells_of self.new.bytes ≡ cells_of self.old.bytes }
         ensures heads { self.new.heads ≡ self.old.heads }
         ensures bytes { self.new.bytes ≡ splice (cell + 4 + at) bytes.now self.old.bytes }
+        ensures long { length self.new.bytes ≡ length self.old.bytes }
     {
         let from = cell as usize + 4 + at as usize;
         write_part(&mut self.bins, from, bytes);
@@ -137,6 +138,7 @@ impl Arena {
         ensures writes { Writes (heap_of self.old) (heap_of self.new) (cell ∷ []) }
         ensures cells { cells_of self.new.bytes ≡ cells_of self.old.bytes }
         ensures heads { self.new.heads ≡ self.old.heads }
+        ensures long { length self.new.bytes ≡ length self.old.bytes }
     {
         self.copy(cell, from, cell, at, len);
     }
@@ -155,6 +157,7 @@ impl Arena {
         ensures writes { Writes (heap_of self.old) (heap_of self.new) (cell ∷ []) }
         ensures cells { cells_of self.new.bytes ≡ cells_of self.old.bytes }
         ensures heads { self.new.heads ≡ self.old.heads }
+        ensures long { length self.new.bytes ≡ length self.old.bytes }
     {
         let first = source as usize + 4 + from as usize;
         let place = cell as usize + 4 + at as usize;
@@ -171,6 +174,7 @@ impl Arena {
         ensures frees { Frees self.old.bytes self.new.bytes cell }
         ensures contents { (offset : ℕ) → heap_of self.new offset ≡ (if offset == cell then None else heap_of self.old offset) }
         ensures gone { GivesUp (heap_of self.old) (heap_of self.new) (cell ∷ []) }
+        ensures long { length self.new.bytes ≡ length self.old.bytes }
     {
         free_cell(
             &mut self.bins,
@@ -186,8 +190,8 @@ impl Arena {
     ///
     /// A size counts the cell's size field, and is a multiple of 8 and not 0; all sizes together are at most 16,777,216.
     /// The cells hold zeros. They are the front of one free cell that fits, whose rest stays free. Only where none fits, a
-    /// bin of the least size that holds them is appended first, and they are the front of its one cell. No size: nothing
-    /// happens.
+    /// bin of the least size that holds them is appended first, and they are the front of its one cell: so the bins grow by
+    /// at most the sizes and 4,127 bytes. No size: nothing happens.
     ///
     /// [`ArenaFault::Full`]: no free cell fits, and with a bin more there would be more than 268,435,456 bytes of bins.
     /// [`ArenaFault::Memory`]: `out` or the bins could not grow. After either the arena and `out` are as before.
@@ -204,6 +208,7 @@ impl Arena {
             ↔ ((0 < length sizes.now) × PassesLimit self.old.bytes (total_of sizes.now)
             × NoFit self.old.bytes (total_of sizes.now)) }
         ensures err { OnErr result ((self.new ≡ self.old) × (out.new.items ≡ out.old.items)) }
+        ensures grows { OnOk result (length self.new.bytes ≤ length self.old.bytes + 4127 + total_of sizes.now) }
     {
         if sizes.is_empty() {
             return Ok(());

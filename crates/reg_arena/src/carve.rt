@@ -73,7 +73,7 @@ fn carve_at(
 }
 
 // Carves from the free cell at `place`.
-#[tactic(auto, using(crate::proofs::Carving::CarvedCells::adds_cells))]
+#[tactic(auto, using(crate::proofs::Carving::CarvedCells::adds_cells, crate::proofs::Carving::BinGrowth::grows_none))]
 pub fn carve_found(
     bins: &mut Vec<u8>,
     head: &mut u32,
@@ -96,6 +96,7 @@ pub fn carve_found(
         × AddsCells bins.old.items bins.new.items sizes.now offsets) }
     ensures fault { IfErr result (λ fault. fault ≡ ArenaFault.Memory) }
     ensures err { OnErr result ((bins.new.items ≡ bins.old.items) × (head.new ≡ head.old) × (out.new.items ≡ out.old.items)) }
+    ensures grows { OnOk result (length bins.new.items ≤ length bins.old.items + 4127 + total_of sizes.now) }
 {
     if out.reserve(sizes.len()).is_err() {
         return Err(ArenaFault::Memory);
@@ -129,6 +130,7 @@ pub fn carve_bin(
         × AddsCells bins.old.items bins.new.items sizes.now offsets) }
     ensures fault { IfErr result (λ fault. fault ≡ ArenaFault.Memory) }
     ensures err { OnErr result ((bins.new.items ≡ bins.old.items) × (head.new ≡ head.old) × (out.new.items ≡ out.old.items)) }
+    ensures grows { OnOk result (length bins.new.items ≤ length bins.old.items + 4127 + total_of sizes.now) }
 {
     if out.reserve(sizes.len()).is_err() {
         return Err(ArenaFault::Memory);

@@ -30,3 +30,8 @@ pub returns-clause-writes : goal.returns-clause-writes
 returns-clause-writes c = rw (← c.self.view_is) (copied _ _ _ _ c.args.source c.args.from c.args.cell c.args.at c.args.len c.self.invariant.arena
     (rw (← c.self.view_is) at c.requires.source) (rw (← c.self.view_is) at c.requires.exists) (rw (← c.self.view_is) at c.requires.within)
     (rw (← c.self.view_is) at c.requires.fits) c.move_part.ensures).writes
+
+pub returns-clause-long : goal.returns-clause-long
+returns-clause-long c = rw (← c.self.view_is) (copied _ _ _ _ c.args.source c.args.from c.args.cell c.args.at c.args.len c.self.invariant.arena
+    (rw (← c.self.view_is) at c.requires.source) (rw (← c.self.view_is) at c.requires.exists) (rw (← c.self.view_is) at c.requires.within)
+    (rw (← c.self.view_is) at c.requires.fits) c.move_part.ensures).long

@@ -22,3 +22,7 @@ returns-clause-cells c = rw (c.write_part.ensures, ← c.self.view_is) (wrote _ 
 pub returns-clause-writes : goal.returns-clause-writes
 returns-clause-writes c = rw (c.write_part.ensures, ← c.self.view_is) (wrote _ _ _ c.args.cell c.args.at c.args.bytes.now c.self.invariant.arena
     (rw (← c.self.view_is) at c.requires.exists) (rw (← c.self.view_is) at c.requires.fits)).writes
+
+pub returns-clause-long : goal.returns-clause-long
+returns-clause-long c = rw (c.write_part.ensures, ← c.self.view_is) (wrote _ _ _ c.args.cell c.args.at c.args.bytes.now c.self.invariant.arena
+    (rw (← c.self.view_is) at c.requires.exists) (rw (← c.self.view_is) at c.requires.fits)).long
