@@ -21,14 +21,16 @@ pub wrote : (old new : Bins) (cell at : ℕ) (piece : List ℕ) → HasRoom (hea
     → ((offset : ℕ) → heap_of new offset ≡ cond (eqb offset cell) (Some (splice at piece (held (heap_of old) cell))) (heap_of old offset))
     → cells_of new.bytes ≡ cells_of old.bytes → new.heads ≡ old.heads
     → Writes (heap_of old) (heap_of new) (cell ∷ [])
+    → length new.bytes ≡ length old.bytes
     → WritesCell old new cell (splice at piece (held (heap_of old) cell))
-wrote old new cell at piece room written cells heads writes = record {
+wrote old new cell at piece room written cells heads writes long = record {
   here = written cell ∙ rw (eq-eqb cell cell refl) refl;
   as_many = length-splice at piece (held (heap_of old) cell) room.enough;
   others = λ offset n. written offset ∙ rw (ne_eqb offset cell n) refl;
   cells = cells;
   heads = heads;
   writes = writes;
+  long = long;
 }
 
 -- a head and a tail, written one after the other
@@ -60,6 +62,7 @@ wrote_record old between new cell head tail first second =
       cells = second.cells ∙ first.cells;
       heads = second.heads ∙ first.heads;
       writes = writes_twice _ (heap_of between) _ (cell ∷ []) first.writes second.writes;
+      long = second.long ∙ first.long;
     }
 
 -- a cell reads as what its content reads as

@@ -24,7 +24,7 @@ pub record HasRoom (heap : Heap) (cell size : ℕ) : Type 0 where
   pub exists : IsSome (heap cell)
   pub enough : size ≤ length (held heap cell)
 
--- the cell holds other bytes now, as many as before, and nothing else changed
+-- the cell holds other bytes now, as many as before, and nothing else changed; the bins are as long as they were
 pub record WritesCell (old new : Bins) (cell : ℕ) (content : List ℕ) : Type 0 where
   pub here : heap_of new cell ≡ Some content
   pub as_many : length content ≡ length (held (heap_of old) cell)
@@ -32,6 +32,7 @@ pub record WritesCell (old new : Bins) (cell : ℕ) (content : List ℕ) : Type 
   pub cells : cells_of new.bytes ≡ cells_of old.bytes
   pub heads : new.heads ≡ old.heads
   pub writes : Writes (heap_of old) (heap_of new) (cell ∷ [])
+  pub long : length new.bytes ≡ length old.bytes
 
 -- the cell begins with these bytes, a record of that size, and what followed them stays
 abbrev pub WritesRecord : Bins → Bins → ℕ → ℕ → List ℕ → Type 0
