@@ -3,7 +3,7 @@
 ghost use Rattle.std.specs.Prelude.{◌≡◌, true, ◌≤◌, ◌<◌, ◌+◌, ◌*◌, ◌==◌, ◌++◌, ◌∷◌, [], if◌then◌else◌, ℕ, List, Some, None, Err, length, IfOk, OnOk, OnErr};
 ghost use Rattle.reg_names.specs.declared.TheConstants.{VALUE_NAME_LIMIT};
 ghost use Rattle.reg_names.specs.Names.{is_value_name};
-ghost use Rattle.reg_heap.specs.declared.limits.TheConstants.{DATA_LIMIT, VALUES_LIMIT};
+ghost use Rattle.reg_heap.specs.declared.limits.TheConstants.{DATA_LIMIT, GROWTH_BOUND, VALUES_LIMIT};
 ghost use Rattle.reg_heap.specs.Paths.{Member};
 ghost use Rattle.reg_heap.specs.Heaps.{AreNew};
 ghost use Rattle.reg_heap.specs.Kinds.{Found, times, owned};
@@ -34,6 +34,7 @@ pub(crate) fn carve(arena: &mut Arena, alloc: Global, sizes: &[u32]) -> Result<V
     ensures err { OnErr result (arena.new ≡ arena.old) }
     ensures full { result ≡ Err ArenaFault.Full → NoFit arena.old.bytes (total_of sizes.now) }
     ensures limit { result ≡ Err ArenaFault.Full → PassesLimit arena.old.bytes (total_of sizes.now) }
+    ensures grows { OnOk result (length arena.new.bytes ≤ length arena.old.bytes + GROWTH_BOUND) }
 {
     let mut cells = Vec::new(alloc);
     arena.carve(sizes, &mut cells)?;
@@ -54,6 +55,7 @@ fn put_value(arena: &mut Arena, cell: u32, cells: &[u32], name: &[u8], kind: u32
     requires cells { HaveRoom (heap_of arena.old) (cell ∷ cells.now) (cell_size (20 + length name.now) ∷ data_sizes (length bytes.now)) }
     ensures fills { Fills (heap_of arena.old) (heap_of arena.new) (cell ∷ cells.now) }
     ensures holds { HoldsValue (heap_of arena.new) cell (record { name = name.now; kind = kind; bytes = bytes.now }) (cell ∷ cells.now) }
+    ensures long { length arena.new.bytes ≡ length arena.old.bytes }
 {
     let data = put_data(arena, cells, bytes);
     let fields = ValueFields {
@@ -75,6 +77,7 @@ fn grow(arena: &mut Arena, list: ValuesList, cell: u32)
         (λ row met. BecameList (heap_of arena.old) (heap_of arena.new) (λ offset. owned offset met)
         (list.count + 1) list.offset (row ++ cell ∷ [])) }
     ensures sizes { KeepsSizes (heap_of arena.old) (heap_of arena.new) }
+    ensures long { length arena.new.bytes ≡ length arena.old.bytes }
 {
     put_offset(arena, list.offset, list.count, cell);
 }
@@ -88,6 +91,7 @@ fn move_list(arena: &mut Arena, list: ValuesList, fresh: u32, cell: u32)
         (λ row met. BecameList (heap_of arena.old) (heap_of arena.new)
         (λ offset. owned offset met + times offset (fresh ∷ [])) (list.count + 1) fresh (row ++ cell ∷ [])) }
     ensures sizes { KeepsSizes (heap_of arena.old) (heap_of arena.new) }
+    ensures long { length arena.new.bytes ≡ length arena.old.bytes }
 {
     if list.count == 0 {
         put_offset(arena, fresh, 0, cell);
@@ -124,6 +128,7 @@ pub(crate) fn add(
     ensures limit { result ≡ Err ArenaFault.Full →
         PassesLimit arena.old.bytes
         (total_of (sizes_by (heap_of arena.old) list.count list.offset (length name.now) (length bytes.now) None)) }
+    ensures grows { OnOk result (length arena.new.bytes ≤ length arena.old.bytes + GROWTH_BOUND) }
 {
     let Ok(sizes) = plan_add(arena, alloc, list, name.len(), bytes.len()) else {
         return Err(ArenaFault::Memory);

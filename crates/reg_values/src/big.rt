@@ -87,6 +87,7 @@ fn put_row(arena: &mut Arena, list: u32, segments: &[u32])
     requires room { HasRoom (heap_of arena.old) list (4 * length segments.now) }
     ensures fills { Fills (heap_of arena.old) (heap_of arena.new) (list ∷ []) }
     ensures row { offsets_at (length segments.now) 0 (held (heap_of arena.new) list) ≡ segments.now }
+    ensures long { length arena.new.bytes ≡ length arena.old.bytes }
 {
     for index in 0..segments.len() {
         put_offset(arena, list, index as u32, segments[index]);
@@ -104,6 +105,7 @@ fn put_pieces(arena: &mut Arena, segments: &[u32], bytes: &[u8])
         (length (take SEGMENT_SIZE (drop (SEGMENT_SIZE * index) bytes.now))) }
     ensures fills { Fills (heap_of arena.old) (heap_of arena.new) segments.now }
     ensures reads { (met : List Found) × (pieces_at (segments_of (length bytes.now) segments.now) (heap_of arena.new) ≡ Some (bytes.now, met)) }
+    ensures long { length arena.new.bytes ≡ length arena.old.bytes }
 {
     for index in 0..segments.len() {
         arena.write(segments[index], 0, piece(bytes, index));
@@ -122,6 +124,7 @@ pub(crate) fn put_big(arena: &mut Arena, head: u32, list: u32, segments: &[u32],
         (length (take SEGMENT_SIZE (drop (SEGMENT_SIZE * index) bytes.now))) }
     ensures fills { Fills (heap_of arena.old) (heap_of arena.new) (head ∷ list ∷ segments.now) }
     ensures holds { HoldsData (heap_of arena.new) (length bytes.now) head bytes.now (head ∷ list ∷ segments.now) }
+    ensures long { length arena.new.bytes ≡ length arena.old.bytes }
 {
     let fields = BigFields {
         count: segments.len() as u16,
@@ -139,7 +142,8 @@ fn free_segments(arena: &mut Arena, list: u32, count: usize)
     requires long { 4 * count ≤ length (held (heap_of arena.old) list) }
     requires once { (offset : ℕ) → times offset (offsets_at count 0 (held (heap_of arena.old) list)) + times offset
         (list ∷ []) ≤ allocated (heap_of arena.old) offset }
-    ensures { GivesUp (heap_of arena.old) (heap_of arena.new) (offsets_at count 0 (held (heap_of arena.old) list)) }
+    ensures gone { GivesUp (heap_of arena.old) (heap_of arena.new) (offsets_at count 0 (held (heap_of arena.old) list)) }
+    ensures long { length arena.new.bytes ≡ length arena.old.bytes }
 {
     for index in 0..count {
         let segment = offset_at(arena.content(list), index as u32);
@@ -151,7 +155,8 @@ fn free_segments(arena: &mut Arena, list: u32, count: usize)
 pub(crate) fn free_big(arena: &mut Arena, size: usize, cell: u32)
     requires size { size < 4294967296 }
     requires big { Owns (big_data_at size cell) (heap_of arena.old) }
-    ensures { GivesUpRead (big_data_at size cell) (heap_of arena.old) (heap_of arena.new) }
+    ensures gone { GivesUpRead (big_data_at size cell) (heap_of arena.old) (heap_of arena.new) }
+    ensures long { length arena.new.bytes ≡ length arena.old.bytes }
 {
     let list = big_at(arena, cell).list;
     free_segments(arena, list, segments_for(size));

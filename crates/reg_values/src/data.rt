@@ -88,6 +88,7 @@ pub(crate) fn put_data(arena: &mut Arena, cells: &[u32], bytes: &[u8]) -> DataFi
     requires cells { HaveRoom (heap_of arena.old) cells.now (data_sizes (length bytes.now)) }
     ensures fills { Fills (heap_of arena.old) (heap_of arena.new) cells.now }
     ensures holds { HoldsData (heap_of arena.new) result.size result.offset bytes.now cells.now }
+    ensures long { length arena.new.bytes ≡ length arena.old.bytes }
 {
     let size = bytes.len() as u32;
     if bytes.len() <= INLINE_LIMIT {
@@ -108,7 +109,8 @@ pub(crate) fn put_data(arena: &mut Arena, cells: &[u32], bytes: &[u8]) -> DataFi
 /// Frees the cells of a value's data.
 pub(crate) fn free_data(arena: &mut Arena, fields: ValueFields)
     requires { Owns (data_at fields) (heap_of arena.old) }
-    ensures { GivesUpRead (data_at fields) (heap_of arena.old) (heap_of arena.new) }
+    ensures gone { GivesUpRead (data_at fields) (heap_of arena.old) (heap_of arena.new) }
+    ensures long { length arena.new.bytes ≡ length arena.old.bytes }
 {
     if fields.size >= INLINE || fields.size == 0 {
         return;

@@ -2,7 +2,7 @@
 //!
 //! Win32 registry reference, `RegDeleteValue`; Suhanov, Windows registry file format specification, section "Key values list".
 
-ghost use Rattle.std.specs.Prelude.{◌≡◌, ◌<◌, ◌≤◌, ◌+◌, ◌++◌, ℕ, List, Some, take, drop};
+ghost use Rattle.std.specs.Prelude.{◌≡◌, ◌<◌, ◌≤◌, ◌+◌, ◌++◌, ℕ, List, Some, length, take, drop};
 ghost use Rattle.reg_heap.specs.declared.limits.TheConstants.{VALUES_LIMIT};
 ghost use Rattle.reg_heap.specs.Paths.{Member};
 ghost use Rattle.reg_heap.specs.Heaps.{CellFrame};
@@ -22,7 +22,8 @@ use reg_heap::limits::NONE;
 /// Frees a value's record and its data.
 fn free_value(arena: &mut Arena, cell: u32)
     requires { Owns (member_at cell) (heap_of arena.old) }
-    ensures { GivesUpRead (member_at cell) (heap_of arena.old) (heap_of arena.new) }
+    ensures gone { GivesUpRead (member_at cell) (heap_of arena.old) (heap_of arena.new) }
+    ensures long { length arena.new.bytes ≡ length arena.old.bytes }
 {
     let fields = record_at(arena, cell).fields;
     free_data(arena, fields);
@@ -39,6 +40,7 @@ fn take_out(arena: &mut Arena, list: ValuesList, index: u32) -> ValuesList
         (λ offset. owned offset met) result.count result.offset (take index row ++ drop (index + 1) row)) }
     ensures count { result.count + 1 ≡ list.count }
     ensures none { result.count ≡ 0 → result.offset ≡ NONE }
+    ensures long { length arena.new.bytes ≡ length arena.old.bytes }
 {
     if list.count == 1 {
         arena.free(list.offset);
@@ -60,9 +62,10 @@ fn take_out(arena: &mut Arena, list: ValuesList, index: u32) -> ValuesList
 pub fn remove(arena: &mut Arena, list: ValuesList, name: &[u8]) -> ValuesList
     requires values { AreValues (heap_of arena.old) list.count list.offset }
     requires named { IsNamed (heap_of arena.old) list.count list.offset name.now }
-    ensures { OfRead (members_at list.count list.offset) (heap_of arena.old)
+    ensures list { OfRead (members_at list.count list.offset) (heap_of arena.old)
         (λ members met. Became (heap_of arena.old) (heap_of arena.new) met result.count result.offset
         (values_without name.now members)) }
+    ensures long { length arena.new.bytes ≡ length arena.old.bytes }
 {
     let Some(index) = find(arena, list, name) else {
         unreachable!()
@@ -76,8 +79,9 @@ pub fn remove(arena: &mut Arena, list: ValuesList, name: &[u8]) -> ValuesList
 /// Frees a list of values with all that it names: each value's cells, and then the list's own. It takes no memory.
 pub fn clear(arena: &mut Arena, list: ValuesList)
     requires { AreValues (heap_of arena.old) list.count list.offset }
-    ensures { OfRead (members_at list.count list.offset) (heap_of arena.old)
+    ensures gone { OfRead (members_at list.count list.offset) (heap_of arena.old)
         (λ members met. CellFrame (heap_of arena.old) (heap_of arena.new) (λ offset. owned offset met) (λ offset. 0)) }
+    ensures long { length arena.new.bytes ≡ length arena.old.bytes }
 {
     for index in 0..list.count {
         let cell = cell_of(arena, list, index);

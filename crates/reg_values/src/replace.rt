@@ -1,7 +1,7 @@
 //! Other data for a value.
 
 ghost use Rattle.std.specs.Prelude.{◌≡◌, true, ◌≤◌, ◌+◌, ℕ, List, Some, Err, [], length, OnOk, OnErr};
-ghost use Rattle.reg_heap.specs.declared.limits.TheConstants.{DATA_LIMIT};
+ghost use Rattle.reg_heap.specs.declared.limits.TheConstants.{DATA_LIMIT, GROWTH_BOUND};
 ghost use Rattle.reg_heap.specs.Paths.{Member};
 ghost use Rattle.reg_heap.specs.Kinds.{Found, times, owned};
 ghost use Rattle.reg_arena.specs.Arena.{heap_of};
@@ -34,6 +34,7 @@ fn rewrite(arena: &mut Arena, cell: u32, old: ValueFields, kind: u32, bytes: &[u
         (λ m met. BecameValue (heap_of arena.old) (heap_of arena.new) (λ offset. owned offset met) cell
         (record { name = m.name; kind = kind; bytes = bytes.now })) }
     ensures cells { Makes (heap_of arena.old) (heap_of arena.new) [] }
+    ensures long { length arena.new.bytes ≡ length arena.old.bytes }
 {
     arena.write(old.offset, 0, bytes);
     set_data(arena, cell, bytes.len() as u32, old.offset, kind);
@@ -51,6 +52,7 @@ fn exchange(arena: &mut Arena, cell: u32, cells: &[u32], old: ValueFields, kind:
         (λ offset. owned offset met + times offset cells.now) cell
         (record { name = m.name; kind = kind; bytes = bytes.now })) }
     ensures keeps { Keeps (heap_of arena.old) (heap_of arena.new) cells.now }
+    ensures long { length arena.new.bytes ≡ length arena.old.bytes }
 {
     let data = put_data(arena, cells, bytes);
     set_data(arena, cell, data.size, data.offset, kind);
@@ -82,6 +84,7 @@ pub(crate) fn replace(
         PassesLimit arena.old.bytes
         (total_of (new_data_sizes (heap_of arena.old) (length bytes.now)
         (value_record_at (heap_of arena.old) cell))) }
+    ensures grows { OnOk result (length arena.new.bytes ≤ length arena.old.bytes + GROWTH_BOUND) }
 {
     let old = record_at(arena, cell).fields;
     if stays(arena, old, bytes.len()) {

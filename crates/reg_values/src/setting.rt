@@ -29,7 +29,8 @@ use std::alloc::Global;
 ///
 /// All cells of the change are carved at once, as [`plan_set`](crate::plan_set) says.
 /// [`ArenaFault::Full`]: no free cell has room for them, and with a bin more there would be more than 268,435,456 bytes of
-/// bins. [`ArenaFault::Memory`]: a growth was refused. After either the arena is as before.
+/// bins. [`ArenaFault::Memory`]: a growth was refused. After either the arena is as before. The bins grow by at most
+/// 1,310,720 bytes.
 pub fn set(
     arena: &mut Arena,
     alloc: Global,
@@ -54,6 +55,7 @@ pub fn set(
         PassesLimit arena.old.bytes
         (total_of (set_sizes (heap_of arena.old) list.count list.offset name.now (length bytes.now))) }
     ensures near { result ≡ Err ArenaFault.Full → BINS_LIMIT < length arena.old.bytes + GROWTH_BOUND }
+    ensures grows { OnOk result (length arena.new.bytes ≤ length arena.old.bytes + GROWTH_BOUND) }
 {
     let Some(index) = find(arena, list, name) else {
         return add(arena, alloc, list, name, kind, bytes);

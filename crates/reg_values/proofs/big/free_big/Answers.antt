@@ -46,7 +46,7 @@ free-requires c =
     let list = c.big_at-list.result.list in
     let o = big-owned h c.args.size c.args.cell b.result b.met b.reads list c.big_at-list.result.count c.big_at-list.ensures list in
     let w = b.once list in
-    let g = subst (λ n. GivesUp h (heap_of c.free_segments.new.arena) (offsets_at n 0 (held h list))) c.segments_for.ensures c.free_segments.ensures in
+    let g = subst (λ n. GivesUp h (heap_of c.free_segments.new.arena) (offsets_at n 0 (held h list))) c.segments_for.ensures c.free_segments.ensures.gone in
     still-there h (heap_of c.free_segments.new.arena) (λ z. times z (offsets_at (segments_for c.args.size) 0 (held h list))) list g (omega (arith, o, w))
 
 pub free-requires-2 : goal.free-requires-2
@@ -57,18 +57,18 @@ free-requires-2 c =
     let cell = c.args.cell in
     let o = big-owned h c.args.size cell b.result b.met b.reads list c.big_at-list.result.count c.big_at-list.ensures cell in
     let w = b.once cell in
-    let g = subst (λ n. GivesUp h (heap_of c.free_segments.new.arena) (offsets_at n 0 (held h list))) c.segments_for.ensures c.free_segments.ensures in
+    let g = subst (λ n. GivesUp h (heap_of c.free_segments.new.arena) (offsets_at n 0 (held h list))) c.segments_for.ensures c.free_segments.ensures.gone in
     let f : ℕ → ℕ = λ z. times z (offsets_at (segments_for c.args.size) 0 (held h list)) in
     let f2 : ℕ → ℕ = λ z. times z (offsets_at (segments_for c.args.size) 0 (held h list)) + times z (list ∷ []) in
     let g2 = gone-more h (heap_of c.free_segments.new.arena) (heap_of c.free.new.self) list f f2 g c.free.ensures.gone (λ z. omega arith) in
     still-there h (heap_of c.free.new.self) f2 cell g2 (omega (arith, o, w))
 
-pub returns : goal.returns
-returns c = λ all met e.
+pub returns-clause-gone : goal.returns-clause-gone
+returns-clause-gone c = λ all met e.
     let h = heap_of c.args.arena.now in
     let list = c.big_at-list.result.list in
     let cell = c.args.cell in
-    let g = subst (λ n. GivesUp h (heap_of c.free_segments.new.arena) (offsets_at n 0 (held h list))) c.segments_for.ensures c.free_segments.ensures in
+    let g = subst (λ n. GivesUp h (heap_of c.free_segments.new.arena) (offsets_at n 0 (held h list))) c.segments_for.ensures c.free_segments.ensures.gone in
     let f : ℕ → ℕ = λ z. times z (offsets_at (segments_for c.args.size) 0 (held h list)) in
     let f2 : ℕ → ℕ = λ z. times z (offsets_at (segments_for c.args.size) 0 (held h list)) + times z (list ∷ []) in
     let f3 : ℕ → ℕ = λ z. times z (offsets_at (segments_for c.args.size) 0 (held h list)) + times z (list ∷ []) + times z (cell ∷ []) in

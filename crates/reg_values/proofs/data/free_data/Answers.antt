@@ -15,12 +15,12 @@ free_big-requires-clause-big c =
       once = r.once;
     }
 
-pub returns-then-fields-gt-SEGMENT_SIZE : goal.returns-then-fields-gt-SEGMENT_SIZE
-returns-then-fields-gt-SEGMENT_SIZE c = λ all met e.
-    c.free_big.ensures all met (big-data (heap_of c.args.arena.now) c.args.fields all met e c.if-fields-gt-SEGMENT_SIZE.true c.if-fields-ge-INLINE.false)
+pub returns-then-fields-gt-SEGMENT_SIZE-clause-gone : goal.returns-then-fields-gt-SEGMENT_SIZE-clause-gone
+returns-then-fields-gt-SEGMENT_SIZE-clause-gone c = λ all met e.
+    c.free_big.ensures.gone all met (big-data (heap_of c.args.arena.now) c.args.fields all met e c.if-fields-gt-SEGMENT_SIZE.true c.if-fields-ge-INLINE.false)
 
-pub returns : goal.returns
-returns c = λ all met e.
+pub returns-clause-gone : goal.returns-clause-gone
+returns-clause-gone c = λ all met e.
     let n = c.if-fields-eq0.false in
     gone-as (heap_of c.args.arena.now) (heap_of c.free.new.self) _ (λ z. owned z met) c.free.ensures.gone
     (λ z. one-owned (heap_of c.args.arena.now) c.args.fields all met e (omega (arith, n)) c.if-fields-gt-SEGMENT_SIZE.false z)

@@ -27,11 +27,11 @@ free-requires c =
     let o = member-owned h c.args.cell r.result r.met r.reads _ _ c.record_at.ensures c.args.cell in
     let w = r.once c.args.cell in
     still-there h (heap_of c.free_data.new.arena) _ c.args.cell
-    (c.free_data.ensures r.result.bytes _ (member-data h c.args.cell r.result r.met r.reads _ _ c.record_at.ensures)) (omega (arith, o, w))
+    (c.free_data.ensures.gone r.result.bytes _ (member-data h c.args.cell r.result r.met r.reads _ _ c.record_at.ensures)) (omega (arith, o, w))
 
-pub returns : goal.returns
-returns c = λ m met e.
+pub returns-clause-gone : goal.returns-clause-gone
+returns-clause-gone c = λ m met e.
     let h = heap_of c.args.arena.now in
     gone-more h (heap_of c.free_data.new.arena) (heap_of c.free.new.self) c.args.cell _ (λ z. owned z met)
-    (c.free_data.ensures m.bytes _ (member-data h c.args.cell m met e _ _ c.record_at.ensures)) c.free.ensures.gone
+    (c.free_data.ensures.gone m.bytes _ (member-data h c.args.cell m met e _ _ c.record_at.ensures)) c.free.ensures.gone
     (λ z. member-owned h c.args.cell m met e _ _ c.record_at.ensures z)

@@ -53,8 +53,8 @@ free_value-requires c =
     let i = item-owns h n p v.members v.met c.in-Some.index v.reads v.once v.written a h1 _ _ (c.take_out-after.ensures.list a.row a.list_met a.list_is) in
     subst (λ o. Owns (member_at o) h1) (a.cell_is ∙ sym c.cell_of-cell.ensures) i
 
-pub returns : goal.returns
-returns c = λ members met e.
+pub returns-clause-list : goal.returns-clause-list
+returns-clause-list c = λ members met e.
     let v = c.requires.values in
     let h = heap_of c.args.arena.now in
     let n = c.args.list.count in
@@ -68,6 +68,6 @@ returns c = λ members met e.
     let written = subst (AreWritten h n p) same.0 v.written in
     let once = subst (λ (zs : List Found). (z : ℕ) → owned z zs ≤ allocated h z) same.1 v.once in
     let a = at-index h n p members met c.in-Some.index e written (omega (arith, w, l)) in
-    let g = subst (λ o. GivesUpRead (member_at o) h1 h2) (c.cell_of-cell.ensures ∙ sym a.cell_is) c.free_value.ensures in
+    let g = subst (λ o. GivesUpRead (member_at o) h1 h2) (c.cell_of-cell.ensures ∙ sym a.cell_is) c.free_value.ensures.gone in
     removed h n p members met c.in-Some.index e once written a h1 _ _ (c.take_out-after.ensures.list a.row a.list_met a.list_is) h2 g c.args.name.now
     named c.take_out-after.ensures.count c.take_out-after.ensures.none

@@ -28,7 +28,7 @@ returns-clause-value c = λ m met e.
     let k = record-kept2 h1 h2 h3 c.args.cell c.args.cells.now c.requires.owns c.requires.written c.args.old r.0 r.1 c.put_data-data.ensures.fills in
     let p = plain-kept2 h1 h2 h3 c.args.cell c.args.cells.now c.requires.owns c.requires.written c.args.old r.0 r.1 c.put_data-data.ensures.fills in
     exchanged h1 h2 h3 c.args.cell c.args.cells.now c.requires.owns c.requires.written c.args.old r.0 r.1 c.put_data-data.ensures.fills
-    (fills-cell _ _ c.args.cell _ c.set_data.ensures.written) (heap_of c.free_data.new.arena) c.free_data.ensures
+    (fills-cell _ _ c.args.cell _ c.set_data.ensures.written) (heap_of c.free_data.new.arena) c.free_data.ensures.gone
     c.put_data-data.result.size c.put_data-data.result.offset c.args.kind c.args.bytes.now c.put_data-data.ensures.holds (c.set_data.ensures.reads _ k) (c.set_data.ensures.plain p) m met e
 
 pub returns-clause-keeps : goal.returns-clause-keeps
@@ -38,4 +38,4 @@ returns-clause-keeps c =
     let h2 = heap_of c.put_data-data.new.arena in
     let h3 = heap_of c.set_data.new.arena in
     keeps-cells h1 h2 h3 c.args.cell c.args.cells.now c.requires.owns c.requires.written c.args.old r.0 r.1 c.put_data-data.ensures.fills
-    (fills-cell _ _ c.args.cell _ c.set_data.ensures.written) (heap_of c.free_data.new.arena) c.free_data.ensures
+    (fills-cell _ _ c.args.cell _ c.set_data.ensures.written) (heap_of c.free_data.new.arena) c.free_data.ensures.gone
