@@ -25,6 +25,7 @@ fn open(arena: &mut Arena, list: SubkeysIndex, fresh: u32, index: u32) -> u32
         HasGap (heap_of arena.new) result index entries }
     ensures moves { Moves (heap_of arena.old) (heap_of arena.new)
         (own list.count list.offset ++ taken (insert_size (heap_of arena.old) list.count list.offset) fresh) (result ∷ []) }
+    ensures long { length arena.new.bytes ≡ length arena.old.bytes }
 {
     if list.count == 0 {
         return fresh;
@@ -62,6 +63,7 @@ pub fn insert(
     ensures moves { Moves (heap_of arena.old) (heap_of arena.new)
         (own list.count list.offset ++ taken (insert_size (heap_of arena.old) list.count list.offset) fresh)
         (own result.count result.offset) }
+    ensures long { length arena.new.bytes ≡ length arena.old.bytes }
 {
     let hint = name_hash(name_of(arena, key));
     let offset = open(arena, list, fresh, index);

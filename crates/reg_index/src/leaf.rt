@@ -39,6 +39,7 @@ pub(crate) fn open_within(arena: &mut Arena, cell: u32, count: u32, index: u32)
     ensures gap { (entries : List Entry) → IsLeaf (heap_of arena.old) cell entries → length entries ≡ count →
         HasGap (heap_of arena.new) cell index entries }
     ensures writes { Writes (heap_of arena.old) (heap_of arena.new) (cell ∷ []) }
+    ensures long { length arena.new.bytes ≡ length arena.old.bytes }
 {
     arena.shift(cell, 4 + 8 * index, 12 + 8 * index, 8 * (count - index));
 }
@@ -54,6 +55,7 @@ pub(crate) fn move_open(arena: &mut Arena, cell: u32, fresh: u32, count: u32, in
     ensures gap { (entries : List Entry) → IsLeaf (heap_of arena.old) cell entries → length entries ≡ count →
         HasGap (heap_of arena.new) fresh index entries }
     ensures moves { CellFrame (heap_of arena.old) (heap_of arena.new) (λ z. times z (cell ∷ fresh ∷ [])) (λ z. times z (fresh ∷ [])) }
+    ensures long { length arena.new.bytes ≡ length arena.old.bytes }
 {
     arena.copy(cell, 4, fresh, 4, 8 * index);
     arena.copy(
@@ -73,6 +75,7 @@ pub(crate) fn fill(arena: &mut Arena, cell: u32, index: u32, count: u32, entry: 
     ensures leaf { (entries : List Entry) → HasGap (heap_of arena.old) cell index entries → length entries + 1 ≡ count →
         index ≤ length entries → IsLeaf (heap_of arena.new) cell (with_one index entry entries) }
     ensures writes { Writes (heap_of arena.old) (heap_of arena.new) (cell ∷ []) }
+    ensures long { length arena.new.bytes ≡ length arena.old.bytes }
 {
     put_entry(arena, cell, ListForm::HashLeaf, index as u16, entry);
     put_leaf_head(arena, cell, count);
@@ -86,6 +89,7 @@ pub(crate) fn close(arena: &mut Arena, cell: u32, left: u32, index: u32)
     ensures leaf { (entries : List Entry) → IsLeaf (heap_of arena.old) cell entries → length entries ≡ left + 1 →
         IsLeaf (heap_of arena.new) cell (without index entries) }
     ensures writes { Writes (heap_of arena.old) (heap_of arena.new) (cell ∷ []) }
+    ensures long { length arena.new.bytes ≡ length arena.old.bytes }
 {
     arena.shift(cell, 12 + 8 * index, 4 + 8 * index, 8 * (left - index));
     put_leaf_head(arena, cell, left);
