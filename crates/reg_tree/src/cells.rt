@@ -1,7 +1,7 @@
-ghost use Rattle.std.specs.Prelude.{◌≡◌, ◌≢◌, ◌+◌, ◌^◌, Err, ◌-◌, ◌*◌, ◌/◌, ◌%◌, ◌≤◌, ◌<◌, [], ◌∷◌, IfOk, IfErr, OnErr, length};
+ghost use Rattle.std.specs.Prelude.{◌≡◌, ◌≢◌, ◌+◌, ◌^◌, Err, ◌-◌, ◌*◌, ◌/◌, ◌%◌, ◌≤◌, ◌<◌, [], ◌∷◌, IfOk, IfErr, OnOk, OnErr, length};
 ghost use Rattle.reg_arena.specs.declared.TheConstants.{CARVE_LIMIT};
 ghost use Rattle.reg_arena.specs.Carves.{NoFit};
-ghost use Rattle.reg_arena.specs.NewBin.{PassesLimit};
+ghost use Rattle.reg_arena.specs.NewBin.{IsBinSize, PassesLimit};
 ghost use Rattle.reg_arena.specs.NewCells.{total_of};
 ghost use Rattle.reg_tree.specs.Internal.FreshCells.{AreCarved};
 
@@ -23,6 +23,7 @@ pub fn carve_two(
     ensures full { result ≡ Err ArenaFault.Full → arena.old.bytes ≡ [] → ⊥ }
     ensures space { result ≡ Err ArenaFault.Full → NoFit arena.old.bytes (total_of (first ∷ second ∷ [])) }
     ensures limit { result ≡ Err ArenaFault.Full → PassesLimit arena.old.bytes (total_of (first ∷ second ∷ [])) }
+    ensures bin { OnOk result (arena.old.bytes ≡ [] → IsBinSize (length arena.new.bytes) (first + second)) }
 {
     let mut cells = Vec::new(alloc);
     match arena.carve(&[first, second], &mut cells) {

@@ -1,5 +1,5 @@
 //! Key nodes, as the tree writes them.
-ghost use Rattle.std.specs.Prelude.{◌≡◌, ◌≤◌, ◌<◌, ◌^◌, IsSome, Some};
+ghost use Rattle.std.specs.Prelude.{◌≡◌, ◌≤◌, ◌<◌, ◌^◌, IsSome, Some, length};
 ghost use Rattle.reg_names.specs.declared.TheConstants.{KEY_NAME_LIMIT};
 ghost use Rattle.reg_arena.specs.Arena.{heap_of};
 ghost use Rattle.reg_records.specs.KeyNodes.{KeyRecord, key_at};
@@ -107,7 +107,8 @@ pub fn subkeys_list(arena: &Arena, key: u32) -> SubkeysIndex
 pub fn note_values(arena: &mut Arena, key: u32, list: ValuesList, name: u32, size: u32, moment: u64)
     requires exists { IsSome (key_at (heap_of arena.old) key) }
     requires name { name < 2 ^ 31 }
-    ensures { Notes (heap_of arena.old) (heap_of arena.new) key (noted list.count list.offset name size moment) }
+    ensures notes { Notes (heap_of arena.old) (heap_of arena.new) key (noted list.count list.offset name size moment) }
+    ensures long { length arena.new.bytes ≡ length arena.old.bytes }
 {
     let old = fields(arena, key);
     set_values(arena, key, list.count, list.offset);
@@ -130,7 +131,8 @@ fn raise(largest: u32, length: u32) -> u32
 pub fn note_subkeys(arena: &mut Arena, key: u32, list: SubkeysIndex, name: u32, moment: u64)
     requires exists { IsSome (key_at (heap_of arena.old) key) }
     requires name { name ≤ KEY_NAME_LIMIT }
-    ensures { Notes (heap_of arena.old) (heap_of arena.new) key (noted_subkeys list.count list.offset name moment) }
+    ensures notes { Notes (heap_of arena.old) (heap_of arena.new) key (noted_subkeys list.count list.offset name moment) }
+    ensures long { length arena.new.bytes ≡ length arena.old.bytes }
 {
     let old = fields(arena, key);
     set_subkeys(arena, key, list.count);

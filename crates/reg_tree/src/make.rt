@@ -1,7 +1,7 @@
 //! Keys made.
 //!
 //! Win32 registry reference, `RegCreateKeyEx`.
-ghost use Rattle.std.specs.Prelude.{◌≡◌, ◌≢◌, ◌↔◌, ◌⊎◌, ◌≤◌, ◌<◌, ◌+◌, ◌-◌, ◌++◌, ◌∷◌, [], true, false, ℕ, List, Some, Err, IfOk, IfErr, OnErr};
+ghost use Rattle.std.specs.Prelude.{◌≡◌, ◌≢◌, ◌↔◌, ◌⊎◌, ◌≤◌, ◌<◌, ◌+◌, ◌-◌, ◌++◌, ◌∷◌, [], true, false, ℕ, List, Some, Err, IfOk, IfErr, OnOk, OnErr};
 ghost use Rattle.std.specs.Prelude.{length, drop, get_or};
 ghost use Rattle.reg_names.specs.declared.TheConstants.{KEY_NAME_LIMIT};
 ghost use Rattle.reg_names.specs.Names.{is_key_name, is_path, path_of};
@@ -35,11 +35,12 @@ fn make(arena: &mut Arena, parent: u32, list_cell: u32, key: u32, name: &[u8], m
     requires ready { IsReady (heap_of arena.old) (planned (heap_of arena.old) parent) list_cell }
     requires room { HasRoom (heap_of arena.old) key (76 + length name.now) }
     requires name { (is_key_name name.now ≡ true) × (length name.now ≤ KEY_NAME_LIMIT) }
-    ensures { (left : List ℕ) →
+    ensures grows { (left : List ℕ) →
         (m : MayGrow arena.old.bytes parent (taken (planned (heap_of arena.old) parent) list_cell
         ++ key ∷ left) name.now) →
         Grows (heap_of arena.old)
         (heap_of arena.new) m.growing.root m.growing.path m.growing.keys m.growing.first key left name.now moment }
+    ensures long { length arena.new.bytes ≡ length arena.old.bytes }
 {
     let above = fields(arena, parent);
     let users = with_one_more(arena, above.security);
@@ -69,6 +70,7 @@ fn make_in(arena: &mut Arena, parent: u32, spare: &[u32], name: &[u8], moment: u
     ensures ready { (names : List (List ℕ)) →
         AreReady (heap_of arena.old) (planned (heap_of arena.old) parent) (name.now ∷ names) spare.now →
         AreReady (heap_of arena.old) (Some 16) names (drop result spare.now) }
+    ensures long { length arena.new.bytes ≡ length arena.old.bytes }
 {
     let list = subkeys_list(arena, parent);
     match plan_insert(arena, list) {
@@ -88,10 +90,11 @@ fn make_all(arena: &mut Arena, from: Node, path: &[u8], spare: &[u32], moment: u
     requires grow { MayGrowAll arena.old.bytes from (path_of path.now) spare.now }
     requires depth { from.depth ≤ PATH_LIMIT }
     requires path { is_path path.now ≡ true }
-    ensures { (m : MayGrowAll arena.old.bytes from (path_of path.now) spare.now) →
+    ensures grows { (m : MayGrowAll arena.old.bytes from (path_of path.now) spare.now) →
         GrowsAll (heap_of arena.old)
         (heap_of arena.new) m.growing.root m.growing.path m.growing.keys m.growing.first from result
         (path_of path.now) moment }
+    ensures long { length arena.new.bytes ≡ length arena.old.bytes }
 {
     let mut node = from;
     let mut rest = path;
@@ -194,6 +197,7 @@ fn carve_for(
     ensures full { (result ≡ Err TreeFault.Full) → BINS_LIMIT < length arena.old.bytes + GROWTH_BOUND }
     ensures others { IfErr result (λ fault. (fault ≡ TreeFault.Full) ⊎ (fault ≡ TreeFault.Memory)) }
     ensures err { OnErr result (arena.new ≡ arena.old) }
+    ensures grows { OnOk result (length arena.new.bytes ≤ length arena.old.bytes + GROWTH_BOUND) }
 {
     let planned = plan_insert(arena, subkeys_list(arena, parent));
     let sizes = match sizes_for(alloc, planned, path) {
@@ -230,6 +234,7 @@ pub fn create(
     ensures full { (result ≡ Err TreeFault.Full) → BINS_LIMIT < length arena.old.bytes + GROWTH_BOUND }
     ensures others { IfErr result (λ fault. (fault ≡ TreeFault.Limit) ⊎ ((fault ≡ TreeFault.Full) ⊎ (fault ≡ TreeFault.Memory))) }
     ensures err { OnErr result (arena.new ≡ arena.old) }
+    ensures grows { OnOk result (length arena.new.bytes ≤ length arena.old.bytes + GROWTH_BOUND) }
 {
     let (parent, rest) = reach(arena, from, path);
     if rest.is_empty() {

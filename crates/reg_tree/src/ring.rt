@@ -45,7 +45,8 @@ pub fn with_one_more(arena: &Arena, security: u32) -> u32
 /// Writes how many keys use a key security.
 pub fn recount(arena: &mut Arena, security: u32, count: u32)
     requires { IsSome (security_at (heap_of arena.old) security) }
-    ensures { Recounts (heap_of arena.old) (heap_of arena.new) security (λ n. count) }
+    ensures recounts { Recounts (heap_of arena.old) (heap_of arena.new) security (λ n. count) }
+    ensures long { length arena.new.bytes ≡ length arena.old.bytes }
 {
     set_security_count(arena, security, count);
 }
@@ -54,7 +55,8 @@ pub fn recount(arena: &mut Arena, security: u32, count: u32)
 pub fn release(arena: &mut Arena, security: u32)
     requires there { IsSome (security_at (heap_of arena.old) security) }
     requires some { (s : KeySecurityRecord) → security_at (heap_of arena.old) security ≡ Some s → 1 ≤ s.fields.count }
-    ensures { Recounts (heap_of arena.old) (heap_of arena.new) security (λ n. n - 1) }
+    ensures recounts { Recounts (heap_of arena.old) (heap_of arena.new) security (λ n. n - 1) }
+    ensures long { length arena.new.bytes ≡ length arena.old.bytes }
 {
     let count = count(arena, security);
     set_security_count(arena, security, count - 1);

@@ -7,6 +7,8 @@ ghost use Rattle.reg_heap.specs.declared.limits.TheConstants.{BINS_LIMIT, DATA_L
 ghost use Rattle.reg_heap.specs.Paths.{Path, path_cmp, Rec, Member, children_of};
 ghost use Rattle.reg_heap.specs.Members.{value_named};
 ghost use Rattle.reg_heap.specs.Edits.{edited, with_value, without_value, values_at, folded_path, are_too_many, without_key, IsKept};
+ghost use Rattle.reg_arena.specs.NewBin.{IsBinSize};
+ghost use Rattle.reg_arena.specs.NewCells.{cell_size as cell_size_of};
 ghost use Rattle.reg_values.specs.ValueLists.{Tells};
 
 use crate::cells::carve_two;
@@ -44,7 +46,7 @@ impl Tree {
     ghost use Rattle.reg_tree.specs.ValueAnswers.{IsFound};
 
     /// A tree of one root: the name as given, mark 8 (no delete), no class, the descriptor, the moment (100 ns ticks since
-    /// 1601), no values. Its one fault is `Memory`.
+    /// 1601), no values. Its one fault is `Memory`. It has one bin, of the least size that holds its two cells.
     pub fn new(
         alloc: Global,
         root_name: &[u8],
@@ -55,6 +57,8 @@ impl Tree {
         requires descriptor { (1 ≤ length descriptor.now) × (length descriptor.now ≤ DESCRIPTOR_LIMIT) }
         ensures ok { IfOk result (λ t. t.tree ≡ insert empty [] (made_root root_name.now descriptor.now moment)) }
         ensures err { IfErr result (λ fault. fault ≡ TreeFault.Memory) }
+        ensures bin { IfOk result (λ t. IsBinSize (length t.bins.bytes)
+            (cell_size_of (76 + length root_name.now) + cell_size_of (20 + length descriptor.now))) }
     {
         let mut arena = Arena::new(alloc);
         let node_size = cell_size(76 + root_name.len() as u32);
@@ -198,7 +202,7 @@ impl Tree {
     /// the end. After a fault the tree is as before.
     ///
     /// `Limit` where the name is new and there are 16,384 values; `Full` only where the bins are within 1,310,720 bytes of
-    /// their limit of 268,435,456; `Memory`.
+    /// their limit of 268,435,456; `Memory`. The bins grow by at most 1,310,720 bytes.
     pub fn set_value(
         &mut self,
         alloc: Global,
@@ -219,6 +223,7 @@ impl Tree {
         ensures full { (result ≡ Err TreeFault.Full) → BINS_LIMIT < length self.old.bins.bytes + GROWTH_BOUND }
         ensures others { IfErr result (λ fault. (fault ≡ TreeFault.Limit) ⊎ ((fault ≡ TreeFault.Full) ⊎ (fault ≡ TreeFault.Memory))) }
         ensures err { OnErr result (self.new ≡ self.old) }
+        ensures grows { OnOk result (length self.new.bins.bytes ≤ length self.old.bins.bytes + GROWTH_BOUND) }
     {
         values::set(
             &mut self.arena,
@@ -232,7 +237,7 @@ impl Tree {
     }
 
     /// Removes a value of a key, and sets the key's time. `NotFound` where there is none of that name; then the tree is as
-    /// before.
+    /// before. The bins keep their length.
     pub fn delete_value(&mut self, node: Node, name: &[u8], moment: u64) -> Result<(), TreeFault>
         requires { IsThere self.old node }
         ensures ok { (p : Path) → IsAt self.old p node → OnOk result (self.new.tree ≡ edited self.old.tree p (without_value name.now moment)) }
@@ -241,6 +246,7 @@ impl Tree {
             IfErr result (λ fault. (fault ≡ TreeFault.NotFound)
             × (value_named name.now (values_at self.old.tree p) ≡ None)) }
         ensures err { OnErr result (self.new ≡ self.old) }
+        ensures long { OnOk result (length self.new.bins.bytes ≡ length self.old.bins.bytes) }
     {
         values::delete(&mut self.arena, node.offset, name, moment)
     }
@@ -251,7 +257,7 @@ impl Tree {
     ///
     /// `Limit` where a key is missing and more than 32 are, or the path has more than 512 names from the root on, or the
     /// first missing key's parent has 500 subkeys; `Full` only where the bins are within 1,310,720 bytes of their limit of
-    /// 268,435,456; `Memory`.
+    /// 268,435,456; `Memory`. The bins grow by at most 1,310,720 bytes.
     pub fn create(
         &mut self,
         alloc: Global,
@@ -266,6 +272,7 @@ impl Tree {
         ensures full { (result ≡ Err TreeFault.Full) → BINS_LIMIT < length self.old.bins.bytes + GROWTH_BOUND }
         ensures others { IfErr result (λ fault. (fault ≡ TreeFault.Limit) ⊎ ((fault ≡ TreeFault.Full) ⊎ (fault ≡ TreeFault.Memory))) }
         ensures err { OnErr result (self.new ≡ self.old) }
+        ensures grows { OnOk result (length self.new.bins.bytes ≤ length self.old.bins.bytes + GROWTH_BOUND) }
     {
         make::create(&mut self.arena, alloc, from, path, moment)
     }
@@ -282,7 +289,7 @@ impl Tree {
     /// Deletes a key with its values, and sets its parent's time. After a fault the tree is as before.
     ///
     /// `HasChildren` where the key has subkeys; `NoDelete` where it has none, and is the root or has mark 0x08. It takes no
-    /// memory.
+    /// memory, and the bins keep their length.
     pub fn delete_key(&mut self, node: Node, moment: u64) -> Result<(), TreeFault>
         requires { IsThere self.old node }
         ensures ok { (p : Path) → IsAt self.old p node → OnOk result (self.new.tree ≡ without_key self.old.tree p moment) }
@@ -291,6 +298,7 @@ impl Tree {
         ensures kept { (p : Path) → IsAt self.old p node → ((result ≡ Err TreeFault.NoDelete) ↔ ((children_of self.old.tree p ≡ []) × IsKept self.old.tree p)) }
         ensures others { IfErr result (λ fault. (fault ≡ TreeFault.HasChildren) ⊎ (fault ≡ TreeFault.NoDelete)) }
         ensures err { OnErr result (self.new ≡ self.old) }
+        ensures long { OnOk result (length self.new.bins.bytes ≡ length self.old.bins.bytes) }
     {
         unmake::delete(&mut self.arena, node.offset, moment)
     }

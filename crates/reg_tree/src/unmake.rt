@@ -42,9 +42,10 @@ fn name_of(arena: &Arena, key: u32) -> &[u8]
 /// Takes a key out of its parent's subkeys, and notes that with the time.
 fn unlink(arena: &mut Arena, parent: u32, key: u32, moment: u64)
     requires { (above : KeyRecord) × (entries : List Entry) × (index : ℕ) × IsListed (heap_of arena.old) parent key above entries index }
-    ensures { (above : KeyRecord) → (entries : List Entry) → (index : ℕ) →
+    ensures unlinks { (above : KeyRecord) → (entries : List Entry) → (index : ℕ) →
         IsListed (heap_of arena.old) parent key above entries index →
         IsUnlinked (heap_of arena.old) (heap_of arena.new) parent above entries index moment }
+    ensures long { length arena.new.bytes ≡ length arena.old.bytes }
 {
     let list = subkeys_list(arena, parent);
     let Ok(index) = find(arena, list, name_of(arena, key)) else {
@@ -57,7 +58,8 @@ fn unlink(arena: &mut Arena, parent: u32, key: u32, moment: u64)
 /// Frees a key's class, where it has one.
 fn free_class(arena: &mut Arena, fields: KeyFields)
     requires { Owns (class_at fields) (heap_of arena.old) }
-    ensures { GivesUpRead (class_at fields) (heap_of arena.old) (heap_of arena.new) }
+    ensures gone { GivesUpRead (class_at fields) (heap_of arena.old) (heap_of arena.new) }
+    ensures long { length arena.new.bytes ≡ length arena.old.bytes }
 {
     if fields.class_length == 0 {
         return;
@@ -68,8 +70,9 @@ fn free_class(arena: &mut Arena, fields: KeyFields)
 /// Frees a key's values, its class and its key node.
 fn free_key(arena: &mut Arena, key: u32)
     requires { IsSole (heap_of arena.old) key }
-    ensures { (node : KeyWithCells) → look (heap_of arena.old) key ≡ Some node →
+    ensures gone { (node : KeyWithCells) → look (heap_of arena.old) key ≡ Some node →
         CellFrame (heap_of arena.old) (heap_of arena.new) (λ offset. owned offset node.cells) (λ offset. 0) }
+    ensures long { length arena.new.bytes ≡ length arena.old.bytes }
 {
     let head = fields(arena, key);
     let values = values_list(arena, key);
@@ -106,6 +109,7 @@ pub fn delete(arena: &mut Arena, key: u32, moment: u64) -> Result<(), TreeFault>
         × IsKept (tree_in arena.old.bytes t.root) t.path)) }
     ensures others { IfErr result (λ fault. (fault ≡ TreeFault.HasChildren) ⊎ (fault ≡ TreeFault.NoDelete)) }
     ensures err { OnErr result (arena.new ≡ arena.old) }
+    ensures long { OnOk result (length arena.new.bytes ≡ length arena.old.bytes) }
 {
     if has_children(arena, key) {
         return Err(TreeFault::HasChildren);

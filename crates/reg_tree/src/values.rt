@@ -113,6 +113,7 @@ pub fn set(
     ensures others { IfErr result (λ fault. (fault ≡ TreeFault.Limit) ⊎ ((fault ≡ TreeFault.Full) ⊎ (fault ≡ TreeFault.Memory))) }
     ensures full { (result ≡ Err TreeFault.Full) → BINS_LIMIT < length arena.old.bytes + GROWTH_BOUND }
     ensures err { OnErr result (arena.new ≡ arena.old) }
+    ensures grows { OnOk result (length arena.new.bytes ≤ length arena.old.bytes + GROWTH_BOUND) }
 {
     let old = values_list(arena, key);
     if is_full(arena, key, old, name) {
@@ -142,6 +143,7 @@ pub fn delete(arena: &mut Arena, key: u32, name: &[u8], moment: u64) -> Result<(
         IfErr result (λ fault. (fault ≡ TreeFault.NotFound)
         × (value_named name.now (values_at (tree_in arena.old.bytes t.root) t.path) ≡ None)) }
     ensures err { OnErr result (arena.new ≡ arena.old) }
+    ensures long { OnOk result (length arena.new.bytes ≡ length arena.old.bytes) }
 {
     let old = values_list(arena, key);
     let Some(_) = reg_values::find(arena, old, name) else {

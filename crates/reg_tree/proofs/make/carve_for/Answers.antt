@@ -32,3 +32,10 @@ returns-clause-full c = λ full.
     let past = (c.in-Err-carve.ensures.full.0 (ap (λ f. Err f) (is-full c.in-Err-carve.fault _ c.from.ensures full))).1 in
     let few = total-few _ c.args.path.now (plan_told _ _ c.requires.here _ _ c.subkeys_list.ensures _ c.plan_insert-planned.ensures) c.requires.path c.requires.few in
     near-limit _ _ (subst (λ s. total_of s ≤ 15536) (sym (c.deref.ensures.value ∙ c.in-Ok.ensures)) few) past
+
+pub returns-in-Ok-carve-clause-grows : goal.returns-in-Ok-carve-clause-grows
+returns-in-Ok-carve-clause-grows c =
+    let few = total-few _ c.args.path.now (plan_told _ _ c.requires.here _ _ c.subkeys_list.ensures _ c.plan_insert-planned.ensures) c.requires.path c.requires.few in
+    let same = ap total_of (c.deref.ensures.value ∙ c.in-Ok.ensures) in
+    let grown = c.in-Ok-carve.ensures.grows in
+    omega (arith, few, same, grown)

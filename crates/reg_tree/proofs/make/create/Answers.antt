@@ -52,7 +52,7 @@ returns-clause-ok c = λ t d.
     let room = c.pass_limits.ensures.room c.if-pass_limits.false in
     let s = spared_as _ _ _ _ c.deref.result.now c.in-Ok.cells.items c.deref.ensures.value c.in-Ok.ensures.ok in
     created _ c.args.from t c.args.path.now _ _ c.reach.ensures c.args.moment d _ c.deref.result.now s room.1 room.2 _ c.make_all-node.result
-    (c.make_all-node.ensures (may_make _ c.args.from t c.args.path.now _ _ c.reach.ensures c.args.moment d _ c.deref.result.now s room.1 room.2))
+    (c.make_all-node.ensures.grows (may_make _ c.args.from t c.args.path.now _ _ c.reach.ensures c.args.moment d _ c.deref.result.now s room.1 room.2))
 
 pub returns-clause-new : goal.returns-clause-new
 returns-clause-new c = λ t. new_some _ c.args.from t c.args.path.now _ _ c.reach.ensures c.args.moment (some_names _ c.is_empty.result c.is_empty.ensures c.if-is_empty.false)

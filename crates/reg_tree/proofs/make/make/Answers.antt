@@ -37,11 +37,11 @@ note_subkeys-requires-clause-exists c =
 pub recount-requires : goal.recount-requires
 recount-requires c =
     security3 _ _ _ _ _ _ c.requires.grow.1 _ c.fields-above.ensures _ c.put_nk.ensures.written.others (is_some_of _ _ c.put_nk.ensures.written.here) _ c.put_nk.ensures.reads
-    _ c.insert-list.result.count c.insert-list.result.offset c.insert-list.ensures.moves _ c.args.moment c.note_subkeys.ensures
+    _ c.insert-list.result.count c.insert-list.result.offset c.insert-list.ensures.moves _ c.args.moment c.note_subkeys.ensures.notes
 
-pub returns : goal.returns
-returns c = λ left m.
+pub returns-clause-grows : goal.returns-clause-grows
+returns-clause-grows c = λ left m.
     grown _ _ _ _ _ _ m _ c.fields-above.ensures _ c.put_nk.ensures.written.others (is_some_of _ _ c.put_nk.ensures.written.here) _ c.put_nk.ensures.reads
-    _ c.insert-list.result.count c.insert-list.result.offset c.insert-list.ensures.moves _ c.args.moment c.note_subkeys.ensures
+    _ c.insert-list.result.count c.insert-list.result.offset c.insert-list.ensures.moves _ c.args.moment c.note_subkeys.ensures.notes
     _ c.requires.name.0 c.requires.name.1 c.new_key.ensures c.put_nk.ensures.plain c.in-Err.index c.in-Err.ensures c.insert-list.ensures.subkeys c.insert-list.ensures.count
-    c.with_one_more-users.result c.with_one_more-users.ensures c.recount.ensures
+    c.with_one_more-users.result c.with_one_more-users.ensures c.recount.ensures.recounts

@@ -1,19 +1,19 @@
-use Rattle.std.proofs.Common.{arith, sym, subst, ◌+◌, ◌-◌, drop, get_or}
+use Rattle.std.proofs.Common.{arith, refl, ◌∙◌, sym, subst, ◌+◌, ◌-◌, drop, get_or}
 use Rattle.reg_names.specs.Names.{path_of}
 use Rattle.reg_tree.proofs.InsertKey.PathGrowth.{name_short, rest_all, Midway, at_start, deep_now, may_next, ready_next, one_further, at_end}
 use Rattle.reg_tree.proofs.make.make_all.Goals as goal
 
 pub loop-name-init : goal.loop-name-init
-loop-name-init c = λ m. at_start _ _ c.args.path.now _ m c.args.moment c.requires.path
+loop-name-init c = record { mid = λ m. at_start _ _ c.args.path.now _ m c.args.moment c.requires.path; long = refl }
 
 pub first_name-requires : goal.first_name-requires
-first_name-requires c = (c.loop-name.invariant c.requires.grow).valid
+first_name-requires c = (c.loop-name.invariant.mid c.requires.grow).valid
 
 pub make_in-taken-requires-clause-grow : goal.make_in-taken-requires-clause-grow
-make_in-taken-requires-clause-grow c = may_next _ _ _ _ _ _ _ _ _ _ (c.loop-name.invariant c.requires.grow) _ _ c.in-Some.ensures
+make_in-taken-requires-clause-grow c = may_next _ _ _ _ _ _ _ _ _ _ (c.loop-name.invariant.mid c.requires.grow) _ _ c.in-Some.ensures
 
 pub make_in-taken-requires-clause-ready : goal.make_in-taken-requires-clause-ready
-make_in-taken-requires-clause-ready c = (path_of c.in-Some.behind.now, ready_next _ _ _ _ _ _ _ _ _ _ (c.loop-name.invariant c.requires.grow) _ _ c.in-Some.ensures)
+make_in-taken-requires-clause-ready c = (path_of c.in-Some.behind.now, ready_next _ _ _ _ _ _ _ _ _ _ (c.loop-name.invariant.mid c.requires.grow) _ _ c.in-Some.ensures)
 
 pub make_in-taken-requires-clause-name : goal.make_in-taken-requires-clause-name
 make_in-taken-requires-clause-name c = (c.in-Some.ensures.good, name_short c.in-Some.name.now c.in-Some.ensures.good)
@@ -22,21 +22,24 @@ pub offset_bounds-spare-taken : goal.offset_bounds-spare-taken
 offset_bounds-spare-taken c = let t = c.make_in-taken.ensures.taken.1 in omega (arith, t)
 
 pub overflow_add-node : goal.overflow_add-node
-overflow_add-node c = let d = deep_now _ _ _ _ _ _ _ _ _ _ (c.loop-name.invariant c.requires.grow) c.requires.depth in omega (arith, d)
+overflow_add-node c = let d = deep_now _ _ _ _ _ _ _ _ _ _ (c.loop-name.invariant.mid c.requires.grow) c.requires.depth in omega (arith, d)
 
 pub offset_bounds-spare-taken-in-Some : goal.offset_bounds-spare-taken-in-Some
 offset_bounds-spare-taken-in-Some c = let t = c.make_in-taken.ensures.taken.1 in omega (arith, t)
 
 pub loop-name-preserved : goal.loop-name-preserved
-loop-name-preserved c = λ m.
-    let mid = c.loop-name.invariant m in
-    subst
-    (λ left. Midway _ c.args.from (path_of c.args.path.now) c.args.spare.now m c.args.moment c.make_in-taken.new.arena.bytes
-    (record { offset = get_or c.loop-name.spare.now (c.make_in-taken.result - 1) 0; depth = c.loop-name.node.depth + 1 }) c.in-Some.behind.now left)
-    (sym (rest_all c.make_in-taken.result c.loop-name.spare.now))
-    (one_further _ _ _ _ _ _ _ _ _ _ mid c.in-Some.name.now c.in-Some.behind.now c.in-Some.ensures _
-    (get_or c.loop-name.spare.now (c.make_in-taken.result - 1) 0) (drop c.make_in-taken.result c.loop-name.spare.now)
-    (c.make_in-taken.ensures.grows (may_next _ _ _ _ _ _ _ _ _ _ mid _ _ c.in-Some.ensures)) (c.make_in-taken.ensures.ready _ (ready_next _ _ _ _ _ _ _ _ _ _ mid _ _ c.in-Some.ensures)))
+loop-name-preserved c = record {
+  mid = λ m.
+      let mid = c.loop-name.invariant.mid m in
+      subst
+      (λ left. Midway _ c.args.from (path_of c.args.path.now) c.args.spare.now m c.args.moment c.make_in-taken.new.arena.bytes
+      (record { offset = get_or c.loop-name.spare.now (c.make_in-taken.result - 1) 0; depth = c.loop-name.node.depth + 1 }) c.in-Some.behind.now left)
+      (sym (rest_all c.make_in-taken.result c.loop-name.spare.now))
+      (one_further _ _ _ _ _ _ _ _ _ _ mid c.in-Some.name.now c.in-Some.behind.now c.in-Some.ensures _
+      (get_or c.loop-name.spare.now (c.make_in-taken.result - 1) 0) (drop c.make_in-taken.result c.loop-name.spare.now)
+      (c.make_in-taken.ensures.grows (may_next _ _ _ _ _ _ _ _ _ _ mid _ _ c.in-Some.ensures)) (c.make_in-taken.ensures.ready _ (ready_next _ _ _ _ _ _ _ _ _ _ mid _ _ c.in-Some.ensures)));
+  long = c.make_in-taken.ensures.long ∙ c.loop-name.invariant.long;
+}
 
-pub returns : goal.returns
-returns c = λ m. at_end _ _ _ _ _ _ _ _ _ _ (c.loop-name.invariant m) c.in_default.ensures
+pub returns-clause-grows : goal.returns-clause-grows
+returns-clause-grows c = λ m. at_end _ _ _ _ _ _ _ _ _ _ (c.loop-name.invariant.mid m) c.in_default.ensures

@@ -1,12 +1,15 @@
-use Rattle.std.proofs.Common.{length}
+use Rattle.std.proofs.Common.{◌≡◌, length}
 use Rattle.reg_names.specs.Names.{path_of}
 use Rattle.reg_tree.specs.Internal.SpareCells.{MayGrowAll}
 use Rattle.reg_tree.proofs.InsertKey.PathGrowth.{Midway}
 use Rattle.reg_tree.proofs.make.make_all.Given as goal
 
 abbrev pub invariant-loop-name : goal.invariant-loop-name
-invariant-loop-name l = (m : MayGrowAll l.fn.arena.bytes l.fn.from (path_of l.fn.path) l.fn.spare) →
-    Midway l.fn.arena.bytes l.fn.from (path_of l.fn.path) l.fn.spare m l.fn.moment l.arena.bytes l.node l.rest l.spare
+invariant-loop-name l = record {
+  mid : (m : MayGrowAll l.fn.arena.bytes l.fn.from (path_of l.fn.path) l.fn.spare) →
+      Midway l.fn.arena.bytes l.fn.from (path_of l.fn.path) l.fn.spare m l.fn.moment l.arena.bytes l.node l.rest l.spare;
+  long : length l.arena.bytes ≡ length l.fn.arena.bytes;
+}
 
 abbrev pub decreases-loop-name : goal.decreases-loop-name
 decreases-loop-name l = length l.rest

@@ -42,7 +42,7 @@ returns-in-None-clause-grows c =
     let a = alone _ r.list_cell r.key r.left c.args.spare.now p r.spare_is in
     respelt _ _ _ (λ path root keys first. Grows (heap_of c.args.arena.now) (heap_of c.make.new.arena) root path keys first
     (get_or c.args.spare.now 0 0) (drop 1 c.args.spare.now) c.args.name.now c.args.moment)
-    _ _ (a.all NONE) (c.make.ensures (drop 1 c.args.spare.now))
+    _ _ (a.all NONE) (c.make.ensures.grows (drop 1 c.args.spare.now))
 
 pub returns-in-Some-clause-taken : goal.returns-in-Some-clause-taken
 returns-in-Some-clause-taken c =
@@ -59,7 +59,7 @@ returns-in-Some-clause-grows c =
     let b = beside _ _ r.list_cell r.key r.left c.args.spare.now p r.spare_is in
     respelt _ _ _ (λ path root keys first. Grows (heap_of c.args.arena.now) (heap_of c.make-in-Some.new.arena) root path keys first
     (get_or c.args.spare.now 1 0) (drop 2 c.args.spare.now) c.args.name.now c.args.moment)
-    _ _ b.all (c.make-in-Some.ensures (drop 2 c.args.spare.now))
+    _ _ b.all (c.make-in-Some.ensures.grows (drop 2 c.args.spare.now))
 
 pub returns-in-Some-clause-ready : goal.returns-in-Some-clause-ready
 returns-in-Some-clause-ready c = λ names r.

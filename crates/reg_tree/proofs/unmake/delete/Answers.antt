@@ -18,24 +18,24 @@ free_key-requires c =
     let t = c.requires in
     free-ready _ _ t (childless _ _ t c.has_children.result (c.has_children.ensures t) c.if-has_children.false)
     (inner _ _ t c.is_kept.result (c.is_kept.ensures t) c.if-is_kept.false) c.fields-head.result c.fields-head.ensures
-    (heap_of c.unlink.new.arena) c.args.moment c.unlink.ensures
+    (heap_of c.unlink.new.arena) c.args.moment c.unlink.ensures.unlinks
 
 pub release-requires-clause-there : goal.release-requires-clause-there
 release-requires-clause-there c =
     let t = c.requires in
     count-there _ _ t (childless _ _ t c.has_children.result (c.has_children.ensures t) c.if-has_children.false)
     (inner _ _ t c.is_kept.result (c.is_kept.ensures t) c.if-is_kept.false) c.fields-head.result c.fields-head.ensures
-    (heap_of c.unlink.new.arena) c.args.moment c.unlink.ensures (heap_of c.free_key.new.arena) c.free_key.ensures
+    (heap_of c.unlink.new.arena) c.args.moment c.unlink.ensures.unlinks (heap_of c.free_key.new.arena) c.free_key.ensures.gone
 
 pub release-requires-clause-some : goal.release-requires-clause-some
 release-requires-clause-some c =
     let t = c.requires in
     count-some _ _ t (childless _ _ t c.has_children.result (c.has_children.ensures t) c.if-has_children.false)
     (inner _ _ t c.is_kept.result (c.is_kept.ensures t) c.if-is_kept.false) c.fields-head.result c.fields-head.ensures
-    (heap_of c.unlink.new.arena) c.args.moment c.unlink.ensures (heap_of c.free_key.new.arena) c.free_key.ensures
+    (heap_of c.unlink.new.arena) c.args.moment c.unlink.ensures.unlinks (heap_of c.free_key.new.arena) c.free_key.ensures.gone
 
 pub returns-clause-ok : goal.returns-clause-ok
 returns-clause-ok c = λ t.
     is-deleted _ _ t (childless _ _ t c.has_children.result (c.has_children.ensures t) c.if-has_children.false)
     (inner _ _ t c.is_kept.result (c.is_kept.ensures t) c.if-is_kept.false) c.fields-head.result c.fields-head.ensures
-    (heap_of c.unlink.new.arena) c.args.moment c.unlink.ensures (heap_of c.free_key.new.arena) c.free_key.ensures c.release.new.arena.bytes c.release.ensures
+    (heap_of c.unlink.new.arena) c.args.moment c.unlink.ensures.unlinks (heap_of c.free_key.new.arena) c.free_key.ensures.gone c.release.new.arena.bytes c.release.ensures.recounts

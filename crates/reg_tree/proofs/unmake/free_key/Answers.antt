@@ -12,14 +12,14 @@ pub clear-requires : goal.clear-requires
 clear-requires c = sole-values _ _ c.requires _ _ c.values_list-values.ensures
 
 pub free_class-requires : goal.free_class-requires
-free_class-requires c = sole-class _ _ c.requires _ _ c.values_list-values.ensures (heap_of c.clear.new.arena) c.clear.ensures c.fields-head.result c.fields-head.ensures
+free_class-requires c = sole-class _ _ c.requires _ _ c.values_list-values.ensures (heap_of c.clear.new.arena) c.clear.ensures.gone c.fields-head.result c.fields-head.ensures
 
 pub free-requires : goal.free-requires
 free-requires c =
-    sole-left _ _ c.requires _ _ c.values_list-values.ensures (heap_of c.clear.new.arena) c.clear.ensures c.fields-head.result
-    c.fields-head.ensures (heap_of c.free_class.new.arena) c.free_class.ensures
+    sole-left _ _ c.requires _ _ c.values_list-values.ensures (heap_of c.clear.new.arena) c.clear.ensures.gone c.fields-head.result
+    c.fields-head.ensures (heap_of c.free_class.new.arena) c.free_class.ensures.gone
 
-pub returns : goal.returns
-returns c =
-    sole-gone _ _ c.requires _ _ c.values_list-values.ensures (heap_of c.clear.new.arena) c.clear.ensures c.fields-head.result
-    c.fields-head.ensures (heap_of c.free_class.new.arena) c.free_class.ensures (heap_of c.free.new.self) c.free.ensures.gone
+pub returns-clause-gone : goal.returns-clause-gone
+returns-clause-gone c =
+    sole-gone _ _ c.requires _ _ c.values_list-values.ensures (heap_of c.clear.new.arena) c.clear.ensures.gone c.fields-head.result
+    c.fields-head.ensures (heap_of c.free_class.new.arena) c.free_class.ensures.gone (heap_of c.free.new.self) c.free.ensures.gone

@@ -21,9 +21,9 @@ note_subkeys-requires-clause-exists c =
     let r = c.requires in
     subst IsSome (sym (parent-stays _ _ _ r.0 r.1 r.2 r.3 _ _ c.subkeys_list-list.ensures (heap_of c.remove-after.new.arena) _ c.remove-after.ensures.moves)) (parent-there _ _ _ r.0 r.1 r.2 r.3)
 
-pub returns : goal.returns
-returns c = λ above entries index l.
+pub returns-clause-unlinks : goal.returns-clause-unlinks
+returns-clause-unlinks c = λ above entries index l.
     let e = found-there _ _ _ above entries index l c.name_of.result.now c.name_of.ensures c.in-Ok.index
     (c.in-Ok.ensures entries (listed-subkeys _ _ _ above entries index l _ _ c.subkeys_list-list.ensures)) in
     unlinked _ _ _ above entries index l _ _ c.subkeys_list-list.ensures c.in-Ok.index _ _ (heap_of c.remove-after.new.arena)
-    (heap_of c.note_subkeys.new.arena) c.args.moment e c.remove-after.ensures.subkeys c.remove-after.ensures.moves c.note_subkeys.ensures
+    (heap_of c.note_subkeys.new.arena) c.args.moment e c.remove-after.ensures.subkeys c.remove-after.ensures.moves c.note_subkeys.ensures.notes

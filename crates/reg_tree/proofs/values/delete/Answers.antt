@@ -20,8 +20,9 @@ pub remove-list-requires-clause-named : goal.remove-list-requires-clause-named
 remove-list-requires-clause-named c = some_named _ _ c.requires _ _ c.values_list-old.ensures c.args.name.now c.in-Some.field-0 c.in-Some.ensures
 
 pub note_values-requires-clause-exists : goal.note_values-requires-clause-exists
-note_values-requires-clause-exists c = key_mid _ _ _ c.requires _ _ _ (c.remove-list.ensures _ _ (list_reads _ _ c.requires _ _ c.values_list-old.ensures))
+note_values-requires-clause-exists c = key_mid _ _ _ c.requires _ _ _ (c.remove-list.ensures.list _ _ (list_reads _ _ c.requires _ _ c.values_list-old.ensures))
 
 pub returns-clause-ok : goal.returns-clause-ok
 returns-clause-ok c =
-    λ t. delete_changed _ _ _ _ _ _ c.args.name.now c.args.moment c.remove-list.result.count c.remove-list.result.offset t c.values_list-old.ensures c.remove-list.ensures c.note_values.ensures
+    λ t. delete_changed _ _ _ _ _ _ c.args.name.now c.args.moment c.remove-list.result.count c.remove-list.result.offset t c.values_list-old.ensures
+    c.remove-list.ensures.list c.note_values.ensures.notes

@@ -18,7 +18,8 @@ note_values-requires-clause-exists c =
 
 pub returns-clause-ok : goal.returns-clause-ok
 returns-clause-ok c =
-    λ t. set_changed _ _ _ _ _ _ c.args.name.now c.args.kind c.args.bytes.now c.args.moment c.in-Ok.list.count c.in-Ok.list.offset t c.values_list-old.ensures c.in-Ok.ensures.ok c.note_values.ensures
+    λ t. set_changed _ _ _ _ _ _ c.args.name.now c.args.kind c.args.bytes.now c.args.moment c.in-Ok.list.count c.in-Ok.list.offset t c.values_list-old.ensures
+    c.in-Ok.ensures.ok c.note_values.ensures.notes
 
 pub returns-clause-limit : goal.returns-clause-limit
 returns-clause-limit c = λ t. no_fault _ _ t _ _ c.values_list-old.ensures c.args.name.now (c.is_full.ensures.room c.if-is_full.false)
