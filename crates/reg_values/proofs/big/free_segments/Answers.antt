@@ -48,7 +48,8 @@ loop-index-preserved c = record {
       let h = heap_of c.loop-index.arena in
       let row : List ℕ = offsets_at c.args.count 0 (held h0 c.args.list) in
       let k = list-kept h0 h c.args.list c.loop-index.index row c.requires.once c.loop-index.invariant.gone c.requires.exists in
-      let o = offset-of h0 c.args.list c.args.count c.loop-index.index c.content.result.now c.offset_at-segment.result (sym k ∙ c.content.ensures) c.loop-index-test.true c.offset_at-segment.ensures in
+      let o = offset-of h0 c.args.list c.args.count c.loop-index.index c.content.result.now c.offset_at-segment.result (sym k ∙ c.content.ensures)
+      c.loop-index-test.true c.offset_at-segment.ensures in
       let n = length-offsets c.args.count 0 (held h0 c.args.list) in
       let t = c.loop-index-test.true in
       let k = heap_of c.free.new.self in
