@@ -25,7 +25,7 @@ use Rattle.reg_arena.specs.Arena.{IsSound}
 use Rattle.reg_tree.specs.TreeKeys.{IsWholeTree}
 use Rattle.reg_calls.specs.declared.store.Store.{Store}
 use Rattle.reg_calls.specs.Internal.Stores.{at, world_of, IsReady, IsDone}
-use Rattle.reg_calls.specs.Shortages.{is_closing}
+use Rattle.reg_calls.specs.Shortages.{is_closing, growth_of}
 use Rattle.reg_calls.specs.Views.{HiveInvariant, View, state, IsHive, IsAccepted, IsAppliedBy, IsApplied}
 
 -- ---- what is kept
@@ -195,13 +195,14 @@ module _ {origin : Tree} {es : List Entry} {store : Store} {room : ℕ} (kept : 
 pub accepted : {origin : Tree} {es : List Entry} {store : Store} {room : ℕ} (kept : HiveInvariant origin es store room) (v new : View) →
     record { origin = origin; journal = es; keys = store.tree; handles = store.handles.handles } ≡ v → (session moment : ℕ) (change : Change) (told : ChangeReply) →
     told ≡ reply_to (at (length es) store) session change → new.journal ≡ es ++ entry_with es session moment change told ∷ [] → new.origin ≡ origin →
-    IsHive new → IsAccepted v new session moment change told
-accepted {origin = origin} {es = es} {store = store} kept v new view_is session moment change told reply journal same hive =
+    length new.keys.bins.bytes ≤ length store.tree.bins.bytes + growth_of change → IsHive new → IsAccepted v new session moment change told
+accepted {origin = origin} {es = es} {store = store} kept v new view_is session moment change told reply journal same grows hive =
     let says = reply ∙ ap (λ (s : State). reply_to s session change) (sym (state-kept kept)) in
     subst (λ (w : View). IsAccepted w new session moment change told) view_is (record {
       says = says;
       journal = journal ∙ ap (λ (r : ChangeReply). es ++ entry_with es session moment change r ∷ []) says;
       origin = same;
+      grows = grows;
       hive = hive;
     })
 

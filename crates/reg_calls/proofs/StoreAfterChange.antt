@@ -1,12 +1,12 @@
 -- What the changes of accepted calls make of a store.
-use Rattle.std.proofs.Common.{◌≡◌, ◌≢◌, ◌⊎◌, ◌↔◌, inl, inr, ℕ, ◌<◌, ◌≤◌, Bool, true, false, not, nat_lt, nat_le, cond, is_some, List, [], ◌∷◌, ◌++◌, length, Option}
+use Rattle.std.proofs.Common.{◌≡◌, ◌≢◌, ◌⊎◌, ◌↔◌, inl, inr, ℕ, ◌+◌, ◌<◌, ◌≤◌, Bool, true, false, not, nat_lt, nat_le, cond, is_some, List, [], ◌∷◌, ◌++◌, length, Option}
 use Rattle.std.proofs.Common.{Some, None, refl, sym, ap, ◌∙◌, subst, arith, true≢false}
 use Rattle.std.specs.Prelude.{Result, Err, bit_and, ◌==◌}
 use Rattle.std.specs.FinMap.{get}
 use Rattle.std.proofs.lemmas.Bool.{false≢true}
 use Rattle.std.proofs.lemmas.Bool.Decides.{nat_tests}
 use Rattle.reg_model.specs.declared.limits.TheConstants.{HANDLES_LIMIT}
-use Rattle.reg_heap.specs.declared.limits.TheConstants.{DATA_LIMIT, VALUES_LIMIT}
+use Rattle.reg_heap.specs.declared.limits.TheConstants.{DATA_LIMIT, GROWTH_BOUND, VALUES_LIMIT}
 use Rattle.reg_names.specs.declared.TheConstants.{PATH_LIMIT}
 use Rattle.reg_names.specs.Names.{path_of, is_path, is_value_name}
 use Rattle.reg_heap.specs.Paths.{Path, Tree, Member, children_of}
@@ -33,6 +33,10 @@ use Rattle.reg_calls.proofs.HandleLookUps.{target-at, target-from, target-has}
 use Rattle.reg_calls.proofs.TableAndLimitLemmas.{not_above, path-short}
 
 -- ---- the calls
+
+-- a change that leaves the keys as they are takes no space
+no-growth : (store : Store) → length store.tree.bins.bytes ≤ length store.tree.bins.bytes + 0
+no-growth store = omega arith
 
 module _ (n : ℕ) (store : Store) (session : ℕ) (ready : IsReady n store) where
   abbrev s : State
@@ -69,7 +73,7 @@ module _ (n : ℕ) (store : Store) (session : ℕ) (ready : IsReady n store) whe
   unfolding after reply_to
   root-done moment mask table text empty add told e =
       let handles = add ∙ ap (λ (t : List ℕ). hs ++ record { number = n; session = session; mask = mask; destination = At (path_of t) } ∷ []) empty in
-      record { world = λ i. record { tree = tree; handles = handles i }; reply = e }
+      record { world = λ i. record { tree = tree; handles = handles i }; reply = e; grows = no-growth store }
 
   -- ---- OpenKey
 
@@ -95,7 +99,7 @@ module _ (n : ℕ) (store : Store) (session : ℕ) (ready : IsReady n store) whe
     unfolding after reply_to
     open-done moment table text names add told e =
         let handles = add ∙ ap (λ (p : Path). hs ++ record { number = n; session = session; mask = mask; destination = At p } ∷ []) names in
-        record { world = λ i. record { tree = tree; handles = handles i }; reply = e }
+        record { world = λ i. record { tree = tree; handles = handles i }; reply = e; grows = no-growth store }
 
   -- ---- CreateKey
 
@@ -124,13 +128,14 @@ module _ (n : ℕ) (store : Store) (session : ℕ) (ready : IsReady n store) whe
       pub create-done : (moment : ℕ) (keys : Keys) (table : Table) (text : List ℕ) → path_of text ≡ path_from session h hs path →
           keys.tree ≡ with_keys tree t.path (path_of path) moment → added table mask text → (told : ChangeReply) →
           told ≡ opening (Some (disposition_of (missing tree t.path (path_of path)))) →
+          length keys.bins.bytes ≤ length store.tree.bins.bytes + GROWTH_BOUND →
           IsDone store (record { tree = keys; handles = table }) session moment n (CreateKey h path mask) told
       unfolding after reply_to
-      create-done moment keys table text names made add told e =
+      create-done moment keys table text names made add told e larger =
           let handles = add ∙ ap (λ (p : Path). hs ++ record { number = n; session = session; mask = mask; destination = At p } ∷ []) names in
           let grown = made ∙ ap (λ (p : Path). with_keys tree p (path_of path) moment) (sym (target-at store session h t)) in
           let reply = e ∙ ap (λ (p : Path). opening (Some (disposition_of (missing tree p (path_of path))))) (sym (target-at store session h t)) in
-          record { world = λ i. record { tree = grown i; handles = handles i }; reply = reply }
+          record { world = λ i. record { tree = grown i; handles = handles i }; reply = reply; grows = larger }
 
   -- ---- SetValue
 
@@ -155,11 +160,12 @@ module _ (n : ℕ) (store : Store) (session : ℕ) (ready : IsReady n store) whe
           absurd (true≢false (sym (grind (arith, nat_tests, lacks)) ∙ room))
 
       pub set-done : (moment : ℕ) (keys : Keys) → keys.tree ≡ edited tree t.path (with_value name kind bytes moment) → (told : ChangeReply) →
-          told ≡ plain → IsDone store (record { tree = keys; handles = store.handles }) session moment n (SetValue h name kind bytes) told
+          told ≡ plain → length keys.bins.bytes ≤ length store.tree.bins.bytes + GROWTH_BOUND →
+          IsDone store (record { tree = keys; handles = store.handles }) session moment n (SetValue h name kind bytes) told
       unfolding after reply_to
-      set-done moment keys set told e =
+      set-done moment keys set told e larger =
           let now = set ∙ ap (λ (p : Path). edited tree p (with_value name kind bytes moment)) (sym (target-at store session h t)) in
-          record { world = λ i. record { tree = now i; handles = hs }; reply = e }
+          record { world = λ i. record { tree = now i; handles = hs }; reply = e; grows = larger }
 
   -- ---- DeleteValue
 
@@ -178,11 +184,11 @@ module _ (n : ℕ) (store : Store) (session : ℕ) (ready : IsReady n store) whe
           absurd (true≢false (sym (ap (λ (o : Option Member). not (is_some o)) none) ∙ there))
 
       pub drop-done : (moment : ℕ) (keys : Keys) → keys.tree ≡ edited tree t.path (without_value name moment) → (told : ChangeReply) → told ≡ plain →
-          IsDone store (record { tree = keys; handles = store.handles }) session moment n (DeleteValue h name) told
+          length keys.bins.bytes ≡ length store.tree.bins.bytes → IsDone store (record { tree = keys; handles = store.handles }) session moment n (DeleteValue h name) told
       unfolding after reply_to
-      drop-done moment keys set told e =
+      drop-done moment keys set told e long =
           let now = set ∙ ap (λ (p : Path). edited tree p (without_value name moment)) (sym (target-at store session h t)) in
-          record { world = λ i. record { tree = now i; handles = hs }; reply = e }
+          record { world = λ i. record { tree = now i; handles = hs }; reply = e; grows = omega (arith, long) }
 
   -- ---- DeleteKey
 
@@ -229,12 +235,13 @@ module _ (n : ℕ) (store : Store) (session : ℕ) (ready : IsReady n store) whe
 
       pub delete-done : (moment : ℕ) (keys : Keys) (table : Table) (text : List ℕ) → path_of text ≡ path_from session h hs path →
           keys.tree ≡ without_key tree (t.path ++ folded_path path) moment → table.handles ≡ turned (path_of text) hs → (told : ChangeReply) →
-          told ≡ plain → IsDone store (record { tree = keys; handles = table }) session moment n (DeleteKey h path) told
+          told ≡ plain → length keys.bins.bytes ≡ length store.tree.bins.bytes →
+          IsDone store (record { tree = keys; handles = table }) session moment n (DeleteKey h path) told
       unfolding after reply_to
-      delete-done moment keys table text names gone turn told e =
+      delete-done moment keys table text names gone turn told e long =
           let now = gone ∙ ap (λ (p : Path). without_key tree p moment) (sym (target-from store session h t path)) in
           let handles = turn ∙ ap (λ (p : Path). turned p hs) names in
-          record { world = λ i. record { tree = now i; handles = handles i }; reply = e }
+          record { world = λ i. record { tree = now i; handles = handles i }; reply = e; grows = omega (arith, long) }
 
   -- ---- Close
 
@@ -244,7 +251,7 @@ module _ (n : ℕ) (store : Store) (session : ℕ) (ready : IsReady n store) whe
   pub close-done : (moment h : ℕ) (table : Table) → table.handles ≡ closed h hs → (told : ChangeReply) → told ≡ plain →
       IsDone store (record { tree = store.tree; handles = table }) session moment n (Close h) told
   unfolding after reply_to
-  close-done moment h table shut told e = record { world = λ i. record { tree = tree; handles = shut i }; reply = e }
+  close-done moment h table shut told e = record { world = λ i. record { tree = tree; handles = shut i }; reply = e; grows = no-growth store }
 
 -- ---- what is told of a created key
 

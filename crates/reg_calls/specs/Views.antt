@@ -24,7 +24,7 @@ use Rattle.reg_handles.specs.HandleTables.{coded_handle}
 use Rattle.reg_calls.specs.declared.store.Store.{Store}
 use Rattle.reg_calls.specs.declared.lack.Lack.{Lack}
 use Rattle.reg_calls.specs.declared.lack.Lack.TheVariants.{Space, Memory}
-use Rattle.reg_calls.specs.Shortages.{is_closing, LacksSpace}
+use Rattle.reg_calls.specs.Shortages.{is_closing, LacksSpace, growth_of}
 
 -- a hive: the tree that it was made with, its journal, its keys in their bins, and its open handles in the order of their numbers
 pub record View : Type 0 where
@@ -71,11 +71,12 @@ entry_of v session moment change = record {
   reply = reply_to (state v) session change;
 }
 
--- the change is accepted: its reply is the one due, and the journal grows by its entry
+-- the change is accepted: its reply is the one due, the journal grows by its entry, and the bins by no more than it may take
 pub record IsAccepted (old new : View) (session moment : ℕ) (change : Change) (reply : ChangeReply) : Type 0 where
   pub says : reply ≡ reply_to (state old) session change
   pub journal : new.journal ≡ old.journal ++ entry_of old session moment change ∷ []
   pub origin : new.origin ≡ old.origin
+  pub grows : length new.keys.bins.bytes ≤ length old.keys.bins.bytes + growth_of change
   pub hive : IsHive new
 
 -- the status that tells a lack: 1450 for space, 8 for memory

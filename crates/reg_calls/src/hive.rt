@@ -153,12 +153,12 @@ impl Hive {
 
     /// Answers calls in order, and tells of each what `apply` or `read` would. Its one fault is that memory for the answers was
     /// refused, before the first call; then the hive is as before.
-    pub fn run(&mut self, alloc: Global, steps: Vec<Step>) -> Result<Vec<Outcome>, RunFault>
+    pub fn run(&mut self, steps: Vec<Step>) -> Result<Vec<Outcome>, RunFault>
         requires { All (λ s. s.session < SESSIONS_LIMIT) steps.items }
         ensures ok { IfOk result (λ outcomes. Run no_callbacks (view_of self.old) steps.items outcomes.items (view_of self.new)) }
         ensures err { OnErr result (self.new ≡ self.old) }
     {
-        let Ok(mut outcomes) = Vec::with_capacity(alloc, steps.len()) else {
+        let Ok(mut outcomes) = Vec::with_capacity(self.core.alloc(), steps.len()) else {
             return Err(RunFault::Memory);
         };
         for step in steps {

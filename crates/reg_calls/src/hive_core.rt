@@ -115,6 +115,11 @@ impl Core {
         }
     }
 
+    /// What its memory is taken from.
+    pub fn alloc(&self) -> Global {
+        self.alloc
+    }
+
     /// How many entries the journal has.
     pub fn len(&self) -> usize
         ensures len { result ≡ length self.now.journal }

@@ -9,7 +9,7 @@ use Rattle.reg_model.specs.Calls.{entry_due}
 use Rattle.reg_model.specs.declared.reply.ChangeReply.{ChangeReply}
 use Rattle.reg_model.specs.declared.call.Change.{Change}
 use Rattle.reg_tree.specs.TreeKeys.{IsAt}
-use Rattle.reg_calls.specs.Shortages.{is_closing, LacksSpace}
+use Rattle.reg_calls.specs.Shortages.{is_closing, LacksSpace, growth_of}
 use Rattle.reg_calls.specs.declared.store.Store.{Store}
 use Rattle.reg_calls.specs.declared.store.KeyHandle.{KeyHandle}
 use Rattle.reg_calls.specs.declared.lack.Lack.{Lack}
@@ -51,10 +51,11 @@ abbrev pub IsLooked : Store → ℕ → ℕ → Result KeyHandle ℕ → Type 0
 IsLooked store session number (Ok key) = IsOpened store session number key
 IsLooked store session number (Err status) = (f : Handle → Option ℕ) → by_handle f (look session number store.handles.handles) ≡ Some status
 
--- a change was made on the store, and this is its reply
+-- a change was made on the store, this is its reply, and the bins grew by no more than it may take
 pub record IsDone (old new : Store) (session moment number : ℕ) (change : Change) (told : ChangeReply) : Type 0 where
   pub world : world_of new ≡ after (world_of old) (entry_due (at number old) session moment change)
   pub reply : told ≡ reply_to (at number old) session change
+  pub grows : length new.tree.bins.bytes ≤ length old.tree.bins.bytes + growth_of change
 
 -- a change that nothing refuses was made, or nothing changed, for want of memory or of space
 abbrev pub IsMade : Store → Store → ℕ → ℕ → ℕ → Change → Result ChangeReply Lack → Type 0

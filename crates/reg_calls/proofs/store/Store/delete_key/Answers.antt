@@ -39,4 +39,4 @@ returns c =
     let handles = c.mark_deleted.ensures ∙ ap (λ (text : List ℕ). turned (path_of text) c.args.self.now.handles.handles) c.as_slice.ensures.value in
     delete-done c.args.number c.args.self.now c.args.session c.requires.ready c.args.handle c.args.path.now c.requires.cause k.target c.args.moment
     c.delete_key.new.self c.mark_deleted.new.self c.in-Ok.text.items c.in-Ok.ensures.names
-    (c.in-Ok-delete_key.ensures.ok _ found.0) handles c.accepted.result c.accepted.ensures
+    (c.in-Ok-delete_key.ensures.ok _ found.0) handles c.accepted.result c.accepted.ensures c.in-Ok-delete_key.ensures.long

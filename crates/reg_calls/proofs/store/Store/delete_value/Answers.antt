@@ -16,4 +16,4 @@ pub returns : goal.returns
 returns c =
     let k = c.in-Ok.ensures in
     drop-done c.args.number c.args.self.now c.args.session c.requires.ready c.args.handle c.args.name.now c.requires.cause k.target c.args.moment
-    c.delete_value.new.self (c.in-Ok-delete_value.ensures.ok k.target.path k.node) c.accepted.result c.accepted.ensures
+    c.delete_value.new.self (c.in-Ok-delete_value.ensures.ok k.target.path k.node) c.accepted.result c.accepted.ensures c.in-Ok-delete_value.ensures.long
