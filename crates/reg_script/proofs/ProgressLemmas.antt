@@ -17,13 +17,17 @@ use Rattle.reg_script.specs.Internal.Progress.{Position, IsSteady, with_feeds, I
 other : (b : ℕ) → b ≢ 10 → eqb b 10 ≡ false
 other b h = grind (arith, nat_tests)
 
-line_ended : (begun rest : List ℕ) → HasNoFeed begun → lines_of (begun ++ (10 ∷ rest)) ≡ begun ∷ lines_of rest
+pub line_ended : (begun rest : List ℕ) → HasNoFeed begun → lines_of (begun ++ (10 ∷ rest)) ≡ begun ∷ lines_of rest
 line_ended [] rest h = refl
 line_ended (b ∷ bs) rest h = rw (other b h.0, line_ended bs rest h.1) refl
 
 line_last : (b : ℕ) (bs : List ℕ) → HasNoFeed (b ∷ bs) → lines_of (b ∷ bs) ≡ (b ∷ bs) ∷ []
 line_last b [] h = rw (other b h.0) refl
 line_last b (d ∷ ds) h = rw (other b h.0, line_last d ds h.1) refl
+
+pub line_alone : (line : List ℕ) → 0 < length line → HasNoFeed line → lines_of line ≡ line ∷ []
+line_alone [] some h = absurd (omega (arith, some))
+line_alone (b ∷ bs) some h = line_last b bs h
 
 pub no_feed_push : (begun : List ℕ) (b : ℕ) → HasNoFeed begun → b ≢ 10 → HasNoFeed (begun ++ b ∷ [])
 no_feed_push [] b h k = (k, tt)

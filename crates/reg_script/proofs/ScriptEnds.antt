@@ -1,17 +1,17 @@
 -- What a script leaves once it has ended.
-use Rattle.std.proofs.Common.{◌≡◌, ℕ, ◌+◌, List, [], ◌++◌, length, Option, refl, sym, subst, ap, ◌∙◌, arith, append-nil, inl, inr}
+use Rattle.std.proofs.Common.{◌≡◌, ℕ, ◌+◌, List, [], ◌++◌, length, Option, refl, sym, subst, ap, arith, append-nil, ◌⊎◌, inl, inr}
 use Rattle.std.specs.Prelude.{Result, Ok, Err, OnOk, IfErr}
-use Rattle.std.specs.Io.KnownBytes.{Appends, Consumes}
+use Rattle.std.specs.Io.KnownBytes.{Appends, Consumes, IsAtEnd}
 use Rattle.reg_calls.specs.Views.{View}
 use Rattle.reg_script.specs.declared.engine.ScriptFault.{ScriptFault}
 use Rattle.reg_script.specs.declared.engine.ScriptFault.TheVariants.{Read, Write, TooLong, Memory}
 use Rattle.reg_script.specs.LineWords.{lines_of}
 use Rattle.reg_script.specs.Lines.{Stand, AreSaid, Lines}
 use Rattle.reg_script.specs.Internal.Outputs.{IsCut, Closes}
-use Rattle.reg_script.specs.Stops.{HasNoFeed, AreWithin, PassesBound, IsReached, Stops}
-use Rattle.reg_script.specs.Internal.Progress.{Position, IsSteady, IsIdle, Halts, Ends}
+use Rattle.reg_script.specs.Stops.{HasNoFeed, AreWithin, IsReached, Stops}
+use Rattle.reg_script.specs.Internal.Progress.{Position, IsSteady, with_feeds, Takes, IsIdle, past, IsLost, Halts, Ends}
 use Rattle.reg_script.proofs.ProgressLemmas.{consumes_none, appends_none}
-use Rattle.reg_script.proofs.ScriptHalts.{begins, stops_with, all_sent, cut_sent}
+use Rattle.reg_script.proofs.ScriptHalts.{begins, fed_ends, unended, passing, answered_next, stops_with, all_sent, cut_sent}
 
 -- a script at its start
 pub record IsStart (position : Position) (hive : View) : Type 0 where
@@ -52,75 +52,81 @@ ended_whole old new hive script unread left final start consumes e sent = (
 
 -- the last write was cut
 ended_cut : (old new : Position) (hive : View) (script : List ℕ) (unread left final : Option (List ℕ)) (fault : ScriptFault) → IsStart old hive →
-    Consumes unread left script → Ends old script new → IsCut new.sent final new.gathered new.written fault
+    IsAtEnd left → Consumes unread left script → Ends old script new → IsCut new.sent final new.gathered new.written fault
     → Stops fault unread left hive new.stand.hive old.sent final
-ended_cut old new hive script unread left final fault start consumes e cut =
+ended_cut old new hive script unread left final fault start at_end consumes e cut =
     subst (λ (f : ScriptFault). Stops f unread left hive new.stand.hive old.sent final) (sym cut.says) (record {
       lines = script;
       rest = [];
       read = subst (λ (w : List ℕ). Consumes unread left w) (sym (append-nil script)) consumes;
-      between = ap lines_of (append-nil script) ∙ sym (append-nil (lines_of script));
       within = within_whole old new hive script start e;
       text = e.replies;
       last = new.stand;
       said = said_whole old new hive script start e;
-      stands = (inl refl, cut_sent old new e.replies final _ e.passes start.gathered start.written (subst (λ (f : ScriptFault). IsCut new.sent final new.gathered new.written f) cut.says cut));
+      stands = (inr (refl, at_end), inl refl);
+      written = cut_sent old new e.replies final _ e.passes start.gathered start.written (subst (λ (f : ScriptFault). IsCut new.sent final new.gathered new.written f) cut.says cut);
     })
 
 -- ---- a script that stopped before
 
+-- how many lines were answered
+count_is : (old : Position) (hive : View) (script : List ℕ) (new : Position) → IsStart old hive → (t : Takes old script new) → new.lines ≡ length t.ended
+count_is old hive script new start t = omega (arith, start.lines, t.counts)
+
 read_failed : (old new : Position) (hive : View) (script : List ℕ) (unread left final : Option (List ℕ)) → IsStart old hive →
-    Consumes unread left script → Halts old script new Read → Appends new.sent final new.gathered →
+    Consumes unread left script → Halts (past left) old script new Read → Appends new.sent final new.gathered →
     Stops Read unread left hive new.stand.hive old.sent final
 read_failed old new hive script unread left final start consumes k sent =
-    stops_with old new hive new.stand.hive script Read Read unread left final k consumes start.lines start.begun start.stand
-    (k.faults.1, all_sent old k.mid new k.takes.replies final k.takes.passes start.gathered k.faults.0 sent)
+    let ends = unended k.takes.ended k.mid k.back k.takes.are_lines k.takes.steady (count_is old hive k.front k.mid start k.takes) k.faults.2 in
+    stops_with (past left) old new hive new.stand.hive script Read Read unread left final k consumes start.lines start.begun start.stand
+    (ends.0, ends.1, ends.2, k.faults.1)
+    (all_sent old k.mid new k.takes.replies final k.takes.passes start.gathered k.faults.0 sent)
 
 too_long : (old new : Position) (hive : View) (script : List ℕ) (unread left final : Option (List ℕ)) → IsStart old hive → Consumes unread left script →
-    Halts old script new TooLong → Appends new.sent final new.gathered → Stops TooLong unread left hive new.stand.hive old.sent final
+    Halts (past left) old script new TooLong → Appends new.sent final new.gathered → Stops TooLong unread left hive new.stand.hive old.sent final
 too_long old new hive script unread left final start consumes k sent =
-    stops_with old new hive new.stand.hive script TooLong TooLong unread left final k consumes start.lines start.begun start.stand (
-      k.faults.1,
-      all_sent old k.mid new k.takes.replies final k.takes.passes start.gathered k.faults.0 sent,
-      counted_from k.mid.lines old.lines
-          (length k.takes.ended) _ start.lines k.takes.counts k.faults.2,
-    )
-  where
-    counted_from : (lines before ended : ℕ) (rest : List ℕ) → before ≡ 0 → lines ≡ before + ended → PassesBound lines rest → PassesBound ended rest
-    counted_from lines before ended rest none counts (inl h) = inl (omega (arith, none, counts, h.0), h.1)
-    counted_from lines before ended rest none counts (inr h) = inr h
+    stops_with (past left) old new hive new.stand.hive script TooLong TooLong unread left final k consumes start.lines start.begun start.stand
+    (fed_ends k.takes.ended, passing k.takes.ended k.mid.lines _ k.takes.are_lines (count_is old hive k.front k.mid start k.takes) k.faults.2, k.faults.1)
+    (all_sent old k.mid new k.takes.replies final k.takes.passes start.gathered k.faults.0 sent)
+
+-- the hive is as the lines left it, or one more line was answered on it
+reached : (old mid : Position) (hive : View) (front back : List ℕ) (left : Option (List ℕ)) (new : View) → IsStart old hive → (t : Takes old front mid) →
+    ((new ≡ mid.stand.hive) ⊎ IsLost (past left) mid back new) → IsReached (with_feeds t.ended) (mid.begun ++ back) left mid.stand new
+reached old mid hive front back left new start t (inl h) = inl h
+reached old mid hive front back left new start t (inr h) =
+    inr (answered_next t.ended left mid back new t.are_lines t.steady (count_is old hive front mid start t) h)
 
 no_memory : (old new : Position) (hive : View) (script : List ℕ) (unread left final : Option (List ℕ)) → IsStart old hive →
-    Consumes unread left script → Halts old script new Memory → Appends new.sent final new.gathered →
+    Consumes unread left script → Halts (past left) old script new Memory → Appends new.sent final new.gathered →
     Stops Memory unread left hive new.stand.hive old.sent final
 no_memory old new hive script unread left final start consumes k sent =
-    stops_with old new hive new.stand.hive script Memory Memory unread left final k consumes start.lines start.begun start.stand
-    (k.faults.1, all_sent old k.mid new k.takes.replies final k.takes.passes start.gathered k.faults.0 sent)
+    stops_with (past left) old new hive new.stand.hive script Memory Memory unread left final k consumes start.lines start.begun start.stand
+    (fed_ends k.takes.ended, reached old k.mid hive k.front k.back left new.stand.hive start k.takes k.faults.1)
+    (all_sent old k.mid new k.takes.replies final k.takes.passes start.gathered k.faults.0 sent)
 
 write_failed : (old new : Position) (hive : View) (script : List ℕ) (written : ℕ) (unread left final : Option (List ℕ)) → IsStart old hive →
-    Consumes unread left script → Halts old script new (Write written) → final ≡ new.sent
+    Consumes unread left script → Halts (past left) old script new (Write written) → final ≡ new.sent
     → Stops (Write written) unread left hive new.stand.hive old.sent final
 write_failed old new hive script written unread left final start consumes k same =
-    stops_with old new hive new.stand.hive script (Write written) (Write written) unread left final k consumes start.lines start.begun start.stand (
-      inl k.faults.1,
-      cut_sent old k.mid k.takes.replies final written k.takes.passes start.gathered start.written
-          (subst (λ (o : Option (List ℕ)). IsCut k.mid.sent o k.mid.gathered k.mid.written (Write written)) (sym same) k.faults.0),
-    )
+    stops_with (past left) old new hive new.stand.hive script (Write written) (Write written) unread left final k consumes start.lines start.begun start.stand
+    (inl (fed_ends k.takes.ended), inl k.faults.1)
+    (cut_sent old k.mid k.takes.replies final written k.takes.passes start.gathered start.written
+    (subst (λ (o : Option (List ℕ)). IsCut k.mid.sent o k.mid.gathered k.mid.written (Write written)) (sym same) k.faults.0))
 
 -- the write after another fault was cut
 then_cut : (old new : Position) (hive : View) (script : List ℕ) (first fault : ScriptFault) (unread left final : Option (List ℕ)) → IsStart old hive →
-    Consumes unread left script → (k : Halts old script new first) → IsIdle k.mid new → IsReached k.mid.stand (k.mid.begun ++ k.back) new.stand.hive
+    Consumes unread left script → (k : Halts (past left) old script new first) → IsIdle k.mid new →
+    ((new.stand.hive ≡ k.mid.stand.hive) ⊎ IsLost (past left) k.mid k.back new.stand.hive)
     → IsCut new.sent final new.gathered new.written fault → Stops fault unread left hive new.stand.hive old.sent final
-then_cut old new hive script first fault unread left final start consumes k idle reached cut =
+then_cut old new hive script first fault unread left final start consumes k idle hive_is cut =
     let at_sent = subst (λ (o : Option (List ℕ)). IsCut o final new.gathered new.written fault) idle.sent cut in
     let at_text = subst (λ (w : List ℕ). IsCut k.mid.sent final w new.written fault) idle.gathered at_sent in
     let at_count = subst (λ (n : ℕ). IsCut k.mid.sent final k.mid.gathered n fault) idle.written at_text in
     subst (λ (f : ScriptFault). Stops f unread left hive new.stand.hive old.sent final) (sym at_count.says)
-    (stops_with old new hive new.stand.hive script first _ unread left final k consumes start.lines start.begun start.stand (
-      reached,
-      cut_sent old k.mid k.takes.replies final _ k.takes.passes start.gathered start.written
-          (subst (λ (f : ScriptFault). IsCut k.mid.sent final k.mid.gathered k.mid.written f) at_count.says at_count),
-    ))
+    (stops_with (past left) old new hive new.stand.hive script first _ unread left final k consumes start.lines start.begun start.stand
+    (inl (fed_ends k.takes.ended), reached old k.mid hive k.front k.back left new.stand.hive start k.takes hive_is)
+    (cut_sent old k.mid k.takes.replies final _ k.takes.passes start.gathered start.written
+    (subst (λ (f : ScriptFault). IsCut k.mid.sent final k.mid.gathered k.mid.written f) at_count.says at_count)))
 
 -- ---- both
 
@@ -149,21 +155,21 @@ run_whole old new hive unread left final ended result start done closes =
     closed_well _ _ ended result new.gathered new.written new.sent final closes done (λ e sent. ended_whole old new hive e.0 unread left final start e.1 e.2 sent)
 
 pub run_stops : (old new : Position) (hive : View) (unread left final : Option (List ℕ)) (ended result : Result (Unit {0}) ScriptFault) →
-    IsStart old hive → OnOk ended ((script : List ℕ) × Consumes unread left script × Ends old script new)
-    → IfErr ended (λ fault. (script : List ℕ) × Consumes unread left script × Halts old script new fault) →
+    IsStart old hive → OnOk ended (IsAtEnd left) → OnOk ended ((script : List ℕ) × Consumes unread left script × Ends old script new)
+    → IfErr ended (λ fault. (script : List ℕ) × Consumes unread left script × Halts (past left) old script new fault) →
     Closes ended new.gathered new.written new.sent final result → IfErr result (λ fault. Stops fault unread left hive new.stand.hive old.sent final)
-run_stops old new hive unread left final (Ok done) result start e k (inl h) =
+run_stops old new hive unread left final (Ok done) result start a e k (inl h) =
     subst (λ (r : Result (Unit {0}) ScriptFault). IfErr r (λ fault. Stops fault unread left hive new.stand.hive old.sent final)) (sym h.0) tt
-run_stops old new hive unread left final (Ok done) result start e k (inr h) = if_err_of _ result h.0 h.1 (ended_cut old new hive e.0 unread left final h.0 start e.1 e.2 h.2)
-run_stops old new hive unread left final (Err Read) result start e k (inl h) = if_err_of _ result Read h.0 (read_failed old new hive k.0 unread left final start k.1 k.2 h.1)
-run_stops old new hive unread left final (Err Read) result start e k (inr h) =
+run_stops old new hive unread left final (Ok done) result start a e k (inr h) = if_err_of _ result h.0 h.1 (ended_cut old new hive e.0 unread left final h.0 start a e.1 e.2 h.2)
+run_stops old new hive unread left final (Err Read) result start a e k (inl h) = if_err_of _ result Read h.0 (read_failed old new hive k.0 unread left final start k.1 k.2 h.1)
+run_stops old new hive unread left final (Err Read) result start a e k (inr h) =
     if_err_of _ result h.0 h.1 (then_cut old new hive k.0 Read h.0 unread left final start k.1 k.2 k.2.faults.0 (inl k.2.faults.1) h.2)
-run_stops old new hive unread left final (Err (Write written)) result start e k h = if_err_of _ result (Write written) h.0 (write_failed old new hive k.0 written unread left final start k.1 k.2 h.1)
-run_stops old new hive unread left final (Err TooLong) result start e k (inl h) = if_err_of _ result TooLong h.0 (too_long old new hive k.0 unread left final start k.1 k.2 h.1)
-run_stops old new hive unread left final (Err TooLong) result start e k (inr h) =
+run_stops old new hive unread left final (Err (Write written)) result start a e k h = if_err_of _ result (Write written) h.0 (write_failed old new hive k.0 written unread left final start k.1 k.2 h.1)
+run_stops old new hive unread left final (Err TooLong) result start a e k (inl h) = if_err_of _ result TooLong h.0 (too_long old new hive k.0 unread left final start k.1 k.2 h.1)
+run_stops old new hive unread left final (Err TooLong) result start a e k (inr h) =
     if_err_of _ result h.0 h.1 (then_cut old new hive k.0 TooLong h.0 unread left final start k.1 k.2 k.2.faults.0 (inl k.2.faults.1) h.2)
-run_stops old new hive unread left final (Err Memory) result start e k (inl h) = if_err_of _ result Memory h.0 (no_memory old new hive k.0 unread left final start k.1 k.2 h.1)
-run_stops old new hive unread left final (Err Memory) result start e k (inr h) =
+run_stops old new hive unread left final (Err Memory) result start a e k (inl h) = if_err_of _ result Memory h.0 (no_memory old new hive k.0 unread left final start k.1 k.2 h.1)
+run_stops old new hive unread left final (Err Memory) result start a e k (inr h) =
     if_err_of _ result h.0 h.1 (then_cut old new hive k.0 Memory h.0 unread left final start k.1 k.2 k.2.faults.0 k.2.faults.1 h.2)
 
 -- ---- from the start
@@ -191,12 +197,12 @@ nothing_done hive unread before = record {
   lines = [];
   rest = [];
   read = consumes_none unread;
-  between = refl;
   within = record { few = omega arith; short = tt };
   text = [];
   last = begins hive;
   said = (refl, refl);
-  stands = (inl refl, appends_none before);
+  stands = (inl refl, inl refl);
+  written = appends_none before;
 }
 
 -- ---- a whole run, where the script's position at its start and at its end are `old` and `new`
@@ -211,8 +217,9 @@ module _ (old new : Position) (hive : View) (unread left final : Option (List �
   pub runs_whole : OnOk result (IsWhole hive new.stand.hive unread left old.sent final)
   runs_whole = run_whole old new hive unread left final ended result start (ok_given _ _ ended (steady_start old hive start) ends) closes
 
-  pub runs_into : IfErr ended (λ fault. IsSteady old → old.lines ≡ 0 → old.begun ≡ [] → (script : List ℕ) × Consumes unread left script × Halts old script new fault)
+  pub runs_into : OnOk ended (IsAtEnd left) →
+      IfErr ended (λ fault. IsSteady old → old.lines ≡ 0 → old.begun ≡ [] → (script : List ℕ) × Consumes unread left script × Halts (past left) old script new fault)
       → IfErr result (λ fault. Stops fault unread left hive new.stand.hive old.sent final)
-  runs_into halts =
-      run_stops old new hive unread left final ended result start (ok_given _ _ ended (steady_start old hive start) ends)
+  runs_into at_end halts =
+      run_stops old new hive unread left final ended result start at_end (ok_given _ _ ended (steady_start old hive start) ends)
       (err_given _ _ _ _ ended (steady_start old hive start) lines begun halts) closes

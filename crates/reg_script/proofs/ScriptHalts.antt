@@ -1,7 +1,7 @@
 -- A script that can't go on.
 use Rattle.std.proofs.Common.{◌≡◌, ◌≢◌, ℕ, ◌+◌, ◌*◌, ◌<◌, ◌≤◌, List, [], ◌∷◌, ◌++◌, length, get_or, take, drop, Option, refl, sym, subst, ap, ◌∙◌, arith, append_assoc, append-nil, ◌⊎◌, inl, inr, min}
 use Rattle.std.specs.List.{AllByRecursion}
-use Rattle.std.specs.Io.KnownBytes.{Appends, Consumes}
+use Rattle.std.specs.Io.KnownBytes.{Appends, Consumes, IsAtEnd}
 use Rattle.std.proofs.Math.Seq.{take-append-add}
 use Rattle.std.proofs.lemmas.List.{take_more, take-append-drop, length-append, length-take}
 use Rattle.reg_script.specs.declared.engine.TheConstants.{LINES_LIMIT, LINE_LIMIT, READS_LIMIT}
@@ -17,9 +17,12 @@ use Rattle.reg_script.specs.declared.line.Line.TheVariants.{Call as Calls}
 use Rattle.reg_script.specs.Internal.WordReadings.{said}
 use Rattle.reg_script.specs.Lines.{Stand, IsSaid, AreSaid}
 use Rattle.reg_script.specs.Internal.Outputs.{IsCut}
-use Rattle.reg_script.specs.Stops.{longest_line, most_lines, HasNoFeed, AreWithin, IsTooLong, PassesBound, IsOneMore, IsReached, IsTaken, IsLeft, Stops}
-use Rattle.reg_script.specs.Internal.Progress.{Position, IsSteady, with_feeds, IsLine, Passes, Takes, IsIdle, IsFault, Halts, stand_of}
-use Rattle.reg_script.proofs.ProgressLemmas.{lines_fed, lines_short, no_feed_push, takes_none, takes_then, after_line, takes_feed, appends_then}
+use Rattle.reg_script.specs.Stops.{longest_line, most_lines, HasNoFeed, AreWithin, IsTooLong, PassesBound, IsOneMore, IsAnswered, IsTaken, EndsWithFeed, IsLeft}
+use Rattle.reg_script.specs.Stops.{AreWritten, Stops}
+use Rattle.reg_script.specs.Internal.Progress.{Position, IsSteady, with_feeds, IsLine, Passes, Takes, IsIdle, Place, among, past, HasEnded, IsLost, IsFault, Halts}
+use Rattle.reg_script.specs.Internal.Progress.{stand_of}
+use Rattle.reg_script.proofs.ProgressLemmas.{line_ended, line_alone, lines_fed, lines_short, short_then, no_feed_push, takes_none, takes_then, after_line, takes_feed}
+use Rattle.reg_script.proofs.ProgressLemmas.{appends_then}
 
 -- ---- more bytes behind those that were not taken
 
@@ -36,39 +39,46 @@ passes_more : (lines : ℕ) (rest more : List ℕ) → PassesBound lines rest �
 passes_more lines rest more (inl h) = inl (h.0, omega (arith, h.1, length-append rest more))
 passes_more lines rest more (inr h) = inr (long_more rest more h)
 
-reached_more : (last : Stand) (rest more : List ℕ) (new : View) → IsReached last rest new → IsReached last (rest ++ more) new
-reached_more last rest more new (inl h) = inl h
-reached_more last rest more new (inr h) = inr (record {
-  line = h.line;
-  more = h.more ++ more;
-  rest_is = ap (λ (w : List ℕ). w ++ more) h.rest_is ∙ append_assoc h.line h.more more;
-  answered = h.answered;
-})
+ended_more : (begun back more : List ℕ) → HasEnded among begun back → HasEnded among begun (back ++ more)
+ended_more begun [] more h = absurd h.0
+ended_more begun (b ∷ bs) more h = h
 
-fault_more : (fault : ScriptFault) (mid new : Position) (back more : List ℕ) → IsFault fault mid back new → IsFault fault mid (back ++ more) new
-fault_more Read mid new back more h = h
+fault_more : (fault : ScriptFault) (mid new : Position) (back more : List ℕ) → IsFault among fault mid back new → IsFault among fault mid (back ++ more) new
+fault_more Read mid new back more h = absurd h.2
 fault_more (Write written) mid new back more h = h
 fault_more TooLong mid new back more h =
     (h.0, h.1, subst (λ (w : List ℕ). PassesBound mid.lines w) (append_assoc mid.begun back more) (passes_more mid.lines (mid.begun ++ back) more h.2))
-fault_more Memory mid new back more h =
-    (h.0, subst (λ (w : List ℕ). IsReached mid.stand w new.stand.hive) (append_assoc mid.begun back more) (reached_more mid.stand (mid.begun ++ back) more new.stand.hive h.1))
+fault_more Memory mid new back more (i, inl h) = (i, inl h)
+fault_more Memory mid new back more (i, inr h) = (i, inr (record { ended = ended_more mid.begun back more h.ended; few = h.few; answered = h.answered }))
+
+ended_anywhere : (place : Place) (begun back : List ℕ) → HasEnded among begun back → HasEnded place begun back
+ended_anywhere place begun [] h = absurd h.0
+ended_anywhere place begun (b ∷ bs) h = h
+
+-- a fault among the bytes
+fault_anywhere : (place : Place) (fault : ScriptFault) (mid new : Position) (back : List ℕ) → IsFault among fault mid back new → IsFault place fault mid back new
+fault_anywhere place Read mid new back h = absurd h.2
+fault_anywhere place (Write written) mid new back h = h
+fault_anywhere place TooLong mid new back h = h
+fault_anywhere place Memory mid new back (i, inl h) = (i, inl h)
+fault_anywhere place Memory mid new back (i, inr h) = (i, inr (record { ended = ended_anywhere place mid.begun back h.ended; few = h.few; answered = h.answered }))
 
 -- ---- where it halts
 
-pub halts_here : (old new : Position) (bytes : List ℕ) (fault : ScriptFault) → IsSteady old → IsFault fault old bytes new → Halts old bytes new fault
+pub halts_here : (old new : Position) (bytes : List ℕ) (fault : ScriptFault) → IsSteady old → IsFault among fault old bytes new → Halts among old bytes new fault
 halts_here old new bytes fault steady faults = record { mid = old; front = []; back = bytes; splits = refl; takes = takes_none old steady; faults = faults }
 
-pub halts_after : (a b new : Position) (xs ys : List ℕ) (fault : ScriptFault) → Takes a xs b → Halts b ys new fault → Halts a (xs ++ ys) new fault
-halts_after a b new xs ys fault h k = record {
+pub halts_after : (place : Place) (a b new : Position) (xs ys : List ℕ) (fault : ScriptFault) → Takes a xs b → Halts among b ys new fault → Halts place a (xs ++ ys) new fault
+halts_after place a b new xs ys fault h k = record {
   mid = k.mid;
   front = xs ++ k.front;
   back = k.back;
   splits = ap (λ (w : List ℕ). xs ++ w) k.splits ∙ sym (append_assoc xs k.front k.back);
   takes = takes_then a b k.mid xs k.front h k.takes;
-  faults = k.faults;
+  faults = fault_anywhere place fault k.mid new k.back k.faults;
 }
 
-pub halts_before : (a new : Position) (xs ys : List ℕ) (fault : ScriptFault) → Halts a xs new fault → Halts a (xs ++ ys) new fault
+pub halts_before : (a new : Position) (xs ys : List ℕ) (fault : ScriptFault) → Halts among a xs new fault → Halts among a (xs ++ ys) new fault
 halts_before a new xs ys fault h = record {
   mid = h.mid;
   front = h.front;
@@ -79,15 +89,18 @@ halts_before a new xs ys fault h = record {
 }
 
 -- after the bytes taken so far, nothing was done
-pub halts_at : (old new : Position) (bytes : List ℕ) (fault : ScriptFault) (now : Position) → Takes old bytes now → IsFault fault now [] new → Halts old bytes new fault
-halts_at old new bytes fault now h faults = record { mid = now; front = bytes; back = []; splits = sym (append-nil bytes); takes = h; faults = faults }
+pub halts_at : (place : Place) (old new : Position) (bytes : List ℕ) (fault : ScriptFault) (now : Position) → Takes old bytes now → IsFault place fault now [] new
+    → Halts place old bytes new fault
+halts_at place old new bytes fault now h faults =
+    record { mid = now; front = bytes; back = []; splits = sym (append-nil bytes); takes = h; faults = faults }
 
 -- at one of some bytes
-pub halts_in : (a b new : Position) (bytes : List ℕ) (i : ℕ) (fault : ScriptFault) → i < length bytes → Takes a (take i bytes) b → Halts b (get_or bytes i 0 ∷ []) new fault → Halts a bytes new fault
+pub halts_in : (a b new : Position) (bytes : List ℕ) (i : ℕ) (fault : ScriptFault) → i < length bytes → Takes a (take i bytes) b →
+    Halts among b (get_or bytes i 0 ∷ []) new fault → Halts among a bytes new fault
 halts_in a b new bytes i fault below h k =
-    let front = halts_after a b new (take i bytes) (get_or bytes i 0 ∷ []) fault h k in
-    let upto = subst (λ (w : List ℕ). Halts a w new fault) (sym (take_more bytes i 0 below)) front in
-    subst (λ (w : List ℕ). Halts a w new fault) (take-append-drop (i + 1) bytes) (halts_before a new (take (i + 1) bytes) (drop (i + 1) bytes) fault upto)
+    let front = halts_after among a b new (take i bytes) (get_or bytes i 0 ∷ []) fault h k in
+    let upto = subst (λ (w : List ℕ). Halts among a w new fault) (sym (take_more bytes i 0 below)) front in
+    subst (λ (w : List ℕ). Halts among a w new fault) (take-append-drop (i + 1) bytes) (halts_before a new (take (i + 1) bytes) (drop (i + 1) bytes) fault upto)
 
 -- a line too many, or a byte too many in a line
 pub too_many_lines : (lines : ℕ) (begun : List ℕ) (b : ℕ) → lines ≤ most_lines → most_lines ≤ lines → PassesBound lines (begun ++ b ∷ [])
@@ -101,11 +114,6 @@ line_too_long lines begun b no_feed plain long = inr (record {
   no_feed = no_feed_push begun b no_feed plain;
   long = omega (arith, long, length-append begun (b ∷ []));
 })
-
--- the reply to the line that was begun was lost
-pub reply_lost : (begun more : List ℕ) (last : Stand) (old new : View) → last.hive ≡ old → ((new ≡ old) ⊎ IsOneMore (meaning_of begun) last new) → IsReached last (begun ++ more) new
-reply_lost begun more last old new is (inl h) = inl (h ∙ sym is)
-reply_lost begun more last old new is (inr h) = inr (record { line = begun; more = more; rest_is = refl; answered = h })
 
 -- ---- how many bytes there are within the bounds
 
@@ -133,29 +141,91 @@ not_so_many old new bytes none empty h =
 abbrev pub begins : View → Stand
 begins hive = record { hive = hive; moment = 0; session = 0 }
 
-pub stops_with : (old new : Position) (hive new_hive : View) (script : List ℕ) (fault result : ScriptFault) (unread left final : Option (List ℕ)) →
-    (k : Halts old script new fault) → Consumes unread left script
+-- lines that ended are the lines of their bytes, which end with an LF
+lines_are : (lines : List (List ℕ)) → AllByRecursion IsLine lines → lines_of (with_feeds lines) ≡ lines
+lines_are lines h = ap lines_of (sym (append-nil (with_feeds lines))) ∙ (lines_fed lines [] h ∙ append-nil lines)
+
+pub fed_ends : (lines : List (List ℕ)) → EndsWithFeed (with_feeds lines)
+fed_ends [] = inl refl
+fed_ends (l ∷ ls) = by (with_feeds ls) (fed_ends ls)
+  where
+    by : (rest : List ℕ) → EndsWithFeed rest → EndsWithFeed (l ++ 10 ∷ rest)
+    by rest (inl none) = inr (l, ap (λ (w : List ℕ). l ++ 10 ∷ w) none)
+    by rest (inr h) = inr (l ++ 10 ∷ h.0, ap (λ (w : List ℕ). l ++ 10 ∷ w) h.1 ∙ sym (append_assoc l (10 ∷ h.0) (10 ∷ [])))
+
+fed : (begun rest : List ℕ) → HasNoFeed (begun ++ 10 ∷ rest) → ⊥
+fed [] rest h = h.0 refl
+fed (b ∷ bs) rest h = fed bs rest h.1
+
+-- a line that was begun and passes no bound, after so many
+keeps_bound : (position : Position) → IsSteady position → PassesBound position.lines position.begun → ⊥
+keeps_bound position steady (inl h) = omega (arith, h.0, steady.one_more h.1)
+keeps_bound position steady (inr h) = omega (arith, h.long, steady.short, ap (λ (w : List ℕ). length w) h.bytes_are, length-append h.line h.more)
+
+-- after lines that ended, what was begun is the rest where no byte is behind it
+pub unended : (lines : List (List ℕ)) (mid : Position) (back : List ℕ) → AllByRecursion IsLine lines → IsSteady mid → mid.lines ≡ length lines → back ≡ [] →
+    EndsWithFeed (with_feeds lines) × HasNoFeed (mid.begun ++ back) × (PassesBound (length (lines_of (with_feeds lines))) (mid.begun ++ back) → ⊥)
+unended lines mid back are steady counts none =
+    let rest : mid.begun ≡ mid.begun ++ back = sym (append-nil mid.begun) ∙ ap (λ (w : List ℕ). mid.begun ++ w) (sym none) in
+    let count : mid.lines ≡ length (lines_of (with_feeds lines)) = counts ∙ ap (λ (ls : List (List ℕ)). length ls) (sym (lines_are lines are)) in (
+      fed_ends lines,
+      subst (λ (w : List ℕ). HasNoFeed w) rest steady.no_feed,
+      subst (λ (w : List ℕ). PassesBound (length (lines_of (with_feeds lines))) w → ⊥) rest
+          (subst (λ (n : ℕ). PassesBound n mid.begun → ⊥) count (keeps_bound mid steady)),
+    )
+
+pub passing : (lines : List (List ℕ)) (n : ℕ) (rest : List ℕ) → AllByRecursion IsLine lines → n ≡ length lines → PassesBound n rest →
+    PassesBound (length (lines_of (with_feeds lines))) rest
+passing lines n rest are counts h =
+    subst (λ (m : ℕ). PassesBound m rest) (counts ∙ ap (λ (ls : List (List ℕ)). length ls) (sym (lines_are lines are))) h
+
+-- the line that was begun is the first of the rest
+is_first : (left : Option (List ℕ)) (begun back : List ℕ) → HasNoFeed begun → HasEnded (past left) begun back →
+    (more : List (List ℕ)) × (lines_of (begun ++ back) ≡ begun ∷ more) × (HasNoFeed (begun ++ back) → IsAtEnd left)
+is_first left begun [] free h = ([], ap lines_of (append-nil begun) ∙ line_alone begun h.1 free, λ _. h.0)
+is_first left begun (b ∷ bs) free h = subst
+    (λ (c : ℕ). (more : List (List ℕ)) × (lines_of (begun ++ c ∷ bs) ≡ begun ∷ more) × (HasNoFeed (begun ++ c ∷ bs) → IsAtEnd left)) (sym h)
+    (lines_of bs, line_ended begun bs free, λ not_fed. absurd (fed begun bs not_fed))
+
+pub answered_next : (lines : List (List ℕ)) (left : Option (List ℕ)) (mid : Position) (back : List ℕ) (new : View) →
+    AllByRecursion IsLine lines → IsSteady mid → mid.lines ≡ length lines → IsLost (past left) mid back new →
+    IsAnswered (with_feeds lines) (mid.begun ++ back) left mid.stand new
+answered_next lines left mid back new are steady counts h =
+    let f = is_first left mid.begun back steady.no_feed h.ended in
+    record {
+      line = mid.begun;
+      more = f.0;
+      first = f.1;
+      ended = f.2;
+      within = subst (λ (ls : List (List ℕ)). AreWithin (ls ++ mid.begun ∷ [])) (sym (lines_are lines are)) (record {
+        few = omega (arith, h.few, counts, length-append lines (mid.begun ∷ []));
+        short = short_then lines (mid.begun ∷ []) (lines_short lines are) (steady.short, tt);
+      });
+      answered = h.answered;
+    }
+
+pub stops_with : (place : Place) (old new : Position) (hive new_hive : View) (script : List ℕ) (fault result : ScriptFault)
+    (unread left final : Option (List ℕ)) → (k : Halts place old script new fault) → Consumes unread left script
     → old.lines ≡ 0 → old.begun ≡ [] → old.stand ≡ begins hive →
-    IsLeft result (length k.takes.ended) k.mid.stand (k.mid.begun ++ k.back) k.takes.replies new_hive old.sent final →
+    IsLeft result (with_feeds k.takes.ended) (k.mid.begun ++ k.back) left k.mid.stand new_hive → AreWritten result k.takes.replies old.sent final →
     Stops result unread left hive new_hive old.sent final
-stops_with old new hive new_hive script fault result unread left final k consumes none empty is stands =
+stops_with place old new hive new_hive script fault result unread left final k consumes none empty is stands written =
     let t = k.takes in
-    let lines_are : lines_of (with_feeds t.ended) ≡ t.ended =
-    ap lines_of (sym (append-nil (with_feeds t.ended))) ∙ (lines_fed t.ended [] t.are_lines ∙ append-nil t.ended) in
     let front_is : k.front ≡ with_feeds t.ended ++ k.mid.begun = ap (λ (w : List ℕ). w ++ k.front) (sym empty) ∙ t.splits in
     let script_is : script ≡ with_feeds t.ended ++ (k.mid.begun ++ k.back) =
     k.splits ∙ (ap (λ (w : List ℕ). w ++ k.back) front_is ∙ append_assoc (with_feeds t.ended) k.mid.begun k.back) in
+    let whole = sym (lines_are t.ended t.are_lines) in
     record {
       lines = with_feeds t.ended;
       rest = k.mid.begun ++ k.back;
       read = subst (λ (w : List ℕ). Consumes unread left w) script_is consumes;
-      between = lines_fed t.ended (k.mid.begun ++ k.back) t.are_lines ∙ ap (λ (w : List (List ℕ)). w ++ lines_of (k.mid.begun ++ k.back)) (sym lines_are);
-      within = subst (λ (w : List (List ℕ)). AreWithin w) (sym lines_are) (record { few = omega (arith, t.steady.few, t.counts, none); short = lines_short t.ended t.are_lines });
+      within = subst (λ (w : List (List ℕ)). AreWithin w) whole (record { few = omega (arith, t.steady.few, t.counts, none); short = lines_short t.ended t.are_lines });
       text = t.replies;
       last = k.mid.stand;
       said = subst (λ (s : Stand). AreSaid (lines_of (with_feeds t.ended)) s t.replies k.mid.stand) is
-          (subst (λ (w : List (List ℕ)). AreSaid w old.stand t.replies k.mid.stand) (sym lines_are) t.said);
-      stands = subst (λ (w : List (List ℕ)). IsLeft result (length w) k.mid.stand (k.mid.begun ++ k.back) t.replies new_hive old.sent final) (sym lines_are) stands;
+          (subst (λ (w : List (List ℕ)). AreSaid w old.stand t.replies k.mid.stand) whole t.said);
+      stands = stands;
+      written = written;
     }
 
 -- all replies were sent
@@ -209,21 +279,26 @@ one_more script hive new line call reply is h =
     subst (λ (l : Line). IsOneMore (said l) (stand_of script hive) new) (sym is) (record { reply = reply; next = stand_of script new; said = h; hive = refl })
 
 -- no memory for the reply to the line that was begun
-pub halts_lost : (old new : Position) (b : ℕ) (fault : ScriptFault) → IsSteady old → fault ≡ Memory → new.gathered ≡ old.gathered →
-    new.sent ≡ old.sent → new.written ≡ old.written → ((new.stand.hive ≡ old.stand.hive) ⊎ IsOneMore (meaning_of old.begun) old.stand new.stand.hive)
-    → Halts old (b ∷ []) new fault
-halts_lost old new b fault steady is gathered sent written reached =
-    subst (λ (f : ScriptFault). Halts old (b ∷ []) new f) (sym is)
-    (halts_here old new (b ∷ []) Memory steady (record { gathered = gathered; sent = sent; written = written }, reply_lost old.begun (b ∷ []) old.stand old.stand.hive new.stand.hive refl reached))
+pub halts_lost : (old new : Position) (b : ℕ) (fault : ScriptFault) → IsSteady old → b ≡ 10 → old.lines < most_lines → fault ≡ Memory →
+    new.gathered ≡ old.gathered → new.sent ≡ old.sent → new.written ≡ old.written →
+    ((new.stand.hive ≡ old.stand.hive) ⊎ IsOneMore (meaning_of old.begun) old.stand new.stand.hive) → Halts among old (b ∷ []) new fault
+halts_lost old new b fault steady feed few is gathered sent written reached =
+    subst (λ (f : ScriptFault). Halts among old (b ∷ []) new f) (sym is)
+    (halts_here old new (b ∷ []) Memory steady (record { gathered = gathered; sent = sent; written = written }, by reached))
+  where
+    by : ((new.stand.hive ≡ old.stand.hive) ⊎ IsOneMore (meaning_of old.begun) old.stand new.stand.hive) →
+        (new.stand.hive ≡ old.stand.hive) ⊎ IsLost among old (b ∷ []) new.stand.hive
+    by (inl h) = inl h
+    by (inr h) = inr (record { ended = feed; few = few; answered = h })
 
 -- the replies were gathered, and the writer took a front of them
 pub halts_cut : (old new : Position) (b : ℕ) (reply text : List ℕ) (before : ℕ) (fault : ScriptFault) → b ≡ 10 → IsSteady old → old.lines < most_lines →
     IsSaid (meaning_of old.begun) old.stand reply new.stand → text ≡ old.gathered ++ reply → before ≡ old.written
-    → IsCut old.sent new.sent text before fault → Halts old (b ∷ []) new fault
+    → IsCut old.sent new.sent text before fault → Halts among old (b ∷ []) new fault
 halts_cut old new b reply text before fault is steady fewer said adds same cut =
     let here = subst (λ (n : ℕ). IsCut old.sent new.sent text n fault) same cut in
-    subst (λ (f : ScriptFault). Halts old (b ∷ []) new f) (sym here.says)
-    (halts_at old new (b ∷ []) _ (after_line old new.stand text) (takes_feed old new.stand b reply text is steady fewer said adds)
+    subst (λ (f : ScriptFault). Halts among old (b ∷ []) new f) (sym here.says)
+    (halts_at among old new (b ∷ []) _ (after_line old new.stand text) (takes_feed old new.stand b reply text is steady fewer said adds)
     (subst (λ (f : ScriptFault). IsCut old.sent new.sent text old.written f) here.says here, refl))
 
 -- a line that says what it means
@@ -236,12 +311,17 @@ unfolding most_lines
 one_more_line lines sum new fewer e same = omega (arith, fewer, e, same)
 
 -- no memory for the reply to the last line
-pub halts_last : (old now new : Position) (bytes : List ℕ) (fault : ScriptFault) → Takes old bytes now → fault ≡ Memory → new.gathered ≡ now.gathered →
-    new.sent ≡ now.sent → new.written ≡ now.written → ((new.stand.hive ≡ now.stand.hive) ⊎ IsOneMore (meaning_of now.begun) now.stand new.stand.hive)
-    → Halts old bytes new fault
-halts_last old now new bytes fault h is gathered sent written reached =
-    subst (λ (f : ScriptFault). Halts old bytes new f) (sym is)
-    (halts_at old new bytes Memory now h (record { gathered = gathered; sent = sent; written = written }, reply_lost now.begun [] now.stand now.stand.hive new.stand.hive refl reached))
+pub halts_last : (left : Option (List ℕ)) (old now new : Position) (bytes : List ℕ) (fault : ScriptFault) → Takes old bytes now → IsAtEnd left →
+    0 < length now.begun → fault ≡ Memory → new.gathered ≡ now.gathered → new.sent ≡ now.sent → new.written ≡ now.written →
+    ((new.stand.hive ≡ now.stand.hive) ⊎ IsOneMore (meaning_of now.begun) now.stand new.stand.hive) → Halts (past left) old bytes new fault
+halts_last left old now new bytes fault h at_end some is gathered sent written reached =
+    subst (λ (f : ScriptFault). Halts (past left) old bytes new f) (sym is)
+    (halts_at (past left) old new bytes Memory now h (record { gathered = gathered; sent = sent; written = written }, by reached))
+  where
+    by : ((new.stand.hive ≡ now.stand.hive) ⊎ IsOneMore (meaning_of now.begun) now.stand new.stand.hive) →
+        (new.stand.hive ≡ now.stand.hive) ⊎ IsLost (past left) now [] new.stand.hive
+    by (inl h) = inl h
+    by (inr k) = inr (record { ended = (at_end, some); few = h.steady.one_more some; answered = k })
 
 -- each read gives a byte at least
 pub read_more : (taken buffer : List ℕ) (i n : ℕ) → i ≤ length taken → n ≢ 0 → n ≤ length buffer → i + 1 ≤ length (taken ++ take n buffer)

@@ -1,7 +1,7 @@
 -- Where a script ends with a fault (this project's own rules of the script).
 use Rattle.std.specs.Prelude.{◌≡◌, ◌≢◌, ℕ, ◌+◌, min, ◌<◌, ◌≤◌, ◌⊎◌, List, [], ◌∷◌, ◌++◌, length, take, Option}
 use Rattle.std.specs.List.{AllByRecursion}
-use Rattle.std.specs.Io.KnownBytes.{Appends, Consumes}
+use Rattle.std.specs.Io.KnownBytes.{Appends, Consumes, IsAtEnd}
 use Rattle.reg_script.specs.declared.engine.TheConstants.{LINES_LIMIT, LINE_LIMIT}
 use Rattle.reg_calls.specs.Views.{View}
 use Rattle.reg_script.specs.declared.engine.ScriptFault.{ScriptFault}
@@ -57,16 +57,18 @@ pub record IsOneMore (meaning : Meaning) (last : Stand) (new : View) : Type 0 wh
   pub said : IsSaid meaning last reply next
   pub hive : new ≡ next.hive
 
--- the first line of the rest was answered on the hive, and its reply was lost
-pub record IsAnswered (last : Stand) (rest : List ℕ) (new : View) : Type 0 where
+-- the first line of the rest, which keeps the bounds and which an LF or the reader's end has ended, was answered, and its reply was lost
+pub record IsAnswered (lines rest : List ℕ) (left : Option (List ℕ)) (last : Stand) (new : View) : Type 0 where
   pub line : List ℕ
-  pub more : List ℕ
-  pub rest_is : rest ≡ line ++ more
+  pub more : List (List ℕ)
+  pub first : lines_of rest ≡ line ∷ more
+  pub ended : HasNoFeed rest → IsAtEnd left
+  pub within : AreWithin (lines_of lines ++ line ∷ [])
   pub answered : IsOneMore (meaning_of line) last new
 
 -- the hive is as the lines left it; or one more line was answered on it
-abbrev pub IsReached : Stand → List ℕ → View → Type 0
-IsReached last rest new = (new ≡ last.hive) ⊎ IsAnswered last rest new
+abbrev pub IsReached : (lines rest : List ℕ) → Option (List ℕ) → Stand → View → Type 0
+IsReached lines rest left last new = (new ≡ last.hive) ⊎ IsAnswered lines rest left last new
 
 -- the writer took just so many of the first bytes of the replies, which the fault counts
 pub record IsTaken (before after : Option (List ℕ)) (text : List ℕ) (written : ℕ) : Type 0 where
@@ -75,25 +77,37 @@ pub record IsTaken (before after : Option (List ℕ)) (text : List ℕ) (written
   pub appends : Appends before after (take count text)
   pub counts : written ≡ counted 0 count
 
--- what stands after each fault, where so many lines left the script at `last` and wrote this text, and the rest follows them: the
--- whole text, or after a failed write just what the writer took of it
-abbrev pub IsLeft : ScriptFault → ℕ → Stand → List ℕ → List ℕ → View → Option (List ℕ) → Option (List ℕ) → Type 0
-IsLeft Read lines last rest text new before after = (new ≡ last.hive) × Appends before after text
-IsLeft (Write written) lines last rest text new before after = IsReached last rest new × IsTaken before after text written
-IsLeft TooLong lines last rest text new before after = (new ≡ last.hive) × Appends before after text × PassesBound lines rest
-IsLeft Memory lines last rest text new before after = IsReached last rest new × Appends before after text
+-- no byte, or the last one is an LF
+abbrev pub EndsWithFeed : List ℕ → Type 0
+EndsWithFeed bytes = (bytes ≡ []) ⊎ ((front : List ℕ) × (bytes ≡ front ++ 10 ∷ []))
+
+-- what each fault leaves: answered lines, each with its LF, which after a failed write the last may lack at the reader's end; and a
+-- rest: the line that wasn't read to its end where a read failed, and what passes a bound where that is the fault
+abbrev pub IsLeft : ScriptFault → (lines rest : List ℕ) → Option (List ℕ) → Stand → View → Type 0
+IsLeft Read lines rest left last new =
+    EndsWithFeed lines × HasNoFeed rest × (PassesBound (length (lines_of lines)) rest → ⊥) × (new ≡ last.hive)
+IsLeft (Write written) lines rest left last new = (EndsWithFeed lines ⊎ ((rest ≡ []) × IsAtEnd left)) × IsReached lines rest left last new
+IsLeft TooLong lines rest left last new = EndsWithFeed lines × PassesBound (length (lines_of lines)) rest × (new ≡ last.hive)
+IsLeft Memory lines rest left last new = EndsWithFeed lines × IsReached lines rest left last new
+
+-- their replies were written, or after a failed write just what the writer took of them
+abbrev pub AreWritten : ScriptFault → List ℕ → (before after : Option (List ℕ)) → Type 0
+AreWritten Read text before after = Appends before after text
+AreWritten (Write written) text before after = IsTaken before after text written
+AreWritten TooLong text before after = Appends before after text
+AreWritten Memory text before after = Appends before after text
 
 -- a script ended with a fault: of what was read, some lines were answered, and the rest was not
 pub record Stops (fault : ScriptFault) (unread left : Option (List ℕ)) (old new : View) (before after : Option (List ℕ)) : Type 0 where
   pub lines : List ℕ
   pub rest : List ℕ
   pub read : Consumes unread left (lines ++ rest)
-  pub between : lines_of (lines ++ rest) ≡ lines_of lines ++ lines_of rest
   pub within : AreWithin (lines_of lines)
   pub text : List ℕ
   pub last : Stand
   pub said : AreSaid (lines_of lines) (record { hive = old; moment = 0; session = 0 }) text last
-  pub stands : IsLeft fault (length (lines_of lines)) last rest text new before after
+  pub stands : IsLeft fault lines rest left last new
+  pub written : AreWritten fault text before after
 
 -- a script on a fresh hive ended with a fault
 pub record StopsFresh (fault : ScriptFault) (unread left before after : Option (List ℕ)) : Type 0 where

@@ -8,7 +8,7 @@ ghost use Rattle.reg_script.specs.LineMeanings.{asks, meaning_of};
 ghost use Rattle.reg_script.specs.Internal.WordReadings.{said};
 ghost use Rattle.reg_script.specs.Lines.{IsSaid, AreSaid, Lines};
 ghost use Rattle.reg_script.specs.Stops.{fault_number, most_lines, HasNoFeed, AreWithin, IsOneMore, Stops};
-ghost use Rattle.reg_script.specs.Internal.Progress.{IsSteady, Adds, Loses, Takes, Halts, Ends, position_of, stand_of};
+ghost use Rattle.reg_script.specs.Internal.Progress.{IsSteady, Adds, Loses, Takes, Halts, Ends, among, past, position_of, stand_of};
 
 use crate::line::{Line, Session, Setting};
 use crate::output::Output;
@@ -98,7 +98,7 @@ impl Script {
             Takes (position_of self.old (view_of hive.old) (W.contents writer.old)) (byte ∷ [])
             (position_of self.new (view_of hive.new) (W.contents writer.new))) }
         ensures err { IfErr result (λ fault. IsSteady (position_of self.old (view_of hive.old) (W.contents writer.old)) →
-            Halts (position_of self.old (view_of hive.old) (W.contents writer.old)) (byte ∷ [])
+            Halts among (position_of self.old (view_of hive.old) (W.contents writer.old)) (byte ∷ [])
             (position_of self.new (view_of hive.new) (W.contents writer.new)) fault) }
     {
         if self.lines >= LINES_LIMIT {
@@ -128,7 +128,7 @@ impl Script {
             Takes (position_of self.old (view_of hive.old) (W.contents writer.old)) bytes.now
             (position_of self.new (view_of hive.new) (W.contents writer.new))) }
         ensures err { IfErr result (λ fault. IsSteady (position_of self.old (view_of hive.old) (W.contents writer.old)) →
-            Halts (position_of self.old (view_of hive.old) (W.contents writer.old)) bytes.now
+            Halts among (position_of self.old (view_of hive.old) (W.contents writer.old)) bytes.now
             (position_of self.new (view_of hive.new) (W.contents writer.new)) fault) }
     {
         for byte in bytes {
@@ -215,7 +215,7 @@ impl Script {
     fn end(&mut self, hive: &mut Hive) -> Result<(), ScriptFault>
         ensures ok { OnOk result (HasNoFeed self.old.line.items →
             Adds (AreSaid (lines_of self.old.line.items)) self.old (view_of hive.old) self.new (view_of hive.new)) }
-        ensures err { IfErr result (λ fault. (fault ≡ ScriptFault.Memory)
+        ensures err { IfErr result (λ fault. (fault ≡ ScriptFault.Memory) × (0 < length self.old.line.items)
             × Loses (meaning_of self.old.line.items) self.old (view_of hive.old) self.new (view_of hive.new)) }
     {
         if self.line.is_empty() {
@@ -241,7 +241,7 @@ impl Script {
         ensures err { IfErr result (λ fault. IsSteady (position_of self.old (view_of hive.old) (W.contents writer.old)) →
             self.old.lines ≡ 0 → self.old.line.items ≡ [] →
             (script : List ℕ) × Consumes (R.remaining reader.old) (R.remaining reader.new) script
-            × Halts (position_of self.old (view_of hive.old) (W.contents writer.old)) script
+            × Halts (past (R.remaining reader.new)) (position_of self.old (view_of hive.old) (W.contents writer.old)) script
             (position_of self.new (view_of hive.new) (W.contents writer.new)) fault) }
     {
         for _read in 0..READS_LIMIT {
@@ -260,8 +260,9 @@ impl Script {
 
 /// Runs a script of registry calls on a hive and writes the replies, each on a line of its own. Where it succeeds, what
 /// was written is what the rules give for all that was read. A fault says what ended it early ([`ScriptFault`]); the
-/// replies to the lines before it stand, after `Write` just as many of their bytes as the writer took. The hive is as those lines
-/// left it; after `Write` and `Memory` it may be one call further.
+/// replies to the lines before it stand, after `Write` just as many of their bytes as the writer took. Only lines that ended were
+/// answered: by an LF, or by the reader's end; after `Read` all of these. The hive is as those lines left it; after `Write` and
+/// `Memory` it may be one call further, that of the next line, if it ended.
 pub fn run<R: Read, W: Write>(
     alloc: Global,
     reader: &mut R,

@@ -1,16 +1,16 @@
 -- How far a script has come (this project's own).
 use Rattle.std.specs.Prelude.{◌≡◌, ℕ, ◌+◌, ◌<◌, ◌≤◌, List, [], ◌∷◌, ◌++◌, length, Option, string_bytes, ◌⊎◌}
 use Rattle.std.specs.List.{AllByRecursion}
-use Rattle.std.specs.Io.KnownBytes.{Appends}
+use Rattle.std.specs.Io.KnownBytes.{Appends, IsAtEnd}
 use Rattle.reg_calls.specs.Views.{View}
 use Rattle.reg_script.specs.declared.engine.Script.{Script}
 use Rattle.reg_script.specs.declared.engine.ScriptFault.{ScriptFault}
 use Rattle.reg_script.specs.declared.engine.ScriptFault.TheVariants.{Read, Write, TooLong, Memory}
 use Rattle.reg_script.specs.LineWords.{lines_of}
-use Rattle.reg_script.specs.LineMeanings.{Meaning}
+use Rattle.reg_script.specs.LineMeanings.{Meaning, meaning_of}
 use Rattle.reg_script.specs.Lines.{Stand, AreSaid}
 use Rattle.reg_script.specs.Internal.Outputs.{IsCut}
-use Rattle.reg_script.specs.Stops.{counted, longest_line, most_lines, HasNoFeed, PassesBound, IsOneMore, IsReached}
+use Rattle.reg_script.specs.Stops.{counted, longest_line, most_lines, HasNoFeed, PassesBound, IsOneMore}
 
 -- a position in a script: where it stands, how many lines have ended, the bytes of the line that hasn't, the replies that were
 -- gathered, what the writer holds, and the count of what it took
@@ -77,21 +77,48 @@ pub record IsIdle (old new : Position) : Type 0 where
   pub sent : new.sent ≡ old.sent
   pub written : new.written ≡ old.written
 
+-- where a fault comes: among the bytes, or past them, when the reader has this left
+pub data Place : Type 0 where
+  among : Place
+  past : Option (List ℕ) → Place
+
+-- it comes past the bytes, and none is behind it
+abbrev pub IsBehind : Place → List ℕ → Type 0
+IsBehind among back = ⊥
+IsBehind (past left) back = back ≡ []
+
+-- it comes at the end of the script
+abbrev pub IsEnd : Place → Type 0
+IsEnd among = ⊥
+IsEnd (past left) = IsAtEnd left
+
+-- the line that was begun has ended: an LF is behind it; or it isn't empty, and the script ends there
+abbrev pub HasEnded : Place → (begun back : List ℕ) → Type 0
+HasEnded place begun [] = IsEnd place × (0 < length begun)
+HasEnded place begun (b ∷ bs) = b ≡ 10
+
+-- that line has ended within the bounds and was answered on the hive; its reply was lost
+pub record IsLost (place : Place) (mid : Position) (back : List ℕ) (new : View) : Type 0 where
+  pub ended : HasEnded place mid.begun back
+  pub few : mid.lines < most_lines
+  pub answered : IsOneMore (meaning_of mid.begun) mid.stand new
+
 -- what a fault leaves, where the bytes behind `mid` were not taken
-abbrev pub IsFault : ScriptFault → Position → List ℕ → Position → Type 0
-IsFault Read mid back new = IsIdle mid new × (new.stand.hive ≡ mid.stand.hive)
-IsFault (Write written) mid back new = IsCut mid.sent new.sent mid.gathered mid.written (Write written) × (new.stand.hive ≡ mid.stand.hive)
-IsFault TooLong mid back new = IsIdle mid new × (new.stand.hive ≡ mid.stand.hive) × PassesBound mid.lines (mid.begun ++ back)
-IsFault Memory mid back new = IsIdle mid new × IsReached mid.stand (mid.begun ++ back) new.stand.hive
+abbrev pub IsFault : Place → ScriptFault → Position → List ℕ → Position → Type 0
+IsFault place Read mid back new = IsIdle mid new × (new.stand.hive ≡ mid.stand.hive) × IsBehind place back
+IsFault place (Write written) mid back new =
+    IsCut mid.sent new.sent mid.gathered mid.written (Write written) × (new.stand.hive ≡ mid.stand.hive)
+IsFault place TooLong mid back new = IsIdle mid new × (new.stand.hive ≡ mid.stand.hive) × PassesBound mid.lines (mid.begun ++ back)
+IsFault place Memory mid back new = IsIdle mid new × ((new.stand.hive ≡ mid.stand.hive) ⊎ IsLost place mid back new.stand.hive)
 
 -- of these bytes a front was taken, and then came a fault
-pub record Halts (old : Position) (bytes : List ℕ) (new : Position) (fault : ScriptFault) : Type 0 where
+pub record Halts (place : Place) (old : Position) (bytes : List ℕ) (new : Position) (fault : ScriptFault) : Type 0 where
   pub mid : Position
   pub front : List ℕ
   pub back : List ℕ
   pub splits : bytes ≡ front ++ back
   pub takes : Takes old front mid
-  pub faults : IsFault fault mid back new
+  pub faults : IsFault place fault mid back new
 
 -- a reply was gathered, which leads from one stand to the other in this way
 abbrev pub Adds : (Stand → List ℕ → Stand → Type 0) → Script → View → Script → View → Type 0

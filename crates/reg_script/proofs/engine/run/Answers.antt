@@ -15,4 +15,4 @@ returns-clause-lines g c =
 pub returns-clause-stops : goal.returns-clause-stops
 returns-clause-stops g c =
     runs_into _ _ _ _ _ _ c.read_all-ended.result c.close.result refl c.new-2.ensures.items c.new.ensures.text c.new.ensures.written refl
-    c.read_all-ended.ensures.lines c.close.ensures c.read_all-ended.ensures.err
+    c.read_all-ended.ensures.lines c.close.ensures c.read_all-ended.ensures.at_end c.read_all-ended.ensures.err

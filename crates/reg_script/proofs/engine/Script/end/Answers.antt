@@ -10,4 +10,5 @@ returns-clause-ok c =
     (said.0, begun_said _ _ _ _ (search rules) no_feed said.1, said.2, said.3)
 
 pub returns-in_err-end_line-clause-err : goal.returns-in_err-end_line-clause-err
-returns-in_err-end_line-clause-err c = if_err _ c.from_residual.result _ c.from_residual.ensures.1 c.in_err-end_line.ensures.err
+returns-in_err-end_line-clause-err c =
+    let lost = c.in_err-end_line.ensures.err in if_err _ c.from_residual.result _ c.from_residual.ensures.1 (lost.0, search rules, lost.1)

@@ -1,4 +1,4 @@
-use Rattle.std.proofs.Common.{[], ◌++◌, take, refl, arith}
+use Rattle.std.proofs.Common.{rules, [], ◌++◌, take, refl, arith}
 use Rattle.reg_script.specs.declared.engine.ScriptFault.TheVariants.{Read}
 use Rattle.reg_script.proofs.FailedCalls.{if_err}
 use Rattle.reg_script.proofs.ProgressLemmas.{takes_none, takes_then, consumes_none, consumes_then, consumes_kept, consumes_no_more, ends_at}
@@ -12,15 +12,18 @@ pub returns-in_default-clause-err : goal.returns-in_default-clause-err
 returns-in_default-clause-err g c =
     λ steady none empty.
     let h = c.loop-read.invariant steady in
-    (h.0, consumes_kept _ _ _ h.0 h.1 c.in_default.ensures.bytes, halts_at _ _ h.0 Read _ h.2 (record { gathered = refl; sent = refl; written = refl }, refl))
+    (h.0, consumes_kept _ _ _ h.0 h.1 c.in_default.ensures.bytes, halts_at _ _ _ h.0 Read _ h.2 (record { gathered = refl; sent = refl; written = refl }, refl, refl))
 
 pub returns-in_err-end-clause-err : goal.returns-in_err-end-clause-err
 returns-in_err-end-clause-err g c =
     if_err _ c.from_residual.result _ c.from_residual.ensures.1
     (λ steady none empty.
     let h = c.loop-read.invariant steady in
-    let lost = c.in_err-end.ensures.err in
-    (h.0, consumes_no_more _ _ _ h.0 c.read.new.buf c.in-Ok.count h.1 c.in-Ok.ensures.bytes.0 c.if-count-eq0.true, halts_last _ _ _ h.0 _ h.2 lost.0 lost.1.text refl lost.1.written lost.1.reached))
+    let lost = c.in_err-end.ensures.err in (
+      h.0,
+      consumes_no_more _ _ _ h.0 c.read.new.buf c.in-Ok.count h.1 c.in-Ok.ensures.bytes.0 c.if-count-eq0.true,
+      halts_last _ _ _ _ h.0 _ h.2 (search rules) lost.1 lost.0 lost.2.text refl lost.2.written lost.2.reached,
+    ))
 
 pub returns-then-count-eq0-clause-lines : goal.returns-then-count-eq0-clause-lines
 returns-then-count-eq0-clause-lines g c =
@@ -34,7 +37,7 @@ returns-in_err-take_bytes-clause-err g c =
     if_err _ c.from_residual-in_err-take_bytes.result _ c.from_residual-in_err-take_bytes.ensures.1
     (λ steady none empty.
     let h = c.loop-read.invariant steady in
-    (h.0 ++ take c.in-Ok.count c.read.new.buf, consumes_then _ _ _ h.0 _ h.1 c.in-Ok.ensures.bytes.0, halts_after _ _ _ h.0 _ _ h.2 (c.in_err-take_bytes.ensures.err h.2.steady)))
+    (h.0 ++ take c.in-Ok.count c.read.new.buf, consumes_then _ _ _ h.0 _ h.1 c.in-Ok.ensures.bytes.0, halts_after _ _ _ _ h.0 _ _ h.2 (c.in_err-take_bytes.ensures.err h.2.steady)))
 
 pub loop-read-preserved : goal.loop-read-preserved
 loop-read-preserved g c =

@@ -10,7 +10,8 @@ returns-then-self-ge-LINES_LIMIT-clause-err g c =
 
 pub returns-in_err-end_line-clause-err : goal.returns-in_err-end_line-clause-err
 returns-in_err-end_line-clause-err g c = if_err _ c.from_residual.result _ c.from_residual.ensures.1
-    (λ steady. let lost = c.in_err-end_line.ensures.err in halts_lost _ _ c.args.byte _ steady lost.0 lost.1.text refl lost.1.written lost.1.reached)
+    (λ steady. let lost = c.in_err-end_line.ensures.err in
+    halts_lost _ _ c.args.byte _ steady c.if-byte-eq10.true (few_lines _ c.if-self-ge-LINES_LIMIT.false) lost.0 lost.1.text refl lost.1.written lost.1.reached)
 
 pub returns-in_err-settle-clause-err : goal.returns-in_err-settle-clause-err
 returns-in_err-settle-clause-err g c = if_err _ c.from_residual-in_err-settle.result _ c.from_residual-in_err-settle.ensures.1
