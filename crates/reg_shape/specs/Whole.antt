@@ -1,6 +1,6 @@
 -- Whole hives: nothing is left over, nothing is named twice, nothing is counted wrongly (Suhanov, Windows registry file format
 -- specification, "Cell", "Key security"; the rest is this project's).
-use Rattle.std.specs.Prelude.{◌≡◌, ◌≢◌, ◌↔◌, ℕ, ◌+◌, ◌<◌, ◌≤◌, Option, Some, List, [], ◌∷◌, length, map, IsSome, true, Contains}
+use Rattle.std.specs.Prelude.{◌≡◌, ◌≢◌, ◌↔◌, ℕ, ◌+◌, ◌<◌, ◌≤◌, Option, Some, List, [], ◌∷◌, length, map, IsSome, true, Contains, ⊤}
 use Rattle.std.specs.Option.{option_map}
 use Rattle.std.specs.List.{AllByRecursion}
 use Rattle.reg_names.specs.declared.TheConstants.{PATH_LIMIT}
@@ -43,17 +43,21 @@ pub record Links (heap : Heap) (a b : ℕ) : Type 0 where
   pub forward : flink_at heap a ≡ Some b
   pub back : blink_at heap b ≡ Some a
 
--- each leads to the next, and the last to the first
-abbrev pub Circles : Heap → ℕ → List ℕ → Type 0
-Circles heap first [] = ⊥
-Circles heap first (last ∷ []) = Links heap last first
-Circles heap first (a ∷ b ∷ rest) = Links heap a b × Circles heap first (b ∷ rest)
+-- one security leads to the next, that one to the next after it, and the last of these to another
+abbrev pub Leads : Heap → ℕ → List ℕ → ℕ → Type 0
+Leads heap offset [] end = Links heap offset end
+Leads heap offset (next ∷ rest) end = Links heap offset next × Leads heap next rest end
 
--- the securities of a ring, in its order from one of them on; no two of them have equal descriptors
-pub record IsRing (heap : Heap) (first : ℕ) (others : List ℕ) : Type 0 where
-  pub circles : Circles heap first (first ∷ others)
-  pub apart : Pairwise (λ a b. descriptor_at heap a ≢ descriptor_at heap b) (first ∷ others)
-  pub written : AllByRecursion (IsWrittenSecurity heap) (first ∷ others)
+-- each leads to the next, and the last to the first; one alone leads to itself
+abbrev pub Circles : Heap → List ℕ → Type 0
+Circles heap [] = ⊤
+Circles heap (first ∷ rest) = Leads heap first rest first
+
+-- the securities of a ring, in its order from one of them on, or none; no two of them have equal descriptors
+pub record IsRing (heap : Heap) (ring : List ℕ) : Type 0 where
+  pub circles : Circles heap ring
+  pub apart : Pairwise (λ a b. descriptor_at heap a ≢ descriptor_at heap b) ring
+  pub written : AllByRecursion (IsWrittenSecurity heap) ring
 
 -- a key that is met, as it is written, and the keys right below it
 pub record IsWritten (heap : Heap) (root offset : ℕ) : Type 0 where
@@ -72,11 +76,10 @@ pub record IsWhole (heap : Heap) (cells root : ℕ) : Type 0 where
   pub walked : walk cells heap (plainly Key root) ≡ Some found
   pub once : Pairwise AreApart found
   pub exact : (offset : ℕ) → Meets found offset ↔ IsSome (heap offset)
-  pub first : ℕ
-  pub others : List ℕ
-  pub ring : IsRing heap first others
-  pub ringed : (offset : ℕ) → 0 < shared offset found ↔ 0 < times offset (first ∷ others)
-  pub counts : AllByRecursion (λ offset. count_at heap offset ≡ Some (shared offset found)) (first ∷ others)
+  pub ring : List ℕ
+  pub closed : IsRing heap ring
+  pub ringed : (offset : ℕ) → 0 < shared offset found ↔ 0 < times offset ring
+  pub counts : AllByRecursion (λ offset. count_at heap offset ≡ Some (shared offset found)) ring
   pub keys : AllByRecursion (λ (f : Found). f.kind ≡ Key → IsWritten heap root f.offset) found
   pub depth : (keys : List (Path × Rec)) → keys_from cells heap root ≡ Some keys → AllByRecursion (λ (e : Path × Rec). length e.0 ≤ PATH_LIMIT + 1) keys
 

@@ -46,10 +46,10 @@ pub fn siblings_fold_apart()
 
 /// A shape that stands in the cells and has all of them makes a whole hive, which spells the shape's tree.
 pub fn whole_shape_is_whole()
-    ensures whole { (bytes : List ℕ) → (root : ℕ) → (keys : Branch Node) → (first : ℕ) → (others : List ℕ) →
-        (cells : List Cell) → cells_of bytes ≡ Some cells → IsWholeShape (cell_at bytes) root keys first others → Whole bytes root }
-    ensures spelt { (bytes : List ℕ) → (root : ℕ) → (keys : Branch Node) → (first : ℕ) → (others : List ℕ) →
-        (cells : List Cell) → cells_of bytes ≡ Some cells → IsWholeShape (cell_at bytes) root keys first others →
+    ensures whole { (bytes : List ℕ) → (root : ℕ) → (keys : Branch Node) → (ring : List ℕ) →
+        (cells : List Cell) → cells_of bytes ≡ Some cells → IsWholeShape (cell_at bytes) root keys ring → Whole bytes root }
+    ensures spelt { (bytes : List ℕ) → (root : ℕ) → (keys : Branch Node) → (ring : List ℕ) →
+        (cells : List Cell) → cells_of bytes ≡ Some cells → IsWholeShape (cell_at bytes) root keys ring →
         spelt (length cells) (cell_at bytes) root ≡ Some (tree_of (cell_at bytes) keys) }
 {}
 
@@ -63,9 +63,9 @@ pub fn key_stays_where_its_cells_stay()
 /// and no other change.
 pub fn one_keys_cells_are_exchanged()
     ensures whole { (old new : Heap) → (root offset : ℕ) → (before after : Node) → (path : Path) → (keys : Branch Node) →
-        (first : ℕ) → (others : List ℕ) → found_at path keys ≡ Some (offset, before) →
-        IsExchanged old new root offset before after → IsWholeShape old root keys first others →
-        IsWholeShape new root (edit_at path after keys) first others }
+        (ring : List ℕ) → found_at path keys ≡ Some (offset, before) →
+        IsExchanged old new root offset before after → IsWholeShape old root keys ring →
+        IsWholeShape new root (edit_at path after keys) ring }
     ensures tree { (old new : Heap) → ((offset : ℕ) → descriptor_in new offset ≡ descriptor_in old offset) → (offset : ℕ) →
         (before after : Node) → name_of after.key ≡ name_of before.key → (path : Path) → (keys : Branch Node) →
         found_at path keys ≡ Some (offset, before) →

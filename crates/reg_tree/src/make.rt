@@ -39,7 +39,7 @@ fn make(arena: &mut Arena, parent: u32, list_cell: u32, key: u32, name: &[u8], m
         (m : MayGrow arena.old.bytes parent (taken (planned (heap_of arena.old) parent) list_cell
         ++ key ∷ left) name.now) →
         Grows (heap_of arena.old)
-        (heap_of arena.new) m.growing.root m.growing.path m.growing.keys m.growing.first key left name.now moment }
+        (heap_of arena.new) m.growing.root m.growing.path m.growing.keys m.growing.ring key left name.now moment }
     ensures long { length arena.new.bytes ≡ length arena.old.bytes }
 {
     let above = fields(arena, parent);
@@ -65,7 +65,7 @@ fn make_in(arena: &mut Arena, parent: u32, spare: &[u32], name: &[u8], moment: u
     ensures taken { (1 ≤ result) × (result ≤ 2) × (result ≤ length spare.now) }
     ensures grows { (m : MayGrow arena.old.bytes parent spare.now name.now) →
         Grows (heap_of arena.old)
-        (heap_of arena.new) m.growing.root m.growing.path m.growing.keys m.growing.first
+        (heap_of arena.new) m.growing.root m.growing.path m.growing.keys m.growing.ring
         (get_or spare.now (result - 1) 0) (drop result spare.now) name.now moment }
     ensures ready { (names : List (List ℕ)) →
         AreReady (heap_of arena.old) (planned (heap_of arena.old) parent) (name.now ∷ names) spare.now →
@@ -92,7 +92,7 @@ fn make_all(arena: &mut Arena, from: Node, path: &[u8], spare: &[u32], moment: u
     requires path { is_path path.now ≡ true }
     ensures grows { (m : MayGrowAll arena.old.bytes from (path_of path.now) spare.now) →
         GrowsAll (heap_of arena.old)
-        (heap_of arena.new) m.growing.root m.growing.path m.growing.keys m.growing.first from result
+        (heap_of arena.new) m.growing.root m.growing.path m.growing.keys m.growing.ring from result
         (path_of path.now) moment }
     ensures long { length arena.new.bytes ≡ length arena.old.bytes }
 {

@@ -5,6 +5,7 @@ use Rattle.std.proofs.lemmas.Option.{same_Some}
 use Rattle.std.specs.List.{AllByRecursion}
 use Rattle.reg_heap.specs.ByteWords.{half, word, long}
 use Rattle.reg_heap.specs.Paths.{Path, Rec}
+use Rattle.reg_heap.specs.Heaps.{Heap}
 use Rattle.reg_heap.specs.Kinds.{is_security}
 use Rattle.reg_arena.specs.Cells.{cells_of, cell_at, content_of}
 use Rattle.reg_records.specs.KeyNodes.{nk_of, nk_bytes, key_at}
@@ -13,7 +14,7 @@ use Rattle.reg_records.specs.OffsetRows.{offsets_at}
 use Rattle.reg_shape.specs.Nodes.{look}
 use Rattle.reg_shape.specs.Spelt.{keys_from}
 use Rattle.reg_shape.specs.Written.{AreWrittenValues}
-use Rattle.reg_shape.specs.Whole.{Meets, count_at, IsRing, IsWritten, Whole}
+use Rattle.reg_shape.specs.Whole.{Meets, count_at, Links, Circles, IsRing, IsWritten, Whole}
 use Rattle.reg_shape.proofs.Computed.RowsOfHives.{fresh, fresh-cells, fresh-walk, fresh_found, fresh_node, descriptor, root_name}
 
 -- an offset is met where its cell is allocated, by the tests of the cells' offsets
@@ -29,9 +30,9 @@ exact offset =
     subst (λ cells. Meets fresh_found offset ↔ IsSome (content_of fresh cells offset)) (sym fresh-cells)
     (one (eqb 32 offset) (eqb 120 offset) (eqb 168 offset) _ _ _)
 
-ring : IsRing (cell_at fresh) 120 []
+closed : IsRing (cell_at fresh) (120 ∷ [])
 unfolding security_at sk_of sk_bytes cell_at cells_of half word
-ring = record {
+closed = record {
   circles = record { forward = refl; back = refl };
   apart = (tt, tt);
   written = (
@@ -83,6 +84,13 @@ fresh-keys = refl
 depth : (keys : List (Path × Rec)) → keys_from 3 (cell_at fresh) 32 ≡ Some keys → AllByRecursion (λ (e : Path × Rec). length e.0 ≤ 513) keys
 depth keys e = subst (λ ks. AllByRecursion (λ (e : Path × Rec). length e.0 ≤ 513) ks) (same_Some _ _ (sym fresh-keys ∙ e)) (omega arith, tt)
 
+-- a ring of none, and one of three
+no-ring : (heap : Heap) → IsRing heap []
+no-ring heap = record { circles = tt; apart = tt; written = tt }
+
+three-linked : (heap : Heap) (a b c : ℕ) → Circles heap (a ∷ b ∷ c ∷ []) ≡ (Links heap a b × (Links heap b c × Links heap c a))
+three-linked heap a b c = refl
+
 counts : count_at (cell_at fresh) 120 ≡ Some 1
 unfolding security_at sk_of cell_at cells_of half word
 counts = refl
@@ -96,9 +104,8 @@ fresh-whole = record {
     walked = fresh-walk;
     once = (((λ e. absurd (omega arith)), tt), (tt, tt));
     exact = exact;
-    first = 120;
-    others = [];
-    ring = ring;
+    ring = 120 ∷ [];
+    closed = closed;
     ringed = λ offset. ((λ l. omega arith), λ l. omega arith);
     counts = (counts, tt);
     keys = ((λ _. root-written), ((λ e. absurd (false≢true (ap is_security (sym e)))), tt));

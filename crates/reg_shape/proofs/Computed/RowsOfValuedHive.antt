@@ -55,9 +55,9 @@ exact offset =
     subst (λ cells. Meets valued_found offset ↔ IsSome (content_of valued cells offset)) (sym valued-cells)
     (one (eqb 32 offset) (eqb 120 offset) (eqb 192 offset) (eqb 168 offset) (eqb 200 offset) _ _ _ _ _)
 
-ring : IsRing (cell_at valued) 120 []
+closed : IsRing (cell_at valued) (120 ∷ [])
 unfolding security_at sk_of sk_bytes cell_at cells_of half word
-ring = record {
+closed = record {
   circles = record { forward = refl; back = refl };
   apart = (tt, tt);
   written = (
@@ -156,9 +156,8 @@ valued-whole = record {
       (((λ e. absurd (omega arith)), ((λ e. absurd (omega arith)), tt)), (((λ e. absurd (omega arith)), tt), (tt, tt))),
     );
     exact = exact;
-    first = 120;
-    others = [];
-    ring = ring;
+    ring = 120 ∷ [];
+    closed = closed;
     ringed = λ offset. ((λ l. omega arith), λ l. omega arith);
     counts = (counts, tt);
     keys = ((λ _. root-written), ((λ e. absurd (other Security refl e)), ((λ e. absurd (other ValueList refl e)), ((λ e. absurd (other Value refl e)), tt))));
@@ -189,6 +188,6 @@ miscounted-not-whole w =
     let cells : length w.cells ≡ 3 = ap length (same_Some _ _ (sym w.cells_are ∙ miscounted-cells)) in
     let found : h.found ≡ fresh_found = same_Some _ _ (sym h.walked ∙ (ap (λ k. walk k (cell_at miscounted) (plainly Key 32)) cells ∙ miscounted-walk)) in
     let one : ◌≡◌ {A = ℕ} (shared 120 h.found) 1 = ap (shared 120) found in
-    let said = all-at (λ z. count_at (cell_at miscounted) z ≡ Some (shared z h.found)) (h.first ∷ h.others) 120 h.counts ((h.ringed 120).0 (omega (arith, one))) in
+    let said = all-at (λ z. count_at (cell_at miscounted) z ≡ Some (shared z h.found)) h.ring 120 h.counts ((h.ringed 120).0 (omega (arith, one))) in
     let two : ◌≡◌ {A = ℕ} 2 (shared 120 h.found) = same_Some _ _ (sym miscounted-count ∙ said) in
     omega (arith, one, two)

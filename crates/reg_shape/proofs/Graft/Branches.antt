@@ -14,23 +14,23 @@ use Rattle.reg_shape.specs.Internal.Grafts.{IsShape, branch_in, branch_at, graft
 
 -- ---- shapes without spare cells
 
-pub shape-whole : (heap : Heap) (root : ℕ) (keys : Branch Node) (first : ℕ) (others : List ℕ) → IsShape heap root keys first others [] → IsWholeShape heap root keys first others
-shape-whole heap root keys first others w = record {
+pub shape-whole : (heap : Heap) (root : ℕ) (keys : Branch Node) (ring : List ℕ) → IsShape heap root keys ring [] → IsWholeShape heap root keys ring
+shape-whole heap root keys ring w = record {
   offset = w.offset;
   stands = w.stands;
   exact = λ z. (let e = w.exact z in omega (arith, e));
-  ring = w.ring;
+  closed = w.closed;
   ringed = w.ringed;
   counts = w.counts;
   shallow = w.shallow;
 }
 
-pub whole-shape : (heap : Heap) (root : ℕ) (keys : Branch Node) (first : ℕ) (others : List ℕ) → IsWholeShape heap root keys first others → IsShape heap root keys first others []
-whole-shape heap root keys first others w = record {
+pub whole-shape : (heap : Heap) (root : ℕ) (keys : Branch Node) (ring : List ℕ) → IsWholeShape heap root keys ring → IsShape heap root keys ring []
+whole-shape heap root keys ring w = record {
   offset = w.offset;
   stands = w.stands;
   exact = λ z. (let e = w.exact z in omega (arith, e));
-  ring = w.ring;
+  closed = w.closed;
   ringed = w.ringed;
   counts = w.counts;
   shallow = w.shallow;

@@ -13,7 +13,7 @@ use Rattle.reg_shape.specs.Internal.Forests.Forest.{Rooted as Hangs}
 use Rattle.reg_records.specs.KeySecurities.{KeySecurityRecord}
 use Rattle.reg_shape.specs.Nodes.{Node}
 use Rattle.reg_shape.specs.Written.{Pairwise, Fits, IsWrittenSecurity}
-use Rattle.reg_shape.specs.Whole.{IsRing, Links, Circles, count_at, descriptor_at}
+use Rattle.reg_shape.specs.Whole.{IsRing, Links, Leads, Circles, count_at, descriptor_at}
 use Rattle.reg_shape.specs.Internal.Shapes.{owns, shares, IsSeen, StandsIn, depth}
 use Rattle.reg_shape.specs.Internal.Exchanges.{IsAlike}
 use Rattle.reg_shape.specs.Internal.Grafts.{IsShape, branch_in, branch_at, graft_in, graft_at, IsRecounted, IsGrafted}
@@ -135,10 +135,13 @@ module _ (h k : Heap) (was is : Branch Node) where
     back = ap (option_map (λ (s : KeySecurityRecord). s.fields.blink)) rb.now ∙ (sym (ap (option_map (λ (s : KeySecurityRecord). s.fields.blink)) rb.reads) ∙ l.back);
   }
 
-  circles-recounted : (first : ℕ) (ring : List ℕ) → Recounts first → AllByRecursion Recounts ring → Circles h first ring → Circles k first ring
-  circles-recounted first [] f a c = c
-  circles-recounted first (z ∷ []) f a c = links-recounted z first a.0 f c
-  circles-recounted first (y ∷ z ∷ ring) f a c = (links-recounted y z a.0 a.1.0 c.0, circles-recounted first (z ∷ ring) f a.1 c.1)
+  leads-recounted : (y end : ℕ) (rest : List ℕ) → Recounts y → AllByRecursion Recounts rest → Recounts end → Leads h y rest end → Leads k y rest end
+  leads-recounted y end [] e a f c = links-recounted y end e f c
+  leads-recounted y end (z ∷ rest) e a f c = (links-recounted y z e a.0 c.0, leads-recounted z end rest a.0 a.1 f c.1)
+
+  circles-recounted : (ring : List ℕ) → AllByRecursion Recounts ring → Circles h ring → Circles k ring
+  circles-recounted [] a c = c
+  circles-recounted (first ∷ rest) a c = leads-recounted first first rest a.0 a.1 a.0 c
 
   pub descriptor-recounted : (z : ℕ) → Recounts z → descriptor_at k z ≡ descriptor_at h z
   descriptor-recounted z r = ap (option_map (λ (s : KeySecurityRecord). s.descriptor)) r.now ∙ sym (ap (option_map (λ (s : KeySecurityRecord). s.descriptor)) r.reads)
@@ -169,11 +172,11 @@ module _ (h k : Heap) (was is : Branch Node) where
   securities-recounted [] a w = tt
   securities-recounted (z ∷ ring) a w = (security-recounted z a.0 w.0, securities-recounted ring a.1 w.1)
 
-  pub ring-recounted : (first : ℕ) (others : List ℕ) → AllByRecursion Recounts (first ∷ others) → IsRing h first others → IsRing k first others
-  ring-recounted first others a r = record {
-    circles = circles-recounted first (first ∷ others) a.0 a r.circles;
-    apart = differs-recounted (first ∷ others) a r.apart;
-    written = securities-recounted (first ∷ others) a r.written;
+  pub ring-recounted : (ring : List ℕ) → AllByRecursion Recounts ring → IsRing h ring → IsRing k ring
+  ring-recounted ring a r = record {
+    circles = circles-recounted ring a r.circles;
+    apart = differs-recounted ring a r.apart;
+    written = securities-recounted ring a r.written;
   }
 
   -- the count is as often as it is named now, where it was so before
@@ -200,8 +203,8 @@ named-still all was zero new e a b s = (λ l. omega (arith, e, l, a, b), λ l. (
 named-still all was (suc is) new e a b s = (λ l. (let w = s.0 (omega arith) in omega (arith, w, a)), λ l. omega (arith, b))
 
 -- the rows of a graft that its shape needs, as they follow from the counts before and after
-module _ (h k : Heap) (root : ℕ) (p : Path) (keys was is : Branch Node) (first : ℕ) (others spare left : List ℕ) (e : branch_at p keys ≡ Some was)
-    (g : IsGrafted h k root was is first others spare left) (w : IsShape h root keys first others spare) where
+module _ (h k : Heap) (root : ℕ) (p : Path) (keys was is : Branch Node) (ring spare left : List ℕ) (e : branch_at p keys ≡ Some was)
+    (g : IsGrafted h k root was is ring spare left) (w : IsShape h root keys ring spare) where
   placed-there : StandsIn k root (record { offset = was.offset; node = is.node; below = is.below })
   placed-there = subst (λ o. StandsIn k root (record { offset = o; node = is.node; below = is.below })) g.offset g.stands
 
@@ -212,8 +215,8 @@ module _ (h k : Heap) (root : ℕ) (p : Path) (keys was is : Branch Node) (first
   has-new : (f : ℕ → Node → ℕ) → total_of f is ≤ total_of f (graft_at p is.node is.below keys)
   has-new f = let t = graft-has f was is.node is.below p keys e in let o : f is.offset is.node ≡ f was.offset is.node = ap (λ o. f o is.node) g.offset in omega (arith, t, o)
 
-  recounts : AllByRecursion (Recounts h k was is) (first ∷ others)
-  recounts = all-members (Recounts h k was is) (first ∷ others) g.ring
+  recounts : AllByRecursion (Recounts h k was is) ring
+  recounts = all-members (Recounts h k was is) ring g.recounted
 
   -- the keys stand, however deep
   pub grafted-stands : StandsIn k root (graft_at p is.node is.below keys)
@@ -222,26 +225,26 @@ module _ (h k : Heap) (root : ℕ) (p : Path) (keys was is : Branch Node) (first
       (λ z l n. (let x = w.exact z in let a = at-most-one h z in g.same z (omega (arith, x, l)) n (omega (arith, x, a, l)) (omega (arith, x, a, l))))
       (λ z. (let x = w.exact z in let a = at-most-one h z in omega (arith, x, a)))
 
-  pub grafted-ringed : (z : ℕ) → 0 < total_of (shares z) (graft_at p is.node is.below keys) ↔ 0 < times z (first ∷ others)
+  pub grafted-ringed : (z : ℕ) → 0 < total_of (shares z) (graft_at p is.node is.below keys) ↔ 0 < times z ring
   grafted-ringed z =
       let s = named-still (total_of (shares z) keys) (total_of (shares z) was) (total_of (shares z) is)
       (total_of (shares z) (graft_at p is.node is.below keys)) (has-all (shares z)) (branch-total (shares z) was p keys e) (has-new (shares z))
       (g.securities z) in
       (λ l. (w.ringed z).0 (s.0 l), λ l. s.1 ((w.ringed z).1 l))
 
-  pub grafted-whole : length p + depth is.below ≤ PATH_LIMIT → IsShape k root (graft_at p is.node is.below keys) first others left
+  pub grafted-whole : length p + depth is.below ≤ PATH_LIMIT → IsShape k root (graft_at p is.node is.below keys) ring left
   grafted-whole deep = record {
     offset = graft-offset is.node is.below p keys ∙ w.offset;
     stands = grafted-stands;
     exact = λ z. (let x = w.exact z in let t = has-all (owns z) in let c = g.count z in omega (arith, x, t, c));
-    ring = ring-recounted h k was is first others recounts w.ring;
+    closed = ring-recounted h k was is ring recounts w.closed;
     ringed = grafted-ringed;
-    counts = counts-recounted h k was is (λ z. total_of (shares z) keys) (λ z. total_of (shares z) (graft_at p is.node is.below keys)) (λ z. has-all (shares z)) (first ∷ others) recounts w.counts;
+    counts = counts-recounted h k was is (λ z. total_of (shares z) keys) (λ z. total_of (shares z) (graft_at p is.node is.below keys)) (λ z. has-all (shares z)) ring recounts w.counts;
     shallow = (let d = graft-depth was is.node is.below p keys e in let s = w.shallow in omega (arith, d, s, deep));
   }
 
 -- the hive is whole with the branch that came
-pub grafted : (h k : Heap) (root : ℕ) (p : Path) (keys was is : Branch Node) (first : ℕ) (others spare left : List ℕ) → branch_at p keys ≡ Some was →
-    IsGrafted h k root was is first others spare left → length p + depth is.below ≤ PATH_LIMIT → IsShape h root keys first others spare →
-    IsShape k root (graft_at p is.node is.below keys) first others left
-grafted h k root p keys was is first others spare left e g deep w = grafted-whole h k root p keys was is first others spare left e g w deep
+pub grafted : (h k : Heap) (root : ℕ) (p : Path) (keys was is : Branch Node) (ring spare left : List ℕ) → branch_at p keys ≡ Some was →
+    IsGrafted h k root was is ring spare left → length p + depth is.below ≤ PATH_LIMIT → IsShape h root keys ring spare →
+    IsShape k root (graft_at p is.node is.below keys) ring left
+grafted h k root p keys was is ring spare left e g deep w = grafted-whole h k root p keys was is ring spare left e g w deep

@@ -22,13 +22,13 @@ use Rattle.reg_shape.proofs.Refinement.RefinementAtPath.{name-written, Apart, ap
 use Rattle.reg_shape.proofs.Graft.GraftPaths.{rest_of, same_rest, same-rest, by_rest, grafted_branch, found-graft, found-rest}
 use Rattle.reg_shape.proofs.Graft.ForestInsert.{its_leaf, none-deeper, found-hang, found-unhang, leaf-deeper}
 
-module _ (h k : Heap) (root : ℕ) (p : Path) (keys was is : Branch Node) (first : ℕ) (others spare left : List ℕ) (e : branch_at p keys ≡ Some was)
-    (g : IsGrafted h k root was is first others spare left) (w : IsShape h root keys first others spare) where
+module _ (h k : Heap) (root : ℕ) (p : Path) (keys was is : Branch Node) (ring spare left : List ℕ) (e : branch_at p keys ≡ Some was)
+    (g : IsGrafted h k root was is ring spare left) (w : IsShape h root keys ring spare) where
   abbrev new_keys : Branch Node
   new_keys = graft_at p is.node is.below keys
 
   new-stands : StandsIn k root new_keys
-  new-stands = grafted-stands h k root p keys was is first others spare left e g w
+  new-stands = grafted-stands h k root p keys was is ring spare left e g w
 
   old-stands : StandsIn h root was
   old-stands = branch-stands h root was p keys e w.stands
@@ -39,7 +39,7 @@ module _ (h k : Heap) (root : ℕ) (p : Path) (keys was is : Branch Node) (first
 
   -- securities describe what they did
   described : (z : ℕ) → 0 < total_of (shares z) new_keys → descriptor_in k z ≡ descriptor_in h z
-  described z l = ap (λ d. unwrap_or d []) (descriptor-recounted h k was is z (g.ring z ((grafted-ringed h k root p keys was is first others spare left e g w z).0 l)))
+  described z l = ap (λ d. unwrap_or d []) (descriptor-recounted h k was is z (g.recounted z ((grafted-ringed h k root p keys was is ring spare left e g w z).0 l)))
 
   same-told : (q : Path) → option_map (tells k) (found_at q new_keys) ≡ option_map (tells h) (found_at q new_keys)
   same-told q = ap (option_map (tells k)) (branch-found q new_keys) ∙ (by (branch_at q new_keys) refl ∙ ap (option_map (tells h)) (sym (branch-found q new_keys)))

@@ -86,11 +86,11 @@ cells-most bytes cells e = record { offsets = offsets-of cells; all = all; few =
 
 -- ---- a shape in bytes
 
-pub whole-in : (bytes : List ℕ) (root : ℕ) (keys : Branch Node) (first : ℕ) (others : List ℕ) (cells : List Cell) → cells_of bytes ≡ Some cells →
-    IsWholeShape (cell_at bytes) root keys first others → Whole bytes root
-whole-in bytes root keys first others cells e w =
-    record { cells = cells; cells_are = e; whole = whole-from-shape (cell_at bytes) root keys first others w (length cells) (cells-most bytes cells e) }
+pub whole-in : (bytes : List ℕ) (root : ℕ) (keys : Branch Node) (ring : List ℕ) (cells : List Cell) → cells_of bytes ≡ Some cells →
+    IsWholeShape (cell_at bytes) root keys ring → Whole bytes root
+whole-in bytes root keys ring cells e w =
+    record { cells = cells; cells_are = e; whole = whole-from-shape (cell_at bytes) root keys ring w (length cells) (cells-most bytes cells e) }
 
-pub spelt-in : (bytes : List ℕ) (root : ℕ) (keys : Branch Node) (first : ℕ) (others : List ℕ) (cells : List Cell) → cells_of bytes ≡ Some cells →
-    IsWholeShape (cell_at bytes) root keys first others → spelt (length cells) (cell_at bytes) root ≡ Some (tree_of (cell_at bytes) keys)
-spelt-in bytes root keys first others cells e w = spelt-from-shape (cell_at bytes) root keys first others w (length cells) (cells-most bytes cells e)
+pub spelt-in : (bytes : List ℕ) (root : ℕ) (keys : Branch Node) (ring : List ℕ) (cells : List Cell) → cells_of bytes ≡ Some cells →
+    IsWholeShape (cell_at bytes) root keys ring → spelt (length cells) (cell_at bytes) root ≡ Some (tree_of (cell_at bytes) keys)
+spelt-in bytes root keys ring cells e w = spelt-from-shape (cell_at bytes) root keys ring w (length cells) (cells-most bytes cells e)

@@ -1,5 +1,5 @@
 -- Numbers that another list has at least as often are no more than that list's.
-use Rattle.std.proofs.Common.{◌≡◌, ℕ, suc, ◌+◌, ◌<◌, ◌≤◌, Bool, true, false, cond, eqb, List, [], ◌∷◌, length, refl, ap, arith}
+use Rattle.std.proofs.Common.{◌≡◌, ℕ, suc, ◌+◌, ◌<◌, ◌≤◌, Bool, true, false, cond, eqb, List, [], ◌∷◌, length, refl, ap, subst, arith}
 use Rattle.std.proofs.lemmas.Bool.{eqb-true}
 use Rattle.std.proofs.lemmas.Bool.Decides.{nat_tests}
 use Rattle.reg_heap.specs.Kinds.{times}
@@ -29,6 +29,14 @@ without-times x z (y ∷ ys) l = without-times-by x y z ys (eqb y x) refl (λ l.
 
 pub same-number : (x : ℕ) → eqb x x ≡ true
 same-number x = grind (arith, nat_tests)
+
+-- a number that a list has is in it at least as often as in a list of itself
+pub one-among : (x z : ℕ) (ys : List ℕ) → 0 < times x ys → cond (eqb x z) 1 0 ≤ times z ys
+one-among x z ys l = by (eqb x z) refl
+  where
+    by : (b : Bool) → eqb x z ≡ b → cond b 1 0 ≤ times z ys
+    by true e = let s = subst (λ z. 0 < times z ys) (eqb-true x z e) l in omega (arith, s)
+    by false e = omega arith
 
 pub fewer : (xs ys : List ℕ) → ((z : ℕ) → times z xs ≤ times z ys) → length xs ≤ length ys
 fewer [] ys h = omega arith

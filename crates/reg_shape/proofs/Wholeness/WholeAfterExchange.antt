@@ -13,7 +13,7 @@ use Rattle.reg_shape.specs.Internal.Forests.Forest.{End, Rooted as Hangs}
 use Rattle.reg_records.specs.KeySecurities.{KeySecurityRecord, IsPlainSecurity}
 use Rattle.reg_shape.specs.Nodes.{Node}
 use Rattle.reg_shape.specs.Written.{Pairwise, Precedes, Fits, IsWrittenSecurity}
-use Rattle.reg_shape.specs.Whole.{IsRing, Links, Circles, count_at, descriptor_at}
+use Rattle.reg_shape.specs.Whole.{IsRing, Links, Leads, Circles, count_at, descriptor_at}
 use Rattle.reg_shape.specs.Internal.Shapes.{cells_of, owns, shares, IsSeen, StandsIn, depth, IsWholeShape}
 use Rattle.reg_shape.specs.Internal.Exchanges.{is_named, found_in, found_at, edit_in, edit_at, IsAlike, IsExchanged}
 use Rattle.reg_records.proofs.KeySecurityCodec.{security_at-same}
@@ -233,10 +233,13 @@ module _ (h k : Heap) where
     back = ap (option_map (λ (s : KeySecurityRecord). s.fields.blink)) (security_at-same h k b eb) ∙ l.back;
   }
 
-  circles-kept : (first : ℕ) (ring : List ℕ) → k first ≡ h first → AllByRecursion (λ z. k z ≡ h z) ring → Circles h first ring → Circles k first ring
-  circles-kept first [] f a c = c
-  circles-kept first (z ∷ []) f a c = links-kept z first a.0 f c
-  circles-kept first (y ∷ z ∷ ring) f a c = (links-kept y z a.0 a.1.0 c.0, circles-kept first (z ∷ ring) f a.1 c.1)
+  leads-kept : (y end : ℕ) (rest : List ℕ) → k y ≡ h y → AllByRecursion (λ z. k z ≡ h z) rest → k end ≡ h end → Leads h y rest end → Leads k y rest end
+  leads-kept y end [] e a f c = links-kept y end e f c
+  leads-kept y end (z ∷ rest) e a f c = (links-kept y z e a.0 c.0, leads-kept z end rest a.0 a.1 f c.1)
+
+  circles-kept : (ring : List ℕ) → AllByRecursion (λ z. k z ≡ h z) ring → Circles h ring → Circles k ring
+  circles-kept [] a c = c
+  circles-kept (first ∷ rest) a c = leads-kept first first rest a.0 a.1 a.0 c
 
   abbrev Differ : ℕ → ℕ → Type 0
   Differ a b = descriptor_at k a ≡ descriptor_at k b → ⊥
@@ -267,11 +270,11 @@ module _ (h k : Heap) where
     securities-kept ring a.1 w.1,
   )
 
-  ring-kept : (first : ℕ) (others : List ℕ) → AllByRecursion (λ z. k z ≡ h z) (first ∷ others) → IsRing h first others → IsRing k first others
-  ring-kept first others a r = record {
-    circles = circles-kept first (first ∷ others) a.0 a r.circles;
-    apart = differ-kept (first ∷ others) a r.apart;
-    written = securities-kept (first ∷ others) a r.written;
+  ring-kept : (ring : List ℕ) → AllByRecursion (λ z. k z ≡ h z) ring → IsRing h ring → IsRing k ring
+  ring-kept ring a r = record {
+    circles = circles-kept ring a r.circles;
+    apart = differ-kept ring a r.apart;
+    written = securities-kept ring a r.written;
   }
 
 pub all-members : (P : ℕ → Type 0) (xs : List ℕ) → ((z : ℕ) → 0 < times z xs → P z) → AllByRecursion P xs
@@ -296,23 +299,23 @@ counts-kept h k f g e (z ∷ ring) a c =
 
 -- ---- whole
 
-pub exchanged : (h k : Heap) (root offset : ℕ) (n m : Node) (p : Path) (keys : Branch Node) (first : ℕ) (others : List ℕ) →
-    found_at p keys ≡ Some (offset, n) → IsExchanged h k root offset n m → IsWholeShape h root keys first others →
-    IsWholeShape k root (edit_at p m keys) first others
-exchanged h k root offset n m p keys first others e x w =
+pub exchanged : (h k : Heap) (root offset : ℕ) (n m : Node) (p : Path) (keys : Branch Node) (ring : List ℕ) →
+    found_at p keys ≡ Some (offset, n) → IsExchanged h k root offset n m → IsWholeShape h root keys ring →
+    IsWholeShape k root (edit_at p m keys) ring
+exchanged h k root offset n m p keys ring e x w =
     let own : (z : ℕ) → total_of (owns z) (edit_at p m keys) + owned z (cells_of n) ≡ total_of (owns z) keys + owned z (cells_of m) = λ z. branch-total (owns z) offset n m p keys e in
     let share : (z : ℕ) → total_of (shares z) (edit_at p m keys) ≡ total_of (shares z) keys =
     λ z. (let t = branch-total (shares z) offset n m p keys e in let s = x.security z in omega (arith, t, s)) in
     let has : (z : ℕ) → owned z (cells_of n) ≤ total_of (owns z) keys = λ z. branch-has (owns z) offset n m p keys e in
-    let calm : AllByRecursion (λ z. k z ≡ h z) (first ∷ others) = all-members (λ z. k z ≡ h z) (first ∷ others)
+    let calm : AllByRecursion (λ z. k z ≡ h z) ring = all-members (λ z. k z ≡ h z) ring
     (λ z l. keep h k root offset n m x z (let a = w.exact z in let b = has z in let o = at-most-one h z in
     omega (arith, a, b, o, l)) (let a = w.exact z in omega (arith, a, l))) in
     record {
       offset = branch-offset m p keys ∙ w.offset;
       stands = branch-exchanged h k root offset n m x p keys e w.stands (λ z. (let a = w.exact z in omega (arith, a)));
       exact = λ z. (let a = w.exact z in let b = own z in let c = x.frame.count z in omega (arith, a, b, c));
-      ring = ring-kept h k first others calm w.ring;
+      closed = ring-kept h k ring calm w.closed;
       ringed = λ z. ((λ l. (w.ringed z).0 (let s = share z in omega (arith, s, l))), λ l. (let r = (w.ringed z).1 l in let s = share z in omega (arith, r, s)));
-      counts = counts-kept h k (λ z. total_of (shares z) keys) (λ z. total_of (shares z) (edit_at p m keys)) share (first ∷ others) calm w.counts;
+      counts = counts-kept h k (λ z. total_of (shares z) keys) (λ z. total_of (shares z) (edit_at p m keys)) share ring calm w.counts;
       shallow = (let d = branch-depth offset n m p keys e in let s = w.shallow in omega (arith, d, s));
     }

@@ -20,7 +20,7 @@ use Rattle.reg_shape.specs.Whole.{Meets, count_at, IsWhole}
 use Rattle.reg_shape.specs.Internal.Shapes.{trace, owns, shares, depth, descriptor_in, spelled, tree_of, IsWholeShape}
 use Rattle.reg_shape.proofs.Walking.WalkParts.{Walks, gather-open, walk-more}
 use Rattle.reg_shape.proofs.Walking.WalkFuel.{load, walk-enough}
-use Rattle.reg_shape.proofs.Wholeness.FewerNumbers.{fewer}
+use Rattle.reg_shape.proofs.Wholeness.FewerNumbers.{fewer, one-among}
 use Rattle.reg_shape.proofs.Walking.WalkRefinement.{AreSecured, branch-walks}
 use Rattle.reg_shape.proofs.Wholeness.ShapeCounts.{tally-branch}
 use Rattle.reg_shape.proofs.Refinement.SpeltShapes.{keys-one, keys-more, branch-spelt, longer, behind-short, spelled-short}
@@ -29,7 +29,7 @@ use Rattle.reg_shape.proofs.Wholeness.ShapeRecords.{is-allocated, allocated-is}
 
 -- ---- whole
 
-module _ (heap : Heap) (root : ℕ) (keys : Branch Node) (first : ℕ) (others : List ℕ) (w : IsWholeShape heap root keys first others) where
+module _ (heap : Heap) (root : ℕ) (keys : Branch Node) (ring : List ℕ) (w : IsWholeShape heap root keys ring) where
   owned-is : (z : ℕ) → owned z (trace keys) ≡ total_of (owns z) keys
   owned-is z = tally-branch (is_own z) heap root keys w.stands
 
@@ -37,7 +37,11 @@ module _ (heap : Heap) (root : ℕ) (keys : Branch Node) (first : ℕ) (others :
   shared-is z = tally-branch (is_shared z) heap root keys w.stands
 
   secured : (z : ℕ) → 0 < total_of (shares z) keys → IsWrittenSecurity heap z
-  secured z l = all-at (IsWrittenSecurity heap) (first ∷ others) z w.ring.written ((w.ringed z).0 l)
+  secured z l = all-at (IsWrittenSecurity heap) ring z w.closed.written ((w.ringed z).0 l)
+
+  -- the root's security is in the ring
+  root-ringed : 0 < times keys.node.key.fields.security ring
+  root-ringed = (w.ringed keys.node.key.fields.security).0 (let l = shares-own heap root keys.offset keys.node w.stands.0.reads in omega arith)
 
   one-secured : IsWrittenSecurity heap keys.node.key.fields.security
   one-secured = secured keys.node.key.fields.security (let l = shares-own heap root keys.offset keys.node w.stands.0.reads in omega arith)
@@ -57,11 +61,13 @@ module _ (heap : Heap) (root : ℕ) (keys : Branch Node) (first : ℕ) (others :
   -- the records met that are no securities, and one security, are as many cells
   roomy : (cells : ℕ) → AreAtMost heap cells → suc (load (trace keys)) ≤ cells
   roomy cells a =
-      let less : length (first ∷ own_offsets (trace keys)) ≤ length a.offsets = fewer (first ∷ own_offsets (trace keys)) a.offsets (λ z.
+      let s = keys.node.key.fields.security in
+      let less : length (s ∷ own_offsets (trace keys)) ≤ length a.offsets = fewer (s ∷ own_offsets (trace keys)) a.offsets (λ z.
       let o = own-times z (trace keys) ∙ owned-is z in
       let e = w.exact z in
       let l = a.all z in
-      omega (arith, o, e, l)) in
+      let r = one-among s z ring root-ringed in
+      omega (arith, o, e, l, r)) in
       let n = own-length (trace keys) in
       omega (arith, less, n, a.few)
 
@@ -74,11 +80,11 @@ module _ (heap : Heap) (root : ℕ) (keys : Branch Node) (first : ℕ) (others :
       by : (n : ℕ) → shared z (trace keys) ≡ n → n ≡ 0
       by zero e = refl
       by (suc n) e =
-          let ring = (w.ringed z).0 (let s = shared-is z in omega (arith, s, e)) in
+          let named = (w.ringed z).0 (let s = shared-is z in omega (arith, s, e)) in
           let o = owned-is z in
           let x = w.exact z in
           let a = at-most-one heap z in
-          absurd (omega (arith, ring, o, x, a, l))
+          absurd (omega (arith, named, o, x, a, l))
 
   exact : (z : ℕ) → Meets (trace keys) z ↔ IsSome (heap z)
   exact z = (there, here)
@@ -88,12 +94,12 @@ module _ (heap : Heap) (root : ℕ) (keys : Branch Node) (first : ℕ) (others :
         where
           by : (n : ℕ) → shared z (trace keys) ≡ n → 0 < allocated heap z
           by zero e = let o = owned-is z in let x = w.exact z in omega (arith, e, o, x, l)
-          by (suc n) e = let ring = (w.ringed z).0 (let s = shared-is z in omega (arith, s, e)) in let x = w.exact z in omega (arith, ring, x)
+          by (suc n) e = let named = (w.ringed z).0 (let s = shared-is z in omega (arith, s, e)) in let x = w.exact z in omega (arith, named, x)
 
       here : IsSome (heap z) → 0 < owned z (trace keys) + shared z (trace keys)
-      here s = by (times z (first ∷ others)) refl
+      here s = by (times z ring) refl
         where
-          by : (n : ℕ) → times z (first ∷ others) ≡ n → 0 < owned z (trace keys) + shared z (trace keys)
+          by : (n : ℕ) → times z ring ≡ n → 0 < owned z (trace keys) + shared z (trace keys)
           by zero e = let a = allocated-is heap z s in let x = w.exact z in let o = owned-is z in omega (arith, a, x, o, e)
           by (suc n) e = let l = (w.ringed z).1 (omega (arith, e)) in let h = shared-is z in omega (arith, l, h)
 
@@ -126,11 +132,10 @@ module _ (heap : Heap) (root : ℕ) (keys : Branch Node) (first : ℕ) (others :
         (plainly Key keys.offset) (trace keys) (walk-enough walks.fuel heap (plainly Key keys.offset) (trace keys) walked);
     once = once (trace keys) owned-once owned-unshared;
     exact = exact;
-    first = first;
-    others = others;
-    ring = w.ring;
+    ring = ring;
+    closed = w.closed;
     ringed = λ z. ((λ l. (w.ringed z).0 (let s = shared-is z in omega (arith, s, l))), λ l. (let r = (w.ringed z).1 l in let s = shared-is z in omega (arith, r, s)));
-    counts = counts (first ∷ others) w.counts;
+    counts = counts ring w.counts;
     keys = branch-fine heap root keys w.stands;
     depth = λ ks e. subst (λ ks. AllByRecursion (λ (e : Path × Rec). length e.0 ≤ 513) ks) (keys-one (suc (depth keys.below)) cells heap root its_keys ks keys-are e) short;
   }

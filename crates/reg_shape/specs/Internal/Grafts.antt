@@ -16,13 +16,13 @@ use Rattle.reg_shape.specs.Internal.Exchanges.{is_named, IsAlike}
 
 -- the keys stand in the cells, and these are all that the cells hold: each allocated cell is one key's, or in the ring, or spare for a
 -- key to come, once; each security is named as often as it counts, and at least once; no key is deeper than 512 names
-pub record IsShape (heap : Heap) (root : ℕ) (keys : Branch Node) (first : ℕ) (others : List ℕ) (spare : List ℕ) : Type 0 where
+pub record IsShape (heap : Heap) (root : ℕ) (keys : Branch Node) (ring spare : List ℕ) : Type 0 where
   pub offset : keys.offset ≡ root
   pub stands : StandsIn heap root keys
-  pub exact : (offset : ℕ) → total_of (owns offset) keys + times offset (first ∷ others) + times offset spare ≡ allocated heap offset
-  pub ring : IsRing heap first others
-  pub ringed : (offset : ℕ) → 0 < total_of (shares offset) keys ↔ 0 < times offset (first ∷ others)
-  pub counts : AllByRecursion (λ offset. count_at heap offset ≡ Some (total_of (shares offset) keys)) (first ∷ others)
+  pub exact : (offset : ℕ) → total_of (owns offset) keys + times offset ring + times offset spare ≡ allocated heap offset
+  pub closed : IsRing heap ring
+  pub ringed : (offset : ℕ) → 0 < total_of (shares offset) keys ↔ 0 < times offset ring
+  pub counts : AllByRecursion (λ offset. count_at heap offset ≡ Some (total_of (shares offset) keys)) ring
   pub shallow : depth keys.below ≤ PATH_LIMIT
 
 -- the key at a path, with all below it
@@ -75,16 +75,16 @@ pub record IsRecounted (old new : Heap) (was is : ℕ) (offset : ℕ) : Type 0 w
 
 -- a key and all below it gave way to others at its offset, which stand in its cells and in cells that were spare; what it shows
 -- above is the same, and the securities that it names
-pub record IsGrafted (old new : Heap) (root : ℕ) (was is : Branch Node) (first : ℕ) (others spare left : List ℕ) : Type 0 where
+pub record IsGrafted (old new : Heap) (root : ℕ) (was is : Branch Node) (ring spare left : List ℕ) : Type 0 where
   pub offset : is.offset ≡ was.offset
   pub alike : IsAlike was.node is.node
   pub stands : StandsIn new root is
   pub count : (offset : ℕ) → allocated new offset + (total_of (owns offset) was + times offset spare) ≡ allocated old offset +
       (total_of (owns offset) is + times offset left)
   pub same : (offset : ℕ) → 0 < allocated old offset → total_of (owns offset) was ≡ 0 → times offset spare ≡ 0 →
-      times offset (first ∷ others) ≡ 0 → new offset ≡ old offset
+      times offset ring ≡ 0 → new offset ≡ old offset
   pub securities : (offset : ℕ) → 0 < total_of (shares offset) is ↔ 0 < total_of (shares offset) was
-  pub ring : (offset : ℕ) → 0 < times offset (first ∷ others) → IsRecounted old new (total_of (shares offset) was) (total_of (shares offset) is) offset
+  pub recounted : (offset : ℕ) → 0 < times offset ring → IsRecounted old new (total_of (shares offset) was) (total_of (shares offset) is) offset
 
 -- the key at an index is this one, and no key is below it
 abbrev pub IsLeafAt : ℕ → ℕ → Node → Forest Node → Type 0

@@ -88,11 +88,11 @@ tree_of heap keys =
 
 -- the keys stand in the cells, and these are all that the cells hold: each allocated cell is one key's, or in the ring, once; each
 -- security is named as often as it counts, and at least once; no key is deeper than 512 names
-pub record IsWholeShape (heap : Heap) (root : ℕ) (keys : Branch Node) (first : ℕ) (others : List ℕ) : Type 0 where
+pub record IsWholeShape (heap : Heap) (root : ℕ) (keys : Branch Node) (ring : List ℕ) : Type 0 where
   pub offset : keys.offset ≡ root
   pub stands : StandsIn heap root keys
-  pub exact : (offset : ℕ) → total_of (owns offset) keys + times offset (first ∷ others) ≡ allocated heap offset
-  pub ring : IsRing heap first others
-  pub ringed : (offset : ℕ) → 0 < total_of (shares offset) keys ↔ 0 < times offset (first ∷ others)
-  pub counts : AllByRecursion (λ offset. count_at heap offset ≡ Some (total_of (shares offset) keys)) (first ∷ others)
+  pub exact : (offset : ℕ) → total_of (owns offset) keys + times offset ring ≡ allocated heap offset
+  pub closed : IsRing heap ring
+  pub ringed : (offset : ℕ) → 0 < total_of (shares offset) keys ↔ 0 < times offset ring
+  pub counts : AllByRecursion (λ offset. count_at heap offset ≡ Some (total_of (shares offset) keys)) ring
   pub shallow : depth keys.below ≤ PATH_LIMIT

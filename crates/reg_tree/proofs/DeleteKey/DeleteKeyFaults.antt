@@ -43,7 +43,7 @@ module _ (old : List ℕ) (key : ℕ) (t : IsHere old key) where
   abbrev keys : Branch Node
   keys = t.holds.keys
 
-  abbrev w : IsShape h t.root keys t.holds.first [] []
+  abbrev w : IsShape h t.root keys t.holds.ring []
   w = t.holds.shape
 
   abbrev b : Branch Node

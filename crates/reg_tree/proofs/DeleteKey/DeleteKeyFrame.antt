@@ -38,7 +38,7 @@ use Rattle.reg_tree.proofs.DeleteKey.DeletedKeyParent as before
 
 -- ---- the parent `was`, and the key `b` below it
 
-module _ (h0 : Heap) (root : ℕ) (keys : Branch Node) (first : ℕ) (w : IsShape h0 root keys first [] []) (p : Path) (was : Branch Node)
+module _ (h0 : Heap) (root : ℕ) (keys : Branch Node) (first : ℕ) (w : IsShape h0 root keys (first ∷ []) []) (p : Path) (was : Branch Node)
     (e : branch_at p keys ≡ Some was) (single : IsSingle was.node.index)
     (x : List ℕ) (b : Branch Node) (found : branch_in (x ∷ []) was.below ≡ Some b) (childless : b.node.key.fields.subkeys ≡ 0) where
   abbrev m : Node
@@ -160,7 +160,7 @@ module _ (h0 : Heap) (root : ℕ) (keys : Branch Node) (first : ℕ) (w : IsShap
       calm-freed z some a c d = freed.same z d refl ∙ calm-then z some a c
 
       pub ring0 : IsWrittenSecurity h0 first
-      ring0 = w.ring.written.0
+      ring0 = w.closed.written.0
 
       pub first-calm : h4 first ≡ h0 first
       first-calm =

@@ -34,7 +34,7 @@ use Rattle.reg_tree.proofs.DeleteKey.DeletedKeyParent.{not-there, there-is, rais
 use Rattle.reg_tree.proofs.DeleteKey.DeletedKeyParent as before
 use Rattle.reg_tree.proofs.DeleteKey.DeleteKeyFrame as frame
 
-module _ (h0 : Heap) (root : ℕ) (keys : Branch Node) (first : ℕ) (w : IsShape h0 root keys first [] []) (p : Path) (was : Branch Node)
+module _ (h0 : Heap) (root : ℕ) (keys : Branch Node) (first : ℕ) (w : IsShape h0 root keys (first ∷ []) []) (p : Path) (was : Branch Node)
     (e : branch_at p keys ≡ Some was) (single : IsSingle was.node.index)
     (x : List ℕ) (b : Branch Node) (found : branch_in (x ∷ []) was.below ≡ Some b) (childless : b.node.key.fields.subkeys ≡ 0) where
   abbrev m : Node
@@ -270,7 +270,7 @@ module _ (h0 : Heap) (root : ℕ) (keys : Branch Node) (first : ℕ) (w : IsShap
           counted = (let a = shared-now first in let c = below-parts (shares first) in let d = names-once in let o = some-count in omega (arith, a, c, d, o));
         }
 
-        pub grafts : IsGrafted h0 h5 root was is first [] [] []
+        pub grafts : IsGrafted h0 h5 root was is (first ∷ []) [] []
         grafts = record {
           offset = refl;
           alike = record { name = refl; parent = refl; class_length = refl };
@@ -290,5 +290,5 @@ module _ (h0 : Heap) (root : ℕ) (keys : Branch Node) (first : ℕ) (w : IsShap
               let q = m-parts z in
               calm z some (omega (arith, none, q)) (omega (arith, none, q)) (omega (arith, none, i, j)) apart);
           securities = securities-same;
-          ring = λ z some. subst (λ z. IsRecounted h0 h5 (total_of (shares z) was) (total_of (shares z) is) z) (sym (there-is z first some)) ring-first;
+          recounted = λ z some. subst (λ z. IsRecounted h0 h5 (total_of (shares z) was) (total_of (shares z) is) z) (sym (there-is z first some)) ring-first;
         }

@@ -1,5 +1,5 @@
 -- A key deleted: what each step of it needs, and the tree before and after.
-use Rattle.std.proofs.Common.{◌≡◌, ◌≢◌, ℕ, zero, suc, ◌-◌, ◌≤◌, Bool, true, false, cond, Some, None, IsSome, List, [], ◌∷◌, ◌++◌, refl, sym, ap, ◌∙◌, subst, arith}
+use Rattle.std.proofs.Common.{◌≡◌, ◌≢◌, ℕ, zero, suc, ◌-◌, ◌≤◌, Bool, true, false, cond, Some, None, IsSome, List, [], ◌∷◌, ◌++◌, length, refl, sym, ap, ◌∙◌, subst, arith}
 use Rattle.std.specs.Option.{option_map}
 use Rattle.std.specs.FinMap.{get, insert, remove}
 use Rattle.reg_names.specs.Names.{folded}
@@ -63,6 +63,12 @@ other-path p q n = by (same_path p q) refl
     by true t = absurd (n (path-is p q t))
     by false t = refl
 
+-- a list of one
+only : (xs : List ℕ) → length xs ≡ 1 → (x : ℕ) × (xs ≡ x ∷ [])
+only [] e = absurd (omega (arith, e))
+only (x ∷ []) e = (x, refl)
+only (x ∷ y ∷ xs) e = absurd (omega (arith, e))
+
 module _ (old : List ℕ) (key : ℕ) (t : IsHere old key) (childless : (branch old key t).node.key.fields.subkeys ≡ 0) (inner : t.path ≢ []) where
   abbrev h : Heap
   h = cell_at old
@@ -70,11 +76,19 @@ module _ (old : List ℕ) (key : ℕ) (t : IsHere old key) (childless : (branch 
   abbrev keys : Branch Node
   keys = t.holds.keys
 
-  abbrev first : ℕ
-  first = t.holds.first
+  -- the ring is of one security
+  first : ℕ
+  first = (only t.holds.ring t.holds.sole).0
 
-  abbrev w : IsShape h t.root keys first [] []
-  w = t.holds.shape
+  ring_is : t.holds.ring ≡ first ∷ []
+  unfolding first
+  ring_is = (only t.holds.ring t.holds.sole).1
+
+  abbrev ring : List ℕ
+  ring = first ∷ []
+
+  w : IsShape h t.root keys ring []
+  w = subst (λ ring. IsShape h t.root keys ring []) ring_is t.holds.shape
 
   abbrev b : Branch Node
   b = branch old key t
@@ -94,10 +108,10 @@ module _ (old : List ℕ) (key : ℕ) (t : IsHere old key) (childless : (branch 
   parent = then-open (λ o. key_offset_at h o (x ∷ [])) (key_offset_at h t.root p) key (sym (offset-append h t.root p (x ∷ [])) ∙ (ap (key_offset_at h t.root) (sym parts.2) ∙ t.at))
 
   abbrev was : Branch Node
-  was = keyed.branch h t.root keys first [] [] w p parent.0 parent.1
+  was = keyed.branch h t.root keys ring [] w p parent.0 parent.1
 
   was-is : branch_at p keys ≡ Some was
-  was-is = keyed.branch_is h t.root keys first [] [] w p parent.0 parent.1
+  was-is = keyed.branch_is h t.root keys ring [] w p parent.0 parent.1
 
   stands-was : StandsIn h t.root was
   stands-was = branch-stands h t.root was p keys was-is w.stands
@@ -106,7 +120,7 @@ module _ (old : List ℕ) (key : ℕ) (t : IsHere old key) (childless : (branch 
   found = sym (branch-append was (x ∷ []) p keys was-is) ∙ (ap (λ q. branch_at q keys) (sym parts.2) ∙ branch_is old key t)
 
   single : IsSingle was.node.index
-  single = single-of was.offset was.node (keyed.unrooted_here h t.root keys first [] [] w p parent.0 parent.1 t.holds.unrooted)
+  single = single-of was.offset was.node (keyed.unrooted_here h t.root keys ring [] w p parent.0 parent.1 t.holds.unrooted)
 
   abbrev entries : List Entry
   entries = entries_of was.node.index
@@ -161,7 +175,7 @@ module _ (old : List ℕ) (key : ℕ) (t : IsHere old key) (childless : (branch 
           abbrev came : Branch Node
           came = is h t.root keys first w p was was-is single x b found childless h2 moment un h4 freed h5 re
 
-          grafts-here : IsGrafted h h5 t.root was came first [] [] []
+          grafts-here : IsGrafted h h5 t.root was came ring [] []
           grafts-here = grafts h t.root keys first w p was was-is single x b found childless h2 moment un h4 freed h5 re
 
           abbrev now : Branch Node
@@ -170,8 +184,10 @@ module _ (old : List ℕ) (key : ℕ) (t : IsHere old key) (childless : (branch 
           holds-now : TreeInvariant new t.root
           holds-now = record {
             keys = now;
-            first = first;
-            shape = grafted h h5 t.root p keys was came first [] [] [] was-is grafts-here (deep-unhung p keys was index was-is w.shallow) w;
+            ring = t.holds.ring;
+            shape = subst (λ ring. IsShape h5 t.root now ring []) (sym ring_is)
+                (grafted h h5 t.root p keys was came ring [] [] was-is grafts-here (deep-unhung p keys was index was-is w.shallow) w);
+            sole = t.holds.sole;
             unrooted = (
                 let g = graft-total rooted was came.node came.below p keys was-is in
                 let u = t.holds.unrooted in
@@ -190,7 +206,7 @@ module _ (old : List ℕ) (key : ℕ) (t : IsHere old key) (childless : (branch 
           unfolding holds-now
           tree-now =
               spelt_is new t.root holds-now
-              ∙ (tree-unhung h h5 t.root p keys was came first [] [] [] was-is grafts-here w index b.offset b.node x called refl (leaf h t.root keys first w p was was-is single x b found childless)
+              ∙ (tree-unhung h h5 t.root p keys was came ring [] [] was-is grafts-here w index b.offset b.node x called refl (leaf h t.root keys first w p was was-is single x b found childless)
               ∙ (ap (λ (tree : Tree). remove (insert tree p (at_time moment rec)) (p ++ x ∷ [])) (sym (spelt_is old t.root t.holds))
               ∙ (ap (λ (tree : Tree). remove tree (p ++ x ∷ [])) (sym (edited-at (tree_in old t.root) p rec (at_time moment) rec-there))
               ∙ (ap (λ q. remove (edited (tree_in old t.root) q (at_time moment)) (p ++ x ∷ [])) (sym (above-is p x))
@@ -198,7 +214,7 @@ module _ (old : List ℕ) (key : ℕ) (t : IsHere old key) (childless : (branch 
 
           offsets-now : (q : Path) → q ≢ t.path → key_offset_at h5 t.root q ≡ key_offset_at h t.root q
           offsets-now q n =
-              offsets-unhung h h5 t.root p keys was came first [] [] [] was-is grafts-here w index b.offset b.node x called refl (leaf h t.root keys first w p was was-is single x b found childless) q
+              offsets-unhung h h5 t.root p keys was came ring [] [] was-is grafts-here w index b.offset b.node x called refl (leaf h t.root keys first w p was was-is single x b found childless) q
               ∙ ap (λ same. cond same None (key_offset_at h t.root q)) (other-path q (p ++ x ∷ []) (λ e. n (e ∙ sym parts.2)))
 
           pub is-deleted : IsDeleted old new t.root t.path moment

@@ -207,21 +207,21 @@ module _ (old : List ℕ) (from : TreeNode) (t : IsHere old from.offset) (path :
     may_make = may_grow_all old mid parent parent_here left spare s missing-first deep few
 
     module _ (new : List ℕ) (made : TreeNode)
-        (grown : GrowsAll (cell_at mid) (cell_at new) may_make.growing.root may_make.growing.path may_make.growing.keys may_make.growing.first parent
+        (grown : GrowsAll (cell_at mid) (cell_at new) may_make.growing.root may_make.growing.path may_make.growing.keys may_make.growing.ring parent
         made left moment) where
       pub created : IsCreated old new t.root t.path from names moment made
       unfolding may_make may_grow_all here_then
       created =
-          let h : TreeInvariant new t.root = record { keys = grown.now; first = t.holds.first; shape = grown.shape; unrooted = grown.unrooted } in
+          let h : TreeInvariant new t.root = record { keys = grown.now; ring = t.holds.ring; shape = grown.shape; sole = t.holds.sole; unrooted = grown.unrooted } in
           record {
             holds = h;
             tree = spelt_is new t.root h
                 ∙ (grown.tree
                 ∙ (ap (λ (tree : Tree). with_keys tree (t.path ++ map folded passed) left moment)
-                (tree-spared (cell_at old) (cell_at mid) t.root t.holds.keys t.holds.first spare t.holds.shape s.come ∙
+                (tree-spared (cell_at old) (cell_at mid) t.root t.holds.keys t.holds.ring spare t.holds.shape s.come ∙
                 sym (spelt_is old t.root t.holds))
                 ∙ sym with-left));
             offset = subst (λ p. key_offset_at (cell_at new) t.root p ≡ Some made.offset) all-names grown.offset;
             depth = (let d = r.passes.depth in let n = number in let g = grown.depth in omega (arith, d, n, g));
-            keeps = λ q o e. grown.keeps q o (offsets-spared (cell_at old) (cell_at mid) t.root t.holds.keys t.holds.first spare t.holds.shape s.come q ∙ e);
+            keeps = λ q o e. grown.keeps q o (offsets-spared (cell_at old) (cell_at mid) t.root t.holds.keys t.holds.ring spare t.holds.shape s.come q ∙ e);
           }

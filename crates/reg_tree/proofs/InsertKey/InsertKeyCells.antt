@@ -34,14 +34,14 @@ use Rattle.reg_tree.proofs.Invariant.KeyOfShape as keyed
 use Rattle.reg_tree.proofs.InsertKey.InsertKeyFrame.{name_of_head, raised-low}
 use Rattle.reg_tree.proofs.InsertKey.InsertKeyFrame as frame
 
-module _ (h0 h1 h2 h3 h4 : Heap) (root : ℕ) (keys : Branch Node) (first : ℕ) (p : Path) (parent : ℕ)
+module _ (h0 h1 h2 h3 h4 : Heap) (root : ℕ) (keys : Branch Node) (ring : List ℕ) (p : Path) (parent : ℕ)
     (plan : Option ℕ) (list_cell key : ℕ) (left : List ℕ)
-    (w : IsShape h0 root keys first [] (taken plan list_cell ++ key ∷ left)) (unrooted : total_of rooted keys ≡ 0) (at : key_offset_at h0 root p ≡ Some parent) where
+    (w : IsShape h0 root keys ring (taken plan list_cell ++ key ∷ left)) (unrooted : total_of rooted keys ≡ 0) (at : key_offset_at h0 root p ≡ Some parent) where
   abbrev spare : List ℕ
   spare = taken plan list_cell ++ key ∷ left
 
   abbrev was : Branch Node
-  was = keyed.branch h0 root keys first [] spare w p parent at
+  was = keyed.branch h0 root keys ring spare w p parent at
 
   abbrev node : Node
   node = was.node
@@ -53,25 +53,25 @@ module _ (h0 h1 h2 h3 h4 : Heap) (root : ℕ) (keys : Branch Node) (first : ℕ)
   entries = entries_of node.index
 
   abbrev pub looked : IsLooked h0 was.offset node
-  looked = frame.looked h0 h1 h2 h3 h4 root keys first p parent plan list_cell key left w unrooted at
+  looked = frame.looked h0 h1 h2 h3 h4 root keys ring p parent plan list_cell key left w unrooted at
 
   abbrev pub seen : IsSeen h0 root was.offset node
-  seen = frame.seen h0 h1 h2 h3 h4 root keys first p parent plan list_cell key left w unrooted at
+  seen = frame.seen h0 h1 h2 h3 h4 root keys ring p parent plan list_cell key left w unrooted at
 
   pub offset : was.offset ≡ parent
-  offset = frame.offset h0 h1 h2 h3 h4 root keys first p parent plan list_cell key left w unrooted at
+  offset = frame.offset h0 h1 h2 h3 h4 root keys ring p parent plan list_cell key left w unrooted at
 
   pub single : IsSingle node.index
-  single = frame.single h0 h1 h2 h3 h4 root keys first p parent plan list_cell key left w unrooted at
+  single = frame.single h0 h1 h2 h3 h4 root keys ring p parent plan list_cell key left w unrooted at
 
-  pub security_is : above.fields.security ≡ first
-  security_is = frame.security_is h0 h1 h2 h3 h4 root keys first p parent plan list_cell key left w unrooted at
+  pub security-ringed : 0 < times above.fields.security ring
+  security-ringed = frame.security-ringed h0 h1 h2 h3 h4 root keys ring p parent plan list_cell key left w unrooted at
 
   abbrev stands0 : StandsIn h0 root was
-  stands0 = keyed.stands h0 root keys first [] spare w p parent at
+  stands0 = keyed.stands h0 root keys ring spare w p parent at
 
   pub names0 : names_in h0 entries ≡ map name_of_head (heads was.below)
-  names0 = frame.names0 h0 h1 h2 h3 h4 root keys first p parent plan list_cell key left w unrooted at
+  names0 = frame.names0 h0 h1 h2 h3 h4 root keys ring p parent plan list_cell key left w unrooted at
 
   abbrev K : ℕ → ℕ
   K z = is_own z (record { kind = Key; offset = was.offset })
@@ -80,65 +80,62 @@ module _ (h0 h1 h2 h3 h4 : Heap) (root : ℕ) (keys : Branch Node) (first : ℕ)
   old_list = own above.fields.subkeys above.fields.subkeys_list
 
   pub own-index : (z : ℕ) → owned z (index_cells node.index) ≡ times z old_list
-  own-index = frame.own-index h0 h1 h2 h3 h4 root keys first p parent plan list_cell key left w unrooted at
+  own-index = frame.own-index h0 h1 h2 h3 h4 root keys ring p parent plan list_cell key left w unrooted at
 
   not-root : key ≢ root
-  not-root = frame.not-root h0 h1 h2 h3 h4 root keys first p parent plan list_cell key left w unrooted at
+  not-root = frame.not-root h0 h1 h2 h3 h4 root keys ring p parent plan list_cell key left w unrooted at
 
   pub budget : (z : ℕ) → ((K z + (owned z looked.class_cells + owned z looked.value_cells)) + (times z old_list + total (owns z) was.below)) +
-      (times z (first ∷ []) + (times z (taken plan list_cell) + (times z (key ∷ []) + times z left))) ≤ allocated h0 z
-  budget = frame.budget h0 h1 h2 h3 h4 root keys first p parent plan list_cell key left w unrooted at
+      (times z ring + (times z (taken plan list_cell) + (times z (key ∷ []) + times z left))) ≤ allocated h0 z
+  budget = frame.budget h0 h1 h2 h3 h4 root keys ring p parent plan list_cell key left w unrooted at
 
   pub one : (z : ℕ) → allocated h0 z ≤ 1
-  one = frame.one h0 h1 h2 h3 h4 root keys first p parent plan list_cell key left w unrooted at
+  one = frame.one h0 h1 h2 h3 h4 root keys ring p parent plan list_cell key left w unrooted at
 
   module _ (others1 : (z : ℕ) → z ≢ key → h1 z ≡ h0 z) (there1 : IsSome (h1 key)) where
     calm1 : (z : ℕ) → times z (key ∷ []) ≡ 0 → h1 z ≡ h0 z
-    calm1 = frame.calm1 h0 h1 h2 h3 h4 root keys first p parent plan list_cell key left w unrooted at others1 there1
+    calm1 = frame.calm1 h0 h1 h2 h3 h4 root keys ring p parent plan list_cell key left w unrooted at others1 there1
 
     pub allocated1 : (z : ℕ) → allocated h1 z ≡ allocated h0 z
-    allocated1 = frame.allocated1 h0 h1 h2 h3 h4 root keys first p parent plan list_cell key left w unrooted at others1 there1
+    allocated1 = frame.allocated1 h0 h1 h2 h3 h4 root keys ring p parent plan list_cell key left w unrooted at others1 there1
 
     below-all : (Q : ℕ → Type 0) → ((z : ℕ) → 0 < total (owns z) was.below → Q z) → AllByRecursion (λ (e : Entry). Q e.offset) entries
-    below-all = frame.below-all h0 h1 h2 h3 h4 root keys first p parent plan list_cell key left w unrooted at others1 there1
+    below-all = frame.below-all h0 h1 h2 h3 h4 root keys ring p parent plan list_cell key left w unrooted at others1 there1
 
     module _ (count1 list1 : ℕ) (moves : Moves h1 h2 (old_list ++ taken plan list_cell) (own count1 list1)) where
       pub before : (z : ℕ) → times z (old_list ++ taken plan list_cell) ≡ times z old_list + times z (taken plan list_cell)
-      before = frame.before h0 h1 h2 h3 h4 root keys first p parent plan list_cell key left w unrooted at others1 there1 count1 list1 moves
+      before = frame.before h0 h1 h2 h3 h4 root keys ring p parent plan list_cell key left w unrooted at others1 there1 count1 list1 moves
 
       calm2 : (z : ℕ) → 0 < allocated h0 z → times z old_list ≡ 0 → times z (taken plan list_cell) ≡ 0 → h2 z ≡ h1 z
-      calm2 = frame.calm2 h0 h1 h2 h3 h4 root keys first p parent plan list_cell key left w unrooted at others1 there1 count1 list1 moves
+      calm2 = frame.calm2 h0 h1 h2 h3 h4 root keys ring p parent plan list_cell key left w unrooted at others1 there1 count1 list1 moves
 
       abbrev P : ℕ
       P = was.offset
 
       P-own : K P ≡ 1
-      P-own = frame.P-own h0 h1 h2 h3 h4 root keys first p parent plan list_cell key left w unrooted at others1 there1 count1 list1 moves
+      P-own = frame.P-own h0 h1 h2 h3 h4 root keys ring p parent plan list_cell key left w unrooted at others1 there1 count1 list1 moves
 
       P-calm : h2 P ≡ h0 P
-      P-calm = frame.P-calm h0 h1 h2 h3 h4 root keys first p parent plan list_cell key left w unrooted at others1 there1 count1 list1 moves
+      P-calm = frame.P-calm h0 h1 h2 h3 h4 root keys ring p parent plan list_cell key left w unrooted at others1 there1 count1 list1 moves
 
       pub P-then : key_at h2 P ≡ Some above
-      P-then = frame.P-then h0 h1 h2 h3 h4 root keys first p parent plan list_cell key left w unrooted at others1 there1 count1 list1 moves
+      P-then = frame.P-then h0 h1 h2 h3 h4 root keys ring p parent plan list_cell key left w unrooted at others1 there1 count1 list1 moves
 
       module _ (name : List ℕ) (moment : ℕ) (notes : Notes h2 h3 parent (noted_subkeys count1 list1 (length name) moment)) where
         pub its-notes : Notes h2 h3 was.offset (noted_subkeys count1 list1 (length name) moment)
-        its-notes = frame.its-notes h0 h1 h2 h3 h4 root keys first p parent plan list_cell key left w unrooted at others1 there1 count1 list1 moves name moment notes
+        its-notes = frame.its-notes h0 h1 h2 h3 h4 root keys ring p parent plan list_cell key left w unrooted at others1 there1 count1 list1 moves name moment notes
 
         calm3 : (z : ℕ) → K z ≡ 0 → h3 z ≡ h2 z
-        calm3 = frame.calm3 h0 h1 h2 h3 h4 root keys first p parent plan list_cell key left w unrooted at others1 there1 count1 list1 moves name moment notes
+        calm3 = frame.calm3 h0 h1 h2 h3 h4 root keys ring p parent plan list_cell key left w unrooted at others1 there1 count1 list1 moves name moment notes
 
-        abbrev pub written : IsWrittenSecurity h0 first
-        written = frame.written h0 h1 h2 h3 h4 root keys first p parent plan list_cell key left w unrooted at others1 there1 count1 list1 moves name moment notes
+        abbrev pub written : IsWrittenSecurity h0 above.fields.security
+        written = frame.written h0 h1 h2 h3 h4 root keys ring p parent plan list_cell key left w unrooted at others1 there1 count1 list1 moves name moment notes
 
-        pub first-once : times first (first ∷ []) ≡ 1
-        first-once = frame.first-once h0 h1 h2 h3 h4 root keys first p parent plan list_cell key left w unrooted at others1 there1 count1 list1 moves name moment notes
+        pub security-calm : h3 above.fields.security ≡ h0 above.fields.security
+        security-calm = frame.security-calm h0 h1 h2 h3 h4 root keys ring p parent plan list_cell key left w unrooted at others1 there1 count1 list1 moves name moment notes
 
-        pub first-calm : h3 first ≡ h0 first
-        first-calm = frame.first-calm h0 h1 h2 h3 h4 root keys first p parent plan list_cell key left w unrooted at others1 there1 count1 list1 moves name moment notes
-
-        pub first-there : security_at h3 first ≡ Some written.security
-        first-there = frame.first-there h0 h1 h2 h3 h4 root keys first p parent plan list_cell key left w unrooted at others1 there1 count1 list1 moves name moment notes
+        pub security-there : security_at h3 above.fields.security ≡ Some written.security
+        security-there = frame.security-there h0 h1 h2 h3 h4 root keys ring p parent plan list_cell key left w unrooted at others1 there1 count1 list1 moves name moment notes
 
         module _ (index : ℕ) (good : is_key_name name ≡ true) (short : length name ≤ KEY_NAME_LIMIT)
             (key1 : key_at h1 key ≡ Some (made_record parent above.fields.security moment name)) (plain1 : IsPlainKey (held h1 key))
@@ -158,18 +155,20 @@ module _ (h0 h1 h2 h3 h4 : Heap) (root : ℕ) (keys : Branch Node) (first : ℕ)
               add-one : (n : ℕ) → n + 1 ≡ suc n
               add-one n = omega arith
 
-          pub its-recounts : Recounts h3 h4 first (λ n. users)
-          its-recounts = subst (λ s. Recounts h3 h4 s (λ n. users)) security_is recounts
-
           not-new-list : (z : ℕ) → 0 < allocated h0 z → times z old_list ≡ 0 → times z (taken plan list_cell) ≡ 0 → times z (list1 ∷ []) ≡ 0
           not-new-list z some a b = sym (new-list z) ∙ (let x = allocated1 z in let y = before z in
               moved-none h1 h2 (old_list ++ taken plan list_cell) (own count1 list1) moves z (omega (arith, some, x)) (omega (arith, a, b, y)))
 
-          calm4 : (z : ℕ) → times z (first ∷ []) ≡ 0 → h4 z ≡ h3 z
-          calm4 z none = its-recounts.others z (not-there z first none)
+          calm4 : (z : ℕ) → times z ring ≡ 0 → h4 z ≡ h3 z
+          calm4 z none = recounts.others z (λ e. (let l = subst (λ s. 0 < times s ring) (sym e) security-ringed in omega (arith, l, none)))
 
-          pub calm : (z : ℕ) → 0 < allocated h0 z → times z (key ∷ []) ≡ 0 → times z old_list ≡ 0 → times z (taken plan list_cell) ≡ 0 → K z ≡ 0 → times z (first ∷ []) ≡ 0 → h4 z ≡ h0 z
+          pub calm : (z : ℕ) → 0 < allocated h0 z → times z (key ∷ []) ≡ 0 → times z old_list ≡ 0 → times z (taken plan list_cell) ≡ 0 → K z ≡ 0 → times z ring ≡ 0 → h4 z ≡ h0 z
           calm z some k a b c d = calm4 z d ∙ (calm3 z c ∙ (calm2 z some a b ∙ calm1 z k))
+
+          -- the other securities stay
+          pub calm-ring : (z : ℕ) → 0 < times z ring → z ≢ security → h4 z ≡ h0 z
+          calm-ring z l n = let b = budget z in let o = one z in recounts.others z n ∙ (calm3 z (omega (arith, b, o, l)) ∙
+              (calm2 z (omega (arith, b, l)) (omega (arith, b, o, l)) (omega (arith, b, o, l)) ∙ calm1 z (omega (arith, b, o, l))))
 
           pub calm-below : (z : ℕ) → 0 < total (owns z) was.below → h4 z ≡ h0 z
           calm-below z l = let b = budget z in let o = one z in calm z (omega (arith, b, l)) (omega (arith, b, o, l)) (omega (arith, b, o, l))
@@ -233,10 +232,10 @@ module _ (h0 h1 h2 h3 h4 : Heap) (root : ℕ) (keys : Branch Node) (first : ℕ)
               list-calm : h4 list1 ≡ h2 list1
               list-calm =
                   let b = budget P in let o = one P in let k = P-own in
-                  let c = budget first in let q = one first in let f = times-one first in
+                  let c = budget security in let q = one security in let f = security-ringed in
                   let not-P = not-one P (not-new-list P (omega (arith, b, k)) (omega (arith, b, o, k)) (omega (arith, b, o, k))) in
-                  let not-first = not-one first (not-new-list first (omega (arith, c, f)) (omega (arith, c, q, f)) (omega (arith, c, q, f))) in
-                  calm4 list1 not-first ∙ its-notes.others list1 (not-there list1 P not-P)
+                  let not-security = not-one security (not-new-list security (omega (arith, c, f)) (omega (arith, c, q, f)) (omega (arith, c, q, f))) in
+                  recounts.others list1 (not-there list1 security not-security) ∙ its-notes.others list1 (not-there list1 P not-P)
 
               below-late : (z : ℕ) → 0 < total (owns z) was.below → h4 z ≡ h2 z
               below-late z l = let b = budget z in let o = one z in calm4 z (omega (arith, b, o, l)) ∙ calm3 z (omega (arith, b, o, l))

@@ -21,7 +21,7 @@ use Rattle.reg_shape.specs.PathLookup.{key_offset_at}
 use Rattle.reg_records.proofs.KeyNodeCodec.{key_at-same}
 use Rattle.reg_records.proofs.KeySecurityCodec.{security_at-same}
 use Rattle.reg_shape.proofs.Walking.WalkRefinement.{IsLooked}
-use Rattle.reg_shape.proofs.Wholeness.ShapeRecords.{at-most-one}
+use Rattle.reg_shape.proofs.Wholeness.ShapeRecords.{all-at, at-most-one}
 use Rattle.reg_shape.proofs.Graft.ForestInsertFits.{all-mapped}
 use Rattle.reg_shape.proofs.Lookup.LookupOfShape.{key-looked}
 use Rattle.reg_index.specs.Subkeys.{AreSubkeys, Moves, names_in, name_at, name_or_none, own, taken}
@@ -30,7 +30,7 @@ use Rattle.reg_tree.specs.Internal.KeyNodeChanges.{Notes, noted_subkeys, raised}
 use Rattle.reg_tree.specs.Internal.TreeInvariant.{rooted}
 use Rattle.reg_tree.proofs.Invariant.OwnCells.{own-parts, key-here}
 use Rattle.reg_tree.proofs.InsertKey.ParentReindexed.{owned-single, branch-subkeys}
-use Rattle.reg_tree.proofs.Invariant.UntouchedCells.{offset-own, times-one, not-there, there-is, written-allocated, moved-calm, all-heads, all-of, single-of}
+use Rattle.reg_tree.proofs.Invariant.UntouchedCells.{offset-own, times-one, not-there, written-allocated, moved-calm, all-heads, all-of, single-of}
 use Rattle.reg_tree.proofs.Invariant.KeyOfShape as keyed
 
 -- the folded name of a key that was looked at
@@ -57,14 +57,14 @@ raised-low o s l = omega (arith, l)
 -- ---- the cells: `h0` before, `h1` with the key node written, `h2` with the key among its parent's subkeys, `h3` when that was noted
 -- in the parent's key node, `h4` when the security was counted
 
-module _ (h0 h1 h2 h3 h4 : Heap) (root : ℕ) (keys : Branch Node) (first : ℕ) (p : Path) (parent : ℕ)
+module _ (h0 h1 h2 h3 h4 : Heap) (root : ℕ) (keys : Branch Node) (ring : List ℕ) (p : Path) (parent : ℕ)
     (plan : Option ℕ) (list_cell key : ℕ) (left : List ℕ)
-    (w : IsShape h0 root keys first [] (taken plan list_cell ++ key ∷ left)) (unrooted : total_of rooted keys ≡ 0) (at : key_offset_at h0 root p ≡ Some parent) where
+    (w : IsShape h0 root keys ring (taken plan list_cell ++ key ∷ left)) (unrooted : total_of rooted keys ≡ 0) (at : key_offset_at h0 root p ≡ Some parent) where
   abbrev spare : List ℕ
   spare = taken plan list_cell ++ key ∷ left
 
   abbrev was : Branch Node
-  was = keyed.branch h0 root keys first [] spare w p parent at
+  was = keyed.branch h0 root keys ring spare w p parent at
 
   abbrev node : Node
   node = was.node
@@ -76,23 +76,23 @@ module _ (h0 h1 h2 h3 h4 : Heap) (root : ℕ) (keys : Branch Node) (first : ℕ)
   entries = entries_of node.index
 
   pub looked : IsLooked h0 was.offset node
-  looked = keyed.looked h0 root keys first [] spare w p parent at
+  looked = keyed.looked h0 root keys ring spare w p parent at
 
   pub seen : IsSeen h0 root was.offset node
-  seen = keyed.seen h0 root keys first [] spare w p parent at
+  seen = keyed.seen h0 root keys ring spare w p parent at
 
   pub offset : was.offset ≡ parent
-  offset = keyed.offset h0 root keys first [] spare w p parent at
+  offset = keyed.offset h0 root keys ring spare w p parent at
 
   pub single : IsSingle node.index
-  single = single-of node.index (keyed.unrooted_here h0 root keys first [] spare w p parent at unrooted)
+  single = single-of node.index (keyed.unrooted_here h0 root keys ring spare w p parent at unrooted)
 
-  -- its security is the one of the ring
-  pub security_is : above.fields.security ≡ first
-  security_is = there-is above.fields.security first (keyed.secured h0 root keys first [] spare w p parent at)
+  -- its security is in the ring
+  pub security-ringed : 0 < times above.fields.security ring
+  security-ringed = keyed.secured h0 root keys ring spare w p parent at
 
   abbrev stands0 : StandsIn h0 root was
-  stands0 = keyed.stands h0 root keys first [] spare w p parent at
+  stands0 = keyed.stands h0 root keys ring spare w p parent at
 
   -- the names of its subkeys
   pub names0 : names_in h0 entries ≡ map name_of_head (heads was.below)
@@ -122,9 +122,9 @@ module _ (h0 h1 h2 h3 h4 : Heap) (root : ℕ) (keys : Branch Node) (first : ℕ)
 
   -- every cell is one thing alone
   pub budget : (z : ℕ) → ((K z + (owned z looked.class_cells + owned z looked.value_cells)) + (times z old_list + total (owns z) was.below)) +
-      (times z (first ∷ []) + (times z (taken plan list_cell) + (times z (key ∷ []) + times z left))) ≤ allocated h0 z
+      (times z ring + (times z (taken plan list_cell) + (times z (key ∷ []) + times z left))) ≤ allocated h0 z
   budget z =
-      let all = keyed.branch_once h0 root keys first [] spare w p parent at z in
+      let all = keyed.branch_once h0 root keys ring spare w p parent at z in
       let o = ap (λ (found : List Found). owned z (found ++ index_cells node.index)) looked.cells ∙ own-parts z was.offset above looked.class_cells looked.value_cells node.index in
       let i = own-index z in
       let s = times-append z (taken plan list_cell) (key ∷ left) in
@@ -202,15 +202,12 @@ module _ (h0 h1 h2 h3 h4 : Heap) (root : ℕ) (keys : Branch Node) (first : ℕ)
         pub calm3 : (z : ℕ) → K z ≡ 0 → h3 z ≡ h2 z
         calm3 z none = its-notes.others z (not-offset z none)
 
-        pub written : IsWrittenSecurity h0 first
-        written = w.ring.written.0
+        pub written : IsWrittenSecurity h0 above.fields.security
+        written = all-at (IsWrittenSecurity h0) ring above.fields.security w.closed.written security-ringed
 
-        pub first-once : times first (first ∷ []) ≡ 1
-        first-once = times-one first
+        pub security-calm : h3 above.fields.security ≡ h0 above.fields.security
+        security-calm = let s = above.fields.security in let b = budget s in let o = one s in let k = security-ringed in calm3 s (omega (arith, b, o, k)) ∙
+            (calm2 s (omega (arith, b, k)) (omega (arith, b, o, k)) (omega (arith, b, o, k)) ∙ calm1 s (omega (arith, b, o, k)))
 
-        pub first-calm : h3 first ≡ h0 first
-        first-calm = let b = budget first in let o = one first in let k = first-once in calm3 first (omega (arith, b, o, k)) ∙
-            (calm2 first (omega (arith, b, k)) (omega (arith, b, o, k)) (omega (arith, b, o, k)) ∙ calm1 first (omega (arith, b, o, k)))
-
-        pub first-there : security_at h3 first ≡ Some written.security
-        first-there = security_at-same h0 h3 first first-calm ∙ written.reads
+        pub security-there : security_at h3 above.fields.security ≡ Some written.security
+        security-there = security_at-same h0 h3 above.fields.security security-calm ∙ written.reads

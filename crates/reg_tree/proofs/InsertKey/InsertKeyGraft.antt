@@ -1,11 +1,12 @@
 -- A key made below another, as a graft of its parent's branch.
-use Rattle.std.proofs.Common.{◌≡◌, ◌≢◌, ℕ, zero, suc, ◌+◌, ◌*◌, ◌%◌, ◌≤◌, ◌<◌, max, true, Option, Some, None, IsSome, List, [], ◌∷◌, ◌++◌, take, drop, map, length}
+use Rattle.std.proofs.Common.{◌≡◌, ◌≢◌, ℕ, zero, suc, ◌+◌, ◌*◌, ◌%◌, ◌≤◌, ◌<◌, max, true, Option, Some, None, IsSome, List, [], ◌∷◌, ◌++◌, ◌⊎◌, inl, inr, take, drop, map, length}
 use Rattle.std.proofs.Common.{refl, sym, ap, ◌∙◌, subst, arith}
 use Rattle.std.specs.Prelude.{Err}
 use Rattle.std.specs.List.{AllByRecursion}
 use Rattle.std.specs.Ordering.{nat_cmp}
 use Rattle.std.specs.declared.cmp.Ordering.TheVariants.{Less}
 use Rattle.std.specs.Cmp.Lexicographic.{slice_cmp}
+use Rattle.std.proofs.lemmas.Bool.{cases_eq}
 use Rattle.std.proofs.lemmas.List.{take-map, drop-map}
 use Rattle.reg_names.specs.declared.TheConstants.{KEY_NAME_LIMIT}
 use Rattle.reg_arena.proofs.FreeList.FreeListTake.{times-append}
@@ -26,30 +27,32 @@ use Rattle.reg_shape.specs.Internal.Grafts.{IsShape, IsGrafted, IsRecounted, han
 use Rattle.reg_shape.specs.PathLookup.{key_offset_at, subkey_named}
 use Rattle.reg_shape.proofs.Frame.WrittenFrame.{same-held}
 use Rattle.reg_shape.proofs.Walking.WalkRefinement.{IsLooked}
-use Rattle.reg_shape.proofs.Wholeness.ShapeRecords.{shares-own}
+use Rattle.reg_shape.proofs.Wholeness.ShapeRecords.{all-at, shares-own}
 use Rattle.reg_shape.proofs.Graft.ForestInsert.{total-hang}
+use Rattle.reg_shape.proofs.Graft.GraftOfExchange.{recounted-same}
 use Rattle.reg_shape.proofs.Graft.ForestInsertFits.{all-before, all-behind, all-mapped, fits-hung, stands-hung}
 use Rattle.reg_index.specs.Subkeys.{AreSubkeys, IsIndexFor, Moves, names_in, name_at, name_or_none, entry_for, with_one, own, taken}
 use Rattle.reg_index.proofs.RefinementOfSubkeys.{IsSingle, index-entries}
+use Rattle.reg_index.proofs.SubkeysFrame.{times-not}
 use Rattle.reg_tree.specs.Internal.KeyNodeChanges.{Notes, Recounts, noted_subkeys, raised}
 use Rattle.reg_tree.specs.Internal.TreeInvariant.{rooted}
 use Rattle.reg_tree.proofs.Invariant.CellReadings.{key-exists, security-exists, is_some_of}
 use Rattle.reg_tree.proofs.Invariant.OwnCells.{own-parts}
 use Rattle.reg_tree.proofs.InsertKey.MadeKeyRecord.{made_record, made_node, made-owns, made-shares}
 use Rattle.reg_tree.proofs.InsertKey.ParentReindexed.{owned-list, reindexed, owned-reindexed, shared-reindexed}
-use Rattle.reg_tree.proofs.Invariant.UntouchedCells.{there-is, written-allocated}
+use Rattle.reg_tree.proofs.Invariant.UntouchedCells.{there-is, times-one, written-allocated}
 use Rattle.reg_tree.proofs.Invariant.KeyOfShape as keyed
 use Rattle.reg_tree.proofs.InsertKey.InsertKeyFrame.{name_of_head}
 use Rattle.reg_tree.proofs.InsertKey.InsertKeyCells as cells
 
-module _ (h0 h1 h2 h3 h4 : Heap) (root : ℕ) (keys : Branch Node) (first : ℕ) (p : Path) (parent : ℕ)
+module _ (h0 h1 h2 h3 h4 : Heap) (root : ℕ) (keys : Branch Node) (ring : List ℕ) (p : Path) (parent : ℕ)
     (plan : Option ℕ) (list_cell key : ℕ) (left : List ℕ)
-    (w : IsShape h0 root keys first [] (taken plan list_cell ++ key ∷ left)) (unrooted : total_of rooted keys ≡ 0) (at : key_offset_at h0 root p ≡ Some parent) where
+    (w : IsShape h0 root keys ring (taken plan list_cell ++ key ∷ left)) (unrooted : total_of rooted keys ≡ 0) (at : key_offset_at h0 root p ≡ Some parent) where
   abbrev spare : List ℕ
   spare = taken plan list_cell ++ key ∷ left
 
   abbrev was : Branch Node
-  was = keyed.branch h0 root keys first [] spare w p parent at
+  was = keyed.branch h0 root keys ring spare w p parent at
 
   abbrev node : Node
   node = was.node
@@ -61,25 +64,25 @@ module _ (h0 h1 h2 h3 h4 : Heap) (root : ℕ) (keys : Branch Node) (first : ℕ)
   entries = entries_of node.index
 
   abbrev looked : IsLooked h0 was.offset node
-  looked = cells.looked h0 h1 h2 h3 h4 root keys first p parent plan list_cell key left w unrooted at
+  looked = cells.looked h0 h1 h2 h3 h4 root keys ring p parent plan list_cell key left w unrooted at
 
   abbrev seen : IsSeen h0 root was.offset node
-  seen = cells.seen h0 h1 h2 h3 h4 root keys first p parent plan list_cell key left w unrooted at
+  seen = cells.seen h0 h1 h2 h3 h4 root keys ring p parent plan list_cell key left w unrooted at
 
   offset : was.offset ≡ parent
-  offset = cells.offset h0 h1 h2 h3 h4 root keys first p parent plan list_cell key left w unrooted at
+  offset = cells.offset h0 h1 h2 h3 h4 root keys ring p parent plan list_cell key left w unrooted at
 
   single : IsSingle node.index
-  single = cells.single h0 h1 h2 h3 h4 root keys first p parent plan list_cell key left w unrooted at
+  single = cells.single h0 h1 h2 h3 h4 root keys ring p parent plan list_cell key left w unrooted at
 
-  security_is : above.fields.security ≡ first
-  security_is = cells.security_is h0 h1 h2 h3 h4 root keys first p parent plan list_cell key left w unrooted at
+  security-ringed : 0 < times above.fields.security ring
+  security-ringed = cells.security-ringed h0 h1 h2 h3 h4 root keys ring p parent plan list_cell key left w unrooted at
 
   abbrev stands0 : StandsIn h0 root was
-  stands0 = keyed.stands h0 root keys first [] spare w p parent at
+  stands0 = keyed.stands h0 root keys ring spare w p parent at
 
   names0 : names_in h0 entries ≡ map name_of_head (heads was.below)
-  names0 = cells.names0 h0 h1 h2 h3 h4 root keys first p parent plan list_cell key left w unrooted at
+  names0 = cells.names0 h0 h1 h2 h3 h4 root keys ring p parent plan list_cell key left w unrooted at
 
   abbrev K : ℕ → ℕ
   K z = is_own z (record { kind = Key; offset = was.offset })
@@ -88,44 +91,41 @@ module _ (h0 h1 h2 h3 h4 : Heap) (root : ℕ) (keys : Branch Node) (first : ℕ)
   old_list = own above.fields.subkeys above.fields.subkeys_list
 
   own-index : (z : ℕ) → owned z (index_cells node.index) ≡ times z old_list
-  own-index = cells.own-index h0 h1 h2 h3 h4 root keys first p parent plan list_cell key left w unrooted at
+  own-index = cells.own-index h0 h1 h2 h3 h4 root keys ring p parent plan list_cell key left w unrooted at
 
   budget : (z : ℕ) → ((K z + (owned z looked.class_cells + owned z looked.value_cells)) + (times z old_list + total (owns z) was.below)) +
-      (times z (first ∷ []) + (times z (taken plan list_cell) + (times z (key ∷ []) + times z left))) ≤ allocated h0 z
-  budget = cells.budget h0 h1 h2 h3 h4 root keys first p parent plan list_cell key left w unrooted at
+      (times z ring + (times z (taken plan list_cell) + (times z (key ∷ []) + times z left))) ≤ allocated h0 z
+  budget = cells.budget h0 h1 h2 h3 h4 root keys ring p parent plan list_cell key left w unrooted at
 
   one : (z : ℕ) → allocated h0 z ≤ 1
-  one = cells.one h0 h1 h2 h3 h4 root keys first p parent plan list_cell key left w unrooted at
+  one = cells.one h0 h1 h2 h3 h4 root keys ring p parent plan list_cell key left w unrooted at
 
   module _ (others1 : (z : ℕ) → z ≢ key → h1 z ≡ h0 z) (there1 : IsSome (h1 key)) where
     allocated1 : (z : ℕ) → allocated h1 z ≡ allocated h0 z
-    allocated1 = cells.allocated1 h0 h1 h2 h3 h4 root keys first p parent plan list_cell key left w unrooted at others1 there1
+    allocated1 = cells.allocated1 h0 h1 h2 h3 h4 root keys ring p parent plan list_cell key left w unrooted at others1 there1
 
     module _ (count1 list1 : ℕ) (moves : Moves h1 h2 (old_list ++ taken plan list_cell) (own count1 list1)) where
       before : (z : ℕ) → times z (old_list ++ taken plan list_cell) ≡ times z old_list + times z (taken plan list_cell)
-      before = cells.before h0 h1 h2 h3 h4 root keys first p parent plan list_cell key left w unrooted at others1 there1 count1 list1 moves
+      before = cells.before h0 h1 h2 h3 h4 root keys ring p parent plan list_cell key left w unrooted at others1 there1 count1 list1 moves
 
       abbrev P : ℕ
       P = was.offset
 
       P-then : key_at h2 P ≡ Some above
-      P-then = cells.P-then h0 h1 h2 h3 h4 root keys first p parent plan list_cell key left w unrooted at others1 there1 count1 list1 moves
+      P-then = cells.P-then h0 h1 h2 h3 h4 root keys ring p parent plan list_cell key left w unrooted at others1 there1 count1 list1 moves
 
       module _ (name : List ℕ) (moment : ℕ) (notes : Notes h2 h3 parent (noted_subkeys count1 list1 (length name) moment)) where
         its-notes : Notes h2 h3 was.offset (noted_subkeys count1 list1 (length name) moment)
-        its-notes = cells.its-notes h0 h1 h2 h3 h4 root keys first p parent plan list_cell key left w unrooted at others1 there1 count1 list1 moves name moment notes
+        its-notes = cells.its-notes h0 h1 h2 h3 h4 root keys ring p parent plan list_cell key left w unrooted at others1 there1 count1 list1 moves name moment notes
 
-        abbrev written : IsWrittenSecurity h0 first
-        written = cells.written h0 h1 h2 h3 h4 root keys first p parent plan list_cell key left w unrooted at others1 there1 count1 list1 moves name moment notes
+        abbrev written : IsWrittenSecurity h0 above.fields.security
+        written = cells.written h0 h1 h2 h3 h4 root keys ring p parent plan list_cell key left w unrooted at others1 there1 count1 list1 moves name moment notes
 
-        first-once : times first (first ∷ []) ≡ 1
-        first-once = cells.first-once h0 h1 h2 h3 h4 root keys first p parent plan list_cell key left w unrooted at others1 there1 count1 list1 moves name moment notes
+        security-calm : h3 above.fields.security ≡ h0 above.fields.security
+        security-calm = cells.security-calm h0 h1 h2 h3 h4 root keys ring p parent plan list_cell key left w unrooted at others1 there1 count1 list1 moves name moment notes
 
-        first-calm : h3 first ≡ h0 first
-        first-calm = cells.first-calm h0 h1 h2 h3 h4 root keys first p parent plan list_cell key left w unrooted at others1 there1 count1 list1 moves name moment notes
-
-        first-there : security_at h3 first ≡ Some written.security
-        first-there = cells.first-there h0 h1 h2 h3 h4 root keys first p parent plan list_cell key left w unrooted at others1 there1 count1 list1 moves name moment notes
+        security-there : security_at h3 above.fields.security ≡ Some written.security
+        security-there = cells.security-there h0 h1 h2 h3 h4 root keys ring p parent plan list_cell key left w unrooted at others1 there1 count1 list1 moves name moment notes
 
         module _ (index : ℕ) (good : is_key_name name ≡ true) (short : length name ≤ KEY_NAME_LIMIT)
             (key1 : key_at h1 key ≡ Some (made_record parent above.fields.security moment name)) (plain1 : IsPlainKey (held h1 key))
@@ -140,64 +140,64 @@ module _ (h0 h1 h2 h3 h4 : Heap) (root : ℕ) (keys : Branch Node) (first : ℕ)
           entries1 = with_one index (entry_for h1 key) entries
 
           new-list : (z : ℕ) → times z (own count1 list1) ≡ times z (list1 ∷ [])
-          new-list = cells.new-list h0 h1 h2 h3 h4 root keys first p parent plan list_cell key left w unrooted at others1 there1 count1 list1 moves
+          new-list = cells.new-list h0 h1 h2 h3 h4 root keys ring p parent plan list_cell key left w unrooted at others1 there1 count1 list1 moves
               name moment notes index good short key1 plain1 stands_at missing subkeys2 count_is users users_are recounts
 
-          its-recounts : Recounts h3 h4 first (λ n. users)
-          its-recounts = cells.its-recounts h0 h1 h2 h3 h4 root keys first p parent plan list_cell key left w unrooted at others1 there1 count1 list1
-              moves name moment notes index good short key1 plain1 stands_at missing subkeys2 count_is users users_are recounts
-
-          calm : (z : ℕ) → 0 < allocated h0 z → times z (key ∷ []) ≡ 0 → times z old_list ≡ 0 → times z (taken plan list_cell) ≡ 0 → K z ≡ 0 → times z (first ∷ []) ≡ 0 → h4 z ≡ h0 z
-          calm = cells.calm h0 h1 h2 h3 h4 root keys first p parent plan list_cell key left w unrooted at others1 there1 count1 list1 moves name
+          calm : (z : ℕ) → 0 < allocated h0 z → times z (key ∷ []) ≡ 0 → times z old_list ≡ 0 → times z (taken plan list_cell) ≡ 0 → K z ≡ 0 → times z ring ≡ 0 → h4 z ≡ h0 z
+          calm = cells.calm h0 h1 h2 h3 h4 root keys ring p parent plan list_cell key left w unrooted at others1 there1 count1 list1 moves name
               moment notes index good short key1 plain1 stands_at missing subkeys2 count_is users users_are recounts
 
+          calm-ring : (z : ℕ) → 0 < times z ring → z ≢ security → h4 z ≡ h0 z
+          calm-ring = cells.calm-ring h0 h1 h2 h3 h4 root keys ring p parent plan list_cell key left w unrooted at others1 there1 count1 list1
+              moves name moment notes index good short key1 plain1 stands_at missing subkeys2 count_is users users_are recounts
+
           calm-below : (z : ℕ) → 0 < total (owns z) was.below → h4 z ≡ h0 z
-          calm-below = cells.calm-below h0 h1 h2 h3 h4 root keys first p parent plan list_cell key left w unrooted at others1 there1 count1 list1
+          calm-below = cells.calm-below h0 h1 h2 h3 h4 root keys ring p parent plan list_cell key left w unrooted at others1 there1 count1 list1
               moves name moment notes index good short key1 plain1 stands_at missing subkeys2 count_is users users_are recounts
 
           pub calm-class : (z : ℕ) → 0 < owned z looked.class_cells → h4 z ≡ h0 z
-          calm-class = cells.calm-class h0 h1 h2 h3 h4 root keys first p parent plan list_cell key left w unrooted at others1 there1 count1 list1
+          calm-class = cells.calm-class h0 h1 h2 h3 h4 root keys ring p parent plan list_cell key left w unrooted at others1 there1 count1 list1
               moves name moment notes index good short key1 plain1 stands_at missing subkeys2 count_is users users_are recounts
 
           pub calm-values : (z : ℕ) → 0 < owned z looked.value_cells → h4 z ≡ h0 z
-          calm-values = cells.calm-values h0 h1 h2 h3 h4 root keys first p parent plan list_cell key left w unrooted at others1 there1 count1 list1
+          calm-values = cells.calm-values h0 h1 h2 h3 h4 root keys ring p parent plan list_cell key left w unrooted at others1 there1 count1 list1
               moves name moment notes index good short key1 plain1 stands_at missing subkeys2 count_is users users_are recounts
 
           abbrev new_above : KeyRecord
           new_above = noted_subkeys count1 list1 (length name) moment above
 
           key-noted : key_at h3 P ≡ Some new_above
-          key-noted = cells.key-noted h0 h1 h2 h3 h4 root keys first p parent plan list_cell key left w unrooted at others1 there1 count1 list1 moves
+          key-noted = cells.key-noted h0 h1 h2 h3 h4 root keys ring p parent plan list_cell key left w unrooted at others1 there1 count1 list1 moves
               name moment notes index good short key1 plain1 stands_at missing subkeys2 count_is users users_are recounts
 
           pub key-now : key_at h4 P ≡ Some new_above
-          key-now = cells.key-now h0 h1 h2 h3 h4 root keys first p parent plan list_cell key left w unrooted at others1 there1 count1 list1 moves
+          key-now = cells.key-now h0 h1 h2 h3 h4 root keys ring p parent plan list_cell key left w unrooted at others1 there1 count1 list1 moves
               name moment notes index good short key1 plain1 stands_at missing subkeys2 count_is users users_are recounts
 
           pub plain-now : IsPlainKey (held h4 P)
-          plain-now = cells.plain-now h0 h1 h2 h3 h4 root keys first p parent plan list_cell key left w unrooted at others1 there1 count1 list1 moves
+          plain-now = cells.plain-now h0 h1 h2 h3 h4 root keys ring p parent plan list_cell key left w unrooted at others1 there1 count1 list1 moves
               name moment notes index good short key1 plain1 stands_at missing subkeys2 count_is users users_are recounts
 
           abbrev made : Node
           made = made_node key (made_record parent security moment name)
 
           made-is : IsSeen h4 root key made
-          made-is = cells.made-is h0 h1 h2 h3 h4 root keys first p parent plan list_cell key left w unrooted at others1 there1 count1 list1 moves
+          made-is = cells.made-is h0 h1 h2 h3 h4 root keys ring p parent plan list_cell key left w unrooted at others1 there1 count1 list1 moves
               name moment notes index good short key1 plain1 stands_at missing subkeys2 count_is users users_are recounts
 
           pub subkeys4 : AreSubkeys h4 count1 list1 entries1
-          subkeys4 = cells.subkeys4 h0 h1 h2 h3 h4 root keys first p parent plan list_cell key left w unrooted at others1 there1 count1 list1 moves
+          subkeys4 = cells.subkeys4 h0 h1 h2 h3 h4 root keys ring p parent plan list_cell key left w unrooted at others1 there1 count1 list1 moves
               name moment notes index good short key1 plain1 stands_at missing subkeys2 count_is users users_are recounts
 
           abbrev now : Node
           now = reindexed h0 h4 root P node seen looked count1 list1 (length name) moment entries1 key-now plain-now calm-class calm-values subkeys4
 
           now-is : IsSeen h4 root P now
-          now-is = cells.now-is h0 h1 h2 h3 h4 root keys first p parent plan list_cell key left w unrooted at others1 there1 count1 list1 moves name
+          now-is = cells.now-is h0 h1 h2 h3 h4 root keys ring p parent plan list_cell key left w unrooted at others1 there1 count1 list1 moves name
               moment notes index good short key1 plain1 stands_at missing subkeys2 count_is users users_are recounts
 
           raised-is : raised above.fields.largest_subkey_name (2 * length name) % 65536 ≡ max (above.fields.largest_subkey_name % 65536) (2 * length name)
-          raised-is = cells.raised-is h0 h1 h2 h3 h4 root keys first p parent plan list_cell key left w unrooted at others1 there1 count1 list1 moves
+          raised-is = cells.raised-is h0 h1 h2 h3 h4 root keys ring p parent plan list_cell key left w unrooted at others1 there1 count1 list1 moves
               name moment notes index good short key1 plain1 stands_at missing subkeys2 count_is users users_are recounts
 
           ordered-before : AllByRecursion (λ (e : ℕ × Node). Precedes e.1.key.name name) (take index (heads was.below))
@@ -227,8 +227,8 @@ module _ (h0 h1 h2 h3 h4 : Heap) (root : ℕ) (keys : Branch Node) (first : ℕ)
 
           allocated-now : (z : ℕ) → allocated h4 z ≡ allocated h2 z
           allocated-now z =
-              written-allocated h3 h4 first its-recounts.others (security-exists h3 first (is_some_of _ _ first-there))
-              (security-exists h4 first (is_some_of _ _ (its-recounts.reads written.security first-there))) z
+              written-allocated h3 h4 security recounts.others (security-exists h3 security (is_some_of _ _ security-there))
+              (security-exists h4 security (is_some_of _ _ (recounts.reads written.security security-there))) z
               ∙ written-allocated h2 h3 P its-notes.others (key-exists h2 P (is_some_of _ _ P-then)) (key-exists h3 P (is_some_of _ _ key-noted)) z
 
           owned-now : (z : ℕ) → owned z (cells_of now) + times z old_list ≡ owned z (cells_of node) + times z (list1 ∷ [])
@@ -252,7 +252,7 @@ module _ (h0 h1 h2 h3 h4 : Heap) (root : ℕ) (keys : Branch Node) (first : ℕ)
               let s = times-append z (taken plan list_cell) (key ∷ left) in
               omega (arith, a, b, m, x, y, o, t, k, s)
 
-          same-now : (z : ℕ) → 0 < allocated h0 z → total_of (owns z) was ≡ 0 → times z spare ≡ 0 → times z (first ∷ []) ≡ 0 → h4 z ≡ h0 z
+          same-now : (z : ℕ) → 0 < allocated h0 z → total_of (owns z) was ≡ 0 → times z spare ≡ 0 → times z ring ≡ 0 → h4 z ≡ h0 z
           same-now z some none no_spare no_ring =
               let s = times-append z (taken plan list_cell) (key ∷ left) in
               let o = ap (λ (found : List Found). owned z (found ++ index_cells node.index)) looked.cells ∙ own-parts z P above looked.class_cells looked.value_cells node.index in
@@ -261,44 +261,47 @@ module _ (h0 h1 h2 h3 h4 : Heap) (root : ℕ) (keys : Branch Node) (first : ℕ)
 
           -- ---- securities
 
-          shares-now : (z : ℕ) → total_of (shares z) is ≡ total_of (shares z) was + times z (first ∷ [])
+          shares-now : (z : ℕ) → total_of (shares z) is ≡ total_of (shares z) was + times z (security ∷ [])
           shares-now z =
               let r = shared-reindexed h0 h4 root P node seen looked count1 list1 (length name) moment entries1 key-now plain-now calm-class calm-values subkeys4 single z in
               let t = total-hang (shares z) index key made was.below in
               let k = made-shares h4 key parent security moment name z in
-              let f = ap (λ s. times z (s ∷ [])) security_is in
-              omega (arith, r, t, k, f)
+              omega (arith, r, t, k)
 
-          named-first : (z : ℕ) → 0 < times z (first ∷ []) → 0 < total_of (shares z) was
-          named-first z l =
+          named-above : (z : ℕ) → 0 < times z (security ∷ []) → 0 < total_of (shares z) was
+          named-above z l =
               let own = shares-own h0 root P node seen.reads in
-              let same : above.fields.security ≡ z = security_is ∙ sym (there-is z first l) in
-              subst (λ s. 0 < total_of (shares s) was) same (omega (arith, own))
+              subst (λ s. 0 < total_of (shares s) was) (sym (there-is z security l)) (omega (arith, own))
 
-          recounted : (z : ℕ) → 0 < times z (first ∷ []) → IsRecounted h0 h4 (total_of (shares z) was) (total_of (shares z) is) z
-          recounted z l = subst (λ z. IsRecounted h0 h4 (total_of (shares z) was) (total_of (shares z) is) z) (sym (there-is z first l)) (record {
-            security = written.security;
-            count = users;
-            reads = written.reads;
-            now = its-recounts.reads written.security first-there;
-            plain = λ q. its-recounts.plain (subst IsPlainSecurity (sym (same-held h0 h3 first first-calm)) q);
-            counted = (let s = shares-now first in let o = first-once in
-                let u = users_are written.security (subst (λ s. security_at h0 s ≡ Some written.security) (sym security_is) written.reads) in
-                omega (arith, s, o, u));
-          })
+          -- the security counts one key more, and the others of the ring as many as before
+          recounted : (z : ℕ) → 0 < times z ring → IsRecounted h0 h4 (total_of (shares z) was) (total_of (shares z) is) z
+          recounted z l = by (cases_eq z security)
+            where
+              by : (z ≡ security) ⊎ (z ≢ security) → IsRecounted h0 h4 (total_of (shares z) was) (total_of (shares z) is) z
+              by (inl e) = subst (λ z. IsRecounted h0 h4 (total_of (shares z) was) (total_of (shares z) is) z) (sym e) (record {
+                security = written.security;
+                count = users;
+                reads = written.reads;
+                now = recounts.reads written.security security-there;
+                plain = λ q. recounts.plain (subst IsPlainSecurity (sym (same-held h0 h3 security security-calm)) q);
+                counted = (let s = shares-now security in let o = times-one security in let u = users_are written.security written.reads in omega (arith, s, o, u));
+              })
+              by (inr n) = recounted-same h0 h4 (total_of (shares z) was) (total_of (shares z) is) z (calm-ring z l n)
+                  (let s = shares-now z in let t = times-not z security [] (λ e. n (sym e)) refl in omega (arith, s, t))
+                  (all-at (IsWrittenSecurity h0) ring z w.closed.written l)
 
-          pub grafts : IsGrafted h0 h4 root was is first [] spare left
+          pub grafts : IsGrafted h0 h4 root was is ring spare left
           grafts = record {
             offset = refl;
             alike = record { name = refl; parent = refl; class_length = refl };
             stands = stands-now;
             count = count-now;
             same = same-now;
-            securities = λ z. ((λ l. (let s = shares-now z in by-share z (named-first z) (omega (arith, s, l)))), λ l. (let s = shares-now z in omega (arith, s, l)));
-            ring = recounted;
+            securities = λ z. ((λ l. (let s = shares-now z in by-share z (named-above z) (omega (arith, s, l)))), λ l. (let s = shares-now z in omega (arith, s, l)));
+            recounted = recounted;
           }
             where
-              by-share : (z : ℕ) → (0 < times z (first ∷ []) → 0 < total_of (shares z) was) → 0 < total_of (shares z) was + times z (first ∷ []) → 0 < total_of (shares z) was
+              by-share : (z : ℕ) → (0 < times z (security ∷ []) → 0 < total_of (shares z) was) → 0 < total_of (shares z) was + times z (security ∷ []) → 0 < total_of (shares z) was
               by-share z n l = cases (total_of (shares z) was) refl
                 where
                   cases : (k : ℕ) → total_of (shares z) was ≡ k → 0 < total_of (shares z) was

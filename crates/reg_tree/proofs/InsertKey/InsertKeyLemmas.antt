@@ -43,14 +43,14 @@ use Rattle.reg_tree.proofs.Invariant.KeyOfShape as keyed
 use Rattle.reg_tree.proofs.InsertKey.InsertKeyCells as cells
 use Rattle.reg_tree.proofs.InsertKey.InsertKeyGraft as grafting
 
-module _ (h0 h1 h2 h3 h4 : Heap) (root : ℕ) (keys : Branch Node) (first : ℕ) (p : Path) (parent : ℕ)
+module _ (h0 h1 h2 h3 h4 : Heap) (root : ℕ) (keys : Branch Node) (ring : List ℕ) (p : Path) (parent : ℕ)
     (plan : Option ℕ) (list_cell key : ℕ) (left : List ℕ)
-    (w : IsShape h0 root keys first [] (taken plan list_cell ++ key ∷ left)) (unrooted : total_of rooted keys ≡ 0) (at : key_offset_at h0 root p ≡ Some parent) where
+    (w : IsShape h0 root keys ring (taken plan list_cell ++ key ∷ left)) (unrooted : total_of rooted keys ≡ 0) (at : key_offset_at h0 root p ≡ Some parent) where
   abbrev spare : List ℕ
   spare = taken plan list_cell ++ key ∷ left
 
   abbrev was : Branch Node
-  was = keyed.branch h0 root keys first [] spare w p parent at
+  was = keyed.branch h0 root keys ring spare w p parent at
 
   abbrev node : Node
   node = was.node
@@ -62,16 +62,16 @@ module _ (h0 h1 h2 h3 h4 : Heap) (root : ℕ) (keys : Branch Node) (first : ℕ)
   entries = entries_of node.index
 
   abbrev looked : IsLooked h0 was.offset node
-  looked = cells.looked h0 h1 h2 h3 h4 root keys first p parent plan list_cell key left w unrooted at
+  looked = cells.looked h0 h1 h2 h3 h4 root keys ring p parent plan list_cell key left w unrooted at
 
   abbrev seen : IsSeen h0 root was.offset node
-  seen = cells.seen h0 h1 h2 h3 h4 root keys first p parent plan list_cell key left w unrooted at
+  seen = cells.seen h0 h1 h2 h3 h4 root keys ring p parent plan list_cell key left w unrooted at
 
   offset : was.offset ≡ parent
-  offset = cells.offset h0 h1 h2 h3 h4 root keys first p parent plan list_cell key left w unrooted at
+  offset = cells.offset h0 h1 h2 h3 h4 root keys ring p parent plan list_cell key left w unrooted at
 
   abbrev stands0 : StandsIn h0 root was
-  stands0 = keyed.stands h0 root keys first [] spare w p parent at
+  stands0 = keyed.stands h0 root keys ring spare w p parent at
 
   abbrev old_list : List ℕ
   old_list = own above.fields.subkeys above.fields.subkeys_list
@@ -95,37 +95,37 @@ module _ (h0 h1 h2 h3 h4 : Heap) (root : ℕ) (keys : Branch Node) (first : ℕ)
           entries1 = with_one index (entry_for h1 key) entries
 
           pub calm-class : (z : ℕ) → 0 < owned z looked.class_cells → h4 z ≡ h0 z
-          calm-class = cells.calm-class h0 h1 h2 h3 h4 root keys first p parent plan list_cell key left w unrooted at others1 there1 count1 list1
+          calm-class = cells.calm-class h0 h1 h2 h3 h4 root keys ring p parent plan list_cell key left w unrooted at others1 there1 count1 list1
               moves name moment notes index good short key1 plain1 stands_at missing subkeys2 count_is users users_are recounts
 
           pub calm-values : (z : ℕ) → 0 < owned z looked.value_cells → h4 z ≡ h0 z
-          calm-values = cells.calm-values h0 h1 h2 h3 h4 root keys first p parent plan list_cell key left w unrooted at others1 there1 count1 list1
+          calm-values = cells.calm-values h0 h1 h2 h3 h4 root keys ring p parent plan list_cell key left w unrooted at others1 there1 count1 list1
               moves name moment notes index good short key1 plain1 stands_at missing subkeys2 count_is users users_are recounts
 
           abbrev new_above : KeyRecord
           new_above = noted_subkeys count1 list1 (length name) moment above
 
           pub key-now : key_at h4 P ≡ Some new_above
-          key-now = cells.key-now h0 h1 h2 h3 h4 root keys first p parent plan list_cell key left w unrooted at others1 there1 count1 list1 moves
+          key-now = cells.key-now h0 h1 h2 h3 h4 root keys ring p parent plan list_cell key left w unrooted at others1 there1 count1 list1 moves
               name moment notes index good short key1 plain1 stands_at missing subkeys2 count_is users users_are recounts
 
           pub plain-now : IsPlainKey (held h4 P)
-          plain-now = cells.plain-now h0 h1 h2 h3 h4 root keys first p parent plan list_cell key left w unrooted at others1 there1 count1 list1 moves
+          plain-now = cells.plain-now h0 h1 h2 h3 h4 root keys ring p parent plan list_cell key left w unrooted at others1 there1 count1 list1 moves
               name moment notes index good short key1 plain1 stands_at missing subkeys2 count_is users users_are recounts
 
           key-calm : h4 key ≡ h1 key
-          key-calm = cells.key-calm h0 h1 h2 h3 h4 root keys first p parent plan list_cell key left w unrooted at others1 there1 count1 list1 moves
+          key-calm = cells.key-calm h0 h1 h2 h3 h4 root keys ring p parent plan list_cell key left w unrooted at others1 there1 count1 list1 moves
               name moment notes index good short key1 plain1 stands_at missing subkeys2 count_is users users_are recounts
 
           abbrev made : Node
           made = made_node key (made_record parent security moment name)
 
           made-is : IsSeen h4 root key made
-          made-is = cells.made-is h0 h1 h2 h3 h4 root keys first p parent plan list_cell key left w unrooted at others1 there1 count1 list1 moves
+          made-is = cells.made-is h0 h1 h2 h3 h4 root keys ring p parent plan list_cell key left w unrooted at others1 there1 count1 list1 moves
               name moment notes index good short key1 plain1 stands_at missing subkeys2 count_is users users_are recounts
 
           pub subkeys4 : AreSubkeys h4 count1 list1 entries1
-          subkeys4 = cells.subkeys4 h0 h1 h2 h3 h4 root keys first p parent plan list_cell key left w unrooted at others1 there1 count1 list1 moves
+          subkeys4 = cells.subkeys4 h0 h1 h2 h3 h4 root keys ring p parent plan list_cell key left w unrooted at others1 there1 count1 list1 moves
               name moment notes index good short key1 plain1 stands_at missing subkeys2 count_is users users_are recounts
 
           abbrev now : Node
@@ -134,12 +134,12 @@ module _ (h0 h1 h2 h3 h4 : Heap) (root : ℕ) (keys : Branch Node) (first : ℕ)
           abbrev is : Branch Node
           is = record { offset = P; node = now; below = hang index key made was.below }
 
-          grafts : IsGrafted h0 h4 root was is first [] spare left
-          grafts = grafting.grafts h0 h1 h2 h3 h4 root keys first p parent plan list_cell key left w unrooted at others1 there1 count1 list1 moves
+          grafts : IsGrafted h0 h4 root was is ring spare left
+          grafts = grafting.grafts h0 h1 h2 h3 h4 root keys ring p parent plan list_cell key left w unrooted at others1 there1 count1 list1 moves
               name moment notes index good short key1 plain1 stands_at missing subkeys2 count_is users users_are recounts
 
           spare-made : (z : ℕ) → 0 < times z left → h4 z ≡ h0 z
-          spare-made = grafting.spare-made h0 h1 h2 h3 h4 root keys first p parent plan list_cell key left w unrooted at others1 there1 count1 list1
+          spare-made = grafting.spare-made h0 h1 h2 h3 h4 root keys ring p parent plan list_cell key left w unrooted at others1 there1 count1 list1
               moves name moment notes index good short key1 plain1 stands_at missing subkeys2 count_is users users_are recounts
 
           -- ---- what stands then
@@ -147,13 +147,13 @@ module _ (h0 h1 h2 h3 h4 : Heap) (root : ℕ) (keys : Branch Node) (first : ℕ)
           abbrev keys_now : Branch Node
           keys_now = graft_at p now (hang index key made was.below) keys
 
-          pub shape-made : length p + 1 ≤ PATH_LIMIT → IsShape h4 root keys_now first [] left
-          shape-made deep = grafted h0 h4 root p keys was is first [] spare left (keyed.branch_is h0 root keys first [] spare w p parent at) grafts
-              (deep-hung p keys was index key made (keyed.branch_is h0 root keys first [] spare w p parent at) w.shallow deep) w
+          pub shape-made : length p + 1 ≤ PATH_LIMIT → IsShape h4 root keys_now ring left
+          shape-made deep = grafted h0 h4 root p keys was is ring spare left (keyed.branch_is h0 root keys ring spare w p parent at) grafts
+              (deep-hung p keys was index key made (keyed.branch_is h0 root keys ring spare w p parent at) w.shallow deep) w
 
           pub unrooted-made : total_of rooted keys_now ≡ 0
           unrooted-made =
-              let g = graft-total rooted was now (hang index key made was.below) p keys (keyed.branch_is h0 root keys first [] spare w p parent at) in
+              let g = graft-total rooted was now (hang index key made was.below) p keys (keyed.branch_is h0 root keys ring spare w p parent at) in
               let t = total-hang rooted index key made was.below in
               let n = single-rooted count1 list1 entries1 in
               omega (arith, g, t, n, unrooted)
@@ -177,18 +177,18 @@ module _ (h0 h1 h2 h3 h4 : Heap) (root : ℕ) (keys : Branch Node) (first : ℕ)
           rec_above = rec_of node (descriptor_in h0 security)
 
           above-there : get (tree_of h0 keys) p ≡ Some rec_above
-          above-there = keyed.rec_there h0 root keys first [] spare w p parent at
+          above-there = keyed.rec_there h0 root keys ring spare w p parent at
 
           pub tree-made : tree_of h4 keys_now ≡ with_key (tree_of h0 keys) p name moment
           tree-made =
-              tree-hung h0 h4 root p keys was is first [] spare left (keyed.branch_is h0 root keys first [] spare w p parent at) grafts w index key made (folded name) refl refl free
+              tree-hung h0 h4 root p keys was is ring spare left (keyed.branch_is h0 root keys ring spare w p parent at) grafts w index key made (folded name) refl refl free
               ∙ (ap (λ (t : Tree). insert t (p ++ folded name ∷ []) (made_key name (descriptor_in h0 security) moment)) (sym (edited-at (tree_of h0 keys) p rec_above (at_time moment) above-there))
               ∙ ap (λ (o : Option Rec). insert (edited (tree_of h0 keys) p (at_time moment)) (p ++ folded name ∷ []) (made_key name (descriptor_of o) moment)) (sym above-there))
 
           pub offsets-made : (q : Path) → key_offset_at h4 root q ≡ cond (same_path q (p ++ folded name ∷ [])) (Some key) (key_offset_at h0 root q)
-          offsets-made = offsets-hung h0 h4 root p keys was is first [] spare left (keyed.branch_is h0 root keys first [] spare w p parent at) grafts w index key made (folded name) refl refl free
+          offsets-made = offsets-hung h0 h4 root p keys was is ring spare left (keyed.branch_is h0 root keys ring spare w p parent at) grafts w index key made (folded name) refl refl free
 
-          pub grows : length p < PATH_LIMIT → Grows h0 h4 root p keys first key left name moment
+          pub grows : length p < PATH_LIMIT → Grows h0 h4 root p keys ring key left name moment
           unfolding insert_size
           grows deep = record {
             now = keys_now;

@@ -15,9 +15,11 @@ use Rattle.reg_records.specs.KeyNodes.{KeyRecord, key_at, IsPlainKey}
 use Rattle.reg_records.specs.KeySecurities.{KeySecurityRecord, security_at}
 use Rattle.reg_records.specs.SubkeyLists.{Entry}
 use Rattle.reg_shape.specs.Nodes.{Node, entries_of}
+use Rattle.reg_shape.specs.Written.{IsWrittenSecurity}
 use Rattle.reg_shape.specs.PathLookup.{subkey_named}
 use Rattle.reg_records.proofs.KeyNodeCodec.{key_at-same}
 use Rattle.reg_shape.proofs.Frame.WrittenFrame.{same-held}
+use Rattle.reg_shape.proofs.Wholeness.ShapeRecords.{all-at}
 use Rattle.reg_index.specs.Subkeys.{AreSubkeys, IsIndexFor, IsReady, Moves, names_in, name_at, name_or_none, entry_for, with_one, own, taken, insert_size}
 use Rattle.reg_tree.specs.Internal.KeyNodeChanges.{Notes, Recounts, noted_subkeys, made_fields}
 use Rattle.reg_tree.specs.Internal.SpareCells.{planned, IsGrowing, MayGrow, Grows}
@@ -44,13 +46,13 @@ module _ (bytes : List ℕ) (parent list_cell key : ℕ) (name left : List ℕ) 
   spare = taken plan list_cell ++ key ∷ left
 
   abbrev pub node : Node
-  node = (keyed.branch h g.root g.keys g.first [] spare g.shape g.path parent g.at).node
+  node = (keyed.branch h g.root g.keys g.ring spare g.shape g.path parent g.at).node
 
   abbrev pub entries : List Entry
   entries = entries_of node.index
 
   pub key_is : key_at h parent ≡ Some node.key
-  key_is = keyed.key_is h g.root g.keys g.first [] spare g.shape g.path parent g.at
+  key_is = keyed.key_is h g.root g.keys g.ring spare g.shape g.path parent g.at
 
   pub key_there : IsSome (key_at h parent)
   key_there = is_some_of _ _ key_is
@@ -58,8 +60,8 @@ module _ (bytes : List ℕ) (parent list_cell key : ℕ) (name left : List ℕ) 
   pub plan_is : plan ≡ insert_size h node.key.fields.subkeys node.key.fields.subkeys_list
   plan_is = ap (option_and_then (λ (k : KeyRecord). insert_size h k.fields.subkeys k.fields.subkeys_list)) key_is
 
-  security_is : node.key.fields.security ≡ g.first
-  security_is = frame.security_is h h h h h g.root g.keys g.first g.path parent plan list_cell key left g.shape g.unrooted g.at
+  security_ringed : 0 < times node.key.fields.security g.ring
+  security_ringed = frame.security-ringed h h h h h g.root g.keys g.ring g.path parent plan list_cell key left g.shape g.unrooted g.at
 
   -- ---- by the fields that were read
 
@@ -67,19 +69,19 @@ module _ (bytes : List ℕ) (parent list_cell key : ℕ) (name left : List ℕ) 
     pub fields_are : node.key.fields ≡ fields
     fields_are = sym (are node.key key_is)
 
-    first_there : security_at h g.first ≡ Some g.shape.ring.written.0.security
-    first_there = g.shape.ring.written.0.reads
+    its_security : IsWrittenSecurity h node.key.fields.security
+    its_security = all-at (IsWrittenSecurity h) g.ring node.key.fields.security g.shape.closed.written security_ringed
 
     pub security_there : IsSome (security_at h fields.security)
-    security_there = subst (λ (f : KeyFields). IsSome (security_at h f.security)) fields_are (subst (λ s. IsSome (security_at h s)) (sym security_is) (is_some_of _ _ first_there))
+    security_there = subst (λ (f : KeyFields). IsSome (security_at h f.security)) fields_are (is_some_of _ _ its_security.reads)
 
     pub users_few : (s : KeySecurityRecord) → security_at h fields.security ≡ Some s → s.fields.count < length bytes
     users_few = subst (λ (f : KeyFields). (s : KeySecurityRecord) → security_at h f.security ≡ Some s → s.fields.count < length bytes) fields_are
-        (subst (λ k. (s : KeySecurityRecord) → security_at h k ≡ Some s → s.fields.count < length bytes) (sym security_is) (count-few bytes g.root g.keys g.first [] spare g.shape g.unrooted))
+        (count-few bytes g.root g.keys g.ring spare g.shape g.unrooted node.key.fields.security security_ringed)
 
     own_subkeys : AreSubkeys h node.key.fields.subkeys node.key.fields.subkeys_list entries
-    own_subkeys = branch-subkeys h g.root (keyed.branch h g.root g.keys g.first [] spare g.shape g.path parent g.at) (keyed.stands h g.root g.keys g.first [] spare g.shape g.path parent g.at)
-        (single-of node.index (keyed.unrooted_here h g.root g.keys g.first [] spare g.shape g.path parent g.at g.unrooted))
+    own_subkeys = branch-subkeys h g.root (keyed.branch h g.root g.keys g.ring spare g.shape g.path parent g.at) (keyed.stands h g.root g.keys g.ring spare g.shape g.path parent g.at)
+        (single-of node.index (keyed.unrooted_here h g.root g.keys g.ring spare g.shape g.path parent g.at g.unrooted))
 
     pub subkeys0 : AreSubkeys h fields.subkeys fields.subkeys_list entries
     subkeys0 = subst (λ (f : KeyFields). AreSubkeys h f.subkeys f.subkeys_list entries) fields_are own_subkeys
@@ -90,9 +92,9 @@ module _ (bytes : List ℕ) (parent list_cell key : ℕ) (name left : List ℕ) 
     -- the name is none of a subkey's
     pub not_found : (index : ℕ) → ((es : List Entry) → AreSubkeys h fields.subkeys fields.subkeys_list es → IsIndexFor (names_in h es) (folded name) (Ok index)) → ⊥
     not_found index find =
-        let b = keyed.branch h g.root g.keys g.first [] spare g.shape g.path parent g.at in
-        let found = named-ok h g.root b (keyed.stands h g.root g.keys g.first [] spare g.shape g.path parent g.at) (folded name) index subkeys0.rising (find entries subkeys0) in
-        let none = subst (λ o. subkey_named h (folded name) o ≡ None) (sym (keyed.offset h g.root g.keys g.first [] spare g.shape g.path parent g.at)) m.missing in
+        let b = keyed.branch h g.root g.keys g.ring spare g.shape g.path parent g.at in
+        let found = named-ok h g.root b (keyed.stands h g.root g.keys g.ring spare g.shape g.path parent g.at) (folded name) index subkeys0.rising (find entries subkeys0) in
+        let none = subst (λ o. subkey_named h (folded name) o ≡ None) (sym (keyed.offset h g.root g.keys g.ring spare g.shape g.path parent g.at)) m.missing in
         none-some _ (sym none ∙ found)
 
     pub few_subkeys : fields.subkeys < LEAF_LIMIT
@@ -103,11 +105,11 @@ module _ (bytes : List ℕ) (parent list_cell key : ℕ) (name left : List ℕ) 
     module _ (h1 : Heap) (others1 : (z : ℕ) → z ≢ key → h1 z ≡ h z) (there1 : IsSome (h1 key)) (new_fields : KeyFields)
         (key1 : key_at h1 key ≡ Some (record { fields = new_fields; name = name })) where
       calm1 : (z : ℕ) → times z (key ∷ []) ≡ 0 → h1 z ≡ h z
-      calm1 = frame.calm1 h h1 h1 h1 h1 g.root g.keys g.first g.path parent plan list_cell key left g.shape g.unrooted g.at others1 there1
+      calm1 = frame.calm1 h h1 h1 h1 h1 g.root g.keys g.ring g.path parent plan list_cell key left g.shape g.unrooted g.at others1 there1
 
       pub subkeys1 : AreSubkeys h1 fields.subkeys fields.subkeys_list entries
       subkeys1 = subst (λ (f : KeyFields). AreSubkeys h1 f.subkeys f.subkeys_list entries) fields_are
-          (frame.subkeys1 h h1 h1 h1 h1 g.root g.keys g.first g.path parent plan list_cell key left g.shape g.unrooted g.at others1 there1)
+          (frame.subkeys1 h h1 h1 h1 h1 g.root g.keys g.ring g.path parent plan list_cell key left g.shape g.unrooted g.at others1 there1)
 
       its_name : name_at h1 key ≡ name
       its_name = ap name_or_none key1
@@ -119,7 +121,7 @@ module _ (bytes : List ℕ) (parent list_cell key : ℕ) (name left : List ℕ) 
         subkeys1,
         subst (λ n. IsIndexFor (names_in h1 entries) (folded n) (Err index)) (sym its_name)
             (subst (λ ns. IsIndexFor ns (folded name) (Err index))
-            (sym (frame.names1 h h1 h1 h1 h1 g.root g.keys g.first g.path parent plan list_cell key left g.shape g.unrooted g.at others1 there1))
+            (sym (frame.names1 h h1 h1 h1 h1 g.root g.keys g.ring g.path parent plan list_cell key left g.shape g.unrooted g.at others1 there1))
             (find entries subkeys0)),
       )
 
@@ -131,8 +133,8 @@ module _ (bytes : List ℕ) (parent list_cell key : ℕ) (name left : List ℕ) 
       unfolding insert_size
       same_size zero list a b = refl
       same_size (suc count) list a b =
-          let budget = frame.budget h h1 h1 h1 h1 g.root g.keys g.first g.path parent plan list_cell key left g.shape g.unrooted g.at list in
-          let one = frame.one h h1 h1 h1 h1 g.root g.keys g.first g.path parent plan list_cell key left g.shape g.unrooted g.at list in
+          let budget = frame.budget h h1 h1 h1 h1 g.root g.keys g.ring g.path parent plan list_cell key left g.shape g.unrooted g.at list in
+          let one = frame.one h h1 h1 h1 h1 g.root g.keys g.ring g.path parent plan list_cell key left g.shape g.unrooted g.at list in
           let t : times list (own node.key.fields.subkeys node.key.fields.subkeys_list) ≡ 1 =
           ap (λ n. times list (own n node.key.fields.subkeys_list)) (sym a) ∙ (ap (λ o. times list (o ∷ [])) (sym b) ∙ times-one list) in
           ap (λ (bytes : List ℕ). cond (nat_le (4 + 8 * suc (suc count)) (length bytes)) None (Some (8 + 8 * suc (suc count)))) (same-held h h1 list (calm1 list (omega (arith, budget, one, t))))
@@ -145,8 +147,8 @@ module _ (bytes : List ℕ) (parent list_cell key : ℕ) (name left : List ℕ) 
       ready-same : (o : Option ℕ) → o ≡ plan → IsReady h o list_cell → IsReady h1 o list_cell
       ready-same None e r = r
       ready-same (Some size) e r =
-          let budget = frame.budget h h1 h1 h1 h1 g.root g.keys g.first g.path parent plan list_cell key left g.shape g.unrooted g.at list_cell in
-          let one = frame.one h h1 h1 h1 h1 g.root g.keys g.first g.path parent plan list_cell key left g.shape g.unrooted g.at list_cell in
+          let budget = frame.budget h h1 h1 h1 h1 g.root g.keys g.ring g.path parent plan list_cell key left g.shape g.unrooted g.at list_cell in
+          let one = frame.one h h1 h1 h1 h1 g.root g.keys g.ring g.path parent plan list_cell key left g.shape g.unrooted g.at list_cell in
           let t : times list_cell (taken plan list_cell) ≡ 1 = ap (λ o. times list_cell (taken o list_cell)) (sym e) ∙ times-one list_cell in
           let calm = calm1 list_cell (omega (arith, budget, one, t)) in (
             subst IsSome (sym calm) r.0,
@@ -169,16 +171,15 @@ module _ (bytes : List ℕ) (parent list_cell key : ℕ) (name left : List ℕ) 
 
         pub parent2 : IsSome (key_at h2 parent)
         parent2 =
-            subst (λ o. IsSome (key_at h2 o)) (keyed.offset h g.root g.keys g.first [] spare g.shape g.path parent g.at)
-            (is_some_of _ _ (frame.P-then h h1 h2 h2 h2 g.root g.keys g.first g.path parent plan list_cell key left g.shape g.unrooted g.at others1 there1 count1 list1 moved))
+            subst (λ o. IsSome (key_at h2 o)) (keyed.offset h g.root g.keys g.ring spare g.shape g.path parent g.at)
+            (is_some_of _ _ (frame.P-then h h1 h2 h2 h2 g.root g.keys g.ring g.path parent plan list_cell key left g.shape g.unrooted g.at others1 there1 count1 list1 moved))
 
         module _ (h3 : Heap) (moment : ℕ) (notes : Notes h2 h3 parent (noted_subkeys count1 list1 (length name) moment)) where
           pub security3 : IsSome (security_at h3 fields.security)
           security3 =
               subst (λ (f : KeyFields). IsSome (security_at h3 f.security)) fields_are
-              (subst (λ s. IsSome (security_at h3 s)) (sym security_is)
-              (is_some_of _ _ (frame.first-there h h1 h2 h3 h3 g.root g.keys g.first g.path parent plan list_cell key left g.shape g.unrooted g.at
-              others1 there1 count1 list1 moved name moment notes)))
+              (is_some_of _ _ (frame.security-there h h1 h2 h3 h3 g.root g.keys g.ring g.path parent plan list_cell key left g.shape g.unrooted g.at
+              others1 there1 count1 list1 moved name moment notes))
 
           module _ (h4 : Heap) (good : is_key_name name ≡ true) (short : length name ≤ KEY_NAME_LIMIT) (made_so : new_fields ≡ made_fields parent fields.security moment)
               (plain1 : IsPlainKey (held h1 key))
@@ -186,9 +187,9 @@ module _ (bytes : List ℕ) (parent list_cell key : ℕ) (name left : List ℕ) 
               (subkeys2 : (es : List Entry) → AreSubkeys h1 fields.subkeys fields.subkeys_list es →
               AreSubkeys h2 count1 list1 (with_one index (entry_for h1 key) es)) (count2 : count1 ≡ fields.subkeys + 1)
               (users : ℕ) (users_are : (s : KeySecurityRecord) → security_at h fields.security ≡ Some s → users ≡ s.fields.count + 1) (recounts : Recounts h3 h4 fields.security (λ n. users)) where
-            pub grown : Grows h h4 g.root g.path g.keys g.first key left name moment
+            pub grown : Grows h h4 g.root g.path g.keys g.ring key left name moment
             grown =
-                made.grows h h1 h2 h3 h4 g.root g.keys g.first g.path parent plan list_cell key left g.shape g.unrooted g.at others1 there1 count1 list1 moved name moment notes index good short
+                made.grows h h1 h2 h3 h4 g.root g.keys g.ring g.path parent plan list_cell key left g.shape g.unrooted g.at others1 there1 count1 list1 moved name moment notes index good short
                 (key1 ∙ ap (λ (f : KeyFields). Some (record { fields = f; name = name })) (made_so ∙ ap (λ (f : KeyFields). made_fields parent f.security moment) (sym fields_are)))
                 plain1 (find entries subkeys0) m.missing (subkeys2 entries subkeys1) (count2 ∙ ap (λ (f : KeyFields). f.subkeys + 1) (sym fields_are)) users
                 (subst (λ (f : KeyFields). (s : KeySecurityRecord) → security_at h f.security ≡ Some s → users ≡ s.fields.count + 1) (sym fields_are) users_are)

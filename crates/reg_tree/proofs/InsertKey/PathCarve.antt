@@ -39,7 +39,7 @@ use Rattle.reg_tree.proofs.InsertKey.SpareCellTaken.{growing_there, growing_subk
 
 -- a key of a tree without spare cells
 pub growing : (bytes : List ℕ) (key : ℕ) → IsHere bytes key → IsGrowing bytes key []
-growing bytes key t = record { root = t.root; path = t.path; keys = t.holds.keys; first = t.holds.first; shape = t.holds.shape; unrooted = t.holds.unrooted; at = t.at }
+growing bytes key t = record { root = t.root; path = t.path; keys = t.holds.keys; ring = t.holds.ring; shape = t.holds.shape; unrooted = t.holds.unrooted; at = t.at }
 
 pub parent_there : (bytes : List ℕ) (key : ℕ) → IsHere bytes key → IsSome (key_at (cell_at bytes) key)
 parent_there bytes key t = growing_there bytes key [] (growing bytes key t)

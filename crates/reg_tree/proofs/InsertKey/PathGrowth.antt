@@ -94,8 +94,8 @@ module _ (bytes : List ℕ) (key : ℕ) (spare : List ℕ) (g : IsGrowing bytes 
       ∙ (offset-more h key (folded name) [] ∙ ap (option_and_then (λ c. key_offset_at h c [])) missing))
 
   pub no_child : has_child (tree_of h g.keys) g.path name ≡ false
-  no_child = ap is_some (keyed.rec_in h g.root g.keys g.first [] spare g.shape (child_path g.path name) ∙
-      by (branch_at (child_path g.path name) g.keys) (sym (keyed.key_offset_in h g.root g.keys g.first [] spare g.shape (child_path g.path name)) ∙
+  no_child = ap is_some (keyed.rec_in h g.root g.keys g.ring spare g.shape (child_path g.path name) ∙
+      by (branch_at (child_path g.path name) g.keys) (sym (keyed.key_offset_in h g.root g.keys g.ring spare g.shape (child_path g.path name)) ∙
       offset_missing))
     where
       by : (o : Option (Branch Node)) → option_map (λ (b : Branch Node). b.offset) o ≡ None → option_map (λ (b : Branch Node). rec_of b.node (descriptor_in h b.node.key.fields.security)) o ≡ None
@@ -109,7 +109,7 @@ pub record Midway (bytes0 : List ℕ) (from : TreeNode) (names0 : List (List ℕ
     (moment : ℕ) (bytes : List ℕ) (node : TreeNode) (rest spare : List ℕ) : Type 0 where
   pub grow : MayGrowAll bytes node (path_of rest) spare
   pub root_is : grow.growing.root ≡ m.growing.root
-  pub first_is : grow.growing.first ≡ m.growing.first
+  pub ring_is : grow.growing.ring ≡ m.growing.ring
   pub valid : is_path rest ≡ true
   pub tree : with_keys (tree_of (cell_at bytes) grow.growing.keys) grow.growing.path (path_of rest) moment ≡ with_keys (tree_of (cell_at bytes0) m.growing.keys) m.growing.path names0 moment
   pub end : grow.growing.path ++ map folded (path_of rest) ≡ m.growing.path ++ map folded names0
@@ -118,7 +118,7 @@ pub record Midway (bytes0 : List ℕ) (from : TreeNode) (names0 : List (List ℕ
 
 pub at_start : (bytes : List ℕ) (from : TreeNode) (path spare : List ℕ) (m : MayGrowAll bytes from (path_of path) spare) (moment : ℕ) →
     is_path path ≡ true → Midway bytes from (path_of path) spare m moment bytes from path spare
-at_start bytes from path spare m moment v = record { grow = m; root_is = refl; first_is = refl; valid = v; tree = refl; end = refl; depth = refl; keeps = λ q o e. e }
+at_start bytes from path spare m moment v = record { grow = m; root_is = refl; ring_is = refl; valid = v; tree = refl; end = refl; depth = refl; keeps = λ q o e. e }
 
 module _ (bytes0 : List ℕ) (from : TreeNode) (names0 : List (List ℕ)) (spare0 : List ℕ) (m : MayGrowAll bytes0 from names0 spare0) (moment : ℕ)
     (bytes : List ℕ) (node : TreeNode) (rest spare : List ℕ) (mid : Midway bytes0 from names0 spare0 m moment bytes node rest spare) where
@@ -141,7 +141,7 @@ module _ (bytes0 : List ℕ) (from : TreeNode) (names0 : List (List ℕ)) (spare
     ready_next = subst (λ ns. AreReady (cell_at bytes) (planned (cell_at bytes) node.offset) ns spare) f.names mid.grow.ready
 
     module _ (new : List ℕ) (made : ℕ) (left : List ℕ)
-        (grows : Grows (cell_at bytes) (cell_at new) g.root g.path g.keys g.first made left name moment) (ready : AreReady (cell_at bytes) (Some FIRST_LIST_SIZE)
+        (grows : Grows (cell_at bytes) (cell_at new) g.root g.path g.keys g.ring made left name moment) (ready : AreReady (cell_at bytes) (Some FIRST_LIST_SIZE)
         (path_of behind) left) where
       abbrev k : Heap
       k = cell_at new
@@ -151,7 +151,7 @@ module _ (bytes0 : List ℕ) (from : TreeNode) (names0 : List (List ℕ)) (spare
         root = g.root;
         path = child_path g.path name;
         keys = grows.now;
-        first = g.first;
+        ring = g.ring;
         shape = grows.shape;
         unrooted = grows.unrooted;
         at = grows.offsets (child_path g.path name) ∙ ap (λ b. cond b (Some made) (key_offset_at (cell_at bytes) g.root (child_path g.path name))) (path-self (child_path g.path name));
@@ -191,7 +191,7 @@ module _ (bytes0 : List ℕ) (from : TreeNode) (names0 : List (List ℕ)) (spare
       one_further = record {
         grow = grow_then;
         root_is = mid.root_is;
-        first_is = mid.first_is;
+        ring_is = mid.ring_is;
         valid = f.valid;
         tree = tree_then ∙ mid.tree;
         end = append_assoc g.path (folded name ∷ []) (map folded (path_of behind)) ∙ (ap (λ ns. g.path ++ map folded ns) (sym f.names) ∙ mid.end);
@@ -200,15 +200,15 @@ module _ (bytes0 : List ℕ) (from : TreeNode) (names0 : List (List ℕ)) (spare
       }
 
   -- nothing is left of the path, and so no cell is spare
-  pub at_end : path_of rest ≡ [] → GrowsAll (cell_at bytes0) (cell_at bytes) m.growing.root m.growing.path m.growing.keys m.growing.first from node names0 moment
+  pub at_end : path_of rest ≡ [] → GrowsAll (cell_at bytes0) (cell_at bytes) m.growing.root m.growing.path m.growing.keys m.growing.ring from node names0 moment
   at_end e =
       let g = mid.grow.growing in
       let none : spare ≡ [] = subst (λ ns. AreReady (cell_at bytes) (planned (cell_at bytes) node.offset) ns spare) e mid.grow.ready in
       record {
         now = g.keys;
-        shape = subst (λ r. IsShape (cell_at bytes) r g.keys m.growing.first [] []) mid.root_is
-            (subst (λ f. IsShape (cell_at bytes) g.root g.keys f [] []) mid.first_is
-            (subst (λ s. IsShape (cell_at bytes) g.root g.keys g.first [] s) none g.shape));
+        shape = subst (λ r. IsShape (cell_at bytes) r g.keys m.growing.ring []) mid.root_is
+            (subst (λ r. IsShape (cell_at bytes) g.root g.keys r []) mid.ring_is
+            (subst (λ s. IsShape (cell_at bytes) g.root g.keys g.ring s) none g.shape));
         unrooted = g.unrooted;
         tree = ap (λ ns. with_keys (tree_of (cell_at bytes) g.keys) g.path ns moment) (sym e) ∙ mid.tree;
         offset = subst (λ q. key_offset_at (cell_at bytes) m.growing.root q ≡ Some node.offset) (sym (append-nil g.path) ∙

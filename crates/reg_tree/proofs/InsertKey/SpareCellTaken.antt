@@ -1,5 +1,5 @@
 -- The cells of one key among the spare ones, by the offsets where they stand.
-use Rattle.std.proofs.Common.{◌≡◌, ℕ, ◌<◌, Option, Some, None, IsSome, List, [], ◌∷◌, ◌++◌, length, drop, get_or, refl, sym, ap, ◌∙◌, subst, arith}
+use Rattle.std.proofs.Common.{◌≡◌, ℕ, ◌<◌, Option, Some, None, IsSome, List, ◌∷◌, ◌++◌, length, drop, get_or, refl, sym, ap, ◌∙◌, subst, arith}
 use Rattle.std.specs.Option.{option_and_then}
 use Rattle.std.proofs.lemmas.Option.{none-some}
 use Rattle.reg_heap.specs.Paths.{Path}
@@ -24,18 +24,18 @@ module _ (bytes : List ℕ) (parent : ℕ) (spare : List ℕ) (g : IsGrowing byt
   h = cell_at bytes
 
   abbrev node : Node
-  node = (keyed.branch h g.root g.keys g.first [] spare g.shape g.path parent g.at).node
+  node = (keyed.branch h g.root g.keys g.ring spare g.shape g.path parent g.at).node
 
   its_key : key_at h parent ≡ Some node.key
-  its_key = keyed.key_is h g.root g.keys g.first [] spare g.shape g.path parent g.at
+  its_key = keyed.key_is h g.root g.keys g.ring spare g.shape g.path parent g.at
 
   pub growing_there : IsSome (key_at h parent)
   growing_there = is_some_of _ _ its_key
 
   module _ (count list : ℕ) (has : HasSubkeysList h parent count list) where
     own_subkeys : AreSubkeys h node.key.fields.subkeys node.key.fields.subkeys_list (entries_of node.index)
-    own_subkeys = branch-subkeys h g.root (keyed.branch h g.root g.keys g.first [] spare g.shape g.path parent g.at) (keyed.stands h g.root g.keys g.first [] spare g.shape g.path parent g.at)
-        (single-of node.index (keyed.unrooted_here h g.root g.keys g.first [] spare g.shape g.path parent g.at g.unrooted))
+    own_subkeys = branch-subkeys h g.root (keyed.branch h g.root g.keys g.ring spare g.shape g.path parent g.at) (keyed.stands h g.root g.keys g.ring spare g.shape g.path parent g.at)
+        (single-of node.index (keyed.unrooted_here h g.root g.keys g.ring spare g.shape g.path parent g.at g.unrooted))
 
     is-list : (count ≡ node.key.fields.subkeys) × (list ≡ node.key.fields.subkeys_list)
     is-list = has node.key its_key
@@ -79,11 +79,11 @@ beside (Some n) size list_cell key left spare e s = subst (λ s. IsBeside (Some 
 -- ---- what may be made in them
 
 module _ (bytes : List ℕ) (parent : ℕ) (name : List ℕ) where
-  abbrev Of : (Path → ℕ → Branch Node → ℕ → Type 0) → List ℕ → Type 0
-  Of G spare = (m : MayGrow bytes parent spare name) → G m.growing.path m.growing.root m.growing.keys m.growing.first
+  abbrev Of : (Path → ℕ → Branch Node → List ℕ → Type 0) → List ℕ → Type 0
+  Of G spare = (m : MayGrow bytes parent spare name) → G m.growing.path m.growing.root m.growing.keys m.growing.ring
 
   -- the same by another spelling of the spare cells
-  pub respelt : (G : Path → ℕ → Branch Node → ℕ → Type 0) (a b : List ℕ) → b ≡ a → Of G a → Of G b
+  pub respelt : (G : Path → ℕ → Branch Node → List ℕ → Type 0) (a b : List ℕ) → b ≡ a → Of G a → Of G b
   respelt G a b e h = subst (Of G) (sym e) h
 
   pub may_grow : (a b : List ℕ) → b ≡ a → MayGrow bytes parent b name → MayGrow bytes parent a name

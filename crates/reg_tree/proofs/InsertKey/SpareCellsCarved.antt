@@ -15,19 +15,19 @@ use Rattle.reg_shape.specs.Internal.Forests.{Branch, total_of}
 use Rattle.reg_heap.proofs.ChildrenOfPath.{path-is}
 use Rattle.reg_arena.specs.Cells.{cell_at}
 use Rattle.reg_records.specs.KeyNodes.{KeyRecord, key_at}
-use Rattle.reg_records.specs.KeySecurities.{IsPlainSecurity}
 use Rattle.reg_shape.specs.Nodes.{Node}
 use Rattle.reg_shape.specs.Spelt.{rec_of}
+use Rattle.reg_shape.specs.Written.{IsWrittenSecurity}
 use Rattle.reg_shape.specs.Internal.Shapes.{cells_of, index_cells, owns, shares, descriptor_in, tree_of, StandsIn}
 use Rattle.reg_shape.specs.Internal.Grafts.{IsShape, IsGrafted, IsRecounted}
 use Rattle.reg_shape.specs.PathLookup.{key_offset_at, subkey_named}
 use Rattle.reg_records.proofs.KeyNodeCodec.{key_at-same}
-use Rattle.reg_records.proofs.KeySecurityCodec.{security_at-same}
 use Rattle.reg_shape.proofs.Frame.WrittenFrame.{seen-kept, same-held}
 use Rattle.reg_shape.proofs.Refinement.SpeltTrees.{path_total, path_same}
 use Rattle.reg_shape.proofs.Wholeness.ShapeCounts.{tally-append}
-use Rattle.reg_shape.proofs.Wholeness.ShapeRecords.{at-most-one}
+use Rattle.reg_shape.proofs.Wholeness.ShapeRecords.{all-at, at-most-one}
 use Rattle.reg_shape.proofs.Wholeness.WholeAfterExchange.{forest-kept}
+use Rattle.reg_shape.proofs.Graft.GraftOfExchange.{recounted-same}
 use Rattle.reg_shape.proofs.Graft.WholeAfterGraft.{grafted}
 use Rattle.reg_shape.proofs.Refinement.RefinementAfterGraft.{tree-same-below}
 use Rattle.reg_shape.proofs.Lookup.LookupAfterGraft.{offsets-same}
@@ -41,7 +41,7 @@ use Rattle.reg_tree.proofs.Invariant.KeyOfTree as here
 use Rattle.reg_tree.proofs.Invariant.KeyOfTree.{branch, key_is, looked, offset}
 use Rattle.reg_tree.proofs.InsertKey.ParentReindexed.{owned-single}
 use Rattle.reg_tree.proofs.PathWalk.SubkeysFound.{single}
-use Rattle.reg_tree.proofs.Invariant.UntouchedCells.{times-one, there-is, offset-own}
+use Rattle.reg_tree.proofs.Invariant.UntouchedCells.{times-one, offset-own}
 
 -- a record put where it is changes nothing
 insert-same : (t : Tree) (p : Path) (r : Rec) → get t p ≡ Some r → insert t p r ≡ t
@@ -51,7 +51,7 @@ insert-same t p r e = same_map path_total path_same (insert t p r) t (λ q. get-
     by q true f = sym (ap (get t) (path-is q p f) ∙ e)
     by q false f = refl
 
-module _ (h k : Heap) (root : ℕ) (keys : Branch Node) (first : ℕ) (spare : List ℕ) (w : IsShape h root keys first [] []) (come : CellFrame h k (λ z. 0) (λ z. times z spare)) where
+module _ (h k : Heap) (root : ℕ) (keys : Branch Node) (ring spare : List ℕ) (w : IsShape h root keys ring []) (come : CellFrame h k (λ z. 0) (λ z. times z spare)) where
   -- a cell that was allocated holds what it held
   pub calm : (z : ℕ) → 0 < allocated h z → k z ≡ h z
   calm z l = come.same z refl (let c = come.count z in let o = at-most-one k z in omega (arith, c, o, l))
@@ -66,25 +66,13 @@ module _ (h k : Heap) (root : ℕ) (keys : Branch Node) (first : ℕ) (spare : L
     forest-kept h k root keys.below w.stands.2 (λ z l. calm-own z (omega (arith, l))),
   )
 
-  calm-ring : (z : ℕ) → 0 < times z (first ∷ []) → k z ≡ h z
+  calm-ring : (z : ℕ) → 0 < times z ring → k z ≡ h z
   calm-ring z l = calm z (let x = w.exact z in omega (arith, x, l))
 
-  first-times : 0 < times first (first ∷ [])
-  first-times = let o = times-one first in omega (arith, o)
+  recounted : (z : ℕ) → 0 < times z ring → IsRecounted h k (total_of (shares z) keys) (total_of (shares z) keys) z
+  recounted z l = recounted-same h k (total_of (shares z) keys) (total_of (shares z) keys) z (calm-ring z l) refl (all-at (IsWrittenSecurity h) ring z w.closed.written l)
 
-  recounted : (z : ℕ) → 0 < times z (first ∷ []) → IsRecounted h k (total_of (shares z) keys) (total_of (shares z) keys) z
-  recounted z l =
-      subst (λ z. IsRecounted h k (total_of (shares z) keys) (total_of (shares z) keys) z) (sym (there-is z first l))
-      (record {
-        security = w.ring.written.0.security;
-        count = w.ring.written.0.security.fields.count;
-        reads = w.ring.written.0.reads;
-        now = security_at-same h k first (calm-ring first first-times) ∙ w.ring.written.0.reads;
-        plain = λ q. subst IsPlainSecurity (sym (same-held h k first (calm-ring first first-times))) q;
-        counted = omega arith;
-      })
-
-  grafts : IsGrafted h k root keys keys first [] [] spare
+  grafts : IsGrafted h k root keys keys ring [] spare
   grafts = record {
     offset = refl;
     alike = record { name = refl; parent = refl; class_length = refl };
@@ -92,19 +80,19 @@ module _ (h k : Heap) (root : ℕ) (keys : Branch Node) (first : ℕ) (spare : L
     count = λ z. (let c = come.count z in omega (arith, c));
     same = λ z some none a b. calm z some;
     securities = λ z. ((λ l. l), λ l. l);
-    ring = recounted;
+    recounted = recounted;
   }
 
-  pub shape-spared : IsShape k root keys first [] spare
-  shape-spared = grafted h k root [] keys keys keys first [] [] spare refl grafts (omega (arith, w.shallow)) w
+  pub shape-spared : IsShape k root keys ring spare
+  shape-spared = grafted h k root [] keys keys keys ring [] spare refl grafts (omega (arith, w.shallow)) w
 
   pub tree-spared : tree_of k keys ≡ tree_of h keys
   tree-spared =
-      tree-same-below h k root [] keys keys keys first [] [] spare refl grafts w refl
+      tree-same-below h k root [] keys keys keys ring [] spare refl grafts w refl
       ∙ insert-same (tree_of h keys) [] (rec_of keys.node (descriptor_in h keys.node.key.fields.security)) (told h root keys w.stands [])
 
   pub offsets-spared : (q : Path) → key_offset_at k root q ≡ key_offset_at h root q
-  offsets-spared q = offsets-same h k root [] keys keys keys first [] [] spare refl grafts w refl q
+  offsets-spared q = offsets-same h k root [] keys keys keys ring [] spare refl grafts w refl q
 
 -- ---- keys may be made in them
 
@@ -122,10 +110,10 @@ module _ (old mid : List ℕ) (parent : TreeNode) (t : IsHere old parent.offset)
   keys = t.holds.keys
 
   still : (z : ℕ) → 0 < allocated h z → k z ≡ h z
-  still = calm h k t.root keys t.holds.first spare t.holds.shape s.come
+  still = calm h k t.root keys t.holds.ring spare t.holds.shape s.come
 
   offset-then : (q : Path) → key_offset_at k t.root q ≡ key_offset_at h t.root q
-  offset-then = offsets-spared h k t.root keys t.holds.first spare t.holds.shape s.come
+  offset-then = offsets-spared h k t.root keys t.holds.ring spare t.holds.shape s.come
 
   pub at-then : key_offset_at k t.root t.path ≡ Some parent.offset
   at-then = offset-then t.path ∙ t.at
@@ -190,9 +178,9 @@ module _ (old mid : List ℕ) (parent : TreeNode) (t : IsHere old parent.offset)
       root = t.root;
       path = t.path;
       keys = keys;
-      first = t.holds.first;
+      ring = t.holds.ring;
       shape =
-          shape-spared h k t.root keys t.holds.first spare t.holds.shape s.come;
+          shape-spared h k t.root keys t.holds.ring spare t.holds.shape s.come;
       unrooted = t.holds.unrooted;
       at = at-then;
     };

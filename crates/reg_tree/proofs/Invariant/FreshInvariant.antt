@@ -1,5 +1,5 @@
 -- A new hive's tree.
-use Rattle.std.proofs.Common.{◌≡◌, ℕ, List, [], ap, ◌∙◌, refl}
+use Rattle.std.proofs.Common.{◌≡◌, ℕ, List, [], ◌∷◌, ap, ◌∙◌, refl}
 use Rattle.std.specs.FinMap.{insert, empty}
 use Rattle.reg_heap.specs.Paths.{path_cmp}
 use Rattle.reg_arena.specs.Cells.{cell_at}
@@ -14,9 +14,10 @@ pub fresh_holds : (bytes : List ℕ) (root : ℕ) (name descriptor : List ℕ) (
 fresh_holds bytes root name descriptor moment m =
     record {
       keys = _;
-      first = m.root_is.key.fields.security;
-      shape = whole-shape (cell_at bytes) root _ m.root_is.key.fields.security []
+      ring = m.root_is.key.fields.security ∷ [];
+      shape = whole-shape (cell_at bytes) root _ (m.root_is.key.fields.security ∷ [])
           (fresh-shape (cell_at bytes) root m.root_is);
+      sole = refl;
       unrooted = refl;
     }
 

@@ -83,7 +83,7 @@ root-seen h root r = record {
 
 -- ---- the ring
 
-only-ring : (h : Heap) (at : ℕ) (security : KeySecurityRecord) → IsOnlySecurity h at security → IsRing h at []
+only-ring : (h : Heap) (at : ℕ) (security : KeySecurityRecord) → IsOnlySecurity h at security → IsRing h (at ∷ [])
 only-ring h at security o = record {
   circles = record {
     forward = ap (option_map (λ (s : KeySecurityRecord). s.fields.flink)) o.security_is ∙ ap Some o.flink;
@@ -104,12 +104,12 @@ branch root node = record { offset = root; node = node; below = End }
 shares-all : (h : Heap) (root : ℕ) (r : IsFreshRoot h root) (z : ℕ) → total_of (shares z) (branch root (node_with root r.key)) ≡ times z (r.key.fields.security ∷ [])
 shares-all h root r z = omega arith
 
-pub fresh-shape : (h : Heap) (root : ℕ) (r : IsFreshRoot h root) → IsWholeShape h root (branch root (node_with root r.key)) r.key.fields.security []
+pub fresh-shape : (h : Heap) (root : ℕ) (r : IsFreshRoot h root) → IsWholeShape h root (branch root (node_with root r.key)) (r.key.fields.security ∷ [])
 fresh-shape h root r = record {
   offset = refl;
   stands = (root-seen h root r, record { offsets = refl; hashes = refl; order = tt; parents = tt; longest_name = tt; longest_class = tt }, tt);
   exact = λ z. (let x = r.exact z in omega (arith, x));
-  ring = only-ring h r.key.fields.security r.security r.only;
+  closed = only-ring h r.key.fields.security r.security r.only;
   ringed = λ z. ((λ l. (let s = shares-all h root r z in omega (arith, s, l))), λ l. (let s = shares-all h root r z in omega (arith, s, l)));
   counts = (
     only-count h r.key.fields.security r.security r.only ∙

@@ -14,10 +14,12 @@ use Rattle.reg_records.specs.KeySecurities.{KeySecurityRecord, security_at}
 use Rattle.reg_shape.specs.Nodes.{Node}
 use Rattle.reg_shape.specs.Written.{Fits}
 use Rattle.reg_shape.specs.Internal.Shapes.{index_cells, cells_of as own_cells, owns, shares, IsSeen}
+use Rattle.reg_shape.specs.Whole.{count_at}
 use Rattle.reg_shape.specs.Internal.Grafts.{IsShape}
-use Rattle.reg_shape.proofs.Wholeness.FewerNumbers.{fewer}
+use Rattle.reg_shape.proofs.Wholeness.FewerNumbers.{fewer, one-among}
 use Rattle.reg_shape.proofs.Walking.WalkRefinement.{look-open}
 use Rattle.reg_shape.proofs.Wholeness.AllocatedCells.{cells-most}
+use Rattle.reg_shape.proofs.Wholeness.ShapeRecords.{all-at}
 use Rattle.reg_shape.proofs.Walking.InnerReadings.{class-inner, members-inner}
 use Rattle.reg_tree.specs.Internal.TreeInvariant.{rooted}
 use Rattle.reg_tree.proofs.Invariant.OwnCells.{own-parts, shared-parts, inner-unshared}
@@ -92,14 +94,14 @@ shared-offsets h root (Hangs o n b s) a r z =
     let l = length-append (offsets_of b) (offsets_of s) in
     omega (arith, here, under, next, l)
 
-module _ (bytes : List ℕ) (root : ℕ) (keys : Branch Node) (first : ℕ) (others spare : List ℕ) (w : IsShape (cell_at bytes) root keys first others spare) (unrooted : total_of rooted keys ≡ 0) where
+module _ (bytes : List ℕ) (root : ℕ) (keys : Branch Node) (ring spare : List ℕ) (w : IsShape (cell_at bytes) root keys ring spare) (unrooted : total_of rooted keys ≡ 0) where
   abbrev h : Heap
   h = cell_at bytes
 
   abbrev all : List ℕ
   all = keys.offset ∷ offsets_of keys.below
 
-  own-all : (z : ℕ) → times z all + times z (first ∷ others) ≤ allocated h z
+  own-all : (z : ℕ) → times z all + times z ring ≤ allocated h z
   own-all z =
       let here = own-offset h root keys.offset keys.node w.stands.0 z in
       let under = own-offsets h root keys.below w.stands.2 z in
@@ -109,24 +111,25 @@ module _ (bytes : List ℕ) (root : ℕ) (keys : Branch Node) (first : ℕ) (oth
   there : (cells : List Cell) × (cells_of bytes ≡ Some cells)
   there = let l = look-open h keys.offset keys.node w.stands.0.reads in has_cells bytes keys.offset l.content l.here
 
-  few : length (first ∷ all) ≤ length bytes
-  few =
+  few : (r : ℕ) → 0 < times r ring → length (r ∷ all) ≤ length bytes
+  few r l =
       let m = cells-most bytes there.0 there.1 in
       let c = few-cells bytes there.0 there.1 in
-      let f = fewer (first ∷ all) m.offsets (λ z. (let a = own-all z in let b = m.all z in omega (arith, a, b))) in
+      let f = fewer (r ∷ all) m.offsets (λ z. (let a = own-all z in let b = m.all z in let c = one-among r z ring l in omega (arith, a, b, c))) in
       let n = m.few in
       omega (arith, f, n, c)
 
-  pub users-few : (z : ℕ) → total_of (shares z) keys < length bytes
-  users-few z =
+  users-few : (z : ℕ) → 0 < times z ring → total_of (shares z) keys < length bytes
+  users-few z l =
       let here = one-shared h root keys.offset keys.node w.stands.0 (omega (arith, unrooted)) z in
       let under = shared-offsets h root keys.below w.stands.2 (omega (arith, unrooted)) z in
-      let f = few in
+      let f = few z l in
       omega (arith, here, under, f)
 
-  -- the count of the first security
-  pub count-few : (s : KeySecurityRecord) → security_at h first ≡ Some s → s.fields.count < length bytes
-  count-few s e =
-      let c : ◌≡◌ {A = ℕ} s.fields.count (total_of (shares first) keys) = same_Some _ _ (sym (ap (option_map (λ (s : KeySecurityRecord). s.fields.count)) e) ∙ w.counts.0) in
-      let f = users-few first in
+  -- the count of a security
+  pub count-few : (z : ℕ) → 0 < times z ring → (s : KeySecurityRecord) → security_at h z ≡ Some s → s.fields.count < length bytes
+  count-few z l s e =
+      let counts = all-at (λ z. count_at h z ≡ Some (total_of (shares z) keys)) ring z w.counts l in
+      let c : ◌≡◌ {A = ℕ} s.fields.count (total_of (shares z) keys) = same_Some _ _ (sym (ap (option_map (λ (s : KeySecurityRecord). s.fields.count)) e) ∙ counts) in
+      let f = users-few z l in
       omega (arith, c, f)

@@ -1,5 +1,5 @@
 -- A key of a shape: the branch at its path, how it reads, and that its cells are its own.
-use Rattle.std.proofs.Common.{◌≡◌, ℕ, ◌+◌, ◌≤◌, ◌<◌, Option, Some, None, List, ◌∷◌, length, refl, sym, ap, ◌∙◌, subst, arith}
+use Rattle.std.proofs.Common.{◌≡◌, ℕ, ◌+◌, ◌≤◌, ◌<◌, Option, Some, None, List, length, refl, sym, ap, ◌∙◌, subst, arith}
 use Rattle.std.specs.Option.{option_map}
 use Rattle.std.specs.FinMap.{get}
 use Rattle.std.proofs.lemmas.Option.{none-some, same_Some}
@@ -26,7 +26,7 @@ branch_of : (o : Option (Branch Node)) (key : ℕ) → option_map (λ (b : Branc
 branch_of None key e = absurd (none-some _ e)
 branch_of (Some b) key e = (b, refl, same_Some _ _ e)
 
-module _ (h : Heap) (root : ℕ) (keys : Branch Node) (first : ℕ) (others spare : List ℕ) (w : IsShape h root keys first others spare) where
+module _ (h : Heap) (root : ℕ) (keys : Branch Node) (ring spare : List ℕ) (w : IsShape h root keys ring spare) where
   -- the key at the end of a path is the branch there
   pub key_offset_in : (p : Path) → key_offset_at h root p ≡ option_map (λ (b : Branch Node). b.offset) (branch_at p keys)
   key_offset_in p = subst (λ r. key_offset_at h r p ≡ option_map (λ (b : Branch Node). b.offset) (branch_at p keys)) w.offset (placed h root keys p w.stands)
@@ -62,7 +62,7 @@ module _ (h : Heap) (root : ℕ) (keys : Branch Node) (first : ℕ) (others spar
     pub key_is : key_at h key ≡ Some branch.node.key
     key_is = subst (λ o. key_at h o ≡ Some branch.node.key) offset (key-looked h branch.offset branch.node seen.reads)
 
-    pub branch_once : (z : ℕ) → total_of (owns z) branch + (times z (first ∷ others) + times z spare) ≤ allocated h z
+    pub branch_once : (z : ℕ) → total_of (owns z) branch + (times z ring + times z spare) ≤ allocated h z
     branch_once z = let l = branch-total (owns z) branch p keys branch_is in let e = w.exact z in omega (arith, l, e)
 
     -- each of its own cells is met once
@@ -73,7 +73,7 @@ module _ (h : Heap) (root : ℕ) (keys : Branch Node) (first : ℕ) (others spar
     shallow = let d = branch-depth branch p keys branch_is in let s = w.shallow in omega (arith, d, s)
 
     -- its security is in the ring
-    pub secured : 0 < times branch.node.key.fields.security (first ∷ others)
+    pub secured : 0 < times branch.node.key.fields.security ring
     secured =
         let s = branch.node.key.fields.security in
         let own = shares-own h root branch.offset branch.node seen.reads in

@@ -1,5 +1,5 @@
 -- A key of a tree: where it stands, what it reads as, and what the tree has at its path.
-use Rattle.std.proofs.Common.{◌≡◌, ℕ, ◌+◌, ◌≤◌, Option, Some, None, IsSome, is_some, List, [], ◌∷◌, ◌++◌, length, refl, sym, ap, ◌∙◌, subst, arith}
+use Rattle.std.proofs.Common.{◌≡◌, ℕ, ◌+◌, ◌≤◌, Option, Some, None, IsSome, is_some, List, [], ◌++◌, length, refl, sym, ap, ◌∙◌, subst, arith}
 use Rattle.std.specs.Prelude.{unwrap_or}
 use Rattle.std.specs.Option.{option_map, option_and_then}
 use Rattle.std.specs.FinMap.{get, empty}
@@ -42,8 +42,8 @@ module _ (bytes : List ℕ) (root : ℕ) (t : TreeInvariant bytes root) where
   abbrev keys : Branch Node
   keys = t.keys
 
-  pub whole : IsWholeShape heap root keys t.first []
-  whole = shape-whole heap root keys t.first [] t.shape
+  pub whole : IsWholeShape heap root keys t.ring
+  whole = shape-whole heap root keys t.ring t.shape
 
   root_looked : IsLooked heap keys.offset keys.node
   root_looked = look-open heap keys.offset keys.node t.shape.stands.0.reads
@@ -55,12 +55,12 @@ module _ (bytes : List ℕ) (root : ℕ) (t : TreeInvariant bytes root) where
   unfolding tree_in
   spelt_is =
       ap (λ (o : Option (List Cell)). unwrap_or (option_and_then (λ (cells : List Cell). spelt (length cells) heap root) o) empty) there.1
-      ∙ ap (λ (o : Option Tree). unwrap_or o empty) (spelt-in bytes root keys t.first [] there.0 there.1 whole)
+      ∙ ap (λ (o : Option Tree). unwrap_or o empty) (spelt-in bytes root keys t.ring there.0 there.1 whole)
 
   pub whole_tree : IsWholeTree bytes root (tree_in bytes root)
   whole_tree =
-      let w = whole-in bytes root keys t.first [] there.0 there.1 whole in
-      record { cells = w.cells; cells_are = w.cells_are; whole = w.whole; spells = spelt-in bytes root keys t.first [] w.cells w.cells_are whole ∙ ap Some (sym spelt_is) }
+      let w = whole-in bytes root keys t.ring there.0 there.1 whole in
+      record { cells = w.cells; cells_are = w.cells_are; whole = w.whole; spells = spelt-in bytes root keys t.ring w.cells w.cells_are whole ∙ ap Some (sym spelt_is) }
 
   -- the key at the end of a path is the branch there
   pub offset_is : (p : Path) → key_offset_at heap root p ≡ option_map (λ (b : Branch Node). b.offset) (branch_at p keys)
@@ -100,16 +100,16 @@ module _ (bytes : List ℕ) (key : ℕ) (t : IsHere bytes key) where
   all = t.holds.keys
 
   abbrev pub branch : Branch Node
-  branch = keyed.branch h t.root all t.holds.first [] [] t.holds.shape t.path key t.at
+  branch = keyed.branch h t.root all t.holds.ring [] t.holds.shape t.path key t.at
 
   pub branch_is : branch_at t.path all ≡ Some branch
-  branch_is = keyed.branch_is h t.root all t.holds.first [] [] t.holds.shape t.path key t.at
+  branch_is = keyed.branch_is h t.root all t.holds.ring [] t.holds.shape t.path key t.at
 
   pub offset : branch.offset ≡ key
-  offset = keyed.offset h t.root all t.holds.first [] [] t.holds.shape t.path key t.at
+  offset = keyed.offset h t.root all t.holds.ring [] t.holds.shape t.path key t.at
 
   pub stands : StandsIn h t.root branch
-  stands = keyed.stands h t.root all t.holds.first [] [] t.holds.shape t.path key t.at
+  stands = keyed.stands h t.root all t.holds.ring [] t.holds.shape t.path key t.at
 
   pub seen : IsSeen h t.root branch.offset branch.node
   seen = stands.0
@@ -118,20 +118,20 @@ module _ (bytes : List ℕ) (key : ℕ) (t : IsHere bytes key) where
   looked = look-open h branch.offset branch.node seen.reads
 
   pub key_is : key_at h key ≡ Some branch.node.key
-  key_is = keyed.key_is h t.root all t.holds.first [] [] t.holds.shape t.path key t.at
+  key_is = keyed.key_is h t.root all t.holds.ring [] t.holds.shape t.path key t.at
 
   pub key_there : IsSome (key_at h key)
   key_there = is_some_of _ _ key_is
 
-  pub branch_once : (z : ℕ) → total_of (owns z) branch + (times z (t.holds.first ∷ []) + times z []) ≤ allocated h z
-  branch_once = keyed.branch_once h t.root all t.holds.first [] [] t.holds.shape t.path key t.at
+  pub branch_once : (z : ℕ) → total_of (owns z) branch + (times z t.holds.ring + times z []) ≤ allocated h z
+  branch_once = keyed.branch_once h t.root all t.holds.ring [] t.holds.shape t.path key t.at
 
   -- each of its own cells is met once
   pub own_once : (z : ℕ) → owned z (own_cells branch.node) ≤ allocated h z
-  own_once = keyed.own_once h t.root all t.holds.first [] [] t.holds.shape t.path key t.at
+  own_once = keyed.own_once h t.root all t.holds.ring [] t.holds.shape t.path key t.at
 
   pub shallow : length t.path + depth branch.below ≤ PATH_LIMIT
-  shallow = keyed.shallow h t.root all t.holds.first [] [] t.holds.shape t.path key t.at
+  shallow = keyed.shallow h t.root all t.holds.ring [] t.holds.shape t.path key t.at
 
   -- what the tree has at its path
   pub rec_there : get (tree_in bytes t.root) t.path ≡ Some (rec_of branch.node (descriptor_in h branch.node.key.fields.security))

@@ -20,7 +20,7 @@ use Rattle.reg_tree.specs.Internal.TreeInvariant.{IsHere}
 use Rattle.reg_tree.proofs.InsertKey.PathGrowth.{name_short}
 use Rattle.reg_tree.proofs.Invariant.CellReadings.{key-fields, security-read_is}
 use Rattle.reg_tree.proofs.Invariant.KeyOfTree.{branch, seen, key_is, list_reads}
-use Rattle.reg_tree.proofs.KeyAnswers.RefinementOfKey.{its_security}
+use Rattle.reg_tree.proofs.KeyAnswers.RefinementOfKey.{security_written, its_security}
 
 -- one of some values whose names are valid
 named : (ms : List Member) → AllByRecursion (λ (m : Member). is_value_name m.name ≡ true) ms → (index : ℕ) (m : Member) → slice_get ms index ≡ Some m → is_value_name m.name ≡ true
@@ -38,7 +38,7 @@ module _ (bytes : List ℕ) (key : ℕ) (t : IsHere bytes key) where
       (content : List ℕ) (read : KeySecurityRecord) → cell_at bytes fields.security ≡ Some content → sk_of content ≡ Ok read →
       length read.descriptor ≤ DESCRIPTOR_LIMIT
   descriptor-bound fields are content read here reads =
-      let security = t.holds.shape.ring.written.0 in
+      let security = security_written bytes key t fields are in
       let same = ap (λ (s : KeySecurityRecord). s.descriptor) (security-read_is (cell_at bytes) fields.security content security.security read (its_security bytes key t fields are) here reads) in
       subst (λ (descriptor : List ℕ). length descriptor ≤ DESCRIPTOR_LIMIT) (sym same) security.short
 

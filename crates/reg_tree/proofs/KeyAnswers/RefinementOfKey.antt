@@ -19,8 +19,9 @@ use Rattle.reg_records.specs.SubkeyLists.{Entry}
 use Rattle.reg_shape.specs.Nodes.{Node, entries_of}
 use Rattle.reg_shape.specs.Spelt.{rec_of, name_of, marks_of}
 use Rattle.reg_shape.specs.Internal.Shapes.{descriptor_in, IsSeen}
-use Rattle.reg_shape.specs.Written.{Fits}
+use Rattle.reg_shape.specs.Written.{Fits, IsWrittenSecurity}
 use Rattle.reg_shape.specs.PathLookup.{key_offset_at, subkey_named}
+use Rattle.reg_shape.proofs.Wholeness.ShapeRecords.{all-at}
 use Rattle.reg_shape.proofs.Refinement.RefinementOfChildren.{children-told}
 use Rattle.reg_shape.proofs.Refinement.RefinementAtPath.{name-written}
 use Rattle.reg_shape.proofs.Lookup.LookupOfShape.{offset-none, offset-more, offset-append}
@@ -37,7 +38,6 @@ use Rattle.reg_tree.proofs.Invariant.KeyOfShape as keyed
 use Rattle.reg_tree.proofs.Invariant.KeyOfTree.{spelt_is, branch, branch_is, offset, stands, seen, key_is, rec_there}
 use Rattle.reg_tree.proofs.PathWalk.SubkeysFound.{subkeys}
 use Rattle.reg_tree.proofs.InsertKey.SubkeyByName.{no_entry, named-ok}
-use Rattle.reg_tree.proofs.Invariant.UntouchedCells.{there-is}
 use Rattle.reg_tree.proofs.InsertKey.InsertKeyFrame.{name_of_head, names-heads}
 
 -- each key's name is as it was given
@@ -79,16 +79,14 @@ module _ (bytes : List ℕ) (key : ℕ) (t : IsHere bytes key) where
   -- ---- its descriptor
 
   module _ (fields : KeyFields) (are : (k : KeyRecord) → key_at h key ≡ Some k → fields ≡ k.fields) where
-    security_is : fields.security ≡ t.holds.first
-    security_is =
-        ap (λ (f : KeyFields). f.security) (are node.key (key_is bytes key t))
-        ∙ there-is node.key.fields.security t.holds.first (keyed.secured h t.root t.holds.keys t.holds.first [] [] t.holds.shape t.path key t.at)
+    pub security_written : IsWrittenSecurity h fields.security
+    security_written =
+        subst (λ (f : KeyFields). IsWrittenSecurity h f.security) (sym (are node.key (key_is bytes key t)))
+        (all-at (IsWrittenSecurity h) t.holds.ring node.key.fields.security t.holds.shape.closed.written
+        (keyed.secured h t.root t.holds.keys t.holds.ring [] t.holds.shape t.path key t.at))
 
-    first_there : security_at h t.holds.first ≡ Some t.holds.shape.ring.written.0.security
-    first_there = t.holds.shape.ring.written.0.reads
-
-    pub its_security : security_at h fields.security ≡ Some t.holds.shape.ring.written.0.security
-    its_security = ap (security_at h) security_is ∙ first_there
+    pub its_security : security_at h fields.security ≡ Some security_written.security
+    its_security = security_written.reads
 
     pub security_told : IsSome (security_at h fields.security)
     security_told = is_some_of _ _ its_security
@@ -96,7 +94,7 @@ module _ (bytes : List ℕ) (key : ℕ) (t : IsHere bytes key) where
     pub descriptor_told : (content : List ℕ) (read : KeySecurityRecord) → h fields.security ≡ Some content → sk_of content ≡ Ok read → (r : Rec) →
         get tree t.path ≡ Some r → read.descriptor ≡ r.descriptor
     descriptor_told content read here reads r e =
-        ap (λ (s : KeySecurityRecord). s.descriptor) (security-read_is h fields.security content t.holds.shape.ring.written.0.security read its_security here reads)
+        ap (λ (s : KeySecurityRecord). s.descriptor) (security-read_is h fields.security content security_written.security read its_security here reads)
         ∙ (sym (ap (λ (o : Option KeySecurityRecord). unwrap_or (option_map (λ (s : KeySecurityRecord). s.descriptor) o) []) its_security)
         ∙ (ap (λ (f : KeyFields). descriptor_in h f.security) (are node.key (key_is bytes key t))
         ∙ ap (λ (r : Rec). r.descriptor) (is-rec r e)))

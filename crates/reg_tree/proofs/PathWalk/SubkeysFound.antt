@@ -26,7 +26,7 @@ module _ (bytes : List ℕ) (key : ℕ) (t : IsHere bytes key) where
   node = (branch bytes key t).node
 
   pub single : IsSingle node.index
-  single = single-of node.index (keyed.unrooted_here h t.root t.holds.keys t.holds.first [] [] t.holds.shape t.path key t.at t.holds.unrooted)
+  single = single-of node.index (keyed.unrooted_here h t.root t.holds.keys t.holds.ring [] t.holds.shape t.path key t.at t.holds.unrooted)
 
   pub own_subkeys : AreSubkeys h node.key.fields.subkeys node.key.fields.subkeys_list (entries_of node.index)
   own_subkeys = branch-subkeys h t.root (branch bytes key t) (stands bytes key t) single

@@ -52,8 +52,8 @@ module _ (old mid new : List ℕ) (key : ℕ) (t : IsHere old key) (count list n
   abbrev keys : Branch Node
   keys = t.holds.keys
 
-  abbrev first : ℕ
-  first = t.holds.first
+  abbrev ring : List ℕ
+  ring = t.holds.ring
 
   there-notes : Notes (cell_at mid) j was.offset (noted count list name size moment)
   there-notes = subst (λ p. Notes (cell_at mid) j p (noted count list name size moment)) (sym (offset old key t)) notes
@@ -67,20 +67,21 @@ module _ (old mid new : List ℕ) (key : ℕ) (t : IsHere old key) (count list n
   abbrev is : Branch Node
   is = record was { node = after }
 
-  grafts : IsGrafted h j t.root was is first [] [] []
-  grafts = exchange-grafts h j t.root was after first [] [] exchanged (branch_once old key t) (stands old key t) t.holds.shape.ring
+  grafts : IsGrafted h j t.root was is ring [] []
+  grafts = exchange-grafts h j t.root was after ring [] exchanged (branch_once old key t) (stands old key t) t.holds.shape.closed
 
   abbrev now : Branch Node
   now = graft_at t.path after was.below keys
 
-  shape : IsShape j t.root now first [] []
-  shape = grafted h j t.root t.path keys was is first [] [] [] (branch_is old key t) grafts (shallow old key t) t.holds.shape
+  shape : IsShape j t.root now ring []
+  shape = grafted h j t.root t.path keys was is ring [] [] (branch_is old key t) grafts (shallow old key t) t.holds.shape
 
   holds-now : TreeInvariant new t.root
   holds-now = record {
     keys = now;
-    first = first;
+    ring = ring;
     shape = shape;
+    sole = t.holds.sole;
     unrooted = (let g = graft-total rooted was after was.below t.path keys (branch_is old key t) in let u = t.holds.unrooted in omega (arith, g, u));
   }
 
@@ -92,11 +93,11 @@ module _ (old mid new : List ℕ) (key : ℕ) (t : IsHere old key) (count list n
   is_changed = record {
     holds = holds-now;
     tree = spelt_is new t.root holds-now
-        ∙ (tree-same-below h j t.root t.path keys was is first [] [] [] (branch_is old key t) grafts t.holds.shape refl
+        ∙ (tree-same-below h j t.root t.path keys was is ring [] [] (branch_is old key t) grafts t.holds.shape refl
         ∙ (ap (λ (tree : Tree). insert tree t.path (rec_of after (descriptor_in h after.key.fields.security))) (sym (spelt_is old t.root t.holds))
         ∙ (ap (insert (tree_in old t.root) t.path) (sym (does rec refl))
         ∙ sym (edited-at (tree_in old t.root) t.path rec f (rec_there old key t)))));
-    offsets = λ q. offsets-same h j t.root t.path keys was is first [] [] [] (branch_is old key t) grafts t.holds.shape refl q;
+    offsets = λ q. offsets-same h j t.root t.path keys was is ring [] [] (branch_is old key t) grafts t.holds.shape refl q;
   }
 
 -- a value was set

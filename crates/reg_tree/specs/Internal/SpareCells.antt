@@ -31,8 +31,8 @@ pub record IsGrowing (bytes : List ℕ) (key : ℕ) (spare : List ℕ) : Type 0 
   pub root : ℕ
   pub path : Path
   pub keys : Branch Node
-  pub first : ℕ
-  pub shape : IsShape (cell_at bytes) root keys first [] spare
+  pub ring : List ℕ
+  pub shape : IsShape (cell_at bytes) root keys ring spare
   pub unrooted : total_of rooted keys ≡ 0
   pub at : key_offset_at (cell_at bytes) root path ≡ Some key
 
@@ -45,9 +45,9 @@ pub record MayGrow (bytes : List ℕ) (key : ℕ) (spare : List ℕ) (name : Lis
 
 -- a key of a name was made below the one at a path, at an offset; the tree has it, each other key stays where it stands, and so
 -- do the spare cells that are left; the key made has no subkeys
-pub record Grows (old new : Heap) (root : ℕ) (path : Path) (keys : Branch Node) (first made : ℕ) (left name : List ℕ) (moment : ℕ) : Type 0 where
+pub record Grows (old new : Heap) (root : ℕ) (path : Path) (keys : Branch Node) (ring : List ℕ) (made : ℕ) (left name : List ℕ) (moment : ℕ) : Type 0 where
   pub now : Branch Node
-  pub shape : IsShape new root now first [] left
+  pub shape : IsShape new root now ring left
   pub unrooted : total_of rooted now ≡ 0
   pub tree : tree_of new now ≡ with_key (tree_of old keys) path name moment
   pub offsets : (q : Path) → key_offset_at new root q ≡ cond (eq_by_cmp path_cmp q (child_path path name)) (Some made) (key_offset_at old root q)
@@ -93,10 +93,10 @@ pub record MayGrowAll (bytes : List ℕ) (from : TreeNode) (names : List (List �
   pub ready : AreReady (cell_at bytes) (planned (cell_at bytes) from.offset) names spare
 
 -- keys of these names were made one below the other, below the one at a path; each other key stays where it stands
-pub record GrowsAll (old new : Heap) (root : ℕ) (path : Path) (keys : Branch Node) (first : ℕ) (from made : TreeNode)
+pub record GrowsAll (old new : Heap) (root : ℕ) (path : Path) (keys : Branch Node) (ring : List ℕ) (from made : TreeNode)
     (names : List (List ℕ)) (moment : ℕ) : Type 0 where
   pub now : Branch Node
-  pub shape : IsShape new root now first [] []
+  pub shape : IsShape new root now ring []
   pub unrooted : total_of rooted now ≡ 0
   pub tree : tree_of new now ≡ with_keys (tree_of old keys) path names moment
   pub offset : key_offset_at new root (path ++ map folded names) ≡ Some made.offset

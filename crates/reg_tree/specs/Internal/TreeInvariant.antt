@@ -1,5 +1,5 @@
 -- What is true of every tree's cells.
-use Rattle.std.specs.Prelude.{◌≡◌, ℕ, Some, List, []}
+use Rattle.std.specs.Prelude.{◌≡◌, ℕ, Some, List, [], length}
 use Rattle.reg_shape.specs.Internal.Forests.{Branch, total_of}
 use Rattle.reg_heap.specs.Paths.{Path, Rec}
 use Rattle.reg_heap.specs.Edits.{edited}
@@ -20,12 +20,13 @@ is_rooted (Rooted offset lists) = 1
 abbrev pub rooted : ℕ → Node → ℕ
 rooted offset node = is_rooted node.index
 
--- the keys stand in the cells, and have all of them (temporary: they all use one security, until keys can have their own, and none
--- has more than one list of subkeys, until there are index roots)
+-- the keys stand in the cells, and have all of them (temporary: `sole`, they all use one security, until keys can have their own, and
+-- `unrooted`, none has more than one list of subkeys, until there are index roots)
 pub record TreeInvariant (bytes : List ℕ) (root : ℕ) : Type 0 where
   pub keys : Branch Node
-  pub first : ℕ
-  pub shape : IsShape (cell_at bytes) root keys first [] []
+  pub ring : List ℕ
+  pub shape : IsShape (cell_at bytes) root keys ring []
+  pub sole : length ring ≡ 1
   pub unrooted : total_of rooted keys ≡ 0
 
 -- a key of the tree, and its path

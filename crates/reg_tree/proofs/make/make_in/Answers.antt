@@ -40,7 +40,7 @@ returns-in-None-clause-grows c =
     let r = c.requires.ready.1 in
     let p = planned_is _ _ _ c.requires.grow.growing _ _ c.subkeys_list-list.ensures ∙ (sym c.plan_insert.ensures ∙ c.in-None.is) in
     let a = alone _ r.list_cell r.key r.left c.args.spare.now p r.spare_is in
-    respelt _ _ _ (λ path root keys first. Grows (heap_of c.args.arena.now) (heap_of c.make.new.arena) root path keys first
+    respelt _ _ _ (λ path root keys ring. Grows (heap_of c.args.arena.now) (heap_of c.make.new.arena) root path keys ring
     (get_or c.args.spare.now 0 0) (drop 1 c.args.spare.now) c.args.name.now c.args.moment)
     _ _ (a.all NONE) (c.make.ensures.grows (drop 1 c.args.spare.now))
 
@@ -57,7 +57,7 @@ returns-in-Some-clause-grows c =
     let r = c.requires.ready.1 in
     let p = planned_is _ _ _ c.requires.grow.growing _ _ c.subkeys_list-list.ensures ∙ (sym c.plan_insert.ensures ∙ c.in-Some.is) in
     let b = beside _ _ r.list_cell r.key r.left c.args.spare.now p r.spare_is in
-    respelt _ _ _ (λ path root keys first. Grows (heap_of c.args.arena.now) (heap_of c.make-in-Some.new.arena) root path keys first
+    respelt _ _ _ (λ path root keys ring. Grows (heap_of c.args.arena.now) (heap_of c.make-in-Some.new.arena) root path keys ring
     (get_or c.args.spare.now 1 0) (drop 2 c.args.spare.now) c.args.name.now c.args.moment)
     _ _ b.all (c.make-in-Some.ensures.grows (drop 2 c.args.spare.now))
 
