@@ -2,7 +2,7 @@
 //!
 //! Win32 registry reference, `RegCreateKeyEx`.
 ghost use Rattle.std.specs.Prelude.{◌≡◌, ◌≢◌, ◌↔◌, ◌⊎◌, ◌≤◌, ◌<◌, ◌+◌, ◌-◌, ◌++◌, ◌∷◌, [], true, false, ℕ, List, Some, Err, IfOk, IfErr, OnOk, OnErr};
-ghost use Rattle.std.specs.Prelude.{length, drop, get_or};
+ghost use Rattle.std.specs.Prelude.{length, map, drop, get_or};
 ghost use Rattle.reg_names.specs.declared.TheConstants.{KEY_NAME_LIMIT};
 ghost use Rattle.reg_names.specs.Names.{is_key_name, is_path, path_of};
 ghost use Rattle.reg_heap.specs.declared.limits.TheConstants.{BINS_LIMIT, GROWTH_BOUND};
@@ -14,7 +14,7 @@ ghost use Rattle.reg_records.specs.KeyNodes.{KeyRecord, key_at};
 ghost use Rattle.reg_index.specs.Subkeys.{IsReady, taken};
 ghost use Rattle.reg_tree.specs.TreeKeys.{tree_in};
 ghost use Rattle.reg_tree.specs.Internal.TreeInvariant.{IsHere};
-ghost use Rattle.reg_tree.specs.Internal.SpareCells.{planned, MayGrow, Grows, AreReady, MayGrowAll, GrowsAll, sizes_of, IsSpared};
+ghost use Rattle.reg_tree.specs.Internal.SpareCells.{planned, MayGrow, Grows, AreReady, MayGrowAll, GrowsAll, own_sizes, sizes_of, IsSpared};
 ghost use Rattle.reg_tree.specs.Internal.KeyCreation.{IsCreated, AreTooMany};
 
 use crate::find::reach;
@@ -60,16 +60,16 @@ fn make(arena: &mut Arena, parent: u32, list_cell: u32, key: u32, name: &[u8], m
 /// Makes a key below another in the first of some spare cells, and answers how many it took; the last of these is the key's.
 fn make_in(arena: &mut Arena, parent: u32, spare: &[u32], name: &[u8], moment: u64) -> usize
     requires grow { MayGrow arena.old.bytes parent spare.now name.now }
-    requires ready { (names : List (List ℕ)) × AreReady (heap_of arena.old) (planned (heap_of arena.old) parent) (name.now ∷ names) spare.now }
+    requires ready { (more : List (List ℕ)) × AreReady (heap_of arena.old) (planned (heap_of arena.old) parent) (own_sizes name.now ∷ more) spare.now }
     requires name { (is_key_name name.now ≡ true) × (length name.now ≤ KEY_NAME_LIMIT) }
     ensures taken { (1 ≤ result) × (result ≤ 2) × (result ≤ length spare.now) }
     ensures grows { (m : MayGrow arena.old.bytes parent spare.now name.now) →
         Grows (heap_of arena.old)
         (heap_of arena.new) m.growing.root m.growing.path m.growing.keys m.growing.ring
         (get_or spare.now (result - 1) 0) (drop result spare.now) name.now moment }
-    ensures ready { (names : List (List ℕ)) →
-        AreReady (heap_of arena.old) (planned (heap_of arena.old) parent) (name.now ∷ names) spare.now →
-        AreReady (heap_of arena.old) (Some 16) names (drop result spare.now) }
+    ensures ready { (more : List (List ℕ)) →
+        AreReady (heap_of arena.old) (planned (heap_of arena.old) parent) (own_sizes name.now ∷ more) spare.now →
+        AreReady (heap_of arena.old) (Some 16) more (drop result spare.now) }
     ensures long { length arena.new.bytes ≡ length arena.old.bytes }
 {
     let list = subkeys_list(arena, parent);
@@ -166,7 +166,7 @@ pub fn is_limited(arena: &Arena, from: Node, path: &[u8]) -> bool
 /// its key node. The first parent's is planned; those made have no list yet.
 fn sizes_for(alloc: Global, planned: Option<u32>, path: &[u8]) -> Result<Vec<u32>, AllocError>
     requires { is_path path.now ≡ true }
-    ensures { IfOk result (λ sizes. sizes.items ≡ sizes_of planned (path_of path.now)) }
+    ensures { IfOk result (λ sizes. sizes.items ≡ sizes_of planned (map own_sizes (path_of path.now))) }
 {
     let mut sizes = Vec::new(alloc);
     let mut list = planned;

@@ -1,5 +1,5 @@
 -- The cells carved for keys of a path's names: their sizes, and that they are ready.
-use Rattle.std.proofs.Common.{◌≡◌, ◌≢◌, ℕ, zero, suc, ◌+◌, ◌-◌, ◌*◌, ◌%◌, ◌≤◌, ◌<◌, Bool, true, false, cond, nat_le, nat_lt, Option, Some, None, IsSome, List, [], ◌∷◌, length, get_or}
+use Rattle.std.proofs.Common.{◌≡◌, ◌≢◌, ℕ, zero, suc, ◌+◌, ◌-◌, ◌*◌, ◌%◌, ◌≤◌, ◌<◌, Bool, true, false, cond, nat_le, nat_lt, Option, Some, None, IsSome, List, [], ◌∷◌, map, length, get_or}
 use Rattle.std.proofs.Common.{replicate, refl, sym, ap, ◌∙◌, subst, arith, Vec, Global}
 use Rattle.std.specs.Prelude.{unwrap_or, Result, Err}
 use Rattle.std.specs.List.{list_all, AllByRecursion}
@@ -31,7 +31,7 @@ use Rattle.reg_tree.specs.declared.fault.TreeFault.TheVariants.{Full}
 use Rattle.reg_tree.specs.Internal.TreeFaults.{of_arena}
 use Rattle.reg_tree.specs.Internal.KeyNodeChanges.{HasSubkeysList}
 use Rattle.reg_tree.specs.Internal.TreeInvariant.{IsHere}
-use Rattle.reg_tree.specs.Internal.SpareCells.{key_size, sizes_of, IsGrowing, AreReady, IsSpared}
+use Rattle.reg_tree.specs.Internal.SpareCells.{key_size, own_sizes, sizes_of, IsGrowing, AreReady, IsSpared}
 use Rattle.reg_tree.proofs.InsertKey.PathGrowth.{name_short}
 use Rattle.reg_tree.proofs.InsertKey.SpareCellTaken.{growing_there, growing_subkeys, planned_is}
 
@@ -85,7 +85,7 @@ pub plan_good : (bytes : List ℕ) (key : ℕ) → IsHere bytes key → (count l
 plan_good bytes key t count list has = plan_by (cell_at bytes) count list (parent_subkeys bytes key t count list has).1.few
 
 -- each is one that a cell may have
-pub are-sizes : (plan : Option ℕ) (names : List (List ℕ)) → IsPlan plan → AreSizes (sizes_of plan names)
+pub are-sizes : (plan : Option ℕ) (names : List (List ℕ)) → IsPlan plan → AreSizes (sizes_of plan (map own_sizes names))
 are-sizes plan [] p = tt
 are-sizes None (name ∷ names) p = ((omega arith, omega arith), are-sizes (Some FIRST_LIST_SIZE) names first_plan)
 are-sizes (Some size) (name ∷ names) p = let s = p size refl in ((omega (arith, s), s.0), ((omega arith, omega arith), are-sizes (Some FIRST_LIST_SIZE) names first_plan))
@@ -103,16 +103,16 @@ unfolding are_key_names
 short-in limit names e = short-by names (and_parts (list_all is_key_name names) (nat_le (length names) limit) e).0
 
 -- all together, by the number of keys
-total-first : (names : List (List ℕ)) → Short names → total_of (sizes_of (Some FIRST_LIST_SIZE) names) ≤ 360 * length names
+total-first : (names : List (List ℕ)) → Short names → total_of (sizes_of (Some FIRST_LIST_SIZE) (map own_sizes names)) ≤ 360 * length names
 total-first [] s = omega arith
 total-first (name ∷ names) s = let t = total-first names s.1 in let l = s.0 in omega (arith, t, l)
 
-total-some : (plan : Option ℕ) (names : List (List ℕ)) → IsPlan plan → Short names → total_of (sizes_of plan names) ≤ 4016 + 360 * length names
+total-some : (plan : Option ℕ) (names : List (List ℕ)) → IsPlan plan → Short names → total_of (sizes_of plan (map own_sizes names)) ≤ 4016 + 360 * length names
 total-some plan [] p s = omega arith
 total-some None (name ∷ names) p s = let t = total-first names s.1 in let l = s.0 in omega (arith, t, l)
 total-some (Some size) (name ∷ names) p s = let t = total-first names s.1 in let l = s.0 in let q = (p size refl).2 in omega (arith, t, l, q)
 
-pub total-few : (plan : Option ℕ) (path : List ℕ) → IsPlan plan → is_path path ≡ true → length (path_of path) ≤ MADE_LIMIT → total_of (sizes_of plan (path_of path)) ≤ 15536
+pub total-few : (plan : Option ℕ) (path : List ℕ) → IsPlan plan → is_path path ≡ true → length (path_of path) ≤ MADE_LIMIT → total_of (sizes_of plan (map own_sizes (path_of path))) ≤ 15536
 total-few plan path p valid few = let t = total-some plan (path_of path) p (short-in PATH_LIMIT (path_of path) valid) in omega (arith, t, few)
 
 -- the bins are near their limit where no bin for them has room
@@ -135,7 +135,7 @@ is-full fault told e f = by fault (sym e ∙ same_err f)
     by arena.Full e = refl
     by arena.Memory e = absurd (cc)
 
-pub sizes-there : (plan : Option ℕ) (names : List (List ℕ)) → names ≢ [] → 0 < length (sizes_of plan names)
+pub sizes-there : (plan : Option ℕ) (names : List (List ℕ)) → names ≢ [] → 0 < length (sizes_of plan (map own_sizes names))
 sizes-there plan [] some = absurd (some refl)
 sizes-there None (name ∷ names) some = omega arith
 sizes-there (Some size) (name ∷ names) some = omega arith
@@ -159,44 +159,44 @@ zeros-ready h cell size z l = (
 abbrev Zeros : Heap → List ℕ → List ℕ → Type 0
 Zeros h cells sizes = (index : ℕ) → index < length sizes → h (get_or cells index 0) ≡ Some (replicate (get_or sizes index 0 - 4) 0)
 
-ready-all : (h : Heap) (plan : Option ℕ) (names : List (List ℕ)) (cells : List ℕ) → IsPlan plan → length cells ≡ length (sizes_of plan names) →
-    Zeros h cells (sizes_of plan names) → AreReady h plan names cells
+ready-all : (h : Heap) (plan : Option ℕ) (names : List (List ℕ)) (cells : List ℕ) → IsPlan plan → length cells ≡ length (sizes_of plan (map own_sizes names)) →
+    Zeros h cells (sizes_of plan (map own_sizes names)) → AreReady h plan (map own_sizes names) cells
 ready-all h plan [] [] p n z = refl
 ready-all h plan [] (cell ∷ cells) p n z = absurd (omega (arith, n))
 ready-all h None (name ∷ names) [] p n z = absurd (omega (arith, n))
 ready-all h None (name ∷ names) (key ∷ left) p n z = record {
   list_cell = 0;
-  key = key;
+  own = key ∷ [];
   left = left;
   spare_is = refl;
   ready = tt;
-  room = zeros-room h key (key_size name) (76 + length name) (z 0 (omega arith)) (omega arith);
+  room = (zeros-room h key (key_size name) (key_size name - 4) (z 0 (omega arith)) (omega arith), tt);
   rest = ready-all h (Some FIRST_LIST_SIZE) names left first_plan (omega (arith, n)) (λ i l. z (suc i) (omega (arith, l)));
 }
 ready-all h (Some size) (name ∷ names) [] p n z = absurd (omega (arith, n))
 ready-all h (Some size) (name ∷ names) (list ∷ []) p n z = absurd (omega (arith, n))
 ready-all h (Some size) (name ∷ names) (list ∷ key ∷ left) p n z = record {
   list_cell = list;
-  key = key;
+  own = key ∷ [];
   left = left;
   spare_is = refl;
   ready = zeros-ready h list size (z 0 (omega arith)) (let q = (p size refl).1 in omega (arith, q));
-  room = zeros-room h key (key_size name) (76 + length name) (z 1 (omega arith)) (omega arith);
+  room = (zeros-room h key (key_size name) (key_size name - 4) (z 1 (omega arith)) (omega arith), tt);
   rest = ready-all h (Some FIRST_LIST_SIZE) names left first_plan (omega (arith, n)) (λ i l. z (suc (suc i)) (omega (arith, l)));
 }
 
 -- cells carved by these sizes are those that the keys take
 pub spared : (old new : List ℕ) (key : ℕ) (t : IsHere old key) (count list : ℕ) → HasSubkeysList (cell_at old) key count list →
     (path : List ℕ) (plan : Option ℕ) → plan ≡ insert_size (cell_at old) count list → (sizes offsets cells : List ℕ) →
-    sizes ≡ sizes_of plan (path_of path) → cells ≡ offsets → AddsCells old new sizes offsets → IsSpared old new key (path_of path) cells
+    sizes ≡ sizes_of plan (map own_sizes (path_of path)) → cells ≡ offsets → AddsCells old new sizes offsets → IsSpared old new key (path_of path) cells
 spared old new key t count list has path plan plan_is sizes offsets cells sizes_are cells_are adds =
-    let sized : sizes ≡ sizes_of (insert_size (cell_at old) count list) (path_of path) = sizes_are ∙ ap (λ p. sizes_of p (path_of path)) plan_is in
-    let a : AreNew (cell_at old) (cell_at new) cells (sizes_of (insert_size (cell_at old) count list) (path_of path)) =
-    subst (λ c. AreNew (cell_at old) (cell_at new) c (sizes_of (insert_size (cell_at old) count list) (path_of path))) (sym cells_are)
+    let sized : sizes ≡ sizes_of (insert_size (cell_at old) count list) (map own_sizes (path_of path)) = sizes_are ∙ ap (λ p. sizes_of p (map own_sizes (path_of path))) plan_is in
+    let a : AreNew (cell_at old) (cell_at new) cells (sizes_of (insert_size (cell_at old) count list) (map own_sizes (path_of path))) =
+    subst (λ c. AreNew (cell_at old) (cell_at new) c (sizes_of (insert_size (cell_at old) count list) (map own_sizes (path_of path)))) (sym cells_are)
     (subst (AreNew (cell_at old) (cell_at new) offsets) sized adds.are_new) in
     let p = planned_is old key [] (growing old key t) count list has in
     record {
       come = a.come;
-      ready = subst (λ plan. AreReady (cell_at new) plan (path_of path) cells) (sym p)
+      ready = subst (λ plan. AreReady (cell_at new) plan (map own_sizes (path_of path)) cells) (sym p)
           (ready-all (cell_at new) (insert_size (cell_at old) count list) (path_of path) cells (plan_good old key t count list has) a.as_many a.zeros);
     }

@@ -31,7 +31,7 @@ use Rattle.reg_shape.proofs.Refinement.SpeltTrees.{path_total}
 use Rattle.reg_shape.proofs.Lookup.LookupOfShape.{offset-more, offset-append}
 use Rattle.reg_index.specs.Subkeys.{IsReady, taken}
 use Rattle.reg_tree.specs.declared.node.Node.{Node as TreeNode}
-use Rattle.reg_tree.specs.Internal.SpareCells.{planned, IsGrowing, MayGrow, Grows, AreReady, MayGrowAll, GrowsAll}
+use Rattle.reg_tree.specs.Internal.SpareCells.{planned, IsGrowing, MayGrow, Grows, HaveSizes, AreReady, own_sizes, MayGrowAll, GrowsAll}
 use Rattle.reg_tree.proofs.Invariant.KeyOfShape as keyed
 use Rattle.reg_tree.proofs.Invariant.UntouchedCells.{times-one}
 
@@ -59,27 +59,35 @@ ready-same h k (Some size) cell c r = (
   key_at-same h k cell (c size refl) ∙ r.2,
 )
 
-ready-kept : (h k : Heap) (plan : Option ℕ) (names : List (List ℕ)) (spare : List ℕ) → ((z : ℕ) → 0 < times z spare → k z ≡ h z) → AreReady h plan names spare → AreReady k plan names spare
+sizes-kept : (h k : Heap) (cells sizes : List ℕ) → ((z : ℕ) → 0 < times z cells → k z ≡ h z) → HaveSizes h cells sizes → HaveSizes k cells sizes
+sizes-kept h k [] [] c r = tt
+sizes-kept h k [] (size ∷ sizes) c r = absurd r
+sizes-kept h k (cell ∷ cells) [] c r = absurd r
+sizes-kept h k (cell ∷ cells) (size ∷ sizes) c r = (
+  (let same = c cell (some-times cell [] cells) in
+      record { exists = subst IsSome (sym same) r.0.exists; enough = subst (λ (bytes : List ℕ). size - 4 ≤ length bytes) (sym (same-held h k cell same)) r.0.enough }),
+  sizes-kept h k cells sizes (λ z l. c z (omega (arith, l))) r.1,
+)
+
+ready-kept : (h k : Heap) (plan : Option ℕ) (owns : List (List ℕ)) (spare : List ℕ) → ((z : ℕ) → 0 < times z spare → k z ≡ h z) → AreReady h plan owns spare → AreReady k plan owns spare
 ready-kept h k plan [] spare c r = r
-ready-kept h k plan (name ∷ names) spare c r = record {
+ready-kept h k plan (sizes ∷ more) spare c r = record {
   list_cell = r.list_cell;
-  key = r.key;
+  own = r.own;
   left = r.left;
   spare_is = r.spare_is;
   ready = ready-same h k plan r.list_cell (λ size e. c r.list_cell (subst (λ s. 0 < times r.list_cell s) (sym r.spare_is) (list-there plan size e))) r.ready;
-  room = (
-      let same = c r.key (subst (λ s. 0 < times r.key s) (sym r.spare_is) (some-times r.key (taken plan r.list_cell) r.left)) in
-      record { exists = subst IsSome (sym same) r.room.exists; enough = subst (λ (bytes : List ℕ). 76 + length name ≤ length bytes) (sym (same-held h k r.key same)) r.room.enough }
-      );
-  rest = ready-kept h k (Some FIRST_LIST_SIZE) names r.left (λ z l. c z (subst (λ s. 0 < times z s) (sym r.spare_is) (left-there z l))) r.rest;
+  room = sizes-kept h k r.own sizes (λ z l. c z (subst (λ s. 0 < times z s) (sym r.spare_is) (there z (let t = times-append z r.own r.left in omega (arith, t, l))))) r.room;
+  rest = ready-kept h k (Some FIRST_LIST_SIZE) more r.left
+      (λ z l. c z (subst (λ s. 0 < times z s) (sym r.spare_is) (there z (let t = times-append z r.own r.left in omega (arith, t, l))))) r.rest;
 }
   where
-    list-there : (o : Option ℕ) (size : ℕ) → o ≡ Some size → 0 < times r.list_cell (taken o r.list_cell ++ r.key ∷ r.left)
+    list-there : (o : Option ℕ) (size : ℕ) → o ≡ Some size → 0 < times r.list_cell (taken o r.list_cell ++ (r.own ++ r.left))
     list-there None size e = absurd (none-some _ e)
-    list-there (Some n) size e = some-times r.list_cell [] (r.key ∷ r.left)
+    list-there (Some n) size e = some-times r.list_cell [] (r.own ++ r.left)
 
-    left-there : (z : ℕ) → 0 < times z r.left → 0 < times z (taken plan r.list_cell ++ r.key ∷ r.left)
-    left-there z l = let t = times-append z (taken plan r.list_cell) (r.key ∷ r.left) in omega (arith, t, l)
+    there : (z : ℕ) → 0 < times z (r.own ++ r.left) → 0 < times z (taken plan r.list_cell ++ (r.own ++ r.left))
+    there z l = let t = times-append z (taken plan r.list_cell) (r.own ++ r.left) in omega (arith, t, l)
 
 -- ---- a key that is not there
 
@@ -137,12 +145,12 @@ module _ (bytes0 : List ℕ) (from : TreeNode) (names0 : List (List ℕ)) (spare
       few = mid.grow.few;
     }
 
-    pub ready_next : AreReady (cell_at bytes) (planned (cell_at bytes) node.offset) (name ∷ path_of behind) spare
-    ready_next = subst (λ ns. AreReady (cell_at bytes) (planned (cell_at bytes) node.offset) ns spare) f.names mid.grow.ready
+    pub ready_next : AreReady (cell_at bytes) (planned (cell_at bytes) node.offset) (own_sizes name ∷ map own_sizes (path_of behind)) spare
+    ready_next = subst (λ ns. AreReady (cell_at bytes) (planned (cell_at bytes) node.offset) (map own_sizes ns) spare) f.names mid.grow.ready
 
     module _ (new : List ℕ) (made : ℕ) (left : List ℕ)
         (grows : Grows (cell_at bytes) (cell_at new) g.root g.path g.keys g.ring made left name moment) (ready : AreReady (cell_at bytes) (Some FIRST_LIST_SIZE)
-        (path_of behind) left) where
+        (map own_sizes (path_of behind)) left) where
       abbrev k : Heap
       k = cell_at new
 
@@ -170,7 +178,8 @@ module _ (bytes0 : List ℕ) (from : TreeNode) (names0 : List (List ℕ)) (spare
         missing = λ n others e. grows.childless (folded n);
         deep = deep_then;
         few = λ r e. (let z = grows.none r e in omega (arith, z));
-        ready = subst (λ o. AreReady k o (path_of behind) left) (sym grows.unlisted) (ready-kept (cell_at bytes) k (Some FIRST_LIST_SIZE) (path_of behind) left grows.spare ready);
+        ready = subst (λ o. AreReady k o (map own_sizes (path_of behind)) left) (sym grows.unlisted)
+            (ready-kept (cell_at bytes) k (Some FIRST_LIST_SIZE) (map own_sizes (path_of behind)) left grows.spare ready);
       }
 
       keeps_then : (q : Path) (o : ℕ) → key_offset_at (cell_at bytes) g.root q ≡ Some o → key_offset_at k g.root q ≡ Some o
@@ -203,7 +212,7 @@ module _ (bytes0 : List ℕ) (from : TreeNode) (names0 : List (List ℕ)) (spare
   pub at_end : path_of rest ≡ [] → GrowsAll (cell_at bytes0) (cell_at bytes) m.growing.root m.growing.path m.growing.keys m.growing.ring from node names0 moment
   at_end e =
       let g = mid.grow.growing in
-      let none : spare ≡ [] = subst (λ ns. AreReady (cell_at bytes) (planned (cell_at bytes) node.offset) ns spare) e mid.grow.ready in
+      let none : spare ≡ [] = subst (λ ns. AreReady (cell_at bytes) (planned (cell_at bytes) node.offset) (map own_sizes ns) spare) e mid.grow.ready in
       record {
         now = g.keys;
         shape = subst (λ r. IsShape (cell_at bytes) r g.keys m.growing.ring []) mid.root_is

@@ -1,17 +1,18 @@
 -- The cells of one key among the spare ones, by the offsets where they stand.
-use Rattle.std.proofs.Common.{◌≡◌, ℕ, ◌<◌, Option, Some, None, IsSome, List, ◌∷◌, ◌++◌, length, drop, get_or, refl, sym, ap, ◌∙◌, subst, arith}
+use Rattle.std.proofs.Common.{◌≡◌, ℕ, ◌+◌, ◌-◌, ◌<◌, Option, Some, None, IsSome, List, [], ◌∷◌, ◌++◌, length, drop, get_or, refl, sym, ap, ◌∙◌, subst, arith}
 use Rattle.std.specs.Option.{option_and_then}
 use Rattle.std.proofs.lemmas.Option.{none-some}
 use Rattle.reg_heap.specs.Paths.{Path}
 use Rattle.reg_heap.specs.Heaps.{Heap}
 use Rattle.reg_shape.specs.Internal.Forests.{Branch}
 use Rattle.reg_arena.specs.Cells.{cell_at}
+use Rattle.reg_records.specs.RecordCells.{HasRoom}
 use Rattle.reg_records.specs.KeyNodes.{KeyRecord, key_at}
 use Rattle.reg_records.specs.SubkeyLists.{Entry}
 use Rattle.reg_shape.specs.Nodes.{Node, entries_of}
 use Rattle.reg_index.specs.Subkeys.{AreSubkeys, insert_size, taken}
 use Rattle.reg_tree.specs.Internal.KeyNodeChanges.{HasSubkeysList}
-use Rattle.reg_tree.specs.Internal.SpareCells.{planned, IsGrowing, MayGrow}
+use Rattle.reg_tree.specs.Internal.SpareCells.{planned, IsGrowing, MayGrow, HaveSizes, IsNext, key_size}
 use Rattle.reg_tree.proofs.Invariant.CellReadings.{is_some_of}
 use Rattle.reg_tree.proofs.Invariant.KeyOfShape as keyed
 use Rattle.reg_tree.proofs.InsertKey.ParentReindexed.{branch-subkeys}
@@ -52,6 +53,25 @@ module _ (bytes : List ℕ) (parent : ℕ) (spare : List ℕ) (g : IsGrowing byt
         ∙ (ap (λ n. insert_size h n node.key.fields.subkeys_list) (sym is-list.0) ∙ ap (insert_size h count) (sym is-list.1))
 
 -- ---- where the cells stand
+
+-- the first key's own cell, where it has one alone
+pub record HasOne (heap : Heap) (plan : Option ℕ) (list_cell size : ℕ) (left spare : List ℕ) : Type 0 where
+  pub key : ℕ
+  pub spare_is : spare ≡ taken plan list_cell ++ key ∷ left
+  pub room : HasRoom heap key (size - 4)
+
+pub one-own : (heap : Heap) (plan : Option ℕ) (size : ℕ) (spare : List ℕ) (Rest : List ℕ → Type 0) (r : IsNext heap plan (size ∷ []) spare Rest) →
+    HasOne heap plan r.list_cell size r.left spare
+one-own heap plan size spare Rest r = by r.own r.spare_is r.room
+  where
+    by : (own : List ℕ) → spare ≡ taken plan r.list_cell ++ (own ++ r.left) → HaveSizes heap own (size ∷ []) → HasOne heap plan r.list_cell size r.left spare
+    by [] e h = absurd h
+    by (key ∷ []) e h = record { key = key; spare_is = e; room = h.0 }
+    by (key ∷ other ∷ own) e h = absurd h.1
+
+-- the cell of a key node has room for it
+pub key-room : (heap : Heap) (key : ℕ) (name : List ℕ) → HasRoom heap key (key_size name - 4) → HasRoom heap key (76 + length name)
+key-room heap key name r = record { exists = r.exists; enough = omega (arith, r.enough) }
 
 -- what stands in the spare cells, where no list is planned, and where one is
 pub record IsAlone (plan : Option ℕ) (key : ℕ) (left spare : List ℕ) : Type 0 where

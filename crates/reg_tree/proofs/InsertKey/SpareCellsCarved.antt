@@ -1,5 +1,5 @@
 -- Cells carved for keys to be made: the tree is as it was, and those cells are spare.
-use Rattle.std.proofs.Common.{◌≡◌, ℕ, zero, suc, ◌+◌, ◌*◌, ◌≤◌, ◌<◌, Bool, true, false, cond, nat_le, Option, Some, None, List, [], ◌∷◌, length, refl, sym, ap, ◌∙◌, subst, arith}
+use Rattle.std.proofs.Common.{◌≡◌, ℕ, zero, suc, ◌+◌, ◌*◌, ◌≤◌, ◌<◌, Bool, true, false, cond, nat_le, Option, Some, None, List, [], ◌∷◌, map, length, refl, sym, ap, ◌∙◌, subst, arith}
 use Rattle.std.specs.Option.{option_and_then}
 use Rattle.std.specs.Ordering.{eq_by_cmp}
 use Rattle.std.specs.FinMap.{get, insert, get-insert, same_map}
@@ -36,7 +36,7 @@ use Rattle.reg_shape.proofs.Refinement.RefinementAtPath.{told}
 use Rattle.reg_index.specs.Subkeys.{insert_size, own}
 use Rattle.reg_tree.specs.declared.node.Node.{Node as TreeNode}
 use Rattle.reg_tree.specs.Internal.TreeInvariant.{IsHere}
-use Rattle.reg_tree.specs.Internal.SpareCells.{planned, AreReady, MayGrowAll, IsSpared}
+use Rattle.reg_tree.specs.Internal.SpareCells.{planned, AreReady, own_sizes, MayGrowAll, IsSpared}
 use Rattle.reg_tree.proofs.Invariant.KeyOfTree as here
 use Rattle.reg_tree.proofs.Invariant.KeyOfTree.{branch, key_is, looked, offset}
 use Rattle.reg_tree.proofs.InsertKey.ParentReindexed.{owned-single}
@@ -187,5 +187,5 @@ module _ (old mid : List ℕ) (parent : TreeNode) (t : IsHere old parent.offset)
     missing = missing-then;
     deep = deep;
     few = λ r e. few r (sym key-then ∙ e);
-    ready = subst (λ o. AreReady k o names spare) (sym planned-then) s.ready;
+    ready = subst (λ o. AreReady k o (map own_sizes names) spare) (sym planned-then) s.ready;
   }

@@ -1,5 +1,5 @@
 -- Keys made one after another, in cells that were carved for them before.
-use Rattle.std.specs.Prelude.{◌≡◌, ℕ, ◌+◌, ◌*◌, ◌/◌, ◌<◌, ◌≤◌, cond, Option, Some, None, List, [], ◌∷◌, ◌++◌, map, length}
+use Rattle.std.specs.Prelude.{◌≡◌, ℕ, ◌+◌, ◌-◌, ◌*◌, ◌/◌, ◌<◌, ◌≤◌, ⊤, cond, Option, Some, None, List, [], ◌∷◌, ◌++◌, map, length}
 use Rattle.std.specs.Option.{option_and_then}
 use Rattle.std.specs.Ordering.{eq_by_cmp}
 use Rattle.reg_names.specs.declared.TheConstants.{PATH_LIMIT}
@@ -56,33 +56,46 @@ pub record Grows (old new : Heap) (root : ℕ) (path : Path) (keys : Branch Node
   pub unlisted : planned new made ≡ Some FIRST_LIST_SIZE
   pub none : (k : KeyRecord) → key_at new made ≡ Some k → k.fields.subkeys ≡ 0
 
--- the spare cells begin with those of one key: its parent's list's, where one is planned, and its key node's; what holds of those
--- that are left is left open
-pub record IsNext (heap : Heap) (plan : Option ℕ) (name spare : List ℕ) (Rest : List ℕ → Type 0) : Type 0 where
+-- cells are of these sizes or larger, one by one, the size field counted
+abbrev pub HaveSizes : Heap → List ℕ → List ℕ → Type 0
+HaveSizes heap [] [] = ⊤
+HaveSizes heap [] (size ∷ sizes) = ⊥
+HaveSizes heap (cell ∷ cells) [] = ⊥
+HaveSizes heap (cell ∷ cells) (size ∷ sizes) = HasRoom heap cell (size - 4) × HaveSizes heap cells sizes
+
+-- the spare cells begin with those of one key: its parent's list's, where one is planned, and its own, of these sizes; what holds of
+-- those that are left is left open
+pub record IsNext (heap : Heap) (plan : Option ℕ) (sizes spare : List ℕ) (Rest : List ℕ → Type 0) : Type 0 where
   pub list_cell : ℕ
-  pub key : ℕ
+  pub own : List ℕ
   pub left : List ℕ
-  pub spare_is : spare ≡ taken plan list_cell ++ key ∷ left
+  pub spare_is : spare ≡ taken plan list_cell ++ (own ++ left)
   pub ready : IsReady heap plan list_cell
-  pub room : HasRoom heap key (76 + length name)
+  pub room : HaveSizes heap own sizes
   pub rest : Rest left
 
--- the spare cells are those that keys of these names take, one below the other; each but the first begins a list
+-- the spare cells are those that keys take, one below the other, each with own cells of its sizes; each but the first begins a list
 abbrev pub AreReady : Heap → Option ℕ → List (List ℕ) → List ℕ → Type 0
 AreReady heap plan [] spare = spare ≡ []
-AreReady heap plan (name ∷ names) spare = IsNext heap plan name spare (AreReady heap (Some FIRST_LIST_SIZE) names)
+AreReady heap plan (sizes ∷ more) spare = IsNext heap plan sizes spare (AreReady heap (Some FIRST_LIST_SIZE) more)
 
--- the sizes of these cells, in order; a key node of a name takes a cell of that size
+-- the size of a planned cell, where one is
 abbrev pub planned_sizes : Option ℕ → List ℕ
 planned_sizes None = []
 planned_sizes (Some size) = size ∷ []
 
+-- the size of the cell that a key node of a name takes
 abbrev pub key_size : List ℕ → ℕ
 key_size name = (87 + length name) / 8 * 8
 
+-- the sizes of a made key's own cells: its key node's
+abbrev pub own_sizes : List ℕ → List ℕ
+own_sizes name = key_size name ∷ []
+
+-- the sizes of the cells that keys take, in order, by the sizes of each key's own
 abbrev pub sizes_of : Option ℕ → List (List ℕ) → List ℕ
 sizes_of plan [] = []
-sizes_of plan (name ∷ names) = planned_sizes plan ++ key_size name ∷ sizes_of (Some FIRST_LIST_SIZE) names
+sizes_of plan (sizes ∷ more) = planned_sizes plan ++ (sizes ++ sizes_of (Some FIRST_LIST_SIZE) more)
 
 -- keys of these names may be made one below the other, from a node on, in the spare cells
 pub record MayGrowAll (bytes : List ℕ) (from : TreeNode) (names : List (List ℕ)) (spare : List ℕ) : Type 0 where
@@ -90,7 +103,7 @@ pub record MayGrowAll (bytes : List ℕ) (from : TreeNode) (names : List (List �
   pub missing : (name : List ℕ) (others : List (List ℕ)) → names ≡ name ∷ others → subkey_named (cell_at bytes) (folded name) from.offset ≡ None
   pub deep : length growing.path + length names ≤ PATH_LIMIT
   pub few : (k : KeyRecord) → key_at (cell_at bytes) from.offset ≡ Some k → k.fields.subkeys < LEAF_LIMIT
-  pub ready : AreReady (cell_at bytes) (planned (cell_at bytes) from.offset) names spare
+  pub ready : AreReady (cell_at bytes) (planned (cell_at bytes) from.offset) (map own_sizes names) spare
 
 -- keys of these names were made one below the other, below the one at a path; each other key stays where it stands
 pub record GrowsAll (old new : Heap) (root : ℕ) (path : Path) (keys : Branch Node) (ring : List ℕ) (from made : TreeNode)
@@ -106,4 +119,4 @@ pub record GrowsAll (old new : Heap) (root : ℕ) (path : Path) (keys : Branch N
 -- the cells that keys of these names take below a key are new, each once, and no other cell changed
 pub record IsSpared (old new : List ℕ) (key : ℕ) (names : List (List ℕ)) (spare : List ℕ) : Type 0 where
   pub come : CellFrame (cell_at old) (cell_at new) (λ z. 0) (λ z. times z spare)
-  pub ready : AreReady (cell_at new) (planned (cell_at old) key) names spare
+  pub ready : AreReady (cell_at new) (planned (cell_at old) key) (map own_sizes names) spare

@@ -1,5 +1,6 @@
-use Rattle.std.proofs.Common.{arith, refl, ◌∙◌, sym, subst, ◌+◌, ◌-◌, drop, get_or}
+use Rattle.std.proofs.Common.{arith, refl, ◌∙◌, sym, subst, ◌+◌, ◌-◌, map, drop, get_or}
 use Rattle.reg_names.specs.Names.{path_of}
+use Rattle.reg_tree.specs.Internal.SpareCells.{own_sizes}
 use Rattle.reg_tree.proofs.InsertKey.PathGrowth.{name_short, rest_all, Midway, at_start, deep_now, may_next, ready_next, one_further, at_end}
 use Rattle.reg_tree.proofs.make.make_all.Goals as goal
 
@@ -13,7 +14,7 @@ pub make_in-taken-requires-clause-grow : goal.make_in-taken-requires-clause-grow
 make_in-taken-requires-clause-grow c = may_next _ _ _ _ _ _ _ _ _ _ (c.loop-name.invariant.mid c.requires.grow) _ _ c.in-Some.ensures
 
 pub make_in-taken-requires-clause-ready : goal.make_in-taken-requires-clause-ready
-make_in-taken-requires-clause-ready c = (path_of c.in-Some.behind.now, ready_next _ _ _ _ _ _ _ _ _ _ (c.loop-name.invariant.mid c.requires.grow) _ _ c.in-Some.ensures)
+make_in-taken-requires-clause-ready c = (map own_sizes (path_of c.in-Some.behind.now), ready_next _ _ _ _ _ _ _ _ _ _ (c.loop-name.invariant.mid c.requires.grow) _ _ c.in-Some.ensures)
 
 pub make_in-taken-requires-clause-name : goal.make_in-taken-requires-clause-name
 make_in-taken-requires-clause-name c = (c.in-Some.ensures.good, name_short c.in-Some.name.now c.in-Some.ensures.good)
