@@ -9,7 +9,7 @@ use Rattle.reg_records.specs.RecordCells.{held, HasRoom}
 use Rattle.reg_records.specs.SubkeyLists.{Entry}
 use Rattle.reg_index.specs.Internal.HashLeaves.{IsLeaf, HasGap}
 use Rattle.reg_index.specs.Subkeys.{IsReady, AreSubkeys, Moves, own, taken, insert_size}
-use Rattle.reg_index.proofs.SubkeysOpening.{subkeys-open, length-subkeys}
+use Rattle.reg_index.proofs.SubkeysOpening.{subkeys-open, own-leaf}
 use Rattle.reg_index.proofs.InsertSizes.{first-size, no-size, next-size}
 
 -- ---- what the size says
@@ -39,7 +39,7 @@ pub first-gap : (heap : Heap) (count offset fresh index : ℕ) → count ≡ 0 �
     → (entries : List Entry) → AreSubkeys heap count offset entries → HasGap heap fresh index entries
 first-gap heap count offset fresh index none ready s entries t =
     let r : IsReady heap (Some FIRST_LIST_SIZE) fresh = subst (λ size. IsReady heap size fresh) (sym (first-size heap count offset none)) ready in
-    let nothing : (es : List Entry) → AreSubkeys heap count offset es → length es ≡ 0 = λ es t. length-subkeys heap count offset es t.read ∙ none in
+    let nothing : (es : List Entry) → AreSubkeys heap count offset es → length es ≡ 0 = λ es t. t.number ∙ none in
     by r index entries (nothing entries t) (let n = nothing s.0 s.1 in omega (arith, s.2, n))
   where
     by : IsReady heap (Some FIRST_LIST_SIZE) fresh → (index : ℕ) (entries : List Entry) → length entries ≡ 0 → index ≤ 0 → HasGap heap fresh index entries
@@ -47,14 +47,14 @@ first-gap heap count offset fresh index none ready s entries t =
     by r zero (e ∷ es) n l = absurd (omega arith)
     by r (suc index) entries n l = absurd (omega arith)
 
-pub first-moves : (heap : Heap) (count offset fresh : ℕ) → count ≡ 0 → Moves heap heap (own count offset ++ taken (insert_size heap count offset) fresh) (fresh ∷ [])
+pub first-moves : (heap : Heap) (count offset fresh : ℕ) → count ≡ 0 → Moves heap heap (own heap count offset ++ taken (insert_size heap count offset) fresh) (fresh ∷ [])
 first-moves heap zero offset fresh none = subst (λ size. Moves heap heap (taken size fresh) (fresh ∷ [])) (first-size heap zero offset none) (record { count = λ z. refl; same = λ z gone came. refl })
 first-moves heap (suc count) offset fresh none = absurd (omega arith)
 
 -- ---- the list as it is
 
 pub leaf-of : (heap : Heap) (count offset : ℕ) → (count ≡ 0 → ⊥) → (entries : List Entry) → AreSubkeys heap count offset entries → IsLeaf heap offset entries × (length entries ≡ count)
-leaf-of heap count offset some entries s = let h = subkeys-open heap count offset entries s.read (omega (arith, some)) in (h.leaf, h.number)
+leaf-of heap count offset some entries s = let h = subkeys-open heap count offset entries s (omega (arith, some)) in (h.leaf, h.number)
 
 pub leaf-needs : (heap : Heap) (count offset index : ℕ) → (count ≡ 0 → ⊥) →
     ((entries : List Entry) × AreSubkeys heap count offset entries × (index ≤ length entries)) → (entries : List Entry) × IsLeaf heap offset entries ×
@@ -62,7 +62,7 @@ pub leaf-needs : (heap : Heap) (count offset index : ℕ) → (count ≡ 0 → �
 leaf-needs heap count offset index some s = let h = leaf-of heap count offset some s.0 s.1 in (s.0, h.0, h.1)
 
 pub index-fits : (heap : Heap) (count offset index : ℕ) → ((entries : List Entry) × AreSubkeys heap count offset entries × (index ≤ length entries)) → index ≤ count
-index-fits heap count offset index s = omega (arith, s.2, length-subkeys heap count offset s.0 s.1.read)
+index-fits heap count offset index s = omega (arith, s.2, s.1.number)
 
 pub gap-of : (old new : Heap) (count offset at index : ℕ) → (count ≡ 0 → ⊥) → ((entries : List Entry) → IsLeaf old offset entries → length entries ≡ count → HasGap new at index entries)
     → (entries : List Entry) → AreSubkeys old count offset entries → HasGap new at index entries
@@ -70,10 +70,12 @@ gap-of old new count offset at index some gap entries s = let h = leaf-of old co
 
 -- ---- in the list's cell
 
-pub within-moves : (old new : Heap) (count offset fresh : ℕ) → (count ≡ 0 → ⊥) → insert_size old count offset ≡ None → Writes old new (offset ∷ []) →
-    Moves old new (own count offset ++ taken (insert_size old count offset) fresh) (offset ∷ [])
-within-moves old new zero offset fresh some e w = absurd (some refl)
-within-moves old new (suc count) offset fresh some e w = subst (λ size. Moves old new (offset ∷ taken size fresh) (offset ∷ [])) (sym e) w
+pub within-moves : (old new : Heap) (count offset fresh index : ℕ) → ((entries : List Entry) × AreSubkeys old count offset entries × (index ≤ length entries)) →
+    (count ≡ 0 → ⊥) → insert_size old count offset ≡ None → Writes old new (offset ∷ [])
+    → Moves old new (own old count offset ++ taken (insert_size old count offset) fresh) (offset ∷ [])
+within-moves old new count offset fresh index s some e w =
+    subst (λ cells. Moves old new (cells ++ taken (insert_size old count offset) fresh) (offset ∷ []))
+    (sym (own-leaf old count offset s.0 s.1 (omega (arith, some)))) (subst (λ size. Moves old new (offset ∷ taken size fresh) (offset ∷ [])) (sym e) w)
 
 -- ---- in another cell
 
@@ -92,8 +94,9 @@ module _ (heap : Heap) (count offset fresh size : ℕ) (some : count ≡ 0 → �
       let same : length (held heap fresh) ≡ length (held heap offset) = ap (λ z. length (held heap z)) e in
       absurd (omega (arith, same, carved.1, next.size_is, next.short))
 
-pub move-moves : (old new : Heap) (count offset fresh size : ℕ) → (count ≡ 0 → ⊥) → insert_size old count offset ≡ Some size →
-    CellFrame old new (λ z. times z (offset ∷ fresh ∷ [])) (λ z. times z (fresh ∷ []))
-    → Moves old new (own count offset ++ taken (insert_size old count offset) fresh) (fresh ∷ [])
-move-moves old new zero offset fresh size some e w = absurd (some refl)
-move-moves old new (suc count) offset fresh size some e w = subst (λ size. Moves old new (offset ∷ taken size fresh) (fresh ∷ [])) (sym e) w
+pub move-moves : (old new : Heap) (count offset fresh size index : ℕ) → ((entries : List Entry) × AreSubkeys old count offset entries × (index ≤ length entries)) →
+    (count ≡ 0 → ⊥) → insert_size old count offset ≡ Some size → CellFrame old new (λ z. times z (offset ∷ fresh ∷ [])) (λ z. times z (fresh ∷ []))
+    → Moves old new (own old count offset ++ taken (insert_size old count offset) fresh) (fresh ∷ [])
+move-moves old new count offset fresh size index s some e w =
+    subst (λ cells. Moves old new (cells ++ taken (insert_size old count offset) fresh) (fresh ∷ []))
+    (sym (own-leaf old count offset s.0 s.1 (omega (arith, some)))) (subst (λ size. Moves old new (offset ∷ taken size fresh) (fresh ∷ [])) (sym e) w)

@@ -15,7 +15,6 @@ use Rattle.reg_records.specs.declared.RecordFault.{RecordFault}
 use Rattle.reg_records.specs.KeyNodes.{KeyRecord, nk_of, key_at}
 use Rattle.reg_records.specs.SubkeyLists.{Entry}
 use Rattle.reg_index.specs.Subkeys.{AreSubkeys, IsIndexFor, name_at, name_or_none, names_in}
-use Rattle.reg_index.proofs.SubkeysOpening.{length-subkeys}
 use Rattle.reg_index.proofs.SortedNames.{Between, to_right, to_left, order-back, order-same}
 
 -- ---- a key read in its cell
@@ -57,14 +56,14 @@ all-at P (e ∷ es) all (suc index) d l = all-at P es all.1 index d (omega arith
 pub all-between : (heap : Heap) (count offset : ℕ) (name : List ℕ) (entries : List Entry) → AreSubkeys heap count offset entries → Between (names_in heap entries) name 0 count
 all-between heap count offset name entries s =
     let n = length-names heap entries in
-    let m = length-subkeys heap count offset entries s.read in
+    let m = s.number in
     record { order_is = omega arith; within = omega arith; before = λ k l. absurd (omega arith); behind = λ k l r. absurd (omega arith) }
 
 -- the middle is in the list
 pub in-list : (heap : Heap) (count offset low high middle : ℕ) (name : List ℕ) → middle < high →
     ((entries : List Entry) → AreSubkeys heap count offset entries → Between (names_in heap entries) (folded name) low high)
     → (entries : List Entry) × AreSubkeys heap count offset entries → middle < count
-in-list heap count offset low high middle name to so_far s = omega (arith, (so_far s.0 s.1).within, length-names heap s.0, length-subkeys heap count offset s.0 s.1.read, to)
+in-list heap count offset low high middle name to so_far s = omega (arith, (so_far s.0 s.1).within, length-names heap s.0, s.1.number, to)
 
 module _ (heap : Heap) (count offset low high middle key : ℕ) (name : List ℕ) (from : low ≤ middle) (to : middle < high)
     (so_far : (entries : List Entry) → AreSubkeys heap count offset entries → Between (names_in heap entries) (folded name) low high)
@@ -74,13 +73,13 @@ module _ (heap : Heap) (count offset low high middle key : ℕ) (name : List ℕ
 
   pub is-key : (entries : List Entry) × AreSubkeys heap count offset entries → IsSome (key_at heap key)
   is-key s =
-      let l : middle < length s.0 = omega (arith, within_list s, length-subkeys heap count offset s.0 s.1.read) in
+      let l : middle < length s.0 = omega (arith, within_list s, s.1.number) in
       subst (λ k. IsSome (key_at heap k)) (is s.0 s.1) (all-at (λ (e : Entry). IsSome (key_at heap e.offset)) s.0 s.1.keys middle (record { offset = 0; hint = 0 }) l)
 
   module _ (found : List ℕ) (name_is : found ≡ name_at heap key) (entries : List Entry) (s : AreSubkeys heap count offset entries) where
     named : get_or (names_in heap entries) middle [] ≡ folded found
     named =
-        let l : middle < length entries = omega (arith, within_list (entries, s), length-subkeys heap count offset entries s.read) in
+        let l : middle < length entries = omega (arith, within_list (entries, s), s.number) in
         get-name heap entries middle (record { offset = 0; hint = 0 }) l ∙ (ap (λ k. folded (name_at heap k)) (is entries s) ∙ ap folded (sym name_is))
 
     pub is-before : Less ≡ name_cmp found name → Between (names_in heap entries) (folded name) (middle + 1) high
@@ -95,5 +94,5 @@ module _ (heap : Heap) (count offset low high middle key : ℕ) (name : List ℕ
     is-found e =
         let n = length-names heap entries in
         let l = within_list (entries, s) in
-        let m = length-subkeys heap count offset entries s.read in
+        let m = s.number in
         (omega arith, named ∙ order-same (folded found) (folded name) (sym e))

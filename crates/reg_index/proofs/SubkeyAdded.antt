@@ -3,7 +3,6 @@ use Rattle.std.proofs.Common.{◌≡◌, ℕ, zero, suc, ◌+◌, ◌<◌, ◌�
 use Rattle.std.specs.Prelude.{Err}
 use Rattle.std.specs.List.{AllByRecursion}
 use Rattle.std.proofs.lemmas.Bool.{false≢true}
-use Rattle.std.proofs.lemmas.Option.{same_Some}
 use Rattle.std.proofs.lemmas.List.{take-map, drop-map, map-append, length-append, length-take-le, length-drop}
 use Rattle.reg_arena.proofs.Contents.CellWrites.{all-append}
 use Rattle.reg_names.specs.Names.{folded, hash}
@@ -14,10 +13,10 @@ use Rattle.reg_records.specs.KeyNodes.{key_at}
 use Rattle.reg_records.specs.SubkeyLists.{Entry}
 use Rattle.reg_index.specs.Internal.HashLeaves.{IsLeaf, HasGap}
 use Rattle.reg_index.specs.Subkeys.{name_at, names_in, Rises, IsIndexFor, IsReady, AreSubkeys, Moves, own, taken, with_one, entry_for, insert_size}
-use Rattle.reg_index.proofs.SubkeysOpening.{subkeys-open, subkeys-made, length-subkeys}
+use Rattle.reg_index.proofs.SubkeysOpening.{subkeys-open, own-leaf, same-subkeys}
 use Rattle.reg_index.proofs.NameSearch.{length-names}
 use Rattle.reg_index.proofs.SortedNames.{rises-added}
-use Rattle.reg_index.proofs.SubkeysFrame.{AreKeys, Stay, keys-of, keys-stay, subkeys-of, all-map, key-or-leaf, key-stays, times-not}
+use Rattle.reg_index.proofs.SubkeysFrame.{AreKeys, Stay, keys-of, keys-stay, leaf-subkeys, all-map, key-or-leaf, key-stays, times-not}
 use Rattle.reg_index.proofs.SubkeyRemoved.{all-take, all-drop}
 
 -- ---- one more among all
@@ -53,32 +52,25 @@ taken-none heap (Some size) fresh key ready some =
 
 given-none : (heap : Heap) (count offset fresh key : ℕ) (entries : List Entry) → AreSubkeys heap count offset entries →
     IsReady heap (insert_size heap count offset) fresh → IsSome (key_at heap key) →
-    times key (own count offset ++ taken (insert_size heap count offset) fresh) ≡ 0
+    times key (own heap count offset ++ taken (insert_size heap count offset) fresh) ≡ 0
 given-none heap zero offset fresh key entries s ready some = taken-none heap (insert_size heap zero offset) fresh key ready some
 given-none heap (suc count) offset fresh key entries s ready some =
-    times-not key offset (taken (insert_size heap (suc count) offset) fresh)
-    (λ same. key-or-leaf heap offset entries (subkeys-open heap (suc count) offset entries s.read (omega arith)).leaf
+    subst (λ cells. times key (cells ++ taken (insert_size heap (suc count) offset) fresh) ≡ 0) (sym (own-leaf heap (suc count) offset entries s (omega arith)))
+    (times-not key offset (taken (insert_size heap (suc count) offset) fresh)
+    (λ same. key-or-leaf heap offset entries (subkeys-open heap (suc count) offset entries s (omega arith)).leaf
     (subst (λ z. IsSome (key_at heap z)) (sym same) some))
-    (taken-none heap (insert_size heap (suc count) offset) fresh key ready some)
+    (taken-none heap (insert_size heap (suc count) offset) fresh key ready some))
 
 -- ---- the subkeys with one more
 
 module _ (old between new : Heap) (count offset fresh at after index key : ℕ) (more : after ≡ count + 1) (few : count < LEAF_LIMIT)
     (some : IsSome (key_at old key)) (ready : IsReady old (insert_size old count offset) fresh)
-    (opened : Moves old between (own count offset ++ taken (insert_size old count offset) fresh) (at ∷ [])) (filled : Writes between new (at ∷ [])) where
-  moved : CellFrame old new (λ z. times z (own count offset ++ taken (insert_size old count offset) fresh)) (λ z. times z (at ∷ []))
+    (opened : Moves old between (own old count offset ++ taken (insert_size old count offset) fresh) (at ∷ [])) (filled : Writes between new (at ∷ [])) where
+  moved : CellFrame old new (λ z. times z (own old count offset ++ taken (insert_size old count offset) fresh)) (λ z. times z (at ∷ []))
   moved = record {
     count = λ z. omega (arith, opened.count z, filled.count z);
     same = λ z gone came. filled.same z came came ∙ opened.same z gone came;
   }
-
-  own-now : Moves old new (own count offset ++ taken (insert_size old count offset) fresh) (at ∷ []) → (n : ℕ) → n ≡ count + 1 →
-      Moves old new (own count offset ++ taken (insert_size old count offset) fresh) (own n at)
-  own-now m zero e = absurd (omega arith)
-  own-now m (suc n) e = m
-
-  pub one-moves : Moves old new (own count offset ++ taken (insert_size old count offset) fresh) (own after at)
-  one-moves = own-now moved after more
 
   module _ (hint : ℕ) (hint_is : hint ≡ hash (name_at old key))
       (put : (entries : List Entry) → HasGap between at index entries → length entries + 1 ≡ after → index ≤ length entries →
@@ -87,7 +79,7 @@ module _ (old between new : Heap) (count offset fresh at after index key : ℕ) 
       (fits : (entries : List Entry) × AreSubkeys old count offset entries × IsIndexFor (names_in old entries) (folded (name_at old key)) (Err index))
       (entries : List Entry) (s : AreSubkeys old count offset entries) where
     same : fits.0 ≡ entries
-    same = same_Some _ _ (sym fits.1.read ∙ s.read)
+    same = same-subkeys old count offset fits.0 entries fits.1 s
 
     offset_is : IsIndexFor (names_in old entries) (folded (name_at old key)) (Err index)
     offset_is = subst (λ es. IsIndexFor (names_in old es) (folded (name_at old key)) (Err index)) same fits.2
@@ -98,10 +90,10 @@ module _ (old between new : Heap) (count offset fresh at after index key : ℕ) 
     leaf : IsLeaf new at (with_one index (entry_for old key) entries)
     leaf =
         subst (λ h. IsLeaf new at (with_one index (record { offset = key; hint = h }) entries)) hint_is
-        (put entries (gap entries s) (omega (arith, length-subkeys old count offset entries s.read, more)) within)
+        (put entries (gap entries s) (omega (arith, s.number, more)) within)
 
     stay : (z : ℕ) → IsSome (key_at old z) → key_at new z ≡ key_at old z
-    stay z is = key-stays old new (λ z. times z (own count offset ++ taken (insert_size old count offset) fresh)) (λ z. times z (at ∷ [])) z moved is
+    stay z is = key-stays old new (λ z. times z (own old count offset ++ taken (insert_size old count offset) fresh)) (λ z. times z (at ∷ [])) z moved is
         (given-none old count offset fresh z entries s ready is)
 
     all-stay : Stay old new (with_one index (entry_for old key) entries)
@@ -111,11 +103,14 @@ module _ (old between new : Heap) (count offset fresh at after index key : ℕ) 
 
     pub one-more : AreSubkeys new after at (with_one index (entry_for old key) entries)
     one-more =
-        subkeys-of new after at (with_one index (entry_for old key) entries)
-        (subkeys-made new after at (with_one index (entry_for old key) entries) (omega (arith, more)) leaf
-        (omega (arith, length-with index (entry_for old key) entries within, length-subkeys old count offset entries s.read, more)))
-        (omega (arith, few, more)) (λ e. absurd (omega (arith, e, more)))
+        leaf-subkeys new after at (with_one index (entry_for old key) entries) (omega (arith, more)) leaf
+        (omega (arith, length-with index (entry_for old key) entries within, s.number, more)) (omega (arith, few, more))
         (keys-stay old new (with_one index (entry_for old key) entries) (keys-with old index key entries some (keys-of old count offset entries s) offset_is) all-stay)
+
+    pub one-moves : Moves old new (own old count offset ++ taken (insert_size old count offset) fresh) (own new after at)
+    one-moves =
+        subst (λ cells. Moves old new (own old count offset ++ taken (insert_size old count offset) fresh) cells)
+        (sym (own-leaf new after at (with_one index (entry_for old key) entries) one-more (omega (arith, more)))) moved
 
 -- what filling the gap needs
 pub fill-needs : (old between : Heap) (count offset at index after : ℕ) (name : List ℕ) → after ≡ count + 1
@@ -123,7 +118,7 @@ pub fill-needs : (old between : Heap) (count offset at index after : ℕ) (name 
     → ((entries : List Entry) → AreSubkeys old count offset entries → HasGap between at index entries)
     → (entries : List Entry) × HasGap between at index entries × (length entries + 1 ≡ after) × (index ≤ length entries)
 fill-needs old between count offset at index after name more fits gap =
-    (fits.0, gap fits.0 fits.1, omega (arith, length-subkeys old count offset fits.0 fits.1.read, more), omega (arith, fits.2.0, length-names old fits.0))
+    (fits.0, gap fits.0 fits.1, omega (arith, fits.1.number, more), omega (arith, fits.2.0, length-names old fits.0))
 
 pub open-needs : (heap : Heap) (count offset index : ℕ) (name : List ℕ) → (entries : List Entry) × AreSubkeys heap count offset entries ×
     IsIndexFor (names_in heap entries) name (Err index) → (entries : List Entry) × AreSubkeys heap count offset entries × (index ≤ length entries)

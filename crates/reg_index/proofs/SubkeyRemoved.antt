@@ -1,5 +1,5 @@
 -- A subkey taken out.
-use Rattle.std.proofs.Common.{◌≡◌, ℕ, zero, suc, ◌+◌, ◌<◌, Some, IsSome, List, [], ◌∷◌, ◌++◌, length, take, drop, refl, sym, ap, ◌∙◌, subst, arith}
+use Rattle.std.proofs.Common.{◌≡◌, ℕ, zero, suc, ◌+◌, ◌<◌, IsSome, List, [], ◌∷◌, ◌++◌, length, take, drop, refl, sym, ap, ◌∙◌, subst, arith}
 use Rattle.std.specs.List.{AllByRecursion}
 use Rattle.std.proofs.lemmas.List.{take-map, drop-map, map-append, length-append, length-take-le, length-drop}
 use Rattle.reg_arena.proofs.Contents.CellWrites.{all-append}
@@ -10,11 +10,11 @@ use Rattle.reg_heap.specs.Kinds.{times}
 use Rattle.reg_records.specs.KeyNodes.{key_at}
 use Rattle.reg_records.specs.SubkeyLists.{Entry}
 use Rattle.reg_index.specs.Internal.HashLeaves.{IsLeaf}
-use Rattle.reg_index.specs.Subkeys.{subkeys_at, name_at, names_in, Rises, AreSubkeys, Moves, own, without}
-use Rattle.reg_index.proofs.SubkeysOpening.{subkeys-open, subkeys-made, length-subkeys}
+use Rattle.reg_index.specs.Subkeys.{name_at, names_in, Rises, AreSubkeys, Moves, own, without}
+use Rattle.reg_index.proofs.SubkeysOpening.{subkeys-open, own-leaf, few-subkeys}
 use Rattle.reg_index.proofs.NameSearch.{length-names}
 use Rattle.reg_index.proofs.SortedNames.{rises-left}
-use Rattle.reg_index.proofs.SubkeysFrame.{AreKeys, Stay, keys-of, keys-stay, subkeys-of, all-map, key-or-leaf, key-stays, times-not}
+use Rattle.reg_index.proofs.SubkeysFrame.{AreKeys, Stay, keys-of, keys-stay, leaf-subkeys, no-subkeys, all-map, key-or-leaf, key-stays, times-not}
 
 -- ---- all but one
 
@@ -45,22 +45,20 @@ keys-without heap index entries l k = record {
 
 -- ---- the subkeys that are left
 
-module _ (old new : Heap) (count offset left after index : ℕ) (came : ℕ → ℕ) (within : index < count) (less : left + 1 ≡ count)
+module _ (old new : Heap) (count offset left index : ℕ) (came : ℕ → ℕ) (within : index < count) (less : left + 1 ≡ count)
     (moved : CellFrame old new (λ z. times z (offset ∷ [])) came) (entries : List Entry) (s : AreSubkeys old count offset entries) where
   stay : Stay old new entries
   stay =
       all-map (λ (e : Entry). IsSome (key_at old e.offset)) (λ (e : Entry). key_at new e.offset ≡ key_at old e.offset) entries
       (λ e some. key-stays old new (λ z. times z (offset ∷ [])) came e.offset moved some
-      (times-not e.offset offset [] (λ same. key-or-leaf old offset entries (subkeys-open old count offset entries s.read (omega arith)).leaf
+      (times-not e.offset offset [] (λ same. key-or-leaf old offset entries (subkeys-open old count offset entries s (omega arith)).leaf
       (subst (λ z. IsSome (key_at old z)) (sym same) some)) refl))
       s.keys
 
-  pub taken-out : subkeys_at new left after ≡ Some (without index entries) → (left ≡ 0 → after ≡ NONE) → AreSubkeys new left after (without index entries)
-  taken-out read unlisted =
-      let number = length-subkeys old count offset entries s.read in
-      subkeys-of new left after (without index entries) read (omega (arith, s.few, less)) unlisted
-      (keys-stay old new (without index entries) (keys-without old index entries (omega (arith, number, within)) (keys-of old count offset entries s))
-      (all-without (λ (e : Entry). key_at new e.offset ≡ key_at old e.offset) index entries stay))
+  keys-left : AreKeys new (without index entries)
+  keys-left =
+      keys-stay old new (without index entries) (keys-without old index entries (omega (arith, s.number, within)) (keys-of old count offset entries s))
+      (all-without (λ (e : Entry). key_at new e.offset ≡ key_at old e.offset) index entries stay)
 
 none-left : (index : ℕ) (entries : List Entry) → index < 1 → length entries ≡ 1 → without index entries ≡ []
 none-left zero [] l n = refl
@@ -68,33 +66,28 @@ none-left zero (e ∷ []) l n = refl
 none-left zero (e ∷ f ∷ es) l n = absurd (omega arith)
 none-left (suc index) entries l n = absurd (omega arith)
 
-no-subkeys : (heap : Heap) (count offset : ℕ) → count ≡ 0 → subkeys_at heap count offset ≡ Some []
-unfolding subkeys_at
-no-subkeys heap zero offset e = refl
-no-subkeys heap (suc count) offset e = absurd (omega arith)
-
 -- the last one
-pub emptied : (old new : Heap) (count offset left index : ℕ) → index < count → left + 1 ≡ count → left ≡ 0 → GivesUp old new (offset ∷ []) →
+pub emptied : (old new : Heap) (count offset left index : ℕ) → index < count → left + 1 ≡ count → left ≡ 0 →
     (entries : List Entry) → AreSubkeys old count offset entries → AreSubkeys new left NONE (without index entries)
-emptied old new count offset left index within less none gone entries s =
-    let number = length-subkeys old count offset entries s.read in
-    taken-out old new count offset left NONE index (λ z. 0) within less gone entries s
-    (no-subkeys new left NONE none ∙ ap Some (sym (none-left index entries (omega arith) (omega (arith, number))))) (λ e. refl)
+emptied old new count offset left index within less none entries s =
+    no-subkeys new left NONE (without index entries) none refl (ap length (none-left index entries (omega (arith, within, less, none)) (omega (arith, s.number, less, none))))
 
-pub emptied-moves : (old new : Heap) (offset left after : ℕ) → left ≡ 0 → GivesUp old new (offset ∷ []) → Moves old new (offset ∷ []) (own left after)
-emptied-moves old new offset zero after none gone = gone
-emptied-moves old new offset (suc left) after none gone = absurd (omega arith)
+pub emptied-moves : (old new : Heap) (count offset left after : ℕ) → ((entries : List Entry) × AreSubkeys old count offset entries) → left + 1 ≡ count → left ≡ 0 →
+    GivesUp old new (offset ∷ []) → Moves old new (own old count offset) (own new left after)
+emptied-moves old new count offset zero after s less none gone =
+    subst (λ cells. Moves old new cells []) (sym (own-leaf old count offset s.0 s.1 (omega (arith, less)))) gone
+emptied-moves old new count offset (suc left) after s less none gone = absurd (omega arith)
 
 -- one of several
 pub fewer : (old new : Heap) (count offset left index : ℕ) → index < count → left + 1 ≡ count → (left ≡ 0 → ⊥) → Writes old new (offset ∷ [])
     → ((entries : List Entry) → IsLeaf old offset entries → length entries ≡ left + 1 → IsLeaf new offset (without index entries))
     → (entries : List Entry) → AreSubkeys old count offset entries → AreSubkeys new left offset (without index entries)
 fewer old new count offset left index within less some writes closed entries s =
-    let h = subkeys-open old count offset entries s.read (omega arith) in
+    let h = subkeys-open old count offset entries s (omega (arith, less)) in
     let number = h.number in
     let leaf = closed entries h.leaf (omega (arith, number, less)) in
-    taken-out old new count offset left offset index (λ z. times z (offset ∷ [])) within less writes entries s
-    (subkeys-made new left offset (without index entries) (omega (arith, some)) leaf (length-left entries number)) (λ e. absurd (some e))
+    leaf-subkeys new left offset (without index entries) (omega (arith, some)) leaf (length-left entries number) (omega (arith, few-subkeys old count offset entries s, less))
+    (keys-left old new count offset left index (λ z. times z (offset ∷ [])) within less writes entries s)
   where
     length-left : (entries : List Entry) → length entries ≡ count → length (without index entries) ≡ left
     length-left entries number = omega (
@@ -107,13 +100,17 @@ fewer old new count offset left index within less some writes closed entries s =
       length-drop (index + 1) entries,
     )
 
-pub fewer-moves : (old new : Heap) (offset left : ℕ) → (left ≡ 0 → ⊥) → Writes old new (offset ∷ []) → Moves old new (offset ∷ []) (own left offset)
-fewer-moves old new offset zero some writes = absurd (some refl)
-fewer-moves old new offset (suc left) some writes = writes
+pub fewer-moves : (old new : Heap) (count offset left index : ℕ) → index < count → left + 1 ≡ count → (left ≡ 0 → ⊥) → Writes old new (offset ∷ [])
+    → ((entries : List Entry) → IsLeaf old offset entries → length entries ≡ left + 1 → IsLeaf new offset (without index entries))
+    → ((entries : List Entry) × AreSubkeys old count offset entries) → Moves old new (own old count offset) (own new left offset)
+fewer-moves old new count offset left index within less some writes closed s =
+    subst (λ cells. Moves old new cells (own new left offset)) (sym (own-leaf old count offset s.0 s.1 (omega (arith, less))))
+    (subst (λ cells. Moves old new (offset ∷ []) cells)
+    (sym (own-leaf new left offset (without index s.0) (fewer old new count offset left index within less some writes closed s.0 s.1) (omega (arith, some)))) writes)
 
 -- what taking out needs
 pub one-leaf : (heap : Heap) (count offset left : ℕ) → left + 1 ≡ count → ((entries : List Entry) × AreSubkeys heap count offset entries) →
     (entries : List Entry) × IsLeaf heap offset entries × (length entries ≡ left + 1)
 one-leaf heap count offset left less s =
-    let h = subkeys-open heap count offset s.0 s.1.read (omega arith) in
+    let h = subkeys-open heap count offset s.0 s.1 (omega arith) in
     (s.0, h.leaf, omega (arith, h.number, less))

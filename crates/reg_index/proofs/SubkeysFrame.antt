@@ -1,23 +1,32 @@
 -- Subkeys that stay what they are where other cells change.
-use Rattle.std.proofs.Common.{◌≡◌, ◌≢◌, ◌⊎◌, inl, inr, ℕ, zero, suc, ◌≤◌, ◌==◌, Bool, true, false, not, cond, Option, Some, None, IsSome, is_some, List, [], ◌∷◌, refl, sym, ap, ◌∙◌, subst, arith}
+use Rattle.std.proofs.Common.{◌≡◌, ◌≢◌, ℕ, zero, suc, ◌<◌, ◌≤◌, ◌==◌, Bool, true, false, not, cond, Option, Some, None, IsSome, is_some}
+use Rattle.std.proofs.Common.{List, [], ◌∷◌, map, length, take, drop, refl, sym, ap, ◌∙◌, subst, arith}
 use Rattle.std.specs.Prelude.{slice_index, Ok}
 use Rattle.std.specs.List.{AllByRecursion}
 use Rattle.std.specs.Option.{option_and_then}
 use Rattle.std.proofs.lemmas.Bool.{false≢true, eqb-true, ne_eqb, and_parts}
+use Rattle.std.proofs.lemmas.List.{append-nil}
 use Rattle.std.proofs.lemmas.Option.{none-some, same_Some}
 use Rattle.reg_names.specs.Names.{folded, hash}
 use Rattle.reg_heap.specs.declared.limits.TheConstants.{NONE, LEAF_LIMIT}
 use Rattle.reg_heap.specs.Heaps.{Heap, CellFrame, allocated}
-use Rattle.reg_heap.specs.Kinds.{times}
+use Rattle.reg_heap.specs.Kinds.{times, is_own, owned}
 use Rattle.reg_records.specs.RecordCells.{held}
 use Rattle.reg_records.specs.KeyNodes.{KeyRecord, nk_of, key_at}
 use Rattle.reg_records.specs.Letters.{is_signed}
-use Rattle.reg_records.specs.SubkeyLists.{SubkeysList, Entry, form_of, list_of}
+use Rattle.reg_records.specs.SubkeyLists.{SubkeysList, Entry, form_of}
+use Rattle.reg_records.specs.declared.lists.ListForm.TheVariants.{HashLeaf}
+use Rattle.reg_shape.specs.Nodes.{KeyList, Index, index_as, index_at}
+use Rattle.reg_shape.specs.Nodes.Index.{Unlisted, Listed, Rooted}
+use Rattle.reg_shape.specs.Internal.Shapes.{joined, lists_met, index_cells}
+use Rattle.reg_shape.proofs.Wholeness.ShapeCounts.{tally-append, nothing-met, nothing-taken}
+use Rattle.reg_shape.proofs.Frame.KeyFrame.{index-local}
 use Rattle.reg_records.proofs.RecordWriting.{read_at-open, read_at-same, no_fault}
 use Rattle.reg_index.specs.Internal.HashLeaves.{IsLeaf}
-use Rattle.reg_index.specs.Subkeys.{hashed, subkeys_at, name_at, name_or_none, names_in, Rises, AreSubkeys}
+use Rattle.reg_index.specs.Subkeys.{name_at, name_or_none, names_in, Rises, AreSubkeys, cells_of_index, own}
 use Rattle.reg_index.proofs.LeafParts.{leaf-open}
 use Rattle.reg_index.proofs.NameSearch.{key-here}
+use Rattle.reg_index.proofs.SubkeysOpening.{own-is}
 
 -- ---- a list is no key
 
@@ -106,20 +115,85 @@ keys-stay old new entries k stay = record {
   rising = subst Rises (sym (names-stay old new entries stay)) k.rising;
 }
 
-pub subkeys-of : (heap : Heap) (count offset : ℕ) (entries : List Entry) → subkeys_at heap count offset ≡ Some entries → count ≤ LEAF_LIMIT →
-    (count ≡ 0 → offset ≡ NONE) → AreKeys heap entries → AreSubkeys heap count offset entries
-subkeys-of heap count offset entries read few unlisted k = record { read = read; few = few; unlisted = unlisted; keys = k.keys; hashes = k.hashes; rising = k.rising }
+-- a hash leaf and its keys are the subkeys
+pub leaf-subkeys : (heap : Heap) (count offset : ℕ) (entries : List Entry) → 0 < count → IsLeaf heap offset entries → length entries ≡ count →
+    count ≤ LEAF_LIMIT → AreKeys heap entries → AreSubkeys heap count offset entries
+leaf-subkeys heap zero offset entries l leaf n few k = absurd (omega arith)
+leaf-subkeys heap (suc count) offset entries l leaf n few k = record {
+  index = Listed (record { offset = offset; list = record { form = HashLeaf; entries = entries } });
+  read = ap (option_and_then (λ (list : SubkeysList). index_as heap offset list list.form)) leaf;
+  written = record { form = refl; some = omega (arith, n); few = omega (arith, n, few) };
+  entries_are = append-nil entries;
+  number = n;
+  single = tt;
+  unlisted = λ e. absurd (omega (arith, e));
+  keys = k.keys;
+  hashes = k.hashes;
+  rising = k.rising;
+}
+
+-- without subkeys there is no list
+pub no-subkeys : (heap : Heap) (count offset : ℕ) (entries : List Entry) → count ≡ 0 → offset ≡ NONE → length entries ≡ 0 → AreSubkeys heap count offset entries
+no-subkeys heap zero offset [] e none n = record {
+  index = Unlisted;
+  read = refl;
+  written = tt;
+  entries_are = refl;
+  number = refl;
+  single = tt;
+  unlisted = λ _. none;
+  keys = tt;
+  hashes = tt;
+  rising = λ i j l m. absurd (omega arith);
+}
+no-subkeys heap zero offset (x ∷ entries) e none n = absurd (omega (arith, n))
+no-subkeys heap (suc count) offset entries e none n = absurd (omega (arith, e))
 
 -- ---- where a change is elsewhere
 
-reading-stays : (old new : Heap) (count offset : ℕ) → (count ≡ 0) ⊎ (new offset ≡ old offset) → subkeys_at new count offset ≡ subkeys_at old count offset
-unfolding subkeys_at
-reading-stays old new zero offset elsewhere = refl
-reading-stays old new (suc count) offset (inl e) = absurd (omega arith)
-reading-stays old new (suc count) offset (inr same) = ap (λ o. option_and_then (λ (list : SubkeysList). hashed (suc count) list.form list.entries) (option_and_then list_of o)) same
+-- an index's cells, counted
+owned-lists : (z : ℕ) (lists : List KeyList) → owned z (lists_met lists []) ≡ times z (map (λ (list : KeyList). list.offset) lists)
+owned-lists z [] = refl
+owned-lists z (list ∷ lists) =
+    let n = length list.list.entries in
+    let rest = owned-lists z lists in
+    let parts = tally-append (is_own z) (joined (take n [])) (lists_met lists (drop n [])) in
+    let none = nothing-taken (is_own z) n in
+    let same = nothing-met (is_own z) lists n in
+    omega (arith, rest, parts, none, same)
 
--- subkeys stay, where the list's cell and the keys do
-pub subkeys-stay : (old new : Heap) (count offset : ℕ) (entries : List Entry) → AreSubkeys old count offset entries →
-    (count ≡ 0) ⊎ (new offset ≡ old offset) → Stay old new entries → AreSubkeys new count offset entries
-subkeys-stay old new count offset entries s elsewhere stay =
-    subkeys-of new count offset entries (reading-stays old new count offset elsewhere ∙ s.read) s.few s.unlisted (keys-stay old new entries (keys-of old count offset entries s) stay)
+pub owned-index : (z : ℕ) (index : Index) → owned z (index_cells index) ≡ times z (cells_of_index index)
+owned-index z Unlisted = refl
+owned-index z (Listed list) = omega arith
+owned-index z (Rooted offset lists) = let l = owned-lists z lists in omega (arith, l)
+
+-- an index stays, where its cells do
+pub index-stays : (old new : Heap) (count offset : ℕ) (index : Index) → index_at old count offset ≡ Some index →
+    ((z : ℕ) → 0 < times z (cells_of_index index) → new z ≡ old z) → index_at new count offset ≡ Some index
+index-stays old new count offset index e same = index-local old new count offset index e (λ z l. same z (let o = owned-index z index in omega (arith, o, l)))
+
+-- subkeys stay, where the index's cells and the keys do
+abbrev pub subkeys-stay : (old new : Heap) (count offset : ℕ) (entries : List Entry) → AreSubkeys old count offset entries →
+    ((z : ℕ) → 0 < times z (own old count offset) → new z ≡ old z) → Stay old new entries → AreSubkeys new count offset entries
+subkeys-stay old new count offset entries s same stay =
+    let k = keys-stay old new entries (keys-of old count offset entries s) stay in
+    record {
+      index = s.index;
+      read = index-stays old new count offset s.index s.read (λ z l. same z (subst (λ cells. 0 < times z cells) (sym (own-is old count offset s.index s.read)) l));
+      written = s.written;
+      entries_are = s.entries_are;
+      number = s.number;
+      single = s.single;
+      unlisted = s.unlisted;
+      keys = k.keys;
+      hashes = k.hashes;
+      rising = k.rising;
+    }
+
+-- and its cells are the same
+pub own-stays : (old new : Heap) (count offset : ℕ) (entries : List Entry) → AreSubkeys old count offset entries →
+    ((z : ℕ) → 0 < times z (own old count offset) → new z ≡ old z) → own new count offset ≡ own old count offset
+own-stays old new count offset entries s same =
+    own-is new count offset s.index (index-stays old new count offset s.index s.read
+    (λ z l. same z (subst (λ cells. 0 < times z cells) (sym (own-is old count offset s.index s.read)) l)))
+    ∙ sym (own-is old count offset s.index s.read)

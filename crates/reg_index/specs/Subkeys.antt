@@ -1,34 +1,21 @@
--- A key's subkeys in one hash leaf (Suhanov, Windows registry file format specification, "Subkeys list"), in the order of their
--- folded names.
-use Rattle.std.specs.Prelude.{◌≡◌, ℕ, zero, suc, ◌+◌, ◌*◌, ◌<◌, ◌≤◌, ◌==◌, nat_le, if◌then◌else◌, Option, Some, None, IsSome, Result, Ok, Err, List}
-use Rattle.std.specs.Prelude.{[], ◌∷◌, ◌++◌, length, map, take, drop, get_or}
-use Rattle.std.specs.Option.{option_and_then}
+-- A key's subkeys (Suhanov, Windows registry file format specification, "Subkeys list"), in the order of their folded names.
+use Rattle.std.specs.Prelude.{◌≡◌, ℕ, zero, suc, ◌+◌, ◌*◌, ◌<◌, ◌≤◌, nat_le, if◌then◌else◌, Option, Some, None, IsSome, unwrap_or, Result, Ok, Err, List}
+use Rattle.std.specs.Prelude.{[], ◌∷◌, ◌++◌, length, map, take, drop, get_or, ⊤}
 use Rattle.std.specs.List.{AllByRecursion}
 use Rattle.std.specs.Ordering.{nat_cmp}
 use Rattle.std.specs.declared.cmp.Ordering.TheVariants.{Less}
 use Rattle.std.specs.Cmp.Lexicographic.{slice_cmp}
 use Rattle.reg_names.specs.Names.{folded, hash}
-use Rattle.reg_heap.specs.declared.limits.TheConstants.{NONE, LEAF_LIMIT}
+use Rattle.reg_heap.specs.declared.limits.TheConstants.{NONE}
 use Rattle.reg_heap.specs.Heaps.{Heap, CellFrame}
 use Rattle.reg_heap.specs.Kinds.{times}
 use Rattle.reg_index.specs.declared.plan.TheConstants.{FIRST_LIST_SIZE}
-use Rattle.reg_records.specs.declared.lists.ListForm.TheVariants.{IndexRoot, IndexLeaf, FastLeaf, HashLeaf}
 use Rattle.reg_records.specs.RecordCells.{held}
 use Rattle.reg_records.specs.KeyNodes.{KeyRecord, key_at}
-use Rattle.reg_records.specs.SubkeyLists.{SubkeysList, Entry, Form}
-use Rattle.reg_shape.specs.Nodes.{list_at}
-
--- the entries of a hash leaf of so many; None of another form or number
-abbrev pub hashed : ℕ → Form → List Entry → Option (List Entry)
-hashed count IndexRoot entries = None
-hashed count IndexLeaf entries = None
-hashed count FastLeaf entries = None
-hashed count HashLeaf entries = if length entries == count then Some entries else None
-
--- the subkeys that a key node's number and list name: none, or those of the hash leaf in the list's cell
-unfoldable pub subkeys_at : Heap → ℕ → ℕ → Option (List Entry)
-subkeys_at heap zero offset = Some []
-subkeys_at heap (suc count) offset = option_and_then (λ (list : SubkeysList). hashed (suc count) list.form list.entries) (list_at heap offset)
+use Rattle.reg_records.specs.SubkeyLists.{Entry}
+use Rattle.reg_shape.specs.Nodes.{KeyList, Index, index_at, entries_of}
+use Rattle.reg_shape.specs.Nodes.Index.{Unlisted, Listed, Rooted}
+use Rattle.reg_shape.specs.Written.{IsWrittenIndex}
 
 -- the name of a key, empty where there is none
 abbrev pub name_or_none : Option KeyRecord → List ℕ
@@ -47,10 +34,22 @@ names_in heap entries = map (λ (e : Entry). folded (name_at heap e.offset)) ent
 abbrev pub Rises : List (List ℕ) → Type 0
 Rises names = (i j : ℕ) → i < j → j < length names → slice_cmp nat_cmp (get_or names i []) (get_or names j []) ≡ Less
 
--- a key has these subkeys: at most 500, each a key with the hash of its name, rising; without subkeys there is no list
+-- an index is none, or one list
+abbrev pub IsSingle : Index → Type 0
+IsSingle Unlisted = ⊤
+IsSingle (Listed list) = ⊤
+IsSingle (Rooted offset lists) = ⊥
+
+-- a key has these subkeys, so many: the entries of all lists of the index that its key node names, which is as it is written, each a
+-- key with the hash of its name, rising; without subkeys there is no list (temporary: `single`, there is one list at most, of 500
+-- entries, until there are index roots)
 pub record AreSubkeys (heap : Heap) (count offset : ℕ) (entries : List Entry) : Type 0 where
-  pub read : subkeys_at heap count offset ≡ Some entries
-  pub few : count ≤ LEAF_LIMIT
+  pub index : Index
+  pub read : index_at heap count offset ≡ Some index
+  pub written : IsWrittenIndex index
+  pub entries_are : entries_of index ≡ entries
+  pub number : length entries ≡ count
+  pub single : IsSingle index
   pub unlisted : count ≡ 0 → offset ≡ NONE
   pub keys : AllByRecursion (λ (e : Entry). IsSome (key_at heap e.offset)) entries
   pub hashes : AllByRecursion (λ (e : Entry). e.hint ≡ hash (name_at heap e.offset)) entries
@@ -80,10 +79,15 @@ insert_size heap zero offset = Some FIRST_LIST_SIZE
 insert_size heap (suc count) offset =
     if nat_le (4 + 8 * suc (suc count)) (length (held heap offset)) then None else Some (8 + 8 * suc (suc count))
 
--- the list's own cell
-abbrev pub own : ℕ → ℕ → List ℕ
-own zero offset = []
-own (suc count) offset = offset ∷ []
+-- the cells of an index: those of its lists, and before them the root's where it has one
+abbrev pub cells_of_index : Index → List ℕ
+cells_of_index Unlisted = []
+cells_of_index (Listed list) = list.offset ∷ []
+cells_of_index (Rooted offset lists) = offset ∷ map (λ (list : KeyList). list.offset) lists
+
+-- the cells of the index that a key node's number and list name
+abbrev pub own : Heap → ℕ → ℕ → List ℕ
+own heap count offset = cells_of_index (unwrap_or (index_at heap count offset) Unlisted)
 
 -- the cell that was carved for an insert, where one was
 abbrev pub taken : Option ℕ → ℕ → List ℕ
@@ -95,6 +99,6 @@ abbrev pub IsReady : Heap → Option ℕ → ℕ → Type 0
 IsReady heap None fresh = Unit {0}
 IsReady heap (Some size) fresh = IsSome (heap fresh) × (length (held heap fresh) + 4 ≡ size) × (key_at heap fresh ≡ None)
 
--- the list's cells of before, and one carved for it, gave way to the list's cells of now; nothing else changed
+-- the index's cells of before, and one carved for it, gave way to the index's cells of now; nothing else changed
 abbrev pub Moves : Heap → Heap → List ℕ → List ℕ → Type 0
 Moves old new before after = CellFrame old new (λ z. times z before) (λ z. times z after)

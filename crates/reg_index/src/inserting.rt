@@ -24,7 +24,7 @@ fn open(arena: &mut Arena, list: SubkeysIndex, fresh: u32, index: u32) -> u32
     ensures gap { (entries : List Entry) → AreSubkeys (heap_of arena.old) list.count list.offset entries →
         HasGap (heap_of arena.new) result index entries }
     ensures moves { Moves (heap_of arena.old) (heap_of arena.new)
-        (own list.count list.offset ++ taken (insert_size (heap_of arena.old) list.count list.offset) fresh) (result ∷ []) }
+        (own (heap_of arena.old) list.count list.offset ++ taken (insert_size (heap_of arena.old) list.count list.offset) fresh) (result ∷ []) }
     ensures long { length arena.new.bytes ≡ length arena.old.bytes }
 {
     if list.count == 0 {
@@ -61,8 +61,8 @@ pub fn insert(
         (with_one index (entry_for (heap_of arena.old) key) entries) }
     ensures count { result.count ≡ list.count + 1 }
     ensures moves { Moves (heap_of arena.old) (heap_of arena.new)
-        (own list.count list.offset ++ taken (insert_size (heap_of arena.old) list.count list.offset) fresh)
-        (own result.count result.offset) }
+        (own (heap_of arena.old) list.count list.offset ++ taken (insert_size (heap_of arena.old) list.count list.offset) fresh)
+        (own (heap_of arena.new) result.count result.offset) }
     ensures long { length arena.new.bytes ≡ length arena.old.bytes }
 {
     let hint = name_hash(name_of(arena, key));

@@ -1,6 +1,6 @@
 //! A subkey removed.
 
-ghost use Rattle.std.specs.Prelude.{◌≡◌, ◌+◌, ◌<◌, ◌∷◌, [], List, length};
+ghost use Rattle.std.specs.Prelude.{◌≡◌, ◌+◌, ◌<◌, List, length};
 ghost use Rattle.reg_arena.specs.Arena.{heap_of};
 ghost use Rattle.reg_records.specs.SubkeyLists.{Entry};
 ghost use Rattle.reg_index.specs.Subkeys.{AreSubkeys, Moves, own, without};
@@ -18,7 +18,8 @@ pub fn remove(arena: &mut Arena, list: SubkeysIndex, index: u32) -> SubkeysIndex
     ensures subkeys { (entries : List Entry) → AreSubkeys (heap_of arena.old) list.count list.offset entries →
         AreSubkeys (heap_of arena.new) result.count result.offset (without index entries) }
     ensures count { result.count + 1 ≡ list.count }
-    ensures moves { Moves (heap_of arena.old) (heap_of arena.new) (list.offset ∷ []) (own result.count result.offset) }
+    ensures moves { Moves (heap_of arena.old) (heap_of arena.new)
+        (own (heap_of arena.old) list.count list.offset) (own (heap_of arena.new) result.count result.offset) }
     ensures long { length arena.new.bytes ≡ length arena.old.bytes }
 {
     let count = list.count - 1;

@@ -26,7 +26,8 @@ use Rattle.reg_records.proofs.KeySecurityCodec.{security_at-same}
 use Rattle.reg_shape.proofs.Walking.WalkRefinement.{IsLooked}
 use Rattle.reg_shape.proofs.Wholeness.ShapeRecords.{shared-here, at-most-one, allocated-is}
 use Rattle.reg_values.proofs.ValueFreeing.FrameChains.{times-same}
-use Rattle.reg_index.proofs.RefinementOfSubkeys.{IsSingle}
+use Rattle.reg_index.specs.Subkeys.{IsSingle, Moves, cells_of_index, own}
+use Rattle.reg_index.proofs.SubkeysOpening.{own-is}
 use Rattle.reg_tree.specs.Internal.KeyNodeChanges.{noted_subkeys}
 use Rattle.reg_tree.specs.Internal.KeyDeletion.{IsUnlinked, IsSole}
 use Rattle.reg_tree.proofs.DeleteKey.DeletedKeyCells.{own-met}
@@ -53,8 +54,8 @@ module _ (h0 : Heap) (root : ℕ) (keys : Branch Node) (first : ℕ) (w : IsShap
   abbrev s : ℕ
   s = n.key.fields.security
 
-  abbrev list : ℕ
-  list = m.key.fields.subkeys_list
+  abbrev old_list : List ℕ
+  old_list = cells_of_index m.index
 
   -- what is known of them before
 
@@ -82,10 +83,10 @@ module _ (h0 : Heap) (root : ℕ) (keys : Branch Node) (first : ℕ) (w : IsShap
   pub secured : s ≡ first
   secured = before.secured h0 root keys first w p was e single x b found childless
 
-  pub index-cells : (z : ℕ) → owned z (index_cells m.index) ≡ times z (list ∷ [])
+  pub index-cells : (z : ℕ) → owned z (index_cells m.index) ≡ times z old_list
   index-cells = before.index-cells h0 root keys first w p was e single x b found childless
 
-  pub m-parts : (z : ℕ) → owned z (cells_of m) ≡ times z (was.offset ∷ []) + (owned z l.class_cells + owned z l.value_cells) + times z (list ∷ [])
+  pub m-parts : (z : ℕ) → owned z (cells_of m) ≡ times z (was.offset ∷ []) + (owned z l.class_cells + owned z l.value_cells) + times z old_list
   m-parts = before.m-parts h0 root keys first w p was e single x b found childless
 
   n-unlisted : n.index ≡ Unlisted
@@ -97,7 +98,7 @@ module _ (h0 : Heap) (root : ℕ) (keys : Branch Node) (first : ℕ) (w : IsShap
   pub below-parts : (f : ℕ → Node → ℕ) → total f rest + f b.offset n ≡ total f was.below
   below-parts = before.below-parts h0 root keys first w p was e single x b found childless
 
-  pub room : (z : ℕ) → (times z (was.offset ∷ []) + (owned z l.class_cells + owned z l.value_cells) + times z (list ∷ [])) +
+  pub room : (z : ℕ) → (times z (was.offset ∷ []) + (owned z l.class_cells + owned z l.value_cells) + times z old_list) +
       (total (owns z) rest + owned z n.cells) + times z (first ∷ []) ≤ allocated h0 z
   room = before.room h0 root keys first w p was e single x b found childless
 
@@ -107,8 +108,11 @@ module _ (h0 : Heap) (root : ℕ) (keys : Branch Node) (first : ℕ) (w : IsShap
     abbrev h1 : Heap
     h1 = un.mid
 
-    pub calm-mid : (z : ℕ) → 0 < allocated h0 z → times z (list ∷ []) ≡ 0 → h1 z ≡ h0 z
-    calm-mid z some a = let c = un.moves.count z in let o = at-most-one h1 z in un.moves.same z a (omega (arith, c, o, some, a))
+    pub moves : Moves h0 h1 old_list (own h1 un.count un.list)
+    moves = subst (λ cells. Moves h0 h1 cells (own h1 un.count un.list)) (own-is h0 m.key.fields.subkeys m.key.fields.subkeys_list m.index l.index_is) un.moves
+
+    pub calm-mid : (z : ℕ) → 0 < allocated h0 z → times z old_list ≡ 0 → h1 z ≡ h0 z
+    calm-mid z some a = let c = moves.count z in let o = at-most-one h1 z in moves.same z a (omega (arith, c, o, some, a))
 
     pub offset-mid : h1 was.offset ≡ h0 was.offset
     offset-mid =
@@ -127,7 +131,7 @@ module _ (h0 : Heap) (root : ℕ) (keys : Branch Node) (first : ℕ) (w : IsShap
       | inr n ↦ ap (λ (c : Option (List ℕ)). cond (is_some c) 1 0) (un.notes.others z n)
     ]
 
-    pub calm-then : (z : ℕ) → 0 < allocated h0 z → times z (list ∷ []) ≡ 0 → times z (was.offset ∷ []) ≡ 0 → h2 z ≡ h0 z
+    pub calm-then : (z : ℕ) → 0 < allocated h0 z → times z old_list ≡ 0 → times z (was.offset ∷ []) ≡ 0 → h2 z ≡ h0 z
     calm-then z some a c = un.notes.others z (not-there z was.offset c) ∙ calm-mid z some a
 
     key-calm : Keeps h0 h2 (cells_of n)
@@ -145,7 +149,7 @@ module _ (h0 : Heap) (root : ℕ) (keys : Branch Node) (first : ℕ) (w : IsShap
         record {
           node = n;
           reads = key-left;
-          once = λ z. (let r = room z in let c = un.moves.count z in let o = at-most-one h0 z in let q = same-number z in omega (arith, r, c, o, q));
+          once = λ z. (let r = room z in let c = moves.count z in let o = at-most-one h0 z in let q = same-number z in omega (arith, r, c, o, q));
           values = list-kept h0 h2 k.fields.values k.fields.values_list n.values n_l.value_cells v
               (agree-inner h0 h2 n_l.value_cells (members-inner h0 k.fields.values k.fields.values_list (n.values, n_l.value_cells) v)
               (λ z some. key-calm z (let a = tally-append (is_own z) n.cells (index_cells n.index) in
@@ -156,7 +160,7 @@ module _ (h0 : Heap) (root : ℕ) (keys : Branch Node) (first : ℕ) (w : IsShap
     -- ---- when its cells were given up
 
     module _ (h4 : Heap) (freed : CellFrame h2 h4 (λ z. owned z n.cells) (λ z. 0)) where
-      pub calm-freed : (z : ℕ) → 0 < allocated h0 z → times z (list ∷ []) ≡ 0 → times z (was.offset ∷ []) ≡ 0 → owned z n.cells ≡ 0 → h4 z ≡ h0 z
+      pub calm-freed : (z : ℕ) → 0 < allocated h0 z → times z old_list ≡ 0 → times z (was.offset ∷ []) ≡ 0 → owned z n.cells ≡ 0 → h4 z ≡ h0 z
       calm-freed z some a c d = freed.same z d refl ∙ calm-then z some a c
 
       pub ring0 : IsWrittenSecurity h0 first

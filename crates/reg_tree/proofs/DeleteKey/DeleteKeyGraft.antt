@@ -1,5 +1,5 @@
 -- A key taken from its parent and its cells given up, as a graft of the parent's branch.
-use Rattle.std.proofs.Common.{◌≡◌, ◌⊎◌, inl, inr, ◌↔◌, ℕ, zero, suc, ◌+◌, ◌-◌, ◌%◌, ◌<◌, ◌≤◌, cond, is_some, Option, Some, List, [], ◌∷◌, refl, sym, ap, ◌∙◌, subst, arith}
+use Rattle.std.proofs.Common.{◌≡◌, inl, inr, ◌↔◌, ℕ, ◌+◌, ◌-◌, ◌%◌, ◌<◌, ◌≤◌, cond, is_some, Option, Some, List, [], ◌∷◌, refl, sym, ap, ◌∙◌, subst, arith}
 use Rattle.std.specs.List.{AllByRecursion}
 use Rattle.std.proofs.lemmas.Bool.{cases_eq}
 use Rattle.reg_heap.specs.Paths.{Path}
@@ -23,13 +23,15 @@ use Rattle.reg_shape.proofs.Frame.WrittenFrame.{same-held}
 use Rattle.reg_shape.proofs.Walking.WalkRefinement.{IsLooked}
 use Rattle.reg_shape.proofs.Wholeness.ShapeRecords.{shares-own, at-most-one, allocated-is}
 use Rattle.reg_values.proofs.ValueFreeing.FrameChains.{times-same}
-use Rattle.reg_index.specs.Subkeys.{AreSubkeys, own, without}
-use Rattle.reg_index.proofs.RefinementOfSubkeys.{index_for, IsSingle, index-entries, subkeys-elsewhere}
+use Rattle.reg_index.specs.Subkeys.{IsSingle, AreSubkeys, Moves, cells_of_index, own, without}
+use Rattle.reg_index.proofs.SubkeysOpening.{own-is}
+use Rattle.reg_index.proofs.SubkeysFrame.{owned-index}
+use Rattle.reg_index.proofs.RefinementOfSubkeys.{subkeys-elsewhere}
 use Rattle.reg_tree.specs.Internal.KeyNodeChanges.{Recounts, noted_subkeys}
 use Rattle.reg_tree.specs.Internal.KeyDeletion.{IsUnlinked}
 use Rattle.reg_tree.proofs.DeleteKey.DeletedKeyPosition.{IsHead, by-offsets, heads-owned}
 use Rattle.reg_tree.proofs.Invariant.CellReadings.{is_some_of, key-moved, security-exists}
-use Rattle.reg_tree.proofs.InsertKey.ParentReindexed.{owned-list, sees-reindexed, owned-reindexed, shared-reindexed}
+use Rattle.reg_tree.proofs.InsertKey.ParentReindexed.{sees-reindexed, owned-reindexed, shared-reindexed}
 use Rattle.reg_tree.proofs.DeleteKey.DeletedKeyParent.{not-there, there-is, raised-none}
 use Rattle.reg_tree.proofs.DeleteKey.DeletedKeyParent as before
 use Rattle.reg_tree.proofs.DeleteKey.DeleteKeyFrame as frame
@@ -49,8 +51,8 @@ module _ (h0 : Heap) (root : ℕ) (keys : Branch Node) (first : ℕ) (w : IsShap
   abbrev s : ℕ
   s = n.key.fields.security
 
-  abbrev list : ℕ
-  list = m.key.fields.subkeys_list
+  abbrev old_list : List ℕ
+  old_list = cells_of_index m.index
 
   stands : StandsIn h0 root was
   stands = frame.stands h0 root keys first w p was e single x b found childless
@@ -70,10 +72,10 @@ module _ (h0 : Heap) (root : ℕ) (keys : Branch Node) (first : ℕ) (w : IsShap
   secured : s ≡ first
   secured = frame.secured h0 root keys first w p was e single x b found childless
 
-  index-cells : (z : ℕ) → owned z (index_cells m.index) ≡ times z (list ∷ [])
+  index-cells : (z : ℕ) → owned z (index_cells m.index) ≡ times z old_list
   index-cells = frame.index-cells h0 root keys first w p was e single x b found childless
 
-  m-parts : (z : ℕ) → owned z (cells_of m) ≡ times z (was.offset ∷ []) + (owned z l.class_cells + owned z l.value_cells) + times z (list ∷ [])
+  m-parts : (z : ℕ) → owned z (cells_of m) ≡ times z (was.offset ∷ []) + (owned z l.class_cells + owned z l.value_cells) + times z old_list
   m-parts = frame.m-parts h0 root keys first w p was e single x b found childless
 
   n-parts : (z : ℕ) → owned z (cells_of n) ≡ owned z n.cells
@@ -82,14 +84,17 @@ module _ (h0 : Heap) (root : ℕ) (keys : Branch Node) (first : ℕ) (w : IsShap
   below-parts : (f : ℕ → Node → ℕ) → total f rest + f b.offset n ≡ total f was.below
   below-parts = frame.below-parts h0 root keys first w p was e single x b found childless
 
-  room : (z : ℕ) → (times z (was.offset ∷ []) + (owned z l.class_cells + owned z l.value_cells) + times z (list ∷ [])) + (total (owns z) rest + owned z n.cells) + times z (first ∷ []) ≤ allocated h0 z
+  room : (z : ℕ) → (times z (was.offset ∷ []) + (owned z l.class_cells + owned z l.value_cells) + times z old_list) + (total (owns z) rest + owned z n.cells) + times z (first ∷ []) ≤ allocated h0 z
   room = frame.room h0 root keys first w p was e single x b found childless
 
   module _ (h2 : Heap) (moment : ℕ) (un : IsUnlinked h0 h2 was.offset m.key entries spot.index moment) where
     abbrev h1 : Heap
     h1 = un.mid
 
-    calm-mid : (z : ℕ) → 0 < allocated h0 z → times z (list ∷ []) ≡ 0 → h1 z ≡ h0 z
+    moves : Moves h0 h1 old_list (own h1 un.count un.list)
+    moves = frame.moves h0 root keys first w p was e single x b found childless h2 moment un
+
+    calm-mid : (z : ℕ) → 0 < allocated h0 z → times z old_list ≡ 0 → h1 z ≡ h0 z
     calm-mid = frame.calm-mid h0 root keys first w p was e single x b found childless h2 moment un
 
     offset-mid : h1 was.offset ≡ h0 was.offset
@@ -102,7 +107,7 @@ module _ (h0 : Heap) (root : ℕ) (keys : Branch Node) (first : ℕ) (w : IsShap
     same-number = frame.same-number h0 root keys first w p was e single x b found childless h2 moment un
 
     module _ (h4 : Heap) (freed : CellFrame h2 h4 (λ z. owned z n.cells) (λ z. 0)) where
-      calm-freed : (z : ℕ) → 0 < allocated h0 z → times z (list ∷ []) ≡ 0 → times z (was.offset ∷ []) ≡ 0 → owned z n.cells ≡ 0 → h4 z ≡ h0 z
+      calm-freed : (z : ℕ) → 0 < allocated h0 z → times z old_list ≡ 0 → times z (was.offset ∷ []) ≡ 0 → owned z n.cells ≡ 0 → h4 z ≡ h0 z
       calm-freed = frame.calm-freed h0 root keys first w p was e single x b found childless h2 moment un h4 freed
 
       abbrev ring0 : IsWrittenSecurity h0 first
@@ -130,7 +135,7 @@ module _ (h0 : Heap) (root : ℕ) (keys : Branch Node) (first : ℕ) (w : IsShap
         other : (z : ℕ) → times z (first ∷ []) ≡ 0 → h5 z ≡ h4 z
         other z a = re.others z (λ e. not-there z first a (e ∙ secured))
 
-        calm : (z : ℕ) → 0 < allocated h0 z → times z (list ∷ []) ≡ 0 → times z (was.offset ∷ []) ≡ 0 → owned z n.cells ≡ 0 → times z (first ∷ []) ≡ 0 → h5 z ≡ h0 z
+        calm : (z : ℕ) → 0 < allocated h0 z → times z old_list ≡ 0 → times z (was.offset ∷ []) ≡ 0 → owned z n.cells ≡ 0 → times z (first ∷ []) ≡ 0 → h5 z ≡ h0 z
         calm z some a c d f = other z f ∙ calm-freed z some a c d
 
         class-calm : Keeps h0 h5 l.class_cells
@@ -171,17 +176,17 @@ module _ (h0 : Heap) (root : ℕ) (keys : Branch Node) (first : ℕ) (w : IsShap
           values = m.values;
           cells =
               met_of was.offset (noted_subkeys un.count un.list 0 moment m.key) l.class_cells l.value_cells;
-          index = index_for un.count un.list entries';
+          index = un.subkeys.index;
         }
 
         fits : Fits was.offset after (heads rest)
         fits =
             let r = ap (λ n. n % 65536) (raised-none m.key.fields.largest_subkey_name) in
-            fits-unhung was.offset spot.index m after (index-entries h1 un.count un.list entries' un.subkeys) (omega (arith, r)) (omega arith) was.below stands.1
+            fits-unhung was.offset spot.index m after un.subkeys.entries_are (omega (arith, r)) (omega arith) was.below stands.1
 
         entries-owned : AllByRecursion (λ (e : Entry). 0 < total (owns e.offset) rest) entries'
         entries-owned =
-            by-offsets (λ z. 0 < total (owns z) rest) (heads rest) entries' (fits.offsets ∙ ap offsets_in (index-entries h1 un.count un.list entries' un.subkeys))
+            by-offsets (λ z. 0 < total (owns z) rest) (heads rest) entries' (fits.offsets ∙ ap offsets_in un.subkeys.entries_are)
             (heads-owned h0 root rest (stand-unhang (IsSeen h0 root) Fits spot.index was.below stands.2))
 
         entries-stay : AllByRecursion (λ (e : Entry). key_at h5 e.offset ≡ key_at h1 e.offset) entries'
@@ -191,21 +196,14 @@ module _ (h0 : Heap) (root : ℕ) (keys : Branch Node) (first : ℕ) (w : IsShap
             key-moved h1 h5 z (rest-calm z some ∙ sym (calm-mid z (omega (arith, r, some)) (omega (arith, r, o, some))))))
             entries' entries-owned
 
-        list-stays : (un.count ≡ 0) ⊎ (h5 un.list ≡ h1 un.list)
-        list-stays = by un.count refl
-          where
-            by : (count : ℕ) → un.count ≡ count → (un.count ≡ 0) ⊎ (h5 un.list ≡ h1 un.list)
-            by zero e = inl e
-            by (suc count) e =
-                let z = un.list in
-                let r = room z in
-                let c = un.moves.count z in
-                let i = ap (λ c. times z (own c z)) e in
-                let t = times-same z in
-                let o = at-most-one h1 z in
-                inr (other z (omega (arith, r, c, i, t, o)) ∙ (freed.same z (omega (arith, r, c, i, t, o)) refl ∙ un.notes.others z (not-there z was.offset (omega (arith, r, c, i, t, o)))))
+        list-stays : (z : ℕ) → 0 < times z (own h1 un.count un.list) → h5 z ≡ h1 z
+        list-stays z some =
+            let r = room z in
+            let c = moves.count z in
+            let o = at-most-one h1 z in
+            other z (omega (arith, r, c, o, some)) ∙ (freed.same z (omega (arith, r, c, o, some)) refl ∙ un.notes.others z (not-there z was.offset (omega (arith, r, c, o, some))))
 
-        subkeys-now : AreSubkeys h5 un.count un.list entries'
+        abbrev subkeys-now : AreSubkeys h5 un.count un.list entries'
         subkeys-now = subkeys-elsewhere h1 h5 un.count un.list entries' un.subkeys list-stays entries-stay
 
         seen-now : IsSeen h5 root was.offset after
@@ -213,15 +211,16 @@ module _ (h0 : Heap) (root : ℕ) (keys : Branch Node) (first : ℕ) (w : IsShap
 
         -- the counts
 
-        owned-now : (z : ℕ) → owned z (cells_of after) + times z (list ∷ []) ≡ owned z (cells_of m) + times z (own un.count un.list)
+        owned-now : (z : ℕ) → owned z (cells_of after) + times z old_list ≡ owned z (cells_of m) + times z (own h1 un.count un.list)
         owned-now z =
             let a = owned-reindexed h0 h5 root was.offset m stands.0 l un.count un.list 0 moment entries' key-now plain-now class-calm values-calm subkeys-now z in
             let c = index-cells z in
-            let d = owned-list z un.count un.list entries' in
-            omega (arith, a, c, d)
+            let d = owned-index z un.subkeys.index in
+            let f = ap (times z) (own-is h1 un.count un.list un.subkeys.index un.subkeys.read) in
+            omega (arith, a, c, d, f)
 
         shared-now : (z : ℕ) → shared z (cells_of after) ≡ shared z (cells_of m)
-        shared-now z = shared-reindexed h0 h5 root was.offset m stands.0 l un.count un.list 0 moment entries' key-now plain-now class-calm values-calm subkeys-now single z
+        shared-now z = shared-reindexed h0 h5 root was.offset m stands.0 l un.count un.list 0 moment entries' key-now plain-now class-calm values-calm subkeys-now z
 
         abbrev recounted : KeySecurityRecord
         recounted = record ring0.security { fields = record ring0.security.fields { count = ring0.security.fields.count - 1 } }
@@ -279,7 +278,7 @@ module _ (h0 : Heap) (root : ℕ) (keys : Branch Node) (first : ℕ) (w : IsShap
               let a = same-allocated z in
               let c = freed.count z in
               let d = same-number z in
-              let f = un.moves.count z in
+              let f = moves.count z in
               let g = owned-now z in
               let i = below-parts (owns z) in
               let j = n-parts z in

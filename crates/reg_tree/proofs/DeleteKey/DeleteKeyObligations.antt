@@ -1,5 +1,5 @@
 -- A key deleted: what each step of it needs, and the tree before and after.
-use Rattle.std.proofs.Common.{◌≡◌, ◌≢◌, ℕ, zero, suc, ◌-◌, ◌≤◌, Bool, true, false, cond, Some, None, IsSome, List, [], ◌∷◌, ◌++◌, length, refl, sym, ap, ◌∙◌, subst, arith}
+use Rattle.std.proofs.Common.{◌≡◌, ◌≢◌, ℕ, ◌-◌, ◌≤◌, Bool, true, false, cond, Some, None, IsSome, List, [], ◌∷◌, ◌++◌, length, refl, sym, ap, ◌∙◌, subst, arith}
 use Rattle.std.specs.Option.{option_map}
 use Rattle.std.specs.FinMap.{get, insert, remove}
 use Rattle.reg_names.specs.Names.{folded}
@@ -28,7 +28,7 @@ use Rattle.reg_shape.proofs.Lookup.LookupOfShape.{offset-append}
 use Rattle.reg_shape.proofs.Refinement.RefinementAfterGraft.{tree-unhung}
 use Rattle.reg_shape.proofs.Lookup.LookupAfterGraft.{offsets-unhung}
 use Rattle.reg_shape.proofs.Refinement.RefinementAfterEdit.{same_path, name-is}
-use Rattle.reg_index.proofs.RefinementOfSubkeys.{index_for, IsSingle}
+use Rattle.reg_index.specs.Subkeys.{IsSingle}
 use Rattle.reg_tree.specs.TreeKeys.{tree_in}
 use Rattle.reg_tree.specs.Internal.TreeInvariant.{rooted, TreeInvariant, IsHere}
 use Rattle.reg_tree.specs.Internal.KeyNodeChanges.{Recounts}
@@ -38,6 +38,7 @@ use Rattle.reg_tree.proofs.DeleteKey.DeleteKeyFrame.{key-left, sole, release-the
 use Rattle.reg_tree.proofs.DeleteKey.DeleteKeyGraft.{is, grafts}
 use Rattle.reg_tree.proofs.DeleteKey.DeletedKeyParent.{spot, leaf, below-parts}
 use Rattle.reg_tree.proofs.DeleteKey.DeletedKeyPosition.{snoc, above-is, listed, parent-is}
+use Rattle.reg_tree.proofs.Invariant.UntouchedCells.{rooted-none}
 use Rattle.reg_tree.proofs.Invariant.KeyOfTree.{spelt_is, rec_is, branch, branch_is, offset, key_is}
 use Rattle.reg_tree.proofs.Invariant.KeyOfShape as keyed
 
@@ -50,10 +51,6 @@ single-of at node e = by node.index e
     by Unlisted e = tt
     by (Listed list) e = tt
     by (Rooted o lists) e = absurd (omega (arith, e))
-
-rooted-for : (at count list : ℕ) (entries : List Entry) (node : Node) → rooted at (record node { index = index_for count list entries }) ≡ 0
-rooted-for at zero list entries node = refl
-rooted-for at (suc count) list entries node = refl
 
 -- paths that differ are not the same
 other-path : (p q : Path) → p ≢ q → same_path p q ≡ false
@@ -192,7 +189,7 @@ module _ (old : List ℕ) (key : ℕ) (t : IsHere old key) (childless : (branch 
                 let g = graft-total rooted was came.node came.below p keys was-is in
                 let u = t.holds.unrooted in
                 let c = below-parts h t.root keys first w p was was-is single x b found childless rooted in
-                let n : rooted was.offset came.node ≡ 0 = rooted-for was.offset un.count un.list _ came.node in
+                let n : rooted was.offset came.node ≡ 0 = rooted-none un.subkeys.index un.subkeys.single in
                 omega (arith, g, u, c, n));
           }
 

@@ -1,5 +1,5 @@
 -- A key without subkeys and its parent: the cells of each, each met once, and the one security.
-use Rattle.std.proofs.Common.{◌≡◌, ◌≢◌, inl, inr, ℕ, zero, suc, ◌+◌, ◌<◌, ◌≤◌, Some, List, [], ◌∷◌, refl, sym, ap, ◌∙◌, arith}
+use Rattle.std.proofs.Common.{◌≡◌, ◌≢◌, inl, inr, ℕ, ◌+◌, ◌<◌, ◌≤◌, Some, List, [], ◌∷◌, refl, sym, ap, ◌∙◌, arith}
 use Rattle.std.proofs.lemmas.Bool.{cases_eq}
 use Rattle.reg_heap.specs.Paths.{Path}
 use Rattle.reg_heap.specs.Heaps.{Heap, allocated}
@@ -16,14 +16,11 @@ use Rattle.reg_shape.proofs.Graft.ForestInsert.{leaf-at, total-unhang}
 use Rattle.reg_shape.proofs.Walking.WalkRefinement.{IsLooked, look-open}
 use Rattle.reg_shape.proofs.Wholeness.ShapeRecords.{shares-own}
 use Rattle.reg_values.proofs.ValueFreeing.FrameChains.{times-same}
-use Rattle.reg_index.specs.Subkeys.{own}
-use Rattle.reg_index.proofs.SubkeysOpening.{length-subkeys}
-use Rattle.reg_index.proofs.SubkeysFrame.{times-not}
-use Rattle.reg_index.proofs.RefinementOfSubkeys.{IsSingle}
+use Rattle.reg_index.specs.Subkeys.{IsSingle, cells_of_index}
+use Rattle.reg_index.proofs.SubkeysFrame.{times-not, owned-index}
 use Rattle.reg_tree.specs.Internal.KeyNodeChanges.{raised}
 use Rattle.reg_tree.proofs.DeleteKey.DeletedKeyCells.{own-met}
-use Rattle.reg_tree.proofs.DeleteKey.DeletedKeyPosition.{IsHead, head, unlisted, listed}
-use Rattle.reg_tree.proofs.InsertKey.ParentReindexed.{owned-single}
+use Rattle.reg_tree.proofs.DeleteKey.DeletedKeyPosition.{IsHead, head, unlisted}
 
 pub not-there : (z y : ℕ) → times z (y ∷ []) ≡ 0 → z ≢ y
 not-there z y n e = let t = times-same y in let s = ap (λ w. times w (y ∷ [])) e in omega (arith, n, t, s)
@@ -34,10 +31,6 @@ there-is z y l = elim (cases_eq z y) [ inl e ↦ e | inr n ↦ absurd (let t = t
 -- a largest length that no length raises
 pub raised-none : (largest : ℕ) → raised largest 0 ≡ largest
 raised-none largest = omega arith
-
-own-some : (count list : ℕ) → 0 < count → own count list ≡ list ∷ []
-own-some zero list l = absurd (omega arith)
-own-some (suc count) list l = refl
 
 -- ---- before: the parent `was`, and the key `b` below it
 
@@ -91,20 +84,13 @@ module _ (h0 : Heap) (root : ℕ) (keys : Branch Node) (first : ℕ) (w : IsShap
   secured = let t = branch-total (shares s) was p keys e in let o = named in first-is s (omega (arith, o, t))
 
   -- its cells, and its parent's
-  abbrev list : ℕ
-  list = m.key.fields.subkeys_list
+  abbrev old_list : List ℕ
+  old_list = cells_of_index m.index
 
-  some-subkeys : 0 < m.key.fields.subkeys
-  some-subkeys =
-      let i = listed h0 root was stands single x b found in
-      let long = length-subkeys h0 m.key.fields.subkeys list entries i.subkeys.read in
-      let within = i.within in
-      omega (arith, long, within)
+  pub index-cells : (z : ℕ) → owned z (index_cells m.index) ≡ times z old_list
+  index-cells z = owned-index z m.index
 
-  pub index-cells : (z : ℕ) → owned z (index_cells m.index) ≡ times z (list ∷ [])
-  index-cells z = owned-single h0 z m.key.fields.subkeys list m.index l.index_is single ∙ ap (times z) (own-some m.key.fields.subkeys list some-subkeys)
-
-  pub m-parts : (z : ℕ) → owned z (cells_of m) ≡ times z (was.offset ∷ []) + (owned z l.class_cells + owned z l.value_cells) + times z (list ∷ [])
+  pub m-parts : (z : ℕ) → owned z (cells_of m) ≡ times z (was.offset ∷ []) + (owned z l.class_cells + owned z l.value_cells) + times z old_list
   m-parts z =
       let a = tally-append (is_own z) m.cells (index_cells m.index) in
       let c = ap (owned z) l.cells ∙ own-met z was.offset m.key l.class_cells l.value_cells in
@@ -124,7 +110,7 @@ module _ (h0 : Heap) (root : ℕ) (keys : Branch Node) (first : ℕ) (w : IsShap
   below-parts f = total-unhang f spot.index b.offset n was.below leaf
 
   -- each of these cells is met once
-  pub room : (z : ℕ) → (times z (was.offset ∷ []) + (owned z l.class_cells + owned z l.value_cells) + times z (list ∷ [])) +
+  pub room : (z : ℕ) → (times z (was.offset ∷ []) + (owned z l.class_cells + owned z l.value_cells) + times z old_list) +
       (total (owns z) rest + owned z n.cells) + times z (first ∷ []) ≤ allocated h0 z
   room z =
       let t = branch-total (owns z) was p keys e in

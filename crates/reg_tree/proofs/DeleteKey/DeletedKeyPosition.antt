@@ -18,7 +18,7 @@ use Rattle.reg_shape.specs.Internal.Grafts.{branch_in}
 use Rattle.reg_shape.proofs.Wholeness.WholeAfterExchange.{all-weaker}
 use Rattle.reg_shape.proofs.Lookup.LookupOfShape.{key-looked}
 use Rattle.reg_shape.proofs.Walking.WalkRefinement.{look-open}
-use Rattle.reg_index.proofs.RefinementOfSubkeys.{IsSingle}
+use Rattle.reg_index.specs.Subkeys.{IsSingle}
 use Rattle.reg_tree.specs.Internal.KeyDeletion.{IsListed}
 use Rattle.reg_tree.proofs.Invariant.OwnCells.{own-parts, key-here}
 use Rattle.reg_tree.proofs.InsertKey.ParentReindexed.{branch-subkeys}

@@ -15,7 +15,7 @@ use Rattle.reg_heap.specs.Kinds.{times}
 use Rattle.reg_records.specs.KeyNodes.{KeyRecord, key_at}
 use Rattle.reg_records.specs.SubkeyLists.{Entry}
 use Rattle.reg_index.specs.Subkeys.{AreSubkeys, IsIndexFor, Moves, Rises, name_at, name_or_none, names_in, own, without}
-use Rattle.reg_index.proofs.SubkeysOpening.{length-subkeys, subkeys-open}
+use Rattle.reg_index.proofs.SubkeysOpening.{subkeys-open, own-leaf}
 use Rattle.reg_index.proofs.SubkeysFrame.{key-or-leaf, key-stays, times-not}
 use Rattle.reg_tree.specs.Internal.KeyNodeChanges.{HasSubkeysList, Notes, noted_subkeys}
 use Rattle.reg_tree.specs.Internal.KeyDeletion.{IsListed, IsUnlinked}
@@ -92,24 +92,26 @@ module _ (h : Heap) (parent key : ℕ) (above : KeyRecord) (entries : List Entry
     listed-subkeys = subst (λ n. AreSubkeys h n list entries) (sym same.0) (subst (λ o. AreSubkeys h above.fields.subkeys o entries) (sym same.1) l.subkeys)
 
     pub listed-within : index < count
-    listed-within = let n = length-subkeys h count list entries listed-subkeys.read in let w = l.within in omega (arith, n, w)
+    listed-within = let n = listed-subkeys.number in let w = l.within in omega (arith, n, w)
 
     -- the parent's key node is not the list
     apart : parent ≢ list
-    apart e = key-or-leaf h list entries (subkeys-open h count list entries listed-subkeys.read (let w = listed-within in omega (arith, w))).leaf (subst (λ o. IsSome (key_at h o)) e parent-there)
+    apart e = key-or-leaf h list entries (subkeys-open h count list entries listed-subkeys (let w = listed-within in omega (arith, w))).leaf (subst (λ o. IsSome (key_at h o)) e parent-there)
 
-    pub parent-stays : (k : Heap) (after : List ℕ) → Moves h k (list ∷ []) after → key_at k parent ≡ key_at h parent
-    parent-stays k after m = key-stays h k (λ z. times z (list ∷ [])) (λ z. times z after) parent m parent-there (times-not parent list [] (λ e. apart (sym e)) (omega arith))
+    pub parent-stays : (k : Heap) (after : List ℕ) → Moves h k (own h count list) after → key_at k parent ≡ key_at h parent
+    parent-stays k after m =
+        key-stays h k (λ z. times z (own h count list)) (λ z. times z after) parent m parent-there
+        (ap (times parent) (own-leaf h count list entries listed-subkeys (let w = listed-within in omega (arith, w))) ∙ times-not parent list [] (λ e. apart (sym e)) (omega arith))
 
     pub unlinked : (found count' list' : ℕ) (mid new : Heap) (moment : ℕ) → found ≡ index
         → ((es : List Entry) → AreSubkeys h count list es → AreSubkeys mid count' list' (without found es)) →
-        Moves h mid (list ∷ []) (own count' list') → Notes mid new parent (noted_subkeys count' list' 0 moment)
+        Moves h mid (own h count list) (own mid count' list') → Notes mid new parent (noted_subkeys count' list' 0 moment)
         → IsUnlinked h new parent above entries index moment
     unlinked found count' list' mid new moment e after moves notes = record {
       mid = mid;
       count = count';
       list = list';
       subkeys = subst (λ i. AreSubkeys mid count' list' (without i entries)) e (after entries listed-subkeys);
-      moves = subst (λ o. Moves h mid (o ∷ []) (own count' list')) same.1 moves;
+      moves = subst (λ o. Moves h mid (own h above.fields.subkeys o) (own mid count' list')) same.1 (subst (λ n. Moves h mid (own h n list) (own mid count' list')) same.0 moves);
       notes = notes;
     }

@@ -1,6 +1,6 @@
 -- A key made below another: the made key, its parent's key node and the subkeys, as they are in the cells then.
-use Rattle.std.proofs.Common.{◌≡◌, ◌≢◌, ℕ, zero, suc, ◌+◌, ◌*◌, ◌%◌, ◌≤◌, ◌<◌, max, true, Option, Some, None, IsSome, List, [], ◌∷◌, ◌++◌, inr, map, length}
-use Rattle.std.proofs.Common.{refl, sym, ap, ◌∙◌, subst, arith}
+use Rattle.std.proofs.Common.{◌≡◌, ◌≢◌, ℕ, ◌+◌, ◌*◌, ◌%◌, ◌≤◌, ◌<◌, max, true, Option, Some, None, IsSome, List, [], ◌∷◌, ◌++◌, map, length}
+use Rattle.std.proofs.Common.{sym, ap, ◌∙◌, subst, arith}
 use Rattle.std.specs.Prelude.{Err}
 use Rattle.std.specs.List.{AllByRecursion}
 use Rattle.reg_names.specs.declared.TheConstants.{KEY_NAME_LIMIT}
@@ -23,13 +23,15 @@ use Rattle.reg_records.proofs.KeyNodeCodec.{key_at-same}
 use Rattle.reg_shape.proofs.Frame.WrittenFrame.{same-held}
 use Rattle.reg_shape.proofs.Walking.WalkRefinement.{IsLooked}
 use Rattle.reg_shape.proofs.Graft.ForestInsertFits.{all-inserted}
-use Rattle.reg_index.specs.Subkeys.{AreSubkeys, IsIndexFor, Moves, names_in, entry_for, with_one, own, taken}
-use Rattle.reg_index.proofs.RefinementOfSubkeys.{IsSingle, subkeys-elsewhere}
+use Rattle.reg_index.specs.Subkeys.{IsSingle, AreSubkeys, IsIndexFor, Moves, names_in, entry_for, with_one, cells_of_index, own, taken}
+use Rattle.reg_index.proofs.SubkeysOpening.{own-is}
+use Rattle.reg_index.proofs.SubkeysFrame.{own-stays}
+use Rattle.reg_index.proofs.RefinementOfSubkeys.{subkeys-elsewhere}
 use Rattle.reg_tree.specs.Internal.KeyNodeChanges.{Notes, Recounts, noted_subkeys, raised}
 use Rattle.reg_tree.specs.Internal.TreeInvariant.{rooted}
 use Rattle.reg_tree.proofs.InsertKey.MadeKeyRecord.{made_record, made_node, made-seen}
 use Rattle.reg_tree.proofs.InsertKey.ParentReindexed.{reindexed, sees-reindexed}
-use Rattle.reg_tree.proofs.Invariant.UntouchedCells.{times-one, not-there, there-is, moved-none}
+use Rattle.reg_tree.proofs.Invariant.UntouchedCells.{times-one, moved-none}
 use Rattle.reg_tree.proofs.Invariant.KeyOfShape as keyed
 use Rattle.reg_tree.proofs.InsertKey.InsertKeyFrame.{name_of_head, raised-low}
 use Rattle.reg_tree.proofs.InsertKey.InsertKeyFrame as frame
@@ -77,7 +79,7 @@ module _ (h0 h1 h2 h3 h4 : Heap) (root : ℕ) (keys : Branch Node) (ring : List 
   K z = is_own z (record { kind = Key; offset = was.offset })
 
   abbrev old_list : List ℕ
-  old_list = own above.fields.subkeys above.fields.subkeys_list
+  old_list = cells_of_index node.index
 
   pub own-index : (z : ℕ) → owned z (index_cells node.index) ≡ times z old_list
   own-index = frame.own-index h0 h1 h2 h3 h4 root keys ring p parent plan list_cell key left w unrooted at
@@ -102,7 +104,7 @@ module _ (h0 h1 h2 h3 h4 : Heap) (root : ℕ) (keys : Branch Node) (ring : List 
     below-all : (Q : ℕ → Type 0) → ((z : ℕ) → 0 < total (owns z) was.below → Q z) → AllByRecursion (λ (e : Entry). Q e.offset) entries
     below-all = frame.below-all h0 h1 h2 h3 h4 root keys ring p parent plan list_cell key left w unrooted at others1 there1
 
-    module _ (count1 list1 : ℕ) (moves : Moves h1 h2 (old_list ++ taken plan list_cell) (own count1 list1)) where
+    module _ (count1 list1 : ℕ) (moves : Moves h1 h2 (old_list ++ taken plan list_cell) (own h2 count1 list1)) where
       pub before : (z : ℕ) → times z (old_list ++ taken plan list_cell) ≡ times z old_list + times z (taken plan list_cell)
       before = frame.before h0 h1 h2 h3 h4 root keys ring p parent plan list_cell key left w unrooted at others1 there1 count1 list1 moves
 
@@ -149,15 +151,9 @@ module _ (h0 h1 h2 h3 h4 : Heap) (root : ℕ) (keys : Branch Node) (ring : List 
           abbrev entries1 : List Entry
           entries1 = with_one index (entry_for h1 key) entries
 
-          pub new-list : (z : ℕ) → times z (own count1 list1) ≡ times z (list1 ∷ [])
-          new-list z = ap (λ n. times z (own n list1)) (count_is ∙ add-one above.fields.subkeys)
-            where
-              add-one : (n : ℕ) → n + 1 ≡ suc n
-              add-one n = omega arith
-
-          not-new-list : (z : ℕ) → 0 < allocated h0 z → times z old_list ≡ 0 → times z (taken plan list_cell) ≡ 0 → times z (list1 ∷ []) ≡ 0
-          not-new-list z some a b = sym (new-list z) ∙ (let x = allocated1 z in let y = before z in
-              moved-none h1 h2 (old_list ++ taken plan list_cell) (own count1 list1) moves z (omega (arith, some, x)) (omega (arith, a, b, y)))
+          not-new-list : (z : ℕ) → 0 < allocated h0 z → times z old_list ≡ 0 → times z (taken plan list_cell) ≡ 0 → times z (own h2 count1 list1) ≡ 0
+          not-new-list z some a b = let x = allocated1 z in let y = before z in
+              moved-none h1 h2 (old_list ++ taken plan list_cell) (own h2 count1 list1) moves z (omega (arith, some, x)) (omega (arith, a, b, y))
 
           calm4 : (z : ℕ) → times z ring ≡ 0 → h4 z ≡ h3 z
           calm4 z none = recounts.others z (λ e. (let l = subst (λ s. 0 < times s ring) (sym e) security-ringed in omega (arith, l, none)))
@@ -214,34 +210,29 @@ module _ (h0 h1 h2 h3 h4 : Heap) (root : ℕ) (keys : Branch Node) (ring : List 
 
           -- ---- the subkeys
 
+          list-calm : (z : ℕ) → 0 < times z (own h2 count1 list1) → h4 z ≡ h2 z
+          list-calm z l =
+              let b = budget P in let o = one P in let k = P-own in
+              let c = budget security in let q = one security in let f = security-ringed in
+              let not-P = not-new-list P (omega (arith, b, k)) (omega (arith, b, o, k)) (omega (arith, b, o, k)) in
+              let not-security = not-new-list security (omega (arith, c, f)) (omega (arith, c, q, f)) (omega (arith, c, q, f)) in
+              recounts.others z (λ e. (let m = subst (λ s. 0 < times s (own h2 count1 list1)) e l in omega (arith, m, not-security)))
+              ∙ its-notes.others z (λ e. (let m = subst (λ s. 0 < times s (own h2 count1 list1)) e l in omega (arith, m, not-P)))
+
           pub subkeys4 : AreSubkeys h4 count1 list1 entries1
-          subkeys4 = subkeys-elsewhere h2 h4 count1 list1 entries1 subkeys2 (inr list-calm)
+          subkeys4 = subkeys-elsewhere h2 h4 count1 list1 entries1 subkeys2 list-calm
               (all-inserted (λ (e : Entry). key_at h4 e.offset ≡ key_at h2 e.offset) index (entry_for h1 key) entries key-same
               (below-all (λ o. key_at h4 o ≡ key_at h2 o) (λ z l. key_at-same h2 h4 z (below-late z l))))
             where
-              not-one : (x : ℕ) → times x (list1 ∷ []) ≡ 0 → times list1 (x ∷ []) ≡ 0
-              not-one x none = by (times list1 (x ∷ [])) refl
-                where
-                  by : (n : ℕ) → times list1 (x ∷ []) ≡ n → n ≡ 0
-                  by zero e = refl
-                  by (suc n) e =
-                      let same = there-is list1 x (omega (arith, e)) in
-                      let t = subst (λ y. times y (list1 ∷ []) ≡ 1) same (times-one list1) in
-                      absurd (omega (arith, t, none))
-
-              list-calm : h4 list1 ≡ h2 list1
-              list-calm =
-                  let b = budget P in let o = one P in let k = P-own in
-                  let c = budget security in let q = one security in let f = security-ringed in
-                  let not-P = not-one P (not-new-list P (omega (arith, b, k)) (omega (arith, b, o, k)) (omega (arith, b, o, k))) in
-                  let not-security = not-one security (not-new-list security (omega (arith, c, f)) (omega (arith, c, q, f)) (omega (arith, c, q, f))) in
-                  recounts.others list1 (not-there list1 security not-security) ∙ its-notes.others list1 (not-there list1 P not-P)
-
               below-late : (z : ℕ) → 0 < total (owns z) was.below → h4 z ≡ h2 z
               below-late z l = let b = budget z in let o = one z in calm4 z (omega (arith, b, o, l)) ∙ calm3 z (omega (arith, b, o, l))
 
               key-same : key_at h4 key ≡ key_at h2 key
               key-same = let b = budget key in let o = one key in let k = key-once in key_at-same h2 h4 key (calm4 key (omega (arith, b, o, k)) ∙ calm3 key (omega (arith, b, o, k)))
+
+          -- its index's cells
+          pub new-list : (z : ℕ) → times z (cells_of_index subkeys4.index) ≡ times z (own h2 count1 list1)
+          new-list z = ap (times z) (sym (own-is h4 count1 list1 subkeys4.index subkeys4.read) ∙ own-stays h2 h4 count1 list1 entries1 subkeys2 list-calm)
 
           -- ---- the parent as it is now
 

@@ -1,5 +1,5 @@
 -- Which cells stay, and what reads as before, when a key is made below another: up to its parent's key node.
-use Rattle.std.proofs.Common.{◌≡◌, ◌≢◌, ℕ, zero, suc, ◌+◌, ◌%◌, ◌≤◌, ◌<◌, max, Option, Some, None, IsSome, List, [], ◌∷◌, ◌++◌, ◌⊎◌, inl, inr, drop, map, length}
+use Rattle.std.proofs.Common.{◌≡◌, ◌≢◌, ℕ, ◌+◌, ◌%◌, ◌≤◌, ◌<◌, max, Option, Some, None, IsSome, List, [], ◌∷◌, ◌++◌, drop, map, length}
 use Rattle.std.proofs.Common.{get_or, refl, sym, ap, ◌∙◌, subst, arith}
 use Rattle.std.specs.List.{AllByRecursion}
 use Rattle.reg_arena.proofs.FreeList.FreeListTake.{times-append}
@@ -24,12 +24,14 @@ use Rattle.reg_shape.proofs.Walking.WalkRefinement.{IsLooked}
 use Rattle.reg_shape.proofs.Wholeness.ShapeRecords.{all-at, at-most-one}
 use Rattle.reg_shape.proofs.Graft.ForestInsertFits.{all-mapped}
 use Rattle.reg_shape.proofs.Lookup.LookupOfShape.{key-looked}
-use Rattle.reg_index.specs.Subkeys.{AreSubkeys, Moves, names_in, name_at, name_or_none, own, taken}
-use Rattle.reg_index.proofs.RefinementOfSubkeys.{IsSingle, subkeys-elsewhere}
+use Rattle.reg_index.specs.Subkeys.{IsSingle, AreSubkeys, Moves, names_in, name_at, name_or_none, cells_of_index, own, taken}
+use Rattle.reg_index.proofs.SubkeysOpening.{own-is}
+use Rattle.reg_index.proofs.SubkeysFrame.{owned-index, own-stays}
+use Rattle.reg_index.proofs.RefinementOfSubkeys.{subkeys-elsewhere}
 use Rattle.reg_tree.specs.Internal.KeyNodeChanges.{Notes, noted_subkeys, raised}
 use Rattle.reg_tree.specs.Internal.TreeInvariant.{rooted}
 use Rattle.reg_tree.proofs.Invariant.OwnCells.{own-parts, key-here}
-use Rattle.reg_tree.proofs.InsertKey.ParentReindexed.{owned-single, branch-subkeys}
+use Rattle.reg_tree.proofs.InsertKey.ParentReindexed.{branch-subkeys}
 use Rattle.reg_tree.proofs.Invariant.UntouchedCells.{offset-own, times-one, not-there, written-allocated, moved-calm, all-heads, all-of, single-of}
 use Rattle.reg_tree.proofs.Invariant.KeyOfShape as keyed
 
@@ -102,10 +104,10 @@ module _ (h0 h1 h2 h3 h4 : Heap) (root : ℕ) (keys : Branch Node) (ring : List 
   K z = is_own z (record { kind = Key; offset = was.offset })
 
   abbrev old_list : List ℕ
-  old_list = own above.fields.subkeys above.fields.subkeys_list
+  old_list = cells_of_index node.index
 
   pub own-index : (z : ℕ) → owned z (index_cells node.index) ≡ times z old_list
-  own-index z = owned-single h0 z above.fields.subkeys above.fields.subkeys_list node.index looked.index_is single
+  own-index z = owned-index z node.index
 
   not-offset : (z : ℕ) → K z ≡ 0 → z ≢ was.offset
   not-offset z none e = let one = key-here z was.offset e in omega (arith, none, one)
@@ -162,26 +164,27 @@ module _ (h0 h1 h2 h3 h4 : Heap) (root : ℕ) (keys : Branch Node) (ring : List 
         (subst (AllByRecursion Q) stands0.1.offsets (all-of (λ (e : ℕ × Node). e.0) Q (heads was.below) (all-heads h0 root Q was.below stands0.2 q)))
 
     -- its subkeys are what they were
-    same-list : (count : ℕ) → above.fields.subkeys ≡ count → (above.fields.subkeys ≡ 0) ⊎ (h1 above.fields.subkeys_list ≡ h0 above.fields.subkeys_list)
-    same-list zero e = inl e
-    same-list (suc count) e =
-        let list = above.fields.subkeys_list in
-        let b = budget list in
-        let o = one list in
-        let t : times list old_list ≡ 1 = ap (λ n. times list (own n list)) e ∙ times-one list in
-        inr (calm1 list (omega (arith, b, o, t)))
+    subkeys0 : AreSubkeys h0 above.fields.subkeys above.fields.subkeys_list entries
+    subkeys0 = branch-subkeys h0 root was stands0 single
+
+    list-calm : (z : ℕ) → 0 < times z (own h0 above.fields.subkeys above.fields.subkeys_list) → h1 z ≡ h0 z
+    list-calm z l =
+        let t = subst (λ cells. 0 < times z cells) (own-is h0 above.fields.subkeys above.fields.subkeys_list node.index looked.index_is) l in
+        let b = budget z in let o = one z in calm1 z (omega (arith, b, o, t))
 
     pub subkeys1 : AreSubkeys h1 above.fields.subkeys above.fields.subkeys_list entries
-    subkeys1 =
-        subkeys-elsewhere h0 h1 above.fields.subkeys above.fields.subkeys_list entries (branch-subkeys h0 root was stands0 single) (same-list above.fields.subkeys refl)
-        (below-all (λ o. key_at h1 o ≡ key_at h0 o) (λ z l. key_at-same h0 h1 z (below1 z l)))
+    subkeys1 = subkeys-elsewhere h0 h1 above.fields.subkeys above.fields.subkeys_list entries subkeys0 list-calm (below-all (λ o. key_at h1 o ≡ key_at h0 o) (λ z l. key_at-same h0 h1 z (below1 z l)))
 
-    module _ (count1 list1 : ℕ) (moves : Moves h1 h2 (old_list ++ taken plan list_cell) (own count1 list1)) where
+    pub own1 : own h1 above.fields.subkeys above.fields.subkeys_list ≡ old_list
+    own1 = own-stays h0 h1 above.fields.subkeys above.fields.subkeys_list entries subkeys0 list-calm ∙ own-is h0 above.fields.subkeys above.fields.subkeys_list node.index looked.index_is
+
+    module _ (count1 list1 : ℕ) (moves : Moves h1 h2 (old_list ++ taken plan list_cell) (own h2 count1 list1)) where
       pub before : (z : ℕ) → times z (old_list ++ taken plan list_cell) ≡ times z old_list + times z (taken plan list_cell)
       before z = times-append z old_list (taken plan list_cell)
 
       pub calm2 : (z : ℕ) → 0 < allocated h0 z → times z old_list ≡ 0 → times z (taken plan list_cell) ≡ 0 → h2 z ≡ h1 z
-      calm2 z some a b = (let x = allocated1 z in let y = before z in moved-calm h1 h2 (old_list ++ taken plan list_cell) (own count1 list1) moves z (omega (arith, some, x)) (omega (arith, a, b, y)))
+      calm2 z some a b = (let x = allocated1 z in let y = before z in
+          moved-calm h1 h2 (old_list ++ taken plan list_cell) (own h2 count1 list1) moves z (omega (arith, some, x)) (omega (arith, a, b, y)))
 
       abbrev P : ℕ
       P = was.offset

@@ -31,15 +31,14 @@ use Rattle.reg_shape.proofs.Wholeness.ShapeRecords.{all-at, shares-own}
 use Rattle.reg_shape.proofs.Graft.ForestInsert.{total-hang}
 use Rattle.reg_shape.proofs.Graft.GraftOfExchange.{recounted-same}
 use Rattle.reg_shape.proofs.Graft.ForestInsertFits.{all-before, all-behind, all-mapped, fits-hung, stands-hung}
-use Rattle.reg_index.specs.Subkeys.{AreSubkeys, IsIndexFor, Moves, names_in, name_at, name_or_none, entry_for, with_one, own, taken}
-use Rattle.reg_index.proofs.RefinementOfSubkeys.{IsSingle, index-entries}
-use Rattle.reg_index.proofs.SubkeysFrame.{times-not}
+use Rattle.reg_index.specs.Subkeys.{IsSingle, AreSubkeys, IsIndexFor, Moves, names_in, name_at, name_or_none, entry_for, with_one, cells_of_index, own, taken}
+use Rattle.reg_index.proofs.SubkeysFrame.{times-not, owned-index}
 use Rattle.reg_tree.specs.Internal.KeyNodeChanges.{Notes, Recounts, noted_subkeys, raised}
 use Rattle.reg_tree.specs.Internal.TreeInvariant.{rooted}
 use Rattle.reg_tree.proofs.Invariant.CellReadings.{key-exists, security-exists, is_some_of}
 use Rattle.reg_tree.proofs.Invariant.OwnCells.{own-parts}
 use Rattle.reg_tree.proofs.InsertKey.MadeKeyRecord.{made_record, made_node, made-owns, made-shares}
-use Rattle.reg_tree.proofs.InsertKey.ParentReindexed.{owned-list, reindexed, owned-reindexed, shared-reindexed}
+use Rattle.reg_tree.proofs.InsertKey.ParentReindexed.{reindexed, owned-reindexed, shared-reindexed}
 use Rattle.reg_tree.proofs.Invariant.UntouchedCells.{there-is, times-one, written-allocated}
 use Rattle.reg_tree.proofs.Invariant.KeyOfShape as keyed
 use Rattle.reg_tree.proofs.InsertKey.InsertKeyFrame.{name_of_head}
@@ -88,7 +87,7 @@ module _ (h0 h1 h2 h3 h4 : Heap) (root : ℕ) (keys : Branch Node) (ring : List 
   K z = is_own z (record { kind = Key; offset = was.offset })
 
   abbrev old_list : List ℕ
-  old_list = own above.fields.subkeys above.fields.subkeys_list
+  old_list = cells_of_index node.index
 
   own-index : (z : ℕ) → owned z (index_cells node.index) ≡ times z old_list
   own-index = cells.own-index h0 h1 h2 h3 h4 root keys ring p parent plan list_cell key left w unrooted at
@@ -104,7 +103,7 @@ module _ (h0 h1 h2 h3 h4 : Heap) (root : ℕ) (keys : Branch Node) (ring : List 
     allocated1 : (z : ℕ) → allocated h1 z ≡ allocated h0 z
     allocated1 = cells.allocated1 h0 h1 h2 h3 h4 root keys ring p parent plan list_cell key left w unrooted at others1 there1
 
-    module _ (count1 list1 : ℕ) (moves : Moves h1 h2 (old_list ++ taken plan list_cell) (own count1 list1)) where
+    module _ (count1 list1 : ℕ) (moves : Moves h1 h2 (old_list ++ taken plan list_cell) (own h2 count1 list1)) where
       before : (z : ℕ) → times z (old_list ++ taken plan list_cell) ≡ times z old_list + times z (taken plan list_cell)
       before = cells.before h0 h1 h2 h3 h4 root keys ring p parent plan list_cell key left w unrooted at others1 there1 count1 list1 moves
 
@@ -138,10 +137,6 @@ module _ (h0 h1 h2 h3 h4 : Heap) (root : ℕ) (keys : Branch Node) (ring : List 
 
           abbrev entries1 : List Entry
           entries1 = with_one index (entry_for h1 key) entries
-
-          new-list : (z : ℕ) → times z (own count1 list1) ≡ times z (list1 ∷ [])
-          new-list = cells.new-list h0 h1 h2 h3 h4 root keys ring p parent plan list_cell key left w unrooted at others1 there1 count1 list1 moves
-              name moment notes index good short key1 plain1 stands_at missing subkeys2 count_is users users_are recounts
 
           calm : (z : ℕ) → 0 < allocated h0 z → times z (key ∷ []) ≡ 0 → times z old_list ≡ 0 → times z (taken plan list_cell) ≡ 0 → K z ≡ 0 → times z ring ≡ 0 → h4 z ≡ h0 z
           calm = cells.calm h0 h1 h2 h3 h4 root keys ring p parent plan list_cell key left w unrooted at others1 there1 count1 list1 moves name
@@ -185,8 +180,12 @@ module _ (h0 h1 h2 h3 h4 : Heap) (root : ℕ) (keys : Branch Node) (ring : List 
           made-is = cells.made-is h0 h1 h2 h3 h4 root keys ring p parent plan list_cell key left w unrooted at others1 there1 count1 list1 moves
               name moment notes index good short key1 plain1 stands_at missing subkeys2 count_is users users_are recounts
 
-          pub subkeys4 : AreSubkeys h4 count1 list1 entries1
+          abbrev pub subkeys4 : AreSubkeys h4 count1 list1 entries1
           subkeys4 = cells.subkeys4 h0 h1 h2 h3 h4 root keys ring p parent plan list_cell key left w unrooted at others1 there1 count1 list1 moves
+              name moment notes index good short key1 plain1 stands_at missing subkeys2 count_is users users_are recounts
+
+          new-list : (z : ℕ) → times z (cells_of_index subkeys4.index) ≡ times z (own h2 count1 list1)
+          new-list = cells.new-list h0 h1 h2 h3 h4 root keys ring p parent plan list_cell key left w unrooted at others1 there1 count1 list1 moves
               name moment notes index good short key1 plain1 stands_at missing subkeys2 count_is users users_are recounts
 
           abbrev now : Node
@@ -216,7 +215,7 @@ module _ (h0 h1 h2 h3 h4 : Heap) (root : ℕ) (keys : Branch Node) (ring : List 
           its-name = ap name_or_none key1
 
           fits-now : Fits P now (heads (hang index key made was.below))
-          fits-now = fits-hung P index key node now made (entry_for h1 key) (index-entries h4 count1 list1 entries1 subkeys4) refl (ap hash its-name) (sym offset)
+          fits-now = fits-hung P index key node now made (entry_for h1 key) subkeys4.entries_are refl (ap hash its-name) (sym offset)
               (let r = raised-is in omega (arith, r)) (let r = raised-is in omega (arith, r)) (omega arith) (omega arith) was.below ordered-before ordered-behind stands0.1
 
           abbrev is : Branch Node
@@ -231,11 +230,11 @@ module _ (h0 h1 h2 h3 h4 : Heap) (root : ℕ) (keys : Branch Node) (ring : List 
               (security-exists h4 security (is_some_of _ _ (recounts.reads written.security security-there))) z
               ∙ written-allocated h2 h3 P its-notes.others (key-exists h2 P (is_some_of _ _ P-then)) (key-exists h3 P (is_some_of _ _ key-noted)) z
 
-          owned-now : (z : ℕ) → owned z (cells_of now) + times z old_list ≡ owned z (cells_of node) + times z (list1 ∷ [])
+          owned-now : (z : ℕ) → owned z (cells_of now) + times z old_list ≡ owned z (cells_of node) + times z (own h2 count1 list1)
           owned-now z =
               let o = owned-reindexed h0 h4 root P node seen looked count1 list1 (length name) moment entries1 key-now plain-now calm-class calm-values subkeys4 z in
               let a = own-index z in
-              let b = owned-list z count1 list1 entries1 in
+              let b = owned-index z subkeys4.index in
               let c = new-list z in
               omega (arith, o, a, b, c)
 
@@ -245,12 +244,11 @@ module _ (h0 h1 h2 h3 h4 : Heap) (root : ℕ) (keys : Branch Node) (ring : List 
               let b = allocated1 z in
               let m = moves.count z in
               let x = before z in
-              let y = new-list z in
               let o = owned-now z in
               let t = total-hang (owns z) index key made was.below in
               let k = made-owns h4 key parent security moment name z in
               let s = times-append z (taken plan list_cell) (key ∷ left) in
-              omega (arith, a, b, m, x, y, o, t, k, s)
+              omega (arith, a, b, m, x, o, t, k, s)
 
           same-now : (z : ℕ) → 0 < allocated h0 z → total_of (owns z) was ≡ 0 → times z spare ≡ 0 → times z ring ≡ 0 → h4 z ≡ h0 z
           same-now z some none no_spare no_ring =
@@ -263,7 +261,7 @@ module _ (h0 h1 h2 h3 h4 : Heap) (root : ℕ) (keys : Branch Node) (ring : List 
 
           shares-now : (z : ℕ) → total_of (shares z) is ≡ total_of (shares z) was + times z (security ∷ [])
           shares-now z =
-              let r = shared-reindexed h0 h4 root P node seen looked count1 list1 (length name) moment entries1 key-now plain-now calm-class calm-values subkeys4 single z in
+              let r = shared-reindexed h0 h4 root P node seen looked count1 list1 (length name) moment entries1 key-now plain-now calm-class calm-values subkeys4 z in
               let t = total-hang (shares z) index key made was.below in
               let k = made-shares h4 key parent security moment name z in
               omega (arith, r, t, k)

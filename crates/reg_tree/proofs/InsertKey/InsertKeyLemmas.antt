@@ -1,5 +1,5 @@
 -- What stands when a key was made below another: the shape, the tree that is spelt, and where each key stands.
-use Rattle.std.proofs.Common.{◌≡◌, ◌≢◌, ℕ, zero, suc, ◌+◌, ◌≤◌, ◌<◌, true, cond, Option, Some, None, IsSome, List, [], ◌∷◌, ◌++◌, length}
+use Rattle.std.proofs.Common.{◌≡◌, ◌≢◌, ℕ, ◌+◌, ◌≤◌, ◌<◌, true, cond, Option, Some, None, IsSome, List, [], ◌∷◌, ◌++◌, length}
 use Rattle.std.proofs.Common.{refl, sym, ap, ◌∙◌, subst, arith}
 use Rattle.std.specs.Prelude.{Err}
 use Rattle.std.specs.Option.{option_map, option_and_then}
@@ -31,14 +31,14 @@ use Rattle.reg_shape.proofs.Graft.WholeAfterGraft.{grafted, graft-total}
 use Rattle.reg_shape.proofs.Refinement.RefinementAfterGraft.{tree-hung}
 use Rattle.reg_shape.proofs.Lookup.LookupAfterGraft.{offsets-hung}
 use Rattle.reg_shape.proofs.Lookup.LookupOfShape.{placed, offset-more}
-use Rattle.reg_index.specs.Subkeys.{AreSubkeys, IsIndexFor, Moves, names_in, entry_for, with_one, own, taken, insert_size}
-use Rattle.reg_index.proofs.RefinementOfSubkeys.{index_for}
+use Rattle.reg_index.specs.Subkeys.{AreSubkeys, IsIndexFor, Moves, names_in, entry_for, with_one, cells_of_index, own, taken, insert_size}
 use Rattle.reg_tree.specs.Internal.KeyNodeChanges.{Notes, Recounts, noted_subkeys}
-use Rattle.reg_tree.specs.Internal.TreeInvariant.{is_rooted, rooted}
+use Rattle.reg_tree.specs.Internal.TreeInvariant.{rooted}
 use Rattle.reg_tree.specs.Internal.SpareCells.{planned, Grows}
 use Rattle.reg_tree.proofs.InsertKey.MadeKeyRecord.{made_record, made_node}
 use Rattle.reg_tree.proofs.InsertKey.ParentReindexed.{reindexed}
 use Rattle.reg_tree.proofs.ValueChange.TreeAfterValueChange.{edited-at}
+use Rattle.reg_tree.proofs.Invariant.UntouchedCells.{rooted-none}
 use Rattle.reg_tree.proofs.Invariant.KeyOfShape as keyed
 use Rattle.reg_tree.proofs.InsertKey.InsertKeyCells as cells
 use Rattle.reg_tree.proofs.InsertKey.InsertKeyGraft as grafting
@@ -74,10 +74,10 @@ module _ (h0 h1 h2 h3 h4 : Heap) (root : ℕ) (keys : Branch Node) (ring : List 
   stands0 = keyed.stands h0 root keys ring spare w p parent at
 
   abbrev old_list : List ℕ
-  old_list = own above.fields.subkeys above.fields.subkeys_list
+  old_list = cells_of_index node.index
 
   module _ (others1 : (z : ℕ) → z ≢ key → h1 z ≡ h0 z) (there1 : IsSome (h1 key)) where
-    module _ (count1 list1 : ℕ) (moves : Moves h1 h2 (old_list ++ taken plan list_cell) (own count1 list1)) where
+    module _ (count1 list1 : ℕ) (moves : Moves h1 h2 (old_list ++ taken plan list_cell) (own h2 count1 list1)) where
       abbrev P : ℕ
       P = was.offset
 
@@ -124,7 +124,7 @@ module _ (h0 h1 h2 h3 h4 : Heap) (root : ℕ) (keys : Branch Node) (ring : List 
           made-is = cells.made-is h0 h1 h2 h3 h4 root keys ring p parent plan list_cell key left w unrooted at others1 there1 count1 list1 moves
               name moment notes index good short key1 plain1 stands_at missing subkeys2 count_is users users_are recounts
 
-          pub subkeys4 : AreSubkeys h4 count1 list1 entries1
+          abbrev pub subkeys4 : AreSubkeys h4 count1 list1 entries1
           subkeys4 = cells.subkeys4 h0 h1 h2 h3 h4 root keys ring p parent plan list_cell key left w unrooted at others1 there1 count1 list1 moves
               name moment notes index good short key1 plain1 stands_at missing subkeys2 count_is users users_are recounts
 
@@ -155,12 +155,8 @@ module _ (h0 h1 h2 h3 h4 : Heap) (root : ℕ) (keys : Branch Node) (ring : List 
           unrooted-made =
               let g = graft-total rooted was now (hang index key made was.below) p keys (keyed.branch_is h0 root keys ring spare w p parent at) in
               let t = total-hang rooted index key made was.below in
-              let n = single-rooted count1 list1 entries1 in
+              let n = rooted-none subkeys4.index subkeys4.single in
               omega (arith, g, t, n, unrooted)
-            where
-              single-rooted : (count list : ℕ) (es : List Entry) → is_rooted (index_for count list es) ≡ 0
-              single-rooted zero list es = refl
-              single-rooted (suc count) list es = refl
 
           free : branch_at (folded name ∷ []) was ≡ None
           free =

@@ -19,8 +19,10 @@ use Rattle.reg_shape.specs.Written.{IsWrittenSecurity}
 use Rattle.reg_shape.specs.PathLookup.{subkey_named}
 use Rattle.reg_records.proofs.KeyNodeCodec.{key_at-same}
 use Rattle.reg_shape.proofs.Frame.WrittenFrame.{same-held}
+use Rattle.reg_shape.proofs.Walking.WalkRefinement.{IsLooked}
 use Rattle.reg_shape.proofs.Wholeness.ShapeRecords.{all-at}
-use Rattle.reg_index.specs.Subkeys.{AreSubkeys, IsIndexFor, IsReady, Moves, names_in, name_at, name_or_none, entry_for, with_one, own, taken, insert_size}
+use Rattle.reg_index.specs.Subkeys.{AreSubkeys, IsIndexFor, IsReady, Moves, names_in, name_at, name_or_none, entry_for, with_one, cells_of_index, own, taken, insert_size}
+use Rattle.reg_index.proofs.SubkeysOpening.{index-leaf}
 use Rattle.reg_tree.specs.Internal.KeyNodeChanges.{Notes, Recounts, noted_subkeys, made_fields}
 use Rattle.reg_tree.specs.Internal.SpareCells.{planned, IsGrowing, MayGrow, Grows}
 use Rattle.reg_tree.proofs.Invariant.CellReadings.{is_some_of}
@@ -54,6 +56,9 @@ module _ (bytes : List ℕ) (parent list_cell key : ℕ) (name left : List ℕ) 
   pub key_is : key_at h parent ≡ Some node.key
   key_is = keyed.key_is h g.root g.keys g.ring spare g.shape g.path parent g.at
 
+  looked : IsLooked h (keyed.branch h g.root g.keys g.ring spare g.shape g.path parent g.at).offset node
+  looked = keyed.looked h g.root g.keys g.ring spare g.shape g.path parent g.at
+
   pub key_there : IsSome (key_at h parent)
   key_there = is_some_of _ _ key_is
 
@@ -77,7 +82,7 @@ module _ (bytes : List ℕ) (parent list_cell key : ℕ) (name left : List ℕ) 
 
     pub users_few : (s : KeySecurityRecord) → security_at h fields.security ≡ Some s → s.fields.count < length bytes
     users_few = subst (λ (f : KeyFields). (s : KeySecurityRecord) → security_at h f.security ≡ Some s → s.fields.count < length bytes) fields_are
-        (count-few bytes g.root g.keys g.ring spare g.shape g.unrooted node.key.fields.security security_ringed)
+        (count-few bytes g.root g.keys g.ring spare g.shape node.key.fields.security security_ringed)
 
     own_subkeys : AreSubkeys h node.key.fields.subkeys node.key.fields.subkeys_list entries
     own_subkeys = branch-subkeys h g.root (keyed.branch h g.root g.keys g.ring spare g.shape g.path parent g.at) (keyed.stands h g.root g.keys g.ring spare g.shape g.path parent g.at)
@@ -135,8 +140,8 @@ module _ (bytes : List ℕ) (parent list_cell key : ℕ) (name left : List ℕ) 
       same_size (suc count) list a b =
           let budget = frame.budget h h1 h1 h1 h1 g.root g.keys g.ring g.path parent plan list_cell key left g.shape g.unrooted g.at list in
           let one = frame.one h h1 h1 h1 h1 g.root g.keys g.ring g.path parent plan list_cell key left g.shape g.unrooted g.at list in
-          let t : times list (own node.key.fields.subkeys node.key.fields.subkeys_list) ≡ 1 =
-          ap (λ n. times list (own n node.key.fields.subkeys_list)) (sym a) ∙ (ap (λ o. times list (o ∷ [])) (sym b) ∙ times-one list) in
+          let leaf = index-leaf h node.key.fields.subkeys node.key.fields.subkeys_list entries node.index own_subkeys looked.index_is (omega (arith, a)) in
+          let t : times list (cells_of_index node.index) ≡ 1 = ap (times list) leaf ∙ (ap (λ o. times list (o ∷ [])) (sym b) ∙ times-one list) in
           ap (λ (bytes : List ℕ). cond (nat_le (4 + 8 * suc (suc count)) (length bytes)) None (Some (8 + 8 * suc (suc count)))) (same-held h h1 list (calm1 list (omega (arith, budget, one, t))))
 
       pub size1 : insert_size h1 fields.subkeys fields.subkeys_list ≡ plan
@@ -162,12 +167,14 @@ module _ (bytes : List ℕ) (parent list_cell key : ℕ) (name left : List ℕ) 
       -- ---- the key is among the subkeys
 
       module _ (h2 : Heap) (count1 list1 : ℕ)
-          (moves : Moves h1 h2 (own fields.subkeys fields.subkeys_list ++ taken (insert_size h1 fields.subkeys fields.subkeys_list) list_cell)
-          (own count1 list1)) where
-        pub moved : Moves h1 h2 (own node.key.fields.subkeys node.key.fields.subkeys_list ++ taken plan list_cell) (own count1 list1)
+          (moves : Moves h1 h2 (own h1 fields.subkeys fields.subkeys_list ++ taken (insert_size h1 fields.subkeys fields.subkeys_list) list_cell)
+          (own h2 count1 list1)) where
+        pub moved : Moves h1 h2 (cells_of_index node.index ++ taken plan list_cell) (own h2 count1 list1)
         moved =
-            subst (λ (f : KeyFields). Moves h1 h2 (own f.subkeys f.subkeys_list ++ taken plan list_cell) (own count1 list1)) (sym fields_are)
-            (subst (λ o. Moves h1 h2 (own fields.subkeys fields.subkeys_list ++ taken o list_cell) (own count1 list1)) size1 moves)
+            subst (λ cells. Moves h1 h2 (cells ++ taken plan list_cell) (own h2 count1 list1))
+            (frame.own1 h h1 h1 h1 h1 g.root g.keys g.ring g.path parent plan list_cell key left g.shape g.unrooted g.at others1 there1)
+            (subst (λ (f : KeyFields). Moves h1 h2 (own h1 f.subkeys f.subkeys_list ++ taken plan list_cell) (own h2 count1 list1)) (sym fields_are)
+            (subst (λ o. Moves h1 h2 (own h1 fields.subkeys fields.subkeys_list ++ taken o list_cell) (own h2 count1 list1)) size1 moves))
 
         pub parent2 : IsSome (key_at h2 parent)
         parent2 =

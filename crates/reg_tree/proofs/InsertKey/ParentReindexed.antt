@@ -1,53 +1,52 @@
 -- A key whose subkeys were changed and noted: it is seen as it is then. And a key's subkeys, from the keys right below it.
-use Rattle.std.proofs.Common.{◌≡◌, ℕ, zero, suc, ◌+◌, ◌≤◌, Option, Some, None, IsSome, List, [], ◌∷◌, ◌++◌, map, length, refl, sym, ap, ◌∙◌, subst, arith}
+use Rattle.std.proofs.Common.{◌≡◌, ℕ, ◌+◌, Some, IsSome, List, [], ◌∷◌, ◌++◌, map, length, take, drop, refl, sym, ap, ◌∙◌, subst, arith}
 use Rattle.std.specs.List.{AllByRecursion}
 use Rattle.std.specs.Option.{option_map, option_and_then}
-use Rattle.std.proofs.lemmas.List.{append-nil}
-use Rattle.std.proofs.lemmas.Option.{none-some, same_Some}
 use Rattle.reg_names.specs.Names.{folded, hash}
-use Rattle.reg_heap.specs.declared.limits.TheConstants.{LEAF_LIMIT}
 use Rattle.reg_heap.specs.Heaps.{Heap}
-use Rattle.reg_heap.specs.Kinds.{Found, times, owned, shared}
+use Rattle.reg_heap.specs.Kinds.{Found, is_shared, owned, shared}
 use Rattle.reg_heap.specs.Kinds.Kind.{Class}
 use Rattle.reg_shape.specs.Internal.Forests.{Forest, Branch, heads, Stand}
 use Rattle.reg_shape.specs.Internal.Forests.Forest.{End, Rooted as Hangs}
 use Rattle.reg_records.specs.RecordCells.{held}
 use Rattle.reg_records.specs.KeyNodes.{KeyRecord, key_at, IsPlainKey}
-use Rattle.reg_records.specs.SubkeyLists.{SubkeysList, Form, Entry, offsets_in}
-use Rattle.reg_records.specs.declared.lists.ListForm.TheVariants.{IndexRoot, IndexLeaf, FastLeaf, HashLeaf}
+use Rattle.reg_records.specs.SubkeyLists.{Entry, offsets_in}
 use Rattle.reg_records.specs.BigData.{if_any}
-use Rattle.reg_shape.specs.Nodes.{Node, KeyList, Index, members_at, list_at, key_lists_at, index_as, index_at, entries_of, node_of, node_in, met_of, look}
+use Rattle.reg_shape.specs.Nodes.{Node, KeyList, Index, members_at, index_at, entries_of, node_of, node_in, met_of, look}
 use Rattle.reg_shape.specs.Nodes.Index.{Unlisted, Listed, Rooted}
-use Rattle.reg_shape.specs.Written.{Pairwise, Precedes, Fits, IsWrittenIndex}
-use Rattle.reg_shape.specs.Internal.Shapes.{index_cells, cells_of, IsSeen, StandsIn}
-use Rattle.reg_shape.proofs.Walking.IndexWalks.{then-open}
+use Rattle.reg_shape.specs.Written.{Pairwise, Precedes, Fits}
+use Rattle.reg_shape.proofs.Wholeness.ShapeCounts.{tally-append, nothing-met, nothing-taken}
+use Rattle.reg_shape.specs.Internal.Shapes.{joined, lists_met, index_cells, cells_of, IsSeen, StandsIn}
 use Rattle.reg_shape.proofs.Walking.InnerReadings.{class-inner, members-inner}
 use Rattle.reg_shape.proofs.Frame.ReadingFrame.{pieces-local, members-local}
 use Rattle.reg_shape.proofs.Frame.KeyFrame.{Keeps, agree-inner}
 use Rattle.reg_shape.proofs.Frame.WrittenFrame.{list-kept}
 use Rattle.reg_shape.proofs.Lookup.LookupOfShape.{key-looked}
 use Rattle.reg_shape.proofs.Walking.WalkRefinement.{IsLooked, look-open}
-use Rattle.reg_index.specs.Subkeys.{AreSubkeys, Rises, name_at, name_or_none, names_in, own}
-use Rattle.reg_index.proofs.SubkeysOpening.{length-subkeys}
-use Rattle.reg_index.proofs.RefinementOfSubkeys.{index_for, IsSingle, subkeys-index, index-entries, index-written, index-subkeys, rises-of}
+use Rattle.reg_index.specs.Subkeys.{IsSingle, AreSubkeys, Rises, name_at, name_or_none, names_in}
+use Rattle.reg_index.proofs.SubkeysOpening.{few-subkeys}
+use Rattle.reg_index.proofs.RefinementOfSubkeys.{rises-of}
 use Rattle.reg_tree.specs.Internal.KeyNodeChanges.{noted_subkeys}
 use Rattle.reg_tree.proofs.Invariant.CellReadings.{is_some_of}
 use Rattle.reg_tree.proofs.Invariant.OwnCells.{own-parts, shared-parts}
 
--- ---- the list's own cell
+-- ---- an index's cells
 
-pub owned-list : (z count list : ℕ) (entries : List Entry) → owned z (index_cells (index_for count list entries)) ≡ times z (own count list)
-owned-list z zero list entries = refl
-owned-list z (suc count) list entries = refl
+shared-lists : (z : ℕ) (lists : List KeyList) → ◌≡◌ {A = ℕ} (shared z (lists_met lists [])) 0
+shared-lists z [] = refl
+shared-lists z (list ∷ lists) =
+    let n = length list.list.entries in
+    let rest = shared-lists z lists in
+    let parts = tally-append (is_shared z) (joined (take n [])) (lists_met lists (drop n [])) in
+    let none = nothing-taken (is_shared z) n in
+    let same = nothing-met (is_shared z) lists n in
+    omega (arith, rest, parts, none, same)
 
-pub shared-list : (z count list : ℕ) (entries : List Entry) → ◌≡◌ {A = ℕ} (shared z (index_cells (index_for count list entries))) 0
-shared-list z zero list entries = refl
-shared-list z (suc count) list entries = refl
-
-pub shared-single : (z : ℕ) (index : Index) → IsSingle index → ◌≡◌ {A = ℕ} (shared z (index_cells index)) 0
-shared-single z Unlisted s = refl
-shared-single z (Listed list) s = refl
-shared-single z (Rooted offset lists) s = absurd s
+-- none is a security
+pub shared-index : (z : ℕ) (index : Index) → ◌≡◌ {A = ℕ} (shared z (index_cells index)) 0
+shared-index z Unlisted = refl
+shared-index z (Listed list) = refl
+shared-index z (Rooted offset lists) = let l = shared-lists z lists in omega (arith, l)
 
 -- ---- a key's subkeys changed: `h` before, `k` when that was noted in the key node
 
@@ -59,7 +58,7 @@ module _ (h k : Heap) (root offset : ℕ) (node : Node) (seen : IsSeen h root of
 
   -- the key as it is after the change
   abbrev pub reindexed : Node
-  reindexed = record { key = new_key; class = node.class; values = node.values; cells = met_of offset new_key l.class_cells l.value_cells; index = index_for count list entries }
+  reindexed = record { key = new_key; class = node.class; values = node.values; cells = met_of offset new_key l.class_cells l.value_cells; index = subkeys.index }
 
   pub looks-reindexed : look k offset ≡ Some reindexed
   unfolding look
@@ -70,20 +69,20 @@ module _ (h k : Heap) (root offset : ℕ) (node : Node) (seen : IsSeen h root of
       let values = members-local key.fields.values key.fields.values_list h k (node.values, l.value_cells) l.values_are
       (agree-inner h k l.value_cells (members-inner h key.fields.values key.fields.values_list (node.values, l.value_cells) l.values_are)
       values-calm) in
-      let index = subkeys-index k count list entries subkeys in
+      let index = subkeys.read in
       ap (option_and_then (node_in k offset)) key-now
       ∙ (ap (option_and_then (λ class. option_and_then (λ values. option_map (node_of offset new_key class values) (index_at k count list))
       (members_at key.fields.values key.fields.values_list k))) class
       ∙ (ap (option_and_then (λ values. option_map (node_of offset new_key (node.class, l.class_cells) values) (index_at k count list))) values
       ∙ ap (option_map (node_of offset new_key (node.class, l.class_cells) (node.values, l.value_cells))) index))
 
-  number : count ≡ length (entries_of (index_for count list entries))
-  number = sym (length-subkeys k count list entries subkeys.read) ∙ ap length (sym (index-entries k count list entries subkeys))
+  number : count ≡ length (entries_of subkeys.index)
+  number = sym subkeys.number ∙ ap length (sym subkeys.entries_are)
 
   pub sees-reindexed : IsSeen k root offset reindexed
   sees-reindexed =
       let w = seen.written in
-      let few = subkeys.few in
+      let few = few-subkeys k count list entries subkeys in
       let key = node.key in
       record {
         reads = looks-reindexed;
@@ -103,23 +102,23 @@ module _ (h k : Heap) (root offset : ℕ) (node : Node) (seen : IsSeen h root of
           subkeys = number;
           few = omega (arith, few);
           none = subkeys.unlisted;
-          index = index-written k count list entries subkeys;
+          index = subkeys.written;
         };
       }
 
   -- its own cells are what they were, but for the list
-  pub owned-reindexed : (z : ℕ) → owned z (cells_of reindexed) + owned z (index_cells node.index) ≡ owned z (cells_of node) + owned z (index_cells (index_for count list entries))
+  pub owned-reindexed : (z : ℕ) → owned z (cells_of reindexed) + owned z (index_cells node.index) ≡ owned z (cells_of node) + owned z (index_cells subkeys.index)
   owned-reindexed z =
       let a = ap (λ (found : List Found). owned z (found ++ index_cells node.index)) l.cells ∙ own-parts z offset node.key l.class_cells l.value_cells node.index in
-      let b = own-parts z offset new_key l.class_cells l.value_cells (index_for count list entries) in
+      let b = own-parts z offset new_key l.class_cells l.value_cells subkeys.index in
       omega (arith, a, b)
 
-  pub shared-reindexed : IsSingle node.index → (z : ℕ) → shared z (cells_of reindexed) ≡ shared z (cells_of node)
-  shared-reindexed single z =
+  pub shared-reindexed : (z : ℕ) → shared z (cells_of reindexed) ≡ shared z (cells_of node)
+  shared-reindexed z =
       let a = ap (λ (found : List Found). shared z (found ++ index_cells node.index)) l.cells ∙ shared-parts z offset node.key l.class_cells l.value_cells node.index in
-      let b = shared-parts z offset new_key l.class_cells l.value_cells (index_for count list entries) in
-      let c = shared-single z node.index single in
-      let d = shared-list z count list entries in
+      let b = shared-parts z offset new_key l.class_cells l.value_cells subkeys.index in
+      let c = shared-index z node.index in
+      let d = shared-index z subkeys.index in
       omega (arith, a, b, c, d)
 
 -- ---- a key's subkeys, from the keys below it
@@ -179,11 +178,6 @@ names-ordered : (below : List (ℕ × Node)) → Pairwise (λ (a b : ℕ × Node
 names-ordered [] a = tt
 names-ordered (e ∷ below) a = (all-names (Precedes e.1.key.name) below a.0, names-ordered below a.1)
 
-few-entries : (index : Index) → IsWrittenIndex index → IsSingle index → length (entries_of index) ≤ LEAF_LIMIT
-few-entries Unlisted w s = omega arith
-few-entries (Listed list) w s = let few = w.few in let all = ap length (append-nil list.list.entries) in omega (arith, few, all)
-few-entries (Rooted offset lists) w s = absurd s
-
 -- a key whose subkeys stand in at most one list has these subkeys
 pub subkeys-below : (h : Heap) (root offset : ℕ) (node : Node) (below : List (ℕ × Node)) → IsSeen h root offset node → IsSingle node.index → Fits offset node below → AreLooked h below
     → AreSubkeys h node.key.fields.subkeys node.key.fields.subkeys_list (entries_of node.index)
@@ -191,11 +185,13 @@ subkeys-below h root offset node below seen single fits looked =
     let l = look-open h offset node seen.reads in
     let w = seen.written in
     let entries : List Entry = entries_of node.index in
-    let few = few-entries node.index w.index single in
-    let number = w.subkeys in
     record {
-      read = index-subkeys h node.key.fields.subkeys node.key.fields.subkeys_list node.index l.index_is w.index single w.subkeys;
-      few = omega (arith, few, number);
+      index = node.index;
+      read = l.index_is;
+      written = w.index;
+      entries_are = refl;
+      number = sym w.subkeys;
+      single = single;
       unlisted = w.none;
       keys = keys-there h below entries looked fits.offsets;
       hashes = hashes-there h below entries looked fits.offsets fits.hashes;
@@ -205,27 +201,3 @@ subkeys-below h root offset node below seen single fits looked =
 pub branch-subkeys : (h : Heap) (root : ℕ) (b : Branch Node) → StandsIn h root b → IsSingle b.node.index →
     AreSubkeys h b.node.key.fields.subkeys b.node.key.fields.subkeys_list (entries_of b.node.index)
 branch-subkeys h root b stands single = subkeys-below h root b.offset b.node (heads b.below) stands.0 single stands.1 (heads-looked h root b.below stands.2)
-
--- the cells of one list are the list's own cell
-module _ (h : Heap) (z count list : ℕ) where
-  some-cells : Option Index → ℕ
-  some-cells None = 0
-  some-cells (Some index) = owned z (index_cells index)
-
-  by-form : (l : SubkeysList) (form : Form) (index : Index) → index_as h list l form ≡ Some index → IsSingle index → owned z (index_cells index) ≡ times z (list ∷ [])
-  unfolding some-cells
-  by-form l IndexRoot index e single = absurd (rooted (key_lists_at h (offsets_in l.entries)) e)
-    where
-      rooted : (o : Option (List KeyList)) → option_map (Rooted list) o ≡ Some index → ⊥
-      rooted None e = none-some _ e
-      rooted (Some lists) e = subst IsSingle (sym (same_Some _ _ e)) single
-  by-form l IndexLeaf index e single = ap some-cells (sym e)
-  by-form l FastLeaf index e single = ap some-cells (sym e)
-  by-form l HashLeaf index e single = ap some-cells (sym e)
-
-  pub owned-single : (index : Index) → index_at h count list ≡ Some index → IsSingle index → owned z (index_cells index) ≡ times z (own count list)
-  owned-single index e single = by count index e single
-    where
-      by : (count : ℕ) (index : Index) → index_at h count list ≡ Some index → IsSingle index → owned z (index_cells index) ≡ times z (own count list)
-      by zero index e single = ap (λ i. owned z (index_cells i)) (sym (same_Some _ _ e))
-      by (suc count) index e single = let o = then-open (λ (l : SubkeysList). index_as h list l l.form) (list_at h list) index e in by-form o.0 o.0.form index o.2 single

@@ -26,6 +26,7 @@ use Rattle.reg_records.specs.Letters.{is_signed}
 use Rattle.reg_records.specs.KeyNodes.{KeyRecord, key_at, nk_of}
 use Rattle.reg_records.specs.SubkeyLists.{Entry}
 use Rattle.reg_index.specs.Subkeys.{AreSubkeys, IsReady, insert_size}
+use Rattle.reg_index.proofs.SubkeysOpening.{few-subkeys}
 use Rattle.reg_tree.specs.declared.fault.TreeFault.{TreeFault}
 use Rattle.reg_tree.specs.declared.fault.TreeFault.TheVariants.{Full}
 use Rattle.reg_tree.specs.Internal.TreeFaults.{of_arena}
@@ -82,7 +83,8 @@ plan_by heap (suc count) offset few size e = by (nat_le (4 + 8 * suc (suc count)
     by false e = let s = same_Some _ _ e in (omega (arith, s), omega (arith, s), omega (arith, s, few))
 
 pub plan_good : (bytes : List ℕ) (key : ℕ) → IsHere bytes key → (count list : ℕ) → HasSubkeysList (cell_at bytes) key count list → IsPlan (insert_size (cell_at bytes) count list)
-plan_good bytes key t count list has = plan_by (cell_at bytes) count list (parent_subkeys bytes key t count list has).1.few
+plan_good bytes key t count list has =
+    let s = parent_subkeys bytes key t count list has in plan_by (cell_at bytes) count list (few-subkeys (cell_at bytes) count list s.0 s.1)
 
 -- each is one that a cell may have
 pub are-sizes : (plan : Option ℕ) (names : List (List ℕ)) → IsPlan plan → AreSizes (sizes_of plan (map own_sizes names))

@@ -15,7 +15,7 @@ use Rattle.reg_shape.specs.Internal.Forests.{Branch, total_of}
 use Rattle.reg_heap.proofs.ChildrenOfPath.{path-is}
 use Rattle.reg_arena.specs.Cells.{cell_at}
 use Rattle.reg_records.specs.KeyNodes.{KeyRecord, key_at}
-use Rattle.reg_shape.specs.Nodes.{Node}
+use Rattle.reg_shape.specs.Nodes.{Node, entries_of}
 use Rattle.reg_shape.specs.Spelt.{rec_of}
 use Rattle.reg_shape.specs.Written.{IsWrittenSecurity}
 use Rattle.reg_shape.specs.Internal.Shapes.{cells_of, index_cells, owns, shares, descriptor_in, tree_of, StandsIn}
@@ -33,14 +33,15 @@ use Rattle.reg_shape.proofs.Refinement.RefinementAfterGraft.{tree-same-below}
 use Rattle.reg_shape.proofs.Lookup.LookupAfterGraft.{offsets-same}
 use Rattle.reg_shape.proofs.Lookup.LookupOfShape.{offset-none, offset-more, offset-append}
 use Rattle.reg_shape.proofs.Refinement.RefinementAtPath.{told}
-use Rattle.reg_index.specs.Subkeys.{insert_size, own}
+use Rattle.reg_index.specs.Subkeys.{insert_size, cells_of_index}
+use Rattle.reg_index.proofs.SubkeysOpening.{index-leaf}
+use Rattle.reg_index.proofs.SubkeysFrame.{owned-index}
 use Rattle.reg_tree.specs.declared.node.Node.{Node as TreeNode}
 use Rattle.reg_tree.specs.Internal.TreeInvariant.{IsHere}
 use Rattle.reg_tree.specs.Internal.SpareCells.{planned, AreReady, own_sizes, MayGrowAll, IsSpared}
 use Rattle.reg_tree.proofs.Invariant.KeyOfTree as here
 use Rattle.reg_tree.proofs.Invariant.KeyOfTree.{branch, key_is, looked, offset}
-use Rattle.reg_tree.proofs.InsertKey.ParentReindexed.{owned-single}
-use Rattle.reg_tree.proofs.PathWalk.SubkeysFound.{single}
+use Rattle.reg_tree.proofs.PathWalk.SubkeysFound.{own_subkeys}
 use Rattle.reg_tree.proofs.Invariant.UntouchedCells.{times-one, offset-own}
 
 -- a record put where it is changes nothing
@@ -154,9 +155,9 @@ module _ (old mid : List ℕ) (parent : TreeNode) (t : IsHere old parent.offset)
   list-same zero list a b = refl
   list-same (suc count) list a b =
       let n = (branch old P t).node in
-      let i = owned-single h list n.key.fields.subkeys n.key.fields.subkeys_list n.index (looked old P t).index_is (single old P t) in
-      let one : times list (own n.key.fields.subkeys n.key.fields.subkeys_list) ≡ 1 = ap (λ m. times list (own m n.key.fields.subkeys_list))
-      (sym a) ∙ (ap (λ o. times list (o ∷ [])) (sym b) ∙ times-one list) in
+      let i = owned-index list n.index in
+      let leaf = index-leaf h n.key.fields.subkeys n.key.fields.subkeys_list (entries_of n.index) n.index (own_subkeys old P t) (looked old P t).index_is (omega (arith, a)) in
+      let one : times list (cells_of_index n.index) ≡ 1 = ap (times list) leaf ∙ (ap (λ o. times list (o ∷ [])) (sym b) ∙ times-one list) in
       let own_list = here.own_once old P t list in
       let there = tally-index list n in
       ap (λ (bytes : List ℕ). cond (nat_le (4 + 8 * suc (suc count)) (length bytes)) None (Some (8 + 8 * suc (suc count)))) (same-held h k list (still list (omega (arith, i, one, own_list, there))))

@@ -21,10 +21,8 @@ use Rattle.reg_shape.proofs.Walking.WalkRefinement.{look-open}
 use Rattle.reg_shape.proofs.Wholeness.AllocatedCells.{cells-most}
 use Rattle.reg_shape.proofs.Wholeness.ShapeRecords.{all-at}
 use Rattle.reg_shape.proofs.Walking.InnerReadings.{class-inner, members-inner}
-use Rattle.reg_tree.specs.Internal.TreeInvariant.{rooted}
 use Rattle.reg_tree.proofs.Invariant.OwnCells.{own-parts, shared-parts, inner-unshared}
-use Rattle.reg_tree.proofs.InsertKey.ParentReindexed.{shared-single}
-use Rattle.reg_tree.proofs.Invariant.UntouchedCells.{single-of}
+use Rattle.reg_tree.proofs.InsertKey.ParentReindexed.{shared-index}
 
 -- ---- cells and bytes
 
@@ -69,14 +67,14 @@ own-offsets h root (Hangs o n b s) a z =
     omega (arith, here, under, next, t)
 
 -- a key names one security
-one-shared : (h : Heap) (root o : ℕ) (n : Node) → IsSeen h root o n → rooted o n ≡ 0 → (z : ℕ) → shared z (own_cells n) ≤ 1
-one-shared h root o n s r z =
+one-shared : (h : Heap) (root o : ℕ) (n : Node) → IsSeen h root o n → (z : ℕ) → shared z (own_cells n) ≤ 1
+one-shared h root o n s z =
     let l = look-open h o n s.reads in
     let k = n.key.fields in
     let p = ap (λ (found : List Found). shared z (found ++ index_cells n.index)) l.cells ∙ shared-parts z o n.key l.class_cells l.value_cells n.index in
     let c = inner-unshared z l.class_cells (class-inner h k.class_length k.class (n.class, l.class_cells) l.class_is) in
     let v = inner-unshared z l.value_cells (members-inner h k.values k.values_list (n.values, l.value_cells) l.values_are) in
-    let i = shared-single z n.index (single-of n.index r) in
+    let i = shared-index z n.index in
     let f = at-most (eqb k.security z) in
     omega (arith, p, c, v, i, f)
   where
@@ -84,17 +82,17 @@ one-shared h root o n s r z =
     at-most true = omega arith
     at-most false = omega arith
 
-shared-offsets : (h : Heap) (root : ℕ) (F : Forest Node) → Stand (IsSeen h root) Fits F → total rooted F ≡ 0 → (z : ℕ) → total (shares z) F ≤ length (offsets_of F)
+shared-offsets : (h : Heap) (root : ℕ) (F : Forest Node) → Stand (IsSeen h root) Fits F → (z : ℕ) → total (shares z) F ≤ length (offsets_of F)
 unfolding offsets_of
-shared-offsets h root End a r z = omega arith
-shared-offsets h root (Hangs o n b s) a r z =
-    let here = one-shared h root o n a.0.0 (omega (arith, r)) z in
-    let under = shared-offsets h root b a.0.2 (omega (arith, r)) z in
-    let next = shared-offsets h root s a.1 (omega (arith, r)) z in
+shared-offsets h root End a z = omega arith
+shared-offsets h root (Hangs o n b s) a z =
+    let here = one-shared h root o n a.0.0 z in
+    let under = shared-offsets h root b a.0.2 z in
+    let next = shared-offsets h root s a.1 z in
     let l = length-append (offsets_of b) (offsets_of s) in
     omega (arith, here, under, next, l)
 
-module _ (bytes : List ℕ) (root : ℕ) (keys : Branch Node) (ring spare : List ℕ) (w : IsShape (cell_at bytes) root keys ring spare) (unrooted : total_of rooted keys ≡ 0) where
+module _ (bytes : List ℕ) (root : ℕ) (keys : Branch Node) (ring spare : List ℕ) (w : IsShape (cell_at bytes) root keys ring spare) where
   abbrev h : Heap
   h = cell_at bytes
 
@@ -121,8 +119,8 @@ module _ (bytes : List ℕ) (root : ℕ) (keys : Branch Node) (ring spare : List
 
   users-few : (z : ℕ) → 0 < times z ring → total_of (shares z) keys < length bytes
   users-few z l =
-      let here = one-shared h root keys.offset keys.node w.stands.0 (omega (arith, unrooted)) z in
-      let under = shared-offsets h root keys.below w.stands.2 (omega (arith, unrooted)) z in
+      let here = one-shared h root keys.offset keys.node w.stands.0 z in
+      let under = shared-offsets h root keys.below w.stands.2 z in
       let f = few z l in
       omega (arith, here, under, f)
 

@@ -13,8 +13,7 @@ use Rattle.reg_shape.specs.Internal.Shapes.{index_cells, cells_of, owns, IsSeen}
 use Rattle.reg_shape.proofs.Walking.WalkRefinement.{look-open}
 use Rattle.reg_shape.proofs.Wholeness.FewerNumbers.{same-number}
 use Rattle.reg_shape.proofs.Wholeness.ShapeRecords.{at-most-one, allocated-is}
-use Rattle.reg_index.proofs.RefinementOfSubkeys.{IsSingle}
-use Rattle.reg_index.specs.Subkeys.{Moves}
+use Rattle.reg_index.specs.Subkeys.{IsSingle, Moves}
 use Rattle.reg_tree.specs.Internal.TreeInvariant.{is_rooted}
 use Rattle.reg_tree.proofs.Invariant.OwnCells.{own-parts, key-here}
 
@@ -66,6 +65,11 @@ all-heads h root Q (Hangs offset node below beside) a q = (
 pub all-of : {A B : Type 0} (f : A → B) (P : B → Type 0) (xs : List A) → AllByRecursion (λ x. P (f x)) xs → AllByRecursion P (map f xs)
 all-of f P [] a = tt
 all-of f P (x ∷ xs) a = (a.0, all-of f P xs a.1)
+
+pub rooted-none : (index : Index) → IsSingle index → is_rooted index ≡ 0
+rooted-none Unlisted s = refl
+rooted-none (Listed list) s = refl
+rooted-none (Rooted offset lists) s = absurd s
 
 pub single-of : (index : Index) → is_rooted index ≡ 0 → IsSingle index
 single-of Unlisted e = tt

@@ -26,7 +26,6 @@ use Rattle.reg_shape.proofs.Refinement.RefinementOfChildren.{children-told}
 use Rattle.reg_shape.proofs.Refinement.RefinementAtPath.{name-written}
 use Rattle.reg_shape.proofs.Lookup.LookupOfShape.{offset-none, offset-more, offset-append}
 use Rattle.reg_index.specs.Subkeys.{AreSubkeys, names_in}
-use Rattle.reg_index.proofs.SubkeysOpening.{length-subkeys}
 use Rattle.reg_index.proofs.RefinementOfSubkeys.{length-names}
 use Rattle.reg_tree.specs.declared.node.Node.{Node as TreeNode}
 use Rattle.reg_tree.specs.TreeKeys.{tree_in}
@@ -110,7 +109,7 @@ module _ (bytes : List ℕ) (key : ℕ) (t : IsHere bytes key) where
   module _ (count list : ℕ) (has : HasSubkeysList h key count list) where
     pub number_told : count ≡ length (children_of tree t.path)
     number_told =
-        let n = length-subkeys h count list (entries_of node.index) (subkeys bytes key t count list has).read in
+        let n = (subkeys bytes key t count list has).number in
         let a = ap length names-are ∙ length-map (heads b.below) name_of_head in
         let c = ap length children ∙ length-map (heads b.below) (λ (e : ℕ × Node). t.path ++ folded (name_of e.1.key) ∷ []) in
         let l = length-names h (entries_of node.index) in
@@ -140,7 +139,7 @@ module _ (bytes : List ℕ) (key : ℕ) (t : IsHere bytes key) where
         let es = entries_of node.index in
         let s = subkeys bytes key t count list has in
         let x = get_or (names_in h es) index [] in
-        let n = length-subkeys h count list es s.read in
+        let n = s.number in
         let m = length-names h es in
         let named : subkey_named h x key ≡ Some child = subst (λ o. subkey_named h x o ≡ Some child) (offset bytes key t)
         (named-ok h t.root b (stands bytes key t) x index s.rising (omega (arith, l, n, m), refl) ∙ ap Some (at es s)) in (

@@ -7,9 +7,8 @@ use Rattle.reg_arena.specs.Cells.{cell_at}
 use Rattle.reg_records.specs.SubkeyLists.{Entry}
 use Rattle.reg_shape.specs.Nodes.{Node, entries_of}
 use Rattle.reg_shape.specs.PathLookup.{subkey_named}
-use Rattle.reg_index.specs.Subkeys.{AreSubkeys, IsIndexFor, names_in}
-use Rattle.reg_index.proofs.SubkeysOpening.{length-subkeys}
-use Rattle.reg_index.proofs.RefinementOfSubkeys.{IsSingle, length-names}
+use Rattle.reg_index.specs.Subkeys.{IsSingle, AreSubkeys, IsIndexFor, names_in}
+use Rattle.reg_index.proofs.RefinementOfSubkeys.{length-names}
 use Rattle.reg_tree.specs.Internal.TreeInvariant.{IsHere}
 use Rattle.reg_tree.specs.Internal.KeyNodeChanges.{HasSubkeysList}
 use Rattle.reg_tree.proofs.Invariant.KeyOfShape as keyed
@@ -44,7 +43,7 @@ module _ (bytes : List ℕ) (key : ℕ) (t : IsHere bytes key) where
     pub index_within : (name : List ℕ) (index : ℕ) → ((entries : List Entry) → AreSubkeys h count list entries → IsIndexFor (names_in h entries) name (Ok index)) → index < count
     index_within name index find =
         let p = find (entries_of node.index) subkeys in
-        let n = length-subkeys h count list (entries_of node.index) subkeys.read in
+        let n = subkeys.number in
         let l = p.0 in
         let m = length-names h (entries_of node.index) in
         omega (arith, l, n, m)

@@ -1,5 +1,5 @@
 -- A key taken out of its parent's subkeys, its cells given up, and the tree without it.
-use Rattle.std.specs.Prelude.{◌≡◌, ◌≢◌, ℕ, ◌<◌, ◌≤◌, List, [], ◌∷◌, length, get_or, Some}
+use Rattle.std.specs.Prelude.{◌≡◌, ◌≢◌, ℕ, ◌<◌, ◌≤◌, List, length, get_or, Some}
 use Rattle.reg_heap.specs.Paths.{Path}
 use Rattle.reg_heap.specs.Heaps.{Heap, allocated}
 use Rattle.reg_heap.specs.Kinds.{owned}
@@ -32,7 +32,7 @@ pub record IsUnlinked (old new : Heap) (parent : ℕ) (above : KeyRecord) (entri
   pub count : ℕ
   pub list : ℕ
   pub subkeys : AreSubkeys mid count list (without index entries)
-  pub moves : Moves old mid (above.fields.subkeys_list ∷ []) (own count list)
+  pub moves : Moves old mid (own old above.fields.subkeys above.fields.subkeys_list) (own mid count list)
   pub notes : Notes mid new parent (noted_subkeys count list 0 moment)
 
 -- a key's class

@@ -28,4 +28,5 @@ returns-clause-moves c =
     let h = heap_of c.args.arena.now in
     one-moves h (heap_of c.open-offset.new.arena) (heap_of c.fill.new.arena) c.args.list.count c.args.list.offset c.args.fresh
     c.open-offset.result (c.args.list.count + 1) c.args.index c.args.key refl c.requires.few c.requires.key c.requires.ready
-    c.open-offset.ensures.moves c.fill.ensures.writes
+    c.open-offset.ensures.moves c.fill.ensures.writes c.name_hash-hint.result (c.name_hash-hint.ensures ∙ ap hash c.name_of.ensures) c.fill.ensures.leaf c.open-offset.ensures.gap c.requires.subkeys
+    c.requires.subkeys.0 c.requires.subkeys.1

@@ -25,7 +25,7 @@ returns-in-None-clause-gap c =
 pub returns-in-None-clause-moves : goal.returns-in-None-clause-moves
 returns-in-None-clause-moves c =
     within-moves (heap_of c.args.arena.now) (heap_of c.open_within.new.arena) c.args.list.count c.args.list.offset c.args.fresh
-    c.if-list-eq0.false (sym c.plan_insert.ensures ∙ c.in-None.is) c.open_within.ensures.writes
+    c.args.index c.requires.subkeys c.if-list-eq0.false (sym c.plan_insert.ensures ∙ c.in-None.is) c.open_within.ensures.writes
 
 pub move_open-requires-clause-leaf : goal.move_open-requires-clause-leaf
 move_open-requires-clause-leaf c = leaf-needs (heap_of c.args.arena.now) c.args.list.count c.args.list.offset c.args.index c.if-list-eq0.false c.requires.subkeys
@@ -48,4 +48,4 @@ returns-in-Some-clause-gap c =
 pub returns-in-Some-clause-moves : goal.returns-in-Some-clause-moves
 returns-in-Some-clause-moves c =
     move-moves (heap_of c.args.arena.now) (heap_of c.move_open.new.arena) c.args.list.count c.args.list.offset c.args.fresh
-    c.in-Some.field-0 c.if-list-eq0.false (sym c.plan_insert.ensures ∙ c.in-Some.is) c.move_open.ensures.moves
+    c.in-Some.field-0 c.args.index c.requires.subkeys c.if-list-eq0.false (sym c.plan_insert.ensures ∙ c.in-Some.is) c.move_open.ensures.moves
