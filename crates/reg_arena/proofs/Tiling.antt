@@ -1,6 +1,7 @@
 -- How cells tile the bins, and what that says to the crates above.
 pub mod Tilings
 pub mod CellPositions
+pub mod BlankHeaders
 pub mod EmptyArena
 pub mod ArenaInvariant
 pub mod CellWalkSteps

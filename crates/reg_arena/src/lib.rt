@@ -30,6 +30,9 @@ use thiserror::Error;
 /// The most bytes of cells that one carve may be asked for, their size fields too: 16 MiB, this project's own limit.
 pub const CARVE_LIMIT: u32 = 16_777_216;
 
+/// How many lists of free cells there are.
+pub const LISTS: u32 = 1;
+
 /// A cell as it stands in the bins.
 ///
 /// Suhanov, Windows registry file format specification, section "Cell".

@@ -8,7 +8,7 @@ use Rattle.reg_arena.specs.declared.Cell.{Cell}
 use Rattle.reg_arena.specs.Cells.{Bin, IsCell, IsHeader, Tiles, AreBins, cells_in, content_in}
 use Rattle.reg_heap.specs.Kinds.{times}
 use Rattle.reg_arena.specs.Free.{Follows, free_of, Touch, AreApart}
-use Rattle.reg_arena.specs.Arena.{IsArena, one_class}
+use Rattle.reg_arena.specs.Arena.{IsArena, AreBlank, one_class}
 use Rattle.reg_arena.specs.NewBin.{new_bin, headed, IsBinSize, AppendsBin}
 use Rattle.reg_arena.specs.Free.{IsFit, chain, freed}
 use Rattle.reg_arena.specs.NewCells.{unused}
@@ -93,6 +93,11 @@ content-extends s (c ∷ cells) offset h =
     let e = IsCell-eight h.0 in
     rw (piece-extends s (c.size - 4) (c.offset + 4) (omega (arith, h.0.within)), content-extends s cells offset h.1) refl
 
+blank-extends : {old new : List ℕ} → Extends old new → (at : ℕ) (bs more : List Bin) → AreBins old at bs → AreBlank old bs → AreBlank new more → AreBlank new (bs ++ more)
+blank-extends s at [] more t h m = m
+blank-extends s at (b ∷ bs) more t h m =
+    (piece-extends s 20 (b.start + 12) (omega (arith, t.1.within, t.1.positive, t.1.pages)) ∙ h.0, blank-extends s (at + b.size) bs more t.3 h.1 m)
+
 or_else-none : (x : Option (List ℕ)) → or_else x None ≡ x
 or_else-none None = refl
 or_else-none (Some x) = refl
@@ -157,7 +162,8 @@ grown old head count size total a least some room small =
     let before : chain count old head ≡ one.offsets = subst (λ (k : ℕ). chain k old head ≡ one.offsets) one.counted (Follows-chain old one.offsets head one.free.follows) in
     record {
       chained = subst (λ (k : ℕ). chain k new at ≡ at ∷ one.offsets) counted (Follows-chain new (at ∷ one.offsets) at follows) ∙ ap (λ (t : List ℕ). at ∷ t) (sym before);
-      arena = IsArena-one new at (count + 1) (a.layout ++ bin ∷ []) (at ∷ one.offsets) tiled (record { follows = (refl, rest); exact = exact })
+      arena = IsArena-one new at (count + 1) (a.layout ++ bin ∷ []) (at ∷ one.offsets) tiled
+          (blank-extends s 0 a.layout (bin ∷ []) a.tiled a.blank (says.blank, tt)) (record { follows = (refl, rest); exact = exact })
           (subst AreApart (sym cells') (apart-last cells at n ends a.free.apart)) counted (omega (arith, a.few.0)) (omega arith);
       appends = record {
         size = size;

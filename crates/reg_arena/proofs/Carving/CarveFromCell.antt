@@ -4,7 +4,7 @@ use Rattle.std.specs.List.{AllByRecursion}
 use Rattle.reg_arena.specs.declared.Cell.{Cell}
 use Rattle.reg_arena.specs.Cells.{Bin, AreBins, cells_in, content_in}
 use Rattle.reg_arena.specs.Free.{free_of, IsFreeList, AreLists, Touch, AreApart}
-use Rattle.reg_arena.specs.Arena.{IsArena, one_class}
+use Rattle.reg_arena.specs.Arena.{IsArena, AreBlank, one_class}
 use Rattle.reg_arena.specs.NewCells.{total_of, used, carved}
 use Rattle.reg_arena.specs.NewCells.{unused}
 use Rattle.reg_arena.specs.Carves.{rest_of}
@@ -30,11 +30,12 @@ pub one_list : (bytes : List ℕ) (head count : ℕ) (a : IsArena bytes (head �
 one_list bytes head count a = one_list-by bytes head count (cells_in a.layout) a.lists a.free.each a.counted
 
 pub IsArena-one : (bytes : List ℕ) (head count : ℕ) (layout : List Bin) (offsets : List ℕ) → AreBins bytes 0 layout →
-    IsFreeList one_class 0 bytes head (cells_in layout) offsets → AreApart (cells_in layout) → length offsets ≡ count → count ≤ length bytes →
+    AreBlank bytes layout → IsFreeList one_class 0 bytes head (cells_in layout) offsets → AreApart (cells_in layout) → length offsets ≡ count → count ≤ length bytes →
     length bytes ≤ 268435456 → IsArena bytes (head ∷ []) (count ∷ [])
-IsArena-one bytes head count layout offsets tiled free apart counted few small = record {
+IsArena-one bytes head count layout offsets tiled blank free apart counted few small = record {
   layout = layout;
   tiled = tiled;
+  blank = blank;
   lists = offsets ∷ [];
   free = record { each = (free, tt); classes = every (cells_in layout); apart = apart };
   counted = ap (λ (n : ℕ). n ∷ []) counted;

@@ -8,7 +8,7 @@ use Rattle.reg_arena.specs.declared.Cell.{Cell}
 use Rattle.reg_arena.specs.Cells.{Bin, IsCell, Tiles, AreBins, cells_in, content_in, size_in, is_allocated_in}
 use Rattle.reg_heap.specs.Kinds.{times}
 use Rattle.reg_arena.specs.Free.{Follows, free_of, EndsAt, IsFit, chain, AreApart, linked, freed, TakesOut}
-use Rattle.reg_arena.specs.Arena.{IsArena, one_class}
+use Rattle.reg_arena.specs.Arena.{IsArena, AreBlank, one_class}
 use Rattle.reg_arena.specs.NewCells.{total_of, AreSizes, carved, offsets_of, zeroed}
 use Rattle.reg_arena.specs.NewCells.{unused}
 use Rattle.reg_arena.specs.Carves.{rest_of, or_else, IsInNoFree, Carves}
@@ -16,6 +16,7 @@ use Rattle.byteorder.specs.Endian.{little_bytes}
 use Rattle.reg_arena.proofs.Contents.ByteSplices.{same-trans, same-splice, length-splice, word-same_below, word-same_above, word-splice}
 use Rattle.reg_arena.proofs.Tiling.Tilings.{with_cells, AreBins-edit, cells_of-AreBins, cell_at-AreBins, Tiles-append, Tiles-same_above}
 use Rattle.reg_arena.proofs.Tiling.CellPositions.{stands}
+use Rattle.reg_arena.proofs.Tiling.BlankHeaders.{blank-edit}
 use Rattle.reg_arena.proofs.Contents.CellContents.{content_in-append, content_in-beside, AreOrdered, AreOrdered-AreBins, besides-before, besides-after}
 use Rattle.reg_arena.proofs.FreeList.FreeLinks.{IsClear, free_of-all}
 use Rattle.reg_arena.proofs.Contents.CellWrites.{clear-cells, content_in-none, all-at}
@@ -61,14 +62,14 @@ pub record Carving (old new : List ℕ) (head' count' cell : ℕ) (ss : List ℕ
   pub now : (size : ℕ) → size ≡ size_in (word old cell) → chain count' new head' ≡ front ++ (rest_offsets (cell + total_of ss) (size - total_of ss) ++ back)
 
 carving-by : (old s1 s2 s3 : List ℕ) (head head' count' link : ℕ) (layout : List Bin) (ss front : List ℕ) (cell : ℕ) (back : List ℕ) →
-    AreBins old 0 layout → AreApart (cells_in layout) → length old ≤ 268435456 → AreSizes ss → 0 < total_of ss →
+    AreBins old 0 layout → AreBlank old layout → AreApart (cells_in layout) → length old ≤ 268435456 → AreSizes ss → 0 < total_of ss →
     ((o : ℕ) → times o (front ++ cell ∷ back) ≡ times o (free_of one_class 0 (cells_in layout))) → Follows old head (front ++ cell ∷ back) →
     (t : Taken one_class 0 (cells_in layout) front cell back) → t.at.c.offset ≡ cell → total_of ss ≤ t.at.c.size →
     Relinked old s1 layout head' link front back → Rested s1 s2 (cell + total_of ss) (cell + t.at.c.size) (t.at.c.size - total_of ss)
     (word old (cell + 4)) link → CutTo s2 s3 cell ss →
     count' ≡ length front + (length (rest_offsets (cell + total_of ss) (t.at.c.size - total_of ss)) + length back) → count' ≤ length old →
     Carving old s3 head' count' cell ss front back
-carving-by old s1 s2 s3 head head' count' link layout ss front cell back tiled apart small oks positive exact follows t place fits r rested cut counted few =
+carving-by old s1 s2 s3 head head' count' link layout ss front cell back tiled blank apart small oks positive exact follows t place fits r rested cut counted few =
     let c = t.at.c in
     let xs = t.at.xs in
     let ys = t.at.ys in
@@ -89,6 +90,8 @@ carving-by old s1 s2 s3 head head' count' link layout ss front cell back tiled a
     let was : AreBins s1 0 (p.ps ++ p.b ∷ p.qs) = subst (AreBins s1 0) p.bins r.tiled in
     let layout' : List Bin = p.ps ++ with_cells p.b (p.us ++ (mid ++ p.vs)) ∷ p.qs in
     let tiled' : AreBins s3 0 layout' = AreBins-edit s 0 p.ps p.b p.qs p.us (c ∷ []) mid p.vs p.cells (st.start ∙ place) (omega arith) was tiles in
+    let blank' : AreBlank s3 layout' = blank-edit s 0 p.ps p.b p.qs p.us (c ∷ []) p.vs (p.us ++ (mid ++ p.vs)) p.cells (st.start ∙ place)
+    (omega arith) was (subst (AreBlank s1) p.bins (r.blank blank)) in
     let cells' : cells_in layout' ≡ xs ++ (mid ++ ys) = cells_in-edit layout xs c ys mid p in
     let next : Follows s3 (word old (cell + 4)) back = Follows-words old s3 back _ (words-trans old s1 s3 back r.others (words-clear s back clear.1)) (Follows-back old front head cell back follows) in
     let offsets' : List ℕ = front ++ (rest_offsets (cell + total_of ss) n ++ back) in
@@ -107,7 +110,7 @@ carving-by old s1 s2 s3 head head' count' link layout ss front cell back tiled a
     let apart' : AreApart (cells_in layout') = subst AreApart (sym cells') (subst (λ (k : ℕ). AreApart (xs ++ ((carved k ss ++ rest_of (k + total_of ss) n) ++ ys))) place apart_mid) in
     let was_cells : cells_in layout ≡ xs ++ unused cell c.size ∷ ys = t.at.cells_are ∙ ap (λ (d : Cell). xs ++ d ∷ ys) (as_unused c free ∙ ap (λ (k : ℕ). unused k c.size) place) in
     record {
-      arena = IsArena-one s3 head' count' layout' offsets' tiled' (record { follows = follows'; exact = exact' }) apart' (length-append front _ ∙
+      arena = IsArena-one s3 head' count' layout' offsets' tiled' blank' (record { follows = follows'; exact = exact' }) apart' (length-append front _ ∙
           ap (λ (k : ℕ). length front + k) (length-append (rest_offsets (cell + total_of ss) n) back) ∙ sym counted) (omega (arith, s.long, r.long))
           (omega (arith, s.long, r.long));
       now = λ size e.
@@ -261,7 +264,7 @@ carving old s2 s3 head head' count count' previous cell ss a oks positive ch sma
     let n0 : t.at.c.size - total_of ss ≡ 0 = omega (arith, f.0) in
     let r' : Relinked old s2 a.layout head' next ch.front ch.back = rw (h.1, h.2) r in
     let cnt : count' ≡ length ch.front + (length (rest_offsets (cell + total_of ss) (t.at.c.size - total_of ss)) + length ch.back) = rw n0 (omega (arith, h.3, ch.counted)) in
-    carving-by old s2 s2 s3 head head' count' next a.layout ss ch.front cell ch.back a.tiled a.free.apart a.small oks positive ch.exact ch.follows t
+    carving-by old s2 s2 s3 head head' count' next a.layout ss ch.front cell ch.back a.tiled a.blank a.free.apart a.small oks positive ch.exact ch.follows t
     t.at.offset_is (omega (arith, f.0, ch.fits)) r' (rested-none s2 (cell + total_of ss) (cell + t.at.c.size) (t.at.c.size - total_of ss) next
     (omega (arith, f.0, h.0)) n0) cut cnt (omega (arith, h.3, a.few.0))
 carving old s2 s3 head head' count count' previous cell ss a oks positive ch small (inr h) cut =
@@ -282,7 +285,7 @@ carving old s2 s3 head head' count count' previous cell ss a oks positive ch sma
     rested-some s1 link (cell + t.at.c.size) n next some end eights (omega (arith, f.0, f.1.within, r.long)) (omega (arith, r.long)) small in
     let bytes : s2 ≡ freed link n next s1 = h.1 ∙ ap (λ (k : ℕ). freed link (k - total_of ss) next s1) f.0 in
     let one : length (rest_offsets link n) ≡ 1 = one-rest link n some in
-    carving-by old s1 s2 s3 head head' count' link a.layout ss ch.front cell ch.back a.tiled a.free.apart a.small oks positive ch.exact ch.follows t
+    carving-by old s1 s2 s3 head head' count' link a.layout ss ch.front cell ch.back a.tiled a.blank a.free.apart a.small oks positive ch.exact ch.follows t
     t.at.offset_is (omega (arith, f.0, ch.fits)) r' (rw bytes rested) cut (omega (arith, one, h.3, ch.counted)) (omega (arith, h.3, a.few.0))
 
 -- what the call needs of the list's cell

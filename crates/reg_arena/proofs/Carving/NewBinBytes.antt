@@ -1,5 +1,5 @@
 -- The bytes of a new bin.
-use Rattle.std.proofs.Common.{◌≡◌, ℕ, ◌+◌, ◌-◌, ◌<◌, ◌≤◌, List, ◌++◌, length, take, drop, replicate, sym, ap, ◌∙◌, arith, append_assoc, length-append}
+use Rattle.std.proofs.Common.{◌≡◌, ℕ, ◌+◌, ◌-◌, ◌<◌, ◌≤◌, List, ◌++◌, length, take, drop, replicate, refl, sym, ap, ◌∙◌, arith, append_assoc, length-append}
 use Rattle.std.proofs.lemmas.List.{take_at, drop_at, length-replicate, replicate-append-replicate}
 use Rattle.byteorder.specs.Endian.{little_bytes}
 use Rattle.byteorder.specs.Numbers.{little_number-reads_back}
@@ -61,6 +61,7 @@ pub record SaysBin (new : List ℕ) (at size link : ℕ) : Type 0 where
   pub signature : word new at ≡ 1852400232
   pub place : word new (at + 4) ≡ at
   pub size_is : word new (at + 8) ≡ size
+  pub blank : take 20 (drop (at + 12) new) ≡ replicate 20 0
   pub free : word new (at + 32) ≡ size - 32
   pub next : word new (at + 32 + 4) ≡ link
 
@@ -87,12 +88,17 @@ says_bin old at size link e l m =
       signature = word-behind old _ at 1852400232 e (omega arith);
       place = ap (λ xs. word xs (at + 4)) (sym (append_assoc old w1 (w2 ++ (w3 ++ (z ++ (w4 ++ (w5 ++ r))))))) ∙ word-behind a1 _ (at + 4) at l1 (omega arith);
       size_is = ap (λ xs. word xs (at + 8)) (regroup2 old w1 w2 (w3 ++ (z ++ (w4 ++ (w5 ++ r))))) ∙ word-behind a2 _ (at + 8) size l2 (omega arith);
+      blank = ap (λ xs. take 20 (drop (at + 12) xs)) (regroup3 old w1 w2 w3 (z ++ (w4 ++ (w5 ++ r)))) ∙ ap (take 20) (drop_at a3 (z ++ (w4 ++ (w5 ++ r))) (at + 12) l3)
+          ∙ take_at z (w4 ++ (w5 ++ r)) 20 refl;
       free = ap (λ xs. word xs (at + 32)) (regroup4 old w1 w2 w3 z (w4 ++ (w5 ++ r))) ∙ word-behind a4 _ (at + 32) (size - 32) l4 (omega arith);
       next = ap (λ xs. word xs (at + 32 + 4)) (regroup5 old w1 w2 w3 z w4 (w5 ++ r)) ∙ word-behind a5 _ (at + 32 + 4) link l5 m;
     }
   where
     regroup2 : (a b c r : List ℕ) → a ++ (b ++ (c ++ r)) ≡ ((a ++ b) ++ c) ++ r
     regroup2 a b c r = simp append_assoc
+
+    regroup3 : (a b c d r : List ℕ) → a ++ (b ++ (c ++ (d ++ r))) ≡ (((a ++ b) ++ c) ++ d) ++ r
+    regroup3 a b c d r = simp append_assoc
 
     regroup4 : (a b c d z r : List ℕ) → a ++ (b ++ (c ++ (d ++ (z ++ r)))) ≡ ((((a ++ b) ++ c) ++ d) ++ z) ++ r
     regroup4 a b c d z r = simp append_assoc

@@ -15,6 +15,7 @@ use Rattle.reg_arena.specs.Arena.{IsArena, one_class}
 use Rattle.reg_arena.proofs.Contents.ByteSplices.{same-splice, word-same_below, length-splice, get_or-splice_below, get_or-splice_above, get_or-splice_in}
 use Rattle.reg_arena.proofs.Tiling.Tilings.{with_cells, AreBins-edit, cells_of-AreBins, cell_at-AreBins, IsCell-same, IsCell-within}
 use Rattle.reg_arena.proofs.Tiling.CellPositions.{looked, Stands, stands}
+use Rattle.reg_arena.proofs.Tiling.BlankHeaders.{blank-same}
 use Rattle.reg_arena.proofs.Contents.CellContents.{content_in-append, IsBeside, content_in-beside, AreOrdered, AreOrdered-AreBins, besides-before, besides-after}
 use Rattle.reg_arena.proofs.FreeList.FreeLinks.{IsClear, Follows-same, all_from_times, times-all, free_of-all}
 
@@ -185,6 +186,7 @@ wrote-by old heads counts at piece a xs c ys e used content fits =
       arena = record {
         layout = a.layout;
         tiled = tiled;
+        blank = blank-same s a.layout xs c ys st refl refl a.tiled a.blank;
         lists = a.lists;
         free = record { each = AreLists-same s one_class (cells_in a.layout) clear heads a.lists 0 a.free.each; classes = a.free.classes; apart = a.free.apart };
         counted = a.counted;

@@ -10,9 +10,10 @@ use Rattle.reg_arena.specs.declared.Cell.{Cell}
 use Rattle.reg_arena.specs.Cells.{Bin, AreBins, cells_in, content_in}
 use Rattle.reg_heap.specs.Kinds.{times}
 use Rattle.reg_arena.specs.Free.{Follows, is_free_of, free_of, EndsAt, linked, head_after}
-use Rattle.reg_arena.specs.Arena.{one_class}
+use Rattle.reg_arena.specs.Arena.{AreBlank, one_class}
 use Rattle.reg_arena.proofs.Contents.ByteSplices.{same-splice, word-same_below, word-splice}
 use Rattle.reg_arena.proofs.Tiling.CellPositions.{stands}
+use Rattle.reg_arena.proofs.Tiling.BlankHeaders.{blank-same}
 use Rattle.reg_arena.proofs.Contents.CellContents.{content_in-append, content_in-beside, AreOrdered, AreOrdered-AreBins, besides-before, besides-after}
 use Rattle.reg_arena.proofs.FreeList.FreeLinks.{IsClear, word-clear, free_of-all}
 use Rattle.reg_arena.proofs.Contents.CellWrites.{clear-cells, layout-same, all-at}
@@ -22,6 +23,7 @@ use Rattle.reg_arena.proofs.FreeList.FreeListTake.{taken-some, others-some, Foll
 pub record Relinked (old new : List ℕ) (layout : List Bin) (head' rest : ℕ) (front back : List ℕ) : Type 0 where
   pub long : length new ≡ length old
   pub tiled : AreBins new 0 layout
+  pub blank : AreBlank old layout → AreBlank new layout
   pub contents : (offset : ℕ) → content_in new (cells_in layout) offset ≡ content_in old (cells_in layout) offset
   pub follows : (later : List ℕ) (ws : List ℕ) → AllByRecursion (λ (x : ℕ). word later (x + 4) ≡ word new (x + 4)) front → Follows later rest ws → Follows later head' (front ++ ws)
   pub others : AllByRecursion (λ (x : ℕ). word new (x + 4) ≡ word old (x + 4)) back
@@ -86,6 +88,7 @@ relinked-after old layout head rest first p zs tiled small exact follows back u 
     record {
       long = s.long;
       tiled = layout-same s layout t.at.xs c t.at.ys st refl refl (word-same_below s' c.offset (omega arith)) tiled;
+      blank = blank-same s layout t.at.xs c t.at.ys st refl refl tiled;
       contents = λ offset.
           ap (λ cs. content_in new cs offset) t.at.cells_are ∙ content_in-append new t.at.xs (c ∷ t.at.ys) offset
           ∙ ap (or_else (content_in new t.at.xs offset)) (free-content new 0 c t.at.ys offset t.at.free)
@@ -109,6 +112,7 @@ relinked-first : (old : List ℕ) (layout : List Bin) (rest : ℕ) (back : List 
 relinked-first old layout rest back tiled = record {
   long = refl;
   tiled = tiled;
+  blank = λ h. h;
   contents = λ offset. refl;
   follows = λ later ws keep tail. tail;
   others = all-same old back;

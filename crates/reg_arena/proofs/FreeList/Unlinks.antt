@@ -8,7 +8,7 @@ use Rattle.reg_arena.specs.declared.Cell.{Cell}
 use Rattle.reg_arena.specs.Cells.{Bin, AreBins, cells_in, content_in}
 use Rattle.reg_heap.specs.Kinds.{times}
 use Rattle.reg_arena.specs.Free.{Follows, free_of, linked, head_after}
-use Rattle.reg_arena.specs.Arena.{one_class}
+use Rattle.reg_arena.specs.Arena.{AreBlank, one_class}
 use Rattle.reg_arena.specs.Internal.SideTables.{AreBacks, marked}
 use Rattle.reg_arena.specs.Frees.{InList, Unlinks}
 use Rattle.reg_arena.proofs.Tiling.CellPositions.{stands}
@@ -23,6 +23,7 @@ use Rattle.reg_arena.proofs.TableUpkeep.TableEdits.{IsApartFrom, units-apart, la
 -- the list holds all free cells but those taken out
 pub record Threads (bytes : List ℕ) (head count : ℕ) (backs : List ℕ) (layout : List Bin) (removed offsets : List ℕ) : Type 0 where
   pub tiled : AreBins bytes 0 layout
+  pub blank : AreBlank bytes layout
   pub follows : Follows bytes head offsets
   pub counted : length offsets ≡ count
   pub before : AreBacks backs 4294967295 offsets
@@ -155,6 +156,7 @@ unlinked bytes new head head' count count' backs backs' layout removed offsets c
       offsets = front ++ back;
       threads = record {
         tiled = r.tiled;
+        blank = r.blank t.blank;
         follows = r.follows _ back (all-same _ front) (Follows-words bytes _ back next r.others behind);
         counted = omega (arith, t.counted, e4, long, length-append front (cell ∷ back), length-append front back);
         before = backs-remove backs front cell next back tail before;

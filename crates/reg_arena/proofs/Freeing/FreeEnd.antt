@@ -9,7 +9,7 @@ use Rattle.reg_arena.specs.declared.Cell.{Cell}
 use Rattle.reg_arena.specs.Cells.{Bin, AreBins, cells_in, cells_of, cell_at, content_in}
 use Rattle.reg_heap.specs.Kinds.{times}
 use Rattle.reg_arena.specs.Free.{free_of, chain, freed, AreApart, Follows}
-use Rattle.reg_arena.specs.Arena.{IsArena, one_class}
+use Rattle.reg_arena.specs.Arena.{IsArena, AreBlank, one_class}
 use Rattle.reg_arena.specs.NewCells.{used, unused}
 use Rattle.reg_arena.specs.Carves.{or_else}
 use Rattle.reg_arena.specs.Internal.SideTables.{ending, IsIndexed, marked}
@@ -37,6 +37,7 @@ pub record FreedRow (old new : List ℕ) (lo n count' cell : ℕ) (offsets : Lis
 pub record Before (old s : List ℕ) (layout : List Bin) (head : ℕ) (offsets : List ℕ) (xs mid ys : List Cell) (cell lo hi : ℕ) : Type 0 where
   pub tiled0 : AreBins old 0 layout
   pub tiled : AreBins s 0 layout
+  pub blank : AreBlank s layout
   pub small : length s ≤ 268435456
   pub long : length s ≡ length old
   pub same : (offset : ℕ) → content_in s (cells_in layout) offset ≡ content_in old (cells_in layout) offset
@@ -57,7 +58,7 @@ freed-core : (old s : List ℕ) (layout : List Bin) (head : ℕ) (offsets : List
 freed-core old s layout head offsets xs m ms ys cell lo hi n count' b start total size counted =
     let ends : EndsFree xs ys m.offset (m.offset + sizes (m ∷ ms)) = subst (λ (k : ℕ). EndsFree xs ys k (m.offset + sizes (m ∷ ms))) (sym start)
     (subst (λ (k : ℕ). EndsFree xs ys lo k) (sym total) b.ends) in
-    let f = freeing old s layout head offsets xs m ms ys cell count' b.tiled0 b.tiled b.small b.long b.same b.apart b.follows b.short b.exact
+    let f = freeing old s layout head offsets xs m ms ys cell count' b.tiled0 b.tiled b.blank b.small b.long b.same b.apart b.follows b.short b.exact
     b.cells_are b.row ends (omega (arith, b.in_lo)) (omega (arith, b.in_hi, total)) b.only counted in
     rw (← start, ← size) (record { arena = f.arena; chained = f.chained; long = f.long; now = f.now; contents = f.contents })
 
@@ -284,6 +285,7 @@ free-done old s1 s2 head h1 h2 count c1 c2 ends backs b1 b2 ends' backs' cell si
     let before : Before old s2 layout h2 d2.offsets xs (ls ++ used cell size ∷ rs) ys cell lo hi = record {
       tiled0 = a.tiled;
       tiled = t.tiled;
+      blank = t.blank;
       small = omega (arith, a.small);
       long = long;
       same = λ o. d2.contents o ∙ d1.contents o;

@@ -14,7 +14,7 @@ use Rattle.reg_arena.specs.Internal.SideTables.{ending, IsIndexed}
 use Rattle.reg_arena.specs.Frees.{IsFreePiece, IsRight, start_of}
 use Rattle.reg_arena.proofs.Tiling.Tilings.{sizes, cells_of-AreBins, cell_at-AreBins}
 use Rattle.reg_arena.proofs.Tiling.CellPositions.{looked, stands}
-use Rattle.reg_arena.proofs.Tiling.ArenaInvariant.{sound, AreBins-eights}
+use Rattle.reg_arena.proofs.Tiling.ArenaInvariant.{AreBins-pages, AreBins-eights}
 use Rattle.reg_arena.proofs.Contents.CellWrites.{all-at}
 use Rattle.reg_arena.proofs.FreeList.Relinks.{free-content}
 use Rattle.reg_arena.proofs.FreeList.FreeListWalk.{Follows-chain}
@@ -61,7 +61,7 @@ site old head count ends backs cell size i h is =
       cell_eights = rw place at own;
       header = omega (arith, place, st.header);
       within = omega (arith, place, same, st.cell.within);
-      pages = (sound old (head ∷ []) (count ∷ []) a).pages;
+      pages = AreBins-pages old 0 a.layout (omega arith) a.tiled;
       unit_in = omega (arith, place, same, st.cell.within, st.cell.positive, st.header, i.ends_long);
     }
 
@@ -117,7 +117,7 @@ threads old head count ends backs i =
     let one = one_list old head count a in
     let l = list-is old head count a (chain count old head) refl in
     let same : chain count old head ≡ one.offsets = subst (λ (k : ℕ). chain k old head ≡ one.offsets) one.counted (Follows-chain old one.offsets head one.free.follows) in
-    record { tiled = a.tiled; follows = l.follows; counted = ap length same ∙ one.counted; before = i.backs_are.0; exact = λ o. omega (arith, l.exact o) }
+    record { tiled = a.tiled; blank = a.blank; follows = l.follows; counted = ap length same ∙ one.counted; before = i.backs_are.0; exact = λ o. omega (arith, l.exact o) }
 
 -- the free cell of a piece is one of the free cells
 piece-in : (cells xs : List Cell) (lo hi : ℕ) (ps ys : List Cell) → IsFreePiece lo hi ps → lo < hi → cells ≡ xs ++ (ps ++ ys) → 0 < times lo (free_of one_class 0 cells)

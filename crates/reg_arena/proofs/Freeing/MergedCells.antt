@@ -6,12 +6,13 @@ use Rattle.reg_heap.specs.ByteWords.{SameOutside}
 use Rattle.reg_arena.specs.Cells.{Bin, Tiles, AreBins, cells_in, content_in, cells_of, cell_at}
 use Rattle.reg_heap.specs.Kinds.{times}
 use Rattle.reg_arena.specs.Free.{Follows, free_of, Touch, AreApart, freed, chain}
-use Rattle.reg_arena.specs.Arena.{IsArena, one_class}
+use Rattle.reg_arena.specs.Arena.{IsArena, AreBlank, one_class}
 use Rattle.reg_arena.specs.declared.Cell.{Cell}
 use Rattle.reg_arena.specs.NewCells.{unused}
 use Rattle.reg_arena.specs.Carves.{or_else}
 use Rattle.reg_arena.proofs.Tiling.Tilings.{sizes, with_cells, AreBins-edit, cells_of-AreBins, cell_at-AreBins, Tiles-back, Tiles-front, Tiles-le, IsCell-eight}
 use Rattle.reg_arena.proofs.Tiling.CellPositions.{AreBins-at}
+use Rattle.reg_arena.proofs.Tiling.BlankHeaders.{blank-edit}
 use Rattle.reg_arena.proofs.Contents.CellContents.{content_in-append, content_in-beside, AreOrdered, AreOrdered-AreBins, AreOrdered-back, besides-before, beside-after}
 use Rattle.reg_arena.proofs.FreeList.FreeLinks.{IsClear, Follows-same, free_of-all}
 use Rattle.reg_arena.proofs.Contents.CellWrites.{clear-cells, content_in-none}
@@ -93,13 +94,13 @@ contents-free x m y offset cell f g (inl e) = let s : eqb offset cell ≡ true =
 contents-free x m y offset cell f g (inr e) = let s : eqb offset cell ≡ false = ne_eqb _ _ e in let n = f e in rw (s, n) refl
 
 pub freeing : (old s1 : List ℕ) (layout : List Bin) (head : ℕ) (offsets : List ℕ) (xs : List Cell) (m : Cell) (ms ys : List Cell) (cell count' : ℕ) →
-    AreBins old 0 layout → AreBins s1 0 layout → length s1 ≤ 268435456 → length s1 ≡ length old →
+    AreBins old 0 layout → AreBins s1 0 layout → AreBlank s1 layout → length s1 ≤ 268435456 → length s1 ≡ length old →
     ((offset : ℕ) → content_in s1 (cells_in layout) offset ≡ content_in old (cells_in layout) offset) → AreApart (cells_in layout) →
     Follows s1 head offsets → head < 4294967296 → ((o : ℕ) → times o offsets ≡ times o (free_of one_class 0 xs) + times o (free_of one_class 0 ys)) →
     cells_in layout ≡ xs ++ ((m ∷ ms) ++ ys) → PlacedRow layout xs (m ∷ ms) ys → EndsFree xs ys m.offset (m.offset + sizes (m ∷ ms)) →
     m.offset ≤ cell → cell < m.offset + sizes (m ∷ ms) → ((offset : ℕ) → (offset ≡ cell → ⊥) → content_in s1 (m ∷ ms) offset ≡ None) →
     count' ≡ suc (length offsets) → Freeing old (freed m.offset (sizes (m ∷ ms)) head s1) m.offset count' cell offsets xs (m ∷ ms) ys
-freeing old s1 layout head offsets xs m ms ys cell count' tiled0 tiled small long same apart follows short exact cells_are p ends in_lo in_hi only counted =
+freeing old s1 layout head offsets xs m ms ys cell count' tiled0 tiled blank small long same apart follows short exact cells_are p ends in_lo in_hi only counted =
     let mid : List Cell = m ∷ ms in
     let size : ℕ = sizes mid in
     let lo : ℕ = m.offset in
@@ -121,6 +122,8 @@ freeing old s1 layout head offsets xs m ms ys cell count' tiled0 tiled small lon
     let was : AreBins s1 0 (p.ps ++ p.b ∷ p.qs) = subst (AreBins s1 0) p.bins tiled in
     let layout' : List Bin = p.ps ++ with_cells p.b (p.us ++ ((free ∷ []) ++ p.vs)) ∷ p.qs in
     let tiled' : AreBins new 0 layout' = AreBins-edit s 0 p.ps p.b p.qs p.us mid (free ∷ []) p.vs p.cells start refl was one in
+    let blank' : AreBlank new layout' = blank-edit s 0 p.ps p.b p.qs p.us mid p.vs (p.us ++ ((free ∷ []) ++ p.vs)) p.cells start refl was
+    (subst (AreBlank s1) p.bins blank) in
     let cells' : cells_in layout' ≡ xs ++ free ∷ ys = cells_in-row layout xs mid (free ∷ []) ys p in
     let ordered : AreOrdered 0 (xs ++ (mid ++ ys)) = subst (AreOrdered 0) cells_are (AreOrdered-AreBins s1 0 layout tiled) in
     let before = besides-before 0 lo hi xs m (ms ++ ys) refl ordered in
@@ -144,7 +147,7 @@ freeing old s1 layout head offsets xs m ms ys cell count' tiled0 tiled small lon
     let few : count' ≤ length new = rw counted (few-free one_class 0 (length new) (cells_in layout') (lo ∷ offsets) ordered' ends' exact') in
     let apart' : AreApart (cells_in layout') = subst AreApart (sym cells') (apart-merge xs mid ys lo size ends (subst AreApart cells_are apart)) in
     record {
-      arena = IsArena-one new lo count' layout' (lo ∷ offsets) tiled' (record { follows = follows'; exact = exact' }) apart' (sym counted) few (omega (arith, s.long));
+      arena = IsArena-one new lo count' layout' (lo ∷ offsets) tiled' blank' (record { follows = follows'; exact = exact' }) apart' (sym counted) few (omega (arith, s.long));
       chained = rw counted (Follows-chain new (lo ∷ offsets) lo follows');
       long = s.long ∙ long;
       now = cells_of-AreBins new layout' tiled' ∙ ap Some cells';

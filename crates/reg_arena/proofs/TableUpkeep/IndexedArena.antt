@@ -11,7 +11,7 @@ use Rattle.reg_arena.specs.NewBin.{AppendsBin, IsBinSize, new_bin}
 use Rattle.reg_arena.specs.Internal.SideTables.{ending, AreBacks, IsIndexed, marked, NotesTaken, IsLonger}
 use Rattle.reg_arena.proofs.Carving.NewBinBytes.{length-new_bin}
 use Rattle.reg_arena.proofs.Contents.CellContents.{AreOrdered, AreOrdered-AreBins, besides-before}
-use Rattle.reg_arena.proofs.Tiling.ArenaInvariant.{sound}
+use Rattle.reg_arena.proofs.Tiling.ArenaInvariant.{AreBins-pages}
 use Rattle.reg_arena.proofs.FreeList.FreeListTake.{Follows-back}
 use Rattle.reg_arena.proofs.Contents.CellWrites.{Wrote}
 use Rattle.reg_arena.proofs.Tiling.Tilings.{cells_of-AreBins}
@@ -159,7 +159,7 @@ indexed-bin old new head count head' count' at total ends backs ends' backs' i a
     let ordered : AreOrdered 0 (cells ++ unused lo n ∷ []) = subst (AreOrdered 0) now (AreOrdered-AreBins new 0 a'.layout a'.tiled) in
     let before = besides-before 0 lo hi cells (unused lo n) [] refl ordered in
     let b : ℕ = length new / 8 - 1 in
-    let pages = (sound new (head' ∷ []) (count' ∷ []) a').pages in
+    let pages = AreBins-pages new 0 a'.layout (omega arith) a'.tiled in
     let there : 8 * b + 8 ≡ hi = omega (arith, long, pages) in
     let own = ending-there b lo n there in
     let have : (u : ℕ) → get_or ends u 0 ≡ ending u (cells ++ ([] ++ [])) = λ u. i.ends_are cells p.was u ∙ ap (ending u) (sym (append-nil cells)) in
@@ -199,7 +199,7 @@ room-enough old new heads counts total size units n positive a p b e l =
     ap (λ (k : ℕ). length old + k) (length-new_bin (length old) p.size p.link wide) in
     let same = b.least p.size p.least.pages p.least.holds in
     let same' = p.least.least size b.pages b.holds in
-    let pages = (sound old heads counts a).pages in
+    let pages = AreBins-pages old 0 a.layout (omega arith) a.tiled in
     omega (arith, long, pages, b.pages)
 
 -- ---- a write, and a new arena

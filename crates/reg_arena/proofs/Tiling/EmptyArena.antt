@@ -6,6 +6,7 @@ pub fresh : IsArena [] (4294967295 ∷ []) (0 ∷ [])
 fresh = record {
   layout = [];
   tiled = refl;
+  blank = tt;
   lists = [] ∷ [];
   free = record { each = (record { follows = refl; exact = λ offset. refl }, tt); classes = tt; apart = tt };
   counted = refl;
