@@ -4,7 +4,7 @@ use Rattle.std.specs.Prelude.{◌≡◌, ℕ, ◌-◌, List, [], ◌∷◌, ◌+
 use Rattle.byteorder.specs.Endian.{little_bytes}
 use Rattle.reg_heap.specs.ByteWords.{word}
 use Rattle.reg_arena.specs.declared.TheConstants.{CARVE_LIMIT}
-use Rattle.reg_arena.specs.Cells.{cells_of, cell_at}
+use Rattle.reg_arena.specs.Cells.{bins_of, cells_of, cell_at}
 use Rattle.reg_arena.specs.NewCells.{used, unused}
 use Rattle.reg_arena.specs.Free.{Follows, free_of}
 use Rattle.reg_arena.specs.Frees.{Frees}
@@ -243,6 +243,15 @@ second_header_wrong = refl
 cell_over_two_bins : cells_of (header 0 4096 ++ (used_bytes 4072 ++ new_bin 4096 4096 4294967295)) ≡ None
 unfolding cells_of word
 cell_over_two_bins = refl
+
+-- the bins stand by their headers alone, whatever their cells are
+bins_of_bad_cells : bins_of (header 0 4096 ++ (replicate 4064 0 ++ new_bin 4096 8192 4294967295)) ≡ Some (record { start = 0; size = 4096 } ∷ record { start = 4096; size = 8192 } ∷ [])
+unfolding word
+bins_of_bad_cells = refl
+
+bad_header_behind_bad_cells : bins_of (header 0 4096 ++ (replicate 4064 0 ++ new_bin 0 4096 4294967295)) ≡ None
+unfolding word
+bad_header_behind_bad_cells = refl
 
 -- ---- contents
 

@@ -7,3 +7,4 @@ pub mod ArenaInvariant
 pub mod CellWalkSteps
 pub mod ArenaFaults
 pub mod CellLayout
+pub mod BinPieces

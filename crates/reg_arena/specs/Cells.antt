@@ -1,7 +1,8 @@
 -- The cells of the bins.
 -- Suhanov, Windows registry file format specification, sections "Hive bin" and "Cell".
 use Rattle.std.specs.Prelude.{◌≡◌, ℕ, zero, suc, ◌+◌, ◌-◌, ◌<◌, ◌≤◌, ◌%◌, Bool, true, false, ◌&&◌, if◌then◌else◌, nat_lt, nat_le, ◌==◌, List, [], ◌∷◌}
-use Rattle.std.specs.Prelude.{◌++◌, length, take, drop, Option, Some, None, option_map, flat_map}
+use Rattle.std.specs.Prelude.{◌++◌, length, take, drop, Option, Some, None, option_map, flat_map, Contains}
+use Rattle.std.specs.Option.{option_and_then}
 use Rattle.reg_heap.specs.ByteWords.{word}
 use Rattle.reg_arena.specs.declared.Cell.{Cell}
 
@@ -49,6 +50,15 @@ AreBins bins at (bin ∷ rest) =
     (bin.start ≡ at) × IsHeader bins bin × Tiles bins (at + 32) (at + bin.size) bin.cells
     × AreBins bins (at + bin.size) rest
 
+-- so many bytes from an offset on lie in one bin
+pub record IsInBin (bytes : List ℕ) (at len : ℕ) : Type 0 where
+  pub bins : List Bin
+  pub bins_are : AreBins bytes 0 bins
+  pub bin : Bin
+  pub among : Contains bins bin
+  pub from : bin.start ≤ at
+  pub to : at + len ≤ bin.start + bin.size
+
 -- the cells of some bins, in order
 abbrev pub cells_in : List Bin → List Cell
 cells_in bs = flat_map (λ (b : Bin). b.cells) bs
@@ -79,19 +89,34 @@ joined None ys = None
 joined (Some xs) None = None
 joined (Some xs) (Some ys) = Some (xs ++ ys)
 
--- the cells of the bins from at on; `steps` bounds the bins
-abbrev pub bins_from : ℕ → List ℕ → ℕ → Option (List Cell)
+-- where a bin begins and how many bytes it has, as its header says
+pub record BinPlace : Type 0 where
+  pub start : ℕ
+  pub size : ℕ
+
+-- the bins from at on, by their headers alone; `steps` bounds them
+abbrev pub bins_from : ℕ → List ℕ → ℕ → Option (List BinPlace)
 bins_from zero bins at = None
 bins_from (suc steps) bins at =
     choose (at == length bins) (λ _. Some []) (λ _.
     let size = word bins (at + 8) in
     choose ((word bins at == 1852400232) && (word bins (at + 4) == at) && nat_lt 0 size && (size % 4096 == 0) && nat_le (at + size) (length bins))
-    (λ _. joined (cells_from (suc size) bins (at + 32) (at + size)) (bins_from steps bins (at + size)))
+    (λ _. option_map (λ (rest : List BinPlace). record { start = at; size = size } ∷ rest) (bins_from steps bins (at + size)))
     (λ _. None))
 
--- the cells of the bins, or None where a header or a size is bad
+-- the bins, or None where a header is bad
+abbrev pub bins_of : List ℕ → Option (List BinPlace)
+bins_of bins = bins_from (suc (length bins)) bins 0
+
+-- the cells of such bins, or None where a size is bad
+abbrev pub cells_of_bins : List ℕ → List BinPlace → Option (List Cell)
+cells_of_bins bins [] = Some []
+cells_of_bins bins (bin ∷ rest) =
+    joined (cells_from (suc bin.size) bins (bin.start + 32) (bin.start + bin.size)) (cells_of_bins bins rest)
+
+-- the cells of the bins, or None where a header or, all headers being good, a size is bad
 unfoldable pub cells_of : List ℕ → Option (List Cell)
-cells_of bins = bins_from (suc (length bins)) bins 0
+cells_of bins = option_and_then (cells_of_bins bins) (bins_of bins)
 
 -- what the allocated cell at an offset holds, of these cells: the bytes behind its size field (section "Cell")
 abbrev pub content_in : List ℕ → List Cell → ℕ → Option (List ℕ)

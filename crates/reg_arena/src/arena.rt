@@ -10,7 +10,7 @@ ghost use Rattle.reg_arena.specs.NewCells.{total_of, AreSizes};
 ghost use Rattle.reg_arena.specs.Carves.{AddsCells, CarvesExactly, NoFit};
 ghost use Rattle.reg_arena.specs.NewBin.{PassesLimit};
 ghost use Rattle.reg_arena.specs.Frees.{Frees};
-ghost use Rattle.reg_arena.specs.Cells.{cells_of, size_in};
+ghost use Rattle.reg_arena.specs.Cells.{cells_of, size_in, IsInBin};
 
 use crate::bin::passes_limit;
 use crate::carve::{carve_bin, carve_found};
@@ -76,12 +76,13 @@ impl Arena {
         self.bins.len() as u32
     }
 
-    /// `len` bytes of the bins, headers and size fields too, from the offset `at` on.
+    /// `len` bytes of one bin, header and size fields too, from the offset `at` on. Who wants all bytes goes bin by bin, or page
+    /// by page of 4096 bytes, since a page is in one bin (`laws::page_is_in_one_bin`).
     pub fn bytes(&self, at: u32, len: u32) -> &[u8]
-        requires { at + len ≤ length self.now.bytes }
+        requires { IsInBin self.now.bytes at len }
         ensures { result.now ≡ take len (drop at self.now.bytes) }
     {
-        &self.bins[at as usize..at as usize + len as usize]
+        bytes_part(&self.bins, at, len)
     }
 
     /// All cells of the bins, free ones too, in the order of their offsets.
@@ -252,6 +253,13 @@ fn sum_of(sizes: &[u32]) -> u32
         total += *size;
     }
     total
+}
+
+fn bytes_part(bins: &[u8], at: u32, len: u32) -> &[u8]
+    requires { at + len ≤ length bins.now }
+    ensures { result.now ≡ take len (drop at bins.now) }
+{
+    &bins[at as usize..at as usize + len as usize]
 }
 
 fn content_part(bins: &[u8], cell: u32) -> &[u8]

@@ -2,8 +2,8 @@
 //! definitions in `specs/`.
 //!
 //! Suhanov, Windows registry file format specification, sections "Hive bin" and "Cell".
-ghost use Rattle.std.specs.Prelude.{◌≡◌, ◌+◌, ◌-◌, ◌≤◌, ℕ, List, ◌∷◌, ◌++◌, length, take, drop, All, Contains, sum_by, Some, None, true, false};
-ghost use Rattle.reg_arena.specs.Cells.{Bin, AreBins, cells_in, cells_of, cell_at};
+ghost use Rattle.std.specs.Prelude.{◌≡◌, ◌+◌, ◌-◌, ◌%◌, ◌<◌, ◌≤◌, ℕ, List, ◌∷◌, ◌++◌, length, take, drop, All, Contains, sum_by, Some, None, true, false};
+ghost use Rattle.reg_arena.specs.Cells.{Bin, AreBins, IsInBin, cells_in, cells_of, cell_at};
 ghost use Rattle.reg_arena.specs.declared.Cell.{Cell};
 
 /// A bin's header of 32 bytes and its cells are the whole bin.
@@ -15,6 +15,12 @@ pub fn bin_is_its_header_and_cells()
 /// All bins together are all bytes.
 pub fn bins_are_all_bytes()
     ensures { (bytes : List ℕ) → (layout : List Bin) → AreBins bytes 0 layout → sum_by (λ (bin : Bin). bin.size) layout ≡ length bytes }
+{}
+
+/// A page of 4096 bytes, counted from the first bin, is in one bin, and so is each piece of it.
+pub fn page_is_in_one_bin()
+    ensures { (bytes : List ℕ) → (layout : List Bin) → AreBins bytes 0 layout → (page at len : ℕ) → page % 4096 ≡ 0 → page < length bytes →
+        page ≤ at → at + len ≤ page + 4096 → IsInBin bytes at len }
 {}
 
 /// The cells of bytes that are bins of cells are these cells.

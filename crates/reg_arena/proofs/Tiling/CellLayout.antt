@@ -10,7 +10,8 @@ use Rattle.std.proofs.lemmas.List.Sums.{sum_by-cons}
 use Rattle.std.proofs.lemmas.Option.{same_Some}
 use Rattle.reg_heap.specs.ByteWords.{word}
 use Rattle.reg_arena.specs.declared.Cell.{Cell}
-use Rattle.reg_arena.specs.Cells.{Bin, IsCell, Tiles, IsHeader, AreBins, cells_in, choose, joined, cells_from, bins_from, cells_of, content_in, content_of, cell_at, size_in, is_allocated_in}
+use Rattle.std.specs.Option.{option_and_then}
+use Rattle.reg_arena.specs.Cells.{Bin, BinPlace, IsCell, Tiles, IsHeader, AreBins, cells_in, choose, joined, cells_from, bins_from, bins_of, cells_of_bins, cells_of, content_in, content_of, cell_at, size_in, is_allocated_in}
 use Rattle.reg_arena.proofs.Tiling.CellPositions.{looked, stands}
 use Rattle.reg_arena.proofs.Contents.CellContents.{AreOrdered, AreOrdered-AreBins, AreOrdered-back}
 
@@ -80,51 +81,68 @@ pub record HasLayout (bytes : List ℕ) (at : ℕ) (cells : List Cell) : Type 0 
   pub tiled : AreBins bytes at layout
   pub cells_are : cells ≡ cells_in layout
 
-bins-bin : (bytes : List ℕ) (at : ℕ) (cells : List Cell) (good : Bool) →
+bins-joined : (bytes : List ℕ) (at size : ℕ) (cells : List Cell) → ((zs : List Cell) → IsHeader bytes (record { start = at; size = size; cells = zs })) →
+    (xs ys : Option (List Cell)) → ((zs : List Cell) → xs ≡ Some zs → Tiles bytes (at + 32) (at + size) zs) →
+    ((zs : List Cell) → ys ≡ Some zs → HasLayout bytes (at + size) zs) → joined xs ys ≡ Some cells → HasLayout bytes at cells
+bins-joined bytes at size cells header None ys t l e = absurd (cc)
+bins-joined bytes at size cells header (Some xs) None t l e = absurd (cc)
+bins-joined bytes at size cells header (Some xs) (Some ys) t l e =
+    let bin : Bin = record { start = at; size = size; cells = xs } in
+    let rest = l ys refl in
+    record { layout = bin ∷ rest.layout; tiled = (refl, header xs, t xs refl, rest.tiled); cells_are = sym (same_Some (xs ++ ys) cells e) ∙ ap (λ (zs : List Cell). xs ++ zs) rest.cells_are }
+
+bins-bin : (bytes : List ℕ) (at : ℕ) (ps : List BinPlace) (cells : List Cell) (good : Bool) →
     (eqb (word bytes at) 1852400232 && eqb (word bytes (at + 4)) at && ltb 0 (word bytes (at + 8)) && eqb (word bytes (at + 8) % 4096) 0 && leb
-    (at + word bytes (at + 8)) (length bytes)) ≡ good → (xs ys : Option (List Cell)) →
-    ((zs : List Cell) → xs ≡ Some zs → Tiles bytes (at + 32) (at + word bytes (at + 8)) zs) →
-    ((zs : List Cell) → ys ≡ Some zs → HasLayout bytes (at + word bytes (at + 8)) zs) → choose good (λ _. joined xs ys) (λ _. None) ≡ Some cells →
-    HasLayout bytes at cells
-bins-bin bytes at cells false g xs ys t l e = absurd (cc)
-bins-bin bytes at cells true g None ys t l e = absurd (cc)
-bins-bin bytes at cells true g (Some xs) None t l e = absurd (cc)
-bins-bin bytes at cells true g (Some xs) (Some ys) t l e =
+    (at + word bytes (at + 8)) (length bytes)) ≡ good → (rest : Option (List BinPlace)) →
+    ((rs : List BinPlace) (zs : List Cell) → rest ≡ Some rs → cells_of_bins bytes rs ≡ Some zs → HasLayout bytes (at + word bytes (at + 8)) zs) →
+    choose good (λ _. option_map (λ (rs : List BinPlace). record { start = at; size = word bytes (at + 8) } ∷ rs) rest) (λ _. None) ≡ Some ps →
+    cells_of_bins bytes ps ≡ Some cells → HasLayout bytes at cells
+bins-bin bytes at ps cells false g rest l e f = absurd (cc)
+bins-bin bytes at ps cells true g None l e f = absurd (cc)
+bins-bin bytes at ps cells true g (Some rs) l e f =
     let size = word bytes (at + 8) in
     let four = and_parts _ (leb (at + size) (length bytes)) g in
     let three = and_parts _ (eqb (size % 4096) 0) four.0 in
     let two = and_parts _ (ltb 0 size) three.0 in
     let one = and_parts (eqb (word bytes at) 1852400232) _ two.0 in
-    let bin : Bin = record { start = at; size = size; cells = xs } in
-    let header : IsHeader bytes bin = record {
+    let header : (zs : List Cell) → IsHeader bytes (record { start = at; size = size; cells = zs }) = λ zs. record {
       signature = eqb-true _ _ one.0;
       place = eqb-true _ _ one.1;
       size = refl;
-      positive =
-          ltb-true _ _ two.1;
+      positive = ltb-true _ _ two.1;
       pages = eqb-true _ _ three.1;
       within = leb-true _ _ four.1;
     } in
-    let rest = l ys refl in
-    record { layout = bin ∷ rest.layout; tiled = (refl, header, t xs refl, rest.tiled); cells_are = sym (same_Some (xs ++ ys) cells e) ∙ ap (λ (zs : List Cell). xs ++ zs) rest.cells_are }
+    let same : record { start = at; size = size } ∷ rs ≡ ps = same_Some _ _ e in
+    let all : cells_of_bins bytes (record { start = at; size = size } ∷ rs) ≡ Some cells = ap (cells_of_bins bytes) same ∙ f in
+    bins-joined bytes at size cells header (cells_from (suc size) bytes (at + 32) (at + size)) (cells_of_bins bytes rs)
+    (λ zs h. Tiles-cells_from (suc size) bytes (at + 32) (at + size) zs h) (λ zs h. l rs zs refl h) all
 
-bins-end : (bytes : List ℕ) (at : ℕ) (cells : List Cell) (end : Bool) → eqb at (length bytes) ≡ end → (other : Option (List Cell)) →
-    (other ≡ Some cells → HasLayout bytes at cells) → choose end (λ _. Some []) (λ _. other) ≡ Some cells → HasLayout bytes at cells
-bins-end bytes at cells true z other t e = record { layout = []; tiled = eqb-true at (length bytes) z; cells_are = sym (same_Some [] cells e) }
-bins-end bytes at cells false z other t e = t e
+bins-end : (bytes : List ℕ) (at : ℕ) (ps : List BinPlace) (cells : List Cell) (end : Bool) → eqb at (length bytes) ≡ end →
+    (other : Option (List BinPlace)) → (other ≡ Some ps → HasLayout bytes at cells) → choose end (λ _. Some []) (λ _. other) ≡ Some ps →
+    cells_of_bins bytes ps ≡ Some cells → HasLayout bytes at cells
+bins-end bytes at ps cells true z other t e f =
+    let none : [] ≡ ps = same_Some [] ps e in
+    let all : Some [] ≡ Some cells = ap (cells_of_bins bytes) none ∙ f in
+    record { layout = []; tiled = eqb-true at (length bytes) z; cells_are = sym (same_Some [] cells all) }
+bins-end bytes at ps cells false z other t e f = t e
 
-layout-bins_from : (steps : ℕ) (bytes : List ℕ) (at : ℕ) (cells : List Cell) → bins_from steps bytes at ≡ Some cells → HasLayout bytes at cells
-layout-bins_from zero bytes at cells e = absurd (cc)
-layout-bins_from (suc steps) bytes at cells e =
+layout-bins_from : (steps : ℕ) (bytes : List ℕ) (at : ℕ) (ps : List BinPlace) (cells : List Cell) → bins_from steps bytes at ≡ Some ps →
+    cells_of_bins bytes ps ≡ Some cells → HasLayout bytes at cells
+layout-bins_from zero bytes at ps cells e f = absurd (cc)
+layout-bins_from (suc steps) bytes at ps cells e f =
     let size = word bytes (at + 8) in
-    bins-end bytes at cells _ refl _ (bins-bin bytes at cells _ refl (cells_from (suc size) bytes (at + 32) (at + size))
-    (bins_from steps bytes (at + size)) (λ zs f. Tiles-cells_from (suc size) bytes (at + 32) (at + size) zs f)
-    (λ zs f. layout-bins_from steps bytes (at + size) zs f)) e
+    bins-end bytes at ps cells _ refl _
+    (λ h. bins-bin bytes at ps cells _ refl (bins_from steps bytes (at + size)) (λ rs zs g i. layout-bins_from steps bytes (at + size) rs zs g i) h f) e f
 
 -- bytes that have cells are bins of these cells
 pub layout-cells_of : (bytes : List ℕ) (cells : List Cell) → cells_of bytes ≡ Some cells → HasLayout bytes 0 cells
 unfolding cells_of
-layout-cells_of bytes cells e = layout-bins_from (suc (length bytes)) bytes 0 cells e
+layout-cells_of bytes cells e = by (bins_of bytes) refl e
+  where
+    by : (o : Option (List BinPlace)) → bins_of bytes ≡ o → option_and_then (cells_of_bins bytes) o ≡ Some cells → HasLayout bytes 0 cells
+    by None f e = absurd (cc)
+    by (Some ps) f e = layout-bins_from (suc (length bytes)) bytes 0 ps cells f e
 
 -- ---- free cells
 

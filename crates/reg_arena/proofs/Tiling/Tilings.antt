@@ -3,7 +3,8 @@ use Rattle.std.proofs.Common.{◌≡◌, ℕ, zero, suc, ◌+◌, ◌%◌, ◌<�
 use Rattle.std.proofs.lemmas.Bool.{and_from, eq-eqb, lt-ltb, le-leb, ne_eqb}
 use Rattle.reg_heap.specs.ByteWords.{word, SameOutside}
 use Rattle.reg_arena.specs.declared.Cell.{Cell}
-use Rattle.reg_arena.specs.Cells.{Bin, IsCell, IsHeader, Tiles, AreBins, cells_in, cells_from, bins_from, cells_of, content_in, content_of, cell_at, size_in, is_allocated_in}
+use Rattle.std.specs.Option.{option_and_then}
+use Rattle.reg_arena.specs.Cells.{Bin, BinPlace, IsCell, IsHeader, Tiles, AreBins, cells_in, cells_from, bins_from, bins_of, cells_of_bins, cells_of, content_in, content_of, cell_at, size_in, is_allocated_in}
 use Rattle.reg_arena.proofs.Contents.ByteSplices.{word-same_below, word-same_above}
 
 -- the bytes of some cells
@@ -141,13 +142,17 @@ good_header : (bins : List ℕ) (at size : ℕ) → word bins at ≡ 1852400232 
     (length bins)) ≡ true
 good_header bins at size a b c d e = and_from _ _ (and_from _ _ (and_from _ _ (and_from _ _ (eq-eqb _ _ a) (eq-eqb _ _ b)) (lt-ltb 0 size c)) (eq-eqb _ _ d)) (le-leb _ _ e)
 
-bins_from-step : (steps : ℕ) (bins : List ℕ) (at size : ℕ) (xs ys : List Cell) → (at ≡ length bins → ⊥) → word bins at ≡ 1852400232 →
-    word bins (at + 4) ≡ at → word bins (at + 8) ≡ size → 0 < size → size % 4096 ≡ 0 → at + size ≤ length bins →
-    cells_from (suc size) bins (at + 32) (at + size) ≡ Some xs → bins_from steps bins (at + size) ≡ Some ys →
-    bins_from (suc steps) bins at ≡ Some (xs ++ ys)
-bins_from-step steps bins at size xs ys ne s p z a b c f r = rw (ne_eqb at (length bins) ne, z, good_header bins at size s p a b c, f, r) refl
+-- the bins of a layout, as their headers say
+abbrev pub places : List Bin → List BinPlace
+places [] = []
+places (b ∷ bs) = record { start = b.start; size = b.size } ∷ places bs
 
-pub bins_from-AreBins : (steps : ℕ) (bins : List ℕ) (at : ℕ) (bs : List Bin) → length bins < steps + at → at ≤ length bins → AreBins bins at bs → bins_from steps bins at ≡ Some (cells_in bs)
+bins_from-step : (steps : ℕ) (bins : List ℕ) (at size : ℕ) (rest : List BinPlace) → (at ≡ length bins → ⊥) → word bins at ≡ 1852400232 →
+    word bins (at + 4) ≡ at → word bins (at + 8) ≡ size → 0 < size → size % 4096 ≡ 0 → at + size ≤ length bins →
+    bins_from steps bins (at + size) ≡ Some rest → bins_from (suc steps) bins at ≡ Some (record { start = at; size = size } ∷ rest)
+bins_from-step steps bins at size rest ne s p z a b c r = rw (ne_eqb at (length bins) ne, z, good_header bins at size s p a b c, r) refl
+
+pub bins_from-AreBins : (steps : ℕ) (bins : List ℕ) (at : ℕ) (bs : List Bin) → length bins < steps + at → at ≤ length bins → AreBins bins at bs → bins_from steps bins at ≡ Some (places bs)
 bins_from-AreBins zero bins at bs l m h = absurd (omega arith)
 bins_from-AreBins (suc steps) bins at [] l m h = rw (eq-eqb at (length bins) h) refl
 bins_from-AreBins (suc steps) bins at (b ∷ bs) l m h =
@@ -156,14 +161,25 @@ bins_from-AreBins (suc steps) bins at (b ∷ bs) l m h =
     let place : word bins (at + 4) ≡ at = subst (λ (k : ℕ). word bins (k + 4) ≡ k) o h.1.place in
     let size : word bins (at + 8) ≡ b.size = subst (λ (k : ℕ). word bins (k + 8) ≡ b.size) o h.1.size in
     let below : at + b.size ≤ length bins = omega (arith, h.1.within) in
-    bins_from-step steps bins at b.size b.cells (cells_in bs) (λ e. omega (arith, h.1.positive)) signature place size h.1.positive h.1.pages below
-    (cells_from-Tiles (suc b.size) bins (at + 32) (at + b.size) b.cells (omega arith) h.2)
-    (bins_from-AreBins steps bins (at + b.size) bs (omega (arith, h.1.positive)) below h.3)
+    let same : Some (record { start = at; size = b.size } ∷ places bs) ≡ Some (places (b ∷ bs)) = ap (λ (k : ℕ). Some (record { start = k; size = b.size } ∷ places bs)) (sym o) in
+    bins_from-step steps bins at b.size (places bs) (λ e. omega (arith, h.1.positive)) signature place size h.1.positive h.1.pages below
+    (bins_from-AreBins steps bins (at + b.size) bs (omega (arith, h.1.positive)) below h.3) ∙ same
+
+-- the bins that are laid out so
+pub bins_of-AreBins : (bins : List ℕ) (bs : List Bin) → AreBins bins 0 bs → bins_of bins ≡ Some (places bs)
+bins_of-AreBins bins bs h = bins_from-AreBins (suc (length bins)) bins 0 bs (omega arith) (omega arith) h
+
+cells_of_bins-AreBins : (bins : List ℕ) (at : ℕ) (bs : List Bin) → AreBins bins at bs → cells_of_bins bins (places bs) ≡ Some (cells_in bs)
+cells_of_bins-AreBins bins at [] h = refl
+cells_of_bins-AreBins bins at (b ∷ bs) h =
+    let tiles : Tiles bins (b.start + 32) (b.start + b.size) b.cells = rw h.0 h.2 in
+    let front = cells_from-Tiles (suc b.size) bins (b.start + 32) (b.start + b.size) b.cells (omega arith) tiles in
+    rw (front, cells_of_bins-AreBins bins (at + b.size) bs h.3) refl
 
 -- the cells of bins that are laid out so
 pub cells_of-AreBins : (bins : List ℕ) (bs : List Bin) → AreBins bins 0 bs → cells_of bins ≡ Some (cells_in bs)
 unfolding cells_of
-cells_of-AreBins bins bs h = bins_from-AreBins (suc (length bins)) bins 0 bs (omega arith) (omega arith) h
+cells_of-AreBins bins bs h = ap (λ (o : Option (List BinPlace)). option_and_then (cells_of_bins bins) o) (bins_of-AreBins bins bs h) ∙ cells_of_bins-AreBins bins 0 bs h
 
 pub cell_at-AreBins : (bins : List ℕ) (bs : List Bin) (offset : ℕ) → AreBins bins 0 bs → cell_at bins offset ≡ content_in bins (cells_in bs) offset
 unfolding cell_at
