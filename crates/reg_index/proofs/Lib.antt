@@ -5,6 +5,7 @@ pub mod SortedNames
 pub mod NameSearch
 pub mod InsertSizes
 pub mod LeafGaps
+pub mod KeptCells
 pub mod SubkeysFrame
 pub mod SubkeyRemoved
 pub mod LeafRoom

@@ -99,6 +99,15 @@ abbrev pub IsReady : Heap → Option ℕ → ℕ → Type 0
 IsReady heap None fresh = Unit {0}
 IsReady heap (Some size) fresh = IsSome (heap fresh) × (length (held heap fresh) + 4 ≡ size) × (key_at heap fresh ≡ None)
 
+-- where a list stands when it got one subkey more: in the cell carved for it, where one was, and else where it stood
+abbrev pub place_of : Option ℕ → ℕ → ℕ → ℕ
+place_of None offset fresh = offset
+place_of (Some size) offset fresh = fresh
+
+-- each cell that is there now was there before, and holds as many bytes
+abbrev pub KeepsCells : Heap → Heap → Type 0
+KeepsCells old new = (offset : ℕ) → IsSome (new offset) → IsSome (old offset) × (length (held new offset) ≡ length (held old offset))
+
 -- the index's cells of before, and one carved for it, gave way to the index's cells of now; nothing else changed
 abbrev pub Moves : Heap → Heap → List ℕ → List ℕ → Type 0
 Moves old new before after = CellFrame old new (λ z. times z before) (λ z. times z after)

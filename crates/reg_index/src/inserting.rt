@@ -7,6 +7,7 @@ ghost use Rattle.reg_arena.specs.Arena.{heap_of};
 ghost use Rattle.reg_records.specs.KeyNodes.{key_at};
 ghost use Rattle.reg_records.specs.SubkeyLists.{Entry};
 ghost use Rattle.reg_index.specs.Subkeys.{AreSubkeys, IsIndexFor, IsReady, Moves, entry_for, insert_size, name_at, names_in, own, taken, with_one};
+ghost use Rattle.reg_index.specs.Subkeys.{KeepsCells, place_of};
 ghost use Rattle.reg_index.specs.Internal.HashLeaves.{HasGap};
 
 use crate::SubkeysIndex;
@@ -26,6 +27,8 @@ fn open(arena: &mut Arena, list: SubkeysIndex, fresh: u32, index: u32) -> u32
     ensures moves { Moves (heap_of arena.old) (heap_of arena.new)
         (own (heap_of arena.old) list.count list.offset ++ taken (insert_size (heap_of arena.old) list.count list.offset) fresh) (result ∷ []) }
     ensures long { length arena.new.bytes ≡ length arena.old.bytes }
+    ensures keeps { KeepsCells (heap_of arena.old) (heap_of arena.new) }
+    ensures place { result ≡ place_of (insert_size (heap_of arena.old) list.count list.offset) list.offset fresh }
 {
     if list.count == 0 {
         return fresh;
@@ -64,6 +67,8 @@ pub fn insert(
         (own (heap_of arena.old) list.count list.offset ++ taken (insert_size (heap_of arena.old) list.count list.offset) fresh)
         (own (heap_of arena.new) result.count result.offset) }
     ensures long { length arena.new.bytes ≡ length arena.old.bytes }
+    ensures keeps { KeepsCells (heap_of arena.old) (heap_of arena.new) }
+    ensures place { result.offset ≡ place_of (insert_size (heap_of arena.old) list.count list.offset) list.offset fresh }
 {
     let hint = name_hash(name_of(arena, key));
     let offset = open(arena, list, fresh, index);

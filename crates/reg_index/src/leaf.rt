@@ -8,7 +8,7 @@ ghost use Rattle.reg_arena.specs.Arena.{heap_of};
 ghost use Rattle.reg_records.specs.declared.lists.ListForm.TheVariants.{HashLeaf};
 ghost use Rattle.reg_records.specs.RecordCells.{HasRoom, WritesPart, held};
 ghost use Rattle.reg_records.specs.SubkeyLists.{Entry, head_bytes};
-ghost use Rattle.reg_index.specs.Subkeys.{with_one, without};
+ghost use Rattle.reg_index.specs.Subkeys.{KeepsCells, with_one, without};
 ghost use Rattle.reg_index.specs.Internal.HashLeaves.{IsLeaf, HasGap};
 
 use reg_arena::Arena;
@@ -40,6 +40,7 @@ pub(crate) fn open_within(arena: &mut Arena, cell: u32, count: u32, index: u32)
         HasGap (heap_of arena.new) cell index entries }
     ensures writes { Writes (heap_of arena.old) (heap_of arena.new) (cell ∷ []) }
     ensures long { length arena.new.bytes ≡ length arena.old.bytes }
+    ensures keeps { KeepsCells (heap_of arena.old) (heap_of arena.new) }
 {
     arena.shift(cell, 4 + 8 * index, 12 + 8 * index, 8 * (count - index));
 }
@@ -56,6 +57,7 @@ pub(crate) fn move_open(arena: &mut Arena, cell: u32, fresh: u32, count: u32, in
         HasGap (heap_of arena.new) fresh index entries }
     ensures moves { CellFrame (heap_of arena.old) (heap_of arena.new) (λ z. times z (cell ∷ fresh ∷ [])) (λ z. times z (fresh ∷ [])) }
     ensures long { length arena.new.bytes ≡ length arena.old.bytes }
+    ensures keeps { KeepsCells (heap_of arena.old) (heap_of arena.new) }
 {
     arena.copy(cell, 4, fresh, 4, 8 * index);
     arena.copy(
@@ -76,6 +78,7 @@ pub(crate) fn fill(arena: &mut Arena, cell: u32, index: u32, count: u32, entry: 
         index ≤ length entries → IsLeaf (heap_of arena.new) cell (with_one index entry entries) }
     ensures writes { Writes (heap_of arena.old) (heap_of arena.new) (cell ∷ []) }
     ensures long { length arena.new.bytes ≡ length arena.old.bytes }
+    ensures keeps { KeepsCells (heap_of arena.old) (heap_of arena.new) }
 {
     put_entry(arena, cell, ListForm::HashLeaf, index as u16, entry);
     put_leaf_head(arena, cell, count);

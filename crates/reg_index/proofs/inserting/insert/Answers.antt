@@ -3,6 +3,7 @@ use Rattle.reg_names.specs.Names.{folded, hash}
 use Rattle.reg_arena.specs.Arena.{heap_of}
 use Rattle.reg_index.specs.Subkeys.{name_at}
 use Rattle.reg_index.proofs.SubkeyAdded.{open-needs, fill-needs, one-more, one-moves}
+use Rattle.reg_index.proofs.KeptCells.{kept-then}
 use Rattle.reg_index.proofs.inserting.insert.Goals as goal
 
 pub open-offset-requires-clause-subkeys : goal.open-offset-requires-clause-subkeys
@@ -30,3 +31,7 @@ returns-clause-moves c =
     c.open-offset.result (c.args.list.count + 1) c.args.index c.args.key refl c.requires.few c.requires.key c.requires.ready
     c.open-offset.ensures.moves c.fill.ensures.writes c.name_hash-hint.result (c.name_hash-hint.ensures ∙ ap hash c.name_of.ensures) c.fill.ensures.leaf c.open-offset.ensures.gap c.requires.subkeys
     c.requires.subkeys.0 c.requires.subkeys.1
+
+pub returns-clause-keeps : goal.returns-clause-keeps
+returns-clause-keeps c =
+    kept-then (heap_of c.args.arena.now) (heap_of c.open-offset.new.arena) (heap_of c.fill.new.arena) c.open-offset.ensures.keeps c.fill.ensures.keeps

@@ -1,4 +1,5 @@
-use Rattle.std.proofs.Common.{sym, ◌∙◌, arith}
+use Rattle.std.proofs.Common.{refl, sym, ◌∙◌, arith}
+use Rattle.reg_index.proofs.KeptCells.{first-place, same-place}
 use Rattle.reg_arena.specs.Arena.{heap_of}
 use Rattle.reg_index.proofs.LeafRoom.{size-none, first-gap, first-moves, leaf-needs, index-fits, gap-of, within-moves, fresh-room, fresh-apart, move-moves}
 use Rattle.reg_index.proofs.inserting.open.Goals as goal
@@ -49,3 +50,17 @@ pub returns-in-Some-clause-moves : goal.returns-in-Some-clause-moves
 returns-in-Some-clause-moves c =
     move-moves (heap_of c.args.arena.now) (heap_of c.move_open.new.arena) c.args.list.count c.args.list.offset c.args.fresh
     c.in-Some.field-0 c.args.index c.requires.subkeys c.if-list-eq0.false (sym c.plan_insert.ensures ∙ c.in-Some.is) c.move_open.ensures.moves
+
+pub returns-then-list-eq0-clause-keeps : goal.returns-then-list-eq0-clause-keeps
+returns-then-list-eq0-clause-keeps c = λ z some. (some, refl)
+
+pub returns-then-list-eq0-clause-place : goal.returns-then-list-eq0-clause-place
+returns-then-list-eq0-clause-place c = first-place (heap_of c.args.arena.now) c.args.list.count c.args.list.offset c.args.fresh c.if-list-eq0.true
+
+pub returns-in-None-clause-place : goal.returns-in-None-clause-place
+returns-in-None-clause-place c =
+    same-place (heap_of c.args.arena.now) c.args.list.count c.args.list.offset c.args.fresh _ (sym c.plan_insert.ensures ∙ c.in-None.is)
+
+pub returns-in-Some-clause-place : goal.returns-in-Some-clause-place
+returns-in-Some-clause-place c =
+    same-place (heap_of c.args.arena.now) c.args.list.count c.args.list.offset c.args.fresh _ (sym c.plan_insert.ensures ∙ c.in-Some.is)
