@@ -7,6 +7,7 @@ pub mod InsertKeyCells
 pub mod InsertKeyGraft
 pub mod InsertKeyLemmas
 pub mod PathNameCount
+pub mod MadeCells
 pub mod PathCarve
 pub mod InsertKeyObligations
 pub mod SpareCellTaken

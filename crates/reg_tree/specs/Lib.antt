@@ -1,3 +1,4 @@
 pub mod TreeKeys
+pub mod CreateSizes
 pub mod ValueAnswers
 pub mod Internal

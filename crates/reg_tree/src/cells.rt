@@ -1,6 +1,6 @@
 ghost use Rattle.std.specs.Prelude.{◌≡◌, ◌≢◌, ◌+◌, ◌^◌, Err, ◌-◌, ◌*◌, ◌/◌, ◌%◌, ◌≤◌, ◌<◌, [], ◌∷◌, IfOk, IfErr, OnOk, OnErr, length};
 ghost use Rattle.reg_arena.specs.declared.TheConstants.{CARVE_LIMIT};
-ghost use Rattle.reg_arena.specs.Carves.{NoFit};
+ghost use Rattle.reg_arena.specs.Carves.{NoFit, CarvesExactly};
 ghost use Rattle.reg_arena.specs.NewBin.{IsBinSize, PassesLimit};
 ghost use Rattle.reg_arena.specs.NewCells.{total_of};
 ghost use Rattle.reg_tree.specs.Internal.FreshCells.{AreCarved};
@@ -19,6 +19,7 @@ pub fn carve_two(
     requires second { (second % 8 ≡ 0) × (0 < second) }
     requires sum { first + second ≤ CARVE_LIMIT }
     ensures ok { IfOk result (λ cells. AreCarved arena.old arena.new cells.0 cells.1 first second) }
+    ensures exact { IfOk result (λ cells. CarvesExactly arena.old.bytes arena.new.bytes (first ∷ second ∷ []) (cells.0 ∷ cells.1 ∷ [])) }
     ensures err { OnErr result (arena.new ≡ arena.old) }
     ensures full { result ≡ Err ArenaFault.Full → arena.old.bytes ≡ [] → ⊥ }
     ensures space { result ≡ Err ArenaFault.Full → NoFit arena.old.bytes (total_of (first ∷ second ∷ [])) }

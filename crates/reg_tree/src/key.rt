@@ -3,7 +3,7 @@ ghost use Rattle.std.specs.Prelude.{◌≡◌, ◌≤◌, ◌<◌, ◌^◌, IsSo
 ghost use Rattle.reg_names.specs.declared.TheConstants.{KEY_NAME_LIMIT};
 ghost use Rattle.reg_arena.specs.Arena.{heap_of};
 ghost use Rattle.reg_records.specs.KeyNodes.{KeyRecord, key_at};
-ghost use Rattle.reg_tree.specs.Internal.KeyNodeChanges.{HasList, HasSubkeysList, Notes, noted, noted_subkeys, raised, made_fields};
+ghost use Rattle.reg_tree.specs.Internal.KeyNodeChanges.{HasList, HasSubkeysList, Notes, SameSizes, noted, noted_subkeys, raised, made_fields};
 
 use reg_arena::Arena;
 use reg_heap::limits::NONE;
@@ -133,6 +133,7 @@ pub fn note_subkeys(arena: &mut Arena, key: u32, list: SubkeysIndex, name: u32, 
     requires name { name ≤ KEY_NAME_LIMIT }
     ensures notes { Notes (heap_of arena.old) (heap_of arena.new) key (noted_subkeys list.count list.offset name moment) }
     ensures long { length arena.new.bytes ≡ length arena.old.bytes }
+    ensures sizes { SameSizes (heap_of arena.old) (heap_of arena.new) }
 {
     let old = fields(arena, key);
     set_subkeys(arena, key, list.count);

@@ -1,20 +1,24 @@
 //! Keys made.
 //!
 //! Win32 registry reference, `RegCreateKeyEx`.
-ghost use Rattle.std.specs.Prelude.{◌≡◌, ◌≢◌, ◌↔◌, ◌⊎◌, ◌≤◌, ◌<◌, ◌+◌, ◌-◌, ◌++◌, ◌∷◌, [], true, false, ℕ, List, Some, Err, IfOk, IfErr, OnOk, OnErr};
+ghost use Rattle.std.specs.Prelude.{◌≡◌, ◌≢◌, ◌↔◌, ◌⊎◌, ◌≤◌, ◌<◌, ◌+◌, ◌-◌, ◌++◌, ◌∷◌, [], true, false, ℕ, List, Some, Err, IsSome, IfOk, IfErr, OnOk, OnErr};
 ghost use Rattle.std.specs.Prelude.{length, map, drop, get_or};
 ghost use Rattle.reg_names.specs.declared.TheConstants.{KEY_NAME_LIMIT};
 ghost use Rattle.reg_names.specs.Names.{is_key_name, is_path, path_of};
 ghost use Rattle.reg_heap.specs.declared.limits.TheConstants.{BINS_LIMIT, GROWTH_BOUND};
 ghost use Rattle.reg_heap.specs.Paths.{children_of};
 ghost use Rattle.reg_heap.specs.Edits.{missing, are_too_many};
+ghost use Rattle.reg_heap.specs.Kinds.{times};
 ghost use Rattle.reg_arena.specs.Arena.{heap_of};
 ghost use Rattle.reg_records.specs.RecordCells.{HasRoom};
 ghost use Rattle.reg_records.specs.KeyNodes.{KeyRecord, key_at};
-ghost use Rattle.reg_index.specs.Subkeys.{IsReady, taken};
+ghost use Rattle.reg_index.specs.Subkeys.{IsReady, KeepsCells, own, taken};
+ghost use Rattle.reg_values.specs.ValueLists.{Makes};
 ghost use Rattle.reg_tree.specs.TreeKeys.{tree_in};
+ghost use Rattle.reg_tree.specs.CreateSizes.{create_sizes, own_sizes, planned, sizes_of};
+ghost use Rattle.reg_tree.specs.Internal.KeyNodeChanges.{LeavesOthers};
 ghost use Rattle.reg_tree.specs.Internal.TreeInvariant.{IsHere};
-ghost use Rattle.reg_tree.specs.Internal.SpareCells.{planned, MayGrow, Grows, AreReady, MayGrowAll, GrowsAll, own_sizes, sizes_of, IsSpared};
+ghost use Rattle.reg_tree.specs.Internal.SpareCells.{MayGrow, Grows, AreReady, MayGrowAll, GrowsAll, IsSpared};
 ghost use Rattle.reg_tree.specs.Internal.KeyCreation.{IsCreated, AreTooMany};
 
 use crate::find::reach;
@@ -41,6 +45,9 @@ fn make(arena: &mut Arena, parent: u32, list_cell: u32, key: u32, name: &[u8], m
         Grows (heap_of arena.old)
         (heap_of arena.new) m.growing.root m.growing.path m.growing.keys m.growing.ring key left name.now moment }
     ensures long { length arena.new.bytes ≡ length arena.old.bytes }
+    ensures keeps { KeepsCells (heap_of arena.old) (heap_of arena.new) }
+    ensures leaves { (k : KeyRecord) → key_at (heap_of arena.old) parent ≡ Some k →
+        LeavesOthers (heap_of arena.old) (heap_of arena.new) (own (heap_of arena.old) k.fields.subkeys k.fields.subkeys_list) }
 {
     let above = fields(arena, parent);
     let users = with_one_more(arena, above.security);
@@ -71,6 +78,9 @@ fn make_in(arena: &mut Arena, parent: u32, spare: &[u32], name: &[u8], moment: u
         AreReady (heap_of arena.old) (planned (heap_of arena.old) parent) (own_sizes name.now ∷ more) spare.now →
         AreReady (heap_of arena.old) (Some 16) more (drop result spare.now) }
     ensures long { length arena.new.bytes ≡ length arena.old.bytes }
+    ensures keeps { KeepsCells (heap_of arena.old) (heap_of arena.new) }
+    ensures leaves { (k : KeyRecord) → key_at (heap_of arena.old) parent ≡ Some k →
+        LeavesOthers (heap_of arena.old) (heap_of arena.new) (own (heap_of arena.old) k.fields.subkeys k.fields.subkeys_list) }
 {
     let list = subkeys_list(arena, parent);
     match plan_insert(arena, list) {
@@ -95,6 +105,8 @@ fn make_all(arena: &mut Arena, from: Node, path: &[u8], spare: &[u32], moment: u
         (heap_of arena.new) m.growing.root m.growing.path m.growing.keys m.growing.ring from result
         (path_of path.now) moment }
     ensures long { length arena.new.bytes ≡ length arena.old.bytes }
+    ensures keeps { KeepsCells (heap_of arena.old) (heap_of arena.new) }
+    ensures stay { (z : ℕ) → 0 < times z spare.now → IsSome (heap_of arena.new z) }
 {
     let mut node = from;
     let mut rest = path;
@@ -229,6 +241,10 @@ pub fn create(
     ensures new { (t : IsHere arena.old.bytes from.offset) →
         IfOk result (λ made. (made.is_new ≡ true)
         ↔ (missing (tree_in arena.old.bytes t.root) t.path (path_of path.now) ≢ [])) }
+    ensures cells { (t : IsHere arena.old.bytes from.offset) → from.depth ≡ length t.path →
+        OnOk result (Makes (heap_of arena.old) (heap_of arena.new)
+        (create_sizes (record { bins = arena.old; root = t.root; tree = tree_in arena.old.bytes t.root }) t.path (path_of path.now))) }
+    ensures same { IfOk result (λ made. made.is_new ≡ false → arena.new ≡ arena.old) }
     ensures limit { (t : IsHere arena.old.bytes from.offset) → from.depth ≡ length t.path →
         ((result ≡ Err TreeFault.Limit) ↔ AreTooMany (tree_in arena.old.bytes t.root) t.path (path_of path.now)) }
     ensures full { (result ≡ Err TreeFault.Full) → BINS_LIMIT < length arena.old.bytes + GROWTH_BOUND }

@@ -3,7 +3,7 @@
 ghost use Rattle.std.specs.Prelude.{◌≡◌, ◌≤◌, ◌<◌, ◌+◌, ◌-◌, IsSome, Some, length};
 ghost use Rattle.reg_arena.specs.Arena.{heap_of};
 ghost use Rattle.reg_records.specs.KeySecurities.{KeySecurityRecord, security_at};
-ghost use Rattle.reg_tree.specs.Internal.KeyNodeChanges.{Recounts};
+ghost use Rattle.reg_tree.specs.Internal.KeyNodeChanges.{Recounts, SameSizes};
 
 use reg_arena::Arena;
 use reg_records::{SecurityFields, read_sk, set_security_count};
@@ -47,6 +47,7 @@ pub fn recount(arena: &mut Arena, security: u32, count: u32)
     requires { IsSome (security_at (heap_of arena.old) security) }
     ensures recounts { Recounts (heap_of arena.old) (heap_of arena.new) security (λ n. count) }
     ensures long { length arena.new.bytes ≡ length arena.old.bytes }
+    ensures sizes { SameSizes (heap_of arena.old) (heap_of arena.new) }
 {
     set_security_count(arena, security, count);
 }

@@ -1,4 +1,4 @@
-ghost use Rattle.std.specs.Prelude.{true, ◌≡◌, ◌↔◌, ◌⊎◌, ◌≢◌, ◌≤◌, ◌<◌, ◌+◌, ◌++◌, ℕ, List, [], length, Err, Some, None, OnOk, OnErr, IfOk, IfErr};
+ghost use Rattle.std.specs.Prelude.{true, false, ◌≡◌, ◌↔◌, ◌⊎◌, ◌≢◌, ◌≤◌, ◌<◌, ◌+◌, ◌++◌, ℕ, List, [], length, Err, Some, None, OnOk, OnErr, IfOk, IfErr};
 ghost use Rattle.std.specs.Prelude.{IsSome, IfSome, MatchOption, slice_get, get_or};
 ghost use Rattle.std.specs.FinMap.{insert, empty, get};
 ghost use Rattle.reg_names.specs.declared.TheConstants.{KEY_NAME_LIMIT, PATH_LIMIT, VALUE_NAME_LIMIT};
@@ -7,9 +7,10 @@ ghost use Rattle.reg_heap.specs.declared.limits.TheConstants.{BINS_LIMIT, DATA_L
 ghost use Rattle.reg_heap.specs.Paths.{Path, path_cmp, Rec, Member, children_of};
 ghost use Rattle.reg_heap.specs.Members.{value_named};
 ghost use Rattle.reg_heap.specs.Edits.{edited, with_value, without_value, values_at, folded_path, are_too_many, without_key, IsKept};
+ghost use Rattle.reg_arena.specs.Arena.{heap_of};
 ghost use Rattle.reg_arena.specs.NewBin.{IsBinSize};
 ghost use Rattle.reg_arena.specs.NewCells.{cell_size as cell_size_of};
-ghost use Rattle.reg_values.specs.ValueLists.{Tells};
+ghost use Rattle.reg_values.specs.ValueLists.{Makes, Tells};
 
 use crate::cells::carve_two;
 use crate::key::new_root;
@@ -43,6 +44,7 @@ impl Model for Tree {
 
 impl Tree {
     ghost use Rattle.reg_tree.specs.TreeKeys.{made_root, IsWholeTree, IsAt, IsThere, IsResolved, KeepsNodes, MakesKeys};
+    ghost use Rattle.reg_tree.specs.CreateSizes.{create_sizes};
     ghost use Rattle.reg_tree.specs.ValueAnswers.{IsFound};
 
     /// A tree of one root: the name as given, mark 8 (no delete), no class, the descriptor, the moment (100 ns ticks since
@@ -188,12 +190,15 @@ impl Tree {
         values::find(&self.arena, node.offset, name)
     }
 
-    /// A copy of the bytes of a key's value at an index, counted from 0. Its one fault is that memory was refused.
+    /// A copy of the bytes of a key's value at an index, counted from 0. Its one fault is that memory was refused, and never
+    /// of a value without bytes: for that no memory is taken.
     pub fn value_bytes(&self, alloc: Global, node: Node, index: u32) -> Result<Vec<u8>, AllocError>
         requires { (p : Path) × IsAt self.now p node × (index < length (values_at self.now.tree p)) }
-        ensures { (p : Path) → IsAt self.now p node →
+        ensures told { (p : Path) → IsAt self.now p node →
             IfOk result (λ bytes. (member : Member) × (slice_get (values_at self.now.tree p) index ≡ Some member)
             × (bytes.items ≡ member.bytes)) }
+        ensures empty { (p : Path) → IsAt self.now p node →
+            OnErr result ((member : Member) → slice_get (values_at self.now.tree p) index ≡ Some member → member.bytes ≢ []) }
     {
         values::bytes(&self.arena, alloc, node.offset, index)
     }
@@ -236,15 +241,15 @@ impl Tree {
         )
     }
 
-    /// Removes a value of a key, and sets the key's time. `NotFound` where there is none of that name; then the tree is as
-    /// before. The bins keep their length.
+    /// Removes a value of a key, and sets the key's time. `NotFound` just where there is none of that name, its one fault;
+    /// then the tree is as before. The bins keep their length.
     pub fn delete_value(&mut self, node: Node, name: &[u8], moment: u64) -> Result<(), TreeFault>
         requires { IsThere self.old node }
         ensures ok { (p : Path) → IsAt self.old p node → OnOk result (self.new.tree ≡ edited self.old.tree p (without_value name.now moment)) }
         ensures nodes { OnOk result (KeepsNodes self.old self.new) }
-        ensures found { (p : Path) → IsAt self.old p node →
-            IfErr result (λ fault. (fault ≡ TreeFault.NotFound)
-            × (value_named name.now (values_at self.old.tree p) ≡ None)) }
+        ensures absent { (p : Path) → IsAt self.old p node →
+            ((result ≡ Err TreeFault.NotFound) ↔ (value_named name.now (values_at self.old.tree p) ≡ None)) }
+        ensures others { IfErr result (λ fault. fault ≡ TreeFault.NotFound) }
         ensures err { OnErr result (self.new ≡ self.old) }
         ensures long { OnOk result (length self.new.bins.bytes ≡ length self.old.bins.bytes) }
     {
@@ -252,8 +257,10 @@ impl Tree {
     }
 
     /// Makes the keys of a path from a key that are missing, each with the name as given and its parent's descriptor, and sets
-    /// the time of each and of the first one's parent. Answers the last key of the path, and whether a key was made. After a
-    /// fault the tree is as before.
+    /// the time of each and of the first one's parent. Answers the last key of the path, and whether a key was made: if none
+    /// was, nothing changed. After a fault the tree is as before.
+    ///
+    /// The cells that come are a key node's for each key made, of its size, and its parent's list's, where that needs a cell.
     ///
     /// `Limit` where a key is missing and more than 32 are, or the path has more than 512 names from the root on, or the
     /// first missing key's parent has 500 subkeys; `Full` only where the bins are within 1,310,720 bytes of their limit of
@@ -268,6 +275,9 @@ impl Tree {
         requires from { IsThere self.old from }
         requires path { is_path path.now ≡ true }
         ensures ok { (p : Path) → IsAt self.old p from → IfOk result (λ made. MakesKeys self.old self.new p (path_of path.now) moment made) }
+        ensures cells { (p : Path) → IsAt self.old p from →
+            OnOk result (Makes (heap_of self.old.bins) (heap_of self.new.bins) (create_sizes self.old p (path_of path.now))) }
+        ensures same { IfOk result (λ made. made.is_new ≡ false → self.new ≡ self.old) }
         ensures limit { (p : Path) → IsAt self.old p from → ((result ≡ Err TreeFault.Limit) ↔ (are_too_many self.old.tree p (path_of path.now) ≡ true)) }
         ensures full { (result ≡ Err TreeFault.Full) → BINS_LIMIT < length self.old.bins.bytes + GROWTH_BOUND }
         ensures others { IfErr result (λ fault. (fault ≡ TreeFault.Limit) ⊎ ((fault ≡ TreeFault.Full) ⊎ (fault ≡ TreeFault.Memory))) }

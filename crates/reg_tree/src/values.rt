@@ -1,5 +1,5 @@
 //! A key's values, in its cells.
-ghost use Rattle.std.specs.Prelude.{true, false, ◌≡◌, ◌↔◌, ◌⊎◌, ◌≤◌, ◌<◌, ◌+◌, ℕ, List, [], length, Err, Some, None, OnOk, OnErr, IfOk, IfErr};
+ghost use Rattle.std.specs.Prelude.{true, false, ◌≡◌, ◌↔◌, ◌⊎◌, ◌≤◌, ◌<◌, ◌+◌, ◌≢◌, ℕ, List, [], length, Err, Some, None, OnOk, OnErr, IfOk, IfErr};
 ghost use Rattle.std.specs.Prelude.{MatchOption, IfSome, slice_get};
 ghost use Rattle.reg_names.specs.declared.TheConstants.{VALUE_NAME_LIMIT};
 ghost use Rattle.reg_names.specs.Names.{is_value_name};
@@ -48,13 +48,17 @@ pub fn find(arena: &Arena, key: u32, name: &[u8]) -> Option<ValueFound>
     })
 }
 
-/// A copy of the data of a key's value at an index, counted from 0. Its one fault is that memory was refused.
+/// A copy of the data of a key's value at an index, counted from 0. Its one fault is that memory was refused, and never of a
+/// value without data.
 pub fn bytes(arena: &Arena, alloc: Global, key: u32, index: u32) -> Result<Vec<u8>, AllocError>
     requires { (t : IsHere arena.now.bytes key) × (index < length (values_at (tree_in arena.now.bytes t.root) t.path)) }
-    ensures { (t : IsHere arena.now.bytes key) →
+    ensures told { (t : IsHere arena.now.bytes key) →
         IfOk result (λ bytes. (member : Member)
         × (slice_get (values_at (tree_in arena.now.bytes t.root) t.path) index ≡ Some member)
         × (bytes.items ≡ member.bytes)) }
+    ensures empty { (t : IsHere arena.now.bytes key) →
+        OnErr result ((member : Member) → slice_get (values_at (tree_in arena.now.bytes t.root) t.path) index ≡ Some member →
+        member.bytes ≢ []) }
 {
     reg_values::bytes_of(arena, alloc, values_list(arena, key), index)
 }
@@ -134,14 +138,14 @@ pub fn set(
     Ok(())
 }
 
-/// Removes a value of a key, and notes the list that is left and the time in the key's own node. `NotFound` where there is
-/// none of that name, its one fault; then the arena is as before.
+/// Removes a value of a key, and notes the list that is left and the time in the key's own node. `NotFound` just where there
+/// is none of that name, its one fault; then the arena is as before.
 pub fn delete(arena: &mut Arena, key: u32, name: &[u8], moment: u64) -> Result<(), TreeFault>
     requires { IsHere arena.old.bytes key }
     ensures ok { (t : IsHere arena.old.bytes key) → OnOk result (IsChanged arena.old.bytes arena.new.bytes t.root t.path (without_value name.now moment)) }
-    ensures found { (t : IsHere arena.old.bytes key) →
-        IfErr result (λ fault. (fault ≡ TreeFault.NotFound)
-        × (value_named name.now (values_at (tree_in arena.old.bytes t.root) t.path) ≡ None)) }
+    ensures absent { (t : IsHere arena.old.bytes key) →
+        ((result ≡ Err TreeFault.NotFound) ↔ (value_named name.now (values_at (tree_in arena.old.bytes t.root) t.path) ≡ None)) }
+    ensures others { IfErr result (λ fault. fault ≡ TreeFault.NotFound) }
     ensures err { OnErr result (arena.new ≡ arena.old) }
     ensures long { OnOk result (length arena.new.bytes ≡ length arena.old.bytes) }
 {

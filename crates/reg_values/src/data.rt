@@ -2,7 +2,7 @@
 //!
 //! Suhanov, Windows registry file format specification, sections "Key value" and "Big data".
 
-ghost use Rattle.std.specs.Prelude.{◌≡◌, ◌<◌, ◌≤◌, ℕ, List, Some, IsSome, IfOk, slice_get, slice_index, length, [], ◌∷◌};
+ghost use Rattle.std.specs.Prelude.{◌≡◌, ◌≢◌, ◌<◌, ◌≤◌, ℕ, List, Some, IsSome, IfOk, OnErr, slice_get, slice_index, length, [], ◌∷◌};
 ghost use Rattle.byteorder.specs.Endian.{little_bytes};
 ghost use Rattle.reg_heap.specs.declared.limits.TheConstants.{DATA_LIMIT};
 ghost use Rattle.reg_heap.specs.Paths.{Member};
@@ -14,7 +14,7 @@ ghost use Rattle.reg_values.specs.Internal.ValueListParts.{Owns, GivesUpRead, Fi
 ghost use Rattle.reg_values.specs.ValueSizes.{data_sizes};
 
 use crate::big::{big_bytes, free_big, put_big};
-use crate::look::{cell_of, record_at};
+use crate::look::{cell_of, record_at, size_in};
 use crate::{INLINE, INLINE_LIMIT, ValuesList};
 use reg_arena::Arena;
 use reg_records::{SEGMENT_SIZE, ValueFields};
@@ -29,7 +29,7 @@ pub(crate) struct DataFields {
 
 /// A copy of the data of the value at an index of the list, counted from 0.
 ///
-/// Its one fault is that memory was refused.
+/// Its one fault is that memory was refused, and never of a value without data: for that no memory is taken.
 pub fn bytes_of(
     arena: &Arena,
     alloc: Global,
@@ -38,18 +38,24 @@ pub fn bytes_of(
 ) -> Result<Vec<u8>, AllocError>
     requires values { AreValues (heap_of arena.now) list.count list.offset }
     requires index { index < list.count }
-    ensures { IfOk result (λ bytes. OfRead (members_at list.count list.offset) (heap_of arena.now)
+    ensures told { IfOk result (λ bytes. OfRead (members_at list.count list.offset) (heap_of arena.now)
         (λ members met. (member : Member) × (slice_get members index ≡ Some member) × (bytes.items ≡ member.bytes))) }
+    ensures empty { OnErr result (OfRead (members_at list.count list.offset) (heap_of arena.now)
+        (λ members met. (member : Member) → slice_get members index ≡ Some member → member.bytes ≢ [])) }
 {
     let fields = record_at(arena, cell_of(arena, list, index)).fields;
     data_bytes(arena, alloc, fields)
 }
 
-/// A copy of the data that a record tells of.
+/// A copy of the data that a record tells of. Where there is none, no memory is taken.
 fn data_bytes(arena: &Arena, alloc: Global, fields: ValueFields) -> Result<Vec<u8>, AllocError>
     requires { IsSome (data_at fields (heap_of arena.now)) }
-    ensures { IfOk result (λ bytes. (all : List ℕ) → (met : List Found) → data_at fields (heap_of arena.now) ≡ Some (all, met) → bytes.items ≡ all) }
+    ensures told { IfOk result (λ bytes. (all : List ℕ) → (met : List Found) → data_at fields (heap_of arena.now) ≡ Some (all, met) → bytes.items ≡ all) }
+    ensures empty { OnErr result ((all : List ℕ) → (met : List Found) → data_at fields (heap_of arena.now) ≡ Some (all, met) → all ≢ []) }
 {
+    if size_in(fields.size) == 0 {
+        return Ok(Vec::new(alloc));
+    }
     if fields.size >= INLINE {
         let bytes = fields.offset.to_le_bytes();
         return Vec::from_slice(alloc, &bytes[..(fields.size - INLINE) as usize]);
@@ -57,9 +63,6 @@ fn data_bytes(arena: &Arena, alloc: Global, fields: ValueFields) -> Result<Vec<u
     let size = fields.size as usize;
     if size > SEGMENT_SIZE {
         return big_bytes(arena, alloc, size, fields.offset);
-    }
-    if size == 0 {
-        return Ok(Vec::new(alloc));
     }
     Vec::from_slice(alloc, &arena.content(fields.offset)[..size])
 }

@@ -65,7 +65,7 @@ pub fn find(arena: &Arena, list: ValuesList, name: &[u8]) -> Option<u32>
 }
 
 /// The size of data, from a size field.
-fn size_in(size: u32) -> u32
+pub(crate) fn size_in(size: u32) -> u32
     ensures { result ≡ (if is_inline size then inline_size size else size) }
 {
     if size >= INLINE { size - INLINE } else { size }

@@ -1,11 +1,14 @@
 -- A tree's nodes where keys were made.
-use Rattle.std.proofs.Common.{◌≡◌, ◌≢◌, ◌↔◌, ℕ, ◌≤◌, true, List, [], ◌++◌, map, length, sym, subst, arith, length-append}
+use Rattle.std.proofs.Common.{◌≡◌, ◌≢◌, ◌↔◌, ℕ, ◌≤◌, true, false, List, [], ◌++◌, map, length, sym, ap, ◌∙◌, subst, arith, length-append}
 use Rattle.std.specs.Prelude.{Result, Ok, Err, OnOk, OnErr, IfOk}
 use Rattle.reg_names.specs.declared.TheConstants.{PATH_LIMIT}
 use Rattle.reg_names.specs.Names.{folded, path_of}
 use Rattle.reg_heap.specs.Paths.{Path}
 use Rattle.reg_heap.specs.Edits.{folded_path, with_keys, missing}
-use Rattle.reg_arena.specs.Arena.{Bins}
+use Rattle.reg_heap.specs.Heaps.{Heap}
+use Rattle.reg_arena.specs.Arena.{Bins, heap_of}
+use Rattle.reg_values.specs.ValueLists.{Makes}
+use Rattle.reg_tree.specs.CreateSizes.{create_sizes}
 use Rattle.reg_tree.specs.declared.node.Node.{Node}
 use Rattle.reg_tree.specs.declared.node.Created.{Created}
 use Rattle.reg_tree.specs.declared.fault.TreeFault.{TreeFault}
@@ -22,6 +25,16 @@ Answer = Result Created TreeFault
 module _ (bins : Bins) (root : ℕ) (holds : TreeInvariant bins.bytes root) (now : Keys) (view_is : seen_as bins root ≡ now) where
   pub from_at : (node : Node) → IsThere now node → (t : IsHere bins.bytes node.offset) × (node.depth ≡ length t.path)
   from_at node some = (here_at bins root holds now view_is node some.0 some.1, some.1.depth)
+
+  -- the cells that come
+  pub cells_created : (h : Heap) (result : Answer) (p : Path) (text : List ℕ) → OnOk result (Makes (heap_of bins) h (create_sizes (seen_as bins root) p (path_of text)))
+      → OnOk result (Makes (heap_of now.bins) h (create_sizes now p (path_of text)))
+  cells_created h result p text c = subst (λ (k : Keys). OnOk result (Makes (heap_of k.bins) h (create_sizes k p (path_of text)))) view_is c
+
+  -- where no key was made nothing changed
+  pub same_created : (new : Bins) (result : Answer) → IfOk result (λ made. made.is_new ≡ false → new ≡ bins) → IfOk result (λ made. made.is_new ≡ false → seen_as new root ≡ now)
+  same_created new (Ok made) s = λ none. ap (λ b. seen_as b root) (s none) ∙ view_is
+  same_created new (Err fault) s = s
 
   module _ (new : Bins) (result : Answer) (from : Node) (some : IsThere now from) (text : List ℕ) (moment : ℕ)
       (ok : (t : IsHere bins.bytes from.offset) → from.depth ≡ length t.path → IfOk result (λ made. IsCreated bins.bytes new.bytes t.root t.path from (path_of text) moment made.node))

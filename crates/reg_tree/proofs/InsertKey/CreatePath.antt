@@ -1,6 +1,6 @@
 -- The keys of a path made where they are missing: what is there already, and what stands at the end.
 use Rattle.std.proofs.Common.{◌≡◌, ◌≢◌, ◌↔◌, ℕ, ◌+◌, ◌≤◌, ◌<◌, ◌⊎◌, inl, inr, true, false, cond, Option, Some, None, is_some, List, [], ◌∷◌, ◌++◌, map, length, refl, sym, ap, ◌∙◌, subst}
-use Rattle.std.proofs.Common.{arith, length-append}
+use Rattle.std.proofs.Common.{arith, length-append, IsSome}
 use Rattle.std.specs.Option.{option_and_then}
 use Rattle.std.proofs.lemmas.Bool.{false≢true}
 use Rattle.std.proofs.lemmas.List.{append-nil, append_assoc, map-append}
@@ -11,12 +11,17 @@ use Rattle.reg_heap.specs.declared.limits.TheConstants.{LEAF_LIMIT, MADE_LIMIT}
 use Rattle.reg_heap.specs.Paths.{Path, Tree, children_of}
 use Rattle.reg_heap.specs.Edits.{child_path, has_child, with_key, with_keys, missing, last_there}
 use Rattle.reg_heap.specs.Heaps.{Heap}
+use Rattle.reg_heap.specs.Kinds.{times}
+use Rattle.reg_arena.specs.Arena.{Bins}
 use Rattle.reg_arena.specs.Cells.{cell_at}
 use Rattle.reg_records.specs.KeyNodes.{KeyRecord, key_at}
 use Rattle.reg_shape.specs.PathLookup.{key_offset_at, subkey_named}
 use Rattle.reg_shape.proofs.Lookup.LookupOfShape.{offset-none, offset-more, offset-append}
 use Rattle.reg_tree.specs.declared.node.Node.{Node as TreeNode}
-use Rattle.reg_tree.specs.TreeKeys.{tree_in}
+use Rattle.reg_index.specs.Subkeys.{KeepsCells}
+use Rattle.reg_values.specs.ValueLists.{Makes}
+use Rattle.reg_tree.specs.TreeKeys.{Keys, tree_in}
+use Rattle.reg_tree.specs.CreateSizes.{planned, own_sizes, sizes_of, create_sizes}
 use Rattle.reg_tree.specs.Internal.TreeInvariant.{TreeInvariant, IsHere}
 use Rattle.reg_tree.specs.Internal.PathWalks.{Stops, Reaches}
 use Rattle.reg_tree.specs.Internal.SpareCells.{MayGrowAll, GrowsAll, IsSpared}
@@ -24,6 +29,7 @@ use Rattle.reg_tree.specs.Internal.KeyCreation.{IsCreated, AreTooMany}
 use Rattle.reg_tree.proofs.Invariant.KeyOfTree.{spelt_is, get-none, get-some, shallow}
 use Rattle.reg_tree.proofs.PathWalk.PathSteps.{as-many, here_then}
 use Rattle.reg_tree.proofs.InsertKey.SpareCellsCarved.{tree-spared, offsets-spared, may_grow_all}
+use Rattle.reg_tree.proofs.InsertKey.MadeCells.{made_makes}
 
 -- ---- keys that are there
 
@@ -225,3 +231,30 @@ module _ (old : List ℕ) (from : TreeNode) (t : IsHere old from.offset) (path :
             depth = (let d = r.passes.depth in let n = number in let g = grown.depth in omega (arith, d, n, g));
             keeps = λ q o e. grown.keeps q o (offsets-spared (cell_at old) (cell_at mid) t.root t.holds.keys t.holds.ring spare t.holds.shape s.come q ∙ e);
           }
+
+-- ---- the cells that come
+
+module _ (bins : Bins) (from : TreeNode) (t : IsHere bins.bytes from.offset) (path : List ℕ) (parent : TreeNode) (rest : List ℕ)
+    (r : Reaches (cell_at bins.bytes) from path parent rest) (moment : ℕ) where
+  abbrev seen : Keys
+  seen = record { bins = bins; root = t.root; tree = tree_in bins.bytes t.root }
+
+  abbrev heap : Heap
+  heap = cell_at bins.bytes
+
+  pub created_sizes : create_sizes seen t.path (path_of path) ≡ sizes_of (planned heap parent.offset) (map own_sizes (path_of rest))
+  unfolding create_sizes
+  created_sizes =
+      ap (λ p. sizes_of (option_and_then (planned heap) (key_offset_at heap t.root p)) (map own_sizes (missing seen.tree t.path (path_of path))))
+      (last-is bins.bytes from t path parent rest r moment)
+      ∙ (ap (λ o. sizes_of (option_and_then (planned heap) o) (map own_sizes (missing seen.tree t.path (path_of path)))) (parent-at bins.bytes from t path parent rest r moment)
+      ∙ ap (λ names. sizes_of (planned heap parent.offset) (map own_sizes names)) (missing-are bins.bytes from t path parent rest r moment))
+
+  pub no_cells : path_of rest ≡ [] → Makes heap heap (create_sizes seen t.path (path_of path))
+  no_cells e =
+      subst (Makes heap heap) (sym (created_sizes ∙ ap (λ names. sizes_of (planned heap parent.offset) (map own_sizes names)) e))
+      (record { offsets = []; sizes_are = refl; fresh = λ z l. absurd (omega (arith, l)); only = λ z none there. absurd (false≢true (sym (ap is_some none) ∙ there)) })
+
+  pub created_cells : (mid new spare : List ℕ) → IsSpared bins.bytes mid parent.offset (path_of rest) spare → KeepsCells (cell_at mid) (cell_at new) →
+      ((z : ℕ) → 0 < times z spare → IsSome (cell_at new z)) → Makes heap (cell_at new) (create_sizes seen t.path (path_of path))
+  created_cells mid new spare s keeps stay = subst (Makes heap (cell_at new)) (sym created_sizes) (made_makes bins.bytes mid new parent.offset (path_of rest) spare s keeps stay)

@@ -34,6 +34,7 @@ use Rattle.reg_tree.specs.Internal.KeyNodeChanges.{HasSubkeysList}
 use Rattle.reg_tree.specs.Internal.TreeInvariant.{IsHere}
 use Rattle.reg_tree.specs.Internal.SpareCells.{key_size, own_sizes, sizes_of, IsGrowing, AreReady, IsSpared}
 use Rattle.reg_tree.proofs.InsertKey.PathGrowth.{name_short}
+use Rattle.reg_tree.proofs.InsertKey.MadeCells.{carved_sizes}
 use Rattle.reg_tree.proofs.InsertKey.SpareCellTaken.{growing_there, growing_subkeys, planned_is}
 
 -- ---- the parent
@@ -197,8 +198,11 @@ spared old new key t count list has path plan plan_is sizes offsets cells sizes_
     subst (λ c. AreNew (cell_at old) (cell_at new) c (sizes_of (insert_size (cell_at old) count list) (map own_sizes (path_of path)))) (sym cells_are)
     (subst (AreNew (cell_at old) (cell_at new) offsets) sized adds.are_new) in
     let p = planned_is old key [] (growing old key t) count list has in
+    let good = are-sizes (insert_size (cell_at old) count list) (path_of path) (plan_good old key t count list has) in
     record {
       come = a.come;
+      sizes = carved_sizes (cell_at new) cells (sizes_of (insert_size (cell_at old) count list) (map own_sizes (path_of path))) good a.as_many a.zeros (λ n. length-replicate {A = ℕ} n 0) ∙
+          ap (λ plan. sizes_of plan (map own_sizes (path_of path))) (sym p);
       ready = subst (λ plan. AreReady (cell_at new) plan (map own_sizes (path_of path)) cells) (sym p)
           (ready-all (cell_at new) (insert_size (cell_at old) count list) (path_of path) cells (plan_good old key t count list has) a.as_many a.zeros);
     }

@@ -8,7 +8,7 @@ use Rattle.std.proofs.lemmas.Bool.{and_parts}
 use Rattle.std.proofs.lemmas.Bool.Decides.{nat_tests}
 use Rattle.std.proofs.lemmas.Cmp.{tied_itself}
 use Rattle.std.proofs.lemmas.List.{append-nil, append_assoc, take_all}
-use Rattle.std.proofs.lemmas.Option.{none-some}
+use Rattle.std.proofs.lemmas.Option.{none-some, same_Some}
 use Rattle.reg_names.specs.declared.TheConstants.{PATH_LIMIT, KEY_NAME_LIMIT}
 use Rattle.reg_arena.proofs.FreeList.FreeListTake.{times-append}
 use Rattle.reg_arena.specs.Cells.{cell_at}
@@ -16,7 +16,13 @@ use Rattle.reg_names.specs.Names.{folded, path_of, is_path, is_key_name, is_key_
 use Rattle.reg_heap.specs.Paths.{Path, Tree, path_cmp}
 use Rattle.reg_heap.specs.Edits.{child_path, has_child, with_key, with_keys}
 use Rattle.reg_heap.specs.Heaps.{Heap}
-use Rattle.reg_heap.specs.Kinds.{times}
+use Rattle.reg_heap.specs.Kinds.{times, is_own}
+use Rattle.reg_records.specs.KeyNodes.{KeyRecord, key_at}
+use Rattle.reg_shape.specs.Internal.Shapes.{index_cells}
+use Rattle.reg_shape.proofs.Wholeness.ShapeCounts.{tally-append}
+use Rattle.reg_shape.proofs.Wholeness.ShapeRecords.{at-most-one, is-allocated}
+use Rattle.reg_tree.specs.Internal.KeyNodeChanges.{LeavesOthers}
+use Rattle.reg_index.proofs.SubkeysFrame.{owned-index}
 use Rattle.reg_shape.specs.Internal.Forests.{Branch}
 use Rattle.reg_heap.proofs.ChildrenOfPath.{path-is}
 use Rattle.reg_index.specs.declared.plan.TheConstants.{FIRST_LIST_SIZE}
@@ -29,7 +35,8 @@ use Rattle.reg_records.proofs.KeyNodeCodec.{key_at-same}
 use Rattle.reg_shape.proofs.Frame.WrittenFrame.{same-held}
 use Rattle.reg_shape.proofs.Refinement.SpeltTrees.{path_total}
 use Rattle.reg_shape.proofs.Lookup.LookupOfShape.{offset-more, offset-append}
-use Rattle.reg_index.specs.Subkeys.{IsReady, taken}
+use Rattle.reg_index.specs.Subkeys.{IsReady, KeepsCells, own, taken}
+use Rattle.reg_index.proofs.SubkeysOpening.{own-is}
 use Rattle.reg_tree.specs.declared.node.Node.{Node as TreeNode}
 use Rattle.reg_tree.specs.Internal.SpareCells.{planned, IsGrowing, MayGrow, Grows, HaveSizes, AreReady, own_sizes, MayGrowAll, GrowsAll}
 use Rattle.reg_tree.proofs.Invariant.KeyOfShape as keyed
@@ -110,6 +117,26 @@ module _ (bytes : List ℕ) (key : ℕ) (spare : List ℕ) (g : IsGrowing bytes 
       by None e = refl
       by (Some b) e = absurd (none-some _ (sym e))
 
+-- ---- spare cells are there, and are in no list
+
+module _ (bytes : List ℕ) (key : ℕ) (spare : List ℕ) (g : IsGrowing bytes key spare) where
+  spare_there : (z : ℕ) → 0 < times z spare → IsSome (cell_at bytes z)
+  spare_there z l = let e = g.shape.exact z in is-allocated (cell_at bytes) z (omega (arith, e, l))
+
+  spare_apart : (k : KeyRecord) → key_at (cell_at bytes) key ≡ Some k → (z : ℕ) → 0 < times z spare →
+      times z (own (cell_at bytes) k.fields.subkeys k.fields.subkeys_list) ≡ 0
+  spare_apart k reads z l =
+      let h = cell_at bytes in
+      let b = keyed.branch h g.root g.keys g.ring spare g.shape g.path key g.at in
+      let once = keyed.branch_once h g.root g.keys g.ring spare g.shape g.path key g.at z in
+      let one = at-most-one h z in
+      let parts = tally-append (is_own z) b.node.cells (index_cells b.node.index) in
+      let looked = keyed.looked h g.root g.keys g.ring spare g.shape g.path key g.at in
+      let list = owned-index z b.node.index in
+      let is = ap (times z) (own-is h b.node.key.fields.subkeys b.node.key.fields.subkeys_list b.node.index looked.index_is) in
+      let same = same_Some _ _ (sym reads ∙ keyed.key_is h g.root g.keys g.ring spare g.shape g.path key g.at) in
+      ap (λ (k : KeyRecord). times z (own h k.fields.subkeys k.fields.subkeys_list)) same ∙ omega (arith, once, one, parts, list, is, l)
+
 -- ---- on the way
 
 -- some of the keys were made: a node, what is left of the path and of the spare cells, and that the rest leads to the same end
@@ -123,10 +150,25 @@ pub record Midway (bytes0 : List ℕ) (from : TreeNode) (names0 : List (List ℕ
   pub end : grow.growing.path ++ map folded (path_of rest) ≡ m.growing.path ++ map folded names0
   pub depth : node.depth + length (path_of rest) ≡ from.depth + length names0
   pub keeps : (q : Path) (o : ℕ) → key_offset_at (cell_at bytes0) m.growing.root q ≡ Some o → key_offset_at (cell_at bytes) m.growing.root q ≡ Some o
+  pub keeps_cells : KeepsCells (cell_at bytes0) (cell_at bytes)
+  pub stay : (z : ℕ) → 0 < times z spare0 → IsSome (cell_at bytes z)
+  pub apart : (k : KeyRecord) → key_at (cell_at bytes) node.offset ≡ Some k → (z : ℕ) → 0 < times z spare0 → times z (own (cell_at bytes) k.fields.subkeys k.fields.subkeys_list) ≡ 0
 
 pub at_start : (bytes : List ℕ) (from : TreeNode) (path spare : List ℕ) (m : MayGrowAll bytes from (path_of path) spare) (moment : ℕ) →
     is_path path ≡ true → Midway bytes from (path_of path) spare m moment bytes from path spare
-at_start bytes from path spare m moment v = record { grow = m; root_is = refl; ring_is = refl; valid = v; tree = refl; end = refl; depth = refl; keeps = λ q o e. e }
+at_start bytes from path spare m moment v = record {
+  grow = m;
+  root_is = refl;
+  ring_is = refl;
+  valid = v;
+  tree = refl;
+  end = refl;
+  depth = refl;
+  keeps = λ q o e. e;
+  keeps_cells = λ z some. (some, refl);
+  stay = spare_there bytes from.offset spare m.growing;
+  apart = spare_apart bytes from.offset spare m.growing;
+}
 
 module _ (bytes0 : List ℕ) (from : TreeNode) (names0 : List (List ℕ)) (spare0 : List ℕ) (m : MayGrowAll bytes0 from names0 spare0) (moment : ℕ)
     (bytes : List ℕ) (node : TreeNode) (rest spare : List ℕ) (mid : Midway bytes0 from names0 spare0 m moment bytes node rest spare) where
@@ -150,7 +192,8 @@ module _ (bytes0 : List ℕ) (from : TreeNode) (names0 : List (List ℕ)) (spare
 
     module _ (new : List ℕ) (made : ℕ) (left : List ℕ)
         (grows : Grows (cell_at bytes) (cell_at new) g.root g.path g.keys g.ring made left name moment) (ready : AreReady (cell_at bytes) (Some FIRST_LIST_SIZE)
-        (map own_sizes (path_of behind)) left) where
+        (map own_sizes (path_of behind)) left) (kept : KeepsCells (cell_at bytes) (cell_at new))
+        (leaves : (r : KeyRecord) → key_at (cell_at bytes) node.offset ≡ Some r → LeavesOthers (cell_at bytes) (cell_at new) (own (cell_at bytes) r.fields.subkeys r.fields.subkeys_list)) where
       abbrev k : Heap
       k = cell_at new
 
@@ -189,6 +232,12 @@ module _ (bytes0 : List ℕ) (from : TreeNode) (names0 : List (List ℕ)) (spare
           by true t = absurd (none-some _ (sym (ap (key_offset_at (cell_at bytes) g.root) (path-is q (child_path g.path name) t) ∙ offset_missing bytes node.offset spare g name may_next.missing) ∙ e))
           by false t = e
 
+      node_is : (r : KeyRecord) × (key_at (cell_at bytes) node.offset ≡ Some r)
+      node_is = (
+        (keyed.branch (cell_at bytes) g.root g.keys g.first [] spare g.shape g.path node.offset g.at).node.key,
+        keyed.key_is (cell_at bytes) g.root g.keys g.first [] spare g.shape g.path node.offset g.at,
+      )
+
       tree_then : with_keys (tree_of k grows.now) (child_path g.path name) (path_of behind) moment ≡ with_keys (tree_of (cell_at bytes) g.keys) g.path (path_of rest) moment
       tree_then =
           ap (λ (t : Tree). with_keys t (child_path g.path name) (path_of behind) moment) grows.tree
@@ -206,6 +255,9 @@ module _ (bytes0 : List ℕ) (from : TreeNode) (names0 : List (List ℕ)) (spare
         end = append_assoc g.path (folded name ∷ []) (map folded (path_of behind)) ∙ (ap (λ ns. g.path ++ map folded ns) (sym f.names) ∙ mid.end);
         depth = (let d = mid.depth in let n = ap length f.names in omega (arith, d, n));
         keeps = λ q o e. subst (λ r. key_offset_at k r q ≡ Some o) mid.root_is (keeps_then q o (subst (λ r. key_offset_at (cell_at bytes) r q ≡ Some o) (sym mid.root_is) (mid.keeps q o e)));
+        keeps_cells = λ z some. (let q = kept z some in let p = mid.keeps_cells z q.0 in (p.0, q.1 ∙ p.1));
+        stay = λ z l. leaves node_is.0 node_is.1 z (mid.stay z l) (mid.apart node_is.0 node_is.1 z l);
+        apart = λ r e z l. ap (λ n. times z (own k n r.fields.subkeys_list)) (grows.none r e);
       }
 
   -- nothing is left of the path, and so no cell is spare

@@ -20,7 +20,7 @@ use Rattle.reg_heap.specs.declared.limits.TheConstants.{VALUES_LIMIT}
 use Rattle.reg_arena.specs.declared.ArenaFault.{ArenaFault}
 use Rattle.reg_arena.specs.declared.ArenaFault.TheVariants.{Full, Memory}
 use Rattle.reg_tree.specs.declared.fault.TreeFault.{TreeFault}
-use Rattle.reg_tree.specs.declared.fault.TreeFault.TheVariants.{Limit}
+use Rattle.reg_tree.specs.declared.fault.TreeFault.TheVariants.{Limit, NotFound}
 use Rattle.reg_tree.specs.Internal.TreeFaults.{of_arena}
 use Rattle.reg_tree.specs.Internal.KeyNodeChanges.{HasList}
 use Rattle.reg_tree.specs.ValueAnswers.{IsFound}
@@ -83,13 +83,20 @@ module _ (bytes : List ℕ) (key : ℕ) (t : IsHere bytes key) (count offset : �
       slice-within : (ms : List Member) (i : ℕ) → i < length ms → (m : Member) × (slice_get ms i ≡ Some m)
       slice-within ms i l = let none : Member = record { name = []; kind = 0; bytes = [] } in (get_or ms i none, slice_get-get_or ms i none l)
 
-  -- and none is missing among fewer than 16,384, or among those that have it
-  pub not_full : (count < VALUES_LIMIT) ⊎ IsNamed (cell_at bytes) count offset name → VALUES_LIMIT ≤ length members → value_named name members ≡ None → ⊥
-  not_full (inl few) many none = omega (arith, few, many, list_length bytes key t count offset has)
-  not_full (inr n) many none =
+  is_there : IsNamed (cell_at bytes) count offset name → value_named name members ≡ None → ⊥
+  is_there n none =
       let same : n.members ≡ (branch bytes key t).node.values = ap (λ (p : List Member × List Found). p.0) (same_Some _ _ (sym n.reads ∙ list_reads bytes key t count offset has)) in
       let there = subst (λ (ms : List Member). IsSome (value_named name ms)) (same ∙ sym (values_are bytes key t)) n.there in
       absurd (false≢true (sym (ap is_some none) ∙ there))
+
+  pub absent_some : (index : ℕ) → ((ms : List Member) (met : List Found) → members_at count offset (cell_at bytes) ≡ Some (ms, met) → Some index ≡ index_named name ms)
+      → (◌≡◌ {A = Result (Unit {0}) TreeFault} (Ok tt) (Err NotFound)) ↔ (value_named name members ≡ None)
+  absent_some index h = (λ e. absurd (cc), λ none. absurd (is_there (some_named index h) none))
+
+  -- and none is missing among fewer than 16,384, or among those that have it
+  pub not_full : (count < VALUES_LIMIT) ⊎ IsNamed (cell_at bytes) count offset name → VALUES_LIMIT ≤ length members → value_named name members ≡ None → ⊥
+  not_full (inl few) many none = omega (arith, few, many, list_length bytes key t count offset has)
+  not_full (inr n) many none = is_there n none
 
   pub full_by : (found : Option ℕ) → ((ms : List Member) (met : List Found) → members_at count offset (cell_at bytes) ≡ Some (ms, met) →
       found ≡ index_named name ms) → VALUES_LIMIT ≤ count → is_none found ≡ true
@@ -117,6 +124,10 @@ module _ (bytes : List ℕ) (key : ℕ) (t : IsHere bytes key) (count offset : �
   pub no_fault : (count < VALUES_LIMIT) ⊎ IsNamed (cell_at bytes) count offset name → (◌≡◌ {A = Result (Unit {0}) TreeFault} (Ok tt) (Err Limit)) ↔
       ((VALUES_LIMIT ≤ length members) × (value_named name members ≡ None))
   no_fault room = (λ e. absurd (cc), λ full. absurd (not_full room full.0 full.1))
+
+-- a name that wasn't found is absent
+pub absent_none : {Absent : Type 0} → Absent → (◌≡◌ {A = Result (Unit {0}) TreeFault} (Err NotFound) (Err NotFound)) ↔ Absent
+absent_none absent = (λ e. absent, λ none. refl)
 
 -- what `is_none` answers
 pub none_is : (answer : Bool) (found : Option ℕ) → is_some found ≡ not answer → is_none found ≡ answer

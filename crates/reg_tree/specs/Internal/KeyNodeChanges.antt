@@ -1,7 +1,8 @@
 -- What is written into a key node, and what is told of a value.
-use Rattle.std.specs.Prelude.{◌≡◌, ◌≢◌, ℕ, ◌+◌, ◌-◌, ◌*◌, ◌%◌, max, Some}
+use Rattle.std.specs.Prelude.{◌≡◌, ◌≢◌, ℕ, ◌+◌, ◌-◌, ◌*◌, ◌%◌, max, Some, IsSome, is_some, List, length}
 use Rattle.reg_heap.specs.declared.limits.TheConstants.{NONE}
 use Rattle.reg_heap.specs.Heaps.{Heap}
+use Rattle.reg_heap.specs.Kinds.{times}
 use Rattle.reg_records.specs.RecordCells.{held}
 use Rattle.reg_records.specs.KeyNodes.{KeyRecord, key_at, IsPlainKey}
 use Rattle.reg_records.specs.KeySecurities.{KeySecurityRecord, security_at, IsPlainSecurity}
@@ -67,6 +68,14 @@ pub record Recounts (old new : Heap) (cell : ℕ) (change : ℕ → ℕ) : Type 
       security_at new cell ≡ Some (record s { fields = record s.fields { count = change s.fields.count } })
   pub plain : IsPlainSecurity (held old cell) → IsPlainSecurity (held new cell)
   pub others : (offset : ℕ) → offset ≢ cell → new offset ≡ old offset
+
+-- the same cells are there, and each holds as many bytes
+abbrev pub SameSizes : Heap → Heap → Type 0
+SameSizes old new = (offset : ℕ) → (is_some (new offset) ≡ is_some (old offset)) × (length (held new offset) ≡ length (held old offset))
+
+-- each cell is still there that is none of these
+abbrev pub LeavesOthers : Heap → Heap → List ℕ → Type 0
+LeavesOthers old new cells = (offset : ℕ) → IsSome (old offset) → times offset cells ≡ 0 → IsSome (new offset)
 
 -- a change was noted in a key's key node, and no other cell changed
 pub record Notes (old new : Heap) (cell : ℕ) (change : KeyRecord → KeyRecord) : Type 0 where

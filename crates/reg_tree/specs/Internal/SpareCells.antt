@@ -1,6 +1,5 @@
 -- Keys made one after another, in cells that were carved for them before.
-use Rattle.std.specs.Prelude.{◌≡◌, ℕ, ◌+◌, ◌-◌, ◌*◌, ◌/◌, ◌<◌, ◌≤◌, ⊤, cond, Option, Some, None, List, [], ◌∷◌, ◌++◌, map, length}
-use Rattle.std.specs.Option.{option_and_then}
+use Rattle.std.specs.Prelude.{◌≡◌, ℕ, ◌+◌, ◌<◌, ◌≤◌, ⊤, cond, Option, Some, None, List, [], ◌∷◌, ◌++◌, map, length}
 use Rattle.std.specs.Ordering.{eq_by_cmp}
 use Rattle.reg_names.specs.declared.TheConstants.{PATH_LIMIT}
 use Rattle.reg_names.specs.Names.{folded}
@@ -17,14 +16,11 @@ use Rattle.reg_shape.specs.Nodes.{Node}
 use Rattle.reg_shape.specs.Internal.Shapes.{tree_of}
 use Rattle.reg_shape.specs.Internal.Grafts.{IsShape}
 use Rattle.reg_shape.specs.PathLookup.{key_offset_at, subkey_named}
-use Rattle.reg_records.specs.RecordCells.{HasRoom}
-use Rattle.reg_index.specs.Subkeys.{insert_size, IsReady, taken}
+use Rattle.reg_records.specs.RecordCells.{HasRoom, held}
+use Rattle.reg_index.specs.Subkeys.{IsReady, taken}
 use Rattle.reg_tree.specs.declared.node.Node.{Node as TreeNode}
+pub use Rattle.reg_tree.specs.CreateSizes.{planned, planned_sizes, key_size, own_sizes, sizes_of}
 use Rattle.reg_tree.specs.Internal.TreeInvariant.{rooted}
-
--- the size of the cell that one subkey more takes of a key; none where its list has room for it
-abbrev pub planned : Heap → ℕ → Option ℕ
-planned heap key = option_and_then (λ (k : KeyRecord). insert_size heap k.fields.subkeys k.fields.subkeys_list) (key_at heap key)
 
 -- a key of a tree whose keys have all cells but those that are spare
 pub record IsGrowing (bytes : List ℕ) (key : ℕ) (spare : List ℕ) : Type 0 where
@@ -79,24 +75,6 @@ abbrev pub AreReady : Heap → Option ℕ → List (List ℕ) → List ℕ → T
 AreReady heap plan [] spare = spare ≡ []
 AreReady heap plan (sizes ∷ more) spare = IsNext heap plan sizes spare (AreReady heap (Some FIRST_LIST_SIZE) more)
 
--- the size of a planned cell, where one is
-abbrev pub planned_sizes : Option ℕ → List ℕ
-planned_sizes None = []
-planned_sizes (Some size) = size ∷ []
-
--- the size of the cell that a key node of a name takes
-abbrev pub key_size : List ℕ → ℕ
-key_size name = (87 + length name) / 8 * 8
-
--- the sizes of a made key's own cells: its key node's
-abbrev pub own_sizes : List ℕ → List ℕ
-own_sizes name = key_size name ∷ []
-
--- the sizes of the cells that keys take, in order, by the sizes of each key's own
-abbrev pub sizes_of : Option ℕ → List (List ℕ) → List ℕ
-sizes_of plan [] = []
-sizes_of plan (sizes ∷ more) = planned_sizes plan ++ (sizes ++ sizes_of (Some FIRST_LIST_SIZE) more)
-
 -- keys of these names may be made one below the other, from a node on, in the spare cells
 pub record MayGrowAll (bytes : List ℕ) (from : TreeNode) (names : List (List ℕ)) (spare : List ℕ) : Type 0 where
   pub growing : IsGrowing bytes from.offset spare
@@ -116,7 +94,8 @@ pub record GrowsAll (old new : Heap) (root : ℕ) (path : Path) (keys : Branch N
   pub depth : made.depth ≡ from.depth + length names
   pub keeps : (q : Path) (o : ℕ) → key_offset_at old root q ≡ Some o → key_offset_at new root q ≡ Some o
 
--- the cells that keys of these names take below a key are new, each once, and no other cell changed
+-- the cells that keys of these names take below a key are new, each once, in order and of their sizes, and no other cell changed
 pub record IsSpared (old new : List ℕ) (key : ℕ) (names : List (List ℕ)) (spare : List ℕ) : Type 0 where
   pub come : CellFrame (cell_at old) (cell_at new) (λ z. 0) (λ z. times z spare)
+  pub sizes : map (λ z. length (held (cell_at new) z) + 4) spare ≡ sizes_of (planned (cell_at old) key) (map own_sizes names)
   pub ready : AreReady (cell_at new) (planned (cell_at old) key) (map own_sizes names) spare

@@ -1,5 +1,5 @@
 -- The forms of data, and a value as it is told.
-use Rattle.std.proofs.Common.{◌≡◌, ℕ, zero, suc, ◌<◌, ◌≤◌, ◌==◌, nat_le, not, cond, Bool, true, false, Some, IsSome, List, [], ◌∷◌, ◌++◌, length, take}
+use Rattle.std.proofs.Common.{◌≡◌, ◌≢◌, ℕ, zero, suc, ◌<◌, ◌≤◌, ◌==◌, nat_le, not, cond, Bool, true, false, Some, IsSome, List, [], ◌∷◌, ◌++◌, length, take}
 use Rattle.std.proofs.Common.{refl, sym, ap, ◌∙◌, subst, arith}
 use Rattle.std.proofs.lemmas.Option.{same_Some}
 use Rattle.std.proofs.lemmas.Bool.{leb-true, le-leb}
@@ -56,9 +56,23 @@ module _ (heap : Heap) (offset : ℕ) (members : List Member) (index : ℕ) (s :
 
 -- ---- the forms of data
 
+no-length : (bytes : List ℕ) → length bytes ≡ 0 → bytes ≡ []
+no-length [] e = refl
+no-length (b ∷ bytes) e = absurd (omega (arith, e))
+
 module _ (heap : Heap) (fields : ValueFields) (all : List ℕ) (met : List Found) (e : data_at fields heap ≡ Some (all, met)) where
   data-as : (i s : Bool) → is_inline fields.size ≡ i → nat_le fields.size segment_size ≡ s → data_by i s fields.size fields.offset heap ≡ Some (all, met)
   data-as i s p q = ap (λ i. data_by i s fields.size fields.offset heap) (sym p) ∙ (ap (λ s. data_by (is_inline fields.size) s fields.size fields.offset heap) (sym q) ∙ e)
+
+  -- data is as long as its size field says, and there is none just where that is 0
+  data-long : length all ≡ cond (is_inline fields.size) (inline_size fields.size) fields.size
+  data-long = data-length heap (is_inline fields.size) (nat_le fields.size segment_size) fields.size fields.offset all met e
+
+  pub empty-data : (size : ℕ) → size ≡ cond (is_inline fields.size) (inline_size fields.size) fields.size → size ≡ 0 → all ≡ []
+  empty-data size s z = no-length all (data-long ∙ (sym s ∙ z))
+
+  pub some-data : (size : ℕ) → size ≡ cond (is_inline fields.size) (inline_size fields.size) fields.size → size ≢ 0 → all ≢ []
+  some-data size s n e = n (s ∙ (sym data-long ∙ ap length e))
 
   pub inline-data : 2147483648 ≤ fields.size → (all ≡ take (inline_size fields.size) (little_bytes 4 fields.offset)) × (inline_size fields.size ≤ 4) × (met ≡ [])
   inline-data l =
@@ -80,6 +94,12 @@ module _ (heap : Heap) (fields : ValueFields) (all : List ℕ) (met : List Found
   pub big-data : SEGMENT_SIZE < fields.size → fields.size < 2147483648 → big_at fields.size fields.offset heap ≡ Some (all, met)
   unfolding segment_size
   big-data l m = data-as false false (far m) (le-false fields.size segment_size l)
+
+-- data that isn't inline has the size of its size field
+pub some-size : (fields : ValueFields) (size : ℕ) → size ≡ cond (is_inline fields.size) (inline_size fields.size) fields.size → size ≢ 0 → fields.size < 2147483648 → 0 < fields.size
+some-size fields size s n l =
+    let same : size ≡ fields.size = s ∙ ap (λ b. cond b (inline_size fields.size) fields.size) (le-false 2147483648 fields.size l) in
+    omega (arith, same, n)
 
 -- data in one cell
 pub record IsOne (heap : Heap) (offset size : ℕ) (all : List ℕ) (met : List Found) : Type 0 where

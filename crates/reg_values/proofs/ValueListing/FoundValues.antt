@@ -8,7 +8,7 @@ use Rattle.std.specs.Option.{option_map, option_and_then}
 use Rattle.std.proofs.lemmas.Option.{none-some, same_Some}
 use Rattle.std.proofs.lemmas.Bool.{leb-true, le-leb, false≢true, ne_eqb}
 use Rattle.std.proofs.lemmas.List.{append-nil}
-use Rattle.std.specs.Prelude.{Result, Ok, Err, IfOk, ◌↔◌}
+use Rattle.std.specs.Prelude.{Result, Ok, Err, IfOk, OnErr, ◌↔◌}
 use Rattle.std.proofs.Common.{add-one}
 use Rattle.std.specs.Ordering.{nat_cmp, is_eq}
 use Rattle.std.specs.declared.cmp.Ordering.{Ordering}
@@ -276,6 +276,14 @@ offset-of heap list count index content offset e l o = o ∙ (ap (λ c. offset_i
 pub is-ok : {A E : Type 0} (P Q : A → Type 0) (r : Result A E) → ((x : A) → P x → Q x) → IfOk r P → IfOk r Q
 is-ok P Q (Ok x) f p = f x p
 is-ok P Q (Err e) f p = p
+
+pub on-err : {A E : Type 0} (P Q : Type 0) (r : Result A E) → (P → Q) → OnErr r P → OnErr r Q
+on-err P Q (Ok x) f p = p
+on-err P Q (Err e) f p = f p
+
+pub only-err : {A E : Type 0} (Q : Type 0) (r : Result A E) → Q → OnErr r Q
+only-err Q (Ok x) q = tt
+only-err Q (Err e) q = q
 
 -- ---- a value of a name
 

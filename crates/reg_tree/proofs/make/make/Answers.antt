@@ -1,5 +1,6 @@
 use Rattle.reg_tree.proofs.Invariant.CellReadings.{is_some_of}
 use Rattle.reg_tree.proofs.InsertKey.InsertKeyObligations.{key_there, security_there, users_few, some_subkeys, not_found, few_subkeys, inserts, ready1, parent2, security3, grown}
+use Rattle.reg_tree.proofs.InsertKey.MadeCells.{written_sizes, made_keeps, made_leaves}
 use Rattle.reg_tree.proofs.make.make.Goals as goal
 
 pub fields-above-requires : goal.fields-above-requires
@@ -45,3 +46,14 @@ returns-clause-grows c = λ left m.
     _ c.insert-list.result.count c.insert-list.result.offset c.insert-list.ensures.moves _ c.args.moment c.note_subkeys.ensures.notes
     _ c.requires.name.0 c.requires.name.1 c.new_key.ensures c.put_nk.ensures.plain c.in-Err.index c.in-Err.ensures c.insert-list.ensures.subkeys c.insert-list.ensures.count
     c.with_one_more-users.result c.with_one_more-users.ensures c.recount.ensures.recounts
+
+pub returns-clause-keeps : goal.returns-clause-keeps
+returns-clause-keeps c =
+    made_keeps _ _ _ _ _ (written_sizes _ _ c.args.key _ c.requires.room.exists c.put_nk.ensures.written) c.insert-list.ensures.keeps c.note_subkeys.ensures.sizes c.recount.ensures.sizes
+
+pub returns-clause-leaves : goal.returns-clause-leaves
+returns-clause-leaves c =
+    let subkeys = insert-list-requires-clause-subkeys c in
+    made_leaves _ _ _ _ _ (written_sizes _ _ c.args.key _ c.requires.room.exists c.put_nk.ensures.written) c.insert-list.ensures.keeps c.note_subkeys.ensures.sizes c.recount.ensures.sizes
+    c.args.parent _ c.fields-above.ensures (find-requires c) (subkeys.0, subkeys.1.0) c.insert-list.result.count c.insert-list.result.offset _ _
+    (_, c.insert-list.ensures.subkeys subkeys.0 subkeys.1.0) c.insert-list.ensures.moves c.insert-list.ensures.count c.insert-list.ensures.place

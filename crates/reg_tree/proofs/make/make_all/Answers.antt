@@ -38,9 +38,16 @@ loop-name-preserved c = record {
       (sym (rest_all c.make_in-taken.result c.loop-name.spare.now))
       (one_further _ _ _ _ _ _ _ _ _ _ mid c.in-Some.name.now c.in-Some.behind.now c.in-Some.ensures _
       (get_or c.loop-name.spare.now (c.make_in-taken.result - 1) 0) (drop c.make_in-taken.result c.loop-name.spare.now)
-      (c.make_in-taken.ensures.grows (may_next _ _ _ _ _ _ _ _ _ _ mid _ _ c.in-Some.ensures)) (c.make_in-taken.ensures.ready _ (ready_next _ _ _ _ _ _ _ _ _ _ mid _ _ c.in-Some.ensures)));
+      (c.make_in-taken.ensures.grows (may_next _ _ _ _ _ _ _ _ _ _ mid _ _ c.in-Some.ensures)) (c.make_in-taken.ensures.ready _ (ready_next _ _ _ _ _ _ _ _ _ _ mid _ _ c.in-Some.ensures))
+      c.make_in-taken.ensures.keeps c.make_in-taken.ensures.leaves);
   long = c.make_in-taken.ensures.long ∙ c.loop-name.invariant.long;
 }
 
 pub returns-clause-grows : goal.returns-clause-grows
 returns-clause-grows c = λ m. at_end _ _ _ _ _ _ _ _ _ _ (c.loop-name.invariant.mid m) c.in_default.ensures
+
+pub returns-clause-keeps : goal.returns-clause-keeps
+returns-clause-keeps c = (c.loop-name.invariant.mid c.requires.grow).keeps_cells
+
+pub returns-clause-stay : goal.returns-clause-stay
+returns-clause-stay c = (c.loop-name.invariant.mid c.requires.grow).stay

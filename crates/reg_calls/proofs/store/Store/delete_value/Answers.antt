@@ -1,3 +1,4 @@
+use Rattle.std.proofs.Common.{ap, Err}
 use Rattle.reg_calls.proofs.TableAndLimitLemmas.{not_refused_by}
 use Rattle.reg_calls.proofs.StoreAfterChange.{drop-target, drop-there, drop-done}
 use Rattle.reg_calls.proofs.store.Store.delete_value.Goals as goal
@@ -10,7 +11,8 @@ unreachable-requires c =
 pub unreachable-requires-in-Err-delete_value : goal.unreachable-requires-in-Err-delete_value
 unreachable-requires-in-Err-delete_value c =
     let k = c.in-Ok.ensures in
-    drop-there c.args.number c.args.self.now c.args.session c.requires.ready c.args.handle c.args.name.now c.requires.cause k.target (c.in-Err-delete_value.ensures.found k.target.path k.node).1
+    drop-there c.args.number c.args.self.now c.args.session c.requires.ready c.args.handle c.args.name.now c.requires.cause k.target
+    ((c.in-Err-delete_value.ensures.absent k.target.path k.node).0 (ap (λ f. Err f) c.in-Err-delete_value.ensures.others))
 
 pub returns : goal.returns
 returns c =

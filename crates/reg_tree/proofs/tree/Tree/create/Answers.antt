@@ -1,10 +1,11 @@
 use Rattle.std.proofs.Common.{◌≡◌, ◌↔◌, true, Err}
 use Rattle.reg_names.specs.Names.{path_of}
 use Rattle.reg_heap.specs.Paths.{Tree}
+use Rattle.reg_arena.specs.Arena.{heap_of}
 use Rattle.reg_heap.specs.Edits.{are_too_many}
 use Rattle.reg_tree.specs.declared.fault.TreeFault.TheVariants.{Limit}
 use Rattle.reg_tree.proofs.Invariant.NodeLemmas.{here_at, of_tree}
-use Rattle.reg_tree.proofs.InsertKey.CreateKeepsNodes.{from_at, holds_created, keys_created}
+use Rattle.reg_tree.proofs.InsertKey.CreateKeepsNodes.{from_at, holds_created, keys_created, cells_created, same_created}
 use Rattle.reg_tree.proofs.InsertKey.KeyLimits.{by_test}
 use Rattle.reg_tree.proofs.tree.Tree.create.Goals as goal
 
@@ -22,3 +23,11 @@ pub returns-clause-limit : goal.returns-clause-limit
 returns-clause-limit c = λ p at.
     of_tree _ _ c.self.invariant _ c.self.view_is (λ (t : Tree). (c.create.result ≡ Err Limit) ↔ (are_too_many t p (path_of c.args.path.now) ≡ true))
     (by_test _ _ _ (c.create.ensures.limit (here_at _ _ c.self.invariant _ c.self.view_is c.args.from p at) at.depth))
+
+pub returns-clause-cells : goal.returns-clause-cells
+returns-clause-cells c = λ p at.
+    cells_created _ _ c.self.invariant _ c.self.view_is (heap_of c.create.new.arena) c.create.result p c.args.path.now
+    (c.create.ensures.cells (here_at _ _ c.self.invariant _ c.self.view_is c.args.from p at) at.depth)
+
+pub returns-clause-same : goal.returns-clause-same
+returns-clause-same c = same_created _ _ c.self.invariant _ c.self.view_is c.create.new.arena c.create.result c.create.ensures.same

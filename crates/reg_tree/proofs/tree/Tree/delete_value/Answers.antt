@@ -1,5 +1,4 @@
-use Rattle.std.proofs.Common.{◌≡◌, None}
-use Rattle.std.specs.Prelude.{IfErr}
+use Rattle.std.proofs.Common.{◌≡◌, ◌↔◌, None, Err}
 use Rattle.reg_heap.specs.Paths.{Tree}
 use Rattle.reg_heap.specs.Edits.{values_at}
 use Rattle.reg_heap.specs.Members.{value_named}
@@ -19,7 +18,7 @@ returns-clause-ok c = changed_ok _ _ c.self.invariant _ c.self.view_is _ c.delet
 pub returns-clause-nodes : goal.returns-clause-nodes
 returns-clause-nodes c = changed_nodes _ _ c.self.invariant _ c.self.view_is _ c.delete.result c.args.node c.requires _ c.delete.ensures.ok c.delete.ensures.err
 
-pub returns-clause-found : goal.returns-clause-found
-returns-clause-found c = λ p at.
-    of_tree _ _ c.self.invariant _ c.self.view_is (λ (t : Tree). IfErr c.delete.result (λ fault. (fault ≡ NotFound) × (value_named c.args.name.now (values_at t p) ≡ None)))
-    (c.delete.ensures.found (here_at _ _ c.self.invariant _ c.self.view_is c.args.node p at))
+pub returns-clause-absent : goal.returns-clause-absent
+returns-clause-absent c = λ p at.
+    of_tree _ _ c.self.invariant _ c.self.view_is (λ (t : Tree). (c.delete.result ≡ Err NotFound) ↔ (value_named c.args.name.now (values_at t p) ≡ None))
+    (c.delete.ensures.absent (here_at _ _ c.self.invariant _ c.self.view_is c.args.node p at))

@@ -1,0 +1,155 @@
+-- The cells of keys that are made: only those come that were carved for them, and each holds as many bytes as it did then.
+use Rattle.std.proofs.Common.{◌≡◌, ℕ, zero, suc, ◌+◌, ◌-◌, ◌<◌, ◌≤◌, eqb, cond, Bool, true, false, Option, Some, None, IsSome, is_some}
+use Rattle.std.proofs.Common.{List, [], ◌∷◌, ◌++◌, map, length, get_or, replicate, refl, sym, ap, ◌∙◌, subst, arith}
+use Rattle.std.specs.Prelude.{unwrap_or}
+use Rattle.std.proofs.lemmas.Bool.{eqb-true, eqb-false}
+use Rattle.reg_arena.proofs.FreeList.FreeListTake.{times-append}
+use Rattle.reg_arena.specs.Arena.{Bins, heap_of}
+use Rattle.reg_arena.specs.Cells.{cell_at}
+use Rattle.reg_arena.specs.NewCells.{AreSizes}
+use Rattle.reg_heap.specs.Heaps.{Heap, allocated}
+use Rattle.reg_heap.specs.Kinds.{times}
+use Rattle.reg_index.specs.Subkeys.{AreSubkeys, KeepsCells, Moves, own, taken, place_of}
+use Rattle.reg_records.specs.SubkeyLists.{Entry}
+use Rattle.reg_index.proofs.SubkeysOpening.{own-leaf}
+use Rattle.reg_index.proofs.KeptCells.{kept-then}
+use Rattle.reg_records.specs.KeyNodes.{KeyRecord, key_at}
+use Rattle.reg_records.specs.RecordCells.{held, WritesCell}
+use Rattle.reg_records.specs.declared.nk.KeyFields.{KeyFields}
+use Rattle.reg_shape.proofs.Wholeness.ShapeRecords.{at-most-one, is-allocated, allocated-is}
+use Rattle.reg_values.specs.ValueLists.{Makes}
+use Rattle.reg_tree.specs.Internal.KeyNodeChanges.{SameSizes, LeavesOthers}
+use Rattle.reg_tree.specs.Internal.SpareCells.{planned, own_sizes, sizes_of, IsSpared}
+use Rattle.reg_tree.proofs.Invariant.UntouchedCells.{times-one}
+
+-- ---- cells written over
+
+pub sizes-then : (h i j : Heap) → SameSizes h i → SameSizes i j → SameSizes h j
+sizes-then h i j a b z = ((b z).0 ∙ (a z).0, (b z).1 ∙ (a z).1)
+
+size-of : (old new : Option (List ℕ)) → new ≡ old → length (unwrap_or new []) ≡ length (unwrap_or old [])
+size-of old new e = ap (λ (o : Option (List ℕ)). length (unwrap_or o [])) e
+
+pub written_sizes : (old new : Bins) (cell : ℕ) (content : List ℕ) → IsSome (heap_of old cell) → WritesCell old new cell content → SameSizes (heap_of old) (heap_of new)
+written_sizes old new cell content there w z = by (eqb z cell) refl
+  where
+    by : (b : Bool) → eqb z cell ≡ b → (is_some (heap_of new z) ≡ is_some (heap_of old z)) × (length (held (heap_of new) z) ≡ length (held (heap_of old) z))
+    by true e =
+        subst (λ c. (is_some (heap_of new c) ≡ is_some (heap_of old c)) × (length (held (heap_of new) c) ≡ length (held (heap_of old) c))) (sym (eqb-true z cell e))
+        (ap is_some w.here ∙ sym there, ap (λ (o : Option (List ℕ)). length (unwrap_or o [])) w.here ∙ w.as_many)
+    by false e =
+        let same = w.others z (eqb-false z cell e) in
+        (ap is_some same, size-of (heap_of old z) (heap_of new z) same)
+
+still : (old new : Bins) (cell : ℕ) (content : List ℕ) → WritesCell old new cell content → IsSome (heap_of new cell)
+still old new cell content w = ap is_some w.here
+
+pub four_written : (a b c d e : Bins) (cell : ℕ) (p q r s : List ℕ) → IsSome (heap_of a cell) → WritesCell a b cell p → WritesCell b c cell q → WritesCell c d cell r → WritesCell d e cell s →
+    SameSizes (heap_of a) (heap_of e)
+four_written a b c d e cell p q r s there w x y z =
+    sizes-then (heap_of a) (heap_of b) (heap_of e) (written_sizes a b cell p there w)
+    (sizes-then (heap_of b) (heap_of c) (heap_of e) (written_sizes b c cell q (still a b cell p w) x)
+    (sizes-then (heap_of c) (heap_of d) (heap_of e) (written_sizes c d cell r (still b c cell q x) y) (written_sizes d e cell s (still c d cell r y) z)))
+
+-- ---- a key made
+
+same-kept : (h i : Heap) → SameSizes h i → KeepsCells h i
+same-kept h i a z some = (sym (a z).0 ∙ some, (a z).1)
+
+-- the cells of a key's index, as its number and its list name them: none, or the list's
+abbrev listed : ℕ → ℕ → List ℕ
+listed zero list = []
+listed (suc count) list = list ∷ []
+
+pub own-listed : (h : Heap) (count list : ℕ) → ((entries : List Entry) × AreSubkeys h count list entries) → own h count list ≡ listed count list
+own-listed h zero list s = refl
+own-listed h (suc count) list s = own-leaf h (suc count) list s.0 s.1 (omega arith)
+
+-- the list's cell is its own, or the one carved for it
+moved-leaves : (h k : Heap) (count list count1 list1 : ℕ) (plan : Option ℕ) (fresh : ℕ) → Moves h k (own h count list ++ taken plan fresh) (own k count1 list1) →
+    own k count1 list1 ≡ list1 ∷ [] → list1 ≡ place_of plan list fresh → LeavesOthers h k (own h count list)
+moved-leaves h k count list count1 list1 plan fresh moves after place z there none =
+    let c = moves.count z in
+    let t = times-append z (own h count list) (taken plan fresh) in
+    let here = allocated-is h z there in
+    let o = ap (times z) after in
+    let q = ap (λ l. times z (l ∷ [])) place in
+    let p = by plan in
+    is-allocated k z (omega (arith, c, t, here, none, o, p, q))
+  where
+    by : (plan : Option ℕ) → times z (taken plan fresh) ≤ times z (place_of plan list fresh ∷ [])
+    by None = omega arith
+    by (Some size) = omega arith
+
+module _ (h h1 h2 h3 h4 : Heap) (one : SameSizes h h1) (two : KeepsCells h1 h2) (three : SameSizes h2 h3) (four : SameSizes h3 h4) where
+  pub made_keeps : KeepsCells h h4
+  made_keeps = kept-then h h1 h4 (same-kept h h1 one) (kept-then h1 h2 h4 two (kept-then h2 h3 h4 (same-kept h2 h3 three) (same-kept h3 h4 four)))
+
+  pub made_leaves : (parent : ℕ) (fields : KeyFields) → ((k : KeyRecord) → key_at h parent ≡ Some k → fields ≡ k.fields) →
+      ((entries : List Entry) × AreSubkeys h fields.subkeys fields.subkeys_list entries) → ((entries : List Entry) × AreSubkeys h1 fields.subkeys fields.subkeys_list entries) →
+      (count1 list1 : ℕ) (plan : Option ℕ) (fresh : ℕ) → ((entries : List Entry) × AreSubkeys h2 count1 list1 entries) →
+      Moves h1 h2 (own h1 fields.subkeys fields.subkeys_list ++ taken plan fresh) (own h2 count1 list1) → count1 ≡ fields.subkeys + 1 → list1 ≡ place_of plan fields.subkeys_list fresh →
+      (k : KeyRecord) → key_at h parent ≡ Some k → LeavesOthers h h4 (own h k.fields.subkeys k.fields.subkeys_list)
+  made_leaves parent fields are before then count1 list1 plan fresh now moves more place k reads z there none =
+      let owned = own-listed h1 fields.subkeys fields.subkeys_list then ∙ sym (own-listed h fields.subkeys fields.subkeys_list before) in
+      let same : times z (own h1 fields.subkeys fields.subkeys_list) ≡ 0 =
+          ap (times z) owned ∙ (ap (λ (f : KeyFields). times z (own h f.subkeys f.subkeys_list)) (are k reads) ∙ none) in
+      let after = own-leaf h2 count1 list1 now.0 now.1 (omega (arith, more)) in
+      let in2 = moved-leaves h1 h2 fields.subkeys fields.subkeys_list count1 list1 plan fresh moves after place z ((one z).0 ∙ there) same in
+      (four z).0 ∙ ((three z).0 ∙ in2)
+
+-- ---- all of them made
+
+more-times : (z x : ℕ) (xs : List ℕ) → 0 < times z xs → 0 < times z (x ∷ xs)
+more-times z x xs l = omega (arith, l)
+
+head-times : (x : ℕ) (xs : List ℕ) → 0 < times x (x ∷ xs)
+head-times x xs = let one = times-one x in omega (arith, one)
+
+cons-same : {A : Type 0} {x y : A} {xs ys : List A} → x ≡ y → xs ≡ ys → x ∷ xs ≡ y ∷ ys
+cons-same {A} {x} {y} {xs} {ys} e f = ap (λ a. a ∷ xs) e ∙ ap (λ rest. y ∷ rest) f
+
+map-same : (f g : ℕ → ℕ) (xs : List ℕ) → ((z : ℕ) → 0 < times z xs → f z ≡ g z) → map f xs ≡ map g xs
+map-same f g [] e = refl
+map-same f g (x ∷ xs) e = cons-same (e x (head-times x xs)) (map-same f g xs (λ z l. e z (more-times z x xs l)))
+
+module _ (old mid new : List ℕ) (key : ℕ) (names : List (List ℕ)) (spare : List ℕ) (s : IsSpared old mid key names spare) (keeps : KeepsCells (cell_at mid) (cell_at new))
+    (stay : (z : ℕ) → 0 < times z spare → IsSome (cell_at new z)) where
+  came : (z : ℕ) → 0 < times z spare → cell_at old z ≡ None
+  came z l =
+      let c = s.come.count z in
+      let a = at-most-one (cell_at mid) z in
+      by (cell_at old z) (omega (arith, c, a, l))
+    where
+      by : (o : Option (List ℕ)) → allocated (λ z. o) z ≡ 0 → o ≡ None
+      by None e = refl
+      by (Some content) e = absurd (omega (arith, e))
+
+  alone : (z : ℕ) → cell_at old z ≡ None → IsSome (cell_at new z) → 0 < times z spare
+  alone z none there =
+      let c = s.come.count z in
+      let a = allocated-is (cell_at mid) z (keeps z there).0 in
+      let n : allocated (cell_at old) z ≡ 0 = ap (λ (o : Option (List ℕ)). cond (is_some o) 1 0) none in
+      omega (arith, c, a, n)
+
+  pub made_makes : Makes (cell_at old) (cell_at new) (sizes_of (planned (cell_at old) key) (map own_sizes names))
+  made_makes = record {
+    offsets = spare;
+    sizes_are = map-same (λ z. length (held (cell_at new) z) + 4) (λ z. length (held (cell_at mid) z) + 4) spare (λ z l. ap (λ n. n + 4) (keeps z (stay z l)).1) ∙ s.sizes;
+    fresh = came;
+    only = alone;
+  }
+
+-- ---- the sizes of cells carved
+
+pub carved_sizes : (h : Heap) (cells sizes : List ℕ) → AreSizes sizes → length cells ≡ length sizes →
+    ((index : ℕ) → index < length sizes → h (get_or cells index 0) ≡ Some (replicate (get_or sizes index 0 - 4) 0)) →
+    ((size : ℕ) → length (replicate {A = ℕ} size 0) ≡ size) → map (λ z. length (held h z) + 4) cells ≡ sizes
+carved_sizes h [] [] good n zeros long = refl
+carved_sizes h [] (size ∷ sizes) good n zeros long = absurd (omega (arith, n))
+carved_sizes h (cell ∷ cells) [] good n zeros long = absurd (omega (arith, n))
+carved_sizes h (cell ∷ cells) (size ∷ sizes) good n zeros long =
+    let first = ap (λ (o : Option (List ℕ)). length (unwrap_or o [])) (zeros 0 (omega arith)) ∙ long (size - 4) in
+    let p = good.0.0 in
+    let e = good.0.1 in
+    cons-same (omega (arith, first, p, e)) (carved_sizes h cells sizes good.1 (omega (arith, n)) (λ i l. zeros (suc i) (omega (arith, l))) long)

@@ -1,0 +1,42 @@
+-- The cells that making keys takes (Suhanov, Windows registry file format specification, "Cell", "Key node", "Subkeys list").
+use Rattle.std.specs.Prelude.{ℕ, ◌+◌, Option, Some, None, List, [], ◌∷◌, ◌++◌, map, length}
+use Rattle.std.specs.Option.{option_and_then}
+use Rattle.reg_heap.specs.Heaps.{Heap}
+use Rattle.reg_heap.specs.Paths.{Path}
+use Rattle.reg_heap.specs.Edits.{missing, last_there}
+use Rattle.reg_arena.specs.Arena.{heap_of}
+use Rattle.reg_arena.specs.NewCells.{cell_size}
+use Rattle.reg_records.specs.KeyNodes.{KeyRecord, key_at}
+use Rattle.reg_shape.specs.PathLookup.{key_offset_at}
+use Rattle.reg_index.specs.declared.plan.TheConstants.{FIRST_LIST_SIZE}
+use Rattle.reg_index.specs.Subkeys.{insert_size}
+use Rattle.reg_tree.specs.TreeKeys.{Keys}
+
+-- the size of the cell that one subkey more takes of a key; none where its list has room for it
+abbrev pub planned : Heap → ℕ → Option ℕ
+planned heap key = option_and_then (λ (k : KeyRecord). insert_size heap k.fields.subkeys k.fields.subkeys_list) (key_at heap key)
+
+-- the list's cell, where one is planned
+abbrev pub planned_sizes : Option ℕ → List ℕ
+planned_sizes None = []
+planned_sizes (Some size) = size ∷ []
+
+-- the size of the cell of a key node: 76 bytes and the name
+abbrev pub key_size : List ℕ → ℕ
+key_size name = cell_size (76 + length name)
+
+-- the sizes of a made key's own cells: its key node's
+abbrev pub own_sizes : List ℕ → List ℕ
+own_sizes name = key_size name ∷ []
+
+-- keys with cells of these sizes of their own, one below the other: each takes its parent's list's cell, where one is planned, and its
+-- own; each but the first begins a list
+abbrev pub sizes_of : Option ℕ → List (List ℕ) → List ℕ
+sizes_of plan [] = []
+sizes_of plan (sizes ∷ more) = planned_sizes plan ++ (sizes ++ sizes_of (Some FIRST_LIST_SIZE) more)
+
+-- the sizes of the cells that the keys of these names take which are missing from the key at a path on: none where none is missing
+unfoldable pub create_sizes : Keys → Path → List (List ℕ) → List ℕ
+create_sizes keys path names =
+    sizes_of (option_and_then (planned (heap_of keys.bins)) (key_offset_at (heap_of keys.bins) keys.root (last_there keys.tree path names)))
+    (map own_sizes (missing keys.tree path names))
