@@ -9,3 +9,4 @@ pub mod NodeLemmas
 pub mod UntouchedCells
 pub mod KeyCountBound
 pub mod FreshInvariant
+pub mod FreshBin

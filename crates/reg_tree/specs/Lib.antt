@@ -1,4 +1,5 @@
 pub mod TreeKeys
 pub mod CreateSizes
+pub mod NewHive
 pub mod ValueAnswers
 pub mod Internal

@@ -45,10 +45,12 @@ impl Model for Tree {
 impl Tree {
     ghost use Rattle.reg_tree.specs.TreeKeys.{made_root, IsWholeTree, IsAt, IsThere, IsResolved, KeepsNodes, MakesKeys};
     ghost use Rattle.reg_tree.specs.CreateSizes.{create_sizes};
+    ghost use Rattle.reg_tree.specs.NewHive.{IsNewHive};
     ghost use Rattle.reg_tree.specs.ValueAnswers.{IsFound};
 
     /// A tree of one root: the name as given, mark 8 (no delete), no class, the descriptor, the moment (100 ns ticks since
-    /// 1601), no values. Its one fault is `Memory`. It has one bin, of the least size that holds its two cells.
+    /// 1601), no values. Its bins are one, of the least size for the key node and its security, whose cells have just their
+    /// sizes. Its one fault is `Memory`.
     pub fn new(
         alloc: Global,
         root_name: &[u8],
@@ -58,6 +60,7 @@ impl Tree {
         requires name { (is_key_name root_name.now ≡ true) × (length root_name.now ≤ KEY_NAME_LIMIT) }
         requires descriptor { (1 ≤ length descriptor.now) × (length descriptor.now ≤ DESCRIPTOR_LIMIT) }
         ensures ok { IfOk result (λ t. t.tree ≡ insert empty [] (made_root root_name.now descriptor.now moment)) }
+        ensures cells { IfOk result (λ t. IsNewHive t root_name.now descriptor.now) }
         ensures err { IfErr result (λ fault. fault ≡ TreeFault.Memory) }
         ensures bin { IfOk result (λ t. IsBinSize (length t.bins.bytes)
             (cell_size_of (76 + length root_name.now) + cell_size_of (20 + length descriptor.now))) }

@@ -1,5 +1,6 @@
 use Rattle.reg_tree.proofs.Invariant.FreshInvariant.{fresh_holds, fresh_tree}
 use Rattle.reg_tree.proofs.Invariant.FreshShape.{made}
+use Rattle.reg_tree.proofs.Invariant.FreshBin.{fresh_bin}
 use Rattle.reg_tree.proofs.tree.Tree.new.Goals as goal
 
 pub invariant_of-result : goal.invariant_of-result
@@ -15,3 +16,8 @@ returns-clause-ok c =
     c.new_root.ensures c.new_ring.ensures c.requires.name.0 c.requires.descriptor.0 c.requires.descriptor.1 c.new-arena.ensures.bytes
     c.in-Ok.ensures.ok c.put_sk.ensures.written c.put_sk.ensures.plain c.put_sk.ensures.reads c.put_nk.ensures.written c.put_nk.ensures.plain
     c.put_nk.ensures.reads)
+
+pub returns-clause-cells : goal.returns-clause-cells
+returns-clause-cells c =
+    fresh_bin _ _ _ _ c.in-Ok.cells.0 c.in-Ok.cells.1 _ _ _ _ c.args.root_name.now c.args.descriptor.now c.new-arena.ensures.bytes c.cell_size-node_size.ensures.size
+    c.cell_size-ring_size.ensures.size c.in-Ok.ensures.exact c.put_sk.ensures.written c.put_nk.ensures.written
