@@ -10,3 +10,5 @@ pub mod UntouchedCells
 pub mod KeyCountBound
 pub mod FreshInvariant
 pub mod FreshBin
+pub mod LengthsAfterGraft
+pub mod LengthsSeen

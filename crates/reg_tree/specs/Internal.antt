@@ -7,3 +7,4 @@ pub mod KeyDeletion
 pub mod SpareCells
 pub mod KeyCreation
 pub mod TreeInvariant
+pub mod LengthChanges

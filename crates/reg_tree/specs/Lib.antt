@@ -1,5 +1,6 @@
 pub mod TreeKeys
 pub mod CreateSizes
 pub mod NewHive
+pub mod KeyLengths
 pub mod ValueAnswers
 pub mod Internal

@@ -46,6 +46,7 @@ impl Tree {
     ghost use Rattle.reg_tree.specs.TreeKeys.{made_root, IsWholeTree, IsAt, IsThere, IsResolved, KeepsNodes, MakesKeys};
     ghost use Rattle.reg_tree.specs.CreateSizes.{create_sizes};
     ghost use Rattle.reg_tree.specs.NewHive.{IsNewHive};
+    ghost use Rattle.reg_tree.specs.KeyLengths.{ChangesLengths, KeepsLengths, with_value_lengths};
     ghost use Rattle.reg_tree.specs.ValueAnswers.{IsFound};
 
     /// A tree of one root: the name as given, mark 8 (no delete), no class, the descriptor, the moment (100 ns ticks since
@@ -225,6 +226,8 @@ impl Tree {
         requires bytes { length bytes.now ≤ DATA_LIMIT }
         ensures ok { (p : Path) → IsAt self.old p node → OnOk result (self.new.tree ≡ edited self.old.tree p (with_value name.now kind bytes.now moment)) }
         ensures nodes { OnOk result (KeepsNodes self.old self.new) }
+        ensures lengths { (p : Path) → IsAt self.old p node →
+            OnOk result (ChangesLengths self.old self.new p (with_value_lengths (length name.now) (length bytes.now))) }
         ensures limit { (p : Path) → IsAt self.old p node →
             ((result ≡ Err TreeFault.Limit) ↔ ((VALUES_LIMIT ≤ length (values_at self.old.tree p))
             × (value_named name.now (values_at self.old.tree p) ≡ None))) }
@@ -250,6 +253,7 @@ impl Tree {
         requires { IsThere self.old node }
         ensures ok { (p : Path) → IsAt self.old p node → OnOk result (self.new.tree ≡ edited self.old.tree p (without_value name.now moment)) }
         ensures nodes { OnOk result (KeepsNodes self.old self.new) }
+        ensures lengths { OnOk result (KeepsLengths self.old self.new) }
         ensures absent { (p : Path) → IsAt self.old p node →
             ((result ≡ Err TreeFault.NotFound) ↔ (value_named name.now (values_at self.old.tree p) ≡ None)) }
         ensures others { IfErr result (λ fault. fault ≡ TreeFault.NotFound) }
@@ -307,6 +311,7 @@ impl Tree {
         requires { IsThere self.old node }
         ensures ok { (p : Path) → IsAt self.old p node → OnOk result (self.new.tree ≡ without_key self.old.tree p moment) }
         ensures nodes { (p : Path) → IsAt self.old p node → OnOk result ((q : Path) → (other : Node) → IsAt self.old q other → q ≢ p → IsAt self.new q other) }
+        ensures lengths { OnOk result (KeepsLengths self.old self.new) }
         ensures children { (p : Path) → IsAt self.old p node → ((result ≡ Err TreeFault.HasChildren) ↔ (children_of self.old.tree p ≢ [])) }
         ensures kept { (p : Path) → IsAt self.old p node → ((result ≡ Err TreeFault.NoDelete) ↔ ((children_of self.old.tree p ≡ []) × IsKept self.old.tree p)) }
         ensures others { IfErr result (λ fault. (fault ≡ TreeFault.HasChildren) ⊎ (fault ≡ TreeFault.NoDelete)) }

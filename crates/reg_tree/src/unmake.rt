@@ -14,6 +14,7 @@ ghost use Rattle.reg_shape.specs.Nodes.{Node as KeyWithCells, look};
 ghost use Rattle.reg_values.specs.Internal.ValueListParts.{Owns, GivesUpRead};
 ghost use Rattle.reg_tree.specs.TreeKeys.{tree_in};
 ghost use Rattle.reg_tree.specs.Internal.TreeInvariant.{IsHere};
+ghost use Rattle.reg_tree.specs.Internal.LengthChanges.{LengthsStay};
 ghost use Rattle.reg_tree.specs.Internal.KeyDeletion.{IsListed, IsUnlinked, IsSole, IsDeleted, class_at};
 
 use crate::TreeFault;
@@ -103,6 +104,7 @@ fn is_kept(arena: &Arena, key: u32) -> bool
 pub fn delete(arena: &mut Arena, key: u32, moment: u64) -> Result<(), TreeFault>
     requires { IsHere arena.old.bytes key }
     ensures ok { (t : IsHere arena.old.bytes key) → OnOk result (IsDeleted arena.old.bytes arena.new.bytes t.root t.path moment) }
+    ensures lengths { (t : IsHere arena.old.bytes key) → OnOk result (LengthsStay (heap_of arena.old) (heap_of arena.new) t.root) }
     ensures children { (t : IsHere arena.old.bytes key) → ((result ≡ Err TreeFault.HasChildren) ↔ (children_of (tree_in arena.old.bytes t.root) t.path ≢ [])) }
     ensures kept { (t : IsHere arena.old.bytes key) →
         ((result ≡ Err TreeFault.NoDelete) ↔ ((children_of (tree_in arena.old.bytes t.root) t.path ≡ [])

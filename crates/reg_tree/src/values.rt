@@ -11,7 +11,9 @@ ghost use Rattle.reg_arena.specs.Arena.{heap_of};
 ghost use Rattle.reg_values.specs.ValueLists.{IsNamed, Tells};
 ghost use Rattle.reg_tree.specs.TreeKeys.{tree_in};
 ghost use Rattle.reg_tree.specs.Internal.TreeInvariant.{IsHere, IsChanged};
+ghost use Rattle.reg_tree.specs.KeyLengths.{with_value_lengths};
 ghost use Rattle.reg_tree.specs.Internal.KeyNodeChanges.{HasList};
+ghost use Rattle.reg_tree.specs.Internal.LengthChanges.{LengthsChange, LengthsStay};
 ghost use Rattle.reg_tree.specs.ValueAnswers.{IsFound};
 
 use crate::key::{note_values, values_list};
@@ -111,6 +113,8 @@ pub fn set(
     requires bytes { length bytes.now ≤ DATA_LIMIT }
     ensures ok { (t : IsHere arena.old.bytes key) →
         OnOk result (IsChanged arena.old.bytes arena.new.bytes t.root t.path (with_value name.now kind bytes.now moment)) }
+    ensures lengths { (t : IsHere arena.old.bytes key) →
+        OnOk result (LengthsChange (heap_of arena.old) (heap_of arena.new) t.root t.path (with_value_lengths (length name.now) (length bytes.now))) }
     ensures limit { (t : IsHere arena.old.bytes key) →
         ((result ≡ Err TreeFault.Limit) ↔ ((VALUES_LIMIT ≤ length (values_at (tree_in arena.old.bytes t.root) t.path))
         × (value_named name.now (values_at (tree_in arena.old.bytes t.root) t.path) ≡ None))) }
@@ -143,6 +147,7 @@ pub fn set(
 pub fn delete(arena: &mut Arena, key: u32, name: &[u8], moment: u64) -> Result<(), TreeFault>
     requires { IsHere arena.old.bytes key }
     ensures ok { (t : IsHere arena.old.bytes key) → OnOk result (IsChanged arena.old.bytes arena.new.bytes t.root t.path (without_value name.now moment)) }
+    ensures lengths { (t : IsHere arena.old.bytes key) → OnOk result (LengthsStay (heap_of arena.old) (heap_of arena.new) t.root) }
     ensures absent { (t : IsHere arena.old.bytes key) →
         ((result ≡ Err TreeFault.NotFound) ↔ (value_named name.now (values_at (tree_in arena.old.bytes t.root) t.path) ≡ None)) }
     ensures others { IfErr result (λ fault. fault ≡ TreeFault.NotFound) }

@@ -25,22 +25,31 @@ use Rattle.reg_shape.proofs.Graft.WholeAfterGraft.{grafted, graft-total}
 use Rattle.reg_shape.proofs.Graft.ForestInsertFits.{deep-unhung}
 use Rattle.reg_shape.proofs.Walking.IndexWalks.{then-open}
 use Rattle.reg_shape.proofs.Lookup.LookupOfShape.{offset-append}
-use Rattle.reg_shape.proofs.Refinement.RefinementAfterGraft.{tree-unhung}
+use Rattle.reg_shape.proofs.Refinement.RefinementAfterGraft.{grafted-name, tree-unhung}
 use Rattle.reg_shape.proofs.Lookup.LookupAfterGraft.{offsets-unhung}
 use Rattle.reg_shape.proofs.Refinement.RefinementAfterEdit.{same_path, name-is}
 use Rattle.reg_index.specs.Subkeys.{IsSingle}
+use Rattle.reg_index.proofs.RefinementOfSubkeys.{index_for}
+use Rattle.std.proofs.lemmas.Option.{none-some, same_Some}
+use Rattle.reg_shape.specs.Internal.Exchanges.{is_named, found_in}
+use Rattle.reg_shape.specs.Internal.Grafts.{IsLeafAt}
+use Rattle.reg_shape.proofs.Graft.ForestInsert.{found-unhang}
+use Rattle.reg_shape.proofs.Refinement.RefinementAtPath.{apart-stands}
 use Rattle.reg_tree.specs.TreeKeys.{tree_in}
+use Rattle.reg_tree.specs.KeyLengths.{lengths_of}
+use Rattle.reg_tree.specs.Internal.LengthChanges.{LengthsStay}
 use Rattle.reg_tree.specs.Internal.TreeInvariant.{rooted, TreeInvariant, IsHere}
 use Rattle.reg_tree.specs.Internal.KeyNodeChanges.{Recounts}
 use Rattle.reg_tree.specs.Internal.KeyDeletion.{IsListed, IsUnlinked, IsSole, IsDeleted}
 use Rattle.reg_tree.proofs.ValueChange.TreeAfterValueChange.{edited-at}
 use Rattle.reg_tree.proofs.DeleteKey.DeleteKeyFrame.{key-left, sole, release-there, release-some}
 use Rattle.reg_tree.proofs.DeleteKey.DeleteKeyGraft.{is, grafts}
-use Rattle.reg_tree.proofs.DeleteKey.DeletedKeyParent.{spot, leaf, below-parts}
+use Rattle.reg_tree.proofs.DeleteKey.DeletedKeyParent.{spot, leaf, below-parts, raised-none}
 use Rattle.reg_tree.proofs.DeleteKey.DeletedKeyPosition.{snoc, above-is, listed, parent-is}
 use Rattle.reg_tree.proofs.Invariant.UntouchedCells.{rooted-none}
 use Rattle.reg_tree.proofs.Invariant.KeyOfTree.{spelt_is, rec_is, branch, branch_is, offset, key_is}
 use Rattle.reg_tree.proofs.Invariant.KeyOfShape as keyed
+use Rattle.reg_tree.proofs.Invariant.LengthsAfterGraft.{lengths_stay}
 
 -- ---- lists of subkeys that are no several lists
 
@@ -216,3 +225,20 @@ module _ (old : List ℕ) (key : ℕ) (t : IsHere old key) (childless : (branch 
 
           pub is-deleted : IsDeleted old new t.root t.path moment
           is-deleted = record { holds = holds-now; tree = tree-now; offsets = offsets-now }
+
+          -- the largest lengths that are noted stay
+          leaf-there : IsLeafAt index b.offset b.node was.below
+          leaf-there = leaf h t.root keys first w p was was-is single x b found childless
+
+          below-same : (y : List ℕ) (r : Path) (o : ℕ) (m n : Node) → found_in (y ∷ r) was.below ≡ Some (o, m) → found_in (y ∷ r) came.below ≡ Some (o, n) → n ≡ m
+          below-same y r o m n e f = by (is_named y b.node) (sym (found-unhang index b.offset b.node was.below (apart-stands h t.root was stands-was) leaf-there y r) ∙ f)
+            where
+              by : (named : Bool) → cond named None (found_in (y ∷ r) was.below) ≡ Some (o, n) → n ≡ m
+              by true g = absurd (none-some _ g)
+              by false g = ap (λ (z : ℕ × Node). z.1) (same_Some _ _ (sym g ∙ e))
+
+          pub lengths-stay : LengthsStay h h5 t.root
+          unfolding holds-now
+          lengths-stay =
+              lengths_stay h h5 t.root p keys was came was-is (grafted-name h h5 t.root p keys was came first [] [] [] was-is grafts-here w) w.offset w.stands holds-now.shape.offset holds-now.shape.stands below-same
+              (ap (λ n. record (lengths_of was.node.key) { subkey_name = n }) (raised-none was.node.key.fields.largest_subkey_name))

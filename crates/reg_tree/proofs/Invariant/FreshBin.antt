@@ -1,15 +1,15 @@
 -- The bin that a new hive's two cells are cut from.
-use Rattle.std.proofs.Common.{◌≡◌, ℕ, ◌+◌, ◌-◌, Option, Some, List, [], ◌∷◌, ◌++◌, ◌⊎◌, inl, inr, get_or, length, length-append, refl, sym, ap, ◌∙◌, subst, arith}
+use Rattle.std.proofs.Common.{◌≡◌, ℕ, ◌+◌, ◌-◌, Some, List, [], ◌∷◌, ◌++◌, ◌⊎◌, inl, inr, get_or, length, length-append, refl, sym, ap, ◌∙◌, subst, arith}
 use Rattle.std.proofs.lemmas.List.{append-nil}
 use Rattle.std.proofs.lemmas.Option.{same_Some}
 use Rattle.reg_arena.specs.declared.Cell.{Cell}
-use Rattle.reg_arena.specs.Arena.{Bins, heap_of}
+use Rattle.reg_arena.specs.Arena.{Bins}
 use Rattle.reg_arena.specs.Carves.{rest_of, NoFit, CarvesExactly}
 use Rattle.reg_arena.specs.Cells.{cells_of}
 use Rattle.reg_arena.specs.NewBin.{IsBinSize, AppendsBin}
 use Rattle.reg_arena.specs.NewCells.{cell_size, total_of, carved, offsets_of, unused}
 use Rattle.reg_records.specs.RecordCells.{WritesCell}
-use Rattle.reg_tree.specs.TreeKeys.{Keys, tree_in}
+use Rattle.reg_tree.specs.TreeKeys.{tree_in}
 use Rattle.reg_tree.specs.NewHive.{new_sizes, IsNewHive}
 
 -- what was cut from the one free cell of a first bin

@@ -11,22 +11,33 @@ use Rattle.reg_shape.specs.Internal.Forests.{Branch}
 use Rattle.reg_arena.specs.Cells.{cell_at}
 use Rattle.reg_records.specs.KeyNodes.{key_at}
 use Rattle.reg_shape.specs.Nodes.{Node, members_at}
-use Rattle.reg_shape.specs.Spelt.{rec_of}
+use Rattle.reg_shape.specs.Spelt.{rec_of, name_of}
 use Rattle.reg_shape.specs.Internal.Shapes.{descriptor_in}
 use Rattle.reg_shape.specs.Internal.Exchanges.{IsExchanged}
 use Rattle.reg_shape.specs.Internal.Grafts.{IsShape, IsGrafted, graft_at}
 use Rattle.reg_shape.proofs.Graft.GraftOfExchange.{exchange-grafts}
 use Rattle.reg_shape.proofs.Graft.WholeAfterGraft.{grafted, graft-total}
-use Rattle.reg_shape.proofs.Refinement.RefinementAfterGraft.{tree-same-below}
+use Rattle.reg_shape.proofs.Refinement.RefinementAfterGraft.{grafted-name, tree-same-below}
 use Rattle.reg_shape.proofs.Lookup.LookupAfterGraft.{offsets-same}
 use Rattle.reg_values.specs.ValueLists.{Became}
 use Rattle.reg_tree.specs.TreeKeys.{tree_in}
 use Rattle.reg_tree.specs.Internal.TreeInvariant.{rooted, TreeInvariant, IsHere, IsChanged}
 use Rattle.reg_tree.specs.Internal.KeyNodeChanges.{HasList, Notes, noted}
+use Rattle.std.proofs.lemmas.Option.{same_Some}
+use Rattle.reg_tree.specs.KeyLengths.{Lengths, lengths_of, with_value_lengths}
+use Rattle.reg_tree.specs.Internal.LengthChanges.{LengthsChange, LengthsStay}
+use Rattle.reg_tree.proofs.Invariant.LengthsAfterGraft.{lengths_change, lengths_stay}
 use Rattle.reg_tree.proofs.Invariant.CellReadings.{is_some_of}
 use Rattle.reg_tree.proofs.Invariant.KeyOfTree.{spelt_is, branch, branch_is, branch_once, offset, stands, seen, looked, own_once, shallow, rec_there, list_reads}
 use Rattle.reg_tree.proofs.ValueChange.ValueExchange.{key-then, changed_node, exchanged_key}
 use Rattle.reg_tree.proofs.ValueChange.LargestLengths.{names-with, sizes-with, names-without, sizes-without}
+
+-- no length is larger than what is noted
+same_largest : (lengths : Lengths) (name size : ℕ) → name ≡ 0 → size ≡ 0 → with_value_lengths name size lengths ≡ lengths
+same_largest lengths name size a b =
+    let n : max lengths.value_name (2 * name) ≡ lengths.value_name = omega (arith, a) in
+    let s : max lengths.value_data size ≡ lengths.value_data = omega (arith, b) in
+    ap (λ n. record lengths { value_name = n; value_data = max lengths.value_data size }) n ∙ ap (λ s. record lengths { value_data = s }) s
 
 -- the key at a path changed, where the tree has it
 pub edited-at : (t : Tree) (p : Path) (r : Rec) (f : Rec → Rec) → get t p ≡ Some r → edited t p f ≡ insert t p (f r)
@@ -100,6 +111,22 @@ module _ (old mid new : List ℕ) (key : ℕ) (t : IsHere old key) (count list n
     offsets = λ q. offsets-same h j t.root t.path keys was is ring [] [] (branch_is old key t) grafts t.holds.shape refl q;
   }
 
+  same_name_here : name_of after.key ≡ name_of was.node.key
+  same_name_here = grafted-name h j t.root t.path keys was is first [] [] [] (branch_is old key t) grafts t.holds.shape
+
+  -- the largest lengths that the key notes
+  pub lengths_changed : LengthsChange h j t.root t.path (with_value_lengths name size)
+  lengths_changed =
+      lengths_change h j t.root t.path keys was is (branch_is old key t) same_name_here t.holds.shape.offset t.holds.shape.stands shape.offset shape.stands
+      (λ y r o m n e f. ap (λ (z : ℕ × Node). z.1) (same_Some _ _ (sym f ∙ e))) (with_value_lengths name size) refl
+      (λ q o at. offsets-same h j t.root t.path keys was is first [] [] [] (branch_is old key t) grafts t.holds.shape refl q ∙ at)
+
+  pub lengths_kept : name ≡ 0 → size ≡ 0 → LengthsStay h j t.root
+  lengths_kept a b =
+      lengths_stay h j t.root t.path keys was is (branch_is old key t) same_name_here t.holds.shape.offset t.holds.shape.stands shape.offset shape.stands
+      (λ y r o m n e f. ap (λ (z : ℕ × Node). z.1) (same_Some _ _ (sym f ∙ e)))
+      (same_largest (lengths_of was.node.key) name size a b)
+
 -- a value was set
 pub set_changed : (old mid new : List ℕ) (key count list : ℕ) (name : List ℕ) (kind : ℕ) (bytes : List ℕ) (moment after_count after_offset : ℕ)
     (t : IsHere old key) → HasList (cell_at old) key count list
@@ -128,6 +155,35 @@ delete_changed old mid new key count list name moment after_count after_offset t
     (names-without node.key.fields.largest_value_name name node.values values.longest_name)
     (sizes-without node.key.fields.largest_value_data name node.values values.largest)
     (without_value name moment) (λ r e. ap (λ (ms : List Member). record r { time = moment; values = values_without name ms }) e)
+
+-- the largest lengths where a value was set, and where one was removed
+pub set_lengths : (old mid new : List ℕ) (key count list : ℕ) (name : List ℕ) (kind : ℕ) (bytes : List ℕ) (moment after_count after_offset : ℕ)
+    (t : IsHere old key) → HasList (cell_at old) key count list
+    → ((members : List Member) (met : List Found) → members_at count list (cell_at old) ≡ Some (members, met) →
+    Became (cell_at old) (cell_at mid) met after_count after_offset (values_with name kind bytes members))
+    → Notes (cell_at mid) (cell_at new) key (noted after_count after_offset (length name) (length bytes) moment)
+    → LengthsChange (cell_at old) (cell_at new) t.root t.path (with_value_lengths (length name) (length bytes))
+set_lengths old mid new key count list name kind bytes moment after_count after_offset t has became notes =
+    let node = (branch old key t).node in
+    let values = (seen old key t).written.values in
+    lengths_changed old mid new key t after_count after_offset (length name) (length bytes) moment (values_with name kind bytes node.values)
+    (became _ _ (list_reads old key t count list has)) notes
+    (names-with node.key.fields.largest_value_name name kind bytes node.values values.longest_name)
+    (sizes-with node.key.fields.largest_value_data name kind bytes node.values values.largest)
+    (with_value name kind bytes moment) (λ r e. ap (λ (ms : List Member). record r { time = moment; values = values_with name kind bytes ms }) e)
+
+pub delete_lengths : (old mid new : List ℕ) (key count list : ℕ) (name : List ℕ) (moment after_count after_offset : ℕ) (t : IsHere old key) → HasList (cell_at old) key count list
+    → ((members : List Member) (met : List Found) → members_at count list (cell_at old) ≡ Some (members, met) →
+    Became (cell_at old) (cell_at mid) met after_count after_offset (values_without name members))
+    → Notes (cell_at mid) (cell_at new) key (noted after_count after_offset 0 0 moment) → LengthsStay (cell_at old) (cell_at new) t.root
+delete_lengths old mid new key count list name moment after_count after_offset t has became notes =
+    let node = (branch old key t).node in
+    let values = (seen old key t).written.values in
+    lengths_kept old mid new key t after_count after_offset 0 0 moment (values_without name node.values)
+    (became _ _ (list_reads old key t count list has)) notes
+    (names-without node.key.fields.largest_value_name name node.values values.longest_name)
+    (sizes-without node.key.fields.largest_value_data name node.values values.largest)
+    (without_value name moment) (λ r e. ap (λ (ms : List Member). record r { time = moment; values = values_without name ms }) e) refl refl
 
 -- the key node stands when the values had changed
 pub key_mid : (old mid : List ℕ) (key : ℕ) (t : IsHere old key) (after_count after_offset : ℕ) (members : List Member) →

@@ -1,5 +1,5 @@
 use Rattle.reg_arena.specs.Arena.{heap_of}
-use Rattle.reg_tree.proofs.DeleteKey.DeleteKeyObligations.{unlink-ready, free-ready, count-there, count-some, is-deleted}
+use Rattle.reg_tree.proofs.DeleteKey.DeleteKeyObligations.{unlink-ready, free-ready, count-there, count-some, is-deleted, lengths-stay}
 use Rattle.reg_tree.proofs.DeleteKey.DeleteKeyFaults.{childless, inner}
 use Rattle.reg_tree.proofs.Invariant.KeyOfTree.{key_there}
 use Rattle.reg_tree.proofs.unmake.delete.Goals as goal
@@ -37,5 +37,11 @@ release-requires-clause-some c =
 pub returns-clause-ok : goal.returns-clause-ok
 returns-clause-ok c = λ t.
     is-deleted _ _ t (childless _ _ t c.has_children.result (c.has_children.ensures t) c.if-has_children.false)
+    (inner _ _ t c.is_kept.result (c.is_kept.ensures t) c.if-is_kept.false) c.fields-head.result c.fields-head.ensures
+    (heap_of c.unlink.new.arena) c.args.moment c.unlink.ensures.unlinks (heap_of c.free_key.new.arena) c.free_key.ensures.gone c.release.new.arena.bytes c.release.ensures.recounts
+
+pub returns-clause-lengths : goal.returns-clause-lengths
+returns-clause-lengths c = λ t.
+    lengths-stay _ _ t (childless _ _ t c.has_children.result (c.has_children.ensures t) c.if-has_children.false)
     (inner _ _ t c.is_kept.result (c.is_kept.ensures t) c.if-is_kept.false) c.fields-head.result c.fields-head.ensures
     (heap_of c.unlink.new.arena) c.args.moment c.unlink.ensures.unlinks (heap_of c.free_key.new.arena) c.free_key.ensures.gone c.release.new.arena.bytes c.release.ensures.recounts

@@ -1,5 +1,5 @@
 use Rattle.reg_tree.proofs.Invariant.KeyOfTree.{key_there, list_values, list_reads}
-use Rattle.reg_tree.proofs.ValueChange.TreeAfterValueChange.{key_mid, delete_changed}
+use Rattle.reg_tree.proofs.ValueChange.TreeAfterValueChange.{key_mid, delete_changed, delete_lengths}
 use Rattle.reg_tree.proofs.KeyAnswers.RefinementOfValues.{found_none, some_named, absent_none, absent_some}
 use Rattle.reg_tree.proofs.values.delete.Goals as goal
 
@@ -28,3 +28,7 @@ returns-clause-ok c =
 
 pub returns-clause-absent : goal.returns-clause-absent
 returns-clause-absent c = λ t. absent_some _ _ t _ _ c.values_list-old.ensures c.args.name.now c.in-Some.field-0 c.in-Some.ensures
+
+pub returns-clause-lengths : goal.returns-clause-lengths
+returns-clause-lengths c =
+    λ t. delete_lengths _ _ _ _ _ _ c.args.name.now c.args.moment c.remove-list.result.count c.remove-list.result.offset t c.values_list-old.ensures c.remove-list.ensures c.note_values.ensures

@@ -1,5 +1,5 @@
 use Rattle.reg_tree.proofs.Invariant.KeyOfTree.{key_there, list_values, list_reads}
-use Rattle.reg_tree.proofs.ValueChange.TreeAfterValueChange.{key_mid, set_changed}
+use Rattle.reg_tree.proofs.ValueChange.TreeAfterValueChange.{key_mid, set_changed, set_lengths}
 use Rattle.reg_tree.proofs.KeyAnswers.RefinementOfValues.{other_fault, no_fault}
 use Rattle.reg_tree.proofs.values.set.Goals as goal
 
@@ -23,3 +23,7 @@ returns-clause-ok c =
 
 pub returns-clause-limit : goal.returns-clause-limit
 returns-clause-limit c = λ t. no_fault _ _ t _ _ c.values_list-old.ensures c.args.name.now (c.is_full.ensures.room c.if-is_full.false)
+
+pub returns-clause-lengths : goal.returns-clause-lengths
+returns-clause-lengths c =
+    λ t. set_lengths _ _ _ _ _ _ c.args.name.now c.args.kind c.args.bytes.now c.args.moment c.in-Ok.list.count c.in-Ok.list.offset t c.values_list-old.ensures c.in-Ok.ensures.ok c.note_values.ensures

@@ -1,5 +1,6 @@
 use Rattle.reg_tree.proofs.DeleteKey.DeleteKeepsNodes.{deleted_holds, deleted_tree, deleted_nodes, children_seen, kept_seen}
 use Rattle.reg_tree.proofs.Invariant.NodeLemmas.{there_at}
+use Rattle.reg_tree.proofs.Invariant.LengthsSeen.{lengths_kept}
 use Rattle.reg_tree.proofs.tree.Tree.delete_key.Goals as goal
 
 pub delete-requires : goal.delete-requires
@@ -19,3 +20,6 @@ returns-clause-children c = children_seen _ _ c.self.invariant _ c.self.view_is 
 
 pub returns-clause-kept : goal.returns-clause-kept
 returns-clause-kept c = kept_seen _ _ c.self.invariant _ c.self.view_is c.delete.result c.args.node c.delete.ensures.kept
+
+pub returns-clause-lengths : goal.returns-clause-lengths
+returns-clause-lengths c = lengths_kept _ _ c.self.invariant _ c.self.view_is c.delete.new.arena c.delete.result c.args.node c.delete.ensures.lengths c.requires

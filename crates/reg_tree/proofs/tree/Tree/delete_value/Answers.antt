@@ -4,6 +4,7 @@ use Rattle.reg_heap.specs.Edits.{values_at}
 use Rattle.reg_heap.specs.Members.{value_named}
 use Rattle.reg_tree.specs.declared.fault.TreeFault.TheVariants.{NotFound}
 use Rattle.reg_tree.proofs.Invariant.NodeLemmas.{here_at, there_at, of_tree, holds_then, changed_ok, changed_nodes}
+use Rattle.reg_tree.proofs.Invariant.LengthsSeen.{lengths_kept}
 use Rattle.reg_tree.proofs.tree.Tree.delete_value.Goals as goal
 
 pub delete-requires : goal.delete-requires
@@ -22,3 +23,6 @@ pub returns-clause-absent : goal.returns-clause-absent
 returns-clause-absent c = λ p at.
     of_tree _ _ c.self.invariant _ c.self.view_is (λ (t : Tree). (c.delete.result ≡ Err NotFound) ↔ (value_named c.args.name.now (values_at t p) ≡ None))
     (c.delete.ensures.absent (here_at _ _ c.self.invariant _ c.self.view_is c.args.node p at))
+
+pub returns-clause-lengths : goal.returns-clause-lengths
+returns-clause-lengths c = lengths_kept _ _ c.self.invariant _ c.self.view_is c.delete.new.arena c.delete.result c.args.node c.delete.ensures.lengths c.requires

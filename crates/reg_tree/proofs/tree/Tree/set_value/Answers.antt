@@ -5,6 +5,7 @@ use Rattle.reg_heap.specs.Edits.{values_at}
 use Rattle.reg_heap.specs.Members.{value_named}
 use Rattle.reg_tree.specs.declared.fault.TreeFault.TheVariants.{Limit}
 use Rattle.reg_tree.proofs.Invariant.NodeLemmas.{here_at, there_at, of_tree, holds_then, changed_ok, changed_nodes}
+use Rattle.reg_tree.proofs.Invariant.LengthsSeen.{lengths_changed}
 use Rattle.reg_tree.proofs.tree.Tree.set_value.Goals as goal
 
 pub set-requires-clause-here : goal.set-requires-clause-here
@@ -23,3 +24,6 @@ pub returns-clause-limit : goal.returns-clause-limit
 returns-clause-limit c = λ p at.
     of_tree _ _ c.self.invariant _ c.self.view_is (λ (t : Tree). (c.set.result ≡ Err Limit) ↔ ((VALUES_LIMIT ≤ length (values_at t p)) × (value_named c.args.name.now (values_at t p) ≡ None)))
     (c.set.ensures.limit (here_at _ _ c.self.invariant _ c.self.view_is c.args.node p at))
+
+pub returns-clause-lengths : goal.returns-clause-lengths
+returns-clause-lengths c = lengths_changed _ _ c.self.invariant _ c.self.view_is _ c.set.result c.args.node _ c.set.ensures.lengths

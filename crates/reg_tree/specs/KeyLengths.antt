@@ -1,0 +1,44 @@
+-- The largest lengths that key nodes note (Suhanov, Windows registry file format specification, "Key node").
+use Rattle.std.specs.Prelude.{◌≡◌, ◌≢◌, ℕ, ◌*◌, max, Option, option_map}
+use Rattle.reg_heap.specs.Heaps.{Heap}
+use Rattle.reg_heap.specs.Paths.{Path}
+use Rattle.reg_arena.specs.Arena.{heap_of}
+use Rattle.reg_records.specs.KeyNodes.{KeyRecord, key_at}
+use Rattle.reg_tree.specs.declared.node.Node.{Node}
+use Rattle.reg_tree.specs.TreeKeys.{Keys, IsAt}
+
+-- the largest lengths of a key's subkeys' names and classes, and of its values' names and data
+pub record Lengths : Type 0 where
+  pub subkey_name : ℕ
+  pub subkey_class : ℕ
+  pub value_name : ℕ
+  pub value_data : ℕ
+
+abbrev pub lengths_of : KeyRecord → Lengths
+lengths_of key = record {
+  subkey_name = key.fields.largest_subkey_name;
+  subkey_class = key.fields.largest_subkey_class;
+  value_name = key.fields.largest_value_name;
+  value_data = key.fields.largest_value_data;
+}
+
+-- those of the key whose key node stands at an offset
+abbrev pub lengths_at : Heap → ℕ → Option Lengths
+lengths_at heap offset = option_map lengths_of (key_at heap offset)
+
+-- the larger of what is noted and what a value has: a name of so many characters, which count two each, and so many bytes of data
+abbrev pub with_value_lengths : ℕ → ℕ → Lengths → Lengths
+with_value_lengths name size lengths =
+    record lengths { value_name = max lengths.value_name (2 * name); value_data = max lengths.value_data size }
+
+-- the key at a path has its largest lengths changed so, and each other key has those that it had
+pub record ChangesLengths (old new : Keys) (path : Path) (change : Lengths → Lengths) : Type 0 where
+  pub here : (node : Node) → IsAt old path node →
+      lengths_at (heap_of new.bins) node.offset ≡ option_map change (lengths_at (heap_of old.bins) node.offset)
+  pub others : (other : Path) (node : Node) → other ≢ path → IsAt old other node →
+      lengths_at (heap_of new.bins) node.offset ≡ lengths_at (heap_of old.bins) node.offset
+
+-- each key that is still there has the largest lengths that it had
+abbrev pub KeepsLengths : Keys → Keys → Type 0
+KeepsLengths old new = (path : Path) (node : Node) → IsAt old path node → IsAt new path node →
+    lengths_at (heap_of new.bins) node.offset ≡ lengths_at (heap_of old.bins) node.offset
