@@ -29,7 +29,6 @@ use Rattle.reg_shape.proofs.Refinement.RefinementAfterGraft.{grafted-name, tree-
 use Rattle.reg_shape.proofs.Lookup.LookupAfterGraft.{offsets-unhung}
 use Rattle.reg_shape.proofs.Refinement.RefinementAfterEdit.{same_path, name-is}
 use Rattle.reg_index.specs.Subkeys.{IsSingle}
-use Rattle.reg_index.proofs.RefinementOfSubkeys.{index_for}
 use Rattle.std.proofs.lemmas.Option.{none-some, same_Some}
 use Rattle.reg_shape.specs.Internal.Exchanges.{is_named, found_in}
 use Rattle.reg_shape.specs.Internal.Grafts.{IsLeafAt}
@@ -240,5 +239,5 @@ module _ (old : List ℕ) (key : ℕ) (t : IsHere old key) (childless : (branch 
           pub lengths-stay : LengthsStay h h5 t.root
           unfolding holds-now
           lengths-stay =
-              lengths_stay h h5 t.root p keys was came was-is (grafted-name h h5 t.root p keys was came first [] [] [] was-is grafts-here w) w.offset w.stands holds-now.shape.offset holds-now.shape.stands below-same
+              lengths_stay h h5 t.root p keys was came was-is (grafted-name h h5 t.root p keys was came ring [] [] was-is grafts-here w) w.offset w.stands holds-now.shape.offset holds-now.shape.stands below-same
               (ap (λ n. record (lengths_of was.node.key) { subkey_name = n }) (raised-none was.node.key.fields.largest_subkey_name))

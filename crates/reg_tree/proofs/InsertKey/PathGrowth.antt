@@ -234,8 +234,8 @@ module _ (bytes0 : List ℕ) (from : TreeNode) (names0 : List (List ℕ)) (spare
 
       node_is : (r : KeyRecord) × (key_at (cell_at bytes) node.offset ≡ Some r)
       node_is = (
-        (keyed.branch (cell_at bytes) g.root g.keys g.first [] spare g.shape g.path node.offset g.at).node.key,
-        keyed.key_is (cell_at bytes) g.root g.keys g.first [] spare g.shape g.path node.offset g.at,
+        (keyed.branch (cell_at bytes) g.root g.keys g.ring spare g.shape g.path node.offset g.at).node.key,
+        keyed.key_is (cell_at bytes) g.root g.keys g.ring spare g.shape g.path node.offset g.at,
       )
 
       tree_then : with_keys (tree_of k grows.now) (child_path g.path name) (path_of behind) moment ≡ with_keys (tree_of (cell_at bytes) g.keys) g.path (path_of rest) moment

@@ -112,14 +112,14 @@ module _ (old mid new : List ℕ) (key : ℕ) (t : IsHere old key) (count list n
   }
 
   same_name_here : name_of after.key ≡ name_of was.node.key
-  same_name_here = grafted-name h j t.root t.path keys was is first [] [] [] (branch_is old key t) grafts t.holds.shape
+  same_name_here = grafted-name h j t.root t.path keys was is ring [] [] (branch_is old key t) grafts t.holds.shape
 
   -- the largest lengths that the key notes
   pub lengths_changed : LengthsChange h j t.root t.path (with_value_lengths name size)
   lengths_changed =
       lengths_change h j t.root t.path keys was is (branch_is old key t) same_name_here t.holds.shape.offset t.holds.shape.stands shape.offset shape.stands
       (λ y r o m n e f. ap (λ (z : ℕ × Node). z.1) (same_Some _ _ (sym f ∙ e))) (with_value_lengths name size) refl
-      (λ q o at. offsets-same h j t.root t.path keys was is first [] [] [] (branch_is old key t) grafts t.holds.shape refl q ∙ at)
+      (λ q o at. offsets-same h j t.root t.path keys was is ring [] [] (branch_is old key t) grafts t.holds.shape refl q ∙ at)
 
   pub lengths_kept : name ≡ 0 → size ≡ 0 → LengthsStay h j t.root
   lengths_kept a b =
