@@ -76,7 +76,8 @@ pub record AreWrittenValues (heap : Heap) (node : Node) : Type 0 where
   pub longest_name : AllByRecursion (λ (m : Member). 2 * length m.name ≤ node.key.fields.largest_value_name) node.values
   pub largest : AllByRecursion (λ (m : Member). length m.bytes ≤ node.key.fields.largest_value_data) node.values
 
--- a key node: marks without 0x67 beside 0x20 and the root's 0x04, a key's name, as many subkeys as its lists have
+-- a key node: marks without 0x67 beside 0x20 and the root's 0x04, a key's name, as many subkeys as its lists have; the upper 16
+-- bits of the field of the largest subkey name length are 0
 pub record IsWrittenKey (heap : Heap) (root offset : ℕ) (node : Node) : Type 0 where
   pub plain : IsPlainKey (held heap offset)
   pub flags : bit_and node.key.fields.flags 103 ≡ (if offset == root then 36 else 32)
@@ -87,6 +88,7 @@ pub record IsWrittenKey (heap : Heap) (root offset : ℕ) (node : Node) : Type 0
   pub subkeys : node.key.fields.subkeys ≡ length (entries_of node.index)
   pub few : node.key.fields.subkeys ≤ SUBKEYS_LIMIT
   pub none : node.key.fields.subkeys ≡ 0 → node.key.fields.subkeys_list ≡ NONE
+  pub upper : node.key.fields.largest_subkey_name < 65536
   pub index : IsWrittenIndex node.index
 
 -- what a key says of its subkeys, and they of it: the entries name them, in the strict order of their folded names and with their

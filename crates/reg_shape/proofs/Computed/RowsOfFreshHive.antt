@@ -67,6 +67,7 @@ root-written = record {
     subkeys = refl;
     few = omega arith;
     none = λ _. refl;
+    upper = omega arith;
     index = tt;
   };
   below = [];

@@ -144,6 +144,7 @@ seen-kept h k root offset node w s =
         subkeys = i.subkeys;
         few = i.few;
         none = i.none;
+        upper = i.upper;
         index = i.index;
       };
     }

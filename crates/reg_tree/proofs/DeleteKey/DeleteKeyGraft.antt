@@ -207,7 +207,7 @@ module _ (h0 : Heap) (root : ℕ) (keys : Branch Node) (first : ℕ) (w : IsShap
         subkeys-now = subkeys-elsewhere h1 h5 un.count un.list entries' un.subkeys list-stays entries-stay
 
         seen-now : IsSeen h5 root was.offset after
-        seen-now = sees-reindexed h0 h5 root was.offset m stands.0 l un.count un.list 0 moment entries' key-now plain-now class-calm values-calm subkeys-now
+        seen-now = sees-reindexed h0 h5 root was.offset m stands.0 l un.count un.list 0 moment entries' key-now plain-now class-calm values-calm subkeys-now (omega arith)
 
         -- the counts
 

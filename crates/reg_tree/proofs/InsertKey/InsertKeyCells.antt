@@ -240,7 +240,7 @@ module _ (h0 h1 h2 h3 h4 : Heap) (root : ℕ) (keys : Branch Node) (ring : List 
           now = reindexed h0 h4 root P node seen looked count1 list1 (length name) moment entries1 key-now plain-now calm-class calm-values subkeys4
 
           pub now-is : IsSeen h4 root P now
-          now-is = sees-reindexed h0 h4 root P node seen looked count1 list1 (length name) moment entries1 key-now plain-now calm-class calm-values subkeys4
+          now-is = sees-reindexed h0 h4 root P node seen looked count1 list1 (length name) moment entries1 key-now plain-now calm-class calm-values subkeys4 (omega (arith, short))
 
           pub raised-is : raised above.fields.largest_subkey_name (2 * length name) % 65536 ≡ max (above.fields.largest_subkey_name % 65536) (2 * length name)
           raised-is = raised-low above.fields.largest_subkey_name (2 * length name) (omega (arith, short))

@@ -50,6 +50,7 @@ module _ (h : Heap) (key parent security moment : ℕ) (name : List ℕ) where
       subkeys = refl;
       few = omega arith;
       none = λ _. refl;
+      upper = omega arith;
       index = tt;
     };
   }

@@ -1,5 +1,5 @@
 -- A key whose subkeys were changed and noted: it is seen as it is then. And a key's subkeys, from the keys right below it.
-use Rattle.std.proofs.Common.{◌≡◌, ℕ, ◌+◌, Some, IsSome, List, [], ◌∷◌, ◌++◌, map, length, take, drop, refl, sym, ap, ◌∙◌, subst, arith}
+use Rattle.std.proofs.Common.{◌≡◌, ℕ, ◌+◌, ◌*◌, ◌<◌, Some, IsSome, List, [], ◌∷◌, ◌++◌, map, length, take, drop, refl, sym, ap, ◌∙◌, subst, arith}
 use Rattle.std.specs.List.{AllByRecursion}
 use Rattle.std.specs.Option.{option_map, option_and_then}
 use Rattle.reg_names.specs.Names.{folded, hash}
@@ -79,8 +79,8 @@ module _ (h k : Heap) (root offset : ℕ) (node : Node) (seen : IsSeen h root of
   number : count ≡ length (entries_of subkeys.index)
   number = sym subkeys.number ∙ ap length (sym subkeys.entries_are)
 
-  pub sees-reindexed : IsSeen k root offset reindexed
-  sees-reindexed =
+  pub sees-reindexed : 2 * name < 65536 → IsSeen k root offset reindexed
+  sees-reindexed short =
       let w = seen.written in
       let few = few-subkeys k count list entries subkeys in
       let key = node.key in
@@ -102,6 +102,7 @@ module _ (h k : Heap) (root offset : ℕ) (node : Node) (seen : IsSeen h root of
           subkeys = number;
           few = omega (arith, few);
           none = subkeys.unlisted;
+          upper = (let u = w.upper in omega (arith, u, short));
           index = subkeys.written;
         };
       }

@@ -77,6 +77,7 @@ root-seen h root r = record {
     subkeys = r.fields.subkeys;
     few = omega (arith, r.fields.subkeys);
     none = λ _. r.fields.subkeys_list;
+    upper = omega (arith, r.fields.largest);
     index = tt;
   };
 }
@@ -208,7 +209,7 @@ made e b i k root security node_size ring_size n m fields ring name descriptor m
         key_is = key_now;
         plain = nk_plain;
         name = valid;
-        fields = record { flags = refl; parent = refl; subkeys = refl; subkeys_list = refl; class = refl; class_length = refl; values = refl; values_list = refl };
+        fields = record { flags = refl; parent = refl; subkeys = refl; subkeys_list = refl; class = refl; class_length = refl; values = refl; values_list = refl; largest = refl };
         only = record {
           security_is = security_now;
           plain = subst IsPlainSecurity (sym (ap (λ (c : Option (List ℕ)). unwrap_or c []) at_now)) sk_plain;

@@ -145,6 +145,7 @@ module _ (h i j : Heap) (root offset : ℕ) (node : Node) (seen : IsSeen h root 
           subkeys = w.subkeys;
           few = w.few;
           none = w.none;
+          upper = w.upper;
           index = w.index;
         };
       }

@@ -20,7 +20,7 @@ pub record AreCarved (old new : Bins) (first second first_size second_size : ℕ
   pub others : (offset : ℕ) → offset ≢ first → offset ≢ second → heap_of new offset ≡ heap_of old offset
 
 -- the fixed part of a new root's key node: no delete, hive entry, a name of one byte a character; no parent, no subkeys, no
--- class, no values
+-- class, no values, no longest name
 pub record IsRootFields (fields : KeyFields) : Type 0 where
   pub flags : fields.flags ≡ 44
   pub parent : fields.parent ≡ NONE
@@ -30,6 +30,7 @@ pub record IsRootFields (fields : KeyFields) : Type 0 where
   pub class_length : fields.class_length ≡ 0
   pub values : fields.values ≡ 0
   pub values_list : fields.values_list ≡ NONE
+  pub largest : fields.largest_subkey_name ≡ 0
 
 -- the one key security of a hive: a ring of itself, which one key uses
 pub record IsOnlySecurity (h : Heap) (offset : ℕ) (security : KeySecurityRecord) : Type 0 where
