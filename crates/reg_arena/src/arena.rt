@@ -94,7 +94,7 @@ impl Arena {
         ensures ok { IfOk result (λ cells. cells_of self.now.bytes ≡ Some cells.items) }
         ensures fault { IfErr result (λ fault. fault ≡ ArenaFault.Memory) }
     {
-        list_cells(&self.bins, alloc)
+        list_cells(alloc, &self.bins)
     }
 
     /// What the allocated cell at the offset `cell` holds: the bytes behind its size field.

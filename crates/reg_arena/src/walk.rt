@@ -42,7 +42,7 @@ fn list_bin(bins: &[u8], from: usize, stop: usize, cells: &mut Vec<Cell>) -> Res
 }
 
 // The cells of all bins.
-pub fn list_cells(bins: &[u8], alloc: Global) -> Result<Vec<Cell>, ArenaFault>
+pub fn list_cells(alloc: Global, bins: &[u8]) -> Result<Vec<Cell>, ArenaFault>
     requires bins { IsRowOfBins bins.now }
     requires small { length bins.now ≤ BINS_LIMIT }
     ensures ok { IfOk result (λ cells. cells_of bins.now ≡ Some cells.items) }

@@ -10,8 +10,8 @@ use std::alloc::Global;
 
 /// Two new cells of zeros, side by side.
 pub fn carve_two(
-    arena: &mut Arena,
     alloc: Global,
+    arena: &mut Arena,
     first: u32,
     second: u32,
 ) -> Result<(u32, u32), ArenaFault>

@@ -196,8 +196,8 @@ fn sizes_for(alloc: Global, planned: Option<u32>, path: &[u8]) -> Result<Vec<u32
 
 /// Carves the cells that keys of a path's names take below a key.
 fn carve_for(
-    arena: &mut Arena,
     alloc: Global,
+    arena: &mut Arena,
     parent: u32,
     path: &[u8],
 ) -> Result<Vec<u32>, TreeFault>
@@ -227,8 +227,8 @@ fn carve_for(
 /// carved before the first key is made, so that only that can fail for want of room: `Limit` by `is_limited`, `Full`, `Memory`.
 /// After a fault the arena is as before.
 pub fn create(
-    arena: &mut Arena,
     alloc: Global,
+    arena: &mut Arena,
     from: Node,
     path: &[u8],
     moment: u64,
@@ -262,7 +262,7 @@ pub fn create(
     if pass_limits(arena, parent, rest) {
         return Err(TreeFault::Limit);
     }
-    let cells = match carve_for(arena, alloc, parent.offset, rest) {
+    let cells = match carve_for(alloc, arena, parent.offset, rest) {
         Ok(cells) => cells,
         Err(fault) => return Err(fault),
     };

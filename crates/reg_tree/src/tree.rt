@@ -7,7 +7,7 @@ ghost use Rattle.reg_heap.specs.declared.limits.TheConstants.{BINS_LIMIT, DATA_L
 ghost use Rattle.reg_heap.specs.Paths.{Path, path_cmp, Rec, Member, children_of};
 ghost use Rattle.reg_heap.specs.Members.{value_named};
 ghost use Rattle.reg_heap.specs.Edits.{edited, with_value, without_value, values_at, folded_path, are_too_many, without_key, IsKept};
-ghost use Rattle.reg_arena.specs.Arena.{heap_of};
+ghost use Rattle.reg_arena.specs.Arena.{IsSound, heap_of};
 ghost use Rattle.reg_arena.specs.NewBin.{IsBinSize};
 ghost use Rattle.reg_arena.specs.NewCells.{cell_size as cell_size_of};
 ghost use Rattle.reg_values.specs.ValueLists.{Makes, Tells};
@@ -69,7 +69,7 @@ impl Tree {
         let mut arena = Arena::new(alloc);
         let node_size = cell_size(76 + root_name.len() as u32);
         let ring_size = cell_size(20 + descriptor.len() as u32);
-        let (root, security) = match carve_two(&mut arena, alloc, node_size, ring_size) {
+        let (root, security) = match carve_two(alloc, &mut arena, node_size, ring_size) {
             Ok(cells) => cells,
             Err(ArenaFault::Full) => unreachable!(),
             Err(ArenaFault::Memory) => return Err(TreeFault::Memory),
@@ -80,11 +80,15 @@ impl Tree {
     }
 
     /// The bins with their cells, to be read byte by byte. They are whole, and spell the tree: each allocated cell is met from the
-    /// root exactly as often as the records say, and the keys that are read there are those of the map.
+    /// root exactly as often as the records say, and the keys that are read there are those of the map. The free list has precisely
+    /// the free cells (clause `sound`).
     pub fn arena(&self) -> &Arena
         ensures bins { result.now ≡ self.now.bins }
         ensures whole { IsWholeTree self.now.bins.bytes self.now.root self.now.tree }
+        ensures sound { IsSound self.now.bins.bytes self.now.bins.heads }
     {
+        // Every arena is sound, as this call's contract says.
+        prove!(self.arena.bins_size() % 4096 == 0);
         &self.arena
     }
 
@@ -204,7 +208,7 @@ impl Tree {
         ensures empty { (p : Path) → IsAt self.now p node →
             OnErr result ((member : Member) → slice_get (values_at self.now.tree p) index ≡ Some member → member.bytes ≢ []) }
     {
-        values::bytes(&self.arena, alloc, node.offset, index)
+        values::bytes(alloc, &self.arena, node.offset, index)
     }
 
     /// Sets a value of a key, and the key's time. A name that is there keeps its place and its first spelling; a new one goes to
@@ -237,8 +241,8 @@ impl Tree {
         ensures grows { OnOk result (length self.new.bins.bytes ≤ length self.old.bins.bytes + GROWTH_BOUND) }
     {
         values::set(
-            &mut self.arena,
             alloc,
+            &mut self.arena,
             node.offset,
             name,
             kind,
@@ -291,7 +295,7 @@ impl Tree {
         ensures err { OnErr result (self.new ≡ self.old) }
         ensures grows { OnOk result (length self.new.bins.bytes ≤ length self.old.bins.bytes + GROWTH_BOUND) }
     {
-        make::create(&mut self.arena, alloc, from, path, moment)
+        make::create(alloc, &mut self.arena, from, path, moment)
     }
 
     /// Whether `create` of a path from a key is refused for `Limit`.

@@ -52,7 +52,7 @@ pub fn find(arena: &Arena, key: u32, name: &[u8]) -> Option<ValueFound>
 
 /// A copy of the data of a key's value at an index, counted from 0. Its one fault is that memory was refused, and never of a
 /// value without data.
-pub fn bytes(arena: &Arena, alloc: Global, key: u32, index: u32) -> Result<Vec<u8>, AllocError>
+pub fn bytes(alloc: Global, arena: &Arena, key: u32, index: u32) -> Result<Vec<u8>, AllocError>
     requires { (t : IsHere arena.now.bytes key) × (index < length (values_at (tree_in arena.now.bytes t.root) t.path)) }
     ensures told { (t : IsHere arena.now.bytes key) →
         IfOk result (λ bytes. (member : Member)
@@ -62,7 +62,7 @@ pub fn bytes(arena: &Arena, alloc: Global, key: u32, index: u32) -> Result<Vec<u
         OnErr result ((member : Member) → slice_get (values_at (tree_in arena.now.bytes t.root) t.path) index ≡ Some member →
         member.bytes ≢ []) }
 {
-    reg_values::bytes_of(arena, alloc, values_list(arena, key), index)
+    reg_values::bytes_of(alloc, arena, values_list(arena, key), index)
 }
 
 /// A key's value at an index, counted from 0, without its data; `None` where there are not so many.
@@ -100,8 +100,8 @@ fn is_full(arena: &Arena, key: u32, list: ValuesList, name: &[u8]) -> bool
 /// and the time. `Limit` where there are 16,384 values and none of that name; `Full` and `Memory` as `reg_values::set` has
 /// them. After a fault the arena is as before.
 pub fn set(
-    arena: &mut Arena,
     alloc: Global,
+    arena: &mut Arena,
     key: u32,
     name: &[u8],
     kind: u32,
@@ -127,7 +127,7 @@ pub fn set(
     if is_full(arena, key, old, name) {
         return Err(TreeFault::Limit);
     }
-    let list = match reg_values::set(arena, alloc, old, name, kind, bytes) {
+    let list = match reg_values::set(alloc, arena, old, name, kind, bytes) {
         Ok(list) => list,
         Err(fault) => return Err(TreeFault::from(fault)),
     };

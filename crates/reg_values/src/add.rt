@@ -27,7 +27,7 @@ use reg_records::{ValueFields, put_offset, put_vk};
 use std::alloc::Global;
 
 /// New cells of these sizes, side by side.
-pub(crate) fn carve(arena: &mut Arena, alloc: Global, sizes: &[u32]) -> Result<Vec<u32>, ArenaFault>
+pub(crate) fn carve(alloc: Global, arena: &mut Arena, sizes: &[u32]) -> Result<Vec<u32>, ArenaFault>
     requires sizes { AreSizes sizes.now }
     requires total { total_of sizes.now ≤ 1306592 }
     ensures ok { IfOk result (λ cells. AreNew (heap_of arena.old) (heap_of arena.new) cells.items sizes.now) }
@@ -104,8 +104,8 @@ fn move_list(arena: &mut Arena, list: ValuesList, fresh: u32, cell: u32)
 
 /// Adds a value of a new name at the end.
 pub(crate) fn add(
-    arena: &mut Arena,
     alloc: Global,
+    arena: &mut Arena,
     list: ValuesList,
     name: &[u8],
     kind: u32,
@@ -130,11 +130,11 @@ pub(crate) fn add(
         (total_of (sizes_by (heap_of arena.old) list.count list.offset (length name.now) (length bytes.now) None)) }
     ensures grows { OnOk result (length arena.new.bytes ≤ length arena.old.bytes + GROWTH_BOUND) }
 {
-    let Ok(sizes) = plan_add(arena, alloc, list, name.len(), bytes.len()) else {
+    let Ok(sizes) = plan_add(alloc, arena, list, name.len(), bytes.len()) else {
         return Err(ArenaFault::Memory);
     };
     let room = has_room(arena, list);
-    let cells = carve(arena, alloc, &sizes)?;
+    let cells = carve(alloc, arena, &sizes)?;
     let all = cells.as_slice();
     let cell = all[0];
     if room {

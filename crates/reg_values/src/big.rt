@@ -41,8 +41,8 @@ fn big_at(arena: &Arena, cell: u32) -> BigFields
 
 /// A copy of the bytes behind a big data record.
 pub(crate) fn big_bytes(
-    arena: &Arena,
     alloc: Global,
+    arena: &Arena,
     size: usize,
     cell: u32,
 ) -> Result<Vec<u8>, AllocError>
@@ -51,11 +51,11 @@ pub(crate) fn big_bytes(
     ensures { IfOk result (λ bytes. OfRead (big_data_at size cell) (heap_of arena.now) (λ all met. bytes.items ≡ all)) }
 {
     let list = big_at(arena, cell).list;
-    joined(arena, alloc, size, list)
+    joined(alloc, arena, size, list)
 }
 
 /// A copy of the bytes of the segments that a list names.
-fn joined(arena: &Arena, alloc: Global, size: usize, list: u32) -> Result<Vec<u8>, AllocError>
+fn joined(alloc: Global, arena: &Arena, size: usize, list: u32) -> Result<Vec<u8>, AllocError>
     requires size { size < 4294967296 }
     requires exists { IsSome (heap_of arena.now list) }
     requires long { 4 * segments_for_of size ≤ length (held (heap_of arena.now) list) }

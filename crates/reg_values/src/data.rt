@@ -31,8 +31,8 @@ pub(crate) struct DataFields {
 ///
 /// Its one fault is that memory was refused, and never of a value without data: for that no memory is taken.
 pub fn bytes_of(
-    arena: &Arena,
     alloc: Global,
+    arena: &Arena,
     list: ValuesList,
     index: u32,
 ) -> Result<Vec<u8>, AllocError>
@@ -44,11 +44,11 @@ pub fn bytes_of(
         (λ members met. (member : Member) → slice_get members index ≡ Some member → member.bytes ≢ [])) }
 {
     let fields = record_at(arena, cell_of(arena, list, index)).fields;
-    data_bytes(arena, alloc, fields)
+    data_bytes(alloc, arena, fields)
 }
 
 /// A copy of the data that a record tells of. Where there is none, no memory is taken.
-fn data_bytes(arena: &Arena, alloc: Global, fields: ValueFields) -> Result<Vec<u8>, AllocError>
+fn data_bytes(alloc: Global, arena: &Arena, fields: ValueFields) -> Result<Vec<u8>, AllocError>
     requires { IsSome (data_at fields (heap_of arena.now)) }
     ensures told { IfOk result (λ bytes. (all : List ℕ) → (met : List Found) → data_at fields (heap_of arena.now) ≡ Some (all, met) → bytes.items ≡ all) }
     ensures empty { OnErr result ((all : List ℕ) → (met : List Found) → data_at fields (heap_of arena.now) ≡ Some (all, met) → all ≢ []) }
@@ -62,7 +62,7 @@ fn data_bytes(arena: &Arena, alloc: Global, fields: ValueFields) -> Result<Vec<u
     }
     let size = fields.size as usize;
     if size > SEGMENT_SIZE {
-        return big_bytes(arena, alloc, size, fields.offset);
+        return big_bytes(alloc, arena, size, fields.offset);
     }
     Vec::from_slice(alloc, &arena.content(fields.offset)[..size])
 }

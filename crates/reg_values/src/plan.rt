@@ -93,8 +93,8 @@ fn plan_list(sizes: &mut Vec<u32>, arena: &Arena, list: ValuesList) -> Result<()
 /// The sizes of the cells of one value more.
 #[tactic(auto, using(crate::proofs::ValueChanges::PlannedSizes::added_sizes))]
 pub(crate) fn plan_add(
-    arena: &Arena,
     alloc: Global,
+    arena: &Arena,
     list: ValuesList,
     name: usize,
     size: usize,
@@ -114,8 +114,8 @@ pub(crate) fn plan_add(
 
 /// The sizes of the cells of other data for a value.
 pub(crate) fn plan_replace(
-    arena: &Arena,
     alloc: Global,
+    arena: &Arena,
     old: ValueFields,
     size: usize,
 ) -> Result<Vec<u32>, AllocError>
@@ -136,8 +136,8 @@ pub(crate) fn plan_replace(
 ///
 /// Its one fault is that memory was refused.
 pub fn plan_set(
-    arena: &Arena,
     alloc: Global,
+    arena: &Arena,
     list: ValuesList,
     name: &[u8],
     size: u32,
@@ -150,8 +150,8 @@ pub fn plan_set(
     match find(arena, list, name) {
         Some(index) => {
             let old = record_at(arena, cell_of(arena, list, index)).fields;
-            plan_replace(arena, alloc, old, size as usize)
+            plan_replace(alloc, arena, old, size as usize)
         }
-        None => plan_add(arena, alloc, list, name.len(), size as usize),
+        None => plan_add(alloc, arena, list, name.len(), size as usize),
     }
 }

@@ -61,8 +61,8 @@ fn exchange(arena: &mut Arena, cell: u32, cells: &[u32], old: ValueFields, kind:
 
 /// Gives the value whose record is in a cell another type and other data, and frees what it had.
 pub(crate) fn replace(
-    arena: &mut Arena,
     alloc: Global,
+    arena: &mut Arena,
     cell: u32,
     kind: u32,
     bytes: &[u8],
@@ -91,10 +91,10 @@ pub(crate) fn replace(
         rewrite(arena, cell, old, kind, bytes);
         return Ok(());
     }
-    let Ok(sizes) = plan_replace(arena, alloc, old, bytes.len()) else {
+    let Ok(sizes) = plan_replace(alloc, arena, old, bytes.len()) else {
         return Err(ArenaFault::Memory);
     };
-    let cells = carve(arena, alloc, &sizes)?;
+    let cells = carve(alloc, arena, &sizes)?;
     exchange(arena, cell, &cells, old, kind, bytes);
     Ok(())
 }

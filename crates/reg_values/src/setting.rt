@@ -32,8 +32,8 @@ use std::alloc::Global;
 /// bins. [`ArenaFault::Memory`]: a growth was refused. After either the arena is as before. The bins grow by at most
 /// 1,310,720 bytes.
 pub fn set(
-    arena: &mut Arena,
     alloc: Global,
+    arena: &mut Arena,
     list: ValuesList,
     name: &[u8],
     kind: u32,
@@ -58,9 +58,9 @@ pub fn set(
     ensures grows { OnOk result (length arena.new.bytes ≤ length arena.old.bytes + GROWTH_BOUND) }
 {
     let Some(index) = find(arena, list, name) else {
-        return add(arena, alloc, list, name, kind, bytes);
+        return add(alloc, arena, list, name, kind, bytes);
     };
     let cell = cell_of(arena, list, index);
-    replace(arena, alloc, cell, kind, bytes)?;
+    replace(alloc, arena, cell, kind, bytes)?;
     Ok(list)
 }
