@@ -1,5 +1,6 @@
 pub mod SplicedNumbers
 pub mod RecordWriting
+pub mod RoomInBins
 pub mod KeySecurityCodec
 pub mod KeyValueCodec
 pub mod BigDataCodec

@@ -2,13 +2,13 @@
 //!
 //! Suhanov, Windows registry file format specification, section "Key security".
 
-ghost use Rattle.std.specs.Prelude.{◌≡◌, ◌+◌, ◌<◌, ◌^◌, length, MatchResult, IsSome};
+ghost use Rattle.std.specs.Prelude.{◌≡◌, ◌+◌, length, MatchResult, IsSome};
 ghost use Rattle.byteorder.specs.Endian.{little_bytes};
 ghost use Rattle.reg_arena.specs.Arena.{heap_of};
 ghost use Rattle.reg_records.specs.RecordCells.{held, HasRoom, WritesRecord, WritesPart, Rereads};
 ghost use Rattle.reg_records.specs.KeySecurities.{FitSecurity, sk_of, sk_head, sk_bytes, security_at, IsPlainSecurity};
 
-use crate::cells::{write_part, write_record};
+use crate::cells::{room_is_small, write_part, write_record};
 use crate::{RecordFault, is_signed, word_at, word_bytes};
 use reg_arena::Arena;
 
@@ -84,11 +84,11 @@ fn head(fields: &SecurityFields, size: u32) -> [u8; HEAD]
 /// The reserved bytes are written as 0.
 pub fn put_sk(arena: &mut Arena, cell: u32, fields: &SecurityFields, descriptor: &[u8])
     requires room { HasRoom (heap_of arena.old) cell (20 + length descriptor.now) }
-    requires size { length descriptor.now < 2 ^ 32 }
     ensures written { WritesRecord arena.old arena.new cell (20 + length descriptor.now) (sk_bytes fields.now descriptor.now) }
     ensures reads { security_at (heap_of arena.new) cell ≡ Some (record { fields = fields.now; descriptor = descriptor.now }) }
     ensures plain { IsPlainSecurity (held (heap_of arena.new) cell) }
 {
+    room_is_small(arena);
     let head = head(fields, descriptor.len() as u32);
     write_record(arena, cell, &head, descriptor);
 }

@@ -1,3 +1,4 @@
+use Rattle.std.proofs.Common.{arith, ◌+◌, ◌*◌}
 use Rattle.reg_records.proofs.OffsetRowCodec.{put-here, put-others}
 use Rattle.reg_records.proofs.rows.put_offset.Goals as goal
 
@@ -9,3 +10,6 @@ returns-clause-here c = put-here _ _ c.args.cell c.args.index c.args.offset c.re
 
 pub returns-clause-others : goal.returns-clause-others
 returns-clause-others c = put-others _ _ c.args.cell c.args.index c.args.offset c.requires.room (returns-clause-written c)
+
+pub overflow_mul-index : goal.overflow_mul-index
+overflow_mul-index c = (let l = c.room_is_small.ensures c.args.cell (4 * c.args.index + 4) c.requires.room in omega (arith, l))
