@@ -37,14 +37,14 @@ copy-requires-clause-within c =
     let l = (list-open (heap_of c.args.arena.now) c.args.list.count c.args.list.offset r.result r.met r.reads (omega (arith, n))).long in
     omega (arith, l)
 
-pub put_offset-requires-2-clause-room : goal.put_offset-requires-2-clause-room
-put_offset-requires-2-clause-room c =
+pub put_offset-requires-2 : goal.put_offset-requires-2
+put_offset-requires-2 c =
     let h = heap_of c.args.arena.now in
     let k = heap_of c.copy.new.self in
     let r = c.requires.owns in
     let n = c.if-list-eq0.false in
     let f = copy-fills h k c.args.list.count c.args.list.offset c.args.fresh (omega (arith, n)) r.result r.met r.reads c.requires.room c.copy.ensures.written c.copy.ensures.writes in
-    fills-room h k (c.args.fresh ∷ []) c.args.fresh _ f c.requires.room
+    record { room = fills-room h k (c.args.fresh ∷ []) c.args.fresh _ f c.requires.room }
 
 pub free-requires : goal.free-requires
 free-requires c =
