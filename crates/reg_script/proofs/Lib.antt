@@ -12,3 +12,4 @@ pub mod ScriptEnds
 pub mod OneText
 mod RowsOfLines
 mod RowsOfScripts
+mod RowsOfStops
