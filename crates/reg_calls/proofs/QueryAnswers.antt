@@ -1,5 +1,5 @@
 -- What questions are answered.
-use Rattle.std.proofs.Common.{◌≡◌, ℕ, ◌+◌, ◌<◌, ◌≤◌, true, false, not, nat_lt, nat_le, cond, is_some, List, [], ◌∷◌, ◌++◌, map, take, length, slice_get, get_or, Option, Some, None, refl}
+use Rattle.std.proofs.Common.{◌≡◌, ◌≢◌, ℕ, ◌+◌, ◌<◌, ◌≤◌, true, false, not, nat_lt, nat_le, cond, is_some, List, [], ◌∷◌, ◌++◌, map, take, length, slice_get, get_or, Option, Some, None, refl}
 use Rattle.std.proofs.Common.{sym, ap, ◌∙◌, subst, arith, inl, inr, ◌⊎◌}
 use Rattle.std.specs.Prelude.{bit_and, IsSome}
 use Rattle.std.specs.FinMap.{get, insert, empty}
@@ -142,6 +142,20 @@ module _ (n : ℕ) (store : Store) (session h : ℕ) where
   pub info-due : (g : t) → body_of s session (QueryInfo h) ≡ info_told tree g.path
   unfolding body_of
   info-due g = ap (info_told tree) (target-at store session h g)
+
+-- ---- 8 in the place of bytes
+
+-- no memory for a value's bytes, where there are some
+pub value-lacks : (member : Member) (room : ℕ) → length member.bytes ≤ room → member.bytes ≢ [] → IsTold (value_told (Some member) (Some room)) (Refused 8)
+value-lacks member room fits some = let b : nat_lt room (length member.bytes) ≡ false = grind (arith, nat_tests, fits) in rw b (inr (refl, some))
+
+-- the same of a value that is enumerated
+pub member-lacks : (member : Member) (name_room room : ℕ) → length member.name ≤ name_room → length member.bytes ≤ room → member.bytes ≢ [] →
+    IsTold (member_told (Some member) name_room (Some room)) (Refused 8)
+member-lacks member name_room room named fits some =
+    let a : nat_lt name_room (length member.name) ≡ false = grind (arith, nat_tests, named) in
+    let b : nat_lt room (length member.bytes) ≡ false = grind (arith, nat_tests, fits) in
+    rw (a, b) (inr (refl, inr some))
 
 -- what was found is the value of that name
 pub record IsFoundAs (members : List Member) (o : Option Member) (found : ValueFound) : Type 0 where

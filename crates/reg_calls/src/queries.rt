@@ -119,14 +119,14 @@ fn member_told(
             status: NOT_ENOUGH_MEMORY,
         };
     };
-    if room.is_none() {
+    let Some(_) = room else {
         return AnswerBody::Member {
             name,
             kind,
             size,
             bytes: None,
         };
-    }
+    };
     match tree.value_bytes(alloc, node, index) {
         Ok(bytes) => AnswerBody::Member {
             name,

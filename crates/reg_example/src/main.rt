@@ -9,7 +9,7 @@
 ghost use Rattle.std.specs.Prelude.{◌≡◌, IfOk, OnOk, Some};
 ghost use Rattle.reg_calls.specs.HiveView.{view_of};
 ghost use Rattle.reg_calls.specs.Views.{state, IsApplied, IsRead};
-ghost use Rattle.reg_model.specs.Causes.{change_cause};
+ghost use Rattle.reg_model.specs.Callbacks.{no_callbacks};
 ghost use Rattle.reg_model.specs.declared.call.Change.TheVariants.{SetValue};
 ghost use Rattle.reg_model.specs.declared.call.Query.TheVariants.{QueryValue};
 ghost use Rattle.reg_model.specs.declared.reply.ChangeReply.{ChangeReply};
@@ -28,9 +28,9 @@ fn set_and_ask(
     number: [u8; 4],
 ) -> Result<AnswerBody>
     ensures set { OnOk result ((reply : ChangeReply) × (reply.status ≡ 0) ×
-        IsApplied (change_cause (state (view_of hive.old)) 0 (SetValue handle name.now 4 number) 0) (view_of hive.old)
+        IsApplied no_callbacks (view_of hive.old)
         (view_of hive.new) 0 0 (SetValue handle name.now 4 number) reply) }
-    ensures asked { IfOk result (λ body. IsRead (state (view_of hive.new)) 0 (QueryValue handle name.now (Some 4)) body) }
+    ensures asked { IfOk result (λ body. IsRead no_callbacks (state (view_of hive.new)) 0 (QueryValue handle name.now (Some 4)) body) }
 {
     let set = Change::SetValue {
         handle,

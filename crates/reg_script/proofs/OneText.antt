@@ -14,7 +14,8 @@ use Rattle.reg_model.specs.declared.reply.Entry.{Entry}
 use Rattle.reg_model.specs.declared.step.Step.{Step}
 use Rattle.reg_model.specs.declared.step.Outcome.{Outcome}
 use Rattle.reg_model.specs.declared.step.Outcome.TheVariants.{Changed, Answered}
-use Rattle.reg_calls.specs.Views.{View, state, entry_of, IsApplied, IsTold, is_told}
+use Rattle.reg_calls.specs.Views.{View, state, entry_of, IsAppliedBy, IsTold, is_told}
+use Rattle.reg_model.specs.Callbacks.{no_callbacks}
 use Rattle.reg_calls.specs.Runs.{IsStep}
 use Rattle.reg_script.specs.LineWords.{lines_of}
 use Rattle.reg_script.specs.LineMeanings.{Meaning, nothing, at_moment, as_session, on_hive, asks, bad, meaning_of}
@@ -47,7 +48,7 @@ lacking : {X Y : Type 0} (reply : ChangeReply) → ((reply ≡ refusal 8) × X) 
 lacking reply (inl h) z = let e = ap (λ (r : ChangeReply). r.status) h.0 in omega (arith, e, z)
 lacking reply (inr h) z = let e = ap (λ (r : ChangeReply). r.status) h.0 in omega (arith, e, z)
 
-change_known : (cause : Option ℕ) (old new : View) (session moment : ℕ) (change : TheChange) (reply : ChangeReply) → IsApplied cause old new session moment change reply
+change_known : (cause : Option ℕ) (old new : View) (session moment : ℕ) (change : TheChange) (reply : ChangeReply) → IsAppliedBy cause old new session moment change reply
     → (cause ≡ None → reply.status ≡ 0)
     → (reply ≡ due_reply cause (state old) session change) × (new.origin ≡ old.origin) × (new.journal ≡ journal_by cause old.journal (entry_of old session moment change))
 change_known (Some status) old new session moment change reply h due = (h.0, ap (λ (v : View). v.origin) h.1, ap (λ (v : View). v.journal) h.1)
@@ -92,7 +93,7 @@ step_at stand call = record { session = stand.session; moment = stand.moment; ca
 abbrev SameAfter : Outcome → View → Outcome → View → Type 0
 SameAfter o v o' v' = (o ≡ o') × (v.origin ≡ v'.origin) × (v.journal ≡ v'.journal)
 
-call_same : (call : Call) (a b : Stand) (v w : View) (o o' : Outcome) → IsStep a.hive (step_at a call) o v → IsStep b.hive (step_at b call) o' w
+call_same : (call : Call) (a b : Stand) (v w : View) (o o' : Outcome) → IsStep no_callbacks a.hive (step_at a call) o v → IsStep no_callbacks b.hive (step_at b call) o' w
     → IsDue a.hive (step_at a call) o → IsDue b.hive (step_at b call) o' → Same a b → SameAfter o v o' w
 call_same (Change change) a b v w (Changed r) (Changed r') h k due due' s =
     let x = change_known (change_cause (state a.hive) a.session change 0) a.hive v a.session a.moment change r h due in

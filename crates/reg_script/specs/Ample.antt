@@ -1,6 +1,7 @@
 -- Scripts for which memory and space suffice (this project's own).
 use Rattle.std.specs.Prelude.{◌≡◌, ◌≢◌, ℕ, List, [], ◌∷◌, None}
 use Rattle.reg_model.specs.Causes.{change_cause, query_cause}
+use Rattle.reg_model.specs.Callbacks.{no_callbacks, change_status, query_status}
 use Rattle.reg_model.specs.declared.answer.AnswerBody.TheVariants.{Refused}
 use Rattle.reg_model.specs.declared.call.Call.{Call}
 use Rattle.reg_model.specs.declared.call.Call.TheVariants.{Change, Query}
@@ -17,8 +18,8 @@ abbrev pub IsDue : View → Step → Outcome → Type 0
 IsDue old s outcome = by s.call outcome
   where
     by : Call → Outcome → Type 0
-    by (Change change) (Changed reply) = change_cause (state old) s.session change 0 ≡ None → reply.status ≡ 0
-    by (Query query) (Answered answer) = query_cause (state old) s.session query 0 ≡ None → answer.body ≢ Refused 8
+    by (Change change) (Changed reply) = change_cause (state old) s.session change (change_status no_callbacks (state old).world s.session s.moment change) ≡ None → reply.status ≡ 0
+    by (Query query) (Answered answer) = query_cause (state old) s.session query (query_status no_callbacks (state old).world s.session query) ≡ None → answer.body ≢ Refused 8
     by (Change change) (Answered answer) = ⊥
     by (Query query) (Changed reply) = ⊥
 

@@ -1,9 +1,10 @@
 -- What a script writes (this project's own rules of the script).
-use Rattle.std.specs.Prelude.{◌≡◌, ℕ, List, [], ◌∷◌, ◌++◌, codes, replicate}
+use Rattle.std.specs.Prelude.{◌≡◌, ℕ, List, [], ◌∷◌, ◌++◌, codes, length, replicate}
 use Rattle.std.specs.FinMap.{insert, empty}
 use Rattle.reg_model.specs.declared.step.Outcome.{Outcome}
 use Rattle.reg_tree.specs.TreeKeys.{made_root}
-use Rattle.reg_calls.specs.Views.{View}
+use Rattle.reg_model.specs.Callbacks.{no_callbacks}
+use Rattle.reg_calls.specs.Views.{View, IsHive}
 use Rattle.reg_calls.specs.Runs.{IsStep}
 use Rattle.reg_script.specs.LineWords.{lines_of}
 use Rattle.reg_script.specs.LineMeanings.{Meaning, nothing, at_moment, as_session, on_hive, asks, bad, meaning_of}
@@ -27,7 +28,7 @@ IsSaid (as_session session) old text new = IsSilent (record old { session = sess
 IsSaid on_hive old text new = IsSilent old text new
 IsSaid bad old text new = (text ≡ codes "bad\n") × (new ≡ old)
 IsSaid (asks call) old text new =
-    (outcome : Outcome) × IsStep old.hive (record { session = old.session; moment = old.moment; call = call }) outcome new.hive ×
+    (outcome : Outcome) × IsStep no_callbacks old.hive (record { session = old.session; moment = old.moment; call = call }) outcome new.hive ×
     (text ≡ outcome_text call outcome) × (new ≡ record old { hive = new.hive })
 
 -- lines after one another, and their replies in one text
@@ -45,8 +46,10 @@ Lines old script text new =
 abbrev pub fresh_descriptor : List ℕ
 fresh_descriptor = 1 ∷ 0 ∷ 4 ∷ 128 ∷ replicate 16 0
 
--- a script's hive at first: a root, no entries
+-- a script's hive at first: a root, no entries, one bin
 pub record IsFresh (hive : View) : Type 0 where
+  pub is_hive : IsHive hive
+  pub bin : length hive.keys.bins.bytes ≡ 4096
   pub origin : hive.origin ≡ insert empty [] (made_root (codes "ROOT") fresh_descriptor 0)
   pub journal : hive.journal ≡ []
 

@@ -84,7 +84,7 @@ fn run_one_in(alloc: Global, hive: &mut Hive) -> Result<String, Fail> {
         call: Call::Change(Change::OpenRoot { mask: ALL }),
     };
     let steps = vec![in alloc; step]?;
-    let outcomes = hive.run(alloc, steps)?;
+    let outcomes = hive.run(steps)?;
     Ok(format!(in alloc; "{} {}", outcomes.len(), hive.len())?)
 }
 
