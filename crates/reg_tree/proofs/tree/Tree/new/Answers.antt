@@ -6,14 +6,14 @@ use Rattle.reg_tree.proofs.tree.Tree.new.Goals as goal
 pub invariant_of-result : goal.invariant_of-result
 invariant_of-result c =
     fresh_holds _ _ _ _ _ (made _ _ _ _ c.in-Ok.cells.0 c.in-Ok.cells.1 _ _ _ _ _ _ c.args.root_name.now c.args.descriptor.now c.args.moment
-    c.new_root.ensures c.new_ring.ensures c.requires.name.0 c.requires.descriptor.0 c.requires.descriptor.1 c.new-arena.ensures.bytes
+    c.new_root.ensures c.new_ring.ensures c.requires.name c.requires.descriptor.0 c.requires.descriptor.1 c.new-arena.ensures.bytes
     c.in-Ok.ensures.ok c.put_sk.ensures.written c.put_sk.ensures.plain c.put_sk.ensures.reads c.put_nk.ensures.written c.put_nk.ensures.plain
     c.put_nk.ensures.reads)
 
 pub returns-clause-ok : goal.returns-clause-ok
 returns-clause-ok c =
     fresh_tree _ _ _ _ _ (made _ _ _ _ c.in-Ok.cells.0 c.in-Ok.cells.1 _ _ _ _ _ _ c.args.root_name.now c.args.descriptor.now c.args.moment
-    c.new_root.ensures c.new_ring.ensures c.requires.name.0 c.requires.descriptor.0 c.requires.descriptor.1 c.new-arena.ensures.bytes
+    c.new_root.ensures c.new_ring.ensures c.requires.name c.requires.descriptor.0 c.requires.descriptor.1 c.new-arena.ensures.bytes
     c.in-Ok.ensures.ok c.put_sk.ensures.written c.put_sk.ensures.plain c.put_sk.ensures.reads c.put_nk.ensures.written c.put_nk.ensures.plain
     c.put_nk.ensures.reads)
 
