@@ -2,9 +2,12 @@ ghost use Rattle.std.specs.Prelude.{◌≡◌, ◌<◌, ◌≤◌, ◌↔◌, �
 ghost use Rattle.std.specs.FinMap.{insert, empty};
 ghost use Rattle.reg_names.specs.Names.{is_key_name};
 ghost use Rattle.reg_model.specs.declared.limits.TheConstants.{SESSIONS_LIMIT};
+ghost use Rattle.reg_arena.specs.Arena.{IsSound};
 ghost use Rattle.reg_arena.specs.Cells.{cell_at};
 ghost use Rattle.reg_model.specs.Callbacks.{no_callbacks};
 ghost use Rattle.reg_model.specs.Histories.{IsLegal, replay};
+ghost use Rattle.reg_arena.specs.NewBin.{IsBinSize};
+ghost use Rattle.reg_arena.specs.NewCells.{cell_size};
 ghost use Rattle.reg_tree.specs.TreeKeys.{made_root, IsWholeTree};
 ghost use Rattle.reg_calls.specs.Views.{state, IsApplied, IsRead, IsHive};
 
@@ -51,7 +54,8 @@ impl Hive {
 
     /// A hive of one root: the name as given, mark 8 (no delete), no class, the descriptor, the moment (100 ns units
     /// since 1601) and no values. No handle is open, and the journal is empty. `Name` where the name is none that a key may
-    /// have, else `Descriptor` where that is empty or above 65,535 bytes, else `Memory`.
+    /// have, else `Descriptor` where that is empty or above 65,535 bytes, else `Memory`. It has one bin, of the least size that
+    /// holds its root's key node and security.
     pub fn new(
         alloc: Global,
         root_name: &[u8],
@@ -60,6 +64,9 @@ impl Hive {
     ) -> Result<Hive, NewFault>
         ensures origin { IfOk result (λ h. (view_of h).origin ≡ insert empty [] (made_root root_name.now descriptor.now moment)) }
         ensures journal { IfOk result (λ h. (view_of h).journal ≡ []) }
+        ensures hive { IfOk result (λ h. IsHive (view_of h)) }
+        ensures bin { IfOk result (λ h. IsBinSize (length (view_of h).keys.bins.bytes)
+            (cell_size (76 + length root_name.now) + cell_size (20 + length descriptor.now))) }
         ensures name { IsErrOf result NewFault.Name ↔ (is_key_name root_name.now ≡ false) }
         ensures descriptor { IsErrOf result NewFault.Descriptor
             ↔ ((is_key_name root_name.now ≡ true)
@@ -108,11 +115,13 @@ impl Hive {
     ///
     /// Whatever calls came before, they are a whole hive, and it is that of the journal. The cells tile the bins; each allocated
     /// cell is reached from the root exactly as often as the references to it say, and each record is as it is written (clause
-    /// `whole`); and the tree that these records spell is that of the journal's replay (clauses `whole` and `tree`).
+    /// `whole`); the tree that these records spell is that of the journal's replay (clauses `whole` and `tree`); and the free list
+    /// has precisely the free cells (clause `sound`).
     pub fn arena(&self) -> &Arena
         ensures bins { result.now ≡ (view_of self.now).keys.bins }
         ensures tree { (view_of self.now).keys.tree ≡ (replay (view_of self.now).origin (view_of self.now).journal).tree }
         ensures whole { IsWholeTree (view_of self.now).keys.bins.bytes (view_of self.now).keys.root (view_of self.now).keys.tree }
+        ensures sound { IsSound (view_of self.now).keys.bins.bytes (view_of self.now).keys.bins.heads }
     {
         self.core.arena()
     }

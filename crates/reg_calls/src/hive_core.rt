@@ -82,14 +82,6 @@ fn keep_room(journal: &mut Journal, handles: usize, change: &Change) -> Result<(
     journal.reserve(handles + 2)
 }
 
-/// The size of a tree's bins, for its clauses: what is true of every tree's cells.
-fn bins_size(tree: &Tree) -> u32
-    ensures sound { IsSound tree.now.bins.bytes tree.now.bins.heads }
-    ensures whole { IsWholeTree tree.now.bins.bytes tree.now.root tree.now.tree }
-{
-    tree.arena().bins_size()
-}
-
 impl Core {
     ghost use Rattle.reg_model.specs.Histories.{IsLegal, replay};
 
@@ -100,9 +92,11 @@ impl Core {
         ensures origin { result.origin ≡ tree.tree }
         ensures journal { result.journal ≡ [] }
         ensures keys { result.keys ≡ tree }
+        ensures hive { IsHive result }
         ensures handles { result.handles ≡ [] }
     {
-        let _ = bins_size(&tree);
+        // Only for its clauses: what is true of every tree's cells.
+        let _ = tree.arena();
         let origin = Snapshot::of(&tree);
         Core {
             alloc,
@@ -149,6 +143,7 @@ impl Core {
         ensures bins { result.now ≡ self.now.keys.bins }
         ensures tree { self.now.keys.tree ≡ (replay self.now.origin self.now.journal).tree }
         ensures whole { IsWholeTree self.now.keys.bins.bytes self.now.keys.root self.now.keys.tree }
+        ensures sound { IsSound self.now.keys.bins.bytes self.now.keys.bins.heads }
     {
         self.store.tree.arena()
     }
@@ -170,7 +165,8 @@ impl Core {
             .make(self.alloc, session, moment, number, &change)
         {
             Ok(reply) => {
-                let _ = bins_size(&self.store.tree);
+                // Only for its clauses: what is true of every tree's cells.
+                let _ = self.store.tree.arena();
                 self.journal.append(Entry {
                     number,
                     session,
