@@ -5,3 +5,4 @@ pub mod TableAndLimitLemmas
 pub mod StoreAfterChange
 pub mod HiveInvariantLemmas
 pub mod QueryAnswers
+pub mod NewHives

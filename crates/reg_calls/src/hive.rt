@@ -6,8 +6,6 @@ ghost use Rattle.reg_arena.specs.Arena.{IsSound};
 ghost use Rattle.reg_arena.specs.Cells.{cell_at};
 ghost use Rattle.reg_model.specs.Callbacks.{no_callbacks};
 ghost use Rattle.reg_model.specs.Histories.{IsLegal, replay};
-ghost use Rattle.reg_arena.specs.NewBin.{IsBinSize};
-ghost use Rattle.reg_arena.specs.NewCells.{cell_size};
 ghost use Rattle.reg_tree.specs.TreeKeys.{made_root, IsWholeTree};
 ghost use Rattle.reg_calls.specs.Views.{state, IsApplied, IsRead, IsHive};
 
@@ -49,7 +47,7 @@ pub struct Hive {
 }
 
 impl Hive {
-    ghost use Rattle.reg_calls.specs.HiveView.{view_of};
+    ghost use Rattle.reg_calls.specs.HiveView.{view_of, new_size};
     ghost use Rattle.reg_calls.specs.Runs.{Run, IsStep};
 
     /// A hive of one root: the name as given, mark 8 (no delete), no class, the descriptor, the moment (100 ns units
@@ -65,8 +63,7 @@ impl Hive {
         ensures origin { IfOk result (λ h. (view_of h).origin ≡ insert empty [] (made_root root_name.now descriptor.now moment)) }
         ensures journal { IfOk result (λ h. (view_of h).journal ≡ []) }
         ensures hive { IfOk result (λ h. IsHive (view_of h)) }
-        ensures bin { IfOk result (λ h. IsBinSize (length (view_of h).keys.bins.bytes)
-            (cell_size (76 + length root_name.now) + cell_size (20 + length descriptor.now))) }
+        ensures bin { IfOk result (λ h. length (view_of h).keys.bins.bytes ≡ new_size (length root_name.now) (length descriptor.now)) }
         ensures name { IsErrOf result NewFault.Name ↔ (is_key_name root_name.now ≡ false) }
         ensures descriptor { IsErrOf result NewFault.Descriptor
             ↔ ((is_key_name root_name.now ≡ true)

@@ -6,18 +6,19 @@
 //! and reg_calls, and reads its words by `clap`. It has no type of its own that others see.
 #![tactic(auto)]
 
-ghost use Rattle.std.specs.Prelude.{◌≡◌, ◌≤◌, ℕ, List, OnOk, IfErr};
+ghost use Rattle.std.specs.Prelude.{◌≡◌, ◌≤◌, ℕ, List, OnOk, IfOk, IfErr};
 ghost use Rattle.std.specs.Io.KnownBytes.{IsAtEnd, Appends, Consumes};
 ghost use Rattle.clap.specs.Values.{kind_of};
 ghost use Rattle.clap.specs.Words.{FailsBy};
-ghost use Rattle.reg_script.specs.Lines.{Writes};
+ghost use Rattle.reg_calls.specs.HiveView.{view_of};
+ghost use Rattle.reg_script.specs.Lines.{IsFresh, Writes};
 ghost use Rattle.reg_command.specs.CommandLines.{faults_in, texts};
 ghost use Rattle.reg_command.specs.Failures.{IsCommandLine, IsRefused, IsBefore, IsFailure, IsStopped};
 ghost use Rattle.reg_command.specs.ScriptRuns.{RunsScript};
 
 use clap::error::ErrorKind;
 use clap::{Command, Error};
-use reg_calls::Hive;
+use reg_calls::{Hive, NewFault};
 use reg_script::{ScriptFault, run};
 use std::alloc::Global;
 use std::io::{Read, Write};
@@ -68,6 +69,13 @@ fn usage(alloc: Global, error: &Error) -> Failure
     }
 }
 
+/// A script's hive: a root of that name at moment 0, and nothing else. `Memory` is its one fault.
+fn fresh_hive(alloc: Global) -> Result<Hive, NewFault>
+    ensures { IfOk result (λ hive. IsFresh (view_of hive)) }
+{
+    Hive::new(alloc, ROOT_NAME, &DESCRIPTOR, 0)
+}
+
 fn attempt<R: Read, W: Write>(
     alloc: Global,
     words: &[String],
@@ -84,8 +92,9 @@ fn attempt<R: Read, W: Write>(
     if let Err(error) = check_words(alloc, words) {
         return Err(usage(alloc, &error));
     }
-    let Ok(mut hive) = Hive::new(alloc, ROOT_NAME, &DESCRIPTOR, 0) else {
-        return Err(Failure::Memory);
+    let mut hive = match fresh_hive(alloc) {
+        Ok(hive) => hive,
+        Err(_) => return Err(Failure::Memory),
     };
     match run(alloc, input, output, &mut hive) {
         Ok(()) => Ok(()),

@@ -4,6 +4,7 @@ use Rattle.reg_names.specs.Names.{is_key_name}
 use Rattle.reg_heap.specs.Trees.{IsTree, IsWithinLimits}
 use Rattle.reg_tree.specs.TreeKeys.{made_root}
 use Rattle.reg_model.proofs.TreesOfJournals.{tree-root, limits-root}
+use Rattle.reg_calls.proofs.NewHives.{least-is}
 use Rattle.reg_calls.proofs.hive.Hive.new.Goals as goal
 
 pub new-requires-in-Ok-clause-tree : goal.new-requires-in-Ok-clause-tree
@@ -22,3 +23,6 @@ new-requires-in-Ok-clause-limits c =
       few = omega arith;
       values = tt;
     }))
+
+pub returns-in-Ok-clause-bin : goal.returns-in-Ok-clause-bin
+returns-in-Ok-clause-bin c = least-is _ _ _ c.in-Ok.ensures.bin
