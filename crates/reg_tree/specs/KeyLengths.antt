@@ -1,5 +1,5 @@
 -- The largest lengths that key nodes note (Suhanov, Windows registry file format specification, "Key node").
-use Rattle.std.specs.Prelude.{◌≡◌, ◌≢◌, ℕ, ◌*◌, max, Option, option_map}
+use Rattle.std.specs.Prelude.{◌≡◌, ◌≢◌, ℕ, ◌+◌, ◌-◌, ◌*◌, ◌%◌, max, Option, option_map, List, [], ◌∷◌, length}
 use Rattle.reg_heap.specs.Heaps.{Heap}
 use Rattle.reg_heap.specs.Paths.{Path}
 use Rattle.reg_arena.specs.Arena.{heap_of}
@@ -30,6 +30,15 @@ lengths_at heap offset = option_map lengths_of (key_at heap offset)
 abbrev pub with_value_lengths : ℕ → ℕ → Lengths → Lengths
 with_value_lengths name size lengths =
     record lengths { value_name = max lengths.value_name (2 * name); value_data = max lengths.value_data size }
+
+-- a length in the low 16 bits of a number raised, where another is greater; the high bits stay
+abbrev pub raised : ℕ → ℕ → ℕ
+raised largest size = largest - largest % 65536 + max (largest % 65536) size
+
+-- the larger of what a key notes and the first of some names has, below which the other keys are made
+abbrev pub with_first_length : List (List ℕ) → Lengths → Lengths
+with_first_length [] lengths = lengths
+with_first_length (name ∷ names) lengths = record lengths { subkey_name = raised lengths.subkey_name (2 * length name) }
 
 -- the key at a path has its largest lengths changed so, and each other key has those that it had
 pub record ChangesLengths (old new : Keys) (path : Path) (change : Lengths → Lengths) : Type 0 where

@@ -6,7 +6,7 @@ ghost use Rattle.reg_names.specs.Names.{is_key_name, is_value_name, is_path, pat
 ghost use Rattle.reg_heap.specs.declared.limits.TheConstants.{BINS_LIMIT, DATA_LIMIT, DESCRIPTOR_LIMIT, GROWTH_BOUND, VALUES_LIMIT};
 ghost use Rattle.reg_heap.specs.Paths.{Path, path_cmp, Rec, Member, children_of};
 ghost use Rattle.reg_heap.specs.Members.{value_named};
-ghost use Rattle.reg_heap.specs.Edits.{edited, with_value, without_value, values_at, folded_path, are_too_many, without_key, IsKept};
+ghost use Rattle.reg_heap.specs.Edits.{edited, with_value, without_value, values_at, folded_path, are_too_many, without_key, IsKept, missing, last_there};
 ghost use Rattle.reg_arena.specs.Arena.{IsSound, heap_of};
 ghost use Rattle.reg_arena.specs.NewBin.{IsBinSize};
 ghost use Rattle.reg_arena.specs.NewCells.{cell_size as cell_size_of};
@@ -46,7 +46,7 @@ impl Tree {
     ghost use Rattle.reg_tree.specs.TreeKeys.{made_root, IsWholeTree, IsAt, IsThere, IsResolved, KeepsNodes, MakesKeys};
     ghost use Rattle.reg_tree.specs.CreateSizes.{create_sizes};
     ghost use Rattle.reg_tree.specs.NewHive.{IsNewHive};
-    ghost use Rattle.reg_tree.specs.KeyLengths.{ChangesLengths, KeepsLengths, with_value_lengths};
+    ghost use Rattle.reg_tree.specs.KeyLengths.{ChangesLengths, KeepsLengths, with_value_lengths, with_first_length};
     ghost use Rattle.reg_tree.specs.ValueAnswers.{IsFound};
 
     /// A tree of one root: the name as given, mark 8 (no delete), no class, the descriptor, the moment (100 ns ticks since
@@ -289,6 +289,9 @@ impl Tree {
         ensures ok { (p : Path) → IsAt self.old p from → IfOk result (λ made. MakesKeys self.old self.new p (path_of path.now) moment made) }
         ensures cells { (p : Path) → IsAt self.old p from →
             OnOk result (Makes (heap_of self.old.bins) (heap_of self.new.bins) (create_sizes self.old p (path_of path.now))) }
+        ensures lengths { (p : Path) → IsAt self.old p from →
+            OnOk result (ChangesLengths self.old self.new (last_there self.old.tree p (path_of path.now))
+            (with_first_length (missing self.old.tree p (path_of path.now)))) }
         ensures same { IfOk result (λ made. made.is_new ≡ false → self.new ≡ self.old) }
         ensures limit { (p : Path) → IsAt self.old p from → ((result ≡ Err TreeFault.Limit) ↔ (are_too_many self.old.tree p (path_of path.now) ≡ true)) }
         ensures full { (result ≡ Err TreeFault.Full) → BINS_LIMIT < length self.old.bins.bytes + GROWTH_BOUND }

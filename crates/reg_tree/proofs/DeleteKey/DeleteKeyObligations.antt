@@ -239,5 +239,6 @@ module _ (old : List ℕ) (key : ℕ) (t : IsHere old key) (childless : (branch 
           pub lengths-stay : LengthsStay h h5 t.root
           unfolding holds-now
           lengths-stay =
-              lengths_stay h h5 t.root p keys was came was-is (grafted-name h h5 t.root p keys was came ring [] [] was-is grafts-here w) w.offset w.stands holds-now.shape.offset holds-now.shape.stands below-same
+              lengths_stay h h5 t.root p keys was came was-is (grafted-name h h5 t.root p keys was came ring [] [] was-is grafts-here w)
+              w.offset w.stands holds-now.shape.offset holds-now.shape.stands below-same
               (ap (λ n. record (lengths_of was.node.key) { subkey_name = n }) (raised-none was.node.key.fields.largest_subkey_name))

@@ -4,11 +4,12 @@ use Rattle.std.specs.Prelude.{Result, Ok, Err, OnOk, OnErr, IfOk}
 use Rattle.reg_names.specs.declared.TheConstants.{PATH_LIMIT}
 use Rattle.reg_names.specs.Names.{folded, path_of}
 use Rattle.reg_heap.specs.Paths.{Path}
-use Rattle.reg_heap.specs.Edits.{folded_path, with_keys, missing}
+use Rattle.reg_heap.specs.Edits.{folded_path, with_keys, missing, last_there}
 use Rattle.reg_heap.specs.Heaps.{Heap}
 use Rattle.reg_arena.specs.Arena.{Bins, heap_of}
 use Rattle.reg_values.specs.ValueLists.{Makes}
 use Rattle.reg_tree.specs.CreateSizes.{create_sizes}
+use Rattle.reg_tree.specs.KeyLengths.{ChangesLengths, with_first_length}
 use Rattle.reg_tree.specs.declared.node.Node.{Node}
 use Rattle.reg_tree.specs.declared.node.Created.{Created}
 use Rattle.reg_tree.specs.declared.fault.TreeFault.{TreeFault}
@@ -92,6 +93,18 @@ module _ (bins : Bins) (root : ℕ) (holds : TreeInvariant bins.bytes root) (now
       where
         by : (r : Answer) → IfOk r (λ made. IsCreated bins.bytes new.bytes root some.0 from (path_of text) moment made.node) → OnOk r (KeepsNodes now (seen_as new root))
         by (Ok made) c = subst (λ k. KeepsNodes k (seen_as new root)) view_is (λ q node at. record { offset = c.keeps q node.offset at.offset; depth = at.depth })
+        by (Err f) c = c
+
+    -- the largest lengths
+    pub lengths_created : (p : Path) → IsAt now p from →
+        OnOk result (ChangesLengths now (seen_as new root) (last_there now.tree p (path_of text)) (with_first_length (missing now.tree p (path_of text))))
+    lengths_created p at = by result (its p at)
+      where
+        by : (r : Answer) → IfOk r (λ made. IsCreated bins.bytes new.bytes root p from (path_of text) moment made.node) →
+            OnOk r (ChangesLengths now (seen_as new root) (last_there now.tree p (path_of text)) (with_first_length (missing now.tree p (path_of text))))
+        by (Ok made) c =
+            subst (λ (k : Keys). ChangesLengths k (seen_as new root) (last_there k.tree p (path_of text)) (with_first_length (missing k.tree p (path_of text)))) view_is
+            (record { here = λ n a. c.lengths.here n.offset a.offset; others = λ q n d a. c.lengths.others q n.offset d a.offset })
         by (Err f) c = c
 
     -- all of it together

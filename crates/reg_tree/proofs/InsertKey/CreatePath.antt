@@ -1,7 +1,7 @@
 -- The keys of a path made where they are missing: what is there already, and what stands at the end.
 use Rattle.std.proofs.Common.{◌≡◌, ◌≢◌, ◌↔◌, ℕ, ◌+◌, ◌≤◌, ◌<◌, ◌⊎◌, inl, inr, true, false, cond, Option, Some, None, is_some, List, [], ◌∷◌, ◌++◌, map, length, refl, sym, ap, ◌∙◌, subst}
 use Rattle.std.proofs.Common.{arith, length-append, IsSome}
-use Rattle.std.specs.Option.{option_and_then}
+use Rattle.std.specs.Option.{option_map, option_and_then}
 use Rattle.std.proofs.lemmas.Bool.{false≢true}
 use Rattle.std.proofs.lemmas.List.{append-nil, append_assoc, map-append}
 use Rattle.std.proofs.lemmas.Option.{none-some}
@@ -10,7 +10,7 @@ use Rattle.reg_names.specs.Names.{folded, path_of}
 use Rattle.reg_heap.specs.declared.limits.TheConstants.{LEAF_LIMIT, MADE_LIMIT}
 use Rattle.reg_heap.specs.Paths.{Path, Tree, children_of}
 use Rattle.reg_heap.specs.Edits.{child_path, has_child, with_key, with_keys, missing, last_there}
-use Rattle.reg_heap.specs.Heaps.{Heap}
+use Rattle.reg_heap.specs.Heaps.{Heap, CellFrame}
 use Rattle.reg_heap.specs.Kinds.{times}
 use Rattle.reg_arena.specs.Arena.{Bins}
 use Rattle.reg_arena.specs.Cells.{cell_at}
@@ -21,15 +21,21 @@ use Rattle.reg_tree.specs.declared.node.Node.{Node as TreeNode}
 use Rattle.reg_index.specs.Subkeys.{KeepsCells}
 use Rattle.reg_values.specs.ValueLists.{Makes}
 use Rattle.reg_tree.specs.TreeKeys.{Keys, tree_in}
+use Rattle.reg_records.proofs.KeyNodeCodec.{key_at-same}
+use Rattle.reg_shape.proofs.Wholeness.ShapeRecords.{at-most-one, allocated-is}
+use Rattle.reg_tree.specs.KeyLengths.{lengths_of, lengths_at, with_first_length}
+use Rattle.reg_tree.specs.Internal.LengthChanges.{LengthsChange}
 use Rattle.reg_tree.specs.CreateSizes.{planned, own_sizes, sizes_of, create_sizes}
 use Rattle.reg_tree.specs.Internal.TreeInvariant.{TreeInvariant, IsHere}
 use Rattle.reg_tree.specs.Internal.PathWalks.{Stops, Reaches}
 use Rattle.reg_tree.specs.Internal.SpareCells.{MayGrowAll, GrowsAll, IsSpared}
 use Rattle.reg_tree.specs.Internal.KeyCreation.{IsCreated, AreTooMany}
-use Rattle.reg_tree.proofs.Invariant.KeyOfTree.{spelt_is, get-none, get-some, shallow}
+use Rattle.reg_tree.proofs.Invariant.KeyOfTree.{spelt_is, get-none, get-some, shallow, key_there}
+use Rattle.reg_tree.proofs.Invariant.CellReadings.{key-exists}
 use Rattle.reg_tree.proofs.PathWalk.PathSteps.{as-many, here_then}
 use Rattle.reg_tree.proofs.InsertKey.SpareCellsCarved.{tree-spared, offsets-spared, may_grow_all}
 use Rattle.reg_tree.proofs.InsertKey.MadeCells.{made_makes}
+use Rattle.reg_tree.proofs.InsertKey.PathGrowth.{unchanged}
 
 -- ---- keys that are there
 
@@ -98,6 +104,17 @@ module _ (bytes : List ℕ) (root : ℕ) (holds : TreeInvariant bytes root) (mor
   last-here [] p o e s = refl
   last-here (name ∷ names) p o e s = ap (λ b. cond b (last_there T (child_path p name) names) p) (none-there p name o e s)
 
+-- ---- the largest lengths where cells were carved
+
+carved_lengths : (old mid : List ℕ) (root : ℕ) → TreeInvariant old root → (spare : List ℕ) → CellFrame (cell_at old) (cell_at mid) (λ z. 0) (λ z. times z spare) →
+    (q : Path) (o : ℕ) → key_offset_at (cell_at old) root q ≡ Some o → lengths_at (cell_at mid) o ≡ lengths_at (cell_at old) o
+carved_lengths old mid root holds spare come q o e =
+    let there = key-exists (cell_at old) o (key_there old o (record { root = root; path = q; holds = holds; at = e })) in
+    let one = allocated-is (cell_at old) o there in
+    let most = at-most-one (cell_at mid) o in
+    let count = come.count o in
+    ap (option_map lengths_of) (key_at-same (cell_at old) (cell_at mid) o (come.same o refl (omega (arith, one, most, count))))
+
 -- ---- a path reached as far as it is there
 
 module _ (old : List ℕ) (from : TreeNode) (t : IsHere old from.offset) (path : List ℕ) (parent : TreeNode) (rest : List ℕ) (r : Reaches (cell_at old) from path parent rest) (moment : ℕ) where
@@ -151,6 +168,8 @@ module _ (old : List ℕ) (from : TreeNode) (t : IsHere old from.offset) (path :
         (ap (λ ns. (t.path ++ map folded passed) ++ map folded ns) (sym e) ∙ all-names)) parent-at;
     depth = (let d = r.passes.depth in let n = number in let z = ap length e in omega (arith, d, n, z));
     keeps = λ q o e. e;
+    lengths = subst (λ ns. LengthsChange (cell_at old) (cell_at old) t.root (last_there tree t.path names) (with_first_length ns)) (sym (missing-are ∙ e))
+        (record { here = λ o f. unchanged (lengths_at (cell_at old) o); others = λ q o n f. refl });
   }
 
   pub new_none : left ≡ [] → (false ≡ true) ↔ (missing tree t.path names ≢ [])
@@ -230,7 +249,17 @@ module _ (old : List ℕ) (from : TreeNode) (t : IsHere old from.offset) (path :
             offset = subst (λ p. key_offset_at (cell_at new) t.root p ≡ Some made.offset) all-names grown.offset;
             depth = (let d = r.passes.depth in let n = number in let g = grown.depth in omega (arith, d, n, g));
             keeps = λ q o e. grown.keeps q o (offsets-spared (cell_at old) (cell_at mid) t.root t.holds.keys t.holds.ring spare t.holds.shape s.come q ∙ e);
+            lengths = subst (λ p. LengthsChange (cell_at old) (cell_at new) t.root p (with_first_length (missing tree t.path names))) (sym last-is)
+                (subst (λ ns. LengthsChange (cell_at old) (cell_at new) t.root (t.path ++ map folded passed) (with_first_length ns)) (sym missing-are)
+                (record {
+                  here = λ o e. grown.lengths.here o (then-at (t.path ++ map folded passed) o e)
+                      ∙ ap (option_map (with_first_length left)) (carved_lengths old mid t.root t.holds spare s.come (t.path ++ map folded passed) o e);
+                  others = λ q o n e. grown.lengths.others q o n (then-at q o e) ∙ carved_lengths old mid t.root t.holds spare s.come q o e;
+                }));
           }
+        where
+          then-at : (q : Path) (o : ℕ) → key_offset_at (cell_at old) t.root q ≡ Some o → key_offset_at (cell_at mid) t.root q ≡ Some o
+          then-at q o e = offsets-spared (cell_at old) (cell_at mid) t.root t.holds.keys t.holds.ring spare t.holds.shape s.come q ∙ e
 
 -- ---- the cells that come
 

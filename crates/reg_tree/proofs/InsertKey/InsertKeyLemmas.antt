@@ -1,5 +1,5 @@
 -- What stands when a key was made below another: the shape, the tree that is spelt, and where each key stands.
-use Rattle.std.proofs.Common.{◌≡◌, ◌≢◌, ℕ, ◌+◌, ◌≤◌, ◌<◌, true, cond, Option, Some, None, IsSome, List, [], ◌∷◌, ◌++◌, length}
+use Rattle.std.proofs.Common.{◌≡◌, ◌≢◌, ℕ, zero, suc, ◌+◌, ◌≤◌, ◌<◌, Bool, true, false, cond, Option, Some, None, IsSome, List, [], ◌∷◌, ◌++◌, length}
 use Rattle.std.proofs.Common.{refl, sym, ap, ◌∙◌, subst, arith}
 use Rattle.std.specs.Prelude.{Err}
 use Rattle.std.specs.Option.{option_map, option_and_then}
@@ -19,16 +19,18 @@ use Rattle.reg_records.specs.KeySecurities.{KeySecurityRecord, security_at}
 use Rattle.reg_records.specs.SubkeyLists.{Entry, offsets_in}
 use Rattle.reg_shape.specs.Nodes.{Node, entries_of}
 use Rattle.reg_shape.specs.Internal.Shapes.{descriptor_in, tree_of, IsSeen, StandsIn}
-use Rattle.reg_shape.specs.Spelt.{rec_of}
+use Rattle.reg_shape.specs.Spelt.{rec_of, name_of}
+use Rattle.reg_shape.specs.Internal.Exchanges.{is_named, found_in, found_at}
 use Rattle.reg_shape.specs.Internal.Grafts.{IsShape, IsGrafted, branch_at, graft_at, hang}
 use Rattle.reg_shape.specs.PathLookup.{key_offset_at, key_named, subkey_named}
 use Rattle.reg_records.proofs.KeyNodeCodec.{key_at-same}
 use Rattle.reg_shape.proofs.Walking.WalkRefinement.{IsLooked}
-use Rattle.reg_shape.proofs.Graft.ForestInsert.{total-hang}
+use Rattle.reg_shape.proofs.Graft.ForestInsert.{its_leaf, none-deeper, found-hang, total-hang}
+use Rattle.reg_shape.proofs.Graft.Branches.{its_key, branch-found}
 use Rattle.reg_shape.proofs.Graft.ForestInsertFits.{deep-hung}
-use Rattle.reg_shape.proofs.Refinement.RefinementAfterEdit.{same_path}
+use Rattle.reg_shape.proofs.Refinement.RefinementAfterEdit.{same_path, name-is}
 use Rattle.reg_shape.proofs.Graft.WholeAfterGraft.{grafted, graft-total}
-use Rattle.reg_shape.proofs.Refinement.RefinementAfterGraft.{tree-hung}
+use Rattle.reg_shape.proofs.Refinement.RefinementAfterGraft.{grafted-name, tree-hung}
 use Rattle.reg_shape.proofs.Lookup.LookupAfterGraft.{offsets-hung}
 use Rattle.reg_shape.proofs.Lookup.LookupOfShape.{placed, offset-more}
 use Rattle.reg_index.specs.Subkeys.{AreSubkeys, IsIndexFor, Moves, names_in, entry_for, with_one, cells_of_index, own, taken, insert_size}
@@ -39,6 +41,8 @@ use Rattle.reg_tree.proofs.InsertKey.MadeKeyRecord.{made_record, made_node}
 use Rattle.reg_tree.proofs.InsertKey.ParentReindexed.{reindexed}
 use Rattle.reg_tree.proofs.ValueChange.TreeAfterValueChange.{edited-at}
 use Rattle.reg_tree.proofs.Invariant.UntouchedCells.{rooted-none}
+use Rattle.reg_tree.specs.KeyLengths.{with_first_length}
+use Rattle.reg_tree.proofs.Invariant.LengthsAfterGraft.{lengths_which}
 use Rattle.reg_tree.proofs.Invariant.KeyOfShape as keyed
 use Rattle.reg_tree.proofs.InsertKey.InsertKeyCells as cells
 use Rattle.reg_tree.proofs.InsertKey.InsertKeyGraft as grafting
@@ -197,8 +201,26 @@ module _ (h0 h1 h2 h3 h4 : Heap) (root : ℕ) (keys : Branch Node) (ring : List 
             childless = childless;
             unlisted = unlisted;
             none = none;
+            lengths =
+                lengths_which h0 h4 root p keys was is (keyed.branch_is h0 root keys ring spare w p parent at) same-name w.offset w.stands
+                (shape-made (omega (arith, deep))).offset (shape-made (omega (arith, deep))).stands below-same (with_first_length (name ∷ [])) refl;
           }
             where
+              same-name : name_of now.key ≡ name_of was.node.key
+              same-name = grafted-name h0 h4 root p keys was is ring spare left (keyed.branch_is h0 root keys ring spare w p parent at) grafts w
+
+              none-free : found_in (folded name ∷ []) was.below ≡ None
+              none-free = branch-found (folded name ∷ []) was ∙ ap (option_map its_key) free
+
+              below-same : (y : List ℕ) (r : Path) (o : ℕ) (m n : Node) → found_in (y ∷ r) was.below ≡ Some (o, m) →
+                  found_in (y ∷ r) (hang index key made was.below) ≡ Some (o, n) → n ≡ m
+              below-same y r o m n e f = by (is_named y made) refl (sym (found-hang index key made was.below none-free y r) ∙ f)
+                where
+                  by : (named : Bool) → is_named y made ≡ named → cond named (found_at r (its_leaf key made)) (found_in (y ∷ r) was.below) ≡ Some (o, n) → n ≡ m
+                  by true t g =
+                      absurd (none-some _ (sym (ap (λ x. found_in (x ∷ r) was.below) (name-is y (folded name) t) ∙ none-deeper (folded name) r was.below none-free) ∙ e))
+                  by false t g = ap (λ (z : ℕ × Node). z.1) (same_Some _ _ (sym g ∙ e))
+
               key4 : key_at h4 key ≡ Some (made_record parent above.fields.security moment name)
               key4 = key_at-same h1 h4 key key-calm ∙ key1
 

@@ -1,4 +1,5 @@
 -- Keys made one below the other: what stands after each.
+use Rattle.std.proofs.Common.{◌≢◌, ◌⊎◌, inl, inr}
 use Rattle.std.proofs.Common.{◌≡◌, ℕ, ◌+◌, ◌-◌, ◌≤◌, ◌<◌, Bool, true, false, cond, ◌&&◌, nat_lt, nat_le, Option, Some, None, IsSome, is_some, List, [], ◌∷◌, ◌++◌, map, length, drop, take}
 use Rattle.std.proofs.Common.{refl, sym, ap, ◌∙◌, subst, arith, length-append, length-drop}
 use Rattle.std.specs.List.{list_all}
@@ -21,6 +22,8 @@ use Rattle.reg_records.specs.KeyNodes.{KeyRecord, key_at}
 use Rattle.reg_shape.specs.Internal.Shapes.{index_cells}
 use Rattle.reg_shape.proofs.Wholeness.ShapeCounts.{tally-append}
 use Rattle.reg_shape.proofs.Wholeness.ShapeRecords.{at-most-one, is-allocated}
+use Rattle.reg_tree.specs.KeyLengths.{Lengths, lengths_at, with_first_length}
+use Rattle.reg_tree.specs.Internal.LengthChanges.{LengthsChange, WhichLengths}
 use Rattle.reg_tree.specs.Internal.KeyNodeChanges.{LeavesOthers}
 use Rattle.reg_index.proofs.SubkeysFrame.{owned-index}
 use Rattle.reg_shape.specs.Internal.Forests.{Branch}
@@ -137,6 +140,25 @@ module _ (bytes : List ℕ) (key : ℕ) (spare : List ℕ) (g : IsGrowing bytes 
       let same = same_Some _ _ (sym reads ∙ keyed.key_is h g.root g.keys g.ring spare g.shape g.path key g.at) in
       ap (λ (k : KeyRecord). times z (own h k.fields.subkeys k.fields.subkeys_list)) same ∙ omega (arith, once, one, parts, list, is, l)
 
+-- ---- the largest lengths
+
+-- no key was made, and none has other lengths; or the first was, and the path leads to a key that was not there before
+abbrev NotedSoFar : Heap → Heap → ℕ → Path → List (List ℕ) → Path → List (List ℕ) → Type 0
+NotedSoFar old new root path names at rest =
+    ((names ≡ rest) × (at ≡ path) × ((q : Path) (o : ℕ) → key_offset_at old root q ≡ Some o → lengths_at new o ≡ lengths_at old o))
+    ⊎ (((q : Path) (o : ℕ) → key_offset_at old root q ≡ Some o → q ≢ at) × LengthsChange old new root path (with_first_length names))
+
+pub unchanged : (l : Option Lengths) → l ≡ option_map (with_first_length []) l
+unchanged None = refl
+unchanged (Some l) = refl
+
+noted_all : (old new : Heap) (root : ℕ) (path : Path) (names : List (List ℕ)) (at : Path) (rest : List (List ℕ)) → rest ≡ [] → NotedSoFar old new root path names at rest →
+    LengthsChange old new root path (with_first_length names)
+noted_all old new root path names at rest e (inl s) =
+    subst (λ ns. LengthsChange old new root path (with_first_length ns)) (sym (s.0 ∙ e))
+    (record { here = λ o found. s.2 path o found ∙ unchanged (lengths_at old o); others = λ q o n found. s.2 q o found })
+noted_all old new root path names at rest e (inr s) = s.1
+
 -- ---- on the way
 
 -- some of the keys were made: a node, what is left of the path and of the spare cells, and that the rest leads to the same end
@@ -150,6 +172,7 @@ pub record Midway (bytes0 : List ℕ) (from : TreeNode) (names0 : List (List ℕ
   pub end : grow.growing.path ++ map folded (path_of rest) ≡ m.growing.path ++ map folded names0
   pub depth : node.depth + length (path_of rest) ≡ from.depth + length names0
   pub keeps : (q : Path) (o : ℕ) → key_offset_at (cell_at bytes0) m.growing.root q ≡ Some o → key_offset_at (cell_at bytes) m.growing.root q ≡ Some o
+  pub lengths : NotedSoFar (cell_at bytes0) (cell_at bytes) m.growing.root m.growing.path names0 grow.growing.path (path_of rest)
   pub keeps_cells : KeepsCells (cell_at bytes0) (cell_at bytes)
   pub stay : (z : ℕ) → 0 < times z spare0 → IsSome (cell_at bytes z)
   pub apart : (k : KeyRecord) → key_at (cell_at bytes) node.offset ≡ Some k → (z : ℕ) → 0 < times z spare0 → times z (own (cell_at bytes) k.fields.subkeys k.fields.subkeys_list) ≡ 0
@@ -165,6 +188,7 @@ at_start bytes from path spare m moment v = record {
   end = refl;
   depth = refl;
   keeps = λ q o e. e;
+  lengths = inl (refl, refl, λ q o e. refl);
   keeps_cells = λ z some. (some, refl);
   stay = spare_there bytes from.offset spare m.growing;
   apart = spare_apart bytes from.offset spare m.growing;
@@ -238,6 +262,39 @@ module _ (bytes0 : List ℕ) (from : TreeNode) (names0 : List (List ℕ)) (spare
         keyed.key_is (cell_at bytes) g.root g.keys g.ring spare g.shape g.path node.offset g.at,
       )
 
+      at_mid : (q : Path) (o : ℕ) → key_offset_at (cell_at bytes0) m.growing.root q ≡ Some o → key_offset_at (cell_at bytes) g.root q ≡ Some o
+      at_mid q o e = subst (λ r. key_offset_at (cell_at bytes) r q ≡ Some o) (sym mid.root_is) (mid.keeps q o e)
+
+      apart_then : (q : Path) (o : ℕ) → key_offset_at (cell_at bytes0) m.growing.root q ≡ Some o → q ≢ child_path g.path name
+      apart_then q o e same =
+          none-some _ (sym (ap (key_offset_at (cell_at bytes) g.root) same ∙ offset_missing bytes node.offset spare g name may_next.missing) ∙ at_mid q o e)
+
+      step : (q : Path) (o : ℕ) → key_offset_at (cell_at bytes0) m.growing.root q ≡ Some o → WhichLengths (cell_at bytes) k g.path (with_first_length (name ∷ [])) q o
+      step q o e = grows.lengths q o (at_mid q o e) (keeps_then q o (at_mid q o e))
+
+      noted_then : NotedSoFar (cell_at bytes0) (cell_at bytes) m.growing.root m.growing.path names0 g.path (path_of rest) →
+          LengthsChange (cell_at bytes0) k m.growing.root m.growing.path (with_first_length names0)
+      noted_then (inl s) = record { here = λ o e. at_first o e (step m.growing.path o e); others = λ q o n e. elsewhere q o n e (step q o e) }
+        where
+          at_first : (o : ℕ) → key_offset_at (cell_at bytes0) m.growing.root m.growing.path ≡ Some o →
+              WhichLengths (cell_at bytes) k g.path (with_first_length (name ∷ [])) m.growing.path o → lengths_at k o ≡ option_map (with_first_length names0) (lengths_at (cell_at bytes0) o)
+          at_first o e (inl t) =
+              t.1
+              ∙ (ap (option_map (with_first_length (name ∷ path_of behind))) (s.2 m.growing.path o e)
+              ∙ ap (λ ns. option_map (with_first_length ns) (lengths_at (cell_at bytes0) o)) (sym (s.0 ∙ f.names)))
+          at_first o e (inr t) = absurd (t.0 (sym s.1))
+
+          elsewhere : (q : Path) (o : ℕ) → q ≢ m.growing.path → key_offset_at (cell_at bytes0) m.growing.root q ≡ Some o →
+              WhichLengths (cell_at bytes) k g.path (with_first_length (name ∷ [])) q o → lengths_at k o ≡ lengths_at (cell_at bytes0) o
+          elsewhere q o n e (inl t) = absurd (n (t.0 ∙ s.1))
+          elsewhere q o n e (inr t) = t.1 ∙ s.2 q o e
+      noted_then (inr s) = record { here = λ o e. still m.growing.path o e (step m.growing.path o e) ∙ s.1.here o e; others = λ q o n e. still q o e (step q o e) ∙ s.1.others q o n e }
+        where
+          still : (q : Path) (o : ℕ) → key_offset_at (cell_at bytes0) m.growing.root q ≡ Some o →
+              WhichLengths (cell_at bytes) k g.path (with_first_length (name ∷ [])) q o → lengths_at k o ≡ lengths_at (cell_at bytes) o
+          still q o e (inl t) = absurd (s.0 q o e t.0)
+          still q o e (inr t) = t.1
+
       tree_then : with_keys (tree_of k grows.now) (child_path g.path name) (path_of behind) moment ≡ with_keys (tree_of (cell_at bytes) g.keys) g.path (path_of rest) moment
       tree_then =
           ap (λ (t : Tree). with_keys t (child_path g.path name) (path_of behind) moment) grows.tree
@@ -255,6 +312,7 @@ module _ (bytes0 : List ℕ) (from : TreeNode) (names0 : List (List ℕ)) (spare
         end = append_assoc g.path (folded name ∷ []) (map folded (path_of behind)) ∙ (ap (λ ns. g.path ++ map folded ns) (sym f.names) ∙ mid.end);
         depth = (let d = mid.depth in let n = ap length f.names in omega (arith, d, n));
         keeps = λ q o e. subst (λ r. key_offset_at k r q ≡ Some o) mid.root_is (keeps_then q o (subst (λ r. key_offset_at (cell_at bytes) r q ≡ Some o) (sym mid.root_is) (mid.keeps q o e)));
+        lengths = inr (apart_then, noted_then mid.lengths);
         keeps_cells = λ z some. (let q = kept z some in let p = mid.keeps_cells z q.0 in (p.0, q.1 ∙ p.1));
         stay = λ z l. leaves node_is.0 node_is.1 z (mid.stay z l) (mid.apart node_is.0 node_is.1 z l);
         apart = λ r e z l. ap (λ n. times z (own k n r.fields.subkeys_list)) (grows.none r e);
@@ -277,4 +335,5 @@ module _ (bytes0 : List ℕ) (from : TreeNode) (names0 : List (List ℕ)) (spare
             (subst (λ r. key_offset_at (cell_at bytes) r g.path ≡ Some node.offset) mid.root_is g.at);
         depth = (let d = mid.depth in let n = ap length e in omega (arith, d, n));
         keeps = mid.keeps;
+        lengths = noted_all _ _ _ _ _ _ _ e mid.lengths;
       }

@@ -21,7 +21,7 @@ use Rattle.reg_shape.proofs.Graft.GraftPaths.{rest_of, rest-is, by_rest, found-g
 use Rattle.reg_shape.proofs.Lookup.LookupOfShape.{placed, key-looked}
 use Rattle.reg_shape.proofs.Refinement.RefinementAfterEdit.{same_name}
 use Rattle.reg_tree.specs.KeyLengths.{Lengths, lengths_of, lengths_at}
-use Rattle.reg_tree.specs.Internal.LengthChanges.{LengthsChange, LengthsStay}
+use Rattle.reg_tree.specs.Internal.LengthChanges.{LengthsChange, LengthsStay, WhichLengths}
 
 -- a path comes behind itself with no rest
 name-self : (x : List ℕ) → same_name x x ≡ true
@@ -108,45 +108,48 @@ module _ (h k : Heap) (root : ℕ) (p : Path) (keys was is : Branch Node) (e : b
   same_lengths : (a b : Option KeyRecord) (m n : Node) → a ≡ Some m.key → b ≡ Some n.key → n ≡ m → option_map lengths_of b ≡ option_map lengths_of a
   same_lengths a b m n f g e = ap (option_map lengths_of) (g ∙ (ap (λ (node : Node). Some node.key) e ∙ sym f))
 
+  pub lengths_which : (change : Lengths → Lengths) → lengths_of is.node.key ≡ change (lengths_of was.node.key) →
+      (q : Path) (o : ℕ) → key_offset_at h root q ≡ Some o → key_offset_at k root q ≡ Some o → WhichLengths h k p change q o
+  lengths_which change so q o at at_now = by_all (lengthens q o at at_now)
+    where
+      by_all : Lengthens q o → WhichLengths h k p change q o
+      by_all l = by l.which
+        where
+          by : ((q ≡ p) × (l.was_node ≡ was.node) × (l.is_node ≡ is.node)) ⊎ ((q ≢ p) × (l.is_node ≡ l.was_node)) → WhichLengths h k p change q o
+          by (inl s) = inl (
+            s.0,
+            ap (option_map lengths_of) l.is_reads
+                ∙ (ap (λ (n : Node). Some (lengths_of n.key)) s.2
+                ∙ (ap Some so
+                ∙ (ap (λ (n : Node). Some (change (lengths_of n.key))) (sym s.1)
+                ∙ sym (ap (λ r. option_map change (option_map lengths_of r)) l.was_reads)))),
+          )
+          by (inr s) = inr (s.0, same_lengths _ _ _ _ l.was_reads l.is_reads s.1)
+
   -- where keys stay, those of the one are changed
   pub lengths_change : (change : Lengths → Lengths) → lengths_of is.node.key ≡ change (lengths_of was.node.key) →
       ((q : Path) (o : ℕ) → key_offset_at h root q ≡ Some o → key_offset_at k root q ≡ Some o) → LengthsChange h k root p change
   lengths_change change so stay = record {
-    here = λ o at. by_here o (lengthens p o at (stay p o at));
-    others = λ q o n at. by_others q o n (lengthens q o at (stay q o at));
+    here = λ o at. by_here o (lengths_which change so p o at (stay p o at));
+    others = λ q o n at. by_others q o n (lengths_which change so q o at (stay q o at));
   }
     where
-      by_here : (o : ℕ) → Lengthens p o → lengths_at k o ≡ option_map change (lengths_at h o)
-      by_here o l = by l.which
-        where
-          by : ((p ≡ p) × (l.was_node ≡ was.node) × (l.is_node ≡ is.node)) ⊎ ((p ≢ p) × (l.is_node ≡ l.was_node)) → lengths_at k o ≡ option_map change (lengths_at h o)
-          by (inl s) =
-              ap (option_map lengths_of) l.is_reads
-              ∙ (ap (λ (n : Node). Some (lengths_of n.key)) s.2
-              ∙ (ap Some so
-              ∙ (ap (λ (n : Node). Some (change (lengths_of n.key))) (sym s.1)
-              ∙ sym (ap (λ r. option_map change (option_map lengths_of r)) l.was_reads))))
-          by (inr s) = absurd (s.0 refl)
+      by_here : (o : ℕ) → WhichLengths h k p change p o → lengths_at k o ≡ option_map change (lengths_at h o)
+      by_here o (inl s) = s.1
+      by_here o (inr s) = absurd (s.0 refl)
 
-      by_others : (q : Path) (o : ℕ) → q ≢ p → Lengthens q o → lengths_at k o ≡ lengths_at h o
-      by_others q o n l = by l.which
-        where
-          by : ((q ≡ p) × (l.was_node ≡ was.node) × (l.is_node ≡ is.node)) ⊎ ((q ≢ p) × (l.is_node ≡ l.was_node)) → lengths_at k o ≡ lengths_at h o
-          by (inl s) = absurd (n s.0)
-          by (inr s) = same_lengths _ _ _ _ l.was_reads l.is_reads s.1
+      by_others : (q : Path) (o : ℕ) → q ≢ p → WhichLengths h k p change q o → lengths_at k o ≡ lengths_at h o
+      by_others q o n (inl s) = absurd (n s.0)
+      by_others q o n (inr s) = s.1
 
   -- where they are the same, each has those that it had
   pub lengths_stay : lengths_of is.node.key ≡ lengths_of was.node.key → LengthsStay h k root
-  lengths_stay so q o at at_now = by_all (lengthens q o at at_now)
+  lengths_stay so q o at at_now = by (lengths_which (λ l. l) so q o at at_now)
     where
-      by_all : Lengthens q o → lengths_at k o ≡ lengths_at h o
-      by_all l = by l.which
-        where
-          by : ((q ≡ p) × (l.was_node ≡ was.node) × (l.is_node ≡ is.node)) ⊎ ((q ≢ p) × (l.is_node ≡ l.was_node)) → lengths_at k o ≡ lengths_at h o
-          by (inl s) =
-              ap (option_map lengths_of) l.is_reads
-              ∙ (ap (λ (n : Node). Some (lengths_of n.key)) s.2
-              ∙ (ap Some so
-              ∙ (ap (λ (n : Node). Some (lengths_of n.key)) (sym s.1)
-              ∙ sym (ap (option_map lengths_of) l.was_reads))))
-          by (inr s) = same_lengths _ _ _ _ l.was_reads l.is_reads s.1
+      same : (l : Option Lengths) → option_map (λ l. l) l ≡ l
+      same None = refl
+      same (Some l) = refl
+
+      by : WhichLengths h k p (λ l. l) q o → lengths_at k o ≡ lengths_at h o
+      by (inl s) = s.1 ∙ same (lengths_at h o)
+      by (inr s) = s.1

@@ -1,5 +1,5 @@
 -- What is written into a key node, and what is told of a value.
-use Rattle.std.specs.Prelude.{◌≡◌, ◌≢◌, ℕ, ◌+◌, ◌-◌, ◌*◌, ◌%◌, max, Some, IsSome, is_some, List, length}
+use Rattle.std.specs.Prelude.{◌≡◌, ◌≢◌, ℕ, ◌*◌, max, Some, IsSome, is_some, List, length}
 use Rattle.reg_heap.specs.declared.limits.TheConstants.{NONE}
 use Rattle.reg_heap.specs.Heaps.{Heap}
 use Rattle.reg_heap.specs.Kinds.{times}
@@ -7,6 +7,7 @@ use Rattle.reg_records.specs.RecordCells.{held}
 use Rattle.reg_records.specs.KeyNodes.{KeyRecord, key_at, IsPlainKey}
 use Rattle.reg_records.specs.KeySecurities.{KeySecurityRecord, security_at, IsPlainSecurity}
 use Rattle.reg_records.specs.declared.nk.KeyFields.{KeyFields}
+pub use Rattle.reg_tree.specs.KeyLengths.{raised}
 
 -- a key node after its values changed: their number and list, the time, and the two largest lengths, which only grow
 abbrev pub noted : ℕ → ℕ → ℕ → ℕ → ℕ → KeyRecord → KeyRecord
@@ -19,10 +20,6 @@ noted count offset name size moment key = record key {
     largest_value_data = max key.fields.largest_value_data size;
   };
 }
-
--- a length in the low 16 bits of a number raised, where another is greater; the high bits stay
-abbrev pub raised : ℕ → ℕ → ℕ
-raised largest size = largest - largest % 65536 + max (largest % 65536) size
 
 -- a key node after its subkeys changed: their number and list, the time, and the largest length of a name, which only grows
 abbrev pub noted_subkeys : ℕ → ℕ → ℕ → ℕ → KeyRecord → KeyRecord

@@ -1,5 +1,5 @@
 -- The largest lengths that key nodes note, before and after a change, by their offsets.
-use Rattle.std.specs.Prelude.{◌≡◌, ◌≢◌, ℕ, Some, option_map}
+use Rattle.std.specs.Prelude.{◌≡◌, ◌≢◌, ◌⊎◌, ℕ, Some, option_map}
 use Rattle.reg_heap.specs.Heaps.{Heap}
 use Rattle.reg_heap.specs.Paths.{Path}
 use Rattle.reg_shape.specs.PathLookup.{key_offset_at}
@@ -9,6 +9,11 @@ use Rattle.reg_tree.specs.KeyLengths.{Lengths, lengths_at}
 pub record LengthsChange (old new : Heap) (root : ℕ) (path : Path) (change : Lengths → Lengths) : Type 0 where
   pub here : (offset : ℕ) → key_offset_at old root path ≡ Some offset → lengths_at new offset ≡ option_map change (lengths_at old offset)
   pub others : (other : Path) (offset : ℕ) → other ≢ path → key_offset_at old root other ≡ Some offset → lengths_at new offset ≡ lengths_at old offset
+
+-- a key at an offset is the one at a path, and its largest lengths were changed so, or it is another, and has those that it had
+abbrev pub WhichLengths : Heap → Heap → Path → (Lengths → Lengths) → Path → ℕ → Type 0
+WhichLengths old new path change other offset =
+    ((other ≡ path) × (lengths_at new offset ≡ option_map change (lengths_at old offset))) ⊎ ((other ≢ path) × (lengths_at new offset ≡ lengths_at old offset))
 
 -- each key that is still there has the largest lengths that it had
 abbrev pub LengthsStay : Heap → Heap → ℕ → Type 0

@@ -20,6 +20,8 @@ use Rattle.reg_records.specs.RecordCells.{HasRoom, held}
 use Rattle.reg_index.specs.Subkeys.{IsReady, taken}
 use Rattle.reg_tree.specs.declared.node.Node.{Node as TreeNode}
 pub use Rattle.reg_tree.specs.CreateSizes.{planned, planned_sizes, key_size, own_sizes, sizes_of}
+use Rattle.reg_tree.specs.KeyLengths.{with_first_length}
+use Rattle.reg_tree.specs.Internal.LengthChanges.{LengthsChange, WhichLengths}
 use Rattle.reg_tree.specs.Internal.TreeInvariant.{rooted}
 
 -- a key of a tree whose keys have all cells but those that are spare
@@ -51,6 +53,8 @@ pub record Grows (old new : Heap) (root : ℕ) (path : Path) (keys : Branch Node
   pub childless : (x : List ℕ) → subkey_named new x made ≡ None
   pub unlisted : planned new made ≡ Some FIRST_LIST_SIZE
   pub none : (k : KeyRecord) → key_at new made ≡ Some k → k.fields.subkeys ≡ 0
+  pub lengths : (q : Path) (o : ℕ) → key_offset_at old root q ≡ Some o → key_offset_at new root q ≡ Some o →
+      WhichLengths old new path (with_first_length (name ∷ [])) q o
 
 -- cells are of these sizes or larger, one by one, the size field counted
 abbrev pub HaveSizes : Heap → List ℕ → List ℕ → Type 0
@@ -93,6 +97,7 @@ pub record GrowsAll (old new : Heap) (root : ℕ) (path : Path) (keys : Branch N
   pub offset : key_offset_at new root (path ++ map folded names) ≡ Some made.offset
   pub depth : made.depth ≡ from.depth + length names
   pub keeps : (q : Path) (o : ℕ) → key_offset_at old root q ≡ Some o → key_offset_at new root q ≡ Some o
+  pub lengths : LengthsChange old new root path (with_first_length names)
 
 -- the cells that keys of these names take below a key are new, each once, in order and of their sizes, and no other cell changed
 pub record IsSpared (old new : List ℕ) (key : ℕ) (names : List (List ℕ)) (spare : List ℕ) : Type 0 where
