@@ -1,4 +1,5 @@
 //! The command line's tool on scripts, readers and writers of every kind. The wanted replies come from the script's rules.
+mod devices;
 mod keys;
 
 use crate::support::assert_told;
