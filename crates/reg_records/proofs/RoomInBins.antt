@@ -11,7 +11,8 @@ content-short : (bytes : List ℕ) (cells : List Cell) (offset : ℕ) (content :
 content-short bytes cells offset content e f =
     let h = holder-is bytes cells offset content e f in
     let c : Cell = h.0 in
-    let have : cell_at bytes offset ≡ Some (take (c.size - 4) (drop (c.offset + 4) bytes)) = subst (λ (k : ℕ). cell_at bytes k ≡ Some (take (c.size - 4) (drop (c.offset + 4) bytes))) h.2 (allocated-some bytes cells c e h.1 h.3) in
+    let have : cell_at bytes offset ≡ Some (take (c.size - 4) (drop (c.offset + 4) bytes)) =
+    subst (λ (k : ℕ). cell_at bytes k ≡ Some (take (c.size - 4) (drop (c.offset + 4) bytes))) h.2 (allocated-some bytes cells c e h.1 h.3) in
     let same : length content ≡ length (take (c.size - 4) (drop (c.offset + 4) bytes)) = ap (λ (o : Option (List ℕ)). length (unwrap_or o [])) (sym f ∙ have) in
     let long : length (take (c.size - 4) (drop (c.offset + 4) bytes)) ≤ length bytes = simp (length-take, length-drop) (omega arith) in
     omega (arith, same, long)

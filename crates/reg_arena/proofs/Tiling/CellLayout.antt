@@ -11,7 +11,8 @@ use Rattle.std.proofs.lemmas.Option.{same_Some}
 use Rattle.reg_heap.specs.ByteWords.{word}
 use Rattle.reg_arena.specs.declared.Cell.{Cell}
 use Rattle.std.specs.Option.{option_and_then}
-use Rattle.reg_arena.specs.Cells.{Bin, BinPlace, IsCell, Tiles, IsHeader, AreBins, cells_in, choose, joined, cells_from, bins_from, bins_of, cells_of_bins, cells_of, content_in, content_of, cell_at, size_in, is_allocated_in}
+use Rattle.reg_arena.specs.Cells.{Bin, BinPlace, IsCell, Tiles, IsHeader, AreBins, cells_in, choose, joined, cells_from, bins_from, bins_of, cells_of_bins}
+use Rattle.reg_arena.specs.Cells.{cells_of, content_in, content_of, cell_at, size_in, is_allocated_in}
 use Rattle.reg_arena.proofs.Tiling.CellPositions.{looked, stands}
 use Rattle.reg_arena.proofs.Contents.CellContents.{AreOrdered, AreOrdered-AreBins, AreOrdered-back}
 

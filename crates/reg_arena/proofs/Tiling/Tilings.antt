@@ -4,7 +4,8 @@ use Rattle.std.proofs.lemmas.Bool.{and_from, eq-eqb, lt-ltb, le-leb, ne_eqb}
 use Rattle.reg_heap.specs.ByteWords.{word, SameOutside}
 use Rattle.reg_arena.specs.declared.Cell.{Cell}
 use Rattle.std.specs.Option.{option_and_then}
-use Rattle.reg_arena.specs.Cells.{Bin, BinPlace, IsCell, IsHeader, Tiles, AreBins, cells_in, cells_from, bins_from, bins_of, cells_of_bins, cells_of, content_in, content_of, cell_at, size_in, is_allocated_in}
+use Rattle.reg_arena.specs.Cells.{Bin, BinPlace, IsCell, IsHeader, Tiles, AreBins, cells_in, cells_from, bins_from, bins_of, cells_of_bins}
+use Rattle.reg_arena.specs.Cells.{cells_of, content_in, content_of, cell_at, size_in, is_allocated_in}
 use Rattle.reg_arena.proofs.Contents.ByteSplices.{word-same_below, word-same_above}
 
 -- the bytes of some cells
