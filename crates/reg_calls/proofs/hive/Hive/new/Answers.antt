@@ -1,8 +1,8 @@
-use Rattle.std.proofs.Common.{rules, arith, ◌≡◌, ◌≤◌, true, length, sym, subst}
+use Rattle.std.proofs.Common.{rules, arith, ◌≡◌, ◌≤◌, true, length, sym, ap, ◌∙◌, subst}
 use Rattle.std.proofs.lemmas.Bool.Decides.{nat_tests}
 use Rattle.reg_names.specs.Names.{is_key_name}
 use Rattle.reg_heap.specs.Trees.{IsTree, IsWithinLimits}
-use Rattle.reg_tree.specs.TreeKeys.{made_root}
+use Rattle.reg_tree.specs.TreeKeys.{Keys, made_root}
 use Rattle.reg_model.proofs.TreesOfJournals.{tree-root, limits-root}
 use Rattle.reg_calls.proofs.NewHives.{least-is}
 use Rattle.reg_calls.proofs.hive.Hive.new.Goals as goal
@@ -25,4 +25,4 @@ new-requires-in-Ok-clause-limits c =
     }))
 
 pub returns-in-Ok-clause-bin : goal.returns-in-Ok-clause-bin
-returns-in-Ok-clause-bin c = least-is _ _ _ c.in-Ok.ensures.bin
+returns-in-Ok-clause-bin c = ap (λ (k : Keys). length k.bins.bytes) c.new-in-Ok.ensures.keys ∙ least-is _ _ _ c.in-Ok.ensures.bin
