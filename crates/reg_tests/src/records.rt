@@ -170,7 +170,7 @@ fn planned_in(alloc: Global, arena: &Arena, name: &[u8], size: u32) -> Result<St
         count: 0,
         offset: 0xFFFF_FFFF,
     };
-    let sizes = plan_set(arena, alloc, list, name, size)?;
+    let sizes = plan_set(alloc, arena, list, name, size)?;
     Ok(format!(in alloc; "{sizes:?}")?)
 }
 

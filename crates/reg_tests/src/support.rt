@@ -191,14 +191,14 @@ fn count_cells(alloc: Global, hive: &Hive, size: u32) -> Result<String, Fail> {
     Ok(format!(in alloc; "{count}")?)
 }
 
-/// So many bytes of the bins from an offset on, as digits.
+/// So many bytes of the bins' first page from an offset on, as digits.
 fn digits(alloc: Global, hive: &Hive, at: u32, len: u32) -> Result<String, Fail> {
     let arena = hive.arena();
-    let size = arena.bins_size();
-    if at > size || len > size - at {
-        return Err("past the bins".into());
+    if arena.bins_size() == 0 || at > 4096 || len > 4096 - at {
+        return Err("past the first page".into());
     }
-    let text = hex::encode(alloc, arena.bytes(at, len))?;
+    let part = arena.bytes(at, len);
+    let text = hex::encode(alloc, part)?;
     Ok(text)
 }
 
