@@ -1,5 +1,6 @@
 -- Which calls are refused: the first refusal in the order of the rules.
-use Rattle.std.specs.Prelude.{ℕ, true, false, [], ◌+◌, ◌==◌, ◌||◌, ◌&&◌, not, nat_lt, nat_le, Bool, List, count_by, length, if◌then◌else◌, Option, Some, None, is_some, bit_and}
+use Rattle.std.specs.Prelude.{ℕ, ◌+◌, ◌==◌, ◌||◌, ◌&&◌, not, nat_lt, nat_le, Bool, true, false, if◌then◌else◌, bit_and}
+use Rattle.std.specs.Prelude.{List, [], count_by, length, Option, Some, None, is_some}
 use Rattle.std.specs.FinMap.{get}
 use Rattle.reg_names.specs.Names.{is_value_name, is_path, path_of}
 use Rattle.reg_heap.specs.declared.limits.TheConstants.{DATA_LIMIT, VALUES_LIMIT}

@@ -24,7 +24,9 @@ there hive = record { hive = opened hive; moment = 0; session = 0 }
 
 -- a handle with the right to query alone: it may not set; a mask with another bit; a handle that isn't there. That the hive after the
 -- first entry is one isn't computed here, but taken
-refused_script : (hive : View) → IsHive (opened hive) → Lines (begun hive) (codes "root 1\nset 0 = 4 x01\nroot 1048576\n#\nquery 9 = -\nfrob") (codes "0 handle 0\n5\n87\n6\nbad\n") (opened hive)
+refused_script : (hive : View) → IsHive (opened hive) →
+    Lines (begun hive) (codes "root 1\nset 0 = 4 x01\nroot 1048576\n#\nquery 9 = -\nfrob")
+    (codes "0 handle 0\n5\n87\n6\nbad\n") (opened hive)
 unfolding on_lines digits after early_cause late_cause early_query_cause late_query_cause reply_to
 refused_script hive is =
     let here = there hive in (

@@ -93,7 +93,7 @@ module _ (h h1 h2 h3 h4 : Heap) (one : SameSizes h h1) (two : KeepsCells h1 h2) 
   made_leaves parent fields are before then count1 list1 plan fresh now moves more place k reads z there none =
       let owned = own-listed h1 fields.subkeys fields.subkeys_list then ∙ sym (own-listed h fields.subkeys fields.subkeys_list before) in
       let same : times z (own h1 fields.subkeys fields.subkeys_list) ≡ 0 =
-          ap (times z) owned ∙ (ap (λ (f : KeyFields). times z (own h f.subkeys f.subkeys_list)) (are k reads) ∙ none) in
+      ap (times z) owned ∙ (ap (λ (f : KeyFields). times z (own h f.subkeys f.subkeys_list)) (are k reads) ∙ none) in
       let after = own-leaf h2 count1 list1 now.0 now.1 (omega (arith, more)) in
       let in2 = moved-leaves h1 h2 fields.subkeys fields.subkeys_list count1 list1 plan fresh moves after place z ((one z).0 ∙ there) same in
       (four z).0 ∙ ((three z).0 ∙ in2)

@@ -54,7 +54,7 @@ returns-clause-keeps c =
 pub returns-clause-leaves : goal.returns-clause-leaves
 returns-clause-leaves c =
     let subkeys = inserts _ _ _ _ _ _ c.requires.grow.1 _ c.fields-above.ensures _ c.put_nk.ensures.written.others
-            (is_some_of _ _ c.put_nk.ensures.written.here) _ c.put_nk.ensures.reads c.in-Err.index c.in-Err.ensures in
+    (is_some_of _ _ c.put_nk.ensures.written.here) _ c.put_nk.ensures.reads c.in-Err.index c.in-Err.ensures in
     made_leaves _ _ _ _ _ (written_sizes _ _ c.args.key _ c.requires.room.exists c.put_nk.ensures.written) c.insert-list.ensures.keeps c.note_subkeys.ensures.sizes c.recount.ensures.sizes
     c.args.parent _ c.fields-above.ensures (some_subkeys _ _ _ _ _ _ c.requires.grow.1 _ c.fields-above.ensures) (subkeys.0, subkeys.1) c.insert-list.result.count c.insert-list.result.offset _ _
     (_, c.insert-list.ensures.subkeys subkeys.0 subkeys.1) c.insert-list.ensures.moves c.insert-list.ensures.count c.insert-list.ensures.place

@@ -31,4 +31,5 @@ returns-clause-absent c = λ t. absent_some _ _ t _ _ c.values_list-old.ensures 
 
 pub returns-clause-lengths : goal.returns-clause-lengths
 returns-clause-lengths c =
-    λ t. delete_lengths _ _ _ _ _ _ c.args.name.now c.args.moment c.remove-list.result.count c.remove-list.result.offset t c.values_list-old.ensures c.remove-list.ensures.list c.note_values.ensures.notes
+    λ t. delete_lengths _ _ _ _ _ _ c.args.name.now c.args.moment c.remove-list.result.count c.remove-list.result.offset t c.values_list-old.ensures
+    c.remove-list.ensures.list c.note_values.ensures.notes

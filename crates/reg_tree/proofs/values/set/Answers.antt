@@ -26,4 +26,5 @@ returns-clause-limit c = λ t. no_fault _ _ t _ _ c.values_list-old.ensures c.ar
 
 pub returns-clause-lengths : goal.returns-clause-lengths
 returns-clause-lengths c =
-    λ t. set_lengths _ _ _ _ _ _ c.args.name.now c.args.kind c.args.bytes.now c.args.moment c.in-Ok.list.count c.in-Ok.list.offset t c.values_list-old.ensures c.in-Ok.ensures.ok c.note_values.ensures.notes
+    λ t. set_lengths _ _ _ _ _ _ c.args.name.now c.args.kind c.args.bytes.now c.args.moment c.in-Ok.list.count c.in-Ok.list.offset t c.values_list-old.ensures
+    c.in-Ok.ensures.ok c.note_values.ensures.notes

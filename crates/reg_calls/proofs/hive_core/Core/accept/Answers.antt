@@ -33,7 +33,8 @@ invariant_of-self-in-Ok-make c =
     let kept = c.self.invariant.room_kept in
     let more = c.in-Ok.ensures.room in
     let handles = c.len-handles.ensures in
-    let all = kept-done c.self.invariant c.args.session c.args.moment c.args.change none c.make.new.self c.in-Ok-make.reply done c.keep_room.new.journal.room c.append.new.self.room c.requires.session c.arena.ensures.sound c.arena.ensures.whole
+    let all = kept-done c.self.invariant c.args.session c.args.moment c.args.change none c.make.new.self c.in-Ok-make.reply done
+    c.keep_room.new.journal.room c.append.new.self.room c.requires.session c.arena.ensures.sound c.arena.ensures.whole
     ((λ opens. let r = c.in-Ok.ensures.ok opens in omega (arith, r, handles)), (λ closing. omega (arith, kept, more))) c.append.ensures.room in
     let entry : ℕ → Entry = λ k. record { number = k; session = c.args.session; moment = c.args.moment; change = c.args.change; reply = c.in-Ok-make.reply } in
     let entries = c.append.ensures.entries ∙ (ap (λ (x : List Entry). x ++ entry c.len-number.result ∷ []) c.in-Ok.ensures.entries ∙ ap (λ (k : ℕ). es ++ entry k ∷ []) n) in
