@@ -1,1 +1,2 @@
 pub mod CommandLineLemmas
+pub mod FreshHives
