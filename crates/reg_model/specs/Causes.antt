@@ -160,7 +160,7 @@ rule_of (DeleteKey h path) =
     record (plain (KeyOf h) (is_bad_target path)) {
       own = λ s session. refuse (lacks_key s session h path) FILE_NOT_FOUND or refuse (stays s session h path) ACCESS_DENIED;
     }
-rule_of (Close h) = plain (HandleAlone h) false
+rule_of (Close h) = record (plain (HandleAlone h) false) { counted = λ s session. false }
 
 -- the causes so far, and then 5 where rights are asked that the handle lacks
 abbrev pub and_rights : Option ℕ → Option ℕ → Handle → Option ℕ

@@ -35,7 +35,12 @@ refused_script hive is =
         here,
         codes "0 handle 0\n",
         codes "5\n87\n6\nbad\n",
-        (Changed (record { status = 0; number = Some 0; handle = Some 0; disposition = None }), inl (record { says = refl; journal = refl; origin = refl; grows = omega arith; hive = is }), refl, refl),
+        (
+          Changed (record { status = 0; number = Some 0; handle = Some 0; disposition = None }),
+          inl (record { says = refl; journal = refl; origin = refl; grows = omega arith; hive = is }),
+          refl,
+          refl,
+        ),
         (
           here,
           codes "5\n",
