@@ -11,6 +11,7 @@ use Rattle.reg_model.specs.Worlds.{Handle}
 use Rattle.reg_model.specs.Causes.{State, change_cause, query_cause}
 use Rattle.reg_model.specs.Callbacks.{Callbacks, change_status, query_status}
 use Rattle.reg_model.specs.Replies.{reply_to, refusal, body_of}
+use Rattle.reg_model.specs.Calls.{entry_due}
 use Rattle.reg_model.specs.Histories.{state_of, IsLegal, replay}
 use Rattle.reg_model.specs.contracts.reply.Entry.{the_row}
 use Rattle.reg_model.specs.declared.reply.Entry.{Entry}
@@ -63,13 +64,7 @@ pub record HiveInvariant (origin : Tree) (journal : List Entry) (store : Store) 
 
 -- the entry of an accepted change
 abbrev pub entry_of : View → ℕ → ℕ → Change → Entry
-entry_of v session moment change = record {
-  number = length v.journal;
-  session = session;
-  moment = moment;
-  change = change;
-  reply = reply_to (state v) session change;
-}
+entry_of v session moment change = entry_due (state v) session moment change
 
 -- the change is accepted: its reply is the one due, the journal grows by its entry, and the bins by no more than it may take
 pub record IsAccepted (old new : View) (session moment : ℕ) (change : Change) (reply : ChangeReply) : Type 0 where

@@ -133,9 +133,8 @@ impl Hive {
         self.core.apply(session, moment, change)
     }
 
-    /// Answers a question of a session, below 64. 8 comes only in place of an answer that holds a name or bytes.
+    /// Answers a question of a session. 8 comes only in place of an answer that holds a byte of a name or of data.
     pub fn read(&self, session: u8, query: &Query) -> Answer
-        requires { session < SESSIONS_LIMIT }
         ensures at { result.at ≡ length (view_of self.now).journal }
         ensures body { IsRead no_callbacks (state (view_of self.now)) session query.now result.body }
     {

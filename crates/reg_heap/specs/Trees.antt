@@ -1,5 +1,5 @@
 -- Which maps from paths to keys are trees (Win32 registry reference, "Structure of the Registry", "Registry Element Size Limits").
-use Rattle.std.specs.Prelude.{◌≡◌, ◌≢◌, ℕ, ◌≤◌, true, List, [], ◌∷◌, ◌++◌, length, Some, IsSome, ⊤}
+use Rattle.std.specs.Prelude.{◌≡◌, ◌≢◌, ℕ, ◌<◌, ◌≤◌, bit_and, true, List, [], ◌∷◌, ◌++◌, length, Some, IsSome, ⊤}
 use Rattle.std.specs.FinMap.{get}
 use Rattle.std.specs.List.{AllByRecursion}
 use Rattle.reg_names.specs.declared.TheConstants.{PATH_LIMIT}
@@ -25,9 +25,11 @@ pub record IsSmallValue (v : Member) : Type 0 where
   pub name : is_value_name v.name ≡ true
   pub bytes : length v.bytes ≤ DATA_LIMIT
 
--- a key within the limits
+-- a key within the limits; its marks hold no bit of 0x67
 pub record IsSmallKey (r : Rec) : Type 0 where
   pub name : is_key_name r.name ≡ true
+  pub marks : bit_and r.marks 103 ≡ 0
+  pub class : length r.class < 65536
   pub described : 1 ≤ length r.descriptor
   pub descriptor : length r.descriptor ≤ DESCRIPTOR_LIMIT
   pub few : length r.values ≤ VALUES_LIMIT

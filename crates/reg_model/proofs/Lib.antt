@@ -9,4 +9,4 @@ pub mod RowsKeys
 pub mod RowsInfos
 mod RowsOfConstants
 pub mod TreesOfJournals
-pub mod DeletedHandles
+pub mod HandlesUntilClosed

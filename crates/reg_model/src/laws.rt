@@ -1,6 +1,7 @@
 //! Laws of calls, journals and what these make of a tree. Each function is one law: it does nothing, and its contract says
 //! what holds of the definitions in `specs/`.
-ghost use Rattle.std.specs.Prelude.{◌≡◌, ◌≢◌, ◌⊎◌, ◌<◌, ◌+◌, ℕ, List, [], ◌∷◌, ◌++◌, length, map, All, IsSome, Some};
+ghost use Rattle.std.specs.Prelude.{◌≡◌, ◌≢◌, ◌<◌, ◌+◌, ℕ, List, [], ◌∷◌, ◌++◌, length, map, All, IsSome, Some, None};
+ghost use Rattle.std.specs.List.{AllByRecursion};
 ghost use Rattle.std.specs.List.Sorted.{IsStrictlyIncreasing};
 ghost use Rattle.std.specs.FinMap.{get};
 ghost use Rattle.reg_heap.specs.Paths.{Tree};
@@ -11,6 +12,7 @@ ghost use Rattle.reg_model.specs.Causes.{State, Opening, rule_of, path_asked, ch
 ghost use Rattle.reg_model.specs.Calls.{entry_due, reply_given, state_after};
 ghost use Rattle.reg_model.specs.Histories.{IsFit, IsLegal, replay, state_of};
 ghost use Rattle.reg_model.specs.declared.call.Change.{Change};
+ghost use Rattle.reg_model.specs.declared.call.Change.TheVariants.{Close};
 ghost use Rattle.reg_model.specs.declared.reply.Entry.{Entry};
 
 /// The front of a legal journal is legal.
@@ -79,12 +81,17 @@ pub fn handle_has_its_entrys_number()
         Some (opened e (path_asked (replay origin past) e.session (rule_of e.change).of ++ folded_path opening.path) opening.mask) }
 {}
 
-/// A handle whose key was deleted leads nowhere after every further entry, until it is closed; its number then finds nothing.
-pub fn handle_of_a_deleted_key_stays_so()
-    ensures { (origin : Tree) → (past more : List Entry) → (session number : ℕ) → (h : Handle) → IsLegal origin (past ++ more) →
-        look session number (replay origin past).handles ≡ Some h → h.destination ≡ Deleted →
-        (look session number (replay origin (past ++ more)).handles ≡ Some h)
-        ⊎ (look session number (replay origin (past ++ more)).handles ≡ None) }
+/// A session's handle stays until that session closes it: with its mask, and, where its key was deleted, leading nowhere. Once
+/// it is closed, its number finds nothing again.
+pub fn handle_stays_until_it_is_closed()
+    ensures stays { (origin : Tree) → (past more : List Entry) → (session number : ℕ) → (h : Handle) → IsLegal origin (past ++ more) →
+        look session number (replay origin past).handles ≡ Some h →
+        AllByRecursion (λ (e : Entry). e.session ≡ session → e.change ≡ Close number → ⊥) more →
+        (now : Handle) × (look session number (replay origin (past ++ more)).handles ≡ Some now) × (now.mask ≡ h.mask)
+        × (h.destination ≡ Deleted → now ≡ h) }
+    ensures closed { (origin : Tree) → (past : List Entry) → (e : Entry) → (more : List Entry) → (session number : ℕ) →
+        IsLegal origin (past ++ e ∷ more) → e.change ≡ Close number →
+        look session number (replay origin (past ++ e ∷ more)).handles ≡ None }
 {}
 
 /// A tree stays a tree after every legal journal: it holds its root and each key's parent, the last name of a path is its key's

@@ -1,4 +1,4 @@
-use Rattle.std.proofs.Common.{rules, arith, ◌≡◌, ◌≤◌, true, length, sym, ap, ◌∙◌, subst}
+use Rattle.std.proofs.Common.{rules, arith, refl, ◌≡◌, ◌≤◌, true, length, sym, ap, ◌∙◌, subst}
 use Rattle.std.proofs.lemmas.Bool.Decides.{nat_tests}
 use Rattle.reg_names.specs.Names.{is_key_name}
 use Rattle.reg_heap.specs.Trees.{IsTree, IsWithinLimits}
@@ -18,6 +18,8 @@ new-requires-in-Ok-clause-limits c =
     let short = c.if-descriptor-gt-DESCRIPTOR_LIMIT.false in
     subst IsWithinLimits (sym c.in-Ok.ensures.ok) (limits-root (made_root c.args.root_name.now c.args.descriptor.now c.args.moment) (record {
       name = name;
+      marks = refl;
+      class = omega arith;
       described = described;
       descriptor = short;
       few = omega arith;
