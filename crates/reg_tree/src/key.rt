@@ -3,6 +3,7 @@ ghost use Rattle.std.specs.Prelude.{◌≡◌, ◌≤◌, ◌<◌, ◌^◌, IsSo
 ghost use Rattle.reg_names.specs.declared.TheConstants.{KEY_NAME_LIMIT};
 ghost use Rattle.reg_arena.specs.Arena.{heap_of};
 ghost use Rattle.reg_records.specs.KeyNodes.{KeyRecord, key_at};
+ghost use Rattle.reg_tree.specs.NewHive.{root_fields};
 ghost use Rattle.reg_tree.specs.Internal.KeyNodeChanges.{HasList, HasSubkeysList, Notes, SameSizes, noted, noted_subkeys, raised, made_fields};
 
 use reg_arena::Arena;
@@ -22,22 +23,7 @@ const MADE_FLAGS: u16 = 0x20;
 
 /// The fixed part of a new root's key node.
 pub fn new_root(security: u32, moment: u64) -> KeyFields
-    ensures { result ≡ record {
-      flags = 44;
-      time = moment;
-      parent = NONE;
-      subkeys = 0;
-      subkeys_list = NONE;
-      values = 0;
-      values_list = NONE;
-      security = security;
-      class = NONE;
-      class_length = 0;
-      largest_subkey_name = 0;
-      largest_subkey_class = 0;
-      largest_value_name = 0;
-      largest_value_data = 0;
-    } }
+    ensures { result ≡ root_fields security moment }
 {
     KeyFields {
         flags: ROOT_FLAGS,

@@ -51,7 +51,7 @@ impl Tree {
 
     /// A tree of one root: the name as given, mark 8 (no delete), no class, the descriptor, the moment (100 ns ticks since
     /// 1601), no values. Its bins are one, of the least size for the key node and its security, whose cells have just their
-    /// sizes. Its one fault is `Memory`.
+    /// sizes and hold the two records, with zeros behind them. Its one fault is `Memory`.
     #[tactic(auto, using(crate::proofs::InsertKey::PathGrowth::name_short))]
     pub fn new(
         alloc: Global,
@@ -62,7 +62,7 @@ impl Tree {
         requires name { is_key_name root_name.now ≡ true }
         requires descriptor { (1 ≤ length descriptor.now) × (length descriptor.now ≤ DESCRIPTOR_LIMIT) }
         ensures ok { IfOk result (λ t. t.tree ≡ insert empty [] (made_root root_name.now descriptor.now moment)) }
-        ensures cells { IfOk result (λ t. IsNewHive t root_name.now descriptor.now) }
+        ensures cells { IfOk result (λ t. IsNewHive t root_name.now descriptor.now moment) }
         ensures err { IfErr result (λ fault. fault ≡ TreeFault.Memory) }
         ensures bin { IfOk result (λ t. IsBinSize (length t.bins.bytes)
             (cell_size_of (76 + length root_name.now) + cell_size_of (20 + length descriptor.now))) }

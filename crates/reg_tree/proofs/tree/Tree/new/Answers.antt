@@ -19,5 +19,6 @@ returns-clause-ok c =
 
 pub returns-clause-cells : goal.returns-clause-cells
 returns-clause-cells c =
-    fresh_bin _ _ _ _ c.in-Ok.cells.0 c.in-Ok.cells.1 _ _ _ _ c.args.root_name.now c.args.descriptor.now c.new-arena.ensures.bytes c.cell_size-node_size.ensures.size
-    c.cell_size-ring_size.ensures.size c.in-Ok.ensures.exact c.put_sk.ensures.written c.put_nk.ensures.written
+    fresh_bin _ _ _ _ c.in-Ok.cells.0 c.in-Ok.cells.1 _ _ _ _ c.args.root_name.now c.args.descriptor.now c.args.moment c.new-arena.ensures.bytes
+    c.new_root.ensures c.new_ring.ensures c.cell_size-node_size.ensures.size c.cell_size-ring_size.ensures.size c.in-Ok.ensures.ok
+    c.in-Ok.ensures.exact c.put_sk.ensures.written c.put_nk.ensures.written
