@@ -22,6 +22,10 @@ lengths_of key = record {
   value_data = key.fields.largest_value_data;
 }
 
+-- those of a key that has no subkeys, no class and no values, and never had any
+abbrev pub no_lengths : Lengths
+no_lengths = record { subkey_name = 0; subkey_class = 0; value_name = 0; value_data = 0 }
+
 -- those of the key whose key node stands at an offset
 abbrev pub lengths_at : Heap → ℕ → Option Lengths
 lengths_at heap offset = option_map lengths_of (key_at heap offset)

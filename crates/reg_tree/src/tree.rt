@@ -46,12 +46,12 @@ impl Tree {
     ghost use Rattle.reg_tree.specs.TreeKeys.{made_root, IsWholeTree, IsAt, IsThere, IsResolved, KeepsNodes, MakesKeys};
     ghost use Rattle.reg_tree.specs.CreateSizes.{create_sizes};
     ghost use Rattle.reg_tree.specs.NewHive.{IsNewHive};
-    ghost use Rattle.reg_tree.specs.KeyLengths.{ChangesLengths, KeepsLengths, with_value_lengths, with_first_length};
+    ghost use Rattle.reg_tree.specs.KeyLengths.{ChangesLengths, KeepsLengths, lengths_at, no_lengths, with_value_lengths, with_first_length};
     ghost use Rattle.reg_tree.specs.ValueAnswers.{IsFound};
 
     /// A tree of one root: the name as given, mark 8 (no delete), no class, the descriptor, the moment (100 ns ticks since
-    /// 1601), no values. Its bins are one, of the least size for the key node and its security, whose cells have just their
-    /// sizes and hold the two records, with zeros behind them. Its one fault is `Memory`.
+    /// 1601), no values; its four largest lengths are 0. Its bins are one, of the least size for the key node and its security,
+    /// whose cells have just their sizes and hold the two records, with zeros behind them. Its one fault is `Memory`.
     #[tactic(auto, using(crate::proofs::InsertKey::PathGrowth::name_short))]
     pub fn new(
         alloc: Global,
@@ -62,6 +62,7 @@ impl Tree {
         requires name { is_key_name root_name.now ≡ true }
         requires descriptor { (1 ≤ length descriptor.now) × (length descriptor.now ≤ DESCRIPTOR_LIMIT) }
         ensures ok { IfOk result (λ t. t.tree ≡ insert empty [] (made_root root_name.now descriptor.now moment)) }
+        ensures lengths { IfOk result (λ t. lengths_at (heap_of t.bins) t.root ≡ Some no_lengths) }
         ensures cells { IfOk result (λ t. IsNewHive t root_name.now descriptor.now moment) }
         ensures err { IfErr result (λ fault. fault ≡ TreeFault.Memory) }
         ensures bin { IfOk result (λ t. IsBinSize (length t.bins.bytes)
