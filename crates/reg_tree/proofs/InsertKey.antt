@@ -11,6 +11,7 @@ pub mod MadeCells
 pub mod PathCarve
 pub mod InsertKeyObligations
 pub mod SpareCellTaken
+pub mod LengthsOfMade
 pub mod PathGrowth
 pub mod SpareCellsCarved
 pub mod CreatePath

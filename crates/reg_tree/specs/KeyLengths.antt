@@ -1,5 +1,6 @@
 -- The largest lengths that key nodes note (Suhanov, Windows registry file format specification, "Key node").
-use Rattle.std.specs.Prelude.{◌≡◌, ◌≢◌, ℕ, ◌+◌, ◌-◌, ◌*◌, ◌%◌, max, Option, option_map, List, [], ◌∷◌, length}
+use Rattle.std.specs.Prelude.{◌≡◌, ◌≢◌, ℕ, ◌+◌, ◌-◌, ◌*◌, ◌%◌, max, Option, Some, option_map, List, [], ◌∷◌, ◌++◌, map, length}
+use Rattle.reg_names.specs.Names.{folded}
 use Rattle.reg_heap.specs.Heaps.{Heap}
 use Rattle.reg_heap.specs.Paths.{Path}
 use Rattle.reg_arena.specs.Arena.{heap_of}
@@ -50,6 +51,12 @@ pub record ChangesLengths (old new : Keys) (path : Path) (change : Lengths → L
       lengths_at (heap_of new.bins) node.offset ≡ option_map change (lengths_at (heap_of old.bins) node.offset)
   pub others : (other : Path) (node : Node) → other ≢ path → IsAt old other node →
       lengths_at (heap_of new.bins) node.offset ≡ lengths_at (heap_of old.bins) node.offset
+
+-- of keys of these names made one below the other, below the one at a path, each notes the length of the name of the one made
+-- right below it, and the last that there is none
+abbrev pub NotesMade : Keys → Path → List (List ℕ) → Type 0
+NotesMade new path names = (front back : List (List ℕ)) (node : Node) → names ≡ front ++ back → front ≢ [] →
+    IsAt new (path ++ map folded front) node → lengths_at (heap_of new.bins) node.offset ≡ Some (with_first_length back no_lengths)
 
 -- each key that is still there has the largest lengths that it had
 abbrev pub KeepsLengths : Keys → Keys → Type 0

@@ -46,7 +46,7 @@ impl Tree {
     ghost use Rattle.reg_tree.specs.TreeKeys.{made_root, IsWholeTree, IsAt, IsThere, IsResolved, KeepsNodes, MakesKeys};
     ghost use Rattle.reg_tree.specs.CreateSizes.{create_sizes};
     ghost use Rattle.reg_tree.specs.NewHive.{IsNewHive};
-    ghost use Rattle.reg_tree.specs.KeyLengths.{ChangesLengths, KeepsLengths, lengths_at, no_lengths, with_value_lengths, with_first_length};
+    ghost use Rattle.reg_tree.specs.KeyLengths.{ChangesLengths, KeepsLengths, NotesMade, lengths_at, no_lengths, with_value_lengths, with_first_length};
     ghost use Rattle.reg_tree.specs.ValueAnswers.{IsFound};
 
     /// A tree of one root: the name as given, mark 8 (no delete), no class, the descriptor, the moment (100 ns ticks since
@@ -273,6 +273,8 @@ impl Tree {
     /// the time of each and of the first one's parent. Answers the last key of the path, and whether a key was made: if none
     /// was, nothing changed. After a fault the tree is as before.
     ///
+    /// The four largest lengths of a key made are 0, but for that of its subkeys' names where the next is made below it.
+    ///
     /// The cells that come are a key node's for each key made, of its size, and its parent's list's, where that needs a cell.
     ///
     /// `Limit` where a key is missing and more than 32 are, or the path has more than 512 names from the root on, or the
@@ -293,6 +295,8 @@ impl Tree {
         ensures lengths { (p : Path) → IsAt self.old p from →
             OnOk result (ChangesLengths self.old self.new (last_there self.old.tree p (path_of path.now))
             (with_first_length (missing self.old.tree p (path_of path.now)))) }
+        ensures made { (p : Path) → IsAt self.old p from →
+            OnOk result (NotesMade self.new (last_there self.old.tree p (path_of path.now)) (missing self.old.tree p (path_of path.now))) }
         ensures same { IfOk result (λ made. made.is_new ≡ false → self.new ≡ self.old) }
         ensures limit { (p : Path) → IsAt self.old p from → ((result ≡ Err TreeFault.Limit) ↔ (are_too_many self.old.tree p (path_of path.now) ≡ true)) }
         ensures full { (result ≡ Err TreeFault.Full) → BINS_LIMIT < length self.old.bins.bytes + GROWTH_BOUND }

@@ -9,7 +9,7 @@ use Rattle.reg_heap.specs.Heaps.{Heap}
 use Rattle.reg_arena.specs.Arena.{Bins, heap_of}
 use Rattle.reg_values.specs.ValueLists.{Makes}
 use Rattle.reg_tree.specs.CreateSizes.{create_sizes}
-use Rattle.reg_tree.specs.KeyLengths.{ChangesLengths, with_first_length}
+use Rattle.reg_tree.specs.KeyLengths.{ChangesLengths, NotesMade, with_first_length}
 use Rattle.reg_tree.specs.declared.node.Node.{Node}
 use Rattle.reg_tree.specs.declared.node.Created.{Created}
 use Rattle.reg_tree.specs.declared.fault.TreeFault.{TreeFault}
@@ -105,6 +105,17 @@ module _ (bins : Bins) (root : ℕ) (holds : TreeInvariant bins.bytes root) (now
         by (Ok made) c =
             subst (λ (k : Keys). ChangesLengths k (seen_as new root) (last_there k.tree p (path_of text)) (with_first_length (missing k.tree p (path_of text)))) view_is
             (record { here = λ n a. c.lengths.here n.offset a.offset; others = λ q n d a. c.lengths.others q n.offset d a.offset })
+        by (Err f) c = c
+
+    -- those of the keys that were made
+    pub noted_created : (p : Path) → IsAt now p from → OnOk result (NotesMade (seen_as new root) (last_there now.tree p (path_of text)) (missing now.tree p (path_of text)))
+    noted_created p at = by result (its p at)
+      where
+        by : (r : Answer) → IfOk r (λ made. IsCreated bins.bytes new.bytes root p from (path_of text) moment made.node) →
+            OnOk r (NotesMade (seen_as new root) (last_there now.tree p (path_of text)) (missing now.tree p (path_of text)))
+        by (Ok made) c =
+            of_tree bins root holds now view_is (λ t. NotesMade (seen_as new root) (last_there t p (path_of text)) (missing t p (path_of text)))
+            (λ front back node parts some there. c.noted front back node.offset parts some there.offset)
         by (Err f) c = c
 
     -- all of it together

@@ -24,7 +24,7 @@ use Rattle.reg_tree.specs.TreeKeys.{Keys, tree_in}
 use Rattle.reg_records.proofs.KeyNodeCodec.{key_at-same}
 use Rattle.reg_shape.proofs.Wholeness.ShapeRecords.{at-most-one, allocated-is}
 use Rattle.reg_tree.specs.KeyLengths.{lengths_of, lengths_at, with_first_length}
-use Rattle.reg_tree.specs.Internal.LengthChanges.{LengthsChange}
+use Rattle.reg_tree.specs.Internal.LengthChanges.{LengthsChange, MadeLengths}
 use Rattle.reg_tree.specs.CreateSizes.{planned, own_sizes, sizes_of, create_sizes}
 use Rattle.reg_tree.specs.Internal.TreeInvariant.{TreeInvariant, IsHere}
 use Rattle.reg_tree.specs.Internal.PathWalks.{Stops, Reaches}
@@ -36,6 +36,7 @@ use Rattle.reg_tree.proofs.PathWalk.PathSteps.{as-many, here_then}
 use Rattle.reg_tree.proofs.InsertKey.SpareCellsCarved.{tree-spared, offsets-spared, may_grow_all}
 use Rattle.reg_tree.proofs.InsertKey.MadeCells.{made_makes}
 use Rattle.reg_tree.proofs.InsertKey.PathGrowth.{unchanged}
+use Rattle.reg_tree.proofs.InsertKey.LengthsOfMade.{none_made}
 
 -- ---- keys that are there
 
@@ -170,6 +171,7 @@ module _ (old : List ℕ) (from : TreeNode) (t : IsHere old from.offset) (path :
     keeps = λ q o e. e;
     lengths = subst (λ ns. LengthsChange (cell_at old) (cell_at old) t.root (last_there tree t.path names) (with_first_length ns)) (sym (missing-are ∙ e))
         (record { here = λ o f. unchanged (lengths_at (cell_at old) o); others = λ q o n f. refl });
+    noted = subst (MadeLengths (cell_at old) t.root (last_there tree t.path names)) (sym (missing-are ∙ e)) (none_made (cell_at old) t.root (last_there tree t.path names));
   }
 
   pub new_none : left ≡ [] → (false ≡ true) ↔ (missing tree t.path names ≢ [])
@@ -256,6 +258,8 @@ module _ (old : List ℕ) (from : TreeNode) (t : IsHere old from.offset) (path :
                       ∙ ap (option_map (with_first_length left)) (carved_lengths old mid t.root t.holds spare s.come (t.path ++ map folded passed) o e);
                   others = λ q o n e. grown.lengths.others q o n (then-at q o e) ∙ carved_lengths old mid t.root t.holds spare s.come q o e;
                 }));
+            noted = subst (λ p. MadeLengths (cell_at new) t.root p (missing tree t.path names)) (sym last-is)
+                (subst (MadeLengths (cell_at new) t.root (t.path ++ map folded passed)) (sym missing-are) grown.noted);
           }
         where
           then-at : (q : Path) (o : ℕ) → key_offset_at (cell_at old) t.root q ≡ Some o → key_offset_at (cell_at mid) t.root q ≡ Some o

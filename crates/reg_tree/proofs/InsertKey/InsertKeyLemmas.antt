@@ -1,5 +1,5 @@
 -- What stands when a key was made below another: the shape, the tree that is spelt, and where each key stands.
-use Rattle.std.proofs.Common.{◌≡◌, ◌≢◌, ℕ, zero, suc, ◌+◌, ◌≤◌, ◌<◌, Bool, true, false, cond, Option, Some, None, IsSome, List, [], ◌∷◌, ◌++◌, length}
+use Rattle.std.proofs.Common.{◌≡◌, ◌≢◌, ℕ, ◌+◌, ◌≤◌, ◌<◌, Bool, true, false, cond, Option, Some, None, IsSome, List, [], ◌∷◌, ◌++◌, length}
 use Rattle.std.proofs.Common.{refl, sym, ap, ◌∙◌, subst, arith}
 use Rattle.std.specs.Prelude.{Err}
 use Rattle.std.specs.Option.{option_map, option_and_then}
@@ -41,7 +41,7 @@ use Rattle.reg_tree.proofs.InsertKey.MadeKeyRecord.{made_record, made_node}
 use Rattle.reg_tree.proofs.InsertKey.ParentReindexed.{reindexed}
 use Rattle.reg_tree.proofs.ValueChange.TreeAfterValueChange.{edited-at}
 use Rattle.reg_tree.proofs.Invariant.UntouchedCells.{rooted-none}
-use Rattle.reg_tree.specs.KeyLengths.{with_first_length}
+use Rattle.reg_tree.specs.KeyLengths.{lengths_of, with_first_length}
 use Rattle.reg_tree.proofs.Invariant.LengthsAfterGraft.{lengths_which}
 use Rattle.reg_tree.proofs.Invariant.KeyOfShape as keyed
 use Rattle.reg_tree.proofs.InsertKey.InsertKeyCells as cells
@@ -204,6 +204,7 @@ module _ (h0 h1 h2 h3 h4 : Heap) (root : ℕ) (keys : Branch Node) (ring : List 
             lengths =
                 lengths_which h0 h4 root p keys was is (keyed.branch_is h0 root keys ring spare w p parent at) same-name w.offset w.stands
                 (shape-made (omega (arith, deep))).offset (shape-made (omega (arith, deep))).stands below-same (with_first_length (name ∷ [])) refl;
+            fresh = ap (option_map lengths_of) key4;
           }
             where
               same-name : name_of now.key ≡ name_of was.node.key

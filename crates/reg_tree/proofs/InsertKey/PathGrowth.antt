@@ -23,7 +23,7 @@ use Rattle.reg_shape.specs.Internal.Shapes.{index_cells}
 use Rattle.reg_shape.proofs.Wholeness.ShapeCounts.{tally-append}
 use Rattle.reg_shape.proofs.Wholeness.ShapeRecords.{at-most-one, is-allocated}
 use Rattle.reg_tree.specs.KeyLengths.{Lengths, lengths_at, with_first_length}
-use Rattle.reg_tree.specs.Internal.LengthChanges.{LengthsChange, WhichLengths}
+use Rattle.reg_tree.specs.Internal.LengthChanges.{LengthsChange, MadeLengths, WhichLengths}
 use Rattle.reg_tree.specs.Internal.KeyNodeChanges.{LeavesOthers}
 use Rattle.reg_index.proofs.SubkeysFrame.{owned-index}
 use Rattle.reg_shape.specs.Internal.Forests.{Branch}
@@ -42,6 +42,7 @@ use Rattle.reg_index.specs.Subkeys.{IsReady, KeepsCells, own, taken}
 use Rattle.reg_index.proofs.SubkeysOpening.{own-is}
 use Rattle.reg_tree.specs.declared.node.Node.{Node as TreeNode}
 use Rattle.reg_tree.specs.Internal.SpareCells.{planned, IsGrowing, MayGrow, Grows, HaveSizes, AreReady, own_sizes, MayGrowAll, GrowsAll}
+use Rattle.reg_tree.proofs.InsertKey.LengthsOfMade.{none_made, one_below, one_more}
 use Rattle.reg_tree.proofs.Invariant.KeyOfShape as keyed
 use Rattle.reg_tree.proofs.Invariant.UntouchedCells.{times-one}
 
@@ -173,6 +174,10 @@ pub record Midway (bytes0 : List ℕ) (from : TreeNode) (names0 : List (List ℕ
   pub depth : node.depth + length (path_of rest) ≡ from.depth + length names0
   pub keeps : (q : Path) (o : ℕ) → key_offset_at (cell_at bytes0) m.growing.root q ≡ Some o → key_offset_at (cell_at bytes) m.growing.root q ≡ Some o
   pub lengths : NotedSoFar (cell_at bytes0) (cell_at bytes) m.growing.root m.growing.path names0 grow.growing.path (path_of rest)
+  pub done : List (List ℕ)
+  pub parts : names0 ≡ done ++ path_of rest
+  pub at_is : grow.growing.path ≡ m.growing.path ++ map folded done
+  pub noted : MadeLengths (cell_at bytes) m.growing.root m.growing.path done
   pub keeps_cells : KeepsCells (cell_at bytes0) (cell_at bytes)
   pub stay : (z : ℕ) → 0 < times z spare0 → IsSome (cell_at bytes z)
   pub apart : (k : KeyRecord) → key_at (cell_at bytes) node.offset ≡ Some k → (z : ℕ) → 0 < times z spare0 → times z (own (cell_at bytes) k.fields.subkeys k.fields.subkeys_list) ≡ 0
@@ -189,6 +194,10 @@ at_start bytes from path spare m moment v = record {
   depth = refl;
   keeps = λ q o e. e;
   lengths = inl (refl, refl, λ q o e. refl);
+  done = [];
+  parts = refl;
+  at_is = sym (append-nil m.growing.path);
+  noted = none_made (cell_at bytes) m.growing.root m.growing.path;
   keeps_cells = λ z some. (some, refl);
   stay = spare_there bytes from.offset spare m.growing;
   apart = spare_apart bytes from.offset spare m.growing;
@@ -313,6 +322,12 @@ module _ (bytes0 : List ℕ) (from : TreeNode) (names0 : List (List ℕ)) (spare
         depth = (let d = mid.depth in let n = ap length f.names in omega (arith, d, n));
         keeps = λ q o e. subst (λ r. key_offset_at k r q ≡ Some o) mid.root_is (keeps_then q o (subst (λ r. key_offset_at (cell_at bytes) r q ≡ Some o) (sym mid.root_is) (mid.keeps q o e)));
         lengths = inr (apart_then, noted_then mid.lengths);
+        done = mid.done ++ name ∷ [];
+        parts = mid.parts ∙ (ap (λ ns. mid.done ++ ns) f.names ∙ sym (append_assoc mid.done (name ∷ []) (path_of behind)));
+        at_is = sym (one_below m.growing.path mid.done name g.path mid.at_is);
+        noted = subst (λ r. MadeLengths k r m.growing.path (mid.done ++ name ∷ [])) mid.root_is
+            (one_more (cell_at bytes) k g.root m.growing.path mid.done name made g.path mid.at_is grows.offsets grows.fresh grows.lengths
+            (subst (λ r. MadeLengths (cell_at bytes) r m.growing.path mid.done) (sym mid.root_is) mid.noted));
         keeps_cells = λ z some. (let q = kept z some in let p = mid.keeps_cells z q.0 in (p.0, q.1 ∙ p.1));
         stay = λ z l. leaves node_is.0 node_is.1 z (mid.stay z l) (mid.apart node_is.0 node_is.1 z l);
         apart = λ r e z l. ap (λ n. times z (own k n r.fields.subkeys_list)) (grows.none r e);
@@ -336,4 +351,5 @@ module _ (bytes0 : List ℕ) (from : TreeNode) (names0 : List (List ℕ)) (spare
         depth = (let d = mid.depth in let n = ap length e in omega (arith, d, n));
         keeps = mid.keeps;
         lengths = noted_all _ _ _ _ _ _ _ e mid.lengths;
+        noted = subst (MadeLengths (cell_at bytes) m.growing.root m.growing.path) (sym (mid.parts ∙ (ap (λ ns. mid.done ++ ns) e ∙ append-nil mid.done))) mid.noted;
       }

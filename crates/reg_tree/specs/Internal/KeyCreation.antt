@@ -10,7 +10,7 @@ use Rattle.reg_shape.specs.PathLookup.{key_offset_at}
 use Rattle.reg_tree.specs.declared.node.Node.{Node}
 use Rattle.reg_tree.specs.TreeKeys.{tree_in}
 use Rattle.reg_tree.specs.KeyLengths.{with_first_length}
-use Rattle.reg_tree.specs.Internal.LengthChanges.{LengthsChange}
+use Rattle.reg_tree.specs.Internal.LengthChanges.{LengthsChange, MadeLengths}
 use Rattle.reg_tree.specs.Internal.TreeInvariant.{TreeInvariant}
 
 -- the tree has the missing ones of the keys that some names lead to from a path on, a node is the last one's, and each key that
@@ -23,6 +23,7 @@ pub record IsCreated (old new : List ℕ) (root : ℕ) (path : Path) (from : Nod
   pub keeps : (q : Path) (o : ℕ) → key_offset_at (cell_at old) root q ≡ Some o → key_offset_at (cell_at new) root q ≡ Some o
   pub lengths : LengthsChange (cell_at old) (cell_at new) root (last_there (tree_in old root) path names)
       (with_first_length (missing (tree_in old root) path names))
+  pub noted : MadeLengths (cell_at new) root (last_there (tree_in old root) path names) (missing (tree_in old root) path names)
 
 -- one of the keys is missing, and they would be too many
 pub record AreTooMany (t : Tree) (p : Path) (names : List (List ℕ)) : Type 0 where

@@ -20,8 +20,8 @@ use Rattle.reg_records.specs.RecordCells.{HasRoom, held}
 use Rattle.reg_index.specs.Subkeys.{IsReady, taken}
 use Rattle.reg_tree.specs.declared.node.Node.{Node as TreeNode}
 pub use Rattle.reg_tree.specs.CreateSizes.{planned, planned_sizes, key_size, own_sizes, sizes_of}
-use Rattle.reg_tree.specs.KeyLengths.{with_first_length}
-use Rattle.reg_tree.specs.Internal.LengthChanges.{LengthsChange, WhichLengths}
+use Rattle.reg_tree.specs.KeyLengths.{lengths_at, no_lengths, with_first_length}
+use Rattle.reg_tree.specs.Internal.LengthChanges.{LengthsChange, MadeLengths, WhichLengths}
 use Rattle.reg_tree.specs.Internal.TreeInvariant.{rooted}
 
 -- a key of a tree whose keys have all cells but those that are spare
@@ -55,6 +55,7 @@ pub record Grows (old new : Heap) (root : ℕ) (path : Path) (keys : Branch Node
   pub none : (k : KeyRecord) → key_at new made ≡ Some k → k.fields.subkeys ≡ 0
   pub lengths : (q : Path) (o : ℕ) → key_offset_at old root q ≡ Some o → key_offset_at new root q ≡ Some o →
       WhichLengths old new path (with_first_length (name ∷ [])) q o
+  pub fresh : lengths_at new made ≡ Some no_lengths
 
 -- cells are of these sizes or larger, one by one, the size field counted
 abbrev pub HaveSizes : Heap → List ℕ → List ℕ → Type 0
@@ -98,6 +99,7 @@ pub record GrowsAll (old new : Heap) (root : ℕ) (path : Path) (keys : Branch N
   pub depth : made.depth ≡ from.depth + length names
   pub keeps : (q : Path) (o : ℕ) → key_offset_at old root q ≡ Some o → key_offset_at new root q ≡ Some o
   pub lengths : LengthsChange old new root path (with_first_length names)
+  pub noted : MadeLengths new root path names
 
 -- the cells that keys of these names take below a key are new, each once, in order and of their sizes, and no other cell changed
 pub record IsSpared (old new : List ℕ) (key : ℕ) (names : List (List ℕ)) (spare : List ℕ) : Type 0 where

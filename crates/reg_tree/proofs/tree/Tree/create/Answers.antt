@@ -5,7 +5,7 @@ use Rattle.reg_arena.specs.Arena.{heap_of}
 use Rattle.reg_heap.specs.Edits.{are_too_many}
 use Rattle.reg_tree.specs.declared.fault.TreeFault.TheVariants.{Limit}
 use Rattle.reg_tree.proofs.Invariant.NodeLemmas.{here_at, of_tree}
-use Rattle.reg_tree.proofs.InsertKey.CreateKeepsNodes.{from_at, holds_created, keys_created, cells_created, same_created, lengths_created}
+use Rattle.reg_tree.proofs.InsertKey.CreateKeepsNodes.{from_at, holds_created, keys_created, cells_created, same_created, lengths_created, noted_created}
 use Rattle.reg_tree.proofs.InsertKey.KeyLimits.{by_test}
 use Rattle.reg_tree.proofs.tree.Tree.create.Goals as goal
 
@@ -34,3 +34,6 @@ returns-clause-same c = same_created _ _ c.self.invariant _ c.self.view_is c.cre
 
 pub returns-clause-lengths : goal.returns-clause-lengths
 returns-clause-lengths c = lengths_created _ _ c.self.invariant _ c.self.view_is _ c.create.result c.args.from c.requires.from c.args.path.now c.args.moment c.create.ensures.ok c.create.ensures.err
+
+pub returns-clause-made : goal.returns-clause-made
+returns-clause-made c = noted_created _ _ c.self.invariant _ c.self.view_is _ c.create.result c.args.from c.requires.from c.args.path.now c.args.moment c.create.ensures.ok c.create.ensures.err
