@@ -38,10 +38,11 @@ pub record Became (old new : Heap) (met : List Found) (count list_offset : ℕ) 
   pub frame : CellFrame old new (λ offset. owned offset met) (λ offset. owned offset cells)
   pub written : AreWritten new count list_offset members
 
--- the cells that came have these sizes, in order
+-- the cells that came, each counted once, have these sizes, in order
 pub record Makes (old new : Heap) (sizes : List ℕ) : Type 0 where
   pub offsets : List ℕ
   pub sizes_are : map (λ offset. length (held new offset) + 4) offsets ≡ sizes
+  pub once : (offset : ℕ) → times offset offsets ≤ 1
   pub fresh : (offset : ℕ) → 0 < times offset offsets → old offset ≡ None
   pub only : (offset : ℕ) → old offset ≡ None → IsSome (new offset) → 0 < times offset offsets
 

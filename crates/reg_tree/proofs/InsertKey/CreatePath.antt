@@ -286,7 +286,7 @@ module _ (bins : Bins) (from : TreeNode) (t : IsHere bins.bytes from.offset) (pa
   pub no_cells : path_of rest ≡ [] → Makes heap heap (create_sizes seen t.path (path_of path))
   no_cells e =
       subst (Makes heap heap) (sym (created_sizes ∙ ap (λ names. sizes_of (planned heap parent.offset) (map own_sizes names)) e))
-      (record { offsets = []; sizes_are = refl; fresh = λ z l. absurd (omega (arith, l)); only = λ z none there. absurd (false≢true (sym (ap is_some none) ∙ there)) })
+      (record { offsets = []; sizes_are = refl; once = λ z. omega arith; fresh = λ z l. absurd (omega (arith, l)); only = λ z none there. absurd (false≢true (sym (ap is_some none) ∙ there)) })
 
   pub created_cells : (mid new spare : List ℕ) → IsSpared bins.bytes mid parent.offset (path_of rest) spare → KeepsCells (cell_at mid) (cell_at new) →
       ((z : ℕ) → 0 < times z spare → IsSome (cell_at new z)) → Makes heap (cell_at new) (create_sizes seen t.path (path_of path))

@@ -136,6 +136,7 @@ module _ (old mid new : List ℕ) (key : ℕ) (names : List (List ℕ)) (spare :
   made_makes = record {
     offsets = spare;
     sizes_are = map-same (λ z. length (held (cell_at new) z) + 4) (λ z. length (held (cell_at mid) z) + 4) spare (λ z l. ap (λ n. n + 4) (keeps z (stay z l)).1) ∙ s.sizes;
+    once = λ z. (let c = s.come.count z in let a = at-most-one (cell_at mid) z in omega (arith, c, a));
     fresh = came;
     only = alone;
   }

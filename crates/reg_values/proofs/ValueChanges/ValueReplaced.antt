@@ -152,6 +152,7 @@ module _ (h0 h1 h2 : Heap) (cell : ℕ) (own : Owns (member_at cell) h0) (w : Is
       makes-none = record {
         offsets = [];
         sizes_are = refl;
+        once = λ z. omega arith;
         fresh = λ z l. absurd (omega arith);
         only = λ z e t. absurd (let a = f1.writes.count z in let b = f2.writes.count z in let c = there-one h2 z t in
             let n : allocated h0 z ≡ 0 = ap (λ (o : Option (List ℕ)). cond (is_some o) 1 0) e in omega (arith, a, b, c, n));

@@ -117,6 +117,7 @@ makes h0 h1 h offsets sizes a s less same = record {
       let e = same (get_or offsets i 0) (times-in offsets i (omega (arith, n, l))) in
       let eight = sizes-at sizes i s l in
       omega (arith, k, e, eight, length-replicate {A = ℕ} (get_or sizes i 0 - 4) 0));
+  once = λ z. (let c = a.come.count z in let b = allocated-le h1 z in omega (arith, c, b));
   fresh = λ z l. none-there (h0 z) (let c = a.come.count z in let b = allocated-le h1 z in omega (arith, c, b, l));
   only = λ z e s. (let c = a.come.count z in let b = less z in let t = there-one h z s in
       let n : allocated h0 z ≡ 0 = ap (λ (o : Option (List ℕ)). cond (is_some o) 1 0) e in omega (arith, c, b, t, n));
