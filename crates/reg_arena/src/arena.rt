@@ -210,6 +210,7 @@ impl Arena {
             × NoFit self.old.bytes (total_of sizes.now)) }
         ensures err { OnErr result ((self.new ≡ self.old) × (out.new.items ≡ out.old.items)) }
         ensures grows { OnOk result (length self.new.bytes ≤ length self.old.bytes + 4127 + total_of sizes.now) }
+        ensures kept { OnOk result (length self.old.bytes ≤ length self.new.bytes) }
     {
         if sizes.is_empty() {
             return Ok(());

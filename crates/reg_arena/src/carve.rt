@@ -73,7 +73,7 @@ fn carve_at(
 }
 
 // Carves from the free cell at `place`.
-#[tactic(auto, using(crate::proofs::Carving::CarvedCells::adds_cells, crate::proofs::Carving::BinGrowth::grows_none))]
+#[tactic(auto, using(crate::proofs::Carving::CarvedCells::adds_cells, crate::proofs::Carving::BinGrowth::grows_none, crate::proofs::Carving::BinGrowth::keeps))]
 pub fn carve_found(
     bins: &mut Vec<u8>,
     head: &mut u32,
@@ -97,6 +97,7 @@ pub fn carve_found(
     ensures fault { IfErr result (λ fault. fault ≡ ArenaFault.Memory) }
     ensures err { OnErr result ((bins.new.items ≡ bins.old.items) × (head.new ≡ head.old) × (out.new.items ≡ out.old.items)) }
     ensures grows { OnOk result (length bins.new.items ≤ length bins.old.items + 4127 + total_of sizes.now) }
+    ensures kept { OnOk result (length bins.old.items ≤ length bins.new.items) }
 {
     if out.reserve(sizes.len()).is_err() {
         return Err(ArenaFault::Memory);
@@ -131,6 +132,7 @@ pub fn carve_bin(
     ensures fault { IfErr result (λ fault. fault ≡ ArenaFault.Memory) }
     ensures err { OnErr result ((bins.new.items ≡ bins.old.items) × (head.new ≡ head.old) × (out.new.items ≡ out.old.items)) }
     ensures grows { OnOk result (length bins.new.items ≤ length bins.old.items + 4127 + total_of sizes.now) }
+    ensures kept { OnOk result (length bins.old.items ≤ length bins.new.items) }
 {
     if out.reserve(sizes.len()).is_err() {
         return Err(ArenaFault::Memory);

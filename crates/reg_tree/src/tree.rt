@@ -241,6 +241,7 @@ impl Tree {
         ensures others { IfErr result (λ fault. (fault ≡ TreeFault.Limit) ⊎ ((fault ≡ TreeFault.Full) ⊎ (fault ≡ TreeFault.Memory))) }
         ensures err { OnErr result (self.new ≡ self.old) }
         ensures grows { OnOk result (length self.new.bins.bytes ≤ length self.old.bins.bytes + GROWTH_BOUND) }
+        ensures kept { OnOk result (length self.old.bins.bytes ≤ length self.new.bins.bytes) }
     {
         values::set(
             alloc,
@@ -303,6 +304,7 @@ impl Tree {
         ensures others { IfErr result (λ fault. (fault ≡ TreeFault.Limit) ⊎ ((fault ≡ TreeFault.Full) ⊎ (fault ≡ TreeFault.Memory))) }
         ensures err { OnErr result (self.new ≡ self.old) }
         ensures grows { OnOk result (length self.new.bins.bytes ≤ length self.old.bins.bytes + GROWTH_BOUND) }
+        ensures kept { OnOk result (length self.old.bins.bytes ≤ length self.new.bins.bytes) }
     {
         make::create(alloc, &mut self.arena, from, path, moment)
     }

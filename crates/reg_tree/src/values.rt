@@ -122,6 +122,7 @@ pub fn set(
     ensures full { (result ≡ Err TreeFault.Full) → BINS_LIMIT < length arena.old.bytes + GROWTH_BOUND }
     ensures err { OnErr result (arena.new ≡ arena.old) }
     ensures grows { OnOk result (length arena.new.bytes ≤ length arena.old.bytes + GROWTH_BOUND) }
+    ensures kept { OnOk result (length arena.old.bytes ≤ length arena.new.bytes) }
 {
     let old = values_list(arena, key);
     if is_full(arena, key, old, name) {

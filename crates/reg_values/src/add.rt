@@ -35,6 +35,7 @@ pub(crate) fn carve(alloc: Global, arena: &mut Arena, sizes: &[u32]) -> Result<V
     ensures full { result ≡ Err ArenaFault.Full → NoFit arena.old.bytes (total_of sizes.now) }
     ensures limit { result ≡ Err ArenaFault.Full → PassesLimit arena.old.bytes (total_of sizes.now) }
     ensures grows { OnOk result (length arena.new.bytes ≤ length arena.old.bytes + GROWTH_BOUND) }
+    ensures kept { OnOk result (length arena.old.bytes ≤ length arena.new.bytes) }
 {
     let mut cells = Vec::new(alloc);
     arena.carve(sizes, &mut cells)?;
@@ -129,6 +130,7 @@ pub(crate) fn add(
         PassesLimit arena.old.bytes
         (total_of (sizes_by (heap_of arena.old) list.count list.offset (length name.now) (length bytes.now) None)) }
     ensures grows { OnOk result (length arena.new.bytes ≤ length arena.old.bytes + GROWTH_BOUND) }
+    ensures kept { OnOk result (length arena.old.bytes ≤ length arena.new.bytes) }
 {
     let Ok(sizes) = plan_add(alloc, arena, list, name.len(), bytes.len()) else {
         return Err(ArenaFault::Memory);

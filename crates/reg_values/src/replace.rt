@@ -85,6 +85,7 @@ pub(crate) fn replace(
         (total_of (new_data_sizes (heap_of arena.old) (length bytes.now)
         (value_record_at (heap_of arena.old) cell))) }
     ensures grows { OnOk result (length arena.new.bytes ≤ length arena.old.bytes + GROWTH_BOUND) }
+    ensures kept { OnOk result (length arena.old.bytes ≤ length arena.new.bytes) }
 {
     let old = record_at(arena, cell).fields;
     if stays(arena, old, bytes.len()) {

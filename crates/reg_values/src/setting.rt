@@ -56,6 +56,7 @@ pub fn set(
         (total_of (set_sizes (heap_of arena.old) list.count list.offset name.now (length bytes.now))) }
     ensures near { result ≡ Err ArenaFault.Full → BINS_LIMIT < length arena.old.bytes + GROWTH_BOUND }
     ensures grows { OnOk result (length arena.new.bytes ≤ length arena.old.bytes + GROWTH_BOUND) }
+    ensures kept { OnOk result (length arena.old.bytes ≤ length arena.new.bytes) }
 {
     let Some(index) = find(arena, list, name) else {
         return add(alloc, arena, list, name, kind, bytes);

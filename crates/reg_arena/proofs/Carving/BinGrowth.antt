@@ -23,6 +23,9 @@ bin-long old mid total b =
 pub grows_none : {old new sizes offsets : List ℕ} → Carves old new sizes offsets → length new ≤ length old + 4127 + total_of sizes
 grows_none c = let l = c.long in omega (arith, l)
 
+pub keeps : {old new sizes offsets : List ℕ} → Carves old new sizes offsets → length old ≤ length new
+keeps c = let l = c.long in omega (arith, l)
+
 -- a carve of a new bin's free cell
 pub grows_by_bin : {old mid new sizes offsets : List ℕ} {total : ℕ} → total ≡ total_of sizes → AppendsBin old mid total → Carves mid new sizes offsets →
     length new ≤ length old + 4127 + total_of sizes
@@ -31,6 +34,12 @@ grows_by_bin {old} {mid} {total = total} e b c =
     let m = bin-long old mid total b in
     let s = least-size b.size total b.least in
     omega (arith, l, m, s, e)
+
+pub keeps_by_bin : {old mid new sizes offsets : List ℕ} {total : ℕ} → AppendsBin old mid total → Carves mid new sizes offsets → length old ≤ length new
+keeps_by_bin {old} {mid} {total = total} b c =
+    let l = c.long in
+    let m = bin-long old mid total b in
+    omega (arith, l, m)
 
 none-free : (before after : List Cell) (cell : Cell) → [] ≡ before ++ cell ∷ after → ⊥
 none-free before after cell e = let l = ap length e in omega (arith, l, length-append before (cell ∷ after))
