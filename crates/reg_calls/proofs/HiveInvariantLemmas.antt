@@ -195,13 +195,14 @@ module _ {origin : Tree} {es : List Entry} {store : Store} {room : ℕ} (kept : 
 pub accepted : {origin : Tree} {es : List Entry} {store : Store} {room : ℕ} (kept : HiveInvariant origin es store room) (v new : View) →
     record { origin = origin; journal = es; keys = store.tree; handles = store.handles.handles } ≡ v → (session moment : ℕ) (change : Change) (told : ChangeReply) →
     told ≡ reply_to (at (length es) store) session change → new.journal ≡ es ++ entry_with es session moment change told ∷ [] → new.origin ≡ origin →
-    length new.keys.bins.bytes ≤ length store.tree.bins.bytes + growth_of change → IsHive new → IsAccepted v new session moment change told
-accepted {origin = origin} {es = es} {store = store} kept v new view_is session moment change told reply journal same grows hive =
+    length store.tree.bins.bytes ≤ length new.keys.bins.bytes → length new.keys.bins.bytes ≤ length store.tree.bins.bytes + growth_of change → IsHive new → IsAccepted v new session moment change told
+accepted {origin = origin} {es = es} {store = store} kept v new view_is session moment change told reply journal same kept_bins grows hive =
     let says = reply ∙ ap (λ (s : State). reply_to s session change) (sym (state-kept kept)) in
     subst (λ (w : View). IsAccepted w new session moment change told) view_is (record {
       says = says;
       journal = journal ∙ ap (λ (r : ChangeReply). es ++ entry_with es session moment change r ∷ []) says;
       origin = same;
+      kept = kept_bins;
       grows = grows;
       hive = hive;
     })

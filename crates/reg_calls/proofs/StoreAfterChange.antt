@@ -73,7 +73,7 @@ module _ (n : ℕ) (store : Store) (session : ℕ) (ready : IsReady n store) whe
   unfolding after reply_to
   root-done moment mask table text empty add told e =
       let handles = add ∙ ap (λ (t : List ℕ). hs ++ record { number = n; session = session; mask = mask; destination = At (path_of t) } ∷ []) empty in
-      record { world = λ i. record { tree = tree; handles = handles i }; reply = e; grows = no-growth store }
+      record { world = λ i. record { tree = tree; handles = handles i }; reply = e; kept = omega arith; grows = no-growth store }
 
   -- ---- OpenKey
 
@@ -99,7 +99,7 @@ module _ (n : ℕ) (store : Store) (session : ℕ) (ready : IsReady n store) whe
     unfolding after reply_to
     open-done moment table text names add told e =
         let handles = add ∙ ap (λ (p : Path). hs ++ record { number = n; session = session; mask = mask; destination = At p } ∷ []) names in
-        record { world = λ i. record { tree = tree; handles = handles i }; reply = e; grows = no-growth store }
+        record { world = λ i. record { tree = tree; handles = handles i }; reply = e; kept = omega arith; grows = no-growth store }
 
   -- ---- CreateKey
 
@@ -128,14 +128,14 @@ module _ (n : ℕ) (store : Store) (session : ℕ) (ready : IsReady n store) whe
       pub create-done : (moment : ℕ) (keys : Keys) (table : Table) (text : List ℕ) → path_of text ≡ path_from session h hs path →
           keys.tree ≡ with_keys tree t.path (path_of path) moment → added table mask text → (told : ChangeReply) →
           told ≡ opening (Some (disposition_of (missing tree t.path (path_of path)))) →
-          length keys.bins.bytes ≤ length store.tree.bins.bytes + GROWTH_BOUND →
+          length store.tree.bins.bytes ≤ length keys.bins.bytes → length keys.bins.bytes ≤ length store.tree.bins.bytes + GROWTH_BOUND →
           IsDone store (record { tree = keys; handles = table }) session moment n (CreateKey h path mask) told
       unfolding after reply_to
-      create-done moment keys table text names made add told e larger =
+      create-done moment keys table text names made add told e kept larger =
           let handles = add ∙ ap (λ (p : Path). hs ++ record { number = n; session = session; mask = mask; destination = At p } ∷ []) names in
           let grown = made ∙ ap (λ (p : Path). with_keys tree p (path_of path) moment) (sym (target-at store session h t)) in
           let reply = e ∙ ap (λ (p : Path). opening (Some (disposition_of (missing tree p (path_of path))))) (sym (target-at store session h t)) in
-          record { world = λ i. record { tree = grown i; handles = handles i }; reply = reply; grows = larger }
+          record { world = λ i. record { tree = grown i; handles = handles i }; reply = reply; kept = kept; grows = larger }
 
   -- ---- SetValue
 
@@ -160,12 +160,12 @@ module _ (n : ℕ) (store : Store) (session : ℕ) (ready : IsReady n store) whe
           absurd (true≢false (sym (grind (arith, nat_tests, lacks)) ∙ room))
 
       pub set-done : (moment : ℕ) (keys : Keys) → keys.tree ≡ edited tree t.path (with_value name kind bytes moment) → (told : ChangeReply) →
-          told ≡ plain → length keys.bins.bytes ≤ length store.tree.bins.bytes + GROWTH_BOUND →
+          told ≡ plain → length store.tree.bins.bytes ≤ length keys.bins.bytes → length keys.bins.bytes ≤ length store.tree.bins.bytes + GROWTH_BOUND →
           IsDone store (record { tree = keys; handles = store.handles }) session moment n (SetValue h name kind bytes) told
       unfolding after reply_to
-      set-done moment keys set told e larger =
+      set-done moment keys set told e kept larger =
           let now = set ∙ ap (λ (p : Path). edited tree p (with_value name kind bytes moment)) (sym (target-at store session h t)) in
-          record { world = λ i. record { tree = now i; handles = hs }; reply = e; grows = larger }
+          record { world = λ i. record { tree = now i; handles = hs }; reply = e; kept = kept; grows = larger }
 
   -- ---- DeleteValue
 
@@ -188,7 +188,7 @@ module _ (n : ℕ) (store : Store) (session : ℕ) (ready : IsReady n store) whe
       unfolding after reply_to
       drop-done moment keys set told e long =
           let now = set ∙ ap (λ (p : Path). edited tree p (without_value name moment)) (sym (target-at store session h t)) in
-          record { world = λ i. record { tree = now i; handles = hs }; reply = e; grows = omega (arith, long) }
+          record { world = λ i. record { tree = now i; handles = hs }; reply = e; kept = omega (arith, long); grows = omega (arith, long) }
 
   -- ---- DeleteKey
 
@@ -241,7 +241,7 @@ module _ (n : ℕ) (store : Store) (session : ℕ) (ready : IsReady n store) whe
       delete-done moment keys table text names gone turn told e long =
           let now = gone ∙ ap (λ (p : Path). without_key tree p moment) (sym (target-from store session h t path)) in
           let handles = turn ∙ ap (λ (p : Path). turned p hs) names in
-          record { world = λ i. record { tree = now i; handles = handles i }; reply = e; grows = omega (arith, long) }
+          record { world = λ i. record { tree = now i; handles = handles i }; reply = e; kept = omega (arith, long); grows = omega (arith, long) }
 
   -- ---- Close
 
@@ -251,7 +251,7 @@ module _ (n : ℕ) (store : Store) (session : ℕ) (ready : IsReady n store) whe
   pub close-done : (moment h : ℕ) (table : Table) → table.handles ≡ closed h hs → (told : ChangeReply) → told ≡ plain →
       IsDone store (record { tree = store.tree; handles = table }) session moment n (Close h) told
   unfolding after reply_to
-  close-done moment h table shut told e = record { world = λ i. record { tree = tree; handles = shut i }; reply = e; grows = no-growth store }
+  close-done moment h table shut told e = record { world = λ i. record { tree = tree; handles = shut i }; reply = e; kept = omega arith; grows = no-growth store }
 
 -- ---- what is told of a created key
 

@@ -66,11 +66,13 @@ pub record HiveInvariant (origin : Tree) (journal : List Entry) (store : Store) 
 abbrev pub entry_of : View → ℕ → ℕ → Change → Entry
 entry_of v session moment change = entry_due (state v) session moment change
 
--- the change is accepted: its reply is the one due, the journal grows by its entry, and the bins by no more than it may take
+-- the change is accepted: its reply is the one due, the journal grows by its entry, and the bins are no smaller and grow by no more
+-- than it may take
 pub record IsAccepted (old new : View) (session moment : ℕ) (change : Change) (reply : ChangeReply) : Type 0 where
   pub says : reply ≡ reply_to (state old) session change
   pub journal : new.journal ≡ old.journal ++ entry_of old session moment change ∷ []
   pub origin : new.origin ≡ old.origin
+  pub kept : length old.keys.bins.bytes ≤ length new.keys.bins.bytes
   pub grows : length new.keys.bins.bytes ≤ length old.keys.bins.bytes + growth_of change
   pub hive : IsHive new
 

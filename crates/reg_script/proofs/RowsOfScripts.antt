@@ -37,7 +37,7 @@ refused_script hive is =
         codes "5\n87\n6\nbad\n",
         (
           Changed (record { status = 0; number = Some 0; handle = Some 0; disposition = None }),
-          inl (record { says = refl; journal = refl; origin = refl; grows = omega arith; hive = is }),
+          inl (record { says = refl; journal = refl; origin = refl; kept = omega arith; grows = omega arith; hive = is }),
           refl,
           refl,
         ),

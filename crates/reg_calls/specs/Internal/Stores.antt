@@ -51,10 +51,11 @@ abbrev pub IsLooked : Store → ℕ → ℕ → Result KeyHandle ℕ → Type 0
 IsLooked store session number (Ok key) = IsOpened store session number key
 IsLooked store session number (Err status) = (f : Handle → Option ℕ) → by_handle f (look session number store.handles.handles) ≡ Some status
 
--- a change was made on the store, this is its reply, and the bins grew by no more than it may take
+-- a change was made on the store, this is its reply, and the bins are no smaller and grew by no more than it may take
 pub record IsDone (old new : Store) (session moment number : ℕ) (change : Change) (told : ChangeReply) : Type 0 where
   pub world : world_of new ≡ after (world_of old) (entry_due (at number old) session moment change)
   pub reply : told ≡ reply_to (at number old) session change
+  pub kept : length old.tree.bins.bytes ≤ length new.tree.bins.bytes
   pub grows : length new.tree.bins.bytes ≤ length old.tree.bins.bytes + growth_of change
 
 -- a change that nothing refuses was made, or nothing changed, for want of memory or of space

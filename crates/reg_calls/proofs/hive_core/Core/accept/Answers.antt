@@ -49,4 +49,4 @@ returns-in-Ok-make c =
     let entry : ℕ → Entry = λ k. record { number = k; session = c.args.session; moment = c.args.moment; change = c.args.change; reply = c.in-Ok-make.reply } in
     let entries = c.append.ensures.entries ∙ (ap (λ (x : List Entry). x ++ entry c.len-number.result ∷ []) c.in-Ok.ensures.entries ∙ ap (λ (k : ℕ). es ++ entry k ∷ []) n) in
     let all = invariant_of-self-in-Ok-make c in
-    inl (accepted c.self.invariant c.args.self.now _ c.self.view_is c.args.session c.args.moment c.args.change c.in-Ok-make.reply done.reply entries refl done.grows all.hive)
+    inl (accepted c.self.invariant c.args.self.now _ c.self.view_is c.args.session c.args.moment c.args.change c.in-Ok-make.reply done.reply entries refl done.kept done.grows all.hive)

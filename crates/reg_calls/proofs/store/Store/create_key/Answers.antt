@@ -46,7 +46,7 @@ returns-in-Ok-create c =
     (c.disposition.ensures ∙ disposition-is _ c.in-Ok-create.created.is_new (c.in-Ok-create.ensures.ok k.target.path k.node).is_new) in
     create-done c.args.number c.args.self.now c.args.session c.requires.ready c.args.handle c.args.path.now c.args.mask c.requires.cause k.target
     c.args.moment c.create.new.self c.add.new.self c.in-Ok.text.items c.in-Ok.ensures.names
-    (c.in-Ok-create.ensures.ok k.target.path k.node).tree c.in-Ok-add.ensures.ok c.opened.result told c.in-Ok-create.ensures.grows
+    (c.in-Ok-create.ensures.ok k.target.path k.node).tree c.in-Ok-add.ensures.ok c.opened.result told c.in-Ok-create.ensures.kept c.in-Ok-create.ensures.grows
 
 pub returns-in-Err-create : goal.returns-in-Err-create
 returns-in-Err-create c =

@@ -26,4 +26,4 @@ returns-in-Ok-set_value c =
     let k = c.in-Ok.ensures in
     set-done c.args.number c.args.self.now c.args.session c.requires.ready c.args.handle c.args.name.now c.args.kind c.args.bytes.now
     c.requires.cause k.target c.args.moment c.set_value.new.self (c.in-Ok-set_value.ensures.ok k.target.path k.node) c.accepted.result
-    c.accepted.ensures c.in-Ok-set_value.ensures.grows
+    c.accepted.ensures c.in-Ok-set_value.ensures.kept c.in-Ok-set_value.ensures.grows
