@@ -217,9 +217,9 @@ handle-stays origin past more session number h l is other =
     let r = rising-all origin past (legal-front origin past more l) in
     let mine = owns session h f.owner in
     let all = open-all origin past more number h (record {
-          below = numbered-below number (length past) (replay origin past).handles h r.below f.number;
-          stands = record { now = h; found = f.number; session = refl; mask = refl; gone = λ d. refl };
-        }) (legal_after-rest origin [] past more l) (subst (λ (s : ℕ). NoneCloses s number more) (sym mine) other) in
+      below = numbered-below number (length past) (replay origin past).handles h r.below f.number;
+      stands = record { now = h; found = f.number; session = refl; mask = refl; gone = λ d. refl };
+    }) (legal_after-rest origin [] past more l) (subst (λ (s : ℕ). NoneCloses s number more) (sym mine) other) in
     let o = all.stands in (
       o.now,
       ap (owned session) o.found ∙ ap (λ (b : Bool). cond b (Some o.now) None) (eq-eqb o.now.session session (o.session ∙ mine)),
@@ -250,7 +250,7 @@ number-closed origin past e more session number l is =
     let a = length-append past (e ∷ []) in
     let rest = legal_after-rest origin [] past (e ∷ more) l in
     let all = none-all origin (past ++ e ∷ []) more number (record {
-          below = omega (arith, a, below);
-          none = ap (λ (w : World). numbered number w.handles) (replay-push origin past e) ∙ closed-now (replay origin past) e number is;
-        }) rest.1 in
+      below = omega (arith, a, below);
+      none = ap (λ (w : World). numbered number w.handles) (replay-push origin past e) ∙ closed-now (replay origin past) e number is;
+    }) rest.1 in
     subst (λ (es : List Entry). look session number (replay origin es).handles ≡ None) (append_assoc past (e ∷ []) more) (ap (owned session) all.none)
