@@ -65,8 +65,49 @@ impl Write for CountingWriter {
     }
 }
 
-/// What a run on such devices left behind: the status, what was told of faults, how many bytes were written and whether they are
-/// the start of the replies, and how often the reader and the writer were called.
+/// Runs the tool on these devices, and tells the status and what was told of faults.
+fn run_on(
+    alloc: Global,
+    input: &mut CountingReader<'_>,
+    output: &mut CountingWriter,
+) -> Result<String, Fail> {
+    let words = vec![in alloc; "regtool".to_string(alloc)?, "run".to_string(alloc)?]?;
+    let mut errors: Vec<u8> = Vec::new(alloc);
+    let status = tool(alloc, words, input, output, &mut errors);
+    let errors = String::from_utf8(errors)?;
+    Ok(format!(in alloc; "{status};{}", errors.as_str())?)
+}
+
+/// What was told, and behind it how many bytes were written and whether they are the start of the replies, and how often the
+/// reader and the writer were called.
+fn counted(
+    alloc: Global,
+    told: &str,
+    replies: &str,
+    input: &CountingReader<'_>,
+    output: &CountingWriter,
+) -> Result<String, Fail> {
+    let taken = output.taken.as_slice();
+    let is_start = replies.as_bytes().get(..taken.len()) == Some(taken);
+    Ok(format!(in alloc;
+        "{told};{};{is_start};{};{}",
+        taken.len(),
+        input.calls,
+        output.calls
+    )?)
+}
+
+fn told_by(
+    alloc: Global,
+    replies: &str,
+    input: &mut CountingReader<'_>,
+    output: &mut CountingWriter,
+) -> Result<String, Fail> {
+    let told = run_on(alloc, input, output)?;
+    counted(alloc, told.as_str(), replies, input, output)
+}
+
+/// What a run on such devices left behind, as `counted` tells it.
 fn told(
     alloc: Global,
     script: &str,
@@ -84,19 +125,7 @@ fn told(
         habits: writes,
         calls: 0,
     };
-    let mut errors: Vec<u8> = Vec::new(alloc);
-    let words = vec![in alloc; "regtool".to_string(alloc)?, "run".to_string(alloc)?]?;
-    let status = tool(alloc, words, &mut input, &mut output, &mut errors);
-    let taken = output.taken.as_slice();
-    let is_start = replies.as_bytes().get(..taken.len()) == Some(taken);
-    let errors = String::from_utf8(errors)?;
-    Ok(format!(in alloc;
-        "{status};{};{};{is_start};{};{}",
-        errors.as_str(),
-        taken.len(),
-        input.calls,
-        output.calls
-    )?)
+    told_by(alloc, replies, &mut input, &mut output)
 }
 
 /// What is told of the script of three lines, where the reader gives 7 bytes a call, the writer takes 5, and these calls fail.
