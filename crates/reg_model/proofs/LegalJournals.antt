@@ -1,5 +1,5 @@
 -- Legal journals: their fronts, their entries, and what holds of their replay.
-use Rattle.std.proofs.Common.{◌≡◌, ℕ, ◌+◌, ◌<◌, Bool, true, false, cond, not, eqb, ap, List, [], ◌∷◌, ◌++◌, length, map, Some, None, refl, sym, subst, arith, append_assoc, length-append}
+use Rattle.std.proofs.Common.{◌≡◌, ℕ, ◌+◌, ◌<◌, Bool, true, false, cond, not, eqb, ap, List, [], ◌∷◌, ◌++◌, length, map, Some, refl, sym, subst, arith, append_assoc, length-append}
 use Rattle.std.specs.List.{AllByRecursion, All}
 use Rattle.std.specs.List.Sorted.{IsStrictlyIncreasing, IsStrictlySortedBy}
 use Rattle.std.specs.Ordering.{nat_cmp}

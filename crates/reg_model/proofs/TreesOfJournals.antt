@@ -1,9 +1,9 @@
 -- A tree stays a tree: with the root, each key's parent, last names that are the keys' own, and values whose names differ.
-use Rattle.std.proofs.Common.{◌≡◌, ◌≢◌, ℕ, ◌+◌, ◌≤◌, Bool, true, false, ◌&&◌, nat_lt, cond, is_some, List, [], ◌∷◌, ◌++◌, length, map, Option, Some, None, refl, sym, ap, ◌∙◌, subst, arith}
+use Rattle.std.proofs.Common.{◌≡◌, ◌≢◌, ℕ, ◌+◌, ◌≤◌, Bool, true, false, nat_lt, cond, is_some, List, [], ◌∷◌, ◌++◌, length, Option, Some, None, refl, sym, ap, ◌∙◌, subst, arith}
 use Rattle.std.proofs.Common.{length-append, true≢false}
 use Rattle.std.specs.Prelude.{IsSome}
 use Rattle.std.specs.List.{AllByRecursion, list_any}
-use Rattle.std.specs.Ordering.{eq_by_cmp, is_eq}
+use Rattle.std.specs.Ordering.{eq_by_cmp}
 use Rattle.std.specs.FinMap.{get, get-empty, insert, remove, empty, contains_key, get-insert, get-remove}
 use Rattle.std.specs.Cmp.Lexicographic.{nat_list_cmp_total}
 use Rattle.std.proofs.lemmas.Bool.{false≢true, and_parts}
@@ -12,12 +12,12 @@ use Rattle.std.proofs.lemmas.Cmp.{tied_itself, eq_by_cmp_equiv}
 use Rattle.reg_names.specs.Names.{folded, path_of}
 use Rattle.reg_heap.specs.Paths.{Path, Tree, Rec, Member, path_cmp, is_child, children_of}
 use Rattle.reg_heap.specs.Members.{values_with, values_without, same_name}
-use Rattle.reg_heap.specs.Edits.{edited, at_time, above, with_key, with_keys, without_key, with_value, without_value, has_child, child_path, made_key, descriptor_of, may_not_go}
+use Rattle.reg_heap.specs.Edits.{edited, at_time, above, with_key, with_keys, without_key, with_value, without_value, has_child, child_path, made_key, descriptor_of}
 use Rattle.reg_heap.specs.Trees.{IsTree, IsSmallKey, IsWithinLimits, NamesDiffer}
 use Rattle.reg_heap.proofs.ChildrenOfPath.{children-contain, is_child-below, named, path-is}
 use Rattle.reg_model.specs.Worlds.{World, Handle, same_path, path_at, path_from, after}
 use Rattle.reg_model.specs.Causes.{State, change_cause}
-use Rattle.reg_model.specs.Histories.{replay, state_of, IsFit, IsLegal}
+use Rattle.reg_model.specs.Histories.{replay, state_of, IsLegal}
 use Rattle.reg_model.specs.declared.call.Change.{Change}
 use Rattle.reg_model.specs.declared.call.Change.TheVariants.{OpenRoot, OpenKey, CreateKey, SetValue, DeleteValue, DeleteKey, Close}
 use Rattle.reg_model.specs.declared.reply.Entry.{Entry}

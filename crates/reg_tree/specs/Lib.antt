@@ -1,5 +1,5 @@
 pub mod TreeKeys
-pub mod CreateSizes
+pub mod CellSizes
 pub mod NewHive
 pub mod KeyLengths
 pub mod ValueAnswers

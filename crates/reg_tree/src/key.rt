@@ -95,6 +95,7 @@ pub fn note_values(arena: &mut Arena, key: u32, list: ValuesList, name: u32, siz
     requires name { name < 2 ^ 31 }
     ensures notes { Notes (heap_of arena.old) (heap_of arena.new) key (noted list.count list.offset name size moment) }
     ensures long { length arena.new.bytes ≡ length arena.old.bytes }
+    ensures sizes { SameSizes (heap_of arena.old) (heap_of arena.new) }
 {
     let old = fields(arena, key);
     set_values(arena, key, list.count, list.offset);

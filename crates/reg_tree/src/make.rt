@@ -15,7 +15,7 @@ ghost use Rattle.reg_records.specs.KeyNodes.{KeyRecord, key_at};
 ghost use Rattle.reg_index.specs.Subkeys.{IsReady, KeepsCells, own, taken};
 ghost use Rattle.reg_values.specs.ValueLists.{Makes};
 ghost use Rattle.reg_tree.specs.TreeKeys.{tree_in};
-ghost use Rattle.reg_tree.specs.CreateSizes.{create_sizes, own_sizes, planned, sizes_of};
+ghost use Rattle.reg_tree.specs.CellSizes.{create_sizes, own_sizes, planned, sizes_of};
 ghost use Rattle.reg_tree.specs.Internal.KeyNodeChanges.{LeavesOthers};
 ghost use Rattle.reg_tree.specs.Internal.TreeInvariant.{IsHere};
 ghost use Rattle.reg_tree.specs.Internal.SpareCells.{MayGrow, Grows, AreReady, MayGrowAll, GrowsAll, IsSpared};

@@ -44,7 +44,7 @@ impl Model for Tree {
 
 impl Tree {
     ghost use Rattle.reg_tree.specs.TreeKeys.{made_root, IsWholeTree, IsAt, IsThere, IsResolved, KeepsNodes, MakesKeys};
-    ghost use Rattle.reg_tree.specs.CreateSizes.{create_sizes};
+    ghost use Rattle.reg_tree.specs.CellSizes.{create_sizes, value_sizes};
     ghost use Rattle.reg_tree.specs.NewHive.{IsNewHive};
     ghost use Rattle.reg_tree.specs.KeyLengths.{ChangesLengths, KeepsLengths, NotesMade, lengths_at, no_lengths, with_value_lengths, with_first_length};
     ghost use Rattle.reg_tree.specs.ValueAnswers.{IsFound};
@@ -216,6 +216,8 @@ impl Tree {
     /// Sets a value of a key, and the key's time. A name that is there keeps its place and its first spelling; a new one goes to
     /// the end. After a fault the tree is as before.
     ///
+    /// The cells that come are those of its list and its data, where they need some, each of its size.
+    ///
     /// `Limit` where the name is new and there are 16,384 values; `Full` only where the bins are within 1,310,720 bytes of
     /// their limit of 268,435,456; `Memory`. The bins grow by at most 1,310,720 bytes.
     pub fn set_value(
@@ -231,6 +233,8 @@ impl Tree {
         requires name { is_value_name name.now ≡ true }
         requires bytes { length bytes.now ≤ DATA_LIMIT }
         ensures ok { (p : Path) → IsAt self.old p node → OnOk result (self.new.tree ≡ edited self.old.tree p (with_value name.now kind bytes.now moment)) }
+        ensures cells { OnOk result (Makes (heap_of self.old.bins) (heap_of self.new.bins)
+            (value_sizes (heap_of self.old.bins) node.offset name.now (length bytes.now))) }
         ensures nodes { OnOk result (KeepsNodes self.old self.new) }
         ensures lengths { (p : Path) → IsAt self.old p node →
             OnOk result (ChangesLengths self.old self.new p (with_value_lengths (length name.now) (length bytes.now))) }

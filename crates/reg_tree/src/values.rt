@@ -8,7 +8,8 @@ ghost use Rattle.reg_heap.specs.Paths.{Member};
 ghost use Rattle.reg_heap.specs.Members.{value_named};
 ghost use Rattle.reg_heap.specs.Edits.{with_value, without_value, values_at};
 ghost use Rattle.reg_arena.specs.Arena.{heap_of};
-ghost use Rattle.reg_values.specs.ValueLists.{IsNamed, Tells};
+ghost use Rattle.reg_values.specs.ValueLists.{IsNamed, Makes, Tells};
+ghost use Rattle.reg_tree.specs.CellSizes.{value_sizes};
 ghost use Rattle.reg_tree.specs.TreeKeys.{tree_in};
 ghost use Rattle.reg_tree.specs.Internal.TreeInvariant.{IsHere, IsChanged};
 ghost use Rattle.reg_tree.specs.KeyLengths.{with_value_lengths};
@@ -113,6 +114,7 @@ pub fn set(
     requires bytes { length bytes.now ≤ DATA_LIMIT }
     ensures ok { (t : IsHere arena.old.bytes key) →
         OnOk result (IsChanged arena.old.bytes arena.new.bytes t.root t.path (with_value name.now kind bytes.now moment)) }
+    ensures cells { OnOk result (Makes (heap_of arena.old) (heap_of arena.new) (value_sizes (heap_of arena.old) key name.now (length bytes.now))) }
     ensures lengths { (t : IsHere arena.old.bytes key) →
         OnOk result (LengthsChange (heap_of arena.old) (heap_of arena.new) t.root t.path (with_value_lengths (length name.now) (length bytes.now))) }
     ensures limit { (t : IsHere arena.old.bytes key) →

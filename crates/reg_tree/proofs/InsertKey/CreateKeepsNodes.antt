@@ -8,7 +8,7 @@ use Rattle.reg_heap.specs.Edits.{folded_path, with_keys, missing, last_there}
 use Rattle.reg_heap.specs.Heaps.{Heap}
 use Rattle.reg_arena.specs.Arena.{Bins, heap_of}
 use Rattle.reg_values.specs.ValueLists.{Makes}
-use Rattle.reg_tree.specs.CreateSizes.{create_sizes}
+use Rattle.reg_tree.specs.CellSizes.{create_sizes}
 use Rattle.reg_tree.specs.KeyLengths.{ChangesLengths, NotesMade, with_first_length}
 use Rattle.reg_tree.specs.declared.node.Node.{Node}
 use Rattle.reg_tree.specs.declared.node.Created.{Created}

@@ -18,7 +18,9 @@ use Rattle.reg_records.specs.RecordCells.{held, WritesCell}
 use Rattle.reg_records.specs.declared.nk.KeyFields.{KeyFields}
 use Rattle.reg_shape.proofs.Wholeness.ShapeRecords.{at-most-one, is-allocated, allocated-is}
 use Rattle.reg_values.specs.ValueLists.{Makes}
-use Rattle.reg_tree.specs.Internal.KeyNodeChanges.{SameSizes, LeavesOthers}
+use Rattle.reg_values.specs.ValueSizes.{set_sizes}
+use Rattle.reg_tree.specs.CellSizes.{set_sizes_by, value_sizes}
+use Rattle.reg_tree.specs.Internal.KeyNodeChanges.{HasList, SameSizes, LeavesOthers}
 use Rattle.reg_tree.specs.Internal.SpareCells.{planned, own_sizes, sizes_of, IsSpared}
 use Rattle.reg_tree.proofs.Invariant.UntouchedCells.{times-one}
 
@@ -154,3 +156,30 @@ carved_sizes h (cell ∷ cells) (size ∷ sizes) good n zeros long =
     let p = good.0.0 in
     let e = good.0.1 in
     cons-same (omega (arith, first, p, e)) (carved_sizes h cells sizes good.1 (omega (arith, n)) (λ i l. zeros (suc i) (omega (arith, l))) long)
+
+-- ---- what came keeps its size where cells are only written over
+
+still-there : (a b : Option (List ℕ)) → is_some b ≡ is_some a → IsSome b → IsSome a
+still-there a b e there = sym e ∙ there
+
+pub makes_after : (h h1 h2 : Heap) (sizes : List ℕ) → Makes h h1 sizes → SameSizes h1 h2 → Makes h h2 sizes
+makes_after h h1 h2 sizes m same = record {
+  offsets = m.offsets;
+  sizes_are = map-same (λ z. length (held h2 z) + 4) (λ z. length (held h1 z) + 4) m.offsets (λ z l. ap (λ n. n + 4) (same z).1) ∙ m.sizes_are;
+  once = m.once;
+  fresh = m.fresh;
+  only = λ z none there. m.only z none (still-there (h1 z) (h2 z) (same z).0 there);
+}
+
+-- the cells of a set, by the list that the key node names
+pub set_of_key : (h h1 : Heap) (key count offset : ℕ) (name : List ℕ) (size : ℕ) → IsSome (key_at h key) → HasList h key count offset →
+    Makes h h1 (set_sizes h count offset name size) → Makes h h1 (value_sizes h key name size)
+unfolding value_sizes
+set_of_key h h1 key count offset name size there list makes = by (key_at h key) there list
+  where
+    by : (o : Option KeyRecord) → IsSome o → ((k : KeyRecord) → o ≡ Some k → (count ≡ k.fields.values) × (offset ≡ k.fields.values_list)) →
+        Makes h h1 (set_sizes_by h name size o)
+    by None e list = absurd (cc)
+    by (Some k) e list =
+        subst (λ n. Makes h h1 (set_sizes h n k.fields.values_list name size)) (list k refl).0
+        (subst (λ p. Makes h h1 (set_sizes h count p name size)) (list k refl).1 makes)

@@ -19,7 +19,7 @@ use Rattle.reg_shape.specs.PathLookup.{key_offset_at, subkey_named}
 use Rattle.reg_records.specs.RecordCells.{HasRoom, held}
 use Rattle.reg_index.specs.Subkeys.{IsReady, taken}
 use Rattle.reg_tree.specs.declared.node.Node.{Node as TreeNode}
-pub use Rattle.reg_tree.specs.CreateSizes.{planned, planned_sizes, key_size, own_sizes, sizes_of}
+pub use Rattle.reg_tree.specs.CellSizes.{planned, planned_sizes, key_size, own_sizes, sizes_of}
 use Rattle.reg_tree.specs.KeyLengths.{lengths_at, no_lengths, with_first_length}
 use Rattle.reg_tree.specs.Internal.LengthChanges.{LengthsChange, MadeLengths, WhichLengths}
 use Rattle.reg_tree.specs.Internal.TreeInvariant.{rooted}

@@ -1,6 +1,7 @@
 use Rattle.reg_tree.proofs.Invariant.KeyOfTree.{key_there, list_values, list_reads}
 use Rattle.reg_tree.proofs.ValueChange.TreeAfterValueChange.{key_mid, set_changed, set_lengths}
 use Rattle.reg_tree.proofs.KeyAnswers.RefinementOfValues.{other_fault, no_fault}
+use Rattle.reg_tree.proofs.InsertKey.MadeCells.{makes_after, set_of_key}
 use Rattle.reg_tree.proofs.values.set.Goals as goal
 
 pub values_list-old-requires : goal.values_list-old-requires
@@ -28,3 +29,8 @@ pub returns-clause-lengths : goal.returns-clause-lengths
 returns-clause-lengths c =
     λ t. set_lengths _ _ _ _ _ _ c.args.name.now c.args.kind c.args.bytes.now c.args.moment c.in-Ok.list.count c.in-Ok.list.offset t c.values_list-old.ensures
     c.in-Ok.ensures.ok c.note_values.ensures.notes
+
+pub returns-clause-cells : goal.returns-clause-cells
+returns-clause-cells c =
+    set_of_key _ _ c.args.key _ _ c.args.name.now _ (key_there _ _ c.requires.here) c.values_list-old.ensures
+    (makes_after _ _ _ _ c.in-Ok.ensures.cells c.note_values.ensures.sizes)

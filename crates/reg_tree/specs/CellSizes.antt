@@ -1,4 +1,5 @@
--- The cells that making keys takes (Suhanov, Windows registry file format specification, "Cell", "Key node", "Subkeys list").
+-- The cells that making keys and setting values takes (Suhanov, Windows registry file format specification, "Cell", "Key node",
+-- "Subkeys list", "Key values list").
 use Rattle.std.specs.Prelude.{ℕ, ◌+◌, Option, Some, None, List, [], ◌∷◌, ◌++◌, map, length}
 use Rattle.std.specs.Option.{option_and_then}
 use Rattle.reg_heap.specs.Heaps.{Heap}
@@ -10,6 +11,7 @@ use Rattle.reg_records.specs.KeyNodes.{KeyRecord, key_at}
 use Rattle.reg_shape.specs.PathLookup.{key_offset_at}
 use Rattle.reg_index.specs.declared.plan.TheConstants.{FIRST_LIST_SIZE}
 use Rattle.reg_index.specs.Subkeys.{insert_size}
+use Rattle.reg_values.specs.ValueSizes.{set_sizes}
 use Rattle.reg_tree.specs.TreeKeys.{Keys}
 
 -- the size of the cell that one subkey more takes of a key; none where its list has room for it
@@ -40,3 +42,12 @@ unfoldable pub create_sizes : Keys → Path → List (List ℕ) → List ℕ
 create_sizes keys path names =
     sizes_of (option_and_then (planned (heap_of keys.bins)) (key_offset_at (heap_of keys.bins) keys.root (last_there keys.tree path names)))
     (map own_sizes (missing keys.tree path names))
+
+-- the sizes of the cells that a set of a value, of that name and with so many bytes, takes of a key
+abbrev pub set_sizes_by : Heap → List ℕ → ℕ → Option KeyRecord → List ℕ
+set_sizes_by heap name size None = []
+set_sizes_by heap name size (Some key) = set_sizes heap key.fields.values key.fields.values_list name size
+
+-- and of the key whose key node stands at an offset
+unfoldable pub value_sizes : Heap → ℕ → List ℕ → ℕ → List ℕ
+value_sizes heap key name size = set_sizes_by heap name size (key_at heap key)
