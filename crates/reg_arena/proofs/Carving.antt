@@ -6,3 +6,5 @@ pub mod CarvedCells
 pub mod NewBinBytes
 pub mod BinAppend
 pub mod BinGrowth
+pub mod FreshBins
+pub mod EachCarve

@@ -3,6 +3,7 @@ pub mod Free
 pub mod NewCells
 pub mod Carves
 pub mod NewBin
+pub mod EachCell
 pub mod Internal
 pub mod Arena
 pub mod Frees

@@ -1,25 +1,27 @@
 //! The arena as callers see it.
 ghost use Rattle.std.specs.Prelude.{◌≡◌, ◌==◌, ◌+◌, ◌-◌, ◌≤◌, ◌<◌, ℕ, List, [], ◌∷◌, ◌++◌, length, take, drop, IsSome, Some, None, unwrap_or};
 ghost use Rattle.std.specs.Prelude.{if◌then◌else◌, IfOk, IfErr, OnOk, OnErr, ◌↔◌};
-ghost use Rattle.reg_heap.specs.declared.limits.TheConstants.{BINS_LIMIT};
-ghost use Rattle.reg_heap.specs.Heaps.{GivesUp, Writes};
+ghost use Rattle.reg_heap.specs.declared.limits.TheConstants.{BINS_LIMIT, GROWTH_BOUND};
+ghost use Rattle.reg_heap.specs.Heaps.{AreNew, GivesUp, Writes};
 ghost use Rattle.reg_heap.specs.ByteWords.{splice, word};
 ghost use Rattle.reg_arena.specs.declared.TheConstants.{CARVE_LIMIT};
 ghost use Rattle.reg_arena.specs.Arena.{IsSound, heap_of};
 ghost use Rattle.reg_arena.specs.NewCells.{total_of, AreSizes};
 ghost use Rattle.reg_arena.specs.Carves.{AddsCells, CarvesExactly, NoFit};
+ghost use Rattle.reg_arena.specs.EachCell.{fresh_of, AreCarvable, CarvesChange, EachExactly};
 ghost use Rattle.reg_arena.specs.NewBin.{PassesLimit};
 ghost use Rattle.reg_arena.specs.Frees.{Frees};
 ghost use Rattle.reg_arena.specs.Cells.{cells_of, size_in, IsInBin};
 
 use crate::bin::passes_limit;
 use crate::carve::{carve_bin, carve_found};
+use crate::each::{carve_cells, fresh_within};
 use crate::free::free_cell;
 use crate::list::find_fit;
 use crate::walk::list_cells;
 use crate::words::size_at;
 use crate::{ArenaFault, Cell};
-use reg_heap::limits::NONE;
+use reg_heap::limits::{BINS_LIMIT, GROWTH_BOUND, NONE};
 use std::alloc::Global;
 use std::marker::Model;
 
@@ -242,6 +244,81 @@ impl Arena {
             sizes,
             out,
         )
+    }
+
+    /// Allocates cells of these sizes, each by itself and in their order, and puts their offsets behind those of `out`.
+    ///
+    /// Each cell is taken as [`carve`](Arena::carve) of its size alone takes it: from a free cell that fits it, and only
+    /// where none does from a new bin of the least size that holds it. So cells of one call need not stand side by side, and
+    /// each finds the hole that fits it best where the largest is named first. A size counts the cell's size field, and is a
+    /// multiple of 8, not 0 and at most 16,777,216. The cells hold zeros. The bins grow by at most the sum of the least bins
+    /// for each size: 32 bytes and the size, rounded up to a multiple of 4096. No size: nothing happens.
+    ///
+    /// [`ArenaFault::Full`]: with all those bins there would be more than 268,435,456 bytes, whether they are needed or not;
+    /// a [`carve`](Arena::carve) of all sizes may still find room. [`ArenaFault::Memory`]: `out`, or the room for all those
+    /// bins, could not grow. After either the arena and `out` are as before.
+    ///
+    /// Suhanov, Windows registry file format specification, sections "Hive bin" and "Cell".
+    pub fn carve_each(&mut self, sizes: &[u32], out: &mut Vec<u32>) -> Result<(), ArenaFault>
+        requires sizes { AreSizes sizes.now }
+        requires each { AreCarvable sizes.now }
+        ensures nothing { sizes.now ≡ [] → (result ≡ Ok tt) × (self.new ≡ self.old) × (out.new.items ≡ out.old.items) }
+        ensures ok { OnOk result ((offsets : List ℕ) × (out.new.items ≡ out.old.items ++ offsets)
+            × EachExactly self.old.bytes self.new.bytes sizes.now offsets
+            × AreNew (heap_of self.old) (heap_of self.new) offsets sizes.now) }
+        ensures full { (result ≡ Err ArenaFault.Full)
+            ↔ ((0 < length sizes.now) × (BINS_LIMIT < length self.old.bytes + fresh_of sizes.now)) }
+        ensures err { OnErr result ((self.new ≡ self.old) × (out.new.items ≡ out.old.items)) }
+        ensures grows { OnOk result (length self.new.bytes ≤ length self.old.bytes + fresh_of sizes.now) }
+        ensures kept { OnOk result (length self.old.bytes ≤ length self.new.bytes) }
+    {
+        if sizes.is_empty() {
+            return Ok(());
+        }
+        carve_cells(
+            &mut self.bins,
+            &mut self.head,
+            &mut self.count,
+            &mut self.ends,
+            &mut self.backs,
+            sizes,
+            out,
+        )
+    }
+
+    /// Allocates the cells of one change, and puts their offsets behind those of `out`: each by itself, as
+    /// [`carve_each`](Arena::carve_each) does, where the least bins for each take at most 1,310,720 bytes together and the bins
+    /// with them at most 268,435,456; else side by side, as [`carve`](Arena::carve) does.
+    ///
+    /// A size counts the cell's size field, and is a multiple of 8 and not 0; all sizes together are at most 1,306,592. The
+    /// cells hold zeros. The bins grow by at most 1,310,720 bytes. No size: nothing happens.
+    ///
+    /// [`ArenaFault::Full`]: no free cell has room for all cells together, and with a bin more for them there would be more than
+    /// 268,435,456 bytes of bins. [`ArenaFault::Memory`]: `out` or the bins could not grow. After either the arena and `out`
+    /// are as before.
+    ///
+    /// Suhanov, Windows registry file format specification, sections "Hive bin" and "Cell".
+    pub fn carve_change(&mut self, sizes: &[u32], out: &mut Vec<u32>) -> Result<(), ArenaFault>
+        requires sizes { AreSizes sizes.now }
+        requires total { total_of sizes.now + 4128 ≤ GROWTH_BOUND }
+        ensures nothing { sizes.now ≡ [] → (result ≡ Ok tt) × (self.new ≡ self.old) × (out.new.items ≡ out.old.items) }
+        ensures ok { OnOk result ((offsets : List ℕ) × (out.new.items ≡ out.old.items ++ offsets)
+            × CarvesChange self.old.bytes self.new.bytes sizes.now offsets
+            × AreNew (heap_of self.old) (heap_of self.new) offsets sizes.now) }
+        ensures full { (result ≡ Err ArenaFault.Full)
+            ↔ ((0 < length sizes.now) × PassesLimit self.old.bytes (total_of sizes.now)
+            × NoFit self.old.bytes (total_of sizes.now)) }
+        ensures err { OnErr result ((self.new ≡ self.old) × (out.new.items ≡ out.old.items)) }
+        ensures grows { OnOk result (length self.new.bytes ≤ length self.old.bytes + GROWTH_BOUND) }
+        ensures kept { OnOk result (length self.old.bytes ≤ length self.new.bytes) }
+    {
+        let Some(fresh) = fresh_within(sizes, GROWTH_BOUND) else {
+            return self.carve(sizes, out);
+        };
+        if fresh > BINS_LIMIT - self.bins_size() {
+            return self.carve(sizes, out);
+        }
+        self.carve_each(sizes, out)
     }
 }
 

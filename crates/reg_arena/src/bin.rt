@@ -1,10 +1,11 @@
 //! A new bin at the end of the bins.
 //!
 //! Suhanov, Windows registry file format specification, section "Hive bin".
-ghost use Rattle.std.specs.Prelude.{◌≡◌, ◌+◌, ◌-◌, ◌≤◌, ◌<◌, ℕ, List, [], ◌∷◌, ◌++◌, length, replicate, OnOk, OnErr, IfOk, true, false};
+ghost use Rattle.std.specs.Prelude.{◌≡◌, ◌+◌, ◌-◌, ◌≤◌, ◌<◌, ℕ, List, [], ◌∷◌, ◌++◌, length, replicate, OnOk, OnErr, IfOk, IsOk, true, false, vec_capacity};
 ghost use Rattle.reg_arena.specs.declared.TheConstants.{CARVE_LIMIT};
 ghost use Rattle.reg_arena.specs.Arena.{IsArena};
 ghost use Rattle.reg_arena.specs.Internal.SideTables.{IsIndexed};
+ghost use Rattle.reg_arena.specs.Internal.Reserved.{AreReserved, KeepsRoom};
 ghost use Rattle.reg_arena.specs.Free.{chain, IsFit};
 ghost use Rattle.reg_arena.specs.NewBin.{AppendsBin, IsBinSize, PassesLimit, HasRoomForBin, headed};
 
@@ -24,7 +25,7 @@ const PAGE_SIZE: u32 = 4096;
 const SIGNATURE: u32 = 0x6E69_6268;
 
 // The least size of a bin that has room for `total` bytes of cells.
-fn bin_size(total: u32) -> u32
+pub fn bin_size(total: u32) -> u32
     requires { total ≤ CARVE_LIMIT }
     ensures least { IsBinSize result total }
     ensures small { result ≤ total + 4128 }
@@ -45,7 +46,8 @@ pub fn passes_limit(bins: &Vec<u8>, total: u32) -> bool
 // Writes a bin's header, the zeros at its end left out.
 fn put_header(bins: &mut Vec<u8>, at: u32, size: u32)
     requires { at + 12 ≤ length bins.old.items }
-    ensures { bins.new.items ≡ headed at size bins.old.items }
+    ensures bytes { bins.new.items ≡ headed at size bins.old.items }
+    ensures capacity { vec_capacity bins.new ≡ vec_capacity bins.old }
 {
     put_word(bins, at as usize, SIGNATURE);
     put_word(bins, at as usize + 4, at);
@@ -57,6 +59,8 @@ fn lengthen(bins: &mut Vec<u8>, n: u32) -> Result<(), AllocError>
     requires { length bins.old.items + n ≤ BINS_LIMIT }
     ensures ok { OnOk result (bins.new.items ≡ bins.old.items ++ replicate n 0) }
     ensures err { OnErr result (bins.new.items ≡ bins.old.items) }
+    ensures succeeds { length bins.old.items + n ≤ vec_capacity bins.old → IsOk result }
+    ensures capacity { vec_capacity bins.old ≤ vec_capacity bins.new }
 {
     let long = bins.len() + n as usize;
     bins.resize(long, 0)
@@ -80,6 +84,8 @@ fn add_bin(
     ensures head { OnOk result (head.new ≡ length bins.old.items + 32) }
     ensures chained { OnOk result (chain count.new bins.new.items head.new ≡ head.new ∷ chain count.old bins.old.items head.old) }
     ensures err { OnErr result ((bins.new.items ≡ bins.old.items) × (head.new ≡ head.old) × (count.new ≡ count.old)) }
+    ensures succeeds { (size : ℕ) → IsBinSize size total → length bins.old.items + size ≤ vec_capacity bins.old → IsOk result }
+    ensures capacity { vec_capacity bins.old ≤ vec_capacity bins.new }
 {
     let at = bins.len() as u32;
     let size = bin_size(total);
@@ -112,6 +118,9 @@ pub fn add_indexed_bin(
     ensures ok { OnOk result (AppendsBin bins.old.items bins.new.items total) }
     ensures fit { IfOk result (λ place. IsFit bins.new.items total (chain count.new bins.new.items head.new) place.previous place.cell) }
     ensures err { OnErr result ((bins.new.items ≡ bins.old.items) × (head.new ≡ head.old) × (count.new ≡ count.old)) }
+    ensures succeeds { (size : ℕ) → IsBinSize size total →
+        AreReserved (length bins.old.items + size) (vec_capacity bins.old) ends.old.items backs.old.items → IsOk result }
+    ensures keeps { KeepsRoom (vec_capacity bins.old) ends.old.items backs.old.items (vec_capacity bins.new) ends.new.items backs.new.items }
 {
     let next = *head;
     let units = (bins.len() + bin_size(total) as usize) / 8;

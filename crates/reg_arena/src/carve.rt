@@ -1,13 +1,14 @@
 //! Allocated cells from one free cell.
-ghost use Rattle.std.specs.Prelude.{◌≡◌, ◌+◌, ◌-◌, ◌≤◌, ◌<◌, ℕ, List, [], ◌∷◌, ◌++◌, length, vec_len, vec_capacity, IfErr, OnErr, OnOk};
+ghost use Rattle.std.specs.Prelude.{◌≡◌, ◌+◌, ◌-◌, ◌≤◌, ◌<◌, ℕ, List, [], ◌∷◌, ◌++◌, length, vec_len, vec_capacity, IfErr, OnErr, OnOk, IsOk};
 ghost use Rattle.reg_heap.specs.declared.limits.TheConstants.{BINS_LIMIT, NONE};
 ghost use Rattle.reg_arena.specs.Internal.SideTables.{IsIndexed};
+ghost use Rattle.reg_arena.specs.Internal.Reserved.{AreReserved, KeepsRoom};
 ghost use Rattle.reg_heap.specs.ByteWords.{word};
 ghost use Rattle.reg_arena.specs.declared.TheConstants.{CARVE_LIMIT};
 ghost use Rattle.reg_arena.specs.Cells.{size_in};
 ghost use Rattle.reg_arena.specs.NewCells.{total_of, AreSizes, offsets_of};
 ghost use Rattle.reg_arena.specs.Carves.{AddsCells, Carves, CarvesExactly, NoFit};
-ghost use Rattle.reg_arena.specs.NewBin.{HasRoomForBin};
+ghost use Rattle.reg_arena.specs.NewBin.{HasRoomForBin, IsBinSize};
 ghost use Rattle.reg_arena.specs.Free.{chain, IsFit, TakesOut};
 
 use crate::ArenaFault;
@@ -29,6 +30,7 @@ fn take_out(bins: &mut Vec<u8>, head: &mut u32, count: &mut usize, place: Place,
     ensures next { word bins.old.items (place.cell + 4) < 4294967296 }
     ensures long { length bins.new.items ≡ length bins.old.items }
     ensures taken { TakesOut bins.old.items head.old count.old place.previous place.cell total bins.new.items head.new count.new }
+    ensures capacity { vec_capacity bins.new ≡ vec_capacity bins.old }
 {
     let cell = place.cell;
     let size = size_at(bins, cell as usize);
@@ -64,6 +66,8 @@ fn carve_at(
     ensures arena { IsIndexed bins.new.items (head.new ∷ []) (count.new ∷ []) ends.new.items backs.new.items }
     ensures carves { Carves bins.old.items bins.new.items sizes.now (offsets_of place.cell sizes.now) }
     ensures out { out.new.items ≡ out.old.items ++ offsets_of place.cell sizes.now }
+    ensures keeps { KeepsRoom (vec_capacity bins.old) ends.old.items backs.old.items (vec_capacity bins.new) ends.new.items backs.new.items }
+    ensures out_capacity { vec_capacity out.old ≤ vec_capacity out.new }
 {
     let size = size_at(bins, place.cell as usize);
     let next = word_at(bins, place.cell as usize + 4);
@@ -98,6 +102,9 @@ pub fn carve_found(
     ensures err { OnErr result ((bins.new.items ≡ bins.old.items) × (head.new ≡ head.old) × (out.new.items ≡ out.old.items)) }
     ensures grows { OnOk result (length bins.new.items ≤ length bins.old.items + 4127 + total_of sizes.now) }
     ensures kept { OnOk result (length bins.old.items ≤ length bins.new.items) }
+    ensures succeeds { vec_len out.old + length sizes.now ≤ vec_capacity out.old → IsOk result }
+    ensures keeps { KeepsRoom (vec_capacity bins.old) ends.old.items backs.old.items (vec_capacity bins.new) ends.new.items backs.new.items }
+    ensures out_capacity { vec_capacity out.old ≤ vec_capacity out.new }
 {
     if out.reserve(sizes.len()).is_err() {
         return Err(ArenaFault::Memory);
@@ -133,6 +140,11 @@ pub fn carve_bin(
     ensures err { OnErr result ((bins.new.items ≡ bins.old.items) × (head.new ≡ head.old) × (out.new.items ≡ out.old.items)) }
     ensures grows { OnOk result (length bins.new.items ≤ length bins.old.items + 4127 + total_of sizes.now) }
     ensures kept { OnOk result (length bins.old.items ≤ length bins.new.items) }
+    ensures succeeds { (size : ℕ) → IsBinSize size total →
+        AreReserved (length bins.old.items + size) (vec_capacity bins.old) ends.old.items backs.old.items →
+        vec_len out.old + length sizes.now ≤ vec_capacity out.old → IsOk result }
+    ensures keeps { KeepsRoom (vec_capacity bins.old) ends.old.items backs.old.items (vec_capacity bins.new) ends.new.items backs.new.items }
+    ensures out_capacity { vec_capacity out.old ≤ vec_capacity out.new }
 {
     if out.reserve(sizes.len()).is_err() {
         return Err(ArenaFault::Memory);

@@ -11,7 +11,8 @@ use crate::words::put_word;
 #[tactic(auto, unfolding(reg_heap::specs::ByteWords::splice))]
 fn zero(bins: &mut Vec<u8>, from: usize, len: usize)
     requires { from + len ≤ length bins.old.items }
-    ensures { bins.new.items ≡ splice from (replicate len 0) bins.old.items }
+    ensures bytes { bins.new.items ≡ splice from (replicate len 0) bins.old.items }
+    ensures capacity { vec_capacity bins.new ≡ vec_capacity bins.old }
 {
     bins[from..from + len].fill(0);
 }
@@ -25,6 +26,7 @@ fn cut_one(bins: &mut Vec<u8>, at: u32, size: u32)
     ensures region { SameOutside at (at + size) bins.old.items bins.new.items }
     ensures cell { IsCell bins.new.items (at + size) (used at size) }
     ensures zero { take (size - 4) (drop (at + 4) bins.new.items) ≡ replicate (size - 4) 0 }
+    ensures capacity { vec_capacity bins.new ≡ vec_capacity bins.old }
 {
     put_word(bins, at as usize, 0xFFFF_FFFF - size + 1);
     zero(bins, at as usize + 4, size as usize - 4);
@@ -40,6 +42,8 @@ pub fn cut(bins: &mut Vec<u8>, cell: u32, sizes: &[u32], out: &mut Vec<u32>)
     ensures tiles { Tiles bins.new.items cell (cell + total_of sizes.now) (carved cell sizes.now) }
     ensures zero { (offset : ℕ) → content_in bins.new.items (carved cell sizes.now) offset ≡ zeroed cell sizes.now offset }
     ensures out { out.new.items ≡ out.old.items ++ offsets_of cell sizes.now }
+    ensures capacity { vec_capacity bins.new ≡ vec_capacity bins.old }
+    ensures out_capacity { vec_capacity out.old ≤ vec_capacity out.new }
 {
     let mut at = cell;
     for size in sizes {

@@ -15,6 +15,7 @@ mod arena;
 mod bin;
 mod carve;
 mod cut;
+mod each;
 mod free;
 pub mod laws;
 mod list;

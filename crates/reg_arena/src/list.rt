@@ -1,5 +1,5 @@
 //! The free list, threaded through the free cells.
-ghost use Rattle.std.specs.Prelude.{◌≡◌, ◌==◌, ◌+◌, ◌≤◌, ◌<◌, ℕ, List, [], ◌∷◌, ◌++◌, length, MatchOption, if◌then◌else◌};
+ghost use Rattle.std.specs.Prelude.{◌≡◌, ◌==◌, ◌+◌, ◌≤◌, ◌<◌, ℕ, List, [], ◌∷◌, ◌++◌, length, MatchOption, if◌then◌else◌, vec_capacity};
 ghost use Rattle.std.specs.List.{AllByRecursion};
 ghost use Rattle.byteorder.specs.Endian.{little_bytes};
 ghost use Rattle.reg_heap.specs.ByteWords.{splice, word};
@@ -39,6 +39,7 @@ pub fn set_link(bins: &mut Vec<u8>, head: &mut u32, previous: u32, next: u32)
     requires { (previous ≡ NONE → ⊥) → previous + 8 ≤ length bins.old.items }
     ensures bytes { bins.new.items ≡ (if previous == NONE then bins.old.items else splice (previous + 4) (little_bytes 4 next) bins.old.items) }
     ensures head { head.new ≡ (if previous == NONE then next else head.old) }
+    ensures capacity { vec_capacity bins.new ≡ vec_capacity bins.old }
 {
     if previous == NONE {
         *head = next;
@@ -50,7 +51,8 @@ pub fn set_link(bins: &mut Vec<u8>, head: &mut u32, previous: u32, next: u32)
 // The two words of a free cell.
 pub fn put_free(bins: &mut Vec<u8>, at: u32, size: u32, next: u32)
     requires { at + 8 ≤ length bins.old.items }
-    ensures { bins.new.items ≡ splice (at + 4) (little_bytes 4 next) (splice at (little_bytes 4 size) bins.old.items) }
+    ensures bytes { bins.new.items ≡ splice (at + 4) (little_bytes 4 next) (splice at (little_bytes 4 size) bins.old.items) }
+    ensures capacity { vec_capacity bins.new ≡ vec_capacity bins.old }
 {
     put_word(bins, at as usize, size);
     put_word(bins, at as usize + 4, next);

@@ -2,7 +2,7 @@
 //!
 //! `ends` has, at a free cell's last eight bytes, the cell's offset, and elsewhere 0. `backs` has, at a free cell's first
 //! eight bytes, the cell before it in its list, or `NONE`.
-ghost use Rattle.std.specs.Prelude.{◌≡◌, ◌+◌, ◌-◌, ◌*◌, ◌/◌, ◌≤◌, ◌<◌, set, length, get_or, OnOk};
+ghost use Rattle.std.specs.Prelude.{◌≡◌, ◌+◌, ◌-◌, ◌*◌, ◌/◌, ◌≤◌, ◌<◌, set, length, get_or, OnOk, IsOk};
 ghost use Rattle.reg_heap.specs.declared.limits.TheConstants.{BINS_LIMIT};
 ghost use Rattle.reg_arena.specs.Internal.SideTables.{marked, NotesTaken, IsLonger};
 
@@ -78,6 +78,7 @@ fn lengthen_table(table: &mut Vec<u32>, units: usize) -> Result<(), AllocError>
     requires { units ≤ 33554432 }
     ensures same { IsLonger table.old.items table.new.items }
     ensures ok { OnOk result (units ≤ length table.new.items) }
+    ensures succeeds { units ≤ length table.old.items → IsOk result }
 {
     if units <= table.len() {
         return Ok(());
@@ -91,6 +92,7 @@ pub fn make_room(ends: &mut Vec<u32>, backs: &mut Vec<u32>, units: usize) -> Res
     ensures ends { IsLonger ends.old.items ends.new.items }
     ensures backs { IsLonger backs.old.items backs.new.items }
     ensures ok { OnOk result ((units ≤ length ends.new.items) × (units ≤ length backs.new.items)) }
+    ensures succeeds { units ≤ length ends.old.items → units ≤ length backs.old.items → IsOk result }
 {
     lengthen_table(ends, units)?;
     lengthen_table(backs, units)

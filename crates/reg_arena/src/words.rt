@@ -1,5 +1,5 @@
 //! Numbers of four bytes in the bins.
-ghost use Rattle.std.specs.Prelude.{◌≡◌, ◌+◌, ◌≤◌, length};
+ghost use Rattle.std.specs.Prelude.{◌≡◌, ◌+◌, ◌≤◌, length, vec_capacity};
 ghost use Rattle.byteorder.specs.Endian.{little_bytes};
 ghost use Rattle.reg_heap.specs.ByteWords.{splice, word};
 ghost use Rattle.reg_arena.specs.Cells.{size_in};
@@ -25,7 +25,8 @@ fn set_word(bins: &mut [u8], at: usize, n: u32)
 #[tactic(auto, unfolding(reg_heap::specs::ByteWords::splice))]
 pub fn put_word(bins: &mut Vec<u8>, at: usize, n: u32)
     requires { at + 4 ≤ length bins.old.items }
-    ensures { bins.new.items ≡ splice at (little_bytes 4 n) bins.old.items }
+    ensures bytes { bins.new.items ≡ splice at (little_bytes 4 n) bins.old.items }
+    ensures capacity { vec_capacity bins.new ≡ vec_capacity bins.old }
 {
     set_word(bins, at, n);
 }

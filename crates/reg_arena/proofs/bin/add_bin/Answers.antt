@@ -18,7 +18,7 @@ put_free-requires c =
     let pages : 40 ≤ size = omega (arith, least.pages, wide) in
     let start : c.len-at.result ≡ length old = omega (arith, c.len-at.ensures) in
     let header = length-headed c.len-at.result size c.lengthen.new.bins.items (omega arith) in
-    rw c.put_header.ensures (omega arith)
+    rw c.put_header.ensures.bytes (omega arith)
 
 pub overflow_add-count : goal.overflow_add-count
 overflow_add-count c = omega (arith, c.requires.arena.few.0)
@@ -28,25 +28,25 @@ returns-clause-arena c =
     (added c.args.bins.now.items c.lengthen.new.bins.items c.put_header.new.bins.items c.put_free.new.bins.items c.args.head.now c.args.count.now
     c.len-at.result c.bin_size-size.result c.args.total c.requires.arena c.bin_size-size.ensures.least c.requires.positive (omega arith)
     (c.requires.room c.bin_size-size.result c.bin_size-size.ensures.least)
-    (omega arith) c.in_ok-lengthen.ensures.ok c.put_header.ensures c.put_free.ensures).arena
+    (omega arith) c.in_ok-lengthen.ensures.ok c.put_header.ensures.bytes c.put_free.ensures.bytes).arena
 
 pub returns-clause-ok : goal.returns-clause-ok
 returns-clause-ok c =
     (added c.args.bins.now.items c.lengthen.new.bins.items c.put_header.new.bins.items c.put_free.new.bins.items c.args.head.now c.args.count.now
     c.len-at.result c.bin_size-size.result c.args.total c.requires.arena c.bin_size-size.ensures.least c.requires.positive (omega arith)
     (c.requires.room c.bin_size-size.result c.bin_size-size.ensures.least)
-    (omega arith) c.in_ok-lengthen.ensures.ok c.put_header.ensures c.put_free.ensures).appends
+    (omega arith) c.in_ok-lengthen.ensures.ok c.put_header.ensures.bytes c.put_free.ensures.bytes).appends
 
 pub returns-clause-fit : goal.returns-clause-fit
 returns-clause-fit c =
     (added c.args.bins.now.items c.lengthen.new.bins.items c.put_header.new.bins.items c.put_free.new.bins.items c.args.head.now c.args.count.now
     c.len-at.result c.bin_size-size.result c.args.total c.requires.arena c.bin_size-size.ensures.least c.requires.positive (omega arith)
     (c.requires.room c.bin_size-size.result c.bin_size-size.ensures.least)
-    (omega arith) c.in_ok-lengthen.ensures.ok c.put_header.ensures c.put_free.ensures).fit
+    (omega arith) c.in_ok-lengthen.ensures.ok c.put_header.ensures.bytes c.put_free.ensures.bytes).fit
 
 pub returns-clause-chained : goal.returns-clause-chained
 returns-clause-chained c =
     (added c.args.bins.now.items c.lengthen.new.bins.items c.put_header.new.bins.items c.put_free.new.bins.items c.args.head.now c.args.count.now
     c.len-at.result c.bin_size-size.result c.args.total c.requires.arena c.bin_size-size.ensures.least c.requires.positive (omega arith)
     (c.requires.room c.bin_size-size.result c.bin_size-size.ensures.least)
-    (omega arith) c.in_ok-lengthen.ensures.ok c.put_header.ensures c.put_free.ensures).chained
+    (omega arith) c.in_ok-lengthen.ensures.ok c.put_header.ensures.bytes c.put_free.ensures.bytes).chained

@@ -21,4 +21,4 @@ returns-clause-long c =
     let e = rw c.deref.ensures.value at c.size_at-size.ensures in
     let below : c.args.total < size_in (word c.args.bins.now.items c.args.place.cell) = omega (arith, e, c.requires.fits) in
     let room : c.args.place.cell + c.args.total + 8 ≤ length c.set_link-2.new.bins.items = omega (arith, long, c.requires.within, c.requires.rest below) in
-    rw c.put_free.ensures (length-freed _ _ _ c.set_link-2.new.bins.items room ∙ long)
+    rw c.put_free.ensures.bytes (length-freed _ _ _ c.set_link-2.new.bins.items room ∙ long)

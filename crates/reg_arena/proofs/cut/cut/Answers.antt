@@ -26,4 +26,6 @@ loop-size-preserved c =
           ap (λ (t : List ℕ). t ++ c.loop-size.at ∷ []) v.out ∙ append_assoc c.args.out.now.items (offsets_of c.args.cell (take i sizes))
           (c.loop-size.at ∷ []));
       room = omega (arith, v.room, len, c.push.ensures.capacity, c.loop-size-test.true);
+      capacity = omega (arith, v.capacity, c.cut_one.ensures.capacity);
+      out_capacity = omega (arith, v.out_capacity, c.push.ensures.capacity);
     }

@@ -9,4 +9,6 @@ invariant-loop-size l = record {
   at : l.at ≡ l.cell + total_of (take l.size-index l.sizes);
   out : l.out.items ≡ l.initial.out.items ++ offsets_of l.cell (take l.size-index l.sizes);
   room : vec_len l.out + (length l.sizes - l.size-index) ≤ vec_capacity l.out;
+  capacity : vec_capacity l.bins ≡ vec_capacity l.initial.bins;
+  out_capacity : vec_capacity l.initial.out ≤ vec_capacity l.out;
 }

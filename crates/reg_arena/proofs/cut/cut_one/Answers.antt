@@ -7,13 +7,13 @@ use Rattle.reg_arena.proofs.cut.cut_one.Goals as goal
 pub zero-requires : goal.zero-requires
 zero-requires c =
     let long = length-splice c.args.at (little_bytes 4 (4294967295 - c.args.size + 1)) c.args.bins.now.items (omega arith) in
-    rw c.put_word.ensures (omega arith)
+    rw c.put_word.ensures.bytes (omega arith)
 
 pub returns-clause-region : goal.returns-clause-region
-returns-clause-region c = rw (c.zero.ensures, c.put_word.ensures) (one-region c.args.at c.args.size c.args.bins.now.items (omega arith) c.requires.fits)
+returns-clause-region c = rw (c.zero.ensures.bytes, c.put_word.ensures.bytes) (one-region c.args.at c.args.size c.args.bins.now.items (omega arith) c.requires.fits)
 
 pub returns-clause-cell : goal.returns-clause-cell
-returns-clause-cell c = rw (c.zero.ensures, c.put_word.ensures) (one-is c.args.at c.args.size c.args.bins.now.items c.requires.positive c.requires.eights c.requires.fits c.requires.small)
+returns-clause-cell c = rw (c.zero.ensures.bytes, c.put_word.ensures.bytes) (one-is c.args.at c.args.size c.args.bins.now.items c.requires.positive c.requires.eights c.requires.fits c.requires.small)
 
 pub returns-clause-zero : goal.returns-clause-zero
-returns-clause-zero c = rw (c.zero.ensures, c.put_word.ensures) (one-zero c.args.at c.args.size c.args.bins.now.items (omega arith) c.requires.fits)
+returns-clause-zero c = rw (c.zero.ensures.bytes, c.put_word.ensures.bytes) (one-zero c.args.at c.args.size c.args.bins.now.items (omega arith) c.requires.fits)

@@ -241,7 +241,7 @@ returns-clause-arena c =
     let room : length c.unlink.new.bins.items ≤ 8 * length c.unlink.new.backs.items = omega (arith, d1.long, d1.table, c.requires.arena.backs_long) in
     let d2 = detached _ _ _ _ _ _ _ _ _ _ _ c.ending_at-left.result c.ending_at-left.result d1.threads small room lin c.unlink-2.ensures in
     let e = end-facts _ _ _ _ _ _ _ _ _ _ _ _ _ _ _ _ _ c.requires.arena st w d1 d2 in
-    rw (c.put_free.ensures, c.start-lo.ensures)
+    rw (c.put_free.ensures.bytes, c.start-lo.ensures)
     (free-done _ _ _ _ _ _ _ _ _ _ _ _ _ _ _ c.args.cell c.size_at.result c.ending_at-left.result c.free_size_at-right.result c.requires.arena st
     c.ending_at-left.ensures w d1 d2 (rw (c.mark_end.ensures, c.start-lo.ensures) at c.note_free.ensures.ends)
     (rw c.start-lo.ensures at c.note_free.ensures.backs)).indexed
@@ -261,7 +261,7 @@ returns-clause-frees c =
     let room : length c.unlink.new.bins.items ≤ 8 * length c.unlink.new.backs.items = omega (arith, d1.long, d1.table, c.requires.arena.backs_long) in
     let d2 = detached _ _ _ _ _ _ _ _ _ _ _ c.ending_at-left.result c.ending_at-left.result d1.threads small room lin c.unlink-2.ensures in
     let e = end-facts _ _ _ _ _ _ _ _ _ _ _ _ _ _ _ _ _ c.requires.arena st w d1 d2 in
-    rw (c.put_free.ensures, c.start-lo.ensures)
+    rw (c.put_free.ensures.bytes, c.start-lo.ensures)
     (free-done _ _ _ _ _ _ _ _ _ _ _ _ _ _ _ c.args.cell c.size_at.result c.ending_at-left.result c.free_size_at-right.result c.requires.arena st
     c.ending_at-left.ensures w d1 d2 (rw (c.mark_end.ensures, c.start-lo.ensures) at c.note_free.ensures.ends)
     (rw c.start-lo.ensures at c.note_free.ensures.backs)).frees
@@ -281,7 +281,7 @@ returns-clause-contents c =
     let room : length c.unlink.new.bins.items ≤ 8 * length c.unlink.new.backs.items = omega (arith, d1.long, d1.table, c.requires.arena.backs_long) in
     let d2 = detached _ _ _ _ _ _ _ _ _ _ _ c.ending_at-left.result c.ending_at-left.result d1.threads small room lin c.unlink-2.ensures in
     let e = end-facts _ _ _ _ _ _ _ _ _ _ _ _ _ _ _ _ _ c.requires.arena st w d1 d2 in
-    rw (c.put_free.ensures, c.start-lo.ensures)
+    rw (c.put_free.ensures.bytes, c.start-lo.ensures)
     (free-done _ _ _ _ _ _ _ _ _ _ _ _ _ _ _ c.args.cell c.size_at.result c.ending_at-left.result c.free_size_at-right.result c.requires.arena st
     c.ending_at-left.ensures w d1 d2 (rw (c.mark_end.ensures, c.start-lo.ensures) at c.note_free.ensures.ends)
     (rw c.start-lo.ensures at c.note_free.ensures.backs)).contents
