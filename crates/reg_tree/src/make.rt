@@ -203,7 +203,6 @@ fn carve_for(
 ) -> Result<Vec<u32>, TreeFault>
     requires here { IsHere arena.old.bytes parent }
     requires path { is_path path.now ≡ true }
-    requires some { path_of path.now ≢ [] }
     requires few { length (path_of path.now) ≤ MADE_LIMIT }
     ensures ok { IfOk result (λ cells. IsSpared arena.old.bytes arena.new.bytes parent (path_of path.now) cells.items) }
     ensures full { (result ≡ Err TreeFault.Full) → BINS_LIMIT < length arena.old.bytes + GROWTH_BOUND }
@@ -218,7 +217,7 @@ fn carve_for(
         Err(AllocError) => return Err(TreeFault::Memory),
     };
     let mut cells = Vec::new(alloc);
-    match arena.carve(&sizes, &mut cells) {
+    match arena.carve_change(&sizes, &mut cells) {
         Ok(()) => Ok(cells),
         Err(fault) => Err(TreeFault::from(fault)),
     }

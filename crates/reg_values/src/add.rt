@@ -26,7 +26,7 @@ use reg_arena::{Arena, ArenaFault};
 use reg_records::{ValueFields, put_offset, put_vk};
 use std::alloc::Global;
 
-/// New cells of these sizes, side by side.
+/// New cells of these sizes, those of one change.
 pub(crate) fn carve(alloc: Global, arena: &mut Arena, sizes: &[u32]) -> Result<Vec<u32>, ArenaFault>
     requires sizes { AreSizes sizes.now }
     requires total { total_of sizes.now ≤ 1306592 }
@@ -38,7 +38,7 @@ pub(crate) fn carve(alloc: Global, arena: &mut Arena, sizes: &[u32]) -> Result<V
     ensures kept { OnOk result (length arena.old.bytes ≤ length arena.new.bytes) }
 {
     let mut cells = Vec::new(alloc);
-    arena.carve(sizes, &mut cells)?;
+    arena.carve_change(sizes, &mut cells)?;
     Ok(cells)
 }
 

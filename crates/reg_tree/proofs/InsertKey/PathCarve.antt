@@ -1,5 +1,5 @@
 -- The cells carved for keys of a path's names: their sizes, and that they are ready.
-use Rattle.std.proofs.Common.{◌≡◌, ◌≢◌, ℕ, zero, suc, ◌+◌, ◌-◌, ◌*◌, ◌%◌, ◌≤◌, ◌<◌, Bool, true, false, cond, nat_le, nat_lt, Option, Some, None, IsSome, List, [], ◌∷◌, map, length, get_or}
+use Rattle.std.proofs.Common.{◌≡◌, ℕ, zero, suc, ◌+◌, ◌-◌, ◌*◌, ◌%◌, ◌≤◌, ◌<◌, Bool, true, false, cond, nat_le, nat_lt, Option, Some, None, IsSome, List, [], ◌∷◌, map, length, get_or}
 use Rattle.std.proofs.Common.{replicate, refl, sym, ap, ◌∙◌, subst, arith, Vec, Global}
 use Rattle.std.specs.Prelude.{unwrap_or, Result, Err}
 use Rattle.std.specs.List.{list_all, AllByRecursion}
@@ -16,7 +16,6 @@ use Rattle.reg_index.specs.declared.plan.TheConstants.{FIRST_LIST_SIZE}
 use Rattle.reg_arena.specs.declared.ArenaFault.{ArenaFault}
 use Rattle.reg_arena.specs.declared.ArenaFault.TheVariants as arena
 use Rattle.reg_arena.specs.Cells.{cell_at}
-use Rattle.reg_arena.specs.Carves.{AddsCells}
 use Rattle.reg_arena.specs.NewBin.{PassesLimit}
 use Rattle.reg_arena.specs.NewCells.{AreSizes, total_of}
 use Rattle.reg_records.specs.RecordCells.{HasRoom, held}
@@ -138,11 +137,6 @@ is-full fault told e f = by fault (sym e ∙ same_err f)
     by arena.Full e = refl
     by arena.Memory e = absurd (cc)
 
-pub sizes-there : (plan : Option ℕ) (names : List (List ℕ)) → names ≢ [] → 0 < length (sizes_of plan (map own_sizes names))
-sizes-there plan [] some = absurd (some refl)
-sizes-there None (name ∷ names) some = omega arith
-sizes-there (Some size) (name ∷ names) some = omega arith
-
 -- ---- the cells are ready
 
 held-long : (h : Heap) (cell size : ℕ) → h cell ≡ Some (replicate (size - 4) 0) → length (held h cell) ≡ size - 4
@@ -191,12 +185,12 @@ ready-all h (Some size) (name ∷ names) (list ∷ key ∷ left) p n z = record 
 -- cells carved by these sizes are those that the keys take
 pub spared : (old new : List ℕ) (key : ℕ) (t : IsHere old key) (count list : ℕ) → HasSubkeysList (cell_at old) key count list →
     (path : List ℕ) (plan : Option ℕ) → plan ≡ insert_size (cell_at old) count list → (sizes offsets cells : List ℕ) →
-    sizes ≡ sizes_of plan (map own_sizes (path_of path)) → cells ≡ offsets → AddsCells old new sizes offsets → IsSpared old new key (path_of path) cells
+    sizes ≡ sizes_of plan (map own_sizes (path_of path)) → cells ≡ offsets → AreNew (cell_at old) (cell_at new) offsets sizes → IsSpared old new key (path_of path) cells
 spared old new key t count list has path plan plan_is sizes offsets cells sizes_are cells_are adds =
     let sized : sizes ≡ sizes_of (insert_size (cell_at old) count list) (map own_sizes (path_of path)) = sizes_are ∙ ap (λ p. sizes_of p (map own_sizes (path_of path))) plan_is in
     let a : AreNew (cell_at old) (cell_at new) cells (sizes_of (insert_size (cell_at old) count list) (map own_sizes (path_of path))) =
     subst (λ c. AreNew (cell_at old) (cell_at new) c (sizes_of (insert_size (cell_at old) count list) (map own_sizes (path_of path)))) (sym cells_are)
-    (subst (AreNew (cell_at old) (cell_at new) offsets) sized adds.are_new) in
+    (subst (AreNew (cell_at old) (cell_at new) offsets) sized adds) in
     let p = planned_is old key [] (growing old key t) count list has in
     let good = are-sizes (insert_size (cell_at old) count list) (path_of path) (plan_good old key t count list has) in
     record {

@@ -1,4 +1,4 @@
-use Rattle.std.proofs.Common.{◌≡◌, ◌∙◌, ◌++◌, ap, subst}
+use Rattle.std.proofs.Common.{◌∙◌, ◌++◌, ap}
 use Rattle.reg_arena.specs.EachCell.{EachExactly}
 use Rattle.reg_arena.proofs.TableUpkeep.IndexedArena.{indexed-longer}
 use Rattle.reg_arena.proofs.Carving.EachCarve.{each-longer, each-new}

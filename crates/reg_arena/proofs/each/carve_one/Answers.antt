@@ -1,4 +1,3 @@
-use Rattle.std.proofs.Common.{arith}
 use Rattle.reg_heap.specs.declared.limits.TheConstants.{BINS_LIMIT}
 use Rattle.reg_arena.proofs.FreeList.FreeListChoice.{chain-within, no-fit}
 use Rattle.reg_arena.proofs.Carving.FreshBins.{fresh-least, fresh-room}
