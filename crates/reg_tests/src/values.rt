@@ -27,7 +27,7 @@ fn one_cell_of_data(rt: HostRuntime) -> Result<(), Fail> {
     assert_told(
         &rt,
         cells_with(rt.alloc(), 16_344),
-        "32 88* 120 48* 168 3928 4128 32* 4160 8* 4168 16352* 20520 4056 ",
+        "32 88* 120 48* 168 32* 200 8* 208 3888 4128 16352* ",
     )
 }
 
@@ -36,7 +36,7 @@ fn two_segments(rt: HostRuntime) -> Result<(), Fail> {
     assert_told(
         &rt,
         cells_with(rt.alloc(), 16_345),
-        "32 88* 120 48* 168 3928 4128 32* 4160 8* 4168 16* 4184 16* 4200 16352* 20552 8* 20560 4016 ",
+        "32 88* 120 48* 168 32* 200 8* 208 16* 224 16* 240 8* 248 3848 4128 16352* ",
     )
 }
 
@@ -106,11 +106,11 @@ fn deleted_value_leaves_no_cell(rt: HostRuntime) -> Result<(), Fail> {
 
 #[test]
 fn deleted_big_value_leaves_no_cell(rt: HostRuntime) -> Result<(), Fail> {
-    // 100,144 bytes of cells and a header of 32 need a bin of 102,400
+    // six segments of 16,352 bytes fill a bin of 16,384 each; all else stood in the first bin
     assert_told(
         &rt,
         deleted(rt.alloc(), b"v", 100_000),
-        "0; 32 88* 120 48* 168 3928 4128 102368 ",
+        "0; 32 88* 120 48* 168 3928 4128 16352 20512 16352 36896 16352 53280 16352 69664 16352 86048 16352 ",
     )
 }
 
@@ -129,7 +129,7 @@ fn replaced_big_value_leaves_no_segment(rt: HostRuntime) -> Result<(), Fail> {
     assert_told(
         &rt,
         replaced(rt.alloc()),
-        "32 88* 120 48* 168 3928 4128 32* 4160 8* 4168 102328 ",
+        "32 88* 120 48* 168 32* 200 8* 208 3888 4128 16352 20512 16352 36896 16352 53280 16352 69664 16352 86048 16352 ",
     )
 }
 

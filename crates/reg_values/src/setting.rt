@@ -27,7 +27,8 @@ use std::alloc::Global;
 /// goes to the end. Answers the list as it is then; what falls away is freed, and data that needs a cell of the old one's
 /// size is written there.
 ///
-/// All cells of the change are carved at once, as [`plan_set`](crate::plan_set) says.
+/// All cells of the change are carved before anything is written, by
+/// [`carve_change`](reg_arena::Arena::carve_change) and with the sizes of [`plan_set`](crate::plan_set).
 /// [`ArenaFault::Full`]: no free cell has room for them, and with a bin more there would be more than 268,435,456 bytes of
 /// bins. [`ArenaFault::Memory`]: a growth was refused. After either the arena is as before. The bins grow by at most
 /// 1,310,720 bytes.
