@@ -7,4 +7,5 @@ pub mod NewBinBytes
 pub mod BinAppend
 pub mod BinGrowth
 pub mod FreshBins
+pub mod ReservedRoom
 pub mod EachCarve

@@ -1,8 +1,20 @@
--- The list of the free cells: searched, shortened, linked anew.
-pub mod FreeLinks
-pub mod FreeListTake
+-- The lists of the free cells: their links, the sizes' first cells and bits, and the best fit.
+pub mod ListMembers
 pub mod FreeListWalk
-pub mod Relinks
-pub mod FreeListChoice
-pub mod FreeCellCount
-pub mod Unlinks
+pub mod ThreadLinks
+pub mod ClassMembers
+pub mod CellPutting
+pub mod CellTaking
+pub mod SizeBits
+pub mod SizeClasses
+pub mod TableReads
+pub mod LinkWords
+pub mod ListedSpots
+pub mod ListedPut
+pub mod ListedTake
+pub mod ListedSteps
+pub mod ListedFrames
+pub mod BestFits
+pub mod FreeSizes
+pub mod RelinkedCells
+pub mod ListedArenas

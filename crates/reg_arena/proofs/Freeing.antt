@@ -1,6 +1,6 @@
--- A free, from the neighbours to the whole call.
+-- A cell is freed, and merges with the free cells beside it.
 pub mod MergedCells
 pub mod Neighbours
 pub mod FreeNeighbours
+pub mod FreedSite
 pub mod FreeWhole
-pub mod FreeEnd

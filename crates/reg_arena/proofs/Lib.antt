@@ -3,5 +3,5 @@ pub mod Tiling
 pub mod FreeList
 pub mod Carving
 pub mod RowsOfCells
+pub mod RowsOfClasses
 pub mod Freeing
-pub mod TableUpkeep

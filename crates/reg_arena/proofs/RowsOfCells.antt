@@ -8,7 +8,7 @@ use Rattle.reg_arena.specs.Cells.{bins_of, cells_of, cell_at}
 use Rattle.reg_arena.specs.NewCells.{used, unused}
 use Rattle.reg_arena.specs.Free.{Follows, free_of}
 use Rattle.reg_arena.specs.Frees.{Frees}
-use Rattle.reg_arena.specs.Arena.{one_class}
+use Rattle.reg_arena.specs.Classes.{class_of}
 use Rattle.reg_arena.specs.NewBin.{new_bin}
 
 -- an allocated cell of zeros
@@ -35,8 +35,14 @@ fresh_hive-cells : cells_of fresh_hive ≡ Some (used 32 88 ∷ used 120 48 ∷ 
 unfolding cells_of word
 fresh_hive-cells = refl
 
-fresh_hive-free : free_of one_class 0 (used 32 88 ∷ used 120 48 ∷ unused 168 3928 ∷ []) ≡ 168 ∷ []
+-- 3928 bytes are in the list of 2,048 to 4,088
+fresh_hive-free : free_of class_of 20 (used 32 88 ∷ used 120 48 ∷ unused 168 3928 ∷ []) ≡ 168 ∷ []
+unfolding class_of
 fresh_hive-free = refl
+
+fresh_hive-other : free_of class_of 19 (used 32 88 ∷ used 120 48 ∷ unused 168 3928 ∷ []) ≡ []
+unfolding class_of
+fresh_hive-other = refl
 
 fresh_hive-list : Follows fresh_hive 168 (168 ∷ [])
 unfolding word

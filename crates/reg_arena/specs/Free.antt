@@ -1,14 +1,12 @@
 -- The lists of free cells. A link stands behind a free cell's size field; the format leaves those bytes open.
 -- The lists are as many as there are classes of sizes: `class_of` gives a size's class, and class k has the k-th head.
-use Rattle.std.specs.Prelude.{◌≡◌, ℕ, ◌+◌, ◌<◌, Bool, false, not, ◌&&◌, ◌==◌, List, [], ◌∷◌, ◌++◌, ◌⊎◌, zero, ◌≤◌, ◌-◌, length, map, filter}
-use Rattle.std.specs.Prelude.{if◌then◌else◌, ⊤, suc}
+use Rattle.std.specs.Prelude.{◌≡◌, ℕ, ◌+◌, ◌<◌, Bool, false, not, ◌&&◌, ◌==◌, List, [], ◌∷◌, ◌++◌, zero, ◌≤◌, length, map, filter}
+use Rattle.std.specs.Prelude.{⊤, suc}
 use Rattle.std.specs.List.{AllByRecursion}
-use Rattle.byteorder.specs.Endian.{little_bytes}
 use Rattle.reg_heap.specs.declared.limits.TheConstants.{NONE}
-use Rattle.reg_heap.specs.ByteWords.{word, splice}
+use Rattle.reg_heap.specs.ByteWords.{word}
 use Rattle.reg_heap.specs.Kinds.{times}
 use Rattle.reg_arena.specs.declared.Cell.{Cell}
-use Rattle.reg_arena.specs.Cells.{size_in}
 
 -- the offsets met by following the links from a head to 0xFFFFFFFF
 abbrev pub Follows : List ℕ → ℕ → List ℕ → Type 0
@@ -20,42 +18,12 @@ abbrev pub chain : ℕ → List ℕ → ℕ → List ℕ
 chain zero bins cell = []
 chain (suc count) bins cell = cell ∷ chain count bins (word bins (cell + 4))
 
--- the cells before a place, of which the last is previous
-abbrev pub EndsAt : List ℕ → ℕ → Type 0
-EndsAt front previous = ((front ≡ []) × (previous ≡ NONE)) ⊎ ((first : List ℕ) × (front ≡ first ++ previous ∷ []))
-
--- a free cell of the list that has room, and the one before it
-pub record IsFit (bins : List ℕ) (total : ℕ) (offsets : List ℕ) (previous cell : ℕ) : Type 0 where
+-- a free cell of the list that has room
+pub record IsFit (bins : List ℕ) (total : ℕ) (offsets : List ℕ) (cell : ℕ) : Type 0 where
   pub front : List ℕ
   pub back : List ℕ
   pub split : offsets ≡ front ++ cell ∷ back
-  pub ends : EndsAt front previous
-  pub fits : total ≤ size_in (word bins cell)
-
--- no cell of the list has room
-abbrev pub NoneFits : List ℕ → ℕ → List ℕ → Type 0
-NoneFits bins total offsets = AllByRecursion (λ offset. size_in (word bins offset) < total) offsets
-
--- the bytes, and the head, after the link of a list that stands after previous is set to next
-abbrev pub linked : ℕ → ℕ → List ℕ → List ℕ
-linked previous next bytes = if previous == NONE then bytes else splice (previous + 4) (little_bytes 4 next) bytes
-
--- the head after that
-abbrev pub head_after : ℕ → ℕ → ℕ → ℕ
-head_after previous next head = if previous == NONE then next else head
-
--- the bytes after the two words of a free cell were written
-abbrev pub freed : ℕ → ℕ → ℕ → List ℕ → List ℕ
-freed at size next bytes = splice (at + 4) (little_bytes 4 next) (splice at (little_bytes 4 size) bytes)
-
--- a cell's first bytes were taken out of the list, and a rest took its place there or there is none
-abbrev pub TakesOut : List ℕ → ℕ → ℕ → ℕ → ℕ → ℕ → List ℕ → ℕ → ℕ → Type 0
-TakesOut old head count previous cell total new head' count' =
-    let size = size_in (word old cell) in
-    let next = word old (cell + 4) in
-    ((size ≡ total) × (new ≡ linked previous next old) × (head' ≡ head_after previous next head) × (count' + 1 ≡ count))
-    ⊎ ((total < size) × (new ≡ freed (cell + total) (size - total) next (linked previous (cell + total) old)) ×
-    (head' ≡ head_after previous (cell + total) head) × (count' ≡ count))
+  pub fits : total ≤ word bins cell
 
 -- the free cells of a class
 abbrev pub is_free_of : (ℕ → ℕ) → ℕ → Cell → Bool

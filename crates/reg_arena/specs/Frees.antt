@@ -1,12 +1,10 @@
 -- What freeing a cell does to the cells.
-use Rattle.std.specs.Prelude.{◌≡◌, ℕ, ◌+◌, ◌-◌, ◌/◌, ◌<◌, ◌≤◌, ◌==◌, ◌⊎◌, get_or, List, [], ◌∷◌, ◌++◌, length, Some, if◌then◌else◌}
-use Rattle.reg_heap.specs.declared.limits.TheConstants.{BINS_LIMIT, NONE}
+use Rattle.std.specs.Prelude.{◌≡◌, ℕ, ◌+◌, ◌-◌, ◌<◌, ◌≤◌, ◌==◌, ◌⊎◌, List, [], ◌∷◌, ◌++◌, length, Some, if◌then◌else◌}
+use Rattle.reg_heap.specs.declared.limits.TheConstants.{BINS_LIMIT}
 use Rattle.reg_heap.specs.ByteWords.{word}
 use Rattle.reg_arena.specs.declared.Cell.{Cell}
 use Rattle.reg_arena.specs.Cells.{cells_of}
-use Rattle.reg_arena.specs.Free.{linked, head_after}
 use Rattle.reg_arena.specs.NewCells.{used, unused}
-use Rattle.reg_arena.specs.Internal.SideTables.{marked}
 
 -- at most one free cell, which is the bytes from lo to hi
 abbrev pub IsFreePiece : ℕ → ℕ → List Cell → Type 0
@@ -38,19 +36,3 @@ IsRight bytes at size =
 -- where a cell begins once the free cell on its left, if there is one, is part of it
 abbrev pub start_of : ℕ → ℕ → ℕ
 start_of left cell = if left == 0 then cell else left
-
--- what the bytes and a table must say of a cell that is taken out of its list
-pub record InList (bytes : List ℕ) (count : ℕ) (backs : List ℕ) (cell : ℕ) : Type 0 where
-  pub place : cell + 8 ≤ length bytes
-  pub some : 0 < count
-  pub previous_in : (get_or backs (cell / 8) 0 ≡ NONE → ⊥) → get_or backs (cell / 8) 0 + 8 ≤ length bytes
-  pub next_in : (word bytes (cell + 4) ≡ NONE → ⊥) → word bytes (cell + 4) + 8 ≤ length bytes
-
--- a cell was taken out of its list, unless there is none
-abbrev pub Unlinks : ℕ → ℕ → List ℕ → ℕ → ℕ → List ℕ → List ℕ → ℕ → ℕ → List ℕ → Type 0
-Unlinks some cell old head count backs new head' count' backs' =
-    let previous = get_or backs (cell / 8) 0 in
-    let next = word old (cell + 4) in
-    ((some ≡ 0) × (new ≡ old) × (head' ≡ head) × (count' ≡ count) × (backs' ≡ backs))
-    ⊎ ((0 < some) × (next < 4294967296) × (new ≡ linked previous next old) × (head' ≡ head_after previous next head) ×
-    (backs' ≡ marked next previous backs) × (count' + 1 ≡ count))

@@ -1,4 +1,6 @@
--- Words that only private contracts and proofs use: the side tables, and a walk over the cells under way.
+-- Words that only private contracts and proofs use: the free lists' tables, and a walk over the cells under way.
+pub mod CellThreads
 pub mod CellWalks
+pub mod ListedCells
+pub mod SizeTables
 pub mod Reserved
-pub mod SideTables

@@ -5,7 +5,7 @@ ghost use Rattle.reg_heap.specs.declared.limits.TheConstants.{BINS_LIMIT, GROWTH
 ghost use Rattle.reg_heap.specs.Heaps.{AreNew, GivesUp, Writes};
 ghost use Rattle.reg_heap.specs.ByteWords.{splice, word};
 ghost use Rattle.reg_arena.specs.declared.TheConstants.{CARVE_LIMIT};
-ghost use Rattle.reg_arena.specs.Arena.{IsSound, heap_of};
+ghost use Rattle.reg_arena.specs.Arena.{IsSound, empty_heads, heap_of};
 ghost use Rattle.reg_arena.specs.NewCells.{total_of, AreSizes};
 ghost use Rattle.reg_arena.specs.Carves.{AddsCells, CarvesExactly, NoFit};
 ghost use Rattle.reg_arena.specs.EachCell.{fresh_of, AreCarvable, CarvesChange, EachExactly};
@@ -17,15 +17,15 @@ use crate::bin::passes_limit;
 use crate::carve::{carve_bin, carve_found};
 use crate::each::{carve_cells, fresh_within};
 use crate::free::free_cell;
-use crate::list::find_fit;
+use crate::free_lists::FreeLists;
 use crate::walk::list_cells;
 use crate::words::size_at;
 use crate::{ArenaFault, Cell};
-use reg_heap::limits::{BINS_LIMIT, GROWTH_BOUND, NONE};
+use reg_heap::limits::{BINS_LIMIT, GROWTH_BOUND};
 use std::alloc::Global;
 use std::marker::Model;
 
-/// Bins of cells, at most 268,435,456 bytes of them, and the list of the free cells.
+/// Bins of cells, at most 268,435,456 bytes of them, and 24 lists of the free cells by their sizes.
 ///
 /// A cell is named by its offset, which counts from the first bin. What an allocated cell holds are the bytes behind its
 /// size field, four fewer than its size. No two free cells of a bin touch.
@@ -33,40 +33,31 @@ use std::marker::Model;
 pub struct Arena {
     /// The bytes of all bins, one bin behind the other.
     bins: Vec<u8>,
-    /// The first free cell, or `NONE`.
-    head: u32,
-    /// How many free cells there are.
-    count: usize,
-    /// For each eight bytes, the free cell that ends there, or 0.
-    ends: Vec<u32>,
-    /// For each free cell's first eight bytes, the free cell before it in the list, or `NONE`.
-    backs: Vec<u32>,
+    /// The lists of the free cells.
+    lists: FreeLists,
 }
 
 impl Model for Arena {
-    ghost use Rattle.std.specs.Prelude.{[], ◌∷◌};
     ghost use Rattle.reg_arena.specs.Arena.{Bins};
-    ghost use Rattle.reg_arena.specs.Internal.SideTables.{IsIndexed};
+    ghost use Rattle.reg_arena.specs.Internal.ListedCells.{IsIndexed};
 
     ghost Value = { Bins };
 
-    ghost view = { λ a. record { bytes = a.bins.items; heads = a.head ∷ [] } };
+    ghost view = { λ a. record { bytes = a.bins.items; heads = a.lists.heads } };
 
-    ghost invariant = { λ a. IsIndexed a.bins.items (a.head ∷ []) (a.count ∷ []) a.ends.items a.backs.items };
+    ghost invariant = { λ a. IsIndexed a.bins.items a.lists };
 }
 
 impl Arena {
     /// An arena with no bin.
+    #[tactic(auto, unfolding(crate::specs::Arena::empty_heads))]
     pub fn new(alloc: Global) -> Self
         ensures bytes { result.bytes ≡ [] }
-        ensures heads { result.heads ≡ NONE ∷ [] }
+        ensures heads { result.heads ≡ empty_heads }
     {
         Arena {
             bins: Vec::new(alloc),
-            head: NONE,
-            count: 0,
-            ends: Vec::new(alloc),
-            backs: Vec::new(alloc),
+            lists: FreeLists::new(alloc),
         }
     }
 
@@ -171,7 +162,6 @@ impl Arena {
     /// free cell. The other cells keep what they hold. It takes no memory, and constant time.
     ///
     /// Suhanov, Windows registry file format specification, section "Cell".
-    #[tactic(auto, using(reg_heap::proofs::CellFrame::gives_up_one))]
     pub fn free(&mut self, cell: u32)
         requires { IsSome (heap_of self.old cell) }
         ensures frees { Frees self.old.bytes self.new.bytes cell }
@@ -179,20 +169,14 @@ impl Arena {
         ensures gone { GivesUp (heap_of self.old) (heap_of self.new) (cell ∷ []) }
         ensures long { length self.new.bytes ≡ length self.old.bytes }
     {
-        free_cell(
-            &mut self.bins,
-            &mut self.head,
-            &mut self.count,
-            &mut self.ends,
-            &mut self.backs,
-            cell,
-        );
+        free_cell(&mut self.bins, &mut self.lists, cell);
     }
 
     /// Allocates cells of these sizes, side by side and in their order, and puts their offsets behind those of `out`.
     ///
     /// A size counts the cell's size field, and is a multiple of 8 and not 0; all sizes together are at most 16,777,216.
-    /// The cells hold zeros. They are the front of one free cell that fits, whose rest stays free. Only where none fits, a
+    /// The cells hold zeros. They are the front of one free cell that fits, whose rest stays free: where some that fit have
+    /// fewer than 16,384 bytes, of a smallest one. Only where none fits, a
     /// bin of the least size that holds them is appended first, and they are the front of its one cell: so the bins grow by
     /// at most the sizes and 4,127 bytes. No size: nothing happens.
     ///
@@ -218,32 +202,13 @@ impl Arena {
             return Ok(());
         }
         let total = sum_of(sizes);
-        let Some(place) = find_fit(&self.bins, self.head, self.count, total) else {
+        let Some(fit) = self.lists.best_fit(&self.bins, total) else {
             if passes_limit(&self.bins, total) {
                 return Err(ArenaFault::Full);
             }
-            return carve_bin(
-                &mut self.bins,
-                &mut self.head,
-                &mut self.count,
-                &mut self.ends,
-                &mut self.backs,
-                total,
-                sizes,
-                out,
-            );
+            return carve_bin(&mut self.bins, &mut self.lists, total, sizes, out);
         };
-        carve_found(
-            &mut self.bins,
-            &mut self.head,
-            &mut self.count,
-            &mut self.ends,
-            &mut self.backs,
-            place,
-            total,
-            sizes,
-            out,
-        )
+        carve_found(&mut self.bins, &mut self.lists, fit, total, sizes, out)
     }
 
     /// Allocates cells of these sizes, each by itself and in their order, and puts their offsets behind those of `out`.
@@ -275,15 +240,7 @@ impl Arena {
         if sizes.is_empty() {
             return Ok(());
         }
-        carve_cells(
-            &mut self.bins,
-            &mut self.head,
-            &mut self.count,
-            &mut self.ends,
-            &mut self.backs,
-            sizes,
-            out,
-        )
+        carve_cells(&mut self.bins, &mut self.lists, sizes, out)
     }
 
     /// Allocates the cells of one change, and puts their offsets behind those of `out`: each by itself, as

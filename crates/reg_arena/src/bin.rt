@@ -1,16 +1,15 @@
 //! A new bin at the end of the bins.
 //!
 //! Suhanov, Windows registry file format specification, section "Hive bin".
-ghost use Rattle.std.specs.Prelude.{◌≡◌, ◌+◌, ◌-◌, ◌≤◌, ◌<◌, ℕ, List, [], ◌∷◌, ◌++◌, length, replicate, OnOk, OnErr, IfOk, IsOk, true, false, vec_capacity};
+ghost use Rattle.std.specs.Prelude.{◌≡◌, ◌+◌, ◌≤◌, ◌<◌, ◌++◌, ℕ, length, replicate, OnOk, OnErr, IfOk, IsOk, true, false, vec_capacity};
+ghost use Rattle.reg_heap.specs.declared.limits.TheConstants.{BINS_LIMIT};
 ghost use Rattle.reg_arena.specs.declared.TheConstants.{CARVE_LIMIT};
-ghost use Rattle.reg_arena.specs.Arena.{IsArena};
-ghost use Rattle.reg_arena.specs.Internal.SideTables.{IsIndexed};
+ghost use Rattle.reg_arena.specs.Internal.ListedCells.{IsIndexed, LacksCell};
 ghost use Rattle.reg_arena.specs.Internal.Reserved.{AreReserved, KeepsRoom};
-ghost use Rattle.reg_arena.specs.Free.{chain, IsFit};
 ghost use Rattle.reg_arena.specs.NewBin.{AppendsBin, IsBinSize, PassesLimit, HasRoomForBin, headed};
 
-use crate::list::{Place, put_free};
-use crate::tables::{make_room, note_free};
+use crate::free_lists::{Fit, FreeLists};
+use crate::links::put_free;
 use crate::words::put_word;
 use reg_heap::limits::{BINS_LIMIT, NONE};
 use std::alloc::AllocError;
@@ -66,66 +65,29 @@ fn lengthen(bins: &mut Vec<u8>, n: u32) -> Result<(), AllocError>
     bins.resize(long, 0)
 }
 
-// Appends a bin of the least size with one free cell of at least `total` bytes, and puts that cell at the head of the list.
-fn add_bin(
-    bins: &mut Vec<u8>,
-    head: &mut u32,
-    count: &mut usize,
-    total: u32,
-) -> Result<Place, AllocError>
-    requires arena { IsArena bins.old.items (head.old ∷ []) (count.old ∷ []) }
+// Appends a bin of the least size with one free cell of at least `total` bytes, which comes into no list.
+pub fn add_bin(bins: &mut Vec<u8>, lists: &mut FreeLists, total: u32) -> Result<Fit, AllocError>
+    requires arena { IsIndexed bins.old.items lists.old }
     requires positive { 0 < total }
     requires total { total ≤ CARVE_LIMIT }
     requires room { HasRoomForBin bins.old.items total }
-    ensures arena { IsArena bins.new.items (head.new ∷ []) (count.new ∷ []) }
+    ensures lacks { IfOk result (λ fit. LacksCell bins.new.items lists.new fit.cell fit.size) }
+    ensures fits { IfOk result (λ fit. total ≤ fit.size) }
     ensures ok { OnOk result (AppendsBin bins.old.items bins.new.items total) }
-    ensures fit { IfOk result (λ place. IsFit bins.new.items total (chain count.new bins.new.items head.new) place.previous place.cell) }
-    ensures place { IfOk result (λ place. (place.previous ≡ NONE) × (place.cell ≡ head.new)) }
-    ensures head { OnOk result (head.new ≡ length bins.old.items + 32) }
-    ensures chained { OnOk result (chain count.new bins.new.items head.new ≡ head.new ∷ chain count.old bins.old.items head.old) }
-    ensures err { OnErr result ((bins.new.items ≡ bins.old.items) × (head.new ≡ head.old) × (count.new ≡ count.old)) }
-    ensures succeeds { (size : ℕ) → IsBinSize size total → length bins.old.items + size ≤ vec_capacity bins.old → IsOk result }
-    ensures capacity { vec_capacity bins.old ≤ vec_capacity bins.new }
+    ensures arena { OnErr result (IsIndexed bins.new.items lists.new) }
+    ensures err { OnErr result ((bins.new.items ≡ bins.old.items) × (lists.new.heads ≡ lists.old.heads)) }
+    ensures succeeds { (size : ℕ) → IsBinSize size total → AreReserved (length bins.old.items + size) (vec_capacity bins.old) lists.old → IsOk result }
+    ensures keeps { KeepsRoom (vec_capacity bins.old) lists.old (vec_capacity bins.new) lists.new }
 {
     let at = bins.len() as u32;
     let size = bin_size(total);
+    lists.make_room((at + size) as usize / 8)?;
     lengthen(bins, size)?;
     put_header(bins, at, size);
-    let cell = at + HEADER_SIZE;
-    put_free(bins, cell, size - HEADER_SIZE, *head);
-    *head = cell;
-    *count += 1;
-    Ok(Place {
-        previous: NONE,
-        cell,
-    })
-}
-
-// The same, with the side tables.
-pub fn add_indexed_bin(
-    bins: &mut Vec<u8>,
-    head: &mut u32,
-    count: &mut usize,
-    ends: &mut Vec<u32>,
-    backs: &mut Vec<u32>,
-    total: u32,
-) -> Result<Place, AllocError>
-    requires arena { IsIndexed bins.old.items (head.old ∷ []) (count.old ∷ []) ends.old.items backs.old.items }
-    requires positive { 0 < total }
-    requires total { total ≤ CARVE_LIMIT }
-    requires room { HasRoomForBin bins.old.items total }
-    ensures arena { IsIndexed bins.new.items (head.new ∷ []) (count.new ∷ []) ends.new.items backs.new.items }
-    ensures ok { OnOk result (AppendsBin bins.old.items bins.new.items total) }
-    ensures fit { IfOk result (λ place. IsFit bins.new.items total (chain count.new bins.new.items head.new) place.previous place.cell) }
-    ensures err { OnErr result ((bins.new.items ≡ bins.old.items) × (head.new ≡ head.old) × (count.new ≡ count.old)) }
-    ensures succeeds { (size : ℕ) → IsBinSize size total →
-        AreReserved (length bins.old.items + size) (vec_capacity bins.old) ends.old.items backs.old.items → IsOk result }
-    ensures keeps { KeepsRoom (vec_capacity bins.old) ends.old.items backs.old.items (vec_capacity bins.new) ends.new.items backs.new.items }
-{
-    let next = *head;
-    let units = (bins.len() + bin_size(total) as usize) / 8;
-    make_room(ends, backs, units)?;
-    let place = add_bin(bins, head, count, total)?;
-    note_free(ends, backs, place, next, bins.len() as u32);
-    Ok(place)
+    let fit = Fit {
+        cell: at + HEADER_SIZE,
+        size: size - HEADER_SIZE,
+    };
+    put_free(bins, fit.cell, fit.size, NONE);
+    Ok(fit)
 }

@@ -7,14 +7,13 @@ ghost use Rattle.reg_arena.specs.Cells.{cell_at};
 ghost use Rattle.reg_arena.specs.NewCells.{AreSizes};
 ghost use Rattle.reg_arena.specs.Carves.{CarvesExactly};
 ghost use Rattle.reg_arena.specs.EachCell.{fresh_bin, fresh_of, AreCarvable, EachExactly};
-ghost use Rattle.reg_arena.specs.Internal.SideTables.{IsIndexed, IsLonger};
+ghost use Rattle.reg_arena.specs.Internal.ListedCells.{IsIndexed, IsListed};
 ghost use Rattle.reg_arena.specs.Internal.Reserved.{AreReserved, KeepsRoom};
 
 use crate::ArenaFault;
 use crate::bin::bin_size;
 use crate::carve::{carve_bin, carve_found};
-use crate::list::find_fit;
-use crate::tables::make_room;
+use crate::free_lists::FreeLists;
 use reg_heap::limits::BINS_LIMIT;
 use std::alloc::AllocError;
 
@@ -35,95 +34,71 @@ pub fn fresh_within(sizes: &[u32], limit: u32) -> Option<u32>
 }
 
 // Room for bins of so many bytes more.
-fn reserve_bins(
-    bins: &mut Vec<u8>,
-    ends: &mut Vec<u32>,
-    backs: &mut Vec<u32>,
-    more: u32,
-) -> Result<(), AllocError>
+fn reserve_bins(bins: &mut Vec<u8>, lists: &mut FreeLists, more: u32) -> Result<(), AllocError>
     requires { length bins.old.items + more ≤ BINS_LIMIT }
     ensures bytes { bins.new.items ≡ bins.old.items }
-    ensures ends { IsLonger ends.old.items ends.new.items }
-    ensures backs { IsLonger backs.old.items backs.new.items }
-    ensures ok { OnOk result (AreReserved (length bins.old.items + more) (vec_capacity bins.new) ends.new.items backs.new.items) }
+    ensures listed { (free : ℕ → ℕ) → IsListed bins.old.items free lists.old → IsListed bins.old.items free lists.new }
+    ensures heads { lists.new.heads ≡ lists.old.heads }
+    ensures ok { OnOk result (AreReserved (length bins.old.items + more) (vec_capacity bins.new) lists.new) }
 {
-    make_room(ends, backs, (bins.len() + more as usize + 7) / 8)?;
+    lists.make_room((bins.len() + more as usize + 7) / 8)?;
     bins.reserve(more as usize)
 }
 
 // Carves one cell, for which there is room.
-fn carve_one(
-    bins: &mut Vec<u8>,
-    head: &mut u32,
-    count: &mut usize,
-    ends: &mut Vec<u32>,
-    backs: &mut Vec<u32>,
-    size: u32,
-    out: &mut Vec<u32>,
-)
-    requires arena { IsIndexed bins.old.items (head.old ∷ []) (count.old ∷ []) ends.old.items backs.old.items }
+fn carve_one(bins: &mut Vec<u8>, lists: &mut FreeLists, size: u32, out: &mut Vec<u32>)
+    requires arena { IsIndexed bins.old.items lists.old }
     requires size { (0 < size) × (size % 8 ≡ 0) }
     requires small { size ≤ CARVE_LIMIT }
     requires limit { length bins.old.items + fresh_bin size ≤ BINS_LIMIT }
-    requires reserved { AreReserved (length bins.old.items + fresh_bin size) (vec_capacity bins.old) ends.old.items backs.old.items }
+    requires reserved { AreReserved (length bins.old.items + fresh_bin size) (vec_capacity bins.old) lists.old }
     requires room { vec_len out.old + 1 ≤ vec_capacity out.old }
-    ensures arena { IsIndexed bins.new.items (head.new ∷ []) (count.new ∷ []) ends.new.items backs.new.items }
+    ensures arena { IsIndexed bins.new.items lists.new }
     ensures carves { (offset : ℕ) × (out.new.items ≡ out.old.items ++ offset ∷ [])
         × CarvesExactly bins.old.items bins.new.items (size ∷ []) (offset ∷ []) }
-    ensures keeps { KeepsRoom (vec_capacity bins.old) ends.old.items backs.old.items (vec_capacity bins.new) ends.new.items backs.new.items }
+    ensures keeps { KeepsRoom (vec_capacity bins.old) lists.old (vec_capacity bins.new) lists.new }
     ensures out_capacity { vec_capacity out.old ≤ vec_capacity out.new }
 {
-    let Some(place) = find_fit(bins, *head, *count, size) else {
-        let _ = carve_bin(bins, head, count, ends, backs, size, &[size], out);
+    let Some(fit) = lists.best_fit(bins, size) else {
+        let _ = carve_bin(bins, lists, size, &[size], out);
         return;
     };
-    let _ = carve_found(bins, head, count, ends, backs, place, size, &[size], out);
+    let _ = carve_found(bins, lists, fit, size, &[size], out);
 }
 
 // Carves a cell of each size, one after the other. There is room for all.
-fn carve_all(
-    bins: &mut Vec<u8>,
-    head: &mut u32,
-    count: &mut usize,
-    ends: &mut Vec<u32>,
-    backs: &mut Vec<u32>,
-    sizes: &[u32],
-    out: &mut Vec<u32>,
-)
-    requires arena { IsIndexed bins.old.items (head.old ∷ []) (count.old ∷ []) ends.old.items backs.old.items }
+fn carve_all(bins: &mut Vec<u8>, lists: &mut FreeLists, sizes: &[u32], out: &mut Vec<u32>)
+    requires arena { IsIndexed bins.old.items lists.old }
     requires sizes { AreSizes sizes.now }
     requires each { AreCarvable sizes.now }
     requires limit { length bins.old.items + fresh_of sizes.now ≤ BINS_LIMIT }
-    requires reserved { AreReserved (length bins.old.items + fresh_of sizes.now) (vec_capacity bins.old) ends.old.items backs.old.items }
+    requires reserved { AreReserved (length bins.old.items + fresh_of sizes.now) (vec_capacity bins.old) lists.old }
     requires room { vec_len out.old + length sizes.now ≤ vec_capacity out.old }
-    ensures arena { IsIndexed bins.new.items (head.new ∷ []) (count.new ∷ []) ends.new.items backs.new.items }
+    ensures arena { IsIndexed bins.new.items lists.new }
     ensures each { (offsets : List ℕ) × (out.new.items ≡ out.old.items ++ offsets)
         × EachExactly bins.old.items bins.new.items sizes.now offsets }
 {
     for size in sizes {
-        carve_one(bins, head, count, ends, backs, *size, out);
+        carve_one(bins, lists, *size, out);
     }
 }
 
 // Carves a cell of each size, one after the other. All memory is asked for, and the limit is seen to, before the first.
 pub fn carve_cells(
     bins: &mut Vec<u8>,
-    head: &mut u32,
-    count: &mut usize,
-    ends: &mut Vec<u32>,
-    backs: &mut Vec<u32>,
+    lists: &mut FreeLists,
     sizes: &[u32],
     out: &mut Vec<u32>,
 ) -> Result<(), ArenaFault>
-    requires arena { IsIndexed bins.old.items (head.old ∷ []) (count.old ∷ []) ends.old.items backs.old.items }
+    requires arena { IsIndexed bins.old.items lists.old }
     requires sizes { AreSizes sizes.now }
     requires each { AreCarvable sizes.now }
-    ensures arena { IsIndexed bins.new.items (head.new ∷ []) (count.new ∷ []) ends.new.items backs.new.items }
+    ensures arena { IsIndexed bins.new.items lists.new }
     ensures ok { OnOk result ((offsets : List ℕ) × (out.new.items ≡ out.old.items ++ offsets)
         × EachExactly bins.old.items bins.new.items sizes.now offsets
         × AreNew (cell_at bins.old.items) (cell_at bins.new.items) offsets sizes.now) }
     ensures full { (result ≡ Err ArenaFault.Full) ↔ (BINS_LIMIT < length bins.old.items + fresh_of sizes.now) }
-    ensures err { OnErr result ((bins.new.items ≡ bins.old.items) × (head.new ≡ head.old) × (out.new.items ≡ out.old.items)) }
+    ensures err { OnErr result ((bins.new.items ≡ bins.old.items) × (lists.new.heads ≡ lists.old.heads) × (out.new.items ≡ out.old.items)) }
     ensures grows { OnOk result (length bins.new.items ≤ length bins.old.items + fresh_of sizes.now) }
     ensures kept { OnOk result (length bins.old.items ≤ length bins.new.items) }
 {
@@ -133,9 +108,9 @@ pub fn carve_cells(
     if out.reserve(sizes.len()).is_err() {
         return Err(ArenaFault::Memory);
     }
-    if reserve_bins(bins, ends, backs, fresh).is_err() {
+    if reserve_bins(bins, lists, fresh).is_err() {
         return Err(ArenaFault::Memory);
     }
-    carve_all(bins, head, count, ends, backs, sizes, out);
+    carve_all(bins, lists, sizes, out);
     Ok(())
 }

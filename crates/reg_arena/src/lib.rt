@@ -1,10 +1,10 @@
 //! The arena: allocated and free cells in bins, as a hive file holds them.
 //!
 //! A hive's data is a row of bins, and a bin is a header and a row of cells that fill it. An [`Arena`] keeps the bins'
-//! bytes, and the list of the free cells, which is threaded through them: the four bytes behind a free cell's size field
-//! are the offset of the next one. Offsets count from the first bin. Sizes and offsets are in bytes.
+//! bytes, and 24 lists of the free cells by their sizes, which are threaded through them: the four bytes behind a free cell's size
+//! field are the offset of the next one of its list. Offsets count from the first bin. Sizes and offsets are in bytes.
 //!
-//! Its one contract: the cells fill the bins and the list has just the free ones (`IsSound`, of every arena); `carve` and `free`
+//! Its one contract: the cells fill the bins and the lists have just the free ones (`IsSound`, of every arena); `carve` and `free`
 //! change which cells there are, exactly as the rules say, and the writers what one cell holds. Crates above need only `cell_at`,
 //! what the allocated cell at an offset holds. It stands on reg_heap. Its types are [`Arena`], [`Cell`] and [`ArenaFault`].
 //!
@@ -13,26 +13,32 @@
 
 mod arena;
 mod bin;
+mod bitmap;
 mod carve;
+mod classes;
 mod cut;
 mod each;
+mod firsts;
 mod free;
+mod free_lists;
+mod large;
 pub mod laws;
-mod list;
+mod links;
 mod size;
 mod tables;
 mod walk;
 mod words;
 
 pub use arena::Arena;
+pub use classes::list_of;
 pub use size::cell_size;
 use thiserror::Error;
 
 /// The most bytes of cells that one carve may be asked for, their size fields too: 16 MiB, this project's own limit.
 pub const CARVE_LIMIT: u32 = 16_777_216;
 
-/// How many lists of free cells there are.
-pub const LISTS: u32 = 1;
+/// How many lists of free cells there are, by size ([`list_of`]).
+pub const LISTS: u32 = 24;
 
 /// A cell as it stands in the bins.
 ///

@@ -1,22 +1,19 @@
-//! Two side tables, with a number for each eight bytes of the bins.
-//!
-//! `ends` has, at a free cell's last eight bytes, the cell's offset, and elsewhere 0. `backs` has, at a free cell's first
-//! eight bytes, the cell before it in its list, or `NONE`.
-ghost use Rattle.std.specs.Prelude.{◌≡◌, ◌+◌, ◌-◌, ◌*◌, ◌/◌, ◌≤◌, ◌<◌, set, length, get_or, OnOk, IsOk};
-ghost use Rattle.reg_heap.specs.declared.limits.TheConstants.{BINS_LIMIT};
-ghost use Rattle.reg_arena.specs.Internal.SideTables.{marked, NotesTaken, IsLonger};
+//! Side tables, with a number for each eight bytes of the bins or for each size.
+ghost use Rattle.std.specs.Prelude.{◌≡◌, ℕ, ◌-◌, ◌/◌, ◌≤◌, ◌<◌, max, set, length, get_or, OnOk, IsOk};
+ghost use Rattle.reg_heap.specs.declared.limits.TheConstants.{NONE};
+ghost use Rattle.reg_arena.specs.Internal.SizeTables.{marked};
 
-use crate::list::Place;
 use reg_heap::limits::NONE;
 use std::alloc::AllocError;
 
 // Sets the number at a cell's first eight bytes, if there is a cell.
-pub fn mark(backs: &mut Vec<u32>, cell: u32, value: u32)
-    requires { (cell ≡ NONE → ⊥) → cell / 8 < length backs.old.items }
-    ensures { backs.new.items ≡ marked cell value backs.old.items }
+pub fn mark(table: &mut Vec<u32>, cell: u32, value: u32)
+    requires { (cell ≡ NONE → ⊥) → cell / 8 < length table.old.items }
+    ensures table { table.new.items ≡ marked cell value table.old.items }
+    ensures long { length table.new.items ≡ length table.old.items }
 {
     if cell != NONE {
-        backs[cell as usize / 8] = value;
+        table[cell as usize / 8] = value;
     }
 }
 
@@ -24,76 +21,37 @@ pub fn mark(backs: &mut Vec<u32>, cell: u32, value: u32)
 pub fn mark_end(ends: &mut Vec<u32>, end: u32, cell: u32)
     requires end { end / 8 - 1 < length ends.old.items }
     requires some { 8 ≤ end }
-    ensures { ends.new.items ≡ set ends.old.items (end / 8 - 1) cell }
+    ensures ends { ends.new.items ≡ set ends.old.items (end / 8 - 1) cell }
+    ensures long { length ends.new.items ≡ length ends.old.items }
 {
     ends[end as usize / 8 - 1] = cell;
 }
 
-// A free cell stands in its list between `previous` and `next`, and ends at `end`.
-pub fn note_free(ends: &mut Vec<u32>, backs: &mut Vec<u32>, place: Place, next: u32, end: u32)
-    requires end { end / 8 - 1 < length ends.old.items }
-    requires some { 8 ≤ end }
-    requires next { (next ≡ NONE → ⊥) → next / 8 < length backs.old.items }
-    requires cell { place.cell / 8 < length backs.old.items }
-    ensures ends { ends.new.items ≡ set ends.old.items (end / 8 - 1) place.cell }
-    ensures backs { backs.new.items ≡ set (marked next place.cell backs.old.items) (place.cell / 8) place.previous }
+// A table of at least so many numbers, the new ones all the same.
+pub fn lengthen(table: &mut Vec<u32>, long: usize, number: u32) -> Result<(), AllocError>
+    requires { long ≤ 33554432 }
+    ensures same { (place : ℕ) → get_or table.new.items place number ≡ get_or table.old.items place number }
+    ensures longer { length table.old.items ≤ length table.new.items }
+    ensures ok { OnOk result (long ≤ length table.new.items) }
+    ensures succeeds { long ≤ length table.old.items → IsOk result }
 {
-    mark_end(ends, end, place.cell);
-    mark(backs, next, place.cell);
-    backs[place.cell as usize / 8] = place.previous;
-}
-
-// The first `total` bytes of a free cell were taken.
-pub fn note_taken(
-    ends: &mut Vec<u32>,
-    backs: &mut Vec<u32>,
-    place: Place,
-    size: u32,
-    total: u32,
-    next: u32,
-)
-    requires end { (place.cell + size) / 8 - 1 < length ends.old.items }
-    requires some { 8 ≤ size }
-    requires total { total ≤ size }
-    requires small { place.cell + size ≤ BINS_LIMIT }
-    requires next { (next ≡ NONE → ⊥) → next / 8 < length backs.old.items }
-    requires cell { total < size → (place.cell + total) / 8 < length backs.old.items }
-    ensures { NotesTaken place.previous place.cell size total next ends.old.items backs.old.items ends.new.items backs.new.items }
-{
-    let end = place.cell + size;
-    if size == total {
-        mark_end(ends, end, 0);
-        mark(backs, next, place.previous);
-        return;
-    }
-    let rest = Place {
-        previous: place.previous,
-        cell: place.cell + total,
-    };
-    note_free(ends, backs, rest, next, end);
-}
-
-// At least `units` numbers, the new ones 0.
-fn lengthen_table(table: &mut Vec<u32>, units: usize) -> Result<(), AllocError>
-    requires { units ≤ 33554432 }
-    ensures same { IsLonger table.old.items table.new.items }
-    ensures ok { OnOk result (units ≤ length table.new.items) }
-    ensures succeeds { units ≤ length table.old.items → IsOk result }
-{
-    if units <= table.len() {
+    if long <= table.len() {
         return Ok(());
     }
-    table.resize(units, 0)
+    table.resize(long, number)
 }
 
-// Room in both tables for so many numbers.
-pub fn make_room(ends: &mut Vec<u32>, backs: &mut Vec<u32>, units: usize) -> Result<(), AllocError>
-    requires { units ≤ 33554432 }
-    ensures ends { IsLonger ends.old.items ends.new.items }
-    ensures backs { IsLonger backs.old.items backs.new.items }
-    ensures ok { OnOk result ((units ≤ length ends.new.items) × (units ≤ length backs.new.items)) }
-    ensures succeeds { units ≤ length ends.old.items → units ≤ length backs.old.items → IsOk result }
+// The same of a bitmap.
+pub fn lengthen_words(table: &mut Vec<u64>, long: usize) -> Result<(), AllocError>
+    requires { long ≤ 33554432 }
+    ensures same { (place : ℕ) → get_or table.new.items place 0 ≡ get_or table.old.items place 0 }
+    ensures longer { length table.old.items ≤ length table.new.items }
+    ensures most { length table.new.items ≤ max (length table.old.items) long }
+    ensures ok { OnOk result (long ≤ length table.new.items) }
+    ensures succeeds { long ≤ length table.old.items → IsOk result }
 {
-    lengthen_table(ends, units)?;
-    lengthen_table(backs, units)
+    if long <= table.len() {
+        return Ok(());
+    }
+    table.resize(long, 0)
 }

@@ -1,9 +1,10 @@
-//! Hives to begin with.
-ghost use Rattle.std.specs.Prelude.{◌≡◌, IfOk, []};
+//! Hives to begin with, and calls that are all accepted.
+ghost use Rattle.std.specs.Prelude.{◌≡◌, ◌+◌, IfOk, OnOk, [], length};
 ghost use Rattle.reg_calls.specs.HiveView.{view_of};
 
-use anyhow::Result;
+use anyhow::{Result, bail};
 use reg_calls::Hive;
+use reg_model::{AnswerBody, Change, Query};
 use std::alloc::Global;
 
 /// A hive of one root, in which nothing was changed.
@@ -11,4 +12,37 @@ pub fn new_hive(alloc: Global) -> Result<Hive>
     ensures { IfOk result (λ hive. (view_of hive).journal ≡ []) }
 {
     Ok(Hive::new(alloc, b"ROOT", &[1], 0)?)
+}
+
+#[tactic(auto, using(crate::proofs::AcceptedChanges::accepted))]
+fn apply_one(hive: &mut Hive, change: Change) -> Result<()>
+    ensures { OnOk result (length (view_of hive.new).journal ≡ length (view_of hive.old).journal + 1) }
+{
+    if hive.apply(0, 1, change).status != 0 {
+        bail!("a change was refused");
+    }
+    Ok(())
+}
+
+/// Makes changes, each of which is accepted, and so is an entry more.
+pub fn apply_all(hive: &mut Hive, changes: Vec<Change>) -> Result<()>
+    ensures { OnOk result
+        (length (view_of hive.new).journal ≡ length (view_of hive.old).journal + length changes.items) }
+{
+    for change in changes {
+        apply_one(hive, change)?;
+    }
+    Ok(())
+}
+
+/// Asks for values, each of which is told, and tells how many bytes they have together.
+pub fn read_all(hive: &Hive, queries: &[Query]) -> Result<u64> {
+    let mut told: u64 = 0;
+    for query in queries {
+        match hive.read(0, query).body {
+            AnswerBody::Value { size, .. } => told = told.saturating_add(u64::from(size)),
+            _ => bail!("a value was not told"),
+        }
+    }
+    Ok(told)
 }

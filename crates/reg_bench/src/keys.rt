@@ -1,5 +1,6 @@
 //! Keys, made and resolved by paths of three names from the root.
 
+use crate::cells::count_cells;
 use anyhow::{Result, bail};
 use reg_model::Bytes;
 use reg_names::check_path;
@@ -58,35 +59,6 @@ fn resolve_all(tree: &Tree, paths: &[Bytes]) -> Result<u32> {
     Ok(found)
 }
 
-/// What the cells of a tree are.
-#[derive(Clone, Copy)]
-struct CellCounts {
-    /// How many are allocated.
-    allocated: u32,
-    /// How many bytes these have together.
-    bytes: u64,
-    /// How many are free.
-    free: u32,
-}
-
-fn count_cells(alloc: Global, tree: &Tree) -> Result<CellCounts> {
-    let cells = tree.arena().cells(alloc)?;
-    let mut counts = CellCounts {
-        allocated: 0,
-        bytes: 0,
-        free: 0,
-    };
-    for cell in &cells {
-        if cell.allocated {
-            counts.allocated = counts.allocated.saturating_add(1);
-            counts.bytes = counts.bytes.saturating_add(u64::from(cell.size));
-        } else {
-            counts.free = counts.free.saturating_add(1);
-        }
-    }
-    Ok(counts)
-}
-
 fn tree(alloc: Global) -> Result<Tree> {
     let Ok(tree) = Tree::new(alloc, b"ROOT", &[1], 0) else {
         bail!("there is no memory for a tree");
@@ -102,7 +74,7 @@ pub fn count(rt: &impl Print, alloc: Global) -> Result<()> {
 
 fn count_in(rt: &impl Print, alloc: Global, tree: &mut Tree) -> Result<()> {
     let found = make_and_resolve(alloc, tree, SMALL)?;
-    let counts = count_cells(alloc, tree)?;
+    let counts = count_cells(alloc, tree.arena())?;
     let bins = tree.arena().bins_size();
     println!(rt;
         "keys: {found} found, {} cells in {bins} bytes",
@@ -165,7 +137,7 @@ fn time_resolving(rt: &(impl Print + Clock), tree: &Tree, paths: &[Bytes]) -> Re
 }
 
 fn print_cells(rt: &impl Print, alloc: Global, tree: &Tree) -> Result<()> {
-    let counts = count_cells(alloc, tree)?;
+    let counts = count_cells(alloc, tree.arena())?;
     let bins = tree.arena().bins_size();
     println!(rt;
         "{} of {bins} bytes allocated, {} cells free",

@@ -3,17 +3,23 @@
 //! `reg_bench measure SUBJECT` prints how long the calls of a subject take, at three sizes of what it works on. Without an
 //! argument each subject runs at a small size and prints counts alone, which are the same on every run.
 //!
-//! Its one contract: the calls of a batch are one operation by some handles, all accepted, and each change of them is an entry more.
-//! It stands on reg_workload, which says what is done, and on the crates that it measures. Its main type is `OpenHive`, a hive with
-//! handles.
+//! Its one contract: the calls of a batch are one operation by some handles, all accepted, and each change of them is an entry more;
+//! so is each change that a hive is given beside plain maps. It stands on reg_workload, which says what is done, and on the crates
+//! that it measures. Its main types are `OpenHive`, a hive with handles, and `Both`, a hive and plain maps with the same keys.
 #![tactic(auto)]
 
 mod arena;
+mod both;
+mod cells;
 mod handles;
 mod hives;
+mod key_script;
 mod keys;
+mod makes;
+mod maps;
 mod open_hive;
 mod script;
+mod times;
 mod values;
 
 use anyhow::{Result, bail};
@@ -23,12 +29,14 @@ use std::env;
 use std::rt::Clock;
 
 /// Runs each subject at a small size and prints counts.
-fn count_all(rt: &impl Print, alloc: Global) -> Result<()> {
+fn count_all(rt: &(impl Print + Clock), alloc: Global) -> Result<()> {
     arena::count(rt, alloc)?;
     keys::count(rt, alloc)?;
     values::count(rt, alloc)?;
     handles::count(rt, alloc)?;
-    script::count(rt, alloc)
+    makes::count(rt, alloc)?;
+    script::count(rt, alloc)?;
+    key_script::count(rt, alloc)
 }
 
 /// Prints how long the calls of a subject take.
@@ -37,6 +45,8 @@ fn measure(rt: &(impl Print + Clock), alloc: Global, subject: Subject) -> Result
         Subject::Arena => arena::measure(rt, alloc),
         Subject::Handles => handles::measure(rt, alloc),
         Subject::Keys => keys::measure(rt, alloc),
+        Subject::Makes => makes::measure(rt, alloc),
+        Subject::Maps => maps::measure(rt, alloc),
         Subject::Script => script::measure(rt, alloc),
         Subject::Values => values::measure(rt, alloc),
     }

@@ -1,6 +1,7 @@
 //! A script of many lines, read from memory, answered and written to memory.
 
 use crate::hives::new_hive;
+use crate::key_script;
 use anyhow::{Result, bail};
 use reg_calls::Hive;
 use reg_script::run;
@@ -80,8 +81,8 @@ impl Script {
 }
 
 /// Runs a script, and gives the replies.
-fn replies(alloc: Global, hive: &mut Hive, script: &Script) -> Result<Vec<u8>> {
-    let mut input = script.text.as_bytes();
+pub fn replies(alloc: Global, hive: &mut Hive, script: &[u8]) -> Result<Vec<u8>> {
+    let mut input = script;
     let mut output = Vec::new(alloc);
     let Ok(()) = run(alloc, &mut input, &mut output, hive) else {
         bail!("the script was not run");
@@ -104,7 +105,7 @@ fn count_in(rt: &impl Print, alloc: Global, hive: &mut Hive) -> Result<()> {
     for keys in SMALL {
         script.pass(keys)?;
     }
-    let replies = replies(alloc, hive, &script)?;
+    let replies = replies(alloc, hive, script.text.as_bytes())?;
     println!(rt;
         "script: {} lines, {} replies, {} entries",
         lines_in(script.text.as_bytes()),
@@ -114,12 +115,12 @@ fn count_in(rt: &impl Print, alloc: Global, hive: &mut Hive) -> Result<()> {
     Ok(())
 }
 
-/// Prints the times of scripts, by the number of their lines.
+/// Prints the times of scripts, by the number of their lines, and of scripts that make keys with values.
 pub fn measure(rt: &(impl Print + Clock), alloc: Global) -> Result<()> {
     for visits in SIZES {
         measure_at(rt, alloc, visits)?;
     }
-    Ok(())
+    key_script::measure(rt, alloc)
 }
 
 fn measure_at(rt: &(impl Print + Clock), alloc: Global, visits: u32) -> Result<()> {
@@ -136,7 +137,7 @@ fn measure_in(
 ) -> Result<()> {
     let script = Script::of_visits(alloc, visits)?;
     let start = Instant::now(rt)?;
-    let replies = replies(alloc, hive, &script)?;
+    let replies = replies(alloc, hive, script.text.as_bytes())?;
     let time = start.elapsed(rt)?;
     let lines = lines_in(script.text.as_bytes());
     let replies = lines_in(replies.as_slice());

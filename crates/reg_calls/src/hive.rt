@@ -112,8 +112,8 @@ impl Hive {
     ///
     /// Whatever calls came before, they are a whole hive, and it is that of the journal. The cells tile the bins; each allocated
     /// cell is reached from the root exactly as often as the references to it say, and each record is as it is written (clause
-    /// `whole`); the tree that these records spell is that of the journal's replay (clauses `whole` and `tree`); and the free list
-    /// has precisely the free cells (clause `sound`).
+    /// `whole`); the tree that these records spell is that of the journal's replay (clauses `whole` and `tree`); and the free lists
+    /// have precisely the free cells (clause `sound`).
     pub fn arena(&self) -> &Arena
         ensures bins { result.now ≡ (view_of self.now).keys.bins }
         ensures tree { (view_of self.now).keys.tree ≡ (replay (view_of self.now).origin (view_of self.now).journal).tree }

@@ -82,7 +82,7 @@ impl Tree {
     }
 
     /// The bins with their cells, to be read byte by byte. They are whole, and spell the tree: each allocated cell is met from the
-    /// root exactly as often as the records say, and the keys that are read there are those of the map. The free list has precisely
+    /// root exactly as often as the records say, and the keys that are read there are those of the map. The free lists have precisely
     /// the free cells (clause `sound`).
     pub fn arena(&self) -> &Arena
         ensures bins { result.now ≡ self.now.bins }

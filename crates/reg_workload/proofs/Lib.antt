@@ -1,2 +1,4 @@
 pub mod LiveCellLemmas
+pub mod ChanceLemmas
 mod RowsOfConstants
+pub mod KeyStepLemmas

@@ -12,18 +12,18 @@ use Rattle.reg_arena.specs.Carves.{CarvesExactly, AddsCells}
 use Rattle.reg_arena.specs.declared.ArenaFault.{ArenaFault}
 use Rattle.reg_workload.specs.LiveCells.{AreLive, FreesChosen}
 
-abbrev is_at : ℕ → ℕ → ℕ
+abbrev pub is_at : ℕ → ℕ → ℕ
 is_at x y = cond (eqb y x) 1 0
 
 times-sum : (x : ℕ) (ys : List ℕ) → times x ys ≡ sum_by (is_at x) ys
 times-sum x [] = refl
 times-sum x (y ∷ ys) = let e = times-sum x ys in omega (arith, sum_by-cons (is_at x) y ys)
 
-times-append : (x : ℕ) (ys zs : List ℕ) → times x (ys ++ zs) ≡ times x ys + times x zs
+pub times-append : (x : ℕ) (ys zs : List ℕ) → times x (ys ++ zs) ≡ times x ys + times x zs
 times-append x [] zs = omega arith
 times-append x (y ∷ ys) zs = let e = times-append x ys zs in omega arith
 
-times-removed : (x : ℕ) (ys : List ℕ) (i d : ℕ) → i < length ys → times x (swap_remove ys i d) + is_at x (get_or ys i d) ≡ times x ys
+pub times-removed : (x : ℕ) (ys : List ℕ) (i d : ℕ) → i < length ys → times x (swap_remove ys i d) + is_at x (get_or ys i d) ≡ times x ys
 times-removed x ys i d l =
     omega (arith, times-sum x ys, times-sum x (swap_remove ys i d), sum_by-swap_remove (is_at x) ys i d l)
 

@@ -1,19 +1,32 @@
-//! The work that `reg_bench` gives the libraries: cells that come and go at random, and calls by handles of a hive of some size.
+//! The work that `reg_bench` gives the libraries: cells that come and go at random, calls by handles of a hive of some
+//! size, and keys that are made, used and deleted, by a hive and by plain maps.
 //!
-//! Its one contract: which cells are live, how many keys and handles a size means, and which call an operation is, are exactly as
-//! told, so that what is measured is what was meant. It stands on reg_arena and reg_model.
+//! Its one contract: which cells are live, how many keys and handles a size means, and which calls an operation and a step on keys
+//! are, are exactly as told, so that what is measured is what was meant. It stands on reg_arena and reg_model.
 //!
-//! Its types are [`LiveCells`], [`Operation`], [`Size`], [`Subject`] and [`PerCall`], the mean time of a call.
+//! Its types are [`LiveCells`]; [`Operation`] and [`Size`]; [`KeyPlan`] and [`KeyStep`]; [`PlainMaps`]; [`Subject`]; [`PerCall`], the
+//! mean time of a call; and [`Ratio`].
 #![tactic(auto)]
 
+mod chance;
+mod key_plan;
+mod key_steps;
 mod live_cells;
 mod operations;
 mod per_call;
+mod plain_key;
+mod plain_maps;
+mod ratio;
 mod size;
 mod subject;
 
+pub use chance::{numbers_below, take_at_random};
+pub use key_plan::{KEY_VALUES, KeyPlan, data_size, key_name};
+pub use key_steps::{KeyStep, queries};
 pub use live_cells::LiveCells;
 pub use operations::{ALL_RIGHTS, OLD_SUBKEY, Operation};
 pub use per_call::PerCall;
+pub use plain_maps::PlainMaps;
+pub use ratio::Ratio;
 pub use size::{BATCH, Size};
 pub use subject::Subject;

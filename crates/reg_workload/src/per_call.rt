@@ -1,5 +1,5 @@
 //! How long a call takes.
-ghost use Rattle.std.specs.Prelude.{◌≡◌, ◌≢◌, ◌*◌, ◌≤◌, ◌<◌, ◌+◌, ℕ};
+ghost use Rattle.std.specs.Prelude.{◌≡◌, ◌≢◌, ◌*◌, ◌≤◌, ◌<◌, ◌+◌, ℕ, min};
 ghost use Rattle.std.specs.Duration.{as_nanos};
 
 use std::fmt;
@@ -19,6 +19,13 @@ impl PerCall {
     {
         let nanos = time.as_nanos().checked_div(calls as u128).unwrap_or(0);
         PerCall { nanos }
+    }
+
+    /// The mean, in whole nanoseconds; of a mean of more than 584 years the largest number.
+    pub fn nanos(self) -> u64
+        ensures { result ≡ min 18446744073709551615 self.nanos }
+    {
+        u64::try_from(self.nanos).unwrap_or(u64::MAX)
     }
 }
 

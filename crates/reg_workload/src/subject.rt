@@ -11,6 +11,10 @@ pub enum Subject {
     Handles,
     /// Making keys and finding them by their paths.
     Keys,
+    /// Making keys as a registry's are, and deleting them.
+    Makes,
+    /// The calls on keys beside those of plain maps.
+    Maps,
     /// A script of many lines.
     Script,
     /// Setting values and asking for them.
@@ -18,7 +22,7 @@ pub enum Subject {
 }
 
 impl Subject {
-    /// The subject of a name, `arena`, `handles`, `keys`, `script` or `values`; `None` of any other.
+    /// The subject of a name, `arena`, `handles`, `keys`, `makes`, `maps`, `script` or `values`; `None` of any other.
     #[tactic(auto, unfolding(crate::specs::Subjects::subject_named))]
     pub fn named(name: &[u8]) -> Option<Subject>
         ensures { result ≡ subject_named name.now }
@@ -31,6 +35,12 @@ impl Subject {
         }
         if name == b"keys".as_slice() {
             return Some(Subject::Keys);
+        }
+        if name == b"makes".as_slice() {
+            return Some(Subject::Makes);
+        }
+        if name == b"maps".as_slice() {
+            return Some(Subject::Maps);
         }
         if name == b"script".as_slice() {
             return Some(Subject::Script);

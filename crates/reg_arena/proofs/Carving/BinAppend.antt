@@ -1,29 +1,31 @@
 -- A bin more at the end.
-use Rattle.std.proofs.Common.{◌≡◌, ℕ, suc, ◌+◌, ◌-◌, ◌<◌, ◌≤◌, ◌%◌, List, [], ◌∷◌, ◌++◌, length, get_or, take, drop, replicate, refl, sym, ap, ◌∙◌, subst, arith, append_assoc, length-append}
-use Rattle.std.proofs.Common.{length-take, length-drop, Option, Some, None, inl}
+use Rattle.std.proofs.Common.{◌≡◌, ℕ, ◌+◌, ◌-◌, ◌<◌, ◌≤◌, ◌/◌, ◌%◌, ◌⊎◌, List, [], ◌∷◌, ◌++◌, length, get_or, take, drop, replicate, refl, sym, ap, ◌∙◌, subst, arith, append_assoc, length-append}
+use Rattle.std.proofs.Common.{length-take, length-drop, Option, Some, None, inl, inr}
+use Rattle.std.proofs.lemmas.Bool.{cases_eq}
 use Rattle.std.proofs.lemmas.List.{get_or_append_left, ext_get_or, get_or-take, get_or-drop}
 use Rattle.std.specs.List.{AllByRecursion}
 use Rattle.reg_heap.specs.ByteWords.{word}
 use Rattle.reg_arena.specs.declared.Cell.{Cell}
 use Rattle.reg_arena.specs.Cells.{Bin, IsCell, IsHeader, Tiles, AreBins, cells_in, content_in}
-use Rattle.reg_heap.specs.Kinds.{times}
-use Rattle.reg_arena.specs.Free.{Follows, free_of, Touch, AreApart}
-use Rattle.reg_arena.specs.Arena.{IsArena, AreBlank, one_class}
+use Rattle.reg_arena.specs.Free.{Touch, AreApart}
+use Rattle.reg_arena.specs.Arena.{IsArena, AreBlank}
 use Rattle.reg_arena.specs.NewBin.{new_bin, headed, IsBinSize, AppendsBin}
-use Rattle.reg_arena.specs.Free.{IsFit, chain, freed}
 use Rattle.reg_arena.specs.NewCells.{unused}
 use Rattle.reg_arena.specs.Carves.{or_else}
+use Rattle.reg_arena.specs.declared.free_lists.FreeLists.{FreeLists}
+use Rattle.reg_arena.specs.Internal.SizeTables.{freed}
+use Rattle.reg_arena.specs.Internal.ListedCells.{free_size, sized, IsListed, HasRoom, LacksCell}
 use Rattle.reg_arena.proofs.Contents.ByteSplices.{word-at}
 use Rattle.reg_arena.proofs.Carving.NewBinBytes.{says_bin, length-new_bin, appended}
 use Rattle.reg_arena.proofs.Carving.CarveWhole.{free-size, free-flag}
 use Rattle.reg_arena.proofs.Tiling.Tilings.{IsCell-same, IsCell-eight, cells_of-AreBins, cell_at-AreBins, Tiles-le}
 use Rattle.reg_arena.proofs.Tiling.CellPositions.{stands}
+use Rattle.reg_arena.proofs.Tiling.ArenaInvariant.{AreBins-pages}
 use Rattle.reg_arena.proofs.Contents.CellContents.{content_in-append}
-use Rattle.reg_arena.proofs.FreeList.FreeLinks.{all_from_times}
-use Rattle.reg_arena.proofs.FreeList.FreeListTake.{free_at, times-append, free_of-append}
-use Rattle.reg_arena.proofs.FreeList.Relinks.{free-content}
-use Rattle.reg_arena.proofs.FreeList.FreeListWalk.{Follows-chain}
-use Rattle.reg_arena.proofs.Carving.CarveFromCell.{one_list, IsArena-one}
+use Rattle.reg_arena.proofs.FreeList.ListedSpots.{sized-here, sized-other}
+use Rattle.reg_arena.proofs.FreeList.ListedFrames.{framed}
+use Rattle.reg_arena.proofs.FreeList.FreeSizes.{AreAway, size-none, size-after, size-before, size-here}
+use Rattle.reg_arena.proofs.FreeList.RelinkedCells.{free-content}
 
 -- longer bytes with the same beginning
 pub record Extends (old new : List ℕ) : Type 0 where
@@ -58,10 +60,6 @@ AreBins-extends {new = new} s at (b ∷ bs) more h m =
 pub cells_in-append : (bs more : List Bin) → cells_in (bs ++ more) ≡ cells_in bs ++ cells_in more
 cells_in-append [] more = refl
 cells_in-append (b ∷ bs) more = ap (λ t. b.cells ++ t) (cells_in-append bs more) ∙ sym (append_assoc b.cells (cells_in bs) (cells_in more))
-
-Follows-extends : {old new : List ℕ} → Extends old new → (offsets : List ℕ) (head : ℕ) → AllByRecursion (λ (o : ℕ). o + 8 ≤ length old) offsets → Follows old head offsets → Follows new head offsets
-Follows-extends s [] head a h = h
-Follows-extends {old = old} s (o ∷ os) head a h = (h.0, rw (word-extends s (o + 4) (omega (arith, a.0))) (Follows-extends s os (word old (o + 4)) a.1 h.1))
 
 apart-last : (xs : List Cell) (n size : ℕ) → AllByRecursion (λ (x : Cell). x.offset + x.size < n) xs → AreApart xs → AreApart (xs ++ unused n size ∷ [])
 apart-last [] n size a h = (tt, tt)
@@ -112,27 +110,45 @@ pub size-eights : (size : ℕ) → size % 4096 ≡ 0 → (size - 32) % 8 ≡ 0
 size-eights size e = omega (arith, e)
 
 -- what a new bin leaves
-pub record Grown (old new : List ℕ) (head count at total : ℕ) : Type 0 where
-  pub chained : chain (count + 1) new (at + 32) ≡ (at + 32) ∷ chain count old head
-  pub arena : IsArena new ((at + 32) ∷ []) ((count + 1) ∷ [])
+pub record Grown (old new : List ℕ) (lists : FreeLists) (at size total : ℕ) : Type 0 where
+  pub lacks : LacksCell new lists (at + 32) (size - 32)
   pub appends : AppendsBin old new total
-  pub fit : IsFit new total (chain (count + 1) new (at + 32)) 4294967295 (at + 32)
 
-pub grown : (old : List ℕ) (head count size total : ℕ) → IsArena old (head ∷ []) (count ∷ []) → IsBinSize size total → 0 < total →
-    length old + size ≤ 268435456 → head < 4294967296 → Grown old (old ++ new_bin (length old) size head) head count (length old) total
-grown old head count size total a least some room small =
+-- the lists have all free cells but the new bin's
+grown-listed : (old more : List ℕ) (lists : FreeLists) (size : ℕ) (a : IsArena old) → IsListed old (free_size (cells_in a.layout)) lists → size % 4096 ≡ 0 → length more ≡ size → 40 ≤ size →
+    length old + size ≤ 268435456 → HasRoom ((length old + size) / 8) lists →
+    IsListed (old ++ more) (sized (length old + 32) 0 (free_size (cells_in a.layout ++ unused (length old + 32) (size - 32) ∷ []))) lists
+grown-listed old more lists size a w pages is wide room units =
+    let cells = cells_in a.layout in
+    let at : ℕ = length old + 32 in
+    let s = extends-append old more in
+    let long : length (old ++ more) ≡ length old + size = length-append old more ∙ ap (λ n. length old + n) is in
+    let old_pages = AreBins-pages old 0 a.layout (omega arith) a.tiled in
+    let ends = ends-from old a.layout a.tiled (λ (c : Cell). c.offset ≡ at → ⊥) (λ c h e. omega (arith, h.within, e)) [] cells refl in
+    let listed : IsListed (old ++ more) (free_size cells) lists = framed old (old ++ more) (free_size cells) lists w s.long (omega (arith, units.ends, long)) (omega (arith, units.backs, long))
+    (λ h. units.words) (λ h. units.firsts) (omega arith)
+    (λ x h. (let z = w.pieces x h in word-extends s x (omega (arith, z.within, z.size_eights))))
+    (λ x h. (let z = w.pieces x h in word-extends s (x + 4) (omega (arith, z.within, z.size_eights)))) in
+    subst (λ f. IsListed (old ++ more) f lists) (λ i x. same cells at ends x (cases_eq x at) i) listed
+  where
+    same : (cells : List Cell) (at : ℕ) → AreAway at cells → (x : ℕ) → (x ≡ at) ⊎ (x ≡ at → ⊥) → free_size cells x ≡ sized at 0 (free_size (cells ++ unused at (size - 32) ∷ [])) x
+    same cells at away x (inl e) = ap (free_size cells) e ∙ size-none at cells away ∙ sym (sized-here at 0 (free_size (cells ++ unused at (size - 32) ∷ [])) x e)
+    same cells at away x (inr o) = sym (sized-other at 0 (free_size (cells ++ unused at (size - 32) ∷ [])) x o ∙ size-before x cells (unused at (size - 32) ∷ []) ((λ e. o (sym e)), tt))
+
+pub grown : (old : List ℕ) (lists : FreeLists) (link size total : ℕ) (a : IsArena old) → IsListed old (free_size (cells_in a.layout)) lists → IsBinSize size total → 0 < total →
+    length old + size ≤ 268435456 → link < 4294967296 → HasRoom ((length old + size) / 8) lists → Grown old (old ++ new_bin (length old) size link) lists (length old) size total
+grown old lists link size total a w least some room small units =
     let start : ℕ = length old in
-    let new : List ℕ = old ++ new_bin start size head in
+    let new : List ℕ = old ++ new_bin start size link in
     let at : ℕ = start + 32 in
     let n : ℕ = size - 32 in
     let wide : 40 ≤ size = omega (arith, least.pages, least.holds) in
-    let long : length new ≡ start + size = omega (arith, length-append old (new_bin start size head), length-new_bin start size head wide) in
-    let says = says_bin old start size head refl (omega arith) small in
-    let s = extends-append old (new_bin start size head) in
+    let long : length new ≡ start + size = omega (arith, length-append old (new_bin start size link), length-new_bin start size link wide) in
+    let says = says_bin old start size link refl (omega arith) small in
+    let s = extends-append old (new_bin start size link) in
     let bin : Bin = record { start = start; size = size; cells = unused at n ∷ [] } in
     let header : IsHeader new bin = record { signature = says.signature; place = says.place; size = says.size_is; positive = omega arith; pages = least.pages; within = omega arith } in
     let cells = cells_in a.layout in
-    let one = one_list old head count a in
     let end : at + n ≡ start + size = omega arith in
     let cell : IsCell new (start + size) (unused at n) = record {
       size = rw says.free (free-size n (omega arith));
@@ -147,27 +163,24 @@ grown old head count size total a least some room small =
     let cells' : cells_in (a.layout ++ bin ∷ []) ≡ cells ++ unused at n ∷ [] = cells_in-append a.layout (bin ∷ []) in
     let all = ends-from old a.layout a.tiled (λ c. IsCell old (length old) c) (λ c h. h) [] cells refl in
     let ends = ends-from old a.layout a.tiled (λ (c : Cell). c.offset + c.size < at) (λ c h. omega (arith, h.within)) [] cells refl in
-    let inside : AllByRecursion (λ (o : ℕ). o + 8 ≤ length old) one.offsets = all_from_times (λ (o : ℕ). o + 8 ≤ length old) one.offsets (λ o l.
-    let f = free_at one_class 0 cells o (rw one.free.exact at l) in
-    let st = stands old a.layout f.xs f.c f.ys a.tiled f.cells_are in
-    omega (arith, st.cell.within, st.cell.positive, st.cell.eights, f.offset_is)) in
-    let rest : Follows new (word new (at + 4)) one.offsets = rw says.next (Follows-extends s one.offsets head inside one.free.follows) in
-    let exact : (o : ℕ) → times o (at ∷ one.offsets) ≡ times o (free_of one_class 0 (cells_in (a.layout ++ bin ∷ []))) = λ o.
-    let e : times o (free_of one_class 0 (cells_in (a.layout ++ bin ∷ []))) ≡ times o (free_of one_class 0 cells) + times o (at ∷ []) =
-    ap (λ cs. times o (free_of one_class 0 cs)) cells' ∙ ap (times o) (free_of-append one_class 0 cells (unused at n ∷ [])) ∙
-    times-append o (free_of one_class 0 cells) _ in
-    omega (arith, e, one.free.exact o) in
-    let counted : length (at ∷ one.offsets) ≡ count + 1 = omega (arith, one.counted) in
-    let follows : Follows new at (at ∷ one.offsets) = (refl, rest) in
-    let before : chain count old head ≡ one.offsets = subst (λ (k : ℕ). chain k old head ≡ one.offsets) one.counted (Follows-chain old one.offsets head one.free.follows) in
+    let away = ends-from old a.layout a.tiled (λ (c : Cell). c.offset ≡ at → ⊥) (λ c h e. omega (arith, h.within, e)) [] cells refl in
+    let listed = grown-listed old (new_bin start size link) lists size a w least.pages (length-new_bin start size link wide) wide room units in
     record {
-      chained = subst (λ (k : ℕ). chain k new at ≡ at ∷ one.offsets) counted (Follows-chain new (at ∷ one.offsets) at follows) ∙ ap (λ (t : List ℕ). at ∷ t) (sym before);
-      arena = IsArena-one new at (count + 1) (a.layout ++ bin ∷ []) (at ∷ one.offsets) tiled
-          (blank-extends s 0 a.layout (bin ∷ []) a.tiled a.blank (says.blank, tt)) (record { follows = (refl, rest); exact = exact })
-          (subst AreApart (sym cells') (apart-last cells at n ends a.free.apart)) counted (omega (arith, a.few.0)) (omega arith);
+      lacks = record {
+        arena = record {
+          layout = a.layout ++ bin ∷ [];
+          tiled = tiled;
+          blank = blank-extends s 0 a.layout (bin ∷ []) a.tiled a.blank (says.blank, tt);
+          apart = subst AreApart (sym cells') (apart-last cells at n ends a.apart);
+          small = omega arith;
+        };
+        there = ap (λ cs. free_size cs at) cells' ∙ size-after at cells (unused at n ∷ []) away ∙ size-here (unused at n) at refl refl [];
+        some = omega arith;
+        listed = subst (λ cs. IsListed new (sized at 0 (free_size cs)) lists) (sym cells') listed;
+      };
       appends = record {
         size = size;
-        link = head;
+        link = link;
         cells = cells;
         least = least;
         bytes = refl;
@@ -175,23 +188,16 @@ grown old head count size total a least some room small =
         now = cells_of-AreBins new (a.layout ++ bin ∷ []) tiled ∙ ap Some cells';
         contents = λ offset.
             cell_at-AreBins new (a.layout ++ bin ∷ []) offset tiled ∙ ap (λ cs. content_in new cs offset) cells' ∙ content_in-append new cells (unused at n ∷ []) offset
-            ∙ ap (or_else (content_in new cells offset)) (free-content new 0 (unused at n) [] offset refl) ∙ or_else-none (content_in new cells offset)
+            ∙ ap (or_else (content_in new cells offset)) (free-content new (unused at n) [] offset refl) ∙ or_else-none (content_in new cells offset)
             ∙ content-extends s cells offset all ∙ sym (cell_at-AreBins old a.layout offset a.tiled);
-      };
-      fit = record {
-        front = [];
-        back = chain count new (word new (at + 4));
-        split = (let e : count + 1 ≡ suc count = omega arith in rw e refl);
-        ends = inl (refl, refl);
-        fits = rw (says.free, free-size n (omega arith)) (omega (arith, least.holds));
       };
     }
 
 -- what the writes of a new bin leave
-pub added : (old long b2 b3 : List ℕ) (head count at size total : ℕ) → IsArena old (head ∷ []) (count ∷ []) → IsBinSize size total → 0 < total →
-    at ≡ length old → length old + size ≤ 268435456 → head < 4294967296 → long ≡ old ++ replicate size 0 → b2 ≡ headed at size long →
-    b3 ≡ freed (at + 32) (size - 32) head b2 → Grown old b3 head count at total
-added old long b2 b3 head count at size total a least some start room small e f g =
+pub added : (old long b2 b3 : List ℕ) (lists : FreeLists) (link at size total : ℕ) (a : IsArena old) → IsListed old (free_size (cells_in a.layout)) lists → IsBinSize size total → 0 < total →
+    at ≡ length old → length old + size ≤ 268435456 → link < 4294967296 → HasRoom ((at + size) / 8) lists → long ≡ old ++ replicate size 0 → b2 ≡ headed at size long →
+    b3 ≡ freed (at + 32) (size - 32) link b2 → Grown old b3 lists at size total
+added old long b2 b3 lists link at size total a w least some start room small units e f g =
     let wide : 40 ≤ size = omega (arith, least.pages, least.holds) in
-    let all : b3 ≡ old ++ new_bin at size head = g ∙ ap (freed (at + 32) (size - 32) head) (f ∙ ap (headed at size) e) ∙ appended old at size head start wide in
-    rw (all, start) (grown old head count size total a least some room small)
+    let all : b3 ≡ old ++ new_bin at size link = g ∙ ap (freed (at + 32) (size - 32) link) (f ∙ ap (headed at size) e) ∙ appended old at size link start wide in
+    rw (all, start) (grown old lists link size total a w least some room small (subst (λ k. HasRoom ((k + size) / 8) lists) start units))

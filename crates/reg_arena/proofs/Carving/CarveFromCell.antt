@@ -1,51 +1,16 @@
 -- A free cell gives way to allocated ones and a rest.
-use Rattle.std.proofs.Common.{◌≡◌, ℕ, zero, suc, ◌+◌, ◌<◌, ◌≤◌, true, false, List, [], ◌∷◌, ◌++◌, length, map, refl, sym, ap, ◌∙◌, arith, append_assoc, None}
+use Rattle.std.proofs.Common.{◌≡◌, ℕ, zero, suc, ◌+◌, ◌<◌, ◌≤◌, true, false, List, [], ◌∷◌, ◌++◌, refl, sym, ap, ◌∙◌, arith, append_assoc, None}
 use Rattle.std.specs.List.{AllByRecursion}
 use Rattle.reg_arena.specs.declared.Cell.{Cell}
-use Rattle.reg_arena.specs.Cells.{Bin, AreBins, cells_in, content_in}
-use Rattle.reg_arena.specs.Free.{free_of, IsFreeList, AreLists, Touch, AreApart}
-use Rattle.reg_arena.specs.Arena.{IsArena, AreBlank, one_class}
+use Rattle.reg_arena.specs.Cells.{Bin, cells_in, content_in}
+use Rattle.reg_arena.specs.Free.{Touch, AreApart}
 use Rattle.reg_arena.specs.NewCells.{total_of, used, carved}
 use Rattle.reg_arena.specs.NewCells.{unused}
 use Rattle.reg_arena.specs.Carves.{rest_of}
 use Rattle.reg_arena.proofs.Tiling.Tilings.{with_cells}
 use Rattle.reg_arena.proofs.Tiling.CellPositions.{Placed}
 use Rattle.reg_arena.proofs.Contents.CellContents.{AreOrdered}
-use Rattle.reg_arena.proofs.FreeList.Relinks.{free-content}
-
--- ---- one list
-
-pub record OneList (bytes : List ℕ) (head count : ℕ) (cells : List Cell) : Type 0 where
-  pub offsets : List ℕ
-  pub free : IsFreeList one_class 0 bytes head cells offsets
-  pub counted : length offsets ≡ count
-
-one_list-by : (bytes : List ℕ) (head count : ℕ) (cells : List Cell) (lists : List (List ℕ)) → AreLists one_class 0 bytes (head ∷ []) cells lists →
-    map length lists ≡ count ∷ [] → OneList bytes head count cells
-one_list-by bytes head count cells [] h c = absurd h
-one_list-by bytes head count cells (os ∷ []) h c = record { offsets = os; free = h.0; counted = cc }
-one_list-by bytes head count cells (os ∷ (ps ∷ more)) h c = absurd h.1
-
-pub one_list : (bytes : List ℕ) (head count : ℕ) (a : IsArena bytes (head ∷ []) (count ∷ [])) → OneList bytes head count (cells_in a.layout)
-one_list bytes head count a = one_list-by bytes head count (cells_in a.layout) a.lists a.free.each a.counted
-
-pub IsArena-one : (bytes : List ℕ) (head count : ℕ) (layout : List Bin) (offsets : List ℕ) → AreBins bytes 0 layout →
-    AreBlank bytes layout → IsFreeList one_class 0 bytes head (cells_in layout) offsets → AreApart (cells_in layout) → length offsets ≡ count → count ≤ length bytes →
-    length bytes ≤ 268435456 → IsArena bytes (head ∷ []) (count ∷ [])
-IsArena-one bytes head count layout offsets tiled blank free apart counted few small = record {
-  layout = layout;
-  tiled = tiled;
-  blank = blank;
-  lists = offsets ∷ [];
-  free = record { each = (free, tt); classes = every (cells_in layout); apart = apart };
-  counted = ap (λ (n : ℕ). n ∷ []) counted;
-  few = (few, tt);
-  small = small;
-}
-  where
-    every : (cells : List Cell) → AllByRecursion (λ (c : Cell). 0 < 1) cells
-    every [] = tt
-    every (c ∷ cells) = (omega arith, every cells)
+use Rattle.reg_arena.proofs.FreeList.RelinkedCells.{free-content}
 
 -- ---- the cells
 
@@ -62,22 +27,9 @@ cells_in-edit layout xs c ys mid p =
     cells_in-middle p.ps (with_cells p.b (p.us ++ (mid ++ p.vs))) p.qs ∙ regroup (cells_in p.ps) p.us mid p.vs (cells_in p.qs)
     ∙ ap (λ (t : List Cell). t ++ (mid ++ (p.vs ++ cells_in p.qs))) (sym p.before) ∙ ap (λ (t : List Cell). xs ++ (mid ++ t)) (sym p.after)
 
-pub free_of-carved : (at : ℕ) (ss : List ℕ) → free_of one_class 0 (carved at ss) ≡ []
-free_of-carved at [] = refl
-free_of-carved at (s ∷ ss) = free_of-carved (at + s) ss
-
--- the offsets of a rest
-abbrev pub rest_offsets : ℕ → ℕ → List ℕ
-rest_offsets at zero = []
-rest_offsets at (suc n) = at ∷ []
-
-pub free_of-rest : (at n : ℕ) → free_of one_class 0 (rest_of at n) ≡ rest_offsets at n
-free_of-rest at zero = refl
-free_of-rest at (suc n) = refl
-
 pub content_in-rest : (bytes : List ℕ) (at n offset : ℕ) → content_in bytes (rest_of at n) offset ≡ None
 content_in-rest bytes at zero offset = refl
-content_in-rest bytes at (suc n) offset = free-content bytes 0 (unused at (suc n)) [] offset refl
+content_in-rest bytes at (suc n) offset = free-content bytes (unused at (suc n)) [] offset refl
 
 -- ---- no two free cells touch
 

@@ -1,40 +1,32 @@
 -- The whole of a carve.
-use Rattle.std.proofs.Common.{◌≡◌, ℕ, zero, suc, ◌+◌, ◌-◌, ◌<◌, ◌≤◌, ◌%◌, Bool, true, false, not, cond, ◌⊎◌, inl, inr, List, [], ◌∷◌, ◌++◌, length, refl, sym, ap, ◌∙◌, subst, arith}
-use Rattle.std.proofs.Common.{append_assoc, length-append, eqb, Option, Some, None, is_some}
-use Rattle.std.proofs.lemmas.Bool.{and_parts, eqb-true, eqb-false, not-true, lt-ltb, lt-leb}
+use Rattle.std.proofs.Common.{◌≡◌, ℕ, zero, suc, ◌+◌, ◌-◌, ◌<◌, ◌≤◌, ◌%◌, Bool, true, false, ◌⊎◌, inl, inr, List, [], ◌∷◌, ◌++◌, length, refl, sym, ap, ◌∙◌, subst, arith, eqb, Option, Some, None}
+use Rattle.std.proofs.Common.{is_some}
+use Rattle.std.proofs.lemmas.Bool.{eqb-true, eq-eqb, lt-ltb, lt-leb}
+use Rattle.std.proofs.lemmas.Option.{same_Some}
+use lib.Dec.{ltb}
 use Rattle.std.specs.List.{AllByRecursion}
-use Rattle.reg_heap.specs.ByteWords.{word, splice, SameOutside}
+use Rattle.reg_heap.specs.ByteWords.{word, SameOutside}
 use Rattle.reg_arena.specs.declared.Cell.{Cell}
-use Rattle.reg_arena.specs.Cells.{Bin, IsCell, Tiles, AreBins, cells_in, content_in, size_in, is_allocated_in}
-use Rattle.reg_heap.specs.Kinds.{times}
-use Rattle.reg_arena.specs.Free.{Follows, free_of, EndsAt, IsFit, chain, AreApart, linked, freed, TakesOut}
-use Rattle.reg_arena.specs.Arena.{IsArena, AreBlank, one_class}
-use Rattle.reg_arena.specs.NewCells.{total_of, AreSizes, carved, offsets_of, zeroed}
-use Rattle.reg_arena.specs.NewCells.{unused}
+use Rattle.reg_arena.specs.declared.free_lists.FreeLists.{FreeLists}
+use Rattle.reg_arena.specs.Cells.{Bin, IsCell, Tiles, AreBins, cells_in, content_in, cell_at, size_in, is_allocated_in}
+use Rattle.reg_arena.specs.Free.{AreApart}
+use Rattle.reg_arena.specs.Arena.{IsArena, AreBlank}
+use Rattle.reg_arena.specs.NewCells.{total_of, AreSizes, carved, offsets_of, zeroed, unused}
 use Rattle.reg_arena.specs.Carves.{rest_of, or_else, IsInNoFree, Carves}
-use Rattle.byteorder.specs.Endian.{little_bytes}
-use Rattle.reg_arena.proofs.Contents.ByteSplices.{same-trans, same-splice, length-splice, word-same_below, word-same_above, word-splice}
+use Rattle.reg_arena.specs.Internal.ListedCells.{free_size, sized, added, IsPiece, IsFreeOf, IsListed, IsIndexed, LacksCell, Adds, Drops}
+use Rattle.reg_arena.proofs.Contents.ByteSplices.{same-trans}
 use Rattle.reg_arena.proofs.Tiling.Tilings.{with_cells, AreBins-edit, cells_of-AreBins, cell_at-AreBins, Tiles-append, Tiles-same_above}
 use Rattle.reg_arena.proofs.Tiling.CellPositions.{stands}
 use Rattle.reg_arena.proofs.Tiling.BlankHeaders.{blank-edit}
-use Rattle.reg_arena.proofs.Contents.CellContents.{content_in-append, content_in-beside, AreOrdered, AreOrdered-AreBins, besides-before, besides-after}
-use Rattle.reg_arena.proofs.FreeList.FreeLinks.{IsClear, free_of-all}
-use Rattle.reg_arena.proofs.Contents.CellWrites.{clear-cells, content_in-none, all-at}
+use Rattle.reg_arena.proofs.Tiling.ArenaInvariant.{AreBins-eights}
+use Rattle.reg_arena.proofs.Contents.CellContents.{IsBeside, content_in-append, content_in-beside, AreOrdered, AreOrdered-AreBins, besides-before, besides-after}
+use Rattle.reg_arena.proofs.Contents.CellWrites.{content_in-none, all-at}
+use Rattle.reg_arena.proofs.FreeList.ListedSpots.{sized-here, sized-other}
+use Rattle.reg_arena.proofs.FreeList.ListedFrames.{beside-free as listed-beside}
+use Rattle.reg_arena.proofs.FreeList.FreeSizes.{free_at, size-outside, beside-free, carved-sizes}
+use Rattle.reg_arena.proofs.FreeList.RelinkedCells.{Relinked, relinked, same-beside, free-content}
 use Rattle.reg_arena.proofs.Carving.CarveCuts.{CutTo, wider, lower}
-use Rattle.reg_arena.proofs.FreeList.FreeListTake.{Taken, taken, others-all, times-append, free_of-append, Follows-back}
-use Rattle.reg_arena.proofs.FreeList.FreeListWalk.{Follows-chain}
-use Rattle.reg_arena.proofs.FreeList.Relinks.{same-beside, Relinked, relinked, words-clear, words-trans, free-content}
-use Rattle.reg_arena.proofs.Carving.CarveFromCell.{one_list, IsArena-one, cells_in-edit, free_of-carved, free_of-rest, rest_offsets, content_in-rest, apart-edit}
-
--- the rest is a free cell again, or there is none
-pub record Rested (old new : List ℕ) (at hi n next link : ℕ) : Type 0 where
-  pub region : SameOutside at hi old new
-  pub tiles : Tiles new at hi (rest_of at n)
-  pub follows : (later : List ℕ) (lo : ℕ) (back : List ℕ) → SameOutside lo at new later → Follows later next back → Follows later link (rest_offsets at n ++ back)
-
-pub Follows-words : (old new : List ℕ) (offsets : List ℕ) (head : ℕ) → AllByRecursion (λ (x : ℕ). word new (x + 4) ≡ word old (x + 4)) offsets → Follows old head offsets → Follows new head offsets
-Follows-words old new [] head a h = h
-Follows-words old new (o ∷ os) head a h = (h.0, rw a.0 (Follows-words old new os (word old (o + 4)) a.1 h.1))
+use Rattle.reg_arena.proofs.Carving.CarveFromCell.{cells_in-edit, content_in-rest, apart-edit}
 
 zeroed-within-by : (at s : ℕ) (ss : List ℕ) (offset : ℕ) (b : Bool) → 0 < s → eqb at offset ≡ b → is_some (zeroed at (s ∷ ss) offset) ≡ true →
     (is_some (zeroed (at + s) ss offset) ≡ true → (at + s ≤ offset) × (offset < (at + s) + total_of ss)) →
@@ -55,79 +47,133 @@ mixed (Some x) (Some z) y h = absurd (cc (h refl))
 pub as_unused : (c : Cell) → c.allocated ≡ false → c ≡ unused c.offset c.size
 as_unused c e = rw (← e) refl
 
--- what a carve leaves
-pub record Carving (old new : List ℕ) (head' count' cell : ℕ) (ss : List ℕ) (front back : List ℕ) : Type 0 where
-  pub arena : IsArena new (head' ∷ []) (count' ∷ [])
-  pub carves : Carves old new ss (offsets_of cell ss)
-  pub now : (size : ℕ) → size ≡ size_in (word old cell) → chain count' new head' ≡ front ++ (rest_offsets (cell + total_of ss) (size - total_of ss) ++ back)
+pub free-size : (size : ℕ) → size ≤ 268435456 → size_in size ≡ size
+free-size size a = let e = lt-ltb size 2147483648 (omega arith) in rw e refl
 
-carving-by : (old s1 s2 s3 : List ℕ) (head head' count' link : ℕ) (layout : List Bin) (ss front : List ℕ) (cell : ℕ) (back : List ℕ) →
-    AreBins old 0 layout → AreBlank old layout → AreApart (cells_in layout) → length old ≤ 268435456 → AreSizes ss → 0 < total_of ss →
-    ((o : ℕ) → times o (front ++ cell ∷ back) ≡ times o (free_of one_class 0 (cells_in layout))) → Follows old head (front ++ cell ∷ back) →
-    (t : Taken one_class 0 (cells_in layout) front cell back) → t.at.c.offset ≡ cell → total_of ss ≤ t.at.c.size →
-    Relinked old s1 layout head' link front back → Rested s1 s2 (cell + total_of ss) (cell + t.at.c.size) (t.at.c.size - total_of ss)
-    (word old (cell + 4)) link → CutTo s2 s3 cell ss →
-    count' ≡ length front + (length (rest_offsets (cell + total_of ss) (t.at.c.size - total_of ss)) + length back) → count' ≤ length old →
-    Carving old s3 head' count' cell ss front back
-carving-by old s1 s2 s3 head head' count' link layout ss front cell back tiled blank apart small oks positive exact follows t place fits r rested cut counted few =
-    let c = t.at.c in
-    let xs = t.at.xs in
-    let ys = t.at.ys in
-    let n : ℕ = c.size - total_of ss in
-    let st = stands old layout xs c ys tiled t.at.cells_are in
+pub free-flag : (size : ℕ) → size ≤ 268435456 → is_allocated_in size ≡ false
+free-flag size a = lt-leb 2147483648 size (omega arith)
+
+pub total-eights : (ss : List ℕ) → AreSizes ss → total_of ss % 8 ≡ 0
+total-eights [] a = omega arith
+total-eights (s ∷ ss) a = let r = total-eights ss a.1 in omega (arith, a.0.1, r)
+
+-- ---- one free cell among the others
+
+-- a free cell of an arena, where it stands
+pub record Place (bytes : List ℕ) (layout : List Bin) (cell size : ℕ) : Type 0 where
+  pub xs : List Cell
+  pub ys : List Cell
+  pub cells_are : cells_in layout ≡ xs ++ unused cell size ∷ ys
+  pub eights : cell % 8 ≡ 0
+  pub some : 32 ≤ cell
+  pub size_eights : size % 8 ≡ 0
+  pub within : cell + size ≤ length bytes
+  pub before : AllByRecursion (IsBeside cell (cell + size)) xs
+  pub after : AllByRecursion (IsBeside cell (cell + size)) ys
+
+pub place : (bytes : List ℕ) (layout : List Bin) (cell size : ℕ) → AreBins bytes 0 layout → free_size (cells_in layout) cell ≡ size → 0 < size → Place bytes layout cell size
+place bytes layout cell size tiled there some =
+    let f = free_at (cells_in layout) cell (omega (arith, there)) in
+    let same : f.c ≡ unused cell size = as_unused f.c f.free ∙ ap (λ k. unused k f.c.size) f.offset_is ∙ ap (unused cell) (f.size_is ∙ there) in
+    by f.xs f.c f.ys same f.cells_are
+  where
+    by : (xs : List Cell) (c : Cell) (ys : List Cell) → c ≡ unused cell size → cells_in layout ≡ xs ++ c ∷ ys → Place bytes layout cell size
+    by xs c ys same e =
+        let e' : cells_in layout ≡ xs ++ unused cell size ∷ ys = e ∙ ap (λ (d : Cell). xs ++ d ∷ ys) same in
+        let st = stands bytes layout xs (unused cell size) ys tiled e' in
+        let ordered : AreOrdered 0 (xs ++ unused cell size ∷ ys) = subst (AreOrdered 0) e' (AreOrdered-AreBins bytes 0 layout tiled) in
+        record {
+          xs = xs;
+          ys = ys;
+          cells_are = e';
+          eights = (let h = AreBins-eights bytes 0 layout (omega arith) tiled in all-at (λ (d : Cell). d.offset % 8 ≡ 0) xs (unused cell size) ys
+              (subst (AllByRecursion (λ (d : Cell). d.offset % 8 ≡ 0)) e' h));
+          some = (let l = st.header in omega arith);
+          size_eights = st.cell.eights;
+          within = st.cell.within;
+          before = besides-before 0 cell (cell + size) xs (unused cell size) ys refl ordered;
+          after = besides-after 0 cell (cell + size) xs (unused cell size) ys (omega arith) ordered;
+        }
+
+both-beside : (lo hi : ℕ) (xs ys : List Cell) → AllByRecursion (IsBeside lo hi) xs → AllByRecursion (IsBeside lo hi) ys → AllByRecursion (IsBeside lo hi) (xs ++ ys)
+both-beside lo hi [] ys a b = b
+both-beside lo hi (x ∷ xs) ys a b = (a.0, both-beside lo hi xs ys a.1 b)
+
+-- the others leave its bytes alone
+pub others-free : (bytes : List ℕ) (layout : List Bin) (cell size : ℕ) → Place bytes layout cell size → IsFreeOf (sized cell 0 (free_size (cells_in layout))) cell size
+others-free bytes layout cell size p x h =
+    let o : x ≡ cell → ⊥ = λ e. (let z = sized-here cell 0 (free_size (cells_in layout)) x e in omega arith) in
+    let q : sized cell 0 (free_size (cells_in layout)) x ≡ free_size (p.xs ++ p.ys) x = sized-other cell 0 (free_size (cells_in layout)) x o ∙
+    ap (λ cs. free_size cs x) p.cells_are ∙ size-outside x p.xs (unused cell size ∷ []) p.ys ((λ e. o (sym e)), tt) in
+    subst (λ n. (x + n ≤ cell) ⊎ (cell + size ≤ x)) (sym q) (beside-free cell (cell + size) (p.xs ++ p.ys) (both-beside cell (cell + size) p.xs p.ys p.before p.after) x (omega arith))
+
+-- ---- the cells
+
+-- what a carve leaves of the cells
+pub record Carving (old new : List ℕ) (cell size : ℕ) (ss : List ℕ) (xs ys : List Cell) : Type 0 where
+  pub arena : IsArena new
+  pub cells_are : cells_in arena.layout ≡ xs ++ ((carved cell ss ++ rest_of (cell + total_of ss) (size - total_of ss)) ++ ys)
+  pub carves : Carves old new ss (offsets_of cell ss)
+
+rest-tiles : (bytes : List ℕ) (at n hi : ℕ) → at + n ≡ hi → n % 8 ≡ 0 → n ≤ 268435456 → (0 < n → word bytes at ≡ n) → Tiles bytes at hi (rest_of at n)
+rest-tiles bytes at zero hi e f l w = omega arith
+rest-tiles bytes at (suc m) hi e f l w =
+    let q = w (omega arith) in
+    let cell : IsCell bytes hi (unused at (suc m)) = record {
+      size = rw q (free-size (suc m) l);
+      allocated = rw q (free-flag (suc m) l);
+      positive = omega arith;
+      eights = f;
+      within = omega arith;
+    } in
+    (refl, cell, e)
+
+pub carving : (old s1 s2 s3 : List ℕ) (a : IsArena old) (cell size : ℕ) (ss : List ℕ) (p : Place old a.layout cell size) → AreSizes ss → 0 < total_of ss →
+    total_of ss ≤ size → Relinked old s1 a.layout → SameOutside (cell + total_of ss) (cell + size) s1 s2 →
+    (0 < size - total_of ss → word s2 (cell + total_of ss) ≡ size - total_of ss) → CutTo s2 s3 cell ss → Carving old s3 cell size ss p.xs p.ys
+carving old s1 s2 s3 a cell size ss p oks positive fits r region field cut =
+    let layout = a.layout in
+    let xs = p.xs in
+    let ys = p.ys in
+    let c : Cell = unused cell size in
+    let n : ℕ = size - total_of ss in
+    let st = stands old layout xs c ys a.tiled p.cells_are in
     let within = st.cell.within in
-    let free : c.allocated ≡ false = not-true c.allocated (and_parts (not c.allocated) (eqb (one_class c.size) 0) t.at.free).0 in
-    let s : SameOutside cell (cell + c.size) s1 s3 = same-trans (lower (omega arith) rested.region) (wider (omega arith) cut.region) in
-    let ordered : AreOrdered 0 (xs ++ c ∷ ys) = subst (AreOrdered 0) t.at.cells_are (AreOrdered-AreBins old 0 layout tiled) in
-    let before = besides-before 0 cell (cell + c.size) xs c ys (sym place) ordered in
-    let after = besides-after 0 cell (cell + c.size) xs c ys (omega arith) ordered in
-    let clear = others-all (IsClear cell (cell + c.size)) one_class 0 xs ys front back t.others
-    (free_of-all _ one_class 0 xs (clear-cells _ _ xs before)) (free_of-all _ one_class 0 ys (clear-cells _ _ ys after)) in
+    let small = a.small in
+    let s : SameOutside cell (cell + size) s1 s3 = same-trans (lower (omega arith) region) (wider (omega arith) cut.region) in
+    let ordered : AreOrdered 0 (xs ++ c ∷ ys) = subst (AreOrdered 0) p.cells_are (AreOrdered-AreBins old 0 layout a.tiled) in
+    let before = p.before in
+    let after = p.after in
     let mid : List Cell = carved cell ss ++ rest_of (cell + total_of ss) n in
-    let tiles : Tiles s3 cell (cell + c.size) mid = Tiles-append s3 cell (cell + total_of ss) (cell + c.size) (carved cell ss)
-    (rest_of (cell + total_of ss) n) cut.tiles (Tiles-same_above cut.region (cell + total_of ss) (cell + c.size) _ (omega arith) rested.tiles) in
-    let p = st.place in
-    let was : AreBins s1 0 (p.ps ++ p.b ∷ p.qs) = subst (AreBins s1 0) p.bins r.tiled in
-    let layout' : List Bin = p.ps ++ with_cells p.b (p.us ++ (mid ++ p.vs)) ∷ p.qs in
-    let tiled' : AreBins s3 0 layout' = AreBins-edit s 0 p.ps p.b p.qs p.us (c ∷ []) mid p.vs p.cells (st.start ∙ place) (omega arith) was tiles in
-    let blank' : AreBlank s3 layout' = blank-edit s 0 p.ps p.b p.qs p.us (c ∷ []) p.vs (p.us ++ (mid ++ p.vs)) p.cells (st.start ∙ place)
-    (omega arith) was (subst (AreBlank s1) p.bins (r.blank blank)) in
-    let cells' : cells_in layout' ≡ xs ++ (mid ++ ys) = cells_in-edit layout xs c ys mid p in
-    let next : Follows s3 (word old (cell + 4)) back = Follows-words old s3 back _ (words-trans old s1 s3 back r.others (words-clear s back clear.1)) (Follows-back old front head cell back follows) in
-    let offsets' : List ℕ = front ++ (rest_offsets (cell + total_of ss) n ++ back) in
-    let follows' : Follows s3 head' offsets' = r.follows s3 (rest_offsets (cell + total_of ss) n ++ back) (words-clear s front clear.0) (rested.follows s3 cell back cut.region next) in
-    let counts : length offsets' ≡ count' = length-append front _ ∙ ap (λ (k : ℕ). length front + k) (length-append (rest_offsets (cell + total_of ss) n) back) ∙ sym counted in
-    let chained : chain count' s3 head' ≡ offsets' = subst (λ (k : ℕ). chain k s3 head' ≡ offsets') counts (Follows-chain s3 offsets' head' follows') in
-    let free_mid : free_of one_class 0 mid ≡ rest_offsets (cell + total_of ss) n = free_of-append one_class 0 (carved cell ss) _ ∙
-    ap (λ (q : List ℕ). q ++ free_of one_class 0 (rest_of (cell + total_of ss) n)) (free_of-carved cell ss) ∙ free_of-rest (cell + total_of ss) n in
-    let exact' : (o : ℕ) → times o offsets' ≡ times o (free_of one_class 0 (cells_in layout')) = λ o.
-    let a : times o (free_of one_class 0 (cells_in layout')) ≡ times o (free_of one_class 0 xs) + (times o (rest_offsets (cell + total_of ss) n) + times o (free_of one_class 0 ys)) =
-    ap (λ cs. times o (free_of one_class 0 cs)) cells' ∙ ap (times o) (free_of-append one_class 0 xs (mid ++ ys)) ∙ times-append o (free_of one_class 0 xs) _
-    ∙ ap (λ (k : ℕ). times o (free_of one_class 0 xs) + k) (ap (times o) (free_of-append one_class 0 mid ys ∙ ap (λ (q : List ℕ). q ++ free_of one_class 0 ys) free_mid) ∙ times-append o _ _) in
-    omega (arith, a, t.others o, times-append o front (rest_offsets (cell + total_of ss) n ++ back), times-append o (rest_offsets (cell + total_of ss) n) back) in
-    let apart_old : AreApart (xs ++ c ∷ ys) = subst AreApart t.at.cells_are apart in
-    let apart_mid : AreApart (xs ++ ((carved c.offset ss ++ rest_of (c.offset + total_of ss) n) ++ ys)) = apart-edit 0 xs c ys ss n ordered free positive (omega arith) apart_old in
-    let apart' : AreApart (cells_in layout') = subst AreApart (sym cells') (subst (λ (k : ℕ). AreApart (xs ++ ((carved k ss ++ rest_of (k + total_of ss) n) ++ ys))) place apart_mid) in
-    let was_cells : cells_in layout ≡ xs ++ unused cell c.size ∷ ys = t.at.cells_are ∙ ap (λ (d : Cell). xs ++ d ∷ ys) (as_unused c free ∙ ap (λ (k : ℕ). unused k c.size) place) in
+    let whole = total-eights ss oks in
+    let eights : n % 8 ≡ 0 = omega (arith, whole, p.size_eights) in
+    let rested : Tiles s2 (cell + total_of ss) (cell + size) (rest_of (cell + total_of ss) n) = rest-tiles s2 (cell + total_of ss) n (cell + size) (omega arith) eights (omega arith) field in
+    let tiles : Tiles s3 cell (cell + size) mid = Tiles-append s3 cell (cell + total_of ss) (cell + size) (carved cell ss)
+    (rest_of (cell + total_of ss) n) cut.tiles (Tiles-same_above cut.region (cell + total_of ss) (cell + size) _ (omega arith) rested) in
+    let q = st.place in
+    let was : AreBins s1 0 (q.ps ++ q.b ∷ q.qs) = subst (AreBins s1 0) q.bins r.tiled in
+    let layout' : List Bin = q.ps ++ with_cells q.b (q.us ++ (mid ++ q.vs)) ∷ q.qs in
+    let tiled' : AreBins s3 0 layout' = AreBins-edit s 0 q.ps q.b q.qs q.us (c ∷ []) mid q.vs q.cells st.start (omega arith) was tiles in
+    let blank' : AreBlank s3 layout' = blank-edit s 0 q.ps q.b q.qs q.us (c ∷ []) q.vs (q.us ++ (mid ++ q.vs)) q.cells st.start
+    (omega arith) was (subst (AreBlank s1) q.bins (r.blank a.blank)) in
+    let cells' : cells_in layout' ≡ xs ++ (mid ++ ys) = cells_in-edit layout xs c ys mid q in
+    let apart_old : AreApart (xs ++ c ∷ ys) = subst AreApart p.cells_are a.apart in
+    let apart_mid : AreApart (xs ++ (mid ++ ys)) = apart-edit 0 xs c ys ss n ordered refl positive (omega arith) apart_old in
     record {
-      arena = IsArena-one s3 head' count' layout' offsets' tiled' blank' (record { follows = follows'; exact = exact' }) apart' (length-append front _ ∙
-          ap (λ (k : ℕ). length front + k) (length-append (rest_offsets (cell + total_of ss) n) back) ∙ sym counted) (omega (arith, s.long, r.long))
-          (omega (arith, s.long, r.long));
-      now = λ size e.
-          let same : c.size ≡ size = sym (subst (λ (k : ℕ). size_in (word old k) ≡ c.size) place st.cell.size) ∙ sym e in
-          subst (λ (k : ℕ). chain count' s3 head' ≡ front ++ (rest_offsets (cell + total_of ss) (k - total_of ss) ++ back)) same chained;
+      arena = record { layout = layout'; tiled = tiled'; blank = blank'; apart = subst AreApart (sym cells') apart_mid; small = omega (arith, s.long, r.long) };
+      cells_are = cells';
       carves = record {
         before = xs;
         at = cell;
-        size = c.size;
+        size = size;
         after = ys;
         fits = fits;
-        was = cells_of-AreBins old layout tiled ∙ ap Some was_cells;
+        was = cells_of-AreBins old layout a.tiled ∙ ap Some p.cells_are;
         now = cells_of-AreBins s3 layout' tiled' ∙ ap Some cells';
         offsets_are = refl;
         contents = λ offset.
             let none : is_some (zeroed cell ss offset) ≡ true → content_in s1 xs offset ≡ None = λ h. (let w = zeroed-within cell ss offset oks h in
-            content_in-none cell (cell + c.size) s1 xs offset before w.0 (omega arith)) in
+            content_in-none cell (cell + size) s1 xs offset before w.0 (omega arith)) in
             cell_at-AreBins s3 layout' offset tiled' ∙ ap (λ cs. content_in s3 cs offset) cells' ∙ content_in-append s3 xs (mid ++ ys) offset
             ∙ ap (or_else (content_in s3 xs offset)) (content_in-append s3 mid ys offset ∙ ap (λ o. or_else o (content_in s3 ys offset))
             (content_in-append s3 (carved cell ss) (rest_of (cell + total_of ss) n) offset ∙
@@ -136,228 +182,125 @@ carving-by old s1 s2 s3 head head' count' link layout ss front cell back tiled b
             ∙ ap (λ o. or_else o (or_else (or_else (zeroed cell ss offset) None) (content_in s3 ys offset))) (content_in-beside s xs offset before)
             ∙ ap (λ o. or_else (content_in s1 xs offset) (or_else (or_else (zeroed cell ss offset) None) o)) (content_in-beside s ys offset after)
             ∙ mixed (content_in s1 xs offset) (zeroed cell ss offset) (content_in s1 ys offset) none
-            ∙ ap (or_else (zeroed cell ss offset)) (sym (ap (λ cs. content_in s1 cs offset) t.at.cells_are ∙
-            content_in-append s1 xs (c ∷ ys) offset ∙ ap (or_else (content_in s1 xs offset)) (free-content s1 0 c ys offset t.at.free)) ∙
-            r.contents offset ∙ sym (cell_at-AreBins old layout offset tiled));
+            ∙ ap (or_else (zeroed cell ss offset)) (sym (ap (λ cs. content_in s1 cs offset) p.cells_are ∙
+            content_in-append s1 xs (c ∷ ys) offset ∙ ap (or_else (content_in s1 xs offset)) (free-content s1 c ys offset refl)) ∙
+            r.contents offset ∙ sym (cell_at-AreBins old layout offset a.tiled));
         fresh = λ offset h.
             let w = zeroed-within cell ss offset oks h in
-            cell_at-AreBins old layout offset tiled ∙ ap (λ cs. content_in old cs offset) t.at.cells_are ∙ content_in-append old xs (c ∷ ys) offset
-            ∙ ap (or_else (content_in old xs offset)) (free-content old 0 c ys offset t.at.free ∙ content_in-none cell (cell + c.size) old ys offset after w.0 (omega arith))
-            ∙ ap (λ o. or_else o None) (content_in-none cell (cell + c.size) old xs offset before w.0 (omega arith));
+            cell_at-AreBins old layout offset a.tiled ∙ ap (λ cs. content_in old cs offset) p.cells_are ∙ content_in-append old xs (c ∷ ys) offset
+            ∙ ap (or_else (content_in old xs offset)) (free-content old c ys offset refl ∙ content_in-none cell (cell + size) old ys offset after w.0 (omega arith))
+            ∙ ap (λ o. or_else o None) (content_in-none cell (cell + size) old xs offset before w.0 (omega arith));
         long = s.long ∙ r.long;
         kept = λ k h.
-            let at = all-at (λ (d : Cell). d.allocated ≡ false → (k < d.offset) ⊎ (d.offset + d.size ≤ k)) xs (unused cell c.size) ys h in
-            same-beside s k (at refl) ∙ r.kept k (subst (IsInNoFree k) (sym was_cells) h);
+            let at = all-at (λ (d : Cell). d.allocated ≡ false → (k < d.offset) ⊎ (d.offset + d.size ≤ k)) xs c ys h in
+            same-beside s k (at refl) ∙ r.kept k (subst (IsInNoFree k) (sym p.cells_are) h);
       };
     }
 
--- ---- the two ways of the rest
+-- ---- with the lists
 
-same-refl : (lo hi : ℕ) (xs : List ℕ) → SameOutside lo hi xs xs
-same-refl lo hi xs = record { long = refl; below = λ k l. refl; above = λ k l. refl }
+abbrev others : List Bin → ℕ → ℕ → ℕ
+others layout cell = sized cell 0 (free_size (cells_in layout))
 
-pub rested-none : (s1 : List ℕ) (at hi n next : ℕ) → at ≡ hi → n ≡ 0 → Rested s1 s1 at hi n next next
-rested-none s1 at hi n next e f = rw f (record {
-  region = same-refl at hi s1;
-  tiles = e;
-  follows = λ later lo back s h. h;
-})
+-- the others are free cells of the arena
+sub-free : (layout : List Bin) (cell x : ℕ) → 0 < others layout cell x → 0 < free_size (cells_in layout) x
+sub-free layout cell x h =
+    let o : x ≡ cell → ⊥ = λ e. (let z = sized-here cell 0 (free_size (cells_in layout)) x e in omega arith) in
+    let q = sized-other cell 0 (free_size (cells_in layout)) x o in omega arith
 
-pub freed-region : (at size next hi : ℕ) (xs : List ℕ) → at + 8 ≤ hi → hi ≤ length xs → SameOutside at hi xs (freed at size next xs)
-freed-region at size next hi xs a b =
-    let one : SameOutside at hi xs (splice at (little_bytes 4 size) xs) = same-splice at at hi (little_bytes 4 size) xs (omega arith) (omega arith) b in
-    same-trans one (same-splice (at + 4) at hi (little_bytes 4 next) _ (omega arith) (omega arith) (omega (arith, one.long)))
-
-pub freed-size : (at size next : ℕ) (xs : List ℕ) → at + 8 ≤ length xs → size < 4294967296 → word (freed at size next xs) at ≡ size
-freed-size at size next xs a b =
-    let long = length-splice at (little_bytes 4 size) xs (omega arith) in
-    let s : SameOutside (at + 4) (at + 8) (splice at (little_bytes 4 size) xs) (freed at size next xs) = same-splice (at + 4) (at + 4) (at + 8)
-    (little_bytes 4 next) _ (omega arith) (omega arith) (omega arith) in
-    word-same_below s at (omega arith) ∙ word-splice at size xs (omega arith) b
-
-pub freed-next : (at size next : ℕ) (xs : List ℕ) → at + 8 ≤ length xs → next < 4294967296 → word (freed at size next xs) (at + 4) ≡ next
-freed-next at size next xs a b =
-    let long = length-splice at (little_bytes 4 size) xs (omega arith) in
-    word-splice (at + 4) next _ (omega arith) b
-
-pub free-size : (size : ℕ) → size ≤ 268435456 → size_in size ≡ size
-free-size size a = let e = lt-ltb size 2147483648 (omega arith) in rw e refl
-
-pub free-flag : (size : ℕ) → size ≤ 268435456 → is_allocated_in size ≡ false
-free-flag size a = lt-leb 2147483648 size (omega arith)
-
--- the words make a free cell
-pub freed-is : (at size next : ℕ) (xs : List ℕ) → 0 < size → size % 8 ≡ 0 → at + size ≤ length xs → length xs ≤ 268435456 → IsCell (freed at size next xs) (at + size) (unused at size)
-freed-is at size next xs a b f small =
-    let w = freed-size at size next xs (omega arith) (omega arith) in
-    record { size = rw w (free-size size (omega arith)); allocated = rw w (free-flag size (omega arith)); positive = a; eights = b; within = omega arith }
-
-rested-suc : (s1 : List ℕ) (at hi m next : ℕ) → at + suc m ≡ hi → suc m % 8 ≡ 0 → hi ≤ length s1 → length s1 ≤ 268435456 → next < 4294967296 →
-    Rested s1 (freed at (suc m) next s1) at hi (suc m) next at
-rested-suc s1 at hi m next e f b small l = record {
-  region = freed-region at (suc m) next hi s1 (omega arith) b;
-  tiles = (refl, rw (← e) (freed-is at (suc m) next s1 (omega arith) f (omega arith) small), e);
-  follows = λ later lo back s h. (refl, subst (λ (k : ℕ). Follows later k back) (sym (word-same_above s (at + 4) (omega arith) ∙ freed-next at (suc m) next s1 (omega arith) l)) h);
-}
-
-pub rested-some : (s1 : List ℕ) (at hi n next : ℕ) → 0 < n → at + n ≡ hi → n % 8 ≡ 0 → hi ≤ length s1 → length s1 ≤ 268435456 → next < 4294967296 → Rested s1 (freed at n next s1) at hi n next at
-rested-some s1 at hi zero next p e f b small l = absurd (omega arith)
-rested-some s1 at hi (suc m) next p e f b small l = rested-suc s1 at hi m next e f b small l
-
-pub total-eights : (ss : List ℕ) → AreSizes ss → total_of ss % 8 ≡ 0
-total-eights [] a = omega arith
-total-eights (s ∷ ss) a = let r = total-eights ss a.1 in omega (arith, a.0.1, r)
-
--- ---- the call
-
--- the list's cell that fits
-pub record Chosen (old : List ℕ) (head count : ℕ) (layout : List Bin) (total previous cell : ℕ) : Type 0 where
-  pub front : List ℕ
-  pub back : List ℕ
-  pub ends : EndsAt front previous
-  pub exact : (o : ℕ) → times o (front ++ cell ∷ back) ≡ times o (free_of one_class 0 (cells_in layout))
-  pub follows : Follows old head (front ++ cell ∷ back)
-  pub counted : length front + suc (length back) ≡ count
-  pub fits : total ≤ size_in (word old cell)
-
-pub chosen : (old : List ℕ) (head count total previous cell : ℕ) (a : IsArena old (head ∷ []) (count ∷ [])) →
-    IsFit old total (chain count old head) previous cell → Chosen old head count a.layout total previous cell
-chosen old head count total previous cell a fit =
-    let one = one_list old head count a in
-    let same : one.offsets ≡ fit.front ++ cell ∷ fit.back = sym (Follows-chain old one.offsets head one.free.follows) ∙ ap (λ (n : ℕ). chain n old head) one.counted ∙ fit.split in
-    record {
-      front = fit.front;
-      back = fit.back;
-      ends = fit.ends;
-      exact = λ o. ap (times o) (sym same) ∙ one.free.exact o;
-      follows = subst (Follows old head) same one.free.follows;
-      counted = sym (length-append fit.front (cell ∷ fit.back)) ∙ ap length (sym same) ∙ one.counted;
-      fits = fit.fits;
-    }
-
--- what the list says of a free cell
-pub record FreeFacts (old : List ℕ) (cell : ℕ) : Type 0 where
-  pub eight : 8 ≤ size_in (word old cell)
-  pub eights : size_in (word old cell) % 8 ≡ 0
-  pub within : cell + size_in (word old cell) ≤ length old
-
-free-facts : (old : List ℕ) (layout : List Bin) (front : List ℕ) (cell : ℕ) (back : List ℕ) → AreBins old 0 layout →
-    (t : Taken one_class 0 (cells_in layout) front cell back) → (size_in (word old cell) ≡ t.at.c.size) × FreeFacts old cell
-free-facts old layout front cell back tiled t =
-    let st = stands old layout t.at.xs t.at.c t.at.ys tiled t.at.cells_are in
-    let size : size_in (word old cell) ≡ t.at.c.size = subst (λ (k : ℕ). size_in (word old k) ≡ t.at.c.size) t.at.offset_is st.cell.size in
-    let place = t.at.offset_is in
-    (size, record { eight = omega (arith, size, st.cell.positive, st.cell.eights); eights = rw size st.cell.eights; within = omega (arith, size, st.cell.within) })
-
-one-rest : (at n : ℕ) → 0 < n → length (rest_offsets at n) ≡ 1
-one-rest at zero h = absurd (omega arith)
-one-rest at (suc n) h = refl
-
-pub carving : (old s2 s3 : List ℕ) (head head' count count' previous cell : ℕ) (ss : List ℕ) (a : IsArena old (head ∷ []) (count ∷ [])) →
-    AreSizes ss → 0 < total_of ss → (ch : Chosen old head count a.layout (total_of ss) previous cell) → word old (cell + 4) < 4294967296 →
-    TakesOut old head count previous cell (total_of ss) s2 head' count' → CutTo s2 s3 cell ss → Carving old s3 head' count' cell ss ch.front ch.back
-carving old s2 s3 head head' count count' previous cell ss a oks positive ch small (inl h) cut =
-    let t = taken one_class 0 (cells_in a.layout) ch.front cell ch.back ch.exact in
-    let f = free-facts old a.layout ch.front cell ch.back a.tiled t in
-    let next : ℕ = word old (cell + 4) in
-    let r = relinked old a.layout head next ch.front cell ch.back previous a.tiled a.small small (λ o. omega (arith, ch.exact o)) ch.follows ch.ends in
-    let n0 : t.at.c.size - total_of ss ≡ 0 = omega (arith, f.0) in
-    let r' : Relinked old s2 a.layout head' next ch.front ch.back = rw (h.1, h.2) r in
-    let cnt : count' ≡ length ch.front + (length (rest_offsets (cell + total_of ss) (t.at.c.size - total_of ss)) + length ch.back) = rw n0 (omega (arith, h.3, ch.counted)) in
-    carving-by old s2 s2 s3 head head' count' next a.layout ss ch.front cell ch.back a.tiled a.blank a.free.apart a.small oks positive ch.exact ch.follows t
-    t.at.offset_is (omega (arith, f.0, ch.fits)) r' (rested-none s2 (cell + total_of ss) (cell + t.at.c.size) (t.at.c.size - total_of ss) next
-    (omega (arith, f.0, h.0)) n0) cut cnt (omega (arith, h.3, a.few.0))
-carving old s2 s3 head head' count count' previous cell ss a oks positive ch small (inr h) cut =
-    let t = taken one_class 0 (cells_in a.layout) ch.front cell ch.back ch.exact in
-    let f = free-facts old a.layout ch.front cell ch.back a.tiled t in
-    let next : ℕ = word old (cell + 4) in
-    let link : ℕ = cell + total_of ss in
-    let n : ℕ = t.at.c.size - total_of ss in
-    let short = a.small in
-    let r = relinked old a.layout head link ch.front cell ch.back previous a.tiled a.small (omega (arith, f.1.within, h.0)) (λ o. omega (arith, ch.exact o)) ch.follows ch.ends in
-    let s1 : List ℕ = linked previous link old in
-    let r' : Relinked old s1 a.layout head' link ch.front ch.back = rw h.2 r in
-    let some : 0 < n = omega (arith, f.0, h.0) in
-    let end : cell + total_of ss + n ≡ cell + t.at.c.size = omega (arith, f.0, h.0) in
+-- what the code's steps ask for
+pub rest-place : (old : List ℕ) (lists : FreeLists) (cell size total : ℕ) (ss : List ℕ) (l : LacksCell old lists cell size) → AreSizes ss → total ≡ total_of ss → total ≤ size →
+    (cell + size ≤ length old) × (length old ≤ 268435456) × IsPiece old (cell + total) (size - total) × IsFreeOf (others l.arena.layout cell) (cell + total) (size - total)
+rest-place old lists cell size total ss l oks e fits =
+    let p = place old l.arena.layout cell size l.arena.tiled l.there l.some in
     let whole = total-eights ss oks in
-    let eights : n % 8 ≡ 0 = omega (arith, f.0, f.1.eights, h.0, whole) in
-    let rested : Rested s1 (freed link n next s1) link (cell + t.at.c.size) n next link =
-    rested-some s1 link (cell + t.at.c.size) n next some end eights (omega (arith, f.0, f.1.within, r.long)) (omega (arith, r.long)) small in
-    let bytes : s2 ≡ freed link n next s1 = h.1 ∙ ap (λ (k : ℕ). freed link (k - total_of ss) next s1) f.0 in
-    let one : length (rest_offsets link n) ≡ 1 = one-rest link n some in
-    carving-by old s1 s2 s3 head head' count' link a.layout ss ch.front cell ch.back a.tiled a.blank a.free.apart a.small oks positive ch.exact ch.follows t
-    t.at.offset_is (omega (arith, f.0, ch.fits)) r' (rw bytes rested) cut (omega (arith, one, h.3, ch.counted)) (omega (arith, h.3, a.few.0))
+    let free = others-free old l.arena.layout cell size p in (
+      p.within,
+      l.arena.small,
+      record {
+        eights = omega (arith, p.eights, e, whole);
+        some = omega (arith, p.some);
+        size_eights = omega (arith, p.size_eights, e, whole);
+        within = omega (arith, p.within);
+      },
+      (λ x h. elim (free x h) [ inl q ↦ inl (omega arith) | inr q ↦ inr (omega arith) ]),
+    )
 
--- what the call needs of the list's cell
-pub record CallFacts (old : List ℕ) (total previous cell count : ℕ) : Type 0 where
-  pub within : cell + size_in (word old cell) ≤ length old
-  pub rest : total < size_in (word old cell) → total + 8 ≤ size_in (word old cell)
-  pub positive : 8 ≤ total
-  pub previous_in : (previous ≡ 4294967295 → ⊥) → previous + 8 ≤ length old
-  pub some : 0 < count
+pub cut-whole : (old s2 s3 : List ℕ) (lists lists' : FreeLists) (cell size total : ℕ) (ss : List ℕ) (l : LacksCell old lists cell size) → AreSizes ss → total ≡ total_of ss →
+    0 < total → total ≤ size → Adds (others l.arena.layout cell) (cell + total) (size - total) old s2 lists' → CutTo s2 s3 cell ss →
+    IsIndexed s3 lists' × Carves old s3 ss (offsets_of cell ss)
+cut-whole old s2 s3 lists lists' cell size total ss l oks e positive fits adds cut =
+    let a = l.arena in
+    let p = place old a.layout cell size a.tiled l.there l.some in
+    let n : ℕ = size - total_of ss in
+    let adds' : Adds (others a.layout cell) (cell + total_of ss) n old s2 lists' = subst (λ k. Adds (others a.layout cell) (cell + k) (size - k) old s2 lists') e adds in
+    let r = relinked old adds'.mid a.layout (others a.layout cell) a.tiled (sub-free a.layout cell) adds'.relinks in
+    let end : cell + total_of ss + n ≡ cell + size = omega arith in
+    let region : SameOutside (cell + total_of ss) (cell + size) adds'.mid s2 = subst (λ k. SameOutside (cell + total_of ss) k adds'.mid s2) end adds'.region in
+    let here : 0 < n → added (cell + total_of ss) n (others a.layout cell) (cell + total_of ss) ≡ n = λ h. added-here (cell + total_of ss) n (others a.layout cell) h in
+    let field : 0 < n → word s2 (cell + total_of ss) ≡ n = λ h. (let z = here h in adds'.listed.fields (cell + total_of ss) (omega arith) ∙ z) in
+    let c = carving old adds'.mid s2 s3 a cell size ss p oks (omega (arith, e)) (omega (arith, e)) r region field cut in
+    let free : IsFreeOf (added (cell + total_of ss) n (others a.layout cell)) cell (total_of ss) = λ x h. front-free a.layout p n x h (others-free old a.layout cell size p) (omega arith) in
+    let listed = listed-beside s2 s3 (added (cell + total_of ss) n (others a.layout cell)) lists' cell (total_of ss) adds'.listed cut.region free in
+    let sizes : added (cell + total_of ss) n (others a.layout cell) ≡ free_size (cells_in c.arena.layout) = λ i x. sizes-at p n c.cells_are (omega arith) x i in
+    (record { arena = c.arena; listed = subst (λ f. IsListed s3 f lists') sizes listed }, c.carves)
+  where
+    added-here : (r n : ℕ) (S : ℕ → ℕ) → 0 < n → added r n S r ≡ n
+    added-here r n S h = (let q : eqb r r ≡ true = eq-eqb r r refl in let l : ltb 0 n ≡ true = lt-ltb 0 n h in rw (q, l) refl)
 
-previous-in : (old : List ℕ) (layout : List Bin) (front : List ℕ) (cell : ℕ) (back : List ℕ) (previous : ℕ) → AreBins old 0 layout →
-    ((o : ℕ) → times o (front ++ cell ∷ back) ≡ times o (free_of one_class 0 (cells_in layout))) → EndsAt front previous →
-    (previous ≡ 4294967295 → ⊥) → previous + 8 ≤ length old
-previous-in old layout front cell back previous tiled exact (inl e) ne = absurd (ne e.1)
-previous-in old layout front cell back previous tiled exact (inr e) ne =
-    let exact' : (o : ℕ) → times o (e.0 ++ previous ∷ (cell ∷ back)) ≡ times o (free_of one_class 0 (cells_in layout)) =
-    λ o. ap (times o) (sym (ap (λ (t : List ℕ). t ++ cell ∷ back) e.1 ∙ append_assoc e.0 (previous ∷ []) (cell ∷ back))) ∙ exact o in
-    let t = taken one_class 0 (cells_in layout) e.0 previous (cell ∷ back) exact' in
-    let f = free-facts old layout e.0 previous (cell ∷ back) tiled t in
-    omega (arith, f.1.eight, f.1.within)
+    front-free : (layout : List Bin) (p : Place old layout cell size) (n x : ℕ) → 0 < added (cell + total_of ss) n (others layout cell) x →
+        IsFreeOf (others layout cell) cell size → total_of ss ≤ size → (x + added (cell + total_of ss) n (others layout cell) x ≤ cell) ⊎ (cell + total_of ss ≤ x)
+    front-free layout p n x h free l = by (eqb x (cell + total_of ss)) refl
+      where
+        by : (b : Bool) → eqb x (cell + total_of ss) ≡ b → (x + added (cell + total_of ss) n (others layout cell) x ≤ cell) ⊎ (cell + total_of ss ≤ x)
+        by true q = (let z = eqb-true x (cell + total_of ss) q in inr (omega arith))
+        by false q = (let z : added (cell + total_of ss) n (others layout cell) x ≡ others layout cell x = rw q refl in
+            elim (free x (omega arith)) [ inl k ↦ inl (omega arith) | inr k ↦ inr (omega arith) ])
 
-pub call-facts : (old : List ℕ) (head count previous cell : ℕ) (ss : List ℕ) (a : IsArena old (head ∷ []) (count ∷ [])) → AreSizes ss →
-    0 < total_of ss → Chosen old head count a.layout (total_of ss) previous cell → CallFacts old (total_of ss) previous cell count
-call-facts old head count previous cell ss a oks positive ch =
-    let t = taken one_class 0 (cells_in a.layout) ch.front cell ch.back ch.exact in
-    let f = free-facts old a.layout ch.front cell ch.back a.tiled t in
-    let whole = total-eights ss oks in
+    sizes-at : (p : Place old l.arena.layout cell size) (n : ℕ) {cells : List Cell} → cells ≡ p.xs ++ ((carved cell ss ++ rest_of (cell + total_of ss) n) ++ p.ys) →
+        total_of ss + n ≡ size → (x : ℕ) → added (cell + total_of ss) n (others l.arena.layout cell) x ≡ free_size cells x
+    sizes-at p n {cells} e' f x =
+        ap (λ cs. added (cell + total_of ss) n (sized cell 0 (free_size cs)) x) p.cells_are ∙ carved-sizes p.xs cell size p.ys ss n (omega (arith, e)) f p.before p.after x ∙
+        ap (λ cs. free_size cs x) (sym e')
+
+-- ---- a cell that left its list
+
+pub lacking : (old new : List ℕ) (lists lists' : FreeLists) (cell size : ℕ) (i : IsIndexed old lists) → free_size (cells_in i.arena.layout) cell ≡ size → 0 < size →
+    Drops (free_size (cells_in i.arena.layout)) cell old new lists' → Relinked old new i.arena.layout × LacksCell new lists' cell size
+lacking old new lists lists' cell size i there some drops =
+    let a = i.arena in
+    let r = relinked old new a.layout (free_size (cells_in a.layout)) a.tiled (λ p h. h) drops.relinks in (
+      r,
+      record {
+        arena = record { layout = a.layout; tiled = r.tiled; blank = r.blank a.blank; apart = a.apart; small = omega (arith, r.long, a.small) };
+        there = there;
+        some = some;
+        listed = drops.listed;
+      },
+    )
+
+-- a carve after such a step is one of the bytes before it
+pub carves-before : (old mid new : List ℕ) (a : IsArena old) (ss offsets : List ℕ) → Relinked old mid a.layout → Carves mid new ss offsets → Carves old new ss offsets
+carves-before old mid new a ss offsets r c =
+    let same = cells_of-AreBins mid a.layout r.tiled ∙ sym (cells_of-AreBins old a.layout a.tiled) in
+    let content : (offset : ℕ) → cell_at mid offset ≡ cell_at old offset = λ offset. cell_at-AreBins mid a.layout offset r.tiled ∙ r.contents offset ∙
+    sym (cell_at-AreBins old a.layout offset a.tiled) in
+    let cells : c.before ++ unused c.at c.size ∷ c.after ≡ cells_in a.layout = same_Some _ _ (sym c.was ∙ cells_of-AreBins mid a.layout r.tiled) in
     record {
-      within = f.1.within;
-      rest = λ l. omega (arith, f.1.eights, whole, l);
-      positive = omega (arith, whole);
-      previous_in = previous-in old a.layout ch.front cell ch.back previous a.tiled ch.exact ch.ends;
-      some = omega (arith, ch.counted);
+      before = c.before;
+      at = c.at;
+      size = c.size;
+      after = c.after;
+      fits = c.fits;
+      was = sym same ∙ c.was;
+      now = c.now;
+      offsets_are = c.offsets_are;
+      contents = λ offset. c.contents offset ∙ ap (or_else (zeroed c.at ss offset)) (content offset);
+      fresh = λ offset h. sym (content offset) ∙ c.fresh offset h;
+      long = c.long ∙ r.long;
+      kept = λ k h. c.kept k h ∙ r.kept k (subst (IsInNoFree k) cells h);
     }
 
--- the same of a cell that fits
-pub facts-at : (old : List ℕ) (head count total previous cell : ℕ) (ss : List ℕ) → IsArena old (head ∷ []) (count ∷ []) →
-    IsFit old total (chain count old head) previous cell → AreSizes ss → total ≡ total_of ss → 0 < total → CallFacts old total previous cell count
-facts-at old head count total previous cell ss a fit oks e positive =
-    let ch = chosen old head count (total_of ss) previous cell a (rw e at fit) in
-    rw e (call-facts old head count previous cell ss a oks (rw e at positive) ch)
-
--- the whole of a carve at such a cell, and the list before it and after it
-pub record CarvingAt (old new : List ℕ) (head count head' count' previous cell : ℕ) (ss : List ℕ) : Type 0 where
-  pub front : List ℕ
-  pub back : List ℕ
-  pub was : chain count old head ≡ front ++ cell ∷ back
-  pub ends : EndsAt front previous
-  pub carving : Carving old new head' count' cell ss front back
-
-pub carving-at : (old s2 s3 : List ℕ) (head head' count count' total previous cell : ℕ) (ss : List ℕ) → IsArena old (head ∷ []) (count ∷ []) →
-    IsFit old total (chain count old head) previous cell → AreSizes ss → total ≡ total_of ss → 0 < total → word old (cell + 4) < 4294967296 →
-    TakesOut old head count previous cell total s2 head' count' → CutTo s2 s3 cell ss → CarvingAt old s3 head count head' count' previous cell ss
-carving-at old s2 s3 head head' count count' total previous cell ss a fit oks e positive small taken cut =
-    let ch = chosen old head count (total_of ss) previous cell a (rw e at fit) in
-    let long : length (ch.front ++ cell ∷ ch.back) ≡ count = length-append ch.front (cell ∷ ch.back) ∙ ch.counted in
-    record {
-      front = ch.front;
-      back = ch.back;
-      was = subst (λ (k : ℕ). chain k old head ≡ ch.front ++ cell ∷ ch.back) long (Follows-chain old (ch.front ++ cell ∷ ch.back) head ch.follows);
-      ends = ch.ends;
-      carving = carving old s2 s3 head head' count count' previous cell ss a oks (rw e at positive) ch small (rw e at taken) cut;
-    }
-
-length-linked-by : (previous next : ℕ) (bytes : List ℕ) (b : Bool) → eqb previous 4294967295 ≡ b →
-    ((previous ≡ 4294967295 → ⊥) → previous + 8 ≤ length bytes) →
-    length (cond b bytes (splice (previous + 4) (little_bytes 4 next) bytes)) ≡ length bytes
-length-linked-by previous next bytes true e h = refl
-length-linked-by previous next bytes false e h = length-splice (previous + 4) (little_bytes 4 next) bytes (let l = h (eqb-false previous 4294967295 e) in omega arith)
-
-pub length-linked : (previous next : ℕ) (bytes : List ℕ) → ((previous ≡ 4294967295 → ⊥) → previous + 8 ≤ length bytes) → length (linked previous next bytes) ≡ length bytes
-length-linked previous next bytes h = length-linked-by previous next bytes (eqb previous 4294967295) refl h
-
-pub length-freed : (at size next : ℕ) (bytes : List ℕ) → at + 8 ≤ length bytes → length (freed at size next bytes) ≡ length bytes
-length-freed at size next bytes h = (freed-region at size next (length bytes) bytes h (omega arith)).long
+pub adds-long : (old s2 : List ℕ) (lists lists' : FreeLists) (cell size at n : ℕ) (l : LacksCell old lists cell size) → Adds (others l.arena.layout cell) at n old s2 lists' → length s2 ≡ length old
+adds-long old s2 lists lists' cell size at n l adds = adds.region.long ∙ (relinked old adds.mid l.arena.layout (others l.arena.layout cell) l.arena.tiled
+    (sub-free l.arena.layout cell) adds.relinks).long

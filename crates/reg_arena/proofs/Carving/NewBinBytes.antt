@@ -4,7 +4,7 @@ use Rattle.std.proofs.lemmas.List.{take_at, drop_at, length-replicate, replicate
 use Rattle.byteorder.specs.Endian.{little_bytes}
 use Rattle.byteorder.specs.Numbers.{little_number-reads_back}
 use Rattle.reg_heap.specs.ByteWords.{word, splice}
-use Rattle.reg_arena.specs.Free.{freed}
+use Rattle.reg_arena.specs.Internal.SizeTables.{freed}
 use Rattle.reg_arena.specs.NewBin.{new_bin, headed}
 use Rattle.reg_arena.proofs.Contents.ByteSplices.{length-splice}
 

@@ -5,6 +5,8 @@ use Rattle.std.specs.Prelude.{unwrap_or}
 use Rattle.reg_heap.specs.ByteWords.{word, splice}
 use Rattle.reg_arena.specs.Cells.{cell_at, size_in}
 use Rattle.reg_arena.specs.Arena.{IsArena}
+use Rattle.reg_arena.specs.declared.free_lists.FreeLists.{FreeLists}
+use Rattle.reg_arena.specs.Internal.ListedCells.{IsIndexed}
 use Rattle.reg_arena.proofs.Contents.CellWrites.{found, wrote, Wrote}
 
 part-of : (xs : List ℕ) (p m k n : ℕ) → k + n ≤ m → p + m ≤ length xs → take n (drop k (take m (drop p xs))) ≡ take n (drop (p + k) xs)
@@ -21,11 +23,11 @@ part-of xs p m k n a b =
     sums p k i = omega arith
 
 -- so many bytes of what a cell holds
-pub part : (old heads counts : List ℕ) (source from len : ℕ) → IsArena old heads counts → is_some (cell_at old source) ≡ true →
+pub part : (old : List ℕ) (source from len : ℕ) → IsArena old → is_some (cell_at old source) ≡ true →
     from + len ≤ length (unwrap_or (cell_at old source) []) →
     take len (drop from (unwrap_or (cell_at old source) [])) ≡ take len (drop (source + 4 + from) old)
-part old heads counts source from len a h l =
-    let f = found old heads counts source a h in
+part old source from len a h l =
+    let f = found old source a h in
     let size : ℕ = size_in (word old source) in
     let value : unwrap_or (cell_at old source) [] ≡ take (size - 4) (drop (source + 4) old) = ap (λ (o : Option (List ℕ)). unwrap_or o []) f.content in
     let long : length (unwrap_or (cell_at old source) []) ≡ size - 4 = ap length value ∙ simp (length-take, length-drop) (omega (arith, f.within, f.eight)) in
@@ -35,13 +37,13 @@ length-part : (xs : List ℕ) (k n : ℕ) → k + n ≤ length xs → length (ta
 length-part xs k n l = simp (length-take, length-drop) (omega arith)
 
 -- what copying leaves
-pub copied : (old new heads counts : List ℕ) (source from cell at len : ℕ) → IsArena old heads counts → is_some (cell_at old source) ≡ true →
+pub copied : (old new : List ℕ) (lists : FreeLists) (source from cell at len : ℕ) → IsIndexed old lists → is_some (cell_at old source) ≡ true →
     is_some (cell_at old cell) ≡ true → from + len ≤ length (unwrap_or (cell_at old source) []) → at + len ≤ length (unwrap_or (cell_at old cell) []) →
     new ≡ splice (cell + 4 + at) (take len (drop (source + 4 + from) old)) old →
-    Wrote old new heads counts cell at (take len (drop from (unwrap_or (cell_at old source) [])))
-copied old new heads counts source from cell at len a h g l m e =
+    Wrote old new lists cell at (take len (drop from (unwrap_or (cell_at old source) [])))
+copied old new lists source from cell at len i h g l m e =
     let piece : List ℕ = take len (drop from (unwrap_or (cell_at old source) [])) in
-    let same : piece ≡ take len (drop (source + 4 + from) old) = part old heads counts source from len a h l in
+    let same : piece ≡ take len (drop (source + 4 + from) old) = part old source from len i.arena h l in
     let long : length piece ≡ len = length-part (unwrap_or (cell_at old source) []) from len l in
     let now : new ≡ splice (cell + 4 + at) piece old = e ∙ ap (λ (xs : List ℕ). splice (cell + 4 + at) xs old) (sym same) in
-    subst (λ (bytes : List ℕ). Wrote old bytes heads counts cell at piece) (sym now) (wrote old heads counts cell at piece a g (omega arith))
+    subst (λ (bytes : List ℕ). Wrote old bytes lists cell at piece) (sym now) (wrote old lists cell at piece i g (omega arith))

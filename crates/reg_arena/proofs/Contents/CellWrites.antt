@@ -1,23 +1,24 @@
 -- A write into one allocated cell.
-use Rattle.std.proofs.Common.{◌≡◌, ℕ, suc, ◌+◌, ◌-◌, ◌<◌, ◌≤◌, true, false, cond, ◌⊎◌, inl, inr, List, [], ◌∷◌, ◌++◌, length, get_or, take, drop, refl, sym, ap, ◌∙◌, subst, arith, Option}
+use Rattle.std.proofs.Common.{◌≡◌, ℕ, ◌+◌, ◌-◌, ◌<◌, ◌≤◌, true, false, cond, ◌⊎◌, inl, inr, List, [], ◌∷◌, ◌++◌, length, get_or, take, drop, refl, sym, ap, ◌∙◌, subst, arith, Option}
 use Rattle.std.proofs.Common.{Some, None, eqb, is_some, unwrap_or, length-take, length-drop}
 use Rattle.std.proofs.lemmas.List.{ext_get_or, get_or-take, get_or-drop}
 use Rattle.std.proofs.lemmas.Bool.{cases_eq, cases_lt, eq-eqb, ne_eqb}
 use Rattle.std.specs.List.{AllByRecursion}
-use Rattle.std.proofs.lemmas.Option.{same_Some}
 use Rattle.reg_heap.specs.ByteWords.{word, splice, SameOutside}
 use Rattle.reg_heap.specs.Heaps.{Writes}
 use Rattle.reg_heap.proofs.CellFrame.{writes_one}
 use Rattle.reg_arena.specs.declared.Cell.{Cell}
 use Rattle.reg_arena.specs.Cells.{Bin, IsCell, Tiles, AreBins, cells_in, content_in, size_in, cell_at, cells_of}
-use Rattle.reg_arena.specs.Free.{free_of, Follows, IsFreeList, AreLists}
-use Rattle.reg_arena.specs.Arena.{IsArena, one_class}
+use Rattle.reg_arena.specs.Arena.{IsArena}
+use Rattle.reg_arena.specs.declared.free_lists.FreeLists.{FreeLists}
+use Rattle.reg_arena.specs.Internal.ListedCells.{IsListed, IsIndexed, IsFreeOf, free_size}
 use Rattle.reg_arena.proofs.Contents.ByteSplices.{same-splice, word-same_below, length-splice, get_or-splice_below, get_or-splice_above, get_or-splice_in}
 use Rattle.reg_arena.proofs.Tiling.Tilings.{with_cells, AreBins-edit, cells_of-AreBins, cell_at-AreBins, IsCell-same, IsCell-within}
 use Rattle.reg_arena.proofs.Tiling.CellPositions.{looked, Stands, stands}
 use Rattle.reg_arena.proofs.Tiling.BlankHeaders.{blank-same}
 use Rattle.reg_arena.proofs.Contents.CellContents.{content_in-append, IsBeside, content_in-beside, AreOrdered, AreOrdered-AreBins, besides-before, besides-after}
-use Rattle.reg_arena.proofs.FreeList.FreeLinks.{IsClear, Follows-same, all_from_times, times-all, free_of-all}
+use Rattle.reg_arena.proofs.FreeList.ListedFrames.{beside-free as beside-free-cells}
+use Rattle.reg_arena.proofs.FreeList.FreeSizes.{used-free}
 
 -- what is known of an allocated cell
 pub record Found (bytes : List ℕ) (offset : ℕ) : Type 0 where
@@ -35,8 +36,8 @@ found-by bytes offset c e cell content =
       content = content ∙ ap (λ (n : ℕ). Some (take (n - 4) (drop (c.offset + 4) bytes))) (sym size) ∙ ap (λ (n : ℕ). Some (take (size_in (word bytes offset) - 4) (drop (n + 4) bytes))) e;
     }
 
-pub found : (bytes heads counts : List ℕ) (offset : ℕ) → IsArena bytes heads counts → is_some (cell_at bytes offset) ≡ true → Found bytes offset
-found bytes heads counts offset a h =
+pub found : (bytes : List ℕ) (offset : ℕ) → IsArena bytes → is_some (cell_at bytes offset) ≡ true → Found bytes offset
+found bytes offset a h =
     let at = cell_at-AreBins bytes a.layout offset a.tiled in
     let some : is_some (content_in bytes (cells_in a.layout) offset) ≡ true = ap is_some (sym at) ∙ h in
     let l = looked bytes (cells_in a.layout) offset some in
@@ -79,17 +80,6 @@ piece-splice n p at piece old a b =
         get_or-splice_above (p + at) piece old (p + k) (omega arith) (omega arith) ∙
         sym (get_or-splice_above at piece (take n (drop p old)) k (omega arith) y ∙ get_or-take n (drop p old) k 0 lt ∙ get_or-drop p old k 0)
 
--- ---- the write
-
--- an allocated cell's bytes hold no link
-clear-by : (lo hi : ℕ) (d : Cell) → IsBeside lo hi d → IsClear lo hi d.offset
-clear-by lo hi d (e, inl b) = inl (omega arith)
-clear-by lo hi d (e, inr b) = inr (omega arith)
-
-pub clear-cells : (lo hi : ℕ) (cells : List Cell) → AllByRecursion (IsBeside lo hi) cells → AllByRecursion (λ (d : Cell). d.allocated ≡ false → IsClear lo hi d.offset) cells
-clear-cells lo hi [] h = tt
-clear-cells lo hi (d ∷ cells) h = ((λ _. clear-by lo hi d h.0), clear-cells lo hi cells h.1)
-
 pub all-append : {X : Type 0} (P : X → Type 0) (xs ys : List X) → AllByRecursion P xs → AllByRecursion P ys → AllByRecursion P (xs ++ ys)
 all-append P [] ys a b = b
 all-append P (x ∷ xs) ys a b = (a.0, all-append P xs ys a.1 b)
@@ -99,32 +89,13 @@ pub all-at : {X : Type 0} (P : X → Type 0) (xs : List X) (x : X) (ys : List X)
 all-at P [] x ys h = h.0
 all-at P (z ∷ xs) x ys h = all-at P xs x ys h.1
 
--- an edit of bytes that no free cell's link is among, the cells staying what they are
-pub IsFreeList-same : {lo hi : ℕ} {old new : List ℕ} → SameOutside lo hi old new →
-    (class_of : ℕ → ℕ) (class head : ℕ) (cells : List Cell) (offsets : List ℕ) → AllByRecursion (λ (d : Cell). d.allocated ≡ false →
-    IsClear lo hi d.offset) cells → IsFreeList class_of class old head cells offsets → IsFreeList class_of class new head cells offsets
-IsFreeList-same {lo = lo} {hi = hi} s class_of class head cells offsets clear h =
-    let every = free_of-all (IsClear lo hi) class_of class cells clear in
-    record {
-      follows = Follows-same s offsets head (all_from_times (IsClear lo hi) offsets (λ o l. times-all (IsClear lo hi) (free_of class_of class cells) every o (rw (← h.exact o) l))) h.follows;
-      exact = h.exact;
-    }
-
-pub AreLists-same : {lo hi : ℕ} {old new : List ℕ} → SameOutside lo hi old new → (class_of : ℕ → ℕ) (cells : List Cell) →
-    AllByRecursion (λ (d : Cell). d.allocated ≡ false → IsClear lo hi d.offset) cells → (heads : List ℕ) (lists : List (List ℕ)) (class : ℕ) →
-    AreLists class_of class old heads cells lists → AreLists class_of class new heads cells lists
-AreLists-same s class_of cells clear [] [] class h = tt
-AreLists-same s class_of cells clear [] (os ∷ lists) class h = h
-AreLists-same s class_of cells clear (head ∷ heads) [] class h = h
-AreLists-same s class_of cells clear (head ∷ heads) (os ∷ lists) class h =
-    (IsFreeList-same s class_of class head cells os clear h.0, AreLists-same s class_of cells clear heads lists (suc class) h.1)
+-- ---- the write
 
 -- what a write leaves
-pub record Wrote (old new heads counts : List ℕ) (cell at : ℕ) (piece : List ℕ) : Type 0 where
-  pub arena : IsArena new heads counts
+pub record Wrote (old new : List ℕ) (lists : FreeLists) (cell at : ℕ) (piece : List ℕ) : Type 0 where
+  pub indexed : IsIndexed new lists
   pub cells : cells_of new ≡ cells_of old
   pub long : length new ≡ length old
-  pub links : (cells : List Cell) → cells_of old ≡ Some cells → (k head : ℕ) (offsets : List ℕ) → IsFreeList one_class k old head cells offsets → Follows new head offsets
   pub contents : (offset : ℕ) → cell_at new offset ≡ cond (eqb offset cell) (Some (splice at piece (unwrap_or (cell_at old cell) []))) (cell_at old offset)
   pub writes : Writes (cell_at old) (cell_at new) (cell ∷ [])
 
@@ -154,10 +125,10 @@ layout-same {lo = lo} {hi = hi} {old = old} {new = new} s layout xs c ys st e f 
     let same : with_cells p.b (p.us ++ c ∷ p.vs) ≡ p.b = ap (with_cells p.b) (sym p.cells) in
     rw p.bins (subst (λ (b : Bin). AreBins new 0 (p.ps ++ b ∷ p.qs)) same now)
 
-wrote-by : (old heads counts : List ℕ) (at : ℕ) (piece : List ℕ) (a : IsArena old heads counts) (xs : List Cell) (c : Cell) (ys : List Cell) →
+wrote-by : (old : List ℕ) (lists : FreeLists) (at : ℕ) (piece : List ℕ) (a : IsArena old) → IsListed old (free_size (cells_in a.layout)) lists → (xs : List Cell) (c : Cell) (ys : List Cell) →
     cells_in a.layout ≡ xs ++ c ∷ ys → c.allocated ≡ true → cell_at old c.offset ≡ Some (take (c.size - 4) (drop (c.offset + 4) old)) →
-    at + length piece ≤ length (unwrap_or (cell_at old c.offset) []) → Wrote old (splice (c.offset + 4 + at) piece old) heads counts c.offset at piece
-wrote-by old heads counts at piece a xs c ys e used content fits =
+    at + length piece ≤ length (unwrap_or (cell_at old c.offset) []) → Wrote old (splice (c.offset + 4 + at) piece old) lists c.offset at piece
+wrote-by old lists at piece a listed xs c ys e used content fits =
     let new : List ℕ = splice (c.offset + 4 + at) piece old in
     let st = stands old a.layout xs c ys a.tiled e in
     let eight : 8 ≤ c.size = omega (arith, st.cell.positive, st.cell.eights) in
@@ -171,9 +142,6 @@ wrote-by old heads counts at piece a xs c ys e used content fits =
     let ordered : AreOrdered 0 (xs ++ c ∷ ys) = subst (AreOrdered 0) e (AreOrdered-AreBins old 0 a.layout a.tiled) in
     let before = besides-before 0 c.offset (c.offset + c.size) xs c ys refl ordered in
     let after = besides-after 0 c.offset (c.offset + c.size) xs c ys (omega arith) ordered in
-    let Clear : Cell → Type 0 = λ d. d.allocated ≡ false → IsClear c.offset (c.offset + c.size) d.offset in
-    let own : Clear c = λ f. absurd (cc (f, used)) in
-    let clear : AllByRecursion Clear (cells_in a.layout) = subst (AllByRecursion Clear) (sym e) (all-append Clear xs (c ∷ ys) (clear-cells _ _ xs before) (own, clear-cells _ _ ys after)) in
     let part : take (c.size - 4) (drop (c.offset + 4) new) ≡ splice at piece (unwrap_or (cell_at old c.offset) []) =
     piece-splice (c.size - 4) (c.offset + 4) at piece old room (omega arith) ∙ ap (splice at piece) (sym value) in
     let contents : (offset : ℕ) → cell_at new offset ≡ cond (eqb offset c.offset) (Some (splice at piece (unwrap_or (cell_at old c.offset) []))) (cell_at old offset) = λ offset.
@@ -183,40 +151,44 @@ wrote-by old heads counts at piece a xs c ys e used content fits =
     ∙ sym (ap (λ o. cond (eqb offset c.offset) (Some (splice at piece (unwrap_or (cell_at old c.offset) []))) o)
     (cell_at-AreBins old a.layout offset a.tiled ∙ ap (λ cs. content_in old cs offset) e)) in
     record {
-      arena = record {
-        layout = a.layout;
-        tiled = tiled;
-        blank = blank-same s a.layout xs c ys st refl refl a.tiled a.blank;
-        lists = a.lists;
-        free = record { each = AreLists-same s one_class (cells_in a.layout) clear heads a.lists 0 a.free.each; classes = a.free.classes; apart = a.free.apart };
-        counted = a.counted;
-        few = rw s.long a.few;
-        small = omega (arith, s.long, a.small);
+      indexed = record {
+        arena = record {
+          layout = a.layout;
+          tiled = tiled;
+          blank = blank-same s a.layout xs c ys st refl refl a.tiled a.blank;
+          apart = a.apart;
+          small = omega (arith, s.long, a.small);
+        };
+        listed = beside-free-cells old new (free_size (cells_in a.layout)) lists c.offset c.size listed s free;
       };
       cells = cells_of-AreBins new a.layout tiled ∙ sym (cells_of-AreBins old a.layout a.tiled);
       long = s.long;
-      links = λ cells found k head offsets h.
-          let same : cells_in a.layout ≡ cells = same_Some _ _ (sym (cells_of-AreBins old a.layout a.tiled) ∙ found) in
-          (IsFreeList-same s one_class k head cells offsets (subst (AllByRecursion Clear) same clear) h).follows;
       contents = contents;
       writes = writes_one (cell_at old) (cell_at new) c.offset _ (ap is_some content) contents;
     }
+  where
+    free : IsFreeOf (free_size (cells_in a.layout)) c.offset c.size
+    free x h =
+        let ordered : AreOrdered 0 (xs ++ c ∷ ys) = subst (AreOrdered 0) e (AreOrdered-AreBins old 0 a.layout a.tiled) in
+        used-free c used xs ys (besides-before 0 c.offset (c.offset + c.size) xs c ys refl ordered) (besides-after 0 c.offset (c.offset + c.size) xs c ys (omega arith) ordered)
+        (cells_in a.layout) e x h
 
-pub wrote : (old heads counts : List ℕ) (cell at : ℕ) (piece : List ℕ) → IsArena old heads counts → is_some (cell_at old cell) ≡ true →
-    at + length piece ≤ length (unwrap_or (cell_at old cell) []) → Wrote old (splice (cell + 4 + at) piece old) heads counts cell at piece
-wrote old heads counts cell at piece a h fits =
+pub wrote : (old : List ℕ) (lists : FreeLists) (cell at : ℕ) (piece : List ℕ) → IsIndexed old lists → is_some (cell_at old cell) ≡ true →
+    at + length piece ≤ length (unwrap_or (cell_at old cell) []) → Wrote old (splice (cell + 4 + at) piece old) lists cell at piece
+wrote old lists cell at piece i h fits =
+    let a = i.arena in
     let found_at = cell_at-AreBins old a.layout cell a.tiled in
     let some : is_some (content_in old (cells_in a.layout) cell) ≡ true = ap is_some (sym found_at) ∙ h in
     let l = looked old (cells_in a.layout) cell some in
     let content : cell_at old cell ≡ Some (take (l.c.size - 4) (drop (l.c.offset + 4) old)) = found_at ∙ l.content in
     let Goal : ℕ → Type 0 = λ k. cell_at old k ≡ Some (take (l.c.size - 4) (drop (l.c.offset + 4) old)) →
-    at + length piece ≤ length (unwrap_or (cell_at old k) []) → Wrote old (splice (k + 4 + at) piece old) heads counts k at piece in
-    subst Goal l.offset_is (wrote-by old heads counts at piece a l.xs l.c l.ys l.cells_are l.allocated) content fits
+    at + length piece ≤ length (unwrap_or (cell_at old k) []) → Wrote old (splice (k + 4 + at) piece old) lists k at piece in
+    subst Goal l.offset_is (wrote-by old lists at piece a i.listed l.xs l.c l.ys l.cells_are l.allocated) content fits
 
-pub write_fits : (old heads counts : List ℕ) (cell at n : ℕ) → IsArena old heads counts → is_some (cell_at old cell) ≡ true →
+pub write_fits : (old : List ℕ) (cell at n : ℕ) → IsArena old → is_some (cell_at old cell) ≡ true →
     at + n ≤ length (unwrap_or (cell_at old cell) []) → cell + 4 + at + n ≤ length old
-write_fits old heads counts cell at n a h fits =
-    let f = found old heads counts cell a h in
+write_fits old cell at n a h fits =
+    let f = found old cell a h in
     let size : ℕ = size_in (word old cell) in
     let long : length (unwrap_or (cell_at old cell) []) ≡ size - 4 = ap (λ (o : Option (List ℕ)). length (unwrap_or o [])) f.content ∙
     simp (length-take, length-drop) (omega (arith, f.within, f.eight)) in

@@ -1,90 +1,24 @@
 -- The free cells beside an allocated one.
-use Rattle.std.proofs.Common.{◌≡◌, ℕ, zero, suc, ◌+◌, ◌-◌, ◌*◌, ◌<◌, ◌≤◌, Bool, true, false, not, cond, inl, inr, List, [], ◌∷◌, ◌++◌, length, refl, sym, ap, ◌∙◌, subst, arith, append_assoc}
-use Rattle.std.proofs.Common.{◌&&◌, eqb}
-use Rattle.std.proofs.lemmas.Bool.{eqb-true, eq-eqb, leb-false, lt-ltb}
+use Rattle.std.proofs.Common.{◌≡◌, ℕ, zero, suc, ◌+◌, ◌-◌, ◌*◌, ◌/◌, ◌<◌, ◌≤◌, Bool, true, false, cond, inl, inr, List, [], ◌∷◌, ◌++◌, length, get_or, refl, sym, ap, ◌∙◌, subst, arith, append_assoc}
+use Rattle.std.proofs.Common.{eqb}
+use Rattle.std.proofs.lemmas.Bool.{eqb-true, eqb-false, leb-false, lt-ltb}
 use Rattle.std.specs.List.{AllByRecursion}
 use Rattle.reg_heap.specs.ByteWords.{word}
 use Rattle.reg_arena.specs.declared.Cell.{Cell}
 use Rattle.reg_arena.specs.Cells.{Bin, Tiles, AreBins, cells_in, size_in, is_allocated_in}
 use Rattle.reg_arena.specs.Free.{Touch, AreApart}
 use Rattle.reg_arena.specs.NewCells.{unused}
-use Rattle.reg_arena.specs.Internal.SideTables.{ending}
+use Rattle.reg_arena.specs.declared.free_lists.FreeLists.{FreeLists}
+use Rattle.reg_arena.specs.Internal.ListedCells.{free_size, IsListed}
+use Rattle.reg_arena.proofs.FreeList.FreeSizes.{free_at}
+use Rattle.reg_arena.proofs.FreeList.ListedArenas.{size-at, all-free}
 use Rattle.reg_arena.specs.Frees.{IsFreePiece, IsRight, start_of}
 use Rattle.reg_arena.proofs.Tiling.Tilings.{Tiles-back}
 use Rattle.reg_arena.proofs.Tiling.CellPositions.{Placed, placed, stands, AreBins-at}
-use Rattle.reg_arena.proofs.Contents.CellContents.{IsBeside, AreOrdered, AreOrdered-AreBins, besides-before, besides-after}
+use Rattle.reg_arena.proofs.Contents.CellContents.{AreOrdered, AreOrdered-AreBins}
 use Rattle.reg_arena.proofs.Carving.CarveWhole.{as_unused, free-size, free-flag}
 use Rattle.reg_arena.proofs.Freeing.MergedCells.{PlacedRow, apart-back}
 use Rattle.reg_arena.proofs.Freeing.Neighbours.{neighbour, row-of-two, AreBins-rest}
-
--- ---- what ends at a place
-
-ending-sum : (u : ℕ) (xs ys : List Cell) → ending u (xs ++ ys) ≡ ending u xs + ending u ys
-ending-sum u [] ys = omega arith
-ending-sum u (x ∷ xs) ys = omega (arith, ending-sum u xs ys)
-
-pub ending-append : (u : ℕ) (xs ys : List Cell) → ending u (xs ++ ys) ≡ ending u xs + ending u ys
-ending-append = ending-sum
-
-ending-one : (u : ℕ) (c : Cell) (n : ℕ) (b e : Bool) → c.allocated ≡ b → eqb (c.offset + c.size) (8 * u + 8) ≡ e →
-    (c.allocated ≡ false → c.offset + c.size ≡ 8 * u + 8 → ⊥) → cond (not c.allocated && eqb (c.offset + c.size) (8 * u + 8)) c.offset 0 + n ≡ n
-ending-one u c n true e h f never = rw h (omega arith)
-ending-one u c n false true h f never = absurd (never h (eqb-true _ _ f))
-ending-one u c n false false h f never = rw (h, f) (omega arith)
-
-pub ending-none : (u : ℕ) (cells : List Cell) → AllByRecursion (λ (c : Cell). c.allocated ≡ false → c.offset + c.size ≡ 8 * u + 8 → ⊥) cells → ending u cells ≡ 0
-ending-none u [] h = refl
-ending-none u (c ∷ cells) h = ending-one u c (ending u cells) c.allocated (eqb (c.offset + c.size) (8 * u + 8)) refl refl h.0 ∙ ending-none u cells h.1
-
-pub ending-beside : (lo hi u : ℕ) (cells : List Cell) → AllByRecursion (IsBeside lo hi) cells → lo < 8 * u + 8 → 8 * u + 8 ≤ hi → ending u cells ≡ 0
-ending-beside lo hi u cells h a b = ending-none u cells (every cells h)
-  where
-    one : (c : Cell) → IsBeside lo hi c → c.offset + c.size ≡ 8 * u + 8 → ⊥
-    one c (e, inl l) f = omega arith
-    one c (e, inr l) f = omega arith
-
-    every : (cs : List Cell) → AllByRecursion (IsBeside lo hi) cs → AllByRecursion (λ (c : Cell). c.allocated ≡ false → c.offset + c.size ≡ 8 * u + 8 → ⊥) cs
-    every [] t = tt
-    every (c ∷ cs) t = ((λ _. one c t.0), every cs t.1)
-
--- the free cell that ends at a place
-pub record EndsThere (u : ℕ) (cells : List Cell) : Type 0 where
-  pub ds : List Cell
-  pub d : Cell
-  pub bs : List Cell
-  pub split : cells ≡ ds ++ d ∷ bs
-  pub free : d.allocated ≡ false
-  pub end : d.offset + d.size ≡ 8 * u + 8
-
-ends_there-by : (u : ℕ) (c : Cell) (cells : List Cell) (b e : Bool) → c.allocated ≡ b → eqb (c.offset + c.size) (8 * u + 8) ≡ e →
-    0 < cond (not c.allocated && eqb (c.offset + c.size) (8 * u + 8)) c.offset 0 + ending u cells → (0 < ending u cells → EndsThere u cells) →
-    EndsThere u (c ∷ cells)
-ends_there-by u c cells false true h f l rest = record { ds = []; d = c; bs = cells; split = refl; free = h; end = eqb-true _ _ f }
-ends_there-by u c cells true e h f l rest = (let r = rest (let m = rw h at l in omega arith) in
-    record { ds = c ∷ r.ds; d = r.d; bs = r.bs; split = ap (λ (t : List Cell). c ∷ t) r.split; free = r.free; end = r.end })
-ends_there-by u c cells false false h f l rest = (let r = rest (let m = rw (h, f) at l in omega arith) in
-    record { ds = c ∷ r.ds; d = r.d; bs = r.bs; split = ap (λ (t : List Cell). c ∷ t) r.split; free = r.free; end = r.end })
-
-pub ends_there : (u : ℕ) (cells : List Cell) → 0 < ending u cells → EndsThere u cells
-ends_there u [] l = absurd (omega arith)
-ends_there u (c ∷ cells) l = ends_there-by u c cells c.allocated (eqb (c.offset + c.size) (8 * u + 8)) refl refl l (λ m. ends_there u cells m)
-
-pub ending-self : (u : ℕ) (c : Cell) (cells : List Cell) → c.allocated ≡ false → c.offset + c.size ≡ 8 * u + 8 → ending u (c ∷ cells) ≡ c.offset + ending u cells
-ending-self u c cells h e = (let f : eqb (c.offset + c.size) (8 * u + 8) ≡ true = eq-eqb _ _ e in rw (h, f) refl)
-
--- where none ends, each free cell ends elsewhere
-ending-zero-by : (u : ℕ) (c : Cell) (n : ℕ) → 0 < c.offset → cond (not c.allocated && eqb (c.offset + c.size) (8 * u + 8)) c.offset 0 + n ≡ 0 → c.allocated ≡ false → c.offset + c.size ≡ 8 * u + 8 → ⊥
-ending-zero-by u c n p z h e = (let f : eqb (c.offset + c.size) (8 * u + 8) ≡ true = eq-eqb _ _ e in let m = rw (h, f) at z in omega arith)
-
-pub ending-zero : (u : ℕ) (xs ys : List Cell) → AllByRecursion (λ (c : Cell). 32 ≤ c.offset) xs → ending u (xs ++ ys) ≡ 0 →
-    AllByRecursion (λ (c : Cell). c.allocated ≡ false → c.offset + c.size ≡ 8 * u + 8 → ⊥) xs
-ending-zero u [] ys p z = tt
-ending-zero u (c ∷ xs) ys p z = (ending-zero-by u c (ending u (xs ++ ys)) (let l = p.0 in omega arith) z, ending-zero u xs ys p.1 (omega (arith, z)))
-
-starts-from : (bytes : List ℕ) (layout : List Bin) → AreBins bytes 0 layout → (xs ys : List Cell) → cells_in layout ≡ xs ++ ys → AllByRecursion (λ (c : Cell). 32 ≤ c.offset) ys
-starts-from bytes layout h xs [] e = tt
-starts-from bytes layout h xs (c ∷ ys) e = (let st = stands bytes layout xs c ys h e in let l = st.header in
-    (omega arith, starts-from bytes layout h (xs ++ c ∷ []) ys (e ∙ sym (append_assoc xs (c ∷ []) ys))))
 
 all-part : (P : Cell → Type 0) (xs ys : List Cell) → AllByRecursion P (xs ++ ys) → AllByRecursion P xs
 all-part P [] ys h = tt
@@ -112,64 +46,76 @@ apart-front (x ∷ ds) d bs f h = ((λ u e. here ds h.0 (record { first = u; sec
     here [] a t = a.0 t
     here (z ∷ zs) a t = here zs a.1 t
 
-lefts-none : (bytes : List ℕ) (layout : List Bin) (xs : List Cell) (c : Cell) (ys : List Cell) (u left : ℕ) → AreBins bytes 0 layout →
-    cells_in layout ≡ xs ++ c ∷ ys → 8 * u + 8 ≡ c.offset → ending u (cells_in layout) ≡ 0 → left ≡ 0 → Lefts layout c ys c.offset left
-lefts-none bytes layout xs c ys u left tiled e place z zero_left = record {
-  at_start = λ _. zero_left;
+-- where the table has nothing, no free cell ends
+lefts-none : (bytes : List ℕ) (layout : List Bin) (lists : FreeLists) (xs : List Cell) (c : Cell) (ys : List Cell) (u : ℕ) → AreBins bytes 0 layout →
+    IsListed bytes (free_size (cells_in layout)) lists → cells_in layout ≡ xs ++ c ∷ ys → 8 * u + 8 ≡ c.offset → get_or lists.ends.items u 0 ≡ 0 → Lefts layout c ys c.offset 0
+lefts-none bytes layout lists xs c ys u tiled w e place z = record {
+  at_start = λ _. refl;
   xs = xs;
   lefts = [];
   cells_are = e;
   row = row-of-one layout xs c ys (placed layout xs c ys e);
   lefts_are = refl;
-  before = subst (λ (k : ℕ). AllByRecursion (λ (x : Cell). x.allocated ≡ false → x.offset + x.size ≡ k → ⊥) xs) place
-      (ending-zero u xs (c ∷ ys) (all-part (λ (x : Cell). 32 ≤ x.offset) xs (c ∷ ys) (subst (AllByRecursion (λ (x : Cell). 32 ≤ x.offset)) e
-      (starts-from bytes layout tiled [] (cells_in layout) refl))) (ap (ending u) (sym e) ∙ z));
+  before = all-part (λ (x : Cell). x.allocated ≡ false → x.offset + x.size ≡ c.offset → ⊥) xs (c ∷ ys)
+      (all-free (λ (x : Cell). x.allocated ≡ false → x.offset + x.size ≡ c.offset → ⊥) (xs ++ c ∷ ys) [] (xs ++ c ∷ ys) refl none);
 }
+  where
+    ordered : AreOrdered 0 (cells_in layout)
+    ordered = AreOrdered-AreBins bytes 0 layout tiled
+
+    none : (us : List Cell) (d : Cell) (vs : List Cell) → xs ++ c ∷ ys ≡ us ++ d ∷ vs → d.allocated ≡ false → d.offset + d.size ≡ c.offset → ⊥
+    none us d vs f free end =
+        let st = stands bytes layout us d vs tiled (e ∙ f) in
+        let s : free_size (cells_in layout) d.offset ≡ d.size = ap (λ cs. free_size cs d.offset) (e ∙ f) ∙ size-at 0 us d vs (subst (AreOrdered 0) (e ∙ f) ordered) free in
+        let t = w.ends_there d.offset (omega (arith, s, st.cell.positive)) in
+        let q : (d.offset + free_size (cells_in layout) d.offset) / 8 - 1 ≡ u = omega (arith, s, end, place) in
+        let r : get_or lists.ends.items u 0 ≡ d.offset = ap (λ i. get_or lists.ends.items i 0) (sym q) ∙ t in
+        omega (arith, r, z, st.header)
 
 as_free : (d : Cell) (hi : ℕ) → d.allocated ≡ false → d.offset + d.size ≡ hi → d ≡ unused d.offset (hi - d.offset)
 as_free d hi f e = (let n : d.size ≡ hi - d.offset = omega arith in as_unused d f ∙ ap (λ (k : ℕ). unused d.offset k) n)
 
-lefts-some : (bytes : List ℕ) (layout : List Bin) (xs : List Cell) (c : Cell) (ys : List Cell) (u : ℕ) → AreBins bytes 0 layout →
-    AreApart (cells_in layout) → cells_in layout ≡ xs ++ c ∷ ys → 8 * u + 8 ≡ c.offset → 0 < ending u (cells_in layout) →
-    Lefts layout c ys (ending u (cells_in layout)) (ending u (cells_in layout))
-lefts-some bytes layout xs c ys u tiled apart e place some =
-    let r = ends_there u (cells_in layout) some in
-    let d = r.d in
-    let ordered : AreOrdered 0 (r.ds ++ d ∷ r.bs) = subst (AreOrdered 0) r.split (AreOrdered-AreBins bytes 0 layout tiled) in
-    let touch : d.offset + d.size ≡ c.offset = r.end ∙ place in
-    let n = neighbour 0 r.ds d r.bs xs c ys ordered (sym r.split ∙ e) touch in
-    let st = stands bytes layout r.ds d r.bs tiled r.split in
+lefts-some : (bytes : List ℕ) (layout : List Bin) (xs : List Cell) (c : Cell) (ys : List Cell) (left : ℕ) → AreBins bytes 0 layout →
+    AreApart (cells_in layout) → cells_in layout ≡ xs ++ c ∷ ys → 0 < free_size (cells_in layout) left → left + free_size (cells_in layout) left ≡ c.offset →
+    Lefts layout c ys left left
+lefts-some bytes layout xs c ys left tiled apart e some end =
+    let r = free_at (cells_in layout) left some in
+    let d = r.c in
+    let ordered : AreOrdered 0 (r.xs ++ d ∷ r.ys) = subst (AreOrdered 0) r.cells_are (AreOrdered-AreBins bytes 0 layout tiled) in
+    let touch : d.offset + d.size ≡ c.offset = omega (arith, r.offset_is, r.size_is, end) in
+    let n = neighbour 0 r.xs d r.ys xs c ys ordered (sym r.cells_are ∙ e) touch in
+    let st = stands bytes layout r.xs d r.ys tiled r.cells_are in
     let eight : 8 ≤ d.size = omega (arith, st.cell.positive, st.cell.eights) in
-    let before = besides-before 0 d.offset (d.offset + d.size) r.ds d r.bs refl ordered in
-    let after = besides-after 0 d.offset (d.offset + d.size) r.ds d r.bs (omega arith) ordered in
-    let none = ending-beside d.offset (d.offset + d.size) u r.ds before (omega (arith, r.end)) (omega (arith, r.end)) in
-    let none' = ending-beside d.offset (d.offset + d.size) u r.bs after (omega (arith, r.end)) (omega (arith, r.end)) in
-    let lo : ending u (cells_in layout) ≡ d.offset = ap (ending u) r.split ∙ omega (arith, ending-append u r.ds (d ∷ r.bs), ending-self u d r.bs r.free r.end, none, none') in
-    let cells : cells_in layout ≡ r.ds ++ d ∷ (c ∷ ys) = r.split ∙ ap (λ (t : List Cell). r.ds ++ d ∷ t) n.1 in
-    rw lo (record {
+    let cells : cells_in layout ≡ r.xs ++ d ∷ (c ∷ ys) = r.cells_are ∙ ap (λ (t : List Cell). r.xs ++ d ∷ t) n.1 in
+    rw (← r.offset_is) (record {
       at_start = λ same. absurd (omega (arith, touch, eight, same));
-      xs = r.ds;
+      xs = r.xs;
       lefts = d ∷ [];
       cells_are = cells;
-      row = row-of-two bytes layout r.ds d c ys tiled cells touch;
+      row = row-of-two bytes layout r.xs d c ys tiled cells touch;
       lefts_are = (as_free d c.offset r.free touch, omega arith);
-      before = apart-front r.ds d r.bs r.free (subst AreApart r.split apart);
+      before = apart-front r.xs d r.ys r.free (subst AreApart r.cells_are apart);
     })
 
-lefts-by : (bytes : List ℕ) (layout : List Bin) (xs : List Cell) (c : Cell) (ys : List Cell) (u left : ℕ) → AreBins bytes 0 layout →
-    AreApart (cells_in layout) → cells_in layout ≡ xs ++ c ∷ ys → 8 * u + 8 ≡ c.offset → left ≡ ending u (cells_in layout) → (b : Bool) →
-    eqb left 0 ≡ b → Lefts layout c ys (cond b c.offset left) left
-lefts-by bytes layout xs c ys u left tiled apart e place is true z = lefts-none bytes layout xs c ys u left tiled e place (sym is ∙ eqb-true left 0 z) (eqb-true left 0 z)
-lefts-by bytes layout xs c ys u left tiled apart e place is false z = rw is (lefts-some bytes layout xs c ys u tiled apart e place (positive (ending u (cells_in layout)) (rw is at z)))
+lefts-by : (bytes : List ℕ) (layout : List Bin) (lists : FreeLists) (xs : List Cell) (c : Cell) (ys : List Cell) (u left : ℕ) → AreBins bytes 0 layout →
+    AreApart (cells_in layout) → IsListed bytes (free_size (cells_in layout)) lists → cells_in layout ≡ xs ++ c ∷ ys → 8 * u + 8 ≡ c.offset →
+    left ≡ get_or lists.ends.items u 0 → (b : Bool) → eqb left 0 ≡ b → Lefts layout c ys (cond b c.offset left) left
+lefts-by bytes layout lists xs c ys u left tiled apart w e place is true z =
+    let zero_left = eqb-true left 0 z in
+    rw zero_left (lefts-none bytes layout lists xs c ys u tiled w e place (sym is ∙ zero_left))
+lefts-by bytes layout lists xs c ys u left tiled apart w e place is false z =
+    let some : 0 < left = positive left (eqb-false left 0 z) in
+    let t = w.ends_are u (omega arith) in
+    lefts-some bytes layout xs c ys left tiled apart e (rw (← is) at t.0) (rw (← is) at t.1 ∙ place)
   where
-    positive : (n : ℕ) → eqb n 0 ≡ false → 0 < n
-    positive zero h = absurd (cc h)
+    positive : (n : ℕ) → (n ≡ 0 → ⊥) → 0 < n
+    positive zero h = absurd (h refl)
     positive (suc n) h = omega arith
 
-pub lefts : (bytes : List ℕ) (layout : List Bin) (xs : List Cell) (c : Cell) (ys : List Cell) (u left : ℕ) → AreBins bytes 0 layout →
-    AreApart (cells_in layout) → cells_in layout ≡ xs ++ c ∷ ys → 8 * u + 8 ≡ c.offset → left ≡ ending u (cells_in layout) →
-    Lefts layout c ys (start_of left c.offset) left
-lefts bytes layout xs c ys u left tiled apart e place is = lefts-by bytes layout xs c ys u left tiled apart e place is (eqb left 0) refl
+pub lefts : (bytes : List ℕ) (layout : List Bin) (lists : FreeLists) (xs : List Cell) (c : Cell) (ys : List Cell) (u left : ℕ) → AreBins bytes 0 layout →
+    AreApart (cells_in layout) → IsListed bytes (free_size (cells_in layout)) lists → cells_in layout ≡ xs ++ c ∷ ys → 8 * u + 8 ≡ c.offset →
+    left ≡ get_or lists.ends.items u 0 → Lefts layout c ys (start_of left c.offset) left
+lefts bytes layout lists xs c ys u left tiled apart w e place is = lefts-by bytes layout lists xs c ys u left tiled apart w e place is (eqb left 0) refl
 
 -- ---- the right
 

@@ -1,181 +1,216 @@
 -- The whole of freeing a cell.
-use Rattle.std.proofs.Common.{◌≡◌, ℕ, zero, suc, ◌+◌, ◌-◌, ◌*◌, ◌/◌, ◌<◌, ◌≤◌, ◌%◌, Bool, true, false, cond, ◌⊎◌, inl, inr, List, [], ◌∷◌, ◌++◌, length, get_or, refl, sym, ap, ◌∙◌, subst}
-use Rattle.std.proofs.Common.{arith, append_assoc, eqb, None, is_some}
-use Rattle.std.proofs.lemmas.Bool.{eq-eqb, ne_eqb, cases_eq}
+use Rattle.std.proofs.Common.{◌≡◌, ℕ, ◌+◌, ◌-◌, ◌/◌, ◌<◌, ◌≤◌, true, false, cond, inl, inr, List, [], ◌∷◌, ◌++◌, length, get_or, refl, sym, ap, ◌∙◌, subst}
+use Rattle.std.proofs.Common.{arith, eqb, Some, None}
+use Rattle.std.proofs.lemmas.Bool.{eq-eqb, ne_eqb, lt-ltb}
 use Rattle.std.specs.List.{AllByRecursion}
-use Rattle.reg_heap.specs.ByteWords.{word}
+use lib.Dec.{ltb}
+use Rattle.reg_heap.specs.ByteWords.{word, SameOutside}
 use Rattle.reg_arena.specs.declared.Cell.{Cell}
-use Rattle.reg_arena.specs.Cells.{Bin, cells_in, cell_at, content_in, size_in}
-use Rattle.reg_heap.specs.Kinds.{times}
-use Rattle.reg_arena.specs.Free.{free_of, chain}
-use Rattle.reg_arena.specs.Arena.{one_class}
+use Rattle.reg_arena.specs.declared.free_lists.FreeLists.{FreeLists}
+use Rattle.reg_arena.specs.Cells.{Bin, cells_in, cell_at, content_in, cells_of}
+use Rattle.reg_arena.specs.Arena.{IsArena}
 use Rattle.reg_arena.specs.NewCells.{used, unused}
-use Rattle.reg_arena.specs.Internal.SideTables.{ending, IsIndexed}
-use Rattle.reg_arena.specs.Frees.{IsFreePiece, IsRight, start_of}
-use Rattle.reg_arena.proofs.Tiling.Tilings.{sizes, cells_of-AreBins, cell_at-AreBins}
-use Rattle.reg_arena.proofs.Tiling.CellPositions.{looked, stands}
-use Rattle.reg_arena.proofs.Tiling.ArenaInvariant.{AreBins-pages, AreBins-eights}
-use Rattle.reg_arena.proofs.Contents.CellWrites.{all-at}
-use Rattle.reg_arena.proofs.FreeList.Relinks.{free-content}
-use Rattle.reg_arena.proofs.FreeList.FreeListWalk.{Follows-chain}
-use Rattle.reg_arena.proofs.FreeList.FreeListChoice.{times-free}
-use Rattle.reg_arena.proofs.Carving.CarveFromCell.{one_list}
-use Rattle.reg_arena.proofs.TableUpkeep.TableChanges.{list-is, ending-alone}
-use Rattle.reg_arena.proofs.FreeList.Unlinks.{Threads}
-use Rattle.reg_arena.proofs.Freeing.FreeNeighbours.{Lefts, Rights, lefts, rights}
+use Rattle.reg_arena.specs.Carves.{or_else}
+use Rattle.reg_arena.specs.Frees.{IsFreePiece, Frees, IsRight, start_of}
+use Rattle.reg_arena.specs.Internal.ListedCells.{free_size, sized, added, IsPiece, IsFreeOf, IsListed, IsIndexed, Drops, Adds}
+use Rattle.reg_arena.proofs.Tiling.Tilings.{sizes, cells_of-AreBins}
+use Rattle.reg_arena.proofs.Contents.CellContents.{content_in-append, IsBeside}
+use Rattle.reg_arena.proofs.FreeList.ListedSpots.{sized-here, sized-other}
+use Rattle.reg_arena.proofs.FreeList.FreeSizes.{size-outside, beside-free, freed-sizes, AreAway, both-away, piece-away}
+use Rattle.reg_arena.proofs.FreeList.RelinkedCells.{Relinked, relinked, relinked-trans}
+use Rattle.reg_arena.proofs.Freeing.MergedCells.{PlacedRow, EndsFree, freeing}
+use Rattle.reg_arena.proofs.Freeing.FreedSite.{Site, Around, around, Merging, merging, left-size, right-size, piece-sizes, piece-content}
 
--- ---- where the cell stands
+only-of : (s : List ℕ) (ls rs : List Cell) (cell size lo hi offset : ℕ) → IsFreePiece lo cell ls → IsFreePiece (cell + size) hi rs →
+    (offset ≡ cell → ⊥) → content_in s (ls ++ used cell size ∷ rs) offset ≡ None
+only-of s ls rs cell size lo hi offset p q ne =
+    let e : eqb cell offset ≡ false = ne_eqb cell offset (λ x. ne (sym x)) in
+    let one : content_in s (used cell size ∷ rs) offset ≡ content_in s rs offset = rw e refl in
+    content_in-append s ls (used cell size ∷ rs) offset ∙ ap (λ o. or_else o (content_in s (used cell size ∷ rs) offset))
+    (piece-content s lo cell ls offset p) ∙ one ∙ piece-content s (cell + size) hi rs offset q
 
-pub record Site (old : List ℕ) (layout : List Bin) (cell size : ℕ) (ends : List ℕ) : Type 0 where
-  pub xs : List Cell
-  pub ys : List Cell
-  pub cells_are : cells_in layout ≡ xs ++ used cell size ∷ ys
-  pub eight : 8 ≤ size
-  pub size_eights : size % 8 ≡ 0
-  pub cell_eights : cell % 8 ≡ 0
-  pub header : 32 ≤ cell
-  pub within : cell + size ≤ length old
-  pub pages : length old % 4096 ≡ 0
-  pub unit_in : cell / 8 - 1 < length ends
+-- what is left of the bytes and the cells
+record FreedRow (old new : List ℕ) (lo n cell : ℕ) (xs ys : List Cell) : Type 0 where
+  arena : IsArena new
+  cells_are : cells_in arena.layout ≡ xs ++ unused lo n ∷ ys
+  long : length new ≡ length old
+  now : cells_of new ≡ Some (xs ++ unused lo n ∷ ys)
+  contents : (offset : ℕ) → cell_at new offset ≡ cond (eqb offset cell) None (cell_at old offset)
 
-as_used : (c : Cell) (cell size : ℕ) → c.allocated ≡ true → c.offset ≡ cell → c.size ≡ size → c ≡ used cell size
-as_used c cell size a e f = rw (← a, ← e, ← f) refl
+-- what is there before the last step
+record Before (old s new : List ℕ) (a : IsArena old) (xs mid ys : List Cell) (cell lo hi : ℕ) : Type 0 where
+  relinked_is : Relinked old s a.layout
+  cells_are : cells_in a.layout ≡ xs ++ (mid ++ ys)
+  row : PlacedRow a.layout xs mid ys
+  ends : EndsFree xs ys lo hi
+  in_lo : lo ≤ cell
+  in_hi : cell < hi
+  only : (offset : ℕ) → (offset ≡ cell → ⊥) → content_in s mid offset ≡ None
+  region : SameOutside lo hi s new
+  field : word new lo ≡ hi - lo
 
-pub site : (old : List ℕ) (head count : ℕ) (ends backs : List ℕ) (cell size : ℕ) → (i : IsIndexed old (head ∷ []) (count ∷ []) ends backs) →
-    is_some (cell_at old cell) ≡ true → size ≡ size_in (word old cell) → Site old i.arena.layout cell size ends
-site old head count ends backs cell size i h is =
-    let a = i.arena in
-    let at = cell_at-AreBins old a.layout cell a.tiled in
-    let l = looked old (cells_in a.layout) cell (ap is_some (sym at) ∙ h) in
-    let st = stands old a.layout l.xs l.c l.ys a.tiled l.cells_are in
-    let same : l.c.size ≡ size = sym st.cell.size ∙ ap (λ (k : ℕ). size_in (word old k)) l.offset_is ∙ sym is in
-    let all = AreBins-eights old 0 a.layout (omega arith) a.tiled in
-    let own : l.c.offset % 8 ≡ 0 = all-at (λ (d : Cell). d.offset % 8 ≡ 0) l.xs l.c l.ys (subst (AllByRecursion (λ (d : Cell). d.offset % 8 ≡ 0)) l.cells_are all) in
-    let place = l.offset_is in
-    record {
-      xs = l.xs;
-      ys = l.ys;
-      cells_are = l.cells_are ∙ ap (λ (d : Cell). l.xs ++ d ∷ l.ys) (as_used l.c cell size l.allocated place same);
-      eight = omega (arith, same, st.cell.positive, st.cell.eights);
-      size_eights = rw same at st.cell.eights;
-      cell_eights = rw place at own;
-      header = omega (arith, place, st.header);
-      within = omega (arith, place, same, st.cell.within);
-      pages = AreBins-pages old 0 a.layout (omega arith) a.tiled;
-      unit_in = omega (arith, place, same, st.cell.within, st.cell.positive, st.header, i.ends_long);
-    }
+freed-core : (old s new : List ℕ) (a : IsArena old) (xs : List Cell) (m : Cell) (ms ys : List Cell) (cell lo hi : ℕ) → Before old s new a xs (m ∷ ms) ys cell lo hi →
+    m.offset ≡ lo → m.offset + sizes (m ∷ ms) ≡ hi → FreedRow old new lo (hi - lo) cell xs ys
+freed-core old s new a xs m ms ys cell lo hi b start total =
+    let r = b.relinked_is in
+    let size : sizes (m ∷ ms) ≡ hi - lo = omega arith in
+    let ends : EndsFree xs ys m.offset (m.offset + sizes (m ∷ ms)) = subst (λ (k : ℕ). EndsFree xs ys k (m.offset + sizes (m ∷ ms))) (sym start)
+    (subst (λ (k : ℕ). EndsFree xs ys lo k) (sym total) b.ends) in
+    let region : SameOutside m.offset (m.offset + sizes (m ∷ ms)) s new = subst (λ (k : ℕ). SameOutside k (m.offset + sizes (m ∷ ms)) s new) (sym start)
+    (subst (λ (k : ℕ). SameOutside lo k s new) (sym total) b.region) in
+    let field : word new m.offset ≡ sizes (m ∷ ms) = ap (word new) start ∙ b.field ∙ sym size in
+    let f = freeing old s new a.layout xs m ms ys cell a.tiled r.tiled (r.blank a.blank) (omega (arith, r.long, a.small)) r.long r.contents a.apart
+    b.cells_are b.row ends (omega (arith, b.in_lo)) (omega (arith, b.in_hi, total)) b.only region field in
+    subst (λ k. FreedRow old new lo k cell xs ys) size (subst (λ k. FreedRow old new k (sizes (m ∷ ms)) cell xs ys) start
+    (record { arena = f.arena; cells_are = f.cells_are; long = f.long; now = f.now; contents = f.contents }))
 
--- ---- the cells beside it
+freed-row : (old s new : List ℕ) (a : IsArena old) (xs ls rs ys : List Cell) (cell size lo hi : ℕ) →
+    IsFreePiece lo cell ls → IsFreePiece (cell + size) hi rs → Before old s new a xs (ls ++ used cell size ∷ rs) ys cell lo hi → FreedRow old new lo (hi - lo) cell xs ys
+freed-row old s new a xs [] rs ys cell size lo hi p q b =
+    let r = piece-sizes (cell + size) hi rs q in
+    freed-core old s new a xs (used cell size) rs ys cell lo hi b (sym p) (omega arith)
+freed-row old s new a xs (d ∷ []) rs ys cell size lo hi p q b =
+    let r = piece-sizes (cell + size) hi rs q in
+    let place : d.offset ≡ lo = ap (λ (c : Cell). c.offset) p.0 in
+    let long : d.size ≡ cell - lo = ap (λ (c : Cell). c.size) p.0 in
+    let less = p.1 in
+    freed-core old s new a xs d (used cell size ∷ rs) ys cell lo hi b place (omega arith)
+freed-row old s new a xs (d ∷ (e ∷ ls)) rs ys cell size lo hi p q b = absurd p
 
-pub record Around (layout : List Bin) (cell size left right : ℕ) : Type 0 where
-  pub ys : List Cell
-  pub l : Lefts layout (used cell size) ys (start_of left cell) left
-  pub r : Rights layout l.xs l.lefts (used cell size) (cell + size + right)
+-- the free cells but those beside it
+abbrev gone : List Bin → ℕ → ℕ → ℕ → ℕ
+gone layout lo end = sized lo 0 (sized end 0 (free_size (cells_in layout)))
 
-pub around : (old : List ℕ) (head count : ℕ) (ends backs : List ℕ) (cell size left right : ℕ) →
-    (i : IsIndexed old (head ∷ []) (count ∷ []) ends backs) → Site old i.arena.layout cell size ends → left ≡ get_or ends (cell / 8 - 1) 0 →
-    IsRight old (cell + size) right → Around i.arena.layout cell size left right
-around old head count ends backs cell size left right i s e h =
-    let a = i.arena in
-    let apart = a.free.apart in
-    let lowest = s.header in
-    let unit : 8 * (cell / 8 - 1) + 8 ≡ cell = omega (arith, s.cell_eights) in
-    let left_is : left ≡ ending (cell / 8 - 1) (cells_in a.layout) = e ∙ i.ends_are (cells_in a.layout) (cells_of-AreBins old a.layout a.tiled) (cell / 8 - 1) in
-    let l = lefts old a.layout s.xs (used cell size) s.ys (cell / 8 - 1) left a.tiled apart s.cells_are unit left_is in
-    record { ys = s.ys; l = l; r = rights old a.layout (used cell size) s.ys (start_of left cell) left right l a.tiled apart a.small h }
+gone-other : (layout : List Bin) (lo end x : ℕ) → 0 < gone layout lo end x → (x ≡ lo → ⊥) × (x ≡ end → ⊥) × (gone layout lo end x ≡ free_size (cells_in layout) x)
+gone-other layout lo end x h =
+    let o : x ≡ lo → ⊥ = λ e. (let z = sized-here lo 0 (sized end 0 (free_size (cells_in layout))) x e in omega arith) in
+    let q = sized-other lo 0 (sized end 0 (free_size (cells_in layout))) x o in
+    let p : x ≡ end → ⊥ = λ e. (let z = sized-here end 0 (free_size (cells_in layout)) x e in omega arith) in
+    (o, p, q ∙ sized-other end 0 (free_size (cells_in layout)) x p)
 
--- ---- a piece that is at most one free cell
+both-beside : (lo hi : ℕ) (xs ys : List Cell) → AllByRecursion (IsBeside lo hi) xs → AllByRecursion (IsBeside lo hi) ys → AllByRecursion (IsBeside lo hi) (xs ++ ys)
+both-beside lo hi [] ys a b = b
+both-beside lo hi (x ∷ xs) ys a b = (a.0, both-beside lo hi xs ys a.1 b)
 
-abbrev pub piece_offsets : ℕ → ℕ → List ℕ
-piece_offsets lo hi = cond (eqb lo hi) [] (lo ∷ [])
-
-pub piece-times : (lo hi : ℕ) (ps : List Cell) → IsFreePiece lo hi ps → free_of one_class 0 ps ≡ piece_offsets lo hi
-piece-times lo hi [] h = (let e : eqb lo hi ≡ true = eq-eqb lo hi h in rw e refl)
-piece-times lo hi (p ∷ []) h = (let e : eqb lo hi ≡ false = ne_eqb lo hi (λ x. (let l = h.1 in omega arith)) in rw (e, h.0) refl)
-piece-times lo hi (p ∷ (q ∷ ps)) h = absurd h
-
-pub piece-content : (bytes : List ℕ) (lo hi : ℕ) (ps : List Cell) (offset : ℕ) → IsFreePiece lo hi ps → content_in bytes ps offset ≡ None
-piece-content bytes lo hi [] offset h = refl
-piece-content bytes lo hi (p ∷ []) offset h = rw h.0 (free-content bytes 0 (unused lo (hi - lo)) [] offset refl)
-piece-content bytes lo hi (p ∷ (q ∷ ps)) offset h = absurd h
-
-pub piece-sizes : (lo hi : ℕ) (ps : List Cell) → IsFreePiece lo hi ps → lo + sizes ps ≡ hi
-piece-sizes lo hi [] h = omega arith
-piece-sizes lo hi (p ∷ []) h = (let l = h.1 in let e : p.size ≡ hi - lo = ap (λ (c : Cell). c.size) h.0 in omega (arith, e))
-piece-sizes lo hi (p ∷ (q ∷ ps)) h = absurd h
-
-pub piece-ending : (u lo hi : ℕ) (ps : List Cell) → IsFreePiece lo hi ps → (8 * u + 8 ≡ hi → ⊥) → ending u ps ≡ 0
-piece-ending u lo hi [] h ne = refl
-piece-ending u lo hi (p ∷ []) h ne = (let l = h.1 in let e : lo + (hi - lo) ≡ hi = omega arith in rw h.0 (ending-alone u lo (hi - lo) (λ x. ne (x ∙ e))))
-piece-ending u lo hi (p ∷ (q ∷ ps)) h ne = absurd h
-
--- ---- the steps
-
-pub threads : (old : List ℕ) (head count : ℕ) (ends backs : List ℕ) → (i : IsIndexed old (head ∷ []) (count ∷ []) ends backs) → Threads old head count backs i.arena.layout [] (chain count old head)
-threads old head count ends backs i =
-    let a = i.arena in
-    let one = one_list old head count a in
-    let l = list-is old head count a (chain count old head) refl in
-    let same : chain count old head ≡ one.offsets = subst (λ (k : ℕ). chain k old head ≡ one.offsets) one.counted (Follows-chain old one.offsets head one.free.follows) in
-    record { tiled = a.tiled; blank = a.blank; follows = l.follows; counted = ap length same ∙ one.counted; before = i.backs_are.0; exact = λ o. omega (arith, l.exact o) }
-
--- the free cell of a piece is one of the free cells
-piece-in : (cells xs : List Cell) (lo hi : ℕ) (ps ys : List Cell) → IsFreePiece lo hi ps → lo < hi → cells ≡ xs ++ (ps ++ ys) → 0 < times lo (free_of one_class 0 cells)
-piece-in cells xs lo hi [] ys h l e = absurd (omega (arith, h))
-piece-in cells xs lo hi (p ∷ []) ys h l e = rw (e, h.0) (times-free xs (unused lo (hi - lo)) ys refl)
-piece-in cells xs lo hi (p ∷ (q ∷ ps)) ys h l e = absurd h
-
-regroup : (xs ls : List Cell) (c : Cell) (rs ys : List Cell) → xs ++ ((ls ++ c ∷ rs) ++ ys) ≡ (xs ++ (ls ++ c ∷ [])) ++ (rs ++ ys)
-regroup xs ls c rs ys = simp append_assoc
-
-regroup2 : (xs ls : List Cell) (c : Cell) (rs ys : List Cell) → xs ++ ((ls ++ c ∷ rs) ++ ys) ≡ xs ++ (ls ++ (c ∷ (rs ++ ys)))
-regroup2 xs ls c rs ys = simp append_assoc
-
-pub right-in : (layout : List Bin) (cell size left right : ℕ) (w : Around layout cell size left right) → 0 < right → 0 < times (cell + size) (free_of one_class 0 (cells_in layout))
-right-in layout cell size left right w h = piece-in (cells_in layout) (w.l.xs ++ (w.l.lefts ++ used cell size ∷ [])) (cell + size)
-    (cell + size + right) w.r.rights w.r.ys w.r.rights_are (omega arith) (w.r.cells_are ∙ regroup w.l.xs w.l.lefts (used cell size) w.r.rights w.r.ys)
-
--- the piece on the left
-pub record LeftFacts (cell left : ℕ) (lefts : List Cell) : Type 0 where
-  pub piece : IsFreePiece left cell lefts
-  pub less : left < cell
-
-less-than : (x y n : ℕ) → (x ≡ y → ⊥) → x + n ≡ y → x < y
-less-than x y zero ne e = absurd (ne (omega arith))
-less-than x y (suc n) ne e = omega arith
-
-left-facts : (layout : List Bin) (cell size left right : ℕ) (w : Around layout cell size left right) → 0 < left → LeftFacts cell left w.l.lefts
-left-facts layout cell size left right w h =
-    let other : eqb left 0 ≡ false = ne_eqb left 0 (λ e. omega arith) in
-    let is : start_of left cell ≡ left = rw other refl in
-    let piece : IsFreePiece left cell w.l.lefts = subst (λ (k : ℕ). IsFreePiece k cell w.l.lefts) is w.l.lefts_are in
-    let long = piece-sizes left cell w.l.lefts piece in
-    record { piece = piece; less = by (cases_eq left cell) long is }
+-- what the code's last step asks for
+pub merged-place : (old : List ℕ) (lists : FreeLists) (cell size left right : ℕ) (i : IsIndexed old lists) (s : Site old i.arena.layout cell size lists.ends.items) →
+    left ≡ get_or lists.ends.items (cell / 8 - 1) 0 → IsRight old (cell + size) right →
+    (start_of left cell < cell + size + right) × (cell + size + right ≤ length old) × (length old ≤ 268435456) ×
+    IsPiece old (start_of left cell) (cell + size + right - start_of left cell) ×
+    IsFreeOf (gone i.arena.layout (start_of left cell) (cell + size)) (start_of left cell) (cell + size + right - start_of left cell)
+merged-place old lists cell size left right i s e h =
+    let w = around old lists cell size left right i s e h in
+    let l = left-size old lists cell size left i s e in
+    let m = merging old i.arena.layout cell size (start_of left cell) (cell + size + right) w.l.xs w.l.lefts w.r.rights w.r.ys i.arena.tiled w.l.lefts_are w.r.rights_are w.r.cells_are w.r.row
+    s.cell_eights s.size_eights s.within in (
+      omega (arith, l.0, s.eight),
+      m.within,
+      i.arena.small,
+      record { eights = l.2; some = omega (arith, l.3); size_eights = omega (arith, m.hi_eights, l.2, l.0, s.eight); within = omega (arith, m.within, l.0, s.eight) },
+      (λ x g. free w m (omega (arith, l.0, s.eight)) x g),
+    )
   where
-    by : (left ≡ cell) ⊎ (left ≡ cell → ⊥) → left + sizes w.l.lefts ≡ cell → start_of left cell ≡ left → left < cell
-    by (inl e) long is = (let z = w.l.at_start (is ∙ e) in absurd (omega arith))
-    by (inr ne) long is = less-than left cell (sizes w.l.lefts) ne long
+    free : (w : Around i.arena.layout cell size left right) → Merging old i.arena.layout cell size (start_of left cell) (cell + size + right) w.l.xs w.l.lefts w.r.rights w.r.ys →
+        start_of left cell ≤ cell + size + right → IsFreeOf (gone i.arena.layout (start_of left cell) (cell + size)) (start_of left cell) (cell + size + right - start_of left cell)
+    free w m le x g =
+        let o = gone-other i.arena.layout (start_of left cell) (cell + size) x g in
+        let own : x ≡ cell → ⊥ = λ q. elim (s.free x (omega (arith, o.2))) [ inl k ↦ omega (arith, o.2) | inr k ↦ omega (arith, s.eight) ] in
+        let away : AreAway x (w.l.lefts ++ used cell size ∷ w.r.rights) = both-away x w.l.lefts (used cell size ∷ w.r.rights) (piece-away (start_of left cell) cell x w.l.lefts w.l.lefts_are o.0)
+        ((λ q. own (sym q)), piece-away (cell + size) (cell + size + right) x w.r.rights w.r.rights_are o.1) in
+        let q : gone i.arena.layout (start_of left cell) (cell + size) x ≡ free_size (w.l.xs ++ w.r.ys) x = o.2 ∙ ap (λ cs. free_size cs x) w.r.cells_are ∙
+        size-outside x w.l.xs (w.l.lefts ++ used cell size ∷ w.r.rights) w.r.ys away in
+        let b = beside-free (start_of left cell) (cell + size + right) (w.l.xs ++ w.r.ys) (both-beside (start_of left cell) (cell + size + right) w.l.xs w.r.ys m.before m.after) x (omega arith) in
+        elim b [ inl k ↦ inl (omega arith) | inr k ↦ inr (omega arith) ]
 
-pub left-in : (layout : List Bin) (cell size left right : ℕ) (w : Around layout cell size left right) → 0 < left → 0 < times left (free_of one_class 0 (cells_in layout))
-left-in layout cell size left right w h =
-    let f = left-facts layout cell size left right w h in
-    piece-in (cells_in layout) w.l.xs left cell w.l.lefts (used cell size ∷ (w.r.rights ++ w.r.ys)) f.piece f.less (w.r.cells_are ∙ regroup2 w.l.xs w.l.lefts (used cell size) w.r.rights w.r.ys)
-
--- what is out of the list after the first step
-abbrev pub right_out : ℕ → ℕ → List ℕ
-right_out right end = cond (eqb right 0) [] (end ∷ [])
-
-times-other : (x right end : ℕ) → x < end → times x (right_out right end) ≡ 0
-times-other x right end l = by (eqb right 0)
+pub free-whole : (old s1 s2 s3 : List ℕ) (lists l1 l2 l3 : FreeLists) (cell size left right : ℕ) (i : IsIndexed old lists) (s : Site old i.arena.layout cell size lists.ends.items) →
+    left ≡ get_or lists.ends.items (cell / 8 - 1) 0 → IsRight old (cell + size) right → Drops (free_size (cells_in i.arena.layout)) (cell + size) old s1 l1 →
+    Drops (sized (cell + size) 0 (free_size (cells_in i.arena.layout))) (start_of left cell) s1 s2 l2 →
+    Adds (gone i.arena.layout (start_of left cell) (cell + size)) (start_of left cell) (cell + size + right - start_of left cell) s2 s3 l3 →
+    IsIndexed s3 l3 × Frees old s3 cell × ((offset : ℕ) → cell_at s3 offset ≡ cond (eqb offset cell) None (cell_at old offset))
+free-whole old s1 s2 s3 lists l1 l2 l3 cell size left right i s e h d1 d2 ad =
+    let a = i.arena in
+    let layout = a.layout in
+    let lo : ℕ = start_of left cell in
+    let hi : ℕ = cell + size + right in
+    let w = around old lists cell size left right i s e h in
+    let l = left-size old lists cell size left i s e in
+    let xs = w.l.xs in
+    let ls = w.l.lefts in
+    let rs = w.r.rights in
+    let ys = w.r.ys in
+    let m = merging old layout cell size lo hi xs ls rs ys a.tiled w.l.lefts_are w.r.rights_are w.r.cells_are w.r.row s.cell_eights s.size_eights s.within in
+    let sub1 : (p : ℕ) → 0 < sized (cell + size) 0 (free_size (cells_in layout)) p → 0 < free_size (cells_in layout) p = λ p g. sub-one layout (cell + size) p g in
+    let sub2 : (p : ℕ) → 0 < gone layout lo (cell + size) p → 0 < free_size (cells_in layout) p = λ p g. (let z = gone-other layout lo (cell + size) p g in omega (arith, z.2)) in
+    let r1 = relinked old s1 layout (free_size (cells_in layout)) a.tiled (λ p g. g) d1.relinks in
+    let r2 = relinked s1 s2 layout (sized (cell + size) 0 (free_size (cells_in layout))) r1.tiled sub1 d2.relinks in
+    let r3 = relinked s2 ad.mid layout (gone layout lo (cell + size)) r2.tiled sub2 ad.relinks in
+    let r = relinked-trans old s2 ad.mid layout (relinked-trans old s1 s2 layout r1 r2) r3 in
+    let less : lo < hi = omega (arith, l.0, s.eight) in
+    let top : lo + (hi - lo) ≡ hi = omega arith in
+    let here : added lo (hi - lo) (gone layout lo (cell + size)) lo ≡ hi - lo = added-here lo (hi - lo) (gone layout lo (cell + size)) (omega arith) in
+    let field : word s3 lo ≡ hi - lo = ad.listed.fields lo (omega arith) ∙ here in
+    let before : Before old ad.mid s3 a xs (ls ++ used cell size ∷ rs) ys cell lo hi = record {
+      relinked_is = r;
+      cells_are = w.r.cells_are;
+      row = w.r.row;
+      ends = record { before = w.l.before; after = w.r.after };
+      in_lo = l.0;
+      in_hi = omega (arith, s.eight);
+      only = λ offset ne. only-of ad.mid ls rs cell size lo hi offset w.l.lefts_are w.r.rights_are ne;
+      region = subst (λ k. SameOutside lo k ad.mid s3) top ad.region;
+      field = field;
+    } in
+    let f = freed-row old ad.mid s3 a xs ls rs ys cell size lo hi w.l.lefts_are w.r.rights_are before in
+    let right_is : free_size (xs ++ ((ls ++ used cell size ∷ rs) ++ ys)) (cell + size) ≡ hi - (cell + size) =
+    ap (λ cs. free_size cs (cell + size)) (sym w.r.cells_are) ∙ right-size old lists cell size left right i w h ∙ omega arith in
+    let sizes_at : (x : ℕ) → added lo (hi - lo) (gone layout lo (cell + size)) x ≡ free_size (cells_in f.arena.layout) x = λ x.
+    ap (λ cs. added lo (hi - lo) (sized lo 0 (sized (cell + size) 0 (free_size cs))) x) w.r.cells_are ∙
+    freed-sizes xs ls cell size rs ys lo hi w.l.lefts_are w.r.rights_are less l.0 m.in_hi (omega (arith, s.eight)) m.before m.after right_is x ∙
+    ap (λ cs. free_size cs x) (sym f.cells_are) in (
+      record { arena = f.arena; listed = subst (λ g. IsListed s3 g l3) (λ j x. sizes_at x j) ad.listed },
+      record {
+        before = xs;
+        left = ls;
+        size = size;
+        right = rs;
+        after = ys;
+        lo = lo;
+        hi = hi;
+        left_is = w.l.lefts_are;
+        right_is = w.r.rights_are;
+        was = cells_of-AreBins old layout a.tiled ∙ ap Some w.r.cells_are;
+        now = f.now;
+        long = f.long;
+      },
+      f.contents,
+    )
   where
-    by : (b : Bool) → times x (cond b [] (end ∷ [])) ≡ 0
-    by true = refl
-    by false = (let e : eqb end x ≡ false = ne_eqb end x (λ z. omega arith) in rw e refl)
+    added-here : (r n : ℕ) (S : ℕ → ℕ) → 0 < n → added r n S r ≡ n
+    added-here r n S g = (let q : eqb r r ≡ true = eq-eqb r r refl in let k : ltb 0 n ≡ true = lt-ltb 0 n g in rw (q, k) refl)
 
-pub left-still : (bytes : List ℕ) (layout : List Bin) (head count : ℕ) (backs offsets : List ℕ) (cell size left right : ℕ)
-    (w : Around layout cell size left right) → Threads bytes head count backs layout (right_out right (cell + size)) offsets → 0 < left →
-    0 < times left offsets
-left-still bytes layout head count backs offsets cell size left right w t h =
-    let f = left-facts layout cell size left right w h in
-    let none = times-other left right (cell + size) (let l = f.less in omega arith) in
-    omega (arith, left-in layout cell size left right w h, t.exact left, none)
+    sub-one : (layout : List Bin) (end p : ℕ) → 0 < sized end 0 (free_size (cells_in layout)) p → 0 < free_size (cells_in layout) p
+    sub-one layout end p g =
+        let o : p ≡ end → ⊥ = λ q. (let z = sized-here end 0 (free_size (cells_in layout)) p q in omega arith) in
+        let q = sized-other end 0 (free_size (cells_in layout)) p o in omega arith
+
+-- what the code's second and third steps ask for
+pub left-there : (old : List ℕ) (lists : FreeLists) (cell size left : ℕ) (i : IsIndexed old lists) → Site old i.arena.layout cell size lists.ends.items →
+    left ≡ get_or lists.ends.items (cell / 8 - 1) 0 → sized (cell + size) 0 (free_size (cells_in i.arena.layout)) (start_of left cell) ≡ cell - start_of left cell
+left-there old lists cell size left i s e =
+    let l = left-size old lists cell size left i s e in
+    sized-other (cell + size) 0 (free_size (cells_in i.arena.layout)) (start_of left cell) (λ q. omega (arith, l.0, s.eight)) ∙ l.1
+
+pub merged-piece : (old s1 s2 : List ℕ) (lists l1 l2 : FreeLists) (cell size left right : ℕ) (i : IsIndexed old lists) (s : Site old i.arena.layout cell size lists.ends.items) →
+    left ≡ get_or lists.ends.items (cell / 8 - 1) 0 → IsRight old (cell + size) right → Drops (free_size (cells_in i.arena.layout)) (cell + size) old s1 l1 →
+    Drops (sized (cell + size) 0 (free_size (cells_in i.arena.layout))) (start_of left cell) s1 s2 l2 → IsPiece s2 (start_of left cell) (cell + size + right - start_of left cell)
+merged-piece old s1 s2 lists l1 l2 cell size left right i s e h d1 d2 =
+    let layout = i.arena.layout in
+    let r1 = relinked old s1 layout (free_size (cells_in layout)) i.arena.tiled (λ p g. g) d1.relinks in
+    let r2 = relinked s1 s2 layout (sized (cell + size) 0 (free_size (cells_in layout))) r1.tiled (λ p g. sub-of (cell + size) p g) d2.relinks in
+    let m = (merged-place old lists cell size left right i s e h).3 in
+    record { eights = m.eights; some = m.some; size_eights = m.size_eights; within = omega (arith, m.within, r1.long, r2.long) }
+  where
+    sub-of : (end p : ℕ) → 0 < sized end 0 (free_size (cells_in i.arena.layout)) p → 0 < free_size (cells_in i.arena.layout) p
+    sub-of end p g =
+        let o : p ≡ end → ⊥ = λ q. (let z = sized-here end 0 (free_size (cells_in i.arena.layout)) p q in omega arith) in
+        let q = sized-other end 0 (free_size (cells_in i.arena.layout)) p o in omega arith

@@ -1,28 +1,22 @@
 -- Cells side by side become one free cell.
-use Rattle.std.proofs.Common.{◌≡◌, ℕ, suc, ◌+◌, ◌<◌, ◌≤◌, ◌%◌, true, false, cond, ◌⊎◌, inl, inr, List, [], ◌∷◌, ◌++◌, length, refl, sym, ap, ◌∙◌, subst, arith, append_assoc, eqb, Option, Some, None}
+use Rattle.std.proofs.Common.{◌≡◌, ℕ, ◌+◌, ◌<◌, ◌≤◌, ◌%◌, true, false, cond, ◌⊎◌, inl, inr, List, [], ◌∷◌, ◌++◌, length, refl, sym, ap, ◌∙◌, subst, arith, append_assoc, eqb, Option, Some, None}
 use Rattle.std.proofs.lemmas.Bool.{cases_eq, eq-eqb, ne_eqb}
 use Rattle.std.specs.List.{AllByRecursion}
-use Rattle.reg_heap.specs.ByteWords.{SameOutside}
-use Rattle.reg_arena.specs.Cells.{Bin, Tiles, AreBins, cells_in, content_in, cells_of, cell_at}
-use Rattle.reg_heap.specs.Kinds.{times}
-use Rattle.reg_arena.specs.Free.{Follows, free_of, Touch, AreApart, freed, chain}
-use Rattle.reg_arena.specs.Arena.{IsArena, AreBlank, one_class}
+use Rattle.reg_heap.specs.ByteWords.{word, SameOutside}
+use Rattle.reg_arena.specs.Cells.{Bin, IsCell, Tiles, AreBins, cells_in, content_in, cells_of, cell_at}
+use Rattle.reg_arena.specs.Free.{Touch, AreApart}
+use Rattle.reg_arena.specs.Arena.{IsArena, AreBlank}
 use Rattle.reg_arena.specs.declared.Cell.{Cell}
 use Rattle.reg_arena.specs.NewCells.{unused}
 use Rattle.reg_arena.specs.Carves.{or_else}
 use Rattle.reg_arena.proofs.Tiling.Tilings.{sizes, with_cells, AreBins-edit, cells_of-AreBins, cell_at-AreBins, Tiles-back, Tiles-front, Tiles-le, IsCell-eight}
 use Rattle.reg_arena.proofs.Tiling.CellPositions.{AreBins-at}
 use Rattle.reg_arena.proofs.Tiling.BlankHeaders.{blank-edit}
-use Rattle.reg_arena.proofs.Contents.CellContents.{content_in-append, content_in-beside, AreOrdered, AreOrdered-AreBins, AreOrdered-back, besides-before, beside-after}
-use Rattle.reg_arena.proofs.FreeList.FreeLinks.{IsClear, Follows-same, free_of-all}
-use Rattle.reg_arena.proofs.Contents.CellWrites.{clear-cells, content_in-none}
-use Rattle.reg_arena.proofs.FreeList.FreeListTake.{others-all, times-append, free_of-append}
-use Rattle.reg_arena.proofs.FreeList.Relinks.{free-content}
-use Rattle.reg_arena.proofs.FreeList.FreeListWalk.{Follows-chain}
-use Rattle.reg_arena.proofs.FreeList.FreeCellCount.{few-free}
-use Rattle.reg_arena.proofs.Carving.BinAppend.{ends-from}
-use Rattle.reg_arena.proofs.Carving.CarveFromCell.{IsArena-one, cells_in-middle}
-use Rattle.reg_arena.proofs.Carving.CarveWhole.{freed-region, freed-is, freed-next}
+use Rattle.reg_arena.proofs.Contents.CellContents.{IsBeside, content_in-append, content_in-beside, AreOrdered, AreOrdered-AreBins, AreOrdered-back, besides-before, beside-after}
+use Rattle.reg_arena.proofs.Contents.CellWrites.{content_in-none}
+use Rattle.reg_arena.proofs.FreeList.RelinkedCells.{free-content}
+use Rattle.reg_arena.proofs.Carving.CarveFromCell.{cells_in-middle}
+use Rattle.reg_arena.proofs.Carving.CarveWhole.{free-size, free-flag}
 
 -- some cells in a row stand in one bin
 pub record PlacedRow (layout : List Bin) (xs mid ys : List Cell) : Type 0 where
@@ -80,10 +74,32 @@ sizes-eights : (bytes : List ℕ) (at stop : ℕ) (cs : List Cell) → Tiles byt
 sizes-eights bytes at stop [] t = omega arith
 sizes-eights bytes at stop (c ∷ cs) t = (let r = sizes-eights bytes (at + c.size) stop cs t.2 in omega (arith, r, t.1.eights))
 
+-- the cells beside a row
+pub row-beside : (bytes : List ℕ) (layout : List Bin) (xs : List Cell) (m : Cell) (ms ys : List Cell) → AreBins bytes 0 layout → cells_in layout ≡ xs ++ ((m ∷ ms) ++ ys) →
+    PlacedRow layout xs (m ∷ ms) ys →
+    AllByRecursion (IsBeside m.offset (m.offset + sizes (m ∷ ms))) xs × AllByRecursion (IsBeside m.offset (m.offset + sizes (m ∷ ms))) ys × (m.offset + sizes (m ∷ ms) ≤ length bytes)
+row-beside bytes layout xs m ms ys tiled cells_are p =
+    let mid : List Cell = m ∷ ms in
+    let lo : ℕ = m.offset in
+    let hi : ℕ = lo + sizes mid in
+    let here = AreBins-at bytes 0 p.ps p.b p.qs (subst (AreBins bytes 0) p.bins tiled) in
+    let in_bin : Tiles bytes (p.b.start + 32) (p.b.start + p.b.size) (p.us ++ (mid ++ p.vs)) = subst (Tiles bytes (p.b.start + 32) (p.b.start + p.b.size)) p.cells here.1 in
+    let from = Tiles-back bytes (p.b.start + 32) (p.b.start + p.b.size) p.us (mid ++ p.vs) in_bin in
+    let start : p.b.start + 32 + sizes p.us ≡ lo = sym from.0 in
+    let row : Tiles bytes lo hi mid = subst (λ (k : ℕ). Tiles bytes k (k + sizes mid) mid) start (Tiles-front bytes (p.b.start + 32 + sizes p.us) (p.b.start + p.b.size) mid p.vs from) in
+    let rest = Tiles-back bytes (p.b.start + 32 + sizes p.us) (p.b.start + p.b.size) mid p.vs from in
+    let end = Tiles-le bytes _ (p.b.start + p.b.size) p.vs rest in
+    let ordered : AreOrdered 0 (xs ++ (mid ++ ys)) = subst (AreOrdered 0) cells_are (AreOrdered-AreBins bytes 0 layout tiled) in
+    let ordered_mid : AreOrdered 0 (mid ++ ys) = AreOrdered-back 0 xs (mid ++ ys) ordered in (
+      besides-before 0 lo hi xs m (ms ++ ys) refl ordered,
+      beside-after lo hi hi ys (omega arith) (AreOrdered-past bytes lo hi lo mid ys row refl (omega arith, ordered_mid.1, ordered_mid.2)),
+      omega (arith, here.0.within),
+    )
+
 -- what freeing leaves
-pub record Freeing (old new : List ℕ) (lo count' cell : ℕ) (offsets : List ℕ) (xs mid ys : List Cell) : Type 0 where
-  pub arena : IsArena new (lo ∷ []) (count' ∷ [])
-  pub chained : chain count' new lo ≡ lo ∷ offsets
+pub record Freeing (old new : List ℕ) (lo cell : ℕ) (xs mid ys : List Cell) : Type 0 where
+  pub arena : IsArena new
+  pub cells_are : cells_in arena.layout ≡ xs ++ unused lo (sizes mid) ∷ ys
   pub long : length new ≡ length old
   pub now : cells_of new ≡ Some (xs ++ unused lo (sizes mid) ∷ ys)
   pub contents : (offset : ℕ) → cell_at new offset ≡ cond (eqb offset cell) None (cell_at old offset)
@@ -93,19 +109,17 @@ contents-free : (x m y : Option (List ℕ)) (offset cell : ℕ) → ((offset ≡
 contents-free x m y offset cell f g (inl e) = let s : eqb offset cell ≡ true = eq-eqb _ _ e in let n = g e in rw (s, n.0, n.1) refl
 contents-free x m y offset cell f g (inr e) = let s : eqb offset cell ≡ false = ne_eqb _ _ e in let n = f e in rw (s, n) refl
 
-pub freeing : (old s1 : List ℕ) (layout : List Bin) (head : ℕ) (offsets : List ℕ) (xs : List Cell) (m : Cell) (ms ys : List Cell) (cell count' : ℕ) →
+pub freeing : (old s1 new : List ℕ) (layout : List Bin) (xs : List Cell) (m : Cell) (ms ys : List Cell) (cell : ℕ) →
     AreBins old 0 layout → AreBins s1 0 layout → AreBlank s1 layout → length s1 ≤ 268435456 → length s1 ≡ length old →
     ((offset : ℕ) → content_in s1 (cells_in layout) offset ≡ content_in old (cells_in layout) offset) → AreApart (cells_in layout) →
-    Follows s1 head offsets → head < 4294967296 → ((o : ℕ) → times o offsets ≡ times o (free_of one_class 0 xs) + times o (free_of one_class 0 ys)) →
     cells_in layout ≡ xs ++ ((m ∷ ms) ++ ys) → PlacedRow layout xs (m ∷ ms) ys → EndsFree xs ys m.offset (m.offset + sizes (m ∷ ms)) →
     m.offset ≤ cell → cell < m.offset + sizes (m ∷ ms) → ((offset : ℕ) → (offset ≡ cell → ⊥) → content_in s1 (m ∷ ms) offset ≡ None) →
-    count' ≡ suc (length offsets) → Freeing old (freed m.offset (sizes (m ∷ ms)) head s1) m.offset count' cell offsets xs (m ∷ ms) ys
-freeing old s1 layout head offsets xs m ms ys cell count' tiled0 tiled blank small long same apart follows short exact cells_are p ends in_lo in_hi only counted =
+    SameOutside m.offset (m.offset + sizes (m ∷ ms)) s1 new → word new m.offset ≡ sizes (m ∷ ms) → Freeing old new m.offset cell xs (m ∷ ms) ys
+freeing old s1 new layout xs m ms ys cell tiled0 tiled blank small long same apart cells_are p ends in_lo in_hi only s field =
     let mid : List Cell = m ∷ ms in
     let size : ℕ = sizes mid in
     let lo : ℕ = m.offset in
     let hi : ℕ = lo + size in
-    let new : List ℕ = freed lo size head s1 in
     let here = AreBins-at s1 0 p.ps p.b p.qs (subst (AreBins s1 0) p.bins tiled) in
     let in_bin : Tiles s1 (p.b.start + 32) (p.b.start + p.b.size) (p.us ++ (mid ++ p.vs)) = subst (Tiles s1 (p.b.start + 32) (p.b.start + p.b.size)) p.cells here.1 in
     let from = Tiles-back s1 (p.b.start + 32) (p.b.start + p.b.size) p.us (mid ++ p.vs) in_bin in
@@ -116,9 +130,15 @@ freeing old s1 layout head offsets xs m ms ys cell count' tiled0 tiled blank sma
     let end = Tiles-le s1 _ (p.b.start + p.b.size) p.vs rest in
     let within : hi ≤ length s1 = omega (arith, here.0.within) in
     let eight : 8 ≤ size = omega (arith, IsCell-eight from.1) in
-    let s : SameOutside lo hi s1 new = freed-region lo size head hi s1 (omega arith) within in
     let free : Cell = unused lo size in
-    let one : Tiles new lo hi (free ∷ []) = (refl, freed-is lo size head s1 (omega arith) eights within small, refl) in
+    let is_cell : IsCell new hi free = record {
+      size = rw field (free-size size (omega arith));
+      allocated = rw field (free-flag size (omega arith));
+      positive = omega arith;
+      eights = eights;
+      within = omega arith;
+    } in
+    let one : Tiles new lo hi (free ∷ []) = (refl, is_cell, refl) in
     let was : AreBins s1 0 (p.ps ++ p.b ∷ p.qs) = subst (AreBins s1 0) p.bins tiled in
     let layout' : List Bin = p.ps ++ with_cells p.b (p.us ++ ((free ∷ []) ++ p.vs)) ∷ p.qs in
     let tiled' : AreBins new 0 layout' = AreBins-edit s 0 p.ps p.b p.qs p.us mid (free ∷ []) p.vs p.cells start refl was one in
@@ -129,31 +149,15 @@ freeing old s1 layout head offsets xs m ms ys cell count' tiled0 tiled blank sma
     let before = besides-before 0 lo hi xs m (ms ++ ys) refl ordered in
     let ordered_mid : AreOrdered 0 (mid ++ ys) = AreOrdered-back 0 xs (mid ++ ys) ordered in
     let after = beside-after lo hi hi ys (omega arith) (AreOrdered-past s1 lo hi lo mid ys row refl (omega arith, ordered_mid.1, ordered_mid.2)) in
-    let exact0 : (o : ℕ) → times o offsets + times o [] ≡ times o (free_of one_class 0 xs) + times o (free_of one_class 0 ys) = λ o. omega (arith, exact o) in
-    let clear = others-all (IsClear lo hi) one_class 0 xs ys offsets [] exact0 (free_of-all _ one_class 0 xs (clear-cells lo hi xs before))
-    (free_of-all _ one_class 0 ys (clear-cells lo hi ys after)) in
-    let follows' : Follows new lo (lo ∷ offsets) = (
-      refl,
-      subst (λ (k : ℕ). Follows new k offsets) (sym (freed-next lo size head s1 (omega arith) short))
-          (Follows-same s offsets head clear.0 follows),
-    ) in
-    let exact' : (o : ℕ) → times o (lo ∷ offsets) ≡ times o (free_of one_class 0 (cells_in layout')) = λ o.
-    let a : times o (free_of one_class 0 (cells_in layout')) ≡ times o (free_of one_class 0 xs) + times o (lo ∷ free_of one_class 0 ys) =
-    ap (λ cs. times o (free_of one_class 0 cs)) cells' ∙ ap (times o) (free_of-append one_class 0 xs (free ∷ ys)) ∙
-    times-append o (free_of one_class 0 xs) _ in
-    omega (arith, a, exact o) in
-    let ordered' : AreOrdered 0 (cells_in layout') = AreOrdered-AreBins new 0 layout' tiled' in
-    let ends' = ends-from new layout' tiled' (λ (c : Cell). c.offset + c.size ≤ length new) (λ c h. h.within) [] (cells_in layout') refl in
-    let few : count' ≤ length new = rw counted (few-free one_class 0 (length new) (cells_in layout') (lo ∷ offsets) ordered' ends' exact') in
     let apart' : AreApart (cells_in layout') = subst AreApart (sym cells') (apart-merge xs mid ys lo size ends (subst AreApart cells_are apart)) in
     record {
-      arena = IsArena-one new lo count' layout' (lo ∷ offsets) tiled' blank' (record { follows = follows'; exact = exact' }) apart' (sym counted) few (omega (arith, s.long));
-      chained = rw counted (Follows-chain new (lo ∷ offsets) lo follows');
+      arena = record { layout = layout'; tiled = tiled'; blank = blank'; apart = apart'; small = omega (arith, s.long) };
+      cells_are = cells';
       long = s.long ∙ long;
       now = cells_of-AreBins new layout' tiled' ∙ ap Some cells';
       contents = λ offset.
           cell_at-AreBins new layout' offset tiled' ∙ ap (λ cs. content_in new cs offset) cells' ∙ content_in-append new xs (free ∷ ys) offset
-          ∙ ap (or_else (content_in new xs offset)) (free-content new 0 free ys offset refl)
+          ∙ ap (or_else (content_in new xs offset)) (free-content new free ys offset refl)
           ∙ ap (λ o. or_else o (content_in new ys offset)) (content_in-beside s xs offset before) ∙ ap (or_else (content_in s1 xs offset)) (content_in-beside s ys offset after)
           ∙ contents-free (content_in s1 xs offset) (content_in s1 mid offset) (content_in s1 ys offset) offset cell (only offset)
           (λ e. (content_in-none lo hi s1 xs offset before (omega arith) (omega arith), content_in-none lo hi s1 ys offset after (omega arith) (omega arith))) (cases_eq offset cell)

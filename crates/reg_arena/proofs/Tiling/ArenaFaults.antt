@@ -1,6 +1,6 @@
 -- Which fault an answer is.
 use Rattle.std.proofs.Common.{◌≡◌, ℕ, List, Ok, Err, arith}
-use Rattle.std.specs.Prelude.{IfErr}
+use Rattle.std.specs.Prelude.{IfErr, OnErr}
 use Rattle.std.specs.declared.result.Result.{Result}
 use Rattle.reg_arena.specs.declared.ArenaFault.{ArenaFault}
 use Rattle.reg_arena.specs.NewBin.{PassesLimit, HasRoomForBin}
@@ -12,3 +12,8 @@ not-full (Err f) h e = cc (h, e)
 
 pub room-or-not : (bytes : List ℕ) (total : ℕ) → HasRoomForBin bytes total → PassesLimit bytes total → ⊥
 room-or-not bytes total room h = (let fits = room h.size h.least in omega (arith, fits, h.passes))
+
+-- what holds holds after an error
+pub on_err : {A E : Type 0} (result : Result A E) (P : Type 0) → P → OnErr result P
+on_err (Ok x) P p = tt
+on_err (Err e) P p = p

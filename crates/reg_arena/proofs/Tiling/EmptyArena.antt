@@ -1,15 +1,7 @@
 -- An arena without bins.
-use Rattle.std.proofs.Common.{[], ◌∷◌, refl, arith}
-use Rattle.reg_arena.specs.Arena.{IsArena}
+use Rattle.std.proofs.Common.{[], refl, arith}
+use Rattle.reg_arena.specs.declared.free_lists.FreeLists.{FreeLists}
+use Rattle.reg_arena.specs.Internal.ListedCells.{IsListed, IsIndexed}
 
-pub fresh : IsArena [] (4294967295 ∷ []) (0 ∷ [])
-fresh = record {
-  layout = [];
-  tiled = refl;
-  blank = tt;
-  lists = [] ∷ [];
-  free = record { each = (record { follows = refl; exact = λ offset. refl }, tt); classes = tt; apart = tt };
-  counted = refl;
-  few = (omega arith, tt);
-  small = omega arith;
-}
+pub fresh : (lists : FreeLists) → IsListed [] (λ x. 0) lists → IsIndexed [] lists
+fresh lists listed = record { arena = record { layout = []; tiled = refl; blank = tt; apart = tt; small = omega arith }; listed = listed }

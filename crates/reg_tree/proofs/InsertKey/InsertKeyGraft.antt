@@ -9,7 +9,7 @@ use Rattle.std.specs.Cmp.Lexicographic.{slice_cmp}
 use Rattle.std.proofs.lemmas.Bool.{cases_eq}
 use Rattle.std.proofs.lemmas.List.{take-map, drop-map}
 use Rattle.reg_names.specs.declared.TheConstants.{KEY_NAME_LIMIT}
-use Rattle.reg_arena.proofs.FreeList.FreeListTake.{times-append}
+use Rattle.reg_arena.proofs.FreeList.ThreadLinks.{times-append}
 use Rattle.reg_names.specs.Names.{folded, hash, is_key_name}
 use Rattle.reg_heap.specs.Paths.{Path}
 use Rattle.reg_heap.specs.Heaps.{Heap, allocated}

@@ -3,7 +3,7 @@ use Rattle.std.proofs.Common.{◌≡◌, ℕ, zero, suc, ◌+◌, ◌-◌, ◌<�
 use Rattle.std.proofs.Common.{List, [], ◌∷◌, ◌++◌, map, length, get_or, replicate, refl, sym, ap, ◌∙◌, subst, arith}
 use Rattle.std.specs.Prelude.{unwrap_or}
 use Rattle.std.proofs.lemmas.Bool.{eqb-true, eqb-false}
-use Rattle.reg_arena.proofs.FreeList.FreeListTake.{times-append}
+use Rattle.reg_arena.proofs.FreeList.ThreadLinks.{times-append}
 use Rattle.reg_arena.specs.Arena.{Bins, heap_of}
 use Rattle.reg_arena.specs.Cells.{cell_at}
 use Rattle.reg_arena.specs.NewCells.{AreSizes}

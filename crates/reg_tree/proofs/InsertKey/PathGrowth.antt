@@ -11,7 +11,7 @@ use Rattle.std.proofs.lemmas.Cmp.{tied_itself}
 use Rattle.std.proofs.lemmas.List.{append-nil, append_assoc, take_all}
 use Rattle.std.proofs.lemmas.Option.{none-some, same_Some}
 use Rattle.reg_names.specs.declared.TheConstants.{PATH_LIMIT, KEY_NAME_LIMIT}
-use Rattle.reg_arena.proofs.FreeList.FreeListTake.{times-append}
+use Rattle.reg_arena.proofs.FreeList.ThreadLinks.{times-append}
 use Rattle.reg_arena.specs.Cells.{cell_at}
 use Rattle.reg_names.specs.Names.{folded, path_of, is_path, is_key_name, is_key_name_byte, IsFirst}
 use Rattle.reg_heap.specs.Paths.{Path, Tree, path_cmp}

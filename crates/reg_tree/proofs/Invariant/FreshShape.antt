@@ -1,5 +1,6 @@
 -- A new hive's two cells are a whole hive's.
-use Rattle.std.proofs.Common.{◌≡◌, ◌≢◌, ℕ, Bool, true, false, cond, eqb, Option, Some, None, List, [], ◌∷◌, ◌≤◌, length, refl, sym, ap, ◌∙◌, subst, arith, bit_and, not, is_some, ◌==◌}
+use Rattle.std.proofs.Common.{◌≡◌, ◌≢◌, ℕ, Bool, true, false, cond, eqb, Option, Some, None, List, [], ◌∷◌, ◌≤◌, length, refl, sym, ap, ◌∙◌, subst, arith, bit_and, not, is_some, ◌==◌, ◌+◌, ◌-◌, replicate}
+use Rattle.std.proofs.lemmas.List.{length-replicate}
 use Rattle.std.specs.Prelude.{unwrap_or}
 use Rattle.std.specs.List.{AllByRecursion}
 use Rattle.std.specs.Option.{option_map, option_and_then}
@@ -15,7 +16,7 @@ use Rattle.reg_arena.specs.Arena.{Bins, heap_of}
 use Rattle.reg_arena.specs.Cells.{cells_of, cell_at}
 use Rattle.reg_records.specs.declared.nk.KeyFields.{KeyFields}
 use Rattle.reg_records.specs.declared.sk.SecurityFields.{SecurityFields}
-use Rattle.reg_records.specs.RecordCells.{held, WritesRecord}
+use Rattle.reg_records.specs.RecordCells.{held, HasRoom, WritesCell, WritesRecord}
 use Rattle.reg_records.specs.KeyNodes.{KeyRecord, key_at, nk_bytes, IsPlainKey}
 use Rattle.reg_records.specs.KeySecurities.{KeySecurityRecord, security_at, sk_bytes, IsPlainSecurity}
 use Rattle.reg_records.specs.OffsetRows.{offsets_at}
@@ -228,3 +229,12 @@ made e b i k root security node_size ring_size n m fields ring name descriptor m
       described = refl;
       time = refl;
     }
+
+-- the root's cell has room for its key node, when the security's is written
+pub root_room : (e b i : Bins) (root security node_size ring_size n : ℕ) (ring : List ℕ) → AreCarved e b root security node_size ring_size →
+    WritesCell b i security ring → n + 4 ≤ node_size → HasRoom (heap_of i) root n
+root_room e b i root security node_size ring_size n ring carved written enough =
+    let at : heap_of i root ≡ Some (replicate (node_size - 4) 0) = written.others root carved.apart ∙ carved.first_is in
+    let long : length (held (heap_of i) root) ≡ node_size - 4 =
+    ap (λ (o : Option (List ℕ)). length (unwrap_or o [])) at ∙ length-replicate (node_size - 4) 0 in
+    record { exists = ap is_some at; enough = omega (arith, long, enough) }

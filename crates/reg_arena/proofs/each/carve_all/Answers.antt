@@ -1,8 +1,17 @@
-use Rattle.std.proofs.Common.{◌≡◌, ◌+◌, ◌∷◌, [], ◌++◌, ◌∙◌, ap, arith, append_assoc, get_or, length, length-append, take}
+use Rattle.std.proofs.Common.{◌≡◌, ◌+◌, ◌∷◌, [], ◌++◌, ◌∙◌, ap, arith, refl, sym, append-nil, append_assoc, get_or, length, length-append, take}
 use Rattle.std.proofs.lemmas.List.{take_more}
 use Rattle.reg_arena.proofs.Carving.FreshBins.{fresh_of-room}
 use Rattle.reg_arena.proofs.Carving.EachCarve.{each-more, each-longer}
+use Rattle.reg_arena.proofs.Carving.ReservedRoom.{room_same, room-then}
 use Rattle.reg_arena.proofs.each.carve_all.Goals as goal
+
+pub loop-size-init : goal.loop-size-init
+loop-size-init c = record {
+  arena = c.requires.arena;
+  carved = ([], sym (append-nil c.args.out.now.items), refl);
+  keeps = room_same _ _;
+  room = omega (arith, c.requires.room);
+}
 
 pub carve_one-requires-clause-limit : goal.carve_one-requires-clause-limit
 carve_one-requires-clause-limit c =
@@ -18,8 +27,10 @@ carve_one-requires-clause-reserved c =
     let k = c.loop-size.invariant.keeps in
     record {
       bytes = omega (arith, room, long, r.bytes, k.bytes);
-      ends_long = omega (arith, room, long, r.ends_long, k.ends_long);
-      backs_long = omega (arith, room, long, r.backs_long, k.backs_long);
+      ends_long = omega (arith, room, long, r.ends_long, k.tables.ends_long);
+      backs_long = omega (arith, room, long, r.backs_long, k.tables.backs_long);
+      firsts_long = omega (arith, r.firsts_long, k.tables.firsts_long);
+      words_long = omega (arith, r.words_long, k.tables.words_long);
     }
 
 pub carve_one-requires-clause-room : goal.carve_one-requires-clause-room
@@ -42,10 +53,6 @@ loop-size-preserved c =
         one.1 ∙ ap (λ t. t ++ one.0 ∷ []) v.carved.1 ∙ append_assoc _ v.carved.0 (one.0 ∷ []),
         rw more (each-more _ _ _ _ _ _ _ v.carved.2 one.2),
       );
-      keeps = record {
-        bytes = omega (arith, k.bytes, k'.bytes);
-        ends_long = omega (arith, k.ends_long, k'.ends_long);
-        backs_long = omega (arith, k.backs_long, k'.backs_long);
-      };
+      keeps = room-then _ _ _ _ _ _ k k';
       room = omega (arith, v.room, c.loop-size-test.true, c.carve_one.ensures.out_capacity, items, c.loop-size.out.ok.0, c.carve_one.new.out.ok.0);
     }

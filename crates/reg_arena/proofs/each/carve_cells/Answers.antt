@@ -1,16 +1,20 @@
 use Rattle.std.proofs.Common.{◌∙◌, ◌++◌, ap}
 use Rattle.reg_arena.specs.EachCell.{EachExactly}
-use Rattle.reg_arena.proofs.TableUpkeep.IndexedArena.{indexed-longer}
+use Rattle.reg_arena.specs.Internal.ListedCells.{IsIndexed}
 use Rattle.reg_arena.proofs.Carving.EachCarve.{each-longer, each-new}
 use Rattle.reg_arena.proofs.each.carve_cells.Goals as goal
 
 pub returns-then-is_err-2-clause-arena : goal.returns-then-is_err-2-clause-arena
 returns-then-is_err-2-clause-arena c =
-    rw c.reserve_bins.ensures.bytes (indexed-longer _ _ _ _ _ _ _ c.requires.arena c.reserve_bins.ensures.ends c.reserve_bins.ensures.backs)
+    let i = c.requires.arena in
+    let now : IsIndexed c.args.bins.now.items c.reserve_bins.new.lists = record { arena = i.arena; listed = c.reserve_bins.ensures.listed _ i.listed } in
+    rw c.reserve_bins.ensures.bytes now
 
 pub carve_all-requires-clause-arena : goal.carve_all-requires-clause-arena
 carve_all-requires-clause-arena c =
-    rw c.reserve_bins.ensures.bytes (indexed-longer _ _ _ _ _ _ _ c.requires.arena c.reserve_bins.ensures.ends c.reserve_bins.ensures.backs)
+    let i = c.requires.arena in
+    let now : IsIndexed c.args.bins.now.items c.reserve_bins.new.lists = record { arena = i.arena; listed = c.reserve_bins.ensures.listed _ i.listed } in
+    rw c.reserve_bins.ensures.bytes now
 
 pub returns-clause-ok : goal.returns-clause-ok
 returns-clause-ok c =

@@ -2,4 +2,4 @@ use Rattle.reg_arena.proofs.Tiling.ArenaInvariant.{row_of_bins}
 use Rattle.reg_arena.proofs.arena.Arena.cells.Goals as goal
 
 pub list_cells-requires-clause-bins : goal.list_cells-requires-clause-bins
-list_cells-requires-clause-bins c = rw c.deref.ensures.value (row_of_bins _ _ _ c.self.invariant.arena)
+list_cells-requires-clause-bins c = rw c.deref.ensures.value (row_of_bins _ c.self.invariant.arena)

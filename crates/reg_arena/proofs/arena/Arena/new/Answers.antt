@@ -1,6 +1,5 @@
 use Rattle.reg_arena.proofs.Tiling.EmptyArena.{fresh}
-use Rattle.reg_arena.proofs.TableUpkeep.IndexedArena.{indexed-fresh}
 use Rattle.reg_arena.proofs.arena.Arena.new.Goals as goal
 
 pub invariant_of-result : goal.invariant_of-result
-invariant_of-result c = rw c.new.ensures.items (indexed-fresh _ _ c.new-2.ensures.items c.new-3.ensures.items fresh)
+invariant_of-result c = rw c.new.ensures.items (fresh _ c.new-2.ensures.listed)

@@ -1,5 +1,5 @@
-use Rattle.std.proofs.Common.{rules, arith, refl, ◌≡◌, ◌≤◌, true, length, sym, ap, ◌∙◌, subst}
-use Rattle.std.proofs.lemmas.Bool.Decides.{nat_tests}
+use Rattle.std.proofs.Common.{rules, arith, refl, ◌≡◌, ◌≢◌, ◌≤◌, true, length, sym, ap, ◌∙◌, subst}
+use Rattle.std.proofs.lemmas.Bool.{eqb-false}
 use Rattle.reg_names.specs.Names.{is_key_name}
 use Rattle.reg_heap.specs.Trees.{IsTree, IsWithinLimits}
 use Rattle.reg_tree.specs.TreeKeys.{Keys, made_root}
@@ -14,7 +14,8 @@ pub new-requires-in-Ok-clause-limits : goal.new-requires-in-Ok-clause-limits
 new-requires-in-Ok-clause-limits c =
     let name : is_key_name c.args.root_name.now ≡ true = search rules in
     let some = c.if-is_empty.ensures in
-    let described : 1 ≤ length c.args.descriptor.now = grind (arith, nat_tests, some) in
+    let none : length c.args.descriptor.now ≢ 0 = eqb-false (length c.args.descriptor.now) 0 (sym some) in
+    let described : 1 ≤ length c.args.descriptor.now = omega (arith, none) in
     let short = c.if-descriptor-gt-DESCRIPTOR_LIMIT.false in
     subst IsWithinLimits (sym c.in-Ok.ensures.ok) (limits-root (made_root c.args.root_name.now c.args.descriptor.now c.args.moment) (record {
       name = name;

@@ -1,7 +1,12 @@
+use Rattle.std.proofs.Common.{arith}
 use Rattle.reg_tree.proofs.Invariant.FreshInvariant.{fresh_holds, fresh_tree}
-use Rattle.reg_tree.proofs.Invariant.FreshShape.{made}
+use Rattle.reg_tree.proofs.Invariant.FreshShape.{made, root_room}
 use Rattle.reg_tree.proofs.Invariant.FreshBin.{fresh_bin}
 use Rattle.reg_tree.proofs.tree.Tree.new.Goals as goal
+
+pub put_nk-requires-clause-room : goal.put_nk-requires-clause-room
+put_nk-requires-clause-room c =
+    root_room _ _ _ _ _ _ _ _ _ c.in-Ok.ensures.ok c.put_sk.ensures.written (let holds = c.cell_size-node_size.ensures.holds in omega (arith, holds))
 
 pub invariant_of-result : goal.invariant_of-result
 invariant_of-result c =

@@ -1,0 +1,130 @@
+-- What ties the tables of the free lists to the bytes and to the free cells.
+use Rattle.std.specs.Prelude.{◌≡◌, ℕ, ◌+◌, ◌-◌, ◌*◌, ◌/◌, ◌%◌, ◌<◌, ◌≤◌, ◌⊎◌, ◌==◌, ◌&&◌, not, if◌then◌else◌, nat_lt, List, [], ◌∷◌, length, get_or}
+use Rattle.byteorder.specs.Endian.{little_bytes}
+use Rattle.reg_heap.specs.declared.limits.TheConstants.{BINS_LIMIT, NONE}
+use Rattle.reg_heap.specs.ByteWords.{word, splice, SameOutside}
+use Rattle.reg_arena.specs.declared.Cell.{Cell}
+use Rattle.reg_arena.specs.declared.free_lists.FreeLists.{FreeLists}
+use Rattle.reg_arena.specs.declared.free_lists.Fit.{Fit}
+use Rattle.reg_arena.specs.Arena.{IsArena}
+use Rattle.reg_arena.specs.Cells.{cells_in}
+use Rattle.reg_arena.specs.Classes.{class_of}
+use Rattle.reg_arena.specs.Internal.CellThreads.{AreThreads}
+use Rattle.reg_arena.specs.Internal.SizeTables.{at_eight, head_at, AreBits}
+
+-- the size of the free cell at an offset, or 0 where there is none
+abbrev pub free_size : List Cell → ℕ → ℕ
+free_size [] x = 0
+free_size (cell ∷ cells) x = if not cell.allocated && (cell.offset == x) then cell.size else free_size cells x
+
+-- the sizes after that of one offset is set: to 0, and no free cell is there
+abbrev pub sized : ℕ → ℕ → (ℕ → ℕ) → ℕ → ℕ
+sized cell size sizes x = if x == cell then size else sizes x
+
+-- the sizes after a free cell came, unless its size is 0
+abbrev pub added : ℕ → ℕ → (ℕ → ℕ) → ℕ → ℕ
+added cell size sizes x = if (x == cell) && nat_lt 0 size then size else sizes x
+
+-- bytes where a free cell may stand
+pub record IsPiece (bytes : List ℕ) (cell size : ℕ) : Type 0 where
+  pub eights : cell % 8 ≡ 0
+  pub some : 8 ≤ cell
+  pub size_eights : size % 8 ≡ 0
+  pub within : cell + size ≤ length bytes
+
+-- no free cell stands in these bytes
+abbrev pub IsFreeOf : (ℕ → ℕ) → ℕ → ℕ → Type 0
+IsFreeOf sizes cell size = (x : ℕ) → 0 < sizes x → (x + sizes x ≤ cell) ⊎ (cell + size ≤ x)
+
+-- the free cells, given by their sizes, stand in the bytes, apart from each other, and the tables have just them: `top` is above
+-- all sizes, and `large` counts the cells of the last list
+pub record AreTables (bytes : List ℕ) (sizes : ℕ → ℕ) (heads firsts words ends backs : List ℕ) (large top : ℕ) : Type 0 where
+  pub threads : AreThreads class_of 16384 sizes (λ x. word bytes (x + 4)) (at_eight backs 0) (head_at heads) (at_eight firsts NONE)
+  pub pieces : (x : ℕ) → 0 < sizes x → IsPiece bytes x (sizes x)
+  pub fields : (x : ℕ) → 0 < sizes x → word bytes x ≡ sizes x
+  pub apart : (x y : ℕ) → 0 < sizes x → 0 < sizes y → x < y → x + sizes x ≤ y
+  pub ends_there : (x : ℕ) → 0 < sizes x → get_or ends ((x + sizes x) / 8 - 1) 0 ≡ x
+  pub ends_are : (unit : ℕ) → 0 < get_or ends unit 0 → (0 < sizes (get_or ends unit 0)) × (get_or ends unit 0 + sizes (get_or ends unit 0) ≡ 8 * unit + 8)
+  pub below : (x : ℕ) → 0 < sizes x → sizes x < top
+  pub bits : AreBits words firsts
+  pub words_small : length words ≤ 32
+  pub words_long : 0 < length bytes → 32 ≤ length words
+  pub firsts_long : 0 < length bytes → 2048 ≤ length firsts
+  pub ends_long : length bytes ≤ 8 * length ends
+  pub backs_long : length bytes ≤ 8 * length backs
+  pub heads_long : length heads ≡ 24
+  pub small : length bytes ≤ BINS_LIMIT
+  pub count : length (threads.lists 23) ≡ large
+
+-- the same of the struct
+abbrev pub IsListed : List ℕ → (ℕ → ℕ) → FreeLists → Type 0
+IsListed bytes sizes lists =
+    AreTables bytes sizes lists.heads lists.firsts.items lists.words.items lists.ends.items lists.backs.items lists.large lists.top
+
+-- the tables have room for so many eights
+pub record HasRoom (units : ℕ) (lists : FreeLists) : Type 0 where
+  pub ends : units ≤ length lists.ends.items
+  pub backs : units ≤ length lists.backs.items
+  pub firsts : 2048 ≤ length lists.firsts.items
+  pub words : 32 ≤ length lists.words.items
+
+-- there are some such free cells
+pub record HasLists (bytes : List ℕ) (lists : FreeLists) : Type 0 where
+  pub sizes : ℕ → ℕ
+  pub listed : IsListed bytes sizes lists
+
+-- there are, and one of them has this size; or the size is 0 and there is none at that offset
+pub record HasCell (bytes : List ℕ) (lists : FreeLists) (cell size : ℕ) : Type 0 where
+  pub sizes : ℕ → ℕ
+  pub listed : IsListed bytes sizes lists
+  pub there : sizes cell ≡ size
+
+-- there are, and bytes have room for one more
+pub record HasPlace (bytes : List ℕ) (lists : FreeLists) (cell size : ℕ) : Type 0 where
+  pub sizes : ℕ → ℕ
+  pub listed : IsListed bytes sizes lists
+  pub piece : IsPiece bytes cell size
+  pub free : IsFreeOf sizes cell size
+
+-- at most the link of one free cell was set
+abbrev pub Relinks : (ℕ → ℕ) → List ℕ → List ℕ → Type 0
+Relinks sizes old new = (new ≡ old) ⊎ ((p : ℕ) × (v : ℕ) × (0 < sizes p) × (new ≡ splice (p + 4) (little_bytes 4 v) old))
+
+-- a free cell left its list, or there was none
+pub record Drops (sizes : ℕ → ℕ) (cell : ℕ) (old new : List ℕ) (lists : FreeLists) : Type 0 where
+  pub listed : IsListed new (sized cell 0 sizes) lists
+  pub relinks : Relinks sizes old new
+
+-- bytes became a free cell of a list, or there were none
+pub record Adds (sizes : ℕ → ℕ) (cell size : ℕ) (old new : List ℕ) (lists : FreeLists) : Type 0 where
+  pub listed : IsListed new (added cell size sizes) lists
+  pub mid : List ℕ
+  pub relinks : Relinks sizes old mid
+  pub region : SameOutside cell (cell + size) mid new
+
+-- a free cell that has room, and below 16,384 bytes the smallest that has
+pub record IsBestFit (sizes : ℕ → ℕ) (total : ℕ) (fit : Fit) : Type 0 where
+  pub free : sizes fit.cell ≡ fit.size
+  pub fits : total ≤ fit.size
+  pub least : (x : ℕ) → total ≤ sizes x → sizes x < 16384 → fit.size ≤ sizes x
+
+-- no free cell has room
+abbrev pub NoneFits : (ℕ → ℕ) → ℕ → Type 0
+NoneFits sizes total = (x : ℕ) → 0 < sizes x → sizes x < total
+
+-- an arena, with its free cells in lists
+pub record IsIndexed (bytes : List ℕ) (lists : FreeLists) : Type 0 where
+  pub arena : IsArena bytes
+  pub listed : IsListed bytes (free_size (cells_in arena.layout)) lists
+
+-- an arena, with its free cells in lists, and one that fits
+pub record HasFit (bytes : List ℕ) (lists : FreeLists) (total : ℕ) (fit : Fit) : Type 0 where
+  pub indexed : IsIndexed bytes lists
+  pub fit_is : IsBestFit (free_size (cells_in indexed.arena.layout)) total fit
+
+-- an arena, with its free cells in lists but one, which has this size
+pub record LacksCell (bytes : List ℕ) (lists : FreeLists) (cell size : ℕ) : Type 0 where
+  pub arena : IsArena bytes
+  pub there : free_size (cells_in arena.layout) cell ≡ size
+  pub some : 0 < size
+  pub listed : IsListed bytes (sized cell 0 (free_size (cells_in arena.layout))) lists

@@ -1,0 +1,104 @@
+//! The links of the lists, and back: the four bytes behind a free cell's size field are the offset of the next one.
+ghost use Rattle.std.specs.Prelude.{◌≡◌, ◌+◌, ◌/◌, ◌≤◌, ◌<◌, length, set, get_or, vec_capacity};
+ghost use Rattle.byteorder.specs.Endian.{little_bytes};
+ghost use Rattle.reg_heap.specs.declared.limits.TheConstants.{NONE};
+ghost use Rattle.reg_heap.specs.ByteWords.{splice, word};
+ghost use Rattle.reg_arena.specs.Internal.SizeTables.{marked, head_linked, following, linked, freed};
+
+use crate::tables::mark;
+use crate::words::{put_word, word_at};
+use reg_heap::limits::NONE;
+
+// The cell behind one, or where there is none the list's first.
+fn next_of(bins: &Vec<u8>, heads: &[u32], class: usize, cell: u32) -> u32
+    requires class { class < length heads.now }
+    requires cell { (cell ≡ NONE → ⊥) → cell + 8 ≤ length bins.now.items }
+    ensures { result ≡ following bins.now.items heads.now class cell }
+{
+    if cell == NONE {
+        return heads[class];
+    }
+    word_at(bins, cell as usize + 4)
+}
+
+// Sets the link behind a cell, or where there is none the head.
+fn set_link(bins: &mut Vec<u8>, heads: &mut [u32], class: usize, cell: u32, value: u32)
+    requires class { class < length heads.old }
+    requires cell { (cell ≡ NONE → ⊥) → cell + 8 ≤ length bins.old.items }
+    ensures bytes { bins.new.items ≡ linked cell value bins.old.items }
+    ensures heads { heads.new ≡ head_linked class cell value heads.old }
+    ensures capacity { vec_capacity bins.new ≡ vec_capacity bins.old }
+{
+    if cell == NONE {
+        heads[class] = value;
+    } else {
+        put_word(bins, cell as usize + 4, value);
+    }
+}
+
+// The two words of a free cell.
+pub fn put_free(bins: &mut Vec<u8>, at: u32, size: u32, next: u32)
+    requires { at + 8 ≤ length bins.old.items }
+    ensures bytes { bins.new.items ≡ freed at size next bins.old.items }
+    ensures capacity { vec_capacity bins.new ≡ vec_capacity bins.old }
+{
+    put_word(bins, at as usize, size);
+    put_word(bins, at as usize + 4, next);
+}
+
+// Makes bytes a free cell, and puts it behind another of its list, or to the front.
+pub fn link_in(
+    bins: &mut Vec<u8>,
+    heads: &mut [u32],
+    backs: &mut Vec<u32>,
+    class: usize,
+    previous: u32,
+    cell: u32,
+    size: u32,
+)
+    requires class { class < length heads.old }
+    requires previous { (previous ≡ NONE → ⊥) → previous + 8 ≤ length bins.old.items }
+    requires next { (following bins.old.items heads.old class previous ≡ NONE → ⊥) →
+        following bins.old.items heads.old class previous / 8 < length backs.old.items }
+    requires cell { cell + 8 ≤ length bins.old.items }
+    requires cell_back { cell / 8 < length backs.old.items }
+    ensures bytes { bins.new.items ≡ freed cell size (following bins.old.items heads.old class previous) (linked previous cell bins.old.items) }
+    ensures backs { backs.new.items ≡ set (marked (following bins.old.items heads.old class previous) cell backs.old.items) (cell / 8) previous }
+    ensures heads { heads.new ≡ head_linked class previous cell heads.old }
+    ensures short { following bins.old.items heads.old class previous < 4294967296 }
+    ensures capacity { vec_capacity bins.new ≡ vec_capacity bins.old }
+    ensures long { length backs.new.items ≡ length backs.old.items }
+{
+    let next = next_of(bins, heads, class, previous);
+    set_link(bins, heads, class, previous, cell);
+    put_free(bins, cell, size, next);
+    mark(backs, next, cell);
+    backs[cell as usize / 8] = previous;
+}
+
+// Takes a cell out of its list, and answers the cell behind it.
+pub fn unlink(
+    bins: &mut Vec<u8>,
+    heads: &mut [u32],
+    backs: &mut Vec<u32>,
+    class: usize,
+    cell: u32,
+) -> u32
+    requires class { class < length heads.old }
+    requires cell { cell + 8 ≤ length bins.old.items }
+    requires cell_back { cell / 8 < length backs.old.items }
+    requires previous { (get_or backs.old.items (cell / 8) 0 ≡ NONE → ⊥) → get_or backs.old.items (cell / 8) 0 + 8 ≤ length bins.old.items }
+    requires next { (word bins.old.items (cell + 4) ≡ NONE → ⊥) → word bins.old.items (cell + 4) / 8 < length backs.old.items }
+    ensures bytes { bins.new.items ≡ linked (get_or backs.old.items (cell / 8) 0) (word bins.old.items (cell + 4)) bins.old.items }
+    ensures backs { backs.new.items ≡ marked (word bins.old.items (cell + 4)) (get_or backs.old.items (cell / 8) 0) backs.old.items }
+    ensures heads { heads.new ≡ head_linked class (get_or backs.old.items (cell / 8) 0) (word bins.old.items (cell + 4)) heads.old }
+    ensures next { result ≡ word bins.old.items (cell + 4) }
+    ensures capacity { vec_capacity bins.new ≡ vec_capacity bins.old }
+    ensures long { length backs.new.items ≡ length backs.old.items }
+{
+    let previous = backs[cell as usize / 8];
+    let next = word_at(bins, cell as usize + 4);
+    set_link(bins, heads, class, previous, next);
+    mark(backs, next, previous);
+    next
+}
