@@ -8,4 +8,5 @@ pub mod BinAppend
 pub mod BinGrowth
 pub mod FreshBins
 pub mod ReservedRoom
+pub mod SmallestFits
 pub mod EachCarve

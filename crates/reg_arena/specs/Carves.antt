@@ -45,11 +45,18 @@ NoFit bytes total = (cells : List Cell) → cells_of bytes ≡ Some cells → Al
 abbrev pub IsRoom : List ℕ → List ℕ → ℕ → Type 0
 IsRoom old mid total = (mid ≡ old) ⊎ (NoFit old total × AppendsBin old mid total)
 
--- the exact rule of a carve: cells are cut from one free cell, of a new bin only where none fits
+-- no free cell that fits and has fewer than 16,384 bytes is smaller than this size
+abbrev pub IsSmallestFit : List ℕ → ℕ → ℕ → Type 0
+IsSmallestFit bytes total size = (cells : List Cell) → cells_of bytes ≡ Some cells →
+    AllByRecursion (λ cell. cell.allocated ≡ false → total ≤ cell.size → cell.size < 16384 → size ≤ cell.size) cells
+
+-- the exact rule of a carve: cells are cut from one free cell, a smallest that fits where some that fit have fewer than 16,384
+-- bytes, and of a new bin only where none fits
 pub record CarvesExactly (old new : List ℕ) (sizes : List ℕ) (offsets : List ℕ) : Type 0 where
   pub mid : List ℕ
   pub room : IsRoom old mid (total_of sizes)
   pub carves : Carves mid new sizes offsets
+  pub smallest : IsSmallestFit mid (total_of sizes) carves.size
 
 -- a carve as callers see it: cells that were not there before hold zeros, and all others hold what they held
 pub record AddsCells (old new : List ℕ) (sizes : List ℕ) (offsets : List ℕ) : Type 0 where

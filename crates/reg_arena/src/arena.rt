@@ -39,13 +39,13 @@ pub struct Arena {
 
 impl Model for Arena {
     ghost use Rattle.reg_arena.specs.Arena.{Bins};
-    ghost use Rattle.reg_arena.specs.Internal.ListedCells.{IsIndexed};
+    ghost use Rattle.reg_arena.specs.Internal.ListedCells.{IsKept};
 
     ghost Value = { Bins };
 
     ghost view = { λ a. record { bytes = a.bins.items; heads = a.lists.heads } };
 
-    ghost invariant = { λ a. IsIndexed a.bins.items a.lists };
+    ghost invariant = { λ a. IsKept a.bins.items a.lists };
 }
 
 impl Arena {

@@ -226,42 +226,73 @@ rest-place old lists cell size total ss l oks e fits =
       (λ x h. elim (free x h) [ inl q ↦ inl (omega arith) | inr q ↦ inr (omega arith) ]),
     )
 
+-- the sizes after the cut
+carved-at : (old : List ℕ) (layout : List Bin) (cell size : ℕ) (ss : List ℕ) (p : Place old layout cell size) (n : ℕ) (cells : List Cell) →
+    cells ≡ p.xs ++ ((carved cell ss ++ rest_of (cell + total_of ss) n) ++ p.ys) → 0 < total_of ss → total_of ss + n ≡ size →
+    (x : ℕ) → added (cell + total_of ss) n (others layout cell) x ≡ free_size cells x
+carved-at old layout cell size ss p n cells e some f x =
+    ap (λ cs. added (cell + total_of ss) n (sized cell 0 (free_size cs)) x) p.cells_are ∙ carved-sizes p.xs cell size p.ys ss n some f p.before p.after x ∙
+    ap (λ cs. free_size cs x) (sym e)
+
+added-here : (r n : ℕ) (S : ℕ → ℕ) → 0 < n → added r n S r ≡ n
+added-here r n S h = (let q : eqb r r ≡ true = eq-eqb r r refl in let l : ltb 0 n ≡ true = lt-ltb 0 n h in rw (q, l) refl)
+
+-- no free cell stands in what is cut from the front
+front-free : (S : ℕ → ℕ) (cell size total n x : ℕ) → 0 < added (cell + total) n S x → IsFreeOf S cell size → total ≤ size →
+    (x + added (cell + total) n S x ≤ cell) ⊎ (cell + total ≤ x)
+front-free S cell size total n x h free l = by (eqb x (cell + total)) refl
+  where
+    by : (b : Bool) → eqb x (cell + total) ≡ b → (x + added (cell + total) n S x ≤ cell) ⊎ (cell + total ≤ x)
+    by true q = (let z = eqb-true x (cell + total) q in inr (omega arith))
+    by false q = (let z : added (cell + total) n S x ≡ S x = rw q refl in elim (free x (omega arith)) [ inl k ↦ inl (omega arith) | inr k ↦ inr (omega arith) ])
+
+-- the arena after the cut, its free cells in lists
+cut-listed : (old s2 s3 : List ℕ) (lists : FreeLists) (layout : List Bin) (cell size n : ℕ) (ss : List ℕ) (p : Place old layout cell size) → 0 < total_of ss →
+    total_of ss + n ≡ size → IsListed s2 (added (cell + total_of ss) n (others layout cell)) lists → SameOutside cell (cell + total_of ss) s2 s3 →
+    (a : IsArena s3) → cells_in a.layout ≡ p.xs ++ ((carved cell ss ++ rest_of (cell + total_of ss) n) ++ p.ys) → IsIndexed s3 lists
+cut-listed old s2 s3 lists layout cell size n ss p some f listed region a e =
+    let others-are = others-free old layout cell size p in
+    let after = listed-beside s2 s3 (added (cell + total_of ss) n (others layout cell)) lists cell (total_of ss) listed region
+    (λ x h. front-free (others layout cell) cell size (total_of ss) n x h others-are (omega (arith, f))) in
+    record {
+      arena = a;
+      listed = subst (λ S. IsListed s3 S lists) (λ i x. carved-at old layout cell size ss p n (cells_in a.layout) e some f x i) after;
+    }
+
+-- the rest's size field, as its list has it
+rest-field : (s2 : List ℕ) (S : ℕ → ℕ) (lists : FreeLists) (at n : ℕ) → IsListed s2 (added at n S) lists → 0 < n → word s2 at ≡ n
+rest-field s2 S lists at n listed h = let z = added-here at n S h in listed.fields at (omega arith) ∙ z
+
+-- the cut of a cell that has its place
+cut-placed : (old s2 s3 : List ℕ) (lists : FreeLists) (cell size : ℕ) (ss : List ℕ) (a : IsArena old) (p : Place old a.layout cell size) → AreSizes ss →
+    0 < total_of ss → total_of ss ≤ size → (adds : Adds (others a.layout cell) (cell + total_of ss) (size - total_of ss) old s2 lists) →
+    Relinked old adds.mid a.layout → CutTo s2 s3 cell ss → IsIndexed s3 lists × Carves old s3 ss (offsets_of cell ss)
+cut-placed old s2 s3 lists cell size ss a p oks positive fits adds r cut =
+    by (carving old adds.mid s2 s3 a cell size ss p oks positive fits r region field cut)
+  where
+    end : cell + total_of ss + (size - total_of ss) ≡ cell + size
+    end = omega arith
+
+    region : SameOutside (cell + total_of ss) (cell + size) adds.mid s2
+    region = subst (λ k. SameOutside (cell + total_of ss) k adds.mid s2) end adds.region
+
+    field : 0 < size - total_of ss → word s2 (cell + total_of ss) ≡ size - total_of ss
+    field = rest-field s2 (others a.layout cell) lists (cell + total_of ss) (size - total_of ss) adds.listed
+
+    by : Carving old s3 cell size ss p.xs p.ys → IsIndexed s3 lists × Carves old s3 ss (offsets_of cell ss)
+    by c = (cut-listed old s2 s3 lists a.layout cell size (size - total_of ss) ss p positive (omega arith) adds.listed cut.region c.arena c.cells_are, c.carves)
+
 pub cut-whole : (old s2 s3 : List ℕ) (lists lists' : FreeLists) (cell size total : ℕ) (ss : List ℕ) (l : LacksCell old lists cell size) → AreSizes ss → total ≡ total_of ss →
     0 < total → total ≤ size → Adds (others l.arena.layout cell) (cell + total) (size - total) old s2 lists' → CutTo s2 s3 cell ss →
     IsIndexed s3 lists' × Carves old s3 ss (offsets_of cell ss)
 cut-whole old s2 s3 lists lists' cell size total ss l oks e positive fits adds cut =
-    let a = l.arena in
-    let p = place old a.layout cell size a.tiled l.there l.some in
-    let n : ℕ = size - total_of ss in
-    let adds' : Adds (others a.layout cell) (cell + total_of ss) n old s2 lists' = subst (λ k. Adds (others a.layout cell) (cell + k) (size - k) old s2 lists') e adds in
-    let r = relinked old adds'.mid a.layout (others a.layout cell) a.tiled (sub-free a.layout cell) adds'.relinks in
-    let end : cell + total_of ss + n ≡ cell + size = omega arith in
-    let region : SameOutside (cell + total_of ss) (cell + size) adds'.mid s2 = subst (λ k. SameOutside (cell + total_of ss) k adds'.mid s2) end adds'.region in
-    let here : 0 < n → added (cell + total_of ss) n (others a.layout cell) (cell + total_of ss) ≡ n = λ h. added-here (cell + total_of ss) n (others a.layout cell) h in
-    let field : 0 < n → word s2 (cell + total_of ss) ≡ n = λ h. (let z = here h in adds'.listed.fields (cell + total_of ss) (omega arith) ∙ z) in
-    let c = carving old adds'.mid s2 s3 a cell size ss p oks (omega (arith, e)) (omega (arith, e)) r region field cut in
-    let free : IsFreeOf (added (cell + total_of ss) n (others a.layout cell)) cell (total_of ss) = λ x h. front-free a.layout p n x h (others-free old a.layout cell size p) (omega arith) in
-    let listed = listed-beside s2 s3 (added (cell + total_of ss) n (others a.layout cell)) lists' cell (total_of ss) adds'.listed cut.region free in
-    let sizes : added (cell + total_of ss) n (others a.layout cell) ≡ free_size (cells_in c.arena.layout) = λ i x. sizes-at p n c.cells_are (omega arith) x i in
-    (record { arena = c.arena; listed = subst (λ f. IsListed s3 f lists') sizes listed }, c.carves)
+    by (place old l.arena.layout cell size l.arena.tiled l.there l.some) (subst (λ k. Adds (others l.arena.layout cell) (cell + k) (size - k) old s2 lists') e adds)
   where
-    added-here : (r n : ℕ) (S : ℕ → ℕ) → 0 < n → added r n S r ≡ n
-    added-here r n S h = (let q : eqb r r ≡ true = eq-eqb r r refl in let l : ltb 0 n ≡ true = lt-ltb 0 n h in rw (q, l) refl)
-
-    front-free : (layout : List Bin) (p : Place old layout cell size) (n x : ℕ) → 0 < added (cell + total_of ss) n (others layout cell) x →
-        IsFreeOf (others layout cell) cell size → total_of ss ≤ size → (x + added (cell + total_of ss) n (others layout cell) x ≤ cell) ⊎ (cell + total_of ss ≤ x)
-    front-free layout p n x h free l = by (eqb x (cell + total_of ss)) refl
-      where
-        by : (b : Bool) → eqb x (cell + total_of ss) ≡ b → (x + added (cell + total_of ss) n (others layout cell) x ≤ cell) ⊎ (cell + total_of ss ≤ x)
-        by true q = (let z = eqb-true x (cell + total_of ss) q in inr (omega arith))
-        by false q = (let z : added (cell + total_of ss) n (others layout cell) x ≡ others layout cell x = rw q refl in
-            elim (free x (omega arith)) [ inl k ↦ inl (omega arith) | inr k ↦ inr (omega arith) ])
-
-    sizes-at : (p : Place old l.arena.layout cell size) (n : ℕ) {cells : List Cell} → cells ≡ p.xs ++ ((carved cell ss ++ rest_of (cell + total_of ss) n) ++ p.ys) →
-        total_of ss + n ≡ size → (x : ℕ) → added (cell + total_of ss) n (others l.arena.layout cell) x ≡ free_size cells x
-    sizes-at p n {cells} e' f x =
-        ap (λ cs. added (cell + total_of ss) n (sized cell 0 (free_size cs)) x) p.cells_are ∙ carved-sizes p.xs cell size p.ys ss n (omega (arith, e)) f p.before p.after x ∙
-        ap (λ cs. free_size cs x) (sym e')
+    by : Place old l.arena.layout cell size → Adds (others l.arena.layout cell) (cell + total_of ss) (size - total_of ss) old s2 lists' →
+        IsIndexed s3 lists' × Carves old s3 ss (offsets_of cell ss)
+    by p adds' =
+        let r = relinked old adds'.mid l.arena.layout (others l.arena.layout cell) l.arena.tiled (sub-free l.arena.layout cell) adds'.relinks in
+        cut-placed old s2 s3 lists' cell size ss l.arena p oks (omega (arith, e)) (omega (arith, e)) adds' r cut
 
 -- ---- a cell that left its list
 

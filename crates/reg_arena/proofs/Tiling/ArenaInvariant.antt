@@ -4,7 +4,9 @@ use Rattle.std.specs.List.{AllByRecursion}
 use Rattle.reg_arena.specs.declared.Cell.{Cell}
 use Rattle.reg_arena.specs.Cells.{Bin, Tiles, AreBins, cells_in}
 use Rattle.reg_arena.specs.Arena.{IsArena}
+use Rattle.reg_arena.specs.declared.free_lists.FreeLists.{FreeLists}
 use Rattle.reg_arena.specs.Internal.CellWalks.{IsRowOfBins}
+use Rattle.reg_arena.specs.Internal.ListedCells.{IsIndexed, IsKept}
 use Rattle.reg_arena.proofs.Contents.CellWrites.{all-append}
 
 Tiles-eights : (bytes : List ℕ) (at stop : ℕ) (cells : List Cell) → at % 8 ≡ 0 → Tiles bytes at stop cells → AllByRecursion (λ (c : Cell). c.offset % 8 ≡ 0) cells
@@ -24,3 +26,13 @@ AreBins-pages bytes at (b ∷ layout) e h = AreBins-pages bytes (at + b.size) la
 
 pub row_of_bins : (bytes : List ℕ) → IsArena bytes → IsRowOfBins bytes
 row_of_bins bytes a = record { layout = a.layout; tiled = a.tiled }
+
+-- ---- the invariant's one word
+
+pub opened : (bytes : List ℕ) (lists : FreeLists) → IsKept bytes lists → IsIndexed bytes lists
+unfolding IsKept
+opened bytes lists kept = kept
+
+pub closed : (bytes : List ℕ) (lists : FreeLists) → IsIndexed bytes lists → IsKept bytes lists
+unfolding IsKept
+closed bytes lists indexed = indexed

@@ -117,6 +117,10 @@ pub record IsIndexed (bytes : List ℕ) (lists : FreeLists) : Type 0 where
   pub arena : IsArena bytes
   pub listed : IsListed bytes (free_size (cells_in arena.layout)) lists
 
+-- the same as one word: what every arena keeps
+unfoldable pub IsKept : List ℕ → FreeLists → Type 0
+IsKept bytes lists = IsIndexed bytes lists
+
 -- an arena, with its free cells in lists, and one that fits
 pub record HasFit (bytes : List ℕ) (lists : FreeLists) (total : ℕ) (fit : Fit) : Type 0 where
   pub indexed : IsIndexed bytes lists

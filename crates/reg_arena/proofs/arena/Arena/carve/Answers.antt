@@ -3,10 +3,11 @@ use Rattle.std.proofs.lemmas.Bool.{eqb-false}
 use Rattle.reg_arena.proofs.FreeList.ListedArenas.{total-positive, no-fit, fit-some}
 use Rattle.reg_arena.proofs.Carving.CarveWhole.{total-eights}
 use Rattle.reg_arena.proofs.Tiling.ArenaFaults.{not-full, room-or-not}
+use Rattle.reg_arena.proofs.Tiling.ArenaInvariant.{closed, opened}
 use Rattle.reg_arena.proofs.arena.Arena.carve.Goals as goal
 
 pub best_fit-requires-clause-lists : goal.best_fit-requires-clause-lists
-best_fit-requires-clause-lists c = record { sizes = _; listed = c.self.invariant.listed }
+best_fit-requires-clause-lists c = record { sizes = _; listed = (opened _ _ c.self.invariant).listed }
 
 pub best_fit-requires-clause-some : goal.best_fit-requires-clause-some
 best_fit-requires-clause-some c =
@@ -17,20 +18,20 @@ pub best_fit-requires-clause-eights : goal.best_fit-requires-clause-eights
 best_fit-requires-clause-eights c = rw c.sum_of-total.ensures (total-eights c.args.sizes.now c.requires.sizes)
 
 pub invariant_of-self : goal.invariant_of-self
-invariant_of-self c = record { arena = c.self.invariant.arena; listed = c.best_fit.ensures.listed _ c.self.invariant.listed }
+invariant_of-self c = closed _ _ (record { arena = (opened _ _ c.self.invariant).arena; listed = c.best_fit.ensures.listed _ (opened _ _ c.self.invariant).listed })
 
 pub returns-then-passes_limit-clause-full : goal.returns-then-passes_limit-clause-full
 returns-then-passes_limit-clause-full c =
     let some : length c.args.sizes.now ≢ 0 = eqb-false (length c.args.sizes.now) 0 (sym c.is_empty.ensures ∙ c.if-is_empty.false) in
     let passes = rw c.sum_of-total.ensures at (c.passes_limit.ensures.passes c.if-passes_limit.true) in
-    let none = no-fit _ _ _ c.self.invariant (c.in_default.ensures.fit _ c.self.invariant.listed) in
+    let none = no-fit _ _ _ (opened _ _ c.self.invariant) (c.in_default.ensures.fit _ (opened _ _ c.self.invariant).listed) in
     rw (← c.self.view_is) ((λ _. (omega arith, passes, (rw c.sum_of-total.ensures at none))), λ _. refl)
 
 pub carve_bin-requires-clause-arena : goal.carve_bin-requires-clause-arena
-carve_bin-requires-clause-arena c = record { arena = c.self.invariant.arena; listed = c.best_fit.ensures.listed _ c.self.invariant.listed }
+carve_bin-requires-clause-arena c = record { arena = (opened _ _ c.self.invariant).arena; listed = c.best_fit.ensures.listed _ (opened _ _ c.self.invariant).listed }
 
 pub carve_bin-requires-clause-none : goal.carve_bin-requires-clause-none
-carve_bin-requires-clause-none c = no-fit _ _ _ c.self.invariant (c.in_default.ensures.fit _ c.self.invariant.listed)
+carve_bin-requires-clause-none c = no-fit _ _ _ (opened _ _ c.self.invariant) (c.in_default.ensures.fit _ (opened _ _ c.self.invariant).listed)
 
 pub carve_bin-requires-clause-room : goal.carve_bin-requires-clause-room
 carve_bin-requires-clause-room c = c.passes_limit.ensures.room c.if-passes_limit.false
@@ -42,8 +43,8 @@ carve_bin-requires-clause-positive c =
 
 pub carve_found-requires-clause-fit : goal.carve_found-requires-clause-fit
 carve_found-requires-clause-fit c = record {
-  indexed = record { arena = c.self.invariant.arena; listed = c.best_fit.ensures.listed _ c.self.invariant.listed };
-  fit_is = c.in-Some.ensures.fit _ c.self.invariant.listed;
+  indexed = record { arena = (opened _ _ c.self.invariant).arena; listed = c.best_fit.ensures.listed _ (opened _ _ c.self.invariant).listed };
+  fit_is = c.in-Some.ensures.fit _ (opened _ _ c.self.invariant).listed;
 }
 
 pub carve_found-requires-clause-positive : goal.carve_found-requires-clause-positive
@@ -60,10 +61,19 @@ returns-in_default-clause-full c =
 
 pub returns-clause-full : goal.returns-clause-full
 returns-clause-full c =
-    let f = c.in-Some.ensures.fit _ c.self.invariant.listed in
+    let f = c.in-Some.ensures.fit _ (opened _ _ c.self.invariant).listed in
     let some : length c.args.sizes.now ≢ 0 = eqb-false (length c.args.sizes.now) 0 (sym c.is_empty.ensures ∙ c.if-is_empty.false) in
     let positive = total-positive c.args.sizes.now c.requires.sizes (omega arith) in
     rw (← c.self.view_is) (
       (λ e. absurd (not-full _ c.carve_found.ensures.fault e)),
-      λ h. absurd (fit-some _ _ _ _ _ c.self.invariant f.free (rw c.sum_of-total.ensures at f.fits) positive h.2),
+      λ h. absurd (fit-some _ _ _ _ _ (opened _ _ c.self.invariant) f.free (rw c.sum_of-total.ensures at f.fits) positive h.2),
     )
+
+pub passes_limit-requires-clause-small : goal.passes_limit-requires-clause-small
+passes_limit-requires-clause-small c = (opened _ _ c.self.invariant).arena.small
+
+pub invariant_of-self-in_default : goal.invariant_of-self-in_default
+invariant_of-self-in_default c = closed _ _ c.carve_bin.ensures.arena
+
+pub invariant_of-self-2 : goal.invariant_of-self-2
+invariant_of-self-2 c = closed _ _ c.carve_found.ensures.arena
