@@ -5,8 +5,10 @@ use Rattle.std.specs.Option.{option_and_then}
 use Rattle.reg_heap.specs.Heaps.{Heap}
 use Rattle.reg_heap.specs.Paths.{Path}
 use Rattle.reg_heap.specs.Edits.{missing, last_there}
-use Rattle.reg_arena.specs.Arena.{heap_of}
-use Rattle.reg_arena.specs.NewCells.{cell_size}
+use Rattle.reg_arena.specs.Arena.{Bins, heap_of}
+use Rattle.reg_arena.specs.Carves.{NoFit}
+use Rattle.reg_arena.specs.NewBin.{PassesLimit}
+use Rattle.reg_arena.specs.NewCells.{cell_size, total_of}
 use Rattle.reg_records.specs.KeyNodes.{KeyRecord, key_at}
 use Rattle.reg_shape.specs.PathLookup.{key_offset_at}
 use Rattle.reg_index.specs.declared.plan.TheConstants.{FIRST_LIST_SIZE}
@@ -51,3 +53,7 @@ set_sizes_by heap name size (Some key) = set_sizes heap key.fields.values key.fi
 -- and of the key whose key node stands at an offset
 unfoldable pub value_sizes : Heap → ℕ → List ℕ → ℕ → List ℕ
 value_sizes heap key name size = set_sizes_by heap name size (key_at heap key)
+
+-- the bins have no room for cells of these sizes side by side: no free cell has them all, and one bin more for them would pass the limit
+abbrev pub LacksRoom : Bins → List ℕ → Type 0
+LacksRoom bins sizes = NoFit bins.bytes (total_of sizes) × PassesLimit bins.bytes (total_of sizes)

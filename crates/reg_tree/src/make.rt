@@ -15,7 +15,7 @@ ghost use Rattle.reg_records.specs.KeyNodes.{KeyRecord, key_at};
 ghost use Rattle.reg_index.specs.Subkeys.{IsReady, KeepsCells, own, taken};
 ghost use Rattle.reg_values.specs.ValueLists.{Makes};
 ghost use Rattle.reg_tree.specs.TreeKeys.{tree_in};
-ghost use Rattle.reg_tree.specs.CellSizes.{create_sizes, own_sizes, planned, sizes_of};
+ghost use Rattle.reg_tree.specs.CellSizes.{create_sizes, own_sizes, planned, sizes_of, LacksRoom};
 ghost use Rattle.reg_tree.specs.Internal.KeyNodeChanges.{LeavesOthers};
 ghost use Rattle.reg_tree.specs.Internal.TreeInvariant.{IsHere};
 ghost use Rattle.reg_tree.specs.Internal.SpareCells.{MayGrow, Grows, AreReady, MayGrowAll, GrowsAll, IsSpared};
@@ -206,6 +206,8 @@ fn carve_for(
     requires few { length (path_of path.now) ≤ MADE_LIMIT }
     ensures ok { IfOk result (λ cells. IsSpared arena.old.bytes arena.new.bytes parent (path_of path.now) cells.items) }
     ensures full { (result ≡ Err TreeFault.Full) → BINS_LIMIT < length arena.old.bytes + GROWTH_BOUND }
+    ensures space { IfErr result (λ fault. fault ≡ TreeFault.Full →
+        LacksRoom arena.old (sizes_of (planned (heap_of arena.old) parent) (map own_sizes (path_of path.now)))) }
     ensures others { IfErr result (λ fault. (fault ≡ TreeFault.Full) ⊎ (fault ≡ TreeFault.Memory)) }
     ensures err { OnErr result (arena.new ≡ arena.old) }
     ensures grows { OnOk result (length arena.new.bytes ≤ length arena.old.bytes + GROWTH_BOUND) }
@@ -248,6 +250,9 @@ pub fn create(
     ensures limit { (t : IsHere arena.old.bytes from.offset) → from.depth ≡ length t.path →
         ((result ≡ Err TreeFault.Limit) ↔ AreTooMany (tree_in arena.old.bytes t.root) t.path (path_of path.now)) }
     ensures full { (result ≡ Err TreeFault.Full) → BINS_LIMIT < length arena.old.bytes + GROWTH_BOUND }
+    ensures space { (t : IsHere arena.old.bytes from.offset) → from.depth ≡ length t.path →
+        IfErr result (λ fault. fault ≡ TreeFault.Full → LacksRoom arena.old
+        (create_sizes (record { bins = arena.old; root = t.root; tree = tree_in arena.old.bytes t.root }) t.path (path_of path.now))) }
     ensures others { IfErr result (λ fault. (fault ≡ TreeFault.Limit) ⊎ ((fault ≡ TreeFault.Full) ⊎ (fault ≡ TreeFault.Memory))) }
     ensures err { OnErr result (arena.new ≡ arena.old) }
     ensures grows { OnOk result (length arena.new.bytes ≤ length arena.old.bytes + GROWTH_BOUND) }

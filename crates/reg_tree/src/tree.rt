@@ -44,7 +44,7 @@ impl Model for Tree {
 
 impl Tree {
     ghost use Rattle.reg_tree.specs.TreeKeys.{made_root, IsWholeTree, IsAt, IsThere, IsResolved, KeepsNodes, MakesKeys};
-    ghost use Rattle.reg_tree.specs.CellSizes.{create_sizes, value_sizes};
+    ghost use Rattle.reg_tree.specs.CellSizes.{create_sizes, value_sizes, LacksRoom};
     ghost use Rattle.reg_tree.specs.NewHive.{IsNewHive};
     ghost use Rattle.reg_tree.specs.KeyLengths.{ChangesLengths, KeepsLengths, NotesMade, lengths_at, no_lengths, with_value_lengths, with_first_length};
     ghost use Rattle.reg_tree.specs.ValueAnswers.{IsFound};
@@ -218,8 +218,9 @@ impl Tree {
     ///
     /// The cells that come are those of its list and its data, where they need some, each of its size.
     ///
-    /// `Limit` where the name is new and there are 16,384 values; `Full` only where the bins are within 1,310,720 bytes of
-    /// their limit of 268,435,456; `Memory`. The bins grow by at most 1,310,720 bytes.
+    /// `Limit` where the name is new and there are 16,384 values; `Full` only where no free cell has room for all the cells that
+    /// it takes together and one bin more for them would pass the limit of 268,435,456 bytes; `Memory`. The bins grow by at
+    /// most 1,310,720 bytes.
     pub fn set_value(
         &mut self,
         alloc: Global,
@@ -242,6 +243,8 @@ impl Tree {
             ((result ≡ Err TreeFault.Limit) ↔ ((VALUES_LIMIT ≤ length (values_at self.old.tree p))
             × (value_named name.now (values_at self.old.tree p) ≡ None))) }
         ensures full { (result ≡ Err TreeFault.Full) → BINS_LIMIT < length self.old.bins.bytes + GROWTH_BOUND }
+        ensures space { IfErr result (λ fault. fault ≡ TreeFault.Full →
+            LacksRoom self.old.bins (value_sizes (heap_of self.old.bins) node.offset name.now (length bytes.now))) }
         ensures others { IfErr result (λ fault. (fault ≡ TreeFault.Limit) ⊎ ((fault ≡ TreeFault.Full) ⊎ (fault ≡ TreeFault.Memory))) }
         ensures err { OnErr result (self.new ≡ self.old) }
         ensures grows { OnOk result (length self.new.bins.bytes ≤ length self.old.bins.bytes + GROWTH_BOUND) }
@@ -283,8 +286,9 @@ impl Tree {
     /// The cells that come are a key node's for each key made, of its size, and its parent's list's, where that needs a cell.
     ///
     /// `Limit` where a key is missing and more than 32 are, or the path has more than 512 names from the root on, or the
-    /// first missing key's parent has 500 subkeys; `Full` only where the bins are within 1,310,720 bytes of their limit of
-    /// 268,435,456; `Memory`. The bins grow by at most 1,310,720 bytes.
+    /// first missing key's parent has 500 subkeys; `Full` only where no free cell has room for all the cells that it takes
+    /// together and one bin more for them would pass the limit of 268,435,456 bytes; `Memory`. The bins grow by at most
+    /// 1,310,720 bytes.
     pub fn create(
         &mut self,
         alloc: Global,
@@ -305,6 +309,8 @@ impl Tree {
         ensures same { IfOk result (λ made. made.is_new ≡ false → self.new ≡ self.old) }
         ensures limit { (p : Path) → IsAt self.old p from → ((result ≡ Err TreeFault.Limit) ↔ (are_too_many self.old.tree p (path_of path.now) ≡ true)) }
         ensures full { (result ≡ Err TreeFault.Full) → BINS_LIMIT < length self.old.bins.bytes + GROWTH_BOUND }
+        ensures space { (p : Path) → IsAt self.old p from →
+            IfErr result (λ fault. fault ≡ TreeFault.Full → LacksRoom self.old.bins (create_sizes self.old p (path_of path.now))) }
         ensures others { IfErr result (λ fault. (fault ≡ TreeFault.Limit) ⊎ ((fault ≡ TreeFault.Full) ⊎ (fault ≡ TreeFault.Memory))) }
         ensures err { OnErr result (self.new ≡ self.old) }
         ensures grows { OnOk result (length self.new.bins.bytes ≤ length self.old.bins.bytes + GROWTH_BOUND) }

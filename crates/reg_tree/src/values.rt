@@ -9,7 +9,7 @@ ghost use Rattle.reg_heap.specs.Members.{value_named};
 ghost use Rattle.reg_heap.specs.Edits.{with_value, without_value, values_at};
 ghost use Rattle.reg_arena.specs.Arena.{heap_of};
 ghost use Rattle.reg_values.specs.ValueLists.{IsNamed, Makes, Tells};
-ghost use Rattle.reg_tree.specs.CellSizes.{value_sizes};
+ghost use Rattle.reg_tree.specs.CellSizes.{value_sizes, LacksRoom};
 ghost use Rattle.reg_tree.specs.TreeKeys.{tree_in};
 ghost use Rattle.reg_tree.specs.Internal.TreeInvariant.{IsHere, IsChanged};
 ghost use Rattle.reg_tree.specs.KeyLengths.{with_value_lengths};
@@ -122,6 +122,8 @@ pub fn set(
         × (value_named name.now (values_at (tree_in arena.old.bytes t.root) t.path) ≡ None))) }
     ensures others { IfErr result (λ fault. (fault ≡ TreeFault.Limit) ⊎ ((fault ≡ TreeFault.Full) ⊎ (fault ≡ TreeFault.Memory))) }
     ensures full { (result ≡ Err TreeFault.Full) → BINS_LIMIT < length arena.old.bytes + GROWTH_BOUND }
+    ensures space { IfErr result (λ fault. fault ≡ TreeFault.Full →
+        LacksRoom arena.old (value_sizes (heap_of arena.old) key name.now (length bytes.now))) }
     ensures err { OnErr result (arena.new ≡ arena.old) }
     ensures grows { OnOk result (length arena.new.bytes ≤ length arena.old.bytes + GROWTH_BOUND) }
     ensures kept { OnOk result (length arena.old.bytes ≤ length arena.new.bytes) }

@@ -1,6 +1,6 @@
 -- A tree's nodes where keys were made.
 use Rattle.std.proofs.Common.{◌≡◌, ◌≢◌, ◌↔◌, ℕ, ◌≤◌, true, false, List, [], ◌++◌, map, length, sym, ap, ◌∙◌, subst, arith, length-append}
-use Rattle.std.specs.Prelude.{Result, Ok, Err, OnOk, OnErr, IfOk}
+use Rattle.std.specs.Prelude.{Result, Ok, Err, OnOk, OnErr, IfOk, IfErr}
 use Rattle.reg_names.specs.declared.TheConstants.{PATH_LIMIT}
 use Rattle.reg_names.specs.Names.{folded, path_of}
 use Rattle.reg_heap.specs.Paths.{Path}
@@ -8,11 +8,12 @@ use Rattle.reg_heap.specs.Edits.{folded_path, with_keys, missing, last_there}
 use Rattle.reg_heap.specs.Heaps.{Heap}
 use Rattle.reg_arena.specs.Arena.{Bins, heap_of}
 use Rattle.reg_values.specs.ValueLists.{Makes}
-use Rattle.reg_tree.specs.CellSizes.{create_sizes}
+use Rattle.reg_tree.specs.CellSizes.{create_sizes, LacksRoom}
 use Rattle.reg_tree.specs.KeyLengths.{ChangesLengths, NotesMade, with_first_length}
 use Rattle.reg_tree.specs.declared.node.Node.{Node}
 use Rattle.reg_tree.specs.declared.node.Created.{Created}
 use Rattle.reg_tree.specs.declared.fault.TreeFault.{TreeFault}
+use Rattle.reg_tree.specs.declared.fault.TreeFault.TheVariants.{Full}
 use Rattle.reg_tree.specs.TreeKeys.{Keys, tree_in, IsAt, IsThere, KeepsNodes, MakesKeys}
 use Rattle.reg_tree.specs.Internal.TreeInvariant.{TreeInvariant, IsHere}
 use Rattle.reg_tree.specs.Internal.KeyCreation.{IsCreated}
@@ -31,6 +32,11 @@ module _ (bins : Bins) (root : ℕ) (holds : TreeInvariant bins.bytes root) (now
   pub cells_created : (h : Heap) (result : Answer) (p : Path) (text : List ℕ) → OnOk result (Makes (heap_of bins) h (create_sizes (seen_as bins root) p (path_of text)))
       → OnOk result (Makes (heap_of now.bins) h (create_sizes now p (path_of text)))
   cells_created h result p text c = subst (λ (k : Keys). OnOk result (Makes (heap_of k.bins) h (create_sizes k p (path_of text)))) view_is c
+
+  -- no room for them
+  pub room_created : (result : Answer) (p : Path) (text : List ℕ) → IfErr result (λ fault. fault ≡ Full → LacksRoom bins (create_sizes (seen_as bins root) p (path_of text)))
+      → IfErr result (λ fault. fault ≡ Full → LacksRoom now.bins (create_sizes now p (path_of text)))
+  room_created result p text c = subst (λ (k : Keys). IfErr result (λ fault. fault ≡ Full → LacksRoom k.bins (create_sizes k p (path_of text)))) view_is c
 
   -- where no key was made nothing changed
   pub same_created : (new : Bins) (result : Answer) → IfOk result (λ made. made.is_new ≡ false → new ≡ bins) → IfOk result (λ made. made.is_new ≡ false → seen_as new root ≡ now)

@@ -25,7 +25,7 @@ use Rattle.reg_records.proofs.KeyNodeCodec.{key_at-same}
 use Rattle.reg_shape.proofs.Wholeness.ShapeRecords.{at-most-one, allocated-is}
 use Rattle.reg_tree.specs.KeyLengths.{lengths_of, lengths_at, with_first_length}
 use Rattle.reg_tree.specs.Internal.LengthChanges.{LengthsChange, MadeLengths}
-use Rattle.reg_tree.specs.CellSizes.{planned, own_sizes, sizes_of, create_sizes}
+use Rattle.reg_tree.specs.CellSizes.{planned, own_sizes, sizes_of, create_sizes, LacksRoom}
 use Rattle.reg_tree.specs.Internal.TreeInvariant.{TreeInvariant, IsHere}
 use Rattle.reg_tree.specs.Internal.PathWalks.{Stops, Reaches}
 use Rattle.reg_tree.specs.Internal.SpareCells.{MayGrowAll, GrowsAll, IsSpared}
@@ -291,3 +291,6 @@ module _ (bins : Bins) (from : TreeNode) (t : IsHere bins.bytes from.offset) (pa
   pub created_cells : (mid new spare : List ℕ) → IsSpared bins.bytes mid parent.offset (path_of rest) spare → KeepsCells (cell_at mid) (cell_at new) →
       ((z : ℕ) → 0 < times z spare → IsSome (cell_at new z)) → Makes heap (cell_at new) (create_sizes seen t.path (path_of path))
   created_cells mid new spare s keeps stay = subst (Makes heap (cell_at new)) (sym created_sizes) (made_makes bins.bytes mid new parent.offset (path_of rest) spare s keeps stay)
+
+  pub created_room : LacksRoom bins (sizes_of (planned heap parent.offset) (map own_sizes (path_of rest))) → LacksRoom bins (create_sizes seen t.path (path_of path))
+  created_room lacks = subst (LacksRoom bins) (sym created_sizes) lacks

@@ -171,15 +171,19 @@ makes_after h h1 h2 sizes m same = record {
   only = λ z none there. m.only z none (still-there (h1 z) (h2 z) (same z).0 there);
 }
 
--- the cells of a set, by the list that the key node names
-pub set_of_key : (h h1 : Heap) (key count offset : ℕ) (name : List ℕ) (size : ℕ) → IsSome (key_at h key) → HasList h key count offset →
-    Makes h h1 (set_sizes h count offset name size) → Makes h h1 (value_sizes h key name size)
+-- the sizes of a set, by the list that the key node names
+pub sizes_of_key : (h : Heap) (key count offset : ℕ) (name : List ℕ) (size : ℕ) → IsSome (key_at h key) → HasList h key count offset →
+    set_sizes h count offset name size ≡ value_sizes h key name size
 unfolding value_sizes
-set_of_key h h1 key count offset name size there list makes = by (key_at h key) there list
+sizes_of_key h key count offset name size there list = by (key_at h key) there list
   where
     by : (o : Option KeyRecord) → IsSome o → ((k : KeyRecord) → o ≡ Some k → (count ≡ k.fields.values) × (offset ≡ k.fields.values_list)) →
-        Makes h h1 (set_sizes_by h name size o)
+        set_sizes h count offset name size ≡ set_sizes_by h name size o
     by None e list = absurd (cc)
     by (Some k) e list =
-        subst (λ n. Makes h h1 (set_sizes h n k.fields.values_list name size)) (list k refl).0
-        (subst (λ p. Makes h h1 (set_sizes h count p name size)) (list k refl).1 makes)
+        ap (λ n. set_sizes h n offset name size) (list k refl).0 ∙ ap (λ p. set_sizes h k.fields.values p name size) (list k refl).1
+
+-- the cells of a set, by the same
+pub set_of_key : (h h1 : Heap) (key count offset : ℕ) (name : List ℕ) (size : ℕ) → IsSome (key_at h key) → HasList h key count offset →
+    Makes h h1 (set_sizes h count offset name size) → Makes h h1 (value_sizes h key name size)
+set_of_key h h1 key count offset name size there list makes = subst (Makes h h1) (sizes_of_key h key count offset name size there list) makes

@@ -15,6 +15,8 @@ use Rattle.reg_heap.specs.Heaps.{Heap, AreNew}
 use Rattle.reg_index.specs.declared.plan.TheConstants.{FIRST_LIST_SIZE}
 use Rattle.reg_arena.specs.declared.ArenaFault.{ArenaFault}
 use Rattle.reg_arena.specs.declared.ArenaFault.TheVariants as arena
+use Rattle.reg_arena.specs.Arena.{Bins}
+use Rattle.reg_arena.specs.Carves.{NoFit}
 use Rattle.reg_arena.specs.Cells.{cell_at}
 use Rattle.reg_arena.specs.NewBin.{PassesLimit}
 use Rattle.reg_arena.specs.NewCells.{AreSizes, total_of}
@@ -28,6 +30,7 @@ use Rattle.reg_index.specs.Subkeys.{AreSubkeys, IsReady, insert_size}
 use Rattle.reg_index.proofs.SubkeysOpening.{few-subkeys}
 use Rattle.reg_tree.specs.declared.fault.TreeFault.{TreeFault}
 use Rattle.reg_tree.specs.declared.fault.TreeFault.TheVariants.{Full}
+use Rattle.reg_tree.specs.CellSizes.{planned, LacksRoom}
 use Rattle.reg_tree.specs.Internal.TreeFaults.{of_arena}
 use Rattle.reg_tree.specs.Internal.KeyNodeChanges.{HasSubkeysList}
 use Rattle.reg_tree.specs.Internal.TreeInvariant.{IsHere}
@@ -127,15 +130,18 @@ pub plan_told : (bytes : List ℕ) (key : ℕ) → IsHere bytes key → (count l
 plan_told bytes key t count list has plan e = subst IsPlan (sym e) (plan_good bytes key t count list has)
 
 -- only where the arena is full is the tree
-pub is-full : (fault : ArenaFault) (told : TreeFault) → told ≡ of_arena fault → ◌≡◌ {A = Result (Vec ℕ Global) TreeFault} (Err told) (Err Full) → fault ≡ arena.Full
-is-full fault told e f = by fault (sym e ∙ same_err f)
+pub full-is : (fault : ArenaFault) (told : TreeFault) → told ≡ of_arena fault → told ≡ Full → fault ≡ arena.Full
+full-is fault told e f = by fault (sym e ∙ f)
   where
-    same_err : {a b : TreeFault} → ◌≡◌ {A = Result (Vec ℕ Global) TreeFault} (Err a) (Err b) → a ≡ b
-    same_err {a} {b} e = cc
-
     by : (fault : ArenaFault) → of_arena fault ≡ Full → fault ≡ arena.Full
     by arena.Full e = refl
     by arena.Memory e = absurd (cc)
+
+pub is-full : (fault : ArenaFault) (told : TreeFault) → told ≡ of_arena fault → ◌≡◌ {A = Result (Vec ℕ Global) TreeFault} (Err told) (Err Full) → fault ≡ arena.Full
+is-full fault told e f = full-is fault told e (same_err f)
+  where
+    same_err : {a b : TreeFault} → ◌≡◌ {A = Result (Vec ℕ Global) TreeFault} (Err a) (Err b) → a ≡ b
+    same_err {a} {b} e = cc
 
 -- ---- the cells are ready
 
@@ -200,3 +206,11 @@ spared old new key t count list has path plan plan_is sizes offsets cells sizes_
       ready = subst (λ plan. AreReady (cell_at new) plan (map own_sizes (path_of path)) cells) (sym p)
           (ready-all (cell_at new) (insert_size (cell_at old) count list) (path_of path) cells (plan_good old key t count list has) a.as_many a.zeros);
     }
+
+-- where there is no room for the cells planned, there is none for those that keys of these names take
+pub lacks_room : (bins : Bins) (key : ℕ) (t : IsHere bins.bytes key) (count list : ℕ) → HasSubkeysList (cell_at bins.bytes) key count list →
+    (path : List ℕ) (plan : Option ℕ) → plan ≡ insert_size (cell_at bins.bytes) count list → (sizes : List ℕ) → sizes ≡ sizes_of plan (map own_sizes (path_of path)) →
+    PassesLimit bins.bytes (total_of sizes) → NoFit bins.bytes (total_of sizes) → LacksRoom bins (sizes_of (planned (cell_at bins.bytes) key) (map own_sizes (path_of path)))
+lacks_room bins key t count list has path plan plan_is sizes sizes_are past none =
+    let p = planned_is bins.bytes key [] (growing bins.bytes key t) count list has in
+    subst (LacksRoom bins) (sizes_are ∙ ap (λ plan. sizes_of plan (map own_sizes (path_of path))) (plan_is ∙ sym p)) (none, past)

@@ -1,7 +1,7 @@
 use Rattle.std.proofs.Common.{Err, arith, sym, subst, ap, ◌∙◌, ◌≤◌, ◌++◌}
 use Rattle.reg_names.specs.Names.{path_of}
 use Rattle.reg_arena.specs.NewCells.{AreSizes, total_of}
-use Rattle.reg_tree.proofs.InsertKey.PathCarve.{parent_there, parent_subkeys, plan_told, are-sizes, total-few, near-limit, is-full, spared}
+use Rattle.reg_tree.proofs.InsertKey.PathCarve.{parent_there, parent_subkeys, plan_told, are-sizes, total-few, near-limit, is-full, full-is, lacks_room, spared}
 use Rattle.reg_tree.proofs.make.carve_for.Goals as goal
 
 pub subkeys_list-requires : goal.subkeys_list-requires
@@ -38,3 +38,8 @@ returns-in-Ok-carve_change-clause-grows c =
     let same = ap total_of (c.deref.ensures.value ∙ c.in-Ok.ensures) in
     let grown = c.in-Ok-carve_change.ensures.grows in
     omega (arith, few, same, grown)
+
+pub returns-clause-space : goal.returns-clause-space
+returns-clause-space c = λ full.
+    let past = c.in-Err-carve_change.ensures.full.0 (ap (λ f. Err f) (full-is c.in-Err-carve_change.fault _ c.from.ensures full)) in
+    lacks_room c.args.arena.now _ c.requires.here _ _ c.subkeys_list.ensures c.args.path.now _ c.plan_insert-planned.ensures _ (c.deref.ensures.value ∙ c.in-Ok.ensures) past.1 past.2

@@ -2,7 +2,7 @@ use Rattle.std.proofs.Common.{sym, ◌∙◌}
 use Rattle.std.proofs.lemmas.Bool.{false≢true}
 use Rattle.reg_tree.proofs.PathWalk.PathSteps.{some_names}
 use Rattle.reg_tree.proofs.InsertKey.CreatePath.{parent_here, parent-deep, created_none, new_none, new_some, none_many, too_many, are_many, may_make, created}
-use Rattle.reg_tree.proofs.InsertKey.CreatePath.{no_cells, created_cells}
+use Rattle.reg_tree.proofs.InsertKey.CreatePath.{no_cells, created_cells, created_room}
 use Rattle.reg_tree.proofs.InsertKey.CreatePathEnds.{from_shallow, empty_names, limit_none, limit_many, limit_other, spared_as}
 use Rattle.reg_tree.proofs.make.create.Goals as goal
 
@@ -73,3 +73,6 @@ pub returns-clause-cells : goal.returns-clause-cells
 returns-clause-cells c = λ t d.
     let s = spared_as _ _ _ _ c.deref.result.now c.in-Ok.cells.items c.deref.ensures.value c.in-Ok.ensures.ok in
     created_cells c.args.arena.now c.args.from t c.args.path.now _ _ c.reach.ensures c.args.moment _ _ c.deref.result.now s c.make_all-node.ensures.keeps c.make_all-node.ensures.stay
+
+pub returns-in-Err-clause-space : goal.returns-in-Err-clause-space
+returns-in-Err-clause-space c = λ t d full. created_room c.args.arena.now c.args.from t c.args.path.now _ _ c.reach.ensures c.args.moment (c.in-Err.ensures.space full)

@@ -1,7 +1,10 @@
 use Rattle.reg_tree.proofs.Invariant.KeyOfTree.{key_there, list_values, list_reads}
 use Rattle.reg_tree.proofs.ValueChange.TreeAfterValueChange.{key_mid, set_changed, set_lengths}
 use Rattle.reg_tree.proofs.KeyAnswers.RefinementOfValues.{other_fault, no_fault}
-use Rattle.reg_tree.proofs.InsertKey.MadeCells.{makes_after, set_of_key}
+use Rattle.reg_tree.proofs.InsertKey.MadeCells.{makes_after, set_of_key, sizes_of_key}
+use Rattle.reg_tree.proofs.InsertKey.PathCarve.{full-is}
+use Rattle.reg_tree.specs.CellSizes.{LacksRoom}
+use Rattle.std.proofs.Common.{Err, ap, subst, length}
 use Rattle.reg_tree.proofs.values.set.Goals as goal
 
 pub values_list-old-requires : goal.values_list-old-requires
@@ -34,3 +37,9 @@ pub returns-clause-cells : goal.returns-clause-cells
 returns-clause-cells c =
     set_of_key _ _ c.args.key _ _ c.args.name.now _ (key_there _ _ c.requires.here) c.values_list-old.ensures
     (makes_after _ _ _ _ c.in-Ok.ensures.cells c.note_values.ensures.sizes)
+
+pub returns-in-Err-clause-space : goal.returns-in-Err-clause-space
+returns-in-Err-clause-space c = λ full.
+    let e = ap (λ f. Err f) (full-is c.in-Err.fault _ c.from.ensures full) in
+    subst (LacksRoom c.args.arena.now) (sizes_of_key _ c.args.key _ _ c.args.name.now (length c.args.bytes.now) (key_there _ _ c.requires.here) c.values_list-old.ensures)
+    (c.in-Err.ensures.full e, c.in-Err.ensures.limit e)

@@ -5,7 +5,7 @@ use Rattle.reg_arena.specs.Arena.{heap_of}
 use Rattle.reg_heap.specs.Edits.{are_too_many}
 use Rattle.reg_tree.specs.declared.fault.TreeFault.TheVariants.{Limit}
 use Rattle.reg_tree.proofs.Invariant.NodeLemmas.{here_at, of_tree}
-use Rattle.reg_tree.proofs.InsertKey.CreateKeepsNodes.{from_at, holds_created, keys_created, cells_created, same_created, lengths_created, noted_created}
+use Rattle.reg_tree.proofs.InsertKey.CreateKeepsNodes.{from_at, holds_created, keys_created, cells_created, room_created, same_created, lengths_created, noted_created}
 use Rattle.reg_tree.proofs.InsertKey.KeyLimits.{by_test}
 use Rattle.reg_tree.proofs.tree.Tree.create.Goals as goal
 
@@ -37,3 +37,8 @@ returns-clause-lengths c = lengths_created _ _ c.self.invariant _ c.self.view_is
 
 pub returns-clause-made : goal.returns-clause-made
 returns-clause-made c = noted_created _ _ c.self.invariant _ c.self.view_is _ c.create.result c.args.from c.requires.from c.args.path.now c.args.moment c.create.ensures.ok c.create.ensures.err
+
+pub returns-clause-space : goal.returns-clause-space
+returns-clause-space c = λ p at.
+    room_created _ _ c.self.invariant _ c.self.view_is c.create.result p c.args.path.now
+    (c.create.ensures.space (here_at _ _ c.self.invariant _ c.self.view_is c.args.from p at) at.depth)
