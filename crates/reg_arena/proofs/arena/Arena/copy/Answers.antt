@@ -8,7 +8,8 @@ move_part-requires-clause-source c = write_fits _ c.args.source c.args.from c.ar
     (rw (← c.self.view_is) at c.requires.source) (rw (← c.self.view_is) at c.requires.within)
 
 pub move_part-requires-clause-fits : goal.move_part-requires-clause-fits
-move_part-requires-clause-fits c = write_fits _ c.args.cell c.args.at c.args.len (opened _ _ c.self.invariant).arena (rw (← c.self.view_is) at c.requires.exists) (rw (← c.self.view_is) at c.requires.fits)
+move_part-requires-clause-fits c = write_fits _ c.args.cell c.args.at c.args.len (opened _ _ c.self.invariant).arena
+    (rw (← c.self.view_is) at c.requires.exists) (rw (← c.self.view_is) at c.requires.fits)
 
 pub invariant_of-self : goal.invariant_of-self
 invariant_of-self c = closed _ _ ((copied _ _ _ c.args.source c.args.from c.args.cell c.args.at c.args.len (opened _ _ c.self.invariant) (rw (← c.self.view_is) at c.requires.source)

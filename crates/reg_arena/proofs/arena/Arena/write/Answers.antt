@@ -4,7 +4,8 @@ use Rattle.reg_arena.proofs.Tiling.ArenaInvariant.{closed, opened}
 use Rattle.reg_arena.proofs.arena.Arena.write.Goals as goal
 
 pub write_part-requires : goal.write_part-requires
-write_part-requires c = write_fits _ c.args.cell c.args.at (length c.args.bytes.now) (opened _ _ c.self.invariant).arena (rw (← c.self.view_is) at c.requires.exists) (rw (← c.self.view_is) at c.requires.fits)
+write_part-requires c = write_fits _ c.args.cell c.args.at (length c.args.bytes.now) (opened _ _ c.self.invariant).arena
+    (rw (← c.self.view_is) at c.requires.exists) (rw (← c.self.view_is) at c.requires.fits)
 
 pub invariant_of-self : goal.invariant_of-self
 invariant_of-self c = closed _ _ (rw c.write_part.ensures ((wrote _ _ c.args.cell c.args.at c.args.bytes.now (opened _ _ c.self.invariant) (rw (← c.self.view_is) at c.requires.exists)
