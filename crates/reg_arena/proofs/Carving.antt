@@ -10,3 +10,5 @@ pub mod FreshBins
 pub mod ReservedRoom
 pub mod SmallestFits
 pub mod EachCarve
+pub mod LargestLeft
+pub mod FallingCells

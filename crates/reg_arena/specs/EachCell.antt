@@ -1,6 +1,7 @@
 -- Cells carved one after the other, each by itself.
-use Rattle.std.specs.Prelude.{◌≡◌, ℕ, ◌+◌, ◌*◌, ◌/◌, ◌≤◌, List, [], ◌∷◌, length}
+use Rattle.std.specs.Prelude.{◌≡◌, ℕ, ◌+◌, ◌*◌, ◌/◌, ◌≤◌, ◌<◌, ◌⊎◌, if◌then◌else◌, nat_lt, List, [], ◌∷◌, length, get_or, map}
 use Rattle.std.specs.List.{AllByRecursion}
+use Rattle.reg_heap.specs.Kinds.{times}
 use Rattle.reg_heap.specs.declared.limits.TheConstants.{BINS_LIMIT, GROWTH_BOUND}
 use Rattle.reg_arena.specs.declared.TheConstants.{CARVE_LIMIT}
 use Rattle.reg_arena.specs.Carves.{CarvesExactly}
@@ -26,11 +27,34 @@ EachExactly old new (size ∷ sizes) (offset ∷ offsets) =
     (mid : List ℕ) × CarvesExactly old mid (size ∷ []) (offset ∷ []) × EachExactly mid new sizes offsets
 EachExactly old new sizes offsets = ⊥
 
+-- of two places of the sizes this one comes first: its size is larger, or they are equal and it stands before the other
+abbrev pub IsCarvedBefore : List ℕ → ℕ → ℕ → Type 0
+IsCarvedBefore sizes place later =
+    (get_or sizes later 0 < get_or sizes place 0) ⊎ ((get_or sizes later 0 ≡ get_or sizes place 0) × (place < later))
+
+-- each of these places comes before all that follow it
+abbrev pub AreFalling : List ℕ → List ℕ → Type 0
+AreFalling sizes [] = Unit {0}
+AreFalling sizes (place ∷ turn) = AllByRecursion (IsCarvedBefore sizes place) turn × AreFalling sizes turn
+
+-- what a list has at these places
+abbrev pub at_places : List ℕ → List ℕ → List ℕ
+at_places numbers places = map (λ place. get_or numbers place 0) places
+
+-- each cell by itself, the largest first and of equal ones the first: `turn` names each place of the sizes once, in the order in
+-- which their cells are carved; the offsets are in the order of the sizes
+pub record EachFalling (old new sizes offsets : List ℕ) : Type 0 where
+  pub turn : List ℕ
+  pub each_once : (place : ℕ) → times place turn ≡ (if nat_lt place (length sizes) then 1 else 0)
+  pub falls : AreFalling sizes turn
+  pub as_many : length offsets ≡ length sizes
+  pub carves : EachExactly old new (at_places sizes turn) (at_places offsets turn)
+
 -- a bin for each cell is within what one change may add, and within the limit of all bins
 abbrev pub HasRoomForEach : List ℕ → List ℕ → Type 0
 HasRoomForEach bytes sizes = (fresh_of sizes ≤ GROWTH_BOUND) × (length bytes + fresh_of sizes ≤ BINS_LIMIT)
 
--- the cells of one change: each by itself where a bin for each has room, else side by side
+-- the cells of one change: each by itself, the largest first, where a bin for each has room, else side by side
 pub record CarvesChange (old new sizes offsets : List ℕ) : Type 0 where
-  pub apart : HasRoomForEach old sizes → EachExactly old new sizes offsets
+  pub apart : HasRoomForEach old sizes → EachFalling old new sizes offsets
   pub together : (HasRoomForEach old sizes → ⊥) → CarvesExactly old new sizes offsets

@@ -8,7 +8,7 @@ ghost use Rattle.reg_arena.specs.declared.TheConstants.{CARVE_LIMIT};
 ghost use Rattle.reg_arena.specs.Arena.{IsSound, empty_heads, heap_of};
 ghost use Rattle.reg_arena.specs.NewCells.{total_of, AreSizes};
 ghost use Rattle.reg_arena.specs.Carves.{AddsCells, CarvesExactly, NoFit};
-ghost use Rattle.reg_arena.specs.EachCell.{fresh_of, AreCarvable, CarvesChange, EachExactly};
+ghost use Rattle.reg_arena.specs.EachCell.{fresh_of, AreCarvable, CarvesChange, EachFalling};
 ghost use Rattle.reg_arena.specs.NewBin.{PassesLimit};
 ghost use Rattle.reg_arena.specs.Frees.{Frees};
 ghost use Rattle.reg_arena.specs.Cells.{cells_of, size_in, IsInBin};
@@ -211,13 +211,15 @@ impl Arena {
         carve_found(&mut self.bins, &mut self.lists, fit, total, sizes, out)
     }
 
-    /// Allocates cells of these sizes, each by itself and in their order, and puts their offsets behind those of `out`.
+    /// Allocates cells of these sizes, each by itself, the largest first and of equal ones the first, and puts their offsets
+    /// behind those of `out` in the order of the sizes.
     ///
     /// Each cell is taken as [`carve`](Arena::carve) of its size alone takes it: from a free cell that fits it, and only
-    /// where none does from a new bin of the least size that holds it. So cells of one call need not stand side by side, and
-    /// each finds the hole that fits it best where the largest is named first. A size counts the cell's size field, and is a
-    /// multiple of 8, not 0 and at most 16,777,216. The cells hold zeros. The bins grow by at most the sum of the least bins
-    /// for each size: 32 bytes and the size, rounded up to a multiple of 4096. No size: nothing happens.
+    /// where none does from a new bin of the least size that holds it. So cells of one call need not stand side by side; the
+    /// largest comes first, since the fewest holes have room for it. To find it takes time that grows with the square of how
+    /// many sizes there are. A size counts the cell's size field, and is a multiple of 8, not 0 and at most 16,777,216. The
+    /// cells hold zeros. The bins grow by at most the sum of the least bins for each size: 32 bytes and the size, rounded up
+    /// to a multiple of 4096. No size: nothing happens.
     ///
     /// [`ArenaFault::Full`]: with all those bins there would be more than 268,435,456 bytes, whether they are needed or not;
     /// a [`carve`](Arena::carve) of all sizes may still find room. [`ArenaFault::Memory`]: `out`, or the room for all those
@@ -229,7 +231,7 @@ impl Arena {
         requires each { AreCarvable sizes.now }
         ensures nothing { sizes.now ≡ [] → (result ≡ Ok tt) × (self.new ≡ self.old) × (out.new.items ≡ out.old.items) }
         ensures ok { OnOk result ((offsets : List ℕ) × (out.new.items ≡ out.old.items ++ offsets)
-            × EachExactly self.old.bytes self.new.bytes sizes.now offsets
+            × EachFalling self.old.bytes self.new.bytes sizes.now offsets
             × AreNew (heap_of self.old) (heap_of self.new) offsets sizes.now) }
         ensures full { (result ≡ Err ArenaFault.Full)
             ↔ ((0 < length sizes.now) × (BINS_LIMIT < length self.old.bytes + fresh_of sizes.now)) }
@@ -243,9 +245,9 @@ impl Arena {
         carve_cells(&mut self.bins, &mut self.lists, sizes, out)
     }
 
-    /// Allocates the cells of one change, and puts their offsets behind those of `out`: each by itself, as
-    /// [`carve_each`](Arena::carve_each) does, where the least bins for each take at most 1,310,720 bytes together and the bins
-    /// with them at most 268,435,456; else side by side, as [`carve`](Arena::carve) does.
+    /// Allocates the cells of one change, and puts their offsets behind those of `out`, in the order of the sizes: each by
+    /// itself, the largest first, as [`carve_each`](Arena::carve_each) does, where the least bins for each take at most
+    /// 1,310,720 bytes together and the bins with them at most 268,435,456; else side by side, as [`carve`](Arena::carve) does.
     ///
     /// A size counts the cell's size field, and is a multiple of 8 and not 0; all sizes together are at most 1,306,592. The
     /// cells hold zeros. The bins grow by at most 1,310,720 bytes. No size: nothing happens.

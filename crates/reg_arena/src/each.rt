@@ -1,12 +1,13 @@
-//! Cells carved one after the other, each by itself.
-ghost use Rattle.std.specs.Prelude.{◌≡◌, ◌↔◌, ◌+◌, ◌-◌, ◌≤◌, ◌<◌, ◌%◌, ℕ, List, [], ◌∷◌, ◌++◌, length, vec_len, vec_capacity, Err, OnErr, OnOk, MatchOption};
-ghost use Rattle.reg_heap.specs.declared.limits.TheConstants.{BINS_LIMIT};
+//! Cells carved one after the other, each by itself, the largest first.
+ghost use Rattle.std.specs.Prelude.{◌≡◌, ◌↔◌, ◌+◌, ◌-◌, ◌≤◌, ◌<◌, ◌%◌, ◌⊎◌, ℕ, List, [], ◌∷◌, ◌++◌, length, set, get_or, vec_len, vec_capacity, Err, OnErr, OnOk, MatchOption};
+ghost use Rattle.reg_heap.specs.declared.limits.TheConstants.{BINS_LIMIT, NONE};
 ghost use Rattle.reg_heap.specs.Heaps.{AreNew};
+ghost use Rattle.reg_heap.specs.Kinds.{times};
 ghost use Rattle.reg_arena.specs.declared.TheConstants.{CARVE_LIMIT};
 ghost use Rattle.reg_arena.specs.Cells.{cell_at};
 ghost use Rattle.reg_arena.specs.NewCells.{AreSizes};
 ghost use Rattle.reg_arena.specs.Carves.{CarvesExactly};
-ghost use Rattle.reg_arena.specs.EachCell.{fresh_bin, fresh_of, AreCarvable, EachExactly};
+ghost use Rattle.reg_arena.specs.EachCell.{fresh_bin, fresh_of, AreCarvable, EachFalling, IsCarvedBefore};
 ghost use Rattle.reg_arena.specs.Internal.ListedCells.{IsIndexed, IsListed};
 ghost use Rattle.reg_arena.specs.Internal.Reserved.{AreReserved, KeepsRoom};
 
@@ -14,7 +15,7 @@ use crate::ArenaFault;
 use crate::bin::bin_size;
 use crate::carve::{carve_bin, carve_found};
 use crate::free_lists::FreeLists;
-use reg_heap::limits::BINS_LIMIT;
+use reg_heap::limits::{BINS_LIMIT, NONE};
 use std::alloc::AllocError;
 
 // The bytes of the least bins for cells of these sizes, one for each, where they are at most `limit`.
@@ -66,24 +67,73 @@ fn carve_one(bins: &mut Vec<u8>, lists: &mut FreeLists, size: u32, out: &mut Vec
     let _ = carve_found(bins, lists, fit, size, &[size], out);
 }
 
-// Carves a cell of each size, one after the other. There is room for all.
+// Carves one cell, for which there is room, and puts its offset at a place of `out`.
+fn carve_to(bins: &mut Vec<u8>, lists: &mut FreeLists, size: u32, out: &mut Vec<u32>, place: usize)
+    requires arena { IsIndexed bins.old.items lists.old }
+    requires size { (0 < size) × (size % 8 ≡ 0) }
+    requires small { size ≤ CARVE_LIMIT }
+    requires limit { length bins.old.items + fresh_bin size ≤ BINS_LIMIT }
+    requires reserved { AreReserved (length bins.old.items + fresh_bin size) (vec_capacity bins.old) lists.old }
+    requires room { vec_len out.old + 1 ≤ vec_capacity out.old }
+    requires place { place < length out.old.items }
+    ensures arena { IsIndexed bins.new.items lists.new }
+    ensures carves { (offset : ℕ) × (out.new.items ≡ set out.old.items place offset)
+        × CarvesExactly bins.old.items bins.new.items (size ∷ []) (offset ∷ []) }
+    ensures keeps { KeepsRoom (vec_capacity bins.old) lists.old (vec_capacity bins.new) lists.new }
+    ensures out_capacity { vec_capacity out.old ≤ vec_capacity out.new }
+{
+    carve_one(bins, lists, size, out);
+    let Some(offset) = out.pop() else {
+        return;
+    };
+    out[place] = offset;
+}
+
+// The place of the largest of the sizes whose offset isn't there yet, the first of equal ones.
+fn largest_left(sizes: &[u32], offsets: &[u32]) -> usize
+    requires sizes { AreSizes sizes.now }
+    requires long { length offsets.now ≡ length sizes.now }
+    requires some { 0 < times NONE offsets.now }
+    ensures within { result < length sizes.now }
+    ensures left { get_or offsets.now result 0 ≡ NONE }
+    ensures first { (place : ℕ) → place < length sizes.now → get_or offsets.now place 0 ≡ NONE →
+        (place ≡ result) ⊎ IsCarvedBefore sizes.now result place }
+{
+    let mut most = 0;
+    let mut largest = 0;
+    for place in 0..sizes.len() {
+        if offsets[place] == NONE && sizes[place] > most {
+            most = sizes[place];
+            largest = place;
+        }
+    }
+    largest
+}
+
+// Carves a cell of each size, the largest first, and puts their offsets in the order of the sizes. There is room for all.
 fn carve_all(bins: &mut Vec<u8>, lists: &mut FreeLists, sizes: &[u32], out: &mut Vec<u32>)
     requires arena { IsIndexed bins.old.items lists.old }
     requires sizes { AreSizes sizes.now }
     requires each { AreCarvable sizes.now }
     requires limit { length bins.old.items + fresh_of sizes.now ≤ BINS_LIMIT }
     requires reserved { AreReserved (length bins.old.items + fresh_of sizes.now) (vec_capacity bins.old) lists.old }
-    requires room { vec_len out.old + length sizes.now ≤ vec_capacity out.old }
+    requires room { vec_len out.old + length sizes.now + 1 ≤ vec_capacity out.old }
     ensures arena { IsIndexed bins.new.items lists.new }
     ensures each { (offsets : List ℕ) × (out.new.items ≡ out.old.items ++ offsets)
-        × EachExactly bins.old.items bins.new.items sizes.now offsets }
+        × EachFalling bins.old.items bins.new.items sizes.now offsets
+        × AreNew (cell_at bins.old.items) (cell_at bins.new.items) offsets sizes.now }
+    ensures grows { length bins.new.items ≤ length bins.old.items + fresh_of sizes.now }
+    ensures kept { length bins.old.items ≤ length bins.new.items }
 {
-    for size in sizes {
-        carve_one(bins, lists, *size, out);
+    let from = out.len();
+    let _ = out.resize(from + sizes.len(), NONE);
+    for _turn in 0..sizes.len() {
+        let place = largest_left(sizes, &out[from..]);
+        carve_to(bins, lists, sizes[place], out, from + place);
     }
 }
 
-// Carves a cell of each size, one after the other. All memory is asked for, and the limit is seen to, before the first.
+// Carves a cell of each size, the largest first. All memory is asked for, and the limit is seen to, before the first.
 pub fn carve_cells(
     bins: &mut Vec<u8>,
     lists: &mut FreeLists,
@@ -95,7 +145,7 @@ pub fn carve_cells(
     requires each { AreCarvable sizes.now }
     ensures arena { IsIndexed bins.new.items lists.new }
     ensures ok { OnOk result ((offsets : List ℕ) × (out.new.items ≡ out.old.items ++ offsets)
-        × EachExactly bins.old.items bins.new.items sizes.now offsets
+        × EachFalling bins.old.items bins.new.items sizes.now offsets
         × AreNew (cell_at bins.old.items) (cell_at bins.new.items) offsets sizes.now) }
     ensures full { (result ≡ Err ArenaFault.Full) ↔ (BINS_LIMIT < length bins.old.items + fresh_of sizes.now) }
     ensures err { OnErr result ((bins.new.items ≡ bins.old.items) × (lists.new.heads ≡ lists.old.heads) × (out.new.items ≡ out.old.items)) }
@@ -105,7 +155,7 @@ pub fn carve_cells(
     let Some(fresh) = fresh_within(sizes, BINS_LIMIT - bins.len() as u32) else {
         return Err(ArenaFault::Full);
     };
-    if out.reserve(sizes.len()).is_err() {
+    if out.reserve(sizes.len() + 1).is_err() {
         return Err(ArenaFault::Memory);
     }
     if reserve_bins(bins, lists, fresh).is_err() {

@@ -1,15 +1,14 @@
 -- Cells carved one after the other.
-use Rattle.std.proofs.Common.{◌≡◌, ℕ, zero, suc, ◌+◌, ◌-◌, ◌<◌, ◌≤◌, Bool, true, false, cond, inl, inr, Some, List, [], ◌∷◌, ◌++◌, length, get_or, replicate}
-use Rattle.std.proofs.Common.{refl, sym, ap, ◌∙◌, subst, arith, is_some, Ok, Err}
+use Rattle.std.proofs.Common.{◌≡◌, ℕ, ◌+◌, ◌<◌, ◌≤◌, inl, inr, List, [], ◌∷◌, ◌++◌, length}
+use Rattle.std.proofs.Common.{refl, ap, ◌∙◌, subst, arith, Ok, Err}
 use Rattle.std.specs.Prelude.{IsOk, OnOk}
 use Rattle.std.specs.declared.result.Result.{Result}
-use Rattle.reg_heap.specs.Kinds.{times}
-use Rattle.reg_heap.specs.Heaps.{Heap, allocated, AreNew}
+use Rattle.reg_heap.specs.Heaps.{AreNew}
 use Rattle.reg_arena.specs.declared.ArenaFault.{ArenaFault}
 use Rattle.reg_arena.specs.Cells.{cell_at}
 use Rattle.reg_arena.specs.NewCells.{AreSizes, total_of}
 use Rattle.reg_arena.specs.Carves.{CarvesExactly, AddsCells, IsRoom}
-use Rattle.reg_arena.specs.EachCell.{fresh_bin, fresh_of, EachExactly, HasRoomForEach, CarvesChange}
+use Rattle.reg_arena.specs.EachCell.{fresh_bin, EachExactly, EachFalling, HasRoomForEach, CarvesChange}
 use Rattle.reg_arena.proofs.Carving.BinGrowth.{bin-long}
 use Rattle.reg_arena.proofs.Carving.CarvedCells.{adds_cells, adds_cells_in_bin}
 use Rattle.reg_arena.proofs.Carving.FreshBins.{fresh-is}
@@ -27,7 +26,7 @@ one-carved (Ok x) old new size out more ok carved =
     (at, carved.1 ∙ ap (λ offsets. out ++ offsets) one, subst (CarvesExactly old new (size ∷ [])) one carved.2)
 
 -- it adds that cell
-one-added : (old new : List ℕ) (size offset : ℕ) → AreSizes (size ∷ []) → CarvesExactly old new (size ∷ []) (offset ∷ []) →
+pub one-added : (old new : List ℕ) (size offset : ℕ) → AreSizes (size ∷ []) → CarvesExactly old new (size ∷ []) (offset ∷ []) →
     AreNew (cell_at old) (cell_at new) (offset ∷ []) (size ∷ [])
 one-added old new size offset good c = by c.room
   where
@@ -36,7 +35,7 @@ one-added old new size offset good c = by c.room
     by (inr (none, bin)) = (adds_cells_in_bin good bin c.carves).are_new
 
 -- the bins grow by one that it fits at most
-one-longer : (old new : List ℕ) (size offset : ℕ) → CarvesExactly old new (size ∷ []) (offset ∷ []) →
+pub one-longer : (old new : List ℕ) (size offset : ℕ) → CarvesExactly old new (size ∷ []) (offset ∷ []) →
     (length old ≤ length new) × (length new ≤ length old + fresh_bin size)
 one-longer old new size offset c = by c.room
   where
@@ -57,59 +56,6 @@ each-more old mid new size offset [] (o ∷ offsets) each one = absurd each
 each-more old mid new size offset (s ∷ sizes) [] each one = absurd each
 each-more old mid new size offset (s ∷ sizes) (o ∷ offsets) each one = (each.0, each.1, each-more each.0 mid new size offset sizes offsets each.2 one)
 
--- the bins grow by those that they fit at most
-pub each-longer : (old new : List ℕ) (sizes offsets : List ℕ) → EachExactly old new sizes offsets →
-    (length old ≤ length new) × (length new ≤ length old + fresh_of sizes)
-each-longer old new [] [] each = let l = ap (λ (bytes : List ℕ). length bytes) each in (omega (arith, l), omega (arith, l))
-each-longer old new [] (o ∷ offsets) each = absurd each
-each-longer old new (s ∷ sizes) [] each = absurd each
-each-longer old new (s ∷ sizes) (o ∷ offsets) each =
-    let first = one-longer old each.0 s o each.1 in
-    let rest = each-longer each.0 new sizes offsets each.2 in
-    (omega (arith, first.0, rest.0), omega (arith, first.1, rest.1))
-
--- ---- the cells are new
-
-most : (b : Bool) → cond b 1 0 ≤ 1
-most true = omega arith
-most false = omega arith
-
-none-new : (h : Heap) → AreNew h h [] []
-none-new h = record {
-  as_many = refl;
-  come = record { count = λ o. omega arith; same = λ o g c. refl };
-  zeros = λ i l. absurd (omega arith);
-}
-
--- one cell, and then others
-one-and-more : (h0 h1 h2 : Heap) (o s : ℕ) (os ss : List ℕ) → AreNew h0 h1 (o ∷ []) (s ∷ []) → AreNew h1 h2 os ss → AreNew h0 h2 (o ∷ os) (s ∷ ss)
-one-and-more h0 h1 h2 o s os ss a b = record {
-  as_many = ap suc b.as_many;
-  come = record {
-    count = λ x. omega (arith, a.come.count x, b.come.count x);
-    same = λ x g c. b.come.same x g (omega arith) ∙ a.come.same x g (omega arith);
-  };
-  zeros = at;
-}
-  where
-    first : h1 o ≡ Some (replicate (s - 4) 0)
-    first = a.zeros 0 (omega arith)
-
-    at : (i : ℕ) → i < suc (length ss) → h2 (get_or (o ∷ os) i 0) ≡ Some (replicate (get_or (s ∷ ss) i 0 - 4) 0)
-    at zero l =
-        let one : allocated h1 o ≡ 1 = ap (λ v. cond (is_some v) 1 0) first in
-        let apart : times o os ≡ 0 = omega (arith, b.come.count o, most (is_some (h2 o))) in
-        b.come.same o (omega arith) apart ∙ first
-    at (suc i) l = b.zeros i (omega arith)
-
-pub each-new : (old new : List ℕ) (sizes offsets : List ℕ) → AreSizes sizes → EachExactly old new sizes offsets → AreNew (cell_at old) (cell_at new) offsets sizes
-each-new old new [] [] good each = subst (λ bytes. AreNew (cell_at old) (cell_at bytes) [] []) (sym each) (none-new (cell_at old))
-each-new old new [] (o ∷ offsets) good each = absurd each
-each-new old new (s ∷ sizes) [] good each = absurd each
-each-new old new (s ∷ sizes) (o ∷ offsets) good each =
-    one-and-more (cell_at old) (cell_at each.0) (cell_at new) o s offsets sizes (one-added old each.0 s o (good.0, tt) each.1)
-    (each-new each.0 new sizes offsets good.1 each.2)
-
 -- ---- a change
 
 -- side by side, where there is no room for each
@@ -122,7 +68,7 @@ change-together (Ok x) old new sizes out more some none carved =
     (c.0, c.1, record { apart = λ room. absurd (none room); together = λ n. c.2 }, c.3.are_new)
 
 pub change-apart : (result : Result (Unit {0}) ArenaFault) (old new sizes out more : List ℕ) → HasRoomForEach old sizes →
-    OnOk result ((offsets : List ℕ) × (more ≡ out ++ offsets) × EachExactly old new sizes offsets × AreNew (cell_at old) (cell_at new) offsets sizes) →
+    OnOk result ((offsets : List ℕ) × (more ≡ out ++ offsets) × EachFalling old new sizes offsets × AreNew (cell_at old) (cell_at new) offsets sizes) →
     OnOk result ((offsets : List ℕ) × (more ≡ out ++ offsets) × CarvesChange old new sizes offsets × AreNew (cell_at old) (cell_at new) offsets sizes)
 change-apart (Err e) old new sizes out more room carved = tt
 change-apart (Ok x) old new sizes out more room carved =

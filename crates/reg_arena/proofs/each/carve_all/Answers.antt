@@ -1,58 +1,82 @@
-use Rattle.std.proofs.Common.{◌≡◌, ◌+◌, ◌∷◌, [], ◌++◌, ◌∙◌, ap, arith, refl, sym, append-nil, append_assoc, get_or, length, length-append, take}
-use Rattle.std.proofs.lemmas.List.{take_more}
-use Rattle.reg_arena.proofs.Carving.FreshBins.{fresh_of-room}
-use Rattle.reg_arena.proofs.Carving.EachCarve.{each-more, each-longer}
+use Rattle.std.proofs.Common.{arith, ◌≡◌, ◌∙◌, ◌+◌, ◌<◌, ◌∷◌, [], ◌++◌, ap, length, length-append, length-set, replicate, set}
+use Rattle.std.proofs.lemmas.List.{length-replicate}
+use Rattle.reg_heap.specs.declared.limits.TheConstants.{NONE}
+use Rattle.reg_arena.proofs.Carving.LargestLeft.{all-place}
+use Rattle.reg_arena.proofs.Carving.FallingCells.{carved-start, carved-more, carved-all, less-left, marked-behind, next-is, next-room, not-none, set-behind, times-replicate}
 use Rattle.reg_arena.proofs.Carving.ReservedRoom.{room_same, room-then}
 use Rattle.reg_arena.proofs.each.carve_all.Goals as goal
 
-pub loop-size-init : goal.loop-size-init
-loop-size-init c = record {
-  arena = c.requires.arena;
-  carved = ([], sym (append-nil c.args.out.now.items), refl);
-  keeps = room_same _ _;
-  room = omega (arith, c.requires.room);
-}
-
-pub carve_one-requires-clause-limit : goal.carve_one-requires-clause-limit
-carve_one-requires-clause-limit c =
-    let room = fresh_of-room c.args.sizes.now c.loop-size.size-index c.loop-size-test.true in
-    let long = (each-longer _ _ _ _ c.loop-size.invariant.carved.2).1 in
-    omega (arith, room, long, c.requires.limit)
-
-pub carve_one-requires-clause-reserved : goal.carve_one-requires-clause-reserved
-carve_one-requires-clause-reserved c =
-    let room = fresh_of-room c.args.sizes.now c.loop-size.size-index c.loop-size-test.true in
-    let long = (each-longer _ _ _ _ c.loop-size.invariant.carved.2).1 in
-    let r = c.requires.reserved in
-    let k = c.loop-size.invariant.keeps in
+pub loop-turn-init : goal.loop-turn-init
+loop-turn-init c =
+    let n = length c.args.sizes.now in
+    let long = c.args.out.now.ok.0 in
+    let from : c.len-from.result ≡ length c.args.out.now.items = c.len-from.ensures ∙ long in
+    let ok = c.resize.ensures.succeeds (omega (arith, c.len-from.ensures, c.requires.room)) in
+    let items = marked-behind c.resize.result NONE _ _ n _ _ ok from long c.resize.ensures.items in
     record {
-      bytes = omega (arith, room, long, r.bytes, k.bytes);
-      ends_long = omega (arith, room, long, r.ends_long, k.tables.ends_long);
-      backs_long = omega (arith, room, long, r.backs_long, k.tables.backs_long);
+      arena = c.requires.arena;
+      offsets = replicate n NONE;
+      turn = [];
+      items = items;
+      carved = carved-start NONE c.args.bins.now.items c.args.sizes.now;
+      left = (let all = times-replicate NONE n in omega (arith, all));
+      keeps = room_same _ _;
+      room =
+          let now = ap length items ∙ length-append c.args.out.now.items (replicate n NONE) in
+          let marks = length-replicate n NONE in
+          omega (arith, now, marks, long, c.resize.new.self.ok.0, c.resize.ensures.capacity, c.requires.room);
+    }
+
+pub carve_to-requires-clause-limit : goal.carve_to-requires-clause-limit
+carve_to-requires-clause-limit c =
+    let v = c.loop-turn.invariant in
+    let l = c.largest_left-place.ensures in
+    let from = c.len-from.ensures ∙ c.args.out.now.ok.0 in
+    let next = next-is NONE _ _ _ _ v.offsets _ _ c.deref.ensures.value v.items from l.within l.left l.first in
+    let room = next-room NONE _ _ _ _ _ _ v.carved next in
+    omega (arith, room, c.requires.limit)
+
+pub carve_to-requires-clause-reserved : goal.carve_to-requires-clause-reserved
+carve_to-requires-clause-reserved c =
+    let v = c.loop-turn.invariant in
+    let l = c.largest_left-place.ensures in
+    let from = c.len-from.ensures ∙ c.args.out.now.ok.0 in
+    let next = next-is NONE _ _ _ _ v.offsets _ _ c.deref.ensures.value v.items from l.within l.left l.first in
+    let room = next-room NONE _ _ _ _ _ _ v.carved next in
+    let r = c.requires.reserved in
+    let k = v.keeps in
+    record {
+      bytes = omega (arith, room, r.bytes, k.bytes);
+      ends_long = omega (arith, room, r.ends_long, k.tables.ends_long);
+      backs_long = omega (arith, room, r.backs_long, k.tables.backs_long);
       firsts_long = omega (arith, r.firsts_long, k.tables.firsts_long);
       words_long = omega (arith, r.words_long, k.tables.words_long);
     }
 
-pub carve_one-requires-clause-room : goal.carve_one-requires-clause-room
-carve_one-requires-clause-room c = omega (arith, c.loop-size.invariant.room, c.loop-size-test.true)
-
-pub loop-size-preserved : goal.loop-size-preserved
-loop-size-preserved c =
-    let i = c.loop-size.size-index in
-    let sizes = c.args.sizes.now in
-    let v = c.loop-size.invariant in
-    let more : take (i + 1) sizes ≡ take i sizes ++ get_or sizes i 0 ∷ [] = take_more sizes i 0 c.loop-size-test.true in
-    let one = c.carve_one.ensures.carves in
-    let k = v.keeps in
-    let k' = c.carve_one.ensures.keeps in
-    let items = ap length one.1 ∙ length-append c.loop-size.out.items (one.0 ∷ []) in
+pub loop-turn-preserved : goal.loop-turn-preserved
+loop-turn-preserved c =
+    let v = c.loop-turn.invariant in
+    let l = c.largest_left-place.ensures in
+    let from = c.len-from.ensures ∙ c.args.out.now.ok.0 in
+    let next = next-is NONE _ _ _ _ v.offsets _ _ c.deref.ensures.value v.items from l.within l.left l.first in
+    let one = c.carve_to.ensures.carves in
+    let good = all-place _ c.args.sizes.now c.largest_left-place.result c.requires.sizes l.within in
+    let differs = not-none _ _ _ _ one.0 c.carve_to.ensures.arena good one.2 in
+    let there : c.largest_left-place.result < length v.offsets = omega (arith, l.within, v.carved.long) in
+    let long = ap length one.1 ∙ length-set c.loop-turn.out.items (c.len-from.result + c.largest_left-place.result) one.0 in
     record {
-      arena = c.carve_one.ensures.arena;
-      carved = (
-        v.carved.0 ++ one.0 ∷ [],
-        one.1 ∙ ap (λ t. t ++ one.0 ∷ []) v.carved.1 ∙ append_assoc _ v.carved.0 (one.0 ∷ []),
-        rw more (each-more _ _ _ _ _ _ _ v.carved.2 one.2),
-      );
-      keeps = room-then _ _ _ _ _ _ k k';
-      room = omega (arith, v.room, c.loop-size-test.true, c.carve_one.ensures.out_capacity, items, c.loop-size.out.ok.0, c.carve_one.new.out.ok.0);
+      arena = c.carve_to.ensures.arena;
+      offsets = set v.offsets c.largest_left-place.result one.0;
+      turn = v.turn ++ c.largest_left-place.result ∷ [];
+      items = set-behind _ _ _ v.offsets _ _ one.0 v.items from one.1;
+      carved = carved-more NONE _ _ _ _ _ _ _ one.0 v.carved next c.requires.sizes differs one.2;
+      left = (let less = less-left NONE v.offsets c.largest_left-place.result one.0 there next.left differs in omega (arith, less, v.left));
+      keeps = room-then _ _ _ _ _ _ v.keeps c.carve_to.ensures.keeps;
+      room = omega (arith, v.room, long, c.loop-turn.out.ok.0, c.carve_to.new.out.ok.0, c.carve_to.ensures.out_capacity);
     }
+
+pub returns-clause-each : goal.returns-clause-each
+returns-clause-each c =
+    let v = c.loop-turn.invariant in
+    let all = carved-all NONE _ _ _ _ _ v.carved (omega (arith, v.left, c.loop-turn-test.false)) in
+    (v.offsets, v.items, all.0, all.1)
