@@ -1,5 +1,6 @@
 //! Cells carved one after the other, each by itself, the largest first.
-ghost use Rattle.std.specs.Prelude.{◌≡◌, ◌↔◌, ◌+◌, ◌-◌, ◌≤◌, ◌<◌, ◌%◌, ◌⊎◌, ℕ, List, [], ◌∷◌, ◌++◌, length, set, get_or, vec_len, vec_capacity, Err, OnErr, OnOk, MatchOption};
+ghost use Rattle.std.specs.Prelude.{◌≡◌, ◌↔◌, ◌+◌, ◌-◌, ◌≤◌, ◌<◌, ◌%◌, ◌⊎◌, ℕ, List, [], ◌∷◌, ◌++◌, length, set, get_or};
+ghost use Rattle.std.specs.Prelude.{vec_len, vec_capacity, Err, OnErr, OnOk, MatchOption};
 ghost use Rattle.reg_heap.specs.declared.limits.TheConstants.{BINS_LIMIT, NONE};
 ghost use Rattle.reg_heap.specs.Heaps.{AreNew};
 ghost use Rattle.reg_heap.specs.Kinds.{times};
