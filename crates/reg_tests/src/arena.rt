@@ -90,13 +90,13 @@ fn carves_cells_side_by_side(rt: HostRuntime) -> Result<(), Fail> {
     )
 }
 
-// The offsets of two cells carved each by itself, where one of four was freed that has the first's size, and all cells then.
+// The offsets of two cells carved each by itself, where one of four was freed that has the second's size, and all cells then.
 fn carved_in_a_hole_in(alloc: Global, arena: &mut Arena) -> Result<String, Fail> {
     let mut offsets = Vec::new(alloc);
     carve_four(arena, &mut offsets)?;
     free_each(alloc, arena, &[48])?;
     let mut apart = Vec::new(alloc);
-    arena.carve_each(&[24, 16], &mut apart)?;
+    arena.carve_each(&[16, 24], &mut apart)?;
     let cells = shown(alloc, arena)?;
     Ok(format!(in alloc; "{apart:?} {}", cells.as_str())?)
 }
@@ -108,11 +108,11 @@ fn carved_in_a_hole(alloc: Global) -> Result<String, Fail> {
 }
 
 #[test]
-fn carves_each_cell_by_itself(rt: HostRuntime) -> Result<(), Fail> {
+fn carves_each_cell_by_itself_and_the_largest_first(rt: HostRuntime) -> Result<(), Fail> {
     assert_told(
         &rt,
         carved_in_a_hole(rt.alloc()),
-        "[48, 120] 32 16*, 48 24*, 72 32*, 104 16*, 120 16*, 136 3960, ",
+        "[120, 48] 32 16*, 48 24*, 72 32*, 104 16*, 120 16*, 136 3960, ",
     )
 }
 
