@@ -10,6 +10,7 @@ pub mod SizeClasses
 pub mod TableReads
 pub mod LinkWords
 pub mod ListedSpots
+pub mod CellMarks
 pub mod ListedPut
 pub mod ListedTake
 pub mod ListedSteps

@@ -2,9 +2,9 @@
 //!
 //! The cells of one size below 16,384 bytes stand side by side in their list. For each such size there is its first cell, and
 //! a bit that says whether there is one: so the best fit is found without a walk.
-ghost use Rattle.std.specs.Prelude.{◌≡◌, ℕ, ◌-◌, ◌/◌, ◌%◌, ◌≤◌, ◌<◌, ◌⊎◌, List, [], replicate, length, get_or, MatchOption, OnOk, IsOk, vec_capacity};
+ghost use Rattle.std.specs.Prelude.{◌≡◌, ℕ, ◌-◌, ◌/◌, ◌%◌, ◌≤◌, ◌<◌, ◌⊎◌, List, [], replicate, length, MatchOption, OnOk, IsOk, vec_capacity};
 ghost use Rattle.reg_heap.specs.declared.limits.TheConstants.{NONE};
-ghost use Rattle.reg_arena.specs.Internal.SizeTables.{bit_in, IsLeast, counted};
+ghost use Rattle.reg_arena.specs.Internal.SizeTables.{bit_in, start_in, IsLeast, counted};
 ghost use Rattle.reg_arena.specs.Internal.Reserved.{KeepsTables};
 ghost use Rattle.reg_arena.specs.Internal.ListedCells.{IsListed, HasLists, HasCell, HasPlace, HasRoom, IsFreeOf, Drops, Adds, IsBestFit, NoneFits};
 
@@ -13,7 +13,7 @@ use crate::classes::list_of;
 use crate::firsts::{LARGE, first_of, note_put, note_taken};
 use crate::large::find_large;
 use crate::links::{link_in, unlink};
-use crate::tables::{lengthen, lengthen_words, mark_end};
+use crate::tables::{lengthen, lengthen_words, mark_last};
 use crate::words::word_at;
 use reg_heap::limits::NONE;
 use std::alloc::{AllocError, Global};
@@ -43,10 +43,10 @@ pub struct FreeLists {
     pub firsts: Vec<u32>,
     // For each such size a bit: whether there is a cell.
     pub words: Vec<u64>,
-    // For each eight bytes, the free cell that ends there, or 0.
-    pub ends: Vec<u32>,
-    // For each free cell's first eight bytes, the free cell before it in its list, or `NONE`.
-    pub backs: Vec<u32>,
+    // For each eight bytes a number. At a free cell's first it is the cell before it in its list, or `NONE`, with the lowest bit
+    // set; at its last, where those are not its first, the offset of its first; elsewhere 0. Offsets are even, so that both have
+    // one table.
+    pub marks: Vec<u32>,
     // How many cells the last list has.
     pub large: usize,
     // All free cells have fewer bytes.
@@ -63,8 +63,7 @@ impl FreeLists {
             heads: [NONE; 24],
             firsts: Vec::new(alloc),
             words: Vec::new(alloc),
-            ends: Vec::new(alloc),
-            backs: Vec::new(alloc),
+            marks: Vec::new(alloc),
             large: 0,
             top: 0,
         }
@@ -81,17 +80,19 @@ impl FreeLists {
     {
         lengthen(&mut self.firsts, SIZES, NONE)?;
         lengthen_words(&mut self.words, WORDS)?;
-        lengthen(&mut self.ends, units, 0)?;
-        lengthen(&mut self.backs, units, 0)
+        lengthen(&mut self.marks, units, 0)
     }
 
     // The free cell that ends where a cell begins, or 0.
     pub fn ending_at(&self, cell: u32) -> u32
         requires some { 8 ≤ cell }
-        requires inside { cell / 8 - 1 < length self.now.ends.items }
-        ensures { result ≡ get_or self.now.ends.items (cell / 8 - 1) 0 }
+        requires inside { (cell - 8) / 8 < length self.now.marks.items }
+        ensures { result ≡ start_in self.now.marks.items (cell - 8) }
     {
-        self.ends[cell as usize / 8 - 1]
+        let last = cell - 8;
+        let mark = self.marks[last as usize / 8];
+        // A free cell of eight bytes begins and ends there.
+        if mark % 2 == 1 { last } else { mark }
     }
 
     // Makes bytes a free cell, unless `size` is 0. It takes no memory, and constant time.
@@ -110,14 +111,14 @@ impl FreeLists {
         link_in(
             bins,
             &mut self.heads,
-            &mut self.backs,
+            &mut self.marks,
             class,
             previous,
             cell,
             size,
         );
         note_put(&mut self.firsts, &mut self.words, previous, cell, size);
-        mark_end(&mut self.ends, cell + size, cell);
+        mark_last(&mut self.marks, cell, size, cell);
         self.top = larger(self.top, size + 1);
         self.large += one_if_large(size);
     }
@@ -134,9 +135,9 @@ impl FreeLists {
             return;
         }
         let class = list_of(size);
-        let next = unlink(bins, &mut self.heads, &mut self.backs, class, cell);
+        let next = unlink(bins, &mut self.heads, &mut self.marks, class, cell);
         note_taken(bins, &mut self.firsts, &mut self.words, cell, size, next);
-        mark_end(&mut self.ends, cell + size, 0);
+        mark_last(&mut self.marks, cell, size, 0);
         self.large -= one_if_large(size);
     }
 

@@ -3,9 +3,9 @@ ghost use Rattle.std.specs.Prelude.{◌≡◌, ◌+◌, ◌/◌, ◌≤◌, ◌<
 ghost use Rattle.byteorder.specs.Endian.{little_bytes};
 ghost use Rattle.reg_heap.specs.declared.limits.TheConstants.{NONE};
 ghost use Rattle.reg_heap.specs.ByteWords.{splice, word};
-ghost use Rattle.reg_arena.specs.Internal.SizeTables.{marked, head_linked, following, linked, freed};
+ghost use Rattle.reg_arena.specs.Internal.SizeTables.{marked, head_linked, following, linked, freed, tagged, untagged};
 
-use crate::tables::mark;
+use crate::tables::{mark, with_tag, without_tag};
 use crate::words::{put_word, word_at};
 use reg_heap::limits::NONE;
 
@@ -46,11 +46,11 @@ pub fn put_free(bins: &mut Vec<u8>, at: u32, size: u32, next: u32)
     put_word(bins, at as usize + 4, next);
 }
 
-// Makes bytes a free cell, and puts it behind another of its list, or to the front.
+// Makes bytes a free cell, and puts it behind another of its list, or to the front. Its mark is the link back to that one.
 pub fn link_in(
     bins: &mut Vec<u8>,
     heads: &mut [u32],
-    backs: &mut Vec<u32>,
+    marks: &mut Vec<u32>,
     class: usize,
     previous: u32,
     cell: u32,
@@ -59,46 +59,50 @@ pub fn link_in(
     requires class { class < length heads.old }
     requires previous { (previous ≡ NONE → ⊥) → previous + 8 ≤ length bins.old.items }
     requires next { (following bins.old.items heads.old class previous ≡ NONE → ⊥) →
-        following bins.old.items heads.old class previous / 8 < length backs.old.items }
+        following bins.old.items heads.old class previous / 8 < length marks.old.items }
     requires cell { cell + 8 ≤ length bins.old.items }
-    requires cell_back { cell / 8 < length backs.old.items }
+    requires cell_mark { cell / 8 < length marks.old.items }
     ensures bytes { bins.new.items ≡ freed cell size (following bins.old.items heads.old class previous) (linked previous cell bins.old.items) }
-    ensures backs { backs.new.items ≡ set (marked (following bins.old.items heads.old class previous) cell backs.old.items) (cell / 8) previous }
+    ensures marks { marks.new.items ≡
+        set (marked (following bins.old.items heads.old class previous) (tagged cell) marks.old.items) (cell / 8) (tagged previous) }
     ensures heads { heads.new ≡ head_linked class previous cell heads.old }
     ensures short { following bins.old.items heads.old class previous < 4294967296 }
     ensures capacity { vec_capacity bins.new ≡ vec_capacity bins.old }
-    ensures long { length backs.new.items ≡ length backs.old.items }
+    ensures long { length marks.new.items ≡ length marks.old.items }
 {
     let next = next_of(bins, heads, class, previous);
     set_link(bins, heads, class, previous, cell);
     put_free(bins, cell, size, next);
-    mark(backs, next, cell);
-    backs[cell as usize / 8] = previous;
+    mark(marks, next, with_tag(cell));
+    marks[cell as usize / 8] = with_tag(previous);
 }
 
-// Takes a cell out of its list, and answers the cell behind it.
+// Takes a cell out of its list, with its mark, and answers the cell behind it.
 pub fn unlink(
     bins: &mut Vec<u8>,
     heads: &mut [u32],
-    backs: &mut Vec<u32>,
+    marks: &mut Vec<u32>,
     class: usize,
     cell: u32,
 ) -> u32
     requires class { class < length heads.old }
     requires cell { cell + 8 ≤ length bins.old.items }
-    requires cell_back { cell / 8 < length backs.old.items }
-    requires previous { (get_or backs.old.items (cell / 8) 0 ≡ NONE → ⊥) → get_or backs.old.items (cell / 8) 0 + 8 ≤ length bins.old.items }
-    requires next { (word bins.old.items (cell + 4) ≡ NONE → ⊥) → word bins.old.items (cell + 4) / 8 < length backs.old.items }
-    ensures bytes { bins.new.items ≡ linked (get_or backs.old.items (cell / 8) 0) (word bins.old.items (cell + 4)) bins.old.items }
-    ensures backs { backs.new.items ≡ marked (word bins.old.items (cell + 4)) (get_or backs.old.items (cell / 8) 0) backs.old.items }
-    ensures heads { heads.new ≡ head_linked class (get_or backs.old.items (cell / 8) 0) (word bins.old.items (cell + 4)) heads.old }
+    requires cell_mark { cell / 8 < length marks.old.items }
+    requires previous { (untagged (get_or marks.old.items (cell / 8) 0) ≡ NONE → ⊥) →
+        untagged (get_or marks.old.items (cell / 8) 0) + 8 ≤ length bins.old.items }
+    requires next { (word bins.old.items (cell + 4) ≡ NONE → ⊥) → word bins.old.items (cell + 4) / 8 < length marks.old.items }
+    ensures bytes { bins.new.items ≡ linked (untagged (get_or marks.old.items (cell / 8) 0)) (word bins.old.items (cell + 4)) bins.old.items }
+    ensures marks { marks.new.items ≡
+        set (marked (word bins.old.items (cell + 4)) (tagged (untagged (get_or marks.old.items (cell / 8) 0))) marks.old.items) (cell / 8) 0 }
+    ensures heads { heads.new ≡ head_linked class (untagged (get_or marks.old.items (cell / 8) 0)) (word bins.old.items (cell + 4)) heads.old }
     ensures next { result ≡ word bins.old.items (cell + 4) }
     ensures capacity { vec_capacity bins.new ≡ vec_capacity bins.old }
-    ensures long { length backs.new.items ≡ length backs.old.items }
+    ensures long { length marks.new.items ≡ length marks.old.items }
 {
-    let previous = backs[cell as usize / 8];
+    let previous = without_tag(marks[cell as usize / 8]);
     let next = word_at(bins, cell as usize + 4);
     set_link(bins, heads, class, previous, next);
-    mark(backs, next, previous);
+    mark(marks, next, with_tag(previous));
+    marks[cell as usize / 8] = 0;
     next
 }

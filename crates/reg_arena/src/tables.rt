@@ -1,7 +1,7 @@
 //! Side tables, with a number for each eight bytes of the bins or for each size.
-ghost use Rattle.std.specs.Prelude.{◌≡◌, ℕ, ◌-◌, ◌/◌, ◌≤◌, ◌<◌, max, set, length, get_or, OnOk, IsOk};
+ghost use Rattle.std.specs.Prelude.{◌≡◌, ℕ, ◌+◌, ◌-◌, ◌/◌, ◌≤◌, ◌<◌, max, length, get_or, OnOk, IsOk};
 ghost use Rattle.reg_heap.specs.declared.limits.TheConstants.{NONE};
-ghost use Rattle.reg_arena.specs.Internal.SizeTables.{marked};
+ghost use Rattle.reg_arena.specs.Internal.SizeTables.{marked, ended, tagged, untagged};
 
 use reg_heap::limits::NONE;
 use std::alloc::AllocError;
@@ -17,14 +17,35 @@ pub fn mark(table: &mut Vec<u32>, cell: u32, value: u32)
     }
 }
 
-// Sets the number at the eight bytes before `end`.
-pub fn mark_end(ends: &mut Vec<u32>, end: u32, cell: u32)
-    requires end { end / 8 - 1 < length ends.old.items }
-    requires some { 8 ≤ end }
-    ensures ends { ends.new.items ≡ set ends.old.items (end / 8 - 1) cell }
-    ensures long { length ends.new.items ≡ length ends.old.items }
+// Sets the number at a cell's last eight bytes, where those are not its first.
+pub fn mark_last(table: &mut Vec<u32>, cell: u32, size: u32, value: u32)
+    requires { 8 < size → (cell + size - 8) / 8 < length table.old.items }
+    ensures table { table.new.items ≡ ended cell size value table.old.items }
+    ensures long { length table.new.items ≡ length table.old.items }
 {
-    ends[end as usize / 8 - 1] = cell;
+    if size > 8 {
+        table[(cell as usize + size as usize - 8) / 8] = value;
+    }
+}
+
+// A link with its lowest bit set. Offsets are multiples of 8, and `NONE` is odd.
+pub fn with_tag(link: u32) -> u32
+    ensures { result ≡ tagged link }
+{
+    if link == NONE {
+        return NONE;
+    }
+    link + 1
+}
+
+// The link of a number with that bit.
+pub fn without_tag(mark: u32) -> u32
+    ensures { result ≡ untagged mark }
+{
+    if mark == NONE {
+        return NONE;
+    }
+    mark - mark % 2
 }
 
 // A table of at least so many numbers, the new ones all the same.

@@ -125,7 +125,7 @@ grown-listed old more lists size a w pages is wide room units =
     let long : length (old ++ more) ≡ length old + size = length-append old more ∙ ap (λ n. length old + n) is in
     let old_pages = AreBins-pages old 0 a.layout (omega arith) a.tiled in
     let ends = ends-from old a.layout a.tiled (λ (c : Cell). c.offset ≡ at → ⊥) (λ c h e. omega (arith, h.within, e)) [] cells refl in
-    let listed : IsListed (old ++ more) (free_size cells) lists = framed old (old ++ more) (free_size cells) lists w s.long (omega (arith, units.ends, long)) (omega (arith, units.backs, long))
+    let listed : IsListed (old ++ more) (free_size cells) lists = framed old (old ++ more) (free_size cells) lists w s.long (omega (arith, units.marks, long))
     (λ h. units.words) (λ h. units.firsts) (omega arith)
     (λ x h. (let z = w.pieces x h in word-extends s x (omega (arith, z.within, z.size_eights))))
     (λ x h. (let z = w.pieces x h in word-extends s (x + 4) (omega (arith, z.within, z.size_eights)))) in

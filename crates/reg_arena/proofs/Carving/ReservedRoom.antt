@@ -5,8 +5,7 @@ use Rattle.reg_arena.specs.Internal.Reserved.{AreReserved, KeepsTables, KeepsRoo
 
 pub tables-then : (a b c : FreeLists) → KeepsTables a b → KeepsTables b c → KeepsTables a c
 tables-then a b c one two = record {
-  ends_long = omega (arith, one.ends_long, two.ends_long);
-  backs_long = omega (arith, one.backs_long, two.backs_long);
+  marks_long = omega (arith, one.marks_long, two.marks_long);
   firsts_long = omega (arith, one.firsts_long, two.firsts_long);
   words_long = omega (arith, one.words_long, two.words_long);
 }
@@ -20,7 +19,7 @@ room-then p a q b r c one two = record {
 pub room_same : (p : ℕ) (a : FreeLists) → KeepsRoom p a p a
 room_same p a = record {
   bytes = omega arith;
-  tables = record { ends_long = omega arith; backs_long = omega arith; firsts_long = omega arith; words_long = omega arith };
+  tables = record { marks_long = omega arith; firsts_long = omega arith; words_long = omega arith };
 }
 
 pub tables-first : (p : ℕ) (a b : FreeLists) (q : ℕ) (c : FreeLists) → KeepsTables a b → KeepsRoom p b q c → KeepsRoom p a q c
@@ -29,8 +28,7 @@ tables-first p a b q c one two = record { bytes = two.bytes; tables = tables-the
 pub reserved-then : (limit capacity : ℕ) (a b : FreeLists) → KeepsTables a b → AreReserved limit capacity a → AreReserved limit capacity b
 reserved-then limit capacity a b k r = record {
   bytes = r.bytes;
-  ends_long = omega (arith, k.ends_long, r.ends_long);
-  backs_long = omega (arith, k.backs_long, r.backs_long);
+  marks_long = omega (arith, k.marks_long, r.marks_long);
   firsts_long = omega (arith, k.firsts_long, r.firsts_long);
   words_long = omega (arith, k.words_long, r.words_long);
 }

@@ -10,7 +10,7 @@ use Rattle.reg_heap.specs.Kinds.{times}
 use Rattle.reg_arena.specs.Classes.{class_of}
 use Rattle.reg_arena.specs.Free.{chain, Follows, IsFit}
 use Rattle.reg_arena.specs.Internal.CellThreads.{Linked, link, AreThreads}
-use Rattle.reg_arena.specs.Internal.SizeTables.{at_eight, head_at, bit_in, IsLeast}
+use Rattle.reg_arena.specs.Internal.SizeTables.{at_eight, head_at, back_in, bit_in, IsLeast}
 use Rattle.reg_arena.specs.Internal.ListedCells.{AreTables, IsBestFit, NoneFits}
 use Rattle.reg_arena.proofs.FreeList.ListMembers.{all_from_times, times-all}
 use Rattle.reg_arena.proofs.FreeList.FreeListWalk.{Follows-chain}
@@ -27,11 +27,11 @@ follows-linked bytes B h prev (x ∷ xs) some l =
     let o : x ≡ 4294967295 → ⊥ = λ e. some (subst (λ v. 0 < times v (x ∷ xs)) e (times-here x xs)) in
     (l.0, subst (λ v. Follows bytes v xs) (link-some (λ x. word bytes (x + 4)) h x o) (follows-linked bytes B h x xs (λ i. some (times-there 4294967295 x xs i)) l.2))
 
-module _ (bytes : List ℕ) (S : ℕ → ℕ) (heads firsts words ends backs : List ℕ) (large top : ℕ) (w : AreTables bytes S heads firsts words ends backs large top) where
+module _ (bytes : List ℕ) (S : ℕ → ℕ) (heads firsts words marks : List ℕ) (large top : ℕ) (w : AreTables bytes S heads firsts words marks large top) where
   abbrev N : ℕ → ℕ
   N x = word bytes (x + 4)
 
-  abbrev t : AreThreads class_of 16384 S (λ x. word bytes (x + 4)) (at_eight backs 0) (head_at heads) (at_eight firsts 4294967295)
+  abbrev t : AreThreads class_of 16384 S (λ x. word bytes (x + 4)) (back_in marks) (head_at heads) (at_eight firsts 4294967295)
   t = w.threads
 
   member : (j x : ℕ) → 0 < times x (t.lists j) → (0 < S x) × (class_of (S x) ≡ j)
@@ -41,13 +41,13 @@ module _ (bytes : List ℕ) (S : ℕ → ℕ) (heads firsts words ends backs : L
   no-none j h = let z = member j 4294967295 h in omega (arith, z.0, t.none)
 
   pub list-follows : (j : ℕ) → Follows bytes (head_at heads j) (t.lists j)
-  list-follows j = follows-linked bytes (at_eight backs 0) (head_at heads j) 4294967295 (t.lists j) (no-none j) (t.linked j)
+  list-follows j = follows-linked bytes (back_in marks) (head_at heads j) 4294967295 (t.lists j) (no-none j) (t.linked j)
 
   -- where a size has a cell, it has a first one
   first-some : (x : ℕ) → 0 < S x → S x < 16384 → at_eight firsts 4294967295 (S x) ≡ 4294967295 → ⊥
   first-some x h l e =
       let j : ℕ = class_of (S x) in
-      let i = first-there S (link N (head_at heads j)) (at_eight backs 0) (at_eight firsts 4294967295) 16384 (S x) x 4294967295 (t.lists j) (t.linked j)
+      let i = first-there S (link N (head_at heads j)) (back_in marks) (at_eight firsts 4294967295) 16384 (S x) x 4294967295 (t.lists j) (t.linked j)
       (λ y q. t.runs y (member j y q).0) l (λ z. omega (arith, t.none)) (let z = t.exact j x ∙ of-some class_of S j x h refl in omega arith) refl in
       no-none j (subst (λ v. 0 < times v (t.lists j)) e i)
 
@@ -105,7 +105,7 @@ module _ (bytes : List ℕ) (S : ℕ → ℕ) (heads firsts words ends backs : L
 
   pub last-within : (head : ℕ) → head ≡ head_at heads 23 → AllByRecursion (λ offset. offset + 8 ≤ length bytes) (chain large bytes head)
   last-within head e = rw (e, last-list) (all_from_times (λ offset. offset + 8 ≤ length bytes) (t.lists 23)
-      (λ o i. (cell-spot bytes S heads firsts words ends backs large top w o (member 23 o i).0).1))
+      (λ o i. (cell-spot bytes S heads firsts words marks large top w o (member 23 o i).0).1))
 
   in-last : (x : ℕ) → 16384 ≤ S x → 0 < times x (t.lists 23)
   in-last x g = let z = t.exact 23 x ∙ of-some class_of S 23 x (omega arith) (class-large (S x) g) in omega arith
@@ -150,24 +150,22 @@ module _ (bytes : List ℕ) (S : ℕ → ℕ) (heads firsts words ends backs : L
   fit-within size head cell e fit =
       let same : t.lists 23 ≡ fit.front ++ cell ∷ fit.back = sym last-list ∙ ap (chain large bytes) (sym e) ∙ fit.split in
       let i : 0 < times cell (t.lists 23) = subst (λ l. 0 < times cell l) (sym same) (omega (arith, times-append cell fit.front (cell ∷ fit.back), times-here cell fit.back)) in
-      (cell-spot bytes S heads firsts words ends backs large top w cell (member 23 cell i).0).1
+      (cell-spot bytes S heads firsts words marks large top w cell (member 23 cell i).0).1
 
   -- sizes stay below a size that nothing fits
-  pub lowered : (size : ℕ) → NoneFits S size → AreTables bytes S heads firsts words ends backs large size
+  pub lowered : (size : ℕ) → NoneFits S size → AreTables bytes S heads firsts words marks large size
   lowered size none = record {
     threads = w.threads;
     pieces = w.pieces;
     fields = w.fields;
     apart = w.apart;
-    ends_there = w.ends_there;
-    ends_are = w.ends_are;
+    marks_are = w.marks_are;
     below = none;
     bits = w.bits;
     words_small = w.words_small;
     words_long = w.words_long;
     firsts_long = w.firsts_long;
-    ends_long = w.ends_long;
-    backs_long = w.backs_long;
+    marks_long = w.marks_long;
     heads_long = w.heads_long;
     small = w.small;
     count = w.count;

@@ -45,6 +45,9 @@ module _ (class_of : ℕ → ℕ) (m : ℕ) (S N B H F : ℕ → ℕ) (k c s p n
   back-self : B c ≡ c → ⊥
   back-self = back-other (link N (H k)) B c 4294967295 (t.lists k) (t.linked k) (λ e. cell (sym e)) (let z = c-once in omega arith)
 
+  pub n-other : (n ≡ 4294967295 → ⊥) → n ≡ c → ⊥
+  n-other o e = back-self (ap B (sym e) ∙ n-behind o)
+
   module _ (S' N' B' H' F' : ℕ → ℕ) (u : Takes m S N B H F S' N' B' H' F' k c s p n) where
     abbrev lists' : ℕ → List ℕ
     lists' j = cond (eqb j k) (without c (t.lists k)) (t.lists j)
@@ -65,8 +68,8 @@ module _ (class_of : ℕ → ℕ) (m : ℕ) (S N B H F : ℕ → ℕ) (k c s p n
           | inr a ↦ u.heads j a
         ]
 
-    same-back : (x : ℕ) → 0 < S x → (B x ≡ c → ⊥) → B' x ≡ B x
-    same-back x h o = u.backs x h (λ e. o (ap B e ∙ n-behind (λ q. is-cell x h (e ∙ q))))
+    same-back : (x : ℕ) → 0 < S x → (B x ≡ c → ⊥) → (x ≡ c → ⊥) → B' x ≡ B x
+    same-back x h o d = u.backs x h (λ e. o (ap B e ∙ n-behind (λ q. is-cell x h (e ∙ q)))) d
 
     linked-here : Linked (link N' (H' k)) B' 4294967295 (without c (t.lists k))
     linked-here =
@@ -82,7 +85,8 @@ module _ (class_of : ℕ → ℕ) (m : ℕ) (S N B H F : ℕ → ℕ) (k c s p n
     linked-other j o =
         let f : eqb 4294967295 c ≡ false = ne_eqb 4294967295 c (λ e. cell (sym e)) in
         let z = c-other j o in
-        frame_other (link N (H j)) B (link N' (H' j)) B' c 4294967295 (t.lists j) cell (rw f (omega arith)) (same-link j) (λ x i. same-back x (member j x i).0) (t.linked j)
+        frame_other (link N (H j)) B (link N' (H' j)) B' c 4294967295 (t.lists j) cell (rw f (omega arith)) (same-link j)
+        (λ x i b. same-back x (member j x i).0 b (λ q. (let g = subst (λ v. 0 < times v (t.lists j)) q i in omega arith))) (t.linked j)
 
     linked' : (j : ℕ) → Linked (link N' (H' j)) B' 4294967295 (lists' j)
     linked' j = cond_both (eqb j k) (without c (t.lists k)) (t.lists j) (λ l. Linked (link N' (H' j)) B' 4294967295 l)
@@ -167,7 +171,7 @@ module _ (class_of : ℕ → ℕ) (m : ℕ) (S N B H F : ℕ → ℕ) (k c s p n
               let j : ℕ = class_of (S x) in
               let b = before (link N (H j)) B x 4294967295 (t.lists j) (t.linked j) (let z = t.exact j x ∙ of-some class_of S j x h' refl in omega arith) in
               let away : B x ≡ c → ⊥ = λ z. e (sym b.0 ∙ ap (link N (H j)) z ∙ link-some N (H j) c cell ∙ sym n_is) in
-              let f : F (S x) ≡ x = t.runs x h' l' (λ z. o (ap S' (same-back x h' away) ∙ u.sizes (B x) away ∙ z ∙ sym y)) in
+              let f : F (S x) ≡ x = t.runs x h' l' (λ z. o (ap S' (same-back x h' away d) ∙ u.sizes (B x) away ∙ z ∙ sym y)) in
               elim (cases_eq (S x) s) [
                 | inl q ↦ ap F' (y ∙ q) ∙ u.first_kept (omega arith) (λ z. d (sym f ∙ ap F q ∙ z)) ∙ ap F (sym q) ∙ f
                 | inr q ↦ ap F' y ∙ u.firsts (S x) q ∙ f

@@ -84,11 +84,11 @@ pub all-from : ℕ → (ℕ → List ℕ) → ℕ → List (List ℕ)
 all-from zero lists k = []
 all-from (suc n) lists k = lists k ∷ all-from n lists (suc k)
 
-module _ (bytes : List ℕ) (cells : List Cell) (heads firsts words ends backs : List ℕ) (large top : ℕ) (w : AreTables bytes (free_size cells) heads firsts words ends backs large top)
+module _ (bytes : List ℕ) (cells : List Cell) (heads firsts words marks : List ℕ) (large top : ℕ) (w : AreTables bytes (free_size cells) heads firsts words marks large top)
     (ordered : AreOrdered 0 cells) where
   one-list : (k head : ℕ) → head_at heads k ≡ head → IsFreeList class_of k bytes head cells (w.threads.lists k)
   one-list k head e = record {
-    follows = rw e at (list-follows bytes (free_size cells) heads firsts words ends backs large top w k);
+    follows = rw e at (list-follows bytes (free_size cells) heads firsts words marks large top w k);
     exact = λ x. w.threads.exact k x ∙ sym (times-free_of class_of k 0 x cells ordered);
   }
 
@@ -123,7 +123,7 @@ sound bytes lists i =
       eights = AreBins-eights bytes 0 a.layout (omega arith) a.tiled;
       blank = a.blank;
       free = record {
-        each = are-lists bytes (cells_in a.layout) _ _ _ _ _ _ _ w (AreOrdered-AreBins bytes 0 a.layout a.tiled) 0 lists.heads (λ k l. ap (head_at lists.heads) (omega arith));
+        each = are-lists bytes (cells_in a.layout) _ _ _ _ _ _ w (AreOrdered-AreBins bytes 0 a.layout a.tiled) 0 lists.heads (λ k l. ap (head_at lists.heads) (omega arith));
         classes = all-classes bytes a.layout a.tiled (length lists.heads) (let h = w.heads_long in omega arith) [] (cells_in a.layout) refl;
         apart = a.apart;
       };

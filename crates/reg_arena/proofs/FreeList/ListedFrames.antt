@@ -1,5 +1,5 @@
 -- The tables of the free lists where the free cells stay.
-use Rattle.std.proofs.Common.{◌≡◌, ℕ, zero, suc, ◌+◌, ◌-◌, ◌*◌, ◌/◌, ◌%◌, ◌<◌, ◌≤◌, Bool, true, false, cond, ◌⊎◌, inl, inr, List, [], get_or, length, replicate, refl, sym, ap, ◌∙◌, subst, arith, eqb}
+use Rattle.std.proofs.Common.{◌≡◌, ℕ, zero, suc, ◌+◌, ◌*◌, ◌/◌, ◌%◌, ◌<◌, ◌≤◌, Bool, true, false, cond, ◌⊎◌, inl, inr, List, [], get_or, length, replicate, refl, sym, ap, ◌∙◌, subst, arith, eqb}
 use Rattle.std.proofs.lemmas.Bool.{eq-eqb, ne_eqb, cases_eq}
 use Rattle.std.proofs.lemmas.Nat.Bits.{bit_at-zero}
 use Rattle.std.specs.Int.{bit_at}
@@ -7,10 +7,11 @@ use Rattle.reg_heap.specs.ByteWords.{word, SameOutside}
 use Rattle.reg_arena.specs.declared.free_lists.FreeLists.{FreeLists}
 use Rattle.reg_arena.specs.Classes.{class_of}
 use Rattle.reg_arena.specs.Internal.CellThreads.{AreThreads, link}
-use Rattle.reg_arena.specs.Internal.SizeTables.{at_eight, head_at}
-use Rattle.reg_arena.specs.Internal.ListedCells.{AreTables, IsListed, IsFreeOf}
+use Rattle.reg_arena.specs.Internal.SizeTables.{at_eight, head_at, untagged, back_in}
+use Rattle.reg_arena.specs.Internal.ListedCells.{AreMarks, AreTables, IsListed, IsFreeOf}
 use Rattle.reg_arena.proofs.Contents.ByteSplices.{word-same_below, word-same_above}
 use Rattle.reg_arena.proofs.FreeList.ThreadLinks.{frame}
+use Rattle.reg_arena.proofs.FreeList.CellMarks.{opened, closed}
 use Rattle.reg_arena.proofs.FreeList.ClassMembers.{of-member, of-zero}
 
 -- ---- other bytes
@@ -34,25 +35,23 @@ threads-next class_of m S N N' B H F e t = record {
 }
 
 -- the words of the free cells stay
-pub framed : (old new : List ℕ) (sizes : ℕ → ℕ) (lists : FreeLists) → IsListed old sizes lists → length old ≤ length new → length new ≤ 8 * length lists.ends.items →
-    length new ≤ 8 * length lists.backs.items → (0 < length new → 32 ≤ length lists.words.items) → (0 < length new → 2048 ≤ length lists.firsts.items) →
+pub framed : (old new : List ℕ) (sizes : ℕ → ℕ) (lists : FreeLists) → IsListed old sizes lists → length old ≤ length new → length new ≤ 8 * length lists.marks.items →
+    (0 < length new → 32 ≤ length lists.words.items) → (0 < length new → 2048 ≤ length lists.firsts.items) →
     length new ≤ 268435456 → ((x : ℕ) → 0 < sizes x → word new x ≡ word old x) → ((x : ℕ) → 0 < sizes x → word new (x + 4) ≡ word old (x + 4)) →
     IsListed new sizes lists
 unfolding threads-next
-framed old new sizes lists w long ends backs words firsts small field next = record {
+framed old new sizes lists w long marks words firsts small field next = record {
   threads = threads-next class_of 16384 sizes (λ x. word old (x + 4)) (λ x. word new (x + 4)) _ _ _ next w.threads;
   pieces = λ x h. (let z = w.pieces x h in record { eights = z.eights; some = z.some; size_eights = z.size_eights; within = omega (arith, z.within) });
   fields = λ x h. field x h ∙ w.fields x h;
   apart = w.apart;
-  ends_there = w.ends_there;
-  ends_are = w.ends_are;
+  marks_are = w.marks_are;
   below = w.below;
   bits = w.bits;
   words_small = w.words_small;
   words_long = words;
   firsts_long = firsts;
-  ends_long = ends;
-  backs_long = backs;
+  marks_long = marks;
   heads_long = w.heads_long;
   small = small;
   count = w.count;
@@ -61,7 +60,7 @@ framed old new sizes lists w long ends backs words firsts small field next = rec
 -- bytes changed where no free cell is
 pub beside-free : (old new : List ℕ) (sizes : ℕ → ℕ) (lists : FreeLists) (lo n : ℕ) → IsListed old sizes lists → SameOutside lo (lo + n) old new → IsFreeOf sizes lo n → IsListed new sizes lists
 beside-free old new sizes lists lo n w s free =
-    framed old new sizes lists w (omega (arith, s.long)) (omega (arith, s.long, w.ends_long)) (omega (arith, s.long, w.backs_long)) (λ h. w.words_long (omega (arith, s.long)))
+    framed old new sizes lists w (omega (arith, s.long)) (omega (arith, s.long, w.marks_long)) (λ h. w.words_long (omega (arith, s.long)))
     (λ h. w.firsts_long (omega (arith, s.long))) (omega (arith, s.long, w.small)) (λ x h. (same x h).0) (λ x h. (same x h).1)
   where
     same : (x : ℕ) → 0 < sizes x → (word new x ≡ word old x) × (word new (x + 4) ≡ word old (x + 4))
@@ -77,33 +76,34 @@ beside-free old new sizes lists lo n w s free =
 same-eight : (t t' : List ℕ) (d : ℕ) → ((x : ℕ) → get_or t' x d ≡ get_or t x d) → at_eight t' d ≡ at_eight t d
 same-eight t t' d h = λ i x. ap (λ v. cond (eqb (x % 8) 0) v d) (h (x / 8)) i
 
+same-back : (t t' : List ℕ) → ((x : ℕ) → get_or t' x 0 ≡ get_or t x 0) → back_in t' ≡ back_in t
+same-back t t' h = λ i x. ap (λ v. untagged (cond (eqb (x % 8) 0) v 0)) (h (x / 8)) i
+
 -- threads with a count of the last list
 abbrev Counted : (ℕ → ℕ) → (ℕ → ℕ) → (ℕ → ℕ) → ℕ → (ℕ → ℕ) → (ℕ → ℕ) → Type 0
 Counted S N H large B F = (r : AreThreads class_of 16384 S N B H F) × (length (r.lists 23) ≡ large)
 
-pub longer : (bytes : List ℕ) (S : ℕ → ℕ) (heads firsts words ends backs : List ℕ) (large top : ℕ) → AreTables bytes S heads firsts words ends backs large top →
-    (firsts' words' ends' backs' : List ℕ) → ((x : ℕ) → get_or firsts' x 4294967295 ≡ get_or firsts x 4294967295) → ((x : ℕ) → get_or words' x 0 ≡ get_or words x 0) →
-    ((x : ℕ) → get_or ends' x 0 ≡ get_or ends x 0) → ((x : ℕ) → get_or backs' x 0 ≡ get_or backs x 0) → length firsts ≤ length firsts' →
-    length words ≤ length words' → length words' ≤ 32 → length ends ≤ length ends' → length backs ≤ length backs' → AreTables bytes S heads firsts' words' ends' backs' large top
-longer bytes S heads firsts words ends backs large top w firsts' words' ends' backs' f g e b lf lw sw le lb =
+pub longer : (bytes : List ℕ) (S : ℕ → ℕ) (heads firsts words marks : List ℕ) (large top : ℕ) → AreTables bytes S heads firsts words marks large top →
+    (firsts' words' marks' : List ℕ) → ((x : ℕ) → get_or firsts' x 4294967295 ≡ get_or firsts x 4294967295) → ((x : ℕ) → get_or words' x 0 ≡ get_or words x 0) →
+    ((x : ℕ) → get_or marks' x 0 ≡ get_or marks x 0) → length firsts ≤ length firsts' →
+    length words ≤ length words' → length words' ≤ 32 → length marks ≤ length marks' → AreTables bytes S heads firsts' words' marks' large top
+longer bytes S heads firsts words marks large top w firsts' words' marks' f g e lf lw sw le =
     let N : ℕ → ℕ = λ x. word bytes (x + 4) in
-    let z : Counted S N (head_at heads) large (at_eight backs 0) (at_eight firsts 4294967295) = (w.threads, w.count) in
-    let z1 = subst (λ t. Counted S N (head_at heads) large t (at_eight firsts 4294967295)) (sym (same-eight backs backs' 0 b)) z in
-    let z2 = subst (λ t. Counted S N (head_at heads) large (at_eight backs' 0) t) (sym (same-eight firsts firsts' 4294967295 f)) z1 in
+    let z : Counted S N (head_at heads) large (back_in marks) (at_eight firsts 4294967295) = (w.threads, w.count) in
+    let z1 = subst (λ t. Counted S N (head_at heads) large t (at_eight firsts 4294967295)) (sym (same-back marks marks' e)) z in
+    let z2 = subst (λ t. Counted S N (head_at heads) large (back_in marks') t) (sym (same-eight firsts firsts' 4294967295 f)) z1 in
     record {
       threads = z2.0;
       pieces = w.pieces;
       fields = w.fields;
       apart = w.apart;
-      ends_there = λ x h. e ((x + S x) / 8 - 1) ∙ w.ends_there x h;
-      ends_are = λ u h. (let z = w.ends_are u (subst (λ v. 0 < v) (e u) h) in subst (λ y. (0 < S y) × (y + S y ≡ 8 * u + 8)) (sym (e u)) z);
+      marks_are = closed S marks' (subst (AreMarks S) (sym (same-eight marks marks' 0 e)) (opened S marks w.marks_are));
       below = w.below;
       bits = λ i. ap (λ v. bit_at v (i % 64)) (g (i / 64)) ∙ w.bits i ∙ ap (λ v. cond (eqb v 4294967295) 0 1) (sym (f i));
       words_small = sw;
       words_long = λ h. (let y = w.words_long h in omega arith);
       firsts_long = λ h. (let y = w.firsts_long h in omega arith);
-      ends_long = omega (arith, w.ends_long);
-      backs_long = omega (arith, w.backs_long);
+      marks_long = omega (arith, w.marks_long);
       heads_long = w.heads_long;
       small = w.small;
       count = z2.1;
@@ -123,9 +123,9 @@ heads-none zero k = refl
 heads-none (suc n) zero = refl
 heads-none (suc n) (suc k) = heads-none n k
 
-pub fresh : (heads firsts words ends backs : List ℕ) (n : ℕ) → heads ≡ replicate n 4294967295 → length heads ≡ 24 → firsts ≡ [] → words ≡ [] → ends ≡ [] → backs ≡ [] →
-    AreTables [] (λ x. 0) heads firsts words ends backs 0 0
-fresh heads firsts words ends backs n e l ef ew ee eb = rw (ef, ew, ee, eb) (record {
+pub fresh : (heads firsts words marks : List ℕ) (n : ℕ) → heads ≡ replicate n 4294967295 → length heads ≡ 24 → firsts ≡ [] → words ≡ [] → marks ≡ [] →
+    AreTables [] (λ x. 0) heads firsts words marks 0 0
+fresh heads firsts words marks n e l ef ew em = rw (ef, ew, em) (record {
   threads = record {
     lists = λ k. [];
     linked = λ k. ap (λ h. get_or h k 4294967295) e ∙ heads-none n k;
@@ -137,15 +137,18 @@ fresh heads firsts words ends backs n e l ef ew ee eb = rw (ef, ew, ee, eb) (rec
   pieces = λ x h. absurd (omega arith);
   fields = λ x h. absurd (omega arith);
   apart = λ x y h. absurd (omega arith);
-  ends_there = λ x h. absurd (omega arith);
-  ends_are = λ u h. absurd (omega arith);
+  marks_are = closed (λ x. 0) [] (record {
+    begins = λ x h. absurd (omega arith);
+    ends = λ x h. absurd (omega arith);
+    odd = λ x h. absurd (let z = none-at x 0 in omega arith);
+    even = λ x h g. absurd (let z = none-at x 0 in omega arith);
+  });
   below = λ x h. absurd (omega arith);
   bits = λ i. bit_at-zero (i % 64);
   words_small = omega arith;
   words_long = λ h. absurd (omega arith);
   firsts_long = λ h. absurd (omega arith);
-  ends_long = omega arith;
-  backs_long = omega arith;
+  marks_long = omega arith;
   heads_long = l;
   small = omega arith;
   count = refl;

@@ -5,7 +5,7 @@ use lib.Dec.{ltb}
 use Rattle.reg_heap.specs.ByteWords.{word}
 use Rattle.reg_arena.specs.Classes.{class_of}
 use Rattle.reg_arena.specs.Internal.CellThreads.{AreThreads}
-use Rattle.reg_arena.specs.Internal.SizeTables.{at_eight, head_at, counted}
+use Rattle.reg_arena.specs.Internal.SizeTables.{at_eight, head_at, back_in, counted}
 use Rattle.reg_arena.specs.Internal.ListedCells.{AreTables, sized, added}
 use Rattle.reg_arena.proofs.FreeList.ThreadLinks.{pigeon}
 use Rattle.reg_arena.proofs.FreeList.ClassMembers.{of-member, of-most}
@@ -51,23 +51,23 @@ added-some c s S h = λ i x. by x (eqb x c) i
     by x true = (let l : ltb 0 s ≡ true = lt-ltb 0 s h in rw l refl)
     by x false = refl
 
-module _ (bytes : List ℕ) (S : ℕ → ℕ) (heads firsts words ends backs : List ℕ) (large top : ℕ) (w : AreTables bytes S heads firsts words ends backs large top) where
+module _ (bytes : List ℕ) (S : ℕ → ℕ) (heads firsts words marks : List ℕ) (large top : ℕ) (w : AreTables bytes S heads firsts words marks large top) where
   abbrev N : ℕ → ℕ
   N x = word bytes (x + 4)
 
-  abbrev t : AreThreads class_of 16384 S (λ x. word bytes (x + 4)) (at_eight backs 0) (head_at heads) (at_eight firsts 4294967295)
+  abbrev t : AreThreads class_of 16384 S (λ x. word bytes (x + 4)) (back_in marks) (head_at heads) (at_eight firsts 4294967295)
   t = w.threads
 
   -- where a free cell is
-  pub cell-spot : (x : ℕ) → 0 < S x → (x % 8 ≡ 0) × (x + 8 ≤ length bytes) × (x / 8 < length backs)
+  pub cell-spot : (x : ℕ) → 0 < S x → (x % 8 ≡ 0) × (x + 8 ≤ length bytes) × (x / 8 < length marks)
   cell-spot x h =
       let z = w.pieces x h in
-      (z.eights, omega (arith, z.within, z.size_eights), omega (arith, z.within, z.size_eights, w.backs_long))
+      (z.eights, omega (arith, z.within, z.size_eights), omega (arith, z.within, z.size_eights, w.marks_long))
 
   pub cell-is-spot : (x : ℕ) → ((x ≡ 4294967295 → ⊥) → 0 < S x) → IsSpot bytes x
   cell-is-spot x h o = let z = cell-spot x (h o) in (z.0, z.1)
 
-  pub cell-is-place : (x : ℕ) → ((x ≡ 4294967295 → ⊥) → 0 < S x) → IsPlace backs x
+  pub cell-is-place : (x : ℕ) → ((x ≡ 4294967295 → ⊥) → 0 < S x) → IsPlace marks x
   cell-is-place x h o = let z = cell-spot x (h o) in (z.0, z.2)
 
   -- the last list has no more cells than there are eights

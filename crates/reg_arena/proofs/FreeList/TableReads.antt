@@ -1,9 +1,10 @@
 -- Reads of the tables after an edit.
-use Rattle.std.proofs.Common.{◌≡◌, ℕ, ◌/◌, ◌%◌, ◌<◌, ◌&&◌, Bool, true, false, cond, inl, inr, List, set, get_or, length, refl, sym, ap, ◌∙◌, arith, eqb, get_or-set_other, get_or-set_same, length-set}
-use Rattle.std.proofs.lemmas.Bool.{eq-eqb, ne_eqb, cases_eq, cases_lt, lt-ltb, and_right}
+use Rattle.std.proofs.Common.{◌≡◌, ℕ, ◌+◌, ◌-◌, ◌/◌, ◌%◌, ◌<◌, ◌&&◌, Bool, true, false, cond, inl, inr, List, set, get_or, length, refl, sym, ap, ◌∙◌, arith, eqb}
+use Rattle.std.proofs.Common.{get_or-set_other, get_or-set_same, length-set}
+use Rattle.std.proofs.lemmas.Bool.{eq-eqb, ne_eqb, cases_eq, cases_lt, lt-ltb, le-ltb, and_right}
 use Rattle.std.proofs.lemmas.List.{get_or_past}
 use lib.Dec.{ltb}
-use Rattle.reg_arena.specs.Internal.SizeTables.{at_eight, head_at, marked, head_linked, first_put, first_taken}
+use Rattle.reg_arena.specs.Internal.SizeTables.{at_eight, head_at, marked, ended, tagged, untagged, head_linked, first_put, first_taken}
 
 pub at-get : (t : List ℕ) (d x : ℕ) → x % 8 ≡ 0 → at_eight t d x ≡ get_or t (x / 8) d
 at-get t d x e = let q : eqb (x % 8) 0 ≡ true = eq-eqb (x % 8) 0 e in rw q refl
@@ -55,6 +56,43 @@ length-marked c v t = by (eqb c 4294967295)
     by : (b : Bool) → length (cond b t (set t (c / 8) v)) ≡ length t
     by true = refl
     by false = length-set t (c / 8) v
+
+-- ---- the marks
+
+pub ended-last : (t : List ℕ) (d c s v : ℕ) → 8 < s → (c + s - 8) % 8 ≡ 0 → (c + s - 8) / 8 < length t → at_eight (ended c s v t) d (c + s - 8) ≡ v
+ended-last t d c s v l e r = let q : ltb 8 s ≡ true = lt-ltb 8 s l in rw q (at-same t d (c + s - 8) v e r)
+
+pub ended-other : (t : List ℕ) (d c s v x : ℕ) → (c + s - 8) % 8 ≡ 0 → (8 < s → x ≡ c + s - 8 → ⊥) → at_eight (ended c s v t) d x ≡ at_eight t d x
+ended-other t d c s v x e o = elim (cases_lt 8 s) [
+  | inl l ↦ (let q : ltb 8 s ≡ true = lt-ltb 8 s l in rw q (at-other t d (c + s - 8) v x e (o l)))
+  | inr g ↦ (let q : ltb 8 s ≡ false = le-ltb 8 s g in rw q refl)
+]
+
+pub length-ended : (c s v : ℕ) (t : List ℕ) → length (ended c s v t) ≡ length t
+length-ended c s v t = by (ltb 8 s)
+  where
+    by : (b : Bool) → length (cond b (set t ((c + s - 8) / 8) v) t) ≡ length t
+    by true = length-set t ((c + s - 8) / 8) v
+    by false = refl
+
+-- a link is none, or a cell's offset
+abbrev pub IsLink : ℕ → Type 0
+IsLink x = (x ≡ 4294967295 → ⊥) → x % 8 ≡ 0
+
+pub untagged-tagged : (x : ℕ) → IsLink x → untagged (tagged x) ≡ x
+untagged-tagged x h = elim (cases_eq x 4294967295) [
+  | inl e ↦ (let q : eqb x 4294967295 ≡ true = eq-eqb x 4294967295 e in rw q (sym e))
+  | inr o ↦ (
+      let q : eqb x 4294967295 ≡ false = ne_eqb x 4294967295 o in
+      let r : eqb (x + 1) 4294967295 ≡ false = ne_eqb (x + 1) 4294967295 (λ e. omega (arith, h o)) in
+      rw q (rw r (omega (arith, h o))))
+]
+
+pub tagged-odd : (x : ℕ) → IsLink x → tagged x % 2 ≡ 1
+tagged-odd x h = elim (cases_eq x 4294967295) [
+  | inl e ↦ (let q : eqb x 4294967295 ≡ true = eq-eqb x 4294967295 e in rw q (omega arith))
+  | inr o ↦ (let q : eqb x 4294967295 ≡ false = ne_eqb x 4294967295 o in rw q (omega (arith, h o)))
+]
 
 pub length-head_linked : (k c v : ℕ) (t : List ℕ) → length (head_linked k c v t) ≡ length t
 length-head_linked k c v t = by (eqb c 4294967295)

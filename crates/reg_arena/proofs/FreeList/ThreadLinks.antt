@@ -69,21 +69,22 @@ unlink-here L B L' B' c prev (y ∷ ys) some away hL hB u v w l =
 
 -- c taken out of its list: the link to it and the back to it pass over it
 pub unlink : (L B L' B' : ℕ → ℕ) (c prev : ℕ) (xs : List ℕ) → (c ≡ 4294967295 → ⊥) → (prev ≡ c → ⊥) → times c xs ≡ 1
-    → ((x : ℕ) → 0 < times x (prev ∷ xs) → (L x ≡ c → ⊥) → L' x ≡ L x) → ((x : ℕ) → 0 < times x xs → (B x ≡ c → ⊥) → B' x ≡ B x)
+    → ((x : ℕ) → 0 < times x (prev ∷ xs) → (L x ≡ c → ⊥) → L' x ≡ L x) → ((x : ℕ) → 0 < times x xs → (B x ≡ c → ⊥) → (x ≡ c → ⊥) → B' x ≡ B x)
     → L' (B c) ≡ L c → ((L c ≡ 4294967295 → ⊥) → B' (L c) ≡ B c) → (0 < times 4294967295 xs → ⊥) → Linked L B prev xs → Linked L' B' prev (without c xs)
 unlink L B L' B' c prev [] some other once hL hB u v w l = absurd (omega arith)
 unlink L B L' B' c prev (x ∷ xs) some other once hL hB u v w l = elim (cases_eq x c) [
   | inl e ↦
       let t : eqb x c ≡ true = eq-eqb x c e in
       let z = rw t at once in
-      rw t (unlink-here L B L' B' c prev xs some (omega arith) (λ y i. hL y (times-there y prev (x ∷ xs) (times-there y x xs i))) (λ y i. hB y (times-there y x xs i)) u v
+      rw t (unlink-here L B L' B' c prev xs some (omega arith) (λ y i. hL y (times-there y prev (x ∷ xs) (times-there y x xs i)))
+      (λ y i b. hB y (times-there y x xs i) b (λ q. (let g = subst (λ v. 0 < times v xs) q i in omega arith))) u v
       (λ i. w (times-there 4294967295 x xs i)) (subst (λ y. Linked L B prev (y ∷ xs)) e l))
   | inr n ↦
       let t : eqb x c ≡ false = ne_eqb x c n in
       let z = rw t at once in
       rw t (
         hL prev (times-here prev (x ∷ xs)) (λ e. n (sym l.0 ∙ e)) ∙ l.0,
-        hB x (times-here x xs) (λ e. other (sym l.1 ∙ e)) ∙ l.1,
+        hB x (times-here x xs) (λ e. other (sym l.1 ∙ e)) n ∙ l.1,
         unlink L B L' B' c x xs some n (omega arith) (λ y i. hL y (times-there y prev (x ∷ xs) i)) (λ y i. hB y (times-there y x xs i)) u v (λ i. w (times-there 4294967295 x xs i)) l.2,
       )
 ]

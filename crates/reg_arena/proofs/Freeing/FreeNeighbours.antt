@@ -1,5 +1,5 @@
 -- The free cells beside an allocated one.
-use Rattle.std.proofs.Common.{◌≡◌, ℕ, zero, suc, ◌+◌, ◌-◌, ◌*◌, ◌/◌, ◌<◌, ◌≤◌, Bool, true, false, cond, inl, inr, List, [], ◌∷◌, ◌++◌, length, get_or, refl, sym, ap, ◌∙◌, subst, arith, append_assoc}
+use Rattle.std.proofs.Common.{◌≡◌, ℕ, zero, suc, ◌+◌, ◌-◌, ◌<◌, ◌≤◌, Bool, true, false, cond, inl, inr, List, [], ◌∷◌, ◌++◌, length, refl, sym, ap, ◌∙◌, subst, arith, append_assoc}
 use Rattle.std.proofs.Common.{eqb}
 use Rattle.std.proofs.lemmas.Bool.{eqb-true, eqb-false, leb-false, lt-ltb}
 use Rattle.std.specs.List.{AllByRecursion}
@@ -8,9 +8,9 @@ use Rattle.reg_arena.specs.declared.Cell.{Cell}
 use Rattle.reg_arena.specs.Cells.{Bin, Tiles, AreBins, cells_in, size_in, is_allocated_in}
 use Rattle.reg_arena.specs.Free.{Touch, AreApart}
 use Rattle.reg_arena.specs.NewCells.{unused}
-use Rattle.reg_arena.specs.declared.free_lists.FreeLists.{FreeLists}
-use Rattle.reg_arena.specs.Internal.ListedCells.{free_size, IsListed}
+use Rattle.reg_arena.specs.Internal.ListedCells.{free_size}
 use Rattle.reg_arena.proofs.FreeList.FreeSizes.{free_at}
+use Rattle.reg_arena.proofs.FreeList.CellMarks.{EndsAt}
 use Rattle.reg_arena.proofs.FreeList.ListedArenas.{size-at, all-free}
 use Rattle.reg_arena.specs.Frees.{IsFreePiece, IsRight, start_of}
 use Rattle.reg_arena.proofs.Tiling.Tilings.{Tiles-back}
@@ -46,10 +46,10 @@ apart-front (x ∷ ds) d bs f h = ((λ u e. here ds h.0 (record { first = u; sec
     here [] a t = a.0 t
     here (z ∷ zs) a t = here zs a.1 t
 
--- where the table has nothing, no free cell ends
-lefts-none : (bytes : List ℕ) (layout : List Bin) (lists : FreeLists) (xs : List Cell) (c : Cell) (ys : List Cell) (u : ℕ) → AreBins bytes 0 layout →
-    IsListed bytes (free_size (cells_in layout)) lists → cells_in layout ≡ xs ++ c ∷ ys → 8 * u + 8 ≡ c.offset → get_or lists.ends.items u 0 ≡ 0 → Lefts layout c ys c.offset 0
-lefts-none bytes layout lists xs c ys u tiled w e place z = record {
+-- where no free cell ends
+lefts-none : (bytes : List ℕ) (layout : List Bin) (xs : List Cell) (c : Cell) (ys : List Cell) → AreBins bytes 0 layout →
+    EndsAt (free_size (cells_in layout)) c.offset 0 → cells_in layout ≡ xs ++ c ∷ ys → Lefts layout c ys c.offset 0
+lefts-none bytes layout xs c ys tiled k e = record {
   at_start = λ _. refl;
   xs = xs;
   lefts = [];
@@ -67,10 +67,8 @@ lefts-none bytes layout lists xs c ys u tiled w e place z = record {
     none us d vs f free end =
         let st = stands bytes layout us d vs tiled (e ∙ f) in
         let s : free_size (cells_in layout) d.offset ≡ d.size = ap (λ cs. free_size cs d.offset) (e ∙ f) ∙ size-at 0 us d vs (subst (AreOrdered 0) (e ∙ f) ordered) free in
-        let t = w.ends_there d.offset (omega (arith, s, st.cell.positive)) in
-        let q : (d.offset + free_size (cells_in layout) d.offset) / 8 - 1 ≡ u = omega (arith, s, end, place) in
-        let r : get_or lists.ends.items u 0 ≡ d.offset = ap (λ i. get_or lists.ends.items i 0) (sym q) ∙ t in
-        omega (arith, r, z, st.header)
+        let t : 0 ≡ d.offset = k.none d.offset (omega (arith, s, st.cell.positive)) (omega (arith, s, end)) in
+        omega (arith, t, st.header)
 
 as_free : (d : Cell) (hi : ℕ) → d.allocated ≡ false → d.offset + d.size ≡ hi → d ≡ unused d.offset (hi - d.offset)
 as_free d hi f e = (let n : d.size ≡ hi - d.offset = omega arith in as_unused d f ∙ ap (λ (k : ℕ). unused d.offset k) n)
@@ -97,25 +95,23 @@ lefts-some bytes layout xs c ys left tiled apart e some end =
       before = apart-front r.xs d r.ys r.free (subst AreApart r.cells_are apart);
     })
 
-lefts-by : (bytes : List ℕ) (layout : List Bin) (lists : FreeLists) (xs : List Cell) (c : Cell) (ys : List Cell) (u left : ℕ) → AreBins bytes 0 layout →
-    AreApart (cells_in layout) → IsListed bytes (free_size (cells_in layout)) lists → cells_in layout ≡ xs ++ c ∷ ys → 8 * u + 8 ≡ c.offset →
-    left ≡ get_or lists.ends.items u 0 → (b : Bool) → eqb left 0 ≡ b → Lefts layout c ys (cond b c.offset left) left
-lefts-by bytes layout lists xs c ys u left tiled apart w e place is true z =
+lefts-by : (bytes : List ℕ) (layout : List Bin) (xs : List Cell) (c : Cell) (ys : List Cell) (left : ℕ) → AreBins bytes 0 layout →
+    AreApart (cells_in layout) → EndsAt (free_size (cells_in layout)) c.offset left → cells_in layout ≡ xs ++ c ∷ ys →
+    (b : Bool) → eqb left 0 ≡ b → Lefts layout c ys (cond b c.offset left) left
+lefts-by bytes layout xs c ys left tiled apart k e true z =
     let zero_left = eqb-true left 0 z in
-    rw zero_left (lefts-none bytes layout lists xs c ys u tiled w e place (sym is ∙ zero_left))
-lefts-by bytes layout lists xs c ys u left tiled apart w e place is false z =
-    let some : 0 < left = positive left (eqb-false left 0 z) in
-    let t = w.ends_are u (omega arith) in
-    lefts-some bytes layout xs c ys left tiled apart e (rw (← is) at t.0) (rw (← is) at t.1 ∙ place)
+    rw zero_left (lefts-none bytes layout xs c ys tiled (subst (EndsAt (free_size (cells_in layout)) c.offset) zero_left k) e)
+lefts-by bytes layout xs c ys left tiled apart k e false z =
+    let t = k.some (positive left (eqb-false left 0 z)) in
+    lefts-some bytes layout xs c ys left tiled apart e t.0 t.1
   where
     positive : (n : ℕ) → (n ≡ 0 → ⊥) → 0 < n
     positive zero h = absurd (h refl)
     positive (suc n) h = omega arith
 
-pub lefts : (bytes : List ℕ) (layout : List Bin) (lists : FreeLists) (xs : List Cell) (c : Cell) (ys : List Cell) (u left : ℕ) → AreBins bytes 0 layout →
-    AreApart (cells_in layout) → IsListed bytes (free_size (cells_in layout)) lists → cells_in layout ≡ xs ++ c ∷ ys → 8 * u + 8 ≡ c.offset →
-    left ≡ get_or lists.ends.items u 0 → Lefts layout c ys (start_of left c.offset) left
-lefts bytes layout lists xs c ys u left tiled apart w e place is = lefts-by bytes layout lists xs c ys u left tiled apart w e place is (eqb left 0) refl
+pub lefts : (bytes : List ℕ) (layout : List Bin) (xs : List Cell) (c : Cell) (ys : List Cell) (left : ℕ) → AreBins bytes 0 layout →
+    AreApart (cells_in layout) → EndsAt (free_size (cells_in layout)) c.offset left → cells_in layout ≡ xs ++ c ∷ ys → Lefts layout c ys (start_of left c.offset) left
+lefts bytes layout xs c ys left tiled apart k e = lefts-by bytes layout xs c ys left tiled apart k e (eqb left 0) refl
 
 -- ---- the right
 

@@ -1,5 +1,5 @@
 -- Where a cell that is freed stands, and the free cells beside it.
-use Rattle.std.proofs.Common.{◌≡◌, ℕ, ◌+◌, ◌-◌, ◌*◌, ◌/◌, ◌<◌, ◌≤◌, ◌%◌, Bool, true, false, cond, inl, inr, List, [], ◌∷◌, ◌++◌, length, get_or, refl, sym, ap, ◌∙◌, subst}
+use Rattle.std.proofs.Common.{◌≡◌, ℕ, ◌+◌, ◌-◌, ◌/◌, ◌<◌, ◌≤◌, ◌%◌, Bool, true, false, cond, inl, inr, List, [], ◌∷◌, ◌++◌, length, refl, sym, ap, ◌∙◌, subst}
 use Rattle.std.proofs.Common.{arith, append_assoc, eqb, None, is_some}
 use Rattle.std.proofs.lemmas.Bool.{eqb-false, cases_lt}
 use Rattle.std.specs.List.{AllByRecursion}
@@ -9,6 +9,7 @@ use Rattle.reg_arena.specs.declared.free_lists.FreeLists.{FreeLists}
 use Rattle.reg_arena.specs.Cells.{Bin, AreBins, cells_in, cell_at, content_in, size_in}
 use Rattle.reg_arena.specs.NewCells.{used, unused}
 use Rattle.reg_arena.specs.Frees.{IsFreePiece, IsRight, start_of}
+use Rattle.reg_arena.specs.Internal.SizeTables.{start_in}
 use Rattle.reg_arena.specs.Internal.ListedCells.{free_size, IsFreeOf, IsIndexed}
 use Rattle.reg_arena.proofs.Tiling.Tilings.{sizes, cell_at-AreBins}
 use Rattle.reg_arena.proofs.Tiling.CellPositions.{looked, stands}
@@ -16,6 +17,7 @@ use Rattle.reg_arena.proofs.Tiling.ArenaInvariant.{AreBins-pages, AreBins-eights
 use Rattle.reg_arena.proofs.Contents.CellContents.{IsBeside, AreOrdered, AreOrdered-AreBins, besides-before, besides-after}
 use Rattle.reg_arena.proofs.Contents.CellWrites.{all-at}
 use Rattle.reg_arena.proofs.FreeList.FreeSizes.{free_at, used-free}
+use Rattle.reg_arena.proofs.FreeList.CellMarks.{EndsAt, ends-at}
 use Rattle.reg_arena.proofs.FreeList.ListedArenas.{size-at}
 use Rattle.reg_arena.proofs.FreeList.RelinkedCells.{free-content}
 use Rattle.reg_arena.proofs.Freeing.MergedCells.{PlacedRow, row-beside}
@@ -23,7 +25,7 @@ use Rattle.reg_arena.proofs.Freeing.FreeNeighbours.{Lefts, Rights, lefts, rights
 
 -- ---- where the cell stands
 
-pub record Site (old : List ℕ) (layout : List Bin) (cell size : ℕ) (ends : List ℕ) : Type 0 where
+pub record Site (old : List ℕ) (layout : List Bin) (cell size : ℕ) (marks : List ℕ) : Type 0 where
   pub xs : List Cell
   pub ys : List Cell
   pub cells_are : cells_in layout ≡ xs ++ used cell size ∷ ys
@@ -33,14 +35,14 @@ pub record Site (old : List ℕ) (layout : List Bin) (cell size : ℕ) (ends : L
   pub header : 32 ≤ cell
   pub within : cell + size ≤ length old
   pub pages : length old % 4096 ≡ 0
-  pub unit_in : cell / 8 - 1 < length ends
+  pub unit_in : (cell - 8) / 8 < length marks
   pub free : IsFreeOf (free_size (cells_in layout)) cell size
 
 as_used : (c : Cell) (cell size : ℕ) → c.allocated ≡ true → c.offset ≡ cell → c.size ≡ size → c ≡ used cell size
 as_used c cell size a e f = rw (← a, ← e, ← f) refl
 
 pub site : (old : List ℕ) (lists : FreeLists) (cell size : ℕ) → (i : IsIndexed old lists) →
-    is_some (cell_at old cell) ≡ true → size ≡ size_in (word old cell) → Site old i.arena.layout cell size lists.ends.items
+    is_some (cell_at old cell) ≡ true → size ≡ size_in (word old cell) → Site old i.arena.layout cell size lists.marks.items
 site old lists cell size i h is =
     let a = i.arena in
     let at = cell_at-AreBins old a.layout cell a.tiled in
@@ -63,24 +65,28 @@ site old lists cell size i h is =
       header = omega (arith, place, st.header);
       within = omega (arith, place, same, st.cell.within);
       pages = AreBins-pages old 0 a.layout (omega arith) a.tiled;
-      unit_in = omega (arith, place, same, st.cell.within, st.cell.positive, st.header, i.listed.ends_long);
+      unit_in = omega (arith, place, same, st.cell.within, st.cell.positive, st.header, i.listed.marks_long);
       free = subst (λ k. IsFreeOf (free_size (cells_in a.layout)) k size) place (subst (λ k. IsFreeOf (free_size (cells_in a.layout)) l.c.offset k) same free);
     }
 
 -- ---- the cells beside it
+
+-- the left one's
+left-ends : (old : List ℕ) (lists : FreeLists) (cell size left : ℕ) (i : IsIndexed old lists) → Site old i.arena.layout cell size lists.marks.items →
+    left ≡ start_in lists.marks.items (cell - 8) → EndsAt (free_size (cells_in i.arena.layout)) cell left
+left-ends old lists cell size left i s e =
+    ends-at old (free_size (cells_in i.arena.layout)) _ _ _ _ _ _ i.listed cell size left s.cell_eights (omega (arith, s.header)) (omega (arith, s.eight)) s.free e
 
 pub record Around (layout : List Bin) (cell size left right : ℕ) : Type 0 where
   pub ys : List Cell
   pub l : Lefts layout (used cell size) ys (start_of left cell) left
   pub r : Rights layout l.xs l.lefts (used cell size) (cell + size + right)
 
-pub around : (old : List ℕ) (lists : FreeLists) (cell size left right : ℕ) (i : IsIndexed old lists) → Site old i.arena.layout cell size lists.ends.items →
-    left ≡ get_or lists.ends.items (cell / 8 - 1) 0 → IsRight old (cell + size) right → Around i.arena.layout cell size left right
+pub around : (old : List ℕ) (lists : FreeLists) (cell size left right : ℕ) (i : IsIndexed old lists) → Site old i.arena.layout cell size lists.marks.items →
+    left ≡ start_in lists.marks.items (cell - 8) → IsRight old (cell + size) right → Around i.arena.layout cell size left right
 around old lists cell size left right i s e h =
     let a = i.arena in
-    let lowest = s.header in
-    let unit : 8 * (cell / 8 - 1) + 8 ≡ cell = omega (arith, s.cell_eights) in
-    let l = lefts old a.layout lists s.xs (used cell size) s.ys (cell / 8 - 1) left a.tiled a.apart i.listed s.cells_are unit e in
+    let l = lefts old a.layout s.xs (used cell size) s.ys left a.tiled a.apart (left-ends old lists cell size left i s e) s.cells_are in
     record { ys = s.ys; l = l; r = rights old a.layout (used cell size) s.ys (start_of left cell) left right l a.tiled a.apart a.small h }
 
 -- ---- a piece that is at most one free cell
@@ -109,8 +115,8 @@ right-end-by old layout xs end hi (v ∷ (w ∷ rs)) ys tiled l e h c = absurd h
 -- ---- the sizes beside it
 
 -- the left one's, or none
-pub left-size : (old : List ℕ) (lists : FreeLists) (cell size left : ℕ) (i : IsIndexed old lists) → Site old i.arena.layout cell size lists.ends.items →
-    left ≡ get_or lists.ends.items (cell / 8 - 1) 0 → (start_of left cell ≤ cell) × (free_size (cells_in i.arena.layout) (start_of left cell) ≡ cell - start_of left cell)
+pub left-size : (old : List ℕ) (lists : FreeLists) (cell size left : ℕ) (i : IsIndexed old lists) → Site old i.arena.layout cell size lists.marks.items →
+    left ≡ start_in lists.marks.items (cell - 8) → (start_of left cell ≤ cell) × (free_size (cells_in i.arena.layout) (start_of left cell) ≡ cell - start_of left cell)
     × (start_of left cell % 8 ≡ 0) × (32 ≤ start_of left cell)
 left-size old lists cell size left i s e = by (eqb left 0) refl
   where
@@ -125,9 +131,9 @@ left-size old lists cell size left i s e = by (eqb left 0) refl
     by true z = (omega arith, none ∙ omega arith, s.cell_eights, s.header)
     by false z =
         let some : left ≡ 0 → ⊥ = eqb-false left 0 z in
-        let t = i.listed.ends_are (cell / 8 - 1) (omega arith) in
-        let t0 = rw (← e) at t.0 in
-        let t1 = rw (← e) at t.1 in
+        let t = (left-ends old lists cell size left i s e).some (omega arith) in
+        let t0 = t.0 in
+        let t1 = t.1 in
         let f = free_at (cells_in i.arena.layout) left t0 in
         let st = stands old i.arena.layout f.xs f.c f.ys i.arena.tiled f.cells_are in
         let pc = i.listed.pieces left t0 in

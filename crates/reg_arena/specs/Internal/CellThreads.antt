@@ -53,7 +53,7 @@ pub record Takes (limit : ℕ) (size next back head first size' next' back' head
   pub next_before : (p ≡ NONE → ⊥) → next' p ≡ n
   pub nexts : (x : ℕ) → 0 < size x → (x ≡ p → ⊥) → next' x ≡ next x
   pub back_behind : (n ≡ NONE → ⊥) → back' n ≡ p
-  pub backs : (x : ℕ) → 0 < size x → (x ≡ n → ⊥) → back' x ≡ back x
+  pub backs : (x : ℕ) → 0 < size x → (x ≡ n → ⊥) → (x ≡ c → ⊥) → back' x ≡ back x
   pub head_is : p ≡ NONE → head' class ≡ n
   pub head_kept : (p ≡ NONE → ⊥) → head' class ≡ head class
   pub heads : (k : ℕ) → (k ≡ class → ⊥) → head' k ≡ head k

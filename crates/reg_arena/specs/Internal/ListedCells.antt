@@ -1,5 +1,5 @@
 -- What ties the tables of the free lists to the bytes and to the free cells.
-use Rattle.std.specs.Prelude.{◌≡◌, ℕ, ◌+◌, ◌-◌, ◌*◌, ◌/◌, ◌%◌, ◌<◌, ◌≤◌, ◌⊎◌, ◌==◌, ◌&&◌, not, if◌then◌else◌, nat_lt, List, [], ◌∷◌, length, get_or}
+use Rattle.std.specs.Prelude.{◌≡◌, ℕ, ◌+◌, ◌-◌, ◌*◌, ◌%◌, ◌<◌, ◌≤◌, ◌⊎◌, ◌==◌, ◌&&◌, not, if◌then◌else◌, nat_lt, List, [], ◌∷◌, length}
 use Rattle.byteorder.specs.Endian.{little_bytes}
 use Rattle.reg_heap.specs.declared.limits.TheConstants.{BINS_LIMIT, NONE}
 use Rattle.reg_heap.specs.ByteWords.{word, splice, SameOutside}
@@ -10,7 +10,7 @@ use Rattle.reg_arena.specs.Arena.{IsArena}
 use Rattle.reg_arena.specs.Cells.{cells_in}
 use Rattle.reg_arena.specs.Classes.{class_of}
 use Rattle.reg_arena.specs.Internal.CellThreads.{AreThreads}
-use Rattle.reg_arena.specs.Internal.SizeTables.{at_eight, head_at, AreBits}
+use Rattle.reg_arena.specs.Internal.SizeTables.{at_eight, head_at, back_in, AreBits}
 
 -- the size of the free cell at an offset, or 0 where there is none
 abbrev pub free_size : List Cell → ℕ → ℕ
@@ -36,22 +36,32 @@ pub record IsPiece (bytes : List ℕ) (cell size : ℕ) : Type 0 where
 abbrev pub IsFreeOf : (ℕ → ℕ) → ℕ → ℕ → Type 0
 IsFreeOf sizes cell size = (x : ℕ) → 0 < sizes x → (x + sizes x ≤ cell) ⊎ (cell + size ≤ x)
 
+-- The marks, by their offsets, have just the free cells: an odd number where each begins, and where one of more than eight bytes
+-- has its last eight, the offset where it begins.
+pub record AreMarks (sizes mark : ℕ → ℕ) : Type 0 where
+  pub begins : (x : ℕ) → 0 < sizes x → mark x % 2 ≡ 1
+  pub ends : (x : ℕ) → 8 < sizes x → mark (x + sizes x - 8) ≡ x
+  pub odd : (x : ℕ) → mark x % 2 ≡ 1 → 0 < sizes x
+  pub even : (x : ℕ) → mark x % 2 ≡ 0 → 0 < mark x → (0 < sizes (mark x)) × (mark x + sizes (mark x) ≡ x + 8)
+
+-- the same of a table; searches for proofs of other things don't open it
+unfoldable pub HasMarks : (ℕ → ℕ) → List ℕ → Type 0
+HasMarks sizes marks = AreMarks sizes (at_eight marks 0)
+
 -- the free cells, given by their sizes, stand in the bytes, apart from each other, and the tables have just them: `top` is above
 -- all sizes, and `large` counts the cells of the last list
-pub record AreTables (bytes : List ℕ) (sizes : ℕ → ℕ) (heads firsts words ends backs : List ℕ) (large top : ℕ) : Type 0 where
-  pub threads : AreThreads class_of 16384 sizes (λ x. word bytes (x + 4)) (at_eight backs 0) (head_at heads) (at_eight firsts NONE)
+pub record AreTables (bytes : List ℕ) (sizes : ℕ → ℕ) (heads firsts words marks : List ℕ) (large top : ℕ) : Type 0 where
+  pub threads : AreThreads class_of 16384 sizes (λ x. word bytes (x + 4)) (back_in marks) (head_at heads) (at_eight firsts NONE)
   pub pieces : (x : ℕ) → 0 < sizes x → IsPiece bytes x (sizes x)
   pub fields : (x : ℕ) → 0 < sizes x → word bytes x ≡ sizes x
   pub apart : (x y : ℕ) → 0 < sizes x → 0 < sizes y → x < y → x + sizes x ≤ y
-  pub ends_there : (x : ℕ) → 0 < sizes x → get_or ends ((x + sizes x) / 8 - 1) 0 ≡ x
-  pub ends_are : (unit : ℕ) → 0 < get_or ends unit 0 → (0 < sizes (get_or ends unit 0)) × (get_or ends unit 0 + sizes (get_or ends unit 0) ≡ 8 * unit + 8)
+  pub marks_are : HasMarks sizes marks
   pub below : (x : ℕ) → 0 < sizes x → sizes x < top
   pub bits : AreBits words firsts
   pub words_small : length words ≤ 32
   pub words_long : 0 < length bytes → 32 ≤ length words
   pub firsts_long : 0 < length bytes → 2048 ≤ length firsts
-  pub ends_long : length bytes ≤ 8 * length ends
-  pub backs_long : length bytes ≤ 8 * length backs
+  pub marks_long : length bytes ≤ 8 * length marks
   pub heads_long : length heads ≡ 24
   pub small : length bytes ≤ BINS_LIMIT
   pub count : length (threads.lists 23) ≡ large
@@ -59,12 +69,11 @@ pub record AreTables (bytes : List ℕ) (sizes : ℕ → ℕ) (heads firsts word
 -- the same of the struct
 abbrev pub IsListed : List ℕ → (ℕ → ℕ) → FreeLists → Type 0
 IsListed bytes sizes lists =
-    AreTables bytes sizes lists.heads lists.firsts.items lists.words.items lists.ends.items lists.backs.items lists.large lists.top
+    AreTables bytes sizes lists.heads lists.firsts.items lists.words.items lists.marks.items lists.large lists.top
 
 -- the tables have room for so many eights
 pub record HasRoom (units : ℕ) (lists : FreeLists) : Type 0 where
-  pub ends : units ≤ length lists.ends.items
-  pub backs : units ≤ length lists.backs.items
+  pub marks : units ≤ length lists.marks.items
   pub firsts : 2048 ≤ length lists.firsts.items
   pub words : 32 ≤ length lists.words.items
 

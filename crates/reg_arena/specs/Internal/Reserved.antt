@@ -1,19 +1,17 @@
 -- Room for bins to come: capacity for their bytes, and tables that reach as far.
-use Rattle.std.specs.Prelude.{◌≡◌, ℕ, ◌*◌, ◌≤◌, length}
+use Rattle.std.specs.Prelude.{ℕ, ◌*◌, ◌≤◌, length}
 use Rattle.reg_arena.specs.declared.free_lists.FreeLists.{FreeLists}
 
 -- the bins may have so many bytes in all before memory is asked for
 pub record AreReserved (limit capacity : ℕ) (lists : FreeLists) : Type 0 where
   pub bytes : limit ≤ capacity
-  pub ends_long : limit ≤ 8 * length lists.ends.items
-  pub backs_long : limit ≤ 8 * length lists.backs.items
+  pub marks_long : limit ≤ 8 * length lists.marks.items
   pub firsts_long : 2048 ≤ length lists.firsts.items
   pub words_long : 32 ≤ length lists.words.items
 
 -- the tables are as long as before, or longer
 pub record KeepsTables (old new : FreeLists) : Type 0 where
-  pub ends_long : length old.ends.items ≤ length new.ends.items
-  pub backs_long : length old.backs.items ≤ length new.backs.items
+  pub marks_long : length old.marks.items ≤ length new.marks.items
   pub firsts_long : length old.firsts.items ≤ length new.firsts.items
   pub words_long : length old.words.items ≤ length new.words.items
 

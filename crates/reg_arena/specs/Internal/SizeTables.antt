@@ -1,5 +1,5 @@
--- The tables of the free lists: bits and first cells of the sizes, links, and what comes before and ends where.
-use Rattle.std.specs.Prelude.{◌≡◌, ℕ, ◌+◌, ◌≤◌, ◌<◌, ◌/◌, ◌%◌, ◌==◌, ◌&&◌, nat_lt, if◌then◌else◌, set, get_or, List}
+-- The tables of the free lists: bits and first cells of the sizes, links, and the marks of where cells begin and end.
+use Rattle.std.specs.Prelude.{◌≡◌, ℕ, ◌+◌, ◌-◌, ◌≤◌, ◌<◌, ◌/◌, ◌%◌, ◌==◌, ◌&&◌, nat_lt, if◌then◌else◌, set, get_or, List}
 use Rattle.std.specs.Int.{bit_at}
 use Rattle.byteorder.specs.Endian.{little_bytes}
 use Rattle.reg_heap.specs.declared.limits.TheConstants.{NONE}
@@ -16,6 +16,26 @@ head_at heads class = get_or heads class NONE
 -- a table after the number of a cell, if there is one, is set
 abbrev pub marked : ℕ → ℕ → List ℕ → List ℕ
 marked cell value table = if cell == NONE then table else set table (cell / 8) value
+
+-- the table after the number of a cell's last eight bytes is set, where those are not its first
+abbrev pub ended : ℕ → ℕ → ℕ → List ℕ → List ℕ
+ended cell size value table = if nat_lt 8 size then set table ((cell + size - 8) / 8) value else table
+
+-- a link with its lowest bit set
+abbrev pub tagged : ℕ → ℕ
+tagged link = if link == NONE then NONE else link + 1
+
+-- the link of a number with that bit
+abbrev pub untagged : ℕ → ℕ
+untagged mark = if mark == NONE then NONE else mark - mark % 2
+
+-- the cell before a free cell in its list
+abbrev pub back_in : List ℕ → ℕ → ℕ
+back_in marks x = untagged (at_eight marks 0 x)
+
+-- where the free cell begins that ends with the eight bytes at an offset, or 0: an odd number says that it begins with them
+abbrev pub start_in : List ℕ → ℕ → ℕ
+start_in marks x = if get_or marks (x / 8) 0 % 2 == 1 then x else get_or marks (x / 8) 0
 
 -- the heads after the link behind a cell, or where there is none the head, is set
 abbrev pub head_linked : ℕ → ℕ → ℕ → List ℕ → List ℕ

@@ -47,8 +47,7 @@ carve_to-requires-clause-reserved c =
     let k = v.keeps in
     record {
       bytes = omega (arith, room, r.bytes, k.bytes);
-      ends_long = omega (arith, room, r.ends_long, k.tables.ends_long);
-      backs_long = omega (arith, room, r.backs_long, k.tables.backs_long);
+      marks_long = omega (arith, room, r.marks_long, k.tables.marks_long);
       firsts_long = omega (arith, r.firsts_long, k.tables.firsts_long);
       words_long = omega (arith, r.words_long, k.tables.words_long);
     }

@@ -9,21 +9,22 @@ returns-then-size-eq0-clause-adds c = λ sizes w free. inserted-none _ _ _ _ _ w
 
 pub link_in-requires-clause-class : goal.link_in-requires-clause-class
 link_in-requires-clause-class c =
-    let r = put-room _ _ _ _ _ _ _ _ _ c.requires.listed _ _ _ c.requires.piece (omega arith) c.requires.free c.first_of-previous.ensures.low c.first_of-previous.ensures.high in omega (arith, r.4)
+    let r = put-room _ _ _ _ _ _ _ _ c.requires.listed _ _ _ c.requires.piece (omega arith) c.requires.free c.first_of-previous.ensures.low c.first_of-previous.ensures.high in omega (arith, r.4)
 
 pub link_in-requires-clause-previous : goal.link_in-requires-clause-previous
-link_in-requires-clause-previous c = put-previous _ _ _ _ _ _ _ _ _ c.requires.listed _ _ _ c.requires.piece
+link_in-requires-clause-previous c = put-previous _ _ _ _ _ _ _ _ c.requires.listed _ _ _ c.requires.piece
     (omega arith) c.requires.free c.first_of-previous.ensures.low c.first_of-previous.ensures.high
 
 pub link_in-requires-clause-next : goal.link_in-requires-clause-next
-link_in-requires-clause-next c = put-next _ _ _ _ _ _ _ _ _ c.requires.listed _ _ _ c.requires.piece
+link_in-requires-clause-next c = put-next _ _ _ _ _ _ _ _ c.requires.listed _ _ _ c.requires.piece
     (omega arith) c.requires.free c.first_of-previous.ensures.low c.first_of-previous.ensures.high _ c.list_of-class.ensures
 
 pub overflow_add-self : goal.overflow_add-self
-overflow_add-self c = omega (arith, few _ _ _ _ _ _ _ _ _ c.requires.listed, c.one_if_large.ensures, counted-most c.args.size)
+overflow_add-self c = omega (arith, few _ _ _ _ _ _ _ _ c.requires.listed, c.one_if_large.ensures, counted-most c.args.size)
 
 pub returns-clause-adds : goal.returns-clause-adds
 returns-clause-adds c = λ sizes w free. inserted _ sizes c.args.self.now _ _ _ _ _ _ w c.requires.piece free (omega arith) c.first_of-previous.ensures.low
     c.first_of-previous.ensures.high c.list_of-class.ensures
-    c.link_in.ensures.bytes c.link_in.ensures.heads c.note_put.ensures.firsts c.note_put.ensures.bits c.note_put.ensures.long c.mark_end.ensures.ends c.link_in.ensures.backs c.link_in.ensures.short
+    c.link_in.ensures.bytes c.link_in.ensures.heads c.note_put.ensures.firsts c.note_put.ensures.bits c.note_put.ensures.long
+    _ c.mark_last.ensures.table c.link_in.ensures.marks c.link_in.ensures.short
     (omega (arith, c.one_if_large.ensures)) c.larger-self.ensures.one (let z = c.larger-self.ensures.other in omega arith)

@@ -6,43 +6,40 @@ use Rattle.reg_arena.proofs.free_lists.FreeLists.remove.Goals as goal
 pub returns-then-size-eq0-clause-drops : goal.returns-then-size-eq0-clause-drops
 returns-then-size-eq0-clause-drops c = λ sizes w there. removed-none _ _ _ _ _ w there c.if-size-eq0.true
 
+pub list_of-class-requires-clause-eights : goal.list_of-class-requires-clause-eights
+list_of-class-requires-clause-eights c = (piece-of _ _ _ _ _ _ _ _ c.requires.listed _ _ _ _ (omega arith) c.requires.there refl refl).size_eights
+
 pub unlink-next-requires-clause-class : goal.unlink-next-requires-clause-class
-unlink-next-requires-clause-class c = (let r = take-room _ _ _ _ _ _ _ _ _ c.requires.listed _ _ _ _ (omega arith) c.requires.there refl refl in omega (arith, r.4))
+unlink-next-requires-clause-class c = (let r = take-room _ _ _ _ _ _ _ _ c.requires.listed _ _ _ _ (omega arith) c.requires.there refl refl in omega (arith, r.4))
 
 pub unlink-next-requires-clause-cell : goal.unlink-next-requires-clause-cell
-unlink-next-requires-clause-cell c = (take-room _ _ _ _ _ _ _ _ _ c.requires.listed _ _ _ _ (omega arith) c.requires.there refl refl).0
+unlink-next-requires-clause-cell c = (take-room _ _ _ _ _ _ _ _ c.requires.listed _ _ _ _ (omega arith) c.requires.there refl refl).0
 
-pub unlink-next-requires-clause-cell_back : goal.unlink-next-requires-clause-cell_back
-unlink-next-requires-clause-cell_back c = (take-room _ _ _ _ _ _ _ _ _ c.requires.listed _ _ _ _ (omega arith) c.requires.there refl refl).1
+pub unlink-next-requires-clause-cell_mark : goal.unlink-next-requires-clause-cell_mark
+unlink-next-requires-clause-cell_mark c = (take-room _ _ _ _ _ _ _ _ c.requires.listed _ _ _ _ (omega arith) c.requires.there refl refl).1
 
 pub unlink-next-requires-clause-previous : goal.unlink-next-requires-clause-previous
-unlink-next-requires-clause-previous c = take-previous _ _ _ _ _ _ _ _ _ c.requires.listed _ _ _ _ (omega arith) c.requires.there refl refl
+unlink-next-requires-clause-previous c = take-previous _ _ _ _ _ _ _ _ c.requires.listed _ _ _ _ (omega arith) c.requires.there refl refl
 
 pub unlink-next-requires-clause-next : goal.unlink-next-requires-clause-next
-unlink-next-requires-clause-next c = take-next _ _ _ _ _ _ _ _ _ c.requires.listed _ _ _ _ (omega arith) c.requires.there refl refl
+unlink-next-requires-clause-next c = take-next _ _ _ _ _ _ _ _ c.requires.listed _ _ _ _ (omega arith) c.requires.there refl refl
 
 pub note_taken-requires-clause-firsts : goal.note_taken-requires-clause-firsts
-note_taken-requires-clause-firsts c = (let r = take-room _ _ _ _ _ _ _ _ _ c.requires.listed _ _ _ _ (omega arith) c.requires.there refl refl in c.requires.listed.firsts_long (omega (arith, r.0)))
+note_taken-requires-clause-firsts c = (let r = take-room _ _ _ _ _ _ _ _ c.requires.listed _ _ _ _ (omega arith) c.requires.there refl refl in c.requires.listed.firsts_long (omega (arith, r.0)))
 
 pub note_taken-requires-clause-words : goal.note_taken-requires-clause-words
-note_taken-requires-clause-words c = (let r = take-room _ _ _ _ _ _ _ _ _ c.requires.listed _ _ _ _ (omega arith) c.requires.there refl refl in c.requires.listed.words_long (omega (arith, r.0)))
+note_taken-requires-clause-words c = (let r = take-room _ _ _ _ _ _ _ _ c.requires.listed _ _ _ _ (omega arith) c.requires.there refl refl in c.requires.listed.words_long (omega (arith, r.0)))
 
 pub note_taken-requires-clause-next : goal.note_taken-requires-clause-next
 note_taken-requires-clause-next c =
-    let z = take-next-size _ _ _ _ _ _ _ _ _ c.requires.listed _ _ _ _ (omega arith) c.requires.there refl c.unlink-next.ensures.next in
+    let z = take-next-size _ _ _ _ _ _ _ _ c.requires.listed _ _ _ _ (omega arith) c.requires.there refl c.unlink-next.ensures.next in
     rw (c.unlink-next.ensures.bytes, ← c.unlink-next.ensures.next) z
 
-pub overflow_add-cell : goal.overflow_add-cell
-overflow_add-cell c = (let r = take-room _ _ _ _ _ _ _ _ _ c.requires.listed _ _ _ _ (omega arith) c.requires.there refl refl in omega (arith, r.3))
-
-pub mark_end-requires-clause-end : goal.mark_end-requires-clause-end
-mark_end-requires-clause-end c = (take-room _ _ _ _ _ _ _ _ _ c.requires.listed _ _ _ _ (omega arith) c.requires.there refl refl).2
-
-pub mark_end-requires-clause-some : goal.mark_end-requires-clause-some
-mark_end-requires-clause-some c = (let y = piece-of _ _ _ _ _ _ _ _ _ c.requires.listed _ _ _ _ (omega arith) c.requires.there refl refl in omega (arith, y.some))
+pub mark_last-requires : goal.mark_last-requires
+mark_last-requires c = λ l. (let r = take-room _ _ _ _ _ _ _ _ c.requires.listed _ _ _ _ (omega arith) c.requires.there refl refl in omega (arith, r.2, c.unlink-next.ensures.long))
 
 pub overflow_sub-self : goal.overflow_sub-self
-overflow_sub-self c = (let z = last-some _ _ _ _ _ _ _ _ _ c.requires.listed _ _ _ _ (omega arith) c.requires.there refl c.unlink-next.ensures.next (omega arith) in omega
+overflow_sub-self c = (let z = last-some _ _ _ _ _ _ _ _ c.requires.listed _ _ _ _ (omega arith) c.requires.there refl c.unlink-next.ensures.next (omega arith) in omega
     (arith, c.one_if_large.ensures))
 
 pub returns-clause-drops : goal.returns-clause-drops
@@ -50,5 +47,5 @@ returns-clause-drops c =
     let e = c.unlink-next.ensures.next in
     λ sizes w there. removed _ sizes c.args.self.now _ _ _ _ _ _ _ w there (omega arith) refl refl (omega arith) c.list_of-class.ensures
     c.unlink-next.ensures.bytes c.unlink-next.ensures.heads (rw e at c.note_taken.ensures.firsts) c.note_taken.ensures.bits c.note_taken.ensures.long
-    c.mark_end.ensures.ends c.unlink-next.ensures.backs
-    (let z = last-some _ _ _ _ _ _ _ _ _ w _ _ _ _ (omega arith) there refl e (omega arith) in omega (arith, c.one_if_large.ensures)) refl
+    _ c.mark_last.ensures.table c.unlink-next.ensures.marks
+    (let z = last-some _ _ _ _ _ _ _ _ w _ _ _ _ (omega arith) there refl e (omega arith) in omega (arith, c.one_if_large.ensures)) refl
