@@ -86,10 +86,10 @@ fn time_carves(rt: &impl Clock, cells: &mut LiveCells, calls: usize) -> Result<P
     Ok(PerCall::new(start.elapsed(rt)?, calls))
 }
 
-// The arena keeps two numbers of 32 bits for each 8 bytes of bins.
+// The arena keeps a number of 32 bits for each 8 bytes of bins, and another and a bit for each of the 2,048 sizes below 16,384.
 fn print_sizes(rt: &impl Print, cells: &LiveCells) -> Result<()> {
     let bins = u64::from(cells.bins_size());
-    let tables = bins / 8 * 2 * 4;
+    let tables = bins / 8 * 4 + 2_048 * 4 + 2_048 / 8;
     let percent = (tables * 100).checked_div(bins).unwrap_or(0);
     println!(rt; "{bins} bytes of bins, {tables} bytes of side tables, {percent} %")?;
     Ok(())
