@@ -17,6 +17,7 @@ use crate::tables::{lengthen, lengthen_words, mark_last};
 use crate::words::word_at;
 use reg_heap::limits::NONE;
 use std::alloc::{AllocError, Global};
+use std::marker::Model;
 
 /// The last list, of the sizes from 16,384 on.
 const LAST: usize = 23;
@@ -38,19 +39,36 @@ pub struct Fit {
 #[derive(Drop)]
 pub struct FreeLists {
     // The first cell of each list, or `NONE`.
-    pub heads: [u32; 24],
+    heads: [u32; 24],
     // For each size below 16,384, in eights, its first cell, or `NONE`.
-    pub firsts: Vec<u32>,
+    firsts: Vec<u32>,
     // For each such size a bit: whether there is a cell.
-    pub words: Vec<u64>,
+    words: Vec<u64>,
     // For each eight bytes a number. At a free cell's first it is the cell before it in its list, or `NONE`, with the lowest bit
     // set; at its last, where those are not its first, the offset of its first; elsewhere 0. Offsets are even, so that both have
     // one table.
-    pub marks: Vec<u32>,
+    marks: Vec<u32>,
     // How many cells the last list has.
-    pub large: usize,
+    large: usize,
     // All free cells have fewer bytes.
-    pub top: u32,
+    top: u32,
+}
+
+impl Model for FreeLists {
+    ghost use Rattle.reg_arena.specs.Internal.SizeTables.{Tables, AreSizeTables};
+
+    ghost Value = { Tables };
+
+    ghost view = { λ l. record {
+      heads = l.heads;
+      firsts = l.firsts.items;
+      words = l.words.items;
+      marks = l.marks.items;
+      large = l.large;
+      top = l.top;
+    } };
+
+    ghost invariant = { λ l. AreSizeTables l.firsts.items l.words.items };
 }
 
 impl FreeLists {
@@ -86,8 +104,8 @@ impl FreeLists {
     // The free cell that ends where a cell begins, or 0.
     pub fn ending_at(&self, cell: u32) -> u32
         requires some { 8 ≤ cell }
-        requires inside { (cell - 8) / 8 < length self.now.marks.items }
-        ensures { result ≡ start_in self.now.marks.items (cell - 8) }
+        requires inside { (cell - 8) / 8 < length self.now.marks }
+        ensures { result ≡ start_in self.now.marks (cell - 8) }
     {
         let last = cell - 8;
         let mark = self.marks[last as usize / 8];

@@ -10,7 +10,7 @@ use Rattle.reg_heap.specs.Kinds.{times}
 use Rattle.reg_arena.specs.Classes.{class_of}
 use Rattle.reg_arena.specs.Free.{chain, Follows, IsFit}
 use Rattle.reg_arena.specs.Internal.CellThreads.{Linked, link, AreThreads}
-use Rattle.reg_arena.specs.Internal.SizeTables.{at_eight, head_at, back_in, bit_in, IsLeast}
+use Rattle.reg_arena.specs.Internal.SizeTables.{at_eight, head_at, back_in, bit_in, AreSizeTables, IsLeast}
 use Rattle.reg_arena.specs.Internal.ListedCells.{AreTables, IsBestFit, NoneFits}
 use Rattle.reg_arena.proofs.FreeList.ListMembers.{all_from_times, times-all}
 use Rattle.reg_arena.proofs.FreeList.FreeListWalk.{Follows-chain}
@@ -51,53 +51,6 @@ module _ (bytes : List ℕ) (S : ℕ → ℕ) (heads firsts words marks : List �
       (λ y q. t.runs y (member j y q).0) l (λ z. omega (arith, t.none)) (let z = t.exact j x ∙ of-some class_of S j x h refl in omega arith) refl in
       no-none j (subst (λ v. 0 < times v (t.lists j)) e i)
 
-  -- ---- sizes below the limit
-
-  -- a bit that is not set: no cell of that size
-  no-size : (j x : ℕ) → bit_in words j ≡ 0 → ◌≡◌ {A = ℕ} (S x) (8 * j) → 0 < j → j < 2048 → ⊥
-  no-size j x b e some low =
-      let f : get_or firsts j 4294967295 ≡ 4294967295 = is-none (eqb (get_or firsts j 4294967295) 4294967295) refl (sym (w.bits j) ∙ b) in
-      let g : at_eight firsts 4294967295 (8 * j) ≡ 4294967295 = at-get firsts 4294967295 (8 * j) (omega arith) ∙ ap (λ i. get_or firsts i 4294967295) (omega arith) ∙ f in
-      first-some x (omega arith) (omega arith) (ap (at_eight firsts 4294967295) e ∙ g)
-    where
-      is-none : (v : Bool) → eqb (get_or firsts j 4294967295) 4294967295 ≡ v → ◌≡◌ {A = ℕ} (cond {A = ℕ} v 0 1) 0 → get_or firsts j 4294967295 ≡ 4294967295
-      is-none true e h = eqb-true (get_or firsts j 4294967295) 4294967295 e
-      is-none false e h = absurd (omega arith)
-
-  none-between : (size i : ℕ) → size % 8 ≡ 0 → 0 < size → i ≤ 2048 → ((j : ℕ) → size / 8 ≤ j → j < i → bit_in words j ≡ 0) → (x : ℕ) → size ≤ S x → 8 * i ≤ S x
-  none-between size i s8 some low zero_bits x fits = elim (cases_lt (S x) (8 * i)) [
-    | inr g ↦ g
-    | inl l ↦ absurd (
-        let z = (w.pieces x (omega arith)).size_eights in
-        let e : S x ≡ 8 * (S x / 8) = omega arith in
-        no-size (S x / 8) x (zero_bits (S x / 8) (omega arith) (omega arith)) e (omega arith) (omega arith))
-  ]
-
-  -- a bit that is set: there is a first cell
-  pub set-first : (i : ℕ) → bit_in words i ≡ 1 → (i < 2048) × (i < length firsts) × (get_or firsts i 4294967295 ≡ 4294967295 → ⊥)
-  set-first i b =
-      let some : get_or firsts i 4294967295 ≡ 4294967295 → ⊥ = λ e. (let q : eqb (get_or firsts i 4294967295) 4294967295 ≡ true = eq-eqb
-      (get_or firsts i 4294967295) 4294967295 e in let z = rw q at (w.bits i) in omega arith) in (
-        elim (cases_lt (i / 64) (length words)) [
-          | inl l ↦ (let z = w.words_small in omega arith)
-          | inr g ↦ absurd (let e : bit_in words i ≡ 0 = ap (λ v. bit_at v (i % 64)) (get_or_past words (i / 64) 0 g) ∙ bit_at-zero (i % 64) in omega arith)
-        ],
-        elim (cases_lt i (length firsts)) [ inl l ↦ l | inr g ↦ absurd (some (get_or_past firsts i 4294967295 g)) ],
-        some,
-      )
-
-  pub small-fit : (size i offset : ℕ) → size % 8 ≡ 0 → 0 < size → IsLeast words (size / 8) i → offset ≡ get_or firsts i 4294967295 →
-      IsBestFit S size (record { cell = offset; size = 8 * i })
-  small-fit size i offset s8 some l e =
-      let z = set-first i l.is_set in
-      let from = l.from_there in
-      let g : at_eight firsts 4294967295 (8 * i) ≡ offset = at-get firsts 4294967295 (8 * i) (omega arith) ∙ ap (λ j. get_or firsts j 4294967295) (omega arith) ∙ sym e in
-      record {
-        free = ap S (sym g) ∙ t.firsts (8 * i) (omega arith) (omega (arith, z.0)) (λ q. z.2 (sym e ∙ sym g ∙ q));
-        fits = omega arith;
-        least = λ x f h. none-between size i s8 some (omega (arith, z.0)) l.least x f;
-      }
-
   -- ---- the last list
 
   pub last-list : chain large bytes (head_at heads 23) ≡ t.lists 23
@@ -116,35 +69,6 @@ module _ (bytes : List ℕ) (S : ℕ → ℕ) (heads firsts words marks : List �
     | inl l ↦ absurd (let m = member 23 x i in let z = class-small (S x) l (w.pieces x m.0).size_eights in omega (arith, m.1))
   ]
 
-  -- no smaller cell has room
-  abbrev NoSmall : ℕ → Type 0
-  NoSmall size = (j : ℕ) → size / 8 ≤ j → j < 2048 → bit_in words j ≡ 0
-
-  past-small : (size : ℕ) → size % 8 ≡ 0 → 0 < size → NoSmall size → (x : ℕ) → size ≤ S x → 16384 ≤ S x
-  past-small size s8 some none x fits = none-between size 2048 s8 some (omega arith) none x fits
-
-  pub none-fits : (size head : ℕ) → size % 8 ≡ 0 → 0 < size → NoSmall size → head ≡ head_at heads 23 →
-      AllByRecursion (λ offset. word bytes offset < size) (chain large bytes head) → NoneFits S size
-  none-fits size head s8 some none e all x h = elim (cases_lt (S x) size) [
-    | inl l ↦ l
-    | inr g ↦ (
-        let a : AllByRecursion (λ offset. word bytes offset < size) (t.lists 23) = subst (AllByRecursion (λ offset. word bytes offset < size)) (ap (chain large bytes) e ∙ last-list) all in
-        let l = times-all (λ offset. word bytes offset < size) (t.lists 23) a x (in-last x (past-small size s8 some none x g)) in
-        omega (arith, l, w.fields x h))
-  ]
-
-  pub large-fit : (size head cell : ℕ) → size % 8 ≡ 0 → 0 < size → NoSmall size → head ≡ head_at heads 23 → IsFit bytes size (chain large bytes head) cell →
-      IsBestFit S size (record { cell = cell; size = word bytes cell })
-  large-fit size head cell s8 some none e fit =
-      let same : t.lists 23 ≡ fit.front ++ cell ∷ fit.back = sym last-list ∙ ap (chain large bytes) (sym e) ∙ fit.split in
-      let i : 0 < times cell (t.lists 23) = subst (λ l. 0 < times cell l) (sym same) (omega (arith, times-append cell fit.front (cell ∷ fit.back), times-here cell fit.back)) in
-      let m = member 23 cell i in
-      record {
-        free = sym (w.fields cell m.0);
-        fits = fit.fits;
-        least = λ x f h. absurd (let z = past-small size s8 some none x f in omega arith);
-      }
-
   -- there is a word where the fit is
   pub fit-within : (size head cell : ℕ) → head ≡ head_at heads 23 → IsFit bytes size (chain large bytes head) cell → cell + 8 ≤ length bytes
   fit-within size head cell e fit =
@@ -161,8 +85,6 @@ module _ (bytes : List ℕ) (S : ℕ → ℕ) (heads firsts words marks : List �
     apart = w.apart;
     marks_are = w.marks_are;
     below = none;
-    bits = w.bits;
-    words_small = w.words_small;
     words_long = w.words_long;
     firsts_long = w.firsts_long;
     marks_long = w.marks_long;
@@ -170,3 +92,80 @@ module _ (bytes : List ℕ) (S : ℕ → ℕ) (heads firsts words marks : List �
     small = w.small;
     count = w.count;
   }
+
+  module _ (own : AreSizeTables firsts words) where
+    -- ---- sizes below the limit
+
+    -- a bit that is not set: no cell of that size
+    no-size : (j x : ℕ) → bit_in words j ≡ 0 → ◌≡◌ {A = ℕ} (S x) (8 * j) → 0 < j → j < 2048 → ⊥
+    no-size j x b e some low =
+        let f : get_or firsts j 4294967295 ≡ 4294967295 = is-none (eqb (get_or firsts j 4294967295) 4294967295) refl (sym (own.bits j) ∙ b) in
+        let g : at_eight firsts 4294967295 (8 * j) ≡ 4294967295 = at-get firsts 4294967295 (8 * j) (omega arith) ∙ ap (λ i. get_or firsts i 4294967295) (omega arith) ∙ f in
+        first-some x (omega arith) (omega arith) (ap (at_eight firsts 4294967295) e ∙ g)
+      where
+        is-none : (v : Bool) → eqb (get_or firsts j 4294967295) 4294967295 ≡ v → ◌≡◌ {A = ℕ} (cond {A = ℕ} v 0 1) 0 → get_or firsts j 4294967295 ≡ 4294967295
+        is-none true e h = eqb-true (get_or firsts j 4294967295) 4294967295 e
+        is-none false e h = absurd (omega arith)
+
+    none-between : (size i : ℕ) → size % 8 ≡ 0 → 0 < size → i ≤ 2048 → ((j : ℕ) → size / 8 ≤ j → j < i → bit_in words j ≡ 0) → (x : ℕ) → size ≤ S x → 8 * i ≤ S x
+    none-between size i s8 some low zero_bits x fits = elim (cases_lt (S x) (8 * i)) [
+      | inr g ↦ g
+      | inl l ↦ absurd (
+          let z = (w.pieces x (omega arith)).size_eights in
+          let e : S x ≡ 8 * (S x / 8) = omega arith in
+          no-size (S x / 8) x (zero_bits (S x / 8) (omega arith) (omega arith)) e (omega arith) (omega arith))
+    ]
+
+    -- a bit that is set: there is a first cell
+    pub set-first : (i : ℕ) → bit_in words i ≡ 1 → (i < 2048) × (i < length firsts) × (get_or firsts i 4294967295 ≡ 4294967295 → ⊥)
+    set-first i b =
+        let some : get_or firsts i 4294967295 ≡ 4294967295 → ⊥ = λ e. (let q : eqb (get_or firsts i 4294967295) 4294967295 ≡ true = eq-eqb
+        (get_or firsts i 4294967295) 4294967295 e in let z = rw q at (own.bits i) in omega arith) in (
+          elim (cases_lt (i / 64) (length words)) [
+            | inl l ↦ (let z = own.words_small in omega arith)
+            | inr g ↦ absurd (let e : bit_in words i ≡ 0 = ap (λ v. bit_at v (i % 64)) (get_or_past words (i / 64) 0 g) ∙ bit_at-zero (i % 64) in omega arith)
+          ],
+          elim (cases_lt i (length firsts)) [ inl l ↦ l | inr g ↦ absurd (some (get_or_past firsts i 4294967295 g)) ],
+          some,
+        )
+
+    pub small-fit : (size i offset : ℕ) → size % 8 ≡ 0 → 0 < size → IsLeast words (size / 8) i → offset ≡ get_or firsts i 4294967295 →
+        IsBestFit S size (record { cell = offset; size = 8 * i })
+    small-fit size i offset s8 some l e =
+        let z = set-first i l.is_set in
+        let from = l.from_there in
+        let g : at_eight firsts 4294967295 (8 * i) ≡ offset = at-get firsts 4294967295 (8 * i) (omega arith) ∙ ap (λ j. get_or firsts j 4294967295) (omega arith) ∙ sym e in
+        record {
+          free = ap S (sym g) ∙ t.firsts (8 * i) (omega arith) (omega (arith, z.0)) (λ q. z.2 (sym e ∙ sym g ∙ q));
+          fits = omega arith;
+          least = λ x f h. none-between size i s8 some (omega (arith, z.0)) l.least x f;
+        }
+
+    -- no smaller cell has room
+    abbrev NoSmall : ℕ → Type 0
+    NoSmall size = (j : ℕ) → size / 8 ≤ j → j < 2048 → bit_in words j ≡ 0
+
+    past-small : (size : ℕ) → size % 8 ≡ 0 → 0 < size → NoSmall size → (x : ℕ) → size ≤ S x → 16384 ≤ S x
+    past-small size s8 some none x fits = none-between size 2048 s8 some (omega arith) none x fits
+
+    pub none-fits : (size head : ℕ) → size % 8 ≡ 0 → 0 < size → NoSmall size → head ≡ head_at heads 23 →
+        AllByRecursion (λ offset. word bytes offset < size) (chain large bytes head) → NoneFits S size
+    none-fits size head s8 some none e all x h = elim (cases_lt (S x) size) [
+      | inl l ↦ l
+      | inr g ↦ (
+          let a : AllByRecursion (λ offset. word bytes offset < size) (t.lists 23) = subst (AllByRecursion (λ offset. word bytes offset < size)) (ap (chain large bytes) e ∙ last-list) all in
+          let l = times-all (λ offset. word bytes offset < size) (t.lists 23) a x (in-last x (past-small size s8 some none x g)) in
+          omega (arith, l, w.fields x h))
+    ]
+
+    pub large-fit : (size head cell : ℕ) → size % 8 ≡ 0 → 0 < size → NoSmall size → head ≡ head_at heads 23 → IsFit bytes size (chain large bytes head) cell →
+        IsBestFit S size (record { cell = cell; size = word bytes cell })
+    large-fit size head cell s8 some none e fit =
+        let same : t.lists 23 ≡ fit.front ++ cell ∷ fit.back = sym last-list ∙ ap (chain large bytes) (sym e) ∙ fit.split in
+        let i : 0 < times cell (t.lists 23) = subst (λ l. 0 < times cell l) (sym same) (omega (arith, times-append cell fit.front (cell ∷ fit.back), times-here cell fit.back)) in
+        let m = member 23 cell i in
+        record {
+          free = sym (w.fields cell m.0);
+          fits = fit.fits;
+          least = λ x f h. absurd (let z = past-small size s8 some none x f in omega arith);
+        }

@@ -1,8 +1,6 @@
 -- The tables of the free lists where the free cells stay.
 use Rattle.std.proofs.Common.{◌≡◌, ℕ, zero, suc, ◌+◌, ◌*◌, ◌/◌, ◌%◌, ◌<◌, ◌≤◌, Bool, true, false, cond, ◌⊎◌, inl, inr, List, [], get_or, length, replicate, refl, sym, ap, ◌∙◌, subst, arith, eqb}
 use Rattle.std.proofs.lemmas.Bool.{eq-eqb, ne_eqb, cases_eq}
-use Rattle.std.proofs.lemmas.Nat.Bits.{bit_at-zero}
-use Rattle.std.specs.Int.{bit_at}
 use Rattle.reg_heap.specs.ByteWords.{word, SameOutside}
 use Rattle.reg_arena.specs.declared.free_lists.FreeLists.{FreeLists}
 use Rattle.reg_arena.specs.Classes.{class_of}
@@ -35,8 +33,8 @@ threads-next class_of m S N N' B H F e t = record {
 }
 
 -- the words of the free cells stay
-pub framed : (old new : List ℕ) (sizes : ℕ → ℕ) (lists : FreeLists) → IsListed old sizes lists → length old ≤ length new → length new ≤ 8 * length lists.marks.items →
-    (0 < length new → 32 ≤ length lists.words.items) → (0 < length new → 2048 ≤ length lists.firsts.items) →
+pub framed : (old new : List ℕ) (sizes : ℕ → ℕ) (lists : FreeLists) → IsListed old sizes lists → length old ≤ length new → length new ≤ 8 * length lists.marks →
+    (0 < length new → 32 ≤ length lists.words) → (0 < length new → 2048 ≤ length lists.firsts) →
     length new ≤ 268435456 → ((x : ℕ) → 0 < sizes x → word new x ≡ word old x) → ((x : ℕ) → 0 < sizes x → word new (x + 4) ≡ word old (x + 4)) →
     IsListed new sizes lists
 unfolding threads-next
@@ -47,8 +45,6 @@ framed old new sizes lists w long marks words firsts small field next = record {
   apart = w.apart;
   marks_are = w.marks_are;
   below = w.below;
-  bits = w.bits;
-  words_small = w.words_small;
   words_long = words;
   firsts_long = firsts;
   marks_long = marks;
@@ -84,10 +80,10 @@ abbrev Counted : (ℕ → ℕ) → (ℕ → ℕ) → (ℕ → ℕ) → ℕ → (
 Counted S N H large B F = (r : AreThreads class_of 16384 S N B H F) × (length (r.lists 23) ≡ large)
 
 pub longer : (bytes : List ℕ) (S : ℕ → ℕ) (heads firsts words marks : List ℕ) (large top : ℕ) → AreTables bytes S heads firsts words marks large top →
-    (firsts' words' marks' : List ℕ) → ((x : ℕ) → get_or firsts' x 4294967295 ≡ get_or firsts x 4294967295) → ((x : ℕ) → get_or words' x 0 ≡ get_or words x 0) →
+    (firsts' words' marks' : List ℕ) → ((x : ℕ) → get_or firsts' x 4294967295 ≡ get_or firsts x 4294967295) →
     ((x : ℕ) → get_or marks' x 0 ≡ get_or marks x 0) → length firsts ≤ length firsts' →
-    length words ≤ length words' → length words' ≤ 32 → length marks ≤ length marks' → AreTables bytes S heads firsts' words' marks' large top
-longer bytes S heads firsts words marks large top w firsts' words' marks' f g e lf lw sw le =
+    length words ≤ length words' → length marks ≤ length marks' → AreTables bytes S heads firsts' words' marks' large top
+longer bytes S heads firsts words marks large top w firsts' words' marks' f e lf lw le =
     let N : ℕ → ℕ = λ x. word bytes (x + 4) in
     let z : Counted S N (head_at heads) large (back_in marks) (at_eight firsts 4294967295) = (w.threads, w.count) in
     let z1 = subst (λ t. Counted S N (head_at heads) large t (at_eight firsts 4294967295)) (sym (same-back marks marks' e)) z in
@@ -99,8 +95,6 @@ longer bytes S heads firsts words marks large top w firsts' words' marks' f g e 
       apart = w.apart;
       marks_are = closed S marks' (subst (AreMarks S) (sym (same-eight marks marks' 0 e)) (opened S marks w.marks_are));
       below = w.below;
-      bits = λ i. ap (λ v. bit_at v (i % 64)) (g (i / 64)) ∙ w.bits i ∙ ap (λ v. cond (eqb v 4294967295) 0 1) (sym (f i));
-      words_small = sw;
       words_long = λ h. (let y = w.words_long h in omega arith);
       firsts_long = λ h. (let y = w.firsts_long h in omega arith);
       marks_long = omega (arith, w.marks_long);
@@ -144,8 +138,6 @@ fresh heads firsts words marks n e l ef ew em = rw (ef, ew, em) (record {
     even = λ x h g. absurd (let z = none-at x 0 in omega arith);
   });
   below = λ x h. absurd (omega arith);
-  bits = λ i. bit_at-zero (i % 64);
-  words_small = omega arith;
   words_long = λ h. absurd (omega arith);
   firsts_long = λ h. absurd (omega arith);
   marks_long = omega arith;

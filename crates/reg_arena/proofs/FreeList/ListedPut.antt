@@ -5,7 +5,7 @@ use Rattle.std.proofs.lemmas.Bool.{cases_eq, cases_lt}
 use Rattle.reg_heap.specs.ByteWords.{word}
 use Rattle.reg_arena.specs.Classes.{class_of}
 use Rattle.reg_arena.specs.Internal.CellThreads.{AreThreads, Puts}
-use Rattle.reg_arena.specs.Internal.SizeTables.{at_eight, head_at, back_in, marked, ended, tagged, untagged, head_linked, linked, freed, following, first_put, counted, AreBits}
+use Rattle.reg_arena.specs.Internal.SizeTables.{at_eight, head_at, back_in, marked, ended, tagged, untagged, head_linked, linked, freed, following, first_put, counted}
 use Rattle.reg_arena.specs.Internal.ListedCells.{IsPiece, IsFreeOf, AreMarks, AreTables, sized}
 use Rattle.reg_arena.proofs.FreeList.ClassMembers.{of-member}
 use Rattle.reg_arena.proofs.FreeList.CellPutting as putting
@@ -175,10 +175,10 @@ module _ (bytes : List ℕ) (S : ℕ → ℕ) (heads firsts words marks : List �
       | inr o ↦ (let v = sized-other c s S x o in subst (λ y. P x y) (sym v) (there x (omega arith)))
     ]
 
-    pub put-kept : n < 4294967296 → (words' : List ℕ) (large' top' : ℕ) → AreBits words' (first_put p c s firsts) → length words' ≡ length words →
+    pub put-kept : n < 4294967296 → (words' : List ℕ) (large' top' : ℕ) → length words' ≡ length words →
         large' ≡ large + counted s → top ≤ top' → s < top' →
         AreTables (freed c s n mid) (sized c s S) (head_linked k p c heads) (first_put p c s firsts) words' new-marks large' top'
-    put-kept short words' large' top' bits long more le less =
+    put-kept short words' large' top' long more le less =
         let r = putting.put class_of 16384 S N (back_in marks) (head_at heads) (at_eight firsts 4294967295) k c s p n t some cell new refl low' high refl
         (sized c s S) (λ x. word (freed c s n mid) (x + 4)) (back_in new-marks) (head_at (head_linked k p c heads)) (at_eight (first_put p c s firsts) 4294967295)
         (puts short) in
@@ -206,8 +206,6 @@ module _ (bytes : List ℕ) (S : ℕ → ℕ) (heads firsts words marks : List �
           ];
           marks_are = closed (sized c s S) new-marks marks-right;
           below = by-cell (λ x v. v < top') less (λ x h. (let z = w.below x h in omega arith));
-          bits = bits;
-          words_small = (let z = w.words_small in omega arith);
           words_long = λ h. (let z = w.words_long (omega arith) in omega arith);
           firsts_long = λ h. (let z = w.firsts_long (omega arith) in omega (arith, length-first_put p c s firsts));
           marks_long = omega (arith, all, length-ended c s c marks2, length-set marks1 (c / 8) (tagged p), length-marked n (tagged c) marks, w.marks_long);
@@ -238,8 +236,8 @@ module _ (bytes : List ℕ) (S : ℕ → ℕ) (heads firsts words marks : List �
     -- the same at what the code's steps leave
     pub put-done : (class : ℕ) → class ≡ class_of s → (bytes' heads' firsts' words' marks' : List ℕ) (large' top' : ℕ) →
         bytes' ≡ freed c s (following bytes heads class p) (linked p c bytes) → heads' ≡ head_linked class p c heads → firsts' ≡ first_put p c s firsts →
-        AreBits words' firsts' → length words' ≡ length words →
+        length words' ≡ length words →
         marks' ≡ ended c s c (set (marked (following bytes heads class p) (tagged c) marks) (c / 8) (tagged p)) → following bytes heads class p < 4294967296 →
         large' ≡ large + counted s → top ≤ top' → s < top' → AreTables bytes' (sized c s S) heads' firsts' words' marks' large' top'
-    put-done class e bytes' heads' firsts' words' marks' large' top' a b d bits long f short more le less =
-        rw (a, b, d, f, e) (put-kept (rw e at short) words' large' top' (subst (AreBits words') d bits) long more le less)
+    put-done class e bytes' heads' firsts' words' marks' large' top' a b d long f short more le less =
+        rw (a, b, d, f, e) (put-kept (rw e at short) words' large' top' long more le less)

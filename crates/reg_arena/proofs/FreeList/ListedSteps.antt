@@ -5,7 +5,7 @@ use Rattle.byteorder.specs.Endian.{little_bytes}
 use Rattle.reg_heap.specs.ByteWords.{word, splice, SameOutside}
 use Rattle.reg_arena.specs.declared.free_lists.FreeLists.{FreeLists}
 use Rattle.reg_arena.specs.Classes.{class_of}
-use Rattle.reg_arena.specs.Internal.SizeTables.{marked, ended, tagged, untagged, head_linked, linked, freed, following, size_or_none, first_put, first_taken, counted, AreBits}
+use Rattle.reg_arena.specs.Internal.SizeTables.{marked, ended, tagged, untagged, head_linked, linked, freed, following, size_or_none, first_put, first_taken, counted}
 use Rattle.reg_arena.specs.Internal.ListedCells.{IsPiece, IsFreeOf, IsListed, Adds, Drops, Relinks}
 use Rattle.reg_arena.proofs.FreeList.LinkWords.{freed-region, length-linked}
 use Rattle.reg_arena.proofs.FreeList.ListedSpots.{cell-is-spot, sized-none, added-none, added-some}
@@ -37,15 +37,15 @@ one-link bytes sizes p v h = by (eqb p 4294967295) refl
     by false e = inr (p, v, h (eqb-false p 4294967295 e), refl)
 
 pub inserted : (bytes : List ℕ) (sizes : ℕ → ℕ) (lists lists' : FreeLists) (c s p class : ℕ) (bytes' : List ℕ) → IsListed bytes sizes lists → IsPiece bytes c s →
-    IsFreeOf sizes c s → 0 < s → (s < 16384 → p ≡ get_or lists.firsts.items (s / 8) 4294967295) → (16384 ≤ s → p ≡ 4294967295) → class ≡ class_of s →
+    IsFreeOf sizes c s → 0 < s → (s < 16384 → p ≡ get_or lists.firsts (s / 8) 4294967295) → (16384 ≤ s → p ≡ 4294967295) → class ≡ class_of s →
     bytes' ≡ freed c s (following bytes lists.heads class p) (linked p c bytes) → lists'.heads ≡ head_linked class p c lists.heads →
-    lists'.firsts.items ≡ first_put p c s lists.firsts.items → AreBits lists'.words.items lists'.firsts.items →
-    length lists'.words.items ≡ length lists.words.items → (mid-marks : List ℕ) → lists'.marks.items ≡ ended c s c mid-marks →
-    mid-marks ≡ set (marked (following bytes lists.heads class p) (tagged c) lists.marks.items) (c / 8) (tagged p) → following bytes lists.heads class p < 4294967296 →
+    lists'.firsts ≡ first_put p c s lists.firsts →
+    length lists'.words ≡ length lists.words → (mid-marks : List ℕ) → lists'.marks ≡ ended c s c mid-marks →
+    mid-marks ≡ set (marked (following bytes lists.heads class p) (tagged c) lists.marks) (c / 8) (tagged p) → following bytes lists.heads class p < 4294967296 →
     lists'.large ≡ lists.large + counted s → lists.top ≤ lists'.top → s < lists'.top → Adds sizes c s bytes bytes' lists'
-inserted bytes sizes lists lists' c s p class bytes' w piece free some low high e a b d bits long mid-marks f g short more le less = record {
+inserted bytes sizes lists lists' c s p class bytes' w piece free some low high e a b d long mid-marks f g short more le less = record {
   listed = subst (λ v. IsListed bytes' v lists') (added-some c s sizes some)
-      (put-done bytes sizes _ _ _ _ _ _ w c s p piece some free low high class e bytes' _ _ _ _ _ _ a b d bits long (f ∙ ap (ended c s c) g) short more le less);
+      (put-done bytes sizes _ _ _ _ _ _ w c s p piece some free low high class e bytes' _ _ _ _ _ _ a b d long (f ∙ ap (ended c s c) g) short more le less);
   mid = linked p c bytes;
   relinks = one-link bytes sizes p c cells;
   region = subst (SameOutside c (c + s) (linked p c bytes)) (sym a)
@@ -57,12 +57,12 @@ inserted bytes sizes lists lists' c s p class bytes' w piece free some low high 
     cells = p-cell bytes sizes _ _ _ _ _ _ w c s p piece some free low high
 
 pub removed : (bytes : List ℕ) (sizes : ℕ → ℕ) (lists lists' : FreeLists) (c s class p n : ℕ) (bytes' : List ℕ) → IsListed bytes sizes lists → sizes c ≡ s → 0 < s →
-    p ≡ untagged (get_or lists.marks.items (c / 8) 0) → n ≡ word bytes (c + 4) → n < 4294967296 → class ≡ class_of s →
+    p ≡ untagged (get_or lists.marks (c / 8) 0) → n ≡ word bytes (c + 4) → n < 4294967296 → class ≡ class_of s →
     bytes' ≡ linked p n bytes → lists'.heads ≡ head_linked class p n lists.heads →
-    lists'.firsts.items ≡ first_taken c s n (size_or_none bytes' n) lists.firsts.items → AreBits lists'.words.items lists'.firsts.items →
-    length lists'.words.items ≡ length lists.words.items → (mid-marks : List ℕ) → lists'.marks.items ≡ ended c s 0 mid-marks →
-    mid-marks ≡ set (marked n (tagged p) lists.marks.items) (c / 8) 0 → lists'.large + counted s ≡ lists.large → lists'.top ≡ lists.top → Drops sizes c bytes bytes' lists'
-removed bytes sizes lists lists' c s class p n bytes' w there some pe ne short e a b d bits long mid-marks f g more top = record {
-  listed = rw top (taken-done bytes sizes _ _ _ _ _ _ w c s p n some there pe ne class e bytes' _ _ _ _ _ a b d bits long (f ∙ ap (ended c s 0) g) short more);
+    lists'.firsts ≡ first_taken c s n (size_or_none bytes' n) lists.firsts →
+    length lists'.words ≡ length lists.words → (mid-marks : List ℕ) → lists'.marks ≡ ended c s 0 mid-marks →
+    mid-marks ≡ set (marked n (tagged p) lists.marks) (c / 8) 0 → lists'.large + counted s ≡ lists.large → lists'.top ≡ lists.top → Drops sizes c bytes bytes' lists'
+removed bytes sizes lists lists' c s class p n bytes' w there some pe ne short e a b d long mid-marks f g more top = record {
+  listed = rw top (taken-done bytes sizes _ _ _ _ _ _ w c s p n some there pe ne class e bytes' _ _ _ _ _ a b d long (f ∙ ap (ended c s 0) g) short more);
   relinks = subst (Relinks sizes bytes) (sym a) (one-link bytes sizes p n (p-in bytes sizes _ _ _ _ _ _ w c s p n some there pe ne));
 }

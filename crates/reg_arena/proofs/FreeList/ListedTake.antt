@@ -5,7 +5,7 @@ use Rattle.std.proofs.lemmas.Bool.{eq-eqb, ne_eqb, cases_eq, cases_lt, cond-true
 use Rattle.reg_heap.specs.ByteWords.{word}
 use Rattle.reg_arena.specs.Classes.{class_of}
 use Rattle.reg_arena.specs.Internal.CellThreads.{AreThreads, Takes}
-use Rattle.reg_arena.specs.Internal.SizeTables.{at_eight, head_at, back_in, marked, ended, tagged, untagged, head_linked, linked, size_or_none, first_taken, counted, AreBits}
+use Rattle.reg_arena.specs.Internal.SizeTables.{at_eight, head_at, back_in, marked, ended, tagged, untagged, head_linked, linked, size_or_none, first_taken, counted}
 use Rattle.reg_arena.specs.Internal.ListedCells.{IsPiece, AreMarks, AreTables, sized}
 use Rattle.reg_arena.proofs.FreeList.ThreadLinks.{times-cases}
 use Rattle.reg_arena.proofs.FreeList.ClassMembers.{of-member}
@@ -181,9 +181,9 @@ module _ (bytes : List ℕ) (S : ℕ → ℕ) (heads firsts words marks : List �
     by-stay : (P : ℕ → ℕ → Type 0) → ((x : ℕ) → 0 < S x → (x ≡ c → ⊥) → P x (S x)) → (x : ℕ) → 0 < sized c 0 S x → P x (sized c 0 S x)
     by-stay P f x h = let z = stays x h in subst (λ v. P x v) (sym z.1) (f x (omega (arith, z.1)) z.0)
 
-    pub taken-kept : n < 4294967296 → (words' : List ℕ) (large' : ℕ) → AreBits words' (first_taken c s n m firsts) → length words' ≡ length words → large' + counted s ≡ large →
+    pub taken-kept : n < 4294967296 → (words' : List ℕ) (large' : ℕ) → length words' ≡ length words → large' + counted s ≡ large →
         AreTables bytes1 (sized c 0 S) (head_linked class p n heads) (first_taken c s n m firsts) words' new-marks large' top
-    taken-kept short words' large' bits long more =
+    taken-kept short words' large' long more =
         let r = taking.taken class_of 16384 S N (back_in marks) (head_at heads) (at_eight firsts 4294967295) class c s p n t some there refl p-is n_is
         (sized c 0 S) (λ x. word bytes1 (x + 4)) (back_in new-marks) (head_at (head_linked class p n heads)) (at_eight (first_taken c s n m firsts) 4294967295) (takes short) in
         let all : length bytes1 ≡ length bytes = long1 in
@@ -199,8 +199,6 @@ module _ (bytes : List ℕ) (S : ℕ → ℕ) (heads firsts words marks : List �
               omega (arith, a.1));
           marks_are = closed (sized c 0 S) new-marks marks-right;
           below = by-stay (λ x v. v < top) (λ x h o. w.below x h);
-          bits = bits;
-          words_small = (let z = w.words_small in omega arith);
           words_long = λ h. (let z = w.words_long (omega arith) in omega arith);
           firsts_long = λ h. (let z = w.firsts_long (omega arith) in omega (arith, length-first_taken c s n m firsts y.size_eights));
           marks_long = omega (arith, all, length-ended c s 0 marks2, length-set marks1 (c / 8) 0, length-marked n (tagged p) marks, w.marks_long);
@@ -243,8 +241,8 @@ module _ (bytes : List ℕ) (S : ℕ → ℕ) (heads firsts words marks : List �
 
     pub taken-done : (k : ℕ) → k ≡ class_of s → (bytes' heads' firsts' words' marks' : List ℕ) (large' : ℕ) →
         bytes' ≡ linked p n bytes → heads' ≡ head_linked k p n heads → firsts' ≡ first_taken c s n (size_or_none bytes' n) firsts →
-        AreBits words' firsts' → length words' ≡ length words → marks' ≡ ended c s 0 (set (marked n (tagged p) marks) (c / 8) 0) → n < 4294967296 →
+        length words' ≡ length words → marks' ≡ ended c s 0 (set (marked n (tagged p) marks) (c / 8) 0) → n < 4294967296 →
         large' + counted s ≡ large → AreTables bytes' (sized c 0 S) heads' firsts' words' marks' large' top
-    taken-done k e bytes' heads' firsts' words' marks' large' a b d bits long f short more =
+    taken-done k e bytes' heads' firsts' words' marks' large' a b d long f short more =
         let d' : firsts' ≡ first_taken c s n (size_or_none (linked p n bytes) n) firsts = rw a at d in
-        rw (a, b, d', f, e) (taken-kept short words' large' (subst (AreBits words') d' bits) long more)
+        rw (a, b, d', f, e) (taken-kept short words' large' long more)

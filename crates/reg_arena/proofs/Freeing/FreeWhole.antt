@@ -94,8 +94,8 @@ both-beside lo hi [] ys a b = b
 both-beside lo hi (x ∷ xs) ys a b = (a.0, both-beside lo hi xs ys a.1 b)
 
 -- what the code's last step asks for
-pub merged-place : (old : List ℕ) (lists : FreeLists) (cell size left right : ℕ) (i : IsIndexed old lists) (s : Site old i.arena.layout cell size lists.marks.items) →
-    left ≡ start_in lists.marks.items (cell - 8) → IsRight old (cell + size) right →
+pub merged-place : (old : List ℕ) (lists : FreeLists) (cell size left right : ℕ) (i : IsIndexed old lists) (s : Site old i.arena.layout cell size lists.marks) →
+    left ≡ start_in lists.marks (cell - 8) → IsRight old (cell + size) right →
     (start_of left cell < cell + size + right) × (cell + size + right ≤ length old) × (length old ≤ 268435456) ×
     IsPiece old (start_of left cell) (cell + size + right - start_of left cell) ×
     IsFreeOf (gone i.arena.layout (start_of left cell) (cell + size)) (start_of left cell) (cell + size + right - start_of left cell)
@@ -123,8 +123,8 @@ merged-place old lists cell size left right i s e h =
         let b = beside-free (start_of left cell) (cell + size + right) (w.l.xs ++ w.r.ys) (both-beside (start_of left cell) (cell + size + right) w.l.xs w.r.ys m.before m.after) x (omega arith) in
         elim b [ inl k ↦ inl (omega arith) | inr k ↦ inr (omega arith) ]
 
-pub free-whole : (old s1 s2 s3 : List ℕ) (lists l1 l2 l3 : FreeLists) (cell size left right : ℕ) (i : IsIndexed old lists) (s : Site old i.arena.layout cell size lists.marks.items) →
-    left ≡ start_in lists.marks.items (cell - 8) → IsRight old (cell + size) right → Drops (free_size (cells_in i.arena.layout)) (cell + size) old s1 l1 →
+pub free-whole : (old s1 s2 s3 : List ℕ) (lists l1 l2 l3 : FreeLists) (cell size left right : ℕ) (i : IsIndexed old lists) (s : Site old i.arena.layout cell size lists.marks) →
+    left ≡ start_in lists.marks (cell - 8) → IsRight old (cell + size) right → Drops (free_size (cells_in i.arena.layout)) (cell + size) old s1 l1 →
     Drops (sized (cell + size) 0 (free_size (cells_in i.arena.layout))) (start_of left cell) s1 s2 l2 →
     Adds (gone i.arena.layout (start_of left cell) (cell + size)) (start_of left cell) (cell + size + right - start_of left cell) s2 s3 l3 →
     IsIndexed s3 l3 × Frees old s3 cell × ((offset : ℕ) → cell_at s3 offset ≡ cond (eqb offset cell) None (cell_at old offset))
@@ -195,14 +195,14 @@ free-whole old s1 s2 s3 lists l1 l2 l3 cell size left right i s e h d1 d2 ad =
         let q = sized-other end 0 (free_size (cells_in layout)) p o in omega arith
 
 -- what the code's second and third steps ask for
-pub left-there : (old : List ℕ) (lists : FreeLists) (cell size left : ℕ) (i : IsIndexed old lists) → Site old i.arena.layout cell size lists.marks.items →
-    left ≡ start_in lists.marks.items (cell - 8) → sized (cell + size) 0 (free_size (cells_in i.arena.layout)) (start_of left cell) ≡ cell - start_of left cell
+pub left-there : (old : List ℕ) (lists : FreeLists) (cell size left : ℕ) (i : IsIndexed old lists) → Site old i.arena.layout cell size lists.marks →
+    left ≡ start_in lists.marks (cell - 8) → sized (cell + size) 0 (free_size (cells_in i.arena.layout)) (start_of left cell) ≡ cell - start_of left cell
 left-there old lists cell size left i s e =
     let l = left-size old lists cell size left i s e in
     sized-other (cell + size) 0 (free_size (cells_in i.arena.layout)) (start_of left cell) (λ q. omega (arith, l.0, s.eight)) ∙ l.1
 
-pub merged-piece : (old s1 s2 : List ℕ) (lists l1 l2 : FreeLists) (cell size left right : ℕ) (i : IsIndexed old lists) (s : Site old i.arena.layout cell size lists.marks.items) →
-    left ≡ start_in lists.marks.items (cell - 8) → IsRight old (cell + size) right → Drops (free_size (cells_in i.arena.layout)) (cell + size) old s1 l1 →
+pub merged-piece : (old s1 s2 : List ℕ) (lists l1 l2 : FreeLists) (cell size left right : ℕ) (i : IsIndexed old lists) (s : Site old i.arena.layout cell size lists.marks) →
+    left ≡ start_in lists.marks (cell - 8) → IsRight old (cell + size) right → Drops (free_size (cells_in i.arena.layout)) (cell + size) old s1 l1 →
     Drops (sized (cell + size) 0 (free_size (cells_in i.arena.layout))) (start_of left cell) s1 s2 l2 → IsPiece s2 (start_of left cell) (cell + size + right - start_of left cell)
 merged-piece old s1 s2 lists l1 l2 cell size left right i s e h d1 d2 =
     let layout = i.arena.layout in

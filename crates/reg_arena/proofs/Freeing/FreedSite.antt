@@ -42,7 +42,7 @@ as_used : (c : Cell) (cell size : ℕ) → c.allocated ≡ true → c.offset ≡
 as_used c cell size a e f = rw (← a, ← e, ← f) refl
 
 pub site : (old : List ℕ) (lists : FreeLists) (cell size : ℕ) → (i : IsIndexed old lists) →
-    is_some (cell_at old cell) ≡ true → size ≡ size_in (word old cell) → Site old i.arena.layout cell size lists.marks.items
+    is_some (cell_at old cell) ≡ true → size ≡ size_in (word old cell) → Site old i.arena.layout cell size lists.marks
 site old lists cell size i h is =
     let a = i.arena in
     let at = cell_at-AreBins old a.layout cell a.tiled in
@@ -72,8 +72,8 @@ site old lists cell size i h is =
 -- ---- the cells beside it
 
 -- the left one's
-left-ends : (old : List ℕ) (lists : FreeLists) (cell size left : ℕ) (i : IsIndexed old lists) → Site old i.arena.layout cell size lists.marks.items →
-    left ≡ start_in lists.marks.items (cell - 8) → EndsAt (free_size (cells_in i.arena.layout)) cell left
+left-ends : (old : List ℕ) (lists : FreeLists) (cell size left : ℕ) (i : IsIndexed old lists) → Site old i.arena.layout cell size lists.marks →
+    left ≡ start_in lists.marks (cell - 8) → EndsAt (free_size (cells_in i.arena.layout)) cell left
 left-ends old lists cell size left i s e =
     ends-at old (free_size (cells_in i.arena.layout)) _ _ _ _ _ _ i.listed cell size left s.cell_eights (omega (arith, s.header)) (omega (arith, s.eight)) s.free e
 
@@ -82,8 +82,8 @@ pub record Around (layout : List Bin) (cell size left right : ℕ) : Type 0 wher
   pub l : Lefts layout (used cell size) ys (start_of left cell) left
   pub r : Rights layout l.xs l.lefts (used cell size) (cell + size + right)
 
-pub around : (old : List ℕ) (lists : FreeLists) (cell size left right : ℕ) (i : IsIndexed old lists) → Site old i.arena.layout cell size lists.marks.items →
-    left ≡ start_in lists.marks.items (cell - 8) → IsRight old (cell + size) right → Around i.arena.layout cell size left right
+pub around : (old : List ℕ) (lists : FreeLists) (cell size left right : ℕ) (i : IsIndexed old lists) → Site old i.arena.layout cell size lists.marks →
+    left ≡ start_in lists.marks (cell - 8) → IsRight old (cell + size) right → Around i.arena.layout cell size left right
 around old lists cell size left right i s e h =
     let a = i.arena in
     let l = lefts old a.layout s.xs (used cell size) s.ys left a.tiled a.apart (left-ends old lists cell size left i s e) s.cells_are in
@@ -115,8 +115,8 @@ right-end-by old layout xs end hi (v ∷ (w ∷ rs)) ys tiled l e h c = absurd h
 -- ---- the sizes beside it
 
 -- the left one's, or none
-pub left-size : (old : List ℕ) (lists : FreeLists) (cell size left : ℕ) (i : IsIndexed old lists) → Site old i.arena.layout cell size lists.marks.items →
-    left ≡ start_in lists.marks.items (cell - 8) → (start_of left cell ≤ cell) × (free_size (cells_in i.arena.layout) (start_of left cell) ≡ cell - start_of left cell)
+pub left-size : (old : List ℕ) (lists : FreeLists) (cell size left : ℕ) (i : IsIndexed old lists) → Site old i.arena.layout cell size lists.marks →
+    left ≡ start_in lists.marks (cell - 8) → (start_of left cell ≤ cell) × (free_size (cells_in i.arena.layout) (start_of left cell) ≡ cell - start_of left cell)
     × (start_of left cell % 8 ≡ 0) × (32 ≤ start_of left cell)
 left-size old lists cell size left i s e = by (eqb left 0) refl
   where

@@ -10,7 +10,7 @@ use Rattle.reg_arena.specs.Arena.{IsArena}
 use Rattle.reg_arena.specs.Cells.{cells_in}
 use Rattle.reg_arena.specs.Classes.{class_of}
 use Rattle.reg_arena.specs.Internal.CellThreads.{AreThreads}
-use Rattle.reg_arena.specs.Internal.SizeTables.{at_eight, head_at, back_in, AreBits}
+use Rattle.reg_arena.specs.Internal.SizeTables.{at_eight, head_at, back_in}
 
 -- the size of the free cell at an offset, or 0 where there is none
 abbrev pub free_size : List Cell → ℕ → ℕ
@@ -57,8 +57,6 @@ pub record AreTables (bytes : List ℕ) (sizes : ℕ → ℕ) (heads firsts word
   pub apart : (x y : ℕ) → 0 < sizes x → 0 < sizes y → x < y → x + sizes x ≤ y
   pub marks_are : HasMarks sizes marks
   pub below : (x : ℕ) → 0 < sizes x → sizes x < top
-  pub bits : AreBits words firsts
-  pub words_small : length words ≤ 32
   pub words_long : 0 < length bytes → 32 ≤ length words
   pub firsts_long : 0 < length bytes → 2048 ≤ length firsts
   pub marks_long : length bytes ≤ 8 * length marks
@@ -69,13 +67,13 @@ pub record AreTables (bytes : List ℕ) (sizes : ℕ → ℕ) (heads firsts word
 -- the same of the struct
 abbrev pub IsListed : List ℕ → (ℕ → ℕ) → FreeLists → Type 0
 IsListed bytes sizes lists =
-    AreTables bytes sizes lists.heads lists.firsts.items lists.words.items lists.marks.items lists.large lists.top
+    AreTables bytes sizes lists.heads lists.firsts lists.words lists.marks lists.large lists.top
 
 -- the tables have room for so many eights
 pub record HasRoom (units : ℕ) (lists : FreeLists) : Type 0 where
-  pub marks : units ≤ length lists.marks.items
-  pub firsts : 2048 ≤ length lists.firsts.items
-  pub words : 32 ≤ length lists.words.items
+  pub marks : units ≤ length lists.marks
+  pub firsts : 2048 ≤ length lists.firsts
+  pub words : 32 ≤ length lists.words
 
 -- there are some such free cells
 pub record HasLists (bytes : List ℕ) (lists : FreeLists) : Type 0 where

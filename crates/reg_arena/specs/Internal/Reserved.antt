@@ -5,15 +5,15 @@ use Rattle.reg_arena.specs.declared.free_lists.FreeLists.{FreeLists}
 -- the bins may have so many bytes in all before memory is asked for
 pub record AreReserved (limit capacity : ℕ) (lists : FreeLists) : Type 0 where
   pub bytes : limit ≤ capacity
-  pub marks_long : limit ≤ 8 * length lists.marks.items
-  pub firsts_long : 2048 ≤ length lists.firsts.items
-  pub words_long : 32 ≤ length lists.words.items
+  pub marks_long : limit ≤ 8 * length lists.marks
+  pub firsts_long : 2048 ≤ length lists.firsts
+  pub words_long : 32 ≤ length lists.words
 
 -- the tables are as long as before, or longer
 pub record KeepsTables (old new : FreeLists) : Type 0 where
-  pub marks_long : length old.marks.items ≤ length new.marks.items
-  pub firsts_long : length old.firsts.items ≤ length new.firsts.items
-  pub words_long : length old.words.items ≤ length new.words.items
+  pub marks_long : length old.marks ≤ length new.marks
+  pub firsts_long : length old.firsts ≤ length new.firsts
+  pub words_long : length old.words ≤ length new.words
 
 -- there is as much room as before, or more
 pub record KeepsRoom (capacity : ℕ) (old : FreeLists) (capacity' : ℕ) (new : FreeLists) : Type 0 where

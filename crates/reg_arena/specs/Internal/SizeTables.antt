@@ -1,5 +1,5 @@
 -- The tables of the free lists: bits and first cells of the sizes, links, and the marks of where cells begin and end.
-use Rattle.std.specs.Prelude.{◌≡◌, ℕ, ◌+◌, ◌-◌, ◌≤◌, ◌<◌, ◌/◌, ◌%◌, ◌==◌, ◌&&◌, nat_lt, if◌then◌else◌, set, get_or, List}
+use Rattle.std.specs.Prelude.{◌≡◌, ℕ, ◌+◌, ◌-◌, ◌≤◌, ◌<◌, ◌/◌, ◌%◌, ◌==◌, ◌&&◌, nat_lt, if◌then◌else◌, set, length, get_or, List}
 use Rattle.std.specs.Int.{bit_at}
 use Rattle.byteorder.specs.Endian.{little_bytes}
 use Rattle.reg_heap.specs.declared.limits.TheConstants.{NONE}
@@ -64,6 +64,20 @@ bit_in words i = bit_at (get_or words (i / 64) 0) (i % 64)
 -- the bits say of which sizes there is a cell
 abbrev pub AreBits : List ℕ → List ℕ → Type 0
 AreBits words firsts = (i : ℕ) → bit_in words i ≡ (if get_or firsts i NONE == NONE then 0 else 1)
+
+-- the free lists as plain tables and numbers
+pub record Tables : Type 0 where
+  pub heads : List ℕ
+  pub firsts : List ℕ
+  pub words : List ℕ
+  pub marks : List ℕ
+  pub large : ℕ
+  pub top : ℕ
+
+-- what holds of the tables by size whatever the bins have: the bits are right, and there are none of further sizes
+pub record AreSizeTables (firsts words : List ℕ) : Type 0 where
+  pub bits : AreBits words firsts
+  pub words_small : length words ≤ 32
 
 -- a bit is the first from one on
 pub record IsLeast (words : List ℕ) (from i : ℕ) : Type 0 where
