@@ -216,6 +216,9 @@ pub fn name_hash(name: &[u8]) -> u32
 pub fn same_name(a: &[u8], b: &[u8]) -> bool
     ensures { IsTrue result ↔ (folded a.now ≡ folded b.now) }
 {
+    if a.len() != b.len() {
+        return false;
+    }
     match name_order(a, b) {
         Ordering::Equal => true,
         Ordering::Less | Ordering::Greater => false,
