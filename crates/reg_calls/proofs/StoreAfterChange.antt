@@ -12,7 +12,7 @@ use Rattle.reg_names.specs.Names.{path_of, is_path, is_value_name}
 use Rattle.reg_heap.specs.Paths.{Path, Tree, Member, children_of}
 use Rattle.reg_heap.specs.Members.{value_named}
 use Rattle.reg_heap.specs.Edits.{edited, with_value, without_value, values_at, folded_path, with_keys, missing, are_too_many, may_not_go, marks_of, without_key, IsKept}
-use Rattle.reg_model.specs.Worlds.{Handle, At, look, path_from, closed, turned, same_path, after}
+use Rattle.reg_model.specs.Worlds.{Handle, At, look, path_at, path_from, closed, turned, same_path, after}
 use Rattle.reg_model.specs.Causes.{State, change_cause, handles_of, no_handle_room, no_value_room, is_full}
 use Rattle.reg_model.specs.Replies.{reply_to, disposition_of}
 use Rattle.reg_model.specs.declared.reply.ChangeReply.{ChangeReply}
@@ -21,9 +21,13 @@ use Rattle.reg_model.specs.declared.call.Change.TheVariants.{OpenRoot, OpenKey, 
 use Rattle.reg_model.proofs.AcceptedCalls.{Target, both_false, not_false, root-met, OpenMet, open-met, CreateMet, create-met, SetMet, set-met, DropMet, drop-met, DeleteMet, delete-met, close-met}
 use Rattle.reg_model.proofs.HandleInvariant.{Has, target-below}
 use Rattle.reg_handles.specs.HandleTables.{Table}
-use Rattle.reg_tree.specs.TreeKeys.{Keys}
+use Rattle.reg_arena.specs.Arena.{heap_of}
+use Rattle.reg_tree.specs.CellSizes.{value_sizes, value_sizes_at, create_sizes, LacksRoom}
+use Rattle.reg_tree.specs.declared.node.Node.{Node}
+use Rattle.reg_tree.specs.TreeKeys.{Keys, IsAt}
 use Rattle.reg_tree.specs.declared.fault.TreeFault.{TreeFault}
 use Rattle.reg_tree.specs.declared.fault.TreeFault.TheVariants.{Limit, Full, Memory, HasChildren, NoDelete}
+use Rattle.reg_tree.proofs.InsertKey.MadeCells.{sizes_by_path}
 use Rattle.reg_calls.specs.declared.store.Store.{Store}
 use Rattle.reg_calls.specs.declared.lack.Lack.{Lack}
 use Rattle.reg_calls.specs.declared.lack.Lack.TheVariants.{Space, Memory as Short}
@@ -268,6 +272,19 @@ is_lack fault (inl e) limited = absurd (limited e)
 is_lack fault (inr r) limited = r
 
 pub lacking : (old new : Store) (session moment n : ℕ) (change : Change) (lack : Lack) → new ≡ old → is_closing change ≡ false →
-    (lack ≡ Space → LacksSpace old.tree change) → IsMade old new session moment n change (Err lack)
+    (lack ≡ Space → LacksSpace old.tree old.handles.handles session change) → IsMade old new session moment n change (Err lack)
 lacking old new session moment n change Space same opens space = (same, space refl)
 lacking old new session moment n change Short same opens space = (same, opens)
+
+-- ---- no space for the cells of a change, by the path of the handle's key
+
+pub set-lacks : (store : Store) (session h : ℕ) (t : IsTarget store session h) (node : Node) → IsAt store.tree t.path node → (name : List ℕ) (size : ℕ) →
+    LacksRoom store.tree.bins (value_sizes (heap_of store.tree.bins) node.offset name size) →
+    LacksRoom store.tree.bins (value_sizes_at store.tree (path_at session h store.handles.handles) name size)
+set-lacks store session h t node at name size lacks =
+    subst (λ p. LacksRoom store.tree.bins (value_sizes_at store.tree p name size)) (sym (target-at store session h t))
+    (subst (LacksRoom store.tree.bins) (sizes_by_path store.tree t.path node at name size) lacks)
+
+pub create-lacks : (store : Store) (session h : ℕ) (t : IsTarget store session h) (names : List (List ℕ)) → LacksRoom store.tree.bins (create_sizes store.tree t.path names) →
+    LacksRoom store.tree.bins (create_sizes store.tree (path_at session h store.handles.handles) names)
+create-lacks store session h t names lacks = subst (λ p. LacksRoom store.tree.bins (create_sizes store.tree p names)) (sym (target-at store session h t)) lacks

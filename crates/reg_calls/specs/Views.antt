@@ -82,14 +82,15 @@ status_of Space = NO_SYSTEM_RESOURCES
 status_of Memory = NOT_ENOUGH_MEMORY
 
 -- an acceptable change isn't made, for want of memory (never a Close) or of space in the bins, and nothing changed
-pub record Lacks (old new : View) (change : Change) (reply : ChangeReply) : Type 0 where
-  pub why : ((reply ≡ refusal NOT_ENOUGH_MEMORY) × (is_closing change ≡ false)) ⊎ ((reply ≡ refusal NO_SYSTEM_RESOURCES) × LacksSpace old.keys change)
+pub record Lacks (old new : View) (session : ℕ) (change : Change) (reply : ChangeReply) : Type 0 where
+  pub why : ((reply ≡ refusal NOT_ENOUGH_MEMORY) × (is_closing change ≡ false))
+      ⊎ ((reply ≡ refusal NO_SYSTEM_RESOURCES) × LacksSpace old.keys old.handles session change)
   pub same : new ≡ old
 
 -- what a change may be answered, by the cause of its refusal
 abbrev pub IsAppliedBy : Option ℕ → View → View → ℕ → ℕ → Change → ChangeReply → Type 0
 IsAppliedBy (Some status) old new session moment change reply = (reply ≡ refusal status) × (new ≡ old)
-IsAppliedBy None old new session moment change reply = IsAccepted old new session moment change reply ⊎ Lacks old new change reply
+IsAppliedBy None old new session moment change reply = IsAccepted old new session moment change reply ⊎ Lacks old new session change reply
 
 -- what a change may be answered, where these callbacks are asked
 abbrev pub IsApplied : Callbacks → View → View → ℕ → ℕ → Change → ChangeReply → Type 0

@@ -1,6 +1,6 @@
 -- The cells that making keys and setting values takes (Suhanov, Windows registry file format specification, "Cell", "Key node",
 -- "Subkeys list", "Key values list").
-use Rattle.std.specs.Prelude.{ℕ, ◌+◌, Option, Some, None, List, [], ◌∷◌, ◌++◌, map, length}
+use Rattle.std.specs.Prelude.{ℕ, ◌+◌, ◌<◌, Option, Some, None, List, [], ◌∷◌, ◌++◌, map, length}
 use Rattle.std.specs.Option.{option_and_then}
 use Rattle.reg_heap.specs.Heaps.{Heap}
 use Rattle.reg_heap.specs.Paths.{Path}
@@ -54,6 +54,12 @@ set_sizes_by heap name size (Some key) = set_sizes heap key.fields.values key.fi
 unfoldable pub value_sizes : Heap → ℕ → List ℕ → ℕ → List ℕ
 value_sizes heap key name size = set_sizes_by heap name size (key_at heap key)
 
--- the bins have no room for cells of these sizes side by side: no free cell has them all, and one bin more for them would pass the limit
+-- the same of the key at a path
+abbrev pub value_sizes_at : Keys → Path → List ℕ → ℕ → List ℕ
+value_sizes_at keys path name size =
+    set_sizes_by (heap_of keys.bins) name size (option_and_then (key_at (heap_of keys.bins)) (key_offset_at (heap_of keys.bins) keys.root path))
+
+-- the bins have no room for cells of these sizes side by side: there are some, no free cell has them all, and one bin more for them
+-- would pass the limit
 abbrev pub LacksRoom : Bins → List ℕ → Type 0
-LacksRoom bins sizes = NoFit bins.bytes (total_of sizes) × PassesLimit bins.bytes (total_of sizes)
+LacksRoom bins sizes = (0 < length sizes) × NoFit bins.bytes (total_of sizes) × PassesLimit bins.bytes (total_of sizes)

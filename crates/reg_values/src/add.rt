@@ -32,6 +32,7 @@ pub(crate) fn carve(alloc: Global, arena: &mut Arena, sizes: &[u32]) -> Result<V
     requires total { total_of sizes.now ≤ 1306592 }
     ensures ok { IfOk result (λ cells. AreNew (heap_of arena.old) (heap_of arena.new) cells.items sizes.now) }
     ensures err { OnErr result (arena.new ≡ arena.old) }
+    ensures some { result ≡ Err ArenaFault.Full → 0 < length sizes.now }
     ensures full { result ≡ Err ArenaFault.Full → NoFit arena.old.bytes (total_of sizes.now) }
     ensures limit { result ≡ Err ArenaFault.Full → PassesLimit arena.old.bytes (total_of sizes.now) }
     ensures grows { OnOk result (length arena.new.bytes ≤ length arena.old.bytes + GROWTH_BOUND) }
@@ -123,6 +124,8 @@ pub(crate) fn add(
     ensures cells { OnOk result (Makes (heap_of arena.old) (heap_of arena.new)
         (sizes_by (heap_of arena.old) list.count list.offset (length name.now) (length bytes.now) None)) }
     ensures err { OnErr result (arena.new ≡ arena.old) }
+    ensures some { result ≡ Err ArenaFault.Full →
+        0 < length (sizes_by (heap_of arena.old) list.count list.offset (length name.now) (length bytes.now) None) }
     ensures full { result ≡ Err ArenaFault.Full →
         NoFit arena.old.bytes (total_of (sizes_by (heap_of arena.old) list.count list.offset (length name.now)
         (length bytes.now) None)) }

@@ -1,6 +1,6 @@
 //! Other data for a value.
 
-ghost use Rattle.std.specs.Prelude.{◌≡◌, true, ◌≤◌, ◌+◌, ℕ, List, Some, Err, [], length, OnOk, OnErr};
+ghost use Rattle.std.specs.Prelude.{◌≡◌, true, ◌≤◌, ◌<◌, ◌+◌, ℕ, List, Some, Err, [], length, OnOk, OnErr};
 ghost use Rattle.reg_heap.specs.declared.limits.TheConstants.{DATA_LIMIT, GROWTH_BOUND};
 ghost use Rattle.reg_heap.specs.Paths.{Member};
 ghost use Rattle.reg_heap.specs.Kinds.{Found, times, owned};
@@ -77,6 +77,8 @@ pub(crate) fn replace(
     ensures cells { OnOk result (Makes (heap_of arena.old) (heap_of arena.new)
         (new_data_sizes (heap_of arena.old) (length bytes.now) (value_record_at (heap_of arena.old) cell))) }
     ensures err { OnErr result (arena.new ≡ arena.old) }
+    ensures some { result ≡ Err ArenaFault.Full →
+        0 < length (new_data_sizes (heap_of arena.old) (length bytes.now) (value_record_at (heap_of arena.old) cell)) }
     ensures full { result ≡ Err ArenaFault.Full →
         NoFit arena.old.bytes (total_of (new_data_sizes (heap_of arena.old) (length bytes.now)
         (value_record_at (heap_of arena.old) cell))) }

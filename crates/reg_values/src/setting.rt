@@ -50,6 +50,8 @@ pub fn set(
     ensures cells { OnOk result (Makes (heap_of arena.old) (heap_of arena.new)
         (set_sizes (heap_of arena.old) list.count list.offset name.now (length bytes.now))) }
     ensures err { OnErr result (arena.new ≡ arena.old) }
+    ensures some { result ≡ Err ArenaFault.Full →
+        0 < length (set_sizes (heap_of arena.old) list.count list.offset name.now (length bytes.now)) }
     ensures full { result ≡ Err ArenaFault.Full →
         NoFit arena.old.bytes (total_of (set_sizes (heap_of arena.old) list.count list.offset name.now (length bytes.now))) }
     ensures limit { result ≡ Err ArenaFault.Full →

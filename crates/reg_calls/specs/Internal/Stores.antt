@@ -62,4 +62,4 @@ pub record IsDone (old new : Store) (session moment number : ℕ) (change : Chan
 abbrev pub IsMade : Store → Store → ℕ → ℕ → ℕ → Change → Result ChangeReply Lack → Type 0
 IsMade old new session moment number change (Ok reply) = IsDone old new session moment number change reply
 IsMade old new session moment number change (Err Memory) = (new ≡ old) × (is_closing change ≡ false)
-IsMade old new session moment number change (Err Space) = (new ≡ old) × LacksSpace old.tree change
+IsMade old new session moment number change (Err Space) = (new ≡ old) × LacksSpace old.tree old.handles.handles session change

@@ -2,6 +2,7 @@
 use Rattle.std.proofs.Common.{◌≡◌, ℕ, zero, suc, ◌+◌, ◌-◌, ◌<◌, ◌≤◌, eqb, cond, Bool, true, false, Option, Some, None, IsSome, is_some}
 use Rattle.std.proofs.Common.{List, [], ◌∷◌, ◌++◌, map, length, get_or, replicate, refl, sym, ap, ◌∙◌, subst, arith}
 use Rattle.std.specs.Prelude.{unwrap_or}
+use Rattle.std.specs.Option.{option_and_then}
 use Rattle.std.proofs.lemmas.Bool.{eqb-true, eqb-false}
 use Rattle.reg_arena.proofs.FreeList.ThreadLinks.{times-append}
 use Rattle.reg_arena.specs.Arena.{Bins, heap_of}
@@ -9,6 +10,7 @@ use Rattle.reg_arena.specs.Cells.{cell_at}
 use Rattle.reg_arena.specs.NewCells.{AreSizes}
 use Rattle.reg_heap.specs.Heaps.{Heap, allocated}
 use Rattle.reg_heap.specs.Kinds.{times}
+use Rattle.reg_heap.specs.Paths.{Path}
 use Rattle.reg_index.specs.Subkeys.{AreSubkeys, KeepsCells, Moves, own, taken, place_of}
 use Rattle.reg_records.specs.SubkeyLists.{Entry}
 use Rattle.reg_index.proofs.SubkeysOpening.{own-leaf}
@@ -19,7 +21,9 @@ use Rattle.reg_records.specs.declared.nk.KeyFields.{KeyFields}
 use Rattle.reg_shape.proofs.Wholeness.ShapeRecords.{at-most-one, is-allocated, allocated-is}
 use Rattle.reg_values.specs.ValueLists.{Makes}
 use Rattle.reg_values.specs.ValueSizes.{set_sizes}
-use Rattle.reg_tree.specs.CellSizes.{set_sizes_by, value_sizes}
+use Rattle.reg_tree.specs.TreeKeys.{Keys, IsAt}
+use Rattle.reg_tree.specs.declared.node.Node.{Node}
+use Rattle.reg_tree.specs.CellSizes.{set_sizes_by, value_sizes, value_sizes_at}
 use Rattle.reg_tree.specs.Internal.KeyNodeChanges.{HasList, SameSizes, LeavesOthers}
 use Rattle.reg_tree.specs.Internal.SpareCells.{planned, own_sizes, sizes_of, IsSpared}
 use Rattle.reg_tree.proofs.Invariant.UntouchedCells.{times-one}
@@ -183,7 +187,13 @@ sizes_of_key h key count offset name size there list = by (key_at h key) there l
     by (Some k) e list =
         ap (λ n. set_sizes h n offset name size) (list k refl).0 ∙ ap (λ p. set_sizes h k.fields.values p name size) (list k refl).1
 
--- the cells of a set, by the same
+-- and by the path of the key
+pub sizes_by_path : (keys : Keys) (path : Path) (node : Node) → IsAt keys path node → (name : List ℕ) (size : ℕ) →
+    value_sizes (heap_of keys.bins) node.offset name size ≡ value_sizes_at keys path name size
+unfolding value_sizes
+sizes_by_path keys path node at name size = ap (λ o. set_sizes_by (heap_of keys.bins) name size (option_and_then (key_at (heap_of keys.bins)) o)) (sym at.offset)
+
+-- the cells of a set, by the list that the key node names
 pub set_of_key : (h h1 : Heap) (key count offset : ℕ) (name : List ℕ) (size : ℕ) → IsSome (key_at h key) → HasList h key count offset →
     Makes h h1 (set_sizes h count offset name size) → Makes h h1 (value_sizes h key name size)
 set_of_key h h1 key count offset name size there list makes = subst (Makes h h1) (sizes_of_key h key count offset name size there list) makes

@@ -210,7 +210,7 @@ spared old new key t count list has path plan plan_is sizes offsets cells sizes_
 -- where there is no room for the cells planned, there is none for those that keys of these names take
 pub lacks_room : (bins : Bins) (key : ℕ) (t : IsHere bins.bytes key) (count list : ℕ) → HasSubkeysList (cell_at bins.bytes) key count list →
     (path : List ℕ) (plan : Option ℕ) → plan ≡ insert_size (cell_at bins.bytes) count list → (sizes : List ℕ) → sizes ≡ sizes_of plan (map own_sizes (path_of path)) →
-    PassesLimit bins.bytes (total_of sizes) → NoFit bins.bytes (total_of sizes) → LacksRoom bins (sizes_of (planned (cell_at bins.bytes) key) (map own_sizes (path_of path)))
-lacks_room bins key t count list has path plan plan_is sizes sizes_are past none =
+    0 < length sizes → PassesLimit bins.bytes (total_of sizes) → NoFit bins.bytes (total_of sizes) → LacksRoom bins (sizes_of (planned (cell_at bins.bytes) key) (map own_sizes (path_of path)))
+lacks_room bins key t count list has path plan plan_is sizes sizes_are some past none =
     let p = planned_is bins.bytes key [] (growing bins.bytes key t) count list has in
-    subst (LacksRoom bins) (sizes_are ∙ ap (λ plan. sizes_of plan (map own_sizes (path_of path))) (plan_is ∙ sym p)) (none, past)
+    subst (LacksRoom bins) (sizes_are ∙ ap (λ plan. sizes_of plan (map own_sizes (path_of path))) (plan_is ∙ sym p)) (some, none, past)

@@ -42,4 +42,4 @@ returns-in-Ok-carve_change-clause-grows c =
 pub returns-clause-space : goal.returns-clause-space
 returns-clause-space c = λ full.
     let past = c.in-Err-carve_change.ensures.full.0 (ap (λ f. Err f) (full-is c.in-Err-carve_change.fault _ c.from.ensures full)) in
-    lacks_room c.args.arena.now _ c.requires.here _ _ c.subkeys_list.ensures c.args.path.now _ c.plan_insert-planned.ensures _ (c.deref.ensures.value ∙ c.in-Ok.ensures) past.1 past.2
+    lacks_room c.args.arena.now _ c.requires.here _ _ c.subkeys_list.ensures c.args.path.now _ c.plan_insert-planned.ensures _ (c.deref.ensures.value ∙ c.in-Ok.ensures) past.0 past.1 past.2

@@ -42,4 +42,4 @@ pub returns-in-Err-clause-space : goal.returns-in-Err-clause-space
 returns-in-Err-clause-space c = λ full.
     let e = ap (λ f. Err f) (full-is c.in-Err.fault _ c.from.ensures full) in
     subst (LacksRoom c.args.arena.now) (sizes_of_key _ c.args.key _ _ c.args.name.now (length c.args.bytes.now) (key_there _ _ c.requires.here) c.values_list-old.ensures)
-    (c.in-Err.ensures.full e, c.in-Err.ensures.limit e)
+    (c.in-Err.ensures.some e, c.in-Err.ensures.full e, c.in-Err.ensures.limit e)

@@ -1,4 +1,4 @@
-use Rattle.std.proofs.Common.{ℕ, List, Err, ◌≡◌, ◌≤◌, ap, sym, ◌∙◌, subst, length, arith}
+use Rattle.std.proofs.Common.{ℕ, List, Err, ◌≡◌, ◌≤◌, ◌<◌, ap, sym, ◌∙◌, subst, length, arith}
 use Rattle.std.proofs.lemmas.Result.{on_ok_weaker, err_from_is_err_and}
 use Rattle.reg_arena.specs.declared.ArenaFault.TheVariants.{Full}
 use Rattle.reg_heap.specs.Heaps.{allocated}
@@ -175,3 +175,24 @@ returns-in_err-replace-clause-near c = λ q.
     let e = err_from_is_err_and c.from_residual.result c.from_residual.ensures.1 in
     let f : c.replace.result ≡ Err Full = cc (q, e.1, e.2, c.in_err-replace.was) in
     near c.args.arena.now.bytes _ (replace-total h (length c.args.bytes.now) (value_record_at h c.cell_of-cell.result) c.requires.bytes) (c.replace.ensures.limit f)
+
+pub returns-in_default-clause-some : goal.returns-in_default-clause-some
+returns-in_default-clause-some c = λ q.
+    let h = heap_of c.args.arena.now in
+    let n = c.args.list.count in
+    let p = c.args.list.offset in
+    let v = c.requires.values in
+    let z = sizes-none h n p c.args.name.now (length c.args.bytes.now) v.members v.met v.reads (sym (sym (c.find.ensures v.members v.met v.reads) ∙ c.in_default.is)) in
+    subst (λ sizes. 0 < length sizes) z (c.add.ensures.some q)
+
+pub returns-in_err-replace-clause-some : goal.returns-in_err-replace-clause-some
+returns-in_err-replace-clause-some c = λ q.
+    let h = heap_of c.args.arena.now in
+    let n = c.args.list.count in
+    let p = c.args.list.offset in
+    let v = c.requires.values in
+    let z = sizes-there h n p c.args.name.now (length c.args.bytes.now) v.members v.met c.in-Some.index c.cell_of-cell.result v.reads
+    (c.in-Some.ensures v.members v.met v.reads) c.cell_of-cell.ensures in
+    let e = err_from_is_err_and c.from_residual.result c.from_residual.ensures.1 in
+    let f : c.replace.result ≡ Err Full = cc (q, e.1, e.2, c.in_err-replace.was) in
+    subst (λ sizes. 0 < length sizes) z (c.replace.ensures.some f)

@@ -1,9 +1,10 @@
 use Rattle.std.proofs.Common.{◌≡◌, true, is_some, List, subst, refl, sym, ap, ◌∙◌, Some, Err, ℕ, true≢false}
+use Rattle.reg_names.specs.Names.{path_of}
 use Rattle.reg_model.specs.Worlds.{Handle, look, closed}
 use Rattle.reg_model.specs.declared.call.Change.TheVariants.{CreateKey}
 use Rattle.reg_calls.proofs.TableAndLimitLemmas.{not_refused_by, look-push, closed-push, store-same}
 use Rattle.reg_calls.proofs.StoreAfterChange.{create-target, create-path, create-room, create-short, create-few, create-done}
-use Rattle.reg_calls.proofs.StoreAfterChange.{disposition-is, is_lack, lacking, opening}
+use Rattle.reg_calls.proofs.StoreAfterChange.{disposition-is, is_lack, lacking, opening, create-lacks}
 use Rattle.reg_calls.proofs.store.Store.create_key.Goals as goal
 
 pub path_to-requires-clause-target : goal.path_to-requires-clause-target
@@ -54,4 +55,5 @@ returns-in-Err-create c =
     let handles = c.close.ensures ∙ (ap (closed c.args.number) c.in-Ok-add.ensures.ok ∙ closed-push c.args.number hs c.requires.ready.below _ refl) in
     let same = store-same c.args.self.now c.create.new.self c.close.new.self c.in-Err-create.ensures.err handles in
     lacking c.args.self.now _ c.args.session c.args.moment c.args.number (CreateKey c.args.handle c.args.path.now c.args.mask) c.lack_of.result same
-    refl (λ space. c.in-Err-create.ensures.full (ap (λ f. Err f) (c.lack_of.ensures space)))
+    refl (λ space. (let full = c.lack_of.ensures space in let k = c.in-Ok-key_of.ensures in (c.in-Err-create.ensures.full (ap (λ f. Err f) full),
+    create-lacks c.args.self.now c.args.session c.args.handle k.target (path_of c.args.path.now) (c.in-Err-create.ensures.space k.target.path k.node full))))

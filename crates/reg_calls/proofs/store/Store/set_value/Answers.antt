@@ -1,6 +1,7 @@
-use Rattle.std.proofs.Common.{ap, Err}
-use Rattle.reg_calls.proofs.TableAndLimitLemmas.{not_refused_by}
-use Rattle.reg_calls.proofs.StoreAfterChange.{set-target, set-name, set-bytes, set-room, set-done, is_lack}
+use Rattle.std.proofs.Common.{ap, Err, refl, length}
+use Rattle.reg_model.specs.declared.call.Change.TheVariants.{SetValue}
+use Rattle.reg_calls.proofs.TableAndLimitLemmas.{not_refused_by, store-same}
+use Rattle.reg_calls.proofs.StoreAfterChange.{set-target, set-name, set-bytes, set-room, set-done, is_lack, lacking, set-lacks}
 use Rattle.reg_calls.proofs.store.Store.set_value.Goals as goal
 
 pub unreachable-requires : goal.unreachable-requires
@@ -27,3 +28,11 @@ returns-in-Ok-set_value c =
     set-done c.args.number c.args.self.now c.args.session c.requires.ready c.args.handle c.args.name.now c.args.kind c.args.bytes.now
     c.requires.cause k.target c.args.moment c.set_value.new.self (c.in-Ok-set_value.ensures.ok k.target.path k.node) c.accepted.result
     c.accepted.ensures c.in-Ok-set_value.ensures.kept c.in-Ok-set_value.ensures.grows
+
+pub returns-in-Err-set_value : goal.returns-in-Err-set_value
+returns-in-Err-set_value c =
+    let k = c.in-Ok.ensures in
+    let same = store-same c.args.self.now c.set_value.new.self c.args.self.now.handles c.in-Err-set_value.ensures.err refl in
+    lacking c.args.self.now _ c.args.session c.args.moment c.args.number (SetValue c.args.handle c.args.name.now c.args.kind c.args.bytes.now) c.lack_of.result same
+    refl (λ space. (let full = c.lack_of.ensures space in (c.in-Err-set_value.ensures.full (ap (λ f. Err f) full),
+    set-lacks c.args.self.now c.args.session c.args.handle k.target _ k.node c.args.name.now (length c.args.bytes.now) (c.in-Err-set_value.ensures.space full))))
