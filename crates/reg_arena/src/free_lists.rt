@@ -1,7 +1,7 @@
 //! The lists of the free cells, and what finds a cell's list and its neighbours at once.
 //!
 //! The cells of one size below 16,384 bytes stand side by side in their list. For each such size there is its first cell, and
-//! a bit that says whether there is one: so the best fit is found without a walk.
+//! a bit that says whether there is one: so their best fit is found without a walk. From 16,384 bytes on the list is walked.
 ghost use Rattle.std.specs.Prelude.{◌≡◌, ℕ, ◌-◌, ◌/◌, ◌%◌, ◌≤◌, ◌<◌, ◌⊎◌, List, [], replicate, length, MatchOption, OnOk, IsOk, vec_capacity};
 ghost use Rattle.reg_heap.specs.declared.limits.TheConstants.{NONE};
 ghost use Rattle.reg_arena.specs.Internal.SizeTables.{bit_in, start_in, IsLeast, counted};

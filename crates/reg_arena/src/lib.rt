@@ -56,7 +56,7 @@ pub struct Cell {
 /// Why a call failed. The arena is as it was before.
 #[derive(Clone, Copy, Debug, PartialEq, Eq, Error)]
 pub enum ArenaFault {
-    /// No free cell fits, and there may be no further bin.
+    /// There may be no further bin for the cells.
     #[error("the bins have no room")]
     Full,
     /// Memory was refused.

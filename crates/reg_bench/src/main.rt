@@ -1,7 +1,7 @@
 //! Measures what calls of the libraries cost.
 //!
 //! `reg_bench measure SUBJECT` prints how long the calls of a subject take, at three sizes of what it works on. Without an
-//! argument each subject runs at a small size and prints counts alone, which are the same on every run.
+//! argument each subject but `maps` runs at a small size and prints counts alone, which are the same on every run.
 //!
 //! Its one contract: the calls of a batch are one operation by some handles, all accepted, and each change of them is an entry more;
 //! so is each change that a hive is given beside plain maps. It stands on reg_workload, which says what is done, and on the crates
@@ -28,7 +28,7 @@ use std::alloc::Global;
 use std::env;
 use std::rt::Clock;
 
-/// Runs each subject at a small size and prints counts.
+/// Runs each subject but `maps`, which has no counts of its own, at a small size and prints counts.
 fn count_all(rt: &(impl Print + Clock), alloc: Global) -> Result<()> {
     arena::count(rt, alloc)?;
     keys::count(rt, alloc)?;
