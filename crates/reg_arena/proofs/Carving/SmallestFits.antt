@@ -1,5 +1,5 @@
 -- A carve takes a smallest cell that fits.
-use Rattle.std.proofs.Common.{◌≡◌, ℕ, ◌+◌, ◌-◌, ◌<◌, ◌≤◌, false, List, [], ◌∷◌, ◌++◌, length, refl, sym, ap, ◌∙◌, subst, arith, Some}
+use Rattle.std.proofs.Common.{◌≡◌, ℕ, ◌+◌, ◌-◌, ◌<◌, ◌≤◌, false, List, [], ◌∷◌, ◌++◌, length, refl, sym, ap, ◌∙◌, subst, arith}
 use Rattle.std.proofs.lemmas.Option.{same_Some}
 use Rattle.std.specs.List.{AllByRecursion}
 use Rattle.reg_arena.specs.declared.Cell.{Cell}
@@ -9,11 +9,10 @@ use Rattle.reg_arena.specs.Cells.{cells_in}
 use Rattle.reg_arena.specs.NewBin.{AppendsBin}
 use Rattle.reg_arena.specs.NewCells.{total_of, unused, offsets_of}
 use Rattle.reg_arena.specs.Carves.{Carves, NoFit, IsSmallestFit}
-use Rattle.reg_arena.specs.Internal.ListedCells.{free_size, IsBestFit, HasFit}
+use Rattle.reg_arena.specs.Internal.ListedCells.{free_size, HasFit}
 use Rattle.reg_arena.proofs.Contents.CellContents.{AreOrdered, AreOrdered-AreBins}
 use Rattle.reg_arena.proofs.Contents.CellWrites.{all-at}
 use Rattle.reg_arena.proofs.FreeList.ListedArenas.{all-free, size-at}
-use Rattle.reg_arena.proofs.Tiling.CellPositions.{stands}
 use Rattle.reg_arena.proofs.Tiling.Tilings.{cells_of-AreBins}
 
 -- ---- in a new bin

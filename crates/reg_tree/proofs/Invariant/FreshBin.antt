@@ -1,5 +1,5 @@
 -- The bin that a new hive's two cells are cut from.
-use Rattle.std.proofs.Common.{◌≡◌, ◌≢◌, ℕ, ◌+◌, ◌-◌, Option, Some, List, drop, replicate, [], ◌∷◌, ◌++◌, ◌⊎◌, inl, inr, get_or, length, length-append, refl, sym, ap, ◌∙◌, subst, arith}
+use Rattle.std.proofs.Common.{◌≡◌, ℕ, ◌+◌, ◌-◌, Option, Some, List, drop, replicate, [], ◌∷◌, ◌++◌, ◌⊎◌, inl, inr, get_or, length, length-append, refl, sym, ap, ◌∙◌, subst, arith}
 use Rattle.std.specs.Prelude.{unwrap_or}
 use Rattle.std.proofs.lemmas.List.{append-nil, drop-replicate}
 use Rattle.std.proofs.lemmas.Option.{same_Some}

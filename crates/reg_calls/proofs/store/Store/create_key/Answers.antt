@@ -55,5 +55,7 @@ returns-in-Err-create c =
     let handles = c.close.ensures ∙ (ap (closed c.args.number) c.in-Ok-add.ensures.ok ∙ closed-push c.args.number hs c.requires.ready.below _ refl) in
     let same = store-same c.args.self.now c.create.new.self c.close.new.self c.in-Err-create.ensures.err handles in
     lacking c.args.self.now _ c.args.session c.args.moment c.args.number (CreateKey c.args.handle c.args.path.now c.args.mask) c.lack_of.result same
-    refl (λ space. (let full = c.lack_of.ensures space in let k = c.in-Ok-key_of.ensures in (c.in-Err-create.ensures.full (ap (λ f. Err f) full),
-    create-lacks c.args.self.now c.args.session c.args.handle k.target (path_of c.args.path.now) (c.in-Err-create.ensures.space k.target.path k.node full))))
+    refl (λ space. (let full = c.lack_of.ensures space in let k = c.in-Ok-key_of.ensures in (
+      c.in-Err-create.ensures.full (ap (λ f. Err f) full),
+      create-lacks c.args.self.now c.args.session c.args.handle k.target (path_of c.args.path.now) (c.in-Err-create.ensures.space k.target.path k.node full),
+    )))

@@ -34,5 +34,7 @@ returns-in-Err-set_value c =
     let k = c.in-Ok.ensures in
     let same = store-same c.args.self.now c.set_value.new.self c.args.self.now.handles c.in-Err-set_value.ensures.err refl in
     lacking c.args.self.now _ c.args.session c.args.moment c.args.number (SetValue c.args.handle c.args.name.now c.args.kind c.args.bytes.now) c.lack_of.result same
-    refl (λ space. (let full = c.lack_of.ensures space in (c.in-Err-set_value.ensures.full (ap (λ f. Err f) full),
-    set-lacks c.args.self.now c.args.session c.args.handle k.target _ k.node c.args.name.now (length c.args.bytes.now) (c.in-Err-set_value.ensures.space full))))
+    refl (λ space. (let full = c.lack_of.ensures space in (
+      c.in-Err-set_value.ensures.full (ap (λ f. Err f) full),
+      set-lacks c.args.self.now c.args.session c.args.handle k.target _ k.node c.args.name.now (length c.args.bytes.now) (c.in-Err-set_value.ensures.space full),
+    )))
