@@ -31,14 +31,14 @@ at_is_eqb : (k q : ℕ) → is_at (nat_cmp k) q ≡ eqb q k
 at_is_eqb k q = grind (arith, nat_tests)
 
 -- what is true of each handle's number is true of each row's
-pub rows_by : (P : ℕ → Type 0) (s : Slab OpenKey) (es : List (ℕ × Row)) → AllByRecursion (λ (h : Handle). P h.number) (handles_of s es) → AllByRecursion (λ (e : ℕ × Row). P e.0) es
+pub rows_by : {K : Type 0} (P : ℕ → Type 0) (s : Slab (OpenKey K)) (es : List (ℕ × Row)) → AllByRecursion (λ (h : Handle). P h.number) (handles_of s es) → AllByRecursion (λ (e : ℕ × Row). P e.0) es
 rows_by P s [] h = tt
 rows_by P s (e ∷ es) h = (h.0, rows_by P s es h.1)
 
-pub rows_below : (s : Slab OpenKey) (es : List (ℕ × Row)) (k : ℕ) → All (λ (h : Handle). h.number < k) (handles_of s es) → All (λ (e : ℕ × Row). e.0 < k) es
+pub rows_below : {K : Type 0} (s : Slab (OpenKey K)) (es : List (ℕ × Row)) (k : ℕ) → All (λ (h : Handle). h.number < k) (handles_of s es) → All (λ (e : ℕ × Row). e.0 < k) es
 rows_below s es k below = All-from_recursion _ es (rows_by (λ n. n < k) s es (recursion_from_All _ (handles_of s es) below))
 
-pub numbered-handles_of : (s : Slab OpenKey) (k : ℕ) (es : List (ℕ × Row)) → numbered k (handles_of s es) ≡ option_map (λ row. handle_of s (k, row)) (lookup (is_at (nat_cmp k)) es)
+pub numbered-handles_of : {K : Type 0} (s : Slab (OpenKey K)) (k : ℕ) (es : List (ℕ × Row)) → numbered k (handles_of s es) ≡ option_map (λ row. handle_of s (k, row)) (lookup (is_at (nat_cmp k)) es)
 numbered-handles_of s k [] = refl
 numbered-handles_of s k (e ∷ es) = by (eqb e.0 k) refl (numbered-handles_of s k es)
   where
@@ -49,13 +49,14 @@ numbered-handles_of s k (e ∷ es) = by (eqb e.0 k) refl (numbered-handles_of s 
 
 -- ---- a row taken out
 
-none_equal : (s : Slab OpenKey) (k : ℕ) (es : List (ℕ × Row)) → AllByRecursion (λ y. nat_cmp k y ≡ Less) (keys_of es) → closed k (handles_of s es) ≡ handles_of s es
+none_equal : {K : Type 0} (s : Slab (OpenKey K)) (k : ℕ) (es : List (ℕ × Row)) → AllByRecursion (λ y. nat_cmp k y ≡ Less) (keys_of es) → closed k (handles_of s es) ≡ handles_of s es
 none_equal s k [] above = refl
 none_equal s k (e ∷ es) above =
     let other : eqb e.0 k ≡ false = grind (arith, nat_tests, above.0) in
     rw other (ap (λ l. handle_of s e ∷ l) (none_equal s k es above.1))
 
-pub closed-handles_of : (s : Slab OpenKey) (k : ℕ) (es : List (ℕ × Row)) → IsStrictlySortedBy nat_cmp (keys_of es) → closed k (handles_of s es) ≡ handles_of s (remove_entry (is_at (nat_cmp k)) es)
+pub closed-handles_of : {K : Type 0} (s : Slab (OpenKey K)) (k : ℕ) (es : List (ℕ × Row)) → IsStrictlySortedBy nat_cmp (keys_of es) →
+    closed k (handles_of s es) ≡ handles_of s (remove_entry (is_at (nat_cmp k)) es)
 closed-handles_of s k [] rises = refl
 closed-handles_of s k (e ∷ es) rises = by (eqb e.0 k) refl (closed-handles_of s k es (sorted_tail nat_cmp e.0 (keys_of es) rises))
   where
@@ -89,7 +90,7 @@ pub some_more : (t : ℕ) (e : ℕ × Row) (es : List (ℕ × Row)) → 0 < time
 some_more t e es some = let more : times t es ≤ times t (e ∷ es) = times_more t e es in omega (arith, more, some)
 
 -- the handles stay where the destination of each row's key does
-pub handles_same : (s s' : Slab OpenKey) (es : List (ℕ × Row)) → ((t : ℕ) → 0 < times t es → destination_of (get s' t) ≡ destination_of (get s t)) → handles_of s' es ≡ handles_of s es
+pub handles_same : {K : Type 0} (s s' : Slab (OpenKey K)) (es : List (ℕ × Row)) → ((t : ℕ) → 0 < times t es → destination_of (get s' t) ≡ destination_of (get s t)) → handles_of s' es ≡ handles_of s es
 handles_same s s' [] same = refl
 handles_same s s' (e ∷ es) same =
     ap (λ p. record { number = e.0; session = e.1.session; mask = e.1.mask; destination = p } ∷ handles_of s' es) (same e.1.key (times_here e es))
@@ -122,16 +123,16 @@ pub times_taken : (t : ℕ) (k : ℕ) (es : List (ℕ × Row)) (row : Row) → l
 times_taken t k es row found = taken (λ r. cond (r.key == t) 1 0) (is_at (nat_cmp k)) es row found
 
 -- the handles of a session are counted among the rows
-of_session : (s : Slab OpenKey) (session : ℕ) (es : List (ℕ × Row)) → count_of session (handles_of s es) ≡ sum_by (λ (e : ℕ × Row). cond (e.1.session == session) 1 0) es
+of_session : {K : Type 0} (s : Slab (OpenKey K)) (session : ℕ) (es : List (ℕ × Row)) → count_of session (handles_of s es) ≡ sum_by (λ (e : ℕ × Row). cond (e.1.session == session) 1 0) es
 of_session s session [] = refl
 of_session s session (e ∷ es) =
     sum_by-cons (λ (h : Handle). cond (h.session == session) 1 0) (handle_of s e) (handles_of s es) ∙ ap (λ n. cond (e.1.session == session) 1 0 + n) (of_session s session es)
     ∙ sym (sum_by-cons (λ (e : ℕ × Row). cond (e.1.session == session) 1 0) e es)
 
-pub count_any : (s s' : Slab OpenKey) (session : ℕ) (es : List (ℕ × Row)) → count_of session (handles_of s' es) ≡ count_of session (handles_of s es)
+pub count_any : {K : Type 0} (s s' : Slab (OpenKey K)) (session : ℕ) (es : List (ℕ × Row)) → count_of session (handles_of s' es) ≡ count_of session (handles_of s es)
 count_any s s' session es = of_session s' session es ∙ sym (of_session s session es)
 
-pub count_taken : (s : Slab OpenKey) (session : ℕ) (k : ℕ) (es : List (ℕ × Row)) (row : Row) → lookup (is_at (nat_cmp k)) es ≡ Some row
+pub count_taken : {K : Type 0} (s : Slab (OpenKey K)) (session : ℕ) (k : ℕ) (es : List (ℕ × Row)) (row : Row) → lookup (is_at (nat_cmp k)) es ≡ Some row
     → count_of session (handles_of s (remove_entry (is_at (nat_cmp k)) es)) + cond (row.session == session) 1 0 ≡ count_of session (handles_of s es)
 count_taken s session k es row found =
     rw (of_session s session es, of_session s session (remove_entry (is_at (nat_cmp k)) es)) (taken (λ r. cond (r.session == session) 1 0) (is_at (nat_cmp k)) es row found)
@@ -158,7 +159,7 @@ pub counts_none : AreCounts (replicate SESSIONS_LIMIT 0) []
 counts_none = λ session small. get_or-replicate SESSIONS_LIMIT session 0 0 small
 
 -- the counts after the session of a row taken out was counted once less
-pub counts_taken : (counts : List ℕ) (s : Slab OpenKey) (k : ℕ) (es : List (ℕ × Row)) (row : Row) → length counts ≡ SESSIONS_LIMIT →
+pub counts_taken : {K : Type 0} (counts : List ℕ) (s : Slab (OpenKey K)) (k : ℕ) (es : List (ℕ × Row)) (row : Row) → length counts ≡ SESSIONS_LIMIT →
     AreCounts counts (handles_of s es) → lookup (is_at (nat_cmp k)) es ≡ Some row
     → AreCounts (set counts row.session (get_or counts row.session 0 - 1)) (handles_of s (remove_entry (is_at (nat_cmp k)) es))
 counts_taken counts s k es row long are found = λ session small. by session small (row.session == session) refl (count_taken s session k es row found)

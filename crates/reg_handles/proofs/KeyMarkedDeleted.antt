@@ -16,20 +16,20 @@ use Rattle.reg_handles.proofs.PathTextKeys.{same_path-texts}
 use Rattle.reg_handles.proofs.HandleList.{count_any}
 use Rattle.reg_handles.proofs.TableEntries.{open_destination, open_one}
 
-deleted_used : (o : Option OpenKey) (rows : ℕ) → IsUsed o rows → IsUsed (option_map without_key o) rows
+deleted_used : {K : Type 0} (o : Option (OpenKey K)) (rows : ℕ) → IsUsed o rows → IsUsed (option_map without_key o) rows
 deleted_used None rows used = used
 deleted_used (Some k) rows used = used
 
-deleted_destination : (o : Option OpenKey) → destination_of (option_map without_key o) ≡ Deleted
+deleted_destination : {K : Type 0} (o : Option (OpenKey K)) → destination_of (option_map without_key o) ≡ Deleted
 deleted_destination None = refl
 deleted_destination (Some k) = refl
 
-deleted_closed : (o : Option OpenKey) (text : List ℕ) → IsOpenAt (option_map without_key o) text → ⊥
+deleted_closed : {K : Type 0} (o : Option (OpenKey K)) (text : List ℕ) → IsOpenAt (option_map without_key o) text → ⊥
 deleted_closed None text is = is
 deleted_closed (Some k) text is = false≢true (sym is.1)
 
 -- a destination stays that is not the path's
-other_destination : (o : Option OpenKey) (p : List ℕ) → ¬ (IsOpenAt o p) → destination_of o ≡ destination_without (path_of p) (destination_of o)
+other_destination : {K : Type 0} (o : Option (OpenKey K)) (p : List ℕ) → ¬ (IsOpenAt o p) → destination_of o ≡ destination_without (path_of p) (destination_of o)
 other_destination None p apart = refl
 other_destination (Some k) p apart = by k.is_deleted refl (bytes_eq p k.path.items) refl
   where
@@ -46,10 +46,10 @@ is_leads : (o : Option ℕ) (q : ℕ) → o ≡ Some q → leads_to o q ≡ true
 is_leads None q e = absurd (cc)
 is_leads (Some k) q e = let same : k ≡ q = cc in grind (arith, nat_tests, same)
 
-module _ (s s' : Slab OpenKey) (paths paths' : List ℕ → Option ℕ) (p : List ℕ) (es : List (ℕ × Row)) (counts : List ℕ) (table : IsTable s paths es counts)
+module _ {K : Type 0} (s s' : Slab (OpenKey K)) (paths paths' : List ℕ → Option ℕ) (p : List ℕ) (es : List (ℕ × Row)) (counts : List ℕ) (table : IsTable s paths es counts)
     (slots : (q : ℕ) → get s' q ≡ cond (leads_to (paths p) q) (option_map without_key (get s q)) (get s q)) (freed : UpdatesPath paths p None paths') where
   -- the path's own key is known to be deleted, and each other key is as before
-  by_key : (P : ℕ → Option OpenKey → Type 0) → ((q : ℕ) → IsOpenAt (get s q) p → P q (option_map without_key (get s q))) →
+  by_key : (P : ℕ → Option (OpenKey K) → Type 0) → ((q : ℕ) → IsOpenAt (get s q) p → P q (option_map without_key (get s q))) →
       ((q : ℕ) → ¬ (IsOpenAt (get s q) p) → P q (get s q)) → (q : ℕ) → P q (get s' q)
   by_key P here there q = by (leads_to (paths p) q) refl
     where

@@ -4,6 +4,7 @@ pub mod KeyUsage
 pub mod HandleList
 pub mod LookUps
 pub mod TableEntries
+pub mod Payloads
 pub mod RowAdded
 pub mod RowRemoved
 pub mod KeyMarkedDeleted

@@ -14,7 +14,7 @@ use Rattle.reg_handles.specs.declared.keys.OpenKey.{OpenKey}
 use Rattle.reg_handles.specs.declared.rows.Row.{Row}
 use Rattle.reg_handles.proofs.HandleList.{numbered-handles_of}
 
-module _ (s : Slab OpenKey) (session number : ℕ) (es : List (ℕ × Row)) where
+module _ {K : Type 0} (s : Slab (OpenKey K)) (session number : ℕ) (es : List (ℕ × Row)) where
   told : (o : Option Row) → o ≡ lookup (is_at (nat_cmp number)) es → look session number (handles_of s es) ≡ owned session (option_map (λ row. handle_of s (number, row)) o)
   told o e = ap (owned session) (numbered-handles_of s number es ∙ ap (option_map (λ row. handle_of s (number, row))) (sym e))
 

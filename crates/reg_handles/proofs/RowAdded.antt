@@ -17,8 +17,8 @@ use Rattle.reg_handles.specs.declared.rows.Row.{Row}
 use Rattle.reg_handles.proofs.HandleList.{counts_push, times_push, handles_same}
 use Rattle.reg_handles.proofs.TableEntries.{at_each, rows_is, open_destination, open_one, open_some, used_some, used_open, same_key}
 
-module _ (s s' : Slab OpenKey) (paths paths' : List ℕ → Option ℕ) (es : List (ℕ × Row)) (counts : List ℕ) (number : ℕ) (row : Row) (path : List ℕ)
-    (table : IsTable s paths es counts) (held : IsHeld s s' paths paths' path row.key) where
+module _ {K : Type 0} (s s' : Slab (OpenKey K)) (paths paths' : List ℕ → Option ℕ) (es : List (ℕ × Row)) (counts : List ℕ) (number : ℕ) (row : Row) (path : List ℕ)
+    (payload : K) (table : IsTable s paths es counts) (held : IsHeld s s' paths paths' path payload row.key) where
   held_stays : handles_of s' es ≡ handles_of s es
   held_stays =
       handles_same s s' es (λ t some. at_each (λ q o. 0 < times q es → destination_of o ≡ destination_of (get s q)) s s' row.key (get s' row.key) refl held.others

@@ -1,5 +1,5 @@
 -- A table with a row less.
-use Rattle.std.proofs.Common.{◌≡◌, ◌≢◌, ℕ, ◌+◌, ◌-◌, ◌<◌, ◌==◌, Bool, true, false, cond, not, ◌&&◌, List, [], ◌∷◌, length, Option, Some, None, refl, sym, ap, subst, ◌∙◌, arith, set, get_or}
+use Rattle.std.proofs.Common.{◌≡◌, ◌≢◌, ℕ, ◌+◌, ◌-◌, ◌<◌, ◌==◌, Bool, true, false, cond, not, ◌&&◌, List, [], ◌∷◌, length, Option, Some, None, is_some, refl, sym, ap, subst, ◌∙◌, arith, set, get_or}
 use Rattle.std.specs.Prelude.{bytes_eq, IfSome}
 use Rattle.std.specs.List.{AllByRecursion}
 use Rattle.std.specs.List.Sorted.{IsStrictlySortedBy}
@@ -15,14 +15,17 @@ use Rattle.reg_model.specs.declared.limits.TheConstants.{SESSIONS_LIMIT}
 use Rattle.slab.specs.Slab.{Slab, get, Updates}
 use Rattle.reg_model.specs.Worlds.{closed}
 use Rattle.reg_model.specs.Causes.{handles_of as count_of}
-use Rattle.reg_handles.specs.Internal.OpenKeySlab.{rows_of, destination_of, is_freed, with_one_less, IsOpenAt}
+use Rattle.reg_names.specs.Names.{path_of}
+use Rattle.reg_handles.specs.HandleTables.{is_open}
+use Rattle.reg_handles.specs.Internal.OpenKeySlab.{rows_of, destination_of, is_freed, with_one_less, payload_of, payload_at, IsOpenAt}
 use Rattle.reg_handles.specs.Internal.HandleRows.{handles_of, times, AreCounts, IsUsed, IsTable}
 use Rattle.reg_handles.specs.declared.keys.OpenKey.{OpenKey}
 use Rattle.reg_handles.specs.declared.rows.Row.{Row}
 use Rattle.reg_handles.proofs.HandleList.{counts_taken, count_taken, times_taken, handles_same, closed-handles_of}
 use Rattle.reg_handles.proofs.TableEntries.{at_each, rows_is, same_key}
+use Rattle.reg_handles.proofs.Payloads.{open_paths}
 
-one_less : (o : Option OpenKey) (n m : ℕ) → IsUsed o n → m + 1 ≡ n → IsUsed (with_one_less o) m
+one_less : {K : Type 0} (o : Option (OpenKey K)) (n m : ℕ) → IsUsed o n → m + 1 ≡ n → IsUsed (with_one_less o) m
 one_less None n m e less = absurd (omega (arith, e, less))
 one_less (Some k) n m e less = by (k.rows == 1) refl
   where
@@ -30,12 +33,12 @@ one_less (Some k) n m e less = by (k.rows == 1) refl
     by true is = let one : k.rows ≡ 1 = grind (arith, nat_tests) in rw is (omega (arith, one, e.0, less))
     by false is = rw is (omega (arith, e.0, less), grind (arith, nat_tests, e.0, e.1, less, is), e.2)
 
-less_destination : (o : Option OpenKey) (n m : ℕ) → IsUsed o n → m + 1 ≡ n → 0 < m → destination_of (with_one_less o) ≡ destination_of o
+less_destination : {K : Type 0} (o : Option (OpenKey K)) (n m : ℕ) → IsUsed o n → m + 1 ≡ n → 0 < m → destination_of (with_one_less o) ≡ destination_of o
 less_destination None n m e less some = refl
 less_destination (Some k) n m e less some = let more : (k.rows == 1) ≡ false = grind (arith, nat_tests, e.0, less, some) in rw more refl
 
 -- a key that stood open and whose path was not freed stands open with one row less
-open_less : (o : Option OpenKey) (text : List ℕ) → IsOpenAt o text → is_freed o text ≡ false → IsOpenAt (with_one_less o) text
+open_less : {K : Type 0} (o : Option (OpenKey K)) (text : List ℕ) → IsOpenAt o text → is_freed o text ≡ false → IsOpenAt (with_one_less o) text
 open_less None text is free = absurd is
 open_less (Some k) text is free = by (k.rows == 1) refl
   where
@@ -44,7 +47,7 @@ open_less (Some k) text is free = by (k.rows == 1) refl
     by false e = rw e is
 
 -- a key that stands open with one row less stood open, and its path was not freed
-open_more : (o : Option OpenKey) (text : List ℕ) → IsOpenAt (with_one_less o) text → IsOpenAt o text × (is_freed o text ≡ false)
+open_more : {K : Type 0} (o : Option (OpenKey K)) (text : List ℕ) → IsOpenAt (with_one_less o) text → IsOpenAt o text × (is_freed o text ≡ false)
 open_more None text is = absurd is
 open_more (Some k) text is = by (k.rows == 1) refl
   where
@@ -53,7 +56,7 @@ open_more (Some k) text is = by (k.rows == 1) refl
     by false e = let was : IsOpenAt (Some k) text = rw e at is in (was, rw e refl)
 
 -- a path that was freed was its key's
-freed_open : (o : Option OpenKey) (text : List ℕ) → is_freed o text ≡ true → IsOpenAt o text
+freed_open : {K : Type 0} (o : Option (OpenKey K)) (text : List ℕ) → is_freed o text ≡ true → IsOpenAt o text
 freed_open None text e = absurd (false≢true e)
 freed_open (Some k) text e = by (k.rows == 1) k.is_deleted refl e
   where
@@ -76,7 +79,7 @@ fit_found : (o : Option Row) (row : Row) → o ≡ Some row → IfSome o (λ r. 
 fit_found None row e fit = absurd (cc)
 fit_found (Some r) row e fit = let same : r ≡ row = cc in subst (λ (x : Row). x.session < SESSIONS_LIMIT) same fit
 
-module _ (s : Slab OpenKey) (paths : List ℕ → Option ℕ) (es : List (ℕ × Row)) (counts : List ℕ) (number : ℕ) (row : Row)
+module _ {K : Type 0} (s : Slab (OpenKey K)) (paths : List ℕ → Option ℕ) (es : List (ℕ × Row)) (counts : List ℕ) (number : ℕ) (row : Row)
     (table : IsTable s paths es counts) (found : lookup (is_at (nat_cmp number)) es ≡ Some row) where
   fewer : times row.key (remove_entry (is_at (nat_cmp number)) es) + 1 ≡ times row.key es
   fewer = let same : (row.key == row.key) ≡ true = grind (arith, nat_tests) in
@@ -98,7 +101,7 @@ module _ (s : Slab OpenKey) (paths : List ℕ → Option ℕ) (es : List (ℕ ×
       ap (λ b. count_of row.session (handles_of s (remove_entry (is_at (nat_cmp number)) es)) + cond b 1 0) (sym same) ∙ count_taken s row.session number es row found in
       omega (arith, is, one)
 
-  module _ (s' : Slab OpenKey) (paths' : List ℕ → Option ℕ) (slots : Updates s s' row.key (with_one_less (get s row.key))) (freed : (text : List ℕ) →
+  module _ (s' : Slab (OpenKey K)) (paths' : List ℕ → Option ℕ) (slots : Updates s s' row.key (with_one_less (get s row.key))) (freed : (text : List ℕ) →
       paths' text ≡ cond (is_freed (get s row.key) text) None (paths text)) where
     same_times : (q : ℕ) → q ≢ row.key → times q es ≡ times q (remove_entry (is_at (nat_cmp number)) es)
     same_times q apart =
@@ -153,3 +156,35 @@ module _ (s : Slab OpenKey) (paths : List ℕ → Option ℕ) (es : List (ℕ ×
     taken_to es' session are own long =
         subst (λ l. IsTable s' paths' l (set counts session (get_or counts session 0 - 1))) (sym are)
         (subst (λ own. IsTable s' paths' (remove_entry (is_at (nat_cmp number)) es) (set counts own (get_or counts own 0 - 1))) own (taken_table long))
+
+    -- what is kept for a path stays while handles lead there
+    module _ (text : List ℕ) where
+      less_payload : (o : Option (OpenKey K)) → IsOpenAt o text → is_freed o text ≡ false → payload_of (with_one_less o) ≡ payload_of o
+      less_payload None is free = refl
+      less_payload (Some k) is free = by (k.rows == 1) refl
+        where
+          by : (b : Bool) → (k.rows == 1) ≡ b → payload_of (with_one_less (Some k)) ≡ payload_of (Some k)
+          by true e = absurd (false≢true (sym free ∙ rw (e, is.1) ((bytes_decides k.path.items text).1 is.0)))
+          by false e = rw e refl
+
+      taken_kept : is_some (payload_at s' (paths' text)) ≡ true → payload_at s' (paths' text) ≡ payload_at s (paths text)
+      taken_kept some = ap (payload_at s') (freed text) ∙ by (is_freed (get s row.key) text) refl (paths text) refl
+        where
+          by : (b : Bool) → is_freed (get s row.key) text ≡ b → (o : Option ℕ) → paths text ≡ o → payload_at s' (cond b None o) ≡ payload_at s o
+          by true e o at = absurd (false≢true (sym (ap (λ (x : Option ℕ). is_some (payload_at s' x)) (freed text ∙ cond-true _ _ _ e)) ∙ some))
+          by false e None at = refl
+          by false e (Some q) at =
+              at_each (λ q o. IsOpenAt (get s q) text → payload_of o ≡ payload_of (get s q)) s s' row.key _ slots.changed slots.others
+              (λ here. less_payload (get s row.key) here e) (λ q apart here. refl) q (table.found text q at)
+
+      by_open : (b : Bool) → is_some (payload_at s' (paths' text)) ≡ b → payload_at s' (paths' text) ≡ cond b (payload_at s (paths text)) None
+      by_open true some = taken_kept some
+      by_open false none = none_is (payload_at s' (paths' text)) none
+        where
+          none_is : (o : Option K) → is_some o ≡ false → o ≡ None
+          none_is None e = refl
+          none_is (Some k) e = absurd (false≢true (sym e))
+
+    pub taken_payloads : (es' : List (ℕ × Row)) (session : ℕ) → es' ≡ remove_entry (is_at (nat_cmp number)) es → row.session ≡ session → length counts ≡ SESSIONS_LIMIT → (text : List ℕ) →
+        payload_at s' (paths' text) ≡ cond (is_open (path_of text) (handles_of s' es')) (payload_at s (paths text)) None
+    taken_payloads es' session are own long text = by_open text _ (open_paths s' paths' es' _ (taken_to es' session are own long) text)

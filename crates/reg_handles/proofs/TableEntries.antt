@@ -15,7 +15,7 @@ use Rattle.reg_handles.proofs.HandleList.{counts_none}
 -- ---- what is true at each key
 
 -- what is true at the key that was changed, and at each other one of what it was, is true at each
-pub at_each : (P : ℕ → Option OpenKey → Type 0) (s s' : Slab OpenKey) (key : ℕ) (slot : Option OpenKey) → get s' key ≡ slot →
+pub at_each : {K : Type 0} (P : ℕ → Option (OpenKey K) → Type 0) (s s' : Slab (OpenKey K)) (key : ℕ) (slot : Option (OpenKey K)) → get s' key ≡ slot →
     ((q : ℕ) → q ≢ key → get s' q ≡ get s q) → P key slot → ((q : ℕ) → q ≢ key → P q (get s q)) → (q : ℕ) → P q (get s' q)
 at_each P s s' key slot changed others here other q = by (q == key) refl
   where
@@ -27,17 +27,18 @@ at_each P s s' key slot changed others here other q = by (q == key) refl
         let apart : q ≢ key = grind (arith, nat_tests) in
         subst (P q) (sym (others q apart)) (other q apart)
 
-pub rows_is : (o : Option OpenKey) (n : ℕ) → IsUsed o n → rows_of o ≡ n
+pub rows_is : {K : Type 0} (o : Option (OpenKey K)) (n : ℕ) → IsUsed o n → rows_of o ≡ n
 rows_is None n e = sym e
 rows_is (Some k) n e = e.0
 
-pub open_destination : (o : Option OpenKey) (text : List ℕ) → IsOpenAt o text → destination_of o ≡ At (path_of text)
+pub open_destination : {K : Type 0} (o : Option (OpenKey K)) (text : List ℕ) → IsOpenAt o text → destination_of o ≡ At (path_of text)
 open_destination None text is = absurd is
 open_destination (Some k) text is = rw (is.1, is.0) refl
 
 -- ---- no rows
 
-pub none_table : (s : Slab OpenKey) (paths : List ℕ → Option ℕ) → ((key : ℕ) → get s key ≡ None) → ((text : List ℕ) → paths text ≡ None) → IsTable s paths [] (replicate SESSIONS_LIMIT 0)
+pub none_table : {K : Type 0} (s : Slab (OpenKey K)) (paths : List ℕ → Option ℕ) → ((key : ℕ) → get s key ≡ None) → ((text : List ℕ) → paths text ≡ None) →
+    IsTable s paths [] (replicate SESSIONS_LIMIT 0)
 none_table s paths none empty = record {
   counts = counts_none;
   keys = λ key. subst (λ o. IsUsed o 0) (sym (none key)) refl;
@@ -48,19 +49,19 @@ none_table s paths none empty = record {
 
 -- ---- keys that stand open
 
-pub open_one : (o : Option OpenKey) (a b : List ℕ) → IsOpenAt o a → IsOpenAt o b → a ≡ b
+pub open_one : {K : Type 0} (o : Option (OpenKey K)) (a b : List ℕ) → IsOpenAt o a → IsOpenAt o b → a ≡ b
 open_one None a b is also = absurd is
 open_one (Some k) a b is also = sym is.0 ∙ also.0
 
-pub open_some : (o : Option OpenKey) (text : List ℕ) → IsOpenAt o text → (k : OpenKey) × (o ≡ Some k)
+pub open_some : {K : Type 0} (o : Option (OpenKey K)) (text : List ℕ) → IsOpenAt o text → (k : OpenKey K) × (o ≡ Some k)
 open_some None text is = absurd is
 open_some (Some k) text is = (k, refl)
 
-pub used_some : (o : Option OpenKey) (rows : ℕ) → IsUsed o rows → 0 < rows → (k : OpenKey) × (o ≡ Some k)
+pub used_some : {K : Type 0} (o : Option (OpenKey K)) (rows : ℕ) → IsUsed o rows → 0 < rows → (k : OpenKey K) × (o ≡ Some k)
 used_some None rows used some = absurd (omega (arith, used, some))
 used_some (Some k) rows used some = (k, refl)
 
-pub used_open : (o : Option OpenKey) (text : List ℕ) (rows : ℕ) → IsOpenAt o text → rows_of o ≡ rows → 0 < rows → IsFoldedPath text → IsUsed o rows
+pub used_open : {K : Type 0} (o : Option (OpenKey K)) (text : List ℕ) (rows : ℕ) → IsOpenAt o text → rows_of o ≡ rows → 0 < rows → IsFoldedPath text → IsUsed o rows
 used_open None text rows is count some folded = absurd is
 used_open (Some k) text rows is count some folded = (count, some, subst IsFoldedPath (sym is.0) folded)
 

@@ -1,13 +1,41 @@
 -- What callers see of a table of handles.
-use Rattle.std.specs.Prelude.{◌≡◌, ℕ, true, List, map, Option, Some, None, refl}
+use Rattle.std.specs.Prelude.{◌≡◌, ℕ, Bool, true, false, ◌||◌, List, [], ◌∷◌, map, Option, Some, None, refl}
+use Rattle.std.specs.Ordering.{nat_cmp}
+use Rattle.std.specs.Cmp.Lexicographic.{slice_cmp}
+use Rattle.std.specs.BTreeMap.{is_at}
+use Rattle.std.specs.Map.{lookup}
 use Rattle.std.specs.Coded.{Coded, code_by, coded×, coded_ℕ, coded_list, coded_option}
 use Rattle.reg_names.specs.Names.{folded, path_of, is_path}
 use Rattle.reg_heap.specs.Paths.{Path, coded_bytes}
-use Rattle.reg_model.specs.Worlds.{Handle, Destination, At, Deleted}
+use Rattle.reg_model.specs.Worlds.{Handle, Destination, At, Deleted, same_path}
 
--- the open handles in the order of their numbers
-pub record Table : Type 0 where
+-- the open handles in the order of their numbers; and the paths that they lead to, as texts, each with what its caller keeps for it
+pub record Table (K : Type 0) : Type 0 where
   pub handles : List Handle
+  pub payloads : List (List ℕ × Option K)
+
+abbrev pub joined : {K : Type 0} → Option (Option K) → Option K
+joined None = None
+joined (Some o) = o
+
+-- what is kept for the path of that text
+abbrev pub payload_on : {K : Type 0} → Table K → List ℕ → Option K
+payload_on t text = joined (lookup (is_at (slice_cmp nat_cmp text)) t.payloads)
+
+-- the destination is that path
+abbrev pub leads : Path → Destination → Bool
+leads p (At q) = same_path q p
+leads p Deleted = false
+
+-- the handle, if there is one, leads to that path
+abbrev pub leads_there : Path → Option Handle → Bool
+leads_there p None = false
+leads_there p (Some h) = leads p h.destination
+
+-- one of the handles leads to that path
+abbrev pub is_open : Path → List Handle → Bool
+is_open p [] = false
+is_open p (h ∷ hs) = leads p h.destination || is_open p hs
 
 -- a text that is a path, as folded names
 pub record IsFoldedPath (text : List ℕ) : Type 0 where
@@ -36,5 +64,7 @@ coded_handle =
     (λ h. ((h.number, h.session), (h.mask, h.destination)))
     (λ p. record { number = p.0.0; session = p.0.1; mask = p.1.0; destination = p.1.1 }) (λ _. refl)
 
-abbrev pub coded_table : Coded Table
-coded_table = code_by (List Handle) (coded_list coded_handle) (λ t. t.handles) (λ hs. record { handles = hs }) (λ _. refl)
+abbrev pub coded_table : {K : Type 0} → Coded K → Coded (Table K)
+coded_table {K} code =
+    code_by (List Handle × List (List ℕ × Option K)) (coded× (coded_list coded_handle) (coded_list (coded× coded_bytes (coded_option code))))
+    (λ t. (t.handles, t.payloads)) (λ p. record { handles = p.0; payloads = p.1 }) (λ _. refl)

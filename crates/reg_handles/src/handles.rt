@@ -1,13 +1,14 @@
 //! The open handles by their numbers.
-ghost use Rattle.std.specs.Prelude.{◌≡◌, ◌<◌, ◌++◌, ◌∷◌, [], OnOk, OnErr, All, length, map, is_some, true};
+ghost use Rattle.std.specs.Prelude.{◌≡◌, ◌<◌, ◌++◌, ◌∷◌, ℕ, List, [], Some, None, OnOk, OnErr, All, length, map, is_some, true};
+ghost use Rattle.std.specs.Prelude.{bytes_eq, unwrap_or, if◌then◌else◌};
 ghost use Rattle.reg_names.specs.Names.{folded as folded_name, path_of, is_path};
 ghost use Rattle.reg_model.specs.declared.limits.TheConstants.{HANDLES_LIMIT};
-ghost use Rattle.reg_model.specs.Worlds.{look, closed, turned, At};
+ghost use Rattle.reg_model.specs.Worlds.{look, numbered, closed, turned, At};
 ghost use Rattle.reg_model.specs.Causes.{handles_of as count_of};
-ghost use Rattle.reg_handles.specs.FoundHandles.{shown, IfLeads};
-ghost use Rattle.reg_handles.specs.HandleTables.{IsFoldedPath};
+ghost use Rattle.reg_handles.specs.FoundHandles.{shown, IfLeads, HasPayload};
+ghost use Rattle.reg_handles.specs.HandleTables.{IsFoldedPath, payload_on, leads_there, is_open};
 
-use crate::keys::OpenKeys;
+use crate::keys::{OpenKeys, Target};
 use crate::rows::{Row, Rows};
 use reg_model::limits::SESSIONS_LIMIT;
 use std::alloc::{AllocError, Global};
@@ -15,41 +16,46 @@ use std::marker::Model;
 
 /// A handle that was found.
 #[derive(Clone, Copy)]
-pub struct Found<'a> {
+pub struct Found<'a, K> {
     /// Its rights.
     pub mask: u32,
-    /// The folded path of its key as text, or `None` where that key was deleted.
-    pub path: Option<&'a [u8]>,
+    /// The key that it leads to, or `None` where that key was deleted.
+    pub target: Option<Target<'a, K>>,
 }
 
-/// The open handles of a hive by number, with the keys that they lead to and a count for each session.
+/// The open handles of a hive by number, with the keys that they lead to and a count for each session. For each path that handles
+/// lead to it keeps a payload of its owner's, and hands it back.
 #[derive(Drop)]
-pub struct Handles {
+pub struct Handles<K> {
     rows: Rows,
-    keys: OpenKeys,
+    keys: OpenKeys<K>,
     counts: [u32; SESSIONS_LIMIT],
 }
 
-impl Model for Handles {
+impl<K> Model for Handles<K> {
     ghost use Rattle.reg_handles.specs.HandleTables.{Table, coded_table};
 
-    ghost Value = { Table };
+    ghost Value = { Table K };
 
-    ghost coded = { coded_table };
+    ghost coded = { coded_table K.code };
 
     ghost use Rattle.reg_handles.specs.Internal.OrderedRows.{ordered};
-    ghost use Rattle.reg_handles.specs.Internal.OpenKeySlab.{key_at};
+    ghost use Rattle.reg_handles.specs.Internal.OpenKeySlab.{key_at, payloads_of};
     ghost use Rattle.reg_handles.specs.Internal.HandleRows.{handles_of, IsTable};
 
-    ghost view = { λ h. record { handles = handles_of h.keys.slots (ordered h.rows.by_number.entries) } };
+    ghost view = { λ h. record {
+      handles = handles_of h.keys.slots (ordered h.rows.by_number.entries);
+      payloads = payloads_of h.keys.slots h.keys.by_path.entries;
+    } };
 
     ghost invariant = { λ h. IsTable h.keys.slots (key_at h.keys.by_path.entries) (ordered h.rows.by_number.entries) h.counts };
 }
 
-impl Handles {
+impl<K: Copy> Handles<K> {
     /// A table with no handle.
-    pub fn new(alloc: Global) -> Handles
-        ensures { result.handles ≡ [] }
+    pub fn new(alloc: Global) -> Handles<K>
+        ensures handles { result.handles ≡ [] }
+        ensures payloads { (text : List ℕ) → payload_on result text ≡ None }
     {
         Handles {
             rows: Rows::new(alloc),
@@ -58,9 +64,10 @@ impl Handles {
         }
     }
 
-    /// How many handles are open.
+    /// How many handles are open. It also tells (clause `payloads`) that a payload is kept for just the paths that handles lead to.
     pub fn len(&self) -> usize
-        ensures { result ≡ length self.now.handles }
+        ensures len { result ≡ length self.now.handles }
+        ensures payloads { (text : List ℕ) → is_some (payload_on self.now text) ≡ is_open (path_of text) self.now.handles }
     {
         self.rows.len()
     }
@@ -73,28 +80,31 @@ impl Handles {
         self.counts[session as usize]
     }
 
-    /// Finds the handle of that number, if it is the session's. Lends the folded path of its key as text, or `None` where the
-    /// key was deleted.
-    pub fn look(&self, session: u8, number: u64) -> Option<Found<'_>>
+    /// Finds the handle of that number, if it is the session's. Lends the folded path of its key as text, with its payload, or
+    /// `None` where the key was deleted.
+    pub fn look(&self, session: u8, number: u64) -> Option<Found<'_, K>>
         ensures handle { shown session number result ≡ look session number self.now.handles }
         ensures path { IfLeads result IsFoldedPath }
+        ensures payload { HasPayload self.now result }
     {
         match self.rows.get(number) {
             Some(row) if row.session == session => Some(Found {
                 mask: row.mask,
-                path: self.keys.path(row.key),
+                target: self.keys.target(row.key),
             }),
             _ => None,
         }
     }
 
-    /// Adds a handle to the key at a path under a number above all others. Where memory is short, the table is as before.
+    /// Adds a handle to the key at a path under a number above all others. A path that handles lead to keeps its payload, and any
+    /// other one gets this. Where memory is short, the table is as before.
     pub fn add(
         &mut self,
         session: u8,
         number: u64,
         mask: u32,
         path: Vec<u8>,
+        payload: K,
     ) -> Result<(), AllocError>
         requires above { All (λ h. h.number < number) self.old.handles }
         requires session { session < SESSIONS_LIMIT }
@@ -104,23 +114,40 @@ impl Handles {
         ensures ok { OnOk result
             (self.new.handles ≡ self.old.handles
             ++ record { number = number; session = session; mask = mask; destination = At (path_of path.items) } ∷ []) }
+        ensures payloads { OnOk result ((text : List ℕ) →
+            payload_on self.new text ≡
+            (if bytes_eq path.items text then Some (unwrap_or (payload_on self.old path.items) payload) else payload_on self.old text)) }
         ensures err { OnErr result (self.new ≡ self.old) }
     {
         // A key has no more rows than the table, so that its count has room for one more.
         let rows = self.rows.len();
         prove!(rows < usize::MAX);
         self.rows.reserve()?;
-        let key = self.keys.hold(path)?;
+        let key = self.keys.hold(path, payload)?;
         let row = Row { session, mask, key };
         self.rows.push(number, row);
         self.counts[session as usize] += 1;
         Ok(())
     }
 
-    /// Closes a handle of the session, which has it.
+    /// Keeps another payload for the path that a handle leads to, if it leads to one.
+    pub fn set_payload(&mut self, number: u64, payload: K)
+        ensures handles { self.new.handles ≡ self.old.handles }
+        ensures payloads { (text : List ℕ) →
+            payload_on self.new text ≡
+            (if leads_there (path_of text) (numbered number self.old.handles) then Some payload else payload_on self.old text) }
+    {
+        if let Some(row) = self.rows.get(number) {
+            self.keys.set_payload(row.key, payload);
+        }
+    }
+
+    /// Closes a handle of the session, which has it. A path's payload goes with the last handle that leads there.
     pub fn close(&mut self, session: u8, number: u64)
         requires { is_some (look session number self.old.handles) ≡ true }
-        ensures { self.new.handles ≡ closed number self.old.handles }
+        ensures handles { self.new.handles ≡ closed number self.old.handles }
+        ensures payloads { (text : List ℕ) →
+            payload_on self.new text ≡ (if is_open (path_of text) self.new.handles then payload_on self.old text else None) }
     {
         if let Some(row) = self.rows.remove(number) {
             self.keys.release(row.key);
@@ -128,9 +155,10 @@ impl Handles {
         }
     }
 
-    /// The key at a path was deleted: the handles on it lead nowhere any more.
+    /// The key at a path was deleted: the handles on it lead nowhere any more, and its payload is gone.
     pub fn mark_deleted(&mut self, path: &[u8])
-        ensures { self.new.handles ≡ turned (path_of path.now) self.old.handles }
+        ensures handles { self.new.handles ≡ turned (path_of path.now) self.old.handles }
+        ensures payloads { (text : List ℕ) → payload_on self.new text ≡ (if bytes_eq path.now text then None else payload_on self.old text) }
     {
         self.keys.mark_deleted(path);
     }

@@ -2,31 +2,42 @@
 ghost use Rattle.std.specs.Prelude.{◌≡◌, ◌+◌, ◌^◌, ◌<◌, List, [], ℕ, None, Some, OnErr, IfOk, if◌then◌else◌, IfSome, option_map, false};
 ghost use Rattle.slab.specs.Slab.{get, Updates};
 ghost use Rattle.reg_handles.specs.FoundHandles.{destination_shown};
-ghost use Rattle.reg_handles.specs.Internal.OpenKeySlab.{key_at, rows_of, destination_of, is_freed, leads_to, with_one_more, with_one_less, without_key};
-ghost use Rattle.reg_handles.specs.Internal.OpenKeySlab.{UpdatesPath, IsHeld, IsOpenAt};
+ghost use Rattle.reg_handles.specs.Internal.OpenKeySlab.{key_at, rows_of, destination_of, is_freed, leads_to, with_one_more, with_one_less};
+ghost use Rattle.reg_handles.specs.Internal.OpenKeySlab.{with_payload, without_key, payload_of, UpdatesPath, IsHeld, IsOpenAt};
 
 use slab::Slab;
 use std::alloc::{AllocError, Global};
 use std::collections::BTreeMap;
 
-/// A key that handles lead to: its folded path as text, how many rows have it, and whether it was deleted.
+/// The key that a handle leads to.
+#[derive(Clone, Copy)]
+pub struct Target<'a, K> {
+    /// Its folded path as text.
+    pub path: &'a [u8],
+    /// What the table's owner keeps for it.
+    pub payload: K,
+}
+
+/// A key that handles lead to: its folded path as text, what the table's owner keeps for it, how many rows have it, and whether it
+/// was deleted.
 #[derive(Drop)]
-pub struct OpenKey {
+pub struct OpenKey<K> {
     pub path: Vec<u8>,
+    pub payload: K,
     pub rows: u64,
     pub is_deleted: bool,
 }
 
 /// The keys with rows, in a slab, and where each key stands there that was not deleted, by its path's text.
 #[derive(Drop)]
-pub struct OpenKeys {
-    slots: Slab<OpenKey>,
+pub struct OpenKeys<K> {
+    slots: Slab<OpenKey<K>>,
     by_path: BTreeMap<Vec<u8>, usize>,
 }
 
-impl OpenKeys {
+impl<K: Copy> OpenKeys<K> {
     /// No keys.
-    pub fn new(alloc: Global) -> OpenKeys
+    pub fn new(alloc: Global) -> OpenKeys<K>
         ensures slots { (key : ℕ) → get result.slots key ≡ None }
         ensures paths { (text : List ℕ) → key_at result.by_path.entries text ≡ None }
     {
@@ -36,23 +47,27 @@ impl OpenKeys {
         }
     }
 
-    /// The path of a key as text, or `None` where the key was deleted.
-    pub fn path(&self, key: usize) -> Option<&[u8]>
+    /// A key with its path as text, or `None` where the key was deleted.
+    pub fn target(&self, key: usize) -> Option<Target<'_, K>>
         ensures destination { destination_shown result ≡ destination_of (get self.now.slots key) }
-        ensures text { IfSome result (λ path. IsOpenAt (get self.now.slots key) path.now) }
+        ensures text { IfSome result (λ target. IsOpenAt (get self.now.slots key) target.path.now) }
+        ensures payload { IfSome result (λ target. payload_of (get self.now.slots key) ≡ Some target.payload) }
     {
         match self.slots.get(key) {
-            Some(held) if !held.is_deleted => Some(held.path.as_slice()),
+            Some(held) if !held.is_deleted => Some(Target {
+                path: held.path.as_slice(),
+                payload: held.payload,
+            }),
             _ => None,
         }
     }
 
-    /// Counts one row more of the key at a path, which a first row brings. Answers where the key stands. Where memory is
-    /// short, no key has changed.
-    pub fn hold(&mut self, path: Vec<u8>) -> Result<usize, AllocError>
+    /// Counts one row more of the key at a path, which a first row brings with that payload; a key that stands keeps its own.
+    /// Answers where the key stands. Where memory is short, no key has changed.
+    pub fn hold(&mut self, path: Vec<u8>, payload: K) -> Result<usize, AllocError>
         requires found { (text : List ℕ) (key : ℕ) → key_at self.old.by_path.entries text ≡ Some key → IsOpenAt (get self.old.slots key) text }
         requires room { (key : ℕ) → rows_of (get self.old.slots key) + 1 < 2 ^ 64 }
-        ensures ok { IfOk result (IsHeld self.old.slots self.new.slots (key_at self.old.by_path.entries) (key_at self.new.by_path.entries) path.items) }
+        ensures ok { IfOk result (IsHeld self.old.slots self.new.slots (key_at self.old.by_path.entries) (key_at self.new.by_path.entries) path.items payload) }
         ensures slots { OnErr result (self.new.slots.slots ≡ self.old.slots.slots) }
         ensures paths { OnErr result (self.new.by_path.entries ≡ self.old.by_path.entries) }
     {
@@ -61,7 +76,7 @@ impl OpenKeys {
                 self.count_up(key);
                 Ok(key)
             }
-            None => self.push(path),
+            None => self.push(path, payload),
         }
     }
 
@@ -76,9 +91,10 @@ impl OpenKeys {
     }
 
     /// Brings the key at a path, with one row. Where memory is short, no key has changed.
-    fn push(&mut self, path: Vec<u8>) -> Result<usize, AllocError>
+    fn push(&mut self, path: Vec<u8>, payload: K) -> Result<usize, AllocError>
         ensures vacant { IfOk result (λ key. get self.old.slots key ≡ None) }
-        ensures slots { IfOk result (λ key. Updates self.old.slots self.new.slots key (Some (record { path = path; rows = 1; is_deleted = false }))) }
+        ensures slots { IfOk result (λ key. Updates self.old.slots self.new.slots key
+            (Some (record { path = path; payload = payload; rows = 1; is_deleted = false }))) }
         ensures paths { IfOk result (λ key. UpdatesPath (key_at self.old.by_path.entries) path.items (Some key) (key_at self.new.by_path.entries)) }
         ensures slots_stay { OnErr result (self.new.slots.slots ≡ self.old.slots.slots) }
         ensures paths_stay { OnErr result (self.new.by_path.entries ≡ self.old.by_path.entries) }
@@ -90,6 +106,7 @@ impl OpenKeys {
             Ok(_) => {
                 self.slots.insert_reserved(OpenKey {
                     path,
+                    payload,
                     rows: 1,
                     is_deleted: false,
                 });
@@ -107,6 +124,16 @@ impl OpenKeys {
     {
         if let Some(held) = self.slots.get_mut(key) {
             held.rows += 1;
+        }
+    }
+
+    /// Keeps another payload for a key.
+    pub fn set_payload(&mut self, key: usize, payload: K)
+        ensures slots { Updates self.old.slots self.new.slots key (option_map (with_payload payload) (get self.old.slots key)) }
+        ensures paths { self.new.by_path.entries ≡ self.old.by_path.entries }
+    {
+        if let Some(held) = self.slots.get_mut(key) {
+            held.payload = payload;
         }
     }
 

@@ -9,10 +9,10 @@ use Rattle.reg_handles.specs.Internal.OpenKeySlab.{destination_of, IsOpenAt}
 use Rattle.reg_handles.specs.declared.keys.OpenKey.{OpenKey}
 use Rattle.reg_handles.specs.declared.rows.Row.{Row}
 
-abbrev pub handle_of : Slab OpenKey → ℕ × Row → Handle
+abbrev pub handle_of : {K : Type 0} → Slab (OpenKey K) → ℕ × Row → Handle
 handle_of s e = record { number = e.0; session = e.1.session; mask = e.1.mask; destination = destination_of (get s e.1.key) }
 
-abbrev pub handles_of : Slab OpenKey → List (ℕ × Row) → List Handle
+abbrev pub handles_of : {K : Type 0} → Slab (OpenKey K) → List (ℕ × Row) → List Handle
 handles_of s es = map (handle_of s) es
 
 -- how many rows have the key
@@ -24,13 +24,13 @@ abbrev pub AreCounts : List ℕ → List Handle → Type 0
 AreCounts counts handles = (session : ℕ) → session < SESSIONS_LIMIT → slice_index counts session ≡ count_of session handles
 
 -- a key stands there exactly where it has rows; it says how many, and its path is a folded one
-abbrev pub IsUsed : Option OpenKey → ℕ → Type 0
+abbrev pub IsUsed : {K : Type 0} → Option (OpenKey K) → ℕ → Type 0
 IsUsed None rows = rows ≡ 0
 IsUsed (Some k) rows = (k.rows ≡ rows) × (0 < rows) × IsFoldedPath k.path.items
 
 -- the counts and the keys are those of the rows, the map has the paths of the keys that were not deleted, and each row is of one
 -- of the 64 sessions
-pub record IsTable (s : Slab OpenKey) (paths : List ℕ → Option ℕ) (es : List (ℕ × Row)) (by_session : List ℕ) : Type 0 where
+pub record IsTable {K : Type 0} (s : Slab (OpenKey K)) (paths : List ℕ → Option ℕ) (es : List (ℕ × Row)) (by_session : List ℕ) : Type 0 where
   pub counts : AreCounts by_session (handles_of s es)
   pub keys : (key : ℕ) → IsUsed (get s key) (times key es)
   pub found : (text : List ℕ) (key : ℕ) → paths text ≡ Some key → IsOpenAt (get s key) text

@@ -6,7 +6,7 @@ use Rattle.reg_handles.proofs.KeyUsage.{freed}
 use Rattle.reg_handles.proofs.keys.OpenKeys.remove.Goals as goal
 
 pub returns-then-not-held-clause-paths : goal.returns-then-not-held-clause-paths
-returns-then-not-held-clause-paths c =
+returns-then-not-held-clause-paths g c =
     let before = key_at c.args.self.now.by_path.entries in
     let after = key_at c.remove.new.self.entries in
     let paths = updated c.as_slice.result.now c.args.self.now.by_path c.remove.new.self None c.remove.ensures.updates in
