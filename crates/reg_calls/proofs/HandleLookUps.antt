@@ -1,39 +1,41 @@
 -- What a look-up by a handle finds.
-use Rattle.std.proofs.Common.{◌≡◌, ℕ, List, ◌++◌, map, Option, Some, None, refl, sym, ap, ◌∙◌, subst, true≢false, is_some}
-use Rattle.std.specs.Borrow.{Bor}
+use Rattle.std.proofs.Common.{◌≡◌, ℕ, List, ◌++◌, map, Option, Some, refl, sym, ap, ◌∙◌, subst}
 use Rattle.std.proofs.lemmas.List.{map-append}
 use Rattle.std.specs.Prelude.{Result, Ok, Err, IfOk, IfSome}
-use Rattle.std.specs.FinMap.{get}
 use Rattle.reg_names.specs.Names.{folded, path_of}
 use Rattle.reg_names.proofs.FoldingLemmas.{names-again}
-use Rattle.reg_heap.specs.Paths.{Path, Tree}
+use Rattle.reg_heap.specs.Paths.{Path}
 use Rattle.reg_heap.specs.Edits.{folded_path}
-use Rattle.reg_model.specs.Worlds.{Handle, At, look, path_at, path_from}
+use Rattle.reg_model.specs.Worlds.{Handle, At, IsStanding, look, path_at, path_from}
 use Rattle.reg_model.specs.Causes.{by_handle}
 use Rattle.reg_model.proofs.HandleInvariant.{Has, target-there}
-use Rattle.reg_handles.specs.HandleTables.{IsFoldedPath}
-use Rattle.reg_handles.specs.FoundHandles.{destination_shown}
+use Rattle.reg_tree.specs.TreeKeys.{IsAt}
+use Rattle.reg_tree.specs.declared.node.Node.{Node}
+use Rattle.reg_handles.specs.HandleTables.{payload_on}
+use Rattle.reg_handles.specs.FoundHandles.{destination_shown, HasPayload}
+use Rattle.reg_handles.specs.declared.keys.Target.{Target}
 use Rattle.reg_handles.specs.declared.handles.Found.{Found}
 use Rattle.reg_calls.specs.declared.store.Store.{Store}
-use Rattle.reg_calls.specs.Internal.Stores.{IsTarget, AreStanding}
+use Rattle.reg_calls.specs.Internal.Stores.{IsTarget, KnowsKeys}
 
-abbrev handle_of : ℕ → ℕ → Found → Handle
-handle_of session number f = record { number = number; session = session; mask = f.mask; destination = destination_shown f.path }
+abbrev handle_of : ℕ → ℕ → Found Node → Handle
+handle_of session number f = record { number = number; session = session; mask = f.mask; destination = destination_shown f.target }
 
 -- a handle with a path leads to the key at it
-abbrev pub lent : (store : Store) (session number : ℕ) (f : Found) (text : Bor (List ℕ)) →
-    Some (handle_of session number f) ≡ look session number store.handles.handles → f.path ≡ Some text → IsTarget store session number
-lent store session number f text e is = record { handle = handle_of session number f; path = path_of text.now; found = sym e; destination = ap destination_shown is }
+abbrev pub lent : (store : Store) (session number : ℕ) (f : Found Node) (target : Target Node) →
+    Some (handle_of session number f) ≡ look session number store.handles.handles → f.target ≡ Some target → IsTarget store session number
+lent store session number f target e is =
+    record { handle = handle_of session number f; path = path_of target.path.now; found = sym e; destination = ap destination_shown is }
 
-pub lent-path : (f : Found) (text : Bor (List ℕ)) → IfSome f.path (λ path. IsFoldedPath path.now) → f.path ≡ Some text → IsFoldedPath text.now
-lent-path f text l is = subst (λ (o : Option (Bor (List ℕ))). IfSome o (λ path. IsFoldedPath path.now)) is l
+-- it comes with that key's node
+pub lent-node : (store : Store) (f : Found Node) (target : Target Node) → KnowsKeys store → HasPayload store.handles (Some f) → f.target ≡ Some target →
+    IsAt store.tree (path_of target.path.now) target.payload
+lent-node store f target known has is =
+    known target.path.now target.payload (subst (λ (o : Option (Target Node)). IfSome o (λ t. payload_on store.handles t.path.now ≡ Some t.payload)) is has)
 
 -- the key of a target is there
-pub target-has : (store : Store) (session number : ℕ) (t : IsTarget store session number) → AreStanding store → Has store.tree.tree t.path
+pub target-has : (store : Store) (session number : ℕ) (t : IsTarget store session number) → IsStanding store.tree.tree store.handles.handles → Has store.tree.tree t.path
 target-has store session number t s = target-there store.tree.tree session number store.handles.handles t.handle t.path t.found t.destination s
-
-pub not_gone : (t : Tree) (p q : Path) → p ≡ q → Has t p → get t q ≡ None → ⊥
-not_gone t p q e h none = absurd (true≢false (sym (subst (Has t) e h) ∙ ap is_some none))
 
 -- the path that a handle's number leads to
 pub target-at : (store : Store) (session number : ℕ) (t : IsTarget store session number) → path_at session number store.handles.handles ≡ t.path

@@ -1,7 +1,7 @@
 -- A hive's tables are what its journal says, and stay so after one accepted change more.
 use Rattle.std.proofs.Common.{◌≡◌, ℕ, ◌+◌, ◌<◌, ◌≤◌, Bool, true, false, not, nat_le, eqb, cond, is_some, List, [], ◌∷◌, ◌++◌, length, Option, Some, None, refl, sym, ap, ◌∙◌, subst, arith}
 use Rattle.std.proofs.Common.{length-append, true≢false}
-use Rattle.std.specs.Prelude.{All}
+use Rattle.std.specs.Prelude.{All, Err}
 use Rattle.std.specs.List.{AllByRecursion}
 use Rattle.std.proofs.lemmas.List.{length-map}
 use Rattle.std.proofs.lemmas.Bool.{false≢true}
@@ -24,7 +24,9 @@ use Rattle.reg_model.proofs.AcceptedCalls.{both_false, root-met, open-met, creat
 use Rattle.reg_arena.specs.Arena.{IsSound}
 use Rattle.reg_tree.specs.TreeKeys.{IsWholeTree}
 use Rattle.reg_calls.specs.declared.store.Store.{Store}
-use Rattle.reg_calls.specs.Internal.Stores.{at, world_of, IsReady, IsDone}
+use Rattle.reg_calls.specs.Internal.Stores.{at, world_of, IsReady, IsDone, IsUnchanged, IsMade}
+use Rattle.reg_calls.specs.declared.lack.Lack.{Lack}
+use Rattle.reg_calls.proofs.KnownKeys.{unmade}
 use Rattle.reg_calls.specs.Shortages.{is_closing, growth_of}
 use Rattle.reg_calls.specs.Views.{HiveInvariant, View, state, IsHive, IsAccepted, IsAppliedBy, IsApplied}
 
@@ -45,6 +47,7 @@ pub ready-kept : {origin : Tree} {es : List Entry} {store : Store} {room : ℕ} 
 ready-kept {origin = origin} {es = es} {store = store} kept = record {
   stand = subst (λ (w : World). IsStanding w.tree w.handles) (sym (world-kept kept)) (is_standing origin es kept.hive.legal kept.hive.origin.root);
   below = subst (All (λ (h : Handle). h.number < length es)) (sym kept.hive.handles) (handles-below origin es kept.hive.legal);
+  known = kept.known;
   small = kept.hive.small;
 }
 
@@ -187,7 +190,29 @@ module _ {origin : Tree} {es : List Entry} {store : Store} {room : ℕ} (kept : 
         };
         room_kept = by_closing (length new.handles.handles ≤ room'') (λ c. let x = f.closing c in let r = h.1 c in
             omega (arith, x, r, used)) (λ c. let g = f.grown in let r = h.0 c in omega (arith, g, r, used));
+        known = done.known;
       }
+
+-- ---- no entry more
+
+-- a change that isn't made leaves the hive, save that more room may be kept
+pub view-unchanged : {store new : Store} (origin : Tree) (es : List Entry) → IsUnchanged store new →
+    ◌≡◌ {A = View} (record { origin = origin; journal = es; keys = new.tree; handles = new.handles.handles })
+    (record { origin = origin; journal = es; keys = store.tree; handles = store.handles.handles })
+view-unchanged origin es u = λ i. record { origin = origin; journal = es; keys = u.tree i; handles = u.handles i }
+
+pub kept-unchanged : {origin : Tree} {es : List Entry} {store : Store} {room : ℕ} → HiveInvariant origin es store room → (new : Store) (room' : ℕ) →
+    IsUnchanged store new → room ≤ room' → HiveInvariant origin es new room'
+kept-unchanged {origin = origin} {es = es} kept new room' u more =
+    let handles = ap (λ (hs : List Handle). length hs) u.handles in
+    let few = kept.room_kept in
+    record { hive = subst IsHive (sym (view-unchanged origin es u)) kept.hive; room_kept = omega (arith, handles, few, more); known = u.known }
+
+-- the same as the call names its steps
+pub kept-unmade : {origin : Tree} {es : List Entry} {store : Store} {room : ℕ} → HiveInvariant origin es store room → (new : Store) (es' : List Entry) (room' : ℕ) →
+    (session moment n : ℕ) (change : Change) (lack : Lack) → IsMade store new session moment n change (Err lack) → es' ≡ es → room ≤ room' → HiveInvariant origin es' new room'
+kept-unmade {origin = origin} kept new es' room' session moment n change lack made same more =
+    subst (λ (x : List Entry). HiveInvariant origin x new room') (sym same) (kept-unchanged kept new room' (unmade _ new session moment n change lack made) more)
 
 -- ---- what a change is answered
 

@@ -1,5 +1,6 @@
 pub mod RunSteps
 pub mod HandleLookUps
+pub mod KnownKeys
 pub mod RefusalTests
 pub mod TableAndLimitLemmas
 pub mod StoreAfterChange

@@ -31,7 +31,7 @@ use Rattle.reg_tree.proofs.InsertKey.MadeCells.{sizes_by_path}
 use Rattle.reg_calls.specs.declared.store.Store.{Store}
 use Rattle.reg_calls.specs.declared.lack.Lack.{Lack}
 use Rattle.reg_calls.specs.declared.lack.Lack.TheVariants.{Space, Memory as Short}
-use Rattle.reg_calls.specs.Internal.Stores.{at, IsReady, IsTarget, IsDone, IsMade}
+use Rattle.reg_calls.specs.Internal.Stores.{at, KnowsKeys, IsReady, IsTarget, IsDone, IsUnchanged, IsMade}
 use Rattle.reg_calls.specs.Shortages.{LacksSpace, is_closing}
 use Rattle.reg_calls.proofs.HandleLookUps.{target-at, target-from, target-has}
 use Rattle.reg_calls.proofs.TableAndLimitLemmas.{not_above, path-short}
@@ -58,7 +58,7 @@ module _ (n : ℕ) (store : Store) (session : ℕ) (ready : IsReady n store) whe
   pub room-few : no_handle_room session s ≡ false → handles_of session hs < HANDLES_LIMIT
   room-few e = let b = both_false (nat_le HANDLES_LIMIT (handles_of session hs)) (is_full 2 s) e in grind (arith, nat_tests, b.0)
 
-  abbrev added : Table → ℕ → List ℕ → Type 0
+  abbrev added : Table Node → ℕ → List ℕ → Type 0
   added table mask text = table.handles ≡ hs ++ record { number = n; session = session; mask = mask; destination = At (path_of text) } ∷ []
 
   abbrev pub opening : Option ℕ → ChangeReply
@@ -72,12 +72,12 @@ module _ (n : ℕ) (store : Store) (session : ℕ) (ready : IsReady n store) whe
   pub root-room : (mask : ℕ) → change_cause s session (OpenRoot mask) 0 ≡ None → handles_of session hs < HANDLES_LIMIT
   root-room mask c = let m = root-met s session mask 0 c in room-few m.room
 
-  pub root-done : (moment mask : ℕ) (table : Table) (text : List ℕ) → text ≡ [] → added table mask text → (told : ChangeReply) →
-      told ≡ opening None → IsDone store (record { tree = store.tree; handles = table }) session moment n (OpenRoot mask) told
+  pub root-done : (moment mask : ℕ) (table : Table Node) (text : List ℕ) → text ≡ [] → added table mask text → (told : ChangeReply) →
+      told ≡ opening None → KnowsKeys (record { tree = store.tree; handles = table }) → IsDone store (record { tree = store.tree; handles = table }) session moment n (OpenRoot mask) told
   unfolding after reply_to
-  root-done moment mask table text empty add told e =
+  root-done moment mask table text empty add told e known =
       let handles = add ∙ ap (λ (t : List ℕ). hs ++ record { number = n; session = session; mask = mask; destination = At (path_of t) } ∷ []) empty in
-      record { world = λ i. record { tree = tree; handles = handles i }; reply = e; kept = omega arith; grows = no-growth store }
+      record { world = λ i. record { tree = tree; handles = handles i }; reply = e; kept = omega arith; grows = no-growth store; known = known }
 
   -- ---- OpenKey
 
@@ -97,13 +97,20 @@ module _ (n : ℕ) (store : Store) (session : ℕ) (ready : IsReady n store) whe
     pub open-short : ((q : Path) → Has tree q → length q ≤ PATH_LIMIT) → length (path_from session h hs path) ≤ PATH_LIMIT
     open-short shallow = shallow (path_from session h hs path) open-facts.there
 
-    pub open-done : (moment : ℕ) (table : Table) (text : List ℕ) → path_of text ≡ path_from session h hs path → added table mask text →
-        (told : ChangeReply) → told ≡ opening None → IsDone store (record { tree = store.tree; handles = table }) session moment n
+    -- of any way in which the handle leads to a key
+    pub open-there : (t : IsTarget store session h) → get tree (t.path ++ folded_path path) ≡ None → ⊥
+    open-there t none =
+        let there : Has tree (t.path ++ folded_path path) = subst (Has tree) (target-from store session h t path) open-facts.there in
+        absurd (true≢false (sym there ∙ ap is_some none))
+
+    pub open-done : (moment : ℕ) (table : Table Node) (text : List ℕ) → path_of text ≡ path_from session h hs path → added table mask text →
+        (told : ChangeReply) → told ≡ opening None → KnowsKeys (record { tree = store.tree; handles = table }) →
+        IsDone store (record { tree = store.tree; handles = table }) session moment n
         (OpenKey h path mask) told
     unfolding after reply_to
-    open-done moment table text names add told e =
+    open-done moment table text names add told e known =
         let handles = add ∙ ap (λ (p : Path). hs ++ record { number = n; session = session; mask = mask; destination = At p } ∷ []) names in
-        record { world = λ i. record { tree = tree; handles = handles i }; reply = e; kept = omega arith; grows = no-growth store }
+        record { world = λ i. record { tree = tree; handles = handles i }; reply = e; kept = omega arith; grows = no-growth store; known = known }
 
   -- ---- CreateKey
 
@@ -129,17 +136,17 @@ module _ (n : ℕ) (store : Store) (session : ℕ) (ready : IsReady n store) whe
       create-short shallow =
           subst (λ (p : Path). length p ≤ PATH_LIMIT) (sym (target-from store session h t path)) (path-short tree t.path (path_of path) shallow (target-has store session h t ready.stand) create-few)
 
-      pub create-done : (moment : ℕ) (keys : Keys) (table : Table) (text : List ℕ) → path_of text ≡ path_from session h hs path →
+      pub create-done : (moment : ℕ) (keys : Keys) (table : Table Node) (text : List ℕ) → path_of text ≡ path_from session h hs path →
           keys.tree ≡ with_keys tree t.path (path_of path) moment → added table mask text → (told : ChangeReply) →
           told ≡ opening (Some (disposition_of (missing tree t.path (path_of path)))) →
           length store.tree.bins.bytes ≤ length keys.bins.bytes → length keys.bins.bytes ≤ length store.tree.bins.bytes + GROWTH_BOUND →
-          IsDone store (record { tree = keys; handles = table }) session moment n (CreateKey h path mask) told
+          KnowsKeys (record { tree = keys; handles = table }) → IsDone store (record { tree = keys; handles = table }) session moment n (CreateKey h path mask) told
       unfolding after reply_to
-      create-done moment keys table text names made add told e kept larger =
+      create-done moment keys table text names made add told e kept larger known =
           let handles = add ∙ ap (λ (p : Path). hs ++ record { number = n; session = session; mask = mask; destination = At p } ∷ []) names in
           let grown = made ∙ ap (λ (p : Path). with_keys tree p (path_of path) moment) (sym (target-at store session h t)) in
           let reply = e ∙ ap (λ (p : Path). opening (Some (disposition_of (missing tree p (path_of path))))) (sym (target-at store session h t)) in
-          record { world = λ i. record { tree = grown i; handles = handles i }; reply = reply; kept = kept; grows = larger }
+          record { world = λ i. record { tree = grown i; handles = handles i }; reply = reply; kept = kept; grows = larger; known = known }
 
   -- ---- SetValue
 
@@ -165,11 +172,11 @@ module _ (n : ℕ) (store : Store) (session : ℕ) (ready : IsReady n store) whe
 
       pub set-done : (moment : ℕ) (keys : Keys) → keys.tree ≡ edited tree t.path (with_value name kind bytes moment) → (told : ChangeReply) →
           told ≡ plain → length store.tree.bins.bytes ≤ length keys.bins.bytes → length keys.bins.bytes ≤ length store.tree.bins.bytes + GROWTH_BOUND →
-          IsDone store (record { tree = keys; handles = store.handles }) session moment n (SetValue h name kind bytes) told
+          KnowsKeys (record { tree = keys; handles = store.handles }) → IsDone store (record { tree = keys; handles = store.handles }) session moment n (SetValue h name kind bytes) told
       unfolding after reply_to
-      set-done moment keys set told e kept larger =
+      set-done moment keys set told e kept larger known =
           let now = set ∙ ap (λ (p : Path). edited tree p (with_value name kind bytes moment)) (sym (target-at store session h t)) in
-          record { world = λ i. record { tree = now i; handles = hs }; reply = e; kept = kept; grows = larger }
+          record { world = λ i. record { tree = now i; handles = hs }; reply = e; kept = kept; grows = larger; known = known }
 
   -- ---- DeleteValue
 
@@ -188,11 +195,12 @@ module _ (n : ℕ) (store : Store) (session : ℕ) (ready : IsReady n store) whe
           absurd (true≢false (sym (ap (λ (o : Option Member). not (is_some o)) none) ∙ there))
 
       pub drop-done : (moment : ℕ) (keys : Keys) → keys.tree ≡ edited tree t.path (without_value name moment) → (told : ChangeReply) → told ≡ plain →
-          length keys.bins.bytes ≡ length store.tree.bins.bytes → IsDone store (record { tree = keys; handles = store.handles }) session moment n (DeleteValue h name) told
+          length keys.bins.bytes ≡ length store.tree.bins.bytes → KnowsKeys (record { tree = keys; handles = store.handles }) →
+          IsDone store (record { tree = keys; handles = store.handles }) session moment n (DeleteValue h name) told
       unfolding after reply_to
-      drop-done moment keys set told e long =
+      drop-done moment keys set told e long known =
           let now = set ∙ ap (λ (p : Path). edited tree p (without_value name moment)) (sym (target-at store session h t)) in
-          record { world = λ i. record { tree = now i; handles = hs }; reply = e; kept = omega (arith, long); grows = omega (arith, long) }
+          record { world = λ i. record { tree = now i; handles = hs }; reply = e; kept = omega (arith, long); grows = omega (arith, long); known = known }
 
   -- ---- DeleteKey
 
@@ -237,25 +245,25 @@ module _ (n : ℕ) (store : Store) (session : ℕ) (ready : IsReady n store) whe
       delete-refused fault children kept (inl e) = children.0 (ap (λ f. Err f) e) delete-childless
       delete-refused fault children kept (inr e) = delete-kept (kept.0 (ap (λ f. Err f) e)).1
 
-      pub delete-done : (moment : ℕ) (keys : Keys) (table : Table) (text : List ℕ) → path_of text ≡ path_from session h hs path →
+      pub delete-done : (moment : ℕ) (keys : Keys) (table : Table Node) (text : List ℕ) → path_of text ≡ path_from session h hs path →
           keys.tree ≡ without_key tree (t.path ++ folded_path path) moment → table.handles ≡ turned (path_of text) hs → (told : ChangeReply) →
           told ≡ plain → length keys.bins.bytes ≡ length store.tree.bins.bytes →
-          IsDone store (record { tree = keys; handles = table }) session moment n (DeleteKey h path) told
+          KnowsKeys (record { tree = keys; handles = table }) → IsDone store (record { tree = keys; handles = table }) session moment n (DeleteKey h path) told
       unfolding after reply_to
-      delete-done moment keys table text names gone turn told e long =
+      delete-done moment keys table text names gone turn told e long known =
           let now = gone ∙ ap (λ (p : Path). without_key tree p moment) (sym (target-from store session h t path)) in
           let handles = turn ∙ ap (λ (p : Path). turned p hs) names in
-          record { world = λ i. record { tree = now i; handles = handles i }; reply = e; kept = omega (arith, long); grows = omega (arith, long) }
+          record { world = λ i. record { tree = now i; handles = handles i }; reply = e; kept = omega (arith, long); grows = omega (arith, long); known = known }
 
   -- ---- Close
 
   pub close-has : (h : ℕ) → change_cause s session (Close h) 0 ≡ None → is_some (look session h hs) ≡ true
   close-has h c = close-met s session h 0 c
 
-  pub close-done : (moment h : ℕ) (table : Table) → table.handles ≡ closed h hs → (told : ChangeReply) → told ≡ plain →
+  pub close-done : (moment h : ℕ) (table : Table Node) → table.handles ≡ closed h hs → (told : ChangeReply) → told ≡ plain → KnowsKeys (record { tree = store.tree; handles = table }) →
       IsDone store (record { tree = store.tree; handles = table }) session moment n (Close h) told
   unfolding after reply_to
-  close-done moment h table shut told e = record { world = λ i. record { tree = tree; handles = shut i }; reply = e; kept = omega arith; grows = no-growth store }
+  close-done moment h table shut told e known = record { world = λ i. record { tree = tree; handles = shut i }; reply = e; kept = omega arith; grows = no-growth store; known = known }
 
 -- ---- what is told of a created key
 
@@ -271,7 +279,7 @@ pub is_lack : (fault : TreeFault) → (fault ≡ Limit) ⊎ ((fault ≡ Full) �
 is_lack fault (inl e) limited = absurd (limited e)
 is_lack fault (inr r) limited = r
 
-pub lacking : (old new : Store) (session moment n : ℕ) (change : Change) (lack : Lack) → new ≡ old → is_closing change ≡ false →
+pub lacking : (old new : Store) (session moment n : ℕ) (change : Change) (lack : Lack) → IsUnchanged old new → is_closing change ≡ false →
     (lack ≡ Space → LacksSpace old.tree old.handles.handles session change) → IsMade old new session moment n change (Err lack)
 lacking old new session moment n change Space same opens space = (same, space refl)
 lacking old new session moment n change Short same opens space = (same, opens)

@@ -11,11 +11,9 @@ use Rattle.reg_names.specs.declared.TheConstants.{PATH_LIMIT}
 use Rattle.reg_names.specs.Names.{folded}
 use Rattle.reg_heap.specs.Paths.{Path, Tree}
 use Rattle.reg_heap.specs.Edits.{missing, has_child, child_path, are_too_many}
-use Rattle.reg_model.specs.Worlds.{Handle, look, closed}
+use Rattle.reg_model.specs.Worlds.{Handle, look, numbered, closed}
 use Rattle.reg_model.proofs.HandleInvariant.{Has}
 use Rattle.reg_model.proofs.LegalJournals.{numbered-push}
-use Rattle.reg_handles.specs.HandleTables.{Table}
-use Rattle.reg_tree.specs.TreeKeys.{Keys}
 use Rattle.reg_calls.specs.declared.store.Store.{Store}
 use Rattle.reg_calls.specs.Internal.Stores.{IsTarget}
 use Rattle.reg_calls.proofs.HandleLookUps.{by_handle-at}
@@ -39,13 +37,14 @@ closed-all n (x ∷ hs) b h e = rw (ne_eqb x.number n (λ same. omega (arith, b.
 pub closed-push : (n : ℕ) (hs : List Handle) → All (λ (x : Handle). x.number < n) hs → (h : Handle) → h.number ≡ n → closed n (hs ++ h ∷ []) ≡ hs
 closed-push n hs all h e = closed-all n hs (recursion_from_All (λ (x : Handle). x.number < n) hs all) h e
 
+-- it is the one of its number
+pub numbered-new : (n : ℕ) (hs : List Handle) → All (λ (x : Handle). x.number < n) hs → (h : Handle) → h.number ≡ n → numbered n (hs ++ h ∷ []) ≡ Some h
+numbered-new n hs all h e = numbered-push n hs h e (recursion_from_All (λ (x : Handle). x.number < n) hs all)
+
 -- its session has it
 pub look-push : (session n : ℕ) (hs : List Handle) → All (λ (x : Handle). x.number < n) hs → (h : Handle) → h.number ≡ n → h.session ≡ session → is_some (look session n (hs ++ h ∷ [])) ≡ true
 look-push session n hs all h e f =
     rw (numbered-push n hs h e (recursion_from_All (λ (x : Handle). x.number < n) hs all), eq-eqb h.session session f) refl
-
-pub store-same : (store : Store) (tree : Keys) (handles : Table) → tree ≡ store.tree → handles.handles ≡ store.handles.handles → ◌≡◌ {A = Store} (record { tree = tree; handles = handles }) store
-store-same store tree handles a b = λ i. record { tree = a i; handles = record { handles = b i } }
 
 -- ---- limits
 

@@ -23,6 +23,7 @@ use Rattle.reg_model.specs.declared.call.Query.{Query}
 use Rattle.reg_tree.specs.TreeKeys.{Keys, coded_keys, IsWholeTree}
 use Rattle.reg_handles.specs.HandleTables.{coded_handle}
 use Rattle.reg_calls.specs.declared.store.Store.{Store}
+use Rattle.reg_calls.specs.Internal.Stores.{KnowsKeys}
 use Rattle.reg_calls.specs.declared.lack.Lack.{Lack}
 use Rattle.reg_calls.specs.declared.lack.Lack.TheVariants.{Space, Memory}
 use Rattle.reg_calls.specs.Shortages.{is_closing, LacksSpace, growth_of}
@@ -57,10 +58,11 @@ pub record IsHive (v : View) : Type 0 where
   pub sound : IsSound v.keys.bins.bytes v.keys.bins.heads
   pub whole : IsWholeTree v.keys.bins.bytes v.keys.root v.keys.tree
 
--- the same of a hive's parts, and room is kept for the closing of each open handle
+-- the same of a hive's parts; room is kept for the closing of each open handle; and the nodes of the keys that handles lead to are known
 pub record HiveInvariant (origin : Tree) (journal : List Entry) (store : Store) (room : ℕ) : Type 0 where
   pub hive : IsHive (record { origin = origin; journal = journal; keys = store.tree; handles = store.handles.handles })
   pub room_kept : length store.handles.handles ≤ room
+  pub known : KnowsKeys store
 
 -- the entry of an accepted change
 abbrev pub entry_of : View → ℕ → ℕ → Change → Entry

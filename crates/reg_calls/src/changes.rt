@@ -69,7 +69,11 @@ impl Store {
         requires cause { change_cause (at number self.old) session (OpenRoot mask) 0 ≡ None }
         ensures { (moment : ℕ) → IsMade self.old self.new session moment number (OpenRoot mask) result }
     {
-        match self.handles.add(session, number, mask, Vec::new(alloc)) {
+        let root = self.tree.root();
+        match self
+            .handles
+            .add(session, number, mask, Vec::new(alloc), root)
+        {
             Ok(()) => Ok(opened(number, None)),
             Err(_) => Err(Lack::Memory),
         }
@@ -94,7 +98,14 @@ impl Store {
         let Ok(text) = self.path_to(alloc, session, handle, path) else {
             return Err(Lack::Memory);
         };
-        match self.handles.add(session, number, mask, text) {
+        let from = match self.key_of(session, handle) {
+            Ok(key) => key.node,
+            Err(_) => unreachable!(),
+        };
+        let Some(node) = self.tree.resolve(from, path) else {
+            unreachable!()
+        };
+        match self.handles.add(session, number, mask, text, node) {
             Ok(()) => Ok(opened(number, None)),
             Err(_) => Err(Lack::Memory),
         }
@@ -124,13 +135,19 @@ impl Store {
             Ok(key) => key.node,
             Err(_) => unreachable!(),
         };
-        // the handle first: it can be taken back, and keys that are made can't
-        match self.handles.add(session, number, mask, text) {
+        // Only for its clause `payloads`: no payload is kept for a path that no handle leads to.
+        let _ = self.handles.len();
+        // The handle first: it can be taken back, and keys that are made can't. The key's node is known when the key is made; until
+        // then any node holds its place.
+        match self.handles.add(session, number, mask, text, from) {
             Ok(()) => {}
             Err(_) => return Err(Lack::Memory),
         }
         match self.tree.create(alloc, from, path, moment) {
-            Ok(created) => Ok(opened(number, Some(disposition(created.is_new)))),
+            Ok(created) => {
+                self.handles.set_payload(number, created.node);
+                Ok(opened(number, Some(disposition(created.is_new))))
+            }
             Err(fault) => {
                 self.handles.close(session, number);
                 Err(lack_of(fault))

@@ -5,7 +5,7 @@ ghost use Rattle.reg_heap.specs.Paths.{Path, Member, children_of};
 ghost use Rattle.reg_heap.specs.Edits.{values_at};
 ghost use Rattle.reg_model.specs.Replies.{value_told, key_told as key_told_of, member_told as member_told_of, info_told, name_of, largest_of};
 ghost use Rattle.reg_tree.specs.TreeKeys.{IsAt, IsThere};
-ghost use Rattle.reg_calls.specs.Internal.Stores.{at, AreStanding};
+ghost use Rattle.reg_calls.specs.Internal.Stores.{at, KnowsKeys};
 ghost use Rattle.reg_model.specs.Callbacks.{no_callbacks};
 ghost use Rattle.reg_calls.specs.Views.{IsRead, IsTold};
 
@@ -221,7 +221,7 @@ impl Store {
         name: &[u8],
         room: Option<u32>,
     ) -> AnswerBody
-        requires { AreStanding self.now }
+        requires { KnowsKeys self.now }
         ensures { (n : ℕ) → IsRead no_callbacks (at n self.now) session (QueryValue handle name.now room) result }
     {
         let key = match self.key_of(session, handle) {
@@ -247,7 +247,7 @@ impl Store {
     }
 
     fn enum_key(&self, alloc: Global, session: u8, handle: u64, index: u32, room: u32) -> AnswerBody
-        requires { AreStanding self.now }
+        requires { KnowsKeys self.now }
         ensures { (n : ℕ) → IsRead no_callbacks (at n self.now) session (EnumKey handle index room) result }
     {
         let key = match self.key_of(session, handle) {
@@ -276,7 +276,7 @@ impl Store {
         name_room: u32,
         room: Option<u32>,
     ) -> AnswerBody
-        requires { AreStanding self.now }
+        requires { KnowsKeys self.now }
         ensures { (n : ℕ) → IsRead no_callbacks (at n self.now) session (EnumValue handle index name_room room) result }
     {
         let key = match self.key_of(session, handle) {
@@ -292,7 +292,7 @@ impl Store {
     }
 
     fn query_info(&self, session: u8, handle: u64) -> AnswerBody
-        requires { AreStanding self.now }
+        requires { KnowsKeys self.now }
         ensures { (n : ℕ) → IsRead no_callbacks (at n self.now) session (QueryInfo handle) result }
     {
         let key = match self.key_of(session, handle) {
@@ -309,7 +309,7 @@ impl Store {
 
     /// Answers a question of a session: the refusal, what is told, or 8 where memory was refused for a name or bytes.
     pub fn answer(&self, alloc: Global, session: u8, query: &Query) -> AnswerBody
-        requires { AreStanding self.now }
+        requires { KnowsKeys self.now }
         ensures { (n : ℕ) → IsRead no_callbacks (at n self.now) session query.now result }
     {
         match query {

@@ -4,7 +4,7 @@ ghost use Rattle.std.specs.FinMap.{get};
 ghost use Rattle.reg_names.specs.declared.TheConstants.{PATH_LIMIT};
 ghost use Rattle.reg_names.specs.Names.{is_path, path_of, folded};
 ghost use Rattle.reg_model.specs.Worlds.{path_from};
-ghost use Rattle.reg_calls.specs.Internal.Stores.{IsReady, IsLooked, IsTarget, AreStanding};
+ghost use Rattle.reg_calls.specs.Internal.Stores.{IsReady, IsLooked, IsTarget, KnowsKeys};
 
 use reg_handles::{Found, Handles};
 use reg_model::statuses::{INVALID_HANDLE, KEY_DELETED};
@@ -12,11 +12,11 @@ use reg_names::join_paths;
 use reg_tree::{Node, Tree};
 use std::alloc::{AllocError, Global};
 
-/// The keys of a hive and the open handles on them.
+/// The keys of a hive and the open handles on them. For each path that handles lead to the table keeps the node of its key.
 #[derive(Drop)]
 pub struct Store {
     pub tree: Tree,
-    pub handles: Handles,
+    pub handles: Handles<Node>,
 }
 
 /// An open handle that leads to a key.
@@ -32,23 +32,19 @@ impl Store {
     /// The session's handle of that number, or the status of the refusal: 6 where there is none, 1018 where its key was
     /// deleted.
     pub fn key_of(&self, session: u8, handle: u64) -> Result<KeyHandle, u32>
-        requires { AreStanding self.now }
+        requires { KnowsKeys self.now }
         ensures { IsLooked self.now session handle result }
     {
         let Some(found) = self.handles.look(session, handle) else {
             return Err(INVALID_HANDLE);
         };
-        let Some(path) = found.path else {
+        let Some(target) = found.target else {
             return Err(KEY_DELETED);
         };
-        let root = self.tree.root();
-        match self.tree.resolve(root, path) {
-            Some(node) => Ok(KeyHandle {
-                mask: found.mask,
-                node,
-            }),
-            None => unreachable!(),
-        }
+        Ok(KeyHandle {
+            mask: found.mask,
+            node: target.payload,
+        })
     }
 
     /// The path from the root to the end of a path from the key of a handle, as folded text.
@@ -68,10 +64,10 @@ impl Store {
         match self.handles.look(session, handle) {
             Some(
                 Found {
-                    path: Some(above),
+                    target: Some(above),
                     ..
                 },
-            ) => join_paths(alloc, above, path),
+            ) => join_paths(alloc, above.path, path),
             _ => unreachable!(),
         }
     }

@@ -1,5 +1,5 @@
 -- The keys and the open handles on them, as calls find and leave them.
-use Rattle.std.specs.Prelude.{◌≡◌, ℕ, [], ◌+◌, ◌<◌, ◌≤◌, false, length, Option, Some, All, Result, Ok, Err}
+use Rattle.std.specs.Prelude.{◌≡◌, ℕ, List, [], ◌+◌, ◌<◌, ◌≤◌, false, length, Option, Some, All, Result, Ok, Err}
 use Rattle.reg_heap.specs.Paths.{Path}
 use Rattle.reg_model.specs.declared.limits.TheConstants.{JOURNAL_LIMIT}
 use Rattle.reg_model.specs.Worlds.{World, Handle, At, IsStanding, look, after}
@@ -8,7 +8,10 @@ use Rattle.reg_model.specs.Replies.{reply_to}
 use Rattle.reg_model.specs.Calls.{entry_due}
 use Rattle.reg_model.specs.declared.reply.ChangeReply.{ChangeReply}
 use Rattle.reg_model.specs.declared.call.Change.{Change}
+use Rattle.reg_names.specs.Names.{path_of}
 use Rattle.reg_tree.specs.TreeKeys.{IsAt}
+use Rattle.reg_tree.specs.declared.node.Node.{Node}
+use Rattle.reg_handles.specs.HandleTables.{payload_on}
 use Rattle.reg_calls.specs.Shortages.{is_closing, LacksSpace, growth_of}
 use Rattle.reg_calls.specs.declared.store.Store.{Store}
 use Rattle.reg_calls.specs.declared.store.KeyHandle.{KeyHandle}
@@ -23,13 +26,15 @@ world_of store = record { tree = store.tree.tree; handles = store.handles.handle
 abbrev pub at : ℕ → Store → State
 at entries store = record { kept = entries; next = entries; world = world_of store; pending = [] }
 
--- the root is there, and each key that a handle leads to
-abbrev pub AreStanding : Store → Type 0
-AreStanding store = IsStanding store.tree.tree store.handles.handles
+-- the node that is kept for a path is that of the key there
+abbrev pub KnowsKeys : Store → Type 0
+KnowsKeys store = (text : List ℕ) (node : Node) → payload_on store.handles text ≡ Some node → IsAt store.tree (path_of text) node
 
--- the same; the handles' numbers are those of entries; and there are not too many
+-- the root is there, and each key that a handle leads to; the nodes of these keys are known; the handles' numbers are those of entries;
+-- and there are not too many
 pub record IsReady (entries : ℕ) (store : Store) : Type 0 where
   pub stand : IsStanding store.tree.tree store.handles.handles
+  pub known : KnowsKeys store
   pub below : All (λ (h : Handle). h.number < entries) store.handles.handles
   pub small : entries + length store.handles.handles ≤ JOURNAL_LIMIT
 
@@ -51,15 +56,23 @@ abbrev pub IsLooked : Store → ℕ → ℕ → Result KeyHandle ℕ → Type 0
 IsLooked store session number (Ok key) = IsOpened store session number key
 IsLooked store session number (Err status) = (f : Handle → Option ℕ) → by_handle f (look session number store.handles.handles) ≡ Some status
 
--- a change was made on the store, this is its reply, and the bins are no smaller and grew by no more than it may take
+-- a change was made on the store, this is its reply, the bins are no smaller and grew by no more than it may take, and the nodes of
+-- the keys that handles lead to are known
 pub record IsDone (old new : Store) (session moment number : ℕ) (change : Change) (told : ChangeReply) : Type 0 where
   pub world : world_of new ≡ after (world_of old) (entry_due (at number old) session moment change)
   pub reply : told ≡ reply_to (at number old) session change
   pub kept : length old.tree.bins.bytes ≤ length new.tree.bins.bytes
   pub grows : length new.tree.bins.bytes ≤ length old.tree.bins.bytes + growth_of change
+  pub known : KnowsKeys new
+
+-- the keys and the handles are as they were, and the nodes of the keys that handles lead to are known
+pub record IsUnchanged (old new : Store) : Type 0 where
+  pub tree : new.tree ≡ old.tree
+  pub handles : new.handles.handles ≡ old.handles.handles
+  pub known : KnowsKeys new
 
 -- a change that nothing refuses was made, or nothing changed, for want of memory or of space
 abbrev pub IsMade : Store → Store → ℕ → ℕ → ℕ → Change → Result ChangeReply Lack → Type 0
 IsMade old new session moment number change (Ok reply) = IsDone old new session moment number change reply
-IsMade old new session moment number change (Err Memory) = (new ≡ old) × (is_closing change ≡ false)
-IsMade old new session moment number change (Err Space) = (new ≡ old) × LacksSpace old.tree old.handles.handles session change
+IsMade old new session moment number change (Err Memory) = IsUnchanged old new × (is_closing change ≡ false)
+IsMade old new session moment number change (Err Space) = IsUnchanged old new × LacksSpace old.tree old.handles.handles session change

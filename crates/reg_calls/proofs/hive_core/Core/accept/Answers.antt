@@ -3,7 +3,7 @@ use Rattle.reg_model.specs.Causes.{State, change_cause}
 use Rattle.reg_model.specs.declared.reply.Entry.{Entry}
 use Rattle.reg_calls.specs.Internal.Stores.{IsReady, IsDone}
 use Rattle.reg_calls.specs.Views.{HiveInvariant}
-use Rattle.reg_calls.proofs.HiveInvariantLemmas.{ready-kept, state-view, append-room, kept-done, accepted}
+use Rattle.reg_calls.proofs.HiveInvariantLemmas.{ready-kept, state-view, append-room, kept-done, kept-unmade, accepted}
 use Rattle.reg_calls.proofs.hive_core.Core.accept.Goals as goal
 
 pub make-requires-clause-ready : goal.make-requires-clause-ready
@@ -19,7 +19,7 @@ append-requires c =
     let done = subst (λ (k : ℕ). IsDone store c.make.new.self c.args.session c.args.moment k c.args.change c.in-Ok-make.reply) n c.in-Ok-make.ensures in
     let kept = c.self.invariant.room_kept in
     let more = c.in-Ok.ensures.room in
-    let handles = c.len-handles.ensures in
+    let handles = c.len-handles.ensures.len in
     append-room c.self.invariant c.args.session c.args.moment c.args.change none c.make.new.self c.in-Ok-make.reply done c.keep_room.new.journal.room
     ((λ opens. let r = c.in-Ok.ensures.ok opens in omega (arith, r, handles)), (λ closing. omega (arith, kept, more)))
 
@@ -32,7 +32,7 @@ invariant_of-self-in-Ok-make c =
     let done = subst (λ (k : ℕ). IsDone store c.make.new.self c.args.session c.args.moment k c.args.change c.in-Ok-make.reply) n c.in-Ok-make.ensures in
     let kept = c.self.invariant.room_kept in
     let more = c.in-Ok.ensures.room in
-    let handles = c.len-handles.ensures in
+    let handles = c.len-handles.ensures.len in
     let all = kept-done c.self.invariant c.args.session c.args.moment c.args.change none c.make.new.self c.in-Ok-make.reply done
     c.keep_room.new.journal.room c.append.new.self.room c.requires.session c.arena.ensures.sound c.arena.ensures.whole
     ((λ opens. let r = c.in-Ok.ensures.ok opens in omega (arith, r, handles)), (λ closing. omega (arith, kept, more))) c.append.ensures.room in
@@ -50,3 +50,33 @@ returns-in-Ok-make c =
     let entries = c.append.ensures.entries ∙ (ap (λ (x : List Entry). x ++ entry c.len-number.result ∷ []) c.in-Ok.ensures.entries ∙ ap (λ (k : ℕ). es ++ entry k ∷ []) n) in
     let all = invariant_of-self-in-Ok-make c in
     inl (accepted c.self.invariant c.args.self.now _ c.self.view_is c.args.session c.args.moment c.args.change c.in-Ok-make.reply done.reply entries refl done.kept done.grows all.hive)
+
+pub invariant_of-self-in-Err-make : goal.invariant_of-self-in-Err-make
+invariant_of-self-in-Err-make c =
+    kept-unmade c.self.invariant c.make.new.self c.keep_room.new.journal.entries c.keep_room.new.journal.room c.args.session c.args.moment
+    c.len-number.result c.args.change c.in-Err-make.lack c.in-Err-make.ensures c.in-Ok.ensures.entries c.in-Ok.ensures.room
+
+pub invariant_of-self-in-Err-make-2 : goal.invariant_of-self-in-Err-make-2
+invariant_of-self-in-Err-make-2 c =
+    kept-unmade c.self.invariant c.make.new.self c.keep_room.new.journal.entries c.keep_room.new.journal.room c.args.session c.args.moment
+    c.len-number.result c.args.change c.in-Err-make.lack c.in-Err-make.ensures c.in-Ok.ensures.entries c.in-Ok.ensures.room
+
+pub invariant_of-self-in-Err-make-3 : goal.invariant_of-self-in-Err-make-3
+invariant_of-self-in-Err-make-3 c =
+    kept-unmade c.self.invariant c.make.new.self c.keep_room.new.journal.entries c.keep_room.new.journal.room c.args.session c.args.moment
+    c.len-number.result c.args.change c.in-Err-make.lack c.in-Err-make.ensures c.in-Ok.ensures.entries c.in-Ok.ensures.room
+
+pub invariant_of-self-in-Err-make-4 : goal.invariant_of-self-in-Err-make-4
+invariant_of-self-in-Err-make-4 c =
+    kept-unmade c.self.invariant c.make.new.self c.keep_room.new.journal.entries c.keep_room.new.journal.room c.args.session c.args.moment
+    c.len-number.result c.args.change c.in-Err-make.lack c.in-Err-make.ensures c.in-Ok.ensures.entries c.in-Ok.ensures.room
+
+pub invariant_of-self-in-Err-make-5 : goal.invariant_of-self-in-Err-make-5
+invariant_of-self-in-Err-make-5 c =
+    kept-unmade c.self.invariant c.make.new.self c.keep_room.new.journal.entries c.keep_room.new.journal.room c.args.session c.args.moment
+    c.len-number.result c.args.change c.in-Err-make.lack c.in-Err-make.ensures c.in-Ok.ensures.entries c.in-Ok.ensures.room
+
+pub invariant_of-self-in-Err-make-6 : goal.invariant_of-self-in-Err-make-6
+invariant_of-self-in-Err-make-6 c =
+    kept-unmade c.self.invariant c.make.new.self c.keep_room.new.journal.entries c.keep_room.new.journal.room c.args.session c.args.moment
+    c.len-number.result c.args.change c.in-Err-make.lack c.in-Err-make.ensures c.in-Ok.ensures.entries c.in-Ok.ensures.room

@@ -2,11 +2,11 @@ use Rattle.std.proofs.Common.{sym, subst, length}
 use Rattle.reg_model.specs.Causes.{State}
 use Rattle.reg_model.specs.Callbacks.{no_callbacks}
 use Rattle.reg_calls.specs.Views.{IsRead}
-use Rattle.reg_calls.proofs.HiveInvariantLemmas.{ready-kept, state-view}
+use Rattle.reg_calls.proofs.HiveInvariantLemmas.{state-view}
 use Rattle.reg_calls.proofs.hive_core.Core.read.Goals as goal
 
 pub answer-body-requires : goal.answer-body-requires
-answer-body-requires c = let r = ready-kept c.self.invariant in r.stand
+answer-body-requires c = c.self.invariant.known
 
 pub returns-clause-body : goal.returns-clause-body
 returns-clause-body c =

@@ -1,5 +1,6 @@
 use Rattle.std.proofs.Common.{ap, Err}
 use Rattle.reg_calls.proofs.TableAndLimitLemmas.{not_refused_by}
+use Rattle.reg_calls.proofs.KnownKeys.{kept_known}
 use Rattle.reg_calls.proofs.StoreAfterChange.{drop-target, drop-there, drop-done}
 use Rattle.reg_calls.proofs.store.Store.delete_value.Goals as goal
 
@@ -19,3 +20,4 @@ returns c =
     let k = c.in-Ok.ensures in
     drop-done c.args.number c.args.self.now c.args.session c.requires.ready c.args.handle c.args.name.now c.requires.cause k.target c.args.moment
     c.delete_value.new.self (c.in-Ok-delete_value.ensures.ok k.target.path k.node) c.accepted.result c.accepted.ensures c.in-Ok-delete_value.ensures.long
+    (kept_known c.args.self.now c.requires.ready.known c.delete_value.new.self c.in-Ok-delete_value.ensures.nodes)

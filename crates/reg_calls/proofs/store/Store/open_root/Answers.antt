@@ -1,5 +1,9 @@
-use Rattle.std.proofs.Common.{ap}
-use Rattle.reg_names.specs.Names.{are_key_names, is_path}
+use Rattle.std.proofs.Common.{ap, refl, sym, subst, ℕ, List}
+use Rattle.reg_names.specs.Names.{are_key_names, is_path, path_of}
+use Rattle.reg_tree.specs.TreeKeys.{IsAt}
+use Rattle.reg_tree.specs.declared.node.Node.{Node}
+use Rattle.reg_handles.specs.HandleTables.{Table}
+use Rattle.reg_calls.proofs.KnownKeys.{added_known, unchanged, store_of}
 use Rattle.reg_calls.proofs.StoreAfterChange.{root-room, root-done}
 use Rattle.reg_calls.proofs.store.Store.open_root.Goals as goal
 
@@ -10,6 +14,12 @@ pub add-requires-clause-path : goal.add-requires-clause-path
 unfolding are_key_names
 add-requires-clause-path c = ap is_path c.new.ensures.items
 
+pub returns-in-Err : goal.returns-in-Err
+returns-in-Err c = λ moment.
+    (unchanged c.args.self.now _ c.requires.ready.known (ap (λ (t : Table Node). store_of c.args.self.now.tree t) c.in-Err.ensures.err), refl)
+
 pub returns-in-Ok : goal.returns-in-Ok
 returns-in-Ok c = λ moment.
-    root-done c.args.number c.args.self.now c.args.session c.requires.ready moment c.args.mask c.add.new.self _ c.new.ensures.items c.in-Ok.ensures.ok c.opened.result c.opened.ensures
+    root-done c.args.number c.args.self.now c.args.session c.requires.ready moment c.args.mask c.add.new.self _ c.new.ensures.items c.in-Ok.ensures.ok
+    c.opened.result c.opened.ensures (added_known c.args.self.now c.requires.ready.known c.add.new.self c.new.result.items c.root-root.result c.in-Ok.ensures.payloads
+    (subst (λ (text : List ℕ). IsAt c.args.self.now.tree (path_of text) c.root-root.result) (sym c.new.ensures.items) c.root-root.ensures.at))

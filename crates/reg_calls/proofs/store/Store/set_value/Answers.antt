@@ -1,6 +1,9 @@
-use Rattle.std.proofs.Common.{ap, Err, refl, length}
+use Rattle.std.proofs.Common.{ap, Err, refl, length, ◌≡◌, sym, subst}
 use Rattle.reg_model.specs.declared.call.Change.TheVariants.{SetValue}
-use Rattle.reg_calls.proofs.TableAndLimitLemmas.{not_refused_by, store-same}
+use Rattle.reg_tree.specs.TreeKeys.{Keys}
+use Rattle.reg_calls.specs.Internal.Stores.{IsUnchanged, KnowsKeys}
+use Rattle.reg_calls.proofs.TableAndLimitLemmas.{not_refused_by}
+use Rattle.reg_calls.proofs.KnownKeys.{kept_known}
 use Rattle.reg_calls.proofs.StoreAfterChange.{set-target, set-name, set-bytes, set-room, set-done, is_lack, lacking, set-lacks}
 use Rattle.reg_calls.proofs.store.Store.set_value.Goals as goal
 
@@ -28,11 +31,16 @@ returns-in-Ok-set_value c =
     set-done c.args.number c.args.self.now c.args.session c.requires.ready c.args.handle c.args.name.now c.args.kind c.args.bytes.now
     c.requires.cause k.target c.args.moment c.set_value.new.self (c.in-Ok-set_value.ensures.ok k.target.path k.node) c.accepted.result
     c.accepted.ensures c.in-Ok-set_value.ensures.kept c.in-Ok-set_value.ensures.grows
+    (kept_known c.args.self.now c.requires.ready.known c.set_value.new.self c.in-Ok-set_value.ensures.nodes)
 
 pub returns-in-Err-set_value : goal.returns-in-Err-set_value
 returns-in-Err-set_value c =
     let k = c.in-Ok.ensures in
-    let same = store-same c.args.self.now c.set_value.new.self c.args.self.now.handles c.in-Err-set_value.ensures.err refl in
+    let same : IsUnchanged c.args.self.now (record { tree = c.set_value.new.self; handles = c.args.self.now.handles }) = record {
+      tree = c.in-Err-set_value.ensures.err;
+      handles = refl;
+      known = subst (λ (keys : Keys). KnowsKeys (record { tree = keys; handles = c.args.self.now.handles })) (sym c.in-Err-set_value.ensures.err) c.requires.ready.known;
+    } in
     lacking c.args.self.now _ c.args.session c.args.moment c.args.number (SetValue c.args.handle c.args.name.now c.args.kind c.args.bytes.now) c.lack_of.result same
     refl (λ space. (let full = c.lack_of.ensures space in (
       c.in-Err-set_value.ensures.full (ap (λ f. Err f) full),
