@@ -11,8 +11,8 @@ use Rattle.reg_model.specs.Causes.{by_handle}
 use Rattle.reg_model.proofs.HandleInvariant.{Has, target-there}
 use Rattle.reg_tree.specs.TreeKeys.{IsAt}
 use Rattle.reg_tree.specs.declared.node.Node.{Node}
-use Rattle.reg_handles.specs.HandleTables.{payload_on}
-use Rattle.reg_handles.specs.FoundHandles.{destination_shown, HasPayload}
+use Rattle.reg_handles.specs.HandleTables.{payload_on, IsFoldedPath}
+use Rattle.reg_handles.specs.FoundHandles.{destination_shown, IfLeads, HasPayload}
 use Rattle.reg_handles.specs.declared.keys.Target.{Target}
 use Rattle.reg_handles.specs.declared.handles.Found.{Found}
 use Rattle.reg_calls.specs.declared.store.Store.{Store}
@@ -32,6 +32,10 @@ pub lent-node : (store : Store) (f : Found Node) (target : Target Node) → Know
     IsAt store.tree (path_of target.path.now) target.payload
 lent-node store f target known has is =
     known target.path.now target.payload (subst (λ (o : Option (Target Node)). IfSome o (λ t. payload_on store.handles t.path.now ≡ Some t.payload)) is has)
+
+-- and with a path's text
+pub lent-text : (f : Found Node) (target : Target Node) → IfLeads (Some f) IsFoldedPath → f.target ≡ Some target → IsFoldedPath target.path.now
+lent-text f target text is = subst (λ (o : Option (Target Node)). IfSome o (λ t. IsFoldedPath t.path.now)) is text
 
 -- the key of a target is there
 pub target-has : (store : Store) (session number : ℕ) (t : IsTarget store session number) → IsStanding store.tree.tree store.handles.handles → Has store.tree.tree t.path

@@ -1,9 +1,11 @@
 pub mod RunSteps
 pub mod HandleLookUps
+pub mod FoundPaths
 pub mod KnownKeys
 pub mod RefusalTests
 pub mod TableAndLimitLemmas
 pub mod StoreAfterChange
 pub mod HiveInvariantLemmas
+pub mod AdmittedChanges
 pub mod QueryAnswers
 pub mod NewHives

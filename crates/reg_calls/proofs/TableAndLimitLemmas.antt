@@ -1,6 +1,6 @@
 -- What is known of handles that come and go, and of limits that were not passed.
-use Rattle.std.proofs.Common.{◌≡◌, ℕ, ◌+◌, ◌<◌, ◌≤◌, Bool, true, false, ◌||◌, ◌&&◌, nat_lt, cond, is_some, List, [], ◌∷◌, ◌++◌, map, length, Option}
-use Rattle.std.proofs.Common.{Some, None, refl, sym, ap, ◌∙◌, subst, arith, true≢false, append_assoc, length-append}
+use Rattle.std.proofs.Common.{◌≡◌, ℕ, ◌+◌, ◌<◌, ◌≤◌, Bool, true, false, ◌||◌, ◌&&◌, nat_lt, cond, is_some, List, [], ◌∷◌, ◌++◌, map, length}
+use Rattle.std.proofs.Common.{Some, refl, sym, ap, ◌∙◌, subst, arith, true≢false, append_assoc, length-append}
 use Rattle.std.specs.Prelude.{All}
 use Rattle.std.specs.List.{AllByRecursion}
 use Rattle.std.proofs.lemmas.List.{append-nil, length-map}
@@ -14,20 +14,8 @@ use Rattle.reg_heap.specs.Edits.{missing, has_child, child_path, are_too_many}
 use Rattle.reg_model.specs.Worlds.{Handle, look, numbered, closed}
 use Rattle.reg_model.proofs.HandleInvariant.{Has}
 use Rattle.reg_model.proofs.LegalJournals.{numbered-push}
-use Rattle.reg_calls.specs.declared.store.Store.{Store}
-use Rattle.reg_calls.specs.Internal.Stores.{IsTarget}
-use Rattle.reg_calls.proofs.HandleLookUps.{by_handle-at}
-use Rattle.reg_calls.proofs.RefusalTests.{Refuses}
 
 -- ---- handles
-
-some-none : {A : Type 0} (o : Option A) (a : A) → o ≡ None → o ≡ Some a → ⊥
-some-none None a e f = absurd (cc)
-some-none (Some x) a e f = absurd (cc)
-
--- a handle that leads to a key isn't refused
-pub not_refused_by : (store : Store) (session h status : ℕ) → IsTarget store session h → Refuses store session h status → ⊥
-not_refused_by store session h status t r = some-none _ status (by_handle-at store session h t (λ x. None)) (r (λ x. None))
 
 closed-all : (n : ℕ) (hs : List Handle) → AllByRecursion (λ (x : Handle). x.number < n) hs → (h : Handle) → h.number ≡ n → closed n (hs ++ h ∷ []) ≡ hs
 closed-all n [] b h e = rw (eq-eqb h.number n e) refl

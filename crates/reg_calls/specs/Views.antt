@@ -58,7 +58,7 @@ pub record IsHive (v : View) : Type 0 where
   pub sound : IsSound v.keys.bins.bytes v.keys.bins.heads
   pub whole : IsWholeTree v.keys.bins.bytes v.keys.root v.keys.tree
 
--- the same of a hive's parts; room is kept for the closing of each open handle; and the nodes of the keys that handles lead to are known
+-- the same of a hive's parts; room is kept for the closing of each open handle; and each node that is kept is that of its key
 pub record HiveInvariant (origin : Tree) (journal : List Entry) (store : Store) (room : ℕ) : Type 0 where
   pub hive : IsHive (record { origin = origin; journal = journal; keys = store.tree; handles = store.handles.handles })
   pub room_kept : length store.handles.handles ≤ room

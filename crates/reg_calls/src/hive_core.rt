@@ -3,12 +3,11 @@ ghost use Rattle.std.specs.Prelude.{◌≡◌, ◌<◌, ◌≤◌, [], Some, Non
 ghost use Rattle.reg_heap.specs.Trees.{IsTree, IsWithinLimits};
 ghost use Rattle.reg_arena.specs.Arena.{IsSound};
 ghost use Rattle.reg_model.specs.declared.limits.TheConstants.{JOURNAL_LIMIT, SESSIONS_LIMIT};
-ghost use Rattle.reg_model.specs.Causes.{change_cause};
 ghost use Rattle.reg_model.specs.Callbacks.{no_callbacks};
 ghost use Rattle.reg_model.specs.Replies.{refusal};
 ghost use Rattle.reg_tree.specs.TreeKeys.{IsWholeTree};
 ghost use Rattle.reg_calls.specs.Shortages.{is_closing};
-ghost use Rattle.reg_calls.specs.Views.{state, IsApplied, IsAppliedBy, IsRead, IsHive};
+ghost use Rattle.reg_calls.specs.Views.{state, IsApplied, IsRead, IsHive};
 
 use crate::journal::Journal;
 use crate::store::Store;
@@ -148,21 +147,25 @@ impl Core {
         self.store.tree.arena()
     }
 
-    /// Makes a change that nothing refuses, as the journal's next entry.
-    fn accept(&mut self, session: u8, moment: u64, change: Change) -> ChangeReply
-        requires session { session < SESSIONS_LIMIT }
-        requires cause { change_cause (state self.old) session change 0 ≡ None }
-        ensures { IsAppliedBy None self.old self.new session moment change result }
+    /// Answers a change: refused by its cause, or made and noted as the journal's next entry, or given up for want of memory or space.
+    pub fn apply(&mut self, session: u8, moment: u64, change: Change) -> ChangeReply
+        requires { session < SESSIONS_LIMIT }
+        ensures { IsApplied no_callbacks self.old self.new session moment change result }
     {
+        let number = self.journal.len();
+        let admitted = match self.store.admit(self.alloc, number, session, &change) {
+            Ok(admitted) => admitted,
+            Err(refusal) => return refuse(refusal.status()),
+        };
         let handles = self.store.handles.len();
         match keep_room(&mut self.journal, handles, &change) {
             Ok(()) => {}
             Err(_) => return refuse(NOT_ENOUGH_MEMORY),
         }
-        let number = self.journal.len() as u64;
+        let number = number as u64;
         match self
             .store
-            .make(self.alloc, session, moment, number, &change)
+            .commit(self.alloc, session, moment, number, admitted)
         {
             Ok(reply) => {
                 // Only for its clauses: what is true of every tree's cells.
@@ -177,17 +180,6 @@ impl Core {
                 reply
             }
             Err(lack) => refuse(lack.status()),
-        }
-    }
-
-    /// Answers a change: refused by its cause, or made and noted, or given up for want of memory or space.
-    pub fn apply(&mut self, session: u8, moment: u64, change: Change) -> ChangeReply
-        requires { session < SESSIONS_LIMIT }
-        ensures { IsApplied no_callbacks self.old self.new session moment change result }
-    {
-        match self.store.cause(self.journal.len(), session, &change) {
-            Some(status) => refuse(status),
-            None => self.accept(session, moment, change),
         }
     }
 

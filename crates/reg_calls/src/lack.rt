@@ -1,6 +1,7 @@
 ghost use Rattle.std.specs.Prelude.{◌≡◌};
 ghost use Rattle.reg_calls.specs.Views.{status_of};
 
+use reg_arena::ArenaFault;
 use reg_model::statuses::{NO_SYSTEM_RESOURCES, NOT_ENOUGH_MEMORY};
 
 /// Why an acceptable change isn't made.
@@ -20,6 +21,19 @@ impl Lack {
         match self {
             Lack::Space => NO_SYSTEM_RESOURCES,
             Lack::Memory => NOT_ENOUGH_MEMORY,
+        }
+    }
+}
+
+impl From<ArenaFault> for Lack {
+    ghost use Rattle.reg_calls.specs.Internal.Lacks.{lack_of};
+
+    ghost from_gives = { λ fault lack. lack ≡ lack_of fault };
+
+    fn from(fault: ArenaFault) -> Lack {
+        match fault {
+            ArenaFault::Full => Lack::Space,
+            ArenaFault::Memory => Lack::Memory,
         }
     }
 }

@@ -1,14 +1,18 @@
-//! The keys of a hive and the open handles on them: what calls look up.
-ghost use Rattle.std.specs.Prelude.{◌≡◌, ◌≤◌, ◌+◌, ◌++◌, true, false, length, map, not, is_some, IfOk};
-ghost use Rattle.std.specs.FinMap.{get};
+//! The keys of a hive and the open handles on them: what every call looks up, and the counts that several ask.
+ghost use Rattle.std.specs.Prelude.{◌≡◌, ◌<◌, ◌≤◌, ◌+◌, ◌++◌, true, false, length, map, IfOk, IfErr, OnOk, Some};
 ghost use Rattle.reg_names.specs.declared.TheConstants.{PATH_LIMIT};
 ghost use Rattle.reg_names.specs.Names.{is_path, path_of, folded};
-ghost use Rattle.reg_model.specs.Worlds.{path_from};
-ghost use Rattle.reg_calls.specs.Internal.Stores.{IsReady, IsLooked, IsTarget, KnowsKeys};
+ghost use Rattle.reg_heap.specs.Edits.{folded_path};
+ghost use Rattle.reg_model.specs.declared.limits.TheConstants.{JOURNAL_LIMIT, SESSIONS_LIMIT};
+ghost use Rattle.reg_model.specs.Causes.{change_cause, is_full as is_full_of, no_handle_room, is_bad_open as is_bad_open_of};
+ghost use Rattle.reg_handles.specs.HandleTables.{IsFoldedPath};
+ghost use Rattle.reg_calls.specs.Internal.Stores.{at, IsReady, IsLooked, IsOpened, KnowsKeys};
 
-use reg_handles::{Found, Handles};
-use reg_model::statuses::{INVALID_HANDLE, KEY_DELETED};
-use reg_names::join_paths;
+use reg_handles::Handles;
+use reg_model::limits::{HANDLES_LIMIT, JOURNAL_LIMIT};
+use reg_model::rights::NO_RIGHTS;
+use reg_model::statuses::{INVALID_HANDLE, INVALID_PARAMETER, KEY_DELETED, NO_SYSTEM_RESOURCES};
+use reg_names::{check_path, join_paths};
 use reg_tree::{Node, Tree};
 use std::alloc::{AllocError, Global};
 
@@ -21,17 +25,39 @@ pub struct Store {
 
 /// An open handle that leads to a key.
 #[derive(Clone, Copy)]
-pub struct KeyHandle {
+pub struct KeyHandle<'a> {
     /// Its rights.
     pub mask: u32,
+    /// The path of its key, as folded text.
+    pub path: &'a [u8],
     /// Its key.
     pub node: Node,
 }
 
+/// The path from the root to the end of a path from a key, as folded text, by that key's own. Its one fault is that memory was
+/// refused.
+pub fn path_below(alloc: Global, above: &[u8], path: &[u8]) -> Result<Vec<u8>, AllocError>
+    requires above { IsFoldedPath above.now }
+    requires path { is_path path.now ≡ true }
+    ensures names { IfOk result (λ text. path_of text.items ≡ path_of above.now ++ folded_path path.now) }
+    ensures valid { length (path_of above.now ++ folded_path path.now) ≤ PATH_LIMIT → IfOk result (λ text. is_path text.items ≡ true) }
+    ensures folded { IfOk result (λ text. map folded (path_of text.items) ≡ path_of text.items) }
+{
+    join_paths(alloc, above, path)
+}
+
+fn is_bad_open(path: &[u8], mask: u32) -> bool
+    ensures { result ≡ is_bad_open_of path.now mask }
+{
+    check_path(path).is_err() || mask & NO_RIGHTS != 0
+}
+
 impl Store {
+    ghost use Rattle.reg_model.specs.declared.call.Change.TheVariants.{OpenKey, CreateKey};
+
     /// The session's handle of that number, or the status of the refusal: 6 where there is none, 1018 where its key was
     /// deleted.
-    pub fn key_of(&self, session: u8, handle: u64) -> Result<KeyHandle, u32>
+    pub fn key_of(&self, session: u8, handle: u64) -> Result<KeyHandle<'_>, u32>
         requires { KnowsKeys self.now }
         ensures { IsLooked self.now session handle result }
     {
@@ -43,32 +69,58 @@ impl Store {
         };
         Ok(KeyHandle {
             mask: found.mask,
+            path: target.path,
             node: target.payload,
         })
     }
 
-    /// The path from the root to the end of a path from the key of a handle, as folded text.
-    pub fn path_to(
+    /// Whether the journal has no room for one more entry beside the closings of the open handles.
+    pub fn is_full(&self, entries: usize) -> bool
+        requires { entries + length self.now.handles.handles ≤ JOURNAL_LIMIT }
+        ensures { result ≡ is_full_of 1 (at entries self.now) }
+    {
+        entries + 1 + self.handles.len() > JOURNAL_LIMIT
+    }
+
+    /// Whether the session has as many handles as there may be, or the journal has no room for an entry and the closing of
+    /// the handle that it opens.
+    pub fn has_no_handle_room(&self, entries: usize, session: u8) -> bool
+        requires session { session < SESSIONS_LIMIT }
+        requires small { entries + length self.now.handles.handles ≤ JOURNAL_LIMIT }
+        ensures { result ≡ no_handle_room session (at entries self.now) }
+    {
+        self.handles.count(session) >= HANDLES_LIMIT
+            || entries + 2 + self.handles.len() > JOURNAL_LIMIT
+    }
+
+    /// What is asked first by the two calls that open a handle by another: that handle's key, or why both are refused, for the
+    /// handle, the path or the mask, or for want of room for one more handle.
+    pub fn key_to_open_at(
         &self,
-        alloc: Global,
+        entries: usize,
         session: u8,
         handle: u64,
         path: &[u8],
-    ) -> Result<Vec<u8>, AllocError>
-        requires target { IsTarget self.now session handle }
-        requires path { is_path path.now ≡ true }
-        ensures names { IfOk result (λ text. path_of text.items ≡ path_from session handle self.now.handles.handles path.now) }
-        ensures valid { length (path_from session handle self.now.handles.handles path.now) ≤ PATH_LIMIT → IfOk result (λ text. is_path text.items ≡ true) }
-        ensures folded { IfOk result (λ text. map folded (path_of text.items) ≡ path_of text.items) }
+        mask: u32,
+    ) -> Result<KeyHandle<'_>, u32>
+        requires session { session < SESSIONS_LIMIT }
+        requires ready { IsReady entries self.now }
+        ensures open { IfErr result (λ status. change_cause (at entries self.now) session (OpenKey handle path.now mask) 0 ≡ Some status) }
+        ensures create { IfErr result (λ status. change_cause (at entries self.now) session (CreateKey handle path.now mask) 0 ≡ Some status) }
+        ensures key { IfOk result (λ key. IsOpened self.now session handle key) }
+        ensures good { OnOk result (is_bad_open_of path.now mask ≡ false) }
+        ensures room { OnOk result (no_handle_room session (at entries self.now) ≡ false) }
     {
-        match self.handles.look(session, handle) {
-            Some(
-                Found {
-                    target: Some(above),
-                    ..
-                },
-            ) => join_paths(alloc, above.path, path),
-            _ => unreachable!(),
+        let key = match self.key_of(session, handle) {
+            Ok(key) => key,
+            Err(status) => return Err(status),
+        };
+        if is_bad_open(path, mask) {
+            return Err(INVALID_PARAMETER);
         }
+        if self.has_no_handle_room(entries, session) {
+            return Err(NO_SYSTEM_RESOURCES);
+        }
+        Ok(key)
     }
 }

@@ -14,6 +14,7 @@ pub record Table (K : Type 0) : Type 0 where
   pub handles : List Handle
   pub payloads : List (List ℕ × Option K)
 
+-- what is found, where something is kept there
 abbrev pub joined : {K : Type 0} → Option (Option K) → Option K
 joined None = None
 joined (Some o) = o

@@ -24,7 +24,7 @@ pub struct Found<'a, K> {
 }
 
 /// The open handles of a hive by number, with the keys that they lead to and a count for each session. For each path that handles
-/// lead to it keeps a payload of its owner's, and hands it back.
+/// lead to it keeps a payload of its owner's, a small `Copy` value, and hands it back.
 #[derive(Drop)]
 pub struct Handles<K> {
     rows: Rows,

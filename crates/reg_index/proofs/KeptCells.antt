@@ -7,8 +7,7 @@ use Rattle.reg_heap.specs.Heaps.{Heap}
 use Rattle.reg_heap.specs.ByteWords.{splice}
 use Rattle.reg_arena.specs.Arena.{Bins, heap_of}
 use Rattle.reg_records.specs.RecordCells.{held, WritesCell}
-use Rattle.reg_index.specs.Subkeys.{KeepsCells, insert_size, place_of}
-use Rattle.reg_index.proofs.InsertSizes.{first-size}
+use Rattle.reg_index.specs.Subkeys.{KeepsCells}
 use Rattle.reg_index.proofs.LeafGaps.{changed-here, changed-others, spliced-long}
 
 pub kept-then : (h i j : Heap) → KeepsCells h i → KeepsCells i j → KeepsCells h j
@@ -51,14 +50,6 @@ long-there heap cell long = by (heap cell) long
     by : (o : Option (List ℕ)) → 0 < length (unwrap_or o []) → IsSome o
     by None l = absurd (omega (arith, l))
     by (Some content) l = refl
-
--- ---- where the list stands
-
-pub first-place : (heap : Heap) (count offset fresh : ℕ) → count ≡ 0 → fresh ≡ place_of (insert_size heap count offset) offset fresh
-first-place heap count offset fresh none = ap (λ size. place_of size offset fresh) (first-size heap count offset none)
-
-pub same-place : (heap : Heap) (count offset fresh : ℕ) (size : Option ℕ) → insert_size heap count offset ≡ size → place_of size offset fresh ≡ place_of (insert_size heap count offset) offset fresh
-same-place heap count offset fresh size e = ap (λ size. place_of size offset fresh) (sym e)
 
 pub is-there : (new old : Heap) (cell : ℕ) → new cell ≡ old cell → IsSome (old cell) → IsSome (new cell)
 is-there new old cell same there = subst IsSome (sym same) there

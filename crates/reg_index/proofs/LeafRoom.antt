@@ -1,5 +1,5 @@
 -- A gap for one subkey more, in the list's cell or in one carved for it.
-use Rattle.std.proofs.Common.{◌≡◌, ◌≢◌, ℕ, zero, suc, ◌+◌, ◌*◌, ◌<◌, ◌≤◌, Some, None, List, [], ◌∷◌, ◌++◌, length, refl, sym, ap, ◌∙◌, subst, arith, inl, inr, ◌⊎◌}
+use Rattle.std.proofs.Common.{◌≡◌, ◌≢◌, ℕ, zero, suc, ◌+◌, ◌*◌, ◌<◌, ◌≤◌, Option, Some, None, List, [], ◌∷◌, ◌++◌, length, refl, sym, ap, ◌∙◌, subst, arith, inl, inr, ◌⊎◌}
 use Rattle.std.proofs.lemmas.Bool.{cases_lt}
 use Rattle.std.proofs.lemmas.Option.{none-some, same_Some}
 use Rattle.reg_heap.specs.Heaps.{Heap, CellFrame, Writes}
@@ -34,21 +34,21 @@ size-some heap count offset size some e = by (cases_lt (length (held heap offset
 
 -- ---- the first subkey
 
-pub first-gap : (heap : Heap) (count offset fresh index : ℕ) → count ≡ 0 → IsReady heap (insert_size heap count offset) fresh →
+pub first-gap : (heap : Heap) (count offset fresh index : ℕ) → count ≡ 0 → IsReady heap (insert_size heap count offset) (Some fresh) →
     ((entries : List Entry) × AreSubkeys heap count offset entries × (index ≤ length entries))
     → (entries : List Entry) → AreSubkeys heap count offset entries → HasGap heap fresh index entries
 first-gap heap count offset fresh index none ready s entries t =
-    let r : IsReady heap (Some FIRST_LIST_SIZE) fresh = subst (λ size. IsReady heap size fresh) (sym (first-size heap count offset none)) ready in
+    let r : IsReady heap (Some FIRST_LIST_SIZE) (Some fresh) = subst (λ size. IsReady heap size (Some fresh)) (sym (first-size heap count offset none)) ready in
     let nothing : (es : List Entry) → AreSubkeys heap count offset es → length es ≡ 0 = λ es t. t.number ∙ none in
     by r index entries (nothing entries t) (let n = nothing s.0 s.1 in omega (arith, s.2, n))
   where
-    by : IsReady heap (Some FIRST_LIST_SIZE) fresh → (index : ℕ) (entries : List Entry) → length entries ≡ 0 → index ≤ 0 → HasGap heap fresh index entries
+    by : IsReady heap (Some FIRST_LIST_SIZE) (Some fresh) → (index : ℕ) (entries : List Entry) → length entries ≡ 0 → index ≤ 0 → HasGap heap fresh index entries
     by r zero [] n l = record { exists = r.0; room = omega (arith, r.1); before = refl; behind = refl }
     by r zero (e ∷ es) n l = absurd (omega arith)
     by r (suc index) entries n l = absurd (omega arith)
 
-pub first-moves : (heap : Heap) (count offset fresh : ℕ) → count ≡ 0 → Moves heap heap (own heap count offset ++ taken (insert_size heap count offset) fresh) (fresh ∷ [])
-first-moves heap zero offset fresh none = subst (λ size. Moves heap heap (taken size fresh) (fresh ∷ [])) (first-size heap zero offset none) (record { count = λ z. refl; same = λ z gone came. refl })
+pub first-moves : (heap : Heap) (count offset fresh : ℕ) → count ≡ 0 → Moves heap heap (own heap count offset ++ taken (Some fresh)) (fresh ∷ [])
+first-moves heap zero offset fresh none = record { count = λ z. refl; same = λ z gone came. refl }
 first-moves heap (suc count) offset fresh none = absurd (omega arith)
 
 -- ---- the list as it is
@@ -68,35 +68,53 @@ pub gap-of : (old new : Heap) (count offset at index : ℕ) → (count ≡ 0 →
     → (entries : List Entry) → AreSubkeys old count offset entries → HasGap new at index entries
 gap-of old new count offset at index some gap entries s = let h = leaf-of old count offset some entries s in gap entries h.0 h.1
 
+-- ---- what was carved says what was planned
+
+pub none-planned : (heap : Heap) (plan : Option ℕ) → IsReady heap plan None → plan ≡ None
+none-planned heap None ready = refl
+none-planned heap (Some size) ready = absurd ready
+
+some-planned : (heap : Heap) (plan : Option ℕ) (cell : ℕ) → IsReady heap plan (Some cell) → (size : ℕ) × (plan ≡ Some size)
+some-planned heap None cell ready = absurd ready
+some-planned heap (Some size) cell ready = (size, refl)
+
+-- where none was, there is a list
+pub none-first : (heap : Heap) (count offset : ℕ) → IsReady heap (insert_size heap count offset) None → count ≡ 0 → ⊥
+none-first heap count offset ready none = none-some _ (sym (none-planned heap (insert_size heap count offset) ready) ∙ sym (first-size heap count offset none))
+
 -- ---- in the list's cell
 
-pub within-moves : (old new : Heap) (count offset fresh index : ℕ) → ((entries : List Entry) × AreSubkeys old count offset entries × (index ≤ length entries)) →
-    (count ≡ 0 → ⊥) → insert_size old count offset ≡ None → Writes old new (offset ∷ [])
-    → Moves old new (own old count offset ++ taken (insert_size old count offset) fresh) (offset ∷ [])
-within-moves old new count offset fresh index s some e w =
-    subst (λ cells. Moves old new (cells ++ taken (insert_size old count offset) fresh) (offset ∷ []))
-    (sym (own-leaf old count offset s.0 s.1 (omega (arith, some)))) (subst (λ size. Moves old new (offset ∷ taken size fresh) (offset ∷ [])) (sym e) w)
+pub within-room : (heap : Heap) (count offset : ℕ) → IsReady heap (insert_size heap count offset) None → 4 + 8 * (count + 1) ≤ length (held heap offset)
+within-room heap count offset ready =
+    let some = none-first heap count offset ready in
+    size-none heap count offset (omega (arith, some)) (none-planned heap (insert_size heap count offset) ready)
+
+pub within-moves : (old new : Heap) (count offset index : ℕ) → ((entries : List Entry) × AreSubkeys old count offset entries × (index ≤ length entries)) →
+    (count ≡ 0 → ⊥) → Writes old new (offset ∷ []) → Moves old new (own old count offset ++ taken None) (offset ∷ [])
+within-moves old new count offset index s some w =
+    subst (λ cells. Moves old new (cells ++ taken None) (offset ∷ [])) (sym (own-leaf old count offset s.0 s.1 (omega (arith, some)))) w
 
 -- ---- in another cell
 
-module _ (heap : Heap) (count offset fresh size : ℕ) (some : count ≡ 0 → ⊥) (is : insert_size heap count offset ≡ Some size) (ready : IsReady heap (insert_size heap count offset) fresh) where
-  next : IsNext heap count offset size
-  next = size-some heap count offset size (omega (arith, some)) is
+module _ (heap : Heap) (count offset cell : ℕ) (some : count ≡ 0 → ⊥) (ready : IsReady heap (insert_size heap count offset) (Some cell)) where
+  size : (size : ℕ) × (insert_size heap count offset ≡ Some size)
+  size = some-planned heap (insert_size heap count offset) cell ready
 
-  carved : IsReady heap (Some size) fresh
-  carved = subst (λ size. IsReady heap size fresh) is ready
+  next : IsNext heap count offset size.0
+  next = size-some heap count offset size.0 (omega (arith, some)) size.1
 
-  pub fresh-room : HasRoom heap fresh (4 + 8 * (count + 1))
+  carved : IsReady heap (Some size.0) (Some cell)
+  carved = subst (λ plan. IsReady heap plan (Some cell)) size.1 ready
+
+  pub fresh-room : HasRoom heap cell (4 + 8 * (count + 1))
   fresh-room = record { exists = carved.0; enough = omega (arith, carved.1, next.size_is) }
 
-  pub fresh-apart : fresh ≢ offset
+  pub fresh-apart : cell ≢ offset
   fresh-apart e =
-      let same : length (held heap fresh) ≡ length (held heap offset) = ap (λ z. length (held heap z)) e in
+      let same : length (held heap cell) ≡ length (held heap offset) = ap (λ z. length (held heap z)) e in
       absurd (omega (arith, same, carved.1, next.size_is, next.short))
 
-pub move-moves : (old new : Heap) (count offset fresh size index : ℕ) → ((entries : List Entry) × AreSubkeys old count offset entries × (index ≤ length entries)) →
-    (count ≡ 0 → ⊥) → insert_size old count offset ≡ Some size → CellFrame old new (λ z. times z (offset ∷ fresh ∷ [])) (λ z. times z (fresh ∷ []))
-    → Moves old new (own old count offset ++ taken (insert_size old count offset) fresh) (fresh ∷ [])
-move-moves old new count offset fresh size index s some e w =
-    subst (λ cells. Moves old new (cells ++ taken (insert_size old count offset) fresh) (fresh ∷ []))
-    (sym (own-leaf old count offset s.0 s.1 (omega (arith, some)))) (subst (λ size. Moves old new (offset ∷ taken size fresh) (fresh ∷ [])) (sym e) w)
+pub move-moves : (old new : Heap) (count offset cell index : ℕ) → ((entries : List Entry) × AreSubkeys old count offset entries × (index ≤ length entries)) →
+    (count ≡ 0 → ⊥) → CellFrame old new (λ z. times z (offset ∷ cell ∷ [])) (λ z. times z (cell ∷ [])) → Moves old new (own old count offset ++ taken (Some cell)) (cell ∷ [])
+move-moves old new count offset cell index s some w =
+    subst (λ cells. Moves old new (cells ++ taken (Some cell)) (cell ∷ [])) (sym (own-leaf old count offset s.0 s.1 (omega (arith, some)))) w

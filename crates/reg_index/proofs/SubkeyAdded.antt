@@ -45,28 +45,29 @@ length-with index entry entries l = omega (arith, l, length-append (take index e
 
 -- ---- the cells that were given up held no key
 
-taken-none : (heap : Heap) (size : Option ℕ) (fresh key : ℕ) → IsReady heap size fresh → IsSome (key_at heap key) → times key (taken size fresh) ≡ 0
-taken-none heap None fresh key ready some = refl
-taken-none heap (Some size) fresh key ready some =
-    times-not key fresh [] (λ same. false≢true (subst IsSome ready.2 (subst (λ z. IsSome (key_at heap z)) (sym same) some))) refl
+taken-none : (heap : Heap) (plan fresh : Option ℕ) (key : ℕ) → IsReady heap plan fresh → IsSome (key_at heap key) → times key (taken fresh) ≡ 0
+taken-none heap plan None key ready some = refl
+taken-none heap None (Some cell) key ready some = absurd ready
+taken-none heap (Some size) (Some cell) key ready some =
+    times-not key cell [] (λ same. false≢true (subst IsSome ready.2 (subst (λ z. IsSome (key_at heap z)) (sym same) some))) refl
 
-given-none : (heap : Heap) (count offset fresh key : ℕ) (entries : List Entry) → AreSubkeys heap count offset entries →
+given-none : (heap : Heap) (count offset : ℕ) (fresh : Option ℕ) (key : ℕ) (entries : List Entry) → AreSubkeys heap count offset entries →
     IsReady heap (insert_size heap count offset) fresh → IsSome (key_at heap key) →
-    times key (own heap count offset ++ taken (insert_size heap count offset) fresh) ≡ 0
+    times key (own heap count offset ++ taken fresh) ≡ 0
 given-none heap zero offset fresh key entries s ready some = taken-none heap (insert_size heap zero offset) fresh key ready some
 given-none heap (suc count) offset fresh key entries s ready some =
-    subst (λ cells. times key (cells ++ taken (insert_size heap (suc count) offset) fresh) ≡ 0) (sym (own-leaf heap (suc count) offset entries s (omega arith)))
-    (times-not key offset (taken (insert_size heap (suc count) offset) fresh)
+    subst (λ cells. times key (cells ++ taken fresh) ≡ 0) (sym (own-leaf heap (suc count) offset entries s (omega arith)))
+    (times-not key offset (taken fresh)
     (λ same. key-or-leaf heap offset entries (subkeys-open heap (suc count) offset entries s (omega arith)).leaf
     (subst (λ z. IsSome (key_at heap z)) (sym same) some))
     (taken-none heap (insert_size heap (suc count) offset) fresh key ready some))
 
 -- ---- the subkeys with one more
 
-module _ (old between new : Heap) (count offset fresh at after index key : ℕ) (more : after ≡ count + 1) (few : count < LEAF_LIMIT)
+module _ (old between new : Heap) (count offset : ℕ) (fresh : Option ℕ) (at after index key : ℕ) (more : after ≡ count + 1) (few : count < LEAF_LIMIT)
     (some : IsSome (key_at old key)) (ready : IsReady old (insert_size old count offset) fresh)
-    (opened : Moves old between (own old count offset ++ taken (insert_size old count offset) fresh) (at ∷ [])) (filled : Writes between new (at ∷ [])) where
-  moved : CellFrame old new (λ z. times z (own old count offset ++ taken (insert_size old count offset) fresh)) (λ z. times z (at ∷ []))
+    (opened : Moves old between (own old count offset ++ taken fresh) (at ∷ [])) (filled : Writes between new (at ∷ [])) where
+  moved : CellFrame old new (λ z. times z (own old count offset ++ taken fresh)) (λ z. times z (at ∷ []))
   moved = record {
     count = λ z. omega (arith, opened.count z, filled.count z);
     same = λ z gone came. filled.same z came came ∙ opened.same z gone came;
@@ -93,7 +94,7 @@ module _ (old between new : Heap) (count offset fresh at after index key : ℕ) 
         (put entries (gap entries s) (omega (arith, s.number, more)) within)
 
     stay : (z : ℕ) → IsSome (key_at old z) → key_at new z ≡ key_at old z
-    stay z is = key-stays old new (λ z. times z (own old count offset ++ taken (insert_size old count offset) fresh)) (λ z. times z (at ∷ [])) z moved is
+    stay z is = key-stays old new (λ z. times z (own old count offset ++ taken fresh)) (λ z. times z (at ∷ [])) z moved is
         (given-none old count offset fresh z entries s ready is)
 
     all-stay : Stay old new (with_one index (entry_for old key) entries)
@@ -107,9 +108,9 @@ module _ (old between new : Heap) (count offset fresh at after index key : ℕ) 
         (omega (arith, length-with index (entry_for old key) entries within, s.number, more)) (omega (arith, few, more))
         (keys-stay old new (with_one index (entry_for old key) entries) (keys-with old index key entries some (keys-of old count offset entries s) offset_is) all-stay)
 
-    pub one-moves : Moves old new (own old count offset ++ taken (insert_size old count offset) fresh) (own new after at)
+    pub one-moves : Moves old new (own old count offset ++ taken fresh) (own new after at)
     one-moves =
-        subst (λ cells. Moves old new (own old count offset ++ taken (insert_size old count offset) fresh) cells)
+        subst (λ cells. Moves old new (own old count offset ++ taken fresh) cells)
         (sym (own-leaf new after at (with_one index (entry_for old key) entries) one-more (omega (arith, more)))) moved
 
 -- what filling the gap needs

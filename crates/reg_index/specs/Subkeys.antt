@@ -90,19 +90,16 @@ abbrev pub own : Heap → ℕ → ℕ → List ℕ
 own heap count offset = cells_of_index (unwrap_or (index_at heap count offset) Unlisted)
 
 -- the cell that was carved for an insert, where one was
-abbrev pub taken : Option ℕ → ℕ → List ℕ
-taken None fresh = []
-taken (Some size) fresh = fresh ∷ []
+abbrev pub taken : Option ℕ → List ℕ
+taken None = []
+taken (Some cell) = cell ∷ []
 
--- the cell that was carved for an insert has the size that it needs, and holds no key
-abbrev pub IsReady : Heap → Option ℕ → ℕ → Type 0
-IsReady heap None fresh = Unit {0}
-IsReady heap (Some size) fresh = IsSome (heap fresh) × (length (held heap fresh) + 4 ≡ size) × (key_at heap fresh ≡ None)
-
--- where a list stands when it got one subkey more: in the cell carved for it, where one was, and else where it stood
-abbrev pub place_of : Option ℕ → ℕ → ℕ → ℕ
-place_of None offset fresh = offset
-place_of (Some size) offset fresh = fresh
+-- a cell was carved for an insert just where one is planned; it has the size that is needed, and holds no key
+abbrev pub IsReady : Heap → Option ℕ → Option ℕ → Type 0
+IsReady heap None None = Unit {0}
+IsReady heap None (Some cell) = ⊥
+IsReady heap (Some size) None = ⊥
+IsReady heap (Some size) (Some cell) = IsSome (heap cell) × (length (held heap cell) + 4 ≡ size) × (key_at heap cell ≡ None)
 
 -- each cell that is there now was there before, and holds as many bytes
 abbrev pub KeepsCells : Heap → Heap → Type 0

@@ -153,7 +153,8 @@ fn a_path_of_thirty_three_missing_names_is_refused(rt: HostRuntime) -> Result<()
 fn is_limited_in(alloc: Global, tree: &Tree, names: usize) -> Result<bool, Fail> {
     let path = deep(alloc, names)?;
     check_path(&path)?;
-    Ok(tree.is_limited(tree.root(), &path))
+    let reached = tree.reach(tree.root(), &path);
+    Ok(tree.is_limited(reached))
 }
 
 /// The same of a new tree.
@@ -301,6 +302,17 @@ fn set(tree: &mut Tree, alloc: Global, path: &[u8], name: &[u8], bytes: &[u8]) -
     }
 }
 
+/// Removes a value of the key at a path, and tells what was answered.
+fn remove(tree: &mut Tree, path: &[u8], name: &[u8]) -> &'static str {
+    let Some(node) = at(tree, path) else {
+        return "none";
+    };
+    match tree.delete_value(node, name, 9) {
+        Ok(()) => "removed",
+        Err(fault) => fault_name(fault),
+    }
+}
+
 /// Tells a value of a key: its name, kind and size, and these bytes.
 fn tell_value(
     alloc: Global,
@@ -339,11 +351,14 @@ fn make_with_values(tree: &mut Tree, alloc: Global) {
     let _set = set(tree, alloc, b"A", b"w", b"longer");
 }
 
-/// The values of a key that has two.
+/// The values of a key that has two, after a third was set and removed.
 fn two_values_in(alloc: Global, tree: &mut Tree) -> Result<String, Fail> {
     let mut text = String::new(alloc);
     make_with_values(tree, alloc);
+    let _set = set(tree, alloc, b"A", b"x", b"gone");
+    let answer = remove(tree, b"A", b"X");
     tell_values(alloc, tree, b"a", &mut text)?;
+    write!(text, "{answer}")?;
     Ok(text)
 }
 
@@ -358,7 +373,7 @@ fn values_are_told_in_order(rt: HostRuntime) -> Result<(), Fail> {
     assert_told(
         &rt,
         two_values(rt.alloc()),
-        "v 1 4 [116, 101, 120, 116], w 1 6 [108, 111, 110, 103, 101, 114], ",
+        "v 1 4 [116, 101, 120, 116], w 1 6 [108, 111, 110, 103, 101, 114], removed",
     )
 }
 

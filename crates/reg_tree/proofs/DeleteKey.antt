@@ -8,3 +8,4 @@ pub mod DeleteKeyGraft
 pub mod DeleteKeyObligations
 pub mod DeleteKeyFaults
 pub mod DeleteKeepsNodes
+pub mod DeleteReached

@@ -13,9 +13,11 @@ pub mod InsertKeyObligations
 pub mod SpareCellTaken
 pub mod LengthsOfMade
 pub mod PathGrowth
+pub mod PlaceKept
 pub mod SpareCellsCarved
 pub mod CreatePath
 pub mod CreatePathEnds
 pub mod CreateKeepsNodes
 pub mod TooManyKeys
 pub mod KeyLimits
+pub mod CreateReached

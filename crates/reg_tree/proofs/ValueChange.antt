@@ -2,3 +2,4 @@
 pub mod ValueExchange
 pub mod LargestLengths
 pub mod TreeAfterValueChange
+pub mod ValueAtPlace

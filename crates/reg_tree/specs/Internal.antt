@@ -3,6 +3,7 @@ pub mod FreshCells
 pub mod KeyNodeChanges
 pub mod TreeFaults
 pub mod PathWalks
+pub mod ReachedPlaces
 pub mod KeyDeletion
 pub mod SpareCells
 pub mod KeyCreation

@@ -3,4 +3,5 @@ pub mod CellSizes
 pub mod NewHive
 pub mod KeyLengths
 pub mod ValueAnswers
+pub mod Reaching
 pub mod Internal

@@ -5,7 +5,7 @@
 //! nobody speaks of a cell, save who reads the bytes by [`Tree::arena`].
 //!
 //! It stands on reg_values and reg_index for a key's lists, and on reg_shape for what a whole hive is. Its types are [`Tree`], which
-//! owns its arena; [`Node`], a key of it; [`ValueFound`] and [`TreeFault`].
+//! owns its arena; [`Node`], a key of it; [`Reached`], how far a path leads; [`ValueFound`] and [`TreeFault`].
 //!
 //! Win32 registry reference, "Structure of the Registry"; Suhanov, Windows registry file format specification.
 #![tactic(auto)]
@@ -24,7 +24,7 @@ mod value;
 mod values;
 
 pub use fault::TreeFault;
-pub use node::{Created, Node};
+pub use node::{Created, Node, Reached};
 pub use reg_values::Value;
 pub use tree::Tree;
 pub use value::ValueFound;

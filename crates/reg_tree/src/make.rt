@@ -19,29 +19,39 @@ ghost use Rattle.reg_tree.specs.CellSizes.{create_sizes, own_sizes, planned, siz
 ghost use Rattle.reg_tree.specs.Internal.KeyNodeChanges.{LeavesOthers};
 ghost use Rattle.reg_tree.specs.Internal.TreeInvariant.{IsHere};
 ghost use Rattle.reg_tree.specs.Internal.SpareCells.{MayGrow, Grows, AreReady, MayGrowAll, GrowsAll, IsSpared};
-ghost use Rattle.reg_tree.specs.Internal.KeyCreation.{IsCreated, AreTooMany};
+ghost use Rattle.reg_tree.specs.Internal.KeyCreation.{IsCreated, AreTooMany, LeadsTo};
+ghost use Rattle.reg_tree.specs.Internal.ReachedPlaces.{BelongsAt, BelongsFirst};
+ghost use Rattle.reg_index.specs.declared.plan.TheConstants.{FIRST_LIST_SIZE};
 
 use crate::find::reach;
 use crate::key::{fields, new_key, note_subkeys, subkeys_list};
 use crate::ring::{recount, with_one_more};
-use crate::{Created, Node, TreeFault};
-use reg_arena::{Arena, cell_size};
-use reg_heap::limits::{LEAF_LIMIT, MADE_LIMIT, NONE};
-use reg_index::{FIRST_LIST_SIZE, SubkeysIndex, find, insert, len, plan_insert};
+use crate::{Created, Node, Reached, TreeFault};
+use reg_arena::{Arena, ArenaFault, cell_size};
+use reg_heap::limits::{LEAF_LIMIT, MADE_LIMIT};
+use reg_index::{FIRST_LIST_SIZE, SubkeysIndex, insert, len, plan_insert};
 use reg_names::{PATH_LIMIT, first_name};
 use reg_records::put_nk;
 use std::alloc::{AllocError, Global};
 
-/// Makes a key below another in cells carved for it: its key node, and its parent's list where that takes another cell. What
-/// its parent says of it is noted, with the time.
-fn make(arena: &mut Arena, parent: u32, list_cell: u32, key: u32, name: &[u8], moment: u64)
-    requires grow { (left : List ℕ) × MayGrow arena.old.bytes parent (taken (planned (heap_of arena.old) parent) list_cell ++ key ∷ left) name.now }
+/// Makes a key below another in cells carved for it: its key node, and its parent's list where that takes another cell. It comes to
+/// the index among its parent's subkeys where its name belongs. What its parent says of it is noted, with the time.
+fn make(
+    arena: &mut Arena,
+    parent: u32,
+    index: u32,
+    list_cell: Option<u32>,
+    key: u32,
+    name: &[u8],
+    moment: u64,
+)
+    requires grow { (left : List ℕ) × MayGrow arena.old.bytes parent (taken list_cell ++ key ∷ left) name.now }
+    requires place { BelongsAt (heap_of arena.old) parent name.now index }
     requires ready { IsReady (heap_of arena.old) (planned (heap_of arena.old) parent) list_cell }
     requires room { HasRoom (heap_of arena.old) key (76 + length name.now) }
     requires name { (is_key_name name.now ≡ true) × (length name.now ≤ KEY_NAME_LIMIT) }
     ensures grows { (left : List ℕ) →
-        (m : MayGrow arena.old.bytes parent (taken (planned (heap_of arena.old) parent) list_cell
-        ++ key ∷ left) name.now) →
+        (m : MayGrow arena.old.bytes parent (taken list_cell ++ key ∷ left) name.now) →
         Grows (heap_of arena.old)
         (heap_of arena.new) m.growing.root m.growing.path m.growing.keys m.growing.ring key left name.now moment }
     ensures long { length arena.new.bytes ≡ length arena.old.bytes }
@@ -55,18 +65,26 @@ fn make(arena: &mut Arena, parent: u32, list_cell: u32, key: u32, name: &[u8], m
         count: above.subkeys,
         offset: above.subkeys_list,
     };
-    let Err(index) = find(arena, list, name) else {
-        unreachable!()
-    };
     put_nk(arena, key, &new_key(parent, above.security, moment), name);
     let list = insert(arena, list, list_cell, index, key);
     note_subkeys(arena, parent, list, name.len() as u32, moment);
     recount(arena, above.security, users);
 }
 
-/// Makes a key below another in the first of some spare cells, and answers how many it took; the last of these is the key's.
-fn make_in(arena: &mut Arena, parent: u32, spare: &[u32], name: &[u8], moment: u64) -> usize
+/// Makes a key below another, at the index where its name belongs, in the first of some spare cells, and answers how many it took;
+/// the last of these is the key's. The plan says what cell its parent's list takes.
+fn make_in(
+    arena: &mut Arena,
+    parent: u32,
+    index: u32,
+    plan: Option<u32>,
+    spare: &[u32],
+    name: &[u8],
+    moment: u64,
+) -> usize
     requires grow { MayGrow arena.old.bytes parent spare.now name.now }
+    requires place { BelongsAt (heap_of arena.old) parent name.now index }
+    requires plan { plan ≡ planned (heap_of arena.old) parent }
     requires ready { (more : List (List ℕ)) × AreReady (heap_of arena.old) (planned (heap_of arena.old) parent) (own_sizes name.now ∷ more) spare.now }
     requires name { (is_key_name name.now ≡ true) × (length name.now ≤ KEY_NAME_LIMIT) }
     ensures taken { (1 ≤ result) × (result ≤ 2) × (result ≤ length spare.now) }
@@ -76,28 +94,38 @@ fn make_in(arena: &mut Arena, parent: u32, spare: &[u32], name: &[u8], moment: u
         (get_or spare.now (result - 1) 0) (drop result spare.now) name.now moment }
     ensures ready { (more : List (List ℕ)) →
         AreReady (heap_of arena.old) (planned (heap_of arena.old) parent) (own_sizes name.now ∷ more) spare.now →
-        AreReady (heap_of arena.old) (Some 16) more (drop result spare.now) }
+        AreReady (heap_of arena.old) (Some FIRST_LIST_SIZE) more (drop result spare.now) }
     ensures long { length arena.new.bytes ≡ length arena.old.bytes }
     ensures keeps { KeepsCells (heap_of arena.old) (heap_of arena.new) }
     ensures leaves { (k : KeyRecord) → key_at (heap_of arena.old) parent ≡ Some k →
         LeavesOthers (heap_of arena.old) (heap_of arena.new) (own (heap_of arena.old) k.fields.subkeys k.fields.subkeys_list) }
 {
-    let list = subkeys_list(arena, parent);
-    match plan_insert(arena, list) {
+    match plan {
         None => {
-            make(arena, parent, NONE, spare[0], name, moment);
+            make(arena, parent, index, None, spare[0], name, moment);
             1
         }
         Some(_) => {
-            make(arena, parent, spare[0], spare[1], name, moment);
+            make(arena, parent, index, Some(spare[0]), spare[1], name, moment);
             2
         }
     }
 }
 
-/// Makes the keys of a path, one below the other, in spare cells, and answers the last.
-fn make_all(arena: &mut Arena, from: Node, path: &[u8], spare: &[u32], moment: u64) -> Node
+/// Makes the keys of a path, one below the other, in spare cells, and answers the last. The first belongs at an index among the
+/// subkeys that are there; each other one is the only subkey of the one before, and begins its list.
+fn make_all(
+    arena: &mut Arena,
+    from: Node,
+    index: u32,
+    plan: Option<u32>,
+    path: &[u8],
+    spare: &[u32],
+    moment: u64,
+) -> Node
     requires grow { MayGrowAll arena.old.bytes from (path_of path.now) spare.now }
+    requires place { BelongsFirst (heap_of arena.old) from.offset (path_of path.now) index }
+    requires plan { plan ≡ planned (heap_of arena.old) from.offset }
     requires depth { from.depth ≤ PATH_LIMIT }
     requires path { is_path path.now ≡ true }
     ensures grows { (m : MayGrowAll arena.old.bytes from (path_of path.now) spare.now) →
@@ -109,14 +137,18 @@ fn make_all(arena: &mut Arena, from: Node, path: &[u8], spare: &[u32], moment: u
     ensures stay { (z : ℕ) → 0 < times z spare.now → IsSome (heap_of arena.new z) }
 {
     let mut node = from;
+    let mut index = index;
+    let mut plan = plan;
     let mut rest = path;
     let mut spare = spare;
     while let Some((name, behind)) = first_name(rest) {
-        let taken = make_in(arena, node.offset, spare, name, moment);
+        let taken = make_in(arena, node.offset, index, plan, spare, name, moment);
         node = Node {
             offset: spare[taken - 1],
             depth: node.depth + 1,
         };
+        index = 0;
+        plan = Some(FIRST_LIST_SIZE);
         spare = &spare[taken..];
         rest = behind;
     }
@@ -160,18 +192,16 @@ fn pass_limits(arena: &Arena, parent: Node, path: &[u8]) -> bool
     len(subkeys_list(arena, parent.offset)) >= LEAF_LIMIT
 }
 
-/// Whether keys of a path from a key on are missing, and too many to be made.
-pub fn is_limited(arena: &Arena, from: Node, path: &[u8]) -> bool
-    requires here { (t : IsHere arena.now.bytes from.offset) × (from.depth ≡ length t.path) }
-    requires path { is_path path.now ≡ true }
-    ensures { (t : IsHere arena.now.bytes from.offset) → from.depth ≡ length t.path →
-        result ≡ are_too_many (tree_in arena.now.bytes t.root) t.path (path_of path.now) }
+/// Whether keys were found missing on a path, and are too many to be made.
+pub fn is_limited(arena: &Arena, reached: Reached<'_>) -> bool
+    requires { (from : Node) × (path : List ℕ) × LeadsTo arena.now.bytes from path reached.node reached.missing.now }
+    ensures { (from : Node) → (path : List ℕ) → (l : LeadsTo arena.now.bytes from path reached.entry.node reached.entry.missing.now) →
+        result ≡ are_too_many (tree_in arena.now.bytes l.here.root) l.here.path (path_of path) }
 {
-    let (parent, rest) = reach(arena, from, path);
-    if rest.is_empty() {
+    if reached.missing.is_empty() {
         return false;
     }
-    pass_limits(arena, parent, rest)
+    pass_limits(arena, reached.node, reached.missing)
 }
 
 /// The sizes of the cells that making keys takes, in order: for each, that of its parent's list where it needs one, and that of
@@ -194,40 +224,78 @@ fn sizes_for(alloc: Global, planned: Option<u32>, path: &[u8]) -> Result<Vec<u32
     Ok(sizes)
 }
 
-/// Carves the cells that keys of a path's names take below a key.
+/// Carves the cells that keys of a path's names take below a key whose list was planned.
 fn carve_for(
     alloc: Global,
     arena: &mut Arena,
-    parent: u32,
+    plan: Option<u32>,
     path: &[u8],
-) -> Result<Vec<u32>, TreeFault>
-    requires here { IsHere arena.old.bytes parent }
+) -> Result<Vec<u32>, ArenaFault>
+    requires plan { (parent : ℕ) × IsHere arena.old.bytes parent × (plan ≡ planned (heap_of arena.old) parent) }
     requires path { is_path path.now ≡ true }
     requires few { length (path_of path.now) ≤ MADE_LIMIT }
-    ensures ok { IfOk result (λ cells. IsSpared arena.old.bytes arena.new.bytes parent (path_of path.now) cells.items) }
-    ensures full { (result ≡ Err TreeFault.Full) → BINS_LIMIT < length arena.old.bytes + GROWTH_BOUND }
-    ensures space { IfErr result (λ fault. fault ≡ TreeFault.Full →
-        LacksRoom arena.old (sizes_of (planned (heap_of arena.old) parent) (map own_sizes (path_of path.now)))) }
-    ensures others { IfErr result (λ fault. (fault ≡ TreeFault.Full) ⊎ (fault ≡ TreeFault.Memory)) }
+    ensures ok { (parent : ℕ) → IsHere arena.old.bytes parent → plan ≡ planned (heap_of arena.old) parent →
+        IfOk result (λ cells. IsSpared arena.old.bytes arena.new.bytes parent (path_of path.now) cells.items) }
+    ensures full { (result ≡ Err ArenaFault.Full) → BINS_LIMIT < length arena.old.bytes + GROWTH_BOUND }
+    ensures space { IfErr result (λ fault. fault ≡ ArenaFault.Full → LacksRoom arena.old (sizes_of plan (map own_sizes (path_of path.now)))) }
     ensures err { OnErr result (arena.new ≡ arena.old) }
     ensures grows { OnOk result (length arena.new.bytes ≤ length arena.old.bytes + GROWTH_BOUND) }
     ensures kept { OnOk result (length arena.old.bytes ≤ length arena.new.bytes) }
 {
-    let planned = plan_insert(arena, subkeys_list(arena, parent));
-    let sizes = match sizes_for(alloc, planned, path) {
+    let sizes = match sizes_for(alloc, plan, path) {
         Ok(sizes) => sizes,
-        Err(AllocError) => return Err(TreeFault::Memory),
+        Err(AllocError) => return Err(ArenaFault::Memory),
     };
     let mut cells = Vec::new(alloc);
     match arena.carve_change(&sizes, &mut cells) {
         Ok(()) => Ok(cells),
-        Err(fault) => Err(TreeFault::from(fault)),
+        Err(fault) => Err(fault),
     }
 }
 
-/// Makes the keys of a path from a key on that are missing, and answers the last key and whether one was made. All cells are
-/// carved before the first key is made, so that only that can fail for want of room: `Limit` by `is_limited`, `Full`, `Memory`.
-/// After a fault the arena is as before.
+/// Makes the keys that were found missing on a path, which are some and not too many, and answers the last. All cells are carved
+/// before the first key is made, so that only that can fail, for want of room: `Full`, `Memory`. After a fault the arena is as before.
+pub fn create_at(
+    alloc: Global,
+    arena: &mut Arena,
+    reached: Reached<'_>,
+    moment: u64,
+) -> Result<Node, ArenaFault>
+    requires reached { (from : Node) × (path : List ℕ) × (l : LeadsTo arena.old.bytes from path reached.node reached.missing.now)
+        × (are_too_many (tree_in arena.old.bytes l.here.root) l.here.path (path_of path) ≡ false) }
+    requires place { BelongsFirst (heap_of arena.old) reached.node.offset (path_of reached.missing.now) reached.index }
+    requires missing { reached.missing.now ≢ [] }
+    ensures ok { (from : Node) → (path : List ℕ) → (l : LeadsTo arena.old.bytes from path reached.entry.node reached.entry.missing.now) →
+        IfOk result (λ made. IsCreated arena.old.bytes arena.new.bytes l.here.root l.here.path from (path_of path) moment made) }
+    ensures cells { (from : Node) → (path : List ℕ) → (l : LeadsTo arena.old.bytes from path reached.entry.node reached.entry.missing.now) →
+        OnOk result (Makes (heap_of arena.old) (heap_of arena.new)
+        (create_sizes (record { bins = arena.old; root = l.here.root; tree = tree_in arena.old.bytes l.here.root }) l.here.path (path_of path))) }
+    ensures full { (result ≡ Err ArenaFault.Full) → BINS_LIMIT < length arena.old.bytes + GROWTH_BOUND }
+    ensures space { (from : Node) → (path : List ℕ) → (l : LeadsTo arena.old.bytes from path reached.entry.node reached.entry.missing.now) →
+        IfErr result (λ fault. fault ≡ ArenaFault.Full → LacksRoom arena.old
+        (create_sizes (record { bins = arena.old; root = l.here.root; tree = tree_in arena.old.bytes l.here.root }) l.here.path (path_of path))) }
+    ensures err { OnErr result (arena.new ≡ arena.old) }
+    ensures grows { OnOk result (length arena.new.bytes ≤ length arena.old.bytes + GROWTH_BOUND) }
+    ensures kept { OnOk result (length arena.old.bytes ≤ length arena.new.bytes) }
+{
+    let plan = plan_insert(arena, subkeys_list(arena, reached.node.offset));
+    let cells = match carve_for(alloc, arena, plan, reached.missing) {
+        Ok(cells) => cells,
+        Err(fault) => return Err(fault),
+    };
+    Ok(make_all(
+        arena,
+        reached.node,
+        reached.index,
+        plan,
+        reached.missing,
+        &cells,
+        moment,
+    ))
+}
+
+/// Makes the keys of a path from a key on that are missing, and answers the last key and whether one was made: `Limit` by
+/// `is_limited`, `Full`, `Memory`. After a fault the arena is as before.
 pub fn create(
     alloc: Global,
     arena: &mut Arena,
@@ -258,20 +326,18 @@ pub fn create(
     ensures grows { OnOk result (length arena.new.bytes ≤ length arena.old.bytes + GROWTH_BOUND) }
     ensures kept { OnOk result (length arena.old.bytes ≤ length arena.new.bytes) }
 {
-    let (parent, rest) = reach(arena, from, path);
-    if rest.is_empty() {
+    let reached = reach(arena, from, path);
+    if reached.missing.is_empty() {
         return Ok(Created {
-            node: parent,
+            node: reached.node,
             is_new: false,
         });
     }
-    if pass_limits(arena, parent, rest) {
+    if is_limited(arena, reached) {
         return Err(TreeFault::Limit);
     }
-    let cells = match carve_for(alloc, arena, parent.offset, rest) {
-        Ok(cells) => cells,
-        Err(fault) => return Err(fault),
-    };
-    let node = make_all(arena, parent, rest, &cells, moment);
-    Ok(Created { node, is_new: true })
+    match create_at(alloc, arena, reached, moment) {
+        Ok(node) => Ok(Created { node, is_new: true }),
+        Err(fault) => Err(TreeFault::from(fault)),
+    }
 }

@@ -16,3 +16,15 @@ pub struct Created {
     /// Whether a key was made.
     pub is_new: bool,
 }
+
+/// How far a path from a key leads, as [`Tree::reach`](crate::Tree::reach) finds it. It stays good until the tree changes.
+#[derive(Clone, Copy, Debug)]
+pub struct Reached<'a> {
+    /// The last key on the path that is there.
+    pub node: Node,
+    /// The names behind it as a path, of which the first is missing; empty where all keys are there.
+    pub missing: &'a [u8],
+    /// Where the first missing name belongs among that key's subkeys; where none is missing, where the key stands among its
+    /// parent's. Counted from 0 in the order of folded names; 0 of an empty path.
+    pub index: u32,
+}

@@ -5,8 +5,9 @@ ghost use Rattle.reg_names.specs.declared.TheConstants.{KEY_NAME_LIMIT, PATH_LIM
 ghost use Rattle.reg_names.specs.Names.{is_key_name, is_value_name, is_path, path_of};
 ghost use Rattle.reg_heap.specs.declared.limits.TheConstants.{BINS_LIMIT, DATA_LIMIT, DESCRIPTOR_LIMIT, GROWTH_BOUND, VALUES_LIMIT};
 ghost use Rattle.reg_heap.specs.Paths.{Path, path_cmp, Rec, Member, children_of};
-ghost use Rattle.reg_heap.specs.Members.{value_named};
-ghost use Rattle.reg_heap.specs.Edits.{edited, with_value, without_value, values_at, folded_path, are_too_many, without_key, IsKept, missing, last_there};
+ghost use Rattle.reg_heap.specs.Members.{value_named, index_named};
+ghost use Rattle.reg_heap.specs.Edits.{edited, with_value, without_value, values_at, folded_path, are_too_many, without_key, IsKept};
+ghost use Rattle.reg_heap.specs.Edits.{may_not_go, missing, last_there};
 ghost use Rattle.reg_arena.specs.Arena.{IsSound, heap_of};
 ghost use Rattle.reg_arena.specs.NewBin.{IsBinSize};
 ghost use Rattle.reg_arena.specs.NewCells.{cell_size as cell_size_of};
@@ -15,7 +16,7 @@ ghost use Rattle.reg_values.specs.ValueLists.{Makes, Tells};
 use crate::cells::carve_two;
 use crate::key::new_root;
 use crate::ring::new_ring;
-use crate::{Created, Node, TreeFault, ValueFound, find, make, read, unmake, values};
+use crate::{Created, Node, Reached, TreeFault, ValueFound, find, make, read, unmake, values};
 use reg_arena::{Arena, ArenaFault, cell_size};
 use reg_records::{put_nk, put_sk};
 use reg_values::Value;
@@ -47,7 +48,8 @@ impl Tree {
     ghost use Rattle.reg_tree.specs.CellSizes.{create_sizes, value_sizes, LacksRoom};
     ghost use Rattle.reg_tree.specs.NewHive.{IsNewHive};
     ghost use Rattle.reg_tree.specs.KeyLengths.{ChangesLengths, KeepsLengths, NotesMade, lengths_at, no_lengths, with_value_lengths, with_first_length};
-    ghost use Rattle.reg_tree.specs.ValueAnswers.{IsFound};
+    ghost use Rattle.reg_tree.specs.ValueAnswers.{IsFound, without_value_at};
+    ghost use Rattle.reg_tree.specs.Reaching.{IsReached};
 
     /// A tree of one root: the name as given, mark 8 (no delete), no class, the descriptor, the moment (100 ns ticks since
     /// 1601), no values; its four largest lengths are 0. Its bins are one, of the least size for the key node and its security,
@@ -114,6 +116,20 @@ impl Tree {
         ensures depth { IfSome result (λ node. node.depth ≤ PATH_LIMIT) }
     {
         find::resolve(&self.arena, from, path)
+    }
+
+    /// Walks a path from a key as far as its keys are there, once: the last of them, the names behind it, which are missing, and
+    /// where they belong. That serves `is_limited`, `create_at` and `delete_at`, as long as the tree is as it is. Names are
+    /// compared after folding.
+    pub fn reach<'a>(&self, from: Node, path: &'a [u8]) -> Reached<'a>
+        requires from { IsThere self.now from }
+        requires path { is_path path.now ≡ true }
+        ensures reached { IsReached self.now from path.now result }
+        ensures missing { (p : Path) → IsAt self.now p from → path_of result.missing.now ≡ missing self.now.tree p (path_of path.now) }
+        ensures there { (p : Path) → IsAt self.now p from → result.missing.now ≡ [] → IsResolved self.now (p ++ folded_path path.now) (Some result.node) }
+        ensures absent { (p : Path) → IsAt self.now p from → result.missing.now ≢ [] → IsResolved self.now (p ++ folded_path path.now) None }
+    {
+        find::reach(&self.arena, from, path)
     }
 
     /// A key's name, as it was given.
@@ -200,6 +216,15 @@ impl Tree {
         values::find(&self.arena, node.offset, name)
     }
 
+    /// The index of a key's value of that name, after folding, counted from 0, if it has one. That serves `set_at` and
+    /// `remove_at`, as long as the tree is as it is.
+    pub fn value_index(&self, node: Node, name: &[u8]) -> Option<u32>
+        requires { IsThere self.now node }
+        ensures { (p : Path) → IsAt self.now p node → result ≡ index_named name.now (values_at self.now.tree p) }
+    {
+        values::index(&self.arena, node.offset, name)
+    }
+
     /// A copy of the bytes of a key's value at an index, counted from 0. Its one fault is that memory was refused, and never
     /// of a value without bytes: for that no memory is taken.
     pub fn value_bytes(&self, alloc: Global, node: Node, index: u32) -> Result<Vec<u8>, AllocError>
@@ -261,6 +286,64 @@ impl Tree {
         )
     }
 
+    /// Sets a value of a key at the place that `value_index` told for its name, and the key's time: the value there keeps its
+    /// place and its first spelling; without a place, a new one goes to the end, for which there must be room below 16,384 values.
+    /// After a fault the tree is as before.
+    ///
+    /// The cells that come are those of its list and its data, where they need some, each of its size. `Full` only where no free
+    /// cell has room for all of them together and one bin more for them would pass the limit of 268,435,456 bytes; `Memory`. The
+    /// bins grow by at most 1,310,720 bytes.
+    pub fn set_at(
+        &mut self,
+        alloc: Global,
+        node: Node,
+        place: Option<u32>,
+        name: &[u8],
+        kind: u32,
+        bytes: &[u8],
+        moment: u64,
+    ) -> Result<(), ArenaFault>
+        requires node { IsThere self.old node }
+        requires place { (p : Path) → IsAt self.old p node → place ≡ index_named name.now (values_at self.old.tree p) }
+        requires room { (p : Path) → IsAt self.old p node → place ≡ None → length (values_at self.old.tree p) < VALUES_LIMIT }
+        requires name { is_value_name name.now ≡ true }
+        requires bytes { length bytes.now ≤ DATA_LIMIT }
+        ensures ok { (p : Path) → IsAt self.old p node → OnOk result (self.new.tree ≡ edited self.old.tree p (with_value name.now kind bytes.now moment)) }
+        ensures cells { OnOk result (Makes (heap_of self.old.bins) (heap_of self.new.bins)
+            (value_sizes (heap_of self.old.bins) node.offset name.now (length bytes.now))) }
+        ensures nodes { OnOk result (KeepsNodes self.old self.new) }
+        ensures lengths { (p : Path) → IsAt self.old p node →
+            OnOk result (ChangesLengths self.old self.new p (with_value_lengths (length name.now) (length bytes.now))) }
+        ensures full { (result ≡ Err ArenaFault.Full) → BINS_LIMIT < length self.old.bins.bytes + GROWTH_BOUND }
+        ensures space { IfErr result (λ fault. fault ≡ ArenaFault.Full →
+            LacksRoom self.old.bins (value_sizes (heap_of self.old.bins) node.offset name.now (length bytes.now))) }
+        ensures err { OnErr result (self.new ≡ self.old) }
+        ensures grows { OnOk result (length self.new.bins.bytes ≤ length self.old.bins.bytes + GROWTH_BOUND) }
+        ensures kept { OnOk result (length self.old.bins.bytes ≤ length self.new.bins.bytes) }
+    {
+        values::set_at(
+            alloc,
+            &mut self.arena,
+            node.offset,
+            place,
+            name,
+            kind,
+            bytes,
+            moment,
+        )
+    }
+
+    /// Removes the value of a key at an index, counted from 0, and sets the key's time. The bins keep their length.
+    pub fn remove_at(&mut self, node: Node, index: u32, moment: u64)
+        requires { (p : Path) × IsAt self.old p node × (index < length (values_at self.old.tree p)) }
+        ensures tree { (p : Path) → IsAt self.old p node → self.new.tree ≡ edited self.old.tree p (without_value_at index moment) }
+        ensures nodes { KeepsNodes self.old self.new }
+        ensures lengths { KeepsLengths self.old self.new }
+        ensures long { length self.new.bins.bytes ≡ length self.old.bins.bytes }
+    {
+        values::remove_at(&mut self.arena, node.offset, index, moment)
+    }
+
     /// Removes a value of a key, and sets the key's time. `NotFound` just where there is none of that name, its one fault;
     /// then the tree is as before. The bins keep their length.
     pub fn delete_value(&mut self, node: Node, name: &[u8], moment: u64) -> Result<(), TreeFault>
@@ -319,13 +402,62 @@ impl Tree {
         make::create(alloc, &mut self.arena, from, path, moment)
     }
 
-    /// Whether `create` of a path from a key is refused for `Limit`.
-    pub fn is_limited(&self, from: Node, path: &[u8]) -> bool
-        requires from { IsThere self.now from }
-        requires path { is_path path.now ≡ true }
-        ensures { (p : Path) → IsAt self.now p from → result ≡ are_too_many self.now.tree p (path_of path.now) }
+    /// Whether making the keys that `reach` found missing is refused for `Limit`: by their number, the length of the path, or the
+    /// number of subkeys of the key that they would be below. Never where none is missing.
+    pub fn is_limited(&self, reached: Reached<'_>) -> bool
+        requires reached { (from : Node) × (path : List ℕ) × IsReached self.now from path reached × IsThere self.now from }
+        ensures { (from : Node) → (path : List ℕ) → IsReached self.now from path reached.entry → (p : Path) → IsAt self.now p from →
+            result ≡ are_too_many self.now.tree p (path_of path) }
     {
-        make::is_limited(&self.arena, from, path)
+        make::is_limited(&self.arena, reached)
+    }
+
+    /// Makes the keys that `reach` found missing, as [`create`](Tree::create) does, which must be some and not too many. Answers
+    /// the last of them. After a fault the tree is as before.
+    ///
+    /// `Full` only where no free cell has room for all the cells that it takes together and one bin more for them would pass the
+    /// limit of 268,435,456 bytes; `Memory`. The bins grow by at most 1,310,720 bytes.
+    pub fn create_at(
+        &mut self,
+        alloc: Global,
+        reached: Reached<'_>,
+        moment: u64,
+    ) -> Result<Node, ArenaFault>
+        requires reached { (from : Node) × (path : List ℕ) × IsReached self.old from path reached × IsThere self.old from }
+        requires missing { reached.missing.now ≢ [] }
+        requires few { (from : Node) → (path : List ℕ) → IsReached self.old from path reached → (p : Path) → IsAt self.old p from →
+            are_too_many self.old.tree p (path_of path) ≡ false }
+        ensures ok { (from : Node) → (path : List ℕ) → IsReached self.old from path reached.entry → (p : Path) → IsAt self.old p from →
+            IfOk result (λ node. MakesKeys self.old self.new p (path_of path) moment (record { node = node; is_new = true })) }
+        ensures cells { (from : Node) → (path : List ℕ) → IsReached self.old from path reached.entry → (p : Path) → IsAt self.old p from →
+            OnOk result (Makes (heap_of self.old.bins) (heap_of self.new.bins) (create_sizes self.old p (path_of path))) }
+        ensures lengths { (from : Node) → (path : List ℕ) → IsReached self.old from path reached.entry → (p : Path) → IsAt self.old p from →
+            OnOk result (ChangesLengths self.old self.new (last_there self.old.tree p (path_of path))
+            (with_first_length (missing self.old.tree p (path_of path)))) }
+        ensures made { (from : Node) → (path : List ℕ) → IsReached self.old from path reached.entry → (p : Path) → IsAt self.old p from →
+            OnOk result (NotesMade self.new (last_there self.old.tree p (path_of path)) (missing self.old.tree p (path_of path))) }
+        ensures full { (result ≡ Err ArenaFault.Full) → BINS_LIMIT < length self.old.bins.bytes + GROWTH_BOUND }
+        ensures space { (from : Node) → (path : List ℕ) → IsReached self.old from path reached.entry → (p : Path) → IsAt self.old p from →
+            IfErr result (λ fault. fault ≡ ArenaFault.Full → LacksRoom self.old.bins (create_sizes self.old p (path_of path))) }
+        ensures err { OnErr result (self.new ≡ self.old) }
+        ensures grows { OnOk result (length self.new.bins.bytes ≤ length self.old.bins.bytes + GROWTH_BOUND) }
+        ensures kept { OnOk result (length self.old.bins.bytes ≤ length self.new.bins.bytes) }
+    {
+        make::create_at(alloc, &mut self.arena, reached, moment)
+    }
+
+    /// Deletes the key to which `reach` found every name of a path that has some, with its values, and sets its parent's time. It
+    /// must have no subkeys and no mark 0x08. It takes no memory, and the bins keep their length.
+    pub fn delete_at(&mut self, reached: Reached<'_>, moment: u64)
+        requires reached { (from : Node) × (path : List ℕ) × IsReached self.old from path reached × IsThere self.old from × (path_of path ≢ []) }
+        requires there { reached.missing.now ≡ [] }
+        requires goes { (p : Path) → IsAt self.old p reached.node → may_not_go self.old.tree p ≡ false }
+        ensures tree { (p : Path) → IsAt self.old p reached.entry.node → self.new.tree ≡ without_key self.old.tree p moment }
+        ensures nodes { (p : Path) → IsAt self.old p reached.entry.node → (q : Path) → (other : Node) → IsAt self.old q other → q ≢ p → IsAt self.new q other }
+        ensures lengths { KeepsLengths self.old self.new }
+        ensures long { length self.new.bins.bytes ≡ length self.old.bins.bytes }
+    {
+        unmake::delete_at(&mut self.arena, reached.node.offset, reached.index, moment)
     }
 
     /// Deletes a key with its values, and sets its parent's time. After a fault the tree is as before.

@@ -15,7 +15,8 @@ ghost use Rattle.reg_values.specs.Internal.ValueListParts.{Owns, GivesUpRead};
 ghost use Rattle.reg_tree.specs.TreeKeys.{tree_in};
 ghost use Rattle.reg_tree.specs.Internal.TreeInvariant.{IsHere};
 ghost use Rattle.reg_tree.specs.Internal.LengthChanges.{LengthsStay};
-ghost use Rattle.reg_tree.specs.Internal.KeyDeletion.{IsListed, IsUnlinked, IsSole, IsDeleted, class_at};
+ghost use Rattle.reg_tree.specs.Internal.KeyDeletion.{IsListed, IsUnlinked, IsSole, IsLone, IsDeleted, class_at};
+ghost use Rattle.reg_tree.specs.Internal.ReachedPlaces.{StandsAt};
 
 use crate::TreeFault;
 use crate::key::{fields, note_subkeys, subkeys_list, values_list};
@@ -40,18 +41,27 @@ fn name_of(arena: &Arena, key: u32) -> &[u8]
     }
 }
 
-/// Takes a key out of its parent's subkeys, and notes that with the time.
-fn unlink(arena: &mut Arena, parent: u32, key: u32, moment: u64)
-    requires { (above : KeyRecord) × (entries : List Entry) × (index : ℕ) × IsListed (heap_of arena.old) parent key above entries index }
-    ensures unlinks { (above : KeyRecord) → (entries : List Entry) → (index : ℕ) →
+/// Where a key stands among its parent's subkeys, found by its name.
+fn place_of(arena: &Arena, key: u32) -> u32
+    requires { (index : ℕ) × StandsAt (heap_of arena.now) key index }
+    ensures { StandsAt (heap_of arena.now) key result }
+{
+    let list = subkeys_list(arena, fields(arena, key).parent);
+    let Ok(index) = find(arena, list, name_of(arena, key)) else {
+        unreachable!()
+    };
+    index
+}
+
+/// Takes the key at an index out of its parent's subkeys, and notes that with the time.
+fn unlink(arena: &mut Arena, parent: u32, index: u32, moment: u64)
+    requires { (key : ℕ) × (above : KeyRecord) × (entries : List Entry) × IsListed (heap_of arena.old) parent key above entries index }
+    ensures unlinks { (key : ℕ) → (above : KeyRecord) → (entries : List Entry) →
         IsListed (heap_of arena.old) parent key above entries index →
         IsUnlinked (heap_of arena.old) (heap_of arena.new) parent above entries index moment }
     ensures long { length arena.new.bytes ≡ length arena.old.bytes }
 {
     let list = subkeys_list(arena, parent);
-    let Ok(index) = find(arena, list, name_of(arena, key)) else {
-        unreachable!()
-    };
     let after = remove(arena, list, index);
     note_subkeys(arena, parent, after, 0, moment);
 }
@@ -99,6 +109,21 @@ fn is_kept(arena: &Arena, key: u32) -> bool
     flags & HIVE_ENTRY != 0 || flags & NO_DELETE != 0
 }
 
+/// Deletes a key that isn't the root and has no subkeys, and that stands at an index among its parent's, with its values, and sets
+/// its parent's time. It takes no memory.
+pub fn delete_at(arena: &mut Arena, key: u32, index: u32, moment: u64)
+    requires here { (t : IsHere arena.old.bytes key) × IsLone arena.old.bytes key t }
+    requires place { StandsAt (heap_of arena.old) key index }
+    ensures deleted { (t : IsHere arena.old.bytes key) → IsLone arena.old.bytes key t → IsDeleted arena.old.bytes arena.new.bytes t.root t.path moment }
+    ensures lengths { (t : IsHere arena.old.bytes key) → IsLone arena.old.bytes key t → LengthsStay (heap_of arena.old) (heap_of arena.new) t.root }
+    ensures long { length arena.new.bytes ≡ length arena.old.bytes }
+{
+    let head = fields(arena, key);
+    unlink(arena, head.parent, index, moment);
+    free_key(arena, key);
+    release(arena, head.security);
+}
+
 /// Deletes a key with its values, and sets its parent's time. It takes no memory. `HasChildren` where the key has subkeys,
 /// and `NoDelete` where it has none, and is the root or is marked; then the arena is as before.
 pub fn delete(arena: &mut Arena, key: u32, moment: u64) -> Result<(), TreeFault>
@@ -119,9 +144,7 @@ pub fn delete(arena: &mut Arena, key: u32, moment: u64) -> Result<(), TreeFault>
     if is_kept(arena, key) {
         return Err(TreeFault::NoDelete);
     }
-    let head = fields(arena, key);
-    unlink(arena, head.parent, key, moment);
-    free_key(arena, key);
-    release(arena, head.security);
+    let index = place_of(arena, key);
+    delete_at(arena, key, index, moment);
     Ok(())
 }

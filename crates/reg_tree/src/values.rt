@@ -3,25 +3,24 @@ ghost use Rattle.std.specs.Prelude.{true, false, ◌≡◌, ◌↔◌, ◌⊎◌
 ghost use Rattle.std.specs.Prelude.{MatchOption, IfSome, slice_get};
 ghost use Rattle.reg_names.specs.declared.TheConstants.{VALUE_NAME_LIMIT};
 ghost use Rattle.reg_names.specs.Names.{is_value_name};
-ghost use Rattle.reg_heap.specs.declared.limits.TheConstants.{BINS_LIMIT, DATA_LIMIT, GROWTH_BOUND};
+ghost use Rattle.reg_heap.specs.declared.limits.TheConstants.{BINS_LIMIT, DATA_LIMIT, GROWTH_BOUND, VALUES_LIMIT};
 ghost use Rattle.reg_heap.specs.Paths.{Member};
-ghost use Rattle.reg_heap.specs.Members.{value_named};
+ghost use Rattle.reg_heap.specs.Members.{value_named, index_named};
 ghost use Rattle.reg_heap.specs.Edits.{with_value, without_value, values_at};
 ghost use Rattle.reg_arena.specs.Arena.{heap_of};
-ghost use Rattle.reg_values.specs.ValueLists.{IsNamed, Makes, Tells};
+ghost use Rattle.reg_values.specs.ValueLists.{Makes, Tells};
 ghost use Rattle.reg_tree.specs.CellSizes.{value_sizes, LacksRoom};
 ghost use Rattle.reg_tree.specs.TreeKeys.{tree_in};
 ghost use Rattle.reg_tree.specs.Internal.TreeInvariant.{IsHere, IsChanged};
 ghost use Rattle.reg_tree.specs.KeyLengths.{with_value_lengths};
-ghost use Rattle.reg_tree.specs.Internal.KeyNodeChanges.{HasList};
 ghost use Rattle.reg_tree.specs.Internal.LengthChanges.{LengthsChange, LengthsStay};
-ghost use Rattle.reg_tree.specs.ValueAnswers.{IsFound};
+ghost use Rattle.reg_tree.specs.ValueAnswers.{IsFound, without_value_at};
 
 use crate::key::{note_values, values_list};
 use crate::{TreeFault, ValueFound};
-use reg_arena::Arena;
+use reg_arena::{Arena, ArenaFault};
 use reg_heap::limits::VALUES_LIMIT;
-use reg_values::{Value, ValuesList};
+use reg_values::Value;
 use std::alloc::{AllocError, Global};
 
 /// How many values a key has.
@@ -30,6 +29,14 @@ pub fn count(arena: &Arena, key: u32) -> u32
     ensures { (t : IsHere arena.now.bytes key) → result ≡ length (values_at (tree_in arena.now.bytes t.root) t.path) }
 {
     values_list(arena, key).count
+}
+
+/// The index of the value of that name, after folding, counted from 0, if the key has one.
+pub fn index(arena: &Arena, key: u32, name: &[u8]) -> Option<u32>
+    requires { IsHere arena.now.bytes key }
+    ensures { (t : IsHere arena.now.bytes key) → result ≡ index_named name.now (values_at (tree_in arena.now.bytes t.root) t.path) }
+{
+    reg_values::find(arena, values_list(arena, key), name)
 }
 
 /// The value of that name, after folding, with its index, if the key has one.
@@ -82,24 +89,61 @@ pub fn at(arena: &Arena, key: u32, index: u32) -> Option<Value<'_>>
     Some(reg_values::at(arena, list, index))
 }
 
-/// Whether there are as many values as there may be, and none of that name.
-fn is_full(arena: &Arena, key: u32, list: ValuesList, name: &[u8]) -> bool
-    requires here { IsHere arena.now.bytes key }
-    requires list { HasList (heap_of arena.now) key list.count list.offset }
+/// Whether there are as many values as there may be, and a new one has no place.
+fn is_full(arena: &Arena, key: u32, place: Option<u32>) -> bool
+    requires { IsHere arena.now.bytes key }
     ensures full { (t : IsHere arena.now.bytes key) → result ≡ true →
-        (VALUES_LIMIT ≤ length (values_at (tree_in arena.now.bytes t.root) t.path))
-        × (value_named name.now (values_at (tree_in arena.now.bytes t.root) t.path) ≡ None) }
-    ensures room { result ≡ false → (list.count < VALUES_LIMIT) ⊎ IsNamed (heap_of arena.now) list.count list.offset name.now }
+        (VALUES_LIMIT ≤ length (values_at (tree_in arena.now.bytes t.root) t.path)) × (place ≡ None) }
+    ensures room { (t : IsHere arena.now.bytes key) → result ≡ false → place ≡ None →
+        length (values_at (tree_in arena.now.bytes t.root) t.path) < VALUES_LIMIT }
 {
-    if list.count < VALUES_LIMIT {
-        return false;
-    }
-    reg_values::find(arena, list, name).is_none()
+    place.is_none() && count(arena, key) >= VALUES_LIMIT
 }
 
-/// Sets a value of a key: the cells of its list and data first, which may fail, then the key's own node, which notes the list
-/// and the time. `Limit` where there are 16,384 values and none of that name; `Full` and `Memory` as `reg_values::set` has
-/// them. After a fault the arena is as before.
+/// Sets a value of a key at the place that `index` told for its name, or at the end: the cells of its list and data first, which
+/// may fail, then the key's own node, which notes the list and the time. The faults are those of `reg_values::set_at`. After one
+/// the arena is as before.
+pub fn set_at(
+    alloc: Global,
+    arena: &mut Arena,
+    key: u32,
+    place: Option<u32>,
+    name: &[u8],
+    kind: u32,
+    bytes: &[u8],
+    moment: u64,
+) -> Result<(), ArenaFault>
+    requires place { (t : IsHere arena.old.bytes key) × (place ≡ index_named name.now (values_at (tree_in arena.old.bytes t.root) t.path)) }
+    requires room { (t : IsHere arena.old.bytes key) × (place ≡ None → length (values_at (tree_in arena.old.bytes t.root) t.path) < VALUES_LIMIT) }
+    requires name { is_value_name name.now ≡ true }
+    requires bytes { length bytes.now ≤ DATA_LIMIT }
+    ensures ok { (t : IsHere arena.old.bytes key) →
+        OnOk result (IsChanged arena.old.bytes arena.new.bytes t.root t.path (with_value name.now kind bytes.now moment)) }
+    ensures cells { OnOk result (Makes (heap_of arena.old) (heap_of arena.new) (value_sizes (heap_of arena.old) key name.now (length bytes.now))) }
+    ensures lengths { (t : IsHere arena.old.bytes key) →
+        OnOk result (LengthsChange (heap_of arena.old) (heap_of arena.new) t.root t.path (with_value_lengths (length name.now) (length bytes.now))) }
+    ensures full { (result ≡ Err ArenaFault.Full) → BINS_LIMIT < length arena.old.bytes + GROWTH_BOUND }
+    ensures space { IfErr result (λ fault. fault ≡ ArenaFault.Full →
+        LacksRoom arena.old (value_sizes (heap_of arena.old) key name.now (length bytes.now))) }
+    ensures err { OnErr result (arena.new ≡ arena.old) }
+    ensures grows { OnOk result (length arena.new.bytes ≤ length arena.old.bytes + GROWTH_BOUND) }
+    ensures kept { OnOk result (length arena.old.bytes ≤ length arena.new.bytes) }
+{
+    let old = values_list(arena, key);
+    let list = reg_values::set_at(alloc, arena, old, place, name, kind, bytes)?;
+    note_values(
+        arena,
+        key,
+        list,
+        name.len() as u32,
+        bytes.len() as u32,
+        moment,
+    );
+    Ok(())
+}
+
+/// Sets a value of a key: a search for its name, and then `set_at`. `Limit` where there are 16,384 values and none of that name;
+/// `Full` and `Memory` as `set_at` has them. After a fault the arena is as before.
 pub fn set(
     alloc: Global,
     arena: &mut Arena,
@@ -128,27 +172,30 @@ pub fn set(
     ensures grows { OnOk result (length arena.new.bytes ≤ length arena.old.bytes + GROWTH_BOUND) }
     ensures kept { OnOk result (length arena.old.bytes ≤ length arena.new.bytes) }
 {
-    let old = values_list(arena, key);
-    if is_full(arena, key, old, name) {
+    let place = index(arena, key, name);
+    if is_full(arena, key, place) {
         return Err(TreeFault::Limit);
     }
-    let list = match reg_values::set(alloc, arena, old, name, kind, bytes) {
-        Ok(list) => list,
-        Err(fault) => return Err(TreeFault::from(fault)),
-    };
-    note_values(
-        arena,
-        key,
-        list,
-        name.len() as u32,
-        bytes.len() as u32,
-        moment,
-    );
-    Ok(())
+    match set_at(alloc, arena, key, place, name, kind, bytes, moment) {
+        Ok(()) => Ok(()),
+        Err(fault) => Err(TreeFault::from(fault)),
+    }
 }
 
-/// Removes a value of a key, and notes the list that is left and the time in the key's own node. `NotFound` just where there
-/// is none of that name, its one fault; then the arena is as before.
+/// Removes the value of a key at an index, counted from 0, and notes the list that is left and the time in the key's own node.
+pub fn remove_at(arena: &mut Arena, key: u32, index: u32, moment: u64)
+    requires { (t : IsHere arena.old.bytes key) × (index < length (values_at (tree_in arena.old.bytes t.root) t.path)) }
+    ensures changed { (t : IsHere arena.old.bytes key) → IsChanged arena.old.bytes arena.new.bytes t.root t.path (without_value_at index moment) }
+    ensures lengths { (t : IsHere arena.old.bytes key) → LengthsStay (heap_of arena.old) (heap_of arena.new) t.root }
+    ensures long { length arena.new.bytes ≡ length arena.old.bytes }
+{
+    let old = values_list(arena, key);
+    let list = reg_values::remove_at(arena, old, index);
+    note_values(arena, key, list, 0, 0, moment);
+}
+
+/// Removes a value of a key: a search for its name, and then `remove_at`. `NotFound` just where there is none of that name, its
+/// one fault; then the arena is as before.
 pub fn delete(arena: &mut Arena, key: u32, name: &[u8], moment: u64) -> Result<(), TreeFault>
     requires { IsHere arena.old.bytes key }
     ensures ok { (t : IsHere arena.old.bytes key) → OnOk result (IsChanged arena.old.bytes arena.new.bytes t.root t.path (without_value name.now moment)) }
@@ -159,11 +206,9 @@ pub fn delete(arena: &mut Arena, key: u32, name: &[u8], moment: u64) -> Result<(
     ensures err { OnErr result (arena.new ≡ arena.old) }
     ensures long { OnOk result (length arena.new.bytes ≡ length arena.old.bytes) }
 {
-    let old = values_list(arena, key);
-    let Some(_) = reg_values::find(arena, old, name) else {
+    let Some(place) = index(arena, key, name) else {
         return Err(TreeFault::NotFound);
     };
-    let list = reg_values::remove(arena, old, name);
-    note_values(arena, key, list, 0, 0, moment);
+    remove_at(arena, key, place, moment);
     Ok(())
 }

@@ -23,8 +23,8 @@ mod setting;
 pub use data::bytes_of;
 pub use look::{Value, at, find};
 pub use plan::plan_set;
-pub use removing::{clear, remove};
-pub use setting::set;
+pub use removing::{clear, remove, remove_at};
+pub use setting::{set, set_at};
 
 /// The bit of a size field that says that the data stands in the record itself.
 const INLINE: u32 = 0x8000_0000;

@@ -57,8 +57,24 @@ fn take_out(arena: &mut Arena, list: ValuesList, index: u32) -> ValuesList
     }
 }
 
-/// Removes the value of that name, after folding, and frees its cells; the values behind it close up. Answers the list as
-/// it is then. A list without values is freed too. It takes no memory.
+/// Removes the value at an index, counted from 0, and frees its cells; the values behind it close up. Answers the list as it
+/// is then. A list without values is freed too. It takes no memory.
+pub fn remove_at(arena: &mut Arena, list: ValuesList, index: u32) -> ValuesList
+    requires values { AreValues (heap_of arena.old) list.count list.offset }
+    requires index { index < list.count }
+    ensures list { OfRead (members_at list.count list.offset) (heap_of arena.old)
+        (λ members met. Became (heap_of arena.old) (heap_of arena.new) met result.count result.offset
+        (take index members ++ drop (index + 1) members)) }
+    ensures long { length arena.new.bytes ≡ length arena.old.bytes }
+{
+    let cell = cell_of(arena, list, index);
+    let after = take_out(arena, list, index);
+    free_value(arena, cell);
+    after
+}
+
+/// Removes the value of that name, after folding, as [`remove_at`] does with the one at an index: it is a search for the name
+/// and then that. Answers the list as it is then.
 pub fn remove(arena: &mut Arena, list: ValuesList, name: &[u8]) -> ValuesList
     requires values { AreValues (heap_of arena.old) list.count list.offset }
     requires named { IsNamed (heap_of arena.old) list.count list.offset name.now }
@@ -70,10 +86,7 @@ pub fn remove(arena: &mut Arena, list: ValuesList, name: &[u8]) -> ValuesList
     let Some(index) = find(arena, list, name) else {
         unreachable!()
     };
-    let cell = cell_of(arena, list, index);
-    let after = take_out(arena, list, index);
-    free_value(arena, cell);
-    after
+    remove_at(arena, list, index)
 }
 
 /// Frees a list of values with all that it names: each value's cells, and then the list's own. It takes no memory.

@@ -2,12 +2,12 @@
 //!
 //! Win32 registry reference, `RegSetValueEx`; Suhanov, Windows registry file format specification, section "Key values list".
 
-ghost use Rattle.std.specs.Prelude.{◌≡◌, true, ◌≤◌, ◌<◌, ◌+◌, ◌⊎◌, ℕ, List, Some, Err, length, IfOk, OnOk, OnErr};
+ghost use Rattle.std.specs.Prelude.{◌≡◌, true, ◌≤◌, ◌<◌, ◌+◌, ◌⊎◌, ℕ, List, Some, None, Err, length, IfOk, OnOk, OnErr};
 ghost use Rattle.reg_names.specs.Names.{is_value_name};
 ghost use Rattle.reg_heap.specs.declared.limits.TheConstants.{BINS_LIMIT, DATA_LIMIT, GROWTH_BOUND, VALUES_LIMIT};
 ghost use Rattle.reg_heap.specs.Paths.{Member};
 ghost use Rattle.reg_heap.specs.Kinds.{Found};
-ghost use Rattle.reg_heap.specs.Members.{values_with};
+ghost use Rattle.reg_heap.specs.Members.{values_with, index_named};
 ghost use Rattle.reg_arena.specs.Arena.{heap_of};
 ghost use Rattle.reg_arena.specs.NewCells.{total_of};
 ghost use Rattle.reg_arena.specs.Carves.{NoFit};
@@ -23,8 +23,9 @@ use crate::replace::replace;
 use reg_arena::{Arena, ArenaFault};
 use std::alloc::Global;
 
-/// Sets a value: one of that name, after folding, keeps its place and its name and gets the type and the data; a new one
-/// goes to the end. Answers the list as it is then; what falls away is freed, and data that needs a cell of the old one's
+/// Sets a value at the place that [`find`] told for its name: the value at that index keeps its place and its name and gets
+/// the type and the data; without a place, a new one goes to the end, for which there must be room below 16,384 values. No
+/// name is searched for. Answers the list as it is then; what falls away is freed, and data that needs a cell of the old one's
 /// size is written there.
 ///
 /// All cells of the change are carved before anything is written, by
@@ -32,6 +33,51 @@ use std::alloc::Global;
 /// [`ArenaFault::Full`]: no free cell has room for them, and with a bin more there would be more than 268,435,456 bytes of
 /// bins. [`ArenaFault::Memory`]: a growth was refused. After either the arena is as before. The bins grow by at most
 /// 1,310,720 bytes.
+pub fn set_at(
+    alloc: Global,
+    arena: &mut Arena,
+    list: ValuesList,
+    place: Option<u32>,
+    name: &[u8],
+    kind: u32,
+    bytes: &[u8],
+) -> Result<ValuesList, ArenaFault>
+    requires values { AreValues (heap_of arena.old) list.count list.offset }
+    requires place { OfRead (members_at list.count list.offset) (heap_of arena.old) (λ members met. place ≡ index_named name.now members) }
+    requires name { is_value_name name.now ≡ true }
+    requires bytes { length bytes.now ≤ DATA_LIMIT }
+    requires room { place ≡ None → list.count < VALUES_LIMIT }
+    ensures ok { IfOk result (λ after. OfRead (members_at list.count list.offset) (heap_of arena.old)
+        (λ members met. Became (heap_of arena.old) (heap_of arena.new) met after.count after.offset
+        (values_with name.now kind bytes.now members))) }
+    ensures cells { OnOk result (Makes (heap_of arena.old) (heap_of arena.new)
+        (set_sizes (heap_of arena.old) list.count list.offset name.now (length bytes.now))) }
+    ensures err { OnErr result (arena.new ≡ arena.old) }
+    ensures some { result ≡ Err ArenaFault.Full →
+        0 < length (set_sizes (heap_of arena.old) list.count list.offset name.now (length bytes.now)) }
+    ensures full { result ≡ Err ArenaFault.Full →
+        NoFit arena.old.bytes (total_of (set_sizes (heap_of arena.old) list.count list.offset name.now (length bytes.now))) }
+    ensures limit { result ≡ Err ArenaFault.Full →
+        PassesLimit arena.old.bytes
+        (total_of (set_sizes (heap_of arena.old) list.count list.offset name.now (length bytes.now))) }
+    ensures near { result ≡ Err ArenaFault.Full → BINS_LIMIT < length arena.old.bytes + GROWTH_BOUND }
+    ensures grows { OnOk result (length arena.new.bytes ≤ length arena.old.bytes + GROWTH_BOUND) }
+    ensures kept { OnOk result (length arena.old.bytes ≤ length arena.new.bytes) }
+{
+    let Some(index) = place else {
+        return add(alloc, arena, list, name, kind, bytes);
+    };
+    let cell = cell_of(arena, list, index);
+    replace(alloc, arena, cell, kind, bytes)?;
+    Ok(list)
+}
+
+/// Sets a value: one of that name, after folding, keeps its place and its name and gets the type and the data; a new one
+/// goes to the end, where there is room below 16,384 values. It is a search for the name and then [`set_at`]. Answers the list
+/// as it is then.
+///
+/// [`ArenaFault::Full`] and [`ArenaFault::Memory`] as `set_at` has them. After either the arena is as before. The bins grow by
+/// at most 1,310,720 bytes.
 pub fn set(
     alloc: Global,
     arena: &mut Arena,
@@ -61,10 +107,6 @@ pub fn set(
     ensures grows { OnOk result (length arena.new.bytes ≤ length arena.old.bytes + GROWTH_BOUND) }
     ensures kept { OnOk result (length arena.old.bytes ≤ length arena.new.bytes) }
 {
-    let Some(index) = find(arena, list, name) else {
-        return add(alloc, arena, list, name, kind, bytes);
-    };
-    let cell = cell_of(arena, list, index);
-    replace(alloc, arena, cell, kind, bytes)?;
-    Ok(list)
+    let place = find(arena, list, name);
+    set_at(alloc, arena, list, place, name, kind, bytes)
 }

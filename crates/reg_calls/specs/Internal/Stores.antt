@@ -11,7 +11,7 @@ use Rattle.reg_model.specs.declared.call.Change.{Change}
 use Rattle.reg_names.specs.Names.{path_of}
 use Rattle.reg_tree.specs.TreeKeys.{IsAt}
 use Rattle.reg_tree.specs.declared.node.Node.{Node}
-use Rattle.reg_handles.specs.HandleTables.{payload_on}
+use Rattle.reg_handles.specs.HandleTables.{payload_on, IsFoldedPath}
 use Rattle.reg_calls.specs.Shortages.{is_closing, LacksSpace, growth_of}
 use Rattle.reg_calls.specs.declared.store.Store.{Store}
 use Rattle.reg_calls.specs.declared.store.KeyHandle.{KeyHandle}
@@ -26,12 +26,13 @@ world_of store = record { tree = store.tree.tree; handles = store.handles.handle
 abbrev pub at : ℕ → Store → State
 at entries store = record { kept = entries; next = entries; world = world_of store; pending = [] }
 
--- the node that is kept for a path is that of the key there
+-- each node that is kept for a path is that of the key there (that one is kept for each path that a handle leads to is a clause of the
+-- table's)
 abbrev pub KnowsKeys : Store → Type 0
 KnowsKeys store = (text : List ℕ) (node : Node) → payload_on store.handles text ≡ Some node → IsAt store.tree (path_of text) node
 
--- the root is there, and each key that a handle leads to; the nodes of these keys are known; the handles' numbers are those of entries;
--- and there are not too many
+-- the root is there, and each key that a handle leads to; each node that is kept is that of its key; the handles' numbers are those of
+-- entries; and there are not too many
 pub record IsReady (entries : ℕ) (store : Store) : Type 0 where
   pub stand : IsStanding store.tree.tree store.handles.handles
   pub known : KnowsKeys store
@@ -45,10 +46,12 @@ pub record IsTarget (store : Store) (session number : ℕ) : Type 0 where
   pub found : look session number store.handles.handles ≡ Some handle
   pub destination : handle.destination ≡ At path
 
--- it was found, with its rights and its key
+-- it was found, with its rights, its key's path and its key
 pub record IsOpened (store : Store) (session number : ℕ) (key : KeyHandle) : Type 0 where
   pub target : IsTarget store session number
   pub mask : key.mask ≡ target.handle.mask
+  pub path : path_of key.path.now ≡ target.path
+  pub text : IsFoldedPath key.path.now
   pub node : IsAt store.tree target.path key.node
 
 -- what a look-up tells: the handle, or the refusal of every call by it
@@ -56,8 +59,8 @@ abbrev pub IsLooked : Store → ℕ → ℕ → Result KeyHandle ℕ → Type 0
 IsLooked store session number (Ok key) = IsOpened store session number key
 IsLooked store session number (Err status) = (f : Handle → Option ℕ) → by_handle f (look session number store.handles.handles) ≡ Some status
 
--- a change was made on the store, this is its reply, the bins are no smaller and grew by no more than it may take, and the nodes of
--- the keys that handles lead to are known
+-- a change was made on the store, this is its reply, the bins are no smaller and grew by no more than it may take, and each node that
+-- is kept is that of its key
 pub record IsDone (old new : Store) (session moment number : ℕ) (change : Change) (told : ChangeReply) : Type 0 where
   pub world : world_of new ≡ after (world_of old) (entry_due (at number old) session moment change)
   pub reply : told ≡ reply_to (at number old) session change
@@ -65,7 +68,7 @@ pub record IsDone (old new : Store) (session moment number : ℕ) (change : Chan
   pub grows : length new.tree.bins.bytes ≤ length old.tree.bins.bytes + growth_of change
   pub known : KnowsKeys new
 
--- the keys and the handles are as they were, and the nodes of the keys that handles lead to are known
+-- the keys and the handles are as they were, and each node that is kept is that of its key
 pub record IsUnchanged (old new : Store) : Type 0 where
   pub tree : new.tree ≡ old.tree
   pub handles : new.handles.handles ≡ old.handles.handles

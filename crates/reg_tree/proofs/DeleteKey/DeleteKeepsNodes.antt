@@ -12,6 +12,16 @@ use Rattle.reg_tree.specs.Internal.TreeInvariant.{TreeInvariant, IsHere}
 use Rattle.reg_tree.specs.Internal.KeyDeletion.{IsDeleted}
 use Rattle.reg_tree.proofs.Invariant.NodeLemmas.{on_ok, seen_as, here_at, there_at, of_tree}
 
+-- what is seen where the key at a path was deleted
+module _ (bins : Bins) (root : ℕ) (holds : TreeInvariant bins.bytes root) (now : Keys) (view_is : seen_as bins root ≡ now) (new : Bins) (moment : ℕ)
+    (p : Path) (d : IsDeleted bins.bytes new.bytes root p moment) where
+  pub tree_then : tree_in new.bytes root ≡ without_key now.tree p moment
+  tree_then = of_tree bins root holds now view_is (λ t. tree_in new.bytes root ≡ without_key t p moment) d.tree
+
+  -- each other key's node stays
+  pub nodes_then : (q : Path) → (other : Node) → IsAt now q other → q ≢ p → IsAt (seen_as new root) q other
+  nodes_then q other at n = let a = subst (λ k. IsAt k q other) (sym view_is) at in record { offset = d.offsets q n ∙ a.offset; depth = a.depth }
+
 module _ (bins : Bins) (root : ℕ) (holds : TreeInvariant bins.bytes root) (now : Keys) (view_is : seen_as bins root ≡ now) (result : Result (Unit {0}) TreeFault) (node : Node) where
   abbrev Here : Type 0
   Here = IsHere bins.bytes node.offset
@@ -25,14 +35,10 @@ module _ (bins : Bins) (root : ℕ) (holds : TreeInvariant bins.bytes root) (now
         by (Err x) d e = subst (λ (b : Bins). TreeInvariant b.bytes root) (sym e) holds
 
     pub deleted_tree : (p : Path) → IsAt now p node → OnOk result (tree_in new.bytes root ≡ without_key now.tree p moment)
-    deleted_tree p at = on_ok result (λ d. of_tree bins root holds now view_is (λ t. tree_in new.bytes root ≡ without_key t p moment) d.tree) (ok (here_at bins root holds now view_is node p at))
+    deleted_tree p at = on_ok result (tree_then bins root holds now view_is new moment p) (ok (here_at bins root holds now view_is node p at))
 
-    -- each other key's node stays
     pub deleted_nodes : (p : Path) → IsAt now p node → OnOk result ((q : Path) → (other : Node) → IsAt now q other → q ≢ p → IsAt (seen_as new root) q other)
-    deleted_nodes p at = on_ok result (λ d. stays d) (ok (here_at bins root holds now view_is node p at))
-      where
-        stays : IsDeleted bins.bytes new.bytes root p moment → (q : Path) → (other : Node) → IsAt now q other → q ≢ p → IsAt (seen_as new root) q other
-        stays d q other at n = let a = subst (λ k. IsAt k q other) (sym view_is) at in record { offset = d.offsets q n ∙ a.offset; depth = a.depth }
+    deleted_nodes p at = on_ok result (nodes_then bins root holds now view_is new moment p) (ok (here_at bins root holds now view_is node p at))
 
   -- what holds of the tree spelt holds of the tree seen
   pub children_seen : ((t : Here) → ((result ≡ Err HasChildren) ↔ (children_of (tree_in bins.bytes t.root) t.path ≢ []))) → (p : Path) →

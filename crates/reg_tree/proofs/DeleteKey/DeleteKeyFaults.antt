@@ -69,8 +69,15 @@ module _ (old : List ℕ) (key : ℕ) (t : IsHere old key) where
   pub has-children : (fields : KeyFields) → ((r : KeyRecord) → key_at h key ≡ Some r → fields ≡ r.fields) → not (fields.subkeys == 0) ≡ not (length (children_of tree t.path) == 0)
   has-children fields are = ap (λ n. not (n == 0)) (ap (λ (f : KeyFields). f.subkeys) (are b.node.key (key_is old key t)) ∙ sym number)
 
-  pub childless : (r : Bool) → r ≡ not (length (children_of tree t.path) == 0) → r ≡ false → b.node.key.fields.subkeys ≡ 0
-  childless r e f = sym number ∙ eqb-true _ _ (not-false (length (children_of tree t.path) == 0) (sym e ∙ f))
+  pub childless_by : children_of tree t.path ≡ [] → b.node.key.fields.subkeys ≡ 0
+  childless_by e = sym number ∙ ap length e
+
+  none-by : (paths : List Path) (r : Bool) → r ≡ not (length paths == 0) → r ≡ false → paths ≡ []
+  none-by [] r e f = refl
+  none-by (p ∷ paths) r e f = absurd (let z = eqb-true _ _ (not-false (length (p ∷ paths) == 0) (sym e ∙ f)) in omega (arith, z))
+
+  pub no_children : (r : Bool) → r ≡ not (length (children_of tree t.path) == 0) → r ≡ false → children_of tree t.path ≡ []
+  no_children = none-by (children_of tree t.path)
 
   pub inner : (r : Bool) → ((r ≡ true) ↔ IsKept tree t.path) → r ≡ false → t.path ≢ []
   inner r k f e = false≢true (sym f ∙ k.1 (inl e))

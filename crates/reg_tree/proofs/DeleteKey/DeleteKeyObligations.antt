@@ -40,6 +40,7 @@ use Rattle.reg_tree.specs.Internal.LengthChanges.{LengthsStay}
 use Rattle.reg_tree.specs.Internal.TreeInvariant.{rooted, TreeInvariant, IsHere}
 use Rattle.reg_tree.specs.Internal.KeyNodeChanges.{Recounts}
 use Rattle.reg_tree.specs.Internal.KeyDeletion.{IsListed, IsUnlinked, IsSole, IsDeleted}
+use Rattle.reg_tree.specs.Internal.ReachedPlaces.{StandsAt}
 use Rattle.reg_tree.proofs.ValueChange.TreeAfterValueChange.{edited-at}
 use Rattle.reg_tree.proofs.DeleteKey.DeleteKeyFrame.{key-left, sole, release-there, release-some}
 use Rattle.reg_tree.proofs.DeleteKey.DeleteKeyGraft.{is, grafts}
@@ -149,9 +150,6 @@ module _ (old : List ℕ) (key : ℕ) (t : IsHere old key) (childless : (branch 
     listed-here = subst (λ o. IsListed h o key was.node.key entries index) (sym parent-offset)
         (subst (λ k. IsListed h was.offset k was.node.key entries index) (offset old key t) (listed h t.root was stands-was single x b found))
 
-    pub unlink-ready : (above : KeyRecord) × (entries : List Entry) × (index : ℕ) × IsListed h fields.parent key above entries index
-    unlink-ready = (was.node.key, entries, index, listed-here)
-
     module _ (h2 : Heap) (moment : ℕ) (unlinks : (above : KeyRecord) → (entries : List Entry) → (index : ℕ) →
         IsListed h fields.parent key above entries index → IsUnlinked h h2 fields.parent above entries index moment) where
       un : IsUnlinked h h2 was.offset was.node.key entries index moment
@@ -242,3 +240,16 @@ module _ (old : List ℕ) (key : ℕ) (t : IsHere old key) (childless : (branch 
               lengths_stay h h5 t.root p keys was came was-is (grafted-name h h5 t.root p keys was came ring [] [] was-is grafts-here w)
               w.offset w.stands holds-now.shape.offset holds-now.shape.stands below-same
               (ap (λ n. record (lengths_of was.node.key) { subkey_name = n }) (raised-none was.node.key.fields.largest_subkey_name))
+
+  -- it stands among its parent's subkeys
+  pub placed : (index : ℕ) × StandsAt h key index
+  placed = (
+    index,
+    record {
+      record_is = b.node.key;
+      above = was.node.key;
+      entries = entries;
+      reads = key_is old key t;
+      listed = listed-here b.node.key.fields (λ r e. ap (λ (k : KeyRecord). k.fields) (same_Some _ _ (sym (key_is old key t) ∙ e)));
+    },
+  )

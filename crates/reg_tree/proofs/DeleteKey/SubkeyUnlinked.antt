@@ -12,13 +12,17 @@ use Rattle.std.proofs.lemmas.List.{get_or-map, length-map}
 use Rattle.reg_names.specs.Names.{folded}
 use Rattle.reg_heap.specs.Heaps.{Heap}
 use Rattle.reg_heap.specs.Kinds.{times}
+use Rattle.std.proofs.lemmas.Option.{same_Some}
+use Rattle.reg_records.specs.declared.nk.KeyFields.{KeyFields}
 use Rattle.reg_records.specs.KeyNodes.{KeyRecord, key_at}
+use Rattle.reg_shape.specs.Nodes.{entries_of}
 use Rattle.reg_records.specs.SubkeyLists.{Entry}
 use Rattle.reg_index.specs.Subkeys.{AreSubkeys, IsIndexFor, Moves, Rises, name_at, name_or_none, names_in, own, without}
 use Rattle.reg_index.proofs.SubkeysOpening.{subkeys-open, own-leaf}
 use Rattle.reg_index.proofs.SubkeysFrame.{key-or-leaf, key-stays, times-not}
 use Rattle.reg_tree.specs.Internal.KeyNodeChanges.{HasSubkeysList, Notes, noted_subkeys}
 use Rattle.reg_tree.specs.Internal.KeyDeletion.{IsListed, IsUnlinked}
+use Rattle.reg_tree.specs.Internal.ReachedPlaces.{StandsAt}
 use Rattle.reg_tree.proofs.Invariant.CellReadings.{some_of, is_some_of}
 
 abbrev none : Entry
@@ -115,3 +119,43 @@ module _ (h : Heap) (parent key : ℕ) (above : KeyRecord) (entries : List Entry
       moves = subst (λ o. Moves h mid (own h above.fields.subkeys o) (own mid count' list')) same.1 (subst (λ n. Moves h mid (own h n list) (own mid count' list')) same.0 moves);
       notes = notes;
     }
+
+-- ---- a key's one place
+
+-- two readings of a list are the same
+same-above : (h : Heap) (parent key : ℕ) (one other : KeyRecord) (entries rest : List Entry) (i j : ℕ) →
+    IsListed h parent key one entries i → IsListed h parent key other rest j → one ≡ other
+same-above h parent key one other entries rest i j l m = same_Some _ _ (sym l.reads ∙ m.reads)
+
+pub same-entries : (h : Heap) (count offset : ℕ) (entries rest : List Entry) → AreSubkeys h count offset entries → AreSubkeys h count offset rest → entries ≡ rest
+same-entries h count offset entries rest s r = sym s.entries_are ∙ (ap entries_of (same_Some _ _ (sym s.read ∙ r.read)) ∙ r.entries_are)
+
+-- in one list it stands at one index
+same-place : (h : Heap) (parent key : ℕ) (above : KeyRecord) (entries : List Entry) (i j : ℕ) →
+    IsListed h parent key above entries i → IsListed h parent key above entries j → i ≡ j
+same-place h parent key above entries i j l m =
+    let n = many h parent key above entries i l in
+    let v = l.within in
+    let w = m.within in
+    once (names_in h entries) (folded (name_at h key)) i j l.subkeys.rising (omega (arith, n, v)) (omega (arith, n, w))
+    (its-name h parent key above entries i l) (its-name h parent key above entries j m)
+
+module _ (h : Heap) (key index : ℕ) (s : StandsAt h key index) (fields : KeyFields) (are : (r : KeyRecord) → key_at h key ≡ Some r → fields ≡ r.fields) where
+  -- as its parent lists it, by the fields that were read
+  pub listed_by : IsListed h fields.parent key s.above s.entries index
+  listed_by = subst (λ (f : KeyFields). IsListed h f.parent key s.above s.entries index) (sym (are s.record_is s.reads)) s.listed
+
+  -- and by any reading of the list
+  pub listed_as : (above : KeyRecord) (entries : List Entry) (i : ℕ) → IsListed h fields.parent key above entries i → IsListed h fields.parent key above entries index
+  listed_as above entries i l =
+      let a = same-above h fields.parent key s.above above s.entries entries index i listed_by l in
+      let m = subst (λ k. IsListed h fields.parent key k s.entries index) a listed_by in
+      let e = same-entries h above.fields.subkeys above.fields.subkeys_list s.entries entries m.subkeys l.subkeys in
+      subst (λ es. IsListed h fields.parent key above es index) e m
+
+  pub unlinked_as : (k : Heap) (moment : ℕ) → ((key : ℕ) → (above : KeyRecord) → (entries : List Entry) → IsListed h fields.parent key above entries index →
+      IsUnlinked h k fields.parent above entries index moment) → (above : KeyRecord) → (entries : List Entry) → (i : ℕ) →
+      IsListed h fields.parent key above entries i → IsUnlinked h k fields.parent above entries i moment
+  unlinked_as k moment unlinks above entries i l =
+      let m = listed_as above entries i l in
+      subst (λ i. IsUnlinked h k fields.parent above entries i moment) (same-place h fields.parent key above entries index i m l) (unlinks key above entries m)

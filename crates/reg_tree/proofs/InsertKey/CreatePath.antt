@@ -2,14 +2,14 @@
 use Rattle.std.proofs.Common.{◌≡◌, ◌≢◌, ◌↔◌, ℕ, ◌+◌, ◌≤◌, ◌<◌, ◌⊎◌, inl, inr, true, false, cond, Option, Some, None, is_some, List, [], ◌∷◌, ◌++◌, map, length, refl, sym, ap, ◌∙◌, subst}
 use Rattle.std.proofs.Common.{arith, length-append, IsSome}
 use Rattle.std.specs.Option.{option_map, option_and_then}
-use Rattle.std.proofs.lemmas.Bool.{false≢true}
+use Rattle.std.proofs.lemmas.Bool.{false≢true, cases_lt}
 use Rattle.std.proofs.lemmas.List.{append-nil, append_assoc, map-append}
-use Rattle.std.proofs.lemmas.Option.{none-some}
+use Rattle.std.proofs.lemmas.Option.{none-some, same_Some}
 use Rattle.reg_names.specs.declared.TheConstants.{PATH_LIMIT}
 use Rattle.reg_names.specs.Names.{folded, path_of}
 use Rattle.reg_heap.specs.declared.limits.TheConstants.{LEAF_LIMIT, MADE_LIMIT}
 use Rattle.reg_heap.specs.Paths.{Path, Tree, children_of}
-use Rattle.reg_heap.specs.Edits.{child_path, has_child, with_key, with_keys, missing, last_there}
+use Rattle.reg_heap.specs.Edits.{child_path, has_child, with_key, with_keys, missing, last_there, are_too_many}
 use Rattle.reg_heap.specs.Heaps.{Heap, CellFrame}
 use Rattle.reg_heap.specs.Kinds.{times}
 use Rattle.reg_arena.specs.Arena.{Bins}
@@ -28,12 +28,15 @@ use Rattle.reg_tree.specs.Internal.LengthChanges.{LengthsChange, MadeLengths}
 use Rattle.reg_tree.specs.CellSizes.{planned, own_sizes, sizes_of, create_sizes, LacksRoom}
 use Rattle.reg_tree.specs.Internal.TreeInvariant.{TreeInvariant, IsHere}
 use Rattle.reg_tree.specs.Internal.PathWalks.{Stops, Reaches}
+use Rattle.reg_tree.specs.Internal.ReachedPlaces.{BelongsFirst}
 use Rattle.reg_tree.specs.Internal.SpareCells.{MayGrowAll, GrowsAll, IsSpared}
 use Rattle.reg_tree.specs.Internal.KeyCreation.{IsCreated, AreTooMany}
-use Rattle.reg_tree.proofs.Invariant.KeyOfTree.{spelt_is, get-none, get-some, shallow, key_there}
+use Rattle.reg_tree.proofs.Invariant.KeyOfTree.{spelt_is, get-none, get-some, shallow, key_there, key_is}
+use Rattle.reg_tree.proofs.DeleteKey.DeleteKeyFaults as children
+use Rattle.reg_tree.proofs.InsertKey.KeyLimits.{too_many-test}
 use Rattle.reg_tree.proofs.Invariant.CellReadings.{key-exists}
 use Rattle.reg_tree.proofs.PathWalk.PathSteps.{as-many, here_then}
-use Rattle.reg_tree.proofs.InsertKey.SpareCellsCarved.{tree-spared, offsets-spared, may_grow_all}
+use Rattle.reg_tree.proofs.InsertKey.SpareCellsCarved.{tree-spared, offsets-spared, planned-then, belongs-then, may_grow_all}
 use Rattle.reg_tree.proofs.InsertKey.MadeCells.{made_makes}
 use Rattle.reg_tree.proofs.InsertKey.PathGrowth.{unchanged}
 use Rattle.reg_tree.proofs.InsertKey.LengthsOfMade.{none_made}
@@ -116,6 +119,15 @@ carved_lengths old mid root holds spare come q o e =
     let count = come.count o in
     ap (option_map lengths_of) (key_at-same (cell_at old) (cell_at mid) o (come.same o refl (omega (arith, one, most, count))))
 
+-- ---- numbers within their limits
+
+within : (most deep full made long below : ℕ) → (((most < made) ⊎ ((deep < long) ⊎ (full ≤ below))) → ⊥) → (made ≤ most) × (long ≤ deep) × (below < full)
+within most deep full made long below none = (
+  elim (cases_lt most made) [ inl l ↦ absurd (none (inl l)) | inr l ↦ omega (arith, l) ],
+  elim (cases_lt deep long) [ inl l ↦ absurd (none (inr (inl l))) | inr l ↦ omega (arith, l) ],
+  elim (cases_lt below full) [ inl l ↦ l | inr l ↦ absurd (none (inr (inr (omega (arith, l))))) ],
+)
+
 -- ---- a path reached as far as it is there
 
 module _ (old : List ℕ) (from : TreeNode) (t : IsHere old from.offset) (path : List ℕ) (parent : TreeNode) (rest : List ℕ) (r : Reaches (cell_at old) from path parent rest) (moment : ℕ) where
@@ -138,14 +150,14 @@ module _ (old : List ℕ) (from : TreeNode) (t : IsHere old from.offset) (path :
   way : IsThrough tree t.path passed left moment
   way = through old t.root t.holds left moment passed t.path from.offset parent.offset t.at r.passes.offset
 
-  parent-at : key_offset_at (cell_at old) t.root (t.path ++ map folded passed) ≡ Some parent.offset
+  pub parent-at : key_offset_at (cell_at old) t.root (t.path ++ map folded passed) ≡ Some parent.offset
   unfolding here_then
   parent-at = parent_here.at
 
-  missing-are : missing tree t.path names ≡ left
+  pub missing-are : missing tree t.path names ≡ left
   missing-are = ap (missing tree t.path) r.passes.parts ∙ (way.missed ∙ missing-all old t.root t.holds left moment left (t.path ++ map folded passed) parent.offset parent-at r.stops)
 
-  last-is : last_there tree t.path names ≡ t.path ++ map folded passed
+  pub last-is : last_there tree t.path names ≡ t.path ++ map folded passed
   last-is = ap (last_there tree t.path) r.passes.parts ∙ (way.last ∙ last-here old t.root t.holds left moment left (t.path ++ map folded passed) parent.offset parent-at r.stops)
 
   with-left : with_keys tree t.path names moment ≡ with_keys tree (t.path ++ map folded passed) left moment
@@ -210,6 +222,21 @@ module _ (old : List ℕ) (from : TreeNode) (t : IsHere old from.offset) (path :
         by (inr (inl l)) = inr (inl (subst (λ n. PATH_LIMIT < n) (sym same-depth) l))
         by (inr (inr l)) = inr (inr (subst (λ p. LEAF_LIMIT ≤ length (children_of tree p)) last-is l))
 
+    -- where they aren't, there is room
+    pub has_room : (left ≡ [] → ⊥) → are_too_many tree t.path names ≡ false → (length left ≤ MADE_LIMIT) × (parent.depth + length left ≤ PATH_LIMIT)
+        × ((k : KeyRecord) → key_at (cell_at old) parent.offset ≡ Some k → k.fields.subkeys < LEAF_LIMIT)
+    has_room some few =
+        let w = within MADE_LIMIT PATH_LIMIT LEAF_LIMIT (length left) (parent.depth + length left) (length (children_of (tree_in old parent_here.root) parent_here.path))
+        (λ m. false≢true (sym few ∙ too_many-test tree t.path names (too_many some m))) in (
+          w.0,
+          w.1,
+          λ k reads. (
+              let n = children.number old parent.offset parent_here in
+              let same = ap (λ (k : KeyRecord). k.fields.subkeys) (same_Some _ _ (sym (key_is old parent.offset parent_here) ∙ reads)) in
+              let below = w.2 in
+              omega (arith, n, same, below)),
+        )
+
   pub parent-deep : from.depth ≤ PATH_LIMIT → parent.depth ≤ 1024
   unfolding here_then
   parent-deep d =
@@ -229,6 +256,13 @@ module _ (old : List ℕ) (from : TreeNode) (t : IsHere old from.offset) (path :
 
     missing-first : (name : List ℕ) (others : List (List ℕ)) → left ≡ name ∷ others → subkey_named (cell_at old) (folded name) parent.offset ≡ None
     missing-first name others e = subst (λ ns. Stops (cell_at old) parent.offset ns) e r.stops
+
+    -- what the list takes, and where the first name belongs, are what they were
+    pub plan_then : planned (cell_at mid) parent.offset ≡ planned (cell_at old) parent.offset
+    plan_then = planned-then old mid parent parent_here left spare s missing-first deep few
+
+    pub place_then : (index : ℕ) → BelongsFirst (cell_at old) parent.offset left index → BelongsFirst (cell_at mid) parent.offset left index
+    place_then index place name others e = belongs-then old mid parent parent_here left spare s missing-first deep few name index (place name others e)
 
     pub may_make : MayGrowAll mid parent left spare
     may_make = may_grow_all old mid parent parent_here left spare s missing-first deep few
@@ -292,5 +326,7 @@ module _ (bins : Bins) (from : TreeNode) (t : IsHere bins.bytes from.offset) (pa
       ((z : ℕ) → 0 < times z spare → IsSome (cell_at new z)) → Makes heap (cell_at new) (create_sizes seen t.path (path_of path))
   created_cells mid new spare s keeps stay = subst (Makes heap (cell_at new)) (sym created_sizes) (made_makes bins.bytes mid new parent.offset (path_of rest) spare s keeps stay)
 
-  pub created_room : LacksRoom bins (sizes_of (planned heap parent.offset) (map own_sizes (path_of rest))) → LacksRoom bins (create_sizes seen t.path (path_of path))
-  created_room lacks = subst (LacksRoom bins) (sym created_sizes) lacks
+  pub created_room : {plan : Option ℕ} → plan ≡ planned heap parent.offset → LacksRoom bins (sizes_of plan (map own_sizes (path_of rest))) →
+      LacksRoom bins (create_sizes seen t.path (path_of path))
+  created_room plan_is lacks =
+      subst (LacksRoom bins) (ap (λ plan. sizes_of plan (map own_sizes (path_of rest))) plan_is ∙ sym created_sizes) lacks

@@ -4,6 +4,9 @@ use Rattle.std.specs.Prelude.{Result, Ok, Err}
 use Rattle.std.proofs.lemmas.Bool.Decides.{nat_tests}
 use Rattle.reg_names.specs.declared.TheConstants.{PATH_LIMIT}
 use Rattle.reg_names.specs.Names.{path_of}
+use Rattle.reg_arena.specs.declared.ArenaFault.{ArenaFault}
+use Rattle.reg_arena.specs.declared.ArenaFault.TheVariants as arena
+use Rattle.reg_tree.specs.Internal.TreeFaults.{of_arena}
 use Rattle.reg_tree.specs.declared.node.Node.{Node}
 use Rattle.reg_tree.specs.declared.node.Created.{Created}
 use Rattle.reg_tree.specs.declared.fault.TreeFault.{TreeFault}
@@ -19,6 +22,11 @@ from_shallow bytes from t d = let s = shallow bytes from.offset t in omega (arit
 pub empty_names : (text : List ℕ) (e : Bool) → e ≡ (length text == 0) → e ≡ true → path_of text ≡ []
 empty_names [] e h k = refl
 empty_names (b ∷ bs) e h k = let t : (length (b ∷ bs) == 0) ≡ true = sym h ∙ k in absurd (grind (arith, nat_tests))
+
+-- which fault of a tree an arena's is
+pub of_two : (fault : ArenaFault) (told : TreeFault) → told ≡ of_arena fault → (told ≡ Full) ⊎ (told ≡ Memory)
+of_two arena.Full told e = inl e
+of_two arena.Memory told e = inr e
 
 abbrev Answer : Type 0
 Answer = Result Created TreeFault

@@ -60,10 +60,10 @@ raised-low o s l = omega (arith, l)
 -- in the parent's key node, `h4` when the security was counted
 
 module _ (h0 h1 h2 h3 h4 : Heap) (root : ℕ) (keys : Branch Node) (ring : List ℕ) (p : Path) (parent : ℕ)
-    (plan : Option ℕ) (list_cell key : ℕ) (left : List ℕ)
-    (w : IsShape h0 root keys ring (taken plan list_cell ++ key ∷ left)) (unrooted : total_of rooted keys ≡ 0) (at : key_offset_at h0 root p ≡ Some parent) where
+    (list_cell : Option ℕ) (key : ℕ) (left : List ℕ)
+    (w : IsShape h0 root keys ring (taken list_cell ++ key ∷ left)) (unrooted : total_of rooted keys ≡ 0) (at : key_offset_at h0 root p ≡ Some parent) where
   abbrev spare : List ℕ
-  spare = taken plan list_cell ++ key ∷ left
+  spare = taken list_cell ++ key ∷ left
 
   abbrev was : Branch Node
   was = keyed.branch h0 root keys ring spare w p parent at
@@ -118,18 +118,18 @@ module _ (h0 h1 h2 h3 h4 : Heap) (root : ℕ) (keys : Branch Node) (ring : List 
       let own = offset-own h0 keys.offset keys.node w.stands.0.reads in
       let x = w.exact keys.offset in
       let m = at-most-one h0 keys.offset in
-      let s = times-append keys.offset (taken plan list_cell) (key ∷ left) in
+      let s = times-append keys.offset (taken list_cell) (key ∷ left) in
       let t = subst (λ z. times z (key ∷ []) ≡ 1) (e ∙ sym w.offset) (times-one key) in
       omega (arith, own, x, m, s, t)
 
   -- every cell is one thing alone
   pub budget : (z : ℕ) → ((K z + (owned z looked.class_cells + owned z looked.value_cells)) + (times z old_list + total (owns z) was.below)) +
-      (times z ring + (times z (taken plan list_cell) + (times z (key ∷ []) + times z left))) ≤ allocated h0 z
+      (times z ring + (times z (taken list_cell) + (times z (key ∷ []) + times z left))) ≤ allocated h0 z
   budget z =
       let all = keyed.branch_once h0 root keys ring spare w p parent at z in
       let o = ap (λ (found : List Found). owned z (found ++ index_cells node.index)) looked.cells ∙ own-parts z was.offset above looked.class_cells looked.value_cells node.index in
       let i = own-index z in
-      let s = times-append z (taken plan list_cell) (key ∷ left) in
+      let s = times-append z (taken list_cell) (key ∷ left) in
       omega (arith, all, o, i, s)
 
   pub one : (z : ℕ) → allocated h0 z ≤ 1
@@ -178,13 +178,13 @@ module _ (h0 h1 h2 h3 h4 : Heap) (root : ℕ) (keys : Branch Node) (ring : List 
     pub own1 : own h1 above.fields.subkeys above.fields.subkeys_list ≡ old_list
     own1 = own-stays h0 h1 above.fields.subkeys above.fields.subkeys_list entries subkeys0 list-calm ∙ own-is h0 above.fields.subkeys above.fields.subkeys_list node.index looked.index_is
 
-    module _ (count1 list1 : ℕ) (moves : Moves h1 h2 (old_list ++ taken plan list_cell) (own h2 count1 list1)) where
-      pub before : (z : ℕ) → times z (old_list ++ taken plan list_cell) ≡ times z old_list + times z (taken plan list_cell)
-      before z = times-append z old_list (taken plan list_cell)
+    module _ (count1 list1 : ℕ) (moves : Moves h1 h2 (old_list ++ taken list_cell) (own h2 count1 list1)) where
+      pub before : (z : ℕ) → times z (old_list ++ taken list_cell) ≡ times z old_list + times z (taken list_cell)
+      before z = times-append z old_list (taken list_cell)
 
-      pub calm2 : (z : ℕ) → 0 < allocated h0 z → times z old_list ≡ 0 → times z (taken plan list_cell) ≡ 0 → h2 z ≡ h1 z
+      pub calm2 : (z : ℕ) → 0 < allocated h0 z → times z old_list ≡ 0 → times z (taken list_cell) ≡ 0 → h2 z ≡ h1 z
       calm2 z some a b = (let x = allocated1 z in let y = before z in
-          moved-calm h1 h2 (old_list ++ taken plan list_cell) (own h2 count1 list1) moves z (omega (arith, some, x)) (omega (arith, a, b, y)))
+          moved-calm h1 h2 (old_list ++ taken list_cell) (own h2 count1 list1) moves z (omega (arith, some, x)) (omega (arith, a, b, y)))
 
       abbrev P : ℕ
       P = was.offset

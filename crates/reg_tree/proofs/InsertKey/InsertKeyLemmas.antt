@@ -48,10 +48,10 @@ use Rattle.reg_tree.proofs.InsertKey.InsertKeyCells as cells
 use Rattle.reg_tree.proofs.InsertKey.InsertKeyGraft as grafting
 
 module _ (h0 h1 h2 h3 h4 : Heap) (root : ℕ) (keys : Branch Node) (ring : List ℕ) (p : Path) (parent : ℕ)
-    (plan : Option ℕ) (list_cell key : ℕ) (left : List ℕ)
-    (w : IsShape h0 root keys ring (taken plan list_cell ++ key ∷ left)) (unrooted : total_of rooted keys ≡ 0) (at : key_offset_at h0 root p ≡ Some parent) where
+    (list_cell : Option ℕ) (key : ℕ) (left : List ℕ)
+    (w : IsShape h0 root keys ring (taken list_cell ++ key ∷ left)) (unrooted : total_of rooted keys ≡ 0) (at : key_offset_at h0 root p ≡ Some parent) where
   abbrev spare : List ℕ
-  spare = taken plan list_cell ++ key ∷ left
+  spare = taken list_cell ++ key ∷ left
 
   abbrev was : Branch Node
   was = keyed.branch h0 root keys ring spare w p parent at
@@ -66,13 +66,13 @@ module _ (h0 h1 h2 h3 h4 : Heap) (root : ℕ) (keys : Branch Node) (ring : List 
   entries = entries_of node.index
 
   abbrev looked : IsLooked h0 was.offset node
-  looked = cells.looked h0 h1 h2 h3 h4 root keys ring p parent plan list_cell key left w unrooted at
+  looked = cells.looked h0 h1 h2 h3 h4 root keys ring p parent list_cell key left w unrooted at
 
   abbrev seen : IsSeen h0 root was.offset node
-  seen = cells.seen h0 h1 h2 h3 h4 root keys ring p parent plan list_cell key left w unrooted at
+  seen = cells.seen h0 h1 h2 h3 h4 root keys ring p parent list_cell key left w unrooted at
 
   offset : was.offset ≡ parent
-  offset = cells.offset h0 h1 h2 h3 h4 root keys ring p parent plan list_cell key left w unrooted at
+  offset = cells.offset h0 h1 h2 h3 h4 root keys ring p parent list_cell key left w unrooted at
 
   abbrev stands0 : StandsIn h0 root was
   stands0 = keyed.stands h0 root keys ring spare w p parent at
@@ -81,7 +81,7 @@ module _ (h0 h1 h2 h3 h4 : Heap) (root : ℕ) (keys : Branch Node) (ring : List 
   old_list = cells_of_index node.index
 
   module _ (others1 : (z : ℕ) → z ≢ key → h1 z ≡ h0 z) (there1 : IsSome (h1 key)) where
-    module _ (count1 list1 : ℕ) (moves : Moves h1 h2 (old_list ++ taken plan list_cell) (own h2 count1 list1)) where
+    module _ (count1 list1 : ℕ) (moves : Moves h1 h2 (old_list ++ taken list_cell) (own h2 count1 list1)) where
       abbrev P : ℕ
       P = was.offset
 
@@ -99,37 +99,37 @@ module _ (h0 h1 h2 h3 h4 : Heap) (root : ℕ) (keys : Branch Node) (ring : List 
           entries1 = with_one index (entry_for h1 key) entries
 
           pub calm-class : (z : ℕ) → 0 < owned z looked.class_cells → h4 z ≡ h0 z
-          calm-class = cells.calm-class h0 h1 h2 h3 h4 root keys ring p parent plan list_cell key left w unrooted at others1 there1 count1 list1
+          calm-class = cells.calm-class h0 h1 h2 h3 h4 root keys ring p parent list_cell key left w unrooted at others1 there1 count1 list1
               moves name moment notes index good short key1 plain1 stands_at missing subkeys2 count_is users users_are recounts
 
           pub calm-values : (z : ℕ) → 0 < owned z looked.value_cells → h4 z ≡ h0 z
-          calm-values = cells.calm-values h0 h1 h2 h3 h4 root keys ring p parent plan list_cell key left w unrooted at others1 there1 count1 list1
+          calm-values = cells.calm-values h0 h1 h2 h3 h4 root keys ring p parent list_cell key left w unrooted at others1 there1 count1 list1
               moves name moment notes index good short key1 plain1 stands_at missing subkeys2 count_is users users_are recounts
 
           abbrev new_above : KeyRecord
           new_above = noted_subkeys count1 list1 (length name) moment above
 
           pub key-now : key_at h4 P ≡ Some new_above
-          key-now = cells.key-now h0 h1 h2 h3 h4 root keys ring p parent plan list_cell key left w unrooted at others1 there1 count1 list1 moves
+          key-now = cells.key-now h0 h1 h2 h3 h4 root keys ring p parent list_cell key left w unrooted at others1 there1 count1 list1 moves
               name moment notes index good short key1 plain1 stands_at missing subkeys2 count_is users users_are recounts
 
           pub plain-now : IsPlainKey (held h4 P)
-          plain-now = cells.plain-now h0 h1 h2 h3 h4 root keys ring p parent plan list_cell key left w unrooted at others1 there1 count1 list1 moves
+          plain-now = cells.plain-now h0 h1 h2 h3 h4 root keys ring p parent list_cell key left w unrooted at others1 there1 count1 list1 moves
               name moment notes index good short key1 plain1 stands_at missing subkeys2 count_is users users_are recounts
 
           key-calm : h4 key ≡ h1 key
-          key-calm = cells.key-calm h0 h1 h2 h3 h4 root keys ring p parent plan list_cell key left w unrooted at others1 there1 count1 list1 moves
+          key-calm = cells.key-calm h0 h1 h2 h3 h4 root keys ring p parent list_cell key left w unrooted at others1 there1 count1 list1 moves
               name moment notes index good short key1 plain1 stands_at missing subkeys2 count_is users users_are recounts
 
           abbrev made : Node
           made = made_node key (made_record parent security moment name)
 
           made-is : IsSeen h4 root key made
-          made-is = cells.made-is h0 h1 h2 h3 h4 root keys ring p parent plan list_cell key left w unrooted at others1 there1 count1 list1 moves
+          made-is = cells.made-is h0 h1 h2 h3 h4 root keys ring p parent list_cell key left w unrooted at others1 there1 count1 list1 moves
               name moment notes index good short key1 plain1 stands_at missing subkeys2 count_is users users_are recounts
 
           abbrev pub subkeys4 : AreSubkeys h4 count1 list1 entries1
-          subkeys4 = cells.subkeys4 h0 h1 h2 h3 h4 root keys ring p parent plan list_cell key left w unrooted at others1 there1 count1 list1 moves
+          subkeys4 = cells.subkeys4 h0 h1 h2 h3 h4 root keys ring p parent list_cell key left w unrooted at others1 there1 count1 list1 moves
               name moment notes index good short key1 plain1 stands_at missing subkeys2 count_is users users_are recounts
 
           abbrev now : Node
@@ -139,11 +139,11 @@ module _ (h0 h1 h2 h3 h4 : Heap) (root : ℕ) (keys : Branch Node) (ring : List 
           is = record { offset = P; node = now; below = hang index key made was.below }
 
           grafts : IsGrafted h0 h4 root was is ring spare left
-          grafts = grafting.grafts h0 h1 h2 h3 h4 root keys ring p parent plan list_cell key left w unrooted at others1 there1 count1 list1 moves
+          grafts = grafting.grafts h0 h1 h2 h3 h4 root keys ring p parent list_cell key left w unrooted at others1 there1 count1 list1 moves
               name moment notes index good short key1 plain1 stands_at missing subkeys2 count_is users users_are recounts
 
           spare-made : (z : ℕ) → 0 < times z left → h4 z ≡ h0 z
-          spare-made = grafting.spare-made h0 h1 h2 h3 h4 root keys ring p parent plan list_cell key left w unrooted at others1 there1 count1 list1
+          spare-made = grafting.spare-made h0 h1 h2 h3 h4 root keys ring p parent list_cell key left w unrooted at others1 there1 count1 list1
               moves name moment notes index good short key1 plain1 stands_at missing subkeys2 count_is users users_are recounts
 
           -- ---- what stands then

@@ -1,8 +1,7 @@
 -- What each step of making a key asks, and what all of them make.
 use Rattle.std.proofs.Common.{◌≡◌, ◌≢◌, ℕ, zero, suc, ◌+◌, ◌*◌, ◌≤◌, ◌<◌, true, cond, nat_le, Option, Some, None, IsSome, List, [], ◌∷◌, ◌++◌, length, refl, sym, ap, ◌∙◌, subst, arith}
-use Rattle.std.specs.Prelude.{Ok, Err}
+use Rattle.std.specs.Prelude.{Err}
 use Rattle.std.specs.Option.{option_and_then}
-use Rattle.std.proofs.lemmas.Option.{none-some}
 use Rattle.reg_names.specs.declared.TheConstants.{KEY_NAME_LIMIT}
 use Rattle.reg_names.specs.Names.{folded, is_key_name}
 use Rattle.reg_heap.specs.declared.limits.TheConstants.{LEAF_LIMIT}
@@ -16,7 +15,6 @@ use Rattle.reg_records.specs.KeySecurities.{KeySecurityRecord, security_at}
 use Rattle.reg_records.specs.SubkeyLists.{Entry}
 use Rattle.reg_shape.specs.Nodes.{Node, entries_of}
 use Rattle.reg_shape.specs.Written.{IsWrittenSecurity}
-use Rattle.reg_shape.specs.PathLookup.{subkey_named}
 use Rattle.reg_records.proofs.KeyNodeCodec.{key_at-same}
 use Rattle.reg_shape.proofs.Frame.WrittenFrame.{same-held}
 use Rattle.reg_shape.proofs.Walking.WalkRefinement.{IsLooked}
@@ -24,28 +22,28 @@ use Rattle.reg_shape.proofs.Wholeness.ShapeRecords.{all-at}
 use Rattle.reg_index.specs.Subkeys.{AreSubkeys, IsIndexFor, IsReady, Moves, names_in, name_at, name_or_none, entry_for, with_one, cells_of_index, own, taken, insert_size}
 use Rattle.reg_index.proofs.SubkeysOpening.{index-leaf}
 use Rattle.reg_tree.specs.Internal.KeyNodeChanges.{Notes, Recounts, noted_subkeys, made_fields}
+use Rattle.reg_tree.specs.Internal.ReachedPlaces.{BelongsAt}
 use Rattle.reg_tree.specs.Internal.SpareCells.{planned, IsGrowing, MayGrow, Grows}
 use Rattle.reg_tree.proofs.Invariant.CellReadings.{is_some_of}
 use Rattle.reg_tree.proofs.Invariant.KeyOfShape as keyed
 use Rattle.reg_tree.proofs.InsertKey.ParentReindexed.{branch-subkeys}
-use Rattle.reg_tree.proofs.InsertKey.SubkeyByName.{named-ok}
 use Rattle.reg_tree.proofs.Invariant.UntouchedCells.{times-one, single-of}
 use Rattle.reg_tree.proofs.Invariant.KeyCountBound.{count-few}
 use Rattle.reg_tree.proofs.InsertKey.InsertKeyFrame as frame
 use Rattle.reg_tree.proofs.InsertKey.InsertKeyLemmas as made
 
-module _ (bytes : List ℕ) (parent list_cell key : ℕ) (name left : List ℕ) (m : MayGrow bytes parent (taken (planned (cell_at bytes) parent) list_cell ++ key ∷ left) name) where
+module _ (bytes : List ℕ) (parent : ℕ) (list_cell : Option ℕ) (key : ℕ) (name left : List ℕ) (m : MayGrow bytes parent (taken list_cell ++ key ∷ left) name) where
   abbrev pub h : Heap
   h = cell_at bytes
 
-  abbrev pub g : IsGrowing bytes parent (taken (planned (cell_at bytes) parent) list_cell ++ key ∷ left)
+  abbrev pub g : IsGrowing bytes parent (taken list_cell ++ key ∷ left)
   g = m.growing
 
   abbrev pub plan : Option ℕ
   plan = planned h parent
 
   abbrev spare : List ℕ
-  spare = taken plan list_cell ++ key ∷ left
+  spare = taken list_cell ++ key ∷ left
 
   abbrev pub node : Node
   node = (keyed.branch h g.root g.keys g.ring spare g.shape g.path parent g.at).node
@@ -66,7 +64,7 @@ module _ (bytes : List ℕ) (parent list_cell key : ℕ) (name left : List ℕ) 
   plan_is = ap (option_and_then (λ (k : KeyRecord). insert_size h k.fields.subkeys k.fields.subkeys_list)) key_is
 
   security_ringed : 0 < times node.key.fields.security g.ring
-  security_ringed = frame.security-ringed h h h h h g.root g.keys g.ring g.path parent plan list_cell key left g.shape g.unrooted g.at
+  security_ringed = frame.security-ringed h h h h h g.root g.keys g.ring g.path parent list_cell key left g.shape g.unrooted g.at
 
   -- ---- by the fields that were read
 
@@ -94,13 +92,10 @@ module _ (bytes : List ℕ) (parent list_cell key : ℕ) (name left : List ℕ) 
     pub some_subkeys : (es : List Entry) × AreSubkeys h fields.subkeys fields.subkeys_list es
     some_subkeys = (entries, subkeys0)
 
-    -- the name is none of a subkey's
-    pub not_found : (index : ℕ) → ((es : List Entry) → AreSubkeys h fields.subkeys fields.subkeys_list es → IsIndexFor (names_in h es) (folded name) (Ok index)) → ⊥
-    not_found index find =
-        let b = keyed.branch h g.root g.keys g.ring spare g.shape g.path parent g.at in
-        let found = named-ok h g.root b (keyed.stands h g.root g.keys g.ring spare g.shape g.path parent g.at) (folded name) index subkeys0.rising (find entries subkeys0) in
-        let none = subst (λ o. subkey_named h (folded name) o ≡ None) (sym (keyed.offset h g.root g.keys g.ring spare g.shape g.path parent g.at)) m.missing in
-        none-some _ (sym none ∙ found)
+    -- the name belongs at an index, by the list that was read
+    pub belongs : (index : ℕ) → BelongsAt h parent name index → (es : List Entry) → AreSubkeys h fields.subkeys fields.subkeys_list es →
+        IsIndexFor (names_in h es) (folded name) (Err index)
+    belongs index place es s = place node.key key_is es (subst (λ (f : KeyFields). AreSubkeys h f.subkeys f.subkeys_list es) (sym fields_are) s)
 
     pub few_subkeys : fields.subkeys < LEAF_LIMIT
     few_subkeys = subst (λ (f : KeyFields). f.subkeys < LEAF_LIMIT) fields_are (m.few node.key key_is)
@@ -110,11 +105,11 @@ module _ (bytes : List ℕ) (parent list_cell key : ℕ) (name left : List ℕ) 
     module _ (h1 : Heap) (others1 : (z : ℕ) → z ≢ key → h1 z ≡ h z) (there1 : IsSome (h1 key)) (new_fields : KeyFields)
         (key1 : key_at h1 key ≡ Some (record { fields = new_fields; name = name })) where
       calm1 : (z : ℕ) → times z (key ∷ []) ≡ 0 → h1 z ≡ h z
-      calm1 = frame.calm1 h h1 h1 h1 h1 g.root g.keys g.ring g.path parent plan list_cell key left g.shape g.unrooted g.at others1 there1
+      calm1 = frame.calm1 h h1 h1 h1 h1 g.root g.keys g.ring g.path parent list_cell key left g.shape g.unrooted g.at others1 there1
 
       pub subkeys1 : AreSubkeys h1 fields.subkeys fields.subkeys_list entries
       subkeys1 = subst (λ (f : KeyFields). AreSubkeys h1 f.subkeys f.subkeys_list entries) fields_are
-          (frame.subkeys1 h h1 h1 h1 h1 g.root g.keys g.ring g.path parent plan list_cell key left g.shape g.unrooted g.at others1 there1)
+          (frame.subkeys1 h h1 h1 h1 h1 g.root g.keys g.ring g.path parent list_cell key left g.shape g.unrooted g.at others1 there1)
 
       its_name : name_at h1 key ≡ name
       its_name = ap name_or_none key1
@@ -126,7 +121,7 @@ module _ (bytes : List ℕ) (parent list_cell key : ℕ) (name left : List ℕ) 
         subkeys1,
         subst (λ n. IsIndexFor (names_in h1 entries) (folded n) (Err index)) (sym its_name)
             (subst (λ ns. IsIndexFor ns (folded name) (Err index))
-            (sym (frame.names1 h h1 h1 h1 h1 g.root g.keys g.ring g.path parent plan list_cell key left g.shape g.unrooted g.at others1 there1))
+            (sym (frame.names1 h h1 h1 h1 h1 g.root g.keys g.ring g.path parent list_cell key left g.shape g.unrooted g.at others1 there1))
             (find entries subkeys0)),
       )
 
@@ -138,8 +133,8 @@ module _ (bytes : List ℕ) (parent list_cell key : ℕ) (name left : List ℕ) 
       unfolding insert_size
       same_size zero list a b = refl
       same_size (suc count) list a b =
-          let budget = frame.budget h h1 h1 h1 h1 g.root g.keys g.ring g.path parent plan list_cell key left g.shape g.unrooted g.at list in
-          let one = frame.one h h1 h1 h1 h1 g.root g.keys g.ring g.path parent plan list_cell key left g.shape g.unrooted g.at list in
+          let budget = frame.budget h h1 h1 h1 h1 g.root g.keys g.ring g.path parent list_cell key left g.shape g.unrooted g.at list in
+          let one = frame.one h h1 h1 h1 h1 g.root g.keys g.ring g.path parent list_cell key left g.shape g.unrooted g.at list in
           let leaf = index-leaf h node.key.fields.subkeys node.key.fields.subkeys_list entries node.index own_subkeys looked.index_is (omega (arith, a)) in
           let t : times list (cells_of_index node.index) ≡ 1 = ap (times list) leaf ∙ (ap (λ o. times list (o ∷ [])) (sym b) ∙ times-one list) in
           ap (λ (bytes : List ℕ). cond (nat_le (4 + 8 * suc (suc count)) (length bytes)) None (Some (8 + 8 * suc (suc count)))) (same-held h h1 list (calm1 list (omega (arith, budget, one, t))))
@@ -149,43 +144,43 @@ module _ (bytes : List ℕ) (parent list_cell key : ℕ) (name left : List ℕ) 
           subst (λ (f : KeyFields). insert_size h1 f.subkeys f.subkeys_list ≡ plan) fields_are
           (same_size node.key.fields.subkeys node.key.fields.subkeys_list refl refl ∙ sym plan_is)
 
-      ready-same : (o : Option ℕ) → o ≡ plan → IsReady h o list_cell → IsReady h1 o list_cell
-      ready-same None e r = r
-      ready-same (Some size) e r =
-          let budget = frame.budget h h1 h1 h1 h1 g.root g.keys g.ring g.path parent plan list_cell key left g.shape g.unrooted g.at list_cell in
-          let one = frame.one h h1 h1 h1 h1 g.root g.keys g.ring g.path parent plan list_cell key left g.shape g.unrooted g.at list_cell in
-          let t : times list_cell (taken plan list_cell) ≡ 1 = ap (λ o. times list_cell (taken o list_cell)) (sym e) ∙ times-one list_cell in
-          let calm = calm1 list_cell (omega (arith, budget, one, t)) in (
+      ready-same : (o cell : Option ℕ) → list_cell ≡ cell → IsReady h o cell → IsReady h1 o cell
+      ready-same None None e r = r
+      ready-same None (Some cell) e r = absurd r
+      ready-same (Some size) None e r = absurd r
+      ready-same (Some size) (Some cell) e r =
+          let budget = frame.budget h h1 h1 h1 h1 g.root g.keys g.ring g.path parent list_cell key left g.shape g.unrooted g.at cell in
+          let one = frame.one h h1 h1 h1 h1 g.root g.keys g.ring g.path parent list_cell key left g.shape g.unrooted g.at cell in
+          let t : times cell (taken list_cell) ≡ 1 = ap (λ o. times cell (taken o)) e ∙ times-one cell in
+          let calm = calm1 cell (omega (arith, budget, one, t)) in (
             subst IsSome (sym calm) r.0,
-            ap (λ (bytes : List ℕ). length bytes + 4) (same-held h h1 list_cell calm) ∙ r.1,
-            key_at-same h h1 list_cell calm ∙ r.2,
+            ap (λ (bytes : List ℕ). length bytes + 4) (same-held h h1 cell calm) ∙ r.1,
+            key_at-same h h1 cell calm ∙ r.2,
           )
 
       pub ready1 : IsReady h plan list_cell → IsReady h1 (insert_size h1 fields.subkeys fields.subkeys_list) list_cell
-      ready1 r = subst (λ o. IsReady h1 o list_cell) (sym size1) (ready-same plan refl r)
+      ready1 r = subst (λ o. IsReady h1 o list_cell) (sym size1) (ready-same plan list_cell refl r)
 
       -- ---- the key is among the subkeys
 
       module _ (h2 : Heap) (count1 list1 : ℕ)
-          (moves : Moves h1 h2 (own h1 fields.subkeys fields.subkeys_list ++ taken (insert_size h1 fields.subkeys fields.subkeys_list) list_cell)
-          (own h2 count1 list1)) where
-        pub moved : Moves h1 h2 (cells_of_index node.index ++ taken plan list_cell) (own h2 count1 list1)
+          (moves : Moves h1 h2 (own h1 fields.subkeys fields.subkeys_list ++ taken list_cell) (own h2 count1 list1)) where
+        pub moved : Moves h1 h2 (cells_of_index node.index ++ taken list_cell) (own h2 count1 list1)
         moved =
-            subst (λ cells. Moves h1 h2 (cells ++ taken plan list_cell) (own h2 count1 list1))
-            (frame.own1 h h1 h1 h1 h1 g.root g.keys g.ring g.path parent plan list_cell key left g.shape g.unrooted g.at others1 there1)
-            (subst (λ (f : KeyFields). Moves h1 h2 (own h1 f.subkeys f.subkeys_list ++ taken plan list_cell) (own h2 count1 list1)) (sym fields_are)
-            (subst (λ o. Moves h1 h2 (own h1 fields.subkeys fields.subkeys_list ++ taken o list_cell) (own h2 count1 list1)) size1 moves))
+            subst (λ cells. Moves h1 h2 (cells ++ taken list_cell) (own h2 count1 list1))
+            (frame.own1 h h1 h1 h1 h1 g.root g.keys g.ring g.path parent list_cell key left g.shape g.unrooted g.at others1 there1)
+            (subst (λ (f : KeyFields). Moves h1 h2 (own h1 f.subkeys f.subkeys_list ++ taken list_cell) (own h2 count1 list1)) (sym fields_are) moves)
 
         pub parent2 : IsSome (key_at h2 parent)
         parent2 =
             subst (λ o. IsSome (key_at h2 o)) (keyed.offset h g.root g.keys g.ring spare g.shape g.path parent g.at)
-            (is_some_of _ _ (frame.P-then h h1 h2 h2 h2 g.root g.keys g.ring g.path parent plan list_cell key left g.shape g.unrooted g.at others1 there1 count1 list1 moved))
+            (is_some_of _ _ (frame.P-then h h1 h2 h2 h2 g.root g.keys g.ring g.path parent list_cell key left g.shape g.unrooted g.at others1 there1 count1 list1 moved))
 
         module _ (h3 : Heap) (moment : ℕ) (notes : Notes h2 h3 parent (noted_subkeys count1 list1 (length name) moment)) where
           pub security3 : IsSome (security_at h3 fields.security)
           security3 =
               subst (λ (f : KeyFields). IsSome (security_at h3 f.security)) fields_are
-              (is_some_of _ _ (frame.security-there h h1 h2 h3 h3 g.root g.keys g.ring g.path parent plan list_cell key left g.shape g.unrooted g.at
+              (is_some_of _ _ (frame.security-there h h1 h2 h3 h3 g.root g.keys g.ring g.path parent list_cell key left g.shape g.unrooted g.at
               others1 there1 count1 list1 moved name moment notes))
 
           module _ (h4 : Heap) (good : is_key_name name ≡ true) (short : length name ≤ KEY_NAME_LIMIT) (made_so : new_fields ≡ made_fields parent fields.security moment)
@@ -196,7 +191,7 @@ module _ (bytes : List ℕ) (parent list_cell key : ℕ) (name left : List ℕ) 
               (users : ℕ) (users_are : (s : KeySecurityRecord) → security_at h fields.security ≡ Some s → users ≡ s.fields.count + 1) (recounts : Recounts h3 h4 fields.security (λ n. users)) where
             pub grown : Grows h h4 g.root g.path g.keys g.ring key left name moment
             grown =
-                made.grows h h1 h2 h3 h4 g.root g.keys g.ring g.path parent plan list_cell key left g.shape g.unrooted g.at others1 there1 count1 list1 moved name moment notes index good short
+                made.grows h h1 h2 h3 h4 g.root g.keys g.ring g.path parent list_cell key left g.shape g.unrooted g.at others1 there1 count1 list1 moved name moment notes index good short
                 (key1 ∙ ap (λ (f : KeyFields). Some (record { fields = f; name = name })) (made_so ∙ ap (λ (f : KeyFields). made_fields parent f.security moment) (sym fields_are)))
                 plain1 (find entries subkeys0) m.missing (subkeys2 entries subkeys1) (count2 ∙ ap (λ (f : KeyFields). f.subkeys + 1) (sym fields_are)) users
                 (subst (λ (f : KeyFields). (s : KeySecurityRecord) → security_at h f.security ≡ Some s → users ≡ s.fields.count + 1) (sym fields_are) users_are)

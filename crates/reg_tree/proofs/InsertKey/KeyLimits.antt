@@ -1,5 +1,5 @@
 -- Whether keys to be made are too many, as a test. The limits are variables, so that nothing counts up to them.
-use Rattle.std.proofs.Common.{◌≡◌, ◌≢◌, ◌⊎◌, inl, inr, ◌↔◌, ℕ, ◌+◌, ◌≤◌, ◌<◌, Bool, true, false, ◌||◌, nat_lt, nat_le, List, [], ◌∷◌, length, refl, sym, ap, arith}
+use Rattle.std.proofs.Common.{◌≡◌, ◌≢◌, ◌⊎◌, inl, inr, ◌↔◌, ℕ, ◌+◌, ◌≤◌, ◌<◌, Bool, true, false, ◌||◌, nat_lt, nat_le, List, [], ◌∷◌, length, refl, sym, ap, ◌∙◌, arith}
 use Rattle.std.proofs.lemmas.Bool.{and_parts, and_from, or_cases, or_left, or_right, ltb-true, leb-true, lt-ltb, le-leb, false≢true, false_from_ne_true}
 use Rattle.reg_names.specs.declared.TheConstants.{PATH_LIMIT}
 use Rattle.reg_heap.specs.declared.limits.TheConstants.{LEAF_LIMIT, MADE_LIMIT}
@@ -71,3 +71,7 @@ module _ (t : Tree) (p : Path) (names : List (List ℕ)) where
 
   pub test-false : (AreTooMany t p names → ⊥) → false ≡ are_too_many t p names
   test-false none = test-is false ((λ e. absurd (false≢true e)), λ m. absurd (none m))
+
+  -- where the test says no, they aren't
+  pub not_many : are_too_many t p names ≡ false → AreTooMany t p names → ⊥
+  not_many e m = absurd (false≢true (sym e ∙ too_many-test m))

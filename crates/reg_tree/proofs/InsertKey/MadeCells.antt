@@ -11,7 +11,7 @@ use Rattle.reg_arena.specs.NewCells.{AreSizes}
 use Rattle.reg_heap.specs.Heaps.{Heap, allocated}
 use Rattle.reg_heap.specs.Kinds.{times}
 use Rattle.reg_heap.specs.Paths.{Path}
-use Rattle.reg_index.specs.Subkeys.{AreSubkeys, KeepsCells, Moves, own, taken, place_of}
+use Rattle.reg_index.specs.Subkeys.{AreSubkeys, KeepsCells, Moves, own, taken}
 use Rattle.reg_records.specs.SubkeyLists.{Entry}
 use Rattle.reg_index.proofs.SubkeysOpening.{own-leaf}
 use Rattle.reg_index.proofs.KeptCells.{kept-then}
@@ -72,20 +72,20 @@ own-listed h zero list s = refl
 own-listed h (suc count) list s = own-leaf h (suc count) list s.0 s.1 (omega arith)
 
 -- the list's cell is its own, or the one carved for it
-moved-leaves : (h k : Heap) (count list count1 list1 : ℕ) (plan : Option ℕ) (fresh : ℕ) → Moves h k (own h count list ++ taken plan fresh) (own k count1 list1) →
-    own k count1 list1 ≡ list1 ∷ [] → list1 ≡ place_of plan list fresh → LeavesOthers h k (own h count list)
-moved-leaves h k count list count1 list1 plan fresh moves after place z there none =
+moved-leaves : (h k : Heap) (count list count1 list1 : ℕ) (fresh : Option ℕ) → Moves h k (own h count list ++ taken fresh) (own k count1 list1) →
+    own k count1 list1 ≡ list1 ∷ [] → list1 ≡ unwrap_or fresh list → LeavesOthers h k (own h count list)
+moved-leaves h k count list count1 list1 fresh moves after place z there none =
     let c = moves.count z in
-    let t = times-append z (own h count list) (taken plan fresh) in
+    let t = times-append z (own h count list) (taken fresh) in
     let here = allocated-is h z there in
     let o = ap (times z) after in
     let q = ap (λ l. times z (l ∷ [])) place in
-    let p = by plan in
+    let p = by fresh in
     is-allocated k z (omega (arith, c, t, here, none, o, p, q))
   where
-    by : (plan : Option ℕ) → times z (taken plan fresh) ≤ times z (place_of plan list fresh ∷ [])
+    by : (fresh : Option ℕ) → times z (taken fresh) ≤ times z (unwrap_or fresh list ∷ [])
     by None = omega arith
-    by (Some size) = omega arith
+    by (Some cell) = omega arith
 
 module _ (h h1 h2 h3 h4 : Heap) (one : SameSizes h h1) (two : KeepsCells h1 h2) (three : SameSizes h2 h3) (four : SameSizes h3 h4) where
   pub made_keeps : KeepsCells h h4
@@ -93,15 +93,15 @@ module _ (h h1 h2 h3 h4 : Heap) (one : SameSizes h h1) (two : KeepsCells h1 h2) 
 
   pub made_leaves : (parent : ℕ) (fields : KeyFields) → ((k : KeyRecord) → key_at h parent ≡ Some k → fields ≡ k.fields) →
       ((entries : List Entry) × AreSubkeys h fields.subkeys fields.subkeys_list entries) → ((entries : List Entry) × AreSubkeys h1 fields.subkeys fields.subkeys_list entries) →
-      (count1 list1 : ℕ) (plan : Option ℕ) (fresh : ℕ) → ((entries : List Entry) × AreSubkeys h2 count1 list1 entries) →
-      Moves h1 h2 (own h1 fields.subkeys fields.subkeys_list ++ taken plan fresh) (own h2 count1 list1) → count1 ≡ fields.subkeys + 1 → list1 ≡ place_of plan fields.subkeys_list fresh →
+      (count1 list1 : ℕ) (fresh : Option ℕ) → ((entries : List Entry) × AreSubkeys h2 count1 list1 entries) →
+      Moves h1 h2 (own h1 fields.subkeys fields.subkeys_list ++ taken fresh) (own h2 count1 list1) → count1 ≡ fields.subkeys + 1 → list1 ≡ unwrap_or fresh fields.subkeys_list →
       (k : KeyRecord) → key_at h parent ≡ Some k → LeavesOthers h h4 (own h k.fields.subkeys k.fields.subkeys_list)
-  made_leaves parent fields are before then count1 list1 plan fresh now moves more place k reads z there none =
+  made_leaves parent fields are before then count1 list1 fresh now moves more place k reads z there none =
       let owned = own-listed h1 fields.subkeys fields.subkeys_list then ∙ sym (own-listed h fields.subkeys fields.subkeys_list before) in
       let same : times z (own h1 fields.subkeys fields.subkeys_list) ≡ 0 =
       ap (times z) owned ∙ (ap (λ (f : KeyFields). times z (own h f.subkeys f.subkeys_list)) (are k reads) ∙ none) in
       let after = own-leaf h2 count1 list1 now.0 now.1 (omega (arith, more)) in
-      let in2 = moved-leaves h1 h2 fields.subkeys fields.subkeys_list count1 list1 plan fresh moves after place z ((one z).0 ∙ there) same in
+      let in2 = moved-leaves h1 h2 fields.subkeys fields.subkeys_list count1 list1 fresh moves after place z ((one z).0 ∙ there) same in
       (four z).0 ∙ ((three z).0 ∙ in2)
 
 -- ---- all of them made

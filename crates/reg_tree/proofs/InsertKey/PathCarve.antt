@@ -35,6 +35,7 @@ use Rattle.reg_tree.specs.Internal.TreeFaults.{of_arena}
 use Rattle.reg_tree.specs.Internal.KeyNodeChanges.{HasSubkeysList}
 use Rattle.reg_tree.specs.Internal.TreeInvariant.{IsHere}
 use Rattle.reg_tree.specs.Internal.SpareCells.{key_size, own_sizes, sizes_of, IsGrowing, AreReady, IsSpared}
+use Rattle.reg_tree.proofs.Invariant.CellReadings.{some_of}
 use Rattle.reg_tree.proofs.InsertKey.PathGrowth.{name_short}
 use Rattle.reg_tree.proofs.InsertKey.MadeCells.{carved_sizes}
 use Rattle.reg_tree.proofs.InsertKey.SpareCellTaken.{growing_there, growing_subkeys, planned_is}
@@ -124,10 +125,25 @@ total-few plan path p valid few = let t = total-some plan (path_of path) p (shor
 pub near-limit : (bytes : List ℕ) (total : ℕ) → total ≤ 15536 → PassesLimit bytes total → BINS_LIMIT < length bytes + GROWTH_BOUND
 near-limit bytes total small past = let l = past.least.least GROWTH_BOUND refl (omega (arith, small)) in let p = past.passes in omega (arith, l, p)
 
--- a plan that was answered is good
-pub plan_told : (bytes : List ℕ) (key : ℕ) → IsHere bytes key → (count list : ℕ) → HasSubkeysList (cell_at bytes) key count list →
-    (plan : Option ℕ) → plan ≡ insert_size (cell_at bytes) count list → IsPlan plan
-plan_told bytes key t count list has plan e = subst IsPlan (sym e) (plan_good bytes key t count list has)
+-- the list that its key node names
+its_list : (bytes : List ℕ) (key : ℕ) → IsHere bytes key → (count : ℕ) × (list : ℕ) × HasSubkeysList (cell_at bytes) key count list
+its_list bytes key t =
+    let k = some_of (key_at (cell_at bytes) key) (parent_there bytes key t) in (
+      k.0.fields.subkeys,
+      k.0.fields.subkeys_list,
+      λ r e. (ap (λ (r : KeyRecord). r.fields.subkeys) (same_Some _ _ (sym k.1 ∙ e)), ap (λ (r : KeyRecord). r.fields.subkeys_list) (same_Some _ _ (sym k.1 ∙ e))),
+    )
+
+-- a plan that was answered is the key's
+pub plan_is : (bytes : List ℕ) (key : ℕ) → IsHere bytes key → (count list : ℕ) → HasSubkeysList (cell_at bytes) key count list →
+    (plan : Option ℕ) → plan ≡ insert_size (cell_at bytes) count list → plan ≡ planned (cell_at bytes) key
+plan_is bytes key t count list has plan e = e ∙ sym (planned_is bytes key [] (growing bytes key t) count list has)
+
+-- and good
+pub plan_told : (bytes : List ℕ) (key : ℕ) → IsHere bytes key → (plan : Option ℕ) → plan ≡ planned (cell_at bytes) key → IsPlan plan
+plan_told bytes key t plan e =
+    let l = its_list bytes key t in
+    subst IsPlan (sym (e ∙ planned_is bytes key [] (growing bytes key t) l.0 l.1 l.2)) (plan_good bytes key t l.0 l.1 l.2)
 
 -- only where the arena is full is the tree
 pub full-is : (fault : ArenaFault) (told : TreeFault) → told ≡ of_arena fault → told ≡ Full → fault ≡ arena.Full
@@ -137,11 +153,9 @@ full-is fault told e f = by fault (sym e ∙ f)
     by arena.Full e = refl
     by arena.Memory e = absurd (cc)
 
-pub is-full : (fault : ArenaFault) (told : TreeFault) → told ≡ of_arena fault → ◌≡◌ {A = Result (Vec ℕ Global) TreeFault} (Err told) (Err Full) → fault ≡ arena.Full
-is-full fault told e f = full-is fault told e (same_err f)
-  where
-    same_err : {a b : TreeFault} → ◌≡◌ {A = Result (Vec ℕ Global) TreeFault} (Err a) (Err b) → a ≡ b
-    same_err {a} {b} e = cc
+-- an answer's fault
+pub which_fault : (fault told : ArenaFault) → ◌≡◌ {A = Result (Vec ℕ Global) ArenaFault} (Err fault) (Err told) → fault ≡ told
+which_fault fault told e = cc
 
 -- ---- the cells are ready
 
@@ -151,7 +165,7 @@ held-long h cell size z = ap (λ (o : Option (List ℕ)). length (unwrap_or o []
 zeros-room : (h : Heap) (cell size room : ℕ) → h cell ≡ Some (replicate (size - 4) 0) → room + 4 ≤ size → HasRoom h cell room
 zeros-room h cell size room z l = record { exists = subst IsSome (sym z) refl; enough = (let n = held-long h cell size z in omega (arith, n, l)) }
 
-zeros-ready : (h : Heap) (cell size : ℕ) → h cell ≡ Some (replicate (size - 4) 0) → 4 ≤ size → IsReady h (Some size) cell
+zeros-ready : (h : Heap) (cell size : ℕ) → h cell ≡ Some (replicate (size - 4) 0) → 4 ≤ size → IsReady h (Some size) (Some cell)
 unfolding key_at
 zeros-ready h cell size z l = (
   subst IsSome (sym z) refl,
@@ -168,7 +182,7 @@ ready-all h plan [] [] p n z = refl
 ready-all h plan [] (cell ∷ cells) p n z = absurd (omega (arith, n))
 ready-all h None (name ∷ names) [] p n z = absurd (omega (arith, n))
 ready-all h None (name ∷ names) (key ∷ left) p n z = record {
-  list_cell = 0;
+  list_cell = None;
   own = key ∷ [];
   left = left;
   spare_is = refl;
@@ -179,7 +193,7 @@ ready-all h None (name ∷ names) (key ∷ left) p n z = record {
 ready-all h (Some size) (name ∷ names) [] p n z = absurd (omega (arith, n))
 ready-all h (Some size) (name ∷ names) (list ∷ []) p n z = absurd (omega (arith, n))
 ready-all h (Some size) (name ∷ names) (list ∷ key ∷ left) p n z = record {
-  list_cell = list;
+  list_cell = Some list;
   own = key ∷ [];
   left = left;
   spare_is = refl;
@@ -189,28 +203,23 @@ ready-all h (Some size) (name ∷ names) (list ∷ key ∷ left) p n z = record 
 }
 
 -- cells carved by these sizes are those that the keys take
-pub spared : (old new : List ℕ) (key : ℕ) (t : IsHere old key) (count list : ℕ) → HasSubkeysList (cell_at old) key count list →
-    (path : List ℕ) (plan : Option ℕ) → plan ≡ insert_size (cell_at old) count list → (sizes offsets cells : List ℕ) →
+pub spared : (old new : List ℕ) (key : ℕ) (t : IsHere old key) (path : List ℕ) (plan : Option ℕ) → plan ≡ planned (cell_at old) key → (sizes offsets cells : List ℕ) →
     sizes ≡ sizes_of plan (map own_sizes (path_of path)) → cells ≡ offsets → AreNew (cell_at old) (cell_at new) offsets sizes → IsSpared old new key (path_of path) cells
-spared old new key t count list has path plan plan_is sizes offsets cells sizes_are cells_are adds =
-    let sized : sizes ≡ sizes_of (insert_size (cell_at old) count list) (map own_sizes (path_of path)) = sizes_are ∙ ap (λ p. sizes_of p (map own_sizes (path_of path))) plan_is in
-    let a : AreNew (cell_at old) (cell_at new) cells (sizes_of (insert_size (cell_at old) count list) (map own_sizes (path_of path))) =
-    subst (λ c. AreNew (cell_at old) (cell_at new) c (sizes_of (insert_size (cell_at old) count list) (map own_sizes (path_of path)))) (sym cells_are)
+spared old new key t path plan plan_is sizes offsets cells sizes_are cells_are adds =
+    let own : Option ℕ = planned (cell_at old) key in
+    let sized : sizes ≡ sizes_of own (map own_sizes (path_of path)) = sizes_are ∙ ap (λ p. sizes_of p (map own_sizes (path_of path))) plan_is in
+    let a : AreNew (cell_at old) (cell_at new) cells (sizes_of own (map own_sizes (path_of path))) =
+    subst (λ c. AreNew (cell_at old) (cell_at new) c (sizes_of own (map own_sizes (path_of path)))) (sym cells_are)
     (subst (AreNew (cell_at old) (cell_at new) offsets) sized adds) in
-    let p = planned_is old key [] (growing old key t) count list has in
-    let good = are-sizes (insert_size (cell_at old) count list) (path_of path) (plan_good old key t count list has) in
+    let told : IsPlan own = plan_told old key t own refl in
     record {
       come = a.come;
-      sizes = carved_sizes (cell_at new) cells (sizes_of (insert_size (cell_at old) count list) (map own_sizes (path_of path))) good a.as_many a.zeros (λ n. length-replicate {A = ℕ} n 0) ∙
-          ap (λ plan. sizes_of plan (map own_sizes (path_of path))) (sym p);
-      ready = subst (λ plan. AreReady (cell_at new) plan (map own_sizes (path_of path)) cells) (sym p)
-          (ready-all (cell_at new) (insert_size (cell_at old) count list) (path_of path) cells (plan_good old key t count list has) a.as_many a.zeros);
+      sizes = carved_sizes (cell_at new) cells (sizes_of own (map own_sizes (path_of path))) (are-sizes own (path_of path) told)
+          a.as_many a.zeros (λ n. length-replicate {A = ℕ} n 0);
+      ready = ready-all (cell_at new) own (path_of path) cells told a.as_many a.zeros;
     }
 
 -- where there is no room for the cells planned, there is none for those that keys of these names take
-pub lacks_room : (bins : Bins) (key : ℕ) (t : IsHere bins.bytes key) (count list : ℕ) → HasSubkeysList (cell_at bins.bytes) key count list →
-    (path : List ℕ) (plan : Option ℕ) → plan ≡ insert_size (cell_at bins.bytes) count list → (sizes : List ℕ) → sizes ≡ sizes_of plan (map own_sizes (path_of path)) →
-    0 < length sizes → PassesLimit bins.bytes (total_of sizes) → NoFit bins.bytes (total_of sizes) → LacksRoom bins (sizes_of (planned (cell_at bins.bytes) key) (map own_sizes (path_of path)))
-lacks_room bins key t count list has path plan plan_is sizes sizes_are some past none =
-    let p = planned_is bins.bytes key [] (growing bins.bytes key t) count list has in
-    subst (LacksRoom bins) (sizes_are ∙ ap (λ plan. sizes_of plan (map own_sizes (path_of path))) (plan_is ∙ sym p)) (some, none, past)
+pub lacks_room : (bins : Bins) (names : List (List ℕ)) (plan : Option ℕ) (sizes : List ℕ) → sizes ≡ sizes_of plan (map own_sizes names) →
+    0 < length sizes → PassesLimit bins.bytes (total_of sizes) → NoFit bins.bytes (total_of sizes) → LacksRoom bins (sizes_of plan (map own_sizes names))
+lacks_room bins names plan sizes sizes_are some past none = subst (LacksRoom bins) sizes_are (some, none, past)

@@ -62,12 +62,14 @@ path-self q = ap is_eq (tied_itself path_total q)
 some-times : (x : ℕ) (before after : List ℕ) → 0 < times x (before ++ x ∷ after)
 some-times x before after = let t = times-append x before (x ∷ after) in let one = times-one x in omega (arith, t, one)
 
-ready-same : (h k : Heap) (plan : Option ℕ) (cell : ℕ) → ((size : ℕ) → plan ≡ Some size → k cell ≡ h cell) → IsReady h plan cell → IsReady k plan cell
-ready-same h k None cell c r = r
-ready-same h k (Some size) cell c r = (
-  subst IsSome (sym (c size refl)) r.0,
-  ap (λ (bytes : List ℕ). length bytes + 4) (same-held h k cell (c size refl)) ∙ r.1,
-  key_at-same h k cell (c size refl) ∙ r.2,
+ready-same : (h k : Heap) (plan cell : Option ℕ) → ((z : ℕ) → cell ≡ Some z → k z ≡ h z) → IsReady h plan cell → IsReady k plan cell
+ready-same h k None None c r = r
+ready-same h k None (Some cell) c r = absurd r
+ready-same h k (Some size) None c r = absurd r
+ready-same h k (Some size) (Some cell) c r = (
+  subst IsSome (sym (c cell refl)) r.0,
+  ap (λ (bytes : List ℕ). length bytes + 4) (same-held h k cell (c cell refl)) ∙ r.1,
+  key_at-same h k cell (c cell refl) ∙ r.2,
 )
 
 sizes-kept : (h k : Heap) (cells sizes : List ℕ) → ((z : ℕ) → 0 < times z cells → k z ≡ h z) → HaveSizes h cells sizes → HaveSizes k cells sizes
@@ -87,18 +89,18 @@ ready-kept h k plan (sizes ∷ more) spare c r = record {
   own = r.own;
   left = r.left;
   spare_is = r.spare_is;
-  ready = ready-same h k plan r.list_cell (λ size e. c r.list_cell (subst (λ s. 0 < times r.list_cell s) (sym r.spare_is) (list-there plan size e))) r.ready;
+  ready = ready-same h k plan r.list_cell (λ z e. c z (subst (λ s. 0 < times z s) (sym r.spare_is) (list-there r.list_cell z e))) r.ready;
   room = sizes-kept h k r.own sizes (λ z l. c z (subst (λ s. 0 < times z s) (sym r.spare_is) (there z (let t = times-append z r.own r.left in omega (arith, t, l))))) r.room;
   rest = ready-kept h k (Some FIRST_LIST_SIZE) more r.left
       (λ z l. c z (subst (λ s. 0 < times z s) (sym r.spare_is) (there z (let t = times-append z r.own r.left in omega (arith, t, l))))) r.rest;
 }
   where
-    list-there : (o : Option ℕ) (size : ℕ) → o ≡ Some size → 0 < times r.list_cell (taken o r.list_cell ++ (r.own ++ r.left))
-    list-there None size e = absurd (none-some _ e)
-    list-there (Some n) size e = some-times r.list_cell [] (r.own ++ r.left)
+    list-there : (o : Option ℕ) (z : ℕ) → o ≡ Some z → 0 < times z (taken o ++ (r.own ++ r.left))
+    list-there None z e = absurd (none-some _ e)
+    list-there (Some n) z e = subst (λ x. 0 < times x (n ∷ (r.own ++ r.left))) (same_Some _ _ e) (some-times n [] (r.own ++ r.left))
 
-    there : (z : ℕ) → 0 < times z (r.own ++ r.left) → 0 < times z (taken plan r.list_cell ++ (r.own ++ r.left))
-    there z l = let t = times-append z (taken plan r.list_cell) (r.own ++ r.left) in omega (arith, t, l)
+    there : (z : ℕ) → 0 < times z (r.own ++ r.left) → 0 < times z (taken r.list_cell ++ (r.own ++ r.left))
+    there z l = let t = times-append z (taken r.list_cell) (r.own ++ r.left) in omega (arith, t, l)
 
 -- ---- a key that is not there
 

@@ -10,7 +10,7 @@ use Rattle.reg_records.specs.RecordCells.{HasRoom}
 use Rattle.reg_records.specs.KeyNodes.{KeyRecord, key_at}
 use Rattle.reg_records.specs.SubkeyLists.{Entry}
 use Rattle.reg_shape.specs.Nodes.{Node, entries_of}
-use Rattle.reg_index.specs.Subkeys.{AreSubkeys, insert_size, taken}
+use Rattle.reg_index.specs.Subkeys.{AreSubkeys, IsReady, insert_size, taken}
 use Rattle.reg_tree.specs.Internal.KeyNodeChanges.{HasSubkeysList}
 use Rattle.reg_tree.specs.Internal.SpareCells.{planned, IsGrowing, MayGrow, HaveSizes, IsNext, key_size}
 use Rattle.reg_tree.proofs.Invariant.CellReadings.{is_some_of}
@@ -55,16 +55,16 @@ module _ (bytes : List ℕ) (parent : ℕ) (spare : List ℕ) (g : IsGrowing byt
 -- ---- where the cells stand
 
 -- the first key's own cell, where it has one alone
-pub record HasOne (heap : Heap) (plan : Option ℕ) (list_cell size : ℕ) (left spare : List ℕ) : Type 0 where
+pub record HasOne (heap : Heap) (list_cell : Option ℕ) (size : ℕ) (left spare : List ℕ) : Type 0 where
   pub key : ℕ
-  pub spare_is : spare ≡ taken plan list_cell ++ key ∷ left
+  pub spare_is : spare ≡ taken list_cell ++ key ∷ left
   pub room : HasRoom heap key (size - 4)
 
 pub one-own : (heap : Heap) (plan : Option ℕ) (size : ℕ) (spare : List ℕ) (Rest : List ℕ → Type 0) (r : IsNext heap plan (size ∷ []) spare Rest) →
-    HasOne heap plan r.list_cell size r.left spare
+    HasOne heap r.list_cell size r.left spare
 one-own heap plan size spare Rest r = by r.own r.spare_is r.room
   where
-    by : (own : List ℕ) → spare ≡ taken plan r.list_cell ++ (own ++ r.left) → HaveSizes heap own (size ∷ []) → HasOne heap plan r.list_cell size r.left spare
+    by : (own : List ℕ) → spare ≡ taken r.list_cell ++ (own ++ r.left) → HaveSizes heap own (size ∷ []) → HasOne heap r.list_cell size r.left spare
     by [] e h = absurd h
     by (key ∷ []) e h = record { key = key; spare_is = e; room = h.0 }
     by (key ∷ other ∷ own) e h = absurd h.1
@@ -74,26 +74,30 @@ pub key-room : (heap : Heap) (key : ℕ) (name : List ℕ) → HasRoom heap key 
 key-room heap key name r = record { exists = r.exists; enough = omega (arith, r.enough) }
 
 -- what stands in the spare cells, where no list is planned, and where one is
-pub record IsAlone (plan : Option ℕ) (key : ℕ) (left spare : List ℕ) : Type 0 where
-  pub all : (x : ℕ) → spare ≡ taken plan x ++ get_or spare 0 0 ∷ drop 1 spare
+pub record IsAlone (key : ℕ) (left spare : List ℕ) : Type 0 where
+  pub all : spare ≡ taken None ++ get_or spare 0 0 ∷ drop 1 spare
   pub key_is : get_or spare 0 0 ≡ key
   pub left_is : drop 1 spare ≡ left
   pub long : 0 < length spare
 
-pub record IsBeside (plan : Option ℕ) (list_cell key : ℕ) (left spare : List ℕ) : Type 0 where
-  pub all : spare ≡ taken plan (get_or spare 0 0) ++ get_or spare 1 0 ∷ drop 2 spare
-  pub list_is : get_or spare 0 0 ≡ list_cell
+pub record IsBeside (list_cell : Option ℕ) (key : ℕ) (left spare : List ℕ) : Type 0 where
+  pub all : spare ≡ taken (Some (get_or spare 0 0)) ++ get_or spare 1 0 ∷ drop 2 spare
+  pub list_is : Some (get_or spare 0 0) ≡ list_cell
   pub key_is : get_or spare 1 0 ≡ key
   pub left_is : drop 2 spare ≡ left
   pub long : 1 < length spare
 
-pub alone : (plan : Option ℕ) (list_cell key : ℕ) (left spare : List ℕ) → plan ≡ None → spare ≡ taken plan list_cell ++ key ∷ left → IsAlone plan key left spare
-alone None list_cell key left spare e s = subst (λ s. IsAlone None key left s) (sym s) (record { all = λ x. refl; key_is = refl; left_is = refl; long = omega arith })
-alone (Some size) list_cell key left spare e s = absurd (none-some _ (sym e))
+pub alone : (heap : Heap) (plan list_cell : Option ℕ) (key : ℕ) (left spare : List ℕ) → plan ≡ None → IsReady heap plan list_cell → spare ≡ taken list_cell ++ key ∷ left →
+    IsAlone key left spare
+alone heap (Some size) list_cell key left spare e r s = absurd (none-some _ (sym e))
+alone heap None (Some cell) key left spare e r s = absurd r
+alone heap None None key left spare e r s = subst (λ s. IsAlone key left s) (sym s) (record { all = refl; key_is = refl; left_is = refl; long = omega arith })
 
-pub beside : (plan : Option ℕ) (size list_cell key : ℕ) (left spare : List ℕ) → plan ≡ Some size → spare ≡ taken plan list_cell ++ key ∷ left → IsBeside plan list_cell key left spare
-beside None size list_cell key left spare e s = absurd (none-some _ e)
-beside (Some n) size list_cell key left spare e s = subst (λ s. IsBeside (Some n) list_cell key left s) (sym s)
+pub beside : (heap : Heap) (plan : Option ℕ) (size : ℕ) (list_cell : Option ℕ) (key : ℕ) (left spare : List ℕ) → plan ≡ Some size → IsReady heap plan list_cell →
+    spare ≡ taken list_cell ++ key ∷ left → IsBeside list_cell key left spare
+beside heap None size list_cell key left spare e r s = absurd (none-some _ e)
+beside heap (Some n) size None key left spare e r s = absurd r
+beside heap (Some n) size (Some cell) key left spare e r s = subst (λ s. IsBeside (Some cell) key left s) (sym s)
     (record { all = refl; list_is = refl; key_is = refl; left_is = refl; long = omega arith })
 
 -- ---- what may be made in them

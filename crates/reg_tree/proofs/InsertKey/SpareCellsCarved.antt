@@ -3,7 +3,8 @@ use Rattle.std.proofs.Common.{◌≡◌, ℕ, zero, suc, ◌+◌, ◌*◌, ◌�
 use Rattle.std.specs.Option.{option_and_then}
 use Rattle.std.specs.Ordering.{eq_by_cmp}
 use Rattle.std.specs.FinMap.{get, insert, get-insert, same_map}
-use Rattle.std.proofs.lemmas.Option.{none-some}
+use Rattle.std.specs.Prelude.{IsSome, Err}
+use Rattle.std.proofs.lemmas.Option.{none-some, same_Some}
 use Rattle.reg_names.specs.declared.TheConstants.{PATH_LIMIT}
 use Rattle.reg_names.specs.Names.{folded}
 use Rattle.reg_heap.specs.declared.limits.TheConstants.{LEAF_LIMIT}
@@ -33,9 +34,15 @@ use Rattle.reg_shape.proofs.Refinement.RefinementAfterGraft.{tree-same-below}
 use Rattle.reg_shape.proofs.Lookup.LookupAfterGraft.{offsets-same}
 use Rattle.reg_shape.proofs.Lookup.LookupOfShape.{offset-none, offset-more, offset-append}
 use Rattle.reg_shape.proofs.Refinement.RefinementAtPath.{told}
-use Rattle.reg_index.specs.Subkeys.{insert_size, cells_of_index}
-use Rattle.reg_index.proofs.SubkeysOpening.{index-leaf}
-use Rattle.reg_index.proofs.SubkeysFrame.{owned-index}
+use Rattle.reg_records.specs.SubkeyLists.{Entry}
+use Rattle.reg_shape.proofs.Wholeness.ShapeRecords.{allocated-is}
+use Rattle.reg_index.specs.Subkeys.{AreSubkeys, IsIndexFor, insert_size, cells_of_index, names_in, own}
+use Rattle.reg_index.proofs.RefinementOfSubkeys.{subkeys-elsewhere}
+use Rattle.reg_index.proofs.SubkeysOpening.{index-leaf, own-is}
+use Rattle.reg_index.proofs.SubkeysFrame.{Stay, all-map, names-stay, owned-index}
+use Rattle.reg_tree.specs.Internal.ReachedPlaces.{BelongsAt}
+use Rattle.reg_tree.proofs.Invariant.CellReadings.{key-exists}
+use Rattle.reg_tree.proofs.DeleteKey.SubkeyUnlinked.{same-entries}
 use Rattle.reg_tree.specs.declared.node.Node.{Node as TreeNode}
 use Rattle.reg_tree.specs.Internal.TreeInvariant.{IsHere}
 use Rattle.reg_tree.specs.Internal.SpareCells.{planned, AreReady, own_sizes, MayGrowAll, IsSpared}
@@ -172,6 +179,38 @@ module _ (old mid : List ℕ) (parent : TreeNode) (t : IsHere old parent.offset)
       ap (option_and_then (λ (r : KeyRecord). insert_size k r.fields.subkeys r.fields.subkeys_list)) (key-then ∙ here)
       ∙ (list-same n.key.fields.subkeys n.key.fields.subkeys_list refl refl
       ∙ sym (ap (option_and_then (λ (r : KeyRecord). insert_size h r.fields.subkeys r.fields.subkeys_list)) here))
+
+  -- its subkeys and their names are what they were, and so a name belongs where it did
+  abbrev its : Node
+  its = (branch old P t).node
+
+  abbrev entries : List Entry
+  entries = entries_of its.index
+
+  list-still : (z : ℕ) → 0 < times z (own h its.key.fields.subkeys its.key.fields.subkeys_list) → k z ≡ h z
+  list-still z l =
+      let i = owned-index z its.index in
+      let c = ap (times z) (own-is h its.key.fields.subkeys its.key.fields.subkeys_list its.index (looked old P t).index_is) in
+      let own_list = here.own_once old P t z in
+      let parts = tally-append (is_own z) its.cells (index_cells its.index) in
+      still z (omega (arith, i, c, own_list, parts, l))
+
+  keys-still : Stay h k entries
+  keys-still = all-map (λ (e : Entry). IsSome (key_at h e.offset)) (λ (e : Entry). key_at k e.offset ≡ key_at h e.offset) entries
+      (λ e some. key_at-same h k e.offset (still e.offset (let a = allocated-is h e.offset (key-exists h e.offset some) in omega (arith, a))))
+      (own_subkeys old P t).keys
+
+  list-then : AreSubkeys k its.key.fields.subkeys its.key.fields.subkeys_list entries
+  list-then = subkeys-elsewhere h k its.key.fields.subkeys its.key.fields.subkeys_list entries (own_subkeys old P t) list-still keys-still
+
+  pub belongs-then : (name : List ℕ) (index : ℕ) → BelongsAt h P name index → BelongsAt k P name index
+  belongs-then name index place r reads es s =
+      let same : its.key ≡ r = same_Some _ _ (sym (key_is old P t) ∙ (sym key-then ∙ reads)) in
+      let list : AreSubkeys k its.key.fields.subkeys its.key.fields.subkeys_list es =
+      subst (λ (r : KeyRecord). AreSubkeys k r.fields.subkeys r.fields.subkeys_list es) (sym same) s in
+      let read = same-entries k its.key.fields.subkeys its.key.fields.subkeys_list entries es list-then list in
+      subst (λ es. IsIndexFor (names_in k es) (folded name) (Err index)) read
+      (subst (λ names. IsIndexFor names (folded name) (Err index)) (sym (names-stay h k entries keys-still)) (place its.key (key_is old P t) entries (own_subkeys old P t)))
 
   unfoldable pub may_grow_all : MayGrowAll mid parent names spare
   may_grow_all = record {

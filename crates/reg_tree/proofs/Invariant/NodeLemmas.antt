@@ -10,7 +10,6 @@ use Rattle.reg_arena.specs.Arena.{Bins, heap_of}
 use Rattle.reg_shape.specs.PathLookup.{key_offset_at}
 use Rattle.reg_shape.proofs.Lookup.LookupOfShape.{offset-append}
 use Rattle.reg_tree.specs.declared.node.Node.{Node}
-use Rattle.reg_tree.specs.declared.fault.TreeFault.{TreeFault}
 use Rattle.reg_tree.specs.TreeKeys.{Keys, tree_in, IsAt, IsThere, IsResolved, KeepsNodes}
 use Rattle.reg_tree.specs.Internal.PathWalks.{IsWalked, IsSubkey}
 use Rattle.reg_tree.proofs.Invariant.KeyOfTree.{offset-root, get-none, get-some, shallow}
@@ -27,7 +26,7 @@ there k node holds some = here k node some.0 holds some.1
 pub keeps : (old new : Keys) → new.root ≡ old.root → ((p : Path) → key_offset_at (heap_of new.bins) old.root p ≡ key_offset_at (heap_of old.bins) old.root p) → KeepsNodes old new
 keeps old new root same p node at = record { offset = subst (λ r. key_offset_at (heap_of new.bins) r p ≡ Some node.offset) (sym root) (same p ∙ at.offset); depth = at.depth }
 
-pub on_ok : {A B : Type 0} (r : Result (Unit {0}) TreeFault) → (A → B) → OnOk r A → OnOk r B
+pub on_ok : {E A B : Type 0} (r : Result (Unit {0}) E) → (A → B) → OnOk r A → OnOk r B
 on_ok (Ok x) f a = f a
 on_ok (Err e) f a = a
 
@@ -47,25 +46,37 @@ module _ (bins : Bins) (root : ℕ) (holds : TreeInvariant bins.bytes root) (now
   pub of_tree : (P : Tree → Type 0) → P (tree_in bins.bytes root) → P now.tree
   of_tree P h = subst (λ (k : Keys). P k.tree) view_is h
 
-  module _ (new : Bins) (result : Result (Unit {0}) TreeFault) (node : Node) (some : IsThere now node) (f : Rec → Rec)
+  -- and the other way about
+  pub to_tree : (P : Tree → Type 0) → P now.tree → P (tree_in bins.bytes root)
+  to_tree P h = subst (λ (k : Keys). P k.tree) (sym view_is) h
+
+  -- what a change of a key is, as it is seen
+  module _ (new : Bins) (p : Path) (f : Rec → Rec) (c : IsChanged bins.bytes new.bytes root p f) where
+    pub tree_then : tree_in new.bytes root ≡ edited now.tree p f
+    tree_then = of_tree (λ t. tree_in new.bytes root ≡ edited t p f) c.tree
+
+    pub nodes_then : KeepsNodes now (seen_as new root)
+    nodes_then = subst (λ k. KeepsNodes k (seen_as new root)) view_is (keeps (seen_as bins root) (seen_as new root) refl c.offsets)
+
+  module _ {E : Type 0} (new : Bins) (result : Result (Unit {0}) E) (node : Node) (some : IsThere now node) (f : Rec → Rec)
       (ok : (t : IsHere bins.bytes node.offset) → OnOk result (IsChanged bins.bytes new.bytes t.root t.path f)) (err : OnErr result (new ≡ bins)) where
     pub holds_then : TreeInvariant new.bytes root
     holds_then = by result (ok (there_at node some)) err
       where
-        by : (r : Result (Unit {0}) TreeFault) → OnOk r (IsChanged bins.bytes new.bytes root some.0 f) → OnErr r (new ≡ bins) → TreeInvariant new.bytes root
+        by : (r : Result (Unit {0}) E) → OnOk r (IsChanged bins.bytes new.bytes root some.0 f) → OnErr r (new ≡ bins) → TreeInvariant new.bytes root
         by (Ok x) c e = c.holds
         by (Err x) c e = subst (λ (b : Bins). TreeInvariant b.bytes root) (sym e) holds
 
     pub changed_ok : (p : Path) → IsAt now p node → OnOk result (tree_in new.bytes root ≡ edited now.tree p f)
-    changed_ok p at = on_ok result (λ c. of_tree (λ t. tree_in new.bytes root ≡ edited t p f) c.tree) (ok (here_at node p at))
+    changed_ok p at = on_ok result (λ c. tree_then new p f c) (ok (here_at node p at))
 
     pub changed_nodes : OnOk result (KeepsNodes now (seen_as new root))
-    changed_nodes = on_ok result (λ c. subst (λ k. KeepsNodes k (seen_as new root)) view_is (keeps (seen_as bins root) (seen_as new root) refl c.offsets)) (ok (there_at node some))
+    changed_nodes = on_ok result (λ c. nodes_then new some.0 f c) (ok (there_at node some))
 
     pub unchanged : OnErr result (seen_as new root ≡ now)
     unchanged = by result err
       where
-        by : (r : Result (Unit {0}) TreeFault) → OnErr r (new ≡ bins) → OnErr r (seen_as new root ≡ now)
+        by : (r : Result (Unit {0}) E) → OnErr r (new ≡ bins) → OnErr r (seen_as new root ≡ now)
         by (Ok x) e = e
         by (Err x) e = ap (λ b. seen_as b root) e ∙ view_is
 

@@ -22,7 +22,7 @@ as-many [] = refl
 as-many (n ∷ ns) = ap suc (as-many ns)
 
 -- one key further
-offset-then : (h : Heap) (o : ℕ) (p : Path) (x : List ℕ) (c d : ℕ) → key_offset_at h o p ≡ Some c → subkey_named h x c ≡ Some d → key_offset_at h o (p ++ x ∷ []) ≡ Some d
+pub offset-then : (h : Heap) (o : ℕ) (p : Path) (x : List ℕ) (c d : ℕ) → key_offset_at h o p ≡ Some c → subkey_named h x c ≡ Some d → key_offset_at h o (p ++ x ∷ []) ≡ Some d
 offset-then h o p x c d e f =
     offset-append h o p (x ∷ [])
     ∙ (ap (option_and_then (λ c. key_offset_at h c (x ∷ []))) e
@@ -30,11 +30,11 @@ offset-then h o p x c d e f =
     ∙ (ap (option_and_then (λ d. key_offset_at h d [])) f ∙ offset-none h d)))
 
 module _ (h : Heap) (from : Node) (path : List ℕ) where
-  pub starts : is_path path ≡ true → Passes h from path from path
+  unfoldable pub starts : is_path path ≡ true → Passes h from path from path
   starts v = record { names = []; parts = refl; offset = offset-none h from.offset; depth = omega arith; valid = v }
 
   module _ (node : Node) (rest : List ℕ) (s : Passes h from path node rest) where
-    pub next : (name behind : List ℕ) (offset : ℕ) → IsFirst rest name behind → Some offset ≡ subkey_named h (folded name) node.offset →
+    unfoldable pub next : (name behind : List ℕ) (offset : ℕ) → IsFirst rest name behind → Some offset ≡ subkey_named h (folded name) node.offset →
         Passes h from path (record { offset = offset; depth = node.depth + 1 }) behind
     next name behind offset f e = record {
       names = s.names ++ name ∷ [];

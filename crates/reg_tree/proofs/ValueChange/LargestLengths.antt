@@ -1,8 +1,8 @@
 -- The largest lengths of a key's values after a change.
-use Rattle.std.proofs.Common.{ℕ, ◌*◌, ◌≤◌, max, Bool, true, false, cond, List, [], ◌∷◌, length, arith}
+use Rattle.std.proofs.Common.{ℕ, zero, suc, ◌+◌, ◌*◌, ◌≤◌, max, Bool, true, false, cond, List, [], ◌∷◌, ◌++◌, length, take, drop, sym, subst, arith, add-one}
 use Rattle.std.specs.List.{AllByRecursion}
 use Rattle.reg_heap.specs.Paths.{Member}
-use Rattle.reg_heap.specs.Members.{same_name, values_with, values_without}
+use Rattle.reg_heap.specs.Members.{same_name, values_with}
 
 module _ (P Q : Member → Type 0) (weaker : (m : Member) → P m → Q m) where
   all-weaker : (members : List Member) → AllByRecursion P members → AllByRecursion Q members
@@ -21,13 +21,15 @@ module _ (P Q : Member → Type 0) (weaker : (m : Member) → P m → Q m) where
       by true rest = (kept m a.0, all-weaker members a.1)
       by false rest = (weaker m a.0, rest)
 
-  pub all-without : (name : List ℕ) (members : List Member) → AllByRecursion P members → AllByRecursion Q (values_without name members)
-  all-without name [] a = tt
-  all-without name (m ∷ members) a = by (same_name m.name name) (all-without name members a.1)
+  -- and of each that is left after one was taken out
+  pub all-but : (index : ℕ) (members : List Member) → AllByRecursion P members → AllByRecursion Q (take index members ++ drop (index + 1) members)
+  all-but index members a = subst (λ n. AllByRecursion Q (take index members ++ drop n members)) (sym (add-one index)) (by index members a)
     where
-      by : (b : Bool) → AllByRecursion Q (values_without name members) → AllByRecursion Q (cond b members (m ∷ values_without name members))
-      by true rest = all-weaker members a.1
-      by false rest = (weaker m a.0, rest)
+      by : (index : ℕ) (members : List Member) → AllByRecursion P members → AllByRecursion Q (take index members ++ drop (suc index) members)
+      by zero [] a = tt
+      by (suc i) [] a = tt
+      by zero (m ∷ members) a = all-weaker members a.1
+      by (suc i) (m ∷ members) a = (weaker m a.0, by i members a.1)
 
 abbrev Named : ℕ → Member → Type 0
 Named most m = 2 * length m.name ≤ most
@@ -45,8 +47,9 @@ pub sizes-with : (most : ℕ) (name : List ℕ) (kind : ℕ) (bytes : List ℕ) 
 sizes-with most name kind bytes members a =
     all-with (Sized most) (Sized (max most (length bytes))) (λ m h. omega (arith, h)) name kind bytes (omega arith) (λ old h. omega arith) members a
 
-pub names-without : (most : ℕ) (name : List ℕ) (members : List Member) → AllByRecursion (Named most) members → AllByRecursion (Named (max most (2 * 0))) (values_without name members)
-names-without most name members a = all-without (Named most) (Named (max most (2 * 0))) (λ m h. omega (arith, h)) name members a
+pub names-but : (most index : ℕ) (members : List Member) → AllByRecursion (Named most) members →
+    AllByRecursion (Named (max most (2 * 0))) (take index members ++ drop (index + 1) members)
+names-but most index members a = all-but (Named most) (Named (max most (2 * 0))) (λ m h. omega (arith, h)) index members a
 
-pub sizes-without : (most : ℕ) (name : List ℕ) (members : List Member) → AllByRecursion (Sized most) members → AllByRecursion (Sized (max most 0)) (values_without name members)
-sizes-without most name members a = all-without (Sized most) (Sized (max most 0)) (λ m h. omega (arith, h)) name members a
+pub sizes-but : (most index : ℕ) (members : List Member) → AllByRecursion (Sized most) members → AllByRecursion (Sized (max most 0)) (take index members ++ drop (index + 1) members)
+sizes-but most index members a = all-but (Sized most) (Sized (max most 0)) (λ m h. omega (arith, h)) index members a

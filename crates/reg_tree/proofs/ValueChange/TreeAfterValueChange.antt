@@ -1,12 +1,12 @@
 -- Trees before and after a change of a key's values.
-use Rattle.std.proofs.Common.{◌≡◌, ℕ, ◌*◌, ◌≤◌, max, Some, List, [], length, IsSome, refl, sym, ap, ◌∙◌, subst, arith}
+use Rattle.std.proofs.Common.{◌≡◌, ℕ, ◌+◌, ◌*◌, ◌≤◌, max, Some, List, [], ◌++◌, length, take, drop, IsSome, refl, sym, ap, ◌∙◌, subst, arith}
 use Rattle.std.specs.List.{AllByRecursion}
 use Rattle.std.specs.FinMap.{get, insert}
 use Rattle.reg_heap.specs.Paths.{Path, Tree, Rec, Member}
 use Rattle.reg_heap.specs.Heaps.{Heap}
 use Rattle.reg_heap.specs.Kinds.{Found}
-use Rattle.reg_heap.specs.Members.{values_with, values_without}
-use Rattle.reg_heap.specs.Edits.{edited, with_value, without_value}
+use Rattle.reg_heap.specs.Members.{values_with}
+use Rattle.reg_heap.specs.Edits.{edited, with_value}
 use Rattle.reg_shape.specs.Internal.Forests.{Branch}
 use Rattle.reg_arena.specs.Cells.{cell_at}
 use Rattle.reg_records.specs.KeyNodes.{key_at}
@@ -24,13 +24,14 @@ use Rattle.reg_tree.specs.TreeKeys.{tree_in}
 use Rattle.reg_tree.specs.Internal.TreeInvariant.{rooted, TreeInvariant, IsHere, IsChanged}
 use Rattle.reg_tree.specs.Internal.KeyNodeChanges.{HasList, Notes, noted}
 use Rattle.std.proofs.lemmas.Option.{same_Some}
+use Rattle.reg_tree.specs.ValueAnswers.{without_value_at}
 use Rattle.reg_tree.specs.KeyLengths.{Lengths, lengths_of, with_value_lengths}
 use Rattle.reg_tree.specs.Internal.LengthChanges.{LengthsChange, LengthsStay}
 use Rattle.reg_tree.proofs.Invariant.LengthsAfterGraft.{lengths_change, lengths_stay}
 use Rattle.reg_tree.proofs.Invariant.CellReadings.{is_some_of}
 use Rattle.reg_tree.proofs.Invariant.KeyOfTree.{spelt_is, branch, branch_is, branch_once, offset, stands, seen, looked, own_once, shallow, rec_there, list_reads}
 use Rattle.reg_tree.proofs.ValueChange.ValueExchange.{key-then, changed_node, exchanged_key}
-use Rattle.reg_tree.proofs.ValueChange.LargestLengths.{names-with, sizes-with, names-without, sizes-without}
+use Rattle.reg_tree.proofs.ValueChange.LargestLengths.{names-with, sizes-with, names-but, sizes-but}
 
 -- no length is larger than what is noted
 same_largest : (lengths : Lengths) (name size : ℕ) → name ≡ 0 → size ≡ 0 → with_value_lengths name size lengths ≡ lengths
@@ -143,18 +144,18 @@ set_changed old mid new key count list name kind bytes moment after_count after_
     (with_value name kind bytes moment) (λ r e. ap (λ (ms : List Member). record r { time = moment; values = values_with name kind bytes ms }) e)
 
 -- a value was removed
-pub delete_changed : (old mid new : List ℕ) (key count list : ℕ) (name : List ℕ) (moment after_count after_offset : ℕ) (t : IsHere old key) → HasList (cell_at old) key count list
+pub remove_changed : (old mid new : List ℕ) (key count list : ℕ) (index moment after_count after_offset : ℕ) (t : IsHere old key) → HasList (cell_at old) key count list
     → ((members : List Member) (met : List Found) → members_at count list (cell_at old) ≡ Some (members, met) →
-    Became (cell_at old) (cell_at mid) met after_count after_offset (values_without name members))
-    → Notes (cell_at mid) (cell_at new) key (noted after_count after_offset 0 0 moment) → IsChanged old new t.root t.path (without_value name moment)
-delete_changed old mid new key count list name moment after_count after_offset t has became notes =
+    Became (cell_at old) (cell_at mid) met after_count after_offset (take index members ++ drop (index + 1) members))
+    → Notes (cell_at mid) (cell_at new) key (noted after_count after_offset 0 0 moment) → IsChanged old new t.root t.path (without_value_at index moment)
+remove_changed old mid new key count list index moment after_count after_offset t has became notes =
     let node = (branch old key t).node in
     let values = (seen old key t).written.values in
-    is_changed old mid new key t after_count after_offset 0 0 moment (values_without name node.values)
+    is_changed old mid new key t after_count after_offset 0 0 moment (take index node.values ++ drop (index + 1) node.values)
     (became _ _ (list_reads old key t count list has)) notes
-    (names-without node.key.fields.largest_value_name name node.values values.longest_name)
-    (sizes-without node.key.fields.largest_value_data name node.values values.largest)
-    (without_value name moment) (λ r e. ap (λ (ms : List Member). record r { time = moment; values = values_without name ms }) e)
+    (names-but node.key.fields.largest_value_name index node.values values.longest_name)
+    (sizes-but node.key.fields.largest_value_data index node.values values.largest)
+    (without_value_at index moment) (λ r e. ap (λ (ms : List Member). record r { time = moment; values = take index ms ++ drop (index + 1) ms }) e)
 
 -- the largest lengths where a value was set, and where one was removed
 pub set_lengths : (old mid new : List ℕ) (key count list : ℕ) (name : List ℕ) (kind : ℕ) (bytes : List ℕ) (moment after_count after_offset : ℕ)
@@ -172,18 +173,18 @@ set_lengths old mid new key count list name kind bytes moment after_count after_
     (sizes-with node.key.fields.largest_value_data name kind bytes node.values values.largest)
     (with_value name kind bytes moment) (λ r e. ap (λ (ms : List Member). record r { time = moment; values = values_with name kind bytes ms }) e)
 
-pub delete_lengths : (old mid new : List ℕ) (key count list : ℕ) (name : List ℕ) (moment after_count after_offset : ℕ) (t : IsHere old key) → HasList (cell_at old) key count list
+pub remove_lengths : (old mid new : List ℕ) (key count list : ℕ) (index moment after_count after_offset : ℕ) (t : IsHere old key) → HasList (cell_at old) key count list
     → ((members : List Member) (met : List Found) → members_at count list (cell_at old) ≡ Some (members, met) →
-    Became (cell_at old) (cell_at mid) met after_count after_offset (values_without name members))
+    Became (cell_at old) (cell_at mid) met after_count after_offset (take index members ++ drop (index + 1) members))
     → Notes (cell_at mid) (cell_at new) key (noted after_count after_offset 0 0 moment) → LengthsStay (cell_at old) (cell_at new) t.root
-delete_lengths old mid new key count list name moment after_count after_offset t has became notes =
+remove_lengths old mid new key count list index moment after_count after_offset t has became notes =
     let node = (branch old key t).node in
     let values = (seen old key t).written.values in
-    lengths_kept old mid new key t after_count after_offset 0 0 moment (values_without name node.values)
+    lengths_kept old mid new key t after_count after_offset 0 0 moment (take index node.values ++ drop (index + 1) node.values)
     (became _ _ (list_reads old key t count list has)) notes
-    (names-without node.key.fields.largest_value_name name node.values values.longest_name)
-    (sizes-without node.key.fields.largest_value_data name node.values values.largest)
-    (without_value name moment) (λ r e. ap (λ (ms : List Member). record r { time = moment; values = values_without name ms }) e) refl refl
+    (names-but node.key.fields.largest_value_name index node.values values.longest_name)
+    (sizes-but node.key.fields.largest_value_data index node.values values.largest)
+    (without_value_at index moment) (λ r e. ap (λ (ms : List Member). record r { time = moment; values = take index ms ++ drop (index + 1) ms }) e) refl refl
 
 -- the key node stands when the values had changed
 pub key_mid : (old mid : List ℕ) (key : ℕ) (t : IsHere old key) (after_count after_offset : ℕ) (members : List Member) →

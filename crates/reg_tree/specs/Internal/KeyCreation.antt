@@ -11,7 +11,8 @@ use Rattle.reg_tree.specs.declared.node.Node.{Node}
 use Rattle.reg_tree.specs.TreeKeys.{tree_in}
 use Rattle.reg_tree.specs.KeyLengths.{with_first_length}
 use Rattle.reg_tree.specs.Internal.LengthChanges.{LengthsChange, MadeLengths}
-use Rattle.reg_tree.specs.Internal.TreeInvariant.{TreeInvariant}
+use Rattle.reg_tree.specs.Internal.TreeInvariant.{TreeInvariant, IsHere}
+use Rattle.reg_tree.specs.Internal.PathWalks.{Reaches}
 
 -- the tree has the missing ones of the keys that some names lead to from a path on, a node is the last one's, and each key that
 -- was there stays where it stands
@@ -30,3 +31,9 @@ pub record AreTooMany (t : Tree) (p : Path) (names : List (List ℕ)) : Type 0 w
   pub some : missing t p names ≢ []
   pub many : (MADE_LIMIT < length (missing t p names)) ⊎ ((PATH_LIMIT < length p + length names) ⊎
       (LEAF_LIMIT ≤ length (children_of t (last_there t p names))))
+
+-- a path from a node, which is a key's of the tree, leads to a key, behind which its names are missing
+pub record LeadsTo (bytes : List ℕ) (from : Node) (path : List ℕ) (node : Node) (rest : List ℕ) : Type 0 where
+  pub here : IsHere bytes from.offset
+  pub depth : from.depth ≡ length here.path
+  pub reaches : Reaches (cell_at bytes) from path node rest

@@ -1,6 +1,6 @@
 -- A key taken out of its parent's subkeys, its cells given up, and the tree without it.
-use Rattle.std.specs.Prelude.{◌≡◌, ◌≢◌, ℕ, ◌<◌, ◌≤◌, List, length, get_or, Some}
-use Rattle.reg_heap.specs.Paths.{Path}
+use Rattle.std.specs.Prelude.{◌≡◌, ◌≢◌, ℕ, ◌<◌, ◌≤◌, List, [], length, get_or, Some}
+use Rattle.reg_heap.specs.Paths.{Path, children_of}
 use Rattle.reg_heap.specs.Heaps.{Heap, allocated}
 use Rattle.reg_heap.specs.Kinds.{owned}
 use Rattle.reg_heap.specs.Kinds.Kind.{Class}
@@ -16,7 +16,7 @@ use Rattle.reg_shape.specs.Written.{AreWritten}
 use Rattle.reg_shape.specs.PathLookup.{key_offset_at}
 use Rattle.reg_index.specs.Subkeys.{AreSubkeys, Moves, own, without}
 use Rattle.reg_tree.specs.Internal.KeyNodeChanges.{Notes, noted_subkeys}
-use Rattle.reg_tree.specs.Internal.TreeInvariant.{TreeInvariant}
+use Rattle.reg_tree.specs.Internal.TreeInvariant.{TreeInvariant, IsHere}
 use Rattle.reg_tree.specs.TreeKeys.{tree_in}
 
 -- a key is the subkey at an index of another, whose key node and subkeys are these
@@ -52,3 +52,7 @@ pub record IsDeleted (old new : List ℕ) (root : ℕ) (path : Path) (moment : �
   pub holds : TreeInvariant new root
   pub tree : tree_in new root ≡ without_key (tree_in old root) path moment
   pub offsets : (other : Path) → other ≢ path → key_offset_at (cell_at new) root other ≡ key_offset_at (cell_at old) root other
+
+-- a key that isn't the root, and has no subkeys
+abbrev pub IsLone : (bytes : List ℕ) → (key : ℕ) → IsHere bytes key → Type 0
+IsLone bytes key t = (t.path ≢ []) × (children_of (tree_in bytes t.root) t.path ≡ [])

@@ -67,10 +67,10 @@ HaveSizes heap (cell ∷ cells) (size ∷ sizes) = HasRoom heap cell (size - 4) 
 -- the spare cells begin with those of one key: its parent's list's, where one is planned, and its own, of these sizes; what holds of
 -- those that are left is left open
 pub record IsNext (heap : Heap) (plan : Option ℕ) (sizes spare : List ℕ) (Rest : List ℕ → Type 0) : Type 0 where
-  pub list_cell : ℕ
+  pub list_cell : Option ℕ
   pub own : List ℕ
   pub left : List ℕ
-  pub spare_is : spare ≡ taken plan list_cell ++ (own ++ left)
+  pub spare_is : spare ≡ taken list_cell ++ (own ++ left)
   pub ready : IsReady heap plan list_cell
   pub room : HaveSizes heap own sizes
   pub rest : Rest left

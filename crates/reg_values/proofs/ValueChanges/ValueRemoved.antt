@@ -5,7 +5,6 @@ use Rattle.reg_arena.proofs.Contents.CellWrites.{all-append}
 use Rattle.reg_names.specs.Names.{is_value_name}
 use Rattle.reg_heap.specs.declared.limits.TheConstants.{NONE, DATA_LIMIT}
 use Rattle.reg_heap.specs.Paths.{Member}
-use Rattle.reg_heap.specs.Members.{index_named, values_without}
 use Rattle.reg_heap.specs.Heaps.{Heap, CellFrame, allocated}
 use Rattle.reg_heap.specs.Kinds.{Found, owned}
 use Rattle.reg_records.specs.RecordCells.{held}
@@ -19,7 +18,7 @@ use Rattle.reg_values.proofs.ValueListing.ValueListOpening.{length-offsets, each
 use Rattle.reg_values.proofs.ValueListing.FoundValues.{offset-at}
 use Rattle.reg_values.proofs.ValueFreeing.FrameChains.{owned-append, frame-then, frame-with, allocated-le, agree-apart}
 use Rattle.reg_values.proofs.ValueListing.ValueListFrame.{opened, AreRead, IsFirst, values-split, values-first, values-join, values-kept, closed, closed-written, list-row, list-kept}
-use Rattle.reg_values.proofs.ValueListing.NamedValues.{Apart, without-at, pairs-without}
+use Rattle.reg_values.proofs.ValueListing.NamedValues.{Apart, without-here, pairs-without}
 
 pub row-parts : (row : List ℕ) (i : ℕ) → i < length row → row ≡ take i row ++ get_or row i 0 ∷ drop (i + 1) row
 row-parts row i l = by row i l ∙ ap (λ n. take i row ++ get_or row i 0 ∷ drop n row) (sym (add-one i))
@@ -114,11 +113,11 @@ module _ (h : Heap) (count offset : ℕ) (members : List Member) (met : List Fou
       list2 : list_at count1 offset1 h2 ≡ Some (take index a.row ++ drop (index + 1) a.row, t.cells)
       list2 = list-kept count1 offset1 h1 h2 _ _ _ _ gone t.reads (λ z. let o = once z in let p = a.owned_are z in let c = t.frame.count z in let x = allocated-le h1 z in omega (arith, o, p, c, x))
 
-      pub removed : (name : List ℕ) → index_named name members ≡ Some index → count1 + 1 ≡ count → (count1 ≡ 0 → offset1 ≡ NONE) → Became h h2 met count1 offset1 (values_without name members)
-      removed name n less none =
+      pub removed : count1 + 1 ≡ count → (count1 ≡ 0 → offset1 ≡ NONE) → Became h h2 met count1 offset1 (take index members ++ drop (index + 1) members)
+      removed less none =
           let ms = a.is in
-          let p : index_named name (a.front ++ a.first.head ∷ a.first.tail) ≡ Some (length a.front) = ap (index_named name) (sym ms) ∙ (n ∙ ap (λ n. Some n) (sym a.as_many)) in
-          let left : values_without name members ≡ a.front ++ a.first.tail = ap (values_without name) ms ∙ without-at name a.front a.first.head a.first.tail p in
+          let left : take index members ++ drop (index + 1) members ≡ a.front ++ a.first.tail =
+          ap (λ (ms : List Member). take index ms ++ drop (index + 1) ms) ms ∙ without-here a.front a.first.head a.first.tail index a.as_many in
           let names = subst (AllByRecursion (λ (m : Member). is_value_name m.name ≡ true)) ms w.names in
           let sizes = subst (AllByRecursion (λ (m : Member). length m.bytes ≤ DATA_LIMIT)) ms w.sizes in
           let few = w.few in

@@ -1,5 +1,5 @@
 -- Values by their names: one taken out, replaced or added.
-use Rattle.std.proofs.Common.{◌≡◌, ◌≢◌, ℕ, suc, Bool, true, false, cond, Option, Some, None, IsSome, List, [], ◌∷◌, ◌++◌, length, refl, sym, ap, ◌∙◌, arith}
+use Rattle.std.proofs.Common.{◌≡◌, ◌≢◌, ℕ, zero, suc, ◌+◌, Bool, true, false, cond, Option, Some, None, IsSome, List, [], ◌∷◌, ◌++◌, length, take, drop, refl, sym, ap, ◌∙◌, arith, add-one}
 use Rattle.std.specs.List.{AllByRecursion}
 use Rattle.std.specs.Option.{option_map}
 use Rattle.std.specs.Ordering.{nat_cmp, is_eq}
@@ -27,21 +27,35 @@ later-zero : (p : Option ℕ) → option_map suc p ≡ Some 0 → ⊥
 later-zero None e = none-some _ e
 later-zero (Some k) e = let n = same_Some _ _ e in omega (arith, n)
 
--- the value of that name is at its index, and the values before it have other names
-pub without-at : (name : List ℕ) (front : List Member) (m : Member) (back : List Member) →
-    index_named name (front ++ m ∷ back) ≡ Some (length front) → values_without name (front ++ m ∷ back) ≡ front ++ back
-without-at name [] m back e = by (same_name m.name name) e
+-- the values without the one of a name are those before its index and those behind it
+pub without-index : (name : List ℕ) (members : List Member) (index : ℕ) → index_named name members ≡ Some index →
+    values_without name members ≡ take index members ++ drop (index + 1) members
+without-index name members index e = around members index e ∙ ap (λ n. take index members ++ drop n members) (sym (add-one index))
   where
-    by : (b : Bool) → cond b (Some 0) (option_map suc (index_named name back)) ≡ Some 0 → cond b back (m ∷ values_without name back) ≡ back
-    by true e = refl
-    by false e = absurd (later-zero _ e)
-without-at name (v ∷ front) m back e = by (λ q. without-at name front m back q) (same_name v.name name) e
+    around : (members : List Member) (index : ℕ) → index_named name members ≡ Some index → values_without name members ≡ take index members ++ drop (suc index) members
+    around [] index e = absurd (none-some _ e)
+    around (v ∷ vs) zero e = by (same_name v.name name) e
+      where
+        by : (b : Bool) → cond b (Some 0) (option_map suc (index_named name vs)) ≡ Some 0 → cond b vs (v ∷ values_without name vs) ≡ vs
+        by true e = refl
+        by false e = absurd (later-zero _ e)
+    around (v ∷ vs) (suc i) e = by (λ q. around vs i q) (same_name v.name name) e
+      where
+        by : (index_named name vs ≡ Some i → values_without name vs ≡ take i vs ++ drop (suc i) vs) → (b : Bool) →
+            cond b (Some 0) (option_map suc (index_named name vs)) ≡ Some (suc i) → cond b vs (v ∷ values_without name vs) ≡ v ∷ (take i vs ++ drop (suc i) vs)
+        by f true e = absurd (let n = same_Some _ _ e in omega (arith, n))
+        by f false e = ap (λ ms. v ∷ ms) (f (later-some _ _ e))
+
+-- the values before an index and those behind it
+pub without-here : (front : List Member) (m : Member) (back : List Member) (index : ℕ) → length front ≡ index →
+    take index (front ++ m ∷ back) ++ drop (index + 1) (front ++ m ∷ back) ≡ front ++ back
+without-here front m back index e =
+    ap (λ n. take index (front ++ m ∷ back) ++ drop n (front ++ m ∷ back)) (add-one index)
+    ∙ (ap (λ n. take n (front ++ m ∷ back) ++ drop (suc n) (front ++ m ∷ back)) (sym e) ∙ by front)
   where
-    by : (index_named name (front ++ m ∷ back) ≡ Some (length front) → values_without name (front ++ m ∷ back) ≡ front ++ back) → (b : Bool) →
-        cond b (Some 0) (option_map suc (index_named name (front ++ m ∷ back))) ≡ Some (suc (length front)) →
-        cond b (front ++ m ∷ back) (v ∷ values_without name (front ++ m ∷ back)) ≡ v ∷ (front ++ back)
-    by f true e = absurd (let n = same_Some _ _ e in omega (arith, n))
-    by f false e = ap (λ ms. v ∷ ms) (f (later-some _ _ e))
+    by : (front : List Member) → take (length front) (front ++ m ∷ back) ++ drop (suc (length front)) (front ++ m ∷ back) ≡ front ++ back
+    by [] = refl
+    by (v ∷ front) = ap (λ ms. v ∷ ms) (by front)
 
 abbrev pub changed : Member → ℕ → List ℕ → Member
 changed m kind bytes = record { name = m.name; kind = kind; bytes = bytes }

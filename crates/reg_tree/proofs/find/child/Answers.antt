@@ -1,5 +1,6 @@
 use Rattle.reg_tree.proofs.Invariant.KeyOfTree.{key_there}
 use Rattle.reg_tree.proofs.PathWalk.SubkeysFound.{some_subkeys, index_within, child_found, child_missing}
+use Rattle.reg_tree.proofs.PathWalk.PlacesFound.{stands_at, belongs_at}
 use Rattle.reg_tree.proofs.find.child.Goals as goal
 
 pub subkeys_list-list-requires : goal.subkeys_list-list-requires
@@ -15,7 +16,13 @@ pub at-requires-clause-index : goal.at-requires-clause-index
 at-requires-clause-index c = index_within _ _ c.requires _ _ c.subkeys_list-list.ensures _ c.in-Ok.index c.in-Ok.ensures
 
 pub returns-in-Ok : goal.returns-in-Ok
-returns-in-Ok c = child_found _ _ c.requires _ _ c.subkeys_list-list.ensures c.args.name.now c.in-Ok.index c.at.result c.in-Ok.ensures c.at.ensures
+returns-in-Ok c = (
+  child_found _ _ c.requires _ _ c.subkeys_list-list.ensures c.args.name.now c.in-Ok.index c.at.result c.in-Ok.ensures c.at.ensures,
+  stands_at _ _ c.requires _ _ c.subkeys_list-list.ensures c.args.name.now c.in-Ok.index c.at.result c.in-Ok.ensures c.at.ensures,
+)
 
 pub returns-in-Err : goal.returns-in-Err
-returns-in-Err c = child_missing _ _ c.requires _ _ c.subkeys_list-list.ensures c.args.name.now c.in-Err.field-0 c.in-Err.ensures
+returns-in-Err c = (
+  child_missing _ _ c.requires _ _ c.subkeys_list-list.ensures c.args.name.now c.in-Err.index c.in-Err.ensures,
+  belongs_at _ _ _ _ c.subkeys_list-list.ensures c.args.name.now c.in-Err.index c.in-Err.ensures,
+)

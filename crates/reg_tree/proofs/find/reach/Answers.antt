@@ -1,16 +1,25 @@
 use Rattle.std.proofs.Common.{arith}
-use Rattle.reg_tree.proofs.PathWalk.PathSteps.{starts, next, here_then, deep_then}
+use Rattle.reg_tree.proofs.PathWalk.PathSteps.{here_then, deep_then}
+use Rattle.reg_tree.proofs.PathWalk.WalkPlaces.{starts_at, next_at, stopped_at}
 use Rattle.reg_tree.proofs.find.reach.Goals as goal
 
 pub loop-name-init : goal.loop-name-init
-loop-name-init c = starts _ c.args.from c.args.path.now c.requires.path
+loop-name-init c = starts_at _ c.args.from c.args.path.now c.requires.path
 
 pub child-requires : goal.child-requires
-child-requires c = here_then _ c.args.from c.requires.here c.args.path.now c.loop-name.node c.loop-name.rest.now c.loop-name.invariant
+child-requires c = here_then _ c.args.from c.requires.here c.args.path.now c.loop-name.node c.loop-name.rest.now c.loop-name.invariant.passes
 
 pub overflow_add-node : goal.overflow_add-node
-overflow_add-node c = let d = deep_then _ c.args.from c.requires.here c.args.path.now c.loop-name.node c.loop-name.rest.now c.loop-name.invariant c.requires.depth in omega (arith, d)
+overflow_add-node c =
+    let d = deep_then _ c.args.from c.requires.here c.args.path.now c.loop-name.node c.loop-name.rest.now c.loop-name.invariant.passes c.requires.depth in
+    omega (arith, d)
 
 pub loop-name-preserved : goal.loop-name-preserved
-loop-name-preserved c = next _ c.args.from c.args.path.now c.loop-name.node c.loop-name.rest.now c.loop-name.invariant c.in-Some.name.now
-    c.in-Some.behind.now c.in-Some-child.offset c.in-Some.ensures c.in-Some-child.ensures
+loop-name-preserved c =
+    next_at _ c.args.from c.args.path.now c.loop-name.node c.loop-name.rest.now c.loop-name.place c.loop-name.invariant c.in-Some.name.now
+    c.in-Some.behind.now c.in-Ok.below.offset c.in-Ok.below.index c.in-Some.ensures c.in-Ok.ensures.0 c.in-Ok.ensures.1
+
+pub returns-in-Err-clause-place : goal.returns-in-Err-clause-place
+returns-in-Err-clause-place c =
+    stopped_at _ c.args.from c.args.path.now c.loop-name.node c.loop-name.rest.now c.loop-name.place c.loop-name.invariant c.in-Some.name.now
+    c.in-Some.behind.now c.in-Err.index c.in-Some.ensures c.in-Err.ensures.1

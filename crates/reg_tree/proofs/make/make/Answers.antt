@@ -1,5 +1,5 @@
 use Rattle.reg_tree.proofs.Invariant.CellReadings.{is_some_of}
-use Rattle.reg_tree.proofs.InsertKey.InsertKeyObligations.{key_there, security_there, users_few, some_subkeys, not_found, few_subkeys, inserts, ready1, parent2, security3, grown}
+use Rattle.reg_tree.proofs.InsertKey.InsertKeyObligations.{key_there, security_there, users_few, some_subkeys, belongs, few_subkeys, inserts, ready1, parent2, security3, grown}
 use Rattle.reg_tree.proofs.InsertKey.MadeCells.{written_sizes, made_keeps, made_leaves}
 use Rattle.reg_tree.proofs.make.make.Goals as goal
 
@@ -12,16 +12,10 @@ with_one_more-users-requires-clause-there c = security_there _ _ _ _ _ _ c.requi
 pub with_one_more-users-requires-clause-few : goal.with_one_more-users-requires-clause-few
 with_one_more-users-requires-clause-few c = users_few _ _ _ _ _ _ c.requires.grow.1 _ c.fields-above.ensures
 
-pub find-requires : goal.find-requires
-find-requires c = some_subkeys _ _ _ _ _ _ c.requires.grow.1 _ c.fields-above.ensures
-
-pub unreachable-requires : goal.unreachable-requires
-unreachable-requires c = not_found _ _ _ _ _ _ c.requires.grow.1 _ c.fields-above.ensures c.in_default.field-0 c.in_default.ensures
-
 pub insert-list-requires-clause-subkeys : goal.insert-list-requires-clause-subkeys
 insert-list-requires-clause-subkeys c =
     inserts _ _ _ _ _ _ c.requires.grow.1 _ c.fields-above.ensures _ c.put_nk.ensures.written.others
-    (is_some_of _ _ c.put_nk.ensures.written.here) _ c.put_nk.ensures.reads c.in-Err.index c.in-Err.ensures
+    (is_some_of _ _ c.put_nk.ensures.written.here) _ c.put_nk.ensures.reads c.args.index (belongs _ _ _ _ _ _ c.requires.grow.1 _ c.fields-above.ensures c.args.index c.requires.place)
 
 pub insert-list-requires-clause-few : goal.insert-list-requires-clause-few
 insert-list-requires-clause-few c = few_subkeys _ _ _ _ _ _ c.requires.grow.1 _ c.fields-above.ensures
@@ -44,7 +38,8 @@ pub returns-clause-grows : goal.returns-clause-grows
 returns-clause-grows c = λ left m.
     grown _ _ _ _ _ _ m _ c.fields-above.ensures _ c.put_nk.ensures.written.others (is_some_of _ _ c.put_nk.ensures.written.here) _ c.put_nk.ensures.reads
     _ c.insert-list.result.count c.insert-list.result.offset c.insert-list.ensures.moves _ c.args.moment c.note_subkeys.ensures.notes
-    _ c.requires.name.0 c.requires.name.1 c.new_key.ensures c.put_nk.ensures.plain c.in-Err.index c.in-Err.ensures c.insert-list.ensures.subkeys c.insert-list.ensures.count
+    _ c.requires.name.0 c.requires.name.1 c.new_key.ensures c.put_nk.ensures.plain c.args.index
+    (belongs _ _ _ _ _ _ m _ c.fields-above.ensures c.args.index c.requires.place) c.insert-list.ensures.subkeys c.insert-list.ensures.count
     c.with_one_more-users.result c.with_one_more-users.ensures c.recount.ensures.recounts
 
 pub returns-clause-keeps : goal.returns-clause-keeps
@@ -54,7 +49,7 @@ returns-clause-keeps c =
 pub returns-clause-leaves : goal.returns-clause-leaves
 returns-clause-leaves c =
     let subkeys = inserts _ _ _ _ _ _ c.requires.grow.1 _ c.fields-above.ensures _ c.put_nk.ensures.written.others
-    (is_some_of _ _ c.put_nk.ensures.written.here) _ c.put_nk.ensures.reads c.in-Err.index c.in-Err.ensures in
+    (is_some_of _ _ c.put_nk.ensures.written.here) _ c.put_nk.ensures.reads c.args.index (belongs _ _ _ _ _ _ c.requires.grow.1 _ c.fields-above.ensures c.args.index c.requires.place) in
     made_leaves _ _ _ _ _ (written_sizes _ _ c.args.key _ c.requires.room.exists c.put_nk.ensures.written) c.insert-list.ensures.keeps c.note_subkeys.ensures.sizes c.recount.ensures.sizes
-    c.args.parent _ c.fields-above.ensures (some_subkeys _ _ _ _ _ _ c.requires.grow.1 _ c.fields-above.ensures) (subkeys.0, subkeys.1) c.insert-list.result.count c.insert-list.result.offset _ _
+    c.args.parent _ c.fields-above.ensures (some_subkeys _ _ _ _ _ _ c.requires.grow.1 _ c.fields-above.ensures) (subkeys.0, subkeys.1) c.insert-list.result.count c.insert-list.result.offset _
     (_, c.insert-list.ensures.subkeys subkeys.0 subkeys.1) c.insert-list.ensures.moves c.insert-list.ensures.count c.insert-list.ensures.place

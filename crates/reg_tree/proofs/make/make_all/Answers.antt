@@ -2,16 +2,20 @@ use Rattle.std.proofs.Common.{arith, refl, ◌∙◌, sym, subst, ◌+◌, ◌-�
 use Rattle.reg_names.specs.Names.{path_of}
 use Rattle.reg_tree.specs.Internal.SpareCells.{own_sizes}
 use Rattle.reg_tree.proofs.InsertKey.PathGrowth.{name_short, rest_all, Midway, at_start, deep_now, may_next, ready_next, one_further, at_end}
+use Rattle.reg_tree.proofs.InsertKey.PlaceKept.{belongs_only}
 use Rattle.reg_tree.proofs.make.make_all.Goals as goal
 
 pub loop-name-init : goal.loop-name-init
-loop-name-init c = record { mid = λ m. at_start _ _ c.args.path.now _ m c.args.moment c.requires.path; long = refl }
+loop-name-init c = record { mid = λ m. at_start _ _ c.args.path.now _ m c.args.moment c.requires.path; place = c.requires.place; plan = c.requires.plan; long = refl }
 
 pub first_name-requires : goal.first_name-requires
 first_name-requires c = (c.loop-name.invariant.mid c.requires.grow).valid
 
 pub make_in-taken-requires-clause-grow : goal.make_in-taken-requires-clause-grow
 make_in-taken-requires-clause-grow c = may_next _ _ _ _ _ _ _ _ _ _ (c.loop-name.invariant.mid c.requires.grow) _ _ c.in-Some.ensures
+
+pub make_in-taken-requires-clause-place : goal.make_in-taken-requires-clause-place
+make_in-taken-requires-clause-place c = c.loop-name.invariant.place _ _ c.in-Some.ensures.names
 
 pub make_in-taken-requires-clause-ready : goal.make_in-taken-requires-clause-ready
 make_in-taken-requires-clause-ready c = (map own_sizes (path_of c.in-Some.behind.now), ready_next _ _ _ _ _ _ _ _ _ _ (c.loop-name.invariant.mid c.requires.grow) _ _ c.in-Some.ensures)
@@ -40,6 +44,9 @@ loop-name-preserved c = record {
       (get_or c.loop-name.spare.now (c.make_in-taken.result - 1) 0) (drop c.make_in-taken.result c.loop-name.spare.now)
       (c.make_in-taken.ensures.grows (may_next _ _ _ _ _ _ _ _ _ _ mid _ _ c.in-Some.ensures)) (c.make_in-taken.ensures.ready _ (ready_next _ _ _ _ _ _ _ _ _ _ mid _ _ c.in-Some.ensures))
       c.make_in-taken.ensures.keeps c.make_in-taken.ensures.leaves);
+  place = belongs_only _ _
+      (c.make_in-taken.ensures.grows (may_next _ _ _ _ _ _ _ _ _ _ (c.loop-name.invariant.mid c.requires.grow) _ _ c.in-Some.ensures)).none (path_of c.in-Some.behind.now);
+  plan = sym (c.make_in-taken.ensures.grows (may_next _ _ _ _ _ _ _ _ _ _ (c.loop-name.invariant.mid c.requires.grow) _ _ c.in-Some.ensures)).unlisted;
   long = c.make_in-taken.ensures.long ∙ c.loop-name.invariant.long;
 }
 

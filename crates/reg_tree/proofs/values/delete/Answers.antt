@@ -1,35 +1,19 @@
-use Rattle.reg_tree.proofs.Invariant.KeyOfTree.{key_there, list_values, list_reads}
-use Rattle.reg_tree.proofs.ValueChange.TreeAfterValueChange.{key_mid, delete_changed, delete_lengths}
-use Rattle.reg_tree.proofs.KeyAnswers.RefinementOfValues.{found_none, some_named, absent_none, absent_some}
+use Rattle.std.proofs.Common.{sym, ◌∙◌}
+use Rattle.reg_heap.specs.Edits.{values_at}
+use Rattle.reg_tree.specs.TreeKeys.{tree_in}
+use Rattle.reg_tree.specs.declared.fault.TreeFault.TheVariants.{NotFound}
+use Rattle.reg_tree.proofs.KeyAnswers.RefinementOfValues.{just_fault, no_fault}
+use Rattle.reg_tree.proofs.ValueChange.ValueAtPlace.{index_within, unnamed, is_named, removed_by_name}
 use Rattle.reg_tree.proofs.values.delete.Goals as goal
 
-pub values_list-old-requires : goal.values_list-old-requires
-values_list-old-requires c = key_there _ _ c.requires
-
-pub find-requires : goal.find-requires
-find-requires c = list_values _ _ c.requires _ _ c.values_list-old.ensures
-
 pub returns-in_default-clause-absent : goal.returns-in_default-clause-absent
-returns-in_default-clause-absent c = λ t. absent_none (found_none _ _ t _ _ c.values_list-old.ensures c.args.name.now c.find.result c.find.ensures c.in_default.is)
+returns-in_default-clause-absent c = λ t. just_fault NotFound (unnamed c.args.name.now (values_at (tree_in c.args.arena.now.bytes t.root) t.path) (sym (c.index.ensures t) ∙ c.in_default.is))
 
-pub remove-list-requires-clause-values : goal.remove-list-requires-clause-values
-remove-list-requires-clause-values c = list_values _ _ c.requires _ _ c.values_list-old.ensures
-
-pub remove-list-requires-clause-named : goal.remove-list-requires-clause-named
-remove-list-requires-clause-named c = some_named _ _ c.requires _ _ c.values_list-old.ensures c.args.name.now c.in-Some.field-0 c.in-Some.ensures
-
-pub note_values-requires-clause-exists : goal.note_values-requires-clause-exists
-note_values-requires-clause-exists c = key_mid _ _ _ c.requires _ _ _ (c.remove-list.ensures.list _ _ (list_reads _ _ c.requires _ _ c.values_list-old.ensures))
+pub remove_at-requires : goal.remove_at-requires
+remove_at-requires c = (c.requires, index_within c.args.name.now _ c.in-Some.place (sym (c.in-Some.ensures c.requires)))
 
 pub returns-clause-ok : goal.returns-clause-ok
-returns-clause-ok c =
-    λ t. delete_changed _ _ _ _ _ _ c.args.name.now c.args.moment c.remove-list.result.count c.remove-list.result.offset t c.values_list-old.ensures
-    c.remove-list.ensures.list c.note_values.ensures.notes
+returns-clause-ok c = λ t. removed_by_name _ _ _ _ c.args.name.now c.in-Some.place c.args.moment (sym (c.in-Some.ensures t)) (c.remove_at.ensures.changed t)
 
 pub returns-clause-absent : goal.returns-clause-absent
-returns-clause-absent c = λ t. absent_some _ _ t _ _ c.values_list-old.ensures c.args.name.now c.in-Some.field-0 c.in-Some.ensures
-
-pub returns-clause-lengths : goal.returns-clause-lengths
-returns-clause-lengths c =
-    λ t. delete_lengths _ _ _ _ _ _ c.args.name.now c.args.moment c.remove-list.result.count c.remove-list.result.offset t c.values_list-old.ensures
-    c.remove-list.ensures.list c.note_values.ensures.notes
+returns-clause-absent c = λ t. no_fault NotFound (is_named c.args.name.now _ c.in-Some.place (sym (c.in-Some.ensures t)))

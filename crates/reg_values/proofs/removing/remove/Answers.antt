@@ -1,14 +1,9 @@
-use Rattle.std.proofs.Common.{◌≤◌, ℕ, List, arith, subst, sym, ◌∙◌}
-use Rattle.reg_heap.specs.Heaps.{allocated}
-use Rattle.reg_heap.specs.Kinds.{Found, owned}
+use Rattle.std.proofs.Common.{arith, subst, sym, ◌∙◌}
 use Rattle.reg_arena.specs.Arena.{heap_of}
-use Rattle.reg_shape.specs.Nodes.{member_at}
-use Rattle.reg_shape.specs.Written.{AreWritten}
-use Rattle.reg_values.specs.Internal.ValueListParts.{Owns, GivesUpRead}
+use Rattle.reg_values.specs.ValueLists.{Became}
 use Rattle.reg_values.proofs.ValueListing.ValueListOpening.{members-length}
-use Rattle.reg_values.proofs.ValueListing.FoundValues.{named-stands, offset-within, same-read}
-use Rattle.reg_values.proofs.ValueChanges.ValueRemoved.{at-index, list-owns, item-owns, removed}
-use Rattle.reg_values.proofs.ValueListing.NamedValues.{named-index}
+use Rattle.reg_values.proofs.ValueListing.FoundValues.{offset-within}
+use Rattle.reg_values.proofs.ValueListing.NamedValues.{named-index, without-index}
 use Rattle.reg_values.proofs.removing.remove.Goals as goal
 
 pub unreachable-requires : goal.unreachable-requires
@@ -16,58 +11,16 @@ unreachable-requires c =
     let n = c.requires.named in
     named-index c.args.name.now n.members n.there (sym (c.find.ensures n.members n.met n.reads) ∙ c.in_default.is)
 
-pub cell_of-cell-requires-clause-list : goal.cell_of-cell-requires-clause-list
-cell_of-cell-requires-clause-list c =
-    let v = c.requires.values in
-    (named-stands (heap_of c.args.arena.now) c.args.list.count c.args.list.offset v c.args.name.now c.in-Some.index (c.in-Some.ensures v.members v.met v.reads)).list_here
-
-pub cell_of-cell-requires-clause-index : goal.cell_of-cell-requires-clause-index
-cell_of-cell-requires-clause-index c =
-    let v = c.requires.values in
-    (named-stands (heap_of c.args.arena.now) c.args.list.count c.args.list.offset v c.args.name.now c.in-Some.index (c.in-Some.ensures v.members v.met v.reads)).long
-
-pub take_out-after-requires-clause-index : goal.take_out-after-requires-clause-index
-take_out-after-requires-clause-index c =
+pub remove_at-requires-clause-index : goal.remove_at-requires-clause-index
+remove_at-requires-clause-index c =
     let v = c.requires.values in
     let w = offset-within c.args.name.now v.members c.in-Some.index (sym (c.in-Some.ensures v.members v.met v.reads)) in
     let n = members-length (heap_of c.args.arena.now) c.args.list.count c.args.list.offset v.members v.met v.reads in
     omega (arith, w, n)
 
-pub take_out-after-requires-clause-list : goal.take_out-after-requires-clause-list
-take_out-after-requires-clause-list c =
-    let v = c.requires.values in
-    let h = heap_of c.args.arena.now in
-    let a = at-index h c.args.list.count c.args.list.offset v.members v.met c.in-Some.index v.reads v.written (take_out-after-requires-clause-index c) in
-    list-owns h c.args.list.count c.args.list.offset v.members v.met c.in-Some.index v.reads v.once v.written a
-
-pub free_value-requires : goal.free_value-requires
-free_value-requires c =
-    let v = c.requires.values in
-    let h = heap_of c.args.arena.now in
-    let n = c.args.list.count in
-    let p = c.args.list.offset in
-    let h1 = heap_of c.take_out-after.new.arena in
-    let w = offset-within c.args.name.now v.members c.in-Some.index (sym (c.in-Some.ensures v.members v.met v.reads)) in
-    let l = members-length h n p v.members v.met v.reads in
-    let a = at-index h n p v.members v.met c.in-Some.index v.reads v.written (omega (arith, w, l)) in
-    let i = item-owns h n p v.members v.met c.in-Some.index v.reads v.once v.written a h1 _ _ (c.take_out-after.ensures.list a.row a.list_met a.list_is) in
-    subst (λ o. Owns (member_at o) h1) (a.cell_is ∙ sym c.cell_of-cell.ensures) i
-
 pub returns-clause-list : goal.returns-clause-list
 returns-clause-list c = λ members met e.
-    let v = c.requires.values in
     let h = heap_of c.args.arena.now in
-    let n = c.args.list.count in
-    let p = c.args.list.offset in
-    let h1 = heap_of c.take_out-after.new.arena in
-    let h2 = heap_of c.free_value.new.arena in
-    let named = sym (c.in-Some.ensures members met e) in
-    let w = offset-within c.args.name.now members c.in-Some.index named in
-    let l = members-length h n p members met e in
-    let same = same-read h n p v members met e in
-    let written = subst (AreWritten h n p) same.0 v.written in
-    let once = subst (λ (zs : List Found). (z : ℕ) → owned z zs ≤ allocated h z) same.1 v.once in
-    let a = at-index h n p members met c.in-Some.index e written (omega (arith, w, l)) in
-    let g = subst (λ o. GivesUpRead (member_at o) h1 h2) (c.cell_of-cell.ensures ∙ sym a.cell_is) c.free_value.ensures.gone in
-    removed h n p members met c.in-Some.index e once written a h1 _ _ (c.take_out-after.ensures.list a.row a.list_met a.list_is) h2 g c.args.name.now
-    named c.take_out-after.ensures.count c.take_out-after.ensures.none
+    let k = heap_of c.remove_at.new.arena in
+    let left = without-index c.args.name.now members c.in-Some.index (sym (c.in-Some.ensures members met e)) in
+    subst (Became h k met c.remove_at.result.count c.remove_at.result.offset) (sym left) (c.remove_at.ensures.list members met e)

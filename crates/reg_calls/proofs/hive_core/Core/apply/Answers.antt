@@ -1,18 +1,118 @@
-use Rattle.std.proofs.Common.{ap, ◌∙◌, refl, sym, subst, Some, None}
-use Rattle.reg_calls.specs.Internal.Stores.{IsReady, at}
-use Rattle.reg_calls.proofs.HiveInvariantLemmas.{ready-kept, state-view, applied-by}
+use Rattle.std.proofs.Common.{◌≡◌, ◌++◌, ◌∷◌, [], ℕ, List, sym, ap, ◌∙◌, subst, arith, None, inl, refl}
+use Rattle.reg_model.specs.declared.reply.Entry.{Entry}
+use Rattle.reg_calls.specs.Internal.Stores.{IsReady, IsDone, at}
+use Rattle.reg_calls.specs.Internal.Admissions.{IsClear}
+use Rattle.reg_calls.specs.Views.{HiveInvariant, View}
+use Rattle.reg_model.specs.Replies.{refusal}
+use Rattle.reg_calls.proofs.HiveInvariantLemmas.{ready-kept, state-kept, state-view, append-room, kept-done, kept-unmade, accepted, applied-by}
+use Rattle.reg_calls.proofs.AdmittedChanges.{admits-clear, given-up}
 use Rattle.reg_calls.proofs.hive_core.Core.apply.Goals as goal
+use Rattle.reg_calls.proofs.hive_core.Core.apply.Goals.{in-OpenKey-4, in-CreateKey-4, in-SetValue-3, in-DeleteValue-3, in-DeleteKey-4, in-OpenRoot-4}
 
-pub cause-requires-clause-ready : goal.cause-requires-clause-ready
-cause-requires-clause-ready c = subst (λ n. IsReady n c.self.inside.store) (sym c.len.ensures) (ready-kept c.self.invariant)
+pub admit-requires-clause-ready : goal.admit-requires-clause-ready
+admit-requires-clause-ready c = subst (λ (n : ℕ). IsReady n c.self.inside.store) (sym c.len-number.ensures) (ready-kept c.self.invariant)
 
-pub returns-in-Some : goal.returns-in-Some
-returns-in-Some c =
-    let is = state-view _ c.self.invariant c.self.view_is ∙ ap (λ n. at n c.self.inside.store) (sym c.len.ensures) in
-    applied-by c.args.self.now c.args.self.now c.args.session c.args.moment c.args.change c.refuse.result c.len.result c.self.inside.store (Some c.in-Some.status) is
-    c.in-Some.ensures (c.refuse.ensures, refl)
+pub commit-requires-clause-ready : goal.commit-requires-clause-ready
+commit-requires-clause-ready c = subst (λ (n : ℕ). IsReady n c.self.inside.store) (sym c.len-number.ensures) (ready-kept c.self.invariant)
 
-pub returns-in-None : goal.returns-in-None
-returns-in-None c =
-    let is = state-view _ c.self.invariant c.self.view_is ∙ ap (λ n. at n c.self.inside.store) (sym c.len.ensures) in
-    applied-by c.args.self.now c.accept.new.self c.args.session c.args.moment c.args.change c.accept.result c.len.result c.self.inside.store None is c.in-None.ensures c.accept.ensures
+pub commit-requires-clause-admitted : goal.commit-requires-clause-admitted
+commit-requires-clause-admitted c = (c.args.change, c.in-Ok.ensures)
+
+pub append-requires : goal.append-requires
+append-requires c =
+    let store = c.self.inside.store in
+    let es = c.self.inside.journal.entries in
+    let clear = subst (λ (n : ℕ). IsClear n store c.args.session c.args.change) c.len-number.ensures
+    (admits-clear c.len-number.result store c.args.session c.args.change c.in-Ok.admitted c.in-Ok.ensures) in
+    let done = subst (λ (n : ℕ). IsDone store c.commit.new.self c.args.session c.args.moment n c.args.change c.in-Ok-commit.reply) c.len-number.ensures
+    (c.in-Ok-commit.ensures c.args.change c.in-Ok.ensures) in
+    let kept = c.self.invariant.room_kept in
+    let more = c.in-Ok-keep_room.ensures.room in
+    let handles = c.len-handles.ensures.len in
+    append-room c.self.invariant c.args.session c.args.moment c.args.change clear c.commit.new.self c.in-Ok-commit.reply done c.keep_room.new.journal.room
+    ((λ opens. let r = c.in-Ok-keep_room.ensures.ok opens in omega (arith, r, handles)), (λ closing. omega (arith, kept, more)))
+
+pub invariant_of-self-in-Ok-commit : goal.invariant_of-self-in-Ok-commit
+invariant_of-self-in-Ok-commit c =
+    let store = c.self.inside.store in
+    let es = c.self.inside.journal.entries in
+    let clear = subst (λ (n : ℕ). IsClear n store c.args.session c.args.change) c.len-number.ensures
+    (admits-clear c.len-number.result store c.args.session c.args.change c.in-Ok.admitted c.in-Ok.ensures) in
+    let done = subst (λ (n : ℕ). IsDone store c.commit.new.self c.args.session c.args.moment n c.args.change c.in-Ok-commit.reply) c.len-number.ensures
+    (c.in-Ok-commit.ensures c.args.change c.in-Ok.ensures) in
+    let kept = c.self.invariant.room_kept in
+    let more = c.in-Ok-keep_room.ensures.room in
+    let handles = c.len-handles.ensures.len in
+    let entry : ℕ → Entry = λ n. record { number = n; session = c.args.session; moment = c.args.moment; change = c.args.change; reply = c.in-Ok-commit.reply } in
+    let entries = c.append.ensures.entries ∙
+    (ap (λ (x : List Entry). x ++ entry c.len-number.result ∷ []) c.in-Ok-keep_room.ensures.entries ∙ ap (λ (n : ℕ). es ++ entry n ∷ []) c.len-number.ensures) in
+    let all = kept-done c.self.invariant c.args.session c.args.moment c.args.change clear c.commit.new.self c.in-Ok-commit.reply done
+    c.keep_room.new.journal.room c.append.new.self.room c.requires c.arena.ensures.sound c.arena.ensures.whole
+    ((λ opens. let r = c.in-Ok-keep_room.ensures.ok opens in omega (arith, r, handles)), (λ closing. omega (arith, kept, more))) c.append.ensures.room in
+    subst (λ (x : List Entry). HiveInvariant c.self.inside.origin.value.tree x c.commit.new.self c.append.new.self.room) (sym entries) all
+
+pub returns-in-Ok-commit : goal.returns-in-Ok-commit
+returns-in-Ok-commit c =
+    let store = c.self.inside.store in
+    let es = c.self.inside.journal.entries in
+    let clear = admits-clear c.len-number.result store c.args.session c.args.change c.in-Ok.admitted c.in-Ok.ensures in
+    let done = subst (λ (n : ℕ). IsDone store c.commit.new.self c.args.session c.args.moment n c.args.change c.in-Ok-commit.reply) c.len-number.ensures
+    (c.in-Ok-commit.ensures c.args.change c.in-Ok.ensures) in
+    let entry : ℕ → Entry = λ n. record { number = n; session = c.args.session; moment = c.args.moment; change = c.args.change; reply = c.in-Ok-commit.reply } in
+    let entries = c.append.ensures.entries ∙
+    (ap (λ (x : List Entry). x ++ entry c.len-number.result ∷ []) c.in-Ok-keep_room.ensures.entries ∙ ap (λ (n : ℕ). es ++ entry n ∷ []) c.len-number.ensures) in
+    let all = invariant_of-self-in-Ok-commit c in
+    let is = state-view _ c.self.invariant c.self.view_is ∙ ap (λ (n : ℕ). at n store) (sym c.len-number.ensures) in
+    applied-by c.args.self.now _ c.args.session c.args.moment c.args.change c.in-Ok-commit.reply c.len-number.result store None is (sym clear)
+    (inl (accepted c.self.invariant c.args.self.now _ c.self.view_is c.args.session c.args.moment c.args.change c.in-Ok-commit.reply done.reply entries refl done.kept done.grows all.hive))
+
+pub invariant_of-self-in-Err-commit : goal.invariant_of-self-in-Err-commit
+invariant_of-self-in-Err-commit c =
+    kept-unmade c.self.invariant c.commit.new.self c.keep_room.new.journal.entries c.keep_room.new.journal.room c.args.session c.args.moment
+    c.len-number.result c.args.change c.in-Err-commit.lack (c.in-Err-commit.ensures c.args.change c.in-Ok.ensures) c.in-Ok-keep_room.ensures.entries c.in-Ok-keep_room.ensures.room
+
+pub invariant_of-self-in-Err-commit-2 : goal.invariant_of-self-in-Err-commit-2
+invariant_of-self-in-Err-commit-2 c =
+    kept-unmade c.self.invariant c.commit.new.self c.keep_room.new.journal.entries c.keep_room.new.journal.room c.args.session c.args.moment
+    c.len-number.result c.args.change c.in-Err-commit.lack (c.in-Err-commit.ensures c.args.change c.in-Ok.ensures) c.in-Ok-keep_room.ensures.entries c.in-Ok-keep_room.ensures.room
+
+pub invariant_of-self-in-Err-commit-3 : goal.invariant_of-self-in-Err-commit-3
+invariant_of-self-in-Err-commit-3 c =
+    kept-unmade c.self.invariant c.commit.new.self c.keep_room.new.journal.entries c.keep_room.new.journal.room c.args.session c.args.moment
+    c.len-number.result c.args.change c.in-Err-commit.lack (c.in-Err-commit.ensures c.args.change c.in-Ok.ensures) c.in-Ok-keep_room.ensures.entries c.in-Ok-keep_room.ensures.room
+
+pub invariant_of-self-in-Err-commit-4 : goal.invariant_of-self-in-Err-commit-4
+invariant_of-self-in-Err-commit-4 c =
+    kept-unmade c.self.invariant c.commit.new.self c.keep_room.new.journal.entries c.keep_room.new.journal.room c.args.session c.args.moment
+    c.len-number.result c.args.change c.in-Err-commit.lack (c.in-Err-commit.ensures c.args.change c.in-Ok.ensures) c.in-Ok-keep_room.ensures.entries c.in-Ok-keep_room.ensures.room
+
+pub invariant_of-self-in-Err-commit-5 : goal.invariant_of-self-in-Err-commit-5
+invariant_of-self-in-Err-commit-5 c =
+    kept-unmade c.self.invariant c.commit.new.self c.keep_room.new.journal.entries c.keep_room.new.journal.room c.args.session c.args.moment
+    c.len-number.result c.args.change c.in-Err-commit.lack (c.in-Err-commit.ensures c.args.change c.in-Ok.ensures) c.in-Ok-keep_room.ensures.entries c.in-Ok-keep_room.ensures.room
+
+pub invariant_of-self-in-Err-commit-6 : goal.invariant_of-self-in-Err-commit-6
+invariant_of-self-in-Err-commit-6 c =
+    kept-unmade c.self.invariant c.commit.new.self c.keep_room.new.journal.entries c.keep_room.new.journal.room c.args.session c.args.moment
+    c.len-number.result c.args.change c.in-Err-commit.lack (c.in-Err-commit.ensures c.args.change c.in-Ok.ensures) c.in-Ok-keep_room.ensures.entries c.in-Ok-keep_room.ensures.room
+
+pub returns-in-Err-commit : goal.returns-in-Err-commit
+returns-in-Err-commit c =
+    let origin = c.self.inside.origin.value.tree in
+    let store = c.self.inside.store in
+    let es = c.self.inside.journal.entries in
+    let is = state-kept c.self.invariant ∙ ap (λ (n : ℕ). at n store) (sym c.len-number.ensures) in
+    let clear = admits-clear c.len-number.result store c.args.session c.args.change c.in-Ok.admitted c.in-Ok.ensures in
+    let made = c.in-Err-commit.ensures c.args.change c.in-Ok.ensures in
+    let told = c.refuse-in-Err-commit.ensures ∙ ap refusal c.status-in-Err-commit.ensures in
+    let view : List Entry → View = λ x. record { origin = origin; journal = x; keys = c.commit.new.self.tree; handles = c.commit.new.self.handles.handles } in
+    let seen : c.match-change-3.self ≡ view c.keep_room.new.journal.entries = elim c.match-change-3.branch [
+      | in-OpenKey-4 w ↦ w.self-is
+      | in-CreateKey-4 w ↦ w.self-is
+      | in-SetValue-3 w ↦ w.self-is
+      | in-DeleteValue-3 w ↦ w.self-is
+      | in-DeleteKey-4 w ↦ w.self-is
+      | in-OpenRoot-4 w ↦ w.self-is
+    ] in
+    given-up origin es store c.commit.new.self c.args.session c.args.moment c.len-number.result c.args.change c.refuse-in-Err-commit.result c.in-Err-commit.lack
+    is clear made told c.args.self.now c.match-change-3.self c.self.view_is (seen ∙ ap view c.in-Ok-keep_room.ensures.entries)

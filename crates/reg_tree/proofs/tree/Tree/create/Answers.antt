@@ -3,7 +3,7 @@ use Rattle.reg_names.specs.Names.{path_of}
 use Rattle.reg_heap.specs.Paths.{Tree}
 use Rattle.reg_arena.specs.Arena.{heap_of}
 use Rattle.reg_heap.specs.Edits.{are_too_many}
-use Rattle.reg_tree.specs.declared.fault.TreeFault.TheVariants.{Limit}
+use Rattle.reg_tree.specs.declared.fault.TreeFault.TheVariants.{Limit, Full}
 use Rattle.reg_tree.proofs.Invariant.NodeLemmas.{here_at, of_tree}
 use Rattle.reg_tree.proofs.InsertKey.CreateKeepsNodes.{from_at, holds_created, keys_created, cells_created, room_created, same_created, lengths_created, noted_created}
 use Rattle.reg_tree.proofs.InsertKey.KeyLimits.{by_test}
@@ -13,10 +13,10 @@ pub create-requires-clause-here : goal.create-requires-clause-here
 create-requires-clause-here c = from_at _ _ c.self.invariant _ c.self.view_is c.args.from c.requires.from
 
 pub invariant_of-self : goal.invariant_of-self
-invariant_of-self c = holds_created _ _ c.self.invariant _ c.self.view_is _ c.create.result c.args.from c.requires.from c.args.path.now c.args.moment c.create.ensures.ok c.create.ensures.err
+invariant_of-self c = holds_created _ _ c.self.invariant _ c.self.view_is _ c.create.result c.args.from c.requires.from (path_of c.args.path.now) c.args.moment c.create.ensures.ok c.create.ensures.err
 
 pub returns-clause-ok : goal.returns-clause-ok
-returns-clause-ok c = keys_created _ _ c.self.invariant _ c.self.view_is _ c.create.result c.args.from c.requires.from c.args.path.now
+returns-clause-ok c = keys_created _ _ c.self.invariant _ c.self.view_is _ c.create.result c.args.from c.requires.from (path_of c.args.path.now)
     c.args.moment c.create.ensures.ok c.create.ensures.err c.create.ensures.new
 
 pub returns-clause-limit : goal.returns-clause-limit
@@ -26,19 +26,21 @@ returns-clause-limit c = λ p at.
 
 pub returns-clause-cells : goal.returns-clause-cells
 returns-clause-cells c = λ p at.
-    cells_created _ _ c.self.invariant _ c.self.view_is (heap_of c.create.new.arena) c.create.result p c.args.path.now
+    cells_created _ _ c.self.invariant _ c.self.view_is (heap_of c.create.new.arena) c.create.result p (path_of c.args.path.now)
     (c.create.ensures.cells (here_at _ _ c.self.invariant _ c.self.view_is c.args.from p at) at.depth)
 
 pub returns-clause-same : goal.returns-clause-same
 returns-clause-same c = same_created _ _ c.self.invariant _ c.self.view_is c.create.new.arena c.create.result c.create.ensures.same
 
 pub returns-clause-lengths : goal.returns-clause-lengths
-returns-clause-lengths c = lengths_created _ _ c.self.invariant _ c.self.view_is _ c.create.result c.args.from c.requires.from c.args.path.now c.args.moment c.create.ensures.ok c.create.ensures.err
+returns-clause-lengths c =
+    lengths_created _ _ c.self.invariant _ c.self.view_is _ c.create.result c.args.from c.requires.from (path_of c.args.path.now) c.args.moment c.create.ensures.ok c.create.ensures.err
 
 pub returns-clause-made : goal.returns-clause-made
-returns-clause-made c = noted_created _ _ c.self.invariant _ c.self.view_is _ c.create.result c.args.from c.requires.from c.args.path.now c.args.moment c.create.ensures.ok c.create.ensures.err
+returns-clause-made c =
+    noted_created _ _ c.self.invariant _ c.self.view_is _ c.create.result c.args.from c.requires.from (path_of c.args.path.now) c.args.moment c.create.ensures.ok c.create.ensures.err
 
 pub returns-clause-space : goal.returns-clause-space
 returns-clause-space c = λ p at.
-    room_created _ _ c.self.invariant _ c.self.view_is c.create.result p c.args.path.now
+    room_created _ _ c.self.invariant _ c.self.view_is Full c.create.result p (path_of c.args.path.now)
     (c.create.ensures.space (here_at _ _ c.self.invariant _ c.self.view_is c.args.from p at) at.depth)

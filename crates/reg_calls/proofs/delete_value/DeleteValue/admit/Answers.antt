@@ -1,0 +1,52 @@
+use Rattle.std.proofs.Common.{arith, sym, ap, ◌∙◌, subst, Option, ℕ, ◌≡◌, Some, is_some}
+use Rattle.std.proofs.lemmas.Grind.{common_steps}
+use Rattle.std.proofs.lemmas.Bool.Decides.{nat_tests}
+use Rattle.reg_heap.specs.Paths.{Path}
+use Rattle.reg_heap.specs.Edits.{values_at}
+use Rattle.reg_heap.specs.Members.{index_named}
+use Rattle.reg_calls.proofs.HandleLookUps.{target-at}
+use Rattle.reg_tree.proofs.ValueChange.ValueAtPlace.{named_if}
+use Rattle.reg_calls.proofs.FoundPaths.{found-at}
+use Rattle.reg_calls.proofs.RefusalTests.{drop-refused, drop-causes}
+use Rattle.reg_calls.proofs.delete_value.DeleteValue.admit.Goals as goal
+
+pub returns-in-Err-clause-refused : goal.returns-in-Err-clause-refused
+returns-in-Err-clause-refused c = drop-refused c.args.entries c.args.store.now c.args.session c.args.handle c.args.name.now c.in-Err.status c.in-Err.ensures
+
+pub returns-then-is_err-clause-refused : goal.returns-then-is_err-clause-refused
+returns-then-is_err-clause-refused c =
+    let k = c.in-Ok.ensures in
+    let chain = drop-causes c.args.entries c.args.store.now c.args.session c.args.handle c.args.name.now c.in-Ok.key.mask k.target k.mask in
+    grind (arith, nat_tests, common_steps, chain)
+
+pub returns-then-key-ne-SET_VALUE-clause-refused : goal.returns-then-key-ne-SET_VALUE-clause-refused
+returns-then-key-ne-SET_VALUE-clause-refused c =
+    let k = c.in-Ok.ensures in
+    let chain = drop-causes c.args.entries c.args.store.now c.args.session c.args.handle c.args.name.now c.in-Ok.key.mask k.target k.mask in
+    grind (arith, nat_tests, common_steps, chain)
+
+pub returns-then-is_full-clause-refused : goal.returns-then-is_full-clause-refused
+returns-then-is_full-clause-refused c =
+    let k = c.in-Ok.ensures in
+    let chain = drop-causes c.args.entries c.args.store.now c.args.session c.args.handle c.args.name.now c.in-Ok.key.mask k.target k.mask in
+    grind (arith, nat_tests, common_steps, chain)
+
+pub returns-in-None-clause-refused : goal.returns-in-None-clause-refused
+returns-in-None-clause-refused c =
+    let k = c.in-Ok.ensures in
+    let chain = drop-causes c.args.entries c.args.store.now c.args.session c.args.handle c.args.name.now c.in-Ok.key.mask k.target k.mask in
+    let lacks = sym (named_if c.args.name.now (values_at c.args.store.now.tree.tree k.target.path)) ∙ ap (λ (o : Option ℕ). is_some o) (sym (c.in-None.ensures k.target.path k.node)) in
+    grind (arith, nat_tests, common_steps, chain, lacks)
+
+pub returns-in-Some-clause-admitted : goal.returns-in-Some-clause-admitted
+returns-in-Some-clause-admitted c =
+    let k = c.in-Ok.ensures in
+    let chain = drop-causes c.args.entries c.args.store.now c.args.session c.args.handle c.args.name.now c.in-Ok.key.mask k.target k.mask in
+    let at = sym (c.in-Some.ensures k.target.path k.node) in
+    let there = sym (named_if c.args.name.now (values_at c.args.store.now.tree.tree k.target.path)) ∙ ap (λ (o : Option ℕ). is_some o) at in
+    record {
+      clear = grind (arith, nat_tests, common_steps, chain, there);
+      node = found-at c.args.store.now c.args.session c.args.handle k.target c.in-Ok.key.node k.node;
+      place = subst (λ (p : Path). index_named c.args.name.now (values_at c.args.store.now.tree.tree p) ≡ Some c.in-Some.index)
+          (sym (target-at c.args.store.now c.args.session c.args.handle k.target)) at;
+    }

@@ -1,0 +1,114 @@
+-- What each change was admitted with: what its commit takes, as admission found it in the store when the journal had so many entries.
+use Rattle.std.specs.Prelude.{◌≡◌, ◌≢◌, ◌<◌, ℕ, List, [], map, length, Some, None, Result, Ok, Err, false, true}
+use Rattle.reg_names.specs.Names.{folded, is_path, path_of}
+use Rattle.reg_heap.specs.Members.{index_named}
+use Rattle.reg_heap.specs.declared.limits.TheConstants.{VALUES_LIMIT}
+use Rattle.reg_heap.specs.Paths.{Path}
+use Rattle.reg_heap.specs.Edits.{values_at, missing, are_too_many, may_not_go}
+use Rattle.reg_model.specs.declared.statuses.TheConstants.{NOT_ENOUGH_MEMORY}
+use Rattle.reg_model.specs.Worlds.{path_at, path_from}
+use Rattle.reg_model.specs.Causes.{change_cause}
+use Rattle.reg_model.specs.declared.call.Change.{Change}
+use Rattle.reg_model.specs.declared.call.Change.TheVariants.{OpenRoot as RootOpened, OpenKey as KeyOpened, CreateKey as KeyCreated, SetValue as ValueSet}
+use Rattle.reg_model.specs.declared.call.Change.TheVariants.{DeleteValue as ValueDeleted, DeleteKey as KeyDeleted, Close as Closed}
+use Rattle.reg_tree.specs.TreeKeys.{IsAt}
+use Rattle.reg_tree.specs.Reaching.{IsReached}
+use Rattle.reg_tree.specs.declared.node.Node.{Node}
+use Rattle.reg_calls.specs.declared.store.Store.{Store}
+use Rattle.reg_calls.specs.declared.open_key.OpenKey.{OpenKey}
+use Rattle.reg_calls.specs.declared.create_key.CreateKey.{CreateKey}
+use Rattle.reg_calls.specs.declared.set_value.SetValue.{SetValue}
+use Rattle.reg_calls.specs.declared.delete_value.DeleteValue.{DeleteValue}
+use Rattle.reg_calls.specs.declared.delete_key.DeleteKey.{DeleteKey}
+use Rattle.reg_calls.specs.declared.changes.Admitted.{Admitted}
+use Rattle.reg_calls.specs.declared.changes.Admitted.TheVariants.{OpenRoot as RootAdmitted, OpenKey as KeyAdmitted, CreateKey as NewKeyAdmitted}
+use Rattle.reg_calls.specs.declared.changes.Admitted.TheVariants.{SetValue as SetAdmitted, DeleteValue as RemovalAdmitted, DeleteKey as DeletionAdmitted}
+use Rattle.reg_calls.specs.declared.changes.Admitted.TheVariants.{Close as CloseAdmitted}
+use Rattle.reg_calls.specs.declared.refusal.Refusal.{Refusal}
+use Rattle.reg_calls.specs.declared.refusal.Refusal.TheVariants.{Cause, Memory}
+use Rattle.reg_calls.specs.Shortages.{is_closing}
+use Rattle.reg_calls.specs.Internal.Stores.{at}
+
+-- nothing refuses a change
+abbrev pub IsClear : ℕ → Store → ℕ → Change → Type 0
+IsClear entries store session change = change_cause (at entries store) session change 0 ≡ None
+
+-- a text is the path from the root to the end of a path from a handle's key, in folded names
+pub record IsTextOf (store : Store) (session handle : ℕ) (path text : List ℕ) : Type 0 where
+  pub names : path_of text ≡ path_from session handle store.handles.handles path
+  pub valid : is_path text ≡ true
+  pub folded : map folded (path_of text) ≡ path_of text
+
+-- a handle to the key at a path from a handle's key: the path's text, and the key
+pub record AdmitsOpenKey (entries : ℕ) (store : Store) (session handle : ℕ) (path : List ℕ) (found : OpenKey) : Type 0 where
+  pub clear : IsClear entries store session (KeyOpened handle path found.mask)
+  pub text : IsTextOf store session handle path found.text.items
+  pub node : IsAt store.tree (path_from session handle store.handles.handles path) found.node
+
+-- keys made on a path from a handle's key: the path's text, how far it leads, which names are missing and where they belong; these
+-- aren't too many
+pub record AdmitsCreateKey (entries : ℕ) (store : Store) (session handle : ℕ) (path : List ℕ) (found : CreateKey) : Type 0 where
+  pub clear : IsClear entries store session (KeyCreated handle path found.mask)
+  pub text : IsTextOf store session handle path found.text.items
+  pub from : Node
+  pub at : IsAt store.tree (path_at session handle store.handles.handles) from
+  pub reached : IsReached store.tree from path found.reached
+  pub missing : path_of found.reached.missing.now ≡ missing store.tree.tree (path_at session handle store.handles.handles) (path_of path)
+  pub few : (start : Node) → (text : List ℕ) → IsReached store.tree start text found.reached → (p : Path) → IsAt store.tree p start →
+      are_too_many store.tree.tree p (path_of text) ≡ false
+  pub there : found.reached.missing.now ≡ [] → IsAt store.tree (path_from session handle store.handles.handles path) found.reached.node
+
+-- a value set in a handle's key: the key, and where it has a value of that name, or that it has room for one more
+pub record AdmitsSetValue (entries : ℕ) (store : Store) (session handle : ℕ) (found : SetValue) : Type 0 where
+  pub clear : IsClear entries store session (ValueSet handle found.name.now found.kind found.bytes.now)
+  pub node : IsAt store.tree (path_at session handle store.handles.handles) found.node
+  pub place : (p : Path) → IsAt store.tree p found.node → found.place ≡ index_named found.name.now (values_at store.tree.tree p)
+  pub room : (p : Path) → IsAt store.tree p found.node → found.place ≡ None → length (values_at store.tree.tree p) < VALUES_LIMIT
+
+-- a value removed from a handle's key: the key, and where it has the value of that name
+pub record AdmitsDeleteValue (entries : ℕ) (store : Store) (session handle : ℕ) (name : List ℕ) (found : DeleteValue) : Type 0 where
+  pub clear : IsClear entries store session (ValueDeleted handle name)
+  pub node : IsAt store.tree (path_at session handle store.handles.handles) found.node
+  pub place : index_named name (values_at store.tree.tree (path_at session handle store.handles.handles)) ≡ Some found.index
+
+-- the key at a path from a handle's key deleted: the path's text, and the key with where it stands below its parent; nothing keeps it
+pub record AdmitsDeleteKey (entries : ℕ) (store : Store) (session handle : ℕ) (path : List ℕ) (found : DeleteKey) : Type 0 where
+  pub clear : IsClear entries store session (KeyDeleted handle path)
+  pub text : IsTextOf store session handle path found.text.items
+  pub from : Node
+  pub at : IsAt store.tree (path_at session handle store.handles.handles) from
+  pub reached : IsReached store.tree from path found.reached
+  pub below : path_of path ≢ []
+  pub there : found.reached.missing.now ≡ []
+  pub goes : (p : Path) → IsAt store.tree p found.reached.node → may_not_go store.tree.tree p ≡ false
+  pub node : IsAt store.tree (path_from session handle store.handles.handles path) found.reached.node
+
+-- a change was admitted with this
+abbrev pub Admits : ℕ → Store → ℕ → Change → Admitted → Type 0
+Admits entries store session change (RootAdmitted found) = (change ≡ RootOpened found.mask) × IsClear entries store session (RootOpened found.mask)
+Admits entries store session change (KeyAdmitted found) =
+    (handle : ℕ) × (path : List ℕ) × (change ≡ KeyOpened handle path found.mask) × AdmitsOpenKey entries store session handle path found
+Admits entries store session change (NewKeyAdmitted found) =
+    (handle : ℕ) × (path : List ℕ) × (change ≡ KeyCreated handle path found.mask) × AdmitsCreateKey entries store session handle path found
+Admits entries store session change (SetAdmitted found) =
+    (handle : ℕ) × (change ≡ ValueSet handle found.name.now found.kind found.bytes.now) × AdmitsSetValue entries store session handle found
+Admits entries store session change (RemovalAdmitted found) =
+    (handle : ℕ) × (name : List ℕ) × (change ≡ ValueDeleted handle name) × AdmitsDeleteValue entries store session handle name found
+Admits entries store session change (DeletionAdmitted found) =
+    (handle : ℕ) × (path : List ℕ) × (change ≡ KeyDeleted handle path) × AdmitsDeleteKey entries store session handle path found
+Admits entries store session change (CloseAdmitted found) = (change ≡ Closed found.handle) × IsClear entries store session (Closed found.handle)
+
+-- a change isn't admitted: by its cause; or nothing refuses it, and memory is wanting for it, as it never is for a Close
+abbrev pub IsRefused : ℕ → Store → ℕ → Change → Refusal → Type 0
+IsRefused entries store session change (Cause status) = change_cause (at entries store) session change 0 ≡ Some status
+IsRefused entries store session change Memory = IsClear entries store session change × (is_closing change ≡ false)
+
+-- what a caller is told of it
+abbrev pub status_told : Refusal → ℕ
+status_told (Cause status) = status
+status_told Memory = NOT_ENOUGH_MEMORY
+
+-- what an admission answers
+abbrev pub IsAdmission : ℕ → Store → ℕ → Change → Result Admitted Refusal → Type 0
+IsAdmission entries store session change (Ok admitted) = Admits entries store session change admitted
+IsAdmission entries store session change (Err refusal) = IsRefused entries store session change refusal

@@ -1,0 +1,120 @@
+//! CreateKey: a handle to a key, which is made where it isn't there, with those above it.
+//!
+//! Win32 registry reference, `RegCreateKeyEx`.
+ghost use Rattle.std.specs.Prelude.{ℕ, List, ◌≡◌, ◌<◌, IfErr, IfOk};
+ghost use Rattle.reg_model.specs.declared.limits.TheConstants.{SESSIONS_LIMIT};
+ghost use Rattle.reg_calls.specs.Internal.Stores.{IsReady, IsMade};
+ghost use Rattle.reg_calls.specs.Internal.Admissions.{AdmitsCreateKey, IsRefused};
+
+use crate::lack::Lack;
+use crate::refusal::Refusal;
+use crate::replies::opened;
+use crate::store::{Store, path_below};
+use reg_model::ChangeReply;
+use reg_model::statuses::NO_SYSTEM_RESOURCES;
+use reg_tree::Reached;
+use std::alloc::Global;
+
+/// The disposition of a key that was made.
+const MADE: u32 = 1;
+
+/// The disposition of a key that was there.
+const THERE: u32 = 2;
+
+/// What a CreateKey was admitted with.
+#[derive(Drop)]
+pub struct CreateKey<'a> {
+    /// The rights that are asked.
+    pub mask: u32,
+    /// The path of the key, as folded text.
+    pub text: Vec<u8>,
+    /// How far the path leads, which names are missing and where they belong.
+    pub reached: Reached<'a>,
+}
+
+impl<'a> CreateKey<'a> {
+    ghost use Rattle.reg_model.specs.declared.call.Change.TheVariants.{CreateKey as KeyCreated};
+
+    /// Finds how far the path leads. Refused by 6 and 1018 for the handle, 87 for the path or the mask, 1450 where the session has
+    /// 16,384 handles, the journal is full, or the missing keys would be too many; or for want of memory.
+    pub fn admit(
+        store: &Store,
+        alloc: Global,
+        entries: usize,
+        session: u8,
+        handle: u64,
+        path: &'a [u8],
+        mask: u32,
+    ) -> Result<CreateKey<'a>, Refusal>
+        requires session { session < SESSIONS_LIMIT }
+        requires ready { IsReady entries store.now }
+        ensures refused { IfErr result (λ refusal. IsRefused entries store.now session (KeyCreated handle path.now mask) refusal) }
+        ensures admitted { IfOk result (λ found. AdmitsCreateKey entries store.now session handle path.now found) }
+        ensures mask { IfOk result (λ found. found.mask ≡ mask) }
+    {
+        let key = match store.key_to_open_at(entries, session, handle, path, mask) {
+            Ok(key) => key,
+            Err(status) => return Err(Refusal::Cause(status)),
+        };
+        let reached = store.tree.reach(key.node, path);
+        if store.tree.is_limited(reached) {
+            return Err(Refusal::Cause(NO_SYSTEM_RESOURCES));
+        }
+        // Callbacks are asked here: the path is that of the handle's key.
+        //
+        // Only for its clause `shallow`: no key is deeper than 512 names, so that the path's text is one that the table takes.
+        let _ = store.tree.root();
+        match path_below(alloc, key.path, path) {
+            Ok(text) => Ok(CreateKey {
+                mask,
+                text,
+                reached,
+            }),
+            Err(_) => Err(Refusal::Memory),
+        }
+    }
+
+    /// Makes the keys that are missing, and opens the last key of the path as the handle of a number. `Err` says what was lacking,
+    /// memory or space in the bins; then keys and handles are as they were.
+    pub fn commit(
+        self,
+        store: &mut Store,
+        alloc: Global,
+        session: u8,
+        moment: u64,
+        number: u64,
+    ) -> Result<ChangeReply, Lack>
+        requires session { session < SESSIONS_LIMIT }
+        requires ready { IsReady number store.old }
+        requires admitted { (handle : ℕ) × (path : List ℕ) × AdmitsCreateKey number store.old session handle path self }
+        ensures { (handle : ℕ) → (path : List ℕ) → AdmitsCreateKey number store.old session handle path self.entry →
+            IsMade store.old store.new session moment number (KeyCreated handle path self.entry.mask) result }
+    {
+        let CreateKey {
+            mask,
+            text,
+            reached,
+        } = self;
+        // Only for its clause `payloads`: no payload is kept for a path that no handle leads to.
+        let _ = store.handles.len();
+        // The handle first: it can be taken back, and keys that are made can't. Where the key is there, its node is known; where it
+        // is made, that is put in afterwards, and until then the last key that is there holds its place.
+        match store.handles.add(session, number, mask, text, reached.node) {
+            Ok(()) => {}
+            Err(_) => return Err(Lack::Memory),
+        }
+        if reached.missing.is_empty() {
+            return Ok(opened(number, Some(THERE)));
+        }
+        match store.tree.create_at(alloc, reached, moment) {
+            Ok(node) => {
+                store.handles.set_payload(number, node);
+                Ok(opened(number, Some(MADE)))
+            }
+            Err(fault) => {
+                store.handles.close(session, number);
+                Err(Lack::from(fault))
+            }
+        }
+    }
+}

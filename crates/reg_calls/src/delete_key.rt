@@ -1,0 +1,101 @@
+//! DeleteKey: a key without subkeys deleted.
+//!
+//! Win32 registry reference, `RegDeleteKey`.
+ghost use Rattle.std.specs.Prelude.{ℕ, List, ◌≡◌, Ok, IfErr, IfOk};
+ghost use Rattle.reg_heap.specs.Paths.{Path};
+ghost use Rattle.reg_heap.specs.Edits.{may_not_go as may_not_go_of};
+ghost use Rattle.reg_model.specs.Causes.{is_bad_target as is_bad_target_of};
+ghost use Rattle.reg_tree.specs.TreeKeys.{IsAt, IsThere};
+ghost use Rattle.reg_calls.specs.Internal.Stores.{IsReady, IsMade};
+ghost use Rattle.reg_calls.specs.Internal.Admissions.{AdmitsDeleteKey, IsRefused};
+
+use crate::refusal::Refusal;
+use crate::replies::accepted;
+use crate::store::{Store, path_below};
+use reg_heap::marks::NO_DELETE;
+use reg_model::ChangeReply;
+use reg_model::statuses::{ACCESS_DENIED, FILE_NOT_FOUND, INVALID_PARAMETER, NO_SYSTEM_RESOURCES};
+use reg_names::check_path;
+use reg_tree::{Node, Reached, Tree};
+use std::alloc::Global;
+
+/// What a DeleteKey was admitted with.
+#[derive(Drop)]
+pub struct DeleteKey<'a> {
+    /// The path of the key, as folded text.
+    pub text: Vec<u8>,
+    /// The key, and where it stands below its parent.
+    pub reached: Reached<'a>,
+}
+
+fn is_bad_target(path: &[u8]) -> bool
+    ensures { result ≡ is_bad_target_of path.now }
+{
+    check_path(path).is_err() || path.is_empty()
+}
+
+/// Whether a key has subkeys, or is never deleted.
+fn may_not_go(tree: &Tree, node: Node) -> bool
+    requires { IsThere tree.now node }
+    ensures { (p : Path) → IsAt tree.now p node → result ≡ may_not_go_of tree.now.tree p }
+{
+    // Only for its clause `key`: the node's key is in the tree, of which the clauses of what follows speak.
+    let _ = tree.name(node);
+    tree.subkeys(node) > 0 || tree.marks(node) & NO_DELETE != 0
+}
+
+impl<'a> DeleteKey<'a> {
+    ghost use Rattle.reg_model.specs.declared.call.Change.TheVariants.{DeleteKey as KeyDeleted};
+
+    /// Finds the key. Refused by 6 and 1018 for the handle, 87 for the path or an empty one, 1450 where the journal is full, 2 where
+    /// there is no such key, and 5 where it has subkeys or mark 0x08; or for want of memory.
+    pub fn admit(
+        store: &Store,
+        alloc: Global,
+        entries: usize,
+        session: u8,
+        handle: u64,
+        path: &'a [u8],
+    ) -> Result<DeleteKey<'a>, Refusal>
+        requires { IsReady entries store.now }
+        ensures refused { IfErr result (λ refusal. IsRefused entries store.now session (KeyDeleted handle path.now) refusal) }
+        ensures admitted { IfOk result (λ found. AdmitsDeleteKey entries store.now session handle path.now found) }
+    {
+        let key = match store.key_of(session, handle) {
+            Ok(key) => key,
+            Err(status) => return Err(Refusal::Cause(status)),
+        };
+        if is_bad_target(path) {
+            return Err(Refusal::Cause(INVALID_PARAMETER));
+        }
+        if store.is_full(entries) {
+            return Err(Refusal::Cause(NO_SYSTEM_RESOURCES));
+        }
+        // Callbacks are asked here: the path is that of the handle's key.
+        let reached = store.tree.reach(key.node, path);
+        if !reached.missing.is_empty() {
+            return Err(Refusal::Cause(FILE_NOT_FOUND));
+        }
+        if may_not_go(&store.tree, reached.node) {
+            return Err(Refusal::Cause(ACCESS_DENIED));
+        }
+        // Only for its clause `shallow`: no key is deeper than 512 names, so that the text is a path.
+        let _ = store.tree.root();
+        match path_below(alloc, key.path, path) {
+            Ok(text) => Ok(DeleteKey { text, reached }),
+            Err(_) => Err(Refusal::Memory),
+        }
+    }
+
+    /// Deletes the key, and turns the handles off that lead to it.
+    pub fn commit(self, store: &mut Store, moment: u64, number: u64) -> ChangeReply
+        requires ready { IsReady number store.old }
+        requires admitted { (session handle : ℕ) × (path : List ℕ) × AdmitsDeleteKey number store.old session handle path self }
+        ensures { (session handle : ℕ) → (path : List ℕ) → AdmitsDeleteKey number store.old session handle path self.entry →
+            IsMade store.old store.new session moment number (KeyDeleted handle path) (Ok result) }
+    {
+        store.tree.delete_at(self.reached, moment);
+        store.handles.mark_deleted(self.text.as_slice());
+        accepted(number)
+    }
+}

@@ -1,0 +1,75 @@
+//! DeleteValue: a value of a key removed.
+//!
+//! Win32 registry reference, `RegDeleteValue`.
+ghost use Rattle.std.specs.Prelude.{ℕ, List, ◌≡◌, Some, Ok, IfErr, IfOk};
+ghost use Rattle.reg_model.specs.Causes.{change_cause};
+ghost use Rattle.reg_calls.specs.Internal.Stores.{at, IsReady, IsMade};
+ghost use Rattle.reg_calls.specs.Internal.Admissions.{AdmitsDeleteValue};
+
+use crate::replies::accepted;
+use crate::store::Store;
+use reg_model::ChangeReply;
+use reg_model::rights::SET_VALUE;
+use reg_model::statuses::{ACCESS_DENIED, FILE_NOT_FOUND, INVALID_PARAMETER, NO_SYSTEM_RESOURCES};
+use reg_names::check_value_name;
+use reg_tree::Node;
+
+/// What a DeleteValue was admitted with.
+#[derive(Clone, Copy)]
+pub struct DeleteValue {
+    /// The key.
+    pub node: Node,
+    /// The value's index among the key's, counted from 0.
+    pub index: u32,
+}
+
+impl DeleteValue {
+    ghost use Rattle.reg_model.specs.declared.call.Change.TheVariants.{DeleteValue as ValueDeleted};
+
+    /// Finds the value. Refused by 6 and 1018 for the handle, 87 for the name, 5 without the right, 1450 where the journal is full,
+    /// and 2 where there is no such value.
+    pub fn admit(
+        store: &Store,
+        entries: usize,
+        session: u8,
+        handle: u64,
+        name: &[u8],
+    ) -> Result<DeleteValue, u32>
+        requires { IsReady entries store.now }
+        ensures refused { IfErr result (λ status. change_cause (at entries store.now) session (ValueDeleted handle name.now) 0 ≡ Some status) }
+        ensures admitted { IfOk result (λ found. AdmitsDeleteValue entries store.now session handle name.now found) }
+    {
+        let key = match store.key_of(session, handle) {
+            Ok(key) => key,
+            Err(status) => return Err(status),
+        };
+        if check_value_name(name).is_err() {
+            return Err(INVALID_PARAMETER);
+        }
+        if key.mask & SET_VALUE != SET_VALUE {
+            return Err(ACCESS_DENIED);
+        }
+        if store.is_full(entries) {
+            return Err(NO_SYSTEM_RESOURCES);
+        }
+        // Callbacks are asked here: the path is that of the handle's key.
+        match store.tree.value_index(key.node, name) {
+            Some(index) => Ok(DeleteValue {
+                node: key.node,
+                index,
+            }),
+            None => Err(FILE_NOT_FOUND),
+        }
+    }
+
+    /// Removes the value.
+    pub fn commit(self, store: &mut Store, moment: u64, number: u64) -> ChangeReply
+        requires ready { IsReady number store.old }
+        requires admitted { (session handle : ℕ) × (name : List ℕ) × AdmitsDeleteValue number store.old session handle name self }
+        ensures { (session handle : ℕ) → (name : List ℕ) → AdmitsDeleteValue number store.old session handle name self →
+            IsMade store.old store.new session moment number (ValueDeleted handle name) (Ok result) }
+    {
+        store.tree.remove_at(self.node, self.index, moment);
+        accepted(number)
+    }
+}

@@ -1,0 +1,79 @@
+//! OpenKey: a handle to a key that is there.
+//!
+//! Win32 registry reference, `RegOpenKeyEx`.
+ghost use Rattle.std.specs.Prelude.{ℕ, List, ◌≡◌, ◌<◌, IfErr, IfOk};
+ghost use Rattle.reg_model.specs.declared.limits.TheConstants.{SESSIONS_LIMIT};
+ghost use Rattle.reg_calls.specs.Internal.Stores.{IsReady, IsMade};
+ghost use Rattle.reg_calls.specs.Internal.Admissions.{AdmitsOpenKey, IsRefused};
+
+use crate::lack::Lack;
+use crate::refusal::Refusal;
+use crate::replies::opened;
+use crate::store::{Store, path_below};
+use reg_model::ChangeReply;
+use reg_model::statuses::FILE_NOT_FOUND;
+use reg_tree::Node;
+use std::alloc::Global;
+
+/// What an OpenKey was admitted with.
+#[derive(Drop)]
+pub struct OpenKey {
+    /// The rights that are asked.
+    pub mask: u32,
+    /// The path of the key, as folded text.
+    pub text: Vec<u8>,
+    /// The key.
+    pub node: Node,
+}
+
+impl OpenKey {
+    ghost use Rattle.reg_model.specs.declared.call.Change.TheVariants.{OpenKey as KeyOpened};
+
+    /// Finds the key. Refused by 6 and 1018 for the handle, 87 for the path or the mask, 1450 where the session has 16,384 handles
+    /// or the journal is full, and 2 where there is no such key; or for want of memory.
+    pub fn admit(
+        store: &Store,
+        alloc: Global,
+        entries: usize,
+        session: u8,
+        handle: u64,
+        path: &[u8],
+        mask: u32,
+    ) -> Result<OpenKey, Refusal>
+        requires session { session < SESSIONS_LIMIT }
+        requires ready { IsReady entries store.now }
+        ensures refused { IfErr result (λ refusal. IsRefused entries store.now session (KeyOpened handle path.now mask) refusal) }
+        ensures admitted { IfOk result (λ found. AdmitsOpenKey entries store.now session handle path.now found) }
+        ensures mask { IfOk result (λ found. found.mask ≡ mask) }
+    {
+        let key = match store.key_to_open_at(entries, session, handle, path, mask) {
+            Ok(key) => key,
+            Err(status) => return Err(Refusal::Cause(status)),
+        };
+        // Callbacks are asked here: the path is that of the handle's key.
+        let Some(node) = store.tree.resolve(key.node, path) else {
+            return Err(Refusal::Cause(FILE_NOT_FOUND));
+        };
+        // Only for its clause `shallow`: no key is deeper than 512 names, so that the path's text is one that the table takes.
+        let _ = store.tree.root();
+        match path_below(alloc, key.path, path) {
+            Ok(text) => Ok(OpenKey { mask, text, node }),
+            Err(_) => Err(Refusal::Memory),
+        }
+    }
+
+    /// Opens the key as the handle of a number. `Err` says that memory was lacking; then keys and handles are as they were.
+    pub fn commit(self, store: &mut Store, session: u8, number: u64) -> Result<ChangeReply, Lack>
+        requires session { session < SESSIONS_LIMIT }
+        requires ready { IsReady number store.old }
+        requires admitted { (handle : ℕ) × (path : List ℕ) × AdmitsOpenKey number store.old session handle path self }
+        ensures { (moment handle : ℕ) → (path : List ℕ) → AdmitsOpenKey number store.old session handle path self →
+            IsMade store.old store.new session moment number (KeyOpened handle path self.mask) result }
+    {
+        let OpenKey { mask, text, node } = self;
+        match store.handles.add(session, number, mask, text, node) {
+            Ok(()) => Ok(opened(number, None)),
+            Err(_) => Err(Lack::Memory),
+        }
+    }
+}

@@ -1,0 +1,69 @@
+//! OpenRoot: a handle to the root.
+//!
+//! Win32 registry reference, `RegOpenKeyEx`.
+ghost use Rattle.std.specs.Prelude.{ℕ, ◌≡◌, ◌<◌, Some, IfErr, IfOk};
+ghost use Rattle.reg_model.specs.declared.limits.TheConstants.{SESSIONS_LIMIT};
+ghost use Rattle.reg_model.specs.Causes.{change_cause};
+ghost use Rattle.reg_calls.specs.Internal.Stores.{at, IsReady, IsMade};
+ghost use Rattle.reg_calls.specs.Internal.Admissions.{IsClear};
+
+use crate::lack::Lack;
+use crate::replies::opened;
+use crate::store::Store;
+use reg_model::ChangeReply;
+use reg_model::rights::NO_RIGHTS;
+use reg_model::statuses::{INVALID_PARAMETER, NO_SYSTEM_RESOURCES};
+use std::alloc::Global;
+
+/// What an OpenRoot was admitted with.
+#[derive(Clone, Copy)]
+pub struct OpenRoot {
+    /// The rights that are asked.
+    pub mask: u32,
+}
+
+impl OpenRoot {
+    ghost use Rattle.reg_model.specs.declared.call.Change.TheVariants.{OpenRoot as RootOpened};
+
+    /// Admits it, or tells the status of its refusal: 87 for the mask, 1450 where the session has 16,384 handles or the journal is
+    /// full.
+    pub fn admit(store: &Store, entries: usize, session: u8, mask: u32) -> Result<OpenRoot, u32>
+        requires session { session < SESSIONS_LIMIT }
+        requires ready { IsReady entries store.now }
+        ensures refused { IfErr result (λ status. change_cause (at entries store.now) session (RootOpened mask) 0 ≡ Some status) }
+        ensures clear { IfOk result (λ found. IsClear entries store.now session (RootOpened mask)) }
+        ensures mask { IfOk result (λ found. found.mask ≡ mask) }
+    {
+        if mask & NO_RIGHTS != 0 {
+            return Err(INVALID_PARAMETER);
+        }
+        if store.has_no_handle_room(entries, session) {
+            return Err(NO_SYSTEM_RESOURCES);
+        }
+        // Callbacks are asked here: the path is the root's.
+        Ok(OpenRoot { mask })
+    }
+
+    /// Opens the root as the handle of a number. `Err` says that memory was lacking; then keys and handles are as they were.
+    pub fn commit(
+        self,
+        store: &mut Store,
+        alloc: Global,
+        session: u8,
+        number: u64,
+    ) -> Result<ChangeReply, Lack>
+        requires session { session < SESSIONS_LIMIT }
+        requires ready { IsReady number store.old }
+        requires clear { IsClear number store.old session (RootOpened self.mask) }
+        ensures { (moment : ℕ) → IsMade store.old store.new session moment number (RootOpened self.mask) result }
+    {
+        let root = store.tree.root();
+        match store
+            .handles
+            .add(session, number, self.mask, Vec::new(alloc), root)
+        {
+            Ok(()) => Ok(opened(number, None)),
+            Err(_) => Err(Lack::Memory),
+        }
+    }
+}

@@ -1,0 +1,80 @@
+-- Keys made below the one that a path leads to, as it is seen in the tree.
+use Rattle.std.proofs.Common.{◌≡◌, ◌≢◌, ℕ, Bool, true, false, List, [], sym, ap, ◌∙◌, subst}
+use Rattle.std.specs.Prelude.{Result, OnOk, OnErr, IfOk}
+use Rattle.reg_names.specs.Names.{path_of}
+use Rattle.reg_heap.specs.Paths.{Path, Tree}
+use Rattle.reg_heap.specs.Edits.{are_too_many, missing, last_there}
+use Rattle.reg_arena.specs.Arena.{Bins, heap_of}
+use Rattle.reg_arena.specs.declared.ArenaFault.{ArenaFault}
+use Rattle.reg_tree.specs.declared.node.Node.{Node}
+use Rattle.reg_tree.specs.declared.node.Reached.{Reached}
+use Rattle.reg_tree.specs.KeyLengths.{ChangesLengths, NotesMade, with_first_length}
+use Rattle.reg_tree.specs.TreeKeys.{Keys, tree_in, IsAt, IsThere, MakesKeys}
+use Rattle.reg_tree.specs.Reaching.{IsReached}
+use Rattle.reg_tree.specs.Internal.TreeInvariant.{TreeInvariant}
+use Rattle.reg_tree.specs.Internal.KeyCreation.{IsCreated, LeadsTo}
+use Rattle.reg_tree.specs.Internal.PathWalks.{Reaches}
+use Rattle.reg_tree.specs.Internal.ReachedPlaces.{BelongsFirst}
+use Rattle.reg_tree.proofs.Invariant.NodeLemmas.{seen_as, here_at, of_tree}
+use Rattle.reg_tree.proofs.InsertKey.CreateKeepsNodes.{if_ok, on_made, holds_after, keys_made, lengths_made, noted_made}
+use Rattle.reg_tree.proofs.InsertKey.CreatePath.{new_some}
+use Rattle.reg_tree.proofs.PathWalk.ReachedSeen.{named}
+
+module _ (bins : Bins) (root : ℕ) (holds : TreeInvariant bins.bytes root) (now : Keys) (view_is : seen_as bins root ≡ now) (reached : Reached) where
+  abbrev pub leads_at : (from : Node) (path : List ℕ) → IsReached now from path reached → (p : Path) → IsAt now p from →
+      LeadsTo bins.bytes from path reached.node reached.missing.now
+  leads_at from path r p at = record {
+    here = here_at bins root holds now view_is from p at;
+    depth = at.depth;
+    reaches = subst (λ (k : Keys). Reaches (heap_of k.bins) from path reached.node reached.missing.now) (sym view_is) r.reaches;
+  }
+
+  -- where the first of its names belongs that are missing
+  pub place_at : (from : Node) (path : List ℕ) → IsReached now from path reached → BelongsFirst (heap_of bins) reached.node.offset (path_of reached.missing.now) reached.index
+  place_at from path r = subst (λ (k : Keys). BelongsFirst (heap_of k.bins) reached.node.offset (path_of reached.missing.now) reached.index) (sym view_is) r.place.belongs
+
+  -- an answer that is told of the tree spelt is told of the tree seen
+  pub limit_seen : {b : Bool} → ((from : Node) → (path : List ℕ) → (l : LeadsTo bins.bytes from path reached.node reached.missing.now) →
+      b ≡ are_too_many (tree_in bins.bytes l.here.root) l.here.path (path_of path)) → (from : Node) → (path : List ℕ) → IsReached now from path reached → (p : Path) →
+      IsAt now p from → b ≡ are_too_many now.tree p (path_of path)
+  limit_seen {b} told from path r p at = of_tree bins root holds now view_is (λ (t : Tree). b ≡ are_too_many t p (path_of path)) (told from path (leads_at from path r p at))
+
+  module _ (there : (from : Node) × (path : List ℕ) × IsReached now from path reached × IsThere now from)
+      (few : (from : Node) → (path : List ℕ) → IsReached now from path reached → (p : Path) → IsAt now p from → are_too_many now.tree p (path_of path) ≡ false) where
+    -- they may be made
+    pub leads_there : (from : Node) × (path : List ℕ) × (l : LeadsTo bins.bytes from path reached.node reached.missing.now)
+        × (are_too_many (tree_in bins.bytes l.here.root) l.here.path (path_of path) ≡ false)
+    leads_there = (
+      there.0,
+      there.1,
+      leads_at there.0 there.1 there.2 there.3.0 there.3.1,
+      ap (λ (k : Keys). are_too_many k.tree there.3.0 (path_of there.1)) view_is ∙ few there.0 there.1 there.2 there.3.0 there.3.1,
+    )
+
+    module _ (new : Bins) (result : Result Node ArenaFault) (moment : ℕ)
+        (ok : (from : Node) → (path : List ℕ) → (l : LeadsTo bins.bytes from path reached.node reached.missing.now) →
+        IfOk result (λ made. IsCreated bins.bytes new.bytes l.here.root l.here.path from (path_of path) moment made)) where
+      pub holds_made : OnErr result (new ≡ bins) → TreeInvariant new.bytes root
+      holds_made err =
+          holds_after bins root holds now view_is (λ made. IsCreated bins.bytes new.bytes root there.3.0 there.0 (path_of there.1) moment made) new result (λ made c. c.holds)
+          (ok there.0 there.1 (leads_at there.0 there.1 there.2 there.3.0 there.3.1)) err
+
+      module _ (from : Node) (path : List ℕ) (r : IsReached now from path reached) (p : Path) (at : IsAt now p from) where
+        abbrev Its : Node → Type 0
+        Its made = IsCreated bins.bytes new.bytes root p from (path_of path) moment made
+
+        its : IfOk result Its
+        its = ok from path (leads_at from path r p at)
+
+        pub keys_seen : reached.missing.now ≢ [] → IfOk result (λ node. MakesKeys now (seen_as new root) p (path_of path) moment (record { node = node; is_new = true }))
+        keys_seen some =
+            let l = leads_at from path r p at in
+            if_ok Its _ result
+            (λ node c. keys_made bins root holds now view_is new from (path_of path) moment p at node c true
+            (new_some bins.bytes from l.here path reached.node reached.missing.now l.reaches moment (named reached.missing.now some))) its
+
+        pub lengths_seen : OnOk result (ChangesLengths now (seen_as new root) (last_there now.tree p (path_of path)) (with_first_length (missing now.tree p (path_of path))))
+        lengths_seen = on_made Its _ result (λ node c. lengths_made bins root holds now view_is new from (path_of path) moment p at node c) its
+
+        pub noted_seen : OnOk result (NotesMade (seen_as new root) (last_there now.tree p (path_of path)) (missing now.tree p (path_of path)))
+        noted_seen = on_made Its _ result (λ node c. noted_made bins root holds now view_is new from (path_of path) moment p at node c) its

@@ -1,0 +1,42 @@
+use Rattle.reg_names.specs.Names.{path_of}
+use Rattle.reg_arena.specs.Arena.{heap_of}
+use Rattle.reg_arena.specs.declared.ArenaFault.TheVariants.{Full}
+use Rattle.reg_tree.proofs.InsertKey.CreateKeepsNodes.{cells_created, room_created}
+use Rattle.reg_tree.proofs.InsertKey.CreateReached.{leads_at, place_at, leads_there, holds_made, keys_seen, lengths_seen, noted_seen}
+use Rattle.reg_tree.proofs.tree.Tree.create_at.Goals as goal
+
+pub create_at-requires-clause-reached : goal.create_at-requires-clause-reached
+create_at-requires-clause-reached c = leads_there _ _ c.self.invariant _ c.self.view_is c.args.reached c.requires.reached c.requires.few
+
+pub create_at-requires-clause-place : goal.create_at-requires-clause-place
+create_at-requires-clause-place c = place_at _ _ c.self.invariant _ c.self.view_is c.args.reached _ _ c.requires.reached.2
+
+pub invariant_of-self : goal.invariant_of-self
+invariant_of-self c =
+    holds_made _ _ c.self.invariant _ c.self.view_is c.args.reached c.requires.reached c.requires.few c.create_at.new.arena c.create_at.result c.args.moment
+    c.create_at.ensures.ok c.create_at.ensures.err
+
+pub returns-clause-ok : goal.returns-clause-ok
+returns-clause-ok c = λ from path r p at.
+    keys_seen _ _ c.self.invariant _ c.self.view_is c.args.reached c.requires.reached c.requires.few c.create_at.new.arena c.create_at.result c.args.moment
+    c.create_at.ensures.ok from path r p at c.requires.missing
+
+pub returns-clause-cells : goal.returns-clause-cells
+returns-clause-cells c = λ from path r p at.
+    cells_created _ _ c.self.invariant _ c.self.view_is (heap_of c.create_at.new.arena) c.create_at.result p (path_of path)
+    (c.create_at.ensures.cells from path (leads_at _ _ c.self.invariant _ c.self.view_is c.args.reached from path r p at))
+
+pub returns-clause-lengths : goal.returns-clause-lengths
+returns-clause-lengths c =
+    lengths_seen _ _ c.self.invariant _ c.self.view_is c.args.reached c.requires.reached c.requires.few c.create_at.new.arena c.create_at.result c.args.moment
+    c.create_at.ensures.ok
+
+pub returns-clause-made : goal.returns-clause-made
+returns-clause-made c =
+    noted_seen _ _ c.self.invariant _ c.self.view_is c.args.reached c.requires.reached c.requires.few c.create_at.new.arena c.create_at.result c.args.moment
+    c.create_at.ensures.ok
+
+pub returns-clause-space : goal.returns-clause-space
+returns-clause-space c = λ from path r p at.
+    room_created _ _ c.self.invariant _ c.self.view_is Full c.create_at.result p (path_of path)
+    (c.create_at.ensures.space from path (leads_at _ _ c.self.invariant _ c.self.view_is c.args.reached from path r p at))

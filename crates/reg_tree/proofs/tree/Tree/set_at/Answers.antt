@@ -1,0 +1,34 @@
+use Rattle.std.proofs.Common.{◌≡◌, ◌<◌, length, None}
+use Rattle.reg_heap.specs.declared.limits.TheConstants.{VALUES_LIMIT}
+use Rattle.reg_heap.specs.Paths.{Tree}
+use Rattle.reg_heap.specs.Edits.{values_at}
+use Rattle.reg_heap.specs.Members.{index_named}
+use Rattle.reg_tree.proofs.Invariant.NodeLemmas.{there_at, to_tree, holds_then, changed_ok, changed_nodes}
+use Rattle.reg_tree.proofs.Invariant.LengthsSeen.{lengths_changed}
+use Rattle.reg_tree.proofs.tree.Tree.set_at.Goals as goal
+
+pub set_at-requires-clause-place : goal.set_at-requires-clause-place
+set_at-requires-clause-place c =
+    let n = c.requires.node in (
+      there_at _ _ c.self.invariant _ c.self.view_is _ n,
+      to_tree _ _ c.self.invariant _ c.self.view_is (λ (t : Tree). c.args.place ≡ index_named c.args.name.now (values_at t n.0)) (c.requires.place n.0 n.1),
+    )
+
+pub set_at-requires-clause-room : goal.set_at-requires-clause-room
+set_at-requires-clause-room c =
+    let n = c.requires.node in (
+      there_at _ _ c.self.invariant _ c.self.view_is _ n,
+      to_tree _ _ c.self.invariant _ c.self.view_is (λ (t : Tree). c.args.place ≡ None → length (values_at t n.0) < VALUES_LIMIT) (c.requires.room n.0 n.1),
+    )
+
+pub invariant_of-self : goal.invariant_of-self
+invariant_of-self c = holds_then _ _ c.self.invariant _ c.self.view_is _ c.set_at.result c.args.node c.requires.node _ c.set_at.ensures.ok c.set_at.ensures.err
+
+pub returns-clause-ok : goal.returns-clause-ok
+returns-clause-ok c = changed_ok _ _ c.self.invariant _ c.self.view_is _ c.set_at.result c.args.node c.requires.node _ c.set_at.ensures.ok c.set_at.ensures.err
+
+pub returns-clause-nodes : goal.returns-clause-nodes
+returns-clause-nodes c = changed_nodes _ _ c.self.invariant _ c.self.view_is _ c.set_at.result c.args.node c.requires.node _ c.set_at.ensures.ok c.set_at.ensures.err
+
+pub returns-clause-lengths : goal.returns-clause-lengths
+returns-clause-lengths c = lengths_changed _ _ c.self.invariant _ c.self.view_is _ c.set_at.result c.args.node _ c.set_at.ensures.lengths
