@@ -11,13 +11,16 @@
 mod arena;
 mod both;
 mod cells;
+mod depths;
 mod handles;
 mod hives;
 mod key_script;
 mod keys;
+mod lists;
 mod makes;
 mod maps;
 mod open_hive;
+mod ratios;
 mod script;
 mod times;
 mod values;
@@ -36,7 +39,10 @@ fn count_all(rt: &(impl Print + Clock), alloc: Global) -> Result<()> {
     handles::count(rt, alloc)?;
     makes::count(rt, alloc)?;
     script::count(rt, alloc)?;
-    key_script::count(rt, alloc)
+    key_script::count(rt, alloc)?;
+    ratios::count(rt, alloc)?;
+    depths::count(rt, alloc)?;
+    lists::count(rt, alloc)
 }
 
 /// Prints how long the calls of a subject take.
@@ -45,8 +51,13 @@ fn measure(rt: &(impl Print + Clock), alloc: Global, subject: Subject) -> Result
         Subject::Arena => arena::measure(rt, alloc),
         Subject::Handles => handles::measure(rt, alloc),
         Subject::Keys => keys::measure(rt, alloc),
+        Subject::Lists => lists::measure(rt, alloc),
         Subject::Makes => makes::measure(rt, alloc),
         Subject::Maps => maps::measure(rt, alloc),
+        Subject::Ratios => {
+            ratios::measure(rt, alloc)?;
+            depths::measure(rt, alloc)
+        }
         Subject::Script => script::measure(rt, alloc),
         Subject::Values => values::measure(rt, alloc),
     }

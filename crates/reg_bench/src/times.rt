@@ -28,6 +28,23 @@ impl Times {
         }
     }
 
+    /// Prints the mean of both for a call, and how many times as long the hive took as what stands beside it.
+    pub fn print_calls(
+        self,
+        rt: &impl Print,
+        what: &str,
+        beside: &str,
+        calls: usize,
+    ) -> Result<()> {
+        let hive = PerCall::new(self.hive, calls).nanos();
+        let maps = PerCall::new(self.maps, calls).nanos();
+        let ratio = Ratio::new(hive, maps);
+        println!(rt;
+            "{what}, {calls} calls: hive {hive} ns a call, {beside} {maps} ns, {ratio} times"
+        )?;
+        Ok(())
+    }
+
     /// Prints the mean of both for a key, and how many times as long the hive took.
     pub fn print(self, rt: &impl Print, what: &str, keys: usize) -> Result<()> {
         let hive = PerCall::new(self.hive, keys).nanos();

@@ -1,4 +1,6 @@
-pub mod LiveCellLemmas
-pub mod ChanceLemmas
 mod RowsOfConstants
+pub mod ChanceLemmas
+pub mod KeyChainLemmas
 pub mod KeyStepLemmas
+pub mod LiveCellLemmas
+pub mod OpenKeyLemmas

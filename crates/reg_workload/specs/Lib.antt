@@ -1,5 +1,9 @@
+pub mod KeyChains
 pub mod LiveCells
+pub mod OpenKeys
 pub mod Operations
 pub mod PlainJournals
 pub mod PlannedKeys
 pub mod Subjects
+pub mod Turns
+pub mod ValueSteps

@@ -1,7 +1,8 @@
 //! Numbers in order, and numbers taken at random.
-ghost use Rattle.std.specs.Prelude.{◌≡◌, ◌+◌, ◌<◌, length, min, IfOk, OnOk, ℕ};
+ghost use Rattle.std.specs.Prelude.{◌≡◌, ◌+◌, ◌<◌, length, map, min, IfOk, OnOk, ℕ};
 ghost use Rattle.std.specs.List.{range_with_len};
 ghost use Rattle.reg_heap.specs.Kinds.{times};
+ghost use Rattle.reg_workload.specs.Turns.{turn_of};
 
 use rand_core::utils::NextWord;
 use rand_pcg::Pcg32;
@@ -14,6 +15,17 @@ pub fn numbers_below(alloc: Global, bound: u32) -> Result<Vec<u32>, AllocError>
     let mut numbers = Vec::with_capacity(alloc, bound as usize)?;
     for number in 0..bound {
         numbers.push(number)?;
+    }
+    Ok(numbers)
+}
+
+/// So many numbers, those below a bound in turn and over and over; below 0 each is 0.
+pub fn numbers_in_turn(alloc: Global, bound: u32, count: u32) -> Result<Vec<u32>, AllocError>
+    ensures { IfOk result (λ numbers. numbers.items ≡ map (turn_of bound) (range_with_len 0 count)) }
+{
+    let mut numbers = Vec::with_capacity(alloc, count as usize)?;
+    for turn in 0..count {
+        numbers.push(turn.checked_rem(bound).unwrap_or(0))?;
     }
     Ok(numbers)
 }

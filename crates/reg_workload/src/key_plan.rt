@@ -1,5 +1,6 @@
 //! Which keys are made, below which parents, and the calls that make, use and delete one.
 ghost use Rattle.std.specs.Prelude.{◌≡◌, ◌*◌, IfOk, min, string_bytes};
+ghost use Rattle.reg_model.specs.declared.call.Change.TheVariants.{DeleteValue};
 ghost use Rattle.reg_workload.specs.PlannedKeys.{mixed, ending_of, name_of, value_name_of, data_size_of, data_of};
 ghost use Rattle.reg_workload.specs.PlannedKeys.{creates, opens, sets, asks, deletes, parent_of, above_of, makes_parent, makes_parents};
 
@@ -189,6 +190,16 @@ pub fn query_call(alloc: Global, value: u32, handle: u64) -> Result<Query, Alloc
         handle,
         name: value_name(alloc, value)?,
         room: Some(u32::MAX),
+    })
+}
+
+/// The call that deletes a value of a key by the key's handle.
+pub fn delete_value_call(alloc: Global, value: u32, handle: u64) -> Result<Change, AllocError>
+    ensures { IfOk result (λ call. call ≡ DeleteValue handle (value_name_of value)) }
+{
+    Ok(Change::DeleteValue {
+        handle,
+        name: value_name(alloc, value)?,
     })
 }
 

@@ -58,7 +58,7 @@ impl KeyStep {
     }
 
     /// Adds the calls that do it to a key; `above` is its parent's handle, and `handle` the key's, or the one that is opened.
-    fn push(
+    pub(crate) fn push(
         self,
         alloc: Global,
         with_values: bool,

@@ -1,4 +1,5 @@
 //! A key among plain maps.
+ghost use Rattle.std.specs.Prelude.{◌<◌, length, IfSome};
 
 use reg_model::{AnswerBody, Bytes};
 use reg_names::same_name;
@@ -46,7 +47,9 @@ impl PlainKey {
     }
 
     /// Where the value of a name stands.
-    fn position(&self, name: &[u8]) -> Option<usize> {
+    fn position(&self, name: &[u8]) -> Option<usize>
+        ensures { IfSome result (λ place. place < length self.now.values.items) }
+    {
         self.values
             .iter()
             .position(|value| same_name(value.name.as_slice(), name))
@@ -79,5 +82,11 @@ impl PlainKey {
             bytes: copy,
         })?;
         Ok(())
+    }
+    /// Deletes a value; those behind it move up.
+    pub fn delete(&mut self, name: &[u8]) {
+        if let Some(place) = self.position(name) {
+            self.values.remove(place);
+        }
     }
 }

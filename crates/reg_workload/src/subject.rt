@@ -11,10 +11,14 @@ pub enum Subject {
     Handles,
     /// Making keys and finding them by their paths.
     Keys,
+    /// Calls on a key of many values, beside a plain search of the list.
+    Lists,
     /// Making keys as a registry's are, and deleting them.
     Makes,
     /// The calls on keys beside those of plain maps.
     Maps,
+    /// Single calls by handles that stay open, beside those of plain maps.
+    Ratios,
     /// A script of many lines.
     Script,
     /// Setting values and asking for them.
@@ -22,7 +26,7 @@ pub enum Subject {
 }
 
 impl Subject {
-    /// The subject of a name, `arena`, `handles`, `keys`, `makes`, `maps`, `script` or `values`; `None` of any other.
+    /// The subject of a name, `arena`, `handles`, `keys`, `lists`, `makes`, `maps`, `ratios`, `script` or `values`; `None` of any other.
     #[tactic(auto, unfolding(crate::specs::Subjects::subject_named))]
     pub fn named(name: &[u8]) -> Option<Subject>
         ensures { result ≡ subject_named name.now }
@@ -36,11 +40,17 @@ impl Subject {
         if name == b"keys".as_slice() {
             return Some(Subject::Keys);
         }
+        if name == b"lists".as_slice() {
+            return Some(Subject::Lists);
+        }
         if name == b"makes".as_slice() {
             return Some(Subject::Makes);
         }
         if name == b"maps".as_slice() {
             return Some(Subject::Maps);
+        }
+        if name == b"ratios".as_slice() {
+            return Some(Subject::Ratios);
         }
         if name == b"script".as_slice() {
             return Some(Subject::Script);

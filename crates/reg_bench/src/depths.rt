@@ -1,0 +1,81 @@
+//! Questions by handles of keys that stand high or deep in a chain.
+
+use crate::hives::{apply_all, new_hive, read_all};
+use anyhow::Result;
+use reg_calls::Hive;
+use reg_workload::{PerCall, ValueStep, make_chain, query_times};
+use std::alloc::Global;
+use std::rt::Clock;
+use std::time::{Duration, Instant};
+
+/// The depths of the keys that are asked while no time is taken.
+const SMALL: [u32; 2] = [1, 3];
+
+/// The depths of the keys that are asked while time is taken. A key's handle is its depth.
+const DEPTHS: [u32; 2] = [1, 500];
+
+/// How many questions are asked of one key and then of the other.
+const BATCH: u32 = 1_000;
+
+/// How often.
+const BATCHES: u32 = 50;
+
+/// Makes a chain as deep as the deeper of the keys, and sets a value of both.
+fn fill(alloc: Global, hive: &mut Hive, depths: [u32; 2]) -> Result<()> {
+    apply_all(hive, make_chain(alloc, depths[1])?)?;
+    for depth in depths {
+        apply_all(hive, ValueStep::Set.changes(alloc, &[0], u64::from(depth))?)?;
+    }
+    Ok(())
+}
+
+/// Asks for the value of a key, and tells how many bytes were told.
+fn ask(alloc: Global, hive: &Hive, depth: u32, calls: u32) -> Result<u64> {
+    let queries = query_times(alloc, calls, u64::from(depth))?;
+    read_all(hive, queries.as_slice())
+}
+
+/// Asks two questions of each key, and prints how many bytes were told.
+pub fn count(rt: &impl Print, alloc: Global) -> Result<()> {
+    let mut hive = new_hive(alloc)?;
+    count_in(rt, alloc, &mut hive)
+}
+
+fn count_in(rt: &impl Print, alloc: Global, hive: &mut Hive) -> Result<()> {
+    fill(alloc, hive, SMALL)?;
+    let mut told: u64 = 0;
+    for depth in SMALL {
+        told = told.saturating_add(ask(alloc, hive, depth, 2)?);
+    }
+    println!(rt; "depths: {} entries, {told} bytes told", hive.len())?;
+    Ok(())
+}
+
+/// Prints the times of a question by a handle of a key right below the root, and of one deep below it.
+pub fn measure(rt: &(impl Print + Clock), alloc: Global) -> Result<()> {
+    let mut hive = new_hive(alloc)?;
+    measure_in(rt, alloc, &mut hive)
+}
+
+fn measure_in(rt: &(impl Print + Clock), alloc: Global, hive: &mut Hive) -> Result<()> {
+    fill(alloc, hive, DEPTHS)?;
+    let mut times = [Duration::ZERO; 2];
+    for _batch in 0..BATCHES {
+        for (time, depth) in times.iter_mut().zip(DEPTHS) {
+            *time = time.saturating_add(time_batch(rt, alloc, hive, depth)?);
+        }
+    }
+    for (time, depth) in times.iter().zip(DEPTHS) {
+        let asked = PerCall::new(*time, (BATCH * BATCHES) as usize);
+        println!(rt; "query at depth {depth}, {asked}")?;
+    }
+    Ok(())
+}
+
+// The questions are made ready before the clock starts.
+fn time_batch(rt: &impl Clock, alloc: Global, hive: &Hive, depth: u32) -> Result<Duration> {
+    let queries = query_times(alloc, BATCH, u64::from(depth))?;
+    let start = Instant::now(rt)?;
+    let _told = read_all(hive, queries.as_slice())?;
+    Ok(start.elapsed(rt)?)
+}

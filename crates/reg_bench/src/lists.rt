@@ -1,0 +1,166 @@
+//! Calls on a key of many values, beside a plain search of the list.
+
+use crate::cells::print_cells;
+use crate::hives::{apply_all, new_hive};
+use crate::times::Times;
+use anyhow::{Result, bail};
+use reg_calls::Hive;
+use reg_model::Change;
+use reg_workload::{ALL_RIGHTS, PlainList, ValueStep, numbers_below, take_at_random};
+use std::alloc::Global;
+use std::rt::Clock;
+use std::time::Instant;
+
+/// How many values the key has while no time is taken, and how many calls of a kind there are.
+const SMALL: [u32; 2] = [10, 6];
+
+/// How many values the key has while time is taken, which is as many as it may have, and how many calls of a kind there are.
+const LARGE: [u32; 2] = [16_384, 2_048];
+
+/// How many calls are timed together. Those of a batch that delete are told a list that is shorter by the ones before, at most by
+/// one in 256 of the larger key.
+const BATCH: usize = 64;
+
+/// The seed by which values are chosen.
+const SEED: u64 = 42;
+
+/// The handle of the key, which is the root.
+const ROOT: u64 = 0;
+
+/// Opens the root and sets so many values, in the hive and in the list.
+fn fill(alloc: Global, hive: &mut Hive, list: &mut PlainList, values: u32) -> Result<()> {
+    let mut calls = Vec::new(alloc);
+    calls.push(Change::OpenRoot { mask: ALL_RIGHTS })?;
+    apply_all(hive, calls)?;
+    let numbers = numbers_below(alloc, values)?;
+    set_all(alloc, hive, list, numbers.as_slice())
+}
+
+/// Sets these values, in the hive and in the list.
+fn set_all(alloc: Global, hive: &mut Hive, list: &mut PlainList, values: &[u32]) -> Result<()> {
+    let calls = ValueStep::Set.changes(alloc, values, ROOT)?;
+    list.apply_all(calls.as_slice())?;
+    apply_all(hive, calls)
+}
+
+/// Values chosen at random, none of them twice.
+fn chosen(alloc: Global, values: u32, calls: u32) -> Result<Vec<u32>> {
+    let mut numbers = numbers_below(alloc, values)?;
+    Ok(take_at_random(alloc, &mut numbers, calls as usize, SEED)?)
+}
+
+/// Sets these values to what they are, and tells how long that took, and how long a search for each.
+fn time_sets(
+    rt: &impl Clock,
+    alloc: Global,
+    hive: &mut Hive,
+    list: &PlainList,
+    values: &[u32],
+) -> Result<Times> {
+    let mut times = Times::ZERO;
+    for batch in values.chunks(BATCH) {
+        let calls = ValueStep::Set.changes(alloc, batch, ROOT)?;
+        times = times.plus(time_batch(rt, hive, list, calls)?);
+    }
+    Ok(times)
+}
+
+/// Deletes these values, and tells how long that took, and how long a search for each. After each batch they are set again, and so
+/// come last.
+fn time_deletes(
+    rt: &impl Clock,
+    alloc: Global,
+    hive: &mut Hive,
+    list: &mut PlainList,
+    values: &[u32],
+) -> Result<Times> {
+    let mut times = Times::ZERO;
+    for batch in values.chunks(BATCH) {
+        let calls = ValueStep::Delete.changes(alloc, batch, ROOT)?;
+        times = times.plus(time_batch(rt, hive, list, calls)?);
+        let calls = ValueStep::Delete.changes(alloc, batch, ROOT)?;
+        list.apply_all(calls.as_slice())?;
+        set_all(alloc, hive, list, batch)?;
+    }
+    Ok(times)
+}
+
+// The list stays as it is: it tells how long a search takes that finds each value.
+fn time_batch(
+    rt: &impl Clock,
+    hive: &mut Hive,
+    list: &PlainList,
+    calls: Vec<Change>,
+) -> Result<Times> {
+    let start = Instant::now(rt)?;
+    let found = list.search_all(calls.as_slice());
+    let maps = start.elapsed(rt)?;
+    if found != calls.len() {
+        bail!("a value was not found in the list");
+    }
+    let start = Instant::now(rt)?;
+    apply_all(hive, calls)?;
+    let hive = start.elapsed(rt)?;
+    Ok(Times { hive, maps })
+}
+
+/// How long the calls of each kind took.
+#[derive(Clone, Copy)]
+struct Calls {
+    set: Times,
+    delete: Times,
+}
+
+fn time(
+    rt: &impl Clock,
+    alloc: Global,
+    hive: &mut Hive,
+    list: &mut PlainList,
+    size: [u32; 2],
+) -> Result<Calls> {
+    let [values, calls] = size;
+    fill(alloc, hive, list, values)?;
+    let chosen = chosen(alloc, values, calls)?;
+    Ok(Calls {
+        set: time_sets(rt, alloc, hive, list, chosen.as_slice())?,
+        delete: time_deletes(rt, alloc, hive, list, chosen.as_slice())?,
+    })
+}
+
+/// Does calls of each kind, and prints how many entries there are.
+pub fn count(rt: &(impl Print + Clock), alloc: Global) -> Result<()> {
+    let mut hive = new_hive(alloc)?;
+    count_in(rt, alloc, &mut hive)
+}
+
+fn count_in(rt: &(impl Print + Clock), alloc: Global, hive: &mut Hive) -> Result<()> {
+    let mut list = PlainList::new(alloc)?;
+    time(rt, alloc, hive, &mut list, SMALL)?;
+    let [values, calls] = SMALL;
+    println!(rt;
+        "lists: {values} values, {calls} set and {calls} deleted, {} entries",
+        hive.len()
+    )?;
+    Ok(())
+}
+
+/// Prints the times of setting and deleting a value of a key with as many as it may have, beside those of a plain search, and what
+/// the cells are then.
+pub fn measure(rt: &(impl Print + Clock), alloc: Global) -> Result<()> {
+    let mut hive = new_hive(alloc)?;
+    measure_in(rt, alloc, &mut hive)
+}
+
+fn measure_in(rt: &(impl Print + Clock), alloc: Global, hive: &mut Hive) -> Result<()> {
+    let mut list = PlainList::new(alloc)?;
+    let times = time(rt, alloc, hive, &mut list, LARGE)?;
+    let [values, calls] = LARGE;
+    println!(rt; "lists, {values} values:")?;
+    print_cells(rt, alloc, hive.arena())?;
+    times
+        .set
+        .print_calls(rt, "set", "a plain search", calls as usize)?;
+    times
+        .delete
+        .print_calls(rt, "delvalue", "a plain search", calls as usize)
+}
