@@ -61,9 +61,6 @@ pub leaf-needs : (heap : Heap) (count offset index : ℕ) → (count ≡ 0 → �
     (length entries ≡ count)
 leaf-needs heap count offset index some s = let h = leaf-of heap count offset some s.0 s.1 in (s.0, h.0, h.1)
 
-pub index-fits : (heap : Heap) (count offset index : ℕ) → ((entries : List Entry) × AreSubkeys heap count offset entries × (index ≤ length entries)) → index ≤ count
-index-fits heap count offset index s = omega (arith, s.2, s.1.number)
-
 pub gap-of : (old new : Heap) (count offset at index : ℕ) → (count ≡ 0 → ⊥) → ((entries : List Entry) → IsLeaf old offset entries → length entries ≡ count → HasGap new at index entries)
     → (entries : List Entry) → AreSubkeys old count offset entries → HasGap new at index entries
 gap-of old new count offset at index some gap entries s = let h = leaf-of old count offset some entries s in gap entries h.0 h.1
@@ -113,8 +110,3 @@ module _ (heap : Heap) (count offset cell : ℕ) (some : count ≡ 0 → ⊥) (r
   fresh-apart e =
       let same : length (held heap cell) ≡ length (held heap offset) = ap (λ z. length (held heap z)) e in
       absurd (omega (arith, same, carved.1, next.size_is, next.short))
-
-pub move-moves : (old new : Heap) (count offset cell index : ℕ) → ((entries : List Entry) × AreSubkeys old count offset entries × (index ≤ length entries)) →
-    (count ≡ 0 → ⊥) → CellFrame old new (λ z. times z (offset ∷ cell ∷ [])) (λ z. times z (cell ∷ [])) → Moves old new (own old count offset ++ taken (Some cell)) (cell ∷ [])
-move-moves old new count offset cell index s some w =
-    subst (λ cells. Moves old new (cells ++ taken (Some cell)) (cell ∷ [])) (sym (own-leaf old count offset s.0 s.1 (omega (arith, some)))) w

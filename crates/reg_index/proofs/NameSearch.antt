@@ -1,6 +1,6 @@
 -- A search among the names of a list's keys.
 use Rattle.std.proofs.Common.{◌≡◌, ℕ, zero, suc, ◌+◌, ◌<◌, ◌≤◌, Some, None, IsSome, Option, List, [], ◌∷◌, length, get_or, refl, sym, ap, ◌∙◌, subst, arith}
-use Rattle.std.specs.Prelude.{Ok, Err}
+use Rattle.std.specs.Prelude.{Result, Ok, Err}
 use Rattle.std.specs.List.{AllByRecursion}
 use Rattle.std.specs.Option.{option_and_then}
 use Rattle.std.specs.Result.{result_ok}
@@ -34,8 +34,12 @@ key-is heap key content here = ap (option_and_then (λ content. result_ok (nk_of
 pub name-read : (heap : Heap) (key : ℕ) (content : List ℕ) (record_is : KeyRecord) → heap key ≡ Some content → nk_of content ≡ Ok record_is → record_is.name ≡ name_at heap key
 name-read heap key content r here reads = ap name_or_none (sym (key-is heap key content here ∙ ap result_ok reads))
 
-pub key-read : (heap : Heap) (key : ℕ) (content : List ℕ) (fault : RecordFault) → IsSome (key_at heap key) → heap key ≡ Some content → nk_of content ≡ Err fault → ⊥
-key-read heap key content fault s here reads = absurd (false≢true (subst IsSome (key-is heap key content here ∙ ap result_ok reads) s))
+pub key-reads : (heap : Heap) (key : ℕ) (content : List ℕ) → IsSome (key_at heap key) → heap key ≡ Some content → (record_is : KeyRecord) × (nk_of content ≡ Ok record_is)
+key-reads heap key content s here = by (nk_of content) refl
+  where
+    by : (r : Result KeyRecord RecordFault) → nk_of content ≡ r → (record_is : KeyRecord) × (nk_of content ≡ Ok record_is)
+    by (Ok r) e = (r, e)
+    by (Err fault) e = absurd (false≢true (subst IsSome (key-is heap key content here ∙ ap result_ok e) s))
 
 -- ---- names of entries
 

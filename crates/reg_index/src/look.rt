@@ -10,7 +10,7 @@ ghost use Rattle.reg_index.specs.Subkeys.{AreSubkeys, IsIndexFor, name_at, names
 use crate::SubkeysIndex;
 use reg_arena::Arena;
 use reg_names::name_order;
-use reg_records::{ListForm, entry_at, read_nk};
+use reg_records::{ListForm, entry_at, nk_name};
 use std::cmp::Ordering;
 
 /// The name of the key at an offset.
@@ -18,10 +18,7 @@ pub(crate) fn name_of(arena: &Arena, key: u32) -> &[u8]
     requires { IsSome (key_at (heap_of arena.now) key) }
     ensures { result.now ≡ name_at (heap_of arena.now) key }
 {
-    match read_nk(arena.content(key)) {
-        Ok(node) => node.name,
-        Err(_) => unreachable!(),
-    }
+    nk_name(arena.content(key))
 }
 
 /// The offset of the key at an index, counted from 0 in the order of folded names.

@@ -2,11 +2,11 @@
 //!
 //! Suhanov, Windows registry file format specification, section "Key node".
 
-ghost use Rattle.std.specs.Prelude.{◌≡◌, ◌+◌, ◌<◌, ◌≤◌, ◌^◌, ◌++◌, length, IsSome, MatchResult, IsTrue};
+ghost use Rattle.std.specs.Prelude.{◌≡◌, ◌+◌, ◌<◌, ◌≤◌, ◌^◌, ◌++◌, length, Ok, IsSome, MatchResult, IsTrue};
 ghost use Rattle.byteorder.specs.Endian.{little_bytes};
 ghost use Rattle.reg_arena.specs.Arena.{heap_of};
 ghost use Rattle.reg_records.specs.RecordCells.{held, HasRoom, WritesRecord, WritesPart, Rereads};
-ghost use Rattle.reg_records.specs.KeyNodes.{FitKey, is_in_profile, nk_of, nk_fields_of, nk_head, nk_bytes, key_at, IsPlainKey};
+ghost use Rattle.reg_records.specs.KeyNodes.{FitKey, KeyRecord, is_in_profile, nk_of, nk_fields_of, nk_head, nk_bytes, key_at, IsPlainKey};
 
 use crate::cells::{write_part, write_record};
 use crate::{
@@ -112,6 +112,15 @@ pub fn read_nk(content: &[u8]) -> Result<KeyNode<'_>, RecordFault>
     }
     let name = &content[HEAD..HEAD + length];
     Ok(KeyNode { fields, name })
+}
+
+/// The name of a key node, from the start of what a cell holds that is known to read as one: nothing but its length is looked at.
+pub fn nk_name(content: &[u8]) -> &[u8]
+    requires { (record_is : KeyRecord) × (nk_of content.now ≡ Ok record_is) }
+    ensures { (record_is : KeyRecord) → nk_of content.now ≡ Ok record_is → result.now ≡ record_is.name }
+{
+    let length = usize::from(half_at(content, 72));
+    &content[HEAD..HEAD + length]
 }
 
 /// The fixed part as it is written.

@@ -2,11 +2,11 @@
 //!
 //! Suhanov, Windows registry file format specification, section "Key value".
 
-ghost use Rattle.std.specs.Prelude.{◌≡◌, ◌+◌, ◌<◌, ◌^◌, ◌++◌, length, IsSome, MatchResult};
+ghost use Rattle.std.specs.Prelude.{◌≡◌, ◌+◌, ◌<◌, ◌^◌, ◌++◌, length, Ok, IsSome, MatchResult};
 ghost use Rattle.byteorder.specs.Endian.{little_bytes};
 ghost use Rattle.reg_arena.specs.Arena.{heap_of};
 ghost use Rattle.reg_records.specs.RecordCells.{held, HasRoom, WritesRecord, WritesPart, Rereads};
-ghost use Rattle.reg_records.specs.KeyValues.{FitValue, vk_of, vk_head, vk_bytes, value_record_at, IsPlainValue};
+ghost use Rattle.reg_records.specs.KeyValues.{FitValue, KeyValueRecord, vk_of, vk_head, vk_bytes, value_record_at, IsPlainValue};
 
 use crate::cells::{write_part, write_record};
 use crate::{RecordFault, half_at, half_bytes, is_signed, word_at, word_bytes};
@@ -65,6 +65,15 @@ pub fn read_vk(content: &[u8]) -> Result<ValueRecord<'_>, RecordFault>
         },
         name: &content[HEAD..HEAD + length],
     })
+}
+
+/// The name of a key value, from the start of what a cell holds that is known to read as one: nothing but its length is looked at.
+pub fn vk_name(content: &[u8]) -> &[u8]
+    requires { (record_is : KeyValueRecord) × (vk_of content.now ≡ Ok record_is) }
+    ensures { (record_is : KeyValueRecord) → vk_of content.now ≡ Ok record_is → result.now ≡ record_is.name }
+{
+    let length = usize::from(half_at(content, 2));
+    &content[HEAD..HEAD + length]
 }
 
 /// The fixed part as it is written.

@@ -9,7 +9,7 @@ ghost use Rattle.reg_heap.specs.Members.{index_named};
 ghost use Rattle.reg_arena.specs.Arena.{heap_of};
 ghost use Rattle.reg_records.specs.RecordCells.{held};
 ghost use Rattle.reg_records.specs.OffsetRows.{offset_in};
-ghost use Rattle.reg_records.specs.KeyValues.{value_record_at};
+ghost use Rattle.reg_records.specs.KeyValues.{KeyValueRecord, value_record_at};
 ghost use Rattle.reg_records.specs.BigData.{is_inline, inline_size};
 ghost use Rattle.reg_shape.specs.Nodes.{members_at};
 ghost use Rattle.reg_values.specs.ValueLists.{AreValues, Tells, OfRead};
@@ -17,7 +17,7 @@ ghost use Rattle.reg_values.specs.ValueLists.{AreValues, Tells, OfRead};
 use crate::{INLINE, ValuesList};
 use reg_arena::Arena;
 use reg_names::same_name;
-use reg_records::{ValueRecord, offset_at, read_vk};
+use reg_records::{ValueRecord, offset_at, read_vk, vk_name};
 
 /// A value, without its bytes.
 #[derive(Clone, Copy, Debug)]
@@ -50,14 +50,26 @@ pub(crate) fn cell_of(arena: &Arena, list: ValuesList, index: u32) -> u32
     offset_at(arena.content(list.offset), index)
 }
 
+/// The name in the value's record in a cell. A search reads no more of a record than this.
+fn name_at(arena: &Arena, cell: u32) -> &[u8]
+    requires { IsSome (value_record_at (heap_of arena.now) cell) }
+    ensures { (record_is : KeyValueRecord) → value_record_at (heap_of arena.now) cell ≡ Some record_is → result.now ≡ record_is.name }
+{
+    vk_name(arena.content(cell))
+}
+
 /// The index of the first value of that name, after folding, counted from 0; `None` where there is none.
 pub fn find(arena: &Arena, list: ValuesList, name: &[u8]) -> Option<u32>
     requires { AreValues (heap_of arena.now) list.count list.offset }
     ensures { OfRead (members_at list.count list.offset) (heap_of arena.now) (λ members met. result ≡ index_named name.now members) }
 {
+    if list.count == 0 {
+        return None;
+    }
+    let row = arena.content(list.offset);
     for index in 0..list.count {
-        let record = record_at(arena, cell_of(arena, list, index));
-        if same_name(record.name, name) {
+        let cell = offset_at(row, index);
+        if same_name(name_at(arena, cell), name) {
             return Some(index);
         }
     }

@@ -217,6 +217,16 @@ record-there heap offset s =
     let o = value_record_at-open heap offset r.0 r.1 in
     is-some _ o.0 o.1
 
+-- the record that is read in a content
+pub record-is : (heap : Heap) (offset : ℕ) (content : List ℕ) (r : KeyValueRecord) → heap offset ≡ Some content → value_record_at heap offset ≡ Some r → vk_of content ≡ Ok r
+record-is heap offset content r e reads =
+    let o = value_record_at-open heap offset r reads in
+    let same : o.0 ≡ content = same_Some _ _ (sym o.1 ∙ e) in
+    ap vk_of (sym same) ∙ o.2
+
+pub record-reads : (heap : Heap) (offset : ℕ) (content : List ℕ) → heap offset ≡ Some content → IsSome (value_record_at heap offset) → (r : KeyValueRecord) × (vk_of content ≡ Ok r)
+record-reads heap offset content e s = let r = some-of (value_record_at heap offset) s in (r.0, record-is heap offset content r.0 e r.1)
+
 -- ---- the search for a name
 
 pub add-to : ℕ → Option ℕ → Option ℕ
@@ -308,3 +318,8 @@ named-stands heap count offset values name index e =
 
 pub list-there : (heap : Heap) (count offset : ℕ) → AreValues heap count offset → 0 < count → IsSome (heap offset)
 list-there heap count offset values l = (stands heap count offset values.members values.met 0 values.reads values.written.each l).list_here
+
+-- no values, no index
+pub no-index : (name : List ℕ) (members : List Member) → length members ≡ 0 → None ≡ index_named name members
+no-index name [] e = refl
+no-index name (v ∷ vs) e = absurd (omega (arith, e))

@@ -9,5 +9,5 @@ use Rattle.reg_values.proofs.look.find.Given as goal
 
 abbrev pub invariant-loop-index : goal.invariant-loop-index
 invariant-loop-index l =
-    (members : List Member) → (met : List Found) → members_at l.list.count l.list.offset (heap_of l.arena) ≡ Some (members, met) →
+    (members : List Member) → (met : List Found) → members_at l.fn.list.count l.fn.list.offset (heap_of l.arena) ≡ Some (members, met) →
     add-to l.index (index_named l.name (drop l.index members)) ≡ index_named l.name members

@@ -1,0 +1,19 @@
+use Rattle.std.proofs.Common.{arith, ap, sym, ◌∙◌, take, drop, List, ℕ}
+use Rattle.reg_records.specs.KeyValues.{KeyValueRecord}
+use Rattle.reg_records.proofs.KeyValueCodec.{vk-open}
+use Rattle.reg_records.proofs.vk.vk_name.Goals as goal
+
+pub half_at-requires : goal.half_at-requires
+half_at-requires c = let v = (vk-open _ _ c.requires.1).long in omega (arith, v)
+
+pub slice_bounds-result-end : goal.slice_bounds-result-end
+slice_bounds-result-end c =
+    let v = (vk-open _ _ c.requires.1).enough in
+    let length = c.from-length.ensures in
+    let read = c.half_at.ensures in
+    search (arith, v, length, read)
+
+pub returns : goal.returns
+returns c = λ record_is e.
+    let v = vk-open _ _ e in
+    ap (λ (n : ℕ). take n (drop 20 c.args.content.now)) (omega (arith) ∙ (c.from-length.ensures ∙ c.half_at.ensures)) ∙ sym (ap (λ (r : KeyValueRecord). r.name) v.same)
