@@ -18,7 +18,7 @@ use Rattle.reg_calls.specs.declared.lack.Lack.{Lack}
 use Rattle.reg_calls.specs.declared.lack.Lack.TheVariants.{Space, Memory as Short}
 use Rattle.reg_calls.specs.Shortages.{LacksSpace, is_closing}
 use Rattle.reg_calls.specs.Internal.Stores.{at, IsMade}
-use Rattle.reg_calls.specs.Internal.Admissions.{IsClear, Admits, IsRefused, status_told}
+use Rattle.reg_calls.specs.Internal.Admissions.{IsClear, Admits, IsNotAdmitted, status_told}
 use Rattle.reg_calls.specs.Views.{View, state, status_of, IsApplied}
 use Rattle.reg_calls.proofs.HiveInvariantLemmas.{applied-by, view-unchanged}
 use Rattle.reg_calls.proofs.KnownKeys.{unmade}
@@ -35,7 +35,7 @@ admits-clear entries store session change (Close found) a = subst (IsClear entri
 
 -- one that wasn't is refused, and nothing changed
 pub refused-as : (v new : View) (session moment : ℕ) (change : Change) (reply : ChangeReply) (n : ℕ) (store : Store) (why : Refusal) → state v ≡ at n store →
-    IsRefused n store session change why → reply ≡ refusal (status_told why) → new ≡ v → IsApplied no_callbacks v new session moment change reply
+    IsNotAdmitted n store session change why → reply ≡ refusal (status_told why) → new ≡ v → IsApplied no_callbacks v new session moment change reply
 refused-as v new session moment change reply n store (Cause status) is cause told same = applied-by v new session moment change reply n store (Some status) is (sym cause) (told, same)
 refused-as v new session moment change reply n store Memory is short told same =
     applied-by v new session moment change reply n store None is (sym short.0) (inr (record { why = inl (told, short.1); same = same }))

@@ -4,7 +4,7 @@
 ghost use Rattle.std.specs.Prelude.{ℕ, List, ◌≡◌, ◌<◌, IfErr, IfOk};
 ghost use Rattle.reg_model.specs.declared.limits.TheConstants.{SESSIONS_LIMIT};
 ghost use Rattle.reg_calls.specs.Internal.Stores.{IsReady, IsMade};
-ghost use Rattle.reg_calls.specs.Internal.Admissions.{AdmitsCreateKey, IsRefused};
+ghost use Rattle.reg_calls.specs.Internal.Admissions.{AdmitsCreateKey, IsNotAdmitted};
 
 use crate::lack::Lack;
 use crate::refusal::Refusal;
@@ -48,7 +48,7 @@ impl<'a> CreateKey<'a> {
     ) -> Result<CreateKey<'a>, Refusal>
         requires session { session < SESSIONS_LIMIT }
         requires ready { IsReady entries store.now }
-        ensures refused { IfErr result (λ refusal. IsRefused entries store.now session (KeyCreated handle path.now mask) refusal) }
+        ensures refused { IfErr result (λ refusal. IsNotAdmitted entries store.now session (KeyCreated handle path.now mask) refusal) }
         ensures admitted { IfOk result (λ found. AdmitsCreateKey entries store.now session handle path.now found) }
         ensures mask { IfOk result (λ found. found.mask ≡ mask) }
     {
@@ -60,7 +60,7 @@ impl<'a> CreateKey<'a> {
         if store.tree.is_limited(reached) {
             return Err(Refusal::Cause(NO_SYSTEM_RESOURCES));
         }
-        // Callbacks are asked here: the path is that of the handle's key.
+        // Callbacks will be asked here: the path is that of the handle's key.
         //
         // Only for its clause `shallow`: no key is deeper than 512 names, so that the path's text is one that the table takes.
         let _ = store.tree.root();

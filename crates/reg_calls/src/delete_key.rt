@@ -7,7 +7,7 @@ ghost use Rattle.reg_heap.specs.Edits.{may_not_go as may_not_go_of};
 ghost use Rattle.reg_model.specs.Causes.{is_bad_target as is_bad_target_of};
 ghost use Rattle.reg_tree.specs.TreeKeys.{IsAt, IsThere};
 ghost use Rattle.reg_calls.specs.Internal.Stores.{IsReady, IsMade};
-ghost use Rattle.reg_calls.specs.Internal.Admissions.{AdmitsDeleteKey, IsRefused};
+ghost use Rattle.reg_calls.specs.Internal.Admissions.{AdmitsDeleteKey, IsNotAdmitted};
 
 use crate::refusal::Refusal;
 use crate::replies::accepted;
@@ -58,7 +58,7 @@ impl<'a> DeleteKey<'a> {
         path: &'a [u8],
     ) -> Result<DeleteKey<'a>, Refusal>
         requires { IsReady entries store.now }
-        ensures refused { IfErr result (λ refusal. IsRefused entries store.now session (KeyDeleted handle path.now) refusal) }
+        ensures refused { IfErr result (λ refusal. IsNotAdmitted entries store.now session (KeyDeleted handle path.now) refusal) }
         ensures admitted { IfOk result (λ found. AdmitsDeleteKey entries store.now session handle path.now found) }
     {
         let key = match store.key_of(session, handle) {
@@ -71,7 +71,7 @@ impl<'a> DeleteKey<'a> {
         if store.is_full(entries) {
             return Err(Refusal::Cause(NO_SYSTEM_RESOURCES));
         }
-        // Callbacks are asked here: the path is that of the handle's key.
+        // Callbacks will be asked here: the path is that of the handle's key.
         let reached = store.tree.reach(key.node, path);
         if !reached.missing.is_empty() {
             return Err(Refusal::Cause(FILE_NOT_FOUND));

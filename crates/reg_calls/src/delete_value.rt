@@ -52,7 +52,7 @@ impl DeleteValue {
         if store.is_full(entries) {
             return Err(NO_SYSTEM_RESOURCES);
         }
-        // Callbacks are asked here: the path is that of the handle's key.
+        // Callbacks will be asked here: the path is that of the handle's key.
         match store.tree.value_index(key.node, name) {
             Some(index) => Ok(DeleteValue {
                 node: key.node,

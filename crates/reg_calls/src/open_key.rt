@@ -4,7 +4,7 @@
 ghost use Rattle.std.specs.Prelude.{ℕ, List, ◌≡◌, ◌<◌, IfErr, IfOk};
 ghost use Rattle.reg_model.specs.declared.limits.TheConstants.{SESSIONS_LIMIT};
 ghost use Rattle.reg_calls.specs.Internal.Stores.{IsReady, IsMade};
-ghost use Rattle.reg_calls.specs.Internal.Admissions.{AdmitsOpenKey, IsRefused};
+ghost use Rattle.reg_calls.specs.Internal.Admissions.{AdmitsOpenKey, IsNotAdmitted};
 
 use crate::lack::Lack;
 use crate::refusal::Refusal;
@@ -42,7 +42,7 @@ impl OpenKey {
     ) -> Result<OpenKey, Refusal>
         requires session { session < SESSIONS_LIMIT }
         requires ready { IsReady entries store.now }
-        ensures refused { IfErr result (λ refusal. IsRefused entries store.now session (KeyOpened handle path.now mask) refusal) }
+        ensures refused { IfErr result (λ refusal. IsNotAdmitted entries store.now session (KeyOpened handle path.now mask) refusal) }
         ensures admitted { IfOk result (λ found. AdmitsOpenKey entries store.now session handle path.now found) }
         ensures mask { IfOk result (λ found. found.mask ≡ mask) }
     {
@@ -50,7 +50,7 @@ impl OpenKey {
             Ok(key) => key,
             Err(status) => return Err(Refusal::Cause(status)),
         };
-        // Callbacks are asked here: the path is that of the handle's key.
+        // Callbacks will be asked here: the path is that of the handle's key.
         let Some(node) = store.tree.resolve(key.node, path) else {
             return Err(Refusal::Cause(FILE_NOT_FOUND));
         };

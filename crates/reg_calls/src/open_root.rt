@@ -40,7 +40,7 @@ impl OpenRoot {
         if store.has_no_handle_room(entries, session) {
             return Err(NO_SYSTEM_RESOURCES);
         }
-        // Callbacks are asked here: the path is the root's.
+        // Callbacks will be asked here: the path is the root's.
         Ok(OpenRoot { mask })
     }
 

@@ -48,7 +48,7 @@ fn has_no_value_room(tree: &Tree, node: Node, place: Option<u32>) -> bool
     ensures { (p : Path) → IsAt tree.now p node → (name : List ℕ) → place ≡ index_named name (values_at tree.now.tree p) →
         result ≡ no_value_room name (values_at tree.now.tree p) }
 {
-    tree.values(node) >= VALUES_LIMIT && place.is_none()
+    place.is_none() && tree.values(node) >= VALUES_LIMIT
 }
 
 impl<'a> SetValue<'a> {
@@ -87,7 +87,7 @@ impl<'a> SetValue<'a> {
         if store.is_full(entries) | has_no_value_room(&store.tree, key.node, place) {
             return Err(NO_SYSTEM_RESOURCES);
         }
-        // Callbacks are asked here: the path is that of the handle's key.
+        // Callbacks will be asked here: the path is that of the handle's key.
         Ok(SetValue {
             node: key.node,
             place,

@@ -1,5 +1,5 @@
-/// A key of a tree, as [`Tree::root`](crate::Tree::root) and [`Tree::resolve`](crate::Tree::resolve) find it. It stays
-/// good until that key is deleted.
+/// A key of a tree, as [`Tree::root`](crate::Tree::root), [`Tree::resolve`](crate::Tree::resolve) and others find it. It stays good
+/// until that key is deleted.
 #[derive(Clone, Copy, Debug, PartialEq, Eq)]
 pub struct Node {
     /// The offset of its key node, counted from the start of the bins.

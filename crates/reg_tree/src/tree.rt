@@ -49,7 +49,7 @@ impl Tree {
     ghost use Rattle.reg_tree.specs.NewHive.{IsNewHive};
     ghost use Rattle.reg_tree.specs.KeyLengths.{ChangesLengths, KeepsLengths, NotesMade, lengths_at, no_lengths, with_value_lengths, with_first_length};
     ghost use Rattle.reg_tree.specs.ValueAnswers.{IsFound, without_value_at};
-    ghost use Rattle.reg_tree.specs.Reaching.{IsReached};
+    ghost use Rattle.reg_tree.specs.Reaching.{IsWalkedTo};
 
     /// A tree of one root: the name as given, mark 8 (no delete), no class, the descriptor, the moment (100 ns ticks since
     /// 1601), no values; its four largest lengths are 0. Its bins are one, of the least size for the key node and its security,
@@ -124,7 +124,7 @@ impl Tree {
     pub fn reach<'a>(&self, from: Node, path: &'a [u8]) -> Reached<'a>
         requires from { IsThere self.now from }
         requires path { is_path path.now ≡ true }
-        ensures reached { IsReached self.now from path.now result }
+        ensures reached { IsWalkedTo self.now from path.now result }
         ensures missing { (p : Path) → IsAt self.now p from → path_of result.missing.now ≡ missing self.now.tree p (path_of path.now) }
         ensures there { (p : Path) → IsAt self.now p from → result.missing.now ≡ [] → IsResolved self.now (p ++ folded_path path.now) (Some result.node) }
         ensures absent { (p : Path) → IsAt self.now p from → result.missing.now ≢ [] → IsResolved self.now (p ++ folded_path path.now) None }
@@ -405,8 +405,8 @@ impl Tree {
     /// Whether making the keys that `reach` found missing is refused for `Limit`: by their number, the length of the path, or the
     /// number of subkeys of the key that they would be below. Never where none is missing.
     pub fn is_limited(&self, reached: Reached<'_>) -> bool
-        requires reached { (from : Node) × (path : List ℕ) × IsReached self.now from path reached × IsThere self.now from }
-        ensures { (from : Node) → (path : List ℕ) → IsReached self.now from path reached.entry → (p : Path) → IsAt self.now p from →
+        requires reached { (from : Node) × (path : List ℕ) × IsWalkedTo self.now from path reached × IsThere self.now from }
+        ensures { (from : Node) → (path : List ℕ) → IsWalkedTo self.now from path reached.entry → (p : Path) → IsAt self.now p from →
             result ≡ are_too_many self.now.tree p (path_of path) }
     {
         make::is_limited(&self.arena, reached)
@@ -423,21 +423,21 @@ impl Tree {
         reached: Reached<'_>,
         moment: u64,
     ) -> Result<Node, ArenaFault>
-        requires reached { (from : Node) × (path : List ℕ) × IsReached self.old from path reached × IsThere self.old from }
+        requires reached { (from : Node) × (path : List ℕ) × IsWalkedTo self.old from path reached × IsThere self.old from }
         requires missing { reached.missing.now ≢ [] }
-        requires few { (from : Node) → (path : List ℕ) → IsReached self.old from path reached → (p : Path) → IsAt self.old p from →
+        requires few { (from : Node) → (path : List ℕ) → IsWalkedTo self.old from path reached → (p : Path) → IsAt self.old p from →
             are_too_many self.old.tree p (path_of path) ≡ false }
-        ensures ok { (from : Node) → (path : List ℕ) → IsReached self.old from path reached.entry → (p : Path) → IsAt self.old p from →
+        ensures ok { (from : Node) → (path : List ℕ) → IsWalkedTo self.old from path reached.entry → (p : Path) → IsAt self.old p from →
             IfOk result (λ node. MakesKeys self.old self.new p (path_of path) moment (record { node = node; is_new = true })) }
-        ensures cells { (from : Node) → (path : List ℕ) → IsReached self.old from path reached.entry → (p : Path) → IsAt self.old p from →
+        ensures cells { (from : Node) → (path : List ℕ) → IsWalkedTo self.old from path reached.entry → (p : Path) → IsAt self.old p from →
             OnOk result (Makes (heap_of self.old.bins) (heap_of self.new.bins) (create_sizes self.old p (path_of path))) }
-        ensures lengths { (from : Node) → (path : List ℕ) → IsReached self.old from path reached.entry → (p : Path) → IsAt self.old p from →
+        ensures lengths { (from : Node) → (path : List ℕ) → IsWalkedTo self.old from path reached.entry → (p : Path) → IsAt self.old p from →
             OnOk result (ChangesLengths self.old self.new (last_there self.old.tree p (path_of path))
             (with_first_length (missing self.old.tree p (path_of path)))) }
-        ensures made { (from : Node) → (path : List ℕ) → IsReached self.old from path reached.entry → (p : Path) → IsAt self.old p from →
+        ensures made { (from : Node) → (path : List ℕ) → IsWalkedTo self.old from path reached.entry → (p : Path) → IsAt self.old p from →
             OnOk result (NotesMade self.new (last_there self.old.tree p (path_of path)) (missing self.old.tree p (path_of path))) }
         ensures full { (result ≡ Err ArenaFault.Full) → BINS_LIMIT < length self.old.bins.bytes + GROWTH_BOUND }
-        ensures space { (from : Node) → (path : List ℕ) → IsReached self.old from path reached.entry → (p : Path) → IsAt self.old p from →
+        ensures space { (from : Node) → (path : List ℕ) → IsWalkedTo self.old from path reached.entry → (p : Path) → IsAt self.old p from →
             IfErr result (λ fault. fault ≡ ArenaFault.Full → LacksRoom self.old.bins (create_sizes self.old p (path_of path))) }
         ensures err { OnErr result (self.new ≡ self.old) }
         ensures grows { OnOk result (length self.new.bins.bytes ≤ length self.old.bins.bytes + GROWTH_BOUND) }
@@ -449,7 +449,7 @@ impl Tree {
     /// Deletes the key to which `reach` found every name of a path that has some, with its values, and sets its parent's time. It
     /// must have no subkeys and no mark 0x08. It takes no memory, and the bins keep their length.
     pub fn delete_at(&mut self, reached: Reached<'_>, moment: u64)
-        requires reached { (from : Node) × (path : List ℕ) × IsReached self.old from path reached × IsThere self.old from × (path_of path ≢ []) }
+        requires reached { (from : Node) × (path : List ℕ) × IsWalkedTo self.old from path reached × IsThere self.old from × (path_of path ≢ []) }
         requires there { reached.missing.now ≡ [] }
         requires goes { (p : Path) → IsAt self.old p reached.node → may_not_go self.old.tree p ≡ false }
         ensures tree { (p : Path) → IsAt self.old p reached.entry.node → self.new.tree ≡ without_key self.old.tree p moment }

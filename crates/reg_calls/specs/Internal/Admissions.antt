@@ -12,7 +12,7 @@ use Rattle.reg_model.specs.declared.call.Change.{Change}
 use Rattle.reg_model.specs.declared.call.Change.TheVariants.{OpenRoot as RootOpened, OpenKey as KeyOpened, CreateKey as KeyCreated, SetValue as ValueSet}
 use Rattle.reg_model.specs.declared.call.Change.TheVariants.{DeleteValue as ValueDeleted, DeleteKey as KeyDeleted, Close as Closed}
 use Rattle.reg_tree.specs.TreeKeys.{IsAt}
-use Rattle.reg_tree.specs.Reaching.{IsReached}
+use Rattle.reg_tree.specs.Reaching.{IsWalkedTo}
 use Rattle.reg_tree.specs.declared.node.Node.{Node}
 use Rattle.reg_calls.specs.declared.store.Store.{Store}
 use Rattle.reg_calls.specs.declared.open_key.OpenKey.{OpenKey}
@@ -52,9 +52,9 @@ pub record AdmitsCreateKey (entries : ℕ) (store : Store) (session handle : ℕ
   pub text : IsTextOf store session handle path found.text.items
   pub from : Node
   pub at : IsAt store.tree (path_at session handle store.handles.handles) from
-  pub reached : IsReached store.tree from path found.reached
+  pub reached : IsWalkedTo store.tree from path found.reached
   pub missing : path_of found.reached.missing.now ≡ missing store.tree.tree (path_at session handle store.handles.handles) (path_of path)
-  pub few : (start : Node) → (text : List ℕ) → IsReached store.tree start text found.reached → (p : Path) → IsAt store.tree p start →
+  pub few : (start : Node) → (text : List ℕ) → IsWalkedTo store.tree start text found.reached → (p : Path) → IsAt store.tree p start →
       are_too_many store.tree.tree p (path_of text) ≡ false
   pub there : found.reached.missing.now ≡ [] → IsAt store.tree (path_from session handle store.handles.handles path) found.reached.node
 
@@ -77,7 +77,7 @@ pub record AdmitsDeleteKey (entries : ℕ) (store : Store) (session handle : ℕ
   pub text : IsTextOf store session handle path found.text.items
   pub from : Node
   pub at : IsAt store.tree (path_at session handle store.handles.handles) from
-  pub reached : IsReached store.tree from path found.reached
+  pub reached : IsWalkedTo store.tree from path found.reached
   pub below : path_of path ≢ []
   pub there : found.reached.missing.now ≡ []
   pub goes : (p : Path) → IsAt store.tree p found.reached.node → may_not_go store.tree.tree p ≡ false
@@ -99,9 +99,9 @@ Admits entries store session change (DeletionAdmitted found) =
 Admits entries store session change (CloseAdmitted found) = (change ≡ Closed found.handle) × IsClear entries store session (Closed found.handle)
 
 -- a change isn't admitted: by its cause; or nothing refuses it, and memory is wanting for it, as it never is for a Close
-abbrev pub IsRefused : ℕ → Store → ℕ → Change → Refusal → Type 0
-IsRefused entries store session change (Cause status) = change_cause (at entries store) session change 0 ≡ Some status
-IsRefused entries store session change Memory = IsClear entries store session change × (is_closing change ≡ false)
+abbrev pub IsNotAdmitted : ℕ → Store → ℕ → Change → Refusal → Type 0
+IsNotAdmitted entries store session change (Cause status) = change_cause (at entries store) session change 0 ≡ Some status
+IsNotAdmitted entries store session change Memory = IsClear entries store session change × (is_closing change ≡ false)
 
 -- what a caller is told of it
 abbrev pub status_told : Refusal → ℕ
@@ -111,4 +111,4 @@ status_told Memory = NOT_ENOUGH_MEMORY
 -- what an admission answers
 abbrev pub IsAdmission : ℕ → Store → ℕ → Change → Result Admitted Refusal → Type 0
 IsAdmission entries store session change (Ok admitted) = Admits entries store session change admitted
-IsAdmission entries store session change (Err refusal) = IsRefused entries store session change refusal
+IsAdmission entries store session change (Err refusal) = IsNotAdmitted entries store session change refusal

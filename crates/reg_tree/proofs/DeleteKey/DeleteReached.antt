@@ -11,7 +11,7 @@ use Rattle.std.specs.FinMap.{get}
 use Rattle.reg_tree.specs.declared.node.Node.{Node}
 use Rattle.reg_tree.specs.declared.node.Reached.{Reached}
 use Rattle.reg_tree.specs.TreeKeys.{Keys, tree_in, IsAt, IsThere}
-use Rattle.reg_tree.specs.Reaching.{IsReached}
+use Rattle.reg_tree.specs.Reaching.{IsWalkedTo}
 use Rattle.reg_tree.specs.Internal.TreeInvariant.{TreeInvariant, IsHere}
 use Rattle.reg_tree.specs.Internal.KeyDeletion.{IsLone}
 use Rattle.reg_tree.specs.Internal.ReachedPlaces.{StandsAt}
@@ -29,7 +29,7 @@ lone-children t p e = by (children_of t p) e
         absurd (false≢true (sym f ∙ some))
 
 module _ (bins : Bins) (root : ℕ) (holds : TreeInvariant bins.bytes root) (now : Keys) (view_is : seen_as bins root ≡ now) (reached : Reached)
-    (there : (from : Node) × (path : List ℕ) × IsReached now from path reached × IsThere now from × (path_of path ≢ [])) (none : reached.missing.now ≡ [])
+    (there : (from : Node) × (path : List ℕ) × IsWalkedTo now from path reached × IsThere now from × (path_of path ≢ [])) (none : reached.missing.now ≡ [])
     (goes : (p : Path) → IsAt now p reached.node → may_not_go now.tree p ≡ false) where
   abbrev from : Node
   from = there.0
@@ -37,7 +37,7 @@ module _ (bins : Bins) (root : ℕ) (holds : TreeInvariant bins.bytes root) (now
   abbrev path : List ℕ
   path = there.1
 
-  abbrev r : IsReached now from path reached
+  abbrev r : IsWalkedTo now from path reached
   r = there.2
 
   none-left : path_of reached.missing.now ≡ []

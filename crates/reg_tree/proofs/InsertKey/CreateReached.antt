@@ -10,7 +10,7 @@ use Rattle.reg_tree.specs.declared.node.Node.{Node}
 use Rattle.reg_tree.specs.declared.node.Reached.{Reached}
 use Rattle.reg_tree.specs.KeyLengths.{ChangesLengths, NotesMade, with_first_length}
 use Rattle.reg_tree.specs.TreeKeys.{Keys, tree_in, IsAt, IsThere, MakesKeys}
-use Rattle.reg_tree.specs.Reaching.{IsReached}
+use Rattle.reg_tree.specs.Reaching.{IsWalkedTo}
 use Rattle.reg_tree.specs.Internal.TreeInvariant.{TreeInvariant}
 use Rattle.reg_tree.specs.Internal.KeyCreation.{IsCreated, LeadsTo}
 use Rattle.reg_tree.specs.Internal.PathWalks.{Reaches}
@@ -21,7 +21,7 @@ use Rattle.reg_tree.proofs.InsertKey.CreatePath.{new_some}
 use Rattle.reg_tree.proofs.PathWalk.ReachedSeen.{named}
 
 module _ (bins : Bins) (root : ℕ) (holds : TreeInvariant bins.bytes root) (now : Keys) (view_is : seen_as bins root ≡ now) (reached : Reached) where
-  abbrev pub leads_at : (from : Node) (path : List ℕ) → IsReached now from path reached → (p : Path) → IsAt now p from →
+  abbrev pub leads_at : (from : Node) (path : List ℕ) → IsWalkedTo now from path reached → (p : Path) → IsAt now p from →
       LeadsTo bins.bytes from path reached.node reached.missing.now
   leads_at from path r p at = record {
     here = here_at bins root holds now view_is from p at;
@@ -30,17 +30,17 @@ module _ (bins : Bins) (root : ℕ) (holds : TreeInvariant bins.bytes root) (now
   }
 
   -- where the first of its names belongs that are missing
-  pub place_at : (from : Node) (path : List ℕ) → IsReached now from path reached → BelongsFirst (heap_of bins) reached.node.offset (path_of reached.missing.now) reached.index
+  pub place_at : (from : Node) (path : List ℕ) → IsWalkedTo now from path reached → BelongsFirst (heap_of bins) reached.node.offset (path_of reached.missing.now) reached.index
   place_at from path r = subst (λ (k : Keys). BelongsFirst (heap_of k.bins) reached.node.offset (path_of reached.missing.now) reached.index) (sym view_is) r.place.belongs
 
   -- an answer that is told of the tree spelt is told of the tree seen
   pub limit_seen : {b : Bool} → ((from : Node) → (path : List ℕ) → (l : LeadsTo bins.bytes from path reached.node reached.missing.now) →
-      b ≡ are_too_many (tree_in bins.bytes l.here.root) l.here.path (path_of path)) → (from : Node) → (path : List ℕ) → IsReached now from path reached → (p : Path) →
+      b ≡ are_too_many (tree_in bins.bytes l.here.root) l.here.path (path_of path)) → (from : Node) → (path : List ℕ) → IsWalkedTo now from path reached → (p : Path) →
       IsAt now p from → b ≡ are_too_many now.tree p (path_of path)
   limit_seen {b} told from path r p at = of_tree bins root holds now view_is (λ (t : Tree). b ≡ are_too_many t p (path_of path)) (told from path (leads_at from path r p at))
 
-  module _ (there : (from : Node) × (path : List ℕ) × IsReached now from path reached × IsThere now from)
-      (few : (from : Node) → (path : List ℕ) → IsReached now from path reached → (p : Path) → IsAt now p from → are_too_many now.tree p (path_of path) ≡ false) where
+  module _ (there : (from : Node) × (path : List ℕ) × IsWalkedTo now from path reached × IsThere now from)
+      (few : (from : Node) → (path : List ℕ) → IsWalkedTo now from path reached → (p : Path) → IsAt now p from → are_too_many now.tree p (path_of path) ≡ false) where
     -- they may be made
     pub leads_there : (from : Node) × (path : List ℕ) × (l : LeadsTo bins.bytes from path reached.node reached.missing.now)
         × (are_too_many (tree_in bins.bytes l.here.root) l.here.path (path_of path) ≡ false)
@@ -59,7 +59,7 @@ module _ (bins : Bins) (root : ℕ) (holds : TreeInvariant bins.bytes root) (now
           holds_after bins root holds now view_is (λ made. IsCreated bins.bytes new.bytes root there.3.0 there.0 (path_of there.1) moment made) new result (λ made c. c.holds)
           (ok there.0 there.1 (leads_at there.0 there.1 there.2 there.3.0 there.3.1)) err
 
-      module _ (from : Node) (path : List ℕ) (r : IsReached now from path reached) (p : Path) (at : IsAt now p from) where
+      module _ (from : Node) (path : List ℕ) (r : IsWalkedTo now from path reached) (p : Path) (at : IsAt now p from) where
         abbrev Its : Node → Type 0
         Its made = IsCreated bins.bytes new.bytes root p from (path_of path) moment made
 

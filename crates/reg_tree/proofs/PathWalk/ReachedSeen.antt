@@ -8,7 +8,7 @@ use Rattle.reg_arena.specs.Arena.{Bins, heap_of}
 use Rattle.reg_tree.specs.declared.node.Node.{Node}
 use Rattle.reg_tree.specs.declared.node.Reached.{Reached}
 use Rattle.reg_tree.specs.TreeKeys.{Keys, IsAt, IsResolved}
-use Rattle.reg_tree.specs.Reaching.{IsReached}
+use Rattle.reg_tree.specs.Reaching.{IsWalkedTo}
 use Rattle.reg_tree.specs.Internal.TreeInvariant.{TreeInvariant}
 use Rattle.reg_tree.specs.Internal.PathWalks.{Passes, Reaches}
 use Rattle.reg_tree.specs.Internal.ReachedPlaces.{IsPlace}
@@ -23,8 +23,8 @@ named (b ∷ bs) some e = let l = length-slice_split is_backslash (b ∷ bs) in 
 
 module _ (bins : Bins) (root : ℕ) (holds : TreeInvariant bins.bytes root) (now : Keys) (view_is : seen_as bins root ≡ now)
     (from : Node) (path : List ℕ) (reached : Reached) (r : Reaches (heap_of bins) from path reached.node reached.missing.now) where
-  pub reached_seen : is_path path ≡ true → IsPlace (heap_of bins) path reached.node.offset reached.missing.now reached.index → IsReached now from path reached
-  reached_seen valid place = subst (λ k. IsReached k from path reached) view_is (record { valid = valid; reaches = r; place = place })
+  pub reached_seen : is_path path ≡ true → IsPlace (heap_of bins) path reached.node.offset reached.missing.now reached.index → IsWalkedTo now from path reached
+  reached_seen valid place = subst (λ k. IsWalkedTo k from path reached) view_is (record { valid = valid; reaches = r; place = place })
 
   -- the names left are those that are missing
   pub missing_seen : (p : Path) → IsAt now p from → path_of reached.missing.now ≡ missing now.tree p (path_of path)
