@@ -1,9 +1,10 @@
 //! Questions by handles of keys that stand high or deep in a chain.
 
 use crate::hives::{apply_all, new_hive, read_all};
-use anyhow::Result;
+use crate::times::Times;
+use anyhow::{Result, bail};
 use reg_calls::Hive;
-use reg_workload::{PerCall, ValueStep, make_chain, query_times};
+use reg_workload::{ValueStep, make_chain, query_times};
 use std::alloc::Global;
 use std::rt::Clock;
 use std::time::{Duration, Instant};
@@ -16,6 +17,9 @@ const DEPTHS: [u32; 2] = [1, 500];
 
 /// How many questions are asked of one key and then of the other.
 const BATCH: u32 = 1_000;
+
+/// The size of the value that is asked for, in bytes.
+const SIZE: u64 = 4;
 
 /// How often.
 const BATCHES: u32 = 50;
@@ -59,23 +63,26 @@ pub fn measure(rt: &(impl Print + Clock), alloc: Global) -> Result<()> {
 
 fn measure_in(rt: &(impl Print + Clock), alloc: Global, hive: &mut Hive) -> Result<()> {
     fill(alloc, hive, DEPTHS)?;
-    let mut times = [Duration::ZERO; 2];
+    let [high, deep] = DEPTHS;
+    let mut times = Times::ZERO;
     for _batch in 0..BATCHES {
-        for (time, depth) in times.iter_mut().zip(DEPTHS) {
-            *time = time.saturating_add(time_batch(rt, alloc, hive, depth)?);
-        }
+        let maps = time_batch(rt, alloc, hive, high)?;
+        let hive = time_batch(rt, alloc, hive, deep)?;
+        times = times.plus(Times { hive, maps });
     }
-    for (time, depth) in times.iter().zip(DEPTHS) {
-        let asked = PerCall::new(*time, (BATCH * BATCHES) as usize);
-        println!(rt; "query at depth {depth}, {asked}")?;
-    }
-    Ok(())
+    let calls = (BATCH * BATCHES) as usize;
+    println!(rt; "depths {high} and {deep}:")?;
+    times.print_calls(rt, "query of the deeper", "of the higher", calls)
 }
 
 // The questions are made ready before the clock starts.
 fn time_batch(rt: &impl Clock, alloc: Global, hive: &Hive, depth: u32) -> Result<Duration> {
     let queries = query_times(alloc, BATCH, u64::from(depth))?;
     let start = Instant::now(rt)?;
-    let _told = read_all(hive, queries.as_slice())?;
-    Ok(start.elapsed(rt)?)
+    let told = read_all(hive, queries.as_slice())?;
+    let time = start.elapsed(rt)?;
+    if told != u64::from(BATCH).saturating_mul(SIZE) {
+        bail!("a value was not told whole");
+    }
+    Ok(time)
 }

@@ -11,11 +11,26 @@ use std::alloc::Global;
 use std::rt::Clock;
 use std::time::Instant;
 
-/// How many values the key has while no time is taken, and how many calls of a kind there are.
-const SMALL: [u32; 2] = [10, 6];
+/// How much is done.
+#[derive(Clone, Copy)]
+struct ListSize {
+    /// How many values the key has.
+    values: u32,
+    /// How many calls of a kind there are.
+    calls: u32,
+}
 
-/// How many values the key has while time is taken, which is as many as it may have, and how many calls of a kind there are.
-const LARGE: [u32; 2] = [16_384, 2_048];
+/// What is done while no time is taken.
+const SMALL: ListSize = ListSize {
+    values: 10,
+    calls: 6,
+};
+
+/// What is done while time is taken: the key has as many values as it may have.
+const LARGE: ListSize = ListSize {
+    values: 16_384,
+    calls: 2_048,
+};
 
 /// How many calls are timed together. Those of a batch that delete are told a list that is shorter by the ones before, at most by
 /// one in 256 of the larger key.
@@ -80,6 +95,9 @@ fn time_deletes(
         times = times.plus(time_batch(rt, hive, list, calls)?);
         let calls = ValueStep::Delete.changes(alloc, batch, ROOT)?;
         list.apply_all(calls.as_slice())?;
+        if list.search_all(calls.as_slice()) != 0 {
+            bail!("a value was not deleted from the list");
+        }
         set_all(alloc, hive, list, batch)?;
     }
     Ok(times)
@@ -116,11 +134,10 @@ fn time(
     alloc: Global,
     hive: &mut Hive,
     list: &mut PlainList,
-    size: [u32; 2],
+    size: ListSize,
 ) -> Result<Calls> {
-    let [values, calls] = size;
-    fill(alloc, hive, list, values)?;
-    let chosen = chosen(alloc, values, calls)?;
+    fill(alloc, hive, list, size.values)?;
+    let chosen = chosen(alloc, size.values, size.calls)?;
     Ok(Calls {
         set: time_sets(rt, alloc, hive, list, chosen.as_slice())?,
         delete: time_deletes(rt, alloc, hive, list, chosen.as_slice())?,
@@ -136,7 +153,7 @@ pub fn count(rt: &(impl Print + Clock), alloc: Global) -> Result<()> {
 fn count_in(rt: &(impl Print + Clock), alloc: Global, hive: &mut Hive) -> Result<()> {
     let mut list = PlainList::new(alloc)?;
     time(rt, alloc, hive, &mut list, SMALL)?;
-    let [values, calls] = SMALL;
+    let ListSize { values, calls } = SMALL;
     println!(rt;
         "lists: {values} values, {calls} set and {calls} deleted, {} entries",
         hive.len()
@@ -154,7 +171,7 @@ pub fn measure(rt: &(impl Print + Clock), alloc: Global) -> Result<()> {
 fn measure_in(rt: &(impl Print + Clock), alloc: Global, hive: &mut Hive) -> Result<()> {
     let mut list = PlainList::new(alloc)?;
     let times = time(rt, alloc, hive, &mut list, LARGE)?;
-    let [values, calls] = LARGE;
+    let ListSize { values, calls } = LARGE;
     println!(rt; "lists, {values} values:")?;
     print_cells(rt, alloc, hive.arena())?;
     times

@@ -1,6 +1,6 @@
 //! Measures what calls of the libraries cost.
 //!
-//! `reg_bench measure SUBJECT` prints how long the calls of a subject take, at three sizes of what it works on. Without an
+//! `reg_bench measure SUBJECT` prints how long the calls of a subject take, most at three sizes of what it works on. Without an
 //! argument each subject but `maps` runs at a small size and prints counts alone, which are the same on every run.
 //!
 //! Its one contract: the calls of a batch are one operation by some handles, all accepted, and each change of them is an entry more;

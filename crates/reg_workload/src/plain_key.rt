@@ -83,6 +83,7 @@ impl PlainKey {
         })?;
         Ok(())
     }
+
     /// Deletes a value; those behind it move up.
     pub fn delete(&mut self, name: &[u8]) {
         if let Some(place) = self.position(name) {

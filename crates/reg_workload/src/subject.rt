@@ -17,7 +17,7 @@ pub enum Subject {
     Makes,
     /// The calls on keys beside those of plain maps.
     Maps,
-    /// Single calls by handles that stay open, beside those of plain maps.
+    /// Single calls by handles that stay open, beside those of plain maps, and questions at two depths.
     Ratios,
     /// A script of many lines.
     Script,
