@@ -174,3 +174,43 @@ nk-sized largest fit0 content r is =
       largest_value_name = to_largest_value_name i;
       largest_value_data = to_largest_value_data i;
     })
+
+-- another security
+pub nk-secured : (security : ℕ) → security < 2 ^ 32 → (content : List ℕ) (r : KeyRecord) → nk_of content ≡ Ok r
+    → nk_of (splice 44 (little_bytes 4 security) content) ≡ Ok (record r { fields = record r.fields { security = security } })
+unfolding half word long
+nk-secured security fit0 content r is =
+    let piece : List ℕ = little_bytes 4 security in
+    let f : 44 + length piece ≤ length content = fits 44 piece content r (lit≤ tt) (lit≤ tt) is in
+    let old : r.fields ≡ nk_fields_of content = ap (λ (k : KeyRecord). k.fields) (nk-open content r is).same in
+    let new : List ℕ = splice 44 piece content in
+    let to_security : word new 44 ≡ security = ap (little_number 4) (drop-within 44 piece content f 0 (lit≤ tt)) ∙ little_number-reads_back 4 security [] fit0 in
+    let to_flags : half new 2 ≡ r.fields.flags = number-below 44 piece content f 2 2 (lit≤ tt) ∙ sym (ap (λ (k : KeyFields). k.flags) old) in
+    let to_time : long new 4 ≡ r.fields.time = number-below 44 piece content f 8 4 (lit≤ tt) ∙ sym (ap (λ (k : KeyFields). k.time) old) in
+    let to_parent : word new 16 ≡ r.fields.parent = number-below 44 piece content f 4 16 (lit≤ tt) ∙ sym (ap (λ (k : KeyFields). k.parent) old) in
+    let to_subkeys : word new 20 ≡ r.fields.subkeys = number-below 44 piece content f 4 20 (lit≤ tt) ∙ sym (ap (λ (k : KeyFields). k.subkeys) old) in
+    let to_subkeys_list : word new 28 ≡ r.fields.subkeys_list = number-below 44 piece content f 4 28 (lit≤ tt) ∙ sym (ap (λ (k : KeyFields). k.subkeys_list) old) in
+    let to_values : word new 36 ≡ r.fields.values = number-below 44 piece content f 4 36 (lit≤ tt) ∙ sym (ap (λ (k : KeyFields). k.values) old) in
+    let to_values_list : word new 40 ≡ r.fields.values_list = number-below 44 piece content f 4 40 (lit≤ tt) ∙ sym (ap (λ (k : KeyFields). k.values_list) old) in
+    let to_class : word new 48 ≡ r.fields.class = number-above 44 piece content f 4 48 (lit≤ tt) ∙ sym (ap (λ (k : KeyFields). k.class) old) in
+    let to_class_length : half new 74 ≡ r.fields.class_length = number-above 44 piece content f 2 74 (lit≤ tt) ∙ sym (ap (λ (k : KeyFields). k.class_length) old) in
+    let to_largest_subkey_name : word new 52 ≡ r.fields.largest_subkey_name = number-above 44 piece content f 4 52 (lit≤ tt) ∙ sym (ap (λ (k : KeyFields). k.largest_subkey_name) old) in
+    let to_largest_subkey_class : word new 56 ≡ r.fields.largest_subkey_class = number-above 44 piece content f 4 56 (lit≤ tt) ∙ sym (ap (λ (k : KeyFields). k.largest_subkey_class) old) in
+    let to_largest_value_name : word new 60 ≡ r.fields.largest_value_name = number-above 44 piece content f 4 60 (lit≤ tt) ∙ sym (ap (λ (k : KeyFields). k.largest_value_name) old) in
+    let to_largest_value_data : word new 64 ≡ r.fields.largest_value_data = number-above 44 piece content f 4 64 (lit≤ tt) ∙ sym (ap (λ (k : KeyFields). k.largest_value_data) old) in
+    nk-spliced 44 piece content r (lit≤ tt) (lit≤ tt) is (record r.fields { security = security }) (λ i. record {
+      flags = to_flags i;
+      time = to_time i;
+      parent = to_parent i;
+      subkeys = to_subkeys i;
+      subkeys_list = to_subkeys_list i;
+      values = to_values i;
+      values_list = to_values_list i;
+      security = to_security i;
+      class = to_class i;
+      class_length = to_class_length i;
+      largest_subkey_name = to_largest_subkey_name i;
+      largest_subkey_class = to_largest_subkey_class i;
+      largest_value_name = to_largest_value_name i;
+      largest_value_data = to_largest_value_data i;
+    })

@@ -97,6 +97,56 @@ sk-counted count fit content r is =
     ∙ ((λ i. Ok (record { fields = record { flink = flink i; blink = blink i; count = counted i }; descriptor = text i }))
     ∙ ap (λ (k : KeySecurityRecord). Ok (record k { fields = record k.fields { count = count } })) (sym open_is.same))
 
+-- another next one
+pub sk-led : (flink : ℕ) → flink < 2 ^ 32 → (content : List ℕ) (r : KeySecurityRecord) → sk_of content ≡ Ok r
+    → sk_of (splice 4 (little_bytes 4 flink) content) ≡ Ok (record r { fields = record r.fields { flink = flink } })
+unfolding word
+sk-led flink fit content r is =
+    let piece : List ℕ = little_bytes 4 flink in
+    let open_is = sk-open content r is in
+    let f : 4 + length piece ≤ length content = let l = open_is.long in omega arith in
+    let new : List ℕ = splice 4 piece content in
+    let same_length : length new ≡ length content = length-splice 4 piece content f in
+    let size : word new 16 ≡ word content 16 = number-above 4 piece content f 4 16 (lit≤ tt) in
+    let to_flink : word new 4 ≡ flink = ap (little_number 4) (drop-within 4 piece content f 0 (lit≤ tt)) ∙ little_number-reads_back 4 flink [] fit in
+    let blink : word new 8 ≡ word content 8 = number-above 4 piece content f 4 8 (lit≤ tt) in
+    let counted : word new 12 ≡ word content 12 = number-above 4 piece content f 4 12 (lit≤ tt) in
+    let first : get_or new 0 0 ≡ get_or content 0 0 = get_or-below 4 piece content f 0 (lit≤ tt) in
+    let second : get_or new 1 0 ≡ get_or content 1 0 = get_or-below 4 piece content f 1 (lit≤ tt) in
+    let signed : is_signed 115 107 new ≡ true = ap (λ x. (x == 115) && (get_or new 1 0 == 107)) first ∙ ap (λ x. (get_or content 0 0 == 115) && (x == 107)) second ∙ open_is.signed in
+    let behind : drop 20 new ≡ drop 20 content = drop-above 4 piece content f 20 (lit≤ tt) in
+    let text : take (word new 16) (drop 20 new) ≡ take (word content 16) (drop 20 content) = ap (λ n. take n (drop 20 new)) size ∙ ap (take (word content 16)) behind in
+    let long = open_is.long in
+    let enough = open_is.enough in
+    sk-made new (omega arith) signed (omega arith)
+    ∙ ((λ i. Ok (record { fields = record { flink = to_flink i; blink = blink i; count = counted i }; descriptor = text i }))
+    ∙ ap (λ (k : KeySecurityRecord). Ok (record k { fields = record k.fields { flink = flink } })) (sym open_is.same))
+
+-- another one before
+pub sk-led_back : (blink : ℕ) → blink < 2 ^ 32 → (content : List ℕ) (r : KeySecurityRecord) → sk_of content ≡ Ok r
+    → sk_of (splice 8 (little_bytes 4 blink) content) ≡ Ok (record r { fields = record r.fields { blink = blink } })
+unfolding word
+sk-led_back blink fit content r is =
+    let piece : List ℕ = little_bytes 4 blink in
+    let open_is = sk-open content r is in
+    let f : 8 + length piece ≤ length content = let l = open_is.long in omega arith in
+    let new : List ℕ = splice 8 piece content in
+    let same_length : length new ≡ length content = length-splice 8 piece content f in
+    let size : word new 16 ≡ word content 16 = number-above 8 piece content f 4 16 (lit≤ tt) in
+    let flink : word new 4 ≡ word content 4 = number-below 8 piece content f 4 4 (lit≤ tt) in
+    let to_blink : word new 8 ≡ blink = ap (little_number 4) (drop-within 8 piece content f 0 (lit≤ tt)) ∙ little_number-reads_back 4 blink [] fit in
+    let counted : word new 12 ≡ word content 12 = number-above 8 piece content f 4 12 (lit≤ tt) in
+    let first : get_or new 0 0 ≡ get_or content 0 0 = get_or-below 8 piece content f 0 (lit≤ tt) in
+    let second : get_or new 1 0 ≡ get_or content 1 0 = get_or-below 8 piece content f 1 (lit≤ tt) in
+    let signed : is_signed 115 107 new ≡ true = ap (λ x. (x == 115) && (get_or new 1 0 == 107)) first ∙ ap (λ x. (get_or content 0 0 == 115) && (x == 107)) second ∙ open_is.signed in
+    let behind : drop 20 new ≡ drop 20 content = drop-above 8 piece content f 20 (lit≤ tt) in
+    let text : take (word new 16) (drop 20 new) ≡ take (word content 16) (drop 20 content) = ap (λ n. take n (drop 20 new)) size ∙ ap (take (word content 16)) behind in
+    let long = open_is.long in
+    let enough = open_is.enough in
+    sk-made new (omega arith) signed (omega arith)
+    ∙ ((λ i. Ok (record { fields = record { flink = flink i; blink = to_blink i; count = counted i }; descriptor = text i }))
+    ∙ ap (λ (k : KeySecurityRecord). Ok (record k { fields = record k.fields { blink = blink } })) (sym open_is.same))
+
 -- a key security has room for its fixed part
 pub security-room : (heap : Heap) (cell size : ℕ) → size ≤ 20 → IsSome (security_at heap cell) → HasRoom heap cell size
 unfolding security_at

@@ -93,6 +93,13 @@ plain-listed old new cell list s w k =
     subst IsPlainKey (sym (held-written old new cell _ w))
     (key-kept 28 (little_bytes 4 list) (held (heap_of old) cell) (omega (arith, room.enough)) (inl (omega arith)) (inl (omega arith)) (inr (omega arith)) (inr (omega arith)) k)
 
+pub plain-secured : (old new : Bins) (cell security : ℕ) → IsSome (key_at (heap_of old) cell) → WritesPart old new cell 44 (little_bytes 4 security) →
+    IsPlainKey (held (heap_of old) cell) → IsPlainKey (held (heap_of new) cell)
+plain-secured old new cell security s w k =
+    let room = key-room (heap_of old) cell 76 (omega arith) s in
+    subst IsPlainKey (sym (held-written old new cell _ w))
+    (key-kept 44 (little_bytes 4 security) (held (heap_of old) cell) (omega (arith, room.enough)) (inl (omega arith)) (inl (omega arith)) (inl (omega arith)) (inr (omega arith)) k)
+
 pub plain-widened : (old new : Bins) (cell largest : ℕ) → IsSome (key_at (heap_of old) cell) →
     WritesPart old new cell 52 (little_bytes 4 largest) → IsPlainKey (held (heap_of old) cell) → IsPlainKey (held (heap_of new) cell)
 plain-widened old new cell largest s w k =
@@ -134,3 +141,19 @@ plain-shared old new cell count s w k =
     let room = security-room (heap_of old) cell 20 (omega arith) s in
     ap (λ c. half c 2) (held-written old new cell _ w)
     ∙ (half-kept 12 (little_bytes 4 count) (held (heap_of old) cell) (omega (arith, room.enough)) 2 (inl (omega arith)) ∙ k)
+
+pub plain-led : (old new : Bins) (cell flink : ℕ) → IsSome (security_at (heap_of old) cell) →
+    WritesPart old new cell 4 (little_bytes 4 flink) → IsPlainSecurity (held (heap_of old) cell) →
+    IsPlainSecurity (held (heap_of new) cell)
+plain-led old new cell flink s w k =
+    let room = security-room (heap_of old) cell 20 (omega arith) s in
+    ap (λ c. half c 2) (held-written old new cell _ w)
+    ∙ (half-kept 4 (little_bytes 4 flink) (held (heap_of old) cell) (omega (arith, room.enough)) 2 (inl (omega arith)) ∙ k)
+
+pub plain-led_back : (old new : Bins) (cell blink : ℕ) → IsSome (security_at (heap_of old) cell) →
+    WritesPart old new cell 8 (little_bytes 4 blink) → IsPlainSecurity (held (heap_of old) cell) →
+    IsPlainSecurity (held (heap_of new) cell)
+plain-led_back old new cell blink s w k =
+    let room = security-room (heap_of old) cell 20 (omega arith) s in
+    ap (λ c. half c 2) (held-written old new cell _ w)
+    ∙ (half-kept 8 (little_bytes 4 blink) (held (heap_of old) cell) (omega (arith, room.enough)) 2 (inl (omega arith)) ∙ k)

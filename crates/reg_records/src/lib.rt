@@ -33,10 +33,12 @@ pub use lists::{
 };
 pub use nk::{
     KeyFields, KeyNode, nk_name, put_nk, read_nk, set_largest_subkey_name, set_largest_value_data,
-    set_largest_value_name, set_subkeys, set_subkeys_list, set_time, set_values,
+    set_largest_value_name, set_security, set_subkeys, set_subkeys_list, set_time, set_values,
 };
 pub use rows::{offset_at, put_offset};
-pub use sk::{SecurityFields, SecurityRecord, put_sk, read_sk, set_security_count};
+pub use sk::{
+    SecurityFields, SecurityRecord, put_sk, read_sk, set_blink, set_flink, set_security_count,
+};
 pub use vk::{ValueFields, ValueRecord, put_vk, read_vk, set_data, vk_name};
 
 /// Why the content of a cell is no record: the first that holds, in this order.

@@ -220,6 +220,16 @@ pub fn set_values(arena: &mut Arena, cell: u32, values: u32, values_list: u32)
     write_part(arena, cell, 36, &[v0, v1, v2, v3, l0, l1, l2, l3]);
 }
 
+/// Writes the offset of the key security that a key node names.
+pub fn set_security(arena: &mut Arena, cell: u32, security: u32)
+    requires { IsSome (key_at (heap_of arena.old) cell) }
+    ensures written { WritesPart arena.old arena.new cell 44 (little_bytes 4 security) }
+    ensures reads { Rereads key_at arena.old arena.new cell (λ r. record r { fields = record r.fields { security = security } }) }
+    ensures plain { IsPlainKey (held (heap_of arena.old) cell) → IsPlainKey (held (heap_of arena.new) cell) }
+{
+    write_part(arena, cell, 44, &word_bytes(security));
+}
+
 /// Writes the largest length of a value's name, in bytes.
 pub fn set_largest_value_name(arena: &mut Arena, cell: u32, largest: u32)
     requires { IsSome (key_at (heap_of arena.old) cell) }

@@ -102,3 +102,23 @@ pub fn set_security_count(arena: &mut Arena, cell: u32, count: u32)
 {
     write_part(arena, cell, 12, &word_bytes(count));
 }
+
+/// Writes the offset of the key security that comes after one in the ring.
+pub fn set_flink(arena: &mut Arena, cell: u32, flink: u32)
+    requires { IsSome (security_at (heap_of arena.old) cell) }
+    ensures written { WritesPart arena.old arena.new cell 4 (little_bytes 4 flink) }
+    ensures reads { Rereads security_at arena.old arena.new cell (λ r. record r { fields = record r.fields { flink = flink } }) }
+    ensures plain { IsPlainSecurity (held (heap_of arena.old) cell) → IsPlainSecurity (held (heap_of arena.new) cell) }
+{
+    write_part(arena, cell, 4, &word_bytes(flink));
+}
+
+/// Writes the offset of the key security that comes before one in the ring.
+pub fn set_blink(arena: &mut Arena, cell: u32, blink: u32)
+    requires { IsSome (security_at (heap_of arena.old) cell) }
+    ensures written { WritesPart arena.old arena.new cell 8 (little_bytes 4 blink) }
+    ensures reads { Rereads security_at arena.old arena.new cell (λ r. record r { fields = record r.fields { blink = blink } }) }
+    ensures plain { IsPlainSecurity (held (heap_of arena.old) cell) → IsPlainSecurity (held (heap_of arena.new) cell) }
+{
+    write_part(arena, cell, 8, &word_bytes(blink));
+}

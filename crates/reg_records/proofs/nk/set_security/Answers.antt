@@ -1,0 +1,20 @@
+use Rattle.std.proofs.Common.{lit≤}
+use Rattle.byteorder.specs.Endian.{little_bytes}
+use Rattle.reg_records.proofs.KeyNodeCodec.{key-room, key-changed}
+use Rattle.reg_records.proofs.KeyNodeFieldWrites.{nk-secured}
+use Rattle.reg_records.proofs.PlainRecords.{plain-secured}
+use Rattle.reg_records.proofs.nk.set_security.Goals as goal
+
+pub write_part-requires : goal.write_part-requires
+write_part-requires c = rw c.word_bytes.ensures.bytes (key-room _ c.args.cell 48 (lit≤ tt) c.requires)
+
+pub returns-clause-written : goal.returns-clause-written
+returns-clause-written c = rw c.word_bytes.ensures.bytes at c.write_part.ensures
+
+pub returns-clause-reads : goal.returns-clause-reads
+returns-clause-reads c =
+    key-changed 44 (little_bytes 4 c.args.security) (λ r. record r { fields = record r.fields { security = c.args.security } })
+    (nk-secured c.args.security c.word_bytes.ensures.fits) _ _ c.args.cell (returns-clause-written c)
+
+pub returns-clause-plain : goal.returns-clause-plain
+returns-clause-plain c = plain-secured _ _ c.args.cell c.args.security c.requires (returns-clause-written c)

@@ -1,0 +1,19 @@
+use Rattle.std.proofs.Common.{lit≤}
+use Rattle.byteorder.specs.Endian.{little_bytes}
+use Rattle.reg_records.proofs.KeySecurityCodec.{security-room, security-changed, sk-led_back}
+use Rattle.reg_records.proofs.PlainRecords.{plain-led_back}
+use Rattle.reg_records.proofs.sk.set_blink.Goals as goal
+
+pub write_part-requires : goal.write_part-requires
+write_part-requires c = rw c.word_bytes.ensures.bytes (security-room _ c.args.cell 12 (lit≤ tt) c.requires)
+
+pub returns-clause-written : goal.returns-clause-written
+returns-clause-written c = rw c.word_bytes.ensures.bytes at c.write_part.ensures
+
+pub returns-clause-reads : goal.returns-clause-reads
+returns-clause-reads c =
+    security-changed 8 (little_bytes 4 c.args.blink) (λ r. record r { fields = record r.fields { blink = c.args.blink } })
+    (sk-led_back c.args.blink c.word_bytes.ensures.fits) _ _ c.args.cell (returns-clause-written c)
+
+pub returns-clause-plain : goal.returns-clause-plain
+returns-clause-plain c = plain-led_back _ _ c.args.cell c.args.blink c.requires (returns-clause-written c)
