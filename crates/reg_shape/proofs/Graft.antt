@@ -5,3 +5,4 @@ pub mod GraftPaths
 pub mod ForestInsert
 pub mod GraftOfExchange
 pub mod ForestInsertFits
+pub mod GraftInRing

@@ -10,7 +10,7 @@ use Rattle.reg_shape.specs.Written.{IsWrittenSecurity}
 use Rattle.reg_shape.specs.Whole.{IsRing}
 use Rattle.reg_shape.specs.Internal.Shapes.{owns, shares, StandsIn}
 use Rattle.reg_shape.specs.Internal.Exchanges.{IsExchanged}
-use Rattle.reg_shape.specs.Internal.Grafts.{IsShape, branch_at, IsRecounted, IsGrafted}
+use Rattle.reg_shape.specs.Internal.Grafts.{IsShape, branch_at, IsRecounted, IsGraftedInRing}
 use Rattle.reg_records.proofs.KeySecurityCodec.{security_at-same}
 use Rattle.reg_shape.proofs.Wholeness.ShapeRecords.{at-most-one, all-at}
 use Rattle.reg_shape.proofs.Frame.WrittenFrame.{same-held}
@@ -35,7 +35,7 @@ recounted-same h k was is z e n s = record {
 
 module _ (h k : Heap) (root : ℕ) (was : Branch Node) (m : Node) (ring spare : List ℕ) (x : IsExchanged h k root was.offset was.node m)
     (room : (z : ℕ) → total_of (owns z) was + (times z ring + times z spare) ≤ allocated h z) where
-  pub exchange-grafts : StandsIn h root was → IsRing h ring → IsGrafted h k root was (record was { node = m }) ring spare spare
+  pub exchange-grafts : StandsIn h root was → IsRing h ring → IsGraftedInRing h k root was (record was { node = m }) ring spare spare
   exchange-grafts a r = record {
     offset = refl;
     alike = x.alike;
@@ -57,5 +57,5 @@ module _ (h k : Heap) (root : ℕ) (was : Branch Node) (m : Node) (ring spare : 
 -- the same where no cell is spare
 pub exchange-grafts-alone : (h k : Heap) (root : ℕ) (was : Branch Node) (m : Node) (ring : List ℕ) →
     IsExchanged h k root was.offset was.node m → ((z : ℕ) → total_of (owns z) was + times z ring ≤ allocated h z) → StandsIn h root was →
-    IsRing h ring → IsGrafted h k root was (record was { node = m }) ring [] []
+    IsRing h ring → IsGraftedInRing h k root was (record was { node = m }) ring [] []
 exchange-grafts-alone h k root was m ring x room = exchange-grafts h k root was m ring [] x (λ z. (let t = room z in omega (arith, t)))

@@ -1,26 +1,23 @@
 -- A hive stays whole where a key and all below it give way to others.
-use Rattle.std.proofs.Common.{◌≡◌, ◌↔◌, ℕ, zero, suc, ◌+◌, ◌<◌, ◌≤◌, max, Some, List, [], ◌∷◌, length, refl, sym, ap, ◌∙◌, subst, arith}
-use Rattle.std.specs.List.{AllByRecursion}
-use Rattle.std.specs.Option.{option_map}
+use Rattle.std.proofs.Common.{◌≡◌, ◌↔◌, ℕ, zero, suc, ◌+◌, ◌<◌, ◌≤◌, max, Option, Some, None, List, [], ◌∷◌, length, refl, sym, ap, ◌∙◌, subst, arith}
+use Rattle.std.specs.Prelude.{unwrap_or}
 use Rattle.std.proofs.lemmas.Option.{same_Some}
 use Rattle.reg_names.specs.declared.TheConstants.{PATH_LIMIT}
-use Rattle.reg_heap.specs.declared.limits.TheConstants.{DESCRIPTOR_LIMIT}
 use Rattle.reg_heap.specs.Paths.{Path}
 use Rattle.reg_heap.specs.Heaps.{Heap}
 use Rattle.reg_heap.specs.Kinds.{times}
 use Rattle.reg_shape.specs.Internal.Forests.{Forest, Branch, heads, total, total_of, Stand}
 use Rattle.reg_shape.specs.Internal.Forests.Forest.{Rooted as Hangs}
-use Rattle.reg_records.specs.KeySecurities.{KeySecurityRecord}
 use Rattle.reg_shape.specs.Nodes.{Node}
-use Rattle.reg_shape.specs.Written.{Pairwise, Fits, IsWrittenSecurity}
-use Rattle.reg_shape.specs.Whole.{IsRing, Links, Leads, Circles, count_at, descriptor_at}
+use Rattle.reg_shape.specs.Written.{Fits}
+use Rattle.reg_shape.specs.Whole.{count_at}
 use Rattle.reg_shape.specs.Internal.Shapes.{owns, shares, IsSeen, StandsIn, depth}
 use Rattle.reg_shape.specs.Internal.Exchanges.{IsAlike}
-use Rattle.reg_shape.specs.Internal.Grafts.{IsShape, branch_in, branch_at, graft_in, graft_at, IsRecounted, IsGrafted}
-use Rattle.reg_shape.proofs.Wholeness.ShapeRecords.{at-most-one}
+use Rattle.reg_shape.specs.Internal.Grafts.{IsShape, branch_in, branch_at, graft_in, graft_at, where_in, uses_in, IsGrafted}
+use Rattle.reg_shape.proofs.Wholeness.ShapeRecords.{all-at, at-most-one}
 use Rattle.reg_shape.proofs.Frame.WrittenFrame.{seen-kept}
 use Rattle.reg_shape.proofs.Wholeness.WholeAfterExchange.{AreAlike, alike-self, fits-alike, forest-kept, all-members}
-use Rattle.reg_shape.proofs.Graft.Branches.{graft-way, branch-total}
+use Rattle.reg_shape.proofs.Graft.Branches.{graft-way}
 
 -- ---- numbers of all keys
 
@@ -123,100 +120,60 @@ module _ (h k : Heap) (root : ℕ) (was : Branch Node) (m : Node) (c : Forest No
         g.stand a.2 (λ z l n. t z (omega (arith, l)) n) (λ z. (let w = one z in omega (arith, w))),
       )
 
--- ---- the ring
+-- ---- what the ring says
 
-module _ (h k : Heap) (was is : Branch Node) where
-  abbrev Recounts : ℕ → Type 0
-  Recounts z = IsRecounted h k (total_of (shares z) was) (total_of (shares z) is) z
+-- a number stands where its list has it
+where-some : (t n : ℕ) → 0 < where_in t n → 0 < t
+where-some zero n l = absurd (omega (arith, l))
+where-some (suc t) n l = omega arith
 
-  links-recounted : (a b : ℕ) → Recounts a → Recounts b → Links h a b → Links k a b
-  links-recounted a b ra rb l = record {
-    forward = ap (option_map (λ (s : KeySecurityRecord). s.fields.flink)) ra.now ∙ (sym (ap (option_map (λ (s : KeySecurityRecord). s.fields.flink)) ra.reads) ∙ l.forward);
-    back = ap (option_map (λ (s : KeySecurityRecord). s.fields.blink)) rb.now ∙ (sym (ap (option_map (λ (s : KeySecurityRecord). s.fields.blink)) rb.reads) ∙ l.back);
-  }
+pub where-there : (t n : ℕ) → 0 < t → where_in t n ≡ n
+where-there zero n l = absurd (omega (arith, l))
+where-there (suc t) n l = refl
 
-  leads-recounted : (y end : ℕ) (rest : List ℕ) → Recounts y → AllByRecursion Recounts rest → Recounts end → Leads h y rest end → Leads k y rest end
-  leads-recounted y end [] e a f c = links-recounted y end e f c
-  leads-recounted y end (z ∷ rest) e a f c = (links-recounted y z e a.0 c.0, leads-recounted z end rest a.0 a.1 f c.1)
+pub where-none : (t n : ℕ) → t ≡ 0 → where_in t n ≡ 0
+where-none zero n e = refl
+where-none (suc t) n e = absurd (omega (arith, e))
 
-  circles-recounted : (ring : List ℕ) → AllByRecursion Recounts ring → Circles h ring → Circles k ring
-  circles-recounted [] a c = c
-  circles-recounted (first ∷ rest) a c = leads-recounted first first rest a.0 a.1 a.0 c
+-- a ring's security says how often it is named
+pub uses-counted : (h : Heap) (ring : List ℕ) (z n : ℕ) → 0 < times z ring → count_at h z ≡ Some n → uses_in h ring z ≡ n
+uses-counted h ring z n l c = where-there (times z ring) (unwrap_or (count_at h z) 0) l ∙ ap (λ o. unwrap_or o 0) c
 
-  pub descriptor-recounted : (z : ℕ) → Recounts z → descriptor_at k z ≡ descriptor_at h z
-  descriptor-recounted z r = ap (option_map (λ (s : KeySecurityRecord). s.descriptor)) r.now ∙ sym (ap (option_map (λ (s : KeySecurityRecord). s.descriptor)) r.reads)
+pub uses-named : (h : Heap) (root : ℕ) (keys : Branch Node) (ring spare : List ℕ) → IsShape h root keys ring spare → (z : ℕ) → uses_in h ring z ≡ total_of (shares z) keys
+uses-named h root keys ring spare w z = by (times z ring) refl
+  where
+    by : (t : ℕ) → times z ring ≡ t → uses_in h ring z ≡ total_of (shares z) keys
+    by zero e =
+        let u = where-none (times z ring) (unwrap_or (count_at h z) 0) e in
+        u ∙ sym (unnamed (total_of (shares z) keys) (w.ringed z).0)
+      where
+        unnamed : (n : ℕ) → (0 < n → 0 < times z ring) → n ≡ 0
+        unnamed zero f = refl
+        unnamed (suc n) f = absurd (let l = f (omega arith) in omega (arith, e, l))
+    by (suc t) e =
+        let l : 0 < times z ring = omega (arith, e) in
+        uses-counted h ring z (total_of (shares z) keys) l (all-at (λ z. count_at h z ≡ Some (total_of (shares z) keys)) ring z w.counts l)
 
-  abbrev Differs : Heap → ℕ → ℕ → Type 0
-  Differs heap a b = descriptor_at heap a ≡ descriptor_at heap b → ⊥
+-- a number is what it is with as much beside it
+same-more : (a b c : ℕ) → a + c ≡ b + c → a ≡ b
+same-more a b c e = omega (arith, e)
 
-  differs-one : (y : ℕ) → Recounts y → (ring : List ℕ) → AllByRecursion Recounts ring → AllByRecursion (Differs h y) ring → AllByRecursion (Differs k y) ring
-  differs-one y r [] a d = tt
-  differs-one y r (z ∷ ring) a d = ((λ same. d.0 (sym (descriptor-recounted y r) ∙ (same ∙ descriptor-recounted z a.0))), differs-one y r ring a.1 d.1)
-
-  differs-recounted : (ring : List ℕ) → AllByRecursion Recounts ring → Pairwise (Differs h) ring → Pairwise (Differs k) ring
-  differs-recounted [] a d = tt
-  differs-recounted (z ∷ ring) a d = (differs-one z a.0 ring a.1 d.0, differs-recounted ring a.1 d.1)
-
-  security-recounted : (z : ℕ) → Recounts z → IsWrittenSecurity h z → IsWrittenSecurity k z
-  security-recounted z r w =
-      let same : w.security ≡ r.security = same_Some _ _ (sym w.reads ∙ r.reads) in
-      record {
-        security = record r.security { fields = record r.security.fields { count = r.count } };
-        reads = r.now;
-        plain = r.plain w.plain;
-        some = subst (λ (s : KeySecurityRecord). 1 ≤ length s.descriptor) same w.some;
-        short = subst (λ (s : KeySecurityRecord). length s.descriptor ≤ DESCRIPTOR_LIMIT) same w.short;
-      }
-
-  securities-recounted : (ring : List ℕ) → AllByRecursion Recounts ring → AllByRecursion (IsWrittenSecurity h) ring → AllByRecursion (IsWrittenSecurity k) ring
-  securities-recounted [] a w = tt
-  securities-recounted (z ∷ ring) a w = (security-recounted z a.0 w.0, securities-recounted ring a.1 w.1)
-
-  pub ring-recounted : (ring : List ℕ) → AllByRecursion Recounts ring → IsRing h ring → IsRing k ring
-  ring-recounted ring a r = record {
-    circles = circles-recounted ring a r.circles;
-    apart = differs-recounted ring a r.apart;
-    written = securities-recounted ring a r.written;
-  }
-
-  -- the count is as often as it is named now, where it was so before
-  count-recounted : (z before now : ℕ) → now + total_of (shares z) was ≡ before + total_of (shares z) is → Recounts z → count_at h z ≡ Some before → count_at k z ≡ Some now
-  count-recounted z before now e r c =
-      let was_count : r.security.fields.count ≡ before = same_Some _ _ (sym (ap (option_map (λ (s : KeySecurityRecord). s.fields.count)) r.reads) ∙ c) in
-      let counted = r.counted in
-      ap (option_map (λ (s : KeySecurityRecord). s.fields.count)) r.now ∙ ap Some (omega (arith, was_count, counted, e))
-
-  counts-recounted : (f g : ℕ → ℕ) → ((z : ℕ) → g z + total_of (shares z) was ≡ f z + total_of (shares z) is) → (ring : List ℕ) →
-      AllByRecursion Recounts ring → AllByRecursion (λ z. count_at h z ≡ Some (f z)) ring → AllByRecursion (λ z. count_at k z ≡ Some (g z)) ring
-  counts-recounted f g e [] a c = tt
-  counts-recounted f g e (z ∷ ring) a c = (count-recounted z (f z) (g z) (e z) a.0 c.0, counts-recounted f g e ring a.1 c.1)
+-- a count that says more than 0 can be read
+read-count : (o : Option ℕ) (n : ℕ) → 0 < n → unwrap_or o 0 ≡ n → o ≡ Some n
+read-count None n l e = absurd (omega (arith, l, e))
+read-count (Some m) n l e = ap Some e
 
 -- ---- whole
 
--- a branch came in a branch's place, and names the securities that were named
-named-still : (all was is new : ℕ) → new + was ≡ all + is → was ≤ all → is ≤ new → (0 < is ↔ 0 < was) → 0 < new ↔ 0 < all
-named-still all was zero new e a b s = (λ l. omega (arith, e, l, a, b), λ l. (let z = none was s.1 in omega (arith, e, l, a, b, z)))
-  where
-    none : (was : ℕ) → (0 < was → 0 < zero) → was ≡ 0
-    none zero n = refl
-    none (suc w) n = absurd (let l = n (omega arith) in omega (arith, l))
-named-still all was (suc is) new e a b s = (λ l. (let w = s.0 (omega arith) in omega (arith, w, a)), λ l. omega (arith, b))
-
 -- the rows of a graft that its shape needs, as they follow from the counts before and after
-module _ (h k : Heap) (root : ℕ) (p : Path) (keys was is : Branch Node) (ring spare left : List ℕ) (e : branch_at p keys ≡ Some was)
-    (g : IsGrafted h k root was is ring spare left) (w : IsShape h root keys ring spare) where
+module _ (h k : Heap) (root : ℕ) (p : Path) (keys was is : Branch Node) (ring spare after left : List ℕ) (e : branch_at p keys ≡ Some was)
+    (g : IsGrafted h k root was is ring spare after left) (w : IsShape h root keys ring spare) where
   placed-there : StandsIn k root (record { offset = was.offset; node = is.node; below = is.below })
   placed-there = subst (λ o. StandsIn k root (record { offset = o; node = is.node; below = is.below })) g.offset g.stands
 
   -- numbers that don't ask for the offset, or ask for the one offset that stays
   has-all : (f : ℕ → Node → ℕ) → total_of f (graft_at p is.node is.below keys) + total_of f was ≡ total_of f keys + total_of f is
   has-all f = let t = graft-total f was is.node is.below p keys e in let o : f is.offset is.node ≡ f was.offset is.node = ap (λ o. f o is.node) g.offset in omega (arith, t, o)
-
-  has-new : (f : ℕ → Node → ℕ) → total_of f is ≤ total_of f (graft_at p is.node is.below keys)
-  has-new f = let t = graft-has f was is.node is.below p keys e in let o : f is.offset is.node ≡ f was.offset is.node = ap (λ o. f o is.node) g.offset in omega (arith, t, o)
-
-  recounts : AllByRecursion (Recounts h k was is) ring
-  recounts = all-members (Recounts h k was is) ring g.recounted
 
   -- the keys stand, however deep
   pub grafted-stands : StandsIn k root (graft_at p is.node is.below keys)
@@ -225,26 +182,39 @@ module _ (h k : Heap) (root : ℕ) (p : Path) (keys was is : Branch Node) (ring 
       (λ z l n. (let x = w.exact z in let a = at-most-one h z in g.same z (omega (arith, x, l)) n (omega (arith, x, a, l)) (omega (arith, x, a, l))))
       (λ z. (let x = w.exact z in let a = at-most-one h z in omega (arith, x, a)))
 
-  pub grafted-ringed : (z : ℕ) → 0 < total_of (shares z) (graft_at p is.node is.below keys) ↔ 0 < times z ring
-  grafted-ringed z =
-      let s = named-still (total_of (shares z) keys) (total_of (shares z) was) (total_of (shares z) is)
-      (total_of (shares z) (graft_at p is.node is.below keys)) (has-all (shares z)) (branch-total (shares z) was p keys e) (has-new (shares z))
-      (g.securities z) in
-      (λ l. (w.ringed z).0 (s.0 l), λ l. s.1 ((w.ringed z).1 l))
+  -- each security says how often it is named
+  pub grafted-uses : (z : ℕ) → uses_in k after z ≡ total_of (shares z) (graft_at p is.node is.below keys)
+  grafted-uses z =
+      let u = uses-named h root keys ring spare w z in
+      let c = g.recounted z in
+      let t = has-all (shares z) in
+      let n : uses_in k after z + total_of (shares z) was ≡ total_of (shares z) keys + total_of (shares z) is = c ∙ ap (λ n. n + total_of (shares z) is) u in
+      same-more (uses_in k after z) (total_of (shares z) (graft_at p is.node is.below keys)) (total_of (shares z) was) (n ∙ sym t)
 
-  pub grafted-whole : length p + depth is.below ≤ PATH_LIMIT → IsShape k root (graft_at p is.node is.below keys) ring left
+  pub grafted-ringed : (z : ℕ) → 0 < total_of (shares z) (graft_at p is.node is.below keys) ↔ 0 < times z after
+  grafted-ringed z = (
+    (λ l. where-some (times z after) (unwrap_or (count_at k z) 0) (subst (λ n. 0 < n) (sym (grafted-uses z)) l)),
+    λ l. subst (λ n. 0 < n) (grafted-uses z) (g.used z l),
+  )
+
+  grafted-count : (z : ℕ) → 0 < times z after → count_at k z ≡ Some (total_of (shares z) (graft_at p is.node is.below keys))
+  grafted-count z l =
+      read-count (count_at k z) (total_of (shares z) (graft_at p is.node is.below keys)) ((grafted-ringed z).1 l)
+      (sym (where-there (times z after) (unwrap_or (count_at k z) 0) l) ∙ grafted-uses z)
+
+  pub grafted-whole : length p + depth is.below ≤ PATH_LIMIT → IsShape k root (graft_at p is.node is.below keys) after left
   grafted-whole deep = record {
     offset = graft-offset is.node is.below p keys ∙ w.offset;
     stands = grafted-stands;
     exact = λ z. (let x = w.exact z in let t = has-all (owns z) in let c = g.count z in omega (arith, x, t, c));
-    closed = ring-recounted h k was is ring recounts w.closed;
+    closed = g.closed;
     ringed = grafted-ringed;
-    counts = counts-recounted h k was is (λ z. total_of (shares z) keys) (λ z. total_of (shares z) (graft_at p is.node is.below keys)) (λ z. has-all (shares z)) ring recounts w.counts;
+    counts = all-members (λ z. count_at k z ≡ Some (total_of (shares z) (graft_at p is.node is.below keys))) after grafted-count;
     shallow = (let d = graft-depth was is.node is.below p keys e in let s = w.shallow in omega (arith, d, s, deep));
   }
 
 -- the hive is whole with the branch that came
-pub grafted : (h k : Heap) (root : ℕ) (p : Path) (keys was is : Branch Node) (ring spare left : List ℕ) → branch_at p keys ≡ Some was →
-    IsGrafted h k root was is ring spare left → length p + depth is.below ≤ PATH_LIMIT → IsShape h root keys ring spare →
-    IsShape k root (graft_at p is.node is.below keys) ring left
-grafted h k root p keys was is ring spare left e g deep w = grafted-whole h k root p keys was is ring spare left e g w deep
+pub grafted : (h k : Heap) (root : ℕ) (p : Path) (keys was is : Branch Node) (ring spare after left : List ℕ) → branch_at p keys ≡ Some was →
+    IsGrafted h k root was is ring spare after left → length p + depth is.below ≤ PATH_LIMIT → IsShape h root keys ring spare →
+    IsShape k root (graft_at p is.node is.below keys) after left
+grafted h k root p keys was is ring spare after left e g deep w = grafted-whole h k root p keys was is ring spare after left e g w deep

@@ -35,13 +35,13 @@ offset-found h root keys e a q =
     by None = refl
     by (Some b) = refl
 
-module _ (h k : Heap) (root : ℕ) (p : Path) (keys was is : Branch Node) (ring spare left : List ℕ) (e : branch_at p keys ≡ Some was)
-    (g : IsGrafted h k root was is ring spare left) (w : IsShape h root keys ring spare) where
+module _ (h k : Heap) (root : ℕ) (p : Path) (keys was is : Branch Node) (ring spare after left : List ℕ) (e : branch_at p keys ≡ Some was)
+    (g : IsGrafted h k root was is ring spare after left) (w : IsShape h root keys ring spare) where
   abbrev new_keys : Branch Node
   new_keys = graft_at p is.node is.below keys
 
   abbrev name : name_of is.node.key ≡ name_of was.node.key
-  name = grafted-name h k root p keys was is ring spare left e g w
+  name = grafted-name h k root p keys was is ring spare after left e g w
 
   abbrev came : Branch Node
   came = grafted_branch was is.node is.below name
@@ -52,7 +52,7 @@ module _ (h k : Heap) (root : ℕ) (p : Path) (keys was is : Branch Node) (ring 
 
   placed-graft : (q : Path) → key_offset_at k root q ≡ by_rest (λ r. its_offset (found_at r came)) (key_offset_at h root q) (rest_of p q)
   placed-graft q =
-      offset-found k root new_keys (graft-offset is.node is.below p keys ∙ w.offset) (grafted-stands h k root p keys was is ring spare left e g w) q
+      offset-found k root new_keys (graft-offset is.node is.below p keys ∙ w.offset) (grafted-stands h k root p keys was is ring spare after left e g w) q
       ∙ (ap its_offset (found-graft was is.node is.below name p keys e q)
       ∙ (map-rest (λ r. found_at r came) (found_at q keys) (rest_of p q)
       ∙ ap (λ o. by_rest (λ r. its_offset (found_at r came)) o (rest_of p q)) (sym (offset-found h root keys w.offset w.stands q))))

@@ -1,5 +1,5 @@
 -- A key and all below it given way to others: what making a key, and deleting one, do to a shape.
-use Rattle.std.specs.Prelude.{◌≡◌, ◌↔◌, ℕ, zero, suc, ◌+◌, ◌<◌, ◌≤◌, cond, Option, Some, None, List, [], ◌∷◌}
+use Rattle.std.specs.Prelude.{◌≡◌, ◌↔◌, ℕ, zero, suc, ◌+◌, ◌<◌, ◌≤◌, cond, Option, Some, None, unwrap_or, List, [], ◌∷◌}
 use Rattle.std.specs.List.{AllByRecursion}
 use Rattle.reg_names.specs.declared.TheConstants.{PATH_LIMIT}
 use Rattle.reg_heap.specs.Paths.{Path}
@@ -10,7 +10,7 @@ use Rattle.reg_shape.specs.Internal.Forests.Forest.{End, Rooted as Hangs}
 use Rattle.reg_records.specs.RecordCells.{held}
 use Rattle.reg_records.specs.KeySecurities.{KeySecurityRecord, security_at, IsPlainSecurity}
 use Rattle.reg_shape.specs.Nodes.{Node}
-use Rattle.reg_shape.specs.Whole.{IsRing, count_at}
+use Rattle.reg_shape.specs.Whole.{IsRing, count_at, descriptor_at}
 use Rattle.reg_shape.specs.Internal.Shapes.{owns, shares, StandsIn, depth}
 use Rattle.reg_shape.specs.Internal.Exchanges.{is_named, IsAlike}
 
@@ -73,9 +73,32 @@ pub record IsRecounted (old new : Heap) (was is : ℕ) (offset : ℕ) : Type 0 w
   pub plain : IsPlainSecurity (held old offset) → IsPlainSecurity (held new offset)
   pub counted : count + was ≡ security.fields.count + is
 
--- a key and all below it gave way to others at its offset, which stand in its cells and in cells that were spare; what it shows
--- above is the same, and the securities that it names
-pub record IsGrafted (old new : Heap) (root : ℕ) (was is : Branch Node) (ring spare left : List ℕ) : Type 0 where
+-- a number for what stands in a list so many times, and 0 for what doesn't stand in it
+abbrev pub where_in : ℕ → ℕ → ℕ
+where_in zero n = 0
+where_in (suc t) n = n
+
+-- how often a ring's security says that it is used, and 0 for one that isn't in the ring
+abbrev pub uses_in : Heap → List ℕ → ℕ → ℕ
+uses_in heap ring offset = where_in (times offset ring) (unwrap_or (count_at heap offset) 0)
+
+-- a key and all below it gave way to others at its offset, which stand in its cells and in cells that were spare or a security's that
+-- left the ring; what it shows above is the same, and each security of the ring after it is used as often as it is named now
+pub record IsGrafted (old new : Heap) (root : ℕ) (was is : Branch Node) (ring spare after left : List ℕ) : Type 0 where
+  pub offset : is.offset ≡ was.offset
+  pub alike : IsAlike was.node is.node
+  pub stands : StandsIn new root is
+  pub count : (offset : ℕ) → allocated new offset + (total_of (owns offset) was + times offset ring + times offset spare) ≡
+      allocated old offset + (total_of (owns offset) is + times offset after + times offset left)
+  pub same : (offset : ℕ) → 0 < allocated old offset → total_of (owns offset) was ≡ 0 → times offset spare ≡ 0 →
+      times offset ring ≡ 0 → new offset ≡ old offset
+  pub closed : IsRing new after
+  pub described : (offset : ℕ) → 0 < times offset ring → 0 < times offset after → descriptor_at new offset ≡ descriptor_at old offset
+  pub used : (offset : ℕ) → 0 < times offset after → 0 < uses_in new after offset
+  pub recounted : (offset : ℕ) → uses_in new after offset + total_of (shares offset) was ≡ uses_in old ring offset + total_of (shares offset) is
+
+-- the same where the ring keeps its securities, and each of them is named before and after: their counts alone change
+pub record IsGraftedInRing (old new : Heap) (root : ℕ) (was is : Branch Node) (ring spare left : List ℕ) : Type 0 where
   pub offset : is.offset ≡ was.offset
   pub alike : IsAlike was.node is.node
   pub stands : StandsIn new root is

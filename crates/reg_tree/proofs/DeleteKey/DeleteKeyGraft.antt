@@ -13,7 +13,7 @@ use Rattle.reg_records.specs.SubkeyLists.{Entry, offsets_in}
 use Rattle.reg_shape.specs.Nodes.{Node, entries_of, met_of}
 use Rattle.reg_shape.specs.Written.{Fits, IsWrittenSecurity}
 use Rattle.reg_shape.specs.Internal.Shapes.{index_cells, cells_of, owns, shares, IsSeen, StandsIn}
-use Rattle.reg_shape.specs.Internal.Grafts.{IsShape, IsGrafted, IsRecounted, branch_in, branch_at, unhang}
+use Rattle.reg_shape.specs.Internal.Grafts.{IsShape, IsGraftedInRing, IsRecounted, branch_in, branch_at, unhang}
 use Rattle.reg_shape.proofs.Graft.Branches.{branch-total}
 use Rattle.reg_shape.proofs.Wholeness.WholeAfterExchange.{all-weaker}
 use Rattle.reg_shape.proofs.Graft.ForestInsert.{stand-unhang}
@@ -269,7 +269,7 @@ module _ (h0 : Heap) (root : ℕ) (keys : Branch Node) (first : ℕ) (w : IsShap
           counted = (let a = shared-now first in let c = below-parts (shares first) in let d = names-once in let o = some-count in omega (arith, a, c, d, o));
         }
 
-        pub grafts : IsGrafted h0 h5 root was is (first ∷ []) [] []
+        pub grafts : IsGraftedInRing h0 h5 root was is (first ∷ []) [] []
         grafts = record {
           offset = refl;
           alike = record { name = refl; parent = refl; class_length = refl };

@@ -18,14 +18,15 @@ use Rattle.reg_shape.specs.Nodes.{Node, Index, entries_of, look}
 use Rattle.reg_shape.specs.Nodes.Index.{Unlisted, Listed, Rooted}
 use Rattle.reg_shape.specs.Spelt.{rec_of, name_of}
 use Rattle.reg_shape.specs.Internal.Shapes.{descriptor_in, StandsIn}
-use Rattle.reg_shape.specs.Internal.Grafts.{IsShape, IsGrafted, branch_in, branch_at, graft_at}
+use Rattle.reg_shape.specs.Internal.Grafts.{IsShape, IsGrafted, IsGraftedInRing, branch_in, branch_at, graft_at}
 use Rattle.reg_shape.specs.PathLookup.{key_offset_at}
 use Rattle.reg_shape.proofs.Graft.Branches.{branch-append, branch-stands}
 use Rattle.reg_shape.proofs.Graft.WholeAfterGraft.{grafted, graft-total}
 use Rattle.reg_shape.proofs.Graft.ForestInsertFits.{deep-unhung}
 use Rattle.reg_shape.proofs.Walking.IndexWalks.{then-open}
 use Rattle.reg_shape.proofs.Lookup.LookupOfShape.{offset-append}
-use Rattle.reg_shape.proofs.Refinement.RefinementAfterGraft.{grafted-name, tree-unhung}
+use Rattle.reg_shape.proofs.Graft.GraftInRing.{graft-in-ring, tree-unhung-in-ring}
+use Rattle.reg_shape.proofs.Refinement.RefinementAfterGraft.{grafted-name}
 use Rattle.reg_shape.proofs.Lookup.LookupAfterGraft.{offsets-unhung}
 use Rattle.reg_shape.proofs.Refinement.RefinementAfterEdit.{same_path, name-is}
 use Rattle.reg_index.specs.Subkeys.{IsSingle}
@@ -178,8 +179,11 @@ module _ (old : List ℕ) (key : ℕ) (t : IsHere old key) (childless : (branch 
           abbrev came : Branch Node
           came = is h t.root keys first w p was was-is single x b found childless h2 moment un h4 freed h5 re
 
-          grafts-here : IsGrafted h h5 t.root was came ring [] []
-          grafts-here = grafts h t.root keys first w p was was-is single x b found childless h2 moment un h4 freed h5 re
+          in-ring : IsGraftedInRing h h5 t.root was came ring [] []
+          in-ring = grafts h t.root keys first w p was was-is single x b found childless h2 moment un h4 freed h5 re
+
+          grafts-here : IsGrafted h h5 t.root was came ring [] ring []
+          grafts-here = graft-in-ring h h5 t.root p keys was came ring [] [] was-is in-ring w
 
           abbrev now : Branch Node
           now = graft_at p came.node came.below keys
@@ -189,7 +193,7 @@ module _ (old : List ℕ) (key : ℕ) (t : IsHere old key) (childless : (branch 
             keys = now;
             ring = t.holds.ring;
             shape = subst (λ ring. IsShape h5 t.root now ring []) (sym ring_is)
-                (grafted h h5 t.root p keys was came ring [] [] was-is grafts-here (deep-unhung p keys was index was-is w.shallow) w);
+                (grafted h h5 t.root p keys was came ring [] ring [] was-is grafts-here (deep-unhung p keys was index was-is w.shallow) w);
             sole = t.holds.sole;
             unrooted = (
                 let g = graft-total rooted was came.node came.below p keys was-is in
@@ -209,7 +213,7 @@ module _ (old : List ℕ) (key : ℕ) (t : IsHere old key) (childless : (branch 
           unfolding holds-now
           tree-now =
               spelt_is new t.root holds-now
-              ∙ (tree-unhung h h5 t.root p keys was came ring [] [] was-is grafts-here w index b.offset b.node x called refl (leaf h t.root keys first w p was was-is single x b found childless)
+              ∙ (tree-unhung-in-ring h h5 t.root p keys was came ring [] [] was-is in-ring w index b.offset b.node x called refl (leaf h t.root keys first w p was was-is single x b found childless)
               ∙ (ap (λ (tree : Tree). remove (insert tree p (at_time moment rec)) (p ++ x ∷ [])) (sym (spelt_is old t.root t.holds))
               ∙ (ap (λ (tree : Tree). remove tree (p ++ x ∷ [])) (sym (edited-at (tree_in old t.root) p rec (at_time moment) rec-there))
               ∙ (ap (λ q. remove (edited (tree_in old t.root) q (at_time moment)) (p ++ x ∷ [])) (sym (above-is p x))
@@ -217,7 +221,7 @@ module _ (old : List ℕ) (key : ℕ) (t : IsHere old key) (childless : (branch 
 
           offsets-now : (q : Path) → q ≢ t.path → key_offset_at h5 t.root q ≡ key_offset_at h t.root q
           offsets-now q n =
-              offsets-unhung h h5 t.root p keys was came ring [] [] was-is grafts-here w index b.offset b.node x called refl (leaf h t.root keys first w p was was-is single x b found childless) q
+              offsets-unhung h h5 t.root p keys was came ring [] ring [] was-is grafts-here w index b.offset b.node x called refl (leaf h t.root keys first w p was was-is single x b found childless) q
               ∙ ap (λ same. cond same None (key_offset_at h t.root q)) (other-path q (p ++ x ∷ []) (λ e. n (e ∙ sym parts.2)))
 
           pub is-deleted : IsDeleted old new t.root t.path moment
@@ -237,7 +241,7 @@ module _ (old : List ℕ) (key : ℕ) (t : IsHere old key) (childless : (branch 
           pub lengths-stay : LengthsStay h h5 t.root
           unfolding holds-now
           lengths-stay =
-              lengths_stay h h5 t.root p keys was came was-is (grafted-name h h5 t.root p keys was came ring [] [] was-is grafts-here w)
+              lengths_stay h h5 t.root p keys was came was-is (grafted-name h h5 t.root p keys was came ring [] ring [] was-is grafts-here w)
               w.offset w.stands holds-now.shape.offset holds-now.shape.stands below-same
               (ap (λ n. record (lengths_of was.node.key) { subkey_name = n }) (raised-none was.node.key.fields.largest_subkey_name))
 

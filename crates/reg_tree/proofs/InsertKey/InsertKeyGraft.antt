@@ -23,7 +23,7 @@ use Rattle.reg_records.specs.SubkeyLists.{Entry}
 use Rattle.reg_shape.specs.Nodes.{Node, entries_of}
 use Rattle.reg_shape.specs.Written.{Precedes, Fits, IsWrittenSecurity}
 use Rattle.reg_shape.specs.Internal.Shapes.{cells_of, index_cells, owns, shares, IsSeen, StandsIn}
-use Rattle.reg_shape.specs.Internal.Grafts.{IsShape, IsGrafted, IsRecounted, hang}
+use Rattle.reg_shape.specs.Internal.Grafts.{IsShape, IsGraftedInRing, IsRecounted, hang}
 use Rattle.reg_shape.specs.PathLookup.{key_offset_at, subkey_named}
 use Rattle.reg_shape.proofs.Frame.WrittenFrame.{same-held}
 use Rattle.reg_shape.proofs.Walking.WalkRefinement.{IsLooked}
@@ -288,7 +288,7 @@ module _ (h0 h1 h2 h3 h4 : Heap) (root : ℕ) (keys : Branch Node) (ring : List 
                   (let s = shares-now z in let t = times-not z security [] (λ e. n (sym e)) refl in omega (arith, s, t))
                   (all-at (IsWrittenSecurity h0) ring z w.closed.written l)
 
-          pub grafts : IsGrafted h0 h4 root was is ring spare left
+          pub grafts : IsGraftedInRing h0 h4 root was is ring spare left
           grafts = record {
             offset = refl;
             alike = record { name = refl; parent = refl; class_length = refl };

@@ -21,7 +21,7 @@ use Rattle.reg_shape.specs.Nodes.{Node, entries_of}
 use Rattle.reg_shape.specs.Internal.Shapes.{descriptor_in, tree_of, IsSeen, StandsIn}
 use Rattle.reg_shape.specs.Spelt.{rec_of, name_of}
 use Rattle.reg_shape.specs.Internal.Exchanges.{is_named, found_in, found_at}
-use Rattle.reg_shape.specs.Internal.Grafts.{IsShape, IsGrafted, branch_at, graft_at, hang}
+use Rattle.reg_shape.specs.Internal.Grafts.{IsShape, IsGrafted, IsGraftedInRing, branch_at, graft_at, hang}
 use Rattle.reg_shape.specs.PathLookup.{key_offset_at, key_named, subkey_named}
 use Rattle.reg_records.proofs.KeyNodeCodec.{key_at-same}
 use Rattle.reg_shape.proofs.Walking.WalkRefinement.{IsLooked}
@@ -30,7 +30,8 @@ use Rattle.reg_shape.proofs.Graft.Branches.{its_key, branch-found}
 use Rattle.reg_shape.proofs.Graft.ForestInsertFits.{deep-hung}
 use Rattle.reg_shape.proofs.Refinement.RefinementAfterEdit.{same_path, name-is}
 use Rattle.reg_shape.proofs.Graft.WholeAfterGraft.{grafted, graft-total}
-use Rattle.reg_shape.proofs.Refinement.RefinementAfterGraft.{grafted-name, tree-hung}
+use Rattle.reg_shape.proofs.Graft.GraftInRing.{graft-in-ring, tree-hung-in-ring}
+use Rattle.reg_shape.proofs.Refinement.RefinementAfterGraft.{grafted-name}
 use Rattle.reg_shape.proofs.Lookup.LookupAfterGraft.{offsets-hung}
 use Rattle.reg_shape.proofs.Lookup.LookupOfShape.{placed, offset-more}
 use Rattle.reg_index.specs.Subkeys.{AreSubkeys, IsIndexFor, Moves, names_in, entry_for, with_one, cells_of_index, own, taken, insert_size}
@@ -138,9 +139,12 @@ module _ (h0 h1 h2 h3 h4 : Heap) (root : ℕ) (keys : Branch Node) (ring : List 
           abbrev is : Branch Node
           is = record { offset = P; node = now; below = hang index key made was.below }
 
-          grafts : IsGrafted h0 h4 root was is ring spare left
-          grafts = grafting.grafts h0 h1 h2 h3 h4 root keys ring p parent list_cell key left w unrooted at others1 there1 count1 list1 moves
+          in-ring : IsGraftedInRing h0 h4 root was is ring spare left
+          in-ring = grafting.grafts h0 h1 h2 h3 h4 root keys ring p parent list_cell key left w unrooted at others1 there1 count1 list1 moves
               name moment notes index good short key1 plain1 stands_at missing subkeys2 count_is users users_are recounts
+
+          grafts : IsGrafted h0 h4 root was is ring spare ring left
+          grafts = graft-in-ring h0 h4 root p keys was is ring spare left (keyed.branch_is h0 root keys ring spare w p parent at) in-ring w
 
           spare-made : (z : ℕ) → 0 < times z left → h4 z ≡ h0 z
           spare-made = grafting.spare-made h0 h1 h2 h3 h4 root keys ring p parent list_cell key left w unrooted at others1 there1 count1 list1
@@ -152,7 +156,7 @@ module _ (h0 h1 h2 h3 h4 : Heap) (root : ℕ) (keys : Branch Node) (ring : List 
           keys_now = graft_at p now (hang index key made was.below) keys
 
           pub shape-made : length p + 1 ≤ PATH_LIMIT → IsShape h4 root keys_now ring left
-          shape-made deep = grafted h0 h4 root p keys was is ring spare left (keyed.branch_is h0 root keys ring spare w p parent at) grafts
+          shape-made deep = grafted h0 h4 root p keys was is ring spare ring left (keyed.branch_is h0 root keys ring spare w p parent at) grafts
               (deep-hung p keys was index key made (keyed.branch_is h0 root keys ring spare w p parent at) w.shallow deep) w
 
           pub unrooted-made : total_of rooted keys_now ≡ 0
@@ -181,12 +185,12 @@ module _ (h0 h1 h2 h3 h4 : Heap) (root : ℕ) (keys : Branch Node) (ring : List 
 
           pub tree-made : tree_of h4 keys_now ≡ with_key (tree_of h0 keys) p name moment
           tree-made =
-              tree-hung h0 h4 root p keys was is ring spare left (keyed.branch_is h0 root keys ring spare w p parent at) grafts w index key made (folded name) refl refl free
+              tree-hung-in-ring h0 h4 root p keys was is ring spare left (keyed.branch_is h0 root keys ring spare w p parent at) in-ring w index key made (folded name) refl refl free
               ∙ (ap (λ (t : Tree). insert t (p ++ folded name ∷ []) (made_key name (descriptor_in h0 security) moment)) (sym (edited-at (tree_of h0 keys) p rec_above (at_time moment) above-there))
               ∙ ap (λ (o : Option Rec). insert (edited (tree_of h0 keys) p (at_time moment)) (p ++ folded name ∷ []) (made_key name (descriptor_of o) moment)) (sym above-there))
 
           pub offsets-made : (q : Path) → key_offset_at h4 root q ≡ cond (same_path q (p ++ folded name ∷ [])) (Some key) (key_offset_at h0 root q)
-          offsets-made = offsets-hung h0 h4 root p keys was is ring spare left (keyed.branch_is h0 root keys ring spare w p parent at) grafts w index key made (folded name) refl refl free
+          offsets-made = offsets-hung h0 h4 root p keys was is ring spare ring left (keyed.branch_is h0 root keys ring spare w p parent at) grafts w index key made (folded name) refl refl free
 
           pub grows : length p < PATH_LIMIT → Grows h0 h4 root p keys ring key left name moment
           unfolding insert_size
@@ -208,7 +212,7 @@ module _ (h0 h1 h2 h3 h4 : Heap) (root : ℕ) (keys : Branch Node) (ring : List 
           }
             where
               same-name : name_of now.key ≡ name_of was.node.key
-              same-name = grafted-name h0 h4 root p keys was is ring spare left (keyed.branch_is h0 root keys ring spare w p parent at) grafts w
+              same-name = grafted-name h0 h4 root p keys was is ring spare ring left (keyed.branch_is h0 root keys ring spare w p parent at) grafts w
 
               none-free : found_in (folded name ∷ []) was.below ≡ None
               none-free = branch-found (folded name ∷ []) was ∙ ap (option_map its_key) free

@@ -20,7 +20,7 @@ use Rattle.reg_shape.specs.Nodes.{Node, entries_of}
 use Rattle.reg_shape.specs.Spelt.{rec_of}
 use Rattle.reg_shape.specs.Written.{IsWrittenSecurity}
 use Rattle.reg_shape.specs.Internal.Shapes.{cells_of, index_cells, owns, shares, descriptor_in, tree_of, StandsIn}
-use Rattle.reg_shape.specs.Internal.Grafts.{IsShape, IsGrafted, IsRecounted}
+use Rattle.reg_shape.specs.Internal.Grafts.{IsShape, IsGrafted, IsGraftedInRing, IsRecounted}
 use Rattle.reg_shape.specs.PathLookup.{key_offset_at, subkey_named}
 use Rattle.reg_records.proofs.KeyNodeCodec.{key_at-same}
 use Rattle.reg_shape.proofs.Frame.WrittenFrame.{seen-kept, same-held}
@@ -30,7 +30,7 @@ use Rattle.reg_shape.proofs.Wholeness.ShapeRecords.{all-at, at-most-one}
 use Rattle.reg_shape.proofs.Wholeness.WholeAfterExchange.{forest-kept}
 use Rattle.reg_shape.proofs.Graft.GraftOfExchange.{recounted-same}
 use Rattle.reg_shape.proofs.Graft.WholeAfterGraft.{grafted}
-use Rattle.reg_shape.proofs.Refinement.RefinementAfterGraft.{tree-same-below}
+use Rattle.reg_shape.proofs.Graft.GraftInRing.{graft-in-ring, tree-same-below-in-ring}
 use Rattle.reg_shape.proofs.Lookup.LookupAfterGraft.{offsets-same}
 use Rattle.reg_shape.proofs.Lookup.LookupOfShape.{offset-none, offset-more, offset-append}
 use Rattle.reg_shape.proofs.Refinement.RefinementAtPath.{told}
@@ -80,8 +80,8 @@ module _ (h k : Heap) (root : ℕ) (keys : Branch Node) (ring spare : List ℕ) 
   recounted : (z : ℕ) → 0 < times z ring → IsRecounted h k (total_of (shares z) keys) (total_of (shares z) keys) z
   recounted z l = recounted-same h k (total_of (shares z) keys) (total_of (shares z) keys) z (calm-ring z l) refl (all-at (IsWrittenSecurity h) ring z w.closed.written l)
 
-  grafts : IsGrafted h k root keys keys ring [] spare
-  grafts = record {
+  in-ring : IsGraftedInRing h k root keys keys ring [] spare
+  in-ring = record {
     offset = refl;
     alike = record { name = refl; parent = refl; class_length = refl };
     stands = stands;
@@ -91,16 +91,19 @@ module _ (h k : Heap) (root : ℕ) (keys : Branch Node) (ring spare : List ℕ) 
     recounted = recounted;
   }
 
+  grafts : IsGrafted h k root keys keys ring [] ring spare
+  grafts = graft-in-ring h k root [] keys keys keys ring [] spare refl in-ring w
+
   pub shape-spared : IsShape k root keys ring spare
-  shape-spared = grafted h k root [] keys keys keys ring [] spare refl grafts (omega (arith, w.shallow)) w
+  shape-spared = grafted h k root [] keys keys keys ring [] ring spare refl grafts (omega (arith, w.shallow)) w
 
   pub tree-spared : tree_of k keys ≡ tree_of h keys
   tree-spared =
-      tree-same-below h k root [] keys keys keys ring [] spare refl grafts w refl
+      tree-same-below-in-ring h k root [] keys keys keys ring [] spare refl in-ring w refl
       ∙ insert-same (tree_of h keys) [] (rec_of keys.node (descriptor_in h keys.node.key.fields.security)) (told h root keys w.stands [])
 
   pub offsets-spared : (q : Path) → key_offset_at k root q ≡ key_offset_at h root q
-  offsets-spared q = offsets-same h k root [] keys keys keys ring [] spare refl grafts w refl q
+  offsets-spared q = offsets-same h k root [] keys keys keys ring [] ring spare refl grafts w refl q
 
 -- ---- keys may be made in them
 

@@ -14,10 +14,11 @@ use Rattle.reg_shape.specs.Nodes.{Node, members_at}
 use Rattle.reg_shape.specs.Spelt.{rec_of, name_of}
 use Rattle.reg_shape.specs.Internal.Shapes.{descriptor_in}
 use Rattle.reg_shape.specs.Internal.Exchanges.{IsExchanged}
-use Rattle.reg_shape.specs.Internal.Grafts.{IsShape, IsGrafted, graft_at}
+use Rattle.reg_shape.specs.Internal.Grafts.{IsShape, IsGrafted, IsGraftedInRing, graft_at}
 use Rattle.reg_shape.proofs.Graft.GraftOfExchange.{exchange-grafts}
 use Rattle.reg_shape.proofs.Graft.WholeAfterGraft.{grafted, graft-total}
-use Rattle.reg_shape.proofs.Refinement.RefinementAfterGraft.{grafted-name, tree-same-below}
+use Rattle.reg_shape.proofs.Graft.GraftInRing.{graft-in-ring, tree-same-below-in-ring}
+use Rattle.reg_shape.proofs.Refinement.RefinementAfterGraft.{grafted-name}
 use Rattle.reg_shape.proofs.Lookup.LookupAfterGraft.{offsets-same}
 use Rattle.reg_values.specs.ValueLists.{Became}
 use Rattle.reg_tree.specs.TreeKeys.{tree_in}
@@ -79,14 +80,17 @@ module _ (old mid new : List ℕ) (key : ℕ) (t : IsHere old key) (count list n
   abbrev is : Branch Node
   is = record was { node = after }
 
-  grafts : IsGrafted h j t.root was is ring [] []
-  grafts = exchange-grafts h j t.root was after ring [] exchanged (branch_once old key t) (stands old key t) t.holds.shape.closed
+  in-ring : IsGraftedInRing h j t.root was is ring [] []
+  in-ring = exchange-grafts h j t.root was after ring [] exchanged (branch_once old key t) (stands old key t) t.holds.shape.closed
+
+  grafts : IsGrafted h j t.root was is ring [] ring []
+  grafts = graft-in-ring h j t.root t.path keys was is ring [] [] (branch_is old key t) in-ring t.holds.shape
 
   abbrev now : Branch Node
   now = graft_at t.path after was.below keys
 
   shape : IsShape j t.root now ring []
-  shape = grafted h j t.root t.path keys was is ring [] [] (branch_is old key t) grafts (shallow old key t) t.holds.shape
+  shape = grafted h j t.root t.path keys was is ring [] ring [] (branch_is old key t) grafts (shallow old key t) t.holds.shape
 
   holds-now : TreeInvariant new t.root
   holds-now = record {
@@ -105,22 +109,22 @@ module _ (old mid new : List ℕ) (key : ℕ) (t : IsHere old key) (count list n
   is_changed = record {
     holds = holds-now;
     tree = spelt_is new t.root holds-now
-        ∙ (tree-same-below h j t.root t.path keys was is ring [] [] (branch_is old key t) grafts t.holds.shape refl
+        ∙ (tree-same-below-in-ring h j t.root t.path keys was is ring [] [] (branch_is old key t) in-ring t.holds.shape refl
         ∙ (ap (λ (tree : Tree). insert tree t.path (rec_of after (descriptor_in h after.key.fields.security))) (sym (spelt_is old t.root t.holds))
         ∙ (ap (insert (tree_in old t.root) t.path) (sym (does rec refl))
         ∙ sym (edited-at (tree_in old t.root) t.path rec f (rec_there old key t)))));
-    offsets = λ q. offsets-same h j t.root t.path keys was is ring [] [] (branch_is old key t) grafts t.holds.shape refl q;
+    offsets = λ q. offsets-same h j t.root t.path keys was is ring [] ring [] (branch_is old key t) grafts t.holds.shape refl q;
   }
 
   same_name_here : name_of after.key ≡ name_of was.node.key
-  same_name_here = grafted-name h j t.root t.path keys was is ring [] [] (branch_is old key t) grafts t.holds.shape
+  same_name_here = grafted-name h j t.root t.path keys was is ring [] ring [] (branch_is old key t) grafts t.holds.shape
 
   -- the largest lengths that the key notes
   pub lengths_changed : LengthsChange h j t.root t.path (with_value_lengths name size)
   lengths_changed =
       lengths_change h j t.root t.path keys was is (branch_is old key t) same_name_here t.holds.shape.offset t.holds.shape.stands shape.offset shape.stands
       (λ y r o m n e f. ap (λ (z : ℕ × Node). z.1) (same_Some _ _ (sym f ∙ e))) (with_value_lengths name size) refl
-      (λ q o at. offsets-same h j t.root t.path keys was is ring [] [] (branch_is old key t) grafts t.holds.shape refl q ∙ at)
+      (λ q o at. offsets-same h j t.root t.path keys was is ring [] ring [] (branch_is old key t) grafts t.holds.shape refl q ∙ at)
 
   pub lengths_kept : name ≡ 0 → size ≡ 0 → LengthsStay h j t.root
   lengths_kept a b =
