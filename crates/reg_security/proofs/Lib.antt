@@ -1,0 +1,6 @@
+pub mod SecurityReading
+pub mod RingTurned
+pub mod RingJoined
+pub mod RingLeft
+pub mod RingCounted
+pub mod TableCells
