@@ -22,6 +22,8 @@ mod records;
 #[cfg(test)]
 mod scripts;
 #[cfg(test)]
+mod securities;
+#[cfg(test)]
 mod support;
 #[cfg(test)]
 mod values;
