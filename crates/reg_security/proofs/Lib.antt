@@ -4,3 +4,4 @@ pub mod RingJoined
 pub mod RingLeft
 pub mod RingCounted
 pub mod TableCells
+pub mod CellsRelinked

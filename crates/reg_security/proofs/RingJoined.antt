@@ -72,7 +72,7 @@ not-first z x xs none e =
     omega (arith, l, none)
 
 -- a member isn't a number that doesn't stand in the list
-not-member : (z y : ℕ) (xs : List ℕ) → 0 < times z xs → times y xs ≡ 0 → z ≢ y
+pub not-member : (z y : ℕ) (xs : List ℕ) → 0 < times z xs → times y xs ≡ 0 → z ≢ y
 not-member z y xs l none e =
     let m : 0 < times y xs = subst (λ x. 0 < times x xs) e l in
     omega (arith, m, none)

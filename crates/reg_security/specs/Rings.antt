@@ -1,6 +1,6 @@
 -- The ring of key securities, and how one is found by its descriptor (Suhanov, Windows registry file format specification, section
 -- "Key security").
-use Rattle.std.specs.Prelude.{◌≡◌, ◌≢◌, ℕ, ◌+◌, ◌<◌, if◌then◌else◌, bytes_eq, Option, Some, None, IsSome, List, [], ◌∷◌, refl}
+use Rattle.std.specs.Prelude.{◌≡◌, ◌≢◌, ℕ, ◌+◌, ◌<◌, if◌then◌else◌, bytes_eq, Option, Some, None, IsSome, List, [], ◌∷◌, ◌++◌, length, drop, is_some, refl}
 use Rattle.std.specs.Ordering.{nat_cmp}
 use Rattle.std.specs.Cmp.Lexicographic.{slice_cmp}
 use Rattle.std.specs.BTreeMap.{is_at}
@@ -10,7 +10,7 @@ use Rattle.reg_heap.specs.Heaps.{Heap, CellFrame, Writes}
 use Rattle.reg_heap.specs.Kinds.{times}
 use Rattle.reg_heap.specs.Paths.{coded_bytes}
 use Rattle.reg_records.specs.RecordCells.{held}
-use Rattle.reg_records.specs.KeySecurities.{KeySecurityRecord, security_at, IsPlainSecurity}
+use Rattle.reg_records.specs.KeySecurities.{KeySecurityRecord, security_at, sk_bytes, IsPlainSecurity}
 use Rattle.reg_shape.specs.Whole.{IsRing, descriptor_at, count_at}
 
 -- descriptors, each with the offset of its security's cell
@@ -55,6 +55,19 @@ pub record Recounts (old new : Heap) (cell : ℕ) (change : ℕ → ℕ) : Type 
       security_at new cell ≡ Some (record s { fields = record s.fields { count = change s.fields.count } })
   pub plain : IsPlainSecurity (held old cell) → IsPlainSecurity (held new cell)
   pub others : (offset : ℕ) → offset ≢ cell → new offset ≡ old offset
+
+-- a cell is there as it was, and holds as many bytes, the same ones behind where a security has its neighbours
+pub record IsRelinked (old new : Heap) (cell : ℕ) : Type 0 where
+  pub there : is_some (new cell) ≡ is_some (old cell)
+  pub long : length (held new cell) ≡ length (held old cell)
+  pub rest : drop 12 (held new cell) ≡ drop 12 (held old cell)
+
+-- a security that counts one key stands at the start of a cell, behind whatever neighbours; what follows it there stays
+pub record IsPut (old new : Heap) (cell : ℕ) (descriptor : List ℕ) : Type 0 where
+  pub flink : ℕ
+  pub blink : ℕ
+  pub holds : new cell ≡
+      Some (sk_bytes (record { flink = flink; blink = blink; count = 1 }) descriptor ++ drop (20 + length descriptor) (held old cell))
 
 -- a security describes the same as before, and counts as many keys
 pub record IsSameSecurity (old new : Heap) (cell : ℕ) : Type 0 where

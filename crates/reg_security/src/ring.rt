@@ -7,7 +7,7 @@ ghost use Rattle.reg_arena.specs.Arena.{heap_of};
 ghost use Rattle.reg_records.specs.RecordCells.{HasRoom, WritesRecord};
 ghost use Rattle.reg_records.specs.KeySecurities.{KeySecurityRecord, security_at, sk_bytes};
 ghost use Rattle.reg_shape.specs.Whole.{IsRing, descriptor_at};
-ghost use Rattle.reg_security.specs.Rings.{IsAdded, IsNear, IsRemoved};
+ghost use Rattle.reg_security.specs.Rings.{IsAdded, IsNear, IsPut, IsRelinked, IsRemoved};
 
 use crate::look::read;
 use reg_arena::Arena;
@@ -20,6 +20,8 @@ fn put_alone(arena: &mut Arena, cell: u32, descriptor: &[u8])
     ensures added { IsAdded (heap_of arena.old) (heap_of arena.new) [] cell descriptor.now }
     ensures written { WritesRecord arena.old arena.new cell (20 + length descriptor.now)
         (sk_bytes (record { flink = cell; blink = cell; count = 1 }) descriptor.now) }
+    ensures beside { (offset : ℕ) → offset ≢ cell → IsRelinked (heap_of arena.old) (heap_of arena.new) offset }
+    ensures put { IsPut (heap_of arena.old) (heap_of arena.new) cell descriptor.now }
     ensures long { length arena.new.bytes ≡ length arena.old.bytes }
 {
     let fields = SecurityFields {
@@ -39,6 +41,8 @@ fn put_behind(arena: &mut Arena, before: u32, cell: u32, descriptor: &[u8])
     ensures added { (ring : List ℕ) → IsRing (heap_of arena.old) ring → 0 < times before ring → times cell ring ≡ 0 →
         ((offset : ℕ) → 0 < times offset ring → descriptor_at (heap_of arena.old) offset ≢ Some descriptor.now) →
         IsAdded (heap_of arena.old) (heap_of arena.new) ring cell descriptor.now }
+    ensures beside { (offset : ℕ) → offset ≢ cell → IsRelinked (heap_of arena.old) (heap_of arena.new) offset }
+    ensures put { IsPut (heap_of arena.old) (heap_of arena.new) cell descriptor.now }
     ensures long { length arena.new.bytes ≡ length arena.old.bytes }
 {
     let after = read(arena, before).fields.flink;
@@ -63,6 +67,8 @@ pub fn put(arena: &mut Arena, near: Option<u32>, cell: u32, descriptor: &[u8])
         IsAdded (heap_of arena.old) (heap_of arena.new) ring cell descriptor.now }
     ensures first { near ≡ None → WritesRecord arena.old arena.new cell (20 + length descriptor.now)
         (sk_bytes (record { flink = cell; blink = cell; count = 1 }) descriptor.now) }
+    ensures beside { (offset : ℕ) → offset ≢ cell → IsRelinked (heap_of arena.old) (heap_of arena.new) offset }
+    ensures put { IsPut (heap_of arena.old) (heap_of arena.new) cell descriptor.now }
     ensures long { length arena.new.bytes ≡ length arena.old.bytes }
 {
     let Some(before) = near else {
@@ -77,6 +83,7 @@ pub fn take_out(arena: &mut Arena, cell: u32)
     requires ring { (ring : List ℕ) × IsRing (heap_of arena.old) ring × (0 < times cell ring) }
     ensures removed { (ring : List ℕ) → IsRing (heap_of arena.old) ring → 0 < times cell ring →
         IsRemoved (heap_of arena.old) (heap_of arena.new) ring cell }
+    ensures beside { (offset : ℕ) → offset ≢ cell → IsRelinked (heap_of arena.old) (heap_of arena.new) offset }
     ensures long { length arena.new.bytes ≡ length arena.old.bytes }
 {
     let fields = read(arena, cell).fields;

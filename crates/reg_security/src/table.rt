@@ -1,11 +1,12 @@
 //! A key security found by its descriptor.
 
 ghost use Rattle.std.specs.Prelude.{◌≡◌, ◌≢◌, ◌≤◌, ◌<◌, ◌+◌, ◌-◌, ℕ, List, [], Some, None, IsSome, length, OnOk, OnErr, MatchOption};
+ghost use Rattle.byteorder.specs.Endian.{little_bytes};
 ghost use Rattle.reg_heap.specs.declared.limits.TheConstants.{DESCRIPTOR_LIMIT};
 ghost use Rattle.reg_heap.specs.Heaps.{Heap};
 ghost use Rattle.reg_heap.specs.Kinds.{times};
 ghost use Rattle.reg_arena.specs.Arena.{heap_of};
-ghost use Rattle.reg_records.specs.RecordCells.{HasRoom, WritesRecord};
+ghost use Rattle.reg_records.specs.RecordCells.{HasRoom, WritesPart, WritesRecord};
 ghost use Rattle.reg_records.specs.KeySecurities.{KeySecurityRecord, security_at, sk_bytes};
 ghost use Rattle.reg_shape.specs.Whole.{IsRing, descriptor_at, count_at};
 
@@ -37,7 +38,7 @@ impl Model for SecurityTable {
 }
 
 impl SecurityTable {
-    ghost use Rattle.reg_security.specs.Rings.{Describes, Expects, Finds, IsAdded, IsNear, IsRemoved, Notes, Recounts, cell_of};
+    ghost use Rattle.reg_security.specs.Rings.{Describes, Expects, Finds, IsAdded, IsNear, IsPut, IsRelinked, IsRemoved, Notes, Recounts, cell_of};
 
     /// A table of no securities.
     pub fn new(alloc: Global) -> SecurityTable
@@ -92,6 +93,8 @@ impl SecurityTable {
         ensures first { near ≡ None → WritesRecord arena.old arena.new cell (20 + length descriptor.now)
             (sk_bytes (record { flink = cell; blink = cell; count = 1 }) descriptor.now) }
         ensures noted { Notes (cell_of self.old) descriptor.now (Some cell) (cell_of self.new) }
+        ensures beside { (offset : ℕ) → offset ≢ cell → IsRelinked (heap_of arena.old) (heap_of arena.new) offset }
+        ensures put { IsPut (heap_of arena.old) (heap_of arena.new) cell descriptor.now }
         ensures long { length arena.new.bytes ≡ length arena.old.bytes }
     {
         put(arena, near, cell, descriptor);
@@ -112,6 +115,9 @@ impl SecurityTable {
             (ring : List ℕ) → IsRing (heap_of arena.old) ring → 0 < times cell ring → Finds self.old (heap_of arena.old) ring →
             (r : IsRemoved (heap_of arena.old) (heap_of arena.new) ring cell)
             × Finds self.new (heap_of arena.new) r.after }
+        ensures written { (s : KeySecurityRecord) → security_at (heap_of arena.old) cell ≡ Some s → 1 < s.fields.count →
+            WritesPart arena.old arena.new cell 12 (little_bytes 4 (s.fields.count - 1)) }
+        ensures beside { (offset : ℕ) → offset ≢ cell → IsRelinked (heap_of arena.old) (heap_of arena.new) offset }
         ensures long { length arena.new.bytes ≡ length arena.old.bytes }
     {
         if read(arena, cell).fields.count > 1 {
