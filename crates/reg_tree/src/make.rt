@@ -266,7 +266,7 @@ pub fn create_at(
     requires place { BelongsFirst (heap_of arena.old) reached.node.offset (path_of reached.missing.now) reached.index }
     requires missing { reached.missing.now ≢ [] }
     ensures ok { (from : Node) → (path : List ℕ) → (l : LeadsTo arena.old.bytes from path reached.entry.node reached.entry.missing.now) →
-        IfOk result (λ made. IsCreated arena.old.bytes arena.new.bytes l.here.root l.here.path from (path_of path) moment made) }
+        IfOk result (λ made. IsCreated arena.old.bytes arena.new.bytes l.here.root l.here.table l.here.path from (path_of path) moment made) }
     ensures cells { (from : Node) → (path : List ℕ) → (l : LeadsTo arena.old.bytes from path reached.entry.node reached.entry.missing.now) →
         OnOk result (Makes (heap_of arena.old) (heap_of arena.new)
         (create_sizes (record { bins = arena.old; root = l.here.root; tree = tree_in arena.old.bytes l.here.root }) l.here.path (path_of path))) }
@@ -306,7 +306,7 @@ pub fn create(
     requires here { (t : IsHere arena.old.bytes from.offset) × (from.depth ≡ length t.path) }
     requires path { is_path path.now ≡ true }
     ensures ok { (t : IsHere arena.old.bytes from.offset) → from.depth ≡ length t.path →
-        IfOk result (λ made. IsCreated arena.old.bytes arena.new.bytes t.root t.path from
+        IfOk result (λ made. IsCreated arena.old.bytes arena.new.bytes t.root t.table t.path from
         (path_of path.now) moment made.node) }
     ensures new { (t : IsHere arena.old.bytes from.offset) →
         IfOk result (λ made. (made.is_new ≡ true)

@@ -1,23 +1,12 @@
-//! The ring of key securities, in which each names the next and the one before. All keys share one so far: it is its own
-//! neighbour on both sides, and counts the key nodes that name it, each once.
-ghost use Rattle.std.specs.Prelude.{◌≡◌, ◌≤◌, ◌<◌, ◌+◌, ◌-◌, IsSome, Some, length};
+//! One key more that uses the security of the key above it. `reg_security` has the rest of a security's life: how an equal
+//! descriptor is found, how a new one joins the ring, and how a key gives its own back.
+ghost use Rattle.std.specs.Prelude.{◌≡◌, ◌<◌, ◌+◌, IsSome, Some, length};
 ghost use Rattle.reg_arena.specs.Arena.{heap_of};
 ghost use Rattle.reg_records.specs.KeySecurities.{KeySecurityRecord, security_at};
 ghost use Rattle.reg_tree.specs.Internal.KeyNodeChanges.{Recounts, SameSizes};
 
 use reg_arena::Arena;
-use reg_records::{SecurityFields, read_sk, set_security_count};
-
-/// The fixed part of a hive's first key security, which one key uses.
-pub fn new_ring(security: u32) -> SecurityFields
-    ensures { result ≡ record { flink = security; blink = security; count = 1 } }
-{
-    SecurityFields {
-        flink: security,
-        blink: security,
-        count: 1,
-    }
-}
+use reg_records::{read_sk, set_security_count};
 
 /// How many keys use a key security.
 fn count(arena: &Arena, security: u32) -> u32
@@ -50,15 +39,4 @@ pub fn recount(arena: &mut Arena, security: u32, count: u32)
     ensures sizes { SameSizes (heap_of arena.old) (heap_of arena.new) }
 {
     set_security_count(arena, security, count);
-}
-
-/// Counts one key less that uses a key security.
-pub fn release(arena: &mut Arena, security: u32)
-    requires there { IsSome (security_at (heap_of arena.old) security) }
-    requires some { (s : KeySecurityRecord) → security_at (heap_of arena.old) security ≡ Some s → 1 ≤ s.fields.count }
-    ensures recounts { Recounts (heap_of arena.old) (heap_of arena.new) security (λ n. n - 1) }
-    ensures long { length arena.new.bytes ≡ length arena.old.bytes }
-{
-    let count = count(arena, security);
-    set_security_count(arena, security, count - 1);
 }

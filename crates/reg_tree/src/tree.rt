@@ -15,10 +15,10 @@ ghost use Rattle.reg_values.specs.ValueLists.{Makes, Tells};
 
 use crate::cells::carve_two;
 use crate::key::new_root;
-use crate::ring::new_ring;
 use crate::{Created, Node, Reached, TreeFault, ValueFound, find, make, read, unmake, values};
 use reg_arena::{Arena, ArenaFault, cell_size};
-use reg_records::{put_nk, put_sk};
+use reg_records::put_nk;
+use reg_security::SecurityTable;
 use reg_values::Value;
 use std::alloc::{AllocError, Global};
 use std::marker::Model;
@@ -28,6 +28,7 @@ use std::marker::Model;
 pub struct Tree {
     arena: Arena,
     root: u32,
+    securities: SecurityTable,
 }
 
 impl Model for Tree {
@@ -40,7 +41,7 @@ impl Model for Tree {
 
     ghost view = { λ t. record { bins = t.arena; root = t.root; tree = tree_in t.arena.bytes t.root } };
 
-    ghost invariant = { λ t. TreeInvariant t.arena.bytes t.root };
+    ghost invariant = { λ t. TreeInvariant t.arena.bytes t.root t.securities };
 }
 
 impl Tree {
@@ -70,6 +71,10 @@ impl Tree {
         ensures bin { IfOk result (λ t. IsBinSize (length t.bins.bytes)
             (cell_size_of (76 + length root_name.now) + cell_size_of (20 + length descriptor.now))) }
     {
+        let mut securities = SecurityTable::new(alloc);
+        if let Err(AllocError) = securities.expect(alloc, descriptor) {
+            return Err(TreeFault::Memory);
+        }
         let mut arena = Arena::new(alloc);
         let node_size = cell_size(76 + root_name.len() as u32);
         let ring_size = cell_size(20 + descriptor.len() as u32);
@@ -78,9 +83,13 @@ impl Tree {
             Err(ArenaFault::Full) => unreachable!(),
             Err(ArenaFault::Memory) => return Err(TreeFault::Memory),
         };
-        put_sk(&mut arena, security, &new_ring(security), descriptor);
+        securities.add(&mut arena, None, security, descriptor);
         put_nk(&mut arena, root, &new_root(security, moment), root_name);
-        Ok(Tree { arena, root })
+        Ok(Tree {
+            arena,
+            root,
+            securities,
+        })
     }
 
     /// The bins with their cells, to be read byte by byte. They are whole, and spell the tree: each allocated cell is met from the
@@ -457,7 +466,13 @@ impl Tree {
         ensures lengths { KeepsLengths self.old self.new }
         ensures long { length self.new.bins.bytes ≡ length self.old.bins.bytes }
     {
-        unmake::delete_at(&mut self.arena, reached.node.offset, reached.index, moment)
+        unmake::delete_at(
+            &mut self.arena,
+            &mut self.securities,
+            reached.node.offset,
+            reached.index,
+            moment,
+        )
     }
 
     /// Deletes a key with its values, and sets its parent's time. After a fault the tree is as before.
@@ -475,6 +490,6 @@ impl Tree {
         ensures err { OnErr result (self.new ≡ self.old) }
         ensures long { OnOk result (length self.new.bins.bytes ≡ length self.old.bins.bytes) }
     {
-        unmake::delete(&mut self.arena, node.offset, moment)
+        unmake::delete(&mut self.arena, &mut self.securities, node.offset, moment)
     }
 }

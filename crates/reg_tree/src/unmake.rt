@@ -20,11 +20,11 @@ ghost use Rattle.reg_tree.specs.Internal.ReachedPlaces.{StandsAt};
 
 use crate::TreeFault;
 use crate::key::{fields, note_subkeys, subkeys_list, values_list};
-use crate::ring::release;
 use reg_arena::Arena;
 use reg_heap::marks::NO_DELETE;
 use reg_index::{find, remove};
 use reg_records::{KeyFields, read_nk};
+use reg_security::SecurityTable;
 use reg_values::clear;
 
 /// The mark of a hive's root.
@@ -111,24 +111,37 @@ fn is_kept(arena: &Arena, key: u32) -> bool
 
 /// Deletes a key that isn't the root and has no subkeys, and that stands at an index among its parent's, with its values, and sets
 /// its parent's time. It takes no memory.
-pub fn delete_at(arena: &mut Arena, key: u32, index: u32, moment: u64)
-    requires here { (t : IsHere arena.old.bytes key) × IsLone arena.old.bytes key t }
+pub fn delete_at(
+    arena: &mut Arena,
+    securities: &mut SecurityTable,
+    key: u32,
+    index: u32,
+    moment: u64,
+)
+    requires here { (t : IsHere arena.old.bytes key) × (t.table ≡ securities.old) × IsLone arena.old.bytes key t }
     requires place { StandsAt (heap_of arena.old) key index }
-    ensures deleted { (t : IsHere arena.old.bytes key) → IsLone arena.old.bytes key t → IsDeleted arena.old.bytes arena.new.bytes t.root t.path moment }
+    ensures deleted { (t : IsHere arena.old.bytes key) → t.table ≡ securities.old → IsLone arena.old.bytes key t →
+        IsDeleted arena.old.bytes arena.new.bytes t.root securities.new t.path moment }
     ensures lengths { (t : IsHere arena.old.bytes key) → IsLone arena.old.bytes key t → LengthsStay (heap_of arena.old) (heap_of arena.new) t.root }
     ensures long { length arena.new.bytes ≡ length arena.old.bytes }
 {
     let head = fields(arena, key);
     unlink(arena, head.parent, index, moment);
     free_key(arena, key);
-    release(arena, head.security);
+    securities.release(arena, head.security);
 }
 
 /// Deletes a key with its values, and sets its parent's time. It takes no memory. `HasChildren` where the key has subkeys,
 /// and `NoDelete` where it has none, and is the root or is marked; then the arena is as before.
-pub fn delete(arena: &mut Arena, key: u32, moment: u64) -> Result<(), TreeFault>
-    requires { IsHere arena.old.bytes key }
-    ensures ok { (t : IsHere arena.old.bytes key) → OnOk result (IsDeleted arena.old.bytes arena.new.bytes t.root t.path moment) }
+pub fn delete(
+    arena: &mut Arena,
+    securities: &mut SecurityTable,
+    key: u32,
+    moment: u64,
+) -> Result<(), TreeFault>
+    requires { (t : IsHere arena.old.bytes key) × (t.table ≡ securities.old) }
+    ensures ok { (t : IsHere arena.old.bytes key) → t.table ≡ securities.old →
+        OnOk result (IsDeleted arena.old.bytes arena.new.bytes t.root securities.new t.path moment) }
     ensures lengths { (t : IsHere arena.old.bytes key) → OnOk result (LengthsStay (heap_of arena.old) (heap_of arena.new) t.root) }
     ensures children { (t : IsHere arena.old.bytes key) → ((result ≡ Err TreeFault.HasChildren) ↔ (children_of (tree_in arena.old.bytes t.root) t.path ≢ [])) }
     ensures kept { (t : IsHere arena.old.bytes key) →
@@ -136,6 +149,7 @@ pub fn delete(arena: &mut Arena, key: u32, moment: u64) -> Result<(), TreeFault>
         × IsKept (tree_in arena.old.bytes t.root) t.path)) }
     ensures others { IfErr result (λ fault. (fault ≡ TreeFault.HasChildren) ⊎ (fault ≡ TreeFault.NoDelete)) }
     ensures err { OnErr result (arena.new ≡ arena.old) }
+    ensures table { OnErr result (securities.new ≡ securities.old) }
     ensures long { OnOk result (length arena.new.bytes ≡ length arena.old.bytes) }
 {
     if has_children(arena, key) {
@@ -145,6 +159,6 @@ pub fn delete(arena: &mut Arena, key: u32, moment: u64) -> Result<(), TreeFault>
         return Err(TreeFault::NoDelete);
     }
     let index = place_of(arena, key);
-    delete_at(arena, key, index, moment);
+    delete_at(arena, securities, key, index, moment);
     Ok(())
 }

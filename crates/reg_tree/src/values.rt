@@ -118,7 +118,7 @@ pub fn set_at(
     requires name { is_value_name name.now ≡ true }
     requires bytes { length bytes.now ≤ DATA_LIMIT }
     ensures ok { (t : IsHere arena.old.bytes key) →
-        OnOk result (IsChanged arena.old.bytes arena.new.bytes t.root t.path (with_value name.now kind bytes.now moment)) }
+        OnOk result (IsChanged arena.old.bytes arena.new.bytes t.root t.table t.path (with_value name.now kind bytes.now moment)) }
     ensures cells { OnOk result (Makes (heap_of arena.old) (heap_of arena.new) (value_sizes (heap_of arena.old) key name.now (length bytes.now))) }
     ensures lengths { (t : IsHere arena.old.bytes key) →
         OnOk result (LengthsChange (heap_of arena.old) (heap_of arena.new) t.root t.path (with_value_lengths (length name.now) (length bytes.now))) }
@@ -157,7 +157,7 @@ pub fn set(
     requires name { is_value_name name.now ≡ true }
     requires bytes { length bytes.now ≤ DATA_LIMIT }
     ensures ok { (t : IsHere arena.old.bytes key) →
-        OnOk result (IsChanged arena.old.bytes arena.new.bytes t.root t.path (with_value name.now kind bytes.now moment)) }
+        OnOk result (IsChanged arena.old.bytes arena.new.bytes t.root t.table t.path (with_value name.now kind bytes.now moment)) }
     ensures cells { OnOk result (Makes (heap_of arena.old) (heap_of arena.new) (value_sizes (heap_of arena.old) key name.now (length bytes.now))) }
     ensures lengths { (t : IsHere arena.old.bytes key) →
         OnOk result (LengthsChange (heap_of arena.old) (heap_of arena.new) t.root t.path (with_value_lengths (length name.now) (length bytes.now))) }
@@ -185,7 +185,7 @@ pub fn set(
 /// Removes the value of a key at an index, counted from 0, and notes the list that is left and the time in the key's own node.
 pub fn remove_at(arena: &mut Arena, key: u32, index: u32, moment: u64)
     requires { (t : IsHere arena.old.bytes key) × (index < length (values_at (tree_in arena.old.bytes t.root) t.path)) }
-    ensures changed { (t : IsHere arena.old.bytes key) → IsChanged arena.old.bytes arena.new.bytes t.root t.path (without_value_at index moment) }
+    ensures changed { (t : IsHere arena.old.bytes key) → IsChanged arena.old.bytes arena.new.bytes t.root t.table t.path (without_value_at index moment) }
     ensures lengths { (t : IsHere arena.old.bytes key) → LengthsStay (heap_of arena.old) (heap_of arena.new) t.root }
     ensures long { length arena.new.bytes ≡ length arena.old.bytes }
 {
@@ -198,7 +198,7 @@ pub fn remove_at(arena: &mut Arena, key: u32, index: u32, moment: u64)
 /// one fault; then the arena is as before.
 pub fn delete(arena: &mut Arena, key: u32, name: &[u8], moment: u64) -> Result<(), TreeFault>
     requires { IsHere arena.old.bytes key }
-    ensures ok { (t : IsHere arena.old.bytes key) → OnOk result (IsChanged arena.old.bytes arena.new.bytes t.root t.path (without_value name.now moment)) }
+    ensures ok { (t : IsHere arena.old.bytes key) → OnOk result (IsChanged arena.old.bytes arena.new.bytes t.root t.table t.path (without_value name.now moment)) }
     ensures lengths { (t : IsHere arena.old.bytes key) → OnOk result (LengthsStay (heap_of arena.old) (heap_of arena.new) t.root) }
     ensures absent { (t : IsHere arena.old.bytes key) →
         ((result ≡ Err TreeFault.NotFound) ↔ (value_named name.now (values_at (tree_in arena.old.bytes t.root) t.path) ≡ None)) }

@@ -112,10 +112,10 @@ module _ (old : List ℕ) (key : ℕ) (t : IsHere old key) where
       let one = at-most-one h z in
       absurd (omega (arith, below, own_key, own_root, exact, one))
 
-  root-path : bit_and flags 4 ≢ 0 → t.path ≡ []
+  pub root-path : bit_and flags 4 ≢ 0 → t.path ≡ []
   root-path n = alone (root-placed n) t.path (branch_is old key t)
 
-  path-marked : t.path ≡ [] → bit_and flags 4 ≢ 0
+  pub path-marked : t.path ≡ [] → bit_and flags 4 ≢ 0
   path-marked e =
       let same : keys ≡ b = same_Some _ _ (ap (λ q. branch_at q keys) (sym e) ∙ branch_is old key t) in
       let offset : b.offset ≡ t.root = ap (λ (b : Branch Node). b.offset) (sym same) ∙ w.offset in

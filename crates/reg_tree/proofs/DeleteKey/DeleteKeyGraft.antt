@@ -1,42 +1,45 @@
 -- A key taken from its parent and its cells given up, as a graft of the parent's branch.
-use Rattle.std.proofs.Common.{◌≡◌, inl, inr, ◌↔◌, ℕ, ◌+◌, ◌-◌, ◌%◌, ◌<◌, ◌≤◌, cond, is_some, Option, Some, List, [], ◌∷◌, refl, sym, ap, ◌∙◌, subst, arith}
+use Rattle.std.proofs.Common.{◌≡◌, ℕ, ◌+◌, ◌%◌, ◌<◌, ◌≤◌, Some, List, [], ◌∷◌, refl, sym, ap, ◌∙◌, subst, arith}
+use Rattle.std.specs.Prelude.{unwrap_or}
 use Rattle.std.specs.List.{AllByRecursion}
-use Rattle.std.proofs.lemmas.Bool.{cases_eq}
 use Rattle.reg_heap.specs.Paths.{Path}
 use Rattle.reg_heap.specs.Heaps.{Heap, CellFrame, allocated}
 use Rattle.reg_heap.specs.Kinds.{times, owned, shared}
 use Rattle.reg_shape.specs.Internal.Forests.{Forest, Branch, heads, total, total_of}
 use Rattle.reg_records.specs.RecordCells.{held}
 use Rattle.reg_records.specs.KeyNodes.{key_at, IsPlainKey}
-use Rattle.reg_records.specs.KeySecurities.{KeySecurityRecord, security_at, IsPlainSecurity}
 use Rattle.reg_records.specs.SubkeyLists.{Entry, offsets_in}
 use Rattle.reg_shape.specs.Nodes.{Node, entries_of, met_of}
-use Rattle.reg_shape.specs.Written.{Fits, IsWrittenSecurity}
-use Rattle.reg_shape.specs.Internal.Shapes.{index_cells, cells_of, owns, shares, IsSeen, StandsIn}
-use Rattle.reg_shape.specs.Internal.Grafts.{IsShape, IsGraftedInRing, IsRecounted, branch_in, branch_at, unhang}
+use Rattle.reg_shape.specs.Written.{Fits}
+use Rattle.reg_shape.specs.Internal.Shapes.{index_cells, cells_of, owns, shares, descriptor_in, IsSeen, StandsIn}
+use Rattle.reg_shape.specs.Whole.{descriptor_at}
+use Rattle.reg_shape.specs.Internal.Grafts.{IsShape, IsGrafted, branch_in, branch_at, unhang, uses_in}
 use Rattle.reg_shape.proofs.Graft.Branches.{branch-total}
+use Rattle.reg_shape.proofs.Graft.WholeAfterGraft.{uses-named}
 use Rattle.reg_shape.proofs.Wholeness.WholeAfterExchange.{all-weaker}
 use Rattle.reg_shape.proofs.Graft.ForestInsert.{stand-unhang}
 use Rattle.reg_shape.proofs.Graft.ForestInsertFits.{fits-unhung, stands-unhung}
 use Rattle.reg_shape.proofs.Frame.KeyFrame.{Keeps}
 use Rattle.reg_shape.proofs.Frame.WrittenFrame.{same-held}
 use Rattle.reg_shape.proofs.Walking.WalkRefinement.{IsLooked}
-use Rattle.reg_shape.proofs.Wholeness.ShapeRecords.{shares-own, at-most-one, allocated-is}
+use Rattle.reg_shape.proofs.Wholeness.ShapeRecords.{shares-own, at-most-one}
 use Rattle.reg_values.proofs.ValueFreeing.FrameChains.{times-same}
 use Rattle.reg_index.specs.Subkeys.{IsSingle, AreSubkeys, Moves, cells_of_index, own, without}
 use Rattle.reg_index.proofs.SubkeysOpening.{own-is}
 use Rattle.reg_index.proofs.SubkeysFrame.{owned-index}
 use Rattle.reg_index.proofs.RefinementOfSubkeys.{subkeys-elsewhere}
-use Rattle.reg_tree.specs.Internal.KeyNodeChanges.{Recounts, noted_subkeys}
+use Rattle.reg_tree.specs.Internal.KeyNodeChanges.{noted_subkeys}
 use Rattle.reg_tree.specs.Internal.KeyDeletion.{IsUnlinked}
 use Rattle.reg_tree.proofs.DeleteKey.DeletedKeyPosition.{IsHead, by-offsets, heads-owned}
-use Rattle.reg_tree.proofs.Invariant.CellReadings.{is_some_of, key-moved, security-exists}
+use Rattle.reg_tree.proofs.DeleteKey.SecurityReleased.{ReleasesFrom, used-in}
+use Rattle.reg_tree.proofs.Invariant.CellReadings.{key-moved}
 use Rattle.reg_tree.proofs.InsertKey.ParentReindexed.{sees-reindexed, owned-reindexed, shared-reindexed}
-use Rattle.reg_tree.proofs.DeleteKey.DeletedKeyParent.{not-there, there-is, raised-none}
+use Rattle.reg_tree.proofs.Invariant.UntouchedCells.{not-there}
+use Rattle.reg_tree.proofs.DeleteKey.DeletedKeyParent.{raised-none}
 use Rattle.reg_tree.proofs.DeleteKey.DeletedKeyParent as before
 use Rattle.reg_tree.proofs.DeleteKey.DeleteKeyFrame as frame
 
-module _ (h0 : Heap) (root : ℕ) (keys : Branch Node) (first : ℕ) (w : IsShape h0 root keys (first ∷ []) []) (p : Path) (was : Branch Node)
+module _ (h0 : Heap) (root : ℕ) (keys : Branch Node) (ring : List ℕ) (w : IsShape h0 root keys ring []) (p : Path) (was : Branch Node)
     (e : branch_at p keys ≡ Some was) (single : IsSingle was.node.index)
     (x : List ℕ) (b : Branch Node) (found : branch_in (x ∷ []) was.below ≡ Some b) (childless : b.node.key.fields.subkeys ≡ 0) where
   abbrev m : Node
@@ -55,87 +58,72 @@ module _ (h0 : Heap) (root : ℕ) (keys : Branch Node) (first : ℕ) (w : IsShap
   old_list = cells_of_index m.index
 
   stands : StandsIn h0 root was
-  stands = frame.stands h0 root keys first w p was e single x b found childless
+  stands = frame.stands h0 root keys ring w p was e single x b found childless
 
   abbrev l : IsLooked h0 was.offset m
-  l = before.l h0 root keys first w p was e single x b found childless
+  l = before.l h0 root keys ring w p was e single x b found childless
 
   abbrev spot : IsHead x was.below b
-  spot = before.spot h0 root keys first w p was e single x b found childless
+  spot = before.spot h0 root keys ring w p was e single x b found childless
 
   abbrev rest : Forest Node
   rest = unhang spot.index was.below
 
-  first-is : (z : ℕ) → 0 < total_of (shares z) keys → z ≡ first
-  first-is = frame.first-is h0 root keys first w p was e single x b found childless
-
-  secured : s ≡ first
-  secured = frame.secured h0 root keys first w p was e single x b found childless
-
   index-cells : (z : ℕ) → owned z (index_cells m.index) ≡ times z old_list
-  index-cells = frame.index-cells h0 root keys first w p was e single x b found childless
+  index-cells = frame.index-cells h0 root keys ring w p was e single x b found childless
 
   m-parts : (z : ℕ) → owned z (cells_of m) ≡ times z (was.offset ∷ []) + (owned z l.class_cells + owned z l.value_cells) + times z old_list
-  m-parts = frame.m-parts h0 root keys first w p was e single x b found childless
+  m-parts = frame.m-parts h0 root keys ring w p was e single x b found childless
 
   n-parts : (z : ℕ) → owned z (cells_of n) ≡ owned z n.cells
-  n-parts = frame.n-parts h0 root keys first w p was e single x b found childless
+  n-parts = frame.n-parts h0 root keys ring w p was e single x b found childless
 
   below-parts : (f : ℕ → Node → ℕ) → total f rest + f b.offset n ≡ total f was.below
-  below-parts = frame.below-parts h0 root keys first w p was e single x b found childless
+  below-parts = frame.below-parts h0 root keys ring w p was e single x b found childless
 
-  room : (z : ℕ) → (times z (was.offset ∷ []) + (owned z l.class_cells + owned z l.value_cells) + times z old_list) + (total (owns z) rest + owned z n.cells) + times z (first ∷ []) ≤ allocated h0 z
-  room = frame.room h0 root keys first w p was e single x b found childless
+  room : (z : ℕ) → (times z (was.offset ∷ []) + (owned z l.class_cells + owned z l.value_cells) + times z old_list) + (total (owns z) rest + owned z n.cells) + times z ring ≤ allocated h0 z
+  room = frame.room h0 root keys ring w p was e single x b found childless
 
   module _ (h2 : Heap) (moment : ℕ) (un : IsUnlinked h0 h2 was.offset m.key entries spot.index moment) where
     abbrev h1 : Heap
     h1 = un.mid
 
     moves : Moves h0 h1 old_list (own h1 un.count un.list)
-    moves = frame.moves h0 root keys first w p was e single x b found childless h2 moment un
+    moves = frame.moves h0 root keys ring w p was e single x b found childless h2 moment un
 
     calm-mid : (z : ℕ) → 0 < allocated h0 z → times z old_list ≡ 0 → h1 z ≡ h0 z
-    calm-mid = frame.calm-mid h0 root keys first w p was e single x b found childless h2 moment un
+    calm-mid = frame.calm-mid h0 root keys ring w p was e single x b found childless h2 moment un
 
     offset-mid : h1 was.offset ≡ h0 was.offset
-    offset-mid = frame.offset-mid h0 root keys first w p was e single x b found childless h2 moment un
+    offset-mid = frame.offset-mid h0 root keys ring w p was e single x b found childless h2 moment un
 
     key-then : key_at h2 was.offset ≡ Some (noted_subkeys un.count un.list 0 moment m.key)
-    key-then = frame.key-then h0 root keys first w p was e single x b found childless h2 moment un
+    key-then = frame.key-then h0 root keys ring w p was e single x b found childless h2 moment un
 
     same-number : (z : ℕ) → allocated h2 z ≡ allocated h1 z
-    same-number = frame.same-number h0 root keys first w p was e single x b found childless h2 moment un
+    same-number = frame.same-number h0 root keys ring w p was e single x b found childless h2 moment un
 
     module _ (h4 : Heap) (freed : CellFrame h2 h4 (λ z. owned z n.cells) (λ z. 0)) where
       calm-freed : (z : ℕ) → 0 < allocated h0 z → times z old_list ≡ 0 → times z (was.offset ∷ []) ≡ 0 → owned z n.cells ≡ 0 → h4 z ≡ h0 z
-      calm-freed = frame.calm-freed h0 root keys first w p was e single x b found childless h2 moment un h4 freed
+      calm-freed = frame.calm-freed h0 root keys ring w p was e single x b found childless h2 moment un h4 freed
 
-      abbrev ring0 : IsWrittenSecurity h0 first
-      ring0 = frame.ring0 h0 root keys first w p was e single x b found childless h2 moment un h4 freed
+      described-then : (z : ℕ) → 0 < times z ring → descriptor_at h4 z ≡ descriptor_at h0 z
+      described-then = frame.described-then h0 root keys ring w p was e single x b found childless h2 moment un h4 freed
 
-      first-calm : h4 first ≡ h0 first
-      first-calm = frame.first-calm h0 root keys first w p was e single x b found childless h2 moment un h4 freed
+      uses-then : (z : ℕ) → uses_in h4 ring z ≡ uses_in h0 ring z
+      uses-then = frame.uses-then h0 root keys ring w p was e single x b found childless h2 moment un h4 freed
 
-      security-then : security_at h4 first ≡ Some ring0.security
-      security-then = frame.security-then h0 root keys first w p was e single x b found childless h2 moment un h4 freed
+      names-once : (z : ℕ) → shared z (cells_of n) ≡ times z (s ∷ [])
+      names-once = frame.names-once h0 root keys ring w p was e single x b found childless h2 moment un h4 freed
 
-      counted : ring0.security.fields.count ≡ total_of (shares first) keys
-      counted = frame.counted h0 root keys first w p was e single x b found childless h2 moment un h4 freed
-
-      names-once : shared first (cells_of n) ≡ 1
-      names-once = frame.names-once h0 root keys first w p was e single x b found childless h2 moment un h4 freed
-
-      some-count : 1 ≤ ring0.security.fields.count
-      some-count = frame.some-count h0 root keys first w p was e single x b found childless h2 moment un h4 freed
-
-      module _ (h5 : Heap) (re : Recounts h4 h5 s (λ count. count - 1)) where
+      module _ (h5 : Heap) (ring' : List ℕ) (re : ReleasesFrom h4 h5 ring ring' s) where
         abbrev entries' : List Entry
         entries' = without spot.index entries
 
-        other : (z : ℕ) → times z (first ∷ []) ≡ 0 → h5 z ≡ h4 z
-        other z a = re.others z (λ e. not-there z first a (e ∙ secured))
+        other : (z : ℕ) → times z ring ≡ 0 → h5 z ≡ h4 z
+        other z a = re.frame.same z a (let v = re.within z in omega (arith, v, a))
 
-        calm : (z : ℕ) → 0 < allocated h0 z → times z old_list ≡ 0 → times z (was.offset ∷ []) ≡ 0 → owned z n.cells ≡ 0 → times z (first ∷ []) ≡ 0 → h5 z ≡ h0 z
+        calm : (z : ℕ) → 0 < allocated h0 z → times z old_list ≡ 0 → times z (was.offset ∷ []) ≡ 0 → owned z n.cells ≡ 0 → times z ring ≡ 0 → h5 z ≡ h0 z
         calm z some a c d f = other z f ∙ calm-freed z some a c d
 
         class-calm : Keeps h0 h5 l.class_cells
@@ -222,60 +210,27 @@ module _ (h0 : Heap) (root : ℕ) (keys : Branch Node) (first : ℕ) (w : IsShap
         shared-now : (z : ℕ) → shared z (cells_of after) ≡ shared z (cells_of m)
         shared-now z = shared-reindexed h0 h5 root was.offset m stands.0 l un.count un.list 0 moment entries' key-now plain-now class-calm values-calm subkeys-now z
 
-        abbrev recounted : KeySecurityRecord
-        recounted = record ring0.security { fields = record ring0.security.fields { count = ring0.security.fields.count - 1 } }
-
-        security-now : security_at h5 first ≡ Some recounted
-        security-now = ap (security_at h5) (sym secured) ∙ re.reads ring0.security (ap (security_at h4) secured ∙ security-then)
-
-        same-allocated : (z : ℕ) → allocated h5 z ≡ allocated h4 z
-        same-allocated z = elim (cases_eq z first) [
-          | inl e ↦ subst (λ x. allocated h5 x ≡ allocated h4 x) (sym e)
-              (allocated-is h5 first (security-exists h5 first (is_some_of _ _ security-now)) ∙
-              sym (allocated-is h4 first (security-exists h4 first (is_some_of _ _ security-then))))
-          | inr n ↦ ap (λ (c : Option (List ℕ)). cond (is_some c) 1 0) (re.others z (λ e. n (e ∙ secured)))
-        ]
-
         -- ---- the graft
 
         abbrev pub is : Branch Node
         is = record { offset = was.offset; node = after; below = rest }
 
-        abbrev was-shared : ℕ → ℕ
-        was-shared z = total_of (shares z) was
+        recounted-now : (z : ℕ) → uses_in h5 ring' z + total_of (shares z) was ≡ uses_in h0 ring z + total_of (shares z) is
+        recounted-now z =
+            let a = re.fewer z in
+            let c = uses-then z in
+            let d = shared-now z in
+            let f = below-parts (shares z) in
+            let g = names-once z in
+            omega (arith, a, c, d, f, g)
 
-        securities-same : (z : ℕ) → 0 < total_of (shares z) is ↔ 0 < total_of (shares z) was
-        securities-same z = (
-          (λ some. (let a = shared-now z in let c = below-parts (shares z) in omega (arith, a, c, some))),
-          (λ some. (
-              let t = branch-total (shares z) was p keys e in
-              let q = first-is z (omega (arith, t, some)) in
-              let o = shares-own h0 root was.offset m stands.0.reads in
-              let u = branch-total (shares m.key.fields.security) was p keys e in
-              let v = first-is m.key.fields.security (omega (arith, o, u)) in
-              let own_here : 0 < shared z (cells_of m) = subst (λ z. 0 < shared z (cells_of m)) (v ∙ sym q) o in
-              let a = shared-now z in
-              omega (arith, a, own_here))),
-        )
-
-        ring-first : IsRecounted h0 h5 (total_of (shares first) was) (total_of (shares first) is) first
-        ring-first = record {
-          security = ring0.security;
-          count = ring0.security.fields.count - 1;
-          reads = ring0.reads;
-          now = security-now;
-          plain = λ q. subst (λ z. IsPlainSecurity (held h5 z)) secured
-              (re.plain (subst (λ z. IsPlainSecurity (held h4 z)) (sym secured) (subst IsPlainSecurity (sym (same-held h0 h4 first first-calm)) q)));
-          counted = (let a = shared-now first in let c = below-parts (shares first) in let d = names-once in let o = some-count in omega (arith, a, c, d, o));
-        }
-
-        pub grafts : IsGraftedInRing h0 h5 root was is (first ∷ []) [] []
+        pub grafts : IsGrafted h0 h5 root was is ring [] ring' []
         grafts = record {
           offset = refl;
           alike = record { name = refl; parent = refl; class_length = refl };
           stands = stands-unhung h0 h5 root was after spot.index seen-now stands.2 fits rest-calm;
           count = λ z. (
-              let a = same-allocated z in
+              let a = re.frame.count z in
               let c = freed.count z in
               let d = same-number z in
               let f = moves.count z in
@@ -288,6 +243,21 @@ module _ (h0 : Heap) (root : ℕ) (keys : Branch Node) (first : ℕ) (w : IsShap
               let j = n-parts z in
               let q = m-parts z in
               calm z some (omega (arith, none, q)) (omega (arith, none, q)) (omega (arith, none, i, j)) apart);
-          securities = securities-same;
-          recounted = λ z some. subst (λ z. IsRecounted h0 h5 (total_of (shares z) was) (total_of (shares z) is) z) (sym (there-is z first some)) ring-first;
+          closed = re.closed;
+          described = λ z l m. re.described z m ∙ described-then z l;
+          used = re.used;
+          recounted = recounted-now;
         }
+
+        -- the parent's security describes what it did
+        pub described-above : descriptor_in h5 m.key.fields.security ≡ descriptor_in h0 m.key.fields.security
+        described-above =
+            let z = m.key.fields.security in
+            let o = shares-own h0 root was.offset m stands.0.reads in
+            let d = shared-now z in
+            let a = recounted-now z in
+            let c = uses-named h0 root keys ring [] w z in
+            let t = branch-total (shares z) was p keys e in
+            let now = used-in h5 ring' z (omega (arith, o, d, a, c, t)) in
+            let l = re.within z in
+            ap (λ d. unwrap_or d []) (re.described z now ∙ described-then z (omega (arith, now, l)))

@@ -8,6 +8,7 @@ use Rattle.reg_heap.specs.Paths.{Path, Tree, children_of}
 use Rattle.reg_heap.specs.Edits.{may_not_go, marks_of}
 use Rattle.reg_arena.specs.Arena.{Bins, heap_of}
 use Rattle.std.specs.FinMap.{get}
+use Rattle.reg_security.specs.Rings.{DescriptorCells}
 use Rattle.reg_tree.specs.declared.node.Node.{Node}
 use Rattle.reg_tree.specs.declared.node.Reached.{Reached}
 use Rattle.reg_tree.specs.TreeKeys.{Keys, tree_in, IsAt, IsThere}
@@ -28,7 +29,7 @@ lone-children t p e = by (children_of t p) e
         let some = or_left (nat_lt 0 (length (q ∷ paths))) (not (bit_and (marks_of (get t p)) NO_DELETE == 0)) (lt-ltb 0 (length (q ∷ paths)) (omega arith)) in
         absurd (false≢true (sym f ∙ some))
 
-module _ (bins : Bins) (root : ℕ) (holds : TreeInvariant bins.bytes root) (now : Keys) (view_is : seen_as bins root ≡ now) (reached : Reached)
+module _ (bins : Bins) (root : ℕ) {table : DescriptorCells} (holds : TreeInvariant bins.bytes root table) (now : Keys) (view_is : seen_as bins root ≡ now) (reached : Reached)
     (there : (from : Node) × (path : List ℕ) × IsWalkedTo now from path reached × IsThere now from × (path_of path ≢ [])) (none : reached.missing.now ≡ [])
     (goes : (p : Path) → IsAt now p reached.node → may_not_go now.tree p ≡ false) where
   abbrev from : Node
@@ -53,8 +54,8 @@ module _ (bins : Bins) (root : ℕ) (holds : TreeInvariant bins.bytes root) (now
     lone-children (tree_in bins.bytes root) p (ap (λ (k : Keys). may_not_go k.tree p) view_is ∙ goes p at),
   )
 
-  abbrev pub lone_there : (t : IsHere bins.bytes reached.node.offset) × IsLone bins.bytes reached.node.offset t
-  lone_there = (here_at bins root holds now view_is reached.node node_there.0 node_there.1, lone_at node_there.0 node_there.1)
+  abbrev pub lone_there : (t : IsHere bins.bytes reached.node.offset) × (t.table ≡ table) × IsLone bins.bytes reached.node.offset t
+  lone_there = (here_at bins root holds now view_is reached.node node_there.0 node_there.1, refl, lone_at node_there.0 node_there.1)
 
   -- where it stands among its parent's subkeys
   pub stands_there : StandsAt (heap_of bins) reached.node.offset reached.index

@@ -1,6 +1,5 @@
--- A key without subkeys and its parent: the cells of each, each met once, and the one security.
-use Rattle.std.proofs.Common.{◌≡◌, ◌≢◌, inl, inr, ℕ, ◌+◌, ◌<◌, ◌≤◌, Some, List, [], ◌∷◌, refl, sym, ap, ◌∙◌, arith}
-use Rattle.std.proofs.lemmas.Bool.{cases_eq}
+-- A key without subkeys and its parent: the cells of each, each met once, and its security.
+use Rattle.std.proofs.Common.{◌≡◌, ℕ, ◌+◌, ◌<◌, ◌≤◌, Some, List, [], ◌∷◌, ap, ◌∙◌, arith}
 use Rattle.reg_heap.specs.Paths.{Path}
 use Rattle.reg_heap.specs.Heaps.{Heap, allocated}
 use Rattle.reg_heap.specs.Kinds.{times, is_own, owned}
@@ -15,18 +14,11 @@ use Rattle.reg_shape.proofs.Wholeness.ShapeCounts.{tally-append}
 use Rattle.reg_shape.proofs.Graft.ForestInsert.{leaf-at, total-unhang}
 use Rattle.reg_shape.proofs.Walking.WalkRefinement.{IsLooked, look-open}
 use Rattle.reg_shape.proofs.Wholeness.ShapeRecords.{shares-own}
-use Rattle.reg_values.proofs.ValueFreeing.FrameChains.{times-same}
 use Rattle.reg_index.specs.Subkeys.{IsSingle, cells_of_index}
-use Rattle.reg_index.proofs.SubkeysFrame.{times-not, owned-index}
+use Rattle.reg_index.proofs.SubkeysFrame.{owned-index}
 use Rattle.reg_tree.specs.Internal.KeyNodeChanges.{raised}
 use Rattle.reg_tree.proofs.DeleteKey.DeletedKeyCells.{own-met}
 use Rattle.reg_tree.proofs.DeleteKey.DeletedKeyPosition.{IsHead, head, unlisted}
-
-pub not-there : (z y : ℕ) → times z (y ∷ []) ≡ 0 → z ≢ y
-not-there z y n e = let t = times-same y in let s = ap (λ w. times w (y ∷ [])) e in omega (arith, n, t, s)
-
-pub there-is : (z y : ℕ) → 0 < times z (y ∷ []) → z ≡ y
-there-is z y l = elim (cases_eq z y) [ inl e ↦ e | inr n ↦ absurd (let t = times-not z y [] (λ e. n (sym e)) refl in omega (arith, t, l)) ]
 
 -- a largest length that no length raises
 pub raised-none : (largest : ℕ) → raised largest 0 ≡ largest
@@ -34,7 +26,7 @@ raised-none largest = omega arith
 
 -- ---- before: the parent `was`, and the key `b` below it
 
-module _ (h0 : Heap) (root : ℕ) (keys : Branch Node) (first : ℕ) (w : IsShape h0 root keys (first ∷ []) []) (p : Path) (was : Branch Node)
+module _ (h0 : Heap) (root : ℕ) (keys : Branch Node) (ring : List ℕ) (w : IsShape h0 root keys ring []) (p : Path) (was : Branch Node)
     (e : branch_at p keys ≡ Some was) (single : IsSingle was.node.index)
     (x : List ℕ) (b : Branch Node) (found : branch_in (x ∷ []) was.below ≡ Some b) (childless : b.node.key.fields.subkeys ≡ 0) where
   abbrev m : Node
@@ -67,10 +59,6 @@ module _ (h0 : Heap) (root : ℕ) (keys : Branch Node) (first : ℕ) (w : IsShap
   pub leaf : IsLeafAt spot.index b.offset n was.below
   leaf = leaf-at h0 root spot.index b.offset n was.below spot.rest stands.2 spot.at childless
 
-  -- all use the one security
-  pub first-is : (z : ℕ) → 0 < total_of (shares z) keys → z ≡ first
-  first-is z some = there-is z first ((w.ringed z).0 some)
-
   abbrev s : ℕ
   s = n.key.fields.security
 
@@ -80,8 +68,9 @@ module _ (h0 : Heap) (root : ℕ) (keys : Branch Node) (first : ℕ) (w : IsShap
       let t = branch-total (shares s) b (x ∷ []) was found in
       omega (arith, o, t)
 
-  pub secured : s ≡ first
-  secured = let t = branch-total (shares s) was p keys e in let o = named in first-is s (omega (arith, o, t))
+  -- its security is in the ring
+  pub secured : 0 < times s ring
+  secured = let t = branch-total (shares s) was p keys e in let o = named in (w.ringed s).0 (omega (arith, o, t))
 
   -- its cells, and its parent's
   abbrev old_list : List ℕ
@@ -111,7 +100,7 @@ module _ (h0 : Heap) (root : ℕ) (keys : Branch Node) (first : ℕ) (w : IsShap
 
   -- each of these cells is met once
   pub room : (z : ℕ) → (times z (was.offset ∷ []) + (owned z l.class_cells + owned z l.value_cells) + times z old_list) +
-      (total (owns z) rest + owned z n.cells) + times z (first ∷ []) ≤ allocated h0 z
+      (total (owns z) rest + owned z n.cells) + times z ring ≤ allocated h0 z
   room z =
       let t = branch-total (owns z) was p keys e in
       let x = w.exact z in

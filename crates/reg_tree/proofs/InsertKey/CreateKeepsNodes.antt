@@ -8,6 +8,7 @@ use Rattle.reg_heap.specs.Edits.{with_keys, missing, last_there}
 use Rattle.reg_heap.specs.Heaps.{Heap}
 use Rattle.reg_arena.specs.Arena.{Bins, heap_of}
 use Rattle.reg_values.specs.ValueLists.{Makes}
+use Rattle.reg_security.specs.Rings.{DescriptorCells}
 use Rattle.reg_tree.specs.CellSizes.{create_sizes, LacksRoom}
 use Rattle.reg_tree.specs.KeyLengths.{ChangesLengths, NotesMade, with_first_length}
 use Rattle.reg_tree.specs.declared.node.Node.{Node}
@@ -30,7 +31,7 @@ pub on_made : {A E : Type 0} (P : A → Type 0) (Q : Type 0) (r : Result A E) �
 on_made P Q (Ok x) f h = f x h
 on_made P Q (Err e) f h = h
 
-module _ (bins : Bins) (root : ℕ) (holds : TreeInvariant bins.bytes root) (now : Keys) (view_is : seen_as bins root ≡ now) where
+module _ (bins : Bins) (root : ℕ) {table : DescriptorCells} (holds : TreeInvariant bins.bytes root table) (now : Keys) (view_is : seen_as bins root ≡ now) where
   pub from_at : (node : Node) → IsThere now node → (t : IsHere bins.bytes node.offset) × (node.depth ≡ length t.path)
   from_at node some = (here_at bins root holds now view_is node some.0 some.1, some.1.depth)
 
@@ -52,15 +53,15 @@ module _ (bins : Bins) (root : ℕ) (holds : TreeInvariant bins.bytes root) (now
       if_ok (λ made. made.is_new ≡ false → new ≡ bins) (λ made. made.is_new ≡ false → seen_as new root ≡ now) result (λ made s none. ap (λ b. seen_as b root) (s none) ∙ view_is)
 
   -- after a fault the tree is whole as it was
-  pub holds_after : {A E : Type 0} (P : A → Type 0) (new : Bins) (result : Result A E) → ((x : A) → P x → TreeInvariant new.bytes root) → IfOk result P →
-      OnErr result (new ≡ bins) → TreeInvariant new.bytes root
+  pub holds_after : {A E : Type 0} (P : A → Type 0) (new : Bins) (result : Result A E) → ((x : A) → P x → TreeInvariant new.bytes root table) → IfOk result P →
+      OnErr result (new ≡ bins) → TreeInvariant new.bytes root table
   holds_after P new (Ok x) f h e = f x h
-  holds_after P new (Err fault) f h e = subst (λ (b : Bins). TreeInvariant b.bytes root) (sym e) holds
+  holds_after P new (Err fault) f h e = subst (λ (b : Bins). TreeInvariant b.bytes root table) (sym e) holds
 
   -- ---- a key was made, or there was none to be made
 
   module _ (new : Bins) (from : Node) (names : List (List ℕ)) (moment : ℕ) (p : Path) (at : IsAt now p from) (node : Node)
-      (c : IsCreated bins.bytes new.bytes root p from names moment node) where
+      (c : IsCreated bins.bytes new.bytes root table p from names moment node) where
     tree_made : tree_in new.bytes root ≡ with_keys now.tree p names moment
     tree_made = of_tree bins root holds now view_is (λ t. tree_in new.bytes root ≡ with_keys t p names moment) c.tree
 
@@ -74,7 +75,7 @@ module _ (bins : Bins) (root : ℕ) (holds : TreeInvariant bins.bytes root) (now
 
     shallow_made : node.depth ≤ PATH_LIMIT
     shallow_made =
-        let s = shallow new.bytes node.offset (record { root = root; path = p ++ map folded names; holds = c.holds; at = c.offset }) in
+        let s = shallow new.bytes node.offset (record { root = root; table = table; path = p ++ map folded names; holds = c.holds; at = c.offset }) in
         let d = last_made.depth in
         omega (arith, s, d)
 
@@ -107,15 +108,15 @@ module _ (bins : Bins) (root : ℕ) (holds : TreeInvariant bins.bytes root) (now
   -- ---- as it is answered
 
   module _ (new : Bins) (result : Result Created TreeFault) (from : Node) (some : IsThere now from) (names : List (List ℕ)) (moment : ℕ)
-      (ok : (t : IsHere bins.bytes from.offset) → from.depth ≡ length t.path → IfOk result (λ made. IsCreated bins.bytes new.bytes t.root t.path from names moment made.node))
+      (ok : (t : IsHere bins.bytes from.offset) → from.depth ≡ length t.path → IfOk result (λ made. IsCreated bins.bytes new.bytes t.root t.table t.path from names moment made.node))
       (err : OnErr result (new ≡ bins)) where
     abbrev Its : Path → Created → Type 0
-    Its p made = IsCreated bins.bytes new.bytes root p from names moment made.node
+    Its p made = IsCreated bins.bytes new.bytes root table p from names moment made.node
 
     its : (p : Path) → IsAt now p from → IfOk result (Its p)
     its p at = ok (here_at bins root holds now view_is from p at) at.depth
 
-    pub holds_created : TreeInvariant new.bytes root
+    pub holds_created : TreeInvariant new.bytes root table
     holds_created = holds_after (Its some.0) new result (λ made c. c.holds) (its some.0 some.1) err
 
     pub lengths_created : (p : Path) → IsAt now p from →

@@ -15,13 +15,18 @@ use Rattle.reg_heap.specs.Kinds.{times}
 use Rattle.reg_arena.specs.Arena.{Bins}
 use Rattle.reg_arena.specs.Cells.{cell_at}
 use Rattle.reg_records.specs.KeyNodes.{KeyRecord, key_at}
+use Rattle.reg_records.specs.KeySecurities.{KeySecurityRecord}
+use Rattle.reg_shape.specs.Whole.{descriptor_at}
 use Rattle.reg_shape.specs.PathLookup.{key_offset_at, subkey_named}
 use Rattle.reg_shape.proofs.Lookup.LookupOfShape.{offset-none, offset-more, offset-append}
+use Rattle.reg_security.specs.Rings.{DescriptorCells, Finds}
+use Rattle.reg_security.proofs.TableCells.{finds-same}
 use Rattle.reg_tree.specs.declared.node.Node.{Node as TreeNode}
 use Rattle.reg_index.specs.Subkeys.{KeepsCells}
 use Rattle.reg_values.specs.ValueLists.{Makes}
 use Rattle.reg_tree.specs.TreeKeys.{Keys, tree_in}
 use Rattle.reg_records.proofs.KeyNodeCodec.{key_at-same}
+use Rattle.reg_records.proofs.KeySecurityCodec.{security_at-same}
 use Rattle.reg_shape.proofs.Wholeness.ShapeRecords.{at-most-one, allocated-is}
 use Rattle.reg_tree.specs.KeyLengths.{lengths_of, lengths_at, with_first_length}
 use Rattle.reg_tree.specs.Internal.LengthChanges.{LengthsChange, MadeLengths}
@@ -49,7 +54,7 @@ pub record IsThrough (t : Tree) (p : Path) (names more : List (List ℕ)) (momen
   pub missed : missing t p (names ++ more) ≡ missing t (p ++ map folded names) more
   pub last : last_there t p (names ++ more) ≡ last_there t (p ++ map folded names) more
 
-module _ (bytes : List ℕ) (root : ℕ) (holds : TreeInvariant bytes root) (more : List (List ℕ)) (moment : ℕ) where
+module _ (bytes : List ℕ) (root : ℕ) {table : DescriptorCells} (holds : TreeInvariant bytes root table) (more : List (List ℕ)) (moment : ℕ) where
   abbrev h : Heap
   h = cell_at bytes
 
@@ -110,14 +115,23 @@ module _ (bytes : List ℕ) (root : ℕ) (holds : TreeInvariant bytes root) (mor
 
 -- ---- the largest lengths where cells were carved
 
-carved_lengths : (old mid : List ℕ) (root : ℕ) → TreeInvariant old root → (spare : List ℕ) → CellFrame (cell_at old) (cell_at mid) (λ z. 0) (λ z. times z spare) →
+carved_lengths : (old mid : List ℕ) (root : ℕ) {table : DescriptorCells} → TreeInvariant old root table → (spare : List ℕ) → CellFrame (cell_at old) (cell_at mid) (λ z. 0) (λ z. times z spare) →
     (q : Path) (o : ℕ) → key_offset_at (cell_at old) root q ≡ Some o → lengths_at (cell_at mid) o ≡ lengths_at (cell_at old) o
-carved_lengths old mid root holds spare come q o e =
-    let there = key-exists (cell_at old) o (key_there old o (record { root = root; path = q; holds = holds; at = e })) in
+carved_lengths old mid root {table} holds spare come q o e =
+    let there = key-exists (cell_at old) o (key_there old o (record { root = root; table = table; path = q; holds = holds; at = e })) in
     let one = allocated-is (cell_at old) o there in
     let most = at-most-one (cell_at mid) o in
     let count = come.count o in
     ap (option_map lengths_of) (key_at-same (cell_at old) (cell_at mid) o (come.same o refl (omega (arith, one, most, count))))
+
+-- the securities describe what they did
+carved_described : (old mid : List ℕ) (root : ℕ) {table : DescriptorCells} (holds : TreeInvariant old root table) (spare : List ℕ) →
+    CellFrame (cell_at old) (cell_at mid) (λ z. 0) (λ z. times z spare) → (z : ℕ) → 0 < times z holds.ring → descriptor_at (cell_at mid) z ≡ descriptor_at (cell_at old) z
+carved_described old mid root holds spare come z l =
+    let x = holds.shape.exact z in
+    let most = at-most-one (cell_at mid) z in
+    let count = come.count z in
+    ap (option_map (λ (s : KeySecurityRecord). s.descriptor)) (security_at-same (cell_at old) (cell_at mid) z (come.same z refl (omega (arith, x, most, count, l))))
 
 -- ---- numbers within their limits
 
@@ -173,7 +187,7 @@ module _ (old : List ℕ) (from : TreeNode) (t : IsHere old from.offset) (path :
 
   -- ---- all are there
 
-  pub created_none : left ≡ [] → IsCreated old old t.root t.path from names moment parent
+  pub created_none : left ≡ [] → IsCreated old old t.root t.table t.path from names moment parent
   created_none e = record {
     holds = t.holds;
     tree = sym (with-left ∙ ap (λ ns. with_keys tree (t.path ++ map folded passed) ns moment) e);
@@ -270,10 +284,10 @@ module _ (old : List ℕ) (from : TreeNode) (t : IsHere old from.offset) (path :
     module _ (new : List ℕ) (made : TreeNode)
         (grown : GrowsAll (cell_at mid) (cell_at new) may_make.growing.root may_make.growing.path may_make.growing.keys may_make.growing.ring parent
         made left moment) where
-      pub created : IsCreated old new t.root t.path from names moment made
+      pub created : IsCreated old new t.root t.table t.path from names moment made
       unfolding may_make may_grow_all here_then
       created =
-          let h : TreeInvariant new t.root = record { keys = grown.now; ring = t.holds.ring; shape = grown.shape; sole = t.holds.sole; unrooted = grown.unrooted } in
+          let h : TreeInvariant new t.root t.table = record { keys = grown.now; ring = t.holds.ring; shape = grown.shape; finds = finds-now; unrooted = grown.unrooted } in
           record {
             holds = h;
             tree = spelt_is new t.root h
@@ -298,6 +312,9 @@ module _ (old : List ℕ) (from : TreeNode) (t : IsHere old from.offset) (path :
         where
           then-at : (q : Path) (o : ℕ) → key_offset_at (cell_at old) t.root q ≡ Some o → key_offset_at (cell_at mid) t.root q ≡ Some o
           then-at q o e = offsets-spared (cell_at old) (cell_at mid) t.root t.holds.keys t.holds.ring spare t.holds.shape s.come q ∙ e
+
+          finds-now : Finds t.table (cell_at new) t.holds.ring
+          finds-now = finds-same t.table (cell_at old) (cell_at new) t.holds.ring t.holds.finds (λ z l. grown.described z l ∙ carved_described old mid t.root t.holds spare s.come z l)
 
 -- ---- the cells that come
 

@@ -6,6 +6,7 @@ use Rattle.reg_heap.specs.Paths.{Path, Tree}
 use Rattle.reg_heap.specs.Edits.{are_too_many, missing, last_there}
 use Rattle.reg_arena.specs.Arena.{Bins, heap_of}
 use Rattle.reg_arena.specs.declared.ArenaFault.{ArenaFault}
+use Rattle.reg_security.specs.Rings.{DescriptorCells}
 use Rattle.reg_tree.specs.declared.node.Node.{Node}
 use Rattle.reg_tree.specs.declared.node.Reached.{Reached}
 use Rattle.reg_tree.specs.KeyLengths.{ChangesLengths, NotesMade, with_first_length}
@@ -20,7 +21,7 @@ use Rattle.reg_tree.proofs.InsertKey.CreateKeepsNodes.{if_ok, on_made, holds_aft
 use Rattle.reg_tree.proofs.InsertKey.CreatePath.{new_some}
 use Rattle.reg_tree.proofs.PathWalk.ReachedSeen.{named}
 
-module _ (bins : Bins) (root : ℕ) (holds : TreeInvariant bins.bytes root) (now : Keys) (view_is : seen_as bins root ≡ now) (reached : Reached) where
+module _ (bins : Bins) (root : ℕ) {table : DescriptorCells} (holds : TreeInvariant bins.bytes root table) (now : Keys) (view_is : seen_as bins root ≡ now) (reached : Reached) where
   abbrev pub leads_at : (from : Node) (path : List ℕ) → IsWalkedTo now from path reached → (p : Path) → IsAt now p from →
       LeadsTo bins.bytes from path reached.node reached.missing.now
   leads_at from path r p at = record {
@@ -53,15 +54,15 @@ module _ (bins : Bins) (root : ℕ) (holds : TreeInvariant bins.bytes root) (now
 
     module _ (new : Bins) (result : Result Node ArenaFault) (moment : ℕ)
         (ok : (from : Node) → (path : List ℕ) → (l : LeadsTo bins.bytes from path reached.node reached.missing.now) →
-        IfOk result (λ made. IsCreated bins.bytes new.bytes l.here.root l.here.path from (path_of path) moment made)) where
-      pub holds_made : OnErr result (new ≡ bins) → TreeInvariant new.bytes root
+        IfOk result (λ made. IsCreated bins.bytes new.bytes l.here.root l.here.table l.here.path from (path_of path) moment made)) where
+      pub holds_made : OnErr result (new ≡ bins) → TreeInvariant new.bytes root table
       holds_made err =
-          holds_after bins root holds now view_is (λ made. IsCreated bins.bytes new.bytes root there.3.0 there.0 (path_of there.1) moment made) new result (λ made c. c.holds)
+          holds_after bins root holds now view_is (λ made. IsCreated bins.bytes new.bytes root table there.3.0 there.0 (path_of there.1) moment made) new result (λ made c. c.holds)
           (ok there.0 there.1 (leads_at there.0 there.1 there.2 there.3.0 there.3.1)) err
 
       module _ (from : Node) (path : List ℕ) (r : IsWalkedTo now from path reached) (p : Path) (at : IsAt now p from) where
         abbrev Its : Node → Type 0
-        Its made = IsCreated bins.bytes new.bytes root p from (path_of path) moment made
+        Its made = IsCreated bins.bytes new.bytes root table p from (path_of path) moment made
 
         its : IfOk result Its
         its = ok from path (leads_at from path r p at)

@@ -30,7 +30,7 @@ use Rattle.reg_shape.proofs.Graft.Branches.{its_key, branch-found}
 use Rattle.reg_shape.proofs.Graft.ForestInsertFits.{deep-hung}
 use Rattle.reg_shape.proofs.Refinement.RefinementAfterEdit.{same_path, name-is}
 use Rattle.reg_shape.proofs.Graft.WholeAfterGraft.{grafted, graft-total}
-use Rattle.reg_shape.proofs.Graft.GraftInRing.{graft-in-ring, tree-hung-in-ring}
+use Rattle.reg_shape.proofs.Graft.GraftInRing.{descriptor-recounted, graft-in-ring, tree-hung-in-ring}
 use Rattle.reg_shape.proofs.Refinement.RefinementAfterGraft.{grafted-name}
 use Rattle.reg_shape.proofs.Lookup.LookupAfterGraft.{offsets-hung}
 use Rattle.reg_shape.proofs.Lookup.LookupOfShape.{placed, offset-more}
@@ -209,6 +209,7 @@ module _ (h0 h1 h2 h3 h4 : Heap) (root : ℕ) (keys : Branch Node) (ring : List 
                 lengths_which h0 h4 root p keys was is (keyed.branch_is h0 root keys ring spare w p parent at) same-name w.offset w.stands
                 (shape-made (omega (arith, deep))).offset (shape-made (omega (arith, deep))).stands below-same (with_first_length (name ∷ [])) refl;
             fresh = ap (option_map lengths_of) key4;
+            described = λ z l. descriptor-recounted h0 h4 was is z (in-ring.recounted z l);
           }
             where
               same-name : name_of now.key ≡ name_of was.node.key

@@ -33,6 +33,7 @@ use Rattle.reg_shape.specs.Nodes.{Node}
 use Rattle.reg_shape.specs.Spelt.{rec_of}
 use Rattle.reg_shape.specs.Internal.Shapes.{descriptor_in, tree_of}
 use Rattle.reg_shape.specs.Internal.Grafts.{IsShape, branch_at}
+use Rattle.reg_shape.specs.Whole.{descriptor_at}
 use Rattle.reg_shape.specs.PathLookup.{key_offset_at, subkey_named}
 use Rattle.reg_records.proofs.KeyNodeCodec.{key_at-same}
 use Rattle.reg_shape.proofs.Frame.WrittenFrame.{same-held}
@@ -183,6 +184,7 @@ pub record Midway (bytes0 : List ℕ) (from : TreeNode) (names0 : List (List ℕ
   pub keeps_cells : KeepsCells (cell_at bytes0) (cell_at bytes)
   pub stay : (z : ℕ) → 0 < times z spare0 → IsSome (cell_at bytes z)
   pub apart : (k : KeyRecord) → key_at (cell_at bytes) node.offset ≡ Some k → (z : ℕ) → 0 < times z spare0 → times z (own (cell_at bytes) k.fields.subkeys k.fields.subkeys_list) ≡ 0
+  pub described : (z : ℕ) → 0 < times z m.growing.ring → descriptor_at (cell_at bytes) z ≡ descriptor_at (cell_at bytes0) z
 
 pub at_start : (bytes : List ℕ) (from : TreeNode) (path spare : List ℕ) (m : MayGrowAll bytes from (path_of path) spare) (moment : ℕ) →
     is_path path ≡ true → Midway bytes from (path_of path) spare m moment bytes from path spare
@@ -203,6 +205,7 @@ at_start bytes from path spare m moment v = record {
   keeps_cells = λ z some. (some, refl);
   stay = spare_there bytes from.offset spare m.growing;
   apart = spare_apart bytes from.offset spare m.growing;
+  described = λ z l. refl;
 }
 
 module _ (bytes0 : List ℕ) (from : TreeNode) (names0 : List (List ℕ)) (spare0 : List ℕ) (m : MayGrowAll bytes0 from names0 spare0) (moment : ℕ)
@@ -333,6 +336,7 @@ module _ (bytes0 : List ℕ) (from : TreeNode) (names0 : List (List ℕ)) (spare
         keeps_cells = λ z some. (let q = kept z some in let p = mid.keeps_cells z q.0 in (p.0, q.1 ∙ p.1));
         stay = λ z l. leaves node_is.0 node_is.1 z (mid.stay z l) (mid.apart node_is.0 node_is.1 z l);
         apart = λ r e z l. ap (λ n. times z (own k n r.fields.subkeys_list)) (grows.none r e);
+        described = λ z l. grows.described z (subst (λ ring. 0 < times z ring) (sym mid.ring_is) l) ∙ mid.described z l;
       }
 
   -- nothing is left of the path, and so no cell is spare
@@ -354,4 +358,5 @@ module _ (bytes0 : List ℕ) (from : TreeNode) (names0 : List (List ℕ)) (spare
         keeps = mid.keeps;
         lengths = noted_all _ _ _ _ _ _ _ e mid.lengths;
         noted = subst (MadeLengths (cell_at bytes) m.growing.root m.growing.path) (sym (mid.parts ∙ (ap (λ ns. mid.done ++ ns) e ∙ append-nil mid.done))) mid.noted;
+        described = mid.described;
       }

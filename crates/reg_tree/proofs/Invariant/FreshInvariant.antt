@@ -4,24 +4,26 @@ use Rattle.std.specs.FinMap.{insert, empty}
 use Rattle.reg_heap.specs.Paths.{path_cmp}
 use Rattle.reg_arena.specs.Cells.{cell_at}
 use Rattle.reg_shape.proofs.Graft.Branches.{whole-shape}
+use Rattle.reg_security.specs.Rings.{DescriptorCells}
 use Rattle.reg_tree.specs.TreeKeys.{tree_in, made_root}
 use Rattle.reg_tree.specs.Internal.TreeInvariant.{TreeInvariant}
 use Rattle.reg_tree.proofs.Invariant.OneRootTree.{tree-alone}
 use Rattle.reg_tree.proofs.Invariant.FreshShape.{IsMade, fresh-shape, fresh-rec}
 use Rattle.reg_tree.proofs.Invariant.KeyOfTree.{spelt_is}
 
-pub fresh_holds : (bytes : List ℕ) (root : ℕ) (name descriptor : List ℕ) (moment : ℕ) → IsMade (cell_at bytes) root name descriptor moment → TreeInvariant bytes root
+pub fresh_holds : (bytes : List ℕ) (root : ℕ) {table : DescriptorCells} (name descriptor : List ℕ) (moment : ℕ) → IsMade (cell_at bytes) root table name descriptor moment →
+    TreeInvariant bytes root table
 fresh_holds bytes root name descriptor moment m =
     record {
       keys = _;
       ring = m.root_is.key.fields.security ∷ [];
       shape = whole-shape (cell_at bytes) root _ (m.root_is.key.fields.security ∷ [])
           (fresh-shape (cell_at bytes) root m.root_is);
-      sole = refl;
+      finds = m.finds;
       unrooted = refl;
     }
 
-pub fresh_tree : (bytes : List ℕ) (root : ℕ) (name descriptor : List ℕ) (moment : ℕ) → IsMade (cell_at bytes) root name descriptor moment →
+pub fresh_tree : (bytes : List ℕ) (root : ℕ) {table : DescriptorCells} (name descriptor : List ℕ) (moment : ℕ) → IsMade (cell_at bytes) root table name descriptor moment →
     tree_in bytes root ≡ insert empty [] (made_root name descriptor moment)
 unfolding fresh_holds
 fresh_tree bytes root name descriptor moment m =

@@ -6,7 +6,7 @@ use Rattle.std.specs.List.{AllByRecursion}
 use Rattle.std.specs.Option.{option_map, option_and_then}
 use Rattle.std.proofs.lemmas.Bool.{eqb-true, eqb-false}
 use Rattle.reg_names.specs.Names.{is_key_name}
-use Rattle.reg_heap.specs.declared.limits.TheConstants.{NONE, DESCRIPTOR_LIMIT}
+use Rattle.reg_heap.specs.declared.limits.TheConstants.{NONE}
 use Rattle.reg_heap.specs.Heaps.{Heap, allocated}
 use Rattle.reg_heap.specs.Kinds.{times}
 use Rattle.reg_heap.specs.Kinds.Kind.{Class}
@@ -15,10 +15,9 @@ use Rattle.reg_shape.specs.Internal.Forests.Forest.{End}
 use Rattle.reg_arena.specs.Arena.{Bins, heap_of}
 use Rattle.reg_arena.specs.Cells.{cells_of, cell_at}
 use Rattle.reg_records.specs.declared.nk.KeyFields.{KeyFields}
-use Rattle.reg_records.specs.declared.sk.SecurityFields.{SecurityFields}
 use Rattle.reg_records.specs.RecordCells.{held, HasRoom, WritesCell, WritesRecord}
 use Rattle.reg_records.specs.KeyNodes.{KeyRecord, key_at, nk_bytes, IsPlainKey}
-use Rattle.reg_records.specs.KeySecurities.{KeySecurityRecord, security_at, sk_bytes, IsPlainSecurity}
+use Rattle.reg_records.specs.KeySecurities.{KeySecurityRecord}
 use Rattle.reg_records.specs.OffsetRows.{offsets_at}
 use Rattle.reg_records.specs.BigData.{if_any}
 use Rattle.reg_shape.specs.Nodes.{Node, members_at, index_at, node_in, node_of, met_of, look, letters, pieces_at}
@@ -27,12 +26,13 @@ use Rattle.reg_shape.specs.Written.{AreWrittenValues, IsWrittenValue}
 use Rattle.reg_shape.specs.Whole.{IsRing, count_at}
 use Rattle.reg_shape.specs.Spelt.{rec_of, name_of, marks_of}
 use Rattle.reg_shape.specs.Internal.Shapes.{shares, IsSeen, descriptor_in, IsWholeShape}
-use Rattle.reg_records.proofs.KeySecurityCodec.{security_at-same}
 use Rattle.reg_shape.proofs.Wholeness.FewerNumbers.{same-number}
 use Rattle.reg_shape.proofs.Wholeness.ShapeRecords.{allocated-is}
+use Rattle.reg_security.specs.Rings.{DescriptorCells, Finds, IsAdded}
 use Rattle.reg_tree.specs.TreeKeys.{made_root}
 use Rattle.reg_tree.specs.Internal.FreshCells.{AreCarved, IsOnlySecurity, IsFreshRoot}
 use Rattle.reg_tree.proofs.Invariant.CellReadings.{is_some_of}
+use Rattle.reg_tree.proofs.Invariant.FirstSecurity.{first-security, first-found}
 
 -- ---- the root as it is read
 
@@ -183,51 +183,43 @@ new_fields security moment = record {
   largest_value_data = 0;
 }
 
-pub record IsMade (h : Heap) (root : ℕ) (name descriptor : List ℕ) (moment : ℕ) : Type 0 where
+pub record IsMade (h : Heap) (root : ℕ) (table : DescriptorCells) (name descriptor : List ℕ) (moment : ℕ) : Type 0 where
   pub root_is : IsFreshRoot h root
   pub name_is : root_is.key.name ≡ name
   pub described : root_is.security.descriptor ≡ descriptor
   pub time : root_is.key.fields.time ≡ moment
+  pub finds : Finds table h (root_is.key.fields.security ∷ [])
 
 -- a new root's two cells
-pub made : (e b i k : Bins) (root security node_size ring_size n m : ℕ) (fields : KeyFields) (ring : SecurityFields) (name descriptor : List ℕ)
-    (moment : ℕ) → fields ≡ new_fields security moment → ring ≡ record { flink = security; blink = security; count = 1 }
-    → is_key_name name ≡ true → 1 ≤ length descriptor → length descriptor ≤ DESCRIPTOR_LIMIT → e.bytes ≡ [] → AreCarved e b root security node_size ring_size
-    → WritesRecord b i security n (sk_bytes ring descriptor) → IsPlainSecurity (held (heap_of i) security) →
-    security_at (heap_of i) security ≡ Some (record { fields = ring; descriptor = descriptor })
+pub made : {table : DescriptorCells} (e b i k : Bins) (root security node_size ring_size n m : ℕ) (fields : KeyFields) (ring name descriptor : List ℕ)
+    (moment : ℕ) → fields ≡ new_fields security moment → is_key_name name ≡ true → e.bytes ≡ [] → AreCarved e b root security node_size ring_size
+    → WritesRecord b i security n ring → (added : (a : IsAdded (heap_of b) (heap_of i) [] security descriptor) × Finds table (heap_of i) a.after)
     → WritesRecord i k root m (nk_bytes fields name) → IsPlainKey (held (heap_of k) root) →
-    key_at (heap_of k) root ≡ Some (record { fields = fields; name = name }) → IsMade (heap_of k) root name descriptor moment
-made e b i k root security node_size ring_size n m fields ring name descriptor moment is ring_is valid some short none carved sk_written sk_plain secured nk_written nk_plain keyed =
+    key_at (heap_of k) root ≡ Some (record { fields = fields; name = name }) → IsMade (heap_of k) root table name descriptor moment
+made {table} e b i k root security node_size ring_size n m fields ring name descriptor moment is valid none carved sk_written added nk_written nk_plain keyed =
     let key : KeyRecord = record { fields = new_fields security moment; name = name } in
     let off : security ≢ root = λ e. carved.apart (sym e) in
     let key_now : key_at (heap_of k) root ≡ Some key = keyed ∙ ap (λ (f : KeyFields). Some (let r : KeyRecord = record { fields = f; name = name } in r)) is in
     let at_now : heap_of k security ≡ heap_of i security = nk_written.others security off in
-    let security_now = security_at-same (heap_of i) (heap_of k) security at_now ∙ secured in
+    let first = first-security (heap_of b) (heap_of i) (heap_of k) security descriptor added.0 at_now in
     record {
       root_is = record {
         key = key;
-        security = record { fields = ring; descriptor = descriptor };
+        security = first.security;
         key_is = key_now;
         plain = nk_plain;
         name = valid;
         fields = record { flags = refl; parent = refl; subkeys = refl; subkeys_list = refl; class = refl; class_length = refl; values = refl; values_list = refl; largest = refl };
-        only = record {
-          security_is = security_now;
-          plain = subst IsPlainSecurity (sym (ap (λ (c : Option (List ℕ)). unwrap_or c []) at_now)) sk_plain;
-          flink = ap (λ (f : SecurityFields). f.flink) ring_is;
-          blink = ap (λ (f : SecurityFields). f.blink) ring_is;
-          count = ap (λ (f : SecurityFields). f.count) ring_is;
-          some = some;
-          short = short;
-        };
+        only = first.only;
         exact = two-alone (heap_of k) root security carved.apart
             (allocated-is (heap_of k) root (is_some_of _ _ nk_written.here))
             (allocated-is (heap_of k) security (is_some_of _ _ (at_now ∙ sk_written.here)))
             (λ o r s. held-none (heap_of k) o (nk_written.others o r ∙ (sk_written.others o s ∙ (carved.others o r s ∙ no-cells e.bytes none o))));
       };
       name_is = refl;
-      described = refl;
+      described = first.described;
       time = refl;
+      finds = first-found (heap_of b) (heap_of i) (heap_of k) security descriptor added.0 at_now table added.1;
     }
 
 -- the root's cell has room for its key node, when the security's is written

@@ -26,6 +26,7 @@ use Rattle.reg_shape.proofs.Lookup.LookupOfShape.{placed}
 use Rattle.reg_shape.proofs.Refinement.RefinementAtPath.{told}
 use Rattle.reg_values.specs.ValueLists.{AreValues}
 use Rattle.reg_values.proofs.ValueListing.ValueListOpening.{values-length}
+use Rattle.reg_security.specs.Rings.{DescriptorCells}
 use Rattle.reg_tree.specs.TreeKeys.{tree_in, IsWholeTree}
 use Rattle.reg_tree.specs.Internal.TreeInvariant.{TreeInvariant, IsHere}
 use Rattle.reg_tree.specs.Internal.KeyNodeChanges.{HasList}
@@ -35,7 +36,7 @@ use Rattle.reg_tree.proofs.Invariant.KeyOfShape as keyed
 
 -- ---- a whole tree
 
-module _ (bytes : List ℕ) (root : ℕ) (t : TreeInvariant bytes root) where
+module _ (bytes : List ℕ) (root : ℕ) {table : DescriptorCells} (t : TreeInvariant bytes root table) where
   abbrev pub heap : Heap
   heap = cell_at bytes
 

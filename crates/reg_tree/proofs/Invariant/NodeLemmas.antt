@@ -9,6 +9,7 @@ use Rattle.reg_heap.specs.Edits.{edited}
 use Rattle.reg_arena.specs.Arena.{Bins, heap_of}
 use Rattle.reg_shape.specs.PathLookup.{key_offset_at}
 use Rattle.reg_shape.proofs.Lookup.LookupOfShape.{offset-append}
+use Rattle.reg_security.specs.Rings.{DescriptorCells}
 use Rattle.reg_tree.specs.declared.node.Node.{Node}
 use Rattle.reg_tree.specs.TreeKeys.{Keys, tree_in, IsAt, IsThere, IsResolved, KeepsNodes}
 use Rattle.reg_tree.specs.Internal.PathWalks.{IsWalked, IsSubkey}
@@ -16,10 +17,10 @@ use Rattle.reg_tree.proofs.Invariant.KeyOfTree.{offset-root, get-none, get-some,
 use Rattle.reg_tree.specs.Internal.TreeInvariant.{TreeInvariant, IsHere, IsChanged}
 
 -- a node that is there is a key's
-abbrev pub here : (k : Keys) (node : Node) (p : Path) → TreeInvariant k.bins.bytes k.root → IsAt k p node → IsHere k.bins.bytes node.offset
-here k node p holds at = record { root = k.root; path = p; holds = holds; at = at.offset }
+abbrev pub here : {table : DescriptorCells} (k : Keys) (node : Node) (p : Path) → TreeInvariant k.bins.bytes k.root table → IsAt k p node → IsHere k.bins.bytes node.offset
+here {table} k node p holds at = record { root = k.root; table = table; path = p; holds = holds; at = at.offset }
 
-abbrev pub there : (k : Keys) (node : Node) → TreeInvariant k.bins.bytes k.root → IsThere k node → IsHere k.bins.bytes node.offset
+abbrev pub there : {table : DescriptorCells} (k : Keys) (node : Node) → TreeInvariant k.bins.bytes k.root table → IsThere k node → IsHere k.bins.bytes node.offset
 there k node holds some = here k node some.0 holds some.1
 
 -- keys that stay where they stand keep their nodes
@@ -35,7 +36,7 @@ on_ok (Err e) f a = a
 abbrev pub seen_as : Bins → ℕ → Keys
 seen_as bins root = record { bins = bins; root = root; tree = tree_in bins.bytes root }
 
-module _ (bins : Bins) (root : ℕ) (holds : TreeInvariant bins.bytes root) (now : Keys) (view_is : seen_as bins root ≡ now) where
+module _ (bins : Bins) (root : ℕ) {table : DescriptorCells} (holds : TreeInvariant bins.bytes root table) (now : Keys) (view_is : seen_as bins root ≡ now) where
   abbrev pub here_at : (node : Node) (p : Path) → IsAt now p node → IsHere bins.bytes node.offset
   here_at node p at = here (seen_as bins root) node p holds (subst (λ k. IsAt k p node) (sym view_is) at)
 
@@ -51,7 +52,7 @@ module _ (bins : Bins) (root : ℕ) (holds : TreeInvariant bins.bytes root) (now
   to_tree P h = subst (λ (k : Keys). P k.tree) (sym view_is) h
 
   -- what a change of a key is, as it is seen
-  module _ (new : Bins) (p : Path) (f : Rec → Rec) (c : IsChanged bins.bytes new.bytes root p f) where
+  module _ (new : Bins) (p : Path) (f : Rec → Rec) (c : IsChanged bins.bytes new.bytes root table p f) where
     pub tree_then : tree_in new.bytes root ≡ edited now.tree p f
     tree_then = of_tree (λ t. tree_in new.bytes root ≡ edited t p f) c.tree
 
@@ -59,13 +60,13 @@ module _ (bins : Bins) (root : ℕ) (holds : TreeInvariant bins.bytes root) (now
     nodes_then = subst (λ k. KeepsNodes k (seen_as new root)) view_is (keeps (seen_as bins root) (seen_as new root) refl c.offsets)
 
   module _ {E : Type 0} (new : Bins) (result : Result (Unit {0}) E) (node : Node) (some : IsThere now node) (f : Rec → Rec)
-      (ok : (t : IsHere bins.bytes node.offset) → OnOk result (IsChanged bins.bytes new.bytes t.root t.path f)) (err : OnErr result (new ≡ bins)) where
-    pub holds_then : TreeInvariant new.bytes root
+      (ok : (t : IsHere bins.bytes node.offset) → OnOk result (IsChanged bins.bytes new.bytes t.root t.table t.path f)) (err : OnErr result (new ≡ bins)) where
+    pub holds_then : TreeInvariant new.bytes root table
     holds_then = by result (ok (there_at node some)) err
       where
-        by : (r : Result (Unit {0}) E) → OnOk r (IsChanged bins.bytes new.bytes root some.0 f) → OnErr r (new ≡ bins) → TreeInvariant new.bytes root
+        by : (r : Result (Unit {0}) E) → OnOk r (IsChanged bins.bytes new.bytes root table some.0 f) → OnErr r (new ≡ bins) → TreeInvariant new.bytes root table
         by (Ok x) c e = c.holds
-        by (Err x) c e = subst (λ (b : Bins). TreeInvariant b.bytes root) (sym e) holds
+        by (Err x) c e = subst (λ (b : Bins). TreeInvariant b.bytes root table) (sym e) holds
 
     pub changed_ok : (p : Path) → IsAt now p node → OnOk result (tree_in new.bytes root ≡ edited now.tree p f)
     changed_ok p at = on_ok result (λ c. tree_then new p f c) (ok (here_at node p at))
@@ -124,7 +125,7 @@ module _ (bins : Bins) (root : ℕ) (holds : TreeInvariant bins.bytes root) (now
           let none : get now.tree p ≡ None = of_tree (λ t. get t p ≡ None) (get-none bins.bytes root holds p e) in
           absurd (true≢false (sym some ∙ ap is_some none))
       by (Some o) e =
-          let s = shallow bins.bytes o (record { root = root; path = p; holds = holds; at = e }) in
+          let s = shallow bins.bytes o (record { root = root; table = table; path = p; holds = holds; at = e }) in
           omega (arith, s)
 
   pub resolved-depth : (from : Node) → IsThere now from → (q : Path) (result : Option Node) → IsWalked (heap_of bins) from q result → IfSome result (λ node. node.depth ≤ PATH_LIMIT)

@@ -56,6 +56,7 @@ module _ (bytes : List ℕ) (from : Node) (t : IsHere bytes from.offset) (path :
   unfoldable pub here_then : IsHere bytes node.offset
   here_then = record {
     root = t.root;
+    table = t.table;
     path = t.path ++ map folded s.names;
     holds = t.holds;
     at = offset-append (cell_at bytes) t.root t.path (map folded s.names) ∙ (ap (option_and_then (λ c. key_offset_at (cell_at bytes) c (map folded s.names))) t.at ∙ s.offset);

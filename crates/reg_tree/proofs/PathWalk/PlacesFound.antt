@@ -44,6 +44,7 @@ module _ (bytes : List ℕ) (key : ℕ) (t : IsHere bytes key) (count list : ℕ
     abbrev below : IsHere bytes child
     below = record {
       root = t.root;
+      table = t.table;
       path = t.path ++ folded name ∷ [];
       holds = t.holds;
       at = offset-then h t.root t.path (folded name) key child t.at (sym (child_found bytes key t count list has name index child find at));

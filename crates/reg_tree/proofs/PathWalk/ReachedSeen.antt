@@ -5,6 +5,7 @@ use Rattle.reg_names.specs.Names.{path_of, is_path, is_backslash}
 use Rattle.reg_heap.specs.Paths.{Path, Tree}
 use Rattle.reg_heap.specs.Edits.{folded_path, missing}
 use Rattle.reg_arena.specs.Arena.{Bins, heap_of}
+use Rattle.reg_security.specs.Rings.{DescriptorCells}
 use Rattle.reg_tree.specs.declared.node.Node.{Node}
 use Rattle.reg_tree.specs.declared.node.Reached.{Reached}
 use Rattle.reg_tree.specs.TreeKeys.{Keys, IsAt, IsResolved}
@@ -21,7 +22,7 @@ pub named : (text : List ℕ) → text ≢ [] → path_of text ≡ [] → ⊥
 named [] some e = absurd (some refl)
 named (b ∷ bs) some e = let l = length-slice_split is_backslash (b ∷ bs) in let z : length (path_of (b ∷ bs)) ≡ 0 = ap length e in omega (arith, l, z)
 
-module _ (bins : Bins) (root : ℕ) (holds : TreeInvariant bins.bytes root) (now : Keys) (view_is : seen_as bins root ≡ now)
+module _ (bins : Bins) (root : ℕ) {table : DescriptorCells} (holds : TreeInvariant bins.bytes root table) (now : Keys) (view_is : seen_as bins root ≡ now)
     (from : Node) (path : List ℕ) (reached : Reached) (r : Reaches (heap_of bins) from path reached.node reached.missing.now) where
   pub reached_seen : is_path path ≡ true → IsPlace (heap_of bins) path reached.node.offset reached.missing.now reached.index → IsWalkedTo now from path reached
   reached_seen valid place = subst (λ k. IsWalkedTo k from path reached) view_is (record { valid = valid; reaches = r; place = place })

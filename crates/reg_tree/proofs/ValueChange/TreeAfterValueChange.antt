@@ -17,10 +17,11 @@ use Rattle.reg_shape.specs.Internal.Exchanges.{IsExchanged}
 use Rattle.reg_shape.specs.Internal.Grafts.{IsShape, IsGrafted, IsGraftedInRing, graft_at}
 use Rattle.reg_shape.proofs.Graft.GraftOfExchange.{exchange-grafts}
 use Rattle.reg_shape.proofs.Graft.WholeAfterGraft.{grafted, graft-total}
-use Rattle.reg_shape.proofs.Graft.GraftInRing.{graft-in-ring, tree-same-below-in-ring}
+use Rattle.reg_shape.proofs.Graft.GraftInRing.{descriptor-recounted, graft-in-ring, tree-same-below-in-ring}
 use Rattle.reg_shape.proofs.Refinement.RefinementAfterGraft.{grafted-name}
 use Rattle.reg_shape.proofs.Lookup.LookupAfterGraft.{offsets-same}
 use Rattle.reg_values.specs.ValueLists.{Became}
+use Rattle.reg_security.proofs.TableCells.{finds-same}
 use Rattle.reg_tree.specs.TreeKeys.{tree_in}
 use Rattle.reg_tree.specs.Internal.TreeInvariant.{rooted, TreeInvariant, IsHere, IsChanged}
 use Rattle.reg_tree.specs.Internal.KeyNodeChanges.{HasList, Notes, noted}
@@ -92,19 +93,19 @@ module _ (old mid new : List ℕ) (key : ℕ) (t : IsHere old key) (count list n
   shape : IsShape j t.root now ring []
   shape = grafted h j t.root t.path keys was is ring [] ring [] (branch_is old key t) grafts (shallow old key t) t.holds.shape
 
-  holds-now : TreeInvariant new t.root
+  holds-now : TreeInvariant new t.root t.table
   holds-now = record {
     keys = now;
     ring = ring;
     shape = shape;
-    sole = t.holds.sole;
+    finds = finds-same t.table h j ring t.holds.finds (λ z l. descriptor-recounted h j was is z (in-ring.recounted z l));
     unrooted = (let g = graft-total rooted was after was.below t.path keys (branch_is old key t) in let u = t.holds.unrooted in omega (arith, g, u));
   }
 
   abbrev rec : Rec
   rec = rec_of was.node (descriptor_in h was.node.key.fields.security)
 
-  pub is_changed : IsChanged old new t.root t.path f
+  pub is_changed : IsChanged old new t.root t.table t.path f
   unfolding holds-now
   is_changed = record {
     holds = holds-now;
@@ -137,7 +138,7 @@ pub set_changed : (old mid new : List ℕ) (key count list : ℕ) (name : List �
     (t : IsHere old key) → HasList (cell_at old) key count list
     → ((members : List Member) (met : List Found) → members_at count list (cell_at old) ≡ Some (members, met) →
     Became (cell_at old) (cell_at mid) met after_count after_offset (values_with name kind bytes members))
-    → Notes (cell_at mid) (cell_at new) key (noted after_count after_offset (length name) (length bytes) moment) → IsChanged old new t.root t.path (with_value name kind bytes moment)
+    → Notes (cell_at mid) (cell_at new) key (noted after_count after_offset (length name) (length bytes) moment) → IsChanged old new t.root t.table t.path (with_value name kind bytes moment)
 set_changed old mid new key count list name kind bytes moment after_count after_offset t has became notes =
     let node = (branch old key t).node in
     let values = (seen old key t).written.values in
@@ -151,7 +152,7 @@ set_changed old mid new key count list name kind bytes moment after_count after_
 pub remove_changed : (old mid new : List ℕ) (key count list : ℕ) (index moment after_count after_offset : ℕ) (t : IsHere old key) → HasList (cell_at old) key count list
     → ((members : List Member) (met : List Found) → members_at count list (cell_at old) ≡ Some (members, met) →
     Became (cell_at old) (cell_at mid) met after_count after_offset (take index members ++ drop (index + 1) members))
-    → Notes (cell_at mid) (cell_at new) key (noted after_count after_offset 0 0 moment) → IsChanged old new t.root t.path (without_value_at index moment)
+    → Notes (cell_at mid) (cell_at new) key (noted after_count after_offset 0 0 moment) → IsChanged old new t.root t.table t.path (without_value_at index moment)
 remove_changed old mid new key count list index moment after_count after_offset t has became notes =
     let node = (branch old key t).node in
     let values = (seen old key t).written.values in

@@ -10,6 +10,7 @@ use Rattle.reg_heap.specs.Edits.{edited, values_of, values_at, without_value}
 use Rattle.reg_values.proofs.ValueListing.FoundValues.{offset-within}
 use Rattle.reg_values.proofs.ValueListing.NamedValues.{without-index}
 use Rattle.reg_values.proofs.ValueListing.ToldValues.{named-at}
+use Rattle.reg_security.specs.Rings.{DescriptorCells}
 use Rattle.reg_tree.specs.TreeKeys.{tree_in}
 use Rattle.reg_tree.specs.ValueAnswers.{without_value_at}
 use Rattle.reg_tree.specs.Internal.TreeInvariant.{IsChanged}
@@ -63,8 +64,8 @@ removed_at t p name index moment named = edited-alike t p (without_value_at inde
     ap (λ (members : List Member). record r { time = moment; values = members }) (sym (without-index name r.values index here)))
 
 -- and so is the key's change
-pub removed_by_name : (old new : List ℕ) (root : ℕ) (p : Path) (name : List ℕ) (index moment : ℕ) → index_named name (values_at (tree_in old root) p) ≡ Some index →
-    IsChanged old new root p (without_value_at index moment) → IsChanged old new root p (without_value name moment)
+pub removed_by_name : (old new : List ℕ) (root : ℕ) {table : DescriptorCells} (p : Path) (name : List ℕ) (index moment : ℕ) → index_named name (values_at (tree_in old root) p) ≡ Some index →
+    IsChanged old new root table p (without_value_at index moment) → IsChanged old new root table p (without_value name moment)
 removed_by_name old new root p name index moment named c =
     record { holds = c.holds; tree = c.tree ∙ removed_at (tree_in old root) p name index moment named; offsets = c.offsets }
 

@@ -8,6 +8,7 @@ use Rattle.reg_heap.specs.Edits.{with_keys, missing, last_there}
 use Rattle.reg_arena.specs.Cells.{cell_at}
 use Rattle.reg_shape.specs.PathLookup.{key_offset_at}
 use Rattle.reg_tree.specs.declared.node.Node.{Node}
+use Rattle.reg_security.specs.Rings.{DescriptorCells}
 use Rattle.reg_tree.specs.TreeKeys.{tree_in}
 use Rattle.reg_tree.specs.KeyLengths.{with_first_length}
 use Rattle.reg_tree.specs.Internal.LengthChanges.{LengthsChange, MadeLengths}
@@ -16,8 +17,9 @@ use Rattle.reg_tree.specs.Internal.PathWalks.{Reaches}
 
 -- the tree has the missing ones of the keys that some names lead to from a path on, a node is the last one's, and each key that
 -- was there stays where it stands
-pub record IsCreated (old new : List ℕ) (root : ℕ) (path : Path) (from : Node) (names : List (List ℕ)) (moment : ℕ) (made : Node) : Type 0 where
-  pub holds : TreeInvariant new root
+pub record IsCreated (old new : List ℕ) (root : ℕ) (table : DescriptorCells) (path : Path) (from : Node) (names : List (List ℕ)) (moment : ℕ)
+    (made : Node) : Type 0 where
+  pub holds : TreeInvariant new root table
   pub tree : tree_in new root ≡ with_keys (tree_in old root) path names moment
   pub offset : key_offset_at (cell_at new) root (path ++ map folded names) ≡ Some made.offset
   pub depth : made.depth ≡ from.depth + length names

@@ -17,6 +17,7 @@ use Rattle.reg_shape.specs.PathLookup.{key_offset_at}
 use Rattle.reg_index.specs.Subkeys.{AreSubkeys, Moves, own, without}
 use Rattle.reg_tree.specs.Internal.KeyNodeChanges.{Notes, noted_subkeys}
 use Rattle.reg_tree.specs.Internal.TreeInvariant.{TreeInvariant, IsHere}
+use Rattle.reg_security.specs.Rings.{DescriptorCells}
 use Rattle.reg_tree.specs.TreeKeys.{tree_in}
 
 -- a key is the subkey at an index of another, whose key node and subkeys are these
@@ -47,9 +48,9 @@ pub record IsSole (heap : Heap) (key : ℕ) : Type 0 where
   pub values : AreWritten heap node.key.fields.values node.key.fields.values_list node.values
 
 -- the key at a path was deleted, and nothing else of the tree changed but the time of the key above; each other key stays where it
--- stands
-pub record IsDeleted (old new : List ℕ) (root : ℕ) (path : Path) (moment : ℕ) : Type 0 where
-  pub holds : TreeInvariant new root
+-- stands; this table finds the securities that are used now
+pub record IsDeleted (old new : List ℕ) (root : ℕ) (table : DescriptorCells) (path : Path) (moment : ℕ) : Type 0 where
+  pub holds : TreeInvariant new root table
   pub tree : tree_in new root ≡ without_key (tree_in old root) path moment
   pub offsets : (other : Path) → other ≢ path → key_offset_at (cell_at new) root other ≡ key_offset_at (cell_at old) root other
 

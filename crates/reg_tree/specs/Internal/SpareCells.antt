@@ -15,6 +15,7 @@ use Rattle.reg_records.specs.KeyNodes.{KeyRecord, key_at}
 use Rattle.reg_shape.specs.Nodes.{Node}
 use Rattle.reg_shape.specs.Internal.Shapes.{tree_of}
 use Rattle.reg_shape.specs.Internal.Grafts.{IsShape}
+use Rattle.reg_shape.specs.Whole.{descriptor_at}
 use Rattle.reg_shape.specs.PathLookup.{key_offset_at, subkey_named}
 use Rattle.reg_records.specs.RecordCells.{HasRoom, held}
 use Rattle.reg_index.specs.Subkeys.{IsReady, taken}
@@ -56,6 +57,7 @@ pub record Grows (old new : Heap) (root : ℕ) (path : Path) (keys : Branch Node
   pub lengths : (q : Path) (o : ℕ) → key_offset_at old root q ≡ Some o → key_offset_at new root q ≡ Some o →
       WhichLengths old new path (with_first_length (name ∷ [])) q o
   pub fresh : lengths_at new made ≡ Some no_lengths
+  pub described : (z : ℕ) → 0 < times z ring → descriptor_at new z ≡ descriptor_at old z
 
 -- cells are of these sizes or larger, one by one, the size field counted
 abbrev pub HaveSizes : Heap → List ℕ → List ℕ → Type 0
@@ -100,6 +102,7 @@ pub record GrowsAll (old new : Heap) (root : ℕ) (path : Path) (keys : Branch N
   pub keeps : (q : Path) (o : ℕ) → key_offset_at old root q ≡ Some o → key_offset_at new root q ≡ Some o
   pub lengths : LengthsChange old new root path (with_first_length names)
   pub noted : MadeLengths new root path names
+  pub described : (z : ℕ) → 0 < times z ring → descriptor_at new z ≡ descriptor_at old z
 
 -- the cells that keys of these names take below a key are new, each once, in order and of their sizes, and no other cell changed
 pub record IsSpared (old new : List ℕ) (key : ℕ) (names : List (List ℕ)) (spare : List ℕ) : Type 0 where

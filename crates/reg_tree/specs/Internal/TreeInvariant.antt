@@ -1,5 +1,5 @@
 -- What is true of every tree's cells.
-use Rattle.std.specs.Prelude.{◌≡◌, ℕ, Some, List, [], length}
+use Rattle.std.specs.Prelude.{◌≡◌, ℕ, Some, List, []}
 use Rattle.reg_shape.specs.Internal.Forests.{Branch, total_of}
 use Rattle.reg_heap.specs.Paths.{Path, Rec}
 use Rattle.reg_heap.specs.Edits.{edited}
@@ -8,6 +8,7 @@ use Rattle.reg_shape.specs.Nodes.{Node, Index}
 use Rattle.reg_shape.specs.Nodes.Index.{Unlisted, Listed, Rooted}
 use Rattle.reg_shape.specs.Internal.Grafts.{IsShape}
 use Rattle.reg_shape.specs.PathLookup.{key_offset_at}
+use Rattle.reg_security.specs.Rings.{DescriptorCells, Finds}
 use Rattle.reg_tree.specs.TreeKeys.{tree_in}
 
 -- 1 for an index root, and else 0
@@ -20,24 +21,25 @@ is_rooted (Rooted offset lists) = 1
 abbrev pub rooted : ℕ → Node → ℕ
 rooted offset node = is_rooted node.index
 
--- the keys stand in the cells, and have all of them (temporary: `sole`, they all use one security, until keys can have their own, and
--- `unrooted`, none has more than one list of subkeys, until there are index roots)
-pub record TreeInvariant (bytes : List ℕ) (root : ℕ) : Type 0 where
+-- the keys stand in the cells, and have all of them; a table finds just the securities that they use (temporary: `unrooted`, no key has
+-- more than one list of subkeys, until there are index roots)
+pub record TreeInvariant (bytes : List ℕ) (root : ℕ) (table : DescriptorCells) : Type 0 where
   pub keys : Branch Node
   pub ring : List ℕ
   pub shape : IsShape (cell_at bytes) root keys ring []
-  pub sole : length ring ≡ 1
+  pub finds : Finds table (cell_at bytes) ring
   pub unrooted : total_of rooted keys ≡ 0
 
 -- a key of the tree, and its path
 pub record IsHere (bytes : List ℕ) (key : ℕ) : Type 0 where
   pub root : ℕ
+  pub table : DescriptorCells
   pub path : Path
-  pub holds : TreeInvariant bytes root
+  pub holds : TreeInvariant bytes root table
   pub at : key_offset_at (cell_at bytes) root path ≡ Some key
 
 -- the key at a path was changed so, and nothing else of the tree; each key stays where it stands
-pub record IsChanged (old new : List ℕ) (root : ℕ) (path : Path) (f : Rec → Rec) : Type 0 where
-  pub holds : TreeInvariant new root
+pub record IsChanged (old new : List ℕ) (root : ℕ) (table : DescriptorCells) (path : Path) (f : Rec → Rec) : Type 0 where
+  pub holds : TreeInvariant new root table
   pub tree : tree_in new root ≡ edited (tree_in old root) path f
   pub offsets : (p : Path) → key_offset_at (cell_at new) root p ≡ key_offset_at (cell_at old) root p

@@ -4,22 +4,23 @@ use Rattle.reg_tree.proofs.unmake.delete.Goals as goal
 
 pub place_of-index-requires : goal.place_of-index-requires
 place_of-index-requires c =
-    let t = c.requires in
+    let t = c.requires.0 in
     placed _ _ t (childless_by _ _ t (no_children _ _ t c.has_children.result (c.has_children.ensures t) c.if-has_children.false))
     (inner _ _ t c.is_kept.result (c.is_kept.ensures t) c.if-is_kept.false)
 
 pub delete_at-requires-clause-here : goal.delete_at-requires-clause-here
-delete_at-requires-clause-here c = (
-  c.requires,
+delete_at-requires-clause-here c = let t = c.requires.0 in (
+  t,
+  c.requires.1,
   (
-    inner _ _ c.requires c.is_kept.result (c.is_kept.ensures c.requires) c.if-is_kept.false,
-    no_children _ _ c.requires c.has_children.result (c.has_children.ensures c.requires) c.if-has_children.false,
+    inner _ _ t c.is_kept.result (c.is_kept.ensures t) c.if-is_kept.false,
+    no_children _ _ t c.has_children.result (c.has_children.ensures t) c.if-has_children.false,
   ),
 )
 
 pub returns-clause-ok : goal.returns-clause-ok
-returns-clause-ok c = λ t.
-    c.delete_at.ensures.deleted t (
+returns-clause-ok c = λ t same.
+    c.delete_at.ensures.deleted t same (
       inner _ _ t c.is_kept.result (c.is_kept.ensures t) c.if-is_kept.false,
       no_children _ _ t c.has_children.result (c.has_children.ensures t) c.if-has_children.false,
     )

@@ -1,7 +1,10 @@
+use Rattle.std.proofs.Common.{subst}
 use Rattle.reg_arena.specs.Arena.{heap_of}
+use Rattle.reg_tree.specs.Internal.LengthChanges.{LengthsStay}
 use Rattle.reg_tree.proofs.DeleteKey.SubkeyUnlinked.{listed_by, unlinked_as}
-use Rattle.reg_tree.proofs.DeleteKey.DeleteKeyObligations.{free-ready, count-there, count-some, is-deleted, lengths-stay}
+use Rattle.reg_tree.proofs.DeleteKey.DeleteKeyObligations.{free-ready, release-ring, release-some, is-deleted, lengths-stay}
 use Rattle.reg_tree.proofs.DeleteKey.DeleteKeyFaults.{childless_by}
+use Rattle.reg_tree.proofs.DeleteKey.KeyAbove.{same_root}
 use Rattle.reg_tree.proofs.Invariant.KeyOfTree.{key_there}
 use Rattle.reg_tree.proofs.unmake.delete_at.Goals as goal
 
@@ -14,34 +17,37 @@ unlink-requires c = (c.args.key, c.requires.place.above, c.requires.place.entrie
 pub free_key-requires : goal.free_key-requires
 free_key-requires c =
     let t = c.requires.here.0 in
-    let goes = c.requires.here.1 in
+    let goes = c.requires.here.2 in
     free-ready _ _ t (childless_by _ _ t goes.1) goes.0 c.fields-head.result c.fields-head.ensures (heap_of c.unlink.new.arena) c.args.moment
     (unlinked_as _ _ _ c.requires.place c.fields-head.result c.fields-head.ensures _ c.args.moment c.unlink.ensures.unlinks)
 
-pub release-requires-clause-there : goal.release-requires-clause-there
-release-requires-clause-there c =
+pub release-requires-clause-ring : goal.release-requires-clause-ring
+release-requires-clause-ring c =
     let t = c.requires.here.0 in
-    let goes = c.requires.here.1 in
-    count-there _ _ t (childless_by _ _ t goes.1) goes.0 c.fields-head.result c.fields-head.ensures (heap_of c.unlink.new.arena) c.args.moment
+    let goes = c.requires.here.2 in
+    release-ring _ _ t (childless_by _ _ t goes.1) goes.0 c.fields-head.result c.fields-head.ensures (heap_of c.unlink.new.arena) c.args.moment
     (unlinked_as _ _ _ c.requires.place c.fields-head.result c.fields-head.ensures _ c.args.moment c.unlink.ensures.unlinks)
-    (heap_of c.free_key.new.arena) c.free_key.ensures.gone
+    (heap_of c.free_key.new.arena) c.free_key.ensures.gone _ c.requires.here.1
 
 pub release-requires-clause-some : goal.release-requires-clause-some
 release-requires-clause-some c =
     let t = c.requires.here.0 in
-    let goes = c.requires.here.1 in
-    count-some _ _ t (childless_by _ _ t goes.1) goes.0 c.fields-head.result c.fields-head.ensures (heap_of c.unlink.new.arena) c.args.moment
+    let goes = c.requires.here.2 in
+    release-some _ _ t (childless_by _ _ t goes.1) goes.0 c.fields-head.result c.fields-head.ensures (heap_of c.unlink.new.arena) c.args.moment
     (unlinked_as _ _ _ c.requires.place c.fields-head.result c.fields-head.ensures _ c.args.moment c.unlink.ensures.unlinks)
     (heap_of c.free_key.new.arena) c.free_key.ensures.gone
 
 pub returns-clause-deleted : goal.returns-clause-deleted
-returns-clause-deleted c = λ t goes.
+returns-clause-deleted c = λ t same goes.
     is-deleted _ _ t (childless_by _ _ t goes.1) goes.0 c.fields-head.result c.fields-head.ensures (heap_of c.unlink.new.arena) c.args.moment
     (unlinked_as _ _ _ c.requires.place c.fields-head.result c.fields-head.ensures _ c.args.moment c.unlink.ensures.unlinks)
-    (heap_of c.free_key.new.arena) c.free_key.ensures.gone c.release.new.arena.bytes c.release.ensures.recounts
+    (heap_of c.free_key.new.arena) c.free_key.ensures.gone c.release.new.arena.bytes _ _ same c.release.ensures.fewer c.release.ensures.last
 
 pub returns-clause-lengths : goal.returns-clause-lengths
-returns-clause-lengths c = λ t goes.
-    lengths-stay _ _ t (childless_by _ _ t goes.1) goes.0 c.fields-head.result c.fields-head.ensures (heap_of c.unlink.new.arena) c.args.moment
+returns-clause-lengths c = λ t none.
+    let u = c.requires.here.0 in
+    let goes = c.requires.here.2 in
+    subst (LengthsStay (heap_of c.args.arena.now) (heap_of c.release.new.arena)) (same_root _ _ u t)
+    (lengths-stay _ _ u (childless_by _ _ u goes.1) goes.0 c.fields-head.result c.fields-head.ensures (heap_of c.unlink.new.arena) c.args.moment
     (unlinked_as _ _ _ c.requires.place c.fields-head.result c.fields-head.ensures _ c.args.moment c.unlink.ensures.unlinks)
-    (heap_of c.free_key.new.arena) c.free_key.ensures.gone c.release.new.arena.bytes c.release.ensures.recounts
+    (heap_of c.free_key.new.arena) c.free_key.ensures.gone c.release.new.arena.bytes _ _ c.requires.here.1 c.release.ensures.fewer c.release.ensures.last)

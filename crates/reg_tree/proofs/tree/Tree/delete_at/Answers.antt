@@ -1,3 +1,4 @@
+use Rattle.std.proofs.Common.{refl}
 use Rattle.reg_tree.proofs.DeleteKey.DeleteKeepsNodes.{tree_then, nodes_then}
 use Rattle.reg_tree.proofs.DeleteKey.DeleteReached.{lone_at, lone_there, stands_there}
 use Rattle.reg_tree.proofs.Invariant.LengthsSeen.{lengths_seen}
@@ -13,21 +14,21 @@ delete_at-requires-clause-place c = stands_there _ _ c.self.invariant _ c.self.v
 pub invariant_of-self : goal.invariant_of-self
 invariant_of-self c =
     let there = lone_there _ _ c.self.invariant _ c.self.view_is c.args.reached c.requires.reached c.requires.there c.requires.goes in
-    (c.delete_at.ensures.deleted there.0 there.1).holds
+    (c.delete_at.ensures.deleted there.0 there.1 there.2).holds
 
 pub returns-clause-tree : goal.returns-clause-tree
 returns-clause-tree c = λ p at.
     tree_then _ _ c.self.invariant _ c.self.view_is c.delete_at.new.arena c.args.moment p
-    (c.delete_at.ensures.deleted (here_at _ _ c.self.invariant _ c.self.view_is c.args.reached.node p at)
+    (c.delete_at.ensures.deleted (here_at _ _ c.self.invariant _ c.self.view_is c.args.reached.node p at) refl
     (lone_at _ _ c.self.invariant _ c.self.view_is c.args.reached c.requires.reached c.requires.there c.requires.goes p at))
 
 pub returns-clause-nodes : goal.returns-clause-nodes
 returns-clause-nodes c = λ p at.
     nodes_then _ _ c.self.invariant _ c.self.view_is c.delete_at.new.arena c.args.moment p
-    (c.delete_at.ensures.deleted (here_at _ _ c.self.invariant _ c.self.view_is c.args.reached.node p at)
+    (c.delete_at.ensures.deleted (here_at _ _ c.self.invariant _ c.self.view_is c.args.reached.node p at) refl
     (lone_at _ _ c.self.invariant _ c.self.view_is c.args.reached c.requires.reached c.requires.there c.requires.goes p at))
 
 pub returns-clause-lengths : goal.returns-clause-lengths
 returns-clause-lengths c =
     let there = lone_there _ _ c.self.invariant _ c.self.view_is c.args.reached c.requires.reached c.requires.there c.requires.goes in
-    lengths_seen _ _ _ c.self.view_is c.delete_at.new.arena (c.delete_at.ensures.lengths there.0 there.1)
+    lengths_seen _ _ _ c.self.view_is c.delete_at.new.arena (c.delete_at.ensures.lengths there.0 there.2)
