@@ -1,6 +1,7 @@
--- Keys changed in a tree (Win32 registry reference, `RegCreateKeyEx`, `RegDeleteKey`, `RegSetValueEx`, `RegDeleteValue`).
+-- Keys changed in a tree (Win32 registry reference, `RegCreateKeyEx`, `RegDeleteKey`, `RegSetValueEx`, `RegDeleteValue`,
+-- `RegSetKeySecurity`).
 use Rattle.std.specs.Prelude.{◌≡◌, ◌⊎◌, ℕ, ◌+◌, ◌-◌, ◌==◌, ◌&&◌, ◌||◌, nat_lt, nat_le, not, Bool, false, List, [], ◌∷◌, ◌++◌, map, length, take, cond}
-use Rattle.std.specs.Prelude.{is_some, bit_and, Option, Some, None}
+use Rattle.std.specs.Prelude.{is_some, bit_and, Option, Some, None, unwrap_or}
 use Rattle.std.specs.FinMap.{get, insert, remove}
 use Rattle.reg_names.specs.declared.TheConstants.{PATH_LIMIT}
 use Rattle.reg_names.specs.Names.{folded, path_of}
@@ -23,6 +24,10 @@ with_value name kind bytes moment r = record r { time = moment; values = values_
 
 abbrev pub without_value : List ℕ → ℕ → Rec → Rec
 without_value name moment r = record r { time = moment; values = values_without name r.values }
+
+-- a key with another descriptor, set at a moment
+abbrev pub with_descriptor : List ℕ → ℕ → Rec → Rec
+with_descriptor descriptor moment r = record r { time = moment; descriptor = descriptor }
 
 -- the key at a path changed
 abbrev pub edited : Tree → Path → (Rec → Rec) → Tree
@@ -54,18 +59,24 @@ at_time moment r = record r { time = moment }
 abbrev pub made_key : List ℕ → List ℕ → ℕ → Rec
 made_key name descriptor moment = record { name = name; marks = 0; class = []; descriptor = descriptor; time = moment; values = [] }
 
--- a key made right below another, which has its time set and whose descriptor it shares
-abbrev pub with_key : Tree → Path → List ℕ → ℕ → Tree
-with_key t p name moment = insert (edited t p (at_time moment)) (child_path p name) (made_key name (descriptor_of (get t p)) moment)
+-- a key made right below another, which has its time set: with the descriptor that is given, or else the other's
+abbrev pub with_key : Tree → Path → List ℕ → Option (List ℕ) → ℕ → Tree
+with_key t p name given moment = insert (edited t p (at_time moment)) (child_path p name) (made_key name (unwrap_or given (descriptor_of (get t p))) moment)
 
 -- whether a key of that name is right below one
 abbrev pub has_child : Tree → Path → List ℕ → Bool
 has_child t p name = is_some (get t (child_path p name))
 
--- of keys named one below the other, those that are missing made
-abbrev pub with_keys : Tree → Path → List (List ℕ) → ℕ → Tree
-with_keys t p [] moment = t
-with_keys t p (name ∷ names) moment = with_keys (cond (has_child t p name) t (with_key t p name moment)) (child_path p name) names moment
+-- what is given, where no name is left
+abbrev pub if_last : List (List ℕ) → Option (List ℕ) → Option (List ℕ)
+if_last [] given = given
+if_last (name ∷ names) given = None
+
+-- of keys named one below the other, those that are missing made, and the last of these with the descriptor that is given, if one is
+abbrev pub with_keys : Tree → Path → List (List ℕ) → Option (List ℕ) → ℕ → Tree
+with_keys t p [] given moment = t
+with_keys t p (name ∷ names) given moment =
+    with_keys (cond (has_child t p name) t (with_key t p name (if_last names given) moment)) (child_path p name) names given moment
 
 -- of keys named one below the other, the names of those that are missing
 abbrev pub missing : Tree → Path → List (List ℕ) → List (List ℕ)
