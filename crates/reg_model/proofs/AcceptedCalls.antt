@@ -4,13 +4,13 @@ use Rattle.std.specs.FinMap.{get}
 use Rattle.reg_heap.specs.Paths.{Path}
 use Rattle.reg_heap.specs.Edits.{values_at, may_not_go}
 use Rattle.reg_names.specs.Names.{is_value_name}
-use Rattle.reg_model.specs.declared.rights.TheConstants.{SET_VALUE}
+use Rattle.reg_model.specs.declared.rights.TheConstants.{SET_VALUE, WRITE_DAC}
 use Rattle.reg_model.specs.declared.statuses.TheConstants.{ACCESS_DENIED, FILE_NOT_FOUND, INVALID_HANDLE, INVALID_PARAMETER, NO_SYSTEM_RESOURCES}
 use Rattle.reg_model.specs.Worlds.{Handle, Destination, At, Deleted, look, path_at, path_from}
 use Rattle.reg_model.specs.Causes.{State, change_cause, early_cause, late_cause, asked_before, refuse, by_handle, has, is_mask, is_full, is_bad_open, is_bad_target, is_bad_value}
-use Rattle.reg_model.specs.Causes.{no_handle_room, no_key_room, no_value_room, lacks_value, ◌or◌}
+use Rattle.reg_model.specs.Causes.{no_handle_room, no_key_room, no_value_room, is_bad_descriptor, is_bad_given, lacks_value, ◌or◌}
 use Rattle.reg_model.specs.declared.call.Change.{Change}
-use Rattle.reg_model.specs.declared.call.Change.TheVariants.{OpenRoot, OpenKey, CreateKey, SetValue, DeleteValue, DeleteKey, Close}
+use Rattle.reg_model.specs.declared.call.Change.TheVariants.{OpenRoot, OpenKey, CreateKey, SetValue, DeleteValue, DeleteKey, SetSecurity, Close}
 
 pub not_refused : (b : Bool) (n : ℕ) → refuse b n ≡ None → b ≡ false
 not_refused true n e = absurd (cc)
@@ -92,21 +92,24 @@ open-met s session h path mask c e =
     let early = neither _ _ m.none in
     record { target = m.target; good = not_refused _ INVALID_PARAMETER early.0; room = not_refused _ NO_SYSTEM_RESOURCES early.1; there = not_false _ (not_refused _ FILE_NOT_FOUND none.third) }
 
-pub record CreateMet (s : State) (session h : ℕ) (path : List ℕ) (mask : ℕ) : Type 0 where
+pub record CreateMet (s : State) (session h : ℕ) (path : List ℕ) (mask : ℕ) (given : Option (List ℕ)) : Type 0 where
   pub target : Target (look session h s.world.handles)
   pub good : is_bad_open path mask ≡ false
+  pub sound : is_bad_given given ≡ false
   pub room : no_handle_room session s ≡ false
   pub few : no_key_room s session h path ≡ false
 
-pub create-met : (s : State) (session h : ℕ) (path : List ℕ) (mask c : ℕ) → change_cause s session (CreateKey h path mask) c ≡ None → CreateMet s session h path mask
+pub create-met : (s : State) (session h : ℕ) (path : List ℕ) (mask : ℕ) (given : Option (List ℕ)) (c : ℕ) → change_cause s session (CreateKey h path mask given) c ≡ None →
+    CreateMet s session h path mask given
 unfolding early_cause late_cause
-create-met s session h path mask c e =
-    let none = causes s session (CreateKey h path mask) c e in
-    let m = meets (λ r. refuse (is_bad_open path mask) INVALID_PARAMETER or refuse
+create-met s session h path mask given c e =
+    let none = causes s session (CreateKey h path mask given) c e in
+    let m = meets (λ r. refuse (is_bad_open path mask || is_bad_given given) INVALID_PARAMETER or refuse
     (no_handle_room session s || no_key_room s session h path) NO_SYSTEM_RESOURCES) (look session h s.world.handles) none.first in
     let early = neither _ _ m.none in
+    let words = both_false _ _ (not_refused _ INVALID_PARAMETER early.0) in
     let counts = both_false _ _ (not_refused _ NO_SYSTEM_RESOURCES early.1) in
-    record { target = m.target; good = not_refused _ INVALID_PARAMETER early.0; room = counts.0; few = counts.1 }
+    record { target = m.target; good = words.0; sound = words.1; room = counts.0; few = counts.1 }
 
 pub record SetMet (s : State) (session h : ℕ) (name bytes : List ℕ) : Type 0 where
   pub target : Target (look session h s.world.handles)
@@ -168,6 +171,26 @@ delete-met s session h path c e =
       room = not_refused _ NO_SYSTEM_RESOURCES early.1;
       there = not_false _ (not_refused _ FILE_NOT_FOUND late.0);
       goes = not_refused _ ACCESS_DENIED late.1;
+    }
+
+pub record SecureMet (s : State) (session h : ℕ) (descriptor : List ℕ) : Type 0 where
+  pub target : Target (look session h s.world.handles)
+  pub good : is_bad_descriptor descriptor ≡ false
+  pub right : has WRITE_DAC target.handle.mask ≡ true
+  pub room : is_full 1 s ≡ false
+
+pub secure-met : (s : State) (session h : ℕ) (descriptor : List ℕ) (c : ℕ) → change_cause s session (SetSecurity h descriptor) c ≡ None → SecureMet s session h descriptor
+unfolding early_cause late_cause
+secure-met s session h descriptor c e =
+    let none = causes s session (SetSecurity h descriptor) c e in
+    let m = meets (λ r. refuse (is_bad_descriptor descriptor) INVALID_PARAMETER or refuse (not (has WRITE_DAC r.mask)) ACCESS_DENIED or refuse
+    (is_full 1 s) NO_SYSTEM_RESOURCES) (look session h s.world.handles) none.first in
+    let early = all_none _ _ _ m.none in
+    record {
+      target = m.target;
+      good = not_refused _ INVALID_PARAMETER early.first;
+      right = not_false _ (not_refused _ ACCESS_DENIED early.second);
+      room = not_refused _ NO_SYSTEM_RESOURCES early.third;
     }
 
 pub close-met : (s : State) (session h c : ℕ) → change_cause s session (Close h) c ≡ None → is_some (look session h s.world.handles) ≡ true

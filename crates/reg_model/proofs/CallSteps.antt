@@ -8,7 +8,7 @@ use Rattle.reg_model.specs.Replies.{reply_to}
 use Rattle.reg_model.specs.Calls.{entry_due, reply_given, state_after, or_refusal, or_same}
 use Rattle.reg_model.specs.Histories.{state_of, IsFit}
 use Rattle.reg_model.specs.declared.call.Change.{Change}
-use Rattle.reg_model.specs.declared.call.Change.TheVariants.{OpenRoot, OpenKey, CreateKey, SetValue, DeleteValue, DeleteKey, Close}
+use Rattle.reg_model.specs.declared.call.Change.TheVariants.{OpenRoot, OpenKey, CreateKey, SetValue, DeleteValue, DeleteKey, SetSecurity, Close}
 use Rattle.reg_model.specs.declared.reply.ChangeReply.{ChangeReply}
 use Rattle.reg_model.specs.declared.reply.Entry.{Entry}
 use Rattle.reg_model.proofs.JournalGrowth.{replay-push}
@@ -19,8 +19,9 @@ reply-zero s session (OpenRoot mask) = refl
 reply-zero s session (SetValue h name kind bytes) = refl
 reply-zero s session (DeleteValue h name) = refl
 reply-zero s session (OpenKey h path mask) = refl
-reply-zero s session (CreateKey h path mask) = refl
+reply-zero s session (CreateKey h path mask given) = refl
 reply-zero s session (DeleteKey h path) = refl
+reply-zero s session (SetSecurity h descriptor) = refl
 reply-zero s session (Close h) = refl
 
 by_cause : (o : Option ℕ) (due : ChangeReply) (next s : State) → due.status ≡ 0 → (or_refusal o due).status ≢ 0 → or_same o next s ≡ s
@@ -79,8 +80,9 @@ zero-early s session (OpenRoot mask) = search (zero-or, zero-87, zero-1450)
 zero-early s session (SetValue h name kind bytes) = search (zero-handle, zero-or, zero-87, zero-5, zero-1450)
 zero-early s session (DeleteValue h name) = search (zero-handle, zero-or, zero-87, zero-5, zero-1450)
 zero-early s session (OpenKey h path mask) = search (zero-handle, zero-or, zero-87, zero-1450)
-zero-early s session (CreateKey h path mask) = search (zero-handle, zero-or, zero-87, zero-1450)
+zero-early s session (CreateKey h path mask given) = search (zero-handle, zero-or, zero-87, zero-1450)
 zero-early s session (DeleteKey h path) = search (zero-handle, zero-or, zero-87, zero-1450)
+zero-early s session (SetSecurity h descriptor) = search (zero-handle, zero-or, zero-87, zero-5, zero-1450)
 zero-early s session (Close h) = zero-refuse _ 6 (λ e. omega (arith, e))
 
 zero-late : (s : State) (session : ℕ) (change : Change) → NotZero (late_cause s session change)
@@ -89,17 +91,19 @@ zero-late s session (OpenRoot mask) = no_status
 zero-late s session (SetValue h name kind bytes) = no_status
 zero-late s session (DeleteValue h name) = zero-refuse _ 2 (λ e. omega (arith, e))
 zero-late s session (OpenKey h path mask) = zero-refuse _ 2 (λ e. omega (arith, e))
-zero-late s session (CreateKey h path mask) = no_status
+zero-late s session (CreateKey h path mask given) = no_status
 zero-late s session (DeleteKey h path) = zero-or _ _ (zero-refuse _ 2 (λ e. omega (arith, e))) (zero-5 _)
+zero-late s session (SetSecurity h descriptor) = no_status
 zero-late s session (Close h) = no_status
 
 zero-before : (change : Change) (c : ℕ) → NotZero (asked_before change c)
 zero-before (OpenRoot mask) c = zero-asked c
 zero-before (OpenKey h path mask) c = zero-asked c
-zero-before (CreateKey h path mask) c = zero-asked c
+zero-before (CreateKey h path mask given) c = zero-asked c
 zero-before (SetValue h name kind bytes) c = zero-asked c
 zero-before (DeleteValue h name) c = zero-asked c
 zero-before (DeleteKey h path) c = zero-asked c
+zero-before (SetSecurity h descriptor) c = zero-asked c
 zero-before (Close h) c = no_status
 
 zero-cause : (s : State) (session : ℕ) (change : Change) (c : ℕ) → NotZero (change_cause s session change c)
@@ -126,10 +130,11 @@ or-none (Some n) b e = absurd (cc)
 before-none : (change : Change) (c : ℕ) → asked_before change c ≡ None → asked_before change 0 ≡ None
 before-none (OpenRoot mask) c e = refl
 before-none (OpenKey h path mask) c e = refl
-before-none (CreateKey h path mask) c e = refl
+before-none (CreateKey h path mask given) c e = refl
 before-none (SetValue h name kind bytes) c e = refl
 before-none (DeleteValue h name) c e = refl
 before-none (DeleteKey h path) c e = refl
+before-none (SetSecurity h descriptor) c e = refl
 before-none (Close h) c e = refl
 
 no_cause : (o : Option ℕ) (due : ChangeReply) → NotZero o → (or_refusal o due).status ≡ 0 → o ≡ None

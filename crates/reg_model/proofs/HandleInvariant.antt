@@ -1,5 +1,5 @@
 -- The keys that handles lead to stand in the tree.
-use Rattle.std.proofs.Common.{◌≡◌, ℕ, Bool, true, false, cond, not, eqb, List, [], ◌∷◌, ◌++◌, map, Option, Some, None, refl, sym, subst, append_assoc, is_some}
+use Rattle.std.proofs.Common.{◌≡◌, ℕ, Bool, true, false, cond, not, eqb, unwrap_or, List, [], ◌∷◌, ◌++◌, map, Option, Some, None, refl, sym, subst, append_assoc, is_some}
 use Rattle.std.specs.Prelude.{IsSome}
 use Rattle.std.specs.List.{AllByRecursion, slice_split, onto_first}
 use Rattle.std.specs.Ordering.{eq_by_cmp}
@@ -11,11 +11,11 @@ use Rattle.std.proofs.lemmas.Cmp.{eq_by_cmp_equiv}
 use Rattle.std.proofs.lemmas.List.Elements.{recursion_from_All}
 use Rattle.reg_names.specs.Names.{folded, path_of, is_path, is_backslash}
 use Rattle.reg_heap.specs.Paths.{Path, Tree, Rec, path_cmp}
-use Rattle.reg_heap.specs.Edits.{edited, at_time, above, with_key, with_keys, without_key, has_child, child_path, made_key, descriptor_of, folded_path}
+use Rattle.reg_heap.specs.Edits.{edited, at_time, above, with_key, with_keys, without_key, has_child, child_path, made_key, descriptor_of, if_last, folded_path}
 use Rattle.reg_model.specs.Worlds.{Handle, Destination, At, Deleted, StandsIn, IsStanding, look, numbered, owned, path_at, path_from, closed, turned, destination_without, same_path, opened, after}
 use Rattle.reg_model.specs.Causes.{State, is_bad_target}
 use Rattle.reg_model.specs.declared.call.Change.{Change}
-use Rattle.reg_model.specs.declared.call.Change.TheVariants.{OpenRoot, OpenKey, CreateKey, SetValue, DeleteValue, DeleteKey, Close}
+use Rattle.reg_model.specs.declared.call.Change.TheVariants.{OpenRoot, OpenKey, CreateKey, SetValue, DeleteValue, DeleteKey, SetSecurity, Close}
 use Rattle.reg_model.specs.declared.reply.Entry.{Entry}
 use Rattle.reg_model.specs.Causes.{change_cause}
 use Rattle.reg_model.proofs.AcceptedCalls.{Target, target-path, both_false, OpenMet, open-met, CreateMet, create-met, DeleteMet, delete-met}
@@ -39,18 +39,20 @@ pub has-edited : (t : Tree) (p : Path) (f : Rec → Rec) (q : Path) → Has t q 
 has-edited t p f q h =
     elim (get t p) as (λ (o : Option Rec). Has (elim o as (λ _. Tree) [ None ↦ t | Some r ↦ insert t p (f r) ]) q) [ None ↦ h | Some r ↦ has-insert t p (f r) q h ]
 
-has-with_key : (t : Tree) (p : Path) (name : List ℕ) (moment : ℕ) (q : Path) → Has t q → Has (with_key t p name moment) q
-has-with_key t p name moment q h =
-    has-insert (edited t p (at_time moment)) (child_path p name) (made_key name (descriptor_of (get t p)) moment) q (has-edited t p (at_time moment) q h)
+has-with_key : (t : Tree) (p : Path) (name : List ℕ) (given : Option (List ℕ)) (moment : ℕ) (q : Path) → Has t q → Has (with_key t p name given moment) q
+has-with_key t p name given moment q h =
+    has-insert (edited t p (at_time moment)) (child_path p name)
+    (made_key name (unwrap_or given (descriptor_of (get t p))) moment) q (has-edited t p (at_time moment) q h)
 
-has-step : (b : Bool) (t : Tree) (p : Path) (name : List ℕ) (moment : ℕ) (q : Path) → Has t q → Has (cond b t (with_key t p name moment)) q
-has-step true t p name moment q h = h
-has-step false t p name moment q h = has-with_key t p name moment q h
+has-step : (b : Bool) (t : Tree) (p : Path) (name : List ℕ) (given : Option (List ℕ)) (moment : ℕ) (q : Path) → Has t q → Has (cond b t (with_key t p name given moment)) q
+has-step true t p name given moment q h = h
+has-step false t p name given moment q h = has-with_key t p name given moment q h
 
-pub has-with_keys : (t : Tree) (p : Path) (names : List (List ℕ)) (moment : ℕ) (q : Path) → Has t q → Has (with_keys t p names moment) q
-has-with_keys t p [] moment q h = h
-has-with_keys t p (name ∷ names) moment q h =
-    has-with_keys (cond (has_child t p name) t (with_key t p name moment)) (child_path p name) names moment q (has-step (has_child t p name) t p name moment q h)
+pub has-with_keys : (t : Tree) (p : Path) (names : List (List ℕ)) (given : Option (List ℕ)) (moment : ℕ) (q : Path) → Has t q → Has (with_keys t p names given moment) q
+has-with_keys t p [] given moment q h = h
+has-with_keys t p (name ∷ names) given moment q h =
+    has-with_keys (cond (has_child t p name) t (with_key t p name (if_last names given) moment)) (child_path p name) names given moment q
+    (has-step (has_child t p name) t p name (if_last names given) moment q h)
 
 same-self : (p : Path) → eq_by_cmp path_cmp p p ≡ true
 same-self p = let o = eq_by_cmp_equiv path_total in o.refl p
@@ -58,17 +60,19 @@ same-self p = let o = eq_by_cmp_equiv path_total in o.refl p
 pub has-put : (t : Tree) (p : Path) (r : Rec) → Has (insert t p r) p
 has-put t p r = rw (get-insert path_total t p r p, same-self p) refl
 
-has-child : (b : Bool) (t : Tree) (p : Path) (name : List ℕ) (moment : ℕ) → has_child t p name ≡ b → Has (cond b t (with_key t p name moment)) (child_path p name)
-has-child true t p name moment h = h
-has-child false t p name moment h = has-put (edited t p (at_time moment)) (child_path p name) (made_key name (descriptor_of (get t p)) moment)
+has-child : (b : Bool) (t : Tree) (p : Path) (name : List ℕ) (given : Option (List ℕ)) (moment : ℕ) → has_child t p name ≡ b →
+    Has (cond b t (with_key t p name given moment)) (child_path p name)
+has-child true t p name given moment h = h
+has-child false t p name given moment h =
+    has-put (edited t p (at_time moment)) (child_path p name) (made_key name (unwrap_or given (descriptor_of (get t p))) moment)
 
 -- the last of some keys made is there
-pub has-made : (t : Tree) (p : Path) (names : List (List ℕ)) (moment : ℕ) → Has t p → Has (with_keys t p names moment) (p ++ map folded names)
-has-made t p [] moment h = subst (Has t) (sym (append-nil p)) h
-has-made t p (name ∷ names) moment h =
-    let next = cond (has_child t p name) t (with_key t p name moment) in
-    subst (Has (with_keys next (child_path p name) names moment)) (append_assoc p (folded name ∷ []) (map folded names))
-    (has-made next (child_path p name) names moment (has-child (has_child t p name) t p name moment refl))
+pub has-made : (t : Tree) (p : Path) (names : List (List ℕ)) (given : Option (List ℕ)) (moment : ℕ) → Has t p → Has (with_keys t p names given moment) (p ++ map folded names)
+has-made t p [] given moment h = subst (Has t) (sym (append-nil p)) h
+has-made t p (name ∷ names) given moment h =
+    let next = cond (has_child t p name) t (with_key t p name (if_last names given) moment) in
+    subst (Has (with_keys next (child_path p name) names given moment)) (append_assoc p (folded name ∷ []) (map folded names))
+    (has-made next (child_path p name) names given moment (has-child (has_child t p name) t p name (if_last names given) moment refl))
 
 pub has-without : (t : Tree) (p : Path) (moment : ℕ) (q : Path) → same_path q p ≡ false → Has t q → Has (without_key t p moment) q
 has-without t p moment q other h =
@@ -182,17 +186,17 @@ module _ (s : State) (e : Entry) (r : Upright s.world.tree s.world.handles) wher
   standing-open : (h : ℕ) (path : List ℕ) (mask : ℕ) → OpenMet s e.session h path mask → Upright tree (hs ++ opened e (path_from e.session h hs path) mask ∷ [])
   standing-open h path mask m = record { root = r.root; stand = stands-push tree hs (opened e (path_from e.session h hs path) mask) m.there r.stand }
 
-  standing-create : (h : ℕ) (path : List ℕ) (mask : ℕ) → CreateMet s e.session h path mask →
-      Upright (with_keys tree (path_at e.session h hs) (path_of path) e.moment) (hs ++ opened e (path_from e.session h hs path) mask ∷ [])
-  standing-create h path mask m =
+  standing-create : (h : ℕ) (path : List ℕ) (mask : ℕ) (given : Option (List ℕ)) → CreateMet s e.session h path mask given →
+      Upright (with_keys tree (path_at e.session h hs) (path_of path) given e.moment) (hs ++ opened e (path_from e.session h hs path) mask ∷ [])
+  standing-create h path mask given m =
       let p = path_at e.session h hs in
       let there : Has tree p = subst (Has tree) (sym (target-path e.session h hs m.target)) (stands-at tree e.session h hs m.target r.stand) in
-      let now = with_keys tree p (path_of path) e.moment in
-      let keep : (q : Path) → Has tree q → Has now q = has-with_keys tree p (path_of path) e.moment in
+      let now = with_keys tree p (path_of path) given e.moment in
+      let keep : (q : Path) → Has tree q → Has now q = has-with_keys tree p (path_of path) given e.moment in
       record {
         root = keep [] r.root;
         stand = stands-push now hs (opened e (path_from e.session h hs path) mask)
-            (has-made tree p (path_of path) e.moment there) (stands-kept tree now keep hs r.stand);
+            (has-made tree p (path_of path) given e.moment there) (stands-kept tree now keep hs r.stand);
       }
 
   standing-edit : (p : Path) (f : Rec → Rec) → Upright (edited tree p f) hs
@@ -210,9 +214,10 @@ module _ (s : State) (e : Entry) (r : Upright s.world.tree s.world.handles) wher
       Upright (after s.world (record e { change = change })).tree (after s.world (record e { change = change })).handles) [
         | OpenRoot mask ↦ λ none. record { root = r.root; stand = stands-push tree hs (opened e [] mask) r.root r.stand }
         | OpenKey h path mask ↦ λ none. standing-open h path mask (open-met s e.session h path mask c none)
-        | CreateKey h path mask ↦ λ none. standing-create h path mask (create-met s e.session h path mask c none)
+        | CreateKey h path mask given ↦ λ none. standing-create h path mask given (create-met s e.session h path mask given c none)
         | SetValue h name kind bytes ↦ λ none. standing-edit (path_at e.session h hs) _
         | DeleteValue h name ↦ λ none. standing-edit (path_at e.session h hs) _
         | DeleteKey h path ↦ λ none. standing-delete h path (delete-met s e.session h path c none)
+        | SetSecurity h descriptor ↦ λ none. standing-edit (path_at e.session h hs) _
         | Close h ↦ λ none. record { root = r.root; stand = stands-closed tree h hs r.stand }
       ]

@@ -10,7 +10,7 @@ use Rattle.reg_model.specs.Worlds.{World, Handle, Destination, Deleted, after, o
 use Rattle.reg_model.specs.Causes.{State, change_cause}
 use Rattle.reg_model.specs.Histories.{replay, state_of, IsLegalAfter, IsLegal}
 use Rattle.reg_model.specs.declared.call.Change.{Change}
-use Rattle.reg_model.specs.declared.call.Change.TheVariants.{OpenRoot, OpenKey, CreateKey, SetValue, DeleteValue, DeleteKey, Close}
+use Rattle.reg_model.specs.declared.call.Change.TheVariants.{OpenRoot, OpenKey, CreateKey, SetValue, DeleteValue, DeleteKey, SetSecurity, Close}
 use Rattle.reg_model.specs.declared.reply.Entry.{Entry}
 use Rattle.reg_model.proofs.JournalGrowth.{replay-push}
 use Rattle.reg_model.proofs.LegalJournals.{by_entries, legal-front, legal-at, rising-all}
@@ -114,10 +114,11 @@ open-after s e n h l o = elim e.change as (λ (change : Change). change_cause s 
     IsOpen n h (after s.world (record e { change = change })).handles) [
       | OpenRoot mask ↦ λ none other. open-push n h (opened e [] mask) s.world.handles l o
       | OpenKey k path mask ↦ λ none other. open-push n h (opened e (path_from e.session k s.world.handles path) mask) s.world.handles l o
-      | CreateKey k path mask ↦ λ none other. open-push n h (opened e (path_from e.session k s.world.handles path) mask) s.world.handles l o
+      | CreateKey k path mask given ↦ λ none other. open-push n h (opened e (path_from e.session k s.world.handles path) mask) s.world.handles l o
       | SetValue k name kind bytes ↦ λ none other. o
       | DeleteValue k name ↦ λ none other. o
       | DeleteKey k path ↦ λ none other. open-turned n h (path_from e.session k s.world.handles path) s.world.handles o
+      | SetSecurity k descriptor ↦ λ none other. o
       | Close k ↦ λ none other. open-closed n h e.session k s.world.handles o (close-met s e.session k 0 none) other
     ]
 
@@ -149,10 +150,11 @@ unfolding after
 none-after w e n l none = elim e.change as (λ (change : Change). numbered n (after w (record e { change = change })).handles ≡ None) [
   | OpenRoot mask ↦ numbered-more n (opened e [] mask) w.handles other ∙ none
   | OpenKey k path mask ↦ numbered-more n (opened e (path_from e.session k w.handles path) mask) w.handles other ∙ none
-  | CreateKey k path mask ↦ numbered-more n (opened e (path_from e.session k w.handles path) mask) w.handles other ∙ none
+  | CreateKey k path mask given ↦ numbered-more n (opened e (path_from e.session k w.handles path) mask) w.handles other ∙ none
   | SetValue k name kind bytes ↦ none
   | DeleteValue k name ↦ none
   | DeleteKey k path ↦ numbered-turned n (path_from e.session k w.handles path) w.handles ∙ ap (option_map (turned_one (path_from e.session k w.handles path))) none
+  | SetSecurity k descriptor ↦ none
   | Close k ↦ by k (eqb n k) refl
 ]
   where

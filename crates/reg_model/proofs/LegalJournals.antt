@@ -16,7 +16,7 @@ use Rattle.reg_model.specs.Causes.{Opening, rule_of, path_asked}
 use Rattle.reg_model.specs.Replies.{reply_to}
 use Rattle.reg_model.specs.Histories.{replay, state_of, IsFit, IsLegalAfter, IsLegal}
 use Rattle.reg_model.specs.declared.call.Change.{Change}
-use Rattle.reg_model.specs.declared.call.Change.TheVariants.{OpenRoot, OpenKey, CreateKey, SetValue, DeleteValue, DeleteKey, Close}
+use Rattle.reg_model.specs.declared.call.Change.TheVariants.{OpenRoot, OpenKey, CreateKey, SetValue, DeleteValue, DeleteKey, SetSecurity, Close}
 use Rattle.reg_model.specs.declared.reply.Entry.{Entry}
 use Rattle.reg_model.proofs.JournalGrowth.{replay-push}
 use Rattle.reg_model.proofs.HandleInvariant.{Has, Stands, Upright, standing-after}
@@ -133,13 +133,14 @@ unfolding after
 rising-after w n e number r = elim e.change as (λ (change : Change). AreRising (n + 1) (after w (record e { change = change })).handles) [
   | OpenRoot mask ↦ rising-pushed w n e [] mask number r
   | OpenKey h path mask ↦ rising-pushed w n e (path_from e.session h w.handles path) mask number r
-  | CreateKey h path mask ↦ rising-pushed w n e (path_from e.session h w.handles path) mask number r
+  | CreateKey h path mask given ↦ rising-pushed w n e (path_from e.session h w.handles path) mask number r
   | SetValue h name kind bytes ↦ record { below = rising-weaker n w.handles r.below; rising = r.rising }
   | DeleteValue h name ↦ record { below = rising-weaker n w.handles r.below; rising = r.rising }
   | DeleteKey h path ↦ record {
     below = rising-weaker n (turned (path_from e.session h w.handles path) w.handles) (below-turned n (path_from e.session h w.handles path) w.handles r.below);
     rising = rw (numbers-turned (path_from e.session h w.handles path) w.handles) r.rising;
   }
+  | SetSecurity h descriptor ↦ record { below = rising-weaker n w.handles r.below; rising = r.rising }
   | Close h ↦ record { below = rising-weaker n (closed h w.handles) (below-closed n h w.handles r.below); rising = rising-closed h w.handles r.rising }
 ]
 
@@ -182,10 +183,11 @@ unfolding after
 opened-after w e o r = elim e.change as (Opens w e o) [
   | OpenRoot mask ↦ opened-one w e [] (record { path = []; mask = mask }) o r
   | OpenKey h path mask ↦ opened-one w e (path_at e.session h w.handles) (record { path = path; mask = mask }) o r
-  | CreateKey h path mask ↦ opened-one w e (path_at e.session h w.handles) (record { path = path; mask = mask }) o r
+  | CreateKey h path mask given ↦ opened-one w e (path_at e.session h w.handles) (record { path = path; mask = mask }) o r
   | SetValue h name kind bytes ↦ λ none. absurd (cc)
   | DeleteValue h name ↦ λ none. absurd (cc)
   | DeleteKey h path ↦ λ none. absurd (cc)
+  | SetSecurity h descriptor ↦ λ none. absurd (cc)
   | Close h ↦ λ none. absurd (cc)
 ]
 

@@ -7,6 +7,7 @@ pub mod RowsReplies
 pub mod RowsRefusals
 pub mod RowsKeys
 pub mod RowsInfos
+pub mod RowsSecurity
 mod RowsOfConstants
 pub mod TreesOfJournals
 pub mod HandlesUntilClosed

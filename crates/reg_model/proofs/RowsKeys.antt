@@ -30,7 +30,7 @@ open_deleted : change_cause few 0 (OpenKey 1 k 1) 0 ≡ Some 1018
 unfolding early_cause late_cause
 open_deleted = refl
 
-create_deleted : change_cause few 0 (CreateKey 1 k 1) 0 ≡ Some 1018
+create_deleted : change_cause few 0 (CreateKey 1 k 1 None) 0 ≡ Some 1018
 unfolding early_cause late_cause
 create_deleted = refl
 
@@ -74,7 +74,7 @@ open_bad_mask : change_cause full 0 (OpenKey 0 k 1048576) 0 ≡ Some 87
 unfolding early_cause late_cause are_key_names
 open_bad_mask = refl
 
-create_bad_path : change_cause full 0 (CreateKey 0 ended 1) 0 ≡ Some 87
+create_bad_path : change_cause full 0 (CreateKey 0 ended 1 None) 0 ≡ Some 87
 unfolding early_cause late_cause are_key_names
 create_bad_path = refl
 

@@ -1,9 +1,9 @@
 -- Limits, statuses and rights as the rules give them, in digits: who changes a constant changes the rules.
 use Rattle.std.proofs.Common.{◌≡◌, refl}
 use Rattle.reg_model.specs.declared.limits.TheConstants.{SESSIONS_LIMIT, HANDLES_LIMIT, JOURNAL_LIMIT}
-use Rattle.reg_model.specs.declared.rights.TheConstants.{NO_RIGHTS, QUERY_VALUE, SET_VALUE, ENUMERATE_SUB_KEYS}
-use Rattle.reg_model.specs.declared.statuses.TheConstants.{FILE_NOT_FOUND, ACCESS_DENIED, INVALID_HANDLE, NOT_ENOUGH_MEMORY, INVALID_PARAMETER, MORE_DATA}
-use Rattle.reg_model.specs.declared.statuses.TheConstants.{NO_MORE_ITEMS, KEY_DELETED, NO_SYSTEM_RESOURCES}
+use Rattle.reg_model.specs.declared.rights.TheConstants.{NO_RIGHTS, QUERY_VALUE, SET_VALUE, ENUMERATE_SUB_KEYS, READ_CONTROL, WRITE_DAC}
+use Rattle.reg_model.specs.declared.statuses.TheConstants.{FILE_NOT_FOUND, ACCESS_DENIED, INVALID_HANDLE, NOT_ENOUGH_MEMORY, INVALID_PARAMETER, INSUFFICIENT_BUFFER}
+use Rattle.reg_model.specs.declared.statuses.TheConstants.{MORE_DATA, NO_MORE_ITEMS, KEY_DELETED, NO_SYSTEM_RESOURCES}
 
 sessions_limit_is : SESSIONS_LIMIT ≡ 64
 sessions_limit_is = refl
@@ -26,6 +26,12 @@ set_value_is = refl
 enumerate_sub_keys_is : ENUMERATE_SUB_KEYS ≡ 8
 enumerate_sub_keys_is = refl
 
+read_control_is : READ_CONTROL ≡ 131072
+read_control_is = refl
+
+write_dac_is : WRITE_DAC ≡ 262144
+write_dac_is = refl
+
 file_not_found_is : FILE_NOT_FOUND ≡ 2
 file_not_found_is = refl
 
@@ -40,6 +46,9 @@ not_enough_memory_is = refl
 
 invalid_parameter_is : INVALID_PARAMETER ≡ 87
 invalid_parameter_is = refl
+
+insufficient_buffer_is : INSUFFICIENT_BUFFER ≡ 122
+insufficient_buffer_is = refl
 
 more_data_is : MORE_DATA ≡ 234
 more_data_is = refl

@@ -1,5 +1,5 @@
 -- A tree stays a tree: with the root, each key's parent, last names that are the keys' own, and values whose names differ.
-use Rattle.std.proofs.Common.{◌≡◌, ◌≢◌, ℕ, ◌+◌, ◌≤◌, Bool, true, false, nat_lt, cond, is_some, List, [], ◌∷◌, ◌++◌, length, Option, Some, None, refl, sym, ap, ◌∙◌, subst, arith}
+use Rattle.std.proofs.Common.{◌≡◌, ◌≢◌, ℕ, ◌+◌, ◌≤◌, Bool, true, false, nat_lt, cond, is_some, unwrap_or, List, [], ◌∷◌, ◌++◌, length, Option, Some, None, refl, sym, ap, ◌∙◌, subst, arith}
 use Rattle.std.proofs.Common.{length-append, true≢false}
 use Rattle.std.specs.Prelude.{IsSome}
 use Rattle.std.specs.List.{AllByRecursion, list_any}
@@ -12,14 +12,14 @@ use Rattle.std.proofs.lemmas.Cmp.{tied_itself, eq_by_cmp_equiv}
 use Rattle.reg_names.specs.Names.{folded, path_of}
 use Rattle.reg_heap.specs.Paths.{Path, Tree, Rec, Member, path_cmp, is_child, children_of}
 use Rattle.reg_heap.specs.Members.{values_with, values_without, same_name}
-use Rattle.reg_heap.specs.Edits.{edited, at_time, above, with_key, with_keys, without_key, with_value, without_value, has_child, child_path, made_key, descriptor_of}
+use Rattle.reg_heap.specs.Edits.{edited, at_time, above, with_key, with_keys, without_key, with_value, without_value, with_descriptor, has_child, child_path, made_key, descriptor_of, if_last}
 use Rattle.reg_heap.specs.Trees.{IsTree, IsSmallKey, IsWithinLimits, NamesDiffer}
 use Rattle.reg_heap.proofs.ChildrenOfPath.{children-contain, is_child-below, named, path-is}
 use Rattle.reg_model.specs.Worlds.{World, Handle, same_path, path_at, path_from, after}
 use Rattle.reg_model.specs.Causes.{State, change_cause}
 use Rattle.reg_model.specs.Histories.{replay, state_of, IsLegal}
 use Rattle.reg_model.specs.declared.call.Change.{Change}
-use Rattle.reg_model.specs.declared.call.Change.TheVariants.{OpenRoot, OpenKey, CreateKey, SetValue, DeleteValue, DeleteKey, Close}
+use Rattle.reg_model.specs.declared.call.Change.TheVariants.{OpenRoot, OpenKey, CreateKey, SetValue, DeleteValue, DeleteKey, SetSecurity, Close}
 use Rattle.reg_model.specs.declared.reply.Entry.{Entry}
 use Rattle.reg_model.proofs.AcceptedCalls.{both_false, target-path, CreateMet, create-met, DeleteMet, delete-met}
 use Rattle.reg_model.proofs.HandleInvariant.{path_total, Upright, has-insert, has-edited, has-put, stands-at, standing-after, target-below}
@@ -153,30 +153,37 @@ keeps-with name kind bytes moment = record { name = λ r. refl; apart = λ r a. 
 pub keeps-without : (name : List ℕ) (moment : ℕ) → Keeps (without_value name moment)
 keeps-without name moment = record { name = λ r. refl; apart = λ r a. differ-without name r.values a }
 
+-- ---- a descriptor set
+
+pub keeps-descriptor : (descriptor : List ℕ) (moment : ℕ) → Keeps (with_descriptor descriptor moment)
+keeps-descriptor descriptor moment = record { name = λ r. refl; apart = λ r a. a }
+
 -- ---- keys made
 
-tree-with_key : (t : Tree) (p : Path) (name : List ℕ) (moment : ℕ) → IsTree t → IsSome (get t p) → IsTree (with_key t p name moment)
-tree-with_key t p name moment i there =
+tree-with_key : (t : Tree) (p : Path) (name : List ℕ) (given : Option (List ℕ)) (moment : ℕ) → IsTree t → IsSome (get t p) → IsTree (with_key t p name given moment)
+tree-with_key t p name given moment i there =
     let u = edited t p (at_time moment) in
-    tree-put u (child_path p name) (made_key name (descriptor_of (get t p)) moment) (tree-edited t p (at_time moment) i (keeps-time moment)) (record {
+    tree-put u (child_path p name) (made_key name (unwrap_or given (descriptor_of (get t p))) moment) (tree-edited t p (at_time moment) i (keeps-time moment)) (record {
       parent = λ q last same. subst (λ (x : Path). IsSome (get u x)) (snoc-same p q (folded name) last same).0 (has-edited t p (at_time moment) p there);
       name = λ q last same. (snoc-same p q (folded name) last same).1;
       apart = tt;
     })
 
-tree-step : (b : Bool) (t : Tree) (p : Path) (name : List ℕ) (moment : ℕ) → IsTree t → IsSome (get t p) → IsTree (cond b t (with_key t p name moment))
-tree-step true t p name moment i there = i
-tree-step false t p name moment i there = tree-with_key t p name moment i there
+tree-step : (b : Bool) (t : Tree) (p : Path) (name : List ℕ) (given : Option (List ℕ)) (moment : ℕ) → IsTree t → IsSome (get t p) → IsTree (cond b t (with_key t p name given moment))
+tree-step true t p name given moment i there = i
+tree-step false t p name given moment i there = tree-with_key t p name given moment i there
 
-has-next : (b : Bool) (t : Tree) (p : Path) (name : List ℕ) (moment : ℕ) → has_child t p name ≡ b → IsSome (get (cond b t (with_key t p name moment)) (child_path p name))
-has-next true t p name moment h = h
-has-next false t p name moment h = has-put (edited t p (at_time moment)) (child_path p name) (made_key name (descriptor_of (get t p)) moment)
+has-next : (b : Bool) (t : Tree) (p : Path) (name : List ℕ) (given : Option (List ℕ)) (moment : ℕ) → has_child t p name ≡ b →
+    IsSome (get (cond b t (with_key t p name given moment)) (child_path p name))
+has-next true t p name given moment h = h
+has-next false t p name given moment h =
+    has-put (edited t p (at_time moment)) (child_path p name) (made_key name (unwrap_or given (descriptor_of (get t p))) moment)
 
-pub tree-with_keys : (t : Tree) (p : Path) (names : List (List ℕ)) (moment : ℕ) → IsTree t → IsSome (get t p) → IsTree (with_keys t p names moment)
-tree-with_keys t p [] moment i there = i
-tree-with_keys t p (name ∷ names) moment i there =
-    tree-with_keys (cond (has_child t p name) t (with_key t p name moment)) (child_path p name) names moment
-    (tree-step (has_child t p name) t p name moment i there) (has-next (has_child t p name) t p name moment refl)
+pub tree-with_keys : (t : Tree) (p : Path) (names : List (List ℕ)) (given : Option (List ℕ)) (moment : ℕ) → IsTree t → IsSome (get t p) → IsTree (with_keys t p names given moment)
+tree-with_keys t p [] given moment i there = i
+tree-with_keys t p (name ∷ names) given moment i there =
+    tree-with_keys (cond (has_child t p name) t (with_key t p name (if_last names given) moment)) (child_path p name) names given moment
+    (tree-step (has_child t p name) t p name (if_last names given) moment i there) (has-next (has_child t p name) t p name (if_last names given) moment refl)
 
 -- ---- a key removed
 
@@ -288,9 +295,10 @@ module _ (s : State) (e : Entry) (r : Upright s.world.tree s.world.handles) (i :
   abbrev hs : List Handle
   hs = s.world.handles
 
-  tree-created : (h : ℕ) (path : List ℕ) (mask : ℕ) → CreateMet s e.session h path mask → IsTree (with_keys tree (path_at e.session h hs) (path_of path) e.moment)
-  tree-created h path mask m =
-      tree-with_keys tree (path_at e.session h hs) (path_of path) e.moment i
+  tree-created : (h : ℕ) (path : List ℕ) (mask : ℕ) (given : Option (List ℕ)) → CreateMet s e.session h path mask given →
+      IsTree (with_keys tree (path_at e.session h hs) (path_of path) given e.moment)
+  tree-created h path mask given m =
+      tree-with_keys tree (path_at e.session h hs) (path_of path) given e.moment i
       (subst (λ (p : Path). IsSome (get tree p)) (sym (target-path e.session h hs m.target)) (stands-at tree e.session h hs m.target r.stand))
 
   tree-deleted : (h : ℕ) (path : List ℕ) → DeleteMet s e.session h path → IsTree (without_key tree (path_from e.session h hs path) e.moment)
@@ -304,10 +312,11 @@ module _ (s : State) (e : Entry) (r : Upright s.world.tree s.world.handles) (i :
   tree-after c = elim e.change as (λ (change : Change). change_cause s e.session change c ≡ None → IsTree (after s.world (record e { change = change })).tree) [
     | OpenRoot mask ↦ λ none. i
     | OpenKey h path mask ↦ λ none. i
-    | CreateKey h path mask ↦ λ none. tree-created h path mask (create-met s e.session h path mask c none)
+    | CreateKey h path mask given ↦ λ none. tree-created h path mask given (create-met s e.session h path mask given c none)
     | SetValue h name kind bytes ↦ λ none. tree-edited tree (path_at e.session h hs) _ i (keeps-with name kind bytes e.moment)
     | DeleteValue h name ↦ λ none. tree-edited tree (path_at e.session h hs) _ i (keeps-without name e.moment)
     | DeleteKey h path ↦ λ none. tree-deleted h path (delete-met s e.session h path c none)
+    | SetSecurity h descriptor ↦ λ none. tree-edited tree (path_at e.session h hs) _ i (keeps-descriptor descriptor e.moment)
     | Close h ↦ λ none. i
   ]
 

@@ -5,7 +5,7 @@ use Rattle.reg_model.specs.Worlds.{World, path_at}
 use Rattle.reg_model.specs.Causes.{path_asked, rule_of}
 use Rattle.reg_model.specs.declared.call.Change.{Change}
 use Rattle.reg_model.specs.declared.call.Query.{Query}
-use Rattle.reg_model.specs.declared.call.Query.TheVariants.{QueryValue, EnumKey, EnumValue, QueryInfo}
+use Rattle.reg_model.specs.declared.call.Query.TheVariants.{QueryValue, EnumKey, EnumValue, QueryInfo, GetSecurity}
 use Rattle.reg_model.specs.declared.call.Call.{Call}
 use Rattle.reg_model.specs.declared.call.Call.TheVariants as call
 
@@ -23,6 +23,7 @@ handle_asked (QueryValue h name room) = h
 handle_asked (EnumKey h index room) = h
 handle_asked (EnumValue h index name_room room) = h
 handle_asked (QueryInfo h) = h
+handle_asked (GetSecurity h room) = h
 
 -- the callbacks' status for a change, and for a question
 abbrev pub change_status : Callbacks → World → ℕ → ℕ → Change → ℕ

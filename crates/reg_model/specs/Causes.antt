@@ -3,20 +3,20 @@ use Rattle.std.specs.Prelude.{ℕ, ◌+◌, ◌==◌, ◌||◌, ◌&&◌, not, n
 use Rattle.std.specs.Prelude.{List, [], count_by, length, Option, Some, None, is_some}
 use Rattle.std.specs.FinMap.{get}
 use Rattle.reg_names.specs.Names.{is_value_name, is_path, path_of}
-use Rattle.reg_heap.specs.declared.limits.TheConstants.{DATA_LIMIT, VALUES_LIMIT}
+use Rattle.reg_heap.specs.declared.limits.TheConstants.{DATA_LIMIT, VALUES_LIMIT, DESCRIPTOR_LIMIT}
 use Rattle.reg_heap.specs.Paths.{Path, Member, children_of}
 use Rattle.reg_heap.specs.Members.{value_named}
 use Rattle.reg_heap.specs.Edits.{values_at, are_too_many, may_not_go}
 use Rattle.reg_model.specs.declared.limits.TheConstants.{JOURNAL_LIMIT, HANDLES_LIMIT}
-use Rattle.reg_model.specs.declared.rights.TheConstants.{NO_RIGHTS, QUERY_VALUE, SET_VALUE, ENUMERATE_SUB_KEYS}
+use Rattle.reg_model.specs.declared.rights.TheConstants.{NO_RIGHTS, QUERY_VALUE, SET_VALUE, ENUMERATE_SUB_KEYS, READ_CONTROL, WRITE_DAC}
 use Rattle.reg_model.specs.declared.statuses.TheConstants.{FILE_NOT_FOUND, ACCESS_DENIED, INVALID_HANDLE, INVALID_PARAMETER, NO_MORE_ITEMS}
 use Rattle.reg_model.specs.declared.statuses.TheConstants.{KEY_DELETED, NO_SYSTEM_RESOURCES}
 use Rattle.reg_model.specs.Worlds.{World, Handle, Destination, At, Deleted, look, path_at, path_from}
 use Rattle.reg_model.specs.declared.reply.Entry.{Entry}
 use Rattle.reg_model.specs.declared.call.Change.{Change}
-use Rattle.reg_model.specs.declared.call.Change.TheVariants.{OpenRoot, OpenKey, CreateKey, SetValue, DeleteValue, DeleteKey, Close}
+use Rattle.reg_model.specs.declared.call.Change.TheVariants.{OpenRoot, OpenKey, CreateKey, SetValue, DeleteValue, DeleteKey, SetSecurity, Close}
 use Rattle.reg_model.specs.declared.call.Query.{Query}
-use Rattle.reg_model.specs.declared.call.Query.TheVariants.{QueryValue, EnumKey, EnumValue, QueryInfo}
+use Rattle.reg_model.specs.declared.call.Query.TheVariants.{QueryValue, EnumKey, EnumValue, QueryInfo, GetSecurity}
 
 -- where a call finds the hive: how many entries the journal keeps, the number of the next one, the world, and the entries whose
 -- notifications are pending
@@ -83,6 +83,15 @@ is_bad_open path mask = not (is_path path) || not (is_mask mask)
 abbrev pub is_bad_target : List ℕ → Bool
 is_bad_target path = not (is_path path) || length path == 0
 
+-- a descriptor of no bytes, or of more than 65,535
+abbrev pub is_bad_descriptor : List ℕ → Bool
+is_bad_descriptor descriptor = length descriptor == 0 || nat_lt DESCRIPTOR_LIMIT (length descriptor)
+
+-- such a one is given, also where no key is made
+abbrev pub is_bad_given : Option (List ℕ) → Bool
+is_bad_given None = false
+is_bad_given (Some descriptor) = is_bad_descriptor descriptor
+
 -- the keys that the path misses would be too many
 abbrev pub no_key_room : State → ℕ → ℕ → List ℕ → Bool
 no_key_room s session h path = are_too_many s.world.tree (path_at session h s.world.handles) (path_of path)
@@ -135,13 +144,14 @@ plain of bad = record { of = of; bad = bad; rights = None; counted = λ s sessio
 abbrev pub opening : AskedOf → Bool → List ℕ → ℕ → Rule
 opening of bad path mask = record (plain of bad) { counted = λ s session. no_handle_room session s; opens = Some (record { path = path; mask = mask }) }
 
--- the rules of each change (`RegOpenKeyEx`, `RegCreateKeyEx`, `RegSetValueEx`, `RegDeleteValue`, `RegDeleteKey`, `RegCloseKey`)
+-- the rules of each change (`RegOpenKeyEx`, `RegCreateKeyEx`, `RegSetValueEx`, `RegDeleteValue`, `RegDeleteKey`, `RegSetKeySecurity`,
+-- `RegCloseKey`)
 abbrev pub rule_of : Change → Rule
 rule_of (OpenRoot mask) = opening Root (not (is_mask mask)) [] mask
 rule_of (OpenKey h path mask) =
     record (opening (KeyOf h) (is_bad_open path mask) path mask) { own = λ s session. refuse (lacks_key s session h path) FILE_NOT_FOUND }
-rule_of (CreateKey h path mask) =
-    record (opening (KeyOf h) (is_bad_open path mask) path mask) {
+rule_of (CreateKey h path mask given) =
+    record (opening (KeyOf h) (is_bad_open path mask || is_bad_given given) path mask) {
       counted = λ s session. no_handle_room session s || no_key_room s session h path;
       takes_space = true;
     }
@@ -159,6 +169,11 @@ rule_of (DeleteValue h name) =
 rule_of (DeleteKey h path) =
     record (plain (KeyOf h) (is_bad_target path)) {
       own = λ s session. refuse (lacks_key s session h path) FILE_NOT_FOUND or refuse (stays s session h path) ACCESS_DENIED;
+    }
+rule_of (SetSecurity h descriptor) =
+    record (plain (KeyOf h) (is_bad_descriptor descriptor)) {
+      rights = Some WRITE_DAC;
+      takes_space = true;
     }
 rule_of (Close h) = record (plain (HandleAlone h) false) { counted = λ s session. false }
 
@@ -212,6 +227,7 @@ early_query_cause s session query = by query
     by (EnumKey h index room) = by_handle (λ r. refuse (not (has ENUMERATE_SUB_KEYS r.mask)) ACCESS_DENIED) (look session h s.world.handles)
     by (EnumValue h index name_room room) = by_handle (λ r. refuse (not (has QUERY_VALUE r.mask)) ACCESS_DENIED) (look session h s.world.handles)
     by (QueryInfo h) = by_handle (λ r. refuse (not (has QUERY_VALUE r.mask)) ACCESS_DENIED) (look session h s.world.handles)
+    by (GetSecurity h room) = by_handle (λ r. refuse (not (has READ_CONTROL r.mask)) ACCESS_DENIED) (look session h s.world.handles)
 
 unfoldable pub late_query_cause : State → ℕ → Query → Option ℕ
 late_query_cause s session query = by query
@@ -221,6 +237,7 @@ late_query_cause s session query = by query
     by (EnumKey h index room) = refuse (nat_le (length (subkeys_of s session h)) index) NO_MORE_ITEMS
     by (EnumValue h index name_room room) = refuse (nat_le (length (members_of s session h)) index) NO_MORE_ITEMS
     by (QueryInfo h) = None
+    by (GetSecurity h room) = None
 
 -- the first refusal of a question; c is the callbacks' status
 abbrev pub query_cause : State → ℕ → Query → ℕ → Option ℕ

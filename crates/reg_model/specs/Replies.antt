@@ -4,17 +4,17 @@ use Rattle.std.specs.FinMap.{get}
 use Rattle.reg_heap.specs.Paths.{Path, Tree, Rec, Member, children_of}
 use Rattle.reg_names.specs.Names.{path_of}
 use Rattle.reg_heap.specs.Members.{value_named}
-use Rattle.reg_model.specs.declared.statuses.TheConstants.{FILE_NOT_FOUND, MORE_DATA, NO_MORE_ITEMS}
+use Rattle.reg_model.specs.declared.statuses.TheConstants.{FILE_NOT_FOUND, INSUFFICIENT_BUFFER, MORE_DATA, NO_MORE_ITEMS}
 use Rattle.reg_model.specs.Worlds.{path_at}
 use Rattle.reg_heap.specs.Edits.{values_at, descriptor_of, missing}
 use Rattle.reg_model.specs.Causes.{State, Opening, rule_of, subkeys_of, members_of}
 use Rattle.reg_model.specs.declared.call.Change.{Change}
 use Rattle.reg_model.specs.declared.call.Change.TheVariants.{CreateKey}
 use Rattle.reg_model.specs.declared.call.Query.{Query}
-use Rattle.reg_model.specs.declared.call.Query.TheVariants.{QueryValue, EnumKey, EnumValue, QueryInfo}
+use Rattle.reg_model.specs.declared.call.Query.TheVariants.{QueryValue, EnumKey, EnumValue, QueryInfo, GetSecurity}
 use Rattle.reg_model.specs.declared.reply.ChangeReply.{ChangeReply}
 use Rattle.reg_model.specs.declared.answer.AnswerBody.{AnswerBody}
-use Rattle.reg_model.specs.declared.answer.AnswerBody.TheVariants.{Refused, Short, Value, Key, Member as Told, Info}
+use Rattle.reg_model.specs.declared.answer.AnswerBody.TheVariants.{Refused, Short, Value, Key, Member as Told, Info, Security}
 
 -- a refusal is its status and nothing else
 abbrev pub refusal : ℕ → ChangeReply
@@ -27,7 +27,7 @@ disposition_of (name ∷ names) = 1
 
 -- what is told of the key that is opened: only CreateKey tells it
 abbrev pub disposition_told : State → ℕ → Change → Option ℕ
-disposition_told s session (CreateKey h path mask) =
+disposition_told s session (CreateKey h path mask given) =
     Some (disposition_of (missing s.world.tree (path_at session h s.world.handles) (path_of path)))
 disposition_told s session change = None
 
@@ -94,6 +94,10 @@ info_told t p =
     (length (values_at t p)) (largest_of (map (λ (v : Member). length v.name) (values_at t p)))
     (largest_of (map (λ (v : Member). length v.bytes) (values_at t p))) (length (descriptor_of (get t p))) (time_of (get t p))
 
+-- a descriptor as it is told; 122 with its size where the room is below it
+abbrev pub security_told : List ℕ → ℕ → AnswerBody
+security_told descriptor room = if nat_lt room (length descriptor) then Short INSUFFICIENT_BUFFER 0 (length descriptor) else Security descriptor
+
 -- the answer to a question that is not refused
 unfoldable pub body_of : State → ℕ → Query → AnswerBody
 body_of s session query = by query
@@ -103,3 +107,4 @@ body_of s session query = by query
     by (EnumKey h index room) = key_told (get s.world.tree (get_or (subkeys_of s session h) index [])) room
     by (EnumValue h index name_room room) = member_told (slice_get (members_of s session h) index) name_room room
     by (QueryInfo h) = info_told s.world.tree (path_at session h s.world.handles)
+    by (GetSecurity h room) = security_told (descriptor_of (get s.world.tree (path_at session h s.world.handles))) room

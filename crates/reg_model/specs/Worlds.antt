@@ -4,9 +4,9 @@ use Rattle.std.specs.Ordering.{eq_by_cmp}
 use Rattle.std.specs.FinMap.{get}
 use Rattle.reg_names.specs.Names.{path_of}
 use Rattle.reg_heap.specs.Paths.{Path, Tree, path_cmp}
-use Rattle.reg_heap.specs.Edits.{edited, with_value, without_value, folded_path, with_keys, without_key}
+use Rattle.reg_heap.specs.Edits.{edited, with_value, without_value, with_descriptor, folded_path, with_keys, without_key}
 use Rattle.reg_model.specs.declared.call.Change.{Change}
-use Rattle.reg_model.specs.declared.call.Change.TheVariants.{OpenRoot, OpenKey, CreateKey, SetValue, DeleteValue, DeleteKey, Close}
+use Rattle.reg_model.specs.declared.call.Change.TheVariants.{OpenRoot, OpenKey, CreateKey, SetValue, DeleteValue, DeleteKey, SetSecurity, Close}
 use Rattle.reg_model.specs.declared.reply.Entry.{Entry}
 
 -- where a handle leads: to a key, or nowhere any more
@@ -86,20 +86,21 @@ abbrev pub turned : Path → List Handle → List Handle
 turned p hs = map (λ (h : Handle). record h { destination = destination_without p h.destination }) hs
 
 -- the world after an accepted change (`RegOpenKeyEx`, `RegCreateKeyEx`, `RegSetValueEx`, `RegDeleteValue`, `RegDeleteKey`,
--- `RegCloseKey`): one line for each change
+-- `RegSetKeySecurity`, `RegCloseKey`): one line for each change
 unfoldable pub after : World → Entry → World
 after w e = by e.change
   where
     by : Change → World
     by (OpenRoot mask) = record w { handles = w.handles ++ opened e [] mask ∷ [] }
     by (OpenKey h path mask) = record w { handles = w.handles ++ opened e (path_from e.session h w.handles path) mask ∷ [] }
-    by (CreateKey h path mask) =
+    by (CreateKey h path mask given) =
         record {
-          tree = with_keys w.tree (path_at e.session h w.handles) (path_of path) e.moment;
+          tree = with_keys w.tree (path_at e.session h w.handles) (path_of path) given e.moment;
           handles = w.handles ++ opened e (path_from e.session h w.handles path) mask ∷ [];
         }
     by (SetValue h name kind bytes) = record w { tree = edited w.tree (path_at e.session h w.handles) (with_value name kind bytes e.moment) }
     by (DeleteValue h name) = record w { tree = edited w.tree (path_at e.session h w.handles) (without_value name e.moment) }
     by (DeleteKey h path) =
         record { tree = without_key w.tree (path_from e.session h w.handles path) e.moment; handles = turned (path_from e.session h w.handles path) w.handles }
+    by (SetSecurity h descriptor) = record w { tree = edited w.tree (path_at e.session h w.handles) (with_descriptor descriptor e.moment) }
     by (Close h) = record w { handles = closed h w.handles }

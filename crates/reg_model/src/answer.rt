@@ -20,7 +20,7 @@ pub enum AnswerBody {
         status: u32,
     },
     /// A room is too small: 234, with the value's type and how many bytes its data has; of a subkey 0 and how many bytes its
-    /// name has.
+    /// name has. For a descriptor 122, 0 and its size.
     Short {
         status: u32,
         kind: u32,
@@ -53,6 +53,10 @@ pub enum AnswerBody {
         largest: u32,
         security: u32,
         time: u64,
+    },
+    /// A key's security descriptor.
+    Security {
+        bytes: Bytes,
     },
 }
 
@@ -104,6 +108,9 @@ impl AnswerBody {
                 largest: *largest,
                 security: *security,
                 time: *time,
+            }),
+            AnswerBody::Security { bytes } => Ok(AnswerBody::Security {
+                bytes: bytes.try_clone(alloc)?,
             }),
         }
     }

@@ -3,7 +3,7 @@ ghost use Rattle.std.specs.Prelude.{◌≡◌, ◌≢◌, [], IfOk, OnErr};
 use std::alloc::{AllocError, Global};
 use std::marker::Model;
 
-/// Bytes that contracts see as a list: a name, or a value's data.
+/// Bytes that contracts see as a list: a name, a value's data or a security descriptor.
 #[derive(Debug, Drop)]
 pub struct Bytes {
     items: Vec<u8>,

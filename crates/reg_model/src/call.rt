@@ -1,6 +1,7 @@
 ghost use Rattle.std.specs.Prelude.{◌≡◌, IfOk};
 
 use crate::Bytes;
+use crate::bytes::clone_option;
 use std::alloc::{AllocError, Global};
 
 /// A change of a hive. An accepted one becomes one entry of the journal.
@@ -18,11 +19,13 @@ pub enum Change {
         mask: u32,
     },
     /// Makes the keys of a path from the handle's key that are missing, and opens a handle to the last
-    /// (`RegCreateKeyEx`).
+    /// (`RegCreateKeyEx`). The last key made takes the security descriptor if one is given, of 1 to 65,535 bytes; every other
+    /// key made shares its parent's.
     CreateKey {
         handle: u64,
         path: Bytes,
         mask: u32,
+        descriptor: Option<Bytes>,
     },
     /// Sets a value of the handle's key; the empty name is the default value's (`RegSetValueEx`).
     SetValue {
@@ -40,6 +43,11 @@ pub enum Change {
     DeleteKey {
         handle: u64,
         path: Bytes,
+    },
+    /// Gives the handle's key a security descriptor, of 1 to 65,535 bytes (`RegSetKeySecurity`).
+    SetSecurity {
+        handle: u64,
+        descriptor: Bytes,
     },
     /// Closes a handle (`RegCloseKey`).
     Close {
@@ -59,10 +67,16 @@ impl Change {
                 path: path.try_clone(alloc)?,
                 mask: *mask,
             }),
-            Change::CreateKey { handle, path, mask } => Ok(Change::CreateKey {
+            Change::CreateKey {
+                handle,
+                path,
+                mask,
+                descriptor,
+            } => Ok(Change::CreateKey {
                 handle: *handle,
                 path: path.try_clone(alloc)?,
                 mask: *mask,
+                descriptor: clone_option(alloc, descriptor)?,
             }),
             Change::SetValue {
                 handle,
@@ -82,6 +96,10 @@ impl Change {
             Change::DeleteKey { handle, path } => Ok(Change::DeleteKey {
                 handle: *handle,
                 path: path.try_clone(alloc)?,
+            }),
+            Change::SetSecurity { handle, descriptor } => Ok(Change::SetSecurity {
+                handle: *handle,
+                descriptor: descriptor.try_clone(alloc)?,
             }),
             Change::Close { handle } => Ok(Change::Close { handle: *handle }),
         }
@@ -118,6 +136,12 @@ pub enum Query {
     QueryInfo {
         handle: u64,
     },
+    /// Asks for the security descriptor of the handle's key. `room` is how many bytes of it the caller takes
+    /// (`RegGetKeySecurity`).
+    GetSecurity {
+        handle: u64,
+        room: u32,
+    },
 }
 
 impl Query {
@@ -152,6 +176,10 @@ impl Query {
                 room: *room,
             }),
             Query::QueryInfo { handle } => Ok(Query::QueryInfo { handle: *handle }),
+            Query::GetSecurity { handle, room } => Ok(Query::GetSecurity {
+                handle: *handle,
+                room: *room,
+            }),
         }
     }
 }

@@ -11,3 +11,9 @@ pub const SET_VALUE: u32 = 2;
 
 /// To list subkeys.
 pub const ENUMERATE_SUB_KEYS: u32 = 8;
+
+/// To ask for the security descriptor.
+pub const READ_CONTROL: u32 = 0x2_0000;
+
+/// To set the security descriptor.
+pub const WRITE_DAC: u32 = 0x4_0000;

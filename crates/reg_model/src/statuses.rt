@@ -12,8 +12,11 @@ pub const INVALID_HANDLE: u32 = 6;
 /// Memory was refused.
 pub const NOT_ENOUGH_MEMORY: u32 = 8;
 
-/// A name, a path, a mask or data that no call may have.
+/// A name, a path, a mask, data or a descriptor that no call may have.
 pub const INVALID_PARAMETER: u32 = 87;
+
+/// The room that was given is too short for the descriptor.
+pub const INSUFFICIENT_BUFFER: u32 = 122;
 
 /// The room that was given is too short for the answer.
 pub const MORE_DATA: u32 = 234;
