@@ -12,10 +12,14 @@ pub mod PathCarve
 pub mod InsertKeyObligations
 pub mod SpareCellTaken
 pub mod LengthsOfMade
+pub mod SpareCellsKept
 pub mod PathGrowth
 pub mod PlaceKept
 pub mod SpareCellsCarved
 pub mod CreatePath
+pub mod CreatePathMade
+pub mod LastDescribed
+pub mod DescribedLast
 pub mod CreatePathEnds
 pub mod CreateKeepsNodes
 pub mod TooManyKeys

@@ -13,3 +13,4 @@ pub mod FreshInvariant
 pub mod FreshBin
 pub mod LengthsAfterGraft
 pub mod LengthsSeen
+pub mod DescribedKeys

@@ -4,3 +4,4 @@ pub mod ValueChange
 pub mod PathWalk
 pub mod KeyAnswers
 pub mod DeleteKey
+pub mod DescribeKey

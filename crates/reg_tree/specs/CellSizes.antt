@@ -1,10 +1,12 @@
--- The cells that making keys and setting values takes (Suhanov, Windows registry file format specification, "Cell", "Key node",
--- "Subkeys list", "Key values list").
-use Rattle.std.specs.Prelude.{ℕ, ◌+◌, ◌<◌, Option, Some, None, List, [], ◌∷◌, ◌++◌, map, length}
+-- The cells that making keys, setting values and describing keys takes (Suhanov, Windows registry file format specification, "Cell",
+-- "Key node", "Subkeys list", "Key values list", "Key security").
+use Rattle.std.specs.Prelude.{ℕ, ◌+◌, ◌<◌, Bool, cond, Option, Some, None, List, [], ◌∷◌, ◌++◌, map, length, bytes_eq}
 use Rattle.std.specs.Option.{option_and_then}
+use Rattle.std.specs.List.{list_any}
+use Rattle.std.specs.FinMap.{get, keys}
 use Rattle.reg_heap.specs.Heaps.{Heap}
-use Rattle.reg_heap.specs.Paths.{Path}
-use Rattle.reg_heap.specs.Edits.{missing, last_there}
+use Rattle.reg_heap.specs.Paths.{Path, Tree}
+use Rattle.reg_heap.specs.Edits.{missing, last_there, descriptor_of}
 use Rattle.reg_arena.specs.Arena.{Bins, heap_of}
 use Rattle.reg_arena.specs.Carves.{NoFit}
 use Rattle.reg_arena.specs.NewBin.{PassesLimit}
@@ -39,11 +41,29 @@ abbrev pub sizes_of : Option ℕ → List (List ℕ) → List ℕ
 sizes_of plan [] = []
 sizes_of plan (sizes ∷ more) = planned_sizes plan ++ (sizes ++ sizes_of (Some FIRST_LIST_SIZE) more)
 
--- the sizes of the cells that the keys of these names take which are missing from the key at a path on: none where none is missing
-unfoldable pub create_sizes : Keys → Path → List (List ℕ) → List ℕ
-create_sizes keys path names =
+-- the sizes of the cells of the keys themselves that are missing of these names from the key at a path on: none where none is missing
+unfoldable pub made_sizes : Keys → Path → List (List ℕ) → List ℕ
+made_sizes keys path names =
     sizes_of (option_and_then (planned (heap_of keys.bins)) (key_offset_at (heap_of keys.bins) keys.root (last_there keys.tree path names)))
     (map own_sizes (missing keys.tree path names))
+
+-- some key of the tree has this descriptor
+abbrev pub is_described : Tree → List ℕ → Bool
+is_described tree descriptor = list_any (λ (path : Path). bytes_eq descriptor (descriptor_of (get tree path))) (keys tree)
+
+-- the size of the cell that a descriptor takes: 20 bytes and its own; none where a key has it, whose security is shared
+unfoldable pub security_sizes : Tree → List ℕ → List ℕ
+security_sizes tree descriptor = cond (is_described tree descriptor) [] (cell_size (20 + length descriptor) ∷ [])
+
+-- the same of a descriptor that may be given to the last of some keys to be made
+abbrev pub given_sizes : Tree → List (List ℕ) → Option (List ℕ) → List ℕ
+given_sizes tree [] given = []
+given_sizes tree (name ∷ names) None = []
+given_sizes tree (name ∷ names) (Some descriptor) = security_sizes tree descriptor
+
+-- the sizes of the cells that making the keys of these names takes from the key at a path on, with a descriptor for the last or none
+abbrev pub create_sizes : Keys → Path → List (List ℕ) → Option (List ℕ) → List ℕ
+create_sizes keys path names given = made_sizes keys path names ++ given_sizes keys.tree (missing keys.tree path names) given
 
 -- the sizes of the cells that a set of a value, of that name and with so many bytes, takes of a key
 abbrev pub set_sizes_by : Heap → List ℕ → ℕ → Option KeyRecord → List ℕ

@@ -9,3 +9,4 @@ pub mod SpareCells
 pub mod KeyCreation
 pub mod TreeInvariant
 pub mod LengthChanges
+pub mod DescriptorChange

@@ -66,9 +66,10 @@ abbrev pub KeepsNodes : Keys → Keys → Type 0
 KeepsNodes old new = (path : Path) → (node : Node) → IsAt old path node → IsAt new path node
 
 -- the keys of those names that were missing from the key at a path on were made: the tree is the map's own step, `made` has the
--- last key and whether one was made, that key is no deeper than 512 names, and each node stays that of the key at its path
-pub record MakesKeys (old new : Keys) (path : Path) (names : List (List ℕ)) (moment : ℕ) (made : Created) : Type 0 where
-  pub tree : new.tree ≡ with_keys old.tree path names moment
+-- last key and whether one was made, that key is no deeper than 512 names, and each node stays that of the key at its path; the last
+-- one made has the descriptor that is given, if one is
+pub record MakesKeys (old new : Keys) (path : Path) (names : List (List ℕ)) (given : Option (List ℕ)) (moment : ℕ) (made : Created) : Type 0 where
+  pub tree : new.tree ≡ with_keys old.tree path names given moment
   pub last : IsAt new (path ++ map folded names) made.node
   pub is_new : (made.is_new ≡ true) ↔ (missing old.tree path names ≢ [])
   pub shallow : made.node.depth ≤ PATH_LIMIT

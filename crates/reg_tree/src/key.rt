@@ -4,14 +4,14 @@ ghost use Rattle.reg_names.specs.declared.TheConstants.{KEY_NAME_LIMIT};
 ghost use Rattle.reg_arena.specs.Arena.{heap_of};
 ghost use Rattle.reg_records.specs.KeyNodes.{KeyRecord, key_at};
 ghost use Rattle.reg_tree.specs.NewHive.{root_fields};
-ghost use Rattle.reg_tree.specs.Internal.KeyNodeChanges.{HasList, HasSubkeysList, Notes, SameSizes, noted, noted_subkeys, raised, made_fields};
+ghost use Rattle.reg_tree.specs.Internal.KeyNodeChanges.{HasList, HasSubkeysList, Notes, SameSizes, noted, noted_security, noted_subkeys, raised, made_fields};
 
 use reg_arena::Arena;
 use reg_heap::limits::NONE;
 use reg_index::SubkeysIndex;
 use reg_records::{
     KeyFields, read_nk, set_largest_subkey_name, set_largest_value_data, set_largest_value_name,
-    set_subkeys, set_subkeys_list, set_time, set_values,
+    set_security, set_subkeys, set_subkeys_list, set_time, set_values,
 };
 use reg_values::ValuesList;
 
@@ -127,4 +127,15 @@ pub fn note_subkeys(arena: &mut Arena, key: u32, list: SubkeysIndex, name: u32, 
     set_subkeys_list(arena, key, list.offset);
     set_time(arena, key, moment);
     set_largest_subkey_name(arena, key, raise(old.largest_subkey_name, 2 * name));
+}
+
+/// Notes another security in a key's key node, and the time.
+pub fn note_security(arena: &mut Arena, key: u32, security: u32, moment: u64)
+    requires { IsSome (key_at (heap_of arena.old) key) }
+    ensures notes { Notes (heap_of arena.old) (heap_of arena.new) key (noted_security security moment) }
+    ensures long { length arena.new.bytes ≡ length arena.old.bytes }
+    ensures sizes { SameSizes (heap_of arena.old) (heap_of arena.new) }
+{
+    set_security(arena, key, security);
+    set_time(arena, key, moment);
 }

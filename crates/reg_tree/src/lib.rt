@@ -18,6 +18,7 @@ mod make;
 mod node;
 mod read;
 mod ring;
+mod security;
 mod tree;
 mod unmake;
 mod value;

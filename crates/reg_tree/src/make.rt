@@ -2,10 +2,10 @@
 //!
 //! Win32 registry reference, `RegCreateKeyEx`.
 ghost use Rattle.std.specs.Prelude.{◌≡◌, ◌≢◌, ◌↔◌, ◌⊎◌, ◌≤◌, ◌<◌, ◌+◌, ◌-◌, ◌++◌, ◌∷◌, [], true, false, ℕ, List, Some, Err, IsSome, IfOk, IfErr, OnOk, OnErr};
-ghost use Rattle.std.specs.Prelude.{length, map, drop, get_or};
+ghost use Rattle.std.specs.Prelude.{None, IfSome, length, map, drop, get_or, option_map};
 ghost use Rattle.reg_names.specs.declared.TheConstants.{KEY_NAME_LIMIT};
 ghost use Rattle.reg_names.specs.Names.{is_key_name, is_path, path_of};
-ghost use Rattle.reg_heap.specs.declared.limits.TheConstants.{BINS_LIMIT, GROWTH_BOUND};
+ghost use Rattle.reg_heap.specs.declared.limits.TheConstants.{BINS_LIMIT, DESCRIPTOR_LIMIT, GROWTH_BOUND};
 ghost use Rattle.reg_heap.specs.Paths.{children_of};
 ghost use Rattle.reg_heap.specs.Edits.{missing, are_too_many};
 ghost use Rattle.reg_heap.specs.Kinds.{times};
@@ -15,10 +15,11 @@ ghost use Rattle.reg_records.specs.KeyNodes.{KeyRecord, key_at};
 ghost use Rattle.reg_index.specs.Subkeys.{IsReady, KeepsCells, own, taken};
 ghost use Rattle.reg_values.specs.ValueLists.{Makes};
 ghost use Rattle.reg_tree.specs.TreeKeys.{tree_in};
-ghost use Rattle.reg_tree.specs.CellSizes.{create_sizes, own_sizes, planned, sizes_of, LacksRoom};
+ghost use Rattle.reg_tree.specs.CellSizes.{create_sizes, made_sizes, own_sizes, planned, planned_sizes, sizes_of, LacksRoom};
 ghost use Rattle.reg_tree.specs.Internal.KeyNodeChanges.{LeavesOthers};
 ghost use Rattle.reg_tree.specs.Internal.TreeInvariant.{IsHere};
-ghost use Rattle.reg_tree.specs.Internal.SpareCells.{MayGrow, Grows, AreReady, MayGrowAll, GrowsAll, IsSpared};
+ghost use Rattle.reg_tree.specs.Internal.SpareCells.{MayGrow, Grows, AreReady, MayGrowAll, GrowsAll, IsSecuritySize, IsSpared};
+ghost use Rattle.reg_tree.specs.Internal.DescriptorChange.{KeepsFinds, last_of};
 ghost use Rattle.reg_tree.specs.Internal.KeyCreation.{IsCreated, AreTooMany, LeadsTo};
 ghost use Rattle.reg_tree.specs.Internal.ReachedPlaces.{BelongsAt, BelongsFirst};
 ghost use Rattle.reg_index.specs.declared.plan.TheConstants.{FIRST_LIST_SIZE};
@@ -26,12 +27,14 @@ ghost use Rattle.reg_index.specs.declared.plan.TheConstants.{FIRST_LIST_SIZE};
 use crate::find::reach;
 use crate::key::{fields, new_key, note_subkeys, subkeys_list};
 use crate::ring::{recount, with_one_more};
+use crate::security::{describe, expect, forget};
 use crate::{Created, Node, Reached, TreeFault};
 use reg_arena::{Arena, ArenaFault, cell_size};
 use reg_heap::limits::{LEAF_LIMIT, MADE_LIMIT};
 use reg_index::{FIRST_LIST_SIZE, SubkeysIndex, insert, len, plan_insert};
 use reg_names::{PATH_LIMIT, first_name};
 use reg_records::put_nk;
+use reg_security::SecurityTable;
 use std::alloc::{AllocError, Global};
 
 /// Makes a key below another in cells carved for it: its key node, and its parent's list where that takes another cell. It comes to
@@ -85,16 +88,17 @@ fn make_in(
     requires grow { MayGrow arena.old.bytes parent spare.now name.now }
     requires place { BelongsAt (heap_of arena.old) parent name.now index }
     requires plan { plan ≡ planned (heap_of arena.old) parent }
-    requires ready { (more : List (List ℕ)) × AreReady (heap_of arena.old) (planned (heap_of arena.old) parent) (own_sizes name.now ∷ more) spare.now }
+    requires ready { (left : List ℕ) × (more : List (List ℕ))
+        × AreReady (heap_of arena.old) left (planned (heap_of arena.old) parent) (own_sizes name.now ∷ more) spare.now }
     requires name { (is_key_name name.now ≡ true) × (length name.now ≤ KEY_NAME_LIMIT) }
     ensures taken { (1 ≤ result) × (result ≤ 2) × (result ≤ length spare.now) }
     ensures grows { (m : MayGrow arena.old.bytes parent spare.now name.now) →
         Grows (heap_of arena.old)
         (heap_of arena.new) m.growing.root m.growing.path m.growing.keys m.growing.ring
         (get_or spare.now (result - 1) 0) (drop result spare.now) name.now moment }
-    ensures ready { (more : List (List ℕ)) →
-        AreReady (heap_of arena.old) (planned (heap_of arena.old) parent) (own_sizes name.now ∷ more) spare.now →
-        AreReady (heap_of arena.old) (Some FIRST_LIST_SIZE) more (drop result spare.now) }
+    ensures ready { (left : List ℕ) → (more : List (List ℕ)) →
+        AreReady (heap_of arena.old) left (planned (heap_of arena.old) parent) (own_sizes name.now ∷ more) spare.now →
+        AreReady (heap_of arena.old) left (Some FIRST_LIST_SIZE) more (drop result spare.now) }
     ensures long { length arena.new.bytes ≡ length arena.old.bytes }
     ensures keeps { KeepsCells (heap_of arena.old) (heap_of arena.new) }
     ensures leaves { (k : KeyRecord) → key_at (heap_of arena.old) parent ≡ Some k →
@@ -112,7 +116,7 @@ fn make_in(
     }
 }
 
-/// Makes the keys of a path, one below the other, in spare cells, and answers the last. The first belongs at an index among the
+/// Makes the keys of a path, one below the other, in the first of some spare cells, and answers the last. The first belongs at an index among the
 /// subkeys that are there; each other one is the only subkey of the one before, and begins its list.
 fn make_all(
     arena: &mut Arena,
@@ -123,14 +127,14 @@ fn make_all(
     spare: &[u32],
     moment: u64,
 ) -> Node
-    requires grow { MayGrowAll arena.old.bytes from (path_of path.now) spare.now }
+    requires grow { (left : List ℕ) × MayGrowAll arena.old.bytes from (path_of path.now) left spare.now }
     requires place { BelongsFirst (heap_of arena.old) from.offset (path_of path.now) index }
     requires plan { plan ≡ planned (heap_of arena.old) from.offset }
     requires depth { from.depth ≤ PATH_LIMIT }
     requires path { is_path path.now ≡ true }
-    ensures grows { (m : MayGrowAll arena.old.bytes from (path_of path.now) spare.now) →
+    ensures grows { (left : List ℕ) → (m : MayGrowAll arena.old.bytes from (path_of path.now) left spare.now) →
         GrowsAll (heap_of arena.old)
-        (heap_of arena.new) m.growing.root m.growing.path m.growing.keys m.growing.ring from result
+        (heap_of arena.new) m.growing.root m.growing.path m.growing.keys m.growing.ring left from result
         (path_of path.now) moment }
     ensures long { length arena.new.bytes ≡ length arena.old.bytes }
     ensures keeps { KeepsCells (heap_of arena.old) (heap_of arena.new) }
@@ -205,10 +209,15 @@ pub fn is_limited(arena: &Arena, reached: Reached<'_>) -> bool
 }
 
 /// The sizes of the cells that making keys takes, in order: for each, that of its parent's list where it needs one, and that of
-/// its key node. The first parent's is planned; those made have no list yet.
-fn sizes_for(alloc: Global, planned: Option<u32>, path: &[u8]) -> Result<Vec<u32>, AllocError>
+/// its key node. The first parent's is planned; those made have no list yet. A size more, if there is one, is the last.
+fn sizes_for(
+    alloc: Global,
+    planned: Option<u32>,
+    path: &[u8],
+    more: Option<u32>,
+) -> Result<Vec<u32>, AllocError>
     requires { is_path path.now ≡ true }
-    ensures { IfOk result (λ sizes. sizes.items ≡ sizes_of planned (map own_sizes (path_of path.now))) }
+    ensures { IfOk result (λ sizes. sizes.items ≡ sizes_of planned (map own_sizes (path_of path.now)) ++ planned_sizes more) }
 {
     let mut sizes = Vec::new(alloc);
     let mut list = planned;
@@ -221,28 +230,36 @@ fn sizes_for(alloc: Global, planned: Option<u32>, path: &[u8]) -> Result<Vec<u32
         list = Some(FIRST_LIST_SIZE);
         rest = behind;
     }
+    if let Some(size) = more {
+        sizes.push(size)?;
+    }
     Ok(sizes)
 }
 
-/// Carves the cells that keys of a path's names take below a key whose list was planned.
+/// Carves the cells that keys of a path's names take below a key whose list was planned, and one more for a descriptor that takes
+/// one, which is the last.
 fn carve_for(
     alloc: Global,
     arena: &mut Arena,
     plan: Option<u32>,
     path: &[u8],
+    more: Option<u32>,
 ) -> Result<Vec<u32>, ArenaFault>
     requires plan { (parent : ℕ) × IsHere arena.old.bytes parent × (plan ≡ planned (heap_of arena.old) parent) }
     requires path { is_path path.now ≡ true }
     requires few { length (path_of path.now) ≤ MADE_LIMIT }
+    requires more { IsSecuritySize more }
     ensures ok { (parent : ℕ) → IsHere arena.old.bytes parent → plan ≡ planned (heap_of arena.old) parent →
-        IfOk result (λ cells. IsSpared arena.old.bytes arena.new.bytes parent (path_of path.now) cells.items) }
+        IfOk result (λ cells. IsSpared arena.old.bytes arena.new.bytes parent (path_of path.now)
+        (planned_sizes more) (taken (last_of more cells.items)) cells.items) }
     ensures full { (result ≡ Err ArenaFault.Full) → BINS_LIMIT < length arena.old.bytes + GROWTH_BOUND }
-    ensures space { IfErr result (λ fault. fault ≡ ArenaFault.Full → LacksRoom arena.old (sizes_of plan (map own_sizes (path_of path.now)))) }
+    ensures space { IfErr result (λ fault. fault ≡ ArenaFault.Full → LacksRoom arena.old
+        (sizes_of plan (map own_sizes (path_of path.now)) ++ planned_sizes more)) }
     ensures err { OnErr result (arena.new ≡ arena.old) }
     ensures grows { OnOk result (length arena.new.bytes ≤ length arena.old.bytes + GROWTH_BOUND) }
     ensures kept { OnOk result (length arena.old.bytes ≤ length arena.new.bytes) }
 {
-    let sizes = match sizes_for(alloc, plan, path) {
+    let sizes = match sizes_for(alloc, plan, path, more) {
         Ok(sizes) => sizes,
         Err(AllocError) => return Err(ArenaFault::Memory),
     };
@@ -253,9 +270,20 @@ fn carve_for(
     }
 }
 
-/// Makes the keys that were found missing on a path, which are some and not too many, and answers the last. All cells are carved
+/// Of the cells that were carved for keys, the one for a descriptor, where it takes one: the last.
+fn last_cell(more: Option<u32>, cells: &[u32]) -> Option<u32>
+    requires { IsSome more → 0 < length cells.now }
+    ensures { result ≡ last_of more cells.now }
+{
+    match more {
+        None => None,
+        Some(_) => Some(cells[cells.len() - 1]),
+    }
+}
+
+/// Makes the keys that were found missing on a path, each with its parent's descriptor, and answers the last. All cells are carved
 /// before the first key is made, so that only that can fail, for want of room: `Full`, `Memory`. After a fault the arena is as before.
-pub fn create_at(
+fn make_sharing(
     alloc: Global,
     arena: &mut Arena,
     reached: Reached<'_>,
@@ -266,20 +294,20 @@ pub fn create_at(
     requires place { BelongsFirst (heap_of arena.old) reached.node.offset (path_of reached.missing.now) reached.index }
     requires missing { reached.missing.now ≢ [] }
     ensures ok { (from : Node) → (path : List ℕ) → (l : LeadsTo arena.old.bytes from path reached.entry.node reached.entry.missing.now) →
-        IfOk result (λ made. IsCreated arena.old.bytes arena.new.bytes l.here.root l.here.table l.here.path from (path_of path) moment made) }
+        IfOk result (λ made. IsCreated arena.old.bytes arena.new.bytes l.here.root l.here.table l.here.path from (path_of path) None moment made) }
     ensures cells { (from : Node) → (path : List ℕ) → (l : LeadsTo arena.old.bytes from path reached.entry.node reached.entry.missing.now) →
         OnOk result (Makes (heap_of arena.old) (heap_of arena.new)
-        (create_sizes (record { bins = arena.old; root = l.here.root; tree = tree_in arena.old.bytes l.here.root }) l.here.path (path_of path))) }
+        (made_sizes (record { bins = arena.old; root = l.here.root; tree = tree_in arena.old.bytes l.here.root }) l.here.path (path_of path))) }
     ensures full { (result ≡ Err ArenaFault.Full) → BINS_LIMIT < length arena.old.bytes + GROWTH_BOUND }
     ensures space { (from : Node) → (path : List ℕ) → (l : LeadsTo arena.old.bytes from path reached.entry.node reached.entry.missing.now) →
         IfErr result (λ fault. fault ≡ ArenaFault.Full → LacksRoom arena.old
-        (create_sizes (record { bins = arena.old; root = l.here.root; tree = tree_in arena.old.bytes l.here.root }) l.here.path (path_of path))) }
+        (made_sizes (record { bins = arena.old; root = l.here.root; tree = tree_in arena.old.bytes l.here.root }) l.here.path (path_of path))) }
     ensures err { OnErr result (arena.new ≡ arena.old) }
     ensures grows { OnOk result (length arena.new.bytes ≤ length arena.old.bytes + GROWTH_BOUND) }
     ensures kept { OnOk result (length arena.old.bytes ≤ length arena.new.bytes) }
 {
     let plan = plan_insert(arena, subkeys_list(arena, reached.node.offset));
-    let cells = match carve_for(alloc, arena, plan, reached.missing) {
+    let cells = match carve_for(alloc, arena, plan, reached.missing, None) {
         Ok(cells) => cells,
         Err(fault) => return Err(fault),
     };
@@ -294,35 +322,140 @@ pub fn create_at(
     ))
 }
 
-/// Makes the keys of a path from a key on that are missing, and answers the last key and whether one was made: `Limit` by
-/// `is_limited`, `Full`, `Memory`. After a fault the arena is as before.
+/// Makes the keys that were found missing on a path, the last with a descriptor of its own and each other one with its parent's, and
+/// answers the last. It is first made as the others are, and then described. All cells are carved before the first key is made: `Full`,
+/// `Memory`. After a fault the arena is as before, and the table finds what it found.
+fn make_described(
+    alloc: Global,
+    arena: &mut Arena,
+    securities: &mut SecurityTable,
+    reached: Reached<'_>,
+    descriptor: &[u8],
+    moment: u64,
+) -> Result<Node, ArenaFault>
+    requires reached { (from : Node) × (path : List ℕ) × (l : LeadsTo arena.old.bytes from path reached.node reached.missing.now)
+        × (l.here.table ≡ securities.old) × (are_too_many (tree_in arena.old.bytes l.here.root) l.here.path (path_of path) ≡ false) }
+    requires place { BelongsFirst (heap_of arena.old) reached.node.offset (path_of reached.missing.now) reached.index }
+    requires missing { reached.missing.now ≢ [] }
+    requires descriptor { (1 ≤ length descriptor.now) × (length descriptor.now ≤ DESCRIPTOR_LIMIT) }
+    ensures ok { (from : Node) → (path : List ℕ) → (l : LeadsTo arena.old.bytes from path reached.entry.node reached.entry.missing.now) →
+        l.here.table ≡ securities.old → IfOk result (λ made.
+        IsCreated arena.old.bytes arena.new.bytes l.here.root securities.new l.here.path from (path_of path) (Some descriptor.now) moment made) }
+    ensures cells { (from : Node) → (path : List ℕ) → (l : LeadsTo arena.old.bytes from path reached.entry.node reached.entry.missing.now) →
+        l.here.table ≡ securities.old → OnOk result (Makes (heap_of arena.old) (heap_of arena.new) (create_sizes
+        (record { bins = arena.old; root = l.here.root; tree = tree_in arena.old.bytes l.here.root }) l.here.path (path_of path) (Some descriptor.now))) }
+    ensures table { OnErr result (KeepsFinds securities.old securities.new) }
+    ensures full { (result ≡ Err ArenaFault.Full) → BINS_LIMIT < length arena.old.bytes + GROWTH_BOUND }
+    ensures space { (from : Node) → (path : List ℕ) → (l : LeadsTo arena.old.bytes from path reached.entry.node reached.entry.missing.now) →
+        l.here.table ≡ securities.old → IfErr result (λ fault. fault ≡ ArenaFault.Full → LacksRoom arena.old (create_sizes
+        (record { bins = arena.old; root = l.here.root; tree = tree_in arena.old.bytes l.here.root }) l.here.path (path_of path) (Some descriptor.now))) }
+    ensures err { OnErr result (arena.new ≡ arena.old) }
+    ensures grows { OnOk result (length arena.new.bytes ≤ length arena.old.bytes + GROWTH_BOUND) }
+    ensures kept { OnOk result (length arena.old.bytes ≤ length arena.new.bytes) }
+{
+    let Ok(size) = expect(alloc, securities, descriptor) else {
+        return Err(ArenaFault::Memory);
+    };
+    let plan = plan_insert(arena, subkeys_list(arena, reached.node.offset));
+    let cells = match carve_for(alloc, arena, plan, reached.missing, size) {
+        Ok(cells) => cells,
+        Err(fault) => {
+            forget(securities, size, descriptor);
+            return Err(fault);
+        }
+    };
+    let node = make_all(
+        arena,
+        reached.node,
+        reached.index,
+        plan,
+        reached.missing,
+        &cells,
+        moment,
+    );
+    let cell = last_cell(size, &cells);
+    describe(arena, securities, node.offset, cell, descriptor, moment);
+    Ok(node)
+}
+
+/// Makes the keys that were found missing on a path, which are some and not too many, and answers the last: with the descriptor that
+/// is given, or else with its parent's, as each other one. `Full`, `Memory`: then the arena is as before, and the table finds what it
+/// found.
+pub fn create_at(
+    alloc: Global,
+    arena: &mut Arena,
+    securities: &mut SecurityTable,
+    reached: Reached<'_>,
+    given: Option<&[u8]>,
+    moment: u64,
+) -> Result<Node, ArenaFault>
+    requires reached { (from : Node) × (path : List ℕ) × (l : LeadsTo arena.old.bytes from path reached.node reached.missing.now)
+        × (l.here.table ≡ securities.old) × (are_too_many (tree_in arena.old.bytes l.here.root) l.here.path (path_of path) ≡ false) }
+    requires place { BelongsFirst (heap_of arena.old) reached.node.offset (path_of reached.missing.now) reached.index }
+    requires missing { reached.missing.now ≢ [] }
+    requires given { IfSome given (λ descriptor. (1 ≤ length descriptor.now) × (length descriptor.now ≤ DESCRIPTOR_LIMIT)) }
+    ensures ok { (from : Node) → (path : List ℕ) → (l : LeadsTo arena.old.bytes from path reached.entry.node reached.entry.missing.now) →
+        l.here.table ≡ securities.old → IfOk result (λ made.
+        IsCreated arena.old.bytes arena.new.bytes l.here.root securities.new l.here.path from (path_of path)
+        (option_map (λ descriptor. descriptor.now) given.entry) moment made) }
+    ensures cells { (from : Node) → (path : List ℕ) → (l : LeadsTo arena.old.bytes from path reached.entry.node reached.entry.missing.now) →
+        l.here.table ≡ securities.old → OnOk result (Makes (heap_of arena.old) (heap_of arena.new) (create_sizes
+        (record { bins = arena.old; root = l.here.root; tree = tree_in arena.old.bytes l.here.root }) l.here.path (path_of path)
+        (option_map (λ descriptor. descriptor.now) given.entry))) }
+    ensures table { OnErr result (KeepsFinds securities.old securities.new) }
+    ensures full { (result ≡ Err ArenaFault.Full) → BINS_LIMIT < length arena.old.bytes + GROWTH_BOUND }
+    ensures space { (from : Node) → (path : List ℕ) → (l : LeadsTo arena.old.bytes from path reached.entry.node reached.entry.missing.now) →
+        l.here.table ≡ securities.old → IfErr result (λ fault. fault ≡ ArenaFault.Full → LacksRoom arena.old (create_sizes
+        (record { bins = arena.old; root = l.here.root; tree = tree_in arena.old.bytes l.here.root }) l.here.path (path_of path)
+        (option_map (λ descriptor. descriptor.now) given.entry))) }
+    ensures err { OnErr result (arena.new ≡ arena.old) }
+    ensures grows { OnOk result (length arena.new.bytes ≤ length arena.old.bytes + GROWTH_BOUND) }
+    ensures kept { OnOk result (length arena.old.bytes ≤ length arena.new.bytes) }
+{
+    match given {
+        None => make_sharing(alloc, arena, reached, moment),
+        Some(descriptor) => {
+            make_described(alloc, arena, securities, reached, descriptor, moment)
+        }
+    }
+}
+
+/// Makes the keys of a path from a key on that are missing, and answers the last key and whether one was made; the last one made gets
+/// the descriptor that is given, if one is: `Limit` by `is_limited`, `Full`, `Memory`. After a fault the arena is as before, and the
+/// table finds what it found.
 pub fn create(
     alloc: Global,
     arena: &mut Arena,
+    securities: &mut SecurityTable,
     from: Node,
     path: &[u8],
+    given: Option<&[u8]>,
     moment: u64,
 ) -> Result<Created, TreeFault>
-    requires here { (t : IsHere arena.old.bytes from.offset) × (from.depth ≡ length t.path) }
+    requires here { (t : IsHere arena.old.bytes from.offset) × (t.table ≡ securities.old) × (from.depth ≡ length t.path) }
     requires path { is_path path.now ≡ true }
-    ensures ok { (t : IsHere arena.old.bytes from.offset) → from.depth ≡ length t.path →
-        IfOk result (λ made. IsCreated arena.old.bytes arena.new.bytes t.root t.table t.path from
-        (path_of path.now) moment made.node) }
+    requires given { IfSome given (λ descriptor. (1 ≤ length descriptor.now) × (length descriptor.now ≤ DESCRIPTOR_LIMIT)) }
+    ensures ok { (t : IsHere arena.old.bytes from.offset) → t.table ≡ securities.old → from.depth ≡ length t.path →
+        IfOk result (λ made. IsCreated arena.old.bytes arena.new.bytes t.root securities.new t.path from
+        (path_of path.now) (option_map (λ descriptor. descriptor.now) given.entry) moment made.node) }
     ensures new { (t : IsHere arena.old.bytes from.offset) →
         IfOk result (λ made. (made.is_new ≡ true)
         ↔ (missing (tree_in arena.old.bytes t.root) t.path (path_of path.now) ≢ [])) }
-    ensures cells { (t : IsHere arena.old.bytes from.offset) → from.depth ≡ length t.path →
+    ensures cells { (t : IsHere arena.old.bytes from.offset) → t.table ≡ securities.old → from.depth ≡ length t.path →
         OnOk result (Makes (heap_of arena.old) (heap_of arena.new)
-        (create_sizes (record { bins = arena.old; root = t.root; tree = tree_in arena.old.bytes t.root }) t.path (path_of path.now))) }
+        (create_sizes (record { bins = arena.old; root = t.root; tree = tree_in arena.old.bytes t.root }) t.path (path_of path.now)
+        (option_map (λ descriptor. descriptor.now) given.entry))) }
     ensures same { IfOk result (λ made. made.is_new ≡ false → arena.new ≡ arena.old) }
     ensures limit { (t : IsHere arena.old.bytes from.offset) → from.depth ≡ length t.path →
         ((result ≡ Err TreeFault.Limit) ↔ AreTooMany (tree_in arena.old.bytes t.root) t.path (path_of path.now)) }
     ensures full { (result ≡ Err TreeFault.Full) → BINS_LIMIT < length arena.old.bytes + GROWTH_BOUND }
-    ensures space { (t : IsHere arena.old.bytes from.offset) → from.depth ≡ length t.path →
+    ensures space { (t : IsHere arena.old.bytes from.offset) → t.table ≡ securities.old → from.depth ≡ length t.path →
         IfErr result (λ fault. fault ≡ TreeFault.Full → LacksRoom arena.old
-        (create_sizes (record { bins = arena.old; root = t.root; tree = tree_in arena.old.bytes t.root }) t.path (path_of path.now))) }
+        (create_sizes (record { bins = arena.old; root = t.root; tree = tree_in arena.old.bytes t.root }) t.path (path_of path.now)
+        (option_map (λ descriptor. descriptor.now) given.entry))) }
     ensures others { IfErr result (λ fault. (fault ≡ TreeFault.Limit) ⊎ ((fault ≡ TreeFault.Full) ⊎ (fault ≡ TreeFault.Memory))) }
     ensures err { OnErr result (arena.new ≡ arena.old) }
+    ensures table { OnErr result (KeepsFinds securities.old securities.new) }
     ensures grows { OnOk result (length arena.new.bytes ≤ length arena.old.bytes + GROWTH_BOUND) }
     ensures kept { OnOk result (length arena.old.bytes ≤ length arena.new.bytes) }
 {
@@ -336,7 +469,7 @@ pub fn create(
     if is_limited(arena, reached) {
         return Err(TreeFault::Limit);
     }
-    match create_at(alloc, arena, reached, moment) {
+    match create_at(alloc, arena, securities, reached, given, moment) {
         Ok(node) => Ok(Created { node, is_new: true }),
         Err(fault) => Err(TreeFault::from(fault)),
     }

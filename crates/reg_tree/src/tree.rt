@@ -1,12 +1,12 @@
 ghost use Rattle.std.specs.Prelude.{true, false, ◌≡◌, ◌↔◌, ◌⊎◌, ◌≢◌, ◌≤◌, ◌<◌, ◌+◌, ◌++◌, ℕ, List, [], length, Err, Some, None, OnOk, OnErr, IfOk, IfErr};
-ghost use Rattle.std.specs.Prelude.{IsSome, IfSome, MatchOption, slice_get, get_or};
+ghost use Rattle.std.specs.Prelude.{IsSome, IfSome, MatchOption, slice_get, get_or, option_map};
 ghost use Rattle.std.specs.FinMap.{insert, empty, get};
 ghost use Rattle.reg_names.specs.declared.TheConstants.{KEY_NAME_LIMIT, PATH_LIMIT, VALUE_NAME_LIMIT};
 ghost use Rattle.reg_names.specs.Names.{is_key_name, is_value_name, is_path, path_of};
 ghost use Rattle.reg_heap.specs.declared.limits.TheConstants.{BINS_LIMIT, DATA_LIMIT, DESCRIPTOR_LIMIT, GROWTH_BOUND, VALUES_LIMIT};
 ghost use Rattle.reg_heap.specs.Paths.{Path, path_cmp, Rec, Member, children_of};
 ghost use Rattle.reg_heap.specs.Members.{value_named, index_named};
-ghost use Rattle.reg_heap.specs.Edits.{edited, with_value, without_value, values_at, folded_path, are_too_many, without_key, IsKept};
+ghost use Rattle.reg_heap.specs.Edits.{edited, with_descriptor, with_value, without_value, values_at, folded_path, are_too_many, without_key, IsKept};
 ghost use Rattle.reg_heap.specs.Edits.{may_not_go, missing, last_there};
 ghost use Rattle.reg_arena.specs.Arena.{IsSound, heap_of};
 ghost use Rattle.reg_arena.specs.NewBin.{IsBinSize};
@@ -15,7 +15,9 @@ ghost use Rattle.reg_values.specs.ValueLists.{Makes, Tells};
 
 use crate::cells::carve_two;
 use crate::key::new_root;
-use crate::{Created, Node, Reached, TreeFault, ValueFound, find, make, read, unmake, values};
+use crate::{
+    Created, Node, Reached, TreeFault, ValueFound, find, make, read, security, unmake, values,
+};
 use reg_arena::{Arena, ArenaFault, cell_size};
 use reg_records::put_nk;
 use reg_security::SecurityTable;
@@ -46,7 +48,7 @@ impl Model for Tree {
 
 impl Tree {
     ghost use Rattle.reg_tree.specs.TreeKeys.{made_root, IsWholeTree, IsAt, IsThere, IsResolved, KeepsNodes, MakesKeys};
-    ghost use Rattle.reg_tree.specs.CellSizes.{create_sizes, value_sizes, LacksRoom};
+    ghost use Rattle.reg_tree.specs.CellSizes.{create_sizes, security_sizes, value_sizes, LacksRoom};
     ghost use Rattle.reg_tree.specs.NewHive.{IsNewHive};
     ghost use Rattle.reg_tree.specs.KeyLengths.{ChangesLengths, KeepsLengths, NotesMade, lengths_at, no_lengths, with_value_lengths, with_first_length};
     ghost use Rattle.reg_tree.specs.ValueAnswers.{IsFound, without_value_at};
@@ -369,13 +371,15 @@ impl Tree {
         values::delete(&mut self.arena, node.offset, name, moment)
     }
 
-    /// Makes the keys of a path from a key that are missing, each with the name as given and its parent's descriptor, and sets
-    /// the time of each and of the first one's parent. Answers the last key of the path, and whether a key was made: if none
-    /// was, nothing changed. After a fault the tree is as before.
+    /// Makes the keys of a path from a key that are missing, each with the name as given, and sets the time of each and of the
+    /// first one's parent. The last one made has the descriptor that is given, of 1 to 65,535 bytes, if one is; each other one has
+    /// its parent's. Answers the last key of the path, and whether a key was made: if none was, nothing changed. After a fault the
+    /// tree is as before.
     ///
     /// The four largest lengths of a key made are 0, but for that of its subkeys' names where the next is made below it.
     ///
-    /// The cells that come are a key node's for each key made, of its size, and its parent's list's, where that needs a cell.
+    /// The cells that come are a key node's for each key made, of its size, and its parent's list's, where that needs a cell; and
+    /// one for the descriptor that is given, where no key has it yet.
     ///
     /// `Limit` where a key is missing and more than 32 are, or the path has more than 512 names from the root on, or the
     /// first missing key's parent has 500 subkeys; `Full` only where no free cell has room for all the cells that it takes
@@ -386,13 +390,17 @@ impl Tree {
         alloc: Global,
         from: Node,
         path: &[u8],
+        given: Option<&[u8]>,
         moment: u64,
     ) -> Result<Created, TreeFault>
         requires from { IsThere self.old from }
         requires path { is_path path.now ≡ true }
-        ensures ok { (p : Path) → IsAt self.old p from → IfOk result (λ made. MakesKeys self.old self.new p (path_of path.now) moment made) }
+        requires given { IfSome given (λ descriptor. (1 ≤ length descriptor.now) × (length descriptor.now ≤ DESCRIPTOR_LIMIT)) }
+        ensures ok { (p : Path) → IsAt self.old p from → IfOk result (λ made. MakesKeys self.old self.new p (path_of path.now)
+            (option_map (λ descriptor. descriptor.now) given.entry) moment made) }
         ensures cells { (p : Path) → IsAt self.old p from →
-            OnOk result (Makes (heap_of self.old.bins) (heap_of self.new.bins) (create_sizes self.old p (path_of path.now))) }
+            OnOk result (Makes (heap_of self.old.bins) (heap_of self.new.bins) (create_sizes self.old p (path_of path.now)
+            (option_map (λ descriptor. descriptor.now) given.entry))) }
         ensures lengths { (p : Path) → IsAt self.old p from →
             OnOk result (ChangesLengths self.old self.new (last_there self.old.tree p (path_of path.now))
             (with_first_length (missing self.old.tree p (path_of path.now)))) }
@@ -402,13 +410,22 @@ impl Tree {
         ensures limit { (p : Path) → IsAt self.old p from → ((result ≡ Err TreeFault.Limit) ↔ (are_too_many self.old.tree p (path_of path.now) ≡ true)) }
         ensures full { (result ≡ Err TreeFault.Full) → BINS_LIMIT < length self.old.bins.bytes + GROWTH_BOUND }
         ensures space { (p : Path) → IsAt self.old p from →
-            IfErr result (λ fault. fault ≡ TreeFault.Full → LacksRoom self.old.bins (create_sizes self.old p (path_of path.now))) }
+            IfErr result (λ fault. fault ≡ TreeFault.Full → LacksRoom self.old.bins (create_sizes self.old p (path_of path.now)
+            (option_map (λ descriptor. descriptor.now) given.entry))) }
         ensures others { IfErr result (λ fault. (fault ≡ TreeFault.Limit) ⊎ ((fault ≡ TreeFault.Full) ⊎ (fault ≡ TreeFault.Memory))) }
         ensures err { OnErr result (self.new ≡ self.old) }
         ensures grows { OnOk result (length self.new.bins.bytes ≤ length self.old.bins.bytes + GROWTH_BOUND) }
         ensures kept { OnOk result (length self.old.bins.bytes ≤ length self.new.bins.bytes) }
     {
-        make::create(alloc, &mut self.arena, from, path, moment)
+        make::create(
+            alloc,
+            &mut self.arena,
+            &mut self.securities,
+            from,
+            path,
+            given,
+            moment,
+        )
     }
 
     /// Whether making the keys that `reach` found missing is refused for `Limit`: by their number, the length of the path, or the
@@ -430,16 +447,20 @@ impl Tree {
         &mut self,
         alloc: Global,
         reached: Reached<'_>,
+        given: Option<&[u8]>,
         moment: u64,
     ) -> Result<Node, ArenaFault>
         requires reached { (from : Node) × (path : List ℕ) × IsWalkedTo self.old from path reached × IsThere self.old from }
         requires missing { reached.missing.now ≢ [] }
+        requires given { IfSome given (λ descriptor. (1 ≤ length descriptor.now) × (length descriptor.now ≤ DESCRIPTOR_LIMIT)) }
         requires few { (from : Node) → (path : List ℕ) → IsWalkedTo self.old from path reached → (p : Path) → IsAt self.old p from →
             are_too_many self.old.tree p (path_of path) ≡ false }
         ensures ok { (from : Node) → (path : List ℕ) → IsWalkedTo self.old from path reached.entry → (p : Path) → IsAt self.old p from →
-            IfOk result (λ node. MakesKeys self.old self.new p (path_of path) moment (record { node = node; is_new = true })) }
+            IfOk result (λ node. MakesKeys self.old self.new p (path_of path)
+            (option_map (λ descriptor. descriptor.now) given.entry) moment (record { node = node; is_new = true })) }
         ensures cells { (from : Node) → (path : List ℕ) → IsWalkedTo self.old from path reached.entry → (p : Path) → IsAt self.old p from →
-            OnOk result (Makes (heap_of self.old.bins) (heap_of self.new.bins) (create_sizes self.old p (path_of path))) }
+            OnOk result (Makes (heap_of self.old.bins) (heap_of self.new.bins) (create_sizes self.old p (path_of path)
+            (option_map (λ descriptor. descriptor.now) given.entry))) }
         ensures lengths { (from : Node) → (path : List ℕ) → IsWalkedTo self.old from path reached.entry → (p : Path) → IsAt self.old p from →
             OnOk result (ChangesLengths self.old self.new (last_there self.old.tree p (path_of path))
             (with_first_length (missing self.old.tree p (path_of path)))) }
@@ -447,12 +468,56 @@ impl Tree {
             OnOk result (NotesMade self.new (last_there self.old.tree p (path_of path)) (missing self.old.tree p (path_of path))) }
         ensures full { (result ≡ Err ArenaFault.Full) → BINS_LIMIT < length self.old.bins.bytes + GROWTH_BOUND }
         ensures space { (from : Node) → (path : List ℕ) → IsWalkedTo self.old from path reached.entry → (p : Path) → IsAt self.old p from →
-            IfErr result (λ fault. fault ≡ ArenaFault.Full → LacksRoom self.old.bins (create_sizes self.old p (path_of path))) }
+            IfErr result (λ fault. fault ≡ ArenaFault.Full → LacksRoom self.old.bins (create_sizes self.old p (path_of path)
+            (option_map (λ descriptor. descriptor.now) given.entry))) }
         ensures err { OnErr result (self.new ≡ self.old) }
         ensures grows { OnOk result (length self.new.bins.bytes ≤ length self.old.bins.bytes + GROWTH_BOUND) }
         ensures kept { OnOk result (length self.old.bins.bytes ≤ length self.new.bins.bytes) }
     {
-        make::create_at(alloc, &mut self.arena, reached, moment)
+        make::create_at(
+            alloc,
+            &mut self.arena,
+            &mut self.securities,
+            reached,
+            given,
+            moment,
+        )
+    }
+
+    /// Sets the descriptor of a key, of 1 to 65,535 bytes, and the key's time. Keys with equal descriptors share one security. After
+    /// a fault the tree is as before.
+    ///
+    /// The cell that comes is the security's, of its size, where no key has the descriptor yet. `Full` only where no free cell has
+    /// room for it and one bin more for it would pass the limit of 268,435,456 bytes; `Memory`. The bins grow by at most 1,310,720
+    /// bytes.
+    pub fn set_security(
+        &mut self,
+        alloc: Global,
+        node: Node,
+        descriptor: &[u8],
+        moment: u64,
+    ) -> Result<(), ArenaFault>
+        requires node { IsThere self.old node }
+        requires descriptor { (1 ≤ length descriptor.now) × (length descriptor.now ≤ DESCRIPTOR_LIMIT) }
+        ensures ok { (p : Path) → IsAt self.old p node →
+            OnOk result (self.new.tree ≡ edited self.old.tree p (with_descriptor descriptor.now moment)) }
+        ensures cells { OnOk result (Makes (heap_of self.old.bins) (heap_of self.new.bins) (security_sizes self.old.tree descriptor.now)) }
+        ensures nodes { OnOk result (KeepsNodes self.old self.new) }
+        ensures lengths { OnOk result (KeepsLengths self.old self.new) }
+        ensures full { (result ≡ Err ArenaFault.Full) → BINS_LIMIT < length self.old.bins.bytes + GROWTH_BOUND }
+        ensures space { IfErr result (λ fault. fault ≡ ArenaFault.Full → LacksRoom self.old.bins (security_sizes self.old.tree descriptor.now)) }
+        ensures err { OnErr result (self.new ≡ self.old) }
+        ensures grows { OnOk result (length self.new.bins.bytes ≤ length self.old.bins.bytes + GROWTH_BOUND) }
+        ensures kept { OnOk result (length self.old.bins.bytes ≤ length self.new.bins.bytes) }
+    {
+        security::set(
+            alloc,
+            &mut self.arena,
+            &mut self.securities,
+            node.offset,
+            descriptor,
+            moment,
+        )
     }
 
     /// Deletes the key to which `reach` found every name of a path that has some, with its values, and sets its parent's time. It

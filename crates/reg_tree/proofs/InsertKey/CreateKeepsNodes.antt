@@ -1,5 +1,5 @@
 -- A tree's nodes where keys were made.
-use Rattle.std.proofs.Common.{◌≡◌, ◌≢◌, ◌↔◌, ℕ, ◌≤◌, Bool, true, false, List, [], ◌++◌, map, length, sym, ap, ◌∙◌, subst, arith, length-append}
+use Rattle.std.proofs.Common.{◌≡◌, ◌≢◌, ◌↔◌, ℕ, ◌≤◌, Bool, true, false, Option, List, [], ◌++◌, map, length, refl, sym, ap, ◌∙◌, subst, arith, length-append}
 use Rattle.std.specs.Prelude.{Result, Ok, Err, OnOk, OnErr, IfOk, IfErr}
 use Rattle.reg_names.specs.declared.TheConstants.{PATH_LIMIT}
 use Rattle.reg_names.specs.Names.{folded}
@@ -16,6 +16,7 @@ use Rattle.reg_tree.specs.declared.node.Created.{Created}
 use Rattle.reg_tree.specs.declared.fault.TreeFault.{TreeFault}
 use Rattle.reg_tree.specs.TreeKeys.{Keys, tree_in, IsAt, IsThere, KeepsNodes, MakesKeys}
 use Rattle.reg_tree.specs.Internal.TreeInvariant.{TreeInvariant, IsHere}
+use Rattle.reg_tree.specs.Internal.DescriptorChange.{KeepsFinds}
 use Rattle.reg_tree.specs.Internal.KeyCreation.{IsCreated}
 use Rattle.reg_tree.proofs.Invariant.NodeLemmas.{seen_as, here_at, of_tree}
 use Rattle.reg_tree.proofs.PathWalk.PathSteps.{as-many}
@@ -32,19 +33,19 @@ on_made P Q (Ok x) f h = f x h
 on_made P Q (Err e) f h = h
 
 module _ (bins : Bins) (root : ℕ) {table : DescriptorCells} (holds : TreeInvariant bins.bytes root table) (now : Keys) (view_is : seen_as bins root ≡ now) where
-  pub from_at : (node : Node) → IsThere now node → (t : IsHere bins.bytes node.offset) × (node.depth ≡ length t.path)
-  from_at node some = (here_at bins root holds now view_is node some.0 some.1, some.1.depth)
+  pub from_at : (node : Node) → IsThere now node → (t : IsHere bins.bytes node.offset) × (t.table ≡ table) × (node.depth ≡ length t.path)
+  from_at node some = (here_at bins root holds now view_is node some.0 some.1, refl, some.1.depth)
 
   -- the cells that come
-  pub cells_created : {A E : Type 0} (h : Heap) (result : Result A E) (p : Path) (names : List (List ℕ)) →
-      OnOk result (Makes (heap_of bins) h (create_sizes (seen_as bins root) p names)) → OnOk result (Makes (heap_of now.bins) h (create_sizes now p names))
-  cells_created h result p names c = subst (λ (k : Keys). OnOk result (Makes (heap_of k.bins) h (create_sizes k p names))) view_is c
+  pub cells_created : {A E : Type 0} (h : Heap) (result : Result A E) (p : Path) (names : List (List ℕ)) (given : Option (List ℕ)) →
+      OnOk result (Makes (heap_of bins) h (create_sizes (seen_as bins root) p names given)) → OnOk result (Makes (heap_of now.bins) h (create_sizes now p names given))
+  cells_created h result p names given c = subst (λ (k : Keys). OnOk result (Makes (heap_of k.bins) h (create_sizes k p names given))) view_is c
 
   -- no room for them
-  pub room_created : {A E : Type 0} (full : E) (result : Result A E) (p : Path) (names : List (List ℕ)) →
-      IfErr result (λ fault. fault ≡ full → LacksRoom bins (create_sizes (seen_as bins root) p names)) →
-      IfErr result (λ fault. fault ≡ full → LacksRoom now.bins (create_sizes now p names))
-  room_created full result p names c = subst (λ (k : Keys). IfErr result (λ fault. fault ≡ full → LacksRoom k.bins (create_sizes k p names))) view_is c
+  pub room_created : {A E : Type 0} (full : E) (result : Result A E) (p : Path) (names : List (List ℕ)) (given : Option (List ℕ)) →
+      IfErr result (λ fault. fault ≡ full → LacksRoom bins (create_sizes (seen_as bins root) p names given)) →
+      IfErr result (λ fault. fault ≡ full → LacksRoom now.bins (create_sizes now p names given))
+  room_created full result p names given c = subst (λ (k : Keys). IfErr result (λ fault. fault ≡ full → LacksRoom k.bins (create_sizes k p names given))) view_is c
 
   -- where no key was made nothing changed
   pub same_created : (new : Bins) (result : Result Created TreeFault) → IfOk result (λ made. made.is_new ≡ false → new ≡ bins) →
@@ -52,18 +53,20 @@ module _ (bins : Bins) (root : ℕ) {table : DescriptorCells} (holds : TreeInvar
   same_created new result =
       if_ok (λ made. made.is_new ≡ false → new ≡ bins) (λ made. made.is_new ≡ false → seen_as new root ≡ now) result (λ made s none. ap (λ b. seen_as b root) (s none) ∙ view_is)
 
-  -- after a fault the tree is whole as it was
-  pub holds_after : {A E : Type 0} (P : A → Type 0) (new : Bins) (result : Result A E) → ((x : A) → P x → TreeInvariant new.bytes root table) → IfOk result P →
-      OnErr result (new ≡ bins) → TreeInvariant new.bytes root table
-  holds_after P new (Ok x) f h e = f x h
-  holds_after P new (Err fault) f h e = subst (λ (b : Bins). TreeInvariant b.bytes root table) (sym e) holds
+  -- after a fault the tree is whole as it was, and the table finds what it found
+  pub holds_after : {A E : Type 0} (P : A → Type 0) (new : Bins) (after : DescriptorCells) (result : Result A E) → ((x : A) → P x → TreeInvariant new.bytes root after) →
+      IfOk result P → OnErr result (new ≡ bins) → OnErr result (KeepsFinds table after) → TreeInvariant new.bytes root after
+  holds_after P new after (Ok x) f h e k = f x h
+  holds_after P new after (Err fault) f h e k =
+      subst (λ (b : Bins). TreeInvariant b.bytes root after) (sym e)
+      (record { keys = holds.keys; ring = holds.ring; shape = holds.shape; finds = k (heap_of bins) holds.ring holds.finds; unrooted = holds.unrooted })
 
   -- ---- a key was made, or there was none to be made
 
-  module _ (new : Bins) (from : Node) (names : List (List ℕ)) (moment : ℕ) (p : Path) (at : IsAt now p from) (node : Node)
-      (c : IsCreated bins.bytes new.bytes root table p from names moment node) where
-    tree_made : tree_in new.bytes root ≡ with_keys now.tree p names moment
-    tree_made = of_tree bins root holds now view_is (λ t. tree_in new.bytes root ≡ with_keys t p names moment) c.tree
+  module _ (new : Bins) (after : DescriptorCells) (from : Node) (names : List (List ℕ)) (given : Option (List ℕ)) (moment : ℕ) (p : Path) (at : IsAt now p from) (node : Node)
+      (c : IsCreated bins.bytes new.bytes root after p from names given moment node) where
+    tree_made : tree_in new.bytes root ≡ with_keys now.tree p names given moment
+    tree_made = of_tree bins root holds now view_is (λ t. tree_in new.bytes root ≡ with_keys t p names given moment) c.tree
 
     last_made : IsAt (seen_as new root) (p ++ map folded names) node
     last_made =
@@ -75,7 +78,7 @@ module _ (bins : Bins) (root : ℕ) {table : DescriptorCells} (holds : TreeInvar
 
     shallow_made : node.depth ≤ PATH_LIMIT
     shallow_made =
-        let s = shallow new.bytes node.offset (record { root = root; table = table; path = p ++ map folded names; holds = c.holds; at = c.offset }) in
+        let s = shallow new.bytes node.offset (record { root = root; table = after; path = p ++ map folded names; holds = c.holds; at = c.offset }) in
         let d = last_made.depth in
         omega (arith, s, d)
 
@@ -96,7 +99,7 @@ module _ (bins : Bins) (root : ℕ) {table : DescriptorCells} (holds : TreeInvar
 
     -- all of it together
     pub keys_made : (is_new : Bool) → (is_new ≡ true) ↔ (missing (tree_in bins.bytes root) p names ≢ []) →
-        MakesKeys now (seen_as new root) p names moment (record { node = node; is_new = is_new })
+        MakesKeys now (seen_as new root) p names given moment (record { node = node; is_new = is_new })
     keys_made is_new n = record {
       tree = tree_made;
       last = last_made;
@@ -107,30 +110,30 @@ module _ (bins : Bins) (root : ℕ) {table : DescriptorCells} (holds : TreeInvar
 
   -- ---- as it is answered
 
-  module _ (new : Bins) (result : Result Created TreeFault) (from : Node) (some : IsThere now from) (names : List (List ℕ)) (moment : ℕ)
-      (ok : (t : IsHere bins.bytes from.offset) → from.depth ≡ length t.path → IfOk result (λ made. IsCreated bins.bytes new.bytes t.root t.table t.path from names moment made.node))
-      (err : OnErr result (new ≡ bins)) where
+  module _ (new : Bins) (after : DescriptorCells) (result : Result Created TreeFault) (from : Node) (some : IsThere now from) (names : List (List ℕ)) (given : Option (List ℕ))
+      (moment : ℕ) (ok : (t : IsHere bins.bytes from.offset) → t.table ≡ table → from.depth ≡ length t.path →
+      IfOk result (λ made. IsCreated bins.bytes new.bytes t.root after t.path from names given moment made.node)) where
     abbrev Its : Path → Created → Type 0
-    Its p made = IsCreated bins.bytes new.bytes root table p from names moment made.node
+    Its p made = IsCreated bins.bytes new.bytes root after p from names given moment made.node
 
     its : (p : Path) → IsAt now p from → IfOk result (Its p)
-    its p at = ok (here_at bins root holds now view_is from p at) at.depth
+    its p at = ok (here_at bins root holds now view_is from p at) refl at.depth
 
-    pub holds_created : TreeInvariant new.bytes root table
-    holds_created = holds_after (Its some.0) new result (λ made c. c.holds) (its some.0 some.1) err
+    pub holds_created : OnErr result (new ≡ bins) → OnErr result (KeepsFinds table after) → TreeInvariant new.bytes root after
+    holds_created err kept = holds_after (Its some.0) new after result (λ made c. c.holds) (its some.0 some.1) err kept
 
     pub lengths_created : (p : Path) → IsAt now p from →
         OnOk result (ChangesLengths now (seen_as new root) (last_there now.tree p names) (with_first_length (missing now.tree p names)))
-    lengths_created p at = on_made (Its p) _ result (λ made c. lengths_made new from names moment p at made.node c) (its p at)
+    lengths_created p at = on_made (Its p) _ result (λ made c. lengths_made new after from names given moment p at made.node c) (its p at)
 
     pub noted_created : (p : Path) → IsAt now p from → OnOk result (NotesMade (seen_as new root) (last_there now.tree p names) (missing now.tree p names))
-    noted_created p at = on_made (Its p) _ result (λ made c. noted_made new from names moment p at made.node c) (its p at)
+    noted_created p at = on_made (Its p) _ result (λ made c. noted_made new after from names given moment p at made.node c) (its p at)
 
     pub keys_created : (new_is : (t : IsHere bins.bytes from.offset) → IfOk result (λ made. (made.is_new ≡ true) ↔ (missing (tree_in bins.bytes t.root) t.path names ≢ [])))
-        → (p : Path) → IsAt now p from → IfOk result (λ made. MakesKeys now (seen_as new root) p names moment made)
+        → (p : Path) → IsAt now p from → IfOk result (λ made. MakesKeys now (seen_as new root) p names given moment made)
     keys_created new_is p at = by result (its p at) (new_is (here_at bins root holds now view_is from p at))
       where
         by : (r : Result Created TreeFault) → IfOk r (Its p) → IfOk r (λ made. (made.is_new ≡ true) ↔ (missing (tree_in bins.bytes root) p names ≢ [])) →
-            IfOk r (λ made. MakesKeys now (seen_as new root) p names moment made)
-        by (Ok made) c n = keys_made new from names moment p at made.node c made.is_new n
+            IfOk r (λ made. MakesKeys now (seen_as new root) p names given moment made)
+        by (Ok made) c n = keys_made new after from names given moment p at made.node c made.is_new n
         by (Err fault) c n = c

@@ -1,7 +1,7 @@
 -- The keys of a path made where they are missing: what is there already, and what stands at the end.
 use Rattle.std.proofs.Common.{◌≡◌, ◌≢◌, ◌↔◌, ℕ, ◌+◌, ◌≤◌, ◌<◌, ◌⊎◌, inl, inr, true, false, cond, Option, Some, None, is_some, List, [], ◌∷◌, ◌++◌, map, length, refl, sym, ap, ◌∙◌, subst}
-use Rattle.std.proofs.Common.{arith, length-append, IsSome}
-use Rattle.std.specs.Option.{option_map, option_and_then}
+use Rattle.std.proofs.Common.{arith, length-append}
+use Rattle.std.specs.Option.{option_and_then}
 use Rattle.std.proofs.lemmas.Bool.{false≢true, cases_lt}
 use Rattle.std.proofs.lemmas.List.{append-nil, append_assoc, map-append}
 use Rattle.std.proofs.lemmas.Option.{none-some, same_Some}
@@ -9,40 +9,24 @@ use Rattle.reg_names.specs.declared.TheConstants.{PATH_LIMIT}
 use Rattle.reg_names.specs.Names.{folded, path_of}
 use Rattle.reg_heap.specs.declared.limits.TheConstants.{LEAF_LIMIT, MADE_LIMIT}
 use Rattle.reg_heap.specs.Paths.{Path, Tree, children_of}
-use Rattle.reg_heap.specs.Edits.{child_path, has_child, with_key, with_keys, missing, last_there, are_too_many}
-use Rattle.reg_heap.specs.Heaps.{Heap, CellFrame}
-use Rattle.reg_heap.specs.Kinds.{times}
-use Rattle.reg_arena.specs.Arena.{Bins}
+use Rattle.reg_heap.specs.Edits.{child_path, has_child, if_last, with_key, with_keys, missing, last_there, are_too_many}
+use Rattle.reg_heap.specs.Heaps.{Heap}
 use Rattle.reg_arena.specs.Cells.{cell_at}
 use Rattle.reg_records.specs.KeyNodes.{KeyRecord, key_at}
-use Rattle.reg_records.specs.KeySecurities.{KeySecurityRecord}
-use Rattle.reg_shape.specs.Whole.{descriptor_at}
 use Rattle.reg_shape.specs.PathLookup.{key_offset_at, subkey_named}
 use Rattle.reg_shape.proofs.Lookup.LookupOfShape.{offset-none, offset-more, offset-append}
-use Rattle.reg_security.specs.Rings.{DescriptorCells, Finds}
-use Rattle.reg_security.proofs.TableCells.{finds-same}
+use Rattle.reg_security.specs.Rings.{DescriptorCells}
 use Rattle.reg_tree.specs.declared.node.Node.{Node as TreeNode}
-use Rattle.reg_index.specs.Subkeys.{KeepsCells}
-use Rattle.reg_values.specs.ValueLists.{Makes}
-use Rattle.reg_tree.specs.TreeKeys.{Keys, tree_in}
-use Rattle.reg_records.proofs.KeyNodeCodec.{key_at-same}
-use Rattle.reg_records.proofs.KeySecurityCodec.{security_at-same}
-use Rattle.reg_shape.proofs.Wholeness.ShapeRecords.{at-most-one, allocated-is}
-use Rattle.reg_tree.specs.KeyLengths.{lengths_of, lengths_at, with_first_length}
+use Rattle.reg_tree.specs.TreeKeys.{tree_in}
+use Rattle.reg_tree.specs.KeyLengths.{lengths_at, with_first_length}
 use Rattle.reg_tree.specs.Internal.LengthChanges.{LengthsChange, MadeLengths}
-use Rattle.reg_tree.specs.CellSizes.{planned, own_sizes, sizes_of, create_sizes, LacksRoom}
 use Rattle.reg_tree.specs.Internal.TreeInvariant.{TreeInvariant, IsHere}
 use Rattle.reg_tree.specs.Internal.PathWalks.{Stops, Reaches}
-use Rattle.reg_tree.specs.Internal.ReachedPlaces.{BelongsFirst}
-use Rattle.reg_tree.specs.Internal.SpareCells.{MayGrowAll, GrowsAll, IsSpared}
 use Rattle.reg_tree.specs.Internal.KeyCreation.{IsCreated, AreTooMany}
-use Rattle.reg_tree.proofs.Invariant.KeyOfTree.{spelt_is, get-none, get-some, shallow, key_there, key_is}
+use Rattle.reg_tree.proofs.Invariant.KeyOfTree.{get-none, get-some, shallow, key_is}
 use Rattle.reg_tree.proofs.DeleteKey.DeleteKeyFaults as children
 use Rattle.reg_tree.proofs.InsertKey.KeyLimits.{too_many-test}
-use Rattle.reg_tree.proofs.Invariant.CellReadings.{key-exists}
 use Rattle.reg_tree.proofs.PathWalk.PathSteps.{as-many, here_then}
-use Rattle.reg_tree.proofs.InsertKey.SpareCellsCarved.{tree-spared, offsets-spared, planned-then, belongs-then, may_grow_all}
-use Rattle.reg_tree.proofs.InsertKey.MadeCells.{made_makes}
 use Rattle.reg_tree.proofs.InsertKey.PathGrowth.{unchanged}
 use Rattle.reg_tree.proofs.InsertKey.LengthsOfMade.{none_made}
 
@@ -50,7 +34,7 @@ use Rattle.reg_tree.proofs.InsertKey.LengthsOfMade.{none_made}
 
 -- names that lead to a key that is there: none of them is missing
 pub record IsThrough (t : Tree) (p : Path) (names more : List (List ℕ)) (moment : ℕ) : Type 0 where
-  pub made : with_keys t p (names ++ more) moment ≡ with_keys t (p ++ map folded names) more moment
+  pub made : (given : Option (List ℕ)) → with_keys t p (names ++ more) given moment ≡ with_keys t (p ++ map folded names) more given moment
   pub missed : missing t p (names ++ more) ≡ missing t (p ++ map folded names) more
   pub last : last_there t p (names ++ more) ≡ last_there t (p ++ map folded names) more
 
@@ -79,7 +63,7 @@ module _ (bytes : List ℕ) (root : ℕ) {table : DescriptorCells} (holds : Tree
 
   pub through : (names : List (List ℕ)) (p : Path) (o c : ℕ) → key_offset_at h root p ≡ Some o → key_offset_at h o (map folded names) ≡ Some c → IsThrough T p names more moment
   through [] p o c e f = record {
-    made = ap (λ p. with_keys T p more moment) (sym (append-nil p));
+    made = λ given. ap (λ p. with_keys T p more given moment) (sym (append-nil p));
     missed = ap (λ p. missing T p more) (sym (append-nil p));
     last = ap (λ p. last_there T p more) (sym (append-nil p));
   }
@@ -90,7 +74,8 @@ module _ (bytes : List ℕ) (root : ℕ) {table : DescriptorCells} (holds : Tree
       let b = one-there p name n.0 q in
       let all : child_path p name ++ map folded names ≡ p ++ folded name ∷ map folded names = append_assoc p (folded name ∷ []) (map folded names) in
       record {
-        made = ap (λ b. with_keys (cond b T (with_key T p name moment)) (child_path p name) (names ++ more) moment) b ∙ (r.made ∙ ap (λ p. with_keys T p more moment) all);
+        made = λ given. ap (λ b. with_keys (cond b T (with_key T p name (if_last (names ++ more) given) moment)) (child_path p name) (names ++ more) given moment) b
+            ∙ (r.made given ∙ ap (λ p. with_keys T p more given moment) all);
         missed = ap (λ b. cond b (missing T (child_path p name) (names ++ more)) (name ∷ names ++ more)) b ∙ (r.missed ∙ ap (λ p. missing T p more) all);
         last = ap (λ b. cond b (last_there T (child_path p name) (names ++ more)) p) b ∙ (r.last ∙ ap (λ p. last_there T p more) all);
       }
@@ -113,26 +98,6 @@ module _ (bytes : List ℕ) (root : ℕ) {table : DescriptorCells} (holds : Tree
   last-here [] p o e s = refl
   last-here (name ∷ names) p o e s = ap (λ b. cond b (last_there T (child_path p name) names) p) (none-there p name o e s)
 
--- ---- the largest lengths where cells were carved
-
-carved_lengths : (old mid : List ℕ) (root : ℕ) {table : DescriptorCells} → TreeInvariant old root table → (spare : List ℕ) → CellFrame (cell_at old) (cell_at mid) (λ z. 0) (λ z. times z spare) →
-    (q : Path) (o : ℕ) → key_offset_at (cell_at old) root q ≡ Some o → lengths_at (cell_at mid) o ≡ lengths_at (cell_at old) o
-carved_lengths old mid root {table} holds spare come q o e =
-    let there = key-exists (cell_at old) o (key_there old o (record { root = root; table = table; path = q; holds = holds; at = e })) in
-    let one = allocated-is (cell_at old) o there in
-    let most = at-most-one (cell_at mid) o in
-    let count = come.count o in
-    ap (option_map lengths_of) (key_at-same (cell_at old) (cell_at mid) o (come.same o refl (omega (arith, one, most, count))))
-
--- the securities describe what they did
-carved_described : (old mid : List ℕ) (root : ℕ) {table : DescriptorCells} (holds : TreeInvariant old root table) (spare : List ℕ) →
-    CellFrame (cell_at old) (cell_at mid) (λ z. 0) (λ z. times z spare) → (z : ℕ) → 0 < times z holds.ring → descriptor_at (cell_at mid) z ≡ descriptor_at (cell_at old) z
-carved_described old mid root holds spare come z l =
-    let x = holds.shape.exact z in
-    let most = at-most-one (cell_at mid) z in
-    let count = come.count z in
-    ap (option_map (λ (s : KeySecurityRecord). s.descriptor)) (security_at-same (cell_at old) (cell_at mid) z (come.same z refl (omega (arith, x, most, count, l))))
-
 -- ---- numbers within their limits
 
 within : (most deep full made long below : ℕ) → (((most < made) ⊎ ((deep < long) ⊎ (full ≤ below))) → ⊥) → (made ≤ most) × (long ≤ deep) × (below < full)
@@ -145,20 +110,20 @@ within most deep full made long below none = (
 -- ---- a path reached as far as it is there
 
 module _ (old : List ℕ) (from : TreeNode) (t : IsHere old from.offset) (path : List ℕ) (parent : TreeNode) (rest : List ℕ) (r : Reaches (cell_at old) from path parent rest) (moment : ℕ) where
-  abbrev names : List (List ℕ)
+  abbrev pub names : List (List ℕ)
   names = path_of path
 
-  abbrev left : List (List ℕ)
+  abbrev pub left : List (List ℕ)
   left = path_of rest
 
-  abbrev passed : List (List ℕ)
+  abbrev pub passed : List (List ℕ)
   passed = r.passes.names
 
   -- the last key that is there
   abbrev pub parent_here : IsHere old parent.offset
   parent_here = here_then old from t path parent rest r.passes
 
-  abbrev tree : Tree
+  abbrev pub tree : Tree
   tree = tree_in old t.root
 
   way : IsThrough tree t.path passed left moment
@@ -174,23 +139,23 @@ module _ (old : List ℕ) (from : TreeNode) (t : IsHere old from.offset) (path :
   pub last-is : last_there tree t.path names ≡ t.path ++ map folded passed
   last-is = ap (last_there tree t.path) r.passes.parts ∙ (way.last ∙ last-here old t.root t.holds left moment left (t.path ++ map folded passed) parent.offset parent-at r.stops)
 
-  with-left : with_keys tree t.path names moment ≡ with_keys tree (t.path ++ map folded passed) left moment
-  with-left = ap (λ ns. with_keys tree t.path ns moment) r.passes.parts ∙ way.made
+  pub with-left : (given : Option (List ℕ)) → with_keys tree t.path names given moment ≡ with_keys tree (t.path ++ map folded passed) left given moment
+  with-left given = ap (λ ns. with_keys tree t.path ns given moment) r.passes.parts ∙ way.made given
 
-  all-names : (t.path ++ map folded passed) ++ map folded left ≡ t.path ++ map folded names
+  pub all-names : (t.path ++ map folded passed) ++ map folded left ≡ t.path ++ map folded names
   all-names =
       append_assoc t.path (map folded passed) (map folded left)
       ∙ ap (λ ns. t.path ++ ns) (sym (map-append folded passed left) ∙ ap (map folded) (sym r.passes.parts))
 
-  number : length names ≡ length passed + length left
+  pub number : length names ≡ length passed + length left
   number = ap length r.passes.parts ∙ length-append passed left
 
   -- ---- all are there
 
-  pub created_none : left ≡ [] → IsCreated old old t.root t.table t.path from names moment parent
-  created_none e = record {
-    holds = t.holds;
-    tree = sym (with-left ∙ ap (λ ns. with_keys tree (t.path ++ map folded passed) ns moment) e);
+  pub created_none : (table : DescriptorCells) → t.table ≡ table → (given : Option (List ℕ)) → left ≡ [] → IsCreated old old t.root table t.path from names given moment parent
+  created_none table same given e = record {
+    holds = subst (TreeInvariant old t.root) same t.holds;
+    tree = sym (with-left given ∙ ap (λ ns. with_keys tree (t.path ++ map folded passed) ns given moment) e);
     offset = subst (λ p. key_offset_at (cell_at old) t.root p ≡ Some parent.offset) (sym (append-nil (t.path ++ map folded passed)) ∙
         (ap (λ ns. (t.path ++ map folded passed) ++ map folded ns) (sym e) ∙ all-names)) parent-at;
     depth = (let d = r.passes.depth in let n = number in let z = ap length e in omega (arith, d, n, z));
@@ -259,91 +224,3 @@ module _ (old : List ℕ) (from : TreeNode) (t : IsHere old from.offset) (path :
       let m = as-many passed in
       let e = r.passes.depth in
       omega (arith, s, a, m, e, d)
-
-  -- ---- they are made
-
-  module _ (depth : from.depth ≡ length t.path) (mid : List ℕ) (spare : List ℕ) (s : IsSpared old mid parent.offset left spare) (short : parent.depth + length left ≤ PATH_LIMIT)
-      (few : (k : KeyRecord) → key_at (cell_at old) parent.offset ≡ Some k → k.fields.subkeys < LEAF_LIMIT) where
-    deep : length parent_here.path + length left ≤ PATH_LIMIT
-    unfolding here_then
-    deep = let d = r.passes.depth in let a = length-append t.path (map folded passed) in let m = as-many passed in omega (arith, d, a, m, depth, short)
-
-    missing-first : (name : List ℕ) (others : List (List ℕ)) → left ≡ name ∷ others → subkey_named (cell_at old) (folded name) parent.offset ≡ None
-    missing-first name others e = subst (λ ns. Stops (cell_at old) parent.offset ns) e r.stops
-
-    -- what the list takes, and where the first name belongs, are what they were
-    pub plan_then : planned (cell_at mid) parent.offset ≡ planned (cell_at old) parent.offset
-    plan_then = planned-then old mid parent parent_here left spare s missing-first deep few
-
-    pub place_then : (index : ℕ) → BelongsFirst (cell_at old) parent.offset left index → BelongsFirst (cell_at mid) parent.offset left index
-    place_then index place name others e = belongs-then old mid parent parent_here left spare s missing-first deep few name index (place name others e)
-
-    pub may_make : MayGrowAll mid parent left spare
-    may_make = may_grow_all old mid parent parent_here left spare s missing-first deep few
-
-    module _ (new : List ℕ) (made : TreeNode)
-        (grown : GrowsAll (cell_at mid) (cell_at new) may_make.growing.root may_make.growing.path may_make.growing.keys may_make.growing.ring parent
-        made left moment) where
-      pub created : IsCreated old new t.root t.table t.path from names moment made
-      unfolding may_make may_grow_all here_then
-      created =
-          let h : TreeInvariant new t.root t.table = record { keys = grown.now; ring = t.holds.ring; shape = grown.shape; finds = finds-now; unrooted = grown.unrooted } in
-          record {
-            holds = h;
-            tree = spelt_is new t.root h
-                ∙ (grown.tree
-                ∙ (ap (λ (tree : Tree). with_keys tree (t.path ++ map folded passed) left moment)
-                (tree-spared (cell_at old) (cell_at mid) t.root t.holds.keys t.holds.ring spare t.holds.shape s.come ∙
-                sym (spelt_is old t.root t.holds))
-                ∙ sym with-left));
-            offset = subst (λ p. key_offset_at (cell_at new) t.root p ≡ Some made.offset) all-names grown.offset;
-            depth = (let d = r.passes.depth in let n = number in let g = grown.depth in omega (arith, d, n, g));
-            keeps = λ q o e. grown.keeps q o (offsets-spared (cell_at old) (cell_at mid) t.root t.holds.keys t.holds.ring spare t.holds.shape s.come q ∙ e);
-            lengths = subst (λ p. LengthsChange (cell_at old) (cell_at new) t.root p (with_first_length (missing tree t.path names))) (sym last-is)
-                (subst (λ ns. LengthsChange (cell_at old) (cell_at new) t.root (t.path ++ map folded passed) (with_first_length ns)) (sym missing-are)
-                (record {
-                  here = λ o e. grown.lengths.here o (then-at (t.path ++ map folded passed) o e)
-                      ∙ ap (option_map (with_first_length left)) (carved_lengths old mid t.root t.holds spare s.come (t.path ++ map folded passed) o e);
-                  others = λ q o n e. grown.lengths.others q o n (then-at q o e) ∙ carved_lengths old mid t.root t.holds spare s.come q o e;
-                }));
-            noted = subst (λ p. MadeLengths (cell_at new) t.root p (missing tree t.path names)) (sym last-is)
-                (subst (MadeLengths (cell_at new) t.root (t.path ++ map folded passed)) (sym missing-are) grown.noted);
-          }
-        where
-          then-at : (q : Path) (o : ℕ) → key_offset_at (cell_at old) t.root q ≡ Some o → key_offset_at (cell_at mid) t.root q ≡ Some o
-          then-at q o e = offsets-spared (cell_at old) (cell_at mid) t.root t.holds.keys t.holds.ring spare t.holds.shape s.come q ∙ e
-
-          finds-now : Finds t.table (cell_at new) t.holds.ring
-          finds-now = finds-same t.table (cell_at old) (cell_at new) t.holds.ring t.holds.finds (λ z l. grown.described z l ∙ carved_described old mid t.root t.holds spare s.come z l)
-
--- ---- the cells that come
-
-module _ (bins : Bins) (from : TreeNode) (t : IsHere bins.bytes from.offset) (path : List ℕ) (parent : TreeNode) (rest : List ℕ)
-    (r : Reaches (cell_at bins.bytes) from path parent rest) (moment : ℕ) where
-  abbrev seen : Keys
-  seen = record { bins = bins; root = t.root; tree = tree_in bins.bytes t.root }
-
-  abbrev heap : Heap
-  heap = cell_at bins.bytes
-
-  pub created_sizes : create_sizes seen t.path (path_of path) ≡ sizes_of (planned heap parent.offset) (map own_sizes (path_of rest))
-  unfolding create_sizes
-  created_sizes =
-      ap (λ p. sizes_of (option_and_then (planned heap) (key_offset_at heap t.root p)) (map own_sizes (missing seen.tree t.path (path_of path))))
-      (last-is bins.bytes from t path parent rest r moment)
-      ∙ (ap (λ o. sizes_of (option_and_then (planned heap) o) (map own_sizes (missing seen.tree t.path (path_of path)))) (parent-at bins.bytes from t path parent rest r moment)
-      ∙ ap (λ names. sizes_of (planned heap parent.offset) (map own_sizes names)) (missing-are bins.bytes from t path parent rest r moment))
-
-  pub no_cells : path_of rest ≡ [] → Makes heap heap (create_sizes seen t.path (path_of path))
-  no_cells e =
-      subst (Makes heap heap) (sym (created_sizes ∙ ap (λ names. sizes_of (planned heap parent.offset) (map own_sizes names)) e))
-      (record { offsets = []; sizes_are = refl; once = λ z. omega arith; fresh = λ z l. absurd (omega (arith, l)); only = λ z none there. absurd (false≢true (sym (ap is_some none) ∙ there)) })
-
-  pub created_cells : (mid new spare : List ℕ) → IsSpared bins.bytes mid parent.offset (path_of rest) spare → KeepsCells (cell_at mid) (cell_at new) →
-      ((z : ℕ) → 0 < times z spare → IsSome (cell_at new z)) → Makes heap (cell_at new) (create_sizes seen t.path (path_of path))
-  created_cells mid new spare s keeps stay = subst (Makes heap (cell_at new)) (sym created_sizes) (made_makes bins.bytes mid new parent.offset (path_of rest) spare s keeps stay)
-
-  pub created_room : {plan : Option ℕ} → plan ≡ planned heap parent.offset → LacksRoom bins (sizes_of plan (map own_sizes (path_of rest))) →
-      LacksRoom bins (create_sizes seen t.path (path_of path))
-  created_room plan_is lacks =
-      subst (LacksRoom bins) (ap (λ plan. sizes_of plan (map own_sizes (path_of rest))) plan_is ∙ sym created_sizes) lacks

@@ -1,6 +1,7 @@
 -- Each end of creating the keys of a path.
-use Rattle.std.proofs.Common.{◌≡◌, ◌↔◌, ◌⊎◌, inl, inr, ℕ, ◌≤◌, Bool, true, ◌==◌, List, [], ◌∷◌, length, refl, sym, ◌∙◌, subst, arith}
-use Rattle.std.specs.Prelude.{Result, Ok, Err}
+use Rattle.std.proofs.Common.{◌≡◌, ◌↔◌, ◌⊎◌, inl, inr, ℕ, ◌≤◌, Bool, true, ◌==◌, Option, None, List, [], ◌∷◌, ◌++◌, length, refl, sym, ap, ◌∙◌, subst, arith}
+use Rattle.std.specs.Prelude.{Result, Ok, Err, OnOk, IfErr}
+use Rattle.std.proofs.lemmas.List.{append-nil}
 use Rattle.std.proofs.lemmas.Bool.Decides.{nat_tests}
 use Rattle.reg_names.specs.declared.TheConstants.{PATH_LIMIT}
 use Rattle.reg_names.specs.Names.{path_of}
@@ -13,6 +14,13 @@ use Rattle.reg_tree.specs.declared.fault.TreeFault.{TreeFault}
 use Rattle.reg_tree.specs.declared.fault.TreeFault.TheVariants.{Limit, Full, Memory}
 use Rattle.reg_tree.specs.Internal.TreeInvariant.{IsHere}
 use Rattle.reg_tree.specs.Internal.SpareCells.{IsSpared}
+use Rattle.reg_heap.specs.Heaps.{Heap}
+use Rattle.reg_heap.specs.Paths.{Path}
+use Rattle.reg_heap.specs.Edits.{missing}
+use Rattle.reg_arena.specs.Arena.{Bins}
+use Rattle.reg_values.specs.ValueLists.{Makes}
+use Rattle.reg_tree.specs.TreeKeys.{Keys}
+use Rattle.reg_tree.specs.CellSizes.{made_sizes, given_sizes, create_sizes, LacksRoom}
 use Rattle.reg_tree.proofs.Invariant.KeyOfTree.{shallow}
 
 pub from_shallow : (bytes : List ℕ) (from : Node) (t : IsHere bytes from.offset) → from.depth ≡ length t.path → from.depth ≤ PATH_LIMIT
@@ -46,5 +54,23 @@ limit_other fault (inl f) none = ((λ e. absurd (let s = same_err fault Limit e 
 limit_other fault (inr f) none = ((λ e. absurd (let s = same_err fault Limit e in cc)), λ m. absurd (none m))
 
 -- the same cells, by another name
-pub spared_as : (old mid : List ℕ) (key : ℕ) (names : List (List ℕ)) (a b : List ℕ) → a ≡ b → IsSpared old mid key names b → IsSpared old mid key names a
-spared_as old mid key names a b e s = subst (λ spare. IsSpared old mid key names spare) (sym e) s
+pub spared_as : (old mid : List ℕ) (key : ℕ) (names : List (List ℕ)) (more left a b : List ℕ) → a ≡ b → IsSpared old mid key names more left b → IsSpared old mid key names more left a
+spared_as old mid key names more left a b e s = subst (λ spare. IsSpared old mid key names more left spare) (sym e) s
+
+-- ---- the cells that come, with a descriptor that is given and without one
+
+pub none_sizes : (keys : Keys) (path : Path) (names : List (List ℕ)) (given : Option (List ℕ)) → given ≡ None → made_sizes keys path names ≡ create_sizes keys path names given
+none_sizes keys path names given e =
+    sym (append-nil (made_sizes keys path names))
+    ∙ ap (λ sizes. made_sizes keys path names ++ sizes) (sym (ap (given_sizes keys.tree (missing keys.tree path names)) e ∙ none (missing keys.tree path names)))
+  where
+    none : (names : List (List ℕ)) → given_sizes keys.tree names None ≡ []
+    none [] = refl
+    none (name ∷ names) = refl
+
+pub cells_as : {A E : Type 0} (result : Result A E) (h k : Heap) (a b : List ℕ) → a ≡ b → OnOk result (Makes h k a) → OnOk result (Makes h k b)
+cells_as result h k a b e c = subst (λ sizes. OnOk result (Makes h k sizes)) e c
+
+pub room_as : {A E : Type 0} (full : E) (result : Result A E) (bins : Bins) (a b : List ℕ) → a ≡ b → IfErr result (λ fault. fault ≡ full → LacksRoom bins a) →
+    IfErr result (λ fault. fault ≡ full → LacksRoom bins b)
+room_as full result bins a b e c = subst (λ sizes. IfErr result (λ fault. fault ≡ full → LacksRoom bins sizes)) e c

@@ -1,5 +1,5 @@
 -- Keys made below the one that a path leads to, as it is seen in the tree.
-use Rattle.std.proofs.Common.{◌≡◌, ◌≢◌, ℕ, Bool, true, false, List, [], sym, ap, ◌∙◌, subst}
+use Rattle.std.proofs.Common.{◌≡◌, ◌≢◌, ℕ, Bool, true, false, Option, List, [], refl, sym, ap, ◌∙◌, subst}
 use Rattle.std.specs.Prelude.{Result, OnOk, OnErr, IfOk}
 use Rattle.reg_names.specs.Names.{path_of}
 use Rattle.reg_heap.specs.Paths.{Path, Tree}
@@ -13,6 +13,7 @@ use Rattle.reg_tree.specs.KeyLengths.{ChangesLengths, NotesMade, with_first_leng
 use Rattle.reg_tree.specs.TreeKeys.{Keys, tree_in, IsAt, IsThere, MakesKeys}
 use Rattle.reg_tree.specs.Reaching.{IsWalkedTo}
 use Rattle.reg_tree.specs.Internal.TreeInvariant.{TreeInvariant}
+use Rattle.reg_tree.specs.Internal.DescriptorChange.{KeepsFinds}
 use Rattle.reg_tree.specs.Internal.KeyCreation.{IsCreated, LeadsTo}
 use Rattle.reg_tree.specs.Internal.PathWalks.{Reaches}
 use Rattle.reg_tree.specs.Internal.ReachedPlaces.{BelongsFirst}
@@ -44,38 +45,40 @@ module _ (bins : Bins) (root : ℕ) {table : DescriptorCells} (holds : TreeInvar
       (few : (from : Node) → (path : List ℕ) → IsWalkedTo now from path reached → (p : Path) → IsAt now p from → are_too_many now.tree p (path_of path) ≡ false) where
     -- they may be made
     pub leads_there : (from : Node) × (path : List ℕ) × (l : LeadsTo bins.bytes from path reached.node reached.missing.now)
-        × (are_too_many (tree_in bins.bytes l.here.root) l.here.path (path_of path) ≡ false)
+        × (l.here.table ≡ table) × (are_too_many (tree_in bins.bytes l.here.root) l.here.path (path_of path) ≡ false)
     leads_there = (
       there.0,
       there.1,
       leads_at there.0 there.1 there.2 there.3.0 there.3.1,
+      refl,
       ap (λ (k : Keys). are_too_many k.tree there.3.0 (path_of there.1)) view_is ∙ few there.0 there.1 there.2 there.3.0 there.3.1,
     )
 
-    module _ (new : Bins) (result : Result Node ArenaFault) (moment : ℕ)
-        (ok : (from : Node) → (path : List ℕ) → (l : LeadsTo bins.bytes from path reached.node reached.missing.now) →
-        IfOk result (λ made. IsCreated bins.bytes new.bytes l.here.root l.here.table l.here.path from (path_of path) moment made)) where
-      pub holds_made : OnErr result (new ≡ bins) → TreeInvariant new.bytes root table
-      holds_made err =
-          holds_after bins root holds now view_is (λ made. IsCreated bins.bytes new.bytes root table there.3.0 there.0 (path_of there.1) moment made) new result (λ made c. c.holds)
-          (ok there.0 there.1 (leads_at there.0 there.1 there.2 there.3.0 there.3.1)) err
+    module _ (new : Bins) (after : DescriptorCells) (result : Result Node ArenaFault) (given : Option (List ℕ)) (moment : ℕ)
+        (ok : (from : Node) → (path : List ℕ) → (l : LeadsTo bins.bytes from path reached.node reached.missing.now) → l.here.table ≡ table →
+        IfOk result (λ made. IsCreated bins.bytes new.bytes l.here.root after l.here.path from (path_of path) given moment made)) where
+      pub holds_made : OnErr result (new ≡ bins) → OnErr result (KeepsFinds table after) → TreeInvariant new.bytes root after
+      holds_made err kept =
+          holds_after bins root holds now view_is (λ made. IsCreated bins.bytes new.bytes root after there.3.0 there.0 (path_of there.1) given moment made) new after result
+          (λ made c. c.holds) (ok there.0 there.1 (leads_at there.0 there.1 there.2 there.3.0 there.3.1) refl) err kept
 
       module _ (from : Node) (path : List ℕ) (r : IsWalkedTo now from path reached) (p : Path) (at : IsAt now p from) where
         abbrev Its : Node → Type 0
-        Its made = IsCreated bins.bytes new.bytes root table p from (path_of path) moment made
+        Its made = IsCreated bins.bytes new.bytes root after p from (path_of path) given moment made
 
         its : IfOk result Its
-        its = ok from path (leads_at from path r p at)
+        its = ok from path (leads_at from path r p at) refl
 
-        pub keys_seen : reached.missing.now ≢ [] → IfOk result (λ node. MakesKeys now (seen_as new root) p (path_of path) moment (record { node = node; is_new = true }))
+        pub keys_seen : reached.missing.now ≢ [] →
+            IfOk result (λ node. MakesKeys now (seen_as new root) p (path_of path) given moment (record { node = node; is_new = true }))
         keys_seen some =
             let l = leads_at from path r p at in
             if_ok Its _ result
-            (λ node c. keys_made bins root holds now view_is new from (path_of path) moment p at node c true
+            (λ node c. keys_made bins root holds now view_is new after from (path_of path) given moment p at node c true
             (new_some bins.bytes from l.here path reached.node reached.missing.now l.reaches moment (named reached.missing.now some))) its
 
         pub lengths_seen : OnOk result (ChangesLengths now (seen_as new root) (last_there now.tree p (path_of path)) (with_first_length (missing now.tree p (path_of path))))
-        lengths_seen = on_made Its _ result (λ node c. lengths_made bins root holds now view_is new from (path_of path) moment p at node c) its
+        lengths_seen = on_made Its _ result (λ node c. lengths_made bins root holds now view_is new after from (path_of path) given moment p at node c) its
 
         pub noted_seen : OnOk result (NotesMade (seen_as new root) (last_there now.tree p (path_of path)) (missing now.tree p (path_of path)))
-        noted_seen = on_made Its _ result (λ node c. noted_made bins root holds now view_is new from (path_of path) moment p at node c) its
+        noted_seen = on_made Its _ result (λ node c. noted_made bins root holds now view_is new after from (path_of path) given moment p at node c) its

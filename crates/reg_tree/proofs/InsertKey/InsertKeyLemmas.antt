@@ -183,7 +183,7 @@ module _ (h0 h1 h2 h3 h4 : Heap) (root : ℕ) (keys : Branch Node) (ring : List 
           above-there : get (tree_of h0 keys) p ≡ Some rec_above
           above-there = keyed.rec_there h0 root keys ring spare w p parent at
 
-          pub tree-made : tree_of h4 keys_now ≡ with_key (tree_of h0 keys) p name moment
+          pub tree-made : tree_of h4 keys_now ≡ with_key (tree_of h0 keys) p name None moment
           tree-made =
               tree-hung-in-ring h0 h4 root p keys was is ring spare left (keyed.branch_is h0 root keys ring spare w p parent at) in-ring w index key made (folded name) refl refl free
               ∙ (ap (λ (t : Tree). insert t (p ++ folded name ∷ []) (made_key name (descriptor_in h0 security) moment)) (sym (edited-at (tree_of h0 keys) p rec_above (at_time moment) above-there))

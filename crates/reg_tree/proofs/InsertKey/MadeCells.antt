@@ -119,7 +119,7 @@ map-same : (f g : ℕ → ℕ) (xs : List ℕ) → ((z : ℕ) → 0 < times z xs
 map-same f g [] e = refl
 map-same f g (x ∷ xs) e = cons-same (e x (head-times x xs)) (map-same f g xs (λ z l. e z (more-times z x xs l)))
 
-module _ (old mid new : List ℕ) (key : ℕ) (names : List (List ℕ)) (spare : List ℕ) (s : IsSpared old mid key names spare) (keeps : KeepsCells (cell_at mid) (cell_at new))
+module _ (old mid new : List ℕ) (key : ℕ) (names : List (List ℕ)) (more left spare : List ℕ) (s : IsSpared old mid key names more left spare) (keeps : KeepsCells (cell_at mid) (cell_at new))
     (stay : (z : ℕ) → 0 < times z spare → IsSome (cell_at new z)) where
   came : (z : ℕ) → 0 < times z spare → cell_at old z ≡ None
   came z l =
@@ -138,7 +138,7 @@ module _ (old mid new : List ℕ) (key : ℕ) (names : List (List ℕ)) (spare :
       let n : allocated (cell_at old) z ≡ 0 = ap (λ (o : Option (List ℕ)). cond (is_some o) 1 0) none in
       omega (arith, c, a, n)
 
-  pub made_makes : Makes (cell_at old) (cell_at new) (sizes_of (planned (cell_at old) key) (map own_sizes names))
+  pub made_makes : Makes (cell_at old) (cell_at new) (sizes_of (planned (cell_at old) key) (map own_sizes names) ++ more)
   made_makes = record {
     offsets = spare;
     sizes_are = map-same (λ z. length (held (cell_at new) z) + 4) (λ z. length (held (cell_at mid) z) + 4) spare (λ z l. ap (λ n. n + 4) (keeps z (stay z l)).1) ∙ s.sizes;

@@ -1,12 +1,13 @@
 -- The cells carved for keys of a path's names: their sizes, and that they are ready.
-use Rattle.std.proofs.Common.{◌≡◌, ℕ, zero, suc, ◌+◌, ◌-◌, ◌*◌, ◌%◌, ◌≤◌, ◌<◌, Bool, true, false, cond, nat_le, nat_lt, Option, Some, None, IsSome, List, [], ◌∷◌, map, length, get_or}
-use Rattle.std.proofs.Common.{replicate, refl, sym, ap, ◌∙◌, subst, arith, Vec, Global}
+use Rattle.std.proofs.Common.{◌≡◌, ℕ, zero, suc, ◌+◌, ◌-◌, ◌*◌, ◌%◌, ◌≤◌, ◌<◌, Bool, true, false, cond, nat_le, nat_lt, Option, Some, None, IsSome, List, [], ◌∷◌, ◌++◌, map, length, drop, get_or}
+use Rattle.std.proofs.Common.{replicate, refl, sym, ap, ◌∙◌, subst, arith, length-append, Vec, Global}
 use Rattle.std.specs.Prelude.{unwrap_or, Result, Err}
 use Rattle.std.specs.List.{list_all, AllByRecursion}
 use Rattle.std.specs.Option.{option_and_then}
 use Rattle.std.specs.Result.{result_ok}
 use Rattle.std.proofs.lemmas.Bool.{and_parts}
-use Rattle.std.proofs.lemmas.List.{length-replicate}
+use Rattle.std.proofs.lemmas.List.{drop_all, length-replicate}
+use Rattle.std.proofs.Math.Seq.{drop-cons}
 use Rattle.std.proofs.lemmas.Option.{none-some, same_Some}
 use Rattle.reg_names.specs.declared.TheConstants.{PATH_LIMIT, KEY_NAME_LIMIT}
 use Rattle.reg_names.specs.Names.{is_key_name, are_key_names, is_path, path_of}
@@ -20,21 +21,24 @@ use Rattle.reg_arena.specs.Carves.{NoFit}
 use Rattle.reg_arena.specs.Cells.{cell_at}
 use Rattle.reg_arena.specs.NewBin.{PassesLimit}
 use Rattle.reg_arena.specs.NewCells.{AreSizes, total_of}
+use Rattle.reg_arena.proofs.Carving.CarveCuts.{total_of-append}
+use Rattle.reg_arena.proofs.Contents.CellWrites.{all-append}
 use Rattle.reg_records.specs.RecordCells.{HasRoom, held}
 use Rattle.reg_records.specs.declared.RecordFault.{RecordFault}
 use Rattle.reg_records.specs.declared.RecordFault.TheVariants as record_fault
 use Rattle.reg_records.specs.Letters.{is_signed}
 use Rattle.reg_records.specs.KeyNodes.{KeyRecord, key_at, nk_of}
 use Rattle.reg_records.specs.SubkeyLists.{Entry}
-use Rattle.reg_index.specs.Subkeys.{AreSubkeys, IsReady, insert_size}
+use Rattle.reg_index.specs.Subkeys.{AreSubkeys, IsReady, insert_size, taken}
 use Rattle.reg_index.proofs.SubkeysOpening.{few-subkeys}
 use Rattle.reg_tree.specs.declared.fault.TreeFault.{TreeFault}
 use Rattle.reg_tree.specs.declared.fault.TreeFault.TheVariants.{Full}
-use Rattle.reg_tree.specs.CellSizes.{planned, LacksRoom}
+use Rattle.reg_tree.specs.CellSizes.{planned, planned_sizes, LacksRoom}
 use Rattle.reg_tree.specs.Internal.TreeFaults.{of_arena}
 use Rattle.reg_tree.specs.Internal.KeyNodeChanges.{HasSubkeysList}
 use Rattle.reg_tree.specs.Internal.TreeInvariant.{IsHere}
-use Rattle.reg_tree.specs.Internal.SpareCells.{key_size, own_sizes, sizes_of, IsGrowing, AreReady, IsSpared}
+use Rattle.reg_tree.specs.Internal.SpareCells.{key_size, own_sizes, sizes_of, IsGrowing, HaveSizes, AreReady, IsSecuritySize, IsSpared}
+use Rattle.reg_tree.specs.Internal.DescriptorChange.{last_of}
 use Rattle.reg_tree.proofs.Invariant.CellReadings.{some_of}
 use Rattle.reg_tree.proofs.InsertKey.PathGrowth.{name_short}
 use Rattle.reg_tree.proofs.InsertKey.MadeCells.{carved_sizes}
@@ -91,10 +95,19 @@ plan_good bytes key t count list has =
     let s = parent_subkeys bytes key t count list has in plan_by (cell_at bytes) count list (few-subkeys (cell_at bytes) count list s.0 s.1)
 
 -- each is one that a cell may have
-pub are-sizes : (plan : Option ℕ) (names : List (List ℕ)) → IsPlan plan → AreSizes (sizes_of plan (map own_sizes names))
+are-sizes : (plan : Option ℕ) (names : List (List ℕ)) → IsPlan plan → AreSizes (sizes_of plan (map own_sizes names))
 are-sizes plan [] p = tt
 are-sizes None (name ∷ names) p = ((omega arith, omega arith), are-sizes (Some FIRST_LIST_SIZE) names first_plan)
 are-sizes (Some size) (name ∷ names) p = let s = p size refl in ((omega (arith, s), s.0), ((omega arith, omega arith), are-sizes (Some FIRST_LIST_SIZE) names first_plan))
+
+-- with the cell of a descriptor
+more-sizes : (more : Option ℕ) → IsSecuritySize more → AreSizes (planned_sizes more)
+more-sizes None m = tt
+more-sizes (Some size) m = let e = m.2 in ((omega (arith, e), omega (arith, e)), tt)
+
+pub are-all-sizes : (plan : Option ℕ) (names : List (List ℕ)) (more : Option ℕ) → IsPlan plan → IsSecuritySize more → AreSizes (sizes_of plan (map own_sizes names) ++ planned_sizes more)
+are-all-sizes plan names more p m =
+    all-append (λ size. (0 < size) × (size % 8 ≡ 0)) (sizes_of plan (map own_sizes names)) (planned_sizes more) (are-sizes plan names p) (more-sizes more m)
 
 -- names of at most 255 bytes
 abbrev Short : List (List ℕ) → Type 0
@@ -118,11 +131,23 @@ total-some plan [] p s = omega arith
 total-some None (name ∷ names) p s = let t = total-first names s.1 in let l = s.0 in omega (arith, t, l)
 total-some (Some size) (name ∷ names) p s = let t = total-first names s.1 in let l = s.0 in let q = (p size refl).2 in omega (arith, t, l, q)
 
-pub total-few : (plan : Option ℕ) (path : List ℕ) → IsPlan plan → is_path path ≡ true → length (path_of path) ≤ MADE_LIMIT → total_of (sizes_of plan (map own_sizes (path_of path))) ≤ 15536
+total-few : (plan : Option ℕ) (path : List ℕ) → IsPlan plan → is_path path ≡ true → length (path_of path) ≤ MADE_LIMIT → total_of (sizes_of plan (map own_sizes (path_of path))) ≤ 15536
 total-few plan path p valid few = let t = total-some plan (path_of path) p (short-in PATH_LIMIT (path_of path) valid) in omega (arith, t, few)
 
+total-more : (more : Option ℕ) → IsSecuritySize more → total_of (planned_sizes more) ≤ 65560
+total-more None m = omega arith
+total-more (Some size) m = let l = m.1 in let e = m.2 in omega (arith, l, e)
+
+pub total-with : (plan : Option ℕ) (path : List ℕ) (more : Option ℕ) → IsPlan plan → is_path path ≡ true → length (path_of path) ≤ MADE_LIMIT → IsSecuritySize more →
+    total_of (sizes_of plan (map own_sizes (path_of path)) ++ planned_sizes more) ≤ 81096
+total-with plan path more p valid few m =
+    let a = total_of-append (sizes_of plan (map own_sizes (path_of path))) (planned_sizes more) in
+    let b = total-few plan path p valid few in
+    let c = total-more more m in
+    omega (arith, a, b, c)
+
 -- the bins are near their limit where no bin for them has room
-pub near-limit : (bytes : List ℕ) (total : ℕ) → total ≤ 15536 → PassesLimit bytes total → BINS_LIMIT < length bytes + GROWTH_BOUND
+pub near-limit : (bytes : List ℕ) (total : ℕ) → total ≤ 81096 → PassesLimit bytes total → BINS_LIMIT < length bytes + GROWTH_BOUND
 near-limit bytes total small past = let l = past.least.least GROWTH_BOUND refl (omega (arith, small)) in let p = past.passes in omega (arith, l, p)
 
 -- the list that its key node names
@@ -176,50 +201,80 @@ zeros-ready h cell size z l = (
 abbrev Zeros : Heap → List ℕ → List ℕ → Type 0
 Zeros h cells sizes = (index : ℕ) → index < length sizes → h (get_or cells index 0) ≡ Some (replicate (get_or sizes index 0 - 4) 0)
 
-ready-all : (h : Heap) (plan : Option ℕ) (names : List (List ℕ)) (cells : List ℕ) → IsPlan plan → length cells ≡ length (sizes_of plan (map own_sizes names)) →
-    Zeros h cells (sizes_of plan (map own_sizes names)) → AreReady h plan (map own_sizes names) cells
-ready-all h plan [] [] p n z = refl
-ready-all h plan [] (cell ∷ cells) p n z = absurd (omega (arith, n))
-ready-all h None (name ∷ names) [] p n z = absurd (omega (arith, n))
-ready-all h None (name ∷ names) (key ∷ left) p n z = record {
+zeros-front : (h : Heap) (plan : Option ℕ) (names : List (List ℕ)) (more cells : List ℕ) → IsPlan plan → length cells ≡ length (sizes_of plan (map own_sizes names) ++ more) →
+    Zeros h cells (sizes_of plan (map own_sizes names) ++ more) → AreReady h (drop (length (sizes_of plan (map own_sizes names))) cells) plan (map own_sizes names) cells
+zeros-front h plan [] more cells p n z = refl
+zeros-front h None (name ∷ names) more [] p n z = absurd (omega (arith, n))
+zeros-front h None (name ∷ names) more (key ∷ left) p n z = record {
   list_cell = None;
   own = key ∷ [];
   left = left;
   spare_is = refl;
   ready = tt;
   room = (zeros-room h key (key_size name) (key_size name - 4) (z 0 (omega arith)) (omega arith), tt);
-  rest = ready-all h (Some FIRST_LIST_SIZE) names left first_plan (omega (arith, n)) (λ i l. z (suc i) (omega (arith, l)));
+  rest = zeros-front h (Some FIRST_LIST_SIZE) names more left first_plan (omega (arith, n)) (λ i l. z (suc i) (omega (arith, l)));
 }
-ready-all h (Some size) (name ∷ names) [] p n z = absurd (omega (arith, n))
-ready-all h (Some size) (name ∷ names) (list ∷ []) p n z = absurd (omega (arith, n))
-ready-all h (Some size) (name ∷ names) (list ∷ key ∷ left) p n z = record {
+zeros-front h (Some size) (name ∷ names) more [] p n z = absurd (omega (arith, n))
+zeros-front h (Some size) (name ∷ names) more (list ∷ []) p n z = absurd (omega (arith, n))
+zeros-front h (Some size) (name ∷ names) more (list ∷ key ∷ left) p n z = record {
   list_cell = Some list;
   own = key ∷ [];
   left = left;
   spare_is = refl;
   ready = zeros-ready h list size (z 0 (omega arith)) (let q = (p size refl).1 in omega (arith, q));
   room = (zeros-room h key (key_size name) (key_size name - 4) (z 1 (omega arith)) (omega arith), tt);
-  rest = ready-all h (Some FIRST_LIST_SIZE) names left first_plan (omega (arith, n)) (λ i l. z (suc (suc i)) (omega (arith, l)));
+  rest = zeros-front h (Some FIRST_LIST_SIZE) names more left first_plan (omega (arith, n)) (λ i l. z (suc (suc i)) (omega (arith, l)));
 }
 
--- cells carved by these sizes are those that the keys take
-pub spared : (old new : List ℕ) (key : ℕ) (t : IsHere old key) (path : List ℕ) (plan : Option ℕ) → plan ≡ planned (cell_at old) key → (sizes offsets cells : List ℕ) →
-    sizes ≡ sizes_of plan (map own_sizes (path_of path)) → cells ≡ offsets → AreNew (cell_at old) (cell_at new) offsets sizes → IsSpared old new key (path_of path) cells
-spared old new key t path plan plan_is sizes offsets cells sizes_are cells_are adds =
+-- the cells behind them, of the sizes behind theirs
+zeros-all : (h : Heap) (sizes cells : List ℕ) → AreSizes sizes → length cells ≡ length sizes → Zeros h cells sizes → HaveSizes h cells sizes
+zeros-all h [] [] good n z = tt
+zeros-all h [] (cell ∷ cells) good n z = absurd (omega (arith, n))
+zeros-all h (size ∷ sizes) [] good n z = absurd (omega (arith, n))
+zeros-all h (size ∷ sizes) (cell ∷ cells) good n z = (
+  (let p = good.0.0 in let e = good.0.1 in zeros-room h cell size (size - 4) (z 0 (omega arith)) (omega (arith, p, e))),
+  zeros-all h sizes cells good.1 (omega (arith, n)) (λ i l. z (suc i) (omega (arith, l))),
+)
+
+zeros-behind : (h : Heap) (front sizes cells : List ℕ) → AreSizes sizes → length cells ≡ length (front ++ sizes) → Zeros h cells (front ++ sizes) →
+    HaveSizes h (drop (length front) cells) sizes
+zeros-behind h [] sizes cells good n z = zeros-all h sizes cells good n z
+zeros-behind h (size ∷ front) sizes [] good n z = absurd (omega (arith, n))
+zeros-behind h (size ∷ front) sizes (cell ∷ cells) good n z = zeros-behind h front sizes cells good (omega (arith, n)) (λ i l. z (suc i) (omega (arith, l)))
+
+-- which are the last cell, where one is carved for a descriptor, or none
+behind-is : (more : Option ℕ) (number : ℕ) (cells : List ℕ) → length cells ≡ number + length (planned_sizes more) → drop number cells ≡ taken (last_of more cells)
+behind-is None number cells n = drop_all number cells (omega (arith, n))
+behind-is (Some size) number cells n =
+    let m : number < length cells = omega (arith, n) in
+    let place : number ≡ length cells - 1 = omega (arith, n) in
+    drop-cons cells number 0 m
+    ∙ (ap (λ rest. get_or cells number 0 ∷ rest) (drop_all (suc number) cells (omega (arith, n)))
+    ∙ ap (λ i. get_or cells i 0 ∷ []) place)
+
+-- cells carved by these sizes are those that the keys take, and the descriptor's
+pub spared : (old new : List ℕ) (key : ℕ) (t : IsHere old key) (path : List ℕ) (plan more : Option ℕ) → plan ≡ planned (cell_at old) key → IsSecuritySize more →
+    (sizes offsets cells : List ℕ) → sizes ≡ sizes_of plan (map own_sizes (path_of path)) ++ planned_sizes more → cells ≡ offsets →
+    AreNew (cell_at old) (cell_at new) offsets sizes → IsSpared old new key (path_of path) (planned_sizes more) (taken (last_of more cells)) cells
+spared old new key t path plan more plan_is security sizes offsets cells sizes_are cells_are adds =
     let own : Option ℕ = planned (cell_at old) key in
-    let sized : sizes ≡ sizes_of own (map own_sizes (path_of path)) = sizes_are ∙ ap (λ p. sizes_of p (map own_sizes (path_of path))) plan_is in
-    let a : AreNew (cell_at old) (cell_at new) cells (sizes_of own (map own_sizes (path_of path))) =
-    subst (λ c. AreNew (cell_at old) (cell_at new) c (sizes_of own (map own_sizes (path_of path)))) (sym cells_are)
-    (subst (AreNew (cell_at old) (cell_at new) offsets) sized adds) in
+    let front : List ℕ = sizes_of own (map own_sizes (path_of path)) in
+    let sized : sizes ≡ front ++ planned_sizes more = sizes_are ∙ ap (λ p. sizes_of p (map own_sizes (path_of path)) ++ planned_sizes more) plan_is in
+    let a : AreNew (cell_at old) (cell_at new) cells (front ++ planned_sizes more) =
+    subst (λ c. AreNew (cell_at old) (cell_at new) c (front ++ planned_sizes more)) (sym cells_are) (subst (AreNew (cell_at old) (cell_at new) offsets) sized adds) in
     let told : IsPlan own = plan_told old key t own refl in
+    let behind : drop (length front) cells ≡ taken (last_of more cells) = behind-is more (length front) cells (a.as_many ∙ length-append front (planned_sizes more)) in
     record {
       come = a.come;
-      sizes = carved_sizes (cell_at new) cells (sizes_of own (map own_sizes (path_of path))) (are-sizes own (path_of path) told)
+      sizes = carved_sizes (cell_at new) cells (front ++ planned_sizes more) (are-all-sizes own (path_of path) more told security)
           a.as_many a.zeros (λ n. length-replicate {A = ℕ} n 0);
-      ready = ready-all (cell_at new) own (path_of path) cells told a.as_many a.zeros;
+      ready = subst (λ left. AreReady (cell_at new) left own (map own_sizes (path_of path)) cells) behind
+          (zeros-front (cell_at new) own (path_of path) (planned_sizes more) cells told a.as_many a.zeros);
+      others = subst (λ left. HaveSizes (cell_at new) left (planned_sizes more)) behind
+          (zeros-behind (cell_at new) front (planned_sizes more) cells (more-sizes more security) a.as_many a.zeros);
     }
 
 -- where there is no room for the cells planned, there is none for those that keys of these names take
-pub lacks_room : (bins : Bins) (names : List (List ℕ)) (plan : Option ℕ) (sizes : List ℕ) → sizes ≡ sizes_of plan (map own_sizes names) →
-    0 < length sizes → PassesLimit bins.bytes (total_of sizes) → NoFit bins.bytes (total_of sizes) → LacksRoom bins (sizes_of plan (map own_sizes names))
-lacks_room bins names plan sizes sizes_are some past none = subst (LacksRoom bins) sizes_are (some, none, past)
+pub lacks_room : (bins : Bins) (theirs sizes : List ℕ) → sizes ≡ theirs →
+    0 < length sizes → PassesLimit bins.bytes (total_of sizes) → NoFit bins.bytes (total_of sizes) → LacksRoom bins theirs
+lacks_room bins theirs sizes sizes_are some past none = subst (LacksRoom bins) sizes_are (some, none, past)

@@ -11,11 +11,10 @@ use Rattle.std.proofs.lemmas.Cmp.{tied_itself}
 use Rattle.std.proofs.lemmas.List.{append-nil, append_assoc, take_all}
 use Rattle.std.proofs.lemmas.Option.{none-some, same_Some}
 use Rattle.reg_names.specs.declared.TheConstants.{PATH_LIMIT, KEY_NAME_LIMIT}
-use Rattle.reg_arena.proofs.FreeList.ThreadLinks.{times-append}
 use Rattle.reg_arena.specs.Cells.{cell_at}
 use Rattle.reg_names.specs.Names.{folded, path_of, is_path, is_key_name, is_key_name_byte, IsFirst}
 use Rattle.reg_heap.specs.Paths.{Path, Tree, path_cmp}
-use Rattle.reg_heap.specs.Edits.{child_path, has_child, with_key, with_keys}
+use Rattle.reg_heap.specs.Edits.{child_path, has_child, if_last, with_key, with_keys}
 use Rattle.reg_heap.specs.Heaps.{Heap}
 use Rattle.reg_heap.specs.Kinds.{times, is_own}
 use Rattle.reg_records.specs.KeyNodes.{KeyRecord, key_at}
@@ -35,17 +34,15 @@ use Rattle.reg_shape.specs.Internal.Shapes.{descriptor_in, tree_of}
 use Rattle.reg_shape.specs.Internal.Grafts.{IsShape, branch_at}
 use Rattle.reg_shape.specs.Whole.{descriptor_at}
 use Rattle.reg_shape.specs.PathLookup.{key_offset_at, subkey_named}
-use Rattle.reg_records.proofs.KeyNodeCodec.{key_at-same}
-use Rattle.reg_shape.proofs.Frame.WrittenFrame.{same-held}
 use Rattle.reg_shape.proofs.Refinement.SpeltTrees.{path_total}
 use Rattle.reg_shape.proofs.Lookup.LookupOfShape.{offset-more, offset-append}
-use Rattle.reg_index.specs.Subkeys.{IsReady, KeepsCells, own, taken}
+use Rattle.reg_index.specs.Subkeys.{KeepsCells, own}
 use Rattle.reg_index.proofs.SubkeysOpening.{own-is}
 use Rattle.reg_tree.specs.declared.node.Node.{Node as TreeNode}
-use Rattle.reg_tree.specs.Internal.SpareCells.{planned, IsGrowing, MayGrow, Grows, HaveSizes, AreReady, own_sizes, MayGrowAll, GrowsAll}
+use Rattle.reg_tree.specs.Internal.SpareCells.{planned, IsGrowing, MayGrow, Grows, AreReady, own_sizes, MayGrowAll, GrowsAll}
+use Rattle.reg_tree.proofs.InsertKey.SpareCellsKept.{ready-kept, left-spare}
 use Rattle.reg_tree.proofs.InsertKey.LengthsOfMade.{none_made, one_below, one_more}
 use Rattle.reg_tree.proofs.Invariant.KeyOfShape as keyed
-use Rattle.reg_tree.proofs.Invariant.UntouchedCells.{times-one}
 
 -- a key's name has at most 255 bytes
 pub name_short : (name : List ℕ) → is_key_name name ≡ true → length name ≤ KEY_NAME_LIMIT
@@ -58,50 +55,15 @@ rest_all n xs = take_all (length xs - n) (drop n xs) (omega (arith, length-drop 
 pub path-self : (q : Path) → eq_by_cmp path_cmp q q ≡ true
 path-self q = ap is_eq (tied_itself path_total q)
 
--- ---- spare cells that stay
+-- the descriptor is given to none, whether names are left or not
+pub none_given : (names : List (List ℕ)) → if_last names None ≡ None
+none_given [] = refl
+none_given (name ∷ names) = refl
 
-some-times : (x : ℕ) (before after : List ℕ) → 0 < times x (before ++ x ∷ after)
-some-times x before after = let t = times-append x before (x ∷ after) in let one = times-one x in omega (arith, t, one)
-
-ready-same : (h k : Heap) (plan cell : Option ℕ) → ((z : ℕ) → cell ≡ Some z → k z ≡ h z) → IsReady h plan cell → IsReady k plan cell
-ready-same h k None None c r = r
-ready-same h k None (Some cell) c r = absurd r
-ready-same h k (Some size) None c r = absurd r
-ready-same h k (Some size) (Some cell) c r = (
-  subst IsSome (sym (c cell refl)) r.0,
-  ap (λ (bytes : List ℕ). length bytes + 4) (same-held h k cell (c cell refl)) ∙ r.1,
-  key_at-same h k cell (c cell refl) ∙ r.2,
-)
-
-sizes-kept : (h k : Heap) (cells sizes : List ℕ) → ((z : ℕ) → 0 < times z cells → k z ≡ h z) → HaveSizes h cells sizes → HaveSizes k cells sizes
-sizes-kept h k [] [] c r = tt
-sizes-kept h k [] (size ∷ sizes) c r = absurd r
-sizes-kept h k (cell ∷ cells) [] c r = absurd r
-sizes-kept h k (cell ∷ cells) (size ∷ sizes) c r = (
-  (let same = c cell (some-times cell [] cells) in
-      record { exists = subst IsSome (sym same) r.0.exists; enough = subst (λ (bytes : List ℕ). size - 4 ≤ length bytes) (sym (same-held h k cell same)) r.0.enough }),
-  sizes-kept h k cells sizes (λ z l. c z (omega (arith, l))) r.1,
-)
-
-ready-kept : (h k : Heap) (plan : Option ℕ) (owns : List (List ℕ)) (spare : List ℕ) → ((z : ℕ) → 0 < times z spare → k z ≡ h z) → AreReady h plan owns spare → AreReady k plan owns spare
-ready-kept h k plan [] spare c r = r
-ready-kept h k plan (sizes ∷ more) spare c r = record {
-  list_cell = r.list_cell;
-  own = r.own;
-  left = r.left;
-  spare_is = r.spare_is;
-  ready = ready-same h k plan r.list_cell (λ z e. c z (subst (λ s. 0 < times z s) (sym r.spare_is) (list-there r.list_cell z e))) r.ready;
-  room = sizes-kept h k r.own sizes (λ z l. c z (subst (λ s. 0 < times z s) (sym r.spare_is) (there z (let t = times-append z r.own r.left in omega (arith, t, l))))) r.room;
-  rest = ready-kept h k (Some FIRST_LIST_SIZE) more r.left
-      (λ z l. c z (subst (λ s. 0 < times z s) (sym r.spare_is) (there z (let t = times-append z r.own r.left in omega (arith, t, l))))) r.rest;
-}
-  where
-    list-there : (o : Option ℕ) (z : ℕ) → o ≡ Some z → 0 < times z (taken o ++ (r.own ++ r.left))
-    list-there None z e = absurd (none-some _ e)
-    list-there (Some n) z e = subst (λ x. 0 < times x (n ∷ (r.own ++ r.left))) (same_Some _ _ e) (some-times n [] (r.own ++ r.left))
-
-    there : (z : ℕ) → 0 < times z (r.own ++ r.left) → 0 < times z (taken r.list_cell ++ (r.own ++ r.left))
-    there z l = let t = times-append z (taken r.list_cell) (r.own ++ r.left) in omega (arith, t, l)
+one_shared : (t : Tree) (p : Path) (name : List ℕ) (names : List (List ℕ)) (moment : ℕ) →
+    with_keys (cond (has_child t p name) t (with_key t p name None moment)) (child_path p name) names None moment ≡ with_keys t p (name ∷ names) None moment
+one_shared t p name names moment =
+    ap (λ o. with_keys (cond (has_child t p name) t (with_key t p name o moment)) (child_path p name) names None moment) (sym (none_given names))
 
 -- ---- a key that is not there
 
@@ -166,13 +128,14 @@ noted_all old new root path names at rest e (inr s) = s.1
 -- ---- on the way
 
 -- some of the keys were made: a node, what is left of the path and of the spare cells, and that the rest leads to the same end
-pub record Midway (bytes0 : List ℕ) (from : TreeNode) (names0 : List (List ℕ)) (spare0 : List ℕ) (m : MayGrowAll bytes0 from names0 spare0)
+pub record Midway (bytes0 : List ℕ) (from : TreeNode) (names0 : List (List ℕ)) (last spare0 : List ℕ) (m : MayGrowAll bytes0 from names0 last spare0)
     (moment : ℕ) (bytes : List ℕ) (node : TreeNode) (rest spare : List ℕ) : Type 0 where
-  pub grow : MayGrowAll bytes node (path_of rest) spare
+  pub grow : MayGrowAll bytes node (path_of rest) last spare
   pub root_is : grow.growing.root ≡ m.growing.root
   pub ring_is : grow.growing.ring ≡ m.growing.ring
   pub valid : is_path rest ≡ true
-  pub tree : with_keys (tree_of (cell_at bytes) grow.growing.keys) grow.growing.path (path_of rest) moment ≡ with_keys (tree_of (cell_at bytes0) m.growing.keys) m.growing.path names0 moment
+  pub tree : with_keys (tree_of (cell_at bytes) grow.growing.keys) grow.growing.path (path_of rest) None moment ≡
+      with_keys (tree_of (cell_at bytes0) m.growing.keys) m.growing.path names0 None moment
   pub end : grow.growing.path ++ map folded (path_of rest) ≡ m.growing.path ++ map folded names0
   pub depth : node.depth + length (path_of rest) ≡ from.depth + length names0
   pub keeps : (q : Path) (o : ℕ) → key_offset_at (cell_at bytes0) m.growing.root q ≡ Some o → key_offset_at (cell_at bytes) m.growing.root q ≡ Some o
@@ -185,10 +148,11 @@ pub record Midway (bytes0 : List ℕ) (from : TreeNode) (names0 : List (List ℕ
   pub stay : (z : ℕ) → 0 < times z spare0 → IsSome (cell_at bytes z)
   pub apart : (k : KeyRecord) → key_at (cell_at bytes) node.offset ≡ Some k → (z : ℕ) → 0 < times z spare0 → times z (own (cell_at bytes) k.fields.subkeys k.fields.subkeys_list) ≡ 0
   pub described : (z : ℕ) → 0 < times z m.growing.ring → descriptor_at (cell_at bytes) z ≡ descriptor_at (cell_at bytes0) z
+  pub left : (z : ℕ) → 0 < times z last → cell_at bytes z ≡ cell_at bytes0 z
 
-pub at_start : (bytes : List ℕ) (from : TreeNode) (path spare : List ℕ) (m : MayGrowAll bytes from (path_of path) spare) (moment : ℕ) →
-    is_path path ≡ true → Midway bytes from (path_of path) spare m moment bytes from path spare
-at_start bytes from path spare m moment v = record {
+pub at_start : (bytes : List ℕ) (from : TreeNode) (path last spare : List ℕ) (m : MayGrowAll bytes from (path_of path) last spare) (moment : ℕ) →
+    is_path path ≡ true → Midway bytes from (path_of path) last spare m moment bytes from path spare
+at_start bytes from path last spare m moment v = record {
   grow = m;
   root_is = refl;
   ring_is = refl;
@@ -206,10 +170,11 @@ at_start bytes from path spare m moment v = record {
   stay = spare_there bytes from.offset spare m.growing;
   apart = spare_apart bytes from.offset spare m.growing;
   described = λ z l. refl;
+  left = λ z l. refl;
 }
 
-module _ (bytes0 : List ℕ) (from : TreeNode) (names0 : List (List ℕ)) (spare0 : List ℕ) (m : MayGrowAll bytes0 from names0 spare0) (moment : ℕ)
-    (bytes : List ℕ) (node : TreeNode) (rest spare : List ℕ) (mid : Midway bytes0 from names0 spare0 m moment bytes node rest spare) where
+module _ (bytes0 : List ℕ) (from : TreeNode) (names0 : List (List ℕ)) (last spare0 : List ℕ) (m : MayGrowAll bytes0 from names0 last spare0) (moment : ℕ)
+    (bytes : List ℕ) (node : TreeNode) (rest spare : List ℕ) (mid : Midway bytes0 from names0 last spare0 m moment bytes node rest spare) where
   pub deep_now : from.depth ≤ PATH_LIMIT → node.depth + 1 < 4096
   deep_now d = let e = mid.depth in let l = m.deep in omega (arith, d, e, l)
 
@@ -225,11 +190,11 @@ module _ (bytes0 : List ℕ) (from : TreeNode) (names0 : List (List ℕ)) (spare
       few = mid.grow.few;
     }
 
-    pub ready_next : AreReady (cell_at bytes) (planned (cell_at bytes) node.offset) (own_sizes name ∷ map own_sizes (path_of behind)) spare
-    ready_next = subst (λ ns. AreReady (cell_at bytes) (planned (cell_at bytes) node.offset) (map own_sizes ns) spare) f.names mid.grow.ready
+    pub ready_next : AreReady (cell_at bytes) last (planned (cell_at bytes) node.offset) (own_sizes name ∷ map own_sizes (path_of behind)) spare
+    ready_next = subst (λ ns. AreReady (cell_at bytes) last (planned (cell_at bytes) node.offset) (map own_sizes ns) spare) f.names mid.grow.ready
 
     module _ (new : List ℕ) (made : ℕ) (left : List ℕ)
-        (grows : Grows (cell_at bytes) (cell_at new) g.root g.path g.keys g.ring made left name moment) (ready : AreReady (cell_at bytes) (Some FIRST_LIST_SIZE)
+        (grows : Grows (cell_at bytes) (cell_at new) g.root g.path g.keys g.ring made left name moment) (ready : AreReady (cell_at bytes) last (Some FIRST_LIST_SIZE)
         (map own_sizes (path_of behind)) left) (kept : KeepsCells (cell_at bytes) (cell_at new))
         (leaves : (r : KeyRecord) → key_at (cell_at bytes) node.offset ≡ Some r → LeavesOthers (cell_at bytes) (cell_at new) (own (cell_at bytes) r.fields.subkeys r.fields.subkeys_list)) where
       abbrev k : Heap
@@ -253,14 +218,14 @@ module _ (bytes0 : List ℕ) (from : TreeNode) (names0 : List (List ℕ)) (spare
           let l = length-append g.path (folded name ∷ []) in
           omega (arith, d, n, l)
 
-      abbrev grow_then : MayGrowAll new (record { offset = made; depth = node.depth + 1 }) (path_of behind) left
+      abbrev grow_then : MayGrowAll new (record { offset = made; depth = node.depth + 1 }) (path_of behind) last left
       grow_then = record {
         growing = growing_then;
         missing = λ n others e. grows.childless (folded n);
         deep = deep_then;
         few = λ r e. (let z = grows.none r e in omega (arith, z));
-        ready = subst (λ o. AreReady k o (map own_sizes (path_of behind)) left) (sym grows.unlisted)
-            (ready-kept (cell_at bytes) k (Some FIRST_LIST_SIZE) (map own_sizes (path_of behind)) left grows.spare ready);
+        ready = subst (λ o. AreReady k last o (map own_sizes (path_of behind)) left) (sym grows.unlisted)
+            (ready-kept (cell_at bytes) k last (Some FIRST_LIST_SIZE) (map own_sizes (path_of behind)) left grows.spare ready);
       }
 
       keeps_then : (q : Path) (o : ℕ) → key_offset_at (cell_at bytes) g.root q ≡ Some o → key_offset_at k g.root q ≡ Some o
@@ -309,14 +274,15 @@ module _ (bytes0 : List ℕ) (from : TreeNode) (names0 : List (List ℕ)) (spare
           still q o e (inl t) = absurd (s.0 q o e t.0)
           still q o e (inr t) = t.1
 
-      tree_then : with_keys (tree_of k grows.now) (child_path g.path name) (path_of behind) moment ≡ with_keys (tree_of (cell_at bytes) g.keys) g.path (path_of rest) moment
+      tree_then : with_keys (tree_of k grows.now) (child_path g.path name) (path_of behind) None moment ≡ with_keys (tree_of (cell_at bytes) g.keys) g.path (path_of rest) None moment
       tree_then =
-          ap (λ (t : Tree). with_keys t (child_path g.path name) (path_of behind) moment) grows.tree
-          ∙ (ap (λ b. with_keys (cond b (tree_of (cell_at bytes) g.keys) (with_key (tree_of (cell_at bytes) g.keys) g.path name moment))
-          (child_path g.path name) (path_of behind) moment) (sym (no_child bytes node.offset spare g name may_next.missing))
-          ∙ ap (λ ns. with_keys (tree_of (cell_at bytes) g.keys) g.path ns moment) (sym f.names))
+          ap (λ (t : Tree). with_keys t (child_path g.path name) (path_of behind) None moment) grows.tree
+          ∙ (ap (λ b. with_keys (cond b (tree_of (cell_at bytes) g.keys) (with_key (tree_of (cell_at bytes) g.keys) g.path name None moment))
+          (child_path g.path name) (path_of behind) None moment) (sym (no_child bytes node.offset spare g name may_next.missing))
+          ∙ (one_shared (tree_of (cell_at bytes) g.keys) g.path name (path_of behind) moment
+          ∙ ap (λ ns. with_keys (tree_of (cell_at bytes) g.keys) g.path ns None moment) (sym f.names)))
 
-      pub one_further : Midway bytes0 from names0 spare0 m moment new (record { offset = made; depth = node.depth + 1 }) behind left
+      pub one_further : Midway bytes0 from names0 last spare0 m moment new (record { offset = made; depth = node.depth + 1 }) behind left
       one_further = record {
         grow = grow_then;
         root_is = mid.root_is;
@@ -337,20 +303,22 @@ module _ (bytes0 : List ℕ) (from : TreeNode) (names0 : List (List ℕ)) (spare
         stay = λ z l. leaves node_is.0 node_is.1 z (mid.stay z l) (mid.apart node_is.0 node_is.1 z l);
         apart = λ r e z l. ap (λ n. times z (own k n r.fields.subkeys_list)) (grows.none r e);
         described = λ z l. grows.described z (subst (λ ring. 0 < times z ring) (sym mid.ring_is) l) ∙ mid.described z l;
+        left = λ z l. grows.spare z (left-spare (cell_at bytes) last (Some FIRST_LIST_SIZE) (map own_sizes (path_of behind)) left ready z l) ∙ mid.left z l;
       }
 
-  -- nothing is left of the path, and so no cell is spare
-  pub at_end : path_of rest ≡ [] → GrowsAll (cell_at bytes0) (cell_at bytes) m.growing.root m.growing.path m.growing.keys m.growing.ring from node names0 moment
+  -- nothing is left of the path, and so the spare cells are those that are left
+  pub at_end : path_of rest ≡ [] → GrowsAll (cell_at bytes0) (cell_at bytes) m.growing.root m.growing.path m.growing.keys m.growing.ring last from node names0 moment
   at_end e =
       let g = mid.grow.growing in
-      let none : spare ≡ [] = subst (λ ns. AreReady (cell_at bytes) (planned (cell_at bytes) node.offset) (map own_sizes ns) spare) e mid.grow.ready in
+      let same : spare ≡ last = subst (λ ns. AreReady (cell_at bytes) last (planned (cell_at bytes) node.offset) (map own_sizes ns) spare) e mid.grow.ready in
       record {
         now = g.keys;
-        shape = subst (λ r. IsShape (cell_at bytes) r g.keys m.growing.ring []) mid.root_is
-            (subst (λ r. IsShape (cell_at bytes) g.root g.keys r []) mid.ring_is
-            (subst (λ s. IsShape (cell_at bytes) g.root g.keys g.ring s) none g.shape));
+        shape = subst (λ r. IsShape (cell_at bytes) r g.keys m.growing.ring last) mid.root_is
+            (subst (λ r. IsShape (cell_at bytes) g.root g.keys r last) mid.ring_is
+            (subst (λ s. IsShape (cell_at bytes) g.root g.keys g.ring s) same g.shape));
         unrooted = g.unrooted;
-        tree = ap (λ ns. with_keys (tree_of (cell_at bytes) g.keys) g.path ns moment) (sym e) ∙ mid.tree;
+        spare = mid.left;
+        tree = ap (λ ns. with_keys (tree_of (cell_at bytes) g.keys) g.path ns None moment) (sym e) ∙ mid.tree;
         offset = subst (λ q. key_offset_at (cell_at bytes) m.growing.root q ≡ Some node.offset) (sym (append-nil g.path) ∙
             (ap (λ ns. g.path ++ map folded ns) (sym e) ∙ mid.end))
             (subst (λ r. key_offset_at (cell_at bytes) r g.path ≡ Some node.offset) mid.root_is g.at);

@@ -107,7 +107,8 @@ module _ (h k : Heap) (root : ℕ) (keys : Branch Node) (ring spare : List ℕ) 
 
 -- ---- keys may be made in them
 
-module _ (old mid : List ℕ) (parent : TreeNode) (t : IsHere old parent.offset) (names : List (List ℕ)) (spare : List ℕ) (s : IsSpared old mid parent.offset names spare)
+module _ (old mid : List ℕ) (parent : TreeNode) (t : IsHere old parent.offset) (names : List (List ℕ)) (more left spare : List ℕ)
+    (s : IsSpared old mid parent.offset names more left spare)
     (missing : (name : List ℕ) (others : List (List ℕ)) → names ≡ name ∷ others → subkey_named (cell_at old) (folded name) parent.offset ≡ None)
     (deep : length t.path + length names ≤ PATH_LIMIT)
     (few : (r : KeyRecord) → key_at (cell_at old) parent.offset ≡ Some r → r.fields.subkeys < LEAF_LIMIT) where
@@ -215,7 +216,7 @@ module _ (old mid : List ℕ) (parent : TreeNode) (t : IsHere old parent.offset)
       subst (λ es. IsIndexFor (names_in k es) (folded name) (Err index)) read
       (subst (λ names. IsIndexFor names (folded name) (Err index)) (sym (names-stay h k entries keys-still)) (place its.key (key_is old P t) entries (own_subkeys old P t)))
 
-  unfoldable pub may_grow_all : MayGrowAll mid parent names spare
+  unfoldable pub may_grow_all : MayGrowAll mid parent names left spare
   may_grow_all = record {
     growing = record {
       root = t.root;
@@ -230,5 +231,5 @@ module _ (old mid : List ℕ) (parent : TreeNode) (t : IsHere old parent.offset)
     missing = missing-then;
     deep = deep;
     few = λ r e. few r (sym key-then ∙ e);
-    ready = subst (λ o. AreReady k o (map own_sizes names) spare) (sym planned-then) s.ready;
+    ready = subst (λ o. AreReady k left o (map own_sizes names) spare) (sym planned-then) s.ready;
   }

@@ -1,5 +1,5 @@
 -- The keys of a path made where they are missing (Win32 registry reference, `RegCreateKeyEx`).
-use Rattle.std.specs.Prelude.{◌≡◌, ◌≢◌, ◌⊎◌, ◌<◌, ◌≤◌, ℕ, ◌+◌, Some, List, [], ◌++◌, map, length}
+use Rattle.std.specs.Prelude.{◌≡◌, ◌≢◌, ◌⊎◌, ◌<◌, ◌≤◌, ℕ, ◌+◌, Option, Some, List, [], ◌++◌, map, length}
 use Rattle.reg_names.specs.declared.TheConstants.{PATH_LIMIT}
 use Rattle.reg_names.specs.Names.{folded}
 use Rattle.reg_heap.specs.declared.limits.TheConstants.{LEAF_LIMIT, MADE_LIMIT}
@@ -17,10 +17,10 @@ use Rattle.reg_tree.specs.Internal.PathWalks.{Reaches}
 
 -- the tree has the missing ones of the keys that some names lead to from a path on, a node is the last one's, and each key that
 -- was there stays where it stands
-pub record IsCreated (old new : List ℕ) (root : ℕ) (table : DescriptorCells) (path : Path) (from : Node) (names : List (List ℕ)) (moment : ℕ)
-    (made : Node) : Type 0 where
+pub record IsCreated (old new : List ℕ) (root : ℕ) (table : DescriptorCells) (path : Path) (from : Node) (names : List (List ℕ))
+    (given : Option (List ℕ)) (moment : ℕ) (made : Node) : Type 0 where
   pub holds : TreeInvariant new root table
-  pub tree : tree_in new root ≡ with_keys (tree_in old root) path names moment
+  pub tree : tree_in new root ≡ with_keys (tree_in old root) path names given moment
   pub offset : key_offset_at (cell_at new) root (path ++ map folded names) ≡ Some made.offset
   pub depth : made.depth ≡ from.depth + length names
   pub keeps : (q : Path) (o : ℕ) → key_offset_at (cell_at old) root q ≡ Some o → key_offset_at (cell_at new) root q ≡ Some o

@@ -32,6 +32,10 @@ noted_subkeys count offset name moment key = record key {
   };
 }
 
+-- a key node after its key was described anew: the security that it names, and the time
+abbrev pub noted_security : ℕ → ℕ → KeyRecord → KeyRecord
+noted_security security moment key = record key { fields = record key.fields { time = moment; security = security } }
+
 -- the fixed part of a made key's key node: no marks, a name of one byte a character, no subkeys, values or class
 abbrev pub made_fields : ℕ → ℕ → ℕ → KeyFields
 made_fields parent security moment = record {

@@ -3,7 +3,7 @@ use Rattle.std.specs.Prelude.{◌≡◌, ℕ, ◌+◌, ◌-◌, ◌<◌, ◌≤�
 use Rattle.std.specs.Ordering.{eq_by_cmp}
 use Rattle.reg_names.specs.declared.TheConstants.{PATH_LIMIT}
 use Rattle.reg_names.specs.Names.{folded}
-use Rattle.reg_heap.specs.declared.limits.TheConstants.{LEAF_LIMIT}
+use Rattle.reg_heap.specs.declared.limits.TheConstants.{LEAF_LIMIT, DESCRIPTOR_LIMIT}
 use Rattle.reg_heap.specs.Paths.{Path, path_cmp}
 use Rattle.reg_heap.specs.Heaps.{Heap, CellFrame}
 use Rattle.reg_heap.specs.Kinds.{times}
@@ -11,6 +11,7 @@ use Rattle.reg_heap.specs.Edits.{child_path, with_key, with_keys}
 use Rattle.reg_index.specs.declared.plan.TheConstants.{FIRST_LIST_SIZE}
 use Rattle.reg_shape.specs.Internal.Forests.{Branch, total_of}
 use Rattle.reg_arena.specs.Cells.{cell_at}
+use Rattle.reg_arena.specs.NewCells.{cell_size}
 use Rattle.reg_records.specs.KeyNodes.{KeyRecord, key_at}
 use Rattle.reg_shape.specs.Nodes.{Node}
 use Rattle.reg_shape.specs.Internal.Shapes.{tree_of}
@@ -44,11 +45,12 @@ pub record MayGrow (bytes : List ℕ) (key : ℕ) (spare : List ℕ) (name : Lis
 
 -- a key of a name was made below the one at a path, at an offset; the tree has it, each other key stays where it stands, and so
 -- do the spare cells that are left; the key made has no subkeys
-pub record Grows (old new : Heap) (root : ℕ) (path : Path) (keys : Branch Node) (ring : List ℕ) (made : ℕ) (left name : List ℕ) (moment : ℕ) : Type 0 where
+pub record Grows (old new : Heap) (root : ℕ) (path : Path) (keys : Branch Node) (ring : List ℕ) (made : ℕ) (left name : List ℕ)
+    (moment : ℕ) : Type 0 where
   pub now : Branch Node
   pub shape : IsShape new root now ring left
   pub unrooted : total_of rooted now ≡ 0
-  pub tree : tree_of new now ≡ with_key (tree_of old keys) path name moment
+  pub tree : tree_of new now ≡ with_key (tree_of old keys) path name None moment
   pub offsets : (q : Path) → key_offset_at new root q ≡ cond (eq_by_cmp path_cmp q (child_path path name)) (Some made) (key_offset_at old root q)
   pub spare : (z : ℕ) → 0 < times z left → new z ≡ old z
   pub childless : (x : List ℕ) → subkey_named new x made ≡ None
@@ -77,26 +79,29 @@ pub record IsNext (heap : Heap) (plan : Option ℕ) (sizes spare : List ℕ) (Re
   pub room : HaveSizes heap own sizes
   pub rest : Rest left
 
--- the spare cells are those that keys take, one below the other, each with own cells of its sizes; each but the first begins a list
-abbrev pub AreReady : Heap → Option ℕ → List (List ℕ) → List ℕ → Type 0
-AreReady heap plan [] spare = spare ≡ []
-AreReady heap plan (sizes ∷ more) spare = IsNext heap plan sizes spare (AreReady heap (Some FIRST_LIST_SIZE) more)
+-- the spare cells are those that keys take, one below the other, each with own cells of its sizes, and then some that are left; each
+-- key but the first begins a list
+abbrev pub AreReady : Heap → List ℕ → Option ℕ → List (List ℕ) → List ℕ → Type 0
+AreReady heap left plan [] spare = spare ≡ left
+AreReady heap left plan (sizes ∷ more) spare = IsNext heap plan sizes spare (AreReady heap left (Some FIRST_LIST_SIZE) more)
 
--- keys of these names may be made one below the other, from a node on, in the spare cells
-pub record MayGrowAll (bytes : List ℕ) (from : TreeNode) (names : List (List ℕ)) (spare : List ℕ) : Type 0 where
+-- keys of these names may be made one below the other, from a node on, in the spare cells, of which some are left then
+pub record MayGrowAll (bytes : List ℕ) (from : TreeNode) (names : List (List ℕ)) (left spare : List ℕ) : Type 0 where
   pub growing : IsGrowing bytes from.offset spare
   pub missing : (name : List ℕ) (others : List (List ℕ)) → names ≡ name ∷ others → subkey_named (cell_at bytes) (folded name) from.offset ≡ None
   pub deep : length growing.path + length names ≤ PATH_LIMIT
   pub few : (k : KeyRecord) → key_at (cell_at bytes) from.offset ≡ Some k → k.fields.subkeys < LEAF_LIMIT
-  pub ready : AreReady (cell_at bytes) (planned (cell_at bytes) from.offset) (map own_sizes names) spare
+  pub ready : AreReady (cell_at bytes) left (planned (cell_at bytes) from.offset) (map own_sizes names) spare
 
--- keys of these names were made one below the other, below the one at a path; each other key stays where it stands
-pub record GrowsAll (old new : Heap) (root : ℕ) (path : Path) (keys : Branch Node) (ring : List ℕ) (from made : TreeNode)
+-- keys of these names were made one below the other, below the one at a path; each other key stays where it stands, and so do the
+-- spare cells that are left
+pub record GrowsAll (old new : Heap) (root : ℕ) (path : Path) (keys : Branch Node) (ring left : List ℕ) (from made : TreeNode)
     (names : List (List ℕ)) (moment : ℕ) : Type 0 where
   pub now : Branch Node
-  pub shape : IsShape new root now ring []
+  pub shape : IsShape new root now ring left
   pub unrooted : total_of rooted now ≡ 0
-  pub tree : tree_of new now ≡ with_keys (tree_of old keys) path names moment
+  pub spare : (z : ℕ) → 0 < times z left → new z ≡ old z
+  pub tree : tree_of new now ≡ with_keys (tree_of old keys) path names None moment
   pub offset : key_offset_at new root (path ++ map folded names) ≡ Some made.offset
   pub depth : made.depth ≡ from.depth + length names
   pub keeps : (q : Path) (o : ℕ) → key_offset_at old root q ≡ Some o → key_offset_at new root q ≡ Some o
@@ -104,8 +109,15 @@ pub record GrowsAll (old new : Heap) (root : ℕ) (path : Path) (keys : Branch N
   pub noted : MadeLengths new root path names
   pub described : (z : ℕ) → 0 < times z ring → descriptor_at new z ≡ descriptor_at old z
 
--- the cells that keys of these names take below a key are new, each once, in order and of their sizes, and no other cell changed
-pub record IsSpared (old new : List ℕ) (key : ℕ) (names : List (List ℕ)) (spare : List ℕ) : Type 0 where
+-- the cells that keys of these names take below a key, and behind them cells of more sizes, are new, each once, in order and of their
+-- sizes, and no other cell changed
+pub record IsSpared (old new : List ℕ) (key : ℕ) (names : List (List ℕ)) (more left spare : List ℕ) : Type 0 where
   pub come : CellFrame (cell_at old) (cell_at new) (λ z. 0) (λ z. times z spare)
-  pub sizes : map (λ z. length (held (cell_at new) z) + 4) spare ≡ sizes_of (planned (cell_at old) key) (map own_sizes names)
-  pub ready : AreReady (cell_at new) (planned (cell_at old) key) (map own_sizes names) spare
+  pub sizes : map (λ z. length (held (cell_at new) z) + 4) spare ≡ sizes_of (planned (cell_at old) key) (map own_sizes names) ++ more
+  pub ready : AreReady (cell_at new) left (planned (cell_at old) key) (map own_sizes names) spare
+  pub others : HaveSizes (cell_at new) left more
+
+-- the size of the cell that a descriptor takes, or none
+abbrev pub IsSecuritySize : Option ℕ → Type 0
+IsSecuritySize None = ⊤
+IsSecuritySize (Some size) = (long : ℕ) × (long ≤ DESCRIPTOR_LIMIT) × (size ≡ cell_size (20 + long))

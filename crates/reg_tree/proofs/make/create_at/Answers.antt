@@ -1,81 +1,28 @@
-use Rattle.std.proofs.Common.{sym, ◌∙◌, arith}
-use Rattle.reg_tree.proofs.PathWalk.ReachedSeen.{named}
-use Rattle.reg_tree.proofs.InsertKey.PathCarve.{parent_there, parent_subkeys, plan_is}
-use Rattle.reg_tree.proofs.InsertKey.CreatePath.{parent_here, has_room, plan_then, place_then, may_make, created, created_cells, created_room}
-use Rattle.reg_tree.proofs.InsertKey.CreatePathEnds.{spared_as}
+use Rattle.std.proofs.Common.{List, ℕ, sym, ap, option_map, Bor}
+use Rattle.reg_arena.specs.declared.ArenaFault.TheVariants.{Full}
+use Rattle.reg_tree.specs.CellSizes.{create_sizes}
+use Rattle.reg_tree.proofs.InsertKey.CreatePathEnds.{none_sizes, cells_as, room_as}
 use Rattle.reg_tree.proofs.make.create_at.Goals as goal
 
-pub subkeys_list-requires : goal.subkeys_list-requires
-subkeys_list-requires c =
-    let l = c.requires.reached.2 in
-    parent_there _ _ (parent_here _ _ l.here _ _ _ l.reaches 0)
+pub make_sharing-requires-clause-reached : goal.make_sharing-requires-clause-reached
+make_sharing-requires-clause-reached c = (c.requires.reached.0, c.requires.reached.1, c.requires.reached.2, c.requires.reached.4)
 
-pub plan_insert-plan-requires : goal.plan_insert-plan-requires
-plan_insert-plan-requires c =
-    let l = c.requires.reached.2 in
-    parent_subkeys _ _ (parent_here _ _ l.here _ _ _ l.reaches 0) _ _ c.subkeys_list.ensures
+pub returns-in-None-clause-cells : goal.returns-in-None-clause-cells
+returns-in-None-clause-cells c = λ from path l same.
+    cells_as c.make_sharing.result _ _ _ _ (none_sizes _ _ _ _ (ap (option_map (λ (descriptor : Bor (List ℕ)). descriptor.now)) c.in-None.is))
+    (c.make_sharing.ensures.cells from path l)
 
-pub carve_for-requires-clause-plan : goal.carve_for-requires-clause-plan
-carve_for-requires-clause-plan c =
-    let l = c.requires.reached.2 in
-    let here = parent_here _ _ l.here _ _ _ l.reaches 0 in
-    (_, here, plan_is _ _ here _ _ c.subkeys_list.ensures _ c.plan_insert-plan.ensures)
+pub returns-in-None-clause-space : goal.returns-in-None-clause-space
+returns-in-None-clause-space c = λ from path l same.
+    room_as Full c.make_sharing.result c.args.arena.now _ _ (none_sizes _ _ _ _ (ap (option_map (λ (descriptor : Bor (List ℕ)). descriptor.now)) c.in-None.is))
+    (c.make_sharing.ensures.space from path l)
 
-pub carve_for-requires-clause-few : goal.carve_for-requires-clause-few
-carve_for-requires-clause-few c =
-    let l = c.requires.reached.2 in
-    (has_room _ _ l.here _ _ _ l.reaches 0 l.depth (named _ c.requires.missing) c.requires.reached.3).0
+pub returns-in-Some-clause-cells : goal.returns-in-Some-clause-cells
+returns-in-Some-clause-cells c = λ from path l same.
+    cells_as c.make_described.result _ _ _ _ (ap (create_sizes _ _ _) (ap (option_map (λ (descriptor : Bor (List ℕ)). descriptor.now)) (sym c.in-Some.is)))
+    (c.make_described.ensures.cells from path l same)
 
-pub returns-in-Err-clause-space : goal.returns-in-Err-clause-space
-returns-in-Err-clause-space c = λ from path l full.
-    let here = parent_here _ from l.here path _ _ l.reaches 0 in
-    let plan = plan_is _ _ here _ _ c.subkeys_list.ensures _ c.plan_insert-plan.ensures in
-    created_room c.args.arena.now from l.here path _ _ l.reaches 0 plan (c.in-Err.ensures.space full)
-
-pub make_all-requires-clause-grow : goal.make_all-requires-clause-grow
-make_all-requires-clause-grow c =
-    let l = c.requires.reached.2 in
-    let here = parent_here _ _ l.here _ _ _ l.reaches c.args.moment in
-    let plan = plan_is _ _ here _ _ c.subkeys_list.ensures _ c.plan_insert-plan.ensures in
-    let room = has_room _ _ l.here _ _ _ l.reaches c.args.moment l.depth (named _ c.requires.missing) c.requires.reached.3 in
-    may_make _ _ l.here _ _ _ l.reaches c.args.moment l.depth _ c.deref.result.now
-    (spared_as _ _ _ _ c.deref.result.now c.in-Ok.cells.items c.deref.ensures.value (c.in-Ok.ensures.ok _ here plan)) room.1 room.2
-
-pub make_all-requires-clause-place : goal.make_all-requires-clause-place
-make_all-requires-clause-place c =
-    let l = c.requires.reached.2 in
-    let here = parent_here _ _ l.here _ _ _ l.reaches 0 in
-    let plan = plan_is _ _ here _ _ c.subkeys_list.ensures _ c.plan_insert-plan.ensures in
-    let room = has_room _ _ l.here _ _ _ l.reaches 0 l.depth (named _ c.requires.missing) c.requires.reached.3 in
-    place_then _ _ l.here _ _ _ l.reaches 0 l.depth _ _ (c.in-Ok.ensures.ok _ here plan) room.1 room.2 _ c.requires.place
-
-pub make_all-requires-clause-plan : goal.make_all-requires-clause-plan
-make_all-requires-clause-plan c =
-    let l = c.requires.reached.2 in
-    let here = parent_here _ _ l.here _ _ _ l.reaches 0 in
-    let plan = plan_is _ _ here _ _ c.subkeys_list.ensures _ c.plan_insert-plan.ensures in
-    let room = has_room _ _ l.here _ _ _ l.reaches 0 l.depth (named _ c.requires.missing) c.requires.reached.3 in
-    plan ∙ sym (plan_then _ _ l.here _ _ _ l.reaches 0 l.depth _ _ (c.in-Ok.ensures.ok _ here plan) room.1 room.2)
-
-pub make_all-requires-clause-depth : goal.make_all-requires-clause-depth
-make_all-requires-clause-depth c =
-    let l = c.requires.reached.2 in
-    let deep = (has_room _ _ l.here _ _ _ l.reaches 0 l.depth (named _ c.requires.missing) c.requires.reached.3).1 in
-    omega (arith, deep)
-
-pub returns-clause-ok : goal.returns-clause-ok
-returns-clause-ok c = λ from path l.
-    let here = parent_here _ from l.here path _ _ l.reaches c.args.moment in
-    let plan = plan_is _ _ here _ _ c.subkeys_list.ensures _ c.plan_insert-plan.ensures in
-    let m = c.requires.reached.2 in
-    let room = has_room _ _ m.here _ _ _ m.reaches c.args.moment m.depth (named _ c.requires.missing) c.requires.reached.3 in
-    let s = spared_as _ _ _ _ c.deref.result.now c.in-Ok.cells.items c.deref.ensures.value (c.in-Ok.ensures.ok _ here plan) in
-    created _ from l.here path _ _ l.reaches c.args.moment l.depth _ c.deref.result.now s room.1 room.2 _ c.make_all.result
-    (c.make_all.ensures.grows (may_make _ from l.here path _ _ l.reaches c.args.moment l.depth _ c.deref.result.now s room.1 room.2))
-
-pub returns-clause-cells : goal.returns-clause-cells
-returns-clause-cells c = λ from path l.
-    let here = parent_here _ from l.here path _ _ l.reaches c.args.moment in
-    let plan = plan_is _ _ here _ _ c.subkeys_list.ensures _ c.plan_insert-plan.ensures in
-    let s = spared_as _ _ _ _ c.deref.result.now c.in-Ok.cells.items c.deref.ensures.value (c.in-Ok.ensures.ok _ here plan) in
-    created_cells c.args.arena.now from l.here path _ _ l.reaches c.args.moment _ _ c.deref.result.now s c.make_all.ensures.keeps c.make_all.ensures.stay
+pub returns-in-Some-clause-space : goal.returns-in-Some-clause-space
+returns-in-Some-clause-space c = λ from path l same.
+    room_as Full c.make_described.result c.args.arena.now _ _ (ap (create_sizes _ _ _) (ap (option_map (λ (descriptor : Bor (List ℕ)). descriptor.now)) (sym c.in-Some.is)))
+    (c.make_described.ensures.space from path l same)

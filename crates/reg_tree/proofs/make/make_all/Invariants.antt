@@ -1,4 +1,4 @@
-use Rattle.std.proofs.Common.{◌≡◌, length}
+use Rattle.std.proofs.Common.{◌≡◌, ℕ, List, length}
 use Rattle.reg_names.specs.Names.{path_of}
 use Rattle.reg_arena.specs.Arena.{heap_of}
 use Rattle.reg_tree.specs.CellSizes.{planned}
@@ -9,8 +9,8 @@ use Rattle.reg_tree.proofs.make.make_all.Given as goal
 
 abbrev pub invariant-loop-name : goal.invariant-loop-name
 invariant-loop-name l = record {
-  mid : (m : MayGrowAll l.fn.arena.bytes l.fn.from (path_of l.fn.path) l.fn.spare) →
-      Midway l.fn.arena.bytes l.fn.from (path_of l.fn.path) l.fn.spare m l.fn.moment l.arena.bytes l.node l.rest l.spare;
+  mid : (last : List ℕ) → (m : MayGrowAll l.fn.arena.bytes l.fn.from (path_of l.fn.path) last l.fn.spare) →
+      Midway l.fn.arena.bytes l.fn.from (path_of l.fn.path) last l.fn.spare m l.fn.moment l.arena.bytes l.node l.rest l.spare;
   place : BelongsFirst (heap_of l.arena) l.node.offset (path_of l.rest) l.index;
   plan : l.plan ≡ planned (heap_of l.arena) l.node.offset;
   long : length l.arena.bytes ≡ length l.fn.arena.bytes;

@@ -9,7 +9,7 @@ use Rattle.reg_tree.proofs.make.make_in.Goals as goal
 
 pub make-requires-clause-grow : goal.make-requires-clause-grow
 make-requires-clause-grow c =
-    let r = c.requires.ready.1 in
+    let r = c.requires.ready.2 in
     let o = one-own _ _ _ _ _ r in
     let p = sym c.requires.plan ∙ c.in-None.is in
     let a = alone _ _ r.list_cell o.key r.left c.args.spare.now p r.ready o.spare_is in
@@ -17,7 +17,7 @@ make-requires-clause-grow c =
 
 pub make-requires-in-Some-clause-grow : goal.make-requires-in-Some-clause-grow
 make-requires-in-Some-clause-grow c =
-    let r = c.requires.ready.1 in
+    let r = c.requires.ready.2 in
     let o = one-own _ _ _ _ _ r in
     let p = sym c.requires.plan ∙ c.in-Some.is in
     let b = beside _ _ _ r.list_cell o.key r.left c.args.spare.now p r.ready o.spare_is in
@@ -25,7 +25,7 @@ make-requires-in-Some-clause-grow c =
 
 pub make-requires-in-Some-clause-room : goal.make-requires-in-Some-clause-room
 make-requires-in-Some-clause-room c =
-    let r = c.requires.ready.1 in
+    let r = c.requires.ready.2 in
     let o = one-own _ _ _ _ _ r in
     let p = sym c.requires.plan ∙ c.in-Some.is in
     let b = beside _ _ _ r.list_cell o.key r.left c.args.spare.now p r.ready o.spare_is in
@@ -33,7 +33,7 @@ make-requires-in-Some-clause-room c =
 
 pub returns-in-None-clause-grows : goal.returns-in-None-clause-grows
 returns-in-None-clause-grows c =
-    let r = c.requires.ready.1 in
+    let r = c.requires.ready.2 in
     let o = one-own _ _ _ _ _ r in
     let p = sym c.requires.plan ∙ c.in-None.is in
     let a = alone _ _ r.list_cell o.key r.left c.args.spare.now p r.ready o.spare_is in
@@ -42,15 +42,15 @@ returns-in-None-clause-grows c =
     _ _ a.all (c.make.ensures.grows (drop 1 c.args.spare.now))
 
 pub returns-in-None-clause-ready : goal.returns-in-None-clause-ready
-returns-in-None-clause-ready c = λ more r.
+returns-in-None-clause-ready c = λ last more r.
     let o = one-own _ _ _ _ _ r in
     let p = sym c.requires.plan ∙ c.in-None.is in
     let a = alone _ _ r.list_cell o.key r.left c.args.spare.now p r.ready o.spare_is in
-    subst (λ s. AreReady (heap_of c.args.arena.now) (Some FIRST_LIST_SIZE) more s) (sym a.left_is) r.rest
+    subst (λ s. AreReady (heap_of c.args.arena.now) last (Some FIRST_LIST_SIZE) more s) (sym a.left_is) r.rest
 
 pub returns-in-Some-clause-taken : goal.returns-in-Some-clause-taken
 returns-in-Some-clause-taken c =
-    let r = c.requires.ready.1 in
+    let r = c.requires.ready.2 in
     let o = one-own _ _ _ _ _ r in
     let p = sym c.requires.plan ∙ c.in-Some.is in
     let b = beside _ _ _ r.list_cell o.key r.left c.args.spare.now p r.ready o.spare_is in
@@ -59,7 +59,7 @@ returns-in-Some-clause-taken c =
 
 pub returns-in-Some-clause-grows : goal.returns-in-Some-clause-grows
 returns-in-Some-clause-grows c =
-    let r = c.requires.ready.1 in
+    let r = c.requires.ready.2 in
     let o = one-own _ _ _ _ _ r in
     let p = sym c.requires.plan ∙ c.in-Some.is in
     let b = beside _ _ _ r.list_cell o.key r.left c.args.spare.now p r.ready o.spare_is in
@@ -68,15 +68,15 @@ returns-in-Some-clause-grows c =
     _ _ b.all (c.make-in-Some.ensures.grows (drop 2 c.args.spare.now))
 
 pub returns-in-Some-clause-ready : goal.returns-in-Some-clause-ready
-returns-in-Some-clause-ready c = λ more r.
+returns-in-Some-clause-ready c = λ last more r.
     let o = one-own _ _ _ _ _ r in
     let p = sym c.requires.plan ∙ c.in-Some.is in
     let b = beside _ _ _ r.list_cell o.key r.left c.args.spare.now p r.ready o.spare_is in
-    subst (λ s. AreReady (heap_of c.args.arena.now) (Some FIRST_LIST_SIZE) more s) (sym b.left_is) r.rest
+    subst (λ s. AreReady (heap_of c.args.arena.now) last (Some FIRST_LIST_SIZE) more s) (sym b.left_is) r.rest
 
 pub bounds-spare-1 : goal.bounds-spare-1
 bounds-spare-1 c =
-    let r = c.requires.ready.1 in
+    let r = c.requires.ready.2 in
     let o = one-own _ _ _ _ _ r in
     let p = sym c.requires.plan ∙ c.in-Some.is in
     let b = beside _ _ _ r.list_cell o.key r.left c.args.spare.now p r.ready o.spare_is in

@@ -1,4 +1,4 @@
-use Rattle.std.proofs.Common.{◌≡◌, ◌↔◌, true, Err}
+use Rattle.std.proofs.Common.{◌≡◌, ◌↔◌, true, Err, refl}
 use Rattle.reg_names.specs.Names.{path_of}
 use Rattle.reg_heap.specs.Paths.{Tree}
 use Rattle.reg_arena.specs.Arena.{heap_of}
@@ -13,11 +13,12 @@ pub create-requires-clause-here : goal.create-requires-clause-here
 create-requires-clause-here c = from_at _ _ c.self.invariant _ c.self.view_is c.args.from c.requires.from
 
 pub invariant_of-self : goal.invariant_of-self
-invariant_of-self c = holds_created _ _ c.self.invariant _ c.self.view_is _ c.create.result c.args.from c.requires.from (path_of c.args.path.now) c.args.moment c.create.ensures.ok c.create.ensures.err
+invariant_of-self c = holds_created _ _ c.self.invariant _ c.self.view_is _ _ c.create.result c.args.from c.requires.from (path_of c.args.path.now) _
+    c.args.moment c.create.ensures.ok c.create.ensures.err c.create.ensures.table
 
 pub returns-clause-ok : goal.returns-clause-ok
-returns-clause-ok c = keys_created _ _ c.self.invariant _ c.self.view_is _ c.create.result c.args.from c.requires.from (path_of c.args.path.now)
-    c.args.moment c.create.ensures.ok c.create.ensures.err c.create.ensures.new
+returns-clause-ok c = keys_created _ _ c.self.invariant _ c.self.view_is _ _ c.create.result c.args.from c.requires.from (path_of c.args.path.now) _
+    c.args.moment c.create.ensures.ok c.create.ensures.new
 
 pub returns-clause-limit : goal.returns-clause-limit
 returns-clause-limit c = λ p at.
@@ -26,21 +27,21 @@ returns-clause-limit c = λ p at.
 
 pub returns-clause-cells : goal.returns-clause-cells
 returns-clause-cells c = λ p at.
-    cells_created _ _ c.self.invariant _ c.self.view_is (heap_of c.create.new.arena) c.create.result p (path_of c.args.path.now)
-    (c.create.ensures.cells (here_at _ _ c.self.invariant _ c.self.view_is c.args.from p at) at.depth)
+    cells_created _ _ c.self.invariant _ c.self.view_is (heap_of c.create.new.arena) c.create.result p (path_of c.args.path.now) _
+    (c.create.ensures.cells (here_at _ _ c.self.invariant _ c.self.view_is c.args.from p at) refl at.depth)
 
 pub returns-clause-same : goal.returns-clause-same
 returns-clause-same c = same_created _ _ c.self.invariant _ c.self.view_is c.create.new.arena c.create.result c.create.ensures.same
 
 pub returns-clause-lengths : goal.returns-clause-lengths
-returns-clause-lengths c =
-    lengths_created _ _ c.self.invariant _ c.self.view_is _ c.create.result c.args.from c.requires.from (path_of c.args.path.now) c.args.moment c.create.ensures.ok c.create.ensures.err
+returns-clause-lengths c = lengths_created _ _ c.self.invariant _ c.self.view_is _ _ c.create.result c.args.from c.requires.from (path_of c.args.path.now) _
+    c.args.moment c.create.ensures.ok
 
 pub returns-clause-made : goal.returns-clause-made
-returns-clause-made c =
-    noted_created _ _ c.self.invariant _ c.self.view_is _ c.create.result c.args.from c.requires.from (path_of c.args.path.now) c.args.moment c.create.ensures.ok c.create.ensures.err
+returns-clause-made c = noted_created _ _ c.self.invariant _ c.self.view_is _ _ c.create.result c.args.from c.requires.from (path_of c.args.path.now) _
+    c.args.moment c.create.ensures.ok
 
 pub returns-clause-space : goal.returns-clause-space
 returns-clause-space c = λ p at.
-    room_created _ _ c.self.invariant _ c.self.view_is Full c.create.result p (path_of c.args.path.now)
-    (c.create.ensures.space (here_at _ _ c.self.invariant _ c.self.view_is c.args.from p at) at.depth)
+    room_created _ _ c.self.invariant _ c.self.view_is Full c.create.result p (path_of c.args.path.now) _
+    (c.create.ensures.space (here_at _ _ c.self.invariant _ c.self.view_is c.args.from p at) refl at.depth)

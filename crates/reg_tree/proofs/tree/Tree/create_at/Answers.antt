@@ -1,3 +1,4 @@
+use Rattle.std.proofs.Common.{refl}
 use Rattle.reg_names.specs.Names.{path_of}
 use Rattle.reg_arena.specs.Arena.{heap_of}
 use Rattle.reg_arena.specs.declared.ArenaFault.TheVariants.{Full}
@@ -13,30 +14,30 @@ create_at-requires-clause-place c = place_at _ _ c.self.invariant _ c.self.view_
 
 pub invariant_of-self : goal.invariant_of-self
 invariant_of-self c =
-    holds_made _ _ c.self.invariant _ c.self.view_is c.args.reached c.requires.reached c.requires.few c.create_at.new.arena c.create_at.result c.args.moment
-    c.create_at.ensures.ok c.create_at.ensures.err
+    holds_made _ _ c.self.invariant _ c.self.view_is c.args.reached c.requires.reached c.requires.few c.create_at.new.arena _ c.create_at.result _ c.args.moment
+    c.create_at.ensures.ok c.create_at.ensures.err c.create_at.ensures.table
 
 pub returns-clause-ok : goal.returns-clause-ok
 returns-clause-ok c = λ from path r p at.
-    keys_seen _ _ c.self.invariant _ c.self.view_is c.args.reached c.requires.reached c.requires.few c.create_at.new.arena c.create_at.result c.args.moment
+    keys_seen _ _ c.self.invariant _ c.self.view_is c.args.reached c.requires.reached c.requires.few c.create_at.new.arena _ c.create_at.result _ c.args.moment
     c.create_at.ensures.ok from path r p at c.requires.missing
 
 pub returns-clause-cells : goal.returns-clause-cells
 returns-clause-cells c = λ from path r p at.
-    cells_created _ _ c.self.invariant _ c.self.view_is (heap_of c.create_at.new.arena) c.create_at.result p (path_of path)
-    (c.create_at.ensures.cells from path (leads_at _ _ c.self.invariant _ c.self.view_is c.args.reached from path r p at))
+    cells_created _ _ c.self.invariant _ c.self.view_is (heap_of c.create_at.new.arena) c.create_at.result p (path_of path) _
+    (c.create_at.ensures.cells from path (leads_at _ _ c.self.invariant _ c.self.view_is c.args.reached from path r p at) refl)
 
 pub returns-clause-lengths : goal.returns-clause-lengths
 returns-clause-lengths c =
-    lengths_seen _ _ c.self.invariant _ c.self.view_is c.args.reached c.requires.reached c.requires.few c.create_at.new.arena c.create_at.result c.args.moment
+    lengths_seen _ _ c.self.invariant _ c.self.view_is c.args.reached c.requires.reached c.requires.few c.create_at.new.arena _ c.create_at.result _ c.args.moment
     c.create_at.ensures.ok
 
 pub returns-clause-made : goal.returns-clause-made
 returns-clause-made c =
-    noted_seen _ _ c.self.invariant _ c.self.view_is c.args.reached c.requires.reached c.requires.few c.create_at.new.arena c.create_at.result c.args.moment
+    noted_seen _ _ c.self.invariant _ c.self.view_is c.args.reached c.requires.reached c.requires.few c.create_at.new.arena _ c.create_at.result _ c.args.moment
     c.create_at.ensures.ok
 
 pub returns-clause-space : goal.returns-clause-space
 returns-clause-space c = λ from path r p at.
-    room_created _ _ c.self.invariant _ c.self.view_is Full c.create_at.result p (path_of path)
-    (c.create_at.ensures.space from path (leads_at _ _ c.self.invariant _ c.self.view_is c.args.reached from path r p at))
+    room_created _ _ c.self.invariant _ c.self.view_is Full c.create_at.result p (path_of path) _
+    (c.create_at.ensures.space from path (leads_at _ _ c.self.invariant _ c.self.view_is c.args.reached from path r p at) refl)

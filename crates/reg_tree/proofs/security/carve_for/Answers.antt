@@ -1,0 +1,11 @@
+use Rattle.std.proofs.Common.{◌∷◌, [], Err, subst, ap}
+use Rattle.reg_arena.specs.NewBin.{PassesLimit}
+use Rattle.reg_arena.specs.NewCells.{total_of}
+use Rattle.reg_tree.specs.Internal.DescriptorChange.{IsExpected}
+use Rattle.reg_tree.proofs.DescribeKey.SecurityJoined.{near-limit, which-fault}
+use Rattle.reg_tree.proofs.security.carve_for.Goals as goal
+
+pub returns-clause-full : goal.returns-clause-full
+returns-clause-full c = λ full.
+    let size = (subst (IsExpected c.args.securities.now _ c.args.descriptor.now) c.in-Some.is c.in-Ok.ensures.ok).0 in
+    near-limit _ _ c.requires.1 (subst (λ size. PassesLimit c.args.arena.now.bytes (total_of (size ∷ []))) size (c.in-Err.ensures.full.0 (ap (λ f. Err f) (which-fault _ _ full))).1)

@@ -1,0 +1,36 @@
+use Rattle.std.proofs.Common.{sym}
+use Rattle.reg_tree.proofs.DescribeKey.SecurityJoined.{joined-new, joined-there, few-users, is-there, new-room, new-sizes}
+use Rattle.reg_tree.proofs.InsertKey.MadeCells.{written_sizes}
+use Rattle.reg_tree.proofs.Invariant.CellReadings.{is_some_of, security-exists}
+use Rattle.reg_tree.proofs.security.join.Goals as goal
+
+pub returns-in-Some-clause-joins : goal.returns-in-Some-clause-joins
+returns-in-Some-clause-joins c = λ key d near.
+    joined-new c.args.arena.now.bytes key c.args.securities.now c.args.descriptor.now c.args.cell c.in-Some.cell c.args.near c.in-Some.is _ _ c.add.ensures.added d near
+
+pub returns-in-Some-clause-sizes : goal.returns-in-Some-clause-sizes
+returns-in-Some-clause-sizes c =
+    let here = c.requires.ring in
+    new-sizes _ _ c.in-Some.cell c.args.descriptor.now
+    (new-room c.args.arena.now.bytes here.0 c.args.securities.now c.args.descriptor.now c.args.cell c.in-Some.cell c.in-Some.is here.1)
+    c.add.ensures.beside c.add.ensures.put
+
+pub share-requires-clause-few : goal.share-requires-clause-few
+share-requires-clause-few c =
+    let here = c.requires.ring in
+    few-users c.args.arena.now.bytes here.0 c.args.securities.now c.args.descriptor.now c.in-Some-find_equal.cell
+    (sym c.in-Some-find_equal.ensures.noted) c.args.cell c.in_default.is here.1
+
+pub returns-clause-joins : goal.returns-clause-joins
+returns-clause-joins c = λ key d near.
+    joined-there c.args.arena.now.bytes key c.args.securities.now c.args.descriptor.now c.in-Some-find_equal.cell
+    (sym c.in-Some-find_equal.ensures.noted) c.args.cell c.in_default.is _ c.share.ensures.recounts c.share.ensures.ring d
+
+pub returns-clause-sizes : goal.returns-clause-sizes
+returns-clause-sizes c =
+    let here = c.requires.ring in
+    let there =
+    is-there c.args.arena.now.bytes here.0 c.args.securities.now c.args.descriptor.now c.in-Some-find_equal.cell
+    (sym c.in-Some-find_equal.ensures.noted) c.args.cell c.in_default.is here.1
+    in
+    written_sizes _ _ c.in-Some-find_equal.cell _ (security-exists _ c.in-Some-find_equal.cell (is_some_of _ _ there.1)) (c.share.ensures.written there.0 there.1)
