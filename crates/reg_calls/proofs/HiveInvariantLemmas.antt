@@ -17,10 +17,10 @@ use Rattle.reg_model.specs.Histories.{state_of, replay, IsFit}
 use Rattle.reg_model.specs.declared.reply.Entry.{Entry}
 use Rattle.reg_model.specs.declared.reply.ChangeReply.{ChangeReply}
 use Rattle.reg_model.specs.declared.call.Change.{Change}
-use Rattle.reg_model.specs.declared.call.Change.TheVariants.{OpenRoot, OpenKey, CreateKey, SetValue, DeleteValue, DeleteKey, Close}
+use Rattle.reg_model.specs.declared.call.Change.TheVariants.{OpenRoot, OpenKey, CreateKey, SetValue, DeleteValue, DeleteKey, SetSecurity, Close}
 use Rattle.reg_model.proofs.JournalGrowth.{replay-push, legal-push}
 use Rattle.reg_model.proofs.LegalJournals.{is_standing, handles-below}
-use Rattle.reg_model.proofs.AcceptedCalls.{both_false, root-met, open-met, create-met, set-met, drop-met, delete-met, close-met}
+use Rattle.reg_model.proofs.AcceptedCalls.{both_false, root-met, open-met, create-met, set-met, drop-met, delete-met, secure-met, close-met}
 use Rattle.reg_arena.specs.Arena.{IsSound}
 use Rattle.reg_tree.specs.TreeKeys.{IsWholeTree}
 use Rattle.reg_calls.specs.declared.store.Store.{Store}
@@ -106,11 +106,13 @@ unfolding after
 fits s e small = elim e.change as (λ (change : Change). change_cause s e.session change 0 ≡ None → Fits s change (after s.world (record e { change = change })).handles) [
   | OpenRoot mask ↦ λ none. let m = root-met s e.session mask 0 none in fits-push s e.session (OpenRoot mask) _ refl m.room
   | OpenKey h path mask ↦ λ none. let m = open-met s e.session h path mask 0 none in fits-push s e.session (OpenKey h path mask) _ refl m.room
-  | CreateKey h path mask ↦ λ none. let m = create-met s e.session h path mask 0 none in fits-push s e.session (CreateKey h path mask) _ refl m.room
+  | CreateKey h path mask given ↦ λ none. let m = create-met s e.session h path mask given 0 none in fits-push s e.session (CreateKey h path mask given) _ refl m.room
   | SetValue h name kind bytes ↦ λ none. let m = set-met s e.session h name kind bytes 0 none in fits-same s (SetValue h name kind bytes) s.world.handles refl refl m.room
   | DeleteValue h name ↦ λ none. let m = drop-met s e.session h name 0 none in fits-same s (DeleteValue h name) s.world.handles refl refl m.room
   | DeleteKey h path ↦ λ none. let m = delete-met s e.session h path 0 none in
       fits-same s (DeleteKey h path) (turned (path_from e.session h s.world.handles path) s.world.handles) (length-map s.world.handles _) refl m.room
+  | SetSecurity h descriptor ↦ λ none. let m = secure-met s e.session h descriptor 0 none in
+      fits-same s (SetSecurity h descriptor) s.world.handles refl refl m.room
   | Close h ↦ λ none. let l = closed-fewer e.session h s.world.handles (close-met s e.session h 0 none) in
       record { small = omega (arith, small, l); grown = omega (arith, l); closing = λ c. l }
 ]

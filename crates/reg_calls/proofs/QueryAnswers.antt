@@ -10,13 +10,14 @@ use Rattle.std.proofs.lemmas.Option.{slice_get_within, slice_get_cases}
 use Rattle.reg_names.specs.Names.{is_value_name}
 use Rattle.reg_heap.specs.Paths.{Path, Tree, Rec, Member, children_of}
 use Rattle.reg_heap.specs.Members.{value_named}
-use Rattle.reg_heap.specs.Edits.{values_at}
+use Rattle.reg_heap.specs.Edits.{values_at, descriptor_of}
 use Rattle.reg_model.specs.Causes.{State, early_query_cause, late_query_cause, query_cause, refuse, asked, has, subkeys_of, members_of, lacks_value, ◌or◌}
-use Rattle.reg_model.specs.Replies.{body_of, value_told, key_told, member_told, info_told, largest_of, name_of}
+use Rattle.reg_model.specs.Replies.{body_of, value_told, key_told, member_told, info_told, security_told, largest_of, name_of}
+use Rattle.reg_model.specs.declared.rights.TheConstants.{READ_CONTROL}
 use Rattle.reg_model.specs.declared.answer.AnswerBody.{AnswerBody}
 use Rattle.reg_model.specs.declared.answer.AnswerBody.TheVariants.{Refused}
 use Rattle.reg_model.specs.declared.call.Query.{Query}
-use Rattle.reg_model.specs.declared.call.Query.TheVariants.{QueryValue, EnumKey, EnumValue, QueryInfo}
+use Rattle.reg_model.specs.declared.call.Query.TheVariants.{QueryValue, EnumKey, EnumValue, QueryInfo, GetSecurity}
 use Rattle.reg_tree.specs.declared.value.ValueFound.{ValueFound}
 use Rattle.reg_tree.specs.ValueAnswers.{IsFound}
 use Rattle.reg_calls.specs.declared.store.Store.{Store}
@@ -142,6 +143,23 @@ module _ (n : ℕ) (store : Store) (session h : ℕ) where
   pub info-due : (g : t) → body_of s session (QueryInfo h) ≡ info_told tree g.path
   unfolding body_of
   info-due g = ap (info_told tree) (target-at store session h g)
+
+  -- ---- GetSecurity
+
+  pub security-refused : (room status : ℕ) → Refuses store session h status → IsRead no_callbacks s session (GetSecurity h room) (Refused status)
+  unfolding early_query_cause late_query_cause
+  security-refused room status r = refused s session status (GetSecurity h room) (first _ _ _ status (r (λ x. refuse (not (has READ_CONTROL x.mask)) 5)))
+
+  pub security-causes : (room mask : ℕ) (g : t) → mask ≡ g.handle.mask →
+      query_cause s session (GetSecurity h room) 0 ≡ (refuse (not (has READ_CONTROL mask)) 5 or asked 0 or None)
+  unfolding early_query_cause late_query_cause
+  security-causes room mask g m =
+      ap (λ (a : Option ℕ). a or asked 0 or None) (by_handle-at store session h g (λ x. refuse (not (has READ_CONTROL x.mask)) 5))
+      ∙ ap (λ (k : ℕ). refuse (not (has READ_CONTROL k)) 5 or asked 0 or None) (sym m)
+
+  pub security-due : (room : ℕ) (g : t) → body_of s session (GetSecurity h room) ≡ security_told (descriptor_of (get tree g.path)) room
+  unfolding body_of
+  security-due room g = ap (λ (q : Path). security_told (descriptor_of (get tree q)) room) (target-at store session h g)
 
 -- ---- 8 in the place of bytes
 

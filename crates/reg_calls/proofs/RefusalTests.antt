@@ -7,12 +7,12 @@ use Rattle.reg_names.specs.Names.{is_value_name, path_of}
 use Rattle.reg_heap.specs.Paths.{Path}
 use Rattle.reg_heap.specs.Members.{value_named}
 use Rattle.reg_heap.specs.Edits.{values_at, folded_path, are_too_many, may_not_go}
-use Rattle.reg_model.specs.declared.rights.TheConstants.{SET_VALUE}
+use Rattle.reg_model.specs.declared.rights.TheConstants.{SET_VALUE, WRITE_DAC}
 use Rattle.reg_model.specs.declared.statuses.TheConstants.{ACCESS_DENIED, FILE_NOT_FOUND, INVALID_PARAMETER, NO_SYSTEM_RESOURCES}
 use Rattle.reg_model.specs.Worlds.{Handle, look, path_at, path_from}
 use Rattle.reg_model.specs.Causes.{State, early_cause, late_cause, change_cause, refuse, ◌or◌, asked, is_mask, is_bad_value, is_bad_open, is_bad_target, no_handle_room, no_key_room}
-use Rattle.reg_model.specs.Causes.{no_value_room, lacks_value, lacks_key, has, is_full, by_handle}
-use Rattle.reg_model.specs.declared.call.Change.TheVariants.{OpenRoot, OpenKey, CreateKey, SetValue, DeleteValue, DeleteKey, Close}
+use Rattle.reg_model.specs.Causes.{is_bad_descriptor, is_bad_given, no_value_room, lacks_value, lacks_key, has, is_full, by_handle}
+use Rattle.reg_model.specs.declared.call.Change.TheVariants.{OpenRoot, OpenKey, CreateKey, SetValue, DeleteValue, DeleteKey, SetSecurity, Close}
 use Rattle.reg_calls.specs.declared.store.Store.{Store}
 use Rattle.reg_calls.specs.Internal.Stores.{at, IsTarget}
 use Rattle.reg_calls.proofs.HandleLookUps.{by_handle-at, target-at, target-from}
@@ -63,20 +63,21 @@ module _ (n : ℕ) (store : Store) (session h : ℕ) where
 
   -- ---- CreateKey
 
-  pub create-refused : (path : List ℕ) (mask status : ℕ) → Refuses store session h status → change_cause s session (CreateKey h path mask) 0 ≡ Some status
+  pub create-refused : (path : List ℕ) (mask : ℕ) (given : Option (List ℕ)) (status : ℕ) → Refuses store session h status →
+      change_cause s session (CreateKey h path mask given) 0 ≡ Some status
   unfolding early_cause late_cause
-  create-refused path mask status r =
-      first _ _ _ status (r (λ x. refuse (is_bad_open path mask) INVALID_PARAMETER or refuse
+  create-refused path mask given status r =
+      first _ _ _ status (r (λ x. refuse (is_bad_open path mask || is_bad_given given) INVALID_PARAMETER or refuse
       (no_handle_room session s || no_key_room s session h path) NO_SYSTEM_RESOURCES))
 
-  pub create-causes : (path : List ℕ) (mask : ℕ) (g : t) →
-      change_cause s session (CreateKey h path mask) 0 ≡ (refuse (is_bad_open path mask) INVALID_PARAMETER or refuse
+  pub create-causes : (path : List ℕ) (mask : ℕ) (given : Option (List ℕ)) (g : t) →
+      change_cause s session (CreateKey h path mask given) 0 ≡ (refuse (is_bad_open path mask || is_bad_given given) INVALID_PARAMETER or refuse
       (no_handle_room session s || are_too_many store.tree.tree g.path (path_of path)) NO_SYSTEM_RESOURCES or asked 0 or None)
   unfolding early_cause late_cause
-  create-causes path mask g =
-      ap (λ (a : Option ℕ). a or asked 0 or None) (by_handle-at store session h g (λ x. refuse (is_bad_open path mask) INVALID_PARAMETER or refuse
+  create-causes path mask given g =
+      ap (λ (a : Option ℕ). a or asked 0 or None) (by_handle-at store session h g (λ x. refuse (is_bad_open path mask || is_bad_given given) INVALID_PARAMETER or refuse
       (no_handle_room session s || no_key_room s session h path) NO_SYSTEM_RESOURCES))
-      ∙ ap (λ (q : Path). refuse (is_bad_open path mask) INVALID_PARAMETER or refuse (no_handle_room session s || are_too_many store.tree.tree q
+      ∙ ap (λ (q : Path). refuse (is_bad_open path mask || is_bad_given given) INVALID_PARAMETER or refuse (no_handle_room session s || are_too_many store.tree.tree q
       (path_of path)) NO_SYSTEM_RESOURCES or asked 0 or None) (target-at store session h g)
 
   -- ---- SetValue
@@ -137,6 +138,25 @@ module _ (n : ℕ) (store : Store) (session h : ℕ) where
       (by_handle-at store session h g (λ x. refuse (is_bad_target path) INVALID_PARAMETER or refuse (is_full 1 s) NO_SYSTEM_RESOURCES))
       ∙ ap (λ (q : Path). refuse (is_bad_target path) INVALID_PARAMETER or refuse (is_full 1 s) NO_SYSTEM_RESOURCES or asked 0 or
       (refuse (not (is_some (get store.tree.tree q))) FILE_NOT_FOUND or refuse (may_not_go store.tree.tree q) ACCESS_DENIED)) (target-from store session h g path)
+
+  -- ---- SetSecurity
+
+  pub secure-refused : (descriptor : List ℕ) (status : ℕ) → Refuses store session h status → change_cause s session (SetSecurity h descriptor) 0 ≡ Some status
+  unfolding early_cause late_cause
+  secure-refused descriptor status r =
+      first _ _ _ status (r (λ x. refuse (is_bad_descriptor descriptor) INVALID_PARAMETER or refuse (not (has WRITE_DAC x.mask)) ACCESS_DENIED or refuse
+      (is_full 1 s) NO_SYSTEM_RESOURCES))
+
+  pub secure-causes : (descriptor : List ℕ) (mask : ℕ) (g : t) → mask ≡ g.handle.mask →
+      change_cause s session (SetSecurity h descriptor) 0 ≡ (refuse (is_bad_descriptor descriptor) INVALID_PARAMETER or refuse (not (has WRITE_DAC mask)) ACCESS_DENIED or refuse
+      (is_full 1 s) NO_SYSTEM_RESOURCES or asked 0 or None)
+  unfolding early_cause late_cause
+  secure-causes descriptor mask g m =
+      ap (λ (a : Option ℕ). a or asked 0 or None)
+      (by_handle-at store session h g (λ x. refuse (is_bad_descriptor descriptor) INVALID_PARAMETER or refuse (not (has WRITE_DAC x.mask)) ACCESS_DENIED or refuse
+      (is_full 1 s) NO_SYSTEM_RESOURCES))
+      ∙ ap (λ (k : ℕ). refuse (is_bad_descriptor descriptor) INVALID_PARAMETER or refuse (not (has WRITE_DAC k)) ACCESS_DENIED or refuse
+      (is_full 1 s) NO_SYSTEM_RESOURCES or asked 0 or None) (sym m)
 
   -- ---- Close
 

@@ -1,20 +1,20 @@
 -- What the changes of accepted calls make of a store.
 use Rattle.std.proofs.Common.{◌≡◌, ◌≢◌, ℕ, ◌+◌, ◌<◌, ◌≤◌, Bool, true, false, not, nat_lt, nat_le, cond, is_some, List, [], ◌∷◌, ◌++◌, length, Option}
 use Rattle.std.proofs.Common.{Some, None, refl, sym, ap, ◌∙◌, subst, arith}
-use Rattle.std.specs.Prelude.{Err}
+use Rattle.std.specs.Prelude.{Err, IfSome, option_map, ◌==◌}
 use Rattle.std.proofs.lemmas.Bool.Decides.{nat_tests}
 use Rattle.reg_model.specs.declared.limits.TheConstants.{HANDLES_LIMIT}
-use Rattle.reg_heap.specs.declared.limits.TheConstants.{DATA_LIMIT, GROWTH_BOUND}
+use Rattle.reg_heap.specs.declared.limits.TheConstants.{DATA_LIMIT, DESCRIPTOR_LIMIT, GROWTH_BOUND}
 use Rattle.reg_names.specs.Names.{path_of, is_value_name}
 use Rattle.reg_heap.specs.Paths.{Path, Tree}
-use Rattle.reg_heap.specs.Edits.{edited, with_value, without_value, child_path, has_child, with_key, with_keys, missing, without_key}
+use Rattle.reg_heap.specs.Edits.{edited, with_value, without_value, with_descriptor, child_path, has_child, if_last, with_key, with_keys, missing, without_key}
 use Rattle.reg_model.specs.Worlds.{Handle, At, look, path_at, path_from, closed, turned, after}
-use Rattle.reg_model.specs.Causes.{State, change_cause, handles_of, no_handle_room, is_full}
+use Rattle.reg_model.specs.Causes.{State, change_cause, handles_of, no_handle_room, is_full, is_bad_descriptor, is_bad_given}
 use Rattle.reg_model.specs.Replies.{reply_to, disposition_of}
 use Rattle.reg_model.specs.declared.reply.ChangeReply.{ChangeReply}
 use Rattle.reg_model.specs.declared.call.Change.{Change}
-use Rattle.reg_model.specs.declared.call.Change.TheVariants.{OpenRoot, OpenKey, CreateKey, SetValue, DeleteValue, DeleteKey, Close}
-use Rattle.reg_model.proofs.AcceptedCalls.{both_false, not_false, root-met, open-met, create-met, SetMet, set-met, close-met}
+use Rattle.reg_model.specs.declared.call.Change.TheVariants.{OpenRoot, OpenKey, CreateKey, SetValue, DeleteValue, DeleteKey, SetSecurity, Close}
+use Rattle.reg_model.proofs.AcceptedCalls.{both_false, not_false, root-met, open-met, create-met, SetMet, set-met, secure-met, close-met}
 use Rattle.reg_handles.specs.HandleTables.{Table}
 use Rattle.reg_arena.specs.Arena.{heap_of}
 use Rattle.reg_arena.specs.declared.ArenaFault.{ArenaFault}
@@ -34,19 +34,33 @@ use Rattle.reg_calls.proofs.TableAndLimitLemmas.{not_above}
 
 -- ---- keys of which none is missing
 
-none-step : (b : Bool) (t : Tree) (p : Path) (name : List ℕ) (names : List (List ℕ)) (moment : ℕ) →
-    (missing t (child_path p name) names ≡ [] → with_keys t (child_path p name) names moment ≡ t) → cond b (missing t (child_path p name) names) (name ∷ names) ≡ [] →
-    with_keys (cond b t (with_key t p name moment)) (child_path p name) names moment ≡ t
-none-step true t p name names moment on none = on none
-none-step false t p name names moment on none = absurd (cc)
+none-step : (b : Bool) (t : Tree) (p : Path) (name : List ℕ) (names : List (List ℕ)) (given : Option (List ℕ)) (moment : ℕ) →
+    (missing t (child_path p name) names ≡ [] → with_keys t (child_path p name) names given moment ≡ t) → cond b (missing t (child_path p name) names) (name ∷ names) ≡ [] →
+    with_keys (cond b t (with_key t p name (if_last names given) moment)) (child_path p name) names given moment ≡ t
+none-step true t p name names given moment on none = on none
+none-step false t p name names given moment on none = absurd (cc)
 
-none-made : (t : Tree) (p : Path) (names : List (List ℕ)) (moment : ℕ) → missing t p names ≡ [] → with_keys t p names moment ≡ t
-none-made t p [] moment e = refl
-none-made t p (name ∷ names) moment e = none-step (has_child t p name) t p name names moment (none-made t (child_path p name) names moment) e
+none-made : (t : Tree) (p : Path) (names : List (List ℕ)) (given : Option (List ℕ)) (moment : ℕ) → missing t p names ≡ [] → with_keys t p names given moment ≡ t
+none-made t p [] given moment e = refl
+none-made t p (name ∷ names) given moment e =
+    none-step (has_child t p name) t p name names given moment (none-made t (child_path p name) names given moment) e
 
 with-names : (text : List ℕ) → text ≢ [] → path_of text ≡ [] → ⊥
 with-names [] some e = absurd (some refl)
 with-names (x ∷ xs) some e = some_names (x ∷ xs) false (sym (grind (arith, nat_tests))) refl e
+
+-- ---- descriptors that aren't bad
+
+described : (descriptor : List ℕ) → is_bad_descriptor descriptor ≡ false → (1 ≤ length descriptor) × (length descriptor ≤ DESCRIPTOR_LIMIT)
+described descriptor good =
+    let b = both_false (length descriptor == 0) (nat_lt DESCRIPTOR_LIMIT (length descriptor)) good in
+    let some : 1 ≤ length descriptor = grind (arith, nat_tests, b.0) in
+    (some, not_above DESCRIPTOR_LIMIT (length descriptor) b.1)
+
+given-described : {A : Type 0} (given : Option A) (bytes : A → List ℕ) → is_bad_given (option_map bytes given) ≡ false →
+    IfSome given (λ descriptor. (1 ≤ length (bytes descriptor)) × (length (bytes descriptor) ≤ DESCRIPTOR_LIMIT))
+given-described None bytes good = tt
+given-described (Some descriptor) bytes good = described (bytes descriptor) good
 
 -- ---- the calls
 
@@ -105,15 +119,20 @@ module _ (n : ℕ) (store : Store) (session : ℕ) (ready : IsReady n store) whe
 
   -- ---- CreateKey
 
-  module _ (h : ℕ) (path : List ℕ) (mask : ℕ) (c : change_cause s session (CreateKey h path mask) 0 ≡ None) where
+  pub create-given : {A : Type 0} (given : Option A) (bytes : A → List ℕ) (h : ℕ) (path : List ℕ) (mask : ℕ) →
+      change_cause s session (CreateKey h path mask (option_map bytes given)) 0 ≡ None →
+      IfSome given (λ descriptor. (1 ≤ length (bytes descriptor)) × (length (bytes descriptor) ≤ DESCRIPTOR_LIMIT))
+  create-given given bytes h path mask c = let m = create-met s session h path mask (option_map bytes given) 0 c in given-described given bytes m.sound
+
+  module _ (h : ℕ) (path : List ℕ) (mask : ℕ) (given : Option (List ℕ)) (c : change_cause s session (CreateKey h path mask given) 0 ≡ None) where
     pub create-room : handles_of session hs < HANDLES_LIMIT
-    create-room = let m = create-met s session h path mask 0 c in room-few m.room
+    create-room = let m = create-met s session h path mask given 0 c in room-few m.room
 
     pub create-done : (moment : ℕ) (keys : Keys) (table : Table Node) (text : List ℕ) → path_of text ≡ path_from session h hs path →
-        keys.tree ≡ with_keys tree (path_at session h hs) (path_of path) moment → added table mask text → (told : ChangeReply) →
+        keys.tree ≡ with_keys tree (path_at session h hs) (path_of path) given moment → added table mask text → (told : ChangeReply) →
         told ≡ opening (Some (disposition_of (missing tree (path_at session h hs) (path_of path)))) →
         length store.tree.bins.bytes ≤ length keys.bins.bytes → length keys.bins.bytes ≤ length store.tree.bins.bytes + GROWTH_BOUND →
-        KnowsKeys (record { tree = keys; handles = table }) → IsDone store (record { tree = keys; handles = table }) session moment n (CreateKey h path mask) told
+        KnowsKeys (record { tree = keys; handles = table }) → IsDone store (record { tree = keys; handles = table }) session moment n (CreateKey h path mask given) told
     unfolding after reply_to
     create-done moment keys table text names made add told e kept larger known =
         let handles = add ∙ ap (λ (p : Path). hs ++ record { number = n; session = session; mask = mask; destination = At p } ∷ []) names in
@@ -122,10 +141,10 @@ module _ (n : ℕ) (store : Store) (session : ℕ) (ready : IsReady n store) whe
     -- where no key is missing
     pub create-there : (rest : List ℕ) → path_of rest ≡ missing tree (path_at session h hs) (path_of path) → rest ≡ [] →
         (moment : ℕ) (table : Table Node) (text : List ℕ) → path_of text ≡ path_from session h hs path → added table mask text → (told : ChangeReply) → told ≡ opening (Some 2) →
-        KnowsKeys (record { tree = store.tree; handles = table }) → IsDone store (record { tree = store.tree; handles = table }) session moment n (CreateKey h path mask) told
+        KnowsKeys (record { tree = store.tree; handles = table }) → IsDone store (record { tree = store.tree; handles = table }) session moment n (CreateKey h path mask given) told
     create-there rest missed empty moment table text names add told e known =
         let none : missing tree (path_at session h hs) (path_of path) ≡ [] = sym missed ∙ ap path_of empty in
-        create-done moment store.tree table text names (sym (none-made tree (path_at session h hs) (path_of path) moment none)) add told
+        create-done moment store.tree table text names (sym (none-made tree (path_at session h hs) (path_of path) given moment none)) add told
         (e ∙ ap (λ (m : List (List ℕ)). opening (Some (disposition_of m))) (sym none)) (omega arith) (omega arith) known
 
     -- where some are
@@ -176,6 +195,18 @@ module _ (n : ℕ) (store : Store) (session : ℕ) (ready : IsReady n store) whe
     delete-done moment keys table text names gone turn told e long known =
         let handles = turn ∙ ap (λ (p : Path). turned p hs) names in
         record { world = λ i. record { tree = gone i; handles = handles i }; reply = e; kept = omega (arith, long); grows = omega (arith, long); known = known }
+
+  -- ---- SetSecurity
+
+  module _ (h : ℕ) (descriptor : List ℕ) (c : change_cause s session (SetSecurity h descriptor) 0 ≡ None) where
+    pub secure-described : (1 ≤ length descriptor) × (length descriptor ≤ DESCRIPTOR_LIMIT)
+    secure-described = let m = secure-met s session h descriptor 0 c in described descriptor m.good
+
+    pub secure-done : (moment : ℕ) (keys : Keys) → keys.tree ≡ edited tree (path_at session h hs) (with_descriptor descriptor moment) → (told : ChangeReply) →
+        told ≡ plain → length store.tree.bins.bytes ≤ length keys.bins.bytes → length keys.bins.bytes ≤ length store.tree.bins.bytes + GROWTH_BOUND →
+        KnowsKeys (record { tree = keys; handles = store.handles }) → IsDone store (record { tree = keys; handles = store.handles }) session moment n (SetSecurity h descriptor) told
+    unfolding after reply_to
+    secure-done moment keys set told e kept larger known = record { world = λ i. record { tree = set i; handles = hs }; reply = e; kept = kept; grows = larger; known = known }
 
   -- ---- Close
 

@@ -17,7 +17,7 @@ use Rattle.reg_model.specs.contracts.reply.Entry.{the_row}
 use Rattle.reg_model.specs.declared.reply.Entry.{Entry}
 use Rattle.reg_model.specs.declared.reply.ChangeReply.{ChangeReply}
 use Rattle.reg_model.specs.declared.answer.AnswerBody.{AnswerBody}
-use Rattle.reg_model.specs.declared.answer.AnswerBody.TheVariants.{Refused, Short, Value, Key, Member, Info}
+use Rattle.reg_model.specs.declared.answer.AnswerBody.TheVariants.{Refused, Short, Value, Key, Member, Info, Security}
 use Rattle.reg_model.specs.declared.call.Change.{Change}
 use Rattle.reg_model.specs.declared.call.Query.{Query}
 use Rattle.reg_tree.specs.TreeKeys.{Keys, coded_keys, IsWholeTree}
@@ -112,6 +112,7 @@ HoldsBytes (Value kind size bytes) = AreSome bytes
 HoldsBytes (Key name time) = name ≢ []
 HoldsBytes (Member name kind size bytes) = (name ≢ []) ⊎ AreSome bytes
 HoldsBytes (Info subkeys longest_key values longest_value largest security time) = ⊥
+HoldsBytes (Security bytes) = bytes ≢ []
 
 abbrev pub is_told : Option ℕ → AnswerBody → AnswerBody
 is_told (Some status) body = Refused status

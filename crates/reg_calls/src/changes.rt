@@ -1,5 +1,5 @@
 //! Changes, admitted and then carried out, each by the file that has its name.
-ghost use Rattle.std.specs.Prelude.{◌≡◌, ◌<◌};
+ghost use Rattle.std.specs.Prelude.{◌≡◌, ◌<◌, option_copied};
 ghost use Rattle.reg_model.specs.declared.limits.TheConstants.{SESSIONS_LIMIT};
 ghost use Rattle.reg_model.specs.declared.call.Change.{Change as TheChange};
 ghost use Rattle.reg_calls.specs.Internal.Stores.{IsReady, IsMade};
@@ -13,9 +13,10 @@ use crate::lack::Lack;
 use crate::open_key::OpenKey;
 use crate::open_root::OpenRoot;
 use crate::refusal::Refusal;
+use crate::set_security::SetSecurity;
 use crate::set_value::SetValue;
 use crate::store::Store;
-use reg_model::{Change, ChangeReply};
+use reg_model::{Bytes, Change, ChangeReply};
 use std::alloc::Global;
 
 /// A change that was admitted, with what its commit takes. It is good as long as the store is as it was.
@@ -27,7 +28,18 @@ pub enum Admitted<'a> {
     SetValue(SetValue<'a>),
     DeleteValue(DeleteValue),
     DeleteKey(DeleteKey<'a>),
+    SetSecurity(SetSecurity<'a>),
     Close(Close),
+}
+
+/// The bytes of a descriptor, if one is given.
+fn slice_given(descriptor: &Option<Bytes>) -> Option<&[u8]>
+    ensures { option_copied result ≡ descriptor.now }
+{
+    match descriptor {
+        Some(bytes) => Some(bytes.as_slice()),
+        None => None,
+    }
 }
 
 impl Store {
@@ -65,7 +77,12 @@ impl Store {
                     Err(refusal) => Err(refusal),
                 }
             }
-            Change::CreateKey { handle, path, mask } => {
+            Change::CreateKey {
+                handle,
+                path,
+                mask,
+                descriptor,
+            } => {
                 match CreateKey::admit(
                     self,
                     alloc,
@@ -74,6 +91,7 @@ impl Store {
                     *handle,
                     path.as_slice(),
                     *mask,
+                    slice_given(descriptor),
                 ) {
                     Ok(found) => Ok(Admitted::CreateKey(found)),
                     Err(refusal) => Err(refusal),
@@ -110,6 +128,12 @@ impl Store {
                     Err(refusal) => Err(refusal),
                 }
             }
+            Change::SetSecurity { handle, descriptor } => {
+                match SetSecurity::admit(self, entries, session, *handle, descriptor.as_slice()) {
+                    Ok(found) => Ok(Admitted::SetSecurity(found)),
+                    Err(status) => Err(Refusal::Cause(status)),
+                }
+            }
             Change::Close { handle } => {
                 match Close::admit(self, session, *handle) {
                     Ok(found) => Ok(Admitted::Close(found)),
@@ -142,6 +166,7 @@ impl Store {
             Admitted::SetValue(found) => found.commit(self, alloc, moment, number),
             Admitted::DeleteValue(found) => Ok(found.commit(self, moment, number)),
             Admitted::DeleteKey(found) => Ok(found.commit(self, moment, number)),
+            Admitted::SetSecurity(found) => found.commit(self, alloc, moment, number),
             Admitted::Close(found) => Ok(found.commit(self, session, number)),
         }
     }

@@ -1,15 +1,16 @@
 //! CreateKey: a handle to a key, which is made where it isn't there, with those above it.
 //!
 //! Win32 registry reference, `RegCreateKeyEx`.
-ghost use Rattle.std.specs.Prelude.{ℕ, List, ◌≡◌, ◌<◌, IfErr, IfOk};
+ghost use Rattle.std.specs.Prelude.{ℕ, List, ◌≡◌, ◌<◌, ◌||◌, option_copied, IfErr, IfOk};
 ghost use Rattle.reg_model.specs.declared.limits.TheConstants.{SESSIONS_LIMIT};
+ghost use Rattle.reg_model.specs.Causes.{is_bad_open as is_bad_open_of, is_bad_given as is_bad_given_of};
 ghost use Rattle.reg_calls.specs.Internal.Stores.{IsReady, IsMade};
 ghost use Rattle.reg_calls.specs.Internal.Admissions.{AdmitsCreateKey, IsNotAdmitted};
 
 use crate::lack::Lack;
 use crate::refusal::Refusal;
 use crate::replies::opened;
-use crate::store::{Store, path_below};
+use crate::store::{Store, is_bad_descriptor, is_bad_open, path_below};
 use reg_model::ChangeReply;
 use reg_model::statuses::NO_SYSTEM_RESOURCES;
 use reg_tree::Reached;
@@ -30,13 +31,32 @@ pub struct CreateKey<'a> {
     pub text: Vec<u8>,
     /// How far the path leads, which names are missing and where they belong.
     pub reached: Reached<'a>,
+    /// The security descriptor of the last key that is made, if one is given.
+    pub descriptor: Option<&'a [u8]>,
+}
+
+/// Whether a descriptor is given that no key may have.
+fn is_bad_given(descriptor: Option<&[u8]>) -> bool
+    ensures { result ≡ is_bad_given_of (option_copied descriptor.entry) }
+{
+    match descriptor {
+        Some(descriptor) => is_bad_descriptor(descriptor),
+        None => false,
+    }
+}
+
+fn is_bad_create(path: &[u8], mask: u32, descriptor: Option<&[u8]>) -> bool
+    ensures { result ≡ (is_bad_open_of path.now mask || is_bad_given_of (option_copied descriptor.entry)) }
+{
+    is_bad_open(path, mask) || is_bad_given(descriptor)
 }
 
 impl<'a> CreateKey<'a> {
     ghost use Rattle.reg_model.specs.declared.call.Change.TheVariants.{CreateKey as KeyCreated};
 
-    /// Finds how far the path leads. Refused by 6 and 1018 for the handle, 87 for the path or the mask, 1450 where the session has
-    /// 16,384 handles, the journal is full, or the missing keys would be too many; or for want of memory.
+    /// Finds how far the path leads. Refused by 6 and 1018 for the handle, 87 for the path, the mask or a descriptor that isn't of
+    /// 1 to 65,535 bytes, also where no key is missing, 1450 where the session has 16,384 handles, the journal is full, or the missing
+    /// keys would be too many; or for want of memory.
     pub fn admit(
         store: &Store,
         alloc: Global,
@@ -45,14 +65,18 @@ impl<'a> CreateKey<'a> {
         handle: u64,
         path: &'a [u8],
         mask: u32,
+        descriptor: Option<&'a [u8]>,
     ) -> Result<CreateKey<'a>, Refusal>
         requires session { session < SESSIONS_LIMIT }
         requires ready { IsReady entries store.now }
-        ensures refused { IfErr result (λ refusal. IsNotAdmitted entries store.now session (KeyCreated handle path.now mask) refusal) }
+        ensures refused { IfErr result (λ refusal.
+            IsNotAdmitted entries store.now session (KeyCreated handle path.now mask (option_copied descriptor.entry)) refusal) }
         ensures admitted { IfOk result (λ found. AdmitsCreateKey entries store.now session handle path.now found) }
         ensures mask { IfOk result (λ found. found.mask ≡ mask) }
+        ensures descriptor { IfOk result (λ found. option_copied found.descriptor ≡ option_copied descriptor.entry) }
     {
-        let key = match store.key_to_open_at(entries, session, handle, path, mask) {
+        let is_bad = is_bad_create(path, mask, descriptor);
+        let key = match store.key_to_open_at(entries, session, handle, is_bad) {
             Ok(key) => key,
             Err(status) => return Err(Refusal::Cause(status)),
         };
@@ -69,13 +93,14 @@ impl<'a> CreateKey<'a> {
                 mask,
                 text,
                 reached,
+                descriptor,
             }),
             Err(_) => Err(Refusal::Memory),
         }
     }
 
-    /// Makes the keys that are missing, and opens the last key of the path as the handle of a number. `Err` says what was lacking,
-    /// memory or space in the bins; then keys and handles are as they were.
+    /// Makes the keys that are missing, the last with the descriptor if one is given, and opens the last key of the path as the handle
+    /// of a number. `Err` says what was lacking, memory or space in the bins; then keys and handles are as they were.
     pub fn commit(
         self,
         store: &mut Store,
@@ -88,12 +113,13 @@ impl<'a> CreateKey<'a> {
         requires ready { IsReady number store.old }
         requires admitted { (handle : ℕ) × (path : List ℕ) × AdmitsCreateKey number store.old session handle path self }
         ensures { (handle : ℕ) → (path : List ℕ) → AdmitsCreateKey number store.old session handle path self.entry →
-            IsMade store.old store.new session moment number (KeyCreated handle path self.entry.mask) result }
+            IsMade store.old store.new session moment number (KeyCreated handle path self.entry.mask (option_copied self.entry.descriptor)) result }
     {
         let CreateKey {
             mask,
             text,
             reached,
+            descriptor,
         } = self;
         // Only for its clause `payloads`: no payload is kept for a path that no handle leads to.
         let _ = store.handles.len();
@@ -106,7 +132,7 @@ impl<'a> CreateKey<'a> {
         if reached.missing.is_empty() {
             return Ok(opened(number, Some(THERE)));
         }
-        match store.tree.create_at(alloc, reached, moment) {
+        match store.tree.create_at(alloc, reached, descriptor, moment) {
             Ok(node) => {
                 store.handles.set_payload(number, node);
                 Ok(opened(number, Some(MADE)))

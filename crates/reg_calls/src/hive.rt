@@ -133,7 +133,7 @@ impl Hive {
         self.core.apply(session, moment, change)
     }
 
-    /// Answers a question of a session. 8 comes only in place of an answer that holds a byte of a name or of data.
+    /// Answers a question of a session. 8 comes only in place of an answer that holds a byte of a name, of data or of a descriptor.
     pub fn read(&self, session: u8, query: &Query) -> Answer
         ensures at { result.at ≡ length (view_of self.now).journal }
         ensures body { IsRead no_callbacks (state (view_of self.now)) session query.now result.body }

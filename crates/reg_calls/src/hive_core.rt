@@ -63,7 +63,8 @@ fn closes(change: &Change) -> bool
         | Change::CreateKey { .. }
         | Change::SetValue { .. }
         | Change::DeleteValue { .. }
-        | Change::DeleteKey { .. } => false,
+        | Change::DeleteKey { .. }
+        | Change::SetSecurity { .. } => false,
     }
 }
 
@@ -179,7 +180,11 @@ impl Core {
                 });
                 reply
             }
-            Err(lack) => refuse(lack.status()),
+            Err(lack) => {
+                // Here and not where it goes out of scope, so that its variants are no ways of their own in the proof.
+                drop(change);
+                refuse(lack.status())
+            }
         }
     }
 

@@ -8,18 +8,20 @@
 //! |---|---|---|---|---|
 //! | `OpenRoot` | none | 87 mask; 1450 handles, journal | a handle to the root | `open_root.rt` |
 //! | `OpenKey` | none | 6; 1018; 87 path, mask; 1450 handles, journal; 2 no such key | a handle to the key | `open_key.rt` |
-//! | `CreateKey` | none | 6; 1018; 87 path, mask; 1450 handles, journal, 32 keys, 512 names, 500 subkeys, space | its keys, a handle | `create_key.rt` |
+//! | `CreateKey` | none | 6; 1018; 87 path, mask, descriptor; 1450 handles, journal, 32 keys, 512 names, 500 subkeys, space | keys, handle | `create_key.rt` |
 //! | `SetValue` | 2 | 6; 1018; 87 name, data; 5; 1450 journal, 16,384 values, space | the value, and the key's time | `set_value.rt` |
 //! | `DeleteValue` | 2 | 6; 1018; 87 name; 5; 1450 journal; 2 no such value | the value gone, and the key's time | `delete_value.rt` |
 //! | `DeleteKey` | none | 6; 1018; 87 path; 1450 journal; 2 no key; 5 subkeys, mark 8 | the key gone, its handles dead, its parent's time | `delete_key.rt` |
+//! | `SetSecurity` | 0x40000 | 6; 1018; 87 descriptor; 5; 1450 journal, space | the descriptor, and the key's time | `set_security.rt` |
 //! | `Close` | none | 6 | the handle gone | `close.rt` |
 //! | `QueryValue` | 1 | 6; 1018; 87 name; 5; 2 no such value; 234 | type, size and bytes | `query_value.rt` |
 //! | `EnumKey` | 8 | 6; 1018; 5; 259; 234 | a subkey's name and time | `enum_key.rt` |
 //! | `EnumValue` | 1 | 6; 1018; 5; 259; 234 | a value's name, type, size and bytes | `enum_value.rt` |
 //! | `QueryInfo` | 1 | 6; 1018; 5 | the key's numbers, largest lengths and time | `query_info.rt` |
+//! | `GetSecurity` | 0x20000 | 6; 1018; 5; 122 | the descriptor | `get_security.rt` |
 //!
 //! A change's file has its `admit`, which answers the refusal or what it found, and its `commit`, which takes just that and searches
-//! the tree no more; a question's has its `answer`. 234 tells that the room is short, with the size.
+//! the tree no more; a question's has its `answer`. 234, of a descriptor 122, tells that the room is short, with the size.
 //!
 //! Want of memory is 8, in place of an acceptance (never of a Close), or of an answer that holds a name or bytes. Win32 registry
 //! reference, of each call the function that its variant in reg_model names.
@@ -32,6 +34,7 @@ mod delete_key;
 mod delete_value;
 mod enum_key;
 mod enum_value;
+mod get_security;
 mod hive;
 mod hive_core;
 mod journal;
@@ -43,6 +46,7 @@ mod query_info;
 mod query_value;
 mod refusal;
 mod replies;
+mod set_security;
 mod set_value;
 mod store;
 

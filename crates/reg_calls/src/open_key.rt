@@ -9,7 +9,7 @@ ghost use Rattle.reg_calls.specs.Internal.Admissions.{AdmitsOpenKey, IsNotAdmitt
 use crate::lack::Lack;
 use crate::refusal::Refusal;
 use crate::replies::opened;
-use crate::store::{Store, path_below};
+use crate::store::{Store, is_bad_open, path_below};
 use reg_model::ChangeReply;
 use reg_model::statuses::FILE_NOT_FOUND;
 use reg_tree::Node;
@@ -46,7 +46,7 @@ impl OpenKey {
         ensures admitted { IfOk result (λ found. AdmitsOpenKey entries store.now session handle path.now found) }
         ensures mask { IfOk result (λ found. found.mask ≡ mask) }
     {
-        let key = match store.key_to_open_at(entries, session, handle, path, mask) {
+        let key = match store.key_to_open_at(entries, session, handle, is_bad_open(path, mask)) {
             Ok(key) => key,
             Err(status) => return Err(Refusal::Cause(status)),
         };

@@ -5,7 +5,7 @@ ghost use Rattle.reg_model.specs.Callbacks.{no_callbacks};
 ghost use Rattle.reg_calls.specs.Views.{IsRead};
 
 use crate::store::Store;
-use crate::{enum_key, enum_value, query_info, query_value};
+use crate::{enum_key, enum_value, get_security, query_info, query_value};
 use reg_model::{AnswerBody, Query};
 use std::alloc::Global;
 
@@ -31,6 +31,9 @@ impl Store {
                 room,
             } => enum_value::answer(self, alloc, session, *handle, *index, *name_room, *room),
             Query::QueryInfo { handle } => query_info::answer(self, session, *handle),
+            Query::GetSecurity { handle, room } => {
+                get_security::answer(self, alloc, session, *handle, *room)
+            }
         }
     }
 }

@@ -1,14 +1,16 @@
 //! The keys of a hive and the open handles on them: what every call looks up, and the counts that several ask.
-ghost use Rattle.std.specs.Prelude.{◌≡◌, ◌<◌, ◌≤◌, ◌+◌, ◌++◌, true, false, length, map, IfOk, IfErr, OnOk, Some};
+ghost use Rattle.std.specs.Prelude.{◌≡◌, ◌<◌, ◌≤◌, ◌+◌, ◌++◌, ◌||◌, ℕ, List, Option, true, false, length, map, IfOk, IfErr, OnOk, Some};
 ghost use Rattle.reg_names.specs.declared.TheConstants.{PATH_LIMIT};
 ghost use Rattle.reg_names.specs.Names.{is_path, path_of, folded};
 ghost use Rattle.reg_heap.specs.Edits.{folded_path};
 ghost use Rattle.reg_model.specs.declared.limits.TheConstants.{JOURNAL_LIMIT, SESSIONS_LIMIT};
-ghost use Rattle.reg_model.specs.Causes.{change_cause, is_full as is_full_of, no_handle_room, is_bad_open as is_bad_open_of};
+ghost use Rattle.reg_model.specs.Causes.{change_cause, is_full as is_full_of, no_handle_room, is_bad_given};
+ghost use Rattle.reg_model.specs.Causes.{is_bad_open as is_bad_open_of, is_bad_descriptor as is_bad_descriptor_of};
 ghost use Rattle.reg_handles.specs.HandleTables.{IsFoldedPath};
 ghost use Rattle.reg_calls.specs.Internal.Stores.{at, IsReady, IsLooked, IsOpened, KnowsKeys};
 
 use reg_handles::Handles;
+use reg_heap::limits::DESCRIPTOR_LIMIT;
 use reg_model::limits::{HANDLES_LIMIT, JOURNAL_LIMIT};
 use reg_model::rights::NO_RIGHTS;
 use reg_model::statuses::{INVALID_HANDLE, INVALID_PARAMETER, KEY_DELETED, NO_SYSTEM_RESOURCES};
@@ -46,10 +48,18 @@ pub fn path_below(alloc: Global, above: &[u8], path: &[u8]) -> Result<Vec<u8>, A
     join_paths(alloc, above, path)
 }
 
-fn is_bad_open(path: &[u8], mask: u32) -> bool
+/// Whether a path or a mask is none with which a handle may be opened.
+pub fn is_bad_open(path: &[u8], mask: u32) -> bool
     ensures { result ≡ is_bad_open_of path.now mask }
 {
     check_path(path).is_err() || mask & NO_RIGHTS != 0
+}
+
+/// Whether a descriptor has no bytes, or more than 65,535.
+pub fn is_bad_descriptor(descriptor: &[u8]) -> bool
+    ensures { result ≡ is_bad_descriptor_of descriptor.now }
+{
+    descriptor.is_empty() || descriptor.len() > DESCRIPTOR_LIMIT
 }
 
 impl Store {
@@ -93,29 +103,30 @@ impl Store {
             || entries + 2 + self.handles.len() > JOURNAL_LIMIT
     }
 
-    /// What is asked first by the two calls that open a handle by another: that handle's key, or why both are refused, for the
-    /// handle, the path or the mask, or for want of room for one more handle.
+    /// What is asked first by the two calls that open a handle by another: that handle's key, or why both are refused: for the
+    /// handle, for bad arguments (`is_bad` says whether some are), or for want of room for one more handle.
     pub fn key_to_open_at(
         &self,
         entries: usize,
         session: u8,
         handle: u64,
-        path: &[u8],
-        mask: u32,
+        is_bad: bool,
     ) -> Result<KeyHandle<'_>, u32>
         requires session { session < SESSIONS_LIMIT }
         requires ready { IsReady entries self.now }
-        ensures open { IfErr result (λ status. change_cause (at entries self.now) session (OpenKey handle path.now mask) 0 ≡ Some status) }
-        ensures create { IfErr result (λ status. change_cause (at entries self.now) session (CreateKey handle path.now mask) 0 ≡ Some status) }
+        ensures open { (path : List ℕ) → (mask : ℕ) → is_bad ≡ is_bad_open_of path mask →
+            IfErr result (λ status. change_cause (at entries self.now) session (OpenKey handle path mask) 0 ≡ Some status) }
+        ensures create { (path : List ℕ) → (mask : ℕ) → (given : Option (List ℕ)) → is_bad ≡ (is_bad_open_of path mask || is_bad_given given) →
+            IfErr result (λ status. change_cause (at entries self.now) session (CreateKey handle path mask given) 0 ≡ Some status) }
         ensures key { IfOk result (λ key. IsOpened self.now session handle key) }
-        ensures good { OnOk result (is_bad_open_of path.now mask ≡ false) }
+        ensures good { OnOk result (is_bad ≡ false) }
         ensures room { OnOk result (no_handle_room session (at entries self.now) ≡ false) }
     {
         let key = match self.key_of(session, handle) {
             Ok(key) => key,
             Err(status) => return Err(status),
         };
-        if is_bad_open(path, mask) {
+        if is_bad {
             return Err(INVALID_PARAMETER);
         }
         if self.has_no_handle_room(entries, session) {

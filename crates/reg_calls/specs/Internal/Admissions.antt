@@ -1,5 +1,5 @@
 -- What each change was admitted with: what its commit takes, as admission found it in the store when the journal had so many entries.
-use Rattle.std.specs.Prelude.{◌≡◌, ◌≢◌, ◌<◌, ℕ, List, [], map, length, Some, None, Result, Ok, Err, false, true}
+use Rattle.std.specs.Prelude.{◌≡◌, ◌≢◌, ◌<◌, ℕ, List, [], map, length, Some, None, Result, Ok, Err, false, true, option_copied}
 use Rattle.reg_names.specs.Names.{folded, is_path, path_of}
 use Rattle.reg_heap.specs.Members.{index_named}
 use Rattle.reg_heap.specs.declared.limits.TheConstants.{VALUES_LIMIT}
@@ -10,7 +10,7 @@ use Rattle.reg_model.specs.Worlds.{path_at, path_from}
 use Rattle.reg_model.specs.Causes.{change_cause}
 use Rattle.reg_model.specs.declared.call.Change.{Change}
 use Rattle.reg_model.specs.declared.call.Change.TheVariants.{OpenRoot as RootOpened, OpenKey as KeyOpened, CreateKey as KeyCreated, SetValue as ValueSet}
-use Rattle.reg_model.specs.declared.call.Change.TheVariants.{DeleteValue as ValueDeleted, DeleteKey as KeyDeleted, Close as Closed}
+use Rattle.reg_model.specs.declared.call.Change.TheVariants.{DeleteValue as ValueDeleted, DeleteKey as KeyDeleted, SetSecurity as SecuritySet, Close as Closed}
 use Rattle.reg_tree.specs.TreeKeys.{IsAt}
 use Rattle.reg_tree.specs.Reaching.{IsWalkedTo}
 use Rattle.reg_tree.specs.declared.node.Node.{Node}
@@ -20,10 +20,11 @@ use Rattle.reg_calls.specs.declared.create_key.CreateKey.{CreateKey}
 use Rattle.reg_calls.specs.declared.set_value.SetValue.{SetValue}
 use Rattle.reg_calls.specs.declared.delete_value.DeleteValue.{DeleteValue}
 use Rattle.reg_calls.specs.declared.delete_key.DeleteKey.{DeleteKey}
+use Rattle.reg_calls.specs.declared.set_security.SetSecurity.{SetSecurity}
 use Rattle.reg_calls.specs.declared.changes.Admitted.{Admitted}
 use Rattle.reg_calls.specs.declared.changes.Admitted.TheVariants.{OpenRoot as RootAdmitted, OpenKey as KeyAdmitted, CreateKey as NewKeyAdmitted}
 use Rattle.reg_calls.specs.declared.changes.Admitted.TheVariants.{SetValue as SetAdmitted, DeleteValue as RemovalAdmitted, DeleteKey as DeletionAdmitted}
-use Rattle.reg_calls.specs.declared.changes.Admitted.TheVariants.{Close as CloseAdmitted}
+use Rattle.reg_calls.specs.declared.changes.Admitted.TheVariants.{SetSecurity as SecurityAdmitted, Close as CloseAdmitted}
 use Rattle.reg_calls.specs.declared.refusal.Refusal.{Refusal}
 use Rattle.reg_calls.specs.declared.refusal.Refusal.TheVariants.{Cause, Memory}
 use Rattle.reg_calls.specs.Shortages.{is_closing}
@@ -48,7 +49,7 @@ pub record AdmitsOpenKey (entries : ℕ) (store : Store) (session handle : ℕ) 
 -- keys made on a path from a handle's key: the path's text, how far it leads, which names are missing and where they belong; these
 -- aren't too many
 pub record AdmitsCreateKey (entries : ℕ) (store : Store) (session handle : ℕ) (path : List ℕ) (found : CreateKey) : Type 0 where
-  pub clear : IsClear entries store session (KeyCreated handle path found.mask)
+  pub clear : IsClear entries store session (KeyCreated handle path found.mask (option_copied found.descriptor))
   pub text : IsTextOf store session handle path found.text.items
   pub from : Node
   pub at : IsAt store.tree (path_at session handle store.handles.handles) from
@@ -83,19 +84,27 @@ pub record AdmitsDeleteKey (entries : ℕ) (store : Store) (session handle : ℕ
   pub goes : (p : Path) → IsAt store.tree p found.reached.node → may_not_go store.tree.tree p ≡ false
   pub node : IsAt store.tree (path_from session handle store.handles.handles path) found.reached.node
 
+-- the descriptor of a handle's key set: the key
+pub record AdmitsSetSecurity (entries : ℕ) (store : Store) (session handle : ℕ) (found : SetSecurity) : Type 0 where
+  pub clear : IsClear entries store session (SecuritySet handle found.descriptor.now)
+  pub node : IsAt store.tree (path_at session handle store.handles.handles) found.node
+
 -- a change was admitted with this
 abbrev pub Admits : ℕ → Store → ℕ → Change → Admitted → Type 0
 Admits entries store session change (RootAdmitted found) = (change ≡ RootOpened found.mask) × IsClear entries store session (RootOpened found.mask)
 Admits entries store session change (KeyAdmitted found) =
     (handle : ℕ) × (path : List ℕ) × (change ≡ KeyOpened handle path found.mask) × AdmitsOpenKey entries store session handle path found
 Admits entries store session change (NewKeyAdmitted found) =
-    (handle : ℕ) × (path : List ℕ) × (change ≡ KeyCreated handle path found.mask) × AdmitsCreateKey entries store session handle path found
+    (handle : ℕ) × (path : List ℕ) × (change ≡ KeyCreated handle path found.mask (option_copied found.descriptor))
+    × AdmitsCreateKey entries store session handle path found
 Admits entries store session change (SetAdmitted found) =
     (handle : ℕ) × (change ≡ ValueSet handle found.name.now found.kind found.bytes.now) × AdmitsSetValue entries store session handle found
 Admits entries store session change (RemovalAdmitted found) =
     (handle : ℕ) × (name : List ℕ) × (change ≡ ValueDeleted handle name) × AdmitsDeleteValue entries store session handle name found
 Admits entries store session change (DeletionAdmitted found) =
     (handle : ℕ) × (path : List ℕ) × (change ≡ KeyDeleted handle path) × AdmitsDeleteKey entries store session handle path found
+Admits entries store session change (SecurityAdmitted found) =
+    (handle : ℕ) × (change ≡ SecuritySet handle found.descriptor.now) × AdmitsSetSecurity entries store session handle found
 Admits entries store session change (CloseAdmitted found) = (change ≡ Closed found.handle) × IsClear entries store session (Closed found.handle)
 
 -- a change isn't admitted: by its cause; or nothing refuses it, and memory is wanting for it, as it never is for a Close

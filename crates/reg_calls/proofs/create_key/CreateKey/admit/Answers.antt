@@ -1,9 +1,13 @@
 use Rattle.std.proofs.Common.{arith, refl, sym, ◌∙◌}
+use Rattle.std.specs.Option.{option_copied}
 use Rattle.std.proofs.lemmas.Grind.{common_steps}
 use Rattle.std.proofs.lemmas.Bool.Decides.{nat_tests}
 use Rattle.reg_calls.proofs.FoundPaths.{found-at, found-from, found-text, made-short, missing-at}
 use Rattle.reg_calls.proofs.RefusalTests.{create-causes}
 use Rattle.reg_calls.proofs.create_key.CreateKey.admit.Goals as goal
+
+pub returns-in-Err-clause-refused : goal.returns-in-Err-clause-refused
+returns-in-Err-clause-refused c = c.in-Err.ensures.create c.args.path.now c.args.mask (option_copied c.args.descriptor) c.is_bad_create-is_bad.ensures
 
 pub is_limited-requires : goal.is_limited-requires
 is_limited-requires c = let k = c.in-Ok.ensures.key in record { reached = (c.in-Ok.key.node, c.args.path.now, c.reach-reached.ensures.reached, (k.target.path, k.node)) }
@@ -11,33 +15,36 @@ is_limited-requires c = let k = c.in-Ok.ensures.key in record { reached = (c.in-
 pub returns-then-is_limited-clause-refused : goal.returns-then-is_limited-clause-refused
 returns-then-is_limited-clause-refused c =
     let k = c.in-Ok.ensures.key in
+    let bad = c.is_bad_create-is_bad.ensures in
     let good = c.in-Ok.ensures.good in
     let room = c.in-Ok.ensures.room in
-    let chain = create-causes c.args.entries c.args.store.now c.args.session c.args.handle c.args.path.now c.args.mask k.target in
+    let chain = create-causes c.args.entries c.args.store.now c.args.session c.args.handle c.args.path.now c.args.mask (option_copied c.args.descriptor) k.target in
     let many = c.is_limited.ensures c.in-Ok.key.node c.args.path.now c.reach-reached.ensures.reached k.target.path k.node in
-    grind (arith, nat_tests, common_steps, chain, good, room, many)
+    grind (arith, nat_tests, common_steps, chain, bad, good, room, many)
 
 pub returns-in-Err-path_below-clause-refused : goal.returns-in-Err-path_below-clause-refused
 returns-in-Err-path_below-clause-refused c =
     let k = c.in-Ok.ensures.key in
+    let bad = c.is_bad_create-is_bad.ensures in
     let good = c.in-Ok.ensures.good in
     let room = c.in-Ok.ensures.room in
-    let chain = create-causes c.args.entries c.args.store.now c.args.session c.args.handle c.args.path.now c.args.mask k.target in
+    let chain = create-causes c.args.entries c.args.store.now c.args.session c.args.handle c.args.path.now c.args.mask (option_copied c.args.descriptor) k.target in
     let many = c.is_limited.ensures c.in-Ok.key.node c.args.path.now c.reach-reached.ensures.reached k.target.path k.node in
-    (grind (arith, nat_tests, common_steps, chain, good, room, many), refl)
+    (grind (arith, nat_tests, common_steps, chain, bad, good, room, many), refl)
 
 pub returns-in-Ok-path_below-clause-admitted : goal.returns-in-Ok-path_below-clause-admitted
 returns-in-Ok-path_below-clause-admitted c =
     let k = c.in-Ok.ensures.key in
+    let bad = c.is_bad_create-is_bad.ensures in
     let good = c.in-Ok.ensures.good in
     let room = c.in-Ok.ensures.room in
-    let chain = create-causes c.args.entries c.args.store.now c.args.session c.args.handle c.args.path.now c.args.mask k.target in
+    let chain = create-causes c.args.entries c.args.store.now c.args.session c.args.handle c.args.path.now c.args.mask (option_copied c.args.descriptor) k.target in
     let many = c.is_limited.ensures c.in-Ok.key.node c.args.path.now c.reach-reached.ensures.reached k.target.path k.node in
     let few = sym many ∙ c.if-is_limited.false in
     let text = c.in-Ok-path_below.ensures in
     let short = made-short c.args.store.now c.args.session c.args.handle k.target c.in-Ok.key.path.now c.args.path.now k.path c.root.ensures.shallow c.requires.ready.stand few in
     record {
-      clear = grind (arith, nat_tests, common_steps, chain, good, room, few);
+      clear = grind (arith, nat_tests, common_steps, chain, bad, good, room, few);
       text = found-text c.args.store.now c.args.session c.args.handle k.target c.in-Ok.key.path.now c.args.path.now k.path c.in-Ok-path_below.text.items text.names (text.valid short) text.folded;
       from = c.in-Ok.key.node;
       at = found-at c.args.store.now c.args.session c.args.handle k.target c.in-Ok.key.node k.node;

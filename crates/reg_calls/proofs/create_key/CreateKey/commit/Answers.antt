@@ -1,4 +1,5 @@
 use Rattle.std.proofs.Common.{◌≡◌, true, is_some, List, subst, refl, sym, ap, ◌∙◌, Some, Err}
+use Rattle.std.specs.Option.{option_copied}
 use Rattle.reg_names.specs.Names.{path_of}
 use Rattle.reg_heap.specs.Paths.{Path}
 use Rattle.reg_model.specs.Worlds.{Handle, At, look, numbered, closed}
@@ -10,13 +11,13 @@ use Rattle.reg_calls.specs.Internal.Stores.{KnowsKeys, IsUnchanged}
 use Rattle.reg_calls.proofs.FoundPaths.{is-empty, not-empty}
 use Rattle.reg_calls.proofs.KnownKeys.{added_known, made_known, again_known, unchanged, store_of}
 use Rattle.reg_calls.proofs.TableAndLimitLemmas.{look-push, closed-push, numbered-new}
-use Rattle.reg_calls.proofs.StoreAfterChange.{create-room, create-done, create-there, made-disposition, lacking, lacks_full}
+use Rattle.reg_calls.proofs.StoreAfterChange.{create-room, create-given, create-done, create-there, made-disposition, lacking, lacks_full}
 use Rattle.reg_calls.proofs.create_key.CreateKey.commit.Goals as goal
 
 pub add-requires-clause-room : goal.add-requires-clause-room
 add-requires-clause-room c =
     let a = c.requires.admitted in
-    create-room c.args.number c.args.store.now c.args.session c.requires.ready a.0 a.1 c.args.self.mask a.2.clear
+    create-room c.args.number c.args.store.now c.args.session c.requires.ready a.0 a.1 c.args.self.mask (option_copied c.args.self.descriptor) a.2.clear
 
 pub add-requires-clause-path : goal.add-requires-clause-path
 add-requires-clause-path c = c.requires.admitted.2.text.valid
@@ -31,7 +32,8 @@ returns-in-Err c = λ handle path a.
 pub returns-then-is_empty : goal.returns-then-is_empty
 returns-then-is_empty c = λ handle path a.
     let none = is-empty _ c.is_empty.result c.is_empty.ensures c.if-is_empty.true in
-    create-there c.args.number c.args.store.now c.args.session c.requires.ready handle path c.args.self.mask a.clear c.args.self.reached.missing.now a.missing none c.args.moment
+    create-there c.args.number c.args.store.now c.args.session c.requires.ready handle path c.args.self.mask (option_copied c.args.self.descriptor) a.clear
+    c.args.self.reached.missing.now a.missing none c.args.moment
     c.add.new.self c.args.self.text.items a.text.names c.in-Ok.ensures.ok c.opened.result c.opened.ensures
     (added_known c.args.store.now c.requires.ready.known c.add.new.self c.args.self.text.items c.args.self.reached.node c.in-Ok.ensures.payloads
     (subst (λ (p : Path). IsAt c.args.store.now.tree p c.args.self.reached.node) (sym a.text.names) (a.there none)))
@@ -41,6 +43,11 @@ create_at-requires-clause-reached c = let a = c.requires.admitted.2 in (a.from, 
 
 pub create_at-requires-clause-missing : goal.create_at-requires-clause-missing
 create_at-requires-clause-missing c = not-empty _ c.is_empty.result c.is_empty.ensures c.if-is_empty.false
+
+pub create_at-requires-clause-given : goal.create_at-requires-clause-given
+create_at-requires-clause-given c =
+    let a = c.requires.admitted in
+    create-given c.args.number c.args.store.now c.args.session c.requires.ready c.args.self.descriptor (λ d. d.now) a.0 a.1 c.args.self.mask a.2.clear
 
 pub create_at-requires-clause-few : goal.create_at-requires-clause-few
 create_at-requires-clause-few c = c.requires.admitted.2.few
@@ -58,8 +65,9 @@ returns-in-Ok-create_at c = λ handle path a.
     let numbered-last : numbered c.args.number c.add.new.self.handles ≡ Some added =
     ap (numbered c.args.number) c.in-Ok.ensures.ok ∙ numbered-new c.args.number c.args.store.now.handles.handles c.requires.ready.below added refl in
     let told = c.opened-in-Ok-create_at.ensures ∙
-    made-disposition c.args.number c.args.store.now c.args.session c.requires.ready handle path c.args.self.mask a.clear c.args.self.reached.missing.now a.missing some in
-    create-done c.args.number c.args.store.now c.args.session c.requires.ready handle path c.args.self.mask a.clear
+    made-disposition c.args.number c.args.store.now c.args.session c.requires.ready handle path c.args.self.mask (option_copied c.args.self.descriptor) a.clear
+    c.args.self.reached.missing.now a.missing some in
+    create-done c.args.number c.args.store.now c.args.session c.requires.ready handle path c.args.self.mask (option_copied c.args.self.descriptor) a.clear
     c.args.moment c.create_at.new.self c.set_payload.new.self c.args.self.text.items a.text.names
     made.tree (c.set_payload.ensures.handles ∙ c.in-Ok.ensures.ok) c.opened-in-Ok-create_at.result told c.in-Ok-create_at.ensures.kept c.in-Ok-create_at.ensures.grows
     (made_known c.args.store.now c.requires.ready.known c.add.new.self c.args.self.text.items c.args.self.reached.node c.in-Ok.ensures.payloads
@@ -77,7 +85,7 @@ returns-in-Err-create_at c = λ handle path a.
       handles = handles;
       known = subst (λ (keys : Keys). KnowsKeys (record { tree = keys; handles = c.close.new.self })) (sym c.in-Err-create_at.ensures.err) again;
     } in
-    lacking c.args.store.now _ c.args.session c.args.moment c.args.number (KeyCreated handle path c.args.self.mask) c.from.result same
+    lacking c.args.store.now _ c.args.session c.args.moment c.args.number (KeyCreated handle path c.args.self.mask (option_copied c.args.self.descriptor)) c.from.result same
     refl (λ space. (let full = lacks_full c.in-Err-create_at.fault c.from.result c.from.ensures space in (
       c.in-Err-create_at.ensures.full (ap (λ f. Err f) full),
       c.in-Err-create_at.ensures.space a.from path a.reached _ a.at full,

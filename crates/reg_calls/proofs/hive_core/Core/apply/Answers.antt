@@ -1,16 +1,32 @@
-use Rattle.std.proofs.Common.{◌≡◌, ◌++◌, ◌∷◌, [], ℕ, List, sym, ap, ◌∙◌, subst, arith, None, inl, refl}
+use Rattle.std.proofs.Common.{◌++◌, ◌∷◌, [], ℕ, List, sym, ap, ◌∙◌, subst, arith, None, inl, refl}
 use Rattle.reg_model.specs.declared.reply.Entry.{Entry}
 use Rattle.reg_calls.specs.Internal.Stores.{IsReady, IsDone, at}
 use Rattle.reg_calls.specs.Internal.Admissions.{IsClear}
+use Rattle.reg_calls.specs.declared.refusal.Refusal.TheVariants.{Memory}
 use Rattle.reg_calls.specs.Views.{HiveInvariant, View}
 use Rattle.reg_model.specs.Replies.{refusal}
 use Rattle.reg_calls.proofs.HiveInvariantLemmas.{ready-kept, state-kept, state-view, append-room, kept-done, kept-unmade, accepted, applied-by}
-use Rattle.reg_calls.proofs.AdmittedChanges.{admits-clear, given-up}
+use Rattle.reg_calls.proofs.AdmittedChanges.{admits-clear, refused-as, given-up}
 use Rattle.reg_calls.proofs.hive_core.Core.apply.Goals as goal
-use Rattle.reg_calls.proofs.hive_core.Core.apply.Goals.{in-OpenKey-4, in-CreateKey-4, in-SetValue-3, in-DeleteValue-3, in-DeleteKey-4, in-OpenRoot-4}
 
 pub admit-requires-clause-ready : goal.admit-requires-clause-ready
 admit-requires-clause-ready c = subst (λ (n : ℕ). IsReady n c.self.inside.store) (sym c.len-number.ensures) (ready-kept c.self.invariant)
+
+pub returns-in-Err : goal.returns-in-Err
+returns-in-Err c =
+    let store = c.self.inside.store in
+    let is = state-view _ c.self.invariant c.self.view_is ∙ ap (λ (n : ℕ). at n store) (sym c.len-number.ensures) in
+    refused-as c.args.self.now c.args.self.now c.args.session c.args.moment c.args.change c.refuse.result c.len-number.result store c.in-Err.refusal
+    is c.in-Err.ensures (c.refuse.ensures ∙ ap refusal c.status.ensures) refl
+
+pub returns-in-Err-keep_room : goal.returns-in-Err-keep_room
+returns-in-Err-keep_room c =
+    let store = c.self.inside.store in
+    let is = state-view _ c.self.invariant c.self.view_is ∙ ap (λ (n : ℕ). at n store) (sym c.len-number.ensures) in
+    let clear = admits-clear c.len-number.result store c.args.session c.args.change c.in-Ok.admitted c.in-Ok.ensures in
+    let view : List Entry → View = λ x. record { origin = c.self.inside.origin.value.tree; journal = x; keys = store.tree; handles = store.handles.handles } in
+    refused-as c.args.self.now _ c.args.session c.args.moment c.args.change c.refuse-in-Err-keep_room.result c.len-number.result store Memory
+    is (clear, c.in-Err-keep_room.ensures.err) c.refuse-in-Err-keep_room.ensures (ap view c.in-Err-keep_room.ensures.entries ∙ c.self.view_is)
 
 pub commit-requires-clause-ready : goal.commit-requires-clause-ready
 commit-requires-clause-ready c = subst (λ (n : ℕ). IsReady n c.self.inside.store) (sym c.len-number.ensures) (ready-kept c.self.invariant)
@@ -71,31 +87,6 @@ invariant_of-self-in-Err-commit c =
     kept-unmade c.self.invariant c.commit.new.self c.keep_room.new.journal.entries c.keep_room.new.journal.room c.args.session c.args.moment
     c.len-number.result c.args.change c.in-Err-commit.lack (c.in-Err-commit.ensures c.args.change c.in-Ok.ensures) c.in-Ok-keep_room.ensures.entries c.in-Ok-keep_room.ensures.room
 
-pub invariant_of-self-in-Err-commit-2 : goal.invariant_of-self-in-Err-commit-2
-invariant_of-self-in-Err-commit-2 c =
-    kept-unmade c.self.invariant c.commit.new.self c.keep_room.new.journal.entries c.keep_room.new.journal.room c.args.session c.args.moment
-    c.len-number.result c.args.change c.in-Err-commit.lack (c.in-Err-commit.ensures c.args.change c.in-Ok.ensures) c.in-Ok-keep_room.ensures.entries c.in-Ok-keep_room.ensures.room
-
-pub invariant_of-self-in-Err-commit-3 : goal.invariant_of-self-in-Err-commit-3
-invariant_of-self-in-Err-commit-3 c =
-    kept-unmade c.self.invariant c.commit.new.self c.keep_room.new.journal.entries c.keep_room.new.journal.room c.args.session c.args.moment
-    c.len-number.result c.args.change c.in-Err-commit.lack (c.in-Err-commit.ensures c.args.change c.in-Ok.ensures) c.in-Ok-keep_room.ensures.entries c.in-Ok-keep_room.ensures.room
-
-pub invariant_of-self-in-Err-commit-4 : goal.invariant_of-self-in-Err-commit-4
-invariant_of-self-in-Err-commit-4 c =
-    kept-unmade c.self.invariant c.commit.new.self c.keep_room.new.journal.entries c.keep_room.new.journal.room c.args.session c.args.moment
-    c.len-number.result c.args.change c.in-Err-commit.lack (c.in-Err-commit.ensures c.args.change c.in-Ok.ensures) c.in-Ok-keep_room.ensures.entries c.in-Ok-keep_room.ensures.room
-
-pub invariant_of-self-in-Err-commit-5 : goal.invariant_of-self-in-Err-commit-5
-invariant_of-self-in-Err-commit-5 c =
-    kept-unmade c.self.invariant c.commit.new.self c.keep_room.new.journal.entries c.keep_room.new.journal.room c.args.session c.args.moment
-    c.len-number.result c.args.change c.in-Err-commit.lack (c.in-Err-commit.ensures c.args.change c.in-Ok.ensures) c.in-Ok-keep_room.ensures.entries c.in-Ok-keep_room.ensures.room
-
-pub invariant_of-self-in-Err-commit-6 : goal.invariant_of-self-in-Err-commit-6
-invariant_of-self-in-Err-commit-6 c =
-    kept-unmade c.self.invariant c.commit.new.self c.keep_room.new.journal.entries c.keep_room.new.journal.room c.args.session c.args.moment
-    c.len-number.result c.args.change c.in-Err-commit.lack (c.in-Err-commit.ensures c.args.change c.in-Ok.ensures) c.in-Ok-keep_room.ensures.entries c.in-Ok-keep_room.ensures.room
-
 pub returns-in-Err-commit : goal.returns-in-Err-commit
 returns-in-Err-commit c =
     let origin = c.self.inside.origin.value.tree in
@@ -106,13 +97,5 @@ returns-in-Err-commit c =
     let made = c.in-Err-commit.ensures c.args.change c.in-Ok.ensures in
     let told = c.refuse-in-Err-commit.ensures ∙ ap refusal c.status-in-Err-commit.ensures in
     let view : List Entry → View = λ x. record { origin = origin; journal = x; keys = c.commit.new.self.tree; handles = c.commit.new.self.handles.handles } in
-    let seen : c.match-change-3.self ≡ view c.keep_room.new.journal.entries = elim c.match-change-3.branch [
-      | in-OpenKey-4 w ↦ w.self-is
-      | in-CreateKey-4 w ↦ w.self-is
-      | in-SetValue-3 w ↦ w.self-is
-      | in-DeleteValue-3 w ↦ w.self-is
-      | in-DeleteKey-4 w ↦ w.self-is
-      | in-OpenRoot-4 w ↦ w.self-is
-    ] in
     given-up origin es store c.commit.new.self c.args.session c.args.moment c.len-number.result c.args.change c.refuse-in-Err-commit.result c.in-Err-commit.lack
-    is clear made told c.args.self.now c.match-change-3.self c.self.view_is (seen ∙ ap view c.in-Ok-keep_room.ensures.entries)
+    is clear made told c.args.self.now _ c.self.view_is (ap view c.in-Ok-keep_room.ensures.entries)

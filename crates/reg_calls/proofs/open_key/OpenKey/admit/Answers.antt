@@ -5,27 +5,33 @@ use Rattle.reg_calls.proofs.FoundPaths.{found-from, found-text, there-short}
 use Rattle.reg_calls.proofs.RefusalTests.{open-causes}
 use Rattle.reg_calls.proofs.open_key.OpenKey.admit.Goals as goal
 
+pub returns-in-Err-clause-refused : goal.returns-in-Err-clause-refused
+returns-in-Err-clause-refused c = c.in-Err.ensures.open c.args.path.now c.args.mask c.is_bad_open.ensures
+
 pub returns-in_default-clause-refused : goal.returns-in_default-clause-refused
 returns-in_default-clause-refused c =
     let k = c.in-Ok.ensures.key in
+    let bad = c.is_bad_open.ensures in
     let good = c.in-Ok.ensures.good in
     let room = c.in-Ok.ensures.room in
     let chain = open-causes c.args.entries c.args.store.now c.args.session c.args.handle c.args.path.now c.args.mask k.target in
     let none = c.in_default.ensures.found k.target.path k.node in
-    grind (arith, nat_tests, common_steps, chain, good, room, none)
+    grind (arith, nat_tests, common_steps, chain, bad, good, room, none)
 
 pub returns-in-Err-path_below-clause-refused : goal.returns-in-Err-path_below-clause-refused
 returns-in-Err-path_below-clause-refused c =
     let k = c.in-Ok.ensures.key in
+    let bad = c.is_bad_open.ensures in
     let good = c.in-Ok.ensures.good in
     let room = c.in-Ok.ensures.room in
     let chain = open-causes c.args.entries c.args.store.now c.args.session c.args.handle c.args.path.now c.args.mask k.target in
     let there = (c.in-Some.ensures.found k.target.path k.node).1 in
-    (grind (arith, nat_tests, common_steps, chain, good, room, there), refl)
+    (grind (arith, nat_tests, common_steps, chain, bad, good, room, there), refl)
 
 pub returns-in-Ok-path_below-clause-admitted : goal.returns-in-Ok-path_below-clause-admitted
 returns-in-Ok-path_below-clause-admitted c =
     let k = c.in-Ok.ensures.key in
+    let bad = c.is_bad_open.ensures in
     let good = c.in-Ok.ensures.good in
     let room = c.in-Ok.ensures.room in
     let chain = open-causes c.args.entries c.args.store.now c.args.session c.args.handle c.args.path.now c.args.mask k.target in
@@ -34,7 +40,7 @@ returns-in-Ok-path_below-clause-admitted c =
     let text = c.in-Ok-path_below.ensures in
     let short = there-short c.args.store.now c.args.session c.args.handle k.target c.in-Ok.key.path.now c.args.path.now k.path c.root.ensures.shallow there in
     record {
-      clear = grind (arith, nat_tests, common_steps, chain, good, room, there);
+      clear = grind (arith, nat_tests, common_steps, chain, bad, good, room, there);
       text = found-text c.args.store.now c.args.session c.args.handle k.target c.in-Ok.key.path.now c.args.path.now k.path c.in-Ok-path_below.text.items text.names (text.valid short) text.folded;
       node = found-from c.args.store.now c.args.session c.args.handle k.target c.args.path.now c.in-Some.node found.0;
     }

@@ -1,0 +1,36 @@
+use Rattle.std.proofs.Common.{arith}
+use Rattle.std.proofs.lemmas.Grind.{common_steps}
+use Rattle.std.proofs.lemmas.Bool.Decides.{nat_tests}
+use Rattle.reg_calls.proofs.FoundPaths.{found-at}
+use Rattle.reg_calls.proofs.RefusalTests.{secure-refused, secure-causes}
+use Rattle.reg_calls.proofs.set_security.SetSecurity.admit.Goals as goal
+
+pub returns-in-Err-clause-refused : goal.returns-in-Err-clause-refused
+returns-in-Err-clause-refused c = secure-refused c.args.entries c.args.store.now c.args.session c.args.handle c.args.descriptor.now c.in-Err.status c.in-Err.ensures
+
+pub returns-then-is_bad_descriptor-clause-refused : goal.returns-then-is_bad_descriptor-clause-refused
+returns-then-is_bad_descriptor-clause-refused c =
+    let k = c.in-Ok.ensures in
+    let chain = secure-causes c.args.entries c.args.store.now c.args.session c.args.handle c.args.descriptor.now c.in-Ok.key.mask k.target k.mask in
+    grind (arith, nat_tests, common_steps, chain)
+
+pub returns-then-key-ne-WRITE_DAC-clause-refused : goal.returns-then-key-ne-WRITE_DAC-clause-refused
+returns-then-key-ne-WRITE_DAC-clause-refused c =
+    let k = c.in-Ok.ensures in
+    let chain = secure-causes c.args.entries c.args.store.now c.args.session c.args.handle c.args.descriptor.now c.in-Ok.key.mask k.target k.mask in
+    grind (arith, nat_tests, common_steps, chain)
+
+pub returns-then-is_full-clause-refused : goal.returns-then-is_full-clause-refused
+returns-then-is_full-clause-refused c =
+    let k = c.in-Ok.ensures in
+    let chain = secure-causes c.args.entries c.args.store.now c.args.session c.args.handle c.args.descriptor.now c.in-Ok.key.mask k.target k.mask in
+    grind (arith, nat_tests, common_steps, chain)
+
+pub returns-clause-admitted : goal.returns-clause-admitted
+returns-clause-admitted c =
+    let k = c.in-Ok.ensures in
+    let chain = secure-causes c.args.entries c.args.store.now c.args.session c.args.handle c.args.descriptor.now c.in-Ok.key.mask k.target k.mask in
+    record {
+      clear = grind (arith, nat_tests, common_steps, chain);
+      node = found-at c.args.store.now c.args.session c.args.handle k.target c.in-Ok.key.node k.node;
+    }

@@ -1,0 +1,61 @@
+//! GetSecurity: a key's security descriptor.
+//!
+//! Win32 registry reference, `RegGetKeySecurity`.
+ghost use Rattle.std.specs.Prelude.{◌≡◌, ℕ};
+ghost use Rattle.std.specs.FinMap.{get};
+ghost use Rattle.reg_heap.specs.Paths.{Path};
+ghost use Rattle.reg_heap.specs.Edits.{descriptor_of};
+ghost use Rattle.reg_model.specs.Replies.{security_told};
+ghost use Rattle.reg_model.specs.declared.call.Query.TheVariants.{GetSecurity};
+ghost use Rattle.reg_tree.specs.TreeKeys.{IsAt, IsThere};
+ghost use Rattle.reg_calls.specs.Internal.Stores.{at, KnowsKeys};
+ghost use Rattle.reg_model.specs.Callbacks.{no_callbacks};
+ghost use Rattle.reg_calls.specs.Views.{IsRead, IsTold};
+
+use crate::store::Store;
+use reg_model::rights::READ_CONTROL;
+use reg_model::statuses::{ACCESS_DENIED, INSUFFICIENT_BUFFER, NOT_ENOUGH_MEMORY};
+use reg_model::{AnswerBody, Bytes};
+use reg_tree::{Node, Tree};
+use std::alloc::Global;
+
+/// A key's descriptor as it is told: short where the room is below its size, for which no memory is taken.
+fn told(alloc: Global, tree: &Tree, node: Node, room: u32) -> AnswerBody
+    requires { IsThere tree.now node }
+    ensures { (p : Path) → IsAt tree.now p node → IsTold (security_told (descriptor_of (get tree.now.tree p)) room) result }
+{
+    // Only for its clause `key`: the node's key is in the tree, of which the clauses of what follows speak.
+    let _ = tree.name(node);
+    let descriptor = tree.descriptor(node);
+    let size = descriptor.len() as u32;
+    if room < size {
+        return AnswerBody::Short {
+            status: INSUFFICIENT_BUFFER,
+            kind: 0,
+            size,
+        };
+    }
+    match Bytes::from_slice(alloc, descriptor) {
+        Ok(bytes) => AnswerBody::Security { bytes },
+        Err(_) => AnswerBody::Refused {
+            status: NOT_ENOUGH_MEMORY,
+        },
+    }
+}
+
+/// The answer to a GetSecurity: the descriptor's bytes, or its size where the room is short; or a refusal.
+pub fn answer(store: &Store, alloc: Global, session: u8, handle: u64, room: u32) -> AnswerBody
+    requires { KnowsKeys store.now }
+    ensures { (n : ℕ) → IsRead no_callbacks (at n store.now) session (GetSecurity handle room) result }
+{
+    let key = match store.key_of(session, handle) {
+        Ok(key) => key,
+        Err(status) => return AnswerBody::Refused { status },
+    };
+    if key.mask & READ_CONTROL != READ_CONTROL {
+        return AnswerBody::Refused {
+            status: ACCESS_DENIED,
+        };
+    }
+    told(alloc, &store.tree, key.node, room)
+}

@@ -1,0 +1,86 @@
+//! SetSecurity: a key's security descriptor set.
+//!
+//! Win32 registry reference, `RegSetKeySecurity`.
+ghost use Rattle.std.specs.Prelude.{ℕ, ◌≡◌, Some, IfErr, IfOk};
+ghost use Rattle.reg_model.specs.Causes.{change_cause};
+ghost use Rattle.reg_calls.specs.Internal.Stores.{at, IsReady, IsMade};
+ghost use Rattle.reg_calls.specs.Internal.Admissions.{AdmitsSetSecurity};
+
+use crate::lack::Lack;
+use crate::replies::accepted;
+use crate::store::{Store, is_bad_descriptor};
+use reg_model::ChangeReply;
+use reg_model::rights::WRITE_DAC;
+use reg_model::statuses::{ACCESS_DENIED, INVALID_PARAMETER, NO_SYSTEM_RESOURCES};
+use reg_tree::Node;
+use std::alloc::Global;
+
+/// What a SetSecurity was admitted with.
+#[derive(Clone, Copy)]
+pub struct SetSecurity<'a> {
+    /// The key.
+    pub node: Node,
+    /// The security descriptor.
+    pub descriptor: &'a [u8],
+}
+
+impl<'a> SetSecurity<'a> {
+    ghost use Rattle.reg_model.specs.declared.call.Change.TheVariants.{SetSecurity as SecuritySet};
+
+    /// Finds the key. Refused by 6 and 1018 for the handle, 87 for a descriptor that isn't of 1 to 65,535 bytes, 5 without the right,
+    /// and 1450 where the journal is full.
+    pub fn admit(
+        store: &Store,
+        entries: usize,
+        session: u8,
+        handle: u64,
+        descriptor: &'a [u8],
+    ) -> Result<SetSecurity<'a>, u32>
+        requires { IsReady entries store.now }
+        ensures refused { IfErr result (λ status. change_cause (at entries store.now) session (SecuritySet handle descriptor.now) 0 ≡ Some status) }
+        ensures admitted { IfOk result (λ found. AdmitsSetSecurity entries store.now session handle found) }
+        ensures descriptor { IfOk result (λ found. found.descriptor.now ≡ descriptor.now) }
+    {
+        let key = match store.key_of(session, handle) {
+            Ok(key) => key,
+            Err(status) => return Err(status),
+        };
+        if is_bad_descriptor(descriptor) {
+            return Err(INVALID_PARAMETER);
+        }
+        if key.mask & WRITE_DAC != WRITE_DAC {
+            return Err(ACCESS_DENIED);
+        }
+        if store.is_full(entries) {
+            return Err(NO_SYSTEM_RESOURCES);
+        }
+        // Callbacks will be asked here: the path is that of the handle's key.
+        Ok(SetSecurity {
+            node: key.node,
+            descriptor,
+        })
+    }
+
+    /// Sets the descriptor, and the key's time. `Err` says what was lacking, memory or space in the bins; then keys and handles are as
+    /// they were.
+    pub fn commit(
+        self,
+        store: &mut Store,
+        alloc: Global,
+        moment: u64,
+        number: u64,
+    ) -> Result<ChangeReply, Lack>
+        requires ready { IsReady number store.old }
+        requires admitted { (session handle : ℕ) × AdmitsSetSecurity number store.old session handle self }
+        ensures { (session handle : ℕ) → AdmitsSetSecurity number store.old session handle self.entry →
+            IsMade store.old store.new session moment number (SecuritySet handle self.entry.descriptor.now) result }
+    {
+        match store
+            .tree
+            .set_security(alloc, self.node, self.descriptor, moment)
+        {
+            Ok(()) => Ok(accepted(number)),
+            Err(fault) => Err(Lack::from(fault)),
+        }
+    }
+}
