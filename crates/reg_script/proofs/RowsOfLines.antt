@@ -4,17 +4,17 @@ use Rattle.hex.proofs.OnLiterals.{hex_on_literals}
 use Rattle.std.specs.Fmt.{digits}
 use Rattle.reg_model.specs.declared.call.Call.{Call}
 use Rattle.reg_model.specs.declared.call.Call.TheVariants.{Change, Query}
-use Rattle.reg_model.specs.declared.call.Change.TheVariants.{OpenRoot, OpenKey, CreateKey, SetValue, DeleteValue, DeleteKey, Close}
-use Rattle.reg_model.specs.declared.call.Query.TheVariants.{QueryValue, EnumKey, EnumValue, QueryInfo}
-use Rattle.reg_model.specs.declared.answer.AnswerBody.TheVariants.{Refused, Short, Value, Key, Member, Info}
+use Rattle.reg_model.specs.declared.call.Change.TheVariants.{OpenRoot, OpenKey, CreateKey, SetValue, DeleteValue, DeleteKey, SetSecurity, Close}
+use Rattle.reg_model.specs.declared.call.Query.TheVariants.{QueryValue, EnumKey, EnumValue, QueryInfo, GetSecurity}
+use Rattle.reg_model.specs.declared.answer.AnswerBody.TheVariants.{Refused, Short, Value, Key, Member, Info, Security}
 use Rattle.reg_script.specs.declared.engine.TheConstants.{LINE_LIMIT, LINES_LIMIT}
 use Rattle.reg_script.specs.LineWords.{lines_of, words_of, number_of, unescaped, after_mark, name_of, data_of}
-use Rattle.reg_script.specs.LineMeanings.{first_of, ending, room_of, call_verb_of, verb_of, by_verb, meaning_of, nothing, at_moment, as_session, on_hive, asks, bad}
+use Rattle.reg_script.specs.LineMeanings.{first_of, ending, room_of, given_of, call_verb_of, verb_of, by_verb, meaning_of, nothing, at_moment, as_session, on_hive, asks, bad}
 use Rattle.reg_script.specs.ReplyTexts.{changed_text, answer_text, byte_text}
 
 -- what computes a line's meaning
 unfoldable pub on_lines : Unit {0}
-unfolding words_of number_of unescaped after_mark name_of data_of first_of ending room_of call_verb_of verb_of by_verb meaning_of hex_on_literals
+unfolding words_of number_of unescaped after_mark name_of data_of first_of ending room_of given_of call_verb_of verb_of by_verb meaning_of hex_on_literals
 on_lines = tt
 
 -- ---- lines
@@ -64,9 +64,18 @@ open-same : meaning_of (codes "open 18446744073709551615 = 1") ≡ asks (Change 
 unfolding on_lines
 open-same = refl
 
-create-path : meaning_of (codes "create 0 =A\\b\\C 983103") ≡ asks (Change (CreateKey 0 (codes "A\\b\\C") 983103))
+create-path : meaning_of (codes "create 0 =A\\b\\C 983103") ≡ asks (Change (CreateKey 0 (codes "A\\b\\C") 983103 None))
 unfolding on_lines
 create-path = refl
+
+create-given : meaning_of (codes "create 0 =K 983103 x0102") ≡ asks (Change (CreateKey 0 (codes "K") 983103 (Some (1 ∷ 2 ∷ []))))
+unfolding on_lines
+create-given = refl
+
+-- no byte is a descriptor too, which the call refuses
+create-given_none : meaning_of (codes "create 0 =K 983103 x") ≡ asks (Change (CreateKey 0 (codes "K") 983103 (Some [])))
+unfolding on_lines
+create-given_none = refl
 
 delvalue-name : meaning_of (codes "delvalue 3 =A") ≡ asks (Change (DeleteValue 3 (codes "A")))
 unfolding on_lines
@@ -75,6 +84,20 @@ delvalue-name = refl
 delkey-path : meaning_of (codes "delkey 3 =A") ≡ asks (Change (DeleteKey 3 (codes "A")))
 unfolding on_lines
 delkey-path = refl
+
+setsec-bytes : meaning_of (codes "setsec 0 x0102") ≡ asks (Change (SetSecurity 0 (1 ∷ 2 ∷ [])))
+unfolding on_lines
+setsec-bytes = refl
+
+-- digits of either case
+setsec-cases : meaning_of (codes "setsec 7 xAbfF") ≡ asks (Change (SetSecurity 7 (171 ∷ 255 ∷ [])))
+unfolding on_lines
+setsec-cases = refl
+
+-- no byte is a descriptor too, which the call refuses
+setsec-none : meaning_of (codes "setsec 0 x") ≡ asks (Change (SetSecurity 0 []))
+unfolding on_lines
+setsec-none = refl
 
 close-handle : meaning_of (codes "close 7") ≡ asks (Change (Close 7))
 unfolding on_lines
@@ -95,6 +118,14 @@ enumvalue-no_room = refl
 info-handle : meaning_of (codes "info 0") ≡ asks (Query (QueryInfo 0))
 unfolding on_lines
 info-handle = refl
+
+getsec-room : meaning_of (codes "getsec 0 1") ≡ asks (Query (GetSecurity 0 1))
+unfolding on_lines
+getsec-room = refl
+
+getsec-largest : meaning_of (codes "getsec 18446744073709551615 4294967295") ≡ asks (Query (GetSecurity 18446744073709551615 4294967295))
+unfolding on_lines
+getsec-largest = refl
 
 at-moment : meaning_of (codes "at 18446744073709551615") ≡ at_moment 18446744073709551615
 unfolding on_lines
@@ -182,6 +213,64 @@ bad-close : meaning_of (codes "close 0 0") ≡ bad
 unfolding on_lines
 bad-close = refl
 
+-- an empty last word
+bad-given_end : meaning_of (codes "create 0 =K 983103 ") ≡ bad
+unfolding on_lines
+bad-given_end = refl
+
+bad-given_more : meaning_of (codes "create 0 =K 983103 x0102 x01") ≡ bad
+unfolding on_lines
+bad-given_more = refl
+
+bad-given_then_end : meaning_of (codes "create 0 =K 983103 x0102 ") ≡ bad
+unfolding on_lines
+bad-given_then_end = refl
+
+bad-given : meaning_of (codes "create 0 =K 983103 -") ≡ bad
+unfolding on_lines
+bad-given = refl
+
+bad-given_odd : meaning_of (codes "create 0 =K 983103 x010") ≡ bad
+unfolding on_lines
+bad-given_odd = refl
+
+bad-setsec_few : meaning_of (codes "setsec 0") ≡ bad
+unfolding on_lines
+bad-setsec_few = refl
+
+bad-setsec_mark : meaning_of (codes "setsec 0 0102") ≡ bad
+unfolding on_lines
+bad-setsec_mark = refl
+
+bad-setsec_odd : meaning_of (codes "setsec 0 x0") ≡ bad
+unfolding on_lines
+bad-setsec_odd = refl
+
+bad-setsec_digit : meaning_of (codes "setsec 0 x0g") ≡ bad
+unfolding on_lines
+bad-setsec_digit = refl
+
+bad-setsec_more : meaning_of (codes "setsec 0 x0102 x01") ≡ bad
+unfolding on_lines
+bad-setsec_more = refl
+
+bad-getsec_few : meaning_of (codes "getsec 0") ≡ bad
+unfolding on_lines
+bad-getsec_few = refl
+
+-- a room of a descriptor is a number
+bad-getsec_none : meaning_of (codes "getsec 0 -") ≡ bad
+unfolding on_lines
+bad-getsec_none = refl
+
+bad-getsec_room : meaning_of (codes "getsec 0 4294967296") ≡ bad
+unfolding on_lines
+bad-getsec_room = refl
+
+bad-getsec_more : meaning_of (codes "getsec 0 1 1") ≡ bad
+unfolding on_lines
+bad-getsec_more = refl
+
 -- ---- replies
 
 text-opened : changed_text (record { status = 0; number = Some 0; handle = Some 0; disposition = None }) ≡ codes "0 handle 0\n"
@@ -253,6 +342,23 @@ text-short_member = refl
 text-info : answer_text (Query (QueryInfo 0)) (Info 1 2 3 4 5 20 6) ≡ codes "0 subkeys 1 longest 2 values 3 longest 4 largest 5 security 20 time 6\n"
 unfolding digits
 text-info = refl
+
+text-security : answer_text (Query (GetSecurity 0 2)) (Security (1 ∷ 2 ∷ [])) ≡ codes "0 x0102\n"
+unfolding digits hex_on_literals
+text-security = refl
+
+text-security_cases : answer_text (Query (GetSecurity 0 9)) (Security (171 ∷ 0 ∷ 255 ∷ [])) ≡ codes "0 xab00ff\n"
+unfolding digits hex_on_literals
+text-security_cases = refl
+
+-- a descriptor has no type
+text-short_security : answer_text (Query (GetSecurity 0 1)) (Short 122 0 2) ≡ codes "122 size 2\n"
+unfolding digits
+text-short_security = refl
+
+text-security_refused : answer_text (Query (GetSecurity 0 1)) (Refused 5) ≡ codes "5\n"
+unfolding digits
+text-security_refused = refl
 
 text-no_more : answer_text (Query (EnumKey 0 9 255)) (Refused 259) ≡ codes "259\n"
 unfolding digits

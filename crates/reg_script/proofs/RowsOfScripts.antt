@@ -1,15 +1,19 @@
--- A short script, from its bytes to the text of its replies, by the definitions alone.
-use Rattle.std.specs.Prelude.{[], ◌∷◌, codes, Some, None, refl}
+-- Short scripts, from their bytes to the text of their replies, by the definitions alone.
+use Rattle.std.specs.Prelude.{◌≡◌, ◌||◌, Bool, true, false, [], ◌∷◌, ◌++◌, length, codes, Some, None, refl}
 use Rattle.std.proofs.Common.{inl, arith}
 use Rattle.std.specs.Fmt.{digits}
+use Rattle.std.specs.FinMap.{insert, empty}
+use Rattle.hex.proofs.OnLiterals.{hex_on_literals}
 use Rattle.reg_model.specs.Worlds.{after}
 use Rattle.reg_model.specs.Causes.{early_cause, late_cause, early_query_cause, late_query_cause}
-use Rattle.reg_model.specs.Replies.{refusal, reply_to}
-use Rattle.reg_model.specs.declared.answer.AnswerBody.TheVariants.{Refused}
-use Rattle.reg_model.specs.declared.call.Change.TheVariants.{OpenRoot}
+use Rattle.reg_model.specs.Replies.{refusal, reply_to, body_of}
+use Rattle.reg_model.specs.declared.answer.AnswerBody.TheVariants.{Refused, Short, Security}
+use Rattle.reg_model.specs.declared.call.Change.TheVariants.{OpenRoot, SetSecurity}
+use Rattle.reg_model.proofs.RowsReplies.{root_put}
+use Rattle.reg_tree.specs.TreeKeys.{Keys, made_root}
 use Rattle.reg_model.specs.declared.step.Outcome.TheVariants.{Changed, Answered}
 use Rattle.reg_calls.specs.Views.{View, IsHive, entry_of}
-use Rattle.reg_script.specs.Lines.{Stand, Lines}
+use Rattle.reg_script.specs.Lines.{Stand, Lines, fresh_descriptor}
 use Rattle.reg_script.proofs.RowsOfLines.{on_lines}
 
 -- a hive with no entries, and with the first one
@@ -62,6 +66,139 @@ refused_script hive is =
                 codes "bad\n",
                 (Answered (record { at = 1; body = Refused 6 }), (refl, inl refl, refl), refl, refl),
                 (here, codes "bad\n", [], (refl, refl), (refl, refl), refl),
+                refl,
+              ),
+              refl,
+            ),
+            refl,
+          ),
+          refl,
+        ),
+        refl,
+      ),
+      refl,
+    )
+
+-- a bad descriptor is refused whatever else is bad
+or_true : (other : Bool) → (other || true) ≡ true
+or_true true = refl
+or_true false = refl
+
+-- the same handle may not set a descriptor nor read one; an empty one is refused before its rights are asked, for a key to be made too; a
+-- room of `-`, and an empty word where a descriptor may stand
+refused_securities : (hive : View) → IsHive (opened hive) →
+    Lines (begun hive) (codes "root 1\nsetsec 0 x0102\nsetsec 0 x\ngetsec 0 1\ncreate 0 =K 1 x\ngetsec 0 -\ncreate 0 =K 1 ")
+    (codes "0 handle 0\n5\n87\n5\n87\nbad\nbad\n") (opened hive)
+unfolding on_lines digits after early_cause late_cause early_query_cause late_query_cause reply_to
+refused_securities hive is =
+    let here = there hive in (
+      here,
+      (
+        here,
+        codes "0 handle 0\n",
+        codes "5\n87\n5\n87\nbad\nbad\n",
+        (
+          Changed (record { status = 0; number = Some 0; handle = Some 0; disposition = None }),
+          inl (record { says = refl; journal = refl; origin = refl; kept = omega arith; grows = omega arith; hive = is }),
+          refl,
+          refl,
+        ),
+        (
+          here,
+          codes "5\n",
+          codes "87\n5\n87\nbad\nbad\n",
+          (Changed (refusal 5), (refl, refl), refl, refl),
+          (
+            here,
+            codes "87\n",
+            codes "5\n87\nbad\nbad\n",
+            (Changed (refusal 87), (refl, refl), refl, refl),
+            (
+              here,
+              codes "5\n",
+              codes "87\nbad\nbad\n",
+              (Answered (record { at = 1; body = Refused 5 }), (refl, inl refl, refl), refl, refl),
+              (
+                here,
+                codes "87\n",
+                codes "bad\nbad\n",
+                (Changed (refusal 87), rw or_true (refl, refl), refl, refl),
+                (here, codes "bad\n", codes "bad\n", (refl, refl), (here, codes "bad\n", [], (refl, refl), (refl, refl), refl), refl),
+                refl,
+              ),
+              refl,
+            ),
+            refl,
+          ),
+          refl,
+        ),
+        refl,
+      ),
+      refl,
+    )
+
+-- a fresh hive's root, and the hive with no entries, with a handle that may read and set descriptors, and with a descriptor that was set
+abbrev fresh : View → View
+fresh hive = record hive { origin = insert empty [] (made_root (codes "ROOT") fresh_descriptor 0); journal = [] }
+
+abbrev allowed : View → View
+allowed hive = record (fresh hive) { journal = entry_of (fresh hive) 0 0 (OpenRoot 393216) ∷ [] }
+
+abbrev described : View → Keys → View
+described hive keys =
+    record (allowed hive) { journal = (allowed hive).journal ++ entry_of (allowed hive) 0 0 (SetSecurity 0 (1 ∷ 2 ∷ [])) ∷ []; keys = keys }
+
+abbrev at_allowed : View → Stand
+at_allowed hive = record { hive = allowed hive; moment = 0; session = 0 }
+
+abbrev at_described : View → Keys → Stand
+at_described hive keys = record { hive = described hive keys; moment = 0; session = 0 }
+
+-- the descriptor that was set is told, where there is room for it
+set_and_told : (hive : View) (keys : Keys) → IsHive (allowed hive) → IsHive (described hive keys) → length keys.bins.bytes ≡ length hive.keys.bins.bytes →
+    Lines (fresh hive) (codes "root 393216\ngetsec 0 19\nsetsec 0 x0102\ngetsec 0 1\ngetsec 0 2\n")
+    (codes "0 handle 0\n122 size 20\n0\n122 size 2\n0 x0102\n") (described hive keys)
+unfolding on_lines digits hex_on_literals after early_cause late_cause early_query_cause late_query_cause reply_to body_of
+set_and_told hive keys is_allowed is_described same =
+    let here = at_allowed hive in
+    let there = at_described hive keys in (
+      there,
+      (
+        here,
+        codes "0 handle 0\n",
+        codes "122 size 20\n0\n122 size 2\n0 x0102\n",
+        (
+          Changed (record { status = 0; number = Some 0; handle = Some 0; disposition = None }),
+          inl (record { says = refl; journal = refl; origin = refl; kept = omega arith; grows = omega arith; hive = is_allowed }),
+          refl,
+          refl,
+        ),
+        (
+          here,
+          codes "122 size 20\n",
+          codes "0\n122 size 2\n0 x0102\n",
+          (Answered (record { at = 1; body = Short 122 0 20 }), (refl, inl (rw root_put refl), refl), refl, refl),
+          (
+            there,
+            codes "0\n",
+            codes "122 size 2\n0 x0102\n",
+            (
+              Changed (record { status = 0; number = Some 1; handle = None; disposition = None }),
+              inl (record { says = refl; journal = refl; origin = refl; kept = omega (arith, same); grows = omega (arith, same); hive = is_described }),
+              refl,
+              refl,
+            ),
+            (
+              there,
+              codes "122 size 2\n",
+              codes "0 x0102\n",
+              (Answered (record { at = 2; body = Short 122 0 2 }), (refl, inl (rw (root_put, root_put) refl), refl), refl, refl),
+              (
+                there,
+                codes "0 x0102\n",
+                [],
+                (Answered (record { at = 2; body = Security (1 ∷ 2 ∷ []) }), (refl, inl (rw (root_put, root_put) refl), refl), refl, refl),
+                (refl, refl),
                 refl,
               ),
               refl,

@@ -4,11 +4,11 @@ use Rattle.std.specs.Str.{bytes_eq}
 use Rattle.reg_model.specs.declared.limits.TheConstants.{SESSIONS_LIMIT}
 use Rattle.reg_model.specs.declared.call.Call.{Call}
 use Rattle.reg_model.specs.declared.call.Call.TheVariants.{Change, Query}
-use Rattle.reg_model.specs.declared.call.Change.TheVariants.{OpenRoot, OpenKey, CreateKey, SetValue, DeleteValue, DeleteKey, Close}
-use Rattle.reg_model.specs.declared.call.Query.TheVariants.{QueryValue, EnumKey, EnumValue, QueryInfo}
+use Rattle.reg_model.specs.declared.call.Change.TheVariants.{OpenRoot, OpenKey, CreateKey, SetValue, DeleteValue, DeleteKey, SetSecurity, Close}
+use Rattle.reg_model.specs.declared.call.Query.TheVariants.{QueryValue, EnumKey, EnumValue, QueryInfo, GetSecurity}
 use Rattle.reg_script.specs.declared.line.Verb.{Verb}
-use Rattle.reg_script.specs.declared.line.Verb.TheVariants.{At, As, Hive, Root, Open, Create, Set, DelValue, DelKey, Close as CloseVerb}
-use Rattle.reg_script.specs.declared.line.Verb.TheVariants.{Query as QueryVerb, EnumKey as EnumKeyVerb, EnumValue as EnumValueVerb, Info}
+use Rattle.reg_script.specs.declared.line.Verb.TheVariants.{At, As, Hive, Root, Open, Create, Set, DelValue, DelKey, SetSec, Close as CloseVerb}
+use Rattle.reg_script.specs.declared.line.Verb.TheVariants.{Query as QueryVerb, EnumKey as EnumKeyVerb, EnumValue as EnumValueVerb, Info, GetSec}
 use Rattle.reg_script.specs.LineWords.{words_of, number_of, name_of, data_of}
 
 -- what a line means: nothing, a setting for the lines after it, a call, or `bad`
@@ -49,6 +49,12 @@ session_number_of = number_of (SESSIONS_LIMIT - 1)
 unfoldable pub room_of : List ℕ → Option (Option ℕ)
 room_of word = if bytes_eq word (codes "-") then Some None else option_map Some (small_number_of word)
 
+-- the descriptor that the words behind a key to be made give it: none where there is no word, or the bytes of one DATA word
+unfoldable pub given_of : List (List ℕ) → Option (Option (List ℕ))
+given_of [] = Some None
+given_of (word ∷ []) = option_map Some (data_of word)
+given_of (word ∷ other ∷ words) = None
+
 -- the first word of a call
 unfoldable pub call_verb_of : List ℕ → Option Verb
 call_verb_of word =
@@ -58,11 +64,13 @@ call_verb_of word =
     else if bytes_eq word (codes "set") then Some Set
     else if bytes_eq word (codes "delvalue") then Some DelValue
     else if bytes_eq word (codes "delkey") then Some DelKey
+    else if bytes_eq word (codes "setsec") then Some SetSec
     else if bytes_eq word (codes "close") then Some CloseVerb
     else if bytes_eq word (codes "query") then Some QueryVerb
     else if bytes_eq word (codes "enumkey") then Some EnumKeyVerb
     else if bytes_eq word (codes "enumvalue") then Some EnumValueVerb
     else if bytes_eq word (codes "info") then Some Info
+    else if bytes_eq word (codes "getsec") then Some GetSec
     else None
 
 -- the first word of a setting or a call
@@ -82,7 +90,10 @@ by_verb Root = reading small_number_of (λ mask. ending (asks (Change (OpenRoot 
 by_verb Open =
     reading long_number_of (λ handle. reading name_of (λ path. reading small_number_of (λ mask. ending (asks (Change (OpenKey handle path mask))))))
 by_verb Create =
-    reading long_number_of (λ handle. reading name_of (λ path. reading small_number_of (λ mask. ending (asks (Change (CreateKey handle path mask))))))
+    reading long_number_of
+    (λ handle. reading name_of
+    (λ path. reading small_number_of
+    (λ mask words. option_map (λ given. asks (Change (CreateKey handle path mask given))) (given_of words))))
 by_verb Set =
     reading long_number_of
     (λ handle. reading name_of
@@ -90,6 +101,7 @@ by_verb Set =
     (λ kind. reading data_of (λ bytes. ending (asks (Change (SetValue handle name kind bytes)))))))
 by_verb DelValue = reading long_number_of (λ handle. reading name_of (λ name. ending (asks (Change (DeleteValue handle name)))))
 by_verb DelKey = reading long_number_of (λ handle. reading name_of (λ path. ending (asks (Change (DeleteKey handle path)))))
+by_verb SetSec = reading long_number_of (λ handle. reading data_of (λ descriptor. ending (asks (Change (SetSecurity handle descriptor)))))
 by_verb CloseVerb = reading long_number_of (λ handle. ending (asks (Change (Close handle))))
 by_verb QueryVerb =
     reading long_number_of (λ handle. reading name_of (λ name. reading room_of (λ room. ending (asks (Query (QueryValue handle name room))))))
@@ -101,6 +113,7 @@ by_verb EnumValueVerb =
     (λ index. reading small_number_of
     (λ name_room. reading room_of (λ room. ending (asks (Query (EnumValue handle index name_room room)))))))
 by_verb Info = reading long_number_of (λ handle. ending (asks (Query (QueryInfo handle))))
+by_verb GetSec = reading long_number_of (λ handle. reading small_number_of (λ room. ending (asks (Query (GetSecurity handle room)))))
 
 -- a line means nothing where it is empty or a comment, and is bad where its words mean nothing
 unfoldable pub meaning_of : List ℕ → Meaning

@@ -4,10 +4,10 @@ use Rattle.std.specs.Fmt.{decimal, digit_glyph}
 use Rattle.hex.specs.Hex.{encode_lower}
 use Rattle.reg_model.specs.declared.reply.ChangeReply.{ChangeReply}
 use Rattle.reg_model.specs.declared.answer.AnswerBody.{AnswerBody}
-use Rattle.reg_model.specs.declared.answer.AnswerBody.TheVariants.{Refused, Short, Value, Key, Member, Info}
+use Rattle.reg_model.specs.declared.answer.AnswerBody.TheVariants.{Refused, Short, Value, Key, Member, Info, Security}
 use Rattle.reg_model.specs.declared.call.Call.{Call}
 use Rattle.reg_model.specs.declared.call.Call.TheVariants.{Change, Query}
-use Rattle.reg_model.specs.declared.call.Query.TheVariants.{QueryValue, EnumKey, EnumValue, QueryInfo}
+use Rattle.reg_model.specs.declared.call.Query.TheVariants.{QueryValue, EnumKey, EnumValue, QueryInfo, GetSecurity}
 use Rattle.reg_model.specs.declared.step.Outcome.{Outcome}
 use Rattle.reg_model.specs.declared.step.Outcome.TheVariants.{Changed, Answered}
 
@@ -52,20 +52,25 @@ size_text size = codes " size " ++ decimal size
 abbrev pub value_text : ℕ → ℕ → List ℕ
 value_text kind size = codes " type " ++ (decimal kind ++ size_text size)
 
--- a value's bytes in lower case, if a room was given
+-- bytes, in lower case
+abbrev pub bytes_text : List ℕ → List ℕ
+bytes_text bytes = codes " x" ++ encode_lower bytes
+
+-- a value's bytes, if a room was given
 abbrev pub data_text : Option (List ℕ) → List ℕ
 data_text None = []
-data_text (Some bytes) = codes " x" ++ encode_lower bytes
+data_text (Some bytes) = bytes_text bytes
 
--- whether a call asks for a subkey
-abbrev pub asks_key : Call → Bool
-asks_key (Query (EnumKey handle index room)) = true
-asks_key (Query (QueryValue handle name room)) = false
-asks_key (Query (EnumValue handle index name_room room)) = false
-asks_key (Query (QueryInfo handle)) = false
-asks_key (Change change) = false
+-- whether a call asks for what has no type: a subkey's name or a descriptor
+abbrev pub asks_untyped : Call → Bool
+asks_untyped (Query (EnumKey handle index room)) = true
+asks_untyped (Query (GetSecurity handle room)) = true
+asks_untyped (Query (QueryValue handle name room)) = false
+asks_untyped (Query (EnumValue handle index name_room room)) = false
+asks_untyped (Query (QueryInfo handle)) = false
+asks_untyped (Change change) = false
 
--- what a room is too short for: a subkey's name, which has a size alone, or a value
+-- what a room is too short for: a subkey's name or a descriptor, which has a size alone, or a value
 abbrev pub short_text : Bool → ℕ → ℕ → List ℕ
 short_text true kind size = size_text size
 short_text false kind size = value_text kind size
@@ -80,12 +85,13 @@ info_text subkeys longest_key values longest_value largest security time =
 -- the answer to a call: a refusal's status alone, or the status with what was asked for
 abbrev pub answer_text : Call → AnswerBody → List ℕ
 answer_text call (Refused status) = decimal status ++ line_feed
-answer_text call (Short status kind size) = decimal status ++ (short_text (asks_key call) kind size ++ line_feed)
+answer_text call (Short status kind size) = decimal status ++ (short_text (asks_untyped call) kind size ++ line_feed)
 answer_text call (Value kind size bytes) = codes "0" ++ (value_text kind size ++ (data_text bytes ++ line_feed))
 answer_text call (Key name time) = codes "0" ++ (name_text name ++ (codes " time " ++ (decimal time ++ line_feed)))
 answer_text call (Member name kind size bytes) = codes "0" ++ (name_text name ++ (value_text kind size ++ (data_text bytes ++ line_feed)))
 answer_text call (Info subkeys longest_key values longest_value largest security time) =
     codes "0" ++ (info_text subkeys longest_key values longest_value largest security time ++ line_feed)
+answer_text call (Security bytes) = codes "0" ++ (bytes_text bytes ++ line_feed)
 
 -- the text of a call's outcome
 abbrev pub outcome_text : Call → Outcome → List ℕ

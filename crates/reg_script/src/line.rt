@@ -47,9 +47,11 @@ pub enum Verb {
     Set,
     DelValue,
     DelKey,
+    SetSec,
     Close,
     Query,
     EnumKey,
     EnumValue,
     Info,
+    GetSec,
 }

@@ -1,6 +1,7 @@
 ghost use Rattle.std.specs.Prelude.{◌≡◌, ◌≢◌, ◌==◌, ◌∷◌, [], position, IfOk, MatchResult, option_copied};
 ghost use Rattle.reg_script.specs.LineWords.{words_of, number_of, name_of, data_of};
-ghost use Rattle.reg_script.specs.LineMeanings.{reading, first_of, session_number_of, small_number_of, room_of, verb_of, by_verb, meaning_of};
+ghost use Rattle.reg_script.specs.LineMeanings.{reading, first_of, ending, session_number_of, small_number_of, room_of};
+ghost use Rattle.reg_script.specs.LineMeanings.{verb_of, given_of, by_verb, meaning_of};
 ghost use Rattle.reg_script.specs.Internal.WordReadings.{words_left, Reads, Means, said};
 
 use crate::line::{Line, Session, Setting, Verb};
@@ -118,6 +119,18 @@ impl<'a> Words<'a> {
         room(self.next()?)
     }
 
+    /// The descriptor of a key to be made, if a word is left.
+    #[tactic(auto, using(crate::proofs::WordReadingLemmas::descriptors, crate::proofs::LineSpaces::words_some))]
+    fn given(&mut self, alloc: Global) -> Result<Option<Bytes>, ParseFault>
+        ensures { MatchResult result (λ given. given_of self.old ≡ ending given self.new)
+            (λ e. e ≡ ParseFault.Form → given_of self.old ≡ None) }
+    {
+        if self.rest.is_none() {
+            return Ok(None);
+        }
+        Ok(Some(self.bytes(alloc)?))
+    }
+
     /// What the rest of a line with this first word means.
     fn rest(&mut self, alloc: Global, verb: Verb) -> Result<Line, ParseFault>
         ensures { Means (by_verb verb) self.old result self.new }
@@ -132,11 +145,13 @@ impl<'a> Words<'a> {
             Verb::Set => self.set(alloc),
             Verb::DelValue => self.delete_value(alloc),
             Verb::DelKey => self.delete_key(alloc),
+            Verb::SetSec => self.set_security(alloc),
             Verb::Close => self.close(),
             Verb::Query => self.query(alloc),
             Verb::EnumKey => self.enum_key(),
             Verb::EnumValue => self.enum_value(),
             Verb::Info => self.info(),
+            Verb::GetSec => self.get_security(),
         }
     }
 
@@ -187,15 +202,21 @@ impl<'a> Words<'a> {
         Ok(Line::Call(Call::Change(Change::OpenKey { handle, path, mask })))
     }
 
-    /// `create H PATH MASK`.
-    #[tactic(auto, unfolding(crate::specs::LineMeanings::by_verb))]
+    /// `create H PATH MASK`, and a descriptor's DATA word after or none.
+    #[tactic(auto, using(crate::proofs::WordReadingLemmas::create_means), unfolding(crate::specs::LineMeanings::by_verb))]
     fn create(&mut self, alloc: Global) -> Result<Line, ParseFault>
         ensures { Means (by_verb Verb.Create) self.old result self.new }
     {
         let handle = self.number(u64::MAX)?;
         let path = self.name(alloc)?;
         let mask = self.small_number()?;
-        Ok(Line::Call(Call::Change(Change::CreateKey { handle, path, mask })))
+        let descriptor = self.given(alloc)?;
+        Ok(Line::Call(Call::Change(Change::CreateKey {
+            handle,
+            path,
+            mask,
+            descriptor,
+        })))
     }
 
     /// `set H NAME KIND DATA`.
@@ -233,6 +254,16 @@ impl<'a> Words<'a> {
         let handle = self.number(u64::MAX)?;
         let path = self.name(alloc)?;
         Ok(Line::Call(Call::Change(Change::DeleteKey { handle, path })))
+    }
+
+    /// `setsec H DATA`.
+    #[tactic(auto, unfolding(crate::specs::LineMeanings::by_verb))]
+    fn set_security(&mut self, alloc: Global) -> Result<Line, ParseFault>
+        ensures { Means (by_verb Verb.SetSec) self.old result self.new }
+    {
+        let handle = self.number(u64::MAX)?;
+        let descriptor = self.bytes(alloc)?;
+        Ok(Line::Call(Call::Change(Change::SetSecurity { handle, descriptor })))
     }
 
     /// `close H`.
@@ -294,6 +325,16 @@ impl<'a> Words<'a> {
     {
         let handle = self.number(u64::MAX)?;
         Ok(Line::Call(Call::Query(Query::QueryInfo { handle })))
+    }
+
+    /// `getsec H ROOM`.
+    #[tactic(auto, unfolding(crate::specs::LineMeanings::by_verb))]
+    fn get_security(&mut self) -> Result<Line, ParseFault>
+        ensures { Means (by_verb Verb.GetSec) self.old result self.new }
+    {
+        let handle = self.number(u64::MAX)?;
+        let room = self.small_number()?;
+        Ok(Line::Call(Call::Query(Query::GetSecurity { handle, room })))
     }
 
     /// No word may be left.

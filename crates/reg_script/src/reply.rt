@@ -1,8 +1,8 @@
 ghost use Rattle.std.specs.Prelude.{◌≡◌, ◌++◌, string_bytes, OnOk, codes};
 ghost use Rattle.std.specs.Fmt.{decimal};
 ghost use Rattle.reg_model.specs.declared.call.Call.TheVariants.{Query as Asks};
-ghost use Rattle.reg_script.specs.ReplyTexts.{changed_text, handle_text, disposition_text, answer_text, short_text, name_text, value_text, asks_key};
-ghost use Rattle.reg_script.specs.ReplyTexts.{data_text, byte_text};
+ghost use Rattle.reg_script.specs.ReplyTexts.{changed_text, handle_text, disposition_text, answer_text, short_text, name_text, value_text, asks_untyped};
+ghost use Rattle.reg_script.specs.ReplyTexts.{data_text, bytes_text, byte_text};
 ghost use Rattle.reg_script.specs.ReplyTexts.{escaped as escaped_text, line_feed, is_plain as is_plain_byte};
 
 use reg_model::{Answer, AnswerBody, Bytes, ChangeReply, Query};
@@ -64,16 +64,24 @@ fn write_escaped(text: &mut String, name: &[u8]) -> Result<(), AllocError>
     Ok(())
 }
 
-/// What a room is too short for: a subkey's name has a size alone, a value its type too.
+/// What a room is too short for: a subkey's name and a descriptor have a size alone, a value its type too.
 fn write_short(text: &mut String, query: &Query, kind: u32, size: u32) -> Result<(), AllocError>
-    ensures { OnOk result (string_bytes text.new ≡ string_bytes text.old ++ (short_text (asks_key (Asks query.now)) kind size ++ line_feed)) }
+    ensures { OnOk result (string_bytes text.new ≡ string_bytes text.old ++ (short_text (asks_untyped (Asks query.now)) kind size ++ line_feed)) }
 {
     match query {
-        Query::EnumKey { .. } => writeln!(text, " size {size}"),
+        Query::EnumKey { .. } | Query::GetSecurity { .. } => writeln!(text, " size {size}"),
         Query::QueryValue { .. } | Query::EnumValue { .. } | Query::QueryInfo { .. } => {
             writeln!(text, " type {kind} size {size}")
         }
     }
+}
+
+/// The end of a line: bytes in lower case.
+fn write_bytes(alloc: Global, text: &mut String, bytes: &[u8]) -> Result<(), AllocError>
+    ensures { OnOk result (string_bytes text.new ≡ string_bytes text.old ++ (bytes_text bytes.now ++ line_feed)) }
+{
+    let digits = hex::encode(alloc, bytes)?;
+    writeln!(text, " x{digits}")
 }
 
 /// The end of a value's line: its bytes, if a room was given.
@@ -81,10 +89,7 @@ fn write_data(alloc: Global, text: &mut String, bytes: &Option<Bytes>) -> Result
     ensures { OnOk result (string_bytes text.new ≡ string_bytes text.old ++ (data_text bytes.now ++ line_feed)) }
 {
     match bytes {
-        Some(bytes) => {
-            let digits = hex::encode(alloc, bytes.as_slice())?;
-            writeln!(text, " x{digits}")
-        }
+        Some(bytes) => write_bytes(alloc, text, bytes.as_slice()),
         None => writeln!(text),
     }
 }
@@ -156,5 +161,9 @@ pub fn write_answered(
             text,
             "0 subkeys {subkeys} longest {longest_key} values {values} longest {longest_value} largest {largest} security {security} time {time}"
         ),
+        AnswerBody::Security { bytes } => {
+            text.push_str("0")?;
+            write_bytes(alloc, text, bytes.as_slice())
+        }
     }
 }

@@ -61,6 +61,9 @@ fn call_verb(word: &[u8]) -> Result<Verb, ParseFault>
     if word == b"delkey".as_slice() {
         return Ok(Verb::DelKey);
     }
+    if word == b"setsec".as_slice() {
+        return Ok(Verb::SetSec);
+    }
     if word == b"close".as_slice() {
         return Ok(Verb::Close);
     }
@@ -75,6 +78,9 @@ fn call_verb(word: &[u8]) -> Result<Verb, ParseFault>
     }
     if word == b"info".as_slice() {
         return Ok(Verb::Info);
+    }
+    if word == b"getsec".as_slice() {
+        return Ok(Verb::GetSec);
     }
     Err(ParseFault::Form)
 }
