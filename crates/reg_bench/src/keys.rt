@@ -38,7 +38,7 @@ fn make_all(tree: &mut Tree, alloc: Global, paths: &[Bytes]) -> Result<()> {
             bail!("that is no path");
         };
         let root = tree.root();
-        let Ok(_) = tree.create(alloc, root, path.as_slice(), 1) else {
+        let Ok(_) = tree.create(alloc, root, path.as_slice(), None, 1) else {
             bail!("a key was not made");
         };
     }

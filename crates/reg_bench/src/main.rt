@@ -22,6 +22,7 @@ mod maps;
 mod open_hive;
 mod ratios;
 mod script;
+mod securities;
 mod times;
 mod values;
 
@@ -42,7 +43,8 @@ fn count_all(rt: &(impl Print + Clock), alloc: Global) -> Result<()> {
     key_script::count(rt, alloc)?;
     ratios::count(rt, alloc)?;
     depths::count(rt, alloc)?;
-    lists::count(rt, alloc)
+    lists::count(rt, alloc)?;
+    securities::count(rt, alloc)
 }
 
 /// Prints how long the calls of a subject take.
@@ -59,6 +61,7 @@ fn measure(rt: &(impl Print + Clock), alloc: Global, subject: Subject) -> Result
             depths::measure(rt, alloc)
         }
         Subject::Script => script::measure(rt, alloc),
+        Subject::Securities => securities::measure(rt, alloc),
         Subject::Values => values::measure(rt, alloc),
     }
 }

@@ -79,6 +79,7 @@ impl OpenHive {
             handle: root,
             path: Bytes::from_slice(self.alloc, path.as_bytes())?,
             mask: ALL_RIGHTS,
+            descriptor: None,
         })?;
         self.change(Change::Close { handle })
     }

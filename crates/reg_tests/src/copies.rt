@@ -134,10 +134,12 @@ fn copies_of_answers(rt: HostRuntime) -> Result<(), Fail> {
 /// A change that makes a key.
 fn create_key(alloc: Global) -> Result<Change, Fail> {
     let path = Bytes::from_slice(alloc, b"A\\B")?;
+    let descriptor = Bytes::from_slice(alloc, &[1, 2])?;
     Ok(Change::CreateKey {
         handle: 3,
         path,
         mask: 983_103,
+        descriptor: Some(descriptor),
     })
 }
 
@@ -158,7 +160,7 @@ fn copies_of_openings(rt: HostRuntime) -> Result<(), Fail> {
     assert_told(
         &rt,
         copied_opening(rt.alloc()),
-        "CreateKey { handle: 3, path: Bytes { items: [65, 92, 66] }, mask: 983103 }",
+        "CreateKey { handle: 3, path: Bytes { items: [65, 92, 66] }, mask: 983103, descriptor: Some(Bytes { items: [1, 2] }) }",
     )
 }
 
@@ -180,6 +182,68 @@ fn copies_of_enumerations(rt: HostRuntime) -> Result<(), Fail> {
         &rt,
         copied_enumeration(rt.alloc()),
         "EnumValue { handle: 7, index: 2, name_room: 5, room: None }",
+    )
+}
+
+/// A change of a descriptor.
+fn set_security(alloc: Global) -> Result<Change, Fail> {
+    let descriptor = Bytes::from_slice(alloc, &[3, 4])?;
+    Ok(Change::SetSecurity {
+        handle: 6,
+        descriptor,
+    })
+}
+
+/// The text of its copy.
+fn copied_description(alloc: Global) -> Result<String, Fail> {
+    let change = set_security(alloc)?;
+    copied_opening_of(alloc, &change)
+}
+
+#[test]
+fn copies_of_descriptions(rt: HostRuntime) -> Result<(), Fail> {
+    assert_told(
+        &rt,
+        copied_description(rt.alloc()),
+        "SetSecurity { handle: 6, descriptor: Bytes { items: [3, 4] } }",
+    )
+}
+
+/// The text of a copy of a question for a descriptor.
+fn copied_question(alloc: Global) -> Result<String, Fail> {
+    let query = Query::GetSecurity { handle: 7, room: 2 };
+    let copy = query.try_clone(alloc)?;
+    shown(alloc, &copy)
+}
+
+#[test]
+fn copies_of_questions_for_descriptors(rt: HostRuntime) -> Result<(), Fail> {
+    assert_told(
+        &rt,
+        copied_question(rt.alloc()),
+        "GetSecurity { handle: 7, room: 2 }",
+    )
+}
+
+/// An outcome with a descriptor.
+fn descriptor_told(alloc: Global) -> Result<Outcome, Fail> {
+    let bytes = Bytes::from_slice(alloc, &[5])?;
+    let body = AnswerBody::Security { bytes };
+    Ok(Outcome::Answered(Answer { at: 1, body }))
+}
+
+/// The text of its copy.
+fn copied_descriptor(alloc: Global) -> Result<String, Fail> {
+    let outcome = descriptor_told(alloc)?;
+    copied_outcome_of(alloc, &outcome)
+}
+
+#[test]
+fn copies_of_descriptors(rt: HostRuntime) -> Result<(), Fail> {
+    assert_told(
+        &rt,
+        copied_descriptor(rt.alloc()),
+        "Answered(Answer { at: 1, body: Security { bytes: Bytes { items: [5] } } })",
     )
 }
 

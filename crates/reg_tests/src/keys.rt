@@ -50,7 +50,7 @@ fn make_below(
     let Some(from) = at(tree, above) else {
         return "nothing to make it below";
     };
-    match tree.create(alloc, from, path, moment) {
+    match tree.create(alloc, from, path, None, moment) {
         Ok(made) => if made.is_new { "made" } else { "there" },
         Err(fault) => fault_name(fault),
     }

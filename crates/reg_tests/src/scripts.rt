@@ -1,4 +1,5 @@
 //! The command line's tool on scripts, readers and writers of every kind. The wanted replies come from the script's rules.
+mod descriptors;
 mod devices;
 mod keys;
 
@@ -289,7 +290,9 @@ at|at |at -1|at +1|at 0x1|at 1 1|at 18446744073709551616|at 99999999999999999999
 root 983103 0|root 4294967296|set 0 = 4|set 0 = 4 |set 0 = 4 x01 0|set 0 = 4 01|set 0 = 4 X01|set 0 = 4 x0|\
 set 0 = 4 x0g|set 0 = 4294967296 x01|set 0 v 4 x01|set 0  4 x01|set 18446744073709551616 = 4 x01|\
 query 0 =|query 0 = |query 0 = --|query 0 = 4294967296|query 0 = - -|query 0 v -|query 0 =a b -|delvalue|delvalue 0|delvalue 0 v|delvalue 0 =v 1|delvalue =v 0|\
-open 0 =K|open 0 K 1|open =K 1|open 0 =K 4294967296|create 0 =K|create 0 =K 1 1|create 0 =K -|delkey 0|delkey 0 K|delkey 0 =K 1|\
+open 0 =K|open 0 K 1|open =K 1|open 0 =K 4294967296|create 0 =K|create 0 =K 1 1|create 0 =K -|create 0 =K 1 |create 0 =K 1 x0|\
+create 0 =K 1 x01 x02|setsec 0|setsec 0 =v|setsec 0 x0|setsec 0 x01 0|setsec =v x01|\
+getsec 0|getsec 0 -|getsec 0 4294967296|getsec 0 1 1|delkey 0|delkey 0 K|delkey 0 =K 1|\
 close|close =K|close 0 0|close 18446744073709551616|enumkey 0 0|enumkey 0 0 -|enumkey 0 4294967296 0|enumkey 0 0 0 0|\
 enumvalue 0 0 1|enumvalue 0 0 - -|enumvalue 0 0 1 4294967296|enumvalue 0 0 1 - -|info|info =|info 0 0";
 

@@ -45,6 +45,14 @@ pub enum Deed<'a> {
     SetLong(&'a [u8], usize),
     /// Removes a value.
     Delete(&'a [u8]),
+    /// Makes the keys of a path, the last with this descriptor, if there is one.
+    Create(&'a [u8], Option<&'a [u8]>),
+    /// Sets the descriptor of the key that a handle leads to.
+    Describe(u64, &'a [u8]),
+    /// Sets the root's descriptor to so many bytes.
+    DescribeLong(usize),
+    /// Makes the keys of a path, the last with a descriptor of so many bytes.
+    CreateLong(&'a [u8], usize),
 }
 
 /// What is asked of a hive.
@@ -130,6 +138,10 @@ pub fn do_one(alloc: Global, hive: &mut Hive, deed: &Deed<'_>) -> Result<u32, Fa
         Deed::Set(name, bytes) => set(alloc, hive, name, bytes),
         Deed::SetLong(name, len) => set_long(alloc, hive, name, len),
         Deed::Delete(name) => delete(alloc, hive, name),
+        Deed::Create(path, descriptor) => create(alloc, hive, path, descriptor),
+        Deed::Describe(handle, descriptor) => describe(alloc, hive, handle, descriptor),
+        Deed::DescribeLong(len) => describe_long(alloc, hive, len),
+        Deed::CreateLong(path, len) => create_long(alloc, hive, path, len),
     }
 }
 
@@ -157,6 +169,51 @@ fn delete(alloc: Global, hive: &mut Hive, name: &[u8]) -> Result<u32, Fail> {
     let name = Bytes::from_slice(alloc, name)?;
     let change = Change::DeleteValue { handle: 0, name };
     Ok(hive.apply(0, 512, change).status)
+}
+
+/// The bytes that may be given.
+fn given(alloc: Global, bytes: Option<&[u8]>) -> Result<Option<Bytes>, Fail> {
+    match bytes {
+        Some(bytes) => Ok(Some(Bytes::from_slice(alloc, bytes)?)),
+        None => Ok(None),
+    }
+}
+
+/// Makes the keys of a path from the root by handle 0, and tells the reply's status.
+fn create(
+    alloc: Global,
+    hive: &mut Hive,
+    path: &[u8],
+    descriptor: Option<&[u8]>,
+) -> Result<u32, Fail> {
+    let path = Bytes::from_slice(alloc, path)?;
+    let descriptor = given(alloc, descriptor)?;
+    let change = Change::CreateKey {
+        handle: 0,
+        path,
+        mask: ALL,
+        descriptor,
+    };
+    Ok(hive.apply(0, 256, change).status)
+}
+
+/// The same with a descriptor of so many bytes.
+fn create_long(alloc: Global, hive: &mut Hive, path: &[u8], len: usize) -> Result<u32, Fail> {
+    let bytes = vec![in alloc; 9; len]?;
+    create(alloc, hive, path, Some(bytes.as_slice()))
+}
+
+/// Sets the descriptor of a handle's key, and tells the reply's status.
+fn describe(alloc: Global, hive: &mut Hive, handle: u64, descriptor: &[u8]) -> Result<u32, Fail> {
+    let descriptor = Bytes::from_slice(alloc, descriptor)?;
+    let change = Change::SetSecurity { handle, descriptor };
+    Ok(hive.apply(0, 256, change).status)
+}
+
+/// Sets the root's descriptor to so many bytes.
+fn describe_long(alloc: Global, hive: &mut Hive, len: usize) -> Result<u32, Fail> {
+    let bytes = vec![in alloc; 9; len]?;
+    describe(alloc, hive, 0, bytes.as_slice())
 }
 
 /// What a hive answers to a question.

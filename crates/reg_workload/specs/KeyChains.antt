@@ -1,5 +1,5 @@
 -- A chain of keys, each the one subkey of the key before, and a question asked over and over.
-use Rattle.std.specs.Prelude.{ℕ, List, ◌∷◌, codes, map, replicate}
+use Rattle.std.specs.Prelude.{ℕ, List, ◌∷◌, None, codes, map, replicate}
 use Rattle.std.specs.List.{range_with_len}
 use Rattle.reg_model.specs.declared.call.Change.{Change}
 use Rattle.reg_model.specs.declared.call.Change.TheVariants.{OpenRoot, CreateKey}
@@ -8,7 +8,7 @@ use Rattle.reg_workload.specs.declared.operations.TheConstants.{ALL_RIGHTS}
 use Rattle.reg_workload.specs.PlannedKeys.{asks}
 
 abbrev pub makes_below : ℕ → Change
-makes_below above = CreateKey above (codes "Below") ALL_RIGHTS
+makes_below above = CreateKey above (codes "Below") ALL_RIGHTS None
 
 -- the root is opened, and then each key is made by the handle that was opened before
 abbrev pub makes_chain : ℕ → List Change

@@ -4,6 +4,7 @@ pub mod OpenKeys
 pub mod Operations
 pub mod PlainJournals
 pub mod PlannedKeys
+pub mod SecuritySteps
 pub mod Subjects
 pub mod Turns
 pub mod ValueSteps

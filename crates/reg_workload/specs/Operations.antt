@@ -1,5 +1,5 @@
 -- What is done by a handle.
-use Rattle.std.specs.Prelude.{ℕ, codes, Some}
+use Rattle.std.specs.Prelude.{ℕ, codes, Some, None}
 use Rattle.reg_names.specs.declared.TheConstants.{VALUE_NAME_LIMIT}
 use Rattle.reg_workload.specs.declared.operations.TheConstants.{ALL_RIGHTS}
 use Rattle.reg_model.specs.declared.call.Call.{Call}
@@ -13,8 +13,8 @@ use Rattle.reg_workload.specs.declared.operations.Operation.TheVariants.{DeleteV
 -- the call of each operation: `Old` is the subkey that is there, `New` the one that is made, and `v` the value
 abbrev pub call_of : Operation → ℕ → Call
 call_of Open h = Changes (OpenKey h (codes "Old") ALL_RIGHTS)
-call_of CreateOld h = Changes (CreateKey h (codes "Old") ALL_RIGHTS)
-call_of CreateNew h = Changes (CreateKey h (codes "New") ALL_RIGHTS)
+call_of CreateOld h = Changes (CreateKey h (codes "Old") ALL_RIGHTS None)
+call_of CreateNew h = Changes (CreateKey h (codes "New") ALL_RIGHTS None)
 call_of Query h = Asks (QueryValue h (codes "v") (Some 4294967295))
 call_of Set h = Changes (SetValue h (codes "v") 4 (codes "data"))
 call_of EnumKey h = Asks (ListsKey h 0 VALUE_NAME_LIMIT)

@@ -1,5 +1,5 @@
 -- The keys that are made, and the calls on them.
-use Rattle.std.specs.Prelude.{ℕ, Bool, List, [], ◌∷◌, ◌++◌, ◌+◌, ◌*◌, ◌%◌, ◌/◌, ◌==◌, if◌then◌else◌, codes, decimal, replicate, map, min, Some}
+use Rattle.std.specs.Prelude.{ℕ, Bool, List, [], ◌∷◌, ◌++◌, ◌+◌, ◌*◌, ◌%◌, ◌/◌, ◌==◌, if◌then◌else◌, codes, decimal, replicate, map, min, Some, None}
 use Rattle.std.specs.List.{range_with_len}
 use Rattle.reg_model.specs.declared.call.Change.{Change}
 use Rattle.reg_model.specs.declared.call.Query.{Query}
@@ -41,7 +41,7 @@ abbrev pub data_of : ℕ → ℕ → List ℕ
 data_of number value = replicate (data_size_of number value) BYTE
 
 abbrev pub creates : ℕ → ℕ → Change
-creates number above = CreateKey above (name_of number) ALL_RIGHTS
+creates number above = CreateKey above (name_of number) ALL_RIGHTS None
 
 abbrev pub opens : ℕ → ℕ → Change
 opens number above = OpenKey above (name_of number) ALL_RIGHTS
@@ -90,7 +90,7 @@ abbrev pub above_of : KeyPlan → ℕ → ℕ
 above_of plan number = 1 + parent_of plan number
 
 abbrev pub makes_parent : ℕ → Change
-makes_parent parent = CreateKey 0 (codes "Parent" ++ decimal parent) ALL_RIGHTS
+makes_parent parent = CreateKey 0 (codes "Parent" ++ decimal parent) ALL_RIGHTS None
 
 -- the root is opened, and then each parent is made
 abbrev pub makes_parents : ℕ → List Change

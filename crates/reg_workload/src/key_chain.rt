@@ -30,6 +30,7 @@ fn make_below(alloc: Global, above: u32) -> Result<Change, AllocError>
         handle: u64::from(above),
         path: Bytes::from_slice(alloc, NAME.as_bytes())?,
         mask: ALL_RIGHTS,
+        descriptor: None,
     })
 }
 

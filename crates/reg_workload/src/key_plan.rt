@@ -82,6 +82,7 @@ fn make_parent(alloc: Global, parent: u32) -> Result<Change, AllocError>
         handle: ROOT,
         path: Bytes::from_slice(alloc, name.as_bytes())?,
         mask: ALL_RIGHTS,
+        descriptor: None,
     })
 }
 
@@ -156,6 +157,7 @@ pub fn create_call(alloc: Global, number: u32, above: u64) -> Result<Change, All
         handle: above,
         path: key_path(alloc, number)?,
         mask: ALL_RIGHTS,
+        descriptor: None,
     })
 }
 

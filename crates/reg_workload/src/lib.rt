@@ -4,8 +4,8 @@
 //! Its one contract: which cells are live, how many keys and handles a size means, and which calls an operation and a step on keys
 //! are, are exactly as told, so that what is measured is what was meant. It stands on reg_arena and reg_model.
 //!
-//! Its types are [`LiveCells`]; [`Operation`] and [`Size`]; [`KeyPlan`], [`KeyStep`] and [`KeyHandles`]; [`ValueStep`]; [`PlainMaps`]
-//! and [`PlainList`]; [`Subject`]; [`PerCall`], the mean time of a call; and [`Ratio`].
+//! Its types are [`LiveCells`]; [`Operation`] and [`Size`]; [`KeyPlan`], [`KeyStep`] and [`KeyHandles`]; [`ValueStep`];
+//! [`SecurityStep`]; [`PlainMaps`] and [`PlainList`]; [`Subject`]; [`PerCall`], the mean time of a call; and [`Ratio`].
 #![tactic(auto)]
 
 mod chance;
@@ -20,6 +20,7 @@ mod plain_key;
 mod plain_list;
 mod plain_maps;
 mod ratio;
+mod security_steps;
 mod size;
 mod subject;
 mod value_steps;
@@ -35,6 +36,7 @@ pub use per_call::PerCall;
 pub use plain_list::PlainList;
 pub use plain_maps::PlainMaps;
 pub use ratio::Ratio;
+pub use security_steps::{SecurityStep, descriptor_queries};
 pub use size::{BATCH, Size};
 pub use subject::Subject;
 pub use value_steps::ValueStep;

@@ -1,5 +1,5 @@
 //! What can be done by a handle, and the call that does it.
-ghost use Rattle.std.specs.Prelude.{◌≡◌, IfOk, map};
+ghost use Rattle.std.specs.Prelude.{◌≡◌, IfOk, None, map};
 ghost use Rattle.reg_model.specs.declared.call.Call.TheVariants.{Change as Changes};
 ghost use Rattle.reg_model.specs.declared.call.Change.TheVariants.{OpenKey, CreateKey};
 ghost use Rattle.reg_workload.specs.declared.operations.Operation.TheVariants.{Query as Asked, Set, DeleteValue, DeleteKey};
@@ -141,12 +141,13 @@ fn open(alloc: Global, handle: u64, path: &[u8]) -> Result<Call, AllocError>
 }
 
 fn create(alloc: Global, handle: u64, path: &[u8]) -> Result<Call, AllocError>
-    ensures { IfOk result (λ call. call ≡ Changes (CreateKey handle path.now ALL_RIGHTS)) }
+    ensures { IfOk result (λ call. call ≡ Changes (CreateKey handle path.now ALL_RIGHTS None)) }
 {
     Ok(Call::Change(Change::CreateKey {
         handle,
         path: Bytes::from_slice(alloc, path)?,
         mask: ALL_RIGHTS,
+        descriptor: None,
     }))
 }
 

@@ -35,7 +35,7 @@ enum Made {
 }
 
 /// Keys, handles and a journal in a vector and maps, of one session. It answers the changes that [`KeyPlan`](crate::KeyPlan) makes
-/// as a hive does: paths of one name, no value removed, and no mask, limit or room out of range; others are refused by 87.
+/// as a hive does: paths of one name, no value removed, no descriptor, and no mask, limit or room out of range; others are refused by 87.
 #[derive(Drop)]
 pub struct PlainMaps {
     alloc: Global,
@@ -147,9 +147,12 @@ impl PlainMaps {
                 disposition: None,
             }),
             Change::OpenKey { handle, path, mask } => self.open(*handle, path.as_slice(), *mask),
-            Change::CreateKey { handle, path, mask } => {
-                self.create(moment, *handle, path.as_slice(), *mask)
-            }
+            Change::CreateKey {
+                handle,
+                path,
+                mask,
+                descriptor: None,
+            } => { self.create(moment, *handle, path.as_slice(), *mask) }
             Change::SetValue {
                 handle,
                 name,
@@ -158,7 +161,12 @@ impl PlainMaps {
             } => self.set(moment, *handle, name.as_slice(), *kind, bytes.as_slice()),
             Change::DeleteKey { handle, path } => { self.delete(moment, *handle, path.as_slice()) }
             Change::Close { handle } => Ok(self.close(*handle)),
-            Change::DeleteValue { .. } => Ok(Made::Refused(INVALID_PARAMETER)),
+            Change::CreateKey {
+                descriptor: Some(_),
+                ..
+            }
+            | Change::DeleteValue { .. }
+            | Change::SetSecurity { .. } => Ok(Made::Refused(INVALID_PARAMETER)),
         }
     }
 

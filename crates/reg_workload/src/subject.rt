@@ -21,12 +21,15 @@ pub enum Subject {
     Ratios,
     /// A script of many lines.
     Script,
+    /// Descriptors of keys, of which a hive has few or many.
+    Securities,
     /// Setting values and asking for them.
     Values,
 }
 
 impl Subject {
-    /// The subject of a name, `arena`, `handles`, `keys`, `lists`, `makes`, `maps`, `ratios`, `script` or `values`; `None` of any other.
+    /// The subject of a name, `arena`, `handles`, `keys`, `lists`, `makes`, `maps`, `ratios`, `script`,
+    /// `securities` or `values`; `None` of any other.
     #[tactic(auto, unfolding(crate::specs::Subjects::subject_named))]
     pub fn named(name: &[u8]) -> Option<Subject>
         ensures { result ≡ subject_named name.now }
@@ -54,6 +57,9 @@ impl Subject {
         }
         if name == b"script".as_slice() {
             return Some(Subject::Script);
+        }
+        if name == b"securities".as_slice() {
+            return Some(Subject::Securities);
         }
         if name == b"values".as_slice() {
             return Some(Subject::Values);
