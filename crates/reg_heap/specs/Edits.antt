@@ -1,8 +1,9 @@
 -- Keys changed in a tree (Win32 registry reference, `RegCreateKeyEx`, `RegDeleteKey`, `RegSetValueEx`, `RegDeleteValue`,
--- `RegSetKeySecurity`).
+-- `RegSetKeySecurity`, `RegDeleteTree`).
 use Rattle.std.specs.Prelude.{◌≡◌, ◌⊎◌, ℕ, ◌+◌, ◌-◌, ◌==◌, ◌&&◌, ◌||◌, nat_lt, nat_le, not, Bool, false, List, [], ◌∷◌, ◌++◌, map, length, take, cond}
-use Rattle.std.specs.Prelude.{is_some, bit_and, Option, Some, None, unwrap_or}
-use Rattle.std.specs.FinMap.{get, insert, remove}
+use Rattle.std.specs.Prelude.{is_some, bit_and, bytes_eq, Option, Some, None, unwrap_or}
+use Rattle.std.specs.List.{starts_with, list_any}
+use Rattle.std.specs.FinMap.{get, insert, remove, retain_keys, keys}
 use Rattle.reg_names.specs.declared.TheConstants.{PATH_LIMIT}
 use Rattle.reg_names.specs.Names.{folded, path_of}
 use Rattle.reg_heap.specs.declared.limits.TheConstants.{MADE_LIMIT, LEAF_LIMIT}
@@ -111,6 +112,44 @@ marks_of (Some r) = r.marks
 abbrev pub IsKept : Tree → Path → Type 0
 IsKept t p = (p ≡ []) ⊎ ((bit_and (marks_of (get t p)) NO_DELETE == 0) ≡ false)
 
+-- whether a key has mark 0x08
+abbrev pub is_marked : Tree → Path → Bool
+is_marked t p = not (bit_and (marks_of (get t p)) NO_DELETE == 0)
+
 -- a key that has subkeys, or mark 0x08
 abbrev pub may_not_go : Tree → Path → Bool
-may_not_go t p = nat_lt 0 (length (children_of t p)) || not (bit_and (marks_of (get t p)) NO_DELETE == 0)
+may_not_go t p = nat_lt 0 (length (children_of t p)) || is_marked t p
+
+-- ---- whole trees deleted
+
+-- whether a path is p or below it
+abbrev pub is_within : Path → Path → Bool
+is_within p q = starts_with bytes_eq q p
+
+-- whether a path is below p
+abbrev pub is_under : Path → Path → Bool
+is_under p q = is_within p q && nat_lt (length p) (length q)
+
+-- a key removed with all keys below it, and the time of the one above it set
+abbrev pub without_tree : Tree → Path → ℕ → Tree
+without_tree t p moment = retain_keys (edited t (above p) (at_time moment)) (λ (q : Path). not (is_within p q))
+
+-- a key with none of its values left, at a moment
+abbrev pub without_values : ℕ → Rec → Rec
+without_values moment r = record r { time = moment; values = [] }
+
+-- a key that has subkeys, or values
+abbrev pub has_contents : Tree → Path → Bool
+has_contents t p = nat_lt 0 (length (children_of t p)) || nat_lt 0 (length (values_at t p))
+
+-- all keys below a key removed, and its values; its time is set where it had any of them
+abbrev pub emptied : Tree → Path → ℕ → Tree
+emptied t p moment = cond (has_contents t p) (retain_keys (edited t p (without_values moment)) (λ (q : Path). not (is_under p q))) t
+
+-- whether a key at or below a path has mark 0x08
+abbrev pub any_kept_within : Tree → Path → Bool
+any_kept_within t p = list_any (λ (q : Path). is_within p q && is_marked t q) (keys t)
+
+-- whether a key below a path has mark 0x08
+abbrev pub any_kept_under : Tree → Path → Bool
+any_kept_under t p = list_any (λ (q : Path). is_under p q && is_marked t q) (keys t)

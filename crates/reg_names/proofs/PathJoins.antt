@@ -8,7 +8,7 @@ use Rattle.std.proofs.lemmas.List.Splits.{length-slice_split}
 use Rattle.reg_names.specs.Names.{folded, is_backslash, is_key_name, are_key_names, path_of}
 use Rattle.reg_names.proofs.FoldingLemmas.{names-folded, path_of-folded}
 
-abbrev parts : List ℕ → List (List ℕ)
+abbrev pub parts : List ℕ → List (List ℕ)
 parts text = slice_split is_backslash text
 
 -- ---- the names of both
@@ -17,7 +17,7 @@ onto-joined : (b : ℕ) (xs ys : List (List ℕ)) → 0 < length xs → onto_fir
 onto-joined b [] ys some = absurd (omega (arith, some))
 onto-joined b (x ∷ xs) ys some = refl
 
-parts-joined : (a b : List ℕ) → parts (a ++ 92 ∷ b) ≡ parts a ++ parts b
+pub parts-joined : (a b : List ℕ) → parts (a ++ 92 ∷ b) ≡ parts a ++ parts b
 parts-joined [] b = refl
 parts-joined (x ∷ a) b =
     ap (λ ps. cond (is_backslash x) ([] ∷ ps) (onto_first x ps)) (parts-joined a b) ∙ by (is_backslash x)
