@@ -1,16 +1,16 @@
 -- What an accepted change met: a handle that leads to a key, and no cause of a refusal.
-use Rattle.std.proofs.Common.{◌≡◌, ℕ, Bool, true, false, not, ◌||◌, List, Option, Some, None, refl, is_some}
+use Rattle.std.proofs.Common.{◌≡◌, ℕ, Bool, true, false, not, ◌||◌, ◌==◌, List, length, Option, Some, None, refl, sym, ◌∙◌, subst, cond, is_some}
 use Rattle.std.specs.FinMap.{get}
 use Rattle.reg_heap.specs.Paths.{Path}
-use Rattle.reg_heap.specs.Edits.{values_at, may_not_go}
-use Rattle.reg_names.specs.Names.{is_value_name}
-use Rattle.reg_model.specs.declared.rights.TheConstants.{SET_VALUE, WRITE_DAC}
+use Rattle.reg_heap.specs.Edits.{values_at, may_not_go, any_kept_within, any_kept_under}
+use Rattle.reg_names.specs.Names.{is_value_name, is_path}
+use Rattle.reg_model.specs.declared.rights.TheConstants.{SET_VALUE, DELETE_TREE, DELETE_CONTENTS, WRITE_DAC}
 use Rattle.reg_model.specs.declared.statuses.TheConstants.{ACCESS_DENIED, FILE_NOT_FOUND, INVALID_HANDLE, INVALID_PARAMETER, NO_SYSTEM_RESOURCES}
 use Rattle.reg_model.specs.Worlds.{Handle, Destination, At, Deleted, look, path_at, path_from}
 use Rattle.reg_model.specs.Causes.{State, change_cause, early_cause, late_cause, asked_before, refuse, by_handle, has, is_mask, is_full, is_bad_open, is_bad_target, is_bad_value}
-use Rattle.reg_model.specs.Causes.{no_handle_room, no_key_room, no_value_room, is_bad_descriptor, is_bad_given, lacks_value, ◌or◌}
+use Rattle.reg_model.specs.Causes.{no_handle_room, no_key_room, no_value_room, is_bad_descriptor, is_bad_given, lacks_value, lacks_key, tree_rights, tree_cause, ◌or◌}
 use Rattle.reg_model.specs.declared.call.Change.{Change}
-use Rattle.reg_model.specs.declared.call.Change.TheVariants.{OpenRoot, OpenKey, CreateKey, SetValue, DeleteValue, DeleteKey, SetSecurity, Close}
+use Rattle.reg_model.specs.declared.call.Change.TheVariants.{OpenRoot, OpenKey, CreateKey, SetValue, DeleteValue, DeleteKey, DeleteTree, SetSecurity, Close}
 
 pub not_refused : (b : Bool) (n : ℕ) → refuse b n ≡ None → b ≡ false
 not_refused true n e = absurd (cc)
@@ -171,6 +171,63 @@ delete-met s session h path c e =
       room = not_refused _ NO_SYSTEM_RESOURCES early.1;
       there = not_false _ (not_refused _ FILE_NOT_FOUND late.0);
       goes = not_refused _ ACCESS_DENIED late.1;
+    }
+
+-- what a whole tree met, by its path: the empty one, by which the handle's key stays, or one of a key that is there and goes
+pub record ContentsMet (s : State) (session h mask : ℕ) : Type 0 where
+  pub right : has DELETE_CONTENTS mask ≡ true
+  pub goes : any_kept_under s.world.tree (path_at session h s.world.handles) ≡ false
+
+pub record BranchMet (s : State) (session h : ℕ) (path : List ℕ) (mask : ℕ) : Type 0 where
+  pub right : has DELETE_TREE mask ≡ true
+  pub there : is_some (get s.world.tree (path_from session h s.world.handles path)) ≡ true
+  pub goes : any_kept_within s.world.tree (path_from session h s.world.handles path) ≡ false
+
+pub record DeleteTreeMet (s : State) (session h : ℕ) (path : List ℕ) : Type 0 where
+  pub target : Target (look session h s.world.handles)
+  pub good : is_path path ≡ true
+  pub room : is_full 1 s ≡ false
+  pub contents : (length path == 0) ≡ true → ContentsMet s session h target.handle.mask
+  pub branch : (length path == 0) ≡ false → BranchMet s session h path target.handle.mask
+
+tree-right : (path : List ℕ) (mask : ℕ) (b : Bool) → (length path == 0) ≡ b → has (tree_rights path) mask ≡ true → has (cond b DELETE_CONTENTS DELETE_TREE) mask ≡ true
+tree-right path mask b is right = subst (λ (b : Bool). has (cond b DELETE_CONTENTS DELETE_TREE) mask ≡ true) is right
+
+contents-met : (s : State) (session h : ℕ) (path : List ℕ) (mask : ℕ) → (length path == 0) ≡ true → has (tree_rights path) mask ≡ true →
+    tree_cause s session h path ≡ None → ContentsMet s session h mask
+contents-met s session h path mask empty right own =
+    let kept = any_kept_under s.world.tree (path_at session h s.world.handles) in
+    let goes : refuse kept ACCESS_DENIED ≡ None = sym (rw empty refl) ∙ own in
+    record { right = tree-right path mask true empty right; goes = not_refused kept ACCESS_DENIED goes }
+
+branch-met : (s : State) (session h : ℕ) (path : List ℕ) (mask : ℕ) → (length path == 0) ≡ false → has (tree_rights path) mask ≡ true →
+    tree_cause s session h path ≡ None → BranchMet s session h path mask
+branch-met s session h path mask longer right own =
+    let kept = any_kept_within s.world.tree (path_from session h s.world.handles path) in
+    let both : (refuse (lacks_key s session h path) FILE_NOT_FOUND or refuse kept ACCESS_DENIED) ≡ None = sym (rw longer refl) ∙ own in
+    let late = neither _ _ both in
+    record {
+      right = tree-right path mask false longer right;
+      there = not_false _ (not_refused _ FILE_NOT_FOUND late.0);
+      goes = not_refused kept ACCESS_DENIED late.1;
+    }
+
+pub delete-tree-met : (s : State) (session h : ℕ) (path : List ℕ) (c : ℕ) → change_cause s session (DeleteTree h path) c ≡ None → DeleteTreeMet s session h path
+unfolding early_cause late_cause
+delete-tree-met s session h path c e =
+    let none = causes s session (DeleteTree h path) c e in
+    let m = meets (λ r. refuse (not (is_path path)) INVALID_PARAMETER or refuse (not (has (tree_rights path) r.mask)) ACCESS_DENIED or refuse
+    (is_full 1 s) NO_SYSTEM_RESOURCES) (look session h s.world.handles) none.first in
+    let early = all_none _ _ _ m.none in
+    let mask = m.target.handle.mask in
+    let right : has (tree_rights path) mask ≡ true = not_false _ (not_refused _ ACCESS_DENIED early.second) in
+    let own : tree_cause s session h path ≡ None = none.third in
+    record {
+      target = m.target;
+      good = not_false _ (not_refused _ INVALID_PARAMETER early.first);
+      room = not_refused _ NO_SYSTEM_RESOURCES early.third;
+      contents = λ empty. contents-met s session h path mask empty right own;
+      branch = λ longer. branch-met s session h path mask longer right own;
     }
 
 pub record SecureMet (s : State) (session h : ℕ) (descriptor : List ℕ) : Type 0 where

@@ -1,5 +1,5 @@
 -- One call of a change: a status other than 0 is a refusal and changes nothing; status 0 is one entry more.
-use Rattle.std.proofs.Common.{◌≡◌, ◌≢◌, ℕ, Bool, true, false, not, eqb, List, [], ◌∷◌, ◌++◌, Option, Some, None, refl, arith, length-append}
+use Rattle.std.proofs.Common.{◌≡◌, ◌≢◌, ℕ, Bool, true, false, not, ◌==◌, eqb, cond, length, List, [], ◌∷◌, ◌++◌, Option, Some, None, refl, arith, length-append}
 use Rattle.std.proofs.lemmas.Bool.{eqb-false}
 use Rattle.reg_heap.specs.Paths.{Tree}
 use Rattle.reg_model.specs.Worlds.{Handle, Destination, At, Deleted}
@@ -8,7 +8,7 @@ use Rattle.reg_model.specs.Replies.{reply_to}
 use Rattle.reg_model.specs.Calls.{entry_due, reply_given, state_after, or_refusal, or_same}
 use Rattle.reg_model.specs.Histories.{state_of, IsFit}
 use Rattle.reg_model.specs.declared.call.Change.{Change}
-use Rattle.reg_model.specs.declared.call.Change.TheVariants.{OpenRoot, OpenKey, CreateKey, SetValue, DeleteValue, DeleteKey, SetSecurity, Close}
+use Rattle.reg_model.specs.declared.call.Change.TheVariants.{OpenRoot, OpenKey, CreateKey, SetValue, DeleteValue, DeleteKey, DeleteTree, SetSecurity, Close}
 use Rattle.reg_model.specs.declared.reply.ChangeReply.{ChangeReply}
 use Rattle.reg_model.specs.declared.reply.Entry.{Entry}
 use Rattle.reg_model.proofs.JournalGrowth.{replay-push}
@@ -21,6 +21,7 @@ reply-zero s session (DeleteValue h name) = refl
 reply-zero s session (OpenKey h path mask) = refl
 reply-zero s session (CreateKey h path mask given) = refl
 reply-zero s session (DeleteKey h path) = refl
+reply-zero s session (DeleteTree h path) = refl
 reply-zero s session (SetSecurity h descriptor) = refl
 reply-zero s session (Close h) = refl
 
@@ -47,6 +48,10 @@ zero-or (Some n) b h k = h
 zero-refuse : (b : Bool) (n : ℕ) → n ≢ 0 → NotZero (refuse b n)
 zero-refuse true n ne = status ne
 zero-refuse false n ne = no_status
+
+zero-either : (b : Bool) (x y : Option ℕ) → NotZero x → NotZero y → NotZero (cond b x y)
+zero-either true x y h k = h
+zero-either false x y h k = k
 
 zero-asked : (c : ℕ) → NotZero (asked c)
 zero-asked c = by (eqb c 0) refl
@@ -82,6 +87,7 @@ zero-early s session (DeleteValue h name) = search (zero-handle, zero-or, zero-8
 zero-early s session (OpenKey h path mask) = search (zero-handle, zero-or, zero-87, zero-1450)
 zero-early s session (CreateKey h path mask given) = search (zero-handle, zero-or, zero-87, zero-1450)
 zero-early s session (DeleteKey h path) = search (zero-handle, zero-or, zero-87, zero-1450)
+zero-early s session (DeleteTree h path) = search (zero-handle, zero-or, zero-87, zero-5, zero-1450)
 zero-early s session (SetSecurity h descriptor) = search (zero-handle, zero-or, zero-87, zero-5, zero-1450)
 zero-early s session (Close h) = zero-refuse _ 6 (λ e. omega (arith, e))
 
@@ -93,6 +99,7 @@ zero-late s session (DeleteValue h name) = zero-refuse _ 2 (λ e. omega (arith, 
 zero-late s session (OpenKey h path mask) = zero-refuse _ 2 (λ e. omega (arith, e))
 zero-late s session (CreateKey h path mask given) = no_status
 zero-late s session (DeleteKey h path) = zero-or _ _ (zero-refuse _ 2 (λ e. omega (arith, e))) (zero-5 _)
+zero-late s session (DeleteTree h path) = zero-either (length path == 0) _ _ (zero-5 _) (zero-or _ _ (zero-refuse _ 2 (λ e. omega (arith, e))) (zero-5 _))
 zero-late s session (SetSecurity h descriptor) = no_status
 zero-late s session (Close h) = no_status
 
@@ -103,6 +110,7 @@ zero-before (CreateKey h path mask given) c = zero-asked c
 zero-before (SetValue h name kind bytes) c = zero-asked c
 zero-before (DeleteValue h name) c = zero-asked c
 zero-before (DeleteKey h path) c = zero-asked c
+zero-before (DeleteTree h path) c = zero-asked c
 zero-before (SetSecurity h descriptor) c = zero-asked c
 zero-before (Close h) c = no_status
 
@@ -134,6 +142,7 @@ before-none (CreateKey h path mask given) c e = refl
 before-none (SetValue h name kind bytes) c e = refl
 before-none (DeleteValue h name) c e = refl
 before-none (DeleteKey h path) c e = refl
+before-none (DeleteTree h path) c e = refl
 before-none (SetSecurity h descriptor) c e = refl
 before-none (Close h) c e = refl
 

@@ -1,21 +1,24 @@
 -- The keys that handles lead to stand in the tree.
-use Rattle.std.proofs.Common.{◌≡◌, ℕ, Bool, true, false, cond, not, eqb, unwrap_or, List, [], ◌∷◌, ◌++◌, map, Option, Some, None, refl, sym, subst, append_assoc, is_some}
+use Rattle.std.proofs.Common.{◌≡◌, ℕ, Bool, true, false, cond, not, eqb, unwrap_or, List, [], ◌∷◌, ◌++◌, map, Option, Some, None, refl, sym, subst, append_assoc, is_some, length, ◌==◌}
 use Rattle.std.specs.Prelude.{IsSome}
 use Rattle.std.specs.List.{AllByRecursion, slice_split, onto_first}
 use Rattle.std.specs.Ordering.{eq_by_cmp}
 use Rattle.std.specs.Cmp.{IsTotalOrder}
 use Rattle.std.specs.Cmp.Lexicographic.{lists_total, nat_list_cmp_total}
-use Rattle.std.specs.FinMap.{get, insert, get-insert, get-remove}
+use Rattle.std.specs.FinMap.{get, insert, get-insert, get-remove, retain_keys}
 use Rattle.std.proofs.lemmas.List.{append-nil}
 use Rattle.std.proofs.lemmas.Cmp.{eq_by_cmp_equiv}
 use Rattle.std.proofs.lemmas.List.Elements.{recursion_from_All}
 use Rattle.reg_names.specs.Names.{folded, path_of, is_path, is_backslash}
 use Rattle.reg_heap.specs.Paths.{Path, Tree, Rec, path_cmp}
 use Rattle.reg_heap.specs.Edits.{edited, at_time, above, with_key, with_keys, without_key, has_child, child_path, made_key, descriptor_of, if_last, folded_path}
-use Rattle.reg_model.specs.Worlds.{Handle, Destination, At, Deleted, StandsIn, IsStanding, look, numbered, owned, path_at, path_from, closed, turned, destination_without, same_path, opened, after}
+use Rattle.reg_heap.specs.Edits.{is_within, is_under, without_tree, without_values, has_contents, emptied}
+use Rattle.reg_heap.proofs.DeletedTrees.{get-past, get-without_tree}
+use Rattle.reg_model.specs.Worlds.{World, Handle, Destination, At, Deleted, StandsIn, IsStanding, look, numbered, owned, path_at, path_from, closed, same_path, opened, after}
+use Rattle.reg_model.specs.Worlds.{turned, destination_past, turned_past, without_branch, without_contents}
 use Rattle.reg_model.specs.Causes.{State, is_bad_target}
 use Rattle.reg_model.specs.declared.call.Change.{Change}
-use Rattle.reg_model.specs.declared.call.Change.TheVariants.{OpenRoot, OpenKey, CreateKey, SetValue, DeleteValue, DeleteKey, SetSecurity, Close}
+use Rattle.reg_model.specs.declared.call.Change.TheVariants.{OpenRoot, OpenKey, CreateKey, SetValue, DeleteValue, DeleteKey, DeleteTree, SetSecurity, Close}
 use Rattle.reg_model.specs.declared.reply.Entry.{Entry}
 use Rattle.reg_model.specs.Causes.{change_cause}
 use Rattle.reg_model.proofs.AcceptedCalls.{Target, target-path, both_false, OpenMet, open-met, CreateMet, create-met, DeleteMet, delete-met}
@@ -78,6 +81,17 @@ pub has-without : (t : Tree) (p : Path) (moment : ℕ) (q : Path) → same_path 
 has-without t p moment q other h =
     rw (get-remove path_total (edited t (above p) (at_time moment)) p q, other) (has-edited t (above p) (at_time moment) q h)
 
+pub has-without_tree : (t : Tree) (p : Path) (moment : ℕ) (q : Path) → is_within p q ≡ false → Has t q → Has (without_tree t p moment) q
+has-without_tree t p moment q other h =
+    rw (get-without_tree t p moment q, other) (has-edited t (above p) (at_time moment) q h)
+
+pub has-emptied : (t : Tree) (p : Path) (moment : ℕ) (q : Path) → is_under p q ≡ false → Has t q → Has (emptied t p moment) q
+has-emptied t p moment q other h = by (has_contents t p)
+  where
+    by : (b : Bool) → Has (cond b (retain_keys (edited t p (without_values moment)) (λ (x : Path). not (is_under p x))) t) q
+    by true = rw (get-past (edited t p (without_values moment)) (is_under p) q, other) (has-edited t p (without_values moment) q h)
+    by false = h
+
 -- ---- where handles lead
 
 abbrev pub Stands : Tree → List Handle → Type 0
@@ -103,17 +117,19 @@ stands-closed : (t : Tree) (number : ℕ) (hs : List Handle) → Stands t hs →
 stands-closed t number [] s = tt
 stands-closed t number (h ∷ hs) s = stands-cond (not (eqb h.number number)) t h (closed number hs) s.0 (stands-closed t number hs s.1)
 
-destination-at : (b : Bool) (t : Tree) (p : Path) (moment : ℕ) (q : Path) → same_path q p ≡ b → Has t q → StandsIn (without_key t p moment) (cond b Deleted (At q))
-destination-at true t p moment q same h = tt
-destination-at false t p moment q other h = has-without t p moment q other h
+-- once the keys that pass a test are gone, and no other, the handles that were on them lead nowhere
+module _ (t u : Tree) (gone : Path → Bool) (stay : (q : Path) → gone q ≡ false → Has t q → Has u q) where
+  destination-past : (destination : Destination) → StandsIn t destination → StandsIn u (destination_past gone destination)
+  destination-past (At q) h = by (gone q) refl
+    where
+      by : (b : Bool) → gone q ≡ b → StandsIn u (cond b Deleted (At q))
+      by true e = tt
+      by false e = stay q e h
+  destination-past Deleted h = tt
 
-destination-turned : (t : Tree) (p : Path) (moment : ℕ) (destination : Destination) → StandsIn t destination → StandsIn (without_key t p moment) (destination_without p destination)
-destination-turned t p moment (At q) h = destination-at (same_path q p) t p moment q refl h
-destination-turned t p moment Deleted h = tt
-
-stands-turned : (t : Tree) (p : Path) (moment : ℕ) (hs : List Handle) → Stands t hs → Stands (without_key t p moment) (turned p hs)
-stands-turned t p moment [] s = tt
-stands-turned t p moment (h ∷ hs) s = (destination-turned t p moment h.destination s.0, stands-turned t p moment hs s.1)
+  stands-past : (hs : List Handle) → Stands t hs → Stands u (turned_past gone hs)
+  stands-past [] s = tt
+  stands-past (h ∷ hs) s = (destination-past h.destination s.0, stands-past hs s.1)
 
 -- the handle that is found stands
 numbered-stands : (b : Bool) (t : Tree) (number : ℕ) (h : Handle) (hs : List Handle) (found : Handle) → StandsIn t h.destination →
@@ -163,18 +179,40 @@ parted p (x ∷ xs) = by (p x)
     by true = ([], slice_split p xs, refl)
     by false = first (slice_split p xs)
 
--- a key that may be deleted isn't the root
-pub target-below : (p : Path) (text : List ℕ) → is_bad_target text ≡ false → same_path [] (p ++ folded_path text) ≡ false
-target-below p [] good = let parts = both_false (not (is_path [])) true good in absurd (cc)
-target-below p (b ∷ bs) good =
+-- a key at the end of a path that isn't empty isn't the root
+pub path-below : (p : Path) (text : List ℕ) → (length text == 0) ≡ false → same_path [] (p ++ folded_path text) ≡ false
+path-below p [] some = absurd (cc)
+path-below p (b ∷ bs) some =
     let parts = parted is_backslash (b ∷ bs) in
     subst (λ (names : List (List ℕ)). same_path [] (p ++ map folded names) ≡ false) (sym parts.2) (not_empty p (folded parts.0) (map folded parts.1))
+
+-- so a key that may be deleted isn't
+pub target-below : (p : Path) (text : List ℕ) → is_bad_target text ≡ false → same_path [] (p ++ folded_path text) ≡ false
+target-below p text good = path-below p text (both_false (not (is_path text)) (length text == 0) good).1
+
+-- and it isn't below such a key
+pub root-without : (p : Path) → same_path [] p ≡ false → is_within p [] ≡ false
+root-without [] other = absurd (cc)
+root-without (name ∷ p) other = refl
+
+-- the root is below no path
+pub root-not_under : (p : Path) → is_under p [] ≡ false
+root-not_under [] = refl
+root-not_under (name ∷ p) = refl
 
 -- ---- after an accepted change
 
 pub record Upright (t : Tree) (hs : List Handle) : Type 0 where
   pub root : Has t []
   pub stand : Stands t hs
+
+-- what holds of two worlds holds of either
+pub in-either : (P : World → Type 0) (b : Bool) (v w : World) → P v → P w → P (cond b v w)
+in-either P true v w p q = p
+in-either P false v w p q = q
+
+abbrev UprightIn : World → Type 0
+UprightIn w = Upright w.tree w.handles
 
 module _ (s : State) (e : Entry) (r : Upright s.world.tree s.world.handles) where
   abbrev tree : Tree
@@ -205,7 +243,32 @@ module _ (s : State) (e : Entry) (r : Upright s.world.tree s.world.handles) wher
   standing-delete : (h : ℕ) (path : List ℕ) → DeleteMet s e.session h path → Upright (without_key tree (path_from e.session h hs path) e.moment) (turned (path_from e.session h hs path) hs)
   standing-delete h path m =
       let p = path_from e.session h hs path in
-      record { root = has-without tree p e.moment [] (target-below (path_at e.session h hs) path m.good) r.root; stand = stands-turned tree p e.moment hs r.stand }
+      record {
+        root = has-without tree p e.moment [] (target-below (path_at e.session h hs) path m.good) r.root;
+        stand = stands-past tree (without_key tree p e.moment) (λ (q : Path). same_path q p) (has-without tree p e.moment) hs r.stand;
+      }
+
+  standing-branch : (h : ℕ) (path : List ℕ) → (length path == 0) ≡ false →
+      Upright (without_tree tree (path_from e.session h hs path) e.moment) (turned_past (is_within (path_from e.session h hs path)) hs)
+  standing-branch h path longer =
+      let p = path_from e.session h hs path in
+      record {
+        root = has-without_tree tree p e.moment [] (root-without p (path-below (path_at e.session h hs) path longer)) r.root;
+        stand = stands-past tree (without_tree tree p e.moment) (is_within p) (has-without_tree tree p e.moment) hs r.stand;
+      }
+
+  standing-contents : (h : ℕ) → Upright (emptied tree (path_at e.session h hs) e.moment) (turned_past (is_under (path_at e.session h hs)) hs)
+  standing-contents h =
+      let p = path_at e.session h hs in
+      record {
+        root = has-emptied tree p e.moment [] (root-not_under p) r.root;
+        stand = stands-past tree (emptied tree p e.moment) (is_under p) (has-emptied tree p e.moment) hs r.stand;
+      }
+
+  standing-tree : (h : ℕ) (path : List ℕ) (b : Bool) → (length path == 0) ≡ b →
+      UprightIn (cond b (without_contents s.world (path_at e.session h hs) e.moment) (without_branch s.world (path_from e.session h hs path) e.moment))
+  standing-tree h path true e = standing-contents h
+  standing-tree h path false e = standing-branch h path e
 
   -- what stands in a world stands in the one after an accepted change
   pub standing-after : (c : ℕ) → change_cause s e.session e.change c ≡ None → Upright (after s.world e).tree (after s.world e).handles
@@ -218,6 +281,7 @@ module _ (s : State) (e : Entry) (r : Upright s.world.tree s.world.handles) wher
         | SetValue h name kind bytes ↦ λ none. standing-edit (path_at e.session h hs) _
         | DeleteValue h name ↦ λ none. standing-edit (path_at e.session h hs) _
         | DeleteKey h path ↦ λ none. standing-delete h path (delete-met s e.session h path c none)
+        | DeleteTree h path ↦ λ none. standing-tree h path (length path == 0) refl
         | SetSecurity h descriptor ↦ λ none. standing-edit (path_at e.session h hs) _
         | Close h ↦ λ none. record { root = r.root; stand = stands-closed tree h hs r.stand }
       ]

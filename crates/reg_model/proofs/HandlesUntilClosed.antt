@@ -1,18 +1,20 @@
 -- A handle stays until its session closes it, and where its key was deleted it stays so; a number that was closed finds nothing again.
-use Rattle.std.proofs.Common.{◌≡◌, ℕ, is_some, ◌<◌, Bool, true, false, cond, not, eqb, ap, ◌∙◌, List, [], ◌∷◌, ◌++◌, length, Option, Some, None, refl, sym, subst, arith}
+use Rattle.std.proofs.Common.{◌≡◌, ℕ, is_some, ◌<◌, Bool, true, false, cond, not, eqb, ap, ◌∙◌, List, [], ◌∷◌, ◌++◌, ◌==◌, length, Option, Some, None, refl, sym, subst, arith}
 use Rattle.std.proofs.Common.{length-append, append_assoc}
 use Rattle.std.specs.List.{AllByRecursion}
 use Rattle.std.specs.Option.{option_map}
 use Rattle.std.proofs.lemmas.List.{append-nil}
 use Rattle.std.proofs.lemmas.Bool.{eqb-true, eqb-false, eq-eqb, ne_eqb, false≢true}
 use Rattle.reg_heap.specs.Paths.{Path, Tree}
-use Rattle.reg_model.specs.Worlds.{World, Handle, Destination, Deleted, after, opened, closed, turned, destination_without, numbered, owned, look, path_from}
+use Rattle.reg_heap.specs.Edits.{is_within, is_under}
+use Rattle.reg_model.specs.Worlds.{World, Handle, Destination, Deleted, after, opened, closed, destination_past, turned_past, same_path, numbered, owned, look, path_at, path_from}
 use Rattle.reg_model.specs.Causes.{State, change_cause}
 use Rattle.reg_model.specs.Histories.{replay, state_of, IsLegalAfter, IsLegal}
 use Rattle.reg_model.specs.declared.call.Change.{Change}
-use Rattle.reg_model.specs.declared.call.Change.TheVariants.{OpenRoot, OpenKey, CreateKey, SetValue, DeleteValue, DeleteKey, SetSecurity, Close}
+use Rattle.reg_model.specs.declared.call.Change.TheVariants.{OpenRoot, OpenKey, CreateKey, SetValue, DeleteValue, DeleteKey, DeleteTree, SetSecurity, Close}
 use Rattle.reg_model.specs.declared.reply.Entry.{Entry}
 use Rattle.reg_model.proofs.JournalGrowth.{replay-push}
+use Rattle.reg_model.proofs.HandleInvariant.{in-either}
 use Rattle.reg_model.proofs.LegalJournals.{by_entries, legal-front, legal-at, rising-all}
 use Rattle.reg_model.proofs.AcceptedCalls.{close-met}
 
@@ -43,20 +45,21 @@ numbered-closed : (n : ℕ) (hs : List Handle) → numbered n (closed n hs) ≡ 
 numbered-closed n [] = refl
 numbered-closed n (x ∷ hs) = none-one (eqb x.number n) n x (closed n hs) refl (numbered-closed n hs)
 
-abbrev turned_one : Path → Handle → Handle
-turned_one p h = record h { destination = destination_without p h.destination }
+abbrev turned_one : (Path → Bool) → Handle → Handle
+turned_one gone h = record h { destination = destination_past gone h.destination }
 
-turn-cond : (b : Bool) (p : Path) (x : Handle) (o o' : Option Handle) → o' ≡ option_map (turned_one p) o → cond b (Some (turned_one p x)) o' ≡ option_map (turned_one p) (cond b (Some x) o)
-turn-cond true p x o o' e = refl
-turn-cond false p x o o' e = e
+turn-cond : (b : Bool) (gone : Path → Bool) (x : Handle) (o o' : Option Handle) → o' ≡ option_map (turned_one gone) o →
+    cond b (Some (turned_one gone x)) o' ≡ option_map (turned_one gone) (cond b (Some x) o)
+turn-cond true gone x o o' e = refl
+turn-cond false gone x o o' e = e
 
-numbered-turned : (n : ℕ) (p : Path) (hs : List Handle) → numbered n (turned p hs) ≡ option_map (turned_one p) (numbered n hs)
-numbered-turned n p [] = refl
-numbered-turned n p (x ∷ hs) = turn-cond (eqb x.number n) p x (numbered n hs) (numbered n (turned p hs)) (numbered-turned n p hs)
+numbered-turned : (n : ℕ) (gone : Path → Bool) (hs : List Handle) → numbered n (turned_past gone hs) ≡ option_map (turned_one gone) (numbered n hs)
+numbered-turned n gone [] = refl
+numbered-turned n gone (x ∷ hs) = turn-cond (eqb x.number n) gone x (numbered n hs) (numbered n (turned_past gone hs)) (numbered-turned n gone hs)
 
-stays-deleted : (p : Path) (h : Handle) → h.destination ≡ Deleted → turned_one p h ≡ h
-stays-deleted p h d =
-    ap (λ (x : Destination). record h { destination = destination_without p x }) d ∙ ap (λ (x : Destination). record h { destination = x }) (sym d)
+stays-deleted : (gone : Path → Bool) (h : Handle) → h.destination ≡ Deleted → turned_one gone h ≡ h
+stays-deleted gone h d =
+    ap (λ (x : Destination). record h { destination = destination_past gone x }) d ∙ ap (λ (x : Destination). record h { destination = x }) (sym d)
 
 -- ---- a handle that isn't closed
 
@@ -74,13 +77,13 @@ open-same n h hs hs' same o = record { now = o.now; found = same ∙ o.found; se
 open-push : (n : ℕ) (h new : Handle) (hs : List Handle) → n < new.number → IsOpen n h hs → IsOpen n h (hs ++ new ∷ [])
 open-push n h new hs l o = open-same n h hs (hs ++ new ∷ []) (numbered-more n new hs (ne_eqb new.number n (λ same. omega (arith, l, same)))) o
 
-open-turned : (n : ℕ) (h : Handle) (p : Path) (hs : List Handle) → IsOpen n h hs → IsOpen n h (turned p hs)
-open-turned n h p hs o = record {
-  now = turned_one p o.now;
-  found = numbered-turned n p hs ∙ ap (option_map (turned_one p)) o.found;
+open-turned : (n : ℕ) (h : Handle) (gone : Path → Bool) (hs : List Handle) → IsOpen n h hs → IsOpen n h (turned_past gone hs)
+open-turned n h gone hs o = record {
+  now = turned_one gone o.now;
+  found = numbered-turned n gone hs ∙ ap (option_map (turned_one gone)) o.found;
   session = o.session;
   mask = o.mask;
-  gone = λ d. ap (turned_one p) (o.gone d) ∙ stays-deleted p h d;
+  gone = λ d. ap (turned_one gone) (o.gone d) ∙ stays-deleted gone h d;
 }
 
 owner-is : (session : ℕ) (x : Handle) (b : Bool) → eqb x.session session ≡ b → is_some (cond b (Some x) None) ≡ true → x.session ≡ session
@@ -117,7 +120,9 @@ open-after s e n h l o = elim e.change as (λ (change : Change). change_cause s 
       | CreateKey k path mask given ↦ λ none other. open-push n h (opened e (path_from e.session k s.world.handles path) mask) s.world.handles l o
       | SetValue k name kind bytes ↦ λ none other. o
       | DeleteValue k name ↦ λ none other. o
-      | DeleteKey k path ↦ λ none other. open-turned n h (path_from e.session k s.world.handles path) s.world.handles o
+      | DeleteKey k path ↦ λ none other. open-turned n h (λ (q : Path). same_path q (path_from e.session k s.world.handles path)) s.world.handles o
+      | DeleteTree k path ↦ λ none other. in-either (λ (v : World). IsOpen n h v.handles) (length path == 0) _ _
+          (open-turned n h (is_under (path_at e.session k s.world.handles)) s.world.handles o) (open-turned n h (is_within (path_from e.session k s.world.handles path)) s.world.handles o)
       | SetSecurity k descriptor ↦ λ none other. o
       | Close k ↦ λ none other. open-closed n h e.session k s.world.handles o (close-met s e.session k 0 none) other
     ]
@@ -153,13 +158,18 @@ none-after w e n l none = elim e.change as (λ (change : Change). numbered n (af
   | CreateKey k path mask given ↦ numbered-more n (opened e (path_from e.session k w.handles path) mask) w.handles other ∙ none
   | SetValue k name kind bytes ↦ none
   | DeleteValue k name ↦ none
-  | DeleteKey k path ↦ numbered-turned n (path_from e.session k w.handles path) w.handles ∙ ap (option_map (turned_one (path_from e.session k w.handles path))) none
+  | DeleteKey k path ↦ turned_none (λ (q : Path). same_path q (path_from e.session k w.handles path))
+  | DeleteTree k path ↦ in-either (λ (v : World). numbered n v.handles ≡ None) (length path == 0) _ _
+      (turned_none (is_under (path_at e.session k w.handles))) (turned_none (is_within (path_from e.session k w.handles path)))
   | SetSecurity k descriptor ↦ none
   | Close k ↦ by k (eqb n k) refl
 ]
   where
     other : eqb e.number n ≡ false
     other = ne_eqb e.number n (λ same. omega (arith, l, same))
+
+    turned_none : (gone : Path → Bool) → numbered n (turned_past gone w.handles) ≡ None
+    turned_none gone = numbered-turned n gone w.handles ∙ ap (option_map (turned_one gone)) none
 
     by : (k : ℕ) (b : Bool) → eqb n k ≡ b → numbered n (closed k w.handles) ≡ None
     by k true e = subst (λ (m : ℕ). numbered n (closed m w.handles) ≡ None) (eqb-true n k e) (numbered-closed n w.handles)

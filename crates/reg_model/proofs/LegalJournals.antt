@@ -1,5 +1,5 @@
 -- Legal journals: their fronts, their entries, and what holds of their replay.
-use Rattle.std.proofs.Common.{◌≡◌, ℕ, ◌+◌, ◌<◌, Bool, true, false, cond, not, eqb, ap, List, [], ◌∷◌, ◌++◌, length, map, Some, refl, sym, subst, arith, append_assoc, length-append}
+use Rattle.std.proofs.Common.{◌≡◌, ℕ, ◌+◌, ◌<◌, Bool, true, false, cond, not, eqb, ap, List, [], ◌∷◌, ◌++◌, ◌==◌, length, map, Some, refl, sym, subst, arith, append_assoc, length-append}
 use Rattle.std.specs.List.{AllByRecursion, All}
 use Rattle.std.specs.List.Sorted.{IsStrictlyIncreasing, IsStrictlySortedBy}
 use Rattle.std.specs.Ordering.{nat_cmp}
@@ -10,16 +10,16 @@ use Rattle.std.proofs.lemmas.List.{append-nil}
 use Rattle.std.proofs.lemmas.List.Elements.{All-from_recursion}
 use Rattle.std.proofs.lemmas.Map.Keys.{IsStrictlyIncreasing-from_sorted}
 use Rattle.reg_heap.specs.Paths.{Path, Tree}
-use Rattle.reg_heap.specs.Edits.{folded_path}
-use Rattle.reg_model.specs.Worlds.{World, Handle, StandsIn, IsStanding, after, opened, closed, turned, numbered, look, path_at, path_from}
+use Rattle.reg_heap.specs.Edits.{folded_path, is_within, is_under}
+use Rattle.reg_model.specs.Worlds.{World, Handle, StandsIn, IsStanding, after, opened, closed, turned_past, same_path, numbered, look, path_at, path_from}
 use Rattle.reg_model.specs.Causes.{Opening, rule_of, path_asked}
 use Rattle.reg_model.specs.Replies.{reply_to}
 use Rattle.reg_model.specs.Histories.{replay, state_of, IsFit, IsLegalAfter, IsLegal}
 use Rattle.reg_model.specs.declared.call.Change.{Change}
-use Rattle.reg_model.specs.declared.call.Change.TheVariants.{OpenRoot, OpenKey, CreateKey, SetValue, DeleteValue, DeleteKey, SetSecurity, Close}
+use Rattle.reg_model.specs.declared.call.Change.TheVariants.{OpenRoot, OpenKey, CreateKey, SetValue, DeleteValue, DeleteKey, DeleteTree, SetSecurity, Close}
 use Rattle.reg_model.specs.declared.reply.Entry.{Entry}
 use Rattle.reg_model.proofs.JournalGrowth.{replay-push}
-use Rattle.reg_model.proofs.HandleInvariant.{Has, Stands, Upright, standing-after}
+use Rattle.reg_model.proofs.HandleInvariant.{Has, Stands, Upright, standing-after, in-either}
 
 legal_after-front : (origin : Tree) (past es more : List Entry) → IsLegalAfter origin past (es ++ more) → IsLegalAfter origin past es
 legal_after-front origin past [] more l = tt
@@ -116,13 +116,17 @@ rising-closed number (h ∷ hs) r =
     rising-cond (not (eqb h.number number)) h (closed number hs) (less-closed h.number number hs r.0) (rising-closed number hs r.1)
 
 -- handles turned keep their numbers
-below-turned : (n : ℕ) (p : Path) (hs : List Handle) → AllByRecursion (λ (h : Handle). h.number < n) hs → AllByRecursion (λ (h : Handle). h.number < n) (turned p hs)
-below-turned n p [] b = tt
-below-turned n p (h ∷ hs) b = (b.0, below-turned n p hs b.1)
+below-turned : (n : ℕ) (gone : Path → Bool) (hs : List Handle) → AllByRecursion (λ (h : Handle). h.number < n) hs → AllByRecursion (λ (h : Handle). h.number < n) (turned_past gone hs)
+below-turned n gone [] b = tt
+below-turned n gone (h ∷ hs) b = (b.0, below-turned n gone hs b.1)
 
-numbers-turned : (p : Path) (hs : List Handle) → map (λ (h : Handle). h.number) (turned p hs) ≡ map (λ (h : Handle). h.number) hs
-numbers-turned p [] = refl
-numbers-turned p (h ∷ hs) = ap (λ (ns : List ℕ). h.number ∷ ns) (numbers-turned p hs)
+numbers-turned : (gone : Path → Bool) (hs : List Handle) → map (λ (h : Handle). h.number) (turned_past gone hs) ≡ map (λ (h : Handle). h.number) hs
+numbers-turned gone [] = refl
+numbers-turned gone (h ∷ hs) = ap (λ (ns : List ℕ). h.number ∷ ns) (numbers-turned gone hs)
+
+rising-turned : (n : ℕ) (gone : Path → Bool) (hs : List Handle) → AreRising n hs → AreRising (n + 1) (turned_past gone hs)
+rising-turned n gone hs r =
+    record { below = rising-weaker n (turned_past gone hs) (below-turned n gone hs r.below); rising = rw (numbers-turned gone hs) r.rising }
 
 rising-pushed : (w : World) (n : ℕ) (e : Entry) (p : Path) (mask : ℕ) → e.number ≡ n → AreRising n w.handles → AreRising (n + 1) (w.handles ++ opened e p mask ∷ [])
 rising-pushed w n e p mask number r =
@@ -136,10 +140,9 @@ rising-after w n e number r = elim e.change as (λ (change : Change). AreRising 
   | CreateKey h path mask given ↦ rising-pushed w n e (path_from e.session h w.handles path) mask number r
   | SetValue h name kind bytes ↦ record { below = rising-weaker n w.handles r.below; rising = r.rising }
   | DeleteValue h name ↦ record { below = rising-weaker n w.handles r.below; rising = r.rising }
-  | DeleteKey h path ↦ record {
-    below = rising-weaker n (turned (path_from e.session h w.handles path) w.handles) (below-turned n (path_from e.session h w.handles path) w.handles r.below);
-    rising = rw (numbers-turned (path_from e.session h w.handles path) w.handles) r.rising;
-  }
+  | DeleteKey h path ↦ rising-turned n (λ (q : Path). same_path q (path_from e.session h w.handles path)) w.handles r
+  | DeleteTree h path ↦ in-either (λ (v : World). AreRising (n + 1) v.handles) (length path == 0) _ _
+      (rising-turned n (is_under (path_at e.session h w.handles)) w.handles r) (rising-turned n (is_within (path_from e.session h w.handles path)) w.handles r)
   | SetSecurity h descriptor ↦ record { below = rising-weaker n w.handles r.below; rising = r.rising }
   | Close h ↦ record { below = rising-weaker n (closed h w.handles) (below-closed n h w.handles r.below); rising = rising-closed h w.handles r.rising }
 ]
@@ -187,6 +190,7 @@ opened-after w e o r = elim e.change as (Opens w e o) [
   | SetValue h name kind bytes ↦ λ none. absurd (cc)
   | DeleteValue h name ↦ λ none. absurd (cc)
   | DeleteKey h path ↦ λ none. absurd (cc)
+  | DeleteTree h path ↦ λ none. absurd (cc)
   | SetSecurity h descriptor ↦ λ none. absurd (cc)
   | Close h ↦ λ none. absurd (cc)
 ]

@@ -8,6 +8,9 @@ pub mod RowsRefusals
 pub mod RowsKeys
 pub mod RowsInfos
 pub mod RowsSecurity
+pub mod RowsDeleteTree
+mod RowsAfterDeleteTree
 mod RowsOfConstants
+pub mod TreesOfChanges
 pub mod TreesOfJournals
 pub mod HandlesUntilClosed

@@ -1,7 +1,7 @@
 -- Limits, statuses and rights as the rules give them, in digits: who changes a constant changes the rules.
 use Rattle.std.proofs.Common.{◌≡◌, refl}
 use Rattle.reg_model.specs.declared.limits.TheConstants.{SESSIONS_LIMIT, HANDLES_LIMIT, JOURNAL_LIMIT}
-use Rattle.reg_model.specs.declared.rights.TheConstants.{NO_RIGHTS, QUERY_VALUE, SET_VALUE, ENUMERATE_SUB_KEYS, READ_CONTROL, WRITE_DAC}
+use Rattle.reg_model.specs.declared.rights.TheConstants.{NO_RIGHTS, QUERY_VALUE, SET_VALUE, ENUMERATE_SUB_KEYS, DELETE_TREE, DELETE_CONTENTS, READ_CONTROL, WRITE_DAC}
 use Rattle.reg_model.specs.declared.statuses.TheConstants.{FILE_NOT_FOUND, ACCESS_DENIED, INVALID_HANDLE, NOT_ENOUGH_MEMORY, INVALID_PARAMETER, INSUFFICIENT_BUFFER}
 use Rattle.reg_model.specs.declared.statuses.TheConstants.{MORE_DATA, NO_MORE_ITEMS, KEY_DELETED, NO_SYSTEM_RESOURCES}
 
@@ -25,6 +25,12 @@ set_value_is = refl
 
 enumerate_sub_keys_is : ENUMERATE_SUB_KEYS ≡ 8
 enumerate_sub_keys_is = refl
+
+delete_tree_is : DELETE_TREE ≡ 65545
+delete_tree_is = refl
+
+delete_contents_is : DELETE_CONTENTS ≡ 65547
+delete_contents_is = refl
 
 read_control_is : READ_CONTROL ≡ 131072
 read_control_is = refl

@@ -6,15 +6,16 @@ use Rattle.reg_names.specs.Names.{is_value_name, is_path, path_of}
 use Rattle.reg_heap.specs.declared.limits.TheConstants.{DATA_LIMIT, VALUES_LIMIT, DESCRIPTOR_LIMIT}
 use Rattle.reg_heap.specs.Paths.{Path, Member, children_of}
 use Rattle.reg_heap.specs.Members.{value_named}
-use Rattle.reg_heap.specs.Edits.{values_at, are_too_many, may_not_go}
+use Rattle.reg_heap.specs.Edits.{values_at, are_too_many, may_not_go, any_kept_within, any_kept_under}
 use Rattle.reg_model.specs.declared.limits.TheConstants.{JOURNAL_LIMIT, HANDLES_LIMIT}
-use Rattle.reg_model.specs.declared.rights.TheConstants.{NO_RIGHTS, QUERY_VALUE, SET_VALUE, ENUMERATE_SUB_KEYS, READ_CONTROL, WRITE_DAC}
+use Rattle.reg_model.specs.declared.rights.TheConstants.{NO_RIGHTS, QUERY_VALUE, SET_VALUE, ENUMERATE_SUB_KEYS, DELETE_TREE, DELETE_CONTENTS}
+use Rattle.reg_model.specs.declared.rights.TheConstants.{READ_CONTROL, WRITE_DAC}
 use Rattle.reg_model.specs.declared.statuses.TheConstants.{FILE_NOT_FOUND, ACCESS_DENIED, INVALID_HANDLE, INVALID_PARAMETER, NO_MORE_ITEMS}
 use Rattle.reg_model.specs.declared.statuses.TheConstants.{KEY_DELETED, NO_SYSTEM_RESOURCES}
 use Rattle.reg_model.specs.Worlds.{World, Handle, Destination, At, Deleted, look, path_at, path_from}
 use Rattle.reg_model.specs.declared.reply.Entry.{Entry}
 use Rattle.reg_model.specs.declared.call.Change.{Change}
-use Rattle.reg_model.specs.declared.call.Change.TheVariants.{OpenRoot, OpenKey, CreateKey, SetValue, DeleteValue, DeleteKey, SetSecurity, Close}
+use Rattle.reg_model.specs.declared.call.Change.TheVariants.{OpenRoot, OpenKey, CreateKey, SetValue, DeleteValue, DeleteKey, DeleteTree, SetSecurity, Close}
 use Rattle.reg_model.specs.declared.call.Query.{Query}
 use Rattle.reg_model.specs.declared.call.Query.TheVariants.{QueryValue, EnumKey, EnumValue, QueryInfo, GetSecurity}
 
@@ -108,6 +109,16 @@ lacks_key s session h path = not (is_some (get s.world.tree (path_from session h
 abbrev pub stays : State → ℕ → ℕ → List ℕ → Bool
 stays s session h path = may_not_go s.world.tree (path_from session h s.world.handles path)
 
+-- the rights to delete a whole tree: with the empty path the handle's key stays, and its values go
+abbrev pub tree_rights : List ℕ → ℕ
+tree_rights path = if length path == 0 then DELETE_CONTENTS else DELETE_TREE
+
+-- what keeps a whole tree: 2 where no key is at the end of a path that isn't empty, and 5 where a key to be removed has mark 0x08
+abbrev pub tree_cause : State → ℕ → ℕ → List ℕ → Option ℕ
+tree_cause s session h path =
+    if length path == 0 then refuse (any_kept_under s.world.tree (path_at session h s.world.handles)) ACCESS_DENIED else
+    (refuse (lacks_key s session h path) FILE_NOT_FOUND or refuse (any_kept_within s.world.tree (path_from session h s.world.handles path)) ACCESS_DENIED)
+
 -- what a change is asked of: the root, the key that a handle leads to, or a handle alone, wherever it leads
 pub data AskedOf : Type 0 where
   Root : AskedOf
@@ -144,8 +155,8 @@ plain of bad = record { of = of; bad = bad; rights = None; counted = λ s sessio
 abbrev pub opening : AskedOf → Bool → List ℕ → ℕ → Rule
 opening of bad path mask = record (plain of bad) { counted = λ s session. no_handle_room session s; opens = Some (record { path = path; mask = mask }) }
 
--- the rules of each change (`RegOpenKeyEx`, `RegCreateKeyEx`, `RegSetValueEx`, `RegDeleteValue`, `RegDeleteKey`, `RegSetKeySecurity`,
--- `RegCloseKey`)
+-- the rules of each change (`RegOpenKeyEx`, `RegCreateKeyEx`, `RegSetValueEx`, `RegDeleteValue`, `RegDeleteKey`, `RegDeleteTree`,
+-- `RegSetKeySecurity`, `RegCloseKey`)
 abbrev pub rule_of : Change → Rule
 rule_of (OpenRoot mask) = opening Root (not (is_mask mask)) [] mask
 rule_of (OpenKey h path mask) =
@@ -169,6 +180,11 @@ rule_of (DeleteValue h name) =
 rule_of (DeleteKey h path) =
     record (plain (KeyOf h) (is_bad_target path)) {
       own = λ s session. refuse (lacks_key s session h path) FILE_NOT_FOUND or refuse (stays s session h path) ACCESS_DENIED;
+    }
+rule_of (DeleteTree h path) =
+    record (plain (KeyOf h) (not (is_path path))) {
+      rights = Some (tree_rights path);
+      own = λ s session. tree_cause s session h path;
     }
 rule_of (SetSecurity h descriptor) =
     record (plain (KeyOf h) (is_bad_descriptor descriptor)) {

@@ -1,12 +1,13 @@
 -- A world, and what an accepted change makes of it.
-use Rattle.std.specs.Prelude.{ℕ, ◌==◌, Bool, not, List, [], ◌∷◌, ◌++◌, map, filter, if◌then◌else◌, Option, Some, None, IsSome, All}
+use Rattle.std.specs.Prelude.{ℕ, ◌==◌, Bool, not, List, [], ◌∷◌, ◌++◌, map, filter, length, if◌then◌else◌, Option, Some, None, IsSome, All}
 use Rattle.std.specs.Ordering.{eq_by_cmp}
 use Rattle.std.specs.FinMap.{get}
 use Rattle.reg_names.specs.Names.{path_of}
 use Rattle.reg_heap.specs.Paths.{Path, Tree, path_cmp}
 use Rattle.reg_heap.specs.Edits.{edited, with_value, without_value, with_descriptor, folded_path, with_keys, without_key}
+use Rattle.reg_heap.specs.Edits.{is_within, is_under, without_tree, emptied}
 use Rattle.reg_model.specs.declared.call.Change.{Change}
-use Rattle.reg_model.specs.declared.call.Change.TheVariants.{OpenRoot, OpenKey, CreateKey, SetValue, DeleteValue, DeleteKey, SetSecurity, Close}
+use Rattle.reg_model.specs.declared.call.Change.TheVariants.{OpenRoot, OpenKey, CreateKey, SetValue, DeleteValue, DeleteKey, DeleteTree, SetSecurity, Close}
 use Rattle.reg_model.specs.declared.reply.Entry.{Entry}
 
 -- where a handle leads: to a key, or nowhere any more
@@ -76,17 +77,33 @@ closed number hs = filter (λ (h : Handle). not (h.number == number)) hs
 abbrev pub same_path : Path → Path → Bool
 same_path = eq_by_cmp path_cmp
 
+-- where a handle leads once the keys are gone whose paths pass a test
+abbrev pub destination_past : (Path → Bool) → Destination → Destination
+destination_past gone (At q) = if gone q then Deleted else At q
+destination_past gone Deleted = Deleted
+
+-- the handles once these keys are gone: those on them lead nowhere any more
+abbrev pub turned_past : (Path → Bool) → List Handle → List Handle
+turned_past gone hs = map (λ (h : Handle). record h { destination = destination_past gone h.destination }) hs
+
 -- where a handle leads once the key at a path is gone
 abbrev pub destination_without : Path → Destination → Destination
-destination_without p (At q) = if same_path q p then Deleted else At q
-destination_without p Deleted = Deleted
+destination_without p = destination_past (λ (q : Path). same_path q p)
 
--- the handles once the key at a path is gone: those on it lead nowhere any more
+-- the handles once the key at a path is gone
 abbrev pub turned : Path → List Handle → List Handle
-turned p hs = map (λ (h : Handle). record h { destination = destination_without p h.destination }) hs
+turned p = turned_past (λ (q : Path). same_path q p)
+
+-- the world without the key at a path and all keys below it
+abbrev pub without_branch : World → Path → ℕ → World
+without_branch w p moment = record { tree = without_tree w.tree p moment; handles = turned_past (is_within p) w.handles }
+
+-- the world without the keys below the one at a path, and without its values
+abbrev pub without_contents : World → Path → ℕ → World
+without_contents w p moment = record { tree = emptied w.tree p moment; handles = turned_past (is_under p) w.handles }
 
 -- the world after an accepted change (`RegOpenKeyEx`, `RegCreateKeyEx`, `RegSetValueEx`, `RegDeleteValue`, `RegDeleteKey`,
--- `RegSetKeySecurity`, `RegCloseKey`): one line for each change
+-- `RegDeleteTree`, `RegSetKeySecurity`, `RegCloseKey`): one line for each change
 unfoldable pub after : World → Entry → World
 after w e = by e.change
   where
@@ -102,5 +119,8 @@ after w e = by e.change
     by (DeleteValue h name) = record w { tree = edited w.tree (path_at e.session h w.handles) (without_value name e.moment) }
     by (DeleteKey h path) =
         record { tree = without_key w.tree (path_from e.session h w.handles path) e.moment; handles = turned (path_from e.session h w.handles path) w.handles }
+    by (DeleteTree h path) =
+        if length path == 0 then without_contents w (path_at e.session h w.handles) e.moment else
+        (without_branch w (path_from e.session h w.handles path) e.moment)
     by (SetSecurity h descriptor) = record w { tree = edited w.tree (path_at e.session h w.handles) (with_descriptor descriptor e.moment) }
     by (Close h) = record w { handles = closed h w.handles }

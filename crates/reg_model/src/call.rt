@@ -44,6 +44,12 @@ pub enum Change {
         handle: u64,
         path: Bytes,
     },
+    /// Deletes the key at the end of a path from the handle's key with all keys below it and their values; with the empty path
+    /// the subkeys and values of the handle's key alone (`RegDeleteTree`).
+    DeleteTree {
+        handle: u64,
+        path: Bytes,
+    },
     /// Gives the handle's key a security descriptor, of 1 to 65,535 bytes (`RegSetKeySecurity`).
     SetSecurity {
         handle: u64,
@@ -94,6 +100,10 @@ impl Change {
                 name: name.try_clone(alloc)?,
             }),
             Change::DeleteKey { handle, path } => Ok(Change::DeleteKey {
+                handle: *handle,
+                path: path.try_clone(alloc)?,
+            }),
+            Change::DeleteTree { handle, path } => Ok(Change::DeleteTree {
                 handle: *handle,
                 path: path.try_clone(alloc)?,
             }),

@@ -12,6 +12,12 @@ pub const SET_VALUE: u32 = 2;
 /// To list subkeys.
 pub const ENUMERATE_SUB_KEYS: u32 = 8;
 
+/// To delete a key with all keys below it: DELETE, ENUMERATE_SUB_KEYS and QUERY_VALUE.
+pub const DELETE_TREE: u32 = 0x1_0009;
+
+/// To delete all keys below a key, and its values: these and SET_VALUE.
+pub const DELETE_CONTENTS: u32 = 0x1_000B;
+
 /// To ask for the security descriptor.
 pub const READ_CONTROL: u32 = 0x2_0000;
 
