@@ -24,7 +24,7 @@ deleted_destination : {K : Type 0} (o : Option (OpenKey K)) → destination_of (
 deleted_destination None = refl
 deleted_destination (Some k) = refl
 
-deleted_closed : {K : Type 0} (o : Option (OpenKey K)) (text : List ℕ) → IsOpenAt (option_map without_key o) text → ⊥
+pub deleted_closed : {K : Type 0} (o : Option (OpenKey K)) (text : List ℕ) → IsOpenAt (option_map without_key o) text → ⊥
 deleted_closed None text is = is
 deleted_closed (Some k) text is = false≢true (sym is.1)
 

@@ -1,5 +1,9 @@
 pub mod RowOrder
 pub mod PathTextKeys
+pub mod LongerTexts
+pub mod KeysMarkedBelow
+pub mod TextsOfPathsBelow
+pub mod TableWithoutKeys
 pub mod KeyUsage
 pub mod HandleList
 pub mod LookUps
@@ -8,3 +12,4 @@ pub mod Payloads
 pub mod RowAdded
 pub mod RowRemoved
 pub mod KeyMarkedDeleted
+pub mod TableWithoutTrees

@@ -52,7 +52,7 @@ joined (b ∷ bs) = join_with_byte-slice_split 92 (b ∷ bs)
 pub path_of-one : (a b : List ℕ) → path_of a ≡ path_of b → a ≡ b
 path_of-one a b e = sym (joined a) ∙ ap text_of e ∙ joined b
 
-path_total : IsTotalOrder path_cmp
+pub path_total : IsTotalOrder path_cmp
 path_total = lists_total nat_list_cmp_total
 
 -- two texts are of one path where they are one text

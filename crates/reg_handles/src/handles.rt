@@ -1,9 +1,10 @@
 //! The open handles by their numbers.
 ghost use Rattle.std.specs.Prelude.{◌≡◌, ◌<◌, ◌++◌, ◌∷◌, ℕ, List, [], Some, None, OnOk, OnErr, All, length, map, is_some, true};
-ghost use Rattle.std.specs.Prelude.{bytes_eq, unwrap_or, if◌then◌else◌};
+ghost use Rattle.std.specs.Prelude.{bytes_eq, unwrap_or, if◌then◌else◌, vec_len, vec_capacity};
 ghost use Rattle.reg_names.specs.Names.{folded as folded_name, path_of, is_path};
+ghost use Rattle.reg_heap.specs.Edits.{is_within, is_under};
 ghost use Rattle.reg_model.specs.declared.limits.TheConstants.{HANDLES_LIMIT};
-ghost use Rattle.reg_model.specs.Worlds.{look, numbered, closed, turned, At};
+ghost use Rattle.reg_model.specs.Worlds.{look, numbered, closed, turned, turned_past, At};
 ghost use Rattle.reg_model.specs.Causes.{handles_of as count_of};
 ghost use Rattle.reg_handles.specs.FoundHandles.{shown, IfLeads, HasPayload};
 ghost use Rattle.reg_handles.specs.HandleTables.{IsFoldedPath, payload_on, leads_there, is_open};
@@ -161,5 +162,28 @@ impl<K: Copy> Handles<K> {
         ensures payloads { (text : List ℕ) → payload_on self.new text ≡ (if bytes_eq path.now text then None else payload_on self.old text) }
     {
         self.keys.mark_deleted(path);
+    }
+
+    /// All keys below a path were deleted: the handles on them lead nowhere any more, and their payloads are gone. The path's text
+    /// has room for a byte more, so that no memory is taken. The time follows the keys that handles led to there.
+    pub fn mark_deleted_under(&mut self, path: Vec<u8>)
+        requires room { vec_len path < vec_capacity path }
+        ensures handles { self.new.handles ≡ turned_past (is_under (path_of path.items)) self.old.handles }
+        ensures payloads { (text : List ℕ) →
+            payload_on self.new text ≡ (if is_under (path_of path.items) (path_of text) then None else payload_on self.old text) }
+    {
+        self.keys.mark_deleted_under(path);
+    }
+
+    /// The key at a path was deleted and all keys below it: the handles on them lead nowhere any more, and their payloads are gone.
+    /// The path's text has room for a byte more, so that no memory is taken. The time follows the keys that handles led to there.
+    pub fn mark_deleted_within(&mut self, path: Vec<u8>)
+        requires room { vec_len path < vec_capacity path }
+        ensures handles { self.new.handles ≡ turned_past (is_within (path_of path.items)) self.old.handles }
+        ensures payloads { (text : List ℕ) →
+            payload_on self.new text ≡ (if is_within (path_of path.items) (path_of text) then None else payload_on self.old text) }
+    {
+        self.keys.mark_deleted(path.as_slice());
+        self.keys.mark_deleted_under(path);
     }
 }

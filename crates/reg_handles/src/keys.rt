@@ -1,13 +1,18 @@
 //! The keys that handles lead to, and those that were deleted under a handle.
-ghost use Rattle.std.specs.Prelude.{◌≡◌, ◌+◌, ◌^◌, ◌<◌, List, [], ℕ, None, Some, OnErr, IfOk, if◌then◌else◌, IfSome, option_map, false};
+ghost use Rattle.std.specs.Prelude.{◌≡◌, ◌+◌, ◌^◌, ◌<◌, List, [], ℕ, None, Some, OnErr, IfOk, if◌then◌else◌, IfSome, IfNone, option_map, true, false};
+ghost use Rattle.std.specs.Prelude.{vec_len, vec_capacity, nat_eq};
+ghost use Rattle.std.specs.List.{starts_with};
+ghost use Rattle.std.specs.BTreeMap.{btree_map_len};
 ghost use Rattle.slab.specs.Slab.{get, Updates};
 ghost use Rattle.reg_handles.specs.FoundHandles.{destination_shown};
 ghost use Rattle.reg_handles.specs.Internal.OpenKeySlab.{key_at, rows_of, destination_of, is_freed, leads_to, with_one_more, with_one_less};
-ghost use Rattle.reg_handles.specs.Internal.OpenKeySlab.{with_payload, without_key, payload_of, UpdatesPath, IsHeld, IsOpenAt};
+ghost use Rattle.reg_handles.specs.Internal.OpenKeySlab.{with_payload, without_key, without_key_past, payload_of, start_below, goes_on};
+ghost use Rattle.reg_handles.specs.Internal.OpenKeySlab.{UpdatesPath, IsHeld, IsOpenAt};
 
 use slab::Slab;
 use std::alloc::{AllocError, Global};
 use std::collections::BTreeMap;
+use std::ops::Bound;
 
 /// The key that a handle leads to.
 #[derive(Clone, Copy)]
@@ -202,4 +207,71 @@ impl<K: Copy> OpenKeys<K> {
             }
         }
     }
+
+    /// All keys below a path were deleted. The path's text has room for a byte more, and no other memory is taken; the time follows
+    /// the keys that are found.
+    pub fn mark_deleted_under(&mut self, path: Vec<u8>)
+        requires found { (text : List ℕ) (key : ℕ) → key_at self.old.by_path.entries text ≡ Some key → IsOpenAt (get self.old.slots key) text }
+        requires listed { (text : List ℕ) (key : ℕ) → IsOpenAt (get self.old.slots key) text → key_at self.old.by_path.entries text ≡ Some key }
+        requires room { vec_len path < vec_capacity path }
+        ensures slots { (key : ℕ) → get self.new.slots key ≡ option_map (without_key_past (goes_on (start_below path.items))) (get self.old.slots key) }
+        ensures paths { (text : List ℕ) →
+            key_at self.new.by_path.entries text ≡
+            (if goes_on (start_below path.items) text then None else key_at self.old.by_path.entries text) }
+    {
+        let start = start_below(path);
+        while let Some(key) = self.first_past(&start) {
+            self.delete(key);
+        }
+    }
+
+    /// Where the first of the keys stands whose paths begin with a text and are longer.
+    fn first_past(&self, start: &Vec<u8>) -> Option<usize>
+        ensures some { IfSome result (λ key. (text : List ℕ) × (goes_on start.now.items text ≡ true) × (key_at self.now.by_path.entries text ≡ Some key)) }
+        ensures none { IfNone result ((text : List ℕ) → goes_on start.now.items text ≡ true → key_at self.now.by_path.entries text ≡ None) }
+    {
+        let mut behind = self
+            .by_path
+            .range((Bound::Excluded(start), Bound::Unbounded));
+        match behind.next() {
+            Some((text, key)) if begins(text, start) => Some(*key),
+            _ => None,
+        }
+    }
+
+    /// A key was deleted.
+    fn delete(&mut self, key: usize)
+        requires { (text : List ℕ) × IsOpenAt (get self.old.slots key) text × (key_at self.old.by_path.entries text ≡ Some key) }
+        ensures slots { Updates self.old.slots self.new.slots key (option_map without_key (get self.old.slots key)) }
+        ensures paths { (text : List ℕ) → IsOpenAt (get self.old.slots key) text →
+            UpdatesPath (key_at self.old.by_path.entries) text None (key_at self.new.by_path.entries) }
+        ensures fewer { btree_map_len self.new.by_path < btree_map_len self.old.by_path }
+    {
+        if let Some(held) = self.slots.get_mut(key) {
+            held.is_deleted = true;
+            self.by_path.remove(held.path.as_slice());
+        }
+    }
+}
+
+/// Whether a text begins with another.
+fn begins(text: &Vec<u8>, start: &Vec<u8>) -> bool
+    ensures { result ≡ starts_with nat_eq text.now.items start.now.items }
+{
+    text.as_slice().starts_with(start.as_slice())
+}
+
+/// The text with which the paths below a path begin, all of which are longer.
+fn start_below(path: Vec<u8>) -> Vec<u8>
+    requires room { vec_len path < vec_capacity path }
+    ensures { result.items ≡ start_below path.items }
+{
+    let mut start = path;
+    if !start.is_empty() {
+        match start.push(b'\\') {
+            Ok(()) => {}
+            Err(_) => unreachable!(),
+        }
+    }
+    start
 }

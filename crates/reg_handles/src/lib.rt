@@ -5,7 +5,8 @@
 //! of which it knows nothing. It stands on reg_model, which says what handles are.
 //!
 //! A look-up takes no longer with more handles open. A handle added, the last one on a key closed and a key deleted find a path
-//! among the open keys, in logarithmic time. A table that is full is copied to one of twice its size.
+//! among the open keys, in logarithmic time; a whole tree deleted does so for each open key in it. A table that is full is copied
+//! to one of twice its size.
 //!
 //! Its types are [`Handles`], [`Found`], a handle as it was found, and [`Target`], the key that it leads to.
 #![tactic(auto)]

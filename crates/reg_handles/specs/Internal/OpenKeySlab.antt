@@ -1,8 +1,10 @@
 -- The slab of the open keys, and the map from their paths to where they stand.
-use Rattle.std.specs.Prelude.{◌≡◌, ◌≢◌, ℕ, ◌+◌, ◌-◌, ◌==◌, ◌&&◌, not, Bool, true, false, List, Option, Some, None, if◌then◌else◌, bytes_eq, Vec, unwrap_or, map}
+use Rattle.std.specs.Prelude.{◌≡◌, ◌≢◌, ℕ, ◌+◌, ◌-◌, ◌==◌, ◌&&◌, not, Bool, true, false, List, [], ◌∷◌, ◌++◌, length, map}
+use Rattle.std.specs.Prelude.{Option, Some, None, if◌then◌else◌, bytes_eq, nat_eq, nat_lt, Vec, unwrap_or}
 use Rattle.std.specs.Ordering.{nat_cmp}
 use Rattle.std.specs.Cmp.Lexicographic.{slice_cmp}
 use Rattle.std.specs.BTreeMap.{is_at}
+use Rattle.std.specs.List.{starts_with}
 use Rattle.std.specs.Map.{lookup}
 use Rattle.slab.specs.Slab.{Slab, get}
 use Rattle.reg_names.specs.Names.{path_of}
@@ -58,6 +60,19 @@ with_payload payload k = record k { payload = payload }
 -- a key that was deleted
 abbrev pub without_key : {K : Type 0} → OpenKey K → OpenKey K
 without_key k = record k { is_deleted = true }
+
+-- a key that was deleted if its path passes a test
+abbrev pub without_key_past : {K : Type 0} → (List ℕ → Bool) → OpenKey K → OpenKey K
+without_key_past gone k = if gone k.path.items then without_key k else k
+
+-- the text with which the paths below a path begin, all of which are longer: that of the root is empty
+abbrev pub start_below : List ℕ → List ℕ
+start_below [] = []
+start_below (b ∷ bs) = (b ∷ bs) ++ 92 ∷ []
+
+-- whether a text begins with another and is longer
+abbrev pub goes_on : List ℕ → List ℕ → Bool
+goes_on start text = starts_with nat_eq text start && nat_lt (length start) (length text)
 
 -- with the key's last row its path is free, unless it was before
 abbrev pub is_freed : {K : Type 0} → Option (OpenKey K) → List ℕ → Bool
