@@ -5,3 +5,4 @@ pub mod PathWalk
 pub mod KeyAnswers
 pub mod DeleteKey
 pub mod DescribeKey
+pub mod PruneTree

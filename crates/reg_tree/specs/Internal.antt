@@ -5,6 +5,8 @@ pub mod TreeFaults
 pub mod PathWalks
 pub mod ReachedPlaces
 pub mod KeyDeletion
+pub mod KeyOrder
+pub mod TreeDeletion
 pub mod SpareCells
 pub mod KeyCreation
 pub mod TreeInvariant

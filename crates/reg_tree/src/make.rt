@@ -26,7 +26,6 @@ ghost use Rattle.reg_index.specs.declared.plan.TheConstants.{FIRST_LIST_SIZE};
 
 use crate::find::reach;
 use crate::key::{fields, new_key, note_subkeys, subkeys_list};
-use crate::ring::{recount, with_one_more};
 use crate::security::{describe, expect, forget};
 use crate::{Created, Node, Reached, TreeFault};
 use reg_arena::{Arena, ArenaFault, cell_size};
@@ -34,7 +33,7 @@ use reg_heap::limits::{LEAF_LIMIT, MADE_LIMIT};
 use reg_index::{FIRST_LIST_SIZE, SubkeysIndex, insert, len, plan_insert};
 use reg_names::{PATH_LIMIT, first_name};
 use reg_records::put_nk;
-use reg_security::SecurityTable;
+use reg_security::{SecurityTable, share};
 use std::alloc::{AllocError, Global};
 
 /// Makes a key below another in cells carved for it: its key node, and its parent's list where that takes another cell. It comes to
@@ -63,7 +62,6 @@ fn make(
         LeavesOthers (heap_of arena.old) (heap_of arena.new) (own (heap_of arena.old) k.fields.subkeys k.fields.subkeys_list) }
 {
     let above = fields(arena, parent);
-    let users = with_one_more(arena, above.security);
     let list = SubkeysIndex {
         count: above.subkeys,
         offset: above.subkeys_list,
@@ -71,7 +69,7 @@ fn make(
     put_nk(arena, key, &new_key(parent, above.security, moment), name);
     let list = insert(arena, list, list_cell, index, key);
     note_subkeys(arena, parent, list, name.len() as u32, moment);
-    recount(arena, above.security, users);
+    share(arena, above.security);
 }
 
 /// Makes a key below another, at the index where its name belongs, in the first of some spare cells, and answers how many it took;

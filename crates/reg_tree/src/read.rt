@@ -13,7 +13,8 @@ use crate::Node;
 use crate::key::{fields, subkeys_list};
 use reg_arena::Arena;
 use reg_index::{at, len};
-use reg_records::{read_nk, read_sk};
+use reg_records::read_nk;
+use reg_security::descriptor as descriptor_in;
 
 /// The flags of a key node that are the key's marks.
 const MARKS: u16 = 0xFFD8;
@@ -52,11 +53,7 @@ pub fn descriptor(arena: &Arena, key: u32) -> &[u8]
     ensures told { (t : IsHere arena.now.bytes key) → (r : Rec) → get (tree_in arena.now.bytes t.root) t.path ≡ Some r → result.now ≡ r.descriptor }
     ensures short { length result.now ≤ DESCRIPTOR_LIMIT }
 {
-    let security = fields(arena, key).security;
-    match read_sk(arena.content(security)) {
-        Ok(read) => read.descriptor,
-        Err(_) => unreachable!(),
-    }
+    descriptor_in(arena, fields(arena, key).security)
 }
 
 /// How many keys are right below a key.

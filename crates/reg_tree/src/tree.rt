@@ -7,7 +7,7 @@ ghost use Rattle.reg_heap.specs.declared.limits.TheConstants.{BINS_LIMIT, DATA_L
 ghost use Rattle.reg_heap.specs.Paths.{Path, path_cmp, Rec, Member, children_of};
 ghost use Rattle.reg_heap.specs.Members.{value_named, index_named};
 ghost use Rattle.reg_heap.specs.Edits.{edited, with_descriptor, with_value, without_value, values_at, folded_path, are_too_many, without_key, IsKept};
-ghost use Rattle.reg_heap.specs.Edits.{may_not_go, missing, last_there};
+ghost use Rattle.reg_heap.specs.Edits.{may_not_go, missing, last_there, is_within, is_under, without_tree, emptied, any_kept_within, any_kept_under};
 ghost use Rattle.reg_arena.specs.Arena.{IsSound, heap_of};
 ghost use Rattle.reg_arena.specs.NewBin.{IsBinSize};
 ghost use Rattle.reg_arena.specs.NewCells.{cell_size as cell_size_of};
@@ -16,7 +16,8 @@ ghost use Rattle.reg_values.specs.ValueLists.{Makes, Tells};
 use crate::cells::carve_two;
 use crate::key::new_root;
 use crate::{
-    Created, Node, Reached, TreeFault, ValueFound, find, make, read, security, unmake, values,
+    Created, Node, Reached, TreeFault, ValueFound, find, make, prune, read, security, unmake,
+    values,
 };
 use reg_arena::{Arena, ArenaFault, cell_size};
 use reg_records::put_nk;
@@ -130,8 +131,8 @@ impl Tree {
     }
 
     /// Walks a path from a key as far as its keys are there, once: the last of them, the names behind it, which are missing, and
-    /// where they belong. That serves `is_limited`, `create_at` and `delete_at`, as long as the tree is as it is. Names are
-    /// compared after folding.
+    /// where they belong. That serves `is_limited`, `create_at`, `delete_at` and `delete_tree_at`, as long as the tree is as it is.
+    /// Names are compared after folding.
     pub fn reach<'a>(&self, from: Node, path: &'a [u8]) -> Reached<'a>
         requires from { IsThere self.now from }
         requires path { is_path path.now ≡ true }
@@ -556,5 +557,74 @@ impl Tree {
         ensures long { OnOk result (length self.new.bins.bytes ≡ length self.old.bins.bytes) }
     {
         unmake::delete(&mut self.arena, &mut self.securities, node.offset, moment)
+    }
+
+    /// Whether a key, or one below it, has mark 0x08, and so may not be deleted. It takes no memory.
+    pub fn is_kept_within(&self, node: Node) -> bool
+        requires { IsThere self.now node }
+        ensures { (p : Path) → IsAt self.now p node → result ≡ any_kept_within self.now.tree p }
+    {
+        prune::is_kept_within(&self.arena, node.offset)
+    }
+
+    /// Whether a key below one has mark 0x08, and so may not be deleted. It takes no memory.
+    pub fn is_kept_under(&self, node: Node) -> bool
+        requires { IsThere self.now node }
+        ensures { (p : Path) → IsAt self.now p node → result ≡ any_kept_under self.now.tree p }
+    {
+        prune::is_kept_under(&self.arena, node.offset)
+    }
+
+    /// Deletes the key to which `reach` found every name of a path that has some, with all keys below it and their values, and sets
+    /// its parent's time. None of them may have mark 0x08. It takes no memory, and the bins keep their length.
+    pub fn delete_tree_at(&mut self, reached: Reached<'_>, moment: u64)
+        requires reached { (from : Node) × (path : List ℕ) × IsWalkedTo self.old from path reached × IsThere self.old from × (path_of path ≢ []) }
+        requires there { reached.missing.now ≡ [] }
+        requires goes { (p : Path) → IsAt self.old p reached.node → any_kept_within self.old.tree p ≡ false }
+        ensures tree { (p : Path) → IsAt self.old p reached.entry.node → self.new.tree ≡ without_tree self.old.tree p moment }
+        ensures nodes { (p : Path) → IsAt self.old p reached.entry.node → (q : Path) → (other : Node) → IsAt self.old q other →
+            is_within p q ≡ false → IsAt self.new q other }
+        ensures lengths { KeepsLengths self.old self.new }
+        ensures long { length self.new.bins.bytes ≡ length self.old.bins.bytes }
+    {
+        prune::delete_tree_at(
+            &mut self.arena,
+            &mut self.securities,
+            reached.node.offset,
+            reached.index,
+            moment,
+        )
+    }
+
+    /// Deletes all keys below a key, with their values, and the key's own values, and sets its time where it lost any of them. None
+    /// of the keys below it may have mark 0x08. It takes no memory, and the bins keep their length.
+    pub fn empty(&mut self, node: Node, moment: u64)
+        requires node { IsThere self.old node }
+        requires goes { (p : Path) → IsAt self.old p node → any_kept_under self.old.tree p ≡ false }
+        ensures tree { (p : Path) → IsAt self.old p node → self.new.tree ≡ emptied self.old.tree p moment }
+        ensures nodes { (p : Path) → IsAt self.old p node → (q : Path) → (other : Node) → IsAt self.old q other →
+            is_under p q ≡ false → IsAt self.new q other }
+        ensures lengths { KeepsLengths self.old self.new }
+        ensures long { length self.new.bins.bytes ≡ length self.old.bins.bytes }
+    {
+        prune::empty(&mut self.arena, &mut self.securities, node.offset, moment)
+    }
+
+    /// Deletes a key with all keys below it and their values, and sets its parent's time. After a fault the tree is as before.
+    ///
+    /// `NoDelete` where the key is the root, or it or one below it has mark 0x08. It takes no memory, and the bins keep their length.
+    pub fn delete_tree(&mut self, node: Node, moment: u64) -> Result<(), TreeFault>
+        requires { IsThere self.old node }
+        ensures ok { (p : Path) → IsAt self.old p node → OnOk result (self.new.tree ≡ without_tree self.old.tree p moment) }
+        ensures nodes { (p : Path) → IsAt self.old p node → OnOk result ((q : Path) → (other : Node) → IsAt self.old q other →
+            is_within p q ≡ false → IsAt self.new q other) }
+        ensures lengths { OnOk result (KeepsLengths self.old self.new) }
+        ensures kept { (p : Path) → IsAt self.old p node →
+            ((result ≡ Err TreeFault.NoDelete) ↔ ((p ≡ []) ⊎ (any_kept_within self.old.tree p ≡ true))) }
+        ensures others { IfErr result (λ fault. fault ≡ TreeFault.NoDelete) }
+        ensures err { OnErr result (self.new ≡ self.old) }
+        ensures long { OnOk result (length self.new.bins.bytes ≡ length self.old.bins.bytes) }
+    {
+        prune::delete_tree(&mut self.arena, &mut self.securities, node.offset, moment)
     }
 }

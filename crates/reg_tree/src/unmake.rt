@@ -42,7 +42,7 @@ fn name_of(arena: &Arena, key: u32) -> &[u8]
 }
 
 /// Where a key stands among its parent's subkeys, found by its name.
-fn place_of(arena: &Arena, key: u32) -> u32
+pub fn place_of(arena: &Arena, key: u32) -> u32
     requires { (index : ℕ) × StandsAt (heap_of arena.now) key index }
     ensures { StandsAt (heap_of arena.now) key result }
 {
@@ -93,7 +93,7 @@ fn free_key(arena: &mut Arena, key: u32)
 }
 
 /// Whether a key has subkeys.
-fn has_children(arena: &Arena, key: u32) -> bool
+pub fn has_children(arena: &Arena, key: u32) -> bool
     requires { IsHere arena.now.bytes key }
     ensures { (t : IsHere arena.now.bytes key) → result ≡ not (length (children_of (tree_in arena.now.bytes t.root) t.path) == 0) }
 {
@@ -101,7 +101,7 @@ fn has_children(arena: &Arena, key: u32) -> bool
 }
 
 /// Whether a key may not be deleted: the root, and one marked so.
-fn is_kept(arena: &Arena, key: u32) -> bool
+pub fn is_kept(arena: &Arena, key: u32) -> bool
     requires { IsHere arena.now.bytes key }
     ensures { (t : IsHere arena.now.bytes key) → ((result ≡ true) ↔ IsKept (tree_in arena.now.bytes t.root) t.path) }
 {

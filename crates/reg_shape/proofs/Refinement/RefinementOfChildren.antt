@@ -62,7 +62,7 @@ unpaired : (xs : List Name) → map (λ (e : Name × Unit {0}). e.0) (paired xs)
 unpaired [] = refl
 unpaired (x ∷ xs) = ap (λ ys. x ∷ ys) (unpaired xs)
 
-names-same : (xs ys : List Name) → IsStrictlySortedBy name_order xs → IsStrictlySortedBy name_order ys → ((q : Name) → list_any (same_name q) xs ≡ list_any (same_name q) ys) → xs ≡ ys
+pub names-same : (xs ys : List Name) → IsStrictlySortedBy name_order xs → IsStrictlySortedBy name_order ys → ((q : Name) → list_any (same_name q) xs ≡ list_any (same_name q) ys) → xs ≡ ys
 names-same xs ys a b e =
     sym (unpaired xs)
     ∙ (ap (map (λ (e : Name × Unit {0}). e.0)) (same_entries name_order nat_list_cmp_total (slice_cmp-IsAntisymmetric nat_cmp-IsAntisymmetric)
@@ -103,7 +103,7 @@ among x (Hangs o n b s) = by (is_named x n) (among x s)
     by true e = refl
     by false e = e
 
-any-below : (p : Path) (x : Name) (ns : List Name) → list_any (eq_by_cmp path_cmp (below p x)) (map (below p) ns) ≡ list_any (same_name x) ns
+pub any-below : (p : Path) (x : Name) (ns : List Name) → list_any (eq_by_cmp path_cmp (below p x)) (map (below p) ns) ≡ list_any (same_name x) ns
 any-below p x [] = refl
 any-below p x (n ∷ ns) = λ i. is_eq (path_cmp-below p x n i) || any-below p x ns i
 

@@ -8,7 +8,7 @@ use Rattle.std.proofs.lemmas.Option.{same_Some}
 use Rattle.std.specs.FinMap.{get}
 use Rattle.reg_names.specs.Names.{folded}
 use Rattle.reg_heap.specs.Paths.{Path, Tree, children_of}
-use Rattle.reg_heap.specs.Edits.{marks_of, IsKept}
+use Rattle.reg_heap.specs.Edits.{marks_of, is_marked, IsKept}
 use Rattle.reg_heap.specs.Heaps.{Heap}
 use Rattle.reg_heap.specs.Kinds.{owned}
 use Rattle.reg_shape.specs.Internal.Forests.{Branch, heads}
@@ -130,6 +130,9 @@ module _ (old : List ℕ) (key : ℕ) (t : IsHere old key) where
   module _ (fields : KeyFields) (are : (r : KeyRecord) → key_at h key ≡ Some r → fields ≡ r.fields) where
     its-flags : fields.flags ≡ flags
     its-flags = ap (λ (f : KeyFields). f.flags) (are b.node.key (key_is old key t))
+
+    pub marked-told : not (bit_and fields.flags 8 == 0) ≡ is_marked tree t.path
+    marked-told = ap (λ n. not (n == 0)) (ap (λ f. bit_and f 8) its-flags ∙ sym mark)
 
     pub root-kept : bit_and fields.flags 4 ≢ 0 → ((not (bit_and fields.flags 4 == 0) ≡ true) ↔ IsKept tree t.path)
     root-kept n = (

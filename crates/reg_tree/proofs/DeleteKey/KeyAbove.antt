@@ -43,10 +43,10 @@ module _ (old : List ℕ) (key : ℕ) (t : IsHere old key) (inner : t.path ≢ [
   pub parts : (q : Path) × (x : List ℕ) × (t.path ≡ q ++ x ∷ [])
   parts = snoc t.path inner
 
-  abbrev p : Path
+  abbrev pub p : Path
   p = parts.0
 
-  abbrev x : List ℕ
+  abbrev pub x : List ℕ
   x = parts.1
 
   pub parent : (o : ℕ) × (key_offset_at h t.root p ≡ Some o) × (key_offset_at h o (x ∷ []) ≡ Some key)
@@ -67,13 +67,13 @@ module _ (old : List ℕ) (key : ℕ) (t : IsHere old key) (inner : t.path ≢ [
   pub single : IsSingle was.node.index
   single = single-of was.node.index (keyed.unrooted_here h t.root keys ring [] w p parent.0 parent.1 t.holds.unrooted)
 
-  abbrev above : IsHere old parent.0
+  abbrev pub above : IsHere old parent.0
   above = record { root = t.root; table = t.table; path = p; holds = t.holds; at = parent.1 }
 
-  named-above : b.node.key.fields.parent ≡ parent.0
+  pub named-above : b.node.key.fields.parent ≡ parent.0
   named-above = parent-is h t.root was stands-was single x b found ∙ keyed.offset h t.root keys ring [] w p parent.0 parent.1
 
-  shorter : (n : ℕ) → length t.path ≡ suc n → length p ≡ n
+  pub shorter : (n : ℕ) → length t.path ≡ suc n → length p ≡ n
   shorter n e = let l = ap length parts.2 in let m = length-append p (x ∷ []) in omega (arith, e, l, m)
 
 -- ---- one root
@@ -85,10 +85,10 @@ module _ (old : List ℕ) (k l : ℕ) (t : IsHere old k) (u : IsHere old l) (e :
   both-root : t.path ≡ [] → u.path ≡ []
   both-root f = root-path old l u (λ z. path-marked old k t f (ap (λ (r : KeyRecord). bit_and r.fields.flags 4) same-key ∙ z))
 
-root-here : (old : List ℕ) (key : ℕ) (t : IsHere old key) → t.path ≡ [] → t.root ≡ key
+pub root-here : (old : List ℕ) (key : ℕ) (t : IsHere old key) → t.path ≡ [] → t.root ≡ key
 root-here old key t f = same_Some _ _ (sym (offset-root old t.root t.holds) ∙ (ap (key_offset_at (cell_at old) t.root) (sym f) ∙ t.at))
 
-no-names : (p : Path) → length p ≡ 0 → p ≡ []
+pub no-names : (p : Path) → length p ≡ 0 → p ≡ []
 no-names [] e = refl
 no-names (x ∷ p) e = absurd (omega (arith, e))
 

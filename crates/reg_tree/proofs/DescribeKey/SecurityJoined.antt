@@ -1,5 +1,5 @@
 -- A security that has a descriptor for one key more: one of the ring that has it, or a new one.
-use Rattle.std.proofs.Common.{◌≡◌, ◌≢◌, inl, inr, ◌⊎◌, ℕ, ◌+◌, ◌<◌, ◌≤◌, Option, Some, None, is_some, List, [], ◌∷◌, ◌++◌, length, drop, refl, sym, ap, ◌∙◌, subst, arith, length-append}
+use Rattle.std.proofs.Common.{◌≡◌, ◌≢◌, inl, inr, ◌⊎◌, ℕ, ◌+◌, ◌<◌, ◌≤◌, Option, Some, None, IsSome, is_some, List, [], ◌∷◌, ◌++◌, length, drop, refl, sym, ap, ◌∙◌, subst, arith, length-append}
 use Rattle.std.specs.Prelude.{Result, Err, unwrap_or}
 use Rattle.std.specs.Option.{option_map}
 use Rattle.std.proofs.lemmas.Bool.{cases_eq}
@@ -23,7 +23,7 @@ use Rattle.reg_shape.proofs.Graft.WholeAfterGraft.{where-none, uses-counted}
 use Rattle.reg_values.proofs.ValueFreeing.FrameChains.{times-same}
 use Rattle.reg_index.proofs.SubkeysFrame.{times-not}
 use Rattle.reg_security.specs.Rings.{DescriptorCells, Describes, Finds, Expects, IsAdded, IsPut, IsRelinked, Recounts, cell_of}
-use Rattle.reg_security.proofs.RingCounted.{descriptor-recounted}
+use Rattle.reg_security.proofs.RingCounted.{descriptor-recounted, security-there}
 use Rattle.reg_security.proofs.TableCells.{finds-same}
 use Rattle.reg_tree.specs.Internal.KeyNodeChanges.{SameSizes}
 use Rattle.reg_tree.specs.Internal.DescriptorChange.{IsDescribable, Joins}
@@ -106,10 +106,10 @@ module _ (bytes : List ℕ) (key : ℕ) (table : DescriptorCells) (descriptor : 
         (λ d. count-few bytes d.root d.keys d.ring [] d.shape s (d.placed.0.found descriptor s noted).0)
 
     -- it is there
-    pub is-there : (cell : Option ℕ) → cell ≡ None → IsDescribable bytes key table descriptor cell → (r : KeySecurityRecord) × (security_at h s ≡ Some r)
+    pub is-there : (cell : Option ℕ) → cell ≡ None → IsDescribable bytes key table descriptor cell → IsSome (security_at h s)
     is-there cell none =
-        subst (λ cell. IsDescribable bytes key table descriptor cell → (r : KeySecurityRecord) × (security_at h s ≡ Some r)) (sym none)
-        (λ d. (let w = all-at (IsWrittenSecurity h) d.ring s d.shape.closed.written (d.placed.0.found descriptor s noted).0 in (w.security, w.reads)))
+        subst (λ cell. IsDescribable bytes key table descriptor cell → IsSome (security_at h s)) (sym none)
+        (λ d. security-there h d.ring d.shape.closed s (d.placed.0.found descriptor s noted).0)
 
     module _ (d : IsDescribable bytes key table descriptor None) (k : Heap) (re : Recounts h k s (λ n. n + 1))
         (then : (ring : List ℕ) → IsRing h ring → IsRing k ring) where

@@ -12,7 +12,7 @@ use Rattle.reg_heap.specs.Kinds.Kind.{Key}
 use Rattle.reg_shape.specs.Internal.Forests.{Branch, heads, total, total_of}
 use Rattle.reg_records.specs.RecordCells.{held}
 use Rattle.reg_records.specs.KeyNodes.{KeyRecord, key_at, IsPlainKey}
-use Rattle.reg_records.specs.KeySecurities.{KeySecurityRecord, security_at}
+use Rattle.reg_records.specs.KeySecurities.{security_at}
 use Rattle.reg_records.specs.SubkeyLists.{Entry}
 use Rattle.reg_shape.specs.Nodes.{Node, entries_of}
 use Rattle.reg_shape.specs.Written.{IsWrittenSecurity}
@@ -27,7 +27,8 @@ use Rattle.reg_index.specs.Subkeys.{IsSingle, AreSubkeys, IsIndexFor, Moves, nam
 use Rattle.reg_index.proofs.SubkeysOpening.{own-is}
 use Rattle.reg_index.proofs.SubkeysFrame.{own-stays}
 use Rattle.reg_index.proofs.RefinementOfSubkeys.{subkeys-elsewhere}
-use Rattle.reg_tree.specs.Internal.KeyNodeChanges.{Notes, Recounts, noted_subkeys, raised}
+use Rattle.reg_security.specs.Rings.{Recounts}
+use Rattle.reg_tree.specs.Internal.KeyNodeChanges.{Notes, noted_subkeys, raised}
 use Rattle.reg_tree.specs.Internal.TreeInvariant.{rooted}
 use Rattle.reg_tree.proofs.InsertKey.MadeKeyRecord.{made_record, made_node, made-seen}
 use Rattle.reg_tree.proofs.InsertKey.ParentReindexed.{reindexed, sees-reindexed}
@@ -143,8 +144,7 @@ module _ (h0 h1 h2 h3 h4 : Heap) (root : ℕ) (keys : Branch Node) (ring : List 
             (key1 : key_at h1 key ≡ Some (made_record parent above.fields.security moment name)) (plain1 : IsPlainKey (held h1 key))
             (stands_at : IsIndexFor (names_in h0 entries) (folded name) (Err index)) (missing : subkey_named h0 (folded name) parent ≡ None)
             (subkeys2 : AreSubkeys h2 count1 list1 (with_one index (entry_for h1 key) entries)) (count_is : count1 ≡ above.fields.subkeys + 1)
-            (users : ℕ) (users_are : (s : KeySecurityRecord) → security_at h0 above.fields.security ≡ Some s → users ≡ s.fields.count + 1)
-            (recounts : Recounts h3 h4 above.fields.security (λ n. users)) where
+            (recounts : Recounts h3 h4 above.fields.security (λ n. n + 1)) where
           abbrev security : ℕ
           security = above.fields.security
 

@@ -18,7 +18,7 @@ use Rattle.reg_heap.specs.Kinds.Kind.{Key}
 use Rattle.reg_shape.specs.Internal.Forests.{Branch, heads, total, total_of}
 use Rattle.reg_records.specs.RecordCells.{held}
 use Rattle.reg_records.specs.KeyNodes.{KeyRecord, key_at, IsPlainKey}
-use Rattle.reg_records.specs.KeySecurities.{KeySecurityRecord, security_at, IsPlainSecurity}
+use Rattle.reg_records.specs.KeySecurities.{security_at, IsPlainSecurity}
 use Rattle.reg_records.specs.SubkeyLists.{Entry}
 use Rattle.reg_shape.specs.Nodes.{Node, entries_of}
 use Rattle.reg_shape.specs.Written.{Precedes, Fits, IsWrittenSecurity}
@@ -33,7 +33,8 @@ use Rattle.reg_shape.proofs.Graft.GraftOfExchange.{recounted-same}
 use Rattle.reg_shape.proofs.Graft.ForestInsertFits.{all-before, all-behind, all-mapped, fits-hung, stands-hung}
 use Rattle.reg_index.specs.Subkeys.{IsSingle, AreSubkeys, IsIndexFor, Moves, names_in, name_at, name_or_none, entry_for, with_one, cells_of_index, own, taken}
 use Rattle.reg_index.proofs.SubkeysFrame.{times-not, owned-index}
-use Rattle.reg_tree.specs.Internal.KeyNodeChanges.{Notes, Recounts, noted_subkeys, raised}
+use Rattle.reg_security.specs.Rings.{Recounts}
+use Rattle.reg_tree.specs.Internal.KeyNodeChanges.{Notes, noted_subkeys, raised}
 use Rattle.reg_tree.specs.Internal.TreeInvariant.{rooted}
 use Rattle.reg_tree.proofs.Invariant.CellReadings.{key-exists, security-exists, is_some_of}
 use Rattle.reg_tree.proofs.Invariant.OwnCells.{own-parts}
@@ -130,8 +131,7 @@ module _ (h0 h1 h2 h3 h4 : Heap) (root : ℕ) (keys : Branch Node) (ring : List 
             (key1 : key_at h1 key ≡ Some (made_record parent above.fields.security moment name)) (plain1 : IsPlainKey (held h1 key))
             (stands_at : IsIndexFor (names_in h0 entries) (folded name) (Err index)) (missing : subkey_named h0 (folded name) parent ≡ None)
             (subkeys2 : AreSubkeys h2 count1 list1 (with_one index (entry_for h1 key) entries)) (count_is : count1 ≡ above.fields.subkeys + 1)
-            (users : ℕ) (users_are : (s : KeySecurityRecord) → security_at h0 above.fields.security ≡ Some s → users ≡ s.fields.count + 1)
-            (recounts : Recounts h3 h4 above.fields.security (λ n. users)) where
+            (recounts : Recounts h3 h4 above.fields.security (λ n. n + 1)) where
           abbrev security : ℕ
           security = above.fields.security
 
@@ -140,64 +140,64 @@ module _ (h0 h1 h2 h3 h4 : Heap) (root : ℕ) (keys : Branch Node) (ring : List 
 
           calm : (z : ℕ) → 0 < allocated h0 z → times z (key ∷ []) ≡ 0 → times z old_list ≡ 0 → times z (taken list_cell) ≡ 0 → K z ≡ 0 → times z ring ≡ 0 → h4 z ≡ h0 z
           calm = cells.calm h0 h1 h2 h3 h4 root keys ring p parent list_cell key left w unrooted at others1 there1 count1 list1 moves name
-              moment notes index good short key1 plain1 stands_at missing subkeys2 count_is users users_are recounts
+              moment notes index good short key1 plain1 stands_at missing subkeys2 count_is recounts
 
           calm-ring : (z : ℕ) → 0 < times z ring → z ≢ security → h4 z ≡ h0 z
           calm-ring = cells.calm-ring h0 h1 h2 h3 h4 root keys ring p parent list_cell key left w unrooted at others1 there1 count1 list1
-              moves name moment notes index good short key1 plain1 stands_at missing subkeys2 count_is users users_are recounts
+              moves name moment notes index good short key1 plain1 stands_at missing subkeys2 count_is recounts
 
           calm-below : (z : ℕ) → 0 < total (owns z) was.below → h4 z ≡ h0 z
           calm-below = cells.calm-below h0 h1 h2 h3 h4 root keys ring p parent list_cell key left w unrooted at others1 there1 count1 list1
-              moves name moment notes index good short key1 plain1 stands_at missing subkeys2 count_is users users_are recounts
+              moves name moment notes index good short key1 plain1 stands_at missing subkeys2 count_is recounts
 
           pub calm-class : (z : ℕ) → 0 < owned z looked.class_cells → h4 z ≡ h0 z
           calm-class = cells.calm-class h0 h1 h2 h3 h4 root keys ring p parent list_cell key left w unrooted at others1 there1 count1 list1
-              moves name moment notes index good short key1 plain1 stands_at missing subkeys2 count_is users users_are recounts
+              moves name moment notes index good short key1 plain1 stands_at missing subkeys2 count_is recounts
 
           pub calm-values : (z : ℕ) → 0 < owned z looked.value_cells → h4 z ≡ h0 z
           calm-values = cells.calm-values h0 h1 h2 h3 h4 root keys ring p parent list_cell key left w unrooted at others1 there1 count1 list1
-              moves name moment notes index good short key1 plain1 stands_at missing subkeys2 count_is users users_are recounts
+              moves name moment notes index good short key1 plain1 stands_at missing subkeys2 count_is recounts
 
           abbrev new_above : KeyRecord
           new_above = noted_subkeys count1 list1 (length name) moment above
 
           key-noted : key_at h3 P ≡ Some new_above
           key-noted = cells.key-noted h0 h1 h2 h3 h4 root keys ring p parent list_cell key left w unrooted at others1 there1 count1 list1 moves
-              name moment notes index good short key1 plain1 stands_at missing subkeys2 count_is users users_are recounts
+              name moment notes index good short key1 plain1 stands_at missing subkeys2 count_is recounts
 
           pub key-now : key_at h4 P ≡ Some new_above
           key-now = cells.key-now h0 h1 h2 h3 h4 root keys ring p parent list_cell key left w unrooted at others1 there1 count1 list1 moves
-              name moment notes index good short key1 plain1 stands_at missing subkeys2 count_is users users_are recounts
+              name moment notes index good short key1 plain1 stands_at missing subkeys2 count_is recounts
 
           pub plain-now : IsPlainKey (held h4 P)
           plain-now = cells.plain-now h0 h1 h2 h3 h4 root keys ring p parent list_cell key left w unrooted at others1 there1 count1 list1 moves
-              name moment notes index good short key1 plain1 stands_at missing subkeys2 count_is users users_are recounts
+              name moment notes index good short key1 plain1 stands_at missing subkeys2 count_is recounts
 
           abbrev made : Node
           made = made_node key (made_record parent security moment name)
 
           made-is : IsSeen h4 root key made
           made-is = cells.made-is h0 h1 h2 h3 h4 root keys ring p parent list_cell key left w unrooted at others1 there1 count1 list1 moves
-              name moment notes index good short key1 plain1 stands_at missing subkeys2 count_is users users_are recounts
+              name moment notes index good short key1 plain1 stands_at missing subkeys2 count_is recounts
 
           abbrev pub subkeys4 : AreSubkeys h4 count1 list1 entries1
           subkeys4 = cells.subkeys4 h0 h1 h2 h3 h4 root keys ring p parent list_cell key left w unrooted at others1 there1 count1 list1 moves
-              name moment notes index good short key1 plain1 stands_at missing subkeys2 count_is users users_are recounts
+              name moment notes index good short key1 plain1 stands_at missing subkeys2 count_is recounts
 
           new-list : (z : ℕ) → times z (cells_of_index subkeys4.index) ≡ times z (own h2 count1 list1)
           new-list = cells.new-list h0 h1 h2 h3 h4 root keys ring p parent list_cell key left w unrooted at others1 there1 count1 list1 moves
-              name moment notes index good short key1 plain1 stands_at missing subkeys2 count_is users users_are recounts
+              name moment notes index good short key1 plain1 stands_at missing subkeys2 count_is recounts
 
           abbrev now : Node
           now = reindexed h0 h4 root P node seen looked count1 list1 (length name) moment entries1 key-now plain-now calm-class calm-values subkeys4
 
           now-is : IsSeen h4 root P now
           now-is = cells.now-is h0 h1 h2 h3 h4 root keys ring p parent list_cell key left w unrooted at others1 there1 count1 list1 moves name
-              moment notes index good short key1 plain1 stands_at missing subkeys2 count_is users users_are recounts
+              moment notes index good short key1 plain1 stands_at missing subkeys2 count_is recounts
 
           raised-is : raised above.fields.largest_subkey_name (2 * length name) % 65536 ≡ max (above.fields.largest_subkey_name % 65536) (2 * length name)
           raised-is = cells.raised-is h0 h1 h2 h3 h4 root keys ring p parent list_cell key left w unrooted at others1 there1 count1 list1 moves
-              name moment notes index good short key1 plain1 stands_at missing subkeys2 count_is users users_are recounts
+              name moment notes index good short key1 plain1 stands_at missing subkeys2 count_is recounts
 
           ordered-before : AllByRecursion (λ (e : ℕ × Node). Precedes e.1.key.name name) (take index (heads was.below))
           ordered-before =
@@ -278,11 +278,11 @@ module _ (h0 h1 h2 h3 h4 : Heap) (root : ℕ) (keys : Branch Node) (ring : List 
               by : (z ≡ security) ⊎ (z ≢ security) → IsRecounted h0 h4 (total_of (shares z) was) (total_of (shares z) is) z
               by (inl e) = subst (λ z. IsRecounted h0 h4 (total_of (shares z) was) (total_of (shares z) is) z) (sym e) (record {
                 security = written.security;
-                count = users;
+                count = written.security.fields.count + 1;
                 reads = written.reads;
                 now = recounts.reads written.security security-there;
                 plain = λ q. recounts.plain (subst IsPlainSecurity (sym (same-held h0 h3 security security-calm)) q);
-                counted = (let s = shares-now security in let o = times-one security in let u = users_are written.security written.reads in omega (arith, s, o, u));
+                counted = (let s = shares-now security in let o = times-one security in omega (arith, s, o));
               })
               by (inr n) = recounted-same h0 h4 (total_of (shares z) was) (total_of (shares z) is) z (calm-ring z l n)
                   (let s = shares-now z in let t = times-not z security [] (λ e. n (sym e)) refl in omega (arith, s, t))

@@ -15,7 +15,6 @@ use Rattle.reg_shape.specs.Internal.Forests.{Branch, total_of}
 use Rattle.reg_index.specs.declared.plan.TheConstants.{FIRST_LIST_SIZE}
 use Rattle.reg_records.specs.RecordCells.{held}
 use Rattle.reg_records.specs.KeyNodes.{KeyRecord, key_at, IsPlainKey}
-use Rattle.reg_records.specs.KeySecurities.{KeySecurityRecord, security_at}
 use Rattle.reg_records.specs.SubkeyLists.{Entry, offsets_in}
 use Rattle.reg_shape.specs.Nodes.{Node, entries_of}
 use Rattle.reg_shape.specs.Internal.Shapes.{descriptor_in, tree_of, IsSeen, StandsIn}
@@ -35,7 +34,8 @@ use Rattle.reg_shape.proofs.Refinement.RefinementAfterGraft.{grafted-name}
 use Rattle.reg_shape.proofs.Lookup.LookupAfterGraft.{offsets-hung}
 use Rattle.reg_shape.proofs.Lookup.LookupOfShape.{placed, offset-more}
 use Rattle.reg_index.specs.Subkeys.{AreSubkeys, IsIndexFor, Moves, names_in, entry_for, with_one, cells_of_index, own, taken, insert_size}
-use Rattle.reg_tree.specs.Internal.KeyNodeChanges.{Notes, Recounts, noted_subkeys}
+use Rattle.reg_security.specs.Rings.{Recounts}
+use Rattle.reg_tree.specs.Internal.KeyNodeChanges.{Notes, noted_subkeys}
 use Rattle.reg_tree.specs.Internal.TreeInvariant.{rooted}
 use Rattle.reg_tree.specs.Internal.SpareCells.{planned, Grows}
 use Rattle.reg_tree.proofs.InsertKey.MadeKeyRecord.{made_record, made_node}
@@ -91,8 +91,7 @@ module _ (h0 h1 h2 h3 h4 : Heap) (root : ℕ) (keys : Branch Node) (ring : List 
             (key1 : key_at h1 key ≡ Some (made_record parent above.fields.security moment name)) (plain1 : IsPlainKey (held h1 key))
             (stands_at : IsIndexFor (names_in h0 entries) (folded name) (Err index)) (missing : subkey_named h0 (folded name) parent ≡ None)
             (subkeys2 : AreSubkeys h2 count1 list1 (with_one index (entry_for h1 key) entries)) (count_is : count1 ≡ above.fields.subkeys + 1)
-            (users : ℕ) (users_are : (s : KeySecurityRecord) → security_at h0 above.fields.security ≡ Some s → users ≡ s.fields.count + 1)
-            (recounts : Recounts h3 h4 above.fields.security (λ n. users)) where
+            (recounts : Recounts h3 h4 above.fields.security (λ n. n + 1)) where
           abbrev security : ℕ
           security = above.fields.security
 
@@ -101,37 +100,37 @@ module _ (h0 h1 h2 h3 h4 : Heap) (root : ℕ) (keys : Branch Node) (ring : List 
 
           pub calm-class : (z : ℕ) → 0 < owned z looked.class_cells → h4 z ≡ h0 z
           calm-class = cells.calm-class h0 h1 h2 h3 h4 root keys ring p parent list_cell key left w unrooted at others1 there1 count1 list1
-              moves name moment notes index good short key1 plain1 stands_at missing subkeys2 count_is users users_are recounts
+              moves name moment notes index good short key1 plain1 stands_at missing subkeys2 count_is recounts
 
           pub calm-values : (z : ℕ) → 0 < owned z looked.value_cells → h4 z ≡ h0 z
           calm-values = cells.calm-values h0 h1 h2 h3 h4 root keys ring p parent list_cell key left w unrooted at others1 there1 count1 list1
-              moves name moment notes index good short key1 plain1 stands_at missing subkeys2 count_is users users_are recounts
+              moves name moment notes index good short key1 plain1 stands_at missing subkeys2 count_is recounts
 
           abbrev new_above : KeyRecord
           new_above = noted_subkeys count1 list1 (length name) moment above
 
           pub key-now : key_at h4 P ≡ Some new_above
           key-now = cells.key-now h0 h1 h2 h3 h4 root keys ring p parent list_cell key left w unrooted at others1 there1 count1 list1 moves
-              name moment notes index good short key1 plain1 stands_at missing subkeys2 count_is users users_are recounts
+              name moment notes index good short key1 plain1 stands_at missing subkeys2 count_is recounts
 
           pub plain-now : IsPlainKey (held h4 P)
           plain-now = cells.plain-now h0 h1 h2 h3 h4 root keys ring p parent list_cell key left w unrooted at others1 there1 count1 list1 moves
-              name moment notes index good short key1 plain1 stands_at missing subkeys2 count_is users users_are recounts
+              name moment notes index good short key1 plain1 stands_at missing subkeys2 count_is recounts
 
           key-calm : h4 key ≡ h1 key
           key-calm = cells.key-calm h0 h1 h2 h3 h4 root keys ring p parent list_cell key left w unrooted at others1 there1 count1 list1 moves
-              name moment notes index good short key1 plain1 stands_at missing subkeys2 count_is users users_are recounts
+              name moment notes index good short key1 plain1 stands_at missing subkeys2 count_is recounts
 
           abbrev made : Node
           made = made_node key (made_record parent security moment name)
 
           made-is : IsSeen h4 root key made
           made-is = cells.made-is h0 h1 h2 h3 h4 root keys ring p parent list_cell key left w unrooted at others1 there1 count1 list1 moves
-              name moment notes index good short key1 plain1 stands_at missing subkeys2 count_is users users_are recounts
+              name moment notes index good short key1 plain1 stands_at missing subkeys2 count_is recounts
 
           abbrev pub subkeys4 : AreSubkeys h4 count1 list1 entries1
           subkeys4 = cells.subkeys4 h0 h1 h2 h3 h4 root keys ring p parent list_cell key left w unrooted at others1 there1 count1 list1 moves
-              name moment notes index good short key1 plain1 stands_at missing subkeys2 count_is users users_are recounts
+              name moment notes index good short key1 plain1 stands_at missing subkeys2 count_is recounts
 
           abbrev now : Node
           now = reindexed h0 h4 root P node seen looked count1 list1 (length name) moment entries1 key-now plain-now calm-class calm-values subkeys4
@@ -141,14 +140,14 @@ module _ (h0 h1 h2 h3 h4 : Heap) (root : ℕ) (keys : Branch Node) (ring : List 
 
           in-ring : IsGraftedInRing h0 h4 root was is ring spare left
           in-ring = grafting.grafts h0 h1 h2 h3 h4 root keys ring p parent list_cell key left w unrooted at others1 there1 count1 list1 moves
-              name moment notes index good short key1 plain1 stands_at missing subkeys2 count_is users users_are recounts
+              name moment notes index good short key1 plain1 stands_at missing subkeys2 count_is recounts
 
           grafts : IsGrafted h0 h4 root was is ring spare ring left
           grafts = graft-in-ring h0 h4 root p keys was is ring spare left (keyed.branch_is h0 root keys ring spare w p parent at) in-ring w
 
           spare-made : (z : ℕ) → 0 < times z left → h4 z ≡ h0 z
           spare-made = grafting.spare-made h0 h1 h2 h3 h4 root keys ring p parent list_cell key left w unrooted at others1 there1 count1 list1
-              moves name moment notes index good short key1 plain1 stands_at missing subkeys2 count_is users users_are recounts
+              moves name moment notes index good short key1 plain1 stands_at missing subkeys2 count_is recounts
 
           -- ---- what stands then
 

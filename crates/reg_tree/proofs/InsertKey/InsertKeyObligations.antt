@@ -14,14 +14,14 @@ use Rattle.reg_records.specs.KeyNodes.{KeyRecord, key_at, IsPlainKey}
 use Rattle.reg_records.specs.KeySecurities.{KeySecurityRecord, security_at}
 use Rattle.reg_records.specs.SubkeyLists.{Entry}
 use Rattle.reg_shape.specs.Nodes.{Node, entries_of}
-use Rattle.reg_shape.specs.Written.{IsWrittenSecurity}
 use Rattle.reg_records.proofs.KeyNodeCodec.{key_at-same}
+use Rattle.reg_records.proofs.KeySecurityCodec.{security_at-same}
 use Rattle.reg_shape.proofs.Frame.WrittenFrame.{same-held}
 use Rattle.reg_shape.proofs.Walking.WalkRefinement.{IsLooked}
-use Rattle.reg_shape.proofs.Wholeness.ShapeRecords.{all-at}
 use Rattle.reg_index.specs.Subkeys.{AreSubkeys, IsIndexFor, IsReady, Moves, names_in, name_at, name_or_none, entry_for, with_one, cells_of_index, own, taken, insert_size}
 use Rattle.reg_index.proofs.SubkeysOpening.{index-leaf}
-use Rattle.reg_tree.specs.Internal.KeyNodeChanges.{Notes, Recounts, noted_subkeys, made_fields}
+use Rattle.reg_security.specs.Rings.{Recounts}
+use Rattle.reg_tree.specs.Internal.KeyNodeChanges.{Notes, noted_subkeys, made_fields}
 use Rattle.reg_tree.specs.Internal.ReachedPlaces.{BelongsAt}
 use Rattle.reg_tree.specs.Internal.SpareCells.{planned, IsGrowing, MayGrow, Grows}
 use Rattle.reg_tree.proofs.Invariant.CellReadings.{is_some_of}
@@ -72,13 +72,7 @@ module _ (bytes : List ℕ) (parent : ℕ) (list_cell : Option ℕ) (key : ℕ) 
     pub fields_are : node.key.fields ≡ fields
     fields_are = sym (are node.key key_is)
 
-    its_security : IsWrittenSecurity h node.key.fields.security
-    its_security = all-at (IsWrittenSecurity h) g.ring node.key.fields.security g.shape.closed.written security_ringed
-
-    pub security_there : IsSome (security_at h fields.security)
-    security_there = subst (λ (f : KeyFields). IsSome (security_at h f.security)) fields_are (is_some_of _ _ its_security.reads)
-
-    pub users_few : (s : KeySecurityRecord) → security_at h fields.security ≡ Some s → s.fields.count < length bytes
+    users_few : (s : KeySecurityRecord) → security_at h fields.security ≡ Some s → s.fields.count < length bytes
     users_few = subst (λ (f : KeyFields). (s : KeySecurityRecord) → security_at h f.security ≡ Some s → s.fields.count < length bytes) fields_are
         (count-few bytes g.root g.keys g.ring spare g.shape node.key.fields.security security_ringed)
 
@@ -183,17 +177,27 @@ module _ (bytes : List ℕ) (parent : ℕ) (list_cell : Option ℕ) (key : ℕ) 
               (is_some_of _ _ (frame.security-there h h1 h2 h3 h3 g.root g.keys g.ring g.path parent list_cell key left g.shape g.unrooted g.at
               others1 there1 count1 list1 moved name moment notes))
 
+          -- it counts as many keys as before, and the bins are as long
+          security_same : security_at h3 fields.security ≡ security_at h fields.security
+          security_same =
+              subst (λ (f : KeyFields). security_at h3 f.security ≡ security_at h f.security) fields_are
+              (security_at-same h h3 node.key.fields.security
+              (frame.security-calm h h1 h2 h3 h3 g.root g.keys g.ring g.path parent list_cell key left g.shape g.unrooted g.at
+              others1 there1 count1 list1 moved name moment notes))
+
+          pub users_few3 : (size : ℕ) → size ≡ length bytes → (s : KeySecurityRecord) → security_at h3 fields.security ≡ Some s → s.fields.count < size
+          users_few3 size long s reads = let few = users_few s (sym security_same ∙ reads) in omega (arith, long, few)
+
           module _ (h4 : Heap) (good : is_key_name name ≡ true) (short : length name ≤ KEY_NAME_LIMIT) (made_so : new_fields ≡ made_fields parent fields.security moment)
               (plain1 : IsPlainKey (held h1 key))
               (index : ℕ) (find : (es : List Entry) → AreSubkeys h fields.subkeys fields.subkeys_list es → IsIndexFor (names_in h es) (folded name) (Err index))
               (subkeys2 : (es : List Entry) → AreSubkeys h1 fields.subkeys fields.subkeys_list es →
               AreSubkeys h2 count1 list1 (with_one index (entry_for h1 key) es)) (count2 : count1 ≡ fields.subkeys + 1)
-              (users : ℕ) (users_are : (s : KeySecurityRecord) → security_at h fields.security ≡ Some s → users ≡ s.fields.count + 1) (recounts : Recounts h3 h4 fields.security (λ n. users)) where
+              (recounts : Recounts h3 h4 fields.security (λ n. n + 1)) where
             pub grown : Grows h h4 g.root g.path g.keys g.ring key left name moment
             grown =
                 made.grows h h1 h2 h3 h4 g.root g.keys g.ring g.path parent list_cell key left g.shape g.unrooted g.at others1 there1 count1 list1 moved name moment notes index good short
                 (key1 ∙ ap (λ (f : KeyFields). Some (record { fields = f; name = name })) (made_so ∙ ap (λ (f : KeyFields). made_fields parent f.security moment) (sym fields_are)))
-                plain1 (find entries subkeys0) m.missing (subkeys2 entries subkeys1) (count2 ∙ ap (λ (f : KeyFields). f.subkeys + 1) (sym fields_are)) users
-                (subst (λ (f : KeyFields). (s : KeySecurityRecord) → security_at h f.security ≡ Some s → users ≡ s.fields.count + 1) (sym fields_are) users_are)
-                (subst (λ (f : KeyFields). Recounts h3 h4 f.security (λ n. users)) (sym fields_are) recounts)
+                plain1 (find entries subkeys0) m.missing (subkeys2 entries subkeys1) (count2 ∙ ap (λ (f : KeyFields). f.subkeys + 1) (sym fields_are))
+                (subst (λ (f : KeyFields). Recounts h3 h4 f.security (λ n. n + 1)) (sym fields_are) recounts)
                 m.deep

@@ -16,7 +16,8 @@ use Rattle.reg_records.specs.SubkeyLists.{Entry}
 use Rattle.reg_index.proofs.SubkeysOpening.{own-leaf}
 use Rattle.reg_index.proofs.KeptCells.{kept-then}
 use Rattle.reg_records.specs.KeyNodes.{KeyRecord, key_at}
-use Rattle.reg_records.specs.RecordCells.{held, WritesCell}
+use Rattle.reg_records.specs.KeySecurities.{KeySecurityRecord, security_at}
+use Rattle.reg_records.specs.RecordCells.{held, WritesCell, WritesPart}
 use Rattle.reg_records.specs.declared.nk.KeyFields.{KeyFields}
 use Rattle.reg_shape.proofs.Wholeness.ShapeRecords.{at-most-one, is-allocated, allocated-is}
 use Rattle.reg_values.specs.ValueLists.{Makes}
@@ -26,6 +27,7 @@ use Rattle.reg_tree.specs.declared.node.Node.{Node}
 use Rattle.reg_tree.specs.CellSizes.{set_sizes_by, value_sizes, value_sizes_at}
 use Rattle.reg_tree.specs.Internal.KeyNodeChanges.{HasList, SameSizes, LeavesOthers}
 use Rattle.reg_tree.specs.Internal.SpareCells.{planned, own_sizes, sizes_of, IsSpared}
+use Rattle.reg_tree.proofs.Invariant.CellReadings.{some_of, security-exists}
 use Rattle.reg_tree.proofs.Invariant.UntouchedCells.{times-one}
 
 -- ---- cells written over
@@ -46,6 +48,13 @@ written_sizes old new cell content there w z = by (eqb z cell) refl
     by false e =
         let same = w.others z (eqb-false z cell e) in
         (ap is_some same, size-of (heap_of old z) (heap_of new z) same)
+
+-- a security counts one key more
+pub shared_sizes : (old new : Bins) (cell : ℕ) (count : KeySecurityRecord → List ℕ) → IsSome (security_at (heap_of old) cell) →
+    ((s : KeySecurityRecord) → security_at (heap_of old) cell ≡ Some s → WritesPart old new cell 12 (count s)) → SameSizes (heap_of old) (heap_of new)
+shared_sizes old new cell count there w =
+    let s = some_of (security_at (heap_of old) cell) there in
+    written_sizes old new cell _ (security-exists (heap_of old) cell there) (w s.0 s.1)
 
 still : (old new : Bins) (cell : ℕ) (content : List ℕ) → WritesCell old new cell content → IsSome (heap_of new cell)
 still old new cell content w = ap is_some w.here

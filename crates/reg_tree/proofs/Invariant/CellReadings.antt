@@ -6,7 +6,7 @@ use Rattle.std.specs.Result.{result_ok}
 use Rattle.reg_shape.specs.Nodes.{Node}
 use Rattle.reg_shape.proofs.Walking.WalkRefinement.{IsLooked}
 use Rattle.reg_records.specs.RecordCells.{Heap, held}
-use Rattle.reg_records.specs.KeySecurities.{KeySecurityRecord, security_at, sk_of}
+use Rattle.reg_records.specs.KeySecurities.{KeySecurityRecord, security_at}
 use Rattle.reg_records.proofs.KeySecurityCodec.{security_at-open, security-room}
 use Rattle.reg_records.specs.KeyNodes.{KeyRecord, key_at, nk_of}
 use Rattle.reg_records.specs.KeyValues.{KeyValueRecord, value_record_at, vk_of}
@@ -39,21 +39,12 @@ value-read h o content r e f = let open_is = value_record_at-open h o r e in let
 pub security-exists : (h : Heap) (o : ℕ) → IsSome (security_at h o) → IsSome (h o)
 security-exists h o s = (security-room h o 0 (omega arith) s).exists
 
-pub security-read : (h : Heap) (o : ℕ) (content : List ℕ) (r : KeySecurityRecord) → security_at h o ≡ Some r → h o ≡ Some content → sk_of content ≡ Ok r
-security-read h o content r e f = let open_is = security_at-open h o r e in let there = open_is.1 in let reads = open_is.2 in cc
-
 -- it reads without a fault
-pub security-no_fault : (h : Heap) (o : ℕ) (content : List ℕ) (fault : RecordFault) → IsSome (security_at h o) → h o ≡ Some content → sk_of content ≡ Err fault → ⊥
-security-no_fault h o content fault s f e = let found = some_of (security_at h o) s in let reads = security-read h o content found.0 found.1 f in cc
-
 pub key-no_fault : (h : Heap) (o : ℕ) (content : List ℕ) (fault : RecordFault) → IsSome (key_at h o) → h o ≡ Some content → nk_of content ≡ Err fault → ⊥
 key-no_fault h o content fault s f e = let found = some_of (key_at h o) s in let reads = key-read h o content found.0 found.1 f in cc
 
 pub value-no_fault : (h : Heap) (o : ℕ) (content : List ℕ) (fault : RecordFault) → IsSome (value_record_at h o) → h o ≡ Some content → vk_of content ≡ Err fault → ⊥
 value-no_fault h o content fault s f e = let found = some_of (value_record_at h o) s in let reads = value-read h o content found.0 found.1 f in cc
-
-pub security-read_is : (h : Heap) (o : ℕ) (content : List ℕ) (security read : KeySecurityRecord) → security_at h o ≡ Some security → h o ≡ Some content → sk_of content ≡ Ok read → read ≡ security
-security-read_is h o content security read e f r = same_ok read security (sym r ∙ security-read h o content security e f)
 
 -- what was read of the key node are its fields
 pub key-fields : (h : Heap) (o : ℕ) (content : List ℕ) (key read : KeyRecord) → key_at h o ≡ Some key → h o ≡ Some content → nk_of content ≡ Ok read → read ≡ key

@@ -1,6 +1,7 @@
 -- How long is what is told of a key, and how deep a key is.
 use Rattle.std.proofs.Common.{◌≡◌, ℕ, zero, suc, ◌≤◌, true, Some, List, [], ◌∷◌, length, ap, ◌∙◌, sym, subst}
 use Rattle.std.specs.Prelude.{Ok}
+use Rattle.std.specs.Option.{option_map}
 use Rattle.std.specs.List.{AllByRecursion, slice_get}
 use Rattle.std.proofs.lemmas.Option.{none-some, same_Some}
 use Rattle.reg_names.specs.declared.TheConstants.{VALUE_NAME_LIMIT, KEY_NAME_LIMIT}
@@ -11,16 +12,17 @@ use Rattle.reg_heap.specs.Kinds.{Found}
 use Rattle.reg_arena.specs.Cells.{cell_at}
 use Rattle.reg_records.specs.declared.nk.KeyFields.{KeyFields}
 use Rattle.reg_records.specs.KeyNodes.{KeyRecord, key_at, nk_of}
-use Rattle.reg_records.specs.KeySecurities.{KeySecurityRecord, sk_of}
+use Rattle.reg_records.specs.KeySecurities.{KeySecurityRecord}
 use Rattle.reg_shape.specs.Nodes.{members_at}
+use Rattle.reg_shape.specs.Whole.{descriptor_at}
 use Rattle.reg_values.specs.ValueLists.{Tells}
 use Rattle.reg_values.proofs.ValueData.CellSizeTotals.{value-name}
 use Rattle.reg_tree.specs.Internal.KeyNodeChanges.{HasList}
 use Rattle.reg_tree.specs.Internal.TreeInvariant.{IsHere}
 use Rattle.reg_tree.proofs.InsertKey.PathGrowth.{name_short}
-use Rattle.reg_tree.proofs.Invariant.CellReadings.{key-fields, security-read_is}
+use Rattle.reg_tree.proofs.Invariant.CellReadings.{key-fields}
 use Rattle.reg_tree.proofs.Invariant.KeyOfTree.{branch, seen, key_is, list_reads}
-use Rattle.reg_tree.proofs.KeyAnswers.RefinementOfKey.{security_written, its_security}
+use Rattle.reg_tree.proofs.KeyAnswers.RefinementOfKey.{security_written}
 
 -- one of some values whose names are valid
 named : (ms : List Member) → AllByRecursion (λ (m : Member). is_value_name m.name ≡ true) ms → (index : ℕ) (m : Member) → slice_get ms index ≡ Some m → is_value_name m.name ≡ true
@@ -35,11 +37,10 @@ module _ (bytes : List ℕ) (key : ℕ) (t : IsHere bytes key) where
       subst (λ (name : List ℕ). length name ≤ KEY_NAME_LIMIT) (sym same) (name_short (branch bytes key t).node.key.name (seen bytes key t).written.name)
 
   pub descriptor-bound : (fields : KeyFields) → ((k : KeyRecord) → key_at (cell_at bytes) key ≡ Some k → fields ≡ k.fields) →
-      (content : List ℕ) (read : KeySecurityRecord) → cell_at bytes fields.security ≡ Some content → sk_of content ≡ Ok read →
-      length read.descriptor ≤ DESCRIPTOR_LIMIT
-  descriptor-bound fields are content read here reads =
+      (told : List ℕ) → descriptor_at (cell_at bytes) fields.security ≡ Some told → length told ≤ DESCRIPTOR_LIMIT
+  descriptor-bound fields are told has =
       let security = security_written bytes key t fields are in
-      let same = ap (λ (s : KeySecurityRecord). s.descriptor) (security-read_is (cell_at bytes) fields.security content security.security read (its_security bytes key t fields are) here reads) in
+      let same = same_Some _ _ (sym has ∙ ap (option_map (λ (s : KeySecurityRecord). s.descriptor)) security.reads) in
       subst (λ (descriptor : List ℕ). length descriptor ≤ DESCRIPTOR_LIMIT) (sym same) security.short
 
   pub value-bound : (count offset : ℕ) → HasList (cell_at bytes) key count offset → (index : ℕ) (told : List ℕ) (kind size : ℕ) →

@@ -1,7 +1,7 @@
 -- What is told of a key: its name, time, marks, descriptor and subkeys.
 use Rattle.std.proofs.Common.{◌≡◌, ℕ, zero, suc, ◌+◌, ◌≤◌, ◌<◌, Option, Some, None, IsSome, List, [], ◌∷◌, ◌++◌, map, length, get_or, refl, sym, ap, ◌∙◌, subst, arith, length-append}
 use Rattle.std.specs.Prelude.{Ok, unwrap_or}
-use Rattle.std.specs.Option.{option_map, option_and_then}
+use Rattle.std.specs.Option.{option_and_then}
 use Rattle.std.specs.List.{AllByRecursion}
 use Rattle.std.specs.FinMap.{get}
 use Rattle.std.proofs.lemmas.List.{length-map}
@@ -14,11 +14,12 @@ use Rattle.reg_shape.specs.Internal.Forests.Forest.{End, Rooted as Hangs}
 use Rattle.reg_arena.specs.Cells.{cell_at}
 use Rattle.reg_records.specs.declared.nk.KeyFields.{KeyFields}
 use Rattle.reg_records.specs.KeyNodes.{KeyRecord, key_at, nk_of}
-use Rattle.reg_records.specs.KeySecurities.{KeySecurityRecord, security_at, sk_of}
+use Rattle.reg_records.specs.KeySecurities.{security_at}
 use Rattle.reg_records.specs.SubkeyLists.{Entry}
 use Rattle.reg_shape.specs.Nodes.{Node, entries_of}
 use Rattle.reg_shape.specs.Spelt.{rec_of, name_of, marks_of}
 use Rattle.reg_shape.specs.Internal.Shapes.{descriptor_in, IsSeen}
+use Rattle.reg_shape.specs.Whole.{descriptor_at}
 use Rattle.reg_shape.specs.Written.{Fits, IsWrittenSecurity}
 use Rattle.reg_shape.specs.PathLookup.{key_offset_at, subkey_named}
 use Rattle.reg_shape.proofs.Wholeness.ShapeRecords.{all-at}
@@ -32,7 +33,7 @@ use Rattle.reg_tree.specs.TreeKeys.{tree_in}
 use Rattle.reg_tree.specs.Internal.TreeInvariant.{IsHere}
 use Rattle.reg_tree.specs.Internal.PathWalks.{IsSubkey}
 use Rattle.reg_tree.specs.Internal.KeyNodeChanges.{HasSubkeysList}
-use Rattle.reg_tree.proofs.Invariant.CellReadings.{is_some_of, key-fields, security-read_is}
+use Rattle.reg_tree.proofs.Invariant.CellReadings.{is_some_of, key-fields}
 use Rattle.reg_tree.proofs.Invariant.KeyOfShape as keyed
 use Rattle.reg_tree.proofs.Invariant.KeyOfTree.{spelt_is, branch, branch_is, offset, stands, seen, key_is, rec_there}
 use Rattle.reg_tree.proofs.PathWalk.SubkeysFound.{subkeys}
@@ -84,19 +85,14 @@ module _ (bytes : List ℕ) (key : ℕ) (t : IsHere bytes key) where
         (all-at (IsWrittenSecurity h) t.holds.ring node.key.fields.security t.holds.shape.closed.written
         (keyed.secured h t.root t.holds.keys t.holds.ring [] t.holds.shape t.path key t.at))
 
-    pub its_security : security_at h fields.security ≡ Some security_written.security
-    its_security = security_written.reads
-
     pub security_told : IsSome (security_at h fields.security)
-    security_told = is_some_of _ _ its_security
+    security_told = is_some_of _ _ security_written.reads
 
-    pub descriptor_told : (content : List ℕ) (read : KeySecurityRecord) → h fields.security ≡ Some content → sk_of content ≡ Ok read → (r : Rec) →
-        get tree t.path ≡ Some r → read.descriptor ≡ r.descriptor
-    descriptor_told content read here reads r e =
-        ap (λ (s : KeySecurityRecord). s.descriptor) (security-read_is h fields.security content security_written.security read its_security here reads)
-        ∙ (sym (ap (λ (o : Option KeySecurityRecord). unwrap_or (option_map (λ (s : KeySecurityRecord). s.descriptor) o) []) its_security)
+    pub descriptor_told : (told : List ℕ) → descriptor_at h fields.security ≡ Some told → (r : Rec) → get tree t.path ≡ Some r → told ≡ r.descriptor
+    descriptor_told told has r e =
+        sym (ap (λ (o : Option (List ℕ)). unwrap_or o []) has)
         ∙ (ap (λ (f : KeyFields). descriptor_in h f.security) (are node.key (key_is bytes key t))
-        ∙ ap (λ (r : Rec). r.descriptor) (is-rec r e)))
+        ∙ ap (λ (r : Rec). r.descriptor) (is-rec r e))
 
   -- ---- its subkeys
 

@@ -1,11 +1,11 @@
 -- A key taken out of its parent's subkeys, its cells given up, and the tree without it.
-use Rattle.std.specs.Prelude.{◌≡◌, ◌≢◌, ℕ, ◌<◌, ◌≤◌, List, [], length, get_or, Some}
+use Rattle.std.specs.Prelude.{◌≡◌, ◌≢◌, ℕ, ◌<◌, ◌≤◌, false, List, [], length, get_or, Some}
 use Rattle.reg_heap.specs.Paths.{Path, children_of}
 use Rattle.reg_heap.specs.Heaps.{Heap, allocated}
 use Rattle.reg_heap.specs.Kinds.{owned}
 use Rattle.reg_heap.specs.Kinds.Kind.{Class}
 use Rattle.reg_shape.specs.Readings.{Reading}
-use Rattle.reg_heap.specs.Edits.{without_key}
+use Rattle.reg_heap.specs.Edits.{without_key, without_tree, emptied, is_within, is_under}
 use Rattle.reg_arena.specs.Cells.{cell_at}
 use Rattle.reg_records.specs.declared.nk.KeyFields.{KeyFields}
 use Rattle.reg_records.specs.KeyNodes.{KeyRecord, key_at}
@@ -57,3 +57,17 @@ pub record IsDeleted (old new : List ℕ) (root : ℕ) (table : DescriptorCells)
 -- a key that isn't the root, and has no subkeys
 abbrev pub IsLone : (bytes : List ℕ) → (key : ℕ) → IsHere bytes key → Type 0
 IsLone bytes key t = (t.path ≢ []) × (children_of (tree_in bytes t.root) t.path ≡ [])
+
+-- the key at a path was deleted with all keys below it, and nothing else of the tree changed but the time of the key above; each
+-- other key stays where it stands
+pub record IsPruned (old new : List ℕ) (root : ℕ) (table : DescriptorCells) (path : Path) (moment : ℕ) : Type 0 where
+  pub holds : TreeInvariant new root table
+  pub tree : tree_in new root ≡ without_tree (tree_in old root) path moment
+  pub offsets : (other : Path) → is_within path other ≡ false → key_offset_at (cell_at new) root other ≡ key_offset_at (cell_at old) root other
+
+-- all keys below the one at a path were deleted, and its values, and nothing else of the tree changed but its time; it and each other
+-- key stay where they stand
+pub record IsEmptied (old new : List ℕ) (root : ℕ) (table : DescriptorCells) (path : Path) (moment : ℕ) : Type 0 where
+  pub holds : TreeInvariant new root table
+  pub tree : tree_in new root ≡ emptied (tree_in old root) path moment
+  pub offsets : (other : Path) → is_under path other ≡ false → key_offset_at (cell_at new) root other ≡ key_offset_at (cell_at old) root other

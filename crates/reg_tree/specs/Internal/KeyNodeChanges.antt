@@ -5,7 +5,6 @@ use Rattle.reg_heap.specs.Heaps.{Heap}
 use Rattle.reg_heap.specs.Kinds.{times}
 use Rattle.reg_records.specs.RecordCells.{held}
 use Rattle.reg_records.specs.KeyNodes.{KeyRecord, key_at, IsPlainKey}
-use Rattle.reg_records.specs.KeySecurities.{KeySecurityRecord, security_at, IsPlainSecurity}
 use Rattle.reg_records.specs.declared.nk.KeyFields.{KeyFields}
 pub use Rattle.reg_tree.specs.KeyLengths.{raised}
 
@@ -62,13 +61,6 @@ HasList heap cell count offset = (key : KeyRecord) → key_at heap cell ≡ Some
 -- a key node names a list of so many subkeys
 abbrev pub HasSubkeysList : Heap → ℕ → ℕ → ℕ → Type 0
 HasSubkeysList heap cell count offset = (key : KeyRecord) → key_at heap cell ≡ Some key → (count ≡ key.fields.subkeys) × (offset ≡ key.fields.subkeys_list)
-
--- a key security counts more keys or fewer, and no other cell changed
-pub record Recounts (old new : Heap) (cell : ℕ) (change : ℕ → ℕ) : Type 0 where
-  pub reads : (s : KeySecurityRecord) → security_at old cell ≡ Some s →
-      security_at new cell ≡ Some (record s { fields = record s.fields { count = change s.fields.count } })
-  pub plain : IsPlainSecurity (held old cell) → IsPlainSecurity (held new cell)
-  pub others : (offset : ℕ) → offset ≢ cell → new offset ≡ old offset
 
 -- the same cells are there, and each holds as many bytes
 abbrev pub SameSizes : Heap → Heap → Type 0

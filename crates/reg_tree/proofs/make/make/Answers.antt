@@ -1,16 +1,11 @@
+use Rattle.std.proofs.Common.{◌∙◌}
 use Rattle.reg_tree.proofs.Invariant.CellReadings.{is_some_of}
-use Rattle.reg_tree.proofs.InsertKey.InsertKeyObligations.{key_there, security_there, users_few, some_subkeys, belongs, few_subkeys, inserts, ready1, parent2, security3, grown}
-use Rattle.reg_tree.proofs.InsertKey.MadeCells.{written_sizes, made_keeps, made_leaves}
+use Rattle.reg_tree.proofs.InsertKey.InsertKeyObligations.{key_there, some_subkeys, belongs, few_subkeys, inserts, ready1, parent2, security3, users_few3, grown}
+use Rattle.reg_tree.proofs.InsertKey.MadeCells.{written_sizes, shared_sizes, made_keeps, made_leaves}
 use Rattle.reg_tree.proofs.make.make.Goals as goal
 
 pub fields-above-requires : goal.fields-above-requires
 fields-above-requires c = key_there _ _ _ _ _ _ c.requires.grow.1
-
-pub with_one_more-users-requires-clause-there : goal.with_one_more-users-requires-clause-there
-with_one_more-users-requires-clause-there c = security_there _ _ _ _ _ _ c.requires.grow.1 _ c.fields-above.ensures
-
-pub with_one_more-users-requires-clause-few : goal.with_one_more-users-requires-clause-few
-with_one_more-users-requires-clause-few c = users_few _ _ _ _ _ _ c.requires.grow.1 _ c.fields-above.ensures
 
 pub insert-list-requires-clause-subkeys : goal.insert-list-requires-clause-subkeys
 insert-list-requires-clause-subkeys c =
@@ -29,10 +24,16 @@ note_subkeys-requires-clause-exists c =
     parent2 _ _ _ _ _ _ c.requires.grow.1 _ c.fields-above.ensures _ c.put_nk.ensures.written.others (is_some_of _ _ c.put_nk.ensures.written.here) _ c.put_nk.ensures.reads
     _ c.insert-list.result.count c.insert-list.result.offset c.insert-list.ensures.moves
 
-pub recount-requires : goal.recount-requires
-recount-requires c =
+pub share-requires-clause-there : goal.share-requires-clause-there
+share-requires-clause-there c =
     security3 _ _ _ _ _ _ c.requires.grow.1 _ c.fields-above.ensures _ c.put_nk.ensures.written.others (is_some_of _ _ c.put_nk.ensures.written.here) _ c.put_nk.ensures.reads
     _ c.insert-list.result.count c.insert-list.result.offset c.insert-list.ensures.moves _ c.args.moment c.note_subkeys.ensures.notes
+
+pub share-requires-clause-few : goal.share-requires-clause-few
+share-requires-clause-few c =
+    users_few3 _ _ _ _ _ _ c.requires.grow.1 _ c.fields-above.ensures _ c.put_nk.ensures.written.others (is_some_of _ _ c.put_nk.ensures.written.here) _ c.put_nk.ensures.reads
+    _ c.insert-list.result.count c.insert-list.result.offset c.insert-list.ensures.moves _ c.args.moment c.note_subkeys.ensures.notes
+    _ (c.note_subkeys.ensures.long ∙ (c.insert-list.ensures.long ∙ c.put_nk.ensures.written.long))
 
 pub returns-clause-grows : goal.returns-clause-grows
 returns-clause-grows c = λ left m.
@@ -40,16 +41,22 @@ returns-clause-grows c = λ left m.
     _ c.insert-list.result.count c.insert-list.result.offset c.insert-list.ensures.moves _ c.args.moment c.note_subkeys.ensures.notes
     _ c.requires.name.0 c.requires.name.1 c.new_key.ensures c.put_nk.ensures.plain c.args.index
     (belongs _ _ _ _ _ _ m _ c.fields-above.ensures c.args.index c.requires.place) c.insert-list.ensures.subkeys c.insert-list.ensures.count
-    c.with_one_more-users.result c.with_one_more-users.ensures c.recount.ensures.recounts
+    c.share.ensures.recounts
 
 pub returns-clause-keeps : goal.returns-clause-keeps
 returns-clause-keeps c =
-    made_keeps _ _ _ _ _ (written_sizes _ _ c.args.key _ c.requires.room.exists c.put_nk.ensures.written) c.insert-list.ensures.keeps c.note_subkeys.ensures.sizes c.recount.ensures.sizes
+    let there = security3 _ _ _ _ _ _ c.requires.grow.1 _ c.fields-above.ensures _ c.put_nk.ensures.written.others (is_some_of _ _ c.put_nk.ensures.written.here) _ c.put_nk.ensures.reads
+    _ c.insert-list.result.count c.insert-list.result.offset c.insert-list.ensures.moves _ c.args.moment c.note_subkeys.ensures.notes in
+    made_keeps _ _ _ _ _ (written_sizes _ _ c.args.key _ c.requires.room.exists c.put_nk.ensures.written) c.insert-list.ensures.keeps c.note_subkeys.ensures.sizes
+    (shared_sizes _ _ c.fields-above.result.security _ there c.share.ensures.written)
 
 pub returns-clause-leaves : goal.returns-clause-leaves
 returns-clause-leaves c =
     let subkeys = inserts _ _ _ _ _ _ c.requires.grow.1 _ c.fields-above.ensures _ c.put_nk.ensures.written.others
     (is_some_of _ _ c.put_nk.ensures.written.here) _ c.put_nk.ensures.reads c.args.index (belongs _ _ _ _ _ _ c.requires.grow.1 _ c.fields-above.ensures c.args.index c.requires.place) in
-    made_leaves _ _ _ _ _ (written_sizes _ _ c.args.key _ c.requires.room.exists c.put_nk.ensures.written) c.insert-list.ensures.keeps c.note_subkeys.ensures.sizes c.recount.ensures.sizes
+    let there = security3 _ _ _ _ _ _ c.requires.grow.1 _ c.fields-above.ensures _ c.put_nk.ensures.written.others (is_some_of _ _ c.put_nk.ensures.written.here) _ c.put_nk.ensures.reads
+    _ c.insert-list.result.count c.insert-list.result.offset c.insert-list.ensures.moves _ c.args.moment c.note_subkeys.ensures.notes in
+    made_leaves _ _ _ _ _ (written_sizes _ _ c.args.key _ c.requires.room.exists c.put_nk.ensures.written) c.insert-list.ensures.keeps c.note_subkeys.ensures.sizes
+    (shared_sizes _ _ c.fields-above.result.security _ there c.share.ensures.written)
     c.args.parent _ c.fields-above.ensures (some_subkeys _ _ _ _ _ _ c.requires.grow.1 _ c.fields-above.ensures) (subkeys.0, subkeys.1) c.insert-list.result.count c.insert-list.result.offset _
     (_, c.insert-list.ensures.subkeys subkeys.0 subkeys.1) c.insert-list.ensures.moves c.insert-list.ensures.count c.insert-list.ensures.place

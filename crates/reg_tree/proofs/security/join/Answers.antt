@@ -1,7 +1,6 @@
 use Rattle.std.proofs.Common.{sym}
 use Rattle.reg_tree.proofs.DescribeKey.SecurityJoined.{joined-new, joined-there, few-users, is-there, new-room, new-sizes}
-use Rattle.reg_tree.proofs.InsertKey.MadeCells.{written_sizes}
-use Rattle.reg_tree.proofs.Invariant.CellReadings.{is_some_of, security-exists}
+use Rattle.reg_tree.proofs.InsertKey.MadeCells.{shared_sizes}
 use Rattle.reg_tree.proofs.security.join.Goals as goal
 
 pub returns-in-Some-clause-joins : goal.returns-in-Some-clause-joins
@@ -29,8 +28,6 @@ returns-clause-joins c = λ key d near.
 pub returns-clause-sizes : goal.returns-clause-sizes
 returns-clause-sizes c =
     let here = c.requires.ring in
-    let there =
-    is-there c.args.arena.now.bytes here.0 c.args.securities.now c.args.descriptor.now c.in-Some-find_equal.cell
-    (sym c.in-Some-find_equal.ensures.noted) c.args.cell c.in_default.is here.1
-    in
-    written_sizes _ _ c.in-Some-find_equal.cell _ (security-exists _ c.in-Some-find_equal.cell (is_some_of _ _ there.1)) (c.share.ensures.written there.0 there.1)
+    shared_sizes _ _ c.in-Some-find_equal.cell _
+    (is-there c.args.arena.now.bytes here.0 c.args.securities.now c.args.descriptor.now c.in-Some-find_equal.cell
+    (sym c.in-Some-find_equal.ensures.noted) c.args.cell c.in_default.is here.1) c.share.ensures.written
