@@ -11,7 +11,7 @@ use Rattle.reg_model.specs.declared.reply.ChangeReply.{ChangeReply}
 use Rattle.reg_model.specs.declared.call.Change.{Change}
 use Rattle.reg_calls.specs.declared.store.Store.{Store}
 use Rattle.reg_calls.specs.declared.changes.Admitted.{Admitted}
-use Rattle.reg_calls.specs.declared.changes.Admitted.TheVariants.{OpenRoot, OpenKey, CreateKey, SetValue, DeleteValue, DeleteKey, SetSecurity, Close}
+use Rattle.reg_calls.specs.declared.changes.Admitted.TheVariants.{OpenRoot, OpenKey, CreateKey, SetValue, DeleteValue, DeleteKey, DeleteTree, SetSecurity, Close}
 use Rattle.reg_calls.specs.declared.refusal.Refusal.{Refusal}
 use Rattle.reg_calls.specs.declared.refusal.Refusal.TheVariants.{Cause, Memory}
 use Rattle.reg_calls.specs.declared.lack.Lack.{Lack}
@@ -31,6 +31,7 @@ admits-clear entries store session change (CreateKey found) a = subst (IsClear e
 admits-clear entries store session change (SetValue found) a = subst (IsClear entries store session) (sym a.1) a.2.clear
 admits-clear entries store session change (DeleteValue found) a = subst (IsClear entries store session) (sym a.2) a.3.clear
 admits-clear entries store session change (DeleteKey found) a = subst (IsClear entries store session) (sym a.2) a.3.clear
+admits-clear entries store session change (DeleteTree found) a = subst (IsClear entries store session) (sym a.2) a.3.clear
 admits-clear entries store session change (SetSecurity found) a = subst (IsClear entries store session) (sym a.1) a.2.clear
 admits-clear entries store session change (Close found) a = subst (IsClear entries store session) (sym a.0) a.1
 

@@ -1,14 +1,14 @@
 -- A hive's tables are what its journal says, and stay so after one accepted change more.
 use Rattle.std.proofs.Common.{◌≡◌, ℕ, ◌+◌, ◌<◌, ◌≤◌, Bool, true, false, not, nat_le, eqb, cond, is_some, List, [], ◌∷◌, ◌++◌, length, Option, Some, None, refl, sym, ap, ◌∙◌, subst, arith}
 use Rattle.std.proofs.Common.{length-append, true≢false}
-use Rattle.std.specs.Prelude.{All, Err}
+use Rattle.std.specs.Prelude.{All, Err, ◌==◌}
 use Rattle.std.specs.List.{AllByRecursion}
 use Rattle.std.proofs.lemmas.List.{length-map}
 use Rattle.std.proofs.lemmas.Bool.{false≢true}
 use Rattle.std.proofs.lemmas.Bool.Decides.{nat_tests}
-use Rattle.reg_heap.specs.Paths.{Tree}
+use Rattle.reg_heap.specs.Paths.{Path, Tree}
 use Rattle.reg_model.specs.declared.limits.TheConstants.{HANDLES_LIMIT, JOURNAL_LIMIT, SESSIONS_LIMIT}
-use Rattle.reg_model.specs.Worlds.{World, Handle, IsStanding, look, numbered, owned, closed, turned, path_from, after}
+use Rattle.reg_model.specs.Worlds.{World, Handle, IsStanding, look, numbered, owned, closed, turned, path_at, path_from, without_branch, without_contents, after}
 use Rattle.reg_model.specs.Causes.{State, change_cause, is_full, no_handle_room, handles_of}
 use Rattle.reg_model.specs.Callbacks.{no_callbacks}
 use Rattle.reg_model.specs.Replies.{reply_to}
@@ -17,10 +17,10 @@ use Rattle.reg_model.specs.Histories.{state_of, replay, IsFit}
 use Rattle.reg_model.specs.declared.reply.Entry.{Entry}
 use Rattle.reg_model.specs.declared.reply.ChangeReply.{ChangeReply}
 use Rattle.reg_model.specs.declared.call.Change.{Change}
-use Rattle.reg_model.specs.declared.call.Change.TheVariants.{OpenRoot, OpenKey, CreateKey, SetValue, DeleteValue, DeleteKey, SetSecurity, Close}
+use Rattle.reg_model.specs.declared.call.Change.TheVariants.{OpenRoot, OpenKey, CreateKey, SetValue, DeleteValue, DeleteKey, DeleteTree, SetSecurity, Close}
 use Rattle.reg_model.proofs.JournalGrowth.{replay-push, legal-push}
 use Rattle.reg_model.proofs.LegalJournals.{is_standing, handles-below}
-use Rattle.reg_model.proofs.AcceptedCalls.{both_false, root-met, open-met, create-met, set-met, drop-met, delete-met, secure-met, close-met}
+use Rattle.reg_model.proofs.AcceptedCalls.{both_false, root-met, open-met, create-met, set-met, drop-met, delete-met, delete-tree-met, secure-met, close-met}
 use Rattle.reg_arena.specs.Arena.{IsSound}
 use Rattle.reg_tree.specs.TreeKeys.{IsWholeTree}
 use Rattle.reg_calls.specs.declared.store.Store.{Store}
@@ -101,6 +101,11 @@ fits-same s change hs same opens room =
     let f = not_full 1 s room in
     record { small = omega (arith, f, same); grown = omega (arith, same); closing = λ c. absurd (true≢false (sym c ∙ opens)) }
 
+-- a whole tree deleted leaves as many handles
+tree-length : (b : Bool) (w : World) (p q : Path) (moment : ℕ) → length (World.handles (cond b (without_contents w p moment) (without_branch w q moment))) ≡ length w.handles
+tree-length true w p q moment = length-map w.handles _
+tree-length false w p q moment = length-map w.handles _
+
 fits : (s : State) (e : Entry) → s.kept + length s.world.handles ≤ JOURNAL_LIMIT → change_cause s e.session e.change 0 ≡ None → Fits s e.change (after s.world e).handles
 unfolding after
 fits s e small = elim e.change as (λ (change : Change). change_cause s e.session change 0 ≡ None → Fits s change (after s.world (record e { change = change })).handles) [
@@ -111,6 +116,9 @@ fits s e small = elim e.change as (λ (change : Change). change_cause s e.sessio
   | DeleteValue h name ↦ λ none. let m = drop-met s e.session h name 0 none in fits-same s (DeleteValue h name) s.world.handles refl refl m.room
   | DeleteKey h path ↦ λ none. let m = delete-met s e.session h path 0 none in
       fits-same s (DeleteKey h path) (turned (path_from e.session h s.world.handles path) s.world.handles) (length-map s.world.handles _) refl m.room
+  | DeleteTree h path ↦ λ none. let m = delete-tree-met s e.session h path 0 none in
+      fits-same s (DeleteTree h path) _
+      (tree-length (length path == 0) s.world (path_at e.session h s.world.handles) (path_from e.session h s.world.handles path) e.moment) refl m.room
   | SetSecurity h descriptor ↦ λ none. let m = secure-met s e.session h descriptor 0 none in
       fits-same s (SetSecurity h descriptor) s.world.handles refl refl m.room
   | Close h ↦ λ none. let l = closed-fewer e.session h s.world.handles (close-met s e.session h 0 none) in

@@ -127,3 +127,12 @@ module _ (store : Store) (known : KnowsKeys store) where
       by text other false is e =
           keeps (path_of text) other (known text other (sym (cond-false _ _ _ is) ∙ sym (marked text) ∙ e))
           (λ same. false≢true (sym is ∙ (bytes_decides path text).1 (sym (path_of-one text path same))))
+
+  -- keys that were deleted, whose paths pass a test
+  pub past_known : (keys : Keys) (table : Table Node) (gone : Path → Bool) → ((q : Path) (other : Node) → IsAt store.tree q other → gone q ≡ false → IsAt keys q other) →
+      ((text : List ℕ) → payload_on table text ≡ cond (gone (path_of text)) None (kept text)) → KnowsKeys (record { tree = keys; handles = table })
+  past_known keys table gone keeps marked = λ text other e. by text other (gone (path_of text)) refl e
+    where
+      by : (text : List ℕ) (other : Node) (b : Bool) → gone (path_of text) ≡ b → payload_on table text ≡ Some other → IsAt keys (path_of text) other
+      by text other true is e = absurd (none_some _ other (marked text ∙ cond-true _ _ _ is) e)
+      by text other false is e = keeps (path_of text) other (known text other (sym (cond-false _ _ _ is) ∙ sym (marked text) ∙ e)) is

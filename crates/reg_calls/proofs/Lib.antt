@@ -1,6 +1,7 @@
 pub mod RunSteps
 pub mod HandleLookUps
 pub mod FoundPaths
+pub mod FoundTrees
 pub mod KnownKeys
 pub mod RefusalTests
 pub mod TableAndLimitLemmas

@@ -2,8 +2,9 @@
 use Rattle.std.proofs.Common.{◌≡◌, ◌≢◌, ℕ, true, false, not, ◌||◌, is_some, List, ◌++◌, Option, Some, None, refl, sym, ap, ◌∙◌, arith}
 use Rattle.std.specs.Prelude.{bit_and}
 use Rattle.std.specs.FinMap.{get}
+use Rattle.std.proofs.lemmas.Bool.{eq-eqb}
 use Rattle.std.proofs.lemmas.Bool.Decides.{nat_tests}
-use Rattle.reg_names.specs.Names.{is_value_name, path_of}
+use Rattle.reg_names.specs.Names.{is_value_name, is_path, path_of}
 use Rattle.reg_heap.specs.Paths.{Path}
 use Rattle.reg_heap.specs.Members.{value_named}
 use Rattle.reg_heap.specs.Edits.{values_at, folded_path, are_too_many, may_not_go}
@@ -11,10 +12,11 @@ use Rattle.reg_model.specs.declared.rights.TheConstants.{SET_VALUE, WRITE_DAC}
 use Rattle.reg_model.specs.declared.statuses.TheConstants.{ACCESS_DENIED, FILE_NOT_FOUND, INVALID_PARAMETER, NO_SYSTEM_RESOURCES}
 use Rattle.reg_model.specs.Worlds.{Handle, look, path_at, path_from}
 use Rattle.reg_model.specs.Causes.{State, early_cause, late_cause, change_cause, refuse, ◌or◌, asked, is_mask, is_bad_value, is_bad_open, is_bad_target, no_handle_room, no_key_room}
-use Rattle.reg_model.specs.Causes.{is_bad_descriptor, is_bad_given, no_value_room, lacks_value, lacks_key, has, is_full, by_handle}
-use Rattle.reg_model.specs.declared.call.Change.TheVariants.{OpenRoot, OpenKey, CreateKey, SetValue, DeleteValue, DeleteKey, SetSecurity, Close}
+use Rattle.reg_model.specs.Causes.{is_bad_descriptor, is_bad_given, no_value_room, lacks_value, lacks_key, tree_rights, has, is_full, by_handle}
+use Rattle.reg_model.specs.declared.call.Change.TheVariants.{OpenRoot, OpenKey, CreateKey, SetValue, DeleteValue, DeleteKey, DeleteTree, SetSecurity, Close}
 use Rattle.reg_calls.specs.declared.store.Store.{Store}
 use Rattle.reg_calls.specs.Internal.Stores.{at, IsTarget}
+use Rattle.reg_calls.specs.Internal.DeletedTrees.{keeps_tree}
 use Rattle.reg_calls.proofs.HandleLookUps.{by_handle-at, target-at, target-from}
 
 abbrev pub Refuses : Store → ℕ → ℕ → ℕ → Type 0
@@ -138,6 +140,33 @@ module _ (n : ℕ) (store : Store) (session h : ℕ) where
       (by_handle-at store session h g (λ x. refuse (is_bad_target path) INVALID_PARAMETER or refuse (is_full 1 s) NO_SYSTEM_RESOURCES))
       ∙ ap (λ (q : Path). refuse (is_bad_target path) INVALID_PARAMETER or refuse (is_full 1 s) NO_SYSTEM_RESOURCES or asked 0 or
       (refuse (not (is_some (get store.tree.tree q))) FILE_NOT_FOUND or refuse (may_not_go store.tree.tree q) ACCESS_DENIED)) (target-from store session h g path)
+
+  -- ---- DeleteTree
+
+  pub tree-refused : (path : List ℕ) (status : ℕ) → Refuses store session h status → change_cause s session (DeleteTree h path) 0 ≡ Some status
+  unfolding early_cause late_cause
+  tree-refused path status r =
+      first _ _ _ status (r (λ x. refuse (not (is_path path)) INVALID_PARAMETER or refuse (not (has (tree_rights path) x.mask)) ACCESS_DENIED or refuse
+      (is_full 1 s) NO_SYSTEM_RESOURCES))
+
+  pub tree-causes : (path : List ℕ) (mask : ℕ) (g : t) → mask ≡ g.handle.mask →
+      change_cause s session (DeleteTree h path) 0 ≡ (refuse (not (is_path path)) INVALID_PARAMETER or refuse (not (has (tree_rights path) mask)) ACCESS_DENIED or refuse
+      (is_full 1 s) NO_SYSTEM_RESOURCES or asked 0 or keeps_tree store.tree.tree g.path path)
+  unfolding early_cause late_cause
+  tree-causes path mask g m =
+      ap (λ (a : Option ℕ). a or asked 0 or keeps_tree store.tree.tree (path_at session h store.handles.handles) path)
+      (by_handle-at store session h g (λ x. refuse (not (is_path path)) INVALID_PARAMETER or refuse (not (has (tree_rights path) x.mask)) ACCESS_DENIED or refuse
+      (is_full 1 s) NO_SYSTEM_RESOURCES))
+      ∙ (ap (λ (q : Path). refuse (not (is_path path)) INVALID_PARAMETER or refuse (not (has (tree_rights path) g.handle.mask)) ACCESS_DENIED or refuse
+      (is_full 1 s) NO_SYSTEM_RESOURCES or asked 0 or keeps_tree store.tree.tree q path) (target-at store session h g)
+      ∙ ap (λ (k : ℕ). refuse (not (is_path path)) INVALID_PARAMETER or refuse (not (has (tree_rights path) k)) ACCESS_DENIED or refuse
+      (is_full 1 s) NO_SYSTEM_RESOURCES or asked 0 or keeps_tree store.tree.tree g.path path) (sym m))
+
+  pub tree-clear : (path : List ℕ) (mask : ℕ) (g : t) → mask ≡ g.handle.mask → is_path path ≡ true → bit_and mask (tree_rights path) ≡ tree_rights path →
+      is_full 1 s ≡ false → keeps_tree store.tree.tree g.path path ≡ None → change_cause s session (DeleteTree h path) 0 ≡ None
+  tree-clear path mask g m good rights room goes =
+      let right : has (tree_rights path) mask ≡ true = eq-eqb _ _ rights in
+      tree-causes path mask g m ∙ rw (good, right, room, goes) refl
 
   -- ---- SetSecurity
 

@@ -2,18 +2,20 @@
 use Rattle.std.proofs.Common.{◌≡◌, ◌≢◌, ℕ, ◌+◌, ◌<◌, ◌≤◌, Bool, true, false, not, nat_lt, nat_le, cond, is_some, List, [], ◌∷◌, ◌++◌, length, Option}
 use Rattle.std.proofs.Common.{Some, None, refl, sym, ap, ◌∙◌, subst, arith}
 use Rattle.std.specs.Prelude.{Err, IfSome, option_map, ◌==◌}
+use Rattle.std.proofs.lemmas.Bool.{cond-true, cond-false}
 use Rattle.std.proofs.lemmas.Bool.Decides.{nat_tests}
 use Rattle.reg_model.specs.declared.limits.TheConstants.{HANDLES_LIMIT}
 use Rattle.reg_heap.specs.declared.limits.TheConstants.{DATA_LIMIT, DESCRIPTOR_LIMIT, GROWTH_BOUND}
 use Rattle.reg_names.specs.Names.{path_of, is_value_name}
 use Rattle.reg_heap.specs.Paths.{Path, Tree}
 use Rattle.reg_heap.specs.Edits.{edited, with_value, without_value, with_descriptor, child_path, has_child, if_last, with_key, with_keys, missing, without_key}
-use Rattle.reg_model.specs.Worlds.{Handle, At, look, path_at, path_from, closed, turned, after}
+use Rattle.reg_heap.specs.Edits.{is_within, is_under, without_tree, emptied}
+use Rattle.reg_model.specs.Worlds.{World, Handle, At, look, path_at, path_from, closed, turned, turned_past, without_branch, without_contents, after}
 use Rattle.reg_model.specs.Causes.{State, change_cause, handles_of, no_handle_room, is_full, is_bad_descriptor, is_bad_given}
 use Rattle.reg_model.specs.Replies.{reply_to, disposition_of}
 use Rattle.reg_model.specs.declared.reply.ChangeReply.{ChangeReply}
 use Rattle.reg_model.specs.declared.call.Change.{Change}
-use Rattle.reg_model.specs.declared.call.Change.TheVariants.{OpenRoot, OpenKey, CreateKey, SetValue, DeleteValue, DeleteKey, SetSecurity, Close}
+use Rattle.reg_model.specs.declared.call.Change.TheVariants.{OpenRoot, OpenKey, CreateKey, SetValue, DeleteValue, DeleteKey, DeleteTree, SetSecurity, Close}
 use Rattle.reg_model.proofs.AcceptedCalls.{both_false, not_false, root-met, open-met, create-met, SetMet, set-met, secure-met, close-met}
 use Rattle.reg_handles.specs.HandleTables.{Table}
 use Rattle.reg_arena.specs.Arena.{heap_of}
@@ -27,9 +29,10 @@ use Rattle.reg_tree.proofs.PathWalk.PathSteps.{some_names}
 use Rattle.reg_calls.specs.declared.store.Store.{Store}
 use Rattle.reg_calls.specs.declared.lack.Lack.{Lack}
 use Rattle.reg_calls.specs.declared.lack.Lack.TheVariants.{Space, Memory as Short}
-use Rattle.reg_calls.specs.Internal.Stores.{at, KnowsKeys, IsReady, IsDone, IsUnchanged, IsMade}
+use Rattle.reg_calls.specs.Internal.Stores.{at, world_of, KnowsKeys, IsReady, IsDone, IsUnchanged, IsMade}
 use Rattle.reg_calls.specs.Internal.Lacks.{lack_of}
 use Rattle.reg_calls.specs.Shortages.{LacksSpace, is_closing}
+use Rattle.reg_calls.proofs.FoundTrees.{has-names, from-nowhere}
 use Rattle.reg_calls.proofs.TableAndLimitLemmas.{not_above}
 
 -- ---- keys of which none is missing
@@ -195,6 +198,42 @@ module _ (n : ℕ) (store : Store) (session : ℕ) (ready : IsReady n store) whe
     delete-done moment keys table text names gone turn told e long known =
         let handles = turn ∙ ap (λ (p : Path). turned p hs) names in
         record { world = λ i. record { tree = gone i; handles = handles i }; reply = e; kept = omega (arith, long); grows = omega (arith, long); known = known }
+
+  -- ---- DeleteTree
+
+  module _ (h : ℕ) (path : List ℕ) (c : change_cause s session (DeleteTree h path) 0 ≡ None) where
+    abbrev gone-tree : ℕ → World
+    gone-tree moment = without_branch (world_of store) (path_from session h hs path) moment
+
+    abbrev gone-contents : ℕ → World
+    gone-contents moment = without_contents (world_of store) (path_at session h hs) moment
+
+    tree-done : (moment : ℕ) (keys : Keys) (table : Table Node) → world_of (record { tree = keys; handles = table }) ≡
+        cond (length path == 0) (gone-contents moment) (gone-tree moment) → (told : ChangeReply) → told ≡ plain → length keys.bins.bytes ≡ length store.tree.bins.bytes →
+        KnowsKeys (record { tree = keys; handles = table }) → IsDone store (record { tree = keys; handles = table }) session moment n (DeleteTree h path) told
+    unfolding after reply_to
+    tree-done moment keys table world told e long known = record { world = world; reply = e; kept = omega (arith, long); grows = omega (arith, long); known = known }
+
+    -- by a path that has names
+    pub branch-done : (moment : ℕ) (keys : Keys) (table : Table Node) (text : List ℕ) → path_of path ≢ [] → path_of text ≡ path_from session h hs path →
+        keys.tree ≡ without_tree tree (path_from session h hs path) moment → table.handles ≡ turned_past (is_within (path_of text)) hs → (told : ChangeReply) →
+        told ≡ plain → length keys.bins.bytes ≡ length store.tree.bins.bytes →
+        KnowsKeys (record { tree = keys; handles = table }) → IsDone store (record { tree = keys; handles = table }) session moment n (DeleteTree h path) told
+    branch-done moment keys table text some names gone turn told e long known =
+        let handles = turn ∙ ap (λ (p : Path). turned_past (is_within p) hs) names in
+        let world : world_of (record { tree = keys; handles = table }) ≡ gone-tree moment = λ i. record { tree = gone i; handles = handles i } in
+        tree-done moment keys table (world ∙ sym (cond-false (length path == 0) _ _ (has-names path some))) told e long known
+
+    -- by the empty path
+    pub contents-done : (moment : ℕ) (keys : Keys) (table : Table Node) (text : List ℕ) → path ≡ [] → path_of text ≡ path_from session h hs path →
+        keys.tree ≡ emptied tree (path_at session h hs) moment → table.handles ≡ turned_past (is_under (path_of text)) hs → (told : ChangeReply) →
+        told ≡ plain → length keys.bins.bytes ≡ length store.tree.bins.bytes →
+        KnowsKeys (record { tree = keys; handles = table }) → IsDone store (record { tree = keys; handles = table }) session moment n (DeleteTree h path) told
+    contents-done moment keys table text none names gone turn told e long known =
+        let own : path_of text ≡ path_at session h hs = names ∙ from-nowhere (path_at session h hs) path none in
+        let handles = turn ∙ ap (λ (p : Path). turned_past (is_under p) hs) own in
+        let world : world_of (record { tree = keys; handles = table }) ≡ gone-contents moment = λ i. record { tree = gone i; handles = handles i } in
+        tree-done moment keys table (world ∙ sym (cond-true (length path == 0) _ _ (ap (λ (x : List ℕ). length x == 0) none))) told e long known
 
   -- ---- SetSecurity
 

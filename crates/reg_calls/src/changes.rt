@@ -8,6 +8,7 @@ ghost use Rattle.reg_calls.specs.Internal.Admissions.{Admits, IsAdmission};
 use crate::close::Close;
 use crate::create_key::CreateKey;
 use crate::delete_key::DeleteKey;
+use crate::delete_tree::DeleteTree;
 use crate::delete_value::DeleteValue;
 use crate::lack::Lack;
 use crate::open_key::OpenKey;
@@ -28,6 +29,7 @@ pub enum Admitted<'a> {
     SetValue(SetValue<'a>),
     DeleteValue(DeleteValue),
     DeleteKey(DeleteKey<'a>),
+    DeleteTree(DeleteTree<'a>),
     SetSecurity(SetSecurity<'a>),
     Close(Close),
 }
@@ -128,6 +130,12 @@ impl Store {
                     Err(refusal) => Err(refusal),
                 }
             }
+            Change::DeleteTree { handle, path } => {
+                match DeleteTree::admit(self, alloc, entries, session, *handle, path.as_slice()) {
+                    Ok(found) => Ok(Admitted::DeleteTree(found)),
+                    Err(refusal) => Err(refusal),
+                }
+            }
             Change::SetSecurity { handle, descriptor } => {
                 match SetSecurity::admit(self, entries, session, *handle, descriptor.as_slice()) {
                     Ok(found) => Ok(Admitted::SetSecurity(found)),
@@ -166,6 +174,7 @@ impl Store {
             Admitted::SetValue(found) => found.commit(self, alloc, moment, number),
             Admitted::DeleteValue(found) => Ok(found.commit(self, moment, number)),
             Admitted::DeleteKey(found) => Ok(found.commit(self, moment, number)),
+            Admitted::DeleteTree(found) => Ok(found.commit(self, moment, number)),
             Admitted::SetSecurity(found) => found.commit(self, alloc, moment, number),
             Admitted::Close(found) => Ok(found.commit(self, session, number)),
         }

@@ -64,6 +64,7 @@ fn closes(change: &Change) -> bool
         | Change::SetValue { .. }
         | Change::DeleteValue { .. }
         | Change::DeleteKey { .. }
+        | Change::DeleteTree { .. }
         | Change::SetSecurity { .. } => false,
     }
 }

@@ -12,6 +12,7 @@
 //! | `SetValue` | 2 | 6; 1018; 87 name, data; 5; 1450 journal, 16,384 values, space | the value, and the key's time | `set_value.rt` |
 //! | `DeleteValue` | 2 | 6; 1018; 87 name; 5; 1450 journal; 2 no such value | the value gone, and the key's time | `delete_value.rt` |
 //! | `DeleteKey` | none | 6; 1018; 87 path; 1450 journal; 2 no key; 5 subkeys, mark 8 | the key gone, its handles dead, its parent's time | `delete_key.rt` |
+//! | `DeleteTree` | 0x10009, 0x1000B | 6; 1018; 87 path; 5; 1450 journal; 2 no key; 5 mark 8 | the same, with all keys below the key | `delete_tree.rt` |
 //! | `SetSecurity` | 0x40000 | 6; 1018; 87 descriptor; 5; 1450 journal, space | the descriptor, and the key's time | `set_security.rt` |
 //! | `Close` | none | 6 | the handle gone | `close.rt` |
 //! | `QueryValue` | 1 | 6; 1018; 87 name; 5; 2 no such value; 234 | type, size and bytes | `query_value.rt` |
@@ -23,6 +24,9 @@
 //! A change's file has its `admit`, which answers the refusal or what it found, and its `commit`, which takes just that and searches
 //! the tree no more; a question's has its `answer`. 234, of a descriptor 122, tells that the room is short, with the size.
 //!
+//! DeleteTree by the empty path asks 0x1000B and never answers 2: the handle's key stays, but loses all keys below it and its values;
+//! its time is set where it had any of them.
+//!
 //! Want of memory is 8, in place of an acceptance (never of a Close), or of an answer that holds a name or bytes. Win32 registry
 //! reference, of each call the function that its variant in reg_model names.
 #![tactic(auto)]
@@ -31,6 +35,7 @@ mod changes;
 mod close;
 mod create_key;
 mod delete_key;
+mod delete_tree;
 mod delete_value;
 mod enum_key;
 mod enum_value;

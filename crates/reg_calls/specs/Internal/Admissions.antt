@@ -1,5 +1,5 @@
 -- What each change was admitted with: what its commit takes, as admission found it in the store when the journal had so many entries.
-use Rattle.std.specs.Prelude.{◌≡◌, ◌≢◌, ◌<◌, ℕ, List, [], map, length, Some, None, Result, Ok, Err, false, true, option_copied}
+use Rattle.std.specs.Prelude.{◌≡◌, ◌≢◌, ◌<◌, ℕ, List, [], map, length, Some, None, Result, Ok, Err, false, true, option_copied, vec_len, vec_capacity}
 use Rattle.reg_names.specs.Names.{folded, is_path, path_of}
 use Rattle.reg_heap.specs.Members.{index_named}
 use Rattle.reg_heap.specs.declared.limits.TheConstants.{VALUES_LIMIT}
@@ -10,7 +10,8 @@ use Rattle.reg_model.specs.Worlds.{path_at, path_from}
 use Rattle.reg_model.specs.Causes.{change_cause}
 use Rattle.reg_model.specs.declared.call.Change.{Change}
 use Rattle.reg_model.specs.declared.call.Change.TheVariants.{OpenRoot as RootOpened, OpenKey as KeyOpened, CreateKey as KeyCreated, SetValue as ValueSet}
-use Rattle.reg_model.specs.declared.call.Change.TheVariants.{DeleteValue as ValueDeleted, DeleteKey as KeyDeleted, SetSecurity as SecuritySet, Close as Closed}
+use Rattle.reg_model.specs.declared.call.Change.TheVariants.{DeleteValue as ValueDeleted, DeleteKey as KeyDeleted, DeleteTree as TreeDeleted}
+use Rattle.reg_model.specs.declared.call.Change.TheVariants.{SetSecurity as SecuritySet, Close as Closed}
 use Rattle.reg_tree.specs.TreeKeys.{IsAt}
 use Rattle.reg_tree.specs.Reaching.{IsWalkedTo}
 use Rattle.reg_tree.specs.declared.node.Node.{Node}
@@ -20,15 +21,17 @@ use Rattle.reg_calls.specs.declared.create_key.CreateKey.{CreateKey}
 use Rattle.reg_calls.specs.declared.set_value.SetValue.{SetValue}
 use Rattle.reg_calls.specs.declared.delete_value.DeleteValue.{DeleteValue}
 use Rattle.reg_calls.specs.declared.delete_key.DeleteKey.{DeleteKey}
+use Rattle.reg_calls.specs.declared.delete_tree.DeleteTree.{DeleteTree}
 use Rattle.reg_calls.specs.declared.set_security.SetSecurity.{SetSecurity}
 use Rattle.reg_calls.specs.declared.changes.Admitted.{Admitted}
 use Rattle.reg_calls.specs.declared.changes.Admitted.TheVariants.{OpenRoot as RootAdmitted, OpenKey as KeyAdmitted, CreateKey as NewKeyAdmitted}
 use Rattle.reg_calls.specs.declared.changes.Admitted.TheVariants.{SetValue as SetAdmitted, DeleteValue as RemovalAdmitted, DeleteKey as DeletionAdmitted}
-use Rattle.reg_calls.specs.declared.changes.Admitted.TheVariants.{SetSecurity as SecurityAdmitted, Close as CloseAdmitted}
+use Rattle.reg_calls.specs.declared.changes.Admitted.TheVariants.{DeleteTree as TreeAdmitted, SetSecurity as SecurityAdmitted, Close as CloseAdmitted}
 use Rattle.reg_calls.specs.declared.refusal.Refusal.{Refusal}
 use Rattle.reg_calls.specs.declared.refusal.Refusal.TheVariants.{Cause, Memory}
 use Rattle.reg_calls.specs.Shortages.{is_closing}
 use Rattle.reg_calls.specs.Internal.Stores.{at}
+use Rattle.reg_calls.specs.Internal.DeletedTrees.{IsTreeFound}
 
 -- nothing refuses a change
 abbrev pub IsClear : ℕ → Store → ℕ → Change → Type 0
@@ -84,6 +87,15 @@ pub record AdmitsDeleteKey (entries : ℕ) (store : Store) (session handle : ℕ
   pub goes : (p : Path) → IsAt store.tree p found.reached.node → may_not_go store.tree.tree p ≡ false
   pub node : IsAt store.tree (path_from session handle store.handles.handles path) found.reached.node
 
+-- a whole tree deleted, by a path from a handle's key: the path's text, with room for a byte more, and what goes
+pub record AdmitsDeleteTree (entries : ℕ) (store : Store) (session handle : ℕ) (path : List ℕ) (found : DeleteTree) : Type 0 where
+  pub clear : IsClear entries store session (TreeDeleted handle path)
+  pub text : IsTextOf store session handle path found.text.items
+  pub room : vec_len found.text < vec_capacity found.text
+  pub from : Node
+  pub at : IsAt store.tree (path_at session handle store.handles.handles) from
+  pub target : IsTreeFound store.tree from path found.target
+
 -- the descriptor of a handle's key set: the key
 pub record AdmitsSetSecurity (entries : ℕ) (store : Store) (session handle : ℕ) (found : SetSecurity) : Type 0 where
   pub clear : IsClear entries store session (SecuritySet handle found.descriptor.now)
@@ -103,6 +115,8 @@ Admits entries store session change (RemovalAdmitted found) =
     (handle : ℕ) × (name : List ℕ) × (change ≡ ValueDeleted handle name) × AdmitsDeleteValue entries store session handle name found
 Admits entries store session change (DeletionAdmitted found) =
     (handle : ℕ) × (path : List ℕ) × (change ≡ KeyDeleted handle path) × AdmitsDeleteKey entries store session handle path found
+Admits entries store session change (TreeAdmitted found) =
+    (handle : ℕ) × (path : List ℕ) × (change ≡ TreeDeleted handle path) × AdmitsDeleteTree entries store session handle path found
 Admits entries store session change (SecurityAdmitted found) =
     (handle : ℕ) × (change ≡ SecuritySet handle found.descriptor.now) × AdmitsSetSecurity entries store session handle found
 Admits entries store session change (CloseAdmitted found) = (change ≡ Closed found.handle) × IsClear entries store session (Closed found.handle)

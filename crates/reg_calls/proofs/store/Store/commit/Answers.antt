@@ -22,6 +22,12 @@ returns-in-DeleteKey c = λ change a.
     subst (λ (x : Change). IsDone c.args.self.now c.commit-in-DeleteKey.new.store c.args.session c.args.moment c.args.number x c.commit-in-DeleteKey.result) (sym found.2)
     (c.commit-in-DeleteKey.ensures c.args.session found.0 found.1 found.3)
 
+pub returns-in-DeleteTree : goal.returns-in-DeleteTree
+returns-in-DeleteTree c = λ change a.
+    let found = subst (λ (x : Admitted). Admits c.args.number c.args.self.now c.args.session change x) c.in-DeleteTree.is a in
+    subst (λ (x : Change). IsDone c.args.self.now c.commit-in-DeleteTree.new.store c.args.session c.args.moment c.args.number x c.commit-in-DeleteTree.result) (sym found.2)
+    (c.commit-in-DeleteTree.ensures c.args.session found.0 found.1 found.3)
+
 pub returns-in-Close : goal.returns-in-Close
 returns-in-Close c = λ change a.
     let found = subst (λ (x : Admitted). Admits c.args.number c.args.self.now c.args.session change x) c.in-Close.is a in

@@ -1,0 +1,160 @@
+//! DeleteTree: a key deleted with all keys below it, or with the empty path all that a key holds.
+//!
+//! Win32 registry reference, `RegDeleteTree`.
+ghost use Rattle.std.specs.Prelude.{ℕ, List, ◌≡◌, ◌<◌, ◌≤◌, ◌++◌, true, Ok, Some, None, IfErr, IfOk, OnOk, length, map, vec_len, vec_capacity};
+ghost use Rattle.reg_names.specs.declared.TheConstants.{PATH_LIMIT};
+ghost use Rattle.reg_names.specs.Names.{is_path, path_of, folded};
+ghost use Rattle.reg_heap.specs.Paths.{Path};
+ghost use Rattle.reg_heap.specs.Edits.{folded_path};
+ghost use Rattle.reg_model.specs.Causes.{tree_rights};
+ghost use Rattle.reg_tree.specs.TreeKeys.{IsAt, IsThere};
+ghost use Rattle.reg_handles.specs.HandleTables.{IsFoldedPath};
+ghost use Rattle.reg_calls.specs.Internal.Stores.{IsReady, IsMade};
+ghost use Rattle.reg_calls.specs.Internal.Admissions.{AdmitsDeleteTree, IsNotAdmitted};
+ghost use Rattle.reg_calls.specs.Internal.DeletedTrees.{keeps_tree, IsTreeFound};
+
+use crate::refusal::Refusal;
+use crate::replies::accepted;
+use crate::store::{Store, path_below};
+use reg_model::ChangeReply;
+use reg_model::rights::{DELETE_CONTENTS, DELETE_TREE};
+use reg_model::statuses::{ACCESS_DENIED, FILE_NOT_FOUND, INVALID_PARAMETER, NO_SYSTEM_RESOURCES};
+use reg_names::check_path;
+use reg_tree::{Node, Reached, Tree};
+use std::alloc::{AllocError, Global};
+
+/// What goes of a tree.
+#[derive(Clone, Copy)]
+pub enum Target<'a> {
+    /// A key, and where it stands below its parent, with all keys below it.
+    Branch(Reached<'a>),
+    /// All keys below a key, and the key's values; the key stays.
+    Contents(Node),
+}
+
+/// What a DeleteTree was admitted with.
+#[derive(Drop)]
+pub struct DeleteTree<'a> {
+    /// The path of the key that goes, or of the one that stays, as folded text, with room for a byte more.
+    pub text: Vec<u8>,
+    /// What goes.
+    pub target: Target<'a>,
+}
+
+/// The rights that are asked: 0x1000B with the empty path, and else 0x10009.
+fn rights(path: &[u8]) -> u32
+    ensures { result ≡ tree_rights path.now }
+{
+    if path.is_empty() {
+        DELETE_CONTENTS
+    } else {
+        DELETE_TREE
+    }
+}
+
+/// What goes by a path from a key. The status of the refusal is 2 where the path isn't empty and there is no such key, and 5 where a
+/// key that would go has mark 0x08.
+fn find<'a>(tree: &Tree, from: Node, path: &'a [u8]) -> Result<Target<'a>, u32>
+    requires from { IsThere tree.now from }
+    requires path { is_path path.now ≡ true }
+    ensures refused { (p : Path) → IsAt tree.now p from → IfErr result (λ status. keeps_tree tree.now.tree p path.now ≡ Some status) }
+    ensures clear { (p : Path) → IsAt tree.now p from → OnOk result (keeps_tree tree.now.tree p path.now ≡ None) }
+    ensures found { IfOk result (λ target. IsTreeFound tree.now from path.now target) }
+{
+    if path.is_empty() {
+        if tree.is_kept_under(from) {
+            return Err(ACCESS_DENIED);
+        }
+        return Ok(Target::Contents(from));
+    }
+    let reached = tree.reach(from, path);
+    if !reached.missing.is_empty() {
+        return Err(FILE_NOT_FOUND);
+    }
+    if tree.is_kept_within(reached.node) {
+        return Err(ACCESS_DENIED);
+    }
+    Ok(Target::Branch(reached))
+}
+
+/// The path from the root to the end of a path from a key, as folded text, by that key's own, with room for a byte more, by which the
+/// table of handles finds the paths below it. Its one fault is that memory was refused.
+fn roomy_path_below(alloc: Global, above: &[u8], path: &[u8]) -> Result<Vec<u8>, AllocError>
+    requires above { IsFoldedPath above.now }
+    requires path { is_path path.now ≡ true }
+    ensures names { IfOk result (λ text. path_of text.items ≡ path_of above.now ++ folded_path path.now) }
+    ensures valid { length (path_of above.now ++ folded_path path.now) ≤ PATH_LIMIT → IfOk result (λ text. is_path text.items ≡ true) }
+    ensures folded { IfOk result (λ text. map folded (path_of text.items) ≡ path_of text.items) }
+    ensures room { IfOk result (λ text. vec_len text < vec_capacity text) }
+{
+    let mut text = path_below(alloc, above, path)?;
+    text.reserve(1)?;
+    Ok(text)
+}
+
+impl<'a> DeleteTree<'a> {
+    ghost use Rattle.reg_model.specs.declared.call.Change.TheVariants.{DeleteTree as TreeDeleted};
+
+    /// Finds what goes. Refused by 6 and 1018 for the handle, 87 for the path, 5 without the rights, 1450 where the journal is full, 2
+    /// where the path isn't empty and there is no such key, and 5 where a key that would go has mark 0x08; or for want of memory.
+    pub fn admit(
+        store: &Store,
+        alloc: Global,
+        entries: usize,
+        session: u8,
+        handle: u64,
+        path: &'a [u8],
+    ) -> Result<DeleteTree<'a>, Refusal>
+        requires { IsReady entries store.now }
+        ensures refused { IfErr result (λ refusal. IsNotAdmitted entries store.now session (TreeDeleted handle path.now) refusal) }
+        ensures admitted { IfOk result (λ found. AdmitsDeleteTree entries store.now session handle path.now found) }
+    {
+        let key = match store.key_of(session, handle) {
+            Ok(key) => key,
+            Err(status) => return Err(Refusal::Cause(status)),
+        };
+        if check_path(path).is_err() {
+            return Err(Refusal::Cause(INVALID_PARAMETER));
+        }
+        let asked = rights(path);
+        if key.mask & asked != asked {
+            return Err(Refusal::Cause(ACCESS_DENIED));
+        }
+        if store.is_full(entries) {
+            return Err(Refusal::Cause(NO_SYSTEM_RESOURCES));
+        }
+        // Callbacks will be asked here: the path is that of the handle's key.
+        let target = match find(&store.tree, key.node, path) {
+            Ok(target) => target,
+            Err(status) => return Err(Refusal::Cause(status)),
+        };
+        // Only for its clause `shallow`: no key is deeper than 512 names, so that the text is a path.
+        let _ = store.tree.root();
+        match roomy_path_below(alloc, key.path, path) {
+            Ok(text) => Ok(DeleteTree { text, target }),
+            Err(_) => Err(Refusal::Memory),
+        }
+    }
+
+    /// Deletes what goes, and turns the handles off that lead to a key of it.
+    pub fn commit(self, store: &mut Store, moment: u64, number: u64) -> ChangeReply
+        requires ready { IsReady number store.old }
+        requires admitted { (session handle : ℕ) × (path : List ℕ) × AdmitsDeleteTree number store.old session handle path self }
+        ensures { (session handle : ℕ) → (path : List ℕ) → AdmitsDeleteTree number store.old session handle path self.entry →
+            IsMade store.old store.new session moment number (TreeDeleted handle path) (Ok result) }
+    {
+        let DeleteTree { text, target } = self;
+        match target {
+            Target::Branch(reached) => {
+                store.tree.delete_tree_at(reached, moment);
+                store.handles.mark_deleted_within(text);
+                accepted(number)
+            }
+            Target::Contents(node) => {
+                store.tree.empty(node, moment);
+                store.handles.mark_deleted_under(text);
+                accepted(number)
+            }
+        }
+    }
+}
