@@ -4,7 +4,7 @@ use Rattle.hex.proofs.OnLiterals.{hex_on_literals}
 use Rattle.std.specs.Fmt.{digits}
 use Rattle.reg_model.specs.declared.call.Call.{Call}
 use Rattle.reg_model.specs.declared.call.Call.TheVariants.{Change, Query}
-use Rattle.reg_model.specs.declared.call.Change.TheVariants.{OpenRoot, OpenKey, CreateKey, SetValue, DeleteValue, DeleteKey, SetSecurity, Close}
+use Rattle.reg_model.specs.declared.call.Change.TheVariants.{OpenRoot, OpenKey, CreateKey, SetValue, DeleteValue, DeleteKey, DeleteTree, SetSecurity, Close}
 use Rattle.reg_model.specs.declared.call.Query.TheVariants.{QueryValue, EnumKey, EnumValue, QueryInfo, GetSecurity}
 use Rattle.reg_model.specs.declared.answer.AnswerBody.TheVariants.{Refused, Short, Value, Key, Member, Info, Security}
 use Rattle.reg_script.specs.declared.engine.TheConstants.{LINE_LIMIT, LINES_LIMIT}
@@ -84,6 +84,15 @@ delvalue-name = refl
 delkey-path : meaning_of (codes "delkey 3 =A") ≡ asks (Change (DeleteKey 3 (codes "A")))
 unfolding on_lines
 delkey-path = refl
+
+deltree-path : meaning_of (codes "deltree 0 =A") ≡ asks (Change (DeleteTree 0 (codes "A")))
+unfolding on_lines
+deltree-path = refl
+
+-- the empty path is that of what the handle's own key holds
+deltree-same : meaning_of (codes "deltree 0 =") ≡ asks (Change (DeleteTree 0 []))
+unfolding on_lines
+deltree-same = refl
 
 setsec-bytes : meaning_of (codes "setsec 0 x0102") ≡ asks (Change (SetSecurity 0 (1 ∷ 2 ∷ [])))
 unfolding on_lines
@@ -233,6 +242,18 @@ bad-given = refl
 bad-given_odd : meaning_of (codes "create 0 =K 983103 x010") ≡ bad
 unfolding on_lines
 bad-given_odd = refl
+
+bad-deltree_few : meaning_of (codes "deltree 0") ≡ bad
+unfolding on_lines
+bad-deltree_few = refl
+
+bad-deltree_mark : meaning_of (codes "deltree 0 K") ≡ bad
+unfolding on_lines
+bad-deltree_mark = refl
+
+bad-deltree_more : meaning_of (codes "deltree 0 =K 1") ≡ bad
+unfolding on_lines
+bad-deltree_more = refl
 
 bad-setsec_few : meaning_of (codes "setsec 0") ≡ bad
 unfolding on_lines

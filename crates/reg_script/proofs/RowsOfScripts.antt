@@ -5,14 +5,15 @@ use Rattle.std.specs.Fmt.{digits}
 use Rattle.std.specs.FinMap.{insert, empty}
 use Rattle.hex.proofs.OnLiterals.{hex_on_literals}
 use Rattle.reg_model.specs.Worlds.{after}
-use Rattle.reg_model.specs.Causes.{early_cause, late_cause, early_query_cause, late_query_cause}
+use Rattle.reg_model.specs.Causes.{early_cause, late_cause, change_cause, early_query_cause, late_query_cause}
 use Rattle.reg_model.specs.Replies.{refusal, reply_to, body_of}
 use Rattle.reg_model.specs.declared.answer.AnswerBody.TheVariants.{Refused, Short, Security}
-use Rattle.reg_model.specs.declared.call.Change.TheVariants.{OpenRoot, SetSecurity}
+use Rattle.reg_model.specs.declared.call.Change.{Change}
+use Rattle.reg_model.specs.declared.call.Change.TheVariants.{OpenRoot, DeleteTree, SetSecurity}
 use Rattle.reg_model.proofs.RowsReplies.{root_put}
 use Rattle.reg_tree.specs.TreeKeys.{Keys, made_root}
 use Rattle.reg_model.specs.declared.step.Outcome.TheVariants.{Changed, Answered}
-use Rattle.reg_calls.specs.Views.{View, IsHive, entry_of}
+use Rattle.reg_calls.specs.Views.{View, IsHive, state, entry_of}
 use Rattle.reg_script.specs.Lines.{Stand, Lines, fresh_descriptor}
 use Rattle.reg_script.proofs.RowsOfLines.{on_lines}
 
@@ -205,6 +206,113 @@ set_and_told hive keys is_allowed is_described same =
             ),
             refl,
           ),
+          refl,
+        ),
+        refl,
+      ),
+      refl,
+    )
+
+-- a tree of a handle that isn't there, with a path and without one; and a word too few, another word than a path, and one too many
+refused_trees : (hive : View) → IsHive (opened hive) →
+    Lines (begun hive) (codes "root 1\ndeltree 9 =A\ndeltree 9 =\ndeltree 0\ndeltree 0 K\ndeltree 0 =K 1")
+    (codes "0 handle 0\n6\n6\nbad\nbad\nbad\n") (opened hive)
+unfolding on_lines digits after early_cause late_cause reply_to
+refused_trees hive is =
+    let here = there hive in (
+      here,
+      (
+        here,
+        codes "0 handle 0\n",
+        codes "6\n6\nbad\nbad\nbad\n",
+        (
+          Changed (record { status = 0; number = Some 0; handle = Some 0; disposition = None }),
+          inl (record { says = refl; journal = refl; origin = refl; kept = omega arith; grows = omega arith; hive = is }),
+          refl,
+          refl,
+        ),
+        (
+          here,
+          codes "6\n",
+          codes "6\nbad\nbad\nbad\n",
+          (Changed (refusal 6), (refl, refl), refl, refl),
+          (
+            here,
+            codes "6\n",
+            codes "bad\nbad\nbad\n",
+            (Changed (refusal 6), (refl, refl), refl, refl),
+            (
+              here,
+              codes "bad\n",
+              codes "bad\nbad\n",
+              (refl, refl),
+              (here, codes "bad\n", codes "bad\n", (refl, refl), (here, codes "bad\n", [], (refl, refl), (refl, refl), refl), refl),
+              refl,
+            ),
+            refl,
+          ),
+          refl,
+        ),
+        refl,
+      ),
+      refl,
+    )
+
+-- a key deleted with all below it, and then what the handle's own key holds
+abbrev tree : Change
+tree = DeleteTree 0 (codes "A")
+
+abbrev contents : Change
+contents = DeleteTree 0 []
+
+-- a hive with one entry more, of session 0 and moment 0, and with these keys
+abbrev grown : View → Change → Keys → View
+grown hive change keys = record hive { journal = hive.journal ++ entry_of hive 0 0 change ∷ []; keys = keys }
+
+abbrev past_tree : View → Keys → View
+past_tree hive left = grown hive tree left
+
+abbrev past_both : View → Keys → Keys → View
+past_both hive left root = grown (past_tree hive left) contents root
+
+-- no setting yet
+abbrev unset : View → Stand
+unset hive = record { hive = hive; moment = 0; session = 0 }
+
+-- both are told by `0` alone. That nothing refuses them isn't computed here, but taken
+trees_deleted : (hive : View) (left root : Keys) →
+    change_cause (state hive) 0 tree 0 ≡ None → change_cause (state (past_tree hive left)) 0 contents 0 ≡ None →
+    IsHive (past_tree hive left) → IsHive (past_both hive left root) →
+    length left.bins.bytes ≡ length hive.keys.bins.bytes → length root.bins.bytes ≡ length left.bins.bytes →
+    Lines hive (codes "deltree 0 =A\ndeltree 0 =") (codes "0\n0\n") (past_both hive left root)
+unfolding on_lines digits reply_to
+trees_deleted hive left root free-tree free-contents is_left is_root same-left same-root =
+    let there = unset (past_tree hive left) in
+    let last = unset (past_both hive left root) in (
+      last,
+      (
+        there,
+        codes "0\n",
+        codes "0\n",
+        (
+          Changed (record { status = 0; number = Some (length hive.journal); handle = None; disposition = None }),
+          rw free-tree
+              (inl (record { says = refl; journal = refl; origin = refl; kept = omega (arith, same-left); grows = omega (arith, same-left); hive = is_left })),
+          refl,
+          refl,
+        ),
+        (
+          last,
+          codes "0\n",
+          [],
+          (
+            Changed (record { status = 0; number = Some (length (past_tree hive left).journal); handle = None; disposition = None }),
+            rw free-contents
+                (inl (record { says = refl; journal = refl; origin = refl; kept = omega (arith, same-root); grows = omega (arith, same-root); hive = is_root })),
+            refl,
+            refl,
+          ),
+          (refl, refl),
           refl,
         ),
         refl,

@@ -4,10 +4,10 @@ use Rattle.std.specs.Str.{bytes_eq}
 use Rattle.reg_model.specs.declared.limits.TheConstants.{SESSIONS_LIMIT}
 use Rattle.reg_model.specs.declared.call.Call.{Call}
 use Rattle.reg_model.specs.declared.call.Call.TheVariants.{Change, Query}
-use Rattle.reg_model.specs.declared.call.Change.TheVariants.{OpenRoot, OpenKey, CreateKey, SetValue, DeleteValue, DeleteKey, SetSecurity, Close}
+use Rattle.reg_model.specs.declared.call.Change.TheVariants.{OpenRoot, OpenKey, CreateKey, SetValue, DeleteValue, DeleteKey, DeleteTree, SetSecurity, Close}
 use Rattle.reg_model.specs.declared.call.Query.TheVariants.{QueryValue, EnumKey, EnumValue, QueryInfo, GetSecurity}
 use Rattle.reg_script.specs.declared.line.Verb.{Verb}
-use Rattle.reg_script.specs.declared.line.Verb.TheVariants.{At, As, Hive, Root, Open, Create, Set, DelValue, DelKey, SetSec, Close as CloseVerb}
+use Rattle.reg_script.specs.declared.line.Verb.TheVariants.{At, As, Hive, Root, Open, Create, Set, DelValue, DelKey, DelTree, SetSec, Close as CloseVerb}
 use Rattle.reg_script.specs.declared.line.Verb.TheVariants.{Query as QueryVerb, EnumKey as EnumKeyVerb, EnumValue as EnumValueVerb, Info, GetSec}
 use Rattle.reg_script.specs.LineWords.{words_of, number_of, name_of, data_of}
 
@@ -64,6 +64,7 @@ call_verb_of word =
     else if bytes_eq word (codes "set") then Some Set
     else if bytes_eq word (codes "delvalue") then Some DelValue
     else if bytes_eq word (codes "delkey") then Some DelKey
+    else if bytes_eq word (codes "deltree") then Some DelTree
     else if bytes_eq word (codes "setsec") then Some SetSec
     else if bytes_eq word (codes "close") then Some CloseVerb
     else if bytes_eq word (codes "query") then Some QueryVerb
@@ -101,6 +102,7 @@ by_verb Set =
     (λ kind. reading data_of (λ bytes. ending (asks (Change (SetValue handle name kind bytes)))))))
 by_verb DelValue = reading long_number_of (λ handle. reading name_of (λ name. ending (asks (Change (DeleteValue handle name)))))
 by_verb DelKey = reading long_number_of (λ handle. reading name_of (λ path. ending (asks (Change (DeleteKey handle path)))))
+by_verb DelTree = reading long_number_of (λ handle. reading name_of (λ path. ending (asks (Change (DeleteTree handle path)))))
 by_verb SetSec = reading long_number_of (λ handle. reading data_of (λ descriptor. ending (asks (Change (SetSecurity handle descriptor)))))
 by_verb CloseVerb = reading long_number_of (λ handle. ending (asks (Change (Close handle))))
 by_verb QueryVerb =

@@ -47,6 +47,7 @@ pub enum Verb {
     Set,
     DelValue,
     DelKey,
+    DelTree,
     SetSec,
     Close,
     Query,

@@ -145,6 +145,7 @@ impl<'a> Words<'a> {
             Verb::Set => self.set(alloc),
             Verb::DelValue => self.delete_value(alloc),
             Verb::DelKey => self.delete_key(alloc),
+            Verb::DelTree => self.delete_tree(alloc),
             Verb::SetSec => self.set_security(alloc),
             Verb::Close => self.close(),
             Verb::Query => self.query(alloc),
@@ -254,6 +255,16 @@ impl<'a> Words<'a> {
         let handle = self.number(u64::MAX)?;
         let path = self.name(alloc)?;
         Ok(Line::Call(Call::Change(Change::DeleteKey { handle, path })))
+    }
+
+    /// `deltree H PATH`.
+    #[tactic(auto, unfolding(crate::specs::LineMeanings::by_verb))]
+    fn delete_tree(&mut self, alloc: Global) -> Result<Line, ParseFault>
+        ensures { Means (by_verb Verb.DelTree) self.old result self.new }
+    {
+        let handle = self.number(u64::MAX)?;
+        let path = self.name(alloc)?;
+        Ok(Line::Call(Call::Change(Change::DeleteTree { handle, path })))
     }
 
     /// `setsec H DATA`.

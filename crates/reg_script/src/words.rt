@@ -61,6 +61,9 @@ fn call_verb(word: &[u8]) -> Result<Verb, ParseFault>
     if word == b"delkey".as_slice() {
         return Ok(Verb::DelKey);
     }
+    if word == b"deltree".as_slice() {
+        return Ok(Verb::DelTree);
+    }
     if word == b"setsec".as_slice() {
         return Ok(Verb::SetSec);
     }
