@@ -18,6 +18,9 @@ const SMALL: [u32; 2] = [2, 4];
 /// How many descriptors there are while time is taken.
 const SIZES: [u32; 2] = [10, 10_000];
 
+/// Of how many descriptors one is set in turn, whatever number there is.
+const FEW: u32 = 10;
+
 /// How many calls are timed together, but for keys that are made.
 const CALLS: u32 = 100_000;
 
@@ -102,11 +105,17 @@ fn measure_in(
 ) -> Result<()> {
     open_root(alloc, hive)?;
     let making = numbers_below(alloc, descriptors)?;
+    println!(rt; "create with a new descriptor:")?;
     time_step(rt, alloc, hive, SecurityStep::Make, making.as_slice())?;
+    let few = numbers_in_turn(alloc, FEW, CALLS)?;
+    println!(rt; "set to one of {FEW} that are there:")?;
+    time_step(rt, alloc, hive, SecurityStep::Set, few.as_slice())?;
     let numbers = in_disorder(alloc, descriptors)?;
+    println!(rt; "set to any one that is there:")?;
     time_step(rt, alloc, hive, SecurityStep::Set, numbers.as_slice())?;
     time_queries(rt, alloc, hive, numbers.as_slice())?;
     let sharing = numbers_below(alloc, descriptors.min(SHARED))?;
+    println!(rt; "create with one that is there:")?;
     time_step(rt, alloc, hive, SecurityStep::Share, sharing.as_slice())
 }
 
@@ -114,14 +123,6 @@ fn measure_in(
 fn in_disorder(alloc: Global, descriptors: u32) -> Result<Vec<u32>> {
     let mut numbers = numbers_in_turn(alloc, descriptors, CALLS)?;
     Ok(take_at_random(alloc, &mut numbers, CALLS as usize, 1)?)
-}
-
-fn name_of(step: SecurityStep) -> &'static str {
-    match step {
-        SecurityStep::Make => "create with a new descriptor",
-        SecurityStep::Share => "create with one that is there",
-        SecurityStep::Set => "set to one that is there",
-    }
 }
 
 // The calls are made ready before the clock starts.
@@ -136,7 +137,7 @@ fn time_step(
     let start = Instant::now(rt)?;
     apply_all(hive, changes)?;
     let done = PerCall::new(start.elapsed(rt)?, numbers.len());
-    println!(rt; "{}, {done}", name_of(step))?;
+    println!(rt; "{done}")?;
     Ok(())
 }
 

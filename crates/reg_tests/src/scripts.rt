@@ -2,6 +2,7 @@
 mod descriptors;
 mod devices;
 mod keys;
+mod trees;
 
 use crate::support::assert_told;
 use reg_command::tool;
@@ -293,6 +294,7 @@ query 0 =|query 0 = |query 0 = --|query 0 = 4294967296|query 0 = - -|query 0 v -
 open 0 =K|open 0 K 1|open =K 1|open 0 =K 4294967296|create 0 =K|create 0 =K 1 1|create 0 =K -|create 0 =K 1 |create 0 =K 1 x0|\
 create 0 =K 1 x01 x02|setsec 0|setsec 0 =v|setsec 0 x0|setsec 0 x01 0|setsec =v x01|\
 getsec 0|getsec 0 -|getsec 0 4294967296|getsec 0 1 1|delkey 0|delkey 0 K|delkey 0 =K 1|\
+deltree 0|deltree 0 K|deltree 0 =K 1|deltree =K 0|\
 close|close =K|close 0 0|close 18446744073709551616|enumkey 0 0|enumkey 0 0 -|enumkey 0 4294967296 0|enumkey 0 0 0 0|\
 enumvalue 0 0 1|enumvalue 0 0 - -|enumvalue 0 0 1 4294967296|enumvalue 0 0 1 - -|info|info =|info 0 0";
 

@@ -166,6 +166,7 @@ impl PlainMaps {
                 ..
             }
             | Change::DeleteValue { .. }
+            | Change::DeleteTree { .. }
             | Change::SetSecurity { .. } => Ok(Made::Refused(INVALID_PARAMETER)),
         }
     }
