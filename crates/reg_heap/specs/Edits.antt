@@ -6,7 +6,7 @@ use Rattle.std.specs.List.{starts_with, list_any}
 use Rattle.std.specs.FinMap.{get, insert, remove, retain_keys, keys}
 use Rattle.reg_names.specs.declared.TheConstants.{PATH_LIMIT}
 use Rattle.reg_names.specs.Names.{folded, path_of}
-use Rattle.reg_heap.specs.declared.limits.TheConstants.{MADE_LIMIT, LEAF_LIMIT}
+use Rattle.reg_heap.specs.declared.limits.TheConstants.{MADE_LIMIT, SUBKEYS_LIMIT}
 use Rattle.reg_heap.specs.declared.marks.TheConstants.{NO_DELETE}
 use Rattle.reg_heap.specs.Paths.{Path, Tree, Rec, Member, children_of}
 use Rattle.reg_heap.specs.Members.{values_with, values_without}
@@ -89,12 +89,12 @@ abbrev pub last_there : Tree → Path → List (List ℕ) → Path
 last_there t p [] = p
 last_there t p (name ∷ names) = cond (has_child t p name) (last_there t (child_path p name) names) p
 
--- one is missing, and they would be too many: more than 32 made by one call, a path of more than 512 names, or (temporary, until
--- a key has index roots) a 501st key right below one
+-- one is missing, and they would be too many: more than 32 made by one call, a path of more than 512 names, or a 60,001st key
+-- right below one
 abbrev pub are_too_many : Tree → Path → List (List ℕ) → Bool
 are_too_many t p names =
     nat_lt 0 (length (missing t p names)) && (nat_lt MADE_LIMIT (length (missing t p names)) || nat_lt PATH_LIMIT
-    (length p + length names) || nat_le LEAF_LIMIT (length (children_of t (last_there t p names))))
+    (length p + length names) || nat_le SUBKEYS_LIMIT (length (children_of t (last_there t p names))))
 
 -- the path of the key above
 abbrev pub above : Path → Path

@@ -1,9 +1,8 @@
 -- What the writers of a security's neighbours leave in its cell, and in all others.
-use Rattle.std.proofs.Common.{◌≡◌, ◌≢◌, ◌⊎◌, inl, inr, ℕ, ◌+◌, ◌≤◌, true, List, [], length, drop, Option, Some, None, IsSome, is_some, cond, ◌==◌, refl, sym, ap, ◌∙◌, subst, arith}
+use Rattle.std.proofs.Common.{◌≡◌, ◌≢◌, ◌⊎◌, inl, inr, ℕ, ◌+◌, ◌≤◌, true, List, [], length, drop, Option, None, IsSome, is_some, cond, ◌==◌, sym, ap, ◌∙◌, subst, arith}
 use Rattle.std.specs.Prelude.{unwrap_or}
 use Rattle.std.proofs.lemmas.Bool.{cases_eq}
 use Rattle.std.proofs.lemmas.Bool.Decides.{nat_tests}
-use Rattle.reg_heap.specs.ByteWords.{splice}
 use Rattle.reg_arena.specs.Arena.{Bins, heap_of}
 use Rattle.reg_heap.specs.Heaps.{Heap}
 use Rattle.reg_records.specs.RecordCells.{held, HasRoom, WritesPart}

@@ -3,5 +3,6 @@ pub mod RingTurned
 pub mod RingJoined
 pub mod RingLeft
 pub mod RingCounted
+pub mod HashedDescriptors
 pub mod TableCells
 pub mod CellsRelinked

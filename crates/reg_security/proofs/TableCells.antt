@@ -1,6 +1,7 @@
 -- The cells that a table notes for descriptors.
-use Rattle.std.proofs.Common.{◌≡◌, ◌≢◌, ◌⊎◌, inl, inr, ℕ, ◌<◌, ◌≤◌, Bool, true, false, cond, List, [], ◌∷◌, Option, Some, None, IsSome, refl, sym, ap, subst, ◌∙◌, arith, Vec}
-use Rattle.std.specs.Prelude.{bytes_eq, MatchOption, OnOk, Result, Ok, Err}
+use Rattle.std.proofs.Common.{◌≡◌, ◌≢◌, ◌⊎◌, inl, inr, ℕ, ◌<◌, ◌≤◌, Bool, true, false, cond, List, [], ◌∷◌, ◌++◌, map, Option, Some, None, IsSome, refl, sym, ap, subst, ◌∙◌, arith, Vec}
+use Rattle.std.specs.Prelude.{bytes_eq, MatchBool, MatchOption, OnOk, Result, Ok, Err}
+use Rattle.std.specs.Option.{option_or}
 use Rattle.std.specs.Ordering.{is_eq, nat_cmp}
 use Rattle.std.specs.Cmp.Lexicographic.{slice_cmp, bytes_decides}
 use Rattle.std.specs.BTreeMap.{BTreeMap, UpdatesBy, is_at}
@@ -17,11 +18,29 @@ use Rattle.reg_shape.specs.Whole.{descriptor_at}
 use Rattle.reg_security.specs.Rings.{DescriptorCells, cell_of, Notes, Describes, Finds, Expects, IsAdded, IsRemoved}
 use Rattle.reg_security.specs.Internal.MapEntries.{shown, found_for}
 
--- ---- the map's entries, as the table shows them
+-- ---- the two maps behind the table
 
-pub cell-found : {Y : Type 0} (es : List (Vec ℕ Y × ℕ)) (descriptor : List ℕ) → cell_of (shown es) descriptor ≡ found_for es descriptor
-cell-found [] descriptor = refl
-cell-found (e ∷ es) descriptor = ap (λ rest. cond (is_at (slice_cmp nat_cmp descriptor) e.0.items) (Some e.1) rest) (cell-found es descriptor)
+-- a look-up in one list and another behind it
+lookup-behind : {K X : Type 0} (test : K → Bool) (es fs : List (K × X)) → lookup test (es ++ fs) ≡ option_or (lookup test es) (lookup test fs)
+lookup-behind test [] fs = refl
+lookup-behind test (e ∷ es) fs = by (test e.0) refl (lookup-behind test es fs)
+  where
+    by : (b : Bool) → test e.0 ≡ b → lookup test (es ++ fs) ≡ option_or (lookup test es) (lookup test fs) →
+        lookup test ((e ∷ es) ++ fs) ≡ option_or (lookup test (e ∷ es)) (lookup test fs)
+    by true y rest = cond-true _ _ _ y ∙ sym (ap (λ o. option_or o (lookup test fs)) (cond-true _ _ _ y))
+    by false n rest = cond-false _ _ _ n ∙ (rest ∙ sym (ap (λ o. option_or o (lookup test fs)) (cond-false _ _ _ n)))
+
+other-found : {Y : Type 0} (es : List (Vec ℕ Y × ℕ)) (descriptor : List ℕ) →
+    lookup (is_at (slice_cmp nat_cmp descriptor)) (map (λ (e : Vec ℕ Y × ℕ). (e.0.items, e.1)) es) ≡ found_for es descriptor
+other-found [] descriptor = refl
+other-found (e ∷ es) descriptor = ap (λ rest. cond (is_at (slice_cmp nat_cmp descriptor) e.0.items) (Some e.1) rest) (other-found es descriptor)
+
+-- the cell of a descriptor is what stands by its hash, or else what the others have
+pub cell-found : {Y : Type 0} (hashed : DescriptorCells) (others : List (Vec ℕ Y × ℕ)) (t : DescriptorCells) (descriptor : List ℕ) → shown hashed others ≡ t →
+    cell_of t descriptor ≡ option_or (cell_of hashed descriptor) (found_for others descriptor)
+cell-found hashed others t descriptor is =
+    ap (λ t. cell_of t descriptor) (sym is) ∙
+    (lookup-behind (is_at (slice_cmp nat_cmp descriptor)) hashed.entries _ ∙ ap (λ o. option_or (cell_of hashed descriptor) o) (other-found others descriptor))
 
 apart : (bs cs ks : List ℕ) → bytes_eq bs cs ≡ false → is_eq (slice_cmp nat_cmp bs ks) ≡ true → is_eq (slice_cmp nat_cmp cs ks) ≡ false
 apart bs cs ks n y =
@@ -50,11 +69,61 @@ updated descriptor m n w h =
     by_bytes (found_for m.entries) (found_for n.entries) descriptor w h.1
     (λ cs e. others _ _ _ _ h.3 _ (λ x y. (eq_by_cmp_equiv nat_list_cmp_total).congr cs x.items y.items) (λ k. apart descriptor cs k.items e))
 
--- the table after such a change
-pub noted : {Y : Type 0} (descriptor : List ℕ) (w : Option ℕ) (before after : List (Vec ℕ Y × ℕ)) (t : DescriptorCells) → shown before ≡ t →
-    Notes (found_for before) descriptor w (found_for after) → Notes (cell_of t) descriptor w (cell_of (shown after))
-noted descriptor w before after t is n other =
-    cell-found after other ∙ (n other ∙ ap (λ o. cond (bytes_eq descriptor other) w o) (sym (cell-found before other) ∙ ap (λ t. cell_of t other) is))
+-- what is noted already
+pub notes-same : (f : List ℕ → Option ℕ) (descriptor : List ℕ) (w : Option ℕ) → f descriptor ≡ w → Notes f descriptor w f
+notes-same f descriptor w is = by_bytes f f descriptor w is (λ other n. refl)
+
+-- a change of both
+pub noted : {Y : Type 0} (descriptor : List ℕ) (v w x : Option ℕ) (before after : DescriptorCells) (old new : List (Vec ℕ Y × ℕ)) (t : DescriptorCells) →
+    shown before old ≡ t → Notes (cell_of before) descriptor v (cell_of after) → Notes (found_for old) descriptor w (found_for new) → option_or v w ≡ x →
+    Notes (cell_of t) descriptor x (cell_of (shown after new))
+noted descriptor v w x before after old new t is n m joined =
+    by_bytes (cell_of t) (cell_of (shown after new)) descriptor x (at descriptor (nat_list_eq_equiv.refl descriptor) ∙ joined) beside
+  where
+    at : (other : List ℕ) → bytes_eq descriptor other ≡ true → cell_of (shown after new) other ≡ option_or v w
+    at other y =
+        cell-found after new (shown after new) other refl ∙
+        (ap (λ o. option_or o (found_for new other)) (n other ∙ cond-true _ _ _ y) ∙ ap (option_or v) (m other ∙ cond-true _ _ _ y))
+
+    beside : (other : List ℕ) → bytes_eq descriptor other ≡ false → cell_of (shown after new) other ≡ cell_of t other
+    beside other e =
+        cell-found after new (shown after new) other refl ∙
+        (ap (λ o. option_or o (found_for new other)) (n other ∙ cond-false _ _ _ e) ∙
+        (ap (option_or (cell_of before other)) (m other ∙ cond-false _ _ _ e) ∙ sym (cell-found before old t other is)))
+
+-- a change of what stands by its hash
+pub noted-first : {Y : Type 0} (descriptor : List ℕ) (cell : ℕ) (before after : DescriptorCells) (others : List (Vec ℕ Y × ℕ)) (t : DescriptorCells) →
+    shown before others ≡ t → Notes (cell_of before) descriptor (Some cell) (cell_of after) →
+    Notes (cell_of t) descriptor (Some cell) (cell_of (shown after others))
+noted-first descriptor cell before after others t is n =
+    noted descriptor (Some cell) (found_for others descriptor) (Some cell) before after others others t is n
+    (notes-same (found_for others) descriptor (found_for others descriptor) refl) refl
+
+-- a change of the others, where this isn't what stands by its hash
+pub noted-behind : {Y : Type 0} (descriptor : List ℕ) (cell : ℕ) (before after : DescriptorCells) (old new : List (Vec ℕ Y × ℕ)) (t : DescriptorCells) →
+    shown before old ≡ t → after ≡ before → cell_of before descriptor ≡ None → Notes (found_for old) descriptor (Some cell) (found_for new) →
+    Notes (cell_of t) descriptor (Some cell) (cell_of (shown after new))
+noted-behind descriptor cell before after old new t is same none m =
+    subst (λ a. Notes (cell_of t) descriptor (Some cell) (cell_of (shown a new))) (sym same)
+    (noted descriptor None (Some cell) (Some cell) before before old new t is (notes-same (cell_of before) descriptor None none) m refl)
+
+-- what is noted, but doesn't stand by its hash, is among the others
+pub is-behind : {Y : Type 0} (hashed : DescriptorCells) (others : List (Vec ℕ Y × ℕ)) (t : DescriptorCells) (descriptor : List ℕ) → shown hashed others ≡ t →
+    cell_of hashed descriptor ≡ None → IsSome (cell_of t descriptor) → IsSome (found_for others descriptor)
+is-behind hashed others t descriptor is none there =
+    subst IsSome (cell-found hashed others t descriptor is ∙ ap (λ o. option_or o (found_for others descriptor)) none) there
+
+-- which of two facts a Bool tells
+pub if-true : (P Q : Type 0) (b : Bool) → b ≡ true → MatchBool b P Q → P
+if-true P Q b e m = subst (λ b. MatchBool b P Q) e m
+
+pub if-false : (P Q : Type 0) (b : Bool) → b ≡ false → MatchBool b P Q → Q
+if-false P Q b e m = subst (λ b. MatchBool b P Q) e m
+
+-- a change of the map that is the table
+pub noted-in : (map t u : DescriptorCells) (descriptor : List ℕ) (w : Option ℕ) → map ≡ t → Notes (cell_of map) descriptor w (cell_of u) →
+    Notes (cell_of t) descriptor w (cell_of u)
+noted-in map t u descriptor w is n = subst (λ t. Notes (cell_of t) descriptor w (cell_of u)) is n
 
 -- ---- what a table finds
 

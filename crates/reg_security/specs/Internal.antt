@@ -1,2 +1,3 @@
--- Words that only private contracts and proofs use: the entries of the map behind a table.
+-- Words that only private contracts and proofs use: the two maps behind a table.
+pub mod Hashes
 pub mod MapEntries

@@ -13,6 +13,7 @@
 
 mod cells;
 mod counts;
+mod hashed;
 mod look;
 mod ring;
 mod table;

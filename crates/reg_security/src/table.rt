@@ -18,8 +18,8 @@ use reg_arena::Arena;
 use std::alloc::{AllocError, Global};
 use std::marker::Model;
 
-/// The key securities of a ring by their descriptors, in the order of the descriptors' bytes, so that what is asked for can't make
-/// a search linear. It keeps a copy of each descriptor.
+/// The key securities of a ring by their descriptors: by a hash, and in the order of the bytes where hashes are equal, so that what
+/// is asked for can't make a search linear. It keeps a copy of each descriptor.
 #[derive(Drop)]
 pub struct SecurityTable {
     cells: CellMap,
@@ -32,9 +32,7 @@ impl Model for SecurityTable {
 
     ghost coded = { coded_cells };
 
-    ghost use Rattle.reg_security.specs.Internal.MapEntries.{shown};
-
-    ghost view = { λ t. shown t.cells.by_descriptor.entries };
+    ghost view = { λ t. t.cells };
 }
 
 impl SecurityTable {

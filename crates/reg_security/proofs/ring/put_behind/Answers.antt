@@ -1,4 +1,4 @@
-use Rattle.std.proofs.Common.{ℕ, ◌≢◌, ◌<◌, lit≤, sym, ap, subst, ◌∙◌}
+use Rattle.std.proofs.Common.{ℕ, ◌≢◌, ◌<◌, lit≤, sym, ap, ◌∙◌}
 use Rattle.std.specs.Option.{option_map}
 use Rattle.reg_heap.specs.Kinds.{times}
 use Rattle.reg_records.specs.KeySecurities.{KeySecurityRecord}

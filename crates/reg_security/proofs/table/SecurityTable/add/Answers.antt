@@ -1,18 +1,12 @@
-use Rattle.std.proofs.Common.{Some, IsSome, sym, ap, ◌∙◌, subst}
-use Rattle.reg_security.specs.Rings.{cell_of}
-use Rattle.reg_security.proofs.TableCells.{cell-found, noted, finds-added}
+use Rattle.std.proofs.Common.{Some}
+use Rattle.reg_security.proofs.TableCells.{noted-in, finds-added}
 use Rattle.reg_security.proofs.table.SecurityTable.add.Goals as goal
 
 pub put-requires-clause-ring : goal.put-requires-clause-ring
 put-requires-clause-ring c = let r = c.requires.ring in (r.0, r.1, r.2, r.3, r.4.free)
 
-pub set-requires : goal.set-requires
-set-requires c =
-    subst IsSome (ap (λ t. cell_of t c.args.descriptor.now) (sym c.self.view_is) ∙ cell-found c.self.inside.cells.by_descriptor.entries c.args.descriptor.now)
-    c.requires.ring.4.room
-
 pub returns-clause-noted : goal.returns-clause-noted
-returns-clause-noted c = noted c.args.descriptor.now (Some c.args.cell) _ _ c.args.self.now c.self.view_is c.set.ensures
+returns-clause-noted c = noted-in c.self.inside.cells c.args.self.now _ c.args.descriptor.now (Some c.args.cell) c.self.view_is c.set.ensures
 
 pub returns-clause-added : goal.returns-clause-added
 returns-clause-added c = λ ring is near apart x.

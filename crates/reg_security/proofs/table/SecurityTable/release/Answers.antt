@@ -1,7 +1,7 @@
 use Rattle.std.proofs.Common.{None, refl}
 use Rattle.reg_security.proofs.RingCounted.{descriptor-recounted, security-there}
 use Rattle.reg_security.proofs.RingTurned.{once}
-use Rattle.reg_security.proofs.TableCells.{noted, finds-same, finds-removed}
+use Rattle.reg_security.proofs.TableCells.{noted-in, finds-same, finds-removed}
 use Rattle.reg_security.proofs.table.SecurityTable.release.Goals as goal
 
 pub read-requires : goal.read-requires
@@ -22,5 +22,5 @@ returns-clause-last c = λ counts ring is l f.
     let r = c.take_out.ensures.removed ring is l in (
       r,
       finds-removed c.args.self.now _ _ _ ring c.args.cell c.descriptor.result.now f r (once _ ring is c.args.cell) l c.descriptor.ensures
-          (noted c.descriptor.result.now None _ _ c.args.self.now c.self.view_is c.remove.ensures),
+          (noted-in c.self.inside.cells c.args.self.now _ c.descriptor.result.now None c.self.view_is c.remove.ensures),
     )
