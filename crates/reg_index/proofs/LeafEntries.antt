@@ -55,11 +55,11 @@ hinted-same (suc n) a b c d same =
 
 -- ---- bytes of a content with a piece written over
 
-get_or-within : (at k : ℕ) (piece xs : List ℕ) → at + length piece ≤ length xs → k < length piece → get_or (splice at piece xs) (at + k) 0 ≡ get_or piece k 0
+pub get_or-within : (at k : ℕ) (piece xs : List ℕ) → at + length piece ≤ length xs → k < length piece → get_or (splice at piece xs) (at + k) 0 ≡ get_or piece k 0
 unfolding splice
 get_or-within at k piece xs f l = search (rules, places)
 
-get_or-part : (a m k : ℕ) (c : List ℕ) → k < m → get_or (take m (drop a c)) k 0 ≡ get_or c (a + k) 0
+pub get_or-part : (a m k : ℕ) (c : List ℕ) → k < m → get_or (take m (drop a c)) k 0 ≡ get_or c (a + k) 0
 get_or-part a m k c l = search (rules, places)
 
 pub length-part : (a m : ℕ) (c : List ℕ) → a + m ≤ length c → length (take m (drop a c)) ≡ m

@@ -232,3 +232,30 @@ closed h0 h1 h2 cell left index few within one two entries is number =
     ∙ (ap (λ a. hinted_entries m a c) next ∙ back-is h0 cell (index + 1) m entries leaf second) in
     headed h2 cell left d (without index entries) here few (omega (arith, long, big, number))
     (ap (λ n. hinted_entries n 4 d) parted ∙ (hinted-append index m 4 d ∙ (λ i. front i ++ back i)))
+
+-- ---- some entries copied to another cell
+
+pub part-fits : (heap : Heap) (cell from count : ℕ) → ((entries : List Entry) × IsLeaf heap cell entries × (from + count ≤ length entries)) →
+    4 + 8 * from + 8 * count ≤ length (held heap cell)
+part-fits heap cell from count s = omega (arith, (leaf-open heap cell s.0 s.1).says.long, s.2)
+
+pub copied-part : (h0 h1 h2 : Heap) (cell other from count : ℕ) → count ≤ LEAF_LIMIT → 4 + 8 * count ≤ length (held h0 other)
+    → ((offset : ℕ) → h1 offset ≡ cond (offset == other) (Some (splice 4 (take (8 * count) (drop (4 + 8 * from) (held h0 cell))) (held h0 other))) (h0 offset))
+    → h2 other ≡ Some (splice 0 (head_bytes HashLeaf count) (held h1 other))
+    → (entries : List Entry) → IsLeaf h0 cell entries → from + count ≤ length entries → IsLeaf h2 other (take count (drop from entries))
+copied-part h0 h1 h2 cell other from count few room one two entries is within =
+    let leaf = leaf-open h0 cell entries is in
+    let c : List ℕ = held h0 cell in
+    let d : List ℕ = held h0 other in
+    let big = leaf.says.long in
+    let rest : ℕ = length entries - (from + count) in
+    let piece : List ℕ = take (8 * count) (drop (4 + 8 * from) c) in
+    let long : length piece ≡ 8 * count = length-part (4 + 8 * from) (8 * count) c (omega (arith, big, within)) in
+    let fits : 4 + length piece ≤ length d = omega (arith, long, room) in
+    let now : held h1 other ≡ splice 4 piece d = held-of h1 other (splice 4 piece d) (changed-here h0 h1 other (Some (splice 4 piece d)) one) in
+    let here : h2 other ≡ Some (splice 0 (head_bytes HashLeaf count) (splice 4 piece d)) = two ∙ ap (λ c. Some (splice 0 (head_bytes HashLeaf count) c)) now in
+    let parted : length entries ≡ from + (count + rest) = omega (arith, within) in
+    let part : hinted_entries count (4 + 8 * from) c ≡ take count (drop from entries) =
+    sym (take-hinted count rest (4 + 8 * from) c) ∙ ap (take count) (back-is h0 cell from (count + rest) entries leaf parted) in
+    headed h2 other count (splice 4 piece d) (take count (drop from entries)) here few (omega (arith, length-splice 4 piece d fits, room))
+    (copied (4 + 8 * from) 4 (8 * count) c d (omega (arith, big, within)) (omega (arith, room)) count (omega arith) ∙ part)

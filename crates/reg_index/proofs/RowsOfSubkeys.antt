@@ -7,7 +7,9 @@ use Rattle.reg_records.specs.declared.lists.ListForm.TheVariants.{HashLeaf}
 use Rattle.reg_records.specs.SubkeyLists.{Entry, list_of}
 use Rattle.reg_shape.specs.Nodes.{KeyList, Index, index_at, entries_of}
 use Rattle.reg_shape.specs.Nodes.Index.{Unlisted, Listed, Rooted}
-use Rattle.reg_index.specs.Subkeys.{AreSubkeys, cells_of_index, own, insert_size}
+use Rattle.reg_index.specs.declared.Place.{Place}
+use Rattle.reg_index.specs.declared.IndexCells.{IndexCells}
+use Rattle.reg_index.specs.Subkeys.{AreSubkeys, IsPlaceIn, StandsIn, flat, insert_sizes, own, root_sizes, sizes_in}
 
 -- the index of one list, at 120
 abbrev listed : List Entry → Index
@@ -35,7 +37,7 @@ no_cell = refl
 none_counted : index_at (heap_with 0) 0 120 ≡ Some Unlisted
 none_counted = refl
 
--- the cells of one list, of none, and of an index root with two lists
+-- the cells of one list, and of none
 one_cell : own (heap_with 0) 1 120 ≡ 120 ∷ []
 unfolding list_of half word
 one_cell = refl
@@ -43,25 +45,127 @@ one_cell = refl
 no_cells : own (heap_with 0) 0 120 ≡ []
 no_cells = refl
 
-abbrev leaf_at : ℕ → KeyList
-leaf_at offset = record { offset = offset; list = record { form = HashLeaf; entries = [] } }
+-- ---- an index root at 200 of two leaves, at 160 with two keys and at 120 with one, in a cell of so many bytes more
 
-root_cells : cells_of_index (Rooted 8 (leaf_at 16 ∷ leaf_at 24 ∷ [])) ≡ 8 ∷ 16 ∷ 24 ∷ []
+abbrev rooted : ℕ → Heap
+rooted more offset =
+    cond (offset == 200) (Some (114 ∷ 105 ∷ 2 ∷ 0 ∷ 160 ∷ 0 ∷ 0 ∷ 0 ∷ 120 ∷ 0 ∷ 0 ∷ 0 ∷ replicate more 0))
+    (cond (offset == 160) (Some (108 ∷ 104 ∷ 2 ∷ 0 ∷ 32 ∷ 0 ∷ 0 ∷ 0 ∷ 65 ∷ 0 ∷ 0 ∷ 0 ∷ 72 ∷ 0 ∷ 0 ∷ 0 ∷ 66 ∷ 0 ∷ 0 ∷ 0 ∷ []))
+    (heap_with 0 offset))
+
+abbrev two_lists : Index
+two_lists = Rooted 200 (
+    record { offset = 160; list = record { form = HashLeaf; entries = record { offset = 32; hint = 65 } ∷ record { offset = 72; hint = 66 } ∷ [] } }
+    ∷ record { offset = 120; list = record { form = HashLeaf; entries = record { offset = 32; hint = 115481 } ∷ [] } } ∷ []
+    )
+
+two_leaves : index_at (rooted 0) 3 200 ≡ Some two_lists
+unfolding list_of half word
+two_leaves = refl
+
+root_cells : own (rooted 0) 3 200 ≡ 200 ∷ 160 ∷ 120 ∷ []
+unfolding list_of half word
 root_cells = refl
 
+-- places: the second list begins at the third subkey
+second_first : flat (rooted 0) 3 200 (record { list = 1; index = 0 }) ≡ 2
+unfolding list_of half word
+second_first = refl
+
+first_second : flat (rooted 0) 3 200 (record { list = 0; index = 1 }) ≡ 1
+unfolding list_of half word
+first_second = refl
+
+second_stands : StandsIn two_lists (record { list = 1; index = 0 })
+second_stands = (omega arith, omega arith)
+
+-- one past the last of a list is where a name may come, and stands nowhere
+past_first : IsPlaceIn two_lists (record { list = 0; index = 2 })
+past_first = (omega arith, omega arith)
+
+past_stands : StandsIn two_lists (record { list = 0; index = 2 }) → ⊥
+past_stands s = absurd (omega (arith, s.1))
+
+third_list : IsPlaceIn two_lists (record { list = 2; index = 0 }) → ⊥
+third_list p = absurd (omega (arith, p.0))
+
+-- where there are no subkeys, there is one place
+first_place : IsPlaceIn Unlisted (record { list = 0; index = 0 })
+first_place = (refl, refl)
+
+-- ---- sizes of cells
+
+abbrev nothing : Place
+nothing = record { list = 0; index = 0 }
+
+abbrev one_list : ℕ → IndexCells
+one_list size = record { list = Some size; second = None; root = None }
+
 -- a cell of 16 bytes holds one entry, a second takes one of 24, in which a third has no room
-first_cell : insert_size (heap_with 0) 0 4294967295 ≡ Some 16
-unfolding insert_size
+first_cell : insert_sizes (heap_with 0) 0 4294967295 nothing ≡ one_list 16
+unfolding insert_sizes
 first_cell = refl
 
-next_cell : insert_size (heap_with 0) 1 120 ≡ Some 24
-unfolding insert_size
+next_cell : insert_sizes (heap_with 0) 1 120 nothing ≡ one_list 24
+unfolding insert_sizes list_of half word
 next_cell = refl
 
-one_byte_short : insert_size (heap_with 7) 1 120 ≡ Some 24
-unfolding insert_size
+one_byte_short : insert_sizes (heap_with 7) 1 120 nothing ≡ one_list 24
+unfolding insert_sizes list_of half word
 one_byte_short = refl
 
-just_room : insert_size (heap_with 8) 1 120 ≡ None
-unfolding insert_size
+just_room : insert_sizes (heap_with 8) 1 120 nothing ≡ record { list = None; second = None; root = None }
+unfolding insert_sizes list_of half word
 just_room = refl
+
+-- the list of the place, and no other
+second_list : insert_sizes (rooted 0) 3 200 (record { list = 1; index = 1 }) ≡ one_list 24
+unfolding insert_sizes list_of half word
+second_list = refl
+
+first_list : insert_sizes (rooted 0) 3 200 (record { list = 0; index = 1 }) ≡ one_list 32
+unfolding insert_sizes list_of half word
+first_list = refl
+
+-- lists of 499 and 500 subkeys in cells that are full: the 500th takes a cell of 4008 bytes, the 501st two for 250 and 251
+-- subkeys and an index root; a list of 251 then takes 2024
+abbrev list_of_so_many : ℕ → ℕ → KeyList
+list_of_so_many offset number = record { offset = offset; list = record { form = HashLeaf; entries = replicate number (record { offset = 32; hint = 65 }) } }
+
+abbrev empty : Heap
+empty offset = None
+
+the_499th : sizes_in empty (Listed (list_of_so_many 120 498)) 0 ≡ one_list 4000
+the_499th = refl
+
+the_500th : sizes_in empty (Listed (list_of_so_many 120 499)) 0 ≡ one_list 4008
+the_500th = refl
+
+the_501st : sizes_in empty (Listed (list_of_so_many 120 500)) 0 ≡ record { list = Some 2008; second = Some 2016; root = Some 16 }
+the_501st = refl
+
+abbrev two_halves : Index
+two_halves = Rooted 200 (list_of_so_many 160 250 ∷ list_of_so_many 120 251 ∷ [])
+
+the_502nd : sizes_in empty two_halves 1 ≡ one_list 2024
+the_502nd = refl
+
+its_first_half : sizes_in empty two_halves 0 ≡ one_list 2016
+its_first_half = refl
+
+-- a root of two lists has room for a third in a cell of 24 bytes, and not in one of 16
+abbrev full_second : Index
+full_second = Rooted 200 (list_of_so_many 160 250 ∷ list_of_so_many 120 500 ∷ [])
+
+third_of_16 : root_sizes (rooted 0) full_second ≡ Some 24
+third_of_16 = refl
+
+third_of_24 : root_sizes (rooted 8) full_second ≡ None
+third_of_24 = refl
+
+-- the second list is full: two for it, and a larger root
+second_full : sizes_in (rooted 0) full_second 1 ≡ record { list = Some 2008; second = Some 2016; root = Some 24 }
+second_full = refl
+
+first_not : sizes_in (rooted 0) full_second 0 ≡ one_list 2016
+first_not = refl

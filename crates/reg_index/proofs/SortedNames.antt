@@ -1,5 +1,5 @@
 -- Names in order: a search among them, one more, and one less.
-use Rattle.std.proofs.Common.{◌≡◌, ℕ, suc, ◌+◌, ◌-◌, ◌<◌, ◌≤◌, ◌==◌, refl, Bool, true, false, List, [], ◌∷◌, ◌++◌, ap, ◌∙◌, arith, rules, take, drop, length, get_or, Err, inl, inr}
+use Rattle.std.proofs.Common.{◌≡◌, ℕ, suc, ◌+◌, ◌-◌, ◌<◌, ◌≤◌, ◌==◌, refl, sym, Bool, true, false, List, [], ◌∷◌, ◌++◌, ap, ◌∙◌, arith, rules, take, drop, length, get_or, Err, inl, inr}
 use Rattle.std.proofs.lemmas.List.{get_or-take, get_or-drop, get_or_append_left, get_or-append_right, length-append, length-take-le, length-drop}
 use Rattle.std.proofs.lemmas.Bool.{cases_lt, eqb-true, eqb-false}
 use Rattle.std.proofs.lemmas.Bool.Decides.{nat_tests}
@@ -9,6 +9,7 @@ use Rattle.std.specs.declared.cmp.Ordering.{Ordering}
 use Rattle.std.specs.declared.cmp.Ordering.TheVariants.{Less, Equal, Greater}
 use Rattle.std.specs.Cmp.Lexicographic.{slice_cmp}
 use Rattle.reg_index.specs.Subkeys.{Rises, IsIndexFor}
+use Rattle.reg_index.specs.Internal.NameSearches.{Between}
 
 abbrev Name : Type 0
 Name = List ℕ
@@ -34,12 +35,6 @@ order-same (x ∷ xs) [] e = absurd (search rules)
 order-same (x ∷ xs) (y ∷ ys) e = let p = then-equal x y (slice_cmp nat_cmp xs ys) e in λ i. p.0 i ∷ order-same xs ys p.1 i
 
 -- ---- a search: how far it has come
-
-pub record Between (names : List (List ℕ)) (name : List ℕ) (low high : ℕ) : Type 0 where
-  pub order_is : low ≤ high
-  pub within : high ≤ length names
-  pub before : (k : ℕ) → k < low → slice_cmp nat_cmp (get_or names k []) name ≡ Less
-  pub behind : (k : ℕ) → high ≤ k → k < length names → slice_cmp nat_cmp name (get_or names k []) ≡ Less
 
 module _ (names : List Name) (name : Name) (low high middle : ℕ) (rises : Rises names) (so_far : Between names name low high) (from : low ≤ middle) (to : middle < high) where
   -- the name at the middle comes before
@@ -72,6 +67,22 @@ module _ (names : List Name) (name : Name) (low high middle : ℕ) (rises : Rise
       by : (k : ℕ) → middle ≤ k → k < length names → (t : Bool) → (k == middle) ≡ t → order name (get_or names k []) ≡ Less
       by k m l true i = ap (λ k. order name (get_or names k [])) (eqb-true k middle i) ∙ e
       by k m l false i = let n = eqb-false k middle i in order-trans name (get_or names middle []) (get_or names k []) e (rises middle k (omega arith) l)
+
+  -- the name at the middle doesn't come behind
+  pub to_here : (slice_cmp nat_cmp (get_or names middle []) name ≡ Greater → ⊥) → Between names name middle high
+  to_here n =
+      let o = so_far.order_is in
+      record {
+        order_is = omega (arith, to);
+        within = so_far.within;
+        before = λ k l. by k l (slice_cmp nat_cmp (get_or names middle []) name) refl;
+        behind = so_far.behind;
+      }
+    where
+      by : (k : ℕ) → k < middle → (r : Ordering) → slice_cmp nat_cmp (get_or names middle []) name ≡ r → order (get_or names k []) name ≡ Less
+      by k l Less e = let w = so_far.within in order-trans (get_or names k []) (get_or names middle []) name (rises k middle l (omega arith)) e
+      by k l Equal e = let w = so_far.within in ap (order (get_or names k [])) (sym (order-same (get_or names middle []) name e)) ∙ rises k middle l (omega arith)
+      by k l Greater e = absurd (n e)
 
 -- ---- one name more
 

@@ -1,126 +1,160 @@
 -- A subkey added.
-use Rattle.std.proofs.Common.{◌≡◌, ℕ, zero, suc, ◌+◌, ◌<◌, ◌≤◌, Option, Some, None, IsSome, List, [], ◌∷◌, ◌++◌, length, take, drop, refl, sym, ◌∙◌, subst, arith}
-use Rattle.std.specs.Prelude.{Err}
-use Rattle.std.specs.List.{AllByRecursion}
-use Rattle.std.proofs.lemmas.Bool.{false≢true}
-use Rattle.std.proofs.lemmas.List.{take-map, drop-map, map-append, length-append, length-take-le, length-drop}
-use Rattle.reg_arena.proofs.Contents.CellWrites.{all-append}
+use Rattle.std.proofs.Common.{◌≡◌, ℕ, zero, suc, ◌+◌, ◌<◌, ◌≤◌, Option, Some, None, IsSome, List, [], ◌∷◌, ◌++◌, length, refl, sym, ap, ◌∙◌, subst, arith}
+use Rattle.std.specs.Prelude.{unwrap_or, Err}
 use Rattle.reg_names.specs.Names.{folded, hash}
-use Rattle.reg_heap.specs.declared.limits.TheConstants.{LEAF_LIMIT}
-use Rattle.reg_heap.specs.Heaps.{Heap, CellFrame, Writes}
+use Rattle.reg_heap.specs.Heaps.{Heap, Writes}
 use Rattle.reg_heap.specs.Kinds.{times}
 use Rattle.reg_records.specs.KeyNodes.{key_at}
 use Rattle.reg_records.specs.SubkeyLists.{Entry}
-use Rattle.reg_index.specs.Internal.HashLeaves.{IsLeaf, HasGap}
-use Rattle.reg_index.specs.Subkeys.{name_at, names_in, Rises, IsIndexFor, IsReady, AreSubkeys, Moves, own, taken, with_one, entry_for, insert_size}
-use Rattle.reg_index.proofs.SubkeysOpening.{subkeys-open, own-leaf, same-subkeys}
-use Rattle.reg_index.proofs.NameSearch.{length-names}
-use Rattle.reg_index.proofs.SortedNames.{rises-added}
-use Rattle.reg_index.proofs.SubkeysFrame.{AreKeys, Stay, keys-of, keys-stay, leaf-subkeys, all-map, key-or-leaf, key-stays, times-not}
-use Rattle.reg_index.proofs.SubkeyRemoved.{all-take, all-drop}
+use Rattle.reg_shape.specs.Nodes.{KeyList, lists_of}
+use Rattle.reg_index.specs.declared.Place.{Place}
+use Rattle.reg_index.specs.declared.IndexCells.{IndexCells}
+use Rattle.reg_index.specs.Internal.HashLeaves.{IsLeaf}
+use Rattle.reg_index.specs.Internal.IndexLists.{AreExchanged, HasOneMore, HasRoomAt, HasRoomForTwo, cells_under, exchanged, grown, halves, leaf_list}
+use Rattle.reg_index.specs.Subkeys.{AreSubkeys, IsIndexFor, IsReady, Moves, each_of, entries_in, entry_for, flat, index_of, insert_sizes, listed, lists_with, name_at, names_in, numbered, own, parted, taken, with_one}
+use Rattle.reg_index.proofs.EntriesExchanged.{entries-with, halves-entries, leaf-entries}
+use Rattle.reg_index.proofs.EntryKeys.{keys-with, length-with}
+use Rattle.reg_index.proofs.FoundPlaces.{flat-read, result-length}
+use Rattle.reg_index.proofs.ListsExchanged.{cells-are, exchanged-parted, length-exchanged, roots-two}
+use Rattle.reg_index.proofs.ListsParted.{told, told-with, parted-few, parted-many}
+use Rattle.reg_index.proofs.ReadyCells.{each-none, first-alone}
+use Rattle.reg_index.proofs.SubkeysExchanged.{subkeys-exchanged, moves-exchanged}
+use Rattle.reg_index.proofs.SubkeysOnce.{cells-there}
+use Rattle.reg_index.proofs.SubkeysOpening.{index-is, keys-of, lists-under, same-subkeys}
 
--- ---- one more among all
+-- ---- the first
 
-all-with : (P : Entry → Type 0) (index : ℕ) (entry : Entry) (entries : List Entry) → P entry → AllByRecursion P entries → AllByRecursion P (with_one index entry entries)
-all-with P index entry entries one all = all-append P (take index entries) (entry ∷ drop index entries) (all-take P index entries all) (one, all-drop P index entries all)
+one-of-none : (index : ℕ) (entry : Entry) → with_one index entry [] ≡ entry ∷ []
+one-of-none zero entry = refl
+one-of-none (suc index) entry = refl
 
-names-with : (heap : Heap) (index : ℕ) (entry : Entry) (entries : List Entry) →
-    names_in heap (with_one index entry entries) ≡ take index (names_in heap entries) ++ folded (name_at heap entry.offset) ∷ drop index
-    (names_in heap entries)
-names-with heap index entry entries =
-    map-append (λ (e : Entry). folded (name_at heap e.offset)) (take index entries) (entry ∷ drop index entries)
-    ∙ (λ i. sym (take-map (λ (e : Entry). folded (name_at heap e.offset)) index entries) i ++ folded (name_at heap entry.offset) ∷ sym
-    (drop-map (λ (e : Entry). folded (name_at heap e.offset)) index entries) i)
+pub first-more : (old new : Heap) (count offset : ℕ) (place : Place) (entry : Entry) (cells : IndexCells) (cell : ℕ) → count ≡ 0 → IsReady old (insert_sizes old count offset place) cells →
+    cells.list ≡ Some cell → IsLeaf new cell (entry ∷ []) → Writes old new (cell ∷ [])
+    → (entries : List Entry) → AreSubkeys old count offset entries → HasOneMore old new count offset place entry entries cells cell
+first-more old new zero offset place entry cells cell none ready is leaf w [] s =
+    let alone = first-alone old zero offset place cells none ready cell is in
+    record {
+      others = leaf_list cell (entry ∷ []) ∷ [];
+      exchanged = record {
+        now = (refl, record { leaf = leaf; written = record { form = refl; some = omega arith; few = omega arith } });
+        moves = subst (λ carved. Moves old new carved (cell ∷ [])) (sym alone) w;
+      };
+      entries_are = sym (one-of-none (flat old zero offset place) entry);
+      used = λ z. omega (arith, ap (times z) alone);
+      lists_are = refl;
+    }
+first-more old new zero offset place entry cells cell none ready is leaf w (e ∷ es) s = absurd (omega (arith, s.number))
+first-more old new (suc count) offset place entry cells cell none ready is leaf w entries s = absurd (omega (arith, none))
 
-keys-with : (heap : Heap) (index key : ℕ) (entries : List Entry) → IsSome (key_at heap key) → AreKeys heap entries →
-    IsIndexFor (names_in heap entries) (folded (name_at heap key)) (Err index) → AreKeys heap (with_one index (entry_for heap key) entries)
-keys-with heap index key entries some k offset = record {
-  keys = all-with (λ (e : Entry). IsSome (key_at heap e.offset)) index (entry_for heap key) entries some k.keys;
-  hashes = all-with (λ (e : Entry). e.hint ≡ hash (name_at heap e.offset)) index (entry_for heap key) entries refl k.hashes;
-  rising = subst Rises (sym (names-with heap index (entry_for heap key) entries)) (rises-added (names_in heap entries) index (folded (name_at heap key)) offset.0 k.rising offset);
-}
+-- ---- one more among some
 
-length-with : (index : ℕ) (entry : Entry) (entries : List Entry) → index ≤ length entries → length (with_one index entry entries) ≡ length entries + 1
-length-with index entry entries l = omega (arith, l, length-append (take index entries) (entry ∷ drop index entries), length-take-le index entries l, length-drop index entries)
+-- the cell of a grown list
+own-or-fresh : (z leaf : ℕ) (fresh : Option ℕ) → times z (taken fresh) ≤ times z (unwrap_or fresh leaf ∷ [])
+own-or-fresh z leaf None = omega arith
+own-or-fresh z leaf (Some cell) = omega arith
 
--- ---- the cells that were given up held no key
+module _ (old new : Heap) (count offset result : ℕ) (place : Place) (entry : Entry) (cells : IndexCells) (entries : List Entry) (s : AreSubkeys old count offset entries) where
+  index_is : lists_of (index_of old count offset) ≡ lists_of s.index
+  index_is = ap lists_of (index-is old count offset s.index s.read)
 
-taken-none : (heap : Heap) (plan fresh : Option ℕ) (key : ℕ) → IsReady heap plan fresh → IsSome (key_at heap key) → times key (taken fresh) ≡ 0
-taken-none heap plan None key ready some = refl
-taken-none heap None (Some cell) key ready some = absurd ready
-taken-none heap (Some size) (Some cell) key ready some =
-    times-not key cell [] (λ same. false≢true (subst IsSome ready.2 (subst (λ z. IsSome (key_at heap z)) (sym same) some))) refl
+  many-more : (carved : List ℕ) (others : List KeyList) → each_of cells ≡ carved → place.list < length (lists_of s.index) →
+      place.index ≤ length (numbered place.list (lists_of s.index)).list.entries → entries_in others ≡ with_one place.index entry (numbered place.list (lists_of s.index)).list.entries →
+      told others ≡ parted (with_one place.index entry (numbered place.list (lists_of s.index)).list.entries) →
+      AreExchanged old new offset (lists_of s.index) result (exchanged place.list others (lists_of s.index)) carved →
+      ((z : ℕ) → times z carved ≤ times z (cells_under result (exchanged place.list others (lists_of s.index)))) → HasOneMore old new count offset place entry entries cells result
+  many-more carved others carved_are there within are apart x used = record {
+    others = exchanged place.list others (lists_of s.index);
+    exchanged = subst (λ lists. AreExchanged old new offset lists result (exchanged place.list others (lists_of s.index)) (each_of cells)) (sym index_is)
+        (subst (AreExchanged old new offset (lists_of s.index) result (exchanged place.list others (lists_of s.index))) (sym carved_are) x);
+    entries_are = entries-with (lists_of s.index) others place entry there within are
+        ∙ (λ i. with_one (sym (flat-read old count offset place entries s) i) entry (s.entries_are i));
+    used = λ z. omega (arith, ap (times z) carved_are, used z);
+    lists_are = told-with place entry others (lists_of s.index) there apart ∙ ap (λ lists. lists_with place entry (told lists)) (sym index_is);
+  }
 
-given-none : (heap : Heap) (count offset : ℕ) (fresh : Option ℕ) (key : ℕ) (entries : List Entry) → AreSubkeys heap count offset entries →
-    IsReady heap (insert_size heap count offset) fresh → IsSome (key_at heap key) →
-    times key (own heap count offset ++ taken fresh) ≡ 0
-given-none heap zero offset fresh key entries s ready some = taken-none heap (insert_size heap zero offset) fresh key ready some
-given-none heap (suc count) offset fresh key entries s ready some =
-    subst (λ cells. times key (cells ++ taken fresh) ≡ 0) (sym (own-leaf heap (suc count) offset entries s (omega arith)))
-    (times-not key offset (taken fresh)
-    (λ same. key-or-leaf heap offset entries (subkeys-open heap (suc count) offset entries s (omega arith)).leaf
-    (subst (λ z. IsSome (key_at heap z)) (sym same) some))
-    (taken-none heap (insert_size heap (suc count) offset) fresh key ready some))
+  pub grown-more : each_of cells ≡ taken cells.list → HasRoomAt old offset (lists_of s.index) place cells.list →
+      AreExchanged old new offset (lists_of s.index) result
+      (exchanged place.list (grown (numbered place.list (lists_of s.index)) cells.list place.index entry ∷ []) (lists_of s.index)) (taken cells.list)
+      → HasOneMore old new count offset place entry entries cells result
+  grown-more alone r x =
+      let list : KeyList = grown (numbered place.list (lists_of s.index)) cells.list place.index entry in
+      many-more (taken cells.list) (list ∷ []) alone r.within r.index
+      (leaf-entries (unwrap_or cells.list (numbered place.list (lists_of s.index)).offset) (with_one place.index entry (numbered place.list (lists_of s.index)).list.entries))
+      (sym (parted-few (with_one place.index entry (numbered place.list (lists_of s.index)).list.entries)
+      (omega (arith, r.few, length-with place.index entry (numbered place.list (lists_of s.index)).list.entries r.index))))
+      x
+      (λ z. omega (
+        arith,
+        cells-are result (exchanged place.list (list ∷ []) (lists_of s.index)) z,
+        exchanged-parted place.list (list ∷ []) (lists_of s.index) z,
+        own-or-fresh z (numbered place.list (lists_of s.index)).offset cells.list,
+      ))
+
+  pub halved-more : (first second : ℕ) → each_of cells ≡ first ∷ second ∷ taken cells.root → HasRoomForTwo old offset (lists_of s.index) place first second cells.root →
+      result ≡ unwrap_or cells.root offset →
+      AreExchanged old new offset (lists_of s.index) result
+      (exchanged place.list (halves first second (with_one place.index entry (numbered place.list (lists_of s.index)).list.entries)) (lists_of s.index)) (first ∷ second ∷ taken cells.root)
+      → HasOneMore old new count offset place entry entries cells result
+  halved-more first second three r at x =
+      let two : List KeyList = halves first second (with_one place.index entry (numbered place.list (lists_of s.index)).list.entries) in
+      let long : 2 ≤ length (exchanged place.list two (lists_of s.index)) = omega (arith, length-exchanged place.list two (lists_of s.index) r.within, r.within) in
+      many-more (first ∷ second ∷ taken cells.root) two three r.within r.index
+      (halves-entries first second (with_one place.index entry (numbered place.list (lists_of s.index)).list.entries))
+      (sym (parted-many (with_one place.index entry (numbered place.list (lists_of s.index)).list.entries)
+      (omega (arith, r.full, length-with place.index entry (numbered place.list (lists_of s.index)).list.entries r.index)))) x
+      (λ z. omega (
+        arith,
+        cells-are result (exchanged place.list two (lists_of s.index)) z,
+        exchanged-parted place.list two (lists_of s.index) z,
+        ap (times z) (roots-two result (exchanged place.list two (lists_of s.index)) long),
+        own-or-fresh z offset cells.root,
+        ap (λ o. times z (o ∷ [])) at,
+      ))
 
 -- ---- the subkeys with one more
 
-module _ (old between new : Heap) (count offset : ℕ) (fresh : Option ℕ) (at after index key : ℕ) (more : after ≡ count + 1) (few : count < LEAF_LIMIT)
-    (some : IsSome (key_at old key)) (ready : IsReady old (insert_size old count offset) fresh)
-    (opened : Moves old between (own old count offset ++ taken fresh) (at ∷ [])) (filled : Writes between new (at ∷ [])) where
-  moved : CellFrame old new (λ z. times z (own old count offset ++ taken fresh)) (λ z. times z (at ∷ []))
-  moved = record {
-    count = λ z. omega (arith, opened.count z, filled.count z);
-    same = λ z gone came. filled.same z came came ∙ opened.same z gone came;
-  }
+module _ (old new : Heap) (count offset result : ℕ) (place : Place) (cells : IndexCells) (key hint : ℕ) (some : IsSome (key_at old key))
+    (ready : IsReady old (insert_sizes old count offset place) cells) (hint_is : hint ≡ hash (name_at old key))
+    (fits : (entries : List Entry) × AreSubkeys old count offset entries × IsIndexFor (names_in old entries) (folded (name_at old key)) (Err (flat old count offset place)))
+    (added : (entries : List Entry) → AreSubkeys old count offset entries → HasOneMore old new count offset place (record { offset = key; hint = hint }) entries cells result)
+    (entries : List Entry) (s : AreSubkeys old count offset entries) where
+  same : fits.0 ≡ entries
+  same = same-subkeys old count offset fits.0 entries fits.1 s
 
-  module _ (hint : ℕ) (hint_is : hint ≡ hash (name_at old key))
-      (put : (entries : List Entry) → HasGap between at index entries → length entries + 1 ≡ after → index ≤ length entries →
-      IsLeaf new at (with_one index (record { offset = key; hint = hint }) entries))
-      (gap : (entries : List Entry) → AreSubkeys old count offset entries → HasGap between at index entries)
-      (fits : (entries : List Entry) × AreSubkeys old count offset entries × IsIndexFor (names_in old entries) (folded (name_at old key)) (Err index))
-      (entries : List Entry) (s : AreSubkeys old count offset entries) where
-    same : fits.0 ≡ entries
-    same = same-subkeys old count offset fits.0 entries fits.1 s
+  index_fits : IsIndexFor (names_in old entries) (folded (name_at old key)) (Err (flat old count offset place))
+  index_fits = subst (λ es. IsIndexFor (names_in old es) (folded (name_at old key)) (Err (flat old count offset place))) same fits.2
 
-    offset_is : IsIndexFor (names_in old entries) (folded (name_at old key)) (Err index)
-    offset_is = subst (λ es. IsIndexFor (names_in old es) (folded (name_at old key)) (Err index)) same fits.2
+  more : HasOneMore old new count offset place (entry_for old key) entries cells result
+  more = subst (λ h. HasOneMore old new count offset place (record { offset = key; hint = h }) entries cells result) hint_is (added entries s)
 
-    within : index ≤ length entries
-    within = omega (arith, offset_is.0, length-names old entries)
+  changed : AreExchanged old new offset (lists_of s.index) result more.others (each_of cells)
+  changed =
+      subst (λ lists. AreExchanged old new offset lists result more.others (each_of cells)) (ap lists_of (index-is old count offset s.index s.read)) more.exchanged
 
-    leaf : IsLeaf new at (with_one index (entry_for old key) entries)
-    leaf =
-        subst (λ h. IsLeaf new at (with_one index (record { offset = key; hint = h }) entries)) hint_is
-        (put entries (gap entries s) (omega (arith, s.number, more)) within)
+  number : length (with_one (flat old count offset place) (entry_for old key) entries) ≡ count + 1
+  number =
+      omega (
+        arith,
+        length-with (flat old count offset place) (entry_for old key) entries (result-length old entries (folded (name_at old key)) (flat old count offset place) index_fits),
+        s.number,
+      )
 
-    stay : (z : ℕ) → IsSome (key_at old z) → key_at new z ≡ key_at old z
-    stay z is = key-stays old new (λ z. times z (own old count offset ++ taken fresh)) (λ z. times z (at ∷ [])) z moved is
-        (given-none old count offset fresh z entries s ready is)
+  pub one-more : AreSubkeys new (count + 1) result (with_one (flat old count offset place) (entry_for old key) entries)
+  one-more =
+      subkeys-exchanged old new count offset (count + 1) result (each_of cells) entries (with_one (flat old count offset place) (entry_for old key) entries) more.others s changed
+      (each-none old (insert_sizes old count offset place) cells ready) more.entries_are
+      (keys-with old (flat old count offset place) key entries some (keys-of old count offset entries s) index_fits) number
 
-    all-stay : Stay old new (with_one index (entry_for old key) entries)
-    all-stay =
-        all-with (λ (e : Entry). key_at new e.offset ≡ key_at old e.offset) index (entry_for old key) entries (stay key some)
-        (all-map (λ (e : Entry). IsSome (key_at old e.offset)) (λ (e : Entry). key_at new e.offset ≡ key_at old e.offset) entries (λ e is. stay e.offset is) s.keys)
+  pub one-moves : Moves old new (own old count offset ++ each_of cells) (own new (count + 1) result)
+  one-moves =
+      moves-exchanged old new count offset (count + 1) result (each_of cells) entries (with_one (flat old count offset place) (entry_for old key) entries) more.others s changed
+      (each-none old (insert_sizes old count offset place) cells ready) more.entries_are
+      (keys-with old (flat old count offset place) key entries some (keys-of old count offset entries s) index_fits) number
 
-    pub one-more : AreSubkeys new after at (with_one index (entry_for old key) entries)
-    one-more =
-        leaf-subkeys new after at (with_one index (entry_for old key) entries) (omega (arith, more)) leaf
-        (omega (arith, length-with index (entry_for old key) entries within, s.number, more)) (omega (arith, few, more))
-        (keys-stay old new (with_one index (entry_for old key) entries) (keys-with old index key entries some (keys-of old count offset entries s) offset_is) all-stay)
+  pub one-listed : listed (index_of new (count + 1) result) ≡ lists_with place (entry_for old key) (listed (index_of old count offset))
+  one-listed =
+      ap told (lists-under new (count + 1) result more.others more.exchanged.now (ap length more.entries_are ∙ number))
+      ∙ more.lists_are
 
-    pub one-moves : Moves old new (own old count offset ++ taken fresh) (own new after at)
-    one-moves =
-        subst (λ cells. Moves old new (own old count offset ++ taken fresh) cells)
-        (sym (own-leaf new after at (with_one index (entry_for old key) entries) one-more (omega (arith, more)))) moved
-
--- what filling the gap needs
-pub fill-needs : (old between : Heap) (count offset at index after : ℕ) (name : List ℕ) → after ≡ count + 1
-    → (fits : (entries : List Entry) × AreSubkeys old count offset entries × IsIndexFor (names_in old entries) name (Err index))
-    → ((entries : List Entry) → AreSubkeys old count offset entries → HasGap between at index entries)
-    → (entries : List Entry) × HasGap between at index entries × (length entries + 1 ≡ after) × (index ≤ length entries)
-fill-needs old between count offset at index after name more fits gap =
-    (fits.0, gap fits.0 fits.1, omega (arith, fits.1.number, more), omega (arith, fits.2.0, length-names old fits.0))
-
-pub open-needs : (heap : Heap) (count offset index : ℕ) (name : List ℕ) → (entries : List Entry) × AreSubkeys heap count offset entries ×
-    IsIndexFor (names_in heap entries) name (Err index) → (entries : List Entry) × AreSubkeys heap count offset entries × (index ≤ length entries)
-open-needs heap count offset index name fits = (fits.0, fits.1, omega (arith, fits.2.0, length-names heap fits.0))
+  pub one-stay : (z : ℕ) → 0 < times z (each_of cells) → IsSome (new z)
+  one-stay z l = cells-there new result more.others more.exchanged.now z (omega (arith, l, more.used z))

@@ -5,28 +5,26 @@ use Rattle.std.specs.Prelude.{slice_index, Ok}
 use Rattle.std.specs.List.{AllByRecursion}
 use Rattle.std.specs.Option.{option_and_then}
 use Rattle.std.proofs.lemmas.Bool.{false≢true, eqb-true, ne_eqb, and_parts}
-use Rattle.std.proofs.lemmas.List.{append-nil}
-use Rattle.std.proofs.lemmas.Option.{none-some, same_Some}
+use Rattle.std.proofs.lemmas.Option.{none-some}
 use Rattle.reg_names.specs.Names.{folded, hash}
-use Rattle.reg_heap.specs.declared.limits.TheConstants.{NONE, LEAF_LIMIT}
+use Rattle.reg_heap.specs.declared.limits.TheConstants.{NONE}
 use Rattle.reg_heap.specs.Heaps.{Heap, CellFrame, allocated}
 use Rattle.reg_heap.specs.Kinds.{times, is_own, owned}
-use Rattle.reg_records.specs.RecordCells.{held}
 use Rattle.reg_records.specs.KeyNodes.{KeyRecord, nk_of, key_at}
 use Rattle.reg_records.specs.Letters.{is_signed}
-use Rattle.reg_records.specs.SubkeyLists.{SubkeysList, Entry, form_of}
-use Rattle.reg_records.specs.declared.lists.ListForm.TheVariants.{HashLeaf}
-use Rattle.reg_shape.specs.Nodes.{KeyList, Index, index_as, index_at}
+use Rattle.reg_records.specs.SubkeyLists.{SubkeysList, Entry, form_of, list_as, list_of}
+use Rattle.reg_shape.specs.Nodes.{KeyList, Index, index_at, list_at}
 use Rattle.reg_shape.specs.Nodes.Index.{Unlisted, Listed, Rooted}
 use Rattle.reg_shape.specs.Internal.Shapes.{joined, lists_met, index_cells}
 use Rattle.reg_shape.proofs.Wholeness.ShapeCounts.{tally-append, nothing-met, nothing-taken}
 use Rattle.reg_shape.proofs.Frame.KeyFrame.{index-local}
 use Rattle.reg_records.proofs.RecordWriting.{read_at-open, read_at-same, no_fault}
 use Rattle.reg_index.specs.Internal.HashLeaves.{IsLeaf}
+use Rattle.reg_index.specs.Internal.IndexLists.{AreKeys}
 use Rattle.reg_index.specs.Subkeys.{name_at, name_or_none, names_in, Rises, AreSubkeys, cells_of_index, own}
-use Rattle.reg_index.proofs.LeafParts.{leaf-open}
+use Rattle.reg_index.proofs.ListsRead.{list-read}
 use Rattle.reg_index.proofs.NameSearch.{key-here}
-use Rattle.reg_index.proofs.SubkeysOpening.{own-is}
+use Rattle.reg_index.proofs.SubkeysOpening.{own-is, keys-of}
 
 -- ---- a list is no key
 
@@ -48,14 +46,19 @@ some-is : {A : Type 0} (o : Option A) → IsSome o → (x : A) × (o ≡ Some x)
 some-is None s = absurd (false≢true s)
 some-is (Some x) s = (x, refl)
 
-pub key-or-leaf : (heap : Heap) (offset : ℕ) (entries : List Entry) → IsLeaf heap offset entries → IsSome (key_at heap offset) → ⊥
+form-read : (content : List ℕ) (l : SubkeysList) → list_of content ≡ Some l → form_of content ≡ None → ⊥
+unfolding list_of
+form-read content l e none = none-some _ (sym (ap (option_and_then (λ form. list_as form content)) none) ∙ e)
+
+pub key-or-list : (heap : Heap) (cell : ℕ) (l : SubkeysList) → list_at heap cell ≡ Some l → IsSome (key_at heap cell) → ⊥
 unfolding key_at
-key-or-leaf heap offset entries leaf some =
-    let key = some-is (key_at heap offset) some in
-    let read = read_at-open nk_of heap offset key.0 key.1 in
-    let l = leaf-open heap offset entries leaf in
-    let same : held heap offset ≡ read.0 = same_Some _ _ (sym l.here ∙ read.1) in
-    none-some _ (sym (without_form read.0 (signed-key read.0 key.0 read.2)) ∙ (ap form_of (sym same) ∙ l.says.form))
+key-or-list heap cell l is some =
+    let key = some-is (key_at heap cell) some in
+    let read = read_at-open nk_of heap cell key.0 key.1 in
+    form-read read.0 l (list-read heap cell read.0 l read.1 is) (without_form read.0 (signed-key read.0 key.0 read.2))
+
+pub key-or-leaf : (heap : Heap) (offset : ℕ) (entries : List Entry) → IsLeaf heap offset entries → IsSome (key_at heap offset) → ⊥
+key-or-leaf heap offset entries leaf some = key-or-list heap offset _ leaf some
 
 -- ---- a cell that nothing took
 
@@ -97,15 +100,6 @@ pub names-stay : (old new : Heap) (entries : List Entry) → Stay old new entrie
 names-stay old new [] stay = refl
 names-stay old new (e ∷ es) stay = let one : folded (name_at new e.offset) ≡ folded (name_at old e.offset) = ap (λ k. folded (name_or_none k)) stay.0 in (λ i. one i ∷ names-stay old new es stay.1 i)
 
--- what a list of keys needs beside its reading: keys with the hashes of their names, rising
-pub record AreKeys (heap : Heap) (entries : List Entry) : Type 0 where
-  pub keys : AllByRecursion (λ (e : Entry). IsSome (key_at heap e.offset)) entries
-  pub hashes : AllByRecursion (λ (e : Entry). e.hint ≡ hash (name_at heap e.offset)) entries
-  pub rising : Rises (names_in heap entries)
-
-pub keys-of : (heap : Heap) (count offset : ℕ) (entries : List Entry) → AreSubkeys heap count offset entries → AreKeys heap entries
-keys-of heap count offset entries s = record { keys = s.keys; hashes = s.hashes; rising = s.rising }
-
 pub keys-stay : (old new : Heap) (entries : List Entry) → AreKeys old entries → Stay old new entries → AreKeys new entries
 keys-stay old new entries k stay = record {
   keys = all-both (λ (e : Entry). IsSome (key_at old e.offset)) (λ (e : Entry). key_at new e.offset ≡ key_at old e.offset)
@@ -113,23 +107,6 @@ keys-stay old new entries k stay = record {
   hashes = all-both (λ (e : Entry). e.hint ≡ hash (name_at old e.offset)) (λ (e : Entry). key_at new e.offset ≡ key_at old e.offset) (λ (e : Entry). e.hint ≡ hash (name_at new e.offset)) entries
       (λ e h same. h ∙ ap (λ key. hash (name_or_none key)) (sym same)) k.hashes stay;
   rising = subst Rises (sym (names-stay old new entries stay)) k.rising;
-}
-
--- a hash leaf and its keys are the subkeys
-pub leaf-subkeys : (heap : Heap) (count offset : ℕ) (entries : List Entry) → 0 < count → IsLeaf heap offset entries → length entries ≡ count →
-    count ≤ LEAF_LIMIT → AreKeys heap entries → AreSubkeys heap count offset entries
-leaf-subkeys heap zero offset entries l leaf n few k = absurd (omega arith)
-leaf-subkeys heap (suc count) offset entries l leaf n few k = record {
-  index = Listed (record { offset = offset; list = record { form = HashLeaf; entries = entries } });
-  read = ap (option_and_then (λ (list : SubkeysList). index_as heap offset list list.form)) leaf;
-  written = record { form = refl; some = omega (arith, n); few = omega (arith, n, few) };
-  entries_are = append-nil entries;
-  number = n;
-  single = tt;
-  unlisted = λ e. absurd (omega (arith, e));
-  keys = k.keys;
-  hashes = k.hashes;
-  rising = k.rising;
 }
 
 -- without subkeys there is no list
@@ -140,7 +117,6 @@ no-subkeys heap zero offset [] e none n = record {
   written = tt;
   entries_are = refl;
   number = refl;
-  single = tt;
   unlisted = λ _. none;
   keys = tt;
   hashes = tt;
@@ -183,7 +159,6 @@ subkeys-stay old new count offset entries s same stay =
       written = s.written;
       entries_are = s.entries_are;
       number = s.number;
-      single = s.single;
       unlisted = s.unlisted;
       keys = k.keys;
       hashes = k.hashes;

@@ -1,10 +1,12 @@
-//! A key's subkeys, in one list of hashes in the order of their folded names.
+//! A key's subkeys, in lists of hashes in the order of their folded names: none, one list, or several under an index root.
 //!
-//! Its one contract: the list has just the subkeys, in order and each with its hash, before and after each change; a search tells
-//! exactly whether a name is there, and where. The functions work on an arena that they are lent and on a list's offset in it. The
-//! key node that names the list is the caller's: nothing of it is written here, and of the subkeys only their names are read.
+//! Its one contract: the lists have just the subkeys, in order and each with its hash, before and after each change; a search
+//! tells exactly whether a name is there, and where. The functions work on an arena that they are lent and on a list's offset in
+//! it. The key node that names the list is the caller's: nothing of it is written here, and of the subkeys only their names are
+//! read.
 //!
-//! It stands on reg_records, reg_shape and reg_names. Its type is [`SubkeysIndex`], a list as its key node names it.
+//! It stands on reg_records, reg_shape and reg_names. Its types are [`SubkeysIndex`], the subkeys as their key node names them,
+//! [`Place`], where one of them stands, and [`IndexCells`], what one more takes.
 //!
 //! Suhanov, Windows registry file format specification, section "Subkeys list".
 #![tactic(auto)]
@@ -16,19 +18,41 @@ mod leaf;
 mod look;
 mod plan;
 mod removing;
+mod root;
+mod splitting;
 
 pub use inserting::insert;
-pub use look::{at, find};
-pub use plan::{FIRST_LIST_SIZE, plan_insert};
+pub use look::{at, at_place, behind, find};
+pub use plan::{FIRST_HALF, FIRST_LIST_SIZE, SECOND_HALF, plan_insert};
 pub use removing::remove;
 
-/// A key's list of subkeys, as its key node names it.
+/// A key's subkeys, as its key node names them.
 #[derive(Clone, Copy, Debug, PartialEq, Eq)]
 pub struct SubkeysIndex {
-    /// How many subkeys there are, at most 500.
+    /// How many subkeys there are, at most 60,000.
     pub count: u32,
-    /// The offset of the list's cell; 0xFFFFFFFF where there are no subkeys.
+    /// The offset of the cell of their list or index root; 0xFFFFFFFF where there are no subkeys.
     pub offset: u32,
+}
+
+/// Where a subkey stands or belongs.
+#[derive(Clone, Copy, Debug, PartialEq, Eq)]
+pub struct Place {
+    /// The number of its list among the index root's, counted from 0; 0 where there is one list or none.
+    pub list: u32,
+    /// Its index in that list, counted from 0.
+    pub index: u32,
+}
+
+/// What an insert takes: the sizes of the cells as they are planned, or the cells that were carved for them.
+#[derive(Clone, Copy, Debug, PartialEq, Eq)]
+pub struct IndexCells {
+    /// Of the list that the subkey comes into; where a full list gives way to two, of its first half.
+    pub list: Option<u32>,
+    /// Of the second half of a full list.
+    pub second: Option<u32>,
+    /// Of the index root.
+    pub root: Option<u32>,
 }
 
 /// How many subkeys there are.

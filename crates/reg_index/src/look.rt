@@ -1,16 +1,23 @@
 //! Subkeys, found and read.
 
-ghost use Rattle.std.specs.Prelude.{◌≡◌, ◌<◌, ℕ, List, IsSome, get_or};
+ghost use Rattle.std.specs.Prelude.{◌≡◌, ◌+◌, ◌<◌, ◌≤◌, ℕ, List, Some, IsSome, MatchOption, MatchResult, length, get_or};
 ghost use Rattle.reg_names.specs.Names.{folded};
+ghost use Rattle.reg_heap.specs.declared.limits.TheConstants.{LEAF_LIMIT};
+ghost use Rattle.reg_heap.specs.ByteWords.{half};
 ghost use Rattle.reg_arena.specs.Arena.{heap_of};
 ghost use Rattle.reg_records.specs.KeyNodes.{key_at};
-ghost use Rattle.reg_records.specs.SubkeyLists.{Entry};
-ghost use Rattle.reg_index.specs.Subkeys.{AreSubkeys, IsIndexFor, name_at, names_in};
+ghost use Rattle.reg_records.specs.SubkeyLists.{Entry, SubkeysList};
+ghost use Rattle.reg_shape.specs.Nodes.{KeyList, list_at};
+ghost use Rattle.reg_index.specs.Subkeys.{AreSubkeys, IsIndexFor, IsPlaceIn, StandsIn, entries_in, flat, flat_among, flat_found, index_of, name_at, names_in, numbered};
+ghost use Rattle.reg_index.specs.Internal.HashLeaves.{IsLeaf};
+ghost use Rattle.reg_index.specs.Internal.IndexLists.{AreKeys, HasLists, StandsAmong};
+ghost use Rattle.reg_index.specs.Internal.NameSearches.{Between, IsListFor};
 
-use crate::SubkeysIndex;
+use crate::{Place, SubkeysIndex};
+use byteorder::{ByteOrder, LittleEndian};
 use reg_arena::Arena;
 use reg_names::name_order;
-use reg_records::{ListForm, entry_at, nk_name};
+use reg_records::{ListForm, ListHead, entry_at, nk_name, read_list};
 use std::cmp::Ordering;
 
 /// The name of the key at an offset.
@@ -21,32 +28,204 @@ pub(crate) fn name_of(arena: &Arena, key: u32) -> &[u8]
     nk_name(arena.content(key))
 }
 
-/// The offset of the key at an index, counted from 0 in the order of folded names.
+/// The head of the list in a cell.
+fn head_in(arena: &Arena, cell: u32) -> ListHead
+    requires { (l : SubkeysList) × (list_at (heap_of arena.now) cell ≡ Some l) }
+    ensures form { (l : SubkeysList) → list_at (heap_of arena.now) cell ≡ Some l → result.form ≡ l.form }
+    ensures count { (l : SubkeysList) → list_at (heap_of arena.now) cell ≡ Some l → result.count ≡ length l.entries }
+    ensures fits { result.count < 65536 }
+{
+    let Ok(head) = read_list(arena.content(cell)) else {
+        unreachable!()
+    };
+    head
+}
+
+/// How many entries the list has that a cell holds: its second 16-bit number.
+#[tactic(auto, unfolding(reg_heap::specs::ByteWords::half))]
+fn count_at(content: &[u8]) -> u16
+    requires { 4 ≤ length content.now }
+    ensures { result ≡ half content.now 2 }
+{
+    LittleEndian::read_u16(&content[2..])
+}
+
+/// How many entries a leaf has. It reads no more than their number.
+pub(crate) fn count_entries(arena: &Arena, leaf: u32) -> u32
+    requires { (entries : List Entry) × IsLeaf (heap_of arena.now) leaf entries }
+    ensures { (entries : List Entry) → IsLeaf (heap_of arena.now) leaf entries → result ≡ length entries }
+{
+    u32::from(count_at(arena.content(leaf)))
+}
+
+/// How many lists there are: one leaf, or those of an index root.
+pub(crate) fn count_lists(arena: &Arena, offset: u32) -> u32
+    requires { (lists : List KeyList) × HasLists (heap_of arena.now) offset lists × (0 < length lists) }
+    ensures count { (lists : List KeyList) → HasLists (heap_of arena.now) offset lists → 0 < length lists → result ≡ length lists }
+    ensures fits { result < 65536 }
+{
+    let head = head_in(arena, offset);
+    match head.form {
+        ListForm::IndexRoot => u32::from(head.count),
+        _ => 1,
+    }
+}
+
+/// The offset of the list of a number, counted from 0.
+pub(crate) fn leaf_at(arena: &Arena, offset: u32, number: u32) -> u32
+    requires { (lists : List KeyList) × HasLists (heap_of arena.now) offset lists × (number < length lists) }
+    ensures { (lists : List KeyList) → HasLists (heap_of arena.now) offset lists → number < length lists →
+        (numbered number lists).offset ≡ result }
+{
+    let head = head_in(arena, offset);
+    match head.form {
+        ListForm::IndexRoot => {
+            entry_at(arena.content(offset), ListForm::IndexRoot, number as u16).offset
+        }
+        _ => offset,
+    }
+}
+
+/// The offset of the key at an index of a leaf.
+fn key_in(arena: &Arena, leaf: u32, index: u32) -> u32
+    requires leaf { (entries : List Entry) × IsLeaf (heap_of arena.now) leaf entries × (index < length entries) }
+    requires few { index < LEAF_LIMIT }
+    ensures { (entries : List Entry) → IsLeaf (heap_of arena.now) leaf entries → index < length entries →
+        (get_or entries index (record { offset = 0; hint = 0 })).offset ≡ result }
+{
+    entry_at(arena.content(leaf), ListForm::HashLeaf, index as u16).offset
+}
+
+/// Where the entry at an index among those of all lists stands. It reads the numbers of entries of the lists before, and no more of them.
+fn place_of(arena: &Arena, offset: u32, index: u32) -> Place
+    requires { (lists : List KeyList) × HasLists (heap_of arena.now) offset lists × (index < length (entries_in lists)) }
+    ensures { (lists : List KeyList) → HasLists (heap_of arena.now) offset lists → index < length (entries_in lists) →
+        StandsAmong lists result × (flat_among lists result ≡ index) }
+{
+    let mut place = Place { list: 0, index };
+    if count_lists(arena, offset) == 1 {
+        return place;
+    }
+    let root = arena.content(offset);
+    loop {
+        let leaf = entry_at(root, ListForm::IndexRoot, place.list as u16).offset;
+        let count = count_entries(arena, leaf);
+        if place.index < count {
+            return place;
+        }
+        place = Place {
+            list: place.list + 1,
+            index: place.index - count,
+        };
+    }
+}
+
+/// The offset of the key at an index, counted from 0 in the order of folded names. Of each list before it reads one word.
 pub fn at(arena: &Arena, list: SubkeysIndex, index: u32) -> u32
     requires subkeys { (entries : List Entry) × AreSubkeys (heap_of arena.now) list.count list.offset entries }
     requires index { index < list.count }
     ensures { (entries : List Entry) → AreSubkeys (heap_of arena.now) list.count list.offset entries →
         (get_or entries index (record { offset = 0; hint = 0 })).offset ≡ result }
 {
-    entry_at(arena.content(list.offset), ListForm::HashLeaf, index as u16).offset
+    let place = place_of(arena, list.offset, index);
+    key_in(arena, leaf_at(arena, list.offset, place.list), place.index)
 }
 
-/// Where a name stands among the subkeys, or as an `Err` where it belongs: a binary search that reads names in their
-/// cells.
-pub fn find(arena: &Arena, list: SubkeysIndex, name: &[u8]) -> Result<u32, u32>
-    requires { (entries : List Entry) × AreSubkeys (heap_of arena.now) list.count list.offset entries }
+/// The offset of the key at a place.
+pub fn at_place(arena: &Arena, list: SubkeysIndex, place: Place) -> u32
+    requires subkeys { (entries : List Entry) × AreSubkeys (heap_of arena.now) list.count list.offset entries }
+    requires place { StandsIn (index_of (heap_of arena.now) list.count list.offset) place }
     ensures { (entries : List Entry) → AreSubkeys (heap_of arena.now) list.count list.offset entries →
+        (get_or entries (flat (heap_of arena.now) list.count list.offset place) (record { offset = 0; hint = 0 })).offset ≡ result }
+{
+    key_in(arena, leaf_at(arena, list.offset, place.list), place.index)
+}
+
+/// The offset of the key behind the one at a place, in the order of folded names, if there is one.
+pub fn behind(arena: &Arena, list: SubkeysIndex, place: Place) -> Option<u32>
+    requires subkeys { (entries : List Entry) × AreSubkeys (heap_of arena.now) list.count list.offset entries }
+    requires place { StandsIn (index_of (heap_of arena.now) list.count list.offset) place }
+    ensures { (entries : List Entry) → AreSubkeys (heap_of arena.now) list.count list.offset entries →
+        MatchOption result (length entries ≤ flat (heap_of arena.now) list.count list.offset place + 1)
+        (λ key. (flat (heap_of arena.now) list.count list.offset place + 1 < length entries)
+        × ((get_or entries (flat (heap_of arena.now) list.count list.offset place + 1) (record { offset = 0; hint = 0 })).offset ≡ key)) }
+{
+    let leaf = leaf_at(arena, list.offset, place.list);
+    let index = place.index + 1;
+    if index < count_entries(arena, leaf) {
+        return Some(key_in(arena, leaf, index));
+    }
+    let lists = count_lists(arena, list.offset);
+    let number = place.list + 1;
+    if number < lists {
+        return Some(key_in(arena, leaf_at(arena, list.offset, number), 0));
+    }
+    None
+}
+
+/// The number of the list in which a name stands or belongs: of the last one that begins with it or a name before it, or else of
+/// the first one.
+fn list_for(arena: &Arena, offset: u32, name: &[u8]) -> u32
+    requires { (lists : List KeyList) × HasLists (heap_of arena.now) offset lists × (0 < length lists)
+        × AreKeys (heap_of arena.now) (entries_in lists) }
+    ensures { (lists : List KeyList) → HasLists (heap_of arena.now) offset lists → 0 < length lists →
+        AreKeys (heap_of arena.now) (entries_in lists) → IsListFor (heap_of arena.now) lists (folded name.now) result }
+{
+    let mut low = 1;
+    let mut high = count_lists(arena, offset);
+    while low < high {
+        let middle = low + (high - low) / 2;
+        let first = key_in(arena, leaf_at(arena, offset, middle), 0);
+        match name_order(name_of(arena, first), name) {
+            Ordering::Less | Ordering::Equal => low = middle + 1,
+            Ordering::Greater => high = middle,
+        }
+    }
+    low - 1
+}
+
+/// Where a name stands in a leaf, or as an `Err` where it belongs there: a binary search that reads names in their cells.
+fn find_in(arena: &Arena, leaf: u32, name: &[u8]) -> Result<u32, u32>
+    requires { (entries : List Entry) × IsLeaf (heap_of arena.now) leaf entries × AreKeys (heap_of arena.now) entries
+        × (length entries ≤ LEAF_LIMIT) }
+    ensures { (entries : List Entry) → IsLeaf (heap_of arena.now) leaf entries → AreKeys (heap_of arena.now) entries →
         IsIndexFor (names_in (heap_of arena.now) entries) (folded name.now) result }
 {
     let mut low = 0;
-    let mut high = list.count;
+    let mut high = count_entries(arena, leaf);
     while low < high {
         let middle = low + (high - low) / 2;
-        match name_order(name_of(arena, at(arena, list, middle)), name) {
+        match name_order(name_of(arena, key_in(arena, leaf, middle)), name) {
             Ordering::Less => low = middle + 1,
             Ordering::Equal => return Ok(middle),
             Ordering::Greater => high = middle,
         }
     }
     Err(low)
+}
+
+/// Where a name stands among the subkeys, or as an `Err` where it belongs: a binary search among the lists, and one in a list.
+pub fn find(arena: &Arena, list: SubkeysIndex, name: &[u8]) -> Result<Place, Place>
+    requires { (entries : List Entry) × AreSubkeys (heap_of arena.now) list.count list.offset entries }
+    ensures index { (entries : List Entry) → AreSubkeys (heap_of arena.now) list.count list.offset entries →
+        IsIndexFor (names_in (heap_of arena.now) entries) (folded name.now)
+        (flat_found (heap_of arena.now) list.count list.offset result) }
+    ensures place { MatchResult result
+        (λ place. StandsIn (index_of (heap_of arena.now) list.count list.offset) place)
+        (λ place. IsPlaceIn (index_of (heap_of arena.now) list.count list.offset) place) }
+{
+    if list.count == 0 {
+        return Err(Place { list: 0, index: 0 });
+    }
+    let number = list_for(arena, list.offset, name);
+    match find_in(arena, leaf_at(arena, list.offset, number), name) {
+        Ok(index) => Ok(Place {
+            list: number,
+            index,
+        }),
+        Err(index) => Err(Place {
+            list: number,
+            index,
+        }),
+    }
 }

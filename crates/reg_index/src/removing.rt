@@ -1,38 +1,84 @@
 //! A subkey removed.
 
-ghost use Rattle.std.specs.Prelude.{◌≡◌, ◌+◌, ◌<◌, List, length};
+ghost use Rattle.std.specs.Prelude.{◌≡◌, ◌+◌, ◌<◌, [], List, length};
 ghost use Rattle.reg_arena.specs.Arena.{heap_of};
 ghost use Rattle.reg_records.specs.SubkeyLists.{Entry};
-ghost use Rattle.reg_index.specs.Subkeys.{AreSubkeys, Moves, own, without};
+ghost use Rattle.reg_shape.specs.Nodes.{KeyList};
+ghost use Rattle.reg_index.specs.Subkeys.{AreSubkeys, Moves, StandsIn, flat, index_of, listed, lists_without, numbered, own, without};
+ghost use Rattle.reg_index.specs.Internal.IndexLists.{AreExchanged, HasLists, IsOnce, StandsAmong, cells_under, exchanged, left_over};
 
-use crate::SubkeysIndex;
 use crate::leaf::close;
+use crate::look::{count_entries, count_lists, leaf_at};
+use crate::root::take_out;
+use crate::{Place, SubkeysIndex};
 use reg_arena::Arena;
 use reg_heap::limits::NONE;
 
-/// Takes the key at an index out of the subkeys; the later ones close up in the list's cell. A list left empty is freed.
-/// Answers where the list is now.
-pub fn remove(arena: &mut Arena, list: SubkeysIndex, index: u32) -> SubkeysIndex
+/// Frees the list of a number, which is empty. An index root loses its offset, and one left with one list is freed and gives way to
+/// that. Answers what the key names now.
+fn drop_list(arena: &mut Arena, offset: u32, number: u32) -> u32
+    requires { (lists : List KeyList) × HasLists (heap_of arena.old) offset lists × (number < length lists)
+        × IsOnce (cells_under offset lists) }
+    ensures lists { (lists : List KeyList) → HasLists (heap_of arena.old) offset lists → number < length lists →
+        IsOnce (cells_under offset lists) →
+        AreExchanged (heap_of arena.old) (heap_of arena.new) offset lists result (exchanged number [] lists) [] }
+    ensures long { length arena.new.bytes ≡ length arena.old.bytes }
+{
+    let lists = count_lists(arena, offset);
+    let leaf = leaf_at(arena, offset, number);
+    if lists == 1 {
+        arena.free(leaf);
+        return NONE;
+    }
+    if lists == 2 {
+        let other = leaf_at(arena, offset, 1 - number);
+        arena.free(leaf);
+        arena.free(offset);
+        return other;
+    }
+    arena.free(leaf);
+    take_out(arena, offset, lists - 1, number);
+    offset
+}
+
+/// Takes an entry out of the lists; the later ones of its list close up. Answers what the key names now.
+fn remove_entry(arena: &mut Arena, offset: u32, place: Place) -> u32
+    requires { (lists : List KeyList) × HasLists (heap_of arena.old) offset lists × StandsAmong lists place
+        × IsOnce (cells_under offset lists) }
+    ensures lists { (lists : List KeyList) → HasLists (heap_of arena.old) offset lists → StandsAmong lists place →
+        IsOnce (cells_under offset lists) →
+        AreExchanged (heap_of arena.old) (heap_of arena.new) offset lists result
+        (exchanged place.list (left_over (numbered place.list lists).offset
+        (without place.index (numbered place.list lists).list.entries)) lists) [] }
+    ensures long { length arena.new.bytes ≡ length arena.old.bytes }
+{
+    let leaf = leaf_at(arena, offset, place.list);
+    let left = count_entries(arena, leaf) - 1;
+    if left == 0 {
+        return drop_list(arena, offset, place.list);
+    }
+    close(arena, leaf, left, place.index);
+    offset
+}
+
+/// Takes the key at a place out of the subkeys; the later ones of its list close up in the list's cell. A list left empty is freed, and
+/// so is an index root left with one list. Answers where the subkeys are now.
+pub fn remove(arena: &mut Arena, list: SubkeysIndex, place: Place) -> SubkeysIndex
     requires subkeys { (entries : List Entry) × AreSubkeys (heap_of arena.old) list.count list.offset entries }
-    requires index { index < list.count }
+    requires place { StandsIn (index_of (heap_of arena.old) list.count list.offset) place }
     ensures subkeys { (entries : List Entry) → AreSubkeys (heap_of arena.old) list.count list.offset entries →
-        AreSubkeys (heap_of arena.new) result.count result.offset (without index entries) }
+        AreSubkeys (heap_of arena.new) result.count result.offset
+        (without (flat (heap_of arena.old) list.count list.offset place) entries) }
     ensures count { result.count + 1 ≡ list.count }
+    ensures lists { listed (index_of (heap_of arena.new) result.count result.offset) ≡
+        lists_without place (listed (index_of (heap_of arena.old) list.count list.offset)) }
     ensures moves { Moves (heap_of arena.old) (heap_of arena.new)
         (own (heap_of arena.old) list.count list.offset) (own (heap_of arena.new) result.count result.offset) }
     ensures long { length arena.new.bytes ≡ length arena.old.bytes }
 {
-    let count = list.count - 1;
-    if count == 0 {
-        arena.free(list.offset);
-        return SubkeysIndex {
-            count,
-            offset: NONE,
-        };
-    }
-    close(arena, list.offset, count, index);
+    let offset = remove_entry(arena, list.offset, place);
     SubkeysIndex {
-        count,
-        offset: list.offset,
+        count: list.count - 1,
+        offset,
     }
 }

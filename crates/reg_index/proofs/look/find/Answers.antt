@@ -1,38 +1,67 @@
-use Rattle.std.proofs.Common.{◌+◌, ◌-◌, ◌/◌, arith}
 use Rattle.reg_names.specs.Names.{folded}
 use Rattle.reg_arena.specs.Arena.{heap_of}
-use Rattle.reg_index.proofs.NameSearch.{all-between, in-list, is-key, is-before, is-behind, is-found}
+use Rattle.reg_shape.specs.Nodes.{lists_of}
+use Rattle.reg_index.proofs.ListPlaces.{leaf-of, list-stands}
+use Rattle.reg_index.proofs.SubkeysOpening.{lists-has}
+use Rattle.reg_index.proofs.FoundPlaces.{lists-some, lists-keys, keys-part, found-stands, found-belongs, stands-there, belongs-there}
 use Rattle.reg_index.proofs.look.find.Goals as goal
 
-pub loop-low-init : goal.loop-low-init
-loop-low-init c = λ entries s. all-between _ c.args.list.count c.args.list.offset (folded c.args.name.now) entries s
+pub list_for-number-requires : goal.list_for-number-requires
+list_for-number-requires c =
+    let s = c.requires.1 in
+    (lists_of s.index, lists-has _ _ _ _ s, lists-some _ _ _ _ s c.if-list-eq0.false, lists-keys _ _ _ _ s)
 
-pub at-requires-clause-index : goal.at-requires-clause-index
-at-requires-clause-index c =
-    let s = c.requires in
-    in-list (heap_of c.args.arena.now) c.args.list.count c.args.list.offset c.loop-low.low c.loop-low.high
-    (c.loop-low.low + (c.loop-low.high - c.loop-low.low) / 2) c.args.name.now (omega (arith, c.loop-low-test.true)) c.loop-low.invariant s
+pub leaf_at-requires : goal.leaf_at-requires
+leaf_at-requires c =
+    let s = c.requires.1 in
+    let h = lists-has _ _ _ _ s in
+    (lists_of s.index, h, (c.list_for-number.ensures (lists_of s.index) h (lists-some _ _ _ _ s c.if-list-eq0.false) (lists-keys _ _ _ _ s)).within)
 
-pub name_of-requires : goal.name_of-requires
-name_of-requires c =
-    is-key (heap_of c.args.arena.now) c.args.list.count c.args.list.offset c.loop-low.low c.loop-low.high
-    (c.loop-low.low + (c.loop-low.high - c.loop-low.low) / 2) c.at.result c.args.name.now (omega arith)
-    (omega (arith, c.loop-low-test.true)) c.loop-low.invariant c.at.ensures c.requires
+pub find_in-requires : goal.find_in-requires
+find_in-requires c =
+    let s = c.requires.1 in
+    let h = lists-has _ _ _ _ s in
+    let l = (c.list_for-number.ensures (lists_of s.index) h (lists-some _ _ _ _ s c.if-list-eq0.false) (lists-keys _ _ _ _ s)).within in (
+      _,
+      leaf-of (heap_of c.args.arena.now) c.args.list.offset (lists_of s.index) c.list_for-number.result c.leaf_at.result h l (c.leaf_at.ensures (lists_of s.index) h l),
+      keys-part (heap_of c.args.arena.now) (lists_of s.index) c.list_for-number.result l (lists-keys _ _ _ _ s),
+      (list-stands (heap_of c.args.arena.now) c.args.list.offset (lists_of s.index) c.list_for-number.result h l).written.few,
+    )
 
-pub loop-low-preserved-in-Less : goal.loop-low-preserved-in-Less
-loop-low-preserved-in-Less c = λ entries s.
-    is-before (heap_of c.args.arena.now) c.args.list.count c.args.list.offset c.loop-low.low c.loop-low.high
-    (c.loop-low.low + (c.loop-low.high - c.loop-low.low) / 2) c.at.result c.args.name.now (omega arith)
-    (omega (arith, c.loop-low-test.true)) c.loop-low.invariant c.at.ensures c.name_of.result.now c.name_of.ensures entries s c.in-Less.ensures
+pub returns-in-Ok-clause-index : goal.returns-in-Ok-clause-index
+returns-in-Ok-clause-index c = λ entries s.
+    let h = lists-has _ _ _ _ s in
+    let b = c.list_for-number.ensures (lists_of s.index) h (lists-some _ _ _ _ s c.if-list-eq0.false) (lists-keys _ _ _ _ s) in
+    found-stands (heap_of c.args.arena.now) c.args.list.count c.args.list.offset (folded c.args.name.now) c.list_for-number.result c.in-Ok.index entries s b
+    (c.in-Ok.ensures _
+    (leaf-of (heap_of c.args.arena.now) c.args.list.offset (lists_of s.index) c.list_for-number.result c.leaf_at.result h b.within (c.leaf_at.ensures (lists_of s.index) h b.within))
+    (keys-part (heap_of c.args.arena.now) (lists_of s.index) c.list_for-number.result b.within (lists-keys _ _ _ _ s)))
 
-pub loop-low-preserved : goal.loop-low-preserved
-loop-low-preserved c = λ entries s.
-    is-behind (heap_of c.args.arena.now) c.args.list.count c.args.list.offset c.loop-low.low c.loop-low.high
-    (c.loop-low.low + (c.loop-low.high - c.loop-low.low) / 2) c.at.result c.args.name.now (omega arith)
-    (omega (arith, c.loop-low-test.true)) c.loop-low.invariant c.at.ensures c.name_of.result.now c.name_of.ensures entries s c.in-Greater.ensures
+pub returns-in-Ok-clause-place : goal.returns-in-Ok-clause-place
+returns-in-Ok-clause-place c =
+    let s = c.requires.1 in
+    let h = lists-has _ _ _ _ s in
+    let b = c.list_for-number.ensures (lists_of s.index) h (lists-some _ _ _ _ s c.if-list-eq0.false) (lists-keys _ _ _ _ s) in
+    stands-there (heap_of c.args.arena.now) c.args.list.count c.args.list.offset (folded c.args.name.now) c.list_for-number.result c.in-Ok.index c.requires.0 s b
+    (c.in-Ok.ensures _
+    (leaf-of (heap_of c.args.arena.now) c.args.list.offset (lists_of s.index) c.list_for-number.result c.leaf_at.result h b.within (c.leaf_at.ensures (lists_of s.index) h b.within))
+    (keys-part (heap_of c.args.arena.now) (lists_of s.index) c.list_for-number.result b.within (lists-keys _ _ _ _ s)))
 
-pub returns-in-Equal : goal.returns-in-Equal
-returns-in-Equal c = λ entries s.
-    is-found (heap_of c.args.arena.now) c.args.list.count c.args.list.offset c.loop-low.low c.loop-low.high
-    (c.loop-low.low + (c.loop-low.high - c.loop-low.low) / 2) c.at.result c.args.name.now (omega arith)
-    (omega (arith, c.loop-low-test.true)) c.loop-low.invariant c.at.ensures c.name_of.result.now c.name_of.ensures entries s c.in-Equal.ensures
+pub returns-in-Err-clause-index : goal.returns-in-Err-clause-index
+returns-in-Err-clause-index c = λ entries s.
+    let h = lists-has _ _ _ _ s in
+    let b = c.list_for-number.ensures (lists_of s.index) h (lists-some _ _ _ _ s c.if-list-eq0.false) (lists-keys _ _ _ _ s) in
+    found-belongs (heap_of c.args.arena.now) c.args.list.count c.args.list.offset (folded c.args.name.now) c.list_for-number.result c.in-Err.index entries s b
+    (c.in-Err.ensures _
+    (leaf-of (heap_of c.args.arena.now) c.args.list.offset (lists_of s.index) c.list_for-number.result c.leaf_at.result h b.within (c.leaf_at.ensures (lists_of s.index) h b.within))
+    (keys-part (heap_of c.args.arena.now) (lists_of s.index) c.list_for-number.result b.within (lists-keys _ _ _ _ s)))
+
+pub returns-in-Err-clause-place : goal.returns-in-Err-clause-place
+returns-in-Err-clause-place c =
+    let s = c.requires.1 in
+    let h = lists-has _ _ _ _ s in
+    let b = c.list_for-number.ensures (lists_of s.index) h (lists-some _ _ _ _ s c.if-list-eq0.false) (lists-keys _ _ _ _ s) in
+    belongs-there (heap_of c.args.arena.now) c.args.list.count c.args.list.offset (folded c.args.name.now) c.list_for-number.result c.in-Err.index c.requires.0 s b
+    (c.in-Err.ensures _
+    (leaf-of (heap_of c.args.arena.now) c.args.list.offset (lists_of s.index) c.list_for-number.result c.leaf_at.result h b.within (c.leaf_at.ensures (lists_of s.index) h b.within))
+    (keys-part (heap_of c.args.arena.now) (lists_of s.index) c.list_for-number.result b.within (lists-keys _ _ _ _ s)))
