@@ -8,6 +8,7 @@ pub mod InsertKeyGraft
 pub mod InsertKeyLemmas
 pub mod PathNameCount
 pub mod MadeCells
+pub mod PlanSizes
 pub mod PathCarve
 pub mod InsertKeyObligations
 pub mod SpareCellTaken

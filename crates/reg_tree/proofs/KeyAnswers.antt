@@ -2,3 +2,4 @@
 pub mod RefinementOfKey
 pub mod AnswerBounds
 pub mod RefinementOfValues
+pub mod SubkeyBehind

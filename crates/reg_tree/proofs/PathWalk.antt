@@ -6,3 +6,4 @@ pub mod WalkPlaces
 pub mod ReachedNodes
 pub mod ReachedSeen
 pub mod ReachedKeys
+pub mod IndexPlaces

@@ -1,4 +1,5 @@
 pub mod TreeKeys
+pub mod SubkeyPlaces
 pub mod CellSizes
 pub mod NewHive
 pub mod KeyLengths

@@ -9,9 +9,9 @@ ghost use Rattle.reg_tree.specs.Internal.PathWalks.{IsWalked, Reaches};
 ghost use Rattle.reg_tree.specs.Internal.ReachedPlaces.{IsChild, IsPlace};
 
 use crate::key::subkeys_list;
-use crate::{Node, Reached};
+use crate::{Node, Place, Reached};
 use reg_arena::Arena;
-use reg_index::{at, find};
+use reg_index::{at_place, find};
 use reg_names::first_name;
 
 /// A key right below another, and where it stands.
@@ -20,21 +20,21 @@ pub struct PlacedKey {
     /// The offset of its key node.
     pub offset: u32,
     /// Where it stands among the other key's subkeys.
-    pub index: u32,
+    pub place: Place,
 }
 
 /// The key of that name right below a key, after folding; or as an `Err` where the name belongs among the key's subkeys.
-fn child(arena: &Arena, key: u32, name: &[u8]) -> Result<PlacedKey, u32>
+fn child(arena: &Arena, key: u32, name: &[u8]) -> Result<PlacedKey, Place>
     requires { IsHere arena.now.bytes key }
     ensures { IsChild (heap_of arena.now) key name.now result }
 {
     let list = subkeys_list(arena, key);
     match find(arena, list, name) {
-        Ok(index) => Ok(PlacedKey {
-            offset: at(arena, list, index),
-            index,
+        Ok(place) => Ok(PlacedKey {
+            offset: at_place(arena, list, place),
+            place,
         }),
-        Err(index) => Err(index),
+        Err(place) => Err(place),
     }
 }
 
@@ -45,11 +45,11 @@ pub fn reach<'a>(arena: &Arena, from: Node, path: &'a [u8]) -> Reached<'a>
     requires depth { from.depth ≤ PATH_LIMIT }
     requires path { is_path path.now ≡ true }
     ensures reaches { Reaches (heap_of arena.now) from path.now result.node result.missing.now }
-    ensures place { IsPlace (heap_of arena.now) path.now result.node.offset result.missing.now result.index }
+    ensures place { IsPlace (heap_of arena.now) path.now result.node.offset result.missing.now result.place }
 {
     let mut node = from;
     let mut rest = path;
-    let mut place = 0;
+    let mut place = Place { list: 0, index: 0 };
     while let Some((name, behind)) = first_name(rest) {
         match child(arena, node.offset, name) {
             Ok(below) => {
@@ -58,13 +58,13 @@ pub fn reach<'a>(arena: &Arena, from: Node, path: &'a [u8]) -> Reached<'a>
                     depth: node.depth + 1,
                 };
                 rest = behind;
-                place = below.index;
+                place = below.place;
             }
-            Err(index) => {
+            Err(place) => {
                 return Reached {
                     node,
                     missing: rest,
-                    index,
+                    place,
                 };
             }
         }
@@ -72,7 +72,7 @@ pub fn reach<'a>(arena: &Arena, from: Node, path: &'a [u8]) -> Reached<'a>
     Reached {
         node,
         missing: rest,
-        index: place,
+        place,
     }
 }
 

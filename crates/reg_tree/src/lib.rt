@@ -26,6 +26,7 @@ mod values;
 
 pub use fault::TreeFault;
 pub use node::{Created, Node, Reached};
+pub use reg_index::Place;
 pub use reg_values::Value;
 pub use tree::Tree;
 pub use value::ValueFound;

@@ -12,48 +12,58 @@ ghost use Rattle.reg_heap.specs.Kinds.{times};
 ghost use Rattle.reg_arena.specs.Arena.{heap_of};
 ghost use Rattle.reg_records.specs.RecordCells.{HasRoom};
 ghost use Rattle.reg_records.specs.KeyNodes.{KeyRecord, key_at};
-ghost use Rattle.reg_index.specs.Subkeys.{IsReady, KeepsCells, own, taken};
+ghost use Rattle.reg_index.specs.declared.Place.{Place};
+ghost use Rattle.reg_index.specs.Subkeys.{IsReady, KeepsCells, each_of, own, taken};
 ghost use Rattle.reg_values.specs.ValueLists.{Makes};
 ghost use Rattle.reg_tree.specs.TreeKeys.{tree_in};
-ghost use Rattle.reg_tree.specs.CellSizes.{create_sizes, made_sizes, own_sizes, planned, planned_sizes, sizes_of, LacksRoom};
+ghost use Rattle.reg_tree.specs.CellSizes.{BelongsThere, create_sizes, first_cells, made_sizes, own_sizes, planned, planned_sizes, sizes_of, LacksRoom};
 ghost use Rattle.reg_tree.specs.Internal.KeyNodeChanges.{LeavesOthers};
 ghost use Rattle.reg_tree.specs.Internal.TreeInvariant.{IsHere};
 ghost use Rattle.reg_tree.specs.Internal.SpareCells.{MayGrow, Grows, AreReady, MayGrowAll, GrowsAll, IsSecuritySize, IsSpared};
 ghost use Rattle.reg_tree.specs.Internal.DescriptorChange.{KeepsFinds, last_of};
 ghost use Rattle.reg_tree.specs.Internal.KeyCreation.{IsCreated, AreTooMany, LeadsTo};
 ghost use Rattle.reg_tree.specs.Internal.ReachedPlaces.{BelongsAt, BelongsFirst};
-ghost use Rattle.reg_index.specs.declared.plan.TheConstants.{FIRST_LIST_SIZE};
 
 use crate::find::reach;
 use crate::key::{fields, new_key, note_subkeys, subkeys_list};
 use crate::security::{describe, expect, forget};
-use crate::{Created, Node, Reached, TreeFault};
+use crate::{Created, Node, Place, Reached, TreeFault};
 use reg_arena::{Arena, ArenaFault, cell_size};
-use reg_heap::limits::{LEAF_LIMIT, MADE_LIMIT};
-use reg_index::{FIRST_LIST_SIZE, SubkeysIndex, insert, len, plan_insert};
+use reg_heap::limits::{MADE_LIMIT, SUBKEYS_LIMIT};
+use reg_index::{FIRST_LIST_SIZE, IndexCells, SubkeysIndex, insert, len, plan_insert};
 use reg_names::{PATH_LIMIT, first_name};
 use reg_records::put_nk;
 use reg_security::{SecurityTable, share};
 use std::alloc::{AllocError, Global};
 
-/// Makes a key below another in cells carved for it: its key node, and its parent's list where that takes another cell. It comes to
-/// the index among its parent's subkeys where its name belongs. What its parent says of it is noted, with the time.
+/// Where a key's first subkey belongs.
+const FIRST_PLACE: Place = Place { list: 0, index: 0 };
+
+/// The sizes of the cells that a key's first subkey takes.
+const FIRST_CELLS: IndexCells = IndexCells {
+    list: Some(FIRST_LIST_SIZE),
+    second: None,
+    root: None,
+};
+
+/// Makes a key below another in cells carved for it: its key node's, and those that its parent's subkeys take with one more. It comes
+/// to the place among its parent's subkeys where its name belongs. What its parent says of it is noted, with the time.
 fn make(
     arena: &mut Arena,
     parent: u32,
-    index: u32,
-    list_cell: Option<u32>,
+    place: Place,
+    cells: IndexCells,
     key: u32,
     name: &[u8],
     moment: u64,
 )
-    requires grow { (left : List ℕ) × MayGrow arena.old.bytes parent (taken list_cell ++ key ∷ left) name.now }
-    requires place { BelongsAt (heap_of arena.old) parent name.now index }
-    requires ready { IsReady (heap_of arena.old) (planned (heap_of arena.old) parent) list_cell }
+    requires grow { (left : List ℕ) × MayGrow arena.old.bytes parent (each_of cells ++ key ∷ left) name.now }
+    requires place { BelongsAt (heap_of arena.old) parent name.now place }
+    requires ready { IsReady (heap_of arena.old) (planned (heap_of arena.old) parent place) cells }
     requires room { HasRoom (heap_of arena.old) key (76 + length name.now) }
     requires name { (is_key_name name.now ≡ true) × (length name.now ≤ KEY_NAME_LIMIT) }
     ensures grows { (left : List ℕ) →
-        (m : MayGrow arena.old.bytes parent (taken list_cell ++ key ∷ left) name.now) →
+        (m : MayGrow arena.old.bytes parent (each_of cells ++ key ∷ left) name.now) →
         Grows (heap_of arena.old)
         (heap_of arena.new) m.growing.root m.growing.path m.growing.keys m.growing.ring key left name.now moment }
     ensures long { length arena.new.bytes ≡ length arena.old.bytes }
@@ -67,70 +77,91 @@ fn make(
         offset: above.subkeys_list,
     };
     put_nk(arena, key, &new_key(parent, above.security, moment), name);
-    let list = insert(arena, list, list_cell, index, key);
+    let list = insert(arena, list, place, cells, key);
     note_subkeys(arena, parent, list, name.len() as u32, moment);
     share(arena, above.security);
 }
 
-/// Makes a key below another, at the index where its name belongs, in the first of some spare cells, and answers how many it took;
-/// the last of these is the key's. The plan says what cell its parent's list takes.
+/// Of some spare cells, the one at an index, where a size is planned.
+fn cell_if(plan: Option<u32>, spare: &[u32], index: usize) -> Option<u32>
+    requires { IsSome plan → index < length spare.now }
+    ensures { result ≡ option_map (λ _. get_or spare.now index 0) plan }
+{
+    match plan {
+        None => None,
+        Some(_) => Some(spare[index]),
+    }
+}
+
+/// How many cells are planned by one size: one, or none.
+fn count_if(plan: Option<u32>) -> usize
+    ensures { result ≡ length (taken plan) }
+{
+    match plan {
+        None => 0,
+        Some(_) => 1,
+    }
+}
+
+/// Makes a key below another, at the place where its name belongs, in the first of some spare cells, and answers how many it took;
+/// the last of these is the key's. The plan says what cells its parent's subkeys take.
 fn make_in(
     arena: &mut Arena,
     parent: u32,
-    index: u32,
-    plan: Option<u32>,
+    place: Place,
+    plan: IndexCells,
     spare: &[u32],
     name: &[u8],
     moment: u64,
 ) -> usize
     requires grow { MayGrow arena.old.bytes parent spare.now name.now }
-    requires place { BelongsAt (heap_of arena.old) parent name.now index }
-    requires plan { plan ≡ planned (heap_of arena.old) parent }
+    requires place { BelongsAt (heap_of arena.old) parent name.now place }
+    requires plan { plan ≡ planned (heap_of arena.old) parent place }
     requires ready { (left : List ℕ) × (more : List (List ℕ))
-        × AreReady (heap_of arena.old) left (planned (heap_of arena.old) parent) (own_sizes name.now ∷ more) spare.now }
+        × AreReady (heap_of arena.old) left (planned (heap_of arena.old) parent place) (own_sizes name.now ∷ more) spare.now }
     requires name { (is_key_name name.now ≡ true) × (length name.now ≤ KEY_NAME_LIMIT) }
-    ensures taken { (1 ≤ result) × (result ≤ 2) × (result ≤ length spare.now) }
+    ensures taken { (1 ≤ result) × (result ≤ 4) × (result ≤ length spare.now) }
     ensures grows { (m : MayGrow arena.old.bytes parent spare.now name.now) →
         Grows (heap_of arena.old)
         (heap_of arena.new) m.growing.root m.growing.path m.growing.keys m.growing.ring
         (get_or spare.now (result - 1) 0) (drop result spare.now) name.now moment }
     ensures ready { (left : List ℕ) → (more : List (List ℕ)) →
-        AreReady (heap_of arena.old) left (planned (heap_of arena.old) parent) (own_sizes name.now ∷ more) spare.now →
-        AreReady (heap_of arena.old) left (Some FIRST_LIST_SIZE) more (drop result spare.now) }
+        AreReady (heap_of arena.old) left (planned (heap_of arena.old) parent place) (own_sizes name.now ∷ more) spare.now →
+        AreReady (heap_of arena.old) left first_cells more (drop result spare.now) }
     ensures long { length arena.new.bytes ≡ length arena.old.bytes }
     ensures keeps { KeepsCells (heap_of arena.old) (heap_of arena.new) }
     ensures leaves { (k : KeyRecord) → key_at (heap_of arena.old) parent ≡ Some k →
         LeavesOthers (heap_of arena.old) (heap_of arena.new) (own (heap_of arena.old) k.fields.subkeys k.fields.subkeys_list) }
 {
-    match plan {
-        None => {
-            make(arena, parent, index, None, spare[0], name, moment);
-            1
-        }
-        Some(_) => {
-            make(arena, parent, index, Some(spare[0]), spare[1], name, moment);
-            2
-        }
-    }
+    let second = count_if(plan.list);
+    let root = second + count_if(plan.second);
+    let own = root + count_if(plan.root);
+    let cells = IndexCells {
+        list: cell_if(plan.list, spare, 0),
+        second: cell_if(plan.second, spare, second),
+        root: cell_if(plan.root, spare, root),
+    };
+    make(arena, parent, place, cells, spare[own], name, moment);
+    own + 1
 }
 
-/// Makes the keys of a path, one below the other, in the first of some spare cells, and answers the last. The first belongs at an index among the
-/// subkeys that are there; each other one is the only subkey of the one before, and begins its list.
+/// Makes the keys of a path, one below the other, in the first of some spare cells, and answers the last. The first belongs at a
+/// place among the subkeys that are there; each other one is the only subkey of the one before, and begins its list.
 fn make_all(
     arena: &mut Arena,
     from: Node,
-    index: u32,
-    plan: Option<u32>,
+    place: Place,
+    plan: IndexCells,
     path: &[u8],
     spare: &[u32],
     moment: u64,
 ) -> Node
-    requires grow { (left : List ℕ) × MayGrowAll arena.old.bytes from (path_of path.now) left spare.now }
-    requires place { BelongsFirst (heap_of arena.old) from.offset (path_of path.now) index }
-    requires plan { plan ≡ planned (heap_of arena.old) from.offset }
+    requires grow { (left : List ℕ) × MayGrowAll arena.old.bytes from (path_of path.now) place left spare.now }
+    requires place { BelongsFirst (heap_of arena.old) from.offset (path_of path.now) place }
+    requires plan { plan ≡ planned (heap_of arena.old) from.offset place }
     requires depth { from.depth ≤ PATH_LIMIT }
     requires path { is_path path.now ≡ true }
-    ensures grows { (left : List ℕ) → (m : MayGrowAll arena.old.bytes from (path_of path.now) left spare.now) →
+    ensures grows { (left : List ℕ) → (m : MayGrowAll arena.old.bytes from (path_of path.now) place left spare.now) →
         GrowsAll (heap_of arena.old)
         (heap_of arena.new) m.growing.root m.growing.path m.growing.keys m.growing.ring left from result
         (path_of path.now) moment }
@@ -139,18 +170,18 @@ fn make_all(
     ensures stay { (z : ℕ) → 0 < times z spare.now → IsSome (heap_of arena.new z) }
 {
     let mut node = from;
-    let mut index = index;
+    let mut place = place;
     let mut plan = plan;
     let mut rest = path;
     let mut spare = spare;
     while let Some((name, behind)) = first_name(rest) {
-        let taken = make_in(arena, node.offset, index, plan, spare, name, moment);
+        let taken = make_in(arena, node.offset, place, plan, spare, name, moment);
         node = Node {
             offset: spare[taken - 1],
             depth: node.depth + 1,
         };
-        index = 0;
-        plan = Some(FIRST_LIST_SIZE);
+        place = FIRST_PLACE;
+        plan = FIRST_CELLS;
         spare = &spare[taken..];
         rest = behind;
     }
@@ -179,10 +210,10 @@ fn pass_limits(arena: &Arena, parent: Node, path: &[u8]) -> bool
     ensures many { (t : IsHere arena.now.bytes parent.offset) →
         ((result ≡ true) ↔ ((MADE_LIMIT < length (path_of path.now))
         ⊎ ((PATH_LIMIT < parent.depth + length (path_of path.now))
-        ⊎ (LEAF_LIMIT ≤ length (children_of (tree_in arena.now.bytes t.root) t.path))))) }
+        ⊎ (SUBKEYS_LIMIT ≤ length (children_of (tree_in arena.now.bytes t.root) t.path))))) }
     ensures room { result ≡ false → (length (path_of path.now) ≤ MADE_LIMIT)
         × (parent.depth + length (path_of path.now) ≤ PATH_LIMIT)
-        × ((k : KeyRecord) → key_at (heap_of arena.now) parent.offset ≡ Some k → k.fields.subkeys < LEAF_LIMIT) }
+        × ((k : KeyRecord) → key_at (heap_of arena.now) parent.offset ≡ Some k → k.fields.subkeys < SUBKEYS_LIMIT) }
 {
     let count = count_names(path);
     if count > MADE_LIMIT {
@@ -191,7 +222,7 @@ fn pass_limits(arena: &Arena, parent: Node, path: &[u8]) -> bool
     if parent.depth + count > PATH_LIMIT as u32 {
         return true;
     }
-    len(subkeys_list(arena, parent.offset)) >= LEAF_LIMIT
+    len(subkeys_list(arena, parent.offset)) >= SUBKEYS_LIMIT
 }
 
 /// Whether keys were found missing on a path, and are too many to be made.
@@ -206,11 +237,21 @@ pub fn is_limited(arena: &Arena, reached: Reached<'_>) -> bool
     pass_limits(arena, reached.node, reached.missing)
 }
 
-/// The sizes of the cells that making keys takes, in order: for each, that of its parent's list where it needs one, and that of
-/// its key node. The first parent's is planned; those made have no list yet. A size more, if there is one, is the last.
+/// One size more, where there is one.
+fn push_if(sizes: &mut Vec<u32>, size: Option<u32>) -> Result<(), AllocError>
+    ensures { OnOk result (sizes.new.items ≡ sizes.old.items ++ taken size) }
+{
+    if let Some(size) = size {
+        sizes.push(size)?;
+    }
+    Ok(())
+}
+
+/// The sizes of the cells that making keys takes, in order: for each, those that its parent's subkeys take with one more, and that of
+/// its key node. The first parent's are planned; those made have no list yet. A size more, if there is one, is the last.
 fn sizes_for(
     alloc: Global,
-    planned: Option<u32>,
+    planned: IndexCells,
     path: &[u8],
     more: Option<u32>,
 ) -> Result<Vec<u32>, AllocError>
@@ -218,37 +259,35 @@ fn sizes_for(
     ensures { IfOk result (λ sizes. sizes.items ≡ sizes_of planned (map own_sizes (path_of path.now)) ++ planned_sizes more) }
 {
     let mut sizes = Vec::new(alloc);
-    let mut list = planned;
+    let mut plan = planned;
     let mut rest = path;
     while let Some((name, behind)) = first_name(rest) {
-        if let Some(size) = list {
-            sizes.push(size)?;
-        }
+        push_if(&mut sizes, plan.list)?;
+        push_if(&mut sizes, plan.second)?;
+        push_if(&mut sizes, plan.root)?;
         sizes.push(cell_size(76 + name.len() as u32))?;
-        list = Some(FIRST_LIST_SIZE);
+        plan = FIRST_CELLS;
         rest = behind;
     }
-    if let Some(size) = more {
-        sizes.push(size)?;
-    }
+    push_if(&mut sizes, more)?;
     Ok(sizes)
 }
 
-/// Carves the cells that keys of a path's names take below a key whose list was planned, and one more for a descriptor that takes
+/// Carves the cells that keys of a path's names take below a key at a place where they were planned, and one more for a descriptor that takes
 /// one, which is the last.
 fn carve_for(
     alloc: Global,
     arena: &mut Arena,
-    plan: Option<u32>,
+    plan: IndexCells,
     path: &[u8],
     more: Option<u32>,
 ) -> Result<Vec<u32>, ArenaFault>
-    requires plan { (parent : ℕ) × IsHere arena.old.bytes parent × (plan ≡ planned (heap_of arena.old) parent) }
+    requires plan { (parent : ℕ) × (place : Place) × IsHere arena.old.bytes parent × (plan ≡ planned (heap_of arena.old) parent place) }
     requires path { is_path path.now ≡ true }
     requires few { length (path_of path.now) ≤ MADE_LIMIT }
     requires more { IsSecuritySize more }
-    ensures ok { (parent : ℕ) → IsHere arena.old.bytes parent → plan ≡ planned (heap_of arena.old) parent →
-        IfOk result (λ cells. IsSpared arena.old.bytes arena.new.bytes parent (path_of path.now)
+    ensures ok { (parent : ℕ) → (place : Place) → IsHere arena.old.bytes parent → plan ≡ planned (heap_of arena.old) parent place →
+        IfOk result (λ cells. IsSpared arena.old.bytes arena.new.bytes parent place (path_of path.now)
         (planned_sizes more) (taken (last_of more cells.items)) cells.items) }
     ensures full { (result ≡ Err ArenaFault.Full) → BINS_LIMIT < length arena.old.bytes + GROWTH_BOUND }
     ensures space { IfErr result (λ fault. fault ≡ ArenaFault.Full → LacksRoom arena.old
@@ -289,22 +328,25 @@ fn make_sharing(
 ) -> Result<Node, ArenaFault>
     requires reached { (from : Node) × (path : List ℕ) × (l : LeadsTo arena.old.bytes from path reached.node reached.missing.now)
         × (are_too_many (tree_in arena.old.bytes l.here.root) l.here.path (path_of path) ≡ false) }
-    requires place { BelongsFirst (heap_of arena.old) reached.node.offset (path_of reached.missing.now) reached.index }
+    requires place { BelongsFirst (heap_of arena.old) reached.node.offset (path_of reached.missing.now) reached.place }
     requires missing { reached.missing.now ≢ [] }
     ensures ok { (from : Node) → (path : List ℕ) → (l : LeadsTo arena.old.bytes from path reached.entry.node reached.entry.missing.now) →
         IfOk result (λ made. IsCreated arena.old.bytes arena.new.bytes l.here.root l.here.table l.here.path from (path_of path) None moment made) }
     ensures cells { (from : Node) → (path : List ℕ) → (l : LeadsTo arena.old.bytes from path reached.entry.node reached.entry.missing.now) →
         OnOk result (Makes (heap_of arena.old) (heap_of arena.new)
-        (made_sizes (record { bins = arena.old; root = l.here.root; tree = tree_in arena.old.bytes l.here.root }) l.here.path (path_of path))) }
+        (made_sizes (record { bins = arena.old; root = l.here.root; tree = tree_in arena.old.bytes l.here.root }) l.here.path (path_of path)
+        reached.entry.place)) }
     ensures full { (result ≡ Err ArenaFault.Full) → BINS_LIMIT < length arena.old.bytes + GROWTH_BOUND }
     ensures space { (from : Node) → (path : List ℕ) → (l : LeadsTo arena.old.bytes from path reached.entry.node reached.entry.missing.now) →
         IfErr result (λ fault. fault ≡ ArenaFault.Full → LacksRoom arena.old
-        (made_sizes (record { bins = arena.old; root = l.here.root; tree = tree_in arena.old.bytes l.here.root }) l.here.path (path_of path))) }
+        (made_sizes (record { bins = arena.old; root = l.here.root; tree = tree_in arena.old.bytes l.here.root }) l.here.path (path_of path)
+        reached.entry.place)) }
     ensures err { OnErr result (arena.new ≡ arena.old) }
     ensures grows { OnOk result (length arena.new.bytes ≤ length arena.old.bytes + GROWTH_BOUND) }
     ensures kept { OnOk result (length arena.old.bytes ≤ length arena.new.bytes) }
 {
-    let plan = plan_insert(arena, subkeys_list(arena, reached.node.offset));
+    let list = subkeys_list(arena, reached.node.offset);
+    let plan = plan_insert(arena, list, reached.place);
     let cells = match carve_for(alloc, arena, plan, reached.missing, None) {
         Ok(cells) => cells,
         Err(fault) => return Err(fault),
@@ -312,7 +354,7 @@ fn make_sharing(
     Ok(make_all(
         arena,
         reached.node,
-        reached.index,
+        reached.place,
         plan,
         reached.missing,
         &cells,
@@ -333,7 +375,7 @@ fn make_described(
 ) -> Result<Node, ArenaFault>
     requires reached { (from : Node) × (path : List ℕ) × (l : LeadsTo arena.old.bytes from path reached.node reached.missing.now)
         × (l.here.table ≡ securities.old) × (are_too_many (tree_in arena.old.bytes l.here.root) l.here.path (path_of path) ≡ false) }
-    requires place { BelongsFirst (heap_of arena.old) reached.node.offset (path_of reached.missing.now) reached.index }
+    requires place { BelongsFirst (heap_of arena.old) reached.node.offset (path_of reached.missing.now) reached.place }
     requires missing { reached.missing.now ≢ [] }
     requires descriptor { (1 ≤ length descriptor.now) × (length descriptor.now ≤ DESCRIPTOR_LIMIT) }
     ensures ok { (from : Node) → (path : List ℕ) → (l : LeadsTo arena.old.bytes from path reached.entry.node reached.entry.missing.now) →
@@ -341,12 +383,14 @@ fn make_described(
         IsCreated arena.old.bytes arena.new.bytes l.here.root securities.new l.here.path from (path_of path) (Some descriptor.now) moment made) }
     ensures cells { (from : Node) → (path : List ℕ) → (l : LeadsTo arena.old.bytes from path reached.entry.node reached.entry.missing.now) →
         l.here.table ≡ securities.old → OnOk result (Makes (heap_of arena.old) (heap_of arena.new) (create_sizes
-        (record { bins = arena.old; root = l.here.root; tree = tree_in arena.old.bytes l.here.root }) l.here.path (path_of path) (Some descriptor.now))) }
+        (record { bins = arena.old; root = l.here.root; tree = tree_in arena.old.bytes l.here.root }) l.here.path (path_of path)
+        reached.entry.place (Some descriptor.now))) }
     ensures table { OnErr result (KeepsFinds securities.old securities.new) }
     ensures full { (result ≡ Err ArenaFault.Full) → BINS_LIMIT < length arena.old.bytes + GROWTH_BOUND }
     ensures space { (from : Node) → (path : List ℕ) → (l : LeadsTo arena.old.bytes from path reached.entry.node reached.entry.missing.now) →
         l.here.table ≡ securities.old → IfErr result (λ fault. fault ≡ ArenaFault.Full → LacksRoom arena.old (create_sizes
-        (record { bins = arena.old; root = l.here.root; tree = tree_in arena.old.bytes l.here.root }) l.here.path (path_of path) (Some descriptor.now))) }
+        (record { bins = arena.old; root = l.here.root; tree = tree_in arena.old.bytes l.here.root }) l.here.path (path_of path)
+        reached.entry.place (Some descriptor.now))) }
     ensures err { OnErr result (arena.new ≡ arena.old) }
     ensures grows { OnOk result (length arena.new.bytes ≤ length arena.old.bytes + GROWTH_BOUND) }
     ensures kept { OnOk result (length arena.old.bytes ≤ length arena.new.bytes) }
@@ -354,7 +398,8 @@ fn make_described(
     let Ok(size) = expect(alloc, securities, descriptor) else {
         return Err(ArenaFault::Memory);
     };
-    let plan = plan_insert(arena, subkeys_list(arena, reached.node.offset));
+    let list = subkeys_list(arena, reached.node.offset);
+    let plan = plan_insert(arena, list, reached.place);
     let cells = match carve_for(alloc, arena, plan, reached.missing, size) {
         Ok(cells) => cells,
         Err(fault) => {
@@ -365,7 +410,7 @@ fn make_described(
     let node = make_all(
         arena,
         reached.node,
-        reached.index,
+        reached.place,
         plan,
         reached.missing,
         &cells,
@@ -389,7 +434,7 @@ pub fn create_at(
 ) -> Result<Node, ArenaFault>
     requires reached { (from : Node) × (path : List ℕ) × (l : LeadsTo arena.old.bytes from path reached.node reached.missing.now)
         × (l.here.table ≡ securities.old) × (are_too_many (tree_in arena.old.bytes l.here.root) l.here.path (path_of path) ≡ false) }
-    requires place { BelongsFirst (heap_of arena.old) reached.node.offset (path_of reached.missing.now) reached.index }
+    requires place { BelongsFirst (heap_of arena.old) reached.node.offset (path_of reached.missing.now) reached.place }
     requires missing { reached.missing.now ≢ [] }
     requires given { IfSome given (λ descriptor. (1 ≤ length descriptor.now) × (length descriptor.now ≤ DESCRIPTOR_LIMIT)) }
     ensures ok { (from : Node) → (path : List ℕ) → (l : LeadsTo arena.old.bytes from path reached.entry.node reached.entry.missing.now) →
@@ -399,13 +444,13 @@ pub fn create_at(
     ensures cells { (from : Node) → (path : List ℕ) → (l : LeadsTo arena.old.bytes from path reached.entry.node reached.entry.missing.now) →
         l.here.table ≡ securities.old → OnOk result (Makes (heap_of arena.old) (heap_of arena.new) (create_sizes
         (record { bins = arena.old; root = l.here.root; tree = tree_in arena.old.bytes l.here.root }) l.here.path (path_of path)
-        (option_map (λ descriptor. descriptor.now) given.entry))) }
+        reached.entry.place (option_map (λ descriptor. descriptor.now) given.entry))) }
     ensures table { OnErr result (KeepsFinds securities.old securities.new) }
     ensures full { (result ≡ Err ArenaFault.Full) → BINS_LIMIT < length arena.old.bytes + GROWTH_BOUND }
     ensures space { (from : Node) → (path : List ℕ) → (l : LeadsTo arena.old.bytes from path reached.entry.node reached.entry.missing.now) →
         l.here.table ≡ securities.old → IfErr result (λ fault. fault ≡ ArenaFault.Full → LacksRoom arena.old (create_sizes
         (record { bins = arena.old; root = l.here.root; tree = tree_in arena.old.bytes l.here.root }) l.here.path (path_of path)
-        (option_map (λ descriptor. descriptor.now) given.entry))) }
+        reached.entry.place (option_map (λ descriptor. descriptor.now) given.entry))) }
     ensures err { OnErr result (arena.new ≡ arena.old) }
     ensures grows { OnOk result (length arena.new.bytes ≤ length arena.old.bytes + GROWTH_BOUND) }
     ensures kept { OnOk result (length arena.old.bytes ≤ length arena.new.bytes) }
@@ -440,16 +485,20 @@ pub fn create(
         IfOk result (λ made. (made.is_new ≡ true)
         ↔ (missing (tree_in arena.old.bytes t.root) t.path (path_of path.now) ≢ [])) }
     ensures cells { (t : IsHere arena.old.bytes from.offset) → t.table ≡ securities.old → from.depth ≡ length t.path →
-        OnOk result (Makes (heap_of arena.old) (heap_of arena.new)
-        (create_sizes (record { bins = arena.old; root = t.root; tree = tree_in arena.old.bytes t.root }) t.path (path_of path.now)
+        OnOk result ((place : Place)
+        × BelongsThere (record { bins = arena.old; root = t.root; tree = tree_in arena.old.bytes t.root }) t.path (path_of path.now) place
+        × Makes (heap_of arena.old) (heap_of arena.new)
+        (create_sizes (record { bins = arena.old; root = t.root; tree = tree_in arena.old.bytes t.root }) t.path (path_of path.now) place
         (option_map (λ descriptor. descriptor.now) given.entry))) }
     ensures same { IfOk result (λ made. made.is_new ≡ false → arena.new ≡ arena.old) }
     ensures limit { (t : IsHere arena.old.bytes from.offset) → from.depth ≡ length t.path →
         ((result ≡ Err TreeFault.Limit) ↔ AreTooMany (tree_in arena.old.bytes t.root) t.path (path_of path.now)) }
     ensures full { (result ≡ Err TreeFault.Full) → BINS_LIMIT < length arena.old.bytes + GROWTH_BOUND }
     ensures space { (t : IsHere arena.old.bytes from.offset) → t.table ≡ securities.old → from.depth ≡ length t.path →
-        IfErr result (λ fault. fault ≡ TreeFault.Full → LacksRoom arena.old
-        (create_sizes (record { bins = arena.old; root = t.root; tree = tree_in arena.old.bytes t.root }) t.path (path_of path.now)
+        IfErr result (λ fault. fault ≡ TreeFault.Full → (place : Place)
+        × BelongsThere (record { bins = arena.old; root = t.root; tree = tree_in arena.old.bytes t.root }) t.path (path_of path.now) place
+        × LacksRoom arena.old
+        (create_sizes (record { bins = arena.old; root = t.root; tree = tree_in arena.old.bytes t.root }) t.path (path_of path.now) place
         (option_map (λ descriptor. descriptor.now) given.entry))) }
     ensures others { IfErr result (λ fault. (fault ≡ TreeFault.Limit) ⊎ ((fault ≡ TreeFault.Full) ⊎ (fault ≡ TreeFault.Memory))) }
     ensures err { OnErr result (arena.new ≡ arena.old) }

@@ -1,3 +1,5 @@
+use reg_index::Place;
+
 /// A key of a tree, as [`Tree::root`](crate::Tree::root), [`Tree::resolve`](crate::Tree::resolve) and others find it. It stays good
 /// until that key is deleted.
 #[derive(Clone, Copy, Debug, PartialEq, Eq)]
@@ -25,6 +27,6 @@ pub struct Reached<'a> {
     /// The names behind it as a path, of which the first is missing; empty where all keys are there.
     pub missing: &'a [u8],
     /// Where the first missing name belongs among that key's subkeys; where none is missing, where the key stands among its
-    /// parent's. Counted from 0 in the order of folded names; 0 of an empty path.
-    pub index: u32,
+    /// parent's. The first place of an empty path.
+    pub place: Place,
 }

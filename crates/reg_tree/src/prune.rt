@@ -1,6 +1,6 @@
 //! Whole trees deleted: a key with all keys below it, or the keys below one alone.
 //!
-//! One key after another goes, each the last subkey of its parent and without subkeys of its own. So no memory is taken and no call
+//! One key after another goes, each the first subkey of its parent and without subkeys of its own. So no memory is taken and no call
 //! nests, however deep the tree is; what was removed leaves no trace in the time of a key that goes later.
 //!
 //! Win32 registry reference, `RegDeleteTree`.
@@ -12,19 +12,18 @@ ghost use Rattle.reg_tree.specs.TreeKeys.{tree_in};
 ghost use Rattle.reg_tree.specs.Internal.TreeInvariant.{IsHere, IsChanged};
 ghost use Rattle.reg_tree.specs.Internal.LengthChanges.{LengthsStay};
 ghost use Rattle.reg_tree.specs.Internal.KeyDeletion.{IsPruned, IsEmptied};
-ghost use Rattle.reg_tree.specs.Internal.ReachedPlaces.{StandsAt};
 ghost use Rattle.reg_tree.specs.Internal.KeyOrder.{HasTop, IsAbove, IsNextKey, TellsMarks};
-ghost use Rattle.reg_tree.specs.Internal.TreeDeletion.{IsLastSubkey, IsBared, if_valued};
+ghost use Rattle.reg_tree.specs.Internal.TreeDeletion.{IsFirstSubkey, IsBared, if_valued};
 
 use crate::find::PlacedKey;
 use crate::key::{fields, note_values, subkeys_list, values_list};
-use crate::read::subkey;
+use crate::read::{subkey, subkey_behind};
 use crate::unmake::{delete_at, has_children, is_kept, place_of};
-use crate::{Node, TreeFault};
+use crate::{Node, Place, TreeFault};
 use reg_arena::Arena;
 use reg_heap::limits::NONE;
 use reg_heap::marks::NO_DELETE;
-use reg_index::at;
+use reg_index::at_place;
 use reg_security::SecurityTable;
 use reg_values::{ValuesList, clear};
 
@@ -60,8 +59,8 @@ fn next_key(arena: &Arena, from: Node) -> Option<Node>
     let mut node = from;
     while node.depth != 0 {
         let above = parent_of(arena, node);
-        let index = place_of(arena, node.offset) + 1;
-        if let Some(beside) = subkey(arena, above, index) {
+        let place = place_of(arena, node.offset);
+        if let Some(beside) = subkey_behind(arena, above, place) {
             return Some(beside);
         }
         node = above;
@@ -115,19 +114,19 @@ pub fn is_kept_under(arena: &Arena, key: u32) -> bool
     is_kept_from(arena, first)
 }
 
-/// The last of a key's subkeys, and where it stands; `None` where it has none.
-fn last_subkey(arena: &Arena, key: u32) -> Option<PlacedKey>
+/// The first of a key's subkeys, and where it stands; `None` where it has none.
+fn first_subkey(arena: &Arena, key: u32) -> Option<PlacedKey>
     requires { IsHere arena.now.bytes key }
-    ensures { (t : IsHere arena.now.bytes key) → IsLastSubkey arena.now.bytes t.root t.path result }
+    ensures { (t : IsHere arena.now.bytes key) → IsFirstSubkey arena.now.bytes t.root t.path result }
 {
     let list = subkeys_list(arena, key);
     if list.count == 0 {
         return None;
     }
-    let index = list.count - 1;
+    let place = Place { list: 0, index: 0 };
     Some(PlacedKey {
-        offset: at(arena, list, index),
-        index,
+        offset: at_place(arena, list, place),
+        place,
     })
 }
 
@@ -144,20 +143,20 @@ fn delete_under(arena: &mut Arena, securities: &mut SecurityTable, top: u32, mom
         depth: 0,
     };
     loop {
-        let Some(last) = last_subkey(arena, node.offset) else {
+        let Some(first) = first_subkey(arena, node.offset) else {
             if node.depth == 0 {
                 return;
             }
             node = parent_of(arena, node);
             continue;
         };
-        if has_children(arena, last.offset) {
+        if has_children(arena, first.offset) {
             node = Node {
-                offset: last.offset,
+                offset: first.offset,
                 depth: node.depth + 1,
             };
         } else {
-            delete_at(arena, securities, last.offset, last.index, moment);
+            delete_at(arena, securities, first.offset, first.place, moment);
         }
     }
 }
@@ -181,24 +180,18 @@ fn drop_values(arena: &mut Arena, key: u32, moment: u64)
     note_values(arena, key, none, 0, 0, moment);
 }
 
-/// Deletes a key that isn't the root, and that stands at an index among its parent's subkeys, with all keys below it and their
-/// values, and sets its parent's time. It takes no memory.
-pub fn delete_tree_at(
-    arena: &mut Arena,
-    securities: &mut SecurityTable,
-    key: u32,
-    index: u32,
-    moment: u64,
-)
+/// Deletes a key that isn't the root, with all keys below it and their values, and sets its parent's time. It takes no memory. Its
+/// place is found when nothing is left below it.
+pub fn delete_tree_at(arena: &mut Arena, securities: &mut SecurityTable, key: u32, moment: u64)
     requires here { (t : IsHere arena.old.bytes key) × (t.table ≡ securities.old) × (t.path ≢ []) }
-    requires place { StandsAt (heap_of arena.old) key index }
     ensures pruned { (t : IsHere arena.old.bytes key) → t.table ≡ securities.old → t.path ≢ [] →
         IsPruned arena.old.bytes arena.new.bytes t.root securities.new t.path moment }
     ensures lengths { (t : IsHere arena.old.bytes key) → t.path ≢ [] → LengthsStay (heap_of arena.old) (heap_of arena.new) t.root }
     ensures long { length arena.new.bytes ≡ length arena.old.bytes }
 {
     delete_under(arena, securities, key, moment);
-    delete_at(arena, securities, key, index, moment);
+    let place = place_of(arena, key);
+    delete_at(arena, securities, key, place, moment);
 }
 
 /// Deletes all keys below a key, with their values, and the key's own values, and sets its time where it lost any of them. It takes
@@ -214,8 +207,8 @@ pub fn empty(arena: &mut Arena, securities: &mut SecurityTable, key: u32, moment
     drop_values(arena, key, moment);
 }
 
-/// Deletes a key with all keys below it and their values, and sets its parent's time: a search for its place, and then
-/// `delete_tree_at`. `NoDelete` where the key is the root, or it or one below it is marked so; then the arena is as before.
+/// Deletes a key with all keys below it and their values, and sets its parent's time: `delete_tree_at`. `NoDelete` where the key is
+/// the root, or it or one below it is marked so; then the arena is as before.
 pub fn delete_tree(
     arena: &mut Arena,
     securities: &mut SecurityTable,
@@ -239,7 +232,6 @@ pub fn delete_tree(
     if is_kept_within(arena, key) {
         return Err(TreeFault::NoDelete);
     }
-    let index = place_of(arena, key);
-    delete_tree_at(arena, securities, key, index, moment);
+    delete_tree_at(arena, securities, key, moment);
     Ok(())
 }

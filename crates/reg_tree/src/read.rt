@@ -8,11 +8,12 @@ ghost use Rattle.reg_arena.specs.Arena.{heap_of};
 ghost use Rattle.reg_tree.specs.TreeKeys.{tree_in};
 ghost use Rattle.reg_tree.specs.Internal.TreeInvariant.{IsHere};
 ghost use Rattle.reg_tree.specs.Internal.PathWalks.{IsSubkey};
+ghost use Rattle.reg_tree.specs.Internal.ReachedPlaces.{IsPlaceOf, place_index};
 
-use crate::Node;
 use crate::key::{fields, subkeys_list};
+use crate::{Node, Place};
 use reg_arena::Arena;
-use reg_index::{at, len};
+use reg_index::{at, behind, len};
 use reg_records::read_nk;
 use reg_security::descriptor as descriptor_in;
 
@@ -78,6 +79,25 @@ pub fn subkey(arena: &Arena, node: Node, index: u32) -> Option<Node>
     }
     Some(Node {
         offset: at(arena, list, index),
+        depth: node.depth + 1,
+    })
+}
+
+/// The key behind the one at a place among those right below a key, in the order of their folded names, if there is one.
+pub fn subkey_behind(arena: &Arena, node: Node, place: Place) -> Option<Node>
+    requires here { IsHere arena.now.bytes node.offset }
+    requires depth { node.depth ≤ PATH_LIMIT }
+    requires place { IsPlaceOf (heap_of arena.now) node.offset place }
+    ensures { (t : IsHere arena.now.bytes node.offset) →
+        IsSubkey (heap_of arena.now) t.root t.path
+        (children_of (tree_in arena.now.bytes t.root) t.path) node (place_index (heap_of arena.now) node.offset place + 1) result }
+{
+    let list = subkeys_list(arena, node.offset);
+    let Some(offset) = behind(arena, list, place) else {
+        return None;
+    };
+    Some(Node {
+        offset,
         depth: node.depth + 1,
     })
 }

@@ -49,7 +49,8 @@ impl Model for Tree {
 
 impl Tree {
     ghost use Rattle.reg_tree.specs.TreeKeys.{made_root, IsWholeTree, IsAt, IsThere, IsResolved, KeepsNodes, MakesKeys};
-    ghost use Rattle.reg_tree.specs.CellSizes.{create_sizes, security_sizes, value_sizes, LacksRoom};
+    ghost use Rattle.reg_index.specs.declared.Place.{Place};
+    ghost use Rattle.reg_tree.specs.CellSizes.{BelongsThere, create_sizes, security_sizes, value_sizes, LacksRoom};
     ghost use Rattle.reg_tree.specs.NewHive.{IsNewHive};
     ghost use Rattle.reg_tree.specs.KeyLengths.{ChangesLengths, KeepsLengths, NotesMade, lengths_at, no_lengths, with_value_lengths, with_first_length};
     ghost use Rattle.reg_tree.specs.ValueAnswers.{IsFound, without_value_at};
@@ -400,7 +401,8 @@ impl Tree {
         ensures ok { (p : Path) → IsAt self.old p from → IfOk result (λ made. MakesKeys self.old self.new p (path_of path.now)
             (option_map (λ descriptor. descriptor.now) given.entry) moment made) }
         ensures cells { (p : Path) → IsAt self.old p from →
-            OnOk result (Makes (heap_of self.old.bins) (heap_of self.new.bins) (create_sizes self.old p (path_of path.now)
+            OnOk result ((place : Place) × BelongsThere self.old p (path_of path.now) place
+            × Makes (heap_of self.old.bins) (heap_of self.new.bins) (create_sizes self.old p (path_of path.now) place
             (option_map (λ descriptor. descriptor.now) given.entry))) }
         ensures lengths { (p : Path) → IsAt self.old p from →
             OnOk result (ChangesLengths self.old self.new (last_there self.old.tree p (path_of path.now))
@@ -411,7 +413,8 @@ impl Tree {
         ensures limit { (p : Path) → IsAt self.old p from → ((result ≡ Err TreeFault.Limit) ↔ (are_too_many self.old.tree p (path_of path.now) ≡ true)) }
         ensures full { (result ≡ Err TreeFault.Full) → BINS_LIMIT < length self.old.bins.bytes + GROWTH_BOUND }
         ensures space { (p : Path) → IsAt self.old p from →
-            IfErr result (λ fault. fault ≡ TreeFault.Full → LacksRoom self.old.bins (create_sizes self.old p (path_of path.now)
+            IfErr result (λ fault. fault ≡ TreeFault.Full → (place : Place) × BelongsThere self.old p (path_of path.now) place
+            × LacksRoom self.old.bins (create_sizes self.old p (path_of path.now) place
             (option_map (λ descriptor. descriptor.now) given.entry))) }
         ensures others { IfErr result (λ fault. (fault ≡ TreeFault.Limit) ⊎ ((fault ≡ TreeFault.Full) ⊎ (fault ≡ TreeFault.Memory))) }
         ensures err { OnErr result (self.new ≡ self.old) }
@@ -460,7 +463,8 @@ impl Tree {
             IfOk result (λ node. MakesKeys self.old self.new p (path_of path)
             (option_map (λ descriptor. descriptor.now) given.entry) moment (record { node = node; is_new = true })) }
         ensures cells { (from : Node) → (path : List ℕ) → IsWalkedTo self.old from path reached.entry → (p : Path) → IsAt self.old p from →
-            OnOk result (Makes (heap_of self.old.bins) (heap_of self.new.bins) (create_sizes self.old p (path_of path)
+            OnOk result ((place : Place) × BelongsThere self.old p (path_of path) place
+            × Makes (heap_of self.old.bins) (heap_of self.new.bins) (create_sizes self.old p (path_of path) place
             (option_map (λ descriptor. descriptor.now) given.entry))) }
         ensures lengths { (from : Node) → (path : List ℕ) → IsWalkedTo self.old from path reached.entry → (p : Path) → IsAt self.old p from →
             OnOk result (ChangesLengths self.old self.new (last_there self.old.tree p (path_of path))
@@ -469,7 +473,8 @@ impl Tree {
             OnOk result (NotesMade self.new (last_there self.old.tree p (path_of path)) (missing self.old.tree p (path_of path))) }
         ensures full { (result ≡ Err ArenaFault.Full) → BINS_LIMIT < length self.old.bins.bytes + GROWTH_BOUND }
         ensures space { (from : Node) → (path : List ℕ) → IsWalkedTo self.old from path reached.entry → (p : Path) → IsAt self.old p from →
-            IfErr result (λ fault. fault ≡ ArenaFault.Full → LacksRoom self.old.bins (create_sizes self.old p (path_of path)
+            IfErr result (λ fault. fault ≡ ArenaFault.Full → (place : Place) × BelongsThere self.old p (path_of path) place
+            × LacksRoom self.old.bins (create_sizes self.old p (path_of path) place
             (option_map (λ descriptor. descriptor.now) given.entry))) }
         ensures err { OnErr result (self.new ≡ self.old) }
         ensures grows { OnOk result (length self.new.bins.bytes ≤ length self.old.bins.bytes + GROWTH_BOUND) }
@@ -536,7 +541,7 @@ impl Tree {
             &mut self.arena,
             &mut self.securities,
             reached.node.offset,
-            reached.index,
+            reached.place,
             moment,
         )
     }
@@ -591,7 +596,6 @@ impl Tree {
             &mut self.arena,
             &mut self.securities,
             reached.node.offset,
-            reached.index,
             moment,
         )
     }

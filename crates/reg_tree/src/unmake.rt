@@ -11,6 +11,8 @@ ghost use Rattle.reg_arena.specs.Arena.{heap_of};
 ghost use Rattle.reg_records.specs.KeyNodes.{KeyRecord, key_at};
 ghost use Rattle.reg_records.specs.SubkeyLists.{Entry};
 ghost use Rattle.reg_shape.specs.Nodes.{Node as KeyWithCells, look};
+ghost use Rattle.reg_index.specs.declared.Place.{Place};
+ghost use Rattle.reg_index.specs.Subkeys.{StandsIn, flat, index_of};
 ghost use Rattle.reg_values.specs.Internal.ValueListParts.{Owns, GivesUpRead};
 ghost use Rattle.reg_tree.specs.TreeKeys.{tree_in};
 ghost use Rattle.reg_tree.specs.Internal.TreeInvariant.{IsHere};
@@ -18,8 +20,8 @@ ghost use Rattle.reg_tree.specs.Internal.LengthChanges.{LengthsStay};
 ghost use Rattle.reg_tree.specs.Internal.KeyDeletion.{IsListed, IsUnlinked, IsSole, IsLone, IsDeleted, class_at};
 ghost use Rattle.reg_tree.specs.Internal.ReachedPlaces.{StandsAt};
 
-use crate::TreeFault;
 use crate::key::{fields, note_subkeys, subkeys_list, values_list};
+use crate::{Place, TreeFault};
 use reg_arena::Arena;
 use reg_heap::marks::NO_DELETE;
 use reg_index::{find, remove};
@@ -42,27 +44,30 @@ fn name_of(arena: &Arena, key: u32) -> &[u8]
 }
 
 /// Where a key stands among its parent's subkeys, found by its name.
-pub fn place_of(arena: &Arena, key: u32) -> u32
-    requires { (index : ℕ) × StandsAt (heap_of arena.now) key index }
+pub fn place_of(arena: &Arena, key: u32) -> Place
+    requires { (place : Place) × StandsAt (heap_of arena.now) key place }
     ensures { StandsAt (heap_of arena.now) key result }
 {
     let list = subkeys_list(arena, fields(arena, key).parent);
-    let Ok(index) = find(arena, list, name_of(arena, key)) else {
+    let Ok(place) = find(arena, list, name_of(arena, key)) else {
         unreachable!()
     };
-    index
+    place
 }
 
-/// Takes the key at an index out of its parent's subkeys, and notes that with the time.
-fn unlink(arena: &mut Arena, parent: u32, index: u32, moment: u64)
-    requires { (key : ℕ) × (above : KeyRecord) × (entries : List Entry) × IsListed (heap_of arena.old) parent key above entries index }
+/// Takes the key at a place out of its parent's subkeys, and notes that with the time.
+fn unlink(arena: &mut Arena, parent: u32, place: Place, moment: u64)
+    requires { (key : ℕ) × (above : KeyRecord) × (entries : List Entry)
+        × IsListed (heap_of arena.old) parent key above entries (flat (heap_of arena.old) above.fields.subkeys above.fields.subkeys_list place)
+        × StandsIn (index_of (heap_of arena.old) above.fields.subkeys above.fields.subkeys_list) place }
     ensures unlinks { (key : ℕ) → (above : KeyRecord) → (entries : List Entry) →
-        IsListed (heap_of arena.old) parent key above entries index →
-        IsUnlinked (heap_of arena.old) (heap_of arena.new) parent above entries index moment }
+        IsListed (heap_of arena.old) parent key above entries (flat (heap_of arena.old) above.fields.subkeys above.fields.subkeys_list place) →
+        IsUnlinked (heap_of arena.old) (heap_of arena.new) parent above entries
+        (flat (heap_of arena.old) above.fields.subkeys above.fields.subkeys_list place) moment }
     ensures long { length arena.new.bytes ≡ length arena.old.bytes }
 {
     let list = subkeys_list(arena, parent);
-    let after = remove(arena, list, index);
+    let after = remove(arena, list, place);
     note_subkeys(arena, parent, after, 0, moment);
 }
 
@@ -109,24 +114,24 @@ pub fn is_kept(arena: &Arena, key: u32) -> bool
     flags & HIVE_ENTRY != 0 || flags & NO_DELETE != 0
 }
 
-/// Deletes a key that isn't the root and has no subkeys, and that stands at an index among its parent's, with its values, and sets
+/// Deletes a key that isn't the root and has no subkeys, and that stands at a place among its parent's, with its values, and sets
 /// its parent's time. It takes no memory.
 pub fn delete_at(
     arena: &mut Arena,
     securities: &mut SecurityTable,
     key: u32,
-    index: u32,
+    place: Place,
     moment: u64,
 )
     requires here { (t : IsHere arena.old.bytes key) × (t.table ≡ securities.old) × IsLone arena.old.bytes key t }
-    requires place { StandsAt (heap_of arena.old) key index }
+    requires place { StandsAt (heap_of arena.old) key place }
     ensures deleted { (t : IsHere arena.old.bytes key) → t.table ≡ securities.old → IsLone arena.old.bytes key t →
         IsDeleted arena.old.bytes arena.new.bytes t.root securities.new t.path moment }
     ensures lengths { (t : IsHere arena.old.bytes key) → IsLone arena.old.bytes key t → LengthsStay (heap_of arena.old) (heap_of arena.new) t.root }
     ensures long { length arena.new.bytes ≡ length arena.old.bytes }
 {
     let head = fields(arena, key);
-    unlink(arena, head.parent, index, moment);
+    unlink(arena, head.parent, place, moment);
     free_key(arena, key);
     securities.release(arena, head.security);
 }
@@ -158,7 +163,7 @@ pub fn delete(
     if is_kept(arena, key) {
         return Err(TreeFault::NoDelete);
     }
-    let index = place_of(arena, key);
-    delete_at(arena, securities, key, index, moment);
+    let place = place_of(arena, key);
+    delete_at(arena, securities, key, place, moment);
     Ok(())
 }

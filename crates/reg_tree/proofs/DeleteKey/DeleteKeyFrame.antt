@@ -30,7 +30,7 @@ use Rattle.reg_records.proofs.KeySecurityCodec.{security_at-same}
 use Rattle.reg_shape.proofs.Walking.WalkRefinement.{IsLooked}
 use Rattle.reg_shape.proofs.Wholeness.ShapeRecords.{all-at, at-most-one, allocated-is}
 use Rattle.reg_values.proofs.ValueFreeing.FrameChains.{times-same}
-use Rattle.reg_index.specs.Subkeys.{IsSingle, Moves, cells_of_index, own}
+use Rattle.reg_index.specs.Subkeys.{Moves, cells_of_index, own}
 use Rattle.reg_index.proofs.SubkeysOpening.{own-is}
 use Rattle.reg_tree.specs.Internal.KeyNodeChanges.{noted_subkeys}
 use Rattle.reg_tree.specs.Internal.KeyDeletion.{IsUnlinked, IsSole}
@@ -47,7 +47,7 @@ use Rattle.reg_tree.proofs.DeleteKey.DeletedKeyParent as before
 -- ---- the parent `was`, and the key `b` below it
 
 module _ (h0 : Heap) (root : ℕ) (keys : Branch Node) (ring : List ℕ) (w : IsShape h0 root keys ring []) (p : Path) (was : Branch Node)
-    (e : branch_at p keys ≡ Some was) (single : IsSingle was.node.index)
+    (e : branch_at p keys ≡ Some was)
     (x : List ℕ) (b : Branch Node) (found : branch_in (x ∷ []) was.below ≡ Some b) (childless : b.node.key.fields.subkeys ≡ 0) where
   abbrev m : Node
   m = was.node
@@ -67,44 +67,44 @@ module _ (h0 : Heap) (root : ℕ) (keys : Branch Node) (ring : List ℕ) (w : Is
   -- what is known of them before
 
   pub stands : StandsIn h0 root was
-  stands = before.stands h0 root keys ring w p was e single x b found childless
+  stands = before.stands h0 root keys ring w p was e x b found childless
 
   key_stands : StandsIn h0 root b
-  key_stands = before.key_stands h0 root keys ring w p was e single x b found childless
+  key_stands = before.key_stands h0 root keys ring w p was e x b found childless
 
   abbrev pub l : IsLooked h0 was.offset m
-  l = before.l h0 root keys ring w p was e single x b found childless
+  l = before.l h0 root keys ring w p was e x b found childless
 
   abbrev n_l : IsLooked h0 b.offset n
-  n_l = before.n_l h0 root keys ring w p was e single x b found childless
+  n_l = before.n_l h0 root keys ring w p was e x b found childless
 
   abbrev pub spot : IsHead x was.below b
-  spot = before.spot h0 root keys ring w p was e single x b found childless
+  spot = before.spot h0 root keys ring w p was e x b found childless
 
   abbrev rest : Forest Node
   rest = unhang spot.index was.below
 
   pub secured : 0 < times s ring
-  secured = before.secured h0 root keys ring w p was e single x b found childless
+  secured = before.secured h0 root keys ring w p was e x b found childless
 
   pub index-cells : (z : ℕ) → owned z (index_cells m.index) ≡ times z old_list
-  index-cells = before.index-cells h0 root keys ring w p was e single x b found childless
+  index-cells = before.index-cells h0 root keys ring w p was e x b found childless
 
   pub m-parts : (z : ℕ) → owned z (cells_of m) ≡ times z (was.offset ∷ []) + (owned z l.class_cells + owned z l.value_cells) + times z old_list
-  m-parts = before.m-parts h0 root keys ring w p was e single x b found childless
+  m-parts = before.m-parts h0 root keys ring w p was e x b found childless
 
   n-unlisted : n.index ≡ Unlisted
-  n-unlisted = before.n-unlisted h0 root keys ring w p was e single x b found childless
+  n-unlisted = before.n-unlisted h0 root keys ring w p was e x b found childless
 
   pub n-parts : (z : ℕ) → owned z (cells_of n) ≡ owned z n.cells
-  n-parts = before.n-parts h0 root keys ring w p was e single x b found childless
+  n-parts = before.n-parts h0 root keys ring w p was e x b found childless
 
   pub below-parts : (f : ℕ → Node → ℕ) → total f rest + f b.offset n ≡ total f was.below
-  below-parts = before.below-parts h0 root keys ring w p was e single x b found childless
+  below-parts = before.below-parts h0 root keys ring w p was e x b found childless
 
   pub room : (z : ℕ) → (times z (was.offset ∷ []) + (owned z l.class_cells + owned z l.value_cells) + times z old_list) +
       (total (owns z) rest + owned z n.cells) + times z ring ≤ allocated h0 z
-  room = before.room h0 root keys ring w p was e single x b found childless
+  room = before.room h0 root keys ring w p was e x b found childless
 
   -- ---- when the key was taken from the list, and that was noted
 

@@ -2,6 +2,7 @@
 use Rattle.std.proofs.Common.{◌≡◌, ℕ, ◌+◌, ◌%◌, ◌<◌, ◌≤◌, Some, List, [], ◌∷◌, refl, sym, ap, ◌∙◌, subst, arith}
 use Rattle.std.specs.Prelude.{unwrap_or}
 use Rattle.std.specs.List.{AllByRecursion}
+use Rattle.reg_heap.specs.declared.limits.TheConstants.{SUBKEYS_LIMIT}
 use Rattle.reg_heap.specs.Paths.{Path}
 use Rattle.reg_heap.specs.Heaps.{Heap, CellFrame, allocated}
 use Rattle.reg_heap.specs.Kinds.{times, owned, shared}
@@ -24,13 +25,14 @@ use Rattle.reg_shape.proofs.Frame.WrittenFrame.{same-held}
 use Rattle.reg_shape.proofs.Walking.WalkRefinement.{IsLooked}
 use Rattle.reg_shape.proofs.Wholeness.ShapeRecords.{shares-own, at-most-one}
 use Rattle.reg_values.proofs.ValueFreeing.FrameChains.{times-same}
-use Rattle.reg_index.specs.Subkeys.{IsSingle, AreSubkeys, Moves, cells_of_index, own, without}
+use Rattle.reg_index.specs.Subkeys.{AreSubkeys, Moves, cells_of_index, own, without}
+use Rattle.reg_index.proofs.EntryTaken.{length-without}
 use Rattle.reg_index.proofs.SubkeysOpening.{own-is}
 use Rattle.reg_index.proofs.SubkeysFrame.{owned-index}
 use Rattle.reg_index.proofs.RefinementOfSubkeys.{subkeys-elsewhere}
 use Rattle.reg_tree.specs.Internal.KeyNodeChanges.{noted_subkeys}
 use Rattle.reg_tree.specs.Internal.KeyDeletion.{IsUnlinked}
-use Rattle.reg_tree.proofs.DeleteKey.DeletedKeyPosition.{IsHead, by-offsets, heads-owned}
+use Rattle.reg_tree.proofs.DeleteKey.DeletedKeyPosition.{IsHead, by-offsets, heads-owned, listed}
 use Rattle.reg_tree.proofs.DeleteKey.SecurityReleased.{ReleasesFrom, used-in}
 use Rattle.reg_tree.proofs.Invariant.CellReadings.{key-moved}
 use Rattle.reg_tree.proofs.InsertKey.ParentReindexed.{sees-reindexed, owned-reindexed, shared-reindexed}
@@ -40,7 +42,7 @@ use Rattle.reg_tree.proofs.DeleteKey.DeletedKeyParent as before
 use Rattle.reg_tree.proofs.DeleteKey.DeleteKeyFrame as frame
 
 module _ (h0 : Heap) (root : ℕ) (keys : Branch Node) (ring : List ℕ) (w : IsShape h0 root keys ring []) (p : Path) (was : Branch Node)
-    (e : branch_at p keys ≡ Some was) (single : IsSingle was.node.index)
+    (e : branch_at p keys ≡ Some was)
     (x : List ℕ) (b : Branch Node) (found : branch_in (x ∷ []) was.below ≡ Some b) (childless : b.node.key.fields.subkeys ≡ 0) where
   abbrev m : Node
   m = was.node
@@ -58,63 +60,63 @@ module _ (h0 : Heap) (root : ℕ) (keys : Branch Node) (ring : List ℕ) (w : Is
   old_list = cells_of_index m.index
 
   stands : StandsIn h0 root was
-  stands = frame.stands h0 root keys ring w p was e single x b found childless
+  stands = frame.stands h0 root keys ring w p was e x b found childless
 
   abbrev l : IsLooked h0 was.offset m
-  l = before.l h0 root keys ring w p was e single x b found childless
+  l = before.l h0 root keys ring w p was e x b found childless
 
   abbrev spot : IsHead x was.below b
-  spot = before.spot h0 root keys ring w p was e single x b found childless
+  spot = before.spot h0 root keys ring w p was e x b found childless
 
   abbrev rest : Forest Node
   rest = unhang spot.index was.below
 
   index-cells : (z : ℕ) → owned z (index_cells m.index) ≡ times z old_list
-  index-cells = frame.index-cells h0 root keys ring w p was e single x b found childless
+  index-cells = frame.index-cells h0 root keys ring w p was e x b found childless
 
   m-parts : (z : ℕ) → owned z (cells_of m) ≡ times z (was.offset ∷ []) + (owned z l.class_cells + owned z l.value_cells) + times z old_list
-  m-parts = frame.m-parts h0 root keys ring w p was e single x b found childless
+  m-parts = frame.m-parts h0 root keys ring w p was e x b found childless
 
   n-parts : (z : ℕ) → owned z (cells_of n) ≡ owned z n.cells
-  n-parts = frame.n-parts h0 root keys ring w p was e single x b found childless
+  n-parts = frame.n-parts h0 root keys ring w p was e x b found childless
 
   below-parts : (f : ℕ → Node → ℕ) → total f rest + f b.offset n ≡ total f was.below
-  below-parts = frame.below-parts h0 root keys ring w p was e single x b found childless
+  below-parts = frame.below-parts h0 root keys ring w p was e x b found childless
 
   room : (z : ℕ) → (times z (was.offset ∷ []) + (owned z l.class_cells + owned z l.value_cells) + times z old_list) + (total (owns z) rest + owned z n.cells) + times z ring ≤ allocated h0 z
-  room = frame.room h0 root keys ring w p was e single x b found childless
+  room = frame.room h0 root keys ring w p was e x b found childless
 
   module _ (h2 : Heap) (moment : ℕ) (un : IsUnlinked h0 h2 was.offset m.key entries spot.index moment) where
     abbrev h1 : Heap
     h1 = un.mid
 
     moves : Moves h0 h1 old_list (own h1 un.count un.list)
-    moves = frame.moves h0 root keys ring w p was e single x b found childless h2 moment un
+    moves = frame.moves h0 root keys ring w p was e x b found childless h2 moment un
 
     calm-mid : (z : ℕ) → 0 < allocated h0 z → times z old_list ≡ 0 → h1 z ≡ h0 z
-    calm-mid = frame.calm-mid h0 root keys ring w p was e single x b found childless h2 moment un
+    calm-mid = frame.calm-mid h0 root keys ring w p was e x b found childless h2 moment un
 
     offset-mid : h1 was.offset ≡ h0 was.offset
-    offset-mid = frame.offset-mid h0 root keys ring w p was e single x b found childless h2 moment un
+    offset-mid = frame.offset-mid h0 root keys ring w p was e x b found childless h2 moment un
 
     key-then : key_at h2 was.offset ≡ Some (noted_subkeys un.count un.list 0 moment m.key)
-    key-then = frame.key-then h0 root keys ring w p was e single x b found childless h2 moment un
+    key-then = frame.key-then h0 root keys ring w p was e x b found childless h2 moment un
 
     same-number : (z : ℕ) → allocated h2 z ≡ allocated h1 z
-    same-number = frame.same-number h0 root keys ring w p was e single x b found childless h2 moment un
+    same-number = frame.same-number h0 root keys ring w p was e x b found childless h2 moment un
 
     module _ (h4 : Heap) (freed : CellFrame h2 h4 (λ z. owned z n.cells) (λ z. 0)) where
       calm-freed : (z : ℕ) → 0 < allocated h0 z → times z old_list ≡ 0 → times z (was.offset ∷ []) ≡ 0 → owned z n.cells ≡ 0 → h4 z ≡ h0 z
-      calm-freed = frame.calm-freed h0 root keys ring w p was e single x b found childless h2 moment un h4 freed
+      calm-freed = frame.calm-freed h0 root keys ring w p was e x b found childless h2 moment un h4 freed
 
       described-then : (z : ℕ) → 0 < times z ring → descriptor_at h4 z ≡ descriptor_at h0 z
-      described-then = frame.described-then h0 root keys ring w p was e single x b found childless h2 moment un h4 freed
+      described-then = frame.described-then h0 root keys ring w p was e x b found childless h2 moment un h4 freed
 
       uses-then : (z : ℕ) → uses_in h4 ring z ≡ uses_in h0 ring z
-      uses-then = frame.uses-then h0 root keys ring w p was e single x b found childless h2 moment un h4 freed
+      uses-then = frame.uses-then h0 root keys ring w p was e x b found childless h2 moment un h4 freed
 
       names-once : (z : ℕ) → shared z (cells_of n) ≡ times z (s ∷ [])
-      names-once = frame.names-once h0 root keys ring w p was e single x b found childless h2 moment un h4 freed
+      names-once = frame.names-once h0 root keys ring w p was e x b found childless h2 moment un h4 freed
 
       module _ (h5 : Heap) (ring' : List ℕ) (re : ReleasesFrom h4 h5 ring ring' s) where
         abbrev entries' : List Entry
@@ -194,8 +196,16 @@ module _ (h0 : Heap) (root : ℕ) (keys : Branch Node) (ring : List ℕ) (w : Is
         abbrev subkeys-now : AreSubkeys h5 un.count un.list entries'
         subkeys-now = subkeys-elsewhere h1 h5 un.count un.list entries' un.subkeys list-stays entries-stay
 
+        few : un.count ≤ SUBKEYS_LIMIT
+        few =
+            let l = length-without spot.index entries (listed h0 root was stands x b found).within in
+            let n = un.subkeys.number in
+            let w = stands.0.written.subkeys in
+            let f = stands.0.written.few in
+            omega (arith, l, n, w, f)
+
         seen-now : IsSeen h5 root was.offset after
-        seen-now = sees-reindexed h0 h5 root was.offset m stands.0 l un.count un.list 0 moment entries' key-now plain-now class-calm values-calm subkeys-now (omega arith)
+        seen-now = sees-reindexed h0 h5 root was.offset m stands.0 l un.count un.list 0 moment entries' key-now plain-now class-calm values-calm subkeys-now (omega arith) few
 
         -- the counts
 

@@ -1,5 +1,5 @@
 -- A key deleted: what each step of it needs, and the tree before and after.
-use Rattle.std.proofs.Common.{◌≡◌, ◌≢◌, ℕ, ◌-◌, ◌<◌, ◌≤◌, Bool, true, false, cond, Some, None, List, [], ◌∷◌, ◌++◌, refl, sym, ap, ◌∙◌, subst, arith}
+use Rattle.std.proofs.Common.{◌≡◌, ◌≢◌, ℕ, ◌-◌, ◌<◌, ◌≤◌, Bool, true, false, cond, Some, None, List, [], ◌∷◌, ◌++◌, refl, sym, ap, ◌∙◌, subst}
 use Rattle.std.specs.Option.{option_map}
 use Rattle.std.specs.FinMap.{get, insert, remove}
 use Rattle.reg_names.specs.Names.{folded}
@@ -19,12 +19,11 @@ use Rattle.reg_shape.specs.Whole.{IsRing, count_at}
 use Rattle.reg_shape.specs.Internal.Shapes.{shares, descriptor_in, tree_of, StandsIn}
 use Rattle.reg_shape.specs.Internal.Grafts.{IsShape, IsGrafted, branch_in, branch_at, graft_at}
 use Rattle.reg_shape.specs.PathLookup.{key_offset_at}
-use Rattle.reg_shape.proofs.Graft.WholeAfterGraft.{grafted, graft-total}
+use Rattle.reg_shape.proofs.Graft.WholeAfterGraft.{grafted}
 use Rattle.reg_shape.proofs.Graft.ForestInsertFits.{deep-unhung}
 use Rattle.reg_shape.proofs.Refinement.RefinementAfterGraft.{grafted-name, tree-unhung}
 use Rattle.reg_shape.proofs.Lookup.LookupAfterGraft.{offsets-unhung}
 use Rattle.reg_shape.proofs.Refinement.RefinementAfterEdit.{same_path, name-is}
-use Rattle.reg_index.specs.Subkeys.{IsSingle}
 use Rattle.std.proofs.lemmas.Option.{none-some, same_Some}
 use Rattle.reg_shape.specs.Internal.Exchanges.{is_named, found_in}
 use Rattle.reg_shape.specs.Internal.Grafts.{IsLeafAt}
@@ -34,17 +33,15 @@ use Rattle.reg_security.specs.Rings.{DescriptorCells, Finds, IsRemoved, Recounts
 use Rattle.reg_tree.specs.TreeKeys.{tree_in}
 use Rattle.reg_tree.specs.KeyLengths.{lengths_of}
 use Rattle.reg_tree.specs.Internal.LengthChanges.{LengthsStay}
-use Rattle.reg_tree.specs.Internal.TreeInvariant.{rooted, TreeInvariant, IsHere}
+use Rattle.reg_tree.specs.Internal.TreeInvariant.{TreeInvariant, IsHere}
 use Rattle.reg_tree.specs.Internal.KeyDeletion.{IsListed, IsUnlinked, IsSole, IsDeleted}
-use Rattle.reg_tree.specs.Internal.ReachedPlaces.{StandsAt}
 use Rattle.reg_tree.proofs.ValueChange.TreeAfterValueChange.{edited-at}
 use Rattle.reg_tree.proofs.DeleteKey.KeyAbove as above
 use Rattle.reg_tree.proofs.DeleteKey.SecurityReleased.{Releases, released}
 use Rattle.reg_tree.proofs.DeleteKey.DeleteKeyFrame.{secured, key-left, sole, ring-then, used-then, count-then, some-then, finds-then}
 use Rattle.reg_tree.proofs.DeleteKey.DeleteKeyGraft.{is, grafts, described-above}
-use Rattle.reg_tree.proofs.DeleteKey.DeletedKeyParent.{spot, leaf, below-parts, raised-none}
+use Rattle.reg_tree.proofs.DeleteKey.DeletedKeyParent.{spot, leaf, raised-none}
 use Rattle.reg_tree.proofs.DeleteKey.DeletedKeyPosition.{above-is, listed, parent-is}
-use Rattle.reg_tree.proofs.Invariant.UntouchedCells.{rooted-none}
 use Rattle.reg_tree.proofs.Invariant.KeyOfTree.{spelt_is, rec_is, branch, offset, key_is}
 use Rattle.reg_tree.proofs.Invariant.LengthsAfterGraft.{lengths_stay}
 
@@ -92,30 +89,27 @@ module _ (old : List ℕ) (key : ℕ) (t : IsHere old key) (childless : (branch 
   found : branch_in (x ∷ []) was.below ≡ Some b
   found = above.found old key t inner
 
-  single : IsSingle was.node.index
-  single = above.single old key t inner
-
   abbrev entries : List Entry
   entries = entries_of was.node.index
 
   abbrev index : ℕ
-  index = (spot h t.root keys ring w p was was-is single x b found childless).index
+  index = (spot h t.root keys ring w p was was-is x b found childless).index
 
   called : folded (name_of b.node.key) ≡ x
-  called = sym (name-is x (folded (name_of b.node.key)) (spot h t.root keys ring w p was was-is single x b found childless).named)
+  called = sym (name-is x (folded (name_of b.node.key)) (spot h t.root keys ring w p was was-is x b found childless).named)
 
   -- ---- what the steps need
 
   module _ (fields : KeyFields) (are : (r : KeyRecord) → key_at h key ≡ Some r → fields ≡ r.fields) where
     parent-offset : fields.parent ≡ was.offset
-    parent-offset = ap (λ (f : KeyFields). f.parent) (are b.node.key (key_is old key t)) ∙ parent-is h t.root was stands-was single x b found
+    parent-offset = ap (λ (f : KeyFields). f.parent) (are b.node.key (key_is old key t)) ∙ parent-is h t.root was stands-was x b found
 
     its-security : fields.security ≡ b.node.key.fields.security
     its-security = ap (λ (f : KeyFields). f.security) (are b.node.key (key_is old key t))
 
     listed-here : IsListed h fields.parent key was.node.key entries index
     listed-here = subst (λ o. IsListed h o key was.node.key entries index) (sym parent-offset)
-        (subst (λ k. IsListed h was.offset k was.node.key entries index) (offset old key t) (listed h t.root was stands-was single x b found))
+        (subst (λ k. IsListed h was.offset k was.node.key entries index) (offset old key t) (listed h t.root was stands-was x b found))
 
     module _ (h2 : Heap) (moment : ℕ) (unlinks : (above : KeyRecord) → (entries : List Entry) → (index : ℕ) →
         IsListed h fields.parent key above entries index → IsUnlinked h h2 fields.parent above entries index moment) where
@@ -123,11 +117,11 @@ module _ (old : List ℕ) (key : ℕ) (t : IsHere old key) (childless : (branch 
       un = subst (λ o. IsUnlinked h h2 o was.node.key entries index moment) parent-offset (unlinks was.node.key entries index listed-here)
 
       pub free-ready : IsSole h2 key
-      free-ready = subst (IsSole h2) (offset old key t) (sole h t.root keys ring w p was was-is single x b found childless h2 moment un)
+      free-ready = subst (IsSole h2) (offset old key t) (sole h t.root keys ring w p was was-is x b found childless h2 moment un)
 
       module _ (h4 : Heap) (frees : (node : Node) → look h2 key ≡ Some node → CellFrame h2 h4 (λ z. owned z node.cells) (λ z. 0)) where
         freed : CellFrame h2 h4 (λ z. owned z b.node.cells) (λ z. 0)
-        freed = frees b.node (subst (λ k. look h2 k ≡ Some b.node) (offset old key t) (key-left h t.root keys ring w p was was-is single x b found childless h2 moment un))
+        freed = frees b.node (subst (λ k. look h2 k ≡ Some b.node) (offset old key t) (key-left h t.root keys ring w p was was-is x b found childless h2 moment un))
 
         abbrev gone : ℕ
         gone = b.node.key.fields.security
@@ -136,15 +130,15 @@ module _ (old : List ℕ) (key : ℕ) (t : IsHere old key) (childless : (branch 
         pub release-ring : (table : DescriptorCells) → t.table ≡ table → (ring : List ℕ) × IsRing h4 ring × (0 < times fields.security ring) × Finds table h4 ring
         release-ring table same = (
           ring,
-          ring-then h t.root keys ring w p was was-is single x b found childless h2 moment un h4 freed,
-          subst (λ s. 0 < times s ring) (sym its-security) (secured h t.root keys ring w p was was-is single x b found childless),
+          ring-then h t.root keys ring w p was was-is x b found childless h2 moment un h4 freed,
+          subst (λ s. 0 < times s ring) (sym its-security) (secured h t.root keys ring w p was was-is x b found childless),
           subst (λ (table : DescriptorCells). Finds table h4 ring) same
-              (finds-then h t.root keys ring w p was was-is single x b found childless h2 moment un h4 freed t.table t.holds.finds),
+              (finds-then h t.root keys ring w p was was-is x b found childless h2 moment un h4 freed t.table t.holds.finds),
         )
 
         pub release-some : (n : ℕ) → count_at h4 fields.security ≡ Some n → 1 ≤ n
         release-some n e =
-            some-then h t.root keys ring w p was was-is single x b found childless h2 moment un h4 freed n (ap (count_at h4) (sym its-security) ∙ e)
+            some-then h t.root keys ring w p was was-is x b found childless h2 moment un h4 freed n (ap (count_at h4) (sym its-security) ∙ e)
 
         module _ (new : List ℕ) (before after : DescriptorCells) (same : t.table ≡ before)
             (fewer : (n : ℕ) → count_at h4 fields.security ≡ Some n → 1 < n → Recounts h4 (cell_at new) fields.security (λ n. n - 1) × (after ≡ before) ×
@@ -159,18 +153,18 @@ module _ (old : List ℕ) (key : ℕ) (t : IsHere old key) (childless : (branch 
           releases =
               let r = release-ring before same in
               subst (λ s. Releases h4 h5 ring s after) its-security
-              (released h4 h5 ring fields.security r.1 r.2 (used-then h t.root keys ring w p was was-is single x b found childless h2 moment un h4 freed)
+              (released h4 h5 ring fields.security r.1 r.2 (used-then h t.root keys ring w p was was-is x b found childless h2 moment un h4 freed)
               before after r.3 fewer last (total_of (shares gone) keys)
-              (ap (count_at h4) its-security ∙ count-then h t.root keys ring w p was was-is single x b found childless h2 moment un h4 freed))
+              (ap (count_at h4) its-security ∙ count-then h t.root keys ring w p was was-is x b found childless h2 moment un h4 freed))
 
           abbrev ring' : List ℕ
           ring' = releases.after
 
           abbrev came : Branch Node
-          came = is h t.root keys ring w p was was-is single x b found childless h2 moment un h4 freed h5 ring' releases.from
+          came = is h t.root keys ring w p was was-is x b found childless h2 moment un h4 freed h5 ring' releases.from
 
           grafts-here : IsGrafted h h5 t.root was came ring [] ring' []
-          grafts-here = grafts h t.root keys ring w p was was-is single x b found childless h2 moment un h4 freed h5 ring' releases.from
+          grafts-here = grafts h t.root keys ring w p was was-is x b found childless h2 moment un h4 freed h5 ring' releases.from
 
           abbrev now : Branch Node
           now = graft_at p came.node came.below keys
@@ -181,12 +175,6 @@ module _ (old : List ℕ) (key : ℕ) (t : IsHere old key) (childless : (branch 
             ring = ring';
             shape = grafted h h5 t.root p keys was came ring [] ring' [] was-is grafts-here (deep-unhung p keys was index was-is w.shallow) w;
             finds = releases.finds;
-            unrooted = (
-                let g = graft-total rooted was came.node came.below p keys was-is in
-                let u = t.holds.unrooted in
-                let c = below-parts h t.root keys ring w p was was-is single x b found childless rooted in
-                let n : rooted was.offset came.node ≡ 0 = rooted-none un.subkeys.index un.subkeys.single in
-                omega (arith, g, u, c, n));
           }
 
           abbrev rec : Rec
@@ -200,9 +188,9 @@ module _ (old : List ℕ) (key : ℕ) (t : IsHere old key) (childless : (branch 
           tree-now =
               spelt_is new t.root holds-now
               ∙ (tree-unhung h h5 t.root p keys was came ring [] ring' [] was-is grafts-here w index b.offset b.node x called refl
-              (leaf h t.root keys ring w p was was-is single x b found childless)
+              (leaf h t.root keys ring w p was was-is x b found childless)
               ∙ (ap (λ d. remove (insert (tree_of h keys) p (rec_of came.node d)) (p ++ x ∷ []))
-              (described-above h t.root keys ring w p was was-is single x b found childless h2 moment un h4 freed h5 ring' releases.from)
+              (described-above h t.root keys ring w p was was-is x b found childless h2 moment un h4 freed h5 ring' releases.from)
               ∙ (ap (λ (tree : Tree). remove (insert tree p (at_time moment rec)) (p ++ x ∷ [])) (sym (spelt_is old t.root t.holds))
               ∙ (ap (λ (tree : Tree). remove tree (p ++ x ∷ [])) (sym (edited-at (tree_in old t.root) p rec (at_time moment) rec-there))
               ∙ (ap (λ q. remove (edited (tree_in old t.root) q (at_time moment)) (p ++ x ∷ [])) (sym (above-is p x))
@@ -211,7 +199,7 @@ module _ (old : List ℕ) (key : ℕ) (t : IsHere old key) (childless : (branch 
           offsets-now : (q : Path) → q ≢ t.path → key_offset_at h5 t.root q ≡ key_offset_at h t.root q
           offsets-now q n =
               offsets-unhung h h5 t.root p keys was came ring [] ring' [] was-is grafts-here w index b.offset b.node x called refl
-              (leaf h t.root keys ring w p was was-is single x b found childless) q
+              (leaf h t.root keys ring w p was was-is x b found childless) q
               ∙ ap (λ same. cond same None (key_offset_at h t.root q)) (other-path q (p ++ x ∷ []) (λ e. n (e ∙ sym (above.parts old key t inner).2)))
 
           pub is-deleted : IsDeleted old new t.root after t.path moment
@@ -219,7 +207,7 @@ module _ (old : List ℕ) (key : ℕ) (t : IsHere old key) (childless : (branch 
 
           -- the largest lengths that are noted stay
           leaf-there : IsLeafAt index b.offset b.node was.below
-          leaf-there = leaf h t.root keys ring w p was was-is single x b found childless
+          leaf-there = leaf h t.root keys ring w p was was-is x b found childless
 
           below-same : (y : List ℕ) (r : Path) (o : ℕ) (m n : Node) → found_in (y ∷ r) was.below ≡ Some (o, m) → found_in (y ∷ r) came.below ≡ Some (o, n) → n ≡ m
           below-same y r o m n e f = by (is_named y b.node) (sym (found-unhang index b.offset b.node was.below (apart-stands h t.root was stands-was) leaf-there y r) ∙ f)
@@ -234,16 +222,3 @@ module _ (old : List ℕ) (key : ℕ) (t : IsHere old key) (childless : (branch 
               lengths_stay h h5 t.root p keys was came was-is (grafted-name h h5 t.root p keys was came ring [] ring' [] was-is grafts-here w)
               w.offset w.stands holds-now.shape.offset holds-now.shape.stands below-same
               (ap (λ n. record (lengths_of was.node.key) { subkey_name = n }) (raised-none was.node.key.fields.largest_subkey_name))
-
-  -- it stands among its parent's subkeys
-  pub placed : (index : ℕ) × StandsAt h key index
-  placed = (
-    index,
-    record {
-      record_is = b.node.key;
-      above = was.node.key;
-      entries = entries;
-      reads = key_is old key t;
-      listed = listed-here b.node.key.fields (λ r e. ap (λ (k : KeyRecord). k.fields) (same_Some _ _ (sym (key_is old key t) ∙ e)));
-    },
-  )

@@ -58,5 +58,5 @@ module _ (bins : Bins) (root : ℕ) {table : DescriptorCells} (holds : TreeInvar
   lone_there = (here_at bins root holds now view_is reached.node node_there.0 node_there.1, refl, lone_at node_there.0 node_there.1)
 
   -- where it stands among its parent's subkeys
-  pub stands_there : StandsAt (heap_of bins) reached.node.offset reached.index
-  stands_there = subst (λ (k : Keys). StandsAt (heap_of k.bins) reached.node.offset reached.index) (sym view_is) (r.place.stands none-left there.4)
+  pub stands_there : StandsAt (heap_of bins) reached.node.offset reached.place
+  stands_there = subst (λ (k : Keys). StandsAt (heap_of k.bins) reached.node.offset reached.place) (sym view_is) (r.place.stands none-left there.4)

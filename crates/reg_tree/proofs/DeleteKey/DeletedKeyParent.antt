@@ -14,7 +14,7 @@ use Rattle.reg_shape.proofs.Wholeness.ShapeCounts.{tally-append}
 use Rattle.reg_shape.proofs.Graft.ForestInsert.{leaf-at, total-unhang}
 use Rattle.reg_shape.proofs.Walking.WalkRefinement.{IsLooked, look-open}
 use Rattle.reg_shape.proofs.Wholeness.ShapeRecords.{shares-own}
-use Rattle.reg_index.specs.Subkeys.{IsSingle, cells_of_index}
+use Rattle.reg_index.specs.Subkeys.{cells_of_index}
 use Rattle.reg_index.proofs.SubkeysFrame.{owned-index}
 use Rattle.reg_tree.specs.Internal.KeyNodeChanges.{raised}
 use Rattle.reg_tree.proofs.DeleteKey.DeletedKeyCells.{own-met}
@@ -27,7 +27,7 @@ raised-none largest = omega arith
 -- ---- before: the parent `was`, and the key `b` below it
 
 module _ (h0 : Heap) (root : ℕ) (keys : Branch Node) (ring : List ℕ) (w : IsShape h0 root keys ring []) (p : Path) (was : Branch Node)
-    (e : branch_at p keys ≡ Some was) (single : IsSingle was.node.index)
+    (e : branch_at p keys ≡ Some was)
     (x : List ℕ) (b : Branch Node) (found : branch_in (x ∷ []) was.below ≡ Some b) (childless : b.node.key.fields.subkeys ≡ 0) where
   abbrev m : Node
   m = was.node
@@ -51,7 +51,7 @@ module _ (h0 : Heap) (root : ℕ) (keys : Branch Node) (ring : List ℕ) (w : Is
   n_l = look-open h0 b.offset n key_stands.0.reads
 
   abbrev pub spot : IsHead x was.below b
-  spot = head h0 root was stands single x b found
+  spot = head h0 root was stands x b found
 
   abbrev rest : Forest Node
   rest = unhang spot.index was.below

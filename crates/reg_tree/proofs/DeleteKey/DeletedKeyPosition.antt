@@ -18,7 +18,6 @@ use Rattle.reg_shape.specs.Internal.Grafts.{branch_in}
 use Rattle.reg_shape.proofs.Wholeness.WholeAfterExchange.{all-weaker}
 use Rattle.reg_shape.proofs.Lookup.LookupOfShape.{key-looked}
 use Rattle.reg_shape.proofs.Walking.WalkRefinement.{look-open}
-use Rattle.reg_index.specs.Subkeys.{IsSingle}
 use Rattle.reg_tree.specs.Internal.KeyDeletion.{IsListed}
 use Rattle.reg_tree.proofs.Invariant.OwnCells.{own-parts, key-here}
 use Rattle.reg_tree.proofs.InsertKey.ParentReindexed.{branch-subkeys}
@@ -120,7 +119,7 @@ above-is q x =
 
 -- ---- as its parent lists it
 
-module _ (h : Heap) (root : ℕ) (was : Branch Node) (stands : StandsIn h root was) (single : IsSingle was.node.index) (x : List ℕ) (b : Branch Node)
+module _ (h : Heap) (root : ℕ) (was : Branch Node) (stands : StandsIn h root was) (x : List ℕ) (b : Branch Node)
     (found : branch_in (x ∷ []) was.below ≡ Some b) where
   abbrev pub head : IsHead x was.below b
   head = head-at x was.below b found
@@ -128,7 +127,7 @@ module _ (h : Heap) (root : ℕ) (was : Branch Node) (stands : StandsIn h root w
   pub listed : IsListed h was.offset b.offset was.node.key (entries_of was.node.index) head.index
   listed =
       let e = entry-there head.index (entries_of was.node.index) (heads was.below) (b.offset, b.node) head.rest stands.1.offsets head.at in
-      record { reads = key-looked h was.offset was.node stands.0.reads; subkeys = branch-subkeys h root was stands single; within = e.0; offset = e.1 }
+      record { reads = key-looked h was.offset was.node stands.0.reads; subkeys = branch-subkeys h root was stands; within = e.0; offset = e.1 }
 
   pub parent-is : b.node.key.fields.parent ≡ was.offset
   parent-is = all-there (λ (e : ℕ × Node). e.1.key.fields.parent ≡ was.offset) head.index (heads was.below) (b.offset, b.node) head.rest stands.1.parents head.at

@@ -14,11 +14,9 @@ use Rattle.reg_shape.specs.PathLookup.{key_offset_at}
 use Rattle.reg_shape.proofs.Graft.Branches.{branch-append, branch-stands}
 use Rattle.reg_shape.proofs.Walking.IndexWalks.{then-open}
 use Rattle.reg_shape.proofs.Lookup.LookupOfShape.{offset-append}
-use Rattle.reg_index.specs.Subkeys.{IsSingle}
 use Rattle.reg_tree.specs.Internal.TreeInvariant.{IsHere}
 use Rattle.reg_tree.proofs.DeleteKey.DeletedKeyPosition.{snoc, parent-is}
 use Rattle.reg_tree.proofs.DeleteKey.DeleteKeyFaults.{root-path, path-marked}
-use Rattle.reg_tree.proofs.Invariant.UntouchedCells.{single-of}
 use Rattle.reg_tree.proofs.Invariant.KeyOfTree.{branch, branch_is, key_is, offset-root}
 use Rattle.reg_tree.proofs.Invariant.KeyOfShape as keyed
 
@@ -64,14 +62,11 @@ module _ (old : List ℕ) (key : ℕ) (t : IsHere old key) (inner : t.path ≢ [
   pub found : branch_in (x ∷ []) was.below ≡ Some b
   found = sym (branch-append was (x ∷ []) p keys was-is) ∙ (ap (λ q. branch_at q keys) (sym parts.2) ∙ branch_is old key t)
 
-  pub single : IsSingle was.node.index
-  single = single-of was.node.index (keyed.unrooted_here h t.root keys ring [] w p parent.0 parent.1 t.holds.unrooted)
-
   abbrev pub above : IsHere old parent.0
   above = record { root = t.root; table = t.table; path = p; holds = t.holds; at = parent.1 }
 
   pub named-above : b.node.key.fields.parent ≡ parent.0
-  named-above = parent-is h t.root was stands-was single x b found ∙ keyed.offset h t.root keys ring [] w p parent.0 parent.1
+  named-above = parent-is h t.root was stands-was x b found ∙ keyed.offset h t.root keys ring [] w p parent.0 parent.1
 
   pub shorter : (n : ℕ) → length t.path ≡ suc n → length p ≡ n
   shorter n e = let l = ap length parts.2 in let m = length-append p (x ∷ []) in omega (arith, e, l, m)

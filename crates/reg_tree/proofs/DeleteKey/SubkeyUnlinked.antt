@@ -1,5 +1,5 @@
 -- A subkey found by its name, and taken out of its parent's list.
-use Rattle.std.proofs.Common.{◌≡◌, ◌≢◌, ℕ, zero, suc, ◌<◌, Some, IsSome, inl, inr, List, [], ◌∷◌, length, get_or, refl, sym, ap, ◌∙◌, subst, arith}
+use Rattle.std.proofs.Common.{◌≡◌, ℕ, zero, suc, ◌<◌, Some, IsSome, inl, inr, List, [], ◌∷◌, length, get_or, refl, sym, ap, ◌∙◌, subst, arith}
 use Rattle.std.specs.Prelude.{Ok, Err}
 use Rattle.std.specs.List.{AllByRecursion}
 use Rattle.std.specs.Ordering.{nat_cmp}
@@ -17,9 +17,10 @@ use Rattle.reg_records.specs.declared.nk.KeyFields.{KeyFields}
 use Rattle.reg_records.specs.KeyNodes.{KeyRecord, key_at}
 use Rattle.reg_shape.specs.Nodes.{entries_of}
 use Rattle.reg_records.specs.SubkeyLists.{Entry}
-use Rattle.reg_index.specs.Subkeys.{AreSubkeys, IsIndexFor, Moves, Rises, name_at, name_or_none, names_in, own, without}
-use Rattle.reg_index.proofs.SubkeysOpening.{subkeys-open, own-leaf}
-use Rattle.reg_index.proofs.SubkeysFrame.{key-or-leaf, key-stays, times-not}
+use Rattle.reg_index.specs.declared.Place.{Place}
+use Rattle.reg_index.specs.Subkeys.{AreSubkeys, IsIndexFor, Moves, Rises, StandsIn, flat, index_of, name_at, name_or_none, names_in, own, without}
+use Rattle.reg_index.proofs.SubkeysOnce.{own-no-key}
+use Rattle.reg_index.proofs.SubkeysFrame.{key-stays}
 use Rattle.reg_tree.specs.Internal.KeyNodeChanges.{HasSubkeysList, Notes, noted_subkeys}
 use Rattle.reg_tree.specs.Internal.KeyDeletion.{IsListed, IsUnlinked}
 use Rattle.reg_tree.specs.Internal.ReachedPlaces.{StandsAt}
@@ -95,17 +96,20 @@ module _ (h : Heap) (parent key : ℕ) (above : KeyRecord) (entries : List Entry
     pub listed-subkeys : AreSubkeys h count list entries
     listed-subkeys = subst (λ n. AreSubkeys h n list entries) (sym same.0) (subst (λ o. AreSubkeys h above.fields.subkeys o entries) (sym same.1) l.subkeys)
 
-    pub listed-within : index < count
-    listed-within = let n = listed-subkeys.number in let w = l.within in omega (arith, n, w)
+    -- a place, as the key node has it, and as its subkeys are named
+    pub stands-list : (place : Place) → StandsIn (index_of h above.fields.subkeys above.fields.subkeys_list) place → StandsIn (index_of h count list) place
+    stands-list place s = subst (λ n. StandsIn (index_of h n list) place) (sym same.0) (subst (λ o. StandsIn (index_of h above.fields.subkeys o) place) (sym same.1) s)
 
-    -- the parent's key node is not the list
-    apart : parent ≢ list
-    apart e = key-or-leaf h list entries (subkeys-open h count list entries listed-subkeys (let w = listed-within in omega (arith, w))).leaf (subst (λ o. IsSome (key_at h o)) e parent-there)
+    pub stands-key : (place : Place) → StandsIn (index_of h count list) place → StandsIn (index_of h above.fields.subkeys above.fields.subkeys_list) place
+    stands-key place s = subst (λ n. StandsIn (index_of h n above.fields.subkeys_list) place) same.0 (subst (λ o. StandsIn (index_of h count o) place) same.1 s)
+
+    pub flat-list : (place : Place) → flat h count list place ≡ flat h above.fields.subkeys above.fields.subkeys_list place
+    flat-list place = ap (λ n. flat h n list place) same.0 ∙ ap (λ o. flat h above.fields.subkeys o place) same.1
 
     pub parent-stays : (k : Heap) (after : List ℕ) → Moves h k (own h count list) after → key_at k parent ≡ key_at h parent
     parent-stays k after m =
         key-stays h k (λ z. times z (own h count list)) (λ z. times z after) parent m parent-there
-        (ap (times parent) (own-leaf h count list entries listed-subkeys (let w = listed-within in omega (arith, w))) ∙ times-not parent list [] (λ e. apart (sym e)) (omega arith))
+        (own-no-key h count list entries listed-subkeys parent parent-there)
 
     pub unlinked : (found count' list' : ℕ) (mid new : Heap) (moment : ℕ) → found ≡ index
         → ((es : List Entry) → AreSubkeys h count list es → AreSubkeys mid count' list' (without found es)) →
@@ -140,22 +144,44 @@ same-place h parent key above entries i j l m =
     once (names_in h entries) (folded (name_at h key)) i j l.subkeys.rising (omega (arith, n, v)) (omega (arith, n, w))
     (its-name h parent key above entries i l) (its-name h parent key above entries j m)
 
-module _ (h : Heap) (key index : ℕ) (s : StandsAt h key index) (fields : KeyFields) (are : (r : KeyRecord) → key_at h key ≡ Some r → fields ≡ r.fields) where
+module _ (h : Heap) (key : ℕ) (place : Place) (s : StandsAt h key place) (fields : KeyFields) (are : (r : KeyRecord) → key_at h key ≡ Some r → fields ≡ r.fields) where
   -- as its parent lists it, by the fields that were read
-  pub listed_by : IsListed h fields.parent key s.above s.entries index
-  listed_by = subst (λ (f : KeyFields). IsListed h f.parent key s.above s.entries index) (sym (are s.record_is s.reads)) s.listed
+  pub listed_by : IsListed h fields.parent key s.above s.entries (flat h s.above.fields.subkeys s.above.fields.subkeys_list place)
+  listed_by =
+      subst (λ (f : KeyFields). IsListed h f.parent key s.above s.entries (flat h s.above.fields.subkeys s.above.fields.subkeys_list place))
+      (sym (are s.record_is s.reads)) s.listed
+
+  -- and where a search finds it
+  pub found-stands : (count list : ℕ) (has : HasSubkeysList h fields.parent count list) (found : Place) → StandsIn (index_of h count list) found →
+      (name : List ℕ) → ((r : KeyRecord) → key_at h key ≡ Some r → name ≡ r.name) →
+      IsIndexFor (names_in h s.entries) (folded name) (Ok (flat h count list found)) → StandsAt h key found
+  found-stands count list has found st name named f =
+      let at : ℕ = flat h s.above.fields.subkeys s.above.fields.subkeys_list place in
+      let e = found-there h fields.parent key s.above s.entries at listed_by name named (flat h count list found) f in
+      let same = flat-list h fields.parent key s.above s.entries at listed_by count list has found in
+      record {
+        record_is = s.record_is;
+        above = s.above;
+        entries = s.entries;
+        reads = s.reads;
+        listed = subst (IsListed h s.record_is.fields.parent key s.above s.entries) (sym e ∙ same) s.listed;
+        stands = stands-key h fields.parent key s.above s.entries at listed_by count list has found st;
+      }
 
   -- and by any reading of the list
-  pub listed_as : (above : KeyRecord) (entries : List Entry) (i : ℕ) → IsListed h fields.parent key above entries i → IsListed h fields.parent key above entries index
+  pub listed_as : (above : KeyRecord) (entries : List Entry) (i : ℕ) → IsListed h fields.parent key above entries i →
+      IsListed h fields.parent key above entries (flat h above.fields.subkeys above.fields.subkeys_list place)
   listed_as above entries i l =
-      let a = same-above h fields.parent key s.above above s.entries entries index i listed_by l in
-      let m = subst (λ k. IsListed h fields.parent key k s.entries index) a listed_by in
+      let a = same-above h fields.parent key s.above above s.entries entries (flat h s.above.fields.subkeys s.above.fields.subkeys_list place) i listed_by l in
+      let m = subst (λ (k : KeyRecord). IsListed h fields.parent key k s.entries (flat h k.fields.subkeys k.fields.subkeys_list place)) a listed_by in
       let e = same-entries h above.fields.subkeys above.fields.subkeys_list s.entries entries m.subkeys l.subkeys in
-      subst (λ es. IsListed h fields.parent key above es index) e m
+      subst (λ es. IsListed h fields.parent key above es (flat h above.fields.subkeys above.fields.subkeys_list place)) e m
 
-  pub unlinked_as : (k : Heap) (moment : ℕ) → ((key : ℕ) → (above : KeyRecord) → (entries : List Entry) → IsListed h fields.parent key above entries index →
-      IsUnlinked h k fields.parent above entries index moment) → (above : KeyRecord) → (entries : List Entry) → (i : ℕ) →
+  pub unlinked_as : (k : Heap) (moment : ℕ) → ((key : ℕ) → (above : KeyRecord) → (entries : List Entry) →
+      IsListed h fields.parent key above entries (flat h above.fields.subkeys above.fields.subkeys_list place) →
+      IsUnlinked h k fields.parent above entries (flat h above.fields.subkeys above.fields.subkeys_list place) moment) → (above : KeyRecord) → (entries : List Entry) → (i : ℕ) →
       IsListed h fields.parent key above entries i → IsUnlinked h k fields.parent above entries i moment
   unlinked_as k moment unlinks above entries i l =
       let m = listed_as above entries i l in
-      subst (λ i. IsUnlinked h k fields.parent above entries i moment) (same-place h fields.parent key above entries index i m l) (unlinks key above entries m)
+      let e = same-place h fields.parent key above entries (flat h above.fields.subkeys above.fields.subkeys_list place) i m l in
+      subst (λ i. IsUnlinked h k fields.parent above entries i moment) e (unlinks key above entries m)

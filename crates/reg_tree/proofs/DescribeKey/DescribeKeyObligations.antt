@@ -1,5 +1,5 @@
 -- A key described by another descriptor: what each step of it needs, and the tree before and after.
-use Rattle.std.proofs.Common.{◌≡◌, ℕ, ◌-◌, ◌<◌, ◌≤◌, Option, Some, IsSome, List, [], refl, sym, ap, ◌∙◌, subst, arith}
+use Rattle.std.proofs.Common.{◌≡◌, ℕ, ◌-◌, ◌<◌, ◌≤◌, Option, Some, IsSome, List, [], refl, sym, ap, ◌∙◌, subst}
 use Rattle.std.specs.FinMap.{get, insert}
 use Rattle.std.proofs.lemmas.Option.{same_Some}
 use Rattle.reg_heap.specs.Paths.{Path, Rec}
@@ -16,7 +16,7 @@ use Rattle.reg_shape.specs.Whole.{IsRing, count_at}
 use Rattle.reg_shape.specs.Internal.Shapes.{descriptor_in, tree_of}
 use Rattle.reg_shape.specs.Internal.Grafts.{IsShape, IsGrafted, branch_at, graft_at}
 use Rattle.reg_shape.specs.PathLookup.{key_offset_at}
-use Rattle.reg_shape.proofs.Graft.WholeAfterGraft.{grafted, graft-total}
+use Rattle.reg_shape.proofs.Graft.WholeAfterGraft.{grafted}
 use Rattle.reg_shape.proofs.Lookup.LookupAfterGraft.{offsets-same}
 use Rattle.reg_shape.proofs.Refinement.RefinementAfterGraft.{grafted-name, tree-same-below}
 use Rattle.reg_index.specs.Subkeys.{KeepsCells, taken}
@@ -26,7 +26,7 @@ use Rattle.reg_tree.specs.TreeKeys.{tree_in}
 use Rattle.reg_tree.specs.Internal.DescriptorChange.{IsDescribable, IsDescribed, Joins}
 use Rattle.reg_tree.specs.Internal.KeyNodeChanges.{Notes, noted_security}
 use Rattle.reg_tree.specs.Internal.LengthChanges.{LengthsStay}
-use Rattle.reg_tree.specs.Internal.TreeInvariant.{TreeInvariant, rooted}
+use Rattle.reg_tree.specs.Internal.TreeInvariant.{TreeInvariant}
 use Rattle.reg_tree.proofs.DeleteKey.SecurityReleased.{Releases, released}
 use Rattle.reg_tree.proofs.DescribeKey.SecurityJoined.{HasJoined}
 use Rattle.reg_tree.proofs.DescribeKey.DescribeFrame as frame
@@ -146,7 +146,6 @@ module _ (old : List ℕ) (key : ℕ) (table : DescriptorCells) (descriptor : Li
             ring = ring';
             shape = shape-now;
             finds = releases.finds;
-            unrooted = (let g = graft-total rooted b came.node came.below d.path d.keys b-is in let u = d.unrooted in omega (arith, g, u));
           }
 
           abbrev rec : Rec

@@ -152,7 +152,6 @@ module _ (old mid : Bins) (before after : DescriptorCells) (descriptor : List â„
     keys = keys;
     ring = ring;
     shape = shape-then cell c;
-    unrooted = t.holds.unrooted;
     at = offsets-then cell c t.path âˆ™ t.at;
     placed = placed-then cell c;
   }

@@ -9,7 +9,8 @@ use Rattle.reg_heap.specs.Heaps.{Heap}
 use Rattle.reg_arena.specs.Arena.{Bins, heap_of}
 use Rattle.reg_values.specs.ValueLists.{Makes}
 use Rattle.reg_security.specs.Rings.{DescriptorCells}
-use Rattle.reg_tree.specs.CellSizes.{create_sizes, LacksRoom}
+use Rattle.reg_index.specs.declared.Place.{Place}
+use Rattle.reg_tree.specs.CellSizes.{BelongsThere, create_sizes, LacksRoom}
 use Rattle.reg_tree.specs.KeyLengths.{ChangesLengths, NotesMade, with_first_length}
 use Rattle.reg_tree.specs.declared.node.Node.{Node}
 use Rattle.reg_tree.specs.declared.node.Created.{Created}
@@ -32,20 +33,31 @@ pub on_made : {A E : Type 0} (P : A → Type 0) (Q : Type 0) (r : Result A E) �
 on_made P Q (Ok x) f h = f x h
 on_made P Q (Err e) f h = h
 
+pub on_ok : {A E P Q : Type 0} (r : Result A E) → (P → Q) → OnOk r P → OnOk r Q
+on_ok (Ok x) f h = f h
+on_ok (Err e) f h = h
+
+pub if_full : {A E P Q : Type 0} (full : E) (r : Result A E) → (P → Q) → IfErr r (λ fault. fault ≡ full → P) → IfErr r (λ fault. fault ≡ full → Q)
+if_full full (Ok x) f h = h
+if_full full (Err e) f h = λ same. f (h same)
+
 module _ (bins : Bins) (root : ℕ) {table : DescriptorCells} (holds : TreeInvariant bins.bytes root table) (now : Keys) (view_is : seen_as bins root ≡ now) where
   pub from_at : (node : Node) → IsThere now node → (t : IsHere bins.bytes node.offset) × (t.table ≡ table) × (node.depth ≡ length t.path)
   from_at node some = (here_at bins root holds now view_is node some.0 some.1, refl, some.1.depth)
 
   -- the cells that come
   pub cells_created : {A E : Type 0} (h : Heap) (result : Result A E) (p : Path) (names : List (List ℕ)) (given : Option (List ℕ)) →
-      OnOk result (Makes (heap_of bins) h (create_sizes (seen_as bins root) p names given)) → OnOk result (Makes (heap_of now.bins) h (create_sizes now p names given))
-  cells_created h result p names given c = subst (λ (k : Keys). OnOk result (Makes (heap_of k.bins) h (create_sizes k p names given))) view_is c
+      OnOk result ((place : Place) × BelongsThere (seen_as bins root) p names place × Makes (heap_of bins) h (create_sizes (seen_as bins root) p names place given)) →
+      OnOk result ((place : Place) × BelongsThere now p names place × Makes (heap_of now.bins) h (create_sizes now p names place given))
+  cells_created h result p names given c =
+      subst (λ (k : Keys). OnOk result ((place : Place) × BelongsThere k p names place × Makes (heap_of k.bins) h (create_sizes k p names place given))) view_is c
 
   -- no room for them
   pub room_created : {A E : Type 0} (full : E) (result : Result A E) (p : Path) (names : List (List ℕ)) (given : Option (List ℕ)) →
-      IfErr result (λ fault. fault ≡ full → LacksRoom bins (create_sizes (seen_as bins root) p names given)) →
-      IfErr result (λ fault. fault ≡ full → LacksRoom now.bins (create_sizes now p names given))
-  room_created full result p names given c = subst (λ (k : Keys). IfErr result (λ fault. fault ≡ full → LacksRoom k.bins (create_sizes k p names given))) view_is c
+      IfErr result (λ fault. fault ≡ full → (place : Place) × BelongsThere (seen_as bins root) p names place × LacksRoom bins (create_sizes (seen_as bins root) p names place given)) →
+      IfErr result (λ fault. fault ≡ full → (place : Place) × BelongsThere now p names place × LacksRoom now.bins (create_sizes now p names place given))
+  room_created full result p names given c =
+      subst (λ (k : Keys). IfErr result (λ fault. fault ≡ full → (place : Place) × BelongsThere k p names place × LacksRoom k.bins (create_sizes k p names place given))) view_is c
 
   -- where no key was made nothing changed
   pub same_created : (new : Bins) (result : Result Created TreeFault) → IfOk result (λ made. made.is_new ≡ false → new ≡ bins) →
@@ -59,7 +71,7 @@ module _ (bins : Bins) (root : ℕ) {table : DescriptorCells} (holds : TreeInvar
   holds_after P new after (Ok x) f h e k = f x h
   holds_after P new after (Err fault) f h e k =
       subst (λ (b : Bins). TreeInvariant b.bytes root after) (sym e)
-      (record { keys = holds.keys; ring = holds.ring; shape = holds.shape; finds = k (heap_of bins) holds.ring holds.finds; unrooted = holds.unrooted })
+      (record { keys = holds.keys; ring = holds.ring; shape = holds.shape; finds = k (heap_of bins) holds.ring holds.finds })
 
   -- ---- a key was made, or there was none to be made
 

@@ -7,7 +7,7 @@ use Rattle.std.proofs.lemmas.List.{append-nil, append_assoc, map-append}
 use Rattle.std.proofs.lemmas.Option.{none-some, same_Some}
 use Rattle.reg_names.specs.declared.TheConstants.{PATH_LIMIT}
 use Rattle.reg_names.specs.Names.{folded, path_of}
-use Rattle.reg_heap.specs.declared.limits.TheConstants.{LEAF_LIMIT, MADE_LIMIT}
+use Rattle.reg_heap.specs.declared.limits.TheConstants.{SUBKEYS_LIMIT, MADE_LIMIT}
 use Rattle.reg_heap.specs.Paths.{Path, Tree, children_of}
 use Rattle.reg_heap.specs.Edits.{child_path, has_child, if_last, with_key, with_keys, missing, last_there, are_too_many}
 use Rattle.reg_heap.specs.Heaps.{Heap}
@@ -178,7 +178,7 @@ module _ (old : List ℕ) (from : TreeNode) (t : IsHere old from.offset) (path :
 
   module _ (depth : from.depth ≡ length t.path) where
     abbrev Many : Type 0
-    Many = (MADE_LIMIT < length left) ⊎ ((PATH_LIMIT < parent.depth + length left) ⊎ (LEAF_LIMIT ≤ length (children_of (tree_in old parent_here.root) parent_here.path)))
+    Many = (MADE_LIMIT < length left) ⊎ ((PATH_LIMIT < parent.depth + length left) ⊎ (SUBKEYS_LIMIT ≤ length (children_of (tree_in old parent_here.root) parent_here.path)))
 
     same-depth : parent.depth + length left ≡ length t.path + length names
     same-depth = let d = r.passes.depth in let n = number in omega (arith, d, n, depth)
@@ -187,25 +187,25 @@ module _ (old : List ℕ) (from : TreeNode) (t : IsHere old from.offset) (path :
     unfolding here_then
     too_many some m = record { some = λ e. some (sym missing-are ∙ e); many = by m }
       where
-        by : Many → (MADE_LIMIT < length (missing tree t.path names)) ⊎ ((PATH_LIMIT < length t.path + length names) ⊎ (LEAF_LIMIT ≤ length (children_of tree (last_there tree t.path names))))
+        by : Many → (MADE_LIMIT < length (missing tree t.path names)) ⊎ ((PATH_LIMIT < length t.path + length names) ⊎ (SUBKEYS_LIMIT ≤ length (children_of tree (last_there tree t.path names))))
         by (inl l) = inl (subst (λ ns. MADE_LIMIT < length ns) (sym missing-are) l)
         by (inr (inl l)) = inr (inl (subst (λ n. PATH_LIMIT < n) same-depth l))
-        by (inr (inr l)) = inr (inr (subst (λ p. LEAF_LIMIT ≤ length (children_of tree p)) (sym last-is) l))
+        by (inr (inr l)) = inr (inr (subst (λ p. SUBKEYS_LIMIT ≤ length (children_of tree p)) (sym last-is) l))
 
     pub are_many : AreTooMany tree t.path names → Many
     unfolding here_then
     are_many m = by m.many
       where
-        by : (MADE_LIMIT < length (missing tree t.path names)) ⊎ ((PATH_LIMIT < length t.path + length names) ⊎ (LEAF_LIMIT ≤ length (children_of tree (last_there tree t.path names)))) → Many
+        by : (MADE_LIMIT < length (missing tree t.path names)) ⊎ ((PATH_LIMIT < length t.path + length names) ⊎ (SUBKEYS_LIMIT ≤ length (children_of tree (last_there tree t.path names)))) → Many
         by (inl l) = inl (subst (λ ns. MADE_LIMIT < length ns) missing-are l)
         by (inr (inl l)) = inr (inl (subst (λ n. PATH_LIMIT < n) (sym same-depth) l))
-        by (inr (inr l)) = inr (inr (subst (λ p. LEAF_LIMIT ≤ length (children_of tree p)) last-is l))
+        by (inr (inr l)) = inr (inr (subst (λ p. SUBKEYS_LIMIT ≤ length (children_of tree p)) last-is l))
 
     -- where they aren't, there is room
     pub has_room : (left ≡ [] → ⊥) → are_too_many tree t.path names ≡ false → (length left ≤ MADE_LIMIT) × (parent.depth + length left ≤ PATH_LIMIT)
-        × ((k : KeyRecord) → key_at (cell_at old) parent.offset ≡ Some k → k.fields.subkeys < LEAF_LIMIT)
+        × ((k : KeyRecord) → key_at (cell_at old) parent.offset ≡ Some k → k.fields.subkeys < SUBKEYS_LIMIT)
     has_room some few =
-        let w = within MADE_LIMIT PATH_LIMIT LEAF_LIMIT (length left) (parent.depth + length left) (length (children_of (tree_in old parent_here.root) parent_here.path))
+        let w = within MADE_LIMIT PATH_LIMIT SUBKEYS_LIMIT (length left) (parent.depth + length left) (length (children_of (tree_in old parent_here.root) parent_here.path))
         (λ m. false≢true (sym few ∙ too_many-test tree t.path names (too_many some m))) in (
           w.0,
           w.1,

@@ -18,6 +18,7 @@ use Rattle.reg_heap.specs.Heaps.{Heap}
 use Rattle.reg_heap.specs.Paths.{Path}
 use Rattle.reg_heap.specs.Edits.{missing}
 use Rattle.reg_arena.specs.Arena.{Bins}
+use Rattle.reg_index.specs.declared.Place.{Place}
 use Rattle.reg_values.specs.ValueLists.{Makes}
 use Rattle.reg_tree.specs.TreeKeys.{Keys}
 use Rattle.reg_tree.specs.CellSizes.{made_sizes, given_sizes, create_sizes, LacksRoom}
@@ -54,15 +55,17 @@ limit_other fault (inl f) none = ((λ e. absurd (let s = same_err fault Limit e 
 limit_other fault (inr f) none = ((λ e. absurd (let s = same_err fault Limit e in cc)), λ m. absurd (none m))
 
 -- the same cells, by another name
-pub spared_as : (old mid : List ℕ) (key : ℕ) (names : List (List ℕ)) (more left a b : List ℕ) → a ≡ b → IsSpared old mid key names more left b → IsSpared old mid key names more left a
-spared_as old mid key names more left a b e s = subst (λ spare. IsSpared old mid key names more left spare) (sym e) s
+pub spared_as : (old mid : List ℕ) (key : ℕ) (place : Place) (names : List (List ℕ)) (more left a b : List ℕ) → a ≡ b → IsSpared old mid key place names more left b →
+    IsSpared old mid key place names more left a
+spared_as old mid key place names more left a b e s = subst (λ spare. IsSpared old mid key place names more left spare) (sym e) s
 
 -- ---- the cells that come, with a descriptor that is given and without one
 
-pub none_sizes : (keys : Keys) (path : Path) (names : List (List ℕ)) (given : Option (List ℕ)) → given ≡ None → made_sizes keys path names ≡ create_sizes keys path names given
-none_sizes keys path names given e =
-    sym (append-nil (made_sizes keys path names))
-    ∙ ap (λ sizes. made_sizes keys path names ++ sizes) (sym (ap (given_sizes keys.tree (missing keys.tree path names)) e ∙ none (missing keys.tree path names)))
+pub none_sizes : (keys : Keys) (path : Path) (names : List (List ℕ)) (place : Place) (given : Option (List ℕ)) → given ≡ None →
+    made_sizes keys path names place ≡ create_sizes keys path names place given
+none_sizes keys path names place given e =
+    sym (append-nil (made_sizes keys path names place))
+    ∙ ap (λ sizes. made_sizes keys path names place ++ sizes) (sym (ap (given_sizes keys.tree (missing keys.tree path names)) e ∙ none (missing keys.tree path names)))
   where
     none : (names : List (List ℕ)) → given_sizes keys.tree names None ≡ []
     none [] = refl

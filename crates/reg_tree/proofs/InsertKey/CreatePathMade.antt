@@ -1,12 +1,13 @@
 -- The keys of a path made where they are missing, in cells that were carved for them.
 use Rattle.std.proofs.Common.{◌≡◌, ℕ, ◌+◌, ◌≤◌, ◌<◌, Option, Some, None, IsSome, is_some, List, [], ◌∷◌, ◌++◌, map, length, refl, sym, ap, ◌∙◌, subst}
 use Rattle.std.proofs.Common.{arith, length-append}
-use Rattle.std.specs.Option.{option_map, option_and_then}
+use Rattle.std.specs.Option.{option_map}
 use Rattle.std.proofs.lemmas.Bool.{false≢true}
 use Rattle.std.proofs.lemmas.List.{append-nil}
+use Rattle.std.proofs.lemmas.Option.{same_Some}
 use Rattle.reg_names.specs.declared.TheConstants.{PATH_LIMIT}
 use Rattle.reg_names.specs.Names.{folded, path_of}
-use Rattle.reg_heap.specs.declared.limits.TheConstants.{LEAF_LIMIT}
+use Rattle.reg_heap.specs.declared.limits.TheConstants.{SUBKEYS_LIMIT}
 use Rattle.reg_heap.specs.Paths.{Path, Tree}
 use Rattle.reg_heap.specs.Edits.{with_keys, missing, last_there}
 use Rattle.reg_heap.specs.Heaps.{Heap, CellFrame}
@@ -18,12 +19,14 @@ use Rattle.reg_records.specs.KeySecurities.{KeySecurityRecord}
 use Rattle.reg_shape.specs.Whole.{descriptor_at}
 use Rattle.reg_shape.specs.PathLookup.{key_offset_at, subkey_named}
 use Rattle.reg_shape.specs.Nodes.{Node}
-use Rattle.reg_shape.specs.Internal.Forests.{Branch, total_of}
+use Rattle.reg_shape.specs.Internal.Forests.{Branch}
 use Rattle.reg_shape.specs.Internal.Shapes.{tree_of}
 use Rattle.reg_shape.specs.Internal.Grafts.{IsShape}
 use Rattle.reg_security.specs.Rings.{DescriptorCells}
 use Rattle.reg_security.proofs.TableCells.{finds-same}
 use Rattle.reg_tree.specs.declared.node.Node.{Node as TreeNode}
+use Rattle.reg_index.specs.declared.IndexCells.{IndexCells}
+use Rattle.reg_index.specs.declared.Place.{Place}
 use Rattle.reg_index.specs.Subkeys.{KeepsCells}
 use Rattle.reg_values.specs.ValueLists.{Makes}
 use Rattle.reg_tree.specs.TreeKeys.{Keys, tree_in}
@@ -32,8 +35,8 @@ use Rattle.reg_records.proofs.KeySecurityCodec.{security_at-same}
 use Rattle.reg_shape.proofs.Wholeness.ShapeRecords.{at-most-one, allocated-is}
 use Rattle.reg_tree.specs.KeyLengths.{lengths_of, lengths_at, with_first_length}
 use Rattle.reg_tree.specs.Internal.LengthChanges.{LengthsChange, MadeLengths}
-use Rattle.reg_tree.specs.CellSizes.{planned, own_sizes, sizes_of, made_sizes, given_sizes, create_sizes, LacksRoom}
-use Rattle.reg_tree.specs.Internal.TreeInvariant.{TreeInvariant, IsHere, rooted}
+use Rattle.reg_tree.specs.CellSizes.{planned, planned_at, first_place, own_sizes, sizes_of, made_sizes, given_sizes, create_sizes, BelongsThere, LacksRoom}
+use Rattle.reg_tree.specs.Internal.TreeInvariant.{TreeInvariant, IsHere}
 use Rattle.reg_tree.specs.Internal.PathWalks.{Stops, Reaches}
 use Rattle.reg_tree.specs.Internal.ReachedPlaces.{BelongsFirst}
 use Rattle.reg_tree.specs.Internal.SpareCells.{HaveSizes, MayGrowAll, GrowsAll, IsSpared}
@@ -42,7 +45,7 @@ use Rattle.reg_tree.proofs.Invariant.KeyOfTree.{spelt_is, key_there}
 use Rattle.reg_tree.proofs.Invariant.CellReadings.{key-exists}
 use Rattle.reg_tree.proofs.PathWalk.PathSteps.{as-many, here_then}
 use Rattle.reg_tree.proofs.InsertKey.SpareCellsKept.{sizes-kept}
-use Rattle.reg_tree.proofs.InsertKey.SpareCellsCarved.{tree-spared, offsets-spared, planned-then, belongs-then, may_grow_all}
+use Rattle.reg_tree.proofs.InsertKey.SpareCellsCarved.{tree-spared, offsets-spared, place-within, planned-then, belongs-then, may_grow_all}
 use Rattle.reg_tree.proofs.InsertKey.MadeCells.{made_makes}
 use Rattle.reg_tree.proofs.InsertKey.CreatePath as reached
 
@@ -52,7 +55,6 @@ use Rattle.reg_tree.proofs.InsertKey.CreatePath as reached
 pub record IsGrownAll (old new : List ℕ) (root : ℕ) (path : Path) (names : List (List ℕ)) (moment : ℕ) (ring more last : List ℕ) (from made : TreeNode) : Type 0 where
   pub now : Branch Node
   pub shape : IsShape (cell_at new) root now ring last
-  pub unrooted : total_of rooted now ≡ 0
   pub others : HaveSizes (cell_at new) last more
   pub tree : tree_of (cell_at new) now ≡ with_keys (tree_in old root) path names None moment
   pub offset : key_offset_at (cell_at new) root (path ++ map folded names) ≡ Some made.offset
@@ -68,7 +70,7 @@ pub created : (old new : List ℕ) (from : TreeNode) (t : IsHere old from.offset
     IsGrownAll old new t.root t.path names moment t.holds.ring [] [] from made → IsCreated old new t.root t.table t.path from names None moment made
 created old new from t names moment made g =
     let holds : TreeInvariant new t.root t.table =
-    record { keys = g.now; ring = t.holds.ring; shape = g.shape; finds = finds-same t.table (cell_at old) (cell_at new) t.holds.ring t.holds.finds g.described; unrooted = g.unrooted } in
+    record { keys = g.now; ring = t.holds.ring; shape = g.shape; finds = finds-same t.table (cell_at old) (cell_at new) t.holds.ring t.holds.finds g.described } in
     record {
       holds = holds;
       tree = spelt_is new t.root holds ∙ g.tree;
@@ -132,8 +134,9 @@ module _ (old : List ℕ) (from : TreeNode) (t : IsHere old from.offset) (path :
   number : length names ≡ length passed + length left
   number = reached.number old from t path parent rest r moment
 
-  module _ (depth : from.depth ≡ length t.path) (mid more last spare : List ℕ) (s : IsSpared old mid parent.offset left more last spare)
-      (short : parent.depth + length left ≤ PATH_LIMIT) (few : (k : KeyRecord) → key_at (cell_at old) parent.offset ≡ Some k → k.fields.subkeys < LEAF_LIMIT) where
+  module _ (depth : from.depth ≡ length t.path) (mid : List ℕ) (place : Place) (more last spare : List ℕ) (s : IsSpared old mid parent.offset place left more last spare)
+      (short : parent.depth + length left ≤ PATH_LIMIT) (few : (k : KeyRecord) → key_at (cell_at old) parent.offset ≡ Some k → k.fields.subkeys < SUBKEYS_LIMIT)
+      (belongs : BelongsFirst (cell_at old) parent.offset left place) where
     deep : length parent_here.path + length left ≤ PATH_LIMIT
     unfolding here_then
     deep = let d = r.passes.depth in let a = length-append t.path (map folded passed) in let m = as-many passed in omega (arith, d, a, m, depth, short)
@@ -141,15 +144,17 @@ module _ (old : List ℕ) (from : TreeNode) (t : IsHere old from.offset) (path :
     missing-first : (name : List ℕ) (others : List (List ℕ)) → left ≡ name ∷ others → subkey_named (cell_at old) (folded name) parent.offset ≡ None
     missing-first name others e = subst (λ ns. Stops (cell_at old) parent.offset ns) e r.stops
 
-    -- what the list takes, and where the first name belongs, are what they were
-    pub plan_then : planned (cell_at mid) parent.offset ≡ planned (cell_at old) parent.offset
-    plan_then = planned-then old mid parent parent_here left more last spare s missing-first deep few
+    -- what the subkeys take, and where the first name belongs, are what they were
+    pub plan_then : (left ≡ [] → ⊥) → planned (cell_at mid) parent.offset place ≡ planned (cell_at old) parent.offset place
+    plan_then some =
+        planned-then old mid parent parent_here left place more last spare s missing-first deep few place
+        (place-within old mid parent parent_here left place more last spare s missing-first deep few place belongs some)
 
-    pub place_then : (index : ℕ) → BelongsFirst (cell_at old) parent.offset left index → BelongsFirst (cell_at mid) parent.offset left index
-    place_then index place name others e = belongs-then old mid parent parent_here left more last spare s missing-first deep few name index (place name others e)
+    pub place_then : BelongsFirst (cell_at mid) parent.offset left place
+    place_then name others e = belongs-then old mid parent parent_here left place more last spare s missing-first deep few name place (belongs name others e)
 
-    pub may_make : MayGrowAll mid parent left last spare
-    may_make = may_grow_all old mid parent parent_here left more last spare s missing-first deep few
+    pub may_make : MayGrowAll mid parent left place last spare
+    may_make = may_grow_all old mid parent parent_here left place more last spare s missing-first deep few belongs
 
     module _ (new : List ℕ) (made : TreeNode)
         (grown : GrowsAll (cell_at mid) (cell_at new) may_make.growing.root may_make.growing.path may_make.growing.keys may_make.growing.ring last parent
@@ -162,7 +167,6 @@ module _ (old : List ℕ) (from : TreeNode) (t : IsHere old from.offset) (path :
       grown_all = record {
         now = grown.now;
         shape = grown.shape;
-        unrooted = grown.unrooted;
         others = sizes-kept (cell_at mid) (cell_at new) last more grown.spare s.others;
         tree = grown.tree
             ∙ (ap (λ (tree : Tree). with_keys tree (t.path ++ map folded passed) left None moment)
@@ -194,37 +198,51 @@ module _ (bins : Bins) (from : TreeNode) (t : IsHere bins.bytes from.offset) (pa
   abbrev heap : Heap
   heap = cell_at bins.bytes
 
-  pub created_sizes : made_sizes seen t.path (path_of path) ≡ sizes_of (planned heap parent.offset) (map own_sizes (path_of rest))
+  pub created_sizes : (place : Place) → made_sizes seen t.path (path_of path) place ≡ sizes_of (planned heap parent.offset place) (map own_sizes (path_of rest))
   unfolding made_sizes
-  created_sizes =
-      ap (λ p. sizes_of (option_and_then (planned heap) (key_offset_at heap t.root p)) (map own_sizes (missing seen.tree t.path (path_of path))))
+  created_sizes place =
+      ap (λ p. sizes_of (planned_at heap place (key_offset_at heap t.root p)) (map own_sizes (missing seen.tree t.path (path_of path))))
       (reached.last-is bins.bytes from t path parent rest r moment)
-      ∙ (ap (λ o. sizes_of (option_and_then (planned heap) o) (map own_sizes (missing seen.tree t.path (path_of path)))) (reached.parent-at bins.bytes from t path parent rest r moment)
-      ∙ ap (λ names. sizes_of (planned heap parent.offset) (map own_sizes names)) (reached.missing-are bins.bytes from t path parent rest r moment))
+      ∙ (ap (λ o. sizes_of (planned_at heap place o) (map own_sizes (missing seen.tree t.path (path_of path)))) (reached.parent-at bins.bytes from t path parent rest r moment)
+      ∙ ap (λ names. sizes_of (planned heap parent.offset place) (map own_sizes names)) (reached.missing-are bins.bytes from t path parent rest r moment))
 
-  pub no_cells : (given : Option (List ℕ)) → path_of rest ≡ [] → Makes heap heap (create_sizes seen t.path (path_of path) given)
-  no_cells given e =
-      subst (Makes heap heap)
-      (sym (ap (λ sizes. sizes ++ given_sizes seen.tree (missing seen.tree t.path (path_of path)) given)
-      (created_sizes ∙ ap (λ names. sizes_of (planned heap parent.offset) (map own_sizes names)) e) ∙
-      ap (λ names. given_sizes seen.tree names given) (reached.missing-are bins.bytes from t path parent rest r moment ∙ e)))
-      (record { offsets = []; sizes_are = refl; once = λ z. omega arith; fresh = λ z l. absurd (omega (arith, l)); only = λ z none there. absurd (false≢true (sym (ap is_some none) ∙ there)) })
+  -- where the first of the missing names belongs
+  pub belongs_there : (place : Place) → BelongsFirst heap parent.offset (path_of rest) place → BelongsThere seen t.path (path_of path) place
+  belongs_there place belongs key e =
+      subst (λ names. BelongsFirst heap key names place) (sym (reached.missing-are bins.bytes from t path parent rest r moment))
+      (subst (λ key. BelongsFirst heap key (path_of rest) place)
+      (same_Some _ _ (sym (reached.parent-at bins.bytes from t path parent rest r moment) ∙ (ap (key_offset_at heap t.root) (sym (reached.last-is bins.bytes from t path parent rest r moment)) ∙ e)))
+      belongs)
 
-  pub created_cells : (mid new more last spare : List ℕ) → IsSpared bins.bytes mid parent.offset (path_of rest) more last spare → KeepsCells (cell_at mid) (cell_at new) →
-      ((z : ℕ) → 0 < times z spare → IsSome (cell_at new z)) → Makes heap (cell_at new) (made_sizes seen t.path (path_of path) ++ more)
-  created_cells mid new more last spare s keeps stay =
-      subst (λ sizes. Makes heap (cell_at new) (sizes ++ more)) (sym created_sizes) (made_makes bins.bytes mid new parent.offset (path_of rest) more last spare s keeps stay)
+  pub no_cells : (given : Option (List ℕ)) → path_of rest ≡ [] →
+      (place : Place) × BelongsThere seen t.path (path_of path) place × Makes heap heap (create_sizes seen t.path (path_of path) place given)
+  no_cells given e = (
+    first_place,
+    belongs_there first_place (λ name others f. absurd (let n = ap length (sym e ∙ f) in omega (arith, n))),
+    subst (Makes heap heap)
+        (sym (ap (λ sizes. sizes ++ given_sizes seen.tree (missing seen.tree t.path (path_of path)) given)
+        (created_sizes first_place ∙ ap (λ names. sizes_of (planned heap parent.offset first_place) (map own_sizes names)) e) ∙
+        ap (λ names. given_sizes seen.tree names given) (reached.missing-are bins.bytes from t path parent rest r moment ∙ e)))
+        (record { offsets = []; sizes_are = refl; once = λ z. omega arith; fresh = λ z l. absurd (omega (arith, l)); only = λ z none there. absurd (false≢true (sym (ap is_some none) ∙ there)) }),
+  )
 
-  pub created_room : {plan : Option ℕ} → plan ≡ planned heap parent.offset → (more : List ℕ) → LacksRoom bins (sizes_of plan (map own_sizes (path_of rest)) ++ more) →
-      LacksRoom bins (made_sizes seen t.path (path_of path) ++ more)
-  created_room plan_is more lacks =
-      subst (LacksRoom bins) (ap (λ plan. sizes_of plan (map own_sizes (path_of rest)) ++ more) plan_is ∙ ap (λ sizes. sizes ++ more) (sym created_sizes)) lacks
+  pub created_cells : (mid new : List ℕ) (place : Place) (more last spare : List ℕ) → IsSpared bins.bytes mid parent.offset place (path_of rest) more last spare →
+      KeepsCells (cell_at mid) (cell_at new) → ((z : ℕ) → 0 < times z spare → IsSome (cell_at new z)) →
+      Makes heap (cell_at new) (made_sizes seen t.path (path_of path) place ++ more)
+  created_cells mid new place more last spare s keeps stay =
+      subst (λ sizes. Makes heap (cell_at new) (sizes ++ more)) (sym (created_sizes place)) (made_makes bins.bytes mid new parent.offset place (path_of rest) more last spare s keeps stay)
+
+  pub created_room : {plan : IndexCells} (place : Place) → plan ≡ planned heap parent.offset place → (more : List ℕ) →
+      LacksRoom bins (sizes_of plan (map own_sizes (path_of rest)) ++ more) → LacksRoom bins (made_sizes seen t.path (path_of path) place ++ more)
+  created_room place plan_is more lacks =
+      subst (LacksRoom bins) (ap (λ plan. sizes_of plan (map own_sizes (path_of rest)) ++ more) plan_is ∙ ap (λ sizes. sizes ++ more) (sym (created_sizes place))) lacks
 
   -- where the keys alone take cells
-  pub made_alone : (mid new spare : List ℕ) → IsSpared bins.bytes mid parent.offset (path_of rest) [] [] spare → KeepsCells (cell_at mid) (cell_at new) →
-      ((z : ℕ) → 0 < times z spare → IsSome (cell_at new z)) → Makes heap (cell_at new) (made_sizes seen t.path (path_of path))
-  made_alone mid new spare s keeps stay = subst (Makes heap (cell_at new)) (append-nil (made_sizes seen t.path (path_of path))) (created_cells mid new [] [] spare s keeps stay)
+  pub made_alone : (mid new : List ℕ) (place : Place) (spare : List ℕ) → IsSpared bins.bytes mid parent.offset place (path_of rest) [] [] spare → KeepsCells (cell_at mid) (cell_at new) →
+      ((z : ℕ) → 0 < times z spare → IsSome (cell_at new z)) → Makes heap (cell_at new) (made_sizes seen t.path (path_of path) place)
+  made_alone mid new place spare s keeps stay =
+      subst (Makes heap (cell_at new)) (append-nil (made_sizes seen t.path (path_of path) place)) (created_cells mid new place [] [] spare s keeps stay)
 
-  pub room_alone : {plan : Option ℕ} → plan ≡ planned heap parent.offset → LacksRoom bins (sizes_of plan (map own_sizes (path_of rest)) ++ []) →
-      LacksRoom bins (made_sizes seen t.path (path_of path))
-  room_alone plan_is lacks = subst (LacksRoom bins) (append-nil (made_sizes seen t.path (path_of path))) (created_room plan_is [] lacks)
+  pub room_alone : {plan : IndexCells} (place : Place) → plan ≡ planned heap parent.offset place → LacksRoom bins (sizes_of plan (map own_sizes (path_of rest)) ++ []) →
+      LacksRoom bins (made_sizes seen t.path (path_of path) place)
+  room_alone place plan_is lacks = subst (LacksRoom bins) (append-nil (made_sizes seen t.path (path_of path) place)) (created_room place plan_is [] lacks)

@@ -1,12 +1,16 @@
 -- Keys made below the one that a path leads to, as it is seen in the tree.
 use Rattle.std.proofs.Common.{◌≡◌, ◌≢◌, ℕ, Bool, true, false, Option, List, [], refl, sym, ap, ◌∙◌, subst}
-use Rattle.std.specs.Prelude.{Result, OnOk, OnErr, IfOk}
+use Rattle.std.specs.Prelude.{Result, OnOk, OnErr, IfOk, IfErr}
 use Rattle.reg_names.specs.Names.{path_of}
 use Rattle.reg_heap.specs.Paths.{Path, Tree}
 use Rattle.reg_heap.specs.Edits.{are_too_many, missing, last_there}
 use Rattle.reg_arena.specs.Arena.{Bins, heap_of}
 use Rattle.reg_arena.specs.declared.ArenaFault.{ArenaFault}
+use Rattle.reg_heap.specs.Heaps.{Heap}
+use Rattle.reg_index.specs.declared.Place.{Place}
 use Rattle.reg_security.specs.Rings.{DescriptorCells}
+use Rattle.reg_values.specs.ValueLists.{Makes}
+use Rattle.reg_tree.specs.CellSizes.{BelongsThere, create_sizes, LacksRoom}
 use Rattle.reg_tree.specs.declared.node.Node.{Node}
 use Rattle.reg_tree.specs.declared.node.Reached.{Reached}
 use Rattle.reg_tree.specs.KeyLengths.{ChangesLengths, NotesMade, with_first_length}
@@ -18,8 +22,9 @@ use Rattle.reg_tree.specs.Internal.KeyCreation.{IsCreated, LeadsTo}
 use Rattle.reg_tree.specs.Internal.PathWalks.{Reaches}
 use Rattle.reg_tree.specs.Internal.ReachedPlaces.{BelongsFirst}
 use Rattle.reg_tree.proofs.Invariant.NodeLemmas.{seen_as, here_at, of_tree}
-use Rattle.reg_tree.proofs.InsertKey.CreateKeepsNodes.{if_ok, on_made, holds_after, keys_made, lengths_made, noted_made}
+use Rattle.reg_tree.proofs.InsertKey.CreateKeepsNodes.{if_ok, on_made, on_ok, if_full, cells_created, room_created, holds_after, keys_made, lengths_made, noted_made}
 use Rattle.reg_tree.proofs.InsertKey.CreatePath.{new_some}
+use Rattle.reg_tree.proofs.InsertKey.CreatePathMade.{belongs_there}
 use Rattle.reg_tree.proofs.PathWalk.ReachedSeen.{named}
 
 module _ (bins : Bins) (root : ℕ) {table : DescriptorCells} (holds : TreeInvariant bins.bytes root table) (now : Keys) (view_is : seen_as bins root ≡ now) (reached : Reached) where
@@ -32,8 +37,26 @@ module _ (bins : Bins) (root : ℕ) {table : DescriptorCells} (holds : TreeInvar
   }
 
   -- where the first of its names belongs that are missing
-  pub place_at : (from : Node) (path : List ℕ) → IsWalkedTo now from path reached → BelongsFirst (heap_of bins) reached.node.offset (path_of reached.missing.now) reached.index
-  place_at from path r = subst (λ (k : Keys). BelongsFirst (heap_of k.bins) reached.node.offset (path_of reached.missing.now) reached.index) (sym view_is) r.place.belongs
+  pub place_at : (from : Node) (path : List ℕ) → IsWalkedTo now from path reached → BelongsFirst (heap_of bins) reached.node.offset (path_of reached.missing.now) reached.place
+  place_at from path r = subst (λ (k : Keys). BelongsFirst (heap_of k.bins) reached.node.offset (path_of reached.missing.now) reached.place) (sym view_is) r.place.belongs
+
+  belongs_seen : (from : Node) (path : List ℕ) → IsWalkedTo now from path reached → (p : Path) → IsAt now p from → BelongsThere (seen_as bins root) p (path_of path) reached.place
+  belongs_seen from path r p at =
+      let l = leads_at from path r p at in
+      belongs_there bins from l.here path reached.node reached.missing.now l.reaches 0 reached.place (place_at from path r)
+
+  -- the cells that come where it belongs, and no room for them
+  pub cells_reached : {A E : Type 0} (h : Heap) (result : Result A E) (given : Option (List ℕ)) (from : Node) (path : List ℕ) → IsWalkedTo now from path reached → (p : Path) → IsAt now p from →
+      OnOk result (Makes (heap_of bins) h (create_sizes (seen_as bins root) p (path_of path) reached.place given)) →
+      OnOk result ((place : Place) × BelongsThere now p (path_of path) place × Makes (heap_of now.bins) h (create_sizes now p (path_of path) place given))
+  cells_reached h result given from path r p at c =
+      cells_created bins root holds now view_is h result p (path_of path) given (on_ok result (λ m. (reached.place, belongs_seen from path r p at, m)) c)
+
+  pub room_reached : {A E : Type 0} (full : E) (result : Result A E) (given : Option (List ℕ)) (from : Node) (path : List ℕ) → IsWalkedTo now from path reached → (p : Path) → IsAt now p from →
+      IfErr result (λ fault. fault ≡ full → LacksRoom bins (create_sizes (seen_as bins root) p (path_of path) reached.place given)) →
+      IfErr result (λ fault. fault ≡ full → (place : Place) × BelongsThere now p (path_of path) place × LacksRoom now.bins (create_sizes now p (path_of path) place given))
+  room_reached full result given from path r p at c =
+      room_created bins root holds now view_is full result p (path_of path) given (if_full full result (λ m. (reached.place, belongs_seen from path r p at, m)) c)
 
   -- an answer that is told of the tree spelt is told of the tree seen
   pub limit_seen : {b : Bool} → ((from : Node) → (path : List ℕ) → (l : LeadsTo bins.bytes from path reached.node reached.missing.now) →

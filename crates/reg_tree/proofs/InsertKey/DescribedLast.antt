@@ -11,6 +11,8 @@ use Rattle.reg_heap.specs.Kinds.{times}
 use Rattle.reg_arena.specs.Arena.{Bins}
 use Rattle.reg_arena.specs.Cells.{cell_at}
 use Rattle.reg_arena.specs.NewCells.{cell_size}
+use Rattle.reg_index.specs.declared.IndexCells.{IndexCells}
+use Rattle.reg_index.specs.declared.Place.{Place}
 use Rattle.reg_index.specs.Subkeys.{KeepsCells, taken}
 use Rattle.reg_index.proofs.KeptCells.{kept-then}
 use Rattle.reg_security.specs.Rings.{DescriptorCells, Finds, Expects, cell_of}
@@ -76,14 +78,14 @@ given-some tree [] descriptor some = absurd (some refl)
 given-some tree (name ∷ names) descriptor some = refl
 
 -- a descriptor's cell is among those that were carved
-pub some_cells : (old mid : List ℕ) (key : ℕ) (names : List (List ℕ)) (more : Option ℕ) (last cells : List ℕ) → IsSpared old mid key names (planned_sizes more) last cells →
-    IsSome more → 0 < length cells
-some_cells old mid key names None last cells s there = absurd (false≢true there)
-some_cells old mid key names (Some size) last [] s there =
+pub some_cells : (old mid : List ℕ) (key : ℕ) (place : Place) (names : List (List ℕ)) (more : Option ℕ) (last cells : List ℕ) →
+    IsSpared old mid key place names (planned_sizes more) last cells → IsSome more → 0 < length cells
+some_cells old mid key place names None last cells s there = absurd (false≢true there)
+some_cells old mid key place names (Some size) last [] s there =
     let n = ap length s.sizes in
-    let l = length-append (sizes_of (planned (cell_at old) key) (map own_sizes names)) (size ∷ []) in
+    let l = length-append (sizes_of (planned (cell_at old) key place) (map own_sizes names)) (size ∷ []) in
     absurd (omega (arith, n, l))
-some_cells old mid key names (Some size) last (cell ∷ cells) s there = omega arith
+some_cells old mid key place names (Some size) last (cell ∷ cells) s there = omega arith
 
 -- ---- the key
 
@@ -97,7 +99,6 @@ module _ (old new : List ℕ) (from : TreeNode) (t : IsHere old from.offset) (na
     keys = g.now;
     ring = t.holds.ring;
     shape = subst (λ o. IsShape (cell_at new) t.root g.now t.holds.ring (taken o)) (sym cell_is) g.shape;
-    unrooted = g.unrooted;
     at = g.offset;
     placed = subst (IsPlaced (cell_at new) t.holds.ring after descriptor) (sym cell_is)
         (placed-last t.table after (cell_at old) (cell_at new) t.holds.ring descriptor more cells x t.holds.finds g.described g.others);
@@ -142,30 +143,30 @@ module _ (bins : Bins) (from : TreeNode) (t : IsHere bins.bytes from.offset) (pa
   some_names e = some (sym (missing-are bins.bytes from t path parent rest r moment) ∙ ap (missing seen.tree t.path) e)
 
   module _ (after : DescriptorCells) (descriptor : List ℕ) (more : Option ℕ) (x : IsExpected t.table after descriptor more) where
-    sizes_with : made_sizes seen t.path (path_of path) ++ planned_sizes more ≡ create_sizes seen t.path (path_of path) (Some descriptor)
-    sizes_with =
-        ap (λ sizes. made_sizes seen t.path (path_of path) ++ sizes)
+    sizes_with : (place : Place) → made_sizes seen t.path (path_of path) place ++ planned_sizes more ≡ create_sizes seen t.path (path_of path) place (Some descriptor)
+    sizes_with place =
+        ap (λ sizes. made_sizes seen t.path (path_of path) place ++ sizes)
         (sym (given-some seen.tree (missing seen.tree t.path (path_of path)) descriptor (λ e. some (sym (missing-are bins.bytes from t path parent rest r moment) ∙ e)) ∙
         security_is bins.bytes t.root t.table after t.holds descriptor more x))
 
-    pub room_with : {plan : Option ℕ} → plan ≡ planned heap parent.offset → LacksRoom bins (sizes_of plan (map own_sizes (path_of rest)) ++ planned_sizes more) →
-        LacksRoom bins (create_sizes seen t.path (path_of path) (Some descriptor))
-    room_with plan_is lacks = subst (LacksRoom bins) sizes_with (created_room bins from t path parent rest r moment plan_is (planned_sizes more) lacks)
+    pub room_with : {plan : IndexCells} (place : Place) → plan ≡ planned heap parent.offset place → LacksRoom bins (sizes_of plan (map own_sizes (path_of rest)) ++ planned_sizes more) →
+        LacksRoom bins (create_sizes seen t.path (path_of path) place (Some descriptor))
+    room_with place plan_is lacks = subst (LacksRoom bins) (sizes_with place) (created_room bins from t path parent rest r moment place plan_is (planned_sizes more) lacks)
 
     -- a cell that was carved is none of the ring's
-    apart : (mid spare last : List ℕ) → IsSpared bins.bytes mid parent.offset (path_of rest) (planned_sizes more) last spare →
+    apart : (mid : List ℕ) (place : Place) (spare last : List ℕ) → IsSpared bins.bytes mid parent.offset place (path_of rest) (planned_sizes more) last spare →
         (z : ℕ) → 0 < times z spare → times z t.holds.ring ≡ 0
-    apart mid spare last s z l =
+    apart mid place spare last s z l =
         let c = s.come.count z in
         let a = at-most-one (cell_at mid) z in
         let e = t.holds.shape.exact z in
         omega (arith, c, a, e, l)
 
-    pub cells_with : (mid new final last spare : List ℕ) → IsSpared bins.bytes mid parent.offset (path_of rest) (planned_sizes more) last spare →
+    pub cells_with : (mid new final : List ℕ) (place : Place) (last spare : List ℕ) → IsSpared bins.bytes mid parent.offset place (path_of rest) (planned_sizes more) last spare →
         KeepsCells (cell_at mid) (cell_at new) → ((z : ℕ) → 0 < times z spare → IsSome (cell_at new z)) → KeepsCells (cell_at new) (cell_at final) →
-        LeavesOthers (cell_at new) (cell_at final) t.holds.ring → Makes heap (cell_at final) (create_sizes seen t.path (path_of path) (Some descriptor))
-    cells_with mid new final last spare s keeps stay then leaves =
-        subst (Makes heap (cell_at final)) sizes_with
-        (created_cells bins from t path parent rest r moment mid final (planned_sizes more) last spare s
+        LeavesOthers (cell_at new) (cell_at final) t.holds.ring → Makes heap (cell_at final) (create_sizes seen t.path (path_of path) place (Some descriptor))
+    cells_with mid new final place last spare s keeps stay then leaves =
+        subst (Makes heap (cell_at final)) (sizes_with place)
+        (created_cells bins from t path parent rest r moment mid final place (planned_sizes more) last spare s
         (kept-then (cell_at mid) (cell_at new) (cell_at final) keeps then)
-        (λ z l. leaves z (stay z l) (apart mid spare last s z l)))
+        (λ z l. leaves z (stay z l) (apart mid place spare last s z l)))

@@ -8,7 +8,7 @@ use Rattle.reg_heap.specs.Paths.{Path}
 use Rattle.reg_heap.specs.Heaps.{Heap, allocated}
 use Rattle.reg_heap.specs.Kinds.{Found, times, is_own, owned}
 use Rattle.reg_heap.specs.Kinds.Kind.{Key}
-use Rattle.reg_shape.specs.Internal.Forests.{Forest, Branch, heads, total, total_of, Stand}
+use Rattle.reg_shape.specs.Internal.Forests.{Forest, Branch, heads, total, Stand}
 use Rattle.reg_shape.specs.Internal.Forests.Forest.{End, Rooted as Hangs}
 use Rattle.reg_records.specs.KeyNodes.{KeyRecord, key_at}
 use Rattle.reg_records.specs.KeySecurities.{security_at}
@@ -24,15 +24,14 @@ use Rattle.reg_shape.proofs.Walking.WalkRefinement.{IsLooked}
 use Rattle.reg_shape.proofs.Wholeness.ShapeRecords.{all-at, at-most-one}
 use Rattle.reg_shape.proofs.Graft.ForestInsertFits.{all-mapped}
 use Rattle.reg_shape.proofs.Lookup.LookupOfShape.{key-looked}
-use Rattle.reg_index.specs.Subkeys.{IsSingle, AreSubkeys, Moves, names_in, name_at, name_or_none, cells_of_index, own, taken}
+use Rattle.reg_index.specs.Subkeys.{AreSubkeys, Moves, names_in, name_at, name_or_none, cells_of_index, own}
 use Rattle.reg_index.proofs.SubkeysOpening.{own-is}
 use Rattle.reg_index.proofs.SubkeysFrame.{owned-index, own-stays}
 use Rattle.reg_index.proofs.RefinementOfSubkeys.{subkeys-elsewhere}
 use Rattle.reg_tree.specs.Internal.KeyNodeChanges.{Notes, noted_subkeys, raised}
-use Rattle.reg_tree.specs.Internal.TreeInvariant.{rooted}
 use Rattle.reg_tree.proofs.Invariant.OwnCells.{own-parts, key-here}
 use Rattle.reg_tree.proofs.InsertKey.ParentReindexed.{branch-subkeys}
-use Rattle.reg_tree.proofs.Invariant.UntouchedCells.{offset-own, times-one, not-there, written-allocated, moved-calm, all-heads, all-of, single-of}
+use Rattle.reg_tree.proofs.Invariant.UntouchedCells.{offset-own, times-one, not-there, written-allocated, moved-calm, all-heads, all-of}
 use Rattle.reg_tree.proofs.Invariant.KeyOfShape as keyed
 
 -- the folded name of a key that was looked at
@@ -60,10 +59,10 @@ raised-low o s l = omega (arith, l)
 -- in the parent's key node, `h4` when the security was counted
 
 module _ (h0 h1 h2 h3 h4 : Heap) (root : ℕ) (keys : Branch Node) (ring : List ℕ) (p : Path) (parent : ℕ)
-    (list_cell : Option ℕ) (key : ℕ) (left : List ℕ)
-    (w : IsShape h0 root keys ring (taken list_cell ++ key ∷ left)) (unrooted : total_of rooted keys ≡ 0) (at : key_offset_at h0 root p ≡ Some parent) where
+    (carved : List ℕ) (key : ℕ) (left : List ℕ)
+    (w : IsShape h0 root keys ring (carved ++ key ∷ left)) (at : key_offset_at h0 root p ≡ Some parent) where
   abbrev spare : List ℕ
-  spare = taken list_cell ++ key ∷ left
+  spare = carved ++ key ∷ left
 
   abbrev was : Branch Node
   was = keyed.branch h0 root keys ring spare w p parent at
@@ -85,9 +84,6 @@ module _ (h0 h1 h2 h3 h4 : Heap) (root : ℕ) (keys : Branch Node) (ring : List 
 
   pub offset : was.offset ≡ parent
   offset = keyed.offset h0 root keys ring spare w p parent at
-
-  pub single : IsSingle node.index
-  single = single-of node.index (keyed.unrooted_here h0 root keys ring spare w p parent at unrooted)
 
   -- its security is in the ring
   pub security-ringed : 0 < times above.fields.security ring
@@ -118,18 +114,18 @@ module _ (h0 h1 h2 h3 h4 : Heap) (root : ℕ) (keys : Branch Node) (ring : List 
       let own = offset-own h0 keys.offset keys.node w.stands.0.reads in
       let x = w.exact keys.offset in
       let m = at-most-one h0 keys.offset in
-      let s = times-append keys.offset (taken list_cell) (key ∷ left) in
+      let s = times-append keys.offset carved (key ∷ left) in
       let t = subst (λ z. times z (key ∷ []) ≡ 1) (e ∙ sym w.offset) (times-one key) in
       omega (arith, own, x, m, s, t)
 
   -- every cell is one thing alone
   pub budget : (z : ℕ) → ((K z + (owned z looked.class_cells + owned z looked.value_cells)) + (times z old_list + total (owns z) was.below)) +
-      (times z ring + (times z (taken list_cell) + (times z (key ∷ []) + times z left))) ≤ allocated h0 z
+      (times z ring + (times z carved + (times z (key ∷ []) + times z left))) ≤ allocated h0 z
   budget z =
       let all = keyed.branch_once h0 root keys ring spare w p parent at z in
       let o = ap (λ (found : List Found). owned z (found ++ index_cells node.index)) looked.cells ∙ own-parts z was.offset above looked.class_cells looked.value_cells node.index in
       let i = own-index z in
-      let s = times-append z (taken list_cell) (key ∷ left) in
+      let s = times-append z carved (key ∷ left) in
       omega (arith, all, o, i, s)
 
   pub one : (z : ℕ) → allocated h0 z ≤ 1
@@ -165,9 +161,9 @@ module _ (h0 h1 h2 h3 h4 : Heap) (root : ℕ) (keys : Branch Node) (ring : List 
 
     -- its subkeys are what they were
     subkeys0 : AreSubkeys h0 above.fields.subkeys above.fields.subkeys_list entries
-    subkeys0 = branch-subkeys h0 root was stands0 single
+    subkeys0 = branch-subkeys h0 root was stands0
 
-    list-calm : (z : ℕ) → 0 < times z (own h0 above.fields.subkeys above.fields.subkeys_list) → h1 z ≡ h0 z
+    pub list-calm : (z : ℕ) → 0 < times z (own h0 above.fields.subkeys above.fields.subkeys_list) → h1 z ≡ h0 z
     list-calm z l =
         let t = subst (λ cells. 0 < times z cells) (own-is h0 above.fields.subkeys above.fields.subkeys_list node.index looked.index_is) l in
         let b = budget z in let o = one z in calm1 z (omega (arith, b, o, t))
@@ -178,13 +174,13 @@ module _ (h0 h1 h2 h3 h4 : Heap) (root : ℕ) (keys : Branch Node) (ring : List 
     pub own1 : own h1 above.fields.subkeys above.fields.subkeys_list ≡ old_list
     own1 = own-stays h0 h1 above.fields.subkeys above.fields.subkeys_list entries subkeys0 list-calm ∙ own-is h0 above.fields.subkeys above.fields.subkeys_list node.index looked.index_is
 
-    module _ (count1 list1 : ℕ) (moves : Moves h1 h2 (old_list ++ taken list_cell) (own h2 count1 list1)) where
-      pub before : (z : ℕ) → times z (old_list ++ taken list_cell) ≡ times z old_list + times z (taken list_cell)
-      before z = times-append z old_list (taken list_cell)
+    module _ (count1 list1 : ℕ) (moves : Moves h1 h2 (old_list ++ carved) (own h2 count1 list1)) where
+      pub before : (z : ℕ) → times z (old_list ++ carved) ≡ times z old_list + times z carved
+      before z = times-append z old_list carved
 
-      pub calm2 : (z : ℕ) → 0 < allocated h0 z → times z old_list ≡ 0 → times z (taken list_cell) ≡ 0 → h2 z ≡ h1 z
+      pub calm2 : (z : ℕ) → 0 < allocated h0 z → times z old_list ≡ 0 → times z carved ≡ 0 → h2 z ≡ h1 z
       calm2 z some a b = (let x = allocated1 z in let y = before z in
-          moved-calm h1 h2 (old_list ++ taken list_cell) (own h2 count1 list1) moves z (omega (arith, some, x)) (omega (arith, a, b, y)))
+          moved-calm h1 h2 (old_list ++ carved) (own h2 count1 list1) moves z (omega (arith, some, x)) (omega (arith, a, b, y)))
 
       abbrev P : ℕ
       P = was.offset

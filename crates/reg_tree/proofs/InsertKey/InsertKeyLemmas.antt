@@ -7,12 +7,12 @@ use Rattle.std.specs.FinMap.{get, insert}
 use Rattle.std.proofs.lemmas.Option.{none-some, same_Some}
 use Rattle.reg_names.specs.declared.TheConstants.{PATH_LIMIT, KEY_NAME_LIMIT}
 use Rattle.reg_names.specs.Names.{folded, is_key_name}
+use Rattle.reg_heap.specs.declared.limits.TheConstants.{NONE, SUBKEYS_LIMIT}
 use Rattle.reg_heap.specs.Paths.{Path, Tree, Rec}
 use Rattle.reg_heap.specs.Edits.{edited, at_time, made_key, with_key, descriptor_of}
 use Rattle.reg_heap.specs.Heaps.{Heap}
 use Rattle.reg_heap.specs.Kinds.{times, owned}
-use Rattle.reg_shape.specs.Internal.Forests.{Branch, total_of}
-use Rattle.reg_index.specs.declared.plan.TheConstants.{FIRST_LIST_SIZE}
+use Rattle.reg_shape.specs.Internal.Forests.{Branch}
 use Rattle.reg_records.specs.RecordCells.{held}
 use Rattle.reg_records.specs.KeyNodes.{KeyRecord, key_at, IsPlainKey}
 use Rattle.reg_records.specs.SubkeyLists.{Entry, offsets_in}
@@ -24,24 +24,24 @@ use Rattle.reg_shape.specs.Internal.Grafts.{IsShape, IsGrafted, IsGraftedInRing,
 use Rattle.reg_shape.specs.PathLookup.{key_offset_at, key_named, subkey_named}
 use Rattle.reg_records.proofs.KeyNodeCodec.{key_at-same}
 use Rattle.reg_shape.proofs.Walking.WalkRefinement.{IsLooked}
-use Rattle.reg_shape.proofs.Graft.ForestInsert.{its_leaf, none-deeper, found-hang, total-hang}
+use Rattle.reg_shape.proofs.Graft.ForestInsert.{its_leaf, none-deeper, found-hang}
 use Rattle.reg_shape.proofs.Graft.Branches.{its_key, branch-found}
 use Rattle.reg_shape.proofs.Graft.ForestInsertFits.{deep-hung}
 use Rattle.reg_shape.proofs.Refinement.RefinementAfterEdit.{same_path, name-is}
-use Rattle.reg_shape.proofs.Graft.WholeAfterGraft.{grafted, graft-total}
+use Rattle.reg_shape.proofs.Graft.WholeAfterGraft.{grafted}
 use Rattle.reg_shape.proofs.Graft.GraftInRing.{descriptor-recounted, graft-in-ring, tree-hung-in-ring}
 use Rattle.reg_shape.proofs.Refinement.RefinementAfterGraft.{grafted-name}
 use Rattle.reg_shape.proofs.Lookup.LookupAfterGraft.{offsets-hung}
 use Rattle.reg_shape.proofs.Lookup.LookupOfShape.{placed, offset-more}
-use Rattle.reg_index.specs.Subkeys.{AreSubkeys, IsIndexFor, Moves, names_in, entry_for, with_one, cells_of_index, own, taken, insert_size}
+use Rattle.reg_index.specs.Subkeys.{AreSubkeys, IsIndexFor, Moves, names_in, entry_for, with_one, cells_of_index, own}
+use Rattle.reg_index.proofs.InsertSizes.{first-sizes}
 use Rattle.reg_security.specs.Rings.{Recounts}
 use Rattle.reg_tree.specs.Internal.KeyNodeChanges.{Notes, noted_subkeys}
-use Rattle.reg_tree.specs.Internal.TreeInvariant.{rooted}
-use Rattle.reg_tree.specs.Internal.SpareCells.{planned, Grows}
+use Rattle.reg_tree.specs.CellSizes.{first_cells, first_place, planned, planned_by}
+use Rattle.reg_tree.specs.Internal.SpareCells.{Grows}
 use Rattle.reg_tree.proofs.InsertKey.MadeKeyRecord.{made_record, made_node}
 use Rattle.reg_tree.proofs.InsertKey.ParentReindexed.{reindexed}
 use Rattle.reg_tree.proofs.ValueChange.TreeAfterValueChange.{edited-at}
-use Rattle.reg_tree.proofs.Invariant.UntouchedCells.{rooted-none}
 use Rattle.reg_tree.specs.KeyLengths.{lengths_of, with_first_length}
 use Rattle.reg_tree.proofs.Invariant.LengthsAfterGraft.{lengths_which}
 use Rattle.reg_tree.proofs.Invariant.KeyOfShape as keyed
@@ -49,10 +49,10 @@ use Rattle.reg_tree.proofs.InsertKey.InsertKeyCells as cells
 use Rattle.reg_tree.proofs.InsertKey.InsertKeyGraft as grafting
 
 module _ (h0 h1 h2 h3 h4 : Heap) (root : ℕ) (keys : Branch Node) (ring : List ℕ) (p : Path) (parent : ℕ)
-    (list_cell : Option ℕ) (key : ℕ) (left : List ℕ)
-    (w : IsShape h0 root keys ring (taken list_cell ++ key ∷ left)) (unrooted : total_of rooted keys ≡ 0) (at : key_offset_at h0 root p ≡ Some parent) where
+    (carved : List ℕ) (key : ℕ) (left : List ℕ)
+    (w : IsShape h0 root keys ring (carved ++ key ∷ left)) (at : key_offset_at h0 root p ≡ Some parent) where
   abbrev spare : List ℕ
-  spare = taken list_cell ++ key ∷ left
+  spare = carved ++ key ∷ left
 
   abbrev was : Branch Node
   was = keyed.branch h0 root keys ring spare w p parent at
@@ -67,13 +67,13 @@ module _ (h0 h1 h2 h3 h4 : Heap) (root : ℕ) (keys : Branch Node) (ring : List 
   entries = entries_of node.index
 
   abbrev looked : IsLooked h0 was.offset node
-  looked = cells.looked h0 h1 h2 h3 h4 root keys ring p parent list_cell key left w unrooted at
+  looked = cells.looked h0 h1 h2 h3 h4 root keys ring p parent carved key left w at
 
   abbrev seen : IsSeen h0 root was.offset node
-  seen = cells.seen h0 h1 h2 h3 h4 root keys ring p parent list_cell key left w unrooted at
+  seen = cells.seen h0 h1 h2 h3 h4 root keys ring p parent carved key left w at
 
   offset : was.offset ≡ parent
-  offset = cells.offset h0 h1 h2 h3 h4 root keys ring p parent list_cell key left w unrooted at
+  offset = cells.offset h0 h1 h2 h3 h4 root keys ring p parent carved key left w at
 
   abbrev stands0 : StandsIn h0 root was
   stands0 = keyed.stands h0 root keys ring spare w p parent at
@@ -82,7 +82,7 @@ module _ (h0 h1 h2 h3 h4 : Heap) (root : ℕ) (keys : Branch Node) (ring : List 
   old_list = cells_of_index node.index
 
   module _ (others1 : (z : ℕ) → z ≢ key → h1 z ≡ h0 z) (there1 : IsSome (h1 key)) where
-    module _ (count1 list1 : ℕ) (moves : Moves h1 h2 (old_list ++ taken list_cell) (own h2 count1 list1)) where
+    module _ (count1 list1 : ℕ) (moves : Moves h1 h2 (old_list ++ carved) (own h2 count1 list1)) where
       abbrev P : ℕ
       P = was.offset
 
@@ -91,7 +91,7 @@ module _ (h0 h1 h2 h3 h4 : Heap) (root : ℕ) (keys : Branch Node) (ring : List 
             (key1 : key_at h1 key ≡ Some (made_record parent above.fields.security moment name)) (plain1 : IsPlainKey (held h1 key))
             (stands_at : IsIndexFor (names_in h0 entries) (folded name) (Err index)) (missing : subkey_named h0 (folded name) parent ≡ None)
             (subkeys2 : AreSubkeys h2 count1 list1 (with_one index (entry_for h1 key) entries)) (count_is : count1 ≡ above.fields.subkeys + 1)
-            (recounts : Recounts h3 h4 above.fields.security (λ n. n + 1)) where
+            (few : above.fields.subkeys < SUBKEYS_LIMIT) (recounts : Recounts h3 h4 above.fields.security (λ n. n + 1)) where
           abbrev security : ℕ
           security = above.fields.security
 
@@ -99,38 +99,38 @@ module _ (h0 h1 h2 h3 h4 : Heap) (root : ℕ) (keys : Branch Node) (ring : List 
           entries1 = with_one index (entry_for h1 key) entries
 
           pub calm-class : (z : ℕ) → 0 < owned z looked.class_cells → h4 z ≡ h0 z
-          calm-class = cells.calm-class h0 h1 h2 h3 h4 root keys ring p parent list_cell key left w unrooted at others1 there1 count1 list1
-              moves name moment notes index good short key1 plain1 stands_at missing subkeys2 count_is recounts
+          calm-class = cells.calm-class h0 h1 h2 h3 h4 root keys ring p parent carved key left w at others1 there1 count1 list1
+              moves name moment notes index good short key1 plain1 stands_at missing subkeys2 count_is few recounts
 
           pub calm-values : (z : ℕ) → 0 < owned z looked.value_cells → h4 z ≡ h0 z
-          calm-values = cells.calm-values h0 h1 h2 h3 h4 root keys ring p parent list_cell key left w unrooted at others1 there1 count1 list1
-              moves name moment notes index good short key1 plain1 stands_at missing subkeys2 count_is recounts
+          calm-values = cells.calm-values h0 h1 h2 h3 h4 root keys ring p parent carved key left w at others1 there1 count1 list1
+              moves name moment notes index good short key1 plain1 stands_at missing subkeys2 count_is few recounts
 
           abbrev new_above : KeyRecord
           new_above = noted_subkeys count1 list1 (length name) moment above
 
           pub key-now : key_at h4 P ≡ Some new_above
-          key-now = cells.key-now h0 h1 h2 h3 h4 root keys ring p parent list_cell key left w unrooted at others1 there1 count1 list1 moves
-              name moment notes index good short key1 plain1 stands_at missing subkeys2 count_is recounts
+          key-now = cells.key-now h0 h1 h2 h3 h4 root keys ring p parent carved key left w at others1 there1 count1 list1 moves
+              name moment notes index good short key1 plain1 stands_at missing subkeys2 count_is few recounts
 
           pub plain-now : IsPlainKey (held h4 P)
-          plain-now = cells.plain-now h0 h1 h2 h3 h4 root keys ring p parent list_cell key left w unrooted at others1 there1 count1 list1 moves
-              name moment notes index good short key1 plain1 stands_at missing subkeys2 count_is recounts
+          plain-now = cells.plain-now h0 h1 h2 h3 h4 root keys ring p parent carved key left w at others1 there1 count1 list1 moves
+              name moment notes index good short key1 plain1 stands_at missing subkeys2 count_is few recounts
 
           key-calm : h4 key ≡ h1 key
-          key-calm = cells.key-calm h0 h1 h2 h3 h4 root keys ring p parent list_cell key left w unrooted at others1 there1 count1 list1 moves
-              name moment notes index good short key1 plain1 stands_at missing subkeys2 count_is recounts
+          key-calm = cells.key-calm h0 h1 h2 h3 h4 root keys ring p parent carved key left w at others1 there1 count1 list1 moves
+              name moment notes index good short key1 plain1 stands_at missing subkeys2 count_is few recounts
 
           abbrev made : Node
           made = made_node key (made_record parent security moment name)
 
           made-is : IsSeen h4 root key made
-          made-is = cells.made-is h0 h1 h2 h3 h4 root keys ring p parent list_cell key left w unrooted at others1 there1 count1 list1 moves
-              name moment notes index good short key1 plain1 stands_at missing subkeys2 count_is recounts
+          made-is = cells.made-is h0 h1 h2 h3 h4 root keys ring p parent carved key left w at others1 there1 count1 list1 moves
+              name moment notes index good short key1 plain1 stands_at missing subkeys2 count_is few recounts
 
           abbrev pub subkeys4 : AreSubkeys h4 count1 list1 entries1
-          subkeys4 = cells.subkeys4 h0 h1 h2 h3 h4 root keys ring p parent list_cell key left w unrooted at others1 there1 count1 list1 moves
-              name moment notes index good short key1 plain1 stands_at missing subkeys2 count_is recounts
+          subkeys4 = cells.subkeys4 h0 h1 h2 h3 h4 root keys ring p parent carved key left w at others1 there1 count1 list1 moves
+              name moment notes index good short key1 plain1 stands_at missing subkeys2 count_is few recounts
 
           abbrev now : Node
           now = reindexed h0 h4 root P node seen looked count1 list1 (length name) moment entries1 key-now plain-now calm-class calm-values subkeys4
@@ -139,15 +139,15 @@ module _ (h0 h1 h2 h3 h4 : Heap) (root : ℕ) (keys : Branch Node) (ring : List 
           is = record { offset = P; node = now; below = hang index key made was.below }
 
           in-ring : IsGraftedInRing h0 h4 root was is ring spare left
-          in-ring = grafting.grafts h0 h1 h2 h3 h4 root keys ring p parent list_cell key left w unrooted at others1 there1 count1 list1 moves
-              name moment notes index good short key1 plain1 stands_at missing subkeys2 count_is recounts
+          in-ring = grafting.grafts h0 h1 h2 h3 h4 root keys ring p parent carved key left w at others1 there1 count1 list1 moves
+              name moment notes index good short key1 plain1 stands_at missing subkeys2 count_is few recounts
 
           grafts : IsGrafted h0 h4 root was is ring spare ring left
           grafts = graft-in-ring h0 h4 root p keys was is ring spare left (keyed.branch_is h0 root keys ring spare w p parent at) in-ring w
 
           spare-made : (z : ℕ) → 0 < times z left → h4 z ≡ h0 z
-          spare-made = grafting.spare-made h0 h1 h2 h3 h4 root keys ring p parent list_cell key left w unrooted at others1 there1 count1 list1
-              moves name moment notes index good short key1 plain1 stands_at missing subkeys2 count_is recounts
+          spare-made = grafting.spare-made h0 h1 h2 h3 h4 root keys ring p parent carved key left w at others1 there1 count1 list1
+              moves name moment notes index good short key1 plain1 stands_at missing subkeys2 count_is few recounts
 
           -- ---- what stands then
 
@@ -157,13 +157,6 @@ module _ (h0 h1 h2 h3 h4 : Heap) (root : ℕ) (keys : Branch Node) (ring : List 
           pub shape-made : length p + 1 ≤ PATH_LIMIT → IsShape h4 root keys_now ring left
           shape-made deep = grafted h0 h4 root p keys was is ring spare ring left (keyed.branch_is h0 root keys ring spare w p parent at) grafts
               (deep-hung p keys was index key made (keyed.branch_is h0 root keys ring spare w p parent at) w.shallow deep) w
-
-          pub unrooted-made : total_of rooted keys_now ≡ 0
-          unrooted-made =
-              let g = graft-total rooted was now (hang index key made was.below) p keys (keyed.branch_is h0 root keys ring spare w p parent at) in
-              let t = total-hang rooted index key made was.below in
-              let n = rooted-none subkeys4.index subkeys4.single in
-              omega (arith, g, t, n, unrooted)
 
           free : branch_at (folded name ∷ []) was ≡ None
           free =
@@ -192,11 +185,9 @@ module _ (h0 h1 h2 h3 h4 : Heap) (root : ℕ) (keys : Branch Node) (ring : List 
           offsets-made = offsets-hung h0 h4 root p keys was is ring spare ring left (keyed.branch_is h0 root keys ring spare w p parent at) grafts w index key made (folded name) refl refl free
 
           pub grows : length p < PATH_LIMIT → Grows h0 h4 root p keys ring key left name moment
-          unfolding insert_size
           grows deep = record {
             now = keys_now;
             shape = shape-made (omega (arith, deep));
-            unrooted = unrooted-made;
             tree = tree-made;
             offsets =
                 offsets-made;
@@ -232,8 +223,8 @@ module _ (h0 h1 h2 h3 h4 : Heap) (root : ℕ) (keys : Branch Node) (ring : List 
               childless : (x : List ℕ) → subkey_named h4 x key ≡ None
               childless x = ap (option_and_then (λ (node : Node). key_named h4 x (offsets_in (entries_of node.index)))) made-is.reads
 
-              unlisted : planned h4 key ≡ Some FIRST_LIST_SIZE
-              unlisted = ap (option_and_then (λ (k : KeyRecord). insert_size h4 k.fields.subkeys k.fields.subkeys_list)) key4
+              unlisted : planned h4 key first_place ≡ first_cells
+              unlisted = ap (planned_by h4 first_place) key4 ∙ sym (first-sizes h4 0 NONE first_place refl)
 
               none : (k : KeyRecord) → key_at h4 key ≡ Some k → k.fields.subkeys ≡ 0
               none k e = ap (λ (k : KeyRecord). k.fields.subkeys) (same_Some _ _ (sym e ∙ key4))

@@ -2,7 +2,7 @@
 use Rattle.std.proofs.Common.{◌≡◌, ◌≢◌, ◌⊎◌, inl, inr, ◌↔◌, ℕ, ◌+◌, ◌≤◌, ◌<◌, Bool, true, false, ◌||◌, nat_lt, nat_le, List, [], ◌∷◌, length, refl, sym, ap, ◌∙◌, arith}
 use Rattle.std.proofs.lemmas.Bool.{and_parts, and_from, or_cases, or_left, or_right, ltb-true, leb-true, lt-ltb, le-leb, false≢true, false_from_ne_true}
 use Rattle.reg_names.specs.declared.TheConstants.{PATH_LIMIT}
-use Rattle.reg_heap.specs.declared.limits.TheConstants.{LEAF_LIMIT, MADE_LIMIT}
+use Rattle.reg_heap.specs.declared.limits.TheConstants.{SUBKEYS_LIMIT, MADE_LIMIT}
 use Rattle.reg_heap.specs.Paths.{Path, Tree, children_of}
 use Rattle.reg_heap.specs.Edits.{missing, last_there, are_too_many}
 use Rattle.reg_tree.specs.Internal.KeyCreation.{AreTooMany}
@@ -52,13 +52,13 @@ module _ (t : Tree) (p : Path) (names : List (List ℕ)) where
 
   pub too_many-test : AreTooMany t p names → are_too_many t p names ≡ true
   too_many-test m =
-      and_from (nat_lt 0 (length left)) (is_over MADE_LIMIT PATH_LIMIT LEAF_LIMIT (length left) (length p + length names) below) (some-are left m.some)
-      (told-over MADE_LIMIT PATH_LIMIT LEAF_LIMIT (length left) (length p + length names) below m.many)
+      and_from (nat_lt 0 (length left)) (is_over MADE_LIMIT PATH_LIMIT SUBKEYS_LIMIT (length left) (length p + length names) below) (some-are left m.some)
+      (told-over MADE_LIMIT PATH_LIMIT SUBKEYS_LIMIT (length left) (length p + length names) below m.many)
 
   pub test-too_many : are_too_many t p names ≡ true → AreTooMany t p names
   test-too_many e =
-      let both = and_parts (nat_lt 0 (length left)) (is_over MADE_LIMIT PATH_LIMIT LEAF_LIMIT (length left) (length p + length names) below) e in
-      record { some = are-some left both.0; many = over-told MADE_LIMIT PATH_LIMIT LEAF_LIMIT (length left) (length p + length names) below both.1 }
+      let both = and_parts (nat_lt 0 (length left)) (is_over MADE_LIMIT PATH_LIMIT SUBKEYS_LIMIT (length left) (length p + length names) below) e in
+      record { some = are-some left both.0; many = over-told MADE_LIMIT PATH_LIMIT SUBKEYS_LIMIT (length left) (length p + length names) below both.1 }
 
   -- a fact that is told by the record is told by the test
   pub by_test : {A : Type 0} → A ↔ AreTooMany t p names → A ↔ (are_too_many t p names ≡ true)

@@ -1,9 +1,9 @@
 -- The cells of keys that are made: only those come that were carved for them, and each holds as many bytes as it did then.
-use Rattle.std.proofs.Common.{◌≡◌, ℕ, zero, suc, ◌+◌, ◌-◌, ◌<◌, ◌≤◌, eqb, cond, Bool, true, false, Option, Some, None, IsSome, is_some}
-use Rattle.std.proofs.Common.{List, [], ◌∷◌, ◌++◌, map, length, get_or, replicate, refl, sym, ap, ◌∙◌, subst, arith}
+use Rattle.std.proofs.Common.{◌≡◌, ℕ, suc, ◌+◌, ◌-◌, ◌<◌, eqb, cond, Bool, true, false, Option, Some, None, IsSome, is_some}
+use Rattle.std.proofs.Common.{List, [], ◌∷◌, ◌++◌, map, length, get_or, replicate, refl, sym, ap, ◌∙◌, subst, arith, inl, inr}
 use Rattle.std.specs.Prelude.{unwrap_or}
 use Rattle.std.specs.Option.{option_and_then}
-use Rattle.std.proofs.lemmas.Bool.{eqb-true, eqb-false}
+use Rattle.std.proofs.lemmas.Bool.{cases_lt, eqb-true, eqb-false}
 use Rattle.reg_arena.proofs.FreeList.ThreadLinks.{times-append}
 use Rattle.reg_arena.specs.Arena.{Bins, heap_of}
 use Rattle.reg_arena.specs.Cells.{cell_at}
@@ -11,9 +11,8 @@ use Rattle.reg_arena.specs.NewCells.{AreSizes}
 use Rattle.reg_heap.specs.Heaps.{Heap, allocated}
 use Rattle.reg_heap.specs.Kinds.{times}
 use Rattle.reg_heap.specs.Paths.{Path}
-use Rattle.reg_index.specs.Subkeys.{AreSubkeys, KeepsCells, Moves, own, taken}
-use Rattle.reg_records.specs.SubkeyLists.{Entry}
-use Rattle.reg_index.proofs.SubkeysOpening.{own-leaf}
+use Rattle.reg_index.specs.declared.Place.{Place}
+use Rattle.reg_index.specs.Subkeys.{KeepsCells, Moves, own}
 use Rattle.reg_index.proofs.KeptCells.{kept-then}
 use Rattle.reg_records.specs.KeyNodes.{KeyRecord, key_at}
 use Rattle.reg_records.specs.KeySecurities.{KeySecurityRecord, security_at}
@@ -71,46 +70,29 @@ four_written a b c d e cell p q r s there w x y z =
 same-kept : (h i : Heap) → SameSizes h i → KeepsCells h i
 same-kept h i a z some = (sym (a z).0 ∙ some, (a z).1)
 
--- the cells of a key's index, as its number and its list name them: none, or the list's
-abbrev listed : ℕ → ℕ → List ℕ
-listed zero list = []
-listed (suc count) list = list ∷ []
-
-pub own-listed : (h : Heap) (count list : ℕ) → ((entries : List Entry) × AreSubkeys h count list entries) → own h count list ≡ listed count list
-own-listed h zero list s = refl
-own-listed h (suc count) list s = own-leaf h (suc count) list s.0 s.1 (omega arith)
-
--- the list's cell is its own, or the one carved for it
-moved-leaves : (h k : Heap) (count list count1 list1 : ℕ) (fresh : Option ℕ) → Moves h k (own h count list ++ taken fresh) (own k count1 list1) →
-    own k count1 list1 ≡ list1 ∷ [] → list1 ≡ unwrap_or fresh list → LeavesOthers h k (own h count list)
-moved-leaves h k count list count1 list1 fresh moves after place z there none =
-    let c = moves.count z in
-    let t = times-append z (own h count list) (taken fresh) in
-    let here = allocated-is h z there in
-    let o = ap (times z) after in
-    let q = ap (λ l. times z (l ∷ [])) place in
-    let p = by fresh in
-    is-allocated k z (omega (arith, c, t, here, none, o, p, q))
-  where
-    by : (fresh : Option ℕ) → times z (taken fresh) ≤ times z (unwrap_or fresh list ∷ [])
-    by None = omega arith
-    by (Some cell) = omega arith
+-- the cells of a key's index gave way, but those that were carved for it stay, and so do all others
+moved-leaves : (h k : Heap) (before carved after : List ℕ) → Moves h k (before ++ carved) after → ((z : ℕ) → 0 < times z carved → IsSome (k z)) → LeavesOthers h k before
+moved-leaves h k before carved after moves stay z there none = elim (cases_lt 0 (times z carved)) [
+  | inl l ↦ stay z l
+  | inr l ↦
+      let c = moves.count z in
+      let t = times-append z before carved in
+      let here = allocated-is h z there in
+      is-allocated k z (omega (arith, c, t, here, none, l))
+]
 
 module _ (h h1 h2 h3 h4 : Heap) (one : SameSizes h h1) (two : KeepsCells h1 h2) (three : SameSizes h2 h3) (four : SameSizes h3 h4) where
   pub made_keeps : KeepsCells h h4
   made_keeps = kept-then h h1 h4 (same-kept h h1 one) (kept-then h1 h2 h4 two (kept-then h2 h3 h4 (same-kept h2 h3 three) (same-kept h3 h4 four)))
 
   pub made_leaves : (parent : ℕ) (fields : KeyFields) → ((k : KeyRecord) → key_at h parent ≡ Some k → fields ≡ k.fields) →
-      ((entries : List Entry) × AreSubkeys h fields.subkeys fields.subkeys_list entries) → ((entries : List Entry) × AreSubkeys h1 fields.subkeys fields.subkeys_list entries) →
-      (count1 list1 : ℕ) (fresh : Option ℕ) → ((entries : List Entry) × AreSubkeys h2 count1 list1 entries) →
-      Moves h1 h2 (own h1 fields.subkeys fields.subkeys_list ++ taken fresh) (own h2 count1 list1) → count1 ≡ fields.subkeys + 1 → list1 ≡ unwrap_or fresh fields.subkeys_list →
+      own h1 fields.subkeys fields.subkeys_list ≡ own h fields.subkeys fields.subkeys_list → (carved after : List ℕ) →
+      Moves h1 h2 (own h1 fields.subkeys fields.subkeys_list ++ carved) after → ((z : ℕ) → 0 < times z carved → IsSome (h2 z)) →
       (k : KeyRecord) → key_at h parent ≡ Some k → LeavesOthers h h4 (own h k.fields.subkeys k.fields.subkeys_list)
-  made_leaves parent fields are before then count1 list1 fresh now moves more place k reads z there none =
-      let owned = own-listed h1 fields.subkeys fields.subkeys_list then ∙ sym (own-listed h fields.subkeys fields.subkeys_list before) in
+  made_leaves parent fields are owned carved after moves stay k reads z there none =
       let same : times z (own h1 fields.subkeys fields.subkeys_list) ≡ 0 =
       ap (times z) owned ∙ (ap (λ (f : KeyFields). times z (own h f.subkeys f.subkeys_list)) (are k reads) ∙ none) in
-      let after = own-leaf h2 count1 list1 now.0 now.1 (omega (arith, more)) in
-      let in2 = moved-leaves h1 h2 fields.subkeys fields.subkeys_list count1 list1 fresh moves after place z ((one z).0 ∙ there) same in
+      let in2 = moved-leaves h1 h2 (own h1 fields.subkeys fields.subkeys_list) carved after moves stay z ((one z).0 ∙ there) same in
       (four z).0 ∙ ((three z).0 ∙ in2)
 
 -- ---- all of them made
@@ -128,7 +110,8 @@ map-same : (f g : ℕ → ℕ) (xs : List ℕ) → ((z : ℕ) → 0 < times z xs
 map-same f g [] e = refl
 map-same f g (x ∷ xs) e = cons-same (e x (head-times x xs)) (map-same f g xs (λ z l. e z (more-times z x xs l)))
 
-module _ (old mid new : List ℕ) (key : ℕ) (names : List (List ℕ)) (more left spare : List ℕ) (s : IsSpared old mid key names more left spare) (keeps : KeepsCells (cell_at mid) (cell_at new))
+module _ (old mid new : List ℕ) (key : ℕ) (place : Place) (names : List (List ℕ)) (more left spare : List ℕ)
+    (s : IsSpared old mid key place names more left spare) (keeps : KeepsCells (cell_at mid) (cell_at new))
     (stay : (z : ℕ) → 0 < times z spare → IsSome (cell_at new z)) where
   came : (z : ℕ) → 0 < times z spare → cell_at old z ≡ None
   came z l =
@@ -147,7 +130,7 @@ module _ (old mid new : List ℕ) (key : ℕ) (names : List (List ℕ)) (more le
       let n : allocated (cell_at old) z ≡ 0 = ap (λ (o : Option (List ℕ)). cond (is_some o) 1 0) none in
       omega (arith, c, a, n)
 
-  pub made_makes : Makes (cell_at old) (cell_at new) (sizes_of (planned (cell_at old) key) (map own_sizes names) ++ more)
+  pub made_makes : Makes (cell_at old) (cell_at new) (sizes_of (planned (cell_at old) key place) (map own_sizes names) ++ more)
   made_makes = record {
     offsets = spare;
     sizes_are = map-same (λ z. length (held (cell_at new) z) + 4) (λ z. length (held (cell_at mid) z) + 4) spare (λ z l. ap (λ n. n + 4) (keeps z (stay z l)).1) ∙ s.sizes;

@@ -1,5 +1,5 @@
 -- A key whose subkeys were changed and noted: it is seen as it is then. And a key's subkeys, from the keys right below it.
-use Rattle.std.proofs.Common.{◌≡◌, ℕ, ◌+◌, ◌*◌, ◌<◌, Some, IsSome, List, [], ◌∷◌, ◌++◌, map, length, take, drop, refl, sym, ap, ◌∙◌, subst, arith}
+use Rattle.std.proofs.Common.{◌≡◌, ℕ, ◌+◌, ◌*◌, ◌<◌, ◌≤◌, Some, IsSome, List, [], ◌∷◌, ◌++◌, map, length, take, drop, refl, sym, ap, ◌∙◌, subst, arith}
 use Rattle.std.specs.List.{AllByRecursion}
 use Rattle.std.specs.Option.{option_map, option_and_then}
 use Rattle.reg_names.specs.Names.{folded, hash}
@@ -23,8 +23,8 @@ use Rattle.reg_shape.proofs.Frame.KeyFrame.{Keeps, agree-inner}
 use Rattle.reg_shape.proofs.Frame.WrittenFrame.{list-kept}
 use Rattle.reg_shape.proofs.Lookup.LookupOfShape.{key-looked}
 use Rattle.reg_shape.proofs.Walking.WalkRefinement.{IsLooked, look-open}
-use Rattle.reg_index.specs.Subkeys.{IsSingle, AreSubkeys, Rises, name_at, name_or_none, names_in}
-use Rattle.reg_index.proofs.SubkeysOpening.{few-subkeys}
+use Rattle.reg_index.specs.Subkeys.{AreSubkeys, Rises, name_at, name_or_none, names_in}
+use Rattle.reg_heap.specs.declared.limits.TheConstants.{SUBKEYS_LIMIT}
 use Rattle.reg_index.proofs.RefinementOfSubkeys.{rises-of}
 use Rattle.reg_tree.specs.Internal.KeyNodeChanges.{noted_subkeys}
 use Rattle.reg_tree.proofs.Invariant.CellReadings.{is_some_of}
@@ -79,10 +79,9 @@ module _ (h k : Heap) (root offset : ℕ) (node : Node) (seen : IsSeen h root of
   number : count ≡ length (entries_of subkeys.index)
   number = sym subkeys.number ∙ ap length (sym subkeys.entries_are)
 
-  pub sees-reindexed : 2 * name < 65536 → IsSeen k root offset reindexed
-  sees-reindexed short =
+  pub sees-reindexed : 2 * name < 65536 → count ≤ SUBKEYS_LIMIT → IsSeen k root offset reindexed
+  sees-reindexed short few =
       let w = seen.written in
-      let few = few-subkeys k count list entries subkeys in
       let key = node.key in
       record {
         reads = looks-reindexed;
@@ -100,7 +99,7 @@ module _ (h k : Heap) (root offset : ℕ) (node : Node) (seen : IsSeen h root of
             largest = w.values.largest;
           };
           subkeys = number;
-          few = omega (arith, few);
+          few = few;
           none = subkeys.unlisted;
           upper = (let u = w.upper in omega (arith, u, short));
           index = subkeys.written;
@@ -179,10 +178,10 @@ names-ordered : (below : List (ℕ × Node)) → Pairwise (λ (a b : ℕ × Node
 names-ordered [] a = tt
 names-ordered (e ∷ below) a = (all-names (Precedes e.1.key.name) below a.0, names-ordered below a.1)
 
--- a key whose subkeys stand in at most one list has these subkeys
-pub subkeys-below : (h : Heap) (root offset : ℕ) (node : Node) (below : List (ℕ × Node)) → IsSeen h root offset node → IsSingle node.index → Fits offset node below → AreLooked h below
+-- a key has these subkeys, by the keys right below it
+pub subkeys-below : (h : Heap) (root offset : ℕ) (node : Node) (below : List (ℕ × Node)) → IsSeen h root offset node → Fits offset node below → AreLooked h below
     → AreSubkeys h node.key.fields.subkeys node.key.fields.subkeys_list (entries_of node.index)
-subkeys-below h root offset node below seen single fits looked =
+subkeys-below h root offset node below seen fits looked =
     let l = look-open h offset node seen.reads in
     let w = seen.written in
     let entries : List Entry = entries_of node.index in
@@ -192,13 +191,12 @@ subkeys-below h root offset node below seen single fits looked =
       written = w.index;
       entries_are = refl;
       number = sym w.subkeys;
-      single = single;
       unlisted = w.none;
       keys = keys-there h below entries looked fits.offsets;
       hashes = hashes-there h below entries looked fits.offsets fits.hashes;
       rising = subst Rises (sym (names-there h below entries looked fits.offsets)) (rises-of (names_of below) (names-ordered below fits.order));
     }
 
-pub branch-subkeys : (h : Heap) (root : ℕ) (b : Branch Node) → StandsIn h root b → IsSingle b.node.index →
+pub branch-subkeys : (h : Heap) (root : ℕ) (b : Branch Node) → StandsIn h root b →
     AreSubkeys h b.node.key.fields.subkeys b.node.key.fields.subkeys_list (entries_of b.node.index)
-branch-subkeys h root b stands single = subkeys-below h root b.offset b.node (heads b.below) stands.0 single stands.1 (heads-looked h root b.below stands.2)
+branch-subkeys h root b stands = subkeys-below h root b.offset b.node (heads b.below) stands.0 stands.1 (heads-looked h root b.below stands.2)

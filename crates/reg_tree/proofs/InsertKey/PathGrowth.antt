@@ -27,7 +27,7 @@ use Rattle.reg_tree.specs.Internal.KeyNodeChanges.{LeavesOthers}
 use Rattle.reg_index.proofs.SubkeysFrame.{owned-index}
 use Rattle.reg_shape.specs.Internal.Forests.{Branch}
 use Rattle.reg_heap.proofs.ChildrenOfPath.{path-is}
-use Rattle.reg_index.specs.declared.plan.TheConstants.{FIRST_LIST_SIZE}
+use Rattle.reg_index.specs.declared.Place.{Place}
 use Rattle.reg_shape.specs.Nodes.{Node}
 use Rattle.reg_shape.specs.Spelt.{rec_of}
 use Rattle.reg_shape.specs.Internal.Shapes.{descriptor_in, tree_of}
@@ -39,7 +39,8 @@ use Rattle.reg_shape.proofs.Lookup.LookupOfShape.{offset-more, offset-append}
 use Rattle.reg_index.specs.Subkeys.{KeepsCells, own}
 use Rattle.reg_index.proofs.SubkeysOpening.{own-is}
 use Rattle.reg_tree.specs.declared.node.Node.{Node as TreeNode}
-use Rattle.reg_tree.specs.Internal.SpareCells.{planned, IsGrowing, MayGrow, Grows, AreReady, own_sizes, MayGrowAll, GrowsAll}
+use Rattle.reg_tree.specs.CellSizes.{first_cells, first_place, own_sizes, planned}
+use Rattle.reg_tree.specs.Internal.SpareCells.{IsGrowing, MayGrow, Grows, AreReady, MayGrowAll, GrowsAll}
 use Rattle.reg_tree.proofs.InsertKey.SpareCellsKept.{ready-kept, left-spare}
 use Rattle.reg_tree.proofs.InsertKey.LengthsOfMade.{none_made, one_below, one_more}
 use Rattle.reg_tree.proofs.Invariant.KeyOfShape as keyed
@@ -128,9 +129,9 @@ noted_all old new root path names at rest e (inr s) = s.1
 -- ---- on the way
 
 -- some of the keys were made: a node, what is left of the path and of the spare cells, and that the rest leads to the same end
-pub record Midway (bytes0 : List ℕ) (from : TreeNode) (names0 : List (List ℕ)) (last spare0 : List ℕ) (m : MayGrowAll bytes0 from names0 last spare0)
-    (moment : ℕ) (bytes : List ℕ) (node : TreeNode) (rest spare : List ℕ) : Type 0 where
-  pub grow : MayGrowAll bytes node (path_of rest) last spare
+pub record Midway (bytes0 : List ℕ) (from : TreeNode) (names0 : List (List ℕ)) (place0 : Place) (last spare0 : List ℕ) (m : MayGrowAll bytes0 from names0 place0 last spare0)
+    (moment : ℕ) (bytes : List ℕ) (node : TreeNode) (rest : List ℕ) (place : Place) (spare : List ℕ) : Type 0 where
+  pub grow : MayGrowAll bytes node (path_of rest) place last spare
   pub root_is : grow.growing.root ≡ m.growing.root
   pub ring_is : grow.growing.ring ≡ m.growing.ring
   pub valid : is_path rest ≡ true
@@ -150,9 +151,9 @@ pub record Midway (bytes0 : List ℕ) (from : TreeNode) (names0 : List (List ℕ
   pub described : (z : ℕ) → 0 < times z m.growing.ring → descriptor_at (cell_at bytes) z ≡ descriptor_at (cell_at bytes0) z
   pub left : (z : ℕ) → 0 < times z last → cell_at bytes z ≡ cell_at bytes0 z
 
-pub at_start : (bytes : List ℕ) (from : TreeNode) (path last spare : List ℕ) (m : MayGrowAll bytes from (path_of path) last spare) (moment : ℕ) →
-    is_path path ≡ true → Midway bytes from (path_of path) last spare m moment bytes from path spare
-at_start bytes from path last spare m moment v = record {
+pub at_start : (bytes : List ℕ) (from : TreeNode) (path : List ℕ) (place : Place) (last spare : List ℕ) (m : MayGrowAll bytes from (path_of path) place last spare) (moment : ℕ) →
+    is_path path ≡ true → Midway bytes from (path_of path) place last spare m moment bytes from path place spare
+at_start bytes from path place last spare m moment v = record {
   grow = m;
   root_is = refl;
   ring_is = refl;
@@ -173,8 +174,8 @@ at_start bytes from path last spare m moment v = record {
   left = λ z l. refl;
 }
 
-module _ (bytes0 : List ℕ) (from : TreeNode) (names0 : List (List ℕ)) (last spare0 : List ℕ) (m : MayGrowAll bytes0 from names0 last spare0) (moment : ℕ)
-    (bytes : List ℕ) (node : TreeNode) (rest spare : List ℕ) (mid : Midway bytes0 from names0 last spare0 m moment bytes node rest spare) where
+module _ (bytes0 : List ℕ) (from : TreeNode) (names0 : List (List ℕ)) (place0 : Place) (last spare0 : List ℕ) (m : MayGrowAll bytes0 from names0 place0 last spare0) (moment : ℕ)
+    (bytes : List ℕ) (node : TreeNode) (rest : List ℕ) (place : Place) (spare : List ℕ) (mid : Midway bytes0 from names0 place0 last spare0 m moment bytes node rest place spare) where
   pub deep_now : from.depth ≤ PATH_LIMIT → node.depth + 1 < 4096
   deep_now d = let e = mid.depth in let l = m.deep in omega (arith, d, e, l)
 
@@ -190,11 +191,11 @@ module _ (bytes0 : List ℕ) (from : TreeNode) (names0 : List (List ℕ)) (last 
       few = mid.grow.few;
     }
 
-    pub ready_next : AreReady (cell_at bytes) last (planned (cell_at bytes) node.offset) (own_sizes name ∷ map own_sizes (path_of behind)) spare
-    ready_next = subst (λ ns. AreReady (cell_at bytes) last (planned (cell_at bytes) node.offset) (map own_sizes ns) spare) f.names mid.grow.ready
+    pub ready_next : AreReady (cell_at bytes) last (planned (cell_at bytes) node.offset place) (own_sizes name ∷ map own_sizes (path_of behind)) spare
+    ready_next = subst (λ ns. AreReady (cell_at bytes) last (planned (cell_at bytes) node.offset place) (map own_sizes ns) spare) f.names mid.grow.ready
 
     module _ (new : List ℕ) (made : ℕ) (left : List ℕ)
-        (grows : Grows (cell_at bytes) (cell_at new) g.root g.path g.keys g.ring made left name moment) (ready : AreReady (cell_at bytes) last (Some FIRST_LIST_SIZE)
+        (grows : Grows (cell_at bytes) (cell_at new) g.root g.path g.keys g.ring made left name moment) (ready : AreReady (cell_at bytes) last first_cells
         (map own_sizes (path_of behind)) left) (kept : KeepsCells (cell_at bytes) (cell_at new))
         (leaves : (r : KeyRecord) → key_at (cell_at bytes) node.offset ≡ Some r → LeavesOthers (cell_at bytes) (cell_at new) (own (cell_at bytes) r.fields.subkeys r.fields.subkeys_list)) where
       abbrev k : Heap
@@ -207,7 +208,6 @@ module _ (bytes0 : List ℕ) (from : TreeNode) (names0 : List (List ℕ)) (last 
         keys = grows.now;
         ring = g.ring;
         shape = grows.shape;
-        unrooted = grows.unrooted;
         at = grows.offsets (child_path g.path name) ∙ ap (λ b. cond b (Some made) (key_offset_at (cell_at bytes) g.root (child_path g.path name))) (path-self (child_path g.path name));
       }
 
@@ -218,14 +218,14 @@ module _ (bytes0 : List ℕ) (from : TreeNode) (names0 : List (List ℕ)) (last 
           let l = length-append g.path (folded name ∷ []) in
           omega (arith, d, n, l)
 
-      abbrev grow_then : MayGrowAll new (record { offset = made; depth = node.depth + 1 }) (path_of behind) last left
+      abbrev grow_then : MayGrowAll new (record { offset = made; depth = node.depth + 1 }) (path_of behind) first_place last left
       grow_then = record {
         growing = growing_then;
         missing = λ n others e. grows.childless (folded n);
         deep = deep_then;
         few = λ r e. (let z = grows.none r e in omega (arith, z));
         ready = subst (λ o. AreReady k last o (map own_sizes (path_of behind)) left) (sym grows.unlisted)
-            (ready-kept (cell_at bytes) k last (Some FIRST_LIST_SIZE) (map own_sizes (path_of behind)) left grows.spare ready);
+            (ready-kept (cell_at bytes) k last first_cells (map own_sizes (path_of behind)) left grows.spare ready);
       }
 
       keeps_then : (q : Path) (o : ℕ) → key_offset_at (cell_at bytes) g.root q ≡ Some o → key_offset_at k g.root q ≡ Some o
@@ -282,7 +282,7 @@ module _ (bytes0 : List ℕ) (from : TreeNode) (names0 : List (List ℕ)) (last 
           ∙ (one_shared (tree_of (cell_at bytes) g.keys) g.path name (path_of behind) moment
           ∙ ap (λ ns. with_keys (tree_of (cell_at bytes) g.keys) g.path ns None moment) (sym f.names)))
 
-      pub one_further : Midway bytes0 from names0 last spare0 m moment new (record { offset = made; depth = node.depth + 1 }) behind left
+      pub one_further : Midway bytes0 from names0 place0 last spare0 m moment new (record { offset = made; depth = node.depth + 1 }) behind first_place left
       one_further = record {
         grow = grow_then;
         root_is = mid.root_is;
@@ -303,20 +303,19 @@ module _ (bytes0 : List ℕ) (from : TreeNode) (names0 : List (List ℕ)) (last 
         stay = λ z l. leaves node_is.0 node_is.1 z (mid.stay z l) (mid.apart node_is.0 node_is.1 z l);
         apart = λ r e z l. ap (λ n. times z (own k n r.fields.subkeys_list)) (grows.none r e);
         described = λ z l. grows.described z (subst (λ ring. 0 < times z ring) (sym mid.ring_is) l) ∙ mid.described z l;
-        left = λ z l. grows.spare z (left-spare (cell_at bytes) last (Some FIRST_LIST_SIZE) (map own_sizes (path_of behind)) left ready z l) ∙ mid.left z l;
+        left = λ z l. grows.spare z (left-spare (cell_at bytes) last first_cells (map own_sizes (path_of behind)) left ready z l) ∙ mid.left z l;
       }
 
   -- nothing is left of the path, and so the spare cells are those that are left
   pub at_end : path_of rest ≡ [] → GrowsAll (cell_at bytes0) (cell_at bytes) m.growing.root m.growing.path m.growing.keys m.growing.ring last from node names0 moment
   at_end e =
       let g = mid.grow.growing in
-      let same : spare ≡ last = subst (λ ns. AreReady (cell_at bytes) last (planned (cell_at bytes) node.offset) (map own_sizes ns) spare) e mid.grow.ready in
+      let same : spare ≡ last = subst (λ ns. AreReady (cell_at bytes) last (planned (cell_at bytes) node.offset place) (map own_sizes ns) spare) e mid.grow.ready in
       record {
         now = g.keys;
         shape = subst (λ r. IsShape (cell_at bytes) r g.keys m.growing.ring last) mid.root_is
             (subst (λ r. IsShape (cell_at bytes) g.root g.keys r last) mid.ring_is
             (subst (λ s. IsShape (cell_at bytes) g.root g.keys g.ring s) same g.shape));
-        unrooted = g.unrooted;
         spare = mid.left;
         tree = ap (λ ns. with_keys (tree_of (cell_at bytes) g.keys) g.path ns None moment) (sym e) ∙ mid.tree;
         offset = subst (λ q. key_offset_at (cell_at bytes) m.growing.root q ≡ Some node.offset) (sym (append-nil g.path) ∙

@@ -1,5 +1,5 @@
 -- Cells carved for keys to be made: the tree is as it was, and those cells are spare.
-use Rattle.std.proofs.Common.{◌≡◌, ℕ, zero, suc, ◌+◌, ◌*◌, ◌≤◌, ◌<◌, Bool, true, false, cond, nat_le, Option, Some, None, List, [], ◌∷◌, map, length, refl, sym, ap, ◌∙◌, subst, arith}
+use Rattle.std.proofs.Common.{◌≡◌, ℕ, ◌+◌, ◌≤◌, ◌<◌, Bool, true, false, cond, Option, Some, None, List, [], ◌∷◌, map, length, refl, sym, ap, ◌∙◌, subst, arith}
 use Rattle.std.specs.Option.{option_and_then}
 use Rattle.std.specs.Ordering.{eq_by_cmp}
 use Rattle.std.specs.FinMap.{get, insert, get-insert, same_map}
@@ -7,11 +7,11 @@ use Rattle.std.specs.Prelude.{IsSome, Err}
 use Rattle.std.proofs.lemmas.Option.{none-some, same_Some}
 use Rattle.reg_names.specs.declared.TheConstants.{PATH_LIMIT}
 use Rattle.reg_names.specs.Names.{folded}
-use Rattle.reg_heap.specs.declared.limits.TheConstants.{LEAF_LIMIT}
+use Rattle.reg_heap.specs.declared.limits.TheConstants.{SUBKEYS_LIMIT}
 use Rattle.reg_heap.specs.Paths.{Path, Tree, Rec, path_cmp}
 use Rattle.reg_heap.specs.Edits.{child_path}
 use Rattle.reg_heap.specs.Heaps.{Heap, allocated, CellFrame}
-use Rattle.reg_heap.specs.Kinds.{times, is_own, owned}
+use Rattle.reg_heap.specs.Kinds.{times, is_own}
 use Rattle.reg_shape.specs.Internal.Forests.{Branch, total_of}
 use Rattle.reg_heap.proofs.ChildrenOfPath.{path-is}
 use Rattle.reg_arena.specs.Cells.{cell_at}
@@ -19,11 +19,11 @@ use Rattle.reg_records.specs.KeyNodes.{KeyRecord, key_at}
 use Rattle.reg_shape.specs.Nodes.{Node, entries_of}
 use Rattle.reg_shape.specs.Spelt.{rec_of}
 use Rattle.reg_shape.specs.Written.{IsWrittenSecurity}
-use Rattle.reg_shape.specs.Internal.Shapes.{cells_of, index_cells, owns, shares, descriptor_in, tree_of, StandsIn}
+use Rattle.reg_shape.specs.Internal.Shapes.{index_cells, owns, shares, descriptor_in, tree_of, StandsIn}
 use Rattle.reg_shape.specs.Internal.Grafts.{IsShape, IsGrafted, IsGraftedInRing, IsRecounted}
 use Rattle.reg_shape.specs.PathLookup.{key_offset_at, subkey_named}
 use Rattle.reg_records.proofs.KeyNodeCodec.{key_at-same}
-use Rattle.reg_shape.proofs.Frame.WrittenFrame.{seen-kept, same-held}
+use Rattle.reg_shape.proofs.Frame.WrittenFrame.{seen-kept}
 use Rattle.reg_shape.proofs.Refinement.SpeltTrees.{path_total, path_same}
 use Rattle.reg_shape.proofs.Wholeness.ShapeCounts.{tally-append}
 use Rattle.reg_shape.proofs.Wholeness.ShapeRecords.{all-at, at-most-one}
@@ -36,20 +36,23 @@ use Rattle.reg_shape.proofs.Lookup.LookupOfShape.{offset-none, offset-more, offs
 use Rattle.reg_shape.proofs.Refinement.RefinementAtPath.{told}
 use Rattle.reg_records.specs.SubkeyLists.{Entry}
 use Rattle.reg_shape.proofs.Wholeness.ShapeRecords.{allocated-is}
-use Rattle.reg_index.specs.Subkeys.{AreSubkeys, IsIndexFor, insert_size, cells_of_index, names_in, own}
+use Rattle.reg_index.specs.declared.Place.{Place}
+use Rattle.reg_index.specs.Subkeys.{AreSubkeys, IsIndexFor, IsPlaceIn, flat, index_of, names_in, own}
+use Rattle.reg_index.proofs.PlannedSizes.{flat-elsewhere, place-elsewhere, sizes-elsewhere}
 use Rattle.reg_index.proofs.RefinementOfSubkeys.{subkeys-elsewhere}
-use Rattle.reg_index.proofs.SubkeysOpening.{index-leaf, own-is}
+use Rattle.reg_index.proofs.SubkeysOpening.{own-is}
 use Rattle.reg_index.proofs.SubkeysFrame.{Stay, all-map, names-stay, owned-index}
-use Rattle.reg_tree.specs.Internal.ReachedPlaces.{BelongsAt}
+use Rattle.reg_tree.specs.CellSizes.{own_sizes, planned, planned_by}
+use Rattle.reg_tree.specs.Internal.ReachedPlaces.{BelongsAt, BelongsFirst}
 use Rattle.reg_tree.proofs.Invariant.CellReadings.{key-exists}
 use Rattle.reg_tree.proofs.DeleteKey.SubkeyUnlinked.{same-entries}
 use Rattle.reg_tree.specs.declared.node.Node.{Node as TreeNode}
 use Rattle.reg_tree.specs.Internal.TreeInvariant.{IsHere}
-use Rattle.reg_tree.specs.Internal.SpareCells.{planned, AreReady, own_sizes, MayGrowAll, IsSpared}
+use Rattle.reg_tree.specs.Internal.SpareCells.{AreReady, MayGrowAll, IsSpared}
 use Rattle.reg_tree.proofs.Invariant.KeyOfTree as here
 use Rattle.reg_tree.proofs.Invariant.KeyOfTree.{branch, key_is, looked, offset}
 use Rattle.reg_tree.proofs.PathWalk.SubkeysFound.{own_subkeys}
-use Rattle.reg_tree.proofs.Invariant.UntouchedCells.{times-one, offset-own}
+use Rattle.reg_tree.proofs.Invariant.UntouchedCells.{offset-own}
 
 -- a record put where it is changes nothing
 insert-same : (t : Tree) (p : Path) (r : Rec) → get t p ≡ Some r → insert t p r ≡ t
@@ -107,11 +110,11 @@ module _ (h k : Heap) (root : ℕ) (keys : Branch Node) (ring spare : List ℕ) 
 
 -- ---- keys may be made in them
 
-module _ (old mid : List ℕ) (parent : TreeNode) (t : IsHere old parent.offset) (names : List (List ℕ)) (more left spare : List ℕ)
-    (s : IsSpared old mid parent.offset names more left spare)
+module _ (old mid : List ℕ) (parent : TreeNode) (t : IsHere old parent.offset) (names : List (List ℕ)) (place : Place) (more left spare : List ℕ)
+    (s : IsSpared old mid parent.offset place names more left spare)
     (missing : (name : List ℕ) (others : List (List ℕ)) → names ≡ name ∷ others → subkey_named (cell_at old) (folded name) parent.offset ≡ None)
     (deep : length t.path + length names ≤ PATH_LIMIT)
-    (few : (r : KeyRecord) → key_at (cell_at old) parent.offset ≡ Some r → r.fields.subkeys < LEAF_LIMIT) where
+    (few : (r : KeyRecord) → key_at (cell_at old) parent.offset ≡ Some r → r.fields.subkeys < SUBKEYS_LIMIT) where
   abbrev h : Heap
   h = cell_at old
 
@@ -161,29 +164,6 @@ module _ (old mid : List ℕ) (parent : TreeNode) (t : IsHere old parent.offset)
       none-of None e = refl
       none-of (Some d) e = absurd (none-some _ (sym e ∙ offset-none k d))
 
-  list-same : (count list : ℕ) → count ≡ (branch old P t).node.key.fields.subkeys → list ≡ (branch old P t).node.key.fields.subkeys_list → insert_size k count list ≡ insert_size h count list
-  unfolding insert_size
-  list-same zero list a b = refl
-  list-same (suc count) list a b =
-      let n = (branch old P t).node in
-      let i = owned-index list n.index in
-      let leaf = index-leaf h n.key.fields.subkeys n.key.fields.subkeys_list (entries_of n.index) n.index (own_subkeys old P t) (looked old P t).index_is (omega (arith, a)) in
-      let one : times list (cells_of_index n.index) ≡ 1 = ap (times list) leaf ∙ (ap (λ o. times list (o ∷ [])) (sym b) ∙ times-one list) in
-      let own_list = here.own_once old P t list in
-      let there = tally-index list n in
-      ap (λ (bytes : List ℕ). cond (nat_le (4 + 8 * suc (suc count)) (length bytes)) None (Some (8 + 8 * suc (suc count)))) (same-held h k list (still list (omega (arith, i, one, own_list, there))))
-    where
-      tally-index : (z : ℕ) (n : Node) → owned z (cells_of n) ≡ owned z n.cells + owned z (index_cells n.index)
-      tally-index z n = tally-append (is_own z) n.cells (index_cells n.index)
-
-  pub planned-then : planned k P ≡ planned h P
-  planned-then =
-      let n = (branch old P t).node in
-      let here : key_at h P ≡ Some n.key = key_is old P t in
-      ap (option_and_then (λ (r : KeyRecord). insert_size k r.fields.subkeys r.fields.subkeys_list)) (key-then ∙ here)
-      ∙ (list-same n.key.fields.subkeys n.key.fields.subkeys_list refl refl
-      ∙ sym (ap (option_and_then (λ (r : KeyRecord). insert_size h r.fields.subkeys r.fields.subkeys_list)) here))
-
   -- its subkeys and their names are what they were, and so a name belongs where it did
   abbrev its : Node
   its = (branch old P t).node
@@ -207,17 +187,53 @@ module _ (old mid : List ℕ) (parent : TreeNode) (t : IsHere old parent.offset)
   list-then : AreSubkeys k its.key.fields.subkeys its.key.fields.subkeys_list entries
   list-then = subkeys-elsewhere h k its.key.fields.subkeys its.key.fields.subkeys_list entries (own_subkeys old P t) list-still keys-still
 
-  pub belongs-then : (name : List ℕ) (index : ℕ) → BelongsAt h P name index → BelongsAt k P name index
-  belongs-then name index place r reads es s =
-      let same : its.key ≡ r = same_Some _ _ (sym (key_is old P t) ∙ (sym key-then ∙ reads)) in
-      let list : AreSubkeys k its.key.fields.subkeys its.key.fields.subkeys_list es =
-      subst (λ (r : KeyRecord). AreSubkeys k r.fields.subkeys r.fields.subkeys_list es) (sym same) s in
-      let read = same-entries k its.key.fields.subkeys its.key.fields.subkeys_list entries es list-then list in
-      subst (λ es. IsIndexFor (names_in k es) (folded name) (Err index)) read
-      (subst (λ names. IsIndexFor names (folded name) (Err index)) (sym (names-stay h k entries keys-still)) (place its.key (key_is old P t) entries (own_subkeys old P t)))
+  -- so are the cells that one more takes, at a place where one may come
+  module _ (at : Place) (within : IsPlaceIn (index_of h its.key.fields.subkeys its.key.fields.subkeys_list) at) where
+    pub planned-then : planned k P at ≡ planned h P at
+    planned-then =
+        let here : key_at h P ≡ Some its.key = key_is old P t in
+        ap (planned_by k at) (key-then ∙ here)
+        ∙ (sizes-elsewhere h k its.key.fields.subkeys its.key.fields.subkeys_list entries (own_subkeys old P t) list-still at within
+        ∙ sym (ap (planned_by h at) here))
 
-  unfoldable pub may_grow_all : MayGrowAll mid parent names left spare
-  may_grow_all = record {
+  pub place-within : (at : Place) → BelongsFirst h P names at → (names ≡ [] → ⊥) → IsPlaceIn (index_of h its.key.fields.subkeys its.key.fields.subkeys_list) at
+  place-within at belongs some = by names refl
+    where
+      by : (ns : List (List ℕ)) → names ≡ ns → IsPlaceIn (index_of h its.key.fields.subkeys its.key.fields.subkeys_list) at
+      by [] e = absurd (some e)
+      by (name ∷ others) e = (belongs name others e its.key (key_is old P t)).0
+
+  abbrev Belongs : List ℕ → Place → KeyRecord → Type 0
+  Belongs name at r =
+      IsPlaceIn (index_of k r.fields.subkeys r.fields.subkeys_list) at
+      × ((entries : List Entry) → AreSubkeys k r.fields.subkeys r.fields.subkeys_list entries →
+      IsIndexFor (names_in k entries) (folded name) (Err (flat k r.fields.subkeys r.fields.subkeys_list at)))
+
+  belongs-its : (name : List ℕ) (at : Place) → BelongsAt h P name at → Belongs name at its.key
+  belongs-its name at belongs =
+      let was = belongs its.key (key_is old P t) in (
+        place-elsewhere h k its.key.fields.subkeys its.key.fields.subkeys_list entries (own_subkeys old P t) list-still at was.0,
+        λ es s. (let read = same-entries k its.key.fields.subkeys its.key.fields.subkeys_list entries es list-then s in
+            subst (λ es. IsIndexFor (names_in k es) (folded name) (Err (flat k its.key.fields.subkeys its.key.fields.subkeys_list at))) read
+            (subst (λ names. IsIndexFor names (folded name) (Err (flat k its.key.fields.subkeys its.key.fields.subkeys_list at))) (sym (names-stay h k entries keys-still))
+            (subst (λ i. IsIndexFor (names_in h entries) (folded name) (Err i))
+            (sym (flat-elsewhere h k its.key.fields.subkeys its.key.fields.subkeys_list entries (own_subkeys old P t) list-still at))
+            (was.1 entries (own_subkeys old P t))))),
+      )
+
+  pub belongs-then : (name : List ℕ) (at : Place) → BelongsAt h P name at → BelongsAt k P name at
+  belongs-then name at belongs r reads =
+      subst (Belongs name at) (same_Some _ _ (sym (key_is old P t) ∙ (sym key-then ∙ reads))) (belongs-its name at belongs)
+
+  -- where no key is to be made, no cells are taken
+  pub ready-then : (ns : List (List ℕ)) → names ≡ ns → BelongsFirst h P names place → AreReady k left (planned h P place) (map own_sizes ns) spare →
+      AreReady k left (planned k P place) (map own_sizes ns) spare
+  ready-then [] e belongs ready = ready
+  ready-then (name ∷ others) e belongs ready =
+      subst (λ plan. AreReady k left plan (map own_sizes (name ∷ others)) spare) (sym (planned-then place (belongs name others e its.key (key_is old P t)).0)) ready
+
+  unfoldable pub may_grow_all : BelongsFirst h P names place → MayGrowAll mid parent names place left spare
+  may_grow_all belongs = record {
     growing = record {
       root = t.root;
       path = t.path;
@@ -225,11 +241,10 @@ module _ (old mid : List ℕ) (parent : TreeNode) (t : IsHere old parent.offset)
       ring = t.holds.ring;
       shape =
           shape-spared h k t.root keys t.holds.ring spare t.holds.shape s.come;
-      unrooted = t.holds.unrooted;
       at = at-then;
     };
     missing = missing-then;
     deep = deep;
     few = λ r e. few r (sym key-then ∙ e);
-    ready = subst (λ o. AreReady k left o (map own_sizes names) spare) (sym planned-then) s.ready;
+    ready = ready-then names refl belongs s.ready;
   }

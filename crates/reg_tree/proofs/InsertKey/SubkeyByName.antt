@@ -22,7 +22,7 @@ use Rattle.reg_shape.proofs.Refinement.RefinementAfterEdit.{same_name, name-is, 
 use Rattle.reg_shape.proofs.Refinement.RefinementAtPath.{name-written}
 use Rattle.reg_shape.proofs.Lookup.LookupOfShape.{key-looked}
 use Rattle.reg_index.specs.Subkeys.{name_at, name_or_none, names_in, IsIndexFor, Rises}
-use Rattle.reg_index.proofs.RefinementOfSubkeys.{length-names}
+use Rattle.reg_index.proofs.NameSearch.{length-names}
 
 abbrev pub no_entry : Entry
 no_entry = record { offset = 0; hint = 0 }

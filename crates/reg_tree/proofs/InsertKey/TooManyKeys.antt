@@ -2,7 +2,7 @@
 use Rattle.std.proofs.Common.{◌≡◌, ◌⊎◌, inl, inr, ◌↔◌, ℕ, ◌+◌, ◌≤◌, ◌<◌, true, nat_le, List, length, sym, ◌∙◌, arith}
 use Rattle.std.proofs.lemmas.Bool.Decides.{nat_tests}
 use Rattle.reg_names.specs.declared.TheConstants.{PATH_LIMIT}
-use Rattle.reg_heap.specs.declared.limits.TheConstants.{LEAF_LIMIT, MADE_LIMIT}
+use Rattle.reg_heap.specs.declared.limits.TheConstants.{SUBKEYS_LIMIT, MADE_LIMIT}
 use Rattle.reg_heap.specs.Paths.{children_of}
 use Rattle.reg_arena.specs.Cells.{cell_at}
 use Rattle.reg_tree.specs.Internal.KeyNodeChanges.{HasSubkeysList}
@@ -30,6 +30,6 @@ third limit most deep names depth children count few shallow told = (
 -- neither the names nor the path they make are too many
 pub many-below : (bytes : List ℕ) (key : ℕ) (count list : ℕ) → HasSubkeysList (cell_at bytes) key count list → (number_of : ℕ) → number_of ≡ count →
     (names depth : ℕ) → names ≤ MADE_LIMIT → depth + names ≤ PATH_LIMIT → (t : IsHere bytes key)
-    → (nat_le LEAF_LIMIT number_of ≡ true) ↔ ((MADE_LIMIT < names) ⊎ ((PATH_LIMIT < depth + names) ⊎ (LEAF_LIMIT ≤ length (children_of (tree_in bytes t.root) t.path))))
-many-below bytes key count list has number_of is names depth few shallow t = third LEAF_LIMIT MADE_LIMIT PATH_LIMIT names depth _ number_of few shallow
+    → (nat_le SUBKEYS_LIMIT number_of ≡ true) ↔ ((MADE_LIMIT < names) ⊎ ((PATH_LIMIT < depth + names) ⊎ (SUBKEYS_LIMIT ≤ length (children_of (tree_in bytes t.root) t.path))))
+many-below bytes key count list has number_of is names depth few shallow t = third SUBKEYS_LIMIT MADE_LIMIT PATH_LIMIT names depth _ number_of few shallow
     (subkeys-told bytes key t count list has ∙ sym is)

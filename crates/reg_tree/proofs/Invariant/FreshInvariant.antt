@@ -20,7 +20,6 @@ fresh_holds bytes root name descriptor moment m =
       shape = whole-shape (cell_at bytes) root _ (m.root_is.key.fields.security ∷ [])
           (fresh-shape (cell_at bytes) root m.root_is);
       finds = m.finds;
-      unrooted = refl;
     }
 
 pub fresh_tree : (bytes : List ℕ) (root : ℕ) {table : DescriptorCells} (name descriptor : List ℕ) (moment : ℕ) → IsMade (cell_at bytes) root table name descriptor moment →

@@ -19,7 +19,6 @@ use Rattle.reg_shape.proofs.Wholeness.ShapeRecords.{shares-own}
 use Rattle.reg_shape.proofs.Graft.Branches.{branch-stands, branch-total, branch-depth}
 use Rattle.reg_shape.proofs.Lookup.LookupOfShape.{placed, key-looked}
 use Rattle.reg_shape.proofs.Refinement.RefinementAtPath.{told}
-use Rattle.reg_tree.specs.Internal.TreeInvariant.{rooted}
 
 -- the branch whose key stands at an offset
 branch_of : (o : Option (Branch Node)) (key : ℕ) → option_map (λ (b : Branch Node). b.offset) o ≡ Some key → (b : Branch Node) × (o ≡ Some b) × (b.offset ≡ key)
@@ -79,9 +78,6 @@ module _ (h : Heap) (root : ℕ) (keys : Branch Node) (ring spare : List ℕ) (w
         let own = shares-own h root branch.offset branch.node seen.reads in
         let all = branch-total (shares s) branch p keys branch_is in
         (w.ringed s).0 (omega (arith, own, all))
-
-    pub unrooted_here : total_of rooted keys ≡ 0 → rooted branch.offset branch.node ≡ 0
-    unrooted_here u = let l = branch-total rooted branch p keys branch_is in omega (arith, l, u)
 
     -- what the tree has at its path
     pub rec_there : get (tree_of h keys) p ≡ Some (rec_of branch.node (descriptor_in h branch.node.key.fields.security))

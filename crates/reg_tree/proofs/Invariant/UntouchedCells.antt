@@ -6,15 +6,13 @@ use Rattle.reg_heap.specs.Heaps.{Heap, allocated}
 use Rattle.reg_heap.specs.Kinds.{Found, times, owned}
 use Rattle.reg_shape.specs.Internal.Forests.{Forest, heads, total, Stand}
 use Rattle.reg_shape.specs.Internal.Forests.Forest.{End, Rooted as Hangs}
-use Rattle.reg_shape.specs.Nodes.{Node, Index, look}
-use Rattle.reg_shape.specs.Nodes.Index.{Unlisted, Listed, Rooted}
+use Rattle.reg_shape.specs.Nodes.{Node, look}
 use Rattle.reg_shape.specs.Written.{Fits}
 use Rattle.reg_shape.specs.Internal.Shapes.{index_cells, cells_of, owns, IsSeen}
 use Rattle.reg_shape.proofs.Walking.WalkRefinement.{look-open}
 use Rattle.reg_shape.proofs.Wholeness.FewerNumbers.{same-number}
 use Rattle.reg_shape.proofs.Wholeness.ShapeRecords.{at-most-one, allocated-is}
-use Rattle.reg_index.specs.Subkeys.{IsSingle, Moves}
-use Rattle.reg_tree.specs.Internal.TreeInvariant.{is_rooted}
+use Rattle.reg_index.specs.Subkeys.{Moves}
 use Rattle.reg_tree.proofs.Invariant.OwnCells.{own-parts, key-here}
 
 -- a number stands once in a list of itself, and in a list of another it doesn't stand
@@ -65,13 +63,3 @@ all-heads h root Q (Hangs offset node below beside) a q = (
 pub all-of : {A B : Type 0} (f : A → B) (P : B → Type 0) (xs : List A) → AllByRecursion (λ x. P (f x)) xs → AllByRecursion P (map f xs)
 all-of f P [] a = tt
 all-of f P (x ∷ xs) a = (a.0, all-of f P xs a.1)
-
-pub rooted-none : (index : Index) → IsSingle index → is_rooted index ≡ 0
-rooted-none Unlisted s = refl
-rooted-none (Listed list) s = refl
-rooted-none (Rooted offset lists) s = absurd s
-
-pub single-of : (index : Index) → is_rooted index ≡ 0 → IsSingle index
-single-of Unlisted e = tt
-single-of (Listed list) e = tt
-single-of (Rooted offset lists) e = absurd (omega (arith, e))

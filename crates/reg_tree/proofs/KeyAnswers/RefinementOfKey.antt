@@ -27,7 +27,7 @@ use Rattle.reg_shape.proofs.Refinement.RefinementOfChildren.{children-told}
 use Rattle.reg_shape.proofs.Refinement.RefinementAtPath.{name-written}
 use Rattle.reg_shape.proofs.Lookup.LookupOfShape.{offset-none, offset-more, offset-append}
 use Rattle.reg_index.specs.Subkeys.{AreSubkeys, names_in}
-use Rattle.reg_index.proofs.RefinementOfSubkeys.{length-names}
+use Rattle.reg_index.proofs.NameSearch.{length-names}
 use Rattle.reg_tree.specs.declared.node.Node.{Node as TreeNode}
 use Rattle.reg_tree.specs.TreeKeys.{tree_in}
 use Rattle.reg_tree.specs.Internal.TreeInvariant.{IsHere}

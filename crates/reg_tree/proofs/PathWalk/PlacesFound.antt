@@ -1,5 +1,5 @@
 -- Where a key stands among its parent's subkeys, and where a name belongs.
-use Rattle.std.proofs.Common.{◌≡◌, ℕ, Some, List, [], ◌∷◌, ◌++◌, get_or, sym, ◌∙◌, subst, arith}
+use Rattle.std.proofs.Common.{◌≡◌, ℕ, Some, List, [], ◌∷◌, ◌++◌, get_or, sym, ap, ◌∙◌, subst, arith}
 use Rattle.std.specs.Prelude.{Ok, Err}
 use Rattle.reg_names.specs.Names.{folded}
 use Rattle.reg_heap.specs.Heaps.{Heap}
@@ -9,7 +9,8 @@ use Rattle.reg_shape.specs.Internal.Forests.{Branch}
 use Rattle.reg_shape.specs.Internal.Grafts.{branch_in}
 use Rattle.reg_shape.specs.Nodes.{Node, entries_of}
 use Rattle.reg_shape.proofs.Graft.Branches.{branch-append}
-use Rattle.reg_index.specs.Subkeys.{AreSubkeys, IsIndexFor, names_in}
+use Rattle.reg_index.specs.declared.Place.{Place}
+use Rattle.reg_index.specs.Subkeys.{AreSubkeys, IsIndexFor, IsPlaceIn, StandsIn, flat, index_of, names_in}
 use Rattle.reg_tree.specs.Internal.TreeInvariant.{IsHere}
 use Rattle.reg_tree.specs.Internal.KeyNodeChanges.{HasSubkeysList}
 use Rattle.reg_tree.specs.Internal.KeyDeletion.{IsListed}
@@ -18,14 +19,20 @@ use Rattle.reg_tree.proofs.Invariant.KeyOfTree.{branch, branch_is, offset, stand
 use Rattle.reg_tree.proofs.DeleteKey.DeletedKeyPosition.{parent-is}
 use Rattle.reg_tree.proofs.InsertKey.SubkeyByName.{no_entry}
 use Rattle.reg_tree.proofs.PathWalk.PathSteps.{offset-then}
-use Rattle.reg_tree.proofs.PathWalk.SubkeysFound.{single, own_subkeys, subkeys, index_within, child_found}
+use Rattle.reg_tree.proofs.PathWalk.SubkeysFound.{own_subkeys, subkeys, index_within, child_found}
 
 -- a name that isn't found belongs where the search says
-pub belongs_at : (h : Heap) (key count list : ℕ) → HasSubkeysList h key count list → (name : List ℕ) (index : ℕ) →
-    ((entries : List Entry) → AreSubkeys h count list entries → IsIndexFor (names_in h entries) (folded name) (Err index)) → BelongsAt h key name index
-belongs_at h key count list has name index find record_is reads entries s =
+pub belongs_at : (h : Heap) (key count list : ℕ) → HasSubkeysList h key count list → (name : List ℕ) (place : Place) →
+    ((entries : List Entry) → AreSubkeys h count list entries → IsIndexFor (names_in h entries) (folded name) (Err (flat h count list place))) →
+    IsPlaceIn (index_of h count list) place → BelongsAt h key name place
+belongs_at h key count list has name place find within record_is reads =
     let same = has record_is reads in
-    find entries (subst (λ n. AreSubkeys h n list entries) (sym same.0) (subst (λ o. AreSubkeys h record_is.fields.subkeys o entries) (sym same.1) s))
+    subst (λ n. IsPlaceIn (index_of h n record_is.fields.subkeys_list) place
+    × ((entries : List Entry) → AreSubkeys h n record_is.fields.subkeys_list entries →
+    IsIndexFor (names_in h entries) (folded name) (Err (flat h n record_is.fields.subkeys_list place)))) same.0
+    (subst (λ o. IsPlaceIn (index_of h count o) place
+    × ((entries : List Entry) → AreSubkeys h count o entries → IsIndexFor (names_in h entries) (folded name) (Err (flat h count o place)))) same.1
+    (within, find))
 
 module _ (bytes : List ℕ) (key : ℕ) (t : IsHere bytes key) (count list : ℕ) (has : HasSubkeysList (cell_at bytes) key count list) where
   abbrev h : Heap
@@ -37,9 +44,13 @@ module _ (bytes : List ℕ) (key : ℕ) (t : IsHere bytes key) (count list : ℕ
   abbrev entries : List Entry
   entries = entries_of was.node.index
 
-  module _ (name : List ℕ) (index child : ℕ)
-      (find : (entries : List Entry) → AreSubkeys h count list entries → IsIndexFor (names_in h entries) (folded name) (Ok index))
-      (at : (entries : List Entry) → AreSubkeys h count list entries → (get_or entries index no_entry).offset ≡ child) where
+  module _ (name : List ℕ) (place : Place) (child : ℕ)
+      (find : (entries : List Entry) → AreSubkeys h count list entries → IsIndexFor (names_in h entries) (folded name) (Ok (flat h count list place)))
+      (stood : StandsIn (index_of h count list) place)
+      (at : (entries : List Entry) → AreSubkeys h count list entries → (get_or entries (flat h count list place) no_entry).offset ≡ child) where
+    abbrev index : ℕ
+    index = flat h count list place
+
     -- the key found is the tree's
     abbrev below : IsHere bytes child
     below = record {
@@ -57,7 +68,7 @@ module _ (bytes : List ℕ) (key : ℕ) (t : IsHere bytes key) (count list : ℕ
     found = sym (branch-append was (folded name ∷ []) t.path t.holds.keys (branch_is bytes key t)) ∙ branch_is bytes child below
 
     parent : b.node.key.fields.parent ≡ key
-    parent = parent-is h t.root was (stands bytes key t) (single bytes key t) (folded name) b found ∙ offset bytes key t
+    parent = parent-is h t.root was (stands bytes key t) (folded name) b found ∙ offset bytes key t
 
     listed : IsListed h key child was.node.key entries index
     listed = record {
@@ -67,12 +78,21 @@ module _ (bytes : List ℕ) (key : ℕ) (t : IsHere bytes key) (count list : ℕ
       offset = at entries (subkeys bytes key t count list has);
     }
 
+    is-list : (count ≡ was.node.key.fields.subkeys) × (list ≡ was.node.key.fields.subkeys_list)
+    is-list = has was.node.key (key_is bytes key t)
+
+    same-flat : flat h count list place ≡ flat h was.node.key.fields.subkeys was.node.key.fields.subkeys_list place
+    same-flat = ap (λ n. flat h n list place) is-list.0 ∙ ap (λ o. flat h was.node.key.fields.subkeys o place) is-list.1
+
     -- it stands where the search says
-    pub stands_at : StandsAt h child index
+    pub stands_at : StandsAt h child place
     stands_at = record {
       record_is = b.node.key;
       above = was.node.key;
       entries = entries;
       reads = key_is bytes child below;
-      listed = subst (λ o. IsListed h o child was.node.key entries index) (sym parent) listed;
+      listed = subst (λ o. IsListed h o child was.node.key entries (flat h was.node.key.fields.subkeys was.node.key.fields.subkeys_list place)) (sym parent)
+          (subst (IsListed h key child was.node.key entries) same-flat listed);
+      stands = subst (λ n. StandsIn (index_of h n was.node.key.fields.subkeys_list) place) is-list.0
+          (subst (λ o. StandsIn (index_of h count o) place) is-list.1 stood);
     }

@@ -24,7 +24,7 @@ named (b ∷ bs) some e = let l = length-slice_split is_backslash (b ∷ bs) in 
 
 module _ (bins : Bins) (root : ℕ) {table : DescriptorCells} (holds : TreeInvariant bins.bytes root table) (now : Keys) (view_is : seen_as bins root ≡ now)
     (from : Node) (path : List ℕ) (reached : Reached) (r : Reaches (heap_of bins) from path reached.node reached.missing.now) where
-  pub reached_seen : is_path path ≡ true → IsPlace (heap_of bins) path reached.node.offset reached.missing.now reached.index → IsWalkedTo now from path reached
+  pub reached_seen : is_path path ≡ true → IsPlace (heap_of bins) path reached.node.offset reached.missing.now reached.place → IsWalkedTo now from path reached
   reached_seen valid place = subst (λ k. IsWalkedTo k from path reached) view_is (record { valid = valid; reaches = r; place = place })
 
   -- the names left are those that are missing

@@ -7,14 +7,12 @@ use Rattle.reg_arena.specs.Cells.{cell_at}
 use Rattle.reg_records.specs.SubkeyLists.{Entry}
 use Rattle.reg_shape.specs.Nodes.{Node, entries_of}
 use Rattle.reg_shape.specs.PathLookup.{subkey_named}
-use Rattle.reg_index.specs.Subkeys.{IsSingle, AreSubkeys, IsIndexFor, names_in}
-use Rattle.reg_index.proofs.RefinementOfSubkeys.{length-names}
+use Rattle.reg_index.specs.Subkeys.{AreSubkeys, IsIndexFor, names_in}
+use Rattle.reg_index.proofs.NameSearch.{length-names}
 use Rattle.reg_tree.specs.Internal.TreeInvariant.{IsHere}
 use Rattle.reg_tree.specs.Internal.KeyNodeChanges.{HasSubkeysList}
-use Rattle.reg_tree.proofs.Invariant.KeyOfShape as keyed
 use Rattle.reg_tree.proofs.Invariant.KeyOfTree.{branch, stands, offset, key_is}
 use Rattle.reg_tree.proofs.InsertKey.ParentReindexed.{branch-subkeys}
-use Rattle.reg_tree.proofs.Invariant.UntouchedCells.{single-of}
 use Rattle.reg_tree.proofs.InsertKey.SubkeyByName.{no_entry, named-ok, named-err}
 
 module _ (bytes : List ℕ) (key : ℕ) (t : IsHere bytes key) where
@@ -24,11 +22,8 @@ module _ (bytes : List ℕ) (key : ℕ) (t : IsHere bytes key) where
   abbrev node : Node
   node = (branch bytes key t).node
 
-  pub single : IsSingle node.index
-  single = single-of node.index (keyed.unrooted_here h t.root t.holds.keys t.holds.ring [] t.holds.shape t.path key t.at t.holds.unrooted)
-
   pub own_subkeys : AreSubkeys h node.key.fields.subkeys node.key.fields.subkeys_list (entries_of node.index)
-  own_subkeys = branch-subkeys h t.root (branch bytes key t) (stands bytes key t) single
+  own_subkeys = branch-subkeys h t.root (branch bytes key t) (stands bytes key t)
 
   module _ (count list : ℕ) (has : HasSubkeysList h key count list) where
     is-list : (count ≡ node.key.fields.subkeys) × (list ≡ node.key.fields.subkeys_list)

@@ -1,5 +1,5 @@
 -- The place of a key among its parent's subkeys is that of its path among the paths right below its parent's.
-use Rattle.std.proofs.Common.{◌≡◌, ℕ, ◌-◌, ◌<◌, Some, List, [], ◌∷◌, ◌++◌, length, get_or, refl, sym, ap, ◌∙◌, subst, arith}
+use Rattle.std.proofs.Common.{◌≡◌, ℕ, ◌<◌, Some, List, [], ◌∷◌, ◌++◌, length, get_or, refl, sym, ap, ◌∙◌, subst, arith}
 use Rattle.std.proofs.lemmas.List.{get_or-map, length-map}
 use Rattle.std.proofs.lemmas.Option.{same_Some}
 use Rattle.reg_heap.specs.Paths.{Path, Tree, children_of}
@@ -10,22 +10,28 @@ use Rattle.reg_records.specs.KeyNodes.{KeyRecord, key_at}
 use Rattle.reg_records.specs.SubkeyLists.{Entry}
 use Rattle.reg_shape.specs.Internal.Forests.{Branch}
 use Rattle.reg_shape.specs.Internal.Grafts.{branch_in}
-use Rattle.reg_shape.specs.Nodes.{Node, entries_of}
+use Rattle.reg_shape.specs.Nodes.{Node, Index, entries_of, lists_of}
+use Rattle.reg_shape.specs.Nodes.Index.{Unlisted, Listed, Rooted}
 use Rattle.reg_shape.specs.PathLookup.{key_offset_at}
 use Rattle.reg_shape.proofs.Graft.Branches.{branch-append}
-use Rattle.reg_index.specs.Subkeys.{AreSubkeys}
+use Rattle.reg_shape.specs.Written.{IsWrittenIndex}
+use Rattle.reg_index.specs.declared.Place.{Place}
+use Rattle.reg_index.specs.Subkeys.{AreSubkeys, StandsIn, flat, flat_in, index_of}
+use Rattle.reg_index.proofs.SubkeysOpening.{index-is, same-subkeys}
 use Rattle.reg_security.specs.Rings.{DescriptorCells}
 use Rattle.reg_tree.specs.TreeKeys.{tree_in}
 use Rattle.reg_tree.specs.Internal.TreeInvariant.{TreeInvariant, IsHere}
 use Rattle.reg_tree.specs.Internal.KeyNodeChanges.{HasSubkeysList}
 use Rattle.reg_tree.specs.Internal.KeyDeletion.{IsListed}
-use Rattle.reg_tree.specs.Internal.ReachedPlaces.{StandsAt}
-use Rattle.reg_tree.specs.Internal.TreeDeletion.{IsLastSubkey}
+use Rattle.reg_tree.specs.CellSizes.{first_place}
+use Rattle.reg_tree.specs.Internal.ReachedPlaces.{StandsAt, IsPlaceOf, index_by, place_index}
+use Rattle.reg_tree.specs.Internal.TreeDeletion.{IsFirstSubkey}
 use Rattle.reg_tree.proofs.DeleteKey.DeletedKeyPosition.{parent-is}
 use Rattle.reg_tree.proofs.InsertKey.SubkeyByName.{no_entry}
 use Rattle.reg_tree.proofs.Invariant.KeyOfTree.{branch, branch_is, offset, stands, key_is}
 use Rattle.reg_tree.proofs.KeyAnswers.RefinementOfKey.{number_told, subkey_told}
-use Rattle.reg_tree.proofs.PathWalk.SubkeysFound.{single, own_subkeys}
+use Rattle.reg_tree.proofs.PathWalk.IndexPlaces.{place_for}
+use Rattle.reg_tree.proofs.PathWalk.SubkeysFound.{own_subkeys, subkeys}
 use Rattle.reg_tree.proofs.PruneTree.PlaceAbove.{one_path}
 
 -- ---- the paths right below one
@@ -40,6 +46,32 @@ child-named t p i l =
 none-there : (paths : List Path) → 0 ≡ length paths → paths ≡ []
 none-there [] e = refl
 none-there (p ∷ paths) e = absurd (omega (arith, e))
+
+-- ---- places among a key's subkeys
+
+-- a place of one, and the index that it is among all
+pub record IsPlaceFor (heap : Heap) (count list index : ℕ) (place : Place) : Type 0 where
+  pub stands : StandsIn (index_of heap count list) place
+  pub flat_is : flat heap count list place ≡ index
+
+-- by other names of their number and list
+same-for : (heap : Heap) (count list count' list' index : ℕ) (place : Place) → count ≡ count' → list ≡ list' → IsPlaceFor heap count list index place →
+    IsPlaceFor heap count' list' index place
+same-for heap count list count' list' index place e f p = subst (λ n. IsPlaceFor heap n list' index place) e (subst (λ o. IsPlaceFor heap count o index place) f p)
+
+-- the first is one where there are any
+first-in : (index : Index) → IsWrittenIndex index → 0 < length (entries_of index) → StandsIn index first_place
+first-in Unlisted w l = absurd (omega (arith, l))
+first-in (Listed list) w l = (omega arith, (let s = w.some in omega (arith, s)))
+first-in (Rooted offset []) w l = absurd (let n = w.0 in omega (arith, n))
+first-in (Rooted offset (list ∷ lists)) w l = (omega arith, (let s = w.1.0.some in omega (arith, s)))
+
+pub first-for : (heap : Heap) (count list : ℕ) (entries : List Entry) → AreSubkeys heap count list entries → (count ≡ 0 → ⊥) → IsPlaceFor heap count list 0 first_place
+first-for heap count list entries s some = record {
+  stands = subst (λ i. StandsIn i first_place) (sym (index-is heap count list s.index s.read))
+      (first-in s.index s.written (let n = s.number in let e = ap length s.entries_are in omega (arith, some, n, e)));
+  flat_is = refl;
+}
 
 -- ---- a key and those right below it
 
@@ -69,7 +101,7 @@ module _ (bytes : List ℕ) (key : ℕ) (t : IsHere bytes key) where
   )
 
   entries-same : (es : List Entry) → AreSubkeys h count list es → es ≡ entries
-  entries-same es s = sym s.entries_are ∙ (ap entries_of (same_Some _ _ (sym s.read ∙ (own_subkeys bytes key t).read)) ∙ (own_subkeys bytes key t).entries_are)
+  entries-same es s = same-subkeys h count list es entries s (own_subkeys bytes key t)
 
   many : length entries ≡ length paths
   many = (own_subkeys bytes key t).number ∙ number_told bytes key t count list own
@@ -80,9 +112,21 @@ module _ (bytes : List ℕ) (key : ℕ) (t : IsHere bytes key) where
       (subkey_told bytes key t count list own (record { offset = key; depth = 0 }) i _ (let n = number_told bytes key t count list own in omega (arith, n, l))
       (λ es s. ap (λ es. (get_or es i no_entry).offset) (entries-same es s))).1
 
+  -- each index has a place
+  pub index-place : (i : ℕ) → i < length paths → (place : Place) × IsPlaceFor h count list i place
+  index-place i l =
+      let s = own_subkeys bytes key t in
+      let n = ap length s.entries_are in
+      let m = many in
+      let r = place_for (lists_of s.index) i (omega (arith, n, m, l)) in
+      let e = index-is h count list s.index s.read in (
+        r.place,
+        record { stands = subst (λ i. StandsIn i r.place) (sym e) (r.list, r.within); flat_is = ap (λ i. flat_in i r.place) e ∙ r.flat },
+      )
+
   module _ (count list : ℕ) (has : HasSubkeysList h key count list) where
-    pub last-none : count ≡ 0 → paths ≡ []
-    last-none e = none-there paths (sym e ∙ number_told bytes key t count list has)
+    pub first-none : count ≡ 0 → paths ≡ []
+    first-none e = none-there paths (sym e ∙ number_told bytes key t count list has)
 
 -- ---- a key right below another
 
@@ -107,13 +151,19 @@ module _ (bytes : List ℕ) (root : ℕ) {table : DescriptorCells} (holds : Tree
   found = sym (branch-append was (x ∷ []) q holds.keys (branch_is bytes parent above)) ∙ branch_is bytes key here
 
   parent-named : is.node.key.fields.parent ≡ parent
-  parent-named = parent-is heap root was (stands bytes parent above) (single bytes parent above) x is found ∙ offset bytes parent above
+  parent-named = parent-is heap root was (stands bytes parent above) x is found ∙ offset bytes parent above
 
   abbrev siblings : List Path
   siblings = children_of (tree_in bytes root) q
 
-  pub stands_there : (i : ℕ) → i < length siblings → get_or siblings i [] ≡ q ++ x ∷ [] → StandsAt heap key i
-  stands_there i l e =
+  abbrev number : ℕ
+  number = was.node.key.fields.subkeys
+
+  abbrev offset-list : ℕ
+  offset-list = was.node.key.fields.subkeys_list
+
+  pub stands_there : (i : ℕ) (place : Place) → IsPlaceFor heap number offset-list i place → i < length siblings → get_or siblings i [] ≡ q ++ x ∷ [] → StandsAt heap key place
+  stands_there i place p l e =
       let listed : IsListed heap parent key was.node.key (entries bytes parent above) i = record {
         reads = key_is bytes parent above;
         subkeys = own_subkeys bytes parent above;
@@ -125,43 +175,67 @@ module _ (bytes : List ℕ) (root : ℕ) {table : DescriptorCells} (holds : Tree
         above = was.node.key;
         entries = entries bytes parent above;
         reads = key_is bytes key here;
-        listed = subst (λ o. IsListed heap o key was.node.key (entries bytes parent above) i) (sym parent-named) listed;
+        listed = subst (λ o. IsListed heap o key was.node.key (entries bytes parent above) (flat heap number offset-list place)) (sym parent-named)
+            (subst (IsListed heap parent key was.node.key (entries bytes parent above)) (sym p.flat_is) listed);
+        stands = p.stands;
       }
 
   -- a place at which it stands
-  module _ (i : ℕ) (r a : KeyRecord) (es : List Entry) (l : IsListed heap r.fields.parent key a es i) (same : r ≡ is.node.key) where
-    parent-is-it : r.fields.parent ≡ parent
+  module _ (place : Place) (s : StandsAt heap key place) where
+    same : s.record_is ≡ is.node.key
+    same = same_Some _ _ (sym s.reads ∙ key_is bytes key here)
+
+    parent-is-it : s.record_is.fields.parent ≡ parent
     parent-is-it = ap (λ (k : KeyRecord). k.fields.parent) same ∙ parent-named
 
-    above-is-it : a ≡ was.node.key
-    above-is-it = same_Some _ _ (sym l.reads ∙ (ap (key_at heap) parent-is-it ∙ key_is bytes parent above))
+    above-is-it : s.above ≡ was.node.key
+    above-is-it = same_Some _ _ (sym s.listed.reads ∙ (ap (key_at heap) parent-is-it ∙ key_is bytes parent above))
 
-    entries-are : es ≡ entries bytes parent above
-    entries-are = entries-same bytes parent above es (subst (λ (k : KeyRecord). AreSubkeys heap k.fields.subkeys k.fields.subkeys_list es) above-is-it l.subkeys)
+    abbrev i : ℕ
+    i = flat heap s.above.fields.subkeys s.above.fields.subkeys_list place
+
+    index-is-it : i ≡ place_index heap parent place
+    index-is-it = ap (λ (k : KeyRecord). flat heap k.fields.subkeys k.fields.subkeys_list place) above-is-it ∙ ap (index_by heap place) (sym (key_is bytes parent above))
+
+    entries-are : s.entries ≡ entries bytes parent above
+    entries-are =
+        entries-same bytes parent above s.entries
+        (subst (λ (k : KeyRecord). AreSubkeys heap k.fields.subkeys k.fields.subkeys_list s.entries) above-is-it s.listed.subkeys)
 
     within : i < length siblings
-    within = let n = ap length entries-are in let m = many bytes parent above in let w = l.within in omega (arith, n, m, w)
+    within = let n = ap length entries-are in let m = many bytes parent above in let w = s.listed.within in omega (arith, n, m, w)
 
     leads-here : key_offset_at heap root (get_or siblings i []) ≡ Some key
-    leads-here = leads bytes parent above i within ∙ ap Some (ap (λ es. (get_or es i no_entry).offset) (sym entries-are) ∙ l.offset)
+    leads-here = leads bytes parent above i within ∙ ap Some (ap (λ es. (get_or es i no_entry).offset) (sym entries-are) ∙ s.listed.offset)
 
-    place-is : (i < length siblings) × (get_or siblings i [] ≡ q ++ x ∷ [])
-    place-is = (within, one_path bytes key (record { root = root; table = table; path = get_or siblings i []; holds = holds; at = leads-here }) here)
+    pub place_there : (place_index heap parent place < length siblings) × (get_or siblings (place_index heap parent place) [] ≡ q ++ x ∷ [])
+    place_there = subst (λ i. (i < length siblings) × (get_or siblings i [] ≡ q ++ x ∷ [])) index-is-it
+        (within, one_path bytes key (record { root = root; table = table; path = get_or siblings i []; holds = holds; at = leads-here }) here)
 
-  pub place_there : (i : ℕ) → StandsAt heap key i → (i < length siblings) × (get_or siblings i [] ≡ q ++ x ∷ [])
-  place_there i s = place-is i s.record_is s.above s.entries s.listed (same_Some _ _ (sym s.reads ∙ key_is bytes key here))
+    pub place_of_parent : IsPlaceOf heap parent place
+    place_of_parent r reads =
+        let e = above-is-it ∙ same_Some _ _ (sym (key_is bytes parent above) ∙ reads) in
+        subst (λ (k : KeyRecord). StandsIn (index_of heap k.fields.subkeys k.fields.subkeys_list) place) e s.stands
 
--- ---- the last of a key's subkeys
+-- ---- the first of a key's subkeys
 
 module _ (bytes : List ℕ) (key : ℕ) (t : IsHere bytes key) (count list : ℕ) (has : HasSubkeysList (cell_at bytes) key count list) where
-  pub last-some : (child : ℕ) → (count ≡ 0 → ⊥) →
-      ((es : List Entry) → AreSubkeys (cell_at bytes) count list es → (get_or es (count - 1) no_entry).offset ≡ child) →
-      IsLastSubkey bytes t.root t.path (Some (record { offset = child; index = count - 1 }))
-  last-some child some at =
+  pub first-stands : (count ≡ 0 → ⊥) → StandsIn (index_of (cell_at bytes) count list) first_place
+  first-stands some = (first-for (cell_at bytes) count list _ (subkeys bytes key t count list has) some).stands
+
+  pub first-some : (child : ℕ) → (count ≡ 0 → ⊥) →
+      ((es : List Entry) → AreSubkeys (cell_at bytes) count list es → (get_or es (flat (cell_at bytes) count list first_place) no_entry).offset ≡ child) →
+      IsFirstSubkey bytes t.root t.path (Some (record { offset = child; place = first_place }))
+  first-some child some at =
       let n = number_told bytes key t count list has in
-      let l : count - 1 < count = omega (arith, some) in
-      let m : count - 1 < length (children_of (tree_in bytes t.root) t.path) = omega (arith, n, l) in
-      let s = subkey_told bytes key t count list has (record { offset = key; depth = 0 }) (count - 1) child l at in
-      let named = child-named (tree_in bytes t.root) t.path (count - 1) m in
+      let l : 0 < count = omega (arith, some) in
+      let m : 0 < length (children_of (tree_in bytes t.root) t.path) = omega (arith, n, l) in
+      let f = first-for (cell_at bytes) count list _ (subkeys bytes key t count list has) some in
+      let s = subkey_told bytes key t count list has (record { offset = key; depth = 0 }) 0 child l at in
+      let named = child-named (tree_in bytes t.root) t.path 0 m in
       let leads = ap (key_offset_at (cell_at bytes) t.root) (sym named.1) ∙ s.1 in
-      (named.0, leads, stands_there bytes t.root t.holds t.path named.0 key child t.at leads (count - 1) m named.1)
+      let h = has _ (key_is bytes key t) in (
+        named.0,
+        leads,
+        stands_there bytes t.root t.holds t.path named.0 key child t.at leads 0 first_place (same-for (cell_at bytes) count list _ _ 0 first_place h.0 h.1 f) m named.1,
+      )

@@ -18,7 +18,7 @@ use Rattle.reg_tree.specs.Internal.TreeInvariant.{TreeInvariant, IsHere}
 use Rattle.reg_tree.specs.Internal.KeyDeletion.{IsDeleted, IsLone}
 use Rattle.reg_tree.specs.Internal.KeyOrder.{HasTop, IsAbove}
 use Rattle.reg_tree.specs.Internal.LengthChanges.{LengthsStay}
-use Rattle.reg_tree.specs.Internal.TreeDeletion.{IsLastSubkey, IsBared}
+use Rattle.reg_tree.specs.Internal.TreeDeletion.{IsFirstSubkey, IsBared}
 use Rattle.reg_tree.proofs.DeleteKey.DeleteKeyFaults.{no_children}
 use Rattle.reg_tree.proofs.DeleteKey.KeyAbove.{no-names}
 use Rattle.reg_tree.proofs.Invariant.KeyOfTree.{get-some, shallow}
@@ -119,7 +119,7 @@ module _ (old : List ℕ) (key : ℕ) (t : IsHere old key) (moment : ℕ) where
 
     -- ---- it has no subkeys
 
-    module _ (none : IsLastSubkey new root (p ++ m.names) None) where
+    module _ (none : IsFirstSubkey new root (p ++ m.names) None) where
       pub all-bared : node.depth ≡ 0 → IsBared old new root table p moment
       all-bared e =
           let top : m.names ≡ [] = no-names m.names (sym m.depth ∙ e) in
@@ -161,46 +161,46 @@ module _ (old : List ℕ) (key : ℕ) (t : IsHere old key) (moment : ℕ) where
             fewer : {a c : ℕ} (q r : Path) → a ≡ steps_left now q → c ≡ steps_left now r → bareness now q ≡ 0 → bareness now r ≡ 2 → length r ≡ length q + 1 → length r ≤ PATH_LIMIT → a < c
             fewer q r s u b v n d = omega (arith, s, u, b, v, n, d)
 
-    -- ---- its last subkey
+    -- ---- its first subkey
 
-    module _ (last : PlacedKey) (is_last : IsLastSubkey new root (p ++ m.names) (Some last)) where
+    module _ (first : PlacedKey) (is_first : IsFirstSubkey new root (p ++ m.names) (Some first)) where
       abbrev x : List ℕ
-      x = is_last.0
+      x = is_first.0
 
-      abbrev names-last : Path
-      names-last = m.names ++ x ∷ []
+      abbrev names-first : Path
+      names-first = m.names ++ x ∷ []
 
-      pub at-last : key_offset_at (cell_at new) root (p ++ names-last) ≡ Some last.offset
-      at-last = ap (key_offset_at (cell_at new) root) (sym (append_assoc p m.names (x ∷ []))) ∙ is_last.1
+      pub at-first : key_offset_at (cell_at new) root (p ++ names-first) ≡ Some first.offset
+      at-first = ap (key_offset_at (cell_at new) root) (sym (append_assoc p m.names (x ∷ []))) ∙ is_first.1
 
-      abbrev pub last-here : IsHere new last.offset
-      last-here = record { root = root; table = table; path = p ++ names-last; holds = m.holds; at = at-last }
+      abbrev pub first-here : IsHere new first.offset
+      first-here = record { root = root; table = table; path = p ++ names-first; holds = m.holds; at = at-first }
 
-      longer : length (p ++ names-last) ≡ length (p ++ m.names) + 1
+      longer : length (p ++ names-first) ≡ length (p ++ m.names) + 1
       longer = ap length (sym (append_assoc p m.names (x ∷ []))) ∙ length-append (p ++ m.names) (x ∷ [])
 
-      last-deep : length (p ++ names-last) ≤ PATH_LIMIT
-      last-deep = let s = shallow new last.offset last-here in omega (arith, s)
+      first-deep : length (p ++ names-first) ≤ PATH_LIMIT
+      first-deep = let s = shallow new first.offset first-here in omega (arith, s)
 
-      pub low-last : node.depth + 1 ≤ PATH_LIMIT
-      low-last = let d = m.depth in let l = longer in let e = last-deep in let a = length-append p m.names in omega (arith, d, l, e, a)
+      pub low-first : node.depth + 1 ≤ PATH_LIMIT
+      low-first = let d = m.depth in let l = longer in let e = first-deep in let a = length-append p m.names in omega (arith, d, l, e, a)
 
-      pub prunes-down : Prunes old root p moment new table (record { offset = last.offset; depth = node.depth + 1 })
+      pub prunes-down : Prunes old root p moment new table (record { offset = first.offset; depth = node.depth + 1 })
       prunes-down = record {
         holds = m.holds;
         thins = m.thins;
         offsets = m.offsets;
         lengths = m.lengths;
-        names = names-last;
-        at = at-last;
+        names = names-first;
+        at = at-first;
         depth = (let d = m.depth in let l = length-append m.names (x ∷ []) in omega (arith, d, l));
       }
 
-      pub steps-down : (r : Bool) → r ≡ not (length (children_of now (p ++ names-last)) == 0) → r ≡ true → at_place new last.offset steps_left < at_place new node.offset steps_left
+      pub steps-down : (r : Bool) → r ≡ not (length (children_of now (p ++ names-first)) == 0) → r ≡ true → at_place new first.offset steps_left < at_place new node.offset steps_left
       unfolding steps_left
       steps-down r e f =
-          let s : at_place new last.offset steps_left ≡ steps_left now (p ++ names-last) = at_placed new last.offset steps_left last-here in
-          fewer (p ++ names-last) (p ++ m.names) s steps (not-bare now (p ++ names-last) (some (children_of now (p ++ names-last)) (sym e ∙ f))) longer last-deep
+          let s : at_place new first.offset steps_left ≡ steps_left now (p ++ names-first) = at_placed new first.offset steps_left first-here in
+          fewer (p ++ names-first) (p ++ m.names) s steps (not-bare now (p ++ names-first) (some (children_of now (p ++ names-first)) (sym e ∙ f))) longer first-deep
         where
           some : (paths : List Path) → not (length paths == 0) ≡ true → 0 < length paths
           some [] e = absurd (false≢true e)
@@ -209,31 +209,31 @@ module _ (old : List ℕ) (key : ℕ) (t : IsHere old key) (moment : ℕ) where
           fewer : {a c : ℕ} (q r : Path) → a ≡ steps_left now q → c ≡ steps_left now r → bareness now q ≡ 0 → length q ≡ length r + 1 → length q ≤ PATH_LIMIT → a < c
           fewer q r s u b n d = omega (arith, s, u, b, n, d)
 
-      module _ (r : Bool) (e : r ≡ not (length (children_of now (p ++ names-last)) == 0)) (f : r ≡ false) where
-        pub last-lone : IsLone new last.offset last-here
-        last-lone = ((λ z. let n = ap length z in let l = longer in omega (arith, n, l)), no_children new last.offset last-here r e f)
+      module _ (r : Bool) (e : r ≡ not (length (children_of now (p ++ names-first)) == 0)) (f : r ≡ false) where
+        pub first-lone : IsLone new first.offset first-here
+        first-lone = ((λ z. let n = ap length z in let l = longer in omega (arith, n, l)), no_children new first.offset first-here r e f)
 
-        module _ (after : List ℕ) (left : DescriptorCells) (d : IsDeleted new after root left (p ++ names-last) moment)
+        module _ (after : List ℕ) (left : DescriptorCells) (d : IsDeleted new after root left (p ++ names-first) moment)
             (stay : LengthsStay (cell_at new) (cell_at after) root) where
-          other : p ++ m.names ≢ p ++ names-last
+          other : p ++ m.names ≢ p ++ names-first
           other z = let n = ap length z in let l = longer in omega (arith, n, l)
 
-          last-under : is_under p (p ++ names-last) ≡ true
-          last-under = under m.names
+          first-under : is_under p (p ++ names-first) ≡ true
+          first-under = under m.names
             where
               under : (ns : Path) → is_under p (p ++ (ns ++ x ∷ [])) ≡ true
               under [] = under-is p (p ++ x ∷ []) x [] refl
               under (n ∷ ns) = under-is p (p ++ n ∷ (ns ++ x ∷ [])) n (ns ++ x ∷ []) refl
 
-          there-last : IsSome (get now (p ++ names-last))
-          there-last = get-some new root m.holds (p ++ names-last) last.offset at-last
+          there-first : IsSome (get now (p ++ names-first))
+          there-first = get-some new root m.holds (p ++ names-first) first.offset at-first
 
           pub prunes-more : Prunes old root p moment after left node
           prunes-more = record {
             holds = d.holds;
-            thins = subst (λ (now : Tree). Thins (tree_in old root) now p moment) (sym d.tree) (thins-more (tree_in old root) now p moment m.thins m.names x there-last);
-            offsets = λ q u. d.offsets q (λ z. false≢true (sym u ∙ (ap (is_under p) z ∙ last-under))) ∙ m.offsets q u;
-            lengths = lengths-then old new after root (p ++ names-last) moment d m.lengths stay;
+            thins = subst (λ (now : Tree). Thins (tree_in old root) now p moment) (sym d.tree) (thins-more (tree_in old root) now p moment m.thins m.names x there-first);
+            offsets = λ q u. d.offsets q (λ z. false≢true (sym u ∙ (ap (is_under p) z ∙ first-under))) ∙ m.offsets q u;
+            lengths = lengths-then old new after root (p ++ names-first) moment d m.lengths stay;
             names = m.names;
             at = d.offsets (p ++ m.names) other ∙ m.at;
             depth = m.depth;
@@ -247,7 +247,7 @@ module _ (old : List ℕ) (key : ℕ) (t : IsHere old key) (moment : ℕ) where
           steps-more =
               let s : at_place after node.offset steps_left ≡ steps_left (tree_in after root) (p ++ m.names) = at_placed after node.offset steps_left after-here in
               let k = ap (λ (t : Tree). len t) d.tree in
-              let g = fewer-keys now (p ++ names-last) moment (above-other (tree_in old root) now p moment m.thins m.names x there-last) there-last in
+              let g = fewer-keys now (p ++ names-first) moment (above-other (tree_in old root) now p moment m.thins m.names x there-first) there-first in
               fewer (p ++ m.names) s steps (bareness-most (tree_in after root) (p ++ m.names)) (omega (arith, k, g))
             where
               fewer : {a c : ℕ} (q : Path) → a ≡ steps_left (tree_in after root) q → c ≡ steps_left now q → bareness (tree_in after root) q ≤ 2 → len (tree_in after root) + 1 ≡ len now → a < c

@@ -4,7 +4,6 @@ use Rattle.std.proofs.Common.{List, [], ◌∷◌, ◌++◌, length, get_or, ref
 use Rattle.std.specs.declared.cmp.Ordering.TheVariants.{Less}
 use Rattle.std.specs.FinMap.{get}
 use Rattle.std.proofs.lemmas.List.{append-nil, append_assoc}
-use Rattle.reg_heap.specs.declared.limits.TheConstants.{SUBKEYS_LIMIT}
 use Rattle.reg_heap.specs.Paths.{Path, Tree, path_cmp, children_of}
 use Rattle.reg_heap.specs.Heaps.{Heap}
 use Rattle.reg_arena.specs.Cells.{cell_at}
@@ -12,16 +11,16 @@ use Rattle.reg_shape.specs.PathLookup.{key_offset_at}
 use Rattle.reg_shape.proofs.Lookup.LookupOfShape.{offset-append}
 use Rattle.reg_shape.proofs.Walking.IndexWalks.{then-open}
 use Rattle.reg_security.specs.Rings.{DescriptorCells}
+use Rattle.reg_index.specs.declared.Place.{Place}
 use Rattle.reg_tree.specs.declared.node.Node.{Node}
 use Rattle.reg_tree.specs.TreeKeys.{tree_in}
 use Rattle.reg_tree.specs.Internal.TreeInvariant.{TreeInvariant}
 use Rattle.reg_tree.specs.Internal.KeyOrder.{HasTop, IsAbove, Precedes, NextKey, IsNextKey}
 use Rattle.reg_tree.specs.Internal.PathWalks.{IsSubkey}
-use Rattle.reg_tree.specs.Internal.ReachedPlaces.{StandsAt}
-use Rattle.reg_tree.proofs.DeleteKey.DeleteKeyFaults.{number}
+use Rattle.reg_tree.specs.Internal.ReachedPlaces.{StandsAt, IsPlaceOf, place_index}
 use Rattle.reg_tree.proofs.DeleteKey.KeyAbove.{no-names}
-use Rattle.reg_tree.proofs.Invariant.KeyOfTree.{get-none, get-some, seen}
-use Rattle.reg_tree.proofs.PruneTree.ChildPlaces.{child-named, place_there}
+use Rattle.reg_tree.proofs.Invariant.KeyOfTree.{get-none, get-some}
+use Rattle.reg_tree.proofs.PruneTree.ChildPlaces.{child-named, place_there, place_of_parent}
 use Rattle.reg_tree.proofs.PruneTree.PathOrder.{name_order, front-same, heads-less, less-heads, none-before, between, child-order, order-child, child-at}
 use Rattle.reg_tree.proofs.PruneTree.TopKeys.{over-top, last-name}
 
@@ -151,7 +150,7 @@ module _ (bytes : List ℕ) (from : Node) (t : HasTop bytes from) where
       depth = c.depth;
     }
 
-    module _ (under : node.depth ≢ 0) (above : Node) (a : IsAbove bytes root (top ++ c.over) node above) (index : ℕ) (stands : StandsAt h node.offset index) where
+    module _ (under : node.depth ≢ 0) (above : Node) (a : IsAbove bytes root (top ++ c.over) node above) (place : Place) (stands : StandsAt h node.offset place) where
       abbrev pub above-top : HasTop bytes above
       above-top = over-top bytes node climbs-top under above a
 
@@ -171,17 +170,17 @@ module _ (bytes : List ℕ) (from : Node) (t : HasTop bytes from) where
       abbrev siblings : List Path
       siblings = children_of spelt (top ++ front)
 
-      place : (index < length siblings) × (get_or siblings index [] ≡ (top ++ front) ++ x ∷ [])
-      place = place_there bytes root holds (top ++ front) x above.offset node.offset above-top.here.at
-          (ap (key_offset_at h root) (append_assoc top front (x ∷ []) ∙ ap (λ p. top ++ p) (sym over-is)) ∙ c.at) index stands
+      at-over : key_offset_at h root ((top ++ front) ++ x ∷ []) ≡ Some node.offset
+      at-over = ap (key_offset_at h root) (append_assoc top front (x ∷ []) ∙ ap (λ p. top ++ p) (sym over-is)) ∙ c.at
 
-      -- no place is large
-      pub low-place : index + 1 ≤ SUBKEYS_LIMIT
-      low-place =
-          let n = number bytes above.offset above-top.here in
-          let f = (seen bytes above.offset above-top.here).written.few in
-          let l = place.0 in
-          omega (arith, n, f, l)
+      abbrev index : ℕ
+      index = place_index h above.offset place
+
+      position : (index < length siblings) × (get_or siblings index [] ≡ (top ++ front) ++ x ∷ [])
+      position = place_there bytes root holds (top ++ front) x above.offset node.offset above-top.here.at at-over place stands
+
+      pub place-above : IsPlaceOf h above.offset place
+      place-above = place_of_parent bytes root holds (top ++ front) x above.offset node.offset above-top.here.at at-over place stands
 
       -- none below this key is behind the other one
       not-here : (s : Path) → IsSome (get spelt (top ++ (front ++ x ∷ s))) → Precedes c.behind s → ⊥
@@ -205,7 +204,7 @@ module _ (bytes : List ℕ) (from : Node) (t : HasTop bytes from) where
           last (y ∷ s) there l = elim (heads-less x y c.behind s l) [
             | inl o ↦ (let k = child-at spelt (top ++ front) y (child-there bytes root holds top front y s there) in
                 let w = k.1 in
-                let n = order-child spelt (top ++ front) index k.0 x y place.0 w place.1 k.2 o in
+                let n = order-child spelt (top ++ front) index k.0 x y position.0 w position.1 k.2 o in
                 absurd (omega (arith, n, w, none)))
             | inr o ↦ not-here s (subst (λ y. IsSome (get spelt (top ++ (front ++ y ∷ s)))) (sym o.0) there) o.1
           ]
@@ -217,7 +216,7 @@ module _ (bytes : List ℕ) (from : Node) (t : HasTop bytes from) where
         before-next (y ∷ s) there l m = elim (heads-less x y c.behind s l) [
           | inl o ↦ elim (heads-less y z s [] m) [
             | inl u ↦ (let k = child-at spelt (top ++ front) y (child-there bytes root holds top front y s there) in
-                let n = order-child spelt (top ++ front) index k.0 x y place.0 k.1 place.1 k.2 o in
+                let n = order-child spelt (top ++ front) index k.0 x y position.0 k.1 position.1 k.2 o in
                 let v = order-child spelt (top ++ front) k.0 (index + 1) y z k.1 some k.2 next-is u in
                 absurd (omega (arith, n, v)))
             | inr u ↦ none-before s u.1
@@ -226,7 +225,7 @@ module _ (bytes : List ℕ) (from : Node) (t : HasTop bytes from) where
         ]
 
         name-behind : name_order x z ≡ Less
-        name-behind = child-order spelt (top ++ front) index (index + 1) x z (omega arith) some place.1 next-is
+        name-behind = child-order spelt (top ++ front) index (index + 1) x z (omega arith) some position.1 next-is
 
       -- the sibling behind it
       pub beside-next : (next : Node) → IsSubkey h root (top ++ front) siblings above (index + 1) (Some next) → NextKey bytes root top names next

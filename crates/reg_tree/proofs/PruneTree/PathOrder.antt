@@ -1,5 +1,5 @@
 -- Paths in their order: those with the same first names, and the paths right below one.
-use Rattle.std.proofs.Common.{◌≡◌, ◌⊎◌, inl, inr, ℕ, zero, suc, ◌<◌, ◌&&◌, ◌||◌, Bool, true, false, IsSome, List, [], ◌∷◌, ◌++◌, map, length, get_or, refl, sym, ap, ◌∙◌, arith}
+use Rattle.std.proofs.Common.{◌≡◌, ◌⊎◌, inl, inr, ℕ, zero, suc, ◌<◌, ◌&&◌, ◌||◌, Bool, true, false, IsSome, List, [], ◌∷◌, ◌++◌, length, get_or, refl, sym, ap, ◌∙◌, arith}
 use Rattle.std.specs.List.{AllByRecursion, list_any}
 use Rattle.std.specs.List.Sorted.{IsStrictlySortedBy}
 use Rattle.std.specs.Ordering.{nat_cmp, ordering_then, ordering_reverse, is_eq, eq_by_cmp}
@@ -13,7 +13,6 @@ use Rattle.std.proofs.lemmas.Cmp.{tied_itself}
 use Rattle.std.proofs.lemmas.List.{get_or-map, length-map}
 use Rattle.reg_heap.specs.Paths.{Path, Tree, path_cmp, is_child, children_of}
 use Rattle.reg_heap.proofs.ChildrenOfPath.{below, path-is, path_cmp-below, is_child-below, AreNamed, children-named, children-contain}
-use Rattle.reg_shape.proofs.Refinement.RefinementOfChildren.{names-same, any-below}
 use Rattle.reg_shape.proofs.Refinement.SpeltTrees.{path_total}
 use Rattle.reg_index.proofs.SortedNames.{order-same}
 
@@ -151,16 +150,3 @@ child-there t p i l x e =
     let q = below p x in
     let among = list_any_at (eq_by_cmp path_cmp q) (children_of t p) i [] l (ap (eq_by_cmp path_cmp q) e ∙ ap is_eq (tied_itself path_total q)) in
     (and_parts (is_child p q) (contains_key t q) (sym (children-contain t p q) ∙ among)).1
-
--- trees with the same keys right below a path have them in the same order
-pub children-same : (s t : Tree) (p : Path) → ((y : List ℕ) → contains_key s (p ++ y ∷ []) ≡ contains_key t (p ++ y ∷ [])) → children_of s p ≡ children_of t p
-children-same s t p e =
-    let c = children-named s p in
-    let d = children-named t p in
-    c.are ∙ (ap (map (below p)) (names-same c.names d.names c.rising d.rising (λ y. among s c y ∙ (e y ∙ sym (among t d y)))) ∙ sym d.are)
-  where
-    among : (t : Tree) (c : AreNamed p (children_of t p)) (y : List ℕ) → list_any (eq_by_cmp name_order y) c.names ≡ contains_key t (p ++ y ∷ [])
-    among t c y =
-        sym (any-below p y c.names)
-        ∙ (ap (list_any (eq_by_cmp path_cmp (below p y))) (sym c.are)
-        ∙ (children-contain t p (below p y) ∙ ap (λ b. b && contains_key t (below p y)) (is_child-below p y)))

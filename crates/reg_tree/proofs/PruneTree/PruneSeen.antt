@@ -4,7 +4,7 @@ use Rattle.std.specs.Prelude.{Result, Ok, Err, OnOk, OnErr}
 use Rattle.reg_names.specs.Names.{folded, path_of}
 use Rattle.reg_heap.specs.Paths.{Path}
 use Rattle.reg_heap.specs.Edits.{without_tree, emptied, is_within, is_under, any_kept_within}
-use Rattle.reg_arena.specs.Arena.{Bins, heap_of}
+use Rattle.reg_arena.specs.Arena.{Bins}
 use Rattle.reg_security.specs.Rings.{DescriptorCells}
 use Rattle.reg_tree.specs.declared.fault.TreeFault.{TreeFault}
 use Rattle.reg_tree.specs.declared.fault.TreeFault.TheVariants.{NoDelete}
@@ -14,7 +14,6 @@ use Rattle.reg_tree.specs.TreeKeys.{Keys, tree_in, IsAt, IsThere}
 use Rattle.reg_tree.specs.Reaching.{IsWalkedTo}
 use Rattle.reg_tree.specs.Internal.TreeInvariant.{TreeInvariant, IsHere}
 use Rattle.reg_tree.specs.Internal.KeyDeletion.{IsPruned, IsEmptied}
-use Rattle.reg_tree.specs.Internal.ReachedPlaces.{StandsAt}
 use Rattle.reg_tree.proofs.Invariant.NodeLemmas.{on_ok, seen_as, here_at, there_at, of_tree}
 use Rattle.reg_tree.proofs.PathWalk.ReachedNodes.{reached_at, reached_inner}
 
@@ -61,10 +60,6 @@ module _ (bins : Bins) (root : ℕ) {table : DescriptorCells} (holds : TreeInvar
     -- it isn't the root
     pub below_root : (p : Path) → IsAt now p reached.node → p ≢ []
     below_root p at = reached_inner now from path reached.node reached.missing.now r.reaches.passes there.3.0 there.3.1 none-left there.4 p at
-
-    -- where it stands among its parent's subkeys
-    pub place_reached : StandsAt (heap_of bins) reached.node.offset reached.index
-    place_reached = subst (λ (k : Keys). StandsAt (heap_of k.bins) reached.node.offset reached.index) (sym view_is) (r.place.stands none-left there.4)
 
   -- ---- a tree deleted, or a fault
 

@@ -8,6 +8,7 @@ use Rattle.reg_arena.specs.Cells.{cell_at}
 use Rattle.reg_records.specs.declared.nk.KeyFields.{KeyFields}
 use Rattle.reg_records.specs.KeyNodes.{KeyRecord, key_at}
 use Rattle.reg_shape.specs.PathLookup.{key_offset_at}
+use Rattle.reg_index.specs.declared.Place.{Place}
 use Rattle.reg_tree.specs.declared.node.Node.{Node}
 use Rattle.reg_tree.specs.Internal.TreeInvariant.{IsHere}
 use Rattle.reg_tree.specs.Internal.KeyOrder.{HasTop, IsAbove}
@@ -16,7 +17,7 @@ use Rattle.reg_tree.specs.TreeKeys.{tree_in}
 use Rattle.reg_tree.proofs.DeleteKey.DeletedKeyPosition.{snoc, above-is}
 use Rattle.reg_tree.proofs.DeleteKey.KeyAbove as up
 use Rattle.reg_tree.proofs.Invariant.KeyOfTree.{get-some, key_is, shallow}
-use Rattle.reg_tree.proofs.PruneTree.ChildPlaces.{stands_there}
+use Rattle.reg_tree.proofs.PruneTree.ChildPlaces.{index-place, stands_there}
 use Rattle.reg_tree.proofs.PruneTree.PathOrder.{child-at}
 
 -- two paths with a last name are the same before it where they are the same
@@ -28,14 +29,15 @@ abbrev pub itself : (bytes : List ℕ) (key : ℕ) → IsHere bytes key → HasT
 itself bytes key t = record { here = t; top = t.path; names = []; parts = sym (append-nil t.path); depth = refl }
 
 -- a key that isn't the root stands among its parent's subkeys
-pub stands_somewhere : (bytes : List ℕ) (key : ℕ) (t : IsHere bytes key) → t.path ≢ [] → (i : ℕ) × StandsAt (cell_at bytes) key i
+pub stands_somewhere : (bytes : List ℕ) (key : ℕ) (t : IsHere bytes key) → t.path ≢ [] → (place : Place) × StandsAt (cell_at bytes) key place
 stands_somewhere bytes key t inner =
     let p = up.p bytes key t inner in
     let x = up.x bytes key t inner in
     let parent = up.parent bytes key t inner in
     let at-key = ap (key_offset_at (cell_at bytes) t.root) (sym (up.parts bytes key t inner).2) ∙ t.at in
     let c = child-at (tree_in bytes t.root) p x (get-some bytes t.root t.holds (p ++ x ∷ []) key at-key) in
-    (c.0, stands_there bytes t.root t.holds p x parent.0 key parent.1 at-key c.0 c.1 c.2)
+    let place = index-place bytes parent.0 (up.above bytes key t inner) c.0 c.1 in
+    (place.0, stands_there bytes t.root t.holds p x parent.0 key parent.1 at-key c.0 place.0 place.1 c.1 c.2)
 
 module _ (bytes : List ℕ) (node : Node) (t : HasTop bytes node) where
   -- no depth is large

@@ -16,14 +16,14 @@ use Rattle.reg_shape.specs.Internal.Shapes.{descriptor_in}
 use Rattle.reg_shape.specs.Internal.Exchanges.{IsExchanged}
 use Rattle.reg_shape.specs.Internal.Grafts.{IsShape, IsGrafted, IsGraftedInRing, graft_at}
 use Rattle.reg_shape.proofs.Graft.GraftOfExchange.{exchange-grafts}
-use Rattle.reg_shape.proofs.Graft.WholeAfterGraft.{grafted, graft-total}
+use Rattle.reg_shape.proofs.Graft.WholeAfterGraft.{grafted}
 use Rattle.reg_shape.proofs.Graft.GraftInRing.{descriptor-recounted, graft-in-ring, tree-same-below-in-ring}
 use Rattle.reg_shape.proofs.Refinement.RefinementAfterGraft.{grafted-name}
 use Rattle.reg_shape.proofs.Lookup.LookupAfterGraft.{offsets-same}
 use Rattle.reg_values.specs.ValueLists.{Became}
 use Rattle.reg_security.proofs.TableCells.{finds-same}
 use Rattle.reg_tree.specs.TreeKeys.{tree_in}
-use Rattle.reg_tree.specs.Internal.TreeInvariant.{rooted, TreeInvariant, IsHere, IsChanged}
+use Rattle.reg_tree.specs.Internal.TreeInvariant.{TreeInvariant, IsHere, IsChanged}
 use Rattle.reg_tree.specs.Internal.KeyNodeChanges.{HasList, Notes, noted}
 use Rattle.std.proofs.lemmas.Option.{same_Some}
 use Rattle.reg_tree.specs.ValueAnswers.{without_value_at}
@@ -99,7 +99,6 @@ module _ (old mid new : List ℕ) (key : ℕ) (t : IsHere old key) (count list n
     ring = ring;
     shape = shape;
     finds = finds-same t.table h j ring t.holds.finds (λ z l. descriptor-recounted h j was is z (in-ring.recounted z l));
-    unrooted = (let g = graft-total rooted was after was.below t.path keys (branch_is old key t) in let u = t.holds.unrooted in omega (arith, g, u));
   }
 
   abbrev rec : Rec

@@ -12,7 +12,7 @@ use Rattle.reg_records.specs.RecordCells.{HasRoom, held}
 use Rattle.reg_shape.specs.Nodes.{Node}
 use Rattle.reg_shape.specs.Whole.{IsRing, descriptor_at}
 use Rattle.reg_shape.specs.PathLookup.{key_offset_at}
-use Rattle.reg_shape.specs.Internal.Forests.{Branch, total_of}
+use Rattle.reg_shape.specs.Internal.Forests.{Branch}
 use Rattle.reg_shape.specs.Internal.Shapes.{tree_of}
 use Rattle.reg_shape.specs.Internal.Grafts.{IsShape, uses_in}
 use Rattle.reg_index.specs.Subkeys.{KeepsCells, taken}
@@ -20,7 +20,7 @@ use Rattle.reg_security.specs.Rings.{DescriptorCells, Finds, Expects, cell_of}
 use Rattle.reg_tree.specs.TreeKeys.{tree_in}
 use Rattle.reg_tree.specs.KeyLengths.{lengths_at}
 use Rattle.reg_tree.specs.Internal.KeyNodeChanges.{LeavesOthers}
-use Rattle.reg_tree.specs.Internal.TreeInvariant.{TreeInvariant, rooted}
+use Rattle.reg_tree.specs.Internal.TreeInvariant.{TreeInvariant}
 
 -- what a table became that makes ready for a descriptor: nothing changed where it has the descriptor, which takes no cell; else it has
 -- room for it, which takes a cell of this size
@@ -53,7 +53,6 @@ pub record IsDescribable (bytes : List ℕ) (key : ℕ) (table : DescriptorCells
   pub keys : Branch Node
   pub ring : List ℕ
   pub shape : IsShape (cell_at bytes) root keys ring (taken cell)
-  pub unrooted : total_of rooted keys ≡ 0
   pub at : key_offset_at (cell_at bytes) root path ≡ Some key
   pub placed : IsPlaced (cell_at bytes) ring table descriptor cell
 

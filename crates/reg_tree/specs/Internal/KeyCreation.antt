@@ -2,7 +2,7 @@
 use Rattle.std.specs.Prelude.{◌≡◌, ◌≢◌, ◌⊎◌, ◌<◌, ◌≤◌, ℕ, ◌+◌, Option, Some, List, [], ◌++◌, map, length}
 use Rattle.reg_names.specs.declared.TheConstants.{PATH_LIMIT}
 use Rattle.reg_names.specs.Names.{folded}
-use Rattle.reg_heap.specs.declared.limits.TheConstants.{LEAF_LIMIT, MADE_LIMIT}
+use Rattle.reg_heap.specs.declared.limits.TheConstants.{MADE_LIMIT, SUBKEYS_LIMIT}
 use Rattle.reg_heap.specs.Paths.{Path, Tree, children_of}
 use Rattle.reg_heap.specs.Edits.{with_keys, missing, last_there}
 use Rattle.reg_arena.specs.Cells.{cell_at}
@@ -32,7 +32,7 @@ pub record IsCreated (old new : List ℕ) (root : ℕ) (table : DescriptorCells)
 pub record AreTooMany (t : Tree) (p : Path) (names : List (List ℕ)) : Type 0 where
   pub some : missing t p names ≢ []
   pub many : (MADE_LIMIT < length (missing t p names)) ⊎ ((PATH_LIMIT < length p + length names) ⊎
-      (LEAF_LIMIT ≤ length (children_of t (last_there t p names))))
+      (SUBKEYS_LIMIT ≤ length (children_of t (last_there t p names))))
 
 -- a path from a node, which is a key's of the tree, leads to a key, behind which its names are missing
 pub record LeadsTo (bytes : List ℕ) (from : Node) (path : List ℕ) (node : Node) (rest : List ℕ) : Type 0 where

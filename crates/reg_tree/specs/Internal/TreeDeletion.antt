@@ -12,10 +12,10 @@ use Rattle.reg_tree.specs.Internal.TreeInvariant.{TreeInvariant}
 use Rattle.reg_tree.specs.Internal.ReachedPlaces.{StandsAt}
 
 -- a key right below the one at a path, and where it stands; or there is none
-abbrev pub IsLastSubkey : List ℕ → ℕ → Path → Option PlacedKey → Type 0
-IsLastSubkey bytes root path None = children_of (tree_in bytes root) path ≡ []
-IsLastSubkey bytes root path (Some child) =
-    (name : List ℕ) × (key_offset_at (cell_at bytes) root (path ++ name ∷ []) ≡ Some child.offset) × StandsAt (cell_at bytes) child.offset child.index
+abbrev pub IsFirstSubkey : List ℕ → ℕ → Path → Option PlacedKey → Type 0
+IsFirstSubkey bytes root path None = children_of (tree_in bytes root) path ≡ []
+IsFirstSubkey bytes root path (Some child) =
+    (name : List ℕ) × (key_offset_at (cell_at bytes) root (path ++ name ∷ []) ≡ Some child.offset) × StandsAt (cell_at bytes) child.offset child.place
 
 -- all keys below a key removed; its time is set where there were some
 abbrev pub bared : Tree → Path → ℕ → Tree

@@ -1,34 +1,21 @@
 -- What is true of every tree's cells.
 use Rattle.std.specs.Prelude.{◌≡◌, ℕ, Some, List, []}
-use Rattle.reg_shape.specs.Internal.Forests.{Branch, total_of}
+use Rattle.reg_shape.specs.Internal.Forests.{Branch}
 use Rattle.reg_heap.specs.Paths.{Path, Rec}
 use Rattle.reg_heap.specs.Edits.{edited}
 use Rattle.reg_arena.specs.Cells.{cell_at}
-use Rattle.reg_shape.specs.Nodes.{Node, Index}
-use Rattle.reg_shape.specs.Nodes.Index.{Unlisted, Listed, Rooted}
+use Rattle.reg_shape.specs.Nodes.{Node}
 use Rattle.reg_shape.specs.Internal.Grafts.{IsShape}
 use Rattle.reg_shape.specs.PathLookup.{key_offset_at}
 use Rattle.reg_security.specs.Rings.{DescriptorCells, Finds}
 use Rattle.reg_tree.specs.TreeKeys.{tree_in}
 
--- 1 for an index root, and else 0
-abbrev pub is_rooted : Index → ℕ
-is_rooted Unlisted = 0
-is_rooted (Listed list) = 0
-is_rooted (Rooted offset lists) = 1
-
--- 1 for a key whose subkeys stand in an index root, and else 0
-abbrev pub rooted : ℕ → Node → ℕ
-rooted offset node = is_rooted node.index
-
--- the keys stand in the cells, and have all of them; a table finds just the securities that they use (temporary: `unrooted`, no key has
--- more than one list of subkeys, until there are index roots)
+-- the keys stand in the cells, and have all of them; a table finds just the securities that they use
 pub record TreeInvariant (bytes : List ℕ) (root : ℕ) (table : DescriptorCells) : Type 0 where
   pub keys : Branch Node
   pub ring : List ℕ
   pub shape : IsShape (cell_at bytes) root keys ring []
   pub finds : Finds table (cell_at bytes) ring
-  pub unrooted : total_of rooted keys ≡ 0
 
 -- a key of the tree, and its path
 pub record IsHere (bytes : List ℕ) (key : ℕ) : Type 0 where

@@ -1,7 +1,7 @@
 use Rattle.std.proofs.Common.{sym, ◌∙◌}
 use Rattle.reg_tree.proofs.PathWalk.PathSteps.{some_names}
 use Rattle.reg_tree.proofs.InsertKey.CreatePath.{created_none, new_none, new_some, none_many}
-use Rattle.reg_tree.proofs.InsertKey.CreatePathMade.{no_cells}
+use Rattle.reg_tree.proofs.InsertKey.CreatePathMade.{belongs_there, no_cells}
 use Rattle.reg_tree.proofs.InsertKey.CreatePathEnds.{from_shallow, empty_names, of_two, limit_none, limit_many, limit_other}
 use Rattle.reg_tree.proofs.InsertKey.PathCarve.{full-is}
 use Rattle.reg_tree.proofs.InsertKey.KeyLimits.{test-too_many, not_many}
@@ -51,7 +51,11 @@ returns-in-Ok-clause-new c = λ t.
     new_some _ c.args.from t c.args.path.now _ _ c.reach-reached.ensures.reaches c.args.moment (some_names _ c.is_empty.result c.is_empty.ensures c.if-is_empty.false)
 
 pub returns-in-Ok-clause-cells : goal.returns-in-Ok-clause-cells
-returns-in-Ok-clause-cells c = λ t same d. c.in-Ok.ensures.cells c.args.from c.args.path.now (record { here = t; depth = d; reaches = c.reach-reached.ensures.reaches }) same
+returns-in-Ok-clause-cells c = λ t same d. (
+  c.reach-reached.result.place,
+  belongs_there c.args.arena.now c.args.from t c.args.path.now _ _ c.reach-reached.ensures.reaches c.args.moment _ c.reach-reached.ensures.place.belongs,
+  c.in-Ok.ensures.cells c.args.from c.args.path.now (record { here = t; depth = d; reaches = c.reach-reached.ensures.reaches }) same,
+)
 
 pub returns-in-Ok-clause-limit : goal.returns-in-Ok-clause-limit
 returns-in-Ok-clause-limit c = λ t d.
@@ -64,6 +68,9 @@ returns-in-Err-clause-limit c = λ t d.
     (not_many _ _ _ (sym (c.is_limited.ensures c.args.from c.args.path.now (record { here = t; depth = d; reaches = c.reach-reached.ensures.reaches })) ∙ c.if-is_limited.false))
 
 pub returns-in-Err-clause-space : goal.returns-in-Err-clause-space
-returns-in-Err-clause-space c = λ t same d full.
-    c.in-Err.ensures.space c.args.from c.args.path.now (record { here = t; depth = d; reaches = c.reach-reached.ensures.reaches }) same
-    (full-is c.in-Err.fault c.from.result c.from.ensures full)
+returns-in-Err-clause-space c = λ t same d full. (
+  c.reach-reached.result.place,
+  belongs_there c.args.arena.now c.args.from t c.args.path.now _ _ c.reach-reached.ensures.reaches c.args.moment _ c.reach-reached.ensures.place.belongs,
+  c.in-Err.ensures.space c.args.from c.args.path.now (record { here = t; depth = d; reaches = c.reach-reached.ensures.reaches }) same
+      (full-is c.in-Err.fault c.from.result c.from.ensures full),
+)

@@ -9,20 +9,20 @@ make_sharing-requires-clause-reached c = (c.requires.reached.0, c.requires.reach
 
 pub returns-in-None-clause-cells : goal.returns-in-None-clause-cells
 returns-in-None-clause-cells c = λ from path l same.
-    cells_as c.make_sharing.result _ _ _ _ (none_sizes _ _ _ _ (ap (option_map (λ (descriptor : Bor (List ℕ)). descriptor.now)) c.in-None.is))
+    cells_as c.make_sharing.result _ _ _ _ (none_sizes _ _ _ _ _ (ap (option_map (λ (descriptor : Bor (List ℕ)). descriptor.now)) c.in-None.is))
     (c.make_sharing.ensures.cells from path l)
 
 pub returns-in-None-clause-space : goal.returns-in-None-clause-space
 returns-in-None-clause-space c = λ from path l same.
-    room_as Full c.make_sharing.result c.args.arena.now _ _ (none_sizes _ _ _ _ (ap (option_map (λ (descriptor : Bor (List ℕ)). descriptor.now)) c.in-None.is))
+    room_as Full c.make_sharing.result c.args.arena.now _ _ (none_sizes _ _ _ _ _ (ap (option_map (λ (descriptor : Bor (List ℕ)). descriptor.now)) c.in-None.is))
     (c.make_sharing.ensures.space from path l)
 
 pub returns-in-Some-clause-cells : goal.returns-in-Some-clause-cells
 returns-in-Some-clause-cells c = λ from path l same.
-    cells_as c.make_described.result _ _ _ _ (ap (create_sizes _ _ _) (ap (option_map (λ (descriptor : Bor (List ℕ)). descriptor.now)) (sym c.in-Some.is)))
+    cells_as c.make_described.result _ _ _ _ (ap (create_sizes _ _ _ _) (ap (option_map (λ (descriptor : Bor (List ℕ)). descriptor.now)) (sym c.in-Some.is)))
     (c.make_described.ensures.cells from path l same)
 
 pub returns-in-Some-clause-space : goal.returns-in-Some-clause-space
 returns-in-Some-clause-space c = λ from path l same.
-    room_as Full c.make_described.result c.args.arena.now _ _ (ap (create_sizes _ _ _) (ap (option_map (λ (descriptor : Bor (List ℕ)). descriptor.now)) (sym c.in-Some.is)))
+    room_as Full c.make_described.result c.args.arena.now _ _ (ap (create_sizes _ _ _ _) (ap (option_map (λ (descriptor : Bor (List ℕ)). descriptor.now)) (sym c.in-Some.is)))
     (c.make_described.ensures.space from path l same)

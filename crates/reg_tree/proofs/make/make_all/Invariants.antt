@@ -9,10 +9,10 @@ use Rattle.reg_tree.proofs.make.make_all.Given as goal
 
 abbrev pub invariant-loop-name : goal.invariant-loop-name
 invariant-loop-name l = record {
-  mid : (last : List ℕ) → (m : MayGrowAll l.fn.arena.bytes l.fn.from (path_of l.fn.path) last l.fn.spare) →
-      Midway l.fn.arena.bytes l.fn.from (path_of l.fn.path) last l.fn.spare m l.fn.moment l.arena.bytes l.node l.rest l.spare;
-  place : BelongsFirst (heap_of l.arena) l.node.offset (path_of l.rest) l.index;
-  plan : l.plan ≡ planned (heap_of l.arena) l.node.offset;
+  mid : (last : List ℕ) → (m : MayGrowAll l.fn.arena.bytes l.fn.from (path_of l.fn.path) l.fn.place last l.fn.spare) →
+      Midway l.fn.arena.bytes l.fn.from (path_of l.fn.path) l.fn.place last l.fn.spare m l.fn.moment l.arena.bytes l.node l.rest l.place l.spare;
+  place : BelongsFirst (heap_of l.arena) l.node.offset (path_of l.rest) l.place;
+  plan : l.plan ≡ planned (heap_of l.arena) l.node.offset l.place;
   long : length l.arena.bytes ≡ length l.fn.arena.bytes;
 }
 

@@ -2,7 +2,8 @@ use Rattle.std.proofs.Common.{refl, subst}
 use Rattle.reg_arena.specs.Arena.{heap_of}
 use Rattle.reg_tree.specs.Internal.LengthChanges.{LengthsStay}
 use Rattle.reg_tree.proofs.DeleteKey.KeyAbove.{same_root}
-use Rattle.reg_tree.proofs.PruneTree.PruneObligations.{bare-here, bare-lone, bare-stands, is_pruned, pruned_lengths}
+use Rattle.reg_tree.proofs.PruneTree.PruneObligations.{bare-here, bare-lone, is_pruned, pruned_lengths}
+use Rattle.reg_tree.proofs.PruneTree.TopKeys.{stands_somewhere}
 use Rattle.reg_tree.proofs.prune.delete_tree_at.Goals as goal
 
 pub delete_under-requires : goal.delete_under-requires
@@ -14,10 +15,10 @@ delete_at-requires-clause-here c =
     let b = c.delete_under.ensures.bared t c.requires.here.1 in
     (bare-here _ _ t _ _ c.args.moment b, refl, bare-lone _ _ t _ _ c.args.moment b c.requires.here.2)
 
-pub delete_at-requires-clause-place : goal.delete_at-requires-clause-place
-delete_at-requires-clause-place c =
+pub place_of-place-requires : goal.place_of-place-requires
+place_of-place-requires c =
     let t = c.requires.here.0 in
-    bare-stands _ _ t _ _ c.args.moment (c.delete_under.ensures.bared t c.requires.here.1) c.requires.here.2 c.args.index c.requires.place
+    stands_somewhere _ _ (bare-here _ _ t _ _ c.args.moment (c.delete_under.ensures.bared t c.requires.here.1)) c.requires.here.2
 
 pub returns-clause-pruned : goal.returns-clause-pruned
 returns-clause-pruned c = λ t same inner.

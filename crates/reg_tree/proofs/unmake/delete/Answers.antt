@@ -1,12 +1,11 @@
-use Rattle.reg_tree.proofs.DeleteKey.DeleteKeyObligations.{placed}
-use Rattle.reg_tree.proofs.DeleteKey.DeleteKeyFaults.{childless_by, no_children, inner}
+use Rattle.reg_tree.proofs.DeleteKey.DeleteKeyFaults.{no_children, inner}
+use Rattle.reg_tree.proofs.PruneTree.TopKeys.{stands_somewhere}
 use Rattle.reg_tree.proofs.unmake.delete.Goals as goal
 
-pub place_of-index-requires : goal.place_of-index-requires
-place_of-index-requires c =
+pub place_of-place-requires : goal.place_of-place-requires
+place_of-place-requires c =
     let t = c.requires.0 in
-    placed _ _ t (childless_by _ _ t (no_children _ _ t c.has_children.result (c.has_children.ensures t) c.if-has_children.false))
-    (inner _ _ t c.is_kept.result (c.is_kept.ensures t) c.if-is_kept.false)
+    stands_somewhere _ _ t (inner _ _ t c.is_kept.result (c.is_kept.ensures t) c.if-is_kept.false)
 
 pub delete_at-requires-clause-here : goal.delete_at-requires-clause-here
 delete_at-requires-clause-here c = let t = c.requires.0 in (

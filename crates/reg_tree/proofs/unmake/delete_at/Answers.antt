@@ -12,7 +12,8 @@ pub fields-head-requires : goal.fields-head-requires
 fields-head-requires c = key_there _ _ c.requires.here.0
 
 pub unlink-requires : goal.unlink-requires
-unlink-requires c = (c.args.key, c.requires.place.above, c.requires.place.entries, listed_by _ _ _ c.requires.place _ c.fields-head.ensures)
+unlink-requires c =
+    (c.args.key, c.requires.place.above, c.requires.place.entries, listed_by _ _ _ c.requires.place _ c.fields-head.ensures, c.requires.place.stands)
 
 pub free_key-requires : goal.free_key-requires
 free_key-requires c =

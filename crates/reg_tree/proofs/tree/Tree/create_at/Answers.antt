@@ -1,9 +1,7 @@
 use Rattle.std.proofs.Common.{refl}
-use Rattle.reg_names.specs.Names.{path_of}
 use Rattle.reg_arena.specs.Arena.{heap_of}
 use Rattle.reg_arena.specs.declared.ArenaFault.TheVariants.{Full}
-use Rattle.reg_tree.proofs.InsertKey.CreateKeepsNodes.{cells_created, room_created}
-use Rattle.reg_tree.proofs.InsertKey.CreateReached.{leads_at, place_at, leads_there, holds_made, keys_seen, lengths_seen, noted_seen}
+use Rattle.reg_tree.proofs.InsertKey.CreateReached.{leads_at, place_at, cells_reached, room_reached, leads_there, holds_made, keys_seen, lengths_seen, noted_seen}
 use Rattle.reg_tree.proofs.tree.Tree.create_at.Goals as goal
 
 pub create_at-requires-clause-reached : goal.create_at-requires-clause-reached
@@ -24,7 +22,7 @@ returns-clause-ok c = λ from path r p at.
 
 pub returns-clause-cells : goal.returns-clause-cells
 returns-clause-cells c = λ from path r p at.
-    cells_created _ _ c.self.invariant _ c.self.view_is (heap_of c.create_at.new.arena) c.create_at.result p (path_of path) _
+    cells_reached _ _ c.self.invariant _ c.self.view_is c.args.reached (heap_of c.create_at.new.arena) c.create_at.result _ from path r p at
     (c.create_at.ensures.cells from path (leads_at _ _ c.self.invariant _ c.self.view_is c.args.reached from path r p at) refl)
 
 pub returns-clause-lengths : goal.returns-clause-lengths
@@ -39,5 +37,5 @@ returns-clause-made c =
 
 pub returns-clause-space : goal.returns-clause-space
 returns-clause-space c = λ from path r p at.
-    room_created _ _ c.self.invariant _ c.self.view_is Full c.create_at.result p (path_of path) _
+    room_reached _ _ c.self.invariant _ c.self.view_is c.args.reached Full c.create_at.result _ from path r p at
     (c.create_at.ensures.space from path (leads_at _ _ c.self.invariant _ c.self.view_is c.args.reached from path r p at) refl)

@@ -1,19 +1,19 @@
 use Rattle.std.proofs.Common.{refl}
 use Rattle.reg_tree.proofs.Invariant.LengthsSeen.{lengths_seen}
 use Rattle.reg_tree.proofs.Invariant.NodeLemmas.{here_at}
-use Rattle.reg_tree.proofs.PruneTree.PruneSeen.{pruned_then, others_then, node_reached, below_root, place_reached}
+use Rattle.reg_tree.proofs.PruneTree.PruneSeen.{pruned_then, others_then, node_reached, below_root}
 use Rattle.reg_tree.proofs.tree.Tree.delete_tree_at.Goals as goal
 
-pub delete_tree_at-requires-clause-here : goal.delete_tree_at-requires-clause-here
-delete_tree_at-requires-clause-here c =
-    let n = node_reached _ _ c.self.invariant _ c.self.view_is c.args.reached c.requires.reached c.requires.there in (
-      here_at _ _ c.self.invariant _ c.self.view_is c.args.reached.node n.0 n.1,
-      refl,
-      below_root _ _ c.self.invariant _ c.self.view_is c.args.reached c.requires.reached c.requires.there n.0 n.1,
-    )
-
-pub delete_tree_at-requires-clause-place : goal.delete_tree_at-requires-clause-place
-delete_tree_at-requires-clause-place c = place_reached _ _ c.self.invariant _ c.self.view_is c.args.reached c.requires.reached c.requires.there
+pub delete_tree_at-requires : goal.delete_tree_at-requires
+delete_tree_at-requires c =
+    let n = node_reached _ _ c.self.invariant _ c.self.view_is c.args.reached c.requires.reached c.requires.there in
+    record {
+      here = (
+        here_at _ _ c.self.invariant _ c.self.view_is c.args.reached.node n.0 n.1,
+        refl,
+        below_root _ _ c.self.invariant _ c.self.view_is c.args.reached c.requires.reached c.requires.there n.0 n.1,
+      );
+    }
 
 pub invariant_of-self : goal.invariant_of-self
 invariant_of-self c =
