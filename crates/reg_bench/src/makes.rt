@@ -20,7 +20,7 @@ const PARENTS: [u32; 3] = [4, 40, 400];
 /// How many keys each of them has.
 const EACH: u32 = 250;
 
-/// How many keys without values one parent has; a key has at most 500 subkeys until there are index roots.
+/// How many keys without values one parent has: half as many as one list of subkeys holds, and as many.
 const CHILDREN: [u32; 2] = [250, 500];
 
 /// The seeds by which keys are chosen to be deleted, and put in another order.

@@ -8,7 +8,7 @@
 //! |---|---|---|---|---|
 //! | `OpenRoot` | none | 87 mask; 1450 handles, journal | a handle to the root | `open_root.rt` |
 //! | `OpenKey` | none | 6; 1018; 87 path, mask; 1450 handles, journal; 2 no such key | a handle to the key | `open_key.rt` |
-//! | `CreateKey` | none | 6; 1018; 87 path, mask, descriptor; 1450 handles, journal, 32 keys, 512 names, 500 subkeys, space | keys, handle | `create_key.rt` |
+//! | `CreateKey` | none | 6; 1018; 87 path, mask, descriptor; 1450 handles, journal, 32 new, 512 deep, 60,000 subkeys, space | keys, handle | `create_key.rt` |
 //! | `SetValue` | 2 | 6; 1018; 87 name, data; 5; 1450 journal, 16,384 values, space | the value, and the key's time | `set_value.rt` |
 //! | `DeleteValue` | 2 | 6; 1018; 87 name; 5; 1450 journal; 2 no such value | the value gone, and the key's time | `delete_value.rt` |
 //! | `DeleteKey` | none | 6; 1018; 87 path; 1450 journal; 2 no key; 5 subkeys, mark 8 | the key gone, its handles dead, its parent's time | `delete_key.rt` |

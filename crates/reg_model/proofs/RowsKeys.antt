@@ -1,8 +1,10 @@
 -- Refusals and replies of the calls on keys and handles. Expected numbers are those of the rules.
-use Rattle.std.proofs.Common.{◌≡◌, ℕ, List, [], ◌∷◌, Some, None, refl}
+use Rattle.std.proofs.Common.{◌≡◌, ℕ, List, [], ◌∷◌, length, true, false, Some, None, refl}
 use Rattle.reg_names.specs.Names.{are_key_names}
+use Rattle.reg_heap.specs.Paths.{Tree, children_of}
+use Rattle.reg_heap.specs.Edits.{has_child}
 use Rattle.reg_model.specs.Worlds.{At, Deleted, closed, turned}
-use Rattle.reg_model.specs.Causes.{early_cause, late_cause, change_cause, early_query_cause, late_query_cause, query_cause}
+use Rattle.reg_model.specs.Causes.{State, early_cause, late_cause, change_cause, early_query_cause, late_query_cause, query_cause}
 use Rattle.reg_model.specs.Replies.{disposition_of, key_told, member_told, largest_of}
 use Rattle.reg_model.specs.declared.call.Change.TheVariants.{OpenKey, CreateKey, DeleteKey, Close}
 use Rattle.reg_model.specs.declared.call.Query.TheVariants.{EnumKey, EnumValue, QueryInfo}
@@ -93,6 +95,23 @@ open_full = refl
 delete_full : change_cause full 0 (DeleteKey 0 k) 0 ≡ Some 1450
 unfolding early_cause late_cause are_key_names
 delete_full = refl
+
+-- ---- 1450 by a key's subkeys: it has at most 60,000, and one that is there can still be opened by a create
+
+abbrev with_tree : Tree → State
+with_tree t = record { kept = 5; next = 5; world = record { tree = t; handles = handle 0 0 983103 (At []) ∷ [] }; pending = [] }
+
+the_60000th : (t : Tree) → has_child t [] k ≡ false → length (children_of t []) ≡ 59999 → change_cause (with_tree t) 0 (CreateKey 0 k 1 None) 0 ≡ None
+unfolding early_cause late_cause are_key_names
+the_60000th t absent many = rw (absent, many) refl
+
+the_60001st : (t : Tree) → has_child t [] k ≡ false → length (children_of t []) ≡ 60000 → change_cause (with_tree t) 0 (CreateKey 0 k 1 None) 0 ≡ Some 1450
+unfolding early_cause late_cause are_key_names
+the_60001st t absent many = rw (absent, many) refl
+
+one_of_60000 : (t : Tree) → has_child t [] k ≡ true → length (children_of t []) ≡ 60000 → change_cause (with_tree t) 0 (CreateKey 0 k 1 None) 0 ≡ None
+unfolding early_cause late_cause are_key_names
+one_of_60000 t there many = rw there refl
 
 -- ---- 5: only questions ask a right
 
