@@ -1,0 +1,5 @@
+-- The definitions at images and stores of cells that were worked out by hand.
+pub mod RowsOfImages
+pub mod RowsOfWalks
+pub mod RowsOfKeys
+pub mod RowsOfValues

@@ -1,0 +1,4 @@
+pub mod Computed
+pub mod NamedCells
+pub mod Readers
+pub mod CleanWalks

@@ -1,0 +1,9 @@
+-- What each reader makes of a step of the walk.
+pub mod ReaderSteps
+pub mod KeyLists
+pub mod Descriptors
+pub mod ListEntries
+pub mod BlockWords
+pub mod OffsetRows
+pub mod LetterReadings
+pub mod FirstBytes

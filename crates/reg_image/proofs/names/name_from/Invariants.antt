@@ -1,0 +1,7 @@
+use Rattle.reg_shape.specs.Nodes.{letters}
+use Rattle.reg_image.specs.Internal.NameReadings.{is_allowed_in}
+use Rattle.reg_image.proofs.Readers.LetterReadings.{AreRead}
+use Rattle.reg_image.proofs.names.name_from.Given as goal
+
+abbrev pub invariant-loop-index : goal.invariant-loop-index
+invariant-loop-index l = AreRead (letters l.single l.name) (is_allowed_in l.key) l.index l.read.items

@@ -1,0 +1,7 @@
+-- The words of the private contracts and of proofs.
+pub mod CellStates
+pub mod ReaderOutcomes
+pub mod ListParts
+pub mod NameReadings
+pub mod NamedRecords
+pub mod CellScans

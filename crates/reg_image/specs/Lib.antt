@@ -1,0 +1,5 @@
+pub mod WalkSteps
+pub mod LoadingWalk
+pub mod BaseBlock
+pub mod Images
+pub mod Internal
