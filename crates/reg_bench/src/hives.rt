@@ -5,6 +5,7 @@ ghost use Rattle.reg_calls.specs.HiveView.{view_of};
 use anyhow::{Result, bail};
 use reg_calls::Hive;
 use reg_model::{AnswerBody, Change, Query};
+use reg_workload::ALL_RIGHTS;
 use std::alloc::Global;
 
 /// A hive of one root, in which nothing was changed.
@@ -33,6 +34,13 @@ pub fn apply_all(hive: &mut Hive, changes: Vec<Change>) -> Result<()>
         apply_one(hive, change)?;
     }
     Ok(())
+}
+
+/// Opens the root with every right.
+pub fn open_root(alloc: Global, hive: &mut Hive) -> Result<()> {
+    let mut changes = Vec::new(alloc);
+    changes.push(Change::OpenRoot { mask: ALL_RIGHTS })?;
+    apply_all(hive, changes)
 }
 
 /// Asks for values, each of which is told, and tells how many bytes they have together.

@@ -32,7 +32,7 @@ fn paths(alloc: Global, levels: [u32; 3]) -> Result<Vec<Bytes>> {
 }
 
 /// Makes the keys of each path, one path in a call.
-fn make_all(tree: &mut Tree, alloc: Global, paths: &[Bytes]) -> Result<()> {
+pub fn make_all(tree: &mut Tree, alloc: Global, paths: &[Bytes]) -> Result<()> {
     for path in paths {
         let Ok(()) = check_path(path.as_slice()) else {
             bail!("that is no path");
@@ -46,7 +46,7 @@ fn make_all(tree: &mut Tree, alloc: Global, paths: &[Bytes]) -> Result<()> {
 }
 
 /// Resolves each path, and tells how many led to a key.
-fn resolve_all(tree: &Tree, paths: &[Bytes]) -> Result<u32> {
+pub fn resolve_all(tree: &Tree, paths: &[Bytes]) -> Result<u32> {
     let mut found: u32 = 0;
     for path in paths {
         let Ok(()) = check_path(path.as_slice()) else {
@@ -59,7 +59,8 @@ fn resolve_all(tree: &Tree, paths: &[Bytes]) -> Result<u32> {
     Ok(found)
 }
 
-fn tree(alloc: Global) -> Result<Tree> {
+/// A tree of one root.
+pub fn new_tree(alloc: Global) -> Result<Tree> {
     let Ok(tree) = Tree::new(alloc, b"ROOT", &[1], 0) else {
         bail!("there is no memory for a tree");
     };
@@ -68,7 +69,7 @@ fn tree(alloc: Global) -> Result<Tree> {
 
 /// Makes keys and resolves them, and prints how many there are and in how many bytes.
 pub fn count(rt: &impl Print, alloc: Global) -> Result<()> {
-    let mut tree = tree(alloc)?;
+    let mut tree = new_tree(alloc)?;
     count_in(rt, alloc, &mut tree)
 }
 
@@ -99,7 +100,7 @@ pub fn measure(rt: &(impl Print + Clock), alloc: Global) -> Result<()> {
 }
 
 fn measure_at(rt: &(impl Print + Clock), alloc: Global, levels: [u32; 3]) -> Result<()> {
-    let mut tree = tree(alloc)?;
+    let mut tree = new_tree(alloc)?;
     measure_in(rt, alloc, &mut tree, levels)
 }
 

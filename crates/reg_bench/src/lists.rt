@@ -1,12 +1,12 @@
 //! Calls on a key of many values, beside a plain search of the list.
 
 use crate::cells::print_cells;
-use crate::hives::{apply_all, new_hive};
+use crate::hives::{apply_all, new_hive, open_root};
 use crate::times::Times;
 use anyhow::{Result, bail};
 use reg_calls::Hive;
 use reg_model::Change;
-use reg_workload::{ALL_RIGHTS, PlainList, ValueStep, numbers_below, take_at_random};
+use reg_workload::{PlainList, ValueStep, numbers_below, take_at_random};
 use std::alloc::Global;
 use std::rt::Clock;
 use std::time::Instant;
@@ -44,9 +44,7 @@ const ROOT: u64 = 0;
 
 /// Opens the root and sets so many values, in the hive and in the list.
 fn fill(alloc: Global, hive: &mut Hive, list: &mut PlainList, values: u32) -> Result<()> {
-    let mut calls = Vec::new(alloc);
-    calls.push(Change::OpenRoot { mask: ALL_RIGHTS })?;
-    apply_all(hive, calls)?;
+    open_root(alloc, hive)?;
     let numbers = numbers_below(alloc, values)?;
     set_all(alloc, hive, list, numbers.as_slice())
 }

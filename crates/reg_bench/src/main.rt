@@ -23,6 +23,8 @@ mod open_hive;
 mod ratios;
 mod script;
 mod securities;
+mod subkey_calls;
+mod subkeys;
 mod times;
 mod values;
 
@@ -44,7 +46,9 @@ fn count_all(rt: &(impl Print + Clock), alloc: Global) -> Result<()> {
     ratios::count(rt, alloc)?;
     depths::count(rt, alloc)?;
     lists::count(rt, alloc)?;
-    securities::count(rt, alloc)
+    securities::count(rt, alloc)?;
+    subkeys::count(rt, alloc)?;
+    subkey_calls::count(rt, alloc)
 }
 
 /// Prints how long the calls of a subject take.
@@ -52,7 +56,11 @@ fn measure(rt: &(impl Print + Clock), alloc: Global, subject: Subject) -> Result
     match subject {
         Subject::Arena => arena::measure(rt, alloc),
         Subject::Handles => handles::measure(rt, alloc),
-        Subject::Keys => keys::measure(rt, alloc),
+        Subject::Keys => {
+            keys::measure(rt, alloc)?;
+            subkeys::measure(rt, alloc)?;
+            subkey_calls::measure(rt, alloc)
+        }
         Subject::Lists => lists::measure(rt, alloc),
         Subject::Makes => makes::measure(rt, alloc),
         Subject::Maps => maps::measure(rt, alloc),

@@ -20,8 +20,8 @@ const PARENTS: [u32; 3] = [4, 40, 400];
 /// How many keys each of them has.
 const EACH: u32 = 250;
 
-/// How many keys without values one parent has: half as many as one list of subkeys holds, and as many.
-const CHILDREN: [u32; 2] = [250, 500];
+/// How many keys without values one parent has: at most 500 stand in one list, and 60,000 is the limit.
+const CHILDREN: [u32; 4] = [250, 500, 5_000, 60_000];
 
 /// The seeds by which keys are chosen to be deleted, and put in another order.
 const SEEDS: [u64; 2] = [42, 43];

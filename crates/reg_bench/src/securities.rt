@@ -1,12 +1,11 @@
 //! Descriptors of keys, set, asked for and given to keys that are made, of which a hive has few or many.
 
-use crate::hives::{apply_all, new_hive};
+use crate::hives::{apply_all, new_hive, open_root};
 use anyhow::{Result, bail};
 use reg_calls::Hive;
-use reg_model::{AnswerBody, Change, Query};
+use reg_model::{AnswerBody, Query};
 use reg_workload::{
-    ALL_RIGHTS, PerCall, SecurityStep, descriptor_queries, numbers_below, numbers_in_turn,
-    take_at_random,
+    PerCall, SecurityStep, descriptor_queries, numbers_below, numbers_in_turn, take_at_random,
 };
 use std::alloc::Global;
 use std::rt::Clock;
@@ -26,13 +25,6 @@ const CALLS: u32 = 100_000;
 
 /// How many keys at most are made with descriptors that are there: a session's handles are 16,384.
 const SHARED: u32 = 5_000;
-
-/// Opens the root.
-fn open_root(alloc: Global, hive: &mut Hive) -> Result<()> {
-    let mut changes = Vec::new(alloc);
-    changes.push(Change::OpenRoot { mask: ALL_RIGHTS })?;
-    apply_all(hive, changes)
-}
 
 /// Does a step with each descriptor.
 fn step(alloc: Global, hive: &mut Hive, step: SecurityStep, descriptors: u32) -> Result<()> {

@@ -1,10 +1,11 @@
 //! Cells carved and freed, bins appended, and the limit of all bins. The wanted bytes come from the format's description.
 //! Whoever owns an arena does nothing but hand it on: a function is the longer to check the more it does while it owns one.
-ghost use Rattle.std.specs.Prelude.{◌≡◌, ◌-◌, ◌≤◌, ◌%◌, replicate, true, Some, IsSome, IfOk};
+ghost use Rattle.std.specs.Prelude.{◌≡◌, ◌-◌, ◌≤◌, ◌%◌, replicate, true, Some, IsSome, IfOk, List, ℕ};
 ghost use Rattle.reg_arena.specs.Arena.{heap_of};
+ghost use Rattle.reg_arena.specs.Cells.{cells_of, cell_at};
 
-use crate::support::assert_told;
-use reg_arena::{Arena, ArenaFault};
+use crate::support::{assert_same, assert_told};
+use reg_arena::{Arena, ArenaFault, Cell, list_of};
 use std::alloc::Global;
 use std::test::Fail;
 
@@ -31,17 +32,24 @@ pub fn carved(alloc: Global, arena: &mut Arena, size: u32) -> Result<u32, Fail>
     Ok(offsets[0])
 }
 
+// Whether one of these cells is allocated and stands at an offset.
+pub fn is_among(cells: &[Cell], offset: u32) -> bool
+    ensures { (bytes : List ℕ) → cells_of bytes ≡ Some cells.now → result ≡ true → IsSome (cell_at bytes offset) }
+{
+    for cell in cells {
+        if cell.offset == offset && cell.allocated {
+            return true;
+        }
+    }
+    false
+}
+
 // Whether an allocated cell stands at an offset.
 fn has_cell(alloc: Global, arena: &Arena, offset: u32) -> Result<bool, Fail>
     ensures { IfOk result (λ found. found ≡ true → IsSome (heap_of arena.now offset)) }
 {
     let cells = arena.cells(alloc)?;
-    for cell in &cells {
-        if cell.offset == offset && cell.allocated {
-            return Ok(true);
-        }
-    }
-    Ok(false)
+    Ok(is_among(&cells, offset))
 }
 
 // Frees the allocated cells that there are at these offsets, in this order.
@@ -247,4 +255,34 @@ fn a_carve_without_memory_changes_nothing(rt: HostRuntime) -> Result<(), Fail> {
         carved_at_last(rt.alloc()),
         "Ok(()) [8224] 32 4064*, 4128 4064*, 8224 4072*, 12296 4088, ; ",
     )
+}
+
+// The number of the list that a size belongs to, where cells have that size.
+fn list_for(size: u32) -> Option<usize> {
+    if size == 0 || size % 8 != 0 {
+        return None;
+    }
+    Some(list_of(size))
+}
+
+// The lists 0 to 15 have one size each, and the others those from a least to a largest one.
+#[test]
+fn sizes_have_their_lists(rt: HostRuntime) -> Result<(), Fail> {
+    for list in 0..16u32 {
+        assert_same(&rt, &list_for(8 * list + 8), &Some(list as usize));
+    }
+    for (list, least, largest) in [
+        (16, 136, 248),
+        (17, 256, 504),
+        (18, 512, 1_016),
+        (19, 1_024, 2_040),
+        (20, 2_048, 4_088),
+        (21, 4_096, 8_184),
+        (22, 8_192, 16_376),
+        (23, 16_384, 268_435_424),
+    ] {
+        assert_same(&rt, &list_for(least), &Some(list));
+        assert_same(&rt, &list_for(largest), &Some(list));
+    }
+    Ok(())
 }

@@ -10,12 +10,12 @@ use std::alloc::Global;
 use std::test::Fail;
 
 /// A tree of a root, made at moment 5.
-fn tree(alloc: Global) -> Result<Tree, Fail> {
+pub fn tree(alloc: Global) -> Result<Tree, Fail> {
     Ok(Tree::new(alloc, b"ROOT", &[1, 0, 4, 128], 5)?)
 }
 
 /// The key at a path, if that is a path and the key is there.
-fn at(tree: &Tree, path: &[u8]) -> Option<Node>
+pub fn at(tree: &Tree, path: &[u8]) -> Option<Node>
     ensures { IfSome result (λ node. IsThere tree.now node) }
 {
     match check_path(path) {
@@ -37,7 +37,7 @@ fn fault_name(fault: TreeFault) -> &'static str {
 }
 
 /// Makes the keys of a path below the key at another, and tells what was answered.
-fn make_below(
+pub fn make_below(
     tree: &mut Tree,
     alloc: Global,
     above: &[u8],
@@ -72,7 +72,7 @@ fn make(
 }
 
 /// Deletes the key at a path, and tells what was answered.
-fn unmake(tree: &mut Tree, path: &[u8], moment: u64) -> &'static str {
+pub fn unmake(tree: &mut Tree, path: &[u8], moment: u64) -> &'static str {
     let Some(node) = at(tree, path) else {
         return "none";
     };
@@ -83,7 +83,7 @@ fn unmake(tree: &mut Tree, path: &[u8], moment: u64) -> &'static str {
 }
 
 /// Tells the names of the keys right below a key, in order.
-fn tell_names(alloc: Global, tree: &Tree, path: &[u8], text: &mut String) -> Result<(), Fail> {
+pub fn tell_names(alloc: Global, tree: &Tree, path: &[u8], text: &mut String) -> Result<(), Fail> {
     let Some(node) = at(tree, path) else {
         return Ok(());
     };
@@ -97,7 +97,7 @@ fn tell_names(alloc: Global, tree: &Tree, path: &[u8], text: &mut String) -> Res
 }
 
 /// How many cells are allocated.
-fn cells(alloc: Global, tree: &Tree) -> Result<usize, Fail> {
+pub fn cells(alloc: Global, tree: &Tree) -> Result<usize, Fail> {
     let cells = tree.arena().cells(alloc)?;
     Ok(cells.iter().filter(|cell| cell.allocated).count())
 }
@@ -399,4 +399,94 @@ fn values_go_with_their_key(rt: HostRuntime) -> Result<(), Fail> {
         deleted_with_values(rt.alloc()),
         "8 cells, deleted, 2 cells",
     )
+}
+
+/// Deletes the key at a path with all below it, and tells what was answered.
+fn unmake_tree(tree: &mut Tree, path: &[u8], moment: u64) -> &'static str {
+    let Some(node) = at(tree, path) else {
+        return "none";
+    };
+    match tree.delete_tree(node, moment) {
+        Ok(()) => "deleted",
+        Err(fault) => fault_name(fault),
+    }
+}
+
+/// Makes some keys, deletes one with all below it, and tells what there is then, and the last write time of a key.
+fn deleted_tree_in(
+    alloc: Global,
+    tree: &mut Tree,
+    path: &[u8],
+    timed: &[u8],
+) -> Result<String, Fail> {
+    let mut text = String::new(alloc);
+    let paths: [&[u8]; 4] = [b"P\\A\\B\\C", b"P\\A\\D", b"P\\AB\\E", b"Q"];
+    make(tree, alloc, &paths, 7, &mut text)?;
+    text.push_str(unmake_tree(tree, path, 9))?;
+    text.push_str(" ")?;
+    tell_names(alloc, tree, b"P", &mut text)?;
+    tell_all(alloc, tree, &mut text)?;
+    if let Some(node) = at(tree, timed) {
+        write!(text, ", time {}", tree.time(node))?;
+    }
+    Ok(text)
+}
+
+/// The same of a new tree.
+fn deleted_tree(alloc: Global, path: &[u8], timed: &[u8]) -> Result<String, Fail> {
+    let mut tree = tree(alloc)?;
+    deleted_tree_in(alloc, &mut tree, path, timed)
+}
+
+// a cell for the root and for the security, for each key and for each list of subkeys
+#[test]
+fn trees_are_deleted_by_name(rt: HostRuntime) -> Result<(), Fail> {
+    let alloc = rt.alloc();
+    let found = deleted_tree(alloc, b"p\\a", b"P");
+    assert_told(
+        &rt,
+        found,
+        "made made made made deleted AB P Q 9 cells, time 9",
+    )?;
+    let found = deleted_tree(alloc, b"P", b"");
+    assert_told(&rt, found, "made made made made deleted Q 4 cells, time 9")
+}
+
+#[test]
+fn the_root_is_not_deleted(rt: HostRuntime) -> Result<(), Fail> {
+    assert_told(
+        &rt,
+        deleted_tree(rt.alloc(), b"", b""),
+        "made made made made NoDelete A AB P Q 15 cells, time 7",
+    )
+}
+
+/// Whether the root, a key below it, and keys below the root are kept from being deleted.
+fn kept_in(alloc: Global, tree: &mut Tree) -> Result<String, Fail> {
+    let mut text = String::new(alloc);
+    make(tree, alloc, &[b"P\\A"], 7, &mut text)?;
+    let root = tree.root();
+    let Some(key) = at(tree, b"P") else {
+        return Err("the key is not there".into());
+    };
+    write!(
+        text,
+        "{} {} {}",
+        tree.is_kept_within(root),
+        tree.is_kept_under(root),
+        tree.is_kept_within(key)
+    )?;
+    Ok(text)
+}
+
+/// The same of a new tree.
+fn kept(alloc: Global) -> Result<String, Fail> {
+    let mut tree = tree(alloc)?;
+    kept_in(alloc, &mut tree)
+}
+
+// only the root has mark 8
+#[test]
+fn the_root_alone_is_kept(rt: HostRuntime) -> Result<(), Fail> {
+    assert_told(&rt, kept(rt.alloc()), "made true false false")
 }

@@ -8,15 +8,23 @@
 #[cfg(test)]
 mod arena;
 #[cfg(test)]
+mod bins;
+#[cfg(test)]
 mod copies;
 #[cfg(test)]
 mod hives;
+#[cfg(test)]
+mod index_roots;
 #[cfg(test)]
 mod keys;
 #[cfg(test)]
 mod limits;
 #[cfg(test)]
+mod many_keys;
+#[cfg(test)]
 mod names;
+#[cfg(test)]
+mod random_keys;
 #[cfg(test)]
 mod records;
 #[cfg(test)]

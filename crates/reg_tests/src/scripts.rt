@@ -2,6 +2,7 @@
 mod descriptors;
 mod devices;
 mod keys;
+mod subkeys;
 mod trees;
 
 use crate::support::assert_told;

@@ -53,6 +53,8 @@ pub enum Deed<'a> {
     DescribeLong(usize),
     /// Makes the keys of a path, the last with a descriptor of so many bytes.
     CreateLong(&'a [u8], usize),
+    /// Deletes the key of a path with all below it; with the empty path the root's subkeys and values.
+    DeleteTree(&'a [u8]),
 }
 
 /// What is asked of a hive.
@@ -142,6 +144,7 @@ pub fn do_one(alloc: Global, hive: &mut Hive, deed: &Deed<'_>) -> Result<u32, Fa
         Deed::Describe(handle, descriptor) => describe(alloc, hive, handle, descriptor),
         Deed::DescribeLong(len) => describe_long(alloc, hive, len),
         Deed::CreateLong(path, len) => create_long(alloc, hive, path, len),
+        Deed::DeleteTree(path) => delete_tree(alloc, hive, path),
     }
 }
 
@@ -214,6 +217,13 @@ fn describe(alloc: Global, hive: &mut Hive, handle: u64, descriptor: &[u8]) -> R
 fn describe_long(alloc: Global, hive: &mut Hive, len: usize) -> Result<u32, Fail> {
     let bytes = vec![in alloc; 9; len]?;
     describe(alloc, hive, 0, bytes.as_slice())
+}
+
+/// Deletes a key with all below it from the root by handle 0 at moment 512, and tells the reply's status.
+fn delete_tree(alloc: Global, hive: &mut Hive, path: &[u8]) -> Result<u32, Fail> {
+    let path = Bytes::from_slice(alloc, path)?;
+    let change = Change::DeleteTree { handle: 0, path };
+    Ok(hive.apply(0, 512, change).status)
 }
 
 /// What a hive answers to a question.

@@ -1,5 +1,6 @@
 //! The tool on scripts that delete whole trees.
 use super::check_table;
+use crate::support::deep;
 use std::alloc::Global;
 use std::test::Fail;
 
@@ -80,4 +81,35 @@ deltree 5 =A -> 5";
 #[test]
 fn asks_rights_for_trees(rt: HostRuntime) -> Result<(), Fail> {
     check_table(&rt, rt.alloc(), RIGHTS)
+}
+
+/// The rows that make a chain of 512 keys, 32 in a call, whose handles are 1 to 16.
+fn deepest(alloc: Global) -> Result<String, Fail> {
+    let mut table = "root 983103 -> 0 handle 0\n".to_string(alloc)?;
+    for handle in 1..17 {
+        let path = String::from_utf8(deep(alloc, handle * 32)?)?;
+        write!(
+            table,
+            "create 0 ={} 983103 -> 0 handle {handle} disposition 1\n",
+            path.as_str()
+        )?;
+    }
+    Ok(table)
+}
+
+#[test]
+fn deletes_the_deepest_tree(rt: HostRuntime) -> Result<(), Fail> {
+    let alloc = rt.alloc();
+    for path in ["A", ""] {
+        let mut table = deepest(alloc)?;
+        write!(
+            table,
+            "create 16 =a 983103 -> 1450\ndelkey 0 =a -> 5\nat 9\n"
+        )?;
+        write!(table, "deltree 0 ={path} -> 0\nquery 16 = - -> 1018\n")?;
+        write!(table, "query 1 = - -> 1018\nenumkey 0 0 9 -> 259\n")?;
+        write!(table, "create 0 =a 983103 -> 0 handle 18 disposition 1")?;
+        check_table(&rt, alloc, table.as_str())?;
+    }
+    Ok(())
 }
