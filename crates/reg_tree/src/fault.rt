@@ -14,7 +14,7 @@ pub enum TreeFault {
     #[error("the key may not be deleted")]
     NoDelete,
     /// The key has 16,384 values and none of that name; or more than 32 keys would be made, a path would have more than 512
-    /// names, or a key more than 500 subkeys.
+    /// names, or a key more than 60,000 subkeys.
     #[error("there would be too many keys or values")]
     Limit,
     /// The bins have no room for the new cells.

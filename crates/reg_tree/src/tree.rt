@@ -380,11 +380,11 @@ impl Tree {
     ///
     /// The four largest lengths of a key made are 0, but for that of its subkeys' names where the next is made below it.
     ///
-    /// The cells that come are a key node's for each key made, of its size, and its parent's list's, where that needs a cell; and
-    /// one for the descriptor that is given, where no key has it yet.
+    /// The cells that come are a key node's for each key made, of its size; those of the lists of its parent's subkeys that have no
+    /// room in their cells or give way to two (up to three); and one for the descriptor that is given, where no key has it yet.
     ///
     /// `Limit` where a key is missing and more than 32 are, or the path has more than 512 names from the root on, or the
-    /// first missing key's parent has 500 subkeys; `Full` only where no free cell has room for all the cells that it takes
+    /// first missing key's parent has 60,000 subkeys; `Full` only where no free cell has room for all the cells that it takes
     /// together and one bin more for them would pass the limit of 268,435,456 bytes; `Memory`. The bins grow by at most
     /// 1,310,720 bytes.
     pub fn create(
