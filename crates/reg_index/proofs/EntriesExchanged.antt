@@ -6,8 +6,8 @@ use Rattle.reg_records.specs.SubkeyLists.{Entry}
 use Rattle.reg_shape.specs.Nodes.{KeyList}
 use Rattle.reg_index.specs.declared.Place.{Place}
 use Rattle.reg_index.specs.declared.plan.TheConstants.{FIRST_HALF}
-use Rattle.reg_index.specs.Internal.IndexLists.{exchanged, halves, leaf_list, left_over}
-use Rattle.reg_index.specs.Subkeys.{entries_in, flat_among, numbered, with_one, without}
+use Rattle.reg_index.specs.Internal.IndexLists.{halves}
+use Rattle.reg_index.specs.Subkeys.{entries_in, exchanged, flat_among, leaf_list, left_over, numbered, with_one, without}
 use Rattle.reg_index.proofs.ListPlaces.{split-entries}
 
 -- ---- a change in a piece

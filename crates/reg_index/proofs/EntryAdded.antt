@@ -8,8 +8,8 @@ use Rattle.reg_records.specs.SubkeyLists.{Entry}
 use Rattle.reg_shape.specs.Nodes.{KeyList}
 use Rattle.reg_index.specs.declared.Place.{Place}
 use Rattle.reg_index.specs.Internal.HashLeaves.{IsLeaf}
-use Rattle.reg_index.specs.Internal.IndexLists.{AreExchanged, HasRoomAt, IsRoot, Stands, cells_under, exchanged, grown, offsets_of}
-use Rattle.reg_index.specs.Subkeys.{Moves, numbered, taken, with_one}
+use Rattle.reg_index.specs.Internal.IndexLists.{AreExchanged, HasRoomAt, IsRoot, Stands, cells_under, grown, offsets_of}
+use Rattle.reg_index.specs.Subkeys.{Moves, exchanged, numbered, taken, with_one}
 use Rattle.reg_index.proofs.CellCounts.{times-append, times-self}
 use Rattle.reg_index.proofs.EntryKeys.{length-with}
 use Rattle.reg_index.proofs.EntryTaken.{length-one}

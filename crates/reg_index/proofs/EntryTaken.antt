@@ -8,8 +8,8 @@ use Rattle.reg_records.specs.SubkeyLists.{Entry}
 use Rattle.reg_shape.specs.Nodes.{KeyList}
 use Rattle.reg_index.specs.declared.Place.{Place}
 use Rattle.reg_index.specs.Internal.HashLeaves.{IsLeaf}
-use Rattle.reg_index.specs.Internal.IndexLists.{AreExchanged, HasLists, IsOnce, IsRoot, Stands, StandsAmong, cells_under, exchanged, leaf_list, left_over, offsets_of}
-use Rattle.reg_index.specs.Subkeys.{numbered, without}
+use Rattle.reg_index.specs.Internal.IndexLists.{AreExchanged, HasLists, IsOnce, IsRoot, Stands, StandsAmong, cells_under, offsets_of}
+use Rattle.reg_index.specs.Subkeys.{exchanged, leaf_list, left_over, numbered, without}
 use Rattle.reg_index.proofs.CellCounts.{times-append}
 use Rattle.reg_index.proofs.ListDropped.{once-nothing}
 use Rattle.reg_index.proofs.ListPlaces.{list-stands}

@@ -9,8 +9,7 @@ use Rattle.reg_shape.specs.Nodes.Index.{Unlisted, Listed, Rooted}
 use Rattle.reg_index.specs.declared.Place.{Place}
 use Rattle.reg_index.specs.declared.IndexCells.{IndexCells}
 use Rattle.reg_index.specs.declared.plan.TheConstants.{FIRST_LIST_SIZE, FIRST_HALF, SECOND_HALF}
-use Rattle.reg_index.specs.Internal.IndexLists.{index_under}
-use Rattle.reg_index.specs.Subkeys.{AreSubkeys, IsPlaceIn, grown_size, index_of, insert_sizes, list_size, numbered, root_sizes, sizes_in}
+use Rattle.reg_index.specs.Subkeys.{AreSubkeys, IsPlaceIn, grown_size, index_of, index_under, insert_sizes, list_size, numbered, root_sizes, sizes_in}
 use Rattle.reg_index.proofs.FoundPlaces.{lists-some, place-of}
 use Rattle.reg_index.proofs.SubkeysOpening.{index-is, subkeys-open}
 

@@ -4,8 +4,8 @@ use Rattle.std.proofs.lemmas.List.{append-nil, length-map}
 use Rattle.reg_heap.specs.Heaps.{Heap, GivesUp, Writes}
 use Rattle.reg_heap.specs.Kinds.{times}
 use Rattle.reg_shape.specs.Nodes.{KeyList}
-use Rattle.reg_index.specs.Internal.IndexLists.{AreExchanged, HasLists, IsOnce, IsRoot, cells_under, exchanged, offsets_of}
-use Rattle.reg_index.specs.Subkeys.{numbered}
+use Rattle.reg_index.specs.Internal.IndexLists.{AreExchanged, HasLists, IsOnce, IsRoot, cells_under, offsets_of}
+use Rattle.reg_index.specs.Subkeys.{exchanged, numbered}
 use Rattle.reg_index.proofs.ListPlaces.{leaf-of}
 use Rattle.reg_index.proofs.ListsRead.{list-there}
 use Rattle.reg_index.proofs.ListsExchanged.{exchange, head-one, head-two, length-exchanged, offsets-exchanged, root-apart, root-stands, root-still, roots-none, roots-some}

@@ -10,8 +10,8 @@ use Rattle.reg_shape.specs.Nodes.{KeyList}
 use Rattle.reg_index.specs.declared.Place.{Place}
 use Rattle.reg_index.specs.declared.plan.TheConstants.{FIRST_HALF}
 use Rattle.reg_index.specs.Internal.HashLeaves.{IsLeaf}
-use Rattle.reg_index.specs.Internal.IndexLists.{AreExchanged, HasRoomFor, HasRoomForTwo, HasRootRoom, IsOnce, IsRoot, Stands, cells_under, exchanged, halves, leaf_list, offsets_of}
-use Rattle.reg_index.specs.Subkeys.{Moves, numbered, taken, with_one}
+use Rattle.reg_index.specs.Internal.IndexLists.{AreExchanged, HasRoomFor, HasRoomForTwo, HasRootRoom, IsOnce, IsRoot, Stands, cells_under, halves, offsets_of}
+use Rattle.reg_index.specs.Subkeys.{Moves, exchanged, leaf_list, numbered, taken, with_one}
 use Rattle.reg_index.proofs.CellCounts.{times-append, times-self}
 use Rattle.reg_index.proofs.EntryKeys.{length-with}
 use Rattle.reg_index.proofs.ListPlaces.{leaf-of}

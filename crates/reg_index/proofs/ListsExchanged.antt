@@ -9,8 +9,8 @@ use Rattle.reg_heap.specs.Heaps.{Heap, CellFrame}
 use Rattle.reg_heap.specs.Kinds.{times}
 use Rattle.reg_records.specs.SubkeyLists.{Entry, SubkeysList, list_of, plain_entries}
 use Rattle.reg_shape.specs.Nodes.{KeyList, list_at}
-use Rattle.reg_index.specs.Internal.IndexLists.{AreExchanged, HasLists, IsOnce, IsRoot, Stands, cells_under, exchanged, offsets_of}
-use Rattle.reg_index.specs.Subkeys.{Moves, numbered}
+use Rattle.reg_index.specs.Internal.IndexLists.{AreExchanged, HasLists, IsOnce, IsRoot, Stands, cells_under, offsets_of}
+use Rattle.reg_index.specs.Subkeys.{Moves, exchanged, numbered}
 use Rattle.reg_index.proofs.CellCounts.{times-append, times-self}
 use Rattle.reg_index.proofs.ListPlaces.{all-stand, split-lists}
 use Rattle.reg_index.proofs.ListsRead.{list-there, numbered-root, root-room}

@@ -1,73 +1,46 @@
--- The lists' entries, list by list, where one of the lists gave way to others.
-use Rattle.std.proofs.Common.{◌≡◌, Bool, true, false, cond, nat_le, ℕ, zero, suc, ◌<◌, ◌≤◌, List, [], ◌∷◌, ◌++◌, length, map, take, drop, refl, ap, ◌∙◌, arith}
-use Rattle.std.specs.Prelude.{get_or}
+-- The lists with an entry more, in the cells that were carved for them.
+use Rattle.std.proofs.Common.{◌≡◌, Bool, true, false, cond, nat_le, ℕ, ◌<◌, ◌≤◌, Some, List, [], ◌∷◌, length, take, drop, refl, ap, ◌∙◌, arith}
+use Rattle.std.specs.Prelude.{unwrap_or}
 use Rattle.std.proofs.lemmas.Bool.{le-leb, leb-true}
-use Rattle.reg_heap.specs.declared.limits.TheConstants.{LEAF_LIMIT}
+use Rattle.reg_heap.specs.declared.limits.TheConstants.{NONE, LEAF_LIMIT}
 use Rattle.reg_records.specs.SubkeyLists.{Entry}
 use Rattle.reg_shape.specs.Nodes.{KeyList}
+use Rattle.reg_shape.specs.Nodes.Index.{Rooted}
 use Rattle.reg_index.specs.declared.Place.{Place}
+use Rattle.reg_index.specs.declared.IndexCells.{IndexCells}
 use Rattle.reg_index.specs.declared.plan.TheConstants.{FIRST_HALF}
-use Rattle.reg_index.specs.Internal.IndexLists.{exchanged, left_over}
-use Rattle.reg_index.specs.Subkeys.{lists_with, lists_without, numbered, parted, unless_empty, with_one, without}
+use Rattle.reg_index.specs.Internal.IndexLists.{halves}
+use Rattle.reg_index.specs.Subkeys.{exchanged, index_under, leaf_list, lists_with, numbered, parted, with_one}
 
-abbrev pub told : List KeyList → List (List Entry)
-told lists = map (λ (l : KeyList). l.list.entries) lists
+-- as few as a list has, or more
+module _ (cells : IndexCells) (offset : ℕ) (entries : List Entry) where
+  abbrev by-length : Bool → List KeyList
+  by-length b =
+      cond b (leaf_list (unwrap_or cells.list offset) entries ∷ [])
+      (leaf_list (unwrap_or cells.list NONE) (take FIRST_HALF entries) ∷ leaf_list (unwrap_or cells.second NONE) (drop FIRST_HALF entries) ∷ [])
 
-told-append : (xs ys : List KeyList) → told (xs ++ ys) ≡ told xs ++ told ys
-told-append [] ys = refl
-told-append (x ∷ xs) ys = ap (λ es. x.list.entries ∷ es) (told-append xs ys)
+  pub parted-few : length entries ≤ LEAF_LIMIT → parted cells offset entries ≡ leaf_list (unwrap_or cells.list offset) entries ∷ []
+  parted-few l = ap by-length (le-leb (length entries) LEAF_LIMIT l)
 
-told-take : (n : ℕ) (lists : List KeyList) → told (take n lists) ≡ take n (told lists)
-told-take zero lists = refl
-told-take (suc n) [] = refl
-told-take (suc n) (l ∷ ls) = ap (λ es. l.list.entries ∷ es) (told-take n ls)
-
-told-drop : (n : ℕ) (lists : List KeyList) → told (drop n lists) ≡ drop n (told lists)
-told-drop zero lists = refl
-told-drop (suc n) [] = refl
-told-drop (suc n) (l ∷ ls) = told-drop n ls
-
-told-at : (n : ℕ) (lists : List KeyList) → (numbered n lists).list.entries ≡ get_or (told lists) n []
-told-at zero [] = refl
-told-at (suc n) [] = refl
-told-at zero (l ∷ ls) = refl
-told-at (suc n) (l ∷ ls) = told-at n ls
-
-pub told-exchanged : (number : ℕ) (others lists : List KeyList) →
-    told (exchanged number others lists) ≡ take number (told lists) ++ (told others ++ drop (suc number) (told lists))
-told-exchanged number others lists =
-    told-append (take number lists) (others ++ drop (suc number) lists)
-    ∙ ((λ i. told-take number lists i ++ told-append others (drop (suc number) lists) i)
-    ∙ ap (λ es. take number (told lists) ++ (told others ++ es)) (told-drop (suc number) lists))
-
-pub parted-few : (entries : List Entry) → length entries ≤ LEAF_LIMIT → parted entries ≡ entries ∷ []
-parted-few entries l = ap (λ b. cond b (entries ∷ []) (take FIRST_HALF entries ∷ drop FIRST_HALF entries ∷ [])) (le-leb (length entries) LEAF_LIMIT l)
-
-pub parted-many : (entries : List Entry) → LEAF_LIMIT < length entries → parted entries ≡ take FIRST_HALF entries ∷ drop FIRST_HALF entries ∷ []
-parted-many entries l = ap (λ b. cond b (entries ∷ []) (take FIRST_HALF entries ∷ drop FIRST_HALF entries ∷ [])) (by (nat_le (length entries) LEAF_LIMIT) refl)
-  where
-    by : (b : Bool) → nat_le (length entries) LEAF_LIMIT ≡ b → nat_le (length entries) LEAF_LIMIT ≡ false
-    by false e = e
-    by true e = absurd (omega (arith, l, leb-true (length entries) LEAF_LIMIT e))
+  pub parted-many : (first second : ℕ) → cells.list ≡ Some first → cells.second ≡ Some second → LEAF_LIMIT < length entries →
+      parted cells offset entries ≡ halves first second entries
+  parted-many first second f s l =
+      ap by-length (by (nat_le (length entries) LEAF_LIMIT) refl)
+      ∙ (λ i. leaf_list (unwrap_or (f i) NONE) (take FIRST_HALF entries) ∷ leaf_list (unwrap_or (s i) NONE) (drop FIRST_HALF entries) ∷ [])
+    where
+      by : (b : Bool) → nat_le (length entries) LEAF_LIMIT ≡ b → nat_le (length entries) LEAF_LIMIT ≡ false
+      by false e = e
+      by true e = absurd (omega (arith, l, leb-true (length entries) LEAF_LIMIT e))
 
 -- an entry more in the list at a place
-pub told-with : (place : Place) (entry : Entry) (others lists : List KeyList) → place.list < length lists →
-    told others ≡ parted (with_one place.index entry (numbered place.list lists).list.entries) →
-    told (exchanged place.list others lists) ≡ lists_with place entry (told lists)
-told-with place entry others [] l are = absurd (omega (arith, l))
-told-with place entry others (x ∷ xs) l are =
-    told-exchanged place.list others (x ∷ xs)
-    ∙ (ap (λ es. take place.list (told (x ∷ xs)) ++ (es ++ drop (suc place.list) (told (x ∷ xs)))) are
-    ∙ ap (λ es. take place.list (told (x ∷ xs)) ++ (parted (with_one place.index entry es) ++ drop (suc place.list) (told (x ∷ xs)))) (told-at place.list (x ∷ xs)))
+pub with-parted : (place : Place) (entry : Entry) (cells : IndexCells) (others lists : List KeyList) → place.list < length lists →
+    others ≡ parted cells (numbered place.list lists).offset (with_one place.index entry (numbered place.list lists).list.entries) →
+    exchanged place.list others lists ≡ lists_with place entry cells lists
+with-parted place entry cells others [] l are = absurd (omega (arith, l))
+with-parted place entry cells others (x ∷ xs) l are = ap (λ os. exchanged place.list os (x ∷ xs)) are
 
-told-left : (offset : ℕ) (entries : List Entry) → told (left_over offset entries) ≡ unless_empty entries
-told-left offset [] = refl
-told-left offset (e ∷ es) = refl
-
--- one fewer there
-pub told-without : (place : Place) (lists : List KeyList) →
-    told (exchanged place.list (left_over (numbered place.list lists).offset (without place.index (numbered place.list lists).list.entries)) lists) ≡ lists_without place (told lists)
-told-without place lists =
-    told-exchanged place.list (left_over (numbered place.list lists).offset (without place.index (numbered place.list lists).list.entries)) lists
-    ∙ (ap (λ es. take place.list (told lists) ++ (es ++ drop (suc place.list) (told lists))) (told-left (numbered place.list lists).offset (without place.index (numbered place.list lists).list.entries))
-    ∙ ap (λ es. take place.list (told lists) ++ (unless_empty (without place.index es) ++ drop (suc place.list) (told lists))) (told-at place.list lists))
+-- a root's cell counts where there are several lists
+pub under-same : (a b : ℕ) (lists : List KeyList) → (1 < length lists → a ≡ b) → index_under a lists ≡ index_under b lists
+under-same a b [] same = refl
+under-same a b (list ∷ []) same = refl
+under-same a b (first ∷ second ∷ others) same = ap (λ o. Rooted o (first ∷ second ∷ others)) (same (omega arith))

@@ -13,8 +13,7 @@ use Rattle.reg_shape.specs.Nodes.Index.{Unlisted, Listed, Rooted}
 use Rattle.reg_index.specs.declared.Place.{Place}
 use Rattle.reg_index.specs.declared.IndexCells.{IndexCells}
 use Rattle.reg_index.specs.declared.plan.TheConstants.{FIRST_LIST_SIZE, FIRST_HALF, SECOND_HALF}
-use Rattle.reg_index.specs.Internal.IndexLists.{index_under}
-use Rattle.reg_index.specs.Subkeys.{AreSubkeys, IsPlaceIn, StandsIn, cells_of_index, flat, flat_in, grown_size, index_of, insert_sizes, list_size, numbered, own, root_size, root_sizes, sizes_in}
+use Rattle.reg_index.specs.Subkeys.{AreSubkeys, IsPlaceIn, StandsIn, cells_of_index, flat, flat_in, grown_size, index_of, index_under, insert_sizes, list_size, numbered, own, root_size, root_sizes, sizes_in}
 use Rattle.reg_index.proofs.CellCounts.{times-self}
 use Rattle.reg_index.proofs.InsertSizes.{first-sizes, planned-one, planned-two, place-there}
 use Rattle.reg_index.proofs.ListPlaces.{all-stand, list-stands}

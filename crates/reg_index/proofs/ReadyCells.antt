@@ -15,8 +15,8 @@ use Rattle.reg_shape.specs.Nodes.{KeyList, lists_of}
 use Rattle.reg_index.specs.declared.Place.{Place}
 use Rattle.reg_index.specs.declared.IndexCells.{IndexCells}
 use Rattle.reg_index.specs.declared.plan.TheConstants.{FIRST_LIST_SIZE, FIRST_HALF, SECOND_HALF}
-use Rattle.reg_index.specs.Internal.IndexLists.{HasLists, HasRoomAt, HasRoomFor, HasRoomForTwo, HasRootRoom, IsOnce, Stands, cells_under, index_under}
-use Rattle.reg_index.specs.Subkeys.{AreSubkeys, IsPlaceIn, IsReady, IsReadyCell, each_of, entries_in, grown_size, index_of, insert_sizes, list_size, numbered, own, root_size, root_sizes, taken}
+use Rattle.reg_index.specs.Internal.IndexLists.{HasLists, HasRoomAt, HasRoomFor, HasRoomForTwo, HasRootRoom, IsOnce, Stands, cells_under}
+use Rattle.reg_index.specs.Subkeys.{AreSubkeys, IsPlaceIn, IsReady, IsReadyCell, each_of, entries_in, grown_size, index_of, index_under, insert_sizes, list_size, numbered, own, root_size, root_sizes, taken}
 use Rattle.reg_index.proofs.CellCounts.{times-append}
 use Rattle.reg_index.proofs.SubkeysFrame.{times-not}
 use Rattle.reg_index.proofs.InsertSizes.{first-sizes, planned-one, planned-two, place-there}
@@ -151,9 +151,12 @@ module _ (heap : Heap) (count offset : ℕ) (place : Place) (cells : IndexCells)
       by (inl f) = f
       by (inr n) = absurd (none-some _ (sym (ready-none heap cells.second (part-ready n).second) ∙ e))
 
+  pub no-root : cells.second ≡ None → cells.root ≡ None
+  no-root none = ready-none heap cells.root (part-ready (not-full none)).root
+
   pub one-alone : cells.second ≡ None → each_of cells ≡ taken cells.list
   one-alone none =
-      (λ i. (taken cells.list ++ taken (none i)) ++ taken (ready-none heap cells.root (part-ready (not-full none)).root i))
+      (λ i. (taken cells.list ++ taken (none i)) ++ taken (no-root none i))
       ∙ (append-nil (taken cells.list ++ []) ∙ append-nil (taken cells.list))
 
   pub room-at : cells.second ≡ None → HasRoomAt heap offset (lists_of s.index) place cells.list

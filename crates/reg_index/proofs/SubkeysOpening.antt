@@ -13,8 +13,8 @@ use Rattle.reg_shape.specs.Nodes.{KeyList, Index, list_at, key_list_as, key_list
 use Rattle.reg_shape.specs.Nodes.Index.{Unlisted, Listed, Rooted}
 use Rattle.reg_shape.specs.Written.{IsWrittenList, IsWrittenIndex}
 use Rattle.reg_index.specs.Internal.HashLeaves.{IsLeaf}
-use Rattle.reg_index.specs.Internal.IndexLists.{AreKeys, HasLists, IsRoot, Stands, StandsAmong, cells_under, index_under, offsets_of, plain}
-use Rattle.reg_index.specs.Subkeys.{AreSubkeys, cells_of_index, entries_in, flat_among, index_of, numbered, own}
+use Rattle.reg_index.specs.Internal.IndexLists.{AreKeys, HasLists, IsRoot, Stands, StandsAmong, cells_under, offsets_of, plain}
+use Rattle.reg_index.specs.Subkeys.{AreSubkeys, cells_of_index, entries_in, flat_among, index_of, index_under, numbered, own}
 use Rattle.reg_index.proofs.RootOffsets.{offsets-plain}
 use Rattle.reg_index.proofs.RootParts.{root-plain}
 use Rattle.reg_index.proofs.ListPlaces.{all-stand, entry-at}
@@ -202,27 +202,19 @@ subkeys-made heap count offset (list ∷ lists) h k n =
     some-entries : (list : KeyList) (lists : List KeyList) → AllByRecursion (Stands heap) (list ∷ lists) → 1 ≤ length (entries_in (list ∷ lists))
     some-entries list lists all = omega (arith, all.0.written.some, length-append list.list.entries (entries_in lists))
 
+-- and are the index that is read
+pub index-under : (heap : Heap) (count offset : ℕ) (lists : List KeyList) → HasLists heap offset lists → length (entries_in lists) ≡ count →
+    index_of heap count offset ≡ index_under offset lists
+index-under heap zero offset [] h n = refl
+index-under heap (suc count) offset [] h n = absurd (omega (arith, n))
+index-under heap zero offset (list ∷ lists) h n =
+    absurd (omega (arith, n, (all-stand heap offset (list ∷ lists) h).0.written.some, length-append list.list.entries (entries_in lists)))
+index-under heap (suc count) offset (list ∷ lists) h n =
+    index-is heap (suc count) offset (index_under offset (list ∷ lists)) (index-read heap (suc count) offset (list ∷ lists) h (omega arith) (omega arith))
+
 pub own-under : (heap : Heap) (count offset : ℕ) (lists : List KeyList) → HasLists heap offset lists → length (entries_in lists) ≡ count →
     own heap count offset ≡ cells_under offset lists
-own-under heap zero offset [] h n = refl
-own-under heap (suc count) offset [] h n = absurd (omega (arith, n))
-own-under heap zero offset (list ∷ lists) h n =
-    absurd (omega (arith, n, (all-stand heap offset (list ∷ lists) h).0.written.some, length-append list.list.entries (entries_in lists)))
-own-under heap (suc count) offset (list ∷ lists) h n =
-    own-is heap (suc count) offset (index_under offset (list ∷ lists)) (index-read heap (suc count) offset (list ∷ lists) h (omega arith) (omega arith))
-
--- and are the lists that are read
-pub lists-under : (heap : Heap) (count offset : ℕ) (lists : List KeyList) → HasLists heap offset lists → length (entries_in lists) ≡ count →
-    lists_of (index_of heap count offset) ≡ lists
-lists-under heap zero offset [] h n = refl
-lists-under heap (suc count) offset [] h n = absurd (omega (arith, n))
-lists-under heap zero offset (list ∷ lists) h n =
-    absurd (omega (arith, n, (all-stand heap offset (list ∷ lists) h).0.written.some, length-append list.list.entries (entries_in lists)))
-lists-under heap (suc count) offset (list ∷ []) h n =
-    ap lists_of (index-is heap (suc count) offset (index_under offset (list ∷ [])) (index-read heap (suc count) offset (list ∷ []) h (omega arith) (omega arith)))
-lists-under heap (suc count) offset (first ∷ second ∷ others) h n =
-    ap lists_of (index-is heap (suc count) offset (index_under offset (first ∷ second ∷ others))
-    (index-read heap (suc count) offset (first ∷ second ∷ others) h (omega arith) (omega arith)))
+own-under heap count offset lists h n = ap cells_of_index (index-under heap count offset lists h n)
 
 -- ---- the lists of a key's subkeys
 

@@ -123,28 +123,44 @@ flat_found heap count offset (Err place) = Err (flat heap count offset place)
 
 -- ---- what becomes of the lists
 
--- the entries of each list of an index
-abbrev pub listed : Index → List (List Entry)
-listed index = map (λ (l : KeyList). l.list.entries) (lists_of index)
+-- the hash leaf of these entries in a cell
+abbrev pub leaf_list : ℕ → List Entry → KeyList
+leaf_list offset entries = record { offset = offset; list = record { form = HashLeaf; entries = entries } }
 
--- more than 500 entries are two lists, of the first 250 and of the others
-abbrev pub parted : List Entry → List (List Entry)
-parted entries = if nat_le (length entries) LEAF_LIMIT then entries ∷ [] else take FIRST_HALF entries ∷ drop FIRST_HALF entries ∷ []
+-- the index of these lists: none, one by itself, or several under an index root in this cell
+abbrev pub index_under : ℕ → List KeyList → Index
+index_under offset [] = Unlisted
+index_under offset (list ∷ []) = Listed list
+index_under offset (first ∷ second ∷ others) = Rooted offset (first ∷ second ∷ others)
 
--- no entries are no list
-abbrev pub unless_empty : List Entry → List (List Entry)
-unless_empty [] = []
-unless_empty (e ∷ es) = (e ∷ es) ∷ []
+-- lists of which the one of a number gave way to others; the rest stay, each in its cell
+abbrev pub exchanged : ℕ → List KeyList → List KeyList → List KeyList
+exchanged number others lists = take number lists ++ (others ++ drop (suc number) lists)
 
--- lists with an entry put in at a place of one of them, or the first list of all
-abbrev pub lists_with : Place → Entry → List (List Entry) → List (List Entry)
-lists_with place entry [] = (entry ∷ []) ∷ []
-lists_with place entry (l ∷ ls) =
-    take place.list (l ∷ ls) ++ (parted (with_one place.index entry (get_or (l ∷ ls) place.list [])) ++ drop (suc place.list) (l ∷ ls))
+-- up to 500 entries are one list, in the cell that was carved for it or else where it was; more are two in the cells that were carved for
+-- them, of the first 250 and of the others
+abbrev pub parted : IndexCells → ℕ → List Entry → List KeyList
+parted cells offset entries =
+    if nat_le (length entries) LEAF_LIMIT then leaf_list (unwrap_or cells.list offset) entries ∷ []
+    else leaf_list (unwrap_or cells.list NONE) (take FIRST_HALF entries) ∷ leaf_list (unwrap_or cells.second NONE) (drop FIRST_HALF entries) ∷ []
+
+-- lists with an entry put in at a place of one of them; the first list of all stands in the cell that was carved for it
+abbrev pub lists_with : Place → Entry → IndexCells → List KeyList → List KeyList
+lists_with place entry cells [] = leaf_list (unwrap_or cells.list NONE) (entry ∷ []) ∷ []
+lists_with place entry cells (first ∷ others) =
+    let list : KeyList = numbered place.list (first ∷ others) in
+    exchanged place.list (parted cells list.offset (with_one place.index entry list.list.entries)) (first ∷ others)
+
+-- what is left of a list, in its cell: nothing where it has no entries
+abbrev pub left_over : ℕ → List Entry → List KeyList
+left_over offset [] = []
+left_over offset (e ∷ es) = leaf_list offset (e ∷ es) ∷ []
 
 -- lists without the entry at a place of one of them
-abbrev pub lists_without : Place → List (List Entry) → List (List Entry)
-lists_without place lists = take place.list lists ++ (unless_empty (without place.index (get_or lists place.list [])) ++ drop (suc place.list) lists)
+abbrev pub lists_without : Place → List KeyList → List KeyList
+lists_without place lists =
+    let list : KeyList = numbered place.list lists in
+    exchanged place.list (left_over list.offset (without place.index list.list.entries)) lists
 
 -- ---- the cells that one subkey more takes
 

@@ -8,10 +8,10 @@ ghost use Rattle.reg_arena.specs.Arena.{heap_of};
 ghost use Rattle.reg_records.specs.KeyNodes.{key_at};
 ghost use Rattle.reg_records.specs.RecordCells.{HasRoom};
 ghost use Rattle.reg_records.specs.SubkeyLists.{Entry};
-ghost use Rattle.reg_shape.specs.Nodes.{KeyList};
+ghost use Rattle.reg_shape.specs.Nodes.{KeyList, lists_of};
 ghost use Rattle.reg_index.specs.Subkeys.{AreSubkeys, IsIndexFor, IsPlaceIn, IsReady, KeepsCells, Moves, each_of, entry_for, flat, index_of, insert_sizes};
-ghost use Rattle.reg_index.specs.Subkeys.{listed, lists_with, name_at, names_in, numbered, own, taken, with_one};
-ghost use Rattle.reg_index.specs.Internal.IndexLists.{AreExchanged, HasOneMore, HasRoomAt, HasRoomForTwo, IsOnce, exchanged, grown, halves};
+ghost use Rattle.reg_index.specs.Subkeys.{exchanged, index_under, lists_with, name_at, names_in, numbered, own, taken, with_one};
+ghost use Rattle.reg_index.specs.Internal.IndexLists.{AreExchanged, HasOneMore, HasRoomAt, HasRoomForTwo, IsOnce, grown, halves};
 
 use crate::leaf::{put_first, put_in_leaf};
 use crate::look::{count_lists, leaf_at, name_of};
@@ -35,6 +35,7 @@ fn insert_within(
     ensures lists { (lists : List KeyList) → HasRoomAt (heap_of arena.old) offset lists place fresh →
         AreExchanged (heap_of arena.old) (heap_of arena.new) offset lists result
         (exchanged place.list (grown (numbered place.list lists) fresh place.index entry ∷ []) lists) (taken fresh) }
+    ensures place { (lists : List KeyList) → HasRoomAt (heap_of arena.old) offset lists place fresh → 1 < length lists → result ≡ offset }
     ensures long { length arena.new.bytes ≡ length arena.old.bytes }
     ensures keeps { KeepsCells (heap_of arena.old) (heap_of arena.new) }
 {
@@ -134,8 +135,8 @@ pub fn insert(
         AreSubkeys (heap_of arena.new) result.count result.offset
         (with_one (flat (heap_of arena.old) list.count list.offset place) (entry_for (heap_of arena.old) key) entries) }
     ensures count { result.count ≡ list.count + 1 }
-    ensures lists { listed (index_of (heap_of arena.new) result.count result.offset) ≡
-        lists_with place (entry_for (heap_of arena.old) key) (listed (index_of (heap_of arena.old) list.count list.offset)) }
+    ensures index { index_of (heap_of arena.new) result.count result.offset ≡ index_under (unwrap_or cells.root list.offset)
+        (lists_with place (entry_for (heap_of arena.old) key) cells (lists_of (index_of (heap_of arena.old) list.count list.offset))) }
     ensures moves { Moves (heap_of arena.old) (heap_of arena.new)
         (own (heap_of arena.old) list.count list.offset ++ each_of cells)
         (own (heap_of arena.new) result.count result.offset) }

@@ -95,6 +95,7 @@ pub(crate) fn close(arena: &mut Arena, cell: u32, left: u32, index: u32)
         IsLeaf (heap_of arena.new) cell (without index entries) }
     ensures writes { Writes (heap_of arena.old) (heap_of arena.new) (cell ∷ []) }
     ensures long { length arena.new.bytes ≡ length arena.old.bytes }
+    ensures keeps { KeepsCells (heap_of arena.old) (heap_of arena.new) }
 {
     arena.shift(cell, 12 + 8 * index, 4 + 8 * index, 8 * (left - index));
     put_leaf_head(arena, cell, left);

@@ -5,9 +5,9 @@ ghost use Rattle.reg_heap.specs.declared.limits.TheConstants.{LEAF_LIMIT};
 ghost use Rattle.reg_arena.specs.Arena.{heap_of};
 ghost use Rattle.reg_records.specs.SubkeyLists.{Entry};
 ghost use Rattle.reg_shape.specs.Nodes.{KeyList};
-ghost use Rattle.reg_index.specs.Subkeys.{AreSubkeys, IsPlaceIn, grown_size, index_of, insert_sizes, root_sizes};
+ghost use Rattle.reg_index.specs.Subkeys.{AreSubkeys, IsPlaceIn, grown_size, index_of, index_under, insert_sizes, root_sizes};
 ghost use Rattle.reg_index.specs.Internal.HashLeaves.{IsLeaf};
-ghost use Rattle.reg_index.specs.Internal.IndexLists.{HasLists, index_under};
+ghost use Rattle.reg_index.specs.Internal.IndexLists.{HasLists};
 
 use crate::look::{count_entries, count_lists, leaf_at};
 use crate::{IndexCells, Place, SubkeysIndex};

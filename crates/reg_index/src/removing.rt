@@ -3,9 +3,9 @@
 ghost use Rattle.std.specs.Prelude.{◌≡◌, ◌+◌, ◌<◌, [], List, length};
 ghost use Rattle.reg_arena.specs.Arena.{heap_of};
 ghost use Rattle.reg_records.specs.SubkeyLists.{Entry};
-ghost use Rattle.reg_shape.specs.Nodes.{KeyList};
-ghost use Rattle.reg_index.specs.Subkeys.{AreSubkeys, Moves, StandsIn, flat, index_of, listed, lists_without, numbered, own, without};
-ghost use Rattle.reg_index.specs.Internal.IndexLists.{AreExchanged, HasLists, IsOnce, StandsAmong, cells_under, exchanged, left_over};
+ghost use Rattle.reg_shape.specs.Nodes.{KeyList, lists_of};
+ghost use Rattle.reg_index.specs.Subkeys.{AreSubkeys, KeepsCells, Moves, StandsIn, exchanged, flat, index_of, index_under, lists_without, own, without};
+ghost use Rattle.reg_index.specs.Internal.IndexLists.{AreExchanged, HasLists, IsOnce, StandsAmong, cells_under};
 
 use crate::leaf::close;
 use crate::look::{count_entries, count_lists, leaf_at};
@@ -22,7 +22,10 @@ fn drop_list(arena: &mut Arena, offset: u32, number: u32) -> u32
     ensures lists { (lists : List KeyList) → HasLists (heap_of arena.old) offset lists → number < length lists →
         IsOnce (cells_under offset lists) →
         AreExchanged (heap_of arena.old) (heap_of arena.new) offset lists result (exchanged number [] lists) [] }
+    ensures place { (lists : List KeyList) → HasLists (heap_of arena.old) offset lists → number < length lists → 2 < length lists →
+        result ≡ offset }
     ensures long { length arena.new.bytes ≡ length arena.old.bytes }
+    ensures keeps { KeepsCells (heap_of arena.old) (heap_of arena.new) }
 {
     let lists = count_lists(arena, offset);
     let leaf = leaf_at(arena, offset, number);
@@ -47,10 +50,11 @@ fn remove_entry(arena: &mut Arena, offset: u32, place: Place) -> u32
         × IsOnce (cells_under offset lists) }
     ensures lists { (lists : List KeyList) → HasLists (heap_of arena.old) offset lists → StandsAmong lists place →
         IsOnce (cells_under offset lists) →
-        AreExchanged (heap_of arena.old) (heap_of arena.new) offset lists result
-        (exchanged place.list (left_over (numbered place.list lists).offset
-        (without place.index (numbered place.list lists).list.entries)) lists) [] }
+        AreExchanged (heap_of arena.old) (heap_of arena.new) offset lists result (lists_without place lists) [] }
+    ensures place { (lists : List KeyList) → HasLists (heap_of arena.old) offset lists → StandsAmong lists place →
+        1 < length (lists_without place lists) → result ≡ offset }
     ensures long { length arena.new.bytes ≡ length arena.old.bytes }
+    ensures keeps { KeepsCells (heap_of arena.old) (heap_of arena.new) }
 {
     let leaf = leaf_at(arena, offset, place.list);
     let left = count_entries(arena, leaf) - 1;
@@ -70,11 +74,12 @@ pub fn remove(arena: &mut Arena, list: SubkeysIndex, place: Place) -> SubkeysInd
         AreSubkeys (heap_of arena.new) result.count result.offset
         (without (flat (heap_of arena.old) list.count list.offset place) entries) }
     ensures count { result.count + 1 ≡ list.count }
-    ensures lists { listed (index_of (heap_of arena.new) result.count result.offset) ≡
-        lists_without place (listed (index_of (heap_of arena.old) list.count list.offset)) }
+    ensures index { index_of (heap_of arena.new) result.count result.offset ≡
+        index_under list.offset (lists_without place (lists_of (index_of (heap_of arena.old) list.count list.offset))) }
     ensures moves { Moves (heap_of arena.old) (heap_of arena.new)
         (own (heap_of arena.old) list.count list.offset) (own (heap_of arena.new) result.count result.offset) }
     ensures long { length arena.new.bytes ≡ length arena.old.bytes }
+    ensures keeps { KeepsCells (heap_of arena.old) (heap_of arena.new) }
 {
     let offset = remove_entry(arena, list.offset, place);
     SubkeysIndex {

@@ -98,6 +98,7 @@ pub(crate) fn take_out(arena: &mut Arena, root: u32, left: u32, number: u32)
         IsRoot (heap_of arena.new) root (take number offsets ++ drop (suc number) offsets) }
     ensures writes { Writes (heap_of arena.old) (heap_of arena.new) (root ∷ []) }
     ensures long { length arena.new.bytes ≡ length arena.old.bytes }
+    ensures keeps { KeepsCells (heap_of arena.old) (heap_of arena.new) }
 {
     arena.shift(root, 8 + 4 * number, 4 + 4 * number, 4 * (left - number));
     put_root_head(arena, root, left);

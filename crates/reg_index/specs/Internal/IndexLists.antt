@@ -6,18 +6,17 @@ use Rattle.reg_names.specs.Names.{hash}
 use Rattle.reg_heap.specs.declared.limits.TheConstants.{NONE, LEAF_LIMIT}
 use Rattle.reg_heap.specs.Heaps.{Heap}
 use Rattle.reg_heap.specs.Kinds.{times}
-use Rattle.reg_records.specs.declared.lists.ListForm.TheVariants.{IndexRoot, HashLeaf}
+use Rattle.reg_records.specs.declared.lists.ListForm.TheVariants.{IndexRoot}
 use Rattle.reg_records.specs.RecordCells.{HasRoom, held}
 use Rattle.reg_records.specs.KeyNodes.{key_at}
 use Rattle.reg_records.specs.SubkeyLists.{Entry}
-use Rattle.reg_shape.specs.Nodes.{KeyList, Index, list_at, lists_of}
-use Rattle.reg_shape.specs.Nodes.Index.{Unlisted, Listed, Rooted}
+use Rattle.reg_shape.specs.Nodes.{KeyList, list_at, lists_of}
 use Rattle.reg_shape.specs.Written.{IsWrittenList}
 use Rattle.reg_index.specs.declared.Place.{Place}
 use Rattle.reg_index.specs.declared.IndexCells.{IndexCells}
 use Rattle.reg_index.specs.declared.plan.TheConstants.{FIRST_HALF, SECOND_HALF}
 use Rattle.reg_index.specs.Internal.HashLeaves.{IsLeaf}
-use Rattle.reg_index.specs.Subkeys.{Moves, Rises, cells_of_index, each_of, entries_in, flat, index_of, listed, lists_with, name_at, names_in, numbered, taken, with_one}
+use Rattle.reg_index.specs.Subkeys.{Moves, Rises, cells_of_index, each_of, entries_in, flat, index_of, index_under, leaf_list, lists_with, name_at, names_in, numbered, taken, with_one}
 
 -- each entry is that of a key with the hash of its name, and the names rise
 pub record AreKeys (heap : Heap) (entries : List Entry) : Type 0 where
@@ -35,10 +34,6 @@ plain offset = record { offset = offset; hint = 0 }
 abbrev pub IsRoot : Heap → ℕ → List ℕ → Type 0
 IsRoot heap cell offsets = list_at heap cell ≡ Some (record { form = IndexRoot; entries = map plain offsets })
 
--- the hash leaf of these entries at an offset
-abbrev pub leaf_list : ℕ → List Entry → KeyList
-leaf_list offset entries = record { offset = offset; list = record { form = HashLeaf; entries = entries } }
-
 -- a list of keys as it is written stands in its cell
 pub record Stands (heap : Heap) (list : KeyList) : Type 0 where
   pub leaf : IsLeaf heap list.offset list.list.entries
@@ -54,13 +49,7 @@ HasLists heap offset (list ∷ []) = (list.offset ≡ offset) × Stands heap lis
 HasLists heap offset (first ∷ second ∷ others) =
     IsRoot heap offset (offsets_of (first ∷ second ∷ others)) × AllByRecursion (Stands heap) (first ∷ second ∷ others)
 
--- the index of these lists
-abbrev pub index_under : ℕ → List KeyList → Index
-index_under offset [] = Unlisted
-index_under offset (list ∷ []) = Listed list
-index_under offset (first ∷ second ∷ others) = Rooted offset (first ∷ second ∷ others)
-
--- its cells
+-- the cells of the index of these lists
 abbrev pub cells_under : ℕ → List KeyList → List ℕ
 cells_under offset lists = cells_of_index (index_under offset lists)
 
@@ -68,10 +57,6 @@ abbrev pub StandsAmong : List KeyList → Place → Type 0
 StandsAmong lists place = (place.list < length lists) × (place.index < length (numbered place.list lists).list.entries)
 
 -- ---- a change of them
-
--- the list of a number gave way to others
-abbrev pub exchanged : ℕ → List KeyList → List KeyList → List KeyList
-exchanged number others lists = take number lists ++ (others ++ drop (suc number) lists)
 
 -- from old to new these lists gave way to others; the cells of before, and some that were carved, gave way to those of now, and
 -- nothing else changed
@@ -123,15 +108,12 @@ pub record HasRoomForTwo (heap : Heap) (offset : ℕ) (lists : List KeyList) (pl
 abbrev pub halves : ℕ → ℕ → List Entry → List KeyList
 halves first second entries = leaf_list first (take FIRST_HALF entries) ∷ leaf_list second (drop FIRST_HALF entries) ∷ []
 
--- what is left of a list without an entry: none where that was its last
-abbrev pub left_over : ℕ → List Entry → List KeyList
-left_over offset [] = []
-left_over offset (e ∷ es) = leaf_list offset (e ∷ es) ∷ []
-
--- the lists of an index gave way to others that have an entry more among all, at a place; all cells that were carved are theirs
+-- the lists of an index gave way to others that have an entry more among all, at a place; all cells that were carved are theirs, and the
+-- root of several is in its cell, or in the one that was carved for it
 pub record HasOneMore (old new : Heap) (count offset : ℕ) (place : Place) (entry : Entry) (entries : List Entry) (cells : IndexCells) (result : ℕ) : Type 0 where
   pub others : List KeyList
+  pub others_are : others ≡ lists_with place entry cells (lists_of (index_of old count offset))
   pub exchanged : AreExchanged old new offset (lists_of (index_of old count offset)) result others (each_of cells)
   pub entries_are : entries_in others ≡ with_one (flat old count offset place) entry entries
   pub used : (z : ℕ) → times z (each_of cells) ≤ times z (cells_under result others)
-  pub lists_are : map (λ (l : KeyList). l.list.entries) others ≡ lists_with place entry (listed (index_of old count offset))
+  pub root : 1 < length others → result ≡ unwrap_or cells.root offset

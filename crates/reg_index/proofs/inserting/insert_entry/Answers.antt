@@ -1,6 +1,6 @@
 use Rattle.reg_arena.specs.Arena.{heap_of}
 use Rattle.reg_shape.specs.Nodes.{lists_of}
-use Rattle.reg_index.proofs.ReadyCells.{first-carved, first-room, room-at, one-alone, first-there, all-three, room-for-two}
+use Rattle.reg_index.proofs.ReadyCells.{first-carved, first-room, room-at, no-root, one-alone, first-there, all-three, room-for-two}
 use Rattle.reg_index.proofs.SubkeyAdded.{first-more, grown-more, halved-more}
 use Rattle.reg_index.proofs.inserting.insert_entry.Goals as goal
 
@@ -47,14 +47,17 @@ returns-in_default-second-clause-lists c = λ entries s.
     entries s
     (one-alone (heap_of c.args.arena.now) c.args.list.count c.args.list.offset c.args.place c.args.cells c.if-list-eq0.false c.requires.place c.requires.ready
     c.requires.once entries s c.in_default-second.is)
-    r (c.insert_within.ensures.lists (lists_of s.index) r)
+    r
+    (no-root (heap_of c.args.arena.now) c.args.list.count c.args.list.offset c.args.place c.args.cells c.if-list-eq0.false c.requires.place c.requires.ready
+    c.requires.once entries s c.in_default-second.is)
+    (c.insert_within.ensures.place (lists_of s.index) r) (c.insert_within.ensures.lists (lists_of s.index) r)
 
 pub returns-clause-lists : goal.returns-clause-lists
 returns-clause-lists c = λ entries s.
     let r = room-for-two (heap_of c.args.arena.now) c.args.list.count c.args.list.offset c.args.place c.args.cells c.if-list-eq0.false c.requires.place c.requires.ready
     c.requires.once entries s c.in-Some-second.second c.in-Some-second.is c.in-Some-list.first c.in-Some-list.is c.requires.few in
     halved-more (heap_of c.args.arena.now) (heap_of c.insert_splitting.new.arena) c.args.list.count c.args.list.offset c.insert_splitting.result c.args.place c.args.entry c.args.cells
-    entries s c.in-Some-list.first c.in-Some-second.second
+    entries s c.in-Some-list.first c.in-Some-second.second c.in-Some-list.is c.in-Some-second.is
     (all-three (heap_of c.args.arena.now) c.args.list.count c.args.list.offset c.args.place c.args.cells c.if-list-eq0.false c.requires.place c.requires.ready
     c.requires.once entries s c.in-Some-second.second c.in-Some-second.is c.in-Some-list.first c.in-Some-list.is)
     r c.insert_splitting.ensures.place (c.insert_splitting.ensures.lists (lists_of s.index) r)

@@ -2,7 +2,7 @@ use Rattle.reg_arena.specs.Arena.{heap_of}
 use Rattle.reg_shape.specs.Nodes.{lists_of}
 use Rattle.reg_index.proofs.SubkeysOnce.{lists-once}
 use Rattle.reg_index.proofs.SubkeysOpening.{lists-has}
-use Rattle.reg_index.proofs.SubkeyRemoved.{stands-among, fewer, fewer-moves, fewer-listed}
+use Rattle.reg_index.proofs.SubkeyRemoved.{stands-among, fewer, fewer-moves, fewer-indexed}
 use Rattle.reg_index.proofs.removing.remove.Goals as goal
 
 pub remove_entry-offset-requires : goal.remove_entry-offset-requires
@@ -24,7 +24,7 @@ returns-clause-moves c =
     fewer-moves (heap_of c.args.arena.now) c.args.list.count c.args.list.offset c.args.place c.requires.place c.requires.subkeys.0 c.requires.subkeys.1
     (heap_of c.remove_entry-offset.new.arena) c.remove_entry-offset.result c.remove_entry-offset.ensures.lists
 
-pub returns-clause-lists : goal.returns-clause-lists
-returns-clause-lists c =
-    fewer-listed (heap_of c.args.arena.now) c.args.list.count c.args.list.offset c.args.place c.requires.place c.requires.subkeys.0 c.requires.subkeys.1
-    (heap_of c.remove_entry-offset.new.arena) c.remove_entry-offset.result c.remove_entry-offset.ensures.lists
+pub returns-clause-index : goal.returns-clause-index
+returns-clause-index c =
+    fewer-indexed (heap_of c.args.arena.now) c.args.list.count c.args.list.offset c.args.place c.requires.place c.requires.subkeys.0 c.requires.subkeys.1
+    (heap_of c.remove_entry-offset.new.arena) c.remove_entry-offset.result c.remove_entry-offset.ensures.lists c.remove_entry-offset.ensures.place

@@ -1,8 +1,10 @@
-use Rattle.std.proofs.Common.{◌-◌, [], sym, subst, arith}
+use Rattle.std.proofs.Common.{◌-◌, [], length, ap, sym, subst, arith}
 use Rattle.reg_arena.specs.Arena.{heap_of}
-use Rattle.reg_index.specs.Internal.IndexLists.{AreExchanged, exchanged}
+use Rattle.reg_index.specs.Internal.IndexLists.{AreExchanged}
+use Rattle.reg_index.specs.Subkeys.{exchanged, numbered}
 use Rattle.reg_index.proofs.ListPlaces.{leaf-of, count-of, list-stands}
-use Rattle.reg_index.proofs.EntryTaken.{none-left, one-fewer}
+use Rattle.reg_index.proofs.EntryTaken.{none-left, none-over, one-fewer}
+use Rattle.reg_index.proofs.ListsExchanged.{length-exchanged}
 use Rattle.reg_index.proofs.removing.remove_entry.Goals as goal
 
 pub count_entries-left-requires : goal.count_entries-left-requires
@@ -25,6 +27,15 @@ returns-then-left-eq0-clause-lists c = λ lists h stands once.
     once is (omega (arith, count, stands.1)) c.if-left-eq0.true in
     subst (λ others. AreExchanged (heap_of c.args.arena.now) (heap_of c.drop_list.new.arena) c.args.offset lists c.drop_list.result (exchanged c.args.place.list others lists) [])
     (sym none) (c.drop_list.ensures.lists lists h stands.0 once)
+
+pub returns-then-left-eq0-clause-place : goal.returns-then-left-eq0-clause-place
+returns-then-left-eq0-clause-place c = λ lists h stands several.
+    let list = numbered c.args.place.list lists in
+    let is = c.leaf_at-leaf.ensures lists h stands.0 in
+    let count = count-of (heap_of c.args.arena.now) c.args.offset lists c.args.place.list c.leaf_at-leaf.result c.count_entries-left.result h stands.0 is c.count_entries-left.ensures in
+    let none = none-over list.offset c.args.place.index list.list.entries stands.1 (omega (arith, count, stands.1, c.if-left-eq0.true)) in
+    let left = ap (λ others. length (exchanged c.args.place.list others lists)) none in
+    c.drop_list.ensures.place lists h stands.0 (omega (arith, several, left, length-exchanged c.args.place.list [] lists stands.0))
 
 pub close-requires-clause-leaf : goal.close-requires-clause-leaf
 close-requires-clause-leaf c =
