@@ -1,5 +1,5 @@
 -- Subkeys in bytes that were worked out by hand.
-use Rattle.std.proofs.Common.{◌≡◌, ◌==◌, Some, None, ℕ, List, [], ◌∷◌, cond, length, refl, sym, ap, arith, replicate}
+use Rattle.std.proofs.Common.{◌≡◌, ◌==◌, ◌+◌, Some, None, ℕ, zero, suc, List, [], ◌∷◌, ◌++◌, cond, length, refl, sym, ap, arith, replicate}
 use Rattle.std.proofs.lemmas.Option.{same_Some}
 use Rattle.reg_heap.specs.Heaps.{Heap}
 use Rattle.reg_heap.specs.ByteWords.{half, word}
@@ -9,7 +9,7 @@ use Rattle.reg_shape.specs.Nodes.{KeyList, Index, index_at, entries_of}
 use Rattle.reg_shape.specs.Nodes.Index.{Unlisted, Listed, Rooted}
 use Rattle.reg_index.specs.declared.Place.{Place}
 use Rattle.reg_index.specs.declared.IndexCells.{IndexCells}
-use Rattle.reg_index.specs.Subkeys.{AreSubkeys, IsPlaceIn, StandsIn, flat, insert_sizes, own, root_sizes, sizes_in}
+use Rattle.reg_index.specs.Subkeys.{AreSubkeys, IsPlaceIn, StandsIn, flat, index_under, insert_sizes, leaf_list, lists_with, lists_without, own, root_sizes, sizes_in}
 
 -- the index of one list, at 120
 abbrev listed : List Entry → Index
@@ -169,3 +169,92 @@ second_full = refl
 
 first_not : sizes_in (rooted 0) full_second 0 ≡ one_list 2016
 first_not = refl
+
+-- ---- what becomes of the lists
+
+abbrev entry : ℕ → Entry
+entry key = record { offset = key; hint = 65 }
+
+abbrev place : ℕ → ℕ → Place
+place list index = record { list = list; index = index }
+
+-- so many entries, of the keys at this offset and the following ones
+abbrev entries_from : ℕ → ℕ → List Entry
+entries_from zero key = []
+entries_from (suc number) key = entry key ∷ entries_from number (key + 1)
+
+-- no cell was carved, one for a list, or two for the halves of a list and one for an index root
+abbrev none_carved : IndexCells
+none_carved = record { list = None; second = None; root = None }
+
+abbrev list_at_300 : IndexCells
+list_at_300 = record { list = Some 300; second = None; root = None }
+
+abbrev halves_at_300 : IndexCells
+halves_at_300 = record { list = Some 300; second = Some 320; root = Some 340 }
+
+-- the first of all stands in the cell that was carved for it
+first_of_all : lists_with (place 0 0) (entry 32) list_at_300 [] ≡ leaf_list 300 (entry 32 ∷ []) ∷ []
+first_of_all = refl
+
+-- three lists, at 400, 440 and 480
+abbrev three : List KeyList
+three = leaf_list 400 (entry 10 ∷ entry 11 ∷ []) ∷ leaf_list 440 (entry 20 ∷ entry 22 ∷ []) ∷ leaf_list 480 (entry 30 ∷ []) ∷ []
+
+-- one more in the middle one, between its two: where its cell has room, it stays there
+middle_grows : lists_with (place 1 1) (entry 21) none_carved three ≡
+    leaf_list 400 (entry 10 ∷ entry 11 ∷ []) ∷ leaf_list 440 (entry 20 ∷ entry 21 ∷ entry 22 ∷ []) ∷ leaf_list 480 (entry 30 ∷ []) ∷ []
+middle_grows = refl
+
+-- and where not, it alone moves, to the cell that was carved for it
+middle_moves : lists_with (place 1 2) (entry 23) list_at_300 three ≡
+    leaf_list 400 (entry 10 ∷ entry 11 ∷ []) ∷ leaf_list 300 (entry 20 ∷ entry 22 ∷ entry 23 ∷ []) ∷ leaf_list 480 (entry 30 ∷ []) ∷ []
+middle_moves = refl
+
+-- a list of 499 takes a 500th and is one list still
+one_list_of_500 : lists_with (place 0 499) (entry 1499) list_at_300 (leaf_list 400 (entries_from 499 1000) ∷ []) ≡ leaf_list 300 (entries_from 500 1000) ∷ []
+one_list_of_500 = refl
+
+-- a list of 500 with one more gives way to two in the two cells that were carved, of the first 250 and of the other 251: the one that comes
+-- is the last of the first half, the first of the second, or the last of all
+last_of_first : lists_with (place 0 249) (entry 7) halves_at_300 (leaf_list 400 (entries_from 500 1000) ∷ []) ≡
+    leaf_list 300 (entries_from 249 1000 ++ entry 7 ∷ []) ∷ leaf_list 320 (entries_from 251 1249) ∷ []
+last_of_first = refl
+
+first_of_second : lists_with (place 0 250) (entry 7) halves_at_300 (leaf_list 400 (entries_from 500 1000) ∷ []) ≡
+    leaf_list 300 (entries_from 250 1000) ∷ leaf_list 320 (entry 7 ∷ entries_from 250 1250) ∷ []
+first_of_second = refl
+
+last_of_second : lists_with (place 0 500) (entry 1500) halves_at_300 (leaf_list 400 (entries_from 500 1000) ∷ []) ≡
+    leaf_list 300 (entries_from 250 1000) ∷ leaf_list 320 (entries_from 251 1250) ∷ []
+last_of_second = refl
+
+-- of three lists the full one gives way to two, and the others stay where they were
+middle_parts : lists_with (place 1 250) (entry 7) halves_at_300
+    (leaf_list 400 (entry 10 ∷ []) ∷ leaf_list 440 (entries_from 500 1000) ∷ leaf_list 480 (entry 30 ∷ []) ∷ [])
+    ≡ leaf_list 400 (entry 10 ∷ []) ∷ leaf_list 300 (entries_from 250 1000) ∷ leaf_list 320 (entry 7 ∷ entries_from 250 1250)
+    ∷ leaf_list 480 (entry 30 ∷ []) ∷ []
+middle_parts = refl
+
+-- one of two in the middle list goes, and the list stays in its cell
+middle_shrinks : lists_without (place 1 0) three ≡
+    leaf_list 400 (entry 10 ∷ entry 11 ∷ []) ∷ leaf_list 440 (entry 22 ∷ []) ∷ leaf_list 480 (entry 30 ∷ []) ∷ []
+middle_shrinks = refl
+
+-- the only one in the middle list of three goes, and its list with it: two are left under the root
+two_left : index_under 200 (lists_without (place 1 0) (leaf_list 400 (entry 10 ∷ []) ∷ leaf_list 440 (entry 20 ∷ []) ∷ leaf_list 480 (entry 30 ∷ []) ∷ []))
+    ≡ Rooted 200 (leaf_list 400 (entry 10 ∷ []) ∷ leaf_list 480 (entry 30 ∷ []) ∷ [])
+two_left = refl
+
+-- the only one in one of two lists goes: the other list is left in its cell, and no root
+second_left : index_under 200 (lists_without (place 0 0) (leaf_list 400 (entry 10 ∷ []) ∷ leaf_list 440 (entry 20 ∷ entry 21 ∷ []) ∷ []))
+    ≡ Listed (leaf_list 440 (entry 20 ∷ entry 21 ∷ []))
+second_left = refl
+
+first_left : index_under 200 (lists_without (place 1 0) (leaf_list 400 (entry 10 ∷ []) ∷ leaf_list 440 (entry 20 ∷ []) ∷ []))
+    ≡ Listed (leaf_list 400 (entry 10 ∷ []))
+first_left = refl
+
+-- the last of all goes, and there is no list
+none_left : index_under 400 (lists_without (place 0 0) (leaf_list 400 (entry 10 ∷ []) ∷ [])) ≡ Unlisted
+none_left = refl
