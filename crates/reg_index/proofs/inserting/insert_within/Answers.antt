@@ -14,10 +14,6 @@ put_over-requires-clause-root c =
     c.args.entry s.0 r (omega (arith, count, r.within, c.if-lists-eq1.false)) (c.leaf_at-leaf.ensures s.0 r.lists_are r.within) c.put_in_leaf-leaf.ensures.place
     c.put_in_leaf-leaf.ensures.moves
 
-pub returns-then-lists-eq1-clause-place : goal.returns-then-lists-eq1-clause-place
-returns-then-lists-eq1-clause-place c = λ lists r l.
-    absurd (omega (arith, c.count_lists-lists.ensures.count lists r.lists_are (omega (arith, r.within)), c.if-lists-eq1.true, l))
-
 pub returns-clause-lists : goal.returns-clause-lists
 returns-clause-lists c = λ lists r.
     let count = c.count_lists-lists.ensures.count lists r.lists_are (omega (arith, r.within)) in

@@ -13,14 +13,6 @@ returns-then-lists-eq2-clause-lists c = λ lists h there once.
     there once (c.leaf_at-leaf.ensures lists h there) c.free-then-lists-eq2.ensures.gone c.leaf_at-other.result two c.free-then-lists-eq2-2.ensures.gone
     (c.leaf_at-other.ensures lists h (omega (arith, two)))
 
-pub returns-then-lists-eq1-clause-place : goal.returns-then-lists-eq1-clause-place
-returns-then-lists-eq1-clause-place c = λ lists h there three.
-    absurd (omega (arith, c.count_lists-lists.ensures.count lists h (omega (arith, there)), c.if-lists-eq1.true, three))
-
-pub returns-then-lists-eq2-clause-place : goal.returns-then-lists-eq2-clause-place
-returns-then-lists-eq2-clause-place c = λ lists h there three.
-    absurd (omega (arith, c.count_lists-lists.ensures.count lists h (omega (arith, there)), c.if-lists-eq2.true, three))
-
 pub free-requires-2 : goal.free-requires-2
 free-requires-2 c = let s = c.requires in leaf-found (heap_of c.args.arena.now) c.args.offset c.args.number c.leaf_at-leaf.result s.0 s.1 s.2 (c.leaf_at-leaf.ensures s.0 s.1 s.2)
 
