@@ -115,7 +115,8 @@ fn insert_entry(
 }
 
 /// Puts a key among the subkeys, at the place that `find` gave as an `Err`, in the cells that were carved as `plan_insert` gave their
-/// sizes. A list of 500 subkeys gives way to two, of the first 250 and the last 251. Answers where the subkeys are now.
+/// sizes. A list of 500 subkeys gives way to two, of the first 250 and the last 251; each other list stays in its cell. Answers where
+/// the subkeys are now.
 pub fn insert(
     arena: &mut Arena,
     list: SubkeysIndex,

@@ -66,7 +66,7 @@ fn remove_entry(arena: &mut Arena, offset: u32, place: Place) -> u32
 }
 
 /// Takes the key at a place out of the subkeys; the later ones of its list close up in the list's cell. A list left empty is freed, and
-/// so is an index root left with one list. Answers where the subkeys are now.
+/// so is an index root left with one list; each other list stays in its cell. Answers where the subkeys are now.
 pub fn remove(arena: &mut Arena, list: SubkeysIndex, place: Place) -> SubkeysIndex
     requires subkeys { (entries : List Entry) × AreSubkeys (heap_of arena.old) list.count list.offset entries }
     requires place { StandsIn (index_of (heap_of arena.old) list.count list.offset) place }
