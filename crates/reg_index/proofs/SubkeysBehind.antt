@@ -1,4 +1,4 @@
--- The subkey at a place, and the one behind it.
+-- The subkey at a place, and the place behind it.
 use Rattle.std.proofs.Common.{◌≡◌, ℕ, suc, ◌+◌, ◌<◌, ◌≤◌, List, length, get_or, sym, ap, subst, arith}
 use Rattle.reg_heap.specs.Heaps.{Heap}
 use Rattle.reg_records.specs.SubkeyLists.{Entry}
@@ -24,17 +24,23 @@ module _ (heap : Heap) (count offset : ℕ) (place : Place) (stands : StandsIn (
       (get_or entries (flat heap count offset place) (record { offset = 0; hint = 0 })).offset ≡ key
   here-is key is = subkey-at heap count offset entries s (flat heap count offset place) place key place-stands (sym (flat-read heap count offset place entries s)) is
 
+  pub here-within : flat heap count offset place < length entries
+  here-within = omega (arith, place-stands.1, flat-read heap count offset place entries s, before-within (lists_of s.index) place.list place-stands.0, total)
+
+  -- a place as it is read
+  read-place : (next : Place) → StandsAmong (lists_of s.index) next → StandsIn (index_of heap count offset) next
+  read-place next is = subst (λ i. StandsIn i next) (sym (index-is heap count offset s.index s.read)) is
+
   -- the next one in its list
   module _ (more : place.index + 1 < length (numbered place.list (lists_of s.index)).list.entries) where
-    pub next-within : flat heap count offset place + 1 < length entries
-    next-within =
-        omega (arith, more, flat-read heap count offset place entries s, before-within (lists_of s.index) place.list place-stands.0, total)
+    abbrev next : Place
+    next = record { list = place.list; index = place.index + 1 }
 
-    pub next-is : (key : ℕ) → (get_or (numbered place.list (lists_of s.index)).list.entries (place.index + 1) (record { offset = 0; hint = 0 })).offset ≡ key →
-        (get_or entries (flat heap count offset place + 1) (record { offset = 0; hint = 0 })).offset ≡ key
-    next-is key is =
-        subkey-at heap count offset entries s (flat heap count offset place + 1) (record { list = place.list; index = place.index + 1 }) key (place-stands.0, more)
-        (omega (arith, flat-read heap count offset place entries s)) is
+    pub next-place : StandsIn (index_of heap count offset) next × (flat heap count offset next ≡ flat heap count offset place + 1)
+    next-place = (
+      read-place next (place-stands.0, more),
+      omega (arith, flat-read heap count offset place entries s, flat-read heap count offset next entries s),
+    )
 
   -- the last one of its list
   module _ (last : length (numbered place.list (lists_of s.index)).list.entries ≤ place.index + 1) where
@@ -48,21 +54,23 @@ module _ (heap : Heap) (count offset : ℕ) (place : Place) (stands : StandsIn (
     none-behind l = omega (arith, behind-all, before-all (lists_of s.index) (suc place.list) (omega (arith, l)), total)
 
     module _ (more : place.list + 1 < length (lists_of s.index)) where
-      pub some-there : 0 < length (numbered (place.list + 1) (lists_of s.index)).list.entries
+      abbrev first : Place
+      first = record { list = place.list + 1; index = 0 }
+
+      some-there : 0 < length (numbered (place.list + 1) (lists_of s.index)).list.entries
       some-there = omega (arith, (list-stands heap offset (lists_of s.index) (place.list + 1) (lists-has heap count offset entries s) more).written.some)
 
-      pub first-within : flat heap count offset place + 1 < length entries
-      first-within = omega (
-        arith,
-        behind-all,
-        ap (λ n. entries_before n (lists_of s.index)) one_more,
-        before-within (lists_of s.index) (place.list + 1) more,
-        some-there,
-        total,
+      pub first-place : StandsIn (index_of heap count offset) first × (flat heap count offset first ≡ flat heap count offset place + 1)
+      first-place = (
+        read-place first (more, some-there),
+        omega (arith, behind-all, ap (λ n. entries_before n (lists_of s.index)) one_more, flat-read heap count offset first entries s),
       )
 
-      pub first-is : (key : ℕ) → (get_or (numbered (place.list + 1) (lists_of s.index)).list.entries 0 (record { offset = 0; hint = 0 })).offset ≡ key →
-          (get_or entries (flat heap count offset place + 1) (record { offset = 0; hint = 0 })).offset ≡ key
-      first-is key is =
-          subkey-at heap count offset entries s (flat heap count offset place + 1) (record { list = place.list + 1; index = 0 }) key (more, some-there)
-          (omega (arith, behind-all, ap (λ n. entries_before n (lists_of s.index)) one_more)) is
+-- the key at a place behind another
+pub behind-is : (heap : Heap) (count offset : ℕ) (place next : Place) (entries : List Entry) → AreSubkeys heap count offset entries →
+    StandsIn (index_of heap count offset) next × (flat heap count offset next ≡ flat heap count offset place + 1) → (key : ℕ) →
+    (get_or entries (flat heap count offset next) (record { offset = 0; hint = 0 })).offset ≡ key →
+    (flat heap count offset place + 1 < length entries) × ((get_or entries (flat heap count offset place + 1) (record { offset = 0; hint = 0 })).offset ≡ key)
+behind-is heap count offset place next entries s is key at =
+    subst (λ i. (i < length entries) × ((get_or entries i (record { offset = 0; hint = 0 })).offset ≡ key)) is.1
+    (here-within heap count offset next is.0 entries s, at)

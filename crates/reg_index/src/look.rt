@@ -141,6 +141,35 @@ pub fn at_place(arena: &Arena, list: SubkeysIndex, place: Place) -> u32
     key_in(arena, leaf_at(arena, list.offset, place.list), place.index)
 }
 
+/// The place of the subkey behind the one at a place, in the order of folded names, if there is one. It reads two numbers: how many
+/// entries the place's list has and, where that was its last, how many lists there are.
+pub fn place_behind(arena: &Arena, list: SubkeysIndex, place: Place) -> Option<Place>
+    requires subkeys { (entries : List Entry) × AreSubkeys (heap_of arena.now) list.count list.offset entries }
+    requires place { StandsIn (index_of (heap_of arena.now) list.count list.offset) place }
+    ensures { (entries : List Entry) → AreSubkeys (heap_of arena.now) list.count list.offset entries →
+        MatchOption result (length entries ≤ flat (heap_of arena.now) list.count list.offset place + 1)
+        (λ next. StandsIn (index_of (heap_of arena.now) list.count list.offset) next
+        × (flat (heap_of arena.now) list.count list.offset next ≡ flat (heap_of arena.now) list.count list.offset place + 1)) }
+{
+    let leaf = leaf_at(arena, list.offset, place.list);
+    let index = place.index + 1;
+    if index < count_entries(arena, leaf) {
+        return Some(Place {
+            list: place.list,
+            index,
+        });
+    }
+    let lists = count_lists(arena, list.offset);
+    let number = place.list + 1;
+    if number < lists {
+        return Some(Place {
+            list: number,
+            index: 0,
+        });
+    }
+    None
+}
+
 /// The offset of the key behind the one at a place, in the order of folded names, if there is one.
 pub fn behind(arena: &Arena, list: SubkeysIndex, place: Place) -> Option<u32>
     requires subkeys { (entries : List Entry) × AreSubkeys (heap_of arena.now) list.count list.offset entries }
@@ -150,17 +179,8 @@ pub fn behind(arena: &Arena, list: SubkeysIndex, place: Place) -> Option<u32>
         (λ key. (flat (heap_of arena.now) list.count list.offset place + 1 < length entries)
         × ((get_or entries (flat (heap_of arena.now) list.count list.offset place + 1) (record { offset = 0; hint = 0 })).offset ≡ key)) }
 {
-    let leaf = leaf_at(arena, list.offset, place.list);
-    let index = place.index + 1;
-    if index < count_entries(arena, leaf) {
-        return Some(key_in(arena, leaf, index));
-    }
-    let lists = count_lists(arena, list.offset);
-    let number = place.list + 1;
-    if number < lists {
-        return Some(key_in(arena, leaf_at(arena, list.offset, number), 0));
-    }
-    None
+    let next = place_behind(arena, list, place)?;
+    Some(at_place(arena, list, next))
 }
 
 /// The number of the list in which a name stands or belongs: of the last one that begins with it or a name before it, or else of

@@ -3,3 +3,4 @@ pub mod RefinementOfKey
 pub mod AnswerBounds
 pub mod RefinementOfValues
 pub mod SubkeyBehind
+pub mod SubkeysInTurn

@@ -5,4 +5,5 @@ pub mod NewHive
 pub mod KeyLengths
 pub mod ValueAnswers
 pub mod Reaching
+pub mod SubkeyWalk
 pub mod Internal

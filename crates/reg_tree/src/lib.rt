@@ -5,7 +5,8 @@
 //! nobody speaks of a cell, save who reads the bytes by [`Tree::arena`].
 //!
 //! It stands on reg_values and reg_index for a key's lists, and on reg_shape for what a whole hive is. Its types are [`Tree`], which
-//! owns its arena; [`Node`], a key of it; [`Reached`], how far a path leads; [`ValueFound`] and [`TreeFault`].
+//! owns its arena; [`Node`], a key of it; [`Subkey`], one of those below it, with its place; [`Reached`], how far a path
+//! leads; [`ValueFound`] and [`TreeFault`].
 //!
 //! Win32 registry reference, "Structure of the Registry"; Suhanov, Windows registry file format specification.
 #![tactic(auto)]
@@ -25,7 +26,7 @@ mod value;
 mod values;
 
 pub use fault::TreeFault;
-pub use node::{Created, Node, Reached};
+pub use node::{Created, Node, Reached, Subkey};
 pub use reg_index::Place;
 pub use reg_values::Value;
 pub use tree::Tree;

@@ -10,6 +10,16 @@ pub struct Node {
     pub depth: u32,
 }
 
+/// A key right below another one, as [`Tree::first_subkey`](crate::Tree::first_subkey) and
+/// [`Tree::next_subkey`](crate::Tree::next_subkey) tell it. It stays good until the tree changes.
+#[derive(Clone, Copy, Debug, PartialEq, Eq)]
+pub struct Subkey {
+    /// The key.
+    pub node: Node,
+    /// Where it stands among the other one's subkeys.
+    pub place: Place,
+}
+
 /// The last key of a path whose missing keys were made.
 #[derive(Clone, Copy, Debug, PartialEq, Eq)]
 pub struct Created {

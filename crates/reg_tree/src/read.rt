@@ -1,5 +1,5 @@
 //! What is told of a key.
-ghost use Rattle.std.specs.Prelude.{◌≡◌, ◌≤◌, ◌+◌, Some, length};
+ghost use Rattle.std.specs.Prelude.{◌≡◌, ◌≤◌, ◌+◌, ℕ, Some, length};
 ghost use Rattle.std.specs.FinMap.{get};
 ghost use Rattle.reg_names.specs.declared.TheConstants.{KEY_NAME_LIMIT, PATH_LIMIT};
 ghost use Rattle.reg_heap.specs.declared.limits.TheConstants.{DESCRIPTOR_LIMIT};
@@ -8,12 +8,13 @@ ghost use Rattle.reg_arena.specs.Arena.{heap_of};
 ghost use Rattle.reg_tree.specs.TreeKeys.{tree_in};
 ghost use Rattle.reg_tree.specs.Internal.TreeInvariant.{IsHere};
 ghost use Rattle.reg_tree.specs.Internal.PathWalks.{IsSubkey};
-ghost use Rattle.reg_tree.specs.Internal.ReachedPlaces.{IsPlaceOf, place_index};
+ghost use Rattle.reg_tree.specs.Internal.KeyNodeChanges.{HasSubkeysList};
+ghost use Rattle.reg_tree.specs.Internal.ReachedPlaces.{IsPlaceAt, IsPlaceOf, IsPlacedSubkey, place_index};
 
 use crate::key::{fields, subkeys_list};
-use crate::{Node, Place};
+use crate::{Node, Place, Subkey};
 use reg_arena::Arena;
-use reg_index::{at, behind, len};
+use reg_index::{SubkeysIndex, at, at_place, behind, len, place_behind};
 use reg_records::read_nk;
 use reg_security::descriptor as descriptor_in;
 
@@ -100,4 +101,55 @@ pub fn subkey_behind(arena: &Arena, node: Node, place: Place) -> Option<Node>
         offset,
         depth: node.depth + 1,
     })
+}
+
+/// The subkey of a key at a place.
+fn subkey_at(arena: &Arena, node: Node, list: SubkeysIndex, place: Place) -> Subkey
+    requires here { IsHere arena.now.bytes node.offset }
+    requires depth { node.depth ≤ PATH_LIMIT }
+    requires list { HasSubkeysList (heap_of arena.now) node.offset list.count list.offset }
+    requires place { IsPlaceOf (heap_of arena.now) node.offset place }
+    ensures { (t : IsHere arena.now.bytes node.offset) → (index : ℕ) → IsPlaceAt (heap_of arena.now) node.offset index place →
+        IsPlacedSubkey (heap_of arena.now) t.root t.path
+        (children_of (tree_in arena.now.bytes t.root) t.path) node index (Some result) }
+{
+    Subkey {
+        node: Node {
+            offset: at_place(arena, list, place),
+            depth: node.depth + 1,
+        },
+        place,
+    }
+}
+
+/// The first of the keys right below a key, in the order of their folded names, if there is one.
+pub fn first_subkey(arena: &Arena, node: Node) -> Option<Subkey>
+    requires here { IsHere arena.now.bytes node.offset }
+    requires depth { node.depth ≤ PATH_LIMIT }
+    ensures { (t : IsHere arena.now.bytes node.offset) →
+        IsPlacedSubkey (heap_of arena.now) t.root t.path
+        (children_of (tree_in arena.now.bytes t.root) t.path) node 0 result }
+{
+    let list = subkeys_list(arena, node.offset);
+    if list.count == 0 {
+        return None;
+    }
+    Some(subkey_at(arena, node, list, Place { list: 0, index: 0 }))
+}
+
+/// The key behind the one at a place among those right below a key, in the order of their folded names, if there is one, with its
+/// place.
+pub fn next_subkey(arena: &Arena, node: Node, place: Place) -> Option<Subkey>
+    requires here { IsHere arena.now.bytes node.offset }
+    requires depth { node.depth ≤ PATH_LIMIT }
+    requires place { IsPlaceOf (heap_of arena.now) node.offset place }
+    ensures { (t : IsHere arena.now.bytes node.offset) →
+        IsPlacedSubkey (heap_of arena.now) t.root t.path
+        (children_of (tree_in arena.now.bytes t.root) t.path) node (place_index (heap_of arena.now) node.offset place + 1) result }
+{
+    let list = subkeys_list(arena, node.offset);
+    let Some(next) = place_behind(arena, list, place) else {
+        return None;
+    };
+    Some(subkey_at(arena, node, list, next))
 }

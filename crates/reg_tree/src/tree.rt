@@ -16,8 +16,8 @@ ghost use Rattle.reg_values.specs.ValueLists.{Makes, Tells};
 use crate::cells::carve_two;
 use crate::key::new_root;
 use crate::{
-    Created, Node, Reached, TreeFault, ValueFound, find, make, prune, read, security, unmake,
-    values,
+    Created, Node, Reached, Subkey, TreeFault, ValueFound, find, make, prune, read, security,
+    unmake, values,
 };
 use reg_arena::{Arena, ArenaFault, cell_size};
 use reg_records::put_nk;
@@ -55,6 +55,7 @@ impl Tree {
     ghost use Rattle.reg_tree.specs.KeyLengths.{ChangesLengths, KeepsLengths, NotesMade, lengths_at, no_lengths, with_value_lengths, with_first_length};
     ghost use Rattle.reg_tree.specs.ValueAnswers.{IsFound, without_value_at};
     ghost use Rattle.reg_tree.specs.Reaching.{IsWalkedTo};
+    ghost use Rattle.reg_tree.specs.SubkeyWalk.{IsSubkeyAt};
 
     /// A tree of one root: the name as given, mark 8 (no delete), no class, the descriptor, the moment (100 ns ticks since
     /// 1601), no values; its four largest lengths are 0. Its bins are one, of the least size for the key node and its security,
@@ -198,6 +199,25 @@ impl Tree {
             × IsAt self.now (get_or (children_of self.now.tree p) index []) child) }
     {
         read::subkey(&self.arena, node, index)
+    }
+
+    /// The first of the keys right below a key, in the order of their folded names; `None` where there are none.
+    pub fn first_subkey(&self, node: Node) -> Option<Subkey>
+        requires { IsThere self.now node }
+        ensures { (p : Path) → IsAt self.now p node →
+            MatchOption result (children_of self.now.tree p ≡ []) (λ subkey. IsSubkeyAt self.now p node 0 subkey) }
+    {
+        read::first_subkey(&self.arena, node)
+    }
+
+    /// The key behind one among those right below a key, in the order of their folded names; `None` where that one is the last.
+    /// However many there are, it takes as long, so a walk from the first on goes once over them; `subkey` looks for each anew.
+    pub fn next_subkey(&self, node: Node, subkey: Subkey) -> Option<Subkey>
+        requires { (p : Path) × (index : ℕ) × IsAt self.now p node × IsSubkeyAt self.now p node index subkey }
+        ensures { (p : Path) → IsAt self.now p node → (index : ℕ) → IsSubkeyAt self.now p node index subkey →
+            MatchOption result (index + 1 ≡ length (children_of self.now.tree p)) (λ next. IsSubkeyAt self.now p node (index + 1) next) }
+    {
+        read::next_subkey(&self.arena, node, subkey.place)
     }
 
     /// A key's value at an index, counted from 0 in the order in which the names were added, without its bytes; `None` where

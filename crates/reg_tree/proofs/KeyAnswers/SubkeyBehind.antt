@@ -37,7 +37,7 @@ module _ (bytes : List ℕ) (key : ℕ) (t : IsHere bytes key) (count list : ℕ
   abbrev index : ℕ
   index = flat h count list place
 
-  index-is : index ≡ place_index h key place
+  pub index-is : index ≡ place_index h key place
   index-is =
       ap (λ n. flat h n list place) is-list.0
       ∙ (ap (λ o. flat h k.fields.subkeys o place) is-list.1 ∙ ap (index_by h place) (sym (key_is bytes key t)))

@@ -1,15 +1,19 @@
 -- Where a key stands among its parent's subkeys, and where a name belongs that none of them has.
-use Rattle.std.specs.Prelude.{◌≡◌, ◌≢◌, ℕ, Option, Some, None, Result, Ok, Err, List, []}
+use Rattle.std.specs.Prelude.{◌≡◌, ◌≢◌, ℕ, ◌≤◌, Option, Some, None, Result, Ok, Err, List, [], length}
 use Rattle.reg_names.specs.Names.{folded, path_of}
 use Rattle.reg_heap.specs.Heaps.{Heap}
+use Rattle.reg_heap.specs.Paths.{Path}
 use Rattle.reg_records.specs.KeyNodes.{KeyRecord, key_at}
 use Rattle.reg_records.specs.SubkeyLists.{Entry}
 use Rattle.reg_shape.specs.PathLookup.{subkey_named}
 use Rattle.reg_index.specs.declared.Place.{Place}
 use Rattle.reg_index.specs.Subkeys.{StandsIn, flat, index_of}
 use Rattle.reg_tree.specs.declared.find.PlacedKey.{PlacedKey}
+use Rattle.reg_tree.specs.declared.node.Node.{Node}
+use Rattle.reg_tree.specs.declared.node.Subkey.{Subkey}
 use Rattle.reg_tree.specs.CellSizes.{first_place}
 use Rattle.reg_tree.specs.Internal.KeyDeletion.{IsListed}
+use Rattle.reg_tree.specs.Internal.PathWalks.{IsSubkey}
 pub use Rattle.reg_tree.specs.SubkeyPlaces.{BelongsAt, BelongsFirst}
 
 -- a place among the subkeys of a key, where one stands
@@ -24,6 +28,18 @@ index_by heap place (Some k) = flat heap k.fields.subkeys k.fields.subkeys_list 
 
 abbrev pub place_index : Heap → ℕ → Place → ℕ
 place_index heap key place = index_by heap place (key_at heap key)
+
+-- a place at which the subkey of an index stands
+pub record IsPlaceAt (heap : Heap) (key index : ℕ) (place : Place) : Type 0 where
+  pub stands : IsPlaceOf heap key place
+  pub index_is : place_index heap key place ≡ index
+
+-- the key at an index among those below the one at a path, whose paths these are, and where it stands; or none where there are not so
+-- many
+abbrev pub IsPlacedSubkey : Heap → ℕ → Path → List Path → Node → ℕ → Option Subkey → Type 0
+IsPlacedSubkey heap root path paths node index None = length paths ≤ index
+IsPlacedSubkey heap root path paths node index (Some subkey) =
+    IsSubkey heap root path paths node index (Some subkey.node) × IsPlaceAt heap node.offset index subkey.place
 
 -- a key is the subkey at a place of the key that its key node names as its parent
 pub record StandsAt (heap : Heap) (key : ℕ) (place : Place) : Type 0 where

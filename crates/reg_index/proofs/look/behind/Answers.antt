@@ -1,108 +1,11 @@
-use Rattle.std.proofs.Common.{◌+◌, ◌<◌, ◌≤◌, length, arith}
 use Rattle.reg_arena.specs.Arena.{heap_of}
-use Rattle.reg_shape.specs.Nodes.{lists_of}
-use Rattle.reg_index.specs.Subkeys.{numbered}
-use Rattle.reg_index.proofs.ListPlaces.{leaf-of, list-stands}
-use Rattle.reg_index.proofs.SubkeysBehind.{place-stands, next-within, next-is, none-behind, some-there, first-within, first-is}
-use Rattle.reg_index.proofs.SubkeysOpening.{lists-has}
+use Rattle.reg_index.proofs.SubkeysBehind.{behind-is}
 use Rattle.reg_index.proofs.look.behind.Goals as goal
 
-pub leaf_at-leaf-requires : goal.leaf_at-leaf-requires
-leaf_at-leaf-requires c =
-    let s = c.requires.subkeys.1 in
-    (lists_of s.index, lists-has _ _ _ _ s, (place-stands (heap_of c.args.arena.now) c.args.list.count c.args.list.offset c.args.place c.requires.place c.requires.subkeys.0 s).0)
-
-pub count_entries-requires : goal.count_entries-requires
-count_entries-requires c =
-    let s = c.requires.subkeys.1 in
-    let h = lists-has _ _ _ _ s in
-    let p = place-stands (heap_of c.args.arena.now) c.args.list.count c.args.list.offset c.args.place c.requires.place c.requires.subkeys.0 s in
-    (_, leaf-of (heap_of c.args.arena.now) c.args.list.offset (lists_of s.index) c.args.place.list c.leaf_at-leaf.result h p.0 (c.leaf_at-leaf.ensures (lists_of s.index) h p.0))
-
-pub key_in-requires-clause-leaf : goal.key_in-requires-clause-leaf
-key_in-requires-clause-leaf c =
-    let s = c.requires.subkeys.1 in
-    let h = lists-has _ _ _ _ s in
-    let p = place-stands (heap_of c.args.arena.now) c.args.list.count c.args.list.offset c.args.place c.requires.place c.requires.subkeys.0 s in
-    let leaf = leaf-of (heap_of c.args.arena.now) c.args.list.offset (lists_of s.index) c.args.place.list c.leaf_at-leaf.result h p.0 (c.leaf_at-leaf.ensures (lists_of s.index) h p.0) in
-    (_, leaf, omega (arith, c.count_entries.ensures _ leaf, c.if-index-count_entries.true))
-
-pub key_in-requires-clause-few : goal.key_in-requires-clause-few
-key_in-requires-clause-few c =
-    let s = c.requires.subkeys.1 in
-    let h = lists-has _ _ _ _ s in
-    let p = place-stands (heap_of c.args.arena.now) c.args.list.count c.args.list.offset c.args.place c.requires.place c.requires.subkeys.0 s in
-    let leaf = leaf-of (heap_of c.args.arena.now) c.args.list.offset (lists_of s.index) c.args.place.list c.leaf_at-leaf.result h p.0 (c.leaf_at-leaf.ensures (lists_of s.index) h p.0) in
-    omega (
-      arith,
-      c.count_entries.ensures _ leaf,
-      c.if-index-count_entries.true,
-      (list-stands (heap_of c.args.arena.now) c.args.list.offset (lists_of s.index) c.args.place.list h p.0).written.few,
-    )
-
-pub returns-then-index-count_entries : goal.returns-then-index-count_entries
-returns-then-index-count_entries c = λ entries s.
-    let h = lists-has _ _ _ _ s in
-    let p = place-stands (heap_of c.args.arena.now) c.args.list.count c.args.list.offset c.args.place c.requires.place entries s in
-    let leaf = leaf-of (heap_of c.args.arena.now) c.args.list.offset (lists_of s.index) c.args.place.list c.leaf_at-leaf.result h p.0 (c.leaf_at-leaf.ensures (lists_of s.index) h p.0) in
-    let more : c.args.place.index + 1 < length (numbered c.args.place.list (lists_of s.index)).list.entries =
-    omega (arith, c.count_entries.ensures _ leaf, c.if-index-count_entries.true) in (
-      next-within (heap_of c.args.arena.now) c.args.list.count c.args.list.offset c.args.place c.requires.place entries s more,
-      next-is (heap_of c.args.arena.now) c.args.list.count c.args.list.offset c.args.place c.requires.place entries s more c.key_in.result (c.key_in.ensures _ leaf more),
-    )
-
-pub count_lists-lists-requires : goal.count_lists-lists-requires
-count_lists-lists-requires c =
-    let s = c.requires.subkeys.1 in
-    let p = place-stands (heap_of c.args.arena.now) c.args.list.count c.args.list.offset c.args.place c.requires.place c.requires.subkeys.0 s in
-    (lists_of s.index, lists-has _ _ _ _ s, omega (arith, p.0))
-
-pub overflow_add-number : goal.overflow_add-number
-overflow_add-number c =
-    let s = c.requires.subkeys.1 in
-    let h = lists-has _ _ _ _ s in
-    let p = place-stands (heap_of c.args.arena.now) c.args.list.count c.args.list.offset c.args.place c.requires.place c.requires.subkeys.0 s in
-    omega (arith, p.0, c.count_lists-lists.ensures.count (lists_of s.index) h (omega (arith, p.0)), c.count_lists-lists.ensures.fits)
-
-pub leaf_at-requires : goal.leaf_at-requires
-leaf_at-requires c =
-    let s = c.requires.subkeys.1 in
-    let h = lists-has _ _ _ _ s in
-    let p = place-stands (heap_of c.args.arena.now) c.args.list.count c.args.list.offset c.args.place c.requires.place c.requires.subkeys.0 s in
-    (lists_of s.index, h, omega (arith, c.count_lists-lists.ensures.count (lists_of s.index) h (omega (arith, p.0)), c.if-number-lists.true))
-
-pub key_in-requires-then-number-lists-clause-leaf : goal.key_in-requires-then-number-lists-clause-leaf
-key_in-requires-then-number-lists-clause-leaf c =
-    let s = c.requires.subkeys.1 in
-    let h = lists-has _ _ _ _ s in
-    let p = place-stands (heap_of c.args.arena.now) c.args.list.count c.args.list.offset c.args.place c.requires.place c.requires.subkeys.0 s in
-    let more : c.args.place.list + 1 < length (lists_of s.index) =
-    omega (arith, c.count_lists-lists.ensures.count (lists_of s.index) h (omega (arith, p.0)), c.if-number-lists.true) in (
-      _,
-      leaf-of (heap_of c.args.arena.now) c.args.list.offset (lists_of s.index) (c.args.place.list + 1) c.leaf_at.result h more (c.leaf_at.ensures (lists_of s.index) h more),
-      omega (arith, (list-stands (heap_of c.args.arena.now) c.args.list.offset (lists_of s.index) (c.args.place.list + 1) h more).written.some),
-    )
-
-pub returns-then-number-lists : goal.returns-then-number-lists
-returns-then-number-lists c = λ entries s.
-    let h = lists-has _ _ _ _ s in
-    let p = place-stands (heap_of c.args.arena.now) c.args.list.count c.args.list.offset c.args.place c.requires.place entries s in
-    let leaf = leaf-of (heap_of c.args.arena.now) c.args.list.offset (lists_of s.index) c.args.place.list c.leaf_at-leaf.result h p.0 (c.leaf_at-leaf.ensures (lists_of s.index) h p.0) in
-    let last : length (numbered c.args.place.list (lists_of s.index)).list.entries ≤ c.args.place.index + 1 =
-    omega (arith, c.count_entries.ensures _ leaf, c.if-index-count_entries.false) in
-    let more : c.args.place.list + 1 < length (lists_of s.index) =
-    omega (arith, c.count_lists-lists.ensures.count (lists_of s.index) h (omega (arith, p.0)), c.if-number-lists.true) in
-    let next = leaf-of (heap_of c.args.arena.now) c.args.list.offset (lists_of s.index) (c.args.place.list + 1) c.leaf_at.result h more (c.leaf_at.ensures (lists_of s.index) h more) in (
-      first-within (heap_of c.args.arena.now) c.args.list.count c.args.list.offset c.args.place c.requires.place entries s last more,
-      first-is (heap_of c.args.arena.now) c.args.list.count c.args.list.offset c.args.place c.requires.place entries s last more c.key_in-then-number-lists.result
-          (c.key_in-then-number-lists.ensures _ next
-          (some-there (heap_of c.args.arena.now) c.args.list.count c.args.list.offset c.args.place c.requires.place entries s last more)),
-    )
+pub at_place-requires-clause-place : goal.at_place-requires-clause-place
+at_place-requires-clause-place c = (c.in_ok-next.ensures c.requires.subkeys.0 c.requires.subkeys.1).0
 
 pub returns : goal.returns
 returns c = λ entries s.
-    let h = lists-has _ _ _ _ s in
-    let p = place-stands (heap_of c.args.arena.now) c.args.list.count c.args.list.offset c.args.place c.requires.place entries s in
-    let leaf = leaf-of (heap_of c.args.arena.now) c.args.list.offset (lists_of s.index) c.args.place.list c.leaf_at-leaf.result h p.0 (c.leaf_at-leaf.ensures (lists_of s.index) h p.0) in
-    none-behind (heap_of c.args.arena.now) c.args.list.count c.args.list.offset c.args.place c.requires.place entries s (omega (arith, c.count_entries.ensures _ leaf, c.if-index-count_entries.false))
-    (omega (arith, c.count_lists-lists.ensures.count (lists_of s.index) h (omega (arith, p.0)), c.if-number-lists.false))
+    behind-is (heap_of c.args.arena.now) c.args.list.count c.args.list.offset c.args.place c.in_ok-next.next entries s (c.in_ok-next.ensures entries s) c.at_place.result
+    (c.at_place.ensures entries s)
