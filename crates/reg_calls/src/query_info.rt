@@ -25,17 +25,17 @@ fn larger(a: u32, b: u32) -> u32
     if a < b { b } else { a }
 }
 
-/// The length of the longest name among the subkeys of a key; 0 of none.
+/// The length of the longest name among the subkeys of a key; 0 of none. It goes once over them.
 fn longest_subkey(tree: &Tree, node: Node) -> u32
     requires { IsThere tree.now node }
     ensures { (p : Path) → IsAt tree.now p node → result ≡ largest_of (map (λ q. length (name_of (get tree.now.tree q))) (children_of tree.now.tree p)) }
 {
     let mut longest = 0;
-    for index in 0..tree.subkeys(node) {
-        let Some(child) = tree.subkey(node, index) else {
-            unreachable!()
-        };
-        longest = larger(longest, tree.name(child).len() as u32);
+    let mut next = tree.first_subkey(node);
+    for _index in 0..tree.subkeys(node) {
+        let Some(subkey) = next else { unreachable!() };
+        longest = larger(longest, tree.name(subkey.node).len() as u32);
+        next = tree.next_subkey(node, subkey);
     }
     longest
 }

@@ -21,7 +21,7 @@ use Rattle.reg_tree.specs.Internal.PathWalks.{IsSubkey}
 use Rattle.reg_tree.specs.Internal.ReachedPlaces.{IsPlaceAt, IsPlaceOf, IsPlacedSubkey, place_index}
 use Rattle.reg_tree.proofs.InsertKey.SubkeyByName.{no_entry}
 use Rattle.reg_tree.proofs.Invariant.NodeLemmas.{seen_as}
-use Rattle.reg_tree.proofs.KeyAnswers.RefinementOfKey.{no_subkey, subkey_told}
+use Rattle.reg_tree.proofs.KeyAnswers.RefinementOfKey.{subkey_told}
 use Rattle.reg_tree.proofs.KeyAnswers.SubkeyBehind.{index-is, place_of_list}
 use Rattle.reg_tree.proofs.PathWalk.SubkeysFound.{subkeys}
 use Rattle.reg_tree.proofs.PruneTree.ChildPlaces.{first-for}

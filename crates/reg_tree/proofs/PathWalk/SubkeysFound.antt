@@ -1,5 +1,5 @@
 -- The subkeys of a tree's key, and the one of a name.
-use Rattle.std.proofs.Common.{◌≡◌, ℕ, ◌<◌, Some, None, List, [], get_or, sym, ap, ◌∙◌, subst, arith}
+use Rattle.std.proofs.Common.{◌≡◌, ℕ, ◌<◌, Some, None, List, get_or, sym, ap, ◌∙◌, subst, arith}
 use Rattle.std.specs.Prelude.{Ok, Err}
 use Rattle.reg_names.specs.Names.{folded}
 use Rattle.reg_heap.specs.Heaps.{Heap}

@@ -1,7 +1,6 @@
-use Rattle.std.proofs.Common.{◌+◌, ◌<◌, ◌≤◌, length, arith}
+use Rattle.std.proofs.Common.{arith}
 use Rattle.reg_arena.specs.Arena.{heap_of}
 use Rattle.reg_shape.specs.Nodes.{lists_of}
-use Rattle.reg_index.specs.Subkeys.{numbered}
 use Rattle.reg_index.proofs.ListPlaces.{leaf-of}
 use Rattle.reg_index.proofs.SubkeysBehind.{place-stands, next-place, none-behind, first-place}
 use Rattle.reg_index.proofs.SubkeysOpening.{lists-has}
