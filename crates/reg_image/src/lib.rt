@@ -14,6 +14,7 @@
 //! Suhanov, Windows registry file format specification, sections "Format of primary files", "Base block", "Hive bin" and "Cell".
 #![tactic(auto)]
 
+mod big_data;
 mod block;
 mod cells;
 mod data;
