@@ -7,3 +7,6 @@ pub mod BlockWords
 pub mod OffsetRows
 pub mod LetterReadings
 pub mod FirstBytes
+pub mod ReachedSteps
+pub mod BigSegments
+pub mod DataForms

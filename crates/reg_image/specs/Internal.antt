@@ -5,3 +5,4 @@ pub mod ListParts
 pub mod NameReadings
 pub mod NamedRecords
 pub mod CellScans
+pub mod SegmentSteps

@@ -2,15 +2,15 @@
 //!
 //! Suhanov, Windows registry file format specification, section "Big data".
 
-ghost use Rattle.std.specs.Prelude.{◌≡◌, ◌+◌, ◌*◌, ◌<◌, ◌≤◌, ◌++◌, ℕ, List, [], length, min, OnOk};
+ghost use Rattle.std.specs.Prelude.{◌≡◌, ◌-◌, ◌*◌, ◌≤◌, ℕ, List, [], length, min};
 ghost use Rattle.reg_heap.specs.Kinds.Kind.{Segment};
 ghost use Rattle.reg_arena.specs.Cells.{cell_at};
-ghost use Rattle.reg_records.specs.OffsetRows.{offset_in, offsets_at};
+ghost use Rattle.reg_records.specs.OffsetRows.{offsets_at};
 ghost use Rattle.reg_records.specs.BigData.{named, segment_size, segments_for as segments_for_of, segments};
-ghost use Rattle.reg_image.specs.WalkSteps.{◌>>=◌, give};
 ghost use Rattle.reg_image.specs.LoadingWalk.{bytes_from as bytes_step, pieces_from as pieces_step, big_from as big_step};
 ghost use Rattle.reg_image.specs.Internal.CellStates.{unnamed};
 ghost use Rattle.reg_image.specs.Internal.ReaderOutcomes.{Follows};
+ghost use Rattle.reg_image.specs.Internal.SegmentSteps.{appended};
 
 use crate::LoadFault;
 use crate::cells::{bytes_from, cell};
@@ -27,6 +27,22 @@ fn segments_for(size: u32) -> u32
     ((size as usize + (SEGMENT_SIZE - 1)) / SEGMENT_SIZE) as u32
 }
 
+/// How many bytes the next segment has, of so many that are left.
+#[tactic(auto, unfolding(reg_records::specs::BigData::segment_size))]
+fn segment_length(left: usize) -> usize
+    ensures { result ≡ min segment_size left }
+{
+    SEGMENT_SIZE.min(left)
+}
+
+/// How many bytes are left behind the next segment.
+#[tactic(auto, unfolding(reg_records::specs::BigData::segment_size))]
+fn left_behind(left: usize) -> usize
+    ensures { result ≡ left - segment_size }
+{
+    left.saturating_sub(SEGMENT_SIZE)
+}
+
 /// Names the segment at an offset, and appends its bytes: all that are left, and at most as many as a segment holds.
 fn append_segment(
     bins: &[u8],
@@ -37,11 +53,11 @@ fn append_segment(
 ) -> Result<(), LoadFault>
     ensures follows { (path : List ℕ) →
         Follows (cell_at bins.now) path (λ _. bytes.new.items)
-        (bytes_step (cell_at bins.now) path (named Segment (min segment_size left) offset) >>= (λ piece. give (bytes.old.items ++ piece)))
+        (appended bytes.old.items (bytes_step (cell_at bins.now) path (named Segment (min segment_size left) offset)))
         table.old.states.items table.new.states.items result }
     ensures no_more { unnamed table.new.states.items ≤ unnamed table.old.states.items }
 {
-    let piece = bytes_from(bins, table, offset, left.min(SEGMENT_SIZE))?;
+    let piece = bytes_from(bins, table, offset, segment_length(left))?;
     if bytes.extend_from_slice(piece).is_err() {
         return Err(LoadFault::Memory);
     }
@@ -70,7 +86,7 @@ fn pieces_from(
     let mut left = size as usize;
     for index in 0..count {
         append_segment(bins, table, offset_at(row, index), left, &mut bytes)?;
-        left = left.saturating_sub(SEGMENT_SIZE);
+        left = left_behind(left);
     }
     Ok(bytes)
 }

@@ -15,7 +15,7 @@ use crate::LoadFault;
 use crate::big_data::big_from;
 use crate::cells::bytes_from;
 use crate::table::CellTable;
-use reg_heap::DATA_LIMIT;
+use reg_heap::limits::DATA_LIMIT;
 use reg_records::SEGMENT_SIZE;
 use std::alloc::Global;
 
@@ -85,6 +85,7 @@ fn inline_data(alloc: Global, size: u32, offset: u32) -> Result<Vec<u8>, LoadFau
 }
 
 /// Whether one cell holds data of a size that isn't 0: up to the size of a segment, and in minor version 3 always.
+#[tactic(auto, unfolding(reg_records::specs::BigData::segment_size))]
 fn is_single(minor: u32, size: u32) -> bool
     ensures { result ≡ (nat_le size segment_size || (minor == 3)) }
 {
