@@ -1,7 +1,11 @@
 -- The base block, the first 4,096 bytes of an image (Suhanov, Windows registry file format specification, "Base block").
-use Rattle.std.specs.Prelude.{ℕ, zero, suc, ◌+◌, ◌==◌, ◌&&◌, nat_le, Bool, List, ◌∷◌, ◌++◌, replicate, bit_xor, if◌then◌else◌}
+use Rattle.std.specs.Prelude.{ℕ, zero, suc, ◌+◌, ◌%◌, ◌==◌, ◌&&◌, nat_le, nat_lt, Bool, List, ◌∷◌, ◌++◌, replicate, bit_xor, if◌then◌else◌}
 use Rattle.byteorder.specs.Endian.{little_bytes}
+use Rattle.reg_heap.specs.declared.limits.TheConstants.{BINS_LIMIT}
 use Rattle.reg_heap.specs.ByteWords.{word}
+use Rattle.reg_image.specs.declared.LoadFault.TheVariants.{Signature, Version, Checksum, Dirty, Bins, Limit}
+use Rattle.reg_image.specs.declared.block.BaseBlock.{BaseBlock}
+use Rattle.reg_image.specs.WalkSteps.{Step, ◌>>◌, give, check}
 
 -- the exclusive or of so many words, from a place on
 abbrev pub xor_words : ℕ → ℕ → List ℕ → ℕ
@@ -40,3 +44,15 @@ block_of size root moment sequence =
 -- major version 1, minor version 3, 4 or 5, a primary file, loaded directly
 abbrev pub is_version : List ℕ → Bool
 is_version bytes = (word bytes 20 == 1) && nat_le 3 (word bytes 24) && nat_le (word bytes 24) 5 && (word bytes 28 == 0) && (word bytes 32 == 1)
+
+-- the tests of a base block, in order, and what the walk needs of it: `regf`, the version, the checksum, two equal sequence numbers,
+-- and bins of whole pages, at least one and no more than a hive may have
+abbrev pub block_walk : List ℕ → Step BaseBlock
+block_walk bytes = do
+  check Signature (word bytes 0 == 0x66676572)
+  check Version (is_version bytes)
+  check Checksum (word bytes 508 == checksum_of bytes)
+  check Dirty (word bytes 4 == word bytes 8)
+  check Bins (nat_lt 0 (word bytes 40) && (word bytes 40 % 4096 == 0))
+  check Limit (nat_le (word bytes 40) BINS_LIMIT)
+  give (record { minor = word bytes 24; root = word bytes 36; size = word bytes 40 })

@@ -1,17 +1,15 @@
 -- Images of hives, and what loading them gives (Suhanov, Windows registry file format specification, "Format of primary files").
-use Rattle.std.specs.Prelude.{ℕ, suc, ◌+◌, ◌%◌, ◌==◌, ◌&&◌, nat_le, nat_lt, Option, Some, None, Result, Ok, Err, List, [], ◌++◌, length, take, drop}
+use Rattle.std.specs.Prelude.{ℕ, suc, ◌+◌, nat_le, Option, Some, None, Result, Ok, Err, List, [], ◌++◌, length, take, drop}
 use Rattle.std.specs.FinMap.{from_entries}
 use Rattle.std.specs.Result.{result_ok}
 use Rattle.reg_names.specs.declared.TheConstants.{PATH_LIMIT}
-use Rattle.reg_heap.specs.declared.limits.TheConstants.{BINS_LIMIT}
-use Rattle.reg_heap.specs.ByteWords.{word}
 use Rattle.reg_heap.specs.Paths.{Tree}
 use Rattle.reg_arena.specs.Cells.{bins_of, cells_of_bins, content_in}
 use Rattle.reg_image.specs.declared.LoadFault.{LoadFault}
-use Rattle.reg_image.specs.declared.LoadFault.TheVariants.{Short, Signature, Version, Checksum, Dirty, Bins, Cells, Limit}
+use Rattle.reg_image.specs.declared.LoadFault.TheVariants.{Short, Bins, Cells}
 use Rattle.reg_image.specs.WalkSteps.{Seen, Step, ◌>>=◌, ◌>>◌, check, given}
 use Rattle.reg_image.specs.LoadingWalk.{root_path, key_from}
-use Rattle.reg_image.specs.BaseBlock.{checksum_of, block_of, is_version}
+use Rattle.reg_image.specs.BaseBlock.{block_of, block_walk}
 
 -- the image of bins with a root, at a moment, with a sequence number
 unfoldable pub image_of : List ℕ → ℕ → ℕ → ℕ → List ℕ
@@ -29,15 +27,9 @@ bins_walk bins minor root = do
 unfoldable pub image_walk : List ℕ → Step (Unit {0})
 image_walk bytes = do
   check Short (nat_le 4096 (length bytes))
-  check Signature (word bytes 0 == 0x66676572)
-  check Version (is_version bytes)
-  check Checksum (word bytes 508 == checksum_of bytes)
-  check Dirty (word bytes 4 == word bytes 8)
-  let size = word bytes 40 in do
-    check Bins (nat_lt 0 size && (size % 4096 == 0))
-    check Limit (nat_le size BINS_LIMIT)
-    check Short (nat_le (4096 + size) (length bytes))
-    bins_walk (take size (drop 4096 bytes)) (word bytes 24) (word bytes 36)
+  block ← block_walk bytes
+  check Short (nat_le (4096 + block.size) (length bytes))
+  bins_walk (take block.size (drop 4096 bytes)) block.minor block.root
 
 -- nothing was named yet, nothing told
 abbrev pub nothing : Seen

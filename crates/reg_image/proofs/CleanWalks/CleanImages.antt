@@ -13,10 +13,11 @@ use Rattle.reg_arena.specs.Cells.{bins_of, cells_of_bins, cells_of, content_in, 
 use Rattle.reg_shape.specs.Nodes.{Node}
 use Rattle.reg_shape.specs.Internal.Shapes.{IsWholeShape, tree_of}
 use Rattle.reg_image.specs.declared.LoadFault.{LoadFault}
+use Rattle.reg_image.specs.declared.block.BaseBlock.{BaseBlock}
 use Rattle.reg_image.specs.declared.LoadFault.TheVariants.{Short, Signature, Version, Checksum, Dirty, Bins, Cells, Limit}
 use Rattle.reg_image.specs.WalkSteps.{Seen, Step, ◌>>=◌, ◌>>◌, onward, check, given}
 use Rattle.reg_image.specs.LoadingWalk.{root_path, key_from}
-use Rattle.reg_image.specs.BaseBlock.{xor_words, as_checksum, checksum_of, block_head, block_of, is_version}
+use Rattle.reg_image.specs.BaseBlock.{xor_words, as_checksum, checksum_of, block_head, block_of, is_version, block_walk}
 use Rattle.reg_image.specs.Images.{image_of, bins_walk, image_walk, nothing, tree_in, loaded}
 use Rattle.reg_shape.proofs.Walking.IndexWalks.{then-open}
 use Rattle.reg_image.proofs.CleanWalks.CleanHives.{hive-walked, hive-told}
@@ -66,20 +67,24 @@ under a b l = grind (arith, nat_tests)
 both : (a b : Bool) → a ≡ true → b ≡ true → (a && b) ≡ true
 both a b p q = ap (λ c. c && b) p ∙ q
 
-walked : (bytes : List ℕ) (size root : ℕ) (seen : Seen) → IsBlock bytes size root → image_walk bytes seen ≡ bins_walk (take size (drop 4096 bytes)) 5 root seen
-unfolding image_walk
-walked bytes size root seen b =
-    pass Short _ _ seen (less 4096 (length bytes) b.long)
-    ∙ (pass Signature _ _ seen (equal _ _ b.signature)
+block-walked : (bytes : List ℕ) (size root : ℕ) (seen : Seen) → IsBlock bytes size root → block_walk bytes seen ≡ Ok (record { minor = 5; root = root; size = size }, seen)
+block-walked bytes size root seen b =
+    pass Signature _ _ seen (equal _ _ b.signature)
     ∙ (pass Version _ _ seen b.version
     ∙ (pass Checksum _ _ seen (equal _ _ b.checksum)
     ∙ (pass Dirty _ _ seen (equal _ _ b.sequence)
     ∙ (pass Bins _ _ seen (both _ _ (under 0 (word bytes 40) (subst (λ n. 0 < n) (sym b.size_is) b.some)) (equal _ _ (ap (λ n. n % 4096) b.size_is ∙ b.pages)))
     ∙ (pass Limit _ _ seen (less _ _ (subst (λ n. n ≤ 268435456) (sym b.size_is) b.few))
-    ∙ (pass Short _ _ seen (less _ _ (subst (λ n. 4096 + n ≤ length bytes) (sym b.size_is) b.enough))
-    ∙ (ap (λ n. bins_walk (take n (drop 4096 bytes)) (word bytes 24) (word bytes 36) seen) b.size_is
-    ∙ (ap (λ n. bins_walk (take size (drop 4096 bytes)) n (word bytes 36) seen) b.minor
-    ∙ ap (λ n. bins_walk (take size (drop 4096 bytes)) 5 n seen) b.root_is)))))))))
+    ∙ (ap (λ n. Ok (record { minor = n; root = word bytes 36; size = word bytes 40 }, seen)) b.minor
+    ∙ (ap (λ n. Ok (record { minor = 5; root = n; size = word bytes 40 }, seen)) b.root_is
+    ∙ ap (λ n. Ok (record { minor = 5; root = root; size = n }, seen)) b.size_is)))))))
+
+walked : (bytes : List ℕ) (size root : ℕ) (seen : Seen) → IsBlock bytes size root → image_walk bytes seen ≡ bins_walk (take size (drop 4096 bytes)) 5 root seen
+unfolding image_walk
+walked bytes size root seen b =
+    pass Short _ _ seen (less 4096 (length bytes) b.long)
+    ∙ (ap (onward (λ (block : BaseBlock). check Short (nat_le (4096 + block.size) (length bytes)) >> bins_walk (take block.size (drop 4096 bytes)) block.minor block.root)) (block-walked bytes size root seen b)
+    ∙ pass Short _ _ seen (less _ _ b.enough))
 
 -- ---- the law, for bytes that are an image
 

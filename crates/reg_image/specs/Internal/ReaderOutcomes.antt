@@ -31,3 +31,8 @@ Follows heap path view step old new result = (seen : Seen) → IsTable heap seen
 abbrev pub Gives : {X A : Type 0} → (X → A) → Step A → Result X LoadFault → Type 0
 Gives view step (Ok x) = (seen : Seen) → step seen ≡ Ok (view x, seen)
 Gives view step (Err fault) = (seen : Seen) → Fails fault step seen
+
+-- what was returned is what a step gives that names and tells nothing, each fault too: memory never lacks
+abbrev pub GivesExactly : {A : Type 0} → Step A → Result A LoadFault → Type 0
+GivesExactly step (Ok x) = (seen : Seen) → step seen ≡ Ok (x, seen)
+GivesExactly step (Err fault) = (seen : Seen) → step seen ≡ Err fault

@@ -1,6 +1,6 @@
 use Rattle.std.proofs.Common.{◌∙◌, arith}
 use Rattle.reg_image.proofs.Readers.BlockWords.{none-counted, more-counted, counted-four, all-counted}
-use Rattle.reg_image.proofs.block.checksum.Goals as goal
+use Rattle.reg_image.proofs.block.head_checksum.Goals as goal
 
 pub loop-at-init : goal.loop-at-init
 loop-at-init c = none-counted c.args.block.now
@@ -9,7 +9,7 @@ pub overflow_sub-at : goal.overflow_sub-at
 overflow_sub-at c = (counted-four _ _ _ c.loop-at.invariant c.loop-at-test.true).0
 
 pub word_at-sum-requires : goal.word_at-sum-requires
-word_at-sum-requires c = let f = counted-four _ _ _ c.loop-at.invariant c.loop-at-test.true in omega (arith, f.0, f.1, c.told-block)
+word_at-sum-requires c = let f = counted-four _ _ _ c.loop-at.invariant c.loop-at-test.true in omega (arith, f.0, f.1, c.requires)
 
 pub loop-at-preserved : goal.loop-at-preserved
 loop-at-preserved c = more-counted c.args.block.now _ _ _ _ c.loop-at.invariant (let f = counted-four _ _ _ c.loop-at.invariant c.loop-at-test.true in omega (arith, f.0)) c.word_at-sum.ensures

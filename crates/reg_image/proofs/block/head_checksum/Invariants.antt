@@ -1,5 +1,5 @@
 use Rattle.reg_image.proofs.Readers.BlockWords.{AreCounted}
-use Rattle.reg_image.proofs.block.checksum.Given as goal
+use Rattle.reg_image.proofs.block.head_checksum.Given as goal
 
 abbrev pub invariant-loop-at : goal.invariant-loop-at
 invariant-loop-at l = AreCounted l.block l.at l.sum
