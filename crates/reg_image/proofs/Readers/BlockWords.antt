@@ -1,5 +1,6 @@
 -- The words of a base block: counted from the last to the first, and the same in the image that it begins.
-use Rattle.std.proofs.Common.{◌≡◌, ℕ, zero, suc, ◌+◌, ◌-◌, ◌*◌, ◌%◌, ◌<◌, ◌≤◌, ◌==◌, ◌&&◌, nat_le, nat_lt, bit_xor, Bool, List, take, drop, refl, sym, ap, ◌∙◌, arith}
+use Rattle.std.proofs.Common.{◌≡◌, ℕ, zero, suc, ◌+◌, ◌-◌, ◌*◌, ◌%◌, ◌<◌, ◌≤◌, ◌==◌, ◌&&◌, nat_le, nat_lt, bit_xor, Bool, List, take, drop}
+use Rattle.std.proofs.Common.{refl, sym, ap, ◌∙◌, arith}
 use Rattle.std.proofs.lemmas.List.{drop-take}
 use Rattle.byteorder.specs.Endian.{little_number}
 use Rattle.byteorder.specs.Numbers.{little_from-take}
@@ -18,7 +19,8 @@ pub record AreCounted (block : List ℕ) (at sum : ℕ) : Type 0 where
 pub none-counted : (block : List ℕ) → AreCounted block 508 0
 none-counted block = record { words = 0; place = refl; sum_is = refl }
 
-pub more-counted : (block : List ℕ) (at next sum one : ℕ) → AreCounted block at sum → next + 4 ≡ at → one ≡ word block next → AreCounted block next (bit_xor one sum)
+pub more-counted : (block : List ℕ) (at next sum one : ℕ) → AreCounted block at sum → next + 4 ≡ at → one ≡ word block next →
+    AreCounted block next (bit_xor one sum)
 more-counted block at next sum one c e w = record {
   words = suc c.words;
   place = (let p = c.place in omega (arith, p, e));
@@ -42,12 +44,14 @@ pub word-front : (n at : ℕ) (bytes : List ℕ) → at + 4 ≤ n → word (take
 unfolding word
 word-front n at bytes l =
     let e : at + (n - at) ≡ n = omega arith in
-    ap (λ k. little_number 4 (drop at (take k bytes))) (sym e) ∙ (ap (little_number 4) (drop-take at (n - at) bytes) ∙ little_from-take 0 4 (n - at) (drop at bytes) (omega arith))
+    ap (λ k. little_number 4 (drop at (take k bytes))) (sym e) ∙
+    (ap (little_number 4) (drop-take at (n - at) bytes) ∙ little_from-take 0 4 (n - at) (drop at bytes) (omega arith))
 
 xor-front : (words n at : ℕ) (bytes : List ℕ) → at + 4 * words ≤ n → xor_words words at (take n bytes) ≡ xor_words words at bytes
 xor-front zero n at bytes l = refl
 xor-front (suc k) n at bytes l =
-    ap (λ w. bit_xor w (xor_words k (at + 4) (take n bytes))) (word-front n at bytes (omega arith)) ∙ ap (bit_xor (word bytes at)) (xor-front k n (at + 4) bytes (omega arith))
+    ap (λ w. bit_xor w (xor_words k (at + 4) (take n bytes))) (word-front n at bytes (omega arith)) ∙ ap (bit_xor (word bytes at))
+    (xor-front k n (at + 4) bytes (omega arith))
 
 -- the checksum of an image is that of its base block
 pub checksum-front : (n : ℕ) (bytes : List ℕ) → 508 ≤ n → checksum_of (take n bytes) ≡ checksum_of bytes
@@ -66,13 +70,15 @@ block-by signature sum stored first second size minor root version = do
   give (record { minor = minor; root = root; size = size })
 
 block-is : (bytes : List ℕ) (seen : Seen) →
-    block_walk bytes seen ≡ block-by (word bytes 0) (checksum_of bytes) (word bytes 508) (word bytes 4) (word bytes 8) (word bytes 40) (word bytes 24) (word bytes 36) (is_version bytes) seen
+    block_walk bytes seen ≡ block-by (word bytes 0) (checksum_of bytes) (word bytes 508) (word bytes 4) (word bytes 8) (word bytes 40)
+    (word bytes 24) (word bytes 36) (is_version bytes) seen
 unfolding block-by
 block-is bytes seen = refl
 
 version-front : (n : ℕ) (bytes : List ℕ) → 36 ≤ n → is_version (take n bytes) ≡ is_version bytes
 version-front n bytes l =
-    rw (word-front n 20 bytes (omega arith), word-front n 24 bytes (omega arith), word-front n 28 bytes (omega arith), word-front n 32 bytes (omega arith)) refl
+    rw (word-front n 20 bytes (omega arith), word-front n 24 bytes (omega arith), word-front n 28 bytes
+    (omega arith), word-front n 32 bytes (omega arith)) refl
 
 -- a base block is walked as the image that it begins
 pub block-front : (bytes : List ℕ) (seen : Seen) → block_walk (take 4096 bytes) seen ≡ block_walk bytes seen

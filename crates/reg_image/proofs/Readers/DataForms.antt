@@ -22,28 +22,36 @@ module _ (heap : Heap) (minor : ℕ) (path : List ℕ) (size offset : ℕ) where
       data_by heap minor path false size offset seen ≡ far_from heap path single size offset seen
   far-by single l e seen = let b = less size 1048576 l in rw (b, ← e) refl
 
-pub inline-follows : {X : Type 0} (heap : Heap) (minor : ℕ) (path : List ℕ) (size offset : ℕ) (view : X → List ℕ) (old : List CellState) (r : Result X LoadFault) → 2147483648 ≤ size →
-    Gives view (data_by heap minor path true size offset) r → Follows heap path view (data_by heap minor path (is_inline size) size offset) old old r
+pub inline-follows : {X : Type 0} (heap : Heap) (minor : ℕ) (path : List ℕ) (size offset : ℕ) (view : X → List ℕ) (old : List CellState)
+    (r : Result X LoadFault) → 2147483648 ≤ size →
+    Gives view (data_by heap minor path true size offset) r →
+    Follows heap path view (data_by heap minor path (is_inline size) size offset) old old r
 inline-follows heap minor path size offset view old r l g =
     subst (λ b. Follows heap path view (data_by heap minor path b size offset) old old r) (sym (less 2147483648 size l))
     (gives-follows heap path view (data_by heap minor path true size offset) old r g)
 
-module _ {X : Type 0} (heap : Heap) (minor : ℕ) (path : List ℕ) (size offset : ℕ) (view : X → List ℕ) (old new : List CellState) (r : Result X LoadFault) where
+module _ {X : Type 0} (heap : Heap) (minor : ℕ) (path : List ℕ) (size offset : ℕ) (view : X → List ℕ) (old new : List CellState)
+    (r : Result X LoadFault) where
   pub far-follows : (single : Bool) → size < 2147483648 → size ≤ 1048576 → single ≡ (nat_le size segment_size || (minor == 3)) →
-      Follows heap path view (far_from heap path single size offset) old new r → Follows heap path view (data_by heap minor path (is_inline size) size offset) old new r
+      Follows heap path view (far_from heap path single size offset) old new r →
+      Follows heap path view (data_by heap minor path (is_inline size) size offset) old new r
   far-follows single s l e f =
       subst (λ b. Follows heap path view (data_by heap minor path b size offset) old new r) (sym (above 2147483648 size s))
       (reaches-follows heap path view (data_by heap minor path false size offset) (far_from heap path single size offset) old old new r
-      (reaches-same heap path (data_by heap minor path false size offset) (far_from heap path single size offset) old (far-by heap minor path size offset single l e)) f)
+      (reaches-same heap path (data_by heap minor path false size offset) (far_from heap path single size offset) old
+      (far-by heap minor path size offset single l e)) f)
 
 -- what isn't in one cell isn't empty
-big-not-empty : {X : Type 0} (heap : Heap) (path : List ℕ) (size offset : ℕ) (three : Bool) (view : X → List ℕ) (old new : List CellState) (r : Result X LoadFault) →
-    false ≡ (nat_le size segment_size || three) → Follows heap path view (big_from heap path size offset) old new r → Follows heap path view (far_from heap path false size offset) old new r
+big-not-empty : {X : Type 0} (heap : Heap) (path : List ℕ) (size offset : ℕ) (three : Bool) (view : X → List ℕ) (old new : List CellState)
+    (r : Result X LoadFault) →
+    false ≡ (nat_le size segment_size || three) → Follows heap path view (big_from heap path size offset) old new r →
+    Follows heap path view (far_from heap path false size offset) old new r
 unfolding segment_size
 big-not-empty heap path zero offset three view old new r e f = absurd (false≢true e)
 big-not-empty heap path (suc n) offset three view old new r e f = f
 
-pub big-follows : {X : Type 0} (heap : Heap) (minor : ℕ) (path : List ℕ) (size offset : ℕ) (view : X → List ℕ) (old new : List CellState) (r : Result X LoadFault) → size < 2147483648 → size ≤ 1048576 →
+pub big-follows : {X : Type 0} (heap : Heap) (minor : ℕ) (path : List ℕ) (size offset : ℕ) (view : X → List ℕ) (old new : List CellState)
+    (r : Result X LoadFault) → size < 2147483648 → size ≤ 1048576 →
     false ≡ (nat_le size segment_size || (minor == 3)) → Follows heap path view (big_from heap path size offset) old new r →
     Follows heap path view (data_by heap minor path (is_inline size) size offset) old new r
 big-follows heap minor path size offset view old new r s l e f =

@@ -11,5 +11,6 @@ returns-then-size-ge-INLINE-clause-follows c path =
 
 pub returns-clause-follows : goal.returns-clause-follows
 returns-clause-follows c path =
-    big-follows _ c.args.minor path c.args.size c.args.offset (λ (x : Vec ℕ Global). x.items) _ _ _ c.if-size-ge-INLINE.false c.if-size-gt-DATA_LIMIT.false
+    big-follows _ c.args.minor path c.args.size c.args.offset
+    (λ (x : Vec ℕ Global). x.items) _ _ _ c.if-size-ge-INLINE.false c.if-size-gt-DATA_LIMIT.false
     (sym c.if-is_single.false ∙ c.is_single.ensures) (c.big_from.ensures.follows path)
