@@ -69,10 +69,10 @@ fn is_version(block: &[u8]) -> bool
 
 /// Reads the base block that bytes begin with.
 ///
-/// The first test that fails is the fault: `Signature` where the block doesn't begin with `regf`; `Version` for another version than
-/// 1.3, 1.4 and 1.5, another file type than a primary file's, or another format; `Checksum` for another checksum than that of the first 508 bytes;
-/// `Dirty` where the two sequence numbers differ; `Bins` for bins of size 0 or of no whole pages of 4,096 bytes; `Limit` for
-/// bins above 268,435,456 bytes. There is no other fault.
+/// The first test that fails is the fault: `Signature` where the block doesn't begin with `regf`; `Version` for another version
+/// than 1.3, 1.4 and 1.5, another file type than a primary file's, or another format; `Checksum` for another checksum than that of
+/// the first 508 bytes; `Dirty` where the two sequence numbers differ; `Bins` for bins of size 0 or of no whole pages of 4,096
+/// bytes; `Limit` for bins above 268,435,456 bytes. There is no other fault.
 pub fn read_block(block: &[u8]) -> Result<BaseBlock, LoadFault>
     requires { 4096 ≤ length block.now }
     ensures { GivesExactly (block_walk block.now) result }

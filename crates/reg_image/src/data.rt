@@ -74,7 +74,8 @@ fn copied(alloc: Global, bytes: &[u8]) -> Result<Vec<u8>, LoadFault>
 /// The data that stands in the field of its offset: the field's first bytes, at most four.
 fn inline_data(alloc: Global, size: u32, offset: u32) -> Result<Vec<u8>, LoadFault>
     requires { INLINE ≤ size }
-    ensures { (heap : Heap) → (minor : ℕ) → (path : List ℕ) → Gives (λ bytes. bytes.items) (data_step heap minor path true size offset) result }
+    ensures { (heap : Heap) → (minor : ℕ) → (path : List ℕ) →
+        Gives (λ bytes. bytes.items) (data_step heap minor path true size offset) result }
 {
     let count = size - INLINE;
     if count > INLINE_LIMIT {

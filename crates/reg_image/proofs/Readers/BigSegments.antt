@@ -49,8 +49,12 @@ module _ {X : Type 0} (heap : Heap) (path : List ℕ) (offset left size : ℕ) (
   segment-done x copied e a seen t =
       let d = a seen t in
       subst (λ n. IsDone heap path (appended bytes (segment n)) seen copied mid) size-is
-      (record { after = d.after; gives = ap (onward (λ piece. give (bytes ++ piece))) d.gives ∙ ap (λ all. Ok (all, d.after))
-          (sym e); table = d.table; told = d.told })
+      (record {
+        after = d.after;
+        gives = ap (onward (λ piece. give (bytes ++ piece))) d.gives ∙ ap (λ all. Ok (all, d.after)) (sym e);
+        table = d.table;
+        told = d.told;
+      })
 
 -- ---- the loop
 
@@ -115,7 +119,7 @@ module _ (heap : Heap) (row : List ℕ) (count size : ℕ) (old : List CellState
     pub more-copied : (copied : List ℕ) (next offset : ℕ) (x : X) → AreCopied heap row count size index left bytes old now →
         offset ≡ offset_in row index → next ≡ left - segment_size →
         ((path : List ℕ) → Follows heap path (λ (_ : X). copied) (one path left offset bytes) now new (Ok x)) → unnamed new ≤ unnamed now →
-            AreCopied heap row count size (index + 1) next copied old new
+        AreCopied heap row count size (index + 1) next copied old new
     more-copied copied next offset x c e n f l =
         let w = c.fewer in
         subst (λ n. AreCopied heap row count size (index + 1) n copied old new) (sym n)
@@ -199,5 +203,9 @@ module _ {X : Type 0} (heap : Heap) (path : List ℕ) (size offset : ℕ) (view 
     big-row count big n e l seen t =
         let d = a seen t in
         let b : nat_le (segments_for size) big.count ≡ true = ap (λ k. nat_le k big.count) (sym n) ∙ less count big.count l in
-        record { after = d.after; gives = ap (onward then) d.gives ∙
-            (rw (e, b) refl ∙ ap (λ k. from-row k big d.after) (sym n)); table = d.table; told = d.told }
+        record {
+          after = d.after;
+          gives = ap (onward then) d.gives ∙ (rw (e, b) refl ∙ ap (λ k. from-row k big d.after) (sym n));
+          table = d.table;
+          told = d.told;
+        }

@@ -77,8 +77,12 @@ block-is bytes seen = refl
 
 version-front : (n : ℕ) (bytes : List ℕ) → 36 ≤ n → is_version (take n bytes) ≡ is_version bytes
 version-front n bytes l =
-    rw (word-front n 20 bytes (omega arith), word-front n 24 bytes (omega arith), word-front n 28 bytes
-    (omega arith), word-front n 32 bytes (omega arith)) refl
+    rw (
+      word-front n 20 bytes (omega arith),
+      word-front n 24 bytes (omega arith),
+      word-front n 28 bytes (omega arith),
+      word-front n 32 bytes (omega arith),
+    ) refl
 
 -- a base block is walked as the image that it begins
 pub block-front : (bytes : List ℕ) (seen : Seen) → block_walk (take 4096 bytes) seen ≡ block_walk bytes seen

@@ -65,7 +65,7 @@ reaches-then heap path first whole s f old mid new x a b seen t =
 pub reaches-exit : {X Y A B : Type 0} (heap : Heap) (path : List ℕ) (first : X → A) (then : Y → B) (whole : Step B) (s : Step A)
     (f : A → Step B) (old mid new : List CellState) (fault : LoadFault)
     (r : Result Y LoadFault) → IsErrAnd r (λ e. e ≡ fault) → Reaches heap path whole (s >>= f) old mid →
-        Follows heap path first s mid new (Err fault) → Follows heap path then whole old new r
+    Follows heap path first s mid new (Err fault) → Follows heap path then whole old new r
 reaches-exit heap path first then whole s f old mid new fault (Ok y) i a b seen t = absurd i
 reaches-exit heap path first then whole s f old mid new fault (Err e) i a b seen t =
     let w = a seen t in
