@@ -4,6 +4,7 @@ ghost use Rattle.std.specs.Prelude.{◌≡◌, ◌+◌, ◌<◌, ◌≤◌, ℕ,
 ghost use Rattle.reg_names.specs.Names.{folded};
 ghost use Rattle.reg_heap.specs.declared.limits.TheConstants.{LEAF_LIMIT};
 ghost use Rattle.reg_heap.specs.ByteWords.{half};
+ghost use Rattle.reg_heap.specs.Heaps.{Heap};
 ghost use Rattle.reg_arena.specs.Arena.{heap_of};
 ghost use Rattle.reg_records.specs.KeyNodes.{key_at};
 ghost use Rattle.reg_records.specs.SubkeyLists.{Entry, SubkeysList};
@@ -183,19 +184,31 @@ pub fn behind(arena: &Arena, list: SubkeysIndex, place: Place) -> Option<u32>
     Some(at_place(arena, list, next))
 }
 
+/// The offset of the list of a number of an index root, by what the root's cell holds.
+fn leaf_in(root: &[u8], number: u32) -> u32
+    requires root { (heap : Heap) × (offset : ℕ) × (lists : List KeyList) × HasLists heap offset lists × (heap offset ≡ Some root.now)
+        × (1 < length lists) × (number < length lists) }
+    requires few { number < 65536 }
+    ensures { (heap : Heap) → (offset : ℕ) → (lists : List KeyList) → HasLists heap offset lists → heap offset ≡ Some root.now →
+        1 < length lists → number < length lists → (numbered number lists).offset ≡ result }
+{
+    entry_at(root, ListForm::IndexRoot, number as u16).offset
+}
+
 /// The number of the list in which a name stands or belongs: of the last one that begins with it or a name before it, or else of
-/// the first one.
+/// the first one. The root's cell is looked up once.
 fn list_for(arena: &Arena, offset: u32, name: &[u8]) -> u32
     requires { (lists : List KeyList) × HasLists (heap_of arena.now) offset lists × (0 < length lists)
         × AreKeys (heap_of arena.now) (entries_in lists) }
     ensures { (lists : List KeyList) → HasLists (heap_of arena.now) offset lists → 0 < length lists →
         AreKeys (heap_of arena.now) (entries_in lists) → IsListFor (heap_of arena.now) lists (folded name.now) result }
 {
+    let root = arena.content(offset);
     let mut low = 1;
     let mut high = count_lists(arena, offset);
     while low < high {
         let middle = low + (high - low) / 2;
-        let first = key_in(arena, leaf_at(arena, offset, middle), 0);
+        let first = key_in(arena, leaf_in(root, middle), 0);
         match name_order(name_of(arena, first), name) {
             Ordering::Less | Ordering::Equal => low = middle + 1,
             Ordering::Greater => high = middle,

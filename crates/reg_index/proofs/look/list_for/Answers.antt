@@ -8,11 +8,18 @@ use Rattle.reg_index.proofs.look.list_for.Goals as goal
 pub loop-low-init : goal.loop-low-init
 loop-low-init c = λ lists h some keys. first-lists (heap_of c.args.arena.now) lists (folded c.args.name.now) c.count_lists-high.result some (c.count_lists-high.ensures.count lists h some)
 
-pub leaf_at-requires : goal.leaf_at-requires
-leaf_at-requires c =
+pub leaf_in-requires-clause-root : goal.leaf_in-requires-clause-root
+leaf_in-requires-clause-root c =
     let s = c.requires in
-    let b = c.loop-low.invariant s.0 s.1 s.2 s.3 in
-    (s.0, s.1, omega (arith, b.within, c.loop-low-test.true))
+    let b = c.loop-low.invariant s.0 s.1 s.2 s.3 in (
+      heap_of c.args.arena.now,
+      c.args.offset,
+      s.0,
+      s.1,
+      c.content-root.ensures,
+      omega (arith, b.some, b.within, c.loop-low-test.true),
+      omega (arith, b.within, c.loop-low-test.true),
+    )
 
 pub key_in-first-requires-clause-leaf : goal.key_in-first-requires-clause-leaf
 key_in-first-requires-clause-leaf c =
@@ -21,7 +28,7 @@ key_in-first-requires-clause-leaf c =
     let m = c.loop-low.low + (c.loop-low.high - c.loop-low.low) / 2 in
     let l : m < length s.0 = omega (arith, b.within, c.loop-low-test.true) in (
       _,
-      leaf-of (heap_of c.args.arena.now) c.args.offset s.0 m c.leaf_at.result s.1 l (c.leaf_at.ensures s.0 s.1 l),
+      leaf-of (heap_of c.args.arena.now) c.args.offset s.0 m c.leaf_in.result s.1 l (c.leaf_in.ensures (heap_of c.args.arena.now) c.args.offset s.0 s.1 c.content-root.ensures (omega (arith, b.some, l)) l),
       omega (arith, (list-stands (heap_of c.args.arena.now) c.args.offset s.0 m s.1 l).written.some),
     )
 
@@ -33,7 +40,7 @@ name_of-requires c =
     let l : m < length s.0 = omega (arith, b.within, c.loop-low-test.true) in
     is-list-key (heap_of c.args.arena.now) c.args.offset s.0 s.1 s.3 c.loop-low.low c.loop-low.high m c.key_in-first.result c.args.name.now (omega arith)
     (omega (arith, c.loop-low-test.true)) b
-    (c.key_in-first.ensures _ (leaf-of (heap_of c.args.arena.now) c.args.offset s.0 m c.leaf_at.result s.1 l (c.leaf_at.ensures s.0 s.1 l))
+    (c.key_in-first.ensures _ (leaf-of (heap_of c.args.arena.now) c.args.offset s.0 m c.leaf_in.result s.1 l (c.leaf_in.ensures (heap_of c.args.arena.now) c.args.offset s.0 s.1 c.content-root.ensures (omega (arith, b.some, l)) l))
     (omega (arith, (list-stands (heap_of c.args.arena.now) c.args.offset s.0 m s.1 l).written.some)))
 
 pub loop-low-preserved-in-Less : goal.loop-low-preserved-in-Less
@@ -43,7 +50,7 @@ loop-low-preserved-in-Less c = λ lists h some keys.
     let l : m < length lists = omega (arith, b.within, c.loop-low-test.true) in
     list-begins (heap_of c.args.arena.now) c.args.offset lists h keys c.loop-low.low c.loop-low.high m c.key_in-first.result c.args.name.now (omega arith)
     (omega (arith, c.loop-low-test.true)) b
-    (c.key_in-first.ensures _ (leaf-of (heap_of c.args.arena.now) c.args.offset lists m c.leaf_at.result h l (c.leaf_at.ensures lists h l))
+    (c.key_in-first.ensures _ (leaf-of (heap_of c.args.arena.now) c.args.offset lists m c.leaf_in.result h l (c.leaf_in.ensures (heap_of c.args.arena.now) c.args.offset lists h c.content-root.ensures (omega (arith, b.some, l)) l))
     (omega (arith, (list-stands (heap_of c.args.arena.now) c.args.offset lists m h l).written.some)))
     c.name_of.result.now c.name_of.ensures (no-greater c.name_order.result _ c.in-Less.is c.name_order.ensures)
 
@@ -54,7 +61,7 @@ loop-low-preserved c = λ lists h some keys.
     let l : m < length lists = omega (arith, b.within, c.loop-low-test.true) in
     list-behind (heap_of c.args.arena.now) c.args.offset lists h keys c.loop-low.low c.loop-low.high m c.key_in-first.result c.args.name.now (omega arith)
     (omega (arith, c.loop-low-test.true)) b
-    (c.key_in-first.ensures _ (leaf-of (heap_of c.args.arena.now) c.args.offset lists m c.leaf_at.result h l (c.leaf_at.ensures lists h l))
+    (c.key_in-first.ensures _ (leaf-of (heap_of c.args.arena.now) c.args.offset lists m c.leaf_in.result h l (c.leaf_in.ensures (heap_of c.args.arena.now) c.args.offset lists h c.content-root.ensures (omega (arith, b.some, l)) l))
     (omega (arith, (list-stands (heap_of c.args.arena.now) c.args.offset lists m h l).written.some)))
     c.name_of.result.now c.name_of.ensures c.in-Greater.ensures
 
