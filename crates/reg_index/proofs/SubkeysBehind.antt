@@ -25,7 +25,8 @@ module _ (heap : Heap) (count offset : ℕ) (place : Place) (stands : StandsIn (
   here-is key is = subkey-at heap count offset entries s (flat heap count offset place) place key place-stands (sym (flat-read heap count offset place entries s)) is
 
   pub here-within : flat heap count offset place < length entries
-  here-within = omega (arith, place-stands.1, flat-read heap count offset place entries s, before-within (lists_of s.index) place.list place-stands.0, total)
+  here-within =
+      omega (arith, place-stands.1, flat-read heap count offset place entries s, before-within (lists_of s.index) place.list place-stands.0, total)
 
   -- a place as it is read
   read-place : (next : Place) → StandsAmong (lists_of s.index) next → StandsIn (index_of heap count offset) next
@@ -70,7 +71,8 @@ module _ (heap : Heap) (count offset : ℕ) (place : Place) (stands : StandsIn (
 pub behind-is : (heap : Heap) (count offset : ℕ) (place next : Place) (entries : List Entry) → AreSubkeys heap count offset entries →
     StandsIn (index_of heap count offset) next × (flat heap count offset next ≡ flat heap count offset place + 1) → (key : ℕ) →
     (get_or entries (flat heap count offset next) (record { offset = 0; hint = 0 })).offset ≡ key →
-    (flat heap count offset place + 1 < length entries) × ((get_or entries (flat heap count offset place + 1) (record { offset = 0; hint = 0 })).offset ≡ key)
+    (flat heap count offset place + 1 < length entries)
+    × ((get_or entries (flat heap count offset place + 1) (record { offset = 0; hint = 0 })).offset ≡ key)
 behind-is heap count offset place next entries s is key at =
     subst (λ i. (i < length entries) × ((get_or entries i (record { offset = 0; hint = 0 })).offset ≡ key)) is.1
     (here-within heap count offset next is.0 entries s, at)

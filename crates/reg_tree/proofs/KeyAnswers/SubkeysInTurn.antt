@@ -37,7 +37,8 @@ module _ (bytes : List ℕ) (key : ℕ) (t : IsHere bytes key) (count list : ℕ
   place_of_key : (place : Place) (index : ℕ) → StandsIn (index_of h count list) place → flat h count list place ≡ index → IsPlaceAt h key index place
   place_of_key place index stands is = record {
     stands = λ r reads.
-        subst (λ n. StandsIn (index_of h n r.fields.subkeys_list) place) (has r reads).0 (subst (λ o. StandsIn (index_of h count o) place) (has r reads).1 stands);
+        subst (λ n. StandsIn (index_of h n r.fields.subkeys_list) place) (has r reads).0
+        (subst (λ o. StandsIn (index_of h count o) place) (has r reads).1 stands);
     index_is = sym (index-is bytes key t count list has place) ∙ is;
   }
 
@@ -56,7 +57,8 @@ module _ (bytes : List ℕ) (key : ℕ) (t : IsHere bytes key) (count list : ℕ
       let s = subkeys bytes key t count list has in
       let l = here-within h count list place (place_of_list bytes key t count list has place p.stands) _ s in
       let n = s.number in
-      subst (λ i. IsSubkey h t.root t.path paths from i (Some (record { offset = child; depth = from.depth + 1 }))) (index-is bytes key t count list has place ∙ p.index_is)
+      subst (λ i. IsSubkey h t.root t.path paths from i (Some (record { offset = child; depth = from.depth + 1 })))
+      (index-is bytes key t count list has place ∙ p.index_is)
       (subkey_told bytes key t count list has from (flat h count list place) child (omega (arith, l, n)) at)
 
 -- ---- as they are seen
@@ -65,8 +67,8 @@ none_there : (paths : List Path) → length paths ≤ 0 → paths ≡ []
 none_there [] l = refl
 none_there (p ∷ paths) l = absurd (omega (arith, l))
 
-module _ (bins : Bins) (root : ℕ) {table : DescriptorCells} (holds : TreeInvariant bins.bytes root table) (now : Keys) (view_is : seen_as bins root ≡ now) (node : Node) (p : Path)
-    (at : IsAt now p node) where
+module _ (bins : Bins) (root : ℕ) {table : DescriptorCells} (holds : TreeInvariant bins.bytes root table) (now : Keys)
+    (view_is : seen_as bins root ≡ now) (node : Node) (p : Path) (at : IsAt now p node) where
   -- the places of subkeys
   place_seen : (index : ℕ) (subkey : Subkey) → IsSubkeyAt now p node index subkey → IsPlaceAt (heap_of bins) node.offset index subkey.place
   place_seen index subkey s = (subst (λ k. IsSubkeyAt k p node index subkey) (sym view_is) s).place
@@ -74,14 +76,16 @@ module _ (bins : Bins) (root : ℕ) {table : DescriptorCells} (holds : TreeInvar
   pub place_there : (index : ℕ) (subkey : Subkey) → IsSubkeyAt now p node index subkey → IsPlaceOf (heap_of bins) node.offset subkey.place
   place_there index subkey s = (place_seen index subkey s).stands
 
-  seen : (index : ℕ) (result : Option Subkey) → IsPlacedSubkey (heap_of bins) root p (children_of (tree_in bins.bytes root) p) node index result →
+  seen : (index : ℕ) (result : Option Subkey) →
+      IsPlacedSubkey (heap_of bins) root p (children_of (tree_in bins.bytes root) p) node index result →
       MatchOption result (length (children_of now.tree p) ≤ index) (λ subkey. IsSubkeyAt now p node index subkey)
   seen index None s = subst (λ (k : Keys). length (children_of k.tree p) ≤ index) view_is s
   seen index (Some subkey) s =
       let d = at.depth in
       let e = s.0.2 in
       let n = s.0.3 in
-      let is : IsSubkeyAt (seen_as bins root) p node index subkey = record { within = s.0.0; at = record { offset = s.0.1; depth = omega (arith, d, e, n) }; place = s.1 } in
+      let is : IsSubkeyAt (seen_as bins root) p node index subkey =
+      record { within = s.0.0; at = record { offset = s.0.1; depth = omega (arith, d, e, n) }; place = s.1 } in
       subst (λ (k : Keys). IsSubkeyAt k p node index subkey) view_is is
 
   pub first_seen : (result : Option Subkey) → IsPlacedSubkey (heap_of bins) root p (children_of (tree_in bins.bytes root) p) node 0 result →
@@ -96,8 +100,10 @@ module _ (bins : Bins) (root : ℕ) {table : DescriptorCells} (holds : TreeInvar
   last_seen index (Some next) l s = s
 
   pub next_seen : (index : ℕ) (subkey : Subkey) (result : Option Subkey) → IsSubkeyAt now p node index subkey →
-      IsPlacedSubkey (heap_of bins) root p (children_of (tree_in bins.bytes root) p) node (place_index (heap_of bins) node.offset subkey.place + 1) result →
+      IsPlacedSubkey (heap_of bins) root p (children_of (tree_in bins.bytes root) p) node
+      (place_index (heap_of bins) node.offset subkey.place + 1) result →
       MatchOption result (index + 1 ≡ length (children_of now.tree p)) (λ next. IsSubkeyAt now p node (index + 1) next)
   next_seen index subkey result is s =
       last_seen index result is.within
-      (seen (index + 1) result (subst (λ i. IsPlacedSubkey (heap_of bins) root p (children_of (tree_in bins.bytes root) p) node (i + 1) result) (place_seen index subkey is).index_is s))
+      (seen (index + 1) result
+      (subst (λ i. IsPlacedSubkey (heap_of bins) root p (children_of (tree_in bins.bytes root) p) node (i + 1) result) (place_seen index subkey is).index_is s))

@@ -16,7 +16,8 @@ loop-index-preserved c = λ p at.
     let q = get_or (children_of tree p) i [] in
     let before = c.loop-index.invariant p at in
     let here : IsSubkeyAt keys p c.args.node i c.in-Some.subkey =
-    subst (λ (o : Option Subkey). MatchOption o (i ≡ length (children_of tree p)) (λ subkey. IsSubkeyAt keys p c.args.node i subkey)) c.in-Some.is before.0 in
+    subst (λ (o : Option Subkey). MatchOption o (i ≡ length (children_of tree p)) (λ subkey. IsSubkeyAt keys p c.args.node i subkey))
+    c.in-Some.is before.0 in
     let name = name-told (get tree q) c.name.result.now (c.name.ensures.told q here.at) (c.name.ensures.key q here.at) in (
       c.next_subkey-next.ensures p at i here,
       largest-step (λ (x : Path). length (name_of (get tree x))) (children_of tree p) i [] q _ _ c.larger-longest.result here.within refl

@@ -23,4 +23,5 @@ subkey_at-requires-clause-place c =
 
 pub returns : goal.returns
 returns c = λ t.
-    c.subkey_at.ensures t _ (placed_next _ _ t _ _ c.subkeys_list-list.ensures c.args.place c.in-Some.next (c.in-Some.ensures _ (subkeys _ _ t _ _ c.subkeys_list-list.ensures)))
+    c.subkey_at.ensures t _
+    (placed_next _ _ t _ _ c.subkeys_list-list.ensures c.args.place c.in-Some.next (c.in-Some.ensures _ (subkeys _ _ t _ _ c.subkeys_list-list.ensures)))

@@ -10,4 +10,5 @@ first_subkey-requires-clause-depth c = shallow_at _ _ c.self.invariant _ c.self.
 
 pub returns : goal.returns
 returns c = λ p at.
-    first_seen _ _ c.self.invariant _ c.self.view_is c.args.node p at c.first_subkey.result (c.first_subkey.ensures (here_at _ _ c.self.invariant _ c.self.view_is c.args.node p at))
+    first_seen _ _ c.self.invariant _ c.self.view_is c.args.node p at c.first_subkey.result
+    (c.first_subkey.ensures (here_at _ _ c.self.invariant _ c.self.view_is c.args.node p at))
