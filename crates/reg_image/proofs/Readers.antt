@@ -10,3 +10,6 @@ pub mod FirstBytes
 pub mod ReachedSteps
 pub mod BigSegments
 pub mod DataForms
+pub mod EqualNames
+pub mod ValueReadings
+pub mod ValueRows

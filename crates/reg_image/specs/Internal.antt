@@ -4,5 +4,6 @@ pub mod ReaderOutcomes
 pub mod ListParts
 pub mod NameReadings
 pub mod NamedRecords
+pub mod NamesMet
 pub mod CellScans
 pub mod SegmentSteps

@@ -21,6 +21,7 @@ use Rattle.reg_heap.specs.Kinds.Kind.{Key, Class, SubList, Leaf, ValueList, Valu
 use Rattle.reg_records.specs.declared.RecordFault.{RecordFault}
 use Rattle.reg_records.specs.declared.RecordFault.TheVariants.{Short, Signature, Length, NotInProfile as PastProfile}
 use Rattle.reg_records.specs.declared.lists.ListForm.TheVariants.{IndexRoot, IndexLeaf, FastLeaf, HashLeaf}
+use Rattle.reg_records.specs.declared.nk.KeyFields.{KeyFields}
 use Rattle.reg_records.specs.KeyNodes.{KeyRecord, nk_of}
 use Rattle.reg_records.specs.KeyValues.{KeyValueRecord, vk_of}
 use Rattle.reg_records.specs.KeySecurities.{sk_of}
@@ -242,20 +243,25 @@ module _ (heap : Heap) (minor : ℕ) where
     row ← row_from heap path ValueList (suc n) offset
     values_each path [] row
 
-  -- a key's class, security and values; then the key is told
+  -- a key's class, its security's descriptor and its values
+  abbrev pub parts_from : List ℕ → KeyFields → Step (List ℕ × List ℕ × List Member)
+  parts_from path key = do
+    class ← class_from heap path key.class_length key.class
+    descriptor ← descriptor_from heap path key.security
+    values ← values_from path key.values key.values_list
+    give (class, descriptor, values)
+
+  -- a key's class, descriptor and values; then the key is told
   abbrev pub rest_from : List ℕ → Path → KeyRecord → List ℕ → Step (Unit {0})
   rest_from path at key name = do
-    class ← class_from heap path key.fields.class_length key.fields.class
-    descriptor ← descriptor_from heap path key.fields.security
-    values ← values_from path key.fields.values key.fields.values_list
+    parts ← parts_from path key.fields
     tell at (record {
       name = name;
       marks = marks_of key.fields.flags;
-      class = class;
-      descriptor = descriptor;
-      time =
-          key.fields.time;
-      values = values;
+      class = parts.0;
+      descriptor = parts.1;
+      time = key.fields.time;
+      values = parts.2;
     })
 
   -- a key and all below it, of so many levels of keys; where no level is left, the key is too deep

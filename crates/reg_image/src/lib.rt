@@ -18,15 +18,18 @@ mod big_data;
 mod block;
 mod cells;
 mod data;
+mod key_parts;
 mod keys;
 pub mod laws;
 mod list_part;
 mod lists;
+mod met_names;
 mod names;
 mod rows;
 mod scan;
 mod security;
 mod table;
+mod value_lists;
 mod values;
 
 pub use block::checksum;

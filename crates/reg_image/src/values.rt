@@ -1,15 +1,19 @@
-//! Values, as the walk names them: a record and its name.
+//! Values, as the walk names them: a record and its name, and then the data.
 
-ghost use Rattle.std.specs.Prelude.{◌≡◌, ◌<◌, ◌≤◌, ℕ, List, OnOk};
+ghost use Rattle.std.specs.Prelude.{◌≡◌, ◌<◌, ◌≤◌, ℕ, List, [], ◌∷◌, ◌++◌, IfOk, OnOk};
+ghost use Rattle.reg_heap.specs.Paths.{Member};
 ghost use Rattle.reg_arena.specs.Cells.{cell_at};
-ghost use Rattle.reg_image.specs.LoadingWalk.{value_name as name_step, named_value as value_step};
+ghost use Rattle.reg_image.specs.LoadingWalk.{value_name as name_step, named_value as named_step, value_from as value_step};
 ghost use Rattle.reg_image.specs.Internal.CellStates.{unnamed};
 ghost use Rattle.reg_image.specs.Internal.ReaderOutcomes.{Gives, Follows};
 ghost use Rattle.reg_image.specs.Internal.NameReadings.{value_in};
-ghost use Rattle.reg_image.specs.Internal.NamedRecords.{value_of};
+ghost use Rattle.reg_image.specs.Internal.NamedRecords.{value_of, member_in};
+ghost use Rattle.reg_image.specs.Internal.NamesMet.{AreMet};
 
 use crate::LoadFault;
 use crate::cells::cell;
+use crate::data::data_from;
+use crate::met_names::MetNames;
 use crate::names::name_from;
 use crate::security::fault_of;
 use crate::table::CellTable;
@@ -22,6 +26,17 @@ use std::alloc::Global;
 pub struct NamedValue<'a> {
     pub value: ValueRecord<'a>,
     pub name: Vec<u8>,
+}
+
+/// A value with its data.
+#[derive(Drop)]
+pub struct ReadValue {
+    /// The characters of its name, as they are given.
+    pub name: Vec<u8>,
+    /// The type of its data.
+    pub kind: u32,
+    /// Its data.
+    pub bytes: Vec<u8>,
 }
 
 /// The characters of a value's name.
@@ -58,10 +73,38 @@ pub fn named_value<'a>(
     offset: u32,
 ) -> Result<NamedValue<'a>, LoadFault>
     ensures follows { (path : List ℕ) →
-        Follows (cell_at bins.now) path value_of (value_step (cell_at bins.now) path offset) table.old.states.items table.new.states.items result }
+        Follows (cell_at bins.now) path value_of (named_step (cell_at bins.now) path offset) table.old.states.items table.new.states.items result }
     ensures fewer { OnOk result (unnamed table.new.states.items < unnamed table.old.states.items) }
     ensures no_more { unnamed table.new.states.items ≤ unnamed table.old.states.items }
 {
     let content = cell(bins, table, offset, false)?;
     read_value(alloc, content)
+}
+
+/// Names a value of a key, meets its name among those of the values before it, and reads its data, in this order. `Twice` is also
+/// for a name that folds as one before it.
+pub fn value_from(
+    alloc: Global,
+    bins: &[u8],
+    table: &mut CellTable,
+    minor: u32,
+    met: &mut MetNames,
+    offset: u32,
+) -> Result<ReadValue, LoadFault>
+    ensures follows { (path : List ℕ) → (before : List Member) → AreMet before met.old.folded.keys →
+        Follows (cell_at bins.now) path member_in (value_step (cell_at bins.now) minor path before offset)
+        table.old.states.items table.new.states.items result }
+    ensures met { IfOk result (λ value. (before : List Member) → AreMet before met.old.folded.keys →
+        AreMet (before ++ member_in value ∷ []) met.new.folded.keys) }
+    ensures no_more { unnamed table.new.states.items ≤ unnamed table.old.states.items }
+{
+    let NamedValue { value, name } = named_value(alloc, bins, table, offset)?;
+    met.meet(alloc, name.as_slice())?;
+    let fields = value.fields;
+    let bytes = data_from(alloc, bins, table, minor, fields.size, fields.offset)?;
+    Ok(ReadValue {
+        name,
+        kind: fields.kind,
+        bytes,
+    })
 }

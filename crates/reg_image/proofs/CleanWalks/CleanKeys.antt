@@ -26,7 +26,7 @@ use Rattle.reg_shape.proofs.Refinement.RefinementAtPath.{name-written}
 use Rattle.reg_shape.proofs.Wholeness.ShapeCounts.{tally-append}
 use Rattle.reg_image.specs.declared.LoadFault.TheVariants.{Record, Twice, NotInProfile, Limit}
 use Rattle.reg_image.specs.WalkSteps.{Seen, Step, ◌>>=◌, ◌>>◌, onward, give, check, tell, cell}
-use Rattle.reg_image.specs.LoadingWalk.{read, name_in, key_name, is_free, no_sibling, named_key, head_from, rest_from, class_from, descriptor_from, values_from, subkeys_from, key_from}
+use Rattle.reg_image.specs.LoadingWalk.{read, name_in, key_name, is_free, no_sibling, named_key, head_from, parts_from, rest_from, class_from, descriptor_from, values_from, subkeys_from, key_from}
 use Rattle.reg_image.proofs.CleanWalks.CleanSteps.{IsFresh, fresh-first, fresh-then, named_too, Reads, reads-give, reads-bind, reads-check, reads-read, reads-cell}
 use Rattle.reg_image.proofs.CleanWalks.CleanValues.{class-clean, descriptor-clean, values-clean, ok-from}
 
@@ -167,6 +167,31 @@ module _ (heap : Heap) (root : ℕ) (path : List ℕ) (here : List ℕ → Path)
         keys = λ o. (let l = f.keys o in let a = tally-append (is_own o) found (it ∷ []) in omega (arith, l, a));
       }
 
+  parts-reads : (class_cells value_cells : List Found) →
+      pieces_at (if_any Class node.key.fields.class_length node.key.fields.class) heap ≡ Some (node.class, class_cells) →
+      members_at node.key.fields.values node.key.fields.values_list heap ≡ Some (node.values, value_cells) →
+      Reads (offset ∷ path) (parts_from heap 5 (offset ∷ path) node.key.fields) (node.class, security.security.descriptor, node.values)
+      (class_cells ++ ((record { kind = Security; offset = node.key.fields.security } ∷ []) ++ (value_cells ++ [])))
+  parts-reads class_cells value_cells class values =
+      let p = offset ∷ path in
+      let fields = node.key.fields in
+      let d = security.security.descriptor in
+      let s : Found = record { kind = Security; offset = fields.security } in
+      let parts : List ℕ × List ℕ × List Member = (node.class, d, node.values) in
+      let last : List ℕ → List ℕ → List Member → Step (List ℕ × List ℕ × List Member) =
+      λ class descriptor values. give (class, descriptor, values) in
+      reads-bind p (class_from heap p fields.class_length fields.class)
+      (λ class. descriptor_from heap p fields.security >>=
+      (λ descriptor. values_from heap 5 p fields.values fields.values_list >>= last class descriptor))
+      node.class parts class_cells ((s ∷ []) ++ (value_cells ++ []))
+      (class-clean heap p fields.class_length fields.class (node.class, class_cells) class)
+      (reads-bind p (descriptor_from heap p fields.security)
+      (λ descriptor. values_from heap 5 p fields.values fields.values_list >>= last node.class descriptor)
+      d parts (s ∷ []) (value_cells ++ []) (descriptor-clean heap p fields.security security)
+      (reads-bind p (values_from heap 5 p fields.values fields.values_list) (last node.class d) node.values parts value_cells []
+      (values-clean heap p fields.values fields.values_list (node.values, value_cells) values seen-key.written.values.list)
+      (reads-give p parts)))
+
   rest-goes : (D : Keys → Type 0) (class_cells value_cells : List Found) → pieces_at (if_any Class node.key.fields.class_length node.key.fields.class) heap ≡ Some (node.class, class_cells) →
       members_at node.key.fields.values node.key.fields.values_list heap ≡ Some (node.values, value_cells) →
       Goes (offset ∷ path) D (rest_from heap 5 (offset ∷ path) at node.key (name_of node.key)) tt
@@ -178,14 +203,12 @@ module _ (heap : Heap) (root : ℕ) (path : List ℕ) (here : List ℕ → Path)
       λ class descriptor values. record { name = name_of node.key; marks = marks_of fields.flags; class = class; descriptor = descriptor; time = fields.time; values = values } in
       let d = security.security.descriptor in
       let s : Found = record { kind = Security; offset = fields.security } in
-      goes-as p D (rest_from heap 5 p at node.key (name_of node.key)) tt (class_cells ++ ((s ∷ []) ++ (value_cells ++ []))) _ ((at, rec node.class d node.values) ∷ []) _
-      (sym (append_assoc class_cells (s ∷ []) (value_cells ++ []))) (ap (λ d. (at, rec node.class d node.values) ∷ []) (sym descriptor-is))
-      (goes-after p D (class_from heap p fields.class_length fields.class) _ node.class tt class_cells ((s ∷ []) ++ (value_cells ++ [])) _
-      (class-clean heap p fields.class_length fields.class (node.class, class_cells) class)
-      (goes-after p D (descriptor_from heap p fields.security) _ d tt (s ∷ []) (value_cells ++ []) _ (descriptor-clean heap p fields.security security)
-      (goes-after p D (values_from heap 5 p fields.values fields.values_list) (λ values. tell at (rec node.class d values)) node.values tt value_cells [] _
-      (values-clean heap p fields.values fields.values_list (node.values, value_cells) values seen-key.written.values.list)
-      (goes-tell p D at (rec node.class d node.values)))))
+      let cells = class_cells ++ ((s ∷ []) ++ (value_cells ++ [])) in
+      goes-as p D (rest_from heap 5 p at node.key (name_of node.key)) tt (cells ++ []) _ ((at, rec node.class d node.values) ∷ []) _
+      (append-nil cells ∙ sym (append_assoc class_cells (s ∷ []) (value_cells ++ []))) (ap (λ d. (at, rec node.class d node.values) ∷ []) (sym descriptor-is))
+      (goes-after p D (parts_from heap 5 p fields) (λ (parts : List ℕ × List ℕ × List Member). tell at (rec parts.0 parts.1 parts.2))
+      (node.class, d, node.values) tt cells [] _
+      (parts-reads class_cells value_cells class values) (goes-tell p D at (rec node.class d node.values)))
 
   -- the key with what is below it, whose steps start with these names
   pub key-goes : (levels : ℕ) (index_cells : List Found) (below : Keys) (D : Keys → Type 0) → ((told : Keys) → Clear at told → D (told ++ (at, its_rec) ∷ [])) →

@@ -1,0 +1,18 @@
+use Rattle.reg_image.proofs.Readers.ValueReadings.{name-exit, data-exit, value-done}
+use Rattle.reg_image.proofs.values.value_from.Goals as goal
+
+pub returns-in_err-meet-clause-follows : goal.returns-in_err-meet-clause-follows
+returns-in_err-meet-clause-follows c path before met =
+    name-exit _ c.args.minor path c.args.offset before _ _ c.in_ok-value.field-0 (c.in_ok-value.ensures.follows path) _ met _
+    c.as_slice.ensures.value _ _
+    c.from_residual-in_err-meet.ensures.1 c.in_err-meet.ensures.new
+
+pub returns-in_err-bytes-clause-follows : goal.returns-in_err-bytes-clause-follows
+returns-in_err-bytes-clause-follows c path before met =
+    data-exit _ c.args.minor path c.args.offset before _ _ c.in_ok-value.field-0 (c.in_ok-value.ensures.follows path) _ met _
+    c.as_slice.ensures.value c.in_ok-meet.ensures.new _ _ _ c.from_residual-in_err-bytes.ensures.1 (c.in_err-bytes.ensures.follows path)
+
+pub returns-clause-follows : goal.returns-clause-follows
+returns-clause-follows c path before met =
+    value-done _ c.args.minor path c.args.offset before _ _ c.in_ok-value.field-0 (c.in_ok-value.ensures.follows path) _ met _
+    c.as_slice.ensures.value c.in_ok-meet.ensures.new _ c.in_ok-bytes.bytes (c.in_ok-bytes.ensures.follows path)
