@@ -14,3 +14,4 @@ pub mod FreshBin
 pub mod LengthsAfterGraft
 pub mod LengthsSeen
 pub mod DescribedKeys
+pub mod TreeLimits

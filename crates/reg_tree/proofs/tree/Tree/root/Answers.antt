@@ -1,4 +1,6 @@
-use Rattle.reg_tree.proofs.Invariant.NodeLemmas.{root_at, there-shallow}
+use Rattle.reg_heap.specs.Trees.{IsTree}
+use Rattle.reg_tree.proofs.Invariant.NodeLemmas.{root_at, there-shallow, of_tree}
+use Rattle.reg_tree.proofs.Invariant.TreeLimits.{is_tree}
 use Rattle.reg_tree.proofs.tree.Tree.root.Goals as goal
 
 pub returns-clause-at : goal.returns-clause-at
@@ -6,3 +8,6 @@ returns-clause-at c = root_at _ _ c.self.invariant _ c.self.view_is
 
 pub returns-clause-shallow : goal.returns-clause-shallow
 returns-clause-shallow c = there-shallow _ _ c.self.invariant _ c.self.view_is
+
+pub returns-clause-tree : goal.returns-clause-tree
+returns-clause-tree c = of_tree _ _ c.self.invariant _ c.self.view_is IsTree (is_tree _ _ c.self.invariant)
