@@ -4,6 +4,7 @@ pub mod OwnCells
 pub mod KeyOfShape
 pub mod KeyOfTree
 pub mod OneRootTree
+pub mod ShortClasses
 pub mod FirstSecurity
 pub mod FreshShape
 pub mod NodeLemmas

@@ -6,7 +6,7 @@ ghost use Rattle.reg_names.specs.Names.{is_key_name, is_value_name, is_path, pat
 ghost use Rattle.reg_heap.specs.declared.limits.TheConstants.{BINS_LIMIT, DATA_LIMIT, DESCRIPTOR_LIMIT, GROWTH_BOUND, VALUES_LIMIT};
 ghost use Rattle.reg_heap.specs.Paths.{Path, path_cmp, Rec, Member, children_of};
 ghost use Rattle.reg_heap.specs.Members.{value_named, index_named};
-ghost use Rattle.reg_heap.specs.Trees.{IsTree};
+ghost use Rattle.reg_heap.specs.Trees.{IsTree, IsWithinLimits};
 ghost use Rattle.reg_heap.specs.Edits.{edited, with_descriptor, with_value, without_value, values_at, folded_path, are_too_many, without_key, IsKept};
 ghost use Rattle.reg_heap.specs.Edits.{may_not_go, missing, last_there, is_within, is_under, without_tree, emptied, any_kept_within, any_kept_under};
 ghost use Rattle.reg_arena.specs.Arena.{IsSound, heap_of};
@@ -111,12 +111,15 @@ impl Tree {
         &self.arena
     }
 
-    /// The root. It also tells that the keys are a tree (clause `tree`): each key is right below another, and called as its path
-    /// ends, and the names of a key's values differ after folding; and that every key's path has at most 512 names (`shallow`).
+    /// The root. It also tells what is true of every tree's keys. They are a tree: the root is there, and with each key the one
+    /// above it; a path's last name is its key's, folded; and the names of a key's values differ after folding (clause `tree`).
+    /// They are within the limits: each key by itself, how many are right below one, and how deep one is (clause `limits`), which
+    /// is at most 512 names (clause `shallow`).
     pub fn root(&self) -> Node
         ensures at { IsAt self.now [] result }
         ensures shallow { (p : Path) → IsSome (get self.now.tree p) → length p ≤ PATH_LIMIT }
         ensures tree { IsTree self.now.tree }
+        ensures limits { IsWithinLimits self.now.tree }
     {
         Node {
             offset: self.root,

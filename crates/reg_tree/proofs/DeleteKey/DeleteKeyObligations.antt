@@ -33,7 +33,7 @@ use Rattle.reg_security.specs.Rings.{DescriptorCells, Finds, IsRemoved, Recounts
 use Rattle.reg_tree.specs.TreeKeys.{tree_in}
 use Rattle.reg_tree.specs.KeyLengths.{lengths_of}
 use Rattle.reg_tree.specs.Internal.LengthChanges.{LengthsStay}
-use Rattle.reg_tree.specs.Internal.TreeInvariant.{TreeInvariant, IsHere}
+use Rattle.reg_tree.specs.Internal.TreeInvariant.{HasShortClasses, TreeInvariant, IsHere}
 use Rattle.reg_tree.specs.Internal.KeyDeletion.{IsListed, IsUnlinked, IsSole, IsDeleted}
 use Rattle.reg_tree.proofs.ValueChange.TreeAfterValueChange.{edited-at}
 use Rattle.reg_tree.proofs.DeleteKey.KeyAbove as above
@@ -42,7 +42,8 @@ use Rattle.reg_tree.proofs.DeleteKey.DeleteKeyFrame.{secured, key-left, sole, ri
 use Rattle.reg_tree.proofs.DeleteKey.DeleteKeyGraft.{is, grafts, described-above}
 use Rattle.reg_tree.proofs.DeleteKey.DeletedKeyParent.{spot, leaf, raised-none}
 use Rattle.reg_tree.proofs.DeleteKey.DeletedKeyPosition.{above-is, listed, parent-is}
-use Rattle.reg_tree.proofs.Invariant.KeyOfTree.{spelt_is, rec_is, branch, offset, key_is}
+use Rattle.reg_tree.proofs.Invariant.ShortClasses.{deleted-short}
+use Rattle.reg_tree.proofs.Invariant.KeyOfTree.{spelt_of, spelt_is, rec_is, branch, offset, key_is}
 use Rattle.reg_tree.proofs.Invariant.LengthsAfterGraft.{lengths_stay}
 
 -- paths that differ are not the same
@@ -169,13 +170,8 @@ module _ (old : List ℕ) (key : ℕ) (t : IsHere old key) (childless : (branch 
           abbrev now : Branch Node
           now = graft_at p came.node came.below keys
 
-          holds-now : TreeInvariant new t.root after
-          holds-now = record {
-            keys = now;
-            ring = ring';
-            shape = grafted h h5 t.root p keys was came ring [] ring' [] was-is grafts-here (deep-unhung p keys was index was-is w.shallow) w;
-            finds = releases.finds;
-          }
+          shape-now : IsShape h5 t.root now ring' []
+          shape-now = grafted h h5 t.root p keys was came ring [] ring' [] was-is grafts-here (deep-unhung p keys was index was-is w.shallow) w
 
           abbrev rec : Rec
           rec = rec_of was.node (descriptor_in h was.node.key.fields.security)
@@ -184,9 +180,8 @@ module _ (old : List ℕ) (key : ℕ) (t : IsHere old key) (childless : (branch 
           rec-there = rec_is old t.root t.holds p ∙ ap (option_map (λ (b : Branch Node). rec_of b.node (descriptor_in h b.node.key.fields.security))) was-is
 
           tree-now : tree_in new t.root ≡ without_key (tree_in old t.root) t.path moment
-          unfolding holds-now
           tree-now =
-              spelt_is new t.root holds-now
+              spelt_of new t.root now ring' shape-now
               ∙ (tree-unhung h h5 t.root p keys was came ring [] ring' [] was-is grafts-here w index b.offset b.node x called refl
               (leaf h t.root keys ring w p was was-is x b found childless)
               ∙ (ap (λ d. remove (insert (tree_of h keys) p (rec_of came.node d)) (p ++ x ∷ []))
@@ -195,6 +190,15 @@ module _ (old : List ℕ) (key : ℕ) (t : IsHere old key) (childless : (branch 
               ∙ (ap (λ (tree : Tree). remove tree (p ++ x ∷ [])) (sym (edited-at (tree_in old t.root) p rec (at_time moment) rec-there))
               ∙ (ap (λ q. remove (edited (tree_in old t.root) q (at_time moment)) (p ++ x ∷ [])) (sym (above-is p x))
               ∙ ap (λ q. without_key (tree_in old t.root) q moment) (sym (above.parts old key t inner).2))))))
+
+          holds-now : TreeInvariant new t.root after
+          holds-now = record {
+            keys = now;
+            ring = ring';
+            shape = shape-now;
+            finds = releases.finds;
+            classes = subst HasShortClasses (sym tree-now) (deleted-short (tree_in old t.root) t.path moment t.holds.classes);
+          }
 
           offsets-now : (q : Path) → q ≢ t.path → key_offset_at h5 t.root q ≡ key_offset_at h t.root q
           offsets-now q n =

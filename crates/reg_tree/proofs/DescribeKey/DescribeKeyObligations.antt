@@ -26,14 +26,15 @@ use Rattle.reg_tree.specs.TreeKeys.{tree_in}
 use Rattle.reg_tree.specs.Internal.DescriptorChange.{IsDescribable, IsDescribed, Joins}
 use Rattle.reg_tree.specs.Internal.KeyNodeChanges.{Notes, noted_security}
 use Rattle.reg_tree.specs.Internal.LengthChanges.{LengthsStay}
-use Rattle.reg_tree.specs.Internal.TreeInvariant.{TreeInvariant}
+use Rattle.reg_tree.specs.Internal.TreeInvariant.{HasShortClasses, TreeInvariant}
 use Rattle.reg_tree.proofs.DeleteKey.SecurityReleased.{Releases, released}
 use Rattle.reg_tree.proofs.DescribeKey.SecurityJoined.{HasJoined}
 use Rattle.reg_tree.proofs.DescribeKey.DescribeFrame as frame
 use Rattle.reg_tree.proofs.DescribeKey.DescribeGraft as graft
 use Rattle.reg_tree.proofs.Invariant.CellReadings.{is_some_of}
 use Rattle.reg_tree.proofs.Invariant.KeyOfShape as keyed
-use Rattle.reg_tree.proofs.Invariant.KeyOfTree.{spelt_is}
+use Rattle.reg_tree.proofs.Invariant.ShortClasses.{edited-short}
+use Rattle.reg_tree.proofs.Invariant.KeyOfTree.{spelt_of}
 use Rattle.reg_tree.proofs.Invariant.LengthsAfterGraft.{lengths_stay}
 use Rattle.reg_tree.proofs.ValueChange.TreeAfterValueChange.{edited-at}
 
@@ -140,14 +141,6 @@ module _ (old : List ℕ) (key : ℕ) (table : DescriptorCells) (descriptor : Li
               grafted h h3 d.root d.path d.keys b came d.ring (taken cell) ring' [] b-is grafts
               (keyed.shallow h d.root d.keys d.ring (taken cell) w d.path key d.at) w
 
-          holds-now : TreeInvariant new d.root v
-          holds-now = record {
-            keys = now;
-            ring = ring';
-            shape = shape-now;
-            finds = releases.finds;
-          }
-
           abbrev rec : Rec
           rec = rec_of b.node (descriptor_in h gone)
 
@@ -155,13 +148,21 @@ module _ (old : List ℕ) (key : ℕ) (table : DescriptorCells) (descriptor : Li
           rec-there = keyed.rec_there h d.root d.keys d.ring (taken cell) w d.path key d.at
 
           tree-now : tree_in new d.root ≡ edited (tree_of h d.keys) d.path (with_descriptor descriptor moment)
-          unfolding holds-now
           tree-now =
-              spelt_is new d.root holds-now
+              spelt_of new d.root now ring' shape-now
               ∙ (tree-same-below h h3 d.root d.path d.keys b came d.ring (taken cell) ring' [] b-is grafts w refl
               ∙ (ap (λ text. insert (tree_of h d.keys) d.path (rec_of came.node text))
               (graft.describes-now h d.root d.keys d.ring cell w d.path b b-is h1 after s descriptor j h2 moment notes h3 ring' releases.from)
               ∙ sym (edited-at (tree_of h d.keys) d.path rec (with_descriptor descriptor moment) rec-there)))
+
+          holds-now : TreeInvariant new d.root v
+          holds-now = record {
+            keys = now;
+            ring = ring';
+            shape = shape-now;
+            finds = releases.finds;
+            classes = subst HasShortClasses (sym tree-now) (edited-short (tree_of h d.keys) d.path (with_descriptor descriptor moment) (λ r e. refl) d.classes);
+          }
 
           offsets-now : (q : Path) → key_offset_at h3 d.root q ≡ key_offset_at h d.root q
           offsets-now q = offsets-same h h3 d.root d.path d.keys b came d.ring (taken cell) ring' [] b-is grafts w refl q

@@ -33,7 +33,7 @@ module _ (bins : Bins) (root : ℕ) {table : DescriptorCells} (holds : TreeInvar
         by (Ok x) c e k = c.holds
         by (Err x) c e k =
             subst (λ (b : Bins). TreeInvariant b.bytes root after) (sym e)
-            (record { keys = holds.keys; ring = holds.ring; shape = holds.shape; finds = k (heap_of bins) holds.ring holds.finds })
+            (record { keys = holds.keys; ring = holds.ring; shape = holds.shape; finds = k (heap_of bins) holds.ring holds.finds; classes = holds.classes })
 
     pub described_tree : (p : Path) → IsAt now p node → OnOk result (tree_in new.bytes root ≡ edited now.tree p f)
     described_tree p at =

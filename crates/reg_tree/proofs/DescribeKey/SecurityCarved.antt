@@ -28,7 +28,7 @@ use Rattle.reg_tree.specs.TreeKeys.{tree_in}
 use Rattle.reg_tree.specs.Internal.DescriptorChange.{IsCarvedFor, IsDescribable, IsDescribed, IsPlaced}
 use Rattle.reg_tree.specs.Internal.KeyNodeChanges.{LeavesOthers}
 use Rattle.reg_tree.specs.Internal.LengthChanges.{LengthsStay}
-use Rattle.reg_tree.specs.Internal.TreeInvariant.{IsHere, IsChanged}
+use Rattle.reg_tree.specs.Internal.TreeInvariant.{HasShortClasses, IsHere, IsChanged}
 use Rattle.reg_tree.proofs.InsertKey.SpareCellsCarved.{calm, shape-spared, tree-spared, offsets-spared}
 use Rattle.reg_tree.proofs.Invariant.CellReadings.{key-exists, key-moved, is_some_of}
 use Rattle.reg_tree.proofs.Invariant.DescribedKeys.{described_sizes}
@@ -145,6 +145,9 @@ module _ (old mid : Bins) (before after : DescriptorCells) (descriptor : List �
     record { exists = came-there h k x c.1; enough = (let n = c.2 in omega (arith, n)) },
   )
 
+  pub classes-then : (cell : Option ℕ) → IsCarvedFor old mid before after descriptor cell → HasShortClasses (tree_of k keys)
+  classes-then cell c = subst HasShortClasses (spelt_is old.bytes t.root t.holds ∙ sym (tree-then cell c)) t.holds.classes
+
   abbrev pub describable : (cell : Option ℕ) → IsCarvedFor old mid before after descriptor cell → IsDescribable mid.bytes key after descriptor cell
   describable cell c = record {
     root = t.root;
@@ -154,6 +157,7 @@ module _ (old mid : Bins) (before after : DescriptorCells) (descriptor : List �
     shape = shape-then cell c;
     at = offsets-then cell c t.path ∙ t.at;
     placed = placed-then cell c;
+    classes = classes-then cell c;
   }
 
   -- ---- when it was described

@@ -71,7 +71,7 @@ module _ (bins : Bins) (root : ℕ) {table : DescriptorCells} (holds : TreeInvar
   holds_after P new after (Ok x) f h e k = f x h
   holds_after P new after (Err fault) f h e k =
       subst (λ (b : Bins). TreeInvariant b.bytes root after) (sym e)
-      (record { keys = holds.keys; ring = holds.ring; shape = holds.shape; finds = k (heap_of bins) holds.ring holds.finds })
+      (record { keys = holds.keys; ring = holds.ring; shape = holds.shape; finds = k (heap_of bins) holds.ring holds.finds; classes = holds.classes })
 
   -- ---- a key was made, or there was none to be made
 

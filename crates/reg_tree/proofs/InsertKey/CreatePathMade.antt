@@ -36,12 +36,13 @@ use Rattle.reg_shape.proofs.Wholeness.ShapeRecords.{at-most-one, allocated-is}
 use Rattle.reg_tree.specs.KeyLengths.{lengths_of, lengths_at, with_first_length}
 use Rattle.reg_tree.specs.Internal.LengthChanges.{LengthsChange, MadeLengths}
 use Rattle.reg_tree.specs.CellSizes.{planned, planned_at, first_place, own_sizes, sizes_of, made_sizes, given_sizes, create_sizes, BelongsThere, LacksRoom}
-use Rattle.reg_tree.specs.Internal.TreeInvariant.{TreeInvariant, IsHere}
+use Rattle.reg_tree.specs.Internal.TreeInvariant.{HasShortClasses, TreeInvariant, IsHere}
 use Rattle.reg_tree.specs.Internal.PathWalks.{Stops, Reaches}
 use Rattle.reg_tree.specs.Internal.ReachedPlaces.{BelongsFirst}
 use Rattle.reg_tree.specs.Internal.SpareCells.{HaveSizes, MayGrowAll, GrowsAll, IsSpared}
 use Rattle.reg_tree.specs.Internal.KeyCreation.{IsCreated}
-use Rattle.reg_tree.proofs.Invariant.KeyOfTree.{spelt_is, key_there}
+use Rattle.reg_tree.proofs.Invariant.ShortClasses.{made-short}
+use Rattle.reg_tree.proofs.Invariant.KeyOfTree.{spelt_of, spelt_is, key_there}
 use Rattle.reg_tree.proofs.Invariant.CellReadings.{key-exists}
 use Rattle.reg_tree.proofs.PathWalk.PathSteps.{as-many, here_then}
 use Rattle.reg_tree.proofs.InsertKey.SpareCellsKept.{sizes-kept}
@@ -69,11 +70,16 @@ pub record IsGrownAll (old new : List ℕ) (root : ℕ) (path : Path) (names : L
 pub created : (old new : List ℕ) (from : TreeNode) (t : IsHere old from.offset) (names : List (List ℕ)) (moment : ℕ) (made : TreeNode) →
     IsGrownAll old new t.root t.path names moment t.holds.ring [] [] from made → IsCreated old new t.root t.table t.path from names None moment made
 created old new from t names moment made g =
-    let holds : TreeInvariant new t.root t.table =
-    record { keys = g.now; ring = t.holds.ring; shape = g.shape; finds = finds-same t.table (cell_at old) (cell_at new) t.holds.ring t.holds.finds g.described } in
+    let tree = spelt_of new t.root g.now t.holds.ring g.shape ∙ g.tree in
     record {
-      holds = holds;
-      tree = spelt_is new t.root holds ∙ g.tree;
+      holds = record {
+        keys = g.now;
+        ring = t.holds.ring;
+        shape = g.shape;
+        finds = finds-same t.table (cell_at old) (cell_at new) t.holds.ring t.holds.finds g.described;
+        classes = subst HasShortClasses (sym tree) (made-short (tree_in old t.root) t.path names None moment t.holds.classes);
+      };
+      tree = tree;
       offset = g.offset;
       depth = g.depth;
       keeps = g.keeps;

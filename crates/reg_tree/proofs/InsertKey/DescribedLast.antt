@@ -31,8 +31,9 @@ use Rattle.reg_tree.specs.Internal.KeyCreation.{IsCreated}
 use Rattle.reg_tree.specs.Internal.KeyNodeChanges.{LeavesOthers}
 use Rattle.reg_tree.specs.Internal.PathWalks.{Reaches}
 use Rattle.reg_tree.specs.Internal.SpareCells.{HaveSizes, IsSpared}
-use Rattle.reg_tree.specs.Internal.TreeInvariant.{TreeInvariant, IsHere}
+use Rattle.reg_tree.specs.Internal.TreeInvariant.{HasShortClasses, TreeInvariant, IsHere}
 use Rattle.reg_tree.proofs.Invariant.DescribedKeys.{described_is}
+use Rattle.reg_tree.proofs.Invariant.ShortClasses.{made-short}
 use Rattle.reg_tree.proofs.Invariant.KeyOfTree.{get-none}
 use Rattle.reg_tree.proofs.PathWalk.PathSteps.{not_walked}
 use Rattle.reg_tree.proofs.InsertKey.CreatePath.{missing-are}
@@ -102,6 +103,7 @@ module _ (old new : List ℕ) (from : TreeNode) (t : IsHere old from.offset) (na
     at = g.offset;
     placed = subst (IsPlaced (cell_at new) t.holds.ring after descriptor) (sym cell_is)
         (placed-last t.table after (cell_at old) (cell_at new) t.holds.ring descriptor more cells x t.holds.finds g.described g.others);
+    classes = subst HasShortClasses (sym g.tree) (made-short (tree_in old t.root) t.path names None moment t.holds.classes);
   }
 
   pub created_described : (final : List ℕ) (table : DescriptorCells) → (names ≡ [] → ⊥) → key_offset_at (cell_at old) t.root (t.path ++ map folded names) ≡ None →

@@ -36,7 +36,7 @@ use Rattle.reg_tree.proofs.Invariant.FirstSecurity.{first-security, first-found}
 
 -- ---- the root as it is read
 
-abbrev node_with : ℕ → KeyRecord → Node
+abbrev pub node_with : ℕ → KeyRecord → Node
 node_with root key = record { key = key; class = []; values = []; cells = met_of root key [] []; index = Unlisted }
 
 root-look : (h : Heap) (root : ℕ) (r : IsFreshRoot h root) → look h root ≡ Some (node_with root r.key)
@@ -100,7 +100,7 @@ only-count h at security o = ap (option_map (λ (s : KeySecurityRecord). s.field
 
 -- ---- the shape
 
-abbrev branch : ℕ → Node → Branch Node
+abbrev pub branch : ℕ → Node → Branch Node
 branch root node = record { offset = root; node = node; below = End }
 
 shares-all : (h : Heap) (root : ℕ) (r : IsFreshRoot h root) (z : ℕ) → total_of (shares z) (branch root (node_with root r.key)) ≡ times z (r.key.fields.security ∷ [])

@@ -17,7 +17,7 @@ use Rattle.reg_records.specs.KeyNodes.{key_at}
 use Rattle.reg_shape.specs.Nodes.{Node, members_at}
 use Rattle.reg_shape.specs.Spelt.{spelt, rec_of}
 use Rattle.reg_shape.specs.Internal.Shapes.{cells_of as own_cells, index_cells, owns, descriptor_in, tree_of, depth, StandsIn, IsSeen, IsWholeShape}
-use Rattle.reg_shape.specs.Internal.Grafts.{branch_at}
+use Rattle.reg_shape.specs.Internal.Grafts.{IsShape, branch_at}
 use Rattle.reg_shape.specs.PathLookup.{key_offset_at}
 use Rattle.reg_shape.proofs.Walking.WalkRefinement.{IsLooked, look-open}
 use Rattle.reg_shape.proofs.Wholeness.AllocatedCells.{whole-in, spelt-in}
@@ -34,6 +34,24 @@ use Rattle.reg_tree.proofs.Invariant.CellReadings.{is_some_of}
 use Rattle.reg_tree.proofs.Invariant.OwnCells.{own-parts}
 use Rattle.reg_tree.proofs.Invariant.KeyOfShape as keyed
 
+-- ---- a tree as its keys stand
+
+module _ (bytes : List ℕ) (root : ℕ) (keys : Branch Node) (ring : List ℕ) (w : IsShape (cell_at bytes) root keys ring []) where
+  pub whole-of : IsWholeShape (cell_at bytes) root keys ring
+  whole-of = shape-whole (cell_at bytes) root keys ring w
+
+  root_looked : IsLooked (cell_at bytes) keys.offset keys.node
+  root_looked = look-open (cell_at bytes) keys.offset keys.node w.stands.0.reads
+
+  cells-there : (cells : List Cell) × (cells_of bytes ≡ Some cells)
+  cells-there = has_cells bytes keys.offset root_looked.content root_looked.here
+
+  pub spelt_of : tree_in bytes root ≡ tree_of (cell_at bytes) keys
+  unfolding tree_in
+  spelt_of =
+      ap (λ (o : Option (List Cell)). unwrap_or (option_and_then (λ (cells : List Cell). spelt (length cells) (cell_at bytes) root) o) empty) cells-there.1
+      ∙ ap (λ (o : Option Tree). unwrap_or o empty) (spelt-in bytes root keys ring cells-there.0 cells-there.1 whole-of)
+
 -- ---- a whole tree
 
 module _ (bytes : List ℕ) (root : ℕ) {table : DescriptorCells} (t : TreeInvariant bytes root table) where
@@ -44,19 +62,13 @@ module _ (bytes : List ℕ) (root : ℕ) {table : DescriptorCells} (t : TreeInva
   keys = t.keys
 
   pub whole : IsWholeShape heap root keys t.ring
-  whole = shape-whole heap root keys t.ring t.shape
-
-  root_looked : IsLooked heap keys.offset keys.node
-  root_looked = look-open heap keys.offset keys.node t.shape.stands.0.reads
+  whole = whole-of bytes root keys t.ring t.shape
 
   there : (cells : List Cell) × (cells_of bytes ≡ Some cells)
-  there = has_cells bytes keys.offset root_looked.content root_looked.here
+  there = cells-there bytes root keys t.ring t.shape
 
   pub spelt_is : tree_in bytes root ≡ tree_of heap keys
-  unfolding tree_in
-  spelt_is =
-      ap (λ (o : Option (List Cell)). unwrap_or (option_and_then (λ (cells : List Cell). spelt (length cells) heap root) o) empty) there.1
-      ∙ ap (λ (o : Option Tree). unwrap_or o empty) (spelt-in bytes root keys t.ring there.0 there.1 whole)
+  spelt_is = spelt_of bytes root keys t.ring t.shape
 
   pub whole_tree : IsWholeTree bytes root (tree_in bytes root)
   whole_tree =

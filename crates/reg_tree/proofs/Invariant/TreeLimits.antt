@@ -8,7 +8,7 @@ use Rattle.std.specs.FinMap.{get}
 use Rattle.std.proofs.lemmas.Nat.{and_assoc}
 use Rattle.std.proofs.lemmas.Option.{none-some, same_Some}
 use Rattle.reg_names.specs.Names.{folded, is_key_name, is_value_name}
-use Rattle.reg_heap.specs.declared.limits.TheConstants.{DATA_LIMIT, DESCRIPTOR_LIMIT, SUBKEYS_LIMIT, VALUES_LIMIT}
+use Rattle.reg_heap.specs.declared.limits.TheConstants.{DATA_LIMIT, DESCRIPTOR_LIMIT, SUBKEYS_LIMIT}
 use Rattle.reg_heap.specs.Paths.{Path, Tree, Rec, Member, children_of}
 use Rattle.reg_heap.specs.Trees.{NamesDiffer, IsTree, IsSmallValue, IsSmallKey, IsWithinLimits}
 use Rattle.reg_heap.specs.Heaps.{Heap}
@@ -17,7 +17,7 @@ use Rattle.reg_records.specs.KeyNodes.{KeyRecord, key_at}
 use Rattle.reg_records.specs.KeySecurities.{KeySecurityRecord}
 use Rattle.reg_shape.specs.Internal.Forests.{Forest, Branch}
 use Rattle.reg_shape.specs.Internal.Forests.Forest.{End, Rooted as Hangs}
-use Rattle.reg_shape.specs.Internal.Shapes.{IsSeen, descriptor_in}
+use Rattle.reg_shape.specs.Internal.Shapes.{descriptor_in}
 use Rattle.reg_shape.specs.Internal.Exchanges.{is_named}
 use Rattle.reg_shape.specs.Internal.Grafts.{branch_in, branch_at}
 use Rattle.reg_shape.specs.Nodes.{Node}
@@ -185,9 +185,9 @@ module _ (bytes : List ℕ) (root : ℕ) {table : DescriptorCells} (t : TreeInva
       by None a = none (children_of tree p) refl (get-none bytes root t p a)
       by (Some o) a = few_here bytes o (record { root = root; table = table; path = p; holds = t; at = a })
 
-  pub is_within_limits : ((p : Path) (r : Rec) → get tree p ≡ Some r → length r.class < 65536) → IsWithinLimits tree
-  is_within_limits classes = record {
-    keys = λ p r e. at_key (λ r. length r.class < 65536 → IsSmallKey r) (λ key k there. small_here bytes key k) p r e (classes p r e);
+  pub is_within_limits : IsWithinLimits tree
+  is_within_limits = record {
+    keys = λ p r e. at_key (λ r. length r.class < 65536 → IsSmallKey r) (λ key k there. small_here bytes key k) p r e (t.classes.short p r e);
     few = few_below;
     shallow = there-shallow (record { bytes = bytes; heads = [] }) root t _ refl;
   }

@@ -23,7 +23,7 @@ use Rattle.reg_shape.proofs.Lookup.LookupAfterGraft.{offsets-same}
 use Rattle.reg_values.specs.ValueLists.{Became}
 use Rattle.reg_security.proofs.TableCells.{finds-same}
 use Rattle.reg_tree.specs.TreeKeys.{tree_in}
-use Rattle.reg_tree.specs.Internal.TreeInvariant.{TreeInvariant, IsHere, IsChanged}
+use Rattle.reg_tree.specs.Internal.TreeInvariant.{HasShortClasses, TreeInvariant, IsHere, IsChanged}
 use Rattle.reg_tree.specs.Internal.KeyNodeChanges.{HasList, Notes, noted}
 use Rattle.std.proofs.lemmas.Option.{same_Some}
 use Rattle.reg_tree.specs.ValueAnswers.{without_value_at}
@@ -31,7 +31,8 @@ use Rattle.reg_tree.specs.KeyLengths.{Lengths, lengths_of, with_value_lengths}
 use Rattle.reg_tree.specs.Internal.LengthChanges.{LengthsChange, LengthsStay}
 use Rattle.reg_tree.proofs.Invariant.LengthsAfterGraft.{lengths_change, lengths_stay}
 use Rattle.reg_tree.proofs.Invariant.CellReadings.{is_some_of}
-use Rattle.reg_tree.proofs.Invariant.KeyOfTree.{spelt_is, branch, branch_is, branch_once, offset, stands, seen, looked, own_once, shallow, rec_there, list_reads}
+use Rattle.reg_tree.proofs.Invariant.ShortClasses.{edited-short}
+use Rattle.reg_tree.proofs.Invariant.KeyOfTree.{spelt_of, spelt_is, branch, branch_is, branch_once, offset, stands, seen, looked, own_once, shallow, rec_there, list_reads}
 use Rattle.reg_tree.proofs.ValueChange.ValueExchange.{key-then, changed_node, exchanged_key}
 use Rattle.reg_tree.proofs.ValueChange.LargestLengths.{names-with, sizes-with, names-but, sizes-but}
 
@@ -93,26 +94,35 @@ module _ (old mid new : List ℕ) (key : ℕ) (t : IsHere old key) (count list n
   shape : IsShape j t.root now ring []
   shape = grafted h j t.root t.path keys was is ring [] ring [] (branch_is old key t) grafts (shallow old key t) t.holds.shape
 
+  abbrev rec : Rec
+  rec = rec_of was.node (descriptor_in h was.node.key.fields.security)
+
+  tree-now : tree_in new t.root ≡ edited (tree_in old t.root) t.path f
+  tree-now =
+      spelt_of new t.root now ring shape
+      ∙ (tree-same-below-in-ring h j t.root t.path keys was is ring [] [] (branch_is old key t) in-ring t.holds.shape refl
+      ∙ (ap (λ (tree : Tree). insert tree t.path (rec_of after (descriptor_in h after.key.fields.security))) (sym (spelt_is old t.root t.holds))
+      ∙ (ap (insert (tree_in old t.root) t.path) (sym (does rec refl))
+      ∙ sym (edited-at (tree_in old t.root) t.path rec f (rec_there old key t)))))
+
+  -- the key's class is the one that it had
+  same-class : (r : Rec) → get (tree_in old t.root) t.path ≡ Some r → length (f r).class ≡ length r.class
+  same-class r e =
+      subst (λ (r : Rec). length (f r).class ≡ length r.class) (same_Some _ _ (sym (rec_there old key t) ∙ e)) (ap (λ (r : Rec). length r.class) (does rec refl))
+
   holds-now : TreeInvariant new t.root t.table
   holds-now = record {
     keys = now;
     ring = ring;
     shape = shape;
     finds = finds-same t.table h j ring t.holds.finds (λ z l. descriptor-recounted h j was is z (in-ring.recounted z l));
+    classes = subst HasShortClasses (sym tree-now) (edited-short (tree_in old t.root) t.path f same-class t.holds.classes);
   }
 
-  abbrev rec : Rec
-  rec = rec_of was.node (descriptor_in h was.node.key.fields.security)
-
   pub is_changed : IsChanged old new t.root t.table t.path f
-  unfolding holds-now
   is_changed = record {
     holds = holds-now;
-    tree = spelt_is new t.root holds-now
-        ∙ (tree-same-below-in-ring h j t.root t.path keys was is ring [] [] (branch_is old key t) in-ring t.holds.shape refl
-        ∙ (ap (λ (tree : Tree). insert tree t.path (rec_of after (descriptor_in h after.key.fields.security))) (sym (spelt_is old t.root t.holds))
-        ∙ (ap (insert (tree_in old t.root) t.path) (sym (does rec refl))
-        ∙ sym (edited-at (tree_in old t.root) t.path rec f (rec_there old key t)))));
+    tree = tree-now;
     offsets = λ q. offsets-same h j t.root t.path keys was is ring [] ring [] (branch_is old key t) grafts t.holds.shape refl q;
   }
 

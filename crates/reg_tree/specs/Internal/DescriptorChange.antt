@@ -20,7 +20,7 @@ use Rattle.reg_security.specs.Rings.{DescriptorCells, Finds, Expects, cell_of}
 use Rattle.reg_tree.specs.TreeKeys.{tree_in}
 use Rattle.reg_tree.specs.KeyLengths.{lengths_at}
 use Rattle.reg_tree.specs.Internal.KeyNodeChanges.{LeavesOthers}
-use Rattle.reg_tree.specs.Internal.TreeInvariant.{TreeInvariant}
+use Rattle.reg_tree.specs.Internal.TreeInvariant.{HasShortClasses, TreeInvariant}
 
 -- what a table became that makes ready for a descriptor: nothing changed where it has the descriptor, which takes no cell; else it has
 -- room for it, which takes a cell of this size
@@ -46,7 +46,8 @@ abbrev pub IsPlaced : Heap → List ℕ → DescriptorCells → List ℕ → Opt
 IsPlaced heap ring table descriptor None = Finds table heap ring × IsSome (cell_of table descriptor)
 IsPlaced heap ring table descriptor (Some cell) = Expects table heap ring descriptor × HasRoom heap cell (20 + length descriptor)
 
--- a key of a tree whose keys have all their cells, and a cell for a descriptor, where one is needed, is all that is spare
+-- a key of a tree whose keys have all their cells and short classes, and a cell for a descriptor, where one is needed, is all that
+-- is spare
 pub record IsDescribable (bytes : List ℕ) (key : ℕ) (table : DescriptorCells) (descriptor : List ℕ) (cell : Option ℕ) : Type 0 where
   pub root : ℕ
   pub path : Path
@@ -55,6 +56,7 @@ pub record IsDescribable (bytes : List ℕ) (key : ℕ) (table : DescriptorCells
   pub shape : IsShape (cell_at bytes) root keys ring (taken cell)
   pub at : key_offset_at (cell_at bytes) root path ≡ Some key
   pub placed : IsPlaced (cell_at bytes) ring table descriptor cell
+  pub classes : HasShortClasses (tree_of (cell_at bytes) keys)
 
 -- a security has a descriptor for one key more than before: one of the ring, or a new one, in the cell that was for it, where there is
 -- such a cell; the others describe the same and are used as often, and no cell beside the ring's and that one changed

@@ -1,6 +1,6 @@
-use Rattle.reg_heap.specs.Trees.{IsTree}
+use Rattle.reg_heap.specs.Trees.{IsTree, IsWithinLimits}
 use Rattle.reg_tree.proofs.Invariant.NodeLemmas.{root_at, there-shallow, of_tree}
-use Rattle.reg_tree.proofs.Invariant.TreeLimits.{is_tree}
+use Rattle.reg_tree.proofs.Invariant.TreeLimits.{is_tree, is_within_limits}
 use Rattle.reg_tree.proofs.tree.Tree.root.Goals as goal
 
 pub returns-clause-at : goal.returns-clause-at
@@ -11,3 +11,6 @@ returns-clause-shallow c = there-shallow _ _ c.self.invariant _ c.self.view_is
 
 pub returns-clause-tree : goal.returns-clause-tree
 returns-clause-tree c = of_tree _ _ c.self.invariant _ c.self.view_is IsTree (is_tree _ _ c.self.invariant)
+
+pub returns-clause-limits : goal.returns-clause-limits
+returns-clause-limits c = of_tree _ _ c.self.invariant _ c.self.view_is IsWithinLimits (is_within_limits _ _ c.self.invariant)
