@@ -1,4 +1,4 @@
-ghost use Rattle.std.specs.Prelude.{◌≡◌, ◌<◌, ◌≤◌, ◌↔◌, ◌⊎◌, ◌+◌, [], true, false, length, slice_get, option_copied, vec_len, IfOk, OnErr, IsErrOf, All};
+ghost use Rattle.std.specs.Prelude.{◌≡◌, ◌<◌, ◌≤◌, ◌↔◌, ◌⊎◌, ◌+◌, [], true, false, length, slice_get, option_copied, vec_len, IfOk, IfErr, IsOk, OnErr, IsErrOf, All};
 ghost use Rattle.std.specs.FinMap.{insert, empty};
 ghost use Rattle.reg_names.specs.Names.{is_key_name};
 ghost use Rattle.reg_model.specs.declared.limits.TheConstants.{SESSIONS_LIMIT};
@@ -83,6 +83,23 @@ impl Hive {
         }
     }
 
+    /// A hive of a tree that was built elsewhere: its keys in their bins as they are. No handle is open, and the journal is empty.
+    /// `Memory` is its only fault; it takes no memory yet, and so always succeeds (clause `made`).
+    pub fn from_tree(alloc: Global, tree: Tree) -> Result<Hive, NewFault>
+        ensures origin { IfOk result (λ h. (view_of h).origin ≡ tree.tree) }
+        ensures journal { IfOk result (λ h. (view_of h).journal ≡ []) }
+        ensures keys { IfOk result (λ h. (view_of h).keys ≡ tree) }
+        ensures hive { IfOk result (λ h. IsHive (view_of h)) }
+        ensures made { IsOk result }
+        ensures err { IfErr result (λ fault. fault ≡ NewFault.Memory) }
+    {
+        // Only for its clauses: what is true of every tree's keys.
+        let _ = tree.root();
+        Ok(Hive {
+            core: Core::new(alloc, tree),
+        })
+    }
+
     /// How many entries the journal has. They are legal: each was accepted after those before it (clause `legal`); and all else
     /// that is true of every hive is so of this one (clause `hive`).
     pub fn len(&self) -> usize
@@ -121,6 +138,14 @@ impl Hive {
         ensures sound { IsSound (view_of self.now).keys.bins.bytes (view_of self.now).keys.bins.heads }
     {
         self.core.arena()
+    }
+
+    /// The hive's keys, to be read by reg_tree's own calls. They are those of the journal's replay (clause `tree`).
+    pub fn tree(&self) -> &Tree
+        ensures keys { result.now ≡ (view_of self.now).keys }
+        ensures tree { (view_of self.now).keys.tree ≡ (replay (view_of self.now).origin (view_of self.now).journal).tree }
+    {
+        self.core.tree()
     }
 
     /// Answers a change of a session, below 64, at a moment (100 ns units since 1601). An accepted change becomes the

@@ -149,6 +149,14 @@ impl Core {
         self.store.tree.arena()
     }
 
+    /// The keys of the journal's replay.
+    pub fn tree(&self) -> &Tree
+        ensures keys { result.now ≡ self.now.keys }
+        ensures tree { self.now.keys.tree ≡ (replay self.now.origin self.now.journal).tree }
+    {
+        &self.store.tree
+    }
+
     /// Answers a change: refused by its cause, or made and noted as the journal's next entry, or given up for want of memory or space.
     pub fn apply(&mut self, session: u8, moment: u64, change: Change) -> ChangeReply
         requires { session < SESSIONS_LIMIT }
