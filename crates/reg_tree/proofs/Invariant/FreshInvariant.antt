@@ -15,7 +15,8 @@ use Rattle.reg_tree.proofs.Invariant.FreshShape.{IsMade, branch, node_with, fres
 use Rattle.reg_tree.proofs.Invariant.KeyOfTree.{spelt_of}
 use Rattle.reg_tree.proofs.Invariant.ShortClasses.{root-short}
 
-module _ (bytes : List ℕ) (root : ℕ) {table : DescriptorCells} (name descriptor : List ℕ) (moment : ℕ) (m : IsMade (cell_at bytes) root table name descriptor moment) where
+module _ (bytes : List ℕ) (root : ℕ) {table : DescriptorCells} (name descriptor : List ℕ) (moment : ℕ)
+    (m : IsMade (cell_at bytes) root table name descriptor moment) where
   abbrev fresh_keys : Branch Node
   fresh_keys = branch root (node_with root m.root_is.key)
 

@@ -30,23 +30,27 @@ pub root-short : (r : Rec) → length r.class < 65536 → HasShortClasses (inser
 root-short r l = insert-short empty [] r l (record { short = λ q k e. absurd (none-some _ (sym (get-empty path_cmp q) ∙ e)) })
 
 -- the key at a path changed, with as long a class
-pub edited-short : (t : Tree) (p : Path) (f : Rec → Rec) → ((r : Rec) → get t p ≡ Some r → length (f r).class ≡ length r.class) → HasShortClasses t → HasShortClasses (edited t p f)
+pub edited-short : (t : Tree) (p : Path) (f : Rec → Rec) → ((r : Rec) → get t p ≡ Some r → length (f r).class ≡ length r.class) →
+    HasShortClasses t → HasShortClasses (edited t p f)
 edited-short t p f same s = by (get t p) refl
   where
     by : (o : Option Rec) → get t p ≡ o → HasShortClasses (elim o as (λ _. Tree) [ None ↦ t | Some r ↦ insert t p (f r) ])
     by None e = s
     by (Some r) e = let l = s.short p r e in let n = same r e in insert-short t p (f r) (omega (arith, l, n)) s
 
-one-short : (t : Tree) (p : Path) (name : List ℕ) (given : Option (List ℕ)) (moment : ℕ) → HasShortClasses t → HasShortClasses (with_key t p name given moment)
+one-short : (t : Tree) (p : Path) (name : List ℕ) (given : Option (List ℕ)) (moment : ℕ) →
+    HasShortClasses t → HasShortClasses (with_key t p name given moment)
 one-short t p name given moment s =
     insert-short (edited t p (at_time moment)) (child_path p name) (made_key name (unwrap_or given (descriptor_of (get t p))) moment) (omega arith)
     (edited-short t p (at_time moment) (λ r e. refl) s)
 
 -- keys made
-pub made-short : (t : Tree) (p : Path) (names : List (List ℕ)) (given : Option (List ℕ)) (moment : ℕ) → HasShortClasses t → HasShortClasses (with_keys t p names given moment)
+pub made-short : (t : Tree) (p : Path) (names : List (List ℕ)) (given : Option (List ℕ)) (moment : ℕ) →
+    HasShortClasses t → HasShortClasses (with_keys t p names given moment)
 made-short t p [] given moment s = s
 made-short t p (name ∷ names) given moment s =
-    made-short (cond (has_child t p name) t (with_key t p name (if_last names given) moment)) (child_path p name) names given moment (by (has_child t p name))
+    made-short (cond (has_child t p name) t (with_key t p name (if_last names given) moment)) (child_path p name) names given moment
+    (by (has_child t p name))
   where
     by : (b : Bool) → HasShortClasses (cond b t (with_key t p name (if_last names given) moment))
     by true = s
