@@ -6,3 +6,4 @@ pub mod KeyAnswers
 pub mod DeleteKey
 pub mod DescribeKey
 pub mod PruneTree
+pub mod BuildKey

@@ -12,3 +12,4 @@ pub mod KeyCreation
 pub mod TreeInvariant
 pub mod LengthChanges
 pub mod DescriptorChange
+pub mod KeyBuilding

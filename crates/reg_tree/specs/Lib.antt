@@ -6,4 +6,5 @@ pub mod KeyLengths
 pub mod ValueAnswers
 pub mod Reaching
 pub mod SubkeyWalk
+pub mod BuiltKeys
 pub mod Internal

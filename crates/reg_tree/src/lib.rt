@@ -11,6 +11,7 @@
 //! Win32 registry reference, "Structure of the Registry"; Suhanov, Windows registry file format specification.
 #![tactic(auto)]
 
+mod build;
 mod cells;
 mod fault;
 mod find;
@@ -25,6 +26,7 @@ mod unmake;
 mod value;
 mod values;
 
+pub use build::NewKey;
 pub use fault::TreeFault;
 pub use node::{Created, Node, Reached, Subkey};
 pub use reg_index::Place;

@@ -1,0 +1,3 @@
+pub mod SubkeyClassWrite
+pub mod KeyRewritten
+pub mod ClassNoted

@@ -1,0 +1,92 @@
+-- A key's marks and class, as its key node and the one above note them (Suhanov, Windows registry file format specification, "Key node").
+use Rattle.std.specs.Prelude.{◌≡◌, ◌≢◌, ◌⊎◌, ℕ, ◌≤◌, max, bit_and, bit_or, unwrap_or, Option, Some, None, List, [], ◌∷◌, ◌++◌, drop, length}
+use Rattle.reg_heap.specs.declared.limits.TheConstants.{NONE}
+use Rattle.reg_heap.specs.Heaps.{Heap, CellFrame}
+use Rattle.reg_heap.specs.Kinds.{times}
+use Rattle.reg_heap.specs.Paths.{Path, Rec}
+use Rattle.reg_heap.specs.Edits.{edited}
+use Rattle.reg_arena.specs.Arena.{Bins, heap_of}
+use Rattle.reg_arena.specs.Cells.{cell_at}
+use Rattle.reg_records.specs.RecordCells.{HasRoom, held}
+use Rattle.reg_records.specs.KeyNodes.{KeyRecord, key_at}
+use Rattle.reg_shape.specs.Nodes.{Node}
+use Rattle.reg_shape.specs.Internal.Forests.{Branch}
+use Rattle.reg_shape.specs.Internal.Shapes.{tree_of}
+use Rattle.reg_shape.specs.Internal.Grafts.{IsShape}
+use Rattle.reg_shape.specs.PathLookup.{key_offset_at}
+use Rattle.reg_index.specs.Subkeys.{taken}
+use Rattle.reg_security.specs.Rings.{DescriptorCells, Finds}
+use Rattle.reg_tree.specs.TreeKeys.{tree_in}
+use Rattle.reg_tree.specs.Internal.TreeInvariant.{TreeInvariant}
+
+-- a key with other marks and another class
+abbrev pub marked : ℕ → List ℕ → Rec → Rec
+marked marks class r = record r { marks = marks; class = class }
+
+-- a key node after a key below it got a class of this length: the time, and the largest length of a class, which only grows
+abbrev pub noted_class : ℕ → ℕ → KeyRecord → KeyRecord
+noted_class size moment key =
+    record key { fields = record key.fields { time = moment; largest_subkey_class = max key.fields.largest_subkey_class size } }
+
+-- marks beside the flags that are no marks
+abbrev pub flags_with : ℕ → ℕ → ℕ
+flags_with marks flags = bit_or (bit_and flags 103) marks
+
+-- a key node after its key got marks and a class
+abbrev pub noted_marks : ℕ → Option ℕ → ℕ → KeyRecord → KeyRecord
+noted_marks marks cell size key =
+    record key { fields = record key.fields { flags = flags_with marks key.fields.flags; class = unwrap_or cell NONE; class_length = size } }
+
+-- the cell for a class: none for an empty one, and else one that has room for it
+abbrev pub IsClassCell : Heap → Option ℕ → List ℕ → Type 0
+IsClassCell heap None class = class ≡ []
+IsClassCell heap (Some cell) class = (1 ≤ length class) × HasRoom heap cell (length class)
+
+-- a class stands at the start of its cell, if it has one, and no other cell changed
+abbrev pub PutsClass : Heap → Heap → Option ℕ → List ℕ → Type 0
+PutsClass old new None class = (offset : ℕ) → new offset ≡ old offset
+PutsClass old new (Some cell) class =
+    (new cell ≡ Some (class ++ drop (length class) (held old cell))) × ((offset : ℕ) → offset ≢ cell → new offset ≡ old offset)
+
+-- the key above the one at a path notes a class of this length or a longer one
+pub record IsNotedAbove (heap : Heap) (root : ℕ) (path : Path) (size : ℕ) : Type 0 where
+  pub above : Path
+  pub name : List ℕ
+  pub parts : path ≡ above ++ name ∷ []
+  pub offset : ℕ
+  pub at : key_offset_at heap root above ≡ Some offset
+  pub key : KeyRecord
+  pub reads : key_at heap offset ≡ Some key
+  pub enough : size ≤ key.fields.largest_subkey_class
+
+-- a class of this length may be the key's at a path, as far as the key above goes, if there is one
+abbrev pub MayHaveClass : Heap → ℕ → Path → ℕ → Type 0
+MayHaveClass heap root path size = (path ≡ []) ⊎ IsNotedAbove heap root path size
+
+-- a key node of this name has no class
+abbrev pub HasNoClass : Heap → ℕ → List ℕ → Type 0
+HasNoClass heap offset name = (key : KeyRecord) → key_at heap offset ≡ Some key → (key.name ≡ name) × (key.fields.class_length ≡ 0)
+
+-- a key of a tree whose keys have all their cells, and a cell for its class, where one is needed, is all that is spare
+pub record IsMarkable (bytes : List ℕ) (key : ℕ) (name : List ℕ) (cell : Option ℕ) (class : List ℕ) : Type 0 where
+  pub root : ℕ
+  pub path : Path
+  pub keys : Branch Node
+  pub ring : List ℕ
+  pub shape : IsShape (cell_at bytes) root keys ring (taken cell)
+  pub at : key_offset_at (cell_at bytes) root path ≡ Some key
+  pub cell_is : IsClassCell (cell_at bytes) cell class
+  pub bare : HasNoClass (cell_at bytes) key name
+  pub above : MayHaveClass (cell_at bytes) root path (length class)
+
+-- the key at a path has marks and a class, and nothing else of the tree changed; each key stays where it stands
+pub record IsMarked (old new : List ℕ) (root : ℕ) (path : Path) (keys : Branch Node) (ring : List ℕ) (marks : ℕ) (class : List ℕ) : Type 0 where
+  pub holds : (table : DescriptorCells) → Finds table (cell_at old) ring → TreeInvariant new root table
+  pub tree : tree_in new root ≡ edited (tree_of (cell_at old) keys) path (marked marks class)
+  pub offsets : (q : Path) → key_offset_at (cell_at new) root q ≡ key_offset_at (cell_at old) root q
+
+-- the cell that a class takes, if it takes one, was carved, and no other cell changed
+abbrev pub IsCarvedForClass : Bins → Bins → List ℕ → Option ℕ → Type 0
+IsCarvedForClass old new class None = (new ≡ old) × (class ≡ [])
+IsCarvedForClass old new class (Some cell) =
+    (1 ≤ length class) × CellFrame (heap_of old) (heap_of new) (λ z. 0) (λ z. times z (cell ∷ [])) × HasRoom (heap_of new) cell (length class)

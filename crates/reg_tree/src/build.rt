@@ -1,0 +1,118 @@
+//! Keys built as they are told, with marks and a class, where no other key's time changes.
+//!
+//! A key is first made as `create` makes one. Then the key above gets back the time that it had, and notes a class that is longer
+//! than those of its other subkeys; and last the key gets its marks and its class.
+//!
+//! Suhanov, Windows registry file format specification, "Key node".
+ghost use Rattle.std.specs.Prelude.{◌≡◌, ◌≤◌, ◌<◌, ◌+◌, ◌*◌, ◌^◌, ℕ, bit_and, Err, Some, IsSome, length, OnOk, OnErr, IfOk};
+ghost use Rattle.byteorder.specs.Endian.{little_bytes};
+ghost use Rattle.reg_heap.specs.declared.limits.TheConstants.{BINS_LIMIT, GROWTH_BOUND};
+ghost use Rattle.reg_heap.specs.Edits.{at_time};
+ghost use Rattle.reg_arena.specs.Arena.{heap_of};
+ghost use Rattle.reg_records.specs.KeyNodes.{KeyRecord, key_at, IsPlainKey};
+ghost use Rattle.reg_records.specs.RecordCells.{Rereads, held};
+ghost use Rattle.reg_tree.specs.Internal.TreeInvariant.{IsHere, IsChanged};
+ghost use Rattle.reg_tree.specs.Internal.KeyNodeChanges.{Notes};
+ghost use Rattle.reg_tree.specs.Internal.KeyBuilding.{HasNoClass, IsCarvedForClass, IsClassCell, IsMarkable, IsMarked, MayHaveClass, PutsClass, marked, noted_class, noted_marks};
+
+use crate::key::fields;
+use reg_arena::{Arena, ArenaFault, cell_size};
+use reg_heap::limits::NONE;
+use reg_records::{KeyFields, put_nk, set_time};
+use std::alloc::Global;
+
+/// A key to be built: all of it but its subkeys and values.
+#[derive(Clone, Copy, Debug)]
+pub struct NewKey<'a> {
+    /// Its name.
+    pub name: &'a [u8],
+    /// Its marks, of which 0x08 says that it is never deleted; without 0x67.
+    pub marks: u16,
+    /// The bytes of its class, at most 65,535.
+    pub class: &'a [u8],
+    /// The bytes of its security descriptor, 1 to 65,535.
+    pub descriptor: &'a [u8],
+    /// Its last write time, in 100 ns ticks since 1601.
+    pub time: u64,
+}
+
+/// The flags of a key node that are no marks: volatile, hive exit, hive entry, the form of the name, and a predefined handle.
+const FORM: u16 = 0x67;
+
+/// Where a key node has the largest length of a subkey's class.
+const LARGEST_SUBKEY_CLASS: u32 = 56;
+
+/// The bytes of a number, the lowest first.
+fn word_bytes(number: u32) -> [u8; 4]
+    ensures bytes { result ≡ little_bytes 4 number }
+    ensures fits { number < 2 ^ 32 }
+{
+    number.to_le_bytes()
+}
+
+/// Writes the largest length of a subkey's class, in bytes.
+fn set_largest_subkey_class(arena: &mut Arena, key: u32, largest: u32)
+    requires { IsSome (key_at (heap_of arena.old) key) }
+    ensures notes { Notes (heap_of arena.old) (heap_of arena.new) key (λ r. record r { fields = record r.fields { largest_subkey_class = largest } }) }
+    ensures long { length arena.new.bytes ≡ length arena.old.bytes }
+{
+    arena.write(key, LARGEST_SUBKEY_CLASS, &word_bytes(largest));
+}
+
+/// Notes in a key's key node that a key below has a class of a length, in bytes, and sets the key's time.
+fn note_class(arena: &mut Arena, key: u32, size: u32, moment: u64)
+    requires { IsSome (key_at (heap_of arena.old) key) }
+    ensures notes { Notes (heap_of arena.old) (heap_of arena.new) key (noted_class size moment) }
+    ensures long { length arena.new.bytes ≡ length arena.old.bytes }
+{
+    let old = fields(arena, key);
+    set_time(arena, key, moment);
+    set_largest_subkey_class(arena, key, old.largest_subkey_class.max(size));
+}
+
+/// Sets a key's time, and makes room for a class of a length, in bytes, of a key below it.
+fn retime(arena: &mut Arena, key: u32, size: u32, moment: u64)
+    requires { IsHere arena.old.bytes key }
+    ensures changed { (t : IsHere arena.old.bytes key) → IsChanged arena.old.bytes arena.new.bytes t.root t.table t.path (at_time moment) }
+    ensures roomy { (k : KeyRecord) → key_at (heap_of arena.new) key ≡ Some k → size ≤ k.fields.largest_subkey_class }
+    ensures long { length arena.new.bytes ≡ length arena.old.bytes }
+{
+    note_class(arena, key, size, moment);
+}
+
+/// Writes a class into its cell, if it has one.
+fn put_class(arena: &mut Arena, cell: Option<u32>, class: &[u8])
+    requires { IsClassCell (heap_of arena.old) cell class.now }
+    ensures puts { PutsClass (heap_of arena.old) (heap_of arena.new) cell class.now }
+    ensures long { length arena.new.bytes ≡ length arena.old.bytes }
+{
+    if let Some(cell) = cell {
+        arena.write(cell, 0, class);
+    }
+}
+
+/// Writes a key's key node anew, with marks and a class of a length, in bytes, in a cell, if it takes one.
+fn note_marks(
+    arena: &mut Arena,
+    key: u32,
+    name: &[u8],
+    marks: u16,
+    cell: Option<u32>,
+    size: u16,
+)
+    requires here { IsSome (key_at (heap_of arena.old) key) }
+    requires name { (k : KeyRecord) → key_at (heap_of arena.old) key ≡ Some k → k.name ≡ name.now }
+    requires short { length name.now < 2 ^ 16 }
+    requires marks { bit_and marks 103 ≡ 0 }
+    ensures notes { Notes (heap_of arena.old) (heap_of arena.new) key (noted_marks marks cell size) }
+    ensures long { length arena.new.bytes ≡ length arena.old.bytes }
+{
+    let old = fields(arena, key);
+    let new = KeyFields {
+        flags: old.flags & FORM | marks,
+        class: cell.unwrap_or(NONE),
+        class_length: size,
+        ..old
+    };
+    put_nk(arena, key, &new, name);
+}
