@@ -1,3 +1,5 @@
 pub mod SubkeyClassWrite
+pub mod KeyMarks
+pub mod ClassPut
 pub mod KeyRewritten
 pub mod ClassNoted
