@@ -116,3 +116,24 @@ fn note_marks(
     };
     put_nk(arena, key, &new, name);
 }
+
+/// Gives a key marks and a class, for which a cell was carved if it takes one. It takes no memory.
+fn mark(
+    arena: &mut Arena,
+    key: u32,
+    name: &[u8],
+    marks: u16,
+    cell: Option<u32>,
+    class: &[u8],
+)
+    requires here { IsMarkable arena.old.bytes key name.now cell class.now }
+    requires name { length name.now < 2 ^ 16 }
+    requires marks { bit_and marks 103 ≡ 0 }
+    requires class { length class.now < 2 ^ 16 }
+    ensures marked { (m : IsMarkable arena.old.bytes key name.now cell class.now) →
+        IsMarked arena.old.bytes arena.new.bytes m.root m.table m.path m.keys marks class.now }
+    ensures long { length arena.new.bytes ≡ length arena.old.bytes }
+{
+    put_class(arena, cell, class);
+    note_marks(arena, key, name, marks, cell, class.len() as u16);
+}

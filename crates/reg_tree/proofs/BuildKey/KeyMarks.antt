@@ -4,12 +4,13 @@ use Rattle.std.proofs.Common.{lit≤, length-take, length-drop, refl, sym, ap, �
 use Rattle.std.specs.Prelude.{Ok, unwrap_or, min, IsTrue}
 use Rattle.reg_records.specs.declared.nk.KeyFields.{KeyFields}
 use Rattle.std.proofs.lemmas.Bool.{eqb-true}
-use Rattle.std.proofs.lemmas.Nat.{and_or_apart, and_assoc, and-not}
+use Rattle.std.proofs.lemmas.Nat.{and_or_apart, and_assoc, and_comm, or_comm, and-not}
 use Rattle.reg_heap.specs.ByteWords.{half, splice}
 use Rattle.reg_heap.specs.Heaps.{Heap}
 use Rattle.reg_records.specs.RecordCells.{HasRoom, held}
 use Rattle.reg_records.specs.KeyNodes.{KeyRecord, nk_of, key_at, is_in_profile}
 use Rattle.reg_records.proofs.KeyNodeCodec.{nk-open, key-room, key_at-open, key-profile}
+use Rattle.reg_shape.specs.Spelt.{marks_of}
 use Rattle.reg_tree.specs.Internal.KeyBuilding.{flags_with}
 use Rattle.reg_tree.proofs.Invariant.CellReadings.{held-is, some_of}
 
@@ -55,3 +56,16 @@ pub its-profile : (h : Heap) (cell marks : ℕ) (fields : KeyFields) → bit_and
 its-profile h cell marks fields e some are =
     let k = some_of (key_at h cell) some in
     profile-kept marks fields.flags e (ap (λ (f : KeyFields). is_in_profile f.flags) (are k.0 k.1) ∙ key-profile h cell k.0 k.1)
+
+-- the marks told of these flags are the marks
+pub marks-told : (marks flags : ℕ) → bit_and marks 103 ≡ 0 → marks < 2 ^ 16 → is_in_profile flags ≡ true → marks_of (flags_with marks flags) ≡ marks
+marks-told marks flags e small p =
+    let form : ℕ = bit_and flags 103 in
+    let none : bit_and form 65496 ≡ 0 = and_assoc 65496 flags 103 ∙ eqb-true (bit_and flags 64) 0 p in
+    let other : bit_and marks 39 ≡ 0 = sym (and_assoc 39 marks 103) ∙ (ap (λ x. bit_and x 39) e ∙ refl) in
+    let all = and-not 16 39 marks (lit≤ tt) small in
+    let turned = and_comm 39 marks in
+    let low = and_comm 65496 marks in
+    ap (λ x. bit_and x 65496) (or_comm form marks)
+    ∙ (and_or_apart 65496 marks form none
+    ∙ (let same : bit_and marks 65496 ≡ marks = omega (arith, all, turned, low, other) in same))

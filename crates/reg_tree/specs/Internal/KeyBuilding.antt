@@ -73,6 +73,8 @@ pub record IsMarkable (bytes : List ℕ) (key : ℕ) (name : List ℕ) (cell : O
   pub path : Path
   pub keys : Branch Node
   pub ring : List ℕ
+  pub table : DescriptorCells
+  pub finds : Finds table (cell_at bytes) ring
   pub shape : IsShape (cell_at bytes) root keys ring (taken cell)
   pub at : key_offset_at (cell_at bytes) root path ≡ Some key
   pub cell_is : IsClassCell (cell_at bytes) cell class
@@ -80,8 +82,8 @@ pub record IsMarkable (bytes : List ℕ) (key : ℕ) (name : List ℕ) (cell : O
   pub above : MayHaveClass (cell_at bytes) root path (length class)
 
 -- the key at a path has marks and a class, and nothing else of the tree changed; each key stays where it stands
-pub record IsMarked (old new : List ℕ) (root : ℕ) (path : Path) (keys : Branch Node) (ring : List ℕ) (marks : ℕ) (class : List ℕ) : Type 0 where
-  pub holds : (table : DescriptorCells) → Finds table (cell_at old) ring → TreeInvariant new root table
+pub record IsMarked (old new : List ℕ) (root : ℕ) (table : DescriptorCells) (path : Path) (keys : Branch Node) (marks : ℕ) (class : List ℕ) : Type 0 where
+  pub holds : TreeInvariant new root table
   pub tree : tree_in new root ≡ edited (tree_of (cell_at old) keys) path (marked marks class)
   pub offsets : (q : Path) → key_offset_at (cell_at new) root q ≡ key_offset_at (cell_at old) root q
 
