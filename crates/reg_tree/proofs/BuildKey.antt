@@ -6,3 +6,4 @@ pub mod ClassNoted
 pub mod MarkedKey
 pub mod RowMarked
 pub mod MarkedShape
+pub mod ClassCarved

@@ -137,3 +137,52 @@ fn mark(
     put_class(arena, cell, class);
     note_marks(arena, key, name, marks, cell, class.len() as u16);
 }
+
+/// Carves the cell that a class takes, if it takes one. After a fault the arena is as before.
+fn carve_for(alloc: Global, arena: &mut Arena, class: &[u8]) -> Result<Option<u32>, ArenaFault>
+    requires { length class.now < 2 ^ 16 }
+    ensures ok { IfOk result (λ cell. IsCarvedForClass arena.old arena.new class.now cell) }
+    ensures full { (result ≡ Err ArenaFault.Full) → BINS_LIMIT < length arena.old.bytes + GROWTH_BOUND }
+    ensures err { OnErr result (arena.new ≡ arena.old) }
+    ensures grows { OnOk result (length arena.new.bytes ≤ length arena.old.bytes + GROWTH_BOUND) }
+    ensures kept { OnOk result (length arena.old.bytes ≤ length arena.new.bytes) }
+{
+    if class.is_empty() {
+        return Ok(None);
+    }
+    let mut cells = Vec::new(alloc);
+    match arena.carve_change(&[cell_size(class.len() as u32)], &mut cells) {
+        Ok(()) => Ok(Some(cells[0])),
+        Err(fault) => Err(fault),
+    }
+}
+
+/// Gives marks and a class to a key of a name that has no class: the key above, if there is one, notes a class that is no shorter.
+/// `Full`, `Memory`: then the arena is as before.
+fn dress(
+    alloc: Global,
+    arena: &mut Arena,
+    key: u32,
+    name: &[u8],
+    marks: u16,
+    class: &[u8],
+) -> Result<(), ArenaFault>
+    requires here { (t : IsHere arena.old.bytes key) × MayHaveClass (heap_of arena.old) t.root t.path (length class.now) }
+    requires bare { HasNoClass (heap_of arena.old) key name.now }
+    requires name { length name.now < 2 ^ 16 }
+    requires marks { bit_and marks 103 ≡ 0 }
+    requires class { length class.now < 2 ^ 16 }
+    ensures ok { (t : IsHere arena.old.bytes key) → MayHaveClass (heap_of arena.old) t.root t.path (length class.now) →
+        OnOk result (IsChanged arena.old.bytes arena.new.bytes t.root t.table t.path (marked marks class.now)) }
+    ensures full { (result ≡ Err ArenaFault.Full) → BINS_LIMIT < length arena.old.bytes + GROWTH_BOUND }
+    ensures err { OnErr result (arena.new ≡ arena.old) }
+    ensures grows { OnOk result (length arena.new.bytes ≤ length arena.old.bytes + GROWTH_BOUND) }
+    ensures kept { OnOk result (length arena.old.bytes ≤ length arena.new.bytes) }
+{
+    let cell = match carve_for(alloc, arena, class) {
+        Ok(cell) => cell,
+        Err(fault) => return Err(fault),
+    };
+    mark(arena, key, name, marks, cell, class);
+    Ok(())
+}

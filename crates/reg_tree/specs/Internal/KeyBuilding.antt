@@ -1,5 +1,5 @@
 -- A key's marks and class, as its key node and the one above note them (Suhanov, Windows registry file format specification, "Key node").
-use Rattle.std.specs.Prelude.{◌≡◌, ◌≢◌, ◌⊎◌, ℕ, ◌≤◌, max, bit_and, bit_or, unwrap_or, Option, Some, None, List, [], ◌∷◌, ◌++◌, drop, length}
+use Rattle.std.specs.Prelude.{◌≡◌, ◌≢◌, ◌⊎◌, ℕ, ◌≤◌, ◌+◌, max, bit_and, bit_or, unwrap_or, Option, Some, None, List, [], ◌∷◌, ◌++◌, drop, length}
 use Rattle.reg_heap.specs.declared.limits.TheConstants.{NONE}
 use Rattle.reg_heap.specs.Heaps.{Heap, CellFrame}
 use Rattle.reg_heap.specs.Kinds.{times}
@@ -7,6 +7,7 @@ use Rattle.reg_heap.specs.Paths.{Path, Rec}
 use Rattle.reg_heap.specs.Edits.{edited}
 use Rattle.reg_arena.specs.Arena.{Bins, heap_of}
 use Rattle.reg_arena.specs.Cells.{cell_at}
+use Rattle.reg_arena.specs.NewCells.{cell_size}
 use Rattle.reg_records.specs.RecordCells.{HasRoom, held}
 use Rattle.reg_records.specs.KeyNodes.{KeyRecord, key_at}
 use Rattle.reg_shape.specs.Nodes.{Node}
@@ -87,8 +88,8 @@ pub record IsMarked (old new : List ℕ) (root : ℕ) (table : DescriptorCells) 
   pub tree : tree_in new root ≡ edited (tree_of (cell_at old) keys) path (marked marks class)
   pub offsets : (q : Path) → key_offset_at (cell_at new) root q ≡ key_offset_at (cell_at old) root q
 
--- the cell that a class takes, if it takes one, was carved, and no other cell changed
+-- the cell that a class takes, if it takes one, was carved, of its size, and no other cell changed
 abbrev pub IsCarvedForClass : Bins → Bins → List ℕ → Option ℕ → Type 0
 IsCarvedForClass old new class None = (new ≡ old) × (class ≡ [])
-IsCarvedForClass old new class (Some cell) =
-    (1 ≤ length class) × CellFrame (heap_of old) (heap_of new) (λ z. 0) (λ z. times z (cell ∷ [])) × HasRoom (heap_of new) cell (length class)
+IsCarvedForClass old new class (Some cell) = (1 ≤ length class) × CellFrame (heap_of old) (heap_of new) (λ z. 0) (λ z. times z (cell ∷ []))
+    × (length (held (heap_of new) cell) + 4 ≡ cell_size (length class))

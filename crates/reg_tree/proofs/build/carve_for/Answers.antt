@@ -1,0 +1,11 @@
+use Rattle.std.proofs.Common.{◌∷◌, [], Err, length, subst, ap}
+use Rattle.reg_arena.specs.NewBin.{PassesLimit}
+use Rattle.reg_arena.specs.NewCells.{total_of}
+use Rattle.reg_tree.proofs.BuildKey.ClassCarved.{near-limit}
+use Rattle.reg_tree.proofs.DescribeKey.SecurityJoined.{which-fault}
+use Rattle.reg_tree.proofs.build.carve_for.Goals as goal
+
+pub returns-clause-full : goal.returns-clause-full
+returns-clause-full c = λ full.
+    near-limit _ (length c.args.class.now) c.requires
+    (subst (λ size. PassesLimit c.args.arena.now.bytes (total_of (size ∷ []))) c.cell_size.ensures.size (c.in-Err.ensures.full.0 (ap (λ f. Err f) (which-fault _ _ full))).1)
