@@ -7,3 +7,5 @@ pub mod MarkedKey
 pub mod RowMarked
 pub mod MarkedShape
 pub mod ClassCarved
+pub mod OneName
+pub mod BuiltTrees

@@ -4,21 +4,30 @@
 //! than those of its other subkeys; and last the key gets its marks and its class.
 //!
 //! Suhanov, Windows registry file format specification, "Key node".
-ghost use Rattle.std.specs.Prelude.{◌≡◌, ◌≤◌, ◌<◌, ◌+◌, ◌*◌, ◌^◌, ℕ, bit_and, Err, Some, IsSome, length, OnOk, OnErr, IfOk};
+ghost use Rattle.std.specs.Prelude.{◌≡◌, ◌≤◌, ◌<◌, ◌+◌, ◌*◌, ◌^◌, ℕ, [], ◌∷◌, bit_and, Err, Some, IsSome, length, OnOk, OnErr, IfOk};
 ghost use Rattle.byteorder.specs.Endian.{little_bytes};
 ghost use Rattle.reg_heap.specs.declared.limits.TheConstants.{BINS_LIMIT, GROWTH_BOUND};
 ghost use Rattle.reg_heap.specs.Edits.{at_time};
+ghost use Rattle.reg_heap.specs.Trees.{IsSmallKey};
 ghost use Rattle.reg_arena.specs.Arena.{heap_of};
 ghost use Rattle.reg_records.specs.KeyNodes.{KeyRecord, key_at, IsPlainKey};
 ghost use Rattle.reg_records.specs.RecordCells.{Rereads, held};
-ghost use Rattle.reg_tree.specs.Internal.TreeInvariant.{IsHere, IsChanged};
+ghost use Rattle.reg_tree.specs.BuiltKeys.{MayBuild, built_key};
+ghost use Rattle.reg_tree.specs.TreeKeys.{tree_in};
+ghost use Rattle.reg_tree.specs.Internal.DescriptorChange.{KeepsFinds};
+ghost use Rattle.reg_tree.specs.Internal.KeyCreation.{IsCreated};
+ghost use Rattle.reg_tree.specs.Internal.TreeInvariant.{IsHere, IsChanged, TreeInvariant};
 ghost use Rattle.reg_tree.specs.Internal.KeyNodeChanges.{Notes};
-ghost use Rattle.reg_tree.specs.Internal.KeyBuilding.{HasNoClass, IsCarvedForClass, IsClassCell, IsMarkable, IsMarked, MayHaveClass, PutsClass, marked, noted_class, noted_marks};
+ghost use Rattle.reg_tree.specs.Internal.KeyBuilding.{HasNoClass, IsBuilt, IsCarvedForClass, IsClassCell, IsMarkable, IsMarked, MayHaveClass, PutsClass, marked, noted_class, noted_marks};
 
+use crate::Node;
+use crate::find::reach;
 use crate::key::fields;
+use crate::make::create_at;
 use reg_arena::{Arena, ArenaFault, cell_size};
 use reg_heap::limits::NONE;
 use reg_records::{KeyFields, put_nk, set_time};
+use reg_security::SecurityTable;
 use std::alloc::Global;
 
 /// A key to be built: all of it but its subkeys and values.
@@ -185,4 +194,68 @@ fn dress(
     };
     mark(arena, key, name, marks, cell, class);
     Ok(())
+}
+
+/// Makes the one key below another that has none of its name, as `create` makes it: with no marks and no class, and the time of the
+/// other set. `Full`, `Memory`: then the arena is as before, and the table finds what it found.
+fn make_one(
+    alloc: Global,
+    arena: &mut Arena,
+    securities: &mut SecurityTable,
+    parent: Node,
+    key: NewKey<'_>,
+) -> Result<Node, ArenaFault>
+    requires here { (t : IsHere arena.old.bytes parent.offset) × (t.table ≡ securities.old) × (parent.depth ≡ length t.path)
+        × MayBuild (tree_in arena.old.bytes t.root) t.path key.name.now }
+    requires key { IsSmallKey (built_key key) }
+    ensures ok { (t : IsHere arena.old.bytes parent.offset) → t.table ≡ securities.old → parent.depth ≡ length t.path →
+        IfOk result (λ made. IsCreated arena.old.bytes arena.new.bytes t.root securities.new t.path parent (key.entry.name.now ∷ [])
+        (Some key.entry.descriptor.now) key.entry.time made) }
+    ensures table { OnErr result (KeepsFinds securities.old securities.new) }
+    ensures full { (result ≡ Err ArenaFault.Full) → BINS_LIMIT < length arena.old.bytes + GROWTH_BOUND }
+    ensures err { OnErr result (arena.new ≡ arena.old) }
+    ensures grows { OnOk result (length arena.new.bytes ≤ length arena.old.bytes + GROWTH_BOUND) }
+    ensures kept { OnOk result (length arena.old.bytes ≤ length arena.new.bytes) }
+{
+    let reached = reach(arena, parent, key.name);
+    create_at(
+        alloc,
+        arena,
+        securities,
+        reached,
+        Some(key.descriptor),
+        key.time,
+    )
+}
+
+/// Builds a key below another that has none of its name. `Full`, `Memory`: then there still is a tree.
+pub fn build_below(
+    alloc: Global,
+    arena: &mut Arena,
+    securities: &mut SecurityTable,
+    parent: Node,
+    key: NewKey<'_>,
+) -> Result<Node, ArenaFault>
+    requires here { (t : IsHere arena.old.bytes parent.offset) × (t.table ≡ securities.old) × (parent.depth ≡ length t.path)
+        × MayBuild (tree_in arena.old.bytes t.root) t.path key.name.now }
+    requires key { IsSmallKey (built_key key) }
+    ensures ok { (t : IsHere arena.old.bytes parent.offset) → t.table ≡ securities.old → parent.depth ≡ length t.path →
+        MayBuild (tree_in arena.old.bytes t.root) t.path key.entry.name.now →
+        IfOk result (λ node. IsBuilt arena.old.bytes arena.new.bytes t.root securities.new t.path key.entry node) }
+    ensures err { (t : IsHere arena.old.bytes parent.offset) → t.table ≡ securities.old → parent.depth ≡ length t.path →
+        OnErr result (TreeInvariant arena.new.bytes t.root securities.new) }
+    ensures full { (result ≡ Err ArenaFault.Full) → BINS_LIMIT < length arena.old.bytes + 2 * GROWTH_BOUND }
+    ensures grows { length arena.new.bytes ≤ length arena.old.bytes + 2 * GROWTH_BOUND }
+    ensures kept { length arena.old.bytes ≤ length arena.new.bytes }
+{
+    let time = fields(arena, parent.offset).time;
+    let node = match make_one(alloc, arena, securities, parent, key) {
+        Ok(node) => node,
+        Err(fault) => return Err(fault),
+    };
+    retime(arena, parent.offset, key.class.len() as u32, time);
+    match dress(alloc, arena, node.offset, key.name, key.marks, key.class) {
+        Ok(()) => Ok(node),
+        Err(fault) => Err(fault),
+    }
 }

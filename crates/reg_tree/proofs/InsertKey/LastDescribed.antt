@@ -13,7 +13,7 @@ use Rattle.reg_tree.proofs.ValueChange.TreeAfterValueChange.{edited-at}
 use Rattle.reg_tree.proofs.InsertKey.PathGrowth.{path-self}
 
 -- of two records put at one path the last counts
-insert-twice : (t : Tree) (p : Path) (a b : Rec) → insert (insert t p a) p b ≡ insert t p b
+pub insert-twice : (t : Tree) (p : Path) (a b : Rec) → insert (insert t p a) p b ≡ insert t p b
 insert-twice t p a b =
     same_map path_total path_same (insert (insert t p a) p b) (insert t p b)
     (λ q. get-insert path_total (insert t p a) p b q ∙ (ap (λ o. cond (eq_by_cmp path_cmp q p) (Some b) o) (get-insert path_total t p a q)

@@ -4,7 +4,8 @@ use Rattle.reg_heap.specs.declared.limits.TheConstants.{NONE}
 use Rattle.reg_heap.specs.Heaps.{Heap, CellFrame}
 use Rattle.reg_heap.specs.Kinds.{times}
 use Rattle.reg_heap.specs.Paths.{Path, Rec}
-use Rattle.reg_heap.specs.Edits.{edited}
+use Rattle.std.specs.FinMap.{insert}
+use Rattle.reg_heap.specs.Edits.{edited, child_path}
 use Rattle.reg_arena.specs.Arena.{Bins, heap_of}
 use Rattle.reg_arena.specs.Cells.{cell_at}
 use Rattle.reg_arena.specs.NewCells.{cell_size}
@@ -17,6 +18,9 @@ use Rattle.reg_shape.specs.Internal.Grafts.{IsShape}
 use Rattle.reg_shape.specs.PathLookup.{key_offset_at}
 use Rattle.reg_index.specs.Subkeys.{taken}
 use Rattle.reg_security.specs.Rings.{DescriptorCells, Finds}
+use Rattle.reg_tree.specs.declared.build.NewKey.{NewKey}
+use Rattle.reg_tree.specs.declared.node.Node.{Node as TreeNode}
+use Rattle.reg_tree.specs.BuiltKeys.{built_key}
 use Rattle.reg_tree.specs.TreeKeys.{tree_in}
 use Rattle.reg_tree.specs.Internal.TreeInvariant.{TreeInvariant}
 
@@ -93,3 +97,12 @@ abbrev pub IsCarvedForClass : Bins → Bins → List ℕ → Option ℕ → Type
 IsCarvedForClass old new class None = (new ≡ old) × (class ≡ [])
 IsCarvedForClass old new class (Some cell) = (1 ≤ length class) × CellFrame (heap_of old) (heap_of new) (λ z. 0) (λ z. times z (cell ∷ []))
     × (length (held (heap_of new) cell) + 4 ≡ cell_size (length class))
+
+-- the key that is told was built right below the one at a path, and nothing else of the tree changed; a node is its own, and each other
+-- key stays where it stands
+pub record IsBuilt (old new : List ℕ) (root : ℕ) (table : DescriptorCells) (path : Path) (key : NewKey) (node : TreeNode) : Type 0 where
+  pub holds : TreeInvariant new root table
+  pub tree : tree_in new root ≡ insert (tree_in old root) (child_path path key.name.now) (built_key key)
+  pub offset : key_offset_at (cell_at new) root (child_path path key.name.now) ≡ Some node.offset
+  pub depth : node.depth ≡ length path + 1
+  pub keeps : (q : Path) (o : ℕ) → key_offset_at (cell_at old) root q ≡ Some o → key_offset_at (cell_at new) root q ≡ Some o

@@ -1,0 +1,28 @@
+use Rattle.reg_tree.proofs.BuildKey.BuiltTrees.{built-is}
+use Rattle.std.proofs.Common.{◌∷◌, [], List, ℕ, Some, subst}
+use Rattle.std.specs.Prelude.{IfOk}
+use Rattle.reg_tree.specs.Internal.KeyCreation.{IsCreated}
+use Rattle.reg_tree.proofs.BuildKey.OneName.{name-path, name-valid, few-names, some-rest}
+use Rattle.reg_tree.proofs.build.make_one.Goals as goal
+
+pub reach-reached-requires-clause-path : goal.reach-reached-requires-clause-path
+reach-reached-requires-clause-path c = name-valid c.args.key.name.now c.requires.key.name
+
+pub create_at-requires-clause-reached : goal.create_at-requires-clause-reached
+create_at-requires-clause-reached c = (
+  c.args.parent,
+  c.args.key.name.now,
+  record { here = c.requires.here.0; depth = c.requires.here.2; reaches = c.reach-reached.ensures.reaches },
+  c.requires.here.1,
+  few-names _ c.args.parent c.reach-reached.result.node c.requires.here.0 _ _ c.requires.key.name c.requires.here.3 c.reach-reached.ensures.reaches,
+)
+
+pub create_at-requires-clause-missing : goal.create_at-requires-clause-missing
+create_at-requires-clause-missing c =
+    some-rest _ c.args.parent c.reach-reached.result.node c.requires.here.0 _ _ c.requires.key.name c.requires.here.3 c.reach-reached.ensures.reaches
+
+pub returns-clause-ok : goal.returns-clause-ok
+returns-clause-ok c = λ t same d.
+    subst (λ (names : List (List ℕ)). IfOk c.create_at.result (λ made. IsCreated c.args.arena.now.bytes c.create_at.new.arena.bytes t.root c.create_at.new.securities t.path
+    c.args.parent names (Some c.args.key.descriptor.now) c.args.key.time made)) (name-path c.args.key.name.now c.requires.key.name)
+    (c.create_at.ensures.ok c.args.parent c.args.key.name.now (record { here = t; depth = d; reaches = c.reach-reached.ensures.reaches }) same)
