@@ -9,3 +9,4 @@ pub mod MarkedShape
 pub mod ClassCarved
 pub mod OneName
 pub mod BuiltTrees
+pub mod BuiltBelow

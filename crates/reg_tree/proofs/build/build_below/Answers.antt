@@ -1,0 +1,46 @@
+use Rattle.std.proofs.Common.{sym, subst}
+use Rattle.reg_arena.specs.Arena.{Bins}
+use Rattle.reg_tree.specs.Internal.TreeInvariant.{TreeInvariant}
+use Rattle.reg_tree.proofs.Invariant.KeyOfTree.{key_there}
+use Rattle.reg_tree.proofs.BuildKey.BuiltBelow.{holds-still, parent-then, child-next, may-have, bare-next, built}
+use Rattle.reg_tree.proofs.build.build_below.Goals as goal
+
+pub fields-time-requires : goal.fields-time-requires
+fields-time-requires c = key_there _ _ c.requires.here.0
+
+pub returns-in-Err-clause-err : goal.returns-in-Err-clause-err
+returns-in-Err-clause-err c = λ t same d. holds-still c.args.arena.now c.make_one.new.arena c.args.parent t _ _ same c.in-Err.ensures.table c.in-Err.ensures.err
+
+pub retime-requires : goal.retime-requires
+retime-requires c = let h = c.requires.here in parent-then _ _ c.args.parent c.in-Ok.node h.0 _ c.args.key (c.in-Ok.ensures.ok h.0 h.1 h.2)
+
+pub dress-requires-clause-here : goal.dress-requires-clause-here
+dress-requires-clause-here c =
+    let h = c.requires.here in
+    let made = c.in-Ok.ensures.ok h.0 h.1 h.2 in
+    let changed = c.retime.ensures.changed (parent-then _ _ c.args.parent c.in-Ok.node h.0 _ c.args.key made) in (
+      child-next _ _ c.args.parent c.in-Ok.node h.0 _ c.args.key made c.fields-time.result c.fields-time.ensures h.3 _ changed c.retime.ensures.roomy,
+      may-have _ _ c.args.parent c.in-Ok.node h.0 _ c.args.key made c.fields-time.result c.fields-time.ensures h.3 _ changed c.retime.ensures.roomy,
+    )
+
+pub dress-requires-clause-bare : goal.dress-requires-clause-bare
+dress-requires-clause-bare c =
+    let h = c.requires.here in
+    let made = c.in-Ok.ensures.ok h.0 h.1 h.2 in
+    let changed = c.retime.ensures.changed (parent-then _ _ c.args.parent c.in-Ok.node h.0 _ c.args.key made) in
+    bare-next _ _ c.args.parent c.in-Ok.node h.0 _ c.args.key made c.fields-time.result c.fields-time.ensures h.3 _ changed c.retime.ensures.roomy
+
+pub returns-in-Ok-dress-clause-ok : goal.returns-in-Ok-dress-clause-ok
+returns-in-Ok-dress-clause-ok c = λ t same d may.
+    let made = c.in-Ok.ensures.ok t same d in
+    let changed = c.retime.ensures.changed (parent-then _ _ c.args.parent c.in-Ok.node t _ c.args.key made) in
+    let fields = c.fields-time.result in
+    built _ _ c.args.parent c.in-Ok.node t _ c.args.key made fields c.fields-time.ensures may _ changed c.retime.ensures.roomy _
+    (c.in-Ok-dress.ensures.ok (child-next _ _ c.args.parent c.in-Ok.node t _ c.args.key made fields c.fields-time.ensures may _ changed c.retime.ensures.roomy)
+    (may-have _ _ c.args.parent c.in-Ok.node t _ c.args.key made fields c.fields-time.ensures may _ changed c.retime.ensures.roomy)) d
+
+pub returns-in-Err-dress-clause-err : goal.returns-in-Err-dress-clause-err
+returns-in-Err-dress-clause-err c = λ t same d.
+    let made = c.in-Ok.ensures.ok t same d in
+    subst (λ (b : Bins). TreeInvariant b.bytes t.root c.make_one.new.securities) (sym c.in-Err-dress.ensures.err)
+    (c.retime.ensures.changed (parent-then _ _ c.args.parent c.in-Ok.node t _ c.args.key made)).holds
