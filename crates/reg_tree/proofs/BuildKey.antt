@@ -10,3 +10,4 @@ pub mod ClassCarved
 pub mod OneName
 pub mod BuiltTrees
 pub mod BuiltBelow
+pub mod BuiltSeen

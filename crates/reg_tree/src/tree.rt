@@ -1,4 +1,4 @@
-ghost use Rattle.std.specs.Prelude.{true, false, ◌≡◌, ◌↔◌, ◌⊎◌, ◌≢◌, ◌≤◌, ◌<◌, ◌+◌, ◌++◌, ℕ, List, [], length, Err, Some, None, OnOk, OnErr, IfOk, IfErr};
+ghost use Rattle.std.specs.Prelude.{true, false, ◌≡◌, ◌↔◌, ◌⊎◌, ◌≢◌, ◌≤◌, ◌<◌, ◌+◌, ◌*◌, ◌++◌, ℕ, List, [], length, Err, Some, None, OnOk, OnErr, IfOk, IfErr};
 ghost use Rattle.std.specs.Prelude.{IsSome, IfSome, MatchOption, slice_get, get_or, option_map};
 ghost use Rattle.std.specs.FinMap.{insert, empty, get};
 ghost use Rattle.reg_names.specs.declared.TheConstants.{KEY_NAME_LIMIT, PATH_LIMIT, VALUE_NAME_LIMIT};
@@ -6,9 +6,9 @@ ghost use Rattle.reg_names.specs.Names.{is_key_name, is_value_name, is_path, pat
 ghost use Rattle.reg_heap.specs.declared.limits.TheConstants.{BINS_LIMIT, DATA_LIMIT, DESCRIPTOR_LIMIT, GROWTH_BOUND, VALUES_LIMIT};
 ghost use Rattle.reg_heap.specs.Paths.{Path, path_cmp, Rec, Member, children_of};
 ghost use Rattle.reg_heap.specs.Members.{value_named, index_named};
-ghost use Rattle.reg_heap.specs.Trees.{IsTree, IsWithinLimits};
+ghost use Rattle.reg_heap.specs.Trees.{IsTree, IsWithinLimits, IsSmallKey};
 ghost use Rattle.reg_heap.specs.Edits.{edited, with_descriptor, with_value, without_value, values_at, folded_path, are_too_many, without_key, IsKept};
-ghost use Rattle.reg_heap.specs.Edits.{may_not_go, missing, last_there, is_within, is_under, without_tree, emptied, any_kept_within, any_kept_under};
+ghost use Rattle.reg_heap.specs.Edits.{child_path, may_not_go, missing, last_there, is_within, is_under, without_tree, emptied, any_kept_within, any_kept_under};
 ghost use Rattle.reg_arena.specs.Arena.{IsSound, heap_of};
 ghost use Rattle.reg_arena.specs.NewBin.{IsBinSize};
 ghost use Rattle.reg_arena.specs.NewCells.{cell_size as cell_size_of};
@@ -17,8 +17,8 @@ ghost use Rattle.reg_values.specs.ValueLists.{Makes, Tells};
 use crate::cells::carve_two;
 use crate::key::new_root;
 use crate::{
-    Created, Node, Reached, Subkey, TreeFault, ValueFound, find, make, prune, read, security,
-    unmake, values,
+    Created, NewKey, Node, Reached, Subkey, TreeFault, ValueFound, build, find, make, prune, read,
+    security, unmake, values,
 };
 use reg_arena::{Arena, ArenaFault, cell_size};
 use reg_records::put_nk;
@@ -57,6 +57,7 @@ impl Tree {
     ghost use Rattle.reg_tree.specs.ValueAnswers.{IsFound, without_value_at};
     ghost use Rattle.reg_tree.specs.Reaching.{IsWalkedTo};
     ghost use Rattle.reg_tree.specs.SubkeyWalk.{IsSubkeyAt};
+    ghost use Rattle.reg_tree.specs.BuiltKeys.{MayBuild, built_key};
 
     /// A tree of one root: the name as given, mark 8 (no delete), no class, the descriptor, the moment (100 ns ticks since
     /// 1601), no values; its four largest lengths are 0. Its bins are one, of the least size for the key node and its security,
@@ -656,5 +657,30 @@ impl Tree {
         ensures long { OnOk result (length self.new.bins.bytes ≡ length self.old.bins.bytes) }
     {
         prune::delete_tree(&mut self.arena, &mut self.securities, node.offset, moment)
+    }
+
+    /// Builds a key right below another that has none of its name, as it is told: with its name, marks, class, descriptor and time,
+    /// and no values. No other key's time changes. After a fault nothing is said of the tree; it is to be dropped.
+    ///
+    /// `Full` only where the bins, grown by twice 1,310,720 bytes, would pass the limit of 268,435,456 bytes; `Memory`. The bins grow
+    /// by at most twice 1,310,720 bytes.
+    pub fn build_key(
+        &mut self,
+        alloc: Global,
+        parent: Node,
+        key: NewKey<'_>,
+    ) -> Result<Node, ArenaFault>
+        requires parent { IsThere self.old parent }
+        requires room { (p : Path) → IsAt self.old p parent → MayBuild self.old.tree p key.name.now }
+        requires key { IsSmallKey (built_key key) }
+        ensures ok { (p : Path) → IsAt self.old p parent →
+            IfOk result (λ node. (self.new.tree ≡ insert self.old.tree (child_path p key.entry.name.now) (built_key key.entry))
+            × IsAt self.new (child_path p key.entry.name.now) node) }
+        ensures nodes { OnOk result (KeepsNodes self.old self.new) }
+        ensures full { (result ≡ Err ArenaFault.Full) → BINS_LIMIT < length self.old.bins.bytes + 2 * GROWTH_BOUND }
+        ensures grows { length self.new.bins.bytes ≤ length self.old.bins.bytes + 2 * GROWTH_BOUND }
+        ensures kept { length self.old.bins.bytes ≤ length self.new.bins.bytes }
+    {
+        build::build_below(alloc, &mut self.arena, &mut self.securities, parent, key)
     }
 }

@@ -1,0 +1,63 @@
+-- A tree as it is seen, where a key was built, or wasn't.
+use Rattle.std.proofs.Common.{◌≡◌, ℕ, ◌+◌, Some, List, [], ◌∷◌, ◌++◌, length, refl, sym, ap, subst, arith, length-append}
+use Rattle.std.specs.Prelude.{Result, Ok, Err, OnOk, OnErr, IfOk}
+use Rattle.std.specs.FinMap.{insert}
+use Rattle.reg_names.specs.Names.{folded}
+use Rattle.reg_heap.specs.Paths.{Path, Tree}
+use Rattle.reg_heap.specs.Edits.{child_path}
+use Rattle.reg_arena.specs.Arena.{Bins, heap_of}
+use Rattle.reg_arena.specs.declared.ArenaFault.{ArenaFault}
+use Rattle.reg_security.specs.Rings.{DescriptorCells}
+use Rattle.reg_tree.specs.declared.build.NewKey.{NewKey}
+use Rattle.reg_tree.specs.declared.node.Node.{Node}
+use Rattle.reg_tree.specs.BuiltKeys.{MayBuild, built_key}
+use Rattle.reg_tree.specs.TreeKeys.{Keys, tree_in, IsAt, IsThere, KeepsNodes}
+use Rattle.reg_tree.specs.Internal.KeyBuilding.{IsBuilt}
+use Rattle.reg_tree.specs.Internal.TreeInvariant.{TreeInvariant, IsHere}
+use Rattle.reg_tree.proofs.Invariant.NodeLemmas.{seen_as, here_at, there_at, of_tree, to_tree}
+
+module _ (bins : Bins) (root : ℕ) {table : DescriptorCells} (holds : TreeInvariant bins.bytes root table) (now : Keys) (view_is : seen_as bins root ≡ now)
+    (parent : Node) (key : NewKey) (room : (p : Path) → IsAt now p parent → MayBuild now.tree p key.name.now) where
+  -- it may be built
+  may_at : (p : Path) → IsAt now p parent → MayBuild (tree_in bins.bytes root) p key.name.now
+  may_at p at = to_tree bins root holds now view_is (λ (tree : Tree). MayBuild tree p key.name.now) (room p at)
+
+  pub may_there : IsThere now parent → (t : IsHere bins.bytes parent.offset) × (t.table ≡ table) × (parent.depth ≡ length t.path)
+      × MayBuild (tree_in bins.bytes t.root) t.path key.name.now
+  may_there some = (there_at bins root holds now view_is parent some, refl, some.1.depth, may_at some.0 some.1)
+
+  module _ (new : Bins) (after : DescriptorCells) (result : Result Node ArenaFault)
+      (ok : (t : IsHere bins.bytes parent.offset) → t.table ≡ table → parent.depth ≡ length t.path → MayBuild (tree_in bins.bytes t.root) t.path key.name.now →
+      IfOk result (λ node. IsBuilt bins.bytes new.bytes t.root after t.path key node)) where
+    its : (p : Path) → IsAt now p parent → IfOk result (λ node. IsBuilt bins.bytes new.bytes root after p key node)
+    its p at = ok (here_at bins root holds now view_is parent p at) refl at.depth (may_at p at)
+
+    pub holds_built : IsThere now parent → ((t : IsHere bins.bytes parent.offset) → t.table ≡ table → parent.depth ≡ length t.path →
+        OnErr result (TreeInvariant new.bytes t.root after)) → TreeInvariant new.bytes root after
+    holds_built some err = by result (its some.0 some.1) (err (there_at bins root holds now view_is parent some) refl some.1.depth)
+      where
+        by : (r : Result Node ArenaFault) → IfOk r (λ node. IsBuilt bins.bytes new.bytes root after some.0 key node) → OnErr r (TreeInvariant new.bytes root after) →
+            TreeInvariant new.bytes root after
+        by (Ok node) b e = b.holds
+        by (Err fault) b e = e
+
+    pub built_seen : (p : Path) → IsAt now p parent →
+        IfOk result (λ node. (tree_in new.bytes root ≡ insert now.tree (child_path p key.name.now) (built_key key)) × IsAt (seen_as new root) (child_path p key.name.now) node)
+    built_seen p at = by result (its p at)
+      where
+        by : (r : Result Node ArenaFault) → IfOk r (λ node. IsBuilt bins.bytes new.bytes root after p key node) →
+            IfOk r (λ node. (tree_in new.bytes root ≡ insert now.tree (child_path p key.name.now) (built_key key)) × IsAt (seen_as new root) (child_path p key.name.now) node)
+        by (Ok node) b = (
+          of_tree bins root holds now view_is (λ tree. tree_in new.bytes root ≡ insert tree (child_path p key.name.now) (built_key key)) b.tree,
+          record { offset = b.offset; depth = (let d = b.depth in let l = length-append p (folded key.name.now ∷ []) in omega (arith, d, l)) },
+        )
+        by (Err fault) b = tt
+
+    pub nodes_built : IsThere now parent → OnOk result (KeepsNodes now (seen_as new root))
+    nodes_built some = by result (its some.0 some.1)
+      where
+        by : (r : Result Node ArenaFault) → IfOk r (λ node. IsBuilt bins.bytes new.bytes root after some.0 key node) → OnOk r (KeepsNodes now (seen_as new root))
+        by (Ok node) b =
+            subst (λ k. KeepsNodes k (seen_as new root)) view_is
+            (λ q other at. record { offset = b.keeps q other.offset at.offset; depth = at.depth })
+        by (Err fault) b = tt

@@ -1,0 +1,20 @@
+use Rattle.reg_tree.proofs.BuildKey.BuiltSeen.{may_there, holds_built, built_seen, nodes_built}
+use Rattle.reg_tree.proofs.tree.Tree.build_key.Goals as goal
+
+pub build_below-requires-clause-here : goal.build_below-requires-clause-here
+build_below-requires-clause-here c = may_there _ _ c.self.invariant _ c.self.view_is c.args.parent c.args.key c.requires.room c.requires.parent
+
+pub invariant_of-self : goal.invariant_of-self
+invariant_of-self c =
+    holds_built _ _ c.self.invariant _ c.self.view_is c.args.parent c.args.key c.requires.room c.build_below.new.arena c.build_below.new.securities c.build_below.result
+    c.build_below.ensures.ok c.requires.parent c.build_below.ensures.err
+
+pub returns-clause-ok : goal.returns-clause-ok
+returns-clause-ok c =
+    built_seen _ _ c.self.invariant _ c.self.view_is c.args.parent c.args.key c.requires.room c.build_below.new.arena c.build_below.new.securities c.build_below.result
+    c.build_below.ensures.ok
+
+pub returns-clause-nodes : goal.returns-clause-nodes
+returns-clause-nodes c =
+    nodes_built _ _ c.self.invariant _ c.self.view_is c.args.parent c.args.key c.requires.room c.build_below.new.arena c.build_below.new.securities c.build_below.result
+    c.build_below.ensures.ok c.requires.parent
