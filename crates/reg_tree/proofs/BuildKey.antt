@@ -11,3 +11,4 @@ pub mod OneName
 pub mod BuiltTrees
 pub mod BuiltBelow
 pub mod BuiltSeen
+pub mod BuiltRoot

@@ -168,7 +168,7 @@ fn carve_for(alloc: Global, arena: &mut Arena, class: &[u8]) -> Result<Option<u3
 
 /// Gives marks and a class to a key of a name that has no class: the key above, if there is one, notes a class that is no shorter.
 /// `Full`, `Memory`: then the arena is as before.
-fn dress(
+pub fn dress(
     alloc: Global,
     arena: &mut Arena,
     key: u32,

@@ -99,6 +99,40 @@ impl Tree {
         })
     }
 
+    /// A tree of one root, as it is told: with its name, marks, class, descriptor and time, and no values. Its one fault is `Memory`.
+    pub fn build(alloc: Global, key: NewKey<'_>) -> Result<Tree, TreeFault>
+        requires { IsSmallKey (built_key key) }
+        ensures ok { IfOk result (λ t. t.tree ≡ insert empty [] (built_key key.entry)) }
+        ensures err { IfErr result (λ fault. fault ≡ TreeFault.Memory) }
+    {
+        let mut tree = match Tree::new(alloc, key.name, key.descriptor, key.time) {
+            Ok(tree) => tree,
+            Err(fault) => return Err(fault),
+        };
+        match tree.dress_root(alloc, key) {
+            Ok(()) => Ok(tree),
+            Err(ArenaFault::Full) => unreachable!(),
+            Err(ArenaFault::Memory) => Err(TreeFault::Memory),
+        }
+    }
+
+    /// Gives a new root its marks and its class.
+    fn dress_root(&mut self, alloc: Global, key: NewKey<'_>) -> Result<(), ArenaFault>
+        requires root { self.old.tree ≡ insert empty [] (made_root key.name.now key.descriptor.now key.time) }
+        requires key { IsSmallKey (built_key key) }
+        ensures ok { OnOk result (self.new.tree ≡ insert empty [] (built_key key.entry)) }
+        ensures full { (result ≡ Err ArenaFault.Full) → BINS_LIMIT < length self.old.bins.bytes + GROWTH_BOUND }
+    {
+        build::dress(
+            alloc,
+            &mut self.arena,
+            self.root,
+            key.name,
+            key.marks,
+            key.class,
+        )
+    }
+
     /// The bins with their cells, to be read byte by byte. They are whole, and spell the tree: each allocated cell is met from the
     /// root exactly as often as the records say, and the keys that are read there are those of the map. The free lists have precisely
     /// the free cells (clause `sound`).

@@ -13,7 +13,7 @@ use Rattle.reg_tree.proofs.InsertKey.LastDescribed.{insert-twice}
 use Rattle.reg_tree.proofs.ValueChange.TreeAfterValueChange.{edited-at}
 
 -- what is at a path that a record was put at, and elsewhere
-get-here : (t : Tree) (p : Path) (r : Rec) → get (insert t p r) p ≡ Some r
+pub get-here : (t : Tree) (p : Path) (r : Rec) → get (insert t p r) p ≡ Some r
 get-here t p r = get-insert path_total t p r p ∙ ap (λ b. cond b (Some r) (get t p)) (path-self p)
 
 get-other : (t : Tree) (p q : Path) (r : Rec) → q ≢ p → get (insert t p r) q ≡ get t q

@@ -1,0 +1,10 @@
+use Rattle.std.proofs.Common.{◌∙◌, ap, length}
+use Rattle.std.specs.Prelude.{Err}
+use Rattle.reg_tree.proofs.BuildKey.BuiltRoot.{never-full}
+use Rattle.reg_tree.proofs.InsertKey.PathGrowth.{name_short}
+use Rattle.reg_tree.proofs.tree.Tree.build.Goals as goal
+
+pub unreachable-requires : goal.unreachable-requires
+unreachable-requires c =
+    never-full _ (length c.args.key.name.now) (length c.args.key.descriptor.now) (name_short c.args.key.name.now c.requires.name) c.requires.descriptor c.in-Ok.ensures.bin
+    (c.dress_root.ensures.full (c.in-Err-Full.is ∙ ap (λ f. Err f) c.in-Err-Full.field-0-is))
