@@ -101,14 +101,7 @@ fn put_class(arena: &mut Arena, cell: Option<u32>, class: &[u8])
 }
 
 /// Writes a key's key node anew, with marks and a class of a length, in bytes, in a cell, if it takes one.
-fn note_marks(
-    arena: &mut Arena,
-    key: u32,
-    name: &[u8],
-    marks: u16,
-    cell: Option<u32>,
-    size: u16,
-)
+fn note_marks(arena: &mut Arena, key: u32, name: &[u8], marks: u16, cell: Option<u32>, size: u16)
     requires here { IsSome (key_at (heap_of arena.old) key) }
     requires name { (k : KeyRecord) → key_at (heap_of arena.old) key ≡ Some k → k.name ≡ name.now }
     requires short { length name.now < 2 ^ 16 }
@@ -127,14 +120,7 @@ fn note_marks(
 }
 
 /// Gives a key marks and a class, for which a cell was carved if it takes one. It takes no memory.
-fn mark(
-    arena: &mut Arena,
-    key: u32,
-    name: &[u8],
-    marks: u16,
-    cell: Option<u32>,
-    class: &[u8],
-)
+fn mark(arena: &mut Arena, key: u32, name: &[u8], marks: u16, cell: Option<u32>, class: &[u8])
     requires here { IsMarkable arena.old.bytes key name.now cell class.now }
     requires name { length name.now < 2 ^ 16 }
     requires marks { bit_and marks 103 ≡ 0 }

@@ -1,6 +1,6 @@
 -- A key built below another: what each step needs, and the tree at the end.
-use Rattle.std.proofs.Common.{◌≡◌, ℕ, zero, suc, ◌+◌, ◌≤◌, Some, List, [], ◌∷◌, ◌++◌, inr, length, take, refl, sym, ap, ◌∙◌, subst, arith, length-append, length-take}
-use Rattle.std.specs.FinMap.{get, insert}
+use Rattle.std.proofs.Common.{◌≡◌, ℕ, zero, suc, ◌≤◌, Some, List, [], ◌∷◌, inr, length, take, refl, sym, ap, ◌∙◌, subst, arith, length-append, length-take}
+use Rattle.std.specs.FinMap.{get}
 use Rattle.std.proofs.lemmas.Option.{same_Some}
 use Rattle.reg_names.specs.Names.{folded}
 use Rattle.reg_heap.specs.Heaps.{Heap}
@@ -16,7 +16,6 @@ use Rattle.reg_records.specs.KeyNodes.{KeyRecord, key_at}
 use Rattle.reg_shape.specs.Nodes.{Node, pieces_at}
 use Rattle.reg_shape.specs.Spelt.{rec_of}
 use Rattle.reg_shape.specs.Internal.Shapes.{descriptor_in}
-use Rattle.reg_shape.specs.PathLookup.{key_offset_at}
 use Rattle.reg_shape.proofs.Refinement.RefinementAtPath.{name-written}
 use Rattle.reg_values.proofs.ValueData.DataPieces.{piece-open}
 use Rattle.reg_security.specs.Rings.{DescriptorCells}

@@ -1,11 +1,11 @@
 -- A tree as it is seen, where a key was built, or wasn't.
-use Rattle.std.proofs.Common.{◌≡◌, ℕ, ◌+◌, Some, List, [], ◌∷◌, ◌++◌, length, refl, sym, ap, subst, arith, length-append}
+use Rattle.std.proofs.Common.{◌≡◌, ℕ, [], ◌∷◌, length, refl, subst, arith, length-append}
 use Rattle.std.specs.Prelude.{Result, Ok, Err, OnOk, OnErr, IfOk}
 use Rattle.std.specs.FinMap.{insert}
 use Rattle.reg_names.specs.Names.{folded}
 use Rattle.reg_heap.specs.Paths.{Path, Tree}
 use Rattle.reg_heap.specs.Edits.{child_path}
-use Rattle.reg_arena.specs.Arena.{Bins, heap_of}
+use Rattle.reg_arena.specs.Arena.{Bins}
 use Rattle.reg_arena.specs.declared.ArenaFault.{ArenaFault}
 use Rattle.reg_security.specs.Rings.{DescriptorCells}
 use Rattle.reg_tree.specs.declared.build.NewKey.{NewKey}

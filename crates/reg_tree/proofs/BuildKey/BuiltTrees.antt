@@ -1,15 +1,14 @@
 -- A key built: made, its parent's time set back, and dressed; as a tree that has one record more.
-use Rattle.std.proofs.Common.{◌≡◌, ◌≢◌, ℕ, ◌+◌, Bool, true, false, cond, Option, Some, None, is_some, List, [], ◌∷◌, ◌++◌, length, refl, sym, ap, ◌∙◌, subst, arith, length-append}
+use Rattle.std.proofs.Common.{◌≡◌, ◌≢◌, ℕ, Bool, true, false, cond, Some, None, is_some, List, [], ◌∷◌, length, refl, sym, ap, ◌∙◌, arith, length-append}
 use Rattle.std.specs.Ordering.{eq_by_cmp}
-use Rattle.std.specs.FinMap.{get, insert, empty, get-insert, same_map}
+use Rattle.std.specs.FinMap.{get, insert, get-insert, same_map}
 use Rattle.reg_names.specs.Names.{folded}
 use Rattle.reg_heap.specs.Paths.{Path, Tree, Rec, path_cmp}
-use Rattle.reg_heap.specs.Edits.{edited, at_time, made_key, child_path, has_child, with_key, with_keys}
+use Rattle.reg_heap.specs.Edits.{edited, at_time, made_key, child_path, with_key, with_keys}
 use Rattle.reg_heap.proofs.ChildrenOfPath.{path-is}
 use Rattle.reg_shape.proofs.Refinement.SpeltTrees.{path_total, path_same}
 use Rattle.reg_tree.specs.Internal.KeyBuilding.{marked}
 use Rattle.reg_tree.proofs.InsertKey.PathGrowth.{path-self}
-use Rattle.reg_tree.proofs.InsertKey.LastDescribed.{insert-twice}
 use Rattle.reg_tree.proofs.ValueChange.TreeAfterValueChange.{edited-at}
 
 -- what is at a path that a record was put at, and elsewhere

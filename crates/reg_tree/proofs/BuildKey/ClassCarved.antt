@@ -1,10 +1,9 @@
 -- A cell carved for a class, if it takes one: the tree is as it was, and its key may get marks and the class; and the tree when it did.
-use Rattle.std.proofs.Common.{◌≡◌, ◌⊎◌, inl, inr, ℕ, ◌+◌, ◌<◌, ◌≤◌, Option, Some, None, List, [], ◌∷◌, length, refl, sym, ap, ◌∙◌, subst, arith}
+use Rattle.std.proofs.Common.{◌≡◌, inl, inr, ℕ, ◌+◌, ◌<◌, Option, Some, None, List, [], ◌∷◌, length, refl, sym, ap, ◌∙◌, subst, arith}
 use Rattle.std.specs.Option.{option_map}
 use Rattle.reg_heap.specs.declared.limits.TheConstants.{BINS_LIMIT, GROWTH_BOUND}
 use Rattle.reg_heap.specs.Paths.{Path, Tree}
 use Rattle.reg_heap.specs.Heaps.{Heap, allocated}
-use Rattle.reg_heap.specs.Kinds.{times}
 use Rattle.reg_heap.specs.Edits.{edited}
 use Rattle.reg_arena.specs.Arena.{Bins, heap_of}
 use Rattle.reg_arena.specs.NewBin.{PassesLimit}
@@ -21,12 +20,11 @@ use Rattle.reg_values.proofs.ValueFreeing.FrameChains.{times-same}
 use Rattle.reg_index.specs.Subkeys.{taken}
 use Rattle.reg_security.specs.Rings.{Finds}
 use Rattle.reg_security.proofs.TableCells.{finds-same}
-use Rattle.reg_tree.specs.TreeKeys.{tree_in}
 use Rattle.reg_tree.specs.Internal.KeyBuilding.{HasNoClass, IsCarvedForClass, IsClassCell, IsMarkable, IsMarked, MayHaveClass, marked}
 use Rattle.reg_tree.specs.Internal.TreeInvariant.{IsHere, IsChanged}
 use Rattle.reg_tree.proofs.Invariant.CellReadings.{is_some_of, key-exists, key-moved}
 use Rattle.reg_tree.proofs.Invariant.KeyOfShape as keyed
-use Rattle.reg_tree.proofs.Invariant.KeyOfTree.{spelt_is, key_is}
+use Rattle.reg_tree.proofs.Invariant.KeyOfTree.{spelt_is}
 use Rattle.reg_tree.proofs.InsertKey.SpareCellsCarved.{calm, shape-spared, tree-spared, offsets-spared}
 
 -- a bin for one class's cell is small

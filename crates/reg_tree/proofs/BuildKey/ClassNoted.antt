@@ -1,12 +1,12 @@
 -- A key whose key node was noted a time, and the length of a class of a key below it: nothing else of the tree changed.
-use Rattle.std.proofs.Common.{◌≡◌, ◌≢◌, ℕ, ◌+◌, ◌≤◌, ◌<◌, max, Some, IsSome, List, [], ◌++◌, refl, sym, ap, ◌∙◌, subst, arith}
-use Rattle.std.specs.FinMap.{get, insert}
+use Rattle.std.proofs.Common.{◌≡◌, ◌≢◌, ℕ, ◌+◌, ◌≤◌, ◌<◌, max, Some, List, [], ◌++◌, refl, sym, ap, ◌∙◌, subst, arith}
+use Rattle.std.specs.FinMap.{insert}
 use Rattle.std.proofs.lemmas.Option.{same_Some}
-use Rattle.reg_heap.specs.Paths.{Path, Tree, Rec}
-use Rattle.reg_heap.specs.Heaps.{Heap, allocated}
+use Rattle.reg_heap.specs.Paths.{Tree, Rec}
+use Rattle.reg_heap.specs.Heaps.{Heap}
 use Rattle.reg_heap.specs.Kinds.{Found, is_own, owned}
 use Rattle.reg_heap.specs.Kinds.Kind.{Key, Class}
-use Rattle.reg_heap.specs.Edits.{edited, at_time}
+use Rattle.reg_heap.specs.Edits.{at_time}
 use Rattle.reg_arena.specs.Cells.{cell_at}
 use Rattle.reg_records.specs.BigData.{if_any}
 use Rattle.reg_records.specs.KeyNodes.{KeyRecord, key_at, IsPlainKey}

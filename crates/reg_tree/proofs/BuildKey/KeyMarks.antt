@@ -1,14 +1,14 @@
 -- Marks beside the flags of a key node that are no marks; and what its cell has room for.
-use Rattle.std.proofs.Common.{◌≡◌, ◌≢◌, ℕ, ◌+◌, ◌^◌, ◌<◌, ◌≤◌, ◌==◌, Bool, true, false, Some, IsSome, List, [], ◌++◌, length, take, drop, if◌then◌else◌, bit_and, bit_or}
-use Rattle.std.proofs.Common.{lit≤, length-take, length-drop, refl, sym, ap, ◌∙◌, subst, arith}
-use Rattle.std.specs.Prelude.{Ok, unwrap_or, min, IsTrue}
+use Rattle.std.proofs.Common.{◌≡◌, ℕ, ◌+◌, ◌^◌, ◌<◌, ◌==◌, true, Some, IsSome, List, length, drop, bit_and}
+use Rattle.std.proofs.Common.{lit≤, length-take, length-drop, refl, sym, ap, ◌∙◌, arith}
+use Rattle.std.specs.Prelude.{IsTrue}
 use Rattle.reg_records.specs.declared.nk.KeyFields.{KeyFields}
 use Rattle.std.proofs.lemmas.Bool.{eqb-true}
 use Rattle.std.proofs.lemmas.Nat.{and_or_apart, and_assoc, and_comm, or_comm, and-not}
-use Rattle.reg_heap.specs.ByteWords.{half, splice}
+use Rattle.reg_heap.specs.ByteWords.{half}
 use Rattle.reg_heap.specs.Heaps.{Heap}
-use Rattle.reg_records.specs.RecordCells.{HasRoom, held}
-use Rattle.reg_records.specs.KeyNodes.{KeyRecord, nk_of, key_at, is_in_profile}
+use Rattle.reg_records.specs.RecordCells.{HasRoom}
+use Rattle.reg_records.specs.KeyNodes.{KeyRecord, key_at, is_in_profile}
 use Rattle.reg_records.proofs.KeyNodeCodec.{nk-open, key-room, key_at-open, key-profile}
 use Rattle.reg_shape.specs.Spelt.{marks_of}
 use Rattle.reg_tree.specs.Internal.KeyBuilding.{flags_with}

@@ -1,5 +1,5 @@
 -- A key that got marks and a class: what its own cells are then, and which cells stay as they are.
-use Rattle.std.proofs.Common.{◌≡◌, ◌≢◌, ℕ, zero, suc, ◌+◌, ◌<◌, ◌≤◌, ◌==◌, cond, Option, Some, None, IsSome, is_some, List, [], ◌∷◌, ◌++◌, length, take, drop, bit_and, refl, sym, ap, ◌∙◌, subst, arith, length-append}
+use Rattle.std.proofs.Common.{◌≡◌, ◌≢◌, ℕ, zero, suc, ◌+◌, ◌≤◌, cond, Option, Some, None, is_some, List, [], ◌∷◌, ◌++◌, length, take, drop, bit_and, refl, sym, ap, ◌∙◌, subst, arith, length-append}
 use Rattle.std.specs.Prelude.{unwrap_or}
 use Rattle.std.proofs.lemmas.List.{append-nil}
 use Rattle.std.proofs.Math.Seq.{take-append_seam}
@@ -10,13 +10,13 @@ use Rattle.reg_heap.specs.Heaps.{Heap, allocated}
 use Rattle.reg_heap.specs.Kinds.{Found, times, is_own, owned, shared}
 use Rattle.reg_heap.specs.Kinds.Kind.{Key, Class}
 use Rattle.reg_records.specs.BigData.{if_any, named}
-use Rattle.reg_records.specs.KeyNodes.{KeyRecord, key_at, IsPlainKey}
+use Rattle.reg_records.specs.KeyNodes.{key_at, IsPlainKey}
 use Rattle.reg_records.specs.RecordCells.{held}
 use Rattle.reg_shape.specs.Nodes.{Node, pieces_at}
 use Rattle.reg_shape.specs.Written.{Fits}
-use Rattle.reg_shape.specs.Internal.Forests.{Branch, total, total_of}
+use Rattle.reg_shape.specs.Internal.Forests.{Branch, total_of}
 use Rattle.reg_shape.specs.Internal.Shapes.{index_cells, cells_of, owns, IsSeen}
-use Rattle.reg_shape.specs.Internal.Grafts.{IsShape, branch_at}
+use Rattle.reg_shape.specs.Internal.Grafts.{IsShape}
 use Rattle.reg_shape.specs.PathLookup.{key_offset_at}
 use Rattle.reg_shape.proofs.Frame.KeyFrame.{Keeps}
 use Rattle.reg_shape.proofs.Frame.WrittenFrame.{same-held}
@@ -29,7 +29,7 @@ use Rattle.reg_tree.specs.Internal.KeyNodeChanges.{Notes}
 use Rattle.reg_tree.proofs.Invariant.CellReadings.{is_some_of, key-exists, key-moved}
 use Rattle.reg_tree.proofs.Invariant.KeyOfShape as keyed
 use Rattle.reg_tree.proofs.Invariant.OwnCells.{own-parts, key-here}
-use Rattle.reg_tree.proofs.Invariant.UntouchedCells.{not-there, times-one, written-allocated}
+use Rattle.reg_tree.proofs.Invariant.UntouchedCells.{not-there, written-allocated}
 use Rattle.reg_tree.proofs.BuildKey.KeyMarks.{form-kept}
 use Rattle.reg_tree.proofs.BuildKey.KeyRewritten.{rewritten, sees-rewritten, fits-rewritten, owned-rewritten, shared-rewritten}
 

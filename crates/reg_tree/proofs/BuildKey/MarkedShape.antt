@@ -1,14 +1,13 @@
 -- A tree of which one key got marks and a class.
-use Rattle.std.proofs.Common.{◌≡◌, ◌≢◌, ◌⊎◌, inl, inr, ℕ, ◌+◌, ◌<◌, ◌≤◌, Bool, true, false, cond, Option, Some, None, IsSome, List, [], ◌∷◌, ◌++◌, length, bit_and, refl, sym, ap, ◌∙◌, subst, arith}
+use Rattle.std.proofs.Common.{◌≡◌, inl, inr, ℕ, ◌+◌, ◌<◌, ◌≤◌, Bool, true, false, cond, Option, Some, None, IsSome, List, [], ◌∷◌, length, bit_and, refl, sym, ap, ◌∙◌, subst, arith}
 use Rattle.std.specs.Prelude.{unwrap_or, ◌^◌}
-use Rattle.std.specs.Option.{option_map, option_and_then}
+use Rattle.std.specs.Option.{option_map}
 use Rattle.std.specs.FinMap.{get, insert, get-insert, same_map}
 use Rattle.std.proofs.lemmas.List.{append-nil}
 use Rattle.std.proofs.lemmas.Option.{same_Some}
-use Rattle.reg_heap.specs.Paths.{Path, Tree, Rec}
+use Rattle.reg_heap.specs.Paths.{Path, Rec}
 use Rattle.reg_heap.specs.Heaps.{Heap, allocated}
 use Rattle.reg_heap.specs.Kinds.{times, owned, shared}
-use Rattle.reg_heap.specs.Edits.{edited}
 use Rattle.reg_arena.specs.Cells.{cell_at}
 use Rattle.reg_records.specs.KeyNodes.{KeyRecord, key_at, is_in_profile}
 use Rattle.reg_records.proofs.KeyNodeCodec.{key-profile}
@@ -18,12 +17,12 @@ use Rattle.reg_shape.specs.Nodes.{Node}
 use Rattle.reg_shape.specs.Spelt.{name_of, marks_of, rec_of}
 use Rattle.reg_shape.specs.Written.{IsWrittenSecurity, Fits}
 use Rattle.reg_shape.specs.Whole.{IsRing, count_at, descriptor_at}
-use Rattle.reg_shape.specs.Internal.Forests.{Branch, heads, total, total_of}
-use Rattle.reg_shape.specs.Internal.Shapes.{cells_of, owns, shares, IsSeen, StandsIn, depth, descriptor_in, tree_of}
-use Rattle.reg_shape.specs.Internal.Exchanges.{found_in, found_at}
+use Rattle.reg_shape.specs.Internal.Forests.{Branch, heads, total_of}
+use Rattle.reg_shape.specs.Internal.Shapes.{cells_of, owns, shares, IsSeen, StandsIn, descriptor_in, tree_of}
+use Rattle.reg_shape.specs.Internal.Exchanges.{found_at}
 use Rattle.reg_shape.specs.Internal.Grafts.{IsShape, IsRecounted, branch_at, graft_in, graft_at}
 use Rattle.reg_shape.specs.PathLookup.{key_offset_at}
-use Rattle.reg_shape.proofs.Graft.Branches.{branch-append, branch-stands, branch-total}
+use Rattle.reg_shape.proofs.Graft.Branches.{branch-append, branch-total}
 use Rattle.reg_shape.proofs.Graft.GraftInRing.{ring-recounted}
 use Rattle.reg_shape.proofs.Graft.GraftOfExchange.{recounted-same}
 use Rattle.reg_shape.proofs.Graft.GraftPaths.{rest_of, same_rest, same-rest, by_rest, grafted_branch, found-graft, found-rest}
@@ -36,10 +35,8 @@ use Rattle.reg_shape.proofs.Refinement.SpeltTrees.{path_total, path_same}
 use Rattle.reg_shape.proofs.Wholeness.ShapeRecords.{all-at, at-most-one}
 use Rattle.reg_shape.proofs.Wholeness.WholeAfterExchange.{all-members, forest-kept}
 use Rattle.reg_index.specs.Subkeys.{taken}
-use Rattle.reg_security.specs.Rings.{DescriptorCells, Finds}
 use Rattle.reg_security.proofs.TableCells.{finds-same}
-use Rattle.reg_tree.specs.TreeKeys.{tree_in}
-use Rattle.reg_tree.specs.Internal.KeyBuilding.{HasNoClass, IsClassCell, IsMarkable, IsMarked, IsNotedAbove, MayHaveClass, PutsClass, flags_with, marked, noted_marks}
+use Rattle.reg_tree.specs.Internal.KeyBuilding.{IsMarkable, IsMarked, IsNotedAbove, MayHaveClass, PutsClass, marked, noted_marks}
 use Rattle.reg_tree.specs.Internal.KeyNodeChanges.{Notes}
 use Rattle.reg_tree.specs.Internal.TreeInvariant.{TreeInvariant}
 use Rattle.reg_tree.proofs.Invariant.KeyOfShape as keyed

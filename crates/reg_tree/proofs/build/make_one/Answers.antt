@@ -1,5 +1,4 @@
-use Rattle.reg_tree.proofs.BuildKey.BuiltTrees.{built-is}
-use Rattle.std.proofs.Common.{◌∷◌, [], List, ℕ, Some, subst}
+use Rattle.std.proofs.Common.{List, ℕ, Some, subst}
 use Rattle.std.specs.Prelude.{IfOk}
 use Rattle.reg_tree.specs.Internal.KeyCreation.{IsCreated}
 use Rattle.reg_tree.proofs.BuildKey.OneName.{name-path, name-valid, few-names, some-rest}

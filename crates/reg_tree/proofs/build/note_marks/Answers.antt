@@ -1,5 +1,3 @@
-use Rattle.std.proofs.Common.{subst, sym, ap}
-use Rattle.std.specs.Prelude.{IsTrue}
 use Rattle.reg_tree.proofs.BuildKey.KeyMarks.{node-room, its-profile}
 use Rattle.reg_tree.proofs.build.note_marks.Goals as goal
 

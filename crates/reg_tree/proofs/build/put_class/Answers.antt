@@ -1,7 +1,3 @@
-use Rattle.reg_tree.proofs.BuildKey.MarkedShape.{is-marked}
-use Rattle.reg_tree.proofs.BuildKey.RowMarked.{graft-further}
-use Rattle.reg_tree.proofs.BuildKey.MarkedKey.{class_found}
-use Rattle.reg_tree.proofs.BuildKey.KeyMarks.{marks-told}
 use Rattle.reg_tree.proofs.BuildKey.ClassPut.{puts}
 use Rattle.reg_tree.proofs.build.put_class.Goals as goal
 

@@ -1,6 +1,6 @@
-use Rattle.std.proofs.Common.{lit≤, arith}
+use Rattle.std.proofs.Common.{lit≤}
 use Rattle.reg_records.proofs.KeyNodeCodec.{key-room}
-use Rattle.reg_tree.proofs.BuildKey.SubkeyClassWrite.{classed, room-classed}
+use Rattle.reg_tree.proofs.BuildKey.SubkeyClassWrite.{classed}
 use Rattle.reg_tree.proofs.Invariant.CellReadings.{key-exists}
 use Rattle.reg_tree.proofs.build.set_largest_subkey_class.Goals as goal
 
