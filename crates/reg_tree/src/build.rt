@@ -10,8 +10,7 @@ ghost use Rattle.reg_heap.specs.declared.limits.TheConstants.{BINS_LIMIT, GROWTH
 ghost use Rattle.reg_heap.specs.Edits.{at_time};
 ghost use Rattle.reg_heap.specs.Trees.{IsSmallKey};
 ghost use Rattle.reg_arena.specs.Arena.{heap_of};
-ghost use Rattle.reg_records.specs.KeyNodes.{KeyRecord, key_at, IsPlainKey};
-ghost use Rattle.reg_records.specs.RecordCells.{Rereads, held};
+ghost use Rattle.reg_records.specs.KeyNodes.{KeyRecord, key_at};
 ghost use Rattle.reg_tree.specs.BuiltKeys.{MayBuild, built_key};
 ghost use Rattle.reg_tree.specs.TreeKeys.{tree_in};
 ghost use Rattle.reg_tree.specs.Internal.DescriptorChange.{KeepsFinds};

@@ -5,8 +5,8 @@
 //! nobody speaks of a cell, save who reads the bytes by [`Tree::arena`].
 //!
 //! It stands on reg_values and reg_index for a key's lists, and on reg_shape for what a whole hive is. Its types are [`Tree`], which
-//! owns its arena; [`Node`], a key of it; [`Subkey`], one of those below it, with its place; [`Reached`], how far a path
-//! leads; [`ValueFound`] and [`TreeFault`].
+//! owns its arena; [`Node`], a key of it; [`NewKey`], one to be built; [`Subkey`], one of those below a key, with its place;
+//! [`Reached`], how far a path leads; [`ValueFound`] and [`TreeFault`].
 //!
 //! Win32 registry reference, "Structure of the Registry"; Suhanov, Windows registry file format specification.
 #![tactic(auto)]

@@ -694,7 +694,7 @@ impl Tree {
     }
 
     /// Builds a key right below another that has none of its name, as it is told: with its name, marks, class, descriptor and time,
-    /// and no values. No other key's time changes. After a fault nothing is said of the tree; it is to be dropped.
+    /// and no values. No other key's time changes. After a fault nothing is said of the tree but that it is one; it is to be dropped.
     ///
     /// `Full` only where the bins, grown by twice 1,310,720 bytes, would pass the limit of 268,435,456 bytes; `Memory`. The bins grow
     /// by at most twice 1,310,720 bytes.
