@@ -71,6 +71,7 @@ holds-still old new parent t before after same kept e =
       ring = t.holds.ring;
       shape = t.holds.shape;
       finds = subst (λ table. KeepsFinds table after) (sym same) kept (cell_at old.bytes) t.holds.ring t.holds.finds;
+      classes = t.holds.classes;
     })
 
 module _ (old mid : List ℕ) (parent node : TreeNode) (t : IsHere old parent.offset) (table : DescriptorCells) (key : NewKey)

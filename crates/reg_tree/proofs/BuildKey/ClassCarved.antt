@@ -21,7 +21,7 @@ use Rattle.reg_index.specs.Subkeys.{taken}
 use Rattle.reg_security.specs.Rings.{Finds}
 use Rattle.reg_security.proofs.TableCells.{finds-same}
 use Rattle.reg_tree.specs.Internal.KeyBuilding.{HasNoClass, IsCarvedForClass, IsClassCell, IsMarkable, IsMarked, MayHaveClass, marked}
-use Rattle.reg_tree.specs.Internal.TreeInvariant.{IsHere, IsChanged}
+use Rattle.reg_tree.specs.Internal.TreeInvariant.{HasShortClasses, IsHere, IsChanged}
 use Rattle.reg_tree.proofs.Invariant.CellReadings.{is_some_of, key-exists, key-moved}
 use Rattle.reg_tree.proofs.Invariant.KeyOfShape as keyed
 use Rattle.reg_tree.proofs.Invariant.KeyOfTree.{spelt_is}
@@ -32,7 +32,7 @@ pub near-limit : (bytes : List ℕ) (size : ℕ) → size < 65536 → PassesLimi
 near-limit bytes size small past = let l = past.least.least GROWTH_BOUND refl (omega (arith, small)) in let p = past.passes in omega (arith, l, p)
 
 module _ (old mid : Bins) (key : ℕ) (name class : List ℕ) (bare : HasNoClass (heap_of old) key name) (t : IsHere old.bytes key)
-    (above : MayHaveClass (heap_of old) t.root t.path (length class)) where
+    (above : MayHaveClass (heap_of old) t.root t.path (length class)) (short : length class < 65536) where
   abbrev h : Heap
   h = heap_of old
 
@@ -55,7 +55,7 @@ module _ (old mid : Bins) (key : ℕ) (name class : List ℕ) (bare : HasNoClass
         by None c = subst (λ (b : Bins). IsShape (heap_of b) t.root keys ring []) (sym c.0) t.holds.shape
         by (Some z) c = shape-spared h k t.root keys ring (z ∷ []) t.holds.shape c.1
 
-    tree-then : tree_of k keys ≡ tree_of h keys
+    pub tree-then : tree_of k keys ≡ tree_of h keys
     tree-then = by cell c
       where
         by : (cell : Option ℕ) → IsCarvedForClass old mid class cell → tree_of k keys ≡ tree_of h keys
@@ -131,6 +131,8 @@ module _ (old mid : Bins) (key : ℕ) (name class : List ℕ) (bare : HasNoClass
       cell_is = cell-then;
       bare = λ r e. bare r (sym (key-moved h k key (node-still t.path key t.at)) ∙ e);
       above = above-then;
+      classes = subst HasShortClasses (spelt_is old.bytes t.root t.holds ∙ sym tree-then) t.holds.classes;
+      short = short;
     }
 
     -- ---- when it got them

@@ -6,7 +6,7 @@ use Rattle.reg_heap.specs.Paths.{Tree, Rec}
 use Rattle.reg_heap.specs.Heaps.{Heap}
 use Rattle.reg_heap.specs.Kinds.{Found, is_own, owned}
 use Rattle.reg_heap.specs.Kinds.Kind.{Key, Class}
-use Rattle.reg_heap.specs.Edits.{at_time}
+use Rattle.reg_heap.specs.Edits.{at_time, edited}
 use Rattle.reg_arena.specs.Cells.{cell_at}
 use Rattle.reg_records.specs.BigData.{if_any}
 use Rattle.reg_records.specs.KeyNodes.{KeyRecord, key_at, IsPlainKey}
@@ -30,9 +30,10 @@ use Rattle.reg_security.proofs.TableCells.{finds-same}
 use Rattle.reg_tree.specs.TreeKeys.{tree_in}
 use Rattle.reg_tree.specs.Internal.KeyBuilding.{noted_class}
 use Rattle.reg_tree.specs.Internal.KeyNodeChanges.{Notes}
-use Rattle.reg_tree.specs.Internal.TreeInvariant.{TreeInvariant, IsHere, IsChanged}
+use Rattle.reg_tree.specs.Internal.TreeInvariant.{HasShortClasses, TreeInvariant, IsHere, IsChanged}
+use Rattle.reg_tree.proofs.Invariant.ShortClasses.{edited-short}
 use Rattle.reg_tree.proofs.Invariant.CellReadings.{is_some_of, key-exists}
-use Rattle.reg_tree.proofs.Invariant.KeyOfTree.{spelt_is, branch, branch_is, branch_once, offset, stands, seen, looked, own_once, shallow, rec_there, key_is}
+use Rattle.reg_tree.proofs.Invariant.KeyOfTree.{spelt_of, spelt_is, branch, branch_is, branch_once, offset, stands, seen, looked, own_once, shallow, rec_there, key_is}
 use Rattle.reg_tree.proofs.Invariant.OwnCells.{own-parts, key-here}
 use Rattle.reg_tree.proofs.Invariant.UntouchedCells.{written-allocated}
 use Rattle.reg_tree.proofs.ValueChange.TreeAfterValueChange.{edited-at}
@@ -134,25 +135,29 @@ module _ (old new : List ℕ) (key : ℕ) (t : IsHere old key) (size moment : �
   shape : IsShape j t.root now ring []
   shape = grafted h j t.root t.path keys was is ring [] ring [] (branch_is old key t) grafts (shallow old key t) t.holds.shape
 
+  abbrev rec : Rec
+  rec = rec_of n (descriptor_in h n.key.fields.security)
+
+  tree-now : tree_in new t.root ≡ edited (tree_in old t.root) t.path (at_time moment)
+  tree-now =
+      spelt_of new t.root now ring shape
+      ∙ (tree-same-below-in-ring h j t.root t.path keys was is ring [] [] (branch_is old key t) in-ring t.holds.shape refl
+      ∙ (ap (λ (tree : Tree). insert tree t.path (rec_of after (descriptor_in h after.key.fields.security))) (sym (spelt_is old t.root t.holds))
+      ∙ sym (edited-at (tree_in old t.root) t.path rec (at_time moment) (rec_there old key t))))
+
   holds-now : TreeInvariant new t.root t.table
   holds-now = record {
     keys = now;
     ring = ring;
     shape = shape;
     finds = finds-same t.table h j ring t.holds.finds (λ z s. descriptor-recounted h j was is z (in-ring.recounted z s));
+    classes = subst HasShortClasses (sym tree-now) (edited-short (tree_in old t.root) t.path (at_time moment) (λ r e. refl) t.holds.classes);
   }
 
-  abbrev rec : Rec
-  rec = rec_of n (descriptor_in h n.key.fields.security)
-
   pub retimed : IsChanged old new t.root t.table t.path (at_time moment)
-  unfolding holds-now
   retimed = record {
     holds = holds-now;
-    tree = spelt_is new t.root holds-now
-        ∙ (tree-same-below-in-ring h j t.root t.path keys was is ring [] [] (branch_is old key t) in-ring t.holds.shape refl
-        ∙ (ap (λ (tree : Tree). insert tree t.path (rec_of after (descriptor_in h after.key.fields.security))) (sym (spelt_is old t.root t.holds))
-        ∙ sym (edited-at (tree_in old t.root) t.path rec (at_time moment) (rec_there old key t))));
+    tree = tree-now;
     offsets = λ q. offsets-same h j t.root t.path keys was is ring [] ring [] (branch_is old key t) grafts t.holds.shape refl q;
   }
 

@@ -6,6 +6,7 @@ use Rattle.std.specs.FinMap.{get, insert, get-insert, same_map}
 use Rattle.std.proofs.lemmas.List.{append-nil}
 use Rattle.std.proofs.lemmas.Option.{same_Some}
 use Rattle.reg_heap.specs.Paths.{Path, Rec}
+use Rattle.reg_heap.specs.Edits.{edited}
 use Rattle.reg_heap.specs.Heaps.{Heap, allocated}
 use Rattle.reg_heap.specs.Kinds.{times, owned, shared}
 use Rattle.reg_arena.specs.Cells.{cell_at}
@@ -38,9 +39,11 @@ use Rattle.reg_index.specs.Subkeys.{taken}
 use Rattle.reg_security.proofs.TableCells.{finds-same}
 use Rattle.reg_tree.specs.Internal.KeyBuilding.{IsMarkable, IsMarked, IsNotedAbove, MayHaveClass, PutsClass, marked, noted_marks}
 use Rattle.reg_tree.specs.Internal.KeyNodeChanges.{Notes}
-use Rattle.reg_tree.specs.Internal.TreeInvariant.{TreeInvariant}
+use Rattle.reg_tree.specs.TreeKeys.{tree_in}
+use Rattle.reg_tree.specs.Internal.TreeInvariant.{HasShortClasses, TreeInvariant}
 use Rattle.reg_tree.proofs.Invariant.KeyOfShape as keyed
-use Rattle.reg_tree.proofs.Invariant.KeyOfTree.{spelt_is}
+use Rattle.reg_tree.proofs.Invariant.KeyOfTree.{spelt_of}
+use Rattle.reg_tree.proofs.Invariant.ShortClasses.{classed-short}
 use Rattle.reg_tree.proofs.InsertKey.PathGrowth.{path-self}
 use Rattle.reg_tree.proofs.ValueChange.TreeAfterValueChange.{edited-at}
 use Rattle.reg_tree.proofs.BuildKey.KeyMarks.{marks-told}
@@ -240,9 +243,6 @@ module _ (old mid new : List ℕ) (key : ℕ) (name : List ℕ) (cell : Option �
   describes-now : (z : ℕ) → 0 < times z ring → descriptor_at k z ≡ descriptor_at h z
   describes-now z l = ap (option_map (λ (s : KeySecurityRecord). s.descriptor)) (security_at-same h k z (calm-ring z l))
 
-  holds-now : TreeInvariant new root d.table
-  holds-now = record { keys = now; ring = ring; shape = shape-now; finds = finds-same d.table h k ring d.finds describes-now }
-
   -- ---- what is found
 
   named-now : name_of m.key ≡ name_of n.key
@@ -327,12 +327,20 @@ module _ (old mid new : List ℕ) (key : ℕ) (name : List ℕ) (cell : Option �
             ∙ (sym (told-found h keys (apart-stands h root keys w.stands) q)
             ∙ sym (ap (λ t. cond t (Some (marked marks class rec)) (get (tree_of h keys) q)) e)))
 
-    pub is-marked : IsMarked old new root d.table p keys marks class
-    unfolding holds-now
-    is-marked = record {
-      holds = holds-now;
-      tree = spelt_is new root holds-now
-          ∙ (same_map path_total path_same (tree_of k now) (insert (tree_of h keys) p (marked marks class rec)) tree-at
-          ∙ sym (edited-at (tree_of h keys) p rec (marked marks class) (keyed.rec_there h root keys ring (taken cell) w p key d.at)));
-      offsets = offsets-now;
+    tree-now : tree_in new root ≡ edited (tree_of h keys) p (marked marks class)
+    tree-now =
+        spelt_of new root now ring shape-now
+        ∙ (same_map path_total path_same (tree_of k now) (insert (tree_of h keys) p (marked marks class rec)) tree-at
+        ∙ sym (edited-at (tree_of h keys) p rec (marked marks class) (keyed.rec_there h root keys ring (taken cell) w p key d.at)))
+
+    holds-now : TreeInvariant new root d.table
+    holds-now = record {
+      keys = now;
+      ring = ring;
+      shape = shape-now;
+      finds = finds-same d.table h k ring d.finds describes-now;
+      classes = subst HasShortClasses (sym tree-now) (classed-short (tree_of h keys) p (marked marks class) (λ r. d.short) d.classes);
     }
+
+    pub is-marked : IsMarked old new root d.table p keys marks class
+    is-marked = record { holds = holds-now; tree = tree-now; offsets = offsets-now }

@@ -38,6 +38,14 @@ edited-short t p f same s = by (get t p) refl
     by None e = s
     by (Some r) e = let l = s.short p r e in let n = same r e in insert-short t p (f r) (omega (arith, l, n)) s
 
+-- the key at a path changed, with a short class
+pub classed-short : (t : Tree) (p : Path) (f : Rec → Rec) → ((r : Rec) → length (f r).class < 65536) → HasShortClasses t → HasShortClasses (edited t p f)
+classed-short t p f short s = by (get t p)
+  where
+    by : (o : Option Rec) → HasShortClasses (elim o as (λ _. Tree) [ None ↦ t | Some r ↦ insert t p (f r) ])
+    by None = s
+    by (Some r) = insert-short t p (f r) (short r) s
+
 one-short : (t : Tree) (p : Path) (name : List ℕ) (given : Option (List ℕ)) (moment : ℕ) →
     HasShortClasses t → HasShortClasses (with_key t p name given moment)
 one-short t p name given moment s =

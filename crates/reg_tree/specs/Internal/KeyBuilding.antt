@@ -1,5 +1,5 @@
 -- A key's marks and class, as its key node and the one above note them (Suhanov, Windows registry file format specification, "Key node").
-use Rattle.std.specs.Prelude.{◌≡◌, ◌≢◌, ◌⊎◌, ℕ, ◌≤◌, ◌+◌, max, bit_and, bit_or, unwrap_or, Option, Some, None, List, [], ◌∷◌, ◌++◌, drop, length}
+use Rattle.std.specs.Prelude.{◌≡◌, ◌≢◌, ◌⊎◌, ℕ, ◌<◌, ◌≤◌, ◌+◌, max, bit_and, bit_or, unwrap_or, Option, Some, None, List, [], ◌∷◌, ◌++◌, drop, length}
 use Rattle.reg_heap.specs.declared.limits.TheConstants.{NONE}
 use Rattle.reg_heap.specs.Heaps.{Heap, CellFrame}
 use Rattle.reg_heap.specs.Kinds.{times}
@@ -22,7 +22,7 @@ use Rattle.reg_tree.specs.declared.build.NewKey.{NewKey}
 use Rattle.reg_tree.specs.declared.node.Node.{Node as TreeNode}
 use Rattle.reg_tree.specs.BuiltKeys.{built_key}
 use Rattle.reg_tree.specs.TreeKeys.{tree_in}
-use Rattle.reg_tree.specs.Internal.TreeInvariant.{TreeInvariant}
+use Rattle.reg_tree.specs.Internal.TreeInvariant.{HasShortClasses, TreeInvariant}
 
 -- a key with other marks and another class
 abbrev pub marked : ℕ → List ℕ → Rec → Rec
@@ -72,7 +72,8 @@ MayHaveClass heap root path size = (path ≡ []) ⊎ IsNotedAbove heap root path
 abbrev pub HasNoClass : Heap → ℕ → List ℕ → Type 0
 HasNoClass heap offset name = (key : KeyRecord) → key_at heap offset ≡ Some key → (key.name ≡ name) × (key.fields.class_length ≡ 0)
 
--- a key of a tree whose keys have all their cells, and a cell for its class, where one is needed, is all that is spare
+-- a key of a tree whose keys have all their cells, and a cell for its class, where one is needed, is all that is spare; the
+-- classes are short, this one too
 pub record IsMarkable (bytes : List ℕ) (key : ℕ) (name : List ℕ) (cell : Option ℕ) (class : List ℕ) : Type 0 where
   pub root : ℕ
   pub path : Path
@@ -85,6 +86,8 @@ pub record IsMarkable (bytes : List ℕ) (key : ℕ) (name : List ℕ) (cell : O
   pub cell_is : IsClassCell (cell_at bytes) cell class
   pub bare : HasNoClass (cell_at bytes) key name
   pub above : MayHaveClass (cell_at bytes) root path (length class)
+  pub classes : HasShortClasses (tree_of (cell_at bytes) keys)
+  pub short : length class < 65536
 
 -- the key at a path has marks and a class, and nothing else of the tree changed; each key stays where it stands
 pub record IsMarked (old new : List ℕ) (root : ℕ) (table : DescriptorCells) (path : Path) (keys : Branch Node) (marks : ℕ) (class : List ℕ) : Type 0 where
