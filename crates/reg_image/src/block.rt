@@ -22,7 +22,7 @@ pub struct BaseBlock {
     pub size: u32,
 }
 
-/// A checksum is neither 0 nor 0xFFFFFFFF.
+/// A checksum as it is stored: 0 as 1, and 0xFFFFFFFF as 0xFFFFFFFE.
 fn stored(sum: u32) -> u32
     ensures { result ≡ as_checksum sum }
 {
@@ -47,7 +47,7 @@ fn head_checksum(block: &[u8]) -> u32
     stored(sum)
 }
 
-/// The checksum of a base block: the exclusive or of its first 127 words, neither 0 nor 0xFFFFFFFF.
+/// The checksum of a base block: the exclusive or of its first 127 words, of which 0 is stored as 1, and 0xFFFFFFFF as 0xFFFFFFFE.
 pub fn checksum(block: &[u8; 4096]) -> u32
     ensures { result ≡ checksum_of block.now }
 {

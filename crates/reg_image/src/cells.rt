@@ -1,6 +1,6 @@
 //! Cells of foreign bins, as the walk names them.
 
-ghost use Rattle.std.specs.Prelude.{◌≡◌, ◌+◌, ◌<◌, ◌≤◌, ℕ, List, false, length, Some, OnOk};
+ghost use Rattle.std.specs.Prelude.{◌≡◌, ◌≢◌, ◌+◌, ◌<◌, ◌≤◌, ℕ, List, false, length, Some, OnOk, IfErr};
 ghost use Rattle.reg_heap.specs.ByteWords.{word};
 ghost use Rattle.reg_heap.specs.Kinds.{Kind, is_security};
 ghost use Rattle.reg_arena.specs.Cells.{cell_at, size_in};
@@ -62,6 +62,7 @@ pub fn cell<'a>(
         table.old.states.items table.new.states.items result }
     ensures no_more { unnamed table.new.states.items ≤ unnamed table.old.states.items }
     ensures fewer { OnOk result (security ≡ false → unnamed table.new.states.items < unnamed table.old.states.items) }
+    ensures ample { IfErr result (λ fault. fault ≢ LoadFault.Memory) }
 {
     table.name(offset, security)?;
     Ok(content(bins, offset))
@@ -78,6 +79,7 @@ pub fn bytes_from<'a>(
         Follows (cell_at bins.now) path (λ held. held.now) (bytes_step (cell_at bins.now) path (named kind size offset))
         table.old.states.items table.new.states.items result }
     ensures no_more { unnamed table.new.states.items ≤ unnamed table.old.states.items }
+    ensures ample { IfErr result (λ fault. fault ≢ LoadFault.Memory) }
 {
     let held = cell(bins, table, offset, false)?;
     if held.len() < size {

@@ -2,7 +2,7 @@
 //!
 //! Suhanov, Windows registry file format specification, sections "Key node", "Key value" and "Big data".
 
-ghost use Rattle.std.specs.Prelude.{◌≡◌, ◌≤◌, ◌==◌, ◌||◌, ℕ, List, true, nat_le, MatchResult};
+ghost use Rattle.std.specs.Prelude.{◌≡◌, ◌≢◌, ◌≤◌, ◌==◌, ◌||◌, ℕ, List, true, nat_le, IfErr, MatchResult};
 ghost use Rattle.reg_heap.specs.Heaps.{Heap};
 ghost use Rattle.reg_arena.specs.Cells.{cell_at};
 ghost use Rattle.reg_records.specs.BigData.{segment_size, is_inline};
@@ -36,6 +36,7 @@ pub fn class_from<'a>(
         Follows (cell_at bins.now) path (λ held. held.now) (class_step (cell_at bins.now) path length offset)
         table.old.states.items table.new.states.items result }
     ensures no_more { unnamed table.new.states.items ≤ unnamed table.old.states.items }
+    ensures ample { IfErr result (λ fault. fault ≢ LoadFault.Memory) }
 {
     if length == 0 {
         return Ok(&[]);
@@ -54,6 +55,7 @@ pub fn single_from<'a>(
         Follows (cell_at bins.now) path (λ held. held.now) (far_step (cell_at bins.now) path true size offset)
         table.old.states.items table.new.states.items result }
     ensures no_more { unnamed table.new.states.items ≤ unnamed table.old.states.items }
+    ensures ample { IfErr result (λ fault. fault ≢ LoadFault.Memory) }
 {
     if size == 0 {
         return Ok(&[]);

@@ -1,6 +1,6 @@
 //! Lists of subkeys, as the walk names them.
 
-ghost use Rattle.std.specs.Prelude.{◌<◌, ◌≤◌, ℕ, List, OnOk};
+ghost use Rattle.std.specs.Prelude.{◌≢◌, ◌<◌, ◌≤◌, ℕ, List, OnOk, IfErr};
 ghost use Rattle.reg_arena.specs.Cells.{cell_at};
 ghost use Rattle.reg_records.specs.SubkeyLists.{list_of};
 ghost use Rattle.reg_image.specs.declared.LoadFault.{LoadFault};
@@ -18,7 +18,8 @@ use reg_records::{ListForm, read_list};
 
 /// Reads a list of subkeys, of any form, from what its cell holds.
 fn read_part<'a>(content: &'a [u8]) -> Result<ListPart<'a>, LoadFault>
-    ensures { Gives list_in (given LoadFault.Record (list_of content.now)) result }
+    ensures gives { Gives list_in (given LoadFault.Record (list_of content.now)) result }
+    ensures ample { IfErr result (λ fault. fault ≢ LoadFault.Memory) }
 {
     let Ok(head) = read_list(content) else {
         return Err(LoadFault::Record);
@@ -41,6 +42,7 @@ pub fn list_from<'a>(
         Follows (cell_at bins.now) path list_in (list_step (cell_at bins.now) path offset) table.old.states.items table.new.states.items result }
     ensures fewer { OnOk result (unnamed table.new.states.items < unnamed table.old.states.items) }
     ensures no_more { unnamed table.new.states.items ≤ unnamed table.old.states.items }
+    ensures ample { IfErr result (λ fault. fault ≢ LoadFault.Memory) }
 {
     let content = cell(bins, table, offset, false)?;
     read_part(content)
@@ -56,6 +58,7 @@ pub fn leaf_from<'a>(
         Follows (cell_at bins.now) path list_in (leaf_step (cell_at bins.now) path offset) table.old.states.items table.new.states.items result }
     ensures fewer { OnOk result (unnamed table.new.states.items < unnamed table.old.states.items) }
     ensures no_more { unnamed table.new.states.items ≤ unnamed table.old.states.items }
+    ensures ample { IfErr result (λ fault. fault ≢ LoadFault.Memory) }
 {
     let content = cell(bins, table, offset, false)?;
     let Ok(head) = read_list(content) else {

@@ -1,6 +1,6 @@
 //! Rows of offsets, as the walk names them.
 
-ghost use Rattle.std.specs.Prelude.{◌≡◌, ◌≤◌, ◌*◌, ℕ, List, IfOk, false, length};
+ghost use Rattle.std.specs.Prelude.{◌≡◌, ◌≢◌, ◌≤◌, ◌*◌, ℕ, List, IfOk, IfErr, false, length};
 ghost use Rattle.reg_heap.specs.Kinds.{Kind, is_security};
 ghost use Rattle.reg_arena.specs.Cells.{cell_at};
 ghost use Rattle.reg_records.specs.OffsetRows.{offsets_at};
@@ -24,6 +24,7 @@ pub fn row_from<'a>(
         table.old.states.items table.new.states.items result }
     ensures long { IfOk result (λ held. 4 * count ≤ length held.now) }
     ensures no_more { unnamed table.new.states.items ≤ unnamed table.old.states.items }
+    ensures ample { IfErr result (λ fault. fault ≢ LoadFault.Memory) }
 {
     let held = cell(bins, table, offset, false)?;
     if held.len() < 4 * count as usize {

@@ -1,6 +1,6 @@
 //! A security's descriptor, as the walk reads it.
 
-ghost use Rattle.std.specs.Prelude.{◌≡◌, ◌≤◌, ℕ, List};
+ghost use Rattle.std.specs.Prelude.{◌≡◌, ◌≢◌, ◌≤◌, ℕ, List, IfErr};
 ghost use Rattle.reg_arena.specs.Cells.{cell_at};
 ghost use Rattle.reg_image.specs.LoadingWalk.{descriptor_from as descriptor_step, fault_of_record};
 ghost use Rattle.reg_image.specs.Internal.ReaderOutcomes.{Follows};
@@ -9,6 +9,7 @@ ghost use Rattle.reg_image.specs.Internal.CellStates.{unnamed};
 use crate::LoadFault;
 use crate::cells::cell;
 use crate::table::CellTable;
+use reg_heap::limits::DESCRIPTOR_LIMIT;
 use reg_records::{RecordFault, read_sk};
 
 /// The fault of a record that can't be read.
@@ -33,6 +34,7 @@ pub fn descriptor_from<'a>(
         Follows (cell_at bins.now) path (λ bytes. bytes.now) (descriptor_step (cell_at bins.now) path offset)
         table.old.states.items table.new.states.items result }
     ensures no_more { unnamed table.new.states.items ≤ unnamed table.old.states.items }
+    ensures ample { IfErr result (λ fault. fault ≢ LoadFault.Memory) }
 {
     let content = cell(bins, table, offset, true)?;
     match read_sk(content) {
@@ -40,7 +42,7 @@ pub fn descriptor_from<'a>(
             if security.descriptor.len() == 0 {
                 return Err(LoadFault::Record);
             }
-            if security.descriptor.len() > 65_535 {
+            if security.descriptor.len() > DESCRIPTOR_LIMIT {
                 return Err(LoadFault::Limit);
             }
             Ok(security.descriptor)

@@ -67,6 +67,7 @@ impl CellTable {
         ensures fewer { OnOk result (security ≡ false → unnamed self.new.states.items < unnamed self.old.states.items) }
         ensures no_more { unnamed self.new.states.items ≤ unnamed self.old.states.items }
         ensures same { OnErr result (self.new ≡ self.old) }
+        ensures ample { IfErr result (λ fault. fault ≢ LoadFault.Memory) }
     {
         match self.state(offset) {
             CellState::Unallocated => Err(LoadFault::Record),
@@ -91,11 +92,12 @@ impl CellTable {
         }
     }
 
-    /// Notes that a key is no longer on the present path.
+    /// Notes that a key is no longer on the present path. Where it isn't on it, nothing changes.
     pub fn leave(&mut self, offset: u32)
         ensures left { state_in self.old.states.items offset ≡ CellState.OnPath →
             Puts self.old.states.items self.new.states.items offset CellState.Named }
         ensures same { unnamed self.new.states.items ≡ unnamed self.old.states.items }
+        ensures kept { state_in self.old.states.items offset ≢ CellState.OnPath → self.new ≡ self.old }
     {
         if self.state(offset) == CellState::OnPath {
             self.put(offset, CellState::Named);

@@ -329,3 +329,28 @@ twice-the-same = refl
 not-its-own : checksum_of (replicate 508 0 ++ (1 ∷ 2 ∷ 3 ∷ 4 ∷ replicate 3584 0)) ≡ 1
 unfolding checksum_of word
 not-its-own = refl
+
+-- of no whole pages, and above the limit
+pages_first : loaded (redone (splice 40 (little_bytes 4 268439553) first_image)) ≡ Err Bins
+unfolding image_of block_of checksum_of word half long splice loaded image_walk bins_walk key_from nk_of sk_of
+pages_first = refl
+
+-- at the limit, of which little is there
+size_largest : loaded (redone (splice 40 (little_bytes 4 268435456) first_image)) ≡ Err Short
+unfolding image_of block_of checksum_of word half long splice loaded image_walk bins_walk key_from nk_of sk_of
+size_largest = refl
+
+-- an end too early, and a bad header
+short_first : loaded (take 8191 (splice 4096 (104 ∷ 98 ∷ 105 ∷ 111 ∷ []) first_image)) ≡ Err Short
+unfolding image_of block_of checksum_of word half long splice loaded image_walk bins_walk key_from nk_of sk_of
+short_first = refl
+
+-- above 65,535, which the cell does not hold
+descriptor_record_first : loaded (splice 4236 (little_bytes 4 70000) first_image) ≡ Err Record
+unfolding image_of block_of checksum_of word half long splice loaded image_walk bins_walk key_from nk_of sk_of
+descriptor_record_first = refl
+
+-- a name past the record, and a predefined handle
+key_record_first : loaded (splice 4204 (little_bytes 2 9) (splice 4134 (little_bytes 2 108) first_image)) ≡ Err Record
+unfolding image_of block_of checksum_of word half long splice loaded image_walk bins_walk key_from nk_of sk_of
+key_record_first = refl

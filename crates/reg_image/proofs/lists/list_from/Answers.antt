@@ -25,4 +25,4 @@ returns-in_err-content-clause-follows c path =
 pub returns-clause-follows : goal.returns-clause-follows
 returns-clause-follows c path =
     cell-gives _ path (λ (x : Bor (List ℕ)). x.now) list_in _ (λ content. given Record (list_of content)) _ _ c.in_ok-content.content _
-    (c.in_ok-content.ensures.follows path (kind_met SubList) no-security) c.read_part.ensures
+    (c.in_ok-content.ensures.follows path (kind_met SubList) no-security) c.read_part.ensures.gives

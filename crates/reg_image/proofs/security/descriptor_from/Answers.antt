@@ -13,18 +13,18 @@ returns-then-security-eq0-clause-follows c path =
     descriptor-none _ path c.args.offset (λ (x : Bor (List ℕ)). x.now) _ _ c.in_ok-content.content
     (c.in_ok-content.ensures.follows path (λ _. Security) (λ _. refl)) _ c.in-Ok.ensures c.if-security-eq0.true
 
-pub returns-then-security-gt65535-clause-follows :
-    goal.returns-then-security-gt65535-clause-follows
-returns-then-security-gt65535-clause-follows c path =
+pub returns-then-security-gt-DESCRIPTOR_LIMIT-clause-follows :
+    goal.returns-then-security-gt-DESCRIPTOR_LIMIT-clause-follows
+returns-then-security-gt-DESCRIPTOR_LIMIT-clause-follows c path =
     descriptor-long _ path c.args.offset (λ (x : Bor (List ℕ)). x.now) _ _ c.in_ok-content.content
-    (c.in_ok-content.ensures.follows path (λ _. Security) (λ _. refl)) _ c.in-Ok.ensures c.if-security-gt65535.true
+    (c.in_ok-content.ensures.follows path (λ _. Security) (λ _. refl)) _ c.in-Ok.ensures c.if-security-gt-DESCRIPTOR_LIMIT.true
 
-pub returns-else-security-gt65535-clause-follows :
-    goal.returns-else-security-gt65535-clause-follows
-returns-else-security-gt65535-clause-follows c path =
+pub returns-else-security-gt-DESCRIPTOR_LIMIT-clause-follows :
+    goal.returns-else-security-gt-DESCRIPTOR_LIMIT-clause-follows
+returns-else-security-gt-DESCRIPTOR_LIMIT-clause-follows c path =
     let some : 0 < length c.in-Ok.security.descriptor.now = omega (arith, c.if-security-eq0.false) in
     descriptor-done _ path c.args.offset (λ (x : Bor (List ℕ)). x.now) _ _ c.in_ok-content.content
-    (c.in_ok-content.ensures.follows path (λ _. Security) (λ _. refl)) _ c.in-Ok.ensures some c.if-security-gt65535.false
+    (c.in_ok-content.ensures.follows path (λ _. Security) (λ _. refl)) _ c.in-Ok.ensures some c.if-security-gt-DESCRIPTOR_LIMIT.false
 
 pub returns-in-Err-clause-follows : goal.returns-in-Err-clause-follows
 returns-in-Err-clause-follows c path =
