@@ -1,18 +1,20 @@
 -- Loading at images that were worked out by hand: a fresh hive's, as it is, cut, and with one field or two changed.
-use Rattle.std.proofs.Common.{◌≡◌, ◌++◌, ◌∷◌, ℕ, List, [], replicate, length, take, Ok, Err, refl, arith, nat_le, false, ◌<◌}
+use Rattle.std.proofs.Common.{◌≡◌, ◌++◌, ◌∷◌, ℕ, List, [], replicate, length, take, Some, Ok, Err, refl, arith, nat_le, false, ◌<◌}
 use Rattle.std.proofs.lemmas.Bool.Decides.{nat_tests}
 use Rattle.std.specs.FinMap.{insert, empty}
 use Rattle.byteorder.specs.Endian.{little_bytes}
 use Rattle.reg_heap.specs.ByteWords.{half, word, long, splice}
+use Rattle.reg_arena.specs.declared.Cell.{Cell}
+use Rattle.reg_arena.specs.Cells.{BinPlace, bins_of, cells_of_bins, content_in}
 use Rattle.reg_records.specs.KeyNodes.{nk_of}
 use Rattle.reg_records.specs.KeySecurities.{sk_of}
 use Rattle.reg_shape.proofs.Computed.RowsOfHives.{fresh, root_name, descriptor}
 use Rattle.reg_image.specs.declared.LoadFault.TheVariants.{Short, Signature, Version, Checksum, Dirty, Bins, Cells, Record, Loop, NotInProfile, Limit}
 use Rattle.reg_records.specs.KeyNodes.{nk_bytes}
 use Rattle.reg_records.specs.KeySecurities.{sk_bytes}
-use Rattle.reg_image.specs.LoadingWalk.{key_from}
+use Rattle.reg_image.specs.LoadingWalk.{root_path, key_from}
 use Rattle.reg_image.specs.BaseBlock.{checksum_of, block_of}
-use Rattle.reg_image.specs.Images.{image_of, image_walk, bins_walk, loaded}
+use Rattle.reg_image.specs.Images.{image_of, image_walk, bins_walk, loaded, nothing}
 
 -- of 4096 zero bytes
 zeros-checksum : checksum_of (replicate 4096 0) ≡ 1
@@ -354,3 +356,10 @@ descriptor_record_first = refl
 key_record_first : loaded (splice 4204 (little_bytes 2 9) (splice 4134 (little_bytes 2 108) first_image)) ≡ Err Record
 unfolding image_of block_of checksum_of word half long splice loaded image_walk bins_walk key_from nk_of sk_of
 key_record_first = refl
+
+-- a root and 512 names below it, whatever the bins hold
+all_levels : (bins : List ℕ) (minor root : ℕ) (places : List BinPlace) (cells : List Cell) → bins_of bins ≡ Some places →
+    cells_of_bins bins places ≡ Some cells →
+    bins_walk bins minor root nothing ≡ key_from (content_in bins cells) minor 513 [] root_path root nothing
+unfolding bins_walk
+all_levels bins minor root places cells e f = rw (e, f) refl

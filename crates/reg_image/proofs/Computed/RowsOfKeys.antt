@@ -10,7 +10,7 @@ use Rattle.reg_records.specs.KeyNodes.{nk_of}
 use Rattle.reg_records.specs.KeyValues.{vk_of}
 use Rattle.reg_records.specs.KeySecurities.{sk_of}
 use Rattle.reg_records.specs.OffsetRows.{row_in, offsets_at}
-use Rattle.reg_records.specs.SubkeyLists.{list_of}
+use Rattle.reg_records.specs.SubkeyLists.{Entry, list_of}
 use Rattle.reg_image.specs.declared.LoadFault.TheVariants.{Record, Loop, Twice, NotInProfile, Limit}
 use Rattle.reg_image.specs.WalkSteps.{Step, Seen, give}
 use Rattle.reg_image.specs.LoadingWalk.{root_path, keys_each, lists_each, descriptor_from, key_from, values_from}
@@ -317,6 +317,20 @@ too-many go = refl
 many : keys_each (λ offset. give tt) 59999 (record { offset = 1; hint = 0 } ∷ []) nothing ≡ Ok (60000, nothing)
 many = refl
 
+abbrev two_lists : List Entry
+two_lists = record { offset = 600; hint = 0 } ∷ record { offset = 700; hint = 0 } ∷ []
+
+-- the 60,001st subkey, in the second list of an index root; and the 60,000th
+too-many-in-lists : lists_each (listed (leaf (300 ∷ [])) (leaf (400 ∷ []))) (λ offset. give tt) [] 59999 two_lists nothing
+    ≡ Err Limit
+unfolding key_from nk_of sk_of vk_of list_of row_in offsets_at half word long
+too-many-in-lists = refl
+
+many-in-lists : lists_each (listed (leaf (300 ∷ [])) (leaf (400 ∷ []))) (λ offset. give tt) [] 59998 two_lists nothing
+    ≡ Ok (tt, record { found = met Leaf 600 ∷ met Leaf 700 ∷ []; told = [] })
+unfolding key_from nk_of sk_of vk_of list_of row_in offsets_at half word long
+many-in-lists = refl
+
 -- a chain of three keys, the lowest with a class that is nowhere
 abbrev chain : Heap
 chain = store
@@ -346,7 +360,9 @@ too-many-values : values_from (store []) 5 [] 16385 1 nothing ≡ Err Limit
 unfolding key_from nk_of sk_of vk_of list_of row_in half word long
 too-many-values = refl
 
--- 257 units and a half: an odd number comes before the limit
+-- ---- which fault comes first, and what is named in which order
+
+-- 256 units and a half: an odd number comes before the limit
 odd-first : key_from (lone 0 (replicate 513 1)) 5 513 [] root_path 32 nothing ≡ Err Record
 unfolding key_from nk_of sk_of vk_of list_of row_in offsets_at half word long
 odd-first = refl
@@ -373,34 +389,52 @@ class-first : key_from (dressed 604 3 (replicate 65536 7)) 5 513 [] root_path 32
 unfolding key_from nk_of sk_of vk_of list_of row_in offsets_at half word long
 class-first = refl
 
+-- a root of a descriptor, that says a subkey in a list that is nowhere, and 16,385 values
+abbrev crowded : List ℕ → Heap
+crowded descriptor = store ((32, key 32 1 4 16385 1 500 1 0 (82 ∷ [])) ∷ (500, security descriptor) ∷ [])
+
 -- no descriptor, and too many values
-security-first : key_from (store ((32, key 32 0 1 16385 1 500 1 0 (82 ∷ [])) ∷ (500, security []) ∷ [])) 5 513 [] root_path 32 nothing ≡ Err Record
+security-first : key_from (crowded []) 5 513 [] root_path 32 nothing ≡ Err Record
 unfolding key_from nk_of sk_of vk_of list_of row_in offsets_at half word long
 security-first = refl
 
--- too many values, and a list of subkeys that is nowhere
-values-first : key_from (store ((32, key 32 1 4 16385 1 500 1 0 (82 ∷ [])) ∷ (500, security (7 ∷ [])) ∷ [])) 5 513 [] root_path 32 nothing ≡ Err Limit
+-- too many values, and no list of subkeys
+values-first : key_from (crowded (7 ∷ [])) 5 513 [] root_path 32 nothing ≡ Err Limit
 unfolding key_from nk_of sk_of vk_of list_of row_in offsets_at half word long
 values-first = refl
 
+-- a root with a class, a value of one byte in its record, and an empty list of subkeys
+abbrev furnished : Heap
+furnished = store
+    ((32, key 32 1 100 1 700 500 600 2 (82 ∷ []))
+    ∷ (100, leaf [])
+    ∷ (500, security (7 ∷ []))
+    ∷ (600, 1 ∷ 2 ∷ [])
+    ∷ (700, little_bytes 4 800)
+    ∷ (
+      800,
+      (118 ∷ 107 ∷ little_bytes 2 1) ++ (little_bytes 4 2147483649 ++ (little_bytes 4 5 ++ (little_bytes 4 3
+          ++ (little_bytes 2 1 ++ (0 ∷ 0 ∷ 118 ∷ []))))),
+    )
+    ∷ [])
+
 -- class, security, values, subkeys
-all-parts : key_from (store ((32, key 32 1 100 1 700 500 600 2 (82 ∷ [])) ∷ (100, leaf []) ∷ (500, security (7 ∷ [])) ∷ (600, 1 ∷ 2 ∷ []) ∷ (700, little_bytes 4 800)
-    ∷ (800, (118 ∷ 107 ∷ little_bytes 2 1) ++ (little_bytes 4 2147483649 ++ (little_bytes 4 5 ++ (little_bytes 4 3 ++ (little_bytes 2 1 ++ (0 ∷ 0 ∷ 118 ∷ []))))))
-    ∷ [])) 5 513 [] root_path 32 nothing ≡ Ok (
+all-parts : key_from furnished 5 513 [] root_path 32 nothing ≡ Ok (
   tt,
   record {
     found = met Key 32 ∷ met Class 600 ∷ met Security 500 ∷ met ValueList 700 ∷ met Value 800 ∷ met Leaf 100 ∷ [];
-    told = ([], record { name = 82 ∷ []; marks = 0; class = 1 ∷ 2 ∷ []; descriptor = 7 ∷ []; time = 9; values = record { name = 118 ∷ []; kind = 3; bytes = 5 ∷ [] } ∷ [] }) ∷ [];
+    told = (
+      [],
+      record {
+        name = 82 ∷ [];
+        marks = 0;
+        class = 1 ∷ 2 ∷ [];
+        descriptor = 7 ∷ [];
+        time = 9;
+        values = record { name = 118 ∷ []; kind = 3; bytes = 5 ∷ [] } ∷ [];
+      },
+    ) ∷ [];
   },
 )
 unfolding key_from nk_of sk_of vk_of list_of row_in offsets_at half word long
 all-parts = refl
-
--- the 60,001st subkey, in the second list of an index root; and the 60,000th
-too-many-in-lists : lists_each (listed (leaf (300 ∷ [])) (leaf (400 ∷ []))) (λ offset. give tt) [] 59999 (record { offset = 600; hint = 0 } ∷ record { offset = 700; hint = 0 } ∷ []) nothing ≡ Err Limit
-unfolding key_from nk_of sk_of vk_of list_of row_in offsets_at half word long
-too-many-in-lists = refl
-
-many-in-lists : lists_each (listed (leaf (300 ∷ [])) (leaf (400 ∷ []))) (λ offset. give tt) [] 59998 (record { offset = 600; hint = 0 } ∷ record { offset = 700; hint = 0 } ∷ []) nothing ≡ Ok (tt, record { found = met Leaf 600 ∷ met Leaf 700 ∷ []; told = [] })
-unfolding key_from nk_of sk_of vk_of list_of row_in offsets_at half word long
-many-in-lists = refl

@@ -280,17 +280,21 @@ list-too-short : values_from (two (66 ∷ []) (65 ∷ []) 2 200 32) 5 [] 4 600 n
 unfolding half word vk_of segment_size db_of db_in row_in offsets_at
 list-too-short = refl
 
--- 16,384 units and a half
+-- 16,384 units and a half: an odd number comes before the limit
 odd-name-first : value_from (lone 2147483648 0 0 (replicate 32769 1)) 5 [] [] 32 nothing ≡ Err Record
 unfolding half word vk_of segment_size db_of db_in row_in offsets_at
 odd-name-first = refl
 
+-- 16,345 bytes behind a record of so many segments, which is its own list
+abbrev own_list : ℕ → Heap
+own_list count = store ((32, value 16345 300 1 []) ∷ (300, (100 ∷ 98 ∷ little_bytes 2 count) ++ little_bytes 4 300) ∷ [])
+
 -- too few segments, and a list that was named before
-too-few-before-list : value_from (store ((32, value 16345 300 1 []) ∷ (300, (100 ∷ 98 ∷ little_bytes 2 1) ++ little_bytes 4 300) ∷ [])) 5 [] [] 32 nothing ≡ Err Record
+too-few-before-list : value_from (own_list 1) 5 [] [] 32 nothing ≡ Err Record
 unfolding half word vk_of segment_size db_of db_in row_in offsets_at
 too-few-before-list = refl
 
--- enough, and the same list
-list-before-row : value_from (store ((32, value 16345 300 1 []) ∷ (300, (100 ∷ 98 ∷ little_bytes 2 2) ++ little_bytes 4 300) ∷ [])) 5 [] [] 32 nothing ≡ Err Twice
+-- enough segments, and the same list
+list-before-row : value_from (own_list 2) 5 [] [] 32 nothing ≡ Err Twice
 unfolding half word vk_of segment_size db_of db_in row_in offsets_at
 list-before-row = refl
