@@ -90,32 +90,46 @@ fn count_in(rt: &impl Print, alloc: Global, hive: &mut Hive) -> Result<()> {
     Ok(())
 }
 
-/// Prints the times of making subkeys at random and closing them, of asking for all of them, and of deleting all in one call, by their
-/// number, and what the cells are before.
+/// Prints the times of making subkeys, rising and at random, and closing them, of asking for all of them, and of deleting all in one
+/// call, by their number, and what the cells are before. Rising leaves the most lists, of which each question reads one word.
 pub fn measure(rt: &(impl Print + Clock), alloc: Global) -> Result<()> {
     for keys in SIZES {
-        println!(rt; "subkey calls, {keys} keys:")?;
-        measure_at(rt, alloc, keys)?;
+        for order in [Order::Rising, Order::Random] {
+            println!(rt; "subkey calls, {keys} keys, {}:", order.name())?;
+            measure_at(rt, alloc, keys, order)?;
+        }
     }
     Ok(())
 }
 
-fn measure_at(rt: &(impl Print + Clock), alloc: Global, keys: u32) -> Result<()> {
+fn measure_at(rt: &(impl Print + Clock), alloc: Global, keys: u32, order: Order) -> Result<()> {
     let mut hive = new_hive(alloc)?;
-    measure_in(rt, alloc, &mut hive, keys)
+    measure_in(rt, alloc, &mut hive, keys, order)
 }
 
-fn measure_in(rt: &(impl Print + Clock), alloc: Global, hive: &mut Hive, keys: u32) -> Result<()> {
+fn measure_in(
+    rt: &(impl Print + Clock),
+    alloc: Global,
+    hive: &mut Hive,
+    keys: u32,
+    order: Order,
+) -> Result<()> {
     open_root(alloc, hive)?;
-    time_makes(rt, alloc, hive, keys)?;
+    time_makes(rt, alloc, hive, keys, order)?;
     print_cells(rt, alloc, hive.arena())?;
     time_asks(rt, alloc, hive, keys)?;
     time_delete(rt, alloc, hive)
 }
 
 // The calls are made ready before the clock starts, here and below.
-fn time_makes(rt: &(impl Print + Clock), alloc: Global, hive: &mut Hive, keys: u32) -> Result<()> {
-    let names = Order::Random.names(alloc, keys)?;
+fn time_makes(
+    rt: &(impl Print + Clock),
+    alloc: Global,
+    hive: &mut Hive,
+    keys: u32,
+    order: Order,
+) -> Result<()> {
+    let names = order.names(alloc, keys)?;
     let calls = makes(alloc, names.as_slice())?;
     let start = Instant::now(rt)?;
     apply_all(hive, calls)?;

@@ -29,8 +29,11 @@ const BATCH: usize = 1_000;
 /// How many are looked for in all.
 const CALLS: u32 = 60_000;
 
-/// The seed by which numbers are put in an order that is random.
+/// The seed by which keys are made in an order that is random.
 const SEED: u64 = 42;
+
+/// The seed by which they are looked for in another such order.
+const SOUGHT_SEED: u64 = 43;
 
 /// In which order of their names keys are made.
 #[derive(Clone, Copy)]
@@ -47,7 +50,8 @@ pub enum Order {
 const ORDERS: [Order; 3] = [Order::Rising, Order::Falling, Order::Random];
 
 impl Order {
-    fn name(self) -> &'static str {
+    /// What it is called.
+    pub fn name(self) -> &'static str {
         match self {
             Order::Rising => "rising",
             Order::Falling => "falling",
@@ -64,7 +68,7 @@ impl Order {
                 numbers.reverse();
                 Ok(numbers)
             }
-            Order::Random => in_disorder(alloc, &mut numbers),
+            Order::Random => in_disorder(alloc, &mut numbers, SEED),
         }
     }
 
@@ -74,10 +78,10 @@ impl Order {
     }
 }
 
-/// All of these numbers in an order that is random.
-fn in_disorder(alloc: Global, numbers: &mut Vec<u32>) -> Result<Vec<u32>> {
+/// All of these numbers in an order that is random, the same by each seed.
+fn in_disorder(alloc: Global, numbers: &mut Vec<u32>, seed: u64) -> Result<Vec<u32>> {
     let count = numbers.len();
-    Ok(take_at_random(alloc, numbers, count, SEED)?)
+    Ok(take_at_random(alloc, numbers, count, seed)?)
 }
 
 /// The names of numbers, which have the order of these.
@@ -160,7 +164,8 @@ fn filled(alloc: Global, keys: u32) -> Result<Tree> {
 /// The names to look for among so many subkeys, some of them several times where there are fewer than calls.
 fn sought(alloc: Global, keys: u32) -> Result<Vec<Bytes>> {
     let mut numbers = numbers_in_turn(alloc, keys, CALLS)?;
-    names(alloc, in_disorder(alloc, &mut numbers)?.as_slice())
+    let numbers = in_disorder(alloc, &mut numbers, SOUGHT_SEED)?;
+    names(alloc, numbers.as_slice())
 }
 
 fn compare_at(rt: &(impl Print + Clock), alloc: Global) -> Result<()> {

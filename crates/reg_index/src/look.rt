@@ -139,7 +139,8 @@ pub fn at_place(arena: &Arena, list: SubkeysIndex, place: Place) -> u32
     ensures { (entries : List Entry) → AreSubkeys (heap_of arena.now) list.count list.offset entries →
         (get_or entries (flat (heap_of arena.now) list.count list.offset place) (record { offset = 0; hint = 0 })).offset ≡ result }
 {
-    key_in(arena, leaf_at(arena, list.offset, place.list), place.index)
+    let leaf = leaf_at(arena, list.offset, place.list);
+    key_in(arena, leaf, place.index)
 }
 
 /// The place of the subkey behind the one at a place, in the order of folded names, if there is one. It reads two numbers: how many

@@ -82,18 +82,26 @@ pub fn unmake(tree: &mut Tree, path: &[u8], moment: u64) -> &'static str {
     }
 }
 
-/// Tells the names of the keys right below a key, in order.
-pub fn tell_names(alloc: Global, tree: &Tree, path: &[u8], text: &mut String) -> Result<(), Fail> {
-    let Some(node) = at(tree, path) else {
-        return Ok(());
-    };
-    for index in 0..tree.subkeys(node) {
-        if let Some(child) = tree.subkey(node, index) {
-            let name = String::from_utf8_lossy(alloc, tree.name(child))?;
-            write!(text, "{} ", name.as_str())?;
-        }
+/// Tells the names of the keys right below a key, from the first one to the next.
+fn tell_subkeys(alloc: Global, tree: &Tree, node: Node, text: &mut String) -> Result<(), Fail>
+    requires { IsThere tree.now node }
+{
+    let mut next = tree.first_subkey(node);
+    for _index in 0..tree.subkeys(node) {
+        let Some(subkey) = next else { break };
+        let name = String::from_utf8_lossy(alloc, tree.name(subkey.node))?;
+        write!(text, "{} ", name.as_str())?;
+        next = tree.next_subkey(node, subkey);
     }
     Ok(())
+}
+
+/// Tells the names of the keys right below a key, in order.
+pub fn tell_names(alloc: Global, tree: &Tree, path: &[u8], text: &mut String) -> Result<(), Fail> {
+    match at(tree, path) {
+        Some(node) => tell_subkeys(alloc, tree, node, text),
+        None => Ok(()),
+    }
 }
 
 /// How many cells are allocated.

@@ -16,7 +16,7 @@ fn begun(alloc: Global) -> Result<String, Fail> {
     Ok(table)
 }
 
-// the lists have the keys below k250 and the others
+// the lists have the keys below k250 and the others; `info` tells a longest name of the first, and then one of the second
 const TOLD: &str = "\
 enumkey 0 0 255 -> 0 =k000 time 0
 enumkey 0 249 255 -> 0 =k249 time 0
@@ -32,6 +32,7 @@ open 0 =K250 983103 -> 0 handle 503
 open 0 =k501 983103 -> 2
 at 9
 create 0 =k2495 983103 -> 0 handle 504 disposition 1
+info 0 -> 0 subkeys 502 longest 5 values 0 longest 0 largest 0 security 20 time 9
 enumkey 0 249 255 -> 0 =k249 time 0
 enumkey 0 250 255 -> 0 =k2495 time 9
 enumkey 0 251 255 -> 0 =k250 time 0
@@ -49,6 +50,8 @@ enumkey 0 500 255 -> 259
 deltree 0 =k500 -> 0
 enumkey 0 499 255 -> 259
 enumkey 0 498 255 -> 0 =k499 time 0
+create 0 =k499Last 983103 -> 0 handle 508 disposition 1
+info 0 -> 0 subkeys 500 longest 8 values 0 longest 0 largest 0 security 20 time 9
 deltree 0 = -> 0
 enumkey 0 0 255 -> 259
 query 2 = - -> 1018
