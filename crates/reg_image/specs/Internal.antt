@@ -7,3 +7,5 @@ pub mod NamedRecords
 pub mod NamesMet
 pub mod CellScans
 pub mod SegmentSteps
+pub mod Frames
+pub mod Stacks

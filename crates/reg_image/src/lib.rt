@@ -14,10 +14,12 @@
 //! Suhanov, Windows registry file format specification, sections "Format of primary files", "Base block", "Hive bin" and "Cell".
 #![tactic(auto)]
 
+mod begin;
 mod big_data;
 mod block;
 mod cells;
 mod data;
+mod frames;
 mod key_parts;
 mod keys;
 pub mod laws;
@@ -31,6 +33,7 @@ mod security;
 mod table;
 mod value_lists;
 mod values;
+mod walk;
 
 pub use block::checksum;
 use thiserror::Error;
