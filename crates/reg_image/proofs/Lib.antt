@@ -1,4 +1,5 @@
 pub mod Computed
 pub mod NamedCells
 pub mod Readers
+pub mod KeyStacks
 pub mod CleanWalks

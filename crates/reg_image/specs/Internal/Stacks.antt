@@ -1,5 +1,5 @@
 -- The code's keys on the present path, as frames of what is left.
-use Rattle.std.specs.Prelude.{◌≡◌, ℕ, suc, ◌+◌, Result, Ok, Err, List, [], ◌∷◌, length, ⊤}
+use Rattle.std.specs.Prelude.{◌≡◌, ℕ, suc, ◌+◌, Result, Ok, Err, List, [], ◌∷◌, ⊤}
 use Rattle.reg_names.specs.declared.TheConstants.{PATH_LIMIT}
 use Rattle.reg_heap.specs.Heaps.{Heap}
 use Rattle.reg_heap.specs.Paths.{Path}
@@ -31,20 +31,20 @@ pub record Shows (keys : Keys) (key : KeyFrame) (f : Frame) : Type 0 where
 abbrev pub AreShown : Keys → List KeyFrame → List Frame → Type 0
 AreShown keys [] [] = ⊤
 AreShown keys [] (f ∷ frames) = ⊥
-AreShown keys (key ∷ below) [] = ⊥
-AreShown keys (key ∷ below) (f ∷ frames) = Shows keys key f × (f.path ≡ key.offset ∷ path_of frames) × AreShown keys below frames
+AreShown keys (key ∷ above) [] = ⊥
+AreShown keys (key ∷ above) (f ∷ frames) = Shows keys key f × (f.path ≡ key.offset ∷ path_of frames) × AreShown keys above frames
 
--- the lowest key has so many names above it that, with the levels of keys that may come below it, they are 512
+-- each key, the lowest first, has so many names above it that, with the levels of keys that may come below it, they are 512; there is one
+-- level more below the next one
 abbrev pub IsDeep : ℕ → List KeyFrame → Type 0
 IsDeep levels [] = ⊤
-IsDeep levels (key ∷ below) = levels + key.node.depth ≡ PATH_LIMIT
+IsDeep levels (key ∷ above) = (levels + key.node.depth ≡ PATH_LIMIT) × IsDeep (suc levels) above
 
 -- what was read so far, and the rest of the walk, are the whole walk; the tree has the keys that were told
 pub record IsWalking (heap : Heap) (minor : ℕ) (whole : Result (Unit {0} × Seen) LoadFault) (stack : List KeyFrame) (states : List CellState) (keys : Keys) : Type 0 where
   pub seen : Seen
   pub frames : List Frame
   pub levels : ℕ
-  pub deep : levels + length stack ≡ suc PATH_LIMIT
   pub shown : AreShown keys stack frames
   pub depths : IsDeep levels stack
   pub table : IsTable heap seen.found (path_of frames) states

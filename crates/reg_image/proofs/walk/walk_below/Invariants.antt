@@ -1,0 +1,15 @@
+use Rattle.std.proofs.Common.{◌+◌, ◌*◌, suc, length, reverse, []}
+use Rattle.reg_names.specs.declared.TheConstants.{PATH_LIMIT}
+use Rattle.reg_arena.specs.Cells.{cell_at}
+use Rattle.reg_image.specs.LoadingWalk.{key_from, root_path}
+use Rattle.reg_image.specs.Images.{nothing}
+use Rattle.reg_image.specs.Internal.CellStates.{unnamed}
+use Rattle.reg_image.specs.Internal.Stacks.{IsWalking}
+use Rattle.reg_image.proofs.walk.walk_below.Given as goal
+
+abbrev pub invariant-loop-key : goal.invariant-loop-key
+invariant-loop-key l =
+    IsWalking (cell_at l.bins) l.minor (key_from (cell_at l.bins) l.minor (suc PATH_LIMIT) [] root_path l.root.offset nothing) (reverse l.keys.items) l.table.states.items l.tree
+
+abbrev pub decreases-loop-key : goal.decreases-loop-key
+decreases-loop-key l = 2 * unnamed l.table.states.items + length l.keys.items
