@@ -51,7 +51,8 @@ fn step<'a>(
     ensures err { (whole : Result (Unit {0} × Seen) LoadFault) →
         IsWalking (cell_at bins.now) minor whole (lowest.entry ∷ reverse keys.old.items) table.old.states.items tree.old →
         IfErr result (λ fault. FailsAs fault whole) }
-    ensures less { OnOk result (2 * unnamed table.new.states.items + length keys.new.items ≤ 2 * unnamed table.old.states.items + length keys.old.items) }
+    ensures less { OnOk result
+        (2 * unnamed table.new.states.items + length keys.new.items ≤ 2 * unnamed table.old.states.items + length keys.old.items) }
 {
     let mut key = lowest;
     if let Some(offset) = key.leaf.take() {
@@ -80,10 +81,13 @@ fn walk_below<'a>(
     tree: &mut Tree,
     root: KeyFrame<'a>,
 ) -> Result<(), LoadFault>
-    requires begun { IsBegun (cell_at bins.now) minor (suc PATH_LIMIT) [] root_path root.offset nothing table.old.states.items tree.old root }
-    ensures ok { OnOk result ((seen : Seen) × (key_from (cell_at bins.now) minor (suc PATH_LIMIT) [] root_path root.entry.offset nothing ≡ Ok (tt, seen))
+    requires begun { IsBegun (cell_at bins.now) minor (suc PATH_LIMIT) [] root_path root.offset nothing
+        table.old.states.items tree.old root }
+    ensures ok { OnOk result ((seen : Seen)
+        × (key_from (cell_at bins.now) minor (suc PATH_LIMIT) [] root_path root.entry.offset nothing ≡ Ok (tt, seen))
         × (tree.new.tree ≡ tree_told seen)) }
-    ensures err { IfErr result (λ fault. FailsAs fault (key_from (cell_at bins.now) minor (suc PATH_LIMIT) [] root_path root.entry.offset nothing)) }
+    ensures err { IfErr result
+        (λ fault. FailsAs fault (key_from (cell_at bins.now) minor (suc PATH_LIMIT) [] root_path root.entry.offset nothing)) }
 {
     let mut keys = Vec::new(alloc);
     push(&mut keys, root)?;
@@ -104,7 +108,8 @@ pub fn walk(
     root: u32,
 ) -> Result<Tree, LoadFault>
     requires { IsTable (cell_at bins.now) [] [] table.old.states.items }
-    ensures ok { IfOk result (λ tree. (seen : Seen) × (key_from (cell_at bins.now) minor (suc PATH_LIMIT) [] root_path root nothing ≡ Ok (tt, seen))
+    ensures ok { IfOk result (λ tree. (seen : Seen)
+        × (key_from (cell_at bins.now) minor (suc PATH_LIMIT) [] root_path root nothing ≡ Ok (tt, seen))
         × (tree.tree ≡ tree_told seen)) }
     ensures err { IfErr result (λ fault. FailsAs fault (key_from (cell_at bins.now) minor (suc PATH_LIMIT) [] root_path root nothing)) }
 {

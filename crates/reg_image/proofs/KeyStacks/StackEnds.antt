@@ -17,7 +17,8 @@ pushed P old new x (Err f) e p = tt
 -- and another one behind it
 pub pushed-twice : {X T E : Type 0} (P : List X → Type 0) (old mid new : List X) (x y : X) (r : Result T E) → mid ≡ old ++ x ∷ [] →
     OnOk r (new ≡ mid ++ y ∷ []) → P (y ∷ x ∷ reverse old) → OnOk r (P (reverse new))
-pushed-twice P old mid new x y r d e p = pushed P mid new y r e (subst (λ zs. P (y ∷ zs)) (sym (ap reverse d ∙ reverse-append old (x ∷ []))) p)
+pushed-twice P old mid new x y r d e p =
+    pushed P mid new y r e (subst (λ zs. P (y ∷ zs)) (sym (ap reverse d ∙ reverse-append old (x ∷ []))) p)
 
 -- the last one is taken
 pub popped : {X : Type 0} (P : List X → Type 0) (old new : List X) (x : X) → old ≡ new ++ x ∷ [] → P (reverse old) → P (x ∷ reverse new)

@@ -41,7 +41,8 @@ IsDeep levels [] = ⊤
 IsDeep levels (key ∷ above) = (levels + key.node.depth ≡ PATH_LIMIT) × IsDeep (suc levels) above
 
 -- what was read so far, and the rest of the walk, are the whole walk; the tree has the keys that were told
-pub record IsWalking (heap : Heap) (minor : ℕ) (whole : Result (Unit {0} × Seen) LoadFault) (stack : List KeyFrame) (states : List CellState) (keys : Keys) : Type 0 where
+pub record IsWalking (heap : Heap) (minor : ℕ) (whole : Result (Unit {0} × Seen) LoadFault) (stack : List KeyFrame)
+    (states : List CellState) (keys : Keys) : Type 0 where
   pub seen : Seen
   pub frames : List Frame
   pub levels : ℕ
@@ -59,7 +60,8 @@ FailsAs fault whole = whole ≡ Err fault
 
 -- a key was begun: its record, class, security and values were read, and it was built; then the list of its subkeys was read. What is
 -- left of it are its subkeys
-pub record IsBegun (heap : Heap) (minor levels : ℕ) (path : List ℕ) (here : List ℕ → Path) (offset : ℕ) (seen : Seen) (states : List CellState) (keys : Keys) (key : KeyFrame) : Type 0 where
+pub record IsBegun (heap : Heap) (minor levels : ℕ) (path : List ℕ) (here : List ℕ → Path) (offset : ℕ) (seen : Seen)
+    (states : List CellState) (keys : Keys) (key : KeyFrame) : Type 0 where
   pub lower : ℕ
   pub levels_are : levels ≡ suc lower
   pub after : Seen

@@ -14,7 +14,7 @@ loop-key-init c =
     let bins = c.args.bins.now in
     let whole = key_from (cell_at bins) c.args.minor (suc PATH_LIMIT) [] root_path c.args.root.offset nothing in
     let items : reverse c.push.new.keys.items ≡ c.args.root ∷ [] =
-        ap reverse (c.in_ok-push.ensures.ok ∙ ap (λ (ks : List KeyFrame). ks ++ c.args.root ∷ []) c.new-keys.ensures.items) in
+    ap reverse (c.in_ok-push.ensures.ok ∙ ap (λ (ks : List KeyFrame). ks ++ c.args.root ∷ []) c.new-keys.ensures.items) in
     subst (λ (ks : List KeyFrame). IsWalking (cell_at bins) c.args.minor whole ks c.args.table.now.states.items c.args.tree.now) (sym items)
     (walking-first (cell_at bins) c.args.minor _ c.args.root.offset nothing _ _ c.args.root c.requires.begun)
 

@@ -9,7 +9,9 @@ use Rattle.reg_image.proofs.walk.walk_below.Given as goal
 
 abbrev pub invariant-loop-key : goal.invariant-loop-key
 invariant-loop-key l =
-    IsWalking (cell_at l.bins) l.minor (key_from (cell_at l.bins) l.minor (suc PATH_LIMIT) [] root_path l.root.offset nothing) (reverse l.keys.items) l.table.states.items l.tree
+    IsWalking (cell_at l.bins) l.minor
+    (key_from (cell_at l.bins) l.minor (suc PATH_LIMIT) [] root_path l.root.offset nothing)
+    (reverse l.keys.items) l.table.states.items l.tree
 
 abbrev pub decreases-loop-key : goal.decreases-loop-key
 decreases-loop-key l = 2 * unnamed l.table.states.items + length l.keys.items
