@@ -8,7 +8,7 @@ use Rattle.reg_image.specs.declared.LoadFault.{LoadFault}
 use Rattle.reg_image.specs.declared.LoadFault.TheVariants.{Limit, Memory}
 use Rattle.reg_image.specs.declared.table.CellState.{CellState}
 use Rattle.reg_image.specs.declared.frames.KeyFrame.{KeyFrame}
-use Rattle.reg_image.specs.WalkSteps.{Seen, Step}
+use Rattle.reg_image.specs.WalkSteps.{Seen}
 use Rattle.reg_image.specs.LoadingWalk.{key_from}
 use Rattle.reg_image.specs.Images.{tree_told}
 use Rattle.reg_image.specs.Internal.CellStates.{IsTable}
