@@ -2,4 +2,5 @@ pub mod Computed
 pub mod NamedCells
 pub mod Readers
 pub mod KeyStacks
+pub mod Devices
 pub mod CleanWalks

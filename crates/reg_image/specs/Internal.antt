@@ -9,3 +9,4 @@ pub mod CellScans
 pub mod SegmentSteps
 pub mod Frames
 pub mod Stacks
+pub mod InputParts

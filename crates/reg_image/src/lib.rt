@@ -20,11 +20,13 @@ mod block;
 mod cells;
 mod data;
 mod frames;
+mod input;
 mod key_parts;
 mod keys;
 pub mod laws;
 mod list_part;
 mod lists;
+mod loading;
 mod met_names;
 mod names;
 mod rows;
@@ -36,6 +38,7 @@ mod values;
 mod walk;
 
 pub use block::checksum;
+pub use loading::load;
 use thiserror::Error;
 
 /// Why bytes are no image that is loaded: the first test that fails.

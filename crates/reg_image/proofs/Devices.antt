@@ -1,0 +1,7 @@
+-- Images from a reader, and to a writer.
+pub mod InputPieces
+pub mod TreesOfBins
+pub mod FaultsOfSteps
+pub mod FaultsOfWalks
+pub mod BlockTests
+pub mod LoadedImages

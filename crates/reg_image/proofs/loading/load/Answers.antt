@@ -1,0 +1,69 @@
+use Rattle.std.proofs.Common.{rules, ◌≡◌, ℕ, ◌≤◌, ◌%◌, ◌++◌, Ok, List, length, sym, ap, ◌∙◌, subst}
+use Rattle.std.proofs.KnownBytes.{Consumes-trans}
+use Rattle.reg_tree.specs.TreeKeys.{Keys}
+use Rattle.reg_image.specs.Images.{nothing, tree_in, bins_walk}
+use Rattle.reg_image.specs.Internal.Stacks.{FailsAs}
+use Rattle.reg_image.proofs.Devices.InputPieces.{exit-with}
+use Rattle.reg_image.proofs.Devices.BlockTests.{block-good}
+use Rattle.reg_image.proofs.Devices.LoadedImages.{refused-before-block, refused-at-block, refused-before-bins, refused-at-bins, whole-loaded, whole-size}
+use Rattle.reg_image.proofs.loading.load.Goals as goal
+
+pub returns-in_err-fill-clause-err : goal.returns-in_err-fill-clause-err
+returns-in_err-fill-clause-err g c =
+    exit-with _ c.from_residual.result _ c.from_residual.ensures.1
+    (let p = c.in_err-fill.ensures.err in let r = refused-before-block _ p.0 _ p.2 in (p.0, p.1, r.0, r.1))
+
+pub returns-in_err-block-clause-err : goal.returns-in_err-block-clause-err
+returns-in_err-block-clause-err g c =
+    exit-with _ c.from_residual-in_err-block.result _ c.from_residual-in_err-block.ensures.1
+    (let r = refused-at-block c.fill.new.buffer (search rules) _ _ (c.in_err-block.ensures nothing) in (c.fill.new.buffer, c.in_ok-fill.ensures.ok, r.0, r.1))
+
+pub returns-in_err-bins-clause-err : goal.returns-in_err-bins-clause-err
+returns-in_err-bins-clause-err g c =
+    let block = c.in_ok-block.ensures nothing in
+    let good = block-good _ _ _ _ block in
+    exit-with _ c.from_residual-in_err-bins.result _ c.from_residual-in_err-bins.ensures.1
+    (let p = c.in_err-bins.ensures.err in
+    let r = refused-before-bins c.fill.new.buffer (search rules) c.in_ok-block.block block p.0 _ _ good.small p.2 in
+    (c.fill.new.buffer ++ p.0, Consumes-trans _ _ _ c.fill.new.buffer p.0 c.in_ok-fill.ensures.ok p.1, r.0, r.1))
+
+pub build_tree-requires-clause-pages : goal.build_tree-requires-clause-pages
+build_tree-requires-clause-pages g c =
+    let good = block-good _ _ _ _ (c.in_ok-block.ensures nothing) in
+    ap (λ n. n % 4096) (ap length c.as_slice.ensures.value ∙ c.in_ok-bins.ensures.ok.1) ∙ good.pages
+
+pub build_tree-requires-clause-small : goal.build_tree-requires-clause-small
+build_tree-requires-clause-small g c =
+    let good = block-good _ _ _ _ (c.in_ok-block.ensures nothing) in
+    subst (λ n. n ≤ 268435456) (sym (ap length c.as_slice.ensures.value ∙ c.in_ok-bins.ensures.ok.1)) good.small
+
+pub returns-in_err-tree-clause-err : goal.returns-in_err-tree-clause-err
+returns-in_err-tree-clause-err g c =
+    let block = c.in_ok-block.block in
+    let passed = c.in_ok-block.ensures nothing in
+    let bins = c.in_ok-bins.bins.items in
+    let good = block-good _ _ _ _ passed in
+    exit-with _ c.from_residual-in_err-tree.result _ c.from_residual-in_err-tree.ensures.1
+    (let w = subst (λ (xs : List ℕ). FailsAs c.in_err-tree.field-0.0 (bins_walk xs block.minor block.root nothing)) c.as_slice.ensures.value
+    c.in_err-tree.ensures.err in
+    let r = refused-at-bins c.fill.new.buffer (search rules) block passed bins _ _ good.small c.in_ok-bins.ensures.ok.1 w in
+    (c.fill.new.buffer ++ bins, Consumes-trans _ _ _ c.fill.new.buffer bins c.in_ok-fill.ensures.ok c.in_ok-bins.ensures.ok.0, r.0, r.1))
+
+pub returns-in-Ok-clause-ok : goal.returns-in-Ok-clause-ok
+returns-in-Ok-clause-ok g c =
+    let block = c.in_ok-block.block in
+    let passed = c.in_ok-block.ensures nothing in
+    let bins = c.in_ok-bins.bins.items in
+    let tree = c.in_ok-tree.tree in
+    let w = subst (λ (xs : List ℕ). tree_in (bins_walk xs block.minor block.root nothing) ≡ Ok tree.tree) c.as_slice.ensures.value c.in_ok-tree.ensures.ok in
+    let made = c.in-Ok.ensures in (
+      c.fill.new.buffer ++ bins,
+      Consumes-trans _ _ _ c.fill.new.buffer bins c.in_ok-fill.ensures.ok c.in_ok-bins.ensures.ok.0,
+      record {
+        tree = whole-loaded c.fill.new.buffer (search rules) block passed bins tree.tree c.in_ok-bins.ensures.ok.1 w ∙ ap Ok (sym made.origin);
+        size = whole-size c.fill.new.buffer (search rules) block passed bins c.in_ok-bins.ensures.ok.1;
+        journal = made.journal;
+        keys = ap (λ (keys : Keys). keys.tree) made.keys ∙ sym made.origin;
+        hive = made.hive;
+      },
+    )

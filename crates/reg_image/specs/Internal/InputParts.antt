@@ -1,0 +1,16 @@
+-- What was read of a part of an image.
+use Rattle.std.specs.Prelude.{ℕ, ◌<◌, ◌≤◌, Option, List, length}
+use Rattle.std.specs.Io.KnownBytes.{IsAtEnd}
+use Rattle.reg_image.specs.declared.LoadFault.{LoadFault}
+use Rattle.reg_image.specs.declared.LoadFault.TheVariants.{Read, Short, Memory}
+
+-- a read failed before so many bytes were read, or the reader came to its end
+abbrev pub IsCut : LoadFault → ℕ → List ℕ → Option (List ℕ) → Type 0
+IsCut Read size piece left = length piece < size
+IsCut Short size piece left = (length piece < size) × IsAtEnd left
+IsCut fault size piece left = ⊥
+
+-- the same, or there was no memory for what comes
+abbrev pub IsGivenUp : LoadFault → ℕ → List ℕ → Option (List ℕ) → Type 0
+IsGivenUp Memory size piece left = length piece ≤ size
+IsGivenUp fault size piece left = IsCut fault size piece left

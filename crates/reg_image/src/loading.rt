@@ -1,0 +1,82 @@
+//! A hive, loaded from its image.
+//!
+//! Suhanov, Windows registry file format specification, section "Format of primary files".
+
+ghost use Rattle.std.specs.Prelude.{◌≡◌, ◌+◌, ◌≤◌, ◌%◌, ℕ, List, Ok, IfOk, IfErr, length};
+ghost use Rattle.std.specs.Io.KnownBytes.{Consumes};
+ghost use Rattle.reg_heap.specs.declared.limits.TheConstants.{BINS_LIMIT};
+ghost use Rattle.reg_calls.specs.HiveView.{view_of};
+ghost use Rattle.reg_image.specs.Images.{nothing, tree_in, bins_walk};
+ghost use Rattle.reg_image.specs.Loads.{fault_number, IsLoaded, IsRefused};
+ghost use Rattle.reg_image.specs.Internal.Stacks.{FailsAs};
+
+use crate::LoadFault;
+use crate::block::{BaseBlock, read_block};
+use crate::input::{fill, read_bytes};
+use crate::scan::scan;
+use crate::walk::walk;
+use reg_calls::Hive;
+use reg_tree::Tree;
+use std::alloc::Global;
+use std::io::Read;
+
+impl LoadFault {
+    /// The fault's number: 1 Read, 2 Short, 3 Signature, 4 Version, 5 Checksum, 6 Dirty, 7 Bins, 8 Cells, 9 Record, 10 Loop,
+    /// 11 Twice, 12 NotInProfile, 13 Limit, 14 Memory.
+    pub fn number(&self) -> u8
+        ensures { result ≡ fault_number self.now }
+    {
+        match self {
+            LoadFault::Read => 1,
+            LoadFault::Short => 2,
+            LoadFault::Signature => 3,
+            LoadFault::Version => 4,
+            LoadFault::Checksum => 5,
+            LoadFault::Dirty => 6,
+            LoadFault::Bins => 7,
+            LoadFault::Cells => 8,
+            LoadFault::Record => 9,
+            LoadFault::Loop => 10,
+            LoadFault::Twice => 11,
+            LoadFault::NotInProfile => 12,
+            LoadFault::Limit => 13,
+            LoadFault::Memory => 14,
+        }
+    }
+}
+
+/// The tree of the keys in foreign bins, built anew.
+fn build_tree(alloc: Global, bins: &[u8], block: BaseBlock) -> Result<Tree, LoadFault>
+    requires pages { length bins.now % 4096 ≡ 0 }
+    requires small { length bins.now ≤ BINS_LIMIT }
+    ensures ok { IfOk result (λ tree. tree_in (bins_walk bins.now block.minor block.root nothing) ≡ Ok tree.tree) }
+    ensures err { IfErr result (λ fault. FailsAs fault (bins_walk bins.now block.minor block.root nothing)) }
+{
+    let mut table = scan(alloc, bins)?;
+    walk(alloc, bins, block.minor, &mut table, block.root)
+}
+
+/// Loads a hive from an image: reads its base block, then the bins behind it and no byte more, and builds the hive anew of the keys
+/// that the bins hold.
+///
+/// The hive is a new one, whose journal is empty. The first test that fails is the fault. `Short` where the image ends before its
+/// base block or its bins do, `Read` where a read fails: one that is interrupted fails too. Of the base block `Signature`,
+/// `Version`, `Checksum`, `Dirty`, `Bins` and `Limit`; of the bins, once all are read, `Bins` where the header of one is bad, else
+/// `Cells` where a cell's size is; of the keys, as they are met from the root on, `Record`, `Loop`, `Twice`, `NotInProfile` and
+/// `Limit`, the last also where the new bins would pass 268,435,456 bytes. `Memory` may come as soon as the base block passed.
+pub fn load<R: Read>(alloc: Global, input: &mut R) -> Result<Hive, LoadFault>
+    ensures ok { IfOk result (λ hive. (image : List ℕ) × Consumes (R.remaining input.old) (R.remaining input.new) image
+        × IsLoaded image (view_of hive)) }
+    ensures err { IfErr result (λ fault. (image : List ℕ) × Consumes (R.remaining input.old) (R.remaining input.new) image
+        × (length image ≤ 4096 + BINS_LIMIT) × IsRefused fault image (R.remaining input.new)) }
+{
+    let mut head = [0u8; 4096];
+    fill(input, &mut head)?;
+    let block = read_block(&head)?;
+    let bins = read_bytes(alloc, input, block.size as usize)?;
+    let tree = build_tree(alloc, bins.as_slice(), block)?;
+    match Hive::from_tree(alloc, tree) {
+        Ok(hive) => Ok(hive),
+        Err(_) => Err(LoadFault::Memory),
+    }
+}
