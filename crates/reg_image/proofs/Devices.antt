@@ -5,3 +5,5 @@ pub mod FaultsOfSteps
 pub mod FaultsOfWalks
 pub mod BlockTests
 pub mod LoadedImages
+pub mod MadeImages
+pub mod OutputPieces

@@ -10,3 +10,4 @@ pub mod SegmentSteps
 pub mod Frames
 pub mod Stacks
 pub mod InputParts
+pub mod BlockFields

@@ -34,7 +34,7 @@ fn stored(sum: u32) -> u32
 }
 
 /// The checksum of what begins with a base block.
-fn head_checksum(block: &[u8]) -> u32
+pub fn head_checksum(block: &[u8]) -> u32
     requires { 508 ≤ length block.now }
     ensures { result ≡ checksum_of block.now }
 {

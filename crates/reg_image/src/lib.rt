@@ -36,10 +36,12 @@ mod table;
 mod value_lists;
 mod values;
 mod walk;
+mod writing;
 
 pub use block::checksum;
 pub use loading::load;
 use thiserror::Error;
+pub use writing::{ImageFault, WriteFault, image, write_image};
 
 /// Why bytes are no image that is loaded: the first test that fails.
 #[derive(Clone, Copy, Debug, PartialEq, Eq, Error)]
