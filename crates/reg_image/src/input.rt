@@ -2,16 +2,27 @@
 
 ghost use Rattle.std.specs.Prelude.{◌≡◌, ℕ, List, OnOk, IfOk, IfErr, length};
 ghost use Rattle.std.specs.Io.KnownBytes.{Consumes};
-ghost use Rattle.reg_image.specs.Internal.InputParts.{IsCut, IsGivenUp};
+ghost use Rattle.reg_image.specs.Internal.InputParts.{told_by, IsCut, IsGivenUp};
 
 use crate::LoadFault;
 use std::alloc::Global;
-use std::io::Read;
+use std::io::{self, Read};
 
 /// How many bytes room is made for at first.
 const FIRST_ROOM: usize = 65_536;
 
-/// Fills a buffer. A read that gives nothing is the reader's end.
+/// How many bytes a read gave. None are the reader's end; a read that failed, or was interrupted, isn't tried again.
+fn count_read(read: io::Result<usize>) -> Result<usize, LoadFault>
+    ensures { result ≡ told_by read }
+{
+    match read {
+        Ok(0) => Err(LoadFault::Short),
+        Ok(count) => Ok(count),
+        Err(_) => Err(LoadFault::Read),
+    }
+}
+
+/// Fills a buffer. `Short` where the reader comes to its end before, `Read` where a read fails.
 pub fn fill<R: Read>(input: &mut R, buffer: &mut [u8]) -> Result<(), LoadFault>
     ensures ok { OnOk result (Consumes (R.remaining input.old) (R.remaining input.new) buffer.new) }
     ensures err { IfErr result (λ fault. (piece : List ℕ) × Consumes (R.remaining input.old) (R.remaining input.new) piece
@@ -19,11 +30,8 @@ pub fn fill<R: Read>(input: &mut R, buffer: &mut [u8]) -> Result<(), LoadFault>
 {
     let mut filled = 0;
     while filled < buffer.len() {
-        match input.read(&mut buffer[filled..]) {
-            Ok(0) => return Err(LoadFault::Short),
-            Ok(count) => filled += count,
-            Err(_) => return Err(LoadFault::Read),
-        }
+        let read = input.read(&mut buffer[filled..]);
+        filled += count_read(read)?;
     }
     Ok(())
 }

@@ -1,5 +1,5 @@
 -- What was read, piece by piece.
-use Rattle.std.proofs.Common.{◌≡◌, ℕ, ◌+◌, ◌-◌, ◌<◌, ◌≤◌, ◌++◌, Option, Result, Ok, Err, IfErr, List, length, take, drop, sym, ap, ◌∙◌, subst, arith}
+use Rattle.std.proofs.Common.{Bool, true, false, cond, ◌==◌, ◌≡◌, ℕ, ◌+◌, ◌-◌, ◌<◌, ◌≤◌, ◌++◌, Option, Result, Ok, Err, IfErr, List, length, take, drop, sym, ap, ◌∙◌, subst, arith}
 use Rattle.std.proofs.Common.{le_refl, drop_at, length-append, length-take-le, length-drop}
 use Rattle.std.specs.Result.{IsErrAnd}
 use Rattle.std.specs.Io.KnownBytes.{Consumes}
@@ -9,7 +9,7 @@ use borrow.Rule.Slice.PartMut.{put_mid, post_of}
 use lib.Seq.{take-add, take-append-le}
 use Rattle.reg_image.specs.declared.LoadFault.{LoadFault}
 use Rattle.reg_image.specs.declared.LoadFault.TheVariants.{Read, Short, Memory}
-use Rattle.reg_image.specs.Internal.InputParts.{IsCut, IsGivenUp}
+use Rattle.reg_image.specs.Internal.InputParts.{told_by, IsCut, IsGivenUp}
 
 -- what holds of the fault that a `?` passes on
 pub exit-with : {T E : Type 0} (P : E → Type 0) (r : Result T E) (e : E) → IsErrAnd r (λ y. y ≡ e) → P e → IfErr r P
@@ -48,3 +48,12 @@ pub part-fits : (front whole : List ℕ) (from more size : ℕ) → from ≡ len
 part-fits front whole from more size f w l =
     let e = length-take-le (length whole - from) (drop from whole) (let d = length-drop from whole in omega (arith, d)) in
     omega (arith, e, f, w, l)
+
+-- a read that gave bytes
+pub told-ok : {E : Type 0} (r : Result ℕ E) (n : ℕ) → Ok n ≡ told_by r → r ≡ Ok n
+told-ok (Ok k) n e = ap Ok (by (k == 0) e)
+  where
+    by : (b : Bool) → Ok n ≡ cond b (Err Short) (Ok k) → k ≡ n
+    by true e = absurd (cc)
+    by false e = let same : n ≡ k = cc in sym same
+told-ok (Err x) n e = absurd (cc)
