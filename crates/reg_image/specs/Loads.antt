@@ -4,7 +4,8 @@ use Rattle.std.specs.Io.KnownBytes.{IsAtEnd}
 use Rattle.reg_heap.specs.ByteWords.{word}
 use Rattle.reg_calls.specs.Views.{View, IsHive}
 use Rattle.reg_image.specs.declared.LoadFault.{LoadFault}
-use Rattle.reg_image.specs.declared.LoadFault.TheVariants.{Read, Short, Signature, Version, Checksum, Dirty, Bins, Cells, Record, Loop, Twice, NotInProfile, Limit, Memory}
+use Rattle.reg_image.specs.declared.LoadFault.TheVariants.{Read, Short, Signature, Version, Checksum, Dirty, Bins, Cells, Record, Loop}
+use Rattle.reg_image.specs.declared.LoadFault.TheVariants.{Twice, NotInProfile, Limit, Memory}
 use Rattle.reg_image.specs.declared.block.BaseBlock.{BaseBlock}
 use Rattle.reg_image.specs.WalkSteps.{Seen}
 use Rattle.reg_image.specs.BaseBlock.{block_walk}

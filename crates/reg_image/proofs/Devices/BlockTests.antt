@@ -45,7 +45,8 @@ block-good bytes block seen after e =
     let d = passes Dirty (word bytes 4 == word bytes 8) _ seen (block, after) c.1 in
     let f = passes Bins (nat_lt 0 (word bytes 40) && (word bytes 40 % 4096 == 0)) _ seen (block, after) d.1 in
     let l = passes Limit (nat_le (word bytes 40) 268435456) _ seen (block, after) f.1 in
-    let is : block.size ≡ word bytes 40 = sym (sizes (record { minor = word bytes 24; root = word bytes 36; size = word bytes 40 }) seen l.1) in
+    let is : block.size ≡ word bytes 40 =
+    sym (sizes (record { minor = word bytes 24; root = word bytes 36; size = word bytes 40 }) seen l.1) in
     record {
       size = is;
       pages = ap (λ n. n % 4096) is ∙ sized (word bytes 40) f.0;
@@ -53,4 +54,8 @@ block-good bytes block seen after e =
     }
   where
     sizes : (b : BaseBlock) (s : Seen) → give b s ≡ Ok (block, after) → b.size ≡ block.size
-    sizes b s e = let p : BaseBlock × Seen = (b, s) in let q : BaseBlock × Seen = (block, after) in let same : p ≡ q = cc in ap (λ (x : BaseBlock × Seen). x.0.size) same
+    sizes b s e =
+        let p : BaseBlock × Seen = (b, s) in
+        let q : BaseBlock × Seen = (block, after) in
+        let same : p ≡ q = cc in
+        ap (λ (x : BaseBlock × Seen). x.0.size) same

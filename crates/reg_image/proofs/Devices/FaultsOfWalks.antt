@@ -1,5 +1,6 @@
 -- The walk of the bins meets no fault of a reader, and no want of memory.
-use Rattle.std.proofs.Common.{refl, ◌==◌, nat_lt, not, bit_and, nat_le, ◌||◌, ℕ, zero, suc, ◌++◌, Bool, true, false, Result, Ok, Err, List, [], ◌∷◌, length, take}
+use Rattle.std.proofs.Common.{refl, ◌==◌, nat_lt, not, bit_and, nat_le, ◌||◌, ℕ, zero, suc, ◌++◌, Bool, true, false, Result, Ok, Err, List}
+use Rattle.std.proofs.Common.{[], ◌∷◌, length, take}
 use Rattle.reg_names.specs.declared.TheConstants.{PATH_LIMIT, KEY_NAME_LIMIT, VALUE_NAME_LIMIT}
 use Rattle.reg_names.specs.Names.{is_key_name_byte, is_value_name_byte}
 use Rattle.reg_heap.specs.Heaps.{Heap}
@@ -26,9 +27,12 @@ use Rattle.reg_records.specs.BigData.{Named, segment_size, segments, segments_fo
 use Rattle.reg_arena.specs.Cells.{bins_of, cells_of_bins, content_in}
 use Rattle.reg_image.specs.declared.LoadFault.TheVariants.{Record, Loop, Twice, NotInProfile, Limit, Bins, Cells}
 use Rattle.reg_image.specs.WalkSteps.{Step, given, note, not_named, is_new, is_absent, cell}
-use Rattle.reg_image.specs.LoadingWalk.{read, name_in, key_name, value_name, root_path, no_sibling, keys_each, leaf_as, bytes_from, row_from, pieces_from}
-use Rattle.reg_image.specs.LoadingWalk.{class_from, descriptor_from, big_from, far_from, named_value, named_key, head_from, leaf_from, lists_each, listed_as}
-use Rattle.reg_image.specs.LoadingWalk.{list_from, subkeys_from, data_by, value_from, values_each, values_from, parts_from, rest_from, key_from}
+use Rattle.reg_image.specs.LoadingWalk.{read, name_in, key_name, value_name, root_path, no_sibling, keys_each, leaf_as, bytes_from}
+use Rattle.reg_image.specs.LoadingWalk.{row_from, pieces_from}
+use Rattle.reg_image.specs.LoadingWalk.{class_from, descriptor_from, big_from, far_from, named_value, named_key, head_from, leaf_from}
+use Rattle.reg_image.specs.LoadingWalk.{lists_each, listed_as}
+use Rattle.reg_image.specs.LoadingWalk.{list_from, subkeys_from, data_by, value_from, values_each, values_from, parts_from, rest_from}
+use Rattle.reg_image.specs.LoadingWalk.{key_from}
 use Rattle.reg_image.specs.Images.{bins_walk}
 use Rattle.reg_image.proofs.Devices.FaultsOfSteps.{Meets, meets-give, meets-check, meets-given, meets-bind, meets-then, meets-fault}
 
@@ -41,7 +45,8 @@ meets-read {R} (Err PastProfile) = meets-fault NotInProfile (read {R = R} (Err P
 
 meets-name : (single : Bool) (most : ℕ) (allowed : ℕ → Bool) (name : List ℕ) → Meets (name_in single most allowed name)
 meets-name single most allowed name =
-    meets-then _ _ (meets-check Record _ tt) (meets-then _ _ (meets-check Limit _ tt) (meets-then _ _ (meets-check NotInProfile _ tt) (meets-give _)))
+    meets-then _ _ (meets-check Record _ tt)
+    (meets-then _ _ (meets-check Limit _ tt) (meets-then _ _ (meets-check NotInProfile _ tt) (meets-give _)))
 
 meets-key_name : (key : KeyRecord) → Meets (key_name key)
 meets-key_name key =
@@ -60,13 +65,15 @@ meets-cell heap path kind offset =
     meets-then _ _ (meets-check Loop (is_absent offset path) tt)
     (meets-then (not_named (kind content) offset) _ (λ seen. meets-check Twice (is_new (kind content) offset seen.found) tt seen)
     (meets-then (note (record { kind = kind content; offset = offset })) _
-    (λ seen. meets-give tt (record seen { found = seen.found ++ (record { kind = kind content; offset = offset }) ∷ [] })) (meets-give content))))
+    (λ seen. meets-give tt (record seen { found = seen.found ++ (record { kind = kind content; offset = offset }) ∷ [] }))
+    (meets-give content))))
 
 -- keys that are walked each
 meets-keys : (go : ℕ → Step (Unit {0})) (n : ℕ) (entries : List Entry) → ((offset : ℕ) → Meets (go offset)) → Meets (keys_each go n entries)
 meets-keys go n [] g = meets-give n
 meets-keys go n (e ∷ entries) g =
-    meets-then _ _ (meets-check Limit (nat_lt n SUBKEYS_LIMIT) tt) (meets-then (go e.offset) _ (g e.offset) (meets-keys go (suc n) entries g))
+    meets-then _ _ (meets-check Limit (nat_lt n SUBKEYS_LIMIT) tt)
+    (meets-then (go e.offset) _ (g e.offset) (meets-keys go (suc n) entries g))
 
 meets-leaf : (form : Form) → Meets (leaf_as form)
 meets-leaf IndexRoot = meets-check Record false tt
@@ -81,7 +88,8 @@ module _ (heap : Heap) where
       meets-then _ _ (meets-check Record (nat_le n.size (length content)) tt) (meets-give (take n.size content)))
 
   meets-row : (path : List ℕ) (kind : Kind) (count offset : ℕ) → Meets (row_from heap path kind count offset)
-  meets-row path kind count offset = meets-bind _ _ (meets-cell heap path (λ _. kind) offset) (λ content. meets-given Record (row_in count content) tt)
+  meets-row path kind count offset = meets-bind _ _ (meets-cell heap path (λ _. kind) offset)
+      (λ content. meets-given Record (row_in count content) tt)
 
   meets-pieces : (path so_far : List ℕ) (names : List Named) → Meets (pieces_from heap path so_far names)
   meets-pieces path so_far [] = meets-give so_far
@@ -135,7 +143,8 @@ module _ (heap : Heap) where
       Meets (lists_each heap go path n entries)
   meets-lists go path n [] g = meets-give tt
   meets-lists go path n (e ∷ entries) g =
-      meets-bind _ _ (meets-leaf_from path e.offset) (λ list. meets-bind _ _ (meets-keys go n list.entries g) (λ m. meets-lists go path m entries g))
+      meets-bind _ _ (meets-leaf_from path e.offset)
+      (λ list. meets-bind _ _ (meets-keys go n list.entries g) (λ m. meets-lists go path m entries g))
 
   meets-listed : (go : ℕ → Step (Unit {0})) (path : List ℕ) (entries : List Entry) (form : Form) → ((offset : ℕ) → Meets (go offset)) →
       Meets (listed_as heap go path entries form)
@@ -145,25 +154,29 @@ module _ (heap : Heap) where
   meets-listed go path entries HashLeaf g = meets-then _ _ (meets-keys go 0 entries g) (meets-give tt)
 
   meets-list_from : (path : List ℕ) (offset : ℕ) → Meets (list_from heap path offset)
-  meets-list_from path offset = meets-bind _ _ (meets-cell heap path (kind_met SubList) offset) (λ content. meets-given Record (list_of content) tt)
+  meets-list_from path offset = meets-bind _ _ (meets-cell heap path (kind_met SubList) offset)
+      (λ content. meets-given Record (list_of content) tt)
 
   meets-subkeys : (go : ℕ → Step (Unit {0})) (path : List ℕ) (count offset : ℕ) → ((offset : ℕ) → Meets (go offset)) →
       Meets (subkeys_from heap go path count offset)
   meets-subkeys go path zero offset g = meets-give tt
-  meets-subkeys go path (suc n) offset g = meets-bind _ _ (meets-list_from path offset) (λ list. meets-listed go path list.entries list.form g)
+  meets-subkeys go path (suc n) offset g = meets-bind _ _ (meets-list_from path offset)
+      (λ list. meets-listed go path list.entries list.form g)
 
 module _ (heap : Heap) (minor : ℕ) where
   meets-data : (path : List ℕ) (inline : Bool) (size offset : ℕ) → Meets (data_by heap minor path inline size offset)
   meets-data path true size offset =
       meets-then _ _ (meets-check Record (nat_le (inline_size size) 4) tt) (meets-give (take (inline_size size) (little_bytes 4 offset)))
   meets-data path false size offset =
-      meets-then _ _ (meets-check Limit (nat_le size DATA_LIMIT) tt) (meets-far heap path (nat_le size segment_size || (minor == 3)) size offset)
+      meets-then _ _ (meets-check Limit (nat_le size DATA_LIMIT) tt)
+      (meets-far heap path (nat_le size segment_size || (minor == 3)) size offset)
 
   meets-value : (path : List ℕ) (before : List Member) (offset : ℕ) → Meets (value_from heap minor path before offset)
   meets-value path before offset =
       meets-bind _ _ (meets-named_value heap path offset) (λ value.
       meets-then _ _ (meets-check Twice (not (list_any (λ (m : Member). same_name m.name value.1) before)) tt)
-      (meets-bind _ _ (meets-data path (is_inline value.0.fields.size) value.0.fields.size value.0.fields.offset) (λ bytes. meets-give (member_of value.0 bytes))))
+      (meets-bind _ _ (meets-data path (is_inline value.0.fields.size) value.0.fields.size value.0.fields.offset)
+      (λ bytes. meets-give (member_of value.0 bytes))))
 
   meets-values_each : (path : List ℕ) (before : List Member) (offsets : List ℕ) → Meets (values_each heap minor path before offsets)
   meets-values_each path before [] = meets-give before

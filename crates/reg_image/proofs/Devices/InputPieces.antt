@@ -1,5 +1,6 @@
 -- What was read, piece by piece.
-use Rattle.std.proofs.Common.{Bool, true, false, cond, ◌==◌, ◌≡◌, ℕ, ◌+◌, ◌-◌, ◌<◌, ◌≤◌, ◌++◌, Option, Result, Ok, Err, IfErr, List, length, take, drop, sym, ap, ◌∙◌, subst, arith}
+use Rattle.std.proofs.Common.{Bool, true, false, cond, ◌==◌, ◌≡◌, ℕ, ◌+◌, ◌-◌, ◌<◌, ◌≤◌, ◌++◌, Option, Result, Ok, Err, IfErr, List, length}
+use Rattle.std.proofs.Common.{take, drop, sym, ap, ◌∙◌, subst, arith}
 use Rattle.std.proofs.Common.{le_refl, drop_at, length-append, length-take-le, length-drop}
 use Rattle.std.specs.Result.{IsErrAnd}
 use Rattle.std.specs.Io.KnownBytes.{Consumes}
@@ -17,19 +18,22 @@ exit-with P (Ok x) e i p = absurd i
 exit-with P (Err y) e i p = subst P (sym i) p
 
 -- so many bytes more stand in a buffer behind those that were there
-pub Consumes-filled : (a b c : Option (List ℕ)) (at n : ℕ) (old part : List ℕ) → at < length old → n ≤ length part → length part ≡ length old - at →
+pub Consumes-filled : (a b c : Option (List ℕ)) (at n : ℕ) (old part : List ℕ) → at < length old → n ≤ length part →
+    length part ≡ length old - at →
     Consumes a b (take at old) → Consumes b c (take n part) → Consumes a c (take (at + n) (put_mid at (length old - at) old part))
 Consumes-filled a b c at n old part l f k before read =
     let new = put_mid at (length old - at) old part in
     let within : at ≤ length old = omega arith in
     let front = take-put_mid_below at (length old - at) old part at (le_refl at) within in
     let behind : take n (drop at new) ≡ take n part =
-    ap (take n) (drop_at (take at old) (part ++ post_of at (length old - at) old) at (length-take-le at old within)) ∙ take-append-le n part (post_of at (length old - at) old) f in
+    ap (take n) (drop_at (take at old) (part ++ post_of at (length old - at) old) at (length-take-le at old within)) ∙
+    take-append-le n part (post_of at (length old - at) old) f in
     subst (Consumes a c) (sym (take-add at n new ∙ (ap (λ xs. xs ++ take n (drop at new)) front ∙ ap (λ xs. take at old ++ xs) behind)))
     (Consumes-trans a b c (take at old) (take n part) before read)
 
 -- a part of a buffer that was cut, behind what was read before
-pub cut-behind : (a b c : Option (List ℕ)) (front : List ℕ) (room size : ℕ) (fault : LoadFault) → Consumes a b front → length front + room ≤ size →
+pub cut-behind : (a b c : Option (List ℕ)) (front : List ℕ) (room size : ℕ) (fault : LoadFault) → Consumes a b front →
+    length front + room ≤ size →
     (piece : List ℕ) × Consumes b c piece × IsCut fault room piece c → (piece : List ℕ) × Consumes a c piece × IsGivenUp fault size piece c
 cut-behind a b c front room size fault before l p = (front ++ p.0, Consumes-trans a b c front p.0 before p.1, by fault p.2)
   where

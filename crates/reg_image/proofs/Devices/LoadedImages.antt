@@ -1,5 +1,6 @@
 -- An image that was read, or a part of it.
-use Rattle.std.proofs.Common.{◌≡◌, ℕ, ◌+◌, ◌<◌, ◌≤◌, ◌++◌, nat_le, nat_lt, true, false, Result, Ok, Err, IsOk, Some, List, length, take, drop}
+use Rattle.std.proofs.Common.{◌≡◌, ℕ, ◌+◌, ◌<◌, ◌≤◌, ◌++◌, nat_le, nat_lt, true, false, Result, Ok, Err, IsOk, Some, List, length, take}
+use Rattle.std.proofs.Common.{drop}
 use Rattle.std.proofs.Common.{refl, sym, ap, ◌∙◌, subst, inl, inr, arith, length-append}
 use Rattle.std.proofs.Math.Seq.{take-append_seam, drop-append_seam, take-length}
 use Rattle.std.proofs.lemmas.Bool.Decides.{nat_tests}
@@ -33,7 +34,8 @@ not-below a b l = grind (arith, nat_tests)
 
 -- what follows the base block
 abbrev after-block : List ℕ → BaseBlock → Step (Unit {0})
-after-block bytes block = check Short (nat_le (4096 + block.size) (length bytes)) >> bins_walk (take block.size (drop 4096 bytes)) block.minor block.root
+after-block bytes block =
+    check Short (nat_le (4096 + block.size) (length bytes)) >> bins_walk (take block.size (drop 4096 bytes)) block.minor block.root
 
 -- the fault of the walk is that of the image
 fault-is : (bytes : List ℕ) (fault : LoadFault) → image_walk bytes nothing ≡ Err fault → fault_of bytes ≡ Some fault
@@ -49,10 +51,13 @@ short-block : (bytes : List ℕ) → length bytes < 4096 → image_walk bytes no
 unfolding image_walk
 short-block bytes l = rw (too-few 4096 (length bytes) l) refl
 
-pub refused-before-block : (fault : LoadFault) (bytes : List ℕ) (left : _) → IsCut fault 4096 bytes left → (length bytes ≤ 268439552) × IsRefused fault bytes left
+pub refused-before-block : (fault : LoadFault) (bytes : List ℕ) (left : _) → IsCut fault 4096 bytes left →
+    (length bytes ≤ 268439552) × IsRefused fault bytes left
 refused-before-block Read bytes left k = (omega (arith, k), let a = asked-first bytes k in omega (arith, k, a))
-refused-before-block Short bytes left k =
-    (let l = k.0 in omega (arith, l), ((let a = asked-first bytes k.0 in let l = k.0 in omega (arith, l, a)), fault-is bytes Short (short-block bytes k.0), k.1))
+refused-before-block Short bytes left k = (
+  let l = k.0 in omega (arith, l),
+  ((let a = asked-first bytes k.0 in let l = k.0 in omega (arith, l, a)), fault-is bytes Short (short-block bytes k.0), k.1),
+)
 refused-before-block fault bytes left k = absurd k
 
 -- ---- a base block that doesn't pass
@@ -67,8 +72,12 @@ module _ (head : List ℕ) (long : length head ≡ 4096) where
       let l = at-least 4096 (length head) (omega (arith, long)) in
       ap (λ b. onward (λ _. block_walk head >>= after-block head) (check Short b nothing)) l ∙ ap (onward (after-block head)) e
 
-  pub refused-at-block : (fault : LoadFault) (left : _) → block_walk head nothing ≡ Err fault → (length head ≤ 268439552) × IsRefused fault head left
-  refused-at-block fault left e = (omega (arith, long), by fault e (fault-is head fault (bad-block fault e)) (block-meets head nothing fault e))
+  pub refused-at-block : (fault : LoadFault) (left : _) → block_walk head nothing ≡ Err fault →
+      (length head ≤ 268439552) × IsRefused fault head left
+  refused-at-block fault left e = (
+    omega (arith, long),
+    by fault e (fault-is head fault (bad-block fault e)) (block-meets head nothing fault e),
+  )
     where
       by : (f : LoadFault) → block_walk head nothing ≡ Err f → fault_of head ≡ Some f → IsOfImage f → IsRefused f head left
       by Read e w i = absurd i
@@ -103,7 +112,8 @@ module _ (head : List ℕ) (long : length head ≡ 4096) where
     opened =
         let s = size-is in
         let l = at-least 4096 (length (head ++ more)) (omega (arith, s)) in
-        ap (λ b. onward (λ _. block_walk (head ++ more) >>= after-block (head ++ more)) (check Short b nothing)) l ∙ ap (onward (after-block (head ++ more))) block-is
+        ap (λ b. onward (λ _. block_walk (head ++ more) >>= after-block (head ++ more)) (check Short b nothing)) l ∙
+        ap (onward (after-block (head ++ more))) block-is
 
     short-bins : length more < block.size → image_walk (head ++ more) nothing ≡ Err Short
     short-bins k =
@@ -137,11 +147,13 @@ module _ (head : List ℕ) (long : length head ≡ 4096) where
         let s = size-is in
         let a = asked-good in
         let l = k.0 in (omega (arith, s, l, m), (omega (arith, s, l, a), fault-is (head ++ more) Short (short-bins k.0), k.1))
-    refused-before-bins Memory left m k = let s = size-is in let a = asked-good in (omega (arith, s, k, m), (omega (arith, s, k, a), has-block))
+    refused-before-bins Memory left m k = let s = size-is in let a = asked-good in
+        (omega (arith, s, k, m), (omega (arith, s, k, a), has-block))
     refused-before-bins fault left m k = absurd k
 
     pub refused-at-bins : (fault : LoadFault) (left : _) → block.size ≤ 268435456 → length more ≡ block.size →
-        FailsAs fault (bins_walk more block.minor block.root nothing) → (length (head ++ more) ≤ 268439552) × IsRefused fault (head ++ more) left
+        FailsAs fault (bins_walk more block.minor block.root nothing) →
+        (length (head ++ more) ≤ 268439552) × IsRefused fault (head ++ more) left
     refused-at-bins fault left m k w =
         let s = size-is in
         let a = asked-good in (omega (arith, s, k, m), by fault (omega (arith, s, k, a)) w)
@@ -149,8 +161,8 @@ module _ (head : List ℕ) (long : length head ≡ 4096) where
         is : (f : LoadFault) → bins_walk more block.minor block.root nothing ≡ Err f → fault_of (head ++ more) ≡ Some f
         is f w = fault-is (head ++ more) f (whole-walked k ∙ w)
 
-        by : (f : LoadFault) → length (head ++ more) ≡ asked_for (head ++ more) → FailsAs f (bins_walk more block.minor block.root nothing) →
-            IsRefused f (head ++ more) left
+        by : (f : LoadFault) → length (head ++ more) ≡ asked_for (head ++ more) →
+            FailsAs f (bins_walk more block.minor block.root nothing) → IsRefused f (head ++ more) left
         by Read a w = absurd (bins-meet more block.minor block.root nothing Read w)
         by Short a w = absurd (bins-meet more block.minor block.root nothing Short w)
         by Memory a w = (omega (arith, a), has-block)

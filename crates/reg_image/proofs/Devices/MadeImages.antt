@@ -1,5 +1,6 @@
 -- An image as it is made: its base block, and then the bins, page by page.
-use Rattle.std.proofs.Common.{◌≡◌, ℕ, ◌+◌, ◌-◌, ◌*◌, ◌/◌, ◌%◌, ◌<◌, ◌≤◌, ◌++◌, List, [], Ok, length, take, drop, replicate, refl, sym, ap, ◌∙◌, subst, arith, append_assoc}
+use Rattle.std.proofs.Common.{◌≡◌, ℕ, ◌+◌, ◌-◌, ◌*◌, ◌/◌, ◌<◌, ◌≤◌, ◌++◌, List, [], Ok, length, take, drop, replicate, sym, ap, ◌∙◌, arith}
+use Rattle.std.proofs.Common.{append_assoc}
 use Rattle.std.proofs.Math.Seq.{take-add, take-length}
 use Rattle.byteorder.specs.Endian.{little_bytes}
 use Rattle.reg_arena.specs.Arena.{IsSound}
@@ -17,7 +18,8 @@ use Rattle.reg_image.specs.Internal.BlockFields.{block_fields}
 
 module _ (size root moment sequence : ℕ) where
   -- the fields and zeros are what is written before the checksum
-  pub head-made : (a b : List ℕ) (k : ℕ) → a ≡ block_fields size root moment sequence → k ≡ length a → b ≡ take 508 a ++ replicate (508 - k) 0 →
+  pub head-made : (a b : List ℕ) (k : ℕ) → a ≡ block_fields size root moment sequence → k ≡ length a →
+      b ≡ take 508 a ++ replicate (508 - k) 0 →
       b ≡ block_head size root moment sequence
   head-made a b k e l m = m ∙ (ap (λ n. take 508 a ++ replicate (508 - n) 0) l ∙ ap (λ xs. take 508 xs ++ replicate (508 - length xs) 0) e)
 
@@ -32,7 +34,8 @@ module _ (size root moment sequence : ℕ) where
 
 module _ (bytes heads : List ℕ) (sound : IsSound bytes heads) where
   pub page-there : (page : ℕ) → page < length bytes / 4096 → IsInBin bytes (page * 4096) 4096
-  page-there page l = page-in_bin bytes sound.bins sound.bins_are (page * 4096) (page * 4096) 4096 (omega arith) (omega (arith, l)) (omega arith) (omega arith)
+  page-there page l = page-in_bin bytes sound.bins sound.bins_are (page * 4096) (page * 4096) 4096 (omega arith) (omega (arith, l))
+      (omega arith) (omega arith)
 
   -- one page more
   pub page-copied : (front out : List ℕ) (page : ℕ) → out ≡ front ++ take (4096 * page) bytes →
@@ -40,11 +43,13 @@ module _ (bytes heads : List ℕ) (sound : IsSound bytes heads) where
   page-copied front out page e =
       let at : page * 4096 ≡ 4096 * page = omega arith in
       let next : 4096 * (page + 1) ≡ 4096 * page + 4096 = omega arith in
-      ap (λ xs. xs ++ take 4096 (drop (page * 4096) bytes)) e ∙ (ap (λ n. (front ++ take (4096 * page) bytes) ++ take 4096 (drop n bytes)) at
+      ap (λ xs. xs ++ take 4096 (drop (page * 4096) bytes)) e ∙
+      (ap (λ n. (front ++ take (4096 * page) bytes) ++ take 4096 (drop n bytes)) at
       ∙ (append_assoc front (take (4096 * page) bytes) (take 4096 (drop (4096 * page) bytes))
       ∙ ap (λ xs. front ++ xs) (sym (take-add (4096 * page) 4096 bytes) ∙ ap (λ n. take n bytes) (sym next))))
 
-  pub pages-copied : (front out : List ℕ) (page : ℕ) → out ≡ front ++ take (4096 * page) bytes → page ≡ length bytes / 4096 → out ≡ front ++ bytes
+  pub pages-copied : (front out : List ℕ) (page : ℕ) → out ≡ front ++ take (4096 * page) bytes → page ≡ length bytes / 4096 →
+      out ≡ front ++ bytes
   pages-copied front out page e l =
       let p = sound.pages in
       let all : 4096 * page ≡ length bytes = omega (arith, p, l) in
@@ -56,14 +61,17 @@ unfolding key_offset_at
 root-is keys node a = sym (same_Some keys.root node.offset a.offset)
 
 module _ (bins : List ℕ) (root moment sequence : ℕ) where
-  pub image-made : (size offset : ℕ) (block all copied : List ℕ) → block ≡ block_of size offset moment sequence → all ≡ block ++ copied → copied ≡ bins →
+  pub image-made : (size offset : ℕ) (block all copied : List ℕ) → block ≡ block_of size offset moment sequence → all ≡ block ++ copied →
+      copied ≡ bins →
       size ≡ length copied → offset ≡ root → all ≡ image_of bins root moment sequence
   unfolding image_of
   image-made size offset block all copied b a c s r =
       a ∙ (ap (λ xs. xs ++ copied) b ∙ (ap (λ n. block_of n offset moment sequence ++ copied) s
       ∙ (ap (λ xs. block_of (length xs) offset moment sequence ++ xs) c ∙ ap (λ n. block_of (length bins) n moment sequence ++ bins) r)))
 
-  pub image-loads : (all : List ℕ) (tree : Tree) → IsWholeTree bins root tree → length bins ≤ 268435456 → all ≡ image_of bins root moment sequence →
+  pub image-loads : (all : List ℕ) (tree : Tree) → IsWholeTree bins root tree → length bins ≤ 268435456 →
+      all ≡ image_of bins root moment sequence →
       loaded all ≡ Ok tree
   image-loads all tree w l e =
-      ap loaded e ∙ whole-loads bins root (record { cells = w.cells; cells_are = w.cells_are; whole = w.whole }) l moment sequence tree w.spells
+      ap loaded e ∙ whole-loads bins root
+      (record { cells = w.cells; cells_are = w.cells_are; whole = w.whole }) l moment sequence tree w.spells

@@ -9,7 +9,8 @@ use Rattle.std.proofs.KnownBytes.{Appends-trans}
 rest-is : (at : ℕ) (bytes : List ℕ) → take (length bytes - at) (drop at bytes) ≡ drop at bytes
 rest-is at bytes = take_all (length bytes - at) (drop at bytes) (omega (arith, length-drop at bytes))
 
-pub rest-fits : (at n : ℕ) (bytes : List ℕ) → at < length bytes → n ≤ length (take (length bytes - at) (drop at bytes)) → at + n ≤ length bytes
+pub rest-fits : (at n : ℕ) (bytes : List ℕ) → at < length bytes → n ≤ length (take (length bytes - at) (drop at bytes)) →
+    at + n ≤ length bytes
 rest-fits at n bytes l f = omega (arith, f, ap (λ (xs : List ℕ). length xs) (rest-is at bytes), length-drop at bytes)
 
 -- so many bytes were written, and then the next n

@@ -24,10 +24,13 @@ module _ (bins : List ℕ) (minor root : ℕ) where
   pub scan-fails : (fault : LoadFault) → IsNoScan bins fault → FailsAs fault (bins_walk bins minor root nothing)
   unfolding bins_walk
   scan-fails Bins n =
-      ap (λ places. onward (λ places. given Cells (cells_of_bins bins places) >>= (λ cells. key_from (content_in bins cells) minor (suc PATH_LIMIT) [] root_path root)) (given Bins places nothing)) n
+      ap (λ places. onward (λ places. given Cells (cells_of_bins bins places) >>=
+      (λ cells. key_from (content_in bins cells) minor (suc PATH_LIMIT) [] root_path root)) (given Bins places nothing)) n
   scan-fails Cells n =
-      ap (λ places. onward (λ places. given Cells (cells_of_bins bins places) >>= (λ cells. key_from (content_in bins cells) minor (suc PATH_LIMIT) [] root_path root)) (given Bins places nothing)) n.1
-      ∙ ap (λ cells. onward (λ cells. key_from (content_in bins cells) minor (suc PATH_LIMIT) [] root_path root) (given Cells cells nothing)) n.2
+      ap (λ places. onward (λ places. given Cells (cells_of_bins bins places) >>=
+      (λ cells. key_from (content_in bins cells) minor (suc PATH_LIMIT) [] root_path root)) (given Bins places nothing)) n.1
+      ∙ ap (λ cells. onward (λ cells. key_from (content_in bins cells) minor (suc PATH_LIMIT) [] root_path root)
+      (given Cells cells nothing)) n.2
   scan-fails Limit n = absurd n
   scan-fails Memory n = tt
   scan-fails fault n = absurd n
@@ -45,8 +48,10 @@ module _ (bins : List ℕ) (minor root : ℕ) where
     pub bins-walked : bins_walk bins minor root nothing ≡ keys-walked (cell_at bins)
     unfolding bins_walk
     bins-walked =
-        ap (λ places. onward (λ places. given Cells (cells_of_bins bins places) >>= (λ cells. key_from (content_in bins cells) minor (suc PATH_LIMIT) [] root_path root)) (given Bins places nothing)) s.places_are
-        ∙ (ap (λ cells. onward (λ cells. key_from (content_in bins cells) minor (suc PATH_LIMIT) [] root_path root) (given Cells cells nothing)) s.cells_are
+        ap (λ places. onward (λ places. given Cells (cells_of_bins bins places) >>=
+        (λ cells. key_from (content_in bins cells) minor (suc PATH_LIMIT) [] root_path root)) (given Bins places nothing)) s.places_are
+        ∙ (ap (λ cells. onward (λ cells. key_from (content_in bins cells) minor (suc PATH_LIMIT) [] root_path root)
+        (given Cells cells nothing)) s.cells_are
         ∙ ap keys-walked heap-is)
 
     pub tree-built : {T : Type 0} (tree_of : T → Tree) (r : Result T LoadFault) →

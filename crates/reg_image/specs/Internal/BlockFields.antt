@@ -1,5 +1,5 @@
 -- The fields of a base block.
-use Rattle.std.specs.Prelude.{ℕ, List, [], ◌∷◌, ◌++◌}
+use Rattle.std.specs.Prelude.{ℕ, List, ◌∷◌, ◌++◌}
 use Rattle.byteorder.specs.Endian.{little_bytes}
 
 -- what is written before the file name, which is left empty

@@ -1,6 +1,4 @@
-use Rattle.std.proofs.Common.{rules, ◌≤◌, length, Result, subst, ℕ}
-use Rattle.std.specs.Io.{ReadsAtMost}
-use Rattle.std.specs.Io.KnownBytes.{ReadConsumes}
+use Rattle.std.proofs.Common.{rules}
 use Rattle.reg_image.proofs.Devices.InputPieces.{told-ok, Consumes-filled}
 use Rattle.reg_image.proofs.input.fill.Goals as goal
 
@@ -11,6 +9,6 @@ loop-filled-preserved g c =
     let bytes = rw gave at c.read-read.ensures.bytes in
     record {
       within = search rules;
-      read = Consumes-filled _ _ _ c.loop-filled.filled c.in_ok-filled.field-0 c.loop-filled.buffer c.read-read.new.buf c.loop-filled-test.true fits.0
-          (search rules) c.loop-filled.invariant.read bytes.0;
+      read = Consumes-filled _ _ _ c.loop-filled.filled c.in_ok-filled.field-0 c.loop-filled.buffer c.read-read.new.buf c.loop-filled-test.true
+          fits.0 (search rules) c.loop-filled.invariant.read bytes.0;
     }

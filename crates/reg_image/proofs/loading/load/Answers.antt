@@ -5,7 +5,8 @@ use Rattle.reg_image.specs.Images.{nothing, tree_in, bins_walk}
 use Rattle.reg_image.specs.Internal.Stacks.{FailsAs}
 use Rattle.reg_image.proofs.Devices.InputPieces.{exit-with}
 use Rattle.reg_image.proofs.Devices.BlockTests.{block-good}
-use Rattle.reg_image.proofs.Devices.LoadedImages.{refused-before-block, refused-at-block, refused-before-bins, refused-at-bins, whole-loaded, whole-size}
+use Rattle.reg_image.proofs.Devices.LoadedImages.{refused-before-block, refused-at-block, refused-before-bins, refused-at-bins}
+use Rattle.reg_image.proofs.Devices.LoadedImages.{whole-loaded, whole-size}
 use Rattle.reg_image.proofs.loading.load.Goals as goal
 
 pub returns-in_err-fill-clause-err : goal.returns-in_err-fill-clause-err
@@ -16,7 +17,8 @@ returns-in_err-fill-clause-err g c =
 pub returns-in_err-block-clause-err : goal.returns-in_err-block-clause-err
 returns-in_err-block-clause-err g c =
     exit-with _ c.from_residual-in_err-block.result _ c.from_residual-in_err-block.ensures.1
-    (let r = refused-at-block c.fill.new.buffer (search rules) _ _ (c.in_err-block.ensures nothing) in (c.fill.new.buffer, c.in_ok-fill.ensures.ok, r.0, r.1))
+    (let r = refused-at-block c.fill.new.buffer (search rules) _ _ (c.in_err-block.ensures nothing) in
+    (c.fill.new.buffer, c.in_ok-fill.ensures.ok, r.0, r.1))
 
 pub returns-in_err-bins-clause-err : goal.returns-in_err-bins-clause-err
 returns-in_err-bins-clause-err g c =
@@ -55,12 +57,14 @@ returns-in-Ok-clause-ok g c =
     let passed = c.in_ok-block.ensures nothing in
     let bins = c.in_ok-bins.bins.items in
     let tree = c.in_ok-tree.tree in
-    let w = subst (λ (xs : List ℕ). tree_in (bins_walk xs block.minor block.root nothing) ≡ Ok tree.tree) c.as_slice.ensures.value c.in_ok-tree.ensures.ok in
+    let w = subst (λ (xs : List ℕ). tree_in (bins_walk xs block.minor block.root nothing) ≡ Ok tree.tree) c.as_slice.ensures.value
+    c.in_ok-tree.ensures.ok in
     let made = c.in-Ok.ensures in (
       c.fill.new.buffer ++ bins,
       Consumes-trans _ _ _ c.fill.new.buffer bins c.in_ok-fill.ensures.ok c.in_ok-bins.ensures.ok.0,
       record {
-        tree = whole-loaded c.fill.new.buffer (search rules) block passed bins tree.tree c.in_ok-bins.ensures.ok.1 w ∙ ap Ok (sym made.origin);
+        tree = whole-loaded c.fill.new.buffer (search rules) block passed bins tree.tree c.in_ok-bins.ensures.ok.1 w
+            ∙ ap Ok (sym made.origin);
         size = whole-size c.fill.new.buffer (search rules) block passed bins c.in_ok-bins.ensures.ok.1;
         journal = made.journal;
         keys = ap (λ (keys : Keys). keys.tree) made.keys ∙ sym made.origin;

@@ -1,16 +1,15 @@
-use Rattle.std.proofs.Common.{◌≡◌, ◌≤◌, ◌∙◌, ap, sym, subst, length}
+use Rattle.std.proofs.Common.{◌∙◌, ap}
 use Rattle.reg_arena.specs.Arena.{Bins}
 use Rattle.reg_tree.specs.TreeKeys.{Keys}
 use Rattle.reg_calls.specs.HiveView.{view_of}
-use Rattle.reg_image.specs.Images.{image_of}
 use Rattle.reg_image.proofs.Devices.MadeImages.{root-is, image-made, image-loads}
 use Rattle.reg_image.proofs.writing.image.Goals as goal
 
 pub returns-clause-is : goal.returns-clause-is
 returns-clause-is c =
     let keys = (view_of c.args.hive.now).keys in
-    image-made keys.bins.bytes keys.root c.args.moment c.args.sequence c.bins_size-size.result c.root-root.result.offset c.push_block.new.out.items
-    c.push_bins.new.out.items c.arena-arena.result.now.bytes c.in_ok-push_block.ensures c.in_ok-push_bins.ensures
+    image-made keys.bins.bytes keys.root c.args.moment c.args.sequence c.bins_size-size.result c.root-root.result.offset
+    c.push_block.new.out.items c.push_bins.new.out.items c.arena-arena.result.now.bytes c.in_ok-push_block.ensures c.in_ok-push_bins.ensures
     (ap (λ (bins : Bins). bins.bytes) c.arena-arena.ensures.bins) c.bins_size-size.ensures.size
     (root-is c.tree.result.now c.root-root.result c.root-root.ensures.at ∙ ap (λ (k : Keys). k.root) c.tree.ensures.keys)
 
