@@ -149,9 +149,10 @@ impl Tree {
     /// The root. It also tells what is true of every tree's keys. They are a tree: the root is there, and with each key the one
     /// above it; a path's last name is its key's, folded; and the names of a key's values differ after folding (clause `tree`).
     /// They are within the limits: each key by itself, how many are right below one, and how deep one is (clause `limits`), which
-    /// is at most 512 names (clause `shallow`).
+    /// is at most 512 names (clause `shallow`). And a node is that of one key (clause `one_path`).
     pub fn root(&self) -> Node
         ensures at { IsAt self.now [] result }
+        ensures one_path { (p q : Path) → (node : Node) → IsAt self.now p node → IsAt self.now q node → p ≡ q }
         ensures shallow { (p : Path) → IsSome (get self.now.tree p) → length p ≤ PATH_LIMIT }
         ensures tree { IsTree self.now.tree }
         ensures limits { IsWithinLimits self.now.tree }
