@@ -12,4 +12,6 @@ pub mod BigSegments
 pub mod DataForms
 pub mod EqualNames
 pub mod ValueReadings
+pub mod FitNames
+pub mod NewValues
 pub mod ValueRows

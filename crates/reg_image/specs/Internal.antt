@@ -5,6 +5,7 @@ pub mod ListParts
 pub mod NameReadings
 pub mod NamedRecords
 pub mod NamesMet
+pub mod FitKeys
 pub mod CellScans
 pub mod SegmentSteps
 pub mod Frames

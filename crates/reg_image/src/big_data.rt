@@ -2,7 +2,7 @@
 //!
 //! Suhanov, Windows registry file format specification, section "Big data".
 
-ghost use Rattle.std.specs.Prelude.{◌≡◌, ◌-◌, ◌*◌, ◌≤◌, ℕ, List, [], length, min};
+ghost use Rattle.std.specs.Prelude.{◌≡◌, ◌+◌, ◌-◌, ◌*◌, ◌≤◌, ℕ, List, [], length, min, IfOk, OnOk};
 ghost use Rattle.reg_heap.specs.Kinds.Kind.{Segment};
 ghost use Rattle.reg_arena.specs.Cells.{cell_at};
 ghost use Rattle.reg_records.specs.OffsetRows.{offsets_at};
@@ -55,6 +55,7 @@ fn append_segment(
         Follows (cell_at bins.now) path (λ _. bytes.new.items)
         (appended bytes.old.items (bytes_step (cell_at bins.now) path (named Segment (min segment_size left) offset)))
         table.old.states.items table.new.states.items result }
+    ensures sized { OnOk result (length bytes.new.items ≡ length bytes.old.items + min segment_size left) }
     ensures no_more { unnamed table.new.states.items ≤ unnamed table.old.states.items }
 {
     let piece = bytes_from(bins, table, offset, segment_length(left))?;
@@ -78,6 +79,7 @@ fn pieces_from(
         Follows (cell_at bins.now) path (λ bytes. bytes.items)
         (pieces_step (cell_at bins.now) path [] (segments size (offsets_at count 0 row.now)))
         table.old.states.items table.new.states.items result }
+    ensures short { IfOk result (λ bytes. length bytes.items ≤ size) }
     ensures no_more { unnamed table.new.states.items ≤ unnamed table.old.states.items }
 {
     let Ok(mut bytes) = Vec::with_capacity(alloc, size as usize) else {
@@ -102,6 +104,7 @@ pub fn big_from(
     ensures follows { (path : List ℕ) →
         Follows (cell_at bins.now) path (λ bytes. bytes.items) (big_step (cell_at bins.now) path size offset)
         table.old.states.items table.new.states.items result }
+    ensures short { IfOk result (λ bytes. length bytes.items ≤ size) }
     ensures no_more { unnamed table.new.states.items ≤ unnamed table.old.states.items }
 {
     let content = cell(bins, table, offset, false)?;

@@ -1,6 +1,6 @@
 //! Cells of foreign bins, as the walk names them.
 
-ghost use Rattle.std.specs.Prelude.{◌≡◌, ◌≢◌, ◌+◌, ◌<◌, ◌≤◌, ℕ, List, false, length, Some, OnOk, IfErr};
+ghost use Rattle.std.specs.Prelude.{◌≡◌, ◌≢◌, ◌+◌, ◌<◌, ◌≤◌, ℕ, List, false, length, Some, OnOk, IfErr, IfOk};
 ghost use Rattle.reg_heap.specs.ByteWords.{word};
 ghost use Rattle.reg_heap.specs.Kinds.{Kind, is_security};
 ghost use Rattle.reg_arena.specs.Cells.{cell_at, size_in};
@@ -8,7 +8,8 @@ ghost use Rattle.reg_records.specs.BigData.{named};
 ghost use Rattle.reg_image.specs.WalkSteps.{cell as cell_step};
 ghost use Rattle.reg_image.specs.LoadingWalk.{bytes_from as bytes_step};
 ghost use Rattle.reg_image.specs.Internal.ReaderOutcomes.{Follows};
-ghost use Rattle.reg_image.specs.Internal.CellStates.{unnamed};
+ghost use Rattle.reg_image.specs.declared.table.CellState.{CellState};
+ghost use Rattle.reg_image.specs.Internal.CellStates.{state_in, unnamed};
 
 use crate::LoadFault;
 use crate::table::CellTable;
@@ -63,6 +64,7 @@ pub fn cell<'a>(
     ensures no_more { unnamed table.new.states.items ≤ unnamed table.old.states.items }
     ensures fewer { OnOk result (security ≡ false → unnamed table.new.states.items < unnamed table.old.states.items) }
     ensures ample { IfErr result (λ fault. fault ≢ LoadFault.Memory) }
+    ensures named { OnOk result (security ≡ false → state_in table.new.states.items offset ≡ CellState.Named) }
 {
     table.name(offset, security)?;
     Ok(content(bins, offset))
@@ -78,6 +80,7 @@ pub fn bytes_from<'a>(
     ensures follows { (path : List ℕ) → (kind : Kind) → is_security kind ≡ false →
         Follows (cell_at bins.now) path (λ held. held.now) (bytes_step (cell_at bins.now) path (named kind size offset))
         table.old.states.items table.new.states.items result }
+    ensures sized { IfOk result (λ held. length held.now ≡ size) }
     ensures no_more { unnamed table.new.states.items ≤ unnamed table.old.states.items }
     ensures ample { IfErr result (λ fault. fault ≢ LoadFault.Memory) }
 {

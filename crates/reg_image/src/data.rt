@@ -2,7 +2,8 @@
 //!
 //! Suhanov, Windows registry file format specification, sections "Key node", "Key value" and "Big data".
 
-ghost use Rattle.std.specs.Prelude.{◌≡◌, ◌≢◌, ◌≤◌, ◌==◌, ◌||◌, ℕ, List, true, nat_le, IfErr, MatchResult};
+ghost use Rattle.std.specs.Prelude.{◌≡◌, ◌≢◌, ◌≤◌, ◌==◌, ◌||◌, ℕ, List, true, nat_le, IfErr, MatchResult, length as byte_count, IfOk};
+ghost use Rattle.reg_heap.specs.declared.limits.TheConstants.{DATA_LIMIT};
 ghost use Rattle.reg_heap.specs.Heaps.{Heap};
 ghost use Rattle.reg_arena.specs.Cells.{cell_at};
 ghost use Rattle.reg_records.specs.BigData.{segment_size, is_inline};
@@ -35,6 +36,7 @@ pub fn class_from<'a>(
     ensures follows { (path : List ℕ) →
         Follows (cell_at bins.now) path (λ held. held.now) (class_step (cell_at bins.now) path length offset)
         table.old.states.items table.new.states.items result }
+    ensures short { IfOk result (λ held. byte_count held.now ≤ 65535) }
     ensures no_more { unnamed table.new.states.items ≤ unnamed table.old.states.items }
     ensures ample { IfErr result (λ fault. fault ≢ LoadFault.Memory) }
 {
@@ -54,6 +56,7 @@ pub fn single_from<'a>(
     ensures follows { (path : List ℕ) →
         Follows (cell_at bins.now) path (λ held. held.now) (far_step (cell_at bins.now) path true size offset)
         table.old.states.items table.new.states.items result }
+    ensures short { IfOk result (λ held. byte_count held.now ≤ size) }
     ensures no_more { unnamed table.new.states.items ≤ unnamed table.old.states.items }
     ensures ample { IfErr result (λ fault. fault ≢ LoadFault.Memory) }
 {
@@ -76,8 +79,9 @@ fn copied(alloc: Global, bytes: &[u8]) -> Result<Vec<u8>, LoadFault>
 /// The data that stands in the field of its offset: the field's first bytes, at most four.
 fn inline_data(alloc: Global, size: u32, offset: u32) -> Result<Vec<u8>, LoadFault>
     requires { INLINE ≤ size }
-    ensures { (heap : Heap) → (minor : ℕ) → (path : List ℕ) →
+    ensures gives { (heap : Heap) → (minor : ℕ) → (path : List ℕ) →
         Gives (λ bytes. bytes.items) (data_step heap minor path true size offset) result }
+    ensures short { IfOk result (λ bytes. byte_count bytes.items ≤ 4) }
 {
     let count = size - INLINE;
     if count > INLINE_LIMIT {
@@ -106,6 +110,7 @@ fn single_data(
     ensures follows { (path : List ℕ) →
         Follows (cell_at bins.now) path (λ bytes. bytes.items) (far_step (cell_at bins.now) path true size offset)
         table.old.states.items table.new.states.items result }
+    ensures short { IfOk result (λ bytes. byte_count bytes.items ≤ size) }
     ensures no_more { unnamed table.new.states.items ≤ unnamed table.old.states.items }
 {
     let held = single_from(bins, table, size, offset)?;
@@ -129,6 +134,7 @@ pub fn data_from(
     ensures follows { (path : List ℕ) →
         Follows (cell_at bins.now) path (λ bytes. bytes.items) (data_step (cell_at bins.now) minor path (is_inline size) size offset)
         table.old.states.items table.new.states.items result }
+    ensures short { IfOk result (λ bytes. byte_count bytes.items ≤ DATA_LIMIT) }
     ensures no_more { unnamed table.new.states.items ≤ unnamed table.old.states.items }
 {
     if size >= INLINE {

@@ -1,9 +1,11 @@
 //! Keys, as the walk names them: a record and its name.
 
-ghost use Rattle.std.specs.Prelude.{◌≡◌, ◌<◌, ◌≤◌, ℕ, List, OnOk};
+ghost use Rattle.std.specs.Prelude.{◌≡◌, ◌<◌, ◌≤◌, ℕ, List, IfOk, OnOk};
 ghost use Rattle.reg_arena.specs.Cells.{cell_at};
 ghost use Rattle.reg_image.specs.LoadingWalk.{key_name as name_step, named_key as key_step};
-ghost use Rattle.reg_image.specs.Internal.CellStates.{unnamed};
+ghost use Rattle.reg_image.specs.declared.table.CellState.{CellState};
+ghost use Rattle.reg_image.specs.Internal.CellStates.{state_in, unnamed};
+ghost use Rattle.reg_image.specs.Internal.FitKeys.{IsFitName};
 ghost use Rattle.reg_image.specs.Internal.ReaderOutcomes.{Gives, Follows};
 ghost use Rattle.reg_image.specs.Internal.NameReadings.{key_in};
 ghost use Rattle.reg_image.specs.Internal.NamedRecords.{key_of};
@@ -42,7 +44,8 @@ fn key_name(alloc: Global, node: KeyNode<'_>) -> Result<Vec<u8>, LoadFault>
 
 /// Reads a key's record and its name from what its cell holds.
 fn read_key<'a>(alloc: Global, content: &'a [u8]) -> Result<NamedKey<'a>, LoadFault>
-    ensures { Gives key_of (key_in content.now) result }
+    ensures gives { Gives key_of (key_in content.now) result }
+    ensures fit { IfOk result IsFitName }
 {
     match read_nk(content) {
         Ok(node) => {
@@ -62,6 +65,8 @@ pub fn named_key<'a>(
 ) -> Result<NamedKey<'a>, LoadFault>
     ensures follows { (path : List ℕ) →
         Follows (cell_at bins.now) path key_of (key_step (cell_at bins.now) path offset) table.old.states.items table.new.states.items result }
+    ensures fit { IfOk result IsFitName }
+    ensures named { OnOk result (state_in table.new.states.items offset ≡ CellState.Named) }
     ensures fewer { OnOk result (unnamed table.new.states.items < unnamed table.old.states.items) }
     ensures no_more { unnamed table.new.states.items ≤ unnamed table.old.states.items }
 {

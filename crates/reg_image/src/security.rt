@@ -1,6 +1,7 @@
 //! A security's descriptor, as the walk reads it.
 
-ghost use Rattle.std.specs.Prelude.{◌≡◌, ◌≢◌, ◌≤◌, ℕ, List, IfErr};
+ghost use Rattle.std.specs.Prelude.{◌≡◌, ◌≢◌, ◌≤◌, ℕ, List, IfErr, length, IfOk};
+ghost use Rattle.reg_heap.specs.declared.limits.TheConstants.{DESCRIPTOR_LIMIT};
 ghost use Rattle.reg_arena.specs.Cells.{cell_at};
 ghost use Rattle.reg_image.specs.LoadingWalk.{descriptor_from as descriptor_step, fault_of_record};
 ghost use Rattle.reg_image.specs.Internal.ReaderOutcomes.{Follows};
@@ -33,6 +34,7 @@ pub fn descriptor_from<'a>(
     ensures follows { (path : List ℕ) →
         Follows (cell_at bins.now) path (λ bytes. bytes.now) (descriptor_step (cell_at bins.now) path offset)
         table.old.states.items table.new.states.items result }
+    ensures fit { IfOk result (λ bytes. (1 ≤ length bytes.now) × (length bytes.now ≤ DESCRIPTOR_LIMIT)) }
     ensures no_more { unnamed table.new.states.items ≤ unnamed table.old.states.items }
     ensures ample { IfErr result (λ fault. fault ≢ LoadFault.Memory) }
 {

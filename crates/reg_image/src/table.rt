@@ -66,6 +66,7 @@ impl CellTable {
         ensures err { IfErr result (λ fault. naming_fault (state_in self.old.states.items offset) security ≡ Some fault) }
         ensures fewer { OnOk result (security ≡ false → unnamed self.new.states.items < unnamed self.old.states.items) }
         ensures no_more { unnamed self.new.states.items ≤ unnamed self.old.states.items }
+        ensures named { OnOk result (security ≡ false → state_in self.new.states.items offset ≡ CellState.Named) }
         ensures same { OnErr result (self.new ≡ self.old) }
         ensures ample { IfErr result (λ fault. fault ≢ LoadFault.Memory) }
     {
@@ -93,6 +94,17 @@ impl CellTable {
     }
 
     /// Notes that a key is no longer on the present path. Where it isn't on it, nothing changes.
+    /// Notes that a key that was named is on the present path.
+    pub fn enter(&mut self, offset: u32)
+        ensures entered { state_in self.old.states.items offset ≡ CellState.Named →
+            Puts self.old.states.items self.new.states.items offset CellState.OnPath }
+        ensures same { unnamed self.new.states.items ≡ unnamed self.old.states.items }
+    {
+        if self.state(offset) == CellState::Named {
+            self.put(offset, CellState::OnPath);
+        }
+    }
+    /// Notes that a key is no longer on the present path.
     pub fn leave(&mut self, offset: u32)
         ensures left { state_in self.old.states.items offset ≡ CellState.OnPath →
             Puts self.old.states.items self.new.states.items offset CellState.Named }

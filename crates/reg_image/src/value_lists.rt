@@ -2,13 +2,14 @@
 //!
 //! Suhanov, Windows registry file format specification, section "Key values list".
 
-ghost use Rattle.std.specs.Prelude.{◌≤◌, ◌*◌, ℕ, List, [], length};
+ghost use Rattle.std.specs.Prelude.{◌≤◌, ◌*◌, ℕ, List, [], length, IfOk};
 ghost use Rattle.reg_arena.specs.Cells.{cell_at};
 ghost use Rattle.reg_records.specs.OffsetRows.{offsets_at};
 ghost use Rattle.reg_image.specs.LoadingWalk.{values_each as each_step, values_from as values_step};
 ghost use Rattle.reg_image.specs.Internal.CellStates.{unnamed};
 ghost use Rattle.reg_image.specs.Internal.ReaderOutcomes.{Follows};
 ghost use Rattle.reg_image.specs.Internal.NamedRecords.{members_in};
+ghost use Rattle.reg_image.specs.Internal.FitKeys.{AreNew, AreFit};
 
 use crate::LoadFault;
 use crate::met_names::MetNames;
@@ -32,6 +33,8 @@ fn values_each(
     ensures follows { (path : List ℕ) →
         Follows (cell_at bins.now) path (λ values. members_in values.items)
         (each_step (cell_at bins.now) minor path [] (offsets_at count 0 row.now)) table.old.states.items table.new.states.items result }
+    ensures new { IfOk result (λ values. AreNew [] (members_in values.items)) }
+    ensures few { IfOk result (λ values. length (members_in values.items) ≤ count) }
     ensures no_more { unnamed table.new.states.items ≤ unnamed table.old.states.items }
 {
     let mut met = MetNames::new(alloc);
@@ -59,6 +62,7 @@ pub fn values_from(
     ensures follows { (path : List ℕ) →
         Follows (cell_at bins.now) path (λ values. members_in values.items) (values_step (cell_at bins.now) minor path count offset)
         table.old.states.items table.new.states.items result }
+    ensures fit { IfOk result (λ values. AreFit (members_in values.items)) }
     ensures no_more { unnamed table.new.states.items ≤ unnamed table.old.states.items }
 {
     if count == 0 {

@@ -1,7 +1,9 @@
 //! Values, as the walk names them: a record and its name, and then the data.
 
-ghost use Rattle.std.specs.Prelude.{◌≡◌, ◌<◌, ◌≤◌, ℕ, List, [], ◌∷◌, ◌++◌, IfOk, OnOk};
+ghost use Rattle.std.specs.Prelude.{◌≡◌, ◌<◌, ◌≤◌, ℕ, true, List, [], ◌∷◌, ◌++◌, IfOk, OnOk};
+ghost use Rattle.reg_names.specs.Names.{is_value_name};
 ghost use Rattle.reg_heap.specs.Paths.{Member};
+ghost use Rattle.reg_heap.specs.Trees.{IsSmallValue};
 ghost use Rattle.reg_arena.specs.Cells.{cell_at};
 ghost use Rattle.reg_image.specs.LoadingWalk.{value_name as name_step, named_value as named_step, value_from as value_step};
 ghost use Rattle.reg_image.specs.Internal.CellStates.{unnamed};
@@ -9,6 +11,7 @@ ghost use Rattle.reg_image.specs.Internal.ReaderOutcomes.{Gives, Follows};
 ghost use Rattle.reg_image.specs.Internal.NameReadings.{value_in};
 ghost use Rattle.reg_image.specs.Internal.NamedRecords.{value_of, member_in};
 ghost use Rattle.reg_image.specs.Internal.NamesMet.{AreMet};
+ghost use Rattle.reg_image.specs.Internal.FitKeys.{IsOther};
 
 use crate::LoadFault;
 use crate::cells::cell;
@@ -54,7 +57,8 @@ fn value_name(alloc: Global, value: ValueRecord<'_>) -> Result<Vec<u8>, LoadFaul
 
 /// Reads a value's record and its name from what its cell holds.
 fn read_value<'a>(alloc: Global, content: &'a [u8]) -> Result<NamedValue<'a>, LoadFault>
-    ensures { Gives value_of (value_in content.now) result }
+    ensures gives { Gives value_of (value_in content.now) result }
+    ensures name { IfOk result (λ value. is_value_name value.name.items ≡ true) }
 {
     match read_vk(content) {
         Ok(value) => {
@@ -74,6 +78,7 @@ pub fn named_value<'a>(
 ) -> Result<NamedValue<'a>, LoadFault>
     ensures follows { (path : List ℕ) →
         Follows (cell_at bins.now) path value_of (named_step (cell_at bins.now) path offset) table.old.states.items table.new.states.items result }
+    ensures name { IfOk result (λ value. is_value_name value.name.items ≡ true) }
     ensures fewer { OnOk result (unnamed table.new.states.items < unnamed table.old.states.items) }
     ensures no_more { unnamed table.new.states.items ≤ unnamed table.old.states.items }
 {
@@ -94,6 +99,8 @@ pub fn value_from(
     ensures follows { (path : List ℕ) → (before : List Member) → AreMet before met.old.folded.keys →
         Follows (cell_at bins.now) path member_in (value_step (cell_at bins.now) minor path before offset)
         table.old.states.items table.new.states.items result }
+    ensures small { IfOk result (λ value. IsSmallValue (member_in value)) }
+    ensures other { IfOk result (λ value. (before : List Member) → AreMet before met.old.folded.keys → IsOther before value.name.items) }
     ensures met { IfOk result (λ value. (before : List Member) → AreMet before met.old.folded.keys →
         AreMet (before ++ member_in value ∷ []) met.new.folded.keys) }
     ensures no_more { unnamed table.new.states.items ≤ unnamed table.old.states.items }

@@ -210,3 +210,57 @@ module _ (heap : Heap) (found : List Found) (offset : ℕ) (path : List ℕ) whe
           )
       by x false e = t.each x ∙ ap (λ b. state_by (is_some (heap x)) (cond b 1 0 + times x path == 0) (owned x found == 0) (shared x found == 0)) (ne_eqb offset x (λ z. eqb-false x offset e (sym z)))
           ∙ ap (λ n. state_by (is_some (heap x)) (n == 0) (owned x found == 0) (shared x found == 0)) (let n : 0 + times x path ≡ times x path = omega arith in n)
+
+-- a key that was named is on the path
+module _ (heap : Heap) (found : List Found) (offset : ℕ) (path : List ℕ) where
+  record IsNamedKey (s a o : Bool) : Type 0 where
+    there : s ≡ true
+    absent : a ≡ true
+    owned-once : o ≡ false
+
+  named-key : (s a o h : Bool) → state_by s a o h ≡ Named → IsNamedKey s a o
+  named-key false a o h e = absurd (cc)
+  named-key true false o h e = absurd (cc)
+  named-key true true false h e = record { there = refl; absent = refl; owned-once = refl }
+  named-key true true true false e = absurd (cc)
+  named-key true true true true e = absurd (cc)
+
+  pub entered-table : (old new : List CellState) → IsTable heap found path old → state_in old offset ≡ Named → Puts old new offset OnPath →
+      IsTable heap found (offset ∷ path) new
+  entered-table old new t e p = record { each = λ x. p x ∙ by x (eqb x offset) refl; once = t.once; keys = keys; real = t.real }
+    where
+      n : IsNamedKey (is_some (heap offset)) (times offset path == 0) (owned offset found == 0)
+      n = named-key (is_some (heap offset)) (times offset path == 0) (owned offset found == 0) (shared offset found == 0) (sym (t.each offset) ∙ e)
+
+      one : ◌≡◌ {A = ℕ} (cond (eqb offset offset) 1 0) 1
+      one = ap (λ b. cond b 1 0) (same-number offset)
+
+      on : (times offset (offset ∷ path) == 0) ≡ false
+      on = ne_eqb _ _ (λ z. absurd (omega (arith, one, z)))
+
+      here : state_of heap found (offset ∷ path) offset ≡ OnPath
+      here =
+          ap (λ b. state_by b (times offset (offset ∷ path) == 0) (owned offset found == 0) (shared offset found == 0)) n.there
+          ∙ ap (λ b. state_by true b (owned offset found == 0) (shared offset found == 0)) on
+
+      by : (x : ℕ) (b : Bool) → eqb x offset ≡ b → cond b OnPath (state_in old x) ≡ state_of heap found (offset ∷ path) x
+      by x true e = sym (ap (λ y. state_of heap found (offset ∷ path) y) (eqb-true x offset e) ∙ here)
+      by x false e = t.each x
+          ∙ ap (λ n. state_by (is_some (heap x)) (n == 0) (owned x found == 0) (shared x found == 0)) (let n : times x path ≡ 0 + times x path = omega arith in n)
+          ∙ ap (λ b. state_by (is_some (heap x)) (cond b 1 0 + times x path == 0) (owned x found == 0) (shared x found == 0)) (sym (ne_eqb offset x (λ z. eqb-false x offset e (sym z))))
+
+      keys : (x : ℕ) → times x (offset ∷ path) ≤ owned x found
+      keys x = two (eqb offset x) refl
+        where
+          none : times offset path ≡ 0
+          none = eqb-true _ _ n.absent
+
+          some : owned offset found ≡ 0 → ⊥
+          some = eqb-false _ _ n.owned-once
+
+          first : 1 + times offset path ≤ owned offset found
+          first = let z = some in omega (arith, none, z)
+
+          two : (b : Bool) → eqb offset x ≡ b → cond b 1 0 + times x path ≤ owned x found
+          two true e = subst (λ y. 1 + times y path ≤ owned y found) (eqb-true offset x e) first
+          two false e = let l = t.keys x in omega (arith, l)

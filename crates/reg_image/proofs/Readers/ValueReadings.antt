@@ -52,15 +52,15 @@ onward-open {A} s f seen y after e = by (s seen) refl e
     by (Ok p) q e = record { first = p.0; mid = p.1; first_is = q; then_is = e }
     by (Err fault) q e = absurd (cc)
 
-check-open : {A : Type 0} (fault : LoadFault) (test : Bool) (t : Step A) (seen : Seen) (y : A) (after : Seen) →
+pub check-open : {A : Type 0} (fault : LoadFault) (test : Bool) (t : Step A) (seen : Seen) (y : A) (after : Seen) →
     (check fault test >> t) seen ≡ Ok (y, after) → t seen ≡ Ok (y, after)
 check-open fault true t seen y after e = e
 check-open fault false t seen y after e = absurd (cc)
 
-give-open : {A : Type 0} (x y : A) (seen after : Seen) → give x seen ≡ Ok (y, after) → x ≡ y
+pub give-open : {A : Type 0} (x y : A) (seen after : Seen) → give x seen ≡ Ok (y, after) → x ≡ y
 give-open {A} x y seen after e = let p : ◌≡◌ {A = A × Seen} (x, seen) (y, after) = cc in ap (λ (p : A × Seen). p.0) p
 
-name-open : (single : Bool) (most : ℕ) (ok : ℕ → Bool) (name read : List ℕ) (seen after : Seen) →
+pub name-open : (single : Bool) (most : ℕ) (ok : ℕ → Bool) (name read : List ℕ) (seen after : Seen) →
     name_in single most ok name seen ≡ Ok (read, after) → letters single name ≡ read
 name-open single most ok name read seen after e =
     let chars = letters single name in

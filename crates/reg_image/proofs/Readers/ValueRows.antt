@@ -1,13 +1,14 @@
 -- The values at the offsets of a row, read one after the other.
 use Rattle.std.proofs.Common.{◌≡◌, ℕ, zero, suc, ◌+◌, ◌<◌, ◌≤◌, nat_le, true, Result, Ok, Err, List}
 use Rattle.std.proofs.Common.{[], ◌∷◌, ◌++◌, length, drop, Vec, Global, add-one, refl, sym, ap, ◌∙◌, subst}
-use Rattle.std.proofs.Common.{drop-cons, arith}
+use Rattle.std.proofs.Common.{drop-cons, length-append, arith}
 use Rattle.std.specs.Result.{IsErrAnd}
 use Rattle.std.proofs.lemmas.Bool.Decides.{nat_tests}
 use Rattle.reg_heap.specs.declared.limits.TheConstants.{VALUES_LIMIT}
 use Rattle.reg_heap.specs.Heaps.{Heap}
 use Rattle.reg_heap.specs.Kinds.Kind.{ValueList}
 use Rattle.reg_heap.specs.Paths.{Member}
+use Rattle.reg_heap.specs.Trees.{IsSmallValue}
 use Rattle.reg_records.specs.OffsetRows.{offset_in, offsets_at}
 use Rattle.reg_values.proofs.ValueListing.ValueListOpening.{length-offsets}
 use Rattle.reg_values.proofs.ValueListing.FoundValues.{offset-at}
@@ -20,9 +21,11 @@ use Rattle.reg_image.specs.LoadingWalk.{row_from, value_from, values_each, value
 use Rattle.reg_image.specs.Internal.CellStates.{IsTable, unnamed}
 use Rattle.reg_image.specs.Internal.NamedRecords.{member_in, members_in}
 use Rattle.reg_image.specs.Internal.NamesMet.{AreMet}
+use Rattle.reg_image.specs.Internal.FitKeys.{IsOther, AreNew}
 use Rattle.reg_image.specs.Internal.ReaderOutcomes.{Fails, Follows}
 use Rattle.reg_image.proofs.Readers.ReaderSteps.{fails-on, fails-same, exit-follows, follows-then}
 use Rattle.reg_image.proofs.Readers.ValueReadings.{check-follows}
+use Rattle.reg_image.proofs.Readers.NewValues.{new-push}
 
 -- ---- the row
 
@@ -63,6 +66,8 @@ module _ (heap : Heap) (minor : ℕ) (offsets : List ℕ) (old : List CellState)
   -- the first values were read, and just their names are met
   pub record AreValuesRead {Y : Type 0} (index : ℕ) (values : List ReadValue) (met : List (Vec ℕ Y)) (now : List CellState) : Type 0 where
     pub names : AreMet (members_in values) met
+    pub new : AreNew [] (members_in values)
+    pub many : length (members_in values) ≡ index
     pub no_more : unnamed now ≤ unnamed old
     pub left : (path : List ℕ) (seen : Seen) → IsTable heap seen.found path old → IsLeft path seen index values now
 
@@ -70,6 +75,8 @@ module _ (heap : Heap) (minor : ℕ) (offsets : List ℕ) (old : List CellState)
       AreValuesRead 0 values met old
   none-read values met e m = subst (λ values. AreValuesRead 0 values met old) (sym e) (record {
     names = m;
+    new = tt;
+    many = refl;
     no_more = omega arith;
     left = λ path seen t. record { after = seen; goes = refl; table = t; told = refl };
   })
@@ -83,9 +90,14 @@ module _ (heap : Heap) (minor : ℕ) (offsets : List ℕ) (old : List CellState)
 
     pub more-read : (v : ReadValue) (grown : List ReadValue) (more : List (Vec ℕ Y)) → grown ≡ values ++ v ∷ [] → FollowsNext (Ok v) →
         ((before : List Member) → AreMet before met → AreMet (before ++ member_in v ∷ []) more) → unnamed new ≤ unnamed now →
+        IsSmallValue (member_in v) → ((before : List Member) → AreMet before met → IsOther before v.name.items) →
         AreValuesRead (index + 1) grown more new
-    more-read v grown more g f m l = subst (λ values. AreValuesRead (index + 1) values more new) (sym g) (record {
+    more-read v grown more g f m l s o = subst (λ values. AreValuesRead (index + 1) values more new) (sym g) (record {
       names = subst (λ ms. AreMet ms more) (sym (members-behind values v)) (m (members_in values) a.names);
+      new =
+          subst (λ ms. AreNew [] ms) (sym (members-behind values v))
+          (new-push (members_in values) [] (member_in v) a.new s (o (members_in values) a.names));
+      many = ap length (members-behind values v) ∙ (let n = length-append (members_in values) (member_in v ∷ []) in omega (arith, n, a.many));
       no_more = omega (arith, l, a.no_more);
       left = λ path seen t.
           let w = a.left path seen t in

@@ -7,7 +7,7 @@ pub returns-then-size-ge-INLINE-clause-follows :
     goal.returns-then-size-ge-INLINE-clause-follows
 returns-then-size-ge-INLINE-clause-follows c path =
     inline-follows _ c.args.minor path c.args.size c.args.offset (λ (x : Vec ℕ Global). x.items) _ _ c.if-size-ge-INLINE.true
-    (c.inline_data.ensures (cell_at c.args.bins.now) c.args.minor path)
+    (c.inline_data.ensures.gives (cell_at c.args.bins.now) c.args.minor path)
 
 pub returns-clause-follows : goal.returns-clause-follows
 returns-clause-follows c path =

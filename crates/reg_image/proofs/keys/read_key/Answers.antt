@@ -4,10 +4,15 @@ use Rattle.reg_image.specs.LoadingWalk.{key_name}
 use Rattle.reg_image.specs.WalkSteps.{◌>>=◌, give}
 use Rattle.reg_image.specs.Internal.NamedRecords.{key_of}
 use Rattle.reg_image.proofs.Readers.ReaderSteps.{exit-gives, read-gives}
+use Rattle.reg_image.proofs.Readers.FitNames.{key-fit}
 use Rattle.reg_image.proofs.keys.read_key.Goals as goal
 
-pub returns-in_err-name-in-Ok : goal.returns-in_err-name-in-Ok
-returns-in_err-name-in-Ok c =
+pub returns-in_err-name-in-Ok-clause-gives : goal.returns-in_err-name-in-Ok-clause-gives
+returns-in_err-name-in-Ok-clause-gives c =
     let key : KeyRecord = record { fields = c.in-Ok.node.fields; name = c.in-Ok.node.name.now } in
     read-gives key_of _ (λ (key : KeyRecord). key_name key >>= (λ name. give (key, name))) key _ c.in-Ok.ensures
     (exit-gives (λ (x : Vec ℕ Global). x.items) key_of (key_name key) (λ name. give (key, name)) _ _ c.from_residual.ensures.1 c.in_err-name-in-Ok.ensures)
+
+pub returns-in_ok-name-in-Ok-clause-fit : goal.returns-in_ok-name-in-Ok-clause-fit
+returns-in_ok-name-in-Ok-clause-fit c =
+    key-fit c.args.content.now (record { node = c.in-Ok.node; name = c.in_ok-name-in-Ok.name }) c.in-Ok.ensures c.in_ok-name-in-Ok.ensures

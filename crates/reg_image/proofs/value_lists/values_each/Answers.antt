@@ -21,9 +21,16 @@ loop-index-preserved c =
     (next-offset c.args.count c.args.row.now c.loop-index.index c.offset_at-offset.result c.loop-index-test.true c.offset_at-offset.ensures)
     c.loop-index.values.items c.loop-index.met.folded.keys _ c.loop-index.invariant _ c.in_ok-value.value c.push.new.self.items
     c.value_from.new.met.folded.keys items c.in_ok-value.ensures.follows c.in_ok-value.ensures.met c.value_from.ensures.no_more
+    c.in_ok-value.ensures.small c.in_ok-value.ensures.other
 
 pub returns-clause-follows : goal.returns-clause-follows
 returns-clause-follows c =
     all-read _ c.args.minor (offsets_at c.args.count 0 c.args.row.now) _ c.loop-index.index c.loop-index.values c.loop-index.met.folded.keys
     c.loop-index.table.states.items (omega (arith, length-offsets c.args.count 0 c.args.row.now, c.loop-index-test.false))
     c.loop-index.invariant
+
+pub returns-clause-new : goal.returns-clause-new
+returns-clause-new c = c.loop-index.invariant.new
+
+pub returns-clause-few : goal.returns-clause-few
+returns-clause-few c = let m = c.loop-index.invariant.many in let e = c.loop-index.auto.index-end in omega (arith, m, e)

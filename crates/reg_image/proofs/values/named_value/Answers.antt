@@ -13,4 +13,4 @@ returns-in_err-content-clause-follows c path =
 pub returns-clause-follows : goal.returns-clause-follows
 returns-clause-follows c path =
     cell-gives _ path (λ (x : Bor (List ℕ)). x.now) value_of _ value_in _ _ c.in_ok-content.content _
-    (c.in_ok-content.ensures.follows path (λ _. Value) (λ _. refl)) c.read_value.ensures
+    (c.in_ok-content.ensures.follows path (λ _. Value) (λ _. refl)) c.read_value.ensures.gives

@@ -4,10 +4,15 @@ use Rattle.reg_image.specs.LoadingWalk.{value_name}
 use Rattle.reg_image.specs.WalkSteps.{◌>>=◌, give}
 use Rattle.reg_image.specs.Internal.NamedRecords.{value_of}
 use Rattle.reg_image.proofs.Readers.ReaderSteps.{exit-gives, read-gives}
+use Rattle.reg_image.proofs.Readers.FitNames.{value-fit}
 use Rattle.reg_image.proofs.values.read_value.Goals as goal
 
-pub returns-in_err-name-in-Ok : goal.returns-in_err-name-in-Ok
-returns-in_err-name-in-Ok c =
+pub returns-in_err-name-in-Ok-clause-gives : goal.returns-in_err-name-in-Ok-clause-gives
+returns-in_err-name-in-Ok-clause-gives c =
     let value : KeyValueRecord = record { fields = c.in-Ok.value.fields; name = c.in-Ok.value.name.now } in
     read-gives value_of _ (λ (value : KeyValueRecord). value_name value >>= (λ name. give (value, name))) value _ c.in-Ok.ensures
     (exit-gives (λ (x : Vec ℕ Global). x.items) value_of (value_name value) (λ name. give (value, name)) _ _ c.from_residual.ensures.1 c.in_err-name-in-Ok.ensures)
+
+pub returns-in_ok-name-in-Ok-clause-name : goal.returns-in_ok-name-in-Ok-clause-name
+returns-in_ok-name-in-Ok-clause-name c =
+    value-fit (record { value = c.in-Ok.value; name = c.in_ok-name-in-Ok.name }) c.in_ok-name-in-Ok.ensures

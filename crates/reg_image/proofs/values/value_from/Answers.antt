@@ -1,4 +1,5 @@
 use Rattle.reg_image.proofs.Readers.ValueReadings.{name-exit, data-exit, value-done}
+use Rattle.reg_image.proofs.Readers.NewValues.{name-other}
 use Rattle.reg_image.proofs.values.value_from.Goals as goal
 
 pub returns-in_err-meet-clause-follows : goal.returns-in_err-meet-clause-follows
@@ -16,3 +17,6 @@ pub returns-clause-follows : goal.returns-clause-follows
 returns-clause-follows c path before met =
     value-done _ c.args.minor path c.args.offset before _ _ c.in_ok-value.field-0 (c.in_ok-value.ensures.follows path) _ met _
     c.as_slice.ensures.value c.in_ok-meet.ensures.new _ c.in_ok-bytes.bytes (c.in_ok-bytes.ensures.follows path)
+
+pub returns-clause-other : goal.returns-clause-other
+returns-clause-other c before met = name-other _ _ c.in_ok-value.field-0.name.items c.as_slice.ensures.value c.in_ok-meet.ensures.new before met

@@ -1,0 +1,52 @@
+-- Values that were read are within the limits, and no two of them have one name.
+use Rattle.std.proofs.Common.{◌≡◌, ℕ, zero, suc, ◌+◌, ◌<◌, not, Bool, true, false, Ok, List, [], ◌∷◌, ◌++◌, length, take, get_or, Vec, sym, ap, ◌∙◌, subst, refl, arith}
+use Rattle.std.proofs.lemmas.List.{append_assoc}
+use Rattle.std.specs.List.{list_any}
+use Rattle.reg_heap.specs.Paths.{Member}
+use Rattle.reg_heap.specs.Members.{same_name}
+use Rattle.reg_heap.specs.Trees.{IsSmallValue}
+use Rattle.reg_image.specs.declared.LoadFault.TheVariants.{Twice}
+use Rattle.reg_image.specs.WalkSteps.{Seen, check}
+use Rattle.reg_image.specs.Images.{nothing}
+use Rattle.reg_image.specs.Internal.NamesMet.{is_met, AreMet}
+use Rattle.reg_image.specs.Internal.FitKeys.{IsOther, AreNew}
+
+-- a name that was not met
+pub name-other : {Y : Type 0} (met : List (Vec ℕ Y)) (name read : List ℕ) → name ≡ read →
+    ((seen : Seen) → check Twice (not (is_met met name)) seen ≡ Ok (tt, seen)) →
+    (before : List Member) → AreMet before met → IsOther before read
+name-other met name read same g before are = are read ∙ (ap (is_met met) (sym same) ∙ by (is_met met name) (g nothing))
+  where
+    by : (b : Bool) → check Twice (not b) nothing ≡ Ok (tt, nothing) → b ≡ false
+    by true e = absurd (cc)
+    by false e = refl
+
+append-none : (ms : List Member) → ms ++ [] ≡ ms
+append-none [] = refl
+append-none (m ∷ ms) = ap (λ ms. m ∷ ms) (append-none ms)
+
+-- one more behind them
+pub new-push : (members before : List Member) (m : Member) → AreNew before members → IsSmallValue m → IsOther (before ++ members) m.name →
+    AreNew before (members ++ m ∷ [])
+new-push [] before m a s o = (s, subst (λ ms. IsOther ms m.name) (append-none before) o, tt)
+new-push (x ∷ members) before m a s o =
+    (a.0, a.1, new-push members (before ++ x ∷ []) m a.2 s (subst (λ ms. IsOther ms m.name) (sym (append_assoc before (x ∷ []) members)) o))
+
+-- one of them
+pub record IsNew (members : List Member) (index : ℕ) (m : Member) : Type 0 where
+  pub small : IsSmallValue m
+  pub other : IsOther (take index members) m.name
+
+new-behind : (members before : List Member) → AreNew before members → (index : ℕ) (d : Member) → index < length members →
+    IsSmallValue (get_or members index d) × IsOther (before ++ take index members) (get_or members index d).name
+new-behind [] before a index d l = absurd (omega (arith, l))
+new-behind (m ∷ members) before a zero d l = (a.0, subst (λ ms. IsOther ms m.name) (sym (append-none before)) a.1)
+new-behind (m ∷ members) before a (suc i) d l =
+    let r = new-behind members (before ++ m ∷ []) a.2 i d (omega (arith, l)) in
+    (r.0, subst (λ ms. IsOther ms (get_or members i d).name) (append_assoc before (m ∷ []) (take i members)) r.1)
+
+pub new-at : (members : List Member) → AreNew [] members → (index : ℕ) (m d : Member) → index < length members → m ≡ get_or members index d →
+    IsNew members index m
+new-at members a index m d l e =
+    subst (λ m. IsNew members index m) (sym e)
+    (let r = new-behind members [] a index d l in record { small = r.0; other = r.1 })
