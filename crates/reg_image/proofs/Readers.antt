@@ -14,4 +14,6 @@ pub mod EqualNames
 pub mod ValueReadings
 pub mod FitNames
 pub mod NewValues
+pub mod PutValues
+pub mod BegunSteps
 pub mod ValueRows

@@ -6,6 +6,7 @@ pub mod NameReadings
 pub mod NamedRecords
 pub mod NamesMet
 pub mod FitKeys
+pub mod BegunKeys
 pub mod CellScans
 pub mod SegmentSteps
 pub mod Frames

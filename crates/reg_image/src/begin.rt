@@ -2,7 +2,8 @@
 //!
 //! Suhanov, Windows registry file format specification, section "Key node".
 
-ghost use Rattle.std.specs.Prelude.{◌≡◌, ◌+◌, ◌<◌, ℕ, List, [], OnOk, MatchResult, suc};
+ghost use Rattle.std.specs.Prelude.{◌≡◌, ◌+◌, ◌<◌, ℕ, List, [], None, OnOk, IfOk, MatchResult, suc};
+ghost use Rattle.std.specs.FinMap.{get};
 ghost use Rattle.reg_names.specs.declared.TheConstants.{PATH_LIMIT};
 ghost use Rattle.reg_heap.specs.Paths.{Path};
 ghost use Rattle.reg_heap.specs.Edits.{child_path};
@@ -11,12 +12,20 @@ ghost use Rattle.reg_tree.specs.TreeKeys.{IsAt, IsThere, KeepsNodes};
 ghost use Rattle.reg_image.specs.WalkSteps.{Seen};
 ghost use Rattle.reg_image.specs.LoadingWalk.{key_from, root_path};
 ghost use Rattle.reg_image.specs.Images.{nothing, tree_told};
-ghost use Rattle.reg_image.specs.Internal.CellStates.{IsTable, unnamed};
+ghost use Rattle.reg_image.specs.declared.table.CellState.{CellState};
+ghost use Rattle.reg_image.specs.Internal.CellStates.{IsTable, state_in, unnamed};
+ghost use Rattle.reg_image.specs.Internal.FitKeys.{IsFitName};
+ghost use Rattle.reg_image.specs.Internal.BegunKeys.{Heads};
 ghost use Rattle.reg_image.specs.Internal.Stacks.{Begins, IsBegun, FailsAs};
 
 use crate::LoadFault;
+use crate::built_keys::{build_below, build_root};
 use crate::frames::KeyFrame;
+use crate::key_parts::parts_below;
+use crate::keys::{NamedKey, named_key};
+use crate::subkeys::subkeys_from;
 use crate::table::CellTable;
+use reg_names::PATH_LIMIT;
 use reg_tree::{Node, Tree};
 use std::alloc::Global;
 
@@ -25,6 +34,36 @@ use std::alloc::Global;
 pub struct BegunRoot<'a> {
     pub tree: Tree,
     pub key: KeyFrame<'a>,
+}
+
+/// Names a key below another one, and reads its record and its name, which no key below the other one has. `Limit` is also for a key
+/// that more than 512 names lead to.
+fn head_below<'a>(
+    alloc: Global,
+    bins: &'a [u8],
+    table: &mut CellTable,
+    tree: &Tree,
+    above: Node,
+    offset: u32,
+) -> Result<NamedKey<'a>, LoadFault>
+    requires { IsThere tree.now above }
+    ensures heads { (path : List ℕ) → (at : Path) → (seen : Seen) → IsTable (cell_at bins.now) seen.found path table.old.states.items →
+        tree.now.tree ≡ tree_told seen → IsAt tree.now at above →
+        Heads (cell_at bins.now) path (child_path at) offset seen table.new.states.items result }
+    ensures fit { IfOk result IsFitName }
+    ensures named { OnOk result (state_in table.new.states.items offset ≡ CellState.Named) }
+    ensures free { IfOk result (λ named. (p : Path) → IsAt tree.now p above → get tree.now.tree (child_path p named.name.items) ≡ None) }
+    ensures shallow { OnOk result (above.depth < PATH_LIMIT) }
+    ensures fewer { OnOk result (unnamed table.new.states.items < unnamed table.old.states.items) }
+{
+    let named = named_key(alloc, bins, table, offset)?;
+    if tree.resolve(above, named.name.as_slice()).is_some() {
+        return Err(LoadFault::Twice);
+    }
+    if above.depth as usize >= PATH_LIMIT {
+        return Err(LoadFault::Limit);
+    }
+    Ok(named)
 }
 
 /// Names the root and reads its record, class, security and values, of which a tree is built; then the list of its subkeys.
@@ -41,7 +80,19 @@ pub fn begin_root<'a>(
         (λ fault. FailsAs fault (key_from (cell_at bins.now) minor (suc PATH_LIMIT) [] root_path offset nothing)) }
     ensures fewer { OnOk result (unnamed table.new.states.items < unnamed table.old.states.items) }
 {
-    Err(LoadFault::Memory)
+    let named = named_key(alloc, bins, table, offset)?;
+    let parts = parts_below(alloc, bins, table, minor, offset, &named.node.fields)?;
+    let tree = build_root(alloc, &named, &parts)?;
+    let fields = named.node.fields;
+    let subkeys = subkeys_from(bins, table, fields.subkeys, fields.subkeys_list)?;
+    let key = KeyFrame {
+        offset,
+        node: tree.root(),
+        count: 0,
+        leaf: subkeys.leaf,
+        lists: subkeys.lists,
+    };
+    Ok(BegunRoot { tree, key })
 }
 
 /// Names a key below another one and reads its record, class, security and values, of which it is built in the tree; then the list of
@@ -62,5 +113,16 @@ pub fn begin_key<'a>(
     ensures nodes { OnOk result (KeepsNodes tree.old tree.new) }
     ensures fewer { OnOk result (unnamed table.new.states.items < unnamed table.old.states.items) }
 {
-    Err(LoadFault::Memory)
+    let named = head_below(alloc, bins, table, tree, above, offset)?;
+    let parts = parts_below(alloc, bins, table, minor, offset, &named.node.fields)?;
+    let node = build_below(alloc, tree, above, &named, &parts)?;
+    let fields = named.node.fields;
+    let subkeys = subkeys_from(bins, table, fields.subkeys, fields.subkeys_list)?;
+    Ok(KeyFrame {
+        offset,
+        node,
+        count: 0,
+        leaf: subkeys.leaf,
+        lists: subkeys.lists,
+    })
 }

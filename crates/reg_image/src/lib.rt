@@ -17,6 +17,7 @@
 mod begin;
 mod big_data;
 mod block;
+mod built_keys;
 mod cells;
 mod data;
 mod frames;
@@ -32,6 +33,7 @@ mod names;
 mod rows;
 mod scan;
 mod security;
+mod subkeys;
 mod table;
 mod value_lists;
 mod values;

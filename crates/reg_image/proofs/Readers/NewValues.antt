@@ -1,5 +1,6 @@
 -- Values that were read are within the limits, and no two of them have one name.
-use Rattle.std.proofs.Common.{◌≡◌, ℕ, zero, suc, ◌+◌, ◌<◌, not, Bool, true, false, Ok, List, [], ◌∷◌, ◌++◌, length, take, get_or, Vec, sym, ap, ◌∙◌, subst, refl, arith}
+use Rattle.std.proofs.Common.{◌≡◌, ℕ, zero, suc, not, Bool, true, false, Some, Ok, List, [], ◌∷◌, ◌++◌, take, slice_get, Vec, sym, ap, ◌∙◌, subst, refl}
+use Rattle.std.proofs.lemmas.Option.{none-some, same_Some}
 use Rattle.std.proofs.lemmas.List.{append_assoc}
 use Rattle.std.specs.List.{list_any}
 use Rattle.reg_heap.specs.Paths.{Member}
@@ -37,16 +38,15 @@ pub record IsNew (members : List Member) (index : ℕ) (m : Member) : Type 0 whe
   pub small : IsSmallValue m
   pub other : IsOther (take index members) m.name
 
-new-behind : (members before : List Member) → AreNew before members → (index : ℕ) (d : Member) → index < length members →
-    IsSmallValue (get_or members index d) × IsOther (before ++ take index members) (get_or members index d).name
-new-behind [] before a index d l = absurd (omega (arith, l))
-new-behind (m ∷ members) before a zero d l = (a.0, subst (λ ms. IsOther ms m.name) (sym (append-none before)) a.1)
-new-behind (m ∷ members) before a (suc i) d l =
-    let r = new-behind members (before ++ m ∷ []) a.2 i d (omega (arith, l)) in
-    (r.0, subst (λ ms. IsOther ms (get_or members i d).name) (append_assoc before (m ∷ []) (take i members)) r.1)
+new-behind : (members before : List Member) → AreNew before members → (index : ℕ) (m : Member) → slice_get members index ≡ Some m →
+    IsSmallValue m × IsOther (before ++ take index members) m.name
+new-behind [] before a index m e = absurd (none-some _ e)
+new-behind (x ∷ members) before a zero m e =
+    subst (λ (m : Member). IsSmallValue m × IsOther (before ++ []) m.name) (same_Some _ _ e)
+    (a.0, subst (λ ms. IsOther ms x.name) (sym (append-none before)) a.1)
+new-behind (x ∷ members) before a (suc i) m e =
+    let r = new-behind members (before ++ x ∷ []) a.2 i m e in
+    (r.0, subst (λ ms. IsOther ms m.name) (append_assoc before (x ∷ []) (take i members)) r.1)
 
-pub new-at : (members : List Member) → AreNew [] members → (index : ℕ) (m d : Member) → index < length members → m ≡ get_or members index d →
-    IsNew members index m
-new-at members a index m d l e =
-    subst (λ m. IsNew members index m) (sym e)
-    (let r = new-behind members [] a index d l in record { small = r.0; other = r.1 })
+pub new-at : (members : List Member) → AreNew [] members → (index : ℕ) (m : Member) → slice_get members index ≡ Some m → IsNew members index m
+new-at members a index m e = let r = new-behind members [] a index m e in record { small = r.0; other = r.1 }

@@ -1,0 +1,41 @@
+use Rattle.std.proofs.Common.{◌≡◌, ◌-◌, ◌∷◌, None, ap, ◌∙◌, subst}
+use Rattle.std.specs.FinMap.{get, insert}
+use Rattle.reg_names.specs.Names.{folded}
+use Rattle.reg_heap.specs.Paths.{Tree}
+use Rattle.reg_heap.specs.Edits.{child_path}
+use Rattle.reg_image.specs.Internal.BegunKeys.{told_as}
+use Rattle.reg_image.proofs.Readers.BegunSteps.{head-fails, level-below, depth-below, no-parts, no-list, is-begun, begins-exit}
+use Rattle.reg_image.proofs.begin.begin_key.Goals as goal
+
+pub returns-in_err-named-clause-begins : goal.returns-in_err-named-clause-begins
+returns-in_err-named-clause-begins c levels path at seen t told is deep =
+    begins-exit _ c.args.minor levels path (child_path at) c.args.offset seen _ _ _ _ c.from_residual.ensures.1
+    (head-fails _ c.args.minor levels path (child_path at) c.args.offset seen _ (c.in_err-named.ensures.heads path at seen t told is))
+
+pub returns-in_err-parts-clause-begins : goal.returns-in_err-parts-clause-begins
+returns-in_err-parts-clause-begins c levels path at seen t told is deep =
+    let head = c.in_ok-named.ensures.heads path at seen t told is in
+    begins-exit _ c.args.minor levels path (child_path at) c.args.offset seen _ _ _ _ c.from_residual-in_err-parts.ensures.1
+    (no-parts _ c.args.minor levels (levels - 1) (level-below levels _ deep c.in_ok-named.ensures.shallow) path (child_path at) c.args.offset seen
+    c.in_ok-named.named _ head _ (c.in_err-parts.ensures.follows path head.after head.table))
+
+pub returns-in_err-subkeys-clause-begins : goal.returns-in_err-subkeys-clause-begins
+returns-in_err-subkeys-clause-begins c levels path at seen t told is deep =
+    let head = c.in_ok-named.ensures.heads path at seen t told is in
+    begins-exit _ c.args.minor levels path (child_path at) c.args.offset seen _ _ _ _ c.from_residual-in_err-subkeys.ensures.1
+    (no-list _ c.args.minor levels (levels - 1) (level-below levels _ deep c.in_ok-named.ensures.shallow) path (child_path at) c.args.offset seen
+    c.in_ok-named.named _ head c.in_ok-parts.parts _ (c.in_ok-parts.ensures.follows path head.after head.table) c.subkeys_from.new.table.states.items _
+    (c.in_err-subkeys.ensures.lists (c.args.offset ∷ path)))
+
+pub returns-clause-begins : goal.returns-clause-begins
+returns-clause-begins c levels path at seen t told is deep =
+    let head = c.in_ok-named.ensures.heads path at seen t told is in
+    let name = c.in_ok-named.named.name.items in
+    let built = c.in_ok-node.ensures.ok at is in
+    let key = built.1 in
+    is-begun _ c.args.minor levels (levels - 1) (level-below levels _ deep c.in_ok-named.ensures.shallow) path (child_path at) c.args.offset seen
+    c.in_ok-named.named _ head c.in_ok-parts.parts _ (c.in_ok-parts.ensures.follows path head.after head.table) _ c.in_ok-subkeys.subkeys
+    c.in_ok-node.node (c.in_ok-subkeys.ensures.lists (c.args.offset ∷ path)) _ key
+    (depth-below levels _ _ at (folded name) deep c.in_ok-named.ensures.shallow is.depth key.depth)
+    (subst (λ (tree : Tree). get tree (child_path at name) ≡ None) told (c.in_ok-named.ensures.free at is))
+    (built.0 ∙ ap (λ (tree : Tree). insert tree (child_path at name) (told_as c.in_ok-named.named c.in_ok-parts.parts)) told)

@@ -1,0 +1,174 @@
+//! Keys that were read, built in the new tree.
+
+ghost use Rattle.std.specs.Prelude.{◌≡◌, ◌≤◌, ◌<◌, true, None, bit_and, ℕ, List, [], length, OnOk, IfOk, IfErr};
+ghost use Rattle.std.specs.FinMap.{empty, get, insert};
+ghost use Rattle.reg_names.specs.declared.TheConstants.{PATH_LIMIT};
+ghost use Rattle.reg_names.specs.Names.{is_key_name};
+ghost use Rattle.reg_heap.specs.declared.limits.TheConstants.{DESCRIPTOR_LIMIT, VALUES_LIMIT};
+ghost use Rattle.reg_heap.specs.Paths.{Path, Tree as KeyTree, Rec};
+ghost use Rattle.reg_heap.specs.Edits.{child_path, edited, values_at, with_value};
+ghost use Rattle.reg_heap.specs.Trees.{IsSmallValue};
+ghost use Rattle.reg_shape.specs.Spelt.{marks_of};
+ghost use Rattle.reg_tree.specs.BuiltKeys.{built_key};
+ghost use Rattle.reg_tree.specs.TreeKeys.{IsAt, IsThere, KeepsNodes};
+ghost use Rattle.reg_image.specs.Internal.NamedRecords.{member_in, members_in};
+ghost use Rattle.reg_image.specs.Internal.FitKeys.{IsFitName, IsOther, AreFit, AreFitParts};
+ghost use Rattle.reg_image.specs.Internal.BegunKeys.{IsBare, IsLack, told_as};
+
+use crate::LoadFault;
+use crate::key_parts::KeyParts;
+use crate::keys::NamedKey;
+use crate::values::ReadValue;
+use reg_arena::ArenaFault;
+use reg_heap::limits::SUBKEYS_LIMIT;
+use reg_tree::{NewKey, Node, Tree};
+use std::alloc::Global;
+
+/// What was lacking.
+fn lack(fault: ArenaFault) -> LoadFault
+    ensures { IsLack result }
+{
+    match fault {
+        ArenaFault::Full => LoadFault::Limit,
+        ArenaFault::Memory => LoadFault::Memory,
+    }
+}
+
+/// The marks among a key node's flags: all but volatile, hive exit, hive entry and the form of the name.
+fn marks(flags: u16) -> u16
+    requires { bit_and flags 64 ≡ 0 }
+    ensures is { result ≡ marks_of flags }
+    ensures free { bit_and result 103 ≡ 0 }
+{
+    flags & 0xFFD8
+}
+
+/// A key without its values, as it is to be built.
+fn new_key<'a>(named: &'a NamedKey<'_>, parts: &'a KeyParts<'_>) -> NewKey<'a>
+    requires named { IsFitName named.now }
+    requires parts { AreFitParts parts.now }
+    ensures built { built_key result ≡ record (told_as named.now parts.now) { values = [] } }
+    ensures name { is_key_name result.name.now ≡ true }
+    ensures marks { bit_and result.marks 103 ≡ 0 }
+    ensures class { length result.class.now ≤ 65535 }
+    ensures descriptor { (1 ≤ length result.descriptor.now) × (length result.descriptor.now ≤ DESCRIPTOR_LIMIT) }
+{
+    NewKey {
+        name: named.name.as_slice(),
+        marks: marks(named.node.fields.flags),
+        class: parts.class,
+        descriptor: parts.descriptor,
+        time: named.node.fields.time,
+    }
+}
+
+/// Puts a value behind the others of its key, none of which has its name.
+fn put_value(
+    alloc: Global,
+    tree: &mut Tree,
+    node: Node,
+    value: &ReadValue,
+    time: u64,
+) -> Result<(), LoadFault>
+    requires value { IsSmallValue (member_in value.now) }
+    requires other { (p : Path) × IsAt tree.old p node × IsOther (values_at tree.old.tree p) value.now.name.items
+        × (length (values_at tree.old.tree p) < VALUES_LIMIT) }
+    ensures ok { (p : Path) → IsAt tree.old p node →
+        OnOk result (tree.new.tree ≡ edited tree.old.tree p (with_value value.now.name.items value.now.kind value.now.bytes.items time)) }
+    ensures nodes { OnOk result (KeepsNodes tree.old tree.new) }
+    ensures err { IfErr result IsLack }
+{
+    // Only for its clause `one_path`: the node is that of one key.
+    let _ = tree.root();
+    match tree.set_at(
+        alloc,
+        node,
+        None,
+        value.name.as_slice(),
+        value.kind,
+        value.bytes.as_slice(),
+        time,
+    ) {
+        Ok(()) => Ok(()),
+        Err(fault) => Err(lack(fault)),
+    }
+}
+
+/// Puts the values of a key that was built with none, in their order. The key keeps its time, which is given.
+fn put_values(
+    alloc: Global,
+    tree: &mut Tree,
+    node: Node,
+    values: &[ReadValue],
+    time: u64,
+) -> Result<(), LoadFault>
+    requires values { AreFit (members_in values.now) }
+    requires bare { IsBare tree.old node time }
+    ensures ok { (p : Path) → IsAt tree.old p node → (base : KeyTree) → (r : Rec) → tree.old.tree ≡ insert base p r →
+        r.values ≡ [] → r.time ≡ time → OnOk result (tree.new.tree ≡ insert base p (record r { values = members_in values.now })) }
+    ensures nodes { OnOk result (KeepsNodes tree.old tree.new) }
+    ensures err { IfErr result IsLack }
+{
+    for value in values {
+        put_value(alloc, tree, node, value, time)?;
+    }
+    Ok(())
+}
+
+/// Builds a tree of a root that was read.
+pub fn build_root(alloc: Global, named: &NamedKey<'_>, parts: &KeyParts<'_>) -> Result<Tree, LoadFault>
+    requires named { IsFitName named.now }
+    requires parts { AreFitParts parts.now }
+    ensures ok { IfOk result (λ tree. tree.tree ≡ insert empty [] (told_as named.now parts.now)) }
+    ensures err { IfErr result IsLack }
+{
+    let Ok(mut tree) = Tree::build(alloc, new_key(named, parts)) else {
+        return Err(LoadFault::Memory);
+    };
+    let root = tree.root();
+    put_values(
+        alloc,
+        &mut tree,
+        root,
+        parts.values.as_slice(),
+        named.node.fields.time,
+    )?;
+    Ok(tree)
+}
+
+/// Builds a key that was read below another one, which has none of its name. `Limit` also where the other one has 60,000 subkeys.
+pub fn build_below(
+    alloc: Global,
+    tree: &mut Tree,
+    above: Node,
+    named: &NamedKey<'_>,
+    parts: &KeyParts<'_>,
+) -> Result<Node, LoadFault>
+    requires above { IsThere tree.old above }
+    requires named { IsFitName named.now }
+    requires parts { AreFitParts parts.now }
+    requires free { (p : Path) → IsAt tree.old p above → get tree.old.tree (child_path p named.now.name.items) ≡ None }
+    requires shallow { above.depth < PATH_LIMIT }
+    ensures ok { (p : Path) → IsAt tree.old p above → IfOk result (λ node.
+        (tree.new.tree ≡ insert tree.old.tree (child_path p named.now.name.items) (told_as named.now parts.now))
+        × IsAt tree.new (child_path p named.now.name.items) node) }
+    ensures nodes { OnOk result (KeepsNodes tree.old tree.new) }
+    ensures err { IfErr result IsLack }
+{
+    if tree.subkeys(above) >= SUBKEYS_LIMIT {
+        return Err(LoadFault::Limit);
+    }
+    match tree.build_key(alloc, above, new_key(named, parts)) {
+        Ok(node) => {
+            put_values(
+                alloc,
+                tree,
+                node,
+                parts.values.as_slice(),
+                named.node.fields.time,
+            )?;
+            Ok(node)
+        }
+        Err(fault) => Err(lack(fault)),
+    }
+}
