@@ -15,5 +15,6 @@ pub mod ValueReadings
 pub mod FitNames
 pub mod NewValues
 pub mod PutValues
+pub mod SiblingTests
 pub mod BegunSteps
 pub mod ValueRows

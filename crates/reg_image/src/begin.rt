@@ -21,7 +21,7 @@ ghost use Rattle.reg_image.specs.Internal.Stacks.{Begins, IsBegun, FailsAs};
 use crate::LoadFault;
 use crate::built_keys::{build_below, build_root};
 use crate::frames::KeyFrame;
-use crate::key_parts::parts_below;
+use crate::key_parts::enter_key;
 use crate::keys::{NamedKey, named_key};
 use crate::subkeys::subkeys_from;
 use crate::table::CellTable;
@@ -81,7 +81,7 @@ pub fn begin_root<'a>(
     ensures fewer { OnOk result (unnamed table.new.states.items < unnamed table.old.states.items) }
 {
     let named = named_key(alloc, bins, table, offset)?;
-    let parts = parts_below(alloc, bins, table, minor, offset, &named.node.fields)?;
+    let parts = enter_key(alloc, bins, table, minor, offset, &named.node.fields)?;
     let tree = build_root(alloc, &named, &parts)?;
     let fields = named.node.fields;
     let subkeys = subkeys_from(bins, table, fields.subkeys, fields.subkeys_list)?;
@@ -114,7 +114,7 @@ pub fn begin_key<'a>(
     ensures fewer { OnOk result (unnamed table.new.states.items < unnamed table.old.states.items) }
 {
     let named = head_below(alloc, bins, table, tree, above, offset)?;
-    let parts = parts_below(alloc, bins, table, minor, offset, &named.node.fields)?;
+    let parts = enter_key(alloc, bins, table, minor, offset, &named.node.fields)?;
     let node = build_below(alloc, tree, above, &named, &parts)?;
     let fields = named.node.fields;
     let subkeys = subkeys_from(bins, table, fields.subkeys, fields.subkeys_list)?;

@@ -116,7 +116,11 @@ fn put_values(
 }
 
 /// Builds a tree of a root that was read.
-pub fn build_root(alloc: Global, named: &NamedKey<'_>, parts: &KeyParts<'_>) -> Result<Tree, LoadFault>
+pub fn build_root(
+    alloc: Global,
+    named: &NamedKey<'_>,
+    parts: &KeyParts<'_>,
+) -> Result<Tree, LoadFault>
     requires named { IsFitName named.now }
     requires parts { AreFitParts parts.now }
     ensures ok { IfOk result (λ tree. tree.tree ≡ insert empty [] (told_as named.now parts.now)) }
@@ -158,15 +162,10 @@ pub fn build_below(
     if tree.subkeys(above) >= SUBKEYS_LIMIT {
         return Err(LoadFault::Limit);
     }
+    let time = named.node.fields.time;
     match tree.build_key(alloc, above, new_key(named, parts)) {
         Ok(node) => {
-            put_values(
-                alloc,
-                tree,
-                node,
-                parts.values.as_slice(),
-                named.node.fields.time,
-            )?;
+            put_values(alloc, tree, node, parts.values.as_slice(), time)?;
             Ok(node)
         }
         Err(fault) => Err(lack(fault)),

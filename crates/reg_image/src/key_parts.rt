@@ -57,7 +57,7 @@ fn parts_from<'a>(
 }
 
 /// Enters a key that was named, whose offset is then on the present path, and reads its parts.
-pub fn parts_below<'a>(
+pub fn enter_key<'a>(
     alloc: Global,
     bins: &'a [u8],
     table: &mut CellTable,

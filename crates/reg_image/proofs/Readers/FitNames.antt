@@ -1,8 +1,8 @@
 -- Names that were read are within the limits.
-use Rattle.std.proofs.Common.{◌≡◌, ◌≢◌, ℕ, ◌+◌, ◌/◌, ◌%◌, ◌<◌, ◌≤◌, ◌==◌, ◌&&◌, ◌||◌, nat_le, nat_lt, not, bit_and, Bool, true, false, Result, Ok, Err, List, [], ◌∷◌, length}
+use Rattle.std.proofs.Common.{◌≡◌, ℕ, ◌%◌, ◌<◌, ◌==◌, ◌&&◌, ◌||◌, nat_le, nat_lt, not, bit_and, Bool, true, false, Ok, List, length}
 use Rattle.std.proofs.Common.{refl, sym, ap, ◌∙◌, subst, arith}
 use Rattle.std.specs.List.{list_all}
-use Rattle.std.proofs.lemmas.Bool.{false≢true, eqb-true}
+use Rattle.std.proofs.lemmas.Bool.{eqb-true}
 use Rattle.std.proofs.lemmas.Bool.Decides.{nat_tests}
 use Rattle.reg_names.specs.declared.TheConstants.{KEY_NAME_LIMIT, VALUE_NAME_LIMIT}
 use Rattle.reg_names.specs.Names.{is_key_name_byte, is_value_name_byte, is_key_name, is_value_name}
@@ -19,7 +19,7 @@ use Rattle.reg_image.specs.LoadingWalk.{name_in, key_name, value_name}
 use Rattle.reg_image.specs.Images.{nothing}
 use Rattle.reg_image.specs.Internal.NamedRecords.{key_of, value_of}
 use Rattle.reg_image.specs.Internal.FitKeys.{IsFitName}
-use Rattle.reg_image.proofs.Readers.ValueReadings.{check-open, give-open, name-open}
+use Rattle.reg_image.proofs.Readers.ValueReadings.{check-open, name-open}
 use Rattle.reg_image.proofs.Readers.LetterReadings.{wide-length}
 
 -- a test that holds
@@ -52,7 +52,8 @@ name-read single most ok name read seen after e =
     }
 
 -- a name of some bytes has some characters
-some-letters : (single : Bool) (name : List ℕ) → (single || (length name % 2 == 0)) ≡ true → 0 < length name → 0 < length (letters single name)
+some-letters : (single : Bool) (name : List ℕ) → (single || (length name % 2 == 0)) ≡ true → 0 < length name →
+    0 < length (letters single name)
 some-letters true name e l = l
 some-letters false name e l =
     let z : length name % 2 ≡ 0 = eqb-true (length name % 2) 0 e in
@@ -79,9 +80,11 @@ key-name-fit key name seen after e =
     let r = name-read single KEY_NAME_LIMIT is_key_name_byte key.name name seen after
     (check-open Record (nat_lt 0 (length key.name)) then seen name after e) in
     let l : 0 < length name = subst (λ (n : List ℕ). 0 < length n) r.is (some-letters single key.name r.even some) in
-    three (list_all is_key_name_byte name) (nat_lt 0 (length name)) (nat_le (length name) KEY_NAME_LIMIT) r.good (is-pos (length name) l) r.short
+    three (list_all is_key_name_byte name) (nat_lt 0 (length name)) (nat_le (length name) KEY_NAME_LIMIT) r.good
+    (is-pos (length name) l) r.short
 
-value-name-fit : (value : KeyValueRecord) (name : List ℕ) (seen after : Seen) → value_name value seen ≡ Ok (name, after) → is_value_name name ≡ true
+value-name-fit : (value : KeyValueRecord) (name : List ℕ) (seen after : Seen) → value_name value seen ≡ Ok (name, after) →
+    is_value_name name ≡ true
 value-name-fit value name seen after e =
     let r = name-read (not (bit_and value.fields.flags 1 == 0)) VALUE_NAME_LIMIT is_value_name_byte value.name name seen after e in
     two (list_all is_value_name_byte name) (nat_le (length name) VALUE_NAME_LIMIT) r.good r.short
@@ -98,5 +101,6 @@ key-fit content k e g = record {
   profile = eqb-true _ 0 (profile content (key_of k).0 e);
 }
 
-pub value-fit : (v : NamedValue) → ((seen : Seen) → value_name (value_of v).0 seen ≡ Ok (v.name.items, seen)) → is_value_name v.name.items ≡ true
+pub value-fit : (v : NamedValue) → ((seen : Seen) → value_name (value_of v).0 seen ≡ Ok (v.name.items, seen)) →
+    is_value_name v.name.items ≡ true
 value-fit v g = value-name-fit (value_of v).0 v.name.items nothing nothing (g nothing)

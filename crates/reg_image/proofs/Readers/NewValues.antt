@@ -1,10 +1,9 @@
 -- Values that were read are within the limits, and no two of them have one name.
-use Rattle.std.proofs.Common.{◌≡◌, ℕ, zero, suc, not, Bool, true, false, Some, Ok, List, [], ◌∷◌, ◌++◌, take, slice_get, Vec, sym, ap, ◌∙◌, subst, refl}
+use Rattle.std.proofs.Common.{◌≡◌, ℕ, zero, suc, not, Bool, true, false, Some, Ok, List, [], ◌∷◌, ◌++◌, take, slice_get, Vec, sym}
+use Rattle.std.proofs.Common.{ap, ◌∙◌, subst, refl}
 use Rattle.std.proofs.lemmas.Option.{none-some, same_Some}
 use Rattle.std.proofs.lemmas.List.{append_assoc}
-use Rattle.std.specs.List.{list_any}
 use Rattle.reg_heap.specs.Paths.{Member}
-use Rattle.reg_heap.specs.Members.{same_name}
 use Rattle.reg_heap.specs.Trees.{IsSmallValue}
 use Rattle.reg_image.specs.declared.LoadFault.TheVariants.{Twice}
 use Rattle.reg_image.specs.WalkSteps.{Seen, check}
@@ -48,5 +47,6 @@ new-behind (x ∷ members) before a (suc i) m e =
     let r = new-behind members (before ++ x ∷ []) a.2 i m e in
     (r.0, subst (λ ms. IsOther ms m.name) (append_assoc before (x ∷ []) (take i members)) r.1)
 
-pub new-at : (members : List Member) → AreNew [] members → (index : ℕ) (m : Member) → slice_get members index ≡ Some m → IsNew members index m
+pub new-at : (members : List Member) → AreNew [] members → (index : ℕ) (m : Member) → slice_get members index ≡ Some m →
+    IsNew members index m
 new-at members a index m e = let r = new-behind members [] a index m e in record { small = r.0; other = r.1 }

@@ -1,21 +1,22 @@
 -- A key's values, put one behind the other.
-use Rattle.std.proofs.Common.{◌≡◌, ℕ, zero, suc, ◌+◌, ◌<◌, ◌||◌, Bool, true, false, cond, Option, Some, None, List, [], ◌∷◌, ◌++◌, length, take, get_or, slice_get, refl, sym, ap, ◌∙◌, subst, arith}
+use Rattle.std.proofs.Common.{◌≡◌, ℕ, zero, suc, ◌+◌, ◌<◌, ◌||◌, Bool, true, false, cond, Option, Some, None, List, [], ◌∷◌, ◌++◌}
+use Rattle.std.proofs.Common.{length, take, get_or, slice_get, refl, sym, ap, ◌∙◌, subst, arith}
 use Rattle.std.specs.Option.{option_map}
 use Rattle.std.specs.List.{list_any}
-use Rattle.std.specs.Ordering.{eq_by_cmp}
-use Rattle.std.specs.FinMap.{get, insert, get-insert, same_map}
+use Rattle.std.specs.FinMap.{get, insert, get-insert}
 use Rattle.std.proofs.lemmas.Bool.{false≢true}
 use Rattle.std.proofs.lemmas.Option.{none-some, same_Some}
 use Rattle.reg_heap.specs.declared.limits.TheConstants.{VALUES_LIMIT}
-use Rattle.reg_heap.specs.Paths.{Path, Rec, Tree, Member, path_cmp}
+use Rattle.reg_heap.specs.Paths.{Path, Rec, Tree, Member}
 use Rattle.reg_heap.specs.Members.{same_name, index_named, values_with}
 use Rattle.reg_heap.specs.Edits.{edited, values_at, values_of, with_value}
 use Rattle.reg_heap.specs.Trees.{IsSmallValue}
 use Rattle.reg_values.proofs.ValueListing.NamedValues.{with-new}
-use Rattle.reg_shape.proofs.Refinement.SpeltTrees.{path_total, path_same}
+use Rattle.reg_shape.proofs.Refinement.SpeltTrees.{path_total}
 use Rattle.reg_tree.specs.declared.node.Node.{Node}
 use Rattle.reg_tree.specs.TreeKeys.{Keys, IsAt, KeepsNodes}
 use Rattle.reg_tree.proofs.ValueChange.TreeAfterValueChange.{edited-at}
+use Rattle.reg_tree.proofs.InsertKey.LastDescribed.{insert-twice}
 use Rattle.reg_tree.proofs.InsertKey.PathGrowth.{path-self}
 use Rattle.reg_image.specs.declared.values.ReadValue.{ReadValue}
 use Rattle.reg_image.specs.Internal.NamedRecords.{member_in, members_in}
@@ -30,7 +31,8 @@ index-none name [] o = refl
 index-none name (m ∷ members) o = by (λ q. index-none name members q) (same_name m.name name) o
   where
     by : (IsOther members name → index_named name members ≡ None) → (b : Bool) →
-        (b || list_any (λ (m : Member). same_name m.name name) members) ≡ false → ◌≡◌ {A = Option ℕ} (cond b (Some 0) (option_map suc (index_named name members))) None
+        (b || list_any (λ (m : Member). same_name m.name name) members) ≡ false →
+        ◌≡◌ {A = Option ℕ} (cond b (Some 0) (option_map suc (index_named name members))) None
     by rest true e = absurd (false≢true (sym e))
     by rest false e = ap (option_map suc) (rest e)
 
@@ -38,35 +40,29 @@ index-none name (m ∷ members) o = by (λ q. index-none name members q) (same_n
 pub place-free : (tree : Tree) (name given : List ℕ) (p q : Path) → given ≡ name → p ≡ q → IsOther (values_at tree q) name →
     ◌≡◌ {A = Option ℕ} None (index_named given (values_at tree p))
 place-free tree name given p q g e o =
-    sym (ap (λ n. index_named n (values_at tree p)) g ∙ (ap (λ p. index_named name (values_at tree p)) e ∙ index-none name (values_at tree q) o))
+    sym (ap (λ n. index_named n (values_at tree p)) g ∙ (ap (λ p. index_named name (values_at tree p)) e
+    ∙ index-none name (values_at tree q) o))
 
 -- ---- the key in the tree
-
-insert-twice : (t : Tree) (p : Path) (a b : Rec) → insert (insert t p a) p b ≡ insert t p b
-insert-twice t p a b =
-    same_map path_total path_same (insert (insert t p a) p b) (insert t p b)
-    (λ q. get-insert path_total (insert t p a) p b q ∙ (ap (λ o. cond (eq_by_cmp path_cmp q p) (Some b) o) (get-insert path_total t p a q)
-    ∙ (by q (eq_by_cmp path_cmp q p) ∙ sym (get-insert path_total t p b q))))
-  where
-    by : (q : Path) (e : Bool) → cond e (Some b) (cond e (Some a) (get t q)) ≡ cond e (Some b) (get t q)
-    by q true = refl
-    by q false = refl
 
 there : (t : Tree) (p : Path) (r : Rec) → get (insert t p r) p ≡ Some r
 there t p r = get-insert path_total t p r p ∙ ap (λ e. cond e (Some r) (get t p)) (path-self p)
 
-take-more : (members : List Member) (index : ℕ) (m : Member) → slice_get members index ≡ Some m → take (suc index) members ≡ take index members ++ m ∷ []
+take-more : (members : List Member) (index : ℕ) (m : Member) → slice_get members index ≡ Some m →
+    take (suc index) members ≡ take index members ++ m ∷ []
 take-more [] index m e = absurd (none-some _ e)
 take-more (x ∷ members) zero m e = ap (λ m. m ∷ []) (same_Some _ _ e)
 take-more (x ∷ members) (suc index) m e = ap (λ ms. x ∷ ms) (take-more members index m e)
 
-read-at : (values : List ReadValue) (index : ℕ) (v : ReadValue) → slice_get values index ≡ Some v → slice_get (members_in values) index ≡ Some (member_in v)
+read-at : (values : List ReadValue) (index : ℕ) (v : ReadValue) → slice_get values index ≡ Some v →
+    slice_get (members_in values) index ≡ Some (member_in v)
 read-at [] index v e = absurd (none-some _ e)
 read-at (x ∷ values) zero v e = ap (λ (v : ReadValue). Some (member_in v)) (same_Some _ _ e)
 read-at (x ∷ values) (suc index) v e = read-at values index v e
 
 -- the value of a turn
-pub turn : (values : List ReadValue) (index : ℕ) (v d : ReadValue) → index < length values → v ≡ get_or values index d → slice_get values index ≡ Some v
+pub turn : (values : List ReadValue) (index : ℕ) (v d : ReadValue) → index < length values → v ≡ get_or values index d →
+    slice_get values index ≡ Some v
 turn [] index v d l e = absurd (omega (arith, l))
 turn (x ∷ values) zero v d l e = ap Some (sym e)
 turn (x ∷ values) (suc index) v d l e = turn values index v d (omega (arith, l)) e
@@ -77,13 +73,8 @@ pub record ArePut (old now : Keys) (node : Node) (time : ℕ) (members : List Me
   pub tree : (p : Path) → IsAt old p node → (base : Tree) → (r : Rec) → old.tree ≡ insert base p r → r.values ≡ [] → r.time ≡ time →
       now.tree ≡ insert base p (record r { values = take index members })
 
-pub none-put : (keys : Keys) (node : Node) (time : ℕ) (members : List Member) → ArePut keys keys node time members 0
-none-put keys node time members = record {
-  nodes = λ p n at. at;
-  tree = λ p at base r e v t. e ∙ ap (λ vs. insert base p (record r { values = vs })) v;
-}
-
-module _ (old now : Keys) (node : Node) (time : ℕ) (values : List ReadValue) (index : ℕ) (a : ArePut old now node time (members_in values) index) where
+module _ (old now : Keys) (node : Node) (time : ℕ) (values : List ReadValue) (index : ℕ)
+    (a : ArePut old now node time (members_in values) index) where
   abbrev members : List Member
   members = members_in values
 
@@ -103,7 +94,8 @@ module _ (old now : Keys) (node : Node) (time : ℕ) (values : List ReadValue) (
     is-small = one.small
 
     -- the next one may be put
-    pub may-put : IsBare old node time → (p : Path) × IsAt now p node × IsOther (values_at now.tree p) m.name × (length (values_at now.tree p) < VALUES_LIMIT)
+    pub may-put : IsBare old node time → (p : Path) × IsAt now p node × IsOther (values_at now.tree p) m.name ×
+        (length (values_at now.tree p) < VALUES_LIMIT)
     may-put b =
         let v = put-values b.path b.at b.base b.key b.put b.bare b.timed in
         let n = ap length v in
@@ -129,8 +121,9 @@ module _ (old now : Keys) (node : Node) (time : ℕ) (values : List ReadValue) (
           let before : Rec = record r { values = take index members } in
           let f : Rec → Rec = with_value m.name m.kind m.bytes time in
           let with-one : values_with m.name m.kind m.bytes (take index members) ≡ take (index + 1) members =
-              with-new m.name m.kind m.bytes (take index members) (index-none m.name (take index members) one.other)
-              ∙ (sym (take-more members index m (read-at values index value here)) ∙ ap (λ i. take i members) (let s : suc index ≡ index + 1 = omega arith in s)) in
+          with-new m.name m.kind m.bytes (take index members) (index-none m.name (take index members) one.other)
+          ∙ (sym (take-more members index m (read-at values index value here))
+          ∙ ap (λ i. take i members) (let s : suc index ≡ index + 1 = omega arith in s)) in
           e p (a.nodes p node at)
           ∙ (ap (λ (t : Tree). edited t p f) (a.tree p at base r o v t)
           ∙ (edited-at (insert base p before) p before f (there base p before)

@@ -88,7 +88,8 @@ parts_left heap path go entries lists = do
   lists_each heap go path n lists
 
 -- the list of a key's subkeys was read; no key was told
-pub record IsListed (heap : Heap) (path : List ℕ) (go : ℕ → Step (Unit {0})) (count offset : ℕ) (seen : Seen) (states : List CellState) (parts : SubkeyParts) : Type 0 where
+pub record IsListed (heap : Heap) (path : List ℕ) (go : ℕ → Step (Unit {0})) (count offset : ℕ) (seen : Seen) (states : List CellState)
+    (parts : SubkeyParts) : Type 0 where
   pub after : Seen
   pub table : IsTable heap after.found path states
   pub told : after.told ≡ seen.told

@@ -16,14 +16,16 @@ pub returns-in_err-parts-clause-begins : goal.returns-in_err-parts-clause-begins
 returns-in_err-parts-clause-begins c levels path at seen t told is deep =
     let head = c.in_ok-named.ensures.heads path at seen t told is in
     begins-exit _ c.args.minor levels path (child_path at) c.args.offset seen _ _ _ _ c.from_residual-in_err-parts.ensures.1
-    (no-parts _ c.args.minor levels (levels - 1) (level-below levels _ deep c.in_ok-named.ensures.shallow) path (child_path at) c.args.offset seen
+    (no-parts _ c.args.minor levels (levels - 1) (level-below levels _ deep c.in_ok-named.ensures.shallow) path
+    (child_path at) c.args.offset seen
     c.in_ok-named.named _ head _ (c.in_err-parts.ensures.follows path head.after head.table))
 
 pub returns-in_err-subkeys-clause-begins : goal.returns-in_err-subkeys-clause-begins
 returns-in_err-subkeys-clause-begins c levels path at seen t told is deep =
     let head = c.in_ok-named.ensures.heads path at seen t told is in
     begins-exit _ c.args.minor levels path (child_path at) c.args.offset seen _ _ _ _ c.from_residual-in_err-subkeys.ensures.1
-    (no-list _ c.args.minor levels (levels - 1) (level-below levels _ deep c.in_ok-named.ensures.shallow) path (child_path at) c.args.offset seen
+    (no-list _ c.args.minor levels (levels - 1) (level-below levels _ deep c.in_ok-named.ensures.shallow) path
+    (child_path at) c.args.offset seen
     c.in_ok-named.named _ head c.in_ok-parts.parts _ (c.in_ok-parts.ensures.follows path head.after head.table) c.subkeys_from.new.table.states.items _
     (c.in_err-subkeys.ensures.lists (c.args.offset ∷ path)))
 
@@ -33,7 +35,8 @@ returns-clause-begins c levels path at seen t told is deep =
     let name = c.in_ok-named.named.name.items in
     let built = c.in_ok-node.ensures.ok at is in
     let key = built.1 in
-    is-begun _ c.args.minor levels (levels - 1) (level-below levels _ deep c.in_ok-named.ensures.shallow) path (child_path at) c.args.offset seen
+    is-begun _ c.args.minor levels (levels - 1) (level-below levels _ deep c.in_ok-named.ensures.shallow) path
+    (child_path at) c.args.offset seen
     c.in_ok-named.named _ head c.in_ok-parts.parts _ (c.in_ok-parts.ensures.follows path head.after head.table) _ c.in_ok-subkeys.subkeys
     c.in_ok-node.node (c.in_ok-subkeys.ensures.lists (c.args.offset ∷ path)) _ key
     (depth-below levels _ _ at (folded name) deep c.in_ok-named.ensures.shallow is.depth key.depth)

@@ -3,7 +3,8 @@ use Rattle.reg_names.specs.declared.TheConstants.{PATH_LIMIT}
 use Rattle.reg_arena.specs.Cells.{cell_at}
 use Rattle.reg_image.specs.LoadingWalk.{root_path}
 use Rattle.reg_image.specs.Images.{nothing}
-use Rattle.reg_image.proofs.Readers.BegunSteps.{head-stops, head-done, head-fails, none-told, no-parts, no-list, is-begun, root-exit, root-deep}
+use Rattle.reg_image.proofs.Readers.BegunSteps.{head-stops, head-done, head-fails, none-told, no-parts, no-list, is-begun}
+use Rattle.reg_image.proofs.Readers.BegunSteps.{root-exit, root-deep}
 use Rattle.reg_image.proofs.begin.begin_root.Goals as goal
 
 pub returns-in_err-named-clause-begins : goal.returns-in_err-named-clause-begins
@@ -14,21 +15,28 @@ returns-in_err-named-clause-begins c =
 
 pub returns-in_err-parts-clause-begins : goal.returns-in_err-parts-clause-begins
 returns-in_err-parts-clause-begins c =
-    let head = head-done (cell_at c.args.bins.now) [] root_path c.args.offset nothing c.in_ok-named.named _ (c.in_ok-named.ensures.follows [] nothing c.requires) (none-told []) in
+    let head = head-done (cell_at c.args.bins.now) [] root_path c.args.offset nothing c.in_ok-named.named _
+    (c.in_ok-named.ensures.follows [] nothing c.requires) (none-told []) in
     root-exit _ _ _ _ c.from_residual-in_err-parts.ensures.1
     (no-parts (cell_at c.args.bins.now) c.args.minor (suc PATH_LIMIT) PATH_LIMIT refl [] root_path c.args.offset nothing c.in_ok-named.named _ head _
     (c.in_err-parts.ensures.follows [] head.after head.table))
 
 pub returns-in_err-subkeys-clause-begins : goal.returns-in_err-subkeys-clause-begins
 returns-in_err-subkeys-clause-begins c =
-    let head = head-done (cell_at c.args.bins.now) [] root_path c.args.offset nothing c.in_ok-named.named _ (c.in_ok-named.ensures.follows [] nothing c.requires) (none-told []) in
+    let head = head-done (cell_at c.args.bins.now) [] root_path c.args.offset nothing c.in_ok-named.named _
+    (c.in_ok-named.ensures.follows [] nothing c.requires) (none-told []) in
     root-exit _ _ _ _ c.from_residual-in_err-subkeys.ensures.1
-    (no-list (cell_at c.args.bins.now) c.args.minor (suc PATH_LIMIT) PATH_LIMIT refl [] root_path c.args.offset nothing c.in_ok-named.named _ head c.in_ok-parts.parts _
-    (c.in_ok-parts.ensures.follows [] head.after head.table) c.subkeys_from.new.table.states.items _ (c.in_err-subkeys.ensures.lists (c.args.offset ∷ [])))
+    (no-list (cell_at c.args.bins.now) c.args.minor (suc PATH_LIMIT) PATH_LIMIT refl [] root_path c.args.offset nothing
+    c.in_ok-named.named _ head c.in_ok-parts.parts _
+    (c.in_ok-parts.ensures.follows [] head.after head.table) c.subkeys_from.new.table.states.items _
+    (c.in_err-subkeys.ensures.lists (c.args.offset ∷ [])))
 
 pub returns-clause-begins : goal.returns-clause-begins
 returns-clause-begins c =
-    let head = head-done (cell_at c.args.bins.now) [] root_path c.args.offset nothing c.in_ok-named.named _ (c.in_ok-named.ensures.follows [] nothing c.requires) (none-told []) in
-    is-begun (cell_at c.args.bins.now) c.args.minor (suc PATH_LIMIT) PATH_LIMIT refl [] root_path c.args.offset nothing c.in_ok-named.named _ head c.in_ok-parts.parts _
-    (c.in_ok-parts.ensures.follows [] head.after head.table) _ c.in_ok-subkeys.subkeys _ (c.in_ok-subkeys.ensures.lists (c.args.offset ∷ []))
+    let head = head-done (cell_at c.args.bins.now) [] root_path c.args.offset nothing c.in_ok-named.named _
+    (c.in_ok-named.ensures.follows [] nothing c.requires) (none-told []) in
+    is-begun (cell_at c.args.bins.now) c.args.minor (suc PATH_LIMIT) PATH_LIMIT refl [] root_path c.args.offset nothing
+    c.in_ok-named.named _ head c.in_ok-parts.parts _
+    (c.in_ok-parts.ensures.follows [] head.after head.table) _ c.in_ok-subkeys.subkeys _
+    (c.in_ok-subkeys.ensures.lists (c.args.offset ∷ []))
     _ c.root.ensures.at (root-deep _ c.root.ensures.at.depth) (none-told []) c.in_ok-tree.ensures.ok

@@ -1,7 +1,8 @@
 use Rattle.std.proofs.Common.{◌≡◌, None, ◌∙◌, sym, subst}
 use Rattle.std.specs.FinMap.{get}
 use Rattle.reg_heap.specs.Edits.{child_path}
-use Rattle.reg_image.proofs.Readers.BegunSteps.{path-valid, free-below, taken-below, head-twice, head-done}
+use Rattle.reg_image.proofs.Readers.SiblingTests.{path-valid, free-below, taken-below}
+use Rattle.reg_image.proofs.Readers.BegunSteps.{head-twice, head-done}
 use Rattle.reg_image.proofs.begin.head_below.Goals as goal
 
 pub resolve-requires-clause-path : goal.resolve-requires-clause-path
@@ -10,7 +11,8 @@ resolve-requires-clause-path c = path-valid c.in_ok-named.named.name.items _ c.a
 pub returns-then-is_some-clause-heads : goal.returns-then-is_some-clause-heads
 returns-then-is_some-clause-heads c path at seen t told is =
     head-twice _ path _ c.args.offset seen c.in_ok-named.named _ (c.in_ok-named.ensures.follows path seen t)
-    (taken-below _ seen told at c.in_ok-named.named.name.items _ c.as_slice.ensures.value c.in_ok-named.ensures.fit.name _ (c.resolve.ensures.found at is)
+    (taken-below _ seen told at c.in_ok-named.named.name.items _ c.as_slice.ensures.value c.in_ok-named.ensures.fit.name _
+    (c.resolve.ensures.found at is)
     (sym c.is_some.ensures ∙ c.if-is_some.true))
 
 pub returns-clause-free : goal.returns-clause-free
@@ -22,5 +24,6 @@ pub returns-clause-heads : goal.returns-clause-heads
 returns-clause-heads c path at seen t told is =
     head-done _ path _ c.args.offset seen c.in_ok-named.named _ (c.in_ok-named.ensures.follows path seen t)
     (subst (λ tree. get tree (child_path at c.in_ok-named.named.name.items) ≡ None) told
-    (free-below _ at c.in_ok-named.named.name.items _ c.as_slice.ensures.value c.in_ok-named.ensures.fit.name _ (c.resolve.ensures.found at is)
+    (free-below _ at c.in_ok-named.named.name.items _ c.as_slice.ensures.value c.in_ok-named.ensures.fit.name _
+    (c.resolve.ensures.found at is)
     (sym c.is_some.ensures ∙ c.if-is_some.false)))

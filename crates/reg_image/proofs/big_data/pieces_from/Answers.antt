@@ -13,9 +13,9 @@ returns-clause-short c = let i = c.loop-index.invariant.1 in omega (arith, i)
 pub loop-index-init : goal.loop-index-init
 loop-index-init c = (
   subst (λ bytes. AreCopied
-  (cell_at c.args.bins.now) c.args.row.now c.args.count c.args.size 0 c.args.size bytes c.args.table.now.states.items c.args.table.now.states.items)
-  (sym c.in-Ok.ensures.items)
-  (none-copied (cell_at c.args.bins.now) c.args.row.now c.args.count c.args.size c.args.table.now.states.items),
+      (cell_at c.args.bins.now) c.args.row.now c.args.count c.args.size 0 c.args.size bytes c.args.table.now.states.items c.args.table.now.states.items)
+      (sym c.in-Ok.ensures.items)
+      (none-copied (cell_at c.args.bins.now) c.args.row.now c.args.count c.args.size c.args.table.now.states.items),
   let none = ap length c.in-Ok.ensures.items in omega (arith, none),
 )
 
@@ -30,9 +30,9 @@ returns-in_err-append_segment-clause-follows c path =
 pub loop-index-preserved : goal.loop-index-preserved
 loop-index-preserved c = (
   more-copied _ c.args.row.now c.args.count c.args.size _ c.loop-index.index c.loop-index.left c.loop-index.bytes.items _ _ c.loop-index-test.true
-  c.append_segment.new.bytes.items c.left_behind-left.result c.offset_at.result
-  (tt {0}) c.loop-index.invariant.0 c.offset_at.ensures c.left_behind-left.ensures
-  (λ path. c.in_ok-append_segment.ensures.follows path) c.append_segment.ensures.no_more,
+      c.append_segment.new.bytes.items c.left_behind-left.result c.offset_at.result
+      (tt {0}) c.loop-index.invariant.0 c.offset_at.ensures c.left_behind-left.ensures
+      (λ path. c.in_ok-append_segment.ensures.follows path) c.append_segment.ensures.no_more,
   kept c.args.size _ c.loop-index.left _ segment_size _ c.loop-index.invariant.1 c.in_ok-append_segment.ensures.sized c.left_behind-left.ensures,
 )
 

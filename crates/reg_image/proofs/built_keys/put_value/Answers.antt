@@ -4,4 +4,5 @@ use Rattle.reg_image.proofs.built_keys.put_value.Goals as goal
 pub set_at-requires-clause-place : goal.set_at-requires-clause-place
 set_at-requires-clause-place c p at =
     let o = c.requires.other in
-    place-free c.args.tree.now.tree c.args.value.now.name.items _ p o.0 c.as_slice.ensures.value (c.root.ensures.one_path p o.0 c.args.node at o.1) o.2
+    place-free c.args.tree.now.tree c.args.value.now.name.items _ p o.0 c.as_slice.ensures.value
+    (c.root.ensures.one_path p o.0 c.args.node at o.1) o.2

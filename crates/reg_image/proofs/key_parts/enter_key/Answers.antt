@@ -1,6 +1,6 @@
 use Rattle.std.proofs.Common.{◌∷◌}
 use Rattle.reg_image.proofs.NamedCells.CellNaming.{entered-table}
-use Rattle.reg_image.proofs.key_parts.parts_below.Goals as goal
+use Rattle.reg_image.proofs.key_parts.enter_key.Goals as goal
 
 pub returns-clause-follows : goal.returns-clause-follows
 returns-clause-follows c path seen t =
