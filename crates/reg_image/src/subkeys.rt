@@ -39,6 +39,17 @@ fn no_entries<'a>() -> ListPart<'a>
     }
 }
 
+/// What is to be read where there are no subkeys.
+fn no_subkeys<'a>() -> SubkeyParts<'a>
+    ensures leaf { entries_in result.leaf ≡ [] }
+    ensures lists { entries_in result.lists ≡ [] }
+{
+    SubkeyParts {
+        leaf: no_entries(),
+        lists: no_entries(),
+    }
+}
+
 /// What is to be read of the subkeys of a key with this list.
 fn parts_of<'a>(list: ListPart<'a>) -> SubkeyParts<'a>
     ensures leaf { entries_in result.leaf ≡ keys_of list.entry.form (entries_in list.entry) }
@@ -84,10 +95,7 @@ pub fn subkeys_from<'a>(
     ensures no_more { unnamed table.new.states.items ≤ unnamed table.old.states.items }
 {
     if count == 0 {
-        return Ok(SubkeyParts {
-            leaf: no_entries(),
-            lists: no_entries(),
-        });
+        return Ok(no_subkeys());
     }
     listed(bins, table, offset)
 }
