@@ -22,7 +22,6 @@ use Rattle.reg_image.specs.WalkSteps.{Seen}
 use Rattle.reg_image.specs.LoadingWalk.{is_free}
 use Rattle.reg_image.specs.Images.{tree_told}
 
--- a path is told where a tree of what was told has it
 same-either : (p q : Path) → eq_by_cmp path_cmp p q ≡ eq_by_cmp path_cmp q p
 same-either p q = by (eq_by_cmp path_cmp p q) refl (eq_by_cmp path_cmp q p) refl
   where
@@ -32,8 +31,8 @@ same-either p q = by (eq_by_cmp path_cmp p q) refl (eq_by_cmp path_cmp q p) refl
     by true e false f = sym (sym f ∙ subst (λ q. eq_by_cmp path_cmp q p ≡ true) (path-is p q e) (path-self p))
     by false e true f = sym e ∙ subst (λ p. eq_by_cmp path_cmp p q ≡ true) (path-is q p f) (path-self q)
 
-free-found : (p : Path) (told : List (Path × Rec)) → list_any (λ (e : Path × Rec). eq_by_cmp path_cmp e.0 p) told ≡ is_some
-    (find path_cmp p told)
+free-found : (p : Path) (told : List (Path × Rec)) →
+    list_any (λ (e : Path × Rec). eq_by_cmp path_cmp e.0 p) told ≡ is_some (find path_cmp p told)
 free-found p [] = refl
 free-found p (e ∷ told) = ap (λ b. b || list_any (λ (e : Path × Rec). eq_by_cmp path_cmp e.0 p) told) (same-either e.0 p)
     ∙ by (free-found p told) (eq_by_cmp path_cmp p e.0)
@@ -43,6 +42,7 @@ free-found p (e ∷ told) = ap (λ b. b || list_any (λ (e : Path × Rec). eq_by
     by rest true = refl
     by rest false = rest
 
+-- no key was told at a path where the tree of what was told has none
 pub free-is : (p : Path) (told : List (Path × Rec)) → is_free p told ≡ not (is_some (get (from_entries {R = path_cmp} told) p))
 free-is p told = ap not (free-found p told ∙ ap is_some (sym (get-from_entries path_total told p)))
 
@@ -103,14 +103,14 @@ path-valid name given e k = one-name PATH_LIMIT (omega arith) (path_of given) na
 looked : (p : Path) (name given : List ℕ) → given ≡ name → is_key_name name ≡ true → p ++ folded_path given ≡ child_path p name
 looked p name given e k = ap (λ n. p ++ folded_path n) e ∙ ap (λ ns. p ++ map folded ns) (name-path name k)
 
+-- what the look-up says of the path of a name below a key
 pub free-below : (keys : Keys) (p : Path) (name given : List ℕ) → given ≡ name → is_key_name name ≡ true → (found : Option Node) →
     IsResolved keys (p ++ folded_path given) found → is_some found ≡ false → get keys.tree (child_path p name) ≡ None
 free-below keys p name given e k None r n = subst (λ q. get keys.tree q ≡ None) (looked p name given e k) r
 free-below keys p name given e k (Some node) r n = absurd (false≢true (sym n))
 
 pub taken-below : (keys : Keys) (seen : Seen) → keys.tree ≡ tree_told seen → (p : Path) (name given : List ℕ) → given ≡ name →
-    is_key_name name ≡ true →
-    (found : Option Node) → IsResolved keys (p ++ folded_path given) found → is_some found ≡ true →
+    is_key_name name ≡ true → (found : Option Node) → IsResolved keys (p ++ folded_path given) found → is_some found ≡ true →
     IsSome (get (tree_told seen) (child_path p name))
 taken-below keys seen t p name given e k None r n = absurd (false≢true n)
 taken-below keys seen t p name given e k (Some node) r n =
