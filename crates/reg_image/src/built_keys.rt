@@ -1,13 +1,12 @@
 //! Keys that were read, built in the new tree.
 
-ghost use Rattle.std.specs.Prelude.{◌≡◌, ◌≤◌, ◌<◌, true, None, bit_and, ℕ, List, [], length, OnOk, IfOk, IfErr};
+ghost use Rattle.std.specs.Prelude.{◌≡◌, ◌<◌, None, bit_and, ℕ, List, [], length, OnOk, IfOk, IfErr};
 ghost use Rattle.std.specs.FinMap.{empty, get, insert};
 ghost use Rattle.reg_names.specs.declared.TheConstants.{PATH_LIMIT};
-ghost use Rattle.reg_names.specs.Names.{is_key_name};
-ghost use Rattle.reg_heap.specs.declared.limits.TheConstants.{DESCRIPTOR_LIMIT, VALUES_LIMIT};
+ghost use Rattle.reg_heap.specs.declared.limits.TheConstants.{VALUES_LIMIT};
 ghost use Rattle.reg_heap.specs.Paths.{Path, Tree as KeyTree, Rec};
 ghost use Rattle.reg_heap.specs.Edits.{child_path, edited, values_at, with_value};
-ghost use Rattle.reg_heap.specs.Trees.{IsSmallValue};
+ghost use Rattle.reg_heap.specs.Trees.{IsSmallKey, IsSmallValue};
 ghost use Rattle.reg_shape.specs.Spelt.{marks_of};
 ghost use Rattle.reg_tree.specs.BuiltKeys.{built_key};
 ghost use Rattle.reg_tree.specs.TreeKeys.{IsAt, IsThere, KeepsNodes};
@@ -48,10 +47,7 @@ fn new_key<'a>(named: &'a NamedKey<'_>, parts: &'a KeyParts<'_>) -> NewKey<'a>
     requires named { IsFitName named.now }
     requires parts { AreFitParts parts.now }
     ensures built { built_key result ≡ record (told_as named.now parts.now) { values = [] } }
-    ensures name { is_key_name result.name.now ≡ true }
-    ensures marks { bit_and result.marks 103 ≡ 0 }
-    ensures class { length result.class.now ≤ 65535 }
-    ensures descriptor { (1 ≤ length result.descriptor.now) × (length result.descriptor.now ≤ DESCRIPTOR_LIMIT) }
+    ensures small { IsSmallKey (built_key result) }
 {
     NewKey {
         name: named.name.as_slice(),
