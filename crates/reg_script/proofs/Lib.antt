@@ -1,7 +1,5 @@
-pub mod AppendedBytes
 pub mod NumberWords
 pub mod EscapedNames
-pub mod EscapedBytes
 pub mod LineSpaces
 pub mod WordReadingLemmas
 pub mod LineMeaningLemmas

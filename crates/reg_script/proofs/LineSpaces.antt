@@ -6,7 +6,7 @@ use Rattle.std.proofs.lemmas.List.Elements.{All-from_get_or}
 use Rattle.std.proofs.lemmas.List.Splits.{slice_split_first, slice_split_none, length-slice_split}
 use Rattle.std.proofs.lemmas.List.Sums.{fails_before_first}
 use Rattle.reg_script.specs.LineWords.{words_of}
-use Rattle.reg_script.proofs.AppendedBytes.{rest_is}
+use Rattle.reg_text.proofs.AppendedBytes.{rest_is}
 
 abbrev is_space : ℕ → Bool
 is_space b = b == 32

@@ -10,7 +10,8 @@ use Rattle.reg_model.specs.declared.answer.AnswerBody.TheVariants.{Refused, Shor
 use Rattle.reg_script.specs.declared.engine.TheConstants.{LINE_LIMIT, LINES_LIMIT}
 use Rattle.reg_script.specs.LineWords.{lines_of, words_of, number_of, unescaped, after_mark, name_of, data_of}
 use Rattle.reg_script.specs.LineMeanings.{first_of, ending, room_of, given_of, call_verb_of, verb_of, by_verb, meaning_of, nothing, at_moment, as_session, on_hive, asks, bad}
-use Rattle.reg_script.specs.ReplyTexts.{changed_text, answer_text, byte_text}
+use Rattle.reg_script.specs.ReplyTexts.{changed_text, answer_text}
+use Rattle.reg_text.specs.Texts.{byte_text}
 
 -- what computes a line's meaning
 unfoldable pub on_lines : Unit {0}

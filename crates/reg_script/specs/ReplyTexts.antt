@@ -1,7 +1,7 @@
 -- The text of replies, each of one line (this project's own rules of the script).
-use Rattle.std.specs.Prelude.{ℕ, ◌==◌, ◌/◌, ◌%◌, ◌&&◌, not, nat_le, Bool, true, false, if◌then◌else◌, List, [], ◌∷◌, ◌++◌, codes, Option, Some, None}
-use Rattle.std.specs.Fmt.{decimal, digit_glyph}
-use Rattle.hex.specs.Hex.{encode_lower}
+use Rattle.std.specs.Prelude.{ℕ, Bool, true, false, List, [], ◌++◌, codes, Option, Some, None}
+use Rattle.std.specs.Fmt.{decimal}
+use Rattle.reg_text.specs.Texts.{line_feed, escaped, digits_text}
 use Rattle.reg_model.specs.declared.reply.ChangeReply.{ChangeReply}
 use Rattle.reg_model.specs.declared.answer.AnswerBody.{AnswerBody}
 use Rattle.reg_model.specs.declared.answer.AnswerBody.TheVariants.{Refused, Short, Value, Key, Member, Info, Security}
@@ -10,10 +10,6 @@ use Rattle.reg_model.specs.declared.call.Call.TheVariants.{Change, Query}
 use Rattle.reg_model.specs.declared.call.Query.TheVariants.{QueryValue, EnumKey, EnumValue, QueryInfo, GetSecurity}
 use Rattle.reg_model.specs.declared.step.Outcome.{Outcome}
 use Rattle.reg_model.specs.declared.step.Outcome.TheVariants.{Changed, Answered}
-
--- a line ends with LF
-abbrev pub line_feed : List ℕ
-line_feed = 10 ∷ []
 
 -- the handle that a change opened, if it opened one
 abbrev pub handle_text : Option ℕ → List ℕ
@@ -29,19 +25,6 @@ disposition_text (Some disposition) = codes " disposition " ++ decimal dispositi
 abbrev pub changed_text : ChangeReply → List ℕ
 changed_text reply = decimal reply.status ++ (handle_text reply.handle ++ (disposition_text reply.disposition ++ line_feed))
 
--- a byte of a name that stands for itself: 0x21 to 0x7E, but `%`
-abbrev pub is_plain : ℕ → Bool
-is_plain b = nat_le 33 b && nat_le b 126 && not (b == 37)
-
--- a byte of a name as it is told: itself, or `%` and its two digits in upper case
-unfoldable pub byte_text : ℕ → List ℕ
-byte_text b = if is_plain b then b ∷ [] else 37 ∷ digit_glyph true (b / 16) ∷ digit_glyph true (b % 16) ∷ []
-
--- a name as it is told
-abbrev pub escaped : List ℕ → List ℕ
-escaped [] = []
-escaped (b ∷ bs) = byte_text b ++ escaped bs
-
 abbrev pub name_text : List ℕ → List ℕ
 name_text name = codes " =" ++ escaped name
 
@@ -54,7 +37,7 @@ value_text kind size = codes " type " ++ (decimal kind ++ size_text size)
 
 -- bytes, in lower case
 abbrev pub bytes_text : List ℕ → List ℕ
-bytes_text bytes = codes " x" ++ encode_lower bytes
+bytes_text bytes = codes " x" ++ digits_text bytes
 
 -- a value's bytes, if a room was given
 abbrev pub data_text : Option (List ℕ) → List ℕ

@@ -1,9 +1,10 @@
-ghost use Rattle.std.specs.Prelude.{◌≡◌, ◌<◌, ◌≤◌, [], length, take, string_bytes, OnOk, IfErr};
+ghost use Rattle.std.specs.Prelude.{◌≡◌, ◌<◌, [], length, string_bytes, OnOk, IfErr};
 ghost use Rattle.std.specs.Io.KnownBytes.{Appends};
 ghost use Rattle.reg_script.specs.Internal.Outputs.{IsSettled, IsCut, Closes};
 ghost use Rattle.reg_script.specs.Stops.{counted};
 
 use crate::engine::ScriptFault;
+use reg_text::write_counted;
 use std::alloc::Global;
 use std::io::Write;
 
@@ -15,21 +16,6 @@ const ENOUGH: usize = 65_536;
 pub struct Output {
     pub text: String,
     written: u64,
-}
-
-/// Writes bytes, and answers how many the writer took: all, unless a write failed or took no byte.
-fn write_counted<W: Write>(writer: &mut W, bytes: &[u8]) -> usize
-    ensures count { result ≤ length bytes.now }
-    ensures bytes { Appends (W.contents writer.old) (W.contents writer.new) (take result bytes.now) }
-{
-    let mut taken = 0;
-    while taken < bytes.len() {
-        match writer.write(&bytes[taken..]) {
-            Ok(count) if count > 0 => taken += count,
-            _ => return taken,
-        }
-    }
-    taken
 }
 
 impl Output {

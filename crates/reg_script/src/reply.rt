@@ -2,10 +2,11 @@ ghost use Rattle.std.specs.Prelude.{◌≡◌, ◌++◌, string_bytes, OnOk, cod
 ghost use Rattle.std.specs.Fmt.{decimal};
 ghost use Rattle.reg_model.specs.declared.call.Call.TheVariants.{Query as Asks};
 ghost use Rattle.reg_script.specs.ReplyTexts.{changed_text, handle_text, disposition_text, answer_text, short_text, name_text, value_text, asks_untyped};
-ghost use Rattle.reg_script.specs.ReplyTexts.{data_text, bytes_text, byte_text};
-ghost use Rattle.reg_script.specs.ReplyTexts.{escaped as escaped_text, line_feed, is_plain as is_plain_byte};
+ghost use Rattle.reg_script.specs.ReplyTexts.{data_text, bytes_text};
+ghost use Rattle.reg_text.specs.Texts.{line_feed};
 
 use reg_model::{Answer, AnswerBody, Bytes, ChangeReply, Query};
+use reg_text::{write_digits, write_escaped};
 use std::alloc::{AllocError, Global};
 
 /// The handle that a change opened, if it opened one.
@@ -37,33 +38,6 @@ pub fn write_changed(text: &mut String, reply: &ChangeReply) -> Result<(), Alloc
     write_disposition(text, reply.disposition)
 }
 
-/// Whether a byte of a name stands for itself: 0x21 to 0x7E, but `%`.
-fn is_plain(byte: u8) -> bool
-    ensures { result ≡ is_plain_byte byte }
-{
-    byte.is_ascii_graphic() && byte != b'%'
-}
-
-/// A byte of a name: itself, or `%` and its two digits in upper case.
-fn write_byte(text: &mut String, byte: u8) -> Result<(), AllocError>
-    ensures { OnOk result (string_bytes text.new ≡ string_bytes text.old ++ byte_text byte) }
-{
-    if is_plain(byte) {
-        return text.push(char::from(byte));
-    }
-    write!(text, "%{byte:02X}")
-}
-
-/// A name, with `%` and two digits in the place of each byte that isn't plain.
-fn write_escaped(text: &mut String, name: &[u8]) -> Result<(), AllocError>
-    ensures { OnOk result (string_bytes text.new ≡ string_bytes text.old ++ escaped_text name.now) }
-{
-    for byte in name {
-        write_byte(text, *byte)?;
-    }
-    Ok(())
-}
-
 /// What a room is too short for: a subkey's name and a descriptor have a size alone, a value its type too.
 fn write_short(text: &mut String, query: &Query, kind: u32, size: u32) -> Result<(), AllocError>
     ensures { OnOk result (string_bytes text.new ≡ string_bytes text.old ++ (short_text (asks_untyped (Asks query.now)) kind size ++ line_feed)) }
@@ -80,8 +54,9 @@ fn write_short(text: &mut String, query: &Query, kind: u32, size: u32) -> Result
 fn write_bytes(alloc: Global, text: &mut String, bytes: &[u8]) -> Result<(), AllocError>
     ensures { OnOk result (string_bytes text.new ≡ string_bytes text.old ++ (bytes_text bytes.now ++ line_feed)) }
 {
-    let digits = hex::encode(alloc, bytes)?;
-    writeln!(text, " x{digits}")
+    text.push_str(" x")?;
+    write_digits(alloc, text, bytes)?;
+    writeln!(text)
 }
 
 /// The end of a value's line: its bytes, if a room was given.

@@ -1,7 +1,7 @@
 use Rattle.std.proofs.Common.{sym, ◌∙◌, true}
 use Rattle.std.proofs.lemmas.Fmt.{hex_byte}
-use Rattle.reg_script.proofs.EscapedBytes.{plain_written, escape_is}
-use Rattle.reg_script.proofs.reply.write_byte.Goals as goal
+use Rattle.reg_text.proofs.EscapedBytes.{plain_written, escape_is}
+use Rattle.reg_text.proofs.write_byte.Goals as goal
 
 pub returns-then-is_plain : goal.returns-then-is_plain
 returns-then-is_plain c =

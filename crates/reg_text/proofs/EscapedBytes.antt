@@ -2,7 +2,7 @@
 use Rattle.std.proofs.Common.{◌≡◌, ℕ, ◌<◌, true, false, List, [], ◌∷◌, ◌++◌, ◌/◌, ◌%◌, refl, sym, ap, ◌∙◌, arith, tests, rules}
 use Rattle.std.specs.Prelude.{encode_utf8, is_ok, Result, Ok, Err, OnOk, if◌then◌else◌}
 use Rattle.std.specs.Fmt.{digit_glyph}
-use Rattle.reg_script.specs.ReplyTexts.{is_plain, byte_text}
+use Rattle.reg_text.specs.Texts.{is_plain, byte_text}
 
 plain_below : (b : ℕ) → is_plain b ≡ true → b < 128
 plain_below b plain = search (rules, tests)
