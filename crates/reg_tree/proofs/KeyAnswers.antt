@@ -4,3 +4,4 @@ pub mod AnswerBounds
 pub mod RefinementOfValues
 pub mod SubkeyBehind
 pub mod SubkeysInTurn
+pub mod ClassOfKey

@@ -58,6 +58,19 @@ pub fn descriptor(arena: &Arena, key: u32) -> &[u8]
     descriptor_in(arena, fields(arena, key).security)
 }
 
+/// The bytes of a key's class.
+pub fn class(arena: &Arena, key: u32) -> &[u8]
+    requires { IsHere arena.now.bytes key }
+    ensures told { (t : IsHere arena.now.bytes key) → (r : Rec) → get (tree_in arena.now.bytes t.root) t.path ≡ Some r → result.now ≡ r.class }
+    ensures short { length result.now ≤ 65535 }
+{
+    let fields = fields(arena, key);
+    if fields.class_length == 0 {
+        return &[];
+    }
+    &arena.content(fields.class)[..usize::from(fields.class_length)]
+}
+
 /// How many keys are right below a key.
 pub fn subkeys(arena: &Arena, key: u32) -> u32
     requires { IsHere arena.now.bytes key }

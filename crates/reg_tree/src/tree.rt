@@ -223,6 +223,15 @@ impl Tree {
         read::descriptor(&self.arena, node.offset)
     }
 
+    /// The bytes of a key's class.
+    pub fn class(&self, node: Node) -> &[u8]
+        requires { IsThere self.now node }
+        ensures told { (p : Path) → IsAt self.now p node → (r : Rec) → get self.now.tree p ≡ Some r → result.now ≡ r.class }
+        ensures short { length result.now ≤ 65535 }
+    {
+        read::class(&self.arena, node.offset)
+    }
+
     /// How many keys are right below a key.
     pub fn subkeys(&self, node: Node) -> u32
         requires { IsThere self.now node }

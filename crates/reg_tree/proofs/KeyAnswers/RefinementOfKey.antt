@@ -60,7 +60,7 @@ module _ (bytes : List ℕ) (key : ℕ) (t : IsHere bytes key) where
   abbrev tree : Tree
   tree = tree_in bytes t.root
 
-  is-rec : (r : Rec) → get tree t.path ≡ Some r → rec ≡ r
+  pub is-rec : (r : Rec) → get tree t.path ≡ Some r → rec ≡ r
   is-rec r e = same_Some _ _ (sym (rec_there bytes key t) ∙ e)
 
   -- ---- its name, time and marks
