@@ -1,2 +1,3 @@
 pub mod AppendedBytes
 pub mod EscapedBytes
+pub mod TextPieces

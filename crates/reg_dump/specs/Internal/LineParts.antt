@@ -1,0 +1,25 @@
+-- The lines of a dump in the parts in which they are told.
+use Rattle.std.specs.Prelude.{ℕ, List, ◌++◌, codes}
+use Rattle.std.specs.Fmt.{decimal}
+use Rattle.reg_text.specs.Texts.{line_feed, escaped, digits_text}
+
+-- what stands between a key's path and its class
+abbrev pub marks_part : ℕ → List ℕ
+marks_part marks = codes " marks " ++ (decimal marks ++ codes " class x")
+
+-- the end of a key's line
+abbrev pub time_part : ℕ → List ℕ
+time_part time = codes " time " ++ (decimal time ++ line_feed)
+
+-- what stands between a value's name and its bytes
+abbrev pub kind_part : ℕ → List ℕ
+kind_part kind = codes " type " ++ (decimal kind ++ codes " x")
+
+-- a key's line, of its path, marks, class, descriptor and time
+unfoldable pub key_in_parts : (path : List ℕ) (marks : ℕ) (class descriptor : List ℕ) (time : ℕ) → List ℕ
+key_in_parts path marks class descriptor time =
+    codes "key =" ++ (escaped path ++ (marks_part marks ++ (digits_text class ++ (codes " security x" ++ (digits_text descriptor ++ time_part time)))))
+
+-- a value's line, of its name, type and bytes
+unfoldable pub value_in_parts : (name : List ℕ) (kind : ℕ) (bytes : List ℕ) → List ℕ
+value_in_parts name kind bytes = codes "value =" ++ (escaped name ++ (kind_part kind ++ (digits_text bytes ++ line_feed)))

@@ -1,0 +1,2 @@
+pub mod DumpTexts
+pub mod Internal

@@ -1,0 +1,17 @@
+//! A tree of keys told as text, a line for each key and each value.
+//!
+//! Its one contract: [`dump`] writes just the text that `specs/DumpTexts.antt` says, byte for byte, or a front of it where a write or
+//! memory fails; and [`count`] and [`check_line`] tell how many keys and values there are. It stands on reg_tree, whose trees it
+//! reads, and on reg_text.
+//!
+//! `walk` goes from key to key with a stack of those on the present path, `line` tells a key, and `output` gathers text and counts what
+//! the writer took. Its types are [`Counts`] and [`DumpFault`].
+#![tactic(auto)]
+
+mod counts;
+mod fault;
+mod line;
+mod output;
+
+pub use counts::Counts;
+pub use fault::DumpFault;
