@@ -1,1 +1,2 @@
 pub mod SentTexts
+pub mod LineTexts

@@ -127,3 +127,8 @@ ends begin now whole text left gathered written s e = subst (λ (w : List ℕ). 
 pub then_gathered : (begin now : Option (List ℕ)) (whole first rest left gathered more : List ℕ) (written : ℕ) →
     IsSoFar begin now whole ((first ++ rest) ++ left) gathered written → more ≡ gathered ++ first → IsSoFar begin now whole (rest ++ left) more written
 then_gathered begin now whole first rest left gathered more written s e = pieces begin now whole (first ++ rest) first rest left gathered more written s refl e
+
+-- a text that is next, said in another way
+pub swapped : (begin now : Option (List ℕ)) (whole text same left gathered : List ℕ) (written : ℕ) → IsSoFar begin now whole (text ++ left) gathered written →
+    same ≡ text → IsSoFar begin now whole (same ++ left) gathered written
+swapped begin now whole text same left gathered written s e = subst (λ (w : List ℕ). IsSoFar begin now whole (w ++ left) gathered written) (sym e) s

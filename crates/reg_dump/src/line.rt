@@ -175,8 +175,9 @@ pub fn put_key<W: Write>(
 pub fn put_root<W: Write>(output: &mut Output, writer: &mut W, tree: &Tree) -> Result<(), DumpFault>
     ensures { Puts output.old (W.contents writer.old) output.new (W.contents writer.new) (root_line tree.now.tree) result }
 {
+    let name = tree.name(tree.root());
     write_part(&mut output.text, "root =")?;
-    output.put_escaped(writer, tree.name(tree.root()))?;
+    output.put_escaped(writer, name)?;
     write_part(&mut output.text, "\n")?;
     output.settle(writer)
 }
