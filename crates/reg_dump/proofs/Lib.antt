@@ -1,2 +1,4 @@
 pub mod SentTexts
 pub mod LineTexts
+pub mod WalkSteps
+pub mod CountedKeys

@@ -7,7 +7,8 @@ use Rattle.std.proofs.Math.Seq.{take-append_seam, take-append-add}
 use Rattle.std.proofs.lemmas.List.{take-append-le, take_all}
 use Rattle.reg_dump.specs.declared.fault.DumpFault.{DumpFault}
 use Rattle.reg_dump.specs.declared.fault.DumpFault.TheVariants.{Write, Memory}
-use Rattle.reg_dump.specs.Internal.Gathered.{IsSoFar, IsStopped}
+use Rattle.reg_dump.specs.DumpFronts.{IsStopped}
+use Rattle.reg_dump.specs.Internal.Gathered.{IsSoFar}
 
 -- ---- bytes appended
 

@@ -1,2 +1,4 @@
 pub mod DumpTexts
+pub mod DumpFronts
+pub mod DumpCounts
 pub mod Internal

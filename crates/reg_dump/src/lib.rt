@@ -8,10 +8,15 @@
 //! the writer took. Its types are [`Counts`] and [`DumpFault`].
 #![tactic(auto)]
 
+mod counting;
 mod counts;
+mod dumping;
 mod fault;
 mod line;
 mod output;
+mod walk;
 
+pub use counting::{check_line, count};
 pub use counts::Counts;
+pub use dumping::dump;
 pub use fault::DumpFault;

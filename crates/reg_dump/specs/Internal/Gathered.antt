@@ -2,8 +2,8 @@
 use Rattle.std.specs.Prelude.{◌≡◌, ℕ, ◌≤◌, List, ◌++◌, length, take, Option, Result, MatchResult, string_bytes}
 use Rattle.std.specs.Io.KnownBytes.{Appends}
 use Rattle.reg_dump.specs.declared.fault.DumpFault.{DumpFault}
-use Rattle.reg_dump.specs.declared.fault.DumpFault.TheVariants.{Write, Memory}
 use Rattle.reg_dump.specs.declared.output.Output.{Output}
+use Rattle.reg_dump.specs.DumpFronts.{IsStopped}
 
 -- of a whole text a front was sent, which is counted, what follows was gathered, and the rest is left
 pub record IsSoFar (begin now : Option (List ℕ)) (whole left gathered : List ℕ) (written : ℕ) : Type 0 where
@@ -11,11 +11,6 @@ pub record IsSoFar (begin now : Option (List ℕ)) (whole left gathered : List �
   pub appends : Appends begin now sent
   pub splits : whole ≡ sent ++ (gathered ++ left)
   pub counts : written ≡ length sent
-
--- a front of the text was sent, and no more; after a failed write as many bytes as the fault says
-abbrev pub IsStopped : Option (List ℕ) → Option (List ℕ) → List ℕ → DumpFault → Type 0
-IsStopped begin now whole (Write written) = (written ≤ length whole) × Appends begin now (take written whole)
-IsStopped begin now whole Memory = (n : ℕ) × Appends begin now (take n whole)
 
 -- a text that is next of a whole one was told: sent or gathered; or a fault stopped it
 abbrev pub Puts : {A : Type 0} → Output → Option (List ℕ) → Output → Option (List ℕ) → List ℕ → Result A DumpFault → Type 0

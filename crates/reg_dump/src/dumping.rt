@@ -1,0 +1,64 @@
+//! A whole tree told.
+ghost use Rattle.std.specs.Prelude.{flat_map, OnOk, IfOk, IfErr};
+ghost use Rattle.std.specs.Io.KnownBytes.{Appends};
+ghost use Rattle.reg_dump.specs.DumpTexts.{keys_told, key_lines, dump_text};
+ghost use Rattle.reg_dump.specs.DumpFronts.{IsStopped};
+ghost use Rattle.reg_dump.specs.DumpCounts.{IsCounted};
+ghost use Rattle.reg_dump.specs.Internal.Gathered.{Puts};
+
+use crate::counting::count_key;
+use crate::line::{put_counts, put_key, put_root};
+use crate::output::Output;
+use crate::walk::Walk;
+use crate::{Counts, DumpFault};
+use reg_tree::Tree;
+use std::alloc::Global;
+use std::io::Write;
+
+/// Tells the lines of all keys, and counts them.
+fn put_keys<W: Write>(
+    output: &mut Output,
+    writer: &mut W,
+    alloc: Global,
+    tree: &Tree,
+) -> Result<Counts, DumpFault>
+    ensures puts { Puts output.old (W.contents writer.old) output.new (W.contents writer.new) (flat_map key_lines (keys_told tree.now.tree)) result }
+    ensures counts { IfOk result (λ counts. IsCounted tree.now.tree counts) }
+{
+    let mut walk = Walk::new(alloc, tree.root());
+    let mut counts = Counts::none();
+    loop {
+        put_key(output, writer, alloc, tree, walk.node, &walk.path)?;
+        counts = count_key(tree, &walk, counts)?;
+        if !walk.advance(tree)? {
+            return Ok(counts);
+        }
+    }
+}
+
+/// Tells all of a tree.
+fn put_tree<W: Write>(
+    output: &mut Output,
+    writer: &mut W,
+    alloc: Global,
+    tree: &Tree,
+) -> Result<(), DumpFault>
+    ensures { Puts output.old (W.contents writer.old) output.new (W.contents writer.new) (dump_text tree.now.tree) result }
+{
+    put_root(output, writer, tree)?;
+    let counts = put_keys(output, writer, alloc, tree)?;
+    put_counts(output, writer, counts)
+}
+
+/// Writes a tree as text: its root's name, its keys with their values, and how many there are. The text goes to the writer while the
+/// keys are gone over, some 64 KB at a time, and at the end the writer is flushed.
+///
+/// `Write` where a write or the flush failed, after so many bytes of the text; `Memory`, after some front of it.
+pub fn dump<W: Write>(alloc: Global, tree: &Tree, writer: &mut W) -> Result<(), DumpFault>
+    ensures ok { OnOk result (Appends (W.contents writer.old) (W.contents writer.new) (dump_text tree.now.tree)) }
+    ensures err { IfErr result (λ fault. IsStopped (W.contents writer.old) (W.contents writer.new) (dump_text tree.now.tree) fault) }
+{
+    let mut output = Output::new(alloc);
+    put_tree(&mut output, writer, alloc, tree)?;
+    output.finish(writer)
+}
