@@ -1,5 +1,5 @@
 -- The keys of a tree counted on a walk over them.
-use Rattle.std.proofs.Common.{◌≡◌, ℕ, ◌+◌, ◌-◌, ◌≤◌, ◌<◌, List, [], ◌∷◌, ◌++◌, length, reverse, Option, Some, None, refl, sym, ap, ◌∙◌, subst, arith, append_assoc, append-nil, length-append}
+use Rattle.std.proofs.Common.{◌≡◌, ℕ, ◌+◌, ◌-◌, ◌≤◌, ◌<◌, Bool, true, false, List, [], ◌∷◌, ◌++◌, length, reverse, Option, Some, None, refl, sym, ap, ◌∙◌, subst, arith, append_assoc, append-nil, length-append}
 use Rattle.std.specs.Prelude.{sum_by, flat_map}
 use Rattle.std.proofs.lemmas.List.Sums.{sum_by-append}
 use Rattle.std.specs.FinMap.{get}
@@ -14,7 +14,7 @@ use Rattle.reg_dump.specs.declared.walk.Pending.{Pending}
 use Rattle.reg_dump.specs.declared.walk.Walk.{Walk}
 use Rattle.reg_dump.specs.DumpTexts.{Told, told_here, told_from, keys_told, values_in}
 use Rattle.reg_dump.specs.DumpCounts.{IsCounted}
-use Rattle.reg_dump.specs.Internal.Walking.{told_below, ArePending, Stands, Goes, IsAmid, CountsKey}
+use Rattle.reg_dump.specs.Internal.Walking.{told_below, ArePending, Stands, Goes, Advances, IsAmid, CountsKey}
 use Rattle.reg_dump.proofs.WalkSteps.{told-open}
 
 keys-open : (tree : Tree) → keys_told tree ≡ told_here [] (get tree []) ++ told_below PATH_LIMIT tree [] (children_of tree [])
@@ -97,3 +97,12 @@ module _ (keys : Keys) (walk : Walk) (counts : Counts) (a : IsAmid keys walk cou
 
     pub fewer : length (keys_told keys.tree) - more.keys < length (keys_told keys.tree) - counts.keys
     fewer = let m = n.keys in omega (arith, m, still)
+
+-- whether a walk went on
+pub went : (keys : Keys) (new : Walk) (rest : List Told) (moved : Bool) → moved ≡ true → Advances keys new rest moved → Goes keys new rest
+went keys new rest true e a = a
+went keys new rest false e a = absurd (cc)
+
+pub ended : (keys : Keys) (new : Walk) (rest : List Told) (moved : Bool) → moved ≡ false → Advances keys new rest moved → rest ≡ []
+ended keys new rest true e a = absurd (cc)
+ended keys new rest false e a = a

@@ -2,3 +2,4 @@ pub mod SentTexts
 pub mod LineTexts
 pub mod WalkSteps
 pub mod CountedKeys
+pub mod CheckTexts

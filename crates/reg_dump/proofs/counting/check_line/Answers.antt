@@ -1,4 +1,6 @@
+use Rattle.std.proofs.Common.{ap, ◌∙◌, ◌++◌, sym, List, ℕ}
+use Rattle.reg_dump.proofs.CheckTexts.{checked}
 use Rattle.reg_dump.proofs.counting.check_line.Goals as goal
 
 pub returns : goal.returns
-returns c = ?
+returns c = λ tree n. checked tree _ n _ _ _ c.new-text.ensures.bytes c.in_ok-push_str.ensures.bytes c.in_ok-write_counts.ensures
