@@ -6,7 +6,7 @@ use Rattle.reg_dump.specs.declared.counts.Counts.{Counts}
 use Rattle.reg_dump.specs.DumpTexts.{keys_told, values_in, counts_line, counts_text, root_line, key_lines, check_text, dump_text}
 use Rattle.reg_dump.specs.DumpCounts.{IsCounted}
 
-counts-same : (tree : Tree) (counts : Counts) → IsCounted tree counts → counts_line counts.keys counts.values ≡ counts_text (keys_told tree)
+pub counts-same : (tree : Tree) (counts : Counts) → IsCounted tree counts → counts_line counts.keys counts.values ≡ counts_text (keys_told tree)
 counts-same tree counts n = ap (λ (k : ℕ). counts_line k counts.values) n.keys ∙ ap (counts_line (length (keys_told tree))) n.values
 
 pub checked : (tree : Tree) (counts : Counts) → IsCounted tree counts → (empty front all : List ℕ) → empty ≡ [] → front ≡ empty ++ codes "ok " →
@@ -14,6 +14,3 @@ pub checked : (tree : Tree) (counts : Counts) → IsCounted tree counts → (emp
 unfolding check_text
 checked tree counts n empty front all none e f =
     f ∙ (ap (λ (x : List ℕ). x ++ counts_line counts.keys counts.values) (e ∙ ap (λ (x : List ℕ). x ++ codes "ok ") none) ∙ ap (λ (x : List ℕ). codes "ok " ++ x) (counts-same tree counts n))
-
-pub told_last : (tree : Tree) (counts : Counts) → IsCounted tree counts → counts_line counts.keys counts.values ≡ counts_text (keys_told tree)
-told_last = counts-same

@@ -1,6 +1,6 @@
 -- A text on its way to a writer: gathered, sent, and stopped.
 use Rattle.std.proofs.Common.{◌≡◌, ℕ, ◌+◌, ◌-◌, ◌≤◌, ◌<◌, List, [], ◌∷◌, ◌++◌, length, take, Option, Some, None, refl, sym, ap, ◌∙◌, subst, arith, append_assoc, append-nil, length-append}
-use Rattle.std.specs.Prelude.{Result, Ok, Err, MatchResult, OnOk}
+use Rattle.std.specs.Prelude.{Result, Ok, Err, MatchResult, OnOk, IfErr}
 use Rattle.std.specs.Result.{IsErrAnd}
 use Rattle.std.specs.Io.KnownBytes.{Appends, Keeps}
 use Rattle.std.proofs.Math.Seq.{take-append_seam, take-append-add}
@@ -133,3 +133,22 @@ then_gathered begin now whole first rest left gathered more written s e = pieces
 pub swapped : (begin now : Option (List ℕ)) (whole text same left gathered : List ℕ) (written : ℕ) → IsSoFar begin now whole (text ++ left) gathered written →
     same ≡ text → IsSoFar begin now whole (same ++ left) gathered written
 swapped begin now whole text same left gathered written s e = subst (λ (w : List ℕ). IsSoFar begin now whole (w ++ left) gathered written) (sym e) s
+
+-- ---- a whole text
+
+pub so_far_start : (begin : Option (List ℕ)) (whole gathered : List ℕ) (written : ℕ) → gathered ≡ [] → written ≡ 0 → IsSoFar begin begin whole (whole ++ []) gathered written
+so_far_start begin whole gathered written e z = subst (λ (w : List ℕ). IsSoFar begin begin whole w gathered written) (sym (append-nil whole)) (so_far_none begin whole gathered written e z)
+
+pub told_ok : {A : Type 0} (begin after : Option (List ℕ)) (whole gathered : List ℕ) (written : ℕ) (r : Result A DumpFault) →
+    MatchResult r (λ _. IsSoFar begin after whole [] gathered written) (λ fault. IsStopped begin after whole fault) → OnOk r (gathered ≡ []) → OnOk r (Appends begin after whole)
+told_ok begin after whole gathered written (Ok x) m e = so_far_all begin after whole gathered written m e
+told_ok begin after whole gathered written (Err fault) m e = tt
+
+pub told_err : {A : Type 0} (begin after : Option (List ℕ)) (whole gathered : List ℕ) (written : ℕ) (r : Result A DumpFault) →
+    MatchResult r (λ _. IsSoFar begin after whole [] gathered written) (λ fault. IsStopped begin after whole fault) → IfErr r (λ fault. IsStopped begin after whole fault)
+told_err begin after whole gathered written (Ok x) m = tt
+told_err begin after whole gathered written (Err fault) m = m
+
+pub err_exits : {A E : Type 0} (Q : E → Type 0) (r : Result A E) (e : E) → IsErrAnd r (λ y. y ≡ e) → Q e → IfErr r Q
+err_exits Q (Ok x) e h q = tt
+err_exits Q (Err y) e h q = subst Q (sym h) q
