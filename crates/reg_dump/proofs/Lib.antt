@@ -3,3 +3,4 @@ pub mod LineTexts
 pub mod WalkSteps
 pub mod CountedKeys
 pub mod CheckTexts
+mod RowsOfDumps

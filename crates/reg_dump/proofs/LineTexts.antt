@@ -56,7 +56,7 @@ next_value [] index l = absurd (omega (arith, l))
 next_value (v ∷ values) zero l = (v, refl, refl)
 next_value (v ∷ values) (suc index) l =
     let n = next_value values index (omega (arith, l)) in
-    (n.0, n.1, n.2 ∙ ap (λ (k : ℕ). n.0 ∷ drop k values) (add-one index) ∙ ap (λ (w : List Member). n.0 ∷ w) (later (suc index) ))
+    (n.0, n.1, n.2 ∙ ap (λ (k : ℕ). n.0 ∷ drop k values) (add-one index) ∙ ap (λ (w : List Member). n.0 ∷ w) (later (suc index)))
   where
     later : (k : ℕ) → drop k values ≡ drop (k + 1) (v ∷ values)
     later k = ap (λ (m : ℕ). drop m (v ∷ values)) (sym (add-one k))

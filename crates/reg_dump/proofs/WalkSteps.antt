@@ -129,24 +129,25 @@ module _ (keys : Keys) (text new : List ℕ) (p : Pending) (here more : List Tol
       (subst (λ (rest : List Told). ArePending keys new (length new) ps rest) (sym (ap (λ (x : List Told). x ++ more) none))
       (all-kept keys text new p.front (length new) ps more e s.within l l a))
   noted qs (Some subkey, (is, same)) =
-      subst (λ (qs : List Pending). ArePending keys new (length new) qs (siblings ++ more)) (sym same)
-      (siblings,
-      more,
-      record {
-        path = s.path;
-        names = s.names;
-        levels = s.levels;
-        index = s.index + 1;
-        place = s.place;
-        at = s.at;
-        subkey = is;
-        within = l;
-        text_is = e ∙ s.text_is;
-        rest_is = refl;
-      },
-      l,
-      all-kept keys text new p.front p.front ps more e s.within l (omega arith) a,
-      refl)
+      subst (λ (qs : List Pending). ArePending keys new (length new) qs (siblings ++ more)) (sym same) (
+        siblings,
+        more,
+        record {
+          path = s.path;
+          names = s.names;
+          levels = s.levels;
+          index = s.index + 1;
+          place = s.place;
+          at = s.at;
+          subkey = is;
+          within = l;
+          text_is = e ∙ s.text_is;
+          rest_is = refl;
+        },
+        l,
+        all-kept keys text new p.front p.front ps more e s.within l (omega arith) a,
+        refl,
+      )
 
 -- ---- the key that it goes to
 

@@ -183,7 +183,11 @@ pub fn put_root<W: Write>(output: &mut Output, writer: &mut W, tree: &Tree) -> R
 }
 
 /// Tells the line that counts the keys and the values.
-pub fn put_counts<W: Write>(output: &mut Output, writer: &mut W, counts: Counts) -> Result<(), DumpFault>
+pub fn put_counts<W: Write>(
+    output: &mut Output,
+    writer: &mut W,
+    counts: Counts,
+) -> Result<(), DumpFault>
     ensures { Puts output.old (W.contents writer.old) output.new (W.contents writer.new) (counts_line counts.keys counts.values) result }
 {
     write_counts(&mut output.text, counts)?;

@@ -56,10 +56,11 @@ loop-walk-smaller g c = let a = c.loop-walk.invariant.0 in fewer _ _ _ a _ (c.in
 pub loop-walk-preserved : goal.loop-walk-preserved
 loop-walk-preserved g c =
     let a = c.loop-walk.invariant.0 in
-    let b = amid_next _ _ _ a _ (c.in_ok-counts.ensures a.here a.rest a.stands) _ (went _ _ _ _ c.if-not-branch.false (c.in_ok-advance.ensures a.here a.rest a.stands)) in
-    (b.0,
-    λ begin whole left s.
-    swapped begin _ whole _ _ left _ _
-    (c.in_ok-put_key.ensures a.stands.path a.stands.at a.here a.stands.key (c.deref.ensures.value ∙ a.stands.text) begin whole _
-    (opened begin _ whole (key_lines a.here) (flat_map key_lines a.rest) left _ _ (c.loop-walk.invariant.1 begin whole left s)))
-    (ap (flat_map key_lines) (sym b.1)))
+    let b = amid_next _ _ _ a _ (c.in_ok-counts.ensures a.here a.rest a.stands) _ (went _ _ _ _ c.if-not-branch.false (c.in_ok-advance.ensures a.here a.rest a.stands)) in (
+      b.0,
+      λ begin whole left s.
+          swapped begin _ whole _ _ left _ _
+          (c.in_ok-put_key.ensures a.stands.path a.stands.at a.here a.stands.key (c.deref.ensures.value ∙ a.stands.text) begin whole _
+          (opened begin _ whole (key_lines a.here) (flat_map key_lines a.rest) left _ _ (c.loop-walk.invariant.1 begin whole left s)))
+          (ap (flat_map key_lines) (sym b.1)),
+    )
