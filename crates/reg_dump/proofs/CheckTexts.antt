@@ -1,9 +1,9 @@
 -- The texts of a whole tree, put together.
-use Rattle.std.proofs.Common.{◌≡◌, ℕ, List, [], ◌∷◌, ◌++◌, length, refl, sym, ap, ◌∙◌}
-use Rattle.std.specs.Prelude.{codes, flat_map}
+use Rattle.std.proofs.Common.{◌≡◌, ℕ, List, [], ◌++◌, length, ap, ◌∙◌}
+use Rattle.std.specs.Prelude.{codes}
 use Rattle.reg_heap.specs.Paths.{Tree}
 use Rattle.reg_dump.specs.declared.counts.Counts.{Counts}
-use Rattle.reg_dump.specs.DumpTexts.{keys_told, values_in, counts_line, counts_text, root_line, key_lines, check_text, dump_text}
+use Rattle.reg_dump.specs.DumpTexts.{keys_told, counts_line, counts_text, check_text}
 use Rattle.reg_dump.specs.DumpCounts.{IsCounted}
 
 pub counts-same : (tree : Tree) (counts : Counts) → IsCounted tree counts → counts_line counts.keys counts.values ≡ counts_text (keys_told tree)

@@ -1,10 +1,9 @@
 -- The keys of a tree counted on a walk over them.
-use Rattle.std.proofs.Common.{◌≡◌, ℕ, ◌+◌, ◌-◌, ◌≤◌, ◌<◌, Bool, true, false, List, [], ◌∷◌, ◌++◌, length, reverse, Option, Some, None, refl, sym, ap, ◌∙◌, subst, arith, append_assoc, append-nil, length-append}
-use Rattle.std.specs.Prelude.{sum_by, flat_map}
+use Rattle.std.proofs.Common.{◌≡◌, ◌-◌, ◌<◌, Bool, true, false, List, [], ◌∷◌, ◌++◌, length, reverse, Option, Some, refl, sym, ap, ◌∙◌, subst, arith, append_assoc, append-nil, length-append}
 use Rattle.std.proofs.lemmas.List.Sums.{sum_by-append}
 use Rattle.std.specs.FinMap.{get}
 use Rattle.reg_names.specs.declared.TheConstants.{PATH_LIMIT}
-use Rattle.reg_heap.specs.Paths.{Path, Tree, Rec, children_of}
+use Rattle.reg_heap.specs.Paths.{Tree, Rec, children_of}
 use Rattle.reg_heap.specs.Trees.{IsTree}
 use Rattle.reg_tree.specs.declared.node.Node.{Node}
 use Rattle.reg_tree.specs.TreeKeys.{Keys, IsAt}
@@ -12,9 +11,9 @@ use Rattle.reg_tree.proofs.Invariant.CellReadings.{some_of}
 use Rattle.reg_dump.specs.declared.counts.Counts.{Counts}
 use Rattle.reg_dump.specs.declared.walk.Pending.{Pending}
 use Rattle.reg_dump.specs.declared.walk.Walk.{Walk}
-use Rattle.reg_dump.specs.DumpTexts.{Told, told_here, told_from, keys_told, values_in}
+use Rattle.reg_dump.specs.DumpTexts.{Told, told_here, keys_told, values_in}
 use Rattle.reg_dump.specs.DumpCounts.{IsCounted}
-use Rattle.reg_dump.specs.Internal.Walking.{told_below, ArePending, Stands, Goes, Advances, IsAmid, CountsKey}
+use Rattle.reg_dump.specs.Internal.Walking.{told_below, ArePending, Goes, Advances, IsAmid, CountsKey}
 use Rattle.reg_dump.proofs.WalkSteps.{told-open}
 
 keys-open : (tree : Tree) → keys_told tree ≡ told_here [] (get tree []) ++ told_below PATH_LIMIT tree [] (children_of tree [])

@@ -1,5 +1,5 @@
 -- The text of a tree, computed at trees that were worked out by hand.
-use Rattle.std.proofs.Common.{◌≡◌, ℕ, zero, suc, ◌+◌, List, [], ◌∷◌, ◌++◌, map, Option, Some, None, refl, sym, ap, ◌∙◌}
+use Rattle.std.proofs.Common.{◌≡◌, ℕ, zero, suc, ◌+◌, List, [], ◌∷◌, ◌++◌, map, Option, refl, ap, ◌∙◌}
 use Rattle.std.specs.Prelude.{codes, filter, flat_map}
 use Rattle.std.specs.FinMap.{from_sorted, entries-from_sorted, get-from_sorted, get}
 use Rattle.std.specs.FinMap.Entries.{find}
@@ -9,7 +9,6 @@ use Rattle.reg_names.specs.declared.TheConstants.{PATH_LIMIT}
 use Rattle.reg_heap.specs.Paths.{Path, Tree, Rec, Member, path_cmp, is_child, children_of}
 use Rattle.reg_text.specs.Texts.{byte_text, escaped, line_feed}
 use Rattle.reg_dump.specs.DumpTexts.{Told, name_of, told_here, told_from, keys_told, key_line, value_line, key_lines, counts_text, dump_text, check_text}
-use Rattle.reg_dump.proofs.WalkSteps.{told-open}
 
 -- ---- the recursion, over functions that compute
 

@@ -1,8 +1,7 @@
 -- A walk over a tree's keys, step by step.
-use Rattle.std.proofs.Common.{◌≡◌, ℕ, zero, suc, ◌+◌, ◌≤◌, ◌<◌, Bool, true, false, cond, List, [], ◌∷◌, ◌++◌, length, take, drop, reverse, get_or, Option, Some, None, IsSome, refl, sym, ap, ◌∙◌, subst, arith, append_assoc, append-nil, length-append}
+use Rattle.std.proofs.Common.{◌≡◌, ℕ, zero, suc, ◌+◌, ◌≤◌, ◌<◌, Bool, true, false, cond, List, [], ◌∷◌, ◌++◌, length, take, drop, reverse, get_or, Option, Some, None, refl, sym, ap, ◌∙◌, subst, arith, append_assoc, append-nil, length-append}
 use Rattle.std.specs.Prelude.{filter, IfOk, Result, Ok, Err}
 use Rattle.std.specs.FinMap.{get, keys}
-use Rattle.std.proofs.lemmas.Option.{same_Some}
 use Rattle.std.proofs.lemmas.List.{drop_more, drop_all, take-append-le, take_all, length-take-le, reverse-append}
 use Rattle.reg_names.specs.declared.TheConstants.{PATH_LIMIT}
 use Rattle.reg_names.specs.Names.{text_of}
@@ -15,7 +14,7 @@ use Rattle.reg_tree.specs.SubkeyWalk.{IsSubkeyAt}
 use Rattle.reg_dump.specs.declared.walk.Pending.{Pending}
 use Rattle.reg_dump.specs.declared.walk.Walk.{Walk}
 use Rattle.reg_dump.specs.DumpTexts.{Told, name_of, told_here, told_from}
-use Rattle.reg_dump.specs.Internal.Walking.{text_below, told_below, IsPlace, IsPending, ArePending, IsNoted, Goes, Stands, Advances}
+use Rattle.reg_dump.specs.Internal.Walking.{text_below, told_below, IsPending, ArePending, IsNoted, Goes, Stands, Advances}
 
 -- ---- texts of paths
 

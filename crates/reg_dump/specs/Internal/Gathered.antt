@@ -1,5 +1,5 @@
 -- What becomes of a text on its way to a writer (this project's own).
-use Rattle.std.specs.Prelude.{◌≡◌, ℕ, ◌≤◌, List, ◌++◌, length, take, Option, Result, MatchResult, string_bytes}
+use Rattle.std.specs.Prelude.{◌≡◌, ℕ, List, ◌++◌, length, Option, Result, MatchResult, string_bytes}
 use Rattle.std.specs.Io.KnownBytes.{Appends}
 use Rattle.reg_dump.specs.declared.fault.DumpFault.{DumpFault}
 use Rattle.reg_dump.specs.declared.output.Output.{Output}

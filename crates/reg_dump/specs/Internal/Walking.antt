@@ -3,7 +3,7 @@ use Rattle.std.specs.Prelude.{◌≡◌, ℕ, zero, suc, ◌+◌, ◌≤◌, Boo
 use Rattle.std.specs.FinMap.{get}
 use Rattle.reg_names.specs.declared.TheConstants.{PATH_LIMIT}
 use Rattle.reg_names.specs.Names.{text_of}
-use Rattle.reg_heap.specs.Paths.{Path, Tree, Rec, children_of}
+use Rattle.reg_heap.specs.Paths.{Path, Tree, children_of}
 use Rattle.reg_tree.specs.declared.node.Subkey.{Subkey}
 use Rattle.reg_tree.specs.TreeKeys.{Keys, IsAt}
 use Rattle.reg_tree.specs.SubkeyWalk.{IsSubkeyAt}

@@ -1,4 +1,3 @@
-use Rattle.std.proofs.Common.{ap, ◌∙◌, ◌++◌, sym, List, ℕ}
 use Rattle.reg_dump.proofs.CheckTexts.{checked}
 use Rattle.reg_dump.proofs.counting.check_line.Goals as goal
 

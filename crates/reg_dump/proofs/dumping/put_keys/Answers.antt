@@ -1,4 +1,4 @@
-use Rattle.std.proofs.Common.{ap, sym, ◌∙◌, ◌∷◌, [], List}
+use Rattle.std.proofs.Common.{ap, sym, ◌∙◌}
 use Rattle.std.specs.Prelude.{flat_map}
 use Rattle.reg_dump.specs.DumpTexts.{key_lines}
 use Rattle.reg_dump.proofs.SentTexts.{swapped, opened, ends, stops_full, exits}

@@ -1,7 +1,7 @@
 use Rattle.std.proofs.Common.{◌++◌}
 use Rattle.std.specs.Prelude.{codes}
-use Rattle.reg_text.specs.Texts.{line_feed, escaped, digits_text}
-use Rattle.reg_dump.specs.Internal.LineParts.{marks_part, time_part, kind_part, key_in_parts, value_in_parts}
+use Rattle.reg_text.specs.Texts.{escaped, digits_text}
+use Rattle.reg_dump.specs.Internal.LineParts.{marks_part, time_part, key_in_parts}
 use Rattle.reg_dump.proofs.SentTexts.{then_gathered, gathers, opened, stops_full, exits}
 use Rattle.reg_dump.proofs.line.put_fields.Goals as goal
 

@@ -1,4 +1,4 @@
-use Rattle.std.proofs.Common.{ap, sym}
+use Rattle.std.proofs.Common.{ap}
 use Rattle.std.specs.Prelude.{flat_map}
 use Rattle.reg_heap.specs.Edits.{values_of}
 use Rattle.reg_dump.specs.DumpTexts.{key_line, value_line}

@@ -1,5 +1,3 @@
-use Rattle.std.proofs.Common.{sym, subst, ◌++◌, List, ℕ}
-use Rattle.reg_dump.specs.Internal.Gathered.{IsSoFar}
 use Rattle.reg_dump.proofs.SentTexts.{swapped}
 use Rattle.reg_dump.proofs.LineTexts.{key_same}
 use Rattle.reg_dump.proofs.line.put_line.Goals as goal

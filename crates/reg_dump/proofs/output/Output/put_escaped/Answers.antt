@@ -1,5 +1,4 @@
-use Rattle.std.proofs.Common.{arith, ◌≡◌, List, ℕ, ◌++◌, ◌+◌, sym, subst, take, drop}
-use Rattle.reg_text.specs.Texts.{escaped}
+use Rattle.std.proofs.Common.{arith}
 use Rattle.reg_text.proofs.TextPieces.{escaped-piece, escaped-end}
 use Rattle.reg_dump.proofs.SentTexts.{pieces, ends, stops_full, exits}
 use Rattle.reg_dump.proofs.output.Output.put_escaped.Goals as goal
