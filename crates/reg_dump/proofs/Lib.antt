@@ -1,4 +1,5 @@
 pub mod SentTexts
+pub mod LineSteps
 pub mod LineTexts
 pub mod WalkSteps
 pub mod CountedKeys

@@ -10,13 +10,13 @@ use Rattle.reg_values.specs.ValueLists.{Tells}
 use Rattle.reg_dump.specs.DumpTexts.{Told, name_of, key_line, value_line}
 use Rattle.reg_dump.specs.Internal.Gathered.{IsSoFar}
 use Rattle.reg_dump.proofs.SentTexts.{swapped}
-use Rattle.reg_dump.specs.Internal.LineParts.{key_in_parts, value_in_parts, time_part}
+use Rattle.reg_dump.specs.Internal.LineParts.{after_class, after_path, key_in_parts, after_name, value_in_parts, root_in_parts, time_part}
 
 -- a key's line
 key_grouped : (path : List ℕ) (marks : ℕ) (class descriptor : List ℕ) (time : ℕ) → key_in_parts path marks class descriptor time ≡
     codes "key =" ++ (escaped path ++ (codes " marks " ++ (decimal marks ++ (codes " class x" ++ (digits_text class ++ (codes " security x"
     ++ (digits_text descriptor ++ (codes " time " ++ (decimal time ++ line_feed)))))))))
-unfolding key_in_parts
+unfolding key_in_parts after_path after_class
 key_grouped path marks class descriptor time =
     ap (λ (w : List ℕ). codes "key =" ++ (escaped path ++ (codes " marks " ++ w)))
     (append_assoc (decimal marks) (codes " class x") (digits_text class ++ (codes " security x" ++ (digits_text descriptor ++ time_part time))))
@@ -34,7 +34,7 @@ key_same told path marks class descriptor time p m c d t =
 -- a value's line
 value_grouped : (name : List ℕ) (kind : ℕ) (bytes : List ℕ) → value_in_parts name kind bytes ≡
     codes "value =" ++ (escaped name ++ (codes " type " ++ (decimal kind ++ (codes " x" ++ (digits_text bytes ++ line_feed)))))
-unfolding value_in_parts
+unfolding value_in_parts after_name
 value_grouped name kind bytes =
     ap (λ (w : List ℕ). codes "value =" ++ (escaped name ++ (codes " type " ++ w))) (append_assoc (decimal kind) (codes " x") (digits_text bytes ++ line_feed))
 
@@ -68,7 +68,8 @@ root_named (Some r) name there told = told r refl
 
 pub root_state : (begin now : Option (List ℕ)) (whole : List ℕ) (found : Option Rec) (left gathered : List ℕ) (written : ℕ) (name : List ℕ) →
     IsSoFar begin now whole ((codes "root =" ++ (escaped (name_of found) ++ line_feed)) ++ left) gathered written → IsSome found → ((r : Rec) → found ≡ Some r → name ≡ r.name) →
-    IsSoFar begin now whole ((codes "root =" ++ (escaped name ++ line_feed)) ++ left) gathered written
+    IsSoFar begin now whole (root_in_parts name ++ left) gathered written
+unfolding root_in_parts
 root_state begin now whole found left gathered written name s there told =
     swapped begin now whole _ (codes "root =" ++ (escaped name ++ line_feed)) left gathered written s
     (ap (λ (w : List ℕ). codes "root =" ++ (escaped w ++ line_feed)) (root_named found name there told))

@@ -12,10 +12,12 @@ pub record Told : Type 0 where
   pub names : List (List ℕ)
   pub key : Rec
 
+-- the name of a key that was found
 abbrev pub name_of : Option Rec → List ℕ
 name_of None = []
 name_of (Some key) = key.name
 
+-- a key that was found, told alone
 abbrev pub told_here : List (List ℕ) → Option Rec → List Told
 told_here names None = []
 told_here names (Some key) = record { names = names; key = key } ∷ []
@@ -47,6 +49,7 @@ value_line value =
 abbrev pub key_lines : Told → List ℕ
 key_lines told = key_line told ++ flat_map value_line told.key.values
 
+-- how many values some keys have together
 abbrev pub values_in : List Told → ℕ
 values_in told = sum_by (λ (t : Told). length t.key.values) told
 
@@ -54,6 +57,7 @@ values_in told = sum_by (λ (t : Told). length t.key.values) told
 abbrev pub counts_line : ℕ → ℕ → List ℕ
 counts_line keys values = codes "keys " ++ (decimal keys ++ (codes " values " ++ (decimal values ++ line_feed)))
 
+-- the line that counts these keys and their values
 abbrev pub counts_text : List Told → List ℕ
 counts_text told = counts_line (length told) (values_in told)
 

@@ -23,7 +23,8 @@ pub fn count_key(tree: &Tree, walk: &Walk, counts: Counts) -> Result<Counts, All
     }
 }
 
-/// Counts a tree's keys and values. Memory is taken for a stack of the keys on the present path and for that path's text.
+/// Counts a tree's keys and values. Memory is taken for a stack of the keys on the present path and for that path's text; want of it is
+/// the fault, or that 64 bits can't hold a number.
 pub fn count(alloc: Global, tree: &Tree) -> Result<Counts, AllocError>
     ensures { IfOk result (λ counts. IsCounted tree.now.tree counts) }
 {

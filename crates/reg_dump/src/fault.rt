@@ -6,10 +6,11 @@ use thiserror::Error;
 /// What ended a dump early.
 #[derive(Clone, Copy, Debug, PartialEq, Eq, Error)]
 pub enum DumpFault {
-    /// A write failed, or took no byte, after so many bytes of the text.
+    /// A write or the flush failed, or a write took no byte, after so many bytes of the text. So does a text that is longer than 64
+    /// bits can count, before they can't.
     #[error("a write failed after {written} bytes")]
     Write { written: u64 },
-    /// A growth was refused.
+    /// A growth was refused; or there are more keys or values than 64 bits can count.
     #[error("no memory")]
     Memory,
 }
