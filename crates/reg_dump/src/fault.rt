@@ -6,8 +6,7 @@ use thiserror::Error;
 /// What ended a dump early.
 #[derive(Clone, Copy, Debug, PartialEq, Eq, Error)]
 pub enum DumpFault {
-    /// A write or the flush failed, or a write took no byte, after so many bytes of the text. So does a text that is longer than 64
-    /// bits can count, before they can't.
+    /// A write or the flush failed, or a write took no byte; or 64 bits can't count the text. So many bytes of it were written.
     #[error("a write failed after {written} bytes")]
     Write { written: u64 },
     /// A growth was refused; or there are more keys or values than 64 bits can count.
