@@ -6,4 +6,3 @@ pub mod FaultsOfWalks
 pub mod BlockTests
 pub mod LoadedImages
 pub mod MadeImages
-pub mod OutputPieces

@@ -13,6 +13,7 @@ ghost use Rattle.reg_image.specs.Internal.BlockFields.{block_fields as fields_of
 use crate::block::head_checksum;
 use reg_arena::Arena;
 use reg_calls::Hive;
+use reg_text::write_counted;
 use std::alloc::{AllocError, Global};
 use std::io::Write;
 use thiserror::Error;
@@ -127,21 +128,15 @@ pub fn write_image<W: Write>(bytes: &[u8], writer: &mut W) -> Result<(), WriteFa
     ensures err { IfErr result (λ fault. (fault.written ≤ length bytes.now)
         × Appends (W.contents writer.old) (W.contents writer.new) (take fault.written bytes.now)) }
 {
-    let mut taken = 0;
-    while taken < bytes.len() {
-        match writer.write(&bytes[taken..]) {
-            Ok(count) if count > 0 => taken += count,
-            _ => {
-                return Err(WriteFault {
-                    written: taken as u64,
-                });
-            }
-        }
+    let taken = write_counted(writer, bytes);
+    let fault = WriteFault {
+        written: taken as u64,
+    };
+    if taken < bytes.len() {
+        return Err(fault);
     }
     match writer.flush() {
         Ok(()) => Ok(()),
-        Err(_) => Err(WriteFault {
-            written: taken as u64,
-        }),
+        Err(_) => Err(fault),
     }
 }
