@@ -6,7 +6,7 @@ use Rattle.reg_calls.specs.Views.{View}
 use Rattle.reg_script.specs.declared.engine.ScriptFault.{ScriptFault}
 use Rattle.reg_script.specs.declared.engine.ScriptFault.TheVariants.{Read, Write, TooLong, Memory}
 use Rattle.reg_script.specs.LineWords.{lines_of}
-use Rattle.reg_script.specs.Lines.{Stand, AreSaid, Lines}
+use Rattle.reg_script.specs.Lines.{Stand, AreSaid, Lines, LinesTo}
 use Rattle.reg_script.specs.Internal.Outputs.{IsCut, Closes}
 use Rattle.reg_script.specs.Stops.{HasNoFeed, AreWithin, IsReached, Stops}
 use Rattle.reg_script.specs.Internal.Progress.{Position, IsSteady, with_feeds, Takes, IsIdle, past, IsLost, Halts, Ends}
@@ -34,18 +34,27 @@ within_whole : (old new : Position) (hive : View) (script : List ℕ) → IsStar
 within_whole old new hive script start e =
     subst (λ (w : List ℕ). AreWithin (lines_of (w ++ script))) start.begun (record { few = omega (arith, e.few, start.lines); short = e.short })
 
--- what was written is the script's lines
-abbrev pub IsWhole : View → View → Option (List ℕ) → Option (List ℕ) → Option (List ℕ) → Option (List ℕ) → Type 0
-IsWhole hive new unread left before after =
+-- what was written is the script's lines, the last of which left the moment so
+abbrev pub IsWhole : View → View → ℕ → Option (List ℕ) → Option (List ℕ) → Option (List ℕ) → Option (List ℕ) → Type 0
+IsWhole hive new moment unread left before after =
+    (script : List ℕ) × (text : List ℕ) × Consumes unread left script × LinesTo hive script text new moment × Appends before after text × AreWithin (lines_of script)
+
+-- the same without the moment
+abbrev pub IsRun : View → View → Option (List ℕ) → Option (List ℕ) → Option (List ℕ) → Option (List ℕ) → Type 0
+IsRun hive new unread left before after =
     (script : List ℕ) × (text : List ℕ) × Consumes unread left script × Lines hive script text new × Appends before after text × AreWithin (lines_of script)
 
+pub without_moment : (hive new : View) (moment : ℕ) (unread left before after : Option (List ℕ)) → IsWhole hive new moment unread left before after
+    → IsRun hive new unread left before after
+without_moment hive new moment unread left before after w = (w.0, w.1, w.2, (w.3.0, w.3.1, w.3.2), w.4, w.5)
+
 ended_whole : (old new : Position) (hive : View) (script : List ℕ) (unread left final : Option (List ℕ)) → IsStart old hive →
-    Consumes unread left script → Ends old script new → Appends new.sent final new.gathered → IsWhole hive new.stand.hive unread left old.sent final
+    Consumes unread left script → Ends old script new → Appends new.sent final new.gathered → IsWhole hive new.stand.hive new.stand.moment unread left old.sent final
 ended_whole old new hive script unread left final start consumes e sent = (
   script,
   e.replies,
   consumes,
-  (new.stand, said_whole old new hive script start e, refl),
+  (new.stand, said_whole old new hive script start e, refl, refl),
   all_sent old new new e.replies final e.passes start.gathered (same_position new) sent,
   within_whole old new hive script start e,
 )
@@ -150,7 +159,7 @@ closed_well A B (Err Memory) result text before old new (inr h) a f = on_ok_of _
 
 pub run_whole : (old new : Position) (hive : View) (unread left final : Option (List ℕ)) (ended result : Result (Unit {0}) ScriptFault) →
     IsStart old hive → OnOk ended ((script : List ℕ) × Consumes unread left script × Ends old script new)
-    → Closes ended new.gathered new.written new.sent final result → OnOk result (IsWhole hive new.stand.hive unread left old.sent final)
+    → Closes ended new.gathered new.written new.sent final result → OnOk result (IsWhole hive new.stand.hive new.stand.moment unread left old.sent final)
 run_whole old new hive unread left final ended result start done closes =
     closed_well _ _ ended result new.gathered new.written new.sent final closes done (λ e sent. ended_whole old new hive e.0 unread left final start e.1 e.2 sent)
 
@@ -214,7 +223,7 @@ module _ (old new : Position) (hive : View) (unread left final : Option (List �
   start : IsStart old hive
   start = record { lines = lines; begun = begun; gathered = gathered; written = written; stand = stand }
 
-  pub runs_whole : OnOk result (IsWhole hive new.stand.hive unread left old.sent final)
+  pub runs_whole : OnOk result (IsWhole hive new.stand.hive new.stand.moment unread left old.sent final)
   runs_whole = run_whole old new hive unread left final ended result start (ok_given _ _ ended (steady_start old hive start) ends) closes
 
   pub runs_into : OnOk ended (IsAtEnd left) →

@@ -42,6 +42,12 @@ abbrev pub Lines : View → List ℕ → List ℕ → View → Type 0
 Lines old script text new =
     (last : Stand) × AreSaid (lines_of script) (record { hive = old; moment = 0; session = 0 }) text last × (last.hive ≡ new)
 
+-- the same, where this is the moment of the last line that sets one
+abbrev pub LinesTo : View → List ℕ → List ℕ → View → ℕ → Type 0
+LinesTo old script text new moment =
+    (last : Stand) × AreSaid (lines_of script) (record { hive = old; moment = 0; session = 0 }) text last × (last.hive ≡ new)
+    × (last.moment ≡ moment)
+
 -- the root's descriptor: a self-relative security descriptor with nothing in it
 abbrev pub fresh_descriptor : List ℕ
 fresh_descriptor = 1 ∷ 0 ∷ 4 ∷ 128 ∷ replicate 16 0

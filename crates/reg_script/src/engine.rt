@@ -6,7 +6,7 @@ ghost use Rattle.reg_calls.specs.HiveView.{view_of};
 ghost use Rattle.reg_script.specs.LineWords.{lines_of};
 ghost use Rattle.reg_script.specs.LineMeanings.{asks, meaning_of};
 ghost use Rattle.reg_script.specs.Internal.WordReadings.{said};
-ghost use Rattle.reg_script.specs.Lines.{IsSaid, AreSaid, Lines};
+ghost use Rattle.reg_script.specs.Lines.{IsSaid, AreSaid, Lines, LinesTo};
 ghost use Rattle.reg_script.specs.Stops.{fault_number, most_lines, HasNoFeed, AreWithin, IsOneMore, Stops};
 ghost use Rattle.reg_script.specs.Internal.Progress.{IsSteady, Adds, Loses, Takes, Halts, Ends, among, past, position_of, stand_of};
 
@@ -276,6 +276,26 @@ pub fn run<R: Read, W: Write>(
     ensures stops { IfErr result (λ fault. Stops fault (R.remaining reader.old) (R.remaining reader.new) (view_of hive.old)
         (view_of hive.new) (W.contents writer.old) (W.contents writer.new)) }
 {
+    match run_to(alloc, reader, writer, hive) {
+        Ok(_) => Ok(()),
+        Err(fault) => Err(fault),
+    }
+}
+
+/// Runs a script as [`run`] does, and tells the moment of its last `at` (100 ns units since 1601), 0 where it has none.
+pub fn run_to<R: Read, W: Write>(
+    alloc: Global,
+    reader: &mut R,
+    writer: &mut W,
+    hive: &mut Hive,
+) -> Result<u64, ScriptFault>
+    ensures at_end { OnOk result (IsAtEnd (R.remaining reader.new)) }
+    ensures lines { IfOk result (λ moment. (script : List ℕ) × (text : List ℕ) × Consumes (R.remaining reader.old) (R.remaining reader.new) script
+        × LinesTo (view_of hive.old) script text (view_of hive.new) moment
+        × Appends (W.contents writer.old) (W.contents writer.new) text × AreWithin (lines_of script)) }
+    ensures stops { IfErr result (λ fault. Stops fault (R.remaining reader.old) (R.remaining reader.new) (view_of hive.old)
+        (view_of hive.new) (W.contents writer.old) (W.contents writer.new)) }
+{
     let Ok(mut chunk) = vec![in alloc; 0; CHUNK] else {
         return Err(ScriptFault::Memory);
     };
@@ -288,5 +308,8 @@ pub fn run<R: Read, W: Write>(
         session: Session { number: 0 },
     };
     let ended = script.read_all(hive, reader, writer, chunk.as_mut_slice());
-    script.output.close(writer, ended)
+    match script.output.close(writer, ended) {
+        Ok(()) => Ok(script.moment),
+        Err(fault) => Err(fault),
+    }
 }

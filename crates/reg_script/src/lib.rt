@@ -16,4 +16,4 @@ mod parse;
 mod reply;
 mod words;
 
-pub use engine::{ScriptFault, run};
+pub use engine::{ScriptFault, run, run_to};
