@@ -1,19 +1,34 @@
 -- `clap`'s command is the one that the rules name, and what `clap` finds in some words.
 use Rattle.std.proofs.Common.{◌≡◌, ◌∙◌, List, [], ◌∷◌, ℕ, Bool, ap, ap₂, subst, sym, refl, true, false, codes}
-use Rattle.clap.specs.Words.{App, HasKind, Kinds, app_of, fault_of, is_simple_and_free, new_app, shape_of, with_subcommand}
+use Rattle.clap.specs.Words.{App, HasKind, HasMatchesOf, Kinds, Row, Rule, Text, app_of, fault_of, is_simple, is_simple_and_free, new_app, shape_of, subcommand_of, subcommand_rows_of, with_rule, with_subcommand}
 use Rattle.clap.specs.declared.builder.command.Command.{Command}
 use Rattle.clap.specs.declared.error.Error.{Error}
 use Rattle.clap.proofs.OnLiterals.{clap_on_literals}
-use Rattle.reg_command.specs.CommandLines.{required, regtool, faults_in}
+use Rattle.clap.specs.declared.parser.matches.ArgMatches.{ArgMatches}
+use Rattle.reg_command.specs.CommandLines.{required, image_option, regtool, faults_in, found_in}
 
 simple : is_simple_and_free regtool ≡ true
 unfolding regtool clap_on_literals
 simple = refl
 
-pub command_is : (whole top sub : Command) → app_of whole ≡ with_subcommand (app_of top) (shape_of sub) → app_of top ≡ required (new_app (codes "regtool"))
-    → app_of sub ≡ new_app (codes "run") → app_of whole ≡ regtool
-unfolding regtool
-command_is whole top sub adds top_is sub_is = adds ∙ ap₂ with_subcommand top_is (ap (λ (a : App). a.top) sub_is)
+plain : is_simple regtool ≡ true
+unfolding regtool clap_on_literals
+plain = refl
+
+module _ (whole with_dump with_run top run new_run dump check : Command) (image : Rule)
+    (adds_check : app_of whole ≡ with_subcommand (app_of with_dump) (shape_of check))
+    (adds_dump : app_of with_dump ≡ with_subcommand (app_of with_run) (shape_of dump))
+    (adds_run : app_of with_run ≡ with_subcommand (app_of top) (shape_of run)) (top_is : app_of top ≡ required (new_app (codes "regtool")))
+    (adds_image : app_of run ≡ with_rule (app_of new_run) image) (run_is : app_of new_run ≡ new_app (codes "run")) (image_is : image ≡ image_option)
+    (dump_is : app_of dump ≡ new_app (codes "dump")) (check_is : app_of check ≡ new_app (codes "check")) where
+  pub command_is : app_of whole ≡ regtool
+  unfolding regtool
+  command_is =
+      adds_check ∙ ap₂ with_subcommand
+      (adds_dump ∙ ap₂ with_subcommand
+      (adds_run ∙ ap₂ with_subcommand top_is (ap (λ (a : App). a.top) (adds_image ∙ ap₂ with_rule run_is image_is)))
+      (ap (λ (a : App). a.top) dump_is))
+      (ap (λ (a : App). a.top) check_is)
 
 pub taken : (app : App) (words : List (List ℕ)) → app ≡ regtool → (is_simple_and_free app ≡ true → fault_of app words ≡ []) → faults_in words ≡ []
 unfolding faults_in
@@ -22,6 +37,11 @@ taken app words is given = sym (ap (λ (a : App). fault_of a words) is) ∙ give
 pub refused : (app : App) (words : List (List ℕ)) (e : Error) → app ≡ regtool → (is_simple_and_free app ≡ true → HasKind (fault_of app words) e) → HasKind (faults_in words) e
 unfolding faults_in
 refused app words e is given = subst (λ (a : App). HasKind (fault_of a words) e) is (given (ap is_simple_and_free is ∙ simple))
+
+-- the subcommand that a parse entered is the one that the words name
+pub found : (app : App) (words : List (List ℕ)) (m : ArgMatches) → app ≡ regtool → HasMatchesOf app words m → subcommand_rows_of m ≡ found_in words
+unfolding found_in
+found app words m is has = (has (ap is_simple is ∙ plain)).1 ∙ ap (λ (a : App). subcommand_of a words) is
 
 -- ---- the command lines of the tests
 

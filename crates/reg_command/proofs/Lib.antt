@@ -1,2 +1,4 @@
+pub mod AskedLemmas
 pub mod CommandLineLemmas
+pub mod CommandSteps
 pub mod FreshHives

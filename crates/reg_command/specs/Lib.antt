@@ -1,3 +1,5 @@
 pub mod CommandLines
-pub mod Failures
 pub mod ScriptRuns
+pub mod ImageRuns
+pub mod Failures
+pub mod Internal

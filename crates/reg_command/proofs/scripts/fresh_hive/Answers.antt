@@ -1,5 +1,5 @@
 use Rattle.reg_command.proofs.FreshHives.{all_four}
-use Rattle.reg_command.proofs.fresh_hive.Goals as goal
+use Rattle.reg_command.proofs.scripts.fresh_hive.Goals as goal
 
 pub returns : goal.returns
 returns c =

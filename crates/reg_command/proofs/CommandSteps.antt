@@ -1,0 +1,92 @@
+-- What each command did, put together of what its steps did.
+use Rattle.std.proofs.Common.{◌≡◌, ◌∙◌, ◌≤◌, ◌+◌, List, ℕ, ap, sym, refl, subst, inl, inr, length}
+use Rattle.std.specs.Prelude.{Option, Ok}
+use Rattle.std.specs.Io.KnownBytes.{Appends, Consumes, IsAtEnd}
+use Rattle.reg_heap.specs.Paths.{Tree}
+use Rattle.reg_heap.specs.declared.limits.TheConstants.{BINS_LIMIT}
+use Rattle.reg_tree.specs.TreeKeys.{Keys}
+use Rattle.reg_calls.specs.Views.{View}
+use Rattle.reg_script.specs.LineWords.{lines_of}
+use Rattle.reg_script.specs.Lines.{IsFresh, Lines, LinesTo}
+use Rattle.reg_script.specs.Stops.{AreWithin, Stops as ScriptStops, StopsFresh}
+use Rattle.reg_script.specs.declared.engine.ScriptFault.{ScriptFault}
+use Rattle.reg_image.specs.declared.LoadFault.{LoadFault}
+use Rattle.reg_image.specs.Loads.{IsLoaded, IsRefused}
+use Rattle.reg_command.specs.ScriptRuns.{RunsScript, LeadsTo, WritesImage, image_at}
+use Rattle.reg_command.specs.ImageRuns.{ReadsImage, TellsImage, MeetsFault, fault_line}
+use Rattle.reg_command.specs.Failures.{ImageStops, TellStops}
+use Rattle.reg_command.specs.Internal.Steps.{SendStops, TellingStops, IsFaultTold}
+use Rattle.reg_command.specs.declared.failure.Stop.{Stop}
+use Rattle.reg_command.specs.declared.failure.Stop.TheVariants.{Script, Load, Write, Memory}
+
+-- ---- scripts
+
+module _ (fresh last : View) (unread left : Option (List ℕ)) (is_fresh : IsFresh fresh) (at_end : IsAtEnd left) where
+  pub runs : (before after : Option (List ℕ)) →
+      ((script : List ℕ) × (text : List ℕ) × Consumes unread left script × Lines fresh script text last × Appends before after text × AreWithin (lines_of script))
+      → RunsScript unread left before after
+  runs before after h = record {
+    at_end = at_end;
+    script = h.0;
+    text = h.1;
+    consumed = h.2;
+    writes = record { fresh = fresh; is_fresh = is_fresh; last = last; lines = h.3 };
+    appended = h.4;
+  }
+
+  pub leads : (moment : ℕ) (told kept : Option (List ℕ)) →
+      ((script : List ℕ) × (text : List ℕ) × Consumes unread left script × LinesTo fresh script text last moment × Appends told kept text × AreWithin (lines_of script))
+      → LeadsTo unread left last moment
+  leads moment told kept h =
+      record { at_end = at_end; script = h.0; consumed = h.2; fresh = fresh; is_fresh = is_fresh; text = h.1; lines = h.3 }
+
+pub stops_fresh : (fault : ScriptFault) (fresh last : View) (unread left before after : Option (List ℕ)) → IsFresh fresh →
+    ScriptStops fault unread left fresh last before after → StopsFresh fault unread left before after
+stops_fresh fault fresh last unread left before after is_fresh h =
+    record { fresh = fresh; is_fresh = is_fresh; last = last; stops = h }
+
+-- what ended the image's writing ended the command
+pub image_stops : (sequence : ℕ) (last : View) (moment : ℕ) (stop : Stop) (unread left before after : Option (List ℕ)) → LeadsTo unread left last moment →
+    SendStops (image_at last moment sequence) stop before after → ImageStops sequence stop unread left before after
+image_stops sequence last moment (Write written) unread left before after leads h = (last, moment, leads, h)
+image_stops sequence last moment Memory unread left before after leads h = (h, inr (last, moment, leads))
+image_stops sequence last moment (Script fault) unread left before after leads h = absurd h
+image_stops sequence last moment (Load fault) unread left before after leads h = absurd h
+
+-- ---- images
+
+pub reads : (tree : Keys) (view : View) (unread left : Option (List ℕ)) → tree ≡ view.keys →
+    ((image : List ℕ) × Consumes unread left image × IsLoaded image view) → ReadsImage unread left tree.tree
+reads tree view unread left is h = record {
+  image = h.0;
+  consumed = h.1;
+  size = h.2.size;
+  loads = h.2.tree ∙ ap Ok (sym (ap (λ (k : Keys). k.tree) is ∙ h.2.keys));
+}
+
+pub meets : (fault : LoadFault) (unread left : Option (List ℕ)) →
+    ((image : List ℕ) × Consumes unread left image × (length image ≤ 4096 + BINS_LIMIT) × IsRefused fault image left) → MeetsFault fault unread left
+meets fault unread left h = record { image = h.0; consumed = h.1; within = h.2; refused = h.3 }
+
+module _ (text_of : Tree → List ℕ) (unread left before after : Option (List ℕ)) where
+  pub tells : (tree : Tree) → ReadsImage unread left tree → Appends before after (text_of tree) → TellsImage text_of unread left before after
+  tells tree reads appended = record { tree = tree; reads = reads; appended = appended }
+
+  pub tell_stops : (tree : Tree) (stop : Stop) → ReadsImage unread left tree → TellingStops (text_of tree) stop before after
+      → TellStops text_of stop unread left before after
+  tell_stops tree (Write written) reads h = inl (tree, reads, h)
+  tell_stops tree Memory reads h = (tree, reads, h)
+  tell_stops tree (Script fault) reads h = absurd h
+  tell_stops tree (Load fault) reads h = absurd h
+
+  pub fault_told : (fault : LoadFault) (stop : Stop) → MeetsFault fault unread left → IsFaultTold fault stop before after
+      → TellStops text_of stop unread left before after
+  fault_told fault (Load told) meets h =
+      subst (λ (f : LoadFault). MeetsFault f unread left × Appends before after (fault_line f)) (sym h.0) (meets, h.1)
+  fault_told fault (Write written) meets h = inr (fault, meets, h)
+  fault_told fault (Script told) meets h = absurd h
+  fault_told fault Memory meets h = absurd h
+
+-- the line of a fault that is known
+pub line_at : (fault known : LoadFault) (line : List ℕ) → fault ≡ known → line ≡ fault_line known → line ≡ fault_line fault
+line_at fault known line is e = e ∙ ap fault_line (sym is)

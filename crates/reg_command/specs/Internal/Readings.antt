@@ -1,0 +1,14 @@
+-- What is read of a command line (this project's own).
+use Rattle.std.specs.Prelude.{◌≡◌, ℕ, List, Option, Some, None}
+use Rattle.clap.specs.Words.{Row, Text}
+use Rattle.reg_command.specs.declared.words.Request.{Request}
+use Rattle.reg_command.specs.CommandLines.{AsksIn}
+
+-- the request of which this holds, or none, where it holds of none
+abbrev pub IsFound : (Request → Type 0) → Option Request → Type 0
+IsFound P (Some request) = P request
+IsFound P None = (request : Request) → P request → ⊥
+
+-- what a command line asks for, or none, where it asks for nothing
+abbrev pub IsRead : Option (Text × List Row) → Option Request → Type 0
+IsRead found request = IsFound (AsksIn found) request

@@ -1,0 +1,37 @@
+-- What the steps of a command do (this project's own).
+use Rattle.std.specs.Prelude.{◌≡◌, ℕ, List, Option}
+use Rattle.reg_heap.specs.Paths.{Tree}
+use Rattle.reg_image.specs.declared.LoadFault.{LoadFault}
+use Rattle.reg_command.specs.CommandLines.{IsCommandLine}
+use Rattle.reg_command.specs.Failures.{IsCut, IsFront, Does}
+use Rattle.reg_command.specs.declared.words.Request.{Request}
+use Rattle.reg_command.specs.ImageRuns.{fault_line}
+use Rattle.reg_command.specs.declared.failure.Stop.{Stop}
+use Rattle.reg_command.specs.declared.failure.Stop.TheVariants.{Script, Load, Write, Memory}
+use Rattle.std.specs.Io.KnownBytes.{Appends}
+
+-- what ended the sending of a text: a failed write, or want of memory before a byte of it was written
+abbrev pub SendStops : List ℕ → Stop → (before after : Option (List ℕ)) → Type 0
+SendStops text (Write written) before after = IsCut text written before after
+SendStops text Memory before after = after ≡ before
+SendStops text (Script fault) before after = ⊥
+SendStops text (Load fault) before after = ⊥
+
+-- what ended the telling of a tree: a failed write, or want of memory, when a front was written
+abbrev pub TellingStops : List ℕ → Stop → (before after : Option (List ℕ)) → Type 0
+TellingStops text (Write written) before after = IsCut text written before after
+TellingStops text Memory before after = IsFront text before after
+TellingStops text (Script fault) before after = ⊥
+TellingStops text (Load fault) before after = ⊥
+
+-- the line of a load fault was written, or a front of it
+abbrev pub IsFaultTold : LoadFault → Stop → (before after : Option (List ℕ)) → Type 0
+IsFaultTold fault (Load told) before after = (told ≡ fault) × Appends before after (fault_line fault)
+IsFaultTold fault (Write written) before after = IsCut (fault_line fault) written before after
+IsFaultTold fault (Script told) before after = ⊥
+IsFaultTold fault Memory before after = ⊥
+
+-- the words are a command line, and what it asks for was done
+abbrev pub IsAnswered : List (List ℕ) → (unread left before after : Option (List ℕ)) → Type 0
+IsAnswered words unread left before after =
+    (request : Request) × IsCommandLine words request × Does request unread left before after

@@ -1,0 +1,111 @@
+//! What `run` does: a script on a fresh hive, and its replies or the hive's image.
+ghost use Rattle.std.specs.Prelude.{◌≡◌, ℕ, OnOk, IfOk, IfErr};
+ghost use Rattle.std.specs.Io.KnownBytes.{Appends};
+ghost use Rattle.reg_calls.specs.HiveView.{view_of};
+ghost use Rattle.reg_script.specs.Lines.{IsFresh};
+ghost use Rattle.reg_command.specs.ScriptRuns.{RunsScript, WritesImage, image_at};
+ghost use Rattle.reg_command.specs.Failures.{RunStops, ImageStops};
+ghost use Rattle.reg_command.specs.Internal.Steps.{SendStops};
+
+use crate::failure::Stop;
+use reg_calls::{Hive, NewFault};
+use reg_image::{image, write_image};
+use reg_script::{run, run_to};
+use std::alloc::Global;
+use std::io;
+use std::io::{Read, Write};
+
+/// The name of a script's hive's root.
+const ROOT_NAME: &[u8; 4] = b"ROOT";
+
+/// The root's descriptor: a self-relative security descriptor with nothing in it.
+const DESCRIPTOR: [u8; 20] = [
+    0x01, 0x00, 0x04, 0x80, 0, 0, 0, 0, 0, 0, 0, 0, 0, 0, 0, 0, 0, 0, 0, 0,
+];
+
+/// A script's hive: a root of that name at moment 0, and nothing else. `Memory` is its one fault.
+fn fresh_hive(alloc: Global) -> Result<Hive, NewFault>
+    ensures { IfOk result (λ hive. IsFresh (view_of hive)) }
+{
+    Hive::new(alloc, ROOT_NAME, &DESCRIPTOR, 0)
+}
+
+/// Runs a script and writes its replies.
+pub fn run_script<R: Read, W: Write>(
+    alloc: Global,
+    input: &mut R,
+    output: &mut W,
+) -> Result<(), Stop>
+    ensures ok { OnOk result (RunsScript (R.remaining input.old) (R.remaining input.new) (W.contents output.old) (W.contents output.new)) }
+    ensures err { IfErr result (λ stop. RunStops stop (R.remaining input.old) (R.remaining input.new) (W.contents output.old)
+        (W.contents output.new)) }
+{
+    let mut hive = match fresh_hive(alloc) {
+        Ok(hive) => hive,
+        Err(_) => return Err(Stop::Memory),
+    };
+    match run(alloc, input, output, &mut hive) {
+        Ok(()) => Ok(()),
+        Err(fault) => Err(Stop::Script(fault)),
+    }
+}
+
+/// Writes the image of a hive.
+fn send_image<W: Write>(
+    alloc: Global,
+    hive: &Hive,
+    moment: u64,
+    sequence: u32,
+    output: &mut W,
+) -> Result<(), Stop>
+    ensures ok { OnOk result (Appends (W.contents output.old) (W.contents output.new) (image_at (view_of hive.now) moment sequence)) }
+    ensures err { IfErr result (λ stop. SendStops (image_at (view_of hive.now) moment sequence) stop (W.contents output.old)
+        (W.contents output.new)) }
+{
+    let bytes = match image(alloc, hive, moment, sequence) {
+        Ok(bytes) => bytes,
+        Err(_) => return Err(Stop::Memory),
+    };
+    match write_image(bytes.as_slice(), output) {
+        Ok(()) => Ok(()),
+        Err(cut) => Err(Stop::Write(cut.written)),
+    }
+}
+
+/// Runs a script on a hive, without its replies, and writes the image of what it leaves.
+fn image_after<R: Read, W: Write>(
+    alloc: Global,
+    hive: &mut Hive,
+    sequence: u32,
+    input: &mut R,
+    output: &mut W,
+) -> Result<(), Stop>
+    ensures ok { OnOk result (IsFresh (view_of hive.old) →
+        WritesImage sequence (R.remaining input.old) (R.remaining input.new) (W.contents output.old) (W.contents output.new)) }
+    ensures err { IfErr result (λ stop. IsFresh (view_of hive.old) →
+        ImageStops sequence stop (R.remaining input.old) (R.remaining input.new) (W.contents output.old) (W.contents output.new)) }
+{
+    let mut replies = io::sink();
+    match run_to(alloc, input, &mut replies, hive) {
+        Ok(moment) => send_image(alloc, hive, moment, sequence, output),
+        Err(fault) => Err(Stop::Script(fault)),
+    }
+}
+
+/// Runs a script and writes the image of the hive that it leaves, at the moment of its last `at`, with a sequence number.
+pub fn run_to_image<R: Read, W: Write>(
+    alloc: Global,
+    sequence: u32,
+    input: &mut R,
+    output: &mut W,
+) -> Result<(), Stop>
+    ensures ok { OnOk result (WritesImage sequence (R.remaining input.old) (R.remaining input.new) (W.contents output.old)
+        (W.contents output.new)) }
+    ensures err { IfErr result (λ stop. ImageStops sequence stop (R.remaining input.old) (R.remaining input.new) (W.contents output.old)
+        (W.contents output.new)) }
+{
+    match fresh_hive(alloc) {
+        Ok(mut hive) => image_after(alloc, &mut hive, sequence, input, output),
+        Err(_) => Err(Stop::Memory),
+    }
+}
