@@ -1,11 +1,9 @@
 -- What a command line asks for, as `clap`'s matches tell it.
-use Rattle.std.proofs.Common.{◌≡◌, ◌∙◌, List, ℕ, codes, sym, refl, subst, ap, ◌^◌}
-use Rattle.std.specs.Prelude.{Option, Some, None, Result, Ok, Err, option_map}
+use Rattle.std.proofs.Common.{◌≡◌, ◌∙◌, List, ℕ, codes, sym, refl, subst}
+use Rattle.std.specs.Prelude.{Option, Some, None, Result, Ok, Err}
 use Rattle.std.specs.Str.Parse.{ParsesUnsigned}
-use Rattle.clap.specs.Words.{Row, Text, TriesOne, found_of, one_of, one_text, rows_of, subcommand_name_of, subcommand_rows, subcommand_rows_of}
+use Rattle.clap.specs.Words.{Row, Text, TriesOne, one_of, one_text, rows_of}
 use Rattle.clap.specs.declared.parser.matches.Found.{Found}
-use Rattle.clap.specs.declared.parser.matches.ArgMatches.{ArgMatches}
-use Rattle.clap.specs.declared.parser.matches.ArgMatches.TheViews.{out-ArgMatches}
 use Rattle.clap.proofs.WalkLemmas.{one_text-rows}
 use Rattle.reg_command.specs.declared.words.Request.{Request}
 use Rattle.reg_command.specs.declared.words.Request.TheVariants.{Run, Image, Dump, Check}

@@ -1,6 +1,6 @@
 -- `clap`'s command is the one that the rules name, and what `clap` finds in some words.
 use Rattle.std.proofs.Common.{◌≡◌, ◌∙◌, List, [], ◌∷◌, ℕ, Bool, ap, ap₂, subst, sym, refl, true, false, codes}
-use Rattle.clap.specs.Words.{App, HasKind, HasMatchesOf, Kinds, Row, Rule, Text, app_of, fault_of, is_simple, is_simple_and_free, new_app, shape_of, subcommand_of, subcommand_rows_of, with_rule, with_subcommand}
+use Rattle.clap.specs.Words.{App, HasKind, HasMatchesOf, Kinds, Rule, app_of, fault_of, is_simple, is_simple_and_free, new_app, shape_of, subcommand_of, subcommand_rows_of, with_rule, with_subcommand}
 use Rattle.clap.specs.declared.builder.command.Command.{Command}
 use Rattle.clap.specs.declared.error.Error.{Error}
 use Rattle.clap.proofs.OnLiterals.{clap_on_literals}

@@ -1,5 +1,5 @@
 -- What each command did, put together of what its steps did.
-use Rattle.std.proofs.Common.{◌≡◌, ◌∙◌, ◌≤◌, ◌+◌, List, ℕ, ap, sym, refl, subst, inl, inr, length}
+use Rattle.std.proofs.Common.{◌≡◌, ◌∙◌, ◌≤◌, ◌+◌, List, ℕ, ap, sym, subst, inl, inr, length}
 use Rattle.std.specs.Prelude.{Option, Ok}
 use Rattle.std.specs.Io.KnownBytes.{Appends, Consumes, IsAtEnd}
 use Rattle.reg_heap.specs.Paths.{Tree}
@@ -12,7 +12,7 @@ use Rattle.reg_script.specs.Stops.{AreWithin, Stops as ScriptStops, StopsFresh}
 use Rattle.reg_script.specs.declared.engine.ScriptFault.{ScriptFault}
 use Rattle.reg_image.specs.declared.LoadFault.{LoadFault}
 use Rattle.reg_image.specs.Loads.{IsLoaded, IsRefused}
-use Rattle.reg_command.specs.ScriptRuns.{RunsScript, LeadsTo, WritesImage, image_at}
+use Rattle.reg_command.specs.ScriptRuns.{RunsScript, LeadsTo, image_at}
 use Rattle.reg_command.specs.ImageRuns.{ReadsImage, TellsImage, MeetsFault, fault_line}
 use Rattle.reg_command.specs.Failures.{ImageStops, TellStops}
 use Rattle.reg_command.specs.Internal.Steps.{SendStops, TellingStops, IsFaultTold}

@@ -7,7 +7,6 @@ use Rattle.reg_calls.specs.Views.{View}
 use Rattle.reg_heap.specs.Paths.{Tree}
 use Rattle.reg_image.specs.declared.LoadFault.{LoadFault}
 use Rattle.reg_script.specs.Stops.{StopsFresh}
-use Rattle.reg_script.specs.declared.engine.ScriptFault.{ScriptFault}
 use Rattle.reg_dump.specs.DumpTexts.{dump_text, check_text}
 use Rattle.reg_command.specs.CommandLines.{faults_in, IsCommandLine}
 use Rattle.reg_command.specs.ScriptRuns.{RunsScript, LeadsTo, WritesImage, image_at}

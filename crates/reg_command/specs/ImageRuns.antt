@@ -10,7 +10,6 @@ use Rattle.reg_image.specs.declared.LoadFault.{LoadFault}
 use Rattle.reg_image.specs.declared.LoadFault.TheVariants.{Memory}
 use Rattle.reg_image.specs.Images.{loaded}
 use Rattle.reg_image.specs.Loads.{fault_number, IsRefused}
-use Rattle.reg_dump.specs.DumpTexts.{dump_text, check_text}
 
 -- of the input an image was read to the end of its bins, and this is its tree
 pub record ReadsImage (unread left : Option (List ℕ)) (tree : Tree) : Type 0 where

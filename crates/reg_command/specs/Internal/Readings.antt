@@ -1,5 +1,5 @@
 -- What is read of a command line (this project's own).
-use Rattle.std.specs.Prelude.{◌≡◌, ℕ, List, Option, Some, None}
+use Rattle.std.specs.Prelude.{List, Option, Some, None}
 use Rattle.clap.specs.Words.{Row, Text}
 use Rattle.reg_command.specs.declared.words.Request.{Request}
 use Rattle.reg_command.specs.CommandLines.{AsksIn}

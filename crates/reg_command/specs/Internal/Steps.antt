@@ -1,6 +1,5 @@
 -- What the steps of a command do (this project's own).
 use Rattle.std.specs.Prelude.{◌≡◌, ℕ, List, Option}
-use Rattle.reg_heap.specs.Paths.{Tree}
 use Rattle.reg_image.specs.declared.LoadFault.{LoadFault}
 use Rattle.reg_command.specs.CommandLines.{IsCommandLine}
 use Rattle.reg_command.specs.Failures.{IsCut, IsFront, Does}

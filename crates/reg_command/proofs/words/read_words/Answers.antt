@@ -1,5 +1,5 @@
 -- `clap`'s command is the tool's, so that its clauses are about the tool's words.
-use Rattle.std.proofs.Common.{◌∙◌, ◌||◌, ap, ap₂, subst, rules, codes, List, ℕ, Bool}
+use Rattle.std.proofs.Common.{◌∙◌, ◌||◌, ap, ap₂, subst, rules, codes, List, Bool}
 use Rattle.std.specs.Prelude.{Option, Some}
 use Rattle.clap.specs.Simple.{app_of_fields}
 use Rattle.clap.specs.Words.{Row, Rule, Text, rule_of}
