@@ -12,13 +12,27 @@ mod bins;
 #[cfg(test)]
 mod copies;
 #[cfg(test)]
+mod drafts;
+#[cfg(test)]
+mod dumps;
+#[cfg(test)]
+mod fakes;
+#[cfg(test)]
+mod foreign;
+#[cfg(test)]
 mod hives;
+#[cfg(test)]
+mod image_support;
+#[cfg(test)]
+mod images;
 #[cfg(test)]
 mod index_roots;
 #[cfg(test)]
 mod keys;
 #[cfg(test)]
 mod limits;
+#[cfg(test)]
+mod loading;
 #[cfg(test)]
 mod many_keys;
 #[cfg(test)]

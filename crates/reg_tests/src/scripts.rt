@@ -5,31 +5,12 @@ mod keys;
 mod subkeys;
 mod trees;
 
+use crate::fakes::{FakeReader, FakeWriter, Fault, narrow, wide};
 use crate::support::assert_told;
 use reg_command::tool;
 use std::alloc::Global;
-use std::io;
-use std::io::{Read, Write};
 use std::process::Abort;
 use std::test::Fail;
-
-/// Gives a script at most so many bytes a call, and at its end fails or answers 0.
-#[derive(Drop)]
-struct FakeReader<'a> {
-    rest: &'a [u8],
-    step: usize,
-    fails: bool,
-}
-
-impl<'a> Read for FakeReader<'a> {
-    fn read(&mut self, buf: &mut [u8]) -> io::Result<usize> {
-        if self.fails && self.rest.is_empty() {
-            return Err(io::Error::from(io::ErrorKind::BrokenPipe));
-        }
-        let count = buf.len().min(self.step);
-        self.rest.read(&mut buf[..count])
-    }
-}
 
 fn whole(script: &str) -> FakeReader<'_> {
     FakeReader {
@@ -37,58 +18,6 @@ fn whole(script: &str) -> FakeReader<'_> {
         step: usize::MAX,
         fails: false,
     }
-}
-
-/// How a writer ends.
-#[derive(Clone, Copy, Debug, PartialEq, Eq)]
-enum Fault {
-    /// A write past the room fails.
-    Write,
-    /// A write past the room answers 0.
-    Zero,
-    /// A flush fails.
-    Flush,
-}
-
-/// Takes at most so many bytes a call, and so many in all.
-#[derive(Drop)]
-struct FakeWriter {
-    taken: Vec<u8>,
-    step: usize,
-    room: usize,
-    fault: Fault,
-}
-
-impl Write for FakeWriter {
-    fn write(&mut self, buf: &[u8]) -> io::Result<usize> {
-        let room = self.room.saturating_sub(self.taken.len());
-        if room == 0 && self.fault == Fault::Write {
-            return Err(io::Error::from(io::ErrorKind::BrokenPipe));
-        }
-        let count = buf.len().min(self.step).min(room);
-        self.taken.extend_from_slice(&buf[..count])?;
-        Ok(count)
-    }
-
-    fn flush(&mut self) -> io::Result<()> {
-        if self.fault == Fault::Flush {
-            return Err(io::Error::from(io::ErrorKind::BrokenPipe));
-        }
-        Ok(())
-    }
-}
-
-fn narrow(alloc: Global, room: usize, fault: Fault) -> FakeWriter {
-    FakeWriter {
-        taken: Vec::new(alloc),
-        step: usize::MAX,
-        room,
-        fault,
-    }
-}
-
-fn wide(alloc: Global) -> FakeWriter {
-    narrow(alloc, usize::MAX, Fault::Zero)
 }
 
 /// What the tool left behind.
