@@ -1,11 +1,21 @@
--- Keys built as they are told, with marks, class, descriptor and time (Suhanov, Windows registry file format specification, "Key node").
-use Rattle.std.specs.Prelude.{◌≡◌, ◌<◌, ℕ, None, List, [], length}
-use Rattle.std.specs.FinMap.{get}
+-- Keys built as they are told, with marks, class, descriptor and time, and the cells that this takes (Suhanov, Windows registry file
+-- format specification, "Cell", "Hive bin", "Key node").
+use Rattle.std.specs.Prelude.{◌≡◌, ◌<◌, ◌≤◌, ◌+◌, ◌⊎◌, ℕ, suc, Some, None, List, [], ◌∷◌, length}
+use Rattle.std.specs.FinMap.{empty, get, insert}
 use Rattle.reg_names.specs.declared.TheConstants.{PATH_LIMIT}
 use Rattle.reg_heap.specs.declared.limits.TheConstants.{SUBKEYS_LIMIT}
 use Rattle.reg_heap.specs.Paths.{Path, Tree, Rec, children_of}
 use Rattle.reg_heap.specs.Edits.{child_path}
+use Rattle.reg_arena.specs.Arena.{Bins, heap_of}
+use Rattle.reg_arena.specs.Carves.{NoFit}
+use Rattle.reg_arena.specs.EachCell.{fresh_of}
+use Rattle.reg_arena.specs.NewCells.{cell_size, total_of}
+use Rattle.reg_values.specs.ValueLists.{Makes}
+use Rattle.reg_index.specs.declared.Place.{Place}
 use Rattle.reg_tree.specs.declared.build.NewKey.{NewKey}
+use Rattle.reg_tree.specs.TreeKeys.{Keys, IsWholeTree}
+use Rattle.reg_tree.specs.NewHive.{IsNewHive}
+use Rattle.reg_tree.specs.CellSizes.{BelongsThere, create_sizes, LacksRoom}
 
 -- the key that is told, with no values
 abbrev pub built_key : NewKey → Rec
@@ -17,3 +27,54 @@ pub record MayBuild (tree : Tree) (path : Path) (name : List ℕ) : Type 0 where
   pub free : get tree (child_path path name) ≡ None
   pub deep : length path < PATH_LIMIT
   pub few : length (children_of tree path) < SUBKEYS_LIMIT
+
+-- the sizes of the cell that a class takes: none where it is empty
+abbrev pub class_sizes : List ℕ → List ℕ
+class_sizes [] = []
+class_sizes (byte ∷ class) = cell_size (suc (length class)) ∷ []
+
+-- how the bins grew for cells of these sizes: not at all; or, where no free cell had room for all of them side by side, by no more than
+-- the least bins for each
+abbrev pub Grows : Bins → Bins → List ℕ → Type 0
+Grows old new sizes =
+    (length new.bytes ≡ length old.bytes)
+    ⊎ (NoFit old.bytes (total_of sizes) × (length new.bytes ≤ length old.bytes + fresh_of sizes))
+
+-- cells of these sizes came, and bins only for them
+pub record TakesCells (old new : Keys) (sizes : List ℕ) : Type 0 where
+  pub cells : Makes (heap_of old.bins) (heap_of new.bins) sizes
+  pub growth : Grows old.bins new.bins sizes
+
+-- a root was built: first as that of a new hive, and then its class's cell came
+pub record BuildsRoot (keys : Keys) (key : Rec) : Type 0 where
+  pub bare : Keys
+  pub begun : IsNewHive bare key.name key.descriptor key.time
+  pub class : TakesCells bare keys (class_sizes key.class)
+  pub tree : keys.tree ≡ insert empty [] key
+
+-- a key was made right below the one at a path, at its place, so far with no marks and no class; the keys are whole
+pub record MakesBare (old new : Keys) (path : Path) (key : Rec) : Type 0 where
+  pub place : Place
+  pub belongs : BelongsThere old path (key.name ∷ []) place
+  pub takes : TakesCells old new (create_sizes old path (key.name ∷ []) place (Some key.descriptor))
+  pub tree : new.tree ≡ insert old.tree (child_path path key.name) (record key { marks = 0; class = [] })
+  pub whole : IsWholeTree new.bins.bytes new.root new.tree
+
+-- a key was built right below the one at a path: first made, and then its class's cell came
+pub record BuildsKey (old new : Keys) (path : Path) (key : Rec) : Type 0 where
+  pub bare : Keys
+  pub made : MakesBare old bare path key
+  pub class : TakesCells bare new (class_sizes key.class)
+  pub tree : new.tree ≡ insert old.tree (child_path path key.name) key
+
+-- the bins have no room for the cells of a key that is made right below the one at a path
+pub record LacksKeyRoom (old : Keys) (path : Path) (key : Rec) : Type 0 where
+  pub place : Place
+  pub belongs : BelongsThere old path (key.name ∷ []) place
+  pub lacks : LacksRoom old.bins (create_sizes old path (key.name ∷ []) place (Some key.descriptor))
+
+-- the key was made, and then they have none for its class's
+pub record LacksClassRoom (old : Keys) (path : Path) (key : Rec) : Type 0 where
+  pub bare : Keys
+  pub made : MakesBare old bare path key
+  pub lacks : LacksRoom bare.bins (class_sizes key.class)

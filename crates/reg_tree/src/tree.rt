@@ -57,7 +57,7 @@ impl Tree {
     ghost use Rattle.reg_tree.specs.ValueAnswers.{IsFound, without_value_at};
     ghost use Rattle.reg_tree.specs.Reaching.{IsWalkedTo};
     ghost use Rattle.reg_tree.specs.SubkeyWalk.{IsSubkeyAt};
-    ghost use Rattle.reg_tree.specs.BuiltKeys.{MayBuild, built_key};
+    ghost use Rattle.reg_tree.specs.BuiltKeys.{MayBuild, built_key, Grows, BuildsRoot, BuildsKey, LacksKeyRoom, LacksClassRoom};
 
     /// A tree of one root: the name as given, mark 8 (no delete), no class, the descriptor, the moment (100 ns ticks since
     /// 1601), no values; its four largest lengths are 0. Its bins are one, of the least size for the key node and its security,
@@ -103,6 +103,7 @@ impl Tree {
     pub fn build(alloc: Global, key: NewKey<'_>) -> Result<Tree, TreeFault>
         requires { IsSmallKey (built_key key) }
         ensures ok { IfOk result (λ t. t.tree ≡ insert empty [] (built_key key.entry)) }
+        ensures builds { IfOk result (λ t. BuildsRoot t (built_key key.entry)) }
         ensures err { IfErr result (λ fault. fault ≡ TreeFault.Memory) }
     {
         let mut tree = match Tree::new(alloc, key.name, key.descriptor, key.time) {
@@ -394,6 +395,8 @@ impl Tree {
         requires bytes { length bytes.now ≤ DATA_LIMIT }
         ensures ok { (p : Path) → IsAt self.old p node → OnOk result (self.new.tree ≡ edited self.old.tree p (with_value name.now kind bytes.now moment)) }
         ensures cells { OnOk result (Makes (heap_of self.old.bins) (heap_of self.new.bins)
+            (value_sizes (heap_of self.old.bins) node.offset name.now (length bytes.now))) }
+        ensures growth { OnOk result (Grows self.old.bins self.new.bins
             (value_sizes (heap_of self.old.bins) node.offset name.now (length bytes.now))) }
         ensures nodes { OnOk result (KeepsNodes self.old self.new) }
         ensures lengths { (p : Path) → IsAt self.old p node →
@@ -720,6 +723,9 @@ impl Tree {
         ensures ok { (p : Path) → IsAt self.old p parent →
             IfOk result (λ node. (self.new.tree ≡ insert self.old.tree (child_path p key.entry.name.now) (built_key key.entry))
             × IsAt self.new (child_path p key.entry.name.now) node) }
+        ensures builds { (p : Path) → IsAt self.old p parent → OnOk result (BuildsKey self.old self.new p (built_key key.entry)) }
+        ensures space { (p : Path) → IsAt self.old p parent → (result ≡ Err ArenaFault.Full) →
+            LacksKeyRoom self.old p (built_key key.entry) ⊎ LacksClassRoom self.old p (built_key key.entry) }
         ensures nodes { OnOk result (KeepsNodes self.old self.new) }
         ensures full { (result ≡ Err ArenaFault.Full) → BINS_LIMIT < length self.old.bins.bytes + 2 * GROWTH_BOUND }
         ensures grows { length self.new.bins.bytes ≤ length self.old.bins.bytes + 2 * GROWTH_BOUND }
