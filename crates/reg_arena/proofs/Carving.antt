@@ -12,3 +12,4 @@ pub mod SmallestFits
 pub mod EachCarve
 pub mod LargestLeft
 pub mod FallingCells
+pub mod GrownBins

@@ -4,7 +4,8 @@ use Rattle.std.specs.List.{AllByRecursion}
 use Rattle.reg_heap.specs.Kinds.{times}
 use Rattle.reg_heap.specs.declared.limits.TheConstants.{BINS_LIMIT, GROWTH_BOUND}
 use Rattle.reg_arena.specs.declared.TheConstants.{CARVE_LIMIT}
-use Rattle.reg_arena.specs.Carves.{CarvesExactly}
+use Rattle.reg_arena.specs.Carves.{CarvesExactly, NoFit}
+use Rattle.reg_arena.specs.NewCells.{total_of}
 
 -- the size of the least bin for one cell: its header's 32 bytes and the cell, rounded up to a multiple of 4096
 -- (Suhanov, Windows registry file format specification, section "Hive bin")
@@ -58,3 +59,8 @@ HasRoomForEach bytes sizes = (fresh_of sizes ≤ GROWTH_BOUND) × (length bytes 
 pub record CarvesChange (old new sizes offsets : List ℕ) : Type 0 where
   pub apart : HasRoomForEach old sizes → EachFalling old new sizes offsets
   pub together : (HasRoomForEach old sizes → ⊥) → CarvesExactly old new sizes offsets
+
+-- how the bins grew for cells of these sizes: not at all; or, only where no free cell had room for all of them side by side, by no more
+-- than the least bins for each
+abbrev pub Grows : List ℕ → List ℕ → List ℕ → Type 0
+Grows old new sizes = (length new ≡ length old) ⊎ (NoFit old (total_of sizes) × (length new ≤ length old + fresh_of sizes))

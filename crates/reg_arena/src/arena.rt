@@ -8,7 +8,7 @@ ghost use Rattle.reg_arena.specs.declared.TheConstants.{CARVE_LIMIT};
 ghost use Rattle.reg_arena.specs.Arena.{IsSound, empty_heads, heap_of};
 ghost use Rattle.reg_arena.specs.NewCells.{total_of, AreSizes};
 ghost use Rattle.reg_arena.specs.Carves.{AddsCells, CarvesExactly, NoFit};
-ghost use Rattle.reg_arena.specs.EachCell.{fresh_of, AreCarvable, CarvesChange, EachFalling};
+ghost use Rattle.reg_arena.specs.EachCell.{fresh_of, AreCarvable, CarvesChange, EachFalling, Grows};
 ghost use Rattle.reg_arena.specs.NewBin.{PassesLimit};
 ghost use Rattle.reg_arena.specs.Frees.{Frees};
 ghost use Rattle.reg_arena.specs.Cells.{cells_of, size_in, IsInBin};
@@ -250,7 +250,8 @@ impl Arena {
     /// 1,310,720 bytes together and the bins with them at most 268,435,456; else side by side, as [`carve`](Arena::carve) does.
     ///
     /// A size counts the cell's size field, and is a multiple of 8 and not 0; all sizes together are at most 1,306,592. The
-    /// cells hold zeros. The bins grow by at most 1,310,720 bytes. No size: nothing happens.
+    /// cells hold zeros. The bins grow by at most 1,310,720 bytes, and only where no free cell has room for all cells together.
+    /// No size: nothing happens.
     ///
     /// [`ArenaFault::Full`]: no free cell has room for all cells together, and with a bin more for them there would be more than
     /// 268,435,456 bytes of bins. [`ArenaFault::Memory`]: `out` or the bins could not grow. After either the arena and `out`
@@ -269,6 +270,7 @@ impl Arena {
             × NoFit self.old.bytes (total_of sizes.now)) }
         ensures err { OnErr result ((self.new ≡ self.old) × (out.new.items ≡ out.old.items)) }
         ensures grows { OnOk result (length self.new.bytes ≤ length self.old.bytes + GROWTH_BOUND) }
+        ensures growth { OnOk result (Grows self.old.bytes self.new.bytes sizes.now) }
         ensures kept { OnOk result (length self.old.bytes ≤ length self.new.bytes) }
     {
         let Some(fresh) = fresh_within(sizes, GROWTH_BOUND) else {

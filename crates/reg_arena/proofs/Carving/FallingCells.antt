@@ -90,7 +90,7 @@ less-left none offsets place offset h left differs =
 -- ---- the turn
 
 -- the offset of a place that is in no turn yet
-at_places-set : (offsets : List ℕ) (place offset : ℕ) (turn : List ℕ) → times place turn ≡ 0 →
+pub at_places-set : (offsets : List ℕ) (place offset : ℕ) (turn : List ℕ) → times place turn ≡ 0 →
     at_places (set offsets place offset) turn ≡ at_places offsets turn
 at_places-set offsets place offset [] missing = refl
 at_places-set offsets place offset (p ∷ turn) missing =
