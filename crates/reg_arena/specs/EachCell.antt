@@ -62,5 +62,5 @@ pub record CarvesChange (old new sizes offsets : List ℕ) : Type 0 where
 
 -- how the bins grew for cells of these sizes: not at all; or, only where no free cell had room for all of them side by side, by no more
 -- than the least bins for each
-abbrev pub Grows : List ℕ → List ℕ → List ℕ → Type 0
-Grows old new sizes = (length new ≡ length old) ⊎ (NoFit old (total_of sizes) × (length new ≤ length old + fresh_of sizes))
+abbrev pub GrowsFor : List ℕ → List ℕ → List ℕ → Type 0
+GrowsFor old new sizes = (length new ≡ length old) ⊎ (NoFit old (total_of sizes) × (length new ≤ length old + fresh_of sizes))

@@ -8,7 +8,7 @@ ghost use Rattle.reg_arena.specs.declared.TheConstants.{CARVE_LIMIT};
 ghost use Rattle.reg_arena.specs.Arena.{IsSound, empty_heads, heap_of};
 ghost use Rattle.reg_arena.specs.NewCells.{total_of, AreSizes};
 ghost use Rattle.reg_arena.specs.Carves.{AddsCells, CarvesExactly, NoFit};
-ghost use Rattle.reg_arena.specs.EachCell.{fresh_of, AreCarvable, CarvesChange, EachFalling, Grows};
+ghost use Rattle.reg_arena.specs.EachCell.{fresh_of, AreCarvable, CarvesChange, EachFalling, GrowsFor};
 ghost use Rattle.reg_arena.specs.NewBin.{PassesLimit};
 ghost use Rattle.reg_arena.specs.Frees.{Frees};
 ghost use Rattle.reg_arena.specs.Cells.{cells_of, size_in, IsInBin};
@@ -270,7 +270,7 @@ impl Arena {
             × NoFit self.old.bytes (total_of sizes.now)) }
         ensures err { OnErr result ((self.new ≡ self.old) × (out.new.items ≡ out.old.items)) }
         ensures grows { OnOk result (length self.new.bytes ≤ length self.old.bytes + GROWTH_BOUND) }
-        ensures growth { OnOk result (Grows self.old.bytes self.new.bytes sizes.now) }
+        ensures growth { OnOk result (GrowsFor self.old.bytes self.new.bytes sizes.now) }
         ensures kept { OnOk result (length self.old.bytes ≤ length self.new.bytes) }
     {
         let Some(fresh) = fresh_within(sizes, GROWTH_BOUND) else {

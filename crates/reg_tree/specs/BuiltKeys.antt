@@ -7,9 +7,8 @@ use Rattle.reg_heap.specs.declared.limits.TheConstants.{SUBKEYS_LIMIT}
 use Rattle.reg_heap.specs.Paths.{Path, Tree, Rec, children_of}
 use Rattle.reg_heap.specs.Edits.{child_path}
 use Rattle.reg_arena.specs.Arena.{Bins, heap_of}
-use Rattle.reg_arena.specs.Carves.{NoFit}
-use Rattle.reg_arena.specs.EachCell.{fresh_of}
-use Rattle.reg_arena.specs.NewCells.{cell_size, total_of}
+use Rattle.reg_arena.specs.EachCell.{GrowsFor}
+use Rattle.reg_arena.specs.NewCells.{cell_size}
 use Rattle.reg_values.specs.ValueLists.{Makes}
 use Rattle.reg_index.specs.declared.Place.{Place}
 use Rattle.reg_tree.specs.declared.build.NewKey.{NewKey}
@@ -33,12 +32,9 @@ abbrev pub class_sizes : List ℕ → List ℕ
 class_sizes [] = []
 class_sizes (byte ∷ class) = cell_size (suc (length class)) ∷ []
 
--- how the bins grew for cells of these sizes: not at all; or, where no free cell had room for all of them side by side, by no more than
--- the least bins for each
+-- how the bins grew for cells of these sizes: only where no free cell had room for all of them
 abbrev pub Grows : Bins → Bins → List ℕ → Type 0
-Grows old new sizes =
-    (length new.bytes ≡ length old.bytes)
-    ⊎ (NoFit old.bytes (total_of sizes) × (length new.bytes ≤ length old.bytes + fresh_of sizes))
+Grows old new sizes = GrowsFor old.bytes new.bytes sizes
 
 -- cells of these sizes came, and bins only for them
 pub record TakesCells (old new : Keys) (sizes : List ℕ) : Type 0 where

@@ -10,6 +10,7 @@ ghost use Rattle.reg_heap.specs.Paths.{children_of};
 ghost use Rattle.reg_heap.specs.Edits.{missing, are_too_many};
 ghost use Rattle.reg_heap.specs.Kinds.{times};
 ghost use Rattle.reg_arena.specs.Arena.{heap_of};
+ghost use Rattle.reg_arena.specs.EachCell.{GrowsFor};
 ghost use Rattle.reg_records.specs.RecordCells.{HasRoom};
 ghost use Rattle.reg_records.specs.KeyNodes.{KeyRecord, key_at};
 ghost use Rattle.reg_index.specs.declared.Place.{Place};
@@ -294,6 +295,8 @@ fn carve_for(
         (sizes_of plan (map own_sizes (path_of path.now)) ++ planned_sizes more)) }
     ensures err { OnErr result (arena.new ≡ arena.old) }
     ensures grows { OnOk result (length arena.new.bytes ≤ length arena.old.bytes + GROWTH_BOUND) }
+    ensures growth { OnOk result (GrowsFor arena.old.bytes arena.new.bytes
+        (sizes_of plan (map own_sizes (path_of path.now)) ++ planned_sizes more)) }
     ensures kept { OnOk result (length arena.old.bytes ≤ length arena.new.bytes) }
 {
     let sizes = match sizes_for(alloc, plan, path, more) {
@@ -343,6 +346,10 @@ fn make_sharing(
         reached.entry.place)) }
     ensures err { OnErr result (arena.new ≡ arena.old) }
     ensures grows { OnOk result (length arena.new.bytes ≤ length arena.old.bytes + GROWTH_BOUND) }
+    ensures growth { (from : Node) → (path : List ℕ) → (l : LeadsTo arena.old.bytes from path reached.entry.node reached.entry.missing.now) →
+        OnOk result (GrowsFor arena.old.bytes arena.new.bytes (made_sizes
+        (record { bins = arena.old; root = l.here.root; tree = tree_in arena.old.bytes l.here.root }) l.here.path (path_of path)
+        reached.entry.place)) }
     ensures kept { OnOk result (length arena.old.bytes ≤ length arena.new.bytes) }
 {
     let list = subkeys_list(arena, reached.node.offset);
@@ -393,6 +400,10 @@ fn make_described(
         reached.entry.place (Some descriptor.now))) }
     ensures err { OnErr result (arena.new ≡ arena.old) }
     ensures grows { OnOk result (length arena.new.bytes ≤ length arena.old.bytes + GROWTH_BOUND) }
+    ensures growth { (from : Node) → (path : List ℕ) → (l : LeadsTo arena.old.bytes from path reached.entry.node reached.entry.missing.now) →
+        l.here.table ≡ securities.old → OnOk result (GrowsFor arena.old.bytes arena.new.bytes (create_sizes
+        (record { bins = arena.old; root = l.here.root; tree = tree_in arena.old.bytes l.here.root }) l.here.path (path_of path)
+        reached.entry.place (Some descriptor.now))) }
     ensures kept { OnOk result (length arena.old.bytes ≤ length arena.new.bytes) }
 {
     let Ok(size) = expect(alloc, securities, descriptor) else {
@@ -453,6 +464,10 @@ pub fn create_at(
         reached.entry.place (option_map (λ descriptor. descriptor.now) given.entry))) }
     ensures err { OnErr result (arena.new ≡ arena.old) }
     ensures grows { OnOk result (length arena.new.bytes ≤ length arena.old.bytes + GROWTH_BOUND) }
+    ensures growth { (from : Node) → (path : List ℕ) → (l : LeadsTo arena.old.bytes from path reached.entry.node reached.entry.missing.now) →
+        l.here.table ≡ securities.old → OnOk result (GrowsFor arena.old.bytes arena.new.bytes (create_sizes
+        (record { bins = arena.old; root = l.here.root; tree = tree_in arena.old.bytes l.here.root }) l.here.path (path_of path)
+        reached.entry.place (option_map (λ descriptor. descriptor.now) given.entry))) }
     ensures kept { OnOk result (length arena.old.bytes ≤ length arena.new.bytes) }
 {
     match given {

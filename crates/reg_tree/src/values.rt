@@ -8,6 +8,7 @@ ghost use Rattle.reg_heap.specs.Paths.{Member};
 ghost use Rattle.reg_heap.specs.Members.{value_named, index_named};
 ghost use Rattle.reg_heap.specs.Edits.{with_value, without_value, values_at};
 ghost use Rattle.reg_arena.specs.Arena.{heap_of};
+ghost use Rattle.reg_arena.specs.EachCell.{GrowsFor};
 ghost use Rattle.reg_values.specs.ValueLists.{Makes, Tells};
 ghost use Rattle.reg_tree.specs.CellSizes.{value_sizes, LacksRoom};
 ghost use Rattle.reg_tree.specs.TreeKeys.{tree_in};
@@ -127,6 +128,7 @@ pub fn set_at(
         LacksRoom arena.old (value_sizes (heap_of arena.old) key name.now (length bytes.now))) }
     ensures err { OnErr result (arena.new ≡ arena.old) }
     ensures grows { OnOk result (length arena.new.bytes ≤ length arena.old.bytes + GROWTH_BOUND) }
+    ensures growth { OnOk result (GrowsFor arena.old.bytes arena.new.bytes (value_sizes (heap_of arena.old) key name.now (length bytes.now))) }
     ensures kept { OnOk result (length arena.old.bytes ≤ length arena.new.bytes) }
 {
     let old = values_list(arena, key);

@@ -11,6 +11,7 @@ ghost use Rattle.reg_heap.specs.Members.{index_named};
 ghost use Rattle.reg_arena.specs.Arena.{heap_of};
 ghost use Rattle.reg_arena.specs.NewCells.{total_of, AreSizes};
 ghost use Rattle.reg_arena.specs.Carves.{NoFit};
+ghost use Rattle.reg_arena.specs.EachCell.{GrowsFor};
 ghost use Rattle.reg_arena.specs.NewBin.{PassesLimit};
 ghost use Rattle.reg_records.specs.RecordCells.{HasRoom};
 ghost use Rattle.reg_shape.specs.Nodes.{members_at};
@@ -36,6 +37,7 @@ pub(crate) fn carve(alloc: Global, arena: &mut Arena, sizes: &[u32]) -> Result<V
     ensures full { result ≡ Err ArenaFault.Full → NoFit arena.old.bytes (total_of sizes.now) }
     ensures limit { result ≡ Err ArenaFault.Full → PassesLimit arena.old.bytes (total_of sizes.now) }
     ensures grows { OnOk result (length arena.new.bytes ≤ length arena.old.bytes + GROWTH_BOUND) }
+    ensures growth { OnOk result (GrowsFor arena.old.bytes arena.new.bytes sizes.now) }
     ensures kept { OnOk result (length arena.old.bytes ≤ length arena.new.bytes) }
 {
     let mut cells = Vec::new(alloc);
@@ -133,6 +135,8 @@ pub(crate) fn add(
         PassesLimit arena.old.bytes
         (total_of (sizes_by (heap_of arena.old) list.count list.offset (length name.now) (length bytes.now) None)) }
     ensures grows { OnOk result (length arena.new.bytes ≤ length arena.old.bytes + GROWTH_BOUND) }
+    ensures growth { OnOk result (GrowsFor arena.old.bytes arena.new.bytes
+        (sizes_by (heap_of arena.old) list.count list.offset (length name.now) (length bytes.now) None)) }
     ensures kept { OnOk result (length arena.old.bytes ≤ length arena.new.bytes) }
 {
     let Ok(sizes) = plan_add(alloc, arena, list, name.len(), bytes.len()) else {

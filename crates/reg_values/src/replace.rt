@@ -7,6 +7,7 @@ ghost use Rattle.reg_heap.specs.Kinds.{Found, times, owned};
 ghost use Rattle.reg_arena.specs.Arena.{heap_of};
 ghost use Rattle.reg_arena.specs.NewCells.{total_of};
 ghost use Rattle.reg_arena.specs.Carves.{NoFit};
+ghost use Rattle.reg_arena.specs.EachCell.{GrowsFor};
 ghost use Rattle.reg_arena.specs.NewBin.{PassesLimit};
 ghost use Rattle.reg_records.specs.KeyValues.{value_record_at};
 ghost use Rattle.reg_shape.specs.Nodes.{member_at};
@@ -87,6 +88,8 @@ pub(crate) fn replace(
         (total_of (new_data_sizes (heap_of arena.old) (length bytes.now)
         (value_record_at (heap_of arena.old) cell))) }
     ensures grows { OnOk result (length arena.new.bytes ≤ length arena.old.bytes + GROWTH_BOUND) }
+    ensures growth { OnOk result (GrowsFor arena.old.bytes arena.new.bytes
+        (new_data_sizes (heap_of arena.old) (length bytes.now) (value_record_at (heap_of arena.old) cell))) }
     ensures kept { OnOk result (length arena.old.bytes ≤ length arena.new.bytes) }
 {
     let old = record_at(arena, cell).fields;

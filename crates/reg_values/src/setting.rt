@@ -11,6 +11,7 @@ ghost use Rattle.reg_heap.specs.Members.{values_with, index_named};
 ghost use Rattle.reg_arena.specs.Arena.{heap_of};
 ghost use Rattle.reg_arena.specs.NewCells.{total_of};
 ghost use Rattle.reg_arena.specs.Carves.{NoFit};
+ghost use Rattle.reg_arena.specs.EachCell.{GrowsFor};
 ghost use Rattle.reg_arena.specs.NewBin.{PassesLimit};
 ghost use Rattle.reg_shape.specs.Nodes.{members_at};
 ghost use Rattle.reg_values.specs.ValueLists.{AreValues, IsNamed, Became, Makes, OfRead};
@@ -62,6 +63,8 @@ pub fn set_at(
         (total_of (set_sizes (heap_of arena.old) list.count list.offset name.now (length bytes.now))) }
     ensures near { result ≡ Err ArenaFault.Full → BINS_LIMIT < length arena.old.bytes + GROWTH_BOUND }
     ensures grows { OnOk result (length arena.new.bytes ≤ length arena.old.bytes + GROWTH_BOUND) }
+    ensures growth { OnOk result (GrowsFor arena.old.bytes arena.new.bytes
+        (set_sizes (heap_of arena.old) list.count list.offset name.now (length bytes.now))) }
     ensures kept { OnOk result (length arena.old.bytes ≤ length arena.new.bytes) }
 {
     let Some(index) = place else {

@@ -13,7 +13,7 @@ use Rattle.reg_arena.specs.declared.Cell.{Cell}
 use Rattle.reg_arena.specs.Cells.{cells_of, cell_at}
 use Rattle.reg_arena.specs.NewCells.{AreSizes, total_of, unused, carved}
 use Rattle.reg_arena.specs.Carves.{AddsCells, Carves, CarvesExactly, IsRoom, NoFit, rest_of}
-use Rattle.reg_arena.specs.EachCell.{fresh_of, at_places, EachExactly, EachFalling, HasRoomForEach, Grows}
+use Rattle.reg_arena.specs.EachCell.{fresh_of, at_places, EachExactly, EachFalling, HasRoomForEach, GrowsFor}
 use Rattle.reg_arena.proofs.Contents.CellWrites.{all-append}
 use Rattle.reg_arena.proofs.FreeList.ThreadLinks.{times-none}
 use Rattle.reg_arena.proofs.Carving.BinGrowth.{bin-long}
@@ -174,20 +174,20 @@ is_turn sizes turn each = record { once = λ p. by (ltb p (length sizes)) (each 
 -- ---- a change
 
 falling-grows : (old new sizes offsets : List ℕ) → AreSizes sizes → EachFalling old new sizes offsets → length new ≤ length old + fresh_of sizes →
-    Grows old new sizes
+    GrowsFor old new sizes
 falling-grows old new sizes offsets good each grows = by (each-grows old new _ _ (some-turn each.turn sizes good turn) each.carves)
   where
     turn : IsTurn sizes each.turn
     turn = is_turn sizes each.turn each.each_once
 
-    by : (length new ≡ length old) ⊎ NoFit old (total_of (at_places sizes each.turn)) → Grows old new sizes
+    by : (length new ≡ length old) ⊎ NoFit old (total_of (at_places sizes each.turn)) → GrowsFor old new sizes
     by (inl same) = inl same
     by (inr none) = inr (no_fit-larger old _ _ (total-turn each.turn sizes turn) none, grows)
 
-exact-grows : (old new sizes offsets : List ℕ) → 0 < length sizes → CarvesExactly old new sizes offsets → Grows old new sizes
+exact-grows : (old new sizes offsets : List ℕ) → 0 < length sizes → CarvesExactly old new sizes offsets → GrowsFor old new sizes
 exact-grows old new sizes offsets some c = by c.room
   where
-    by : IsRoom old c.mid (total_of sizes) → Grows old new sizes
+    by : IsRoom old c.mid (total_of sizes) → GrowsFor old new sizes
     by (inl same) = inl (c.carves.long ∙ ap length same)
     by (inr (none, bin)) =
         let l = c.carves.long ∙ bin-long old c.mid (total_of sizes) bin in
@@ -198,13 +198,13 @@ exact-grows old new sizes offsets some c = by c.room
 -- each by itself
 pub apart-grows : (result : Result (Unit {0}) ArenaFault) (old new sizes out more : List ℕ) → AreSizes sizes →
     OnOk result ((offsets : List ℕ) × (more ≡ out ++ offsets) × EachFalling old new sizes offsets × AreNew (cell_at old) (cell_at new) offsets sizes) →
-    OnOk result (length new ≤ length old + fresh_of sizes) → OnOk result (Grows old new sizes)
+    OnOk result (length new ≤ length old + fresh_of sizes) → OnOk result (GrowsFor old new sizes)
 apart-grows (Err e) old new sizes out more good carved grows = tt
 apart-grows (Ok x) old new sizes out more good carved grows = falling-grows old new sizes carved.0 good carved.2 grows
 
 -- side by side
 pub together-grows : (result : Result (Unit {0}) ArenaFault) (old new sizes out more : List ℕ) → 0 < length sizes → (HasRoomForEach old sizes → ⊥) →
     OnOk result (0 < length sizes → (offsets : List ℕ) × (more ≡ out ++ offsets) × CarvesExactly old new sizes offsets × AddsCells old new sizes offsets) →
-    OnOk result (Grows old new sizes)
+    OnOk result (GrowsFor old new sizes)
 together-grows (Err e) old new sizes out more some none carved = tt
 together-grows (Ok x) old new sizes out more some none carved = let c = carved some in exact-grows old new sizes c.0 some c.2

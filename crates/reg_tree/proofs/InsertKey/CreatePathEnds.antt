@@ -18,6 +18,7 @@ use Rattle.reg_heap.specs.Heaps.{Heap}
 use Rattle.reg_heap.specs.Paths.{Path}
 use Rattle.reg_heap.specs.Edits.{missing}
 use Rattle.reg_arena.specs.Arena.{Bins}
+use Rattle.reg_arena.specs.EachCell.{GrowsFor}
 use Rattle.reg_index.specs.declared.Place.{Place}
 use Rattle.reg_values.specs.ValueLists.{Makes}
 use Rattle.reg_tree.specs.TreeKeys.{Keys}
@@ -77,3 +78,6 @@ cells_as result h k a b e c = subst (λ sizes. OnOk result (Makes h k sizes)) e 
 pub room_as : {A E : Type 0} (full : E) (result : Result A E) (bins : Bins) (a b : List ℕ) → a ≡ b → IfErr result (λ fault. fault ≡ full → LacksRoom bins a) →
     IfErr result (λ fault. fault ≡ full → LacksRoom bins b)
 room_as full result bins a b e c = subst (λ sizes. IfErr result (λ fault. fault ≡ full → LacksRoom bins sizes)) e c
+
+pub growth_as : {A E : Type 0} (result : Result A E) (old new a b : List ℕ) → a ≡ b → OnOk result (GrowsFor old new a) → OnOk result (GrowsFor old new b)
+growth_as result old new a b e c = subst (λ sizes. OnOk result (GrowsFor old new sizes)) e c

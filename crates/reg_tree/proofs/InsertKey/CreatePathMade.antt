@@ -1,6 +1,7 @@
 -- The keys of a path made where they are missing, in cells that were carved for them.
 use Rattle.std.proofs.Common.{◌≡◌, ℕ, ◌+◌, ◌≤◌, ◌<◌, Option, Some, None, IsSome, is_some, List, [], ◌∷◌, ◌++◌, map, length, refl, sym, ap, ◌∙◌, subst}
-use Rattle.std.proofs.Common.{arith, length-append}
+use Rattle.std.proofs.Common.{arith, length-append, inl, inr}
+use Rattle.reg_arena.specs.EachCell.{GrowsFor}
 use Rattle.std.specs.Option.{option_map}
 use Rattle.std.proofs.lemmas.Bool.{false≢true}
 use Rattle.std.proofs.lemmas.List.{append-nil}
@@ -196,6 +197,11 @@ module _ (old : List ℕ) (from : TreeNode) (t : IsHere old from.offset) (path :
 
 -- ---- the cells that come
 
+-- what stands in the cells is no matter for how the bins grew
+pub growth-then : (old mid new sizes : List ℕ) → length new ≡ length mid → GrowsFor old mid sizes → GrowsFor old new sizes
+growth-then old mid new sizes long (inl same) = inl (long ∙ same)
+growth-then old mid new sizes long (inr (none, grown)) = inr (none, omega (arith, long, grown))
+
 module _ (bins : Bins) (from : TreeNode) (t : IsHere bins.bytes from.offset) (path : List ℕ) (parent : TreeNode) (rest : List ℕ)
     (r : Reaches (cell_at bins.bytes) from path parent rest) (moment : ℕ) where
   abbrev seen : Keys
@@ -252,3 +258,14 @@ module _ (bins : Bins) (from : TreeNode) (t : IsHere bins.bytes from.offset) (pa
   pub room_alone : {plan : IndexCells} (place : Place) → plan ≡ planned heap parent.offset place → LacksRoom bins (sizes_of plan (map own_sizes (path_of rest)) ++ []) →
       LacksRoom bins (made_sizes seen t.path (path_of path) place)
   room_alone place plan_is lacks = subst (LacksRoom bins) (append-nil (made_sizes seen t.path (path_of path) place)) (created_room place plan_is [] lacks)
+
+  pub created_growth : {plan : IndexCells} (place : Place) → plan ≡ planned heap parent.offset place → (more new : List ℕ) →
+      GrowsFor bins.bytes new (sizes_of plan (map own_sizes (path_of rest)) ++ more) → GrowsFor bins.bytes new (made_sizes seen t.path (path_of path) place ++ more)
+  created_growth place plan_is more new grown =
+      subst (GrowsFor bins.bytes new) (ap (λ plan. sizes_of plan (map own_sizes (path_of rest)) ++ more) plan_is ∙ ap (λ sizes. sizes ++ more) (sym (created_sizes place))) grown
+
+  pub growth_alone : {plan : IndexCells} (place : Place) → plan ≡ planned heap parent.offset place → (mid new : List ℕ) → length new ≡ length mid →
+      GrowsFor bins.bytes mid (sizes_of plan (map own_sizes (path_of rest)) ++ []) → GrowsFor bins.bytes new (made_sizes seen t.path (path_of path) place)
+  growth_alone place plan_is mid new long grown =
+      growth-then bins.bytes mid new _ long
+      (subst (GrowsFor bins.bytes mid) (append-nil (made_sizes seen t.path (path_of path) place)) (created_growth place plan_is [] mid grown))

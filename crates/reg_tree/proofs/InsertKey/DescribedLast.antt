@@ -9,6 +9,7 @@ use Rattle.reg_heap.specs.Edits.{edited, missing, last_there, with_descriptor}
 use Rattle.reg_heap.specs.Heaps.{Heap}
 use Rattle.reg_heap.specs.Kinds.{times}
 use Rattle.reg_arena.specs.Arena.{Bins}
+use Rattle.reg_arena.specs.EachCell.{GrowsFor}
 use Rattle.reg_arena.specs.Cells.{cell_at}
 use Rattle.reg_arena.specs.NewCells.{cell_size}
 use Rattle.reg_index.specs.declared.IndexCells.{IndexCells}
@@ -37,7 +38,7 @@ use Rattle.reg_tree.proofs.Invariant.ShortClasses.{made-short}
 use Rattle.reg_tree.proofs.Invariant.KeyOfTree.{get-none}
 use Rattle.reg_tree.proofs.PathWalk.PathSteps.{not_walked}
 use Rattle.reg_tree.proofs.InsertKey.CreatePath.{missing-are}
-use Rattle.reg_tree.proofs.InsertKey.CreatePathMade.{IsGrownAll, created_cells, created_room}
+use Rattle.reg_tree.proofs.InsertKey.CreatePathMade.{IsGrownAll, created_cells, created_growth, created_room, growth-then}
 use Rattle.reg_tree.proofs.InsertKey.LastDescribed.{given_last}
 
 -- ---- the cell that it takes
@@ -154,6 +155,12 @@ module _ (bins : Bins) (from : TreeNode) (t : IsHere bins.bytes from.offset) (pa
     pub room_with : {plan : IndexCells} (place : Place) → plan ≡ planned heap parent.offset place → LacksRoom bins (sizes_of plan (map own_sizes (path_of rest)) ++ planned_sizes more) →
         LacksRoom bins (create_sizes seen t.path (path_of path) place (Some descriptor))
     room_with place plan_is lacks = subst (LacksRoom bins) (sizes_with place) (created_room bins from t path parent rest r moment place plan_is (planned_sizes more) lacks)
+
+    pub growth_with : {plan : IndexCells} (place : Place) → plan ≡ planned heap parent.offset place → (mid new : List ℕ) → length new ≡ length mid →
+        GrowsFor bins.bytes mid (sizes_of plan (map own_sizes (path_of rest)) ++ planned_sizes more) → GrowsFor bins.bytes new (create_sizes seen t.path (path_of path) place (Some descriptor))
+    growth_with place plan_is mid new long grown =
+        growth-then bins.bytes mid new _ long
+        (subst (GrowsFor bins.bytes mid) (sizes_with place) (created_growth bins from t path parent rest r moment place plan_is (planned_sizes more) mid grown))
 
     -- a cell that was carved is none of the ring's
     apart : (mid : List ℕ) (place : Place) (spare last : List ℕ) → IsSpared bins.bytes mid parent.offset place (path_of rest) (planned_sizes more) last spare →

@@ -1,5 +1,6 @@
 use Rattle.std.proofs.Common.{Err, sym, subst, ap, arith, ◌∙◌, ◌≤◌, ◌++◌}
 use Rattle.reg_names.specs.Names.{path_of}
+use Rattle.reg_arena.specs.EachCell.{GrowsFor}
 use Rattle.reg_arena.specs.NewCells.{AreSizes, total_of}
 use Rattle.reg_tree.proofs.InsertKey.PathCarve.{plan_told, are-all-sizes, total-with, near-limit, which_fault, lacks_room, spared}
 use Rattle.reg_tree.proofs.make.carve_for.Goals as goal
@@ -38,3 +39,7 @@ pub returns-clause-space : goal.returns-clause-space
 returns-clause-space c = λ full.
     let past = c.in-Err-carve_change.ensures.full.0 (ap (λ f. Err f) full) in
     lacks_room c.args.arena.now _ _ (c.deref.ensures.value ∙ c.in-Ok.ensures) past.0 past.1 past.2
+
+pub returns-in-Ok-carve_change-clause-growth : goal.returns-in-Ok-carve_change-clause-growth
+returns-in-Ok-carve_change-clause-growth c =
+    subst (GrowsFor c.args.arena.now.bytes c.carve_change.new.self.bytes) (c.deref.ensures.value ∙ c.in-Ok.ensures) c.in-Ok-carve_change.ensures.growth

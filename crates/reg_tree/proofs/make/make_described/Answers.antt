@@ -8,7 +8,7 @@ use Rattle.reg_tree.proofs.InsertKey.PathCarve.{parent_there, parent_subkeys, pa
 use Rattle.reg_tree.proofs.InsertKey.CreatePath.{parent_here, has_room}
 use Rattle.reg_tree.proofs.InsertKey.CreatePathMade.{plan_then, place_then, may_make, grown_all}
 use Rattle.reg_tree.proofs.InsertKey.CreatePathEnds.{spared_as}
-use Rattle.reg_tree.proofs.InsertKey.DescribedLast.{some_cells, describable, created_described, none_at_end, some_names, room_with, cells_with}
+use Rattle.reg_tree.proofs.InsertKey.DescribedLast.{some_cells, describable, created_described, none_at_end, some_names, room_with, cells_with, growth_with}
 use Rattle.reg_tree.proofs.make.make_described.Goals as goal
 
 pub subkeys_list-list-requires : goal.subkeys_list-list-requires
@@ -144,3 +144,11 @@ returns-clause-cells c = λ from path l same.
     (describable _ _ from l.here (path_of path) c.args.moment c.in-Ok.size c.in-Ok-carve_for.cells.items c.make_all-node.result g _ c.args.descriptor.now x _ cell_is) in
     cells_with c.args.arena.now from l.here path _ _ l.reaches 0 some _ c.args.descriptor.now c.in-Ok.size x _ _ _ _ last c.deref.result.now s
     c.make_all-node.ensures.keeps c.make_all-node.ensures.stay d.keeps d.leaves
+
+pub returns-clause-growth : goal.returns-clause-growth
+returns-clause-growth c = λ from path l same.
+    let here = parent_here _ from l.here path _ _ l.reaches c.args.moment in
+    let plan = plan_is _ _ here _ _ c.subkeys_list-list.ensures c.args.reached.place _ c.plan_insert-plan.ensures in
+    let x = subst (λ t. IsExpected t c.expect.new.securities c.args.descriptor.now c.in-Ok.size) (sym same) c.in-Ok.ensures.ok in
+    growth_with c.args.arena.now from l.here path _ _ l.reaches 0 (named _ c.requires.missing) _ c.args.descriptor.now c.in-Ok.size x c.args.reached.place plan _ _
+    (c.describe.ensures.long ∙ c.make_all-node.ensures.long) c.in-Ok-carve_for.ensures.growth

@@ -2,7 +2,7 @@ use Rattle.std.proofs.Common.{sym, ◌∙◌, arith, []}
 use Rattle.reg_tree.proofs.PathWalk.ReachedSeen.{named}
 use Rattle.reg_tree.proofs.InsertKey.PathCarve.{parent_there, parent_subkeys, parent_place, plan_is}
 use Rattle.reg_tree.proofs.InsertKey.CreatePath.{parent_here, has_room}
-use Rattle.reg_tree.proofs.InsertKey.CreatePathMade.{plan_then, place_then, may_make, grown_all, created, made_alone, room_alone}
+use Rattle.reg_tree.proofs.InsertKey.CreatePathMade.{plan_then, place_then, may_make, grown_all, growth_alone, created, made_alone, room_alone}
 use Rattle.reg_tree.proofs.InsertKey.CreatePathEnds.{spared_as}
 use Rattle.reg_tree.proofs.make.make_sharing.Goals as goal
 
@@ -88,3 +88,9 @@ returns-clause-cells c = λ from path l.
     let plan = plan_is _ _ here _ _ c.subkeys_list-list.ensures c.args.reached.place _ c.plan_insert-plan.ensures in
     let s = spared_as _ _ _ _ _ [] [] c.deref.result.now c.in-Ok.cells.items c.deref.ensures.value (c.in-Ok.ensures.ok _ _ here plan) in
     made_alone c.args.arena.now from l.here path _ _ l.reaches c.args.moment _ _ _ c.deref.result.now s c.make_all.ensures.keeps c.make_all.ensures.stay
+
+pub returns-clause-growth : goal.returns-clause-growth
+returns-clause-growth c = λ from path l.
+    let here = parent_here _ from l.here path _ _ l.reaches c.args.moment in
+    let plan = plan_is _ _ here _ _ c.subkeys_list-list.ensures c.args.reached.place _ c.plan_insert-plan.ensures in
+    growth_alone c.args.arena.now from l.here path _ _ l.reaches c.args.moment c.args.reached.place plan _ _ c.make_all.ensures.long c.in-Ok.ensures.growth

@@ -6,6 +6,7 @@ use Rattle.reg_heap.specs.Kinds.{Found, owned}
 use Rattle.reg_arena.specs.Arena.{heap_of}
 use Rattle.reg_arena.specs.NewCells.{total_of}
 use Rattle.reg_arena.specs.Carves.{NoFit}
+use Rattle.reg_arena.specs.EachCell.{GrowsFor}
 use Rattle.reg_arena.specs.NewBin.{PassesLimit}
 use Rattle.reg_records.specs.KeyValues.{value_record_at}
 use Rattle.reg_shape.specs.Nodes.{member_at}
@@ -192,3 +193,22 @@ returns-in_err-replace-clause-some c = λ q.
     let e = err_from_is_err_and c.from_residual.result c.from_residual.ensures.1 in
     let f : c.replace.result ≡ Err Full = cc (q, e.1, e.2, c.in_err-replace.was) in
     subst (λ sizes. 0 < length sizes) z (c.replace.ensures.some f)
+
+pub returns-in_default-clause-growth : goal.returns-in_default-clause-growth
+returns-in_default-clause-growth c =
+    let h = heap_of c.args.arena.now in
+    let n = c.args.list.count in
+    let p = c.args.list.offset in
+    let v = c.requires.values in
+    let z = sizes-none h n p c.args.name.now (length c.args.bytes.now) v.members v.met v.reads (sym c.in_default.is ∙ c.requires.place v.members v.met v.reads) in
+    on_ok_weaker c.add.result (λ f. subst (GrowsFor c.args.arena.now.bytes c.add.new.arena.bytes) z f) c.add.ensures.growth
+
+pub returns-clause-growth : goal.returns-clause-growth
+returns-clause-growth c =
+    let h = heap_of c.args.arena.now in
+    let n = c.args.list.count in
+    let p = c.args.list.offset in
+    let v = c.requires.values in
+    let z = sizes-there h n p c.args.name.now (length c.args.bytes.now) v.members v.met c.in-Some.index c.cell_of-cell.result v.reads
+    (sym c.in-Some.is ∙ c.requires.place v.members v.met v.reads) c.cell_of-cell.ensures in
+    subst (GrowsFor c.args.arena.now.bytes c.replace.new.arena.bytes) z c.in_ok-replace.ensures.growth
