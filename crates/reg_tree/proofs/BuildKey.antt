@@ -10,5 +10,6 @@ pub mod ClassCarved
 pub mod OneName
 pub mod BuiltTrees
 pub mod BuiltBelow
+pub mod BuiltCells
 pub mod BuiltSeen
 pub mod BuiltRoot

@@ -4,20 +4,24 @@
 //! than those of its other subkeys; and last the key gets its marks and its class.
 //!
 //! Suhanov, Windows registry file format specification, "Key node".
-ghost use Rattle.std.specs.Prelude.{◌≡◌, ◌≤◌, ◌<◌, ◌+◌, ◌*◌, ◌^◌, ℕ, [], ◌∷◌, bit_and, Err, Some, IsSome, length, OnOk, OnErr, IfOk};
+ghost use Rattle.std.specs.Prelude.{◌≡◌, ◌≤◌, ◌<◌, ◌+◌, ◌*◌, ◌^◌, ◌⊎◌, ℕ, [], ◌∷◌, bit_and, Err, Some, IsSome, length, OnOk, OnErr, IfOk, IfErr};
 ghost use Rattle.byteorder.specs.Endian.{little_bytes};
 ghost use Rattle.reg_heap.specs.declared.limits.TheConstants.{BINS_LIMIT, GROWTH_BOUND};
 ghost use Rattle.reg_heap.specs.Edits.{at_time};
 ghost use Rattle.reg_heap.specs.Trees.{IsSmallKey};
 ghost use Rattle.reg_arena.specs.Arena.{heap_of};
+ghost use Rattle.reg_arena.specs.Cells.{cells_of};
+ghost use Rattle.reg_arena.specs.EachCell.{GrowsFor};
 ghost use Rattle.reg_records.specs.KeyNodes.{KeyRecord, key_at};
-ghost use Rattle.reg_tree.specs.BuiltKeys.{MayBuild, built_key};
+ghost use Rattle.reg_values.specs.ValueLists.{Makes};
+ghost use Rattle.reg_tree.specs.BuiltKeys.{MayBuild, BuildsKey, LacksClassRoom, LacksKeyRoom, built_key, class_sizes};
+ghost use Rattle.reg_tree.specs.CellSizes.{LacksRoom};
 ghost use Rattle.reg_tree.specs.TreeKeys.{tree_in};
 ghost use Rattle.reg_tree.specs.Internal.DescriptorChange.{KeepsFinds};
 ghost use Rattle.reg_tree.specs.Internal.KeyCreation.{IsCreated};
 ghost use Rattle.reg_tree.specs.Internal.TreeInvariant.{IsHere, IsChanged, TreeInvariant};
 ghost use Rattle.reg_tree.specs.Internal.KeyNodeChanges.{Notes};
-ghost use Rattle.reg_tree.specs.Internal.KeyBuilding.{HasNoClass, IsBuilt, IsCarvedForClass, IsClassCell, IsMarkable, IsMarked, MayHaveClass, PutsClass, marked, noted_class, noted_marks};
+ghost use Rattle.reg_tree.specs.Internal.KeyBuilding.{HasNoClass, IsBuilt, IsCarvedForClass, IsClassCell, IsMarkable, IsMarked, LacksForKey, MayHaveClass, PutsClass, TakesForKey, marked, noted_class, noted_marks};
 
 use crate::Node;
 use crate::find::reach;
@@ -62,6 +66,7 @@ fn word_bytes(number: u32) -> [u8; 4]
 fn set_largest_subkey_class(arena: &mut Arena, key: u32, largest: u32)
     requires { IsSome (key_at (heap_of arena.old) key) }
     ensures notes { Notes (heap_of arena.old) (heap_of arena.new) key (λ r. record r { fields = record r.fields { largest_subkey_class = largest } }) }
+    ensures cells { cells_of arena.new.bytes ≡ cells_of arena.old.bytes }
     ensures long { length arena.new.bytes ≡ length arena.old.bytes }
 {
     arena.write(key, LARGEST_SUBKEY_CLASS, &word_bytes(largest));
@@ -71,6 +76,7 @@ fn set_largest_subkey_class(arena: &mut Arena, key: u32, largest: u32)
 fn note_class(arena: &mut Arena, key: u32, size: u32, moment: u64)
     requires { IsSome (key_at (heap_of arena.old) key) }
     ensures notes { Notes (heap_of arena.old) (heap_of arena.new) key (noted_class size moment) }
+    ensures cells { cells_of arena.new.bytes ≡ cells_of arena.old.bytes }
     ensures long { length arena.new.bytes ≡ length arena.old.bytes }
 {
     let old = fields(arena, key);
@@ -83,6 +89,7 @@ fn retime(arena: &mut Arena, key: u32, size: u32, moment: u64)
     requires { IsHere arena.old.bytes key }
     ensures changed { (t : IsHere arena.old.bytes key) → IsChanged arena.old.bytes arena.new.bytes t.root t.table t.path (at_time moment) }
     ensures roomy { (k : KeyRecord) → key_at (heap_of arena.new) key ≡ Some k → size ≤ k.fields.largest_subkey_class }
+    ensures cells { cells_of arena.new.bytes ≡ cells_of arena.old.bytes }
     ensures long { length arena.new.bytes ≡ length arena.old.bytes }
 {
     note_class(arena, key, size, moment);
@@ -92,6 +99,7 @@ fn retime(arena: &mut Arena, key: u32, size: u32, moment: u64)
 fn put_class(arena: &mut Arena, cell: Option<u32>, class: &[u8])
     requires { IsClassCell (heap_of arena.old) cell class.now }
     ensures puts { PutsClass (heap_of arena.old) (heap_of arena.new) cell class.now }
+    ensures cells { cells_of arena.new.bytes ≡ cells_of arena.old.bytes }
     ensures long { length arena.new.bytes ≡ length arena.old.bytes }
 {
     if let Some(cell) = cell {
@@ -106,6 +114,7 @@ fn note_marks(arena: &mut Arena, key: u32, name: &[u8], marks: u16, cell: Option
     requires short { length name.now < 2 ^ 16 }
     requires marks { bit_and marks 103 ≡ 0 }
     ensures notes { Notes (heap_of arena.old) (heap_of arena.new) key (noted_marks marks cell size) }
+    ensures cells { cells_of arena.new.bytes ≡ cells_of arena.old.bytes }
     ensures long { length arena.new.bytes ≡ length arena.old.bytes }
 {
     let old = fields(arena, key);
@@ -126,6 +135,7 @@ fn mark(arena: &mut Arena, key: u32, name: &[u8], marks: u16, cell: Option<u32>,
     requires class { length class.now < 2 ^ 16 }
     ensures marked { (m : IsMarkable arena.old.bytes key name.now cell class.now) →
         IsMarked arena.old.bytes arena.new.bytes m.root m.table m.path m.keys marks class.now }
+    ensures cells { cells_of arena.new.bytes ≡ cells_of arena.old.bytes }
     ensures long { length arena.new.bytes ≡ length arena.old.bytes }
 {
     put_class(arena, cell, class);
@@ -137,6 +147,8 @@ fn carve_for(alloc: Global, arena: &mut Arena, class: &[u8]) -> Result<Option<u3
     requires { length class.now < 2 ^ 16 }
     ensures ok { IfOk result (λ cell. IsCarvedForClass arena.old arena.new class.now cell) }
     ensures full { (result ≡ Err ArenaFault.Full) → BINS_LIMIT < length arena.old.bytes + GROWTH_BOUND }
+    ensures growth { OnOk result (GrowsFor arena.old.bytes arena.new.bytes (class_sizes class.now)) }
+    ensures space { IfErr result (λ fault. fault ≡ ArenaFault.Full → LacksRoom arena.old (class_sizes class.now)) }
     ensures err { OnErr result (arena.new ≡ arena.old) }
     ensures grows { OnOk result (length arena.new.bytes ≤ length arena.old.bytes + GROWTH_BOUND) }
     ensures kept { OnOk result (length arena.old.bytes ≤ length arena.new.bytes) }
@@ -168,6 +180,9 @@ pub fn dress(
     requires class { length class.now < 2 ^ 16 }
     ensures ok { (t : IsHere arena.old.bytes key) → MayHaveClass (heap_of arena.old) t.root t.path (length class.now) →
         OnOk result (IsChanged arena.old.bytes arena.new.bytes t.root t.table t.path (marked marks class.now)) }
+    ensures cells { OnOk result (Makes (heap_of arena.old) (heap_of arena.new) (class_sizes class.now)) }
+    ensures growth { OnOk result (GrowsFor arena.old.bytes arena.new.bytes (class_sizes class.now)) }
+    ensures space { IfErr result (λ fault. fault ≡ ArenaFault.Full → LacksRoom arena.old (class_sizes class.now)) }
     ensures full { (result ≡ Err ArenaFault.Full) → BINS_LIMIT < length arena.old.bytes + GROWTH_BOUND }
     ensures err { OnErr result (arena.new ≡ arena.old) }
     ensures grows { OnOk result (length arena.new.bytes ≤ length arena.old.bytes + GROWTH_BOUND) }
@@ -196,6 +211,12 @@ fn make_one(
     ensures ok { (t : IsHere arena.old.bytes parent.offset) → t.table ≡ securities.old → parent.depth ≡ length t.path →
         IfOk result (λ made. IsCreated arena.old.bytes arena.new.bytes t.root securities.new t.path parent (key.entry.name.now ∷ [])
         (Some key.entry.descriptor.now) key.entry.time made) }
+    ensures cells { (t : IsHere arena.old.bytes parent.offset) → t.table ≡ securities.old → parent.depth ≡ length t.path →
+        OnOk result (TakesForKey (record { bins = arena.old; root = t.root; tree = tree_in arena.old.bytes t.root }) arena.new
+        t.path key.entry.name.now key.entry.descriptor.now) }
+    ensures space { (t : IsHere arena.old.bytes parent.offset) → t.table ≡ securities.old → parent.depth ≡ length t.path →
+        IfErr result (λ fault. fault ≡ ArenaFault.Full → LacksForKey (record { bins = arena.old; root = t.root; tree = tree_in arena.old.bytes t.root })
+        t.path key.entry.name.now key.entry.descriptor.now) }
     ensures table { OnErr result (KeepsFinds securities.old securities.new) }
     ensures full { (result ≡ Err ArenaFault.Full) → BINS_LIMIT < length arena.old.bytes + GROWTH_BOUND }
     ensures err { OnErr result (arena.new ≡ arena.old) }
@@ -227,6 +248,14 @@ pub fn build_below(
     ensures ok { (t : IsHere arena.old.bytes parent.offset) → t.table ≡ securities.old → parent.depth ≡ length t.path →
         MayBuild (tree_in arena.old.bytes t.root) t.path key.entry.name.now →
         IfOk result (λ node. IsBuilt arena.old.bytes arena.new.bytes t.root securities.new t.path key.entry node) }
+    ensures builds { (t : IsHere arena.old.bytes parent.offset) → t.table ≡ securities.old → parent.depth ≡ length t.path →
+        MayBuild (tree_in arena.old.bytes t.root) t.path key.entry.name.now →
+        OnOk result (BuildsKey (record { bins = arena.old; root = t.root; tree = tree_in arena.old.bytes t.root })
+        (record { bins = arena.new; root = t.root; tree = tree_in arena.new.bytes t.root }) t.path (built_key key.entry)) }
+    ensures space { (t : IsHere arena.old.bytes parent.offset) → t.table ≡ securities.old → parent.depth ≡ length t.path →
+        MayBuild (tree_in arena.old.bytes t.root) t.path key.entry.name.now → IfErr result (λ fault. fault ≡ ArenaFault.Full →
+        LacksKeyRoom (record { bins = arena.old; root = t.root; tree = tree_in arena.old.bytes t.root }) t.path (built_key key.entry)
+        ⊎ LacksClassRoom (record { bins = arena.old; root = t.root; tree = tree_in arena.old.bytes t.root }) t.path (built_key key.entry)) }
     ensures err { (t : IsHere arena.old.bytes parent.offset) → t.table ≡ securities.old → parent.depth ≡ length t.path →
         OnErr result (TreeInvariant arena.new.bytes t.root securities.new) }
     ensures full { (result ≡ Err ArenaFault.Full) → BINS_LIMIT < length arena.old.bytes + 2 * GROWTH_BOUND }

@@ -1,6 +1,6 @@
 -- A key built below another: what each step needs, and the tree at the end.
 use Rattle.std.proofs.Common.{◌≡◌, ℕ, zero, suc, ◌≤◌, Some, List, [], ◌∷◌, inr, length, take, refl, sym, ap, ◌∙◌, subst, arith, length-append, length-take}
-use Rattle.std.specs.FinMap.{get}
+use Rattle.std.specs.FinMap.{get, insert}
 use Rattle.std.proofs.lemmas.Option.{same_Some}
 use Rattle.reg_names.specs.Names.{folded}
 use Rattle.reg_heap.specs.Heaps.{Heap}
@@ -28,7 +28,7 @@ use Rattle.reg_tree.specs.Internal.KeyBuilding.{HasNoClass, IsBuilt, MayHaveClas
 use Rattle.reg_tree.specs.Internal.KeyCreation.{IsCreated}
 use Rattle.reg_tree.specs.Internal.TreeInvariant.{TreeInvariant, IsHere, IsChanged}
 use Rattle.reg_tree.proofs.Invariant.KeyOfTree.{branch, key_is, looked, rec_there, seen}
-use Rattle.reg_tree.proofs.BuildKey.BuiltTrees.{built-is, made-there}
+use Rattle.reg_tree.proofs.BuildKey.BuiltTrees.{bare-is, built-is, made-there}
 
 -- ---- a key that is told without a class
 
@@ -119,6 +119,9 @@ module _ (old mid : List ℕ) (parent node : TreeNode) (t : IsHere old parent.of
         bare next node.offset child-next (made_key key.name.now key.descriptor.now key.time)
         (ap (λ (tree : Tree). get tree path) tree-next
         ∙ made-there (tree_in old t.root) t.path key.name.now key.descriptor.now key.time fields.time above (rec_there old parent.offset t) its-time may.free) refl
+
+    pub bare-built : tree_in next t.root ≡ insert (tree_in old t.root) path (made_key key.name.now key.descriptor.now key.time)
+    bare-built = tree-next ∙ bare-is (tree_in old t.root) t.path key.name.now key.descriptor.now key.time fields.time above (rec_there old parent.offset t) its-time may.free
 
     pub built : (new : List ℕ) → IsChanged next new t.root table path (marked key.marks key.class.now) → parent.depth ≡ length t.path → IsBuilt old new t.root table t.path key node
     built new d deep = record {

@@ -60,6 +60,25 @@ module _ (t : Tree) (p : Path) (name descriptor : List ℕ) (moment time : ℕ) 
       ∙ (get-other grown p c r (child-apart p name)
       ∙ get-here (insert t p (at_time moment r)) c made)
 
+  bare-at : (q : Path) → get (insert grown p r) q ≡ get (insert t c made) q
+  bare-at q =
+      get-insert path_total grown p r q
+      ∙ (ap (cond (eq_by_cmp path_cmp q p) (Some r)) (get-insert path_total (insert t p (at_time moment r)) c made q)
+      ∙ (ap (λ o. cond (eq_by_cmp path_cmp q p) (Some r) (cond (eq_by_cmp path_cmp q c) (Some made) o)) (get-insert path_total t p (at_time moment r) q)
+      ∙ (by (eq_by_cmp path_cmp q c) (eq_by_cmp path_cmp q p) refl refl
+      ∙ sym (get-insert path_total t c made q))))
+    where
+      by : (a b : Bool) → eq_by_cmp path_cmp q c ≡ a → eq_by_cmp path_cmp q p ≡ b →
+          cond b (Some r) (cond a (Some made) (cond b (Some (at_time moment r)) (get t q))) ≡ cond a (Some made) (get t q)
+      by true true e f = absurd (child-apart p name (sym (path-is q c e) ∙ path-is q p f))
+      by false true e f = sym (ap (get t) (path-is q p f) ∙ there)
+      by true false e f = refl
+      by false false e f = refl
+
+  -- the tree then has that key more
+  pub bare-is : edited (with_keys t p (name ∷ []) (Some descriptor) moment) p (at_time time) ≡ insert t c made
+  bare-is = retimed-is ∙ same_map path_total path_same (insert grown p r) (insert t c made) bare-at
+
   module _ (marks : ℕ) (class : List ℕ) where
     abbrev built : Rec
     built = marked marks class made

@@ -62,7 +62,7 @@ module _ (h k : Heap) (c : ℕ) (come : CellFrame h k (λ z. 0) (λ z. times z (
       by (suc t) e = omega (arith, e)
 
 -- no cell came
-makes-none : (h k : Heap) → KeepsCells h k → Makes h k []
+pub makes-none : (h k : Heap) → KeepsCells h k → Makes h k []
 makes-none h k keeps = record {
   offsets = [];
   sizes_are = refl;
@@ -72,7 +72,7 @@ makes-none h k keeps = record {
 }
 
 -- one came, and stays
-makes-one : (h k j : Heap) (c size : ℕ) (ring : List ℕ) → CellFrame h k (λ z. 0) (λ z. times z (c ∷ [])) → length (held k c) + 4 ≡ size →
+pub makes-one : (h k j : Heap) (c size : ℕ) (ring : List ℕ) → CellFrame h k (λ z. 0) (λ z. times z (c ∷ [])) → length (held k c) + 4 ≡ size →
     KeepsCells k j → LeavesOthers k j ring → times c ring ≡ 0 → Makes h j (size ∷ [])
 makes-one h k j c size ring come long keeps leaves apart = record {
   offsets = c ∷ [];

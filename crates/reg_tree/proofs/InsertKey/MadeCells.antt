@@ -67,7 +67,7 @@ four_written a b c d e cell p q r s there w x y z =
 
 -- ---- a key made
 
-same-kept : (h i : Heap) → SameSizes h i → KeepsCells h i
+pub same-kept : (h i : Heap) → SameSizes h i → KeepsCells h i
 same-kept h i a z some = (sym (a z).0 ∙ some, (a z).1)
 
 -- the cells of a key's index gave way, but those that were carved for it stay, and so do all others

@@ -8,6 +8,7 @@ use Rattle.std.specs.FinMap.{insert}
 use Rattle.reg_heap.specs.Edits.{edited, child_path}
 use Rattle.reg_arena.specs.Arena.{Bins, heap_of}
 use Rattle.reg_arena.specs.Cells.{cell_at}
+use Rattle.reg_arena.specs.EachCell.{GrowsFor}
 use Rattle.reg_arena.specs.NewCells.{cell_size}
 use Rattle.reg_records.specs.RecordCells.{HasRoom, held}
 use Rattle.reg_records.specs.KeyNodes.{KeyRecord, key_at}
@@ -16,12 +17,15 @@ use Rattle.reg_shape.specs.Internal.Forests.{Branch}
 use Rattle.reg_shape.specs.Internal.Shapes.{tree_of}
 use Rattle.reg_shape.specs.Internal.Grafts.{IsShape}
 use Rattle.reg_shape.specs.PathLookup.{key_offset_at}
+use Rattle.reg_index.specs.declared.Place.{Place}
 use Rattle.reg_index.specs.Subkeys.{taken}
+use Rattle.reg_values.specs.ValueLists.{Makes}
 use Rattle.reg_security.specs.Rings.{DescriptorCells, Finds}
 use Rattle.reg_tree.specs.declared.build.NewKey.{NewKey}
 use Rattle.reg_tree.specs.declared.node.Node.{Node as TreeNode}
 use Rattle.reg_tree.specs.BuiltKeys.{built_key}
-use Rattle.reg_tree.specs.TreeKeys.{tree_in}
+use Rattle.reg_tree.specs.CellSizes.{BelongsThere, LacksRoom, create_sizes}
+use Rattle.reg_tree.specs.TreeKeys.{Keys, tree_in}
 use Rattle.reg_tree.specs.Internal.TreeInvariant.{HasShortClasses, TreeInvariant}
 
 -- a key with other marks and another class
@@ -109,3 +113,16 @@ pub record IsBuilt (old new : List ℕ) (root : ℕ) (table : DescriptorCells) (
   pub offset : key_offset_at (cell_at new) root (child_path path key.name.now) ≡ Some node.offset
   pub depth : node.depth ≡ length path + 1
   pub keeps : (q : Path) (o : ℕ) → key_offset_at (cell_at old) root q ≡ Some o → key_offset_at (cell_at new) root q ≡ Some o
+
+-- the cells came that a key of a name and a descriptor takes right below the one at a path, at its place there
+pub record TakesForKey (old : Keys) (new : Bins) (path : Path) (name descriptor : List ℕ) : Type 0 where
+  pub place : Place
+  pub belongs : BelongsThere old path (name ∷ []) place
+  pub cells : Makes (heap_of old.bins) (heap_of new) (create_sizes old path (name ∷ []) place (Some descriptor))
+  pub growth : GrowsFor old.bins.bytes new.bytes (create_sizes old path (name ∷ []) place (Some descriptor))
+
+-- the bins have no room for these cells
+pub record LacksForKey (old : Keys) (path : Path) (name descriptor : List ℕ) : Type 0 where
+  pub place : Place
+  pub belongs : BelongsThere old path (name ∷ []) place
+  pub lacks : LacksRoom old.bins (create_sizes old path (name ∷ []) place (Some descriptor))

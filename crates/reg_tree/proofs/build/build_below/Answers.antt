@@ -2,6 +2,8 @@ use Rattle.std.proofs.Common.{sym, subst}
 use Rattle.reg_arena.specs.Arena.{Bins}
 use Rattle.reg_tree.specs.Internal.TreeInvariant.{TreeInvariant}
 use Rattle.reg_tree.proofs.Invariant.KeyOfTree.{key_there}
+use Rattle.std.proofs.Common.{inl, inr}
+use Rattle.reg_tree.proofs.BuildKey.BuiltCells.{class-lacks, key-built, lacks-room}
 use Rattle.reg_tree.proofs.BuildKey.BuiltBelow.{holds-still, parent-then, child-next, may-have, bare-next, built}
 use Rattle.reg_tree.proofs.build.build_below.Goals as goal
 
@@ -44,3 +46,24 @@ returns-in-Err-dress-clause-err c = λ t same d.
     let made = c.in-Ok.ensures.ok t same d in
     subst (λ (b : Bins). TreeInvariant b.bytes t.root c.make_one.new.securities) (sym c.in-Err-dress.ensures.err)
     (c.retime.ensures.changed (parent-then _ _ c.args.parent c.in-Ok.node t _ c.args.key made)).holds
+
+pub returns-in-Err-clause-space : goal.returns-in-Err-clause-space
+returns-in-Err-clause-space c = λ t same d may full. inl (lacks-room _ t.path _ (c.in-Err.ensures.space t same d full))
+
+pub returns-in-Ok-dress-clause-builds : goal.returns-in-Ok-dress-clause-builds
+returns-in-Ok-dress-clause-builds c = λ t same d may.
+    let made = c.in-Ok.ensures.ok t same d in
+    let changed = c.retime.ensures.changed (parent-then _ _ c.args.parent c.in-Ok.node t _ c.args.key made) in
+    let fields = c.fields-time.result in
+    key-built c.args.arena.now c.make_one.new.arena c.retime.new.arena c.args.parent c.in-Ok.node t _ c.args.key made fields c.fields-time.ensures may changed c.retime.ensures.roomy
+    (c.in-Ok.ensures.cells t same d) c.retime.ensures.cells c.retime.ensures.long _
+    (c.in-Ok-dress.ensures.ok (child-next _ _ c.args.parent c.in-Ok.node t _ c.args.key made fields c.fields-time.ensures may _ changed c.retime.ensures.roomy)
+    (may-have _ _ c.args.parent c.in-Ok.node t _ c.args.key made fields c.fields-time.ensures may _ changed c.retime.ensures.roomy)) d
+    c.in-Ok-dress.ensures.cells c.in-Ok-dress.ensures.growth
+
+pub returns-in-Err-dress-clause-space : goal.returns-in-Err-dress-clause-space
+returns-in-Err-dress-clause-space c = λ t same d may full.
+    let made = c.in-Ok.ensures.ok t same d in
+    let changed = c.retime.ensures.changed (parent-then _ _ c.args.parent c.in-Ok.node t _ c.args.key made) in
+    inr (class-lacks c.args.arena.now c.make_one.new.arena c.retime.new.arena c.args.parent c.in-Ok.node t _ c.args.key made c.fields-time.result c.fields-time.ensures may changed c.retime.ensures.roomy
+    (c.in-Ok.ensures.cells t same d) c.retime.ensures.cells c.retime.ensures.long (c.in-Err-dress.ensures.space full))
