@@ -57,7 +57,7 @@ impl Tree {
     ghost use Rattle.reg_tree.specs.ValueAnswers.{IsFound, without_value_at};
     ghost use Rattle.reg_tree.specs.Reaching.{IsWalkedTo};
     ghost use Rattle.reg_tree.specs.SubkeyWalk.{IsSubkeyAt};
-    ghost use Rattle.reg_tree.specs.BuiltKeys.{MayBuild, built_key, Grows, BuildsRoot, BuildsKey, LacksKeyRoom, LacksClassRoom};
+    ghost use Rattle.reg_tree.specs.BuiltKeys.{MayBuild, built_key, class_sizes, Grows, TakesCells, BuildsRoot, BuildsKey, LacksKeyRoom, LacksClassRoom};
 
     /// A tree of one root: the name as given, mark 8 (no delete), no class, the descriptor, the moment (100 ns ticks since
     /// 1601), no values; its four largest lengths are 0. Its bins are one, of the least size for the key node and its security,
@@ -122,6 +122,7 @@ impl Tree {
         requires root { self.old.tree ≡ insert empty [] (made_root key.name.now key.descriptor.now key.time) }
         requires key { IsSmallKey (built_key key) }
         ensures ok { OnOk result (self.new.tree ≡ insert empty [] (built_key key.entry)) }
+        ensures takes { OnOk result (TakesCells self.old self.new (class_sizes key.entry.class.now)) }
         ensures full { (result ≡ Err ArenaFault.Full) → BINS_LIMIT < length self.old.bins.bytes + GROWTH_BOUND }
     {
         build::dress(

@@ -8,11 +8,13 @@ use Rattle.reg_heap.specs.Paths.{Tree, Rec}
 use Rattle.reg_heap.specs.Edits.{edited}
 use Rattle.reg_arena.specs.Arena.{Bins, heap_of}
 use Rattle.reg_arena.specs.declared.ArenaFault.{ArenaFault}
+use Rattle.reg_arena.specs.EachCell.{GrowsFor}
 use Rattle.reg_arena.specs.NewBin.{IsBinSize}
 use Rattle.reg_arena.specs.NewCells.{cell_size}
 use Rattle.reg_security.specs.Rings.{DescriptorCells}
 use Rattle.reg_tree.specs.declared.build.NewKey.{NewKey}
-use Rattle.reg_tree.specs.BuiltKeys.{built_key}
+use Rattle.reg_values.specs.ValueLists.{Makes}
+use Rattle.reg_tree.specs.BuiltKeys.{TakesCells, built_key, class_sizes}
 use Rattle.reg_tree.specs.TreeKeys.{Keys, tree_in, made_root}
 use Rattle.reg_tree.specs.Internal.KeyBuilding.{HasNoClass, MayHaveClass, marked}
 use Rattle.reg_tree.specs.Internal.TreeInvariant.{TreeInvariant, IsHere, IsChanged}
@@ -67,3 +69,12 @@ module _ (bins : Bins) (root : ℕ) {table : DescriptorCells} (holds : TreeInvar
             ∙ (edited-at (insert empty [] made) [] made (marked key.marks key.class.now) (get-here empty [] made)
             ∙ insert-twice empty [] made (built_key key)))
         by (Err x) c = tt
+
+    pub root-takes : OnOk result (Makes (heap_of bins) (heap_of new) (class_sizes key.class.now)) → OnOk result (GrowsFor bins.bytes new.bytes (class_sizes key.class.now)) →
+        OnOk result (TakesCells now (seen_as new root) (class_sizes key.class.now))
+    root-takes cells growth = subst (λ (k : Keys). OnOk result (TakesCells k (seen_as new root) (class_sizes key.class.now))) view_is (by result cells growth)
+      where
+        by : (r : Result (Unit {0}) ArenaFault) → OnOk r (Makes (heap_of bins) (heap_of new) (class_sizes key.class.now)) →
+            OnOk r (GrowsFor bins.bytes new.bytes (class_sizes key.class.now)) → OnOk r (TakesCells (seen_as bins root) (seen_as new root) (class_sizes key.class.now))
+        by (Ok x) m g = record { cells = m; growth = g }
+        by (Err x) m g = tt

@@ -1,16 +1,17 @@
 -- A tree as it is seen, where a key was built, or wasn't.
 use Rattle.std.proofs.Common.{◌≡◌, ℕ, [], ◌∷◌, length, refl, subst, arith, length-append}
-use Rattle.std.specs.Prelude.{Result, Ok, Err, OnOk, OnErr, IfOk}
+use Rattle.std.specs.Prelude.{◌⊎◌, Result, Ok, Err, OnOk, OnErr, IfOk, IfErr}
 use Rattle.std.specs.FinMap.{insert}
 use Rattle.reg_names.specs.Names.{folded}
 use Rattle.reg_heap.specs.Paths.{Path, Tree}
 use Rattle.reg_heap.specs.Edits.{child_path}
 use Rattle.reg_arena.specs.Arena.{Bins}
 use Rattle.reg_arena.specs.declared.ArenaFault.{ArenaFault}
+use Rattle.reg_arena.specs.declared.ArenaFault.TheVariants.{Full}
 use Rattle.reg_security.specs.Rings.{DescriptorCells}
 use Rattle.reg_tree.specs.declared.build.NewKey.{NewKey}
 use Rattle.reg_tree.specs.declared.node.Node.{Node}
-use Rattle.reg_tree.specs.BuiltKeys.{MayBuild, built_key}
+use Rattle.reg_tree.specs.BuiltKeys.{BuildsKey, LacksClassRoom, LacksKeyRoom, MayBuild, built_key}
 use Rattle.reg_tree.specs.TreeKeys.{Keys, tree_in, IsAt, IsThere, KeepsNodes}
 use Rattle.reg_tree.specs.Internal.KeyBuilding.{IsBuilt}
 use Rattle.reg_tree.specs.Internal.TreeInvariant.{TreeInvariant, IsHere}
@@ -61,3 +62,24 @@ module _ (bins : Bins) (root : ℕ) {table : DescriptorCells} (holds : TreeInvar
             subst (λ k. KeepsNodes k (seen_as new root)) view_is
             (λ q other at. record { offset = b.keeps q other.offset at.offset; depth = at.depth })
         by (Err fault) b = tt
+
+  -- what it took
+  pub builds_seen : (new : Bins) (result : Result Node ArenaFault) → ((t : IsHere bins.bytes parent.offset) → t.table ≡ table → parent.depth ≡ length t.path →
+      MayBuild (tree_in bins.bytes t.root) t.path key.name.now → OnOk result (BuildsKey (seen_as bins t.root) (seen_as new t.root) t.path (built_key key))) →
+      (p : Path) → IsAt now p parent → OnOk result (BuildsKey now (seen_as new root) p (built_key key))
+  builds_seen new result builds p at =
+      subst (λ (k : Keys). OnOk result (BuildsKey k (seen_as new root) p (built_key key))) view_is
+      (builds (here_at bins root holds now view_is parent p at) refl at.depth (may_at p at))
+
+  -- or what there was no room for
+  pub lacks_seen : (result : Result Node ArenaFault) → ((t : IsHere bins.bytes parent.offset) → t.table ≡ table → parent.depth ≡ length t.path →
+      MayBuild (tree_in bins.bytes t.root) t.path key.name.now → IfErr result (λ fault. fault ≡ Full →
+      LacksKeyRoom (seen_as bins t.root) t.path (built_key key) ⊎ LacksClassRoom (seen_as bins t.root) t.path (built_key key))) →
+      (p : Path) → IsAt now p parent → (result ≡ Err Full) → LacksKeyRoom now p (built_key key) ⊎ LacksClassRoom now p (built_key key)
+  lacks_seen result lacks p at e =
+      subst (λ (k : Keys). LacksKeyRoom k p (built_key key) ⊎ LacksClassRoom k p (built_key key)) view_is
+      (by result e (lacks (here_at bins root holds now view_is parent p at) refl at.depth (may_at p at)))
+    where
+      by : {X : Type 0} (r : Result Node ArenaFault) → r ≡ Err Full → IfErr r (λ fault. fault ≡ Full → X) → X
+      by (Ok node) f l = absurd (cc (f))
+      by (Err fault) f l = l (cc (f))

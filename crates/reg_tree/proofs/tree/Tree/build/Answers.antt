@@ -8,3 +8,11 @@ pub unreachable-requires : goal.unreachable-requires
 unreachable-requires c =
     never-full _ (length c.args.key.name.now) (length c.args.key.descriptor.now) (name_short c.args.key.name.now c.requires.name) c.requires.descriptor c.in-Ok.ensures.bin
     (c.dress_root.ensures.full (c.in-Err-Full.is ∙ ap (λ f. Err f) c.in-Err-Full.field-0-is))
+
+pub returns-in-Ok-dress_root-clause-builds : goal.returns-in-Ok-dress_root-clause-builds
+returns-in-Ok-dress_root-clause-builds c = record {
+  bare = c.in-Ok.tree;
+  begun = c.in-Ok.ensures.cells;
+  class = c.in-Ok-dress_root.ensures.takes;
+  tree = c.in-Ok-dress_root.ensures.ok;
+}

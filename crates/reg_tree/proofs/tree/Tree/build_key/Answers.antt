@@ -1,4 +1,4 @@
-use Rattle.reg_tree.proofs.BuildKey.BuiltSeen.{may_there, holds_built, built_seen, nodes_built}
+use Rattle.reg_tree.proofs.BuildKey.BuiltSeen.{may_there, holds_built, built_seen, builds_seen, lacks_seen, nodes_built}
 use Rattle.reg_tree.proofs.tree.Tree.build_key.Goals as goal
 
 pub build_below-requires-clause-here : goal.build_below-requires-clause-here
@@ -18,3 +18,11 @@ pub returns-clause-nodes : goal.returns-clause-nodes
 returns-clause-nodes c =
     nodes_built _ _ c.self.invariant _ c.self.view_is c.args.parent c.args.key c.requires.room c.build_below.new.arena c.build_below.new.securities c.build_below.result
     c.build_below.ensures.ok c.requires.parent
+
+pub returns-clause-builds : goal.returns-clause-builds
+returns-clause-builds c =
+    builds_seen _ _ c.self.invariant _ c.self.view_is c.args.parent c.args.key c.requires.room c.build_below.new.arena c.build_below.result c.build_below.ensures.builds
+
+pub returns-clause-space : goal.returns-clause-space
+returns-clause-space c =
+    lacks_seen _ _ c.self.invariant _ c.self.view_is c.args.parent c.args.key c.requires.room c.build_below.result c.build_below.ensures.space

@@ -1,4 +1,4 @@
-use Rattle.reg_tree.proofs.BuildKey.BuiltRoot.{root-here, root-may, root-bare, root-holds, root-built}
+use Rattle.reg_tree.proofs.BuildKey.BuiltRoot.{root-here, root-may, root-bare, root-holds, root-built, root-takes}
 use Rattle.reg_tree.proofs.tree.Tree.dress_root.Goals as goal
 
 pub dress-requires-clause-here : goal.dress-requires-clause-here
@@ -15,3 +15,8 @@ invariant_of-self c = root-holds _ _ c.self.invariant _ c.self.view_is c.args.ke
 
 pub returns-clause-ok : goal.returns-clause-ok
 returns-clause-ok c = root-built _ _ c.self.invariant _ c.self.view_is c.args.key c.requires.root c.dress.new.arena c.dress.result c.dress.ensures.ok c.dress.ensures.err
+
+pub returns-clause-takes : goal.returns-clause-takes
+returns-clause-takes c =
+    root-takes _ _ c.self.invariant _ c.self.view_is c.args.key c.requires.root c.dress.new.arena c.dress.result c.dress.ensures.ok c.dress.ensures.err
+    c.dress.ensures.cells c.dress.ensures.growth
