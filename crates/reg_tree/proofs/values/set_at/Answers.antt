@@ -1,9 +1,11 @@
 use Rattle.std.proofs.Common.{◌≡◌, ◌∙◌, Err, ap, subst, length, arith}
+use Rattle.reg_arena.specs.EachCell.{GrowsFor}
 use Rattle.reg_heap.specs.Members.{index_named}
 use Rattle.reg_tree.specs.CellSizes.{LacksRoom}
 use Rattle.reg_tree.proofs.Invariant.KeyOfTree.{key_there, list_values, list_reads, list_length}
 use Rattle.reg_tree.proofs.ValueChange.TreeAfterValueChange.{key_mid, set_changed, set_lengths}
 use Rattle.reg_tree.proofs.KeyAnswers.RefinementOfValues.{to_members, if_err}
+use Rattle.reg_tree.proofs.InsertKey.CreatePathMade.{growth-then}
 use Rattle.reg_tree.proofs.InsertKey.MadeCells.{makes_after, set_of_key, sizes_of_key}
 use Rattle.reg_tree.proofs.values.set_at.Goals as goal
 
@@ -47,3 +49,9 @@ returns-in_err-list-clause-space c = if_err _ c.from_residual.result _ c.from_re
     let e = c.in_err-list.was ∙ ap (λ f. Err f) full in
     subst (LacksRoom c.args.arena.now) (sizes_of_key _ c.args.key _ _ c.args.name.now (length c.args.bytes.now) (key_there _ _ c.requires.place.0) c.values_list-old.ensures)
     (c.set_at.ensures.some e, c.set_at.ensures.full e, c.set_at.ensures.limit e))
+
+pub returns-clause-growth : goal.returns-clause-growth
+returns-clause-growth c =
+    growth-then _ _ _ _ c.note_values.ensures.long
+    (subst (GrowsFor c.args.arena.now.bytes c.set_at.new.arena.bytes)
+    (sizes_of_key _ c.args.key _ _ c.args.name.now (length c.args.bytes.now) (key_there _ _ c.requires.place.0) c.values_list-old.ensures) c.in_ok-list.ensures.growth)
