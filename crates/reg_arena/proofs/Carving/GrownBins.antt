@@ -1,6 +1,6 @@
 -- How the bins grow for the cells of a change: not at all where a free cell has room for all of them together.
 use Rattle.std.proofs.Common.{◌≡◌, ℕ, zero, suc, ◌+◌, ◌-◌, ◌<◌, ◌≤◌, ◌%◌, ◌⊎◌, inl, inr, Bool, false, true, cond, List, [], ◌∷◌, ◌++◌, length, get_or, set}
-use Rattle.std.proofs.Common.{refl, sym, ap, ◌∙◌, subst, arith, eqb, ltb, Option, Some, Ok, Err}
+use Rattle.std.proofs.Common.{refl, sym, ap, ◌∙◌, subst, arith, ltb, Option, Some, Ok, Err}
 use Rattle.std.specs.Prelude.{OnOk}
 use Rattle.std.specs.List.{AllByRecursion}
 use Rattle.std.specs.declared.result.Result.{Result}
@@ -10,8 +10,8 @@ use Rattle.reg_heap.specs.Kinds.{times}
 use Rattle.reg_heap.specs.Heaps.{AreNew}
 use Rattle.reg_arena.specs.declared.ArenaFault.{ArenaFault}
 use Rattle.reg_arena.specs.declared.Cell.{Cell}
-use Rattle.reg_arena.specs.Cells.{cells_of, cell_at}
-use Rattle.reg_arena.specs.NewCells.{AreSizes, total_of, unused, carved}
+use Rattle.reg_arena.specs.Cells.{cell_at}
+use Rattle.reg_arena.specs.NewCells.{AreSizes, total_of, carved}
 use Rattle.reg_arena.specs.Carves.{AddsCells, Carves, CarvesExactly, IsRoom, NoFit, rest_of}
 use Rattle.reg_arena.specs.EachCell.{fresh_of, at_places, EachExactly, EachFalling, HasRoomForEach, GrowsFor}
 use Rattle.reg_arena.proofs.Contents.CellWrites.{all-append}
@@ -151,7 +151,7 @@ total-turn (place ∷ turn) sizes t =
     let here = turn-here sizes place turn t in
     let same = at_places-set sizes place 0 turn here.1 in
     let rest = total-turn turn (set sizes place 0) (subst (λ (n : ℕ). (q : IsTurn sizes turn) → IsTurn (set sizes place 0) turn) (length-set sizes place 0)
-      (λ q. record { once = q.once; within = λ p l. q.within p (let long = length-set sizes place 0 in omega (arith, long, l)) }) (turn-rest sizes place turn t)) in
+    (λ q. record { once = q.once; within = λ p l. q.within p (let long = length-set sizes place 0 in omega (arith, long, l)) }) (turn-rest sizes place turn t)) in
     let all = total-set sizes place here.0 in
     let e : total_of (at_places (set sizes place 0) turn) ≡ total_of (at_places sizes turn) = ap total_of same in
     omega (arith, rest, all, e)
