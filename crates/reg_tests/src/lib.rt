@@ -18,6 +18,8 @@ mod dumps;
 #[cfg(test)]
 mod fakes;
 #[cfg(test)]
+mod fault_texts;
+#[cfg(test)]
 mod foreign;
 #[cfg(test)]
 mod hives;
