@@ -1,11 +1,17 @@
 -- `clap`'s command is the one that the rules name, and what `clap` finds in some words.
-use Rattle.std.proofs.Common.{◌≡◌, ◌∙◌, List, [], ◌∷◌, ℕ, Bool, ap, ap₂, subst, sym, refl, true, false, codes}
-use Rattle.clap.specs.Words.{App, HasKind, HasMatchesOf, Kinds, Rule, app_of, fault_of, is_simple, is_simple_and_free, new_app, shape_of, subcommand_of, subcommand_rows_of, with_rule, with_subcommand}
+use Rattle.std.proofs.Common.{◌≡◌, ◌∙◌, List, [], ◌∷◌, ℕ, Bool, ap, ap₂, subst, sym, refl, true, false, codes, inl, inr}
+use Rattle.std.specs.Prelude.{Option, Some, None, Result, Ok, Err, IfErr}
+use Rattle.std.specs.Result.{IsErrAnd}
+use Rattle.clap.specs.Values.{kind_of}
+use Rattle.clap.specs.declared.error.kind.ErrorKind.TheVariants.{OutOfMemory}
+use Rattle.clap.specs.Words.{App, FailsBy, HasKind, HasMatchesOf, IsAmong, Kinds, Row, Rule, Text, app_of, fault_of, is_simple, is_simple_and_free, new_app, shape_of, subcommand_of, subcommand_rows_of, with_rule, with_subcommand}
 use Rattle.clap.specs.declared.builder.command.Command.{Command}
 use Rattle.clap.specs.declared.error.Error.{Error}
 use Rattle.clap.proofs.OnLiterals.{clap_on_literals}
 use Rattle.clap.specs.declared.parser.matches.ArgMatches.{ArgMatches}
-use Rattle.reg_command.specs.CommandLines.{required, image_option, regtool, faults_in, found_in}
+use Rattle.reg_command.specs.CommandLines.{required, image_option, regtool, faults_in, found_in, AsksIn, AsksNothing, IsCommandLine}
+use Rattle.reg_command.specs.Internal.Readings.{IsRead, IsUnread}
+use Rattle.reg_command.specs.declared.words.Request.{Request}
 
 simple : is_simple_and_free regtool ≡ true
 unfolding regtool clap_on_literals
@@ -42,6 +48,29 @@ refused app words e is given = subst (λ (a : App). HasKind (fault_of a words) e
 pub found : (app : App) (words : List (List ℕ)) (m : ArgMatches) → app ≡ regtool → HasMatchesOf app words m → subcommand_rows_of m ≡ found_in words
 unfolding found_in
 found app words m is has = (has (ap is_simple is ∙ plain)).1 ∙ ap (λ (a : App). subcommand_of a words) is
+
+-- `clap`'s error, or want of memory, is one of words that ask for nothing
+pub unread : {T : Type 0} (words : List (List ℕ)) (r : Result T Error) → FailsBy (faults_in words) r → IfErr r (λ e. IsUnread words e)
+unread words (Ok v) h = record {}
+unread words (Err e) (inl memory) = λ other request is. other memory
+unread words (Err e) (inr among) = λ other request is. subst (IsAmong (kind_of e)) is.taken among
+
+-- want of memory on the way
+pub memory_unread : {T : Type 0} (words : List (List ℕ)) (r : Result T Error) → IsErrAnd r (λ e. kind_of e ≡ OutOfMemory)
+    → IfErr r (λ e. IsUnread words e)
+memory_unread words (Ok v) h = record {}
+memory_unread words (Err e) h = λ other request is. other h
+
+-- what the matches ask for is what the words ask for
+pub asked_for : (words : List (List ℕ)) (found : Option (Text × List Row)) (asked : Option Request) (request : Request) →
+    faults_in words ≡ [] → found ≡ found_in words → IsRead found asked → asked ≡ Some request → IsCommandLine words request
+asked_for words found asked request taken is read e =
+    record { taken = taken; asks = subst (λ (o : Option (Text × List Row)). AsksIn o request) is (subst (IsRead found) e read) }
+
+pub asked_for_none : (words : List (List ℕ)) (found : Option (Text × List Row)) (asked : Option Request) →
+    found ≡ found_in words → IsRead found asked → asked ≡ None → AsksNothing words
+asked_for_none words found asked is read e request command =
+    subst (IsRead found) e read request (subst (λ (o : Option (Text × List Row)). AsksIn o request) (sym is) command.asks)
 
 -- ---- the command lines of the tests
 

@@ -67,3 +67,7 @@ AsksIn None request = ⊥
 pub record IsCommandLine (words : List (List ℕ)) (request : Request) : Type 0 where
   pub taken : faults_in words ≡ []
   pub asks : AsksIn (found_in words) request
+
+-- these words are no command line of the tool: whatever is asked, they don't ask for it
+abbrev pub AsksNothing : List (List ℕ) → Type 0
+AsksNothing words = (request : Request) → IsCommandLine words request → ⊥

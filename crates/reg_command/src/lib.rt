@@ -47,9 +47,7 @@ fn ask(alloc: Global, words: &[String]) -> Result<Request, Failure>
     ensures err { IfErr result (λ failure. IsBefore (texts words.now) failure) }
 {
     match read_words(alloc, words) {
-        Ok(Some(request)) => Ok(request),
-        // `clap` lets no such words through; only an error of its own may be told as one of the command line.
-        Ok(None) => Err(Failure::NoMemory),
+        Ok(request) => Ok(request),
         Err(error) => Err(usage(alloc, &error)),
     }
 }
