@@ -85,9 +85,6 @@ pub fn read_words<'a>(alloc: Global, words: &'a [String]) -> Result<Request, Err
     match asked(&matches) {
         Some(request) => Ok(request),
         // Words that `clap` takes though they ask for nothing are told in its own manner, with the usage.
-        None => Err(command.error(
-            ErrorKind::InvalidSubcommand,
-            "the words ask for nothing",
-        )?),
+        None => Err(command.error(ErrorKind::InvalidSubcommand, "the words ask for nothing")?),
     }
 }
