@@ -25,7 +25,8 @@ module _ (whole with_dump with_run top run new_run dump check : Command) (image 
     (adds_check : app_of whole ≡ with_subcommand (app_of with_dump) (shape_of check))
     (adds_dump : app_of with_dump ≡ with_subcommand (app_of with_run) (shape_of dump))
     (adds_run : app_of with_run ≡ with_subcommand (app_of top) (shape_of run)) (top_is : app_of top ≡ required (new_app (codes "regtool")))
-    (adds_image : app_of run ≡ with_rule (app_of new_run) image) (run_is : app_of new_run ≡ new_app (codes "run")) (image_is : image ≡ image_option)
+    (adds_image : app_of run ≡ with_rule (app_of new_run) image) (run_is : app_of new_run ≡ new_app (codes "run"))
+    (image_is : image ≡ image_option)
     (dump_is : app_of dump ≡ new_app (codes "dump")) (check_is : app_of check ≡ new_app (codes "check")) where
   pub command_is : app_of whole ≡ regtool
   unfolding regtool
@@ -36,16 +37,19 @@ module _ (whole with_dump with_run top run new_run dump check : Command) (image 
       (ap (λ (a : App). a.top) dump_is))
       (ap (λ (a : App). a.top) check_is)
 
-pub taken : (app : App) (words : List (List ℕ)) → app ≡ regtool → (is_simple_and_free app ≡ true → fault_of app words ≡ []) → faults_in words ≡ []
+pub taken : (app : App) (words : List (List ℕ)) → app ≡ regtool → (is_simple_and_free app ≡ true → fault_of app words ≡ []) →
+    faults_in words ≡ []
 unfolding faults_in
 taken app words is given = sym (ap (λ (a : App). fault_of a words) is) ∙ given (ap is_simple_and_free is ∙ simple)
 
-pub refused : (app : App) (words : List (List ℕ)) (e : Error) → app ≡ regtool → (is_simple_and_free app ≡ true → HasKind (fault_of app words) e) → HasKind (faults_in words) e
+pub refused : (app : App) (words : List (List ℕ)) (e : Error) → app ≡ regtool →
+    (is_simple_and_free app ≡ true → HasKind (fault_of app words) e) → HasKind (faults_in words) e
 unfolding faults_in
 refused app words e is given = subst (λ (a : App). HasKind (fault_of a words) e) is (given (ap is_simple_and_free is ∙ simple))
 
 -- the subcommand that a parse entered is the one that the words name
-pub found : (app : App) (words : List (List ℕ)) (m : ArgMatches) → app ≡ regtool → HasMatchesOf app words m → subcommand_rows_of m ≡ found_in words
+pub found : (app : App) (words : List (List ℕ)) (m : ArgMatches) → app ≡ regtool → HasMatchesOf app words m →
+    subcommand_rows_of m ≡ found_in words
 unfolding found_in
 found app words m is has = (has (ap is_simple is ∙ plain)).1 ∙ ap (λ (a : App). subcommand_of a words) is
 

@@ -59,7 +59,8 @@ fn answer<R: Read, W: Write>(
     input: &mut R,
     output: &mut W,
 ) -> Result<(), Stop>
-    ensures ok { OnOk result (Does request (R.remaining input.old) (R.remaining input.new) (W.contents output.old) (W.contents output.new)) }
+    ensures ok { OnOk result
+        (Does request (R.remaining input.old) (R.remaining input.new) (W.contents output.old) (W.contents output.new)) }
     ensures err { IfErr result (λ stop. Stops request stop (R.remaining input.old) (R.remaining input.new) (W.contents output.old)
         (W.contents output.new)) }
 {
@@ -136,7 +137,8 @@ pub fn tool<R: Read, W: Write, E: Write>(
     ensures stopped { result ≡ 1 →
         IsStopped (texts words.items) (R.remaining input.old) (R.remaining input.new) (W.contents output.old)
         (W.contents output.new) }
-    ensures usage { result ≡ 2 → IsRefused (texts words.items) (R.remaining input.old) (R.remaining input.new) (W.contents output.old) (W.contents output.new) }
+    ensures usage { result ≡ 2 →
+        IsRefused (texts words.items) (R.remaining input.old) (R.remaining input.new) (W.contents output.old) (W.contents output.new) }
 {
     match attempt(alloc, words.as_slice(), input, output) {
         Ok(()) => 0,

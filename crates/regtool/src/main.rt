@@ -5,7 +5,7 @@
 //! clause can say; its one contract is that of what it tells of such arguments.
 #![tactic(auto)]
 
-ghost use Rattle.std.specs.Prelude.{◌≡◌, ◌≢◌, ◌×◌, codes};
+ghost use Rattle.std.specs.Prelude.{◌≡◌, ◌≢◌, codes};
 
 pub use reg_command::tool;
 use std::io::ErrorKind;

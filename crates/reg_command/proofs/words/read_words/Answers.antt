@@ -56,7 +56,8 @@ returns-clause-refuses c =
     let run_local = c.in_ok-run.ensures.globals ∙ ap₂ (λ (a b : Bool). a || b) local_is global_is in
     let is = command_is _ _ _ _ _ _ _ _ _ (c.in_ok-command.ensures.shape (search rules)) (c.in_ok-subcommand-2.ensures.shape (search rules))
     (c.in_ok-subcommand.ensures.shape run_local) top_is (c.in_ok-run.ensures.shape global_is) run_is image_is dump_is check_is in
-    λ other. asked_for_none _ _ c.asked.result (found _ _ c.in_ok-matches.matches is c.in_ok-matches.ensures.ok.2) c.asked.ensures c.in-None.is
+    λ other. asked_for_none _ _ c.asked.result
+    (found _ _ c.in_ok-matches.matches is c.in_ok-matches.ensures.ok.2) c.asked.ensures c.in-None.is
 
 pub returns-in-Some-clause-asks : goal.returns-in-Some-clause-asks
 returns-in-Some-clause-asks c =
@@ -82,10 +83,13 @@ returns-in-Some-clause-asks c =
     (found _ _ c.in_ok-matches.matches is c.in_ok-matches.ensures.ok.2) c.asked.ensures c.in-Some.is
 
 pub returns-in_err-subcommand-clause-refuses : goal.returns-in_err-subcommand-clause-refuses
-returns-in_err-subcommand-clause-refuses c = memory_unread _ c.from_residual-in_err-subcommand.result c.from_residual-in_err-subcommand.ensures.1
+returns-in_err-subcommand-clause-refuses c =
+    memory_unread _ c.from_residual-in_err-subcommand.result c.from_residual-in_err-subcommand.ensures.1
 
 pub returns-in_err-subcommand-2-clause-refuses : goal.returns-in_err-subcommand-2-clause-refuses
-returns-in_err-subcommand-2-clause-refuses c = memory_unread _ c.from_residual-in_err-subcommand-2.result c.from_residual-in_err-subcommand-2.ensures.1
+returns-in_err-subcommand-2-clause-refuses c =
+    memory_unread _ c.from_residual-in_err-subcommand-2.result c.from_residual-in_err-subcommand-2.ensures.1
 
 pub returns-in_err-error-in-None-clause-refuses : goal.returns-in_err-error-in-None-clause-refuses
-returns-in_err-error-in-None-clause-refuses c = memory_unread _ c.from_residual-in_err-error-in-None.result c.from_residual-in_err-error-in-None.ensures.1
+returns-in_err-error-in-None-clause-refuses c =
+    memory_unread _ c.from_residual-in_err-error-in-None.result c.from_residual-in_err-error-in-None.ensures.1
