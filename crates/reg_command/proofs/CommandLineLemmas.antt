@@ -9,9 +9,10 @@ use Rattle.clap.specs.declared.builder.command.Command.{Command}
 use Rattle.clap.specs.declared.error.Error.{Error}
 use Rattle.clap.proofs.OnLiterals.{clap_on_literals}
 use Rattle.clap.specs.declared.parser.matches.ArgMatches.{ArgMatches}
-use Rattle.reg_command.specs.CommandLines.{required, image_option, regtool, faults_in, found_in, AsksIn, AsksNothing, IsCommandLine}
+use Rattle.reg_command.specs.CommandLines.{required, image_option, regtool, faults_in, found_in, AsksIn, AsksNothing, IsCommandLine, IsNamed}
 use Rattle.reg_command.specs.Internal.Readings.{IsRead, IsUnread}
 use Rattle.reg_command.specs.declared.words.Request.{Request}
+use Rattle.reg_command.specs.declared.words.Request.TheVariants.{Run, Dump, Check}
 
 simple : is_simple_and_free regtool ≡ true
 unfolding regtool clap_on_literals
@@ -65,11 +66,51 @@ pub memory_unread : {T : Type 0} (words : List (List ℕ)) (r : Result T Error) 
 memory_unread words (Ok v) h = record {}
 memory_unread words (Err e) h = λ other request is. other h
 
+-- `clap` finds no fault
+abbrev is_none : Kinds → Bool
+is_none [] = true
+is_none (k ∷ ks) = false
+
+-- ---- words that `clap` never takes
+
+no_words_is_none : is_none (faults_in []) ≡ false
+unfolding faults_in regtool clap_on_literals
+no_words_is_none = refl
+
+no_command_is_none : (program : List ℕ) → is_none (faults_in (program ∷ [])) ≡ false
+unfolding faults_in regtool clap_on_literals
+no_command_is_none program = refl
+
+help_is_none : (program : List ℕ) (more : List (List ℕ)) → is_none (faults_in (program ∷ codes "--help" ∷ more)) ≡ false
+unfolding faults_in regtool clap_on_literals
+help_is_none program more = refl
+
+short_help_is_none : (program : List ℕ) (more : List (List ℕ)) → is_none (faults_in (program ∷ codes "-h" ∷ more)) ≡ false
+unfolding faults_in regtool clap_on_literals
+short_help_is_none program more = refl
+
+help_command_is_none : (program : List ℕ) (more : List (List ℕ)) → is_none (faults_in (program ∷ codes "help" ∷ more)) ≡ false
+unfolding faults_in regtool clap_on_literals
+help_command_is_none program more = refl
+
+some_fault : (kinds : Kinds) → is_none kinds ≡ false → kinds ≡ [] → ⊥
+some_fault [] fault is = cc
+some_fault (k ∷ ks) fault is = cc
+
+pub named : (words : List (List ℕ)) → faults_in words ≡ [] → IsNamed words
+named [] taken = some_fault _ no_words_is_none taken
+named (program ∷ []) taken = some_fault _ (no_command_is_none program) taken
+named (program ∷ word ∷ more) taken = (
+  λ is. some_fault _ (help_is_none program more) (subst (λ (w : List ℕ). faults_in (program ∷ w ∷ more) ≡ []) is taken),
+  λ is. some_fault _ (short_help_is_none program more) (subst (λ (w : List ℕ). faults_in (program ∷ w ∷ more) ≡ []) is taken),
+  λ is. some_fault _ (help_command_is_none program more) (subst (λ (w : List ℕ). faults_in (program ∷ w ∷ more) ≡ []) is taken),
+)
+
 -- what the matches ask for is what the words ask for
 pub asked_for : (words : List (List ℕ)) (found : Option (Text × List Row)) (asked : Option Request) (request : Request) →
     faults_in words ≡ [] → found ≡ found_in words → IsRead found asked → asked ≡ Some request → IsCommandLine words request
 asked_for words found asked request taken is read e =
-    record { taken = taken; asks = subst (λ (o : Option (Text × List Row)). AsksIn o request) is (subst (IsRead found) e read) }
+    record { named = named words taken; taken = taken; asks = subst (λ (o : Option (Text × List Row)). AsksIn o request) is (subst (IsRead found) e read) }
 
 pub asked_for_none : (words : List (List ℕ)) (found : Option (Text × List Row)) (asked : Option Request) →
     found ≡ found_in words → IsRead found asked → asked ≡ None → AsksNothing words
@@ -78,22 +119,9 @@ asked_for_none words found asked is read e request command =
 
 -- ---- the command lines of the tests
 
--- `clap` finds no fault
-abbrev is_none : Kinds → Bool
-is_none [] = true
-is_none (k ∷ ks) = false
-
 run_is_one : faults_in (codes "regtool" ∷ codes "run" ∷ []) ≡ []
 unfolding faults_in regtool clap_on_literals
 run_is_one = refl
-
-no_command_is_none : is_none (faults_in (codes "regtool" ∷ [])) ≡ false
-unfolding faults_in regtool clap_on_literals
-no_command_is_none = refl
-
-no_words_is_none : is_none (faults_in []) ≡ false
-unfolding faults_in regtool clap_on_literals
-no_words_is_none = refl
 
 another_command_is_none : is_none (faults_in (codes "regtool" ∷ codes "frob" ∷ [])) ≡ false
 unfolding faults_in regtool clap_on_literals
@@ -103,10 +131,20 @@ a_word_more_is_none : is_none (faults_in (codes "regtool" ∷ codes "run" ∷ co
 unfolding faults_in regtool clap_on_literals
 a_word_more_is_none = refl
 
-help_is_none : is_none (faults_in (codes "regtool" ∷ codes "--help" ∷ [])) ≡ false
-unfolding faults_in regtool clap_on_literals
-help_is_none = refl
-
 help_of_run_is_none : is_none (faults_in (codes "regtool" ∷ codes "run" ∷ codes "--help" ∷ [])) ≡ false
 unfolding faults_in regtool clap_on_literals
 help_of_run_is_none = refl
+
+-- ---- words that are command lines, and what they ask for
+
+run_asks : IsCommandLine (codes "regtool" ∷ codes "run" ∷ []) Run
+unfolding faults_in found_in regtool clap_on_literals
+run_asks = record { named = named (codes "regtool" ∷ codes "run" ∷ []) refl; taken = refl; asks = (refl, refl) }
+
+dump_asks : IsCommandLine (codes "regtool" ∷ codes "dump" ∷ []) Dump
+unfolding faults_in found_in regtool clap_on_literals
+dump_asks = record { named = named (codes "regtool" ∷ codes "dump" ∷ []) refl; taken = refl; asks = refl }
+
+check_asks : IsCommandLine (codes "regtool" ∷ codes "check" ∷ []) Check
+unfolding faults_in found_in regtool clap_on_literals
+check_asks = record { named = named (codes "regtool" ∷ codes "check" ∷ []) refl; taken = refl; asks = refl }

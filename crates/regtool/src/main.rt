@@ -27,9 +27,7 @@ fn unread(kind: ErrorKind) -> (&'static str, u8)
 fn main(rt: HostRuntime) -> ExitCode {
     let alloc = rt.alloc();
     let read = match env::args(&rt) {
-        Ok(args) => args
-            .collect(alloc)
-            .map_err(|_| ErrorKind::OutOfMemory),
+        Ok(args) => args.collect(alloc).map_err(|_| ErrorKind::OutOfMemory),
         Err(error) => Err(error.kind()),
     };
     let words = match read {
