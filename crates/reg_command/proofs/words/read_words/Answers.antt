@@ -1,5 +1,5 @@
 -- `clap`'s command is the tool's, so that its clauses are about the tool's words.
-use Rattle.std.proofs.Common.{◌∙◌, ◌||◌, ap, ap₂, subst, rules, codes, List, Bool}
+use Rattle.std.proofs.Common.{◌∙◌, ◌||◌, ap, ap₂, rules, codes, Bool}
 use Rattle.std.specs.Prelude.{Option, Some}
 use Rattle.clap.specs.Simple.{app_of_fields}
 use Rattle.clap.specs.Words.{Rule, rule_of}
