@@ -17,20 +17,23 @@ IsAsked E rows (Ok (Some sequence)) = AsksOfRun rows (Image sequence)
 IsAsked E rows (Err e) = (request : Request) → AsksOfRun rows request → ⊥
 
 -- no text, no number
-without_text : (E : Type 0) (rows : List Row) (r : Result (Option ℕ) E) → one_of (codes "image") rows ≡ None → r ≡ Ok None → IsAsked E rows r
+without_text : (E : Type 0) (rows : List Row) (r : Result (Option ℕ) E) → one_of (codes "image") rows ≡ None → r ≡ Ok None →
+    IsAsked E rows r
 without_text E rows r none e = subst (IsAsked E rows) (sym e) none
 
 same_text : (rows : List Row) (t u : Text) → one_of (codes "image") rows ≡ Some t → one_of (codes "image") rows ≡ Some u → u ≡ t
 same_text rows t u a b = search (a, b)
 
-no_request : (rows : List Row) (t : Text) → one_of (codes "image") rows ≡ Some t → ((n : ℕ) → IsNumber t n → ⊥) → (request : Request) → AsksOfRun rows request → ⊥
+no_request : (rows : List Row) (t : Text) → one_of (codes "image") rows ≡ Some t → ((n : ℕ) → IsNumber t n → ⊥) → (request : Request) →
+    AsksOfRun rows request → ⊥
 no_request rows t some never Run h = cc
 no_request rows t some never (Image n) h = never n (subst (λ (u : Text). IsNumber u n) (same_text rows t h.0 some h.1) h.2)
 no_request rows t some never Dump h = h
 no_request rows t some never Check h = h
 
 with_text : (E : Type 0) (G : List ℕ → Result ℕ E → Type 0) (rows : List Row) (t : Text) (r : Result (Option ℕ) E) →
-    ((u : List ℕ) (x : Result ℕ E) → G u x → ParsesUnsigned 32 10 u x) → one_of (codes "image") rows ≡ Some t → TriesOne G t r → IsAsked E rows r
+    ((u : List ℕ) (x : Result ℕ E) → G u x → ParsesUnsigned 32 10 u x) → one_of (codes "image") rows ≡ Some t → TriesOne G t r →
+    IsAsked E rows r
 with_text E G rows t (Ok None) only some h = absurd h
 with_text E G rows t (Ok (Some n)) only some h =
     let p = only t (Ok n) h in (t, some, record { numeral = p.0.0; small = p.0.1; value = p.1 })

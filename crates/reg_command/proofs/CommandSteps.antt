@@ -23,7 +23,8 @@ use Rattle.reg_command.specs.declared.failure.Stop.TheVariants.{Script, Load, Wr
 
 module _ (fresh last : View) (unread left : Option (List ℕ)) (is_fresh : IsFresh fresh) (at_end : IsAtEnd left) where
   pub runs : (before after : Option (List ℕ)) →
-      ((script : List ℕ) × (text : List ℕ) × Consumes unread left script × Lines fresh script text last × Appends before after text × AreWithin (lines_of script))
+      ((script : List ℕ) × (text : List ℕ) × Consumes unread left script × Lines fresh script text last × Appends before after text ×
+      AreWithin (lines_of script))
       → RunsScript unread left before after
   runs before after h = record {
     at_end = at_end;
@@ -35,7 +36,8 @@ module _ (fresh last : View) (unread left : Option (List ℕ)) (is_fresh : IsFre
   }
 
   pub leads : (moment : ℕ) (told kept : Option (List ℕ)) →
-      ((script : List ℕ) × (text : List ℕ) × Consumes unread left script × LinesTo fresh script text last moment × Appends told kept text × AreWithin (lines_of script))
+      ((script : List ℕ) × (text : List ℕ) × Consumes unread left script × LinesTo fresh script text last moment ×
+      Appends told kept text × AreWithin (lines_of script))
       → LeadsTo unread left last moment
   leads moment told kept h =
       record { at_end = at_end; script = h.0; consumed = h.2; fresh = fresh; is_fresh = is_fresh; text = h.1; lines = h.3 }
@@ -46,7 +48,8 @@ stops_fresh fault fresh last unread left before after is_fresh h =
     record { fresh = fresh; is_fresh = is_fresh; last = last; stops = h }
 
 -- what ended the image's writing ended the command
-pub image_stops : (sequence : ℕ) (last : View) (moment : ℕ) (stop : Stop) (unread left before after : Option (List ℕ)) → LeadsTo unread left last moment →
+pub image_stops : (sequence : ℕ) (last : View) (moment : ℕ) (stop : Stop) (unread left before after : Option (List ℕ)) →
+    LeadsTo unread left last moment →
     SendStops (image_at last moment sequence) stop before after → ImageStops sequence stop unread left before after
 image_stops sequence last moment (Write written) unread left before after leads h = (last, moment, leads, h)
 image_stops sequence last moment Memory unread left before after leads h = (h, inr (last, moment, leads))
@@ -65,11 +68,13 @@ reads tree view unread left is h = record {
 }
 
 pub meets : (fault : LoadFault) (unread left : Option (List ℕ)) →
-    ((image : List ℕ) × Consumes unread left image × (length image ≤ 4096 + BINS_LIMIT) × IsRefused fault image left) → MeetsFault fault unread left
+    ((image : List ℕ) × Consumes unread left image × (length image ≤ 4096 + BINS_LIMIT) × IsRefused fault image left) →
+    MeetsFault fault unread left
 meets fault unread left h = record { image = h.0; consumed = h.1; within = h.2; refused = h.3 }
 
 module _ (text_of : Tree → List ℕ) (unread left before after : Option (List ℕ)) where
-  pub tells : (tree : Tree) → ReadsImage unread left tree → Appends before after (text_of tree) → TellsImage text_of unread left before after
+  pub tells : (tree : Tree) → ReadsImage unread left tree → Appends before after (text_of tree) →
+      TellsImage text_of unread left before after
   tells tree reads appended = record { tree = tree; reads = reads; appended = appended }
 
   pub tell_stops : (tree : Tree) (stop : Stop) → ReadsImage unread left tree → TellingStops (text_of tree) stop before after

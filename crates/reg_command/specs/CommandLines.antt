@@ -1,5 +1,5 @@
 -- The tool's command line (this project's own).
-use Rattle.std.specs.Prelude.{ℕ, ◌<◌, ◌≡◌, List, [], map, codes, pos, Option, Some, None, true, string_bytes, String}
+use Rattle.std.specs.Prelude.{ℕ, ◌<◌, ◌≡◌, ◌≢◌, List, [], ◌∷◌, map, codes, pos, Option, Some, None, true, string_bytes, String}
 use Rattle.std.specs.Str.Parse.{IsNumeral, digits_value, without_leading_plus}
 use Rattle.clap.specs.Words.{App, Kinds, Row, Rule, Text, fault_of, new_app, new_rule, one_of, subcommand_of, with_rule, with_subcommand}
 use Rattle.clap.specs.declared.builder.value_parser.ValueParser.TheVariants as parser
@@ -63,7 +63,18 @@ abbrev pub AsksIn : Option (Text × List Row) → Request → Type 0
 AsksIn (Some found) request = Asks found request
 AsksIn None request = ⊥
 
+-- a word stands behind the program's name, and it doesn't ask for help
+abbrev pub IsNamed : List (List ℕ) → Type 0
+IsNamed [] = ⊥
+IsNamed (program ∷ []) = ⊥
+IsNamed (program ∷ word ∷ more) = (word ≢ codes "--help") × (word ≢ codes "-h") × (word ≢ codes "help")
+
 -- these words are a command line of the tool, which asks for that: `clap` takes them
 pub record IsCommandLine (words : List (List ℕ)) (request : Request) : Type 0 where
+  pub named : IsNamed words
   pub taken : faults_in words ≡ []
   pub asks : AsksIn (found_in words) request
+
+-- these words are no command line of the tool: whatever is asked, they don't ask for it
+abbrev pub AsksNothing : List (List ℕ) → Type 0
+AsksNothing words = (request : Request) → IsCommandLine words request → ⊥

@@ -1,5 +1,5 @@
 -- What ended the tool early (this project's own).
-use Rattle.std.specs.Prelude.{◌≡◌, ◌≢◌, ℕ, ◌≤◌, ◌⊎◌, List, [], Option, length, take}
+use Rattle.std.specs.Prelude.{◌≡◌, ◌≢◌, ℕ, ◌≤◌, ◌⊎◌, List, Option, length, take}
 use Rattle.std.specs.Io.KnownBytes.{Appends}
 use Rattle.clap.specs.declared.error.kind.ErrorKind.{ErrorKind}
 use Rattle.clap.specs.declared.error.kind.ErrorKind.TheVariants.{OutOfMemory}
@@ -8,7 +8,7 @@ use Rattle.reg_heap.specs.Paths.{Tree}
 use Rattle.reg_image.specs.declared.LoadFault.{LoadFault}
 use Rattle.reg_script.specs.Stops.{StopsFresh}
 use Rattle.reg_dump.specs.DumpTexts.{dump_text, check_text}
-use Rattle.reg_command.specs.CommandLines.{faults_in, IsCommandLine}
+use Rattle.reg_command.specs.CommandLines.{AsksNothing, IsCommandLine}
 use Rattle.reg_command.specs.ScriptRuns.{RunsScript, LeadsTo, WritesImage, image_at}
 use Rattle.reg_command.specs.ImageRuns.{ReadsImage, TellsImage, MeetsFault, fault_line}
 use Rattle.reg_command.specs.declared.words.Request.{Request}
@@ -80,9 +80,9 @@ pub record IsDone (words : List (List ℕ)) (unread left before after told_befor
   pub does : Does request unread left before after
   pub silent : told_after ≡ told_before
 
--- `clap` doesn't take these words, and nothing was touched
+-- these words ask for nothing, and nothing was touched
 abbrev pub IsRefused : List (List ℕ) → (unread left before after : Option (List ℕ)) → Type 0
-IsRefused words unread left before after = (faults_in words ≢ []) × IsUntouched unread left before after
+IsRefused words unread left before after = AsksNothing words × IsUntouched unread left before after
 
 -- what a command line asks for was begun, and something ended it
 pub record IsEnded (words : List (List ℕ)) (stop : Stop) (unread left before after : Option (List ℕ)) : Type 0 where
@@ -101,9 +101,9 @@ abbrev pub IsStopped : List (List ℕ) → (unread left before after : Option (L
 IsStopped words unread left before after =
     ((stop : Stop) × IsEnded words stop unread left before after) ⊎ IsUntouched unread left before after
 
--- it ended before anything was read: `clap` doesn't take these words, or memory was wanting
+-- it ended before anything was read: these words ask for nothing, or memory was wanting
 abbrev pub IsBefore : List (List ℕ) → Failure → Type 0
-IsBefore words (Usage text) = faults_in words ≢ []
+IsBefore words (Usage text) = AsksNothing words
 IsBefore words (Stopped stop) = ⊥
 IsBefore words NoMemory = Unit {0}
 

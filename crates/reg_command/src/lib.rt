@@ -47,9 +47,7 @@ fn ask(alloc: Global, words: &[String]) -> Result<Request, Failure>
     ensures err { IfErr result (λ failure. IsBefore (texts words.now) failure) }
 {
     match read_words(alloc, words) {
-        Ok(Some(request)) => Ok(request),
-        // `clap` lets no such words through; only an error of its own may be told as one of the command line.
-        Ok(None) => Err(Failure::NoMemory),
+        Ok(request) => Ok(request),
         Err(error) => Err(usage(alloc, &error)),
     }
 }
@@ -61,7 +59,8 @@ fn answer<R: Read, W: Write>(
     input: &mut R,
     output: &mut W,
 ) -> Result<(), Stop>
-    ensures ok { OnOk result (Does request (R.remaining input.old) (R.remaining input.new) (W.contents output.old) (W.contents output.new)) }
+    ensures ok { OnOk result
+        (Does request (R.remaining input.old) (R.remaining input.new) (W.contents output.old) (W.contents output.new)) }
     ensures err { IfErr result (λ stop. Stops request stop (R.remaining input.old) (R.remaining input.new) (W.contents output.old)
         (W.contents output.new)) }
 {
@@ -138,7 +137,8 @@ pub fn tool<R: Read, W: Write, E: Write>(
     ensures stopped { result ≡ 1 →
         IsStopped (texts words.items) (R.remaining input.old) (R.remaining input.new) (W.contents output.old)
         (W.contents output.new) }
-    ensures usage { result ≡ 2 → IsRefused (texts words.items) (R.remaining input.old) (R.remaining input.new) (W.contents output.old) (W.contents output.new) }
+    ensures usage { result ≡ 2 →
+        IsRefused (texts words.items) (R.remaining input.old) (R.remaining input.new) (W.contents output.old) (W.contents output.new) }
 {
     match attempt(alloc, words.as_slice(), input, output) {
         Ok(()) => 0,

@@ -46,7 +46,7 @@ pub fn run_script<R: Read, W: Write>(
     };
     match run(alloc, input, output, &mut hive) {
         Ok(()) => Ok(()),
-        Err(fault) => Err(Stop::Script(fault)),
+        Err(ended) => Err(Stop::Script(ended)),
     }
 }
 

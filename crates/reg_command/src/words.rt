@@ -1,10 +1,10 @@
 //! What the words of a command line ask for, as `clap` reads them.
-ghost use Rattle.std.specs.Prelude.{◌≡◌, ℕ, List, Some, None, Option, IfOk, IfErr, IfSome};
-ghost use Rattle.clap.specs.Values.{kind_of};
-ghost use Rattle.clap.specs.Words.{FailsBy, Row, Text, found_of, rows_of, subcommand_rows_of};
-ghost use Rattle.reg_command.specs.CommandLines.{faults_in, found_in, texts, Asks, AsksOfRun};
-ghost use Rattle.reg_command.specs.Internal.Readings.{IsFound, IsRead};
+ghost use Rattle.std.specs.Prelude.{IfOk, IfErr};
+ghost use Rattle.clap.specs.Words.{found_of, rows_of, subcommand_rows_of};
+ghost use Rattle.reg_command.specs.CommandLines.{texts, Asks, AsksOfRun, IsCommandLine};
+ghost use Rattle.reg_command.specs.Internal.Readings.{IsFound, IsRead, IsUnread};
 
+use clap::error::ErrorKind;
 use clap::{Arg, ArgMatches, Command, Error};
 use std::alloc::Global;
 
@@ -58,10 +58,10 @@ fn asked(matches: &ArgMatches<'_>) -> Option<Request>
     }
 }
 
-/// Reads a command line. Where `clap` takes the words but they ask for nothing, which it doesn't, the answer is `None`.
-pub fn read_words<'a>(alloc: Global, words: &'a [String]) -> Result<Option<Request>, Error>
-    ensures faults { FailsBy (faults_in (texts words.now)) result }
-    ensures asks { IfOk result (λ request. IsRead (found_in (texts words.now)) request) }
+/// Reads a command line: what it asks for, or `clap`'s error, which is want of memory or tells that the words ask for nothing.
+pub fn read_words<'a>(alloc: Global, words: &'a [String]) -> Result<Request, Error>
+    ensures asks { IfOk result (λ request. IsCommandLine (texts words.now) request) }
+    ensures refuses { IfErr result (λ error. IsUnread (texts words.now) error) }
 {
     let image = Arg::new(alloc, "image")
         .long("image")
@@ -75,12 +75,16 @@ pub fn read_words<'a>(alloc: Global, words: &'a [String]) -> Result<Option<Reque
     let check = Command::new(alloc, "check").about(
         "Loads an image from standard input and counts its keys",
     );
-    let command = Command::new(alloc, "regtool")
+    let mut command = Command::new(alloc, "regtool")
         .about("Answers registry calls on a hive")
         .subcommand_required(true)
         .subcommand(run)?
         .subcommand(dump)?
         .subcommand(check)?;
-    let matches = command.try_get_matches_from(words)?;
-    Ok(asked(&matches))
+    let matches = command.try_get_matches_from_mut(words)?;
+    match asked(&matches) {
+        Some(request) => Ok(request),
+        // Words that `clap` takes though they ask for nothing are told in its own manner, with the usage.
+        None => Err(command.error(ErrorKind::InvalidSubcommand, "the words ask for nothing")?),
+    }
 }

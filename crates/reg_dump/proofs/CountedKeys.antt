@@ -21,7 +21,8 @@ unfolding keys_told
 keys-open tree = told-open PATH_LIMIT tree [] []
 
 -- a walk at the root
-module _ (keys : Keys) (walk : Walk) (counts : Counts) (root : Node) (at : IsAt keys [] root) (is_tree : IsTree keys.tree) (node : walk.node ≡ root)
+module _ (keys : Keys) (walk : Walk) (counts : Counts) (root : Node) (at : IsAt keys [] root) (is_tree : IsTree keys.tree)
+    (node : walk.node ≡ root)
     (path : walk.path.items ≡ []) (pending : walk.pending.items ≡ []) (no_keys : counts.keys ≡ 0) (no_values : counts.values ≡ 0) where
   found : (r : Rec) × (get keys.tree [] ≡ Some r)
   found = some_of (get keys.tree []) is_tree.root
@@ -33,7 +34,8 @@ module _ (keys : Keys) (walk : Walk) (counts : Counts) (root : Node) (at : IsAt 
   below = told_below PATH_LIMIT keys.tree [] (children_of keys.tree [])
 
   all_is : keys_told keys.tree ≡ here ∷ (below ++ [])
-  all_is = keys-open keys.tree ∙ (ap (λ (o : Option Rec). told_here [] o ++ below) found.1 ∙ ap (λ (x : List Told). here ∷ x) (sym (append-nil below)))
+  all_is = keys-open keys.tree ∙
+      (ap (λ (o : Option Rec). told_here [] o ++ below) found.1 ∙ ap (λ (x : List Told). here ∷ x) (sym (append-nil below)))
 
   pub amid_start : (a : IsAmid keys walk counts) × (keys_told keys.tree ≡ a.here ∷ a.rest)
   amid_start = (
@@ -81,7 +83,8 @@ module _ (keys : Keys) (walk : Walk) (counts : Counts) (a : IsAmid keys walk cou
         done = a.done ++ a.here ∷ [];
         here = g.told;
         rest = g.rest;
-        all_is = a.all_is ∙ (ap (λ (x : List Told). a.done ++ a.here ∷ x) g.all_is ∙ sym (append_assoc a.done (a.here ∷ []) (g.told ∷ g.rest)));
+        all_is = a.all_is ∙
+            (ap (λ (x : List Told). a.done ++ a.here ∷ x) g.all_is ∙ sym (append_assoc a.done (a.here ∷ []) (g.told ∷ g.rest)));
         stands = g.stands;
         keys_is = keys_more;
         values_is = values_more;

@@ -20,7 +20,8 @@ module _ (begin now : Option (List ℕ)) (whole left gathered more : List ℕ) (
   abbrev Next : List ℕ → List ℕ → Type 0
   Next next rest = IsSoFar begin now whole (next ++ (rest ++ left)) more written
 
-  pub key_start : (path : List ℕ) (marks : ℕ) (class descriptor : List ℕ) (time : ℕ) → SoFar (key_in_parts path marks class descriptor time) gathered →
+  pub key_start : (path : List ℕ) (marks : ℕ) (class descriptor : List ℕ) (time : ℕ) →
+      SoFar (key_in_parts path marks class descriptor time) gathered →
       more ≡ gathered ++ codes "key =" → Next (escaped path) (after_path marks class descriptor time)
   unfolding key_in_parts
   key_start path marks class descriptor time s e =
@@ -32,18 +33,22 @@ module _ (begin now : Option (List ℕ)) (whole left gathered more : List ℕ) (
   class_start marks class descriptor time s e =
       part begin now whole (marks_part marks) (digits_text class) (after_class descriptor time) left gathered more written s e
 
-  pub descriptor_start : (descriptor : List ℕ) (time : ℕ) → SoFar (after_class descriptor time) gathered → more ≡ gathered ++ codes " security x" →
+  pub descriptor_start : (descriptor : List ℕ) (time : ℕ) → SoFar (after_class descriptor time) gathered →
+      more ≡ gathered ++ codes " security x" →
       Next (digits_text descriptor) (time_part time)
   unfolding after_class
   descriptor_start descriptor time s e =
       part begin now whole (codes " security x") (digits_text descriptor) (time_part time) left gathered more written s e
 
-  pub value_start : (name : List ℕ) (kind : ℕ) (bytes : List ℕ) → SoFar (value_in_parts name kind bytes) gathered → more ≡ gathered ++ codes "value =" →
+  pub value_start : (name : List ℕ) (kind : ℕ) (bytes : List ℕ) → SoFar (value_in_parts name kind bytes) gathered →
+      more ≡ gathered ++ codes "value =" →
       Next (escaped name) (after_name kind bytes)
   unfolding value_in_parts
-  value_start name kind bytes s e = part begin now whole (codes "value =") (escaped name) (after_name kind bytes) left gathered more written s e
+  value_start name kind bytes s e =
+      part begin now whole (codes "value =") (escaped name) (after_name kind bytes) left gathered more written s e
 
-  pub data_start : (kind : ℕ) (bytes : List ℕ) → SoFar (after_name kind bytes) gathered → more ≡ gathered ++ kind_part kind → Next (digits_text bytes) line_feed
+  pub data_start : (kind : ℕ) (bytes : List ℕ) → SoFar (after_name kind bytes) gathered → more ≡ gathered ++ kind_part kind →
+      Next (digits_text bytes) line_feed
   unfolding after_name
   data_start kind bytes s e = part begin now whole (kind_part kind) (digits_text bytes) line_feed left gathered more written s e
 

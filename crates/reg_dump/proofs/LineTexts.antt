@@ -19,10 +19,13 @@ key_grouped : (path : List ℕ) (marks : ℕ) (class descriptor : List ℕ) (tim
 unfolding key_in_parts after_path after_class
 key_grouped path marks class descriptor time =
     ap (λ (w : List ℕ). codes "key =" ++ (escaped path ++ (codes " marks " ++ w)))
-    (append_assoc (decimal marks) (codes " class x") (digits_text class ++ (codes " security x" ++ (digits_text descriptor ++ time_part time))))
+    (append_assoc (decimal marks) (codes " class x")
+    (digits_text class ++ (codes " security x" ++ (digits_text descriptor ++ time_part time))))
 
-pub key_same : (told : Told) (path : List ℕ) (marks : ℕ) (class descriptor : List ℕ) (time : ℕ) → path ≡ text_of told.names → marks ≡ told.key.marks →
-    class ≡ told.key.class → descriptor ≡ told.key.descriptor → time ≡ told.key.time → key_in_parts path marks class descriptor time ≡ key_line told
+pub key_same : (told : Told) (path : List ℕ) (marks : ℕ) (class descriptor : List ℕ) (time : ℕ) → path ≡ text_of told.names →
+    marks ≡ told.key.marks →
+    class ≡ told.key.class → descriptor ≡ told.key.descriptor → time ≡ told.key.time →
+    key_in_parts path marks class descriptor time ≡ key_line told
 key_same told path marks class descriptor time p m c d t =
     ap (λ (x : List ℕ). key_in_parts x marks class descriptor time) p
     ∙ (ap (λ (x : ℕ). key_in_parts (text_of told.names) x class descriptor time) m
@@ -36,9 +39,11 @@ value_grouped : (name : List ℕ) (kind : ℕ) (bytes : List ℕ) → value_in_p
     codes "value =" ++ (escaped name ++ (codes " type " ++ (decimal kind ++ (codes " x" ++ (digits_text bytes ++ line_feed)))))
 unfolding value_in_parts after_name
 value_grouped name kind bytes =
-    ap (λ (w : List ℕ). codes "value =" ++ (escaped name ++ (codes " type " ++ w))) (append_assoc (decimal kind) (codes " x") (digits_text bytes ++ line_feed))
+    ap (λ (w : List ℕ). codes "value =" ++ (escaped name ++ (codes " type " ++ w)))
+    (append_assoc (decimal kind) (codes " x") (digits_text bytes ++ line_feed))
 
-pub value_same : (values : List Member) (index : ℕ) (member : Member) → slice_get values index ≡ Some member → (name : List ℕ) (kind size : ℕ) →
+pub value_same : (values : List Member) (index : ℕ) (member : Member) → slice_get values index ≡ Some member →
+    (name : List ℕ) (kind size : ℕ) →
     ((m : Member) × (slice_get values index ≡ Some m) × Tells m name kind size) → (items bytes : List ℕ) → bytes ≡ items →
     ((m : Member) × (slice_get values index ≡ Some m) × (items ≡ m.bytes)) → value_in_parts name kind bytes ≡ value_line member
 value_same values index member here name kind size v items bytes b d =
@@ -66,8 +71,10 @@ pub root_named : (found : Option Rec) (name : List ℕ) → IsSome found → ((r
 root_named None name there told = absurd (cc)
 root_named (Some r) name there told = told r refl
 
-pub root_state : (begin now : Option (List ℕ)) (whole : List ℕ) (found : Option Rec) (left gathered : List ℕ) (written : ℕ) (name : List ℕ) →
-    IsSoFar begin now whole ((codes "root =" ++ (escaped (name_of found) ++ line_feed)) ++ left) gathered written → IsSome found → ((r : Rec) → found ≡ Some r → name ≡ r.name) →
+pub root_state : (begin now : Option (List ℕ)) (whole : List ℕ) (found : Option Rec) (left gathered : List ℕ) (written : ℕ)
+    (name : List ℕ) →
+    IsSoFar begin now whole ((codes "root =" ++ (escaped (name_of found) ++ line_feed)) ++ left) gathered written → IsSome found →
+    ((r : Rec) → found ≡ Some r → name ≡ r.name) →
     IsSoFar begin now whole (root_in_parts name ++ left) gathered written
 unfolding root_in_parts
 root_state begin now whole found left gathered written name s there told =

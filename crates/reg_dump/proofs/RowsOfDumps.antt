@@ -21,12 +21,14 @@ each-same : (f g : Path → List Told) → ((p : Path) → f p ≡ g p) → (ps 
 each-same f g h [] = refl
 each-same f g h (p ∷ ps) = ap (λ (x : List Told). x ++ flat_map f ps) (h p) ∙ ap (λ (x : List Told). g p ++ x) (each-same f g h ps)
 
-told-same : (tree : Tree) (at : Path → Option Rec) (below : Path → List Path) → ((p : Path) → get tree p ≡ at p) → ((p : Path) → children_of tree p ≡ below p) →
+told-same : (tree : Tree) (at : Path → Option Rec) (below : Path → List Path) → ((p : Path) → get tree p ≡ at p) →
+    ((p : Path) → children_of tree p ≡ below p) →
     (levels : ℕ) (names : List (List ℕ)) (path : Path) → told_from levels tree names path ≡ told_by levels at below names path
 unfolding told_by told_from
 told-same tree at below a b zero names path = refl
 told-same tree at below a b (suc levels) names path =
-    ap (λ (o : Option Rec). told_here names o ++ flat_map (λ child. told_from levels tree (names ++ name_of (get tree child) ∷ []) child) (children_of tree path)) (a path)
+    ap (λ (o : Option Rec). told_here names o ++ flat_map (λ child. told_from levels tree (names ++ name_of (get tree child) ∷ []) child)
+    (children_of tree path)) (a path)
     ∙ ap (λ (x : List Told). told_here names (at path) ++ x)
     (ap (flat_map (λ child. told_from levels tree (names ++ name_of (get tree child) ∷ []) child)) (b path)
     ∙ each-same _ _
@@ -64,12 +66,17 @@ at-same : (p : Path) → get tree p ≡ at p
 at-same p = get-from_sorted path_cmp entries p tt
 
 below-same : (p : Path) → children_of tree p ≡ below p
-below-same p = ap (λ (es : List (Path × Rec)). filter (is_child p) (map (λ (e : Path × Rec). e.0) es)) (entries-from_sorted path_cmp entries tt)
+below-same p =
+    ap (λ (es : List (Path × Rec)). filter (is_child p) (map (λ (e : Path × Rec). e.0) es)) (entries-from_sorted path_cmp entries tt)
 
 told : List Told
 told =
     record { names = []; key = key (codes "ROOT") 8 [] } ∷ record { names = codes "A" ∷ []; key = key (codes "A") 0 [] }
-    ∷ record { names = codes "A" ∷ codes "c" ∷ []; key = key (codes "c") 0 [] } ∷ record { names = codes "b" ∷ []; key = key (codes "b") 0 values } ∷ []
+    ∷ record { names = codes "A" ∷ codes "c" ∷ []; key = key (codes "c") 0 [] } ∷ record {
+      names = codes "b" ∷ [];
+      key = key
+          (codes "b") 0 values;
+    } ∷ []
 
 -- each key behind the one above it, and its values in between
 told-is : keys_told tree ≡ told
@@ -83,12 +90,30 @@ unfolding digits hex_on_literals byte_text
 lines-root = refl
 
 -- the names as given, and not folded
-lines-inner : key_line (record { names = codes "A" ∷ codes "c" ∷ []; key = key (codes "c") 0 [] }) ≡ codes "key =A\\c marks 0 class x security x01000480 time 7\n"
+lines-inner : key_line
+    (record {
+      names = codes "A" ∷ codes "c" ∷ [];
+      key = key (codes "c") 0
+          [];
+    }) ≡ codes "key =A\\c marks 0 class x security x01000480 time 7\n"
 unfolding digits hex_on_literals byte_text
 lines-inner = refl
 
 -- escaped as in replies, but for the backslashes between names; and a class
-lines-escaped : key_line (record { names = codes "a b" ∷ codes "50%" ∷ []; key = record { name = codes "50%"; marks = 65432; class = 0 ∷ 255 ∷ []; descriptor = 171 ∷ []; time = 116444736000000000; values = [] } }) ≡
+lines-escaped : key_line
+    (record {
+      names = codes "a b" ∷ codes "50%" ∷
+          [];
+      key = record {
+        name = codes "50%";
+        marks = 65432;
+        class = 0 ∷ 255 ∷ [];
+        descriptor = 171 ∷
+            [];
+        time = 116444736000000000;
+        values = [];
+      };
+    }) ≡
     codes "key =a%20b\\50%25 marks 65432 class x00ff security xab time 116444736000000000\n"
 unfolding digits hex_on_literals byte_text
 lines-escaped = refl

@@ -38,7 +38,8 @@ take-again (suc m) (suc n) (x ∷ xs) (y ∷ ys) l f e =
     ap (λ (z : ℕ). z ∷ take m xs) first ∙ ap (λ (w : List ℕ). y ∷ w) (take-again m n xs ys (omega (arith, l)) (omega (arith, f)) others)
 
 -- the front of a text, below which a name was added, stays
-below-front : (depth front : ℕ) (text name : List ℕ) → front ≤ length text → take front (text_below depth (take front text) name) ≡ take front text
+below-front : (depth front : ℕ) (text name : List ℕ) → front ≤ length text →
+    take front (text_below depth (take front text) name) ≡ take front text
 below-front zero front text name l =
     let n = length-take-le front text l in
     take-append-le front (take front text) name (omega (arith, n)) ∙ take_all front (take front text) (omega (arith, n))
@@ -64,26 +65,30 @@ pub told-open : (levels : ℕ) (tree : Tree) (names : List (List ℕ)) (path : P
 unfolding told_from
 told-open levels tree names path = refl
 
-kept : (test : Path → Bool) (k : Path) (rest : List Path) (b : Bool) → test k ≡ b → ((i : ℕ) → i < length rest → test (get_or rest i []) ≡ true) → (index : ℕ) →
+kept : (test : Path → Bool) (k : Path) (rest : List Path) (b : Bool) → test k ≡ b →
+    ((i : ℕ) → i < length rest → test (get_or rest i []) ≡ true) → (index : ℕ) →
     index < length (cond b (k ∷ rest) rest) → test (get_or (cond b (k ∷ rest) rest) index []) ≡ true
 kept test k rest true e h zero l = e
 kept test k rest true e h (suc index) l = h index (omega (arith, l))
 kept test k rest false e h index l = h index l
 
 -- what a filter keeps passes its test
-passes : (test : Path → Bool) (ks : List Path) (index : ℕ) → index < length (filter test ks) → test (get_or (filter test ks) index []) ≡ true
+passes : (test : Path → Bool) (ks : List Path) (index : ℕ) → index < length (filter test ks) →
+    test (get_or (filter test ks) index []) ≡ true
 passes test [] index l = absurd (omega (arith, l))
 passes test (k ∷ ks) index l = kept test k (filter test ks) (test k) refl (passes test ks) index l
 
 -- a child's path is one name longer
-child-long : (tree : Tree) (path : Path) (index : ℕ) → index < length (children_of tree path) → length (get_or (children_of tree path) index []) ≡ length path + 1
+child-long : (tree : Tree) (path : Path) (index : ℕ) → index < length (children_of tree path) →
+    length (get_or (children_of tree path) index []) ≡ length path + 1
 child-long tree path index l =
     let c = named path (get_or (children_of tree path) index []) (passes (is_child path) (keys tree) index l) in
     ap length c.1 ∙ length-append path (c.0 ∷ [])
 
 -- ---- what is still to come
 
-pending-kept : (keys : Keys) (text new : List ℕ) (p : Pending) (rest : List Told) → take p.front new ≡ take p.front text → p.front ≤ length new →
+pending-kept : (keys : Keys) (text new : List ℕ) (p : Pending) (rest : List Told) → take p.front new ≡ take p.front text →
+    p.front ≤ length new →
     IsPending keys text p rest → IsPending keys new p rest
 pending-kept keys text new p rest e l s =
     record {
@@ -99,7 +104,8 @@ pending-kept keys text new p rest e l s =
       rest_is = s.rest_is;
     }
 
-all-kept : (keys : Keys) (text new : List ℕ) (bound higher : ℕ) (ps : List Pending) (rest : List Told) → take bound new ≡ take bound text → bound ≤ length text →
+all-kept : (keys : Keys) (text new : List ℕ) (bound higher : ℕ) (ps : List Pending) (rest : List Told) →
+    take bound new ≡ take bound text → bound ≤ length text →
     bound ≤ length new → bound ≤ higher → ArePending keys text bound ps rest → ArePending keys new higher ps rest
 all-kept keys text new bound higher [] rest e t l h a = a
 all-kept keys text new bound higher (p ∷ ps) rest e t l h a =
@@ -179,7 +185,8 @@ module _ (keys : Keys) (text : List ℕ) (p : Pending) (here more : List Told) (
   first =
       ap (λ (n : ℕ). told_from n keys.tree (s.names ++ name_of (get keys.tree child) ∷ []) child) lower.1
       ∙ (told-open lower.0 keys.tree (s.names ++ name_of (get keys.tree child) ∷ []) child
-      ∙ ap (λ (o : Option Rec). told_here (s.names ++ name_of o ∷ []) o ++ told_below lower.0 keys.tree (s.names ++ name_of o ∷ []) (children_of keys.tree child)) key)
+      ∙ ap (λ (o : Option Rec). told_here (s.names ++ name_of o ∷ []) o ++ told_below lower.0 keys.tree (s.names ++ name_of o ∷ [])
+      (children_of keys.tree child)) key)
 
   all_is : here ++ more ≡ told ∷ (below ++ (beside ++ more))
   all_is =
@@ -189,7 +196,8 @@ module _ (keys : Keys) (text : List ℕ) (p : Pending) (here more : List Told) (
       ∙ ap (λ (x : List Told). x ++ beside) first))
       ∙ ap (λ (x : List Told). told ∷ x) (append_assoc below beside more)
 
-  pub entered : (walk : Walk) (name : List ℕ) → name ≡ r.name → walk.node ≡ p.subkey.node → walk.path.items ≡ text_below p.parent.depth (take p.front text) name →
+  pub entered : (walk : Walk) (name : List ℕ) → name ≡ r.name → walk.node ≡ p.subkey.node →
+      walk.path.items ≡ text_below p.parent.depth (take p.front text) name →
       IsNoted keys s.path s.index p ps (reverse walk.pending.items) → Goes keys walk (here ++ more)
   entered walk name named node path_is next =
       let w = s.within in
@@ -200,8 +208,10 @@ module _ (keys : Keys) (text : List ℕ) (p : Pending) (here more : List Told) (
       let lw = lower.1 in
       let la = length-append s.names (r.name ∷ []) in
       let depth : p.parent.depth ≡ length s.names = omega (arith, parent, n) in
-      let front : take p.front walk.path.items ≡ take p.front text = ap (take p.front) path_is ∙ below-front p.parent.depth p.front text name w in
-      let fits : p.front ≤ length walk.path.items = subst (λ (x : List ℕ). p.front ≤ length x) (sym path_is) (below-long p.parent.depth p.front text name w) in
+      let front : take p.front walk.path.items ≡ take p.front text = ap (take p.front) path_is ∙
+      below-front p.parent.depth p.front text name w in
+      let fits : p.front ≤ length walk.path.items = subst (λ (x : List ℕ). p.front ≤ length x) (sym path_is)
+      (below-long p.parent.depth p.front text name w) in
       let text_is : walk.path.items ≡ text_of told.names =
       path_is
       ∙ (ap (λ (k : ℕ). text_below k (take p.front text) name) depth
@@ -227,9 +237,11 @@ module _ (keys : Keys) (text : List ℕ) (p : Pending) (here more : List Told) (
 -- ---- on to the next key
 
 -- the first subkey of the key at which a walk stands, and with it all below that key
-pub first_pending : (keys : Keys) (walk : Walk) (here : Told) (rest : List Told) (s : Stands keys walk here rest) (subkey : Subkey) (front : ℕ) →
+pub first_pending : (keys : Keys) (walk : Walk) (here : Told) (rest : List Told) (s : Stands keys walk here rest) (subkey : Subkey)
+    (front : ℕ) →
     front ≡ length walk.path.items → IsSubkeyAt keys s.path walk.node 0 subkey →
-    IsPending keys walk.path.items (record { parent = walk.node; subkey = subkey; front = front }) (told_below s.levels keys.tree here.names (children_of keys.tree s.path))
+    IsPending keys walk.path.items (record { parent = walk.node; subkey = subkey; front = front })
+    (told_below s.levels keys.tree here.names (children_of keys.tree s.path))
 first_pending keys walk here rest s subkey front f is =
     record {
       path = s.path;
@@ -249,7 +261,8 @@ pub goes_below : (keys : Keys) (walk new : Walk) (here : Told) (rest : List Told
 goes_below keys walk new here rest s g = subst (λ (x : List Told). Goes keys new x) (sym s.rest_is) g
 
 -- no subkey: what is to come is what is pending
-pub only_more : (keys : Keys) (walk : Walk) (here : Told) (rest : List Told) (s : Stands keys walk here rest) → children_of keys.tree s.path ≡ [] → rest ≡ s.more
+pub only_more : (keys : Keys) (walk : Walk) (here : Told) (rest : List Told) (s : Stands keys walk here rest) →
+    children_of keys.tree s.path ≡ [] → rest ≡ s.more
 only_more keys walk here rest s none = s.rest_is ∙ ap (λ (x : List Path). told_below s.levels keys.tree here.names x ++ s.more) none
 
 pub popped : (keys : Keys) (text : List ℕ) (bound : ℕ) (old new : List Pending) (p : Pending) (more : List Told) → old ≡ new ++ p ∷ [] →
@@ -261,23 +274,29 @@ none-there : (ps : List Pending) → length ps ≡ 0 → ps ≡ []
 none-there [] e = refl
 none-there (p ∷ ps) e = absurd (omega (arith, e))
 
-pub none_pending : (keys : Keys) (text : List ℕ) (bound : ℕ) (old new : List Pending) (more : List Told) → old ≡ new ++ [] → length new ≡ 0 →
+pub none_pending : (keys : Keys) (text : List ℕ) (bound : ℕ) (old new : List Pending) (more : List Told) → old ≡ new ++ [] →
+    length new ≡ 0 →
     ArePending keys text bound (reverse old) more → more ≡ []
 none_pending keys text bound old new more e l a =
     subst (λ (x : List Pending). ArePending keys text bound (reverse x) more) (e ∙ (append-nil new ∙ none-there new l)) a
 
-pub goes_on : (keys : Keys) (new : Walk) (here more rest : List Told) → rest ≡ here ++ more → Goes keys new (here ++ more) → Goes keys new rest
+pub goes_on : (keys : Keys) (new : Walk) (here more rest : List Told) → rest ≡ here ++ more → Goes keys new (here ++ more) →
+    Goes keys new rest
 goes_on keys new here more rest e g = subst (λ (x : List Told). Goes keys new x) (sym e) g
 
 -- what is pending where the key at which a walk stands is one of them
-pub pending_from : (keys : Keys) (walk : Walk) (here : Told) (rest : List Told) (s : Stands keys walk here rest) (front : ℕ) → front ≡ length walk.path.items →
+pub pending_from : (keys : Keys) (walk : Walk) (here : Told) (rest : List Told) (s : Stands keys walk here rest) (front : ℕ) →
+    front ≡ length walk.path.items →
     ArePending keys walk.path.items front (reverse walk.pending.items) s.more
-pending_from keys walk here rest s front e = subst (λ (n : ℕ). ArePending keys walk.path.items n (reverse walk.pending.items) s.more) (sym e) s.pending
+pending_from keys walk here rest s front e =
+    subst (λ (n : ℕ). ArePending keys walk.path.items n (reverse walk.pending.items) s.more) (sym e) s.pending
 
-pub advances : (keys : Keys) (new : Walk) (moved : Bool) (rest more : List Told) → rest ≡ more → Advances keys new more moved → Advances keys new rest moved
+pub advances : (keys : Keys) (new : Walk) (moved : Bool) (rest more : List Told) → rest ≡ more → Advances keys new more moved →
+    Advances keys new rest moved
 advances keys new moved rest more e a = subst (λ (x : List Told). Advances keys new x moved) (sym e) a
 
-pub if_advances : {E : Type 0} (keys : Keys) (new : Walk) (result : Result Bool E) (rest more : List Told) → rest ≡ more → IfOk result (λ moved. Advances keys new more moved) →
+pub if_advances : {E : Type 0} (keys : Keys) (new : Walk) (result : Result Bool E) (rest more : List Told) → rest ≡ more →
+    IfOk result (λ moved. Advances keys new more moved) →
     IfOk result (λ moved. Advances keys new rest moved)
 if_advances keys new (Ok moved) rest more e a = advances keys new moved rest more e a
 if_advances keys new (Err fault) rest more e a = a

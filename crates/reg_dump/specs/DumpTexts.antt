@@ -27,7 +27,8 @@ told_here names (Some key) = record { names = names; key = key } ∷ []
 unfoldable pub told_from : ℕ → Tree → List (List ℕ) → Path → List Told
 told_from zero tree names path = []
 told_from (suc levels) tree names path =
-    told_here names (get tree path) ++ flat_map (λ child. told_from levels tree (names ++ name_of (get tree child) ∷ []) child) (children_of tree path)
+    told_here names (get tree path) ++ flat_map (λ child. told_from levels tree (names ++ name_of (get tree child) ∷ []) child)
+    (children_of tree path)
 
 -- the keys of a tree in the order in which they are told: the root, and below it as many levels as a path has names at most
 unfoldable pub keys_told : Tree → List Told
@@ -43,7 +44,8 @@ key_line told =
 -- the line of a value: its name, its type and its bytes
 abbrev pub value_line : Member → List ℕ
 value_line value =
-    codes "value =" ++ (escaped value.name ++ (codes " type " ++ (decimal value.kind ++ (codes " x" ++ (digits_text value.bytes ++ line_feed)))))
+    codes "value =" ++
+    (escaped value.name ++ (codes " type " ++ (decimal value.kind ++ (codes " x" ++ (digits_text value.bytes ++ line_feed)))))
 
 -- the lines of a key: its own, and those of its values in their order
 abbrev pub key_lines : Told → List ℕ

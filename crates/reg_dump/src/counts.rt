@@ -1,4 +1,4 @@
-ghost use Rattle.std.specs.Prelude.{◌≡◌, ◌+◌, IfSome};
+ghost use Rattle.std.specs.Prelude.{◌≡◌, ◌<◌, ◌+◌, ◌^◌, IfSome, is_some, true};
 
 /// How many keys and values a tree has.
 #[derive(Clone, Copy, Debug, PartialEq, Eq)]
@@ -22,6 +22,7 @@ impl Counts {
     pub fn with_key(self, values: u32) -> Option<Counts>
         ensures keys { IfSome result (λ more. more.keys ≡ self.keys + 1) }
         ensures values { IfSome result (λ more. more.values ≡ self.values + values) }
+        ensures held { self.keys + 1 < 2 ^ 64 → self.values + values < 2 ^ 64 → is_some result ≡ true }
     {
         let Some(keys) = self.keys.checked_add(1) else {
             return None;

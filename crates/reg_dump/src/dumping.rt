@@ -22,7 +22,8 @@ fn put_keys<W: Write>(
     alloc: Global,
     tree: &Tree,
 ) -> Result<Counts, DumpFault>
-    ensures puts { Puts output.old (W.contents writer.old) output.new (W.contents writer.new) (flat_map key_lines (keys_told tree.now.tree)) result }
+    ensures puts { Puts output.old (W.contents writer.old) output.new (W.contents writer.new)
+        (flat_map key_lines (keys_told tree.now.tree)) result }
     ensures counts { IfOk result (λ counts. IsCounted tree.now.tree counts) }
 {
     let mut walk = Walk::new(alloc, tree.root());

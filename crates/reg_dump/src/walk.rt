@@ -61,7 +61,8 @@ impl Walk {
     fn note_next(&mut self, tree: &Tree, pending: Pending) -> Result<(), AllocError>
         requires { (text : List ℕ) × (here : List Told) × IsPending tree.now text pending here }
         ensures same { self.new.path.items ≡ self.old.path.items }
-        ensures noted { (p : Path) → (index : ℕ) → IsAt tree.now p pending.parent → IsSubkeyAt tree.now p pending.parent index pending.subkey →
+        ensures noted { (p : Path) → (index : ℕ) → IsAt tree.now p pending.parent →
+            IsSubkeyAt tree.now p pending.parent index pending.subkey →
             OnOk result (IsNoted tree.now p index pending (reverse self.old.pending.items) (reverse self.new.pending.items)) }
     {
         if let Some(subkey) = tree.next_subkey(pending.parent, pending.subkey) {
@@ -93,8 +94,10 @@ impl Walk {
 
     /// Goes on to the last subkey that was noted as pending; `false` where there is none.
     fn retreat(&mut self, tree: &Tree) -> Result<bool, AllocError>
-        requires { (more : List Told) × ArePending tree.now self.old.path.items (length self.old.path.items) (reverse self.old.pending.items) more }
-        ensures { (more : List Told) → ArePending tree.now self.old.path.items (length self.old.path.items) (reverse self.old.pending.items) more →
+        requires { (more : List Told) ×
+            ArePending tree.now self.old.path.items (length self.old.path.items) (reverse self.old.pending.items) more }
+        ensures { (more : List Told) →
+            ArePending tree.now self.old.path.items (length self.old.path.items) (reverse self.old.pending.items) more →
             IfOk result (λ moved. Advances tree.now self.new more moved) }
     {
         match self.pending.pop() {
@@ -109,7 +112,8 @@ impl Walk {
     /// Goes on to the next key; `false` where there is none.
     pub fn advance(&mut self, tree: &Tree) -> Result<bool, AllocError>
         requires { (here : Told) × (rest : List Told) × Stands tree.now self.old here rest }
-        ensures { (here : Told) → (rest : List Told) → Stands tree.now self.old here rest → IfOk result (λ moved. Advances tree.now self.new rest moved) }
+        ensures { (here : Told) → (rest : List Told) → Stands tree.now self.old here rest →
+            IfOk result (λ moved. Advances tree.now self.new rest moved) }
     {
         match tree.first_subkey(self.node) {
             Some(subkey) => {

@@ -14,7 +14,8 @@ comment [] some e = absurd (omega arith)
 comment (b ∷ bs) some e = rw e refl
 
 -- a line of words
-pub worded : (line : List ℕ) (found : Option Meaning) → 0 < length line → eqb (get_or line 0 0) 35 ≡ false → reading verb_of by_verb (words_of line) ≡ found → meaning_of line ≡ unwrap_or found bad
+pub worded : (line : List ℕ) (found : Option Meaning) → 0 < length line → eqb (get_or line 0 0) 35 ≡ false →
+    reading verb_of by_verb (words_of line) ≡ found → meaning_of line ≡ unwrap_or found bad
 unfolding meaning_of
 worded [] found some other e = absurd (omega arith)
 worded (b ∷ bs) found some other e = rw other (ap (λ (o : Option Meaning). unwrap_or o bad) e)

@@ -28,7 +28,8 @@ pub words_one : (line : List ℕ) → position is_space line ≡ None → words_
 unfolding words_of
 words_one line e =
     let past = no_index (position_or_len is_space line) (length line) e in
-    slice_split_none is_space line (All-from_get_or (λ x. is_space x ≡ false) line 0 (λ i below. fails_before_first is_space line i 0 (omega (arith, past, below))))
+    slice_split_none is_space line
+    (All-from_get_or (λ x. is_space x ≡ false) line 0 (λ i below. fails_before_first is_space line i 0 (omega (arith, past, below))))
 
 -- every line has a word, an empty one too
 pub words_some : (line : List ℕ) → words_of line ≡ [] → ⊥

@@ -24,7 +24,8 @@ digit_is b low high = grind (arith, nat_tests)
 pub value_step : (word : List ℕ) (i n : ℕ) → i < length word → 48 ≤ get_or word i 0 → get_or word i 0 ≤ 57
     → digits_value_after 10 n (drop i word) ≡ digits_value_after 10 (n * 10 + (get_or word i 0 - 48)) (drop (i + 1) word)
 value_step word i n below low high =
-    rw (add-one, drop-cons word i 0) (ap (λ d. digits_value_after 10 (n * 10 + d) (drop (suc i) word)) (digit_is (get_or word i 0) low high))
+    rw (add-one, drop-cons word i 0)
+    (ap (λ d. digits_value_after 10 (n * 10 + d) (drop (suc i) word)) (digit_is (get_or word i 0) low high))
 
 -- ---- where there is no number
 
@@ -47,7 +48,8 @@ above_none limit word above = grind (arith, nat_tests)
 
 -- the digits so far are above the limit already
 pub front_none : (limit : ℕ) (word : List ℕ) (i n more : ℕ) → i < length word → is_ascii_digit (get_or word i 0) ≡ true
-    → digits_value_after 10 n (drop i word) ≡ digits_value 10 word → more ≤ n * 10 + (get_or word i 0 - 48) → limit < more → number_of limit word ≡ None
+    → digits_value_after 10 n (drop i word) ≡ digits_value 10 word → more ≤ n * 10 + (get_or word i 0 - 48) → limit < more →
+    number_of limit word ≡ None
 front_none limit word i n more below is left reach above =
     let range = digit_range (get_or word i 0) is in
     let grown = digits_grow (n * 10 + (get_or word i 0 - 48)) (drop (i + 1) word) in
@@ -56,12 +58,14 @@ front_none limit word i n more below is left reach above =
 
 -- ---- where there is one
 
-pub number_is : (limit : ℕ) (word : List ℕ) → 0 < length word → all_ascii_digits word ≡ true → digits_value 10 word ≤ limit → number_of limit word ≡ Some (digits_value 10 word)
+pub number_is : (limit : ℕ) (word : List ℕ) → 0 < length word → all_ascii_digits word ≡ true → digits_value 10 word ≤ limit →
+    number_of limit word ≡ Some (digits_value 10 word)
 unfolding number_of
 number_is limit word some digits within = grind (arith, nat_tests)
 
 -- after the last digit
-pub digits_end : (word : List ℕ) (i n limit : ℕ) → 0 < length word → length word ≤ i → n ≤ limit → all_ascii_digits (drop i word) ≡ all_ascii_digits word
+pub digits_end : (word : List ℕ) (i n limit : ℕ) → 0 < length word → length word ≤ i → n ≤ limit →
+    all_ascii_digits (drop i word) ≡ all_ascii_digits word
     → digits_value_after 10 n (drop i word) ≡ digits_value 10 word → number_of limit word ≡ Some n
 digits_end word i n limit some past within form value =
     let gone = drop_all i word past in
@@ -69,7 +73,8 @@ digits_end word i n limit some past within form value =
     let is : digits_value 10 word ≡ n = sym value ∙ ap (λ w. digits_value_after 10 n w) gone in
     number_is limit word some digits (omega (arith, is)) ∙ ap Some is
 
-pub above_end : (word : List ℕ) (i n limit : ℕ) → length word ≤ i → limit < n → digits_value_after 10 n (drop i word) ≡ digits_value 10 word → limit < digits_value 10 word
+pub above_end : (word : List ℕ) (i n limit : ℕ) → length word ≤ i → limit < n →
+    digits_value_after 10 n (drop i word) ≡ digits_value 10 word → limit < digits_value 10 word
 above_end word i n limit past above value =
     let is : digits_value 10 word ≡ n = sym value ∙ ap (λ w. digits_value_after 10 n w) (drop_all i word past) in
     omega (arith, is)

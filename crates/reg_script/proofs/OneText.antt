@@ -48,29 +48,37 @@ lacking : {X Y : Type 0} (reply : ChangeReply) → ((reply ≡ refusal 8) × X) 
 lacking reply (inl h) z = let e = ap (λ (r : ChangeReply). r.status) h.0 in omega (arith, e, z)
 lacking reply (inr h) z = let e = ap (λ (r : ChangeReply). r.status) h.0 in omega (arith, e, z)
 
-change_known : (cause : Option ℕ) (old new : View) (session moment : ℕ) (change : TheChange) (reply : ChangeReply) → IsAppliedBy cause old new session moment change reply
+change_known : (cause : Option ℕ) (old new : View) (session moment : ℕ) (change : TheChange) (reply : ChangeReply) →
+    IsAppliedBy cause old new session moment change reply
     → (cause ≡ None → reply.status ≡ 0)
-    → (reply ≡ due_reply cause (state old) session change) × (new.origin ≡ old.origin) × (new.journal ≡ journal_by cause old.journal (entry_of old session moment change))
-change_known (Some status) old new session moment change reply h due = (h.0, ap (λ (v : View). v.origin) h.1, ap (λ (v : View). v.journal) h.1)
+    → (reply ≡ due_reply cause (state old) session change) × (new.origin ≡ old.origin) ×
+    (new.journal ≡ journal_by cause old.journal (entry_of old session moment change))
+change_known (Some status) old new session moment change reply h due =
+    (h.0, ap (λ (v : View). v.origin) h.1, ap (λ (v : View). v.journal) h.1)
 change_known None old new session moment change reply (inl h) due = (h.says, h.origin, h.journal)
 change_known None old new session moment change reply (inr h) due = absurd (lacking reply h.why (due refl))
 
 abbrev told : View → ℕ → TheChange → ChangeReply
 told v session change = due_reply (change_cause (state v) session change 0) (state v) session change
 
-told_same : (a b : View) (s s' : ℕ) (change : TheChange) → a.origin ≡ b.origin → a.journal ≡ b.journal → s ≡ s' → told a s change ≡ told b s' change
-told_same a b s s' change origin journal session = ap (λ (v : View). told v s change) (view_like a b origin journal) ∙ ap (λ (x : ℕ). told b x change) session
+told_same : (a b : View) (s s' : ℕ) (change : TheChange) → a.origin ≡ b.origin → a.journal ≡ b.journal → s ≡ s' →
+    told a s change ≡ told b s' change
+told_same a b s s' change origin journal session =
+    ap (λ (v : View). told v s change) (view_like a b origin journal) ∙ ap (λ (x : ℕ). told b x change) session
 
 abbrev journal_then : View → ℕ → ℕ → TheChange → List Entry
 journal_then v session moment change = journal_by (change_cause (state v) session change 0) v.journal (entry_of v session moment change)
 
-journal_same : (a b : View) (s s' m m' : ℕ) (change : TheChange) → a.origin ≡ b.origin → a.journal ≡ b.journal → s ≡ s' → m ≡ m' → journal_then a s m change ≡ journal_then b s' m' change
+journal_same : (a b : View) (s s' m m' : ℕ) (change : TheChange) → a.origin ≡ b.origin → a.journal ≡ b.journal → s ≡ s' → m ≡ m' →
+    journal_then a s m change ≡ journal_then b s' m' change
 journal_same a b s s' m m' change origin journal session moment =
-    ap (λ (v : View). journal_then v s m change) (view_like a b origin journal) ∙ (ap (λ (x : ℕ). journal_then b x m change) session ∙ ap (λ (x : ℕ). journal_then b s' x change) moment)
+    ap (λ (v : View). journal_then v s m change) (view_like a b origin journal) ∙
+    (ap (λ (x : ℕ). journal_then b x m change) session ∙ ap (λ (x : ℕ). journal_then b s' x change) moment)
 
 -- ---- a question
 
-body_known : (cause : Option ℕ) (due body : AnswerBody) → IsTold (is_told cause due) body → (cause ≡ None → body ≡ Refused 8 → ⊥) → body ≡ is_told cause due
+body_known : (cause : Option ℕ) (due body : AnswerBody) → IsTold (is_told cause due) body → (cause ≡ None → body ≡ Refused 8 → ⊥) →
+    body ≡ is_told cause due
 body_known (Some status) due body (inl h) ample = h
 body_known (Some status) due body (inr h) ample = absurd h.1
 body_known None due body (inl h) ample = h
@@ -79,11 +87,15 @@ body_known None due body (inr h) ample = absurd (ample refl h.0)
 abbrev body_told : View → ℕ → TheQuery → AnswerBody
 body_told v session query = is_told (query_cause (state v) session query 0) (body_of (state v) session query)
 
-body_same : (a b : View) (s s' : ℕ) (query : TheQuery) → a.origin ≡ b.origin → a.journal ≡ b.journal → s ≡ s' → body_told a s query ≡ body_told b s' query
-body_same a b s s' query origin journal session = ap (λ (v : View). body_told v s query) (view_like a b origin journal) ∙ ap (λ (x : ℕ). body_told b x query) session
+body_same : (a b : View) (s s' : ℕ) (query : TheQuery) → a.origin ≡ b.origin → a.journal ≡ b.journal → s ≡ s' →
+    body_told a s query ≡ body_told b s' query
+body_same a b s s' query origin journal session =
+    ap (λ (v : View). body_told v s query) (view_like a b origin journal) ∙ ap (λ (x : ℕ). body_told b x query) session
 
 answer_same : (x y : Answer) → x.at ≡ y.at → x.body ≡ y.body → x ≡ y
-answer_same x y at body = ap (λ (n : ℕ). let z : Answer = record { at = n; body = x.body } in z) at ∙ ap (λ (b : AnswerBody). let z : Answer = record { at = y.at; body = b } in z) body
+answer_same x y at body =
+    ap (λ (n : ℕ). let z : Answer = record { at = n; body = x.body } in z) at ∙
+    ap (λ (b : AnswerBody). let z : Answer = record { at = y.at; body = b } in z) body
 
 -- ---- a call
 
@@ -93,7 +105,8 @@ step_at stand call = record { session = stand.session; moment = stand.moment; ca
 abbrev SameAfter : Outcome → View → Outcome → View → Type 0
 SameAfter o v o' v' = (o ≡ o') × (v.origin ≡ v'.origin) × (v.journal ≡ v'.journal)
 
-call_same : (call : Call) (a b : Stand) (v w : View) (o o' : Outcome) → IsStep no_callbacks a.hive (step_at a call) o v → IsStep no_callbacks b.hive (step_at b call) o' w
+call_same : (call : Call) (a b : Stand) (v w : View) (o o' : Outcome) → IsStep no_callbacks a.hive (step_at a call) o v →
+    IsStep no_callbacks b.hive (step_at b call) o' w
     → IsDue a.hive (step_at a call) o → IsDue b.hive (step_at b call) o' → Same a b → SameAfter o v o' w
 call_same (Change change) a b v w (Changed r) (Changed r') h k due due' s =
     let x = change_known (change_cause (state a.hive) a.session change 0) a.hive v a.session a.moment change r h due in
@@ -120,12 +133,19 @@ call_same (Query query) a b v w (Answered r) (Changed r') h k due due' s = absur
 same_along : (a b x y : Stand) → a ≡ x → b ≡ y → Same x y → Same a b
 same_along a b x y e f s = subst (λ (p : Stand). Same p b) (sym e) (subst (λ (q : Stand). Same x q) (sym f) s)
 
-line_same : (m : Meaning) (a b a' b' : Stand) (t t' : List ℕ) (p : IsSaid m a t a') (q : IsSaid m b t' b') → IsAmple m a t a' p → IsAmple m b t' b' q → Same a b → (t ≡ t') × Same a' b'
+line_same : (m : Meaning) (a b a' b' : Stand) (t t' : List ℕ) (p : IsSaid m a t a') (q : IsSaid m b t' b') → IsAmple m a t a' p →
+    IsAmple m b t' b' q → Same a b → (t ≡ t') × Same a' b'
 line_same nothing a b a' b' t t' p q d d' s = (p.0 ∙ sym q.0, same_along a' b' a b p.1 q.1 s)
-line_same (at_moment moment) a b a' b' t t' p q d d' s =
-    (p.0 ∙ sym q.0, same_along a' b' (record a { moment = moment }) (record b { moment = moment }) p.1 q.1 (record { origin = s.origin; journal = s.journal; moment = refl; session = s.session }))
-line_same (as_session session) a b a' b' t t' p q d d' s =
-    (p.0 ∙ sym q.0, same_along a' b' (record a { session = session }) (record b { session = session }) p.1 q.1 (record { origin = s.origin; journal = s.journal; moment = s.moment; session = refl }))
+line_same (at_moment moment) a b a' b' t t' p q d d' s = (
+  p.0 ∙ sym q.0,
+  same_along a' b' (record a { moment = moment }) (record b { moment = moment }) p.1 q.1
+      (record { origin = s.origin; journal = s.journal; moment = refl; session = s.session }),
+)
+line_same (as_session session) a b a' b' t t' p q d d' s = (
+  p.0 ∙ sym q.0,
+  same_along a' b' (record a { session = session }) (record b { session = session }) p.1 q.1
+      (record { origin = s.origin; journal = s.journal; moment = s.moment; session = refl }),
+)
 line_same on_hive a b a' b' t t' p q d d' s = (p.0 ∙ sym q.0, same_along a' b' a b p.1 q.1 s)
 line_same bad a b a' b' t t' p q d d' s = (p.0 ∙ sym q.0, same_along a' b' a b p.1 q.1 s)
 line_same (asks call) a b a' b' t t' p q d d' s =
@@ -141,7 +161,8 @@ line_same (asks call) a b a' b' t t' p q d d' s =
 
 -- ---- a script
 
-lines_same : (lines : List (List ℕ)) (a b a' b' : Stand) (t t' : List ℕ) (p : AreSaid lines a t a') (q : AreSaid lines b t' b') → AreAmple lines a t a' p → AreAmple lines b t' b' q → Same a b → t ≡ t'
+lines_same : (lines : List (List ℕ)) (a b a' b' : Stand) (t t' : List ℕ) (p : AreSaid lines a t a') (q : AreSaid lines b t' b') →
+    AreAmple lines a t a' p → AreAmple lines b t' b' q → Same a b → t ≡ t'
 lines_same [] a b a' b' t t' p q d d' s = p.0 ∙ sym q.0
 lines_same (line ∷ lines) a b a' b' t t' p q d d' s =
     let h = line_same (meaning_of line) a b p.0 q.0 p.1 q.1 p.3 q.3 d.0 d'.0 s in
@@ -150,4 +171,5 @@ lines_same (line ∷ lines) a b a' b' t t' p q d d' s =
 
 pub one_text : HasOneText
 one_text old new new' script text text' p q =
-    lines_same (lines_of script) _ _ p.lines.0 q.lines.0 text text' p.lines.1 q.lines.1 p.ample q.ample (record { origin = refl; journal = refl; moment = refl; session = refl })
+    lines_same (lines_of script) _ _ p.lines.0 q.lines.0 text text' p.lines.1 q.lines.1 p.ample q.ample
+    (record { origin = refl; journal = refl; moment = refl; session = refl })

@@ -40,7 +40,8 @@ fed_then (l ∷ ls) ms = ap (λ (w : List ℕ). l ++ 10 ∷ w) (fed_then ls ms) 
 pub lines_fed : (ls : List (List ℕ)) (rest : List ℕ) → AllByRecursion IsLine ls → lines_of (with_feeds ls ++ rest) ≡ ls ++ lines_of rest
 lines_fed [] rest h = refl
 lines_fed (l ∷ ls) rest h =
-    ap lines_of (append_assoc l (10 ∷ with_feeds ls) rest) ∙ (line_ended l (with_feeds ls ++ rest) h.0.no_feed ∙ ap (λ (w : List (List ℕ)). l ∷ w) (lines_fed ls rest h.1))
+    ap lines_of (append_assoc l (10 ∷ with_feeds ls) rest) ∙
+    (line_ended l (with_feeds ls ++ rest) h.0.no_feed ∙ ap (λ (w : List (List ℕ)). l ∷ w) (lines_fed ls rest h.1))
 
 lines_then : (ls ms : List (List ℕ)) → AllByRecursion IsLine ls → AllByRecursion IsLine ms → AllByRecursion IsLine (ls ++ ms)
 lines_then [] ms h k = k
@@ -51,11 +52,13 @@ lines_short [] h = tt
 lines_short (l ∷ ls) h = (h.0.short, lines_short ls h.1)
 
 pub short_then : (ls ms : List (List ℕ)) → AllByRecursion (λ (line : List ℕ). length line ≤ longest_line) ls →
-    AllByRecursion (λ (line : List ℕ). length line ≤ longest_line) ms → AllByRecursion (λ (line : List ℕ). length line ≤ longest_line) (ls ++ ms)
+    AllByRecursion (λ (line : List ℕ). length line ≤ longest_line) ms →
+    AllByRecursion (λ (line : List ℕ). length line ≤ longest_line) (ls ++ ms)
 short_then [] ms h k = k
 short_then (l ∷ ls) ms h k = (h.0, short_then ls ms h.1 k)
 
-pub said_then : (ls ms : List (List ℕ)) (a b c : Stand) (r s : List ℕ) → AreSaid ls a r b → AreSaid ms b s c → AreSaid (ls ++ ms) a (r ++ s) c
+pub said_then : (ls ms : List (List ℕ)) (a b c : Stand) (r s : List ℕ) → AreSaid ls a r b → AreSaid ms b s c →
+    AreSaid (ls ++ ms) a (r ++ s) c
 said_then [] ms a b c r s h k =
     subst (λ (w : List ℕ). AreSaid ms a (w ++ s) c) (sym h.0) (subst (λ (x : Stand). AreSaid ms x s c) h.1 k)
 said_then (l ∷ ls) ms a b c r s h k =
@@ -75,7 +78,8 @@ appends_then (Some a) (Some b) (Some c) xs ys h k = k ∙ (ap (λ (w : List ℕ)
 
 gathers_then : (a b c r s p q : List ℕ) → a ++ r ≡ p ++ b → b ++ s ≡ q ++ c → a ++ (r ++ s) ≡ (p ++ q) ++ c
 gathers_then a b c r s p q h k =
-    sym (append_assoc a r s) ∙ (ap (λ (w : List ℕ). w ++ s) h ∙ (append_assoc p b s ∙ (ap (λ (w : List ℕ). p ++ w) k ∙ sym (append_assoc p q c))))
+    sym (append_assoc a r s) ∙
+    (ap (λ (w : List ℕ). w ++ s) h ∙ (append_assoc p b s ∙ (ap (λ (w : List ℕ). p ++ w) k ∙ sym (append_assoc p q c))))
 
 pub passes_then : (a b c : Position) (r s : List ℕ) → Passes a r b → Passes b s c → Passes a (r ++ s) c
 passes_then a b c r s h k = record {
@@ -96,14 +100,21 @@ takes_none position steady = record {
   counts = omega arith;
   replies = [];
   said = (refl, refl);
-  passes = record { passed = []; appends = appends_none position.sent; gathers = append-nil position.gathered; counts = omega (arith, steady.count) };
+  passes = record {
+    passed = [];
+    appends = appends_none position.sent;
+    gathers = append-nil position.gathered;
+    counts = omega
+        (arith, steady.count);
+  };
 }
 
 pub takes_then : (a b c : Position) (xs ys : List ℕ) → Takes a xs b → Takes b ys c → Takes a (xs ++ ys) c
 takes_then a b c xs ys h k = record {
   steady = k.steady;
   ended = h.ended ++ k.ended;
-  splits = gathers_then a.begun b.begun c.begun xs ys (with_feeds h.ended) (with_feeds k.ended) h.splits k.splits ∙ ap (λ (w : List ℕ). w ++ c.begun) (sym (fed_then h.ended k.ended));
+  splits = gathers_then a.begun b.begun c.begun xs ys (with_feeds h.ended) (with_feeds k.ended) h.splits k.splits ∙
+      ap (λ (w : List ℕ). w ++ c.begun) (sym (fed_then h.ended k.ended));
   are_lines = lines_then h.ended k.ended h.are_lines k.are_lines;
   counts = omega (arith, h.counts, k.counts, length-append h.ended k.ended);
   replies = h.replies ++ k.replies;
@@ -112,7 +123,8 @@ takes_then a b c xs ys h k = record {
 }
 
 -- a byte that is no LF joins the line that was begun
-pub takes_byte : (old : Position) (b : ℕ) (line : List ℕ) → IsSteady old → old.lines < most_lines → length old.begun < longest_line → b ≢ 10 →
+pub takes_byte : (old : Position) (b : ℕ) (line : List ℕ) → IsSteady old → old.lines < most_lines → length old.begun < longest_line →
+    b ≢ 10 →
     line ≡ old.begun ++ b ∷ [] → Takes old (b ∷ []) (record old { begun = line })
 takes_byte old b line steady fewer shorter plain e =
     subst (λ (w : List ℕ). Takes old (b ∷ []) (record old { begun = w })) (sym e) (record {
@@ -129,19 +141,33 @@ takes_byte old b line steady fewer shorter plain e =
       counts = omega arith;
       replies = [];
       said = (refl, refl);
-      passes = record { passed = []; appends = appends_none old.sent; gathers = append-nil old.gathered; counts = omega (arith, steady.count) };
+      passes = record {
+        passed = [];
+        appends = appends_none old.sent;
+        gathers = append-nil old.gathered;
+        counts = omega
+            (arith, steady.count);
+      };
     })
 
 -- where a script stands once an LF has ended the line that was begun, and its reply is gathered
 abbrev pub after_line : Position → Stand → List ℕ → Position
-after_line old stand text = record { stand = stand; lines = old.lines + 1; begun = []; gathered = text; sent = old.sent; written = old.written }
+after_line old stand text =
+    record { stand = stand; lines = old.lines + 1; begun = []; gathered = text; sent = old.sent; written = old.written }
 
 pub takes_feed : (old : Position) (stand : Stand) (b : ℕ) (reply text : List ℕ) → b ≡ 10 → IsSteady old → old.lines < most_lines →
     IsSaid (meaning_of old.begun) old.stand reply stand → text ≡ old.gathered ++ reply
     → Takes old (b ∷ []) (after_line old stand text)
 takes_feed old stand b reply text is steady fewer said adds =
     subst (λ (w : ℕ). Takes old (w ∷ []) (after_line old stand text)) (sym is) (record {
-      steady = record { no_feed = tt; short = omega arith; few = omega (arith, fewer); one_more = λ (some : 0 < 0). absurd (omega (arith, some)); count = steady.count };
+      steady = record {
+        no_feed = tt;
+        short = omega arith;
+        few = omega (arith, fewer);
+        one_more = λ (some : 0 < 0). absurd
+            (omega (arith, some));
+        count = steady.count;
+      };
       ended = old.begun ∷ [];
       splits = sym (append-nil (old.begun ++ 10 ∷ []));
       are_lines = (record { no_feed = steady.no_feed; short = steady.short }, tt);
@@ -151,7 +177,8 @@ takes_feed old stand b reply text is steady fewer said adds =
       passes = record { passed = []; appends = appends_none old.sent; gathers = sym adds; counts = omega (arith, steady.count) };
     })
 
-settled : (mid new : Position) → mid.written ≤ 18446744073709551615 → IsSettled mid.sent new.sent mid.gathered new.gathered mid.written new.written → Passes mid [] new
+settled : (mid new : Position) → mid.written ≤ 18446744073709551615 →
+    IsSettled mid.sent new.sent mid.gathered new.gathered mid.written new.written → Passes mid [] new
 settled mid new below (inl h) = record {
   passed = [];
   appends = subst (λ (o : Option (List ℕ)). Appends mid.sent o []) (sym h.0) (appends_none mid.sent);
@@ -168,11 +195,13 @@ settled mid new below (inr h) = record {
 -- then what was gathered may be sent
 pub takes_line : (old new : Position) (b : ℕ) (reply text : List ℕ) (before : ℕ) → b ≡ 10 → IsSteady old → old.lines < most_lines →
     IsSaid (meaning_of old.begun) old.stand reply new.stand → text ≡ old.gathered ++ reply
-    → new.begun ≡ [] → new.lines ≡ old.lines + 1 → before ≡ old.written → IsSettled old.sent new.sent text new.gathered before new.written → Takes old (b ∷ []) new
+    → new.begun ≡ [] → new.lines ≡ old.lines + 1 → before ≡ old.written →
+    IsSettled old.sent new.sent text new.gathered before new.written → Takes old (b ∷ []) new
 takes_line old new b reply text before is steady fewer said adds cleared counts same settles =
     let mid = after_line old new.stand text in
     let h = takes_feed old new.stand b reply text is steady fewer said adds in
-    let p : Passes mid [] new = settled mid new steady.count (subst (λ (n : ℕ). IsSettled old.sent new.sent text new.gathered n new.written) same settles) in
+    let p : Passes mid [] new = settled mid new steady.count
+    (subst (λ (n : ℕ). IsSettled old.sent new.sent text new.gathered n new.written) same settles) in
     let empty : length new.begun ≡ 0 = ap (λ (w : List ℕ). length w) cleared in
     record {
       steady = record {
@@ -192,7 +221,8 @@ takes_line old new b reply text before is steady fewer said adds cleared counts 
     }
 
 -- one more byte of some bytes
-pub takes_more : (a b c : Position) (bytes : List ℕ) (i : ℕ) → i < length bytes → Takes a (take i bytes) b → Takes b (get_or bytes i 0 ∷ []) c → Takes a (take (i + 1) bytes) c
+pub takes_more : (a b c : Position) (bytes : List ℕ) (i : ℕ) → i < length bytes → Takes a (take i bytes) b →
+    Takes b (get_or bytes i 0 ∷ []) c → Takes a (take (i + 1) bytes) c
 takes_more a b c bytes i below h k =
     subst (λ (w : List ℕ). Takes a w c) (sym (take_more bytes i 0 below)) (takes_then a b c (take i bytes) (get_or bytes i 0 ∷ []) h k)
 
@@ -220,7 +250,8 @@ take_none [] = refl
 take_none (b ∷ bs) = refl
 
 -- a read that gave nothing
-pub consumes_no_more : (a b c : Option (List ℕ)) (xs buffer : List ℕ) (n : ℕ) → Consumes a b xs → Consumes b c (take n buffer) → n ≡ 0 → Consumes a c xs
+pub consumes_no_more : (a b c : Option (List ℕ)) (xs buffer : List ℕ) (n : ℕ) → Consumes a b xs → Consumes b c (take n buffer) → n ≡ 0 →
+    Consumes a c xs
 consumes_no_more a b c xs buffer n h k none =
     let empty : take n buffer ≡ [] = ap (λ (m : ℕ). take m buffer) none ∙ take_none buffer in
     subst (λ (w : List ℕ). Consumes a c w) (ap (λ (w : List ℕ). xs ++ w) empty ∙ append-nil xs) (consumes_then a b c xs (take n buffer) h k)
@@ -228,28 +259,34 @@ consumes_no_more a b c xs buffer n h k none =
 -- ---- the end
 
 -- the line that was begun ends with the script
-pub begun_said : (line : List ℕ) (old new : Stand) (reply : List ℕ) → 0 < length line → HasNoFeed line → IsSaid (meaning_of line) old reply new → AreSaid (lines_of line) old reply new
+pub begun_said : (line : List ℕ) (old new : Stand) (reply : List ℕ) → 0 < length line → HasNoFeed line →
+    IsSaid (meaning_of line) old reply new → AreSaid (lines_of line) old reply new
 begun_said [] old new reply some no_feed said = absurd (omega arith)
 begun_said (b ∷ bs) old new reply some no_feed said =
-    subst (λ (ls : List (List ℕ)). AreSaid ls old reply new) (sym (line_last b bs no_feed)) (new, reply, [], said, (refl, refl), sym (append-nil reply))
+    subst (λ (ls : List (List ℕ)). AreSaid ls old reply new) (sym (line_last b bs no_feed))
+    (new, reply, [], said, (refl, refl), sym (append-nil reply))
 
 -- the lines of a line that was begun: none, or that one
-begun_lines : (line : List ℕ) → HasNoFeed line → length line ≤ longest_line → AllByRecursion (λ (l : List ℕ). length l ≤ longest_line) (lines_of line)
+begun_lines : (line : List ℕ) → HasNoFeed line → length line ≤ longest_line →
+    AllByRecursion (λ (l : List ℕ). length l ≤ longest_line) (lines_of line)
 begun_lines [] no_feed short = tt
 begun_lines (b ∷ bs) no_feed short =
     subst (λ (ls : List (List ℕ)). AllByRecursion (λ (l : List ℕ). length l ≤ longest_line) ls) (sym (line_last b bs no_feed)) (short, tt)
 
-begun_few : (line : List ℕ) (n : ℕ) → HasNoFeed line → n ≤ most_lines → (0 < length line → n < most_lines) → n + length (lines_of line) ≤ most_lines
+begun_few : (line : List ℕ) (n : ℕ) → HasNoFeed line → n ≤ most_lines → (0 < length line → n < most_lines) →
+    n + length (lines_of line) ≤ most_lines
 begun_few [] n no_feed few one_more = omega (arith, few)
 begun_few (b ∷ bs) n no_feed few one_more =
     let fewer = one_more (omega arith) in
     let one : length (lines_of (b ∷ bs)) ≡ 1 = ap (λ (ls : List (List ℕ)). length ls) (line_last b bs no_feed) in
     omega (arith, fewer, one)
 
-pub ends_at : (old mid new : Position) (script reply : List ℕ) → Takes old script mid → AreSaid (lines_of mid.begun) mid.stand reply new.stand
+pub ends_at : (old mid new : Position) (script reply : List ℕ) → Takes old script mid →
+    AreSaid (lines_of mid.begun) mid.stand reply new.stand
     → new.gathered ≡ mid.gathered ++ reply → new.sent ≡ mid.sent → new.written ≡ mid.written → Ends old script new
 ends_at old mid new script reply h said adds same counts =
-    let lines : lines_of (old.begun ++ script) ≡ h.ended ++ lines_of mid.begun = ap lines_of h.splits ∙ lines_fed h.ended mid.begun h.are_lines in
+    let lines : lines_of (old.begun ++ script) ≡ h.ended ++ lines_of mid.begun = ap lines_of h.splits ∙
+    lines_fed h.ended mid.begun h.are_lines in
     let p : Passes mid reply new = record {
       passed = [];
       appends = subst (λ (o : Option (List ℕ)). Appends mid.sent o []) (sym same) (appends_none mid.sent);
@@ -257,11 +294,13 @@ ends_at old mid new script reply h said adds same counts =
       counts = omega (arith, counts, h.steady.count);
     } in
     let few = begun_few mid.begun mid.lines h.steady.no_feed h.steady.few h.steady.one_more in
-    let many : length (lines_of (old.begun ++ script)) ≡ length h.ended + length (lines_of mid.begun) = ap (λ (ls : List (List ℕ)). length ls) lines ∙ length-append h.ended (lines_of mid.begun) in
+    let many : length (lines_of (old.begun ++ script)) ≡ length h.ended + length (lines_of mid.begun) = ap
+    (λ (ls : List (List ℕ)). length ls) lines ∙ length-append h.ended (lines_of mid.begun) in
     record {
       few = omega (arith, few, many, h.counts);
       short = subst (λ (ls : List (List ℕ)). AllByRecursion (λ (l : List ℕ). length l ≤ longest_line) ls) (sym lines)
-          (short_then h.ended (lines_of mid.begun) (lines_short h.ended h.are_lines) (begun_lines mid.begun h.steady.no_feed h.steady.short));
+          (short_then h.ended (lines_of mid.begun) (lines_short h.ended h.are_lines)
+          (begun_lines mid.begun h.steady.no_feed h.steady.short));
       replies = h.replies ++ reply;
       said = subst (λ (ls : List (List ℕ)). AreSaid ls old.stand (h.replies ++ reply) new.stand) (sym lines)
           (said_then h.ended (lines_of mid.begun) old.stand mid.stand new.stand h.replies reply h.said said);

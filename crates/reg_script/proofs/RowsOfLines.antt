@@ -303,7 +303,8 @@ text-changed : changed_text (record { status = 0; number = Some 1; handle = None
 unfolding digits
 text-changed = refl
 
-text-created : changed_text (record { status = 0; number = Some 9; handle = Some 9; disposition = Some 1 }) ≡ codes "0 handle 9 disposition 1\n"
+text-created : changed_text
+    (record { status = 0; number = Some 9; handle = Some 9; disposition = Some 1 }) ≡ codes "0 handle 9 disposition 1\n"
 unfolding digits
 text-created = refl
 
@@ -345,11 +346,13 @@ unfolding digits
 text-short_key = refl
 
 -- a space, a `%`, a byte above 0x7E, and the plain bytes at the ends
-text-escaped : answer_text (Query (EnumKey 0 0 255)) (Key (32 ∷ 37 ∷ 255 ∷ 33 ∷ 126 ∷ 10 ∷ []) 116444736000000000) ≡ codes "0 =%20%25%FF!~%0A time 116444736000000000\n"
+text-escaped : answer_text (Query (EnumKey 0 0 255))
+    (Key (32 ∷ 37 ∷ 255 ∷ 33 ∷ 126 ∷ 10 ∷ []) 116444736000000000) ≡ codes "0 =%20%25%FF!~%0A time 116444736000000000\n"
 unfolding digits byte_text
 text-escaped = refl
 
-text-member : answer_text (Query (EnumValue 0 0 255 (Some 4))) (Member (codes "v 1") 3 2 (Some (171 ∷ 0 ∷ []))) ≡ codes "0 =v%201 type 3 size 2 xab00\n"
+text-member : answer_text (Query (EnumValue 0 0 255 (Some 4)))
+    (Member (codes "v 1") 3 2 (Some (171 ∷ 0 ∷ []))) ≡ codes "0 =v%201 type 3 size 2 xab00\n"
 unfolding digits hex_on_literals byte_text
 text-member = refl
 
@@ -361,7 +364,8 @@ text-short_member : answer_text (Query (EnumValue 0 0 0 None)) (Short 234 1 2) �
 unfolding digits
 text-short_member = refl
 
-text-info : answer_text (Query (QueryInfo 0)) (Info 1 2 3 4 5 20 6) ≡ codes "0 subkeys 1 longest 2 values 3 longest 4 largest 5 security 20 time 6\n"
+text-info : answer_text (Query (QueryInfo 0))
+    (Info 1 2 3 4 5 20 6) ≡ codes "0 subkeys 1 longest 2 values 3 longest 4 largest 5 security 20 time 6\n"
 unfolding digits
 text-info = refl
 

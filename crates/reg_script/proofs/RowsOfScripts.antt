@@ -156,7 +156,8 @@ abbrev at_described : View → Keys → Stand
 at_described hive keys = record { hive = described hive keys; moment = 0; session = 0 }
 
 -- the descriptor that was set is told, where there is room for it
-set_and_told : (hive : View) (keys : Keys) → IsHive (allowed hive) → IsHive (described hive keys) → length keys.bins.bytes ≡ length hive.keys.bins.bytes →
+set_and_told : (hive : View) (keys : Keys) → IsHive (allowed hive) → IsHive (described hive keys) →
+    length keys.bins.bytes ≡ length hive.keys.bins.bytes →
     Lines (fresh hive) (codes "root 393216\ngetsec 0 19\nsetsec 0 x0102\ngetsec 0 1\ngetsec 0 2\n")
     (codes "0 handle 0\n122 size 20\n0\n122 size 2\n0 x0102\n") (described hive keys)
 unfolding on_lines digits hex_on_literals after early_cause late_cause early_query_cause late_query_cause reply_to body_of
@@ -185,7 +186,15 @@ set_and_told hive keys is_allowed is_described same =
             codes "122 size 2\n0 x0102\n",
             (
               Changed (record { status = 0; number = Some 1; handle = None; disposition = None }),
-              inl (record { says = refl; journal = refl; origin = refl; kept = omega (arith, same); grows = omega (arith, same); hive = is_described }),
+              inl (record {
+                says = refl;
+                journal = refl;
+                origin = refl;
+                kept = omega (arith, same);
+                grows = omega
+                    (arith, same);
+                hive = is_described;
+              }),
               refl,
               refl,
             ),
@@ -297,7 +306,15 @@ trees_deleted hive left root free-tree free-contents is_left is_root same-left s
         (
           Changed (record { status = 0; number = Some (length hive.journal); handle = None; disposition = None }),
           rw free-tree
-              (inl (record { says = refl; journal = refl; origin = refl; kept = omega (arith, same-left); grows = omega (arith, same-left); hive = is_left })),
+              (inl (record {
+                says = refl;
+                journal = refl;
+                origin = refl;
+                kept = omega (arith, same-left);
+                grows = omega
+                    (arith, same-left);
+                hive = is_left;
+              })),
           refl,
           refl,
         ),
@@ -308,7 +325,15 @@ trees_deleted hive left root free-tree free-contents is_left is_root same-left s
           (
             Changed (record { status = 0; number = Some (length (past_tree hive left).journal); handle = None; disposition = None }),
             rw free-contents
-                (inl (record { says = refl; journal = refl; origin = refl; kept = omega (arith, same-root); grows = omega (arith, same-root); hive = is_root })),
+                (inl (record {
+                  says = refl;
+                  journal = refl;
+                  origin = refl;
+                  kept = omega (arith, same-root);
+                  grows = omega
+                      (arith, same-root);
+                  hive = is_root;
+                })),
             refl,
             refl,
           ),

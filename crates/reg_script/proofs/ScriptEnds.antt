@@ -26,30 +26,37 @@ pub record IsStart (position : Position) (hive : View) : Type 0 where
 same_position : (position : Position) → IsIdle position position
 same_position position = record { gathered = refl; sent = refl; written = refl }
 
-said_whole : (old new : Position) (hive : View) (script : List ℕ) → IsStart old hive → (e : Ends old script new) → AreSaid (lines_of script) (begins hive) e.replies new.stand
+said_whole : (old new : Position) (hive : View) (script : List ℕ) → IsStart old hive → (e : Ends old script new) →
+    AreSaid (lines_of script) (begins hive) e.replies new.stand
 said_whole old new hive script start e =
-    subst (λ (s : Stand). AreSaid (lines_of script) s e.replies new.stand) start.stand (subst (λ (w : List ℕ). AreSaid (lines_of (w ++ script)) old.stand e.replies new.stand) start.begun e.said)
+    subst (λ (s : Stand). AreSaid (lines_of script) s e.replies new.stand) start.stand
+    (subst (λ (w : List ℕ). AreSaid (lines_of (w ++ script)) old.stand e.replies new.stand) start.begun e.said)
 
 within_whole : (old new : Position) (hive : View) (script : List ℕ) → IsStart old hive → Ends old script new → AreWithin (lines_of script)
 within_whole old new hive script start e =
-    subst (λ (w : List ℕ). AreWithin (lines_of (w ++ script))) start.begun (record { few = omega (arith, e.few, start.lines); short = e.short })
+    subst (λ (w : List ℕ). AreWithin (lines_of (w ++ script))) start.begun
+    (record { few = omega (arith, e.few, start.lines); short = e.short })
 
 -- what was written is the script's lines, the last of which left the moment so
 abbrev pub IsWhole : View → View → ℕ → Option (List ℕ) → Option (List ℕ) → Option (List ℕ) → Option (List ℕ) → Type 0
 IsWhole hive new moment unread left before after =
-    (script : List ℕ) × (text : List ℕ) × Consumes unread left script × LinesTo hive script text new moment × Appends before after text × AreWithin (lines_of script)
+    (script : List ℕ) × (text : List ℕ) × Consumes unread left script × LinesTo hive script text new moment × Appends before after text ×
+    AreWithin (lines_of script)
 
 -- the same without the moment
 abbrev pub IsRun : View → View → Option (List ℕ) → Option (List ℕ) → Option (List ℕ) → Option (List ℕ) → Type 0
 IsRun hive new unread left before after =
-    (script : List ℕ) × (text : List ℕ) × Consumes unread left script × Lines hive script text new × Appends before after text × AreWithin (lines_of script)
+    (script : List ℕ) × (text : List ℕ) × Consumes unread left script × Lines hive script text new × Appends before after text ×
+    AreWithin (lines_of script)
 
-pub without_moment : (hive new : View) (moment : ℕ) (unread left before after : Option (List ℕ)) → IsWhole hive new moment unread left before after
+pub without_moment : (hive new : View) (moment : ℕ) (unread left before after : Option (List ℕ)) →
+    IsWhole hive new moment unread left before after
     → IsRun hive new unread left before after
 without_moment hive new moment unread left before after w = (w.0, w.1, w.2, (w.3.0, w.3.1, w.3.2), w.4, w.5)
 
 ended_whole : (old new : Position) (hive : View) (script : List ℕ) (unread left final : Option (List ℕ)) → IsStart old hive →
-    Consumes unread left script → Ends old script new → Appends new.sent final new.gathered → IsWhole hive new.stand.hive new.stand.moment unread left old.sent final
+    Consumes unread left script → Ends old script new → Appends new.sent final new.gathered →
+    IsWhole hive new.stand.hive new.stand.moment unread left old.sent final
 ended_whole old new hive script unread left final start consumes e sent = (
   script,
   e.replies,
@@ -60,7 +67,8 @@ ended_whole old new hive script unread left final start consumes e sent = (
 )
 
 -- the last write was cut
-ended_cut : (old new : Position) (hive : View) (script : List ℕ) (unread left final : Option (List ℕ)) (fault : ScriptFault) → IsStart old hive →
+ended_cut : (old new : Position) (hive : View) (script : List ℕ) (unread left final : Option (List ℕ)) (fault : ScriptFault) →
+    IsStart old hive →
     IsAtEnd left → Consumes unread left script → Ends old script new → IsCut new.sent final new.gathered new.written fault
     → Stops fault unread left hive new.stand.hive old.sent final
 ended_cut old new hive script unread left final fault start at_end consumes e cut =
@@ -73,33 +81,42 @@ ended_cut old new hive script unread left final fault start at_end consumes e cu
       last = new.stand;
       said = said_whole old new hive script start e;
       stands = (inr (refl, at_end), inl refl);
-      written = cut_sent old new e.replies final _ e.passes start.gathered start.written (subst (λ (f : ScriptFault). IsCut new.sent final new.gathered new.written f) cut.says cut);
+      written = cut_sent old new e.replies final _ e.passes start.gathered start.written
+          (subst (λ (f : ScriptFault). IsCut new.sent final new.gathered new.written f) cut.says cut);
     })
 
 -- ---- a script that stopped before
 
 -- how many lines were answered
-count_is : (old : Position) (hive : View) (script : List ℕ) (new : Position) → IsStart old hive → (t : Takes old script new) → new.lines ≡ length t.ended
+count_is : (old : Position) (hive : View) (script : List ℕ) (new : Position) → IsStart old hive → (t : Takes old script new) →
+    new.lines ≡ length t.ended
 count_is old hive script new start t = omega (arith, start.lines, t.counts)
 
 read_failed : (old new : Position) (hive : View) (script : List ℕ) (unread left final : Option (List ℕ)) → IsStart old hive →
     Consumes unread left script → Halts (past left) old script new Read → Appends new.sent final new.gathered →
     Stops Read unread left hive new.stand.hive old.sent final
 read_failed old new hive script unread left final start consumes k sent =
-    let ends = unended k.takes.ended k.mid k.back k.takes.are_lines k.takes.steady (count_is old hive k.front k.mid start k.takes) k.faults.2 in
+    let ends = unended k.takes.ended k.mid k.back k.takes.are_lines k.takes.steady
+    (count_is old hive k.front k.mid start k.takes) k.faults.2 in
     stops_with (past left) old new hive new.stand.hive script Read Read unread left final k consumes start.lines start.begun start.stand
     (ends.0, ends.1, ends.2, k.faults.1)
     (all_sent old k.mid new k.takes.replies final k.takes.passes start.gathered k.faults.0 sent)
 
-too_long : (old new : Position) (hive : View) (script : List ℕ) (unread left final : Option (List ℕ)) → IsStart old hive → Consumes unread left script →
-    Halts (past left) old script new TooLong → Appends new.sent final new.gathered → Stops TooLong unread left hive new.stand.hive old.sent final
+too_long : (old new : Position) (hive : View) (script : List ℕ) (unread left final : Option (List ℕ)) → IsStart old hive →
+    Consumes unread left script →
+    Halts (past left) old script new TooLong → Appends new.sent final new.gathered →
+    Stops TooLong unread left hive new.stand.hive old.sent final
 too_long old new hive script unread left final start consumes k sent =
-    stops_with (past left) old new hive new.stand.hive script TooLong TooLong unread left final k consumes start.lines start.begun start.stand
-    (fed_ends k.takes.ended, passing k.takes.ended k.mid.lines _ k.takes.are_lines (count_is old hive k.front k.mid start k.takes) k.faults.2, k.faults.1)
+    stops_with (past left) old new hive new.stand.hive script TooLong TooLong unread left final k consumes start.lines start.begun start.stand (
+      fed_ends k.takes.ended,
+      passing k.takes.ended k.mid.lines _ k.takes.are_lines (count_is old hive k.front k.mid start k.takes) k.faults.2,
+      k.faults.1,
+    )
     (all_sent old k.mid new k.takes.replies final k.takes.passes start.gathered k.faults.0 sent)
 
 -- the hive is as the lines left it, or one more line was answered on it
-reached : (old mid : Position) (hive : View) (front back : List ℕ) (left : Option (List ℕ)) (new : View) → IsStart old hive → (t : Takes old front mid) →
+reached : (old mid : Position) (hive : View) (front back : List ℕ) (left : Option (List ℕ)) (new : View) → IsStart old hive →
+    (t : Takes old front mid) →
     ((new ≡ mid.stand.hive) ⊎ IsLost (past left) mid back new) → IsReached (with_feeds t.ended) (mid.begun ++ back) left mid.stand new
 reached old mid hive front back left new start t (inl h) = inl h
 reached old mid hive front back left new start t (inr h) =
@@ -117,13 +134,15 @@ write_failed : (old new : Position) (hive : View) (script : List ℕ) (written :
     Consumes unread left script → Halts (past left) old script new (Write written) → final ≡ new.sent
     → Stops (Write written) unread left hive new.stand.hive old.sent final
 write_failed old new hive script written unread left final start consumes k same =
-    stops_with (past left) old new hive new.stand.hive script (Write written) (Write written) unread left final k consumes start.lines start.begun start.stand
+    stops_with (past left) old new hive new.stand.hive script (Write written)
+    (Write written) unread left final k consumes start.lines start.begun start.stand
     (inl (fed_ends k.takes.ended), inl k.faults.1)
     (cut_sent old k.mid k.takes.replies final written k.takes.passes start.gathered start.written
     (subst (λ (o : Option (List ℕ)). IsCut k.mid.sent o k.mid.gathered k.mid.written (Write written)) (sym same) k.faults.0))
 
 -- the write after another fault was cut
-then_cut : (old new : Position) (hive : View) (script : List ℕ) (first fault : ScriptFault) (unread left final : Option (List ℕ)) → IsStart old hive →
+then_cut : (old new : Position) (hive : View) (script : List ℕ) (first fault : ScriptFault) (unread left final : Option (List ℕ)) →
+    IsStart old hive →
     Consumes unread left script → (k : Halts (past left) old script new first) → IsIdle k.mid new →
     ((new.stand.hive ≡ k.mid.stand.hive) ⊎ IsLost (past left) k.mid k.back new.stand.hive)
     → IsCut new.sent final new.gathered new.written fault → Stops fault unread left hive new.stand.hive old.sent final
@@ -142,12 +161,14 @@ then_cut old new hive script first fault unread left final start consumes k idle
 on_ok_of : (A : Type 0) (result : Result (Unit {0}) ScriptFault) (fault : ScriptFault) → result ≡ Err fault → OnOk result A
 on_ok_of A result fault e = subst (λ (r : Result (Unit {0}) ScriptFault). OnOk r A) (sym e) tt
 
-if_err_of : (P : ScriptFault → Type 0) (result : Result (Unit {0}) ScriptFault) (fault : ScriptFault) → result ≡ Err fault → P fault → IfErr result P
+if_err_of : (P : ScriptFault → Type 0) (result : Result (Unit {0}) ScriptFault) (fault : ScriptFault) → result ≡ Err fault → P fault →
+    IfErr result P
 if_err_of P result fault e p = subst (λ (r : Result (Unit {0}) ScriptFault). IfErr r P) (sym e) p
 
 pub closed_well : (A B : Type 0) (ended result : Result (Unit {0}) ScriptFault) (text : List ℕ) (before : ℕ) (old new : Option (List ℕ)) →
     Closes ended text before old new result → OnOk ended A → (A → Appends old new text → B) → OnOk result B
-closed_well A B (Ok done) result text before old new (inl h) a f = subst (λ (r : Result (Unit {0}) ScriptFault). OnOk r B) (sym h.0) (f a h.1)
+closed_well A B (Ok done) result text before old new (inl h) a f =
+    subst (λ (r : Result (Unit {0}) ScriptFault). OnOk r B) (sym h.0) (f a h.1)
 closed_well A B (Ok done) result text before old new (inr h) a f = on_ok_of _ result h.0 h.1
 closed_well A B (Err Read) result text before old new (inl h) a f = on_ok_of _ result Read h.0
 closed_well A B (Err Read) result text before old new (inr h) a f = on_ok_of _ result h.0 h.1
@@ -159,25 +180,34 @@ closed_well A B (Err Memory) result text before old new (inr h) a f = on_ok_of _
 
 pub run_whole : (old new : Position) (hive : View) (unread left final : Option (List ℕ)) (ended result : Result (Unit {0}) ScriptFault) →
     IsStart old hive → OnOk ended ((script : List ℕ) × Consumes unread left script × Ends old script new)
-    → Closes ended new.gathered new.written new.sent final result → OnOk result (IsWhole hive new.stand.hive new.stand.moment unread left old.sent final)
+    → Closes ended new.gathered new.written new.sent final result →
+    OnOk result (IsWhole hive new.stand.hive new.stand.moment unread left old.sent final)
 run_whole old new hive unread left final ended result start done closes =
-    closed_well _ _ ended result new.gathered new.written new.sent final closes done (λ e sent. ended_whole old new hive e.0 unread left final start e.1 e.2 sent)
+    closed_well _ _ ended result new.gathered new.written new.sent final closes done
+    (λ e sent. ended_whole old new hive e.0 unread left final start e.1 e.2 sent)
 
 pub run_stops : (old new : Position) (hive : View) (unread left final : Option (List ℕ)) (ended result : Result (Unit {0}) ScriptFault) →
     IsStart old hive → OnOk ended (IsAtEnd left) → OnOk ended ((script : List ℕ) × Consumes unread left script × Ends old script new)
     → IfErr ended (λ fault. (script : List ℕ) × Consumes unread left script × Halts (past left) old script new fault) →
-    Closes ended new.gathered new.written new.sent final result → IfErr result (λ fault. Stops fault unread left hive new.stand.hive old.sent final)
+    Closes ended new.gathered new.written new.sent final result →
+    IfErr result (λ fault. Stops fault unread left hive new.stand.hive old.sent final)
 run_stops old new hive unread left final (Ok done) result start a e k (inl h) =
-    subst (λ (r : Result (Unit {0}) ScriptFault). IfErr r (λ fault. Stops fault unread left hive new.stand.hive old.sent final)) (sym h.0) tt
-run_stops old new hive unread left final (Ok done) result start a e k (inr h) = if_err_of _ result h.0 h.1 (ended_cut old new hive e.0 unread left final h.0 start a e.1 e.2 h.2)
-run_stops old new hive unread left final (Err Read) result start a e k (inl h) = if_err_of _ result Read h.0 (read_failed old new hive k.0 unread left final start k.1 k.2 h.1)
+    subst (λ (r : Result (Unit {0}) ScriptFault). IfErr r (λ fault. Stops fault unread left hive new.stand.hive old.sent final))
+    (sym h.0) tt
+run_stops old new hive unread left final (Ok done) result start a e k (inr h) =
+    if_err_of _ result h.0 h.1 (ended_cut old new hive e.0 unread left final h.0 start a e.1 e.2 h.2)
+run_stops old new hive unread left final (Err Read) result start a e k (inl h) =
+    if_err_of _ result Read h.0 (read_failed old new hive k.0 unread left final start k.1 k.2 h.1)
 run_stops old new hive unread left final (Err Read) result start a e k (inr h) =
     if_err_of _ result h.0 h.1 (then_cut old new hive k.0 Read h.0 unread left final start k.1 k.2 k.2.faults.0 (inl k.2.faults.1) h.2)
-run_stops old new hive unread left final (Err (Write written)) result start a e k h = if_err_of _ result (Write written) h.0 (write_failed old new hive k.0 written unread left final start k.1 k.2 h.1)
-run_stops old new hive unread left final (Err TooLong) result start a e k (inl h) = if_err_of _ result TooLong h.0 (too_long old new hive k.0 unread left final start k.1 k.2 h.1)
+run_stops old new hive unread left final (Err (Write written)) result start a e k h =
+    if_err_of _ result (Write written) h.0 (write_failed old new hive k.0 written unread left final start k.1 k.2 h.1)
+run_stops old new hive unread left final (Err TooLong) result start a e k (inl h) =
+    if_err_of _ result TooLong h.0 (too_long old new hive k.0 unread left final start k.1 k.2 h.1)
 run_stops old new hive unread left final (Err TooLong) result start a e k (inr h) =
     if_err_of _ result h.0 h.1 (then_cut old new hive k.0 TooLong h.0 unread left final start k.1 k.2 k.2.faults.0 (inl k.2.faults.1) h.2)
-run_stops old new hive unread left final (Err Memory) result start a e k (inl h) = if_err_of _ result Memory h.0 (no_memory old new hive k.0 unread left final start k.1 k.2 h.1)
+run_stops old new hive unread left final (Err Memory) result start a e k (inl h) =
+    if_err_of _ result Memory h.0 (no_memory old new hive k.0 unread left final start k.1 k.2 h.1)
 run_stops old new hive unread left final (Err Memory) result start a e k (inr h) =
     if_err_of _ result h.0 h.1 (then_cut old new hive k.0 Memory h.0 unread left final start k.1 k.2 k.2.faults.0 k.2.faults.1 h.2)
 
@@ -196,7 +226,8 @@ pub ok_given : (A B : Type 0) (r : Result (Unit {0}) ScriptFault) → A → OnOk
 ok_given A B (Ok done) a f = f a
 ok_given A B (Err fault) a f = tt
 
-pub err_given : (A B C : Type 0) (P : ScriptFault → Type 0) (r : Result (Unit {0}) ScriptFault) → A → B → C → IfErr r (λ fault. A → B → C → P fault) → IfErr r P
+pub err_given : (A B C : Type 0) (P : ScriptFault → Type 0) (r : Result (Unit {0}) ScriptFault) → A → B → C →
+    IfErr r (λ fault. A → B → C → P fault) → IfErr r P
 err_given A B C P (Ok done) a b c f = tt
 err_given A B C P (Err fault) a b c f = f a b c
 
@@ -217,7 +248,8 @@ nothing_done hive unread before = record {
 -- ---- a whole run, where the script's position at its start and at its end are `old` and `new`
 
 module _ (old new : Position) (hive : View) (unread left final : Option (List ℕ)) (ended result : Result (Unit {0}) ScriptFault)
-    (lines : old.lines ≡ 0) (begun : old.begun ≡ []) (gathered : old.gathered ≡ []) (written : old.written ≡ 0) (stand : old.stand ≡ begins hive)
+    (lines : old.lines ≡ 0) (begun : old.begun ≡ []) (gathered : old.gathered ≡ []) (written : old.written ≡ 0)
+    (stand : old.stand ≡ begins hive)
     (ends : OnOk ended (IsSteady old → (script : List ℕ) × Consumes unread left script × Ends old script new))
     (closes : Closes ended new.gathered new.written new.sent final result) where
   start : IsStart old hive
@@ -227,7 +259,8 @@ module _ (old new : Position) (hive : View) (unread left final : Option (List �
   runs_whole = run_whole old new hive unread left final ended result start (ok_given _ _ ended (steady_start old hive start) ends) closes
 
   pub runs_into : OnOk ended (IsAtEnd left) →
-      IfErr ended (λ fault. IsSteady old → old.lines ≡ 0 → old.begun ≡ [] → (script : List ℕ) × Consumes unread left script × Halts (past left) old script new fault)
+      IfErr ended (λ fault. IsSteady old → old.lines ≡ 0 → old.begun ≡ [] → (script : List ℕ) × Consumes unread left script ×
+      Halts (past left) old script new fault)
       → IfErr result (λ fault. Stops fault unread left hive new.stand.hive old.sent final)
   runs_into at_end halts =
       run_stops old new hive unread left final ended result start at_end (ok_given _ _ ended (steady_start old hive start) ends)

@@ -43,32 +43,43 @@ ended_more : (begun back more : List ℕ) → HasEnded among begun back → HasE
 ended_more begun [] more h = absurd h.0
 ended_more begun (b ∷ bs) more h = h
 
-fault_more : (fault : ScriptFault) (mid new : Position) (back more : List ℕ) → IsFault among fault mid back new → IsFault among fault mid (back ++ more) new
+fault_more : (fault : ScriptFault) (mid new : Position) (back more : List ℕ) → IsFault among fault mid back new →
+    IsFault among fault mid (back ++ more) new
 fault_more Read mid new back more h = absurd h.2
 fault_more (Write written) mid new back more h = h
-fault_more TooLong mid new back more h =
-    (h.0, h.1, subst (λ (w : List ℕ). PassesBound mid.lines w) (append_assoc mid.begun back more) (passes_more mid.lines (mid.begun ++ back) more h.2))
+fault_more TooLong mid new back more h = (
+  h.0,
+  h.1,
+  subst (λ (w : List ℕ). PassesBound mid.lines w) (append_assoc mid.begun back more)
+      (passes_more mid.lines (mid.begun ++ back) more h.2),
+)
 fault_more Memory mid new back more (i, inl h) = (i, inl h)
-fault_more Memory mid new back more (i, inr h) = (i, inr (record { ended = ended_more mid.begun back more h.ended; few = h.few; answered = h.answered }))
+fault_more Memory mid new back more (i, inr h) =
+    (i, inr (record { ended = ended_more mid.begun back more h.ended; few = h.few; answered = h.answered }))
 
 ended_anywhere : (place : Place) (begun back : List ℕ) → HasEnded among begun back → HasEnded place begun back
 ended_anywhere place begun [] h = absurd h.0
 ended_anywhere place begun (b ∷ bs) h = h
 
 -- a fault among the bytes
-fault_anywhere : (place : Place) (fault : ScriptFault) (mid new : Position) (back : List ℕ) → IsFault among fault mid back new → IsFault place fault mid back new
+fault_anywhere : (place : Place) (fault : ScriptFault) (mid new : Position) (back : List ℕ) → IsFault among fault mid back new →
+    IsFault place fault mid back new
 fault_anywhere place Read mid new back h = absurd h.2
 fault_anywhere place (Write written) mid new back h = h
 fault_anywhere place TooLong mid new back h = h
 fault_anywhere place Memory mid new back (i, inl h) = (i, inl h)
-fault_anywhere place Memory mid new back (i, inr h) = (i, inr (record { ended = ended_anywhere place mid.begun back h.ended; few = h.few; answered = h.answered }))
+fault_anywhere place Memory mid new back (i, inr h) =
+    (i, inr (record { ended = ended_anywhere place mid.begun back h.ended; few = h.few; answered = h.answered }))
 
 -- ---- where it halts
 
-pub halts_here : (old new : Position) (bytes : List ℕ) (fault : ScriptFault) → IsSteady old → IsFault among fault old bytes new → Halts among old bytes new fault
-halts_here old new bytes fault steady faults = record { mid = old; front = []; back = bytes; splits = refl; takes = takes_none old steady; faults = faults }
+pub halts_here : (old new : Position) (bytes : List ℕ) (fault : ScriptFault) → IsSteady old → IsFault among fault old bytes new →
+    Halts among old bytes new fault
+halts_here old new bytes fault steady faults =
+    record { mid = old; front = []; back = bytes; splits = refl; takes = takes_none old steady; faults = faults }
 
-pub halts_after : (place : Place) (a b new : Position) (xs ys : List ℕ) (fault : ScriptFault) → Takes a xs b → Halts among b ys new fault → Halts place a (xs ++ ys) new fault
+pub halts_after : (place : Place) (a b new : Position) (xs ys : List ℕ) (fault : ScriptFault) → Takes a xs b →
+    Halts among b ys new fault → Halts place a (xs ++ ys) new fault
 halts_after place a b new xs ys fault h k = record {
   mid = k.mid;
   front = xs ++ k.front;
@@ -78,7 +89,8 @@ halts_after place a b new xs ys fault h k = record {
   faults = fault_anywhere place fault k.mid new k.back k.faults;
 }
 
-pub halts_before : (a new : Position) (xs ys : List ℕ) (fault : ScriptFault) → Halts among a xs new fault → Halts among a (xs ++ ys) new fault
+pub halts_before : (a new : Position) (xs ys : List ℕ) (fault : ScriptFault) → Halts among a xs new fault →
+    Halts among a (xs ++ ys) new fault
 halts_before a new xs ys fault h = record {
   mid = h.mid;
   front = h.front;
@@ -89,7 +101,8 @@ halts_before a new xs ys fault h = record {
 }
 
 -- after the bytes taken so far, nothing was done
-pub halts_at : (place : Place) (old new : Position) (bytes : List ℕ) (fault : ScriptFault) (now : Position) → Takes old bytes now → IsFault place fault now [] new
+pub halts_at : (place : Place) (old new : Position) (bytes : List ℕ) (fault : ScriptFault) (now : Position) → Takes old bytes now →
+    IsFault place fault now [] new
     → Halts place old bytes new fault
 halts_at place old new bytes fault now h faults =
     record { mid = now; front = bytes; back = []; splits = sym (append-nil bytes); takes = h; faults = faults }
@@ -100,13 +113,15 @@ pub halts_in : (a b new : Position) (bytes : List ℕ) (i : ℕ) (fault : Script
 halts_in a b new bytes i fault below h k =
     let front = halts_after among a b new (take i bytes) (get_or bytes i 0 ∷ []) fault h k in
     let upto = subst (λ (w : List ℕ). Halts among a w new fault) (sym (take_more bytes i 0 below)) front in
-    subst (λ (w : List ℕ). Halts among a w new fault) (take-append-drop (i + 1) bytes) (halts_before a new (take (i + 1) bytes) (drop (i + 1) bytes) fault upto)
+    subst (λ (w : List ℕ). Halts among a w new fault) (take-append-drop (i + 1) bytes)
+    (halts_before a new (take (i + 1) bytes) (drop (i + 1) bytes) fault upto)
 
 -- a line too many, or a byte too many in a line
 pub too_many_lines : (lines : ℕ) (begun : List ℕ) (b : ℕ) → lines ≤ most_lines → most_lines ≤ lines → PassesBound lines (begun ++ b ∷ [])
 too_many_lines lines begun b few many = inl (omega (arith, few, many), omega (arith, length-append begun (b ∷ [])))
 
-pub line_too_long : (lines : ℕ) (begun : List ℕ) (b : ℕ) → HasNoFeed begun → b ≢ 10 → longest_line ≤ length begun → PassesBound lines (begun ++ b ∷ [])
+pub line_too_long : (lines : ℕ) (begun : List ℕ) (b : ℕ) → HasNoFeed begun → b ≢ 10 → longest_line ≤ length begun →
+    PassesBound lines (begun ++ b ∷ [])
 line_too_long lines begun b no_feed plain long = inr (record {
   line = begun ++ b ∷ [];
   more = [];
@@ -126,7 +141,8 @@ pub not_so_many : (old new : Position) (bytes : List ℕ) → old.lines ≡ 0 �
 unfolding longest_line most_lines
 not_so_many old new bytes none empty h =
     let same : bytes ≡ with_feeds h.ended ++ new.begun = ap (λ (w : List ℕ). w ++ bytes) (sym empty) ∙ h.splits in
-    let total : length bytes ≡ length (with_feeds h.ended) + length new.begun = ap (λ (w : List ℕ). length w) same ∙ length-append (with_feeds h.ended) new.begun in
+    let total : length bytes ≡ length (with_feeds h.ended) + length new.begun = ap (λ (w : List ℕ). length w) same ∙
+    length-append (with_feeds h.ended) new.begun in
     let fed = fed_length h.ended h.are_lines in
     by new.begun total h.steady.short h.steady.one_more (omega (arith, h.counts, none)) h.steady.few fed
   where
@@ -160,14 +176,18 @@ fed (b ∷ bs) rest h = fed bs rest h.1
 -- a line that was begun and passes no bound, after so many
 keeps_bound : (position : Position) → IsSteady position → PassesBound position.lines position.begun → ⊥
 keeps_bound position steady (inl h) = omega (arith, h.0, steady.one_more h.1)
-keeps_bound position steady (inr h) = omega (arith, h.long, steady.short, ap (λ (w : List ℕ). length w) h.bytes_are, length-append h.line h.more)
+keeps_bound position steady (inr h) =
+    omega (arith, h.long, steady.short, ap (λ (w : List ℕ). length w) h.bytes_are, length-append h.line h.more)
 
 -- after lines that ended, what was begun is the rest where no byte is behind it
-pub unended : (lines : List (List ℕ)) (mid : Position) (back : List ℕ) → AllByRecursion IsLine lines → IsSteady mid → mid.lines ≡ length lines → back ≡ [] →
-    EndsWithFeed (with_feeds lines) × HasNoFeed (mid.begun ++ back) × (PassesBound (length (lines_of (with_feeds lines))) (mid.begun ++ back) → ⊥)
+pub unended : (lines : List (List ℕ)) (mid : Position) (back : List ℕ) → AllByRecursion IsLine lines → IsSteady mid →
+    mid.lines ≡ length lines → back ≡ [] →
+    EndsWithFeed (with_feeds lines) × HasNoFeed (mid.begun ++ back) ×
+    (PassesBound (length (lines_of (with_feeds lines))) (mid.begun ++ back) → ⊥)
 unended lines mid back are steady counts none =
     let rest : mid.begun ≡ mid.begun ++ back = sym (append-nil mid.begun) ∙ ap (λ (w : List ℕ). mid.begun ++ w) (sym none) in
-    let count : mid.lines ≡ length (lines_of (with_feeds lines)) = counts ∙ ap (λ (ls : List (List ℕ)). length ls) (sym (lines_are lines are)) in (
+    let count : mid.lines ≡ length (lines_of (with_feeds lines)) = counts ∙
+    ap (λ (ls : List (List ℕ)). length ls) (sym (lines_are lines are)) in (
       fed_ends lines,
       subst (λ (w : List ℕ). HasNoFeed w) rest steady.no_feed,
       subst (λ (w : List ℕ). PassesBound (length (lines_of (with_feeds lines))) w → ⊥) rest
@@ -207,7 +227,8 @@ answered_next lines left mid back new are steady counts h =
 pub stops_with : (place : Place) (old new : Position) (hive new_hive : View) (script : List ℕ) (fault result : ScriptFault)
     (unread left final : Option (List ℕ)) → (k : Halts place old script new fault) → Consumes unread left script
     → old.lines ≡ 0 → old.begun ≡ [] → old.stand ≡ begins hive →
-    IsLeft result (with_feeds k.takes.ended) (k.mid.begun ++ k.back) left k.mid.stand new_hive → AreWritten result k.takes.replies old.sent final →
+    IsLeft result (with_feeds k.takes.ended) (k.mid.begun ++ k.back) left k.mid.stand new_hive →
+    AreWritten result k.takes.replies old.sent final →
     Stops result unread left hive new_hive old.sent final
 stops_with place old new hive new_hive script fault result unread left final k consumes none empty is stands written =
     let t = k.takes in
@@ -219,7 +240,8 @@ stops_with place old new hive new_hive script fault result unread left final k c
       lines = with_feeds t.ended;
       rest = k.mid.begun ++ k.back;
       read = subst (λ (w : List ℕ). Consumes unread left w) script_is consumes;
-      within = subst (λ (w : List (List ℕ)). AreWithin w) whole (record { few = omega (arith, t.steady.few, t.counts, none); short = lines_short t.ended t.are_lines });
+      within = subst (λ (w : List (List ℕ)). AreWithin w) whole
+          (record { few = omega (arith, t.steady.few, t.counts, none); short = lines_short t.ended t.are_lines });
       text = t.replies;
       last = k.mid.stand;
       said = subst (λ (s : Stand). AreSaid (lines_of (with_feeds t.ended)) s t.replies k.mid.stand) is
@@ -229,16 +251,19 @@ stops_with place old new hive new_hive script fault result unread left final k c
     }
 
 -- all replies were sent
-pub all_sent : (old mid new : Position) (replies : List ℕ) (final : Option (List ℕ)) → Passes old replies mid → old.gathered ≡ [] → IsIdle mid new →
+pub all_sent : (old mid new : Position) (replies : List ℕ) (final : Option (List ℕ)) → Passes old replies mid → old.gathered ≡ [] →
+    IsIdle mid new →
     Appends new.sent final new.gathered → Appends old.sent final replies
 all_sent old mid new replies final p empty idle sent =
     let whole : replies ≡ p.passed ++ mid.gathered = ap (λ (w : List ℕ). w ++ replies) (sym empty) ∙ p.gathers in
     let rest = subst (λ (o : Option (List ℕ)). Appends o final new.gathered) idle.sent sent in
     let rest' = subst (λ (w : List ℕ). Appends mid.sent final w) idle.gathered rest in
-    subst (λ (w : List ℕ). Appends old.sent final w) (sym whole) (appends_then old.sent mid.sent final p.passed mid.gathered p.appends rest')
+    subst (λ (w : List ℕ). Appends old.sent final w) (sym whole)
+    (appends_then old.sent mid.sent final p.passed mid.gathered p.appends rest')
 
 -- the writer took a front of what was left of them
-pub cut_sent : (old mid : Position) (replies : List ℕ) (final : Option (List ℕ)) (written : ℕ) → Passes old replies mid → old.gathered ≡ [] →
+pub cut_sent : (old mid : Position) (replies : List ℕ) (final : Option (List ℕ)) (written : ℕ) → Passes old replies mid →
+    old.gathered ≡ [] →
     old.written ≡ 0 → IsCut mid.sent final mid.gathered mid.written (Write written)
     → IsTaken old.sent final replies written
 cut_sent old mid replies final written p empty zero cut =
@@ -248,7 +273,8 @@ cut_sent old mid replies final written p empty zero cut =
     record {
       count = length p.passed + cut.count;
       within = omega (arith, cut.within, ap (λ (w : List ℕ). length w) whole, length-append p.passed mid.gathered);
-      appends = subst (λ (w : List ℕ). Appends old.sent final w) (sym front) (appends_then old.sent mid.sent final p.passed (take cut.count mid.gathered) p.appends cut.sent);
+      appends = subst (λ (w : List ℕ). Appends old.sent final w) (sym front)
+          (appends_then old.sent mid.sent final p.passed (take cut.count mid.gathered) p.appends cut.sent);
       counts = omega (arith, p.counts, zero, written_is cut.says);
     }
   where
@@ -276,7 +302,8 @@ short_line line h = h
 pub one_more : (script : Script) (hive new : View) (line : Line) (call : Call) (reply : List ℕ) → line ≡ Calls call →
     IsSaid (asks call) (stand_of script hive) reply (stand_of script new) → IsOneMore (said line) (stand_of script hive) new
 one_more script hive new line call reply is h =
-    subst (λ (l : Line). IsOneMore (said l) (stand_of script hive) new) (sym is) (record { reply = reply; next = stand_of script new; said = h; hive = refl })
+    subst (λ (l : Line). IsOneMore (said l) (stand_of script hive) new) (sym is)
+    (record { reply = reply; next = stand_of script new; said = h; hive = refl })
 
 -- no memory for the reply to the line that was begun
 pub halts_lost : (old new : Position) (b : ℕ) (fault : ScriptFault) → IsSteady old → b ≡ 10 → old.lines < most_lines → fault ≡ Memory →
@@ -292,7 +319,8 @@ halts_lost old new b fault steady feed few is gathered sent written reached =
     by (inr h) = inr (record { ended = feed; few = few; answered = h })
 
 -- the replies were gathered, and the writer took a front of them
-pub halts_cut : (old new : Position) (b : ℕ) (reply text : List ℕ) (before : ℕ) (fault : ScriptFault) → b ≡ 10 → IsSteady old → old.lines < most_lines →
+pub halts_cut : (old new : Position) (b : ℕ) (reply text : List ℕ) (before : ℕ) (fault : ScriptFault) → b ≡ 10 → IsSteady old →
+    old.lines < most_lines →
     IsSaid (meaning_of old.begun) old.stand reply new.stand → text ≡ old.gathered ++ reply → before ≡ old.written
     → IsCut old.sent new.sent text before fault → Halts among old (b ∷ []) new fault
 halts_cut old new b reply text before fault is steady fewer said adds same cut =
@@ -302,7 +330,8 @@ halts_cut old new b reply text before fault is steady fewer said adds same cut =
     (subst (λ (f : ScriptFault). IsCut old.sent new.sent text old.written f) here.says here, refl))
 
 -- a line that says what it means
-pub as_meant : (m n : Meaning) (last : Stand) (old new : View) → m ≡ n → ((new ≡ old) ⊎ IsOneMore m last new) → (new ≡ old) ⊎ IsOneMore n last new
+pub as_meant : (m n : Meaning) (last : Stand) (old new : View) → m ≡ n → ((new ≡ old) ⊎ IsOneMore m last new) → (new ≡ old) ⊎
+    IsOneMore n last new
 as_meant m n last old new e h = subst (λ (k : Meaning). (new ≡ old) ⊎ IsOneMore k last new) e h
 
 -- the count of lines below its bound
@@ -311,7 +340,8 @@ unfolding most_lines
 one_more_line lines sum new fewer e same = omega (arith, fewer, e, same)
 
 -- no memory for the reply to the last line
-pub halts_last : (left : Option (List ℕ)) (old now new : Position) (bytes : List ℕ) (fault : ScriptFault) → Takes old bytes now → IsAtEnd left →
+pub halts_last : (left : Option (List ℕ)) (old now new : Position) (bytes : List ℕ) (fault : ScriptFault) → Takes old bytes now →
+    IsAtEnd left →
     0 < length now.begun → fault ≡ Memory → new.gathered ≡ now.gathered → new.sent ≡ now.sent → new.written ≡ now.written →
     ((new.stand.hive ≡ now.stand.hive) ⊎ IsOneMore (meaning_of now.begun) now.stand new.stand.hive) → Halts (past left) old bytes new fault
 halts_last left old now new bytes fault h at_end some is gathered sent written reached =

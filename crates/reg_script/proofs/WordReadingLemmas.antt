@@ -8,12 +8,14 @@ use Rattle.reg_script.specs.LineWords.{name_of, data_of}
 use Rattle.reg_script.specs.LineMeanings.{first_of, ending, small_number_of, long_number_of, given_of, by_verb, asks}
 
 -- a word of that form
-pub is_first : {A : Type 0} (word : List ℕ → Option A) (old rest : List (List ℕ)) (w : List ℕ) (a : A) → old ≡ w ∷ rest → word w ≡ Some a → first_of word old ≡ Some (a, rest)
+pub is_first : {A : Type 0} (word : List ℕ → Option A) (old rest : List (List ℕ)) (w : List ℕ) (a : A) → old ≡ w ∷ rest →
+    word w ≡ Some a → first_of word old ≡ Some (a, rest)
 unfolding first_of
 is_first word old rest w a e h = rw (e, h) refl
 
 -- a word of another form
-pub not_first : {A : Type 0} (word : List ℕ → Option A) (old rest : List (List ℕ)) (w : List ℕ) → old ≡ w ∷ rest → word w ≡ None → first_of word old ≡ None
+pub not_first : {A : Type 0} (word : List ℕ → Option A) (old rest : List (List ℕ)) (w : List ℕ) → old ≡ w ∷ rest → word w ≡ None →
+    first_of word old ≡ None
 unfolding first_of
 not_first word old rest w e h = rw (e, h) refl
 
@@ -61,7 +63,8 @@ given_is word (other ∷ words) = by (data_of word)
     by (Some bytes) = refl
 
 -- a DATA word, and whatever is behind it
-pub given_some : (words rest : List (List ℕ)) (descriptor : List ℕ) → first_of data_of words ≡ Some (descriptor, rest) → given_of words ≡ ending (Some descriptor) rest
+pub given_some : (words rest : List (List ℕ)) (descriptor : List ℕ) → first_of data_of words ≡ Some (descriptor, rest) →
+    given_of words ≡ ending (Some descriptor) rest
 unfolding first_of
 given_some [] rest descriptor e = absurd cc
 given_some (w ∷ ws) rest descriptor e = given_is w ws ∙ ap alone e
@@ -72,15 +75,19 @@ given_not [] some e = absurd (some refl)
 given_not (w ∷ ws) some e = given_is w ws ∙ ap alone e
 
 -- it means something if no more is left than these words
-given_means : {A B : Type 0} (f : A → B) (a : A) (given : Option A) (rest : List (List ℕ)) → given ≡ ending a rest → option_map f given ≡ ending (f a) rest
+given_means : {A B : Type 0} (f : A → B) (a : A) (given : Option A) (rest : List (List ℕ)) → given ≡ ending a rest →
+    option_map f given ≡ ending (f a) rest
 unfolding ending
 given_means f a given [] e = rw e refl
 given_means f a given (w ∷ ws) e = rw e refl
 
-pub create_means : (old first second third rest : List (List ℕ)) (handle mask : ℕ) (path : List ℕ) (given : Option (List ℕ)) → first_of long_number_of old ≡ Some (handle, first)
-    → first_of name_of first ≡ Some (path, second) → first_of small_number_of second ≡ Some (mask, third) → given_of third ≡ ending given rest
+pub create_means : (old first second third rest : List (List ℕ)) (handle mask : ℕ) (path : List ℕ) (given : Option (List ℕ)) →
+    first_of long_number_of old ≡ Some (handle, first)
+    → first_of name_of first ≡ Some (path, second) → first_of small_number_of second ≡ Some (mask, third) →
+    given_of third ≡ ending given rest
     → by_verb Create old ≡ ending (asks (Change (CreateKey handle path mask given))) rest
 unfolding by_verb
-create_means old first second third rest handle mask path given a b c d = rw (a, b, c) (given_means (λ g. asks (Change (CreateKey handle path mask g))) given _ rest d)
+create_means old first second third rest handle mask path given a b c d =
+    rw (a, b, c) (given_means (λ g. asks (Change (CreateKey handle path mask g))) given _ rest d)
 
 pub ruleset descriptors = (given_none, given_some, given_not)

@@ -19,9 +19,11 @@ IsDue old s outcome = by s.call outcome
   where
     by : Call → Outcome → Type 0
     by (Change change) (Changed reply) =
-        change_cause (state old) s.session change (change_status no_callbacks (state old).world s.session s.moment change) ≡ None → reply.status ≡ 0
+        change_cause (state old) s.session change (change_status no_callbacks (state old).world s.session s.moment change) ≡ None →
+        reply.status ≡ 0
     by (Query query) (Answered answer) =
-        query_cause (state old) s.session query (query_status no_callbacks (state old).world s.session query) ≡ None → answer.body ≢ Refused 8
+        query_cause (state old) s.session query (query_status no_callbacks (state old).world s.session query) ≡ None →
+        answer.body ≢ Refused 8
     by (Change change) (Answered answer) = ⊥
     by (Query query) (Changed reply) = ⊥
 

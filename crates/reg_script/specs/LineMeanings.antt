@@ -89,7 +89,8 @@ by_verb As = reading session_number_of (λ session. ending (as_session session))
 by_verb Hive = reading (number_of 0) (λ hive. ending on_hive)
 by_verb Root = reading small_number_of (λ mask. ending (asks (Change (OpenRoot mask))))
 by_verb Open =
-    reading long_number_of (λ handle. reading name_of (λ path. reading small_number_of (λ mask. ending (asks (Change (OpenKey handle path mask))))))
+    reading long_number_of
+    (λ handle. reading name_of (λ path. reading small_number_of (λ mask. ending (asks (Change (OpenKey handle path mask))))))
 by_verb Create =
     reading long_number_of
     (λ handle. reading name_of
@@ -106,9 +107,11 @@ by_verb DelTree = reading long_number_of (λ handle. reading name_of (λ path. e
 by_verb SetSec = reading long_number_of (λ handle. reading data_of (λ descriptor. ending (asks (Change (SetSecurity handle descriptor)))))
 by_verb CloseVerb = reading long_number_of (λ handle. ending (asks (Change (Close handle))))
 by_verb QueryVerb =
-    reading long_number_of (λ handle. reading name_of (λ name. reading room_of (λ room. ending (asks (Query (QueryValue handle name room))))))
+    reading long_number_of
+    (λ handle. reading name_of (λ name. reading room_of (λ room. ending (asks (Query (QueryValue handle name room))))))
 by_verb EnumKeyVerb =
-    reading long_number_of (λ handle. reading small_number_of (λ index. reading small_number_of (λ room. ending (asks (Query (EnumKey handle index room))))))
+    reading long_number_of
+    (λ handle. reading small_number_of (λ index. reading small_number_of (λ room. ending (asks (Query (EnumKey handle index room))))))
 by_verb EnumValueVerb =
     reading long_number_of
     (λ handle. reading small_number_of

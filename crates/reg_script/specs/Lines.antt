@@ -28,14 +28,16 @@ IsSaid (as_session session) old text new = IsSilent (record old { session = sess
 IsSaid on_hive old text new = IsSilent old text new
 IsSaid bad old text new = (text ≡ codes "bad\n") × (new ≡ old)
 IsSaid (asks call) old text new =
-    (outcome : Outcome) × IsStep no_callbacks old.hive (record { session = old.session; moment = old.moment; call = call }) outcome new.hive ×
+    (outcome : Outcome) ×
+    IsStep no_callbacks old.hive (record { session = old.session; moment = old.moment; call = call }) outcome new.hive ×
     (text ≡ outcome_text call outcome) × (new ≡ record old { hive = new.hive })
 
 -- lines after one another, and their replies in one text
 abbrev pub AreSaid : List (List ℕ) → Stand → List ℕ → Stand → Type 0
 AreSaid [] old text new = (text ≡ []) × (new ≡ old)
 AreSaid (line ∷ lines) old text new =
-    (mid : Stand) × (reply : List ℕ) × (rest : List ℕ) × IsSaid (meaning_of line) old reply mid × AreSaid lines mid rest new × (text ≡ reply ++ rest)
+    (mid : Stand) × (reply : List ℕ) × (rest : List ℕ) × IsSaid (meaning_of line) old reply mid × AreSaid lines mid rest new ×
+    (text ≡ reply ++ rest)
 
 -- a script that runs on a hive may write this text, and leave the hive so; the moment and the session are 0 at first
 abbrev pub Lines : View → List ℕ → List ℕ → View → Type 0

@@ -139,7 +139,8 @@ impl Script {
 
     /// Answers the line that has ended.
     fn end_line(&mut self, hive: &mut Hive) -> Result<(), ScriptFault>
-        ensures said { OnOk result (Adds (IsSaid (meaning_of self.old.line.items)) self.old (view_of hive.old) self.new (view_of hive.new)) }
+        ensures said { OnOk result
+            (Adds (IsSaid (meaning_of self.old.line.items)) self.old (view_of hive.old) self.new (view_of hive.new)) }
         ensures ended { OnOk result (self.new.line.items ≡ []) }
         ensures lines { OnOk result (self.old.lines < most_lines → self.new.lines ≡ self.old.lines + 1) }
         ensures err { IfErr result (λ fault. (fault ≡ ScriptFault.Memory)
@@ -237,7 +238,8 @@ impl Script {
         ensures at_end { OnOk result (IsAtEnd (R.remaining reader.new)) }
         ensures lines { OnOk result (IsSteady (position_of self.old (view_of hive.old) (W.contents writer.old)) →
             (script : List ℕ) × Consumes (R.remaining reader.old) (R.remaining reader.new) script
-            × Ends (position_of self.old (view_of hive.old) (W.contents writer.old)) script (position_of self.new (view_of hive.new) (W.contents writer.new))) }
+            × Ends (position_of self.old (view_of hive.old) (W.contents writer.old)) script
+            (position_of self.new (view_of hive.new) (W.contents writer.new))) }
         ensures err { IfErr result (λ fault. IsSteady (position_of self.old (view_of hive.old) (W.contents writer.old)) →
             self.old.lines ≡ 0 → self.old.line.items ≡ [] →
             (script : List ℕ) × Consumes (R.remaining reader.old) (R.remaining reader.new) script
@@ -290,7 +292,8 @@ pub fn run_to<R: Read, W: Write>(
     hive: &mut Hive,
 ) -> Result<u64, ScriptFault>
     ensures at_end { OnOk result (IsAtEnd (R.remaining reader.new)) }
-    ensures lines { IfOk result (λ moment. (script : List ℕ) × (text : List ℕ) × Consumes (R.remaining reader.old) (R.remaining reader.new) script
+    ensures lines { IfOk result
+        (λ moment. (script : List ℕ) × (text : List ℕ) × Consumes (R.remaining reader.old) (R.remaining reader.new) script
         × LinesTo (view_of hive.old) script text (view_of hive.new) moment
         × Appends (W.contents writer.old) (W.contents writer.new) text × AreWithin (lines_of script)) }
     ensures stops { IfErr result (λ fault. Stops fault (R.remaining reader.old) (R.remaining reader.new) (view_of hive.old)

@@ -35,7 +35,8 @@ impl Output {
         ensures few { OnOk result (length (string_bytes self.new.text) < 65536) }
         ensures sent { OnOk result (IsSettled (W.contents writer.old) (W.contents writer.new) (string_bytes self.old.text)
             (string_bytes self.new.text) self.old.written self.new.written) }
-        ensures err { IfErr result (λ e. IsCut (W.contents writer.old) (W.contents writer.new) (string_bytes self.old.text) self.old.written e) }
+        ensures err { IfErr result
+            (λ e. IsCut (W.contents writer.old) (W.contents writer.new) (string_bytes self.old.text) self.old.written e) }
     {
         if self.text.len() < ENOUGH {
             return Ok(());
@@ -48,7 +49,8 @@ impl Output {
         ensures sent { OnOk result (Appends (W.contents writer.old) (W.contents writer.new) (string_bytes self.old.text)) }
         ensures empty { OnOk result (string_bytes self.new.text ≡ []) }
         ensures written { OnOk result (self.new.written ≡ counted self.old.written (length (string_bytes self.old.text))) }
-        ensures err { IfErr result (λ e. IsCut (W.contents writer.old) (W.contents writer.new) (string_bytes self.old.text) self.old.written e) }
+        ensures err { IfErr result
+            (λ e. IsCut (W.contents writer.old) (W.contents writer.new) (string_bytes self.old.text) self.old.written e) }
     {
         let taken = write_counted(writer, self.text.as_bytes());
         self.written = self.written.saturating_add(taken as u64);
@@ -65,7 +67,8 @@ impl Output {
     pub fn finish<W: Write>(&mut self, writer: &mut W) -> Result<(), ScriptFault>
         ensures sent { OnOk result (Appends (W.contents writer.old) (W.contents writer.new) (string_bytes self.old.text)) }
         ensures empty { OnOk result (string_bytes self.new.text ≡ []) }
-        ensures err { IfErr result (λ e. IsCut (W.contents writer.old) (W.contents writer.new) (string_bytes self.old.text) self.old.written e) }
+        ensures err { IfErr result
+            (λ e. IsCut (W.contents writer.old) (W.contents writer.new) (string_bytes self.old.text) self.old.written e) }
     {
         self.flush(writer)?;
         match writer.flush() {

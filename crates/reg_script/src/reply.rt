@@ -40,7 +40,8 @@ pub fn write_changed(text: &mut String, reply: &ChangeReply) -> Result<(), Alloc
 
 /// What a room is too short for: a subkey's name and a descriptor have a size alone, a value its type too.
 fn write_short(text: &mut String, query: &Query, kind: u32, size: u32) -> Result<(), AllocError>
-    ensures { OnOk result (string_bytes text.new ≡ string_bytes text.old ++ (short_text (asks_untyped (Asks query.now)) kind size ++ line_feed)) }
+    ensures { OnOk result
+        (string_bytes text.new ≡ string_bytes text.old ++ (short_text (asks_untyped (Asks query.now)) kind size ++ line_feed)) }
 {
     match query {
         Query::EnumKey { .. } | Query::GetSecurity { .. } => writeln!(text, " size {size}"),

@@ -142,7 +142,8 @@ pub fn small_number(word: &[u8]) -> Result<u32, ParseFault>
 
 /// A session: a number below [`SESSIONS_LIMIT`].
 pub fn session(word: &[u8]) -> Result<Session, ParseFault>
-    ensures { MatchResult result (λ s. session_number_of word.now ≡ Some s.number) (λ e. (e ≡ ParseFault.Form) × (session_number_of word.now ≡ None)) }
+    ensures { MatchResult result (λ s. session_number_of word.now ≡ Some s.number)
+        (λ e. (e ≡ ParseFault.Form) × (session_number_of word.now ≡ None)) }
 {
     let number = number(word, SESSIONS_LIMIT as u64 - 1)? as u8;
     Ok(Session { number })
@@ -185,7 +186,8 @@ fn escaped(text: &[u8]) -> Option<(u8, &[u8])>
 /// The next byte of an escaped text, and what follows: `%HH` stands for that byte, every other byte for itself.
 #[tactic(auto, using(crate::proofs::EscapedNames::escape_next, crate::proofs::EscapedNames::plain_next))]
 fn next_byte(text: &[u8]) -> Option<(u8, &[u8])>
-    ensures { MatchOption result (text.now ≡ []) (λ p. (unescaped text.now ≡ p.0 ∷ unescaped p.1.now) × (length p.1.now < length text.now)) }
+    ensures { MatchOption result (text.now ≡ [])
+        (λ p. (unescaped text.now ≡ p.0 ∷ unescaped p.1.now) × (length p.1.now < length text.now)) }
 {
     match escaped(text) {
         Some((byte, rest)) => Some((byte, rest)),

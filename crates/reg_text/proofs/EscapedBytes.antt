@@ -12,7 +12,8 @@ unfolding byte_text
 plain_is b plain = rw plain refl
 
 -- a byte that stands for itself was written
-pub plain_written : {E : Type 0} (result : Result (Unit {0}) E) (old new : List ℕ) (b c : ℕ) → is_plain b ≡ true → c ≡ b → new ≡ (if is_ok result then old ++ encode_utf8 c else old)
+pub plain_written : {E : Type 0} (result : Result (Unit {0}) E) (old new : List ℕ) (b c : ℕ) → is_plain b ≡ true → c ≡ b →
+    new ≡ (if is_ok result then old ++ encode_utf8 c else old)
     → (c < 128 → encode_utf8 c ≡ c ∷ []) → OnOk result (new ≡ old ++ byte_text b)
 plain_written (Ok done) old new b c plain same push ascii =
     let below : c < 128 = omega (arith, same, plain_below b plain) in

@@ -1,25 +1,42 @@
 //! The command-line tool: `regtool run` reads a script of registry calls on standard input and writes the replies.
 //!
 //! It stands on reg_command alone and does nothing but pass on what it is started with: its arguments, its input and its outputs go
-//! to [`tool`], whose answer is its exit status. It has no contract: what a program is given and prints no clause can say.
+//! to [`tool`], whose answer is its exit status. Arguments that can't be read it tells itself. What a program is given and prints no
+//! clause can say; its one contract is that of what it tells of such arguments.
 #![tactic(auto)]
 
+ghost use Rattle.std.specs.Prelude.{◌≡◌, ◌≢◌, codes};
+
 pub use reg_command::tool;
+use std::io::ErrorKind;
 use std::process::ExitCode;
 use std::{env, io};
 
+/// What is told of arguments that can't be read, and the exit status: 1 for want of memory, and 2 where one is not text.
+fn unread(kind: ErrorKind) -> (&'static str, u8)
+    ensures memory { kind ≡ ErrorKind.OutOfMemory → (result.0.now ≡ codes "error 8") × (result.1 ≡ 1) }
+    ensures no_text { kind ≢ ErrorKind.OutOfMemory → (result.0.now ≡ codes "error: an argument is not text") × (result.1 ≡ 2) }
+{
+    if kind == ErrorKind::OutOfMemory {
+        ("error 8", 1)
+    } else {
+        ("error: an argument is not text", 2)
+    }
+}
+
 fn main(rt: HostRuntime) -> ExitCode {
     let alloc = rt.alloc();
-    let words = match env::args(&rt) {
-        Ok(args) => args.collect(alloc),
-        Err(_) => {
-            let _ = rt.eprintln("error: an argument is not text");
-            return ExitCode::from(2);
-        }
+    let read = match env::args(&rt) {
+        Ok(args) => args.collect(alloc).map_err(|_| ErrorKind::OutOfMemory),
+        Err(error) => Err(error.kind()),
     };
-    let Ok(words) = words else {
-        let _ = rt.eprintln("error 8");
-        return ExitCode::from(1);
+    let words = match read {
+        Ok(words) => words,
+        Err(kind) => {
+            let (text, status) = unread(kind);
+            let _ = rt.eprintln(text);
+            return ExitCode::from(status);
+        }
     };
     let mut input = rt.reader();
     let mut output = io::writer(&rt);

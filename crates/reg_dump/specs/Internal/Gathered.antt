@@ -16,4 +16,5 @@ pub record IsSoFar (begin now : Option (List ℕ)) (whole left gathered : List �
 abbrev pub Puts : {A : Type 0} → Output → Option (List ℕ) → Output → Option (List ℕ) → List ℕ → Result A DumpFault → Type 0
 Puts old before new after text result =
     (begin : Option (List ℕ)) → (whole left : List ℕ) → IsSoFar begin before whole (text ++ left) (string_bytes old.text) old.written →
-    MatchResult result (λ _. IsSoFar begin after whole left (string_bytes new.text) new.written) (λ fault. IsStopped begin after whole fault)
+    MatchResult result (λ _. IsSoFar begin after whole left (string_bytes new.text) new.written)
+    (λ fault. IsStopped begin after whole fault)

@@ -7,13 +7,15 @@ use Rattle.reg_command.proofs.images.dump_image.Goals as goal
 pub returns-in-Ok-clause-ok : goal.returns-in-Ok-clause-ok
 returns-in-Ok-clause-ok g c =
     IfOk-weaker c.send_dump.result _ _
-    (λ done sent. tells dump_text _ _ _ _ _ (reads c.tree.result.now (view_of c.in-Ok.hive) _ _ c.tree.ensures.keys c.in-Ok.ensures.ok) sent)
+    (λ done sent. tells dump_text _ _ _ _ _
+    (reads c.tree.result.now (view_of c.in-Ok.hive) _ _ c.tree.ensures.keys c.in-Ok.ensures.ok) sent)
     c.send_dump.ensures.ok
 
 pub returns-in-Ok-clause-err : goal.returns-in-Ok-clause-err
 returns-in-Ok-clause-err g c =
     IfErr-weaker c.send_dump.result _ _
-    (λ stop ended. tell_stops dump_text _ _ _ _ _ stop (reads c.tree.result.now (view_of c.in-Ok.hive) _ _ c.tree.ensures.keys c.in-Ok.ensures.ok) ended)
+    (λ stop ended. tell_stops dump_text _ _ _ _ _ stop
+    (reads c.tree.result.now (view_of c.in-Ok.hive) _ _ c.tree.ensures.keys c.in-Ok.ensures.ok) ended)
     c.send_dump.ensures.err
 
 pub returns-in-Err-clause-err : goal.returns-in-Err-clause-err

@@ -13,7 +13,8 @@ returns-in-Ok-None c =
 
 pub returns-in-Ok-Some : goal.returns-in-Ok-Some
 returns-in-Ok-Some c =
-    asked_at _ (rows_of (found_of c.args.matches.now)) c.try_get_one.result (Ok (Some c.in-Ok-Some.sequence)) (c.in-Ok-Some.is ∙ ap Ok c.in-Ok-Some.field-0-is)
+    asked_at _ (rows_of (found_of c.args.matches.now)) c.try_get_one.result (Ok (Some c.in-Ok-Some.sequence))
+    (c.in-Ok-Some.is ∙ ap Ok c.in-Ok-Some.field-0-is)
     (number_asked _ (λ bs r. ParsesUnsigned 32 10 bs r × ExplainsUnsignedError 10 bs r × HasUnsignedDigitsIfOk bs r)
     (found_of c.args.matches.now) c.try_get_one.result (λ u x g. g.0) c.try_get_one.ensures.none c.try_get_one.ensures.value)
 

@@ -8,7 +8,8 @@ loop-walk-init c =
 pub returns-then-not-branch : goal.returns-then-not-branch
 returns-then-not-branch c =
     let a = c.loop-walk.invariant in
-    all_counted _ _ _ a _ (c.in_ok-counts.ensures a.here a.rest a.stands) (ended _ _ _ _ c.if-not-branch.true (c.in_ok-advance.ensures a.here a.rest a.stands))
+    all_counted _ _ _ a _ (c.in_ok-counts.ensures a.here a.rest a.stands)
+    (ended _ _ _ _ c.if-not-branch.true (c.in_ok-advance.ensures a.here a.rest a.stands))
 
 pub loop-walk-smaller : goal.loop-walk-smaller
 loop-walk-smaller c = let a = c.loop-walk.invariant in fewer _ _ _ a _ (c.in_ok-counts.ensures a.here a.rest a.stands)
@@ -16,4 +17,5 @@ loop-walk-smaller c = let a = c.loop-walk.invariant in fewer _ _ _ a _ (c.in_ok-
 pub loop-walk-preserved : goal.loop-walk-preserved
 loop-walk-preserved c =
     let a = c.loop-walk.invariant in
-    (amid_next _ _ _ a _ (c.in_ok-counts.ensures a.here a.rest a.stands) _ (went _ _ _ _ c.if-not-branch.false (c.in_ok-advance.ensures a.here a.rest a.stands))).0
+    (amid_next _ _ _ a _ (c.in_ok-counts.ensures a.here a.rest a.stands) _
+    (went _ _ _ _ c.if-not-branch.false (c.in_ok-advance.ensures a.here a.rest a.stands))).0

@@ -48,7 +48,8 @@ returns-then-not-branch-clause-puts g c =
 pub returns-then-not-branch-clause-counts : goal.returns-then-not-branch-clause-counts
 returns-then-not-branch-clause-counts g c =
     let a = c.loop-walk.invariant.0 in
-    all_counted _ _ _ a _ (c.in_ok-counts.ensures a.here a.rest a.stands) (ended _ _ _ _ c.if-not-branch.true (c.in_ok-advance.ensures a.here a.rest a.stands))
+    all_counted _ _ _ a _ (c.in_ok-counts.ensures a.here a.rest a.stands)
+    (ended _ _ _ _ c.if-not-branch.true (c.in_ok-advance.ensures a.here a.rest a.stands))
 
 pub loop-walk-smaller : goal.loop-walk-smaller
 loop-walk-smaller g c = let a = c.loop-walk.invariant.0 in fewer _ _ _ a _ (c.in_ok-counts.ensures a.here a.rest a.stands)
@@ -56,7 +57,8 @@ loop-walk-smaller g c = let a = c.loop-walk.invariant.0 in fewer _ _ _ a _ (c.in
 pub loop-walk-preserved : goal.loop-walk-preserved
 loop-walk-preserved g c =
     let a = c.loop-walk.invariant.0 in
-    let b = amid_next _ _ _ a _ (c.in_ok-counts.ensures a.here a.rest a.stands) _ (went _ _ _ _ c.if-not-branch.false (c.in_ok-advance.ensures a.here a.rest a.stands)) in (
+    let b = amid_next _ _ _ a _ (c.in_ok-counts.ensures a.here a.rest a.stands) _
+    (went _ _ _ _ c.if-not-branch.false (c.in_ok-advance.ensures a.here a.rest a.stands)) in (
       b.0,
       λ begin whole left s.
           swapped begin _ whole _ _ left _ _

@@ -9,8 +9,10 @@ abbrev pub invariant-loop-walk : goal.invariant-loop-walk
 invariant-loop-walk g l =
     (amid : IsAmid l.tree l.walk l.counts) ×
     ((begin : Option (List ℕ)) → (whole left : List ℕ) →
-    IsSoFar begin (g.W.Write.contents l.initial.writer) whole (flat_map key_lines (keys_told l.tree.tree) ++ left) (string_bytes l.initial.output.text) l.initial.output.written →
-    IsSoFar begin (g.W.Write.contents l.writer) whole (flat_map key_lines (amid.here ∷ amid.rest) ++ left) (string_bytes l.output.text) l.output.written)
+    IsSoFar begin (g.W.Write.contents l.initial.writer) whole (flat_map key_lines (keys_told l.tree.tree) ++ left)
+    (string_bytes l.initial.output.text) l.initial.output.written →
+    IsSoFar begin (g.W.Write.contents l.writer) whole (flat_map key_lines (amid.here ∷ amid.rest) ++ left)
+    (string_bytes l.output.text) l.output.written)
 
 abbrev pub decreases-loop-walk : goal.decreases-loop-walk
 decreases-loop-walk g l = length (keys_told l.tree.tree) - l.counts.keys

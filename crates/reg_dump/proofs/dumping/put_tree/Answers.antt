@@ -11,7 +11,8 @@ returns-in_err-put_root g c =
     λ begin whole left s.
     exits _ _ _ _ c.from_residual.ensures.1
     (c.in_err-put_root.ensures begin whole _
-    (opened begin _ whole (root_line c.args.tree.now.tree) (flat_map key_lines (keys_told c.args.tree.now.tree) ++ counts_text (keys_told c.args.tree.now.tree)) left _ _ s))
+    (opened begin _ whole (root_line c.args.tree.now.tree)
+    (flat_map key_lines (keys_told c.args.tree.now.tree) ++ counts_text (keys_told c.args.tree.now.tree)) left _ _ s))
 
 pub returns-in_err-counts : goal.returns-in_err-counts
 unfolding dump_text
@@ -21,7 +22,8 @@ returns-in_err-counts g c =
     (c.in_err-counts.ensures.puts begin whole _
     (opened begin _ whole (flat_map key_lines (keys_told c.args.tree.now.tree)) (counts_text (keys_told c.args.tree.now.tree)) left _ _
     (c.in_ok-put_root.ensures begin whole _
-    (opened begin _ whole (root_line c.args.tree.now.tree) (flat_map key_lines (keys_told c.args.tree.now.tree) ++ counts_text (keys_told c.args.tree.now.tree)) left _ _ s))))
+    (opened begin _ whole (root_line c.args.tree.now.tree)
+    (flat_map key_lines (keys_told c.args.tree.now.tree) ++ counts_text (keys_told c.args.tree.now.tree)) left _ _ s))))
 
 pub returns : goal.returns
 unfolding dump_text
@@ -32,5 +34,6 @@ returns g c =
     (c.in_ok-counts.ensures.puts begin whole _
     (opened begin _ whole (flat_map key_lines (keys_told c.args.tree.now.tree)) (counts_text (keys_told c.args.tree.now.tree)) left _ _
     (c.in_ok-put_root.ensures begin whole _
-    (opened begin _ whole (root_line c.args.tree.now.tree) (flat_map key_lines (keys_told c.args.tree.now.tree) ++ counts_text (keys_told c.args.tree.now.tree)) left _ _ s))))
+    (opened begin _ whole (root_line c.args.tree.now.tree)
+    (flat_map key_lines (keys_told c.args.tree.now.tree) ++ counts_text (keys_told c.args.tree.now.tree)) left _ _ s))))
     (counts-same c.args.tree.now.tree _ c.in_ok-counts.ensures.counts))

@@ -8,24 +8,33 @@ pub returns-in_err-write_part : goal.returns-in_err-write_part
 returns-in_err-write_part g c =
     λ begin whole left s.
     exits _ _ _ _ c.from_residual.ensures.1
-    (stops_full begin _ whole _ _ _ (root_state begin _ whole _ left _ _ c.name-name.result.now s (c.name-name.ensures.key [] c.root.ensures.at) (c.name-name.ensures.told [] c.root.ensures.at)))
+    (stops_full begin _ whole _ _ _
+    (root_state begin _ whole _ left _ _ c.name-name.result.now s (c.name-name.ensures.key [] c.root.ensures.at)
+    (c.name-name.ensures.told [] c.root.ensures.at)))
 
 pub returns-in_err-put_escaped : goal.returns-in_err-put_escaped
 returns-in_err-put_escaped g c =
     λ begin whole left s.
     exits _ _ _ _ c.from_residual-in_err-put_escaped.ensures.1
-    (c.in_err-put_escaped.ensures begin whole _ (root_start begin _ whole left _ _ _ _ (root_state begin _ whole _ left _ _ c.name-name.result.now s (c.name-name.ensures.key [] c.root.ensures.at) (c.name-name.ensures.told [] c.root.ensures.at)) c.in_ok-write_part.ensures))
+    (c.in_err-put_escaped.ensures begin whole _
+    (root_start begin _ whole left _ _ _ _
+    (root_state begin _ whole _ left _ _ c.name-name.result.now s (c.name-name.ensures.key [] c.root.ensures.at)
+    (c.name-name.ensures.told [] c.root.ensures.at)) c.in_ok-write_part.ensures))
 
 pub returns-in_err-write_part-2 : goal.returns-in_err-write_part-2
 returns-in_err-write_part-2 g c =
     λ begin whole left s.
     exits _ _ _ _ c.from_residual-in_err-write_part-2.ensures.1
     (stops_full begin _ whole _ _ _ (c.in_ok-put_escaped.ensures begin whole _
-    (root_start begin _ whole left _ _ _ _ (root_state begin _ whole _ left _ _ c.name-name.result.now s (c.name-name.ensures.key [] c.root.ensures.at) (c.name-name.ensures.told [] c.root.ensures.at)) c.in_ok-write_part.ensures)))
+    (root_start begin _ whole left _ _ _ _
+    (root_state begin _ whole _ left _ _ c.name-name.result.now s (c.name-name.ensures.key [] c.root.ensures.at)
+    (c.name-name.ensures.told [] c.root.ensures.at)) c.in_ok-write_part.ensures)))
 
 pub returns : goal.returns
 returns g c =
     λ begin whole left s.
     c.settle.ensures begin whole left
     (gathers begin _ whole _ left _ _ _ (c.in_ok-put_escaped.ensures begin whole _
-    (root_start begin _ whole left _ _ _ _ (root_state begin _ whole _ left _ _ c.name-name.result.now s (c.name-name.ensures.key [] c.root.ensures.at) (c.name-name.ensures.told [] c.root.ensures.at)) c.in_ok-write_part.ensures)) c.in_ok-write_part-2.ensures)
+    (root_start begin _ whole left _ _ _ _
+    (root_state begin _ whole _ left _ _ c.name-name.result.now s (c.name-name.ensures.key [] c.root.ensures.at)
+    (c.name-name.ensures.told [] c.root.ensures.at)) c.in_ok-write_part.ensures)) c.in_ok-write_part-2.ensures)

@@ -10,4 +10,6 @@ pub returns : goal.returns
 returns g c =
     λ p at member here begin whole left s.
     c.put_member.ensures begin whole left
-    (swapped begin _ whole _ _ left _ _ s (value_same (values_at c.args.tree.now.tree p) c.args.index member here _ _ _ (c.in-Some.ensures.told p at) _ _ c.deref.ensures.value (c.in_ok-bytes.ensures.told p at)))
+    (swapped begin _ whole _ _ left _ _ s
+    (value_same (values_at c.args.tree.now.tree p) c.args.index member here _ _ _
+    (c.in-Some.ensures.told p at) _ _ c.deref.ensures.value (c.in_ok-bytes.ensures.told p at)))

@@ -14,4 +14,5 @@ pub returns-in-Ok : goal.returns-in-Ok
 returns-in-Ok c = sym (worded c.args.line.now _ (search rules) (search (rules, tests)) c.in-Ok.ensures)
 
 pub returns-in-Err-Form : goal.returns-in-Err-Form
-returns-in-Err-Form c = sym (worded c.args.line.now _ (search rules) (search (rules, tests)) (c.in-Err-Form.ensures c.in-Err-Form.field-0-is))
+returns-in-Err-Form c =
+    sym (worded c.args.line.now _ (search rules) (search (rules, tests)) (c.in-Err-Form.ensures c.in-Err-Form.field-0-is))

@@ -7,7 +7,8 @@ returns-then-is_empty-clause-value c = rw (empty_none c.args.limit c.args.word.n
 
 pub returns-then-not-is_ascii_digit-clause-value : goal.returns-then-not-is_ascii_digit-clause-value
 returns-then-not-is_ascii_digit-clause-value c =
-    rw (digit_none c.args.limit c.args.word.now c.loop-byte.byte-index c.loop-byte-test.true (sym c.is_ascii_digit.ensures.value ∙ c.if-not-is_ascii_digit.true) c.loop-byte.invariant.form) refl
+    rw (digit_none c.args.limit c.args.word.now c.loop-byte.byte-index c.loop-byte-test.true
+    (sym c.is_ascii_digit.ensures.value ∙ c.if-not-is_ascii_digit.true) c.loop-byte.invariant.form) refl
 
 pub returns-in_default-clause-value : goal.returns-in_default-clause-value
 returns-in_default-clause-value c =

@@ -12,4 +12,5 @@ returns-then-taken-len-clause-puts g c =
 pub returns-clause-puts : goal.returns-clause-puts
 returns-clause-puts g c =
     λ begin whole left s.
-    flushes begin _ whole left _ _ _ _ _ _ s c.as_bytes.ensures.value (omega arith) c.write_counted-taken.ensures.count c.write_counted-taken.ensures.bytes c.clear.ensures.bytes
+    flushes begin _ whole left _ _ _ _ _ _ s c.as_bytes.ensures.value
+    (omega arith) c.write_counted-taken.ensures.count c.write_counted-taken.ensures.bytes c.clear.ensures.bytes

@@ -6,7 +6,8 @@ use Rattle.reg_dump.proofs.output.Output.put_digits.Given as goal
 abbrev pub invariant-loop-from : goal.invariant-loop-from
 invariant-loop-from g l =
     (begin : Option (List ℕ)) → (whole left : List ℕ) →
-    IsSoFar begin (g.W.Write.contents l.initial.writer) whole (digits_text l.bytes ++ left) (string_bytes l.initial.self.text) l.initial.self.written →
+    IsSoFar begin (g.W.Write.contents l.initial.writer) whole (digits_text l.bytes ++ left)
+    (string_bytes l.initial.self.text) l.initial.self.written →
     IsSoFar begin (g.W.Write.contents l.writer) whole (digits_text (drop l.from l.bytes) ++ left) (string_bytes l.self.text) l.self.written
 
 abbrev pub decreases-loop-from : goal.decreases-loop-from

@@ -6,7 +6,8 @@ use Rattle.reg_dump.proofs.output.Output.put_escaped.Given as goal
 abbrev pub invariant-loop-from : goal.invariant-loop-from
 invariant-loop-from g l =
     (begin : Option (List ℕ)) → (whole left : List ℕ) →
-    IsSoFar begin (g.W.Write.contents l.initial.writer) whole (escaped l.name ++ left) (string_bytes l.initial.self.text) l.initial.self.written →
+    IsSoFar begin (g.W.Write.contents l.initial.writer) whole (escaped l.name ++ left)
+    (string_bytes l.initial.self.text) l.initial.self.written →
     IsSoFar begin (g.W.Write.contents l.writer) whole (escaped (drop l.from l.name) ++ left) (string_bytes l.self.text) l.self.written
 
 abbrev pub decreases-loop-from : goal.decreases-loop-from

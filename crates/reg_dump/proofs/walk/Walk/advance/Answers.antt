@@ -9,10 +9,12 @@ pub returns-in_ok-enter-in-Some : goal.returns-in_ok-enter-in-Some
 returns-in_ok-enter-in-Some c =
     λ here rest s.
     goes_below _ _ _ here rest s
-    (c.in_ok-enter-in-Some.ensures _ _ (first_pending _ _ here rest s _ _ (search rules) (c.in-Some.ensures s.path s.at)) (pending_from _ _ here rest s _ (search rules)))
+    (c.in_ok-enter-in-Some.ensures _ _ (first_pending _ _ here rest s _ _ (search rules) (c.in-Some.ensures s.path s.at))
+    (pending_from _ _ here rest s _ (search rules)))
 
 pub retreat-requires : goal.retreat-requires
 retreat-requires c = (_, c.requires.2.pending)
 
 pub returns-in-None : goal.returns-in-None
-returns-in-None c = λ here rest s. if_advances _ _ _ _ _ (only_more _ _ here rest s (c.in-None.ensures s.path s.at)) (c.retreat.ensures _ s.pending)
+returns-in-None c =
+    λ here rest s. if_advances _ _ _ _ _ (only_more _ _ here rest s (c.in-None.ensures s.path s.at)) (c.retreat.ensures _ s.pending)

@@ -8,6 +8,9 @@ pub returns : goal.returns
 returns c =
     λ here more s a.
     (let k = some_of _ (c.name.ensures.key _ s.subkey.at) in
-    entered _ _ _ here more s _ a k.0 k.1 (c.root-root.ensures.shallow _ (c.name.ensures.key _ s.subkey.at)) _ _ (c.name.ensures.told _ s.subkey.at k.0 k.1) refl
-    (c.in_ok-descend.ensures ∙ ap (λ (text : List ℕ). text_below c.args.pending.parent.depth (take c.args.pending.front text) c.name.result.now) c.note_next.ensures.same)
+    entered _ _ _ here more s _ a k.0 k.1 (c.root-root.ensures.shallow _ (c.name.ensures.key _ s.subkey.at)) _ _
+    (c.name.ensures.told _ s.subkey.at k.0 k.1) refl
+    (c.in_ok-descend.ensures ∙
+    ap (λ (text : List ℕ). text_below c.args.pending.parent.depth
+    (take c.args.pending.front text) c.name.result.now) c.note_next.ensures.same)
     (c.in_ok-note_next.ensures.noted s.path s.index s.at s.subkey))

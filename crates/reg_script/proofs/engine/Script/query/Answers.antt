@@ -7,8 +7,12 @@ use Rattle.reg_script.proofs.ProgressLemmas.{from_empty}
 use Rattle.reg_script.proofs.engine.Script.query.Goals as goal
 
 pub returns-clause-ok : goal.returns-clause-ok
-returns-clause-ok c =
-    (Answered c.read-answer.result, (c.read-answer.ensures.at, c.read-answer.ensures.body, refl), from_empty _ _ _ c.in_ok-write_answered.ensures c.new-reply.ensures.bytes, refl)
+returns-clause-ok c = (
+  Answered c.read-answer.result,
+  (c.read-answer.ensures.at, c.read-answer.ensures.body, refl),
+  from_empty _ _ _ c.in_ok-write_answered.ensures c.new-reply.ensures.bytes,
+  refl,
+)
 
 pub returns-in_err-write_answered-clause-err : goal.returns-in_err-write_answered-clause-err
 returns-in_err-write_answered-clause-err c =

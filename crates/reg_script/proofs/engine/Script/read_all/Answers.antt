@@ -11,8 +11,11 @@ loop-read-init g c = λ steady. ([], consumes_none _, takes_none _ steady, omega
 pub returns-in_default-clause-err : goal.returns-in_default-clause-err
 returns-in_default-clause-err g c =
     λ steady none empty.
-    let h = c.loop-read.invariant steady in
-    (h.0, consumes_kept _ _ _ h.0 h.1 c.in_default.ensures.bytes, halts_at _ _ _ h.0 Read _ h.2 (record { gathered = refl; sent = refl; written = refl }, refl, refl))
+    let h = c.loop-read.invariant steady in (
+      h.0,
+      consumes_kept _ _ _ h.0 h.1 c.in_default.ensures.bytes,
+      halts_at _ _ _ h.0 Read _ h.2 (record { gathered = refl; sent = refl; written = refl }, refl, refl),
+    )
 
 pub returns-in_err-end-clause-err : goal.returns-in_err-end-clause-err
 returns-in_err-end-clause-err g c =
@@ -29,15 +32,21 @@ pub returns-then-count-eq0-clause-lines : goal.returns-then-count-eq0-clause-lin
 returns-then-count-eq0-clause-lines g c =
     λ steady.
     let h = c.loop-read.invariant steady in
-    let e = c.in_ok-end.ensures.ok h.2.steady.no_feed in
-    (h.0, consumes_no_more _ _ _ h.0 c.read.new.buf c.in-Ok.count h.1 c.in-Ok.ensures.bytes.0 c.if-count-eq0.true, ends_at _ _ _ h.0 e.0 h.2 e.1 e.2 refl e.3)
+    let e = c.in_ok-end.ensures.ok h.2.steady.no_feed in (
+      h.0,
+      consumes_no_more _ _ _ h.0 c.read.new.buf c.in-Ok.count h.1 c.in-Ok.ensures.bytes.0 c.if-count-eq0.true,
+      ends_at _ _ _ h.0 e.0 h.2 e.1 e.2 refl e.3,
+    )
 
 pub returns-in_err-take_bytes-clause-err : goal.returns-in_err-take_bytes-clause-err
 returns-in_err-take_bytes-clause-err g c =
     if_err _ c.from_residual-in_err-take_bytes.result _ c.from_residual-in_err-take_bytes.ensures.1
     (λ steady none empty.
-    let h = c.loop-read.invariant steady in
-    (h.0 ++ take c.in-Ok.count c.read.new.buf, consumes_then _ _ _ h.0 _ h.1 c.in-Ok.ensures.bytes.0, halts_after _ _ _ _ h.0 _ _ h.2 (c.in_err-take_bytes.ensures.err h.2.steady)))
+    let h = c.loop-read.invariant steady in (
+      h.0 ++ take c.in-Ok.count c.read.new.buf,
+      consumes_then _ _ _ h.0 _ h.1 c.in-Ok.ensures.bytes.0,
+      halts_after _ _ _ _ h.0 _ _ h.2 (c.in_err-take_bytes.ensures.err h.2.steady),
+    ))
 
 pub loop-read-preserved : goal.loop-read-preserved
 loop-read-preserved g c =
@@ -50,4 +59,6 @@ loop-read-preserved g c =
     )
 
 pub returns-clause-err : goal.returns-clause-err
-returns-clause-err g c = λ steady none empty. let h = c.loop-read.invariant steady in absurd (omega (arith, h.3, not_so_many _ _ h.0 none empty h.2, c.loop-read-test.false))
+returns-clause-err g c =
+    λ steady none empty. let h = c.loop-read.invariant steady in
+    absurd (omega (arith, h.3, not_so_many _ _ h.0 none empty h.2, c.loop-read-test.false))

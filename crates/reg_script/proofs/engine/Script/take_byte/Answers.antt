@@ -6,12 +6,17 @@ use Rattle.reg_script.proofs.engine.Script.take_byte.Goals as goal
 
 pub returns-then-self-ge-LINES_LIMIT-clause-err : goal.returns-then-self-ge-LINES_LIMIT-clause-err
 returns-then-self-ge-LINES_LIMIT-clause-err g c =
-    λ steady. halts_here _ _ _ _ steady (record { gathered = refl; sent = refl; written = refl }, refl, too_many_lines _ _ _ steady.few (many_lines _ c.if-self-ge-LINES_LIMIT.true))
+    λ steady. halts_here _ _ _ _ steady (
+      record { gathered = refl; sent = refl; written = refl },
+      refl,
+      too_many_lines _ _ _ steady.few (many_lines _ c.if-self-ge-LINES_LIMIT.true),
+    )
 
 pub returns-in_err-end_line-clause-err : goal.returns-in_err-end_line-clause-err
 returns-in_err-end_line-clause-err g c = if_err _ c.from_residual.result _ c.from_residual.ensures.1
     (λ steady. let lost = c.in_err-end_line.ensures.err in
-    halts_lost _ _ c.args.byte _ steady c.if-byte-eq10.true (few_lines _ c.if-self-ge-LINES_LIMIT.false) lost.0 lost.1.text refl lost.1.written lost.1.reached)
+    halts_lost _ _ c.args.byte _ steady c.if-byte-eq10.true
+    (few_lines _ c.if-self-ge-LINES_LIMIT.false) lost.0 lost.1.text refl lost.1.written lost.1.reached)
 
 pub returns-in_err-settle-clause-err : goal.returns-in_err-settle-clause-err
 returns-in_err-settle-clause-err g c = if_err _ c.from_residual-in_err-settle.result _ c.from_residual-in_err-settle.ensures.1
@@ -24,15 +29,21 @@ returns-then-byte-eq10-clause-ok g c =
     λ steady.
     let fewer = few_lines _ c.if-self-ge-LINES_LIMIT.false in
     let said = c.in_ok-end_line.ensures.said in
-    takes_line _ _ c.args.byte _ _ _ c.if-byte-eq10.true steady fewer said.1 said.2 c.in_ok-end_line.ensures.ended (c.in_ok-end_line.ensures.lines fewer) said.3 c.in_ok-settle.ensures.sent
+    takes_line _ _ c.args.byte _ _ _ c.if-byte-eq10.true steady fewer said.1 said.2 c.in_ok-end_line.ensures.ended
+    (c.in_ok-end_line.ensures.lines fewer) said.3 c.in_ok-settle.ensures.sent
 
 pub returns-then-len-ge-LINE_LIMIT-clause-err : goal.returns-then-len-ge-LINE_LIMIT-clause-err
 returns-then-len-ge-LINE_LIMIT-clause-err g c =
-    λ steady. halts_here _ _ _ _ steady (record { gathered = refl; sent = refl; written = refl }, refl, line_too_long _ _ _ steady.no_feed c.if-byte-eq10.false (long_line _ (search rules)))
+    λ steady. halts_here _ _ _ _ steady (
+      record { gathered = refl; sent = refl; written = refl },
+      refl,
+      line_too_long _ _ _ steady.no_feed c.if-byte-eq10.false (long_line _ (search rules)),
+    )
 
 pub returns-in-Ok-clause-ok : goal.returns-in-Ok-clause-ok
 returns-in-Ok-clause-ok g c =
-    λ steady. takes_byte _ c.args.byte _ steady (few_lines _ c.if-self-ge-LINES_LIMIT.false) (short_line _ (search rules)) c.if-byte-eq10.false c.in-Ok.ensures.items
+    λ steady. takes_byte _ c.args.byte _ steady (few_lines _ c.if-self-ge-LINES_LIMIT.false)
+    (short_line _ (search rules)) c.if-byte-eq10.false c.in-Ok.ensures.items
 
 pub returns-in-Err-clause-err : goal.returns-in-Err-clause-err
 returns-in-Err-clause-err g c =
