@@ -3,3 +3,4 @@ pub mod RowsOfImages
 pub mod RowsOfWalks
 pub mod RowsOfKeys
 pub mod RowsOfValues
+pub mod RowsOfCrowds

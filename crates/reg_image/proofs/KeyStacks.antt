@@ -1,3 +1,5 @@
--- The stack of the keys on the present path, and the walk over it.
 pub mod StackEnds
+pub mod WalkedOn
+pub mod BuiltChains
+pub mod ChildCounts
 pub mod WalkTurns

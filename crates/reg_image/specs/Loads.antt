@@ -1,5 +1,5 @@
 -- What comes of loading an image from a reader.
-use Rattle.std.specs.Prelude.{◌≡◌, ℕ, ◌+◌, ◌<◌, ◌≤◌, ◌⊎◌, nat_lt, if◌then◌else◌, Option, Some, Result, Ok, Err, IsOk, List, [], length}
+use Rattle.std.specs.Prelude.{◌≡◌, ℕ, ◌+◌, ◌<◌, ◌≤◌, ◌⊎◌, nat_lt, if◌then◌else◌, Option, Some, Result, Ok, Err, IsOk, List, [], length, take, drop}
 use Rattle.std.specs.Io.KnownBytes.{IsAtEnd}
 use Rattle.reg_heap.specs.ByteWords.{word}
 use Rattle.reg_calls.specs.Views.{View, IsHive}
@@ -10,6 +10,7 @@ use Rattle.reg_image.specs.declared.block.BaseBlock.{BaseBlock}
 use Rattle.reg_image.specs.WalkSteps.{Seen}
 use Rattle.reg_image.specs.BaseBlock.{block_walk}
 use Rattle.reg_image.specs.Images.{nothing, loaded, fault_of}
+use Rattle.reg_image.specs.CrowdedBins.{AreCrowded}
 
 -- the number of a fault
 abbrev pub fault_number : LoadFault → ℕ
@@ -49,12 +50,18 @@ pub record IsLoaded (image : List ℕ) (view : View) : Type 0 where
   pub keys : view.keys.tree ≡ view.origin
   pub hive : IsHive view
 
+-- a base block that passes its tests, and bins behind it whose keys the new bins have no room for: before the walk meets any fault
+abbrev pub IsImageCrowded : List ℕ → Type 0
+IsImageCrowded bytes =
+    (block : BaseBlock) × (block_walk bytes nothing ≡ Ok (block, nothing))
+    × AreCrowded (take block.size (drop 4096 bytes)) block.minor block.root
+
 -- why loading ended, where so much of an image was read and this is left. A read failed before all was read that was asked for; or the
--- reader came to its end before that. Otherwise all that was asked for was read, and no more, and it meets that fault. Once the base block
--- passes its tests, the new bins may lack space, and at any time after that memory may lack
+-- reader came to its end before that. Otherwise all that was asked for was read, and no more, and it meets that fault, or the new bins
+-- have no room for a key of it. Once the base block passes its tests, memory may lack at any time
 abbrev pub IsRefused : LoadFault → List ℕ → Option (List ℕ) → Type 0
 IsRefused Read image left = length image < asked_for image
 IsRefused Short image left = (length image < asked_for image) × (fault_of image ≡ Some Short) × IsAtEnd left
-IsRefused Limit image left = (length image ≡ asked_for image) × ((fault_of image ≡ Some Limit) ⊎ HasBlock image)
+IsRefused Limit image left = (length image ≡ asked_for image) × ((fault_of image ≡ Some Limit) ⊎ IsImageCrowded image)
 IsRefused Memory image left = (length image ≤ asked_for image) × HasBlock image
 IsRefused fault image left = (length image ≡ asked_for image) × (fault_of image ≡ Some fault)

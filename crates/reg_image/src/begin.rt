@@ -2,10 +2,11 @@
 //!
 //! Suhanov, Windows registry file format specification, section "Key node".
 
-ghost use Rattle.std.specs.Prelude.{◌≡◌, ◌+◌, ◌<◌, ℕ, List, [], None, OnOk, IfOk, MatchResult, suc};
+ghost use Rattle.std.specs.Prelude.{◌≡◌, ◌+◌, ◌<◌, ℕ, List, [], length, None, OnOk, IfOk, MatchResult, suc};
 ghost use Rattle.std.specs.FinMap.{get};
 ghost use Rattle.reg_names.specs.declared.TheConstants.{PATH_LIMIT};
-ghost use Rattle.reg_heap.specs.Paths.{Path};
+ghost use Rattle.reg_heap.specs.declared.limits.TheConstants.{SUBKEYS_LIMIT};
+ghost use Rattle.reg_heap.specs.Paths.{Path, children_of};
 ghost use Rattle.reg_heap.specs.Edits.{child_path};
 ghost use Rattle.reg_arena.specs.Cells.{cell_at};
 ghost use Rattle.reg_tree.specs.TreeKeys.{IsAt, IsThere, KeepsNodes};
@@ -16,7 +17,8 @@ ghost use Rattle.reg_image.specs.declared.table.CellState.{CellState};
 ghost use Rattle.reg_image.specs.Internal.CellStates.{IsTable, state_in, unnamed};
 ghost use Rattle.reg_image.specs.Internal.FitKeys.{IsFitName};
 ghost use Rattle.reg_image.specs.Internal.BegunKeys.{Heads};
-ghost use Rattle.reg_image.specs.Internal.Stacks.{Begins, IsBegun, FailsAs};
+ghost use Rattle.reg_image.specs.CrowdedBins.{BuildsAll};
+ghost use Rattle.reg_image.specs.Internal.Stacks.{Begins, IsBegun, IsRootCrowded, FailsAs};
 
 use crate::LoadFault;
 use crate::built_keys::{build_below, build_root};
@@ -47,9 +49,9 @@ fn head_below<'a>(
     offset: u32,
 ) -> Result<NamedKey<'a>, LoadFault>
     requires { IsThere tree.now above }
-    ensures heads { (path : List ℕ) → (at : Path) → (seen : Seen) → IsTable (cell_at bins.now) seen.found path table.old.states.items →
-        tree.now.tree ≡ tree_told seen → IsAt tree.now at above →
-        Heads (cell_at bins.now) path (child_path at) offset seen table.new.states.items result }
+    ensures heads { (levels : ℕ) → (path : List ℕ) → (at : Path) → (seen : Seen) → IsTable (cell_at bins.now) seen.found path table.old.states.items →
+        tree.now.tree ≡ tree_told seen → IsAt tree.now at above → levels + above.depth ≡ PATH_LIMIT →
+        Heads (cell_at bins.now) levels path (child_path at) offset seen table.new.states.items result }
     ensures fit { IfOk result IsFitName }
     ensures named { OnOk result (state_in table.new.states.items offset ≡ CellState.Named) }
     ensures free { IfOk result (λ named. (p : Path) → IsAt tree.now p above → get tree.now.tree (child_path p named.name.items) ≡ None) }
@@ -77,7 +79,8 @@ pub fn begin_root<'a>(
     requires { IsTable (cell_at bins.now) nothing.found [] table.old.states.items }
     ensures begins { MatchResult result
         (λ root. IsBegun (cell_at bins.now) minor (suc PATH_LIMIT) [] root_path offset nothing table.new.states.items root.tree root.key)
-        (λ fault. FailsAs fault (key_from (cell_at bins.now) minor (suc PATH_LIMIT) [] root_path offset nothing)) }
+        (λ fault. FailsAs (IsRootCrowded (cell_at bins.now) minor offset) fault
+        (key_from (cell_at bins.now) minor (suc PATH_LIMIT) [] root_path offset nothing)) }
     ensures fewer { OnOk result (unnamed table.new.states.items < unnamed table.old.states.items) }
 {
     let named = named_key(alloc, bins, table, offset)?;
@@ -106,13 +109,16 @@ pub fn begin_key<'a>(
     above: Node,
     offset: u32,
 ) -> Result<KeyFrame<'a>, LoadFault>
-    requires { IsThere tree.old above }
+    requires above { IsThere tree.old above }
+    requires few { (p : Path) × IsAt tree.old p above × (length (children_of tree.old.tree p) < SUBKEYS_LIMIT) }
     ensures begins { (levels : ℕ) → (path : List ℕ) → (at : Path) → (seen : Seen) → IsTable (cell_at bins.now) seen.found path table.old.states.items →
-        tree.old.tree ≡ tree_told seen → IsAt tree.old at above → levels + above.depth ≡ PATH_LIMIT →
+        tree.old.tree ≡ tree_told seen → BuildsAll seen.told tree.old → IsAt tree.old at above → levels + above.depth ≡ PATH_LIMIT →
         Begins (cell_at bins.now) minor levels path (child_path at) offset seen table.new.states.items tree.new result }
     ensures nodes { OnOk result (KeepsNodes tree.old tree.new) }
     ensures fewer { OnOk result (unnamed table.new.states.items < unnamed table.old.states.items) }
 {
+    // Only for its clauses `tree` and `one_path`: what isn't there has nothing below it, and the node is that of one key.
+    let _ = tree.root();
     let named = head_below(alloc, bins, table, tree, above, offset)?;
     let parts = enter_key(alloc, bins, table, minor, offset, &named.node.fields)?;
     let node = build_below(alloc, tree, above, &named, &parts)?;

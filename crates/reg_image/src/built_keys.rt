@@ -3,8 +3,8 @@
 ghost use Rattle.std.specs.Prelude.{◌≡◌, ◌<◌, None, bit_and, ℕ, List, [], length, OnOk, IfOk, IfErr};
 ghost use Rattle.std.specs.FinMap.{empty, get, insert};
 ghost use Rattle.reg_names.specs.declared.TheConstants.{PATH_LIMIT};
-ghost use Rattle.reg_heap.specs.declared.limits.TheConstants.{VALUES_LIMIT};
-ghost use Rattle.reg_heap.specs.Paths.{Path, Tree as KeyTree, Rec};
+ghost use Rattle.reg_heap.specs.declared.limits.TheConstants.{SUBKEYS_LIMIT, VALUES_LIMIT};
+ghost use Rattle.reg_heap.specs.Paths.{Path, Tree as KeyTree, Rec, children_of};
 ghost use Rattle.reg_heap.specs.Edits.{child_path, edited, values_at, with_value};
 ghost use Rattle.reg_heap.specs.Trees.{IsSmallKey, IsSmallValue};
 ghost use Rattle.reg_shape.specs.Spelt.{marks_of};
@@ -12,20 +12,20 @@ ghost use Rattle.reg_tree.specs.BuiltKeys.{built_key};
 ghost use Rattle.reg_tree.specs.TreeKeys.{IsAt, IsThere, KeepsNodes};
 ghost use Rattle.reg_image.specs.Internal.NamedRecords.{member_in, members_in};
 ghost use Rattle.reg_image.specs.Internal.FitKeys.{IsFitName, IsOther, AreFit, AreFitParts};
-ghost use Rattle.reg_image.specs.Internal.BegunKeys.{IsBare, IsLack, told_as};
+ghost use Rattle.reg_image.specs.CrowdedBins.{BuildsFirst, BuildsOne, CrowdsBelow, CrowdsRoot, CrowdsValues, LacksValueRoom, PutsEach, PutsValue};
+ghost use Rattle.reg_image.specs.Internal.BegunKeys.{IsBare, IsLack, lack_of, told_as};
 
 use crate::LoadFault;
 use crate::key_parts::KeyParts;
 use crate::keys::NamedKey;
 use crate::values::ReadValue;
 use reg_arena::ArenaFault;
-use reg_heap::limits::SUBKEYS_LIMIT;
 use reg_tree::{NewKey, Node, Tree};
 use std::alloc::Global;
 
 /// What was lacking.
 fn lack(fault: ArenaFault) -> LoadFault
-    ensures { IsLack result }
+    ensures { result ≡ lack_of fault }
 {
     match fault {
         ArenaFault::Full => LoadFault::Limit,
@@ -72,7 +72,8 @@ fn put_value(
     ensures ok { (p : Path) → IsAt tree.old p node →
         OnOk result (tree.new.tree ≡ edited tree.old.tree p (with_value value.now.name.items value.now.kind value.now.bytes.items time)) }
     ensures nodes { OnOk result (KeepsNodes tree.old tree.new) }
-    ensures err { IfErr result IsLack }
+    ensures puts { (p : Path) → IsAt tree.old p node → OnOk result (PutsValue tree.old tree.new p time (member_in value.now)) }
+    ensures err { (p : Path) → IsAt tree.old p node → IfErr result (IsLack (LacksValueRoom tree.old p (member_in value.now))) }
 {
     // Only for its clause `one_path`: the node is that of one key.
     let _ = tree.root();
@@ -85,7 +86,11 @@ fn put_value(
         value.bytes.as_slice(),
         time,
     ) {
-        Ok(()) => Ok(()),
+        Ok(()) => {
+            // Only for its clause `whole`.
+            let _ = tree.arena();
+            Ok(())
+        }
         Err(fault) => Err(lack(fault)),
     }
 }
@@ -103,7 +108,8 @@ fn put_values(
     ensures ok { (p : Path) → IsAt tree.old p node → (base : KeyTree) → (r : Rec) → tree.old.tree ≡ insert base p r →
         r.values ≡ [] → r.time ≡ time → OnOk result (tree.new.tree ≡ insert base p (record r { values = members_in values.now })) }
     ensures nodes { OnOk result (KeepsNodes tree.old tree.new) }
-    ensures err { IfErr result IsLack }
+    ensures puts { (p : Path) → IsAt tree.old p node → OnOk result (PutsEach p time (members_in values.now) tree.old tree.new) }
+    ensures err { (p : Path) → IsAt tree.old p node → IfErr result (IsLack (CrowdsValues tree.old p time (members_in values.now))) }
 {
     for value in values {
         put_value(alloc, tree, node, value, time)?;
@@ -120,12 +126,15 @@ pub fn build_root(
     requires named { IsFitName named.now }
     requires parts { AreFitParts parts.now }
     ensures ok { IfOk result (λ tree. tree.tree ≡ insert empty [] (told_as named.now parts.now)) }
-    ensures err { IfErr result IsLack }
+    ensures builds { IfOk result (λ tree. BuildsFirst tree (told_as named.now parts.now)) }
+    ensures err { IfErr result (IsLack (CrowdsRoot (told_as named.now parts.now))) }
 {
     let Ok(mut tree) = Tree::build(alloc, new_key(named, parts)) else {
         return Err(LoadFault::Memory);
     };
     let root = tree.root();
+    // Only for its clause `whole`.
+    let _ = tree.arena();
     put_values(
         alloc,
         &mut tree,
@@ -136,7 +145,7 @@ pub fn build_root(
     Ok(tree)
 }
 
-/// Builds a key that was read below another one, which has none of its name. `Limit` also where the other one has 60,000 subkeys.
+/// Builds a key that was read below another one, which has none of its name, and fewer than 60,000 subkeys.
 pub fn build_below(
     alloc: Global,
     tree: &mut Tree,
@@ -149,18 +158,19 @@ pub fn build_below(
     requires parts { AreFitParts parts.now }
     requires free { (p : Path) → IsAt tree.old p above → get tree.old.tree (child_path p named.now.name.items) ≡ None }
     requires shallow { above.depth < PATH_LIMIT }
+    requires few { (p : Path) → IsAt tree.old p above → length (children_of tree.old.tree p) < SUBKEYS_LIMIT }
     ensures ok { (p : Path) → IsAt tree.old p above → IfOk result (λ node.
         (tree.new.tree ≡ insert tree.old.tree (child_path p named.now.name.items) (told_as named.now parts.now))
         × IsAt tree.new (child_path p named.now.name.items) node) }
     ensures nodes { OnOk result (KeepsNodes tree.old tree.new) }
-    ensures err { IfErr result IsLack }
+    ensures builds { (p : Path) → IsAt tree.old p above → OnOk result (BuildsOne tree.old tree.new p (told_as named.now parts.now)) }
+    ensures err { (p : Path) → IsAt tree.old p above → IfErr result (IsLack (CrowdsBelow tree.old p (told_as named.now parts.now))) }
 {
-    if tree.subkeys(above) >= SUBKEYS_LIMIT {
-        return Err(LoadFault::Limit);
-    }
     let time = named.node.fields.time;
     match tree.build_key(alloc, above, new_key(named, parts)) {
         Ok(node) => {
+            // Only for its clause `whole`.
+            let _ = tree.arena();
             put_values(alloc, tree, node, parts.values.as_slice(), time)?;
             Ok(node)
         }

@@ -5,7 +5,8 @@
 //! here is one step of that walk, over bytes that nobody vouches for.
 //!
 //! The definitions right in `specs/` are the rules' own: `WalkSteps` (a step meets a fault, or gives what it read), `LoadingWalk`
-//! (the walk, record by record), `BaseBlock` (the first 4,096 bytes) and `Images` (an image as it is written, and as it is loaded).
+//! (the walk, record by record), `BaseBlock` (the first 4,096 bytes), `Images` (an image as it is written, and as it is loaded), and
+//! `WalkedKeys` with `CrowdedBins` (the keys that the walk comes to, and that the new bins have no room for one).
 //! The readers keep a table of what is known of each cell (`CellTable`): whether it is allocated, and how it was named.
 //!
 //! It stands on reg_shape, whose readings and trees the walk spells, and on reg_records for the records. Its main type is

@@ -8,6 +8,7 @@ ghost use Rattle.reg_heap.specs.declared.limits.TheConstants.{BINS_LIMIT};
 ghost use Rattle.reg_calls.specs.HiveView.{view_of};
 ghost use Rattle.reg_image.specs.Images.{nothing, tree_in, bins_walk};
 ghost use Rattle.reg_image.specs.Loads.{fault_number, IsLoaded, IsRefused};
+ghost use Rattle.reg_image.specs.CrowdedBins.{AreCrowded};
 ghost use Rattle.reg_image.specs.Internal.Stacks.{FailsAs};
 
 use crate::LoadFault;
@@ -50,7 +51,8 @@ fn build_tree(alloc: Global, bins: &[u8], block: BaseBlock) -> Result<Tree, Load
     requires pages { length bins.now % 4096 ≡ 0 }
     requires small { length bins.now ≤ BINS_LIMIT }
     ensures ok { IfOk result (λ tree. tree_in (bins_walk bins.now block.minor block.root nothing) ≡ Ok tree.tree) }
-    ensures err { IfErr result (λ fault. FailsAs fault (bins_walk bins.now block.minor block.root nothing)) }
+    ensures err { IfErr result (λ fault. FailsAs (AreCrowded bins.now block.minor block.root) fault
+        (bins_walk bins.now block.minor block.root nothing)) }
 {
     let mut table = scan(alloc, bins)?;
     walk(alloc, bins, block.minor, &mut table, block.root)
@@ -63,7 +65,9 @@ fn build_tree(alloc: Global, bins: &[u8], block: BaseBlock) -> Result<Tree, Load
 /// base block or its bins do, `Read` where a read fails: one that is interrupted fails too. Of the base block `Signature`,
 /// `Version`, `Checksum`, `Dirty`, `Bins` and `Limit`; of the bins, once all are read, `Bins` where the header of one is bad, else
 /// `Cells` where a cell's size is; of the keys, as they are met from the root on, `Record`, `Loop`, `Twice`, `NotInProfile` and
-/// `Limit`, the last also where the new bins would pass 268,435,456 bytes. `Memory` may come as soon as the base block passed.
+/// `Limit`. `Limit` comes else only where the new bins lack space: for the next key, its class or its next value no free cell has
+/// room, and with a bin more they would pass 268,435,456 bytes; the walk met no fault up to there.
+/// `Memory` may come as soon as the base block passed.
 pub fn load<R: Read>(alloc: Global, input: &mut R) -> Result<Hive, LoadFault>
     ensures ok { IfOk result (λ hive. (image : List ℕ) × Consumes (R.remaining input.old) (R.remaining input.new) image
         × IsLoaded image (view_of hive)) }

@@ -2,7 +2,7 @@
 //!
 //! Suhanov, Windows registry file format specification, sections "Format of primary files" and "Subkeys list".
 
-ghost use Rattle.std.specs.Prelude.{◌≡◌, ◌+◌, ◌*◌, ◌≤◌, ◌++◌, List, [], ◌∷◌, length, reverse, suc, Result, Ok, OnOk, IfOk, IfErr};
+ghost use Rattle.std.specs.Prelude.{◌≡◌, ◌+◌, ◌*◌, ◌≤◌, ◌++◌, ℕ, List, [], ◌∷◌, length, reverse, suc, Result, Ok, OnOk, IfOk, IfErr};
 ghost use Rattle.reg_names.specs.declared.TheConstants.{PATH_LIMIT};
 ghost use Rattle.reg_arena.specs.Cells.{cell_at};
 ghost use Rattle.reg_tree.specs.TreeKeys.{IsThere};
@@ -11,7 +11,7 @@ ghost use Rattle.reg_image.specs.WalkSteps.{Seen};
 ghost use Rattle.reg_image.specs.LoadingWalk.{key_from, root_path};
 ghost use Rattle.reg_image.specs.Images.{nothing, tree_told};
 ghost use Rattle.reg_image.specs.Internal.CellStates.{IsTable, unnamed};
-ghost use Rattle.reg_image.specs.Internal.Stacks.{IsWalking, IsBegun, FailsAs};
+ghost use Rattle.reg_image.specs.Internal.Stacks.{IsWalking, IsBegun, IsRootCrowded, FailsAs};
 
 use crate::LoadFault;
 use crate::begin::{BegunRoot, begin_key, begin_root};
@@ -44,13 +44,15 @@ fn step<'a>(
     keys: &mut Vec<KeyFrame<'a>>,
     lowest: KeyFrame<'a>,
 ) -> Result<(), LoadFault>
-    requires { IsThere tree.old lowest.node }
-    ensures ok { (whole : Result (Unit {0} × Seen) LoadFault) →
-        IsWalking (cell_at bins.now) minor whole (lowest.entry ∷ reverse keys.old.items) table.old.states.items tree.old →
-        OnOk result (IsWalking (cell_at bins.now) minor whole (reverse keys.new.items) table.new.states.items tree.new) }
-    ensures err { (whole : Result (Unit {0} × Seen) LoadFault) →
-        IsWalking (cell_at bins.now) minor whole (lowest.entry ∷ reverse keys.old.items) table.old.states.items tree.old →
-        IfErr result (λ fault. FailsAs fault whole) }
+    requires node { IsThere tree.old lowest.node }
+    requires walks { (root : ℕ) × (whole : Result (Unit {0} × Seen) LoadFault)
+        × IsWalking (cell_at bins.now) minor root whole (lowest ∷ reverse keys.old.items) table.old.states.items tree.old }
+    ensures ok { (root : ℕ) → (whole : Result (Unit {0} × Seen) LoadFault) →
+        IsWalking (cell_at bins.now) minor root whole (lowest.entry ∷ reverse keys.old.items) table.old.states.items tree.old →
+        OnOk result (IsWalking (cell_at bins.now) minor root whole (reverse keys.new.items) table.new.states.items tree.new) }
+    ensures err { (root : ℕ) → (whole : Result (Unit {0} × Seen) LoadFault) →
+        IsWalking (cell_at bins.now) minor root whole (lowest.entry ∷ reverse keys.old.items) table.old.states.items tree.old →
+        IfErr result (λ fault. FailsAs (IsRootCrowded (cell_at bins.now) minor root) fault whole) }
     ensures less { OnOk result
         (2 * unnamed table.new.states.items + length keys.new.items ≤ 2 * unnamed table.old.states.items + length keys.old.items) }
 {
@@ -87,7 +89,8 @@ fn walk_below<'a>(
         × (key_from (cell_at bins.now) minor (suc PATH_LIMIT) [] root_path root.entry.offset nothing ≡ Ok (tt, seen))
         × (tree.new.tree ≡ tree_told seen)) }
     ensures err { IfErr result
-        (λ fault. FailsAs fault (key_from (cell_at bins.now) minor (suc PATH_LIMIT) [] root_path root.entry.offset nothing)) }
+        (λ fault. FailsAs (IsRootCrowded (cell_at bins.now) minor root.entry.offset) fault
+        (key_from (cell_at bins.now) minor (suc PATH_LIMIT) [] root_path root.entry.offset nothing)) }
 {
     let mut keys = Vec::new(alloc);
     push(&mut keys, root)?;
@@ -99,7 +102,8 @@ fn walk_below<'a>(
 
 /// Walks the keys of foreign bins from the root's key node on, and builds them in a new tree. Of the cells none was named yet.
 ///
-/// Its faults are the walk's, the first that is met; `Limit` also where the new bins have no room; `Memory` at any place.
+/// Its faults are the walk's, the first that is met; `Limit` also where the new bins have no room for the key that was told last;
+/// `Memory` at any place.
 pub fn walk(
     alloc: Global,
     bins: &[u8],
@@ -111,7 +115,8 @@ pub fn walk(
     ensures ok { IfOk result (λ tree. (seen : Seen)
         × (key_from (cell_at bins.now) minor (suc PATH_LIMIT) [] root_path root nothing ≡ Ok (tt, seen))
         × (tree.tree ≡ tree_told seen)) }
-    ensures err { IfErr result (λ fault. FailsAs fault (key_from (cell_at bins.now) minor (suc PATH_LIMIT) [] root_path root nothing)) }
+    ensures err { IfErr result (λ fault. FailsAs (IsRootCrowded (cell_at bins.now) minor root) fault
+        (key_from (cell_at bins.now) minor (suc PATH_LIMIT) [] root_path root nothing)) }
 {
     let BegunRoot { mut tree, key } = begin_root(alloc, bins, minor, table, root)?;
     walk_below(alloc, bins, minor, table, &mut tree, key)?;

@@ -15,11 +15,11 @@ use Rattle.reg_image.specs.declared.LoadFault.TheVariants.{Record, Twice, NotInP
 use Rattle.reg_image.specs.LoadingWalk.{root_path, key_from, value_from}
 use Rattle.reg_image.specs.Images.{nothing}
 
-abbrev store : List (ℕ × List ℕ) → Heap
+abbrev pub store : List (ℕ × List ℕ) → Heap
 store [] offset = None
 store (c ∷ cells) offset = cond (c.0 == offset) (Some c.1) (store cells offset)
 
-abbrev met : Kind → ℕ → Found
+abbrev pub met : Kind → ℕ → Found
 met kind offset = record { kind = kind; offset = offset }
 
 -- a key node of one byte a character: so many subkeys in a list, a class of a length; its security is at 500
@@ -32,7 +32,7 @@ key subkeys list class_length class name =
 abbrev security : List ℕ
 security = (115 ∷ 107 ∷ 0 ∷ 0 ∷ []) ++ (little_bytes 4 500 ++ (little_bytes 4 500 ++ (little_bytes 4 3 ++ (little_bytes 4 1 ++ (7 ∷ [])))))
 
-abbrev plain_rec : List ℕ → List ℕ → Rec
+abbrev pub plain_rec : List ℕ → List ℕ → Rec
 plain_rec name class = record { name = name; marks = 0; class = class; descriptor = 7 ∷ []; time = 0; values = [] }
 
 -- an index root of an `li` and an `lh`, and an `lf` alone; the root says 1 subkey and its lists name two
@@ -72,7 +72,7 @@ unfolding key_from nk_of sk_of list_of half word long
 too-deep = refl
 
 -- a root with two subkeys, of these names
-abbrev two : ℕ → ℕ → List ℕ → List ℕ → Heap
+abbrev pub two : ℕ → ℕ → List ℕ → List ℕ → Heap
 two a b x y = store
     ((32, key 2 100 0 4294967295 (82 ∷ []))
     ∷ (100, (108 ∷ 105 ∷ 2 ∷ 0 ∷ []) ++ (little_bytes 4 a ++ little_bytes 4 b))

@@ -14,6 +14,7 @@ use Rattle.reg_image.specs.BaseBlock.{block_walk}
 use Rattle.reg_image.specs.Images.{nothing, bins_walk, image_walk, tree_in, fault_in, loaded, fault_of}
 use Rattle.reg_image.specs.Loads.{asked_for, HasBlock, IsRefused}
 use Rattle.reg_image.specs.Internal.InputParts.{IsCut, IsGivenUp}
+use Rattle.reg_image.specs.CrowdedBins.{AreCrowded}
 use Rattle.reg_image.specs.Internal.Stacks.{FailsAs}
 use Rattle.reg_image.proofs.Readers.BlockWords.{block-front}
 use Rattle.reg_image.proofs.Devices.FaultsOfSteps.{IsOfImage}
@@ -115,6 +116,9 @@ module _ (head : List ℕ) (long : length head ≡ 4096) where
         ap (λ b. onward (λ _. block_walk (head ++ more) >>= after-block (head ++ more)) (check Short b nothing)) l ∙
         ap (onward (after-block (head ++ more))) block-is
 
+    its-bins : length more ≡ block.size → take block.size (drop 4096 (head ++ more)) ≡ more
+    its-bins k = ap (take block.size) behind ∙ (ap (λ n. take n more) (sym k) ∙ take-length more)
+
     short-bins : length more < block.size → image_walk (head ++ more) nothing ≡ Err Short
     short-bins k =
         let s = size-is in
@@ -152,7 +156,7 @@ module _ (head : List ℕ) (long : length head ≡ 4096) where
     refused-before-bins fault left m k = absurd k
 
     pub refused-at-bins : (fault : LoadFault) (left : _) → block.size ≤ 268435456 → length more ≡ block.size →
-        FailsAs fault (bins_walk more block.minor block.root nothing) →
+        FailsAs (AreCrowded more block.minor block.root) fault (bins_walk more block.minor block.root nothing) →
         (length (head ++ more) ≤ 268439552) × IsRefused fault (head ++ more) left
     refused-at-bins fault left m k w =
         let s = size-is in
@@ -162,9 +166,10 @@ module _ (head : List ℕ) (long : length head ≡ 4096) where
         is f w = fault-is (head ++ more) f (whole-walked k ∙ w)
 
         by : (f : LoadFault) → length (head ++ more) ≡ asked_for (head ++ more) →
-            FailsAs f (bins_walk more block.minor block.root nothing) → IsRefused f (head ++ more) left
+            FailsAs (AreCrowded more block.minor block.root) f (bins_walk more block.minor block.root nothing) → IsRefused f (head ++ more) left
         by Read a w = absurd (bins-meet more block.minor block.root nothing Read w)
         by Short a w = absurd (bins-meet more block.minor block.root nothing Short w)
         by Memory a w = (omega (arith, a), has-block)
-        by Limit a w = (a, inr has-block)
+        by Limit a (inl w) = (a, inl (is Limit w))
+        by Limit a (inr c) = (a, inr (block, block-is, subst (λ bytes. AreCrowded bytes block.minor block.root) (sym (its-bins k)) c))
         by f a w = (a, is f w)

@@ -1,5 +1,5 @@
 -- The tree of foreign bins: scanned, and then walked.
-use Rattle.std.proofs.Common.{◌≡◌, ℕ, suc, Result, Ok, Err, IfOk, IfErr, List, [], sym, ap, ◌∙◌, subst}
+use Rattle.std.proofs.Common.{◌≡◌, ℕ, suc, Result, Ok, Err, IfOk, IfErr, List, [], inl, inr, sym, ap, ◌∙◌, subst}
 use Rattle.reg_names.specs.declared.TheConstants.{PATH_LIMIT}
 use Rattle.reg_heap.specs.Paths.{Tree}
 use Rattle.reg_heap.specs.Heaps.{Heap}
@@ -13,7 +13,9 @@ use Rattle.reg_image.specs.LoadingWalk.{key_from, root_path}
 use Rattle.reg_image.specs.Images.{bins_walk, nothing, tree_in, tree_told}
 use Rattle.reg_image.specs.Internal.CellScans.{IsScanned, IsNoScan}
 use Rattle.reg_image.specs.Internal.CellStates.{IsTable}
-use Rattle.reg_image.specs.Internal.Stacks.{FailsAs}
+use Rattle.reg_image.specs.WalkedKeys.{Comes}
+use Rattle.reg_image.specs.CrowdedBins.{AreCrowded}
+use Rattle.reg_image.specs.Internal.Stacks.{IsRootCrowded, FailsAs}
 
 module _ (bins : List ℕ) (minor root : ℕ) where
   -- the keys of a heap, from the root on
@@ -21,19 +23,19 @@ module _ (bins : List ℕ) (minor root : ℕ) where
   keys-walked heap = key_from heap minor (suc PATH_LIMIT) [] root_path root nothing
 
   -- where a header or a size is bad, or memory lacks
-  pub scan-fails : (fault : LoadFault) → IsNoScan bins fault → FailsAs fault (bins_walk bins minor root nothing)
+  pub scan-fails : (crowded : Type 0) (fault : LoadFault) → IsNoScan bins fault → FailsAs crowded fault (bins_walk bins minor root nothing)
   unfolding bins_walk
-  scan-fails Bins n =
+  scan-fails crowded Bins n =
       ap (λ places. onward (λ places. given Cells (cells_of_bins bins places) >>=
       (λ cells. key_from (content_in bins cells) minor (suc PATH_LIMIT) [] root_path root)) (given Bins places nothing)) n
-  scan-fails Cells n =
+  scan-fails crowded Cells n =
       ap (λ places. onward (λ places. given Cells (cells_of_bins bins places) >>=
       (λ cells. key_from (content_in bins cells) minor (suc PATH_LIMIT) [] root_path root)) (given Bins places nothing)) n.1
       ∙ ap (λ cells. onward (λ cells. key_from (content_in bins cells) minor (suc PATH_LIMIT) [] root_path root)
       (given Cells cells nothing)) n.2
-  scan-fails Limit n = absurd n
-  scan-fails Memory n = tt
-  scan-fails fault n = absurd n
+  scan-fails crowded Limit n = absurd n
+  scan-fails crowded Memory n = tt
+  scan-fails crowded fault n = absurd n
 
   module _ (states : List CellState) (s : IsScanned bins states) where
     -- the cells are those of the bins
@@ -60,6 +62,27 @@ module _ (bins : List ℕ) (minor root : ℕ) where
     tree-built tree_of (Ok tree) w = ap tree_in (bins-walked ∙ w.1) ∙ ap Ok (sym w.2)
     tree-built tree_of (Err fault) w = tt
 
-    pub tree-fails : {T : Type 0} (r : Result T LoadFault) → IfErr r (λ fault. FailsAs fault (keys-walked (cell_at bins))) →
-        IfErr r (λ fault. FailsAs fault (bins_walk bins minor root nothing))
-    tree-fails r w = subst (λ whole. IfErr r (λ fault. FailsAs fault whole)) (sym bins-walked) w
+    crowds : IsRootCrowded (cell_at bins) minor root → AreCrowded bins minor root
+    crowds c = record {
+      places = s.places;
+      cells = s.cells;
+      places_are = s.places_are;
+      cells_are = s.cells_are;
+      after = c.0;
+      comes = subst (λ (heap : Heap). Comes heap minor c.0 (suc PATH_LIMIT) [] root_path root nothing) (sym heap-is) c.1;
+      crowded = c.2;
+    }
+
+    fails : (fault : LoadFault) (whole : Result (Unit {0} × Seen) LoadFault) → FailsAs (IsRootCrowded (cell_at bins) minor root) fault whole →
+        FailsAs (AreCrowded bins minor root) fault whole
+    fails Memory whole w = tt
+    fails Limit whole (inl e) = inl e
+    fails Limit whole (inr c) = inr (crowds c)
+    fails fault whole w = w
+
+    pub tree-fails : {T : Type 0} (r : Result T LoadFault) →
+        IfErr r (λ fault. FailsAs (IsRootCrowded (cell_at bins) minor root) fault (keys-walked (cell_at bins))) →
+        IfErr r (λ fault. FailsAs (AreCrowded bins minor root) fault (bins_walk bins minor root nothing))
+    tree-fails (Ok tree) w = tt
+    tree-fails (Err fault) w =
+        subst (λ whole. FailsAs (AreCrowded bins minor root) fault whole) (sym bins-walked) (fails fault _ w)

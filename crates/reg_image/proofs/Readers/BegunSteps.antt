@@ -1,11 +1,11 @@
 -- A key that is begun: from the steps that were read to what is left of it.
-use Rattle.std.proofs.Common.{◌≡◌, ℕ, zero, suc, ◌+◌, ◌-◌, ◌<◌, not, true, false, None, is_some, IsSome, Result, Ok, Err, List}
+use Rattle.std.proofs.Common.{◌≡◌, ℕ, zero, suc, ◌+◌, ◌-◌, ◌<◌, ◌≤◌, cond, not, true, false, None, is_some, IsSome, Result, Ok, Err, IsOk, List, inl, inr}
 use Rattle.std.proofs.Common.{[], ◌∷◌, ◌++◌}
 use Rattle.std.proofs.Common.{length, length-append, refl, sym, ap, ◌∙◌, subst, arith}
 use Rattle.std.specs.Result.{IsErrAnd, MatchResult}
 use Rattle.std.specs.FinMap.{get, insert, find, from_entries, get-from_entries, from_entries_push}
 use Rattle.reg_names.specs.declared.TheConstants.{PATH_LIMIT}
-use Rattle.reg_heap.specs.Paths.{Path, Member, path_cmp}
+use Rattle.reg_heap.specs.Paths.{Path, Tree, Member, path_cmp, is_child, children_of}
 use Rattle.reg_heap.specs.Edits.{child_path}
 use Rattle.reg_heap.specs.Heaps.{Heap}
 use Rattle.reg_records.specs.KeyNodes.{KeyRecord}
@@ -28,34 +28,31 @@ use Rattle.reg_image.specs.Internal.CellStates.{IsTable}
 use Rattle.reg_image.specs.Internal.ListParts.{entries_in}
 use Rattle.reg_image.specs.Internal.NamedRecords.{key_of, parts_in}
 use Rattle.reg_image.specs.Internal.ReaderOutcomes.{IsDone, Fails}
-use Rattle.reg_image.specs.Internal.BegunKeys.{Stops, told_as, IsListed, Lists}
+use Rattle.reg_image.specs.WalkedKeys.{ComesBelow, Comes}
+use Rattle.reg_image.specs.CrowdedBins.{BuildsAll, CrowdsNext}
+use Rattle.reg_image.specs.Internal.BegunKeys.{IsLack, Stops, Heads, told_as, IsListed, Lists}
 use Rattle.reg_image.specs.Internal.Frames.{Frame}
-use Rattle.reg_image.specs.Internal.Stacks.{FailsAs, IsBegun, Begins}
+use Rattle.reg_image.specs.Internal.Stacks.{ComesCrowded, FailsAs, IsBegun, Begins}
+use Rattle.reg_image.proofs.KeyStacks.WalkedOn.{source-comes}
+use Rattle.reg_image.proofs.KeyStacks.ChildCounts.{HasParents, child-more, no-child-of, none-below}
 use Rattle.reg_image.proofs.Readers.SiblingTests.{free-is}
 
 -- ---- faults
 
--- a step's fault, in the words in which space may lack in place of anything
-pub stops-fails : {A : Type 0} (fault : LoadFault) (s : Step A) (seen : Seen) → Fails fault s seen → Stops fault (s seen)
-stops-fails Memory s seen e = tt
-stops-fails Limit s seen e = tt
-stops-fails fault s seen e = e
+-- a fault of a step is the whole walk's
+pub fails-as : {A : Type 0} (crowded : Type 0) (fault : LoadFault) (s : Step A) (g : Result (A × Seen) LoadFault → Result (Unit {0} × Seen) LoadFault)
+    (seen : Seen) (whole : Result (Unit {0} × Seen) LoadFault) → ((e : LoadFault) → g (Err e) ≡ Err e) → whole ≡ g (s seen) →
+    Fails fault s seen → FailsAs crowded fault whole
+fails-as crowded Memory s g seen whole h w e = tt
+fails-as crowded Limit s g seen whole h w e = inl (w ∙ (ap g e ∙ h Limit))
+fails-as crowded fault s g seen whole h w e = w ∙ (ap g e ∙ h fault)
 
--- a fault of the first step is one of both
-pub stops-bind : {A B : Type 0} (fault : LoadFault) (s : Step A) (f : A → Step B) (seen : Seen) → Stops fault (s seen) →
-    Stops fault ((s >>= f) seen)
-stops-bind Memory s f seen e = tt
-stops-bind Limit s f seen e = tt
-stops-bind fault s f seen e = ap (onward f) e
-
--- a fault of the whole walk
-pub as-stops : (fault : LoadFault) (whole : Result (Unit {0} × Seen) LoadFault) → Stops fault whole → FailsAs fault whole
-as-stops Memory whole e = tt
-as-stops Limit whole e = tt
-as-stops fault whole e = e
-
-pub stops-same : {A : Type 0} (fault : LoadFault) (r q : Result (A × Seen) LoadFault) → r ≡ q → Stops fault q → Stops fault r
-stops-same fault r q e s = subst (λ r. Stops fault r) (sym e) s
+-- a fault of the first step of a head is the head's
+stops-bind : {A B : Type 0} (levels : ℕ) (fault : LoadFault) (s : Step A) (f : A → Step B) (seen : Seen) → Fails fault s seen →
+    Stops levels fault ((s >>= f) seen)
+stops-bind levels Memory s f seen e = tt
+stops-bind levels Limit s f seen e = inl (ap (onward f) e)
+stops-bind levels fault s f seen e = ap (onward f) e
 
 -- ---- the head
 
@@ -88,23 +85,60 @@ module _ (heap : Heap) (path : List ℕ) (here : List ℕ → Path) (offset : �
         told = done.told;
       }
 
-pub head-stops : (heap : Heap) (path : List ℕ) (here : List ℕ → Path) (offset : ℕ) (seen : Seen) (fault : LoadFault) →
-    Fails fault (named_key heap path offset) seen → Stops fault (head_from heap path here offset seen)
-head-stops heap path here offset seen fault f =
-    stops-bind fault (named_key heap path offset) (λ (head : KeyRecord × List ℕ). no_sibling (here head.1) >> give head) seen
-    (stops-fails fault (named_key heap path offset) seen f)
+pub head-stops : (heap : Heap) (levels : ℕ) (path : List ℕ) (here : List ℕ → Path) (offset : ℕ) (seen : Seen) (fault : LoadFault) →
+    Fails fault (named_key heap path offset) seen → Stops levels fault (head_from heap path here offset seen)
+head-stops heap levels path here offset seen fault f =
+    stops-bind levels fault (named_key heap path offset) (λ (head : KeyRecord × List ℕ). no_sibling (here head.1) >> give head) seen f
+
+-- the exit of a `?`
+pub head-exit : (heap : Heap) (levels : ℕ) (path : List ℕ) (here : List ℕ → Path) (offset : ℕ) (seen : Seen) (states : List CellState)
+    (fault : LoadFault) (r : Result NamedKey LoadFault) → IsErrAnd r (λ e. e ≡ fault) →
+    Stops levels fault (head_from heap path here offset seen) → Heads heap levels path here offset seen states r
+head-exit heap levels path here offset seen states fault (Ok named) i f = absurd i
+head-exit heap levels path here offset seen states fault (Err e) i f =
+    subst (λ e. Stops levels e (head_from heap path here offset seen)) (sym i) f
+
+-- a key that no level is left for
+pub head-deep : (heap : Heap) (levels depth : ℕ) (path : List ℕ) (here : List ℕ → Path) (offset : ℕ) (seen : Seen) (named : NamedKey)
+    (states : List CellState) → IsDone heap path (head_from heap path here offset) seen (key_of named) states → PATH_LIMIT ≤ depth →
+    levels + depth ≡ PATH_LIMIT → Heads heap levels path here offset seen states (Err Limit)
+head-deep heap levels depth path here offset seen named states done deep all =
+    inr (omega (arith, deep, all), subst (λ (r : Result ((KeyRecord × List ℕ) × Seen) LoadFault). IsOk r) (sym done.gives) refl)
 
 -- a fault of the head is one of the key
-pub head-fails : (heap : Heap) (minor levels : ℕ) (path : List ℕ) (here : List ℕ → Path) (offset : ℕ) (seen : Seen) (fault : LoadFault) →
-    Stops fault (head_from heap path here offset seen) → FailsAs fault (key_from heap minor levels path here offset seen)
+pub head-fails : (heap : Heap) (minor levels : ℕ) (path : List ℕ) (here : List ℕ → Path) (offset : ℕ) (seen : Seen) (fault : LoadFault)
+    (crowded : Type 0) → Stops levels fault (head_from heap path here offset seen) →
+    FailsAs crowded fault (key_from heap minor levels path here offset seen)
 unfolding key_from
-head-fails heap minor zero path here offset seen fault s =
-    as-stops fault _ (stops-bind fault (head_from heap path here offset) (λ _. check Limit false) seen s)
-head-fails heap minor (suc lower) path here offset seen fault s =
-    as-stops fault _ (stops-bind fault (head_from heap path here offset)
-    (λ (head : KeyRecord × List ℕ). rest_from heap minor (offset ∷ path) (here head.1) head.0 head.1
-    >> subkeys_from heap (key_from heap minor lower (offset ∷ path) (child_path (here head.1)))
-    (offset ∷ path) head.0.fields.subkeys head.0.fields.subkeys_list) seen s)
+head-fails heap minor zero path here offset seen fault crowded s = by fault s
+  where
+    r : Result ((KeyRecord × List ℕ) × Seen) LoadFault
+    r = head_from heap path here offset seen
+
+    deep : (r : Result ((KeyRecord × List ℕ) × Seen) LoadFault) → IsOk r → onward (λ _. check Limit false) r ≡ Err Limit
+    deep (Ok x) k = refl
+    deep (Err e) k = absurd (cc)
+
+    by : (f : LoadFault) → Stops zero f r → FailsAs crowded f (onward (λ _. check Limit false) r)
+    by Memory s = tt
+    by Limit (inl e) = inl (ap (onward (λ _. check Limit false)) e)
+    by Limit (inr k) = inl (deep r k.1)
+    by f s = ap (onward (λ _. check Limit false)) s
+head-fails heap minor (suc lower) path here offset seen fault crowded s = by fault s
+  where
+    r : Result ((KeyRecord × List ℕ) × Seen) LoadFault
+    r = head_from heap path here offset seen
+
+    then : KeyRecord × List ℕ → Step (Unit {0})
+    then head = rest_from heap minor (offset ∷ path) (here head.1) head.0 head.1
+        >> subkeys_from heap (key_from heap minor lower (offset ∷ path) (child_path (here head.1)))
+        (offset ∷ path) head.0.fields.subkeys head.0.fields.subkeys_list
+
+    by : (f : LoadFault) → Stops (suc lower) f r → FailsAs crowded f (onward then r)
+    by Memory s = tt
+    by Limit (inl e) = inl (ap (onward then) e)
+    by Limit (inr k) = absurd (let z = k.0 in omega (arith, z))
+    by f s = ap (onward then) s
 
 -- ---- the key behind its head
 
@@ -146,12 +180,10 @@ module _ (heap : Heap) (minor lower : ℕ) (path : List ℕ) (here : List ℕ �
   abbrev parts_step : Step (List ℕ × List ℕ × List Member)
   parts_step = parts_from heap minor (offset ∷ path) named.node.fields
 
-  pub parts-fail : (fault : LoadFault) → Fails fault parts_step head.after →
-      FailsAs fault (key_from heap minor (suc lower) path here offset seen)
-  parts-fail fault f =
-      as-stops fault _ (stops-same fault _ _ key-is
-      (stops-bind fault (parts_step >>= telling) (λ _. below) head.after
-      (stops-bind fault parts_step telling head.after (stops-fails fault parts_step head.after f))))
+  pub parts-fail : (crowded : Type 0) (fault : LoadFault) → Fails fault parts_step head.after →
+      FailsAs crowded fault (key_from heap minor (suc lower) path here offset seen)
+  parts-fail crowded fault f =
+      fails-as crowded fault parts_step (λ r. onward (λ _. below) (onward telling r)) head.after _ (λ e. refl) key-is f
 
   module _ (parts : KeyParts) (next : List CellState) (own : IsDone heap (offset ∷ path) parts_step head.after (parts_in parts) next) where
     abbrev told_then : Seen
@@ -159,6 +191,31 @@ module _ (heap : Heap) (minor lower : ℕ) (path : List ℕ) (here : List ℕ �
 
     begun : key_from heap minor (suc lower) path here offset seen ≡ below told_then
     begun = key-is ∙ ap (λ r. onward (λ _. below) (onward telling r)) own.gives
+
+    rest-gives : rest_from heap minor (offset ∷ path) its_path the_key named.name.items head.after ≡ Ok (tt, told_then)
+    rest-gives = ap (onward telling) own.gives
+
+    -- the walk comes to the key itself
+    pub comes-here : Comes heap minor told_then (suc lower) path here offset seen
+    unfolding Comes
+    comes-here = (key_of named, head.after, told_then, head.gives, rest-gives, inl refl)
+
+    told-are : told_then.told ≡ seen.told ++ (its_path, told_as named parts) ∷ []
+    told-are = ap (λ told. told ++ (its_path, told_as named parts) ∷ []) (own.told ∙ head.told)
+
+    -- and there is no room for it
+    pub crowded-here : CrowdsNext seen.told its_path (told_as named parts) → ComesCrowded heap minor (suc lower) path here offset seen
+    crowded-here c = (
+      told_then,
+      comes-here,
+      record {
+        told = seen.told;
+        path = its_path;
+        key = told_as named parts;
+        told_are = told-are;
+        crowds = c;
+      },
+    )
 
     -- the tree of what was told then
     pub tree-then : get (tree_told seen) its_path ≡ None → tree_told told_then ≡ insert (tree_told seen) its_path (told_as named parts)
@@ -168,10 +225,19 @@ module _ (heap : Heap) (minor lower : ℕ) (path : List ℕ) (here : List ℕ �
         (ap (λ es. find path_cmp its_path es) same ∙ (sym (get-from_entries path_total seen.told its_path) ∙ n))
         ∙ ap (λ es. insert (from_entries {R = path_cmp} es) its_path (told_as named parts)) same
 
+    abbrev its_comes : Seen → ℕ → Seen → Type 0
+    its_comes later = Comes heap minor later lower (offset ∷ path) (child_path its_path)
+
+    comes-below : (later : Seen) →
+        ComesBelow heap later go (its_comes later) (offset ∷ path) named.node.fields.subkeys named.node.fields.subkeys_list told_then →
+        Comes heap minor later (suc lower) path here offset seen
+    unfolding Comes
+    comes-below later k = (key_of named, head.after, told_then, head.gives, rest-gives, inr k)
+
     module _ (last : List CellState) where
-      pub list-fails : (fault : LoadFault) → Fails fault below told_then →
-          FailsAs fault (key_from heap minor (suc lower) path here offset seen)
-      list-fails fault f = as-stops fault _ (stops-same fault _ _ begun (stops-fails fault below told_then f))
+      pub list-fails : (crowded : Type 0) (fault : LoadFault) → Fails fault below told_then →
+          FailsAs crowded fault (key_from heap minor (suc lower) path here offset seen)
+      list-fails crowded fault f = fails-as crowded fault below (λ r. r) told_then _ (λ e. refl) begun f
 
       module _ (subkeys : SubkeyParts) (node : Node) where
         abbrev frame : Frame
@@ -180,22 +246,42 @@ module _ (heap : Heap) (minor lower : ℕ) (path : List ℕ) (here : List ℕ �
         abbrev code_frame : KeyFrame
         code_frame = record { offset = offset; node = node; count = 0; leaf = subkeys.leaf; lists = subkeys.lists }
 
+        one-more : (keys : Keys) → keys.tree ≡ insert (tree_told seen) its_path (told_as named parts) → (p : Path) →
+            length (children_of keys.tree p) ≤ length (children_of (tree_told seen) p) + cond (is_child p its_path) 1 0
+        one-more keys t p =
+            subst (λ (tree : Tree). length (children_of tree p) ≤ length (children_of (tree_told seen) p) + cond (is_child p its_path) 1 0)
+            (sym t) (child-more (tree_told seen) p its_path (told_as named parts))
+
+        none-yet : (keys : Keys) → get (tree_told seen) its_path ≡ None →
+            keys.tree ≡ insert (tree_told seen) its_path (told_as named parts) → HasParents (tree_told seen) →
+            length (children_of keys.tree its_path) ≤ 0
+        none-yet keys n t parents =
+            let one = one-more keys t its_path in
+            let none = ap length (none-below (tree_told seen) its_path parents n) in
+            let itself : ◌≡◌ {A = ℕ} (cond (is_child its_path its_path) 1 0) 0 = ap {B = ℕ} (λ b. cond b 1 0) (no-child-of its_path its_path (λ e. absurd (omega (arith, e)))) in
+            omega (arith, one, none, itself)
+
         pub key-begun : IsListed heap (offset ∷ path) go named.node.fields.subkeys named.node.fields.subkeys_list told_then last subkeys →
             (keys : Keys) → IsAt keys its_path node → lower + node.depth ≡ PATH_LIMIT → get (tree_told seen) its_path ≡ None →
             keys.tree ≡ insert (tree_told seen) its_path (told_as named parts) →
+            BuildsAll (seen.told ++ (its_path, told_as named parts) ∷ []) keys → HasParents (tree_told seen) →
             IsBegun heap minor (suc lower) path here offset seen last keys code_frame
-        key-begun l keys is deep n t = record {
+        key-begun l keys is deep n t built parents = record {
           lower = lower;
           levels_are = refl;
           after = l.after;
           frame = frame;
-          shown = record { node = is; count = refl; entries = refl; lists = refl };
+          shown = record { node = is; count = refl; few = none-yet keys n t parents; entries = refl; lists = refl };
           offset_is = refl;
           path_is = refl;
           depth = deep;
           table = l.table;
           told = t ∙ (sym (tree-then n) ∙ ap (λ es. from_entries {R = path_cmp} es) (sym l.told));
+          built = subst (λ told. BuildsAll told keys) (sym (l.told ∙ told-are)) built;
+          one = one-more keys t;
           rest = begun ∙ l.rest;
+          comes = λ later k. comes-below later (source-comes heap later go (its_comes later) (offset ∷ path) named.node.fields.subkeys
+              named.node.fields.subkeys_list told_then l.after (entries_in subkeys.leaf) (entries_in subkeys.lists) l.source k);
         }
 
 -- ---- the list of its subkeys
@@ -228,7 +314,10 @@ module _ (heap : Heap) (minor levels lower : ℕ) (level : levels ≡ suc lower)
     (seen : Seen) (named : NamedKey)
     (mid : List CellState) (head : IsDone heap path (head_from heap path here offset) seen (key_of named) mid) where
   abbrev Whole : LoadFault → Type 0
-  Whole fault = FailsAs fault (key_from heap minor levels path here offset seen)
+  Whole fault = FailsAs (ComesCrowded heap minor levels path here offset seen) fault (key_from heap minor levels path here offset seen)
+
+  abbrev WholeOf : LoadFault → ℕ → Type 0
+  WholeOf fault n = FailsAs (ComesCrowded heap minor n path here offset seen) fault (key_from heap minor n path here offset seen)
 
   -- what is known where a level is left for the key, by the number of levels
   leveled : (P : ℕ → Type 0) → P (suc lower) → P levels
@@ -241,48 +330,58 @@ module _ (heap : Heap) (minor levels lower : ℕ) (level : levels ≡ suc lower)
 
   pub no-parts : (fault : LoadFault) → Fails fault (parts_from heap minor (offset ∷ path) named.node.fields) head.after → Whole fault
   no-parts fault f =
-      leveled (λ n. FailsAs fault (key_from heap minor n path here offset seen))
-      (parts-fail heap minor lower path here offset seen named mid head fault f)
+      leveled (WholeOf fault) (parts-fail heap minor lower path here offset seen named mid head _ fault f)
 
   module _ (parts : KeyParts) (next : List CellState)
       (own : IsDone heap (offset ∷ path) (parts_from heap minor (offset ∷ path) named.node.fields) head.after (parts_in parts) next)
       (last : List CellState) where
     pub no-list : (fault : LoadFault) → ListsAny next last (Err fault) → Whole fault
     no-list fault l =
-        leveled (λ n. FailsAs fault (key_from heap minor n path here offset seen))
-        (list-fails heap minor lower path here offset seen named mid head parts next own last fault
+        leveled (WholeOf fault)
+        (list-fails heap minor lower path here offset seen named mid head parts next own last _ fault
         (l (go heap minor lower path here offset seen named mid head)
         (told_then heap minor lower path here offset seen named mid head parts next own) own.table))
+
+    -- what building the key lacked
+    pub no-room : (fault : LoadFault) (here_crowded : Type 0) → (here_crowded → CrowdsNext seen.told (here named.name.items) (told_as named parts)) →
+        IsLack here_crowded fault → Whole fault
+    no-room Memory k f l = tt
+    no-room Limit k f l =
+        inr (leveled (λ n. ComesCrowded heap minor n path here offset seen)
+        (crowded-here heap minor lower path here offset seen named mid head parts next own (f l)))
+    no-room fault k f l = absurd l
 
     pub is-begun : (subkeys : SubkeyParts) (node : Node) → ListsAny next last (Ok subkeys) → (keys : Keys) →
         IsAt keys (here named.name.items) node →
         lower + node.depth ≡ PATH_LIMIT → get (tree_told seen) (here named.name.items) ≡ None →
         keys.tree ≡ insert (tree_told seen) (here named.name.items) (told_as named parts) →
+        BuildsAll (seen.told ++ (here named.name.items, told_as named parts) ∷ []) keys → HasParents (tree_told seen) →
         IsBegun heap minor levels path here offset seen last keys
         (record { offset = offset; node = node; count = 0; leaf = subkeys.leaf; lists = subkeys.lists })
-    is-begun subkeys node l keys is deep n t =
+    is-begun subkeys node l keys is deep n t built parents =
         leveled (λ n. IsBegun heap minor n path here offset seen last keys
         (record { offset = offset; node = node; count = 0; leaf = subkeys.leaf; lists = subkeys.lists }))
         (key-begun heap minor lower path here offset seen named mid head parts next own last subkeys node
         (l (go heap minor lower path here offset seen named mid head)
         (told_then heap minor lower path here offset seen named mid head parts next own) own.table)
-        keys is deep n t)
+        keys is deep n t built parents)
 
 -- ---- the exit of a `?`
 
 pub begins-exit : (heap : Heap) (minor levels : ℕ) (path : List ℕ) (here : List ℕ → Path) (offset : ℕ) (seen : Seen)
     (states : List CellState) (keys : Keys)
     (fault : LoadFault) (r : Result KeyFrame LoadFault) → IsErrAnd r (λ e. e ≡ fault) →
-    FailsAs fault (key_from heap minor levels path here offset seen) →
+    FailsAs (ComesCrowded heap minor levels path here offset seen) fault (key_from heap minor levels path here offset seen) →
     Begins heap minor levels path here offset seen states keys r
 begins-exit heap minor levels path here offset seen states keys fault (Ok key) i f = absurd i
 begins-exit heap minor levels path here offset seen states keys fault (Err e) i f =
-    subst (λ e. FailsAs e (key_from heap minor levels path here offset seen)) (sym i) f
+    subst (λ e. FailsAs (ComesCrowded heap minor levels path here offset seen) e (key_from heap minor levels path here offset seen)) (sym i) f
 
-pub root-exit : (P : BegunRoot → Type 0) (whole : Result (Unit {0} × Seen) LoadFault) (fault : LoadFault) (r : Result BegunRoot LoadFault) →
-    IsErrAnd r (λ e. e ≡ fault) → FailsAs fault whole → MatchResult r P (λ fault. FailsAs fault whole)
-root-exit P whole fault (Ok root) i f = absurd i
-root-exit P whole fault (Err e) i f = subst (λ e. FailsAs e whole) (sym i) f
+pub root-exit : (P : BegunRoot → Type 0) (crowded : Type 0) (whole : Result (Unit {0} × Seen) LoadFault) (fault : LoadFault)
+    (r : Result BegunRoot LoadFault) →
+    IsErrAnd r (λ e. e ≡ fault) → FailsAs crowded fault whole → MatchResult r P (λ fault. FailsAs crowded fault whole)
+root-exit P crowded whole fault (Ok root) i f = absurd i
+root-exit P crowded whole fault (Err e) i f = subst (λ e. FailsAs crowded e whole) (sym i) f
 
 -- nothing was told yet
 pub none-told : (p : Path) → get (tree_told nothing) p ≡ None

@@ -1,5 +1,5 @@
 -- A key's values, put one behind the other.
-use Rattle.std.proofs.Common.{◌≡◌, ℕ, zero, suc, ◌+◌, ◌<◌, ◌||◌, Bool, true, false, cond, Option, Some, None, List, [], ◌∷◌, ◌++◌}
+use Rattle.std.proofs.Common.{◌≡◌, ℕ, zero, suc, ◌+◌, ◌<◌, ◌≤◌, ◌||◌, Bool, true, false, cond, Option, Some, None, List, [], ◌∷◌, ◌++◌}
 use Rattle.std.proofs.Common.{length, take, get_or, slice_get, refl, sym, ap, ◌∙◌, subst, arith}
 use Rattle.std.specs.Option.{option_map}
 use Rattle.std.specs.List.{list_any}
@@ -21,7 +21,9 @@ use Rattle.reg_tree.proofs.InsertKey.PathGrowth.{path-self}
 use Rattle.reg_image.specs.declared.values.ReadValue.{ReadValue}
 use Rattle.reg_image.specs.Internal.NamedRecords.{member_in, members_in}
 use Rattle.reg_image.specs.Internal.FitKeys.{IsOther, AreFit}
+use Rattle.reg_image.specs.CrowdedBins.{PutsValue, PutsEach, LacksValueRoom, CrowdsValues}
 use Rattle.reg_image.specs.Internal.BegunKeys.{IsBare}
+use Rattle.reg_image.proofs.KeyStacks.BuiltChains.{puts-more, crowds-values}
 use Rattle.reg_image.proofs.Readers.NewValues.{IsNew, new-at}
 
 -- ---- a name that no value has
@@ -70,6 +72,7 @@ turn (x ∷ values) (suc index) v d l e = turn values index v d (omega (arith, l
 -- the first values were put
 pub record ArePut (old now : Keys) (node : Node) (time : ℕ) (members : List Member) (index : ℕ) : Type 0 where
   pub nodes : KeepsNodes old now
+  pub each : (p : Path) → IsAt old p node → PutsEach p time (take index members) old now
   pub tree : (p : Path) → IsAt old p node → (base : Tree) → (r : Rec) → old.tree ≡ insert base p r → r.values ≡ [] → r.time ≡ time →
       now.tree ≡ insert base p (record r { values = take index members })
 
@@ -93,6 +96,13 @@ module _ (old now : Keys) (node : Node) (time : ℕ) (values : List ReadValue) (
     pub is-small : IsSmallValue m
     is-small = one.small
 
+    one-more : suc index ≡ index + 1
+    one-more = omega arith
+
+    -- there is no room for it
+    pub none-put : (p : Path) → IsAt old p node → LacksValueRoom now p m → CrowdsValues old p time members
+    none-put p at l = crowds-values old now p time members index m (read-at values index value here) (a.each p at) l
+
     -- the next one may be put
     pub may-put : IsBare old node time → (p : Path) × IsAt now p node × IsOther (values_at now.tree p) m.name ×
         (length (values_at now.tree p) < VALUES_LIMIT)
@@ -114,9 +124,12 @@ module _ (old now : Keys) (node : Node) (time : ℕ) (values : List ReadValue) (
 
     pub one-put : (new : Keys) →
         ((p : Path) → IsAt now p node → new.tree ≡ edited now.tree p (with_value m.name m.kind m.bytes time)) → KeepsNodes now new →
-        ArePut old new node time members (index + 1)
-    one-put new e k = record {
+        ((p : Path) → IsAt now p node → PutsValue now new p time m) → ArePut old new node time members (index + 1)
+    one-put new e k v = record {
       nodes = λ p n at. k p n (a.nodes p n at);
+      each = λ p at. subst (λ ms. PutsEach p time ms old new)
+          (sym (take-more members index m (read-at values index value here)) ∙ ap (λ i. take i members) one-more)
+          (puts-more p time (take index members) old now new m (a.each p at) (v p (a.nodes p node at)));
       tree = λ p at base r o v t.
           let before : Rec = record r { values = take index members } in
           let f : Rec → Rec = with_value m.name m.kind m.bytes time in
@@ -130,3 +143,22 @@ module _ (old now : Keys) (node : Node) (time : ℕ) (values : List ReadValue) (
           ∙ (insert-twice base p before (f before)
           ∙ (λ i. insert base p (record r { time = sym t i; values = with-one i })))));
     }
+
+-- all were put
+pub all-put : (old now : Keys) (node : Node) (time : ℕ) (members : List Member) (index : ℕ) → ArePut old now node time members index →
+    length members ≤ index → (p : Path) → IsAt old p node → PutsEach p time members old now
+all-put old now node time members index a l p at = subst (λ ms. PutsEach p time ms old now) (whole members index l) (a.each p at)
+  where
+    whole : (ms : List Member) (i : ℕ) → length ms ≤ i → take i ms ≡ ms
+    whole [] zero l = refl
+    whole [] (suc i) l = refl
+    whole (x ∷ ms) zero l = absurd (omega (arith, l))
+    whole (x ∷ ms) (suc i) l = ap (λ ms. x ∷ ms) (whole ms i (omega (arith, l)))
+
+-- no value is left
+pub not-left : (values : List ReadValue) (index : ℕ) → length values ≤ index → length (members_in values) ≤ index
+not-left values index l = let e = mapped values in omega (arith, e, l)
+  where
+    mapped : (vs : List ReadValue) → length (members_in vs) ≡ length vs
+    mapped [] = refl
+    mapped (v ∷ vs) = ap suc (mapped vs)

@@ -1,29 +1,33 @@
 -- The code's keys on the present path, as frames of what is left.
-use Rattle.std.specs.Prelude.{◌≡◌, ℕ, suc, ◌+◌, Result, Ok, Err, List, [], ◌∷◌, ⊤}
+use Rattle.std.specs.Prelude.{◌≡◌, ◌⊎◌, ◌≤◌, cond, length, ℕ, suc, ◌+◌, Result, Ok, Err, List, [], ◌∷◌, ⊤}
 use Rattle.reg_names.specs.declared.TheConstants.{PATH_LIMIT}
 use Rattle.reg_heap.specs.Heaps.{Heap}
-use Rattle.reg_heap.specs.Paths.{Path}
+use Rattle.reg_heap.specs.Paths.{Path, is_child, children_of}
 use Rattle.reg_tree.specs.TreeKeys.{Keys, IsAt}
 use Rattle.reg_image.specs.declared.LoadFault.{LoadFault}
 use Rattle.reg_image.specs.declared.LoadFault.TheVariants.{Limit, Memory}
 use Rattle.reg_image.specs.declared.table.CellState.{CellState}
 use Rattle.reg_image.specs.declared.frames.KeyFrame.{KeyFrame}
 use Rattle.reg_image.specs.WalkSteps.{Seen}
-use Rattle.reg_image.specs.LoadingWalk.{key_from}
-use Rattle.reg_image.specs.Images.{tree_told}
+use Rattle.reg_image.specs.LoadingWalk.{key_from, root_path}
+use Rattle.reg_image.specs.Images.{nothing, tree_told}
+use Rattle.reg_image.specs.WalkedKeys.{Comes}
+use Rattle.reg_image.specs.CrowdedBins.{BuildsAll, IsCrowded}
 use Rattle.reg_image.specs.Internal.CellStates.{IsTable}
 use Rattle.reg_image.specs.Internal.ListParts.{entries_in}
-use Rattle.reg_image.specs.Internal.Frames.{Frame, frame_left, left}
+use Rattle.reg_image.specs.Internal.Frames.{Frame, frame_left, left, ComesInFrame, ComesLeft}
 
 -- the offsets from the lowest key up to the root
 abbrev pub path_of : List Frame → List ℕ
 path_of [] = []
 path_of (f ∷ frames) = f.path
 
--- a frame of the code: where its key is in the tree that is built, and what is left of the key's subkeys
+-- a frame of the code: where its key is in the tree that is built, and what is left of the key's subkeys; no more are built than were
+-- named
 pub record Shows (keys : Keys) (key : KeyFrame) (f : Frame) : Type 0 where
   pub node : IsAt keys f.at key.node
   pub count : key.count ≡ f.count
+  pub few : length (children_of keys.tree f.at) ≤ f.count
   pub entries : entries_in key.leaf ≡ f.entries
   pub lists : entries_in key.lists ≡ f.lists
 
@@ -40,8 +44,9 @@ abbrev pub IsDeep : ℕ → List KeyFrame → Type 0
 IsDeep levels [] = ⊤
 IsDeep levels (key ∷ above) = (levels + key.node.depth ≡ PATH_LIMIT) × IsDeep (suc levels) above
 
--- what was read so far, and the rest of the walk, are the whole walk; the tree has the keys that were told
-pub record IsWalking (heap : Heap) (minor : ℕ) (whole : Result (Unit {0} × Seen) LoadFault) (stack : List KeyFrame)
+-- what was read so far, and the rest of the walk, are the whole walk, from the root at an offset on; the tree was built of the keys that
+-- were told
+pub record IsWalking (heap : Heap) (minor root : ℕ) (whole : Result (Unit {0} × Seen) LoadFault) (stack : List KeyFrame)
     (states : List CellState) (keys : Keys) : Type 0 where
   pub seen : Seen
   pub frames : List Frame
@@ -50,13 +55,25 @@ pub record IsWalking (heap : Heap) (minor : ℕ) (whole : Result (Unit {0} × Se
   pub depths : IsDeep levels stack
   pub table : IsTable heap seen.found (path_of frames) states
   pub told : keys.tree ≡ tree_told seen
+  pub built : BuildsAll seen.told keys
   pub rest : left heap minor levels frames seen ≡ whole
+  pub comes : (later : Seen) → ComesLeft heap minor later levels frames seen →
+      Comes heap minor later (suc PATH_LIMIT) [] root_path root nothing
 
--- the whole walk meets this fault; want of memory and of space for the new bins may come in place of anything
-abbrev pub FailsAs : LoadFault → Result (Unit {0} × Seen) LoadFault → Type 0
-FailsAs Memory whole = ⊤
-FailsAs Limit whole = ⊤
-FailsAs fault whole = whole ≡ Err fault
+-- the walk of a key comes to one that the new bins have no room for
+abbrev pub ComesCrowded : Heap → ℕ → ℕ → List ℕ → (List ℕ → Path) → ℕ → Seen → Type 0
+ComesCrowded heap minor levels path here offset seen =
+    (after : Seen) × Comes heap minor after levels path here offset seen × IsCrowded after
+
+-- the same of the walk from the root at an offset on
+abbrev pub IsRootCrowded : Heap → ℕ → ℕ → Type 0
+IsRootCrowded heap minor root = ComesCrowded heap minor (suc PATH_LIMIT) [] root_path root nothing
+
+-- the whole walk meets this fault; want of memory may come in place of anything, and want of space where the new bins are crowded
+abbrev pub FailsAs : Type 0 → LoadFault → Result (Unit {0} × Seen) LoadFault → Type 0
+FailsAs crowded Memory whole = ⊤
+FailsAs crowded Limit whole = (whole ≡ Err Limit) ⊎ crowded
+FailsAs crowded fault whole = whole ≡ Err fault
 
 -- a key was begun: its record, class, security and values were read, and it was built; then the list of its subkeys was read. What is
 -- left of it are its subkeys
@@ -72,9 +89,13 @@ pub record IsBegun (heap : Heap) (minor levels : ℕ) (path : List ℕ) (here : 
   pub depth : lower + key.node.depth ≡ PATH_LIMIT
   pub table : IsTable heap after.found (offset ∷ path) states
   pub told : keys.tree ≡ tree_told after
+  pub built : BuildsAll after.told keys
+  pub one : (p : Path) → length (children_of keys.tree p) ≤ length (children_of (tree_told seen) p) + cond (is_child p frame.at) 1 0
   pub rest : key_from heap minor levels path here offset seen ≡ frame_left heap minor lower frame after
+  pub comes : (later : Seen) → ComesInFrame heap minor later lower frame after → Comes heap minor later levels path here offset seen
 
 -- a key is begun below another one
 abbrev pub Begins : Heap → ℕ → ℕ → List ℕ → (List ℕ → Path) → ℕ → Seen → List CellState → Keys → Result KeyFrame LoadFault → Type 0
 Begins heap minor levels path here offset seen states keys (Ok key) = IsBegun heap minor levels path here offset seen states keys key
-Begins heap minor levels path here offset seen states keys (Err fault) = FailsAs fault (key_from heap minor levels path here offset seen)
+Begins heap minor levels path here offset seen states keys (Err fault) =
+    FailsAs (ComesCrowded heap minor levels path here offset seen) fault (key_from heap minor levels path here offset seen)

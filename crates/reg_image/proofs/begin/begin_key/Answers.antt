@@ -1,28 +1,41 @@
-use Rattle.std.proofs.Common.{◌≡◌, ◌-◌, ◌∷◌, None, ap, ◌∙◌, subst}
+use Rattle.std.proofs.Common.{◌≡◌, ◌-◌, ◌∷◌, ◌<◌, None, length, refl, ap, ◌∙◌, subst}
 use Rattle.std.specs.FinMap.{get, insert}
 use Rattle.reg_names.specs.Names.{folded}
-use Rattle.reg_heap.specs.Paths.{Tree}
+use Rattle.reg_heap.specs.declared.limits.TheConstants.{SUBKEYS_LIMIT}
+use Rattle.reg_heap.specs.Paths.{Path, Tree, children_of}
 use Rattle.reg_heap.specs.Edits.{child_path}
 use Rattle.reg_image.specs.Internal.BegunKeys.{told_as}
-use Rattle.reg_image.proofs.Readers.BegunSteps.{head-fails, level-below, depth-below, no-parts, no-list, is-begun, begins-exit}
+use Rattle.reg_image.proofs.Readers.BegunSteps.{head-fails, level-below, depth-below, no-parts, no-room, no-list, is-begun, begins-exit}
+use Rattle.reg_image.proofs.KeyStacks.ChildCounts.{HasParents}
+use Rattle.reg_image.proofs.KeyStacks.BuiltChains.{all-more, crowds-next}
 use Rattle.reg_image.proofs.begin.begin_key.Goals as goal
 
 pub returns-in_err-named-clause-begins : goal.returns-in_err-named-clause-begins
-returns-in_err-named-clause-begins c levels path at seen t told is deep =
+returns-in_err-named-clause-begins c levels path at seen t told built is deep =
     begins-exit _ c.args.minor levels path (child_path at) c.args.offset seen _ _ _ _ c.from_residual.ensures.1
-    (head-fails _ c.args.minor levels path (child_path at) c.args.offset seen _ (c.in_err-named.ensures.heads path at seen t told is))
+    (head-fails _ c.args.minor levels path (child_path at) c.args.offset seen _ _ (c.in_err-named.ensures.heads levels path at seen t told is deep))
 
 pub returns-in_err-parts-clause-begins : goal.returns-in_err-parts-clause-begins
-returns-in_err-parts-clause-begins c levels path at seen t told is deep =
-    let head = c.in_ok-named.ensures.heads path at seen t told is in
+returns-in_err-parts-clause-begins c levels path at seen t told built is deep =
+    let head = c.in_ok-named.ensures.heads levels path at seen t told is deep in
     begins-exit _ c.args.minor levels path (child_path at) c.args.offset seen _ _ _ _ c.from_residual-in_err-parts.ensures.1
     (no-parts _ c.args.minor levels (levels - 1) (level-below levels _ deep c.in_ok-named.ensures.shallow) path
     (child_path at) c.args.offset seen
     c.in_ok-named.named _ head _ (c.in_err-parts.ensures.follows path head.after head.table))
 
+pub returns-in_err-node-clause-begins : goal.returns-in_err-node-clause-begins
+returns-in_err-node-clause-begins c levels path at seen t told built is deep =
+    let head = c.in_ok-named.ensures.heads levels path at seen t told is deep in
+    let key = told_as c.in_ok-named.named c.in_ok-parts.parts in
+    begins-exit _ c.args.minor levels path (child_path at) c.args.offset seen _ _ _ _ c.from_residual-in_err-node.ensures.1
+    (no-room _ c.args.minor levels (levels - 1) (level-below levels _ deep c.in_ok-named.ensures.shallow) path
+    (child_path at) c.args.offset seen
+    c.in_ok-named.named _ head c.in_ok-parts.parts _ (c.in_ok-parts.ensures.follows path head.after head.table) c.args.table.now.states.items _ _
+    (crowds-next seen.told _ (child_path at c.in_ok-named.named.name.items) at key built refl) (c.in_err-node.ensures.err at is))
+
 pub returns-in_err-subkeys-clause-begins : goal.returns-in_err-subkeys-clause-begins
-returns-in_err-subkeys-clause-begins c levels path at seen t told is deep =
-    let head = c.in_ok-named.ensures.heads path at seen t told is in
+returns-in_err-subkeys-clause-begins c levels path at seen t told built is deep =
+    let head = c.in_ok-named.ensures.heads levels path at seen t told is deep in
     begins-exit _ c.args.minor levels path (child_path at) c.args.offset seen _ _ _ _ c.from_residual-in_err-subkeys.ensures.1
     (no-list _ c.args.minor levels (levels - 1) (level-below levels _ deep c.in_ok-named.ensures.shallow) path
     (child_path at) c.args.offset seen
@@ -30,15 +43,23 @@ returns-in_err-subkeys-clause-begins c levels path at seen t told is deep =
     (c.in_err-subkeys.ensures.lists (c.args.offset ∷ path)))
 
 pub returns-clause-begins : goal.returns-clause-begins
-returns-clause-begins c levels path at seen t told is deep =
-    let head = c.in_ok-named.ensures.heads path at seen t told is in
+returns-clause-begins c levels path at seen t told built is deep =
+    let head = c.in_ok-named.ensures.heads levels path at seen t told is deep in
     let name = c.in_ok-named.named.name.items in
-    let built = c.in_ok-node.ensures.ok at is in
-    let key = built.1 in
+    let made = c.in_ok-node.ensures.ok at is in
+    let key = made.1 in
     is-begun _ c.args.minor levels (levels - 1) (level-below levels _ deep c.in_ok-named.ensures.shallow) path
     (child_path at) c.args.offset seen
     c.in_ok-named.named _ head c.in_ok-parts.parts _ (c.in_ok-parts.ensures.follows path head.after head.table) _ c.in_ok-subkeys.subkeys
     c.in_ok-node.node (c.in_ok-subkeys.ensures.lists (c.args.offset ∷ path)) _ key
     (depth-below levels _ _ at (folded name) deep c.in_ok-named.ensures.shallow is.depth key.depth)
     (subst (λ (tree : Tree). get tree (child_path at name) ≡ None) told (c.in_ok-named.ensures.free at is))
-    (built.0 ∙ ap (λ (tree : Tree). insert tree (child_path at name) (told_as c.in_ok-named.named c.in_ok-parts.parts)) told)
+    (made.0 ∙ ap (λ (tree : Tree). insert tree (child_path at name) (told_as c.in_ok-named.named c.in_ok-parts.parts)) told)
+    (all-more seen.told _ _ (child_path at name) at (told_as c.in_ok-named.named c.in_ok-parts.parts) built refl (c.in_ok-node.ensures.builds at is))
+    (subst (λ (tree : Tree). HasParents tree) told c.root.ensures.tree.parents)
+
+pub build_below-requires-clause-few : goal.build_below-requires-clause-few
+build_below-requires-clause-few c p is =
+    let few = c.requires.few in
+    subst (λ (q : Path). length (children_of c.args.tree.now.tree q) < SUBKEYS_LIMIT)
+    (c.root.ensures.one_path few.0 p c.args.above few.1 is) few.2

@@ -1,7 +1,14 @@
-use Rattle.std.proofs.Common.{refl, ap}
+use Rattle.std.proofs.Common.{◌≡◌, ◌<◌, None, refl, ap, sym, subst}
+use Rattle.std.specs.FinMap.{get}
+use Rattle.reg_names.specs.declared.TheConstants.{PATH_LIMIT}
 use Rattle.reg_heap.specs.Paths.{Rec}
 use Rattle.reg_heap.specs.Edits.{child_path}
 use Rattle.reg_tree.specs.BuiltKeys.{built_key}
+use Rattle.reg_image.specs.Internal.BegunKeys.{IsLack, told_as}
+use Rattle.reg_image.specs.Internal.NamedRecords.{members_in}
+use Rattle.reg_image.specs.CrowdedBins.{CrowdsBelow}
+use Rattle.reg_image.proofs.KeyStacks.StackEnds.{if_err}
+use Rattle.reg_image.proofs.KeyStacks.BuiltChains.{lack-as, builds-one, crowds-below}
 use Rattle.reg_image.proofs.built_keys.build_below.Goals as goal
 
 pub put_values-requires-clause-bare : goal.put_values-requires-clause-bare
@@ -16,4 +23,31 @@ put_values-requires-clause-bare c =
       put = built.0;
       bare = refl;
       timed = ap (λ (r : Rec). r.time) c.new_key.ensures.built;
+    }
+
+pub returns-in_err-put_values-in-Ok-clause-err : goal.returns-in_err-put_values-in-Ok-clause-err
+returns-in_err-put_values-in-Ok-clause-err c p is =
+    let whole = c.arena.ensures.whole in
+    let key = told_as c.args.named.now c.args.parts.now in
+    if_err (IsLack (CrowdsBelow c.args.tree.now p key)) c.from_residual.result _ c.from_residual.ensures.1
+    (lack-as _ _ _
+    (crowds-below (built_key c.new_key.result) key (members_in c.as_slice.result.now) c.new_key.ensures.built
+    (ap members_in c.as_slice.ensures.value) _ _ p (c.in-Ok.ensures.builds p is) whole)
+    (c.in_err-put_values-in-Ok.ensures.err (child_path p c.new_key.result.name.now) (c.in-Ok.ensures.ok p is).1))
+
+pub returns-in_ok-put_values-in-Ok-clause-builds : goal.returns-in_ok-put_values-in-Ok-clause-builds
+returns-in_ok-put_values-in-Ok-clause-builds c p is =
+    let whole = c.arena.ensures.whole in
+    let key = told_as c.args.named.now c.args.parts.now in
+    builds-one (built_key c.new_key.result) key (members_in c.as_slice.result.now) c.new_key.ensures.built
+    (ap members_in c.as_slice.ensures.value) _ _ _ p (c.in-Ok.ensures.builds p is) whole
+    (c.in_ok-put_values-in-Ok.ensures.puts (child_path p c.new_key.result.name.now) (c.in-Ok.ensures.ok p is).1)
+
+pub build_key-requires-clause-room : goal.build_key-requires-clause-room
+build_key-requires-clause-room c p is =
+    let name = ap (λ (r : Rec). r.name) c.new_key.ensures.built in
+    record {
+      free = subst (λ name. get c.args.tree.now.tree (child_path p name) ≡ None) (sym name) (c.requires.free p is);
+      deep = subst (λ n. n < PATH_LIMIT) is.depth c.requires.shallow;
+      few = c.requires.few p is;
     }

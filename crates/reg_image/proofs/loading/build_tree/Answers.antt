@@ -6,7 +6,7 @@ use Rattle.reg_image.proofs.loading.build_tree.Goals as goal
 pub returns-in_err-table-clause-err : goal.returns-in_err-table-clause-err
 returns-in_err-table-clause-err c =
     exit-with _ c.from_residual.result _ c.from_residual.ensures.1
-    (scan-fails c.args.bins.now c.args.block.minor c.args.block.root _ c.in_err-table.ensures)
+    (scan-fails c.args.bins.now c.args.block.minor c.args.block.root _ _ c.in_err-table.ensures)
 
 pub walk-requires : goal.walk-requires
 walk-requires c = scanned c.args.bins.now c.args.block.minor c.args.block.root _ c.in_ok-table.ensures

@@ -2,6 +2,7 @@ use Rattle.std.proofs.Common.{rules, ◌≡◌, ℕ, ◌≤◌, ◌%◌, ◌++�
 use Rattle.std.proofs.KnownBytes.{Consumes-trans}
 use Rattle.reg_tree.specs.TreeKeys.{Keys}
 use Rattle.reg_image.specs.Images.{nothing, tree_in, bins_walk}
+use Rattle.reg_image.specs.CrowdedBins.{AreCrowded}
 use Rattle.reg_image.specs.Internal.Stacks.{FailsAs}
 use Rattle.reg_image.proofs.Devices.InputPieces.{exit-with}
 use Rattle.reg_image.proofs.Devices.BlockTests.{block-good}
@@ -46,7 +47,8 @@ returns-in_err-tree-clause-err g c =
     let bins = c.in_ok-bins.bins.items in
     let good = block-good _ _ _ _ passed in
     exit-with _ c.from_residual-in_err-tree.result _ c.from_residual-in_err-tree.ensures.1
-    (let w = subst (λ (xs : List ℕ). FailsAs c.in_err-tree.field-0.0 (bins_walk xs block.minor block.root nothing)) c.as_slice.ensures.value
+    (let w = subst (λ (xs : List ℕ). FailsAs (AreCrowded xs block.minor block.root) c.in_err-tree.field-0.0 (bins_walk xs block.minor block.root nothing))
+    c.as_slice.ensures.value
     c.in_err-tree.ensures.err in
     let r = refused-at-bins c.fill.new.buffer (search rules) block passed bins _ _ good.small c.in_ok-bins.ensures.ok.1 w in
     (c.fill.new.buffer ++ bins, Consumes-trans _ _ _ c.fill.new.buffer bins c.in_ok-fill.ensures.ok c.in_ok-bins.ensures.ok.0, r.0, r.1))

@@ -15,13 +15,23 @@ loop-key-init c =
     let whole = key_from (cell_at bins) c.args.minor (suc PATH_LIMIT) [] root_path c.args.root.offset nothing in
     let items : reverse c.push.new.keys.items ≡ c.args.root ∷ [] =
     ap reverse (c.in_ok-push.ensures.ok ∙ ap (λ (ks : List KeyFrame). ks ++ c.args.root ∷ []) c.new-keys.ensures.items) in
-    subst (λ (ks : List KeyFrame). IsWalking (cell_at bins) c.args.minor whole ks c.args.table.now.states.items c.args.tree.now) (sym items)
-    (walking-first (cell_at bins) c.args.minor _ c.args.root.offset nothing _ _ c.args.root c.requires.begun)
+    subst (λ (ks : List KeyFrame). IsWalking (cell_at bins) c.args.minor c.args.root.offset whole ks c.args.table.now.states.items c.args.tree.now) (sym items)
+    (walking-first (cell_at bins) c.args.minor c.args.root.offset _ _ c.args.root c.requires.begun)
 
 pub loop-key-preserved : goal.loop-key-preserved
 loop-key-preserved c =
     let bins = c.args.bins.now in
     let whole = key_from (cell_at bins) c.args.minor (suc PATH_LIMIT) [] root_path c.args.root.offset nothing in
-    c.in_ok-step.ensures.ok whole
-    (popped (λ (ks : List KeyFrame). IsWalking (cell_at bins) c.args.minor whole ks c.loop-key.table.states.items c.loop-key.tree)
+    c.in_ok-step.ensures.ok c.args.root.offset whole
+    (popped (λ (ks : List KeyFrame). IsWalking (cell_at bins) c.args.minor c.args.root.offset whole ks c.loop-key.table.states.items c.loop-key.tree)
     c.loop-key.keys.items c.pop.new.self.items c.in-Some.key c.in-Some.ensures.items c.loop-key.invariant)
+
+pub step-requires-clause-walks : goal.step-requires-clause-walks
+step-requires-clause-walks c =
+    let bins = c.args.bins.now in
+    let whole = key_from (cell_at bins) c.args.minor (suc PATH_LIMIT) [] root_path c.args.root.offset nothing in (
+      c.args.root.offset,
+      whole,
+      popped (λ (ks : List KeyFrame). IsWalking (cell_at bins) c.args.minor c.args.root.offset whole ks c.loop-key.table.states.items c.loop-key.tree)
+          c.loop-key.keys.items c.pop.new.self.items c.in-Some.key c.in-Some.ensures.items c.loop-key.invariant,
+    )

@@ -9,7 +9,7 @@ use Rattle.reg_image.proofs.walk.walk_below.Given as goal
 
 abbrev pub invariant-loop-key : goal.invariant-loop-key
 invariant-loop-key l =
-    IsWalking (cell_at l.bins) l.minor
+    IsWalking (cell_at l.bins) l.minor l.root.offset
     (key_from (cell_at l.bins) l.minor (suc PATH_LIMIT) [] root_path l.root.offset nothing)
     (reverse l.keys.items) l.table.states.items l.tree
 

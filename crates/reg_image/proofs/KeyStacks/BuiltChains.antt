@@ -1,0 +1,110 @@
+-- Keys and values that were built one behind the other.
+use Rattle.std.proofs.Common.{◌≡◌, ℕ, zero, suc, Option, Some, None, Result, Ok, Err, IfErr, List, [], ◌∷◌, ◌++◌, take, drop, slice_get, inl, inr}
+use Rattle.std.proofs.Common.{refl, sym, ap, ◌∙◌, subst}
+use Rattle.std.proofs.lemmas.Option.{none-some, same_Some}
+use Rattle.reg_heap.specs.Paths.{Path, Rec, Member}
+use Rattle.reg_heap.specs.Edits.{child_path}
+use Rattle.reg_arena.specs.declared.ArenaFault.{ArenaFault}
+use Rattle.reg_arena.specs.declared.ArenaFault.TheVariants.{Full, Memory as OutOfMemory}
+use Rattle.reg_tree.specs.TreeKeys.{Keys}
+use Rattle.reg_image.specs.declared.LoadFault.{LoadFault}
+use Rattle.reg_image.specs.declared.LoadFault.TheVariants.{Limit, Memory}
+use Rattle.reg_image.specs.CrowdedBins.{PutsValue, PutsEach, LacksValueRoom, CrowdsValues, BuildsFirst, BuildsOne, BuildsEach, BuildsAll}
+use Rattle.reg_image.specs.CrowdedBins.{AreWhole, bare_of, CrowdsRoot, CrowdsBelow, CrowdsNext}
+use Rattle.reg_tree.specs.BuiltKeys.{BuildsRoot, BuildsKey}
+use Rattle.reg_image.specs.Internal.BegunKeys.{IsLack, lack_of}
+
+-- ---- values
+
+pub puts-more : (path : Path) (time : ℕ) (members : List Member) (old mid new : Keys) (m : Member) → PutsEach path time members old mid →
+    PutsValue mid new path time m → PutsEach path time (members ++ m ∷ []) old new
+puts-more path time [] old mid new m e p = (new, subst (λ k. PutsValue k new path time m) e p, refl)
+puts-more path time (x ∷ members) old mid new m e p = (e.0, e.1, puts-more path time members e.0 mid new m e.2 p)
+
+-- the values before one, that one and those behind it
+parted : (members : List Member) (index : ℕ) (m : Member) → slice_get members index ≡ Some m →
+    members ≡ take index members ++ m ∷ drop (suc index) members
+parted [] index m e = absurd (none-some _ e)
+parted (x ∷ members) zero m e = ap (λ x. x ∷ members) (same_Some _ _ e)
+parted (x ∷ members) (suc index) m e = ap (λ ms. x ∷ ms) (parted members index m e)
+
+pub crowds-values : (bare now : Keys) (path : Path) (time : ℕ) (members : List Member) (index : ℕ) (m : Member) →
+    slice_get members index ≡ Some m → PutsEach path time (take index members) bare now → LacksValueRoom now path m →
+    CrowdsValues bare path time members
+crowds-values bare now path time members index m e p l = record {
+  front = take index members;
+  next = m;
+  back = drop (suc index) members;
+  members_are = parted members index m e;
+  now = now;
+  put = p;
+  lacks = l;
+}
+
+-- ---- what was lacking
+
+-- what the arena lacked
+pub as-lack : (crowded : Type 0) (fault : ArenaFault) (e : LoadFault) → e ≡ lack_of fault → (fault ≡ Full → crowded) → IsLack crowded e
+as-lack crowded Full e i f = subst (λ e. IsLack crowded e) (sym i) (f refl)
+as-lack crowded OutOfMemory e i f = subst (λ e. IsLack crowded e) (sym i) tt
+
+-- room that lacks for another reason
+pub lack-as : (here crowded : Type 0) (fault : LoadFault) → (here → crowded) → IsLack here fault → IsLack crowded fault
+lack-as here crowded Memory f l = tt
+lack-as here crowded Limit f l = f l
+lack-as here crowded fault f l = absurd l
+
+-- ---- keys
+
+each-more : (told : List (Path × Rec)) (old mid new : Keys) (path above : Path) (key : Rec) → BuildsEach told old mid →
+    path ≡ child_path above key.name → BuildsOne mid new above key → BuildsEach (told ++ (path, key) ∷ []) old new
+each-more [] old mid new path above key b p o = (above, new, p, subst (λ k. BuildsOne k new above key) b o, refl)
+each-more (e ∷ told) old mid new path above key b p o =
+    (b.0, b.1, b.2, b.3, each-more told b.1 mid new path above key b.4 p o)
+
+pub all-more : (told : List (Path × Rec)) (mid new : Keys) (path above : Path) (key : Rec) → BuildsAll told mid →
+    path ≡ child_path above key.name → BuildsOne mid new above key → BuildsAll (told ++ (path, key) ∷ []) new
+all-more [] mid new path above key b p o = absurd b
+all-more (e ∷ told) mid new path above key b p o = (b.0, b.1, b.2, each-more told b.0 mid new path above key b.3 p o)
+
+pub all-first : (new : Keys) (path : Path) (key : Rec) → path ≡ [] → BuildsFirst new key → BuildsAll ((path, key) ∷ []) new
+all-first new path key p b = (new, p, b, refl)
+
+pub crowds-next : (told : List (Path × Rec)) (keys : Keys) (path above : Path) (key : Rec) → BuildsAll told keys →
+    path ≡ child_path above key.name → CrowdsBelow keys above key → CrowdsNext told path key
+crowds-next [] keys path above key b p c = absurd b
+crowds-next (e ∷ told) keys path above key b p c = (keys, above, b, p, c)
+
+-- ---- keys with their values, where what was made is the key without these
+
+module _ (made key : Rec) (given : List Member) (same : made ≡ bare_of key) (values : given ≡ key.values) where
+  its-path : (above : Path) → child_path above made.name ≡ child_path above key.name
+  its-path above = ap (λ (r : Rec). child_path above r.name) same
+
+  pub builds-one : (old mid new : Keys) (above : Path) → BuildsKey old mid above made → AreWhole mid →
+      PutsEach (child_path above made.name) key.time given mid new → BuildsOne old new above key
+  builds-one old mid new above b w p = (
+    mid,
+    subst (λ r. BuildsKey old mid above r) same b,
+    w,
+    subst (λ path. PutsEach path key.time key.values mid new) (its-path above)
+        (subst (λ ms. PutsEach (child_path above made.name) key.time ms mid new) values p),
+  )
+
+  pub crowds-below : (old mid : Keys) (above : Path) → BuildsKey old mid above made → AreWhole mid →
+      CrowdsValues mid (child_path above made.name) key.time given → CrowdsBelow old above key
+  crowds-below old mid above b w c =
+      inr (
+        mid,
+        subst (λ r. BuildsKey old mid above r) same b,
+        w,
+        subst (λ path. CrowdsValues mid path key.time key.values) (its-path above)
+            (subst (λ ms. CrowdsValues mid (child_path above made.name) key.time ms) values c),
+      )
+
+  pub builds-first : (mid new : Keys) → BuildsRoot mid made → AreWhole mid → PutsEach [] key.time given mid new → BuildsFirst new key
+  builds-first mid new b w p =
+      (mid, subst (λ r. BuildsRoot mid r) same b, w, subst (λ ms. PutsEach [] key.time ms mid new) values p)
+
+  pub crowds-root : (mid : Keys) → BuildsRoot mid made → AreWhole mid → CrowdsValues mid [] key.time given → CrowdsRoot key
+  crowds-root mid b w c = (mid, subst (λ r. BuildsRoot mid r) same b, w, subst (λ ms. CrowdsValues mid [] key.time ms) values c)
