@@ -1,6 +1,6 @@
 -- Keys built as they are told, with marks, class, descriptor and time, and the cells that this takes (Suhanov, Windows registry file
 -- format specification, "Cell", "Hive bin", "Key node").
-use Rattle.std.specs.Prelude.{◌≡◌, ◌<◌, ◌≤◌, ◌+◌, ◌⊎◌, ℕ, suc, Some, None, List, [], ◌∷◌, length}
+use Rattle.std.specs.Prelude.{◌≡◌, ◌<◌, ℕ, suc, Some, None, List, [], ◌∷◌, length}
 use Rattle.std.specs.FinMap.{empty, get, insert}
 use Rattle.reg_names.specs.declared.TheConstants.{PATH_LIMIT}
 use Rattle.reg_heap.specs.declared.limits.TheConstants.{SUBKEYS_LIMIT}

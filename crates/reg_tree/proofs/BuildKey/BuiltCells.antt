@@ -1,10 +1,9 @@
 -- The cells that come where a key is built, and how the bins grow for them.
-use Rattle.std.proofs.Common.{◌≡◌, inl, ℕ, suc, ◌+◌, ◌-◌, ◌<◌, ◌≤◌, ◌==◌, ◌&&◌, if◌then◌else◌, Bool, true, false, Option, Some, None, is_some, List, [], ◌∷◌, length, take, drop}
-use Rattle.std.proofs.Common.{refl, sym, ap, ◌∙◌, subst, arith, length-take, length-drop}
+use Rattle.std.proofs.Common.{◌≡◌, ℕ, ◌+◌, ◌-◌, ◌≤◌, ◌==◌, ◌&&◌, if◌then◌else◌, Bool, true, false, Option, Some, None, is_some, List, [], ◌∷◌, length, take, drop}
+use Rattle.std.proofs.Common.{refl, sym, ◌∙◌, subst, arith, length-take, length-drop}
 use Rattle.std.specs.Prelude.{Result, Ok, Err, OnOk, IfErr, unwrap_or}
 use Rattle.std.proofs.lemmas.Bool.Decides.{nat_tests}
 use Rattle.reg_heap.specs.Edits.{at_time, child_path}
-use Rattle.reg_heap.specs.Heaps.{Heap}
 use Rattle.reg_heap.specs.Paths.{Path, Rec}
 use Rattle.reg_arena.specs.declared.Cell.{Cell}
 use Rattle.reg_arena.specs.Arena.{Bins, heap_of}

@@ -2,8 +2,7 @@ use Rattle.std.proofs.Common.{◌∙◌, ◌∷◌, [], Err, length, subst, ap}
 use Rattle.reg_arena.specs.NewBin.{PassesLimit}
 use Rattle.reg_arena.specs.NewCells.{total_of}
 use Rattle.reg_arena.specs.EachCell.{GrowsFor}
-use Rattle.reg_tree.specs.CellSizes.{LacksRoom}
-use Rattle.reg_tree.proofs.BuildKey.BuiltCells.{class-size, none-class}
+use Rattle.reg_tree.proofs.BuildKey.BuiltCells.{class-size}
 use Rattle.reg_tree.proofs.BuildKey.ClassCarved.{near-limit}
 use Rattle.reg_tree.proofs.DescribeKey.SecurityJoined.{which-fault}
 use Rattle.reg_tree.proofs.build.carve_for.Goals as goal

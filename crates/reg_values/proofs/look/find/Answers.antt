@@ -1,4 +1,4 @@
-use Rattle.std.proofs.Common.{sym, ap, ◌∙◌, ◌≡◌, ◌<◌, ◌≤◌, ◌+◌, ◌*◌, ℕ, List, true, false, arith, subst, length}
+use Rattle.std.proofs.Common.{sym, ap, ◌∙◌, ◌≡◌, ◌≤◌, ◌+◌, ◌*◌, ℕ, List, true, false, arith, subst, length}
 use Rattle.reg_heap.specs.Members.{index_named, same_name}
 use Rattle.reg_arena.specs.Arena.{heap_of}
 use Rattle.reg_records.specs.KeyValues.{value_record_at}

@@ -1,4 +1,3 @@
-use Rattle.std.proofs.Common.{ap, sym, ◌∙◌}
 use Rattle.reg_arena.specs.Arena.{heap_of}
 use Rattle.reg_values.proofs.ValueListing.FoundValues.{record-there, record-reads, record-is}
 use Rattle.reg_values.proofs.look.name_at.Goals as goal
