@@ -100,6 +100,8 @@ impl Tree {
     }
 
     /// A tree of one root, as it is told: with its name, marks, class, descriptor and time, and no values. Its one fault is `Memory`.
+    ///
+    /// Its bins are those of a new hive, and the class's cell, if it takes one; a bin more only where no free cell has room for it.
     pub fn build(alloc: Global, key: NewKey<'_>) -> Result<Tree, TreeFault>
         requires { IsSmallKey (built_key key) }
         ensures ok { IfOk result (λ t. t.tree ≡ insert empty [] (built_key key.entry)) }
@@ -710,8 +712,10 @@ impl Tree {
     /// Builds a key right below another that has none of its name, as it is told: with its name, marks, class, descriptor and time,
     /// and no values. No other key's time changes. After a fault nothing is said of the tree but that it is one; it is to be dropped.
     ///
-    /// `Full` only where the bins, grown by twice 1,310,720 bytes, would pass the limit of 268,435,456 bytes; `Memory`. The bins grow
-    /// by at most twice 1,310,720 bytes.
+    /// First the cells come of a key that is made at its place with its descriptor, and then its class's. `Full` only where the bins
+    /// lack room for those or, once they are there, for the class's: no free cell has room for all of them, and one bin more would
+    /// pass the limit of 268,435,456 bytes; `Memory`. The bins grow only where no free cell has room, and by at most twice 1,310,720
+    /// bytes.
     pub fn build_key(
         &mut self,
         alloc: Global,
