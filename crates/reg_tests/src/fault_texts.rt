@@ -68,15 +68,31 @@ fn write_texts(alloc: Global) -> Result<String, Fail> {
 
 #[test]
 fn faults_of_writing(rt: HostRuntime) -> Result<(), Fail> {
-    let wanted = "no memory for the image, a write failed after 4096 bytes, a write failed after 7 bytes, a write failed after 0 bytes";
+    let wanted =
+        "no memory for the image, a write failed after 4096 bytes, a write failed after 7 bytes, a write failed after 0 bytes";
     assert_told(&rt, write_texts(rt.alloc()), wanted)
 }
 
 /// The faults of scripts, trees and new hives.
 fn other_texts(alloc: Global) -> Result<String, Fail> {
-    let script = format!(in alloc; "{}, {}, {}", ScriptFault::Read, ScriptFault::TooLong, ScriptFault::Memory)?;
-    let tree = format!(in alloc; "{}, {}, {}", TreeFault::NotFound, TreeFault::HasChildren, TreeFault::NoDelete)?;
-    let new = format!(in alloc; "{}, {}, {}", NewFault::Name, NewFault::Descriptor, NewFault::Memory)?;
+    let script = format!(in alloc;
+        "{}, {}, {}",
+        ScriptFault::Read,
+        ScriptFault::TooLong,
+        ScriptFault::Memory
+    )?;
+    let tree = format!(in alloc;
+        "{}, {}, {}",
+        TreeFault::NotFound,
+        TreeFault::HasChildren,
+        TreeFault::NoDelete
+    )?;
+    let new = format!(in alloc;
+        "{}, {}, {}",
+        NewFault::Name,
+        NewFault::Descriptor,
+        NewFault::Memory
+    )?;
     Ok(format!(in alloc; "{}\n{}\n{}", script.as_str(), tree.as_str(), new.as_str())?)
 }
 
