@@ -5,6 +5,7 @@
 #![tactic(auto)]
 
 pub use reg_command::tool;
+use std::alloc::AllocError;
 use std::process::ExitCode;
 use std::{env, io};
 
@@ -12,9 +13,12 @@ fn main(rt: HostRuntime) -> ExitCode {
     let alloc = rt.alloc();
     let words = match env::args(&rt) {
         Ok(args) => args.collect(alloc),
-        Err(_) => {
-            let _ = rt.eprintln("error: an argument is not text");
-            return ExitCode::from(2);
+        Err(error) => {
+            if error.kind() != io::ErrorKind::OutOfMemory {
+                let _ = rt.eprintln("error: an argument is not text");
+                return ExitCode::from(2);
+            }
+            Err(AllocError)
         }
     };
     let Ok(words) = words else {
