@@ -41,7 +41,8 @@ fn place(image: &[u8], step: usize, chance: &mut Chance) -> usize {
         1 | 2 => 4096usize.saturating_add(chance.below(256)),
         _ => 4096usize.saturating_add(chance.below(image.len().saturating_sub(4096))),
     };
-    at.checked_rem(step).map_or(at, |past| at.saturating_sub(past))
+    at.checked_rem(step)
+        .map_or(at, |past| at.saturating_sub(past))
 }
 
 /// The number of 32 bits at an offset of an image, 0 past its end.
@@ -70,7 +71,12 @@ fn write_once(image: &mut [u8], chance: &mut Chance)
     ensures { length image.new ≡ length image.old }
 {
     match chance.below(6) {
-        0 => turn(image, place(image, 1, chance).saturating_mul(8).saturating_add(chance.below(8))),
+        0 => turn(
+            image,
+            place(image, 1, chance)
+                .saturating_mul(8)
+                .saturating_add(chance.below(8)),
+        ),
         1 => {
             let byte = chance.word().to_le_bytes();
             put(image, place(image, 1, chance), &byte[..1]);
@@ -94,7 +100,12 @@ fn write_once(image: &mut [u8], chance: &mut Chance)
 fn copy_once(alloc: Global, image: &mut [u8], chance: &mut Chance) -> Result<()> {
     let from = place(image, 8, chance);
     let len = chance.below(128);
-    let piece = image.iter().skip(from).take(len).copied().collect::<Vec<u8>>(alloc)?;
+    let piece = image
+        .iter()
+        .skip(from)
+        .take(len)
+        .copied()
+        .collect::<Vec<u8>>(alloc)?;
     put(image, place(image, 8, chance), &piece);
     Ok(())
 }

@@ -134,7 +134,11 @@ impl Draft {
         let mut head = [0; 4];
         put(&mut head, 0, letters);
         put(&mut head, 2, &u16::try_from(offsets.len())?.to_le_bytes());
-        let hint = if letters[0] == b'l' && letters[1] != b'i' { 4 } else { 0 };
+        let hint = if letters[0] == b'l' && letters[1] != b'i' {
+            4
+        } else {
+            0
+        };
         self.listed(&head, offsets, hint)
     }
 
@@ -148,10 +152,8 @@ impl Draft {
         self.cell(head, &entries)
     }
 
-    /// Big data of so many segments.
-    pub fn big_data(&mut self, segments: &[u32]) -> Result<u32> {
-        let list = self.row(segments)?;
-        let count = u16::try_from(segments.len())?;
+    /// Big data of so many segments, which a row names.
+    pub fn big_data(&mut self, count: u16, list: u32) -> Result<u32> {
         let [low, high] = count.to_le_bytes();
         self.cell(&[b'd', b'b', low, high], &list.to_le_bytes())
     }
@@ -167,8 +169,7 @@ impl Draft {
         let used = u32::try_from(self.bins.len())?;
         let size = used.saturating_add(4095) / 4096 * 4096;
         if used < size {
-            self.bins
-                .extend_from_slice(&(size - used).to_le_bytes())?;
+            self.bins.extend_from_slice(&(size - used).to_le_bytes())?;
             self.bins.resize(size as usize, 0)?;
         }
         put(&mut self.bins, 0, b"hbin");

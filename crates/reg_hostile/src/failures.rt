@@ -28,12 +28,12 @@ pub fn readers(alloc: Global, image: &[u8], step: usize, fails: bool) -> Result<
 }
 
 /// What is written.
-#[derive(Clone, Copy, Debug, PartialEq, Eq)]
+#[derive(Clone, Copy)]
 pub enum Work<'a> {
     /// An image.
     Image(&'a [u8]),
-    /// The dump of what an image loads to.
-    Dump(&'a [u8]),
+    /// The dump of a hive.
+    Dump(&'a Hive),
     /// The replies of a script on a fresh hive.
     Replies(&'a [u8]),
 }
@@ -46,7 +46,7 @@ fn write_dump(alloc: Global, hive: &Hive, writer: &mut NarrowWriter) -> Result<O
     }
 }
 
-fn write_replies(
+fn run_script(
     alloc: Global,
     hive: &mut Hive,
     script: &[u8],
@@ -60,6 +60,11 @@ fn write_replies(
     }
 }
 
+fn write_replies(alloc: Global, script: &[u8], writer: &mut NarrowWriter) -> Result<Option<u64>> {
+    let mut hive = fresh_hive(alloc)?;
+    run_script(alloc, &mut hive, script, writer)
+}
+
 impl<'a> Work<'a> {
     /// Writes it, and tells after how many bytes the fault says that the writer failed.
     fn write(self, alloc: Global, writer: &mut NarrowWriter) -> Result<Option<u64>> {
@@ -68,15 +73,8 @@ impl<'a> Work<'a> {
                 Ok(()) => None,
                 Err(fault) => Some(fault.written),
             }),
-            Work::Dump(image) => {
-                let mut input = image;
-                let hive = load(alloc, &mut input)?;
-                write_dump(alloc, &hive, writer)
-            }
-            Work::Replies(script) => {
-                let mut hive = fresh_hive(alloc)?;
-                write_replies(alloc, &mut hive, script, writer)
-            }
+            Work::Dump(hive) => write_dump(alloc, hive, writer),
+            Work::Replies(script) => write_replies(alloc, script, writer),
         }
     }
 
@@ -90,10 +88,21 @@ impl<'a> Work<'a> {
     }
 
     /// Whether a writer of so much room takes just a front, and the fault tells how long that is.
-    fn is_told(self, alloc: Global, whole: &[u8], step: usize, room: usize, fails: bool) -> Result<bool> {
+    fn is_told(
+        self,
+        alloc: Global,
+        whole: &[u8],
+        step: usize,
+        room: usize,
+        fails: bool,
+    ) -> Result<bool> {
         let mut writer = NarrowWriter::new(alloc, step, room, fails);
         let told = self.write(alloc, &mut writer)?;
-        let wanted = if room < whole.len() { Some(room as u64) } else { None };
+        let wanted = if room < whole.len() {
+            Some(room as u64)
+        } else {
+            None
+        };
         Ok(told == wanted && whole.get(..room).unwrap_or(whole) == writer.taken.as_slice())
     }
 

@@ -42,7 +42,7 @@ fn print_fuzz(rt: &impl Print, alloc: Global, first: u64, count: u64) -> Result<
 /// Prints the verdicts on each bit of the image with every record.
 fn print_bits(rt: &impl Print, alloc: Global) -> Result<()> {
     let mut image = every_record(alloc)?;
-    println!(rt; "bits: {}", sweeps::all_bits(alloc, &mut image)?)?;
+    println!(rt; "bits: {}", sweeps::all_bits(alloc, &mut image, 0, 24_576)?)?;
     Ok(())
 }
 

@@ -79,7 +79,10 @@ impl fmt::Display for Counts {
         let refused = self.refused;
         let ended = self.ended;
         let made = self.made;
-        write!(f, "{rows} rows, 8 to {refused}, {ended} ended, {made} of these made")
+        write!(
+            f,
+            "{rows} rows, 8 to {refused}, {ended} ended, {made} of these made"
+        )
     }
 }
 
@@ -126,7 +129,12 @@ fn ask(alloc: Global, hive: &mut Hive, line: &str, wanted: &str) -> Result<Outco
 }
 
 /// Counts a row that was not answered at once, and tells whether it has to be given again.
-fn count_refusal(counts: &mut Counts, outcome: Outcome, before: &Snapshot, after: &Snapshot) -> Result<bool> {
+fn count_refusal(
+    counts: &mut Counts,
+    outcome: Outcome,
+    before: &Snapshot,
+    after: &Snapshot,
+) -> Result<bool> {
     match outcome {
         Outcome::Told => return Ok(false),
         Outcome::NoMemory => counts.refused = counts.refused.saturating_add(1),

@@ -79,6 +79,9 @@ info 0
     "",
 ];
 
+/// Where the records of the image with every record end, and the segments begin.
+pub const RECORDS_END: usize = 4096 + 864;
+
 /// An image with every kind of record in every form that is read: lists of all four forms, a list of none, names of two bytes a
 /// character, classes, marks, data in its value, in a cell and in segments, two securities.
 pub fn every_record(alloc: Global) -> Result<Vec<u8>> {
@@ -92,7 +95,7 @@ pub fn every_record(alloc: Global) -> Result<Vec<u8>> {
         ..Links::to(second)
     };
     let wide = draft.key(b"W\0i\0d\0e\0", wide.with_list(fast))?;
-    let valued = valued_key(&mut draft, second)?;
+    let (valued, segments) = valued_key(&mut draft, second)?;
     let plain = draft.key(b"Plain", Links::to(first))?;
     let lists = [
         draft.list(b"lh", &[plain, valued])?,
@@ -105,22 +108,22 @@ pub fn every_record(alloc: Global) -> Result<Vec<u8>> {
         ..Links::to(first)
     };
     let root = draft.key(b"ROOT", root.with_list(index))?;
+    for (at, bytes) in [(0, [1; 16_344].as_slice()), (4, &[2; 40]), (8, &[3; 4])] {
+        let segment = draft.cell(bytes, &[])?;
+        draft.patch(segments, at, segment);
+    }
     draft.image(5, root)
 }
 
-/// A key of four values, with a class.
-fn valued_key(draft: &mut Draft, security: u32) -> Result<u32> {
+/// A key of four values, with a class; and the row of the segments of its large one, three that are still to be named.
+fn valued_key(draft: &mut Draft, security: u32) -> Result<(u32, u32)> {
     let class = draft.cell(b"Class of a key", &[])?;
     let short = draft.value(b"Short", 0x8000_0003, 0x0001_0203, 1)?;
     let wide = draft.value(b"L\0o\0n\0g\0", 0x8000_0000, NONE, 0)?;
     let data = draft.cell(b"data of twenty bytes", &[])?;
     let celled = draft.value(&[], 20, data, 0)?;
-    let segments = [
-        draft.cell(&[1; 16_344], &[])?,
-        draft.cell(&[2; 40], &[])?,
-        draft.cell(&[3; 4], &[])?,
-    ];
-    let large = draft.big_data(&segments)?;
+    let segments = draft.row(&[NONE; 3])?;
+    let large = draft.big_data(3, segments)?;
     let large = draft.value(b"Large", 16_384, large, 1)?;
     let members = draft.row(&[short, wide, celled, large])?;
     let links = Links {
@@ -128,7 +131,8 @@ fn valued_key(draft: &mut Draft, security: u32) -> Result<u32> {
         class_len: 14,
         ..Links::to(security)
     };
-    draft.key(b"Valued", links.with_values(4, members))
+    let key = draft.key(b"Valued", links.with_values(4, members))?;
+    Ok((key, segments))
 }
 
 /// The images that are changed at random.

@@ -189,8 +189,8 @@ fn again(alloc: Global, draft: &mut Draft, security: u32, count: u32) -> Result<
 
 fn segments(alloc: Global, draft: &mut Draft, security: u32, count: u32) -> Result<Links> {
     let segment = draft.cell(&[9; 16_344], &[])?;
-    let row = vec![in alloc; segment; count as usize]?;
-    let data = draft.big_data(&row)?;
+    let row = draft.row(&vec![in alloc; segment; count as usize]?)?;
+    let data = draft.big_data(u16::try_from(count)?, row)?;
     let value = draft.value(b"A", 1_048_576, data, 1)?;
     Ok(Links::to(security).with_values(1, draft.row(&[value])?))
 }

@@ -62,10 +62,10 @@ fn try_sealed(alloc: Global, image: &mut [u8], bit: usize, tally: &mut Tally) ->
     Ok(())
 }
 
-/// The verdicts on an image with each bit turned over once.
-pub fn all_bits(alloc: Global, image: &mut [u8]) -> Result<Tally> {
+/// The verdicts on an image with each bit of its bytes from one offset to another turned over once.
+pub fn all_bits(alloc: Global, image: &mut [u8], from: usize, to: usize) -> Result<Tally> {
     let mut tally = Tally::NONE;
-    for bit in 0..image.len().saturating_mul(8) {
+    for bit in from.saturating_mul(8)..to.saturating_mul(8) {
         try_bit(alloc, image, bit, &mut tally)?;
     }
     Ok(tally)
@@ -80,7 +80,7 @@ pub fn sealed_bits(alloc: Global, image: &mut [u8]) -> Result<Tally> {
     Ok(tally)
 }
 
-/// The same of so many bits, taken at random.
+/// The verdicts on an image with each of so many bits turned over once, which are taken at random.
 pub fn some_bits(alloc: Global, image: &mut [u8], count: usize) -> Result<Tally> {
     let mut tally = Tally::NONE;
     let mut chance = Chance::new(1);

@@ -50,7 +50,9 @@ pub fn read_words(alloc: Global, words: &[String]) -> Result<Request, Error> {
         .arg(number(alloc, "COUNT"))?;
     let bits = Command::new(alloc, "bits").about("Turns over each bit of an image");
     let sizes = Command::new(alloc, "sizes").about("Times images that are made to take long");
-    let rows = Command::new(alloc, "rows").about("Runs rows of scripts where memory may be refused");
+    let rows = Command::new(alloc, "rows").about(
+        "Runs rows of scripts where memory may be refused",
+    );
     let command = Command::new(alloc, "reg_hostile")
         .about("Hostile input for the libraries")
         .subcommand(fuzz)?
