@@ -1,0 +1,73 @@
+//! Images and scripts that were changed at random, each by a seed of its own.
+use crate::chance::Chance;
+use crate::changes::{change_image, changed_script};
+use crate::hives::{fresh_hive, run_on};
+use crate::seeds::{SCRIPTS, images};
+use crate::verdicts::{Tally, Verdict, judge_bytes, verdict_on};
+use anyhow::Result;
+use reg_calls::Hive;
+use reg_image::load;
+use std::alloc::Global;
+
+/// Every so many seeds have a script, too.
+const SCRIPT_EVERY: u64 = 8;
+
+/// The image of a seed.
+fn image_of_seed(alloc: Global, good: &[Vec<u8>], chance: &mut Chance) -> Result<Vec<u8>> {
+    let mut image = match good.get(chance.below(good.len())) {
+        Some(image) => image.clone()?,
+        None => Vec::new(alloc),
+    };
+    change_image(alloc, &mut image, chance)?;
+    Ok(image)
+}
+
+/// One of the good scripts.
+fn some_script(chance: &mut Chance) -> &'static [u8] {
+    SCRIPTS
+        .get(chance.below(SCRIPTS.len()))
+        .map_or(b"".as_slice(), |script| script.as_bytes())
+}
+
+/// The script of a seed.
+fn script_of_seed(alloc: Global, chance: &mut Chance) -> Result<Vec<u8>> {
+    let mut script = some_script(chance).to_vec(alloc)?;
+    for _turn in 0..chance.below(12).saturating_add(1) {
+        script = changed_script(alloc, &script, some_script(chance), chance)?;
+    }
+    Ok(script)
+}
+
+/// The verdict on a hive after a script.
+fn judge_after(alloc: Global, hive: &mut Hive, script: &[u8]) -> Result<Verdict> {
+    let _replies = run_on(alloc, hive, script)?;
+    verdict_on(alloc, hive)
+}
+
+/// The verdict on a script: on what it makes of an image that was changed, if that is loaded, or else of a fresh hive.
+fn judge_script(alloc: Global, image: &[u8], script: &[u8]) -> Result<Verdict> {
+    let mut input = image;
+    let mut hive = match load(alloc, &mut input) {
+        Ok(hive) => hive,
+        Err(_) => fresh_hive(alloc)?,
+    };
+    judge_after(alloc, &mut hive, script)
+}
+
+/// The verdicts on the images and scripts of so many seeds, beginning with one.
+pub fn fuzz(alloc: Global, first: u64, count: u64) -> Result<(Tally, Tally)> {
+    let good = images(alloc)?;
+    let mut of_images = Tally::NONE;
+    let mut of_scripts = Tally::NONE;
+    for number in 0..count {
+        let seed = first.wrapping_add(number);
+        let mut chance = Chance::new(seed);
+        let image = image_of_seed(alloc, &good, &mut chance)?;
+        of_images.add(judge_bytes(alloc, &image)?);
+        if seed % SCRIPT_EVERY == 0 {
+            let script = script_of_seed(alloc, &mut chance)?;
+            of_scripts.add(judge_script(alloc, &image, &script)?);
+        }
+    }
+    Ok((of_images, of_scripts))
+}

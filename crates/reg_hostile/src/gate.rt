@@ -1,0 +1,115 @@
+//! The run of the gate: it is short, and tells the same each time.
+use crate::failures::{Work, is_told_by_tool, readers};
+use crate::fuzz::fuzz;
+use crate::hives::scripted;
+use crate::rows::run_rows;
+use crate::seeds::{RECORDS_END, SCRIPTS, every_record, images};
+use crate::sweeps::{all_bits, fronts, sealed_bits, some_bits};
+use anyhow::Result;
+use reg_image::load;
+use std::alloc::Global;
+
+/// How many bits of the image with every record are turned over beside those of its records.
+const BITS: usize = 10_000;
+
+/// How many seeds are tried.
+const SEEDS: u64 = 20_000;
+
+/// Fronts and bits of the image of a fresh hive.
+fn sweep_fresh(rt: &impl Print, alloc: Global) -> Result<()> {
+    let mut image = scripted(alloc, b"")?;
+    let len = image.len();
+    println!(rt; "fresh hive, fronts: {}", fronts(alloc, &image)?)?;
+    println!(rt;
+        "fresh hive, bits: {}",
+        all_bits(alloc, &mut image, 0, len)?
+    )?;
+    println!(rt;
+        "fresh hive, bits with a checksum: {}",
+        sealed_bits(alloc, &mut image)?
+    )?;
+    Ok(())
+}
+
+/// Fronts and bits of the image with every record.
+fn sweep_records(rt: &impl Print, alloc: Global) -> Result<()> {
+    let mut image = every_record(alloc)?;
+    println!(rt; "every record, fronts: {}", fronts(alloc, &image)?)?;
+    println!(rt;
+        "every record, bits of records: {}",
+        all_bits(alloc, &mut image, 4096, RECORDS_END)?
+    )?;
+    println!(rt;
+        "every record, bits: {}",
+        some_bits(alloc, &mut image, BITS)?
+    )?;
+    Ok(())
+}
+
+/// Readers that end early or fail.
+fn fail_readers(rt: &impl Print, alloc: Global) -> Result<()> {
+    let image = every_record(alloc)?;
+    for (what, step, fails) in [
+        ("give nothing", 0, false),
+        ("give one byte a call and end", 1, false),
+        ("give all and end", usize::MAX, false),
+        ("give one byte a call and fail", 1, true),
+        ("give all and fail", usize::MAX, true),
+    ] {
+        println!(rt;
+            "readers that {what}: {}",
+            readers(alloc, &image, step, fails)?
+        )?;
+    }
+    Ok(())
+}
+
+/// Writers that end early or fail where they are given a work.
+fn fail_writers(rt: &impl Print, alloc: Global, what: &str, work: Work<'_>) -> Result<()> {
+    for (how, step, fails) in [
+        ("one byte a call and then none", 1, false),
+        ("all and then none", usize::MAX, false),
+        ("one byte a call and fail", 1, true),
+        ("all and fail", usize::MAX, true),
+    ] {
+        let (failed, wrong) = work.failures(alloc, step, fails)?;
+        println!(rt; "writers of {what} that take {how}: {failed} failed, {wrong} told wrongly")?;
+    }
+    Ok(())
+}
+
+/// The same of every work.
+fn fail_all_writers(rt: &impl Print, alloc: Global) -> Result<()> {
+    let image = every_record(alloc)?;
+    let mut input = image.as_slice();
+    let hive = load(alloc, &mut input)?;
+    fail_writers(rt, alloc, "an image", Work::Image(&image))?;
+    fail_writers(rt, alloc, "a dump", Work::Dump(&hive))?;
+    fail_writers(rt, alloc, "replies", Work::Replies(SCRIPTS[0].as_bytes()))
+}
+
+/// Images by the tool.
+fn tool_images(rt: &impl Print, alloc: Global) -> Result<()> {
+    let mut told: u32 = 0;
+    let images = images(alloc)?;
+    for image in &images {
+        if is_told_by_tool(alloc, image)? {
+            told = told.saturating_add(1);
+        }
+    }
+    println!(rt; "the tool told {told} of {} images", images.len())?;
+    Ok(())
+}
+
+/// Runs all that the gate runs.
+pub fn run(rt: &impl Print, alloc: Global) -> Result<()> {
+    sweep_fresh(rt, alloc)?;
+    sweep_records(rt, alloc)?;
+    fail_readers(rt, alloc)?;
+    fail_all_writers(rt, alloc)?;
+    tool_images(rt, alloc)?;
+    let (of_images, of_scripts) = fuzz(alloc, 1, SEEDS)?;
+    println!(rt; "images of {SEEDS} seeds: {of_images}")?;
+    println!(rt; "scripts of {SEEDS} seeds: {of_scripts}")?;
+    run_rows(rt, alloc)
+}

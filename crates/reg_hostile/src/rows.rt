@@ -1,0 +1,200 @@
+//! Rows of scripts, each with the reply that the rules give, on a machine that may refuse an allocation.
+//!
+//! A row that wants memory is answered 8, or ends its script; then the hive is as it was, and the same row is accepted when it comes
+//! again. Where the change was made and memory was wanting for its reply alone, the hive is one entry further.
+use crate::hives::{fresh_hive, image_of};
+use anyhow::{Result, bail};
+use reg_calls::Hive;
+use reg_script::{ScriptFault, run};
+use std::alloc::Global;
+use std::fmt;
+
+/// Rows in which each call is accepted, with their replies; `*` and a number stand for so many bytes 0x2a.
+const ROWS: &str = "\
+root 983103 -> 0 handle 0
+create 0 =Software\\Zugmeled 983103 -> 0 handle 1 disposition 1
+open 0 =software 983103 -> 0 handle 2
+enumkey 2 0 255 -> 0 =Zugmeled time 0
+create 2 =Other 983103 x010203 -> 0 handle 3 disposition 1
+create 2 =other 983103 -> 0 handle 4 disposition 2
+getsec 3 3 -> 0 x010203
+setsec 1 x010203 -> 0
+setsec 3 x0a0b -> 0
+getsec 3 2 -> 0 x0a0b
+set 1 =small 4 x01020304 -> 0
+set 1 =cell 3 *100 -> 0
+set 1 =large 3 *16345 -> 0
+set 1 =LARGE 3 *32689 -> 0
+set 1 =cell 3 *99 -> 0
+set 1 =cell 3 *200 -> 0
+query 1 =small 4 -> 0 type 4 size 4 x01020304
+query 1 =large - -> 0 type 3 size 32689
+enumvalue 1 0 255 4 -> 0 =small type 4 size 4 x01020304
+delvalue 1 =large -> 0
+set 1 = 1 x -> 0
+info 1 -> 0 subkeys 0 longest 0 values 3 longest 5 largest 200 security 3 time 0
+delkey 2 =other -> 0
+query 3 = - -> 1018
+close 3 -> 0
+create 1 =a\\b\\c\\d 983103 x0d -> 0 handle 17 disposition 1
+create 1 =a\\e 983103 -> 0 handle 18 disposition 1
+deltree 1 =a -> 0
+enumkey 1 0 255 -> 259
+create 1 =f 983103 -> 0 handle 20 disposition 1
+deltree 1 = -> 0
+info 1 -> 0 subkeys 0 longest 0 values 0 longest 0 largest 0 security 3 time 0
+close 0 -> 0
+close 1 -> 0";
+
+/// What a hive holds: its image, and how many entries its journal has.
+#[derive(Drop)]
+struct Snapshot {
+    image: Vec<u8>,
+    entries: usize,
+}
+
+/// What came of a row.
+#[derive(Clone, Copy, Debug, PartialEq, Eq)]
+enum Outcome {
+    /// The wanted reply.
+    Told,
+    /// The reply 8.
+    NoMemory,
+    /// The script ended for want of memory.
+    Ended,
+}
+
+/// How many rows were answered, and how many of them not at once.
+#[derive(Clone, Copy)]
+struct Counts {
+    rows: u32,
+    refused: u32,
+    ended: u32,
+    made: u32,
+}
+
+impl fmt::Display for Counts {
+    fn fmt<W: fmt::Write>(&self, f: &mut fmt::Formatter<W>) -> fmt::Result {
+        let rows = self.rows;
+        let refused = self.refused;
+        let ended = self.ended;
+        let made = self.made;
+        write!(
+            f,
+            "{rows} rows, 8 to {refused}, {ended} ended, {made} of these made"
+        )
+    }
+}
+
+fn take_snapshot(alloc: Global, hive: &Hive) -> Result<Snapshot> {
+    let image = match image_of(alloc, hive) {
+        Ok(image) => image,
+        Err(_) => image_of(alloc, hive)?,
+    };
+    Ok(Snapshot {
+        image,
+        entries: hive.len(),
+    })
+}
+
+/// A row's line, with its bytes written out.
+fn line_of(alloc: Global, line: &str) -> Result<String> {
+    let Some((head, count)) = line.split_once("*") else {
+        return Ok(line.to_string(alloc)?);
+    };
+    let mut text = head.to_string(alloc)?;
+    text.push_str("x")?;
+    for _byte in 0..count.parse::<u32>()? {
+        text.push_str("2a")?;
+    }
+    Ok(text)
+}
+
+/// Gives a line to a hive. Another reply than the wanted one is an error.
+fn ask(alloc: Global, hive: &mut Hive, line: &str, wanted: &str) -> Result<Outcome> {
+    let mut input = line.as_bytes();
+    let mut output = Vec::with_capacity(alloc, 256)?;
+    match run(alloc, &mut input, &mut output, hive) {
+        Ok(()) => {
+            let text = String::from_utf8(output)?;
+            match text.as_str().strip_suffix("\n") {
+                Some("8") => Ok(Outcome::NoMemory),
+                Some(reply) if reply == wanted => Ok(Outcome::Told),
+                _ => bail!("{text} in place of {wanted}"),
+            }
+        }
+        Err(ScriptFault::Memory) => Ok(Outcome::Ended),
+        Err(fault) => bail!("{fault}"),
+    }
+}
+
+/// Counts a row that was not answered at once, and tells whether it has to be given again.
+fn count_refusal(
+    counts: &mut Counts,
+    outcome: Outcome,
+    before: &Snapshot,
+    after: &Snapshot,
+) -> Result<bool> {
+    match outcome {
+        Outcome::Told => return Ok(false),
+        Outcome::NoMemory => counts.refused = counts.refused.saturating_add(1),
+        Outcome::Ended => counts.ended = counts.ended.saturating_add(1),
+    }
+    if outcome == Outcome::Ended && after.entries == before.entries.saturating_add(1) {
+        counts.made = counts.made.saturating_add(1);
+        return Ok(false);
+    }
+    if after.entries != before.entries || after.image.as_slice() != before.image.as_slice() {
+        bail!("a refusal changed the hive");
+    }
+    Ok(true)
+}
+
+/// Gives a row's line to a hive, and again where memory was wanting.
+fn check_row(
+    alloc: Global,
+    hive: &mut Hive,
+    line: &str,
+    wanted: &str,
+    counts: &mut Counts,
+) -> Result<()> {
+    let before = take_snapshot(alloc, hive)?;
+    let outcome = ask(alloc, hive, line, wanted)?;
+    let after = take_snapshot(alloc, hive)?;
+    counts.rows = counts.rows.saturating_add(1);
+    if outcome == Outcome::NoMemory && line.starts_with("close") {
+        bail!("a Close was answered 8");
+    }
+    if !count_refusal(counts, outcome, &before, &after)? {
+        return Ok(());
+    }
+    if ask(alloc, hive, line, wanted)? != Outcome::Told {
+        bail!("a row was not answered again");
+    }
+    Ok(())
+}
+
+/// Gives all rows to a hive.
+fn check_rows(alloc: Global, hive: &mut Hive) -> Result<Counts> {
+    let mut counts = Counts {
+        rows: 0,
+        refused: 0,
+        ended: 0,
+        made: 0,
+    };
+    for row in ROWS.split('\n') {
+        if let Some((line, wanted)) = row.split_once(" -> ") {
+            let line = line_of(alloc, line)?;
+            check_row(alloc, hive, line.as_str(), wanted, &mut counts)?;
+        }
+    }
+    Ok(counts)
+}
+
+/// Gives all rows to a fresh hive, and prints how they were answered. Where one was answered wrongly, that is the error.
+pub fn run_rows(rt: &impl Print, alloc: Global) -> Result<()> {
+    let mut hive = fresh_hive(alloc)?;
+    let counts = check_rows(alloc, &mut hive)?;
+    println!(rt; "{counts}")?;
+    Ok(())
+}

@@ -1,0 +1,98 @@
+//! What becomes of an image: the fault that refuses it, or a hive whose own image tells the same.
+use crate::hives::{dumped, image_of};
+use anyhow::Result;
+use reg_calls::Hive;
+use reg_image::{LoadFault, load};
+use std::alloc::Global;
+use std::fmt;
+use std::io::Read;
+
+/// What became of an image.
+#[derive(Clone, Copy, Debug, PartialEq, Eq)]
+pub enum Verdict {
+    /// It isn't loaded.
+    Refused(LoadFault),
+    /// It is loaded, and the hive's own image loads to the same dump.
+    Kept,
+    /// It is loaded, and the hive's own image isn't, or to another dump.
+    Lost,
+}
+
+/// Whether a hive's own image loads to the hive's dump.
+pub fn is_kept(alloc: Global, hive: &Hive) -> Result<bool> {
+    let told = dumped(alloc, hive)?;
+    let bytes = image_of(alloc, hive)?;
+    let mut input = bytes.as_slice();
+    match load(alloc, &mut input) {
+        Ok(again) => Ok(dumped(alloc, &again)?.as_slice() == told.as_slice()),
+        Err(_) => Ok(false),
+    }
+}
+
+/// The verdict on a hive.
+pub fn verdict_on(alloc: Global, hive: &Hive) -> Result<Verdict> {
+    Ok(if is_kept(alloc, hive)? {
+        Verdict::Kept
+    } else {
+        Verdict::Lost
+    })
+}
+
+/// The verdict on a reader's image.
+pub fn judge<R: Read>(alloc: Global, input: &mut R) -> Result<Verdict> {
+    match load(alloc, input) {
+        Ok(hive) => verdict_on(alloc, &hive),
+        Err(fault) => Ok(Verdict::Refused(fault)),
+    }
+}
+
+/// The verdict on an image.
+pub fn judge_bytes(alloc: Global, image: &[u8]) -> Result<Verdict> {
+    let mut input = image;
+    judge(alloc, &mut input)
+}
+
+/// How many images met each verdict.
+#[derive(Clone, Copy)]
+pub struct Tally {
+    /// Those refused, by the fault's number.
+    refused: [u32; 15],
+    kept: u32,
+    lost: u32,
+}
+
+impl Tally {
+    /// Of no image.
+    pub const NONE: Tally = Tally {
+        refused: [0; 15],
+        kept: 0,
+        lost: 0,
+    };
+
+    /// Counts one verdict more.
+    pub fn add(&mut self, verdict: Verdict) {
+        match verdict {
+            Verdict::Refused(fault) => {
+                if let Some(count) = self.refused.get_mut(usize::from(fault.number())) {
+                    *count = count.saturating_add(1);
+                }
+            }
+            Verdict::Kept => self.kept = self.kept.saturating_add(1),
+            Verdict::Lost => self.lost = self.lost.saturating_add(1),
+        }
+    }
+}
+
+impl fmt::Display for Tally {
+    fn fmt<W: fmt::Write>(&self, f: &mut fmt::Formatter<W>) -> fmt::Result {
+        let kept = self.kept;
+        let lost = self.lost;
+        write!(f, "kept {kept}, lost {lost}, faults")?;
+        for (number, count) in self.refused.iter().enumerate() {
+            if *count > 0 {
+                write!(f, " {number}:{count}")?;
+            }
+        }
+        Ok(())
+    }
+}
