@@ -1,0 +1,25 @@
+-- A change that is told the status 0 is one entry more.
+use Rattle.std.proofs.Common.{◌≡◌, ℕ, ◌+◌, List, length, length-append, sym, ap, ◌∙◌, arith, Option, Some, None, ◌⊎◌, inl, inr}
+use Rattle.std.specs.Prelude.{◌≢◌}
+use Rattle.reg_model.specs.Replies.{refusal}
+use Rattle.reg_model.specs.Callbacks.{no_callbacks}
+use Rattle.reg_model.specs.declared.call.Change.{Change}
+use Rattle.reg_model.specs.declared.reply.Entry.{Entry}
+use Rattle.reg_model.specs.declared.reply.ChangeReply.{ChangeReply}
+use Rattle.reg_model.proofs.CallSteps.{not_zero}
+use Rattle.reg_calls.specs.Views.{View, IsApplied, IsAppliedBy, state}
+
+lacking : {X Y : Type 0} (reply : ChangeReply) → ((reply ≡ refusal 8) × X) ⊎ ((reply ≡ refusal 1450) × Y) → reply.status ≡ 0 → ⊥
+lacking reply (inl h) z = let e = ap (λ (r : ChangeReply). r.status) h.0 in omega (arith, e, z)
+lacking reply (inr h) z = let e = ap (λ (r : ChangeReply). r.status) h.0 in omega (arith, e, z)
+
+grown : (cause : Option ℕ) (old new : View) (session moment : ℕ) (change : Change) (reply : ChangeReply) → cause ≢ Some 0
+    → IsAppliedBy cause old new session moment change reply → reply.status ≡ 0 → length new.journal ≡ length old.journal + 1
+grown (Some status) old new session moment change reply not h z =
+    absurd (not (ap (λ (n : ℕ). Some n) (sym (ap (λ (r : ChangeReply). r.status) h.0) ∙ z)))
+grown None old new session moment change reply not (inl h) z = ap (λ (es : List Entry). length es) h.journal ∙ length-append old.journal _
+grown None old new session moment change reply not (inr h) z = absurd (lacking reply h.why z)
+
+pub accepted : (old new : View) (session moment : ℕ) (change : Change) (reply : ChangeReply)
+    → IsApplied no_callbacks old new session moment change reply → reply.status ≡ 0 → length new.journal ≡ length old.journal + 1
+accepted old new session moment change reply h z = grown _ old new session moment change reply (not_zero (state old) session change 0) h z

@@ -1,0 +1,55 @@
+//! Hives with the keys of a plan.
+ghost use Rattle.std.specs.Prelude.{◌≡◌, ◌+◌, IfOk, OnOk, [], length};
+ghost use Rattle.reg_calls.specs.HiveView.{view_of};
+
+use anyhow::{Result, bail};
+use reg_calls::Hive;
+use reg_model::Change;
+use reg_workload::{KeyPlan, KeyStep, numbers_below};
+use std::alloc::Global;
+
+/// On how many keys a step is done at once.
+const BATCH: usize = 1_000;
+
+/// A hive of one root, in which nothing was changed.
+fn new_hive(alloc: Global) -> Result<Hive>
+    ensures { IfOk result (λ hive. (view_of hive).journal ≡ []) }
+{
+    Ok(Hive::new(alloc, b"ROOT", &[1], 0)?)
+}
+
+#[tactic(auto, using(crate::proofs::AcceptedChanges::accepted))]
+fn apply_one(hive: &mut Hive, change: Change) -> Result<()>
+    ensures { OnOk result (length (view_of hive.new).journal ≡ length (view_of hive.old).journal + 1) }
+{
+    if hive.apply(0, 1, change).status != 0 {
+        bail!("a change was refused");
+    }
+    Ok(())
+}
+
+/// Makes changes, each of which is accepted, and so is an entry more.
+fn apply_all(hive: &mut Hive, changes: Vec<Change>) -> Result<()>
+    ensures { OnOk result
+        (length (view_of hive.new).journal ≡ length (view_of hive.old).journal + length changes.items) }
+{
+    for change in changes {
+        apply_one(hive, change)?;
+    }
+    Ok(())
+}
+
+/// A hive with the keys of a plan.
+pub fn filled(alloc: Global, plan: KeyPlan) -> Result<Hive> {
+    let mut hive = new_hive(alloc)?;
+    apply_all(&mut hive, plan.parents_made(alloc)?)?;
+    let numbers = numbers_below(alloc, plan.keys())?;
+    for batch in numbers.as_slice().chunks(BATCH) {
+        let handle = hive.len() as u64;
+        apply_all(
+            &mut hive,
+            KeyStep::Make.changes(alloc, plan, batch, handle)?,
+        )?;
+    }
+    Ok(hive)
+}
