@@ -15,6 +15,7 @@ pub mod ValueReadings
 pub mod FitNames
 pub mod NewValues
 pub mod PutValues
+pub mod AllValues
 pub mod SiblingTests
 pub mod BegunSteps
 pub mod ValueRows

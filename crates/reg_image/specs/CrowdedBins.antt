@@ -1,26 +1,25 @@
 -- The bins that are built of the keys that were told, and when they have no room for the next (Suhanov, Windows registry file format
 -- specification, "Hive bin", "Cell").
-use Rattle.std.specs.Prelude.{◌≡◌, ◌⊎◌, ℕ, suc, Some, List, [], ◌∷◌, ◌++◌, length}
+use Rattle.std.specs.Prelude.{◌≡◌, ◌<◌, ◌≤◌, ◌⊎◌, ℕ, suc, Some, List, [], ◌∷◌, ◌++◌, length}
 use Rattle.reg_names.specs.declared.TheConstants.{PATH_LIMIT}
 use Rattle.reg_heap.specs.Paths.{Path, Rec, Member}
 use Rattle.reg_heap.specs.Edits.{child_path, edited, with_value}
 use Rattle.reg_arena.specs.declared.Cell.{Cell}
+use Rattle.reg_arena.specs.declared.TheConstants.{CARVE_LIMIT}
 use Rattle.reg_arena.specs.Arena.{heap_of}
 use Rattle.reg_arena.specs.Cells.{BinPlace, bins_of, cells_of_bins, content_in}
+use Rattle.reg_arena.specs.NewCells.{total_of}
+use Rattle.reg_values.specs.NewValues.{all_value_sizes}
 use Rattle.reg_tree.specs.declared.node.Node.{Node}
-use Rattle.reg_tree.specs.TreeKeys.{Keys, IsAt, IsWholeTree}
+use Rattle.reg_tree.specs.TreeKeys.{Keys, IsAt}
 use Rattle.reg_tree.specs.CellSizes.{value_sizes, LacksRoom}
-use Rattle.reg_tree.specs.BuiltKeys.{TakesCells, BuildsRoot, BuildsKey, LacksKeyRoom, LacksClassRoom}
+use Rattle.reg_tree.specs.BuiltKeys.{AreWhole, TakesCells, with_values, BuildsRoot, BuildsKey, LacksKeyRoom, LacksClassRoom}
 use Rattle.reg_image.specs.WalkSteps.{Seen}
 use Rattle.reg_image.specs.LoadingWalk.{root_path}
 use Rattle.reg_image.specs.Images.{nothing}
 use Rattle.reg_image.specs.WalkedKeys.{Comes}
 
--- the cells of the bins are those of the tree
-abbrev pub AreWhole : Keys → Type 0
-AreWhole keys = IsWholeTree keys.bins.bytes keys.root keys.tree
-
--- ---- values
+-- ---- values, one behind the other
 
 -- a key's next value was set: the tree is that one step on, just the cells that it takes came, and all is whole
 pub record PutsValue (old new : Keys) (path : Path) (time : ℕ) (m : Member) : Type 0 where
@@ -28,6 +27,7 @@ pub record PutsValue (old new : Keys) (path : Path) (time : ℕ) (m : Member) : 
   pub at : IsAt old path node
   pub tree : new.tree ≡ edited old.tree path (with_value m.name m.kind m.bytes time)
   pub takes : TakesCells old new (value_sizes (heap_of old.bins) node.offset m.name (length m.bytes))
+  pub root : new.root ≡ old.root
   pub whole : AreWhole new
 
 -- some values of the key at a path, one behind the other
@@ -42,7 +42,7 @@ pub record LacksValueRoom (keys : Keys) (path : Path) (m : Member) : Type 0 wher
   pub lacks : LacksRoom keys.bins (value_sizes (heap_of keys.bins) node.offset m.name (length m.bytes))
 
 -- of a key without values the first of these were set, and then there is no room for the next
-pub record CrowdsValues (bare : Keys) (path : Path) (time : ℕ) (members : List Member) : Type 0 where
+pub record CrowdsEach (bare : Keys) (path : Path) (time : ℕ) (members : List Member) : Type 0 where
   pub front : List Member
   pub next : Member
   pub back : List Member
@@ -51,20 +51,49 @@ pub record CrowdsValues (bare : Keys) (path : Path) (time : ℕ) (members : List
   pub put : PutsEach path time front bare now
   pub lacks : LacksValueRoom now path next
 
+-- ---- all values of a key
+
+-- how many bytes the cells have that all values of a key take together: their list's, and those of each value's record and data
+abbrev pub bytes_taken : List Member → ℕ
+bytes_taken members = total_of (all_value_sizes members)
+
+-- a key got all its values at once: the tree has them, just the cells that they take came, and all is whole
+pub record PutsAll (bare new : Keys) (path : Path) (time : ℕ) (members : List Member) : Type 0 where
+  pub node : Node
+  pub at : IsAt bare path node
+  pub tree : new.tree ≡ edited bare.tree path (with_values members time)
+  pub takes : TakesCells bare new (all_value_sizes members)
+  pub root : new.root ≡ bare.root
+  pub whole : AreWhole new
+
+-- the key at a path, which had no values, got these: all at once where one carve may take their cells, which have at most 16,777,216
+-- bytes then, and else one behind the other
+abbrev pub PutsValues : Path → ℕ → List Member → Keys → Keys → Type 0
+PutsValues path time [] bare new = new ≡ bare
+PutsValues path time (m ∷ members) bare new =
+    ((bytes_taken (m ∷ members) ≤ CARVE_LIMIT) × PutsAll bare new path time (m ∷ members))
+    ⊎ ((CARVE_LIMIT < bytes_taken (m ∷ members)) × PutsEach path time (m ∷ members) bare new)
+
+-- there is no room for them: for all together, where they are put at once, and else for one of them
+abbrev pub CrowdsValues : Keys → Path → ℕ → List Member → Type 0
+CrowdsValues bare path time members =
+    ((bytes_taken members ≤ CARVE_LIMIT) × LacksRoom bare.bins (all_value_sizes members))
+    ⊎ ((CARVE_LIMIT < bytes_taken members) × CrowdsEach bare path time members)
+
 -- ---- keys
 
 -- a key without its values
 abbrev pub bare_of : Rec → Rec
 bare_of key = record key { values = [] }
 
--- the root was built, and its values were set
+-- the root was built, and got its values
 abbrev pub BuildsFirst : Keys → Rec → Type 0
-BuildsFirst new key = (bare : Keys) × BuildsRoot bare (bare_of key) × AreWhole bare × PutsEach [] key.time key.values bare new
+BuildsFirst new key = (bare : Keys) × BuildsRoot bare (bare_of key) × AreWhole bare × PutsValues [] key.time key.values bare new
 
--- a key was built right below the one at a path, and its values were set
+-- a key was built right below the one at a path, and got its values
 abbrev pub BuildsOne : Keys → Keys → Path → Rec → Type 0
 BuildsOne old new above key =
-    (bare : Keys) × BuildsKey old bare above (bare_of key) × AreWhole bare × PutsEach (child_path above key.name) key.time key.values bare new
+    (bare : Keys) × BuildsKey old bare above (bare_of key) × AreWhole bare × PutsValues (child_path above key.name) key.time key.values bare new
 
 -- keys were built one after the other, each at its path
 abbrev pub BuildsEach : List (Path × Rec) → Keys → Keys → Type 0
@@ -79,14 +108,14 @@ BuildsAll (e ∷ told) keys = (first : Keys) × (e.0 ≡ []) × BuildsFirst firs
 
 -- ---- no room for the next
 
--- for a value of the root
+-- for the values of the root
 abbrev pub CrowdsRoot : Rec → Type 0
 CrowdsRoot key = (bare : Keys) × BuildsRoot bare (bare_of key) × AreWhole bare × CrowdsValues bare [] key.time key.values
 
--- for a key right below the one at a path: its key node, list and descriptor; or its class; or one of its values
+-- for a key right below the one at a path: its key node, list and descriptor; or, once these are there, its class; or its values
 abbrev pub CrowdsBelow : Keys → Path → Rec → Type 0
 CrowdsBelow keys above key =
-    (LacksKeyRoom keys above (bare_of key) ⊎ LacksClassRoom keys above (bare_of key))
+    (LacksKeyRoom keys above (bare_of key) ⊎ ((made : Keys) × LacksClassRoom keys made above (bare_of key)))
     ⊎ ((bare : Keys) × BuildsKey keys bare above (bare_of key) × AreWhole bare
     × CrowdsValues bare (child_path above key.name) key.time key.values)
 

@@ -1,18 +1,22 @@
 //! Keys that were read, built in the new tree.
 
-ghost use Rattle.std.specs.Prelude.{◌≡◌, ◌<◌, None, bit_and, ℕ, List, [], length, OnOk, IfOk, IfErr};
+ghost use Rattle.std.specs.Prelude.{◌≡◌, ◌<◌, ◌≤◌, None, bit_and, ℕ, List, [], length, OnOk, IfOk, IfErr};
 ghost use Rattle.std.specs.FinMap.{empty, get, insert};
 ghost use Rattle.reg_names.specs.declared.TheConstants.{PATH_LIMIT};
 ghost use Rattle.reg_heap.specs.declared.limits.TheConstants.{SUBKEYS_LIMIT, VALUES_LIMIT};
 ghost use Rattle.reg_heap.specs.Paths.{Path, Tree as KeyTree, Rec, children_of};
 ghost use Rattle.reg_heap.specs.Edits.{child_path, edited, values_at, with_value};
 ghost use Rattle.reg_heap.specs.Trees.{IsSmallKey, IsSmallValue};
+ghost use Rattle.reg_arena.specs.declared.TheConstants.{CARVE_LIMIT};
 ghost use Rattle.reg_shape.specs.Spelt.{marks_of};
+ghost use Rattle.reg_values.specs.NewValues.{all_told, all_value_sizes};
 ghost use Rattle.reg_tree.specs.BuiltKeys.{built_key};
+ghost use Rattle.reg_tree.specs.CellSizes.{LacksRoom};
 ghost use Rattle.reg_tree.specs.TreeKeys.{IsAt, IsThere, KeepsNodes};
 ghost use Rattle.reg_image.specs.Internal.NamedRecords.{member_in, members_in};
 ghost use Rattle.reg_image.specs.Internal.FitKeys.{IsFitName, IsOther, AreFit, AreFitParts};
-ghost use Rattle.reg_image.specs.CrowdedBins.{BuildsFirst, BuildsOne, CrowdsBelow, CrowdsRoot, CrowdsValues, LacksValueRoom, PutsEach, PutsValue};
+ghost use Rattle.reg_image.specs.CrowdedBins.{BuildsFirst, BuildsOne, CrowdsBelow, CrowdsRoot};
+ghost use Rattle.reg_image.specs.CrowdedBins.{bytes_taken, CrowdsEach, CrowdsValues, LacksValueRoom, PutsAll, PutsEach, PutsValue, PutsValues};
 ghost use Rattle.reg_image.specs.Internal.BegunKeys.{IsBare, IsLack, lack_of, told_as};
 
 use crate::LoadFault;
@@ -20,8 +24,9 @@ use crate::key_parts::KeyParts;
 use crate::keys::NamedKey;
 use crate::values::ReadValue;
 use reg_arena::ArenaFault;
-use reg_tree::{NewKey, Node, Tree};
-use std::alloc::Global;
+use reg_tree::{NewKey, NewValue, Node, Tree};
+use reg_values::fit_one_carve;
+use std::alloc::{AllocError, Global};
 
 /// What was lacking.
 fn lack(fault: ArenaFault) -> LoadFault
@@ -87,7 +92,7 @@ fn put_value(
         time,
     ) {
         Ok(()) => {
-            // Only for its clause `whole`.
+            // Only for its clauses `whole` and `sound`.
             let _ = tree.arena();
             Ok(())
         }
@@ -95,8 +100,8 @@ fn put_value(
     }
 }
 
-/// Puts the values of a key that was built with none, in their order. The key keeps its time, which is given.
-fn put_values(
+/// Puts the values of a key that was built with none, in their order, one behind the other. The key keeps its time, which is given.
+fn put_each(
     alloc: Global,
     tree: &mut Tree,
     node: Node,
@@ -109,12 +114,85 @@ fn put_values(
         r.values ≡ [] → r.time ≡ time → OnOk result (tree.new.tree ≡ insert base p (record r { values = members_in values.now })) }
     ensures nodes { OnOk result (KeepsNodes tree.old tree.new) }
     ensures puts { (p : Path) → IsAt tree.old p node → OnOk result (PutsEach p time (members_in values.now) tree.old tree.new) }
-    ensures err { (p : Path) → IsAt tree.old p node → IfErr result (IsLack (CrowdsValues tree.old p time (members_in values.now))) }
+    ensures err { (p : Path) → IsAt tree.old p node → IfErr result (IsLack (CrowdsEach tree.old p time (members_in values.now))) }
 {
     for value in values {
         put_value(alloc, tree, node, value, time)?;
     }
     Ok(())
+}
+
+/// Puts values as all that a key has that was built with none, in their order, all at once. The key keeps its time, which is given.
+fn put_all(
+    alloc: Global,
+    tree: &mut Tree,
+    node: Node,
+    values: &[NewValue<'_>],
+    time: u64,
+) -> Result<(), LoadFault>
+    requires values { AreFit (all_told values.now) }
+    requires fits { bytes_taken (all_told values.now) ≤ CARVE_LIMIT }
+    requires bare { IsBare tree.old node time }
+    ensures ok { (p : Path) → IsAt tree.old p node → (base : KeyTree) → (r : Rec) → tree.old.tree ≡ insert base p r →
+        r.values ≡ [] → r.time ≡ time → OnOk result (tree.new.tree ≡ insert base p (record r { values = all_told values.now })) }
+    ensures nodes { OnOk result (KeepsNodes tree.old tree.new) }
+    ensures puts { (p : Path) → IsAt tree.old p node → OnOk result (PutsAll tree.old tree.new p time (all_told values.now)) }
+    ensures err { IfErr result (IsLack (LacksRoom tree.old.bins (all_value_sizes (all_told values.now)))) }
+{
+    // Only for its clause `one_path`: the node is that of one key.
+    let _ = tree.root();
+    match tree.build_values(alloc, node, values, time) {
+        Ok(()) => {
+            // Only for its clauses `whole` and `sound`.
+            let _ = tree.arena();
+            Ok(())
+        }
+        Err(fault) => Err(lack(fault)),
+    }
+}
+
+/// Values that were read, as they are to be built.
+fn new_values<'a>(alloc: Global, values: &'a [ReadValue]) -> Result<Vec<NewValue<'a>>, AllocError>
+    ensures { IfOk result (λ told. all_told told.items ≡ members_in values.now) }
+{
+    let mut told = Vec::with_capacity(alloc, values.len())?;
+    for value in values {
+        told.push(NewValue {
+            name: value.name.as_slice(),
+            kind: value.kind,
+            bytes: value.bytes.as_slice(),
+        })?;
+    }
+    Ok(told)
+}
+
+/// Puts the values of a key that was built with none, in their order: all at once where one carve may take their cells, and else one
+/// behind the other. The key keeps its time, which is given.
+fn put_values(
+    alloc: Global,
+    tree: &mut Tree,
+    node: Node,
+    values: &[ReadValue],
+    time: u64,
+) -> Result<(), LoadFault>
+    requires values { AreFit (members_in values.now) }
+    requires bare { IsBare tree.old node time }
+    ensures ok { (p : Path) → IsAt tree.old p node → (base : KeyTree) → (r : Rec) → tree.old.tree ≡ insert base p r →
+        r.values ≡ [] → r.time ≡ time → OnOk result (tree.new.tree ≡ insert base p (record r { values = members_in values.now })) }
+    ensures nodes { OnOk result (KeepsNodes tree.old tree.new) }
+    ensures puts { (p : Path) → IsAt tree.old p node → OnOk result (PutsValues p time (members_in values.now) tree.old tree.new) }
+    ensures err { (p : Path) → IsAt tree.old p node → IfErr result (IsLack (CrowdsValues tree.old p time (members_in values.now))) }
+{
+    if values.is_empty() {
+        return Ok(());
+    }
+    let Ok(told) = new_values(alloc, values) else {
+        return Err(LoadFault::Memory);
+    };
+    if fit_one_carve(told.as_slice()) {
+        return put_all(alloc, tree, node, told.as_slice(), time);
+    }
+    put_each(alloc, tree, node, values, time)
 }
 
 /// Builds a tree of a root that was read.
@@ -133,7 +211,7 @@ pub fn build_root(
         return Err(LoadFault::Memory);
     };
     let root = tree.root();
-    // Only for its clause `whole`.
+    // Only for its clauses `whole` and `sound`.
     let _ = tree.arena();
     put_values(
         alloc,
@@ -169,7 +247,7 @@ pub fn build_below(
     let time = named.node.fields.time;
     match tree.build_key(alloc, above, new_key(named, parts)) {
         Ok(node) => {
-            // Only for its clause `whole`.
+            // Only for its clauses `whole` and `sound`.
             let _ = tree.arena();
             put_values(alloc, tree, node, parts.values.as_slice(), time)?;
             Ok(node)

@@ -65,9 +65,12 @@ fn build_tree(alloc: Global, bins: &[u8], block: BaseBlock) -> Result<Tree, Load
 /// base block or its bins do, `Read` where a read fails: one that is interrupted fails too. Of the base block `Signature`,
 /// `Version`, `Checksum`, `Dirty`, `Bins` and `Limit`; of the bins, once all are read, `Bins` where the header of one is bad, else
 /// `Cells` where a cell's size is; of the keys, as they are met from the root on, `Record`, `Loop`, `Twice`, `NotInProfile` and
-/// `Limit`. `Limit` comes else only where the new bins lack space: for the next key, its class or its next value no free cell has
-/// room, and with a bin more they would pass 268,435,456 bytes; the walk met no fault up to there.
-/// `Memory` may come as soon as the base block passed.
+/// `Limit`. `Limit` comes else only where new bins have no room for a key that is met before any fault: bins that came about by
+/// building the keys met before it one after the other, each with just the cells that it takes, and grew only where no free cell
+/// had room. They have none for its key node with its descriptor and its place in a list, or then none for its class, or then none
+/// for its values: for all of them together, or where these have cells of more than 16,777,216 bytes, for one of them behind those
+/// before it. No room is that no free cell has room for all cells of one of these, and that with a bin more for them the bins would
+/// pass 268,435,456 bytes. `Memory` may come as soon as the base block passed.
 pub fn load<R: Read>(alloc: Global, input: &mut R) -> Result<Hive, LoadFault>
     ensures ok { IfOk result (λ hive. (image : List ℕ) × Consumes (R.remaining input.old) (R.remaining input.new) image
         × IsLoaded image (view_of hive)) }

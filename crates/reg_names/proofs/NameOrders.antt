@@ -1,10 +1,12 @@
 -- Two names compared byte by byte.
 use Rattle.std.proofs.Common.{IsTrue, ◌≡◌, ◌≢◌, ℕ, zero, suc, ◌+◌, ◌-◌, ◌≤◌, ◌<◌, Bool, true, false, List, [], ◌∷◌, length, drop, get_or, sym, ap, ◌∙◌, refl, arith, map, cond, ◌⊎◌, inl, inr}
-use Rattle.std.proofs.Common.{length-drop, min}
+use Rattle.std.proofs.Common.{length-drop, min, take}
+use Rattle.std.proofs.Math.Seq.{take-add}
 use Rattle.std.specs.Ordering.{nat_cmp, is_eq}
 use Rattle.std.specs.declared.cmp.Ordering.{Ordering}
 use Rattle.std.specs.declared.cmp.Ordering.TheVariants.{Less, Equal, Greater}
 use Rattle.std.specs.Cmp.Lexicographic.{slice_cmp}
+use Rattle.std.specs.Str.{bytes_eq}
 use Rattle.std.proofs.lemmas.Map.Text.{is_eq-slice_cmp}
 use Rattle.std.proofs.lemmas.Slice.Eq.{bytes_eq-Decides}
 use Rattle.std.proofs.lemmas.Bool.Decides.{nat_tests}
@@ -54,3 +56,33 @@ differ xs ys o e h = (λ f. absurd (unlike f), λ s. sym (is_other h) ∙ (ap is
     is_other : (o ≡ Less) ⊎ (o ≡ Greater) → is_eq o ≡ false
     is_other (inl l) = ap is_eq l
     is_other (inr g) = ap is_eq g
+
+-- a front that two names have alike, and a step more of it
+pub one_step : (front step : ℕ) (a b : List ℕ) → take front a ≡ take front b →
+    take step (drop front a) ≡ take step (drop front b) → take (front + step) a ≡ take (front + step) b
+one_step front step a b e f = rw (take-add front step a, take-add front step b, e, f) refl
+
+-- the test of a step, as the code has it
+pub step_alike : (front step : ℕ) (a b : List ℕ) (test : Bool) →
+    test ≡ bytes_eq (take (front + step - front) (drop front a)) (take (front + step - front) (drop front b)) → test ≡ true →
+    take step (drop front a) ≡ take step (drop front b)
+step_alike front step a b test h e =
+    let same : front + step - front ≡ step = omega arith in
+    let P : ℕ → Type 0 = λ n. take n (drop front a) ≡ take n (drop front b) in
+    Rattle.std.proofs.Common.subst P same
+    ((bytes_eq-Decides (take (front + step - front) (drop front a)) (take (front + step - front) (drop front b))).0 (sym h ∙ e))
+
+-- letters that are alike don't decide
+alike_heads : (x y : ℕ) (a b : List ℕ) → x ≡ y → name_cmp (x ∷ a) (y ∷ b) ≡ name_cmp a b
+alike_heads x y a b e = rw e (grind (arith, nat_tests))
+
+-- what two names have alike at the front doesn't decide
+pub after_front : (n : ℕ) (a b : List ℕ) → n ≤ length a → n ≤ length b → take n a ≡ take n b →
+    name_cmp a b ≡ name_cmp (drop n a) (drop n b)
+after_front zero a b l k e = refl
+after_front (suc n) [] b l k e = absurd (omega (arith, l))
+after_front (suc n) (x ∷ a) [] l k e = absurd (omega (arith, k))
+after_front (suc n) (x ∷ a) (y ∷ b) l k e =
+    let heads : x ≡ y = ap (λ xs. get_or xs 0 0) e in
+    let rests : take n a ≡ take n b = ap (drop 1) e in
+    alike_heads x y a b heads ∙ after_front n a b (omega (arith, l)) (omega (arith, k)) rests

@@ -1,11 +1,11 @@
 //! Cells carved and freed, bins appended, and the limit of all bins. The wanted bytes come from the format's description.
 //! Whoever owns an arena does nothing but hand it on: a function is the longer to check the more it does while it owns one.
-ghost use Rattle.std.specs.Prelude.{◌≡◌, ◌-◌, ◌≤◌, ◌%◌, replicate, true, Some, IsSome, IfOk, List, ℕ};
+ghost use Rattle.std.specs.Prelude.{◌≡◌, ◌-◌, ◌≤◌, ◌%◌, replicate, true, Some, IsSome, IfOk};
 ghost use Rattle.reg_arena.specs.Arena.{heap_of};
-ghost use Rattle.reg_arena.specs.Cells.{cells_of, cell_at};
 
 use crate::support::{assert_same, assert_told};
-use reg_arena::{Arena, ArenaFault, Cell, list_of};
+use reg_arena::{Arena, ArenaFault, list_of};
+use reg_fixtures::is_among;
 use std::alloc::Global;
 use std::test::Fail;
 
@@ -30,18 +30,6 @@ pub fn carved(alloc: Global, arena: &mut Arena, size: u32) -> Result<u32, Fail>
     let mut offsets = Vec::new(alloc);
     arena.carve(&[size], &mut offsets)?;
     Ok(offsets[0])
-}
-
-// Whether one of these cells is allocated and stands at an offset.
-pub fn is_among(cells: &[Cell], offset: u32) -> bool
-    ensures { (bytes : List ℕ) → cells_of bytes ≡ Some cells.now → result ≡ true → IsSome (cell_at bytes offset) }
-{
-    for cell in cells {
-        if cell.offset == offset && cell.allocated {
-            return true;
-        }
-    }
-    false
 }
 
 // Whether an allocated cell stands at an offset.

@@ -1,8 +1,11 @@
 //! The words that faults are told in, which no clause says.
 use crate::support::assert_told;
-use reg_calls::NewFault;
+use reg_arena::ArenaFault;
+use reg_calls::{NewFault, RunFault};
 use reg_dump::DumpFault;
 use reg_image::{ImageFault, LoadFault, WriteFault};
+use reg_names::NameFault;
+use reg_records::RecordFault;
 use reg_script::ScriptFault;
 use reg_tree::TreeFault;
 use std::alloc::Global;
@@ -103,4 +106,66 @@ a read failed, a line is too long, or there are too many, no memory
 there is no value of that name, the key has subkeys, the key may not be deleted
 the root's name is no key name, the descriptor is empty or too long, no memory";
     assert_told(&rt, other_texts(rt.alloc()), wanted)
+}
+
+/// The faults of trees that grow, and of their arenas.
+fn growth_texts(alloc: Global) -> Result<String, Fail> {
+    let tree = format!(in alloc;
+        "{}, {}, {}",
+        TreeFault::Limit,
+        TreeFault::Full,
+        TreeFault::Memory
+    )?;
+    let arena = format!(in alloc; "{}, {}", ArenaFault::Full, ArenaFault::Memory)?;
+    Ok(format!(in alloc;
+        "{}\n{}\n{}",
+        tree.as_str(),
+        arena.as_str(),
+        RunFault::Memory
+    )?)
+}
+
+#[test]
+fn faults_of_growing(rt: HostRuntime) -> Result<(), Fail> {
+    let wanted = "\
+there would be too many keys or values, the bins have no room, no memory
+the bins have no room, no memory
+no memory for the outcomes";
+    assert_told(&rt, growth_texts(rt.alloc()), wanted)
+}
+
+/// The faults of names and paths.
+fn name_texts(alloc: Global) -> Result<String, Fail> {
+    Ok(format!(in alloc;
+        "{}, {}, {}, {}",
+        NameFault::Empty,
+        NameFault::BadByte,
+        NameFault::NameTooLong,
+        NameFault::TooManyLevels
+    )?)
+}
+
+#[test]
+fn faults_of_names(rt: HostRuntime) -> Result<(), Fail> {
+    let wanted =
+        "the name is empty, the name has a byte that names may not have, the name is too long, the path has too many names";
+    assert_told(&rt, name_texts(rt.alloc()), wanted)
+}
+
+/// The faults of records.
+fn record_texts(alloc: Global) -> Result<String, Fail> {
+    Ok(format!(in alloc;
+        "{}, {}, {}, {}",
+        RecordFault::Short,
+        RecordFault::Signature,
+        RecordFault::Length,
+        RecordFault::NotInProfile
+    )?)
+}
+
+#[test]
+fn faults_of_records(rt: HostRuntime) -> Result<(), Fail> {
+    let wanted = "the cell is too short for the record, the record has another signature, \
+a length in the record passes the end of its cell, the key node has a flag that is not supported";
+    assert_told(&rt, record_texts(rt.alloc()), wanted)
 }

@@ -1,8 +1,8 @@
 //! Many subkeys of one key, in lists under an index root: which lists there are, and what each change makes of them. The lists are
 //! read off the bins, and the wanted ones follow from the rule that a list of 501 gives way to its first 250 and its last 251.
-use crate::bins::{SubkeyLists, allocated, sizes_but, subkeys};
 use crate::keys::{at, make_below, tell_names, tree, unmake};
 use crate::support::assert_told;
+use reg_fixtures::{SubkeyLists, allocated, sizes_but, subkeys};
 use reg_tree::Tree;
 use std::alloc::Global;
 use std::test::Fail;

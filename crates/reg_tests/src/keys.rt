@@ -3,7 +3,8 @@
 ghost use Rattle.std.specs.Prelude.{IfSome, ◌≤◌, ◌<◌, length};
 ghost use Rattle.reg_tree.specs.TreeKeys.{IsThere};
 
-use crate::support::{assert_same, assert_told, deep};
+use crate::support::{assert_same, assert_told};
+use reg_fixtures::deep;
 use reg_names::{check_path, check_value_name};
 use reg_tree::{Node, Tree, TreeFault};
 use std::alloc::Global;

@@ -1,5 +1,6 @@
 //! Paths worked out by hand, and what the faults say.
-use crate::support::{assert_told, deep};
+use crate::support::assert_told;
+use reg_fixtures::deep;
 use reg_names::{check_path, join_paths};
 use std::alloc::Global;
 use std::test::Fail;

@@ -3,3 +3,5 @@ pub mod ValueExchange
 pub mod LargestLengths
 pub mod TreeAfterValueChange
 pub mod ValueAtPlace
+pub mod ValuesBuilt
+pub mod ValueCells

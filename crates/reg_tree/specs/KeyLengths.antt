@@ -2,7 +2,7 @@
 use Rattle.std.specs.Prelude.{◌≡◌, ◌≢◌, ℕ, ◌+◌, ◌-◌, ◌*◌, ◌%◌, max, Option, Some, option_map, List, [], ◌∷◌, ◌++◌, map, length}
 use Rattle.reg_names.specs.Names.{folded}
 use Rattle.reg_heap.specs.Heaps.{Heap}
-use Rattle.reg_heap.specs.Paths.{Path}
+use Rattle.reg_heap.specs.Paths.{Path, Member}
 use Rattle.reg_arena.specs.Arena.{heap_of}
 use Rattle.reg_records.specs.KeyNodes.{KeyRecord, key_at}
 use Rattle.reg_tree.specs.declared.node.Node.{Node}
@@ -35,6 +35,15 @@ lengths_at heap offset = option_map lengths_of (key_at heap offset)
 abbrev pub with_value_lengths : ℕ → ℕ → Lengths → Lengths
 with_value_lengths name size lengths =
     record lengths { value_name = max lengths.value_name (2 * name); value_data = max lengths.value_data size }
+
+-- the largest of some lengths of values, 0 where there are none
+abbrev pub largest : (Member → ℕ) → List Member → ℕ
+largest size [] = 0
+largest size (m ∷ members) = max (size m) (largest size members)
+
+-- the larger of what is noted and what several values have
+abbrev pub with_lengths_of : List Member → Lengths → Lengths
+with_lengths_of members lengths = with_value_lengths (largest (λ m. length m.name) members) (largest (λ m. length m.bytes) members) lengths
 
 -- a length in the low 16 bits of a number raised, where another is greater; the high bits stay
 abbrev pub raised : ℕ → ℕ → ℕ

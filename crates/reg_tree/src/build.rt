@@ -13,7 +13,7 @@ ghost use Rattle.reg_arena.specs.Arena.{heap_of};
 ghost use Rattle.reg_arena.specs.Cells.{cells_of};
 ghost use Rattle.reg_arena.specs.EachCell.{GrowsFor};
 ghost use Rattle.reg_records.specs.KeyNodes.{KeyRecord, key_at};
-ghost use Rattle.reg_values.specs.ValueLists.{Makes};
+ghost use Rattle.reg_values.specs.ValueLists.{KeepsSizes, Makes};
 ghost use Rattle.reg_tree.specs.BuiltKeys.{MayBuild, BuildsKey, LacksClassRoom, LacksKeyRoom, built_key, class_sizes};
 ghost use Rattle.reg_tree.specs.CellSizes.{LacksRoom};
 ghost use Rattle.reg_tree.specs.TreeKeys.{tree_in};
@@ -181,6 +181,7 @@ pub fn dress(
     ensures ok { (t : IsHere arena.old.bytes key) → MayHaveClass (heap_of arena.old) t.root t.path (length class.now) →
         OnOk result (IsChanged arena.old.bytes arena.new.bytes t.root t.table t.path (marked marks class.now)) }
     ensures cells { OnOk result (Makes (heap_of arena.old) (heap_of arena.new) (class_sizes class.now)) }
+    ensures stay { OnOk result (KeepsSizes (heap_of arena.old) (heap_of arena.new)) }
     ensures growth { OnOk result (GrowsFor arena.old.bytes arena.new.bytes (class_sizes class.now)) }
     ensures space { IfErr result (λ fault. fault ≡ ArenaFault.Full → LacksRoom arena.old (class_sizes class.now)) }
     ensures full { (result ≡ Err ArenaFault.Full) → BINS_LIMIT < length arena.old.bytes + GROWTH_BOUND }
@@ -255,7 +256,8 @@ pub fn build_below(
     ensures space { (t : IsHere arena.old.bytes parent.offset) → t.table ≡ securities.old → parent.depth ≡ length t.path →
         MayBuild (tree_in arena.old.bytes t.root) t.path key.entry.name.now → IfErr result (λ fault. fault ≡ ArenaFault.Full →
         LacksKeyRoom (record { bins = arena.old; root = t.root; tree = tree_in arena.old.bytes t.root }) t.path (built_key key.entry)
-        ⊎ LacksClassRoom (record { bins = arena.old; root = t.root; tree = tree_in arena.old.bytes t.root }) t.path (built_key key.entry)) }
+        ⊎ LacksClassRoom (record { bins = arena.old; root = t.root; tree = tree_in arena.old.bytes t.root })
+        (record { bins = arena.new; root = t.root; tree = tree_in arena.new.bytes t.root }) t.path (built_key key.entry)) }
     ensures err { (t : IsHere arena.old.bytes parent.offset) → t.table ≡ securities.old → parent.depth ≡ length t.path →
         OnErr result (TreeInvariant arena.new.bytes t.root securities.new) }
     ensures full { (result ≡ Err ArenaFault.Full) → BINS_LIMIT < length arena.old.bytes + 2 * GROWTH_BOUND }
@@ -268,6 +270,8 @@ pub fn build_below(
         Err(fault) => return Err(fault),
     };
     retime(arena, parent.offset, key.class.len() as u32, time);
+    // Every arena is sound, as this call's contract says, so that of the key made so far as well.
+    prove!(arena.bins_size() % 4096 == 0);
     match dress(alloc, arena, node.offset, key.name, key.marks, key.class) {
         Ok(()) => Ok(node),
         Err(fault) => Err(fault),

@@ -5,13 +5,14 @@
 //! nobody speaks of a cell, save who reads the bytes by [`Tree::arena`].
 //!
 //! It stands on reg_values and reg_index for a key's lists, and on reg_shape for what a whole hive is. Its types are [`Tree`], which
-//! owns its arena; [`Node`], a key of it; [`NewKey`], one to be built; [`Subkey`], one of those below a key, with its place;
-//! [`Reached`], how far a path leads; [`ValueFound`] and [`TreeFault`].
+//! owns its arena; [`Node`], a key of it; [`NewKey`], one to be built, and [`NewValue`], a value to be built; [`Subkey`], one of those
+//! below a key, with its place; [`Reached`], how far a path leads; [`ValueFound`] and [`TreeFault`].
 //!
 //! Win32 registry reference, "Structure of the Registry"; Suhanov, Windows registry file format specification.
 #![tactic(auto)]
 
 mod build;
+mod build_values;
 mod cells;
 mod fault;
 mod find;
@@ -30,6 +31,6 @@ pub use build::NewKey;
 pub use fault::TreeFault;
 pub use node::{Created, Node, Reached, Subkey};
 pub use reg_index::Place;
-pub use reg_values::Value;
+pub use reg_values::{NewValue, Value};
 pub use tree::Tree;
 pub use value::ValueFound;

@@ -15,7 +15,7 @@ ghost use Rattle.reg_records.specs.RecordCells.{HasRoom};
 ghost use Rattle.reg_records.specs.KeyNodes.{KeyRecord, key_at};
 ghost use Rattle.reg_index.specs.declared.Place.{Place};
 ghost use Rattle.reg_index.specs.Subkeys.{IsReady, KeepsCells, each_of, own, taken};
-ghost use Rattle.reg_values.specs.ValueLists.{Makes};
+ghost use Rattle.reg_values.specs.ValueLists.{KeepsSizes, Makes};
 ghost use Rattle.reg_tree.specs.TreeKeys.{tree_in};
 ghost use Rattle.reg_tree.specs.CellSizes.{BelongsThere, create_sizes, first_cells, made_sizes, own_sizes, planned, planned_sizes, sizes_of, LacksRoom};
 ghost use Rattle.reg_tree.specs.Internal.KeyNodeChanges.{LeavesOthers};
@@ -346,6 +346,7 @@ fn make_sharing(
         reached.entry.place)) }
     ensures err { OnErr result (arena.new ≡ arena.old) }
     ensures grows { OnOk result (length arena.new.bytes ≤ length arena.old.bytes + GROWTH_BOUND) }
+    ensures stay { OnOk result (KeepsSizes (heap_of arena.old) (heap_of arena.new)) }
     ensures growth { (from : Node) → (path : List ℕ) → (l : LeadsTo arena.old.bytes from path reached.entry.node reached.entry.missing.now) →
         OnOk result (GrowsFor arena.old.bytes arena.new.bytes (made_sizes
         (record { bins = arena.old; root = l.here.root; tree = tree_in arena.old.bytes l.here.root }) l.here.path (path_of path)
@@ -400,6 +401,7 @@ fn make_described(
         reached.entry.place (Some descriptor.now))) }
     ensures err { OnErr result (arena.new ≡ arena.old) }
     ensures grows { OnOk result (length arena.new.bytes ≤ length arena.old.bytes + GROWTH_BOUND) }
+    ensures stay { OnOk result (KeepsSizes (heap_of arena.old) (heap_of arena.new)) }
     ensures growth { (from : Node) → (path : List ℕ) → (l : LeadsTo arena.old.bytes from path reached.entry.node reached.entry.missing.now) →
         l.here.table ≡ securities.old → OnOk result (GrowsFor arena.old.bytes arena.new.bytes (create_sizes
         (record { bins = arena.old; root = l.here.root; tree = tree_in arena.old.bytes l.here.root }) l.here.path (path_of path)
@@ -464,6 +466,7 @@ pub fn create_at(
         reached.entry.place (option_map (λ descriptor. descriptor.now) given.entry))) }
     ensures err { OnErr result (arena.new ≡ arena.old) }
     ensures grows { OnOk result (length arena.new.bytes ≤ length arena.old.bytes + GROWTH_BOUND) }
+    ensures stay { OnOk result (KeepsSizes (heap_of arena.old) (heap_of arena.new)) }
     ensures growth { (from : Node) → (path : List ℕ) → (l : LeadsTo arena.old.bytes from path reached.entry.node reached.entry.missing.now) →
         l.here.table ≡ securities.old → OnOk result (GrowsFor arena.old.bytes arena.new.bytes (create_sizes
         (record { bins = arena.old; root = l.here.root; tree = tree_in arena.old.bytes l.here.root }) l.here.path (path_of path)

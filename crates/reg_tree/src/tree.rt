@@ -10,15 +10,16 @@ ghost use Rattle.reg_heap.specs.Trees.{IsTree, IsWithinLimits, IsSmallKey};
 ghost use Rattle.reg_heap.specs.Edits.{edited, with_descriptor, with_value, without_value, values_at, folded_path, are_too_many, without_key, IsKept};
 ghost use Rattle.reg_heap.specs.Edits.{child_path, may_not_go, missing, last_there, is_within, is_under, without_tree, emptied, any_kept_within, any_kept_under};
 ghost use Rattle.reg_arena.specs.Arena.{IsSound, heap_of};
+ghost use Rattle.reg_arena.specs.declared.TheConstants.{CARVE_LIMIT};
 ghost use Rattle.reg_arena.specs.NewBin.{IsBinSize};
-ghost use Rattle.reg_arena.specs.NewCells.{cell_size as cell_size_of};
+ghost use Rattle.reg_arena.specs.NewCells.{cell_size as cell_size_of, total_of};
 ghost use Rattle.reg_values.specs.ValueLists.{Makes, Tells};
 
 use crate::cells::carve_two;
 use crate::key::new_root;
 use crate::{
-    Created, NewKey, Node, Reached, Subkey, TreeFault, ValueFound, build, find, make, prune, read,
-    security, unmake, values,
+    Created, NewKey, NewValue, Node, Reached, Subkey, TreeFault, ValueFound, build, build_values,
+    find, make, prune, read, security, unmake, values,
 };
 use reg_arena::{Arena, ArenaFault, cell_size};
 use reg_records::put_nk;
@@ -53,11 +54,12 @@ impl Tree {
     ghost use Rattle.reg_index.specs.declared.Place.{Place};
     ghost use Rattle.reg_tree.specs.CellSizes.{BelongsThere, create_sizes, security_sizes, value_sizes, LacksRoom};
     ghost use Rattle.reg_tree.specs.NewHive.{IsNewHive};
-    ghost use Rattle.reg_tree.specs.KeyLengths.{ChangesLengths, KeepsLengths, NotesMade, lengths_at, no_lengths, with_value_lengths, with_first_length};
+    ghost use Rattle.reg_tree.specs.KeyLengths.{ChangesLengths, KeepsLengths, NotesMade, lengths_at, no_lengths, with_value_lengths, with_lengths_of, with_first_length};
     ghost use Rattle.reg_tree.specs.ValueAnswers.{IsFound, without_value_at};
     ghost use Rattle.reg_tree.specs.Reaching.{IsWalkedTo};
     ghost use Rattle.reg_tree.specs.SubkeyWalk.{IsSubkeyAt};
-    ghost use Rattle.reg_tree.specs.BuiltKeys.{MayBuild, built_key, class_sizes, Grows, TakesCells, BuildsRoot, BuildsKey, LacksKeyRoom, LacksClassRoom};
+    ghost use Rattle.reg_tree.specs.BuiltKeys.{MayBuild, built_key, with_values, class_sizes, TakesCells, BuildsRoot, BuildsKey, LacksKeyRoom, LacksClassRoom};
+    ghost use Rattle.reg_values.specs.NewValues.{all_told, all_value_sizes, MayFollow};
 
     /// A tree of one root: the name as given, mark 8 (no delete), no class, the descriptor, the moment (100 ns ticks since
     /// 1601), no values; its four largest lengths are 0. Its bins are one, of the least size for the key node and its security,
@@ -125,6 +127,7 @@ impl Tree {
         requires key { IsSmallKey (built_key key) }
         ensures ok { OnOk result (self.new.tree ≡ insert empty [] (built_key key.entry)) }
         ensures takes { OnOk result (TakesCells self.old self.new (class_sizes key.entry.class.now)) }
+        ensures root { self.new.root ≡ self.old.root }
         ensures full { (result ≡ Err ArenaFault.Full) → BINS_LIMIT < length self.old.bins.bytes + GROWTH_BOUND }
     {
         build::dress(
@@ -378,9 +381,9 @@ impl Tree {
     /// place and its first spelling; without a place, a new one goes to the end, for which there must be room below 16,384 values.
     /// After a fault the tree is as before.
     ///
-    /// The cells that come are those of its list and its data, where they need some, each of its size. `Full` only where no free
-    /// cell has room for all of them together and one bin more for them would pass the limit of 268,435,456 bytes; `Memory`. The
-    /// bins grow by at most 1,310,720 bytes.
+    /// The cells that come are those of its list and its data, where they need some, each of its size; each that stays keeps its
+    /// size, and the root its place. `Full` only where no free cell has room for all of them together and one bin more for them would
+    /// pass the limit of 268,435,456 bytes; `Memory`. The bins grow by at most 1,310,720 bytes, and only where no free cell has room.
     pub fn set_at(
         &mut self,
         alloc: Global,
@@ -397,10 +400,9 @@ impl Tree {
         requires name { is_value_name name.now ≡ true }
         requires bytes { length bytes.now ≤ DATA_LIMIT }
         ensures ok { (p : Path) → IsAt self.old p node → OnOk result (self.new.tree ≡ edited self.old.tree p (with_value name.now kind bytes.now moment)) }
-        ensures cells { OnOk result (Makes (heap_of self.old.bins) (heap_of self.new.bins)
+        ensures takes { OnOk result (TakesCells self.old self.new
             (value_sizes (heap_of self.old.bins) node.offset name.now (length bytes.now))) }
-        ensures growth { OnOk result (Grows self.old.bins self.new.bins
-            (value_sizes (heap_of self.old.bins) node.offset name.now (length bytes.now))) }
+        ensures root { OnOk result (self.new.root ≡ self.old.root) }
         ensures nodes { OnOk result (KeepsNodes self.old self.new) }
         ensures lengths { (p : Path) → IsAt self.old p node →
             OnOk result (ChangesLengths self.old self.new p (with_value_lengths (length name.now) (length bytes.now))) }
@@ -710,7 +712,8 @@ impl Tree {
     }
 
     /// Builds a key right below another that has none of its name, as it is told: with its name, marks, class, descriptor and time,
-    /// and no values. No other key's time changes. After a fault nothing is said of the tree but that it is one; it is to be dropped.
+    /// and no values. No other key's time changes. After a fault nothing is said of the tree but that it is one, and that it has the key
+    /// without marks and class where there is no room for the class's cell alone; it is to be dropped.
     ///
     /// First the cells come of a key that is made at its place with its descriptor, and then its class's. `Full` only where the bins
     /// lack room for those or, once they are there, for the class's: no free cell has room for all of them, and one bin more would
@@ -730,12 +733,48 @@ impl Tree {
             × IsAt self.new (child_path p key.entry.name.now) node) }
         ensures builds { (p : Path) → IsAt self.old p parent → OnOk result (BuildsKey self.old self.new p (built_key key.entry)) }
         ensures space { (p : Path) → IsAt self.old p parent → (result ≡ Err ArenaFault.Full) →
-            LacksKeyRoom self.old p (built_key key.entry) ⊎ LacksClassRoom self.old p (built_key key.entry) }
+            LacksKeyRoom self.old p (built_key key.entry) ⊎ LacksClassRoom self.old self.new p (built_key key.entry) }
         ensures nodes { OnOk result (KeepsNodes self.old self.new) }
         ensures full { (result ≡ Err ArenaFault.Full) → BINS_LIMIT < length self.old.bins.bytes + 2 * GROWTH_BOUND }
         ensures grows { length self.new.bins.bytes ≤ length self.old.bins.bytes + 2 * GROWTH_BOUND }
         ensures kept { length self.old.bins.bytes ≤ length self.new.bins.bytes }
     {
         build::build_below(alloc, &mut self.arena, &mut self.securities, parent, key)
+    }
+
+    /// Puts values as all that a key has that has none, in their order, and gives the key a time; no other key's changes. Each is
+    /// within the limits, no two names are the same after folding, and their cells have at most 16,777,216 bytes together, as
+    /// `reg_values::fit_one_carve` tells. After a fault the tree is as before.
+    ///
+    /// The cells that come are the list's, with room for just these values, and those of each value's record and data: none where
+    /// there are no values; each other cell keeps its size, and the root its place. `Full` only where no free cell has room for all of
+    /// them together and one bin more for them would pass the limit of 268,435,456 bytes; `Memory`. The bins grow only where no free
+    /// cell has room for them, and by no more than one bin for them.
+    pub fn build_values(
+        &mut self,
+        alloc: Global,
+        node: Node,
+        values: &[NewValue<'_>],
+        moment: u64,
+    ) -> Result<(), ArenaFault>
+        requires node { IsThere self.old node }
+        requires bare { (p : Path) → IsAt self.old p node → values_at self.old.tree p ≡ [] }
+        requires few { length values.now ≤ VALUES_LIMIT }
+        requires new { MayFollow [] (all_told values.now) }
+        requires fits { total_of (all_value_sizes (all_told values.now)) ≤ CARVE_LIMIT }
+        ensures ok { (p : Path) → IsAt self.old p node →
+            OnOk result (self.new.tree ≡ edited self.old.tree p (with_values (all_told values.now) moment)) }
+        ensures takes { OnOk result (TakesCells self.old self.new (all_value_sizes (all_told values.now))) }
+        ensures root { OnOk result (self.new.root ≡ self.old.root) }
+        ensures nodes { OnOk result (KeepsNodes self.old self.new) }
+        ensures lengths { (p : Path) → IsAt self.old p node →
+            OnOk result (ChangesLengths self.old self.new p (with_lengths_of (all_told values.now))) }
+        ensures space { result ≡ Err ArenaFault.Full → LacksRoom self.old.bins (all_value_sizes (all_told values.now)) }
+        ensures err { OnErr result (self.new ≡ self.old) }
+        ensures grows { OnOk result (length self.new.bins.bytes ≤
+            length self.old.bins.bytes + 4127 + total_of (all_value_sizes (all_told values.now))) }
+        ensures kept { OnOk result (length self.old.bins.bytes ≤ length self.new.bins.bytes) }
+    {
+        build_values::build(alloc, &mut self.arena, node.offset, values, moment)
     }
 }

@@ -9,7 +9,7 @@ ghost use Rattle.reg_heap.specs.Members.{value_named, index_named};
 ghost use Rattle.reg_heap.specs.Edits.{with_value, without_value, values_at};
 ghost use Rattle.reg_arena.specs.Arena.{heap_of};
 ghost use Rattle.reg_arena.specs.EachCell.{GrowsFor};
-ghost use Rattle.reg_values.specs.ValueLists.{Makes, Tells};
+ghost use Rattle.reg_values.specs.ValueLists.{KeepsSizes, Makes, Tells};
 ghost use Rattle.reg_tree.specs.CellSizes.{value_sizes, LacksRoom};
 ghost use Rattle.reg_tree.specs.TreeKeys.{tree_in};
 ghost use Rattle.reg_tree.specs.Internal.TreeInvariant.{IsHere, IsChanged};
@@ -121,6 +121,7 @@ pub fn set_at(
     ensures ok { (t : IsHere arena.old.bytes key) →
         OnOk result (IsChanged arena.old.bytes arena.new.bytes t.root t.table t.path (with_value name.now kind bytes.now moment)) }
     ensures cells { OnOk result (Makes (heap_of arena.old) (heap_of arena.new) (value_sizes (heap_of arena.old) key name.now (length bytes.now))) }
+    ensures stay { OnOk result (KeepsSizes (heap_of arena.old) (heap_of arena.new)) }
     ensures lengths { (t : IsHere arena.old.bytes key) →
         OnOk result (LengthsChange (heap_of arena.old) (heap_of arena.new) t.root t.path (with_value_lengths (length name.now) (length bytes.now))) }
     ensures full { (result ≡ Err ArenaFault.Full) → BINS_LIMIT < length arena.old.bytes + GROWTH_BOUND }

@@ -1,3 +1,4 @@
 pub mod Internal
 pub mod ValueSizes
 pub mod ValueLists
+pub mod NewValues

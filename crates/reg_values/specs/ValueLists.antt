@@ -51,3 +51,7 @@ pub record Tells (member : Member) (name : List ℕ) (kind size : ℕ) : Type 0 
   pub name_is : name ≡ member.name
   pub kind_is : kind ≡ member.kind
   pub size_is : size ≡ length member.bytes
+
+-- each cell that was there, and still is, holds as many bytes as before
+abbrev pub KeepsSizes : Heap → Heap → Type 0
+KeepsSizes old new = (offset : ℕ) → IsSome (old offset) → IsSome (new offset) → length (held new offset) ≡ length (held old offset)

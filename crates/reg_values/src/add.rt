@@ -15,8 +15,8 @@ ghost use Rattle.reg_arena.specs.EachCell.{GrowsFor};
 ghost use Rattle.reg_arena.specs.NewBin.{PassesLimit};
 ghost use Rattle.reg_records.specs.RecordCells.{HasRoom};
 ghost use Rattle.reg_shape.specs.Nodes.{members_at};
-ghost use Rattle.reg_values.specs.ValueLists.{AreValues, Became, Makes, OfRead};
-ghost use Rattle.reg_values.specs.Internal.ValueListParts.{list_at, Owns, OwnsBeside, BecameList, Fills, HaveRoom, HoldsValue, KeepsSizes};
+ghost use Rattle.reg_values.specs.ValueLists.{AreValues, Became, KeepsSizes, Makes, OfRead};
+ghost use Rattle.reg_values.specs.Internal.ValueListParts.{list_at, Owns, OwnsBeside, BecameList, Fills, HaveRoom, HoldsValue};
 ghost use Rattle.reg_arena.specs.NewCells.{cell_size};
 ghost use Rattle.reg_values.specs.ValueSizes.{data_sizes, sizes_by};
 
@@ -53,7 +53,14 @@ fn flags_of(name: &[u8]) -> u16
 }
 
 /// Writes a value's data and its record into new cells.
-fn put_value(arena: &mut Arena, cell: u32, cells: &[u32], name: &[u8], kind: u32, bytes: &[u8])
+pub(crate) fn put_value(
+    arena: &mut Arena,
+    cell: u32,
+    cells: &[u32],
+    name: &[u8],
+    kind: u32,
+    bytes: &[u8],
+)
     requires name { length name.now ≤ VALUE_NAME_LIMIT }
     requires small { length bytes.now ≤ DATA_LIMIT }
     requires cells { HaveRoom (heap_of arena.old) (cell ∷ cells.now) (cell_size (20 + length name.now) ∷ data_sizes (length bytes.now)) }
@@ -125,6 +132,7 @@ pub(crate) fn add(
         (members ++ record { name = name.now; kind = kind; bytes = bytes.now } ∷ []))) }
     ensures cells { OnOk result (Makes (heap_of arena.old) (heap_of arena.new)
         (sizes_by (heap_of arena.old) list.count list.offset (length name.now) (length bytes.now) None)) }
+    ensures stay { OnOk result (KeepsSizes (heap_of arena.old) (heap_of arena.new)) }
     ensures err { OnErr result (arena.new ≡ arena.old) }
     ensures some { result ≡ Err ArenaFault.Full →
         0 < length (sizes_by (heap_of arena.old) list.count list.offset (length name.now) (length bytes.now) None) }

@@ -5,7 +5,7 @@
 //! is the caller's, and nothing of it is read or written here.
 //!
 //! It stands on reg_records and on reg_shape, by whose readings a list reads. Its types are [`ValuesList`], a list as its key node
-//! names it, and [`Value`], a value as it is told.
+//! names it, [`Value`], a value as it is told, and [`NewValue`], one to be made.
 //!
 //! Suhanov, Windows registry file format specification, sections "Key values list", "Key value" and "Big data".
 #![tactic(auto)]
@@ -15,6 +15,7 @@ mod big;
 mod data;
 pub mod laws;
 mod look;
+mod making;
 mod plan;
 mod removing;
 mod replace;
@@ -22,6 +23,7 @@ mod setting;
 
 pub use data::bytes_of;
 pub use look::{Value, at, find};
+pub use making::{NewValue, fit_one_carve, make};
 pub use plan::plan_set;
 pub use removing::{clear, remove, remove_at};
 pub use setting::{set, set_at};

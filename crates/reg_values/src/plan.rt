@@ -6,13 +6,17 @@ ghost use Rattle.std.specs.Prelude.{◌≡◌, true, ◌≤◌, ◌<◌, ◌+◌
 ghost use Rattle.reg_names.specs.declared.TheConstants.{VALUE_NAME_LIMIT};
 ghost use Rattle.reg_names.specs.Names.{is_value_name};
 ghost use Rattle.reg_heap.specs.declared.limits.TheConstants.{DATA_LIMIT, VALUES_LIMIT};
+ghost use Rattle.reg_heap.specs.Trees.{IsSmallValue};
 ghost use Rattle.reg_arena.specs.Arena.{heap_of};
+ghost use Rattle.reg_arena.specs.NewCells.{total_of};
 ghost use Rattle.reg_values.specs.ValueLists.{AreValues};
+ghost use Rattle.reg_values.specs.NewValues.{told, all_told, MayFollow, one_value_sizes, all_value_sizes};
 ghost use Rattle.reg_values.specs.ValueSizes.{data_sizes, segment_sizes, list_sizes, has_room as has_room_of};
 ghost use Rattle.reg_values.specs.ValueSizes.{stays as stays_of, sizes_by, set_sizes};
 
 use crate::big::segments_for;
 use crate::look::{cell_of, find, record_at};
+use crate::making::NewValue;
 use crate::{INLINE_LIMIT, ValuesList};
 use reg_arena::{Arena, cell_size};
 use reg_records::{SEGMENT_SIZE, ValueFields};
@@ -110,6 +114,72 @@ pub(crate) fn plan_add(
     plan_list(&mut sizes, arena, list)?;
     plan_data(&mut sizes, size)?;
     Ok(sizes)
+}
+
+/// Puts the sizes of the cells of a value, its record's and its data's, behind those of `sizes`.
+fn plan_value(sizes: &mut Vec<u32>, value: &NewValue<'_>) -> Result<(), AllocError>
+    requires { IsSmallValue (told value.now) }
+    ensures { OnOk result (sizes.new.items ≡ sizes.old.items ++ one_value_sizes (told value.now)) }
+{
+    sizes.push(cell_size(HEAD + value.name.len() as u32))?;
+    plan_data(sizes, value.bytes.len())
+}
+
+/// The sizes of the cells of all values of a key, with their list's.
+pub(crate) fn plan_all(alloc: Global, values: &[NewValue<'_>]) -> Result<Vec<u32>, AllocError>
+    requires some { 0 < length values.now }
+    requires few { length values.now ≤ VALUES_LIMIT }
+    requires new { MayFollow [] (all_told values.now) }
+    ensures { IfOk result (λ sizes. sizes.items ≡ all_value_sizes (all_told values.now)) }
+{
+    let mut sizes = Vec::with_capacity(alloc, 2 * values.len() + 1)?;
+    sizes.push(cell_size(4 * values.len() as u32))?;
+    for value in values {
+        plan_value(&mut sizes, value)?;
+    }
+    Ok(sizes)
+}
+
+/// How many cells data of a size takes.
+pub(crate) fn data_cells(size: usize) -> usize
+    requires { size ≤ DATA_LIMIT }
+    ensures { result ≡ length (data_sizes size) }
+{
+    if size <= INLINE_LIMIT {
+        return 0;
+    }
+    if size <= SEGMENT_SIZE {
+        return 1;
+    }
+    segments_for(size) + 2
+}
+
+/// The sizes of the cells of data of a size, added up.
+#[tactic(auto, unfolding(reg_records::specs::BigData::segment_size))]
+fn data_size(size: usize) -> u32
+    requires { size ≤ DATA_LIMIT }
+    ensures { result ≡ total_of (data_sizes size) }
+{
+    if size <= INLINE_LIMIT {
+        return 0;
+    }
+    if size <= SEGMENT_SIZE {
+        return cell_size(size as u32);
+    }
+    let count = segments_for(size) as u32;
+    let last = size as u32 - SEGMENT_SIZE as u32 * (count - 1);
+    cell_size(BIG_HEAD)
+        + cell_size(4 * count)
+        + cell_size(SEGMENT_SIZE as u32) * (count - 1)
+        + cell_size(last)
+}
+
+/// The sizes of a value's cells, its record's and its data's, added up.
+pub(crate) fn value_size(value: &NewValue<'_>) -> u32
+    requires { IsSmallValue (told value.now) }
+    ensures { result ≡ total_of (one_value_sizes (told value.now)) }
+{
+    cell_size(HEAD + value.name.len() as u32) + data_size(value.bytes.len())
 }
 
 /// The sizes of the cells of other data for a value.

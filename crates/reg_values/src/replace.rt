@@ -12,7 +12,7 @@ ghost use Rattle.reg_arena.specs.NewBin.{PassesLimit};
 ghost use Rattle.reg_records.specs.KeyValues.{value_record_at};
 ghost use Rattle.reg_shape.specs.Nodes.{member_at};
 ghost use Rattle.reg_shape.specs.Written.{IsWrittenValue};
-ghost use Rattle.reg_values.specs.ValueLists.{Makes, OfRead};
+ghost use Rattle.reg_values.specs.ValueLists.{KeepsSizes, Makes, OfRead};
 ghost use Rattle.reg_values.specs.Internal.ValueListParts.{Owns, OwnsBeside, HaveRoom, BecameValue, Keeps};
 ghost use Rattle.reg_values.specs.ValueSizes.{data_sizes, stays as stays_of, new_data_sizes};
 
@@ -35,6 +35,7 @@ fn rewrite(arena: &mut Arena, cell: u32, old: ValueFields, kind: u32, bytes: &[u
         (λ m met. BecameValue (heap_of arena.old) (heap_of arena.new) (λ offset. owned offset met) cell
         (record { name = m.name; kind = kind; bytes = bytes.now })) }
     ensures cells { Makes (heap_of arena.old) (heap_of arena.new) [] }
+    ensures stay { KeepsSizes (heap_of arena.old) (heap_of arena.new) }
     ensures long { length arena.new.bytes ≡ length arena.old.bytes }
 {
     arena.write(old.offset, 0, bytes);
@@ -53,6 +54,7 @@ fn exchange(arena: &mut Arena, cell: u32, cells: &[u32], old: ValueFields, kind:
         (λ offset. owned offset met + times offset cells.now) cell
         (record { name = m.name; kind = kind; bytes = bytes.now })) }
     ensures keeps { Keeps (heap_of arena.old) (heap_of arena.new) cells.now }
+    ensures stay { KeepsSizes (heap_of arena.old) (heap_of arena.new) }
     ensures long { length arena.new.bytes ≡ length arena.old.bytes }
 {
     let data = put_data(arena, cells, bytes);
@@ -77,6 +79,7 @@ pub(crate) fn replace(
         (record { name = m.name; kind = kind; bytes = bytes.now }))) }
     ensures cells { OnOk result (Makes (heap_of arena.old) (heap_of arena.new)
         (new_data_sizes (heap_of arena.old) (length bytes.now) (value_record_at (heap_of arena.old) cell))) }
+    ensures stay { OnOk result (KeepsSizes (heap_of arena.old) (heap_of arena.new)) }
     ensures err { OnErr result (arena.new ≡ arena.old) }
     ensures some { result ≡ Err ArenaFault.Full →
         0 < length (new_data_sizes (heap_of arena.old) (length bytes.now) (value_record_at (heap_of arena.old) cell)) }

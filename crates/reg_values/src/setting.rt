@@ -14,7 +14,7 @@ ghost use Rattle.reg_arena.specs.Carves.{NoFit};
 ghost use Rattle.reg_arena.specs.EachCell.{GrowsFor};
 ghost use Rattle.reg_arena.specs.NewBin.{PassesLimit};
 ghost use Rattle.reg_shape.specs.Nodes.{members_at};
-ghost use Rattle.reg_values.specs.ValueLists.{AreValues, IsNamed, Became, Makes, OfRead};
+ghost use Rattle.reg_values.specs.ValueLists.{AreValues, IsNamed, Became, KeepsSizes, Makes, OfRead};
 ghost use Rattle.reg_values.specs.ValueSizes.{set_sizes};
 
 use crate::ValuesList;
@@ -53,6 +53,7 @@ pub fn set_at(
         (values_with name.now kind bytes.now members))) }
     ensures cells { OnOk result (Makes (heap_of arena.old) (heap_of arena.new)
         (set_sizes (heap_of arena.old) list.count list.offset name.now (length bytes.now))) }
+    ensures stay { OnOk result (KeepsSizes (heap_of arena.old) (heap_of arena.new)) }
     ensures err { OnErr result (arena.new ≡ arena.old) }
     ensures some { result ≡ Err ArenaFault.Full →
         0 < length (set_sizes (heap_of arena.old) list.count list.offset name.now (length bytes.now)) }
@@ -98,6 +99,7 @@ pub fn set(
         (values_with name.now kind bytes.now members))) }
     ensures cells { OnOk result (Makes (heap_of arena.old) (heap_of arena.new)
         (set_sizes (heap_of arena.old) list.count list.offset name.now (length bytes.now))) }
+    ensures stay { OnOk result (KeepsSizes (heap_of arena.old) (heap_of arena.new)) }
     ensures err { OnErr result (arena.new ≡ arena.old) }
     ensures some { result ≡ Err ArenaFault.Full →
         0 < length (set_sizes (heap_of arena.old) list.count list.offset name.now (length bytes.now)) }

@@ -65,7 +65,8 @@ fit-before old new offsets size rest some c none cells e =
     before = all-larger rest (size + rest) c.before (omega arith) (all-front (IsUnder rest) c.before _ all)
 
     after : AllByRecursion (IsUnder (size + rest)) c.after
-    after = all-larger rest (size + rest) c.after (omega arith) (all-back (IsUnder rest) (carved c.at (size ∷ []) ++ rest_of (c.at + total_of (size ∷ [])) (c.size - total_of (size ∷ []))) c.after behind)
+    after = all-larger rest (size + rest) c.after (omega arith)
+        (all-back (IsUnder rest) (carved c.at (size ∷ []) ++ rest_of (c.at + total_of (size ∷ [])) (c.size - total_of (size ∷ []))) c.after behind)
 
     left : c.size - total_of (size ∷ []) < rest
     left = rest-small (c.at + total_of (size ∷ [])) (c.size - total_of (size ∷ [])) rest some (all-back (IsUnder rest) (carved c.at (size ∷ []))

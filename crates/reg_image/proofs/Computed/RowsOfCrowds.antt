@@ -1,15 +1,20 @@
--- Which keys the walk comes to, at stores of cells that were worked out by hand, and the cell that a class takes.
-use Rattle.std.proofs.Common.{◌≡◌, ℕ, List, [], ◌∷◌, replicate, inl, inr, refl, arith}
+-- Which keys the walk comes to, at stores of cells that were worked out by hand, and the cells that a class and values take.
+use Rattle.std.proofs.Common.{◌≡◌, ℕ, [], ◌∷◌, replicate, inl, inr, refl, arith}
 use Rattle.reg_heap.specs.ByteWords.{half, word, long}
 use Rattle.reg_heap.specs.Kinds.Kind.{Key, Leaf, Security}
+use Rattle.reg_heap.specs.Paths.{Member}
 use Rattle.reg_records.specs.KeyNodes.{nk_of}
 use Rattle.reg_records.specs.KeySecurities.{sk_of}
 use Rattle.reg_records.specs.SubkeyLists.{list_of}
+use Rattle.reg_records.specs.BigData.{segment_size}
+use Rattle.reg_values.specs.ValueSizes.{data_sizes}
+use Rattle.reg_values.specs.NewValues.{all_value_sizes}
 use Rattle.reg_tree.specs.BuiltKeys.{class_sizes}
 use Rattle.reg_image.specs.WalkSteps.{Seen}
 use Rattle.reg_image.specs.LoadingWalk.{root_path, key_from}
 use Rattle.reg_image.specs.Images.{nothing}
 use Rattle.reg_image.specs.WalkedKeys.{Comes}
+use Rattle.reg_image.specs.CrowdedBins.{bytes_taken}
 use Rattle.reg_image.proofs.Computed.RowsOfWalks.{store, met, plain_rec, two}
 
 -- ---- the first key of two that are one: the walk comes to it, and then meets the fault Twice
@@ -54,3 +59,23 @@ class-four = refl
 
 class-five : class_sizes (replicate 5 7) ≡ 16 ∷ []
 class-five = refl
+
+-- ---- all values of a key: a list of 4 bytes each, a record of 20 bytes and the name, and data of more than 4 bytes
+
+abbrev value : ℕ → Member
+value size = record { name = 97 ∷ []; kind = 1; bytes = replicate size 7 }
+
+values-none : all_value_sizes [] ≡ []
+values-none = refl
+
+value-inline : all_value_sizes (value 4 ∷ []) ≡ 8 ∷ 32 ∷ []
+unfolding data_sizes segment_size
+value-inline = refl
+
+values-two : all_value_sizes (value 4 ∷ value 5 ∷ []) ≡ 16 ∷ 32 ∷ 32 ∷ 16 ∷ []
+unfolding data_sizes segment_size
+values-two = refl
+
+taken-two : bytes_taken (value 4 ∷ value 5 ∷ []) ≡ 96
+unfolding data_sizes segment_size
+taken-two = refl

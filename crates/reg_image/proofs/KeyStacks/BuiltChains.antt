@@ -1,6 +1,6 @@
 -- Keys and values that were built one behind the other.
-use Rattle.std.proofs.Common.{◌≡◌, ℕ, zero, suc, Option, Some, None, Result, Ok, Err, IfErr, List, [], ◌∷◌, ◌++◌, take, drop, slice_get, inl, inr}
-use Rattle.std.proofs.Common.{refl, sym, ap, ◌∙◌, subst}
+use Rattle.std.proofs.Common.{◌≡◌, ◌⊎◌, ℕ, zero, suc, Some, List, [], ◌∷◌, ◌++◌, take, drop, slice_get, inl, inr}
+use Rattle.std.proofs.Common.{refl, sym, ap, subst}
 use Rattle.std.proofs.lemmas.Option.{none-some, same_Some}
 use Rattle.reg_heap.specs.Paths.{Path, Rec, Member}
 use Rattle.reg_heap.specs.Edits.{child_path}
@@ -9,9 +9,9 @@ use Rattle.reg_arena.specs.declared.ArenaFault.TheVariants.{Full, Memory as OutO
 use Rattle.reg_tree.specs.TreeKeys.{Keys}
 use Rattle.reg_image.specs.declared.LoadFault.{LoadFault}
 use Rattle.reg_image.specs.declared.LoadFault.TheVariants.{Limit, Memory}
-use Rattle.reg_image.specs.CrowdedBins.{PutsValue, PutsEach, LacksValueRoom, CrowdsValues, BuildsFirst, BuildsOne, BuildsEach, BuildsAll}
-use Rattle.reg_image.specs.CrowdedBins.{AreWhole, bare_of, CrowdsRoot, CrowdsBelow, CrowdsNext}
-use Rattle.reg_tree.specs.BuiltKeys.{BuildsRoot, BuildsKey}
+use Rattle.reg_tree.specs.BuiltKeys.{AreWhole, BuildsRoot, BuildsKey, LacksKeyRoom, LacksClassRoom}
+use Rattle.reg_image.specs.CrowdedBins.{PutsValue, PutsEach, LacksValueRoom, CrowdsEach, PutsValues, CrowdsValues}
+use Rattle.reg_image.specs.CrowdedBins.{BuildsFirst, BuildsOne, BuildsEach, BuildsAll, bare_of, CrowdsRoot, CrowdsBelow, CrowdsNext}
 use Rattle.reg_image.specs.Internal.BegunKeys.{IsLack, lack_of}
 
 -- ---- values
@@ -28,10 +28,10 @@ parted [] index m e = absurd (none-some _ e)
 parted (x ∷ members) zero m e = ap (λ x. x ∷ members) (same_Some _ _ e)
 parted (x ∷ members) (suc index) m e = ap (λ ms. x ∷ ms) (parted members index m e)
 
-pub crowds-values : (bare now : Keys) (path : Path) (time : ℕ) (members : List Member) (index : ℕ) (m : Member) →
+pub crowds-each : (bare now : Keys) (path : Path) (time : ℕ) (members : List Member) (index : ℕ) (m : Member) →
     slice_get members index ≡ Some m → PutsEach path time (take index members) bare now → LacksValueRoom now path m →
-    CrowdsValues bare path time members
-crowds-values bare now path time members index m e p l = record {
+    CrowdsEach bare path time members
+crowds-each bare now path time members index m e p l = record {
   front = take index members;
   next = m;
   back = drop (suc index) members;
@@ -82,13 +82,13 @@ module _ (made key : Rec) (given : List Member) (same : made ≡ bare_of key) (v
   its-path above = ap (λ (r : Rec). child_path above r.name) same
 
   pub builds-one : (old mid new : Keys) (above : Path) → BuildsKey old mid above made → AreWhole mid →
-      PutsEach (child_path above made.name) key.time given mid new → BuildsOne old new above key
+      PutsValues (child_path above made.name) key.time given mid new → BuildsOne old new above key
   builds-one old mid new above b w p = (
     mid,
     subst (λ r. BuildsKey old mid above r) same b,
     w,
-    subst (λ path. PutsEach path key.time key.values mid new) (its-path above)
-        (subst (λ ms. PutsEach (child_path above made.name) key.time ms mid new) values p),
+    subst (λ path. PutsValues path key.time key.values mid new) (its-path above)
+        (subst (λ ms. PutsValues (child_path above made.name) key.time ms mid new) values p),
   )
 
   pub crowds-below : (old mid : Keys) (above : Path) → BuildsKey old mid above made → AreWhole mid →
@@ -102,9 +102,13 @@ module _ (made key : Rec) (given : List Member) (same : made ≡ bare_of key) (v
             (subst (λ ms. CrowdsValues mid (child_path above made.name) key.time ms) values c),
       )
 
-  pub builds-first : (mid new : Keys) → BuildsRoot mid made → AreWhole mid → PutsEach [] key.time given mid new → BuildsFirst new key
+  pub crowds-key : (old mid : Keys) (above : Path) → LacksKeyRoom old above made ⊎ LacksClassRoom old mid above made → CrowdsBelow old above key
+  crowds-key old mid above (inl l) = inl (inl (subst (λ r. LacksKeyRoom old above r) same l))
+  crowds-key old mid above (inr l) = inl (inr (mid, subst (λ r. LacksClassRoom old mid above r) same l))
+
+  pub builds-first : (mid new : Keys) → BuildsRoot mid made → AreWhole mid → PutsValues [] key.time given mid new → BuildsFirst new key
   builds-first mid new b w p =
-      (mid, subst (λ r. BuildsRoot mid r) same b, w, subst (λ ms. PutsEach [] key.time ms mid new) values p)
+      (mid, subst (λ r. BuildsRoot mid r) same b, w, subst (λ ms. PutsValues [] key.time ms mid new) values p)
 
   pub crowds-root : (mid : Keys) → BuildsRoot mid made → AreWhole mid → CrowdsValues mid [] key.time given → CrowdsRoot key
   crowds-root mid b w c = (mid, subst (λ r. BuildsRoot mid r) same b, w, subst (λ ms. CrowdsValues mid [] key.time ms) values c)

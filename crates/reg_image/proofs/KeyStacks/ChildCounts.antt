@@ -1,15 +1,14 @@
 -- How many keys are right below another, as one key more is put into a tree.
-use Rattle.std.proofs.Common.{◌≡◌, ◌≢◌, ℕ, suc, ◌+◌, ◌<◌, ◌≤◌, ◌==◌, ◌&&◌, Bool, true, false, cond, Option, None, IsSome, is_some, List, [], ◌∷◌, ◌++◌, length}
-use Rattle.std.proofs.Common.{filter, map, refl, sym, ap, ◌∙◌, subst, arith, eqb, length-append}
+use Rattle.std.proofs.Common.{◌≡◌, ◌≢◌, ℕ, ◌+◌, ◌≤◌, Bool, true, false, cond, Option, None, IsSome, is_some, List, [], ◌∷◌, ◌++◌, length}
+use Rattle.std.proofs.Common.{filter, map, refl, sym, ap, ◌∙◌, subst, arith, eqb}
 use Rattle.std.specs.Prelude.{bytes_eq}
 use Rattle.std.specs.declared.cmp.Ordering.{Ordering}
 use Rattle.std.specs.declared.cmp.Ordering.TheVariants.{Less, Equal, Greater}
 use Rattle.std.specs.Ordering.{eq_by_cmp}
 use Rattle.std.specs.List.{starts_with, list_any}
-use Rattle.std.specs.FinMap.{get, insert, entries, entries-insert, from_entries, get-from_entries, keys, contains_key}
+use Rattle.std.specs.FinMap.{get, insert, entries, entries-insert, from_entries, get-from_entries, contains_key}
 use Rattle.std.specs.FinMap.Entries.{by_order, put}
 use Rattle.std.proofs.lemmas.Bool.{and_parts, or_left, eqb-true, false≢true}
-use Rattle.std.proofs.lemmas.Option.{none-some}
 use Rattle.reg_heap.specs.Paths.{Path, Tree, Rec, path_cmp, is_child, children_of}
 use Rattle.reg_heap.proofs.ChildrenOfPath.{named, children-contain}
 use Rattle.reg_shape.proofs.Refinement.SpeltTrees.{path_total}

@@ -1,5 +1,5 @@
 -- What comes in what is left of the walk comes in the whole walk.
-use Rattle.std.proofs.Common.{◌≡◌, ℕ, zero, suc, ◌<◌, nat_lt, true, Result, Ok, Err, List, [], ◌∷◌, inl, inr, refl, sym, ap, ◌∙◌, subst}
+use Rattle.std.proofs.Common.{◌≡◌, ℕ, zero, suc, ◌<◌, nat_lt, true, Result, Ok, List, [], ◌∷◌, inl, inr, refl, sym, ap, ◌∙◌, subst}
 use Rattle.std.specs.Prelude.{◌⊎◌}
 use Rattle.reg_heap.specs.declared.limits.TheConstants.{SUBKEYS_LIMIT}
 use Rattle.reg_heap.specs.Heaps.{Heap}
@@ -7,11 +7,11 @@ use Rattle.reg_heap.specs.Edits.{child_path}
 use Rattle.reg_records.specs.SubkeyLists.{Entry, Form, SubkeysList}
 use Rattle.reg_records.specs.declared.lists.ListForm.TheVariants.{IndexRoot, IndexLeaf, FastLeaf, HashLeaf}
 use Rattle.reg_image.specs.declared.LoadFault.{LoadFault}
-use Rattle.reg_image.specs.WalkSteps.{Seen, Step, ◌>>=◌, onward}
-use Rattle.reg_image.specs.LoadingWalk.{key_from, leaf_from, list_from, keys_each, lists_each, listed_as, subkeys_from}
+use Rattle.reg_image.specs.WalkSteps.{Seen, Step, onward}
+use Rattle.reg_image.specs.LoadingWalk.{key_from, leaf_from, list_from, keys_each, listed_as, subkeys_from}
 use Rattle.reg_image.specs.WalkedKeys.{ComesInKeys, ComesInLists, ComesListed, ComesBelow, Comes}
 use Rattle.reg_image.specs.Internal.BegunKeys.{keys_of, lists_of, IsSource, parts_left}
-use Rattle.reg_image.specs.Internal.Frames.{Frame, frame_left, left, ComesInFrame, ComesLeft}
+use Rattle.reg_image.specs.Internal.Frames.{Frame, frame_left, ComesInFrame, ComesLeft}
 
 -- ---- a list of keys that was read
 

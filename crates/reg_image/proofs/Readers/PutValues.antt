@@ -21,9 +21,9 @@ use Rattle.reg_tree.proofs.InsertKey.PathGrowth.{path-self}
 use Rattle.reg_image.specs.declared.values.ReadValue.{ReadValue}
 use Rattle.reg_image.specs.Internal.NamedRecords.{member_in, members_in}
 use Rattle.reg_image.specs.Internal.FitKeys.{IsOther, AreFit}
-use Rattle.reg_image.specs.CrowdedBins.{PutsValue, PutsEach, LacksValueRoom, CrowdsValues}
+use Rattle.reg_image.specs.CrowdedBins.{PutsValue, PutsEach, LacksValueRoom, CrowdsEach}
 use Rattle.reg_image.specs.Internal.BegunKeys.{IsBare}
-use Rattle.reg_image.proofs.KeyStacks.BuiltChains.{puts-more, crowds-values}
+use Rattle.reg_image.proofs.KeyStacks.BuiltChains.{puts-more, crowds-each}
 use Rattle.reg_image.proofs.Readers.NewValues.{IsNew, new-at}
 
 -- ---- a name that no value has
@@ -47,7 +47,7 @@ place-free tree name given p q g e o =
 
 -- ---- the key in the tree
 
-there : (t : Tree) (p : Path) (r : Rec) → get (insert t p r) p ≡ Some r
+pub there : (t : Tree) (p : Path) (r : Rec) → get (insert t p r) p ≡ Some r
 there t p r = get-insert path_total t p r p ∙ ap (λ e. cond e (Some r) (get t p)) (path-self p)
 
 take-more : (members : List Member) (index : ℕ) (m : Member) → slice_get members index ≡ Some m →
@@ -100,8 +100,8 @@ module _ (old now : Keys) (node : Node) (time : ℕ) (values : List ReadValue) (
     one-more = omega arith
 
     -- there is no room for it
-    pub none-put : (p : Path) → IsAt old p node → LacksValueRoom now p m → CrowdsValues old p time members
-    none-put p at l = crowds-values old now p time members index m (read-at values index value here) (a.each p at) l
+    pub none-put : (p : Path) → IsAt old p node → LacksValueRoom now p m → CrowdsEach old p time members
+    none-put p at l = crowds-each old now p time members index m (read-at values index value here) (a.each p at) l
 
     -- the next one may be put
     pub may-put : IsBare old node time → (p : Path) × IsAt now p node × IsOther (values_at now.tree p) m.name ×

@@ -4,15 +4,16 @@ use Rattle.std.proofs.Common.{refl, sym, ◌∙◌, subst, arith, length-take, l
 use Rattle.std.specs.Prelude.{Result, Ok, Err, OnOk, IfErr, unwrap_or}
 use Rattle.std.proofs.lemmas.Bool.Decides.{nat_tests}
 use Rattle.reg_heap.specs.Edits.{at_time, child_path}
+use Rattle.reg_heap.specs.Heaps.{Heap}
 use Rattle.reg_heap.specs.Paths.{Path, Rec}
 use Rattle.reg_arena.specs.declared.Cell.{Cell}
-use Rattle.reg_arena.specs.Arena.{Bins, heap_of}
+use Rattle.reg_arena.specs.Arena.{Bins, IsSound, heap_of}
 use Rattle.reg_arena.specs.Cells.{cells_of, cell_at, content_in, content_of}
 use Rattle.reg_arena.specs.EachCell.{GrowsFor}
 use Rattle.reg_arena.specs.NewCells.{cell_size}
 use Rattle.reg_arena.specs.declared.ArenaFault.{ArenaFault}
 use Rattle.reg_arena.specs.declared.ArenaFault.TheVariants.{Full}
-use Rattle.reg_values.specs.ValueLists.{Makes}
+use Rattle.reg_values.specs.ValueLists.{KeepsSizes, Makes}
 use Rattle.reg_index.specs.Subkeys.{KeepsCells}
 use Rattle.reg_index.specs.declared.Place.{Place}
 use Rattle.reg_records.specs.declared.nk.KeyFields.{KeyFields}
@@ -20,7 +21,7 @@ use Rattle.reg_records.specs.KeyNodes.{KeyRecord, key_at}
 use Rattle.reg_security.specs.Rings.{DescriptorCells}
 use Rattle.reg_tree.specs.declared.build.NewKey.{NewKey}
 use Rattle.reg_tree.specs.declared.node.Node.{Node}
-use Rattle.reg_tree.specs.BuiltKeys.{BuildsKey, LacksClassRoom, LacksKeyRoom, MakesBare, MayBuild, built_key, class_sizes}
+use Rattle.reg_tree.specs.BuiltKeys.{BuildsKey, LacksClassRoom, LacksKeyRoom, MakesBare, MayBuild, TakesCells, built_key, class_sizes}
 use Rattle.reg_tree.specs.CellSizes.{BelongsThere, LacksRoom, create_sizes}
 use Rattle.reg_tree.specs.TreeKeys.{Keys, tree_in}
 use Rattle.reg_tree.specs.Internal.KeyBuilding.{IsCarvedForClass, LacksForKey, TakesForKey, marked}
@@ -30,7 +31,7 @@ use Rattle.reg_tree.specs.Internal.TreeInvariant.{IsHere, IsChanged}
 use Rattle.reg_tree.proofs.BuildKey.BuiltBelow.{bare-built, built}
 use Rattle.reg_tree.proofs.DescribeKey.SecurityCarved.{makes-none, makes-one}
 use Rattle.reg_tree.proofs.InsertKey.CreatePathMade.{growth-then}
-use Rattle.reg_tree.proofs.InsertKey.MadeCells.{makes_after, same-kept}
+use Rattle.reg_tree.proofs.InsertKey.MadeCells.{kept_sizes, makes_after, same-kept}
 use Rattle.reg_tree.proofs.Invariant.KeyOfTree.{whole_tree}
 use Rattle.reg_tree.proofs.Invariant.NodeLemmas.{seen_as}
 
@@ -71,6 +72,10 @@ same-sizes old new same long offset = by (cells_of old) (cells_of new) same
     by None b e = rw e (refl, refl)
     by (Some cells) b e = rw e (content-sizes old new cells offset long)
 
+-- each cell that stayed has its size yet
+stay-after : (h k j : Heap) → KeepsSizes h k → SameSizes k j → KeepsSizes h j
+stay-after h k j stay sizes z there now = (sizes z).1 ∙ stay z there (sym (sizes z).0 ∙ now)
+
 -- ---- a class's cell
 
 pub none-class : (class : List ℕ) (e : Bool) → e ≡ (length class == 0) → e ≡ true → class ≡ []
@@ -101,19 +106,34 @@ class-makes old mid new class cell c same long = by cell c
         (makes_after (heap_of old) (heap_of mid) (heap_of new) _
         (makes-one (heap_of old) (heap_of mid) (heap_of mid) z _ [] c.1 c.2 (λ x there. (there, refl)) (λ x there none. there) refl) sizes)
 
+-- each cell that was there has its size
+pub class-stays : (old mid new : Bins) (class : List ℕ) (cell : Option ℕ) → IsCarvedForClass old mid class cell → cells_of new.bytes ≡ cells_of mid.bytes →
+    length new.bytes ≡ length mid.bytes → KeepsSizes (heap_of old) (heap_of new)
+class-stays old mid new class cell c same long = by cell c
+  where
+    keeps : KeepsCells (heap_of mid) (heap_of new)
+    keeps = same-kept (heap_of mid) (heap_of new) (same-sizes mid.bytes new.bytes same long)
+
+    by : (cell : Option ℕ) → IsCarvedForClass old mid class cell → KeepsSizes (heap_of old) (heap_of new)
+    by None c = subst (λ (b : Bins). KeepsSizes (heap_of b) (heap_of new)) c.0 (λ z there now. (keeps z now).1)
+    by (Some z) c = kept_sizes (heap_of old) (heap_of mid) (heap_of new) _ c.1 keeps
+
 -- ---- a key's cells
 
 pub takes-for : (result : Result Node ArenaFault) (old : Keys) (new : Bins) (path : Path) (names : List (List ℕ)) (name descriptor : List ℕ) (place : Place) →
     names ≡ name ∷ [] → BelongsThere old path names place →
     OnOk result (Makes (heap_of old.bins) (heap_of new) (create_sizes old path names place (Some descriptor))) →
-    OnOk result (GrowsFor old.bins.bytes new.bytes (create_sizes old path names place (Some descriptor))) → OnOk result (TakesForKey old new path name descriptor)
-takes-for (Ok node) old new path names name descriptor place e belongs cells growth = record {
+    OnOk result (KeepsSizes (heap_of old.bins) (heap_of new)) → OnOk result (GrowsFor old.bins.bytes new.bytes (create_sizes old path names place (Some descriptor))) →
+    OnOk result (length old.bins.bytes ≤ length new.bytes) → OnOk result (TakesForKey old new path name descriptor)
+takes-for (Ok node) old new path names name descriptor place e belongs cells stay growth kept = record {
   place = place;
   belongs = subst (λ names. BelongsThere old path names place) e belongs;
   cells = subst (λ names. Makes (heap_of old.bins) (heap_of new) (create_sizes old path names place (Some descriptor))) e cells;
+  stay = stay;
   growth = subst (λ names. GrowsFor old.bins.bytes new.bytes (create_sizes old path names place (Some descriptor))) e growth;
+  kept = kept;
 }
-takes-for (Err fault) old new path names name descriptor place e belongs cells growth = tt
+takes-for (Err fault) old new path names name descriptor place e belongs cells stay growth kept = tt
 
 pub lacks-for : (result : Result Node ArenaFault) (old : Keys) (path : Path) (names : List (List ℕ)) (name descriptor : List ℕ) (place : Place) →
     names ≡ name ∷ [] → BelongsThere old path names place →
@@ -135,31 +155,39 @@ module _ (old mid next : Bins) (parent node : Node) (t : IsHere old.bytes parent
     (may : MayBuild (tree_in old.bytes t.root) t.path key.name.now) (changed : IsChanged mid.bytes next.bytes t.root table t.path (at_time fields.time))
     (roomy : (r : KeyRecord) → key_at (heap_of next) parent.offset ≡ Some r → length key.class.now ≤ r.fields.largest_subkey_class)
     (takes : TakesForKey (seen_as old t.root) mid t.path key.name.now key.descriptor.now)
-    (same : cells_of next.bytes ≡ cells_of mid.bytes) (long : length next.bytes ≡ length mid.bytes) where
+    (same : cells_of next.bytes ≡ cells_of mid.bytes) (long : length next.bytes ≡ length mid.bytes) (sound : IsSound next.bytes next.heads) where
+  sizes : SameSizes (heap_of mid) (heap_of next)
+  sizes = same-sizes mid.bytes next.bytes same long
+
   -- it was made
   pub bare-made : MakesBare (seen_as old t.root) (seen_as next t.root) t.path (built_key key)
   bare-made = record {
     place = takes.place;
     belongs = takes.belongs;
     takes = record {
-      cells = makes_after (heap_of old) (heap_of mid) (heap_of next) _ takes.cells (same-sizes mid.bytes next.bytes same long);
+      cells = makes_after (heap_of old) (heap_of mid) (heap_of next) _ takes.cells sizes;
+      stay = stay-after (heap_of old) (heap_of mid) (heap_of next) takes.stay sizes;
       growth = growth-then old.bytes mid.bytes next.bytes _ long takes.growth;
+      kept = (let k = takes.kept in omega (arith, k, long));
     };
+    root = refl;
     tree = bare-built old.bytes mid.bytes parent node t table key c fields are may next.bytes changed roomy;
-    whole = whole_tree next.bytes t.root changed.holds;
+    whole = record { sound = sound; whole = whole_tree next.bytes t.root changed.holds };
   }
 
   -- and then it got its class
   pub key-built : (new : Bins) → IsChanged next.bytes new.bytes t.root table (child_path t.path key.name.now) (marked key.marks key.class.now) →
-      parent.depth ≡ length t.path → Makes (heap_of next) (heap_of new) (class_sizes key.class.now) → GrowsFor next.bytes new.bytes (class_sizes key.class.now) →
+      parent.depth ≡ length t.path → TakesCells (seen_as next t.root) (seen_as new t.root) (class_sizes key.class.now) →
       BuildsKey (seen_as old t.root) (seen_as new t.root) t.path (built_key key)
-  key-built new d deep cells growth = record {
+  key-built new d deep class = record {
     bare = seen_as next t.root;
     made = bare-made;
-    class = record { cells = cells; growth = growth };
+    class = class;
+    root = refl;
     tree = (built old.bytes mid.bytes parent node t table key c fields are may next.bytes changed roomy new.bytes d deep).tree;
   }
 
-  -- or there is no room for it
-  pub class-lacks : LacksRoom next (class_sizes key.class.now) → LacksClassRoom (seen_as old t.root) t.path (built_key key)
-  class-lacks lacks = record { bare = seen_as next t.root; made = bare-made; lacks = lacks }
+  -- or there is no room for it, and nothing changed
+  pub class-lacks : (new : Bins) → new ≡ next → LacksRoom next (class_sizes key.class.now) → LacksClassRoom (seen_as old t.root) (seen_as new t.root) t.path (built_key key)
+  class-lacks new e lacks =
+      subst (λ (b : Bins). LacksClassRoom (seen_as old t.root) (seen_as b t.root) t.path (built_key key)) (sym e) (record { made = bare-made; lacks = lacks })

@@ -13,7 +13,7 @@ use Rattle.reg_arena.specs.NewBin.{IsBinSize}
 use Rattle.reg_arena.specs.NewCells.{cell_size}
 use Rattle.reg_security.specs.Rings.{DescriptorCells}
 use Rattle.reg_tree.specs.declared.build.NewKey.{NewKey}
-use Rattle.reg_values.specs.ValueLists.{Makes}
+use Rattle.reg_values.specs.ValueLists.{KeepsSizes, Makes}
 use Rattle.reg_tree.specs.BuiltKeys.{TakesCells, built_key, class_sizes}
 use Rattle.reg_tree.specs.TreeKeys.{Keys, tree_in, made_root}
 use Rattle.reg_tree.specs.Internal.KeyBuilding.{HasNoClass, MayHaveClass, marked}
@@ -70,11 +70,13 @@ module _ (bins : Bins) (root : ℕ) {table : DescriptorCells} (holds : TreeInvar
             ∙ insert-twice empty [] made (built_key key)))
         by (Err x) c = tt
 
-    pub root-takes : OnOk result (Makes (heap_of bins) (heap_of new) (class_sizes key.class.now)) → OnOk result (GrowsFor bins.bytes new.bytes (class_sizes key.class.now)) →
+    pub root-takes : OnOk result (Makes (heap_of bins) (heap_of new) (class_sizes key.class.now)) → OnOk result (KeepsSizes (heap_of bins) (heap_of new)) →
+        OnOk result (GrowsFor bins.bytes new.bytes (class_sizes key.class.now)) → OnOk result (length bins.bytes ≤ length new.bytes) →
         OnOk result (TakesCells now (seen_as new root) (class_sizes key.class.now))
-    root-takes cells growth = subst (λ (k : Keys). OnOk result (TakesCells k (seen_as new root) (class_sizes key.class.now))) view_is (by result cells growth)
+    root-takes cells stay growth kept = subst (λ (k : Keys). OnOk result (TakesCells k (seen_as new root) (class_sizes key.class.now))) view_is (by result cells stay growth kept)
       where
-        by : (r : Result (Unit {0}) ArenaFault) → OnOk r (Makes (heap_of bins) (heap_of new) (class_sizes key.class.now)) →
-            OnOk r (GrowsFor bins.bytes new.bytes (class_sizes key.class.now)) → OnOk r (TakesCells (seen_as bins root) (seen_as new root) (class_sizes key.class.now))
-        by (Ok x) m g = record { cells = m; growth = g }
-        by (Err x) m g = tt
+        by : (r : Result (Unit {0}) ArenaFault) → OnOk r (Makes (heap_of bins) (heap_of new) (class_sizes key.class.now)) → OnOk r (KeepsSizes (heap_of bins) (heap_of new)) →
+            OnOk r (GrowsFor bins.bytes new.bytes (class_sizes key.class.now)) → OnOk r (length bins.bytes ≤ length new.bytes) →
+            OnOk r (TakesCells (seen_as bins root) (seen_as new root) (class_sizes key.class.now))
+        by (Ok x) m s g k = record { cells = m; stay = s; growth = g; kept = k }
+        by (Err x) m s g k = tt

@@ -72,12 +72,12 @@ module _ (bins : Bins) (root : ℕ) {table : DescriptorCells} (holds : TreeInvar
       (builds (here_at bins root holds now view_is parent p at) refl at.depth (may_at p at))
 
   -- or what there was no room for
-  pub lacks_seen : (result : Result Node ArenaFault) → ((t : IsHere bins.bytes parent.offset) → t.table ≡ table → parent.depth ≡ length t.path →
+  pub lacks_seen : (new : Bins) (result : Result Node ArenaFault) → ((t : IsHere bins.bytes parent.offset) → t.table ≡ table → parent.depth ≡ length t.path →
       MayBuild (tree_in bins.bytes t.root) t.path key.name.now → IfErr result (λ fault. fault ≡ Full →
-      LacksKeyRoom (seen_as bins t.root) t.path (built_key key) ⊎ LacksClassRoom (seen_as bins t.root) t.path (built_key key))) →
-      (p : Path) → IsAt now p parent → (result ≡ Err Full) → LacksKeyRoom now p (built_key key) ⊎ LacksClassRoom now p (built_key key)
-  lacks_seen result lacks p at e =
-      subst (λ (k : Keys). LacksKeyRoom k p (built_key key) ⊎ LacksClassRoom k p (built_key key)) view_is
+      LacksKeyRoom (seen_as bins t.root) t.path (built_key key) ⊎ LacksClassRoom (seen_as bins t.root) (seen_as new t.root) t.path (built_key key))) →
+      (p : Path) → IsAt now p parent → (result ≡ Err Full) → LacksKeyRoom now p (built_key key) ⊎ LacksClassRoom now (seen_as new root) p (built_key key)
+  lacks_seen new result lacks p at e =
+      subst (λ (k : Keys). LacksKeyRoom k p (built_key key) ⊎ LacksClassRoom k (seen_as new root) p (built_key key)) view_is
       (by result e (lacks (here_at bins root holds now view_is parent p at) refl at.depth (may_at p at)))
     where
       by : {X : Type 0} (r : Result Node ArenaFault) → r ≡ Err Full → IfErr r (λ fault. fault ≡ Full → X) → X

@@ -8,7 +8,7 @@ use Rattle.reg_arena.proofs.FreeList.ThreadLinks.{times-append}
 use Rattle.reg_arena.specs.Arena.{Bins, heap_of}
 use Rattle.reg_arena.specs.Cells.{cell_at}
 use Rattle.reg_arena.specs.NewCells.{AreSizes}
-use Rattle.reg_heap.specs.Heaps.{Heap, allocated}
+use Rattle.reg_heap.specs.Heaps.{Heap, CellFrame, allocated}
 use Rattle.reg_heap.specs.Kinds.{times}
 use Rattle.reg_heap.specs.Paths.{Path}
 use Rattle.reg_index.specs.declared.Place.{Place}
@@ -19,7 +19,7 @@ use Rattle.reg_records.specs.KeySecurities.{KeySecurityRecord, security_at}
 use Rattle.reg_records.specs.RecordCells.{held, WritesCell, WritesPart}
 use Rattle.reg_records.specs.declared.nk.KeyFields.{KeyFields}
 use Rattle.reg_shape.proofs.Wholeness.ShapeRecords.{at-most-one, is-allocated, allocated-is}
-use Rattle.reg_values.specs.ValueLists.{Makes}
+use Rattle.reg_values.specs.ValueLists.{KeepsSizes, Makes}
 use Rattle.reg_values.specs.ValueSizes.{set_sizes}
 use Rattle.reg_tree.specs.TreeKeys.{Keys, IsAt}
 use Rattle.reg_tree.specs.declared.node.Node.{Node}
@@ -138,6 +138,16 @@ module _ (old mid new : List ℕ) (key : ℕ) (place : Place) (names : List (Lis
     fresh = came;
     only = alone;
   }
+
+-- ---- the sizes of cells that stay
+
+-- where cells came, and then none more, each cell that was there before has its size
+pub kept_sizes : (h k j : Heap) (came : ℕ → ℕ) → CellFrame h k (λ z. 0) came → KeepsCells k j → KeepsSizes h j
+kept_sizes h k j came come keeps z there now =
+    let c = come.count z in
+    let t = allocated-is h z there in
+    let o = at-most-one k z in
+    (keeps z now).1 ∙ size-of (h z) (k z) (come.same z refl (omega (arith, c, t, o)))
 
 -- ---- the sizes of cells carved
 

@@ -19,7 +19,7 @@ use Rattle.reg_shape.specs.Internal.Grafts.{IsShape}
 use Rattle.reg_shape.specs.PathLookup.{key_offset_at}
 use Rattle.reg_index.specs.declared.Place.{Place}
 use Rattle.reg_index.specs.Subkeys.{taken}
-use Rattle.reg_values.specs.ValueLists.{Makes}
+use Rattle.reg_values.specs.ValueLists.{KeepsSizes, Makes}
 use Rattle.reg_security.specs.Rings.{DescriptorCells, Finds}
 use Rattle.reg_tree.specs.declared.build.NewKey.{NewKey}
 use Rattle.reg_tree.specs.declared.node.Node.{Node as TreeNode}
@@ -114,12 +114,15 @@ pub record IsBuilt (old new : List ℕ) (root : ℕ) (table : DescriptorCells) (
   pub depth : node.depth ≡ length path + 1
   pub keeps : (q : Path) (o : ℕ) → key_offset_at (cell_at old) root q ≡ Some o → key_offset_at (cell_at new) root q ≡ Some o
 
--- the cells came that a key of a name and a descriptor takes right below the one at a path, at its place there
+-- the cells came that a key of a name and a descriptor takes right below the one at a path, at its place there; each cell that was there
+-- and still is has its size, and the bins are no shorter
 pub record TakesForKey (old : Keys) (new : Bins) (path : Path) (name descriptor : List ℕ) : Type 0 where
   pub place : Place
   pub belongs : BelongsThere old path (name ∷ []) place
   pub cells : Makes (heap_of old.bins) (heap_of new) (create_sizes old path (name ∷ []) place (Some descriptor))
+  pub stay : KeepsSizes (heap_of old.bins) (heap_of new)
   pub growth : GrowsFor old.bins.bytes new.bytes (create_sizes old path (name ∷ []) place (Some descriptor))
+  pub kept : length old.bins.bytes ≤ length new.bytes
 
 -- the bins have no room for these cells
 pub record LacksForKey (old : Keys) (path : Path) (name descriptor : List ℕ) : Type 0 where

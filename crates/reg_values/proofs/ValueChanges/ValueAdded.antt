@@ -19,8 +19,8 @@ use Rattle.reg_heap.specs.Kinds.{Found, owned, times}
 use Rattle.reg_shape.specs.Nodes.{members_at}
 use Rattle.reg_shape.specs.Written.{AreWritten}
 use Rattle.reg_shape.proofs.Walking.InnerReadings.{member-inner}
-use Rattle.reg_values.specs.Internal.ValueListParts.{list_at, BecameList, Fills, HoldsValue, Owns, OwnsBeside, HaveRoom, KeepsSizes}
-use Rattle.reg_values.specs.ValueLists.{Became, Makes}
+use Rattle.reg_values.specs.Internal.ValueListParts.{list_at, BecameList, Fills, HoldsValue, Owns, OwnsBeside, HaveRoom}
+use Rattle.reg_values.specs.ValueLists.{Became, KeepsSizes, Makes}
 use Rattle.reg_values.proofs.ValueFreeing.FrameChains.{owned-append, frame-then, frame-with, writes-in, allocated-le, one-there, there-one, kept-apart}
 use Rattle.reg_values.proofs.ValueListing.ValueListFrame.{IsOpened, opened, AreRead, values-join, values-one, values-kept, closed, closed-written, list-kept, list-open}
 use Rattle.reg_values.proofs.ValueListing.NamedValues.{new-apart, pairs-push}
@@ -102,7 +102,7 @@ module _ (h0 h1 h2 : Heap) (count offset : ℕ) (members : List Member) (met : L
         let x = there z in
         let y = parts z in
         let b = allocated-le h2 z in
-        k z (one-there (h3 z) (omega (arith, c, m, q, x, y, b, p))) ∙ f.sizes z)
+        k z (one-there (h2 z) (omega (arith, x, y, p))) (one-there (h3 z) (omega (arith, c, m, q, x, y, b, p))) ∙ f.sizes z)
 
 -- ---- the new cells, in their parts
 

@@ -1,7 +1,6 @@
 -- A list with one offset more.
-use Rattle.std.proofs.Common.{◌≡◌, ◌≢◌, ℕ, ◌+◌, ◌*◌, ◌<◌, ◌≤◌, ◌==◌, cond, Option, Some, IsSome, List, [], ◌∷◌, ◌++◌, length, take, drop, get_or, refl, sym, ap, ◌∙◌, subst, arith}
+use Rattle.std.proofs.Common.{◌≡◌, ◌≢◌, ℕ, ◌+◌, ◌*◌, ◌<◌, ◌≤◌, ◌==◌, cond, Some, IsSome, List, [], ◌∷◌, ◌++◌, length, take, drop, get_or, sym, ap, ◌∙◌, subst, arith}
 use Rattle.std.proofs.Common.{length-take, length-drop}
-use Rattle.std.proofs.Common.{unwrap_or}
 use Rattle.std.proofs.lemmas.Option.{same_Some}
 use Rattle.reg_heap.specs.ByteWords.{word, splice}
 use Rattle.reg_heap.specs.Heaps.{Heap, CellFrame, Writes, GivesUp, allocated}
@@ -10,11 +9,11 @@ use Rattle.reg_heap.specs.Kinds.Kind.{ValueList}
 use Rattle.reg_records.specs.RecordCells.{HasRoom, held}
 use Rattle.reg_records.specs.OffsetRows.{offsets_at, offset_in}
 use Rattle.reg_records.proofs.SplicedNumbers.{word-same}
-use Rattle.reg_values.specs.Internal.ValueListParts.{list_at, BecameList, Fills, KeepsSizes}
+use Rattle.reg_values.specs.Internal.ValueListParts.{list_at, BecameList, Fills}
 use Rattle.reg_values.proofs.ValueListing.FoundValues.{held-is}
 use Rattle.reg_values.proofs.ValueListing.ValueListFrame.{IsRow, list-open, list-made, list-kept}
 use Rattle.reg_values.proofs.ValueChanges.OffsetRemoved.{offsets-append, offsets-same, get_or-within, get_or-take-drop}
-use Rattle.reg_values.proofs.ValueFreeing.FrameChains.{allocated-le, there-one, one-there, times-same, frame-then, frame-with, writes-in}
+use Rattle.reg_values.proofs.ValueFreeing.FrameChains.{one-there, times-same, frame-then, frame-with, writes-in}
 use Rattle.reg_values.proofs.ValueData.FilledCells.{fills-then, fills-room, written-here, fills-written}
 
 pub row-pushed : (c d : List ℕ) (n cell : ℕ) → offset_in d n ≡ cell → ((j : ℕ) → j < n → offset_in d j ≡ offset_in c j) → offsets_at (n + 1) 0 d ≡ offsets_at n 0 c ++ cell ∷ []
@@ -24,16 +23,6 @@ row-pushed c d n cell e f =
     offsets-append n 1 0 d
     ∙ ap (λ w. offsets_at n 0 d ++ w ∷ []) (ap (word d) z ∙ e)
     ∙ ap (λ xs. xs ++ cell ∷ []) (offsets-same n 0 0 c d (λ j l. let y : 0 + 4 * j ≡ 4 * j = omega arith in ap (word d) y ∙ (f j l ∙ ap (word c) (sym y))))
-
-pub fills-keeps : (h k : Heap) (cells : List ℕ) → Fills h k cells → KeepsSizes h k
-fills-keeps h k cells f = λ z s. f.sizes z
-
-pub gives-keeps : (h k : Heap) (f : ℕ → ℕ) → CellFrame h k f (λ z. 0) → KeepsSizes h k
-gives-keeps h k f s = λ z e.
-    let a = there-one k z e in
-    let b = allocated-le h z in
-    let c = s.count z in
-    ap (λ (o : Option (List ℕ)). length (unwrap_or o [])) (s.same z (omega (arith, a, b, c)) refl)
 
 -- ---- in place
 
@@ -126,9 +115,6 @@ module _ (h0 h1 h2 h3 : Heap) (count old offset cell : ℕ) (some : 0 < count) (
             (frame-with h2 h3 _ _ (λ z. times z (offset ∷ [])) (λ z. owned z met + times z (offset ∷ [])) (λ z. times z (offset ∷ [])) g
             (λ z. let m = met-times z in omega (arith, m)) (λ z. omega arith));
       }
-
-pub keeps-three : (h0 h1 h2 h3 : Heap) (cells : List ℕ) (f : ℕ → ℕ) → Fills h0 h1 cells → Fills h1 h2 cells → CellFrame h2 h3 f (λ z. 0) → KeepsSizes h0 h3
-keeps-three h0 h1 h2 h3 cells f f1 f2 g = λ z s. gives-keeps h2 h3 f g z s ∙ (f2.sizes z ∙ f1.sizes z)
 
 pub old-gone : (h0 h1 h2 : Heap) (count old offset : ℕ) → 0 < count → (row : List ℕ) (met : List Found) → list_at count old h0 ≡ Some (row, met) →
     ((z : ℕ) → owned z met + times z (offset ∷ []) ≤ allocated h0 z) → Fills h0 h1 (offset ∷ []) → Fills h1 h2 (offset ∷ []) → IsSome (h2 old)

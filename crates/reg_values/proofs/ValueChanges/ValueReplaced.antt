@@ -20,7 +20,7 @@ use Rattle.reg_records.proofs.KeyValueCodec.{value_record_at-same}
 use Rattle.reg_shape.proofs.Walking.InnerReadings.{data-inner, member-inner}
 use Rattle.reg_shape.proofs.Frame.ReadingFrame.{Agree, data-local, member-local}
 use Rattle.reg_shape.proofs.Frame.WrittenFrame.{value-kept, same-held}
-use Rattle.reg_values.specs.ValueLists.{Makes}
+use Rattle.reg_values.specs.ValueLists.{KeepsSizes, Makes}
 use Rattle.reg_arena.specs.NewCells.{cell_size}
 use Rattle.reg_values.specs.ValueSizes.{stays, data_sizes, new_data_sizes}
 use Rattle.reg_values.specs.Internal.ValueListParts.{Fills, HoldsData, Owns, OwnsBeside, GivesUpRead, BecameValue, Keeps}
@@ -158,6 +158,9 @@ module _ (h0 h1 h2 : Heap) (cell : ℕ) (own : Owns (member_at cell) h0) (w : Is
             let n : allocated h0 z ≡ 0 = ap (λ (o : Option (List ℕ)). cond (is_some o) 1 0) e in omega (arith, a, b, c, n));
       }
 
+      pub sizes-stay : KeepsSizes h0 h2
+      sizes-stay = λ z e t. f2.sizes z ∙ f1.sizes z
+
 -- ---- in new cells
 
 module _ (h1 h2 h3 : Heap) (cell : ℕ) (cells : List ℕ) (own : OwnsBeside (member_at cell) h1 cells) (w : IsWrittenValue h1 cell) (old : ValueFields)
@@ -200,18 +203,18 @@ module _ (h1 h2 h3 : Heap) (cell : ℕ) (cells : List ℕ) (own : OwnsBeside (me
     }
 
     module _ (h4 : Heap) (g : GivesUpRead (data_at old) h3 h4) where
-      gone : CellFrame h3 h4 (λ z. owned z (member-parts h1 cell own.result own.met own.reads old name r).cells) (λ z. 0)
-      gone = g own.result.bytes _ (data-there3 own.result.bytes _ (member-data h1 cell own.result own.met own.reads old name r) room1)
+      pub data-gone : CellFrame h3 h4 (λ z. owned z (member-parts h1 cell own.result own.met own.reads old name r).cells) (λ z. 0)
+      data-gone = g own.result.bytes _ (data-there3 own.result.bytes _ (member-data h1 cell own.result own.met own.reads old name r) room1)
 
       cell-kept4 : h4 cell ≡ h3 cell
-      cell-kept4 = let a = room1 cell in let t = times-same cell in let b = allocated-le h1 cell in gone.same cell (omega (arith, a, t, b)) refl
+      cell-kept4 = let a = room1 cell in let t = times-same cell in let b = allocated-le h1 cell in data-gone.same cell (omega (arith, a, t, b)) refl
 
       cells-kept4 : (z : ℕ) → 0 < times z cells → h4 z ≡ h3 z
-      cells-kept4 z l = let a = room1 z in let b = allocated-le h1 z in gone.same z (omega (arith, a, l, b)) refl
+      cells-kept4 z l = let a = room1 z in let b = allocated-le h1 z in data-gone.same z (omega (arith, a, l, b)) refl
 
       pub keeps-cells : Keeps h1 h4 cells
       keeps-cells = record {
-        fewer = λ z. (let a = f1.writes.count z in let b = f2.writes.count z in let c = gone.count z in omega (arith, a, b, c));
+        fewer = λ z. (let a = f1.writes.count z in let b = f2.writes.count z in let c = data-gone.count z in omega (arith, a, b, c));
         sizes = λ z l. ap (λ (o : Option (List ℕ)). length (unwrap_or o [])) (cells-kept4 z l) ∙ (f2.sizes z ∙ f1.sizes z);
       }
 
@@ -239,7 +242,7 @@ module _ (h1 h2 h3 : Heap) (cell : ℕ) (cells : List ℕ) (own : OwnsBeside (me
               written = refilled-written h1 h4 cell w old name r size offset kind bytes cells d4 s4 p4;
               frame = frame-then h1 h2 h4 T T last (writes-in h1 h2 cells T f1.writes (λ z. omega arith))
                   (frame-then h2 h3 h4 T T last (writes-in h2 h3 (cell ∷ []) T f2.writes (λ z. let o = own-cells z in let x = q z in omega (arith, o, x)))
-                  (frame-with h3 h4 _ _ (λ z. times z (cell ∷ []) + times z cells) T last gone (λ z. let o = own-cells z in let x = q z in
+                  (frame-with h3 h4 _ _ (λ z. times z (cell ∷ []) + times z cells) T last data-gone (λ z. let o = own-cells z in let x = q z in
                   omega (arith, o, x)) (λ z. let o = d4.owns z in omega (arith, o))));
             }
 

@@ -1,6 +1,6 @@
 -- The sizes of new cells, one by one and together.
 use Rattle.std.proofs.Common.{◌≡◌, ℕ, zero, suc, ◌+◌, ◌-◌, ◌*◌, ◌%◌, ◌<◌, ◌≤◌, nat_le, min, cond, Bool, true, false, Option, Some, None, List, [], ◌∷◌, ◌++◌, length, map, is_some, get_or}
-use Rattle.std.proofs.Common.{refl, ap, ◌∙◌, arith}
+use Rattle.std.proofs.Common.{refl, sym, ap, ◌∙◌, arith}
 use Rattle.std.specs.List.{AllByRecursion, list_all}
 use Rattle.std.proofs.lemmas.Bool.{and_parts, leb-true}
 use Rattle.reg_names.specs.Names.{is_value_name, is_value_name_byte}
@@ -12,6 +12,7 @@ use Rattle.reg_arena.specs.NewBin.{PassesLimit}
 use Rattle.reg_heap.specs.Heaps.{Heap, AreNew, allocated}
 use Rattle.reg_heap.specs.Kinds.{times}
 use Rattle.reg_records.specs.RecordCells.{held}
+use Rattle.reg_records.specs.declared.db.TheConstants.{SEGMENT_SIZE}
 use Rattle.reg_records.specs.BigData.{segment_size, segments_for}
 use Rattle.reg_values.specs.ValueLists.{Makes}
 use Rattle.reg_arena.specs.NewCells.{cell_size}
@@ -20,8 +21,9 @@ use Rattle.reg_records.specs.KeyValues.{KeyValueRecord}
 use Rattle.reg_values.proofs.ValueListing.FoundValues.{held-is}
 use Rattle.reg_values.proofs.ValueFreeing.FrameChains.{allocated-le, none-there, there-one, times-same}
 use Rattle.reg_values.proofs.ValueData.StoredData.{few-segments}
+use Rattle.reg_values.proofs.ValueChanges.PlannedSizes.{big-sizes}
 
-cell-ok : (n : ℕ) → (0 < cell_size n) × (cell_size n % 8 ≡ 0)
+pub cell-ok : (n : ℕ) → (0 < cell_size n) × (cell_size n % 8 ≡ 0)
 cell-ok n = (omega arith, omega arith)
 
 segments-ok : (n size : ℕ) → AreSizes (segment_sizes n size)
@@ -50,11 +52,37 @@ data-total size l = by (nat_le size 4) (nat_le size segment_size)
     by false true = omega (arith, l)
     by false false = let f = few-segments size l in let k = segments-total (segments_for size) size in omega (arith, f, k, l)
 
-all-app : (P : ℕ → Type 0) (xs ys : List ℕ) → AllByRecursion P xs → AllByRecursion P ys → AllByRecursion P (xs ++ ys)
+-- so many full segments and the last
+segments-exact : (full size : ℕ) → SEGMENT_SIZE * full < size → size ≤ SEGMENT_SIZE * full + SEGMENT_SIZE →
+    total_of (segment_sizes (suc full) size) ≡ cell_size SEGMENT_SIZE * full + cell_size (size - SEGMENT_SIZE * full)
+unfolding segment_size
+segments-exact zero size l m =
+    let e : min SEGMENT_SIZE size ≡ size = omega (arith, m) in
+    let f : size ≡ size - SEGMENT_SIZE * zero = omega arith in
+    ap (λ n. cell_size n + 0) (e ∙ f) ∙ omega arith
+segments-exact (suc n) size l m =
+    let k = segments-exact n (size - SEGMENT_SIZE) (omega (arith, l)) (omega (arith, l, m)) in
+    let e : min SEGMENT_SIZE size ≡ SEGMENT_SIZE = omega (arith, l) in
+    let f : size - SEGMENT_SIZE - SEGMENT_SIZE * n ≡ size - SEGMENT_SIZE * suc n = omega arith in
+    let g = ap cell_size f in
+    let h = ap cell_size e in
+    omega (arith, k, g, h)
+
+pub big-exact : (size count last : ℕ) → SEGMENT_SIZE < size → count ≡ segments_for size → last ≡ size - SEGMENT_SIZE * (count - 1) →
+    total_of (data_sizes size) ≡ cell_size 8 + cell_size (4 * count) + cell_size SEGMENT_SIZE * (count - 1) + cell_size last
+unfolding segment_size
+big-exact size zero last l e f = absurd (omega (arith, l, e))
+big-exact size (suc full) last l e f =
+    let s = segments-exact full size (omega (arith, l, e)) (omega (arith, l, e)) in
+    let d = ap total_of (big-sizes size l ∙ ap (λ n. cell_size 8 ∷ cell_size (4 * n) ∷ segment_sizes n size) (sym e)) in
+    let g = ap cell_size f in
+    omega (arith, s, d, g)
+
+pub all-app : (P : ℕ → Type 0) (xs ys : List ℕ) → AllByRecursion P xs → AllByRecursion P ys → AllByRecursion P (xs ++ ys)
 all-app P [] ys a b = b
 all-app P (x ∷ xs) ys a b = (a.0, all-app P xs ys a.1 b)
 
-total-append : (xs ys : List ℕ) → total_of (xs ++ ys) ≡ total_of xs + total_of ys
+pub total-append : (xs ys : List ℕ) → total_of (xs ++ ys) ≡ total_of xs + total_of ys
 total-append [] ys = omega arith
 total-append (x ∷ xs) ys = let k = total-append xs ys in omega (arith, k)
 

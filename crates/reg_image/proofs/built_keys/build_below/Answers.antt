@@ -1,14 +1,14 @@
-use Rattle.std.proofs.Common.{◌≡◌, ◌<◌, None, refl, ap, sym, subst}
+use Rattle.std.proofs.Common.{◌≡◌, ◌<◌, None, Err, refl, ap, sym, subst}
 use Rattle.std.specs.FinMap.{get}
 use Rattle.reg_names.specs.declared.TheConstants.{PATH_LIMIT}
 use Rattle.reg_heap.specs.Paths.{Rec}
 use Rattle.reg_heap.specs.Edits.{child_path}
-use Rattle.reg_tree.specs.BuiltKeys.{built_key}
+use Rattle.reg_tree.specs.BuiltKeys.{AreWhole, built_key}
 use Rattle.reg_image.specs.Internal.BegunKeys.{IsLack, told_as}
 use Rattle.reg_image.specs.Internal.NamedRecords.{members_in}
 use Rattle.reg_image.specs.CrowdedBins.{CrowdsBelow}
 use Rattle.reg_image.proofs.KeyStacks.StackEnds.{if_err}
-use Rattle.reg_image.proofs.KeyStacks.BuiltChains.{lack-as, builds-one, crowds-below}
+use Rattle.reg_image.proofs.KeyStacks.BuiltChains.{as-lack, lack-as, builds-one, crowds-below, crowds-key}
 use Rattle.reg_image.proofs.built_keys.build_below.Goals as goal
 
 pub put_values-requires-clause-bare : goal.put_values-requires-clause-bare
@@ -27,7 +27,7 @@ put_values-requires-clause-bare c =
 
 pub returns-in_err-put_values-in-Ok-clause-err : goal.returns-in_err-put_values-in-Ok-clause-err
 returns-in_err-put_values-in-Ok-clause-err c p is =
-    let whole = c.arena.ensures.whole in
+    let whole : AreWhole _ = record { sound = c.arena.ensures.sound; whole = c.arena.ensures.whole } in
     let key = told_as c.args.named.now c.args.parts.now in
     if_err (IsLack (CrowdsBelow c.args.tree.now p key)) c.from_residual.result _ c.from_residual.ensures.1
     (lack-as _ _ _
@@ -37,7 +37,7 @@ returns-in_err-put_values-in-Ok-clause-err c p is =
 
 pub returns-in_ok-put_values-in-Ok-clause-builds : goal.returns-in_ok-put_values-in-Ok-clause-builds
 returns-in_ok-put_values-in-Ok-clause-builds c p is =
-    let whole = c.arena.ensures.whole in
+    let whole : AreWhole _ = record { sound = c.arena.ensures.sound; whole = c.arena.ensures.whole } in
     let key = told_as c.args.named.now c.args.parts.now in
     builds-one (built_key c.new_key.result) key (members_in c.as_slice.result.now) c.new_key.ensures.built
     (ap members_in c.as_slice.ensures.value) _ _ _ p (c.in-Ok.ensures.builds p is) whole
@@ -51,3 +51,10 @@ build_key-requires-clause-room c p is =
       deep = subst (λ n. n < PATH_LIMIT) is.depth c.requires.shallow;
       few = c.requires.few p is;
     }
+
+pub returns-in-Err-clause-err : goal.returns-in-Err-clause-err
+returns-in-Err-clause-err c p is =
+    let key = told_as c.args.named.now c.args.parts.now in
+    as-lack (CrowdsBelow c.args.tree.now p key) c.in-Err.fault c.lack.result c.lack.ensures
+    (λ full. crowds-key (built_key c.new_key.result) key (members_in c.args.parts.now.values.items) c.new_key.ensures.built refl _ _ p
+    (c.in-Err.ensures.space p is (ap Err full)))

@@ -26,12 +26,12 @@ returns-in_err-put_values-clause-err c =
     if_err (IsLack (CrowdsRoot key)) c.from_residual.result _ c.from_residual.ensures.1
     (lack-as _ _ _
     (crowds-root (built_key c.new_key.result) key (members_in c.as_slice.result.now) c.new_key.ensures.built
-    (ap members_in c.as_slice.ensures.value) _ c.in-Ok.ensures.builds c.arena.ensures.whole)
+    (ap members_in c.as_slice.ensures.value) _ c.in-Ok.ensures.builds (record { sound = c.arena.ensures.sound; whole = c.arena.ensures.whole }))
     (c.in_err-put_values.ensures.err [] c.root-root.ensures.at))
 
 pub returns-clause-builds : goal.returns-clause-builds
 returns-clause-builds c =
     let key = told_as c.args.named.now c.args.parts.now in
     builds-first (built_key c.new_key.result) key (members_in c.as_slice.result.now) c.new_key.ensures.built
-    (ap members_in c.as_slice.ensures.value) _ _ c.in-Ok.ensures.builds c.arena.ensures.whole
+    (ap members_in c.as_slice.ensures.value) _ _ c.in-Ok.ensures.builds (record { sound = c.arena.ensures.sound; whole = c.arena.ensures.whole })
     (c.in_ok-put_values.ensures.puts [] c.root-root.ensures.at)

@@ -1,4 +1,3 @@
-use Rattle.std.proofs.Common.{◌∷◌}
 use Rattle.reg_image.specs.Internal.ListParts.{list_in}
 use Rattle.reg_image.proofs.KeyStacks.WalkedOn.{listed-left}
 use Rattle.reg_image.proofs.subkeys.listed.Goals as goal

@@ -56,14 +56,14 @@ returns-in-Ok-dress-clause-builds c = λ t same d may.
     let changed = c.retime.ensures.changed (parent-then _ _ c.args.parent c.in-Ok.node t _ c.args.key made) in
     let fields = c.fields-time.result in
     key-built c.args.arena.now c.make_one.new.arena c.retime.new.arena c.args.parent c.in-Ok.node t _ c.args.key made fields c.fields-time.ensures may changed c.retime.ensures.roomy
-    (c.in-Ok.ensures.cells t same d) c.retime.ensures.cells c.retime.ensures.long _
+    (c.in-Ok.ensures.cells t same d) c.retime.ensures.cells c.retime.ensures.long c.bins_size.ensures.sound _
     (c.in-Ok-dress.ensures.ok (child-next _ _ c.args.parent c.in-Ok.node t _ c.args.key made fields c.fields-time.ensures may _ changed c.retime.ensures.roomy)
     (may-have _ _ c.args.parent c.in-Ok.node t _ c.args.key made fields c.fields-time.ensures may _ changed c.retime.ensures.roomy)) d
-    c.in-Ok-dress.ensures.cells c.in-Ok-dress.ensures.growth
+    (record { cells = c.in-Ok-dress.ensures.cells; stay = c.in-Ok-dress.ensures.stay; growth = c.in-Ok-dress.ensures.growth; kept = c.in-Ok-dress.ensures.kept })
 
 pub returns-in-Err-dress-clause-space : goal.returns-in-Err-dress-clause-space
 returns-in-Err-dress-clause-space c = λ t same d may full.
     let made = c.in-Ok.ensures.ok t same d in
     let changed = c.retime.ensures.changed (parent-then _ _ c.args.parent c.in-Ok.node t _ c.args.key made) in
     inr (class-lacks c.args.arena.now c.make_one.new.arena c.retime.new.arena c.args.parent c.in-Ok.node t _ c.args.key made c.fields-time.result c.fields-time.ensures may changed c.retime.ensures.roomy
-    (c.in-Ok.ensures.cells t same d) c.retime.ensures.cells c.retime.ensures.long (c.in-Err-dress.ensures.space full))
+    (c.in-Ok.ensures.cells t same d) c.retime.ensures.cells c.retime.ensures.long c.bins_size.ensures.sound _ c.in-Err-dress.ensures.err (c.in-Err-dress.ensures.space full))

@@ -1,4 +1,4 @@
-use Rattle.reg_tree.proofs.BuildKey.BuiltCells.{class-makes}
+use Rattle.reg_tree.proofs.BuildKey.BuiltCells.{class-makes, class-stays}
 use Rattle.reg_tree.proofs.BuildKey.ClassCarved.{markable, dressed}
 use Rattle.reg_tree.proofs.InsertKey.CreatePathMade.{growth-then}
 use Rattle.reg_tree.proofs.build.dress.Goals as goal
@@ -13,6 +13,9 @@ returns-clause-ok c = λ t above.
 
 pub returns-clause-cells : goal.returns-clause-cells
 returns-clause-cells c = class-makes c.args.arena.now c.carve_for.new.arena c.mark.new.arena c.args.class.now _ c.in-Ok.ensures.ok c.mark.ensures.cells c.mark.ensures.long
+
+pub returns-clause-stay : goal.returns-clause-stay
+returns-clause-stay c = class-stays c.args.arena.now c.carve_for.new.arena c.mark.new.arena c.args.class.now _ c.in-Ok.ensures.ok c.mark.ensures.cells c.mark.ensures.long
 
 pub returns-clause-growth : goal.returns-clause-growth
 returns-clause-growth c = growth-then _ _ _ _ c.mark.ensures.long c.in-Ok.ensures.growth

@@ -33,7 +33,8 @@ returns-clause-cells c = λ t same d.
     let l : LeadsTo c.args.arena.now.bytes c.args.parent c.args.key.name.now c.reach-reached.result.node c.reach-reached.result.missing.now = record { here = t; depth = d; reaches = c.reach-reached.ensures.reaches } in
     takes-for c.create_at.result _ c.create_at.new.arena t.path _ c.args.key.name.now c.args.key.descriptor.now _ (name-path c.args.key.name.now c.requires.key.name)
     (belongs_there c.args.arena.now c.args.parent t c.args.key.name.now _ _ c.reach-reached.ensures.reaches 0 _ c.reach-reached.ensures.place.belongs)
-    (c.create_at.ensures.cells c.args.parent c.args.key.name.now l same) (c.create_at.ensures.growth c.args.parent c.args.key.name.now l same)
+    (c.create_at.ensures.cells c.args.parent c.args.key.name.now l same) c.create_at.ensures.stay (c.create_at.ensures.growth c.args.parent c.args.key.name.now l same)
+    c.create_at.ensures.kept
 
 pub returns-clause-space : goal.returns-clause-space
 returns-clause-space c = λ t same d.

@@ -7,7 +7,9 @@ use Rattle.reg_tree.proofs.PathWalk.ReachedSeen.{named}
 use Rattle.reg_tree.proofs.InsertKey.PathCarve.{parent_there, parent_subkeys, parent_place, plan_is}
 use Rattle.reg_tree.proofs.InsertKey.CreatePath.{parent_here, has_room}
 use Rattle.reg_tree.proofs.InsertKey.CreatePathMade.{plan_then, place_then, may_make, grown_all}
+use Rattle.reg_index.proofs.KeptCells.{kept-then}
 use Rattle.reg_tree.proofs.InsertKey.CreatePathEnds.{spared_as}
+use Rattle.reg_tree.proofs.InsertKey.MadeCells.{kept_sizes}
 use Rattle.reg_tree.proofs.InsertKey.DescribedLast.{some_cells, describable, created_described, none_at_end, some_names, room_with, cells_with, growth_with}
 use Rattle.reg_tree.proofs.make.make_described.Goals as goal
 
@@ -144,6 +146,23 @@ returns-clause-cells c = λ from path l same.
     (describable _ _ from l.here (path_of path) c.args.moment c.in-Ok.size c.in-Ok-carve_for.cells.items c.make_all-node.result g _ c.args.descriptor.now x _ cell_is) in
     cells_with c.args.arena.now from l.here path _ _ l.reaches 0 some _ c.args.descriptor.now c.in-Ok.size x _ _ _ _ last c.deref.result.now s
     c.make_all-node.ensures.keeps c.make_all-node.ensures.stay d.keeps d.leaves
+
+pub returns-clause-stay : goal.returns-clause-stay
+returns-clause-stay c =
+    let m = c.requires.reached.2 in
+    let here = parent_here _ _ m.here _ _ _ m.reaches c.args.moment in
+    let plan = plan_is _ _ here _ _ c.subkeys_list-list.ensures c.args.reached.place _ c.plan_insert-plan.ensures in
+    let room = has_room _ _ m.here _ _ _ m.reaches c.args.moment m.depth (named _ c.requires.missing) c.requires.reached.4 in
+    let more = planned_sizes c.in-Ok.size in
+    let last = taken (last_of c.in-Ok.size c.in-Ok-carve_for.cells.items) in
+    let s = spared_as _ _ _ _ _ more last c.deref.result.now c.in-Ok-carve_for.cells.items c.deref.ensures.value (c.in-Ok-carve_for.ensures.ok _ _ here plan) in
+    let g = grown_all _ _ m.here _ _ _ m.reaches c.args.moment m.depth _ _ more last c.deref.result.now s room.1 room.2 c.requires.place _ c.make_all-node.result
+    (c.make_all-node.ensures.grows last (may_make _ _ m.here _ _ _ m.reaches c.args.moment m.depth _ _ more last c.deref.result.now s room.1 room.2 c.requires.place)) in
+    let x = subst (λ t. IsExpected t c.expect.new.securities c.args.descriptor.now c.in-Ok.size) (sym c.requires.reached.3) c.in-Ok.ensures.ok in
+    let cell_is = c.last_cell-cell.ensures ∙ ap (last_of c.in-Ok.size) c.deref-2.ensures.value in
+    let d = c.describe.ensures.described
+    (describable _ _ c.requires.reached.0 m.here _ c.args.moment c.in-Ok.size c.in-Ok-carve_for.cells.items c.make_all-node.result g _ c.args.descriptor.now x _ cell_is) in
+    kept_sizes _ _ _ _ s.come (kept-then _ _ _ c.make_all-node.ensures.keeps d.keeps)
 
 pub returns-clause-growth : goal.returns-clause-growth
 returns-clause-growth c = λ from path l same.

@@ -4,6 +4,7 @@ use Rattle.reg_tree.proofs.InsertKey.PathCarve.{parent_there, parent_subkeys, pa
 use Rattle.reg_tree.proofs.InsertKey.CreatePath.{parent_here, has_room}
 use Rattle.reg_tree.proofs.InsertKey.CreatePathMade.{plan_then, place_then, may_make, grown_all, growth_alone, created, made_alone, room_alone}
 use Rattle.reg_tree.proofs.InsertKey.CreatePathEnds.{spared_as}
+use Rattle.reg_tree.proofs.InsertKey.MadeCells.{kept_sizes}
 use Rattle.reg_tree.proofs.make.make_sharing.Goals as goal
 
 pub subkeys_list-list-requires : goal.subkeys_list-list-requires
@@ -88,6 +89,13 @@ returns-clause-cells c = λ from path l.
     let plan = plan_is _ _ here _ _ c.subkeys_list-list.ensures c.args.reached.place _ c.plan_insert-plan.ensures in
     let s = spared_as _ _ _ _ _ [] [] c.deref.result.now c.in-Ok.cells.items c.deref.ensures.value (c.in-Ok.ensures.ok _ _ here plan) in
     made_alone c.args.arena.now from l.here path _ _ l.reaches c.args.moment _ _ _ c.deref.result.now s c.make_all.ensures.keeps c.make_all.ensures.stay
+
+pub returns-clause-stay : goal.returns-clause-stay
+returns-clause-stay c =
+    let l = c.requires.reached.2 in
+    let here = parent_here _ _ l.here _ _ _ l.reaches 0 in
+    let plan = plan_is _ _ here _ _ c.subkeys_list-list.ensures c.args.reached.place _ c.plan_insert-plan.ensures in
+    kept_sizes _ _ _ _ (c.in-Ok.ensures.ok _ _ here plan).come c.make_all.ensures.keeps
 
 pub returns-clause-growth : goal.returns-clause-growth
 returns-clause-growth c = λ from path l.

@@ -7,6 +7,7 @@ use Rattle.reg_tree.proofs.ValueChange.TreeAfterValueChange.{key_mid, set_change
 use Rattle.reg_tree.proofs.KeyAnswers.RefinementOfValues.{to_members, if_err}
 use Rattle.reg_tree.proofs.InsertKey.CreatePathMade.{growth-then}
 use Rattle.reg_tree.proofs.InsertKey.MadeCells.{makes_after, set_of_key, sizes_of_key}
+use Rattle.reg_tree.proofs.ValueChange.ValueCells.{stay_after}
 use Rattle.reg_tree.proofs.values.set_at.Goals as goal
 
 pub values_list-old-requires : goal.values_list-old-requires
@@ -55,3 +56,6 @@ returns-clause-growth c =
     growth-then _ _ _ _ c.note_values.ensures.long
     (subst (GrowsFor c.args.arena.now.bytes c.set_at.new.arena.bytes)
     (sizes_of_key _ c.args.key _ _ c.args.name.now (length c.args.bytes.now) (key_there _ _ c.requires.place.0) c.values_list-old.ensures) c.in_ok-list.ensures.growth)
+
+pub returns-clause-stay : goal.returns-clause-stay
+returns-clause-stay c = stay_after _ _ _ c.in_ok-list.ensures.stay c.note_values.ensures.sizes

@@ -10,6 +10,7 @@ use Rattle.reg_values.proofs.ValueListing.ValueListFrame.{list-open}
 use Rattle.reg_values.proofs.ValueData.FilledCells.{fills-room}
 use Rattle.reg_values.proofs.ValueData.NewCellRoom.{room-less}
 use Rattle.reg_values.proofs.ValueData.CellSizeTotals.{add-ok, add-total, value-name}
+use Rattle.reg_values.proofs.ValueChanges.KeptSizes.{fills-first, new-first}
 use Rattle.reg_values.proofs.ValueChanges.ValueAdded.{was, list2, owns2, beside2, added, add-makes, new-all, one-rooms, one-parts, two-long, two-rooms, two-list, two-parts, room-sizes}
 use Rattle.reg_values.proofs.ValueChanges.ValueAdded.{full-sizes, list-space, some-count, became-as}
 use Rattle.reg_values.proofs.add.add.Goals as goal
@@ -229,3 +230,17 @@ returns-clause-cells c =
     (heap_of c.move_list.new.arena) (n + 1) (get_or all 1 0) (c.move_list.ensures.list o.row o.list_met l) member c.put_value-2.ensures.holds
     _ a (add-ok h0 n p (length c.args.name.now) (length c.args.bytes.now)) c.move_list.ensures.sizes (omega arith)
     (λ z. omega arith) (λ z. omega arith)
+
+pub returns-then-room-clause-stay : goal.returns-then-room-clause-stay
+returns-then-room-clause-stay c =
+    let h0 = heap_of c.args.arena.now in
+    let h1 = heap_of c.carve.new.arena in
+    let h3 = heap_of c.grow.new.arena in
+    new-first h0 h1 h3 _ c.in_ok-cells.ensures.ok.come (fills-first h1 (heap_of c.put_value.new.arena) h3 _ c.put_value.ensures.fills c.grow.ensures.sizes)
+
+pub returns-clause-stay : goal.returns-clause-stay
+returns-clause-stay c =
+    let h0 = heap_of c.args.arena.now in
+    let h1 = heap_of c.carve.new.arena in
+    let h3 = heap_of c.move_list.new.arena in
+    new-first h0 h1 h3 _ c.in_ok-cells.ensures.ok.come (fills-first h1 (heap_of c.put_value-2.new.arena) h3 _ c.put_value-2.ensures.fills c.move_list.ensures.sizes)

@@ -1,6 +1,7 @@
 use Rattle.reg_arena.specs.Arena.{heap_of}
 use Rattle.reg_values.proofs.ValueData.FilledCells.{fills-cell}
-use Rattle.reg_values.proofs.ValueChanges.ValueListGrown.{grown, fills-keeps}
+use Rattle.reg_values.proofs.ValueChanges.ValueListGrown.{grown}
+use Rattle.reg_values.proofs.ValueChanges.KeptSizes.{fills-keeps}
 use Rattle.reg_values.proofs.add.grow.Goals as goal
 
 pub returns-clause-list : goal.returns-clause-list

@@ -6,7 +6,8 @@ use Rattle.reg_arena.specs.Arena.{heap_of}
 use Rattle.reg_values.specs.Internal.ValueListParts.{list_at, BecameList}
 use Rattle.reg_values.proofs.ValueListing.ValueListFrame.{list-open}
 use Rattle.reg_values.proofs.ValueData.FilledCells.{fills-none, fills-cell, fills-room}
-use Rattle.reg_values.proofs.ValueChanges.ValueListGrown.{started, fills-keeps, copy-fills, copy-here, moved, keeps-three, old-gone}
+use Rattle.reg_values.proofs.ValueChanges.ValueListGrown.{started, copy-fills, copy-here, moved, old-gone}
+use Rattle.reg_values.proofs.ValueChanges.KeptSizes.{fills-keeps, fills-first, gives-keeps}
 use Rattle.reg_values.proofs.ValueData.NewCellRoom.{room-less}
 use Rattle.reg_values.proofs.add.move_list.Goals as goal
 
@@ -79,4 +80,4 @@ returns-clause-sizes c =
     let n = c.if-list-eq0.false in
     let p : 0 < c.args.list.count = omega (arith, n) in
     let f1 = copy-fills h k c.args.list.count c.args.list.offset c.args.fresh p r.result r.met r.reads c.requires.room c.copy.ensures.written c.copy.ensures.writes in
-    keeps-three h k (heap_of c.put_offset-2.new.arena) (heap_of c.free.new.self) (c.args.fresh ∷ []) _ f1 (fills-cell _ _ c.args.fresh _ c.put_offset-2.ensures.written) c.free.ensures.gone
+    fills-first _ _ _ _ f1 (fills-first _ _ _ _ (fills-cell _ _ c.args.fresh _ c.put_offset-2.ensures.written) (gives-keeps _ _ _ c.free.ensures.gone))

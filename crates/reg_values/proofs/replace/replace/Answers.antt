@@ -6,6 +6,7 @@ use Rattle.reg_values.specs.ValueLists.{Makes}
 use Rattle.reg_values.specs.ValueSizes.{data_sizes}
 use Rattle.reg_values.proofs.ValueData.NewCellRoom.{new-room}
 use Rattle.reg_values.proofs.ValueData.CellSizeTotals.{data-ok, data-total}
+use Rattle.reg_values.proofs.ValueChanges.KeptSizes.{new-first}
 use Rattle.reg_values.proofs.ValueChanges.ValueReplaced.{old-there, owns-new, written-new, record-new, exchanged-new, made-new, replace-sizes, new-cells}
 use Rattle.reg_values.proofs.replace.replace.Goals as goal
 
@@ -82,3 +83,9 @@ returns-clause-cells c =
     let a = new-cells h0 h1 c.in_ok-cells.cells.items c.deref-2.result.now c.deref.result.now c.deref.result.now c.in_ok-cells.ensures.ok c.deref-2.ensures.value refl in
     subst (Makes h0 (heap_of c.exchange.new.arena)) (sym (replace-sizes h0 c.args.cell (length c.args.bytes.now) _ false c.record_at.ensures (sym c.stays.ensures ∙ c.if-stays.false)))
     (made-new h0 h1 (heap_of c.exchange.new.arena) c.deref-2.result.now c.deref.result.now (length c.args.bytes.now) a z c.exchange.ensures.keeps)
+
+pub returns-clause-stay : goal.returns-clause-stay
+returns-clause-stay c =
+    let h0 = heap_of c.args.arena.now in
+    let h1 = heap_of c.carve.new.arena in
+    new-first h0 h1 (heap_of c.exchange.new.arena) _ c.in_ok-cells.ensures.ok.come c.exchange.ensures.stay

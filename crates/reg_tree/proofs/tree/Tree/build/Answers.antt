@@ -14,5 +14,6 @@ returns-in-Ok-dress_root-clause-builds c = record {
   bare = c.in-Ok.tree;
   begun = c.in-Ok.ensures.cells;
   class = c.in-Ok-dress_root.ensures.takes;
+  root = c.in-Ok-dress_root.ensures.root;
   tree = c.in-Ok-dress_root.ensures.ok;
 }

@@ -25,4 +25,4 @@ returns-clause-builds c =
 
 pub returns-clause-space : goal.returns-clause-space
 returns-clause-space c =
-    lacks_seen _ _ c.self.invariant _ c.self.view_is c.args.parent c.args.key c.requires.room c.build_below.result c.build_below.ensures.space
+    lacks_seen _ _ c.self.invariant _ c.self.view_is c.args.parent c.args.key c.requires.room c.build_below.new.arena c.build_below.result c.build_below.ensures.space

@@ -19,4 +19,4 @@ returns-clause-ok c = root-built _ _ c.self.invariant _ c.self.view_is c.args.ke
 pub returns-clause-takes : goal.returns-clause-takes
 returns-clause-takes c =
     root-takes _ _ c.self.invariant _ c.self.view_is c.args.key c.requires.root c.dress.new.arena c.dress.result c.dress.ensures.ok c.dress.ensures.err
-    c.dress.ensures.cells c.dress.ensures.growth
+    c.dress.ensures.cells c.dress.ensures.stay c.dress.ensures.growth c.dress.ensures.kept

@@ -3,8 +3,12 @@ use Rattle.reg_heap.specs.declared.limits.TheConstants.{VALUES_LIMIT}
 use Rattle.reg_heap.specs.Paths.{Tree}
 use Rattle.reg_heap.specs.Edits.{values_at}
 use Rattle.reg_heap.specs.Members.{index_named}
+use Rattle.reg_arena.specs.Arena.{heap_of}
+use Rattle.reg_tree.specs.CellSizes.{value_sizes}
+use Rattle.reg_tree.specs.TreeKeys.{Keys}
 use Rattle.reg_tree.proofs.Invariant.NodeLemmas.{there_at, to_tree, holds_then, changed_ok, changed_nodes}
 use Rattle.reg_tree.proofs.Invariant.LengthsSeen.{lengths_changed}
+use Rattle.reg_tree.proofs.ValueChange.ValueCells.{takes_seen}
 use Rattle.reg_tree.proofs.tree.Tree.set_at.Goals as goal
 
 pub set_at-requires-clause-place : goal.set_at-requires-clause-place
@@ -32,3 +36,9 @@ returns-clause-nodes c = changed_nodes _ _ c.self.invariant _ c.self.view_is _ c
 
 pub returns-clause-lengths : goal.returns-clause-lengths
 returns-clause-lengths c = lengths_changed _ _ c.self.invariant _ c.self.view_is _ c.set_at.result c.args.node _ c.set_at.ensures.lengths
+
+pub returns-clause-takes : goal.returns-clause-takes
+returns-clause-takes c =
+    takes_seen _ _ _ c.self.view_is c.set_at.new.arena c.set_at.result
+    (λ (keys : Keys). value_sizes (heap_of keys.bins) c.args.node.offset c.args.name.now (length c.args.bytes.now))
+    c.set_at.ensures.cells c.set_at.ensures.stay c.set_at.ensures.growth c.set_at.ensures.kept

@@ -1,0 +1,105 @@
+//! Bytes of an image changed, told and compared.
+ghost use Rattle.std.specs.Prelude.{◌≡◌, ◌+◌, ◌≤◌, ◌↔◌, length, take, drop, string_bytes, IsOk, OnOk, OnErr, IfOk};
+ghost use Rattle.hex.specs.Hex.{encode_lower};
+ghost use Rattle.byteorder.specs.Endian.{little_bytes};
+ghost use Rattle.reg_heap.specs.ByteWords.{splice};
+ghost use Rattle.reg_image.specs.BaseBlock.{checksum_of};
+
+use crate::FixtureFault;
+use hex::FromHexError;
+use reg_image::checksum;
+use std::alloc::{AllocError, Global};
+
+/// Where the checksum of a base block stands.
+const CHECKSUM: usize = 508;
+
+/// Writes bytes over those at a place. The fault is `Place`, where they would pass the end; then nothing changes.
+#[tactic(auto, unfolding(reg_heap::specs::ByteWords::splice))]
+pub fn put(bytes: &mut [u8], at: usize, new: &[u8]) -> Result<(), FixtureFault>
+    ensures fits { IsOk result ↔ (at + length new.now ≤ length bytes.old) }
+    ensures put { OnOk result (bytes.new ≡ splice at new.now bytes.old) }
+    ensures same { OnErr result (bytes.new ≡ bytes.old) }
+{
+    let Some(rest) = bytes.len().checked_sub(at) else {
+        return Err(FixtureFault::Place);
+    };
+    if new.len() > rest {
+        return Err(FixtureFault::Place);
+    }
+    bytes[at..at + new.len()].copy_from_slice(new);
+    Ok(())
+}
+
+/// The checksum of an image's first 4,096 bytes. The fault is `Place`, where there are fewer.
+pub fn sum_of(image: &[u8]) -> Result<u32, FixtureFault>
+    ensures ok { IfOk result (λ sum. sum ≡ checksum_of (take 4096 image.now)) }
+    ensures long { IsOk result ↔ (4096 ≤ length image.now) }
+{
+    match image.first_chunk::<4096>() {
+        Some(head) => Ok(checksum(head)),
+        None => Err(FixtureFault::Place),
+    }
+}
+
+/// Writes the checksum of an image's base block anew. The fault is `Place`, where it has no 4,096 bytes; then nothing changes.
+pub fn seal(image: &mut [u8]) -> Result<(), FixtureFault>
+    ensures sealed { OnOk result (image.new ≡ splice 508 (little_bytes 4 (checksum_of (take 4096 image.old))) image.old) }
+    ensures same { OnErr result (image.new ≡ image.old) }
+{
+    let sum = sum_of(image)?;
+    put(image, CHECKSUM, &sum.to_le_bytes())
+}
+
+/// The digits of so many bytes at a place. The faults are `Place`, where there are fewer, and `Memory`.
+pub fn digits(alloc: Global, bytes: &[u8], at: usize, len: usize) -> Result<String, FixtureFault>
+    ensures { IfOk result (λ text. string_bytes text ≡ encode_lower (take len (drop at bytes.now))) }
+{
+    let Some(rest) = bytes.get(at..) else {
+        return Err(FixtureFault::Place);
+    };
+    let Some(part) = rest.get(..len) else {
+        return Err(FixtureFault::Place);
+    };
+    Ok(hex::encode(alloc, part)?)
+}
+
+/// The bytes that digits stand for. The faults are `Line`, where they aren't whole bytes in digits, and `Memory`.
+pub fn bytes_of(alloc: Global, digits: &str) -> Result<Vec<u8>, FixtureFault> {
+    match hex::decode(alloc, digits) {
+        Ok(bytes) => Ok(bytes),
+        Err(FromHexError::OutOfMemory) => Err(FixtureFault::Memory),
+        Err(_) => Err(FixtureFault::Line),
+    }
+}
+
+/// Writes bytes over those of an image: a line has a place, a space and digits. The faults are `Line` and `Number`, where it isn't so,
+/// `Place`, where they would pass the end, and `Memory`; the image is then as before.
+pub fn put_line(alloc: Global, image: &mut [u8], line: &str) -> Result<(), FixtureFault>
+    ensures { OnErr result (image.new ≡ image.old) }
+{
+    let Some((at, digits)) = line.split_once(' ') else {
+        return Err(FixtureFault::Line);
+    };
+    let Ok(at) = at.parse::<usize>() else {
+        return Err(FixtureFault::Number);
+    };
+    let new = bytes_of(alloc, digits)?;
+    put(image, at, &new)
+}
+
+/// The same for each line of a table, up to the first that has a fault.
+pub fn put_table(alloc: Global, image: &mut [u8], table: &str) -> Result<(), FixtureFault> {
+    for line in table.split('\n') {
+        put_line(alloc, image, line)?;
+    }
+    Ok(())
+}
+
+/// How long two runs of bytes are, and the first place at which they differ, if one has it.
+pub fn difference(alloc: Global, one: &[u8], other: &[u8]) -> Result<String, AllocError> {
+    let mut text = format!(in alloc; "{} {}", one.len(), other.len())?;
+    if let Some(at) = one.iter().zip(other.iter()).position(|(a, b)| a != b) {
+        write!(text, " differ at {at}")?;
+    }
+    Ok(text)
+}

@@ -1,0 +1,19 @@
+//! What tests of images and of the tool share: readers and writers that fail, images written out cell by cell, and changes of bytes.
+//!
+//! Its contracts are those of the changes: which bytes a change leaves. It stands on reg_image for the checksum alone. Its main types
+//! are [`FakeReader`] and [`FakeWriter`]; `FixtureFault` says what was wrong with a table or a place, or that memory was wanting.
+#![tactic(auto)]
+
+mod bins;
+mod bytes;
+mod drafts;
+mod fakes;
+mod fault;
+mod many_keys;
+
+pub use crate::bins::{SubkeyLists, allocated, is_among, sizes_but, subkeys};
+pub use crate::bytes::{difference, digits, put, put_line, put_table, seal, sum_of};
+pub use crate::drafts::drafted;
+pub use crate::fakes::{Failure, FakeReader, FakeWriter, narrow, wide};
+pub use crate::fault::FixtureFault;
+pub use crate::many_keys::{deep, script_of_keys, table_of_keys};

@@ -1,0 +1,132 @@
+//! Images as they are made and written. The wanted bytes come from the format's tables.
+use crate::support::{assert_told, fresh_hive, image_of};
+use reg_fixtures::{Failure, FakeWriter, difference, digits, narrow, put_table, sum_of, wide};
+use reg_image::{image, write_image};
+use std::alloc::Global;
+use std::test::Fail;
+
+/// The image of a fresh hive, where it isn't 0: the base block; its checksum; the bin's header; the root's key node with its name; its
+/// security with the descriptor; the free cell.
+const FRESH: &str = "\
+0 726567660100000001000000000000000000000001000000050000000000000001000000200000000010000001000000
+508 56756766
+4096 6862696e0000000000100000
+4128 a8ffffff6e6b2c00000000000000000000000000ffffffff
+4152 0000000000000000ffffffffffffffff00000000ffffffff78000000ffffffff
+4204 04000000524f4f54
+4216 d0ffffff736b000078000000780000000100000014000000
+4240 0100048000000000000000000000000000000000
+4264 580f0000ffffffff";
+
+/// How the image of a fresh hive differs from those bytes.
+fn fresh(alloc: Global) -> Result<String, Fail> {
+    let mut wanted = vec![in alloc; 0; 8192]?;
+    put_table(alloc, &mut wanted, FRESH)?;
+    let bytes = image_of(alloc, "")?;
+    Ok(difference(alloc, &bytes, &wanted)?)
+}
+
+#[test]
+fn images_of_fresh_hives(rt: HostRuntime) -> Result<(), Fail> {
+    assert_told(&rt, fresh(rt.alloc()), "8192 8192")
+}
+
+/// The first bytes and the checksum of an image with a moment and a sequence number.
+fn block_with(alloc: Global, moment: u64, sequence: u32) -> Result<String, Fail> {
+    let hive = fresh_hive(alloc)?;
+    let bytes = image(alloc, &hive, moment, sequence)?;
+    let first = digits(alloc, &bytes, 0, 20)?;
+    let sum = digits(alloc, &bytes, 508, 4)?;
+    Ok(format!(in alloc; "{} {}", first.as_str(), sum.as_str())?)
+}
+
+#[test]
+fn moments_and_sequence_numbers(rt: HostRuntime) -> Result<(), Fail> {
+    assert_told(
+        &rt,
+        block_with(rt.alloc(), 0x0102_0304_0506_0708, 0x1122_3344),
+        "7265676644332211443322110807060504030201 5a716362",
+    )
+}
+
+/// The checksum of 4,096 bytes that are 0 but where a table says otherwise.
+fn sum_with(alloc: Global, table: &str) -> Result<String, Fail> {
+    let mut bytes = vec![in alloc; 0; 4096]?;
+    if !table.is_empty() {
+        put_table(alloc, &mut bytes, table)?;
+    }
+    Ok(format!(in alloc; "{:x}", sum_of(&bytes)?)?)
+}
+
+// the sums 0 and 0xFFFFFFFF are stored as 1 and 0xFFFFFFFE; the word at 504 is the last that counts
+#[test]
+fn checksums(rt: HostRuntime) -> Result<(), Fail> {
+    let alloc = rt.alloc();
+    for (table, wanted) in [
+        ("", "1"),
+        ("0 0403020100", "1020304"),
+        ("8 78563412\n504 78563412", "1"),
+        ("8 78563412\n504 87a9cbed", "fffffffe"),
+        ("504 02000000\n508 ffffffff\n4092 ffffffff", "2"),
+    ] {
+        assert_told(&rt, sum_with(alloc, table), wanted)?;
+    }
+    Ok(())
+}
+
+/// What writing an image to a writer answers: how many bytes were written before it failed, if it did, and whether the writer has a
+/// front of the image, and how long that is.
+fn written(alloc: Global, bytes: &[u8], mut writer: FakeWriter) -> Result<String, Fail> {
+    let answer = match write_image(bytes, &mut writer) {
+        Ok(()) => "all".to_string(alloc)?,
+        Err(fault) => format!(in alloc; "{}", fault.written)?,
+    };
+    let is_front = bytes.starts_with(&writer.taken);
+    Ok(format!(in alloc; "{} {is_front} {}; ", answer.as_str(), writer.taken.len())?)
+}
+
+/// The same of writers that fail, or answer 0, after so many bytes.
+fn written_within(alloc: Global, bytes: &[u8], rooms: &[usize]) -> Result<String, Fail> {
+    let mut text = String::new(alloc);
+    for room in rooms {
+        for failure in [Failure::Write, Failure::Zero] {
+            let told = written(alloc, bytes, narrow(alloc, *room, failure))?;
+            text.push_str(told.as_str())?;
+        }
+    }
+    Ok(text)
+}
+
+/// The same of a fresh hive's image.
+fn fresh_within(alloc: Global, rooms: &[usize]) -> Result<String, Fail> {
+    let bytes = image_of(alloc, "")?;
+    written_within(alloc, &bytes, rooms)
+}
+
+#[test]
+fn writers_of_images_that_fail(rt: HostRuntime) -> Result<(), Fail> {
+    assert_told(
+        &rt,
+        fresh_within(rt.alloc(), &[0, 1, 4096, 8191]),
+        "0 true 0; 0 true 0; 1 true 1; 1 true 1; 4096 true 4096; 4096 true 4096; 8191 true 8191; 8191 true 8191; ",
+    )
+}
+
+/// The same of a writer that takes one byte a call, and of one whose flush fails.
+fn fresh_written(alloc: Global) -> Result<String, Fail> {
+    let bytes = image_of(alloc, "")?;
+    let mut slow = wide(alloc);
+    slow.step = 1;
+    let slow = written(alloc, &bytes, slow)?;
+    let stuck = written(alloc, &bytes, narrow(alloc, 9000, Failure::Flush))?;
+    Ok(format!(in alloc; "{}{}", slow.as_str(), stuck.as_str())?)
+}
+
+#[test]
+fn writers_of_images_in_pieces(rt: HostRuntime) -> Result<(), Fail> {
+    assert_told(
+        &rt,
+        fresh_written(rt.alloc()),
+        "all true 8192; 8192 true 8192; ",
+    )
+}
