@@ -3,6 +3,7 @@
 //! Suhanov, Windows registry file format specification, section "Key node".
 
 ghost use Rattle.std.specs.Prelude.{◌≡◌, ◌+◌, ◌<◌, ℕ, List, [], length, None, OnOk, IfOk, MatchResult, suc};
+ghost use Rattle.std.specs.Cow.{cow_slice_items};
 ghost use Rattle.std.specs.FinMap.{get};
 ghost use Rattle.reg_names.specs.declared.TheConstants.{PATH_LIMIT};
 ghost use Rattle.reg_heap.specs.declared.limits.TheConstants.{SUBKEYS_LIMIT};
@@ -54,7 +55,7 @@ fn head_below<'a>(
         Heads (cell_at bins.now) levels path (child_path at) offset seen table.new.states.items result }
     ensures fit { IfOk result IsFitName }
     ensures named { OnOk result (state_in table.new.states.items offset ≡ CellState.Named) }
-    ensures free { IfOk result (λ named. (p : Path) → IsAt tree.now p above → get tree.now.tree (child_path p named.name.items) ≡ None) }
+    ensures free { IfOk result (λ named. (p : Path) → IsAt tree.now p above → get tree.now.tree (child_path p (cow_slice_items named.name)) ≡ None) }
     ensures shallow { OnOk result (above.depth < PATH_LIMIT) }
     ensures fewer { OnOk result (unnamed table.new.states.items < unnamed table.old.states.items) }
 {

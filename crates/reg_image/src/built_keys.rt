@@ -1,6 +1,7 @@
 //! Keys that were read, built in the new tree.
 
 ghost use Rattle.std.specs.Prelude.{◌≡◌, ◌<◌, ◌≤◌, None, bit_and, ℕ, List, [], length, OnOk, IfOk, IfErr};
+ghost use Rattle.std.specs.Cow.{cow_slice_items};
 ghost use Rattle.std.specs.FinMap.{empty, get, insert};
 ghost use Rattle.reg_names.specs.declared.TheConstants.{PATH_LIMIT};
 ghost use Rattle.reg_heap.specs.declared.limits.TheConstants.{SUBKEYS_LIMIT, VALUES_LIMIT};
@@ -13,7 +14,7 @@ ghost use Rattle.reg_values.specs.NewValues.{all_told, all_value_sizes};
 ghost use Rattle.reg_tree.specs.BuiltKeys.{built_key};
 ghost use Rattle.reg_tree.specs.CellSizes.{LacksRoom};
 ghost use Rattle.reg_tree.specs.TreeKeys.{IsAt, IsThere, KeepsNodes};
-ghost use Rattle.reg_image.specs.Internal.NamedRecords.{member_in, members_in};
+ghost use Rattle.reg_image.specs.Internal.NamedRecords.{data_in, member_in, members_in};
 ghost use Rattle.reg_image.specs.Internal.FitKeys.{IsFitName, IsOther, AreFit, AreFitParts};
 ghost use Rattle.reg_image.specs.CrowdedBins.{BuildsFirst, BuildsOne, CrowdsBelow, CrowdsRoot};
 ghost use Rattle.reg_image.specs.CrowdedBins.{bytes_taken, CrowdsEach, CrowdsValues, LacksValueRoom, PutsAll, PutsEach, PutsValue, PutsValues};
@@ -68,14 +69,14 @@ fn put_value(
     alloc: Global,
     tree: &mut Tree,
     node: Node,
-    value: &ReadValue,
+    value: &ReadValue<'_>,
     time: u64,
 ) -> Result<(), LoadFault>
     requires value { IsSmallValue (member_in value.now) }
-    requires other { (p : Path) × IsAt tree.old p node × IsOther (values_at tree.old.tree p) value.now.name.items
+    requires other { (p : Path) × IsAt tree.old p node × IsOther (values_at tree.old.tree p) (cow_slice_items value.now.name)
         × (length (values_at tree.old.tree p) < VALUES_LIMIT) }
     ensures ok { (p : Path) → IsAt tree.old p node →
-        OnOk result (tree.new.tree ≡ edited tree.old.tree p (with_value value.now.name.items value.now.kind value.now.bytes.items time)) }
+        OnOk result (tree.new.tree ≡ edited tree.old.tree p (with_value (cow_slice_items value.now.name) value.now.kind (data_in value.now.bytes) time)) }
     ensures nodes { OnOk result (KeepsNodes tree.old tree.new) }
     ensures puts { (p : Path) → IsAt tree.old p node → OnOk result (PutsValue tree.old tree.new p time (member_in value.now)) }
     ensures err { (p : Path) → IsAt tree.old p node → IfErr result (IsLack (LacksValueRoom tree.old p (member_in value.now))) }
@@ -105,7 +106,7 @@ fn put_each(
     alloc: Global,
     tree: &mut Tree,
     node: Node,
-    values: &[ReadValue],
+    values: &[ReadValue<'_>],
     time: u64,
 ) -> Result<(), LoadFault>
     requires values { AreFit (members_in values.now) }
@@ -234,12 +235,12 @@ pub fn build_below(
     requires above { IsThere tree.old above }
     requires named { IsFitName named.now }
     requires parts { AreFitParts parts.now }
-    requires free { (p : Path) → IsAt tree.old p above → get tree.old.tree (child_path p named.now.name.items) ≡ None }
+    requires free { (p : Path) → IsAt tree.old p above → get tree.old.tree (child_path p (cow_slice_items named.now.name)) ≡ None }
     requires shallow { above.depth < PATH_LIMIT }
     requires few { (p : Path) → IsAt tree.old p above → length (children_of tree.old.tree p) < SUBKEYS_LIMIT }
     ensures ok { (p : Path) → IsAt tree.old p above → IfOk result (λ node.
-        (tree.new.tree ≡ insert tree.old.tree (child_path p named.now.name.items) (told_as named.now parts.now))
-        × IsAt tree.new (child_path p named.now.name.items) node) }
+        (tree.new.tree ≡ insert tree.old.tree (child_path p (cow_slice_items named.now.name)) (told_as named.now parts.now))
+        × IsAt tree.new (child_path p (cow_slice_items named.now.name)) node) }
     ensures nodes { OnOk result (KeepsNodes tree.old tree.new) }
     ensures builds { (p : Path) → IsAt tree.old p above → OnOk result (BuildsOne tree.old tree.new p (told_as named.now parts.now)) }
     ensures err { (p : Path) → IsAt tree.old p above → IfErr result (IsLack (CrowdsBelow tree.old p (told_as named.now parts.now))) }

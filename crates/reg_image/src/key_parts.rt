@@ -29,7 +29,7 @@ pub struct KeyParts<'a> {
     /// The bytes of its security's descriptor.
     pub descriptor: &'a [u8],
     /// Its values, in the order of their list.
-    pub values: Vec<ReadValue>,
+    pub values: Vec<ReadValue<'a>>,
 }
 
 /// Names a key's class, security and values, in this order, and reads them.

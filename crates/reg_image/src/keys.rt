@@ -1,6 +1,7 @@
 //! Keys, as the walk names them: a record and its name.
 
 ghost use Rattle.std.specs.Prelude.{◌≡◌, ◌<◌, ◌≤◌, ℕ, List, IfOk, OnOk};
+ghost use Rattle.std.specs.Cow.{cow_slice_items};
 ghost use Rattle.reg_arena.specs.Cells.{cell_at};
 ghost use Rattle.reg_image.specs.LoadingWalk.{key_name as name_step, named_key as key_step};
 ghost use Rattle.reg_image.specs.declared.table.CellState.{CellState};
@@ -18,17 +19,18 @@ use crate::table::CellTable;
 use reg_names::KEY_NAME_LIMIT;
 use reg_records::{KeyNode, read_nk};
 use std::alloc::Global;
+use std::borrow::CowSlice;
 
 /// A key's record, and the characters of its name.
 #[derive(Drop)]
 pub struct NamedKey<'a> {
     pub node: KeyNode<'a>,
-    pub name: Vec<u8>,
+    pub name: CowSlice<'a, u8>,
 }
 
 /// The characters of a key's name.
-fn key_name(alloc: Global, node: KeyNode<'_>) -> Result<Vec<u8>, LoadFault>
-    ensures { Gives (λ name. name.items) (name_step (record { fields = node.entry.fields; name = node.entry.name.now })) result }
+fn key_name<'a>(alloc: Global, node: KeyNode<'a>) -> Result<CowSlice<'a, u8>, LoadFault>
+    ensures { Gives cow_slice_items (name_step (record { fields = node.entry.fields; name = node.entry.name.now })) result }
 {
     if node.name.len() == 0 {
         return Err(LoadFault::Record);

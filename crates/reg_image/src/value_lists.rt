@@ -21,14 +21,14 @@ use reg_records::offset_at;
 use std::alloc::Global;
 
 /// Reads the values at the first offsets of a row, in their order.
-fn values_each(
+fn values_each<'a>(
     alloc: Global,
-    bins: &[u8],
+    bins: &'a [u8],
     table: &mut CellTable,
     minor: u32,
     row: &[u8],
     count: u32,
-) -> Result<Vec<ReadValue>, LoadFault>
+) -> Result<Vec<ReadValue<'a>>, LoadFault>
     requires { 4 * count ≤ length row.now }
     ensures follows { (path : List ℕ) →
         Follows (cell_at bins.now) path (λ values. members_in values.items)
@@ -51,14 +51,14 @@ fn values_each(
 
 /// Names a key's list of values, unless it has none, and reads its first values, as many as are counted. `Limit` is for more than
 /// 16,384, before the list is named.
-pub fn values_from(
+pub fn values_from<'a>(
     alloc: Global,
-    bins: &[u8],
+    bins: &'a [u8],
     table: &mut CellTable,
     minor: u32,
     count: u32,
     offset: u32,
-) -> Result<Vec<ReadValue>, LoadFault>
+) -> Result<Vec<ReadValue<'a>>, LoadFault>
     ensures follows { (path : List ℕ) →
         Follows (cell_at bins.now) path (λ values. members_in values.items) (values_step (cell_at bins.now) minor path count offset)
         table.old.states.items table.new.states.items result }

@@ -1,6 +1,7 @@
 //! Values, as the walk names them: a record and its name, and then the data.
 
 ghost use Rattle.std.specs.Prelude.{◌≡◌, ◌<◌, ◌≤◌, ℕ, true, List, [], ◌∷◌, ◌++◌, IfOk, OnOk};
+ghost use Rattle.std.specs.Cow.{cow_slice_items};
 ghost use Rattle.reg_names.specs.Names.{is_value_name};
 ghost use Rattle.reg_heap.specs.Paths.{Member};
 ghost use Rattle.reg_heap.specs.Trees.{IsSmallValue};
@@ -15,7 +16,7 @@ ghost use Rattle.reg_image.specs.Internal.FitKeys.{IsOther};
 
 use crate::LoadFault;
 use crate::cells::cell;
-use crate::data::data_from;
+use crate::data::{ReadData, data_from};
 use crate::met_names::MetNames;
 use crate::names::name_from;
 use crate::security::fault_of;
@@ -23,28 +24,29 @@ use crate::table::CellTable;
 use reg_names::VALUE_NAME_LIMIT;
 use reg_records::{ValueRecord, read_vk};
 use std::alloc::Global;
+use std::borrow::CowSlice;
 
 /// A value's record, and the characters of its name.
 #[derive(Drop)]
 pub struct NamedValue<'a> {
     pub value: ValueRecord<'a>,
-    pub name: Vec<u8>,
+    pub name: CowSlice<'a, u8>,
 }
 
-/// A value with its data.
+/// A value with its data. What stands in one piece in the image isn't copied.
 #[derive(Drop)]
-pub struct ReadValue {
+pub struct ReadValue<'a> {
     /// The characters of its name, as they are given.
-    pub name: Vec<u8>,
+    pub name: CowSlice<'a, u8>,
     /// The type of its data.
     pub kind: u32,
     /// Its data.
-    pub bytes: Vec<u8>,
+    pub bytes: ReadData<'a>,
 }
 
 /// The characters of a value's name.
-fn value_name(alloc: Global, value: ValueRecord<'_>) -> Result<Vec<u8>, LoadFault>
-    ensures { Gives (λ name. name.items) (name_step (record { fields = value.entry.fields; name = value.entry.name.now })) result }
+fn value_name<'a>(alloc: Global, value: ValueRecord<'a>) -> Result<CowSlice<'a, u8>, LoadFault>
+    ensures { Gives cow_slice_items (name_step (record { fields = value.entry.fields; name = value.entry.name.now })) result }
 {
     name_from(
         alloc,
@@ -58,7 +60,7 @@ fn value_name(alloc: Global, value: ValueRecord<'_>) -> Result<Vec<u8>, LoadFaul
 /// Reads a value's record and its name from what its cell holds.
 fn read_value<'a>(alloc: Global, content: &'a [u8]) -> Result<NamedValue<'a>, LoadFault>
     ensures gives { Gives value_of (value_in content.now) result }
-    ensures name { IfOk result (λ value. is_value_name value.name.items ≡ true) }
+    ensures name { IfOk result (λ value. is_value_name (cow_slice_items value.name) ≡ true) }
 {
     match read_vk(content) {
         Ok(value) => {
@@ -78,7 +80,7 @@ pub fn named_value<'a>(
 ) -> Result<NamedValue<'a>, LoadFault>
     ensures follows { (path : List ℕ) →
         Follows (cell_at bins.now) path value_of (named_step (cell_at bins.now) path offset) table.old.states.items table.new.states.items result }
-    ensures name { IfOk result (λ value. is_value_name value.name.items ≡ true) }
+    ensures name { IfOk result (λ value. is_value_name (cow_slice_items value.name) ≡ true) }
     ensures fewer { OnOk result (unnamed table.new.states.items < unnamed table.old.states.items) }
     ensures no_more { unnamed table.new.states.items ≤ unnamed table.old.states.items }
 {
@@ -88,19 +90,19 @@ pub fn named_value<'a>(
 
 /// Names a value of a key, meets its name among those of the values before it, and reads its data, in this order. `Twice` is also
 /// for a name that folds as one before it.
-pub fn value_from(
+pub fn value_from<'a>(
     alloc: Global,
-    bins: &[u8],
+    bins: &'a [u8],
     table: &mut CellTable,
     minor: u32,
     met: &mut MetNames,
     offset: u32,
-) -> Result<ReadValue, LoadFault>
+) -> Result<ReadValue<'a>, LoadFault>
     ensures follows { (path : List ℕ) → (before : List Member) → AreMet before met.old.folded.keys →
         Follows (cell_at bins.now) path member_in (value_step (cell_at bins.now) minor path before offset)
         table.old.states.items table.new.states.items result }
     ensures small { IfOk result (λ value. IsSmallValue (member_in value)) }
-    ensures other { IfOk result (λ value. (before : List Member) → AreMet before met.old.folded.keys → IsOther before value.name.items) }
+    ensures other { IfOk result (λ value. (before : List Member) → AreMet before met.old.folded.keys → IsOther before (cow_slice_items value.name)) }
     ensures met { IfOk result (λ value. (before : List Member) → AreMet before met.old.folded.keys →
         AreMet (before ++ member_in value ∷ []) met.new.folded.keys) }
     ensures no_more { unnamed table.new.states.items ≤ unnamed table.old.states.items }

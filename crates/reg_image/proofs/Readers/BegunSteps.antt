@@ -4,6 +4,7 @@ use Rattle.std.proofs.Common.{[], ◌∷◌, ◌++◌}
 use Rattle.std.proofs.Common.{length, length-append, refl, sym, ap, ◌∙◌, subst, arith}
 use Rattle.std.specs.Result.{IsErrAnd, MatchResult}
 use Rattle.std.specs.FinMap.{get, insert, find, from_entries, get-from_entries, from_entries_push}
+use Rattle.std.specs.Cow.{cow_slice_items}
 use Rattle.reg_names.specs.declared.TheConstants.{PATH_LIMIT}
 use Rattle.reg_heap.specs.Paths.{Path, Tree, Member, path_cmp, is_child, children_of}
 use Rattle.reg_heap.specs.Edits.{child_path}
@@ -59,7 +60,7 @@ stops-bind levels fault s f seen e = ap (onward f) e
 module _ (heap : Heap) (path : List ℕ) (here : List ℕ → Path) (offset : ℕ) (seen : Seen) (named : NamedKey) (states : List CellState)
     (done : IsDone heap path (named_key heap path offset) seen (key_of named) states) where
   abbrev at : Path
-  at = here named.name.items
+  at = here (cow_slice_items named.name)
 
   abbrev headed : KeyRecord × List ℕ → Step (KeyRecord × List ℕ)
   headed head = no_sibling (here head.1) >> give head
@@ -146,7 +147,7 @@ module _ (heap : Heap) (minor lower : ℕ) (path : List ℕ) (here : List ℕ �
     (mid : List CellState)
     (head : IsDone heap path (head_from heap path here offset) seen (key_of named) mid) where
   abbrev its_path : Path
-  its_path = here named.name.items
+  its_path = here (cow_slice_items named.name)
 
   abbrev go : ℕ → Step (Unit {0})
   go = key_from heap minor lower (offset ∷ path) (child_path its_path)
@@ -159,7 +160,7 @@ module _ (heap : Heap) (minor lower : ℕ) (path : List ℕ) (here : List ℕ �
 
   -- the key behind its head
   key-is : key_from heap minor (suc lower) path here offset seen
-      ≡ (rest_from heap minor (offset ∷ path) its_path the_key named.name.items >> below) head.after
+      ≡ (rest_from heap minor (offset ∷ path) its_path the_key (cow_slice_items named.name) >> below) head.after
   unfolding key_from
   key-is =
       ap (onward (λ (head : KeyRecord × List ℕ). rest_from heap minor (offset ∷ path) (here head.1) head.0 head.1
@@ -169,7 +170,7 @@ module _ (heap : Heap) (minor lower : ℕ) (path : List ℕ) (here : List ℕ �
 
   abbrev telling : List ℕ × List ℕ × List Member → Step (Unit {0})
   telling parts = tell its_path (record {
-    name = named.name.items;
+    name = cow_slice_items named.name;
     marks = marks_of named.node.fields.flags;
     class = parts.0;
     descriptor = parts.1;
@@ -192,7 +193,7 @@ module _ (heap : Heap) (minor lower : ℕ) (path : List ℕ) (here : List ℕ �
     begun : key_from heap minor (suc lower) path here offset seen ≡ below told_then
     begun = key-is ∙ ap (λ r. onward (λ _. below) (onward telling r)) own.gives
 
-    rest-gives : rest_from heap minor (offset ∷ path) its_path the_key named.name.items head.after ≡ Ok (tt, told_then)
+    rest-gives : rest_from heap minor (offset ∷ path) its_path the_key (cow_slice_items named.name) head.after ≡ Ok (tt, told_then)
     rest-gives = ap (onward telling) own.gives
 
     -- the walk comes to the key itself
@@ -343,7 +344,7 @@ module _ (heap : Heap) (minor levels lower : ℕ) (level : levels ≡ suc lower)
         (told_then heap minor lower path here offset seen named mid head parts next own) own.table))
 
     -- what building the key lacked
-    pub no-room : (fault : LoadFault) (here_crowded : Type 0) → (here_crowded → CrowdsNext seen.told (here named.name.items) (told_as named parts)) →
+    pub no-room : (fault : LoadFault) (here_crowded : Type 0) → (here_crowded → CrowdsNext seen.told (here (cow_slice_items named.name)) (told_as named parts)) →
         IsLack here_crowded fault → Whole fault
     no-room Memory k f l = tt
     no-room Limit k f l =
@@ -352,10 +353,10 @@ module _ (heap : Heap) (minor levels lower : ℕ) (level : levels ≡ suc lower)
     no-room fault k f l = absurd l
 
     pub is-begun : (subkeys : SubkeyParts) (node : Node) → ListsAny next last (Ok subkeys) → (keys : Keys) →
-        IsAt keys (here named.name.items) node →
-        lower + node.depth ≡ PATH_LIMIT → get (tree_told seen) (here named.name.items) ≡ None →
-        keys.tree ≡ insert (tree_told seen) (here named.name.items) (told_as named parts) →
-        BuildsAll (seen.told ++ (here named.name.items, told_as named parts) ∷ []) keys → HasParents (tree_told seen) →
+        IsAt keys (here (cow_slice_items named.name)) node →
+        lower + node.depth ≡ PATH_LIMIT → get (tree_told seen) (here (cow_slice_items named.name)) ≡ None →
+        keys.tree ≡ insert (tree_told seen) (here (cow_slice_items named.name)) (told_as named parts) →
+        BuildsAll (seen.told ++ (here (cow_slice_items named.name), told_as named parts) ∷ []) keys → HasParents (tree_told seen) →
         IsBegun heap minor levels path here offset seen last keys
         (record { offset = offset; node = node; count = 0; leaf = subkeys.leaf; lists = subkeys.lists })
     is-begun subkeys node l keys is deep n t built parents =

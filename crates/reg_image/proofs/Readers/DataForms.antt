@@ -1,12 +1,14 @@
 -- A value's data, by what its size says: in the record, in one cell, or behind a big data record.
-use Rattle.std.proofs.Common.{◌≡◌, ℕ, suc, zero, ◌<◌, ◌≤◌, ◌==◌, ◌||◌, nat_le, Bool, true, false, Result, List, refl, sym, subst, arith}
+use Rattle.std.proofs.Common.{◌≡◌, ℕ, suc, zero, ◌-◌, ◌<◌, ◌≤◌, ◌==◌, ◌||◌, nat_le, Bool, true, false, Result, Ok, List, take, refl, sym, ap, ◌∙◌, subst, arith}
 use Rattle.std.proofs.lemmas.Bool.{false≢true}
 use Rattle.std.proofs.lemmas.Bool.Decides.{nat_tests}
+use Rattle.byteorder.specs.Endian.{little_bytes}
 use Rattle.reg_heap.specs.Heaps.{Heap}
 use Rattle.reg_records.specs.BigData.{segment_size, is_inline}
 use Rattle.reg_image.specs.declared.LoadFault.{LoadFault}
+use Rattle.reg_image.specs.declared.LoadFault.TheVariants.{Record}
 use Rattle.reg_image.specs.declared.table.CellState.{CellState}
-use Rattle.reg_image.specs.WalkSteps.{Seen}
+use Rattle.reg_image.specs.WalkSteps.{Seen, Step, onward, give, check}
 use Rattle.reg_image.specs.LoadingWalk.{far_from, big_from, data_by}
 use Rattle.reg_image.specs.Internal.ReaderOutcomes.{Gives, Follows}
 use Rattle.reg_image.proofs.Readers.ReachedSteps.{reaches-same, reaches-follows, gives-follows}
@@ -21,6 +23,15 @@ module _ (heap : Heap) (minor : ℕ) (path : List ℕ) (size offset : ℕ) where
   far-by : (single : Bool) → size ≤ 1048576 → single ≡ (nat_le size segment_size || (minor == 3)) → (seen : Seen) →
       data_by heap minor path false size offset seen ≡ far_from heap path single size offset seen
   far-by single l e seen = let b = less size 1048576 l in rw (b, ← e) refl
+
+-- the field's first bytes
+pub inline-read : (heap : Heap) (minor : ℕ) (path : List ℕ) (size offset : ℕ) (field : List ℕ) → field ≡ little_bytes 4 offset →
+    size - 2147483648 ≤ 4 → (seen : Seen) →
+    data_by heap minor path true size offset seen ≡ Ok (take (size - 2147483648) field, seen)
+inline-read heap minor path size offset field e l seen =
+    let bytes : Step (List ℕ) = give (take (size - 2147483648) (little_bytes 4 offset)) in
+    ap (λ b. onward (λ _. bytes) (check Record b seen)) (less (size - 2147483648) 4 l)
+    ∙ ap (λ field. Ok (take (size - 2147483648) field, seen)) (sym e)
 
 pub inline-follows : {X : Type 0} (heap : Heap) (minor : ℕ) (path : List ℕ) (size offset : ℕ) (view : X → List ℕ) (old : List CellState)
     (r : Result X LoadFault) → 2147483648 ≤ size →

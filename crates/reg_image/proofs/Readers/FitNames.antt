@@ -4,6 +4,7 @@ use Rattle.std.proofs.Common.{refl, sym, ap, ◌∙◌, subst, arith}
 use Rattle.std.specs.List.{list_all}
 use Rattle.std.proofs.lemmas.Bool.{eqb-true}
 use Rattle.std.proofs.lemmas.Bool.Decides.{nat_tests}
+use Rattle.std.specs.Cow.{cow_slice_items}
 use Rattle.reg_names.specs.declared.TheConstants.{KEY_NAME_LIMIT, VALUE_NAME_LIMIT}
 use Rattle.reg_names.specs.Names.{is_key_name_byte, is_value_name_byte, is_key_name, is_value_name}
 use Rattle.reg_records.specs.KeyNodes.{KeyRecord, nk_of, is_in_profile}
@@ -95,12 +96,12 @@ profile : (content : List ℕ) (r : KeyRecord) → nk_of content ≡ Ok r → is
 profile content r e = let is = nk-open content r e in ap (λ (k : KeyRecord). is_in_profile k.fields.flags) is.same ∙ is.profile
 
 pub key-fit : (content : List ℕ) (k : NamedKey) → nk_of content ≡ Ok (key_of k).0 →
-    ((seen : Seen) → key_name (key_of k).0 seen ≡ Ok (k.name.items, seen)) → IsFitName k
+    ((seen : Seen) → key_name (key_of k).0 seen ≡ Ok (cow_slice_items k.name, seen)) → IsFitName k
 key-fit content k e g = record {
-  name = key-name-fit (key_of k).0 k.name.items nothing nothing (g nothing);
+  name = key-name-fit (key_of k).0 (cow_slice_items k.name) nothing nothing (g nothing);
   profile = eqb-true _ 0 (profile content (key_of k).0 e);
 }
 
-pub value-fit : (v : NamedValue) → ((seen : Seen) → value_name (value_of v).0 seen ≡ Ok (v.name.items, seen)) →
-    is_value_name v.name.items ≡ true
-value-fit v g = value-name-fit (value_of v).0 v.name.items nothing nothing (g nothing)
+pub value-fit : (v : NamedValue) → ((seen : Seen) → value_name (value_of v).0 seen ≡ Ok (cow_slice_items v.name, seen)) →
+    is_value_name (cow_slice_items v.name) ≡ true
+value-fit v g = value-name-fit (value_of v).0 (cow_slice_items v.name) nothing nothing (g nothing)

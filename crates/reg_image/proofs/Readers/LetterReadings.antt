@@ -1,14 +1,19 @@
 -- A name's characters, one by one.
-use Rattle.std.proofs.Common.{◌≡◌, ℕ, zero, suc, ◌+◌, ◌*◌, ◌/◌, ◌%◌, ◌<◌, ◌≤◌, ◌==◌, ◌&&◌, ◌||◌, nat_le, nat_lt, Bool, true, false, Some, Ok, Err, List, [], ◌∷◌, ◌++◌, length, take, get_or, slice_get}
-use Rattle.std.proofs.Common.{refl, sym, ap, ◌∙◌, subst, arith}
+use Rattle.std.proofs.Common.{◌≡◌, ℕ, zero, suc, ◌+◌, ◌*◌, ◌/◌, ◌%◌, ◌<◌, ◌≤◌, ◌==◌, ◌&&◌, ◌||◌, nat_le, nat_lt, Bool}
+use Rattle.std.proofs.Common.{true, false, Some, Result, Ok, Err, List, [], ◌∷◌, ◌++◌, length, take, get_or, slice_get}
+use Rattle.std.proofs.Common.{refl, sym, ap, ◌∙◌, arith}
 use Rattle.std.specs.List.{list_all}
 use Rattle.std.proofs.lemmas.Bool.{false≢true, ne_eqb}
 use Rattle.std.proofs.lemmas.Bool.Decides.{nat_tests}
 use Rattle.std.proofs.lemmas.Option.{none-some, same_Some}
 use Rattle.reg_shape.specs.Nodes.{letters}
+use Rattle.reg_image.specs.declared.LoadFault.{LoadFault}
 use Rattle.reg_image.specs.declared.LoadFault.TheVariants.{Record, Limit, NotInProfile}
 use Rattle.reg_image.specs.WalkSteps.{Seen}
 use Rattle.reg_image.specs.LoadingWalk.{name_in}
+use Rattle.reg_image.specs.Internal.NameReadings.{letters_in}
+use Rattle.reg_image.specs.Internal.ReaderOutcomes.{Gives}
+use Rattle.reg_image.proofs.Readers.ReaderSteps.{check-gives}
 
 -- ---- of two bytes each
 
@@ -33,15 +38,8 @@ wide-letter (low ∷ high ∷ rest) e (suc n) l =
 pub letter-count : (single : Bool) (name : List ℕ) → single ≡ false → (single ≡ false → length name % 2 ≡ 0) → length name / 2 ≡ length (letters single name)
 letter-count single name s e = sym (wide-length name (e s)) ∙ ap (λ b. length (letters b name)) (sym s)
 
-pub letter-within : (single : Bool) (name : List ℕ) (index : ℕ) → single ≡ false → (single ≡ false → length name % 2 ≡ 0) →
-    index < length (letters single name) → 2 * index + 1 < length name
-letter-within single name index s e l = let n = letter-count single name s e in let p = e s in omega (arith, n, l, p)
-
-pub letter-is : (single : Bool) (name : List ℕ) (index : ℕ) → single ≡ false → (single ≡ false → length name % 2 ≡ 0) →
-    index < length (letters single name) → slice_get (letters single name) index ≡ Some (get_or name (2 * index) 0 + 256 * get_or name (2 * index + 1) 0)
-letter-is single name index s e l =
-    subst (λ b. slice_get (letters b name) index ≡ Some (get_or name (2 * index) 0 + 256 * get_or name (2 * index + 1) 0)) (sym s)
-    (wide-letter name (e s) index (subst (λ b. index < length (letters b name)) s l))
+pub letter-within : (name : List ℕ) (index : ℕ) → length name % 2 ≡ 0 → index < length (letters false name) → 2 * index + 1 < length name
+letter-within name index e l = let n = wide-length name e in omega (arith, n, l, e)
 
 -- ---- so many were read
 
@@ -105,6 +103,33 @@ some-name (suc n) h = grind (arith, nat_tests)
 pub odd-test : (n : ℕ) → (n % 2 ≡ 0 → ⊥) → (n % 2 == 0) ≡ false
 odd-test n h = ne_eqb (n % 2) 0 h
 
+module _ (letters : List ℕ) (ok : ℕ → Bool) (index : ℕ) (read : List ℕ) (a : AreRead letters ok index read) where
+  pub bad-letter : (x : ℕ) → slice_get letters index ≡ Some x → ok x ≡ false → (seen : Seen) → letters_in ok letters seen ≡ Err NotInProfile
+  bad-letter x g o seen = let b = bad (list_all ok letters) refl in rw b refl
+    where
+      bad : (b : Bool) → list_all ok letters ≡ b → list_all ok letters ≡ false
+      bad false k = k
+      bad true k =
+          let front = all-front ok (suc index) letters k in
+          let last = ap (list_all ok) (take-next letters index x g) ∙ all-next ok (take index letters) x a.good in
+          absurd (false≢true (sym o ∙ (sym last ∙ front)))
+
+  pub good-letters : length letters ≤ index → (seen : Seen) → letters_in ok letters seen ≡ Ok (read, seen)
+  good-letters past seen =
+      let all = take-all letters index past in
+      let b : list_all ok letters ≡ true = ap (list_all ok) (sym all) ∙ a.good in
+      let r : letters ≡ read = sym (a.read_is ∙ all) in
+      rw b (ap (λ n. Ok (n, seen)) r)
+
+-- of one byte each
+pub odd-single : (single : Bool) (ok : ℕ → Bool) (name : List ℕ) → single ≡ true → list_all ok name ≡ false → (seen : Seen) →
+    letters_in ok (letters single name) seen ≡ Err NotInProfile
+odd-single single ok name s e seen = rw (s, e) refl
+
+pub good-single : (single : Bool) (ok : ℕ → Bool) (name : List ℕ) → single ≡ true → list_all ok name ≡ true → (seen : Seen) →
+    letters_in ok (letters single name) seen ≡ Ok (name, seen)
+good-single single ok name s e seen = rw (s, e) refl
+
 module _ (single : Bool) (most : ℕ) (ok : ℕ → Bool) (name : List ℕ) where
   pub odd-name : single ≡ false → (length name % 2 == 0) ≡ false → (seen : Seen) → name_in single most ok name seen ≡ Err Record
   odd-name s e seen = let b : (single || (length name % 2 == 0)) ≡ false = ap (λ b. b || (length name % 2 == 0)) s ∙ e in rw b refl
@@ -128,29 +153,7 @@ module _ (single : Bool) (most : ℕ) (ok : ℕ → Bool) (name : List ℕ) wher
       less : (n m : ℕ) → n ≤ m → nat_le n m ≡ true
       less n m l = grind (arith, nat_tests)
 
-  pub bad-name : (single ≡ false → length name % 2 ≡ 0) → length (letters single name) ≤ most → (index x : ℕ) (read : List ℕ) →
-      AreRead (letters single name) ok index read → slice_get (letters single name) index ≡ Some x → ok x ≡ false → (seen : Seen) →
-      name_in single most ok name seen ≡ Err NotInProfile
-  bad-name e l index x read a g o seen =
-      let p = even-by single refl e in
-      let q = few-by l in
-      let b = bad (list_all ok (letters single name)) refl in
-      rw (p, q, b) refl
-    where
-      bad : (b : Bool) → list_all ok (letters single name) ≡ b → list_all ok (letters single name) ≡ false
-      bad false k = k
-      bad true k =
-          let front = all-front ok (suc index) (letters single name) k in
-          let last = ap (list_all ok) (take-next (letters single name) index x g) ∙ all-next ok (take index (letters single name)) x a.good in
-          absurd (false≢true (sym o ∙ (sym last ∙ front)))
-
-  pub good-name : (single ≡ false → length name % 2 ≡ 0) → length (letters single name) ≤ most → (index : ℕ) (read : List ℕ) →
-      AreRead (letters single name) ok index read → length (letters single name) ≤ index → (seen : Seen) →
-      name_in single most ok name seen ≡ Ok (read, seen)
-  good-name e l index read a past seen =
-      let p = even-by single refl e in
-      let q = few-by l in
-      let all = take-all (letters single name) index past in
-      let b : list_all ok (letters single name) ≡ true = ap (list_all ok) (sym all) ∙ a.good in
-      let r : letters single name ≡ read = sym (a.read_is ∙ all) in
-      rw (p, q, b) (ap (λ n. Ok (n, seen)) r)
+  -- what is left of the step where the name is of whole characters, and not too many
+  pub letters-left : {X : Type 0} (view : X → List ℕ) (r : Result X LoadFault) → (single ≡ false → length name % 2 ≡ 0) →
+      length (letters single name) ≤ most → Gives view (letters_in ok (letters single name)) r → Gives view (name_in single most ok name) r
+  letters-left view r e l g = check-gives view Record _ _ r (even-by single refl e) (check-gives view Limit _ _ r (few-by l) g)

@@ -1,8 +1,9 @@
 -- A value read, with a name that no value before it has.
 use Rattle.std.proofs.Common.{◌≡◌, ℕ, ◌%◌, ◌==◌, ◌||◌, nat_le, not, Bool, true, false, Result}
-use Rattle.std.proofs.Common.{Ok, Err, List, length, bit_and, Vec, Global, refl, sym, ap, ◌∙◌, subst}
+use Rattle.std.proofs.Common.{Ok, Err, List, length, bit_and, Vec, refl, sym, ap, ◌∙◌, subst}
 use Rattle.std.specs.Result.{IsErrAnd}
 use Rattle.std.specs.List.{list_any, list_all}
+use Rattle.std.specs.Cow.{cow_slice_items}
 use Rattle.reg_names.specs.declared.TheConstants.{VALUE_NAME_LIMIT}
 use Rattle.reg_names.specs.Names.{is_value_name_byte}
 use Rattle.reg_heap.specs.Heaps.{Heap}
@@ -15,12 +16,13 @@ use Rattle.reg_shape.specs.Nodes.{letters, member_of}
 use Rattle.reg_image.specs.declared.LoadFault.{LoadFault}
 use Rattle.reg_image.specs.declared.LoadFault.TheVariants.{Record, Twice, NotInProfile, Limit}
 use Rattle.reg_image.specs.declared.table.CellState.{CellState}
+use Rattle.reg_image.specs.declared.data.ReadData.{ReadData}
 use Rattle.reg_image.specs.declared.values.NamedValue.{NamedValue}
 use Rattle.reg_image.specs.declared.values.ReadValue.{ReadValue}
 use Rattle.reg_image.specs.WalkSteps.{Seen, Step, ◌>>=◌, ◌>>◌, onward, give, check, cell}
 use Rattle.reg_image.specs.LoadingWalk.{read, name_in, value_name, named_value, data_by, value_from}
 use Rattle.reg_image.specs.Internal.NameReadings.{value_in}
-use Rattle.reg_image.specs.Internal.NamedRecords.{value_of, member_in}
+use Rattle.reg_image.specs.Internal.NamedRecords.{value_of, data_in, member_in}
 use Rattle.reg_image.specs.Internal.NamesMet.{is_met, AreMet}
 use Rattle.reg_image.specs.Internal.ReaderOutcomes.{Fails, Follows}
 use Rattle.reg_image.proofs.Readers.ReaderSteps.{fails-same, exit-follows, exit-gives, follows-then, cell-gives}
@@ -103,19 +105,16 @@ module _ (heap : Heap) (minor : ℕ) (path : List ℕ) (offset : ℕ) (before : 
   abbrev then : KeyValueRecord × List ℕ → Step Member
   then value = check Twice (is_other value) >> with-data value
 
-  abbrev items : Vec ℕ Global → List ℕ
-  items bytes = bytes.items
-
   abbrev FollowsValue : List CellState → Result ReadValue LoadFault → Type 0
   FollowsValue new r = Follows heap path member_in (value_from heap minor path before offset) old new r
 
   module _ {Y : Type 0} (named : NamedValue) (a : Follows heap path value_of named-step old mid (Ok named))
-      (met : List (Vec ℕ Y)) (are : AreMet before met) (name : List ℕ) (same : name ≡ named.name.items) where
+      (met : List (Vec ℕ Y)) (are : AreMet before met) (name : List ℕ) (same : name ≡ cow_slice_items named.name) where
     abbrev value : KeyValueRecord × List ℕ
     value = value_of named
 
     is-test : is_other value ≡ not (is_met met name)
-    is-test = ap not (are named.name.items ∙ ap (is_met met) (sym same))
+    is-test = ap not (are (cow_slice_items named.name) ∙ ap (is_met met) (sym same))
 
     pub name-exit : (fault : LoadFault) (r : Result ReadValue LoadFault) → IsErrAnd r (λ e. e ≡ fault) →
         ((seen : Seen) → Fails fault (check Twice (not (is_met met name))) seen) → FollowsValue mid r
@@ -133,21 +132,21 @@ module _ (heap : Heap) (minor : ℕ) (path : List ℕ) (offset : ℕ) (before : 
           by false e = absurd (cc)
 
       pub data-exit : (fault : LoadFault) (r : Result ReadValue LoadFault) → IsErrAnd r (λ e. e ≡ fault) →
-          Follows heap path items (data-of value) mid new (Err fault) → FollowsValue new r
+          Follows heap path data_in (data-of value) mid new (Err fault) → FollowsValue new r
       data-exit fault r i d seen t =
           follows-then heap path value_of member_in named-step then old mid new named r a
           (check-follows heap path member_in Twice (is_other value) (with-data value) mid new r (passes seen)
-          (exit-follows heap path items member_in (data-of value) (told-of value) mid new new fault r i d)) seen t
+          (exit-follows heap path data_in member_in (data-of value) (told-of value) mid new new fault r i d)) seen t
 
-      pub value-done : (bytes : Vec ℕ Global) → Follows heap path items (data-of value) mid new (Ok bytes) →
+      pub value-done : (bytes : ReadData) → Follows heap path data_in (data-of value) mid new (Ok bytes) →
           FollowsValue new (Ok (record { name = named.name; kind = named.value.fields.kind; bytes = bytes }))
       value-done bytes d seen t =
           let read : ReadValue = record { name = named.name; kind = named.value.fields.kind; bytes = bytes } in
           let n = a seen t in
-          let is : member_of value.0 bytes.items ≡ member_in read =
-          ap (λ name. record { name = name; kind = named.value.fields.kind; bytes = bytes.items })
+          let is : member_of value.0 (data_in bytes) ≡ member_in read =
+          ap (λ name. record { name = name; kind = named.value.fields.kind; bytes = data_in bytes })
           (named-open heap path offset value seen n.after n.gives) in
           follows-then heap path value_of member_in named-step then old mid new named (Ok read) a
           (check-follows heap path member_in Twice (is_other value) (with-data value) mid new (Ok read) (passes seen)
-          (cell-gives heap path items member_in (data-of value) (told-of value) mid new bytes (Ok read) d
+          (cell-gives heap path data_in member_in (data-of value) (told-of value) mid new bytes (Ok read) d
           (λ seen. ap (λ m. Ok (m, seen)) is))) seen t

@@ -4,6 +4,7 @@ use Rattle.std.proofs.Common.{[], ◌∷◌, ◌++◌, length, drop, Vec, Global
 use Rattle.std.proofs.Common.{drop-cons, length-append, arith}
 use Rattle.std.specs.Result.{IsErrAnd}
 use Rattle.std.proofs.lemmas.Bool.Decides.{nat_tests}
+use Rattle.std.specs.Cow.{cow_slice_items}
 use Rattle.reg_heap.specs.declared.limits.TheConstants.{VALUES_LIMIT}
 use Rattle.reg_heap.specs.Heaps.{Heap}
 use Rattle.reg_heap.specs.Kinds.Kind.{ValueList}
@@ -90,7 +91,7 @@ module _ (heap : Heap) (minor : ℕ) (offsets : List ℕ) (old : List CellState)
 
     pub more-read : (v : ReadValue) (grown : List ReadValue) (more : List (Vec ℕ Y)) → grown ≡ values ++ v ∷ [] → FollowsNext (Ok v) →
         ((before : List Member) → AreMet before met → AreMet (before ++ member_in v ∷ []) more) → unnamed new ≤ unnamed now →
-        IsSmallValue (member_in v) → ((before : List Member) → AreMet before met → IsOther before v.name.items) →
+        IsSmallValue (member_in v) → ((before : List Member) → AreMet before met → IsOther before (cow_slice_items v.name)) →
         AreValuesRead (index + 1) grown more new
     more-read v grown more g f m l s o = subst (λ values. AreValuesRead (index + 1) values more new) (sym g) (record {
       names = subst (λ ms. AreMet ms more) (sym (members-behind values v)) (m (members_in values) a.names);

@@ -1,5 +1,6 @@
 -- A key that is begun, part by part.
 use Rattle.std.specs.Prelude.{◌≡◌, ◌⊎◌, ℕ, zero, suc, Result, Ok, Err, IsOk, List, [], ⊤}
+use Rattle.std.specs.Cow.{cow_slice_items}
 use Rattle.std.specs.FinMap.{insert}
 use Rattle.reg_heap.specs.Paths.{Path, Rec, Tree}
 use Rattle.reg_heap.specs.Heaps.{Heap}
@@ -54,7 +55,7 @@ Heads heap levels path here offset seen states (Err fault) = Stops levels fault 
 -- a key as it is told
 abbrev pub told_as : NamedKey → KeyParts → Rec
 told_as named parts = record {
-  name = named.name.items;
+  name = cow_slice_items named.name;
   marks = marks_of named.node.fields.flags;
   class = parts.class.now;
   descriptor = parts.descriptor.now;

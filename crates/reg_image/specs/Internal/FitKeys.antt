@@ -1,6 +1,7 @@
 -- What was read of a key is within the limits, so that the key can be built.
 use Rattle.std.specs.Prelude.{◌≡◌, ℕ, ◌≤◌, bit_and, true, false, List, [], ◌∷◌, ◌++◌, length, ⊤}
 use Rattle.std.specs.List.{list_any}
+use Rattle.std.specs.Cow.{cow_slice_items}
 use Rattle.reg_names.specs.Names.{is_key_name}
 use Rattle.reg_heap.specs.declared.limits.TheConstants.{DESCRIPTOR_LIMIT, VALUES_LIMIT}
 use Rattle.reg_heap.specs.Paths.{Member}
@@ -12,7 +13,7 @@ use Rattle.reg_image.specs.Internal.NamedRecords.{members_in}
 
 -- a name that may be a key's, and flags without 0x40
 pub record IsFitName (k : NamedKey) : Type 0 where
-  pub name : is_key_name k.name.items ≡ true
+  pub name : is_key_name (cow_slice_items k.name) ≡ true
   pub profile : bit_and k.node.fields.flags 64 ≡ 0
 
 -- no value of that name is among these

@@ -1,5 +1,6 @@
 use Rattle.std.proofs.Common.{◌≡◌, ◌-◌, ◌∷◌, ◌<◌, None, length, refl, ap, ◌∙◌, subst}
 use Rattle.std.specs.FinMap.{get, insert}
+use Rattle.std.specs.Cow.{cow_slice_items}
 use Rattle.reg_names.specs.Names.{folded}
 use Rattle.reg_heap.specs.declared.limits.TheConstants.{SUBKEYS_LIMIT}
 use Rattle.reg_heap.specs.Paths.{Path, Tree, children_of}
@@ -31,7 +32,7 @@ returns-in_err-node-clause-begins c levels path at seen t told built is deep =
     (no-room _ c.args.minor levels (levels - 1) (level-below levels _ deep c.in_ok-named.ensures.shallow) path
     (child_path at) c.args.offset seen
     c.in_ok-named.named _ head c.in_ok-parts.parts _ (c.in_ok-parts.ensures.follows path head.after head.table) c.args.table.now.states.items _ _
-    (crowds-next seen.told _ (child_path at c.in_ok-named.named.name.items) at key built refl) (c.in_err-node.ensures.err at is))
+    (crowds-next seen.told _ (child_path at (cow_slice_items c.in_ok-named.named.name)) at key built refl) (c.in_err-node.ensures.err at is))
 
 pub returns-in_err-subkeys-clause-begins : goal.returns-in_err-subkeys-clause-begins
 returns-in_err-subkeys-clause-begins c levels path at seen t told built is deep =
@@ -45,7 +46,7 @@ returns-in_err-subkeys-clause-begins c levels path at seen t told built is deep 
 pub returns-clause-begins : goal.returns-clause-begins
 returns-clause-begins c levels path at seen t told built is deep =
     let head = c.in_ok-named.ensures.heads levels path at seen t told is deep in
-    let name = c.in_ok-named.named.name.items in
+    let name = cow_slice_items c.in_ok-named.named.name in
     let made = c.in_ok-node.ensures.ok at is in
     let key = made.1 in
     is-begun _ c.args.minor levels (levels - 1) (level-below levels _ deep c.in_ok-named.ensures.shallow) path

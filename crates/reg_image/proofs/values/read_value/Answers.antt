@@ -1,4 +1,5 @@
-use Rattle.std.proofs.Common.{ℕ, Vec, Global}
+use Rattle.std.proofs.Common.{Global}
+use Rattle.std.specs.Cow.{cow_slice_items}
 use Rattle.reg_records.specs.KeyValues.{KeyValueRecord}
 use Rattle.reg_image.specs.LoadingWalk.{value_name}
 use Rattle.reg_image.specs.WalkSteps.{◌>>=◌, give}
@@ -11,7 +12,7 @@ pub returns-in_err-name-in-Ok-clause-gives : goal.returns-in_err-name-in-Ok-clau
 returns-in_err-name-in-Ok-clause-gives c =
     let value : KeyValueRecord = record { fields = c.in-Ok.value.fields; name = c.in-Ok.value.name.now } in
     read-gives value_of _ (λ (value : KeyValueRecord). value_name value >>= (λ name. give (value, name))) value _ c.in-Ok.ensures
-    (exit-gives (λ (x : Vec ℕ Global). x.items) value_of (value_name value) (λ name. give (value, name)) _ _ c.from_residual.ensures.1 c.in_err-name-in-Ok.ensures)
+    (exit-gives (cow_slice_items {Z = Global}) value_of (value_name value) (λ name. give (value, name)) _ _ c.from_residual.ensures.1 c.in_err-name-in-Ok.ensures)
 
 pub returns-in_ok-name-in-Ok-clause-name : goal.returns-in_ok-name-in-Ok-clause-name
 returns-in_ok-name-in-Ok-clause-name c =

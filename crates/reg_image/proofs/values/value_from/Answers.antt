@@ -1,3 +1,4 @@
+use Rattle.std.specs.Cow.{cow_slice_items}
 use Rattle.reg_image.proofs.Readers.ValueReadings.{name-exit, data-exit, value-done}
 use Rattle.reg_image.proofs.Readers.NewValues.{name-other}
 use Rattle.reg_image.proofs.values.value_from.Goals as goal
@@ -19,4 +20,4 @@ returns-clause-follows c path before met =
     c.as_slice.ensures.value c.in_ok-meet.ensures.new _ c.in_ok-bytes.bytes (c.in_ok-bytes.ensures.follows path)
 
 pub returns-clause-other : goal.returns-clause-other
-returns-clause-other c before met = name-other _ _ c.in_ok-value.field-0.name.items c.as_slice.ensures.value c.in_ok-meet.ensures.new before met
+returns-clause-other c before met = name-other _ _ (cow_slice_items c.in_ok-value.field-0.name) c.as_slice.ensures.value c.in_ok-meet.ensures.new before met
