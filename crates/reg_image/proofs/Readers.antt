@@ -2,6 +2,7 @@
 pub mod ReaderSteps
 pub mod KeyLists
 pub mod Descriptors
+pub mod SharedDescriptors
 pub mod ListEntries
 pub mod BlockWords
 pub mod OffsetRows

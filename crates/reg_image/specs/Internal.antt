@@ -11,5 +11,6 @@ pub mod CellScans
 pub mod SegmentSteps
 pub mod Frames
 pub mod Stacks
+pub mod FirstUses
 pub mod InputParts
 pub mod BlockFields

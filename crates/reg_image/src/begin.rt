@@ -19,10 +19,12 @@ ghost use Rattle.reg_image.specs.Internal.CellStates.{IsTable, state_in, unnamed
 ghost use Rattle.reg_image.specs.Internal.FitKeys.{IsFitName};
 ghost use Rattle.reg_image.specs.Internal.BegunKeys.{Heads};
 ghost use Rattle.reg_image.specs.CrowdedBins.{BuildsAll};
-ghost use Rattle.reg_image.specs.Internal.Stacks.{Begins, IsBegun, IsRootCrowded, FailsAs};
+ghost use Rattle.reg_image.specs.Internal.FirstUses.{AreFirst};
+ghost use Rattle.reg_image.specs.Internal.Stacks.{Begins, IsBegun, IsReadAt, IsRootCrowded, FailsAs};
 
 use crate::LoadFault;
-use crate::built_keys::{build_below, build_root};
+use crate::built_keys::build_root;
+use crate::first_keys::{FirstKeys, build_sharing};
 use crate::frames::KeyFrame;
 use crate::key_parts::enter_key;
 use crate::keys::{NamedKey, named_key};
@@ -100,7 +102,7 @@ pub fn begin_root<'a>(
 }
 
 /// Names a key below another one and reads its record, class, security and values, of which it is built in the tree; then the list of
-/// its subkeys. The tree has the keys that were told so far.
+/// its subkeys. The tree has the keys that were told so far, and the first of them with each security are known.
 pub fn begin_key<'a>(
     alloc: Global,
     bins: &'a [u8],
@@ -109,20 +111,24 @@ pub fn begin_key<'a>(
     tree: &mut Tree,
     above: Node,
     offset: u32,
+    firsts: &mut FirstKeys,
 ) -> Result<KeyFrame<'a>, LoadFault>
     requires above { IsThere tree.old above }
     requires few { (p : Path) × IsAt tree.old p above × (length (children_of tree.old.tree p) < SUBKEYS_LIMIT) }
+    requires read { IsReadAt (cell_at bins.now) table.old.states.items tree.old above }
+    requires firsts { AreFirst (cell_at bins.now) tree.old firsts.old }
     ensures begins { (levels : ℕ) → (path : List ℕ) → (at : Path) → (seen : Seen) → IsTable (cell_at bins.now) seen.found path table.old.states.items →
         tree.old.tree ≡ tree_told seen → BuildsAll seen.told tree.old → IsAt tree.old at above → levels + above.depth ≡ PATH_LIMIT →
         Begins (cell_at bins.now) minor levels path (child_path at) offset seen table.new.states.items tree.new result }
     ensures nodes { OnOk result (KeepsNodes tree.old tree.new) }
+    ensures firsts { OnOk result (AreFirst (cell_at bins.now) tree.new firsts.new) }
     ensures fewer { OnOk result (unnamed table.new.states.items < unnamed table.old.states.items) }
 {
     // Only for its clauses `tree` and `one_path`: what isn't there has nothing below it, and the node is that of one key.
     let _ = tree.root();
     let named = head_below(alloc, bins, table, tree, above, offset)?;
     let parts = enter_key(alloc, bins, table, minor, offset, &named.node.fields)?;
-    let node = build_below(alloc, tree, above, &named, &parts)?;
+    let node = build_sharing(alloc, tree, above, &named, &parts, firsts)?;
     let fields = named.node.fields;
     let subkeys = subkeys_from(bins, table, fields.subkeys, fields.subkeys_list)?;
     Ok(KeyFrame {

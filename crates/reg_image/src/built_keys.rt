@@ -1,12 +1,12 @@
 //! Keys that were read, built in the new tree.
 
-ghost use Rattle.std.specs.Prelude.{◌≡◌, ◌<◌, ◌≤◌, None, bit_and, ℕ, List, [], length, OnOk, IfOk, IfErr};
+ghost use Rattle.std.specs.Prelude.{◌≡◌, ◌<◌, ◌≤◌, None, bit_and, ℕ, List, [], length, OnOk, IfOk, IfErr, IfSome};
 ghost use Rattle.std.specs.Cow.{cow_slice_items};
 ghost use Rattle.std.specs.FinMap.{empty, get, insert};
 ghost use Rattle.reg_names.specs.declared.TheConstants.{PATH_LIMIT};
 ghost use Rattle.reg_heap.specs.declared.limits.TheConstants.{SUBKEYS_LIMIT, VALUES_LIMIT};
 ghost use Rattle.reg_heap.specs.Paths.{Path, Tree as KeyTree, Rec, children_of};
-ghost use Rattle.reg_heap.specs.Edits.{child_path, edited, values_at, with_value};
+ghost use Rattle.reg_heap.specs.Edits.{child_path, descriptor_of, edited, values_at, with_value};
 ghost use Rattle.reg_heap.specs.Trees.{IsSmallKey, IsSmallValue};
 ghost use Rattle.reg_arena.specs.declared.TheConstants.{CARVE_LIMIT};
 ghost use Rattle.reg_shape.specs.Spelt.{marks_of};
@@ -224,13 +224,15 @@ pub fn build_root(
     Ok(tree)
 }
 
-/// Builds a key that was read below another one, which has none of its name, and fewer than 60,000 subkeys.
+/// Builds a key that was read below another one, which has none of its name, and fewer than 60,000 subkeys. A key that is there and has
+/// the same descriptor may be told, whose security it shares.
 pub fn build_below(
     alloc: Global,
     tree: &mut Tree,
     above: Node,
     named: &NamedKey<'_>,
     parts: &KeyParts<'_>,
+    like: Option<Node>,
 ) -> Result<Node, LoadFault>
     requires above { IsThere tree.old above }
     requires named { IsFitName named.now }
@@ -238,6 +240,8 @@ pub fn build_below(
     requires free { (p : Path) → IsAt tree.old p above → get tree.old.tree (child_path p (cow_slice_items named.now.name)) ≡ None }
     requires shallow { above.depth < PATH_LIMIT }
     requires few { (p : Path) → IsAt tree.old p above → length (children_of tree.old.tree p) < SUBKEYS_LIMIT }
+    requires like { IfSome like (λ node. (q : Path) × IsAt tree.old q node
+        × (descriptor_of (get tree.old.tree q) ≡ parts.now.descriptor.now)) }
     ensures ok { (p : Path) → IsAt tree.old p above → IfOk result (λ node.
         (tree.new.tree ≡ insert tree.old.tree (child_path p (cow_slice_items named.now.name)) (told_as named.now parts.now))
         × IsAt tree.new (child_path p (cow_slice_items named.now.name)) node) }
@@ -246,7 +250,7 @@ pub fn build_below(
     ensures err { (p : Path) → IsAt tree.old p above → IfErr result (IsLack (CrowdsBelow tree.old p (told_as named.now parts.now))) }
 {
     let time = named.node.fields.time;
-    match tree.build_key(alloc, above, new_key(named, parts)) {
+    match tree.build_key(alloc, above, new_key(named, parts), like) {
         Ok(node) => {
             // Only for its clauses `whole` and `sound`.
             let _ = tree.arena();

@@ -21,6 +21,7 @@ mod block;
 mod built_keys;
 mod cells;
 mod data;
+mod first_keys;
 mod frames;
 mod input;
 mod key_parts;

@@ -11,10 +11,12 @@ ghost use Rattle.reg_image.specs.WalkSteps.{Seen};
 ghost use Rattle.reg_image.specs.LoadingWalk.{key_from, root_path};
 ghost use Rattle.reg_image.specs.Images.{nothing, tree_told};
 ghost use Rattle.reg_image.specs.Internal.CellStates.{IsTable, unnamed};
+ghost use Rattle.reg_image.specs.Internal.FirstUses.{AreFirst};
 ghost use Rattle.reg_image.specs.Internal.Stacks.{IsWalking, IsBegun, IsRootCrowded, FailsAs};
 
 use crate::LoadFault;
 use crate::begin::{BegunRoot, begin_key, begin_root};
+use crate::first_keys::FirstKeys;
 use crate::frames::KeyFrame;
 use crate::lists::leaf_from;
 use crate::table::CellTable;
@@ -43,16 +45,19 @@ fn step<'a>(
     tree: &mut Tree,
     keys: &mut Vec<KeyFrame<'a>>,
     lowest: KeyFrame<'a>,
+    firsts: &mut FirstKeys,
 ) -> Result<(), LoadFault>
     requires node { IsThere tree.old lowest.node }
     requires walks { (root : ℕ) × (whole : Result (Unit {0} × Seen) LoadFault)
         × IsWalking (cell_at bins.now) minor root whole (lowest ∷ reverse keys.old.items) table.old.states.items tree.old }
+    requires firsts { AreFirst (cell_at bins.now) tree.old firsts.old }
     ensures ok { (root : ℕ) → (whole : Result (Unit {0} × Seen) LoadFault) →
         IsWalking (cell_at bins.now) minor root whole (lowest.entry ∷ reverse keys.old.items) table.old.states.items tree.old →
         OnOk result (IsWalking (cell_at bins.now) minor root whole (reverse keys.new.items) table.new.states.items tree.new) }
     ensures err { (root : ℕ) → (whole : Result (Unit {0} × Seen) LoadFault) →
         IsWalking (cell_at bins.now) minor root whole (lowest.entry ∷ reverse keys.old.items) table.old.states.items tree.old →
         IfErr result (λ fault. FailsAs (IsRootCrowded (cell_at bins.now) minor root) fault whole) }
+    ensures firsts { OnOk result (AreFirst (cell_at bins.now) tree.new firsts.new) }
     ensures less { OnOk result
         (2 * unnamed table.new.states.items + length keys.new.items ≤ 2 * unnamed table.old.states.items + length keys.old.items) }
 {
@@ -62,7 +67,7 @@ fn step<'a>(
             return Err(LoadFault::Limit);
         }
         key.count += 1;
-        let below = begin_key(alloc, bins, minor, table, tree, key.node, offset)?;
+        let below = begin_key(alloc, bins, minor, table, tree, key.node, offset, firsts)?;
         push(keys, key)?;
         return push(keys, below);
     }
@@ -93,9 +98,10 @@ fn walk_below<'a>(
         (key_from (cell_at bins.now) minor (suc PATH_LIMIT) [] root_path root.entry.offset nothing)) }
 {
     let mut keys = Vec::new(alloc);
+    let mut firsts = FirstKeys::new(alloc);
     push(&mut keys, root)?;
     while let Some(key) = keys.pop() {
-        step(alloc, bins, minor, table, tree, &mut keys, key)?;
+        step(alloc, bins, minor, table, tree, &mut keys, key, &mut firsts)?;
     }
     Ok(())
 }

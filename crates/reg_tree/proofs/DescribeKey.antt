@@ -1,4 +1,5 @@
 -- A key described by another descriptor.
+pub mod SecurityShared
 pub mod SecurityJoined
 pub mod KeyRedescribed
 pub mod DescribeFrame

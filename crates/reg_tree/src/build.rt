@@ -17,7 +17,7 @@ ghost use Rattle.reg_values.specs.ValueLists.{KeepsSizes, Makes};
 ghost use Rattle.reg_tree.specs.BuiltKeys.{MayBuild, BuildsKey, LacksClassRoom, LacksKeyRoom, built_key, class_sizes};
 ghost use Rattle.reg_tree.specs.CellSizes.{LacksRoom};
 ghost use Rattle.reg_tree.specs.TreeKeys.{tree_in};
-ghost use Rattle.reg_tree.specs.Internal.DescriptorChange.{KeepsFinds};
+ghost use Rattle.reg_tree.specs.Internal.DescriptorChange.{IsKnown, KeepsFinds};
 ghost use Rattle.reg_tree.specs.Internal.KeyCreation.{IsCreated};
 ghost use Rattle.reg_tree.specs.Internal.TreeInvariant.{IsHere, IsChanged, TreeInvariant};
 ghost use Rattle.reg_tree.specs.Internal.KeyNodeChanges.{Notes};
@@ -198,17 +198,20 @@ pub fn dress(
 }
 
 /// Makes the one key below another that has none of its name, as `create` makes it: with no marks and no class, and the time of the
-/// other set. `Full`, `Memory`: then the arena is as before, and the table finds what it found.
+/// other set. The cell of a security that has its descriptor may be known. `Full`, `Memory`: then the arena is as before, and the table
+/// finds what it found.
 fn make_one(
     alloc: Global,
     arena: &mut Arena,
     securities: &mut SecurityTable,
     parent: Node,
     key: NewKey<'_>,
+    known: Option<u32>,
 ) -> Result<Node, ArenaFault>
     requires here { (t : IsHere arena.old.bytes parent.offset) × (t.table ≡ securities.old) × (parent.depth ≡ length t.path)
         × MayBuild (tree_in arena.old.bytes t.root) t.path key.name.now }
     requires key { IsSmallKey (built_key key) }
+    requires known { IsKnown securities.old key.descriptor.now known }
     ensures ok { (t : IsHere arena.old.bytes parent.offset) → t.table ≡ securities.old → parent.depth ≡ length t.path →
         IfOk result (λ made. IsCreated arena.old.bytes arena.new.bytes t.root securities.new t.path parent (key.entry.name.now ∷ [])
         (Some key.entry.descriptor.now) key.entry.time made) }
@@ -232,20 +235,24 @@ fn make_one(
         reached,
         Some(key.descriptor),
         key.time,
+        known,
     )
 }
 
-/// Builds a key below another that has none of its name. `Full`, `Memory`: then there still is a tree.
+/// Builds a key below another that has none of its name. The cell of a security that has its descriptor may be known. `Full`,
+/// `Memory`: then there still is a tree.
 pub fn build_below(
     alloc: Global,
     arena: &mut Arena,
     securities: &mut SecurityTable,
     parent: Node,
     key: NewKey<'_>,
+    known: Option<u32>,
 ) -> Result<Node, ArenaFault>
     requires here { (t : IsHere arena.old.bytes parent.offset) × (t.table ≡ securities.old) × (parent.depth ≡ length t.path)
         × MayBuild (tree_in arena.old.bytes t.root) t.path key.name.now }
     requires key { IsSmallKey (built_key key) }
+    requires known { IsKnown securities.old key.descriptor.now known }
     ensures ok { (t : IsHere arena.old.bytes parent.offset) → t.table ≡ securities.old → parent.depth ≡ length t.path →
         MayBuild (tree_in arena.old.bytes t.root) t.path key.entry.name.now →
         IfOk result (λ node. IsBuilt arena.old.bytes arena.new.bytes t.root securities.new t.path key.entry node) }
@@ -265,7 +272,7 @@ pub fn build_below(
     ensures kept { length arena.old.bytes ≤ length arena.new.bytes }
 {
     let time = fields(arena, parent.offset).time;
-    let node = match make_one(alloc, arena, securities, parent, key) {
+    let node = match make_one(alloc, arena, securities, parent, key, known) {
         Ok(node) => node,
         Err(fault) => return Err(fault),
     };

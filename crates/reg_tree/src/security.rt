@@ -15,28 +15,55 @@ ghost use Rattle.reg_values.specs.ValueLists.{Makes};
 ghost use Rattle.reg_security.specs.Rings.{DescriptorCells, Finds, cell_of};
 ghost use Rattle.reg_tree.specs.TreeKeys.{tree_in};
 ghost use Rattle.reg_tree.specs.CellSizes.{security_sizes, LacksRoom};
-ghost use Rattle.reg_tree.specs.Internal.TreeInvariant.{IsHere, IsChanged};
+ghost use Rattle.reg_tree.specs.Internal.TreeInvariant.{IsHere, IsChanged, TreeInvariant};
 ghost use Rattle.reg_tree.specs.Internal.KeyNodeChanges.{SameSizes};
 ghost use Rattle.reg_tree.specs.Internal.LengthChanges.{LengthsStay};
-ghost use Rattle.reg_tree.specs.Internal.DescriptorChange.{IsCarvedFor, IsDescribable, IsDescribed, IsExpected, Joins, KeepsFinds};
+ghost use Rattle.reg_tree.specs.Internal.DescriptorChange.{IsCarvedFor, IsDescribable, IsDescribed, IsExpected, IsKnown, IsLike, Joins, KeepsFinds};
 
+use crate::Node;
 use crate::key::{fields, note_security};
 use reg_arena::{Arena, ArenaFault};
 use reg_security::{SecurityTable, plan_add, share};
 use std::alloc::{AllocError, Global};
 
-/// Makes a table ready for a descriptor, and answers the size of the cell that it takes: none where a security has it. Where
-/// memory is short, the table is as before.
+/// The cell of the security that a key has, if one is told: a table finds that key's descriptor there, without a search.
+pub fn security_like(arena: &Arena, like: Option<Node>) -> Option<u32>
+    requires { (root : ℕ) × (table : DescriptorCells) × TreeInvariant arena.now.bytes root table
+        × (descriptor : List ℕ) × IsLike arena.now.bytes root descriptor like }
+    ensures { (root : ℕ) → (table : DescriptorCells) → TreeInvariant arena.now.bytes root table →
+        (descriptor : List ℕ) → IsLike arena.now.bytes root descriptor like → IsKnown table descriptor result }
+{
+    match like {
+        None => None,
+        Some(node) => Some(fields(arena, node.offset).security),
+    }
+}
+
+/// The cell that a table notes for a descriptor, if it does: a search finds it where it isn't known.
+fn found(securities: &SecurityTable, descriptor: &[u8], known: Option<u32>) -> Option<u32>
+    requires { IsKnown securities.now descriptor.now known }
+    ensures { result ≡ cell_of securities.now descriptor.now }
+{
+    match known {
+        None => securities.find_equal(descriptor),
+        Some(cell) => Some(cell),
+    }
+}
+
+/// Makes a table ready for a descriptor, whose cell may be known, and answers the size of the cell that it takes: none where a
+/// security has it. Where memory is short, the table is as before.
 pub fn expect(
     alloc: Global,
     securities: &mut SecurityTable,
     descriptor: &[u8],
+    known: Option<u32>,
 ) -> Result<Option<u32>, AllocError>
-    requires { length descriptor.now ≤ DESCRIPTOR_LIMIT }
+    requires short { length descriptor.now ≤ DESCRIPTOR_LIMIT }
+    requires known { IsKnown securities.old descriptor.now known }
     ensures ok { IfOk result (λ size. IsExpected securities.old securities.new descriptor.now size) }
     ensures err { OnErr result (securities.new ≡ securities.old) }
 {
-    if securities.find_equal(descriptor).is_some() {
+    if found(securities, descriptor, known).is_some() {
         return Ok(None);
     }
     securities.expect(alloc, descriptor)?;
@@ -70,7 +97,7 @@ fn carve_for(
     ensures grows { OnOk result (length arena.new.bytes ≤ length arena.old.bytes + GROWTH_BOUND) }
     ensures kept { OnOk result (length arena.old.bytes ≤ length arena.new.bytes) }
 {
-    let Ok(size) = expect(alloc, securities, descriptor) else {
+    let Ok(size) = expect(alloc, securities, descriptor, None) else {
         return Err(ArenaFault::Memory);
     };
     let Some(bytes) = size else {
@@ -86,17 +113,19 @@ fn carve_for(
     }
 }
 
-/// Has a security of the ring with a descriptor for one key more: the one that has it, or a new one in the cell that was carved
-/// for it, behind another one. It takes no memory.
+/// Has a security of the ring with a descriptor for one key more: the one that has it, whose cell may be known, or a new one in the
+/// cell that was carved for it, behind another one. It takes no memory.
 fn join(
     arena: &mut Arena,
     securities: &mut SecurityTable,
     near: u32,
     cell: Option<u32>,
     descriptor: &[u8],
+    known: Option<u32>,
 ) -> u32
     requires ring { (key : ℕ) × (d : IsDescribable arena.old.bytes key securities.old descriptor.now cell) × (0 < times near d.ring) }
     requires descriptor { (1 ≤ length descriptor.now) × (length descriptor.now ≤ DESCRIPTOR_LIMIT) }
+    requires known { IsKnown securities.old descriptor.now known }
     ensures joins { (key : ℕ) → (d : IsDescribable arena.old.bytes key securities.old descriptor.now cell) → 0 < times near d.ring →
         (after : List ℕ) × Joins (heap_of arena.old) (heap_of arena.new) d.ring after cell result descriptor.now
         × Finds securities.new (heap_of arena.new) after }
@@ -107,15 +136,15 @@ fn join(
         securities.add(arena, Some(near), cell, descriptor);
         return cell;
     }
-    let Some(cell) = securities.find_equal(descriptor) else {
+    let Some(cell) = found(securities, descriptor, known) else {
         unreachable!()
     };
     share(arena, cell);
     cell
 }
 
-/// Describes a key by another descriptor, for which a cell was carved if it takes one, and sets the key's time. The key gives its
-/// old security back. It takes no memory.
+/// Describes a key by another descriptor, for which a cell was carved if it takes one, and sets the key's time. The cell of a security
+/// that has it may be known. The key gives its old security back. It takes no memory.
 pub fn describe(
     arena: &mut Arena,
     securities: &mut SecurityTable,
@@ -123,15 +152,17 @@ pub fn describe(
     cell: Option<u32>,
     descriptor: &[u8],
     moment: u64,
+    known: Option<u32>,
 )
     requires here { IsDescribable arena.old.bytes key securities.old descriptor.now cell }
     requires descriptor { (1 ≤ length descriptor.now) × (length descriptor.now ≤ DESCRIPTOR_LIMIT) }
+    requires known { IsKnown securities.old descriptor.now known }
     ensures described { (d : IsDescribable arena.old.bytes key securities.old descriptor.now cell) →
         IsDescribed arena.old.bytes arena.new.bytes d.root d.path d.keys d.ring securities.new descriptor.now moment }
     ensures long { length arena.new.bytes ≡ length arena.old.bytes }
 {
     let before = fields(arena, key).security;
-    let security = join(arena, securities, before, cell, descriptor);
+    let security = join(arena, securities, before, cell, descriptor, known);
     note_security(arena, key, security, moment);
     securities.release(arena, before);
 }
@@ -165,6 +196,6 @@ pub fn set(
         Ok(cell) => cell,
         Err(fault) => return Err(fault),
     };
-    describe(arena, securities, key, cell, descriptor, moment);
+    describe(arena, securities, key, cell, descriptor, moment, None);
     Ok(())
 }

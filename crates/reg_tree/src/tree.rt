@@ -7,7 +7,7 @@ ghost use Rattle.reg_heap.specs.declared.limits.TheConstants.{BINS_LIMIT, DATA_L
 ghost use Rattle.reg_heap.specs.Paths.{Path, path_cmp, Rec, Member, children_of};
 ghost use Rattle.reg_heap.specs.Members.{value_named, index_named};
 ghost use Rattle.reg_heap.specs.Trees.{IsTree, IsWithinLimits, IsSmallKey};
-ghost use Rattle.reg_heap.specs.Edits.{edited, with_descriptor, with_value, without_value, values_at, folded_path, are_too_many, without_key, IsKept};
+ghost use Rattle.reg_heap.specs.Edits.{edited, descriptor_of, with_descriptor, with_value, without_value, values_at, folded_path, are_too_many, without_key, IsKept};
 ghost use Rattle.reg_heap.specs.Edits.{child_path, may_not_go, missing, last_there, is_within, is_under, without_tree, emptied, any_kept_within, any_kept_under};
 ghost use Rattle.reg_arena.specs.Arena.{IsSound, heap_of};
 ghost use Rattle.reg_arena.specs.declared.TheConstants.{CARVE_LIMIT};
@@ -566,6 +566,7 @@ impl Tree {
             reached,
             given,
             moment,
+            None,
         )
     }
 
@@ -715,6 +716,9 @@ impl Tree {
     /// and no values. No other key's time changes. After a fault nothing is said of the tree but that it is one, and that it has the key
     /// without marks and class where there is no room for the class's cell alone; it is to be dropped.
     ///
+    /// A key that is there and has the same descriptor may be told: then the new one shares that one's security, and its descriptor is
+    /// neither hashed nor compared. Without one it is looked for.
+    ///
     /// First the cells come of a key that is made at its place with its descriptor, and then its class's. `Full` only where the bins
     /// lack room for those or, once they are there, for the class's: no free cell has room for all of them, and one bin more would
     /// pass the limit of 268,435,456 bytes; `Memory`. The bins grow only where no free cell has room, and by at most twice 1,310,720
@@ -724,10 +728,13 @@ impl Tree {
         alloc: Global,
         parent: Node,
         key: NewKey<'_>,
+        like: Option<Node>,
     ) -> Result<Node, ArenaFault>
         requires parent { IsThere self.old parent }
         requires room { (p : Path) → IsAt self.old p parent → MayBuild self.old.tree p key.name.now }
         requires key { IsSmallKey (built_key key) }
+        requires like { IfSome like (λ node. (q : Path) × IsAt self.old q node
+            × (descriptor_of (get self.old.tree q) ≡ key.descriptor.now)) }
         ensures ok { (p : Path) → IsAt self.old p parent →
             IfOk result (λ node. (self.new.tree ≡ insert self.old.tree (child_path p key.entry.name.now) (built_key key.entry))
             × IsAt self.new (child_path p key.entry.name.now) node) }
@@ -739,7 +746,15 @@ impl Tree {
         ensures grows { length self.new.bins.bytes ≤ length self.old.bins.bytes + 2 * GROWTH_BOUND }
         ensures kept { length self.old.bins.bytes ≤ length self.new.bins.bytes }
     {
-        build::build_below(alloc, &mut self.arena, &mut self.securities, parent, key)
+        let known = security::security_like(&self.arena, like);
+        build::build_below(
+            alloc,
+            &mut self.arena,
+            &mut self.securities,
+            parent,
+            key,
+            known,
+        )
     }
 
     /// Puts values as all that a key has that has none, in their order, and gives the key a time; no other key's changes. Each is

@@ -24,7 +24,7 @@ use Rattle.reg_image.specs.Internal.CellStates.{state_in, Puts, IsTable}
 use Rattle.reg_image.specs.Internal.ReaderOutcomes.{Fails, Follows}
 use Rattle.reg_image.specs.Internal.ListParts.{entries_in, list_in}
 use Rattle.reg_image.specs.Internal.Frames.{Frame, frame_left, left, ComesInFrame, ComesLeft}
-use Rattle.reg_image.specs.Internal.Stacks.{path_of, Shows, AreShown, IsDeep, IsWalking, FailsAs, IsBegun, Begins}
+use Rattle.reg_image.specs.Internal.Stacks.{path_of, Shows, AreShown, IsDeep, IsWalking, IsReadAt, FailsAs, IsBegun, Begins}
 use Rattle.reg_image.specs.Internal.Stacks.{ComesCrowded, IsRootCrowded}
 use Rattle.reg_image.proofs.KeyStacks.ChildCounts.{no-child-of}
 use Rattle.reg_image.proofs.KeyStacks.WalkedOn.{left-comes, list-comes, key-comes, next-comes}
@@ -299,6 +299,13 @@ pub few-built : (heap : Heap) (minor root : ℕ) (whole : Told) (key : KeyFrame)
 few-built heap minor root whole key above old keys w few =
     by-frame heap minor root whole key above old old keys w (λ f frames a path shown t r m.
     (f.at, a.node, (let n = a.count in let l = a.few in omega (arith, n, l, few))))
+
+-- the walk has come to the lowest key
+pub read-at : (heap : Heap) (minor root : ℕ) (whole : Told) (key : KeyFrame) (above : List KeyFrame) (old : List CellState) (keys : Keys) →
+    IsWalking heap minor root whole (key ∷ above) old keys → IsReadAt heap old keys key.node
+read-at heap minor root whole key above old keys w =
+    by-frame heap minor root whole key above old old keys w (λ f frames a path shown t r m.
+    record { levels = w.levels; path = f.path; at = f.at; seen = w.seen; table = t; told = w.told; there = a.node; deep = w.depths.0 })
 
 -- ---- the first key
 

@@ -3,6 +3,7 @@ use Rattle.std.specs.Prelude.{◌≡◌, ◌⊎◌, ◌≤◌, cond, length, ℕ
 use Rattle.reg_names.specs.declared.TheConstants.{PATH_LIMIT}
 use Rattle.reg_heap.specs.Heaps.{Heap}
 use Rattle.reg_heap.specs.Paths.{Path, is_child, children_of}
+use Rattle.reg_tree.specs.declared.node.Node.{Node}
 use Rattle.reg_tree.specs.TreeKeys.{Keys, IsAt}
 use Rattle.reg_image.specs.declared.LoadFault.{LoadFault}
 use Rattle.reg_image.specs.declared.LoadFault.TheVariants.{Limit, Memory}
@@ -59,6 +60,17 @@ pub record IsWalking (heap : Heap) (minor root : ℕ) (whole : Result (Unit {0} 
   pub rest : left heap minor levels frames seen ≡ whole
   pub comes : (later : Seen) → ComesLeft heap minor later levels frames seen →
       Comes heap minor later (suc PATH_LIMIT) [] root_path root nothing
+
+-- a walk has come to a key of the tree: its records were named as the table says, and so many levels of keys may come below it
+pub record IsReadAt (heap : Heap) (states : List CellState) (keys : Keys) (node : Node) : Type 0 where
+  pub levels : ℕ
+  pub path : List ℕ
+  pub at : Path
+  pub seen : Seen
+  pub table : IsTable heap seen.found path states
+  pub told : keys.tree ≡ tree_told seen
+  pub there : IsAt keys at node
+  pub deep : levels + node.depth ≡ PATH_LIMIT
 
 -- the walk of a key comes to one that the new bins have no room for
 abbrev pub ComesCrowded : Heap → ℕ → ℕ → List ℕ → (List ℕ → Path) → ℕ → Seen → Type 0

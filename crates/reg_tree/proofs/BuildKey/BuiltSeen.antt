@@ -1,10 +1,10 @@
 -- A tree as it is seen, where a key was built, or wasn't.
-use Rattle.std.proofs.Common.{◌≡◌, ℕ, [], ◌∷◌, length, refl, subst, arith, length-append}
-use Rattle.std.specs.Prelude.{◌⊎◌, Result, Ok, Err, OnOk, OnErr, IfOk, IfErr}
-use Rattle.std.specs.FinMap.{insert}
+use Rattle.std.proofs.Common.{◌≡◌, ℕ, Option, Some, None, [], ◌∷◌, length, refl, subst, arith, length-append}
+use Rattle.std.specs.Prelude.{◌⊎◌, Result, Ok, Err, OnOk, OnErr, IfOk, IfErr, IfSome}
+use Rattle.std.specs.FinMap.{get, insert}
 use Rattle.reg_names.specs.Names.{folded}
 use Rattle.reg_heap.specs.Paths.{Path, Tree}
-use Rattle.reg_heap.specs.Edits.{child_path}
+use Rattle.reg_heap.specs.Edits.{child_path, descriptor_of}
 use Rattle.reg_arena.specs.Arena.{Bins}
 use Rattle.reg_arena.specs.declared.ArenaFault.{ArenaFault}
 use Rattle.reg_arena.specs.declared.ArenaFault.TheVariants.{Full}
@@ -13,6 +13,7 @@ use Rattle.reg_tree.specs.declared.build.NewKey.{NewKey}
 use Rattle.reg_tree.specs.declared.node.Node.{Node}
 use Rattle.reg_tree.specs.BuiltKeys.{BuildsKey, LacksClassRoom, LacksKeyRoom, MayBuild, built_key}
 use Rattle.reg_tree.specs.TreeKeys.{Keys, tree_in, IsAt, IsThere, KeepsNodes}
+use Rattle.reg_tree.specs.Internal.DescriptorChange.{IsLike}
 use Rattle.reg_tree.specs.Internal.KeyBuilding.{IsBuilt}
 use Rattle.reg_tree.specs.Internal.TreeInvariant.{TreeInvariant, IsHere}
 use Rattle.reg_tree.proofs.Invariant.NodeLemmas.{seen_as, here_at, there_at, of_tree, to_tree}
@@ -26,6 +27,16 @@ module _ (bins : Bins) (root : ℕ) {table : DescriptorCells} (holds : TreeInvar
   pub may_there : IsThere now parent → (t : IsHere bins.bytes parent.offset) × (t.table ≡ table) × (parent.depth ≡ length t.path)
       × MayBuild (tree_in bins.bytes t.root) t.path key.name.now
   may_there some = (there_at bins root holds now view_is parent some, refl, some.1.depth, may_at some.0 some.1)
+
+  -- a key that has the same descriptor
+  pub like_there : (like : Option Node) → IfSome like (λ node. (q : Path) × IsAt now q node × (descriptor_of (get now.tree q) ≡ key.descriptor.now)) →
+      IsLike bins.bytes root key.descriptor.now like
+  like_there None l = tt
+  like_there (Some node) l = (
+    l.0,
+    (here_at bins root holds now view_is node l.0 l.1).at,
+    to_tree bins root holds now view_is (λ (tree : Tree). descriptor_of (get tree l.0) ≡ key.descriptor.now) l.2,
+  )
 
   module _ (new : Bins) (after : DescriptorCells) (result : Result Node ArenaFault)
       (ok : (t : IsHere bins.bytes parent.offset) → t.table ≡ table → parent.depth ≡ length t.path → MayBuild (tree_in bins.bytes t.root) t.path key.name.now →

@@ -1,10 +1,11 @@
 -- A descriptor that comes to a key (Win32 registry reference, `RegSetKeySecurity`; Suhanov, Windows registry file format specification,
 -- "Key security").
-use Rattle.std.specs.Prelude.{◌≡◌, ℕ, ◌+◌, ◌-◌, ◌<◌, ◌≤◌, Option, Some, None, IsSome, List, [], ◌∷◌, ◌++◌, length, get_or}
+use Rattle.std.specs.Prelude.{◌≡◌, ℕ, ◌+◌, ◌-◌, ◌<◌, ◌≤◌, Option, Some, None, IsSome, IfSome, List, [], ◌∷◌, ◌++◌, length, get_or}
+use Rattle.std.specs.FinMap.{get}
 use Rattle.reg_heap.specs.Heaps.{Heap, CellFrame, Writes}
 use Rattle.reg_heap.specs.Kinds.{times}
 use Rattle.reg_heap.specs.Paths.{Path}
-use Rattle.reg_heap.specs.Edits.{edited, with_descriptor}
+use Rattle.reg_heap.specs.Edits.{edited, descriptor_of, with_descriptor}
 use Rattle.reg_arena.specs.Arena.{Bins, heap_of}
 use Rattle.reg_arena.specs.Cells.{cell_at}
 use Rattle.reg_arena.specs.NewCells.{cell_size}
@@ -17,6 +18,7 @@ use Rattle.reg_shape.specs.Internal.Shapes.{tree_of}
 use Rattle.reg_shape.specs.Internal.Grafts.{IsShape, uses_in}
 use Rattle.reg_index.specs.Subkeys.{KeepsCells, taken}
 use Rattle.reg_security.specs.Rings.{DescriptorCells, Finds, Expects, cell_of}
+use Rattle.reg_tree.specs.declared.node.Node.{Node as TreeNode}
 use Rattle.reg_tree.specs.TreeKeys.{tree_in}
 use Rattle.reg_tree.specs.KeyLengths.{lengths_at}
 use Rattle.reg_tree.specs.Internal.KeyNodeChanges.{LeavesOthers}
@@ -28,6 +30,15 @@ abbrev pub IsExpected : DescriptorCells → DescriptorCells → List ℕ → Opt
 IsExpected old new descriptor None = (new ≡ old) × IsSome (cell_of old descriptor)
 IsExpected old new descriptor (Some size) = (size ≡ cell_size (20 + length descriptor)) × (cell_of old descriptor ≡ None)
     × ((heap : Heap) (ring : List ℕ) → Finds old heap ring → Expects new heap ring descriptor)
+
+-- the cell that is known of a descriptor, if one is, is that which a table notes for it
+abbrev pub IsKnown : DescriptorCells → List ℕ → Option ℕ → Type 0
+IsKnown table descriptor known = IfSome known (λ cell. cell_of table descriptor ≡ Some cell)
+
+-- a node, if there is one, is that of a key with this descriptor
+abbrev pub IsLike : List ℕ → ℕ → List ℕ → Option TreeNode → Type 0
+IsLike bytes root descriptor like = IfSome like (λ node. (q : Path) × (key_offset_at (cell_at bytes) root q ≡ Some node.offset)
+    × (descriptor_of (get (tree_in bytes root) q) ≡ descriptor))
 
 -- a table that finds the securities of a ring still does
 abbrev pub KeepsFinds : DescriptorCells → DescriptorCells → Type 0

@@ -5,10 +5,12 @@ use Rattle.reg_names.specs.Names.{folded}
 use Rattle.reg_heap.specs.declared.limits.TheConstants.{SUBKEYS_LIMIT}
 use Rattle.reg_heap.specs.Paths.{Path, Tree, children_of}
 use Rattle.reg_heap.specs.Edits.{child_path}
+use Rattle.reg_arena.specs.Cells.{cell_at}
 use Rattle.reg_image.specs.Internal.BegunKeys.{told_as}
 use Rattle.reg_image.proofs.Readers.BegunSteps.{head-fails, level-below, depth-below, no-parts, no-room, no-list, is-begun, begins-exit}
 use Rattle.reg_image.proofs.KeyStacks.ChildCounts.{HasParents}
 use Rattle.reg_image.proofs.KeyStacks.BuiltChains.{all-more, crowds-next}
+use Rattle.reg_image.proofs.Readers.SharedDescriptors.{parts-described}
 use Rattle.reg_image.proofs.begin.begin_key.Goals as goal
 
 pub returns-in_err-named-clause-begins : goal.returns-in_err-named-clause-begins
@@ -59,8 +61,26 @@ returns-clause-begins c levels path at seen t told built is deep =
     (all-more seen.told _ _ (child_path at name) at (told_as c.in_ok-named.named c.in_ok-parts.parts) built refl (c.in_ok-node.ensures.builds at is))
     (subst (λ (tree : Tree). HasParents tree) told c.root.ensures.tree.parents)
 
-pub build_below-requires-clause-few : goal.build_below-requires-clause-few
-build_below-requires-clause-few c p is =
+pub build_sharing-requires-clause-firsts : goal.build_sharing-requires-clause-firsts
+build_sharing-requires-clause-firsts c =
+    let r = c.requires.read in
+    let head = c.in_ok-named.ensures.heads r.levels r.path r.at r.seen r.table r.told r.there r.deep in
+    let done = c.in_ok-parts.ensures.follows r.path head.after head.table in (
+      cell_at c.args.bins.now,
+      c.requires.firsts,
+      parts-described (cell_at c.args.bins.now) c.args.minor (c.args.offset ∷ r.path) _ head.after done.after _ done.gives,
+    )
+
+pub returns-clause-firsts : goal.returns-clause-firsts
+returns-clause-firsts c =
+    let r = c.requires.read in
+    let head = c.in_ok-named.ensures.heads r.levels r.path r.at r.seen r.table r.told r.there r.deep in
+    let done = c.in_ok-parts.ensures.follows r.path head.after head.table in
+    c.in_ok-node.ensures.firsts (cell_at c.args.bins.now) c.requires.firsts
+    (parts-described (cell_at c.args.bins.now) c.args.minor (c.args.offset ∷ r.path) _ head.after done.after _ done.gives)
+
+pub build_sharing-requires-clause-few : goal.build_sharing-requires-clause-few
+build_sharing-requires-clause-few c p is =
     let few = c.requires.few in
     subst (λ (q : Path). length (children_of c.args.tree.now.tree q) < SUBKEYS_LIMIT)
     (c.root.ensures.one_path few.0 p c.args.above few.1 is) few.2

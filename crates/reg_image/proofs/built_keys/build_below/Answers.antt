@@ -1,8 +1,9 @@
-use Rattle.std.proofs.Common.{◌≡◌, ◌<◌, None, Err, refl, ap, sym, subst}
+use Rattle.std.proofs.Common.{◌≡◌, ℕ, List, IfSome, ◌<◌, None, Err, refl, ap, sym, subst}
 use Rattle.std.specs.FinMap.{get}
 use Rattle.reg_names.specs.declared.TheConstants.{PATH_LIMIT}
-use Rattle.reg_heap.specs.Paths.{Rec}
-use Rattle.reg_heap.specs.Edits.{child_path}
+use Rattle.reg_heap.specs.Paths.{Path, Rec}
+use Rattle.reg_heap.specs.Edits.{child_path, descriptor_of}
+use Rattle.reg_tree.specs.TreeKeys.{IsAt}
 use Rattle.reg_tree.specs.BuiltKeys.{AreWhole, built_key}
 use Rattle.reg_image.specs.Internal.BegunKeys.{IsLack, told_as}
 use Rattle.reg_image.specs.Internal.NamedRecords.{members_in}
@@ -10,6 +11,11 @@ use Rattle.reg_image.specs.CrowdedBins.{CrowdsBelow}
 use Rattle.reg_image.proofs.KeyStacks.StackEnds.{if_err}
 use Rattle.reg_image.proofs.KeyStacks.BuiltChains.{as-lack, lack-as, builds-one, crowds-below, crowds-key}
 use Rattle.reg_image.proofs.built_keys.build_below.Goals as goal
+
+pub build_key-requires-clause-like : goal.build_key-requires-clause-like
+build_key-requires-clause-like c =
+    subst (λ (d : List ℕ). IfSome c.args.like (λ node. (q : Path) × IsAt c.args.tree.now q node × (descriptor_of (get c.args.tree.now.tree q) ≡ d)))
+    (sym (ap (λ (r : Rec). r.descriptor) c.new_key.ensures.built)) c.requires.like
 
 pub put_values-requires-clause-bare : goal.put_values-requires-clause-bare
 put_values-requires-clause-bare c =

@@ -3,7 +3,7 @@ use Rattle.reg_arena.specs.Cells.{cell_at}
 use Rattle.reg_image.specs.declared.frames.KeyFrame.{KeyFrame}
 use Rattle.reg_image.specs.Internal.Stacks.{IsWalking, IsRootCrowded, FailsAs}
 use Rattle.reg_image.proofs.KeyStacks.StackEnds.{if_err, pushed, pushed-twice}
-use Rattle.reg_image.proofs.KeyStacks.WalkTurns.{few-built, walking-left, walking-list, walking-list-fails, walking-key, walking-key-fails}
+use Rattle.reg_image.proofs.KeyStacks.WalkTurns.{few-built, read-at, walking-left, walking-list, walking-list-fails, walking-key, walking-key-fails}
 use Rattle.reg_image.proofs.walk.step.Goals as goal
 
 pub returns-in_err-below-clause-err : goal.returns-in_err-below-clause-err
@@ -43,6 +43,11 @@ pub returns-clause-ok : goal.returns-clause-ok
 returns-clause-ok c root whole w =
     walking-left _ _ root whole c.args.lowest (reverse c.args.keys.now.items) _ c.leave.new.self.states.items _ w
     c.in_default.ensures.next c.in_default-take.ensures.next c.leave.ensures.left
+
+pub begin_key-requires-clause-read : goal.begin_key-requires-clause-read
+begin_key-requires-clause-read c =
+    let w = c.requires.walks in
+    read-at _ _ w.0 w.1 c.args.lowest (reverse c.args.keys.now.items) _ _ w.2
 
 pub begin_key-requires-clause-few : goal.begin_key-requires-clause-few
 begin_key-requires-clause-few c =

@@ -7,6 +7,7 @@ use Rattle.reg_image.specs.Images.{nothing}
 use Rattle.reg_image.specs.Internal.Stacks.{IsWalking}
 use Rattle.reg_image.proofs.KeyStacks.StackEnds.{popped}
 use Rattle.reg_image.proofs.KeyStacks.WalkTurns.{walking-first}
+use Rattle.reg_image.proofs.Readers.SharedDescriptors.{none-first}
 use Rattle.reg_image.proofs.walk.walk_below.Goals as goal
 
 pub loop-key-init : goal.loop-key-init
@@ -14,17 +15,21 @@ loop-key-init c =
     let bins = c.args.bins.now in
     let whole = key_from (cell_at bins) c.args.minor (suc PATH_LIMIT) [] root_path c.args.root.offset nothing in
     let items : reverse c.push.new.keys.items ≡ c.args.root ∷ [] =
-    ap reverse (c.in_ok-push.ensures.ok ∙ ap (λ (ks : List KeyFrame). ks ++ c.args.root ∷ []) c.new-keys.ensures.items) in
-    subst (λ (ks : List KeyFrame). IsWalking (cell_at bins) c.args.minor c.args.root.offset whole ks c.args.table.now.states.items c.args.tree.now) (sym items)
-    (walking-first (cell_at bins) c.args.minor c.args.root.offset _ _ c.args.root c.requires.begun)
+    ap reverse (c.in_ok-push.ensures.ok ∙ ap (λ (ks : List KeyFrame). ks ++ c.args.root ∷ []) c.new-keys.ensures.items) in (
+      none-first (cell_at bins) c.args.tree.now _ c.new-firsts.ensures,
+      subst (λ (ks : List KeyFrame). IsWalking (cell_at bins) c.args.minor c.args.root.offset whole ks c.args.table.now.states.items c.args.tree.now) (sym items)
+          (walking-first (cell_at bins) c.args.minor c.args.root.offset _ _ c.args.root c.requires.begun),
+    )
 
 pub loop-key-preserved : goal.loop-key-preserved
 loop-key-preserved c =
     let bins = c.args.bins.now in
-    let whole = key_from (cell_at bins) c.args.minor (suc PATH_LIMIT) [] root_path c.args.root.offset nothing in
-    c.in_ok-step.ensures.ok c.args.root.offset whole
-    (popped (λ (ks : List KeyFrame). IsWalking (cell_at bins) c.args.minor c.args.root.offset whole ks c.loop-key.table.states.items c.loop-key.tree)
-    c.loop-key.keys.items c.pop.new.self.items c.in-Some.key c.in-Some.ensures.items c.loop-key.invariant)
+    let whole = key_from (cell_at bins) c.args.minor (suc PATH_LIMIT) [] root_path c.args.root.offset nothing in (
+      c.in_ok-step.ensures.firsts,
+      c.in_ok-step.ensures.ok c.args.root.offset whole
+          (popped (λ (ks : List KeyFrame). IsWalking (cell_at bins) c.args.minor c.args.root.offset whole ks c.loop-key.table.states.items c.loop-key.tree)
+          c.loop-key.keys.items c.pop.new.self.items c.in-Some.key c.in-Some.ensures.items c.loop-key.invariant.1),
+    )
 
 pub step-requires-clause-walks : goal.step-requires-clause-walks
 step-requires-clause-walks c =
@@ -33,5 +38,5 @@ step-requires-clause-walks c =
       c.args.root.offset,
       whole,
       popped (λ (ks : List KeyFrame). IsWalking (cell_at bins) c.args.minor c.args.root.offset whole ks c.loop-key.table.states.items c.loop-key.tree)
-          c.loop-key.keys.items c.pop.new.self.items c.in-Some.key c.in-Some.ensures.items c.loop-key.invariant,
+          c.loop-key.keys.items c.pop.new.self.items c.in-Some.key c.in-Some.ensures.items c.loop-key.invariant.1,
     )

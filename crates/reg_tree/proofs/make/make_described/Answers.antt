@@ -11,6 +11,7 @@ use Rattle.reg_index.proofs.KeptCells.{kept-then}
 use Rattle.reg_tree.proofs.InsertKey.CreatePathEnds.{spared_as}
 use Rattle.reg_tree.proofs.InsertKey.MadeCells.{kept_sizes}
 use Rattle.reg_tree.proofs.InsertKey.DescribedLast.{some_cells, describable, created_described, none_at_end, some_names, room_with, cells_with, growth_with}
+use Rattle.reg_tree.proofs.DescribeKey.SecurityShared.{known-expected}
 use Rattle.reg_tree.proofs.make.make_described.Goals as goal
 
 pub subkeys_list-list-requires : goal.subkeys_list-list-requires
@@ -108,6 +109,10 @@ describe-requires-clause-here c =
     let x = subst (λ t. IsExpected t c.expect.new.securities c.args.descriptor.now c.in-Ok.size) (sym c.requires.reached.3) c.in-Ok.ensures.ok in
     let cell_is = c.last_cell-cell.ensures ∙ ap (last_of c.in-Ok.size) c.deref-2.ensures.value in
     describable _ _ c.requires.reached.0 l.here _ c.args.moment c.in-Ok.size c.in-Ok-carve_for.cells.items c.make_all-node.result g _ c.args.descriptor.now x _ cell_is
+
+pub describe-requires-clause-known : goal.describe-requires-clause-known
+describe-requires-clause-known c =
+    known-expected c.args.securities.now c.expect.new.securities c.args.descriptor.now c.in-Ok.size c.args.known c.in-Ok.ensures.ok c.requires.known
 
 pub returns-clause-ok : goal.returns-clause-ok
 returns-clause-ok c = λ from path l same.

@@ -1,5 +1,19 @@
-use Rattle.reg_tree.proofs.BuildKey.BuiltSeen.{may_there, holds_built, built_seen, builds_seen, lacks_seen, nodes_built}
+use Rattle.reg_tree.proofs.BuildKey.BuiltSeen.{like_there, may_there, holds_built, built_seen, builds_seen, lacks_seen, nodes_built}
 use Rattle.reg_tree.proofs.tree.Tree.build_key.Goals as goal
+
+pub security_like-known-requires : goal.security_like-known-requires
+security_like-known-requires c = (
+  c.self.inside.root,
+  c.self.inside.securities,
+  c.self.invariant,
+  c.args.key.descriptor.now,
+  like_there _ _ c.self.invariant _ c.self.view_is c.args.parent c.args.key c.requires.room c.args.like c.requires.like,
+)
+
+pub build_below-requires-clause-known : goal.build_below-requires-clause-known
+build_below-requires-clause-known c =
+    c.security_like-known.ensures _ _ c.self.invariant c.args.key.descriptor.now
+    (like_there _ _ c.self.invariant _ c.self.view_is c.args.parent c.args.key c.requires.room c.args.like c.requires.like)
 
 pub build_below-requires-clause-here : goal.build_below-requires-clause-here
 build_below-requires-clause-here c = may_there _ _ c.self.invariant _ c.self.view_is c.args.parent c.args.key c.requires.room c.requires.parent
