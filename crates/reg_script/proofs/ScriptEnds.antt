@@ -1,5 +1,5 @@
 -- What a script leaves once it has ended.
-use Rattle.std.proofs.Common.{◌≡◌, ℕ, List, [], ◌++◌, length, Option, refl, sym, subst, ap, arith, append-nil, ◌⊎◌, inl, inr}
+use Rattle.std.proofs.Common.{◌≡◌, ℕ, List, [], ◌++◌, length, Option, refl, sym, subst, ap, arith, append-nil, inl, inr}
 use Rattle.std.specs.Prelude.{Result, Ok, Err, OnOk, IfErr}
 use Rattle.std.specs.Io.KnownBytes.{Appends, Consumes, IsAtEnd}
 use Rattle.reg_calls.specs.Views.{View}
@@ -8,10 +8,10 @@ use Rattle.reg_script.specs.declared.engine.ScriptFault.TheVariants.{Read, Write
 use Rattle.reg_script.specs.LineWords.{lines_of}
 use Rattle.reg_script.specs.Lines.{Stand, AreSaid, Lines, LinesTo}
 use Rattle.reg_script.specs.Internal.Outputs.{IsCut, Closes}
-use Rattle.reg_script.specs.Stops.{HasNoFeed, AreWithin, IsReached, Stops}
-use Rattle.reg_script.specs.Internal.Progress.{Position, IsSteady, with_feeds, Takes, IsIdle, past, IsLost, Halts, Ends}
+use Rattle.reg_script.specs.Stops.{HasNoFeed, AreWithin, Stops}
+use Rattle.reg_script.specs.Internal.Progress.{Position, IsSteady, with_feeds, Takes, IsIdle, past, Halts, Ends}
 use Rattle.reg_script.proofs.ProgressLemmas.{consumes_none, appends_none}
-use Rattle.reg_script.proofs.ScriptHalts.{begins, fed_ends, unended, passing, answered_next, stops_with, all_sent, cut_sent}
+use Rattle.reg_script.proofs.ScriptHalts.{begins, fed_ends, unended, passing, stops_with, all_sent, cut_sent}
 
 -- a script at its start
 pub record IsStart (position : Position) (hive : View) : Type 0 where
@@ -80,7 +80,8 @@ ended_cut old new hive script unread left final fault start at_end consumes e cu
       text = e.replies;
       last = new.stand;
       said = said_whole old new hive script start e;
-      stands = (inr (refl, at_end), inl refl);
+      stands = inr (refl, at_end);
+      hive = refl;
       written = cut_sent old new e.replies final _ e.passes start.gathered start.written
           (subst (λ (f : ScriptFault). IsCut new.sent final new.gathered new.written f) cut.says cut);
     })
@@ -93,66 +94,54 @@ count_is : (old : Position) (hive : View) (script : List ℕ) (new : Position) �
 count_is old hive script new start t = omega (arith, start.lines, t.counts)
 
 read_failed : (old new : Position) (hive : View) (script : List ℕ) (unread left final : Option (List ℕ)) → IsStart old hive →
-    Consumes unread left script → Halts (past left) old script new Read → Appends new.sent final new.gathered →
+    Consumes unread left script → Halts past old script new Read → Appends new.sent final new.gathered →
     Stops Read unread left hive new.stand.hive old.sent final
 read_failed old new hive script unread left final start consumes k sent =
-    let ends = unended k.takes.ended k.mid k.back k.takes.are_lines k.takes.steady
-    (count_is old hive k.front k.mid start k.takes) k.faults.2 in
-    stops_with (past left) old new hive new.stand.hive script Read Read unread left final k consumes start.lines start.begun start.stand
-    (ends.0, ends.1, ends.2, k.faults.1)
+    stops_with past old new hive new.stand.hive script Read Read unread left final k consumes start.lines start.begun start.stand k.hive
+    (unended k.takes.ended k.mid k.back k.takes.are_lines k.takes.steady (count_is old hive k.front k.mid start k.takes) k.faults.1)
     (all_sent old k.mid new k.takes.replies final k.takes.passes start.gathered k.faults.0 sent)
 
 too_long : (old new : Position) (hive : View) (script : List ℕ) (unread left final : Option (List ℕ)) → IsStart old hive →
     Consumes unread left script →
-    Halts (past left) old script new TooLong → Appends new.sent final new.gathered →
+    Halts past old script new TooLong → Appends new.sent final new.gathered →
     Stops TooLong unread left hive new.stand.hive old.sent final
 too_long old new hive script unread left final start consumes k sent =
-    stops_with (past left) old new hive new.stand.hive script TooLong TooLong unread left final k consumes start.lines start.begun start.stand (
+    stops_with past old new hive new.stand.hive script TooLong TooLong unread left final k consumes start.lines start.begun start.stand k.hive (
       fed_ends k.takes.ended,
-      passing k.takes.ended k.mid.lines _ k.takes.are_lines (count_is old hive k.front k.mid start k.takes) k.faults.2,
-      k.faults.1,
+      passing k.takes.ended k.mid.lines _ k.takes.are_lines (count_is old hive k.front k.mid start k.takes) k.faults.1,
     )
     (all_sent old k.mid new k.takes.replies final k.takes.passes start.gathered k.faults.0 sent)
 
--- the hive is as the lines left it, or one more line was answered on it
-reached : (old mid : Position) (hive : View) (front back : List ℕ) (left : Option (List ℕ)) (new : View) → IsStart old hive →
-    (t : Takes old front mid) →
-    ((new ≡ mid.stand.hive) ⊎ IsLost (past left) mid back new) → IsReached (with_feeds t.ended) (mid.begun ++ back) left mid.stand new
-reached old mid hive front back left new start t (inl h) = inl h
-reached old mid hive front back left new start t (inr h) =
-    inr (answered_next t.ended left mid back new t.are_lines t.steady (count_is old hive front mid start t) h)
-
 no_memory : (old new : Position) (hive : View) (script : List ℕ) (unread left final : Option (List ℕ)) → IsStart old hive →
-    Consumes unread left script → Halts (past left) old script new Memory → Appends new.sent final new.gathered →
+    Consumes unread left script → Halts past old script new Memory → Appends new.sent final new.gathered →
     Stops Memory unread left hive new.stand.hive old.sent final
 no_memory old new hive script unread left final start consumes k sent =
-    stops_with (past left) old new hive new.stand.hive script Memory Memory unread left final k consumes start.lines start.begun start.stand
-    (fed_ends k.takes.ended, reached old k.mid hive k.front k.back left new.stand.hive start k.takes k.faults.1)
-    (all_sent old k.mid new k.takes.replies final k.takes.passes start.gathered k.faults.0 sent)
+    stops_with past old new hive new.stand.hive script Memory Memory unread left final k consumes start.lines start.begun start.stand k.hive
+    (fed_ends k.takes.ended)
+    (all_sent old k.mid new k.takes.replies final k.takes.passes start.gathered k.faults sent)
 
 write_failed : (old new : Position) (hive : View) (script : List ℕ) (written : ℕ) (unread left final : Option (List ℕ)) → IsStart old hive →
-    Consumes unread left script → Halts (past left) old script new (Write written) → final ≡ new.sent
+    Consumes unread left script → Halts past old script new (Write written) → final ≡ new.sent
     → Stops (Write written) unread left hive new.stand.hive old.sent final
 write_failed old new hive script written unread left final start consumes k same =
-    stops_with (past left) old new hive new.stand.hive script (Write written)
-    (Write written) unread left final k consumes start.lines start.begun start.stand
-    (inl (fed_ends k.takes.ended), inl k.faults.1)
+    stops_with past old new hive new.stand.hive script (Write written)
+    (Write written) unread left final k consumes start.lines start.begun start.stand k.hive
+    (inl (fed_ends k.takes.ended))
     (cut_sent old k.mid k.takes.replies final written k.takes.passes start.gathered start.written
-    (subst (λ (o : Option (List ℕ)). IsCut k.mid.sent o k.mid.gathered k.mid.written (Write written)) (sym same) k.faults.0))
+    (subst (λ (o : Option (List ℕ)). IsCut k.mid.sent o k.mid.gathered k.mid.written (Write written)) (sym same) k.faults))
 
 -- the write after another fault was cut
 then_cut : (old new : Position) (hive : View) (script : List ℕ) (first fault : ScriptFault) (unread left final : Option (List ℕ)) →
     IsStart old hive →
-    Consumes unread left script → (k : Halts (past left) old script new first) → IsIdle k.mid new →
-    ((new.stand.hive ≡ k.mid.stand.hive) ⊎ IsLost (past left) k.mid k.back new.stand.hive)
-    → IsCut new.sent final new.gathered new.written fault → Stops fault unread left hive new.stand.hive old.sent final
-then_cut old new hive script first fault unread left final start consumes k idle hive_is cut =
+    Consumes unread left script → (k : Halts past old script new first) → IsIdle k.mid new →
+    IsCut new.sent final new.gathered new.written fault → Stops fault unread left hive new.stand.hive old.sent final
+then_cut old new hive script first fault unread left final start consumes k idle cut =
     let at_sent = subst (λ (o : Option (List ℕ)). IsCut o final new.gathered new.written fault) idle.sent cut in
     let at_text = subst (λ (w : List ℕ). IsCut k.mid.sent final w new.written fault) idle.gathered at_sent in
     let at_count = subst (λ (n : ℕ). IsCut k.mid.sent final k.mid.gathered n fault) idle.written at_text in
     subst (λ (f : ScriptFault). Stops f unread left hive new.stand.hive old.sent final) (sym at_count.says)
-    (stops_with (past left) old new hive new.stand.hive script first _ unread left final k consumes start.lines start.begun start.stand
-    (inl (fed_ends k.takes.ended), reached old k.mid hive k.front k.back left new.stand.hive start k.takes hive_is)
+    (stops_with past old new hive new.stand.hive script first _ unread left final k consumes start.lines start.begun start.stand k.hive
+    (inl (fed_ends k.takes.ended))
     (cut_sent old k.mid k.takes.replies final _ k.takes.passes start.gathered start.written
     (subst (λ (f : ScriptFault). IsCut k.mid.sent final k.mid.gathered k.mid.written f) at_count.says at_count)))
 
@@ -188,7 +177,7 @@ run_whole old new hive unread left final ended result start done closes =
 
 pub run_stops : (old new : Position) (hive : View) (unread left final : Option (List ℕ)) (ended result : Result (Unit {0}) ScriptFault) →
     IsStart old hive → OnOk ended (IsAtEnd left) → OnOk ended ((script : List ℕ) × Consumes unread left script × Ends old script new)
-    → IfErr ended (λ fault. (script : List ℕ) × Consumes unread left script × Halts (past left) old script new fault) →
+    → IfErr ended (λ fault. (script : List ℕ) × Consumes unread left script × Halts past old script new fault) →
     Closes ended new.gathered new.written new.sent final result →
     IfErr result (λ fault. Stops fault unread left hive new.stand.hive old.sent final)
 run_stops old new hive unread left final (Ok done) result start a e k (inl h) =
@@ -199,17 +188,17 @@ run_stops old new hive unread left final (Ok done) result start a e k (inr h) =
 run_stops old new hive unread left final (Err Read) result start a e k (inl h) =
     if_err_of _ result Read h.0 (read_failed old new hive k.0 unread left final start k.1 k.2 h.1)
 run_stops old new hive unread left final (Err Read) result start a e k (inr h) =
-    if_err_of _ result h.0 h.1 (then_cut old new hive k.0 Read h.0 unread left final start k.1 k.2 k.2.faults.0 (inl k.2.faults.1) h.2)
+    if_err_of _ result h.0 h.1 (then_cut old new hive k.0 Read h.0 unread left final start k.1 k.2 k.2.faults.0 h.2)
 run_stops old new hive unread left final (Err (Write written)) result start a e k h =
     if_err_of _ result (Write written) h.0 (write_failed old new hive k.0 written unread left final start k.1 k.2 h.1)
 run_stops old new hive unread left final (Err TooLong) result start a e k (inl h) =
     if_err_of _ result TooLong h.0 (too_long old new hive k.0 unread left final start k.1 k.2 h.1)
 run_stops old new hive unread left final (Err TooLong) result start a e k (inr h) =
-    if_err_of _ result h.0 h.1 (then_cut old new hive k.0 TooLong h.0 unread left final start k.1 k.2 k.2.faults.0 (inl k.2.faults.1) h.2)
+    if_err_of _ result h.0 h.1 (then_cut old new hive k.0 TooLong h.0 unread left final start k.1 k.2 k.2.faults.0 h.2)
 run_stops old new hive unread left final (Err Memory) result start a e k (inl h) =
     if_err_of _ result Memory h.0 (no_memory old new hive k.0 unread left final start k.1 k.2 h.1)
 run_stops old new hive unread left final (Err Memory) result start a e k (inr h) =
-    if_err_of _ result h.0 h.1 (then_cut old new hive k.0 Memory h.0 unread left final start k.1 k.2 k.2.faults.0 k.2.faults.1 h.2)
+    if_err_of _ result h.0 h.1 (then_cut old new hive k.0 Memory h.0 unread left final start k.1 k.2 k.2.faults h.2)
 
 -- ---- from the start
 
@@ -241,7 +230,8 @@ nothing_done hive unread before = record {
   text = [];
   last = begins hive;
   said = (refl, refl);
-  stands = (inl refl, inl refl);
+  stands = inl refl;
+  hive = refl;
   written = appends_none before;
 }
 
@@ -260,7 +250,7 @@ module _ (old new : Position) (hive : View) (unread left final : Option (List �
 
   pub runs_into : OnOk ended (IsAtEnd left) →
       IfErr ended (λ fault. IsSteady old → old.lines ≡ 0 → old.begun ≡ [] → (script : List ℕ) × Consumes unread left script ×
-      Halts (past left) old script new fault)
+      Halts past old script new fault)
       → IfErr result (λ fault. Stops fault unread left hive new.stand.hive old.sent final)
   runs_into at_end halts =
       run_stops old new hive unread left final ended result start at_end (ok_given _ _ ended (steady_start old hive start) ends)

@@ -1,27 +1,21 @@
 -- A script that can't go on.
-use Rattle.std.proofs.Common.{◌≡◌, ◌≢◌, ℕ, ◌+◌, ◌*◌, ◌<◌, ◌≤◌, List, [], ◌∷◌, ◌++◌, length, get_or, take, drop, Option, refl, sym, subst, ap, ◌∙◌, arith, append_assoc, append-nil, ◌⊎◌, inl, inr, min}
+use Rattle.std.proofs.Common.{◌≡◌, ◌≢◌, ℕ, ◌+◌, ◌*◌, ◌<◌, ◌≤◌, List, [], ◌∷◌, ◌++◌, length, get_or, take, drop, Option, refl, sym, subst, ap, ◌∙◌, arith, append_assoc, append-nil, inl, inr, min}
 use Rattle.std.specs.List.{AllByRecursion}
-use Rattle.std.specs.Io.KnownBytes.{Appends, Consumes, IsAtEnd}
+use Rattle.std.specs.Io.KnownBytes.{Appends, Consumes}
 use Rattle.std.proofs.Math.Seq.{take-append-add}
 use Rattle.std.proofs.lemmas.List.{take_more, take-append-drop, length-append, length-take}
 use Rattle.reg_script.specs.declared.engine.TheConstants.{LINES_LIMIT, LINE_LIMIT, READS_LIMIT}
 use Rattle.reg_calls.specs.Views.{View}
-use Rattle.reg_script.specs.declared.engine.Script.{Script}
 use Rattle.reg_script.specs.declared.engine.ScriptFault.{ScriptFault}
 use Rattle.reg_script.specs.declared.engine.ScriptFault.TheVariants.{Read, Write, TooLong, Memory}
 use Rattle.reg_script.specs.LineWords.{lines_of}
-use Rattle.reg_script.specs.LineMeanings.{Meaning, asks, meaning_of}
-use Rattle.reg_model.specs.declared.call.Call.{Call}
-use Rattle.reg_script.specs.declared.line.Line.{Line}
-use Rattle.reg_script.specs.declared.line.Line.TheVariants.{Call as Calls}
-use Rattle.reg_script.specs.Internal.WordReadings.{said}
+use Rattle.reg_script.specs.LineMeanings.{meaning_of}
 use Rattle.reg_script.specs.Lines.{Stand, IsSaid, AreSaid}
 use Rattle.reg_script.specs.Internal.Outputs.{IsCut}
-use Rattle.reg_script.specs.Stops.{longest_line, most_lines, HasNoFeed, AreWithin, IsTooLong, PassesBound, IsOneMore, IsAnswered, IsTaken, EndsWithFeed, IsLeft}
+use Rattle.reg_script.specs.Stops.{longest_line, most_lines, HasNoFeed, AreWithin, IsTooLong, PassesBound, IsTaken, EndsWithFeed, IsLeft}
 use Rattle.reg_script.specs.Stops.{AreWritten, Stops}
-use Rattle.reg_script.specs.Internal.Progress.{Position, IsSteady, with_feeds, IsLine, Passes, Takes, IsIdle, Place, among, past, HasEnded, IsLost, IsFault, Halts}
-use Rattle.reg_script.specs.Internal.Progress.{stand_of}
-use Rattle.reg_script.proofs.ProgressLemmas.{line_ended, line_alone, lines_fed, lines_short, short_then, no_feed_push, takes_none, takes_then, after_line, takes_feed}
+use Rattle.reg_script.specs.Internal.Progress.{Position, IsSteady, with_feeds, IsLine, Passes, Takes, IsIdle, Place, among, past, IsFault, Halts}
+use Rattle.reg_script.proofs.ProgressLemmas.{lines_fed, lines_short, no_feed_push, takes_none, takes_then, after_line, takes_feed}
 use Rattle.reg_script.proofs.ProgressLemmas.{appends_then}
 
 -- ---- more bytes behind those that were not taken
@@ -39,44 +33,31 @@ passes_more : (lines : ℕ) (rest more : List ℕ) → PassesBound lines rest �
 passes_more lines rest more (inl h) = inl (h.0, omega (arith, h.1, length-append rest more))
 passes_more lines rest more (inr h) = inr (long_more rest more h)
 
-ended_more : (begun back more : List ℕ) → HasEnded among begun back → HasEnded among begun (back ++ more)
-ended_more begun [] more h = absurd h.0
-ended_more begun (b ∷ bs) more h = h
-
 fault_more : (fault : ScriptFault) (mid new : Position) (back more : List ℕ) → IsFault among fault mid back new →
     IsFault among fault mid (back ++ more) new
-fault_more Read mid new back more h = absurd h.2
+fault_more Read mid new back more h = absurd h.1
 fault_more (Write written) mid new back more h = h
 fault_more TooLong mid new back more h = (
   h.0,
-  h.1,
   subst (λ (w : List ℕ). PassesBound mid.lines w) (append_assoc mid.begun back more)
-      (passes_more mid.lines (mid.begun ++ back) more h.2),
+      (passes_more mid.lines (mid.begun ++ back) more h.1),
 )
-fault_more Memory mid new back more (i, inl h) = (i, inl h)
-fault_more Memory mid new back more (i, inr h) =
-    (i, inr (record { ended = ended_more mid.begun back more h.ended; few = h.few; answered = h.answered }))
-
-ended_anywhere : (place : Place) (begun back : List ℕ) → HasEnded among begun back → HasEnded place begun back
-ended_anywhere place begun [] h = absurd h.0
-ended_anywhere place begun (b ∷ bs) h = h
+fault_more Memory mid new back more h = h
 
 -- a fault among the bytes
 fault_anywhere : (place : Place) (fault : ScriptFault) (mid new : Position) (back : List ℕ) → IsFault among fault mid back new →
     IsFault place fault mid back new
-fault_anywhere place Read mid new back h = absurd h.2
+fault_anywhere place Read mid new back h = absurd h.1
 fault_anywhere place (Write written) mid new back h = h
 fault_anywhere place TooLong mid new back h = h
-fault_anywhere place Memory mid new back (i, inl h) = (i, inl h)
-fault_anywhere place Memory mid new back (i, inr h) =
-    (i, inr (record { ended = ended_anywhere place mid.begun back h.ended; few = h.few; answered = h.answered }))
+fault_anywhere place Memory mid new back h = h
 
 -- ---- where it halts
 
-pub halts_here : (old new : Position) (bytes : List ℕ) (fault : ScriptFault) → IsSteady old → IsFault among fault old bytes new →
-    Halts among old bytes new fault
-halts_here old new bytes fault steady faults =
-    record { mid = old; front = []; back = bytes; splits = refl; takes = takes_none old steady; faults = faults }
+pub halts_here : (old new : Position) (bytes : List ℕ) (fault : ScriptFault) → IsSteady old → new.stand.hive ≡ old.stand.hive →
+    IsFault among fault old bytes new → Halts among old bytes new fault
+halts_here old new bytes fault steady same faults =
+    record { mid = old; front = []; back = bytes; splits = refl; takes = takes_none old steady; hive = same; faults = faults }
 
 pub halts_after : (place : Place) (a b new : Position) (xs ys : List ℕ) (fault : ScriptFault) → Takes a xs b →
     Halts among b ys new fault → Halts place a (xs ++ ys) new fault
@@ -86,6 +67,7 @@ halts_after place a b new xs ys fault h k = record {
   back = k.back;
   splits = ap (λ (w : List ℕ). xs ++ w) k.splits ∙ sym (append_assoc xs k.front k.back);
   takes = takes_then a b k.mid xs k.front h k.takes;
+  hive = k.hive;
   faults = fault_anywhere place fault k.mid new k.back k.faults;
 }
 
@@ -97,15 +79,16 @@ halts_before a new xs ys fault h = record {
   back = h.back ++ ys;
   splits = ap (λ (w : List ℕ). w ++ ys) h.splits ∙ append_assoc h.front h.back ys;
   takes = h.takes;
+  hive = h.hive;
   faults = fault_more fault h.mid new h.back ys h.faults;
 }
 
 -- after the bytes taken so far, nothing was done
 pub halts_at : (place : Place) (old new : Position) (bytes : List ℕ) (fault : ScriptFault) (now : Position) → Takes old bytes now →
-    IsFault place fault now [] new
+    new.stand.hive ≡ now.stand.hive → IsFault place fault now [] new
     → Halts place old bytes new fault
-halts_at place old new bytes fault now h faults =
-    record { mid = now; front = bytes; back = []; splits = sym (append-nil bytes); takes = h; faults = faults }
+halts_at place old new bytes fault now h same faults =
+    record { mid = now; front = bytes; back = []; splits = sym (append-nil bytes); takes = h; hive = same; faults = faults }
 
 -- at one of some bytes
 pub halts_in : (a b new : Position) (bytes : List ℕ) (i : ℕ) (fault : ScriptFault) → i < length bytes → Takes a (take i bytes) b →
@@ -169,10 +152,6 @@ fed_ends (l ∷ ls) = by (with_feeds ls) (fed_ends ls)
     by rest (inl none) = inr (l, ap (λ (w : List ℕ). l ++ 10 ∷ w) none)
     by rest (inr h) = inr (l ++ 10 ∷ h.0, ap (λ (w : List ℕ). l ++ 10 ∷ w) h.1 ∙ sym (append_assoc l (10 ∷ h.0) (10 ∷ [])))
 
-fed : (begun rest : List ℕ) → HasNoFeed (begun ++ 10 ∷ rest) → ⊥
-fed [] rest h = h.0 refl
-fed (b ∷ bs) rest h = fed bs rest h.1
-
 -- a line that was begun and passes no bound, after so many
 keeps_bound : (position : Position) → IsSteady position → PassesBound position.lines position.begun → ⊥
 keeps_bound position steady (inl h) = omega (arith, h.0, steady.one_more h.1)
@@ -199,38 +178,13 @@ pub passing : (lines : List (List ℕ)) (n : ℕ) (rest : List ℕ) → AllByRec
 passing lines n rest are counts h =
     subst (λ (m : ℕ). PassesBound m rest) (counts ∙ ap (λ (ls : List (List ℕ)). length ls) (sym (lines_are lines are))) h
 
--- the line that was begun is the first of the rest
-is_first : (left : Option (List ℕ)) (begun back : List ℕ) → HasNoFeed begun → HasEnded (past left) begun back →
-    (more : List (List ℕ)) × (lines_of (begun ++ back) ≡ begun ∷ more) × (HasNoFeed (begun ++ back) → IsAtEnd left)
-is_first left begun [] free h = ([], ap lines_of (append-nil begun) ∙ line_alone begun h.1 free, λ _. h.0)
-is_first left begun (b ∷ bs) free h = subst
-    (λ (c : ℕ). (more : List (List ℕ)) × (lines_of (begun ++ c ∷ bs) ≡ begun ∷ more) × (HasNoFeed (begun ++ c ∷ bs) → IsAtEnd left)) (sym h)
-    (lines_of bs, line_ended begun bs free, λ not_fed. absurd (fed begun bs not_fed))
-
-pub answered_next : (lines : List (List ℕ)) (left : Option (List ℕ)) (mid : Position) (back : List ℕ) (new : View) →
-    AllByRecursion IsLine lines → IsSteady mid → mid.lines ≡ length lines → IsLost (past left) mid back new →
-    IsAnswered (with_feeds lines) (mid.begun ++ back) left mid.stand new
-answered_next lines left mid back new are steady counts h =
-    let f = is_first left mid.begun back steady.no_feed h.ended in
-    record {
-      line = mid.begun;
-      more = f.0;
-      first = f.1;
-      ended = f.2;
-      within = subst (λ (ls : List (List ℕ)). AreWithin (ls ++ mid.begun ∷ [])) (sym (lines_are lines are)) (record {
-        few = omega (arith, h.few, counts, length-append lines (mid.begun ∷ []));
-        short = short_then lines (mid.begun ∷ []) (lines_short lines are) (steady.short, tt);
-      });
-      answered = h.answered;
-    }
-
 pub stops_with : (place : Place) (old new : Position) (hive new_hive : View) (script : List ℕ) (fault result : ScriptFault)
     (unread left final : Option (List ℕ)) → (k : Halts place old script new fault) → Consumes unread left script
     → old.lines ≡ 0 → old.begun ≡ [] → old.stand ≡ begins hive →
-    IsLeft result (with_feeds k.takes.ended) (k.mid.begun ++ k.back) left k.mid.stand new_hive →
+    new_hive ≡ k.mid.stand.hive → IsLeft result (with_feeds k.takes.ended) (k.mid.begun ++ k.back) left →
     AreWritten result k.takes.replies old.sent final →
     Stops result unread left hive new_hive old.sent final
-stops_with place old new hive new_hive script fault result unread left final k consumes none empty is stands written =
+stops_with place old new hive new_hive script fault result unread left final k consumes none empty is same stands written =
     let t = k.takes in
     let front_is : k.front ≡ with_feeds t.ended ++ k.mid.begun = ap (λ (w : List ℕ). w ++ k.front) (sym empty) ∙ t.splits in
     let script_is : script ≡ with_feeds t.ended ++ (k.mid.begun ++ k.back) =
@@ -247,6 +201,7 @@ stops_with place old new hive new_hive script fault result unread left final k c
       said = subst (λ (s : Stand). AreSaid (lines_of (with_feeds t.ended)) s t.replies k.mid.stand) is
           (subst (λ (w : List (List ℕ)). AreSaid w old.stand t.replies k.mid.stand) whole t.said);
       stands = stands;
+      hive = same;
       written = written;
     }
 
@@ -298,25 +253,13 @@ pub short_line : (line : List ℕ) → length line < LINE_LIMIT → length line 
 unfolding longest_line
 short_line line h = h
 
--- a call was answered
-pub one_more : (script : Script) (hive new : View) (line : Line) (call : Call) (reply : List ℕ) → line ≡ Calls call →
-    IsSaid (asks call) (stand_of script hive) reply (stand_of script new) → IsOneMore (said line) (stand_of script hive) new
-one_more script hive new line call reply is h =
-    subst (λ (l : Line). IsOneMore (said l) (stand_of script hive) new) (sym is)
-    (record { reply = reply; next = stand_of script new; said = h; hive = refl })
-
--- no memory for the reply to the line that was begun
-pub halts_lost : (old new : Position) (b : ℕ) (fault : ScriptFault) → IsSteady old → b ≡ 10 → old.lines < most_lines → fault ≡ Memory →
-    new.gathered ≡ old.gathered → new.sent ≡ old.sent → new.written ≡ old.written →
-    ((new.stand.hive ≡ old.stand.hive) ⊎ IsOneMore (meaning_of old.begun) old.stand new.stand.hive) → Halts among old (b ∷ []) new fault
-halts_lost old new b fault steady feed few is gathered sent written reached =
+-- no memory for what the line that was begun says
+pub halts_unchanged : (old new : Position) (b : ℕ) (fault : ScriptFault) → IsSteady old → fault ≡ Memory →
+    new.gathered ≡ old.gathered → new.sent ≡ old.sent → new.written ≡ old.written → new.stand.hive ≡ old.stand.hive →
+    Halts among old (b ∷ []) new fault
+halts_unchanged old new b fault steady is gathered sent written same =
     subst (λ (f : ScriptFault). Halts among old (b ∷ []) new f) (sym is)
-    (halts_here old new (b ∷ []) Memory steady (record { gathered = gathered; sent = sent; written = written }, by reached))
-  where
-    by : ((new.stand.hive ≡ old.stand.hive) ⊎ IsOneMore (meaning_of old.begun) old.stand new.stand.hive) →
-        (new.stand.hive ≡ old.stand.hive) ⊎ IsLost among old (b ∷ []) new.stand.hive
-    by (inl h) = inl h
-    by (inr h) = inr (record { ended = feed; few = few; answered = h })
+    (halts_here old new (b ∷ []) Memory steady same (record { gathered = gathered; sent = sent; written = written }))
 
 -- the replies were gathered, and the writer took a front of them
 pub halts_cut : (old new : Position) (b : ℕ) (reply text : List ℕ) (before : ℕ) (fault : ScriptFault) → b ≡ 10 → IsSteady old →
@@ -327,31 +270,20 @@ halts_cut old new b reply text before fault is steady fewer said adds same cut =
     let here = subst (λ (n : ℕ). IsCut old.sent new.sent text n fault) same cut in
     subst (λ (f : ScriptFault). Halts among old (b ∷ []) new f) (sym here.says)
     (halts_at among old new (b ∷ []) _ (after_line old new.stand text) (takes_feed old new.stand b reply text is steady fewer said adds)
-    (subst (λ (f : ScriptFault). IsCut old.sent new.sent text old.written f) here.says here, refl))
-
--- a line that says what it means
-pub as_meant : (m n : Meaning) (last : Stand) (old new : View) → m ≡ n → ((new ≡ old) ⊎ IsOneMore m last new) → (new ≡ old) ⊎
-    IsOneMore n last new
-as_meant m n last old new e h = subst (λ (k : Meaning). (new ≡ old) ⊎ IsOneMore k last new) e h
+    refl (subst (λ (f : ScriptFault). IsCut old.sent new.sent text old.written f) here.says here))
 
 -- the count of lines below its bound
 pub one_more_line : (lines sum new : ℕ) → lines < most_lines → sum ≡ min (lines + 1) 4294967295 → new ≡ sum → new ≡ lines + 1
 unfolding most_lines
 one_more_line lines sum new fewer e same = omega (arith, fewer, e, same)
 
--- no memory for the reply to the last line
-pub halts_last : (left : Option (List ℕ)) (old now new : Position) (bytes : List ℕ) (fault : ScriptFault) → Takes old bytes now →
-    IsAtEnd left →
-    0 < length now.begun → fault ≡ Memory → new.gathered ≡ now.gathered → new.sent ≡ now.sent → new.written ≡ now.written →
-    ((new.stand.hive ≡ now.stand.hive) ⊎ IsOneMore (meaning_of now.begun) now.stand new.stand.hive) → Halts (past left) old bytes new fault
-halts_last left old now new bytes fault h at_end some is gathered sent written reached =
-    subst (λ (f : ScriptFault). Halts (past left) old bytes new f) (sym is)
-    (halts_at (past left) old new bytes Memory now h (record { gathered = gathered; sent = sent; written = written }, by reached))
-  where
-    by : ((new.stand.hive ≡ now.stand.hive) ⊎ IsOneMore (meaning_of now.begun) now.stand new.stand.hive) →
-        (new.stand.hive ≡ now.stand.hive) ⊎ IsLost (past left) now [] new.stand.hive
-    by (inl h) = inl h
-    by (inr k) = inr (record { ended = (at_end, some); few = h.steady.one_more some; answered = k })
+-- no memory for what the last line says
+pub halts_last : (old now new : Position) (bytes : List ℕ) (fault : ScriptFault) → Takes old bytes now → fault ≡ Memory →
+    new.gathered ≡ now.gathered → new.sent ≡ now.sent → new.written ≡ now.written → new.stand.hive ≡ now.stand.hive →
+    Halts past old bytes new fault
+halts_last old now new bytes fault h is gathered sent written same =
+    subst (λ (f : ScriptFault). Halts past old bytes new f) (sym is)
+    (halts_at past old new bytes Memory now h same (record { gathered = gathered; sent = sent; written = written }))
 
 -- each read gives a byte at least
 pub read_more : (taken buffer : List ℕ) (i n : ℕ) → i ≤ length taken → n ≢ 0 → n ≤ length buffer → i + 1 ≤ length (taken ++ take n buffer)

@@ -7,8 +7,7 @@ use Rattle.reg_calls.specs.Views.{View}
 use Rattle.reg_script.specs.declared.engine.ScriptFault.{ScriptFault}
 use Rattle.reg_script.specs.declared.engine.ScriptFault.TheVariants.{Read, Write, TooLong, Memory}
 use Rattle.reg_script.specs.LineWords.{lines_of}
-use Rattle.reg_script.specs.LineMeanings.{Meaning, meaning_of}
-use Rattle.reg_script.specs.Lines.{Stand, IsSaid, AreSaid, IsFresh}
+use Rattle.reg_script.specs.Lines.{Stand, AreSaid, IsFresh}
 
 -- a count of 64 bits, which stays at its end
 abbrev pub counted : ℕ → ℕ → ℕ
@@ -50,26 +49,6 @@ pub record IsTooLong (bytes : List ℕ) : Type 0 where
 abbrev pub PassesBound : ℕ → List ℕ → Type 0
 PassesBound lines rest = ((lines ≡ most_lines) × (0 < length rest)) ⊎ IsTooLong rest
 
--- a line that means this was answered from where a script stood, and left the hive so
-pub record IsOneMore (meaning : Meaning) (last : Stand) (new : View) : Type 0 where
-  pub reply : List ℕ
-  pub next : Stand
-  pub said : IsSaid meaning last reply next
-  pub hive : new ≡ next.hive
-
--- the first line of the rest, which keeps the bounds and which an LF or the reader's end has ended, was answered, and its reply was lost
-pub record IsAnswered (lines rest : List ℕ) (left : Option (List ℕ)) (last : Stand) (new : View) : Type 0 where
-  pub line : List ℕ
-  pub more : List (List ℕ)
-  pub first : lines_of rest ≡ line ∷ more
-  pub ended : HasNoFeed rest → IsAtEnd left
-  pub within : AreWithin (lines_of lines ++ line ∷ [])
-  pub answered : IsOneMore (meaning_of line) last new
-
--- the hive is as the lines left it; or one more line was answered on it
-abbrev pub IsReached : (lines rest : List ℕ) → Option (List ℕ) → Stand → View → Type 0
-IsReached lines rest left last new = (new ≡ last.hive) ⊎ IsAnswered lines rest left last new
-
 -- the writer took just so many of the first bytes of the replies, which the fault counts
 pub record IsTaken (before after : Option (List ℕ)) (text : List ℕ) (written : ℕ) : Type 0 where
   pub count : ℕ
@@ -81,14 +60,13 @@ pub record IsTaken (before after : Option (List ℕ)) (text : List ℕ) (written
 abbrev pub EndsWithFeed : List ℕ → Type 0
 EndsWithFeed bytes = (bytes ≡ []) ⊎ ((front : List ℕ) × (bytes ≡ front ++ 10 ∷ []))
 
--- what each fault leaves: answered lines, each with its LF, which after a failed write the last may lack at the reader's end; and a
--- rest: the line that wasn't read to its end where a read failed, and what passes a bound where that is the fault
-abbrev pub IsLeft : ScriptFault → (lines rest : List ℕ) → Option (List ℕ) → Stand → View → Type 0
-IsLeft Read lines rest left last new =
-    EndsWithFeed lines × HasNoFeed rest × (PassesBound (length (lines_of lines)) rest → ⊥) × (new ≡ last.hive)
-IsLeft (Write written) lines rest left last new = (EndsWithFeed lines ⊎ ((rest ≡ []) × IsAtEnd left)) × IsReached lines rest left last new
-IsLeft TooLong lines rest left last new = EndsWithFeed lines × PassesBound (length (lines_of lines)) rest × (new ≡ last.hive)
-IsLeft Memory lines rest left last new = EndsWithFeed lines × IsReached lines rest left last new
+-- what each fault leaves of what was read: answered lines, each with its LF, which after a failed write the last may lack at the
+-- reader's end; and a rest: the line that wasn't read to its end where a read failed, and what passes a bound where that is the fault
+abbrev pub IsLeft : ScriptFault → (lines rest : List ℕ) → Option (List ℕ) → Type 0
+IsLeft Read lines rest left = EndsWithFeed lines × HasNoFeed rest × (PassesBound (length (lines_of lines)) rest → ⊥)
+IsLeft (Write written) lines rest left = EndsWithFeed lines ⊎ ((rest ≡ []) × IsAtEnd left)
+IsLeft TooLong lines rest left = EndsWithFeed lines × PassesBound (length (lines_of lines)) rest
+IsLeft Memory lines rest left = EndsWithFeed lines
 
 -- their replies were written, or after a failed write just what the writer took of them
 abbrev pub AreWritten : ScriptFault → List ℕ → (before after : Option (List ℕ)) → Type 0
@@ -97,7 +75,7 @@ AreWritten (Write written) text before after = IsTaken before after text written
 AreWritten TooLong text before after = Appends before after text
 AreWritten Memory text before after = Appends before after text
 
--- a script ended with a fault: of what was read, some lines were answered, and the rest was not
+-- a script ended with a fault: of what was read, some lines were answered, and the rest was not; the hive is as those lines left it
 pub record Stops (fault : ScriptFault) (unread left : Option (List ℕ)) (old new : View) (before after : Option (List ℕ)) : Type 0 where
   pub lines : List ℕ
   pub rest : List ℕ
@@ -106,7 +84,8 @@ pub record Stops (fault : ScriptFault) (unread left : Option (List ℕ)) (old ne
   pub text : List ℕ
   pub last : Stand
   pub said : AreSaid (lines_of lines) (record { hive = old; moment = 0; session = 0 }) text last
-  pub stands : IsLeft fault lines rest left last new
+  pub stands : IsLeft fault lines rest left
+  pub hive : new ≡ last.hive
   pub written : AreWritten fault text before after
 
 -- a script on a fresh hive ended with a fault

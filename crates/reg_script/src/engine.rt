@@ -7,13 +7,13 @@ ghost use Rattle.reg_script.specs.LineWords.{lines_of};
 ghost use Rattle.reg_script.specs.LineMeanings.{asks, meaning_of};
 ghost use Rattle.reg_script.specs.Internal.WordReadings.{said};
 ghost use Rattle.reg_script.specs.Lines.{IsSaid, AreSaid, Lines, LinesTo};
-ghost use Rattle.reg_script.specs.Stops.{fault_number, most_lines, HasNoFeed, AreWithin, IsOneMore, Stops};
-ghost use Rattle.reg_script.specs.Internal.Progress.{IsSteady, Adds, Loses, Takes, Halts, Ends, among, past, position_of, stand_of};
+ghost use Rattle.reg_script.specs.Stops.{fault_number, most_lines, HasNoFeed, AreWithin, Stops};
+ghost use Rattle.reg_script.specs.Internal.Progress.{IsSteady, Adds, IsUnchanged, Takes, Halts, Ends, among, past, position_of, stand_of};
 
 use crate::line::{Line, Session, Setting};
 use crate::output::Output;
 use crate::parse::parse;
-use crate::reply::{write_answered, write_changed};
+use crate::reply::{CHANGE_REPLY_LIMIT, write_answered, write_changed};
 use reg_calls::Hive;
 use reg_model::{Call, Change, Query};
 use std::alloc::{AllocError, Global};
@@ -44,7 +44,7 @@ pub enum ScriptFault {
     /// A line above 2,200,000 bytes, or more than 1,000,000 lines.
     #[error("a line is too long, or there are too many")]
     TooLong,
-    /// A growth was refused.
+    /// A growth was refused; the line that wanted it changed nothing.
     #[error("no memory")]
     Memory,
 }
@@ -144,7 +144,7 @@ impl Script {
         ensures ended { OnOk result (self.new.line.items ≡ []) }
         ensures lines { OnOk result (self.old.lines < most_lines → self.new.lines ≡ self.old.lines + 1) }
         ensures err { IfErr result (λ fault. (fault ≡ ScriptFault.Memory)
-            × Loses (meaning_of self.old.line.items) self.old (view_of hive.old) self.new (view_of hive.new)) }
+            × IsUnchanged self.old (view_of hive.old) self.new (view_of hive.new)) }
     {
         let line = parse(self.alloc, self.line.as_slice())?;
         self.line.clear();
@@ -153,12 +153,12 @@ impl Script {
         Ok(())
     }
 
-    /// Does what a line says, and gathers its reply.
+    /// Does what a line says, and gathers its reply. For want of memory nothing is done.
     fn answer(&mut self, hive: &mut Hive, line: Line) -> Result<(), AllocError>
         ensures said { OnOk result (Adds (IsSaid (said line)) self.old (view_of hive.old) self.new (view_of hive.new)) }
         ensures begun { self.new.line ≡ self.old.line }
         ensures lines { self.new.lines ≡ self.old.lines }
-        ensures err { OnErr result (Loses (said line) self.old (view_of hive.old) self.new (view_of hive.new)) }
+        ensures err { OnErr result (IsUnchanged self.old (view_of hive.old) self.new (view_of hive.new)) }
     {
         match line {
             Line::Nothing | Line::Setting(Setting::Hive) => Ok(()),
@@ -171,40 +171,43 @@ impl Script {
                 Ok(())
             }
             Line::Bad => self.output.text.push_str("bad\n"),
-            Line::Call(call) => {
-                let reply = self.call(hive, call)?;
+            Line::Call(call) => self.call(hive, call),
+        }
+    }
+
+    fn call(&mut self, hive: &mut Hive, call: Call) -> Result<(), AllocError>
+        ensures said { OnOk result (Adds (IsSaid (asks call)) self.old (view_of hive.old) self.new (view_of hive.new)) }
+        ensures begun { self.new.line ≡ self.old.line }
+        ensures lines { self.new.lines ≡ self.old.lines }
+        ensures err { OnErr result (IsUnchanged self.old (view_of hive.old) self.new (view_of hive.new)) }
+    {
+        match call {
+            Call::Change(change) => self.change(hive, change),
+            Call::Query(query) => {
+                let reply = self.query(hive, &query)?;
                 self.output.text.push_str(reply.as_str())
             }
         }
     }
 
-    /// The reply to a call. It is whole before it joins the output, so that want of memory leaves no part of it there.
-    fn call(&self, hive: &mut Hive, call: Call) -> Result<String, AllocError>
-        ensures ok { IfOk result (λ reply. IsSaid (asks call) (stand_of self.now (view_of hive.old)) (string_bytes reply)
-            (stand_of self.now (view_of hive.new))) }
-        ensures err { OnErr result (IsOneMore (asks call) (stand_of self.now (view_of hive.old)) (view_of hive.new)) }
+    /// Makes a change once there is room for its reply, so that none is made whose reply lacks memory.
+    fn change(&mut self, hive: &mut Hive, change: Change) -> Result<(), AllocError>
+        ensures said { OnOk result
+            (Adds (IsSaid (asks (Call.Change change))) self.old (view_of hive.old) self.new (view_of hive.new)) }
+        ensures begun { self.new.line ≡ self.old.line }
+        ensures lines { self.new.lines ≡ self.old.lines }
+        ensures err { OnErr result (IsUnchanged self.old (view_of hive.old) self.new (view_of hive.new)) }
     {
-        match call {
-            Call::Change(change) => self.change(hive, change),
-            Call::Query(query) => self.query(hive, &query),
-        }
-    }
-
-    fn change(&self, hive: &mut Hive, change: Change) -> Result<String, AllocError>
-        ensures ok { IfOk result (λ reply. IsSaid (asks (Call.Change change)) (stand_of self.now (view_of hive.old))
-            (string_bytes reply) (stand_of self.now (view_of hive.new))) }
-        ensures err { OnErr result (IsOneMore (asks (Call.Change change)) (stand_of self.now (view_of hive.old)) (view_of hive.new)) }
-    {
-        let mut reply = String::new(self.alloc);
+        self.output.text.reserve(CHANGE_REPLY_LIMIT)?;
         let changed = hive.apply(self.session.number, self.moment, change);
-        write_changed(&mut reply, &changed)?;
-        Ok(reply)
+        write_changed(&mut self.output.text, &changed);
+        Ok(())
     }
 
+    /// The reply to a question. It is whole before it joins the output, so that want of memory leaves no part of it there.
     fn query(&self, hive: &Hive, query: &Query) -> Result<String, AllocError>
-        ensures ok { IfOk result (λ reply. IsSaid (asks (Call.Query query.now)) (stand_of self.now (view_of hive.now))
+        ensures { IfOk result (λ reply. IsSaid (asks (Call.Query query.now)) (stand_of self.now (view_of hive.now))
             (string_bytes reply) (stand_of self.now (view_of hive.now))) }
-        ensures err { OnErr result (IsOneMore (asks (Call.Query query.now)) (stand_of self.now (view_of hive.now)) (view_of hive.now)) }
     {
         let mut reply = String::new(self.alloc);
         let answer = hive.read(self.session.number, query);
@@ -217,7 +220,7 @@ impl Script {
         ensures ok { OnOk result (HasNoFeed self.old.line.items →
             Adds (AreSaid (lines_of self.old.line.items)) self.old (view_of hive.old) self.new (view_of hive.new)) }
         ensures err { IfErr result (λ fault. (fault ≡ ScriptFault.Memory) × (0 < length self.old.line.items)
-            × Loses (meaning_of self.old.line.items) self.old (view_of hive.old) self.new (view_of hive.new)) }
+            × IsUnchanged self.old (view_of hive.old) self.new (view_of hive.new)) }
     {
         if self.line.is_empty() {
             return Ok(());
@@ -243,7 +246,7 @@ impl Script {
         ensures err { IfErr result (λ fault. IsSteady (position_of self.old (view_of hive.old) (W.contents writer.old)) →
             self.old.lines ≡ 0 → self.old.line.items ≡ [] →
             (script : List ℕ) × Consumes (R.remaining reader.old) (R.remaining reader.new) script
-            × Halts (past (R.remaining reader.new)) (position_of self.old (view_of hive.old) (W.contents writer.old)) script
+            × Halts past (position_of self.old (view_of hive.old) (W.contents writer.old)) script
             (position_of self.new (view_of hive.new) (W.contents writer.new)) fault) }
     {
         for _read in 0..READS_LIMIT {
@@ -263,8 +266,8 @@ impl Script {
 /// Runs a script of registry calls on a hive and writes the replies, each on a line of its own. Where it succeeds, what
 /// was written is what the rules give for all that was read. A fault says what ended it early ([`ScriptFault`]); the
 /// replies to the lines before it stand, after `Write` just as many of their bytes as the writer took. Only lines that ended were
-/// answered: by an LF, or by the reader's end; after `Read` all of these. The hive is as those lines left it; after `Write` and
-/// `Memory` it may be one call further, that of the next line, if it ended.
+/// answered: by an LF, or by the reader's end; after `Read` all of these. The hive is as those lines left it: no change is made
+/// whose reply lacks memory.
 pub fn run<R: Read, W: Write>(
     alloc: Global,
     reader: &mut R,

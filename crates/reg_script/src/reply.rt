@@ -1,41 +1,79 @@
-ghost use Rattle.std.specs.Prelude.{◌≡◌, ◌++◌, string_bytes, OnOk, codes};
+ghost use Rattle.std.specs.Prelude.{◌≡◌, ◌+◌, ◌≤◌, ◌++◌, length, string_bytes, string_len, string_capacity, OnOk, codes};
 ghost use Rattle.std.specs.Fmt.{decimal};
 ghost use Rattle.reg_model.specs.declared.call.Call.TheVariants.{Query as Asks};
 ghost use Rattle.reg_script.specs.ReplyTexts.{changed_text, handle_text, disposition_text, answer_text, short_text, name_text, value_text, asks_untyped};
 ghost use Rattle.reg_script.specs.ReplyTexts.{data_text, bytes_text};
+ghost use Rattle.reg_script.specs.declared.reply.TheConstants.{CHANGE_REPLY_LIMIT};
 ghost use Rattle.reg_text.specs.Texts.{line_feed};
 
+use itoa::{Buffer, Integer};
 use reg_model::{Answer, AnswerBody, Bytes, ChangeReply, Query};
 use reg_text::{write_digits, write_escaped};
 use std::alloc::{AllocError, Global};
 
+/// The longest reply to a change, in bytes with its LF: a status of 10 digits, ` handle ` and 20, ` disposition ` and 10.
+pub const CHANGE_REPLY_LIMIT: usize = 62;
+
+/// Appends a piece of text for which there is room.
+fn put(text: &mut String, piece: &str)
+    requires { string_len text.old + length piece.now ≤ string_capacity text.old }
+    ensures bytes { string_bytes text.new ≡ string_bytes text.old ++ piece.now }
+    ensures len { string_len text.new ≡ string_len text.old + length piece.now }
+    ensures capacity { string_capacity text.old ≤ string_capacity text.new }
+{
+    match text.push_str(piece) {
+        Ok(()) => {}
+        Err(_) => unreachable!(),
+    }
+}
+
+/// Appends a number in decimal, for the most digits of which there is room.
+fn put_number<I: Integer>(text: &mut String, number: I)
+    requires { string_len text.old + I.MAX_STR_LEN ≤ string_capacity text.old }
+    ensures bytes { string_bytes text.new ≡ string_bytes text.old ++ I.text number }
+    ensures len { string_len text.new ≤ string_len text.old + I.MAX_STR_LEN }
+    ensures capacity { string_capacity text.old ≤ string_capacity text.new }
+{
+    let mut digits = Buffer::new();
+    put(text, digits.format(number));
+}
+
 /// The handle that a change opened, if it opened one.
-fn write_handle(text: &mut String, handle: Option<u64>) -> Result<(), AllocError>
-    ensures { OnOk result (string_bytes text.new ≡ string_bytes text.old ++ handle_text handle) }
+fn put_handle(text: &mut String, handle: Option<u64>)
+    requires { string_len text.old + 28 ≤ string_capacity text.old }
+    ensures bytes { string_bytes text.new ≡ string_bytes text.old ++ handle_text handle }
+    ensures len { string_len text.new ≤ string_len text.old + 28 }
+    ensures capacity { string_capacity text.old ≤ string_capacity text.new }
 {
-    match handle {
-        Some(handle) => write!(text, " handle {handle}"),
-        None => Ok(()),
+    if let Some(handle) = handle {
+        put(text, " handle ");
+        put_number(text, handle);
     }
 }
 
-/// The end of the line: the disposition, where a change tells it.
-fn write_disposition(text: &mut String, disposition: Option<u32>) -> Result<(), AllocError>
-    ensures { OnOk result (string_bytes text.new ≡ string_bytes text.old ++ (disposition_text disposition ++ line_feed)) }
+/// The disposition, where a change tells it.
+fn put_disposition(text: &mut String, disposition: Option<u32>)
+    requires { string_len text.old + 23 ≤ string_capacity text.old }
+    ensures bytes { string_bytes text.new ≡ string_bytes text.old ++ disposition_text disposition }
+    ensures len { string_len text.new ≤ string_len text.old + 23 }
+    ensures capacity { string_capacity text.old ≤ string_capacity text.new }
 {
-    match disposition {
-        Some(disposition) => writeln!(text, " disposition {disposition}"),
-        None => writeln!(text),
+    if let Some(disposition) = disposition {
+        put(text, " disposition ");
+        put_number(text, disposition);
     }
 }
 
-/// The line of a reply to a change: the status, and the handle and the disposition where it tells them.
-pub fn write_changed(text: &mut String, reply: &ChangeReply) -> Result<(), AllocError>
-    ensures { OnOk result (string_bytes text.new ≡ string_bytes text.old ++ changed_text reply.now) }
+/// The line of a reply to a change: the status, and the handle and the disposition where it tells them. It asks for no memory; there
+/// must be room for [`CHANGE_REPLY_LIMIT`] bytes.
+pub fn write_changed(text: &mut String, reply: &ChangeReply)
+    requires { string_len text.old + CHANGE_REPLY_LIMIT ≤ string_capacity text.old }
+    ensures { string_bytes text.new ≡ string_bytes text.old ++ changed_text reply.now }
 {
-    write!(text, "{}", reply.status)?;
-    write_handle(text, reply.handle)?;
-    write_disposition(text, reply.disposition)
+    put_number(text, reply.status);
+    put_handle(text, reply.handle);
+    put_disposition(text, reply.disposition);
+    put(text, "\n");
 }
 
 /// What a room is too short for: a subkey's name and a descriptor have a size alone, a value its type too.

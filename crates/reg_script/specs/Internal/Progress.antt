@@ -1,16 +1,15 @@
 -- How far a script has come (this project's own).
-use Rattle.std.specs.Prelude.{◌≡◌, ℕ, ◌+◌, ◌<◌, ◌≤◌, List, [], ◌∷◌, ◌++◌, length, Option, string_bytes, ◌⊎◌}
+use Rattle.std.specs.Prelude.{◌≡◌, ℕ, ◌+◌, ◌<◌, ◌≤◌, List, [], ◌∷◌, ◌++◌, length, Option, string_bytes}
 use Rattle.std.specs.List.{AllByRecursion}
-use Rattle.std.specs.Io.KnownBytes.{Appends, IsAtEnd}
+use Rattle.std.specs.Io.KnownBytes.{Appends}
 use Rattle.reg_calls.specs.Views.{View}
 use Rattle.reg_script.specs.declared.engine.Script.{Script}
 use Rattle.reg_script.specs.declared.engine.ScriptFault.{ScriptFault}
 use Rattle.reg_script.specs.declared.engine.ScriptFault.TheVariants.{Read, Write, TooLong, Memory}
 use Rattle.reg_script.specs.LineWords.{lines_of}
-use Rattle.reg_script.specs.LineMeanings.{Meaning, meaning_of}
 use Rattle.reg_script.specs.Lines.{Stand, AreSaid}
 use Rattle.reg_script.specs.Internal.Outputs.{IsCut}
-use Rattle.reg_script.specs.Stops.{counted, longest_line, most_lines, HasNoFeed, PassesBound, IsOneMore}
+use Rattle.reg_script.specs.Stops.{counted, longest_line, most_lines, HasNoFeed, PassesBound}
 
 -- a position in a script: where it stands, how many lines have ended, the bytes of the line that hasn't, the replies that were
 -- gathered, what the writer holds, and the count of what it took
@@ -77,39 +76,22 @@ pub record IsIdle (old new : Position) : Type 0 where
   pub sent : new.sent ≡ old.sent
   pub written : new.written ≡ old.written
 
--- where a fault comes: among the bytes, or past them, when the reader has this left
+-- where a fault comes: among the bytes, or past them
 pub data Place : Type 0 where
   among : Place
-  past : Option (List ℕ) → Place
+  past : Place
 
 -- it comes past the bytes, and none is behind it
 abbrev pub IsBehind : Place → List ℕ → Type 0
 IsBehind among back = ⊥
-IsBehind (past left) back = back ≡ []
-
--- it comes at the end of the script
-abbrev pub IsEnd : Place → Type 0
-IsEnd among = ⊥
-IsEnd (past left) = IsAtEnd left
-
--- the line that was begun has ended: an LF is behind it; or it isn't empty, and the script ends there
-abbrev pub HasEnded : Place → (begun back : List ℕ) → Type 0
-HasEnded place begun [] = IsEnd place × (0 < length begun)
-HasEnded place begun (b ∷ bs) = b ≡ 10
-
--- that line has ended within the bounds and was answered on the hive; its reply was lost
-pub record IsLost (place : Place) (mid : Position) (back : List ℕ) (new : View) : Type 0 where
-  pub ended : HasEnded place mid.begun back
-  pub few : mid.lines < most_lines
-  pub answered : IsOneMore (meaning_of mid.begun) mid.stand new
+IsBehind past back = back ≡ []
 
 -- what a fault leaves, where the bytes behind `mid` were not taken
 abbrev pub IsFault : Place → ScriptFault → Position → List ℕ → Position → Type 0
-IsFault place Read mid back new = IsIdle mid new × (new.stand.hive ≡ mid.stand.hive) × IsBehind place back
-IsFault place (Write written) mid back new =
-    IsCut mid.sent new.sent mid.gathered mid.written (Write written) × (new.stand.hive ≡ mid.stand.hive)
-IsFault place TooLong mid back new = IsIdle mid new × (new.stand.hive ≡ mid.stand.hive) × PassesBound mid.lines (mid.begun ++ back)
-IsFault place Memory mid back new = IsIdle mid new × ((new.stand.hive ≡ mid.stand.hive) ⊎ IsLost place mid back new.stand.hive)
+IsFault place Read mid back new = IsIdle mid new × IsBehind place back
+IsFault place (Write written) mid back new = IsCut mid.sent new.sent mid.gathered mid.written (Write written)
+IsFault place TooLong mid back new = IsIdle mid new × PassesBound mid.lines (mid.begun ++ back)
+IsFault place Memory mid back new = IsIdle mid new
 
 -- of these bytes a front was taken, and then came a fault
 pub record Halts (place : Place) (old : Position) (bytes : List ℕ) (new : Position) (fault : ScriptFault) : Type 0 where
@@ -118,6 +100,7 @@ pub record Halts (place : Place) (old : Position) (bytes : List ℕ) (new : Posi
   pub back : List ℕ
   pub splits : bytes ≡ front ++ back
   pub takes : Takes old front mid
+  pub hive : new.stand.hive ≡ mid.stand.hive
   pub faults : IsFault place fault mid back new
 
 -- a reply was gathered, which leads from one stand to the other in this way
@@ -126,11 +109,11 @@ Adds way old old_hive new new_hive =
     (reply : List ℕ) × way (stand_of old old_hive) reply (stand_of new new_hive) ×
     (string_bytes new.output.text ≡ string_bytes old.output.text ++ reply) × (new.output.written ≡ old.output.written)
 
--- a line's reply was lost for want of memory, whether the line was answered or not
-pub record Loses (meaning : Meaning) (old : Script) (old_hive : View) (new : Script) (new_hive : View) : Type 0 where
+-- nothing was gathered, and the hive is as it was
+pub record IsUnchanged (old : Script) (old_hive : View) (new : Script) (new_hive : View) : Type 0 where
   pub text : string_bytes new.output.text ≡ string_bytes old.output.text
   pub written : new.output.written ≡ old.output.written
-  pub reached : (new_hive ≡ old_hive) ⊎ IsOneMore meaning (stand_of old old_hive) new_hive
+  pub hive : new_hive ≡ old_hive
 
 -- these were the last bytes, and the replies of all lines were gathered or sent
 pub record Ends (old : Position) (bytes : List ℕ) (new : Position) : Type 0 where

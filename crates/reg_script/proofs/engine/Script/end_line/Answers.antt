@@ -1,19 +1,17 @@
-use Rattle.std.proofs.Common.{refl, ap, ◌∙◌, inl}
-use Rattle.reg_script.specs.LineMeanings.{meaning_of}
+use Rattle.std.proofs.Common.{refl}
 use Rattle.reg_script.proofs.FailedCalls.{if_err}
-use Rattle.reg_script.proofs.ScriptHalts.{as_meant, one_more_line}
+use Rattle.reg_script.proofs.ScriptHalts.{one_more_line}
 use Rattle.reg_script.proofs.engine.Script.end_line.Goals as goal
 
 pub returns-in_err-line-clause-err : goal.returns-in_err-line-clause-err
 returns-in_err-line-clause-err c =
-    if_err _ c.from_residual.result _ c.from_residual.ensures.1 (refl, record { text = refl; written = refl; reached = inl refl })
+    if_err _ c.from_residual.result _ c.from_residual.ensures.1 (refl, record { text = refl; written = refl; hive = refl })
 
 pub returns-in_err-answer-clause-err : goal.returns-in_err-answer-clause-err
 returns-in_err-answer-clause-err c =
-    let lost = c.in_err-answer.ensures.err in
-    let meant = c.in_ok-line.ensures ∙ ap meaning_of c.as_slice.ensures.value in
+    let kept = c.in_err-answer.ensures.err in
     if_err _ c.from_residual-in_err-answer.result _ c.from_residual-in_err-answer.ensures.1
-    (refl, record { text = lost.text; written = lost.written; reached = as_meant _ _ _ _ _ meant lost.reached })
+    (refl, record { text = kept.text; written = kept.written; hive = kept.hive })
 
 pub returns-clause-lines : goal.returns-clause-lines
 returns-clause-lines c = λ fewer. one_more_line _ _ _ fewer c.saturating_add-self.ensures c.answer.ensures.lines

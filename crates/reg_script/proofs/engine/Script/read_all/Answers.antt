@@ -1,4 +1,4 @@
-use Rattle.std.proofs.Common.{rules, [], ◌++◌, take, refl, arith}
+use Rattle.std.proofs.Common.{[], ◌++◌, take, refl, arith}
 use Rattle.reg_script.specs.declared.engine.ScriptFault.TheVariants.{Read}
 use Rattle.reg_script.proofs.FailedCalls.{if_err}
 use Rattle.reg_script.proofs.ProgressLemmas.{takes_none, takes_then, consumes_none, consumes_then, consumes_kept, consumes_no_more, ends_at}
@@ -14,7 +14,7 @@ returns-in_default-clause-err g c =
     let h = c.loop-read.invariant steady in (
       h.0,
       consumes_kept _ _ _ h.0 h.1 c.in_default.ensures.bytes,
-      halts_at _ _ _ h.0 Read _ h.2 (record { gathered = refl; sent = refl; written = refl }, refl, refl),
+      halts_at _ _ _ h.0 Read _ h.2 refl (record { gathered = refl; sent = refl; written = refl }, refl),
     )
 
 pub returns-in_err-end-clause-err : goal.returns-in_err-end-clause-err
@@ -22,10 +22,10 @@ returns-in_err-end-clause-err g c =
     if_err _ c.from_residual.result _ c.from_residual.ensures.1
     (λ steady none empty.
     let h = c.loop-read.invariant steady in
-    let lost = c.in_err-end.ensures.err in (
+    let kept = c.in_err-end.ensures.err in (
       h.0,
       consumes_no_more _ _ _ h.0 c.read.new.buf c.in-Ok.count h.1 c.in-Ok.ensures.bytes.0 c.if-count-eq0.true,
-      halts_last _ _ _ _ h.0 _ h.2 (search rules) lost.1 lost.0 lost.2.text refl lost.2.written lost.2.reached,
+      halts_last _ _ _ h.0 _ h.2 kept.0 kept.2.text refl kept.2.written kept.2.hive,
     ))
 
 pub returns-then-count-eq0-clause-lines : goal.returns-then-count-eq0-clause-lines

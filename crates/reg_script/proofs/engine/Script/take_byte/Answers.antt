@@ -1,22 +1,18 @@
-use Rattle.std.proofs.Common.{rules, refl, inl}
+use Rattle.std.proofs.Common.{rules, refl}
 use Rattle.reg_script.proofs.FailedCalls.{if_err}
 use Rattle.reg_script.proofs.ProgressLemmas.{takes_byte, takes_line}
-use Rattle.reg_script.proofs.ScriptHalts.{halts_here, halts_lost, halts_cut, too_many_lines, line_too_long, few_lines, many_lines, short_line, long_line}
+use Rattle.reg_script.proofs.ScriptHalts.{halts_here, halts_unchanged, halts_cut, too_many_lines, line_too_long, few_lines, many_lines, short_line, long_line}
 use Rattle.reg_script.proofs.engine.Script.take_byte.Goals as goal
 
 pub returns-then-self-ge-LINES_LIMIT-clause-err : goal.returns-then-self-ge-LINES_LIMIT-clause-err
 returns-then-self-ge-LINES_LIMIT-clause-err g c =
-    λ steady. halts_here _ _ _ _ steady (
-      record { gathered = refl; sent = refl; written = refl },
-      refl,
-      too_many_lines _ _ _ steady.few (many_lines _ c.if-self-ge-LINES_LIMIT.true),
-    )
+    λ steady. halts_here _ _ _ _ steady refl
+    (record { gathered = refl; sent = refl; written = refl }, too_many_lines _ _ _ steady.few (many_lines _ c.if-self-ge-LINES_LIMIT.true))
 
 pub returns-in_err-end_line-clause-err : goal.returns-in_err-end_line-clause-err
 returns-in_err-end_line-clause-err g c = if_err _ c.from_residual.result _ c.from_residual.ensures.1
-    (λ steady. let lost = c.in_err-end_line.ensures.err in
-    halts_lost _ _ c.args.byte _ steady c.if-byte-eq10.true
-    (few_lines _ c.if-self-ge-LINES_LIMIT.false) lost.0 lost.1.text refl lost.1.written lost.1.reached)
+    (λ steady. let kept = c.in_err-end_line.ensures.err in
+    halts_unchanged _ _ c.args.byte _ steady kept.0 kept.1.text refl kept.1.written kept.1.hive)
 
 pub returns-in_err-settle-clause-err : goal.returns-in_err-settle-clause-err
 returns-in_err-settle-clause-err g c = if_err _ c.from_residual-in_err-settle.result _ c.from_residual-in_err-settle.ensures.1
@@ -34,9 +30,8 @@ returns-then-byte-eq10-clause-ok g c =
 
 pub returns-then-len-ge-LINE_LIMIT-clause-err : goal.returns-then-len-ge-LINE_LIMIT-clause-err
 returns-then-len-ge-LINE_LIMIT-clause-err g c =
-    λ steady. halts_here _ _ _ _ steady (
+    λ steady. halts_here _ _ _ _ steady refl (
       record { gathered = refl; sent = refl; written = refl },
-      refl,
       line_too_long _ _ _ steady.no_feed c.if-byte-eq10.false (long_line _ (search rules)),
     )
 
@@ -47,4 +42,4 @@ returns-in-Ok-clause-ok g c =
 
 pub returns-in-Err-clause-err : goal.returns-in-Err-clause-err
 returns-in-Err-clause-err g c =
-    λ steady. halts_here _ _ _ _ steady (record { gathered = refl; sent = refl; written = refl }, inl refl)
+    λ steady. halts_here _ _ _ _ steady refl (record { gathered = refl; sent = refl; written = refl })
