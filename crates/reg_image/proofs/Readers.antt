@@ -12,6 +12,7 @@ pub mod ReachedSteps
 pub mod BigSegments
 pub mod DataForms
 pub mod EqualNames
+pub mod FewNames
 pub mod ValueReadings
 pub mod FitNames
 pub mod NewValues

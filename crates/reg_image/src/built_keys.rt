@@ -173,7 +173,7 @@ fn put_values(
     alloc: Global,
     tree: &mut Tree,
     node: Node,
-    values: &[ReadValue],
+    values: &[ReadValue<'_>],
     time: u64,
 ) -> Result<(), LoadFault>
     requires values { AreFit (members_in values.now) }

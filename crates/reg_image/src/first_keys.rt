@@ -1,6 +1,7 @@
 //! The first keys that are built with the securities of an image, so that later ones share these without a search.
 
 ghost use Rattle.std.specs.Prelude.{◌≡◌, ◌<◌, ℕ, None, Some, length, OnOk, IfOk, IfErr};
+ghost use Rattle.std.specs.Cow.{cow_slice_items};
 ghost use Rattle.std.specs.FinMap.{get, insert};
 ghost use Rattle.reg_names.specs.declared.TheConstants.{PATH_LIMIT};
 ghost use Rattle.reg_heap.specs.declared.limits.TheConstants.{SUBKEYS_LIMIT};
@@ -73,14 +74,14 @@ pub fn build_sharing(
     requires above { IsThere tree.old above }
     requires named { IsFitName named.now }
     requires parts { AreFitParts parts.now }
-    requires free { (p : Path) → IsAt tree.old p above → get tree.old.tree (child_path p named.now.name.items) ≡ None }
+    requires free { (p : Path) → IsAt tree.old p above → get tree.old.tree (child_path p (cow_slice_items named.now.name)) ≡ None }
     requires shallow { above.depth < PATH_LIMIT }
     requires few { (p : Path) → IsAt tree.old p above → length (children_of tree.old.tree p) < SUBKEYS_LIMIT }
     requires firsts { (heap : Heap) × AreFirst heap tree.old firsts.old
         × (descriptor_at heap named.now.node.fields.security ≡ Some parts.now.descriptor.now) }
     ensures ok { (p : Path) → IsAt tree.old p above → IfOk result (λ node.
-        (tree.new.tree ≡ insert tree.old.tree (child_path p named.now.name.items) (told_as named.now parts.now))
-        × IsAt tree.new (child_path p named.now.name.items) node) }
+        (tree.new.tree ≡ insert tree.old.tree (child_path p (cow_slice_items named.now.name)) (told_as named.now parts.now))
+        × IsAt tree.new (child_path p (cow_slice_items named.now.name)) node) }
     ensures nodes { OnOk result (KeepsNodes tree.old tree.new) }
     ensures builds { (p : Path) → IsAt tree.old p above → OnOk result (BuildsOne tree.old tree.new p (told_as named.now parts.now)) }
     ensures err { (p : Path) → IsAt tree.old p above → IfErr result (IsLack (CrowdsBelow tree.old p (told_as named.now parts.now))) }

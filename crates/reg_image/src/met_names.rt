@@ -1,20 +1,27 @@
 //! The names of the values that were met in one key.
 
-ghost use Rattle.std.specs.Prelude.{◌≡◌, ◌||◌, ℕ, List, [], not, IfOk, OnOk};
+ghost use Rattle.std.specs.Prelude.{◌≡◌, ◌≤◌, ◌<◌, ◌||◌, ◌++◌, ◌∷◌, ℕ, List, [], not, length, IfOk, IfErr, OnOk};
+ghost use Rattle.std.specs.List.{list_any};
 ghost use Rattle.reg_names.specs.Names.{folded};
-ghost use Rattle.reg_heap.specs.Members.{same_name};
+ghost use Rattle.reg_heap.specs.Paths.{Member};
+ghost use Rattle.reg_heap.specs.Members.{same_name as is_same};
 ghost use Rattle.reg_image.specs.declared.LoadFault.{LoadFault};
 ghost use Rattle.reg_image.specs.WalkSteps.{check};
-ghost use Rattle.reg_image.specs.Internal.NamesMet.{is_met, AreMet};
+ghost use Rattle.reg_image.specs.Internal.NamesMet.{is_among, is_met, AreMet, AreKnown};
+ghost use Rattle.reg_image.specs.Internal.NamedRecords.{member_in, members_in};
 ghost use Rattle.reg_image.specs.Internal.ReaderOutcomes.{Gives};
 
 use crate::LoadFault;
-use reg_names::fold;
+use crate::values::ReadValue;
+use reg_names::{fold, same_name};
 use std::alloc::{AllocError, Global};
 use std::collections::BTreeSet;
 
-/// Names that were met, folded, in a tree by their order: whether one was met takes a number of comparisons that grows as the
-/// logarithm of theirs.
+/// Of so many values at most the names are compared one by one.
+pub const FEW: usize = 8;
+
+/// The names of more than a few values, folded, in a tree by their order: whether one was met takes a number of comparisons that
+/// grows as the logarithm of theirs. Of a few values it has none, so that no copies are made of most names.
 #[derive(Drop)]
 pub struct MetNames {
     folded: BTreeSet<Vec<u8>>,
@@ -27,21 +34,50 @@ fn folded_name(alloc: Global, name: &[u8]) -> Result<Vec<u8>, AllocError>
     name.iter().map(|byte| fold(*byte)).collect(alloc)
 }
 
+/// Whether a value has a name, after folding.
+fn is_named(value: &ReadValue<'_>, name: &[u8]) -> bool
+    ensures { result ≡ is_same (member_in value.now).name name.now }
+{
+    same_name(value.name.as_slice(), name)
+}
+
+/// Whether one of these values has a name, after folding.
+fn is_one_named(values: &[ReadValue<'_>], name: &[u8]) -> bool
+    ensures { result ≡ is_among name.now (members_in values.now) }
+{
+    for value in values {
+        if is_named(value, name) {
+            return true;
+        }
+    }
+    false
+}
+
+/// Compares a name with those of a few values.
+fn compare(values: &[ReadValue<'_>], name: &[u8]) -> Result<(), LoadFault>
+    ensures { Gives (λ _. tt) (check LoadFault.Twice (not (is_among name.now (members_in values.now)))) result }
+{
+    if is_one_named(values, name) {
+        return Err(LoadFault::Twice);
+    }
+    Ok(())
+}
+
 impl MetNames {
     /// No names.
     pub fn new(alloc: Global) -> MetNames
-        ensures { AreMet [] result.folded.keys }
+        ensures { AreKnown [] result.folded.keys }
     {
         MetNames {
             folded: BTreeSet::new(alloc),
         }
     }
 
-    /// Meets a name. `Twice` is for one that folds as a name that was met before, `Memory` where memory runs out.
-    pub fn meet(&mut self, alloc: Global, name: &[u8]) -> Result<(), LoadFault>
+    /// Puts a name into the tree.
+    fn put(&mut self, alloc: Global, name: &[u8]) -> Result<(), LoadFault>
         ensures new { Gives (λ _. tt) (check LoadFault.Twice (not (is_met self.old.folded.keys name.now))) result }
         ensures met { OnOk result ((other : List ℕ) →
-            is_met self.new.folded.keys other ≡ (is_met self.old.folded.keys other || same_name name.now other)) }
+            is_met self.new.folded.keys other ≡ (is_met self.old.folded.keys other || is_same name.now other)) }
     {
         let Ok(copy) = folded_name(alloc, name) else {
             return Err(LoadFault::Memory);
@@ -53,5 +89,44 @@ impl MetNames {
             return Err(LoadFault::Twice);
         }
         Ok(())
+    }
+
+    /// Puts the names of the values before the first that is one too many for a few into the tree.
+    fn gather(&mut self, alloc: Global, before: &[ReadValue<'_>]) -> Result<(), LoadFault>
+        requires known { AreKnown (members_in before.now) self.old.folded.keys }
+        requires many { FEW ≤ length before.now }
+        ensures met { OnOk result (AreMet (members_in before.now) self.new.folded.keys) }
+        ensures err { IfErr result (λ fault. fault ≡ LoadFault.Memory) }
+    {
+        if before.len() != FEW {
+            return Ok(());
+        }
+        for value in before {
+            // No two of them have one name, so that it is memory alone that may be lacking.
+            match self.put(alloc, value.name.as_slice()) {
+                Ok(()) => {}
+                Err(_) => return Err(LoadFault::Memory),
+            }
+        }
+        Ok(())
+    }
+
+    /// Meets the name of the value behind these, whose names were met. `Twice` is for one that folds as the name of one of them,
+    /// `Memory` where memory runs out.
+    pub fn meet(
+        &mut self,
+        alloc: Global,
+        before: &[ReadValue<'_>],
+        name: &[u8],
+    ) -> Result<(), LoadFault>
+        requires { AreKnown (members_in before.now) self.old.folded.keys }
+        ensures new { Gives (λ _. tt) (check LoadFault.Twice (not (is_among name.now (members_in before.now)))) result }
+        ensures met { OnOk result ((m : Member) → m.name ≡ name.now → AreKnown (members_in before.now ++ m ∷ []) self.new.folded.keys) }
+    {
+        if before.len() < FEW {
+            return compare(before, name);
+        }
+        self.gather(alloc, before)?;
+        self.put(alloc, name)
     }
 }

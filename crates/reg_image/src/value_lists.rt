@@ -41,7 +41,15 @@ fn values_each<'a>(
     let mut values = Vec::new(alloc);
     for index in 0..count {
         let offset = offset_at(row, index);
-        let value = value_from(alloc, bins, table, minor, &mut met, offset)?;
+        let value = value_from(
+            alloc,
+            bins,
+            table,
+            minor,
+            &mut met,
+            values.as_slice(),
+            offset,
+        )?;
         if values.push(value).is_err() {
             return Err(LoadFault::Memory);
         }

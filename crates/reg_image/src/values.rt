@@ -3,15 +3,14 @@
 ghost use Rattle.std.specs.Prelude.{◌≡◌, ◌<◌, ◌≤◌, ℕ, true, List, [], ◌∷◌, ◌++◌, IfOk, OnOk};
 ghost use Rattle.std.specs.Cow.{cow_slice_items};
 ghost use Rattle.reg_names.specs.Names.{is_value_name};
-ghost use Rattle.reg_heap.specs.Paths.{Member};
 ghost use Rattle.reg_heap.specs.Trees.{IsSmallValue};
 ghost use Rattle.reg_arena.specs.Cells.{cell_at};
 ghost use Rattle.reg_image.specs.LoadingWalk.{value_name as name_step, named_value as named_step, value_from as value_step};
 ghost use Rattle.reg_image.specs.Internal.CellStates.{unnamed};
 ghost use Rattle.reg_image.specs.Internal.ReaderOutcomes.{Gives, Follows};
 ghost use Rattle.reg_image.specs.Internal.NameReadings.{value_in};
-ghost use Rattle.reg_image.specs.Internal.NamedRecords.{value_of, member_in};
-ghost use Rattle.reg_image.specs.Internal.NamesMet.{AreMet};
+ghost use Rattle.reg_image.specs.Internal.NamedRecords.{value_of, member_in, members_in};
+ghost use Rattle.reg_image.specs.Internal.NamesMet.{AreKnown};
 ghost use Rattle.reg_image.specs.Internal.FitKeys.{IsOther};
 
 use crate::LoadFault;
@@ -88,27 +87,28 @@ pub fn named_value<'a>(
     read_value(alloc, content)
 }
 
-/// Names a value of a key, meets its name among those of the values before it, and reads its data, in this order. `Twice` is also
-/// for a name that folds as one before it.
+/// Names the value of a key behind these, meets its name among theirs, and reads its data, in this order. `Twice` is also for a name
+/// that folds as one of theirs.
 pub fn value_from<'a>(
     alloc: Global,
     bins: &'a [u8],
     table: &mut CellTable,
     minor: u32,
     met: &mut MetNames,
+    before: &[ReadValue<'_>],
     offset: u32,
 ) -> Result<ReadValue<'a>, LoadFault>
-    ensures follows { (path : List ℕ) → (before : List Member) → AreMet before met.old.folded.keys →
-        Follows (cell_at bins.now) path member_in (value_step (cell_at bins.now) minor path before offset)
+    requires { AreKnown (members_in before.now) met.old.folded.keys }
+    ensures follows { (path : List ℕ) →
+        Follows (cell_at bins.now) path member_in (value_step (cell_at bins.now) minor path (members_in before.now) offset)
         table.old.states.items table.new.states.items result }
     ensures small { IfOk result (λ value. IsSmallValue (member_in value)) }
-    ensures other { IfOk result (λ value. (before : List Member) → AreMet before met.old.folded.keys → IsOther before (cow_slice_items value.name)) }
-    ensures met { IfOk result (λ value. (before : List Member) → AreMet before met.old.folded.keys →
-        AreMet (before ++ member_in value ∷ []) met.new.folded.keys) }
+    ensures other { IfOk result (λ value. IsOther (members_in before.now) (cow_slice_items value.name)) }
+    ensures met { IfOk result (λ value. AreKnown (members_in before.now ++ member_in value ∷ []) met.new.folded.keys) }
     ensures no_more { unnamed table.new.states.items ≤ unnamed table.old.states.items }
 {
     let NamedValue { value, name } = named_value(alloc, bins, table, offset)?;
-    met.meet(alloc, name.as_slice())?;
+    met.meet(alloc, before, name.as_slice())?;
     let fields = value.fields;
     let bytes = data_from(alloc, bins, table, minor, fields.size, fields.offset)?;
     Ok(ReadValue {

@@ -102,7 +102,7 @@ fn build_below(alloc: Global, tree: &mut Tree, above: Node, key: NewKey<'_>) -> 
     if tree.subkeys(above) >= SUBKEYS_LIMIT || above.depth as usize >= PATH_LIMIT {
         return Err("a key has no place".into());
     }
-    Ok(tree.build_key(alloc, above, key)?)
+    Ok(tree.build_key(alloc, above, key, None)?)
 }
 
 /// Builds two keys below the root, and one below the first of them.

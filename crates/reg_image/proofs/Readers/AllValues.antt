@@ -1,6 +1,7 @@
 -- All values of a key, put at once or one behind the other.
 use Rattle.std.proofs.Common.{◌≡◌, ◌⊎◌, ℕ, zero, suc, ◌+◌, ◌<◌, ◌≤◌, Result, Ok, Err, OnOk, IfErr, Some, List, [], ◌∷◌, ◌++◌, inl, inr}
 use Rattle.std.proofs.Common.{length, take, slice_get, refl, sym, ap, ◌∙◌, subst, arith}
+use Rattle.std.specs.Cow.{cow_slice_items}
 use Rattle.std.specs.FinMap.{get, insert}
 use Rattle.std.proofs.lemmas.Option.{none-some, same_Some}
 use Rattle.std.proofs.lemmas.List.{map-append}
@@ -18,7 +19,7 @@ use Rattle.reg_tree.proofs.InsertKey.LastDescribed.{insert-twice}
 use Rattle.reg_image.specs.declared.LoadFault.{LoadFault}
 use Rattle.reg_image.specs.declared.values.ReadValue.{ReadValue}
 use Rattle.reg_image.specs.CrowdedBins.{bytes_taken, PutsEach, PutsAll, PutsValues, CrowdsEach, CrowdsValues}
-use Rattle.reg_image.specs.Internal.NamedRecords.{member_in, members_in}
+use Rattle.reg_image.specs.Internal.NamedRecords.{data_in, member_in, members_in}
 use Rattle.reg_image.specs.Internal.FitKeys.{AreNew}
 use Rattle.reg_image.specs.Internal.BegunKeys.{IsBare, IsLack}
 use Rattle.reg_image.proofs.KeyStacks.BuiltChains.{lack-as}
@@ -32,14 +33,14 @@ take-read [] index v e = absurd (none-some _ e)
 take-read (x ∷ values) zero v e = ap (λ (v : ReadValue). member_in v ∷ []) (same_Some _ _ e)
 take-read (x ∷ values) (suc index) v e = ap (λ ms. member_in x ∷ ms) (take-read values index v e)
 
-same-member : (name bytes : List ℕ) (v : ReadValue) → name ≡ v.name.items → bytes ≡ v.bytes.items →
+same-member : (name bytes : List ℕ) (v : ReadValue) → name ≡ cow_slice_items v.name → bytes ≡ data_in v.bytes →
     ◌≡◌ {A = Member} (record { name = name; kind = v.kind; bytes = bytes }) (member_in v)
 same-member name bytes v e f =
     ap (λ (n : List ℕ). record { name = n; kind = v.kind; bytes = bytes }) e
-    ∙ ap (λ (b : List ℕ). record { name = v.name.items; kind = v.kind; bytes = b }) f
+    ∙ ap (λ (b : List ℕ). record { name = cow_slice_items v.name; kind = v.kind; bytes = b }) f
 
 pub one-told : (before after : List NewValue) (values : List ReadValue) (index : ℕ) (v : ReadValue) (n : NewValue) →
-    slice_get values index ≡ Some v → n.kind ≡ v.kind → n.name.now ≡ v.name.items → n.bytes.now ≡ v.bytes.items →
+    slice_get values index ≡ Some v → n.kind ≡ v.kind → n.name.now ≡ cow_slice_items v.name → n.bytes.now ≡ data_in v.bytes →
     all_told before ≡ take index (members_in values) → after ≡ before ++ n ∷ [] → all_told after ≡ take (index + 1) (members_in values)
 one-told before after values index v n here k name bytes e a =
     let same : told n ≡ member_in v =

@@ -8,14 +8,13 @@ use Rattle.reg_heap.specs.Trees.{IsSmallValue}
 use Rattle.reg_image.specs.declared.LoadFault.TheVariants.{Twice}
 use Rattle.reg_image.specs.WalkSteps.{Seen, check}
 use Rattle.reg_image.specs.Images.{nothing}
-use Rattle.reg_image.specs.Internal.NamesMet.{is_met, AreMet}
+use Rattle.reg_image.specs.Internal.NamesMet.{is_among}
 use Rattle.reg_image.specs.Internal.FitKeys.{IsOther, AreNew}
 
 -- a name that was not met
-pub name-other : {Y : Type 0} (met : List (Vec ℕ Y)) (name read : List ℕ) → name ≡ read →
-    ((seen : Seen) → check Twice (not (is_met met name)) seen ≡ Ok (tt, seen)) →
-    (before : List Member) → AreMet before met → IsOther before read
-name-other met name read same g before are = are read ∙ (ap (is_met met) (sym same) ∙ by (is_met met name) (g nothing))
+pub name-other : (before : List Member) (name read : List ℕ) → name ≡ read →
+    ((seen : Seen) → check Twice (not (is_among name before)) seen ≡ Ok (tt, seen)) → IsOther before read
+name-other before name read same g = ap (λ name. is_among name before) (sym same) ∙ by (is_among name before) (g nothing)
   where
     by : (b : Bool) → check Twice (not b) nothing ≡ Ok (tt, nothing) → b ≡ false
     by true e = absurd (cc)

@@ -3,8 +3,12 @@ use Rattle.std.proofs.Common.{◌≡◌, ◌≢◌, ℕ, ◌==◌, arith, nat_lt
 use Rattle.std.specs.Prelude.{IfSome, is_ok}
 use Rattle.std.specs.Option.{option_and_then, option_map}
 use Rattle.std.specs.Result.{result_ok}
+use Rattle.std.specs.Ordering.{is_eq, nat_cmp}
+use Rattle.std.specs.declared.cmp.Ordering.TheVariants.{Equal, Greater}
+use Rattle.std.specs.BTreeMap.{UpdatesBy, is_at}
 use Rattle.std.specs.FinMap.{get, insert}
 use Rattle.std.proofs.lemmas.Bool.{false≢true}
+use Rattle.std.proofs.lemmas.Bool.Decides.{nat_tests}
 use Rattle.std.proofs.lemmas.Option.{none-some, same_Some}
 use Rattle.reg_heap.specs.Heaps.{Heap}
 use Rattle.reg_heap.specs.Kinds.Kind.{Security}
@@ -27,7 +31,7 @@ use Rattle.reg_image.specs.Internal.FirstUses.{AreFirst, Notes, Uses, first_with
 
 -- ---- what an image holds at a security's offset
 
-ok_or : {A E : Type 0} → A → Result A E → A
+abbrev ok_or : {A E : Type 0} → A → Result A E → A
 ok_or d (Ok x) = x
 ok_or d (Err e) = d
 
@@ -56,7 +60,7 @@ held-there heap path offset seen after content e = by (heap offset) refl e
         let named = note (record { kind = Security; offset = offset }) >> give held in
         let a = passed (check Loop (is_absent offset path)) (not_named Security offset >> named) seen (content, after) e in
         let b = passed (not_named Security offset) named a.0 (content, after) a.1 in
-        q ∙ ap (λ r. Some (ok_or (content, after) r).0) b.1
+        q ∙ ap (λ (r : Result (List ℕ × Seen) LoadFault). Some (ok_or {A = List ℕ × Seen} (content, after) r).0) b.1
 
 module _ (heap : Heap) (offset : ℕ) where
   security-is : (content : List ℕ) (s : KeySecurityRecord) → heap offset ≡ Some content → sk_of content ≡ Ok s → descriptor_at heap offset ≡ Some s.descriptor
@@ -88,7 +92,7 @@ module _ (heap : Heap) (offset : ℕ) where
           let last = check Limit (nat_le (length s.descriptor) DESCRIPTOR_LIMIT) >> give s.descriptor in
           let a = passed (check Record (nat_lt 0 (length s.descriptor))) last mid (descriptor, after) e in
           let b = passed (check Limit (nat_le (length s.descriptor) DESCRIPTOR_LIMIT)) (give s.descriptor) a.0 (descriptor, after) a.1 in
-          security-is content s here q ∙ ap (λ r. Some (ok_or (descriptor, after) r).0) b.1
+          security-is content s here q ∙ ap (λ (r : Result (List ℕ × Seen) LoadFault). Some (ok_or {A = List ℕ × Seen} (descriptor, after) r).0) b.1
 
 -- the descriptor of a key's parts is that of the security that its key node names
 pub parts-described : (heap : Heap) (minor : ℕ) (path : List ℕ) (key : KeyFields) (seen after : Seen) (parts : List ℕ × List ℕ × List Member) →
@@ -97,7 +101,8 @@ parts-described heap minor path key seen after parts e =
     let a = opened (class_from heap path key.class_length key.class) with-class seen (parts, after) e in
     let b = opened (descriptor_from heap path key.security) (with-descriptor a.0) a.1 (parts, after) a.3 in
     let c = opened (values_from heap minor path key.values key.values_list) (λ values. give (a.0, b.0, values)) b.1 (parts, after) b.3 in
-    described-there heap key.security path a.1 b.1 b.0 b.2 ∙ ap (λ r. Some (ok_or (parts, after) r).0.1) c.3
+    described-there heap key.security path a.1 b.1 b.0 b.2 ∙ ap (λ (r : Result ((List ℕ × List ℕ × List Member) × Seen) LoadFault).
+    Some (ok_or {A = (List ℕ × List ℕ × List Member) × Seen} (parts, after) r).0.1) c.3
   where
     with-descriptor : List ℕ → List ℕ → Step (List ℕ × List ℕ × List Member)
     with-descriptor class descriptor = values_from heap minor path key.values key.values_list >>= (λ values. give (class, descriptor, values))
@@ -148,5 +153,24 @@ module _ (heap : Heap) (old new : Keys) (nodes : KeepsNodes old new) (at : Path)
 
       by : (b : Bool) → (security == other) ≡ b → cond b (Some node) (first_with before other) ≡ Some first → Uses heap new other first
       by true t e =
-          subst (λ n. Uses heap new other n) (same_Some _ _ e) (subst (λ s. Uses heap new s node) (omega (arith, t)) its)
+          subst (λ n. Uses heap new other n) (same_Some _ _ e) (subst (λ s. Uses heap new s node) (let same : security ≡ other = grind (arith, nat_tests) in same) its)
       by false t e = first-still before are other first e
+
+-- ---- the map of the first keys
+
+compared : (a b : ℕ) → is_at (nat_cmp a) b ≡ (a == b)
+compared a b = by (nat_lt a b) refl
+  where
+    equal : (e : Bool) → is_eq (cond e Equal Greater) ≡ e
+    equal true = refl
+    equal false = refl
+
+    by : (l : Bool) → nat_lt a b ≡ l → is_eq (nat_cmp a b) ≡ (a == b)
+    by true l = let n : (a == b) ≡ false = grind (arith, nat_tests) in rw (l, n) refl
+    by false l = rw l (equal (a == b))
+
+-- a key put into it
+pub noted : (old new : FirstKeys) (security : ℕ) (node : Node) → UpdatesBy nat_cmp (nat_cmp security) old.nodes new.nodes (Some node) →
+    Notes old security node new
+noted old new security node u other =
+    u.0 other ∙ ap (λ b. cond b (Some node) (first_with old other)) (compared security other)

@@ -1,15 +1,14 @@
 -- A value read, with a name that no value before it has.
 use Rattle.std.proofs.Common.{◌≡◌, ℕ, ◌%◌, ◌==◌, ◌||◌, nat_le, not, Bool, true, false, Result}
-use Rattle.std.proofs.Common.{Ok, Err, List, length, bit_and, Vec, refl, sym, ap, ◌∙◌, subst}
+use Rattle.std.proofs.Common.{Ok, Err, List, length, bit_and, refl, sym, ap, ◌∙◌, subst}
 use Rattle.std.specs.Result.{IsErrAnd}
-use Rattle.std.specs.List.{list_any, list_all}
+use Rattle.std.specs.List.{list_all}
 use Rattle.std.specs.Cow.{cow_slice_items}
 use Rattle.reg_names.specs.declared.TheConstants.{VALUE_NAME_LIMIT}
 use Rattle.reg_names.specs.Names.{is_value_name_byte}
 use Rattle.reg_heap.specs.Heaps.{Heap}
 use Rattle.reg_heap.specs.Kinds.Kind.{Value}
 use Rattle.reg_heap.specs.Paths.{Member}
-use Rattle.reg_heap.specs.Members.{same_name}
 use Rattle.reg_records.specs.BigData.{is_inline}
 use Rattle.reg_records.specs.KeyValues.{KeyValueRecord, vk_of}
 use Rattle.reg_shape.specs.Nodes.{letters, member_of}
@@ -23,7 +22,7 @@ use Rattle.reg_image.specs.WalkSteps.{Seen, Step, ◌>>=◌, ◌>>◌, onward, g
 use Rattle.reg_image.specs.LoadingWalk.{read, name_in, value_name, named_value, data_by, value_from}
 use Rattle.reg_image.specs.Internal.NameReadings.{value_in}
 use Rattle.reg_image.specs.Internal.NamedRecords.{value_of, data_in, member_in}
-use Rattle.reg_image.specs.Internal.NamesMet.{is_met, AreMet}
+use Rattle.reg_image.specs.Internal.NamesMet.{is_among}
 use Rattle.reg_image.specs.Internal.ReaderOutcomes.{Fails, Follows}
 use Rattle.reg_image.proofs.Readers.ReaderSteps.{fails-same, exit-follows, exit-gives, follows-then, cell-gives}
 
@@ -100,7 +99,7 @@ module _ (heap : Heap) (minor : ℕ) (path : List ℕ) (offset : ℕ) (before : 
   with-data value = data-of value >>= told-of value
 
   abbrev is_other : KeyValueRecord × List ℕ → Bool
-  is_other value = not (list_any (λ (m : Member). same_name m.name value.1) before)
+  is_other value = not (is_among value.1 before)
 
   abbrev then : KeyValueRecord × List ℕ → Step Member
   then value = check Twice (is_other value) >> with-data value
@@ -108,24 +107,24 @@ module _ (heap : Heap) (minor : ℕ) (path : List ℕ) (offset : ℕ) (before : 
   abbrev FollowsValue : List CellState → Result ReadValue LoadFault → Type 0
   FollowsValue new r = Follows heap path member_in (value_from heap minor path before offset) old new r
 
-  module _ {Y : Type 0} (named : NamedValue) (a : Follows heap path value_of named-step old mid (Ok named))
-      (met : List (Vec ℕ Y)) (are : AreMet before met) (name : List ℕ) (same : name ≡ cow_slice_items named.name) where
+  module _ (named : NamedValue) (a : Follows heap path value_of named-step old mid (Ok named))
+      (name : List ℕ) (same : name ≡ cow_slice_items named.name) where
     abbrev value : KeyValueRecord × List ℕ
     value = value_of named
 
-    is-test : is_other value ≡ not (is_met met name)
-    is-test = ap not (are (cow_slice_items named.name) ∙ ap (is_met met) (sym same))
+    is-test : is_other value ≡ not (is_among name before)
+    is-test = ap (λ name. not (is_among name before)) (sym same)
 
     pub name-exit : (fault : LoadFault) (r : Result ReadValue LoadFault) → IsErrAnd r (λ e. e ≡ fault) →
-        ((seen : Seen) → Fails fault (check Twice (not (is_met met name))) seen) → FollowsValue mid r
+        ((seen : Seen) → Fails fault (check Twice (not (is_among name before))) seen) → FollowsValue mid r
     name-exit fault r i g =
         cell-gives heap path value_of member_in named-step then old mid named r a
         (exit-gives {X = Unit {0}} (λ _. tt) member_in (check Twice (is_other value)) (λ _. with-data value) fault r i
         (subst (λ b. (seen : Seen) → Fails fault (check Twice b) seen) (sym is-test) g))
 
-    module _ (g : (seen : Seen) → check Twice (not (is_met met name)) seen ≡ Ok (tt, seen)) (new : List CellState) where
+    module _ (g : (seen : Seen) → check Twice (not (is_among name before)) seen ≡ Ok (tt, seen)) (new : List CellState) where
       passes : (seen : Seen) → is_other value ≡ true
-      passes seen = is-test ∙ by (not (is_met met name)) (g seen)
+      passes seen = is-test ∙ by (not (is_among name before)) (g seen)
         where
           by : (b : Bool) → check Twice b seen ≡ Ok (tt, seen) → b ≡ true
           by true e = refl

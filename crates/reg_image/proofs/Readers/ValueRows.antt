@@ -21,7 +21,7 @@ use Rattle.reg_image.specs.WalkSteps.{Seen, Step, ◌>>=◌, onward}
 use Rattle.reg_image.specs.LoadingWalk.{row_from, value_from, values_each, values_from}
 use Rattle.reg_image.specs.Internal.CellStates.{IsTable, unnamed}
 use Rattle.reg_image.specs.Internal.NamedRecords.{member_in, members_in}
-use Rattle.reg_image.specs.Internal.NamesMet.{AreMet}
+use Rattle.reg_image.specs.Internal.NamesMet.{AreKnown}
 use Rattle.reg_image.specs.Internal.FitKeys.{IsOther, AreNew}
 use Rattle.reg_image.specs.Internal.ReaderOutcomes.{Fails, Follows}
 use Rattle.reg_image.proofs.Readers.ReaderSteps.{fails-on, fails-same, exit-follows, follows-then}
@@ -66,13 +66,13 @@ module _ (heap : Heap) (minor : ℕ) (offsets : List ℕ) (old : List CellState)
 
   -- the first values were read, and just their names are met
   pub record AreValuesRead {Y : Type 0} (index : ℕ) (values : List ReadValue) (met : List (Vec ℕ Y)) (now : List CellState) : Type 0 where
-    pub names : AreMet (members_in values) met
+    pub names : AreKnown (members_in values) met
     pub new : AreNew [] (members_in values)
     pub many : length (members_in values) ≡ index
     pub no_more : unnamed now ≤ unnamed old
     pub left : (path : List ℕ) (seen : Seen) → IsTable heap seen.found path old → IsLeft path seen index values now
 
-  pub none-read : {Y : Type 0} (values : List ReadValue) (met : List (Vec ℕ Y)) → values ≡ [] → AreMet [] met →
+  pub none-read : {Y : Type 0} (values : List ReadValue) (met : List (Vec ℕ Y)) → values ≡ [] → AreKnown [] met →
       AreValuesRead 0 values met old
   none-read values met e m = subst (λ values. AreValuesRead 0 values met old) (sym e) (record {
     names = m;
@@ -83,26 +83,30 @@ module _ (heap : Heap) (minor : ℕ) (offsets : List ℕ) (old : List CellState)
   })
 
   module _ {Y : Type 0} (index offset : ℕ) (next : drop index offsets ≡ offset ∷ drop (index + 1) offsets) (values : List ReadValue)
-      (met : List (Vec ℕ Y)) (now : List CellState) (a : AreValuesRead index values met now) (new : List CellState) where
-    -- the reader of the next value, whatever the values before it are
-    abbrev FollowsNext : Result ReadValue LoadFault → Type 0
-    FollowsNext r = (path : List ℕ) (before : List Member) → AreMet before met →
-        Follows heap path member_in (value_from heap minor path before offset) now new r
+      (met : List (Vec ℕ Y)) (now : List CellState) (a : AreValuesRead index values met now) (new : List CellState)
+      (before : List ReadValue) (same : before ≡ values) where
+    -- the reader of the next value
+    abbrev FollowsNext : List ReadValue → Result ReadValue LoadFault → Type 0
+    FollowsNext vs r = (path : List ℕ) → Follows heap path member_in (value_from heap minor path (members_in vs) offset) now new r
 
-    pub more-read : (v : ReadValue) (grown : List ReadValue) (more : List (Vec ℕ Y)) → grown ≡ values ++ v ∷ [] → FollowsNext (Ok v) →
-        ((before : List Member) → AreMet before met → AreMet (before ++ member_in v ∷ []) more) → unnamed new ≤ unnamed now →
-        IsSmallValue (member_in v) → ((before : List Member) → AreMet before met → IsOther before (cow_slice_items v.name)) →
+    -- it may be told the values before it as a slice of them
+    turned : (r : Result ReadValue LoadFault) → FollowsNext before r → FollowsNext values r
+    turned r f = subst (λ vs. FollowsNext vs r) same f
+
+    pub more-read : (v : ReadValue) (grown : List ReadValue) (more : List (Vec ℕ Y)) → grown ≡ values ++ v ∷ [] → FollowsNext before (Ok v) →
+        AreKnown (members_in before ++ member_in v ∷ []) more → unnamed new ≤ unnamed now →
+        IsSmallValue (member_in v) → IsOther (members_in before) (cow_slice_items v.name) →
         AreValuesRead (index + 1) grown more new
     more-read v grown more g f m l s o = subst (λ values. AreValuesRead (index + 1) values more new) (sym g) (record {
-      names = subst (λ ms. AreMet ms more) (sym (members-behind values v)) (m (members_in values) a.names);
+      names = subst (λ ms. AreKnown ms more) (ap (λ vs. members_in vs ++ member_in v ∷ []) same ∙ sym (members-behind values v)) m;
       new =
           subst (λ ms. AreNew [] ms) (sym (members-behind values v))
-          (new-push (members_in values) [] (member_in v) a.new s (o (members_in values) a.names));
+          (new-push (members_in values) [] (member_in v) a.new s (subst (λ vs. IsOther (members_in vs) (cow_slice_items v.name)) same o));
       many = ap length (members-behind values v) ∙ (let n = length-append (members_in values) (member_in v ∷ []) in omega (arith, n, a.many));
       no_more = omega (arith, l, a.no_more);
       left = λ path seen t.
           let w = a.left path seen t in
-          let d = f path (members_in values) a.names w.after w.table in
+          let d = turned (Ok v) f path w.after w.table in
           record {
             after = d.after;
             goes = w.goes ∙ (ap (λ os. rest-of path (members_in values) os w.after) next
@@ -114,7 +118,7 @@ module _ (heap : Heap) (minor : ℕ) (offsets : List ℕ) (old : List CellState)
     })
 
     pub value-exit : (fault : LoadFault) (r : Result (Vec ReadValue Global) LoadFault) → IsErrAnd r (λ e. e ≡ fault) →
-        FollowsNext (Err fault) → (path : List ℕ) → Follows heap path members (values_each heap minor path [] offsets) old new r
+        FollowsNext before (Err fault) → (path : List ℕ) → Follows heap path members (values_each heap minor path [] offsets) old new r
     value-exit fault (Ok values) i f path seen t = absurd i
     value-exit fault (Err e) i f path seen t =
         let w = a.left path seen t in
@@ -123,7 +127,7 @@ module _ (heap : Heap) (minor : ℕ) (offsets : List ℕ) (old : List CellState)
         subst (λ e. Fails e (rest-of path [] offsets) seen) (sym i)
         (fails-same fault (rest-of path [] offsets) (one >>= rest) seen w.after
         (w.goes ∙ ap (λ os. rest-of path (members_in values) os w.after) next)
-        (fails-on fault one rest w.after (f path (members_in values) a.names w.after w.table)))
+        (fails-on fault one rest w.after (turned (Err fault) f path w.after w.table)))
 
   pub all-read : {Y : Type 0} (index : ℕ) (values : Vec ReadValue Global) (met : List (Vec ℕ Y)) (now : List CellState) →
       length offsets ≤ index → AreValuesRead index values.items met now → (path : List ℕ) →

@@ -15,7 +15,7 @@ use Rattle.reg_tree.proofs.ValueChange.TreeAfterValueChange.{edited-at}
 pub get-here : (t : Tree) (p : Path) (r : Rec) → get (insert t p r) p ≡ Some r
 get-here t p r = get-insert path_total t p r p ∙ ap (λ b. cond b (Some r) (get t p)) (path-self p)
 
-get-other : (t : Tree) (p q : Path) (r : Rec) → q ≢ p → get (insert t p r) q ≡ get t q
+pub get-other : (t : Tree) (p q : Path) (r : Rec) → q ≢ p → get (insert t p r) q ≡ get t q
 get-other t p q r apart = get-insert path_total t p r q ∙ by (eq_by_cmp path_cmp q p) refl
   where
     by : (e : Bool) → eq_by_cmp path_cmp q p ≡ e → cond e (Some r) (get t q) ≡ get t q

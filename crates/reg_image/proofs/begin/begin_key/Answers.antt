@@ -68,7 +68,8 @@ build_sharing-requires-clause-firsts c =
     let done = c.in_ok-parts.ensures.follows r.path head.after head.table in (
       cell_at c.args.bins.now,
       c.requires.firsts,
-      parts-described (cell_at c.args.bins.now) c.args.minor (c.args.offset ∷ r.path) _ head.after done.after _ done.gives,
+      parts-described (cell_at c.args.bins.now) c.args.minor (c.args.offset ∷ r.path) c.in_ok-named.named.node.fields head.after done.after _
+          done.gives,
     )
 
 pub returns-clause-firsts : goal.returns-clause-firsts
@@ -77,7 +78,8 @@ returns-clause-firsts c =
     let head = c.in_ok-named.ensures.heads r.levels r.path r.at r.seen r.table r.told r.there r.deep in
     let done = c.in_ok-parts.ensures.follows r.path head.after head.table in
     c.in_ok-node.ensures.firsts (cell_at c.args.bins.now) c.requires.firsts
-    (parts-described (cell_at c.args.bins.now) c.args.minor (c.args.offset ∷ r.path) _ head.after done.after _ done.gives)
+    (parts-described (cell_at c.args.bins.now) c.args.minor (c.args.offset ∷ r.path) c.in_ok-named.named.node.fields head.after done.after _
+    done.gives)
 
 pub build_sharing-requires-clause-few : goal.build_sharing-requires-clause-few
 build_sharing-requires-clause-few c p is =

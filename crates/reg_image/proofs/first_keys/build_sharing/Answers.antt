@@ -1,4 +1,5 @@
 use Rattle.std.proofs.Common.{sym, subst}
+use Rattle.std.specs.Cow.{cow_slice_items}
 use Rattle.reg_heap.specs.Edits.{child_path}
 use Rattle.reg_image.specs.CrowdedBins.{CrowdsBelow}
 use Rattle.reg_image.specs.Internal.BegunKeys.{IsLack, told_as}
@@ -14,7 +15,7 @@ build_below-requires-clause-like c =
 pub returns-then-is_some-clause-firsts : goal.returns-then-is_some-clause-firsts
 returns-then-is_some-clause-firsts c heap are held =
     let above = c.requires.above in
-    first-still heap c.args.tree.now _ c.in_ok-node.ensures.nodes (child_path above.0 c.args.named.now.name.items) _
+    first-still heap c.args.tree.now _ c.in_ok-node.ensures.nodes (child_path above.0 (cow_slice_items c.args.named.now.name)) _
     (c.requires.free above.0 above.1) (c.in_ok-node.ensures.ok above.0 above.1).0 c.args.firsts.now are
 
 pub returns-in_err-note-clause-err : goal.returns-in_err-note-clause-err
@@ -25,6 +26,6 @@ returns-in_err-note-clause-err c p is =
 pub returns-clause-firsts : goal.returns-clause-firsts
 returns-clause-firsts c heap are held =
     let above = c.requires.above in
-    first-then heap c.args.tree.now _ c.in_ok-node.ensures.nodes (child_path above.0 c.args.named.now.name.items) _
+    first-then heap c.args.tree.now _ c.in_ok-node.ensures.nodes (child_path above.0 (cow_slice_items c.args.named.now.name)) _
     (c.requires.free above.0 above.1) (c.in_ok-node.ensures.ok above.0 above.1).0 c.args.firsts.now c.note.new.self _ c.in_ok-node.node are
     c.in_ok-note.ensures.ok (c.in_ok-node.ensures.ok above.0 above.1).1 held

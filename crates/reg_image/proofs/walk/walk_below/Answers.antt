@@ -16,7 +16,7 @@ loop-key-init c =
     let whole = key_from (cell_at bins) c.args.minor (suc PATH_LIMIT) [] root_path c.args.root.offset nothing in
     let items : reverse c.push.new.keys.items ≡ c.args.root ∷ [] =
     ap reverse (c.in_ok-push.ensures.ok ∙ ap (λ (ks : List KeyFrame). ks ++ c.args.root ∷ []) c.new-keys.ensures.items) in (
-      none-first (cell_at bins) c.args.tree.now _ c.new-firsts.ensures,
+      none-first (cell_at bins) c.args.tree.now c.before.before.before.before.before.new-firsts.result c.new-firsts.ensures,
       subst (λ (ks : List KeyFrame). IsWalking (cell_at bins) c.args.minor c.args.root.offset whole ks c.args.table.now.states.items c.args.tree.now) (sym items)
           (walking-first (cell_at bins) c.args.minor c.args.root.offset _ _ c.args.root c.requires.begun),
     )
