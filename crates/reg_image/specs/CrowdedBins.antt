@@ -1,6 +1,6 @@
 -- The bins that are built of the keys that were told, and when they have no room for the next (Suhanov, Windows registry file format
 -- specification, "Hive bin", "Cell").
-use Rattle.std.specs.Prelude.{◌≡◌, ◌<◌, ◌≤◌, ◌⊎◌, ℕ, suc, Some, List, [], ◌∷◌, ◌++◌, length}
+use Rattle.std.specs.Prelude.{◌≡◌, ◌<◌, ◌≤◌, ◌+◌, ◌⊎◌, ℕ, suc, Some, List, [], ◌∷◌, ◌++◌, length}
 use Rattle.reg_names.specs.declared.TheConstants.{PATH_LIMIT}
 use Rattle.reg_heap.specs.Paths.{Path, Rec, Member}
 use Rattle.reg_heap.specs.Edits.{child_path, edited, with_value}
@@ -57,12 +57,14 @@ pub record CrowdsEach (bare : Keys) (path : Path) (time : ℕ) (members : List M
 abbrev pub bytes_taken : List Member → ℕ
 bytes_taken members = total_of (all_value_sizes members)
 
--- a key got all its values at once: the tree has them, just the cells that they take came, and all is whole
+-- a key got all its values at once: the tree has them, just the cells that they take came, with at most one bin for all of them (32 bytes and
+-- theirs, rounded up to a multiple of 4,096), and all is whole
 pub record PutsAll (bare new : Keys) (path : Path) (time : ℕ) (members : List Member) : Type 0 where
   pub node : Node
   pub at : IsAt bare path node
   pub tree : new.tree ≡ edited bare.tree path (with_values members time)
   pub takes : TakesCells bare new (all_value_sizes members)
+  pub grows : length new.bins.bytes ≤ length bare.bins.bytes + 4127 + bytes_taken members
   pub root : new.root ≡ bare.root
   pub whole : AreWhole new
 
