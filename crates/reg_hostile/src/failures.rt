@@ -1,26 +1,43 @@
 //! Readers and writers that fail at each place: what is told of them.
 use crate::devices::{NarrowWriter, SlowReader};
-use crate::hives::{dumped, fresh_hive};
+use crate::hives::fresh_hive;
+use crate::tools::write_image_by_tool;
 use crate::verdicts::{Tally, judge};
 use anyhow::{Result, bail};
 use reg_calls::Hive;
-use reg_command::tool;
 use reg_dump::{DumpFault, dump};
-use reg_image::{load, write_image};
+use reg_image::write_image;
 use reg_script::{ScriptFault, run};
 use std::alloc::Global;
 
-/// Where a reader or a writer fails: at every so many bytes.
-const STRIDE: usize = 37;
+/// How much a device does, and where it stops.
+#[derive(Clone, Copy)]
+pub struct Device {
+    /// How many bytes it gives or takes a call, at most.
+    pub step: usize,
+    /// Whether it fails where it stops; else it ends there, or takes none.
+    pub fails: bool,
+    /// It stops behind every so many bytes, in turn.
+    pub stride: usize,
+}
+
+impl Device {
+    /// Where it stops within so many bytes.
+    fn places(self, len: usize) -> usize {
+        len.checked_div(self.stride).unwrap_or(0)
+    }
+}
 
 /// The verdicts on an image from readers that end or fail behind its fronts.
-pub fn readers(alloc: Global, image: &[u8], step: usize, fails: bool) -> Result<Tally> {
+pub fn readers(alloc: Global, image: &[u8], device: Device) -> Result<Tally> {
     let mut tally = Tally::NONE;
-    for place in 0..image.len() / STRIDE {
+    for place in 0..device.places(image.len()) {
         let mut reader = SlowReader {
-            rest: image.get(..place.saturating_mul(STRIDE)).unwrap_or(image),
-            step,
-            fails,
+            rest: image
+                .get(..place.saturating_mul(device.stride))
+                .unwrap_or(image),
+            step: device.step,
+            fails: device.fails,
         };
         tally.add(judge(alloc, &mut reader)?);
     }
@@ -36,6 +53,8 @@ pub enum Work<'a> {
     Dump(&'a Hive),
     /// The replies of a script on a fresh hive.
     Replies(&'a [u8]),
+    /// The image of a fresh hive, by the tool.
+    ToolImage,
 }
 
 fn write_dump(alloc: Global, hive: &Hive, writer: &mut NarrowWriter) -> Result<Option<u64>> {
@@ -75,6 +94,7 @@ impl<'a> Work<'a> {
             }),
             Work::Dump(hive) => write_dump(alloc, hive, writer),
             Work::Replies(script) => write_replies(alloc, script, writer),
+            Work::ToolImage => write_image_by_tool(alloc, writer),
         }
     }
 
@@ -92,11 +112,10 @@ impl<'a> Work<'a> {
         self,
         alloc: Global,
         whole: &[u8],
-        step: usize,
+        device: Device,
         room: usize,
-        fails: bool,
     ) -> Result<bool> {
-        let mut writer = NarrowWriter::new(alloc, step, room, fails);
+        let mut writer = NarrowWriter::new(alloc, device.step, room, device.fails);
         let told = self.write(alloc, &mut writer)?;
         let wanted = if room < whole.len() {
             Some(room as u64)
@@ -107,48 +126,19 @@ impl<'a> Work<'a> {
     }
 
     /// How many writers failed, and of how many that wasn't told as it should be.
-    pub fn failures(self, alloc: Global, step: usize, fails: bool) -> Result<(u32, u32)> {
+    pub fn failures(self, alloc: Global, device: Device) -> Result<(u32, u32)> {
         let whole = self.whole(alloc)?;
         let mut failed: u32 = 0;
         let mut wrong: u32 = 0;
-        for place in 0..whole.len() / STRIDE {
+        for place in 0..device.places(whole.len()) {
             failed = failed.saturating_add(1);
-            if !self.is_told(alloc, &whole, step, place.saturating_mul(STRIDE), fails)? {
+            if !self.is_told(alloc, &whole, device, place.saturating_mul(device.stride))? {
                 wrong = wrong.saturating_add(1);
             }
         }
-        if !self.is_told(alloc, &whole, step, whole.len(), fails)? {
+        if !self.is_told(alloc, &whole, device, whole.len())? {
             wrong = wrong.saturating_add(1);
         }
         Ok((failed, wrong))
     }
-}
-
-/// What the tool writes to its output where it reads an image, and its status.
-fn tool_told(alloc: Global, word: &str, image: &[u8]) -> Result<(u8, Vec<u8>)> {
-    let words = vec![in alloc; "regtool".to_string(alloc)?, word.to_string(alloc)?]?;
-    let mut input = image;
-    let mut output = Vec::new(alloc);
-    let mut errors = Vec::new(alloc);
-    let status = tool(alloc, words, &mut input, &mut output, &mut errors);
-    Ok((status, output))
-}
-
-/// What the tool should tell of an image.
-fn load_told(alloc: Global, image: &[u8]) -> Result<(u8, Vec<u8>)> {
-    let mut input = image;
-    match load(alloc, &mut input) {
-        Ok(hive) => Ok((0, dumped(alloc, &hive)?)),
-        Err(fault) => {
-            let line = format!(in alloc; "error 1009 load {}\n", fault.number())?;
-            Ok((1, line.into_bytes()))
-        }
-    }
-}
-
-/// Whether the tool tells of an image what its load does.
-pub fn is_told_by_tool(alloc: Global, image: &[u8]) -> Result<bool> {
-    let (status, output) = tool_told(alloc, "dump", image)?;
-    let (wanted, text) = load_told(alloc, image)?;
-    Ok(status == wanted && output.as_slice() == text.as_slice())
 }

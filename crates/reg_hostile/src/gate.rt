@@ -1,16 +1,20 @@
 //! The run of the gate: it is short, and tells the same each time.
-use crate::failures::{Work, is_told_by_tool, readers};
+use crate::failures::{Device, Work, readers};
 use crate::fuzz::fuzz;
 use crate::hives::scripted;
 use crate::rows::run_rows;
 use crate::seeds::{RECORDS_END, SCRIPTS, every_record, images};
 use crate::sweeps::{all_bits, fronts, sealed_bits, some_bits};
+use crate::tools::is_told_by_tool;
 use anyhow::Result;
 use reg_image::load;
 use std::alloc::Global;
 
 /// How many bits of the image with every record are turned over beside those of its records.
 const BITS: usize = 10_000;
+
+/// Behind every so many bytes of larger images and texts a device stops.
+const STRIDE: usize = 37;
 
 /// How many seeds are tried.
 const SEEDS: u64 = 20_000;
@@ -46,9 +50,14 @@ fn sweep_records(rt: &impl Print, alloc: Global) -> Result<()> {
     Ok(())
 }
 
-/// Readers that end early or fail.
-fn fail_readers(rt: &impl Print, alloc: Global) -> Result<()> {
-    let image = every_record(alloc)?;
+/// Readers of an image that end early or fail.
+fn fail_readers(
+    rt: &impl Print,
+    alloc: Global,
+    of: &str,
+    image: &[u8],
+    stride: usize,
+) -> Result<()> {
     for (what, step, fails) in [
         ("give nothing", 0, false),
         ("give one byte a call and end", 1, false),
@@ -56,36 +65,69 @@ fn fail_readers(rt: &impl Print, alloc: Global) -> Result<()> {
         ("give one byte a call and fail", 1, true),
         ("give all and fail", usize::MAX, true),
     ] {
+        let device = Device {
+            step,
+            fails,
+            stride,
+        };
         println!(rt;
-            "readers that {what}: {}",
-            readers(alloc, &image, step, fails)?
+            "readers of {of} that {what}: {}",
+            readers(alloc, image, device)?
         )?;
     }
     Ok(())
 }
 
+/// Readers of a fresh hive's image, at each place, and of the image with every record.
+fn fail_all_readers(rt: &impl Print, alloc: Global) -> Result<()> {
+    let fresh = scripted(alloc, b"")?;
+    fail_readers(rt, alloc, "a fresh hive", &fresh, 1)?;
+    let image = every_record(alloc)?;
+    fail_readers(rt, alloc, "every record", &image, STRIDE)
+}
+
 /// Writers that end early or fail where they are given a work.
-fn fail_writers(rt: &impl Print, alloc: Global, what: &str, work: Work<'_>) -> Result<()> {
+fn fail_writers(
+    rt: &impl Print,
+    alloc: Global,
+    what: &str,
+    work: Work<'_>,
+    stride: usize,
+) -> Result<()> {
     for (how, step, fails) in [
         ("one byte a call and then none", 1, false),
         ("all and then none", usize::MAX, false),
         ("one byte a call and fail", 1, true),
         ("all and fail", usize::MAX, true),
     ] {
-        let (failed, wrong) = work.failures(alloc, step, fails)?;
+        let device = Device {
+            step,
+            fails,
+            stride,
+        };
+        let (failed, wrong) = work.failures(alloc, device)?;
         println!(rt; "writers of {what} that take {how}: {failed} failed, {wrong} told wrongly")?;
     }
     Ok(())
 }
 
-/// The same of every work.
-fn fail_all_writers(rt: &impl Print, alloc: Global) -> Result<()> {
-    let image = every_record(alloc)?;
-    let mut input = image.as_slice();
+/// Writers of what a loaded hive and a script give.
+fn fail_writers_of(rt: &impl Print, alloc: Global, image: &[u8]) -> Result<()> {
+    let mut input = image;
     let hive = load(alloc, &mut input)?;
-    fail_writers(rt, alloc, "an image", Work::Image(&image))?;
-    fail_writers(rt, alloc, "a dump", Work::Dump(&hive))?;
-    fail_writers(rt, alloc, "replies", Work::Replies(SCRIPTS[0].as_bytes()))
+    fail_writers(rt, alloc, "a dump", Work::Dump(&hive), STRIDE)
+}
+
+/// The same of every work: of a fresh hive's image and of replies at each place.
+fn fail_all_writers(rt: &impl Print, alloc: Global) -> Result<()> {
+    let fresh = scripted(alloc, b"")?;
+    fail_writers(rt, alloc, "a fresh hive", Work::Image(&fresh), 1)?;
+    fail_writers(rt, alloc, "a fresh hive by the tool", Work::ToolImage, 1)?;
+    let image = every_record(alloc)?;
+    fail_writers(rt, alloc, "every record", Work::Image(&image), STRIDE)?;
+    fail_writers_of(rt, alloc, &image)?;
+    let script = SCRIPTS[0].as_bytes();
+    fail_writers(rt, alloc, "replies", Work::Replies(script), 1)
 }
 
 /// Images by the tool.
@@ -105,7 +147,7 @@ fn tool_images(rt: &impl Print, alloc: Global) -> Result<()> {
 pub fn run(rt: &impl Print, alloc: Global) -> Result<()> {
     sweep_fresh(rt, alloc)?;
     sweep_records(rt, alloc)?;
-    fail_readers(rt, alloc)?;
+    fail_all_readers(rt, alloc)?;
     fail_all_writers(rt, alloc)?;
     tool_images(rt, alloc)?;
     let (of_images, of_scripts) = fuzz(alloc, 1, SEEDS)?;

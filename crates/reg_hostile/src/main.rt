@@ -20,6 +20,7 @@ mod seeds;
 mod shapes;
 mod sizes;
 mod sweeps;
+mod tools;
 mod verdicts;
 mod words;
 

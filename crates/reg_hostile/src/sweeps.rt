@@ -2,7 +2,7 @@
 ghost use Rattle.std.specs.Prelude.{◌≡◌, length};
 
 use crate::chance::Chance;
-use crate::verdicts::{Tally, judge_bytes};
+use crate::verdicts::{Tally, judge_by_tool};
 use anyhow::Result;
 use reg_image::checksum;
 use std::alloc::Global;
@@ -38,16 +38,16 @@ pub fn turn(image: &mut [u8], bit: usize)
 pub fn fronts(alloc: Global, image: &[u8]) -> Result<Tally> {
     let mut tally = Tally::NONE;
     for len in 0..image.len() {
-        tally.add(judge_bytes(alloc, &image[..len])?);
+        tally.add(judge_by_tool(alloc, &image[..len])?);
     }
-    tally.add(judge_bytes(alloc, image)?);
+    tally.add(judge_by_tool(alloc, image)?);
     Ok(tally)
 }
 
 /// Counts the verdict on an image with one bit turned over. The image is as before.
 fn try_bit(alloc: Global, image: &mut [u8], bit: usize, tally: &mut Tally) -> Result<()> {
     turn(image, bit);
-    tally.add(judge_bytes(alloc, image)?);
+    tally.add(judge_by_tool(alloc, image)?);
     turn(image, bit);
     Ok(())
 }
@@ -56,7 +56,7 @@ fn try_bit(alloc: Global, image: &mut [u8], bit: usize, tally: &mut Tally) -> Re
 fn try_sealed(alloc: Global, image: &mut [u8], bit: usize, tally: &mut Tally) -> Result<()> {
     turn(image, bit);
     seal(image);
-    tally.add(judge_bytes(alloc, image)?);
+    tally.add(judge_by_tool(alloc, image)?);
     turn(image, bit);
     seal(image);
     Ok(())

@@ -1,5 +1,6 @@
 //! What becomes of an image: the fault that refuses it, or a hive whose own image tells the same.
 use crate::hives::{dumped, image_of};
+use crate::tools::is_told_by_tool;
 use anyhow::Result;
 use reg_calls::Hive;
 use reg_image::{LoadFault, load};
@@ -16,6 +17,8 @@ pub enum Verdict {
     Kept,
     /// It is loaded, and the hive's own image isn't, or to another dump.
     Lost,
+    /// The tool tells something else of it than its load does.
+    Astray,
 }
 
 /// Whether a hive's own image loads to the hive's dump.
@@ -52,6 +55,14 @@ pub fn judge_bytes(alloc: Global, image: &[u8]) -> Result<Verdict> {
     judge(alloc, &mut input)
 }
 
+/// The verdict on an image, where the tool is asked for its dump, too.
+pub fn judge_by_tool(alloc: Global, image: &[u8]) -> Result<Verdict> {
+    if !is_told_by_tool(alloc, image)? {
+        return Ok(Verdict::Astray);
+    }
+    judge_bytes(alloc, image)
+}
+
 /// How many images met each verdict.
 #[derive(Clone, Copy)]
 pub struct Tally {
@@ -59,6 +70,7 @@ pub struct Tally {
     refused: [u32; 15],
     kept: u32,
     lost: u32,
+    astray: u32,
 }
 
 impl Tally {
@@ -67,6 +79,7 @@ impl Tally {
         refused: [0; 15],
         kept: 0,
         lost: 0,
+        astray: 0,
     };
 
     /// Counts one verdict more.
@@ -79,6 +92,7 @@ impl Tally {
             }
             Verdict::Kept => self.kept = self.kept.saturating_add(1),
             Verdict::Lost => self.lost = self.lost.saturating_add(1),
+            Verdict::Astray => self.astray = self.astray.saturating_add(1),
         }
     }
 }
@@ -87,7 +101,8 @@ impl fmt::Display for Tally {
     fn fmt<W: fmt::Write>(&self, f: &mut fmt::Formatter<W>) -> fmt::Result {
         let kept = self.kept;
         let lost = self.lost;
-        write!(f, "kept {kept}, lost {lost}, faults")?;
+        let astray = self.astray;
+        write!(f, "kept {kept}, lost {lost}, astray {astray}, faults")?;
         for (number, count) in self.refused.iter().enumerate() {
             if *count > 0 {
                 write!(f, " {number}:{count}")?;
