@@ -2,8 +2,8 @@
 //! of the tool.
 use crate::support::{assert_told, outcome_of, text_of, whole};
 use reg_fixtures::{
-    Failure, FakeReader, FakeWriter, digits, drafted, narrow, put_table, script_of_keys,
-    table_of_keys, wide,
+    Failure, FakeReader, FakeWriter, LIES, digits, drafted, narrow, put_changes, put_table,
+    script_of_keys, table_of_keys, wide,
 };
 use std::alloc::Global;
 use std::test::Fail;
@@ -343,4 +343,37 @@ fn tells_failed_writes_of_load_faults(rt: HostRuntime) -> Result<(), Fail> {
     let found = fault_within(alloc, 5);
     assert_told(&rt, found, "1;error 1013 written 5\n;error")?;
     assert_told(&rt, fault_within(alloc, 18), "1;;error 1009 load 2\n")
+}
+
+/// What `dump` and `check` tell of a fresh hive's image with the changes of a line.
+fn lie_told(alloc: Global, changes: &str) -> Result<String, Fail> {
+    let mut bytes = image_of(alloc, "", "1")?;
+    put_changes(alloc, &mut bytes, changes)?;
+    told(alloc, &bytes)
+}
+
+/// Whether they tell the fault of this number.
+fn is_told(alloc: Global, changes: &str, number: &str) -> Result<bool, Fail> {
+    let wanted = format!(in alloc; "1;;error 1009 load {number}\n1;;error 1009 load {number}\n")?;
+    let found = lie_told(alloc, changes)?;
+    Ok(found.as_str() == wanted.as_str())
+}
+
+/// The lines of a table of which they tell something else.
+fn told_otherwise(alloc: Global, table: &str) -> Result<String, Fail> {
+    let mut text = String::new(alloc);
+    for line in table.split('\n') {
+        let Some((changes, number)) = line.split_once(" -> ") else {
+            return Err("a line without a fault".into());
+        };
+        if !is_told(alloc, changes, number)? {
+            write!(text, "{line}\n")?;
+        }
+    }
+    Ok(text)
+}
+
+#[test]
+fn tells_what_is_wrong_with_images_that_lie(rt: HostRuntime) -> Result<(), Fail> {
+    assert_told(&rt, told_otherwise(rt.alloc(), LIES), "")
 }

@@ -95,6 +95,15 @@ pub fn put_table(alloc: Global, image: &mut [u8], table: &str) -> Result<(), Fix
     Ok(())
 }
 
+/// Writes the changes of a line over those of an image, an offset and digits each, parted by a comma and a space, and the image's checksum
+/// anew.
+pub fn put_changes(alloc: Global, image: &mut [u8], changes: &str) -> Result<(), FixtureFault> {
+    for change in changes.split(", ") {
+        put_line(alloc, image, change)?;
+    }
+    seal(image)
+}
+
 /// How long two runs of bytes are, and the first place at which they differ, if one has it.
 pub fn difference(alloc: Global, one: &[u8], other: &[u8]) -> Result<String, AllocError> {
     let mut text = format!(in alloc; "{} {}", one.len(), other.len())?;

@@ -1,6 +1,6 @@
 //! What images load to: those that lie, those that end too early, and what reads them. The wanted faults come from the format's rules.
 use crate::support::{assert_told, dumped, fresh_hive, image_of, loaded, loaded_bytes};
-use reg_fixtures::{FakeReader, put_line, put_table, seal};
+use reg_fixtures::{FakeReader, LIES, put_changes, put_line, put_table, seal};
 use std::alloc::Global;
 use std::test::Fail;
 
@@ -26,57 +26,10 @@ fn a_fresh_hive_is_loaded(rt: HostRuntime) -> Result<(), Fail> {
     assert_told(&rt, dump_and_load(rt.alloc()), wanted.as_str())
 }
 
-/// Changes of a fresh hive's image, an offset and digits each, and the number of the fault that it loads to; the checksum is made
-/// anew.
-const LIES: &str = "\
-40 00000000 -> 7
-40 01100000 -> 7
-40 00100010 -> 13
-36 24000000 -> 9
-36 78000000 -> 9
-36 a8000000 -> 9
-4100 00100000 -> 7
-4104 00000000 -> 7
-4104 00200000 -> 7
-4264 00000000 -> 8
-4264 500f0000 -> 8
-4264 540f0000 -> 8
-4264 600f0000 -> 8
-4264 00000080 -> 8
-4134 6c00 -> 12
-4134 0c00 -> 12
-4152 01000000 -> 9
-4152 01000000, 4160 20000000 -> 10
-4168 01400000 -> 13
-4176 20000000 -> 10
-4204 0000 -> 9
-4204 0900 -> 9
-4236 00000000 -> 9
-4236 19000000 -> 9
-0 72656768 -> 3
-20 02000000 -> 4
-24 02000000 -> 4
-24 06000000 -> 4
-28 01000000 -> 4
-32 00000000 -> 4
-8 02000000 -> 6
-4 00000000 -> 6
-4096 6862696f -> 7
-4128 a4ffffff -> 8
-4132 6c66 -> 9
-4220 7363 -> 9
-4204 0300, 4208 52e954 -> 12
-4204 0300, 4208 525c54 -> 12
-4204 0300, 4208 520054 -> 12
-4264 a8f0ffff, 36 a8000000, 4268 6e6b6000 -> 12";
-
 /// The image of a fresh hive with the changes of a line, and its checksum made anew.
 fn changed(alloc: Global, changes: &str) -> Result<Vec<u8>, Fail> {
     let mut bytes = image_of(alloc, "")?;
-    for change in changes.split(", ") {
-        put_line(alloc, &mut bytes, change)?;
-    }
-    seal(&mut bytes)?;
+    put_changes(alloc, &mut bytes, changes)?;
     Ok(bytes)
 }
 
