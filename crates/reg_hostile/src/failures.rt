@@ -108,13 +108,7 @@ impl<'a> Work<'a> {
     }
 
     /// Whether a writer of so much room takes just a front, and the fault tells how long that is.
-    fn is_told(
-        self,
-        alloc: Global,
-        whole: &[u8],
-        device: Device,
-        room: usize,
-    ) -> Result<bool> {
+    fn is_told(self, alloc: Global, whole: &[u8], device: Device, room: usize) -> Result<bool> {
         let mut writer = NarrowWriter::new(alloc, device.step, room, device.fails);
         let told = self.write(alloc, &mut writer)?;
         let wanted = if room < whole.len() {

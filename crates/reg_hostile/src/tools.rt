@@ -53,7 +53,7 @@ pub fn write_image_by_tool(alloc: Global, writer: &mut NarrowWriter) -> Result<O
         "regtool".to_string(alloc)?,
         "run".to_string(alloc)?,
         "--image".to_string(alloc)?,
-        "0".to_string(alloc)?
+        "0".to_string(alloc)?,
     ]?;
     let mut input = b"".as_slice();
     let mut errors = Vec::new(alloc);

@@ -10,6 +10,7 @@ pub mod ClassCarved
 pub mod OneName
 pub mod BuiltTrees
 pub mod BuiltBelow
+pub mod BuiltLengths
 pub mod BuiltCells
 pub mod BuiltSeen
 pub mod BuiltRoot

@@ -54,6 +54,12 @@ abbrev pub with_first_length : List (List ℕ) → Lengths → Lengths
 with_first_length [] lengths = lengths
 with_first_length (name ∷ names) lengths = record lengths { subkey_name = raised lengths.subkey_name (2 * length name) }
 
+-- the larger of what is noted and what a key built right below has: a name of so many characters, which count two each, and so many
+-- bytes of a class
+abbrev pub with_key_lengths : ℕ → ℕ → Lengths → Lengths
+with_key_lengths name class lengths =
+    record lengths { subkey_name = raised lengths.subkey_name (2 * name); subkey_class = max lengths.subkey_class class }
+
 -- the key at a path has its largest lengths changed so, and each other key has those that it had
 pub record ChangesLengths (old new : Keys) (path : Path) (change : Lengths → Lengths) : Type 0 where
   pub here : (node : Node) → IsAt old path node →

@@ -16,12 +16,15 @@ ghost use Rattle.reg_records.specs.KeyNodes.{KeyRecord, key_at};
 ghost use Rattle.reg_values.specs.ValueLists.{KeepsSizes, Makes};
 ghost use Rattle.reg_tree.specs.BuiltKeys.{MayBuild, BuildsKey, LacksClassRoom, LacksKeyRoom, built_key, class_sizes};
 ghost use Rattle.reg_tree.specs.CellSizes.{LacksRoom};
+ghost use Rattle.reg_tree.specs.KeyLengths.{lengths_at, no_lengths, with_key_lengths};
 ghost use Rattle.reg_tree.specs.TreeKeys.{tree_in};
 ghost use Rattle.reg_tree.specs.Internal.DescriptorChange.{IsKnown, KeepsFinds};
 ghost use Rattle.reg_tree.specs.Internal.KeyCreation.{IsCreated};
+ghost use Rattle.reg_tree.specs.Internal.LengthChanges.{LengthsChange, LengthsStay};
 ghost use Rattle.reg_tree.specs.Internal.TreeInvariant.{IsHere, IsChanged, TreeInvariant};
 ghost use Rattle.reg_tree.specs.Internal.KeyNodeChanges.{Notes};
-ghost use Rattle.reg_tree.specs.Internal.KeyBuilding.{HasNoClass, IsBuilt, IsCarvedForClass, IsClassCell, IsMarkable, IsMarked, LacksForKey, MayHaveClass, PutsClass, TakesForKey, marked, noted_class, noted_marks};
+ghost use Rattle.reg_tree.specs.Internal.KeyBuilding.{HasNoClass, IsBuilt, IsCarvedForClass, IsClassCell, IsMarkable, IsMarked, LacksForKey, MayHaveClass};
+ghost use Rattle.reg_tree.specs.Internal.KeyBuilding.{PutsClass, TakesForKey, marked, noted_class, noted_marks, with_class_length};
 
 use crate::Node;
 use crate::find::reach;
@@ -88,6 +91,8 @@ fn note_class(arena: &mut Arena, key: u32, size: u32, moment: u64)
 fn retime(arena: &mut Arena, key: u32, size: u32, moment: u64)
     requires { IsHere arena.old.bytes key }
     ensures changed { (t : IsHere arena.old.bytes key) → IsChanged arena.old.bytes arena.new.bytes t.root t.table t.path (at_time moment) }
+    ensures lengths { (t : IsHere arena.old.bytes key) →
+        LengthsChange (heap_of arena.old) (heap_of arena.new) t.root t.path (with_class_length size) }
     ensures roomy { (k : KeyRecord) → key_at (heap_of arena.new) key ≡ Some k → size ≤ k.fields.largest_subkey_class }
     ensures cells { cells_of arena.new.bytes ≡ cells_of arena.old.bytes }
     ensures long { length arena.new.bytes ≡ length arena.old.bytes }
@@ -180,6 +185,8 @@ pub fn dress(
     requires class { length class.now < 2 ^ 16 }
     ensures ok { (t : IsHere arena.old.bytes key) → MayHaveClass (heap_of arena.old) t.root t.path (length class.now) →
         OnOk result (IsChanged arena.old.bytes arena.new.bytes t.root t.table t.path (marked marks class.now)) }
+    ensures lengths { (t : IsHere arena.old.bytes key) → MayHaveClass (heap_of arena.old) t.root t.path (length class.now) →
+        OnOk result (LengthsStay (heap_of arena.old) (heap_of arena.new) t.root) }
     ensures cells { OnOk result (Makes (heap_of arena.old) (heap_of arena.new) (class_sizes class.now)) }
     ensures stay { OnOk result (KeepsSizes (heap_of arena.old) (heap_of arena.new)) }
     ensures growth { OnOk result (GrowsFor arena.old.bytes arena.new.bytes (class_sizes class.now)) }
@@ -256,6 +263,13 @@ pub fn build_below(
     ensures ok { (t : IsHere arena.old.bytes parent.offset) → t.table ≡ securities.old → parent.depth ≡ length t.path →
         MayBuild (tree_in arena.old.bytes t.root) t.path key.entry.name.now →
         IfOk result (λ node. IsBuilt arena.old.bytes arena.new.bytes t.root securities.new t.path key.entry node) }
+    ensures lengths { (t : IsHere arena.old.bytes parent.offset) → t.table ≡ securities.old → parent.depth ≡ length t.path →
+        MayBuild (tree_in arena.old.bytes t.root) t.path key.entry.name.now →
+        OnOk result (LengthsChange (heap_of arena.old) (heap_of arena.new) t.root t.path
+        (with_key_lengths (length key.entry.name.now) (length key.entry.class.now))) }
+    ensures made { (t : IsHere arena.old.bytes parent.offset) → t.table ≡ securities.old → parent.depth ≡ length t.path →
+        MayBuild (tree_in arena.old.bytes t.root) t.path key.entry.name.now →
+        IfOk result (λ node. lengths_at (heap_of arena.new) node.offset ≡ Some no_lengths) }
     ensures builds { (t : IsHere arena.old.bytes parent.offset) → t.table ≡ securities.old → parent.depth ≡ length t.path →
         MayBuild (tree_in arena.old.bytes t.root) t.path key.entry.name.now →
         OnOk result (BuildsKey (record { bins = arena.old; root = t.root; tree = tree_in arena.old.bytes t.root })

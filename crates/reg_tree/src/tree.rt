@@ -54,7 +54,7 @@ impl Tree {
     ghost use Rattle.reg_index.specs.declared.Place.{Place};
     ghost use Rattle.reg_tree.specs.CellSizes.{BelongsThere, create_sizes, security_sizes, value_sizes, LacksRoom};
     ghost use Rattle.reg_tree.specs.NewHive.{IsNewHive};
-    ghost use Rattle.reg_tree.specs.KeyLengths.{ChangesLengths, KeepsLengths, NotesMade, lengths_at, no_lengths, with_value_lengths, with_lengths_of, with_first_length};
+    ghost use Rattle.reg_tree.specs.KeyLengths.{ChangesLengths, KeepsLengths, NotesMade, lengths_at, no_lengths, with_value_lengths, with_lengths_of, with_first_length, with_key_lengths};
     ghost use Rattle.reg_tree.specs.ValueAnswers.{IsFound, without_value_at};
     ghost use Rattle.reg_tree.specs.Reaching.{IsWalkedTo};
     ghost use Rattle.reg_tree.specs.SubkeyWalk.{IsSubkeyAt};
@@ -101,13 +101,15 @@ impl Tree {
         })
     }
 
-    /// A tree of one root, as it is told: with its name, marks, class, descriptor and time, and no values. Its one fault is `Memory`.
+    /// A tree of one root, as it is told: with its name, marks, class, descriptor and time, and no values; its four largest lengths are
+    /// 0. Its one fault is `Memory`.
     ///
     /// Its bins are those of a new hive, and the class's cell, if it takes one; a bin more only where no free cell has room for it.
     pub fn build(alloc: Global, key: NewKey<'_>) -> Result<Tree, TreeFault>
         requires { IsSmallKey (built_key key) }
         ensures ok { IfOk result (λ t. t.tree ≡ insert empty [] (built_key key.entry)) }
         ensures builds { IfOk result (λ t. BuildsRoot t (built_key key.entry)) }
+        ensures lengths { IfOk result (λ t. lengths_at (heap_of t.bins) t.root ≡ Some no_lengths) }
         ensures err { IfErr result (λ fault. fault ≡ TreeFault.Memory) }
     {
         let mut tree = match Tree::new(alloc, key.name, key.descriptor, key.time) {
@@ -128,6 +130,7 @@ impl Tree {
         ensures ok { OnOk result (self.new.tree ≡ insert empty [] (built_key key.entry)) }
         ensures takes { OnOk result (TakesCells self.old self.new (class_sizes key.entry.class.now)) }
         ensures root { self.new.root ≡ self.old.root }
+        ensures lengths { OnOk result (lengths_at (heap_of self.new.bins) self.new.root ≡ lengths_at (heap_of self.old.bins) self.old.root) }
         ensures full { (result ≡ Err ArenaFault.Full) → BINS_LIMIT < length self.old.bins.bytes + GROWTH_BOUND }
     {
         build::dress(
@@ -716,6 +719,9 @@ impl Tree {
     /// and no values. No other key's time changes. After a fault nothing is said of the tree but that it is one, and that it has the key
     /// without marks and class where there is no room for the class's cell alone; it is to be dropped.
     ///
+    /// The parent's largest lengths of a subkey's name and class are raised to the new key's, where these are greater; the four of the
+    /// new key are 0, and each other key has those that it had.
+    ///
     /// A key that is there and has the same descriptor may be told: then the new one shares that one's security, and its descriptor is
     /// neither hashed nor compared. Without one it is looked for.
     ///
@@ -739,6 +745,9 @@ impl Tree {
             IfOk result (λ node. (self.new.tree ≡ insert self.old.tree (child_path p key.entry.name.now) (built_key key.entry))
             × IsAt self.new (child_path p key.entry.name.now) node) }
         ensures builds { (p : Path) → IsAt self.old p parent → OnOk result (BuildsKey self.old self.new p (built_key key.entry)) }
+        ensures lengths { (p : Path) → IsAt self.old p parent →
+            OnOk result (ChangesLengths self.old self.new p (with_key_lengths (length key.entry.name.now) (length key.entry.class.now))) }
+        ensures made { IfOk result (λ node. lengths_at (heap_of self.new.bins) node.offset ≡ Some no_lengths) }
         ensures space { (p : Path) → IsAt self.old p parent → (result ≡ Err ArenaFault.Full) →
             LacksKeyRoom self.old p (built_key key.entry) ⊎ LacksClassRoom self.old self.new p (built_key key.entry) }
         ensures nodes { OnOk result (KeepsNodes self.old self.new) }

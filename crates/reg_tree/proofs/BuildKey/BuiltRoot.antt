@@ -16,13 +16,15 @@ use Rattle.reg_tree.specs.declared.build.NewKey.{NewKey}
 use Rattle.reg_values.specs.ValueLists.{KeepsSizes, Makes}
 use Rattle.reg_tree.specs.BuiltKeys.{TakesCells, built_key, class_sizes}
 use Rattle.reg_tree.specs.TreeKeys.{Keys, tree_in, made_root}
+use Rattle.reg_tree.specs.KeyLengths.{lengths_at}
+use Rattle.reg_tree.specs.Internal.LengthChanges.{LengthsStay}
 use Rattle.reg_tree.specs.Internal.KeyBuilding.{HasNoClass, MayHaveClass, marked}
 use Rattle.reg_tree.specs.Internal.TreeInvariant.{TreeInvariant, IsHere, IsChanged}
 use Rattle.reg_tree.proofs.BuildKey.BuiltBelow.{bare}
 use Rattle.reg_tree.proofs.BuildKey.BuiltTrees.{get-here}
 use Rattle.reg_tree.proofs.InsertKey.LastDescribed.{insert-twice}
 use Rattle.reg_tree.proofs.Invariant.KeyOfTree.{offset-root}
-use Rattle.reg_tree.proofs.Invariant.NodeLemmas.{seen_as, to_tree}
+use Rattle.reg_tree.proofs.Invariant.NodeLemmas.{on_ok, seen_as, to_tree}
 use Rattle.reg_tree.proofs.ValueChange.TreeAfterValueChange.{edited-at}
 
 -- a hive of one root is small
@@ -80,3 +82,9 @@ module _ (bins : Bins) (root : ℕ) {table : DescriptorCells} (holds : TreeInvar
             OnOk r (TakesCells (seen_as bins root) (seen_as new root) (class_sizes key.class.now))
         by (Ok x) m s g k = record { cells = m; stay = s; growth = g; kept = k }
         by (Err x) m s g k = tt
+
+    pub root-lengths : ((t : IsHere bins.bytes root) → MayHaveClass (heap_of bins) t.root t.path (length key.class.now) →
+        OnOk result (LengthsStay (heap_of bins) (heap_of new) t.root)) → OnOk result (lengths_at (heap_of new) root ≡ lengths_at (heap_of now.bins) now.root)
+    root-lengths stay =
+        subst (λ (k : Keys). OnOk result (lengths_at (heap_of new) root ≡ lengths_at (heap_of k.bins) k.root)) view_is
+        (on_ok result (λ s. s [] root (offset-root bins.bytes root holds) (offset-root new.bytes root root-holds)) (stay root-here root-may))

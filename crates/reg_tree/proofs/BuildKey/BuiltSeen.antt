@@ -5,7 +5,7 @@ use Rattle.std.specs.FinMap.{get, insert}
 use Rattle.reg_names.specs.Names.{folded}
 use Rattle.reg_heap.specs.Paths.{Path, Tree}
 use Rattle.reg_heap.specs.Edits.{child_path, descriptor_of}
-use Rattle.reg_arena.specs.Arena.{Bins}
+use Rattle.reg_arena.specs.Arena.{Bins, heap_of}
 use Rattle.reg_arena.specs.declared.ArenaFault.{ArenaFault}
 use Rattle.reg_arena.specs.declared.ArenaFault.TheVariants.{Full}
 use Rattle.reg_security.specs.Rings.{DescriptorCells}
@@ -13,9 +13,12 @@ use Rattle.reg_tree.specs.declared.build.NewKey.{NewKey}
 use Rattle.reg_tree.specs.declared.node.Node.{Node}
 use Rattle.reg_tree.specs.BuiltKeys.{BuildsKey, LacksClassRoom, LacksKeyRoom, MayBuild, built_key}
 use Rattle.reg_tree.specs.TreeKeys.{Keys, tree_in, IsAt, IsThere, KeepsNodes}
+use Rattle.reg_tree.specs.KeyLengths.{Lengths, ChangesLengths, lengths_at, no_lengths}
 use Rattle.reg_tree.specs.Internal.DescriptorChange.{IsLike}
 use Rattle.reg_tree.specs.Internal.KeyBuilding.{IsBuilt}
+use Rattle.reg_tree.specs.Internal.LengthChanges.{LengthsChange}
 use Rattle.reg_tree.specs.Internal.TreeInvariant.{TreeInvariant, IsHere}
+use Rattle.reg_tree.proofs.InsertKey.CreateKeepsNodes.{on_ok}
 use Rattle.reg_tree.proofs.Invariant.NodeLemmas.{seen_as, here_at, there_at, of_tree, to_tree}
 
 module _ (bins : Bins) (root : ℕ) {table : DescriptorCells} (holds : TreeInvariant bins.bytes root table) (now : Keys) (view_is : seen_as bins root ≡ now)
@@ -94,3 +97,18 @@ module _ (bins : Bins) (root : ℕ) {table : DescriptorCells} (holds : TreeInvar
       by : {X : Type 0} (r : Result Node ArenaFault) → r ≡ Err Full → IfErr r (λ fault. fault ≡ Full → X) → X
       by (Ok node) f l = absurd (cc (f))
       by (Err fault) f l = l (cc (f))
+
+  -- the largest lengths
+  pub lengths_built : (new : Bins) (result : Result Node ArenaFault) (change : Lengths → Lengths) → ((t : IsHere bins.bytes parent.offset) → t.table ≡ table → parent.depth ≡ length t.path →
+      MayBuild (tree_in bins.bytes t.root) t.path key.name.now → OnOk result (LengthsChange (heap_of bins) (heap_of new) t.root t.path change)) →
+      (p : Path) → IsAt now p parent → OnOk result (ChangesLengths now (seen_as new root) p change)
+  lengths_built new result change ok p at =
+      on_ok result
+      (λ c. subst (λ (k : Keys). ChangesLengths k (seen_as new root) p change) view_is
+      (record { here = λ n a. c.here n.offset a.offset; others = λ q n d a. c.others q n.offset d a.offset }))
+      (ok (here_at bins root holds now view_is parent p at) refl at.depth (may_at p at))
+
+  pub made_built : (new : Bins) (result : Result Node ArenaFault) → ((t : IsHere bins.bytes parent.offset) → t.table ≡ table → parent.depth ≡ length t.path →
+      MayBuild (tree_in bins.bytes t.root) t.path key.name.now → IfOk result (λ node. lengths_at (heap_of new) node.offset ≡ Some no_lengths)) →
+      IsThere now parent → IfOk result (λ node. lengths_at (heap_of new) node.offset ≡ Some no_lengths)
+  made_built new result ok some = ok (there_at bins root holds now view_is parent some) refl some.1.depth (may_at some.0 some.1)

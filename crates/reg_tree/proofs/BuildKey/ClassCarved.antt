@@ -6,6 +6,7 @@ use Rattle.reg_heap.specs.Paths.{Path, Tree}
 use Rattle.reg_heap.specs.Heaps.{Heap, allocated}
 use Rattle.reg_heap.specs.Edits.{edited}
 use Rattle.reg_arena.specs.Arena.{Bins, heap_of}
+use Rattle.reg_arena.specs.Cells.{cell_at}
 use Rattle.reg_arena.specs.NewBin.{PassesLimit}
 use Rattle.reg_arena.specs.NewCells.{cell_size, total_of}
 use Rattle.reg_records.specs.KeySecurities.{KeySecurityRecord}
@@ -20,6 +21,8 @@ use Rattle.reg_values.proofs.ValueFreeing.FrameChains.{times-same}
 use Rattle.reg_index.specs.Subkeys.{taken}
 use Rattle.reg_security.specs.Rings.{Finds}
 use Rattle.reg_security.proofs.TableCells.{finds-same}
+use Rattle.reg_tree.specs.KeyLengths.{lengths_of}
+use Rattle.reg_tree.specs.Internal.LengthChanges.{LengthsStay}
 use Rattle.reg_tree.specs.Internal.KeyBuilding.{HasNoClass, IsCarvedForClass, IsClassCell, IsMarkable, IsMarked, MayHaveClass, marked}
 use Rattle.reg_tree.specs.Internal.TreeInvariant.{HasShortClasses, IsHere, IsChanged}
 use Rattle.reg_tree.proofs.Invariant.CellReadings.{is_some_of, key-exists, key-moved}
@@ -144,3 +147,7 @@ module _ (old mid : Bins) (key : ℕ) (name class : List ℕ) (bare : HasNoClass
       tree = i.tree ∙ ap (λ (tree : Tree). edited tree t.path (marked marks class)) (tree-then ∙ sym (spelt_is old.bytes t.root t.holds));
       offsets = λ q. i.offsets q ∙ offsets-then q;
     }
+
+    -- each key has the largest lengths that it had
+    pub dressed-lengths : (new : List ℕ) (marks : ℕ) → IsMarked mid.bytes new t.root t.table t.path keys marks class → LengthsStay h (cell_at new) t.root
+    dressed-lengths new marks i = λ q o at now. i.lengths q o (offsets-then q ∙ at) now ∙ ap (option_map lengths_of) (key-moved h k o (node-still q o at))

@@ -23,16 +23,19 @@ use Rattle.reg_shape.proofs.Graft.GraftOfExchange.{exchange-grafts}
 use Rattle.reg_shape.proofs.Graft.GraftInRing.{descriptor-recounted, graft-in-ring, tree-same-below-in-ring}
 use Rattle.reg_shape.proofs.Graft.WholeAfterGraft.{grafted}
 use Rattle.reg_shape.proofs.Lookup.LookupAfterGraft.{offsets-same}
+use Rattle.reg_shape.proofs.Refinement.RefinementAfterGraft.{grafted-name}
 use Rattle.reg_shape.proofs.Walking.InnerReadings.{class-inner}
 use Rattle.reg_shape.proofs.Walking.WalkRefinement.{IsLooked}
 use Rattle.reg_shape.proofs.Wholeness.ShapeRecords.{at-most-one}
 use Rattle.reg_security.proofs.TableCells.{finds-same}
 use Rattle.reg_tree.specs.TreeKeys.{tree_in}
-use Rattle.reg_tree.specs.Internal.KeyBuilding.{noted_class}
+use Rattle.reg_tree.specs.Internal.KeyBuilding.{noted_class, with_class_length}
+use Rattle.reg_tree.specs.Internal.LengthChanges.{LengthsChange}
 use Rattle.reg_tree.specs.Internal.KeyNodeChanges.{Notes}
 use Rattle.reg_tree.specs.Internal.TreeInvariant.{HasShortClasses, TreeInvariant, IsHere, IsChanged}
 use Rattle.reg_tree.proofs.Invariant.ShortClasses.{edited-short}
 use Rattle.reg_tree.proofs.Invariant.CellReadings.{is_some_of, key-exists}
+use Rattle.reg_tree.proofs.Invariant.LengthsAfterGraft.{lengths_change}
 use Rattle.reg_tree.proofs.Invariant.KeyOfTree.{spelt_of, spelt_is, branch, branch_is, branch_once, offset, stands, seen, looked, own_once, shallow, rec_there, key_is}
 use Rattle.reg_tree.proofs.Invariant.OwnCells.{own-parts, key-here}
 use Rattle.reg_tree.proofs.Invariant.UntouchedCells.{written-allocated}
@@ -160,6 +163,14 @@ module _ (old new : List ℕ) (key : ℕ) (t : IsHere old key) (size moment : �
     tree = tree-now;
     offsets = λ q. offsets-same h j t.root t.path keys was is ring [] ring [] (branch_is old key t) grafts t.holds.shape refl q;
   }
+
+  -- the largest lengths that the key notes
+  pub retimed-lengths : LengthsChange h j t.root t.path (with_class_length size)
+  retimed-lengths =
+      lengths_change h j t.root t.path keys was is (branch_is old key t) (grafted-name h j t.root t.path keys was is ring [] ring [] (branch_is old key t) grafts t.holds.shape)
+      t.holds.shape.offset t.holds.shape.stands shape.offset shape.stands
+      (λ y r o m n e f. ap (λ (z : ℕ × Node). z.1) (same_Some _ _ (sym f ∙ e))) (with_class_length size) refl
+      (λ q o at. offsets-same h j t.root t.path keys was is ring [] ring [] (branch_is old key t) grafts t.holds.shape refl q ∙ at)
 
   -- a class of that length has room
   pub roomy : (k : KeyRecord) → key_at j key ≡ Some k → size ≤ k.fields.largest_subkey_class

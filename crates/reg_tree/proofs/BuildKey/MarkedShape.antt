@@ -39,10 +39,12 @@ use Rattle.reg_index.specs.Subkeys.{taken}
 use Rattle.reg_security.proofs.TableCells.{finds-same}
 use Rattle.reg_tree.specs.Internal.KeyBuilding.{IsMarkable, IsMarked, IsNotedAbove, MayHaveClass, PutsClass, marked, noted_marks}
 use Rattle.reg_tree.specs.Internal.KeyNodeChanges.{Notes}
+use Rattle.reg_tree.specs.Internal.LengthChanges.{LengthsStay}
 use Rattle.reg_tree.specs.TreeKeys.{tree_in}
 use Rattle.reg_tree.specs.Internal.TreeInvariant.{HasShortClasses, TreeInvariant}
 use Rattle.reg_tree.proofs.Invariant.KeyOfShape as keyed
 use Rattle.reg_tree.proofs.Invariant.KeyOfTree.{spelt_of}
+use Rattle.reg_tree.proofs.Invariant.LengthsAfterGraft.{lengths_stay}
 use Rattle.reg_tree.proofs.Invariant.ShortClasses.{classed-short}
 use Rattle.reg_tree.proofs.InsertKey.PathGrowth.{path-self}
 use Rattle.reg_tree.proofs.ValueChange.TreeAfterValueChange.{edited-at}
@@ -285,6 +287,12 @@ module _ (old mid new : List ℕ) (key : ℕ) (name : List ℕ) (cell : Option �
       by true e = let f = found-here q e in ap its_offset f.0 ∙ sym (ap its_offset f.1)
       by false e = ap its_offset (found-other q e)
 
+  -- each key has the largest lengths that it had
+  lengths-now : LengthsStay h k root
+  lengths-now =
+      lengths_stay h k root p keys was (record was { node = m }) was-is named-now w.offset w.stands (graft-offset m was.below p keys ∙ w.offset) stands-now
+      (λ y r o a b e f. ap (λ (z : ℕ × Node). z.1) (same_Some _ _ (sym f ∙ e))) refl
+
   -- ---- the tree
 
   abbrev rec : Rec
@@ -343,4 +351,4 @@ module _ (old mid new : List ℕ) (key : ℕ) (name : List ℕ) (cell : Option �
     }
 
     pub is-marked : IsMarked old new root d.table p keys marks class
-    is-marked = record { holds = holds-now; tree = tree-now; offsets = offsets-now }
+    is-marked = record { holds = holds-now; tree = tree-now; offsets = offsets-now; lengths = lengths-now }

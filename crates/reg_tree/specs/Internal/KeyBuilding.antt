@@ -25,7 +25,9 @@ use Rattle.reg_tree.specs.declared.build.NewKey.{NewKey}
 use Rattle.reg_tree.specs.declared.node.Node.{Node as TreeNode}
 use Rattle.reg_tree.specs.BuiltKeys.{built_key}
 use Rattle.reg_tree.specs.CellSizes.{BelongsThere, LacksRoom, create_sizes}
+use Rattle.reg_tree.specs.KeyLengths.{Lengths}
 use Rattle.reg_tree.specs.TreeKeys.{Keys, tree_in}
+use Rattle.reg_tree.specs.Internal.LengthChanges.{LengthsStay}
 use Rattle.reg_tree.specs.Internal.TreeInvariant.{HasShortClasses, TreeInvariant}
 
 -- a key with other marks and another class
@@ -36,6 +38,10 @@ marked marks class r = record r { marks = marks; class = class }
 abbrev pub noted_class : ℕ → ℕ → KeyRecord → KeyRecord
 noted_class size moment key =
     record key { fields = record key.fields { time = moment; largest_subkey_class = max key.fields.largest_subkey_class size } }
+
+-- the larger of what a key notes of the classes right below it and the length of one of them, in bytes
+abbrev pub with_class_length : ℕ → Lengths → Lengths
+with_class_length size lengths = record lengths { subkey_class = max lengths.subkey_class size }
 
 -- marks beside the flags that are no marks
 abbrev pub flags_with : ℕ → ℕ → ℕ
@@ -93,11 +99,13 @@ pub record IsMarkable (bytes : List ℕ) (key : ℕ) (name : List ℕ) (cell : O
   pub classes : HasShortClasses (tree_of (cell_at bytes) keys)
   pub short : length class < 65536
 
--- the key at a path has marks and a class, and nothing else of the tree changed; each key stays where it stands
+-- the key at a path has marks and a class, and nothing else of the tree changed; each key stays where it stands, and has the largest
+-- lengths that it had
 pub record IsMarked (old new : List ℕ) (root : ℕ) (table : DescriptorCells) (path : Path) (keys : Branch Node) (marks : ℕ) (class : List ℕ) : Type 0 where
   pub holds : TreeInvariant new root table
   pub tree : tree_in new root ≡ edited (tree_of (cell_at old) keys) path (marked marks class)
   pub offsets : (q : Path) → key_offset_at (cell_at new) root q ≡ key_offset_at (cell_at old) root q
+  pub lengths : LengthsStay (cell_at old) (cell_at new) root
 
 -- the cell that a class takes, if it takes one, was carved, of its size, and no other cell changed
 abbrev pub IsCarvedForClass : Bins → Bins → List ℕ → Option ℕ → Type 0

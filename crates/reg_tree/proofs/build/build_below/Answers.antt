@@ -5,6 +5,7 @@ use Rattle.reg_tree.proofs.Invariant.KeyOfTree.{key_there}
 use Rattle.std.proofs.Common.{inl, inr}
 use Rattle.reg_tree.proofs.BuildKey.BuiltCells.{class-lacks, key-built, lacks-room}
 use Rattle.reg_tree.proofs.BuildKey.BuiltBelow.{holds-still, parent-then, child-next, may-have, bare-next, built}
+use Rattle.reg_tree.proofs.BuildKey.BuiltLengths.{lengths-built, made-built}
 use Rattle.reg_tree.proofs.build.build_below.Goals as goal
 
 pub fields-time-requires : goal.fields-time-requires
@@ -67,3 +68,25 @@ returns-in-Err-dress-clause-space c = λ t same d may full.
     let changed = c.retime.ensures.changed (parent-then _ _ c.args.parent c.in-Ok.node t _ c.args.key made) in
     inr (class-lacks c.args.arena.now c.make_one.new.arena c.retime.new.arena c.args.parent c.in-Ok.node t _ c.args.key made c.fields-time.result c.fields-time.ensures may changed c.retime.ensures.roomy
     (c.in-Ok.ensures.cells t same d) c.retime.ensures.cells c.retime.ensures.long c.bins_size.ensures.sound _ c.in-Err-dress.ensures.err (c.in-Err-dress.ensures.space full))
+
+pub returns-in-Ok-dress-clause-lengths : goal.returns-in-Ok-dress-clause-lengths
+returns-in-Ok-dress-clause-lengths c = λ t same d may.
+    let made = c.in-Ok.ensures.ok t same d in
+    let then = parent-then _ _ c.args.parent c.in-Ok.node t _ c.args.key made in
+    let changed = c.retime.ensures.changed then in
+    let fields = c.fields-time.result in
+    let here = child-next _ _ c.args.parent c.in-Ok.node t _ c.args.key made fields c.fields-time.ensures may _ changed c.retime.ensures.roomy in
+    let above = may-have _ _ c.args.parent c.in-Ok.node t _ c.args.key made fields c.fields-time.ensures may _ changed c.retime.ensures.roomy in
+    lengths-built _ _ _ _ c.args.parent c.in-Ok.node t _ c.args.key made may _ _ changed (c.retime.ensures.lengths then)
+    (c.in-Ok-dress.ensures.ok here above) (c.in-Ok-dress.ensures.lengths here above)
+
+pub returns-in-Ok-dress-clause-made : goal.returns-in-Ok-dress-clause-made
+returns-in-Ok-dress-clause-made c = λ t same d may.
+    let made = c.in-Ok.ensures.ok t same d in
+    let then = parent-then _ _ c.args.parent c.in-Ok.node t _ c.args.key made in
+    let changed = c.retime.ensures.changed then in
+    let fields = c.fields-time.result in
+    let here = child-next _ _ c.args.parent c.in-Ok.node t _ c.args.key made fields c.fields-time.ensures may _ changed c.retime.ensures.roomy in
+    let above = may-have _ _ c.args.parent c.in-Ok.node t _ c.args.key made fields c.fields-time.ensures may _ changed c.retime.ensures.roomy in
+    made-built _ _ _ _ c.args.parent c.in-Ok.node t _ c.args.key made may _ _ changed (c.retime.ensures.lengths then)
+    (c.in-Ok-dress.ensures.ok here above) (c.in-Ok-dress.ensures.lengths here above)

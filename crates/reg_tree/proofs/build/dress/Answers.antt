@@ -1,5 +1,5 @@
 use Rattle.reg_tree.proofs.BuildKey.BuiltCells.{class-makes, class-stays}
-use Rattle.reg_tree.proofs.BuildKey.ClassCarved.{markable, dressed}
+use Rattle.reg_tree.proofs.BuildKey.ClassCarved.{markable, dressed, dressed-lengths}
 use Rattle.reg_tree.proofs.InsertKey.CreatePathMade.{growth-then}
 use Rattle.reg_tree.proofs.build.dress.Goals as goal
 
@@ -19,3 +19,8 @@ returns-clause-stay c = class-stays c.args.arena.now c.carve_for.new.arena c.mar
 
 pub returns-clause-growth : goal.returns-clause-growth
 returns-clause-growth c = growth-then _ _ _ _ c.mark.ensures.long c.in-Ok.ensures.growth
+
+pub returns-clause-lengths : goal.returns-clause-lengths
+returns-clause-lengths c = λ t above.
+    dressed-lengths _ _ _ _ _ c.requires.bare t above c.requires.class _ c.in-Ok.ensures.ok _ c.args.marks
+    (c.mark.ensures.marked (markable _ _ _ _ _ c.requires.bare t above c.requires.class _ c.in-Ok.ensures.ok))

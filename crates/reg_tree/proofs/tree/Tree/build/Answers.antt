@@ -17,3 +17,6 @@ returns-in-Ok-dress_root-clause-builds c = record {
   root = c.in-Ok-dress_root.ensures.root;
   tree = c.in-Ok-dress_root.ensures.ok;
 }
+
+pub returns-in-Ok-dress_root-clause-lengths : goal.returns-in-Ok-dress_root-clause-lengths
+returns-in-Ok-dress_root-clause-lengths c = c.in-Ok-dress_root.ensures.lengths ∙ c.in-Ok.ensures.lengths

@@ -1,4 +1,4 @@
-use Rattle.reg_tree.proofs.BuildKey.BuiltSeen.{like_there, may_there, holds_built, built_seen, builds_seen, lacks_seen, nodes_built}
+use Rattle.reg_tree.proofs.BuildKey.BuiltSeen.{like_there, may_there, holds_built, built_seen, builds_seen, lacks_seen, lengths_built, made_built, nodes_built}
 use Rattle.reg_tree.proofs.tree.Tree.build_key.Goals as goal
 
 pub security_like-known-requires : goal.security_like-known-requires
@@ -40,3 +40,11 @@ returns-clause-builds c =
 pub returns-clause-space : goal.returns-clause-space
 returns-clause-space c =
     lacks_seen _ _ c.self.invariant _ c.self.view_is c.args.parent c.args.key c.requires.room c.build_below.new.arena c.build_below.result c.build_below.ensures.space
+
+pub returns-clause-lengths : goal.returns-clause-lengths
+returns-clause-lengths c = lengths_built _ _ c.self.invariant _ c.self.view_is c.args.parent c.args.key c.requires.room c.build_below.new.arena c.build_below.result _ c.build_below.ensures.lengths
+
+pub returns-clause-made : goal.returns-clause-made
+returns-clause-made c =
+    made_built _ _ c.self.invariant _ c.self.view_is c.args.parent c.args.key c.requires.room c.build_below.new.arena c.build_below.result
+    c.build_below.ensures.made c.requires.parent

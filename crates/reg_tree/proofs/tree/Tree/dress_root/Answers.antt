@@ -1,4 +1,4 @@
-use Rattle.reg_tree.proofs.BuildKey.BuiltRoot.{root-here, root-may, root-bare, root-holds, root-built, root-takes}
+use Rattle.reg_tree.proofs.BuildKey.BuiltRoot.{root-here, root-may, root-bare, root-holds, root-built, root-lengths, root-takes}
 use Rattle.reg_tree.proofs.tree.Tree.dress_root.Goals as goal
 
 pub dress-requires-clause-here : goal.dress-requires-clause-here
@@ -20,3 +20,8 @@ pub returns-clause-takes : goal.returns-clause-takes
 returns-clause-takes c =
     root-takes _ _ c.self.invariant _ c.self.view_is c.args.key c.requires.root c.dress.new.arena c.dress.result c.dress.ensures.ok c.dress.ensures.err
     c.dress.ensures.cells c.dress.ensures.stay c.dress.ensures.growth c.dress.ensures.kept
+
+pub returns-clause-lengths : goal.returns-clause-lengths
+returns-clause-lengths c =
+    root-lengths _ _ c.self.invariant _ c.self.view_is c.args.key c.requires.root c.dress.new.arena c.dress.result c.dress.ensures.ok c.dress.ensures.err
+    c.dress.ensures.lengths
