@@ -11,7 +11,7 @@ use Rattle.reg_model.specs.declared.reply.ChangeReply.{ChangeReply}
 use Rattle.reg_model.specs.declared.call.Change.{Change}
 use Rattle.reg_calls.specs.declared.store.Store.{Store}
 use Rattle.reg_calls.specs.declared.changes.Admitted.{Admitted}
-use Rattle.reg_calls.specs.declared.changes.Admitted.TheVariants.{OpenRoot, OpenKey, CreateKey, SetValue, DeleteValue, DeleteKey, DeleteTree, SetSecurity, Close}
+use Rattle.reg_calls.specs.declared.changes.Admitted.TheVariants.{OpenRoot, OpenKey, CreateKey, SetValue, DeleteValue, DeleteKey, DeleteTree, SetSecurity, Notify, Close}
 use Rattle.reg_calls.specs.declared.refusal.Refusal.{Refusal}
 use Rattle.reg_calls.specs.declared.refusal.Refusal.TheVariants.{Cause, Memory}
 use Rattle.reg_calls.specs.declared.lack.Lack.{Lack}
@@ -19,7 +19,7 @@ use Rattle.reg_calls.specs.declared.lack.Lack.TheVariants.{Space, Memory as Shor
 use Rattle.reg_calls.specs.Shortages.{LacksSpace, is_closing}
 use Rattle.reg_calls.specs.Internal.Stores.{at, IsMade}
 use Rattle.reg_calls.specs.Internal.Admissions.{IsClear, Admits, IsNotAdmitted, status_told}
-use Rattle.reg_calls.specs.Views.{View, state, status_of, IsApplied}
+use Rattle.reg_calls.specs.Views.{View, view_with, state, status_of, IsApplied}
 use Rattle.reg_calls.proofs.HiveInvariantLemmas.{applied-by, view-unchanged}
 use Rattle.reg_calls.proofs.KnownKeys.{unmade}
 
@@ -33,6 +33,7 @@ admits-clear entries store session change (DeleteValue found) a = subst (IsClear
 admits-clear entries store session change (DeleteKey found) a = subst (IsClear entries store session) (sym a.2) a.3.clear
 admits-clear entries store session change (DeleteTree found) a = subst (IsClear entries store session) (sym a.2) a.3.clear
 admits-clear entries store session change (SetSecurity found) a = subst (IsClear entries store session) (sym a.1) a.2.clear
+admits-clear entries store session change (Notify found) a = subst (IsClear entries store session) (sym a.0) a.1
 admits-clear entries store session change (Close found) a = subst (IsClear entries store session) (sym a.0) a.1
 
 -- one that wasn't is refused, and nothing changed
@@ -45,8 +46,7 @@ refused-as v new session moment change reply n store Memory is short told same =
 -- one that was, and for which space or memory was wanting, isn't made, and nothing changed
 pub given-up : (origin : Tree) (es : List Entry) (store new : Store) (session moment n : ℕ) (change : Change) (reply : ChangeReply) (lack : Lack) →
     state_of origin es ≡ at n store → IsClear n store session change → IsMade store new session moment n change (Err lack) → reply ≡ refusal (status_of lack) → (v w : View) →
-    record { origin = origin; journal = es; keys = store.tree; handles = store.handles.handles } ≡ v →
-    w ≡ record { origin = origin; journal = es; keys = new.tree; handles = new.handles.handles } → IsApplied no_callbacks v w session moment change reply
+    view_with origin es store ≡ v → w ≡ view_with origin es new → IsApplied no_callbacks v w session moment change reply
 given-up origin es store new session moment n change reply lack is clear made told v w was now =
     applied-by v w session moment change reply n store None (ap state (sym was) ∙ is) (sym clear)
     (inr (record { why = why lack made told; same = now ∙ view-unchanged origin es (unmade store new session moment n change lack made) ∙ was }))

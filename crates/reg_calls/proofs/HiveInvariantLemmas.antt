@@ -1,7 +1,7 @@
 -- A hive's tables are what its journal says, and stay so after one accepted change more.
 use Rattle.std.proofs.Common.{◌≡◌, ℕ, ◌+◌, ◌<◌, ◌≤◌, Bool, true, false, not, nat_le, eqb, cond, is_some, List, [], ◌∷◌, ◌++◌, length, Option, Some, None, refl, sym, ap, ◌∙◌, subst, arith}
 use Rattle.std.proofs.Common.{length-append, true≢false}
-use Rattle.std.specs.Prelude.{All, Err, ◌==◌}
+use Rattle.std.specs.Prelude.{All, Err, ◌==◌, ◌-◌, nat_lt, get_or, slice_get}
 use Rattle.std.specs.List.{AllByRecursion}
 use Rattle.std.proofs.lemmas.List.{length-map}
 use Rattle.std.proofs.lemmas.Bool.{false≢true}
@@ -13,22 +13,39 @@ use Rattle.reg_model.specs.Causes.{State, change_cause, is_full, no_handle_room,
 use Rattle.reg_model.specs.Callbacks.{no_callbacks}
 use Rattle.reg_model.specs.Replies.{reply_to}
 use Rattle.reg_model.specs.Calls.{entry_due}
-use Rattle.reg_model.specs.Histories.{state_of, replay, IsFit}
+use Rattle.reg_model.specs.Watches.{Watch, ending, few_ending, watch_of, pending_past, notices}
+use Rattle.reg_model.specs.Histories.{state_of, replay, pending, fired, IsFit}
+use Rattle.reg_model.specs.declared.notice.Notice.{Notice}
 use Rattle.reg_model.specs.declared.reply.Entry.{Entry}
 use Rattle.reg_model.specs.declared.reply.ChangeReply.{ChangeReply}
 use Rattle.reg_model.specs.declared.call.Change.{Change}
-use Rattle.reg_model.specs.declared.call.Change.TheVariants.{OpenRoot, OpenKey, CreateKey, SetValue, DeleteValue, DeleteKey, DeleteTree, SetSecurity, Close}
-use Rattle.reg_model.proofs.JournalGrowth.{replay-push, legal-push}
+use Rattle.reg_model.specs.declared.call.Change.TheVariants.{OpenRoot, OpenKey, CreateKey, SetValue, DeleteValue, DeleteKey, DeleteTree, SetSecurity, Notify, Close}
+use Rattle.reg_model.proofs.JournalGrowth.{replay-push, legal-push, fired-push}
+use Rattle.reg_model.proofs.PendingWatches.{watches-below, few-pending, few-fired}
 use Rattle.reg_model.proofs.LegalJournals.{is_standing, handles-below}
-use Rattle.reg_model.proofs.AcceptedCalls.{both_false, root-met, open-met, create-met, set-met, drop-met, delete-met, delete-tree-met, secure-met, close-met}
+use Rattle.reg_model.proofs.AcceptedCalls.{both_false, root-met, open-met, create-met, set-met, drop-met, delete-met, delete-tree-met, secure-met, notify-met, close-met}
+use Rattle.reg_notify.specs.Tables.{told_to, taken_by}
 use Rattle.reg_arena.specs.Arena.{IsSound}
 use Rattle.reg_tree.specs.TreeKeys.{IsWholeTree}
 use Rattle.reg_calls.specs.declared.store.Store.{Store}
-use Rattle.reg_calls.specs.Internal.Stores.{at, world_of, IsReady, IsDone, IsUnchanged, IsMade}
+use Rattle.reg_calls.specs.Internal.Stores.{at, world_of, IsReady, IsCarriedOut, IsUnchanged, IsMade}
 use Rattle.reg_calls.specs.declared.lack.Lack.{Lack}
 use Rattle.reg_calls.proofs.KnownKeys.{unmade}
 use Rattle.reg_calls.specs.Shortages.{is_closing, growth_of}
-use Rattle.reg_calls.specs.Views.{HiveInvariant, View, state, IsHive, IsAccepted, IsAppliedBy, IsApplied}
+use Rattle.reg_calls.specs.Views.{HiveInvariant, View, view_with, state, IsHive, IsAccepted, IsAppliedBy, IsApplied}
+
+-- a journal whose numbers begin at 0
+pub from-zero : {base n many : ℕ} → base ≡ 0 → n ≡ base + many → n ≡ many
+from-zero zero is = omega (arith, zero, is)
+
+pub entry-from-zero : (n : ℕ) (es : List Entry) {base : ℕ} {o : Option Entry} → base ≡ 0 → o ≡ cond (nat_lt n base) None (slice_get es (n - base)) → o ≡ slice_get es n
+entry-from-zero n es zero is = is ∙ ap (λ (b : ℕ). cond (nat_lt n b) None (slice_get es (n - b))) zero ∙ whole
+  where
+    whole : cond (nat_lt n 0) None (slice_get es (n - 0)) ≡ slice_get es n
+    whole =
+        let above : nat_lt n 0 ≡ false = grind (arith, nat_tests) in
+        let same : n - 0 ≡ n = omega arith in
+        rw (above, same) refl
 
 -- ---- what is kept
 
@@ -36,17 +53,18 @@ pub world-kept : {origin : Tree} {es : List Entry} {store : Store} {room : ℕ} 
 world-kept kept = λ i. record { tree = kept.hive.tree i; handles = kept.hive.handles i }
 
 pub state-kept : {origin : Tree} {es : List Entry} {store : Store} {room : ℕ} → HiveInvariant origin es store room → state_of origin es ≡ at (length es) store
-state-kept {es = es} kept = λ i. record { kept = length es; next = length es; world = sym (world-kept kept) i; pending = [] }
+state-kept {es = es} kept = λ i. record { kept = length es; next = length es; world = sym (world-kept kept) i; pending = sym kept.hive.pending i }
 
 -- the same at a hive's view
 pub state-view : {origin : Tree} {es : List Entry} {store : Store} {room : ℕ} (v : View) → HiveInvariant origin es store room →
-    record { origin = origin; journal = es; keys = store.tree; handles = store.handles.handles } ≡ v → state v ≡ at (length es) store
+    view_with origin es store ≡ v → state v ≡ at (length es) store
 state-view v kept e = ap state (sym e) ∙ state-kept kept
 
 pub ready-kept : {origin : Tree} {es : List Entry} {store : Store} {room : ℕ} → HiveInvariant origin es store room → IsReady (length es) store
 ready-kept {origin = origin} {es = es} {store = store} kept = record {
   stand = subst (λ (w : World). IsStanding w.tree w.handles) (sym (world-kept kept)) (is_standing origin es kept.hive.legal kept.hive.origin.root);
   below = subst (All (λ (h : Handle). h.number < length es)) (sym kept.hive.handles) (handles-below origin es kept.hive.legal);
+  watched = subst (All (λ (v : Watch). v.number < length es)) (sym kept.hive.pending) (watches-below origin es kept.hive.legal);
   known = kept.known;
   small = kept.hive.small;
 }
@@ -121,6 +139,8 @@ fits s e small = elim e.change as (λ (change : Change). change_cause s e.sessio
       (tree-length (length path == 0) s.world (path_at e.session h s.world.handles) (path_from e.session h s.world.handles path) e.moment) refl m.room
   | SetSecurity h descriptor ↦ λ none. let m = secure-met s e.session h descriptor 0 none in
       fits-same s (SetSecurity h descriptor) s.world.handles refl refl m.room
+  | Notify h filter subtree ↦ λ none. let m = notify-met s e.session h filter subtree 0 none in
+      fits-same s (Notify h filter subtree) s.world.handles refl refl m.room
   | Close h ↦ λ none. let l = closed-fewer e.session h s.world.handles (close-met s e.session h 0 none) in
       record { small = omega (arith, small, l); grown = omega (arith, l); closing = λ c. l }
 ]
@@ -144,7 +164,7 @@ HasRoom room store change = (is_closing change ≡ false → length store.handle
 
 module _ {origin : Tree} {es : List Entry} {store : Store} {room : ℕ} (kept : HiveInvariant origin es store room) (session moment : ℕ) (change : Change)
     (none : change_cause (at (length es) store) session change 0 ≡ None)
-    (new : Store) (told : ChangeReply) (done : IsDone store new session moment (length es) change told) where
+    (new : Store) (told : ChangeReply) (done : IsCarriedOut store new session moment (length es) change told) where
   abbrev e : Entry
   e = entry_with es session moment change told
 
@@ -160,6 +180,27 @@ module _ {origin : Tree} {es : List Entry} {store : Store} {room : ℕ} (kept : 
 
   world-done : world_of new ≡ replay origin (es ++ e ∷ [])
   world-done = done.world ∙ (ap (after (world_of store)) (sym due) ∙ (ap (λ (w : World). after w e) (world-kept kept) ∙ sym (replay-push origin es e)))
+
+  -- the watches
+  pending-done : new.watches.pending ≡ pending origin (es ++ e ∷ [])
+  pending-done =
+      done.watches.pending
+      ∙ ((λ i. pending_past (few_ending (world-kept kept i) (sym due i)) (watch_of (world-kept kept i) (sym due i)) (kept.hive.pending i))
+      ∙ sym (few-pending origin es e kept.hive.origin kept.hive.legal fit-done))
+
+  told-done : (s : ℕ) → told_to new.watches s ≡ fired origin (es ++ e ∷ []) s
+  told-done s =
+      done.watches.told s
+      ∙ ((λ i. kept.hive.told s i ++ notices s (few_ending (world-kept kept i) (sym due i)) (kept.hive.pending i))
+      ∙ sym (few-fired origin es e s kept.hive.origin kept.hive.legal fit-done))
+
+  taken-done : (s : ℕ) → taken_by new.watches s ≤ length (fired origin (es ++ e ∷ []) s)
+  taken-done s =
+      let same = ap (λ (taken : List ℕ). get_or taken s 0) done.watches.taken in
+      let most = kept.hive.taken s in
+      let more = ap (λ (told : List Notice). length told) (fired-push origin es e s) in
+      let both = length-append (fired origin es s) (notices s (ending (replay origin es) e) (pending origin es)) in
+      omega (arith, same, most, more, both)
 
   fits-done : Fits (at (length es) store) change new.handles.handles
   fits-done =
@@ -195,6 +236,9 @@ module _ {origin : Tree} {es : List Entry} {store : Store} {room : ℕ} (kept : 
           small = omega (arith, small, l);
           tree = ap (λ (w : World). w.tree) world-done;
           handles = ap (λ (w : World). w.handles) world-done;
+          pending = pending-done;
+          told = told-done;
+          taken = taken-done;
           sound = sound;
           whole = whole;
         };
@@ -207,9 +251,8 @@ module _ {origin : Tree} {es : List Entry} {store : Store} {room : ℕ} (kept : 
 
 -- a change that isn't made leaves the hive, save that more room may be kept
 pub view-unchanged : {store new : Store} (origin : Tree) (es : List Entry) → IsUnchanged store new →
-    ◌≡◌ {A = View} (record { origin = origin; journal = es; keys = new.tree; handles = new.handles.handles })
-    (record { origin = origin; journal = es; keys = store.tree; handles = store.handles.handles })
-view-unchanged origin es u = λ i. record { origin = origin; journal = es; keys = u.tree i; handles = u.handles i }
+    view_with origin es new ≡ view_with origin es store
+view-unchanged origin es u = λ i. record { origin = origin; journal = es; keys = u.tree i; handles = u.handles i; watches = u.watches i }
 
 pub kept-unchanged : {origin : Tree} {es : List Entry} {store : Store} {room : ℕ} → HiveInvariant origin es store room → (new : Store) (room' : ℕ) →
     IsUnchanged store new → room ≤ room' → HiveInvariant origin es new room'
@@ -228,15 +271,16 @@ kept-unmade {origin = origin} kept new es' room' session moment n change lack ma
 
 -- a change that was made is accepted
 pub accepted : {origin : Tree} {es : List Entry} {store : Store} {room : ℕ} (kept : HiveInvariant origin es store room) (v new : View) →
-    record { origin = origin; journal = es; keys = store.tree; handles = store.handles.handles } ≡ v → (session moment : ℕ) (change : Change) (told : ChangeReply) →
+    view_with origin es store ≡ v → (session moment : ℕ) (change : Change) (told : ChangeReply) →
     told ≡ reply_to (at (length es) store) session change → new.journal ≡ es ++ entry_with es session moment change told ∷ [] → new.origin ≡ origin →
-    length store.tree.bins.bytes ≤ length new.keys.bins.bytes → length new.keys.bins.bytes ≤ length store.tree.bins.bytes + growth_of change → IsHive new → IsAccepted v new session moment change told
-accepted {origin = origin} {es = es} {store = store} kept v new view_is session moment change told reply journal same kept_bins grows hive =
+    new.watches.taken ≡ store.watches.taken → length store.tree.bins.bytes ≤ length new.keys.bins.bytes → length new.keys.bins.bytes ≤ length store.tree.bins.bytes + growth_of change → IsHive new → IsAccepted v new session moment change told
+accepted {origin = origin} {es = es} {store = store} kept v new view_is session moment change told reply journal same taken kept_bins grows hive =
     let says = reply ∙ ap (λ (s : State). reply_to s session change) (sym (state-kept kept)) in
     subst (λ (w : View). IsAccepted w new session moment change told) view_is (record {
       says = says;
       journal = journal ∙ ap (λ (r : ChangeReply). es ++ entry_with es session moment change r ∷ []) says;
       origin = same;
+      taken = taken;
       kept = kept_bins;
       grows = grows;
       hive = hive;

@@ -10,6 +10,7 @@ use Rattle.reg_heap.proofs.ChildrenOfPath.{path-is}
 use Rattle.reg_model.specs.Worlds.{Handle, At, numbered, same_path}
 use Rattle.reg_handles.specs.HandleTables.{Table, payload_on, leads_there, is_open}
 use Rattle.reg_handles.proofs.PathTextKeys.{path_of-one, same_path-texts}
+use Rattle.reg_notify.specs.Tables.{Table as Watches}
 use Rattle.reg_tree.specs.TreeKeys.{Keys, IsAt, KeepsNodes}
 use Rattle.reg_tree.specs.declared.node.Node.{Node}
 use Rattle.reg_model.specs.declared.call.Change.{Change}
@@ -29,12 +30,17 @@ none_some (Some x) a e f = absurd (cc)
 pub none_known : (store : Store) → ((text : List ℕ) → payload_on store.handles text ≡ None) → KnowsKeys store
 none_known store none = λ text node e. absurd (none_some _ node (none text) e)
 
-abbrev pub store_of : Keys → Table Node → Store
-store_of keys table = record { tree = keys; handles = table }
+abbrev pub store_of : Watches → Keys → Table Node → Store
+store_of watches keys table = record { tree = keys; handles = table; watches = watches }
 
 -- a store as it was
 pub unchanged : (old new : Store) → KnowsKeys old → new ≡ old → IsUnchanged old new
-unchanged old new known same = record { tree = ap (λ (s : Store). s.tree) same; handles = ap (λ (s : Store). s.handles.handles) same; known = subst KnowsKeys (sym same) known }
+unchanged old new known same = record {
+  tree = ap (λ (s : Store). s.tree) same;
+  handles = ap (λ (s : Store). s.handles.handles) same;
+  watches = ap (λ (s : Store). s.watches) same;
+  known = subst KnowsKeys (sym same) known;
+}
 
 -- what a change that isn't made leaves
 pub unmade : (old new : Store) (session moment n : ℕ) (change : Change) (lack : Lack) → IsMade old new session moment n change (Err lack) → IsUnchanged old new
@@ -46,7 +52,7 @@ module _ (store : Store) (known : KnowsKeys store) where
   kept = payload_on store.handles
 
   -- another tree that keeps the nodes
-  pub kept_known : (keys : Keys) → KeepsNodes store.tree keys → KnowsKeys (record { tree = keys; handles = store.handles })
+  pub kept_known : (keys : Keys) → KeepsNodes store.tree keys → KnowsKeys (record { tree = keys; handles = store.handles; watches = store.watches })
   kept_known keys keeps = λ text node e. keeps (path_of text) node (known text node e)
 
   -- ---- handles that come
@@ -54,7 +60,7 @@ module _ (store : Store) (known : KnowsKeys store) where
   module _ (table : Table Node) (path : List ℕ) (node : Node)
       (added : (text : List ℕ) → payload_on table text ≡ cond (bytes_eq path text) (Some (unwrap_or (kept path) node)) (kept text)) where
     -- a handle to a key
-    pub added_known : IsAt store.tree (path_of path) node → KnowsKeys (record { tree = store.tree; handles = table })
+    pub added_known : IsAt store.tree (path_of path) node → KnowsKeys (record { tree = store.tree; handles = table; watches = store.watches })
     added_known at = λ text other e. by text other (sym (added text) ∙ e) (bytes_eq path text) refl
       where
         here : (o : Option Node) → kept path ≡ o → (other : Node) → Some (unwrap_or o node) ≡ Some other → IsAt store.tree (path_of path) other
@@ -71,7 +77,7 @@ module _ (store : Store) (known : KnowsKeys store) where
     pub made_known : (keys : Keys) → KeepsNodes store.tree keys → (n : ℕ) (handle : Handle) → numbered n table.handles ≡ Some handle →
         handle.destination ≡ At (path_of path) → (made : Node) → IsAt keys (path_of path) made → (table' : Table Node) →
         ((text : List ℕ) → payload_on table' text ≡ cond (leads_there (path_of text) (numbered n table.handles)) (Some made) (payload_on table text)) →
-        KnowsKeys (record { tree = keys; handles = table' })
+        KnowsKeys (record { tree = keys; handles = table'; watches = store.watches })
     made_known keys keeps n handle found leads made at table' set = λ text other e.
         by text other (sym (told text) ∙ sym (set text) ∙ e) (same_path (path_of path) (path_of text)) refl
       where
@@ -90,7 +96,7 @@ module _ (store : Store) (known : KnowsKeys store) where
     -- a handle that was taken back
     pub again_known : (table' : Table Node) → ((text : List ℕ) → is_some (kept text) ≡ is_open (path_of text) store.handles.handles) →
         table'.handles ≡ store.handles.handles → ((text : List ℕ) → payload_on table' text ≡ cond (is_open (path_of text) table'.handles) (payload_on table text) None) →
-        KnowsKeys (record { tree = store.tree; handles = table' })
+        KnowsKeys (record { tree = store.tree; handles = table'; watches = store.watches })
     again_known table' law same shut = λ text other e. by text other (is_open (path_of text) table'.handles) refl e
       where
         was : (text : List ℕ) (o : Option Node) → kept text ≡ o → is_some o ≡ true → (other : Node) →
@@ -110,7 +116,7 @@ module _ (store : Store) (known : KnowsKeys store) where
   -- ---- handles that go
 
   pub closed_known : (table : Table Node) → ((text : List ℕ) → payload_on table text ≡ cond (is_open (path_of text) table.handles) (kept text) None) →
-      KnowsKeys (record { tree = store.tree; handles = table })
+      KnowsKeys (record { tree = store.tree; handles = table; watches = store.watches })
   closed_known table closed = λ text other e. by text other (is_open (path_of text) table.handles) refl e
     where
       by : (text : List ℕ) (other : Node) (b : Bool) → is_open (path_of text) table.handles ≡ b → payload_on table text ≡ Some other → IsAt store.tree (path_of text) other
@@ -119,7 +125,7 @@ module _ (store : Store) (known : KnowsKeys store) where
 
   -- a key that was deleted
   pub deleted_known : (keys : Keys) (table : Table Node) (path : List ℕ) → ((q : Path) (other : Node) → IsAt store.tree q other → q ≢ path_of path → IsAt keys q other) →
-      ((text : List ℕ) → payload_on table text ≡ cond (bytes_eq path text) None (kept text)) → KnowsKeys (record { tree = keys; handles = table })
+      ((text : List ℕ) → payload_on table text ≡ cond (bytes_eq path text) None (kept text)) → KnowsKeys (record { tree = keys; handles = table; watches = store.watches })
   deleted_known keys table path keeps marked = λ text other e. by text other (bytes_eq path text) refl e
     where
       by : (text : List ℕ) (other : Node) (b : Bool) → bytes_eq path text ≡ b → payload_on table text ≡ Some other → IsAt keys (path_of text) other
@@ -130,7 +136,7 @@ module _ (store : Store) (known : KnowsKeys store) where
 
   -- keys that were deleted, whose paths pass a test
   pub past_known : (keys : Keys) (table : Table Node) (gone : Path → Bool) → ((q : Path) (other : Node) → IsAt store.tree q other → gone q ≡ false → IsAt keys q other) →
-      ((text : List ℕ) → payload_on table text ≡ cond (gone (path_of text)) None (kept text)) → KnowsKeys (record { tree = keys; handles = table })
+      ((text : List ℕ) → payload_on table text ≡ cond (gone (path_of text)) None (kept text)) → KnowsKeys (record { tree = keys; handles = table; watches = store.watches })
   past_known keys table gone keeps marked = λ text other e. by text other (gone (path_of text)) refl e
     where
       by : (text : List ℕ) (other : Node) (b : Bool) → gone (path_of text) ≡ b → payload_on table text ≡ Some other → IsAt keys (path_of text) other

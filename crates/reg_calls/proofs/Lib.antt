@@ -10,3 +10,8 @@ pub mod HiveInvariantLemmas
 pub mod AdmittedChanges
 pub mod QueryAnswers
 pub mod NewHives
+pub mod HandedNotices
+pub mod PathFronts
+pub mod ToldWatches
+pub mod AnnouncedChanges
+pub mod KeysBelow

@@ -1,5 +1,5 @@
 -- The causes of changes by the tests that the code makes.
-use Rattle.std.proofs.Common.{◌≡◌, ◌≢◌, ℕ, true, false, not, ◌||◌, is_some, List, ◌++◌, Option, Some, None, refl, sym, ap, ◌∙◌, arith}
+use Rattle.std.proofs.Common.{◌≡◌, ◌≢◌, ℕ, Bool, true, false, not, ◌||◌, is_some, List, ◌++◌, Option, Some, None, refl, sym, ap, ◌∙◌, arith}
 use Rattle.std.specs.Prelude.{bit_and}
 use Rattle.std.specs.FinMap.{get}
 use Rattle.std.proofs.lemmas.Bool.{eq-eqb}
@@ -8,12 +8,12 @@ use Rattle.reg_names.specs.Names.{is_value_name, is_path, path_of}
 use Rattle.reg_heap.specs.Paths.{Path}
 use Rattle.reg_heap.specs.Members.{value_named}
 use Rattle.reg_heap.specs.Edits.{values_at, folded_path, are_too_many, may_not_go}
-use Rattle.reg_model.specs.declared.rights.TheConstants.{SET_VALUE, WRITE_DAC}
+use Rattle.reg_model.specs.declared.rights.TheConstants.{SET_VALUE, WRITE_DAC, NOTIFY}
 use Rattle.reg_model.specs.declared.statuses.TheConstants.{ACCESS_DENIED, FILE_NOT_FOUND, INVALID_PARAMETER, NO_SYSTEM_RESOURCES}
 use Rattle.reg_model.specs.Worlds.{Handle, look, path_at, path_from}
 use Rattle.reg_model.specs.Causes.{State, early_cause, late_cause, change_cause, refuse, ◌or◌, asked, is_mask, is_bad_value, is_bad_open, is_bad_target, no_handle_room, no_key_room}
-use Rattle.reg_model.specs.Causes.{is_bad_descriptor, is_bad_given, no_value_room, lacks_value, lacks_key, tree_rights, has, is_full, by_handle}
-use Rattle.reg_model.specs.declared.call.Change.TheVariants.{OpenRoot, OpenKey, CreateKey, SetValue, DeleteValue, DeleteKey, DeleteTree, SetSecurity, Close}
+use Rattle.reg_model.specs.Causes.{is_filter, no_watch_room, is_bad_descriptor, is_bad_given, no_value_room, lacks_value, lacks_key, tree_rights, has, is_full, by_handle}
+use Rattle.reg_model.specs.declared.call.Change.TheVariants.{OpenRoot, OpenKey, CreateKey, SetValue, DeleteValue, DeleteKey, DeleteTree, SetSecurity, Notify, Close}
 use Rattle.reg_calls.specs.declared.store.Store.{Store}
 use Rattle.reg_calls.specs.Internal.Stores.{at, IsTarget}
 use Rattle.reg_calls.specs.Internal.DeletedTrees.{keeps_tree}
@@ -186,6 +186,25 @@ module _ (n : ℕ) (store : Store) (session h : ℕ) where
       (is_full 1 s) NO_SYSTEM_RESOURCES))
       ∙ ap (λ (k : ℕ). refuse (is_bad_descriptor descriptor) INVALID_PARAMETER or refuse (not (has WRITE_DAC k)) ACCESS_DENIED or refuse
       (is_full 1 s) NO_SYSTEM_RESOURCES or asked 0 or None) (sym m)
+
+  -- ---- Notify
+
+  pub notify-refused : (filter : ℕ) (subtree : Bool) (status : ℕ) → Refuses store session h status → change_cause s session (Notify h filter subtree) 0 ≡ Some status
+  unfolding early_cause late_cause
+  notify-refused filter subtree status r =
+      first _ _ _ status (r (λ x. refuse (not (is_filter filter)) INVALID_PARAMETER or refuse (not (has NOTIFY x.mask)) ACCESS_DENIED or refuse
+      (no_watch_room session s) NO_SYSTEM_RESOURCES))
+
+  pub notify-causes : (filter : ℕ) (subtree : Bool) (mask : ℕ) (g : t) → mask ≡ g.handle.mask →
+      change_cause s session (Notify h filter subtree) 0 ≡ (refuse (not (is_filter filter)) INVALID_PARAMETER or refuse (not (has NOTIFY mask)) ACCESS_DENIED or refuse
+      (no_watch_room session s) NO_SYSTEM_RESOURCES or asked 0 or None)
+  unfolding early_cause late_cause
+  notify-causes filter subtree mask g m =
+      ap (λ (a : Option ℕ). a or asked 0 or None)
+      (by_handle-at store session h g (λ x. refuse (not (is_filter filter)) INVALID_PARAMETER or refuse (not (has NOTIFY x.mask)) ACCESS_DENIED or refuse
+      (no_watch_room session s) NO_SYSTEM_RESOURCES))
+      ∙ ap (λ (k : ℕ). refuse (not (is_filter filter)) INVALID_PARAMETER or refuse (not (has NOTIFY k)) ACCESS_DENIED or refuse
+      (no_watch_room session s) NO_SYSTEM_RESOURCES or asked 0 or None) (sym m)
 
   -- ---- Close
 

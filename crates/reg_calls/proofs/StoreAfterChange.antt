@@ -4,19 +4,22 @@ use Rattle.std.proofs.Common.{Some, None, refl, sym, ap, ◌∙◌, subst, arith
 use Rattle.std.specs.Prelude.{Err, IfSome, option_map, ◌==◌}
 use Rattle.std.proofs.lemmas.Bool.{cond-true, cond-false}
 use Rattle.std.proofs.lemmas.Bool.Decides.{nat_tests}
-use Rattle.reg_model.specs.declared.limits.TheConstants.{HANDLES_LIMIT}
+use Rattle.reg_model.specs.declared.limits.TheConstants.{HANDLES_LIMIT, WATCHES_LIMIT}
 use Rattle.reg_heap.specs.declared.limits.TheConstants.{DATA_LIMIT, DESCRIPTOR_LIMIT, GROWTH_BOUND}
 use Rattle.reg_names.specs.Names.{path_of, is_value_name}
 use Rattle.reg_heap.specs.Paths.{Path, Tree}
 use Rattle.reg_heap.specs.Edits.{edited, with_value, without_value, with_descriptor, child_path, has_child, if_last, with_key, with_keys, missing, without_key}
 use Rattle.reg_heap.specs.Edits.{is_within, is_under, without_tree, emptied}
 use Rattle.reg_model.specs.Worlds.{World, Handle, At, look, path_at, path_from, closed, turned, turned_past, without_branch, without_contents, after}
-use Rattle.reg_model.specs.Causes.{State, change_cause, handles_of, no_handle_room, is_full, is_bad_descriptor, is_bad_given}
+use Rattle.reg_model.specs.Watches.{Watch, watch_of}
+use Rattle.reg_notify.specs.Tables.{Table as Watches}
+use Rattle.reg_notify.specs.Asked.{Adds}
+use Rattle.reg_model.specs.Causes.{State, change_cause, handles_of, no_handle_room, is_full, watches_of, is_bad_descriptor, is_bad_given}
 use Rattle.reg_model.specs.Replies.{reply_to, disposition_of}
 use Rattle.reg_model.specs.declared.reply.ChangeReply.{ChangeReply}
 use Rattle.reg_model.specs.declared.call.Change.{Change}
-use Rattle.reg_model.specs.declared.call.Change.TheVariants.{OpenRoot, OpenKey, CreateKey, SetValue, DeleteValue, DeleteKey, DeleteTree, SetSecurity, Close}
-use Rattle.reg_model.proofs.AcceptedCalls.{both_false, not_false, root-met, open-met, create-met, SetMet, set-met, secure-met, close-met}
+use Rattle.reg_model.specs.declared.call.Change.TheVariants.{OpenRoot, OpenKey, CreateKey, SetValue, DeleteValue, DeleteKey, DeleteTree, SetSecurity, Notify, Close}
+use Rattle.reg_model.proofs.AcceptedCalls.{both_false, not_false, root-met, open-met, create-met, SetMet, set-met, secure-met, notify-met, close-met, Target}
 use Rattle.reg_handles.specs.HandleTables.{Table}
 use Rattle.reg_arena.specs.Arena.{heap_of}
 use Rattle.reg_arena.specs.declared.ArenaFault.{ArenaFault}
@@ -48,7 +51,7 @@ none-made t p [] given moment e = refl
 none-made t p (name ∷ names) given moment e =
     none-step (has_child t p name) t p name names given moment (none-made t (child_path p name) names given moment) e
 
-with-names : (text : List ℕ) → text ≢ [] → path_of text ≡ [] → ⊥
+pub with-names : (text : List ℕ) → text ≢ [] → path_of text ≡ [] → ⊥
 with-names [] some e = absurd (some refl)
 with-names (x ∷ xs) some e = some_names (x ∷ xs) false (sym (grind (arith, nat_tests))) refl e
 
@@ -99,11 +102,11 @@ module _ (n : ℕ) (store : Store) (session : ℕ) (ready : IsReady n store) whe
   root-room mask c = let m = root-met s session mask 0 c in room-few m.room
 
   pub root-done : (moment mask : ℕ) (table : Table Node) (text : List ℕ) → text ≡ [] → added table mask text → (told : ChangeReply) →
-      told ≡ opening None → KnowsKeys (record { tree = store.tree; handles = table }) → IsDone store (record { tree = store.tree; handles = table }) session moment n (OpenRoot mask) told
-  unfolding after reply_to
+      told ≡ opening None → KnowsKeys (record { tree = store.tree; handles = table; watches = store.watches }) → IsDone store (record { tree = store.tree; handles = table; watches = store.watches }) session moment n (OpenRoot mask) told
+  unfolding after reply_to watch_of
   root-done moment mask table text empty add told e known =
       let handles = add ∙ ap (λ (t : List ℕ). hs ++ record { number = n; session = session; mask = mask; destination = At (path_of t) } ∷ []) empty in
-      record { world = λ i. record { tree = tree; handles = handles i }; reply = e; kept = omega arith; grows = no-growth store; known = known }
+      record { world = λ i. record { tree = tree; handles = handles i }; reply = e; kept = omega arith; grows = no-growth store; known = known; watches = refl }
 
   -- ---- OpenKey
 
@@ -112,13 +115,13 @@ module _ (n : ℕ) (store : Store) (session : ℕ) (ready : IsReady n store) whe
     open-room = let m = open-met s session h path mask 0 c in room-few m.room
 
     pub open-done : (moment : ℕ) (table : Table Node) (text : List ℕ) → path_of text ≡ path_from session h hs path → added table mask text →
-        (told : ChangeReply) → told ≡ opening None → KnowsKeys (record { tree = store.tree; handles = table }) →
-        IsDone store (record { tree = store.tree; handles = table }) session moment n
+        (told : ChangeReply) → told ≡ opening None → KnowsKeys (record { tree = store.tree; handles = table; watches = store.watches }) →
+        IsDone store (record { tree = store.tree; handles = table; watches = store.watches }) session moment n
         (OpenKey h path mask) told
-    unfolding after reply_to
+    unfolding after reply_to watch_of
     open-done moment table text names add told e known =
         let handles = add ∙ ap (λ (p : Path). hs ++ record { number = n; session = session; mask = mask; destination = At p } ∷ []) names in
-        record { world = λ i. record { tree = tree; handles = handles i }; reply = e; kept = omega arith; grows = no-growth store; known = known }
+        record { world = λ i. record { tree = tree; handles = handles i }; reply = e; kept = omega arith; grows = no-growth store; known = known; watches = refl }
 
   -- ---- CreateKey
 
@@ -135,16 +138,16 @@ module _ (n : ℕ) (store : Store) (session : ℕ) (ready : IsReady n store) whe
         keys.tree ≡ with_keys tree (path_at session h hs) (path_of path) given moment → added table mask text → (told : ChangeReply) →
         told ≡ opening (Some (disposition_of (missing tree (path_at session h hs) (path_of path)))) →
         length store.tree.bins.bytes ≤ length keys.bins.bytes → length keys.bins.bytes ≤ length store.tree.bins.bytes + GROWTH_BOUND →
-        KnowsKeys (record { tree = keys; handles = table }) → IsDone store (record { tree = keys; handles = table }) session moment n (CreateKey h path mask given) told
-    unfolding after reply_to
+        KnowsKeys (record { tree = keys; handles = table; watches = store.watches }) → IsDone store (record { tree = keys; handles = table; watches = store.watches }) session moment n (CreateKey h path mask given) told
+    unfolding after reply_to watch_of
     create-done moment keys table text names made add told e kept larger known =
         let handles = add ∙ ap (λ (p : Path). hs ++ record { number = n; session = session; mask = mask; destination = At p } ∷ []) names in
-        record { world = λ i. record { tree = made i; handles = handles i }; reply = e; kept = kept; grows = larger; known = known }
+        record { world = λ i. record { tree = made i; handles = handles i }; reply = e; kept = kept; grows = larger; known = known; watches = refl }
 
     -- where no key is missing
     pub create-there : (rest : List ℕ) → path_of rest ≡ missing tree (path_at session h hs) (path_of path) → rest ≡ [] →
         (moment : ℕ) (table : Table Node) (text : List ℕ) → path_of text ≡ path_from session h hs path → added table mask text → (told : ChangeReply) → told ≡ opening (Some 2) →
-        KnowsKeys (record { tree = store.tree; handles = table }) → IsDone store (record { tree = store.tree; handles = table }) session moment n (CreateKey h path mask given) told
+        KnowsKeys (record { tree = store.tree; handles = table; watches = store.watches }) → IsDone store (record { tree = store.tree; handles = table; watches = store.watches }) session moment n (CreateKey h path mask given) told
     create-there rest missed empty moment table text names add told e known =
         let none : missing tree (path_at session h hs) (path_of path) ≡ [] = sym missed ∙ ap path_of empty in
         create-done moment store.tree table text names (sym (none-made tree (path_at session h hs) (path_of path) given moment none)) add told
@@ -173,19 +176,19 @@ module _ (n : ℕ) (store : Store) (session : ℕ) (ready : IsReady n store) whe
 
     pub set-done : (moment : ℕ) (keys : Keys) → keys.tree ≡ edited tree (path_at session h hs) (with_value name kind bytes moment) → (told : ChangeReply) →
         told ≡ plain → length store.tree.bins.bytes ≤ length keys.bins.bytes → length keys.bins.bytes ≤ length store.tree.bins.bytes + GROWTH_BOUND →
-        KnowsKeys (record { tree = keys; handles = store.handles }) → IsDone store (record { tree = keys; handles = store.handles }) session moment n (SetValue h name kind bytes) told
-    unfolding after reply_to
-    set-done moment keys set told e kept larger known = record { world = λ i. record { tree = set i; handles = hs }; reply = e; kept = kept; grows = larger; known = known }
+        KnowsKeys (record { tree = keys; handles = store.handles; watches = store.watches }) → IsDone store (record { tree = keys; handles = store.handles; watches = store.watches }) session moment n (SetValue h name kind bytes) told
+    unfolding after reply_to watch_of
+    set-done moment keys set told e kept larger known = record { world = λ i. record { tree = set i; handles = hs }; reply = e; kept = kept; grows = larger; known = known; watches = refl }
 
   -- ---- DeleteValue
 
   module _ (h : ℕ) (name : List ℕ) (c : change_cause s session (DeleteValue h name) 0 ≡ None) where
     pub drop-done : (moment : ℕ) (keys : Keys) → keys.tree ≡ edited tree (path_at session h hs) (without_value name moment) → (told : ChangeReply) → told ≡ plain →
-        length keys.bins.bytes ≡ length store.tree.bins.bytes → KnowsKeys (record { tree = keys; handles = store.handles }) →
-        IsDone store (record { tree = keys; handles = store.handles }) session moment n (DeleteValue h name) told
-    unfolding after reply_to
+        length keys.bins.bytes ≡ length store.tree.bins.bytes → KnowsKeys (record { tree = keys; handles = store.handles; watches = store.watches }) →
+        IsDone store (record { tree = keys; handles = store.handles; watches = store.watches }) session moment n (DeleteValue h name) told
+    unfolding after reply_to watch_of
     drop-done moment keys set told e long known =
-        record { world = λ i. record { tree = set i; handles = hs }; reply = e; kept = omega (arith, long); grows = omega (arith, long); known = known }
+        record { world = λ i. record { tree = set i; handles = hs }; reply = e; kept = omega (arith, long); grows = omega (arith, long); known = known; watches = refl }
 
   -- ---- DeleteKey
 
@@ -193,11 +196,11 @@ module _ (n : ℕ) (store : Store) (session : ℕ) (ready : IsReady n store) whe
     pub delete-done : (moment : ℕ) (keys : Keys) (table : Table Node) (text : List ℕ) → path_of text ≡ path_from session h hs path →
         keys.tree ≡ without_key tree (path_from session h hs path) moment → table.handles ≡ turned (path_of text) hs → (told : ChangeReply) →
         told ≡ plain → length keys.bins.bytes ≡ length store.tree.bins.bytes →
-        KnowsKeys (record { tree = keys; handles = table }) → IsDone store (record { tree = keys; handles = table }) session moment n (DeleteKey h path) told
-    unfolding after reply_to
+        KnowsKeys (record { tree = keys; handles = table; watches = store.watches }) → IsDone store (record { tree = keys; handles = table; watches = store.watches }) session moment n (DeleteKey h path) told
+    unfolding after reply_to watch_of
     delete-done moment keys table text names gone turn told e long known =
         let handles = turn ∙ ap (λ (p : Path). turned p hs) names in
-        record { world = λ i. record { tree = gone i; handles = handles i }; reply = e; kept = omega (arith, long); grows = omega (arith, long); known = known }
+        record { world = λ i. record { tree = gone i; handles = handles i }; reply = e; kept = omega (arith, long); grows = omega (arith, long); known = known; watches = refl }
 
   -- ---- DeleteTree
 
@@ -208,31 +211,31 @@ module _ (n : ℕ) (store : Store) (session : ℕ) (ready : IsReady n store) whe
     abbrev gone-contents : ℕ → World
     gone-contents moment = without_contents (world_of store) (path_at session h hs) moment
 
-    tree-done : (moment : ℕ) (keys : Keys) (table : Table Node) → world_of (record { tree = keys; handles = table }) ≡
+    tree-done : (moment : ℕ) (keys : Keys) (table : Table Node) → world_of (record { tree = keys; handles = table; watches = store.watches }) ≡
         cond (length path == 0) (gone-contents moment) (gone-tree moment) → (told : ChangeReply) → told ≡ plain → length keys.bins.bytes ≡ length store.tree.bins.bytes →
-        KnowsKeys (record { tree = keys; handles = table }) → IsDone store (record { tree = keys; handles = table }) session moment n (DeleteTree h path) told
-    unfolding after reply_to
-    tree-done moment keys table world told e long known = record { world = world; reply = e; kept = omega (arith, long); grows = omega (arith, long); known = known }
+        KnowsKeys (record { tree = keys; handles = table; watches = store.watches }) → IsDone store (record { tree = keys; handles = table; watches = store.watches }) session moment n (DeleteTree h path) told
+    unfolding after reply_to watch_of
+    tree-done moment keys table world told e long known = record { world = world; reply = e; kept = omega (arith, long); grows = omega (arith, long); known = known; watches = refl }
 
     -- by a path that has names
     pub branch-done : (moment : ℕ) (keys : Keys) (table : Table Node) (text : List ℕ) → path_of path ≢ [] → path_of text ≡ path_from session h hs path →
         keys.tree ≡ without_tree tree (path_from session h hs path) moment → table.handles ≡ turned_past (is_within (path_of text)) hs → (told : ChangeReply) →
         told ≡ plain → length keys.bins.bytes ≡ length store.tree.bins.bytes →
-        KnowsKeys (record { tree = keys; handles = table }) → IsDone store (record { tree = keys; handles = table }) session moment n (DeleteTree h path) told
+        KnowsKeys (record { tree = keys; handles = table; watches = store.watches }) → IsDone store (record { tree = keys; handles = table; watches = store.watches }) session moment n (DeleteTree h path) told
     branch-done moment keys table text some names gone turn told e long known =
         let handles = turn ∙ ap (λ (p : Path). turned_past (is_within p) hs) names in
-        let world : world_of (record { tree = keys; handles = table }) ≡ gone-tree moment = λ i. record { tree = gone i; handles = handles i } in
+        let world : world_of (record { tree = keys; handles = table; watches = store.watches }) ≡ gone-tree moment = λ i. record { tree = gone i; handles = handles i } in
         tree-done moment keys table (world ∙ sym (cond-false (length path == 0) _ _ (has-names path some))) told e long known
 
     -- by the empty path
     pub contents-done : (moment : ℕ) (keys : Keys) (table : Table Node) (text : List ℕ) → path ≡ [] → path_of text ≡ path_from session h hs path →
         keys.tree ≡ emptied tree (path_at session h hs) moment → table.handles ≡ turned_past (is_under (path_of text)) hs → (told : ChangeReply) →
         told ≡ plain → length keys.bins.bytes ≡ length store.tree.bins.bytes →
-        KnowsKeys (record { tree = keys; handles = table }) → IsDone store (record { tree = keys; handles = table }) session moment n (DeleteTree h path) told
+        KnowsKeys (record { tree = keys; handles = table; watches = store.watches }) → IsDone store (record { tree = keys; handles = table; watches = store.watches }) session moment n (DeleteTree h path) told
     contents-done moment keys table text none names gone turn told e long known =
         let own : path_of text ≡ path_at session h hs = names ∙ from-nowhere (path_at session h hs) path none in
         let handles = turn ∙ ap (λ (p : Path). turned_past (is_under p) hs) own in
-        let world : world_of (record { tree = keys; handles = table }) ≡ gone-contents moment = λ i. record { tree = gone i; handles = handles i } in
+        let world : world_of (record { tree = keys; handles = table; watches = store.watches }) ≡ gone-contents moment = λ i. record { tree = gone i; handles = handles i } in
         tree-done moment keys table (world ∙ sym (cond-true (length path == 0) _ _ (ap (λ (x : List ℕ). length x == 0) none))) told e long known
 
   -- ---- SetSecurity
@@ -243,19 +246,43 @@ module _ (n : ℕ) (store : Store) (session : ℕ) (ready : IsReady n store) whe
 
     pub secure-done : (moment : ℕ) (keys : Keys) → keys.tree ≡ edited tree (path_at session h hs) (with_descriptor descriptor moment) → (told : ChangeReply) →
         told ≡ plain → length store.tree.bins.bytes ≤ length keys.bins.bytes → length keys.bins.bytes ≤ length store.tree.bins.bytes + GROWTH_BOUND →
-        KnowsKeys (record { tree = keys; handles = store.handles }) → IsDone store (record { tree = keys; handles = store.handles }) session moment n (SetSecurity h descriptor) told
-    unfolding after reply_to
-    secure-done moment keys set told e kept larger known = record { world = λ i. record { tree = set i; handles = hs }; reply = e; kept = kept; grows = larger; known = known }
+        KnowsKeys (record { tree = keys; handles = store.handles; watches = store.watches }) → IsDone store (record { tree = keys; handles = store.handles; watches = store.watches }) session moment n (SetSecurity h descriptor) told
+    unfolding after reply_to watch_of
+    secure-done moment keys set told e kept larger known = record { world = λ i. record { tree = set i; handles = hs }; reply = e; kept = kept; grows = larger; known = known; watches = refl }
+
+  -- ---- Notify
+
+  module _ (h filter : ℕ) (subtree : Bool) (c : change_cause s session (Notify h filter subtree) 0 ≡ None) where
+    pub watch-room : watches_of session store.watches.pending < WATCHES_LIMIT
+    watch-room = let m = notify-met s session h filter subtree 0 c in let few = m.few in grind (arith, nat_tests, few)
+
+    pub watch-target : Target (look session h hs)
+    watch-target = let m = notify-met s session h filter subtree 0 c in m.target
+
+    abbrev watch : Path → Watch
+    watch p = record { number = n; session = session; handle = h; path = p; filter = filter; subtree = subtree }
+
+    pub notify-done : (moment : ℕ) (watches : Watches) (p : Path) → p ≡ path_at session h hs → Adds (watch p) store.watches watches → (told : ChangeReply) → told ≡ plain →
+        IsDone store (record { tree = store.tree; handles = store.handles; watches = watches }) session moment n (Notify h filter subtree) told
+    unfolding after reply_to watch_of
+    notify-done moment watches p here adds told e = record {
+      world = refl;
+      reply = e;
+      kept = omega arith;
+      grows = no-growth store;
+      known = ready.known;
+      watches = subst (λ (q : Path). Adds (watch q) store.watches watches) here adds;
+    }
 
   -- ---- Close
 
   pub close-has : (h : ℕ) → change_cause s session (Close h) 0 ≡ None → is_some (look session h hs) ≡ true
   close-has h c = close-met s session h 0 c
 
-  pub close-done : (moment h : ℕ) (table : Table Node) → table.handles ≡ closed h hs → (told : ChangeReply) → told ≡ plain → KnowsKeys (record { tree = store.tree; handles = table }) →
-      IsDone store (record { tree = store.tree; handles = table }) session moment n (Close h) told
-  unfolding after reply_to
-  close-done moment h table shut told e known = record { world = λ i. record { tree = tree; handles = shut i }; reply = e; kept = omega arith; grows = no-growth store; known = known }
+  pub close-done : (moment h : ℕ) (table : Table Node) → table.handles ≡ closed h hs → (told : ChangeReply) → told ≡ plain → KnowsKeys (record { tree = store.tree; handles = table; watches = store.watches }) →
+      IsDone store (record { tree = store.tree; handles = table; watches = store.watches }) session moment n (Close h) told
+  unfolding after reply_to watch_of
+  close-done moment h table shut told e known = record { world = λ i. record { tree = tree; handles = shut i }; reply = e; kept = omega arith; grows = no-growth store; known = known; watches = refl }
 
 -- ---- a change that isn't made
 

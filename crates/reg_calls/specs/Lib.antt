@@ -1,4 +1,3 @@
-pub mod JournalView
 pub mod Shortages
 pub mod Internal
 pub mod Views

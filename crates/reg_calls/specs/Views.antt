@@ -1,5 +1,6 @@
 -- What callers see of a hive, and what is true of every hive.
-use Rattle.std.specs.Prelude.{◌≡◌, ◌≢◌, ℕ, ◌+◌, ◌<◌, ◌≤◌, List, [], ◌∷◌, ◌++◌, length, Option, Some, None, false, ◌⊎◌, refl}
+use Rattle.std.specs.Prelude.{◌≡◌, ◌≢◌, ℕ, ◌+◌, ◌<◌, ◌≤◌, ◌==◌, ◌&&◌, List, [], ◌∷◌, ◌++◌, length, slice_get, if◌then◌else◌}
+use Rattle.std.specs.Prelude.{Option, Some, None, is_some, false, ◌⊎◌, refl}
 use Rattle.std.specs.List.{AllByRecursion}
 use Rattle.std.specs.Coded.{Coded, code_by, coded×, coded_list}
 use Rattle.reg_heap.specs.Paths.{Tree, coded_tree}
@@ -12,41 +13,48 @@ use Rattle.reg_model.specs.Causes.{State, change_cause, query_cause}
 use Rattle.reg_model.specs.Callbacks.{Callbacks, change_status, query_status}
 use Rattle.reg_model.specs.Replies.{reply_to, refusal, body_of}
 use Rattle.reg_model.specs.Calls.{entry_due}
-use Rattle.reg_model.specs.Histories.{state_of, IsLegal, replay}
+use Rattle.reg_model.specs.Histories.{state_of, IsLegal, replay, pending, fired}
 use Rattle.reg_model.specs.contracts.reply.Entry.{the_row}
 use Rattle.reg_model.specs.declared.reply.Entry.{Entry}
 use Rattle.reg_model.specs.declared.reply.ChangeReply.{ChangeReply}
+use Rattle.reg_model.specs.declared.notice.Notice.{Notice}
 use Rattle.reg_model.specs.declared.answer.AnswerBody.{AnswerBody}
 use Rattle.reg_model.specs.declared.answer.AnswerBody.TheVariants.{Refused, Short, Value, Key, Member, Info, Security}
 use Rattle.reg_model.specs.declared.call.Change.{Change}
 use Rattle.reg_model.specs.declared.call.Query.{Query}
 use Rattle.reg_tree.specs.TreeKeys.{Keys, coded_keys, IsWholeTree}
 use Rattle.reg_handles.specs.HandleTables.{coded_handle}
+use Rattle.reg_notify.specs.Tables.{Table, coded_table, told_to, taken_by}
 use Rattle.reg_calls.specs.declared.store.Store.{Store}
 use Rattle.reg_calls.specs.Internal.Stores.{KnowsKeys}
 use Rattle.reg_calls.specs.declared.lack.Lack.{Lack}
 use Rattle.reg_calls.specs.declared.lack.Lack.TheVariants.{Space, Memory}
 use Rattle.reg_calls.specs.Shortages.{is_closing, LacksSpace, growth_of}
 
--- a hive: the tree that it was made with, its journal, its keys in their bins, and its open handles in the order of their numbers
+-- a hive: the tree that it was made with, its journal, its keys in their bins, its open handles in the order of their numbers, and its
+-- watches: those that are pending, and of each session what it was told, with how much of that it took
 pub record View : Type 0 where
   pub origin : Tree
   pub journal : List Entry
   pub keys : Keys
   pub handles : List Handle
+  pub watches : Table
 
 abbrev pub coded_view : Coded View
 coded_view =
-    code_by ((Tree × List Entry) × (Keys × List Handle)) (coded× (coded× coded_tree (coded_list the_row.coded)) (coded× coded_keys (coded_list coded_handle)))
-    (λ v. ((v.origin, v.journal), (v.keys, v.handles))) (λ p. record { origin = p.0.0; journal = p.0.1; keys = p.1.0; handles = p.1.1 }) (λ _. refl)
+    code_by ((Tree × List Entry) × (Keys × (List Handle × Table)))
+    (coded× (coded× coded_tree (coded_list the_row.coded)) (coded× coded_keys (coded× (coded_list coded_handle) coded_table)))
+    (λ v. ((v.origin, v.journal), (v.keys, (v.handles, v.watches))))
+    (λ p. record { origin = p.0.0; journal = p.0.1; keys = p.1.0; handles = p.1.1.0; watches = p.1.1.1 }) (λ _. refl)
 
 -- where a call finds the hive
 abbrev pub state : View → State
 state v = state_of v.origin v.journal
 
 -- what is true of every hive: its origin is a tree, its journal is legal, of sessions below 64, and leaves room for the closings;
--- the tree and the handles are those of the replay; and its bins are sound (cells tile them, and the free lists hold precisely the
--- free ones) and whole: each allocated cell is reached from the root exactly as often as its references say, and they spell the tree
+-- the tree and the handles are those of the replay; the pending watches are the journal's, each session was told just what the
+-- journal tells it, and took no more than that; and its bins are sound (cells tile them, and the free lists hold precisely the free
+-- ones) and whole: each allocated cell is reached from the root exactly as often as its references say, and they spell the tree
 pub record IsHive (v : View) : Type 0 where
   pub origin : IsTree v.origin
   pub limits : IsWithinLimits v.origin
@@ -55,12 +63,20 @@ pub record IsHive (v : View) : Type 0 where
   pub small : length v.journal + length v.handles ≤ JOURNAL_LIMIT
   pub tree : v.keys.tree ≡ (replay v.origin v.journal).tree
   pub handles : v.handles ≡ (replay v.origin v.journal).handles
+  pub pending : v.watches.pending ≡ pending v.origin v.journal
+  pub told : (s : ℕ) → told_to v.watches s ≡ fired v.origin v.journal s
+  pub taken : (s : ℕ) → taken_by v.watches s ≤ length (fired v.origin v.journal s)
   pub sound : IsSound v.keys.bins.bytes v.keys.bins.heads
   pub whole : IsWholeTree v.keys.bins.bytes v.keys.root v.keys.tree
 
+-- the view of a hive's parts
+abbrev pub view_with : Tree → List Entry → Store → View
+view_with origin journal store =
+    record { origin = origin; journal = journal; keys = store.tree; handles = store.handles.handles; watches = store.watches }
+
 -- the same of a hive's parts; room is kept for the closing of each open handle; and each node that is kept is that of its key
 pub record HiveInvariant (origin : Tree) (journal : List Entry) (store : Store) (room : ℕ) : Type 0 where
-  pub hive : IsHive (record { origin = origin; journal = journal; keys = store.tree; handles = store.handles.handles })
+  pub hive : IsHive (view_with origin journal store)
   pub room_kept : length store.handles.handles ≤ room
   pub known : KnowsKeys store
 
@@ -68,12 +84,13 @@ pub record HiveInvariant (origin : Tree) (journal : List Entry) (store : Store) 
 abbrev pub entry_of : View → ℕ → ℕ → Change → Entry
 entry_of v session moment change = entry_due (state v) session moment change
 
--- the change is accepted: its reply is the one due, the journal grows by its entry, and the bins are no smaller and grow by no more
--- than it may take
+-- the change is accepted: its reply is the one due, the journal grows by its entry, no notice is handed out, and the bins are no
+-- smaller and grow by no more than it may take
 pub record IsAccepted (old new : View) (session moment : ℕ) (change : Change) (reply : ChangeReply) : Type 0 where
   pub says : reply ≡ reply_to (state old) session change
   pub journal : new.journal ≡ old.journal ++ entry_of old session moment change ∷ []
   pub origin : new.origin ≡ old.origin
+  pub taken : new.watches.taken ≡ old.watches.taken
   pub kept : length old.keys.bins.bytes ≤ length new.keys.bins.bytes
   pub grows : length new.keys.bins.bytes ≤ length old.keys.bins.bytes + growth_of change
   pub hive : IsHive new
@@ -126,3 +143,16 @@ IsTold due body = (body ≡ due) ⊎ ((body ≡ Refused NOT_ENOUGH_MEMORY) × Ho
 abbrev pub IsRead : Callbacks → State → ℕ → Query → AnswerBody → Type 0
 IsRead callbacks s session query body =
     IsTold (is_told (query_cause s session query (query_status callbacks s.world session query)) (body_of s session query)) body
+
+-- a session was handed the next notice of all that the journal tells it, or none where it took them all; one more is then counted as
+-- taken, and nothing else changed
+pub record IsNoticeTaken (old new : View) (session : ℕ) (notice : Option Notice) : Type 0 where
+  pub next : notice ≡ slice_get (fired old.origin old.journal session) (taken_by old.watches session)
+  pub taken : (s : ℕ) → taken_by new.watches s ≡ (if s == session && is_some notice then taken_by old.watches s + 1 else taken_by old.watches s)
+  pub origin : new.origin ≡ old.origin
+  pub journal : new.journal ≡ old.journal
+  pub keys : new.keys ≡ old.keys
+  pub handles : new.handles ≡ old.handles
+  pub pending : new.watches.pending ≡ old.watches.pending
+  pub told : new.watches.told ≡ old.watches.told
+  pub hive : IsHive new

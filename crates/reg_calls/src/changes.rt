@@ -11,6 +11,7 @@ use crate::delete_key::DeleteKey;
 use crate::delete_tree::DeleteTree;
 use crate::delete_value::DeleteValue;
 use crate::lack::Lack;
+use crate::notify::Notify;
 use crate::open_key::OpenKey;
 use crate::open_root::OpenRoot;
 use crate::refusal::Refusal;
@@ -31,6 +32,7 @@ pub enum Admitted<'a> {
     DeleteKey(DeleteKey<'a>),
     DeleteTree(DeleteTree<'a>),
     SetSecurity(SetSecurity<'a>),
+    Notify(Notify),
     Close(Close),
 }
 
@@ -142,6 +144,16 @@ impl Store {
                     Err(status) => Err(Refusal::Cause(status)),
                 }
             }
+            Change::Notify {
+                handle,
+                filter,
+                subtree,
+            } => {
+                match Notify::admit(self, entries, session, *handle, *filter, *subtree) {
+                    Ok(found) => Ok(Admitted::Notify(found)),
+                    Err(status) => Err(Refusal::Cause(status)),
+                }
+            }
             Change::Close { handle } => {
                 match Close::admit(self, session, *handle) {
                     Ok(found) => Ok(Admitted::Close(found)),
@@ -152,7 +164,7 @@ impl Store {
     }
 
     /// Carries out a change that was admitted, and tells the reply that is due for it as the journal's entry of that number. `Err`
-    /// says what was lacking, memory or space in the bins; then keys and handles are as they were.
+    /// says what was lacking, memory or space in the bins; then all is as it was. No watch is ended yet.
     pub fn commit(
         &mut self,
         alloc: Global,
@@ -176,6 +188,7 @@ impl Store {
             Admitted::DeleteKey(found) => Ok(found.commit(self, moment, number)),
             Admitted::DeleteTree(found) => Ok(found.commit(self, moment, number)),
             Admitted::SetSecurity(found) => found.commit(self, alloc, moment, number),
+            Admitted::Notify(found) => found.commit(self, alloc, session, number),
             Admitted::Close(found) => Ok(found.commit(self, session, number)),
         }
     }

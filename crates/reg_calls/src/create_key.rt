@@ -6,15 +6,20 @@ ghost use Rattle.reg_model.specs.declared.limits.TheConstants.{SESSIONS_LIMIT};
 ghost use Rattle.reg_model.specs.Causes.{is_bad_open as is_bad_open_of, is_bad_given as is_bad_given_of};
 ghost use Rattle.reg_calls.specs.Internal.Stores.{IsReady, IsMade};
 ghost use Rattle.reg_calls.specs.Internal.Admissions.{AdmitsCreateKey, IsNotAdmitted};
+ghost use Rattle.reg_calls.specs.Internal.Announcements.{IsAnnounced};
 
+use crate::announced::{Announced, one_event};
+use crate::fronts::without_names;
 use crate::lack::Lack;
 use crate::refusal::Refusal;
 use crate::replies::opened;
 use crate::store::{Store, is_bad_descriptor, is_bad_open, path_below};
 use reg_model::ChangeReply;
+use reg_model::filters::NAME;
 use reg_model::statuses::NO_SYSTEM_RESOURCES;
+use reg_notify::{Place, Removed};
 use reg_tree::Reached;
-use std::alloc::Global;
+use std::alloc::{AllocError, Global};
 
 /// The disposition of a key that was made.
 const MADE: u32 = 1;
@@ -97,6 +102,22 @@ impl<'a> CreateKey<'a> {
             }),
             Err(_) => Err(Refusal::Memory),
         }
+    }
+
+    /// What it does to the watches: an event of the key above the first that is made, if one is. Its one fault is that memory was
+    /// refused.
+    pub fn announce(&self, store: &Store, alloc: Global) -> Result<Announced, AllocError>
+        requires { (entries session handle : ℕ) × (path : List ℕ) × AdmitsCreateKey entries store.now session handle path self.now }
+        ensures { (entries session handle : ℕ) → (path : List ℕ) → AdmitsCreateKey entries store.now session handle path self.now →
+            IfOk result (λ announced. IsAnnounced entries store.now session
+            (KeyCreated handle path self.now.mask (option_copied self.now.descriptor)) announced) }
+    {
+        let missing = self.reached.missing;
+        if missing.is_empty() {
+            return Ok(Announced::Nothing);
+        }
+        let above = Place::new(alloc, without_names(self.text.as_slice(), missing))?;
+        one_event(alloc, NAME, above, Removed::Nothing)
     }
 
     /// Makes the keys that are missing, the last with the descriptor if one is given, and opens the last key of the path as the handle

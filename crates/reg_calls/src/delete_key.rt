@@ -8,16 +8,21 @@ ghost use Rattle.reg_model.specs.Causes.{is_bad_target as is_bad_target_of};
 ghost use Rattle.reg_tree.specs.TreeKeys.{IsAt, IsThere};
 ghost use Rattle.reg_calls.specs.Internal.Stores.{IsReady, IsMade};
 ghost use Rattle.reg_calls.specs.Internal.Admissions.{AdmitsDeleteKey, IsNotAdmitted};
+ghost use Rattle.reg_calls.specs.Internal.Announcements.{IsAnnounced};
 
+use crate::announced::{Announced, one_event};
+use crate::fronts::without_last;
 use crate::refusal::Refusal;
 use crate::replies::accepted;
 use crate::store::{Store, path_below};
 use reg_heap::marks::NO_DELETE;
 use reg_model::ChangeReply;
+use reg_model::filters::NAME;
 use reg_model::statuses::{ACCESS_DENIED, FILE_NOT_FOUND, INVALID_PARAMETER, NO_SYSTEM_RESOURCES};
 use reg_names::check_path;
+use reg_notify::{Place, Removed};
 use reg_tree::{Node, Reached, Tree};
-use std::alloc::Global;
+use std::alloc::{AllocError, Global};
 
 /// What a DeleteKey was admitted with.
 #[derive(Drop)]
@@ -85,6 +90,17 @@ impl<'a> DeleteKey<'a> {
             Ok(text) => Ok(DeleteKey { text, reached }),
             Err(_) => Err(Refusal::Memory),
         }
+    }
+
+    /// What it does to the watches: an event of the key above, and the key removed. Its one fault is that memory was refused.
+    pub fn announce(&self, store: &Store, alloc: Global) -> Result<Announced, AllocError>
+        requires { (entries session handle : ℕ) × (path : List ℕ) × AdmitsDeleteKey entries store.now session handle path self.now }
+        ensures { (entries session handle : ℕ) → (path : List ℕ) → AdmitsDeleteKey entries store.now session handle path self.now →
+            IfOk result (λ announced. IsAnnounced entries store.now session (KeyDeleted handle path) announced) }
+    {
+        let key = Place::new(alloc, self.text.as_slice())?;
+        let above = Place::new(alloc, without_last(self.text.as_slice()))?;
+        one_event(alloc, NAME, above, Removed::Key(key))
     }
 
     /// Deletes the key, and turns the handles off that lead to it.

@@ -1,25 +1,32 @@
 //! DeleteTree: a key deleted with all keys below it, or with the empty path all that a key holds.
 //!
 //! Win32 registry reference, `RegDeleteTree`.
-ghost use Rattle.std.specs.Prelude.{ℕ, List, ◌≡◌, ◌<◌, ◌≤◌, ◌++◌, true, Ok, Some, None, IfErr, IfOk, OnOk, length, map, vec_len, vec_capacity};
+ghost use Rattle.std.specs.Prelude.{ℕ, List, ◌≡◌, ◌<◌, ◌≤◌, ◌++◌, ◌∷◌, [], true, Ok, Some, None, IfErr, IfOk, OnOk, length, map, vec_len, vec_capacity, if◌then◌else◌};
 ghost use Rattle.reg_names.specs.declared.TheConstants.{PATH_LIMIT};
 ghost use Rattle.reg_names.specs.Names.{is_path, path_of, folded};
 ghost use Rattle.reg_heap.specs.Paths.{Path};
-ghost use Rattle.reg_heap.specs.Edits.{folded_path};
+ghost use Rattle.reg_heap.specs.Edits.{folded_path, is_under};
 ghost use Rattle.reg_model.specs.Causes.{tree_rights};
+ghost use Rattle.reg_model.specs.Watches.{event_at, few_removals, cleared};
 ghost use Rattle.reg_tree.specs.TreeKeys.{IsAt, IsThere};
 ghost use Rattle.reg_handles.specs.HandleTables.{IsFoldedPath};
+ghost use Rattle.reg_notify.specs.Asked.{events_in};
 ghost use Rattle.reg_calls.specs.Internal.Stores.{IsReady, IsMade};
 ghost use Rattle.reg_calls.specs.Internal.Admissions.{AdmitsDeleteTree, IsNotAdmitted};
+ghost use Rattle.reg_calls.specs.Internal.Announcements.{ending_in, HasKinds, IsAnnounced};
 ghost use Rattle.reg_calls.specs.Internal.DeletedTrees.{keeps_tree, IsTreeFound};
 
+use crate::announced::{Announced, one_event};
+use crate::fronts::without_last;
 use crate::refusal::Refusal;
 use crate::replies::accepted;
 use crate::store::{Store, path_below};
 use reg_model::ChangeReply;
+use reg_model::filters::{LAST_SET, NAME};
 use reg_model::rights::{DELETE_CONTENTS, DELETE_TREE};
 use reg_model::statuses::{ACCESS_DENIED, FILE_NOT_FOUND, INVALID_PARAMETER, NO_SYSTEM_RESOURCES};
 use reg_names::check_path;
+use reg_notify::{Event, Place, Removed};
 use reg_tree::{Node, Reached, Tree};
 use std::alloc::{AllocError, Global};
 
@@ -92,6 +99,51 @@ fn roomy_path_below(alloc: Global, above: &[u8], path: &[u8]) -> Result<Vec<u8>,
     Ok(text)
 }
 
+/// One event more of the key at a path, if there is one. Its one fault is that memory was refused.
+fn push_if(
+    events: &mut Vec<Event>,
+    is_one: bool,
+    alloc: Global,
+    bits: u32,
+    path: &[u8],
+) -> Result<(), AllocError>
+    requires { is_path path.now ≡ true }
+    ensures { OnOk result (events_in events.new.items ≡ events_in events.old.items ++ (if is_one then event_at bits (path_of path.now) ∷ [] else [])) }
+{
+    if is_one {
+        let place = Place::new(alloc, path)?;
+        events.push(Event { bits, place })?;
+    }
+    Ok(())
+}
+
+/// What it does to the watches that all keys below a key are removed, and its values: an event of the key where it has subkeys, and
+/// one where it has values. Its one fault is that memory was refused.
+fn announce_contents(
+    tree: &Tree,
+    alloc: Global,
+    node: Node,
+    path: &[u8],
+) -> Result<Announced, AllocError>
+    requires there { IsAt tree.now (path_of path.now) node }
+    requires path { is_path path.now ≡ true }
+    ensures kinds { IfOk result HasKinds }
+    ensures ends { IfOk result (λ announced. (by : ℕ) → ending_in announced by ≡ record {
+      by = by;
+      events = few_removals tree.now.tree (path_of path.now) ++ cleared tree.now.tree (path_of path.now);
+      removes = is_under (path_of path.now);
+      closed = None;
+    }) }
+{
+    // Only for its clause `tree`: with each key there is the one above it, so that a key with a key below it has a subkey.
+    let _ = tree.root();
+    let mut events = Vec::with_capacity(alloc, 2)?;
+    push_if(&mut events, tree.subkeys(node) > 0, alloc, NAME, path)?;
+    push_if(&mut events, tree.values(node) > 0, alloc, LAST_SET, path)?;
+    let removed = Removed::Under(Place::new(alloc, path)?);
+    Ok(Announced::Changes { events, removed })
+}
+
 impl<'a> DeleteTree<'a> {
     ghost use Rattle.reg_model.specs.declared.call.Change.TheVariants.{DeleteTree as TreeDeleted};
 
@@ -133,6 +185,24 @@ impl<'a> DeleteTree<'a> {
         match roomy_path_below(alloc, key.path, path) {
             Ok(text) => Ok(DeleteTree { text, target }),
             Err(_) => Err(Refusal::Memory),
+        }
+    }
+
+    /// What it does to the watches: where a key goes, an event of the key above it; where it stays, one of that key for the keys below
+    /// it and one for its values; and these keys removed. Its one fault is that memory was refused.
+    pub fn announce(&self, store: &Store, alloc: Global) -> Result<Announced, AllocError>
+        requires { (entries session handle : ℕ) × (path : List ℕ) × AdmitsDeleteTree entries store.now session handle path self.now }
+        ensures { (entries session handle : ℕ) → (path : List ℕ) → AdmitsDeleteTree entries store.now session handle path self.now →
+            IfOk result (λ announced. IsAnnounced entries store.now session (TreeDeleted handle path) announced) }
+    {
+        let text = self.text.as_slice();
+        match self.target {
+            Target::Branch(_) => {
+                let key = Place::new(alloc, text)?;
+                let above = Place::new(alloc, without_last(text))?;
+                one_event(alloc, NAME, above, Removed::Within(key))
+            }
+            Target::Contents(node) => announce_contents(&store.tree, alloc, node, text),
         }
     }
 

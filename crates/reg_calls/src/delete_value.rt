@@ -5,19 +5,25 @@ ghost use Rattle.std.specs.Prelude.{ℕ, List, ◌≡◌, Some, Ok, IfErr, IfOk}
 ghost use Rattle.reg_model.specs.Causes.{change_cause};
 ghost use Rattle.reg_calls.specs.Internal.Stores.{at, IsReady, IsMade};
 ghost use Rattle.reg_calls.specs.Internal.Admissions.{AdmitsDeleteValue};
+ghost use Rattle.reg_calls.specs.Internal.Announcements.{IsAnnounced};
 
+use crate::announced::Announced;
 use crate::replies::accepted;
 use crate::store::Store;
 use reg_model::ChangeReply;
+use reg_model::filters::LAST_SET;
 use reg_model::rights::SET_VALUE;
 use reg_model::statuses::{ACCESS_DENIED, FILE_NOT_FOUND, INVALID_PARAMETER, NO_SYSTEM_RESOURCES};
 use reg_names::check_value_name;
 use reg_tree::Node;
+use std::alloc::{AllocError, Global};
 
 /// What a DeleteValue was admitted with.
 #[derive(Clone, Copy)]
 pub struct DeleteValue {
-    /// The key.
+    /// The handle.
+    pub handle: u64,
+    /// Its key.
     pub node: Node,
     /// The value's index among the key's, counted from 0.
     pub index: u32,
@@ -55,11 +61,26 @@ impl DeleteValue {
         // Callbacks will be asked here: the path is that of the handle's key.
         match store.tree.value_index(key.node, name) {
             Some(index) => Ok(DeleteValue {
+                handle,
                 node: key.node,
                 index,
             }),
             None => Err(FILE_NOT_FOUND),
         }
+    }
+
+    /// What it does to the watches: an event of the key. Its one fault is that memory was refused.
+    pub fn announce(
+        &self,
+        store: &Store,
+        alloc: Global,
+        session: u8,
+    ) -> Result<Announced, AllocError>
+        requires { (entries handle : ℕ) × (name : List ℕ) × AdmitsDeleteValue entries store.now session handle name self.now }
+        ensures { (entries handle : ℕ) → (name : List ℕ) → AdmitsDeleteValue entries store.now session handle name self.now →
+            IfOk result (λ announced. IsAnnounced entries store.now session (ValueDeleted handle name) announced) }
+    {
+        store.event_of(alloc, session, self.handle, LAST_SET)
     }
 
     /// Removes the value.

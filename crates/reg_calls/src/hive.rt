@@ -1,18 +1,19 @@
-ghost use Rattle.std.specs.Prelude.{◌≡◌, ◌<◌, ◌≤◌, ◌↔◌, ◌⊎◌, ◌+◌, [], true, false, length, slice_get, option_copied, vec_len, IfOk, IfErr, IsOk, OnErr, IsErrOf, All};
+ghost use Rattle.std.specs.Prelude.{◌≡◌, ◌<◌, ◌≤◌, ◌↔◌, ◌⊎◌, ◌+◌, [], true, false, length, slice_get, option_copied, vec_len, ℕ, IfOk, IfErr, OnErr, IsErrOf, All};
 ghost use Rattle.std.specs.FinMap.{insert, empty};
 ghost use Rattle.reg_names.specs.Names.{is_key_name};
 ghost use Rattle.reg_model.specs.declared.limits.TheConstants.{SESSIONS_LIMIT};
 ghost use Rattle.reg_arena.specs.Arena.{IsSound};
 ghost use Rattle.reg_arena.specs.Cells.{cell_at};
 ghost use Rattle.reg_model.specs.Callbacks.{no_callbacks};
-ghost use Rattle.reg_model.specs.Histories.{IsLegal, replay};
+ghost use Rattle.reg_model.specs.Histories.{IsLegal, replay, pending, fired};
 ghost use Rattle.reg_tree.specs.TreeKeys.{made_root, IsWholeTree};
-ghost use Rattle.reg_calls.specs.Views.{state, IsApplied, IsRead, IsHive};
+ghost use Rattle.reg_notify.specs.Tables.{told_to, taken_by};
+ghost use Rattle.reg_calls.specs.Views.{state, IsApplied, IsRead, IsHive, IsNoticeTaken};
 
 use crate::hive_core::Core;
 use reg_arena::Arena;
 use reg_heap::limits::DESCRIPTOR_LIMIT;
-use reg_model::{Answer, Call, Change, ChangeReply, Entry, Outcome, Query, Step};
+use reg_model::{Answer, Call, Change, ChangeReply, Entry, Notice, Outcome, Query, Step};
 use reg_names::check_key_name;
 use reg_tree::Tree;
 use std::alloc::{AllocError, Global};
@@ -40,7 +41,8 @@ pub enum RunFault {
     Memory,
 }
 
-/// A hive: a tree of keys in the bytes of its bins, its open handles, and the journal of its accepted changes.
+/// A hive: a tree of keys in the bytes of its bins, its open handles, the watches that its sessions asked for, and the journal of its
+/// accepted changes.
 #[derive(Drop)]
 pub struct Hive {
     core: Core,
@@ -51,7 +53,7 @@ impl Hive {
     ghost use Rattle.reg_calls.specs.Runs.{Run, IsStep};
 
     /// A hive of one root: the name as given, mark 8 (no delete), no class, the descriptor, the moment (100 ns units
-    /// since 1601) and no values. No handle is open, and the journal is empty. `Name` where the name is none that a key may
+    /// since 1601) and no values. No handle is open, no watch is pending, and the journal is empty. `Name` where the name is none that a key may
     /// have, else `Descriptor` where that is empty or above 65,535 bytes, else `Memory`. It has one bin, of the least size that
     /// holds its root's key node and security.
     pub fn new(
@@ -63,6 +65,7 @@ impl Hive {
         ensures origin { IfOk result (λ h. (view_of h).origin ≡ insert empty [] (made_root root_name.now descriptor.now moment)) }
         ensures journal { IfOk result (λ h. (view_of h).journal ≡ []) }
         ensures hive { IfOk result (λ h. IsHive (view_of h)) }
+        ensures taken { IfOk result (λ h. (s : ℕ) → taken_by (view_of h).watches s ≡ 0) }
         ensures bin { IfOk result (λ h. length (view_of h).keys.bins.bytes ≡ new_size (length root_name.now) (length descriptor.now)) }
         ensures name { IsErrOf result NewFault.Name ↔ (is_key_name root_name.now ≡ false) }
         ensures descriptor { IsErrOf result NewFault.Descriptor
@@ -75,29 +78,31 @@ impl Hive {
         if descriptor.is_empty() || descriptor.len() > DESCRIPTOR_LIMIT {
             return Err(NewFault::Descriptor);
         }
-        match Tree::new(alloc, root_name, descriptor, moment) {
-            Ok(tree) => Ok(Hive {
-                core: Core::new(alloc, tree),
-            }),
+        let Ok(tree) = Tree::new(alloc, root_name, descriptor, moment) else {
+            return Err(NewFault::Memory);
+        };
+        match Hive::from_tree(alloc, tree) {
+            Ok(hive) => Ok(hive),
             Err(_) => Err(NewFault::Memory),
         }
     }
 
-    /// A hive of a tree that was built elsewhere: its keys in their bins as they are. No handle is open, and the journal is empty.
-    /// `Memory` is its only fault; it takes no memory yet, and so always succeeds (clause `made`).
+    /// A hive of a tree that was built elsewhere: its keys in their bins as they are. No handle is open, no watch is pending, and the
+    /// journal is empty. `Memory` is its only fault.
     pub fn from_tree(alloc: Global, tree: Tree) -> Result<Hive, NewFault>
         ensures origin { IfOk result (λ h. (view_of h).origin ≡ tree.tree) }
         ensures journal { IfOk result (λ h. (view_of h).journal ≡ []) }
         ensures keys { IfOk result (λ h. (view_of h).keys ≡ tree) }
         ensures hive { IfOk result (λ h. IsHive (view_of h)) }
-        ensures made { IsOk result }
+        ensures taken { IfOk result (λ h. (s : ℕ) → taken_by (view_of h).watches s ≡ 0) }
         ensures err { IfErr result (λ fault. fault ≡ NewFault.Memory) }
     {
         // Only for its clauses: what is true of every tree's keys.
         let _ = tree.root();
-        Ok(Hive {
-            core: Core::new(alloc, tree),
-        })
+        match Core::new(alloc, tree) {
+            Ok(core) => Ok(Hive { core }),
+            Err(_) => Err(NewFault::Memory),
+        }
     }
 
     /// How many entries the journal has. They are legal: each was accepted after those before it (clause `legal`); and all else
@@ -116,6 +121,25 @@ impl Hive {
         ensures replayed { (view_of self.now).handles ≡ (replay (view_of self.now).origin (view_of self.now).journal).handles }
     {
         self.core.open_handles()
+    }
+
+    /// How many watches are pending, of all sessions. They are those that the journal leaves pending (clause `replayed`), and each
+    /// session was told just the notices that the journal tells it (clause `told`).
+    pub fn pending(&self) -> usize
+        ensures number { result ≡ length (view_of self.now).watches.pending }
+        ensures replayed { (view_of self.now).watches.pending ≡ pending (view_of self.now).origin (view_of self.now).journal }
+        ensures told { (s : ℕ) → told_to (view_of self.now).watches s ≡ fired (view_of self.now).origin (view_of self.now).journal s }
+    {
+        self.core.pending()
+    }
+
+    /// Hands a session, below 64, its next notice: the first of those that the journal tells it that wasn't handed out yet. `None`
+    /// exactly where all were. Takes no memory, and changes nothing but what is handed out next.
+    pub fn take_notice(&mut self, session: u8) -> Option<Notice>
+        requires { session < SESSIONS_LIMIT }
+        ensures { IsNoticeTaken (view_of self.old) (view_of self.new) session result }
+    {
+        self.core.take_notice(session)
     }
 
     /// The journal's entry of that number, counted from 0; `None` where there are not so many.

@@ -1,5 +1,5 @@
 //! A hive without its callbacks.
-ghost use Rattle.std.specs.Prelude.{◌≡◌, ◌<◌, ◌≤◌, [], Some, None, IsSome, length, slice_get, option_copied, ◌+◌, false, OnOk, OnErr};
+ghost use Rattle.std.specs.Prelude.{ℕ, ◌≡◌, ◌<◌, ◌≤◌, [], Some, None, IsSome, length, slice_get, option_copied, ◌+◌, false, IfOk, OnOk, OnErr};
 ghost use Rattle.reg_heap.specs.Trees.{IsTree, IsWithinLimits};
 ghost use Rattle.reg_arena.specs.Arena.{IsSound};
 ghost use Rattle.reg_model.specs.declared.limits.TheConstants.{JOURNAL_LIMIT, SESSIONS_LIMIT};
@@ -7,20 +7,21 @@ ghost use Rattle.reg_model.specs.Callbacks.{no_callbacks};
 ghost use Rattle.reg_model.specs.Replies.{refusal};
 ghost use Rattle.reg_tree.specs.TreeKeys.{IsWholeTree};
 ghost use Rattle.reg_calls.specs.Shortages.{is_closing};
-ghost use Rattle.reg_calls.specs.Views.{state, IsApplied, IsRead, IsHive};
+ghost use Rattle.reg_calls.specs.Views.{state, IsApplied, IsRead, IsHive, IsNoticeTaken};
 
-use crate::journal::Journal;
 use crate::store::Store;
 use reg_arena::Arena;
 use reg_handles::Handles;
+use reg_journal::Journal;
 use reg_model::statuses::NOT_ENOUGH_MEMORY;
-use reg_model::{Answer, Change, ChangeReply, Entry, Query};
+use reg_model::{Answer, Change, ChangeReply, Entry, Notice, Query};
+use reg_notify::Watches;
 use reg_tree::Tree;
 use std::alloc::{AllocError, Global};
 use std::marker::Model;
 use std::snapshot::Snapshot;
 
-/// What a hive is without its callbacks: the tree, the open handles and the journal.
+/// What a hive is without its callbacks: the tree, the open handles, the watches and the journal.
 #[derive(Drop)]
 pub struct Core {
     alloc: Global,
@@ -30,15 +31,16 @@ pub struct Core {
 }
 
 impl Model for Core {
-    ghost use Rattle.reg_calls.specs.Views.{View, HiveInvariant, coded_view};
+    ghost use Rattle.std.specs.Prelude.{◌≡◌};
+    ghost use Rattle.reg_calls.specs.Views.{View, HiveInvariant, coded_view, view_with};
 
     ghost Value = { View };
 
     ghost coded = { coded_view };
 
-    ghost view = { λ h. record { origin = h.origin.value.tree; journal = h.journal.entries; keys = h.store.tree; handles = h.store.handles.handles } };
+    ghost view = { λ h. view_with h.origin.value.tree h.journal.entries h.store };
 
-    ghost invariant = { λ h. HiveInvariant h.origin.value.tree h.journal.entries h.store h.journal.room };
+    ghost invariant = { λ h. (h.journal.base ≡ 0) × HiveInvariant h.origin.value.tree h.journal.entries h.store h.journal.room };
 }
 
 fn refuse(status: u32) -> ChangeReply
@@ -65,13 +67,15 @@ fn closes(change: &Change) -> bool
         | Change::DeleteValue { .. }
         | Change::DeleteKey { .. }
         | Change::DeleteTree { .. }
-        | Change::SetSecurity { .. } => false,
+        | Change::SetSecurity { .. }
+        | Change::Notify { .. } => false,
     }
 }
 
 /// Keeps room in the journal for a change's entry, and for the closing of each handle that is open then.
 fn keep_room(journal: &mut Journal, handles: usize, change: &Change) -> Result<(), AllocError>
     requires { handles ≤ JOURNAL_LIMIT }
+    ensures base { journal.new.base ≡ journal.old.base }
     ensures entries { journal.new.entries ≡ journal.old.entries }
     ensures room { journal.old.room ≤ journal.new.room }
     ensures ok { OnOk result (is_closing change.now ≡ false → handles + 2 ≤ journal.new.room) }
@@ -84,30 +88,37 @@ fn keep_room(journal: &mut Journal, handles: usize, change: &Change) -> Result<(
 }
 
 impl Core {
-    ghost use Rattle.reg_model.specs.Histories.{IsLegal, replay};
+    ghost use Rattle.reg_model.specs.Histories.{IsLegal, replay, pending, fired};
+    ghost use Rattle.reg_notify.specs.Tables.{told_to, taken_by};
 
-    /// A hive of the keys of a tree, with no handle open and an empty journal. The tree as it is now is its origin.
-    pub fn new(alloc: Global, tree: Tree) -> Core
+    /// A hive of the keys of a tree, with no handle open, no watch and an empty journal. The tree as it is now is its origin. Its one
+    /// fault is that memory was refused.
+    pub fn new(alloc: Global, tree: Tree) -> Result<Core, AllocError>
         requires tree { IsTree tree.tree }
         requires limits { IsWithinLimits tree.tree }
-        ensures origin { result.origin ≡ tree.tree }
-        ensures journal { result.journal ≡ [] }
-        ensures keys { result.keys ≡ tree }
-        ensures hive { IsHive result }
-        ensures handles { result.handles ≡ [] }
+        ensures origin { IfOk result (λ core. core.origin ≡ tree.tree) }
+        ensures journal { IfOk result (λ core. core.journal ≡ []) }
+        ensures keys { IfOk result (λ core. core.keys ≡ tree) }
+        ensures hive { IfOk result (λ core. IsHive core) }
+        ensures handles { IfOk result (λ core. core.handles ≡ []) }
+        ensures pending { IfOk result (λ core. core.watches.pending ≡ []) }
+        ensures told { IfOk result (λ core. (s : ℕ) → told_to core.watches s ≡ []) }
+        ensures taken { IfOk result (λ core. (s : ℕ) → taken_by core.watches s ≡ 0) }
     {
         // Only for its clauses: what is true of every tree's cells.
         let _ = tree.arena();
         let origin = Snapshot::of(&tree);
-        Core {
+        let watches = Watches::new(alloc)?;
+        Ok(Core {
             alloc,
             origin,
             store: Store {
                 tree,
                 handles: Handles::new(alloc),
+                watches,
             },
             journal: Journal::new(alloc),
-        }
+        })
     }
 
     /// What its memory is taken from.
@@ -130,6 +141,22 @@ impl Core {
         ensures replayed { self.now.handles ≡ (replay self.now.origin self.now.journal).handles }
     {
         self.store.handles.len()
+    }
+
+    /// How many watches are pending, of all sessions.
+    pub fn pending(&self) -> usize
+        ensures number { result ≡ length self.now.watches.pending }
+        ensures replayed { self.now.watches.pending ≡ pending self.now.origin self.now.journal }
+        ensures told { (s : ℕ) → told_to self.now.watches s ≡ fired self.now.origin self.now.journal s }
+    {
+        self.store.watches.len()
+    }
+
+    /// The session's next notice, if it was told one more than it took.
+    pub fn take_notice(&mut self, session: u8) -> Option<Notice>
+        ensures { IsNoticeTaken self.old self.new session result }
+    {
+        self.store.watches.take(session)
     }
 
     /// The journal's entry of that number, if there are so many.
@@ -157,7 +184,8 @@ impl Core {
         &self.store.tree
     }
 
-    /// Answers a change: refused by its cause, or made and noted as the journal's next entry, or given up for want of memory or space.
+    /// Answers a change: refused by its cause, or made, told to whom it ends a watch of, and noted as
+    /// the journal's next entry, or given up for want of memory or space.
     pub fn apply(&mut self, session: u8, moment: u64, change: Change) -> ChangeReply
         requires { session < SESSIONS_LIMIT }
         ensures { IsApplied no_callbacks self.old self.new session moment change result }
@@ -175,7 +203,7 @@ impl Core {
         let number = number as u64;
         match self
             .store
-            .commit(self.alloc, session, moment, number, admitted)
+            .carry_out(self.alloc, session, moment, number, admitted)
         {
             Ok(reply) => {
                 // Only for its clauses: what is true of every tree's cells.

@@ -1,8 +1,9 @@
 //! A hive, which answers calls: the registry's configuration manager over one hive's bytes.
 //!
 //! Its one contract: a change is refused exactly by the rules and then changes nothing, or is told what is due and is one entry of
-//! the journal more; tree and handles are the journal's replay, and the bytes spell that tree. It stands on reg_tree, reg_handles
-//! and reg_model. Its type is [`Hive`]; its faults are [`NewFault`] and [`RunFault`].
+//! the journal more; tree, handles and pending watches are the journal's replay, the bytes spell that tree, and each session is handed
+//! just the notices that the journal tells it. It stands on reg_tree, reg_handles, reg_notify, reg_journal and reg_model. Its type is
+//! [`Hive`]; its faults are [`NewFault`] and [`RunFault`].
 //!
 //! | Call | Right | Refused | Effect or answer | File |
 //! |---|---|---|---|---|
@@ -14,6 +15,7 @@
 //! | `DeleteKey` | none | 6; 1018; 87 path; 1450 journal; 2 no key; 5 subkeys, mark 8 | the key gone, its handles dead, its parent's time | `delete_key.rt` |
 //! | `DeleteTree` | 0x10009, 0x1000B | 6; 1018; 87 path; 5; 1450 journal; 2 no key; 5 mark 8 | the same, with all keys below the key | `delete_tree.rt` |
 //! | `SetSecurity` | 0x40000 | 6; 1018; 87 descriptor; 5; 1450 journal, space | the descriptor, and the key's time | `set_security.rt` |
+//! | `Notify` | 0x10 | 6; 1018; 87 filter; 5; 1450 4,096 pending, journal | a watch of the key | `notify.rt` |
 //! | `Close` | none | 6 | the handle gone | `close.rt` |
 //! | `QueryValue` | 1 | 6; 1018; 87 name; 5; 2 no such value; 234 | type, size and bytes | `query_value.rt` |
 //! | `EnumKey` | 8 | 6; 1018; 5; 259; 234 | a subkey's name and time | `enum_key.rt` |
@@ -21,8 +23,10 @@
 //! | `QueryInfo` | 1 | 6; 1018; 5 | the key's numbers, largest lengths and time | `query_info.rt` |
 //! | `GetSecurity` | 0x20000 | 6; 1018; 5; 122 | the descriptor | `get_security.rt` |
 //!
-//! A change's file has its `admit`, which answers the refusal or what it found, and its `commit`, which takes just that and searches
-//! the tree no more; a question's has its `answer`. 234, of a descriptor 122, tells that the room is short, with the size.
+//! A change's file has its `admit`, which answers the refusal or what it found; its `announce`, where it may end watches, which says by
+//! that what it does to them; and its `commit`, which takes just what was found and searches the tree no more. All watches are ended at
+//! one place, in `announced.rt`, by what was announced. A question's file has its `answer`. 234, of a descriptor 122, tells that the room
+//! is short, with the size.
 //!
 //! DeleteTree by the empty path asks 0x1000B and never answers 2: the handle's key stays, but loses all keys below it and its values;
 //! its time is set where it had any of them.
@@ -31,6 +35,7 @@
 //! reference, of each call the function that its variant in reg_model names.
 #![tactic(auto)]
 
+mod announced;
 mod changes;
 mod close;
 mod create_key;
@@ -39,11 +44,12 @@ mod delete_tree;
 mod delete_value;
 mod enum_key;
 mod enum_value;
+mod fronts;
 mod get_security;
 mod hive;
 mod hive_core;
-mod journal;
 mod lack;
+mod notify;
 mod open_key;
 mod open_root;
 mod queries;

@@ -5,20 +5,25 @@ ghost use Rattle.std.specs.Prelude.{ℕ, ◌≡◌, Some, IfErr, IfOk};
 ghost use Rattle.reg_model.specs.Causes.{change_cause};
 ghost use Rattle.reg_calls.specs.Internal.Stores.{at, IsReady, IsMade};
 ghost use Rattle.reg_calls.specs.Internal.Admissions.{AdmitsSetSecurity};
+ghost use Rattle.reg_calls.specs.Internal.Announcements.{IsAnnounced};
 
+use crate::announced::Announced;
 use crate::lack::Lack;
 use crate::replies::accepted;
 use crate::store::{Store, is_bad_descriptor};
 use reg_model::ChangeReply;
+use reg_model::filters::SECURITY;
 use reg_model::rights::WRITE_DAC;
 use reg_model::statuses::{ACCESS_DENIED, INVALID_PARAMETER, NO_SYSTEM_RESOURCES};
 use reg_tree::Node;
-use std::alloc::Global;
+use std::alloc::{AllocError, Global};
 
 /// What a SetSecurity was admitted with.
 #[derive(Clone, Copy)]
 pub struct SetSecurity<'a> {
-    /// The key.
+    /// The handle.
+    pub handle: u64,
+    /// Its key.
     pub node: Node,
     /// The security descriptor.
     pub descriptor: &'a [u8],
@@ -56,9 +61,24 @@ impl<'a> SetSecurity<'a> {
         }
         // Callbacks will be asked here: the path is that of the handle's key.
         Ok(SetSecurity {
+            handle,
             node: key.node,
             descriptor,
         })
+    }
+
+    /// What it does to the watches: an event of the key. Its one fault is that memory was refused.
+    pub fn announce(
+        &self,
+        store: &Store,
+        alloc: Global,
+        session: u8,
+    ) -> Result<Announced, AllocError>
+        requires { (entries handle : ℕ) × AdmitsSetSecurity entries store.now session handle self.now }
+        ensures { (entries handle : ℕ) → AdmitsSetSecurity entries store.now session handle self.now →
+            IfOk result (λ announced. IsAnnounced entries store.now session (SecuritySet handle self.now.descriptor.now) announced) }
+    {
+        store.event_of(alloc, session, self.handle, SECURITY)
     }
 
     /// Sets the descriptor, and the key's time. `Err` says what was lacking, memory or space in the bins; then keys and handles are as

@@ -9,22 +9,27 @@ ghost use Rattle.reg_model.specs.Causes.{change_cause, no_value_room, is_bad_val
 ghost use Rattle.reg_tree.specs.TreeKeys.{IsAt, IsThere};
 ghost use Rattle.reg_calls.specs.Internal.Stores.{at, IsReady, IsMade};
 ghost use Rattle.reg_calls.specs.Internal.Admissions.{AdmitsSetValue};
+ghost use Rattle.reg_calls.specs.Internal.Announcements.{IsAnnounced};
 
+use crate::announced::Announced;
 use crate::lack::Lack;
 use crate::replies::accepted;
 use crate::store::Store;
 use reg_heap::limits::{DATA_LIMIT, VALUES_LIMIT};
 use reg_model::ChangeReply;
+use reg_model::filters::LAST_SET;
 use reg_model::rights::SET_VALUE;
 use reg_model::statuses::{ACCESS_DENIED, INVALID_PARAMETER, NO_SYSTEM_RESOURCES};
 use reg_names::check_value_name;
 use reg_tree::{Node, Tree};
-use std::alloc::Global;
+use std::alloc::{AllocError, Global};
 
 /// What a SetValue was admitted with.
 #[derive(Clone, Copy)]
 pub struct SetValue<'a> {
-    /// The key.
+    /// The handle.
+    pub handle: u64,
+    /// Its key.
     pub node: Node,
     /// Where it has a value of the name; `None` where it has none.
     pub place: Option<u32>,
@@ -89,12 +94,27 @@ impl<'a> SetValue<'a> {
         }
         // Callbacks will be asked here: the path is that of the handle's key.
         Ok(SetValue {
+            handle,
             node: key.node,
             place,
             name,
             kind,
             bytes,
         })
+    }
+
+    /// What it does to the watches: an event of the key. Its one fault is that memory was refused.
+    pub fn announce(
+        &self,
+        store: &Store,
+        alloc: Global,
+        session: u8,
+    ) -> Result<Announced, AllocError>
+        requires { (entries handle : ℕ) × AdmitsSetValue entries store.now session handle self.now }
+        ensures { (entries handle : ℕ) → AdmitsSetValue entries store.now session handle self.now →
+            IfOk result (λ announced. IsAnnounced entries store.now session (ValueSet handle self.now.name.now self.now.kind self.now.bytes.now) announced) }
+    {
+        store.event_of(alloc, session, self.handle, LAST_SET)
     }
 
     /// Sets the value. `Err` says what was lacking, memory or space in the bins; then keys and handles are as they were.

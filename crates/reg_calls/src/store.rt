@@ -1,4 +1,4 @@
-//! The keys of a hive and the open handles on them: what every call looks up, and the counts that several ask.
+//! The keys of a hive, the open handles on them and the watches: what every call looks up, and the counts that several ask.
 ghost use Rattle.std.specs.Prelude.{◌≡◌, ◌<◌, ◌≤◌, ◌+◌, ◌++◌, ◌||◌, ℕ, List, Option, true, false, length, map, IfOk, IfErr, OnOk, Some};
 ghost use Rattle.reg_names.specs.declared.TheConstants.{PATH_LIMIT};
 ghost use Rattle.reg_names.specs.Names.{is_path, path_of, folded};
@@ -15,14 +15,16 @@ use reg_model::limits::{HANDLES_LIMIT, JOURNAL_LIMIT};
 use reg_model::rights::NO_RIGHTS;
 use reg_model::statuses::{INVALID_HANDLE, INVALID_PARAMETER, KEY_DELETED, NO_SYSTEM_RESOURCES};
 use reg_names::{check_path, join_paths};
+use reg_notify::Watches;
 use reg_tree::{Node, Tree};
 use std::alloc::{AllocError, Global};
 
-/// The keys of a hive and the open handles on them. For each path that handles lead to the table keeps the node of its key.
+/// The keys of a hive, the open handles on them and the watches. For each path that handles lead to the table keeps the node of its key.
 #[derive(Drop)]
 pub struct Store {
     pub tree: Tree,
     pub handles: Handles<Node>,
+    pub watches: Watches,
 }
 
 /// An open handle that leads to a key.

@@ -1,16 +1,18 @@
 -- What an accepted change met: a handle that leads to a key, and no cause of a refusal.
-use Rattle.std.proofs.Common.{◌≡◌, ℕ, Bool, true, false, not, ◌||◌, ◌==◌, List, length, Option, Some, None, refl, sym, ◌∙◌, subst, cond, is_some}
+use Rattle.std.proofs.Common.{◌≡◌, ℕ, Bool, true, false, not, nat_le, ◌||◌, ◌==◌, List, length, Option, Some, None, refl, sym, ◌∙◌, subst, cond, is_some}
 use Rattle.std.specs.FinMap.{get}
 use Rattle.reg_heap.specs.Paths.{Path}
 use Rattle.reg_heap.specs.Edits.{values_at, may_not_go, any_kept_within, any_kept_under}
 use Rattle.reg_names.specs.Names.{is_value_name, is_path}
-use Rattle.reg_model.specs.declared.rights.TheConstants.{SET_VALUE, DELETE_TREE, DELETE_CONTENTS, WRITE_DAC}
+use Rattle.reg_model.specs.declared.rights.TheConstants.{SET_VALUE, DELETE_TREE, DELETE_CONTENTS, WRITE_DAC, NOTIFY}
 use Rattle.reg_model.specs.declared.statuses.TheConstants.{ACCESS_DENIED, FILE_NOT_FOUND, INVALID_HANDLE, INVALID_PARAMETER, NO_SYSTEM_RESOURCES}
 use Rattle.reg_model.specs.Worlds.{Handle, Destination, At, Deleted, look, path_at, path_from}
 use Rattle.reg_model.specs.Causes.{State, change_cause, early_cause, late_cause, asked_before, refuse, by_handle, has, is_mask, is_full, is_bad_open, is_bad_target, is_bad_value}
+use Rattle.reg_model.specs.declared.limits.TheConstants.{WATCHES_LIMIT}
+use Rattle.reg_model.specs.Causes.{is_filter, watches_of, no_watch_room}
 use Rattle.reg_model.specs.Causes.{no_handle_room, no_key_room, no_value_room, is_bad_descriptor, is_bad_given, lacks_value, lacks_key, tree_rights, tree_cause, ◌or◌}
 use Rattle.reg_model.specs.declared.call.Change.{Change}
-use Rattle.reg_model.specs.declared.call.Change.TheVariants.{OpenRoot, OpenKey, CreateKey, SetValue, DeleteValue, DeleteKey, DeleteTree, SetSecurity, Close}
+use Rattle.reg_model.specs.declared.call.Change.TheVariants.{OpenRoot, OpenKey, CreateKey, SetValue, DeleteValue, DeleteKey, DeleteTree, SetSecurity, Notify, Close}
 
 pub not_refused : (b : Bool) (n : ℕ) → refuse b n ≡ None → b ≡ false
 not_refused true n e = absurd (cc)
@@ -248,6 +250,29 @@ secure-met s session h descriptor c e =
       good = not_refused _ INVALID_PARAMETER early.first;
       right = not_false _ (not_refused _ ACCESS_DENIED early.second);
       room = not_refused _ NO_SYSTEM_RESOURCES early.third;
+    }
+
+pub record NotifyMet (s : State) (session h filter : ℕ) : Type 0 where
+  pub target : Target (look session h s.world.handles)
+  pub good : is_filter filter ≡ true
+  pub right : has NOTIFY target.handle.mask ≡ true
+  pub few : nat_le WATCHES_LIMIT (watches_of session s.pending) ≡ false
+  pub room : is_full 1 s ≡ false
+
+pub notify-met : (s : State) (session h filter : ℕ) (subtree : Bool) (c : ℕ) → change_cause s session (Notify h filter subtree) c ≡ None → NotifyMet s session h filter
+unfolding early_cause late_cause
+notify-met s session h filter subtree c e =
+    let none = causes s session (Notify h filter subtree) c e in
+    let m = meets (λ r. refuse (not (is_filter filter)) INVALID_PARAMETER or refuse (not (has NOTIFY r.mask)) ACCESS_DENIED or refuse
+    (no_watch_room session s) NO_SYSTEM_RESOURCES) (look session h s.world.handles) none.first in
+    let early = all_none _ _ _ m.none in
+    let counts = both_false _ _ (not_refused _ NO_SYSTEM_RESOURCES early.third) in
+    record {
+      target = m.target;
+      good = not_false _ (not_refused _ INVALID_PARAMETER early.first);
+      right = not_false _ (not_refused _ ACCESS_DENIED early.second);
+      few = counts.0;
+      room = counts.1;
     }
 
 pub close-met : (s : State) (session h c : ℕ) → change_cause s session (Close h) c ≡ None → is_some (look session h s.world.handles) ≡ true

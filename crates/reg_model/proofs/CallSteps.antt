@@ -8,10 +8,10 @@ use Rattle.reg_model.specs.Replies.{reply_to}
 use Rattle.reg_model.specs.Calls.{entry_due, reply_given, state_after, or_refusal, or_same}
 use Rattle.reg_model.specs.Histories.{state_of, IsFit}
 use Rattle.reg_model.specs.declared.call.Change.{Change}
-use Rattle.reg_model.specs.declared.call.Change.TheVariants.{OpenRoot, OpenKey, CreateKey, SetValue, DeleteValue, DeleteKey, DeleteTree, SetSecurity, Close}
+use Rattle.reg_model.specs.declared.call.Change.TheVariants.{OpenRoot, OpenKey, CreateKey, SetValue, DeleteValue, DeleteKey, DeleteTree, SetSecurity, Notify, Close}
 use Rattle.reg_model.specs.declared.reply.ChangeReply.{ChangeReply}
 use Rattle.reg_model.specs.declared.reply.Entry.{Entry}
-use Rattle.reg_model.proofs.JournalGrowth.{replay-push}
+use Rattle.reg_model.proofs.JournalGrowth.{replay-push, pending-push}
 
 reply-zero : (s : State) (session : ℕ) (change : Change) → (reply_to s session change).status ≡ 0
 unfolding reply_to
@@ -23,6 +23,7 @@ reply-zero s session (CreateKey h path mask given) = refl
 reply-zero s session (DeleteKey h path) = refl
 reply-zero s session (DeleteTree h path) = refl
 reply-zero s session (SetSecurity h descriptor) = refl
+reply-zero s session (Notify h filter subtree) = refl
 reply-zero s session (Close h) = refl
 
 by_cause : (o : Option ℕ) (due : ChangeReply) (next s : State) → due.status ≡ 0 → (or_refusal o due).status ≢ 0 → or_same o next s ≡ s
@@ -89,6 +90,7 @@ zero-early s session (CreateKey h path mask given) = search (zero-handle, zero-o
 zero-early s session (DeleteKey h path) = search (zero-handle, zero-or, zero-87, zero-1450)
 zero-early s session (DeleteTree h path) = search (zero-handle, zero-or, zero-87, zero-5, zero-1450)
 zero-early s session (SetSecurity h descriptor) = search (zero-handle, zero-or, zero-87, zero-5, zero-1450)
+zero-early s session (Notify h filter subtree) = search (zero-handle, zero-or, zero-87, zero-5, zero-1450)
 zero-early s session (Close h) = zero-refuse _ 6 (λ e. omega (arith, e))
 
 zero-late : (s : State) (session : ℕ) (change : Change) → NotZero (late_cause s session change)
@@ -101,6 +103,7 @@ zero-late s session (CreateKey h path mask given) = no_status
 zero-late s session (DeleteKey h path) = zero-or _ _ (zero-refuse _ 2 (λ e. omega (arith, e))) (zero-5 _)
 zero-late s session (DeleteTree h path) = zero-either (length path == 0) _ _ (zero-5 _) (zero-or _ _ (zero-refuse _ 2 (λ e. omega (arith, e))) (zero-5 _))
 zero-late s session (SetSecurity h descriptor) = no_status
+zero-late s session (Notify h filter subtree) = no_status
 zero-late s session (Close h) = no_status
 
 zero-before : (change : Change) (c : ℕ) → NotZero (asked_before change c)
@@ -112,6 +115,7 @@ zero-before (DeleteValue h name) c = zero-asked c
 zero-before (DeleteKey h path) c = zero-asked c
 zero-before (DeleteTree h path) c = zero-asked c
 zero-before (SetSecurity h descriptor) c = zero-asked c
+zero-before (Notify h filter subtree) c = zero-asked c
 zero-before (Close h) c = no_status
 
 zero-cause : (s : State) (session : ℕ) (change : Change) (c : ℕ) → NotZero (change_cause s session change c)
@@ -144,6 +148,7 @@ before-none (DeleteValue h name) c e = refl
 before-none (DeleteKey h path) c e = refl
 before-none (DeleteTree h path) c e = refl
 before-none (SetSecurity h descriptor) c e = refl
+before-none (Notify h filter subtree) c e = refl
 before-none (Close h) c e = refl
 
 no_cause : (o : Option ℕ) (due : ChangeReply) → NotZero o → (or_refusal o due).status ≡ 0 → o ≡ None
@@ -175,5 +180,5 @@ grows origin past session moment change c e =
     record {
       fit = record { number = refl; accepted = a.1; reply = refl };
       reply = rw a.0 refl;
-      after = rw (a.0, replay-push origin past entry, length-append past (entry ∷ [])) refl;
+      after = rw (a.0, replay-push origin past entry, pending-push origin past entry, length-append past (entry ∷ [])) refl;
     }

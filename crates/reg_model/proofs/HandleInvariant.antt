@@ -18,7 +18,7 @@ use Rattle.reg_model.specs.Worlds.{World, Handle, Destination, At, Deleted, Stan
 use Rattle.reg_model.specs.Worlds.{turned, destination_past, turned_past, without_branch, without_contents}
 use Rattle.reg_model.specs.Causes.{State, is_bad_target}
 use Rattle.reg_model.specs.declared.call.Change.{Change}
-use Rattle.reg_model.specs.declared.call.Change.TheVariants.{OpenRoot, OpenKey, CreateKey, SetValue, DeleteValue, DeleteKey, DeleteTree, SetSecurity, Close}
+use Rattle.reg_model.specs.declared.call.Change.TheVariants.{OpenRoot, OpenKey, CreateKey, SetValue, DeleteValue, DeleteKey, DeleteTree, SetSecurity, Notify, Close}
 use Rattle.reg_model.specs.declared.reply.Entry.{Entry}
 use Rattle.reg_model.specs.Causes.{change_cause}
 use Rattle.reg_model.proofs.AcceptedCalls.{Target, target-path, both_false, OpenMet, open-met, CreateMet, create-met, DeleteMet, delete-met}
@@ -57,7 +57,7 @@ has-with_keys t p (name ∷ names) given moment q h =
     has-with_keys (cond (has_child t p name) t (with_key t p name (if_last names given) moment)) (child_path p name) names given moment q
     (has-step (has_child t p name) t p name (if_last names given) moment q h)
 
-same-self : (p : Path) → eq_by_cmp path_cmp p p ≡ true
+pub same-self : (p : Path) → eq_by_cmp path_cmp p p ≡ true
 same-self p = let o = eq_by_cmp_equiv path_total in o.refl p
 
 pub has-put : (t : Tree) (p : Path) (r : Rec) → Has (insert t p r) p
@@ -137,7 +137,7 @@ numbered-stands : (b : Bool) (t : Tree) (number : ℕ) (h : Handle) (hs : List H
 numbered-stands true t number h hs found one rest e = subst (λ (o : Option Handle). StandsIn t (elim o as (λ _. Destination) [ None ↦ Deleted | Some x ↦ x.destination ])) e one
 numbered-stands false t number h hs found one rest e = rest e
 
-stands-numbered : (t : Tree) (number : ℕ) (hs : List Handle) (found : Handle) → Stands t hs → numbered number hs ≡ Some found → StandsIn t found.destination
+pub stands-numbered : (t : Tree) (number : ℕ) (hs : List Handle) (found : Handle) → Stands t hs → numbered number hs ≡ Some found → StandsIn t found.destination
 stands-numbered t number [] found s e = absurd (cc)
 stands-numbered t number (h ∷ hs) found s e =
     numbered-stands (eqb h.number number) t number h hs found s.0 (stands-numbered t number hs found s.1) e
@@ -283,5 +283,6 @@ module _ (s : State) (e : Entry) (r : Upright s.world.tree s.world.handles) wher
         | DeleteKey h path ↦ λ none. standing-delete h path (delete-met s e.session h path c none)
         | DeleteTree h path ↦ λ none. standing-tree h path (length path == 0) refl
         | SetSecurity h descriptor ↦ λ none. standing-edit (path_at e.session h hs) _
+        | Notify h filter subtree ↦ λ none. r
         | Close h ↦ λ none. record { root = r.root; stand = stands-closed tree h hs r.stand }
       ]

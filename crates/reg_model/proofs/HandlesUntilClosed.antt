@@ -11,7 +11,7 @@ use Rattle.reg_model.specs.Worlds.{World, Handle, Destination, Deleted, after, o
 use Rattle.reg_model.specs.Causes.{State, change_cause}
 use Rattle.reg_model.specs.Histories.{replay, state_of, IsLegalAfter, IsLegal}
 use Rattle.reg_model.specs.declared.call.Change.{Change}
-use Rattle.reg_model.specs.declared.call.Change.TheVariants.{OpenRoot, OpenKey, CreateKey, SetValue, DeleteValue, DeleteKey, DeleteTree, SetSecurity, Close}
+use Rattle.reg_model.specs.declared.call.Change.TheVariants.{OpenRoot, OpenKey, CreateKey, SetValue, DeleteValue, DeleteKey, DeleteTree, SetSecurity, Notify, Close}
 use Rattle.reg_model.specs.declared.reply.Entry.{Entry}
 use Rattle.reg_model.proofs.JournalGrowth.{replay-push}
 use Rattle.reg_model.proofs.HandleInvariant.{in-either}
@@ -20,7 +20,7 @@ use Rattle.reg_model.proofs.AcceptedCalls.{close-met}
 
 -- ---- what a number finds among handles that changed
 
-numbered-more : (n : ℕ) (new : Handle) (hs : List Handle) → eqb new.number n ≡ false → numbered n (hs ++ new ∷ []) ≡ numbered n hs
+pub numbered-more : (n : ℕ) (new : Handle) (hs : List Handle) → eqb new.number n ≡ false → numbered n (hs ++ new ∷ []) ≡ numbered n hs
 numbered-more n new [] e = rw e refl
 numbered-more n new (x ∷ hs) e = ap (λ (o : Option Handle). cond (eqb x.number n) (Some x) o) (numbered-more n new hs e)
 
@@ -32,7 +32,7 @@ closed-one false n x hs rest other same = ap (λ (o : Option Handle). cond (eqb 
 other-number : (x n number : ℕ) → eqb n number ≡ false → eqb x number ≡ true → eqb x n ≡ false
 other-number x n number ne e = ne_eqb x n (λ same. eqb-false n number ne (sym same ∙ eqb-true x number e))
 
-numbered-others : (n number : ℕ) (hs : List Handle) → eqb n number ≡ false → numbered n (closed number hs) ≡ numbered n hs
+pub numbered-others : (n number : ℕ) (hs : List Handle) → eqb n number ≡ false → numbered n (closed number hs) ≡ numbered n hs
 numbered-others n number [] ne = refl
 numbered-others n number (x ∷ hs) ne =
     closed-one (eqb x.number number) n x hs (closed number hs) (other-number x.number n number ne) (numbered-others n number hs ne)
@@ -45,7 +45,7 @@ numbered-closed : (n : ℕ) (hs : List Handle) → numbered n (closed n hs) ≡ 
 numbered-closed n [] = refl
 numbered-closed n (x ∷ hs) = none-one (eqb x.number n) n x (closed n hs) refl (numbered-closed n hs)
 
-abbrev turned_one : (Path → Bool) → Handle → Handle
+abbrev pub turned_one : (Path → Bool) → Handle → Handle
 turned_one gone h = record h { destination = destination_past gone h.destination }
 
 turn-cond : (b : Bool) (gone : Path → Bool) (x : Handle) (o o' : Option Handle) → o' ≡ option_map (turned_one gone) o →
@@ -53,7 +53,7 @@ turn-cond : (b : Bool) (gone : Path → Bool) (x : Handle) (o o' : Option Handle
 turn-cond true gone x o o' e = refl
 turn-cond false gone x o o' e = e
 
-numbered-turned : (n : ℕ) (gone : Path → Bool) (hs : List Handle) → numbered n (turned_past gone hs) ≡ option_map (turned_one gone) (numbered n hs)
+pub numbered-turned : (n : ℕ) (gone : Path → Bool) (hs : List Handle) → numbered n (turned_past gone hs) ≡ option_map (turned_one gone) (numbered n hs)
 numbered-turned n gone [] = refl
 numbered-turned n gone (x ∷ hs) = turn-cond (eqb x.number n) gone x (numbered n hs) (numbered n (turned_past gone hs)) (numbered-turned n gone hs)
 
@@ -86,7 +86,7 @@ open-turned n h gone hs o = record {
   gone = λ d. ap (turned_one gone) (o.gone d) ∙ stays-deleted gone h d;
 }
 
-owner-is : (session : ℕ) (x : Handle) (b : Bool) → eqb x.session session ≡ b → is_some (cond b (Some x) None) ≡ true → x.session ≡ session
+pub owner-is : (session : ℕ) (x : Handle) (b : Bool) → eqb x.session session ≡ b → is_some (cond b (Some x) None) ≡ true → x.session ≡ session
 owner-is session x true e s = eqb-true x.session session e
 owner-is session x false e s = absurd (false≢true s)
 
@@ -124,6 +124,7 @@ open-after s e n h l o = elim e.change as (λ (change : Change). change_cause s 
       | DeleteTree k path ↦ λ none other. in-either (λ (v : World). IsOpen n h v.handles) (length path == 0) _ _
           (open-turned n h (is_under (path_at e.session k s.world.handles)) s.world.handles o) (open-turned n h (is_within (path_from e.session k s.world.handles path)) s.world.handles o)
       | SetSecurity k descriptor ↦ λ none other. o
+      | Notify k filter subtree ↦ λ none other. o
       | Close k ↦ λ none other. open-closed n h e.session k s.world.handles o (close-met s e.session k 0 none) other
     ]
 
@@ -162,6 +163,7 @@ none-after w e n l none = elim e.change as (λ (change : Change). numbered n (af
   | DeleteTree k path ↦ in-either (λ (v : World). numbered n v.handles ≡ None) (length path == 0) _ _
       (turned_none (is_under (path_at e.session k w.handles))) (turned_none (is_within (path_from e.session k w.handles path)))
   | SetSecurity k descriptor ↦ none
+  | Notify k filter subtree ↦ none
   | Close k ↦ by k (eqb n k) refl
 ]
   where
@@ -192,15 +194,15 @@ below-found : (b : Bool) (n m : ℕ) (x h : Handle) (o : Option Handle) → eqb 
 below-found true n m x h o e l rest is = let same = eqb-true x.number n e in omega (arith, same, l)
 below-found false n m x h o e l rest is = rest is
 
-numbered-below : (n m : ℕ) (hs : List Handle) (h : Handle) → AllByRecursion (λ (x : Handle). x.number < m) hs → numbered n hs ≡ Some h → n < m
+pub numbered-below : (n m : ℕ) (hs : List Handle) (h : Handle) → AllByRecursion (λ (x : Handle). x.number < m) hs → numbered n hs ≡ Some h → n < m
 numbered-below n m [] h b e = absurd (cc)
 numbered-below n m (x ∷ hs) h b e = below-found (eqb x.number n) n m x h (numbered n hs) refl b.0 (numbered-below n m hs h b.1) e
 
-record Found (session n : ℕ) (hs : List Handle) (h : Handle) : Type 0 where
-  number : numbered n hs ≡ Some h
-  owner : owned session (Some h) ≡ Some h
+pub record Found (session n : ℕ) (hs : List Handle) (h : Handle) : Type 0 where
+  pub number : numbered n hs ≡ Some h
+  pub owner : owned session (Some h) ≡ Some h
 
-found : (session n : ℕ) (hs : List Handle) (h : Handle) → look session n hs ≡ Some h → Found session n hs h
+pub found : (session n : ℕ) (hs : List Handle) (h : Handle) → look session n hs ≡ Some h → Found session n hs h
 found session n hs h e = by (numbered n hs) refl e
   where
     own : (x : Handle) (b : Bool) → eqb x.session session ≡ b → cond b (Some x) None ≡ Some h → (Some x ≡ Some h) × (owned session (Some x) ≡ Some x)

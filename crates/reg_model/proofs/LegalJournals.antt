@@ -16,7 +16,7 @@ use Rattle.reg_model.specs.Causes.{Opening, rule_of, path_asked}
 use Rattle.reg_model.specs.Replies.{reply_to}
 use Rattle.reg_model.specs.Histories.{replay, state_of, IsFit, IsLegalAfter, IsLegal}
 use Rattle.reg_model.specs.declared.call.Change.{Change}
-use Rattle.reg_model.specs.declared.call.Change.TheVariants.{OpenRoot, OpenKey, CreateKey, SetValue, DeleteValue, DeleteKey, DeleteTree, SetSecurity, Close}
+use Rattle.reg_model.specs.declared.call.Change.TheVariants.{OpenRoot, OpenKey, CreateKey, SetValue, DeleteValue, DeleteKey, DeleteTree, SetSecurity, Notify, Close}
 use Rattle.reg_model.specs.declared.reply.Entry.{Entry}
 use Rattle.reg_model.proofs.JournalGrowth.{replay-push}
 use Rattle.reg_model.proofs.HandleInvariant.{Has, Stands, Upright, standing-after, in-either}
@@ -64,7 +64,7 @@ below-push : (n : ℕ) (hs : List Handle) (h : Handle) → h.number ≡ n → Al
 below-push n [] h e b = (omega arith, tt)
 below-push n (x ∷ hs) h e b = (omega (arith, b.0), below-push n hs h e b.1)
 
-less_than : (a b : ℕ) → a < b → nat_cmp a b ≡ Lesser
+pub less_than : (a b : ℕ) → a < b → nat_cmp a b ≡ Lesser
 less_than a b l = grind (arith, nat_tests)
 
 all-push : (a n : ℕ) (hs : List Handle) (h : Handle) → h.number ≡ n → a < n →
@@ -144,6 +144,7 @@ rising-after w n e number r = elim e.change as (λ (change : Change). AreRising 
   | DeleteTree h path ↦ in-either (λ (v : World). AreRising (n + 1) v.handles) (length path == 0) _ _
       (rising-turned n (is_under (path_at e.session h w.handles)) w.handles r) (rising-turned n (is_within (path_from e.session h w.handles path)) w.handles r)
   | SetSecurity h descriptor ↦ record { below = rising-weaker n w.handles r.below; rising = r.rising }
+  | Notify h filter subtree ↦ record { below = rising-weaker n w.handles r.below; rising = r.rising }
   | Close h ↦ record { below = rising-weaker n (closed h w.handles) (below-closed n h w.handles r.below); rising = rising-closed h w.handles r.rising }
 ]
 
@@ -192,6 +193,7 @@ opened-after w e o r = elim e.change as (Opens w e o) [
   | DeleteKey h path ↦ λ none. absurd (cc)
   | DeleteTree h path ↦ λ none. absurd (cc)
   | SetSecurity h descriptor ↦ λ none. absurd (cc)
+  | Notify h filter subtree ↦ λ none. absurd (cc)
   | Close h ↦ λ none. absurd (cc)
 ]
 
@@ -210,7 +212,7 @@ handle-told origin past e o f is = rw (f.reply, is, f.number) refl
 
 -- ---- the root, and the keys that handles lead to
 
-standing-all : (origin : Tree) (es : List Entry) → IsLegal origin es → Has origin [] → Upright (replay origin es).tree (replay origin es).handles
+pub standing-all : (origin : Tree) (es : List Entry) → IsLegal origin es → Has origin [] → Upright (replay origin es).tree (replay origin es).handles
 standing-all origin es l h =
     by_entries origin (λ past. Upright (replay origin past).tree (replay origin past).handles)
     (λ past e f r. subst (λ (w : World). Upright w.tree w.handles) (sym (replay-push origin past e)) (standing-after (state_of origin past) e r 0 f.accepted)) [] es (record { root = h; stand = tt }) l

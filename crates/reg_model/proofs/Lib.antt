@@ -14,3 +14,6 @@ mod RowsOfConstants
 pub mod TreesOfChanges
 pub mod TreesOfJournals
 pub mod HandlesUntilClosed
+pub mod FewEvents
+pub mod PendingWatches
+pub mod RowsNotify

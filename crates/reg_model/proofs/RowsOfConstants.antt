@@ -1,7 +1,8 @@
 -- Limits, statuses and rights as the rules give them, in digits: who changes a constant changes the rules.
 use Rattle.std.proofs.Common.{◌≡◌, refl}
-use Rattle.reg_model.specs.declared.limits.TheConstants.{SESSIONS_LIMIT, HANDLES_LIMIT, JOURNAL_LIMIT}
-use Rattle.reg_model.specs.declared.rights.TheConstants.{NO_RIGHTS, QUERY_VALUE, SET_VALUE, ENUMERATE_SUB_KEYS, DELETE_TREE, DELETE_CONTENTS, READ_CONTROL, WRITE_DAC}
+use Rattle.reg_model.specs.declared.limits.TheConstants.{SESSIONS_LIMIT, HANDLES_LIMIT, WATCHES_LIMIT, JOURNAL_LIMIT}
+use Rattle.reg_model.specs.declared.rights.TheConstants.{NO_RIGHTS, QUERY_VALUE, SET_VALUE, ENUMERATE_SUB_KEYS, DELETE_TREE, DELETE_CONTENTS, READ_CONTROL, WRITE_DAC, NOTIFY}
+use Rattle.reg_model.specs.declared.filters.TheConstants.{NAME, LAST_SET, SECURITY, EVENTS, NO_FILTER}
 use Rattle.reg_model.specs.declared.statuses.TheConstants.{FILE_NOT_FOUND, ACCESS_DENIED, INVALID_HANDLE, NOT_ENOUGH_MEMORY, INVALID_PARAMETER, INSUFFICIENT_BUFFER}
 use Rattle.reg_model.specs.declared.statuses.TheConstants.{MORE_DATA, NO_MORE_ITEMS, KEY_DELETED, NO_SYSTEM_RESOURCES}
 
@@ -67,3 +68,24 @@ key_deleted_is = refl
 
 no_system_resources_is : NO_SYSTEM_RESOURCES ≡ 1450
 no_system_resources_is = refl
+
+watches_limit_is : WATCHES_LIMIT ≡ 4096
+watches_limit_is = refl
+
+notify_is : NOTIFY ≡ 16
+notify_is = refl
+
+name_is : NAME ≡ 1
+name_is = refl
+
+last_set_is : LAST_SET ≡ 4
+last_set_is = refl
+
+security_is : SECURITY ≡ 10
+security_is = refl
+
+events_is : EVENTS ≡ 15
+events_is = refl
+
+no_filter_is : NO_FILTER ≡ 4026531824
+no_filter_is = refl

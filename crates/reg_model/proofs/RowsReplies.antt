@@ -5,6 +5,7 @@ use Rattle.std.specs.Cmp.Lexicographic.{lists_total, nat_list_cmp_total}
 use Rattle.std.specs.FinMap.{get, insert, empty, get-insert}
 use Rattle.reg_heap.specs.Paths.{Tree, Rec, path_cmp}
 use Rattle.reg_model.specs.Worlds.{At, after}
+use Rattle.reg_model.specs.Watches.{watch_of}
 use Rattle.reg_model.specs.Causes.{early_cause, late_cause, change_cause, early_query_cause, late_query_cause, query_cause}
 use Rattle.reg_model.specs.Replies.{reply_to, body_of}
 use Rattle.reg_model.specs.Calls.{reply_given, state_after}
@@ -111,11 +112,11 @@ unfolding reply_given early_cause late_cause reply_to
 opened_told = refl
 
 opened_after : state_after (state_of origin []) 0 0 (OpenRoot 983103) 0 ≡ state_of origin (opening_entry ∷ [])
-unfolding state_after early_cause late_cause reply_to
+unfolding state_after early_cause late_cause reply_to watch_of
 opened_after = refl
 
 set_after : state_after (state_of origin (opening_entry ∷ [])) 0 7 (SetValue 0 [] 4 (1 ∷ 0 ∷ 0 ∷ 0 ∷ [])) 0 ≡ state_of origin (opening_entry ∷ setting_entry ∷ [])
-unfolding state_after early_cause late_cause reply_to after
+unfolding state_after early_cause late_cause reply_to after watch_of
 set_after = rw root_put refl
 
 -- a callback that answers 31

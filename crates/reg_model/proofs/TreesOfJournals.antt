@@ -16,7 +16,7 @@ use Rattle.reg_model.specs.Worlds.{World, Handle, path_at, path_from, without_br
 use Rattle.reg_model.specs.Causes.{State, change_cause}
 use Rattle.reg_model.specs.Histories.{replay, state_of, IsLegal}
 use Rattle.reg_model.specs.declared.call.Change.{Change}
-use Rattle.reg_model.specs.declared.call.Change.TheVariants.{OpenRoot, OpenKey, CreateKey, SetValue, DeleteValue, DeleteKey, DeleteTree, SetSecurity, Close}
+use Rattle.reg_model.specs.declared.call.Change.TheVariants.{OpenRoot, OpenKey, CreateKey, SetValue, DeleteValue, DeleteKey, DeleteTree, SetSecurity, Notify, Close}
 use Rattle.reg_model.specs.declared.reply.Entry.{Entry}
 use Rattle.reg_model.proofs.AcceptedCalls.{both_false, target-path, CreateMet, create-met, DeleteMet, delete-met}
 use Rattle.reg_model.proofs.HandleInvariant.{path_total, Upright, has-put, stands-at, standing-after, target-below, path-below}
@@ -109,6 +109,7 @@ module _ (s : State) (e : Entry) (r : Upright s.world.tree s.world.handles) (i :
     | DeleteKey h path ↦ λ none. tree-deleted h path (delete-met s e.session h path c none)
     | DeleteTree h path ↦ λ none. tree-tree h path (length path == 0) refl
     | SetSecurity h descriptor ↦ λ none. tree-edited tree (path_at e.session h hs) _ i (keeps-descriptor descriptor e.moment)
+    | Notify h filter subtree ↦ λ none. i
     | Close h ↦ λ none. i
   ]
 

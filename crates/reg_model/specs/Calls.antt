@@ -1,6 +1,7 @@
 -- One call of a change: what it is told, and where it leaves the hive.
 use Rattle.std.specs.Prelude.{ℕ, ◌+◌, Option, Some, None}
 use Rattle.reg_model.specs.Worlds.{after}
+use Rattle.reg_model.specs.Watches.{ending, watch_of, pending_past}
 use Rattle.reg_model.specs.Causes.{State, change_cause}
 use Rattle.reg_model.specs.Replies.{reply_to, refusal}
 use Rattle.reg_model.specs.declared.call.Change.{Change}
@@ -25,7 +26,15 @@ abbrev pub or_same : Option ℕ → State → State → State
 or_same None next s = next
 or_same (Some status) next s = s
 
+-- the state after one entry more
+abbrev pub state_with : State → Entry → State
+state_with s e = record {
+  kept = s.kept + 1;
+  next = s.next + 1;
+  world = after s.world e;
+  pending = pending_past (ending s.world e) (watch_of s.world e) s.pending;
+}
+
 -- where a change leaves the hive: after one entry more, or where it was
 unfoldable pub state_after : State → ℕ → ℕ → Change → ℕ → State
-state_after s session moment change c = or_same (change_cause s session change c)
-    (record { kept = s.kept + 1; next = s.next + 1; world = after s.world (entry_due s session moment change); pending = s.pending }) s
+state_after s session moment change c = or_same (change_cause s session change c) (state_with s (entry_due s session moment change)) s

@@ -7,25 +7,26 @@ use Rattle.reg_heap.specs.declared.limits.TheConstants.{DATA_LIMIT, VALUES_LIMIT
 use Rattle.reg_heap.specs.Paths.{Path, Member, children_of}
 use Rattle.reg_heap.specs.Members.{value_named}
 use Rattle.reg_heap.specs.Edits.{values_at, are_too_many, may_not_go, any_kept_within, any_kept_under}
-use Rattle.reg_model.specs.declared.limits.TheConstants.{JOURNAL_LIMIT, HANDLES_LIMIT}
+use Rattle.reg_model.specs.declared.limits.TheConstants.{JOURNAL_LIMIT, HANDLES_LIMIT, WATCHES_LIMIT}
 use Rattle.reg_model.specs.declared.rights.TheConstants.{NO_RIGHTS, QUERY_VALUE, SET_VALUE, ENUMERATE_SUB_KEYS, DELETE_TREE, DELETE_CONTENTS}
-use Rattle.reg_model.specs.declared.rights.TheConstants.{READ_CONTROL, WRITE_DAC}
+use Rattle.reg_model.specs.declared.filters.TheConstants.{EVENTS, NO_FILTER}
+use Rattle.reg_model.specs.declared.rights.TheConstants.{READ_CONTROL, WRITE_DAC, NOTIFY}
 use Rattle.reg_model.specs.declared.statuses.TheConstants.{FILE_NOT_FOUND, ACCESS_DENIED, INVALID_HANDLE, INVALID_PARAMETER, NO_MORE_ITEMS}
 use Rattle.reg_model.specs.declared.statuses.TheConstants.{KEY_DELETED, NO_SYSTEM_RESOURCES}
 use Rattle.reg_model.specs.Worlds.{World, Handle, Destination, At, Deleted, look, path_at, path_from}
-use Rattle.reg_model.specs.declared.reply.Entry.{Entry}
+use Rattle.reg_model.specs.Watches.{Watch}
 use Rattle.reg_model.specs.declared.call.Change.{Change}
-use Rattle.reg_model.specs.declared.call.Change.TheVariants.{OpenRoot, OpenKey, CreateKey, SetValue, DeleteValue, DeleteKey, DeleteTree, SetSecurity, Close}
+use Rattle.reg_model.specs.declared.call.Change.TheVariants.{OpenRoot, OpenKey, CreateKey, SetValue, DeleteValue, DeleteKey, DeleteTree, SetSecurity, Notify, Close}
 use Rattle.reg_model.specs.declared.call.Query.{Query}
 use Rattle.reg_model.specs.declared.call.Query.TheVariants.{QueryValue, EnumKey, EnumValue, QueryInfo, GetSecurity}
 
--- where a call finds the hive: how many entries the journal keeps, the number of the next one, the world, and the entries whose
--- notifications are pending
+-- where a call finds the hive: how many entries the journal keeps, the number of the next one, the world, and the watches that are
+-- pending
 pub record State : Type 0 where
   pub kept : ℕ
   pub next : ℕ
   pub world : World
-  pub pending : List Entry
+  pub pending : List Watch
 
 -- the first refusal of two
 infixl 10 ◌or◌
@@ -67,6 +68,18 @@ is_full more s = nat_lt JOURNAL_LIMIT (s.kept + more + length s.world.handles)
 -- the session has 16,384 handles, or the journal has no room for the entry and the new handle's closing
 abbrev pub no_handle_room : ℕ → State → Bool
 no_handle_room session s = nat_le HANDLES_LIMIT (handles_of session s.world.handles) || is_full 2 s
+
+-- how many pending watches the session has
+abbrev pub watches_of : ℕ → List Watch → ℕ
+watches_of session vs = count_by (λ (v : Watch). v.session == session) vs
+
+-- the session has 4,096 pending watches, or the journal has no room for the entry
+abbrev pub no_watch_room : ℕ → State → Bool
+no_watch_room session s = nat_le WATCHES_LIMIT (watches_of session s.pending) || is_full 1 s
+
+-- a filter has one at least of the bits 1, 2, 4 and 8, and no other but 0x10000000
+abbrev pub is_filter : ℕ → Bool
+is_filter filter = bit_and filter NO_FILTER == 0 && not (bit_and filter EVENTS == 0)
 
 -- no value name, or data above 1,048,576 bytes
 abbrev pub is_bad_value : List ℕ → List ℕ → Bool
@@ -156,7 +169,7 @@ abbrev pub opening : AskedOf → Bool → List ℕ → ℕ → Rule
 opening of bad path mask = record (plain of bad) { counted = λ s session. no_handle_room session s; opens = Some (record { path = path; mask = mask }) }
 
 -- the rules of each change (`RegOpenKeyEx`, `RegCreateKeyEx`, `RegSetValueEx`, `RegDeleteValue`, `RegDeleteKey`, `RegDeleteTree`,
--- `RegSetKeySecurity`, `RegCloseKey`)
+-- `RegSetKeySecurity`, `RegNotifyChangeKeyValue`, `RegCloseKey`)
 abbrev pub rule_of : Change → Rule
 rule_of (OpenRoot mask) = opening Root (not (is_mask mask)) [] mask
 rule_of (OpenKey h path mask) =
@@ -190,6 +203,11 @@ rule_of (SetSecurity h descriptor) =
     record (plain (KeyOf h) (is_bad_descriptor descriptor)) {
       rights = Some WRITE_DAC;
       takes_space = true;
+    }
+rule_of (Notify h filter subtree) =
+    record (plain (KeyOf h) (not (is_filter filter))) {
+      rights = Some NOTIFY;
+      counted = λ s session. no_watch_room session s;
     }
 rule_of (Close h) = record (plain (HandleAlone h) false) { counted = λ s session. false }
 

@@ -1,4 +1,5 @@
 pub mod Worlds
+pub mod Watches
 pub mod Causes
 pub mod Replies
 pub mod Callbacks

@@ -7,7 +7,7 @@ use Rattle.reg_heap.specs.Paths.{Path, Tree, path_cmp}
 use Rattle.reg_heap.specs.Edits.{edited, with_value, without_value, with_descriptor, folded_path, with_keys, without_key}
 use Rattle.reg_heap.specs.Edits.{is_within, is_under, without_tree, emptied}
 use Rattle.reg_model.specs.declared.call.Change.{Change}
-use Rattle.reg_model.specs.declared.call.Change.TheVariants.{OpenRoot, OpenKey, CreateKey, SetValue, DeleteValue, DeleteKey, DeleteTree, SetSecurity, Close}
+use Rattle.reg_model.specs.declared.call.Change.TheVariants.{OpenRoot, OpenKey, CreateKey, SetValue, DeleteValue, DeleteKey, DeleteTree, SetSecurity, Notify, Close}
 use Rattle.reg_model.specs.declared.reply.Entry.{Entry}
 
 -- where a handle leads: to a key, or nowhere any more
@@ -103,7 +103,7 @@ abbrev pub without_contents : World → Path → ℕ → World
 without_contents w p moment = record { tree = emptied w.tree p moment; handles = turned_past (is_under p) w.handles }
 
 -- the world after an accepted change (`RegOpenKeyEx`, `RegCreateKeyEx`, `RegSetValueEx`, `RegDeleteValue`, `RegDeleteKey`,
--- `RegDeleteTree`, `RegSetKeySecurity`, `RegCloseKey`): one line for each change
+-- `RegDeleteTree`, `RegSetKeySecurity`, `RegNotifyChangeKeyValue`, `RegCloseKey`): one line for each change
 unfoldable pub after : World → Entry → World
 after w e = by e.change
   where
@@ -123,4 +123,5 @@ after w e = by e.change
         if length path == 0 then without_contents w (path_at e.session h w.handles) e.moment else
         (without_branch w (path_from e.session h w.handles path) e.moment)
     by (SetSecurity h descriptor) = record w { tree = edited w.tree (path_at e.session h w.handles) (with_descriptor descriptor e.moment) }
+    by (Notify h filter subtree) = w
     by (Close h) = record w { handles = closed h w.handles }

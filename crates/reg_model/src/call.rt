@@ -55,6 +55,14 @@ pub enum Change {
         handle: u64,
         descriptor: Bytes,
     },
+    /// Asks for one notification: of the first later change of the handle's key, and with `subtree` of a key below it too, of a
+    /// kind that `filter` names (bits 1, 2, 4 and 8), or that the key is deleted or the handle closed
+    /// (`RegNotifyChangeKeyValue`).
+    Notify {
+        handle: u64,
+        filter: u32,
+        subtree: bool,
+    },
     /// Closes a handle (`RegCloseKey`).
     Close {
         handle: u64,
@@ -110,6 +118,15 @@ impl Change {
             Change::SetSecurity { handle, descriptor } => Ok(Change::SetSecurity {
                 handle: *handle,
                 descriptor: descriptor.try_clone(alloc)?,
+            }),
+            Change::Notify {
+                handle,
+                filter,
+                subtree,
+            } => Ok(Change::Notify {
+                handle: *handle,
+                filter: *filter,
+                subtree: *subtree,
             }),
             Change::Close { handle } => Ok(Change::Close { handle: *handle }),
         }

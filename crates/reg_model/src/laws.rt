@@ -1,6 +1,6 @@
 //! Laws of calls, journals and what these make of a tree. Each function is one law: it does nothing, and its contract says
 //! what holds of the definitions in `specs/`.
-ghost use Rattle.std.specs.Prelude.{◌≡◌, ◌≢◌, ◌<◌, ◌+◌, ℕ, List, [], ◌∷◌, ◌++◌, length, map, All, IsSome, Some, None};
+ghost use Rattle.std.specs.Prelude.{◌≡◌, ◌≢◌, ◌<◌, ◌≤◌, ◌+◌, ℕ, List, [], ◌∷◌, ◌++◌, length, map, All, IsSome, Some, None};
 ghost use Rattle.std.specs.List.{AllByRecursion};
 ghost use Rattle.std.specs.List.Sorted.{IsStrictlyIncreasing};
 ghost use Rattle.std.specs.FinMap.{get};
@@ -8,9 +8,11 @@ ghost use Rattle.reg_heap.specs.Paths.{Tree};
 ghost use Rattle.reg_heap.specs.Edits.{folded_path};
 ghost use Rattle.reg_heap.specs.Trees.{IsTree};
 ghost use Rattle.reg_model.specs.Worlds.{after, look, opened, Handle, Deleted, StandsIn};
-ghost use Rattle.reg_model.specs.Causes.{State, Opening, rule_of, path_asked, change_cause};
+ghost use Rattle.reg_model.specs.declared.limits.TheConstants.{WATCHES_LIMIT};
+ghost use Rattle.reg_model.specs.Causes.{State, Opening, rule_of, path_asked, change_cause, watches_of};
+ghost use Rattle.reg_model.specs.Watches.{Watch, IsWatching, ending, few_ending, watch_of, reason, pending_past, notices};
 ghost use Rattle.reg_model.specs.Calls.{entry_due, reply_given, state_after};
-ghost use Rattle.reg_model.specs.Histories.{IsFit, IsLegal, replay, state_of};
+ghost use Rattle.reg_model.specs.Histories.{IsFit, IsLegal, replay, state_of, pending, fired};
 ghost use Rattle.reg_model.specs.declared.call.Change.{Change};
 ghost use Rattle.reg_model.specs.declared.call.Change.TheVariants.{Close};
 ghost use Rattle.reg_model.specs.declared.reply.Entry.{Entry};
@@ -109,4 +111,56 @@ pub fn root_stays()
 pub fn handles_lead_to_keys()
     ensures { (origin : Tree) → (journal : List Entry) → IsLegal origin journal → IsSome (get origin []) →
         All (λ (h : Handle). StandsIn (replay origin journal).tree h.destination) (replay origin journal).handles }
+{}
+
+/// One more entry ends some of the pending watches, and adds the one that it asks for.
+pub fn pending_goes_on()
+    ensures { (origin : Tree) → (past : List Entry) → (e : Entry) → pending origin (past ++ e ∷ []) ≡
+        pending_past (ending (replay origin past) e) (watch_of (replay origin past) e) (pending origin past) }
+{}
+
+/// What one more entry tells a session is appended to what it was told: a notice for each of its watches that the entry ends, in
+/// the order of their numbers.
+pub fn fired_goes_on()
+    ensures { (origin : Tree) → (past : List Entry) → (e : Entry) → (session : ℕ) → fired origin (past ++ e ∷ []) session ≡
+        fired origin past session ++ notices session (ending (replay origin past) e) (pending origin past) }
+{}
+
+/// The handle of a pending watch is open, its session's, and leads to the watch's key, which is in the tree.
+pub fn watches_stand()
+    ensures handles { (origin : Tree) → (journal : List Entry) → IsLegal origin journal →
+        All (IsWatching (replay origin journal).handles) (pending origin journal) }
+    ensures keys { (origin : Tree) → (journal : List Entry) → IsLegal origin journal → IsSome (get origin []) →
+        All (λ (v : Watch). IsSome (get (replay origin journal).tree v.path)) (pending origin journal) }
+{}
+
+/// A watch's number is that of an entry, and no two pending watches have one number: they rise.
+pub fn watch_numbers_rise()
+    ensures below { (origin : Tree) → (journal : List Entry) → IsLegal origin journal →
+        All (λ (v : Watch). v.number < length journal) (pending origin journal) }
+    ensures rise { (origin : Tree) → (journal : List Entry) → IsLegal origin journal →
+        IsStrictlyIncreasing (map (λ (v : Watch). v.number) (pending origin journal)) }
+{}
+
+/// A session has at most 4,096 pending watches.
+pub fn watches_are_few()
+    ensures { (origin : Tree) → (journal : List Entry) → (session : ℕ) → IsLegal origin journal →
+        watches_of session (pending origin journal) ≤ WATCHES_LIMIT }
+{}
+
+/// One event at the highest key above those that a change makes or removes ends the pending watches as all of its events do, and
+/// for the same reasons.
+pub fn few_events_suffice()
+    ensures { (origin : Tree) → (past : List Entry) → (e : Entry) → IsTree origin → IsLegal origin past → IsFit origin past e →
+        All (λ (v : Watch). reason (few_ending (replay origin past) e) v ≡ reason (ending (replay origin past) e) v) (pending origin past) }
+{}
+
+/// So what is pending and what is told after one more entry is what these few events make of it.
+pub fn few_events_go_on()
+    ensures pending { (origin : Tree) → (past : List Entry) → (e : Entry) → IsTree origin → IsLegal origin past → IsFit origin past e →
+        pending origin (past ++ e ∷ []) ≡
+        pending_past (few_ending (replay origin past) e) (watch_of (replay origin past) e) (pending origin past) }
+    ensures fired { (origin : Tree) → (past : List Entry) → (e : Entry) → (session : ℕ) → IsTree origin → IsLegal origin past →
+        IsFit origin past e → fired origin (past ++ e ∷ []) session ≡
+        fired origin past session ++ notices session (few_ending (replay origin past) e) (pending origin past) }
 {}

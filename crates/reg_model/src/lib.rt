@@ -1,11 +1,11 @@
 //! Calls on a hive and their replies, as plain values, and the definitions of what each call means.
 //!
 //! Its one contract: a copy equals its source. What a call means stands in `specs/`, for the contracts of the crates above: worlds
-//! and what a change makes of them, causes of refusals, replies, legal journals; [`laws`] says what holds of these. It stands on
+//! and what a change makes of them, causes of refusals, replies, legal journals, notifications; [`laws`] says what holds of these. It stands on
 //! reg_names and reg_heap.
 //!
 //! Its types are [`Change`] and [`Query`], which are [`Call`]s; [`ChangeReply`] and [`Answer`]; [`Entry`], an accepted change; [`Step`]
-//! and [`Outcome`], a call made and told; and [`Bytes`].
+//! and [`Outcome`], a call made and told; [`Notice`], a notification; and [`Bytes`].
 //!
 //! Win32 registry reference, of each call the function that its variant names; the journal of accepted changes is this project's
 //! own.
@@ -14,8 +14,10 @@
 mod answer;
 mod bytes;
 mod call;
+pub mod filters;
 pub mod laws;
 pub mod limits;
+mod notice;
 mod reply;
 pub mod rights;
 pub mod statuses;
@@ -24,5 +26,6 @@ mod step;
 pub use answer::{Answer, AnswerBody};
 pub use bytes::Bytes;
 pub use call::{Call, Change, Query};
+pub use notice::{Notice, Reason};
 pub use reply::{ChangeReply, Entry};
 pub use step::{Outcome, Step};

@@ -12,6 +12,9 @@ pub const SET_VALUE: u32 = 2;
 /// To list subkeys.
 pub const ENUMERATE_SUB_KEYS: u32 = 8;
 
+/// To be notified of changes.
+pub const NOTIFY: u32 = 0x10;
+
 /// To delete a key with all keys below it: DELETE, ENUMERATE_SUB_KEYS and QUERY_VALUE.
 pub const DELETE_TREE: u32 = 0x1_0009;
 

@@ -11,7 +11,7 @@ use Rattle.reg_model.specs.Causes.{change_cause}
 use Rattle.reg_model.specs.declared.call.Change.{Change}
 use Rattle.reg_model.specs.declared.call.Change.TheVariants.{OpenRoot as RootOpened, OpenKey as KeyOpened, CreateKey as KeyCreated, SetValue as ValueSet}
 use Rattle.reg_model.specs.declared.call.Change.TheVariants.{DeleteValue as ValueDeleted, DeleteKey as KeyDeleted, DeleteTree as TreeDeleted}
-use Rattle.reg_model.specs.declared.call.Change.TheVariants.{SetSecurity as SecuritySet, Close as Closed}
+use Rattle.reg_model.specs.declared.call.Change.TheVariants.{SetSecurity as SecuritySet, Notify as Notified, Close as Closed}
 use Rattle.reg_tree.specs.TreeKeys.{IsAt}
 use Rattle.reg_tree.specs.Reaching.{IsWalkedTo}
 use Rattle.reg_tree.specs.declared.node.Node.{Node}
@@ -23,10 +23,12 @@ use Rattle.reg_calls.specs.declared.delete_value.DeleteValue.{DeleteValue}
 use Rattle.reg_calls.specs.declared.delete_key.DeleteKey.{DeleteKey}
 use Rattle.reg_calls.specs.declared.delete_tree.DeleteTree.{DeleteTree}
 use Rattle.reg_calls.specs.declared.set_security.SetSecurity.{SetSecurity}
+use Rattle.reg_calls.specs.declared.notify.Notify.{Notify}
 use Rattle.reg_calls.specs.declared.changes.Admitted.{Admitted}
 use Rattle.reg_calls.specs.declared.changes.Admitted.TheVariants.{OpenRoot as RootAdmitted, OpenKey as KeyAdmitted, CreateKey as NewKeyAdmitted}
 use Rattle.reg_calls.specs.declared.changes.Admitted.TheVariants.{SetValue as SetAdmitted, DeleteValue as RemovalAdmitted, DeleteKey as DeletionAdmitted}
-use Rattle.reg_calls.specs.declared.changes.Admitted.TheVariants.{DeleteTree as TreeAdmitted, SetSecurity as SecurityAdmitted, Close as CloseAdmitted}
+use Rattle.reg_calls.specs.declared.changes.Admitted.TheVariants.{DeleteTree as TreeAdmitted, SetSecurity as SecurityAdmitted, Notify as WatchAdmitted}
+use Rattle.reg_calls.specs.declared.changes.Admitted.TheVariants.{Close as CloseAdmitted}
 use Rattle.reg_calls.specs.declared.refusal.Refusal.{Refusal}
 use Rattle.reg_calls.specs.declared.refusal.Refusal.TheVariants.{Cause, Memory}
 use Rattle.reg_calls.specs.Shortages.{is_closing}
@@ -62,16 +64,18 @@ pub record AdmitsCreateKey (entries : ℕ) (store : Store) (session handle : ℕ
       are_too_many store.tree.tree p (path_of text) ≡ false
   pub there : found.reached.missing.now ≡ [] → IsAt store.tree (path_from session handle store.handles.handles path) found.reached.node
 
--- a value set in a handle's key: the key, and where it has a value of that name, or that it has room for one more
+-- a value set in a handle's key: the handle, the key, and where it has a value of that name, or that it has room for one more
 pub record AdmitsSetValue (entries : ℕ) (store : Store) (session handle : ℕ) (found : SetValue) : Type 0 where
   pub clear : IsClear entries store session (ValueSet handle found.name.now found.kind found.bytes.now)
+  pub by : found.handle ≡ handle
   pub node : IsAt store.tree (path_at session handle store.handles.handles) found.node
   pub place : (p : Path) → IsAt store.tree p found.node → found.place ≡ index_named found.name.now (values_at store.tree.tree p)
   pub room : (p : Path) → IsAt store.tree p found.node → found.place ≡ None → length (values_at store.tree.tree p) < VALUES_LIMIT
 
--- a value removed from a handle's key: the key, and where it has the value of that name
+-- a value removed from a handle's key: the handle, the key, and where it has the value of that name
 pub record AdmitsDeleteValue (entries : ℕ) (store : Store) (session handle : ℕ) (name : List ℕ) (found : DeleteValue) : Type 0 where
   pub clear : IsClear entries store session (ValueDeleted handle name)
+  pub by : found.handle ≡ handle
   pub node : IsAt store.tree (path_at session handle store.handles.handles) found.node
   pub place : index_named name (values_at store.tree.tree (path_at session handle store.handles.handles)) ≡ Some found.index
 
@@ -96,10 +100,15 @@ pub record AdmitsDeleteTree (entries : ℕ) (store : Store) (session handle : �
   pub at : IsAt store.tree (path_at session handle store.handles.handles) from
   pub target : IsTreeFound store.tree from path found.target
 
--- the descriptor of a handle's key set: the key
+-- the descriptor of a handle's key set: the handle and the key
 pub record AdmitsSetSecurity (entries : ℕ) (store : Store) (session handle : ℕ) (found : SetSecurity) : Type 0 where
   pub clear : IsClear entries store session (SecuritySet handle found.descriptor.now)
+  pub by : found.handle ≡ handle
   pub node : IsAt store.tree (path_at session handle store.handles.handles) found.node
+
+-- a watch of a handle's key
+abbrev pub AdmitsNotify : ℕ → Store → ℕ → Notify → Type 0
+AdmitsNotify entries store session found = IsClear entries store session (Notified found.handle found.filter found.subtree)
 
 -- a change was admitted with this
 abbrev pub Admits : ℕ → Store → ℕ → Change → Admitted → Type 0
@@ -119,6 +128,8 @@ Admits entries store session change (TreeAdmitted found) =
     (handle : ℕ) × (path : List ℕ) × (change ≡ TreeDeleted handle path) × AdmitsDeleteTree entries store session handle path found
 Admits entries store session change (SecurityAdmitted found) =
     (handle : ℕ) × (change ≡ SecuritySet handle found.descriptor.now) × AdmitsSetSecurity entries store session handle found
+Admits entries store session change (WatchAdmitted found) =
+    (change ≡ Notified found.handle found.filter found.subtree) × AdmitsNotify entries store session found
 Admits entries store session change (CloseAdmitted found) = (change ≡ Closed found.handle) × IsClear entries store session (Closed found.handle)
 
 -- a change isn't admitted: by its cause; or nothing refuses it, and memory is wanting for it, as it never is for a Close

@@ -27,7 +27,7 @@ add-requires-clause-folded c = c.requires.admitted.2.text.folded
 
 pub returns-in-Err : goal.returns-in-Err
 returns-in-Err c = λ handle path a.
-    (unchanged c.args.store.now _ c.requires.ready.known (ap (λ (t : Table Node). store_of c.args.store.now.tree t) c.in-Err.ensures.err), refl)
+    (unchanged c.args.store.now _ c.requires.ready.known (ap (λ (t : Table Node). store_of c.args.store.now.watches c.args.store.now.tree t) c.in-Err.ensures.err), refl)
 
 pub returns-then-is_empty : goal.returns-then-is_empty
 returns-then-is_empty c = λ handle path a.
@@ -80,10 +80,11 @@ returns-in-Err-create_at c = λ handle path a.
     let handles = c.close.ensures.handles ∙ (ap (closed c.args.number) c.in-Ok.ensures.ok ∙ closed-push c.args.number hs c.requires.ready.below _ refl) in
     let again = again_known c.args.store.now c.requires.ready.known c.add.new.self c.args.self.text.items c.args.self.reached.node c.in-Ok.ensures.payloads
     c.close.new.self c.len.ensures.payloads handles c.close.ensures.payloads in
-    let same : IsUnchanged c.args.store.now (record { tree = c.create_at.new.self; handles = c.close.new.self }) = record {
+    let same : IsUnchanged c.args.store.now (record { tree = c.create_at.new.self; handles = c.close.new.self; watches = c.args.store.now.watches }) = record {
       tree = c.in-Err-create_at.ensures.err;
       handles = handles;
-      known = subst (λ (keys : Keys). KnowsKeys (record { tree = keys; handles = c.close.new.self })) (sym c.in-Err-create_at.ensures.err) again;
+      watches = refl;
+      known = subst (λ (keys : Keys). KnowsKeys (record { tree = keys; handles = c.close.new.self; watches = c.args.store.now.watches })) (sym c.in-Err-create_at.ensures.err) again;
     } in
     lacking c.args.store.now _ c.args.session c.args.moment c.args.number (KeyCreated handle path c.args.self.mask (option_copied c.args.self.descriptor)) c.from.result same
     refl (λ space. (let full = lacks_full c.in-Err-create_at.fault c.from.result c.from.ensures space in (

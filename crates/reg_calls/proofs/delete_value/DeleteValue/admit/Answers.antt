@@ -1,4 +1,4 @@
-use Rattle.std.proofs.Common.{arith, sym, ap, ◌∙◌, subst, Option, ℕ, ◌≡◌, Some, is_some}
+use Rattle.std.proofs.Common.{arith, refl, sym, ap, ◌∙◌, subst, Option, ℕ, ◌≡◌, Some, is_some}
 use Rattle.std.proofs.lemmas.Grind.{common_steps}
 use Rattle.std.proofs.lemmas.Bool.Decides.{nat_tests}
 use Rattle.reg_heap.specs.Paths.{Path}
@@ -46,6 +46,7 @@ returns-in-Some-clause-admitted c =
     let there = sym (named_if c.args.name.now (values_at c.args.store.now.tree.tree k.target.path)) ∙ ap (λ (o : Option ℕ). is_some o) at in
     record {
       clear = grind (arith, nat_tests, common_steps, chain, there);
+      by = refl;
       node = found-at c.args.store.now c.args.session c.args.handle k.target c.in-Ok.key.node k.node;
       place = subst (λ (p : Path). index_named c.args.name.now (values_at c.args.store.now.tree.tree p) ≡ Some c.in-Some.index)
           (sym (target-at c.args.store.now c.args.session c.args.handle k.target)) at;

@@ -3,4 +3,7 @@ use Rattle.reg_calls.proofs.KnownKeys.{none_known, store_of}
 use Rattle.reg_calls.proofs.hive_core.Core.new.Goals as goal
 
 pub invariant_of-result : goal.invariant_of-result
-invariant_of-result c = record { hive = search rules; room_kept = search rules; known = none_known (store_of c.args.tree c.new.result) c.new.ensures.payloads }
+invariant_of-result c = (
+  c.new-3.ensures.base,
+  record { hive = search rules; room_kept = search rules; known = none_known (store_of c.in_ok-watches.watches c.args.tree c.new-2.result) c.new-2.ensures.payloads },
+)

@@ -20,7 +20,7 @@ add-requires-clause-folded c = c.requires.admitted.2.text.folded
 
 pub returns-in-Err : goal.returns-in-Err
 returns-in-Err c = λ moment handle path a.
-    (unchanged c.args.store.now _ c.requires.ready.known (ap (λ (t : Table Node). store_of c.args.store.now.tree t) c.in-Err.ensures.err), refl)
+    (unchanged c.args.store.now _ c.requires.ready.known (ap (λ (t : Table Node). store_of c.args.store.now.watches c.args.store.now.tree t) c.in-Err.ensures.err), refl)
 
 pub returns-in-Ok : goal.returns-in-Ok
 returns-in-Ok c = λ moment handle path a.

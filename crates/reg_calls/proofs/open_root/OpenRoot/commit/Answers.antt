@@ -16,7 +16,7 @@ add-requires-clause-path c = ap is_path c.new.ensures.items
 
 pub returns-in-Err : goal.returns-in-Err
 returns-in-Err c = λ moment.
-    (unchanged c.args.store.now _ c.requires.ready.known (ap (λ (t : Table Node). store_of c.args.store.now.tree t) c.in-Err.ensures.err), refl)
+    (unchanged c.args.store.now _ c.requires.ready.known (ap (λ (t : Table Node). store_of c.args.store.now.watches c.args.store.now.tree t) c.in-Err.ensures.err), refl)
 
 pub returns-in-Ok : goal.returns-in-Ok
 returns-in-Ok c = λ moment.

@@ -1,4 +1,4 @@
-use Rattle.std.proofs.Common.{arith}
+use Rattle.std.proofs.Common.{arith, refl}
 use Rattle.std.proofs.lemmas.Grind.{common_steps}
 use Rattle.std.proofs.lemmas.Bool.Decides.{nat_tests}
 use Rattle.reg_calls.proofs.FoundPaths.{found-at}
@@ -32,5 +32,6 @@ returns-clause-admitted c =
     let chain = secure-causes c.args.entries c.args.store.now c.args.session c.args.handle c.args.descriptor.now c.in-Ok.key.mask k.target k.mask in
     record {
       clear = grind (arith, nat_tests, common_steps, chain);
+      by = refl;
       node = found-at c.args.store.now c.args.session c.args.handle k.target c.in-Ok.key.node k.node;
     }

@@ -1,4 +1,4 @@
-use Rattle.std.proofs.Common.{arith, sym, ◌∙◌}
+use Rattle.std.proofs.Common.{arith, refl, sym, ◌∙◌}
 use Rattle.std.proofs.lemmas.Grind.{common_steps}
 use Rattle.std.proofs.lemmas.Bool.Decides.{nat_tests}
 use Rattle.reg_model.proofs.AcceptedCalls.{both_false}
@@ -35,6 +35,7 @@ returns-clause-admitted c =
     let room = c.has_no_value_room.ensures k.target.path k.node c.args.name.now (c.value_index-place.ensures k.target.path k.node) in
     record {
       clear = grind (arith, nat_tests, common_steps, chain, room);
+      by = refl;
       node = found-at c.args.store.now c.args.session c.args.handle k.target c.in-Ok.key.node k.node;
       place = c.value_index-place.ensures;
       room = λ p at none. has-room c.args.name.now _ c.value_index-place.result none (c.value_index-place.ensures p at)

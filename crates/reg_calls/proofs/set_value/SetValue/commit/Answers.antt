@@ -34,10 +34,11 @@ returns-in-Ok c = λ session handle a.
 
 pub returns-in-Err : goal.returns-in-Err
 returns-in-Err c = λ session handle a.
-    let same : IsUnchanged c.args.store.now (record { tree = c.set_at.new.self; handles = c.args.store.now.handles }) = record {
+    let same : IsUnchanged c.args.store.now (record { tree = c.set_at.new.self; handles = c.args.store.now.handles; watches = c.args.store.now.watches }) = record {
       tree = c.in-Err.ensures.err;
       handles = refl;
-      known = subst (λ (keys : Keys). KnowsKeys (record { tree = keys; handles = c.args.store.now.handles })) (sym c.in-Err.ensures.err) c.requires.ready.known;
+      watches = refl;
+      known = subst (λ (keys : Keys). KnowsKeys (record { tree = keys; handles = c.args.store.now.handles; watches = c.args.store.now.watches })) (sym c.in-Err.ensures.err) c.requires.ready.known;
     } in
     lacking c.args.store.now _ session c.args.moment c.args.number (ValueSet handle c.args.self.name.now c.args.self.kind c.args.self.bytes.now) c.from.result same
     refl (λ space. (let full = lacks_full c.in-Err.fault c.from.result c.from.ensures space in (

@@ -33,3 +33,9 @@ returns-in-Close c = λ change a.
     let found = subst (λ (x : Admitted). Admits c.args.number c.args.self.now c.args.session change x) c.in-Close.is a in
     subst (λ (x : Change). IsDone c.args.self.now c.commit-in-Close.new.store c.args.session c.args.moment c.args.number x c.commit-in-Close.result) (sym found.0)
     (c.commit-in-Close.ensures c.args.moment)
+
+pub returns-in-Notify : goal.returns-in-Notify
+returns-in-Notify c = λ change a.
+    let found = subst (λ (x : Admitted). Admits c.args.number c.args.self.now c.args.session change x) c.in-Notify.is a in
+    subst (λ (x : Change). IsMade c.args.self.now c.commit-in-Notify.new.store c.args.session c.args.moment c.args.number x c.commit-in-Notify.result) (sym found.0)
+    (c.commit-in-Notify.ensures c.args.moment found.1)

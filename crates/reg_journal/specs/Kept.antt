@@ -2,7 +2,8 @@
 use Rattle.std.specs.Prelude.{ℕ, List}
 use Rattle.reg_model.specs.declared.reply.Entry.{Entry}
 
--- the entries so far, and the room that is kept for more
+-- the number of the first entry that is kept, the entries from it on, and the room that is kept for more
 pub record Kept : Type 0 where
+  pub base : ℕ
   pub entries : List Entry
   pub room : ℕ

@@ -1,0 +1,13 @@
+use Rattle.reg_calls.proofs.HandedNotices.{kept-handed, is-handed}
+use Rattle.reg_calls.proofs.hive_core.Core.take_notice.Goals as goal
+
+pub invariant_of-self : goal.invariant_of-self
+invariant_of-self c = (
+  c.self.invariant.0,
+  kept-handed c.self.invariant.1 c.args.session c.take.result c.take.ensures.notice c.take.new.self c.take.ensures.taken c.take.ensures.told c.take.ensures.pending,
+)
+
+pub returns : goal.returns
+returns c =
+    is-handed c.self.invariant.1 c.args.session c.take.result c.take.ensures.notice c.take.new.self c.take.ensures.taken c.take.ensures.told c.take.ensures.pending
+    c.args.self.now c.self.view_is

@@ -1,0 +1,32 @@
+use Rattle.std.proofs.Common.{arith}
+use Rattle.std.proofs.lemmas.Grind.{common_steps}
+use Rattle.std.proofs.lemmas.Bool.Decides.{nat_tests}
+use Rattle.reg_calls.proofs.RefusalTests.{notify-refused, notify-causes}
+use Rattle.reg_calls.proofs.notify.Notify.admit.Goals as goal
+
+pub returns-in-Err-clause-refused : goal.returns-in-Err-clause-refused
+returns-in-Err-clause-refused c = notify-refused c.args.entries c.args.store.now c.args.session c.args.handle c.args.filter c.args.subtree c.in-Err.status c.in-Err.ensures
+
+pub returns-then-not-is_filter-clause-refused : goal.returns-then-not-is_filter-clause-refused
+returns-then-not-is_filter-clause-refused c =
+    let k = c.in-Ok.ensures in
+    let chain = notify-causes c.args.entries c.args.store.now c.args.session c.args.handle c.args.filter c.args.subtree c.in-Ok.key.mask k.target k.mask in
+    grind (arith, nat_tests, common_steps, chain)
+
+pub returns-then-key-ne-NOTIFY-clause-refused : goal.returns-then-key-ne-NOTIFY-clause-refused
+returns-then-key-ne-NOTIFY-clause-refused c =
+    let k = c.in-Ok.ensures in
+    let chain = notify-causes c.args.entries c.args.store.now c.args.session c.args.handle c.args.filter c.args.subtree c.in-Ok.key.mask k.target k.mask in
+    grind (arith, nat_tests, common_steps, chain)
+
+pub returns-then-has_no_watch_room-clause-refused : goal.returns-then-has_no_watch_room-clause-refused
+returns-then-has_no_watch_room-clause-refused c =
+    let k = c.in-Ok.ensures in
+    let chain = notify-causes c.args.entries c.args.store.now c.args.session c.args.handle c.args.filter c.args.subtree c.in-Ok.key.mask k.target k.mask in
+    grind (arith, nat_tests, common_steps, chain)
+
+pub returns-clause-admitted : goal.returns-clause-admitted
+returns-clause-admitted c =
+    let k = c.in-Ok.ensures in
+    let chain = notify-causes c.args.entries c.args.store.now c.args.session c.args.handle c.args.filter c.args.subtree c.in-Ok.key.mask k.target k.mask in
+    grind (arith, nat_tests, common_steps, chain)

@@ -1,0 +1,20 @@
+use Rattle.std.proofs.Common.{sym, ◌∙◌, subst}
+use Rattle.std.proofs.lemmas.List.{nil_from_length}
+use Rattle.reg_model.specs.declared.call.Change.{Change}
+use Rattle.reg_calls.specs.declared.changes.Admitted.{Admitted}
+use Rattle.reg_calls.specs.declared.announced.Announced.TheVariants.{Closes}
+use Rattle.reg_calls.specs.Internal.Admissions.{Admits}
+use Rattle.reg_calls.specs.Internal.Announcements.{IsAnnounced}
+use Rattle.reg_calls.proofs.AnnouncedChanges.{none-announced, close-announced, quiet-announced}
+use Rattle.reg_calls.proofs.store.Store.announce.Goals as goal
+
+pub returns-then-len-eq0-clause-ok : goal.returns-then-len-eq0-clause-ok
+returns-then-len-eq0-clause-ok c = λ entries change a. none-announced entries c.args.self.now c.args.session change (nil_from_length _ (sym c.len.ensures ∙ c.if-len-eq0.true))
+
+pub returns-in-Close-clause-ok : goal.returns-in-Close-clause-ok
+returns-in-Close-clause-ok c = λ entries change a.
+    let found = subst (λ (x : Admitted). Admits entries c.args.self.now c.args.session change x) c.in-Close.is a in
+    subst (λ (x : Change). IsAnnounced entries c.args.self.now c.args.session x (Closes c.in-Close.found.handle)) (sym found.0) (close-announced entries c.args.self.now c.args.session c.in-Close.found.handle)
+
+pub returns-in-OpenRoot-clause-ok : goal.returns-in-OpenRoot-clause-ok
+returns-in-OpenRoot-clause-ok c = λ entries change a. quiet-announced entries c.args.self.now c.args.session change c.args.admitted.now a c.in-OpenRoot.is

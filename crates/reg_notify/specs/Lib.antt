@@ -1,0 +1,3 @@
+pub mod Internal
+pub mod Tables
+pub mod Asked

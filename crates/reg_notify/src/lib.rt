@@ -1,0 +1,20 @@
+//! The notifications that were asked for and not sent yet, and those that were sent (Win32 registry reference,
+//! `RegNotifyChangeKeyValue`).
+//!
+//! Its one contract: a table of pending watches, and for each session the notices that it was told, in order, with how many of
+//! them it took. What ends a watch is told by an entry's events, the keys that it removes and the handle that it closes; a firing
+//! looks at the paths of the events and those above them, and at each only for watches that it ends. Sending takes no memory: a
+//! notice has its room since its watch was added. It stands on reg_model.
+#![tactic(auto)]
+
+mod adding;
+mod asked;
+mod index;
+mod place;
+mod queues;
+mod table;
+mod watches;
+
+pub use asked::{Event, Registration, Removed};
+pub use place::Place;
+pub use watches::Watches;
