@@ -7,6 +7,8 @@
 #[cfg(test)]
 mod images;
 #[cfg(test)]
+mod random_notices;
+#[cfg(test)]
 mod scripts;
 #[cfg(test)]
 mod support;

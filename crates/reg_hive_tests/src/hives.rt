@@ -1,5 +1,7 @@
-//! The fresh hive, and its first value, byte by byte.
-use crate::support::{ALL, Deed, Question, assert_told, told};
+//! The fresh hive, and its first value, byte by byte; and a notice that is taken.
+use crate::support::{ALL, Deed, Question, assert_told, do_all, do_one, new_hive, told};
+use reg_calls::Hive;
+use reg_model::Change;
 use std::alloc::Global;
 use std::test::Fail;
 
@@ -68,5 +70,37 @@ fn first_value_told(rt: HostRuntime) -> Result<(), Fail> {
         &rt,
         valued(rt.alloc(), Question::Value(b"", Some(4))),
         "2: 0 4 4 01000000",
+    )
+}
+
+/// The notices that a hive hands to session 0 once a value of its root was set, which that session watches, and how many entries there
+/// are then.
+fn notices_in(alloc: Global, hive: &mut Hive) -> Result<String, Fail> {
+    let notify = Change::Notify {
+        handle: 0,
+        filter: 4,
+        subtree: false,
+    };
+    let _opened = do_one(alloc, hive, &Deed::Open(ALL))?;
+    let _watch = hive.apply(0, 0, notify);
+    let _set = do_all(alloc, hive, &[Deed::Set(b"v", b"a"), Deed::Set(b"v", b"b")])?;
+    let other = hive.take_notice(1);
+    let first = hive.take_notice(0);
+    let second = hive.take_notice(0);
+    Ok(format!(in alloc; "{other:?}; {first:?}; {second:?}; {}", hive.len())?)
+}
+
+/// The same of a new hive.
+fn notices(alloc: Global) -> Result<String, Fail> {
+    let mut hive = new_hive(alloc, 20)?;
+    notices_in(alloc, &mut hive)
+}
+
+#[test]
+fn notices_are_taken_once(rt: HostRuntime) -> Result<(), Fail> {
+    assert_told(
+        &rt,
+        notices(rt.alloc()),
+        "None; Some(Notice { watch: 1, by: 2, reason: Matched }); None; 4",
     )
 }

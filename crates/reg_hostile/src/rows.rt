@@ -1,7 +1,7 @@
 //! Rows of scripts, each with the reply that the rules give, on a machine that may refuse an allocation.
 //!
-//! A row that wants memory is answered 8, or ends its script; then the hive is as it was, and the same row is accepted when it comes
-//! again.
+//! A row that wants memory is answered 8, or ends its script; then the hive is as it was, and the same row is answered as it should be
+//! when it comes again, a `notice` by the same notice. A `close` and a `notice` are never answered 8.
 use crate::hives::{fresh_hive, image_of};
 use anyhow::{Result, bail};
 use reg_calls::Hive;
@@ -9,8 +9,10 @@ use reg_script::{ScriptFault, run};
 use std::alloc::Global;
 use std::fmt;
 
-/// Rows in which each call is accepted, with their replies; `*` and a number stand for so many bytes 0x2a.
-const ROWS: &str = "\
+/// Scripts on a fresh hive, a row for each line with its reply; `*` and a number stand for so many bytes 0x2a. In the first each call is
+/// accepted; the others have notifications.
+const ROWS: [&str; 5] = [
+    "\
 root 983103 -> 0 handle 0
 create 0 =Software\\Zugmeled 983103 -> 0 handle 1 disposition 1
 open 0 =software 983103 -> 0 handle 2
@@ -44,7 +46,51 @@ create 1 =f 983103 -> 0 handle 20 disposition 1
 deltree 1 = -> 0
 info 1 -> 0 subkeys 0 longest 0 values 0 longest 0 largest 0 security 3 time 0
 close 0 -> 0
-close 1 -> 0";
+close 1 -> 0",
+    "\
+root 983103 -> 0 handle 0
+create 0 =A\\B 983103 -> 0 handle 1 disposition 1
+open 0 =A 983103 -> 0 handle 2
+notify 2 4 0 -> 0 watch 3
+set 1 =v 4 x01 -> 0
+notice -> notice none
+set 2 =v 4 x01 -> 0
+notice -> notice 3 5 matched
+set 2 =v 4 x02 -> 0
+notice -> notice none",
+    "\
+root 983103 -> 0 handle 0
+create 0 =A 983103 -> 0 handle 1 disposition 1
+notify 1 1 1 -> 0 watch 2
+create 0 =AB\\X 983103 -> 0 handle 3 disposition 1
+notice -> notice none
+create 0 =A\\X\\Y 983103 -> 0 handle 4 disposition 1
+notice -> notice 2 4 matched
+notice -> notice none",
+    "\
+root 983103 -> 0 handle 0
+create 0 =K 983103 -> 0 handle 1 disposition 1
+notify 1 4 0 -> 0 watch 2
+delkey 0 =K -> 0
+notice -> notice 2 3 gone
+notify 1 4 0 -> 1018
+notify 0 0 0 -> 87",
+    "\
+root 983103 -> 0 handle 0
+create 0 =A 983103 -> 0 handle 1 disposition 1
+open 0 =A 983103 -> 0 handle 2
+notify 1 4 0 -> 0 watch 3
+notify 2 268435460 0 -> 0 watch 4
+notify 1 2 0 -> 0 watch 5
+set 0 =v 4 x01 -> 0
+set 2 =v 4 x01 -> 0
+close 1 -> 0
+setsec 2 x01 -> 0
+notice -> notice 3 7 matched
+notice -> notice 4 7 matched
+notice -> notice 5 8 closed
+notice -> notice none",
+];
 
 /// What a hive holds: its image, and how many entries its journal has.
 #[derive(Drop)]
@@ -153,8 +199,8 @@ fn check_row(
     let outcome = ask(alloc, hive, line, wanted)?;
     let after = take_snapshot(alloc, hive)?;
     counts.rows = counts.rows.saturating_add(1);
-    if outcome == Outcome::NoMemory && line.starts_with("close") {
-        bail!("a Close was answered 8");
+    if outcome == Outcome::NoMemory && (line.starts_with("close") || line.starts_with("notice")) {
+        bail!("a Close or a notice was answered 8");
     }
     if !count_refusal(counts, outcome, &before, &after)? {
         return Ok(());
@@ -165,26 +211,33 @@ fn check_row(
     Ok(())
 }
 
-/// Gives all rows to a hive.
-fn check_rows(alloc: Global, hive: &mut Hive) -> Result<Counts> {
+/// Gives a script's rows to a hive.
+fn check_script(alloc: Global, hive: &mut Hive, script: &str, counts: &mut Counts) -> Result<()> {
+    for row in script.split('\n') {
+        if let Some((line, wanted)) = row.split_once(" -> ") {
+            let line = line_of(alloc, line)?;
+            check_row(alloc, hive, line.as_str(), wanted, counts)?;
+        }
+    }
+    Ok(())
+}
+
+/// Gives a script's rows to a fresh hive.
+fn check_fresh(alloc: Global, script: &str, counts: &mut Counts) -> Result<()> {
+    let mut hive = fresh_hive(alloc)?;
+    check_script(alloc, &mut hive, script, counts)
+}
+
+/// Gives the rows of all scripts to fresh hives, and prints how they were answered. Where one was answered wrongly, that is the error.
+pub fn run_rows(rt: &impl Print, alloc: Global) -> Result<()> {
     let mut counts = Counts {
         rows: 0,
         refused: 0,
         ended: 0,
     };
-    for row in ROWS.split('\n') {
-        if let Some((line, wanted)) = row.split_once(" -> ") {
-            let line = line_of(alloc, line)?;
-            check_row(alloc, hive, line.as_str(), wanted, &mut counts)?;
-        }
+    for script in ROWS {
+        check_fresh(alloc, script, &mut counts)?;
     }
-    Ok(counts)
-}
-
-/// Gives all rows to a fresh hive, and prints how they were answered. Where one was answered wrongly, that is the error.
-pub fn run_rows(rt: &impl Print, alloc: Global) -> Result<()> {
-    let mut hive = fresh_hive(alloc)?;
-    let counts = check_rows(alloc, &mut hive)?;
     println!(rt; "{counts}")?;
     Ok(())
 }

@@ -24,15 +24,22 @@ root 983103
 create 0 =Parent\\Child 983103
 create 0 =parent\\other 983103 x01
 create 0 =Parent\\Third 983103 x01
+notify 0 15 1
+notify 1 268435468 0
+notify 3 8 1
 delkey 0 =Parent\\Other
 at 18446744073709551615
 setsec 1 x0200
+notice
+notice
 getsec 1 20
 getsec 3 1
 delvalue 1 =no
 set 1 =no 4294967295 x00
 delvalue 1 =NO
 deltree 0 =Parent
+notice
+notice
 query 1 = -
 create 0 =Parent 983103
 close 0
@@ -54,7 +61,11 @@ create 2 =a! 131078
 set 4 =twice 7 x0011223344
 set 4 =TWICE 7 x00112233445566
 set 4 =thrice 7 x0011
+notify 4 4 1
 delvalue 4 =twice
+notice
+as 0
+notice
 ",
     "\
 root 983103
@@ -64,10 +75,18 @@ create 0 =e 983103
 create 0 =r 983103
 create 0 =t 983103
 create 0 =y 983103
+notify 0 1 0
+notify 3 1 0
+notify 1 4 1
+notify 1 4 0
 delkey 0 =e
 delkey 0 =t
 create 0 =u 983103
 set 1 =a 1 x00
+notice
+notice
+notice
+notice
 set 1 =b 1 x0000000000
 set 1 =c 1 x00000000000000000000
 delvalue 1 =b

@@ -1,28 +1,28 @@
 -- The events of a change by which watches can be told apart are few: where keys are made or removed, one at the highest key above them.
-use Rattle.std.proofs.Common.{◌≡◌, ℕ, ◌+◌, ◌-◌, ◌<◌, Bool, true, false, not, cond, ◌&&◌, ◌||◌, ◌==◌, ◌⊎◌, inl, inr, nat_lt, eqb, List, [], ◌∷◌, ◌++◌, length, take, drop, map, filter, Option, Some, None}
-use Rattle.std.proofs.Common.{refl, sym, ap, ◌∙◌, subst, append_assoc, length-append, is_some, arith}
-use Rattle.std.specs.Prelude.{bit_and, IsSome}
-use Rattle.std.specs.Cmp.Lexicographic.{lists_total, nat_list_cmp_total}
-use Rattle.std.specs.FinMap.{get, keys, contains_key}
+use Rattle.std.proofs.Common.{◌≡◌, ℕ, ◌-◌, Bool, true, false, not, cond, ◌&&◌, ◌||◌, ◌==◌, ◌⊎◌, inl, inr, List, [], ◌∷◌, ◌++◌, length, take, drop, map}
+use Rattle.std.proofs.Common.{filter, Some, None}
+use Rattle.std.proofs.Common.{refl, sym, ap, ◌∙◌, subst, append_assoc, arith}
+use Rattle.std.specs.Prelude.{bit_and}
+use Rattle.std.specs.FinMap.{keys, contains_key}
 use Rattle.std.specs.List.{list_any}
-use Rattle.std.proofs.lemmas.Bool.{false≢true, and_parts, and_from, or_parts}
+use Rattle.std.proofs.lemmas.Bool.{false≢true, and_parts, and_from}
 use Rattle.std.proofs.lemmas.List.{append-nil}
 use Rattle.std.proofs.lemmas.List.Folds.{list_any-append}
 use Rattle.reg_names.specs.Names.{folded, path_of}
-use Rattle.reg_heap.specs.Paths.{Path, Tree, path_cmp}
+use Rattle.reg_heap.specs.Paths.{Path, Tree}
 use Rattle.reg_heap.specs.Edits.{above, child_path, has_child, last_there, missing, is_within, is_under}
 use Rattle.reg_heap.specs.Trees.{IsTree}
 use Rattle.reg_heap.proofs.ChildrenOfPath.{path-is}
-use Rattle.reg_heap.proofs.DeletedTrees.{within-rest, within-append, within-self, under-rest, under-append, under-parts, none-passes, all-fail}
+use Rattle.reg_heap.proofs.DeletedTrees.{within-rest, within-append, within-self, under-rest, under-append, none-passes, all-fail}
 use Rattle.reg_model.specs.declared.filters.TheConstants.{NAME}
 use Rattle.reg_model.specs.declared.call.Change.{Change}
-use Rattle.reg_model.specs.declared.call.Change.TheVariants.{OpenRoot, OpenKey, CreateKey, SetValue, DeleteValue, DeleteKey, DeleteTree, SetSecurity, Notify, Close}
-use Rattle.reg_model.specs.declared.notice.Reason.{Reason}
+use Rattle.reg_model.specs.declared.call.Change.TheVariants.{OpenRoot, OpenKey, CreateKey, SetValue, DeleteValue, DeleteKey, DeleteTree, SetSecurity}
+use Rattle.reg_model.specs.declared.call.Change.TheVariants.{Notify, Close}
 use Rattle.reg_model.specs.declared.notice.Reason.TheVariants.{Matched, Gone, Closed}
 use Rattle.reg_model.specs.declared.reply.Entry.{Entry}
-use Rattle.reg_model.specs.Worlds.{World, same_path, path_at, path_from}
+use Rattle.reg_model.specs.Worlds.{same_path, path_at, path_from}
 use Rattle.reg_model.specs.Causes.{State, change_cause}
-use Rattle.reg_model.specs.Watches.{Watch, Event, is_hit, event_at, above_each, makings, removals, cleared, few_makings, few_removals, events, few_events}
+use Rattle.reg_model.specs.Watches.{Watch, is_hit, event_at, above_each, removals, cleared, few_makings, few_removals, events, few_events}
 use Rattle.reg_model.specs.Watches.{removes, closing, is_closed, ending, few_ending, reason}
 use Rattle.reg_model.proofs.AcceptedCalls.{delete-tree-met, DeleteTreeMet}
 use Rattle.reg_model.proofs.HandleInvariant.{Has, path-below, same-self}
@@ -145,18 +145,22 @@ module _ (t : Tree) (i : IsTree t) (v : Watch) (there : Has t v.path) where
         by (inl l) = longer l.0 l.1
         by (inr r) = absurd (not_there r.0 (subst (Has t) r.1 there))
 
-    as_first-all : (names : List (List ℕ)) (more : Path) → list_any (is_hit v) (map (event_at NAME) (above_each ((p ++ folded name ∷ []) ++ more) names)) ≡ true →
+    as_first-all : (names : List (List ℕ)) (more : Path) → list_any (is_hit v)
+        (map (event_at NAME) (above_each ((p ++ folded name ∷ []) ++ more) names)) ≡ true →
         is_hit v (event_at NAME p) ≡ true
     as_first-all [] more e = absurd (false≢true e)
-    as_first-all (n ∷ names) more e = by (or_cases (is_hit v (event_at NAME ((p ++ folded name ∷ []) ++ more))) _ e) (as_first-all names (more ++ folded n ∷ []))
+    as_first-all (n ∷ names) more e = by (or_cases (is_hit v (event_at NAME ((p ++ folded name ∷ []) ++ more))) _ e)
+        (as_first-all names (more ++ folded n ∷ []))
       where
         by : (is_hit v (event_at NAME ((p ++ folded name ∷ []) ++ more)) ≡ true) ⊎
             (list_any (is_hit v) (map (event_at NAME) (above_each (child_path ((p ++ folded name ∷ []) ++ more) n) names)) ≡ true) →
-            (list_any (is_hit v) (map (event_at NAME) (above_each ((p ++ folded name ∷ []) ++ (more ++ folded n ∷ [])) names)) ≡ true → is_hit v (event_at NAME p) ≡ true) →
+            (list_any (is_hit v) (map (event_at NAME) (above_each ((p ++ folded name ∷ []) ++ (more ++ folded n ∷ [])) names)) ≡ true → is_hit v
+            (event_at NAME p) ≡ true) →
             is_hit v (event_at NAME p) ≡ true
         by (inl h) rest = let is = hit-parts v NAME ((p ++ folded name ∷ []) ++ more) h in
             hit-from v NAME p (record { kind = is.kind; place = as_first NAME more is.place })
-        by (inr r) rest = rest (subst (λ (q : Path). list_any (is_hit v) (map (event_at NAME) (above_each q names)) ≡ true) (append_assoc (p ++ folded name ∷ []) more (folded n ∷ [])) r)
+        by (inr r) rest = rest (subst (λ (q : Path). list_any (is_hit v) (map (event_at NAME) (above_each q names)) ≡ true)
+            (append_assoc (p ++ folded name ∷ []) more (folded n ∷ [])) r)
 
   few-made : (p : Path) (ms : List (List ℕ)) → ((name : List ℕ) (names : List (List ℕ)) → ms ≡ name ∷ names → has_child t p name ≡ false) →
       list_any (is_hit v) (few_makings ms p) ≡ list_any (is_hit v) (map (event_at NAME) (above_each p ms))
@@ -166,7 +170,8 @@ module _ (t : Tree) (i : IsTree t) (v : Watch) (there : Has t v.path) where
       (subst (λ (q : Path). list_any (is_hit v) (map (event_at NAME) (above_each q names)) ≡ true) (sym (append-nil (p ++ folded name ∷ []))) e))
 
 -- the first key that a path misses isn't there
-first-missing : (t : Tree) (p : Path) (names : List (List ℕ)) (name : List ℕ) (rest : List (List ℕ)) → missing t p names ≡ name ∷ rest → has_child t (last_there t p names) name ≡ false
+first-missing : (t : Tree) (p : Path) (names : List (List ℕ)) (name : List ℕ) (rest : List (List ℕ)) → missing t p names ≡ name ∷ rest → has_child t
+    (last_there t p names) name ≡ false
 first-missing t p [] name rest e = absurd (cc)
 first-missing t p (n ∷ names) name rest e = by (has_child t p n) refl e (first-missing t (child_path p n) names name rest)
   where
@@ -183,11 +188,13 @@ abbrev among : Tree → (Path → Bool) → Watch → Bool
 among t gone v = list_any (λ (q : Path). gone q && is_hit v (event_at NAME (above q))) (keys t)
 
 any-among : (gone : Path → Bool) (v : Watch) (ks : List Path) →
-    list_any (is_hit v) (map (λ (q : Path). event_at NAME (above q)) (filter gone ks)) ≡ list_any (λ (q : Path). gone q && is_hit v (event_at NAME (above q))) ks
+    list_any (is_hit v) (map (λ (q : Path). event_at NAME (above q)) (filter gone ks)) ≡ list_any
+    (λ (q : Path). gone q && is_hit v (event_at NAME (above q))) ks
 any-among gone v [] = refl
 any-among gone v (q ∷ ks) = by (gone q) (any-among gone v ks)
   where
-    by : (b : Bool) → list_any (is_hit v) (map (λ (q : Path). event_at NAME (above q)) (filter gone ks)) ≡ list_any (λ (q : Path). gone q && is_hit v (event_at NAME (above q))) ks →
+    by : (b : Bool) → list_any (is_hit v) (map (λ (q : Path). event_at NAME (above q)) (filter gone ks)) ≡ list_any
+        (λ (q : Path). gone q && is_hit v (event_at NAME (above q))) ks →
         list_any (is_hit v) (map (λ (q : Path). event_at NAME (above q)) (cond b (q ∷ filter gone ks) (filter gone ks))) ≡
         ((b && is_hit v (event_at NAME (above q))) || list_any (λ (q : Path). gone q && is_hit v (event_at NAME (above q))) ks)
     by true rest = ap (λ (b : Bool). is_hit v (event_at NAME (above q)) || b) rest
@@ -199,11 +206,13 @@ not_both true false f = refl
 not_both false b f = refl
 
 -- where no key that passes hits, none is among them
-none-among : (t : Tree) (gone : Path → Bool) (v : Watch) → ((q : Path) → contains_key t q ≡ true → gone q ≡ true → is_hit v (event_at NAME (above q)) ≡ true → ⊥) → among t gone v ≡ false
+none-among : (t : Tree) (gone : Path → Bool) (v : Watch) → ((q : Path) → contains_key t q ≡ true → gone q ≡ true → is_hit v (event_at NAME (above q)) ≡ true →
+    ⊥) → among t gone v ≡ false
 none-among t gone v none = all-fail t (λ (q : Path). gone q && is_hit v (event_at NAME (above q))) (λ q there. not_both _ _ (none q there))
 
 -- and a key that passes and hits is
-one-among : (t : Tree) (gone : Path → Bool) (v : Watch) (q : Path) → contains_key t q ≡ true → gone q ≡ true → is_hit v (event_at NAME (above q)) ≡ true → among t gone v ≡ true
+one-among : (t : Tree) (gone : Path → Bool) (v : Watch) (q : Path) → contains_key t q ≡ true → gone q ≡ true → is_hit v (event_at NAME (above q)) ≡ true →
+    among t gone v ≡ true
 one-among t gone v q there is hit = by (among t gone v) refl
   where
     by : (b : Bool) → among t gone v ≡ b → among t gone v ≡ true
@@ -230,7 +239,8 @@ module _ (t : Tree) (v : Watch) (p : Path) where
             ends [] same s = absurd (false≢true (sym apart ∙ subst (λ (r : Path). is_within p r ≡ true) (same ∙ append-nil v.path) (within-self p)))
             ends (y ∷ ys) same s =
                 let c = snoc y ys in
-                below s c.front (ap above (same ∙ ap (λ (r : Path). v.path ++ r) c.is ∙ sym (append_assoc v.path c.front (c.name ∷ []))) ∙ above-push (v.path ++ c.front) c.name)
+                below s c.front (ap above (same ∙ ap (λ (r : Path). v.path ++ r) c.is ∙ sym (append_assoc v.path c.front (c.name ∷ []))) ∙ above-push
+                (v.path ++ c.front) c.name)
 
             either : v.subtree ≡ true → ((z : Path) × (p ≡ v.path ++ z)) ⊎ ((z : Path) × (v.path ≡ p ++ z)) → HitAt v (above p)
             either s (inl l) = ends l.0 l.1 s
@@ -265,7 +275,8 @@ module _ (t : Tree) (v : Watch) (p : Path) where
     in_contents q under hit =
         let r = under-rest p q under in
         let c = snoc r.0 r.1 in
-        at_front c.front (subst (HitAt v) (ap above (r.2 ∙ ap (λ (r : Path). p ++ r) c.is ∙ sym (append_assoc p c.front (c.name ∷ []))) ∙ above-push (p ++ c.front) c.name) hit)
+        at_front c.front (subst (HitAt v) (ap above (r.2 ∙ ap (λ (r : Path). p ++ r) c.is ∙ sym (append_assoc p c.front (c.name ∷ []))) ∙ above-push
+        (p ++ c.front) c.name) hit)
       where
         same_or : (z : Path) → v.path ≡ p ++ z → HitAt v p
         same_or [] e = at (e ∙ append-nil p)
@@ -322,9 +333,11 @@ module _ (s : State) (e : Entry) (v : Watch) (i : IsTree s.world.tree) (there : 
 
   few-tree : (h : ℕ) (path : List ℕ) → DeleteTreeMet s e.session h path → (b : Bool) → (length path == 0) ≡ b →
       cond b (is_under (path_at e.session h s.world.handles) v.path) (is_within (path_from e.session h s.world.handles path) v.path) ≡ false →
-      list_any (is_hit v) (cond b (few_removals s.world.tree (path_at e.session h s.world.handles) ++ cleared s.world.tree (path_at e.session h s.world.handles))
+      list_any (is_hit v) (cond b (few_removals s.world.tree (path_at e.session h s.world.handles) ++ cleared s.world.tree
+      (path_at e.session h s.world.handles))
       (event_at NAME (above (path_from e.session h s.world.handles path)) ∷ [])) ≡
-      list_any (is_hit v) (cond b (removals s.world.tree (is_under (path_at e.session h s.world.handles)) ++ cleared s.world.tree (path_at e.session h s.world.handles))
+      list_any (is_hit v) (cond b (removals s.world.tree (is_under (path_at e.session h s.world.handles)) ++ cleared s.world.tree
+      (path_at e.session h s.world.handles))
       (removals s.world.tree (is_within (path_from e.session h s.world.handles path))))
   few-tree h path met true empty apart =
       let p = path_at e.session h s.world.handles in
@@ -344,7 +357,8 @@ module _ (s : State) (e : Entry) (v : Watch) (i : IsTree s.world.tree) (there : 
     | OpenKey h path mask ↦ λ none apart. refl
     | CreateKey h path mask given ↦ λ none apart.
         let p = path_at e.session h s.world.handles in
-        few-made s.world.tree i v there (last_there s.world.tree p (path_of path)) (missing s.world.tree p (path_of path)) (first-missing s.world.tree p (path_of path))
+        few-made s.world.tree i v there (last_there s.world.tree p (path_of path)) (missing s.world.tree p (path_of path))
+        (first-missing s.world.tree p (path_of path))
     | SetValue h name kind bytes ↦ λ none apart. refl
     | DeleteValue h name ↦ λ none apart. refl
     | DeleteKey h path ↦ λ none apart. refl
@@ -355,7 +369,8 @@ module _ (s : State) (e : Entry) (v : Watch) (i : IsTree s.world.tree) (there : 
   ]
 
   reason-by : (gone closed few all : Bool) → (gone ≡ false → few ≡ all) →
-      cond gone (Some Gone) (cond closed (Some Closed) (cond few (Some Matched) None)) ≡ cond gone (Some Gone) (cond closed (Some Closed) (cond all (Some Matched) None))
+      cond gone (Some Gone) (cond closed (Some Closed) (cond few (Some Matched) None)) ≡ cond gone (Some Gone)
+      (cond closed (Some Closed) (cond all (Some Matched) None))
   reason-by true closed few all f = refl
   reason-by false closed few all f = ap (λ (b : Bool). cond closed (Some Closed) (cond b (Some Matched) None)) (f refl)
 

@@ -1,13 +1,14 @@
 -- The watches that are pending after a legal journal: whose they are, where they are, how many they are, and that few events tell them apart.
-use Rattle.std.proofs.Common.{◌≡◌, ℕ, ◌+◌, ◌<◌, ◌≤◌, nat_le, Bool, true, false, not, cond, eqb, ◌==◌, List, [], ◌∷◌, ◌++◌, length, map, filter, Option, Some, None, is_some}
+use Rattle.std.proofs.Common.{◌≡◌, ℕ, ◌+◌, ◌<◌, ◌≤◌, nat_le, Bool, true, false, not, cond, eqb, ◌==◌, List, [], ◌∷◌, ◌++◌, length, map, filter, Option}
+use Rattle.std.proofs.Common.{Some, None, is_some}
 use Rattle.std.proofs.Common.{refl, sym, ap, ◌∙◌, subst, arith, length-append}
-use Rattle.std.specs.Prelude.{IsSome, count_by, option_to_list}
-use Rattle.std.specs.List.{All, AllByRecursion, list_any, filter_map}
+use Rattle.std.specs.Prelude.{IsSome, option_to_list}
+use Rattle.std.specs.List.{All, AllByRecursion, list_any}
 use Rattle.std.specs.List.Sorted.{IsStrictlyIncreasing, IsStrictlySortedBy}
-use Rattle.std.specs.Ordering.{nat_cmp, eq_by_cmp}
+use Rattle.std.specs.Ordering.{nat_cmp}
 use Rattle.std.specs.declared.cmp.Ordering.TheVariants.{Less as Lesser}
 use Rattle.std.specs.FinMap.{get}
-use Rattle.std.proofs.lemmas.Bool.{eqb-true, eqb-false, eq-eqb, ne_eqb, false≢true}
+use Rattle.std.proofs.lemmas.Bool.{eqb-true, eq-eqb, ne_eqb, false≢true}
 use Rattle.std.proofs.lemmas.Bool.Decides.{nat_tests}
 use Rattle.std.proofs.lemmas.List.Elements.{All-from_recursion}
 use Rattle.std.proofs.lemmas.Map.Keys.{IsStrictlyIncreasing-from_sorted}
@@ -16,20 +17,23 @@ use Rattle.reg_heap.specs.Edits.{is_within, is_under}
 use Rattle.reg_heap.specs.Trees.{IsTree}
 use Rattle.reg_model.specs.declared.limits.TheConstants.{WATCHES_LIMIT}
 use Rattle.reg_model.specs.declared.call.Change.{Change}
-use Rattle.reg_model.specs.declared.call.Change.TheVariants.{OpenRoot, OpenKey, CreateKey, SetValue, DeleteValue, DeleteKey, DeleteTree, SetSecurity, Notify, Close}
+use Rattle.reg_model.specs.declared.call.Change.TheVariants.{OpenRoot, OpenKey, CreateKey, SetValue, DeleteValue, DeleteKey, DeleteTree, SetSecurity}
+use Rattle.reg_model.specs.declared.call.Change.TheVariants.{Notify, Close}
 use Rattle.reg_model.specs.declared.notice.Notice.{Notice}
 use Rattle.reg_model.specs.declared.notice.Reason.{Reason}
 use Rattle.reg_model.specs.declared.notice.Reason.TheVariants.{Matched, Gone, Closed}
 use Rattle.reg_model.specs.declared.reply.Entry.{Entry}
-use Rattle.reg_model.specs.Worlds.{World, Handle, At, Deleted, Destination, StandsIn, after, opened, closed, destination_past, turned_past, same_path, numbered, look, path_at, path_from}
+use Rattle.reg_model.specs.Worlds.{World, Handle, At, Deleted, StandsIn, after, opened, closed, destination_past, turned_past, same_path, numbered, look}
+use Rattle.reg_model.specs.Worlds.{path_at, path_from}
 use Rattle.reg_model.specs.Causes.{State, change_cause, watches_of}
-use Rattle.reg_model.specs.Watches.{Watch, IsWatching, Ending, ending, few_ending, removes, closing, is_closed, watch_of, is_hit, events, reason, stays, pending_past, notice_for, notice_to, notices}
+use Rattle.reg_model.specs.Watches.{Watch, IsWatching, Ending, ending, few_ending, removes, closing, is_closed, watch_of, is_hit, reason, stays}
+use Rattle.reg_model.specs.Watches.{pending_past, notice_for, notice_to, notices}
 use Rattle.reg_model.specs.Histories.{replay, state_of, pending, fired, IsFit, IsLegal}
 use Rattle.reg_model.proofs.JournalGrowth.{replay-push, pending-push, fired-push}
 use Rattle.reg_model.proofs.AcceptedCalls.{Target, target-path, notify-met}
-use Rattle.reg_model.proofs.HandleInvariant.{Has, in-either}
-use Rattle.reg_model.proofs.HandlesUntilClosed.{Found, found, numbered-more, numbered-others, numbered-turned, turned_one, owner-is, numbered-below}
-use Rattle.reg_model.proofs.LegalJournals.{by_entries, rising-all, AreRising, all-stand, less_than}
+use Rattle.reg_model.proofs.HandleInvariant.{Has}
+use Rattle.reg_model.proofs.HandlesUntilClosed.{found, numbered-more, numbered-others, numbered-turned, turned_one, owner-is, numbered-below}
+use Rattle.reg_model.proofs.LegalJournals.{by_entries, rising-all, less_than}
 use Rattle.reg_model.proofs.TreesOfJournals.{tree-stays}
 use Rattle.reg_model.proofs.FewEvents.{few-reason}
 use Rattle.reg_model.specs.Worlds.{without_contents}
@@ -88,10 +92,12 @@ watching-after w e v l = elim e.change as (λ (change : Change). Staying (ending
       | DeleteTree h path ↦ λ s is. in-tree h path (length path == 0) s.key is
       | SetSecurity h descriptor ↦ λ s is. is
       | Notify h filter subtree ↦ λ s is. is
-      | Close h ↦ λ s is. watching-same w.handles (closed h w.handles) v (numbered-others v.handle h w.handles (ne_eqb v.handle h (λ same. false≢true (sym s.handle ∙ eq-eqb h v.handle (sym same))))) is
+      | Close h ↦ λ s is. watching-same w.handles (closed h w.handles) v
+          (numbered-others v.handle h w.handles (ne_eqb v.handle h (λ same. false≢true (sym s.handle ∙ eq-eqb h v.handle (sym same))))) is
     ]
   where
-    in-tree : (h : ℕ) (path : List ℕ) (b : Bool) → cond b (is_under (path_at e.session h w.handles) v.path) (is_within (path_from e.session h w.handles path) v.path) ≡ false →
+    in-tree : (h : ℕ) (path : List ℕ) (b : Bool) → cond b (is_under (path_at e.session h w.handles) v.path)
+        (is_within (path_from e.session h w.handles path) v.path) ≡ false →
         IsWatching w.handles v → IsWatching (cond b (without_contents w (path_at e.session h w.handles) e.moment)
         (without_branch w (path_from e.session h w.handles path) e.moment)).handles v
     in-tree h path true keeps is = watching-turned w.handles (is_under (path_at e.session h w.handles)) v keeps is
@@ -115,7 +121,8 @@ each-more P [] None ps f = tt
 each-more P [] (Some v) ps f = (f v refl, tt)
 each-more P (v ∷ vs) new ps f = (ps.0, each-more P vs new ps.1 f)
 
-each-past : (P Q : Watch → Type 0) (x : Ending) (new : Option Watch) (vs : List Watch) → ((v : Watch) → stays x v ≡ true → P v → Q v) → ((v : Watch) → new ≡ Some v → Q v) →
+each-past : (P Q : Watch → Type 0) (x : Ending) (new : Option Watch) (vs : List Watch) → ((v : Watch) → stays x v ≡ true → P v → Q v) →
+    ((v : Watch) → new ≡ Some v → Q v) →
     Each P vs → Each Q (pending_past x new vs)
 each-past P Q x new vs old fresh ps = each-more Q (filter (stays x) vs) new (each-left P Q (stays x) old vs ps) fresh
 
@@ -132,7 +139,8 @@ record IsAsked (s : State) (e : Entry) (v : Watch) : Type 0 where
   watching : IsWatching (after s.world e).handles v
 
 asked-one : (s : State) (e : Entry) (h filter : ℕ) (subtree : Bool) (v : Watch) (t : Target (look e.session h s.world.handles)) →
-    record { number = e.number; session = e.session; handle = h; path = path_at e.session h s.world.handles; filter = filter; subtree = subtree } ≡ v → IsWatching s.world.handles v
+    record { number = e.number; session = e.session; handle = h; path = path_at e.session h s.world.handles; filter = filter; subtree = subtree } ≡ v →
+    IsWatching s.world.handles v
 asked-one s e h filter subtree v t same =
     let is = found e.session h s.world.handles t.handle t.found in
     subst (IsWatching s.world.handles) same (record {
@@ -194,12 +202,14 @@ rises-left test (v ∷ vs) r = by (test v) (rises-left test vs r.1)
     by true rest = (less-left v.number test vs r.0, rest)
     by false rest = rest
 
-less-more : (a n : ℕ) (vs : List Watch) (new : Option Watch) → a < n → ((v : Watch) → new ≡ Some v → v.number ≡ n) → Less a vs → Less a (vs ++ option_to_list new)
+less-more : (a n : ℕ) (vs : List Watch) (new : Option Watch) → a < n → ((v : Watch) → new ≡ Some v → v.number ≡ n) → Less a vs → Less a
+    (vs ++ option_to_list new)
 less-more a n [] None l f r = tt
 less-more a n [] (Some v) l f r = let same = f v refl in (less_than a v.number (omega (arith, same, l)), tt)
 less-more a n (x ∷ vs) new l f r = (r.0, less-more a n vs new l f r.1)
 
-rises-more : (n : ℕ) (vs : List Watch) (new : Option Watch) → Each (λ v. v.number < n) vs → ((v : Watch) → new ≡ Some v → v.number ≡ n) → Rises vs → Rises (vs ++ option_to_list new)
+rises-more : (n : ℕ) (vs : List Watch) (new : Option Watch) → Each (λ v. v.number < n) vs → ((v : Watch) → new ≡ Some v → v.number ≡ n) → Rises vs → Rises
+    (vs ++ option_to_list new)
 unfolding IsStrictlySortedBy
 rises-more n [] None below f r = tt
 rises-more n [] (Some v) below f r = (tt, tt)
@@ -237,9 +247,11 @@ counted-more : (session : ℕ) (vs : List Watch) (v : Watch) → counted session
 counted-more session [] v = omega arith
 counted-more session (x ∷ vs) v = let rest = counted-more session vs v in omega (arith, rest)
 
-counted-past : (s : State) (e : Entry) (session : ℕ) (new : Option Watch) → ((v : Watch) → new ≡ Some v → IsAsked s e v) → (vs : List Watch) → counted session vs ≤ counted session s.pending →
+counted-past : (s : State) (e : Entry) (session : ℕ) (new : Option Watch) → ((v : Watch) → new ≡ Some v → IsAsked s e v) → (vs : List Watch) →
+    counted session vs ≤ counted session s.pending →
     counted session s.pending ≤ WATCHES_LIMIT → counted session (vs ++ option_to_list new) ≤ WATCHES_LIMIT
-counted-past s e session None asked vs fewer few = subst (λ (l : List Watch). counted session l ≤ WATCHES_LIMIT) (sym (append-nil vs)) (omega (arith, fewer, few))
+counted-past s e session None asked vs fewer few = subst (λ (l : List Watch). counted session l ≤ WATCHES_LIMIT) (sym (append-nil vs))
+    (omega (arith, fewer, few))
 counted-past s e session (Some v) asked vs fewer few = by (eqb v.session session) refl
   where
     by : (b : Bool) → eqb v.session session ≡ b → counted session (vs ++ v ∷ []) ≤ WATCHES_LIMIT
@@ -268,7 +280,8 @@ watches-none : (origin : Tree) → AreWatches origin []
 unfolding IsStrictlySortedBy
 watches-none origin = record { watching = tt; below = tt; rises = tt; few = λ session. omega arith }
 
-watches-push : (origin : Tree) (past : List Entry) (e : Entry) → IsLegal origin past → IsFit origin past e → AreWatches origin past → AreWatches origin (past ++ e ∷ [])
+watches-push : (origin : Tree) (past : List Entry) (e : Entry) → IsLegal origin past → IsFit origin past e → AreWatches origin past → AreWatches origin
+    (past ++ e ∷ [])
 unfolding ending
 watches-push origin past e l f a =
     let s = state_of origin past in
@@ -285,7 +298,8 @@ watches-push origin past e l f a =
           (subst (λ (w : World). Each (IsWatching w.handles) (pending_past x new s.pending)) world
           (each-past (IsWatching s.world.handles) (IsWatching (after s.world e).handles) x new s.pending
           (λ v stay is. watching-after s.world e v
-          (subst (λ (n : ℕ). v.handle < n) (sym number) (numbered-below v.handle (length past) s.world.handles is.handle rising.below is.found)) (staying x v stay) is)
+          (subst (λ (n : ℕ). v.handle < n) (sym number) (numbered-below v.handle (length past) s.world.handles is.handle rising.below is.found))
+          (staying x v stay) is)
           (λ v is. let k = asked v is in k.watching) a.watching));
       below = subst (λ (vs : List Watch). Each (λ (v : Watch). v.number < length (past ++ e ∷ [])) vs) all
           (each-past (λ (v : Watch). v.number < length past) (λ (v : Watch). v.number < length (past ++ e ∷ [])) x new s.pending
@@ -319,13 +333,15 @@ has-all t hs stand (v ∷ vs) ws =
     let w = ws.0 in
     (subst (StandsIn t) w.destination (stands-numbered t v.handle hs w.handle stand w.found), has-all t hs stand vs ws.1)
 
-pub keys-stand : (origin : Tree) (es : List Entry) → IsLegal origin es → IsSome (get origin []) → Each (λ (v : Watch). Has (replay origin es).tree v.path) (pending origin es)
+pub keys-stand : (origin : Tree) (es : List Entry) → IsLegal origin es → IsSome (get origin []) → Each (λ (v : Watch). Has (replay origin es).tree v.path)
+    (pending origin es)
 keys-stand origin es l h =
     let a = watches-all origin es l in
     let s = standing-all origin es l h in
     has-all (replay origin es).tree (replay origin es).handles s.stand (pending origin es) a.watching
 
-pub watches-stand : (origin : Tree) (es : List Entry) → IsLegal origin es → IsSome (get origin []) → All (λ (v : Watch). IsSome (get (replay origin es).tree v.path)) (pending origin es)
+pub watches-stand : (origin : Tree) (es : List Entry) → IsLegal origin es → IsSome (get origin []) → All
+    (λ (v : Watch). IsSome (get (replay origin es).tree v.path)) (pending origin es)
 watches-stand origin es l h = All-from_recursion _ (pending origin es) (keys-stand origin es l h)
 
 pub watches-below : (origin : Tree) (es : List Entry) → IsLegal origin es → All (λ (v : Watch). v.number < length es) (pending origin es)
@@ -335,7 +351,8 @@ pub watches-rise : (origin : Tree) (es : List Entry) → IsLegal origin es → I
 watches-rise origin es l = let a = watches-all origin es l in IsStrictlyIncreasing-from_sorted (map (λ (v : Watch). v.number) (pending origin es)) a.rises
 
 pub watches-few : (origin : Tree) (es : List Entry) (session : ℕ) → IsLegal origin es → watches_of session (pending origin es) ≤ WATCHES_LIMIT
-watches-few origin es session l = let a = watches-all origin es l in subst (λ (n : ℕ). n ≤ WATCHES_LIMIT) (counted-is session (pending origin es)) (a.few session)
+watches-few origin es session l = let a = watches-all origin es l in subst (λ (n : ℕ). n ≤ WATCHES_LIMIT) (counted-is session (pending origin es))
+    (a.few session)
 
 -- ---- few events
 
@@ -347,7 +364,8 @@ few-each : (origin : Tree) (past : List Entry) (e : Entry) → IsTree (replay or
 few-each origin past e i f [] hs = tt
 few-each origin past e i f (v ∷ vs) hs = (few-reason (state_of origin past) e v i hs.0 0 f.accepted, few-each origin past e i f vs hs.1)
 
-few-all : (origin : Tree) (past : List Entry) (e : Entry) → IsTree origin → IsLegal origin past → IsFit origin past e → Each (Alike origin past e) (pending origin past)
+few-all : (origin : Tree) (past : List Entry) (e : Entry) → IsTree origin → IsLegal origin past → IsFit origin past e → Each (Alike origin past e)
+    (pending origin past)
 few-all origin past e i l f = few-each origin past e (tree-stays origin past l i) f (pending origin past) (keys-stand origin past l i.root)
 
 pub few-suffice : (origin : Tree) (past : List Entry) (e : Entry) → IsTree origin → IsLegal origin past → IsFit origin past e →
@@ -360,7 +378,8 @@ left-alike x y (v ∷ vs) same =
     ap (λ (o : Option Reason). cond (not (is_some o)) (v ∷ filter (stays x) vs) (filter (stays x) vs)) same.0
     ∙ ap (λ (rest : List Watch). cond (stays y v) (v ∷ rest) rest) (left-alike x y vs same.1)
 
-told-alike : (session : ℕ) (x y : Ending) → x.by ≡ y.by → (vs : List Watch) → Each (λ (v : Watch). reason x v ≡ reason y v) vs → notices session x vs ≡ notices session y vs
+told-alike : (session : ℕ) (x y : Ending) → x.by ≡ y.by → (vs : List Watch) → Each (λ (v : Watch). reason x v ≡ reason y v) vs →
+    notices session x vs ≡ notices session y vs
 told-alike session x y by [] same = refl
 told-alike session x y by (v ∷ vs) same =
     let one : notice_to session x v ≡ notice_to session y v =

@@ -1,20 +1,19 @@
 -- Notifications: refusals of a registration, what changes are events of, what hits, and what is told. Expected numbers are those of the rules.
-use Rattle.std.proofs.Common.{◌≡◌, ℕ, Bool, true, false, List, [], ◌∷◌, ◌++◌, replicate, Option, Some, None, refl}
+use Rattle.std.proofs.Common.{◌≡◌, ℕ, Bool, true, false, List, [], ◌∷◌, ◌++◌, replicate, Some, None, refl}
 use Rattle.std.specs.FinMap.{get, insert, empty, from_sorted, entries-from_sorted, get-from_sorted}
-use Rattle.reg_names.specs.Names.{are_key_names}
-use Rattle.reg_heap.specs.Paths.{Path, Tree, Rec, path_cmp}
+use Rattle.reg_heap.specs.Paths.{Path, Tree, path_cmp}
 use Rattle.reg_model.specs.declared.call.Change.{Change}
 use Rattle.reg_model.specs.declared.call.Change.TheVariants.{OpenRoot, OpenKey, CreateKey, SetValue, DeleteValue, DeleteKey, DeleteTree, SetSecurity, Notify, Close}
 use Rattle.reg_model.specs.declared.notice.Notice.{Notice}
 use Rattle.reg_model.specs.declared.notice.Reason.{Reason}
 use Rattle.reg_model.specs.declared.notice.Reason.TheVariants.{Matched, Gone, Closed}
 use Rattle.reg_model.specs.declared.reply.Entry.{Entry}
-use Rattle.reg_model.specs.Worlds.{World, Handle, At, Deleted, after}
-use Rattle.reg_model.specs.Watches.{Watch, Event, event_at, is_hit, events, few_events, removes, closing, watch_of, ending, reason, notices}
+use Rattle.reg_model.specs.Worlds.{World, At, after}
+use Rattle.reg_model.specs.Watches.{Watch, event_at, is_hit, events, few_events, removes, closing, watch_of, ending, reason, notices}
 use Rattle.reg_model.specs.Causes.{State, early_cause, late_cause, change_cause, rule_of}
 use Rattle.reg_model.specs.Replies.{reply_to}
 use Rattle.reg_model.specs.Histories.{pending, fired}
-use Rattle.reg_model.proofs.RowsRefusals.{handle, handles, root, few, full}
+use Rattle.reg_model.proofs.RowsRefusals.{handle, root, few, full}
 use Rattle.reg_model.proofs.RowsDeleteTree.{a, ab, a_b, a_b_c, value, key}
 
 -- ---- refusals: 6, 1018, 87, 5, 1450 and the callbacks' status, in this order
@@ -311,6 +310,44 @@ three =
 all_three : fired bare three 0 ≡ told 3 7 Matched ∷ told 4 7 Matched ∷ told 5 8 Closed ∷ []
 unfolding after watch_of reason ending events removes closing
 all_three = refl
+
+-- the watch of the later entry is told first where an earlier entry ends it
+abbrev crossed : List Entry
+crossed =
+    entry 0 (OpenRoot 983103) ∷ entry 1 (CreateKey 0 (65 ∷ []) 983103 None) ∷ entry 2 (Notify 1 4 false) ∷ entry 3 (Notify 0 4 false)
+    ∷ entry 4 (SetValue 0 v 4 (1 ∷ [])) ∷ entry 5 (SetValue 1 v 4 (1 ∷ [])) ∷ []
+
+by_then_watch : fired bare crossed 0 ≡ told 3 4 Matched ∷ told 2 5 Matched ∷ []
+unfolding after watch_of reason ending events removes closing
+by_then_watch = refl
+
+-- a value set to the data that it has
+equal_data : fired bare (entry 0 (OpenRoot 983103) ∷ entry 1 (SetValue 0 v 4 (1 ∷ [])) ∷ entry 2 (Notify 0 4 false) ∷ entry 3 (SetValue 0 v 4 (1 ∷ [])) ∷ []) 0 ≡ told 2 3 Matched ∷ []
+unfolding after watch_of reason ending events removes closing
+equal_data = refl
+
+-- session 1 watches, and session 0 sets: session 1 is told
+abbrev of_session : ℕ → Entry → Entry
+of_session session e = record e { session = session }
+
+abbrev two_sessions : List Entry
+two_sessions =
+    entry 0 (OpenRoot 983103) ∷ of_session 1 (entry 1 (OpenRoot 983103)) ∷ of_session 1 (entry 2 (Notify 1 4 false)) ∷ entry 3 (SetValue 0 v 4 (1 ∷ [])) ∷ []
+
+told_who_watched : fired bare two_sessions 1 ≡ told 2 3 Matched ∷ []
+unfolding after watch_of reason ending events removes closing
+told_who_watched = refl
+
+not_who_set : fired bare two_sessions 0 ≡ []
+unfolding after watch_of reason ending events removes closing
+not_who_set = refl
+
+-- the key gone, and then the handle closed: told once
+gone_once :
+    fired bare (entry 0 (OpenRoot 983103) ∷ entry 1 (CreateKey 0 (75 ∷ []) 983103 None) ∷ entry 2 (Notify 1 4 false) ∷ entry 3 (DeleteKey 0 (75 ∷ [])) ∷ entry 4 (Close 1) ∷ []) 0
+    ≡ told 2 3 Gone ∷ []
+unfolding after watch_of reason ending events removes closing
+gone_once = refl
 
 -- `AB\X` isn't below `A`, and `A\X` is
 abbrev subtree : Watch

@@ -1,5 +1,5 @@
 -- What changes are events of, and the watches that they end (Win32 registry reference, `RegNotifyChangeKeyValue`).
-use Rattle.std.specs.Prelude.{◌≡◌, ℕ, ◌+◌, ◌==◌, ◌&&◌, ◌||◌, not, nat_lt, Bool, true, false, List, [], ◌∷◌, ◌++◌, map, filter, length, if◌then◌else◌}
+use Rattle.std.specs.Prelude.{◌≡◌, ℕ, ◌==◌, ◌&&◌, ◌||◌, not, nat_lt, Bool, false, List, [], ◌∷◌, ◌++◌, map, filter, length, if◌then◌else◌}
 use Rattle.std.specs.Prelude.{bit_and, Option, Some, None, is_some, option_to_list}
 use Rattle.std.specs.List.{list_any, filter_map}
 use Rattle.std.specs.FinMap.{keys}
@@ -9,7 +9,7 @@ use Rattle.reg_heap.specs.Edits.{values_at, above, child_path, last_there, missi
 use Rattle.reg_model.specs.declared.filters.TheConstants.{NAME, LAST_SET, SECURITY}
 use Rattle.reg_model.specs.Worlds.{World, Handle, At, numbered, path_at, path_from, same_path}
 use Rattle.reg_model.specs.declared.call.Change.{Change}
-use Rattle.reg_model.specs.declared.call.Change.TheVariants.{OpenRoot, OpenKey, CreateKey, SetValue, DeleteValue, DeleteKey, DeleteTree, SetSecurity, Notify, Close}
+use Rattle.reg_model.specs.declared.call.Change.TheVariants.{CreateKey, SetValue, DeleteValue, DeleteKey, DeleteTree, SetSecurity, Notify, Close}
 use Rattle.reg_model.specs.declared.notice.Notice.{Notice}
 use Rattle.reg_model.specs.declared.notice.Reason.{Reason}
 use Rattle.reg_model.specs.declared.notice.Reason.TheVariants.{Matched, Gone, Closed}

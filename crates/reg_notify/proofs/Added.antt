@@ -1,6 +1,7 @@
 -- A table with a watch more, or with none.
-use Rattle.std.proofs.Common.{◌≡◌, ℕ, ◌+◌, ◌<◌, ◌≤◌, Bool, true, false, cond, eqb, ◌==◌, List, [], ◌∷◌, ◌++◌, length, map, Option, Some, None, refl, sym, ap, ◌∙◌, subst, arith, length-append}
-use Rattle.std.specs.Prelude.{All, count_by, vec_len, vec_capacity}
+use Rattle.std.proofs.Common.{◌≡◌, ℕ, ◌+◌, ◌<◌, ◌≤◌, Bool, true, false, cond, eqb, List, [], ◌∷◌, ◌++◌, length, Some, refl, sym, ap, ◌∙◌, subst, arith}
+use Rattle.std.proofs.Common.{length-append}
+use Rattle.std.specs.Prelude.{All, vec_len, vec_capacity}
 use Rattle.std.specs.List.{AllByRecursion}
 use Rattle.std.proofs.lemmas.Bool.{eqb-true}
 use Rattle.std.proofs.lemmas.List.{map_push}
@@ -14,10 +15,12 @@ use Rattle.reg_notify.specs.declared.asked.Registration.{Registration}
 use Rattle.reg_notify.specs.declared.table.Row.{Row}
 use Rattle.reg_notify.specs.declared.table.Table.{Table}
 use Rattle.reg_notify.specs.Internal.Indexes.{number_at, UpdatesText}
-use Rattle.reg_notify.specs.Internal.Queues.{told_at, taken_at, room_at, pending_at, HaveRoom}
+use Rattle.reg_notify.specs.Internal.Keys.{lead_of}
+use Rattle.reg_notify.specs.Internal.Marks.{is_marked, AreMarked}
+use Rattle.reg_notify.proofs.MarkedRows.{marks-more, marks-kept}
+use Rattle.reg_notify.specs.Internal.Queues.{told_at, taken_at, room_at, pending_at}
 use Rattle.reg_notify.specs.Internal.Rows.{watch_at, watches_at, rows_of, IsRow, IsTable, place_of, holder_of}
 use Rattle.reg_notify.specs.Internal.Settled.{shown, IsSettled, IsRowOf}
-use Rattle.reg_notify.specs.Internal.States.{IsReady}
 use Rattle.reg_notify.proofs.AddedRows.{AreBelow, table-more, table-same, rows-push}
 use Rattle.reg_notify.proofs.QueueSteps.{same-length-of, told-same, taken-same}
 
@@ -58,10 +61,12 @@ row-shown asked r is =
 
 -- ---- one watch more
 
-module _ (t t' : Table) (asked : Registration) (r : Row) (settled : IsSettled t) (below : AreBelow asked.number t.rows.entries) (fit : IsRow asked.number r) (of : IsRowOf asked r)
+module _ (t t' : Table) (asked : Registration) (r : Row) (settled : IsSettled t) (below : AreBelow asked.number t.rows.entries) (fit : IsRow asked.number r)
+    (of : IsRowOf asked r)
     (rows : t'.rows.entries ≡ t.rows.entries ++ (asked.number, r) ∷ [])
     (places : UpdatesText (number_at t.places.by_text.entries) (place_of asked.number r) (Some asked.number) (number_at t'.places.by_text.entries))
     (handles : UpdatesText (number_at t.handles.by_text.entries) (holder_of asked.number r) (Some asked.number) (number_at t'.handles.by_text.entries))
+    (marks : t'.marks ≡ t.marks) (marked : is_marked t.marks.slots.items (lead_of r.place) ≡ true)
     (sent : t'.sent ≡ t.sent) (capacity : vec_len t.sent + (length t.rows.entries + 1) ≤ vec_capacity t.sent)
     (pending : (s : ℕ) → pending_at t'.queues.items s ≡ cond (eqb s asked.session) (pending_at t.queues.items s + 1) (pending_at t.queues.items s))
     (rooms : (s : ℕ) → room_at t'.queues.items s ≡ room_at t.queues.items s) (told : (s : ℕ) → told_at t'.queues.items s ≡ told_at t.queues.items s)
@@ -104,9 +109,15 @@ module _ (t t' : Table) (asked : Registration) (r : Row) (settled : IsSettled t)
   pub added-settled : IsSettled t'
   added-settled = record {
     ready = record {
-      table = let ready = settled.ready in subst (λ (l : List (ℕ × Row)). IsTable l (number_at t'.places.by_text.entries) (number_at t'.handles.by_text.entries)) (sym rows)
-          (table-more asked.number r t.rows.entries below (number_at t.places.by_text.entries) (number_at t.handles.by_text.entries) (number_at t'.places.by_text.entries)
+      table = let ready = settled.ready in subst (λ (l : List (ℕ × Row)). IsTable l (number_at t'.places.by_text.entries)
+          (number_at t'.handles.by_text.entries)) (sym rows)
+          (table-more asked.number r t.rows.entries below (number_at t.places.by_text.entries) (number_at t.handles.by_text.entries)
+          (number_at t'.places.by_text.entries)
           (number_at t'.handles.by_text.entries) ready.table fit places handles);
+      marks =
+          let ready = settled.ready in
+          subst (AreMarked t'.marks.slots.items) (sym rows) (subst (λ m. AreMarked m.slots.items (t.rows.entries ++ (asked.number, r) ∷ [])) (sym marks)
+          (marks-more t.marks.slots.items asked.number r t.rows.entries ready.marks marked));
       room = room;
     };
     silent = ap (λ v. v.items) sent ∙ settled.silent;
@@ -120,7 +131,8 @@ module _ (t t' : Table) (asked : Registration) (r : Row) (settled : IsSettled t)
 
   pub added-shown : Adds (watch_in asked) (shown t) (shown t')
   added-shown = record {
-    pending = ap watches_at rows ∙ map_push watch_at t.rows.entries (asked.number, r) ∙ ap (λ (v : Watch). watches_at t.rows.entries ++ v ∷ []) (row-shown asked r of);
+    pending = ap watches_at rows ∙ map_push watch_at t.rows.entries (asked.number, r) ∙ ap (λ (v : Watch). watches_at t.rows.entries ++ v ∷ [])
+        (row-shown asked r of);
     told = told-same t.queues.items t'.queues.items same-length told;
     taken = taken-same t.queues.items t'.queues.items same-length taken;
   }
@@ -128,15 +140,22 @@ module _ (t t' : Table) (asked : Registration) (r : Row) (settled : IsSettled t)
 -- ---- none more
 
 -- a table with the same rows, texts and notices, and with queues that tell the same
-pub as-before : (t t' : Table) → IsSettled t → t'.rows.entries ≡ t.rows.entries → ((text : List ℕ) → number_at t'.places.by_text.entries text ≡ number_at t.places.by_text.entries text) →
-    ((text : List ℕ) → number_at t'.handles.by_text.entries text ≡ number_at t.handles.by_text.entries text) → t'.sent.items ≡ t.sent.items → vec_len t'.sent ≡ vec_len t.sent →
-    vec_capacity t.sent ≤ vec_capacity t'.sent → ((s : ℕ) → told_at t'.queues.items s ≡ told_at t.queues.items s) → ((s : ℕ) → pending_at t'.queues.items s ≡ pending_at t.queues.items s) →
+pub as-before : (t t' : Table) → IsSettled t → t'.rows.entries ≡ t.rows.entries →
+    ((text : List ℕ) → number_at t'.places.by_text.entries text ≡ number_at t.places.by_text.entries text) →
+    ((text : List ℕ) → number_at t'.handles.by_text.entries text ≡ number_at t.handles.by_text.entries text) →
+    ((other : List ℕ) → is_marked t.marks.slots.items other ≡ true → is_marked t'.marks.slots.items other ≡ true) → t'.sent.items ≡ t.sent.items →
+    vec_len t'.sent ≡ vec_len t.sent →
+    vec_capacity t.sent ≤ vec_capacity t'.sent → ((s : ℕ) → told_at t'.queues.items s ≡ told_at t.queues.items s) →
+    ((s : ℕ) → pending_at t'.queues.items s ≡ pending_at t.queues.items s) →
     ((s : ℕ) → room_at t.queues.items s ≤ room_at t'.queues.items s) → vec_len t'.queues ≡ vec_len t.queues → IsSettled t'
-as-before t t' settled rows places handles sent short capacity told pending rooms long = record {
+as-before t t' settled rows places handles kept sent short capacity told pending rooms long = record {
   ready = record {
-    table = let ready = settled.ready in subst (λ (l : List (ℕ × Row)). IsTable l (number_at t'.places.by_text.entries) (number_at t'.handles.by_text.entries)) (sym rows)
+    table = let ready = settled.ready in subst (λ (l : List (ℕ × Row)). IsTable l (number_at t'.places.by_text.entries) (number_at t'.handles.by_text.entries))
+        (sym rows)
         (table-same t.rows.entries (number_at t.places.by_text.entries) (number_at t.handles.by_text.entries) (number_at t'.places.by_text.entries)
         (number_at t'.handles.by_text.entries) ready.table places handles);
+    marks = let ready = settled.ready in subst (AreMarked t'.marks.slots.items) (sym rows)
+        (marks-kept t.marks.slots.items t'.marks.slots.items kept t.rows.entries ready.marks);
     room = let ready = settled.ready in let r = ready.room in let n = ap length rows in omega (arith, r, n, short, capacity);
   };
   silent = sent ∙ settled.silent;

@@ -1,14 +1,15 @@
 -- A row that comes behind all others.
-use Rattle.std.proofs.Common.{◌≡◌, ◌≢◌, ℕ, ◌+◌, ◌<◌, ◌^◌, Bool, true, false, cond, eqb, List, [], ◌∷◌, ◌++◌, length, map, Option, Some, None, refl, sym, ap, ◌∙◌, subst, arith, ◌⊎◌, inl, inr}
+use Rattle.std.proofs.Common.{◌≡◌, ℕ, ◌+◌, ◌<◌, ◌^◌, Bool, true, false, cond, eqb, List, [], ◌∷◌, ◌++◌, Option, Some, None, refl, sym, ap, ◌∙◌, subst}
+use Rattle.std.proofs.Common.{arith, ◌⊎◌, inl, inr}
 use Rattle.std.specs.Prelude.{bytes_eq}
 use Rattle.std.specs.List.{AllByRecursion}
 use Rattle.std.specs.List.Sorted.{IsStrictlySortedBy}
 use Rattle.std.specs.Ordering.{nat_cmp}
 use Rattle.std.specs.declared.cmp.Ordering.TheVariants.{Less, Greater}
 use Rattle.std.specs.BTreeMap.{is_at, insert_entry}
-use Rattle.std.specs.Map.{lookup, remove_entry, keys_of}
+use Rattle.std.specs.Map.{remove_entry, keys_of}
 use Rattle.std.specs.Cmp.Lexicographic.{bytes_decides}
-use Rattle.std.proofs.lemmas.Bool.{cond-true, cond-false, false≢true}
+use Rattle.std.proofs.lemmas.Bool.{cond-true, cond-false}
 use Rattle.std.proofs.lemmas.Bool.Decides.{nat_tests}
 use Rattle.reg_notify.specs.declared.table.Row.{Row}
 use Rattle.reg_notify.specs.Internal.Indexes.{UpdatesText}
@@ -94,7 +95,8 @@ found-below n (e ∷ es) m x below found = by (is_at (nat_cmp m) e.0) refl (λ f
 
 -- ---- their order
 
-all-push : (x : ℕ) (n : ℕ) (r : Row) (es : Rows) → x < n → AllByRecursion (λ y. nat_cmp x y ≡ Less) (keys_of es) → AllByRecursion (λ y. nat_cmp x y ≡ Less) (keys_of (es ++ (n, r) ∷ []))
+all-push : (x : ℕ) (n : ℕ) (r : Row) (es : Rows) → x < n → AllByRecursion (λ y. nat_cmp x y ≡ Less) (keys_of es) → AllByRecursion (λ y. nat_cmp x y ≡ Less)
+    (keys_of (es ++ (n, r) ∷ []))
 all-push x n r [] l all = (less x n l, tt)
   where
     less : (x n : ℕ) → x < n → nat_cmp x n ≡ Less
@@ -123,7 +125,8 @@ module _ (text_of : ℕ → Row → List ℕ) (n : ℕ) (r : Row) (es : Rows) (b
       let text : text_of m x ≡ text_of n r = ap (λ (k : ℕ). text_of k x) p.0 ∙ ap (text_of n) p.1 in
       ap index' text ∙ up (text_of n r) ∙ cond-true _ _ _ ((bytes_decides (text_of n r) (text_of n r)).1 refl) ∙ ap Some (sym p.0)
 
-  listed : (text : List ℕ) (m : ℕ) → index' text ≡ Some m → (b : Bool) → bytes_eq (text_of n r) text ≡ b → (x : Row) × (row_at m (es ++ (n, r) ∷ []) ≡ Some x) × (text_of m x ≡ text)
+  listed : (text : List ℕ) (m : ℕ) → index' text ≡ Some m → (b : Bool) → bytes_eq (text_of n r) text ≡ b → (x : Row) ×
+      (row_at m (es ++ (n, r) ∷ []) ≡ Some x) × (text_of m x ≡ text)
   listed text m is true e =
       let number : Some n ≡ Some m = sym (cond-true _ _ _ e) ∙ sym (up text) ∙ is in
       let same : n ≡ m = cc in (
@@ -136,16 +139,22 @@ module _ (text_of : ℕ → Row → List ℕ) (n : ℕ) (r : Row) (es : Rows) (b
       (l.0, still-there n r es m l.0 l.1, l.2)
 
   pub index-more : IsIndex text_of (es ++ (n, r) ∷ []) index'
-  index-more = record { placed = λ m x found. placed m x (was-there n r es m x found); listed = λ text m is. listed text m is (bytes_eq (text_of n r) text) refl }
+  index-more = record {
+    placed = λ m x found. placed m x (was-there n r es m x found);
+    listed = λ text m is. listed text m is
+        (bytes_eq (text_of n r) text) refl;
+  }
 
 -- ---- a table with a row more
 
-module _ (n : ℕ) (r : Row) (es : Rows) (below : AreBelow n es) (places handles places' handles' : List ℕ → Option ℕ) (t : IsTable es places handles) (fit : IsRow n r)
+module _ (n : ℕ) (r : Row) (es : Rows) (below : AreBelow n es) (places handles places' handles' : List ℕ → Option ℕ) (t : IsTable es places handles)
+    (fit : IsRow n r)
     (up : UpdatesText places (place_of n r) (Some n) places') (uh : UpdatesText handles (holder_of n r) (Some n) handles') where
   of-place : (m : ℕ) (x : Row) → row_at m es ≡ Some x → place_of n r ≡ place_of m x → n ≡ m
   of-place m x found same =
       let other = t.fits m x found in
-      key-number r.place x.place (class_of r.filter r.subtree) (class_of x.filter x.subtree) n m fit.clean other.clean fit.small other.small (sym fit.key ∙ same ∙ other.key)
+      key-number r.place x.place (class_of r.filter r.subtree) (class_of x.filter x.subtree) n m fit.clean other.clean fit.small other.small
+      (sym fit.key ∙ same ∙ other.key)
 
   of-holder : (m : ℕ) (x : Row) → row_at m es ≡ Some x → holder_of n r ≡ holder_of m x → n ≡ m
   of-holder m x found same = let other = t.fits m x found in handle-number r.handle x.handle n m fit.small other.small same
@@ -163,7 +172,8 @@ module _ (n : ℕ) (r : Row) (es : Rows) (below : AreBelow n es) (places handles
   }
 
 -- no row is found by the text of a number above all
-pub none-held : (n : ℕ) (h : ℕ) (es : Rows) (places handles : List ℕ → Option ℕ) → AreBelow n es → n < 2 ^ 64 → IsTable es places handles → (o : Option ℕ) → handles (handle_text h n) ≡ o → handles (handle_text h n) ≡ None
+pub none-held : (n : ℕ) (h : ℕ) (es : Rows) (places handles : List ℕ → Option ℕ) → AreBelow n es → n < 2 ^ 64 → IsTable es places handles → (o : Option ℕ) →
+    handles (handle_text h n) ≡ o → handles (handle_text h n) ≡ None
 none-held n h es places handles below small t None is = is
 none-held n h es places handles below small t (Some m) is =
     let l = t.by_handle.listed (handle_text h n) m is in
@@ -174,13 +184,15 @@ none-held n h es places handles below small t (Some m) is =
 
 -- ---- the same table by indexes that find the same
 
-same-index : (text_of : ℕ → Row → List ℕ) (es : Rows) (index index' : List ℕ → Option ℕ) → ((text : List ℕ) → index' text ≡ index text) → IsIndex text_of es index → IsIndex text_of es index'
+same-index : (text_of : ℕ → Row → List ℕ) (es : Rows) (index index' : List ℕ → Option ℕ) → ((text : List ℕ) → index' text ≡ index text) →
+    IsIndex text_of es index → IsIndex text_of es index'
 same-index text_of es index index' same i = record {
   placed = λ m x found. same (text_of m x) ∙ i.placed m x found;
   listed = λ text m is. i.listed text m (sym (same text) ∙ is);
 }
 
-pub table-same : (es : Rows) (places handles places' handles' : List ℕ → Option ℕ) → IsTable es places handles → ((text : List ℕ) → places' text ≡ places text) →
+pub table-same : (es : Rows) (places handles places' handles' : List ℕ → Option ℕ) → IsTable es places handles →
+    ((text : List ℕ) → places' text ≡ places text) →
     ((text : List ℕ) → handles' text ≡ handles text) → IsTable es places' handles'
 table-same es places handles places' handles' t sp sh = record {
   rising = t.rising;

@@ -1,11 +1,11 @@
 -- Firings of the table, one after another.
-use Rattle.std.proofs.Common.{◌≡◌, ℕ, Bool, true, false, cond, ◌||◌, List, [], ◌∷◌, Option, Some, None, refl, sym, ap, ◌∙◌, subst}
+use Rattle.std.proofs.Common.{◌≡◌, ℕ, Bool, true, false, cond, ◌||◌, List, [], ◌∷◌, Some, None, refl, ap, ◌∙◌}
 use Rattle.std.specs.List.{AllByRecursion}
 use Rattle.std.proofs.lemmas.Bool.{cond-false}
 use Rattle.reg_model.specs.declared.notice.Reason.{Reason}
 use Rattle.reg_notify.specs.declared.table.Row.{Row}
 use Rattle.reg_notify.specs.declared.table.Table.{Table}
-use Rattle.reg_notify.specs.Internal.Firing.{Why, if_passes, first_of, then_why, AreEnded}
+use Rattle.reg_notify.specs.Internal.Firing.{Why, if_passes, first_of, then_why}
 use Rattle.reg_notify.specs.Internal.States.{IsReady, Ends}
 use Rattle.reg_notify.proofs.Firings.{ended-none, ended-then, ended-same}
 
@@ -49,7 +49,8 @@ pub ends-never : (by : ℕ) (p : ℕ × Row → Bool) (r : Reason) (t : Table) �
 ends-never by p r t ready none = ends-none by (if_passes p r) t ready (λ e. cond-false _ _ _ (none e))
 
 -- tests that agree
-pub ends-test : (by : ℕ) (p q : ℕ × Row → Bool) (r : Reason) (t t' : Table) → AllByRecursion (λ (e : ℕ × Row). p e ≡ q e) t.rows.entries → Ends by (if_passes p r) t t' → Ends by (if_passes q r) t t'
+pub ends-test : (by : ℕ) (p q : ℕ × Row → Bool) (r : Reason) (t t' : Table) → AllByRecursion (λ (e : ℕ × Row). p e ≡ q e) t.rows.entries → Ends by
+    (if_passes p r) t t' → Ends by (if_passes q r) t t'
 ends-test by p q r t t' same x = ends-same by (if_passes p r) (if_passes q r) t t' (all t.rows.entries same) x
   where
     all : (es : List (ℕ × Row)) → AllByRecursion (λ (e : ℕ × Row). p e ≡ q e) es → AllByRecursion (λ (e : ℕ × Row). if_passes p r e ≡ if_passes q r e) es

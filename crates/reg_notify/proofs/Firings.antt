@@ -1,17 +1,16 @@
 -- What a firing does to rows, step by step.
-use Rattle.std.proofs.Common.{◌≡◌, ◌≢◌, ℕ, ◌+◌, ◌<◌, ◌≤◌, Bool, true, false, not, cond, ◌||◌, List, [], ◌∷◌, ◌++◌, length, filter, Option, Some, None, is_some, refl, sym, ap, ◌∙◌, subst, arith}
-use Rattle.std.proofs.Common.{append_assoc, length-append}
-use Rattle.std.specs.List.{filter_map, cons_option, AllByRecursion}
+use Rattle.std.proofs.Common.{◌≡◌, ℕ, not, cond, List, [], ◌∷◌, ◌++◌, Option, Some, None, is_some, refl, sym, ap, ◌∙◌, subst}
+use Rattle.std.proofs.Common.{append_assoc}
+use Rattle.std.specs.List.{cons_option, AllByRecursion}
 use Rattle.std.specs.List.Sorted.{IsPermutation}
-use Rattle.std.proofs.lemmas.Bool.{false≢true}
 use Rattle.std.proofs.lemmas.List.{append-nil}
 use Rattle.std.proofs.lemmas.List.Elements.{filter-append, filter_map-append}
-use Rattle.std.proofs.lemmas.List.Sorted.{IsPermutation-refl, IsPermutation-trans, IsPermutation-sym, IsPermutation-append_right, IsPermutation-append_left, IsPermutation-middle, IsPermutation-cons, IsPermutation-append_comm}
-use Rattle.reg_model.specs.declared.notice.Notice.{Notice}
+use Rattle.std.proofs.lemmas.List.Sorted.{IsPermutation-refl, IsPermutation-trans, IsPermutation-sym, IsPermutation-append_right, IsPermutation-append_left}
+use Rattle.std.proofs.lemmas.List.Sorted.{IsPermutation-middle, IsPermutation-cons}
 use Rattle.reg_model.specs.declared.notice.Reason.{Reason}
 use Rattle.reg_notify.specs.declared.table.Row.{Row}
 use Rattle.reg_notify.specs.declared.queues.Sent.{Sent}
-use Rattle.reg_notify.specs.Internal.Firing.{Why, if_passes, first_of, then_why, sent_for, sent_by, left_by, AreEnded}
+use Rattle.reg_notify.specs.Internal.Firing.{Why, first_of, then_why, sent_for, sent_by, left_by, AreEnded}
 
 abbrev Entry : Type 0
 Entry = ℕ × Row
@@ -46,7 +45,8 @@ part-none by why es sent = record { left = refl; came = IsPermutation-refl _ }
 
 module _ (by : ℕ) (why : Why) (es : List Entry) (sent : List Sent) (es' : List Entry) (sent' : List Sent) (p : IsPart by why es sent es' sent') where
   -- one row more
-  pub part-more : (n : ℕ) (r : Row) (why_r : Reason) (front back es'' : List Entry) → why (n, r) ≡ Some why_r → es' ≡ front ++ (n, r) ∷ back → es'' ≡ front ++ back →
+  pub part-more : (n : ℕ) (r : Row) (why_r : Reason) (front back es'' : List Entry) → why (n, r) ≡ Some why_r → es' ≡ front ++ (n, r) ∷ back →
+      es'' ≡ front ++ back →
       IsPart by why es sent es'' (sent' ++ record { session = r.session; notice = record { watch = n; by = by; reason = why_r } } ∷ [])
   part-more n r why_r front back es'' is was now = record { left = lefts; came = came }
     where
@@ -81,7 +81,8 @@ module _ (by : ℕ) (why : Why) (es : List Entry) (sent : List Sent) (es' : List
   pub part-all : AllByRecursion (λ (e : Entry). why e ≡ None) es' → AreEnded by why es sent es' sent'
   part-all none = record {
     left = sym (stay es' none) ∙ p.left;
-    came = subst (λ (l : List Sent). IsPermutation (sent ++ sent_by by why es) l) (ap (λ (l : List Sent). sent' ++ l) (silent es' none) ∙ append-nil sent') p.came;
+    came = subst (λ (l : List Sent). IsPermutation (sent ++ sent_by by why es) l)
+        (ap (λ (l : List Sent). sent' ++ l) (silent es' none) ∙ append-nil sent') p.came;
   }
     where
       stay : (l : List Entry) → AllByRecursion (λ (e : Entry). why e ≡ None) l → left_by why l ≡ l
@@ -107,7 +108,8 @@ left-then a b [] = refl
 left-then a b (e ∷ es) = by (a e) (left-then a b es)
   where
     by : (o : Option Reason) → left_by b (left_by a es) ≡ left_by (then_why a b) es →
-        left_by b (cond (not (is_some o)) (e ∷ left_by a es) (left_by a es)) ≡ cond (not (is_some (first_of o (b e)))) (e ∷ left_by (then_why a b) es) (left_by (then_why a b) es)
+        left_by b (cond (not (is_some o)) (e ∷ left_by a es) (left_by a es)) ≡ cond (not (is_some (first_of o (b e)))) (e ∷ left_by (then_why a b) es)
+        (left_by (then_why a b) es)
     by None rest = ap (λ (l : List Entry). cond (not (is_some (b e))) (e ∷ l) l) rest
     by (Some r) rest = rest
 
@@ -117,10 +119,12 @@ sent-then by a b [] = IsPermutation-refl []
 sent-then by a b (e ∷ es) = one (a e) (sent-then by a b es)
   where
     two : (o : Option Reason) → IsPermutation (sent_by by a es ++ sent_by by b (left_by a es)) (sent_by by (then_why a b) es) →
-        IsPermutation (sent_by by a es ++ cons_option (sent_for by e o) (sent_by by b (left_by a es))) (cons_option (sent_for by e o) (sent_by by (then_why a b) es))
+        IsPermutation (sent_by by a es ++ cons_option (sent_for by e o) (sent_by by b (left_by a es)))
+        (cons_option (sent_for by e o) (sent_by by (then_why a b) es))
     two None rest = rest
     two (Some r) rest =
-        IsPermutation-trans _ _ _ (IsPermutation-middle (sent_by by a es) (record { session = e.1.session; notice = record { watch = e.0; by = by; reason = r } }) (sent_by by b (left_by a es)))
+        IsPermutation-trans _ _ _ (IsPermutation-middle (sent_by by a es)
+        (record { session = e.1.session; notice = record { watch = e.0; by = by; reason = r } }) (sent_by by b (left_by a es)))
         (IsPermutation-cons (record { session = e.1.session; notice = record { watch = e.0; by = by; reason = r } }) _ _ rest)
 
     one : (o : Option Reason) → IsPermutation (sent_by by a es ++ sent_by by b (left_by a es)) (sent_by by (then_why a b) es) →
@@ -129,21 +133,24 @@ sent-then by a b (e ∷ es) = one (a e) (sent-then by a b es)
     one None rest = two (b e) rest
     one (Some r) rest = IsPermutation-cons (record { session = e.1.session; notice = record { watch = e.0; by = by; reason = r } }) _ _ rest
 
-pub ended-then : (by : ℕ) (a b : Why) (es es' es'' : List Entry) (sent sent' sent'' : List Sent) → AreEnded by a es sent es' sent' → AreEnded by b es' sent' es'' sent'' →
+pub ended-then : (by : ℕ) (a b : Why) (es es' es'' : List Entry) (sent sent' sent'' : List Sent) → AreEnded by a es sent es' sent' →
+    AreEnded by b es' sent' es'' sent'' →
     AreEnded by (then_why a b) es sent es'' sent''
 ended-then by a b es es' es'' sent sent' sent'' x y = record {
   left = y.left ∙ ap (left_by b) x.left ∙ left-then a b es;
   came = IsPermutation-trans (sent ++ sent_by by (then_why a b) es) (sent' ++ sent_by by b es') sent''
       (IsPermutation-trans (sent ++ sent_by by (then_why a b) es) ((sent ++ sent_by by a es) ++ sent_by by b es') (sent' ++ sent_by by b es')
       (subst (λ (l : List Entry). IsPermutation (sent ++ sent_by by (then_why a b) es) ((sent ++ sent_by by a es) ++ sent_by by b l)) (sym x.left)
-      (subst (λ (l : List Sent). IsPermutation (sent ++ sent_by by (then_why a b) es) l) (sym (append_assoc sent (sent_by by a es) (sent_by by b (left_by a es))))
+      (subst (λ (l : List Sent). IsPermutation (sent ++ sent_by by (then_why a b) es) l)
+      (sym (append_assoc sent (sent_by by a es) (sent_by by b (left_by a es))))
       (IsPermutation-append_right sent (sent_by by (then_why a b) es) (sent_by by a es ++ sent_by by b (left_by a es))
       (IsPermutation-sym (sent_by by a es ++ sent_by by b (left_by a es)) (sent_by by (then_why a b) es) (sent-then by a b es)))))
       (IsPermutation-append_left (sent_by by b es') (sent ++ sent_by by a es) sent' x.came)) y.came;
 }
 
 -- a firing is the same for reasons that agree on its rows
-pub ended-same : (by : ℕ) (a b : Why) (es es' : List Entry) (sent sent' : List Sent) → AllByRecursion (λ (e : Entry). a e ≡ b e) es → AreEnded by a es sent es' sent' → AreEnded by b es sent es' sent'
+pub ended-same : (by : ℕ) (a b : Why) (es es' : List Entry) (sent sent' : List Sent) → AllByRecursion (λ (e : Entry). a e ≡ b e) es →
+    AreEnded by a es sent es' sent' → AreEnded by b es sent es' sent'
 ended-same by a b es es' sent sent' same x = record {
   left = x.left ∙ lefts es same;
   came = subst (λ (l : List Sent). IsPermutation (sent ++ l) sent') (sents es same) x.came;

@@ -1,13 +1,14 @@
 -- What a firing shows once its notices are handed out.
-use Rattle.std.proofs.Common.{◌≡◌, ℕ, ◌+◌, ◌<◌, ◌≤◌, Bool, true, false, not, cond, eqb, ◌==◌, List, [], ◌∷◌, ◌++◌, length, map, filter, Option, Some, None, is_some, refl, sym, ap, ◌∙◌, subst, arith, append_assoc, length-append}
-use Rattle.std.specs.Prelude.{All, IsPermutation, vec_len}
-use Rattle.std.specs.List.{AllByRecursion, cons_option, filter_map, sum_by}
+use Rattle.std.proofs.Common.{◌≡◌, ℕ, ◌+◌, ◌<◌, Bool, true, false, not, cond, eqb, List, [], ◌∷◌, ◌++◌, length, map, filter, Option, Some, None, is_some}
+use Rattle.std.proofs.Common.{refl, sym, ap, ◌∙◌, subst, arith}
+use Rattle.std.specs.Prelude.{IsPermutation, vec_len}
+use Rattle.std.specs.List.{AllByRecursion, cons_option, sum_by}
 use Rattle.std.specs.List.Sorted.{IsStrictlySortedBy}
 use Rattle.std.specs.Map.{keys_of}
 use Rattle.std.specs.Ordering.{nat_cmp}
 use Rattle.std.specs.declared.cmp.Ordering.TheVariants.{Less}
 use Rattle.std.proofs.lemmas.List.Elements.{All-from_recursion}
-use Rattle.std.proofs.lemmas.List.Sorted.{IsPermutation-sym, All-permutation, sum_by-IsPermutation}
+use Rattle.std.proofs.lemmas.List.Sorted.{All-permutation, sum_by-IsPermutation}
 use Rattle.std.proofs.lemmas.List.Sums.{sum_by-cons}
 use Rattle.reg_model.specs.Watches.{Watch, Ending, reason, stays, notice_for, notice_to, notices}
 use Rattle.reg_model.specs.declared.limits.TheConstants.{SESSIONS_LIMIT}
@@ -19,9 +20,9 @@ use Rattle.reg_notify.specs.declared.table.Row.{Row}
 use Rattle.reg_notify.specs.declared.table.Table.{Table}
 use Rattle.reg_notify.specs.Internal.Firing.{Why, sent_for, sent_by, left_by, sent_to, notices_to, AreInOrder}
 use Rattle.reg_notify.specs.Internal.Queues.{told_at, taken_at, pending_at, HaveRoom}
-use Rattle.reg_notify.specs.Internal.Rows.{watch_at, watches_at, rows_of, IsRow}
+use Rattle.reg_notify.specs.Internal.Rows.{watch_at, watches_at, rows_of}
 use Rattle.reg_notify.specs.Internal.Settled.{shown, IsSettled, IsHanding}
-use Rattle.reg_notify.specs.Internal.States.{IsReady, Ends}
+use Rattle.reg_notify.specs.Internal.States.{Ends}
 use Rattle.reg_notify.proofs.QueueSteps.{same-length-of, told-is, taken-same}
 use Rattle.reg_notify.proofs.Removals.{rows-fit}
 
@@ -61,7 +62,8 @@ module _ (x : Ending) (why : Why) where
       ∙ ap (λ (o : Option Reason). cond (not (is_some o)) (watch_at e ∷ watches_at (left_by why es)) (watches_at (left_by why es))) all.0
       ∙ ap (λ (l : List Watch). cond (stays x (watch_at e)) (watch_at e ∷ l) l) (left-all es all.1)
     where
-      one : (b : Bool) → watches_at (cond b (e ∷ left_by why es) (left_by why es)) ≡ cond b (watch_at e ∷ watches_at (left_by why es)) (watches_at (left_by why es))
+      one : (b : Bool) → watches_at (cond b (e ∷ left_by why es) (left_by why es)) ≡ cond b (watch_at e ∷ watches_at (left_by why es))
+          (watches_at (left_by why es))
       one true = refl
       one false = refl
 
@@ -104,7 +106,8 @@ rows-split s by why [] = refl
 rows-split s by why (e ∷ es) = one (why e) (rows-split s by why es)
   where
     one : (o : Option Reason) → rows_of s (left_by why es) + sent_to s (sent_by by why es) ≡ rows_of s es →
-        rows_of s (cond (not (is_some o)) (e ∷ left_by why es) (left_by why es)) + sent_to s (cons_option (sent_for by e o) (sent_by by why es)) ≡ rows_of s (e ∷ es)
+        rows_of s (cond (not (is_some o)) (e ∷ left_by why es) (left_by why es)) + sent_to s (cons_option (sent_for by e o) (sent_by by why es)) ≡ rows_of s
+        (e ∷ es)
     one None rest = omega (arith, rest)
     one (Some r) rest = omega (arith, rest)
 
@@ -144,7 +147,8 @@ module _ (by : ℕ) (why : Why) (t t' : Table) (settled : IsSettled t) (ends : E
   -- what is noted may be handed out
   pub may-hand : IsHanding t'
   may-hand = record {
-    sessions = All-permutation (λ (x : Sent). x.session < SESSIONS_LIMIT) sent t'.sent.items moved (All-from_recursion (λ (x : Sent). x.session < SESSIONS_LIMIT) sent (few-sessions by why es (rows-fit _ t settled.ready (λ n r fit. fit.session))));
+    sessions = All-permutation (λ (x : Sent). x.session < SESSIONS_LIMIT) sent t'.sent.items moved
+        (All-from_recursion (λ (x : Sent). x.session < SESSIONS_LIMIT) sent (few-sessions by why es (rows-fit _ t settled.ready (λ n r fit. fit.session))));
     long = ap vec_len ends.queues ∙ settled.long;
     rooms = subst (λ qs. HaveRoom qs.items) (sym ends.queues) settled.rooms;
     counts = λ s. counts s;
@@ -163,8 +167,10 @@ module _ (by : ℕ) (why : Why) (t t' : Table) (settled : IsSettled t) (ends : E
   rises = let ready = settled.ready in let table = ready.table in sent-in-order by why es table.rising
 
 -- the firing as callers see it
-pub fires : (x : Ending) (why : Why) (t t' t'' : Table) → IsSettled t → IsSettled t'' → AllByRecursion (λ (e : ℕ × Row). why e ≡ reason x (watch_at e)) t.rows.entries → Ends x.by why t t' →
-    t''.rows ≡ t'.rows → ((sent : List Sent) → AreInOrder sent → IsPermutation sent t'.sent.items → (s : ℕ) → told_at t''.queues.items s ≡ told_at t'.queues.items s ++ notices_to s sent) →
+pub fires : (x : Ending) (why : Why) (t t' t'' : Table) → IsSettled t → IsSettled t'' → AllByRecursion
+    (λ (e : ℕ × Row). why e ≡ reason x (watch_at e)) t.rows.entries → Ends x.by why t t' →
+    t''.rows ≡ t'.rows → ((sent : List Sent) → AreInOrder sent → IsPermutation sent t'.sent.items → (s : ℕ) →
+    told_at t''.queues.items s ≡ told_at t'.queues.items s ++ notices_to s sent) →
     ((s : ℕ) → taken_at t''.queues.items s ≡ taken_at t'.queues.items s) → Fires x (shown t) (shown t'')
 fires x why t t' t'' settled settled'' agree ends rows told taken = record {
   pending = let ended = ends.ended in ap (λ m. watches_at m.entries) rows ∙ ap watches_at ended.left ∙ left-all x why t.rows.entries agree;

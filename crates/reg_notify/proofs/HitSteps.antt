@@ -1,16 +1,16 @@
 -- Which rows a step at a place ends.
-use Rattle.std.proofs.Common.{◌≡◌, ℕ, ◌+◌, ◌<◌, suc, zero, Bool, true, false, cond, not, eqb, ◌==◌, ◌&&◌, ◌||◌, nat_lt, List, [], ◌∷◌, ◌++◌, Option, Some, None, is_some, refl, sym, ap, ◌∙◌, subst, arith, add-one, append_assoc}
+use Rattle.std.proofs.Common.{◌≡◌, ℕ, ◌+◌, ◌<◌, suc, zero, Bool, true, false, eqb, ◌&&◌, ◌||◌, nat_lt, List, [], ◌∷◌, ◌++◌, Option, Some, None, is_some}
+use Rattle.std.proofs.Common.{refl, sym, ap, ◌∙◌, subst, arith, add-one, append_assoc}
 use Rattle.std.specs.Prelude.{IfNone}
-use Rattle.std.proofs.lemmas.Bool.{false≢true, eqb-true, eqb-false, and_parts, and_right, or_from}
+use Rattle.std.proofs.lemmas.Bool.{false≢true, eqb-true, eqb-false, and_right, or_from}
 use Rattle.std.proofs.lemmas.Bool.Decides.{nat_tests}
 use Rattle.reg_heap.specs.Paths.{Path}
 use Rattle.reg_model.specs.Worlds.{same_path}
-use Rattle.reg_model.specs.declared.notice.Reason.{Reason}
 use Rattle.reg_model.specs.declared.notice.Reason.TheVariants.{Matched}
 use Rattle.reg_notify.specs.declared.table.Row.{Row}
 use Rattle.reg_notify.specs.declared.table.Table.{Table}
 use Rattle.reg_notify.specs.Internal.Indexes.{goes_on, number_at}
-use Rattle.reg_notify.specs.Internal.Keys.{lead_of, IsClean, class_of, is_met, key_text}
+use Rattle.reg_notify.specs.Internal.Keys.{lead_of, IsClean, class_of, is_met}
 use Rattle.reg_notify.specs.Internal.Rows.{row_at, IsRow, place_of}
 use Rattle.reg_notify.specs.Internal.Hits.{of_class, any_class}
 use Rattle.reg_notify.specs.Internal.Firing.{if_passes}
@@ -20,17 +20,20 @@ use Rattle.reg_notify.proofs.KeyTexts.{at-class}
 use Rattle.reg_notify.proofs.TableSteps.{all-at}
 use Rattle.reg_notify.proofs.EndsSteps.{each, ends-or, ends-test, ends-never}
 
-any-more : (k : ℕ) (text : List ℕ) (bits : ℕ) (itself : Bool) (e : ℕ × Row) → (any_class k text bits itself e || of_class text bits itself k e) ≡ any_class (k + 1) text bits itself e
+any-more : (k : ℕ) (text : List ℕ) (bits : ℕ) (itself : Bool) (e : ℕ × Row) → (any_class k text bits itself e || of_class text bits itself k e) ≡ any_class
+    (k + 1) text bits itself e
 unfolding any_class
 any-more k text bits itself e = rw (add-one k) refl
 
 -- one class more
-pub hit-step : (by bits : ℕ) (itself : Bool) (k : ℕ) (text text' : List ℕ) (t t' t'' : Table) → text' ≡ text → Ends by (if_passes (any_class k text bits itself) Matched) t t' →
+pub hit-step : (by bits : ℕ) (itself : Bool) (k : ℕ) (text text' : List ℕ) (t t' t'' : Table) → text' ≡ text → Ends by
+    (if_passes (any_class k text bits itself) Matched) t t' →
     Ends by (if_passes (of_class text' bits itself k) Matched) t' t'' → Ends by (if_passes (any_class (k + 1) text bits itself) Matched) t t''
 hit-step by bits itself k text text' t t' t'' same x y =
     ends-test by (λ (e : ℕ × Row). any_class k text bits itself e || of_class text bits itself k e) (any_class (k + 1) text bits itself) Matched t t''
     (each _ (any-more k text bits itself) t.rows.entries)
-    (ends-or by (any_class k text bits itself) (of_class text bits itself k) Matched t t' t'' x (subst (λ (s : List ℕ). Ends by (if_passes (of_class s bits itself k) Matched) t' t'') same y))
+    (ends-or by (any_class k text bits itself) (of_class text bits itself k) Matched t t' t'' x
+    (subst (λ (s : List ℕ). Ends by (if_passes (of_class s bits itself k) Matched) t' t'') same y))
 
 -- a class that is met
 pub class-met : (met : Bool) (start text key : List ℕ) → met ≡ true → start ≡ text → goes_on start key ≡ (met && goes_on text key)
@@ -84,7 +87,8 @@ module _ (n : ℕ) (r : Row) (fit : IsRow n r) (p : Path) (clean : IsClean p) (b
   pub any-is : (k : ℕ) → any_class k (lead_of p) bits itself (n, r) ≡ (nat_lt class k && (same_path r.place p && is_met bits itself class))
   unfolding any_class
   any-is zero = let none : nat_lt class 0 ≡ false = least class in rw none refl
-  any-is (suc k) = ap (λ (b : Bool). any_class k (lead_of p) bits itself (n, r) || b) (of-is k) ∙ more _ k (is_met bits itself class) (same_path r.place p) (any-is k) refl (eqb class k) refl
+  any-is (suc k) = ap (λ (b : Bool). any_class k (lead_of p) bits itself (n, r) || b) (of-is k) ∙ more _ k (is_met bits itself class) (same_path r.place p)
+      (any-is k) refl (eqb class k) refl
 
   pub any-all : (k : ℕ) → class < k → any_class k (lead_of p) bits itself (n, r) ≡ (same_path r.place p && is_met bits itself class)
   any-all k small = let less : nat_lt class k ≡ true = below class k small in any-is k ∙ rw less refl
@@ -105,24 +109,29 @@ longer text key k is =
     let whole : (text ++ 0 ∷ []) ++ k ∷ r.0 ∷ r.1 ≡ key = append_assoc text (0 ∷ []) (k ∷ r.0 ∷ r.1) ∙ sym (append_assoc text (0 ∷ k ∷ []) (r.0 ∷ r.1)) ∙ sym r.2 in
     subst (λ (s : List ℕ). goes_on (text ++ 0 ∷ []) s ≡ true) whole (goes_on-append (text ++ 0 ∷ []) k (r.0 ∷ r.1))
 
-not-longer : (text key : List ℕ) (k : ℕ) → goes_on (text ++ 0 ∷ []) key ≡ false → (b : Bool) → goes_on (text ++ 0 ∷ k ∷ []) key ≡ b → goes_on (text ++ 0 ∷ k ∷ []) key ≡ false
+not-longer : (text key : List ℕ) (k : ℕ) → goes_on (text ++ 0 ∷ []) key ≡ false → (b : Bool) → goes_on (text ++ 0 ∷ k ∷ []) key ≡ b → goes_on
+    (text ++ 0 ∷ k ∷ []) key ≡ false
 not-longer text key k none false e = e
 not-longer text key k none true e = absurd (false≢true (sym none ∙ longer text key k e))
 
-no-class : (k : ℕ) (text : List ℕ) (bits : ℕ) (itself : Bool) (e : ℕ × Row) → goes_on (text ++ 0 ∷ []) (place_of e.0 e.1) ≡ false → any_class k text bits itself e ≡ false
+no-class : (k : ℕ) (text : List ℕ) (bits : ℕ) (itself : Bool) (e : ℕ × Row) → goes_on (text ++ 0 ∷ []) (place_of e.0 e.1) ≡ false →
+    any_class k text bits itself e ≡ false
 unfolding any_class
 no-class zero text bits itself e none = refl
 no-class (suc k) text bits itself e none =
     or_from _ _ (no-class k text bits itself e none) (and_right (is_met bits itself k) _ (not-longer text (place_of e.0 e.1) k none _ refl))
 
 pub none-at-place : (by bits : ℕ) (itself : Bool) (k : ℕ) (text : List ℕ) (t : Table) → IsReady t →
-    ((other : List ℕ) → goes_on (text ++ 0 ∷ []) other ≡ true → number_at t.places.by_text.entries other ≡ None) → Ends by (if_passes (any_class k text bits itself) Matched) t t
+    ((other : List ℕ) → goes_on (text ++ 0 ∷ []) other ≡ true → number_at t.places.by_text.entries other ≡ None) → Ends by
+    (if_passes (any_class k text bits itself) Matched) t t
 none-at-place by bits itself k text t ready none =
     ends-test by (λ (e : ℕ × Row). false) (any_class k text bits itself) Matched t t
-    (let table = ready.table in all-at (λ (e : ℕ × Row). false ≡ any_class k text bits itself e) t.rows.entries table.rising (λ n r found. sym (no-class k text bits itself (n, r) (not-there n r found _ refl))))
+    (let table = ready.table in all-at (λ (e : ℕ × Row). false ≡ any_class k text bits itself e) t.rows.entries table.rising
+    (λ n r found. sym (no-class k text bits itself (n, r) (not-there n r found _ refl))))
     (ends-never by (λ (e : ℕ × Row). false) Matched t ready (λ e. refl))
   where
-    not-there : (n : ℕ) (r : Row) → row_at n t.rows.entries ≡ Some r → (b : Bool) → goes_on (text ++ 0 ∷ []) (place_of n r) ≡ b → goes_on (text ++ 0 ∷ []) (place_of n r) ≡ false
+    not-there : (n : ℕ) (r : Row) → row_at n t.rows.entries ≡ Some r → (b : Bool) → goes_on (text ++ 0 ∷ []) (place_of n r) ≡ b → goes_on (text ++ 0 ∷ [])
+        (place_of n r) ≡ false
     not-there n r found false e = e
     not-there n r found true e =
         let gone = none (place_of n r) e in

@@ -1,19 +1,17 @@
 -- The texts by which watches are found: which begin with which.
-use Rattle.std.proofs.Common.{◌≡◌, ℕ, ◌<◌, ◌^◌, Bool, true, false, not, cond, ◌&&◌, ◌==◌, eqb, List, [], ◌∷◌, ◌++◌, length, refl, sym, ap, ◌∙◌, subst, arith, append_assoc, nat_lt}
+use Rattle.std.proofs.Common.{◌≡◌, ℕ, ◌<◌, ◌^◌, true, false, ◌&&◌, ◌==◌, List, [], ◌∷◌, ◌++◌, refl, sym, ap, ◌∙◌, subst, append_assoc}
 use Rattle.std.specs.Cmp.{both_ways}
 use Rattle.std.specs.Int.{to_be_bytes, from_be_bytes, w64}
-use Rattle.std.specs.List.{list_all, AllByRecursion}
+use Rattle.std.specs.List.{list_all}
 use Rattle.std.proofs.lemmas.Bool.{and_parts, and_from, false≢true, eqb-true, eq-eqb}
-use Rattle.std.proofs.lemmas.Bool.Decides.{nat_tests}
 use Rattle.std.proofs.lemmas.List.{append-nil}
 use Rattle.std.proofs.lemmas.Nat.{from_be_bytes-to_be_bytes_8}
-use Rattle.reg_names.specs.declared.TheConstants.{PATH_LIMIT, KEY_NAME_LIMIT}
 use Rattle.reg_names.specs.Names.{is_key_name, is_key_name_byte, is_path, path_of, text_of, are_key_names}
 use Rattle.reg_names.proofs.PathTexts.{text_of-path_of}
 use Rattle.reg_heap.specs.Paths.{Path}
-use Rattle.reg_heap.specs.Edits.{is_within, is_under}
+use Rattle.reg_heap.specs.Edits.{is_under}
 use Rattle.reg_heap.proofs.ChildrenOfPath.{path-is}
-use Rattle.reg_heap.proofs.DeletedTrees.{within-append, within-rest, under-rest, under-append}
+use Rattle.reg_heap.proofs.DeletedTrees.{under-rest, under-append}
 use Rattle.reg_model.specs.Worlds.{same_path}
 use Rattle.reg_model.proofs.HandleInvariant.{same-self}
 use Rattle.reg_notify.specs.Internal.Indexes.{goes_on}
@@ -55,7 +53,8 @@ pub record Cut (n m r s : List ℕ) : Type 0 where
   pub rest : r ≡ s
 
 -- a name and what comes behind it, which begins with no byte of a name
-cut : (n m : List ℕ) (x y : ℕ) (r s : List ℕ) → is_key_name_byte x ≡ false → is_key_name_byte y ≡ false → list_all is_key_name_byte n ≡ true → list_all is_key_name_byte m ≡ true →
+cut : (n m : List ℕ) (x y : ℕ) (r s : List ℕ) → is_key_name_byte x ≡ false → is_key_name_byte y ≡ false → list_all is_key_name_byte n ≡ true →
+    list_all is_key_name_byte m ≡ true →
     n ++ x ∷ r ≡ m ++ y ∷ s → Cut n m (x ∷ r) (y ∷ s)
 cut [] [] x y r s ex ey cn cm e = record { name = refl; rest = e }
 cut [] (b ∷ m) x y r s ex ey cn cm e =
@@ -82,14 +81,16 @@ behind [] x r e = record { byte = x; bytes = r; is = refl; ends = e }
 behind (n ∷ p) x r e = record { byte = 92; bytes = (n ++ lead_of p) ++ x ∷ r; is = refl; ends = refl }
 
 -- the first name of two paths
-cut-first : (n m : List ℕ) (p q : Path) (x y : ℕ) (r s : List ℕ) → is_key_name_byte x ≡ false → is_key_name_byte y ≡ false → list_all is_key_name_byte n ≡ true → list_all is_key_name_byte m ≡ true →
+cut-first : (n m : List ℕ) (p q : Path) (x y : ℕ) (r s : List ℕ) → is_key_name_byte x ≡ false → is_key_name_byte y ≡ false →
+    list_all is_key_name_byte n ≡ true → list_all is_key_name_byte m ≡ true →
     lead_of (n ∷ p) ++ x ∷ r ≡ lead_of (m ∷ q) ++ y ∷ s → Cut n m (lead_of p ++ x ∷ r) (lead_of q ++ y ∷ s)
 cut-first n m p q x y r s ex ey cn cm e =
     let bp = behind p x r ex in
     let bq = behind q y s ey in
     let tail : (n ++ lead_of p) ++ x ∷ r ≡ (m ++ lead_of q) ++ y ∷ s = cc in
     let split : n ++ bp.byte ∷ bp.bytes ≡ m ++ bq.byte ∷ bq.bytes =
-    ap (λ (t : List ℕ). n ++ t) (sym bp.is) ∙ sym (append_assoc n (lead_of p) (x ∷ r)) ∙ tail ∙ append_assoc m (lead_of q) (y ∷ s) ∙ ap (λ (t : List ℕ). m ++ t) bq.is in
+    ap (λ (t : List ℕ). n ++ t) (sym bp.is) ∙ sym (append_assoc n (lead_of p) (x ∷ r)) ∙ tail ∙ append_assoc m (lead_of q) (y ∷ s) ∙ ap
+    (λ (t : List ℕ). m ++ t) bq.is in
     let c = cut n m bp.byte bq.byte bp.bytes bq.bytes bp.ends bq.ends cn cm split in
     record { name = c.name; rest = bp.is ∙ c.rest ∙ sym bq.is }
 
@@ -111,7 +112,8 @@ same-place (n ∷ p) (m ∷ q) r s cp cq e =
 pub place-below : (p q : Path) (r s : List ℕ) → IsClean p → IsClean q → lead_of p ++ 92 ∷ r ≡ lead_of q ++ 0 ∷ s → is_under p q ≡ true
 place-below p q r s cp cq e = by (longer p q r s cp cq e)
   where
-    longer : (p q : Path) (r s : List ℕ) → IsClean p → IsClean q → lead_of p ++ 92 ∷ r ≡ lead_of q ++ 0 ∷ s → (name : List ℕ) × (names : Path) × (q ≡ p ++ name ∷ names)
+    longer : (p q : Path) (r s : List ℕ) → IsClean p → IsClean q → lead_of p ++ 92 ∷ r ≡ lead_of q ++ 0 ∷ s → (name : List ℕ) × (names : Path) ×
+        (q ≡ p ++ name ∷ names)
     longer [] [] r s cp cq e = absurd (cc)
     longer [] (m ∷ q) r s cp cq e = (m, q, refl)
     longer (n ∷ p) [] r s cp cq e = absurd (cc)

@@ -1,3 +1,4 @@
+pub mod MarkedTexts
 pub mod LongerTexts
 pub mod TextKeys
 pub mod KeyTexts
@@ -9,6 +10,7 @@ pub mod TableSteps
 pub mod EndsSteps
 pub mod HitSteps
 pub mod PlaceWalk
+pub mod MarkedRows
 pub mod Removals
 pub mod SortedNotices
 pub mod Reasons

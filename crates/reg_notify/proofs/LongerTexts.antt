@@ -1,5 +1,6 @@
 -- Texts that begin with another and are longer: in a map they stand behind it, with no other text between them.
-use Rattle.std.proofs.Common.{◌≡◌, ℕ, ◌<◌, Bool, true, false, cond, List, [], ◌∷◌, ◌++◌, length, drop, nat_eq, nat_lt, Option, Some, None, refl, sym, ap, subst, ◌∙◌, arith, Vec}
+use Rattle.std.proofs.Common.{◌≡◌, ℕ, ◌<◌, Bool, true, false, cond, List, [], ◌∷◌, ◌++◌, length, drop, nat_eq, nat_lt, Option, Some, None, refl, sym, ap}
+use Rattle.std.proofs.Common.{subst, ◌∙◌, arith, Vec}
 use Rattle.std.proofs.Common.{length-append}
 use Rattle.std.specs.Prelude.{IsSome, IfSome}
 use Rattle.std.specs.List.{starts_with, slice_get}
@@ -67,7 +68,8 @@ apart-behind a b start other same apart = by (starts_with nat_eq other start) re
     by : (c : Bool) → starts_with nat_eq other start ≡ c → starts_with nat_eq other start ≡ false
     by true is =
         let whole : b ∷ other ≡ (a ∷ start) ++ drop (length start) other = rw same (ap (λ (t : List ℕ). b ∷ t) (begins other start is)) in
-        absurd (false≢true (sym apart ∙ subst (λ (t : List ℕ). starts_with nat_eq t (a ∷ start) ≡ true) (sym whole) (begins-append (a ∷ start) (drop (length start) other))))
+        absurd (false≢true (sym apart ∙ subst (λ (t : List ℕ). starts_with nat_eq t (a ∷ start) ≡ true) (sym whole)
+        (begins-append (a ∷ start) (drop (length start) other))))
     by false is = is
 
 before-behind : (o : Ordering) (x y : Ordering) → ordering_then o x ≡ Less → (o ≡ Equal → x ≡ Less → y ≡ Less) → ordering_then o y ≡ Less
@@ -138,7 +140,8 @@ module _ {Y : Type 0} (m : BTreeMap (Vec ℕ Y) ℕ) (start : Vec ℕ Y) (r : Li
             absurd (not_after e.0.items q.0.items before least)
 
     -- begins with it
-    pub one-first : starts_with nat_eq e.0.items start.items ≡ true → (text : List ℕ) × (goes_on start.items text ≡ true) × (number_at m.entries text ≡ Some e.1)
+    pub one-first : starts_with nat_eq e.0.items start.items ≡ true → (text : List ℕ) × (goes_on start.items text ≡ true) ×
+        (number_at m.entries text ≡ Some e.1)
     one-first is = (e.0.items, longer (drop (length start.items) e.0.items) (begins e.0.items start.items is), in-map.1)
       where
         longer : (behind : List ℕ) → e.0.items ≡ start.items ++ behind → goes_on start.items e.0.items ≡ true

@@ -19,7 +19,8 @@ led-lead (b ∷ bs) = sym (lead-path b bs)
 pub led-path : (text path : List ℕ) → text ≡ led path → path_of (behind_first text) ≡ path_of path
 led-path text path e = ap path_of (ap behind_first e ∙ behind-led path)
 
-pub led-place : {Y : Type 0} (text : Vec ℕ Y) (path : List ℕ) → text.items ≡ led path → is_path path ≡ true → vec_len text + 2 ≤ vec_capacity text → IsPlace text
+pub led-place : {Y : Type 0} (text : Vec ℕ Y) (path : List ℕ) → text.items ≡ led path → is_path path ≡ true → vec_len text + 2 ≤ vec_capacity text →
+    IsPlace text
 led-place text path e is room = record {
   lead = e ∙ led-lead path ∙ ap lead_of (sym (led-path text.items path e));
   clean = subst IsClean (sym (led-path text.items path e)) (clean-path path is);
@@ -27,7 +28,8 @@ led-place text path e is room = record {
 }
 
 -- a watch's text, put together piece by piece
-pub key-made : (made two one text lead bytes : List ℕ) (p : Path) (class number : ℕ) → made ≡ two ++ bytes → two ≡ one ++ class ∷ [] → one ≡ text ++ 0 ∷ [] → text ≡ lead →
+pub key-made : (made two one text lead bytes : List ℕ) (p : Path) (class number : ℕ) → made ≡ two ++ bytes → two ≡ one ++ class ∷ [] → one ≡ text ++ 0 ∷ [] →
+    text ≡ lead →
     lead ≡ lead_of p → bytes ≡ to_be_bytes w64 number → made ≡ key_text p class number
 key-made made two one text lead bytes p class number m t o s l b =
     m ∙ ap (λ (x : List ℕ). x ++ bytes) (t ∙ ap (λ (x : List ℕ). x ++ class ∷ []) (o ∙ ap (λ (x : List ℕ). x ++ 0 ∷ []) (s ∙ l)))

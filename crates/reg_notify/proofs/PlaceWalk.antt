@@ -1,10 +1,10 @@
 -- A place's text, from its end to its beginning: at each backslash what is left is the place above.
-use Rattle.std.proofs.Common.{◌≡◌, ℕ, ◌+◌, ◌<◌, Bool, true, false, cond, ◌⊎◌, inl, inr, eqb, ◌&&◌, ◌||◌, List, [], ◌∷◌, ◌++◌, length, drop, refl, sym, ap, ◌∙◌, subst, arith, append_assoc}
+use Rattle.std.proofs.Common.{◌≡◌, ℕ, ◌<◌, Bool, true, false, ◌⊎◌, inl, inr, eqb, ◌&&◌, ◌||◌, List, [], ◌∷◌, ◌++◌, length, drop, refl, sym, ap, ◌∙◌, subst}
+use Rattle.std.proofs.Common.{arith, append_assoc}
 use Rattle.std.specs.Cmp.{both_ways}
 use Rattle.std.specs.List.{list_all, AllByRecursion}
 use Rattle.std.proofs.lemmas.Bool.{and_parts, and_from, or_left, or_right, false≢true, eq-eqb}
 use Rattle.std.proofs.lemmas.List.{append-nil}
-use Rattle.std.proofs.lemmas.List.Folds.{list_all-append}
 use Rattle.reg_names.specs.Names.{is_key_name_byte}
 use Rattle.reg_heap.specs.Paths.{Path}
 use Rattle.reg_heap.specs.Edits.{is_within, is_under}
@@ -17,8 +17,8 @@ use Rattle.reg_model.proofs.HandleInvariant.{same-self}
 use Rattle.reg_notify.specs.declared.table.Row.{Row}
 use Rattle.reg_notify.specs.declared.table.Table.{Table}
 use Rattle.reg_notify.specs.Internal.Keys.{lead_of, IsClean, class_of, is_met}
-use Rattle.reg_notify.specs.Internal.Rows.{row_at, IsRow, IsTable}
-use Rattle.reg_notify.specs.Internal.Hits.{any_class, hit_itself, hit_above, is_event_hit}
+use Rattle.reg_notify.specs.Internal.Rows.{IsRow}
+use Rattle.reg_notify.specs.Internal.Hits.{any_class, hit_itself, is_event_hit}
 use Rattle.reg_notify.specs.Internal.Firing.{if_passes}
 use Rattle.reg_notify.specs.Internal.States.{IsReady, Ends}
 use Rattle.reg_notify.proofs.EndsSteps.{each, ends-or, ends-test}
@@ -101,20 +101,25 @@ upward p front n q in_p = both_ways _ _ from to
         by (inl both) =
             let parts = and_parts (is_under q p) (is_within (front ++ n ∷ []) q) both in
             and_from _ _ parts.0 (subst (λ (x : Path). is_within front x ≡ true)
-            (sym (within-rest (front ++ n ∷ []) q parts.1 ∙ append_assoc front (n ∷ []) (drop (length (front ++ n ∷ [])) q))) (within-append front (n ∷ drop (length (front ++ n ∷ [])) q)))
+            (sym (within-rest (front ++ n ∷ []) q parts.1 ∙ append_assoc front (n ∷ []) (drop (length (front ++ n ∷ [])) q)))
+            (within-append front (n ∷ drop (length (front ++ n ∷ [])) q)))
         by (inr same) =
             subst (λ (x : Path). (is_under x p && is_within front x) ≡ true) (sym (path-is q front same))
-            (and_from _ _ (subst (λ (x : Path). is_under front x ≡ true) (sym whole) (under-append front n (drop (length (front ++ n ∷ [])) p))) (within-self front))
+            (and_from _ _ (subst (λ (x : Path). is_under front x ≡ true) (sym whole) (under-append front n (drop (length (front ++ n ∷ [])) p)))
+            (within-self front))
 
     to : (is_under q p && is_within front q) ≡ true → ((is_under q p && is_within (front ++ n ∷ []) q) || same_path q front) ≡ true
     to is =
         let parts = and_parts (is_under q p) (is_within front q) is in
         let u = under-rest q p parts.0 in
-        by parts.0 (fronts q (front ++ n ∷ []) (u.0 ∷ u.1) (drop (length (front ++ n ∷ [])) p) (sym u.2 ∙ within-rest (front ++ n ∷ []) p in_p)) (within-rest front q parts.1)
+        by parts.0 (fronts q (front ++ n ∷ []) (u.0 ∷ u.1) (drop (length (front ++ n ∷ [])) p) (sym u.2 ∙ within-rest (front ++ n ∷ []) p in_p))
+        (within-rest front q parts.1)
       where
-        at_front : (x : Path) → front ++ n ∷ [] ≡ q ++ x → (r : Path) → q ≡ front ++ r → ((is_under q p && is_within (front ++ n ∷ []) q) || same_path q front) ≡ true
+        at_front : (x : Path) → front ++ n ∷ [] ≡ q ++ x → (r : Path) → q ≡ front ++ r →
+            ((is_under q p && is_within (front ++ n ∷ []) q) || same_path q front) ≡ true
         at_front x e [] same = or_right _ _ (subst (λ (z : Path). same_path z front ≡ true) (sym (same ∙ append-nil front)) (same-self front))
-        at_front x e (y ∷ ys) same = or_left _ _ (and_from _ _ (and_parts (is_under q p) (is_within front q) is).0 (subst (λ (z : Path). is_within (front ++ n ∷ []) z ≡ true) (whole_q x y ys e same) (within-self (front ++ n ∷ []))))
+        at_front x e (y ∷ ys) same = or_left _ _ (and_from _ _ (and_parts (is_under q p) (is_within front q) is).0
+            (subst (λ (z : Path). is_within (front ++ n ∷ []) z ≡ true) (whole_q x y ys e same) (within-self (front ++ n ∷ []))))
           where
             nothing : (front : Path) (x ys : Path) (y : List ℕ) → front ++ n ∷ [] ≡ (front ++ y ∷ ys) ++ x → front ++ n ∷ [] ≡ front ++ y ∷ ys
             nothing [] x [] y e = let s : n ≡ y = cc in ap (λ (z : List ℕ). z ∷ []) s
@@ -124,7 +129,8 @@ upward p front n q in_p = both_ways _ _ from to
             whole_q : (x : Path) (y : List ℕ) (ys : Path) → front ++ n ∷ [] ≡ q ++ x → q ≡ front ++ y ∷ ys → front ++ n ∷ [] ≡ q
             whole_q x y ys e same = nothing front x ys y (e ∙ ap (λ (z : Path). z ++ x) same) ∙ sym same
 
-        by : is_under q p ≡ true → ((x : Path) × (front ++ n ∷ [] ≡ q ++ x)) ⊎ ((x : Path) × (q ≡ (front ++ n ∷ []) ++ x)) → q ≡ front ++ drop (length front) q →
+        by : is_under q p ≡ true → ((x : Path) × (front ++ n ∷ [] ≡ q ++ x)) ⊎ ((x : Path) × (q ≡ (front ++ n ∷ []) ++ x)) → q ≡ front ++ drop
+            (length front) q →
             ((is_under q p && is_within (front ++ n ∷ []) q) || same_path q front) ≡ true
         by under (inl l) rest = at_front l.0 l.1 (drop (length front) q) rest
         by under (inr r) rest =
@@ -153,7 +159,8 @@ bool-none true m = refl
 bool-none false m = refl
 
 -- at the place itself
-pub walked-first : (p : Path) (bits by : ℕ) (text : List ℕ) (classes : ℕ) (t t' : Table) → ((n : ℕ) (r : Row) → IsRow n r → class_of r.filter r.subtree < classes) → IsClean p → IsReady t → text ≡ lead_of p →
+pub walked-first : (p : Path) (bits by : ℕ) (text : List ℕ) (classes : ℕ) (t t' : Table) →
+    ((n : ℕ) (r : Row) → IsRow n r → class_of r.filter r.subtree < classes) → IsClean p → IsReady t → text ≡ lead_of p →
     Ends by (if_passes (any_class classes text bits true) Matched) t t' → IsWalked p bits by text t t'
 walked-first p bits by text classes t t' small clean ready is ends = record {
   front = p;
@@ -190,7 +197,8 @@ bool-more false true s m v e = rw (sym e) (one m s)
 bool-more false false s m v e = rw (sym e) refl
 
 -- at a backslash
-pub walked-up : (p : Path) (bits by : ℕ) (text : List ℕ) (classes : ℕ) (t t' t'' : Table) → ((n : ℕ) (r : Row) → IsRow n r → class_of r.filter r.subtree < classes) → IsClean p →
+pub walked-up : (p : Path) (bits by : ℕ) (text : List ℕ) (classes : ℕ) (t t' t'' : Table) →
+    ((n : ℕ) (r : Row) → IsRow n r → class_of r.filter r.subtree < classes) → IsClean p →
     IsWalked p bits by (text ++ 92 ∷ []) t t' → Ends by (if_passes (any_class classes text bits false) Matched) t' t'' → IsWalked p bits by text t t''
 walked-up p bits by text classes t t' t'' small clean w ends =
     let l = last w.front text w.popped (clean-front w.front w.rest (subst IsClean w.whole clean)) w.name (sym (append_assoc text (92 ∷ []) w.popped) ∙ w.is) in
@@ -198,7 +206,9 @@ walked-up p bits by text classes t t' t'' small clean w ends =
     let here : Ends by (if_passes (λ (e : ℕ × Row). same_path e.1.place l.front && is_met bits false (class_of e.1.filter e.1.subtree)) Matched) t' t'' =
     ends-test by (any_class classes text bits false) _ Matched t' t'' (rows-fit _ t' w.ends.ready (λ n r fit.
     ap (λ (s : List ℕ). any_class classes s bits false (n, r)) l.text ∙ any-all n r fit l.front clean_front bits false classes (small n r fit))) ends in
-    let in_p : is_within (l.front ++ w.popped ∷ []) p ≡ true = subst (λ (x : Path). is_within x p ≡ true) l.is (subst (λ (x : Path). is_within w.front x ≡ true) (sym w.whole) (within-append w.front w.rest)) in
+    let in_p : is_within (l.front ++ w.popped ∷ []) p ≡ true =
+    subst (λ (x : Path). is_within x p ≡ true) l.is
+    (subst (λ (x : Path). is_within w.front x ≡ true) (sym w.whole) (within-append w.front w.rest)) in
     record {
       front = l.front;
       rest = w.popped ∷ w.rest;
@@ -206,14 +216,18 @@ walked-up p bits by text classes t t' t'' small clean w ends =
       name = refl;
       is = append-nil text ∙ l.text;
       whole = w.whole ∙ ap (λ (x : Path). x ++ w.rest) l.is ∙ append_assoc l.front (w.popped ∷ []) w.rest;
-      ends = ends-test by (λ (e : ℕ × Row). walked p w.front bits e || (same_path e.1.place l.front && is_met bits false (class_of e.1.filter e.1.subtree))) (walked p l.front bits) Matched t t''
-          (each _ (λ e. bool-more (hit_itself p bits e) (is_under e.1.place p && is_within w.front e.1.place) (same_path e.1.place l.front) (is_met bits false (class_of e.1.filter e.1.subtree)) _
-          (ap (λ (x : Path). (is_under e.1.place p && is_within x e.1.place) || same_path e.1.place l.front) l.is ∙ upward p l.front w.popped e.1.place in_p)) t.rows.entries)
+      ends = ends-test by (λ (e : ℕ × Row). walked p w.front bits e || (same_path e.1.place l.front && is_met bits false (class_of e.1.filter e.1.subtree)))
+          (walked p l.front bits) Matched t t''
+          (each _ (λ e. bool-more (hit_itself p bits e) (is_under e.1.place p && is_within w.front e.1.place) (same_path e.1.place l.front)
+          (is_met bits false (class_of e.1.filter e.1.subtree)) _
+          (ap (λ (x : Path). (is_under e.1.place p && is_within x e.1.place) || same_path e.1.place l.front) l.is ∙
+          upward p l.front w.popped e.1.place in_p)) t.rows.entries)
           (ends-or by (walked p w.front bits) _ Matched t t' t'' w.ends here);
     }
 
 -- at a byte of a name
-pub walked-on : (p : Path) (bits by : ℕ) (text : List ℕ) (b : ℕ) (t t' : Table) → IsClean p → (eqb b 92 ≡ false) → IsWalked p bits by (text ++ b ∷ []) t t' → IsWalked p bits by text t t'
+pub walked-on : (p : Path) (bits by : ℕ) (text : List ℕ) (b : ℕ) (t t' : Table) → IsClean p → (eqb b 92 ≡ false) → IsWalked p bits by (text ++ b ∷ []) t t' →
+    IsWalked p bits by text t t'
 walked-on p bits by text b t t' clean other w = record {
   front = w.front;
   rest = w.rest;
@@ -228,10 +242,13 @@ walked-on p bits by text b t t' clean other w = record {
     joined = sym (append_assoc text (b ∷ []) w.popped) ∙ w.is
 
     -- each byte of a place's text is a backslash or a name's
-    in_name : (m text s r : List ℕ) → list_all is_key_name_byte m ≡ true → text ++ b ∷ r ≡ m ++ s → ((u : List ℕ) → u ++ b ∷ r ≡ s → is_key_name_byte b ≡ true) → is_key_name_byte b ≡ true
+    in_name : (m text s r : List ℕ) → list_all is_key_name_byte m ≡ true → text ++ b ∷ r ≡ m ++ s →
+        ((u : List ℕ) → u ++ b ∷ r ≡ s → is_key_name_byte b ≡ true) → is_key_name_byte b ≡ true
     in_name [] text s r clean e f = f text e
-    in_name (a ∷ m) [] s r clean e f = let same : a ≡ b = cc in ap is_key_name_byte (sym same) ∙ (and_parts (is_key_name_byte a) (list_all is_key_name_byte m) clean).0
-    in_name (a ∷ m) (c ∷ text) s r clean e f = in_name m text s r (and_parts (is_key_name_byte a) (list_all is_key_name_byte m) clean).1 (let t : text ++ b ∷ r ≡ m ++ s = cc in t) f
+    in_name (a ∷ m) [] s r clean e f = let same : a ≡ b = cc in ap is_key_name_byte (sym same) ∙
+        (and_parts (is_key_name_byte a) (list_all is_key_name_byte m) clean).0
+    in_name (a ∷ m) (c ∷ text) s r clean e f = in_name m text s r (and_parts (is_key_name_byte a) (list_all is_key_name_byte m) clean).1
+        (let t : text ++ b ∷ r ≡ m ++ s = cc in t) f
 
     byte : (q : Path) (text : List ℕ) → IsClean q → text ++ b ∷ w.popped ≡ lead_of q → is_key_name_byte b ≡ true
     byte [] text c e = absurd (none text e)

@@ -1,6 +1,7 @@
 -- Notices handed out one after another.
-use Rattle.std.proofs.Common.{◌≡◌, ℕ, ◌+◌, ◌-◌, ◌<◌, ◌≤◌, Bool, true, false, cond, eqb, List, [], ◌∷◌, ◌++◌, length, take, drop, get_or, refl, sym, ap, ◌∙◌, subst, arith, append_assoc, length-append}
-use Rattle.std.proofs.lemmas.Bool.{eqb-true, eq-eqb}
+use Rattle.std.proofs.Common.{◌≡◌, ℕ, ◌+◌, ◌-◌, ◌<◌, ◌≤◌, Bool, true, false, cond, eqb, List, [], ◌∷◌, ◌++◌, length, take, drop, get_or, refl, sym, ap, ◌∙◌}
+use Rattle.std.proofs.Common.{arith, append_assoc, length-append}
+use Rattle.std.proofs.lemmas.Bool.{eq-eqb}
 use Rattle.std.proofs.lemmas.List.{append-nil, take_more, take_all, take-append-drop}
 use Rattle.reg_model.specs.declared.notice.Notice.{Notice}
 use Rattle.reg_notify.specs.declared.queues.Queue.{Queue}
@@ -64,7 +65,8 @@ module _ (xs : List Sent) (i : ℕ) (x : Sent) (within : i < length xs) (at : x 
       let own : ◌≡◌ {A = ℕ} (cond (eqb x.session x.session) 1 0) 1 = ap (λ (b : Bool). cond b 1 0) (eq-eqb x.session x.session refl) in
       omega (arith, all, before, more, front_less, own)
 
-  pub pending-step : (s old was now : ℕ) → sent_to s xs ≤ old → was + sent_to s (take i xs) ≡ old → now ≡ cond (eqb s x.session) (was - 1) was → now + sent_to s (take (i + 1) xs) ≡ old
+  pub pending-step : (s old was now : ℕ) → sent_to s xs ≤ old → was + sent_to s (take i xs) ≡ old → now ≡ cond (eqb s x.session) (was - 1) was →
+      now + sent_to s (take (i + 1) xs) ≡ old
   pending-step s old was now all before step = by (eqb x.session s) (step ∙ ap (λ (b : Bool). cond b (was - 1) was) (flip s)) (sent-more s)
     where
       by : (b : Bool) → now ≡ cond b (was - 1) was → sent_to s (take (i + 1) xs) ≡ sent_to s (take i xs) + cond b 1 0 → now + sent_to s (take (i + 1) xs) ≡ old
@@ -73,7 +75,8 @@ module _ (xs : List Sent) (i : ℕ) (x : Sent) (within : i < length xs) (at : x 
 
   -- and room for it
   pub room-there : (before now : List Queue) → HaveRoom before → told_at now x.session ≡ told_at before x.session ++ notices_to x.session (take i xs) →
-      pending_at now x.session + sent_to x.session (take i xs) ≡ pending_at before x.session → room_at before x.session ≤ room_at now x.session → 0 < pending_at now x.session →
+      pending_at now x.session + sent_to x.session (take i xs) ≡ pending_at before x.session → room_at before x.session ≤ room_at now x.session →
+      0 < pending_at now x.session →
       length (told_at now x.session) < room_at now x.session
   room-there before now have told pending rooms some =
       let l = ap length told ∙ length-append (told_at before x.session) (notices_to x.session (take i xs)) in

@@ -1,5 +1,6 @@
 -- One queue of many changed.
-use Rattle.std.proofs.Common.{◌≡◌, ℕ, ◌<◌, ◌≤◌, List, [], length, map, get_or, Bool, true, false, eqb, nat_lt, Option, Some, None, refl, sym, ap, ◌∙◌, subst, arith, Vec}
+use Rattle.std.proofs.Common.{◌≡◌, ℕ, ◌<◌, ◌≤◌, List, [], length, map, get_or, Bool, true, false, eqb, nat_lt, Option, Some, None, refl, sym, ap, ◌∙◌}
+use Rattle.std.proofs.Common.{subst, arith, Vec}
 use Rattle.std.specs.Prelude.{slice_get, unwrap_or, option_map, vec_len}
 use Rattle.std.proofs.Math.ListN.{set, length-set}
 use Rattle.std.proofs.lemmas.Bool.{eqb-true, eqb-false}
@@ -34,13 +35,15 @@ set-others qs i q s other = by (nat_lt s (length qs)) refl
         slice_get_past (set qs i q) s beyond ∙ sym (slice_get_past qs s past)
 
 -- what holds of each queue and itself, and of the one that was and the one that is put, holds of each that was and is
-pub set-kept : (P : Option Queue → Option Queue → Type 0) (qs : List Queue) (i : ℕ) (q : Queue) → ((o : Option Queue) → P o o) → P (slice_get qs i) (Some q) → i < length qs →
+pub set-kept : (P : Option Queue → Option Queue → Type 0) (qs : List Queue) (i : ℕ) (q : Queue) → ((o : Option Queue) → P o o) → P (slice_get qs i) (Some q) →
+    i < length qs →
     (s : ℕ) → P (slice_get qs s) (slice_get (set qs i q) s)
 set-kept P qs i q same put within s = by (eqb s i) refl
   where
     by : (b : Bool) → eqb s i ≡ b → P (slice_get qs s) (slice_get (set qs i q) s)
     by false e = subst (P (slice_get qs s)) (sym (set-others qs i q s e)) (same (slice_get qs s))
-    by true e = subst (λ (k : ℕ). P (slice_get qs k) (slice_get (set qs i q) k)) (sym (eqb-true s i e)) (subst (P (slice_get qs i)) (sym (set-there qs i q within)) put)
+    by true e = subst (λ (k : ℕ). P (slice_get qs k) (slice_get (set qs i q) k)) (sym (eqb-true s i e))
+        (subst (P (slice_get qs i)) (sym (set-there qs i q within)) put)
 
 -- the queue at an index
 pub queue-at : (qs : List Queue) (i : ℕ) (q : Queue) → i < length qs → q ≡ get_or qs i q → slice_get qs i ≡ Some q
@@ -53,7 +56,8 @@ pub same-length-of : {X Y Z : Type 0} (v : Vec X Y) (w : Vec X Z) → vec_len w 
 same-length-of v w e = let a = v.ok in let b = w.ok in sym b.0 ∙ e ∙ a.0
 
 pub told-is : (qs : List Queue) (s : ℕ) → get_or (map told_of qs) s [] ≡ told_at qs s
-told-is qs s = sym (unwrap_or-slice_get (map told_of qs) s []) ∙ ap (λ (o : Option (List Notice)). unwrap_or o []) (slice_get-map told_of qs s) ∙ by (slice_get qs s)
+told-is qs s = sym (unwrap_or-slice_get (map told_of qs) s []) ∙ ap (λ (o : Option (List Notice)). unwrap_or o []) (slice_get-map told_of qs s) ∙ by
+    (slice_get qs s)
   where
     by : (o : Option Queue) → unwrap_or (option_map told_of o) [] ≡ told_in o
     by None = refl
@@ -69,8 +73,10 @@ taken-is qs s = sym (unwrap_or-slice_get (map taken_of qs) s 0) ∙ ap (λ (o : 
 -- queues that tell the same at each session are of the same lists
 pub told-same : (qs rs : List Queue) → length rs ≡ length qs → ((s : ℕ) → told_at rs s ≡ told_at qs s) → map told_of rs ≡ map told_of qs
 told-same qs rs long same =
-    ext_get_or [] (map told_of rs) (map told_of qs) (length-map rs told_of ∙ long ∙ sym (length-map qs told_of)) (λ s within. told-is rs s ∙ same s ∙ sym (told-is qs s))
+    ext_get_or [] (map told_of rs) (map told_of qs) (length-map rs told_of ∙ long ∙ sym (length-map qs told_of))
+    (λ s within. told-is rs s ∙ same s ∙ sym (told-is qs s))
 
 pub taken-same : (qs rs : List Queue) → length rs ≡ length qs → ((s : ℕ) → taken_at rs s ≡ taken_at qs s) → map taken_of rs ≡ map taken_of qs
 taken-same qs rs long same =
-    ext_get_or 0 (map taken_of rs) (map taken_of qs) (length-map rs taken_of ∙ long ∙ sym (length-map qs taken_of)) (λ s within. taken-is rs s ∙ same s ∙ sym (taken-is qs s))
+    ext_get_or 0 (map taken_of rs) (map taken_of qs) (length-map rs taken_of ∙ long ∙ sym (length-map qs taken_of))
+    (λ s within. taken-is rs s ∙ same s ∙ sym (taken-is qs s))

@@ -1,5 +1,6 @@
 -- Why rows end, by the model's words.
-use Rattle.std.proofs.Common.{◌≡◌, ℕ, ◌+◌, ◌<◌, ◌≤◌, ◌%◌, ◌^◌, Bool, true, false, not, cond, eqb, ◌==◌, ◌&&◌, ◌||◌, nat_le, List, [], ◌∷◌, map, Option, Some, None, refl, sym, ap, ◌∙◌, subst, arith, bit_and}
+use Rattle.std.proofs.Common.{◌≡◌, ℕ, ◌<◌, ◌≤◌, ◌%◌, ◌^◌, Bool, true, false, not, cond, ◌==◌, ◌&&◌, ◌||◌, nat_le, List, [], ◌∷◌, Some, None, refl, ap, ◌∙◌}
+use Rattle.std.proofs.Common.{arith, bit_and}
 use Rattle.std.specs.List.{AllByRecursion, list_any}
 use Rattle.std.specs.Int.Bits.{mask_lt}
 use Rattle.std.specs.Int.{to_be_bytes, w64}
@@ -10,7 +11,6 @@ use Rattle.reg_heap.specs.Paths.{Path}
 use Rattle.reg_heap.specs.Edits.{is_within, is_under}
 use Rattle.reg_model.specs.Worlds.{same_path}
 use Rattle.reg_model.specs.Watches.{is_hit, event_at, reason}
-use Rattle.reg_model.specs.declared.notice.Reason.{Reason}
 use Rattle.reg_model.specs.declared.notice.Reason.TheVariants.{Matched, Gone, Closed}
 use Rattle.reg_notify.specs.Asked.{events_in, ending_by, closing_by}
 use Rattle.reg_notify.specs.declared.asked.Event.{Event}
@@ -68,17 +68,21 @@ bools false false false below = refl
 
 hit-is : (e : ℕ × Row) (p : Path) (bits : ℕ) → bits ≤ 15 → is_event_hit p bits e ≡ is_hit (watch_at e) (event_at bits p)
 hit-is e p bits small =
-    ap (λ (m : Bool). same_path e.1.place p && m || is_under e.1.place p && is_met bits false (class_of e.1.filter e.1.subtree)) (met-is e.1.filter bits e.1.subtree true small)
-    ∙ ap (λ (m : Bool). same_path e.1.place p && (not (bit_and e.1.filter bits == 0) && true) || is_under e.1.place p && m) (met-is e.1.filter bits e.1.subtree false small)
+    ap (λ (m : Bool). same_path e.1.place p && m || is_under e.1.place p && is_met bits false (class_of e.1.filter e.1.subtree))
+    (met-is e.1.filter bits e.1.subtree true small)
+    ∙ ap (λ (m : Bool). same_path e.1.place p && (not (bit_and e.1.filter bits == 0) && true) || is_under e.1.place p && m)
+    (met-is e.1.filter bits e.1.subtree false small)
     ∙ bools (not (bit_and e.1.filter bits == 0)) (same_path e.1.place p) (is_under e.1.place p) e.1.subtree
     ∙ ap (λ (w : Bool). not (bit_and e.1.filter bits == 0) && (same_path e.1.place p || e.1.subtree && w)) within
   where
     within : (same_path e.1.place p || is_under e.1.place p) ≡ is_within e.1.place p
     within = ap (λ (s : Bool). s || is_under e.1.place p) (same-flip e.1.place p) ∙ within-parts e.1.place p
 
-any-is : (e : ℕ × Row) (events : List Event) → AllByRecursion (λ (x : Event). x.bits ≤ 15) events → any_event events e ≡ list_any (is_hit (watch_at e)) (events_in events)
+any-is : (e : ℕ × Row) (events : List Event) → AllByRecursion (λ (x : Event). x.bits ≤ 15) events → any_event events e ≡ list_any (is_hit (watch_at e))
+    (events_in events)
 any-is e [] small = refl
-any-is e (x ∷ xs) small = ap (λ (b : Bool). b || any_event xs e) (hit-is e x.place x.bits small.0) ∙ ap (λ (b : Bool). is_hit (watch_at e) (event_at x.bits x.place) || b) (any-is e xs small.1)
+any-is e (x ∷ xs) small = ap (λ (b : Bool). b || any_event xs e) (hit-is e x.place x.bits small.0) ∙ ap
+    (λ (b : Bool). is_hit (watch_at e) (event_at x.bits x.place) || b) (any-is e xs small.1)
 
 -- ---- why a row ends
 

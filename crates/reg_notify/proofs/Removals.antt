@@ -1,8 +1,8 @@
 -- Which rows a removed key ends.
-use Rattle.std.proofs.Common.{◌≡◌, ℕ, ◌+◌, ◌<◌, Bool, true, false, cond, ◌||◌, List, [], ◌∷◌, ◌++◌, length, drop, Vec, refl, sym, ap, ◌∙◌, subst, arith}
+use Rattle.std.proofs.Common.{◌≡◌, ℕ, ◌<◌, Bool, true, false, ◌||◌, List, [], ◌∷◌, ◌++◌, length, drop, Vec, refl, sym, ap, ◌∙◌, subst, arith}
 use Rattle.std.specs.Prelude.{vec_len}
 use Rattle.std.specs.Cmp.{both_ways}
-use Rattle.std.specs.List.{AllByRecursion, list_any}
+use Rattle.std.specs.List.{AllByRecursion}
 use Rattle.std.specs.Int.Bits.{mask_lt}
 use Rattle.std.proofs.lemmas.Bool.{or_left, or_right}
 use Rattle.std.proofs.lemmas.List.{append-nil}
@@ -18,7 +18,7 @@ use Rattle.reg_notify.specs.declared.table.Table.{Table}
 use Rattle.reg_notify.specs.declared.asked.Event.{Event}
 use Rattle.reg_notify.specs.Internal.Indexes.{goes_on}
 use Rattle.reg_notify.specs.Internal.Keys.{lead_of, IsClean, class_of}
-use Rattle.reg_notify.specs.Internal.Rows.{row_at, IsRow, place_of}
+use Rattle.reg_notify.specs.Internal.Rows.{IsRow, place_of}
 use Rattle.reg_notify.specs.Internal.Hits.{is_event_hit, any_event}
 use Rattle.reg_notify.specs.Internal.Firing.{if_passes}
 use Rattle.reg_notify.specs.Internal.States.{IsReady, Ends}
@@ -51,20 +51,24 @@ no-events v e = let ok = v.ok in empty-events v.items (sym ok.0 ∙ e)
 -- ---- removed keys
 
 pub gone-there : (p : Path) (by : ℕ) (text : List ℕ) (t t' : Table) → IsReady t → IsClean p → text ≡ lead_of p →
-    Ends by (if_passes (λ (e : ℕ × Row). goes_on (text ++ 0 ∷ []) (place_of e.0 e.1)) Gone) t t' → Ends by (if_passes (λ (e : ℕ × Row). same_path e.1.place p) Gone) t t'
+    Ends by (if_passes (λ (e : ℕ × Row). goes_on (text ++ 0 ∷ []) (place_of e.0 e.1)) Gone) t t' → Ends by
+    (if_passes (λ (e : ℕ × Row). same_path e.1.place p) Gone) t t'
 gone-there p by text t t' ready clean is x =
     ends-test by (λ (e : ℕ × Row). goes_on (text ++ 0 ∷ []) (place_of e.0 e.1)) (λ (e : ℕ × Row). same_path e.1.place p) Gone t t' (rows-fit _ t ready one) x
   where
     one : (n : ℕ) (r : Row) → IsRow n r → goes_on (text ++ 0 ∷ []) (place_of n r) ≡ same_path r.place p
-    one n r fit = ap (λ (s : List ℕ). goes_on (s ++ 0 ∷ []) r.key.items) is ∙ ap (goes_on (lead_of p ++ 0 ∷ [])) fit.key ∙ at-place p r.place (class_of r.filter r.subtree) n clean fit.clean
+    one n r fit = ap (λ (s : List ℕ). goes_on (s ++ 0 ∷ []) r.key.items) is ∙ ap (goes_on (lead_of p ++ 0 ∷ [])) fit.key ∙ at-place p r.place
+        (class_of r.filter r.subtree) n clean fit.clean
 
 pub gone-below : (p : Path) (by : ℕ) (text : List ℕ) (t t' : Table) → IsReady t → IsClean p → text ≡ lead_of p →
-    Ends by (if_passes (λ (e : ℕ × Row). goes_on (text ++ 92 ∷ []) (place_of e.0 e.1)) Gone) t t' → Ends by (if_passes (λ (e : ℕ × Row). is_under p e.1.place) Gone) t t'
+    Ends by (if_passes (λ (e : ℕ × Row). goes_on (text ++ 92 ∷ []) (place_of e.0 e.1)) Gone) t t' → Ends by
+    (if_passes (λ (e : ℕ × Row). is_under p e.1.place) Gone) t t'
 gone-below p by text t t' ready clean is x =
     ends-test by (λ (e : ℕ × Row). goes_on (text ++ 92 ∷ []) (place_of e.0 e.1)) (λ (e : ℕ × Row). is_under p e.1.place) Gone t t' (rows-fit _ t ready one) x
   where
     one : (n : ℕ) (r : Row) → IsRow n r → goes_on (text ++ 92 ∷ []) (place_of n r) ≡ is_under p r.place
-    one n r fit = ap (λ (s : List ℕ). goes_on (s ++ 92 ∷ []) r.key.items) is ∙ ap (goes_on (lead_of p ++ 92 ∷ [])) fit.key ∙ below-place p r.place (class_of r.filter r.subtree) n clean fit.clean
+    one n r fit = ap (λ (s : List ℕ). goes_on (s ++ 92 ∷ []) r.key.items) is ∙ ap (goes_on (lead_of p ++ 92 ∷ [])) fit.key ∙ below-place p r.place
+        (class_of r.filter r.subtree) n clean fit.clean
 
 behind : (p rest : Path) → (same_path (p ++ rest) p || is_under p (p ++ rest)) ≡ true
 behind p [] = or_left _ _ (subst (λ (x : Path). same_path x p ≡ true) (sym (append-nil p)) (same-self p))
@@ -96,7 +100,8 @@ swap-or true false = refl
 swap-or false true = refl
 swap-or false false = refl
 
-pub one-event : (by : ℕ) (x : Event) (done : List Event) (t t' t'' : Table) → Ends by (if_passes (any_event done) Matched) t t' → Ends by (if_passes (is_event_hit x.place x.bits) Matched) t' t'' →
+pub one-event : (by : ℕ) (x : Event) (done : List Event) (t t' t'' : Table) → Ends by (if_passes (any_event done) Matched) t t' → Ends by
+    (if_passes (is_event_hit x.place x.bits) Matched) t' t'' →
     Ends by (if_passes (any_event (x ∷ done)) Matched) t t''
 one-event by x done t t' t'' a b =
     ends-test by (λ (e : ℕ × Row). any_event done e || is_event_hit x.place x.bits e) (any_event (x ∷ done)) Matched t t''

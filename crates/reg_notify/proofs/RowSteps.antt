@@ -1,12 +1,12 @@
 -- A row that goes, and one that comes.
-use Rattle.std.proofs.Common.{◌≡◌, ◌≢◌, ℕ, ◌+◌, ◌<◌, Bool, true, false, cond, eqb, nat_eq, List, [], ◌∷◌, ◌++◌, length, Option, Some, None, is_some, refl, sym, ap, ◌∙◌, subst, arith}
+use Rattle.std.proofs.Common.{◌≡◌, ℕ, Bool, true, false, cond, List, [], ◌∷◌, ◌++◌, Option, Some, None, refl, sym, ap, ◌∙◌, subst, arith}
 use Rattle.std.specs.Prelude.{bytes_eq}
 use Rattle.std.specs.List.{AllByRecursion}
 use Rattle.std.specs.List.Sorted.{IsStrictlySortedBy}
-use Rattle.std.specs.Ordering.{nat_cmp, eq_by_cmp}
+use Rattle.std.specs.Ordering.{nat_cmp}
 use Rattle.std.specs.declared.cmp.Ordering.TheVariants.{Less}
 use Rattle.std.specs.BTreeMap.{is_at}
-use Rattle.std.specs.Map.{lookup, remove_entry, keys_of}
+use Rattle.std.specs.Map.{remove_entry, keys_of}
 use Rattle.std.specs.Cmp.{nat_cmp_total, eq_by_cmp_equiv}
 use Rattle.std.specs.Cmp.Lexicographic.{bytes_decides}
 use Rattle.std.proofs.lemmas.Bool.{cond-true, cond-false, false≢true}
@@ -14,7 +14,7 @@ use Rattle.std.proofs.lemmas.Bool.Decides.{nat_tests}
 use Rattle.std.proofs.lemmas.Map.{lookup-remove_entry}
 use Rattle.std.proofs.lemmas.Map.Keys.{IsDistinct-from_sorted}
 use Rattle.reg_notify.specs.Internal.Indexes.{UpdatesText}
-use Rattle.reg_notify.specs.Internal.Rows.{row_at, rows_of, IsRow, IsIndex, IsTable, place_of, holder_of}
+use Rattle.reg_notify.specs.Internal.Rows.{row_at, IsIndex, IsTable, place_of, holder_of}
 use Rattle.reg_notify.specs.declared.table.Row.{Row}
 
 at_same : (n k : ℕ) → is_at (nat_cmp n) k ≡ true → n ≡ k
@@ -57,11 +57,13 @@ split n r (e ∷ es) found = split-one (is_at (nat_cmp n) e.0) n r e es refl (sp
 
 -- ---- order
 
-all_less : (x : ℕ) (test : ℕ → Bool) (es : List (ℕ × Row)) → AllByRecursion (λ y. nat_cmp x y ≡ Less) (keys_of es) → AllByRecursion (λ y. nat_cmp x y ≡ Less) (keys_of (remove_entry test es))
+all_less : (x : ℕ) (test : ℕ → Bool) (es : List (ℕ × Row)) → AllByRecursion (λ y. nat_cmp x y ≡ Less) (keys_of es) → AllByRecursion (λ y. nat_cmp x y ≡ Less)
+    (keys_of (remove_entry test es))
 all_less x test [] all = tt
 all_less x test (e ∷ es) all = by (test e.0) (all_less x test es all.1)
   where
-    by : (b : Bool) → AllByRecursion (λ y. nat_cmp x y ≡ Less) (keys_of (remove_entry test es)) → AllByRecursion (λ y. nat_cmp x y ≡ Less) (keys_of (cond b es (e ∷ remove_entry test es)))
+    by : (b : Bool) → AllByRecursion (λ y. nat_cmp x y ≡ Less) (keys_of (remove_entry test es)) → AllByRecursion (λ y. nat_cmp x y ≡ Less)
+        (keys_of (cond b es (e ∷ remove_entry test es)))
     by true rest = all.1
     by false rest = (all.0, rest)
 
@@ -75,14 +77,16 @@ rises_less test (e ∷ es) rises = by (test e.0) (rises_less test es rises.1)
     by false rest = (all_less e.0 test es rises.0, rest)
 
 -- what a number finds once a row is gone
-pub row_less : (n m : ℕ) (es : List (ℕ × Row)) → IsStrictlySortedBy nat_cmp (keys_of es) → row_at m (remove_entry (is_at (nat_cmp n)) es) ≡ cond (is_at (nat_cmp n) m) None (row_at m es)
+pub row_less : (n m : ℕ) (es : List (ℕ × Row)) → IsStrictlySortedBy nat_cmp (keys_of es) → row_at m (remove_entry (is_at (nat_cmp n)) es) ≡ cond
+    (is_at (nat_cmp n) m) None (row_at m es)
 row_less n m es rises =
     let laws = eq_by_cmp_equiv nat_cmp_total in
     lookup-remove_entry laws (is_at (nat_cmp n)) (laws.congr n) m es (IsDistinct-from_sorted nat_cmp (keys_of es) rises)
 
 -- ---- the indexes
 
-none_there : (index index' : List ℕ → Option ℕ) (key text : List ℕ) (n : ℕ) → UpdatesText index key None index' → index' text ≡ Some n → (bytes_eq key text ≡ false) × (index text ≡ Some n)
+none_there : (index index' : List ℕ → Option ℕ) (key text : List ℕ) (n : ℕ) → UpdatesText index key None index' → index' text ≡ Some n →
+    (bytes_eq key text ≡ false) × (index text ≡ Some n)
 none_there index index' key text n up found = by (bytes_eq key text) refl
   where
     by : (b : Bool) → bytes_eq key text ≡ b → (bytes_eq key text ≡ false) × (index text ≡ Some n)
@@ -118,7 +122,8 @@ module _ (text_of : ℕ → Row → List ℕ) (es : List (ℕ × Row)) (index : 
           let was : row_at m es ≡ Some x = sym (cond-false _ _ _ e) ∙ is in
           up (text_of m x) ∙ cond-false _ _ _ (apart m x e was) ∙ i.placed m x was
 
-      still : (text : List ℕ) (m : ℕ) → bytes_eq (text_of n r) text ≡ false → (x : Row) → row_at m es ≡ Some x → text_of m x ≡ text → (b : Bool) → is_at (nat_cmp n) m ≡ b → row_at m es' ≡ Some x
+      still : (text : List ℕ) (m : ℕ) → bytes_eq (text_of n r) text ≡ false → (x : Row) → row_at m es ≡ Some x → text_of m x ≡ text → (b : Bool) → is_at
+          (nat_cmp n) m ≡ b → row_at m es' ≡ Some x
       still text m other x is text_is false e = rows m ∙ cond-false _ _ _ e ∙ is
       still text m other x is text_is true e =
           let same : n ≡ m = at_same n m e in
@@ -129,8 +134,10 @@ module _ (text_of : ℕ → Row → List ℕ) (es : List (ℕ × Row)) (index : 
 
 -- ---- a table with a row less
 
-pub table-less : (es es' : List (ℕ × Row)) (places handles places' handles' : List ℕ → Option ℕ) (n : ℕ) (r : Row) → IsTable es places handles → row_at n es ≡ Some r →
-    es' ≡ remove_entry (is_at (nat_cmp n)) es → UpdatesText places (place_of n r) None places' → UpdatesText handles (holder_of n r) None handles' → IsTable es' places' handles'
+pub table-less : (es es' : List (ℕ × Row)) (places handles places' handles' : List ℕ → Option ℕ) (n : ℕ) (r : Row) → IsTable es places handles →
+    row_at n es ≡ Some r →
+    es' ≡ remove_entry (is_at (nat_cmp n)) es → UpdatesText places (place_of n r) None places' → UpdatesText handles (holder_of n r) None handles' →
+    IsTable es' places' handles'
 table-less es es' places handles places' handles' n r t found gone up uh =
     subst (λ (l : List (ℕ × Row)). IsTable l places' handles') (sym gone) (record {
       rising = rises_less (is_at (nat_cmp n)) es t.rising;

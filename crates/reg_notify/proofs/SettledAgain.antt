@@ -1,17 +1,17 @@
 -- A table whose notices were handed out.
-use Rattle.std.proofs.Common.{◌≡◌, ℕ, ◌+◌, ◌<◌, ◌≤◌, List, [], ◌++◌, length, refl, sym, ap, ◌∙◌, subst, arith, length-append, Vec}
+use Rattle.std.proofs.Common.{◌≡◌, ℕ, ◌+◌, ◌<◌, ◌≤◌, List, [], ◌++◌, length, sym, ap, ◌∙◌, subst, arith, length-append}
 use Rattle.std.specs.Prelude.{All, IsPermutation, vec_len, vec_capacity}
 use Rattle.std.specs.List.Sorted.{IsNonDecreasingBy}
 use Rattle.std.proofs.lemmas.List.Elements.{All-weaker}
 use Rattle.std.proofs.lemmas.List.Sorted.{IsPermutation-trans, All-permutation}
 use Rattle.reg_model.specs.declared.limits.TheConstants.{SESSIONS_LIMIT}
-use Rattle.reg_model.specs.declared.notice.Notice.{Notice}
 use Rattle.reg_notify.specs.declared.queues.Queue.{Queue}
 use Rattle.reg_notify.specs.declared.queues.Sent.{Sent}
 use Rattle.reg_notify.specs.declared.table.Table.{Table}
 use Rattle.reg_notify.specs.Internal.Firing.{sent_to, notices_to, AreInOrder}
 use Rattle.reg_notify.specs.Internal.Indexes.{number_at}
-use Rattle.reg_notify.specs.Internal.Queues.{told_at, room_at, pending_at, HaveRoom}
+use Rattle.reg_notify.specs.Internal.Marks.{AreMarked}
+use Rattle.reg_notify.specs.Internal.Queues.{told_at, room_at, pending_at}
 use Rattle.reg_notify.specs.Internal.Rows.{IsTable, rows_of}
 use Rattle.reg_notify.specs.Internal.Settled.{IsSettled, IsHanding}
 use Rattle.reg_notify.specs.Internal.States.{IsReady}
@@ -22,7 +22,8 @@ module _ (t : Table) (ready : IsReady t) (handing : IsHanding t) (sorted : List 
   -- the sorted notices may be pushed
   pub may-sessions : All (λ (x : Sent). x.session < vec_len t.queues) sorted
   may-sessions =
-      All-weaker (λ (x : Sent). x.session < SESSIONS_LIMIT) (λ (x : Sent). x.session < vec_len t.queues) (λ x l. subst (λ (n : ℕ). x.session < n) (sym handing.long) l) sorted
+      All-weaker (λ (x : Sent). x.session < SESSIONS_LIMIT) (λ (x : Sent). x.session < vec_len t.queues)
+      (λ x l. subst (λ (n : ℕ). x.session < n) (sym handing.long) l) sorted
       (All-permutation (λ (x : Sent). x.session < SESSIONS_LIMIT) t.sent.items sorted moved handing.sessions)
 
   noted : (s : ℕ) → sent_to s sorted ≡ sent_to s t.sent.items
@@ -32,11 +33,17 @@ module _ (t : Table) (ready : IsReady t) (handing : IsHanding t) (sorted : List 
   may-pending s = let n = noted s in let c = handing.counts s in omega (arith, n, c)
 
   -- and then nothing is noted any more
-  pub settled-again : (t' : Table) → t'.rows ≡ t.rows → t'.places ≡ t.places → t'.handles ≡ t.handles → vec_len t'.sent ≡ 0 → t'.sent.items ≡ [] → vec_capacity t'.sent ≡ vec_capacity t.sent →
-      ((s : ℕ) → told_at t'.queues.items s ≡ told_at t.queues.items s ++ notices_to s sorted) → ((s : ℕ) → pending_at t'.queues.items s + sent_to s sorted ≡ pending_at t.queues.items s) →
+  pub settled-again : (t' : Table) → t'.rows ≡ t.rows → t'.places ≡ t.places → t'.handles ≡ t.handles → t'.marks ≡ t.marks → vec_len t'.sent ≡ 0 →
+      t'.sent.items ≡ [] → vec_capacity t'.sent ≡ vec_capacity t.sent →
+      ((s : ℕ) → told_at t'.queues.items s ≡ told_at t.queues.items s ++ notices_to s sorted) →
+      ((s : ℕ) → pending_at t'.queues.items s + sent_to s sorted ≡ pending_at t.queues.items s) →
       ((s : ℕ) → room_at t.queues.items s ≤ room_at t'.queues.items s) → vec_len t'.queues ≡ vec_len t.queues → IsSettled t'
-  settled-again t' rows places handles short none capacity told pending rooms long = record {
-    ready = record { table = table; room = room };
+  settled-again t' rows places handles marks short none capacity told pending rooms long = record {
+    ready = record {
+      table = table;
+      marks = subst (λ r. AreMarked t'.marks.slots.items r.entries) (sym rows) (subst (λ m. AreMarked m.slots.items t.rows.entries) (sym marks) ready.marks);
+      room = room;
+    };
     silent = none;
     long = long ∙ handing.long;
     rooms = λ s. have s;
@@ -70,7 +77,8 @@ module _ (t : Table) (ready : IsReady t) (handing : IsHanding t) (sorted : List 
           omega (arith, p, c, n, same)
 
 -- what was told is what is told of any list of them in order
-pub told-in-order : (before after : List Queue) (noted sorted : List Sent) → IsPermutation noted sorted → IsNonDecreasingBy (λ (x : Sent). x.notice.watch) sorted →
+pub told-in-order : (before after : List Queue) (noted sorted : List Sent) → IsPermutation noted sorted → IsNonDecreasingBy
+    (λ (x : Sent). x.notice.watch) sorted →
     ((s : ℕ) → told_at after s ≡ told_at before s ++ notices_to s sorted) → (sent : List Sent) → AreInOrder sent → IsPermutation sent noted →
     (s : ℕ) → told_at after s ≡ told_at before s ++ notices_to s sent
 told-in-order before after noted sorted moved rises told sent up same s =

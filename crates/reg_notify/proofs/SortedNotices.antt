@@ -1,10 +1,11 @@
 -- Notices in the order of their watches: there is one such list of them.
-use Rattle.std.proofs.Common.{◌≡◌, ◌≢◌, ℕ, ◌+◌, ◌<◌, ◌≤◌, zero, suc, Bool, true, false, cond, eqb, List, [], ◌∷◌, length, map, get_or, refl, sym, ap, ◌∙◌, subst, arith, ◌⊎◌, inl, inr}
+use Rattle.std.proofs.Common.{◌≡◌, ℕ, ◌+◌, ◌<◌, ◌≤◌, suc, Bool, true, false, cond, eqb, List, [], ◌∷◌, length, map, get_or, refl, sym, ap, ◌∙◌, arith, ◌⊎◌}
+use Rattle.std.proofs.Common.{inl, inr}
 use Rattle.std.specs.List.{AllByRecursion, sum_by}
 use Rattle.std.specs.List.Sorted.{IsPermutation, IsNonDecreasingBy, IsStrictlySortedBy}
 use Rattle.std.specs.Ordering.{nat_cmp}
 use Rattle.std.specs.declared.cmp.Ordering.TheVariants.{Less}
-use Rattle.std.proofs.lemmas.Bool.{cond-true, cond-false, eqb-true, eqb-false, eq-eqb, ne_eqb, cases_order}
+use Rattle.std.proofs.lemmas.Bool.{cond-true, cond-false, eq-eqb, ne_eqb, cases_order}
 use Rattle.std.proofs.lemmas.Bool.Decides.{nat_tests}
 use Rattle.std.proofs.lemmas.List.Sums.{sum_by-cons}
 use Rattle.std.proofs.lemmas.List.Sorted.{sum_by-IsPermutation}
@@ -110,7 +111,8 @@ abbrev SameSums : List Sent → List Sent → Type 0
 SameSums xs ys = (f : Sent → ℕ) → total f ys ≡ total f xs
 
 -- a list in order begins with the watch with which another one of the same notices begins
-module _ (x y : Sent) (xs ys : List Sent) (above : Above (watch x) xs) (rises : AllByRecursion (λ (z : Sent). watch y ≤ watch z) ys) (same : SameSums (x ∷ xs) (y ∷ ys)) where
+module _ (x y : Sent) (xs ys : List Sent) (above : Above (watch x) xs) (rises : AllByRecursion (λ (z : Sent). watch y ≤ watch z) ys)
+    (same : SameSums (x ∷ xs) (y ∷ ys)) where
   one : (n : ℕ) → watch x ≡ n → of_watch n (λ (z : Sent). 1) x ≡ 1
   one n e = cond-true _ _ _ (eq-eqb (watch x) n e)
 

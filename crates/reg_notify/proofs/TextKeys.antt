@@ -29,7 +29,8 @@ unfolding KeepsOthers
 others eq test old new h = h
 
 -- g is w at bs, and f at other bytes
-by_bytes : {W : Type 0} (f g : List ℕ → W) (bs : List ℕ) (w : W) → g bs ≡ w → ((cs : List ℕ) → bytes_eq bs cs ≡ false → g cs ≡ f cs) → (cs : List ℕ) → g cs ≡ cond (bytes_eq bs cs) w (f cs)
+by_bytes : {W : Type 0} (f g : List ℕ → W) (bs : List ℕ) (w : W) → g bs ≡ w → ((cs : List ℕ) → bytes_eq bs cs ≡ false → g cs ≡ f cs) → (cs : List ℕ) →
+    g cs ≡ cond (bytes_eq bs cs) w (f cs)
 by_bytes f g bs w here other cs = by (bytes_eq bs cs) refl
   where
     by : (b : Bool) → bytes_eq bs cs ≡ b → g cs ≡ cond (bytes_eq bs cs) w (f cs)
@@ -37,10 +38,12 @@ by_bytes f g bs w here other cs = by (bytes_eq bs cs) refl
     by false n = other cs n ∙ sym (cond-false (bytes_eq bs cs) w (f cs) n)
 
 -- the map of the paths after a change at one text
-pub updated : {Y : Type 0} (text : List ℕ) (m n : BTreeMap (Vec ℕ Y) ℕ) (w : Option ℕ) → UpdatesBy (λ x y. slice_cmp nat_cmp x.items y.items) (λ k. slice_cmp nat_cmp text k.items) m n w
+pub updated : {Y : Type 0} (text : List ℕ) (m n : BTreeMap (Vec ℕ Y) ℕ) (w : Option ℕ) → UpdatesBy (λ x y. slice_cmp nat_cmp x.items y.items)
+    (λ k. slice_cmp nat_cmp text k.items) m n w
     → UpdatesText (number_at m.entries) text w (number_at n.entries)
 updated text m n w h =
-    by_bytes (number_at m.entries) (number_at n.entries) text w h.1 (λ cs e. others _ _ _ _ h.3 _ (λ x y. (eq_by_cmp_equiv nat_list_cmp_total).congr cs x.items y.items) (λ k. apart text cs k.items e))
+    by_bytes (number_at m.entries) (number_at n.entries) text w h.1
+    (λ cs e. others _ _ _ _ h.3 _ (λ x y. (eq_by_cmp_equiv nat_list_cmp_total).congr cs x.items y.items) (λ k. apart text cs k.items e))
 
 -- ---- paths
 
@@ -60,6 +63,7 @@ pub same_path-texts : (t p : List ℕ) → same_path (path_of t) (path_of p) ≡
 same_path-texts t p = by (bytes_eq p t) refl (same_path (path_of t) (path_of p)) refl
   where
     by : (b : Bool) → bytes_eq p t ≡ b → (c : Bool) → same_path (path_of t) (path_of p) ≡ c → same_path (path_of t) (path_of p) ≡ bytes_eq p t
-    by true y c e = subst (λ x. same_path (path_of t) (path_of x) ≡ true) (sym ((bytes_decides p t).0 y)) (ap is_eq (tied_itself path_total (path_of t))) ∙ sym y
+    by true y c e = subst (λ x. same_path (path_of t) (path_of x) ≡ true) (sym ((bytes_decides p t).0 y)) (ap is_eq (tied_itself path_total (path_of t))) ∙
+        sym y
     by false n true e = absurd (false≢true (sym n ∙ (bytes_decides p t).1 (path_of-one p t (sym (path-is _ _ e)))))
     by false n false e = e ∙ sym n

@@ -1,5 +1,5 @@
 -- What is asked of a table of watches, and what comes of it.
-use Rattle.std.specs.Prelude.{◌≡◌, ℕ, ◌++◌, ◌∷◌, Bool, false, List, [], filter, map, Option, Some, None}
+use Rattle.std.specs.Prelude.{◌≡◌, ℕ, ◌++◌, ◌∷◌, Bool, false, List, [], filter, map, Some, None}
 use Rattle.reg_heap.specs.Paths.{Path}
 use Rattle.reg_heap.specs.Edits.{is_within, is_under}
 use Rattle.reg_model.specs.Worlds.{same_path}

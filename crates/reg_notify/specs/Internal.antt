@@ -2,6 +2,7 @@
 pub mod Indexes
 pub mod Keys
 pub mod Places
+pub mod Marks
 pub mod Rows
 pub mod Firing
 pub mod Queues

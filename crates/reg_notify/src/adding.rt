@@ -1,10 +1,11 @@
 //! How a watch comes into the table.
-ghost use Rattle.std.specs.Prelude.{◌≡◌, ◌+◌, ◌<◌, ◌≤◌, ◌++◌, ◌∷◌, [], ℕ, List, All, OnOk, OnErr, IfOk, None, Some, length, vec_len, vec_capacity};
+ghost use Rattle.std.specs.Prelude.{◌≡◌, ◌+◌, ◌<◌, ◌≤◌, ◌++◌, ◌∷◌, [], ℕ, List, All, true, OnOk, OnErr, IfOk, None, Some, length, vec_len, vec_capacity};
 ghost use Rattle.reg_model.specs.declared.limits.TheConstants.{SESSIONS_LIMIT, WATCHES_LIMIT};
 ghost use Rattle.reg_model.specs.Causes.{watches_of};
 ghost use Rattle.reg_notify.specs.Asked.{watch_in, Adds};
 ghost use Rattle.reg_notify.specs.Internal.Indexes.{number_at, UpdatesText};
 ghost use Rattle.reg_notify.specs.Internal.Keys.{class_of, handle_text, key_text, IsClean};
+ghost use Rattle.reg_notify.specs.Internal.Marks.{is_marked};
 ghost use Rattle.reg_notify.specs.Internal.Queues.{told_at, taken_at, room_at, pending_at};
 ghost use Rattle.reg_notify.specs.Internal.Rows.{watches_at, IsRow};
 ghost use Rattle.reg_notify.specs.Internal.Settled.{shown, IsSettled, IsRowOf};
@@ -34,7 +35,7 @@ impl Table {
         let row = new_row(asked)?;
         let key = row.key.clone()?;
         let holder = holder_text(alloc, handle, number)?;
-        self.make_room(session)?;
+        self.make_room(session, row.place.text())?;
         self.rows.insert(number, row)?;
         match index_both(
             &mut self.places,
@@ -55,8 +56,8 @@ impl Table {
         }
     }
 
-    /// Makes room for one watch more of a session: to note its notice, and to tell the session.
-    fn make_room(&mut self, session: u8) -> Result<(), AllocError>
+    /// Makes room for one watch more of a session: to note its notice, and to tell the session; and marks its key, by its text.
+    fn make_room(&mut self, session: u8, text: &[u8]) -> Result<(), AllocError>
         requires settled { IsSettled self.old }
         requires session { session < SESSIONS_LIMIT }
         requires room { watches_of session (watches_at self.old.rows.entries) < WATCHES_LIMIT }
@@ -64,11 +65,13 @@ impl Table {
         ensures rows { self.new.rows ≡ self.old.rows }
         ensures places { self.new.places ≡ self.old.places }
         ensures handles { self.new.handles ≡ self.old.handles }
+        ensures marked { OnOk result (is_marked self.new.marks.slots.items text.now ≡ true) }
         ensures shown { shown self.new ≡ shown self.old }
         ensures sent { OnOk result (vec_len self.new.sent + (length self.new.rows.entries + 1) ≤ vec_capacity self.new.sent) }
         ensures queue { OnOk result (length (told_at self.new.queues.items session) + (pending_at self.new.queues.items session + 1) ≤ room_at self.new.queues.items session) }
     {
         reserve_in(&mut self.queues, session)?;
+        self.marks.set(text)?;
         let rows = self.rows.len();
         prove!(rows < usize::MAX);
         self.sent.reserve(rows + 1)

@@ -10,6 +10,7 @@
 mod adding;
 mod asked;
 mod index;
+mod marks;
 mod place;
 mod queues;
 mod table;

@@ -55,6 +55,13 @@ impl Place {
         Ok(text)
     }
 
+    /// Its text.
+    pub fn text(&self) -> &[u8]
+        ensures { result.now ≡ lead_of self.now }
+    {
+        self.text.as_slice()
+    }
+
     /// Its text, with room for two bytes more.
     pub fn into_text(self) -> Vec<u8>
         ensures text { result.items ≡ lead_of self }

@@ -20,6 +20,7 @@ ghost use Rattle.reg_notify.specs.Internal.States.{IsReady, IsGone, Ends};
 
 use crate::asked::{Event, Removed};
 use crate::index::Index;
+use crate::marks::Marks;
 use crate::place::Place;
 use crate::queues::{Queue, Sent, new_queues, pending_in, push_all};
 use reg_model::{Notice, Reason};
@@ -38,13 +39,14 @@ pub struct Row {
     pub key: Vec<u8>,
 }
 
-/// The watches by number, the number of each by its place and by its handle, the notices of the firing that goes on, and those
-/// that each session was told.
+/// The watches by number, the number of each by its place and by its handle, a mark for each key that is watched, the notices of the
+/// firing that goes on, and those that each session was told.
 #[derive(Drop)]
 pub struct Table {
     pub rows: BTreeMap<u64, Row>,
     pub places: Index,
     pub handles: Index,
+    pub marks: Marks,
     pub sent: Vec<Sent>,
     pub queues: Vec<Queue>,
 }
@@ -62,6 +64,7 @@ impl Table {
             rows: BTreeMap::new(alloc),
             places: Index::new(alloc),
             handles: Index::new(alloc),
+            marks: Marks::new(alloc),
             sent: Vec::new(alloc),
             queues,
         })
@@ -186,12 +189,16 @@ impl Table {
         found
     }
 
-    /// Ends the watches that an event at a place hits: there, and above it where the keys below are watched.
+    /// Ends the watches that an event at a place hits: there, and above it where the keys below are watched. Mostly none of these keys
+    /// has a mark, and then no text is looked for.
     fn end_event(&mut self, place: Place, bits: u32, by: u64)
         requires { IsReady self.old }
         ensures { Ends by (if_passes (is_event_hit place bits) Reason.Matched) self.old self.new }
     {
         let mut text = place.into_text();
+        if !self.marks.any_above(text.as_slice()) {
+            return;
+        }
         self.end_hit(&mut text, bits, true, by);
         while let Some(byte) = text.pop() {
             self.end_above(byte, &mut text, bits, by);

@@ -1,5 +1,9 @@
 -- Where memory and space suffice, a script writes one text.
-use Rattle.std.proofs.Common.{◌≡◌, ℕ, List, [], ◌∷◌, ◌++◌, length, Option, Some, None, refl, sym, subst, ap, ◌∙◌, arith, ◌⊎◌, inl, inr}
+use Rattle.std.proofs.Common.{◌≡◌, ℕ, ◌+◌, ◌==◌, ◌&&◌, if◌then◌else◌, List, [], ◌∷◌, ◌++◌, length, Option, Some, None, is_some}
+use Rattle.std.proofs.Common.{refl, sym, subst, ap, ◌∙◌, arith, ◌⊎◌, inl, inr}
+use Rattle.std.specs.Prelude.{get_or, slice_get}
+use Rattle.reg_model.specs.Histories.{fired}
+use Rattle.reg_model.specs.declared.notice.Notice.{Notice}
 use Rattle.reg_model.specs.Causes.{State, change_cause, query_cause}
 use Rattle.reg_model.specs.Replies.{refusal, reply_to, body_of}
 use Rattle.reg_model.specs.declared.answer.Answer.{Answer}
@@ -14,19 +18,24 @@ use Rattle.reg_model.specs.declared.reply.Entry.{Entry}
 use Rattle.reg_model.specs.declared.step.Step.{Step}
 use Rattle.reg_model.specs.declared.step.Outcome.{Outcome}
 use Rattle.reg_model.specs.declared.step.Outcome.TheVariants.{Changed, Answered}
-use Rattle.reg_calls.specs.Views.{View, state, entry_of, IsAppliedBy, IsTold, is_told}
+use Rattle.reg_calls.specs.Views.{View, state, entry_of, IsAppliedBy, IsTold, is_told, IsNoticeTaken}
 use Rattle.reg_model.specs.Callbacks.{no_callbacks}
 use Rattle.reg_calls.specs.Runs.{IsStep}
 use Rattle.reg_script.specs.LineWords.{lines_of}
-use Rattle.reg_script.specs.LineMeanings.{Meaning, nothing, at_moment, as_session, on_hive, asks, bad, meaning_of}
-use Rattle.reg_script.specs.ReplyTexts.{outcome_text}
+use Rattle.reg_script.specs.LineMeanings.{Meaning, nothing, at_moment, as_session, on_hive, asks, takes_notice, bad, meaning_of}
+use Rattle.reg_script.specs.ReplyTexts.{outcome_text, notice_text}
 use Rattle.reg_script.specs.Lines.{Stand, IsSaid, AreSaid}
 use Rattle.reg_script.specs.Ample.{IsDue, IsAmple, AreAmple, HasOneText}
+
+-- how many notices a session has taken
+abbrev taken_in : View → ℕ → ℕ
+taken_in v session = get_or v.watches.taken session 0
 
 -- two positions where replies are the same
 pub record Same (a b : Stand) : Type 0 where
   pub origin : a.hive.origin ≡ b.hive.origin
   pub journal : a.hive.journal ≡ b.hive.journal
+  pub taken : (x : ℕ) → taken_in a.hive x ≡ taken_in b.hive x
   pub moment : a.moment ≡ b.moment
   pub session : a.session ≡ b.session
 
@@ -40,8 +49,9 @@ abbrev journal_by : Option ℕ → List Entry → Entry → List Entry
 journal_by (Some status) journal entry = journal
 journal_by None journal entry = journal ++ entry ∷ []
 
--- a hive with the keys and handles of another that has its origin and its journal is that other
-view_like : (a b : View) → a.origin ≡ b.origin → a.journal ≡ b.journal → ◌≡◌ {A = View} (record a { keys = b.keys; handles = b.handles }) b
+-- a hive with the keys, handles and watches of another that has its origin and its journal is that other
+view_like : (a b : View) → a.origin ≡ b.origin → a.journal ≡ b.journal →
+    ◌≡◌ {A = View} (record a { keys = b.keys; handles = b.handles; watches = b.watches }) b
 view_like a b origin journal = rw (origin, journal) refl
 
 lacking : {X Y : Type 0} (reply : ChangeReply) → ((reply ≡ refusal 8) × X) ⊎ ((reply ≡ refusal 1450) × Y) → reply.status ≡ 0 → ⊥
@@ -52,10 +62,12 @@ change_known : (cause : Option ℕ) (old new : View) (session moment : ℕ) (cha
     IsAppliedBy cause old new session moment change reply
     → (cause ≡ None → reply.status ≡ 0)
     → (reply ≡ due_reply cause (state old) session change) × (new.origin ≡ old.origin) ×
-    (new.journal ≡ journal_by cause old.journal (entry_of old session moment change))
+    (new.journal ≡ journal_by cause old.journal (entry_of old session moment change)) ×
+    ((x : ℕ) → taken_in new x ≡ taken_in old x)
 change_known (Some status) old new session moment change reply h due =
-    (h.0, ap (λ (v : View). v.origin) h.1, ap (λ (v : View). v.journal) h.1)
-change_known None old new session moment change reply (inl h) due = (h.says, h.origin, h.journal)
+    (h.0, ap (λ (v : View). v.origin) h.1, ap (λ (v : View). v.journal) h.1, λ x. ap (λ (v : View). taken_in v x) h.1)
+change_known None old new session moment change reply (inl h) due =
+    (h.says, h.origin, h.journal, λ x. ap (λ (ns : List ℕ). get_or ns x 0) h.taken)
 change_known None old new session moment change reply (inr h) due = absurd (lacking reply h.why (due refl))
 
 abbrev told : View → ℕ → TheChange → ChangeReply
@@ -103,7 +115,8 @@ abbrev step_at : Stand → Call → Step
 step_at stand call = record { session = stand.session; moment = stand.moment; call = call }
 
 abbrev SameAfter : Outcome → View → Outcome → View → Type 0
-SameAfter o v o' v' = (o ≡ o') × (v.origin ≡ v'.origin) × (v.journal ≡ v'.journal)
+SameAfter o v o' v' =
+    (o ≡ o') × (v.origin ≡ v'.origin) × (v.journal ≡ v'.journal) × ((x : ℕ) → taken_in v x ≡ taken_in v' x)
 
 call_same : (call : Call) (a b : Stand) (v w : View) (o o' : Outcome) → IsStep no_callbacks a.hive (step_at a call) o v →
     IsStep no_callbacks b.hive (step_at b call) o' w
@@ -114,6 +127,7 @@ call_same (Change change) a b v w (Changed r) (Changed r') h k due due' s =
       ap Changed (x.0 ∙ (told_same a.hive b.hive a.session b.session change s.origin s.journal s.session ∙ sym y.0)),
       x.1 ∙ (s.origin ∙ sym y.1),
       x.2 ∙ (journal_same a.hive b.hive a.session b.session a.moment b.moment change s.origin s.journal s.session s.moment ∙ sym y.2),
+      λ n. x.3 n ∙ (s.taken n ∙ sym (y.3 n)),
     )
 call_same (Query query) a b v w (Answered r) (Answered r') h k due due' s =
     let x = body_known (query_cause (state a.hive) a.session query 0) (body_of (state a.hive) a.session query) r.body h.1 due in
@@ -122,16 +136,63 @@ call_same (Query query) a b v w (Answered r) (Answered r') h k due due' s =
           (x ∙ (body_same a.hive b.hive a.session b.session query s.origin s.journal s.session ∙ sym y))),
       ap (λ (u : View). u.origin) h.2 ∙ (s.origin ∙ sym (ap (λ (u : View). u.origin) k.2)),
       ap (λ (u : View). u.journal) h.2 ∙ (s.journal ∙ sym (ap (λ (u : View). u.journal) k.2)),
+      λ n. ap (λ (u : View). taken_in u n) h.2 ∙ (s.taken n ∙ sym (ap (λ (u : View). taken_in u n) k.2)),
     )
 call_same (Change change) a b v w (Answered r) o' h k due due' s = absurd h
 call_same (Change change) a b v w (Changed r) (Answered r') h k due due' s = absurd k
 call_same (Query query) a b v w (Changed r) o' h k due due' s = absurd h
 call_same (Query query) a b v w (Answered r) (Changed r') h k due due' s = absurd k
 
+-- ---- a notice
+
+abbrev handed : View → ℕ → Option Notice
+handed v session = slice_get (fired v.origin v.journal session) (taken_in v session)
+
+handed_same : (a b : View) (s s' : ℕ) → a.origin ≡ b.origin → a.journal ≡ b.journal →
+    ((x : ℕ) → taken_in a x ≡ taken_in b x) → s ≡ s' → handed a s ≡ handed b s'
+handed_same a b s s' origin journal taken session =
+    ap (λ (n : ℕ). slice_get (fired a.origin a.journal s) n) (taken s) ∙
+    (ap (λ (v : View). handed v s) (view_like a b origin journal) ∙ ap (λ (x : ℕ). handed b x) session)
+
+abbrev taken_then : Option Notice → ℕ → ℕ → ℕ → ℕ
+taken_then notice session x n = if x == session && is_some notice then n + 1 else n
+
+taken_same : (m m' : Option Notice) (s s' x n n' : ℕ) → m ≡ m' → s ≡ s' → n ≡ n' → taken_then m s x n ≡ taken_then m' s' x n'
+taken_same m m' s s' x n n' notice session taken =
+    ap (λ (o : Option Notice). taken_then o s x n) notice ∙
+    (ap (λ (y : ℕ). taken_then m' y x n) session ∙ ap (λ (k : ℕ). taken_then m' s' x k) taken)
+
+abbrev SameNotice : Option Notice → View → Option Notice → View → Type 0
+SameNotice m v m' w =
+    (m ≡ m') × (v.origin ≡ w.origin) × (v.journal ≡ w.journal) × ((x : ℕ) → taken_in v x ≡ taken_in w x)
+
+notice_same : (a b : Stand) (v w : View) (m m' : Option Notice) → IsNoticeTaken a.hive v a.session m → IsNoticeTaken b.hive w b.session m'
+    → Same a b → SameNotice m v m' w
+notice_same a b v w m m' h k s =
+    let same = h.next ∙ (handed_same a.hive b.hive a.session b.session s.origin s.journal s.taken s.session ∙ sym k.next) in (
+      same,
+      h.origin ∙ (s.origin ∙ sym k.origin),
+      h.journal ∙ (s.journal ∙ sym k.journal),
+      λ x. h.taken x ∙ (taken_same m m' a.session b.session x _ _ same s.session (s.taken x) ∙ sym (k.taken x)),
+    )
+
 -- ---- a line
 
 same_along : (a b x y : Stand) → a ≡ x → b ≡ y → Same x y → Same a b
 same_along a b x y e f s = subst (λ (p : Stand). Same p b) (sym e) (subst (λ (q : Stand). Same x q) (sym f) s)
+
+-- the same settings, and hives where replies are the same
+same_then : (a b a' b' : Stand) → a' ≡ record a { hive = a'.hive } → b' ≡ record b { hive = b'.hive } → Same a b →
+    a'.hive.origin ≡ b'.hive.origin → a'.hive.journal ≡ b'.hive.journal →
+    ((x : ℕ) → taken_in a'.hive x ≡ taken_in b'.hive x) → Same a' b'
+same_then a b a' b' e f s origin journal taken =
+    record {
+      origin = origin;
+      journal = journal;
+      taken = taken;
+      moment = ap (λ (u : Stand). u.moment) e ∙ (s.moment ∙ sym (ap (λ (u : Stand). u.moment) f));
+      session = ap (λ (u : Stand). u.session) e ∙ (s.session ∙ sym (ap (λ (u : Stand). u.session) f));
+    }
 
 line_same : (m : Meaning) (a b a' b' : Stand) (t t' : List ℕ) (p : IsSaid m a t a') (q : IsSaid m b t' b') → IsAmple m a t a' p →
     IsAmple m b t' b' q → Same a b → (t ≡ t') × Same a' b'
@@ -139,24 +200,21 @@ line_same nothing a b a' b' t t' p q d d' s = (p.0 ∙ sym q.0, same_along a' b'
 line_same (at_moment moment) a b a' b' t t' p q d d' s = (
   p.0 ∙ sym q.0,
   same_along a' b' (record a { moment = moment }) (record b { moment = moment }) p.1 q.1
-      (record { origin = s.origin; journal = s.journal; moment = refl; session = s.session }),
+      (record { origin = s.origin; journal = s.journal; taken = s.taken; moment = refl; session = s.session }),
 )
 line_same (as_session session) a b a' b' t t' p q d d' s = (
   p.0 ∙ sym q.0,
   same_along a' b' (record a { session = session }) (record b { session = session }) p.1 q.1
-      (record { origin = s.origin; journal = s.journal; moment = s.moment; session = refl }),
+      (record { origin = s.origin; journal = s.journal; taken = s.taken; moment = s.moment; session = refl }),
 )
 line_same on_hive a b a' b' t t' p q d d' s = (p.0 ∙ sym q.0, same_along a' b' a b p.1 q.1 s)
 line_same bad a b a' b' t t' p q d d' s = (p.0 ∙ sym q.0, same_along a' b' a b p.1 q.1 s)
+line_same takes_notice a b a' b' t t' p q d d' s =
+    let x = notice_same a b a'.hive b'.hive p.0 q.0 p.1 q.1 s in (p.2 ∙ (ap notice_text x.0 ∙ sym q.2), same_then a b a' b' p.3 q.3 s x.1 x.2 x.3)
 line_same (asks call) a b a' b' t t' p q d d' s =
     let x = call_same call a b a'.hive b'.hive p.0 q.0 p.1 q.1 d d' s in (
       p.2 ∙ (ap (outcome_text call) x.0 ∙ sym q.2),
-      record {
-        origin = x.1;
-        journal = x.2;
-        moment = ap (λ (u : Stand). u.moment) p.3 ∙ (s.moment ∙ sym (ap (λ (u : Stand). u.moment) q.3));
-        session = ap (λ (u : Stand). u.session) p.3 ∙ (s.session ∙ sym (ap (λ (u : Stand). u.session) q.3));
-      },
+      same_then a b a' b' p.3 q.3 s x.1 x.2 x.3,
     )
 
 -- ---- a script
@@ -172,4 +230,4 @@ lines_same (line ∷ lines) a b a' b' t t' p q d d' s =
 pub one_text : HasOneText
 one_text old new new' script text text' p q =
     lines_same (lines_of script) _ _ p.lines.0 q.lines.0 text text' p.lines.1 q.lines.1 p.ample q.ample
-    (record { origin = refl; journal = refl; moment = refl; session = refl })
+    (record { origin = refl; journal = refl; taken = λ x. refl; moment = refl; session = refl })

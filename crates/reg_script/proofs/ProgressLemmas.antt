@@ -1,6 +1,6 @@
 -- A script's bytes, taken one after another.
 use Rattle.std.proofs.Common.{◌≡◌, ◌≢◌, ℕ, ◌+◌, ◌<◌, ◌≤◌, false, eqb, List, [], ◌∷◌, ◌++◌, length, get_or, take, Option, Some, None, refl, sym, subst, ap, ◌∙◌, arith, append_assoc}
-use Rattle.std.proofs.Common.{append-nil, inl, inr}
+use Rattle.std.proofs.Common.{append-nil, inl, inr, Bool}
 use Rattle.std.specs.List.{AllByRecursion}
 use Rattle.std.specs.Io.KnownBytes.{Appends, Consumes, Keeps}
 use Rattle.std.proofs.lemmas.Bool.Decides.{nat_tests}
@@ -9,6 +9,8 @@ use Rattle.reg_script.specs.LineWords.{lines_of}
 use Rattle.reg_script.specs.LineMeanings.{meaning_of}
 use Rattle.reg_script.specs.Lines.{Stand, IsSaid, AreSaid}
 use Rattle.reg_script.specs.Internal.Outputs.{IsSettled}
+use Rattle.reg_model.specs.declared.reply.ChangeReply.{ChangeReply}
+use Rattle.reg_script.specs.ReplyTexts.{changed_text}
 use Rattle.reg_script.specs.Stops.{longest_line, most_lines, HasNoFeed}
 use Rattle.reg_script.specs.Internal.Progress.{Position, IsSteady, with_feeds, IsLine, Passes, Takes, Ends}
 
@@ -311,3 +313,9 @@ ends_at old mid new script reply h said adds same counts =
 
 pub from_empty : (text empty reply : List ℕ) → text ≡ empty ++ reply → empty ≡ [] → text ≡ reply
 from_empty text empty reply e none = e ∙ ap (λ (w : List ℕ). w ++ reply) none
+
+-- a change's reply, where it was tested before whether it asks for a notification
+pub told_as : (text now old : List ℕ) (watches watched : Bool) (reply : ChangeReply) → text ≡ now ++ changed_text watches reply → now ≡ old →
+    watches ≡ watched → text ≡ old ++ changed_text watched reply
+told_as text now old watches watched reply adds same asked =
+    adds ∙ (ap (λ (w : List ℕ). w ++ changed_text watches reply) same ∙ ap (λ (b : Bool). old ++ changed_text b reply) asked)

@@ -1,21 +1,24 @@
 -- The definitions of the script's lines, computed at lines and replies of the rules.
-use Rattle.std.specs.Prelude.{◌≡◌, [], ◌∷◌, codes, Some, None, refl}
+use Rattle.std.specs.Prelude.{◌≡◌, true, false, [], ◌∷◌, codes, Some, None, refl}
 use Rattle.hex.proofs.OnLiterals.{hex_on_literals}
 use Rattle.std.specs.Fmt.{digits}
 use Rattle.reg_model.specs.declared.call.Call.{Call}
 use Rattle.reg_model.specs.declared.call.Call.TheVariants.{Change, Query}
-use Rattle.reg_model.specs.declared.call.Change.TheVariants.{OpenRoot, OpenKey, CreateKey, SetValue, DeleteValue, DeleteKey, DeleteTree, SetSecurity, Close}
+use Rattle.reg_model.specs.declared.call.Change.TheVariants.{OpenRoot, OpenKey, CreateKey, SetValue, DeleteValue, DeleteKey, DeleteTree, SetSecurity, Notify, Close}
 use Rattle.reg_model.specs.declared.call.Query.TheVariants.{QueryValue, EnumKey, EnumValue, QueryInfo, GetSecurity}
 use Rattle.reg_model.specs.declared.answer.AnswerBody.TheVariants.{Refused, Short, Value, Key, Member, Info, Security}
+use Rattle.reg_model.specs.declared.notice.Reason.TheVariants.{Matched, Gone, Closed}
+use Rattle.reg_model.specs.declared.step.Outcome.TheVariants.{Changed}
 use Rattle.reg_script.specs.declared.engine.TheConstants.{LINE_LIMIT, LINES_LIMIT}
 use Rattle.reg_script.specs.LineWords.{lines_of, words_of, number_of, unescaped, after_mark, name_of, data_of}
-use Rattle.reg_script.specs.LineMeanings.{first_of, ending, room_of, given_of, call_verb_of, verb_of, by_verb, meaning_of, nothing, at_moment, as_session, on_hive, asks, bad}
-use Rattle.reg_script.specs.ReplyTexts.{changed_text, answer_text}
+use Rattle.reg_script.specs.LineMeanings.{first_of, ending, room_of, subtree_of, given_of, call_verb_of, verb_of, by_verb, meaning_of}
+use Rattle.reg_script.specs.LineMeanings.{nothing, at_moment, as_session, on_hive, asks, takes_notice, bad}
+use Rattle.reg_script.specs.ReplyTexts.{changed_text, answer_text, notice_text, outcome_text}
 use Rattle.reg_text.specs.Texts.{byte_text}
 
 -- what computes a line's meaning
 unfoldable pub on_lines : Unit {0}
-unfolding words_of number_of unescaped after_mark name_of data_of first_of ending room_of given_of call_verb_of verb_of by_verb meaning_of hex_on_literals
+unfolding words_of number_of unescaped after_mark name_of data_of first_of ending room_of subtree_of given_of call_verb_of verb_of by_verb meaning_of hex_on_literals
 on_lines = tt
 
 -- ---- lines
@@ -108,6 +111,27 @@ setsec-cases = refl
 setsec-none : meaning_of (codes "setsec 0 x") ≡ asks (Change (SetSecurity 0 []))
 unfolding on_lines
 setsec-none = refl
+
+notify-key : meaning_of (codes "notify 2 4 0") ≡ asks (Change (Notify 2 4 false))
+unfolding on_lines
+notify-key = refl
+
+notify-subtree : meaning_of (codes "notify 1 268435460 1") ≡ asks (Change (Notify 1 268435460 true))
+unfolding on_lines
+notify-subtree = refl
+
+-- what no filter has is a number too, which the call refuses
+notify-largest : meaning_of (codes "notify 18446744073709551615 4294967295 001") ≡ asks (Change (Notify 18446744073709551615 4294967295 true))
+unfolding on_lines
+notify-largest = refl
+
+notify-zeros : meaning_of (codes "notify 00 00 00") ≡ asks (Change (Notify 0 0 false))
+unfolding on_lines
+notify-zeros = refl
+
+notice-next : meaning_of (codes "notice") ≡ takes_notice
+unfolding on_lines
+notice-next = refl
 
 close-handle : meaning_of (codes "close 7") ≡ asks (Change (Close 7))
 unfolding on_lines
@@ -293,24 +317,100 @@ bad-getsec_more : meaning_of (codes "getsec 0 1 1") ≡ bad
 unfolding on_lines
 bad-getsec_more = refl
 
+bad-notify_few : meaning_of (codes "notify 0 4") ≡ bad
+unfolding on_lines
+bad-notify_few = refl
+
+bad-notify_more : meaning_of (codes "notify 0 4 0 0") ≡ bad
+unfolding on_lines
+bad-notify_more = refl
+
+bad-notify_end : meaning_of (codes "notify 0 4 0 ") ≡ bad
+unfolding on_lines
+bad-notify_end = refl
+
+bad-notify_handle : meaning_of (codes "notify 18446744073709551616 4 0") ≡ bad
+unfolding on_lines
+bad-notify_handle = refl
+
+bad-notify_filter : meaning_of (codes "notify 0 4294967296 0") ≡ bad
+unfolding on_lines
+bad-notify_filter = refl
+
+bad-notify_subtree : meaning_of (codes "notify 0 4 2") ≡ bad
+unfolding on_lines
+bad-notify_subtree = refl
+
+bad-notify_dash : meaning_of (codes "notify 0 4 -") ≡ bad
+unfolding on_lines
+bad-notify_dash = refl
+
+bad-notify_path : meaning_of (codes "notify 0 =A 0") ≡ bad
+unfolding on_lines
+bad-notify_path = refl
+
+bad-notice_more : meaning_of (codes "notice 0") ≡ bad
+unfolding on_lines
+bad-notice_more = refl
+
+-- an empty last word
+bad-notice_end : meaning_of (codes "notice ") ≡ bad
+unfolding on_lines
+bad-notice_end = refl
+
+bad-notices : meaning_of (codes "notices") ≡ bad
+unfolding on_lines
+bad-notices = refl
+
 -- ---- replies
 
-text-opened : changed_text (record { status = 0; number = Some 0; handle = Some 0; disposition = None }) ≡ codes "0 handle 0\n"
+text-opened : changed_text false (record { status = 0; number = Some 0; handle = Some 0; disposition = None }) ≡ codes "0 handle 0\n"
 unfolding digits
 text-opened = refl
 
-text-changed : changed_text (record { status = 0; number = Some 1; handle = None; disposition = None }) ≡ codes "0\n"
+text-changed : changed_text false (record { status = 0; number = Some 1; handle = None; disposition = None }) ≡ codes "0\n"
 unfolding digits
 text-changed = refl
 
-text-created : changed_text
+text-created : changed_text false
     (record { status = 0; number = Some 9; handle = Some 9; disposition = Some 1 }) ≡ codes "0 handle 9 disposition 1\n"
 unfolding digits
 text-created = refl
 
-text-refused : changed_text (record { status = 1018; number = None; handle = None; disposition = None }) ≡ codes "1018\n"
+text-refused : changed_text false (record { status = 1018; number = None; handle = None; disposition = None }) ≡ codes "1018\n"
 unfolding digits
 text-refused = refl
+
+-- a watch has its entry's number, which no other change tells
+text-watched : outcome_text (Change (Notify 2 4 false))
+    (Changed (record { status = 0; number = Some 3; handle = None; disposition = None })) ≡ codes "0 watch 3\n"
+unfolding digits
+text-watched = refl
+
+text-not_watched : outcome_text (Change (Close 2))
+    (Changed (record { status = 0; number = Some 3; handle = None; disposition = None })) ≡ codes "0\n"
+unfolding digits
+text-not_watched = refl
+
+text-watch_refused : outcome_text (Change (Notify 0 0 false))
+    (Changed (record { status = 87; number = None; handle = None; disposition = None })) ≡ codes "87\n"
+unfolding digits
+text-watch_refused = refl
+
+text-matched : notice_text (Some (record { watch = 3; by = 5; reason = Matched })) ≡ codes "notice 3 5 matched\n"
+unfolding digits
+text-matched = refl
+
+text-gone : notice_text (Some (record { watch = 2; by = 3; reason = Gone })) ≡ codes "notice 2 3 gone\n"
+unfolding digits
+text-gone = refl
+
+text-closed : notice_text (Some (record { watch = 5; by = 8; reason = Closed })) ≡ codes "notice 5 8 closed\n"
+unfolding digits
+text-closed = refl
+
+text-no_notice : notice_text None ≡ codes "notice none\n"
+text-no_notice = refl
 
 -- a question for a value
 abbrev asked : Call

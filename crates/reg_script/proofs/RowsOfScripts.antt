@@ -1,6 +1,8 @@
 -- Short scripts, from their bytes to the text of their replies, by the definitions alone.
-use Rattle.std.specs.Prelude.{◌≡◌, ◌||◌, Bool, true, false, [], ◌∷◌, ◌++◌, length, codes, Some, None, refl}
+use Rattle.std.specs.Prelude.{◌≡◌, ℕ, zero, suc, ◌+◌, ◌==◌, ◌||◌, ◌&&◌, Bool, true, false, if◌then◌else◌, List, [], ◌∷◌, ◌++◌, length, get_or, codes}
+use Rattle.std.specs.Prelude.{Option, Some, None, refl}
 use Rattle.std.proofs.Common.{inl, arith}
+use Rattle.std.proofs.lemmas.Bool.Decides.{nat_tests}
 use Rattle.std.specs.Fmt.{digits}
 use Rattle.std.specs.FinMap.{insert, empty}
 use Rattle.hex.proofs.OnLiterals.{hex_on_literals}
@@ -9,7 +11,10 @@ use Rattle.reg_model.specs.Causes.{early_cause, late_cause, change_cause, early_
 use Rattle.reg_model.specs.Replies.{refusal, reply_to, body_of}
 use Rattle.reg_model.specs.declared.answer.AnswerBody.TheVariants.{Refused, Short, Security}
 use Rattle.reg_model.specs.declared.call.Change.{Change}
-use Rattle.reg_model.specs.declared.call.Change.TheVariants.{OpenRoot, DeleteTree, SetSecurity}
+use Rattle.reg_model.specs.declared.call.Change.TheVariants.{OpenRoot, SetValue, DeleteTree, SetSecurity, Notify}
+use Rattle.reg_model.specs.Watches.{events, removes, closing, watch_of, ending, reason}
+use Rattle.reg_model.specs.declared.notice.Reason.TheVariants.{Matched}
+use Rattle.reg_model.specs.declared.reply.Entry.{Entry}
 use Rattle.reg_model.proofs.RowsReplies.{root_put}
 use Rattle.reg_tree.specs.TreeKeys.{Keys, made_root}
 use Rattle.reg_model.specs.declared.step.Outcome.TheVariants.{Changed, Answered}
@@ -42,7 +47,7 @@ refused_script hive is =
         codes "5\n87\n6\nbad\n",
         (
           Changed (record { status = 0; number = Some 0; handle = Some 0; disposition = None }),
-          inl (record { says = refl; journal = refl; origin = refl; kept = omega arith; grows = omega arith; hive = is }),
+          inl (record { says = refl; journal = refl; origin = refl; taken = refl; kept = omega arith; grows = omega arith; hive = is }),
           refl,
           refl,
         ),
@@ -100,7 +105,7 @@ refused_securities hive is =
         codes "5\n87\n5\n87\nbad\nbad\n",
         (
           Changed (record { status = 0; number = Some 0; handle = Some 0; disposition = None }),
-          inl (record { says = refl; journal = refl; origin = refl; kept = omega arith; grows = omega arith; hive = is }),
+          inl (record { says = refl; journal = refl; origin = refl; taken = refl; kept = omega arith; grows = omega arith; hive = is }),
           refl,
           refl,
         ),
@@ -171,7 +176,7 @@ set_and_told hive keys is_allowed is_described same =
         codes "122 size 20\n0\n122 size 2\n0 x0102\n",
         (
           Changed (record { status = 0; number = Some 0; handle = Some 0; disposition = None }),
-          inl (record { says = refl; journal = refl; origin = refl; kept = omega arith; grows = omega arith; hive = is_allowed }),
+          inl (record { says = refl; journal = refl; origin = refl; taken = refl; kept = omega arith; grows = omega arith; hive = is_allowed }),
           refl,
           refl,
         ),
@@ -190,6 +195,7 @@ set_and_told hive keys is_allowed is_described same =
                 says = refl;
                 journal = refl;
                 origin = refl;
+                taken = refl;
                 kept = omega (arith, same);
                 grows = omega
                     (arith, same);
@@ -236,7 +242,7 @@ refused_trees hive is =
         codes "6\n6\nbad\nbad\nbad\n",
         (
           Changed (record { status = 0; number = Some 0; handle = Some 0; disposition = None }),
-          inl (record { says = refl; journal = refl; origin = refl; kept = omega arith; grows = omega arith; hive = is }),
+          inl (record { says = refl; journal = refl; origin = refl; taken = refl; kept = omega arith; grows = omega arith; hive = is }),
           refl,
           refl,
         ),
@@ -310,6 +316,7 @@ trees_deleted hive left root free-tree free-contents is_left is_root same-left s
                 says = refl;
                 journal = refl;
                 origin = refl;
+                taken = refl;
                 kept = omega (arith, same-left);
                 grows = omega
                     (arith, same-left);
@@ -329,6 +336,7 @@ trees_deleted hive left root free-tree free-contents is_left is_root same-left s
                   says = refl;
                   journal = refl;
                   origin = refl;
+                  taken = refl;
                   kept = omega (arith, same-root);
                   grows = omega
                       (arith, same-root);
@@ -338,6 +346,134 @@ trees_deleted hive left root free-tree free-contents is_left is_root same-left s
             refl,
           ),
           (refl, refl),
+          refl,
+        ),
+        refl,
+      ),
+      refl,
+    )
+
+-- a root opened with the rights to set values and to be told of changes, a watch of its values, and a value that was set
+abbrev changed : Change → ℕ → Option ℕ → Entry
+changed change number handle = record {
+  number = number;
+  session = 0;
+  moment = 0;
+  change = change;
+  reply = record { status = 0; number = Some number; handle = handle; disposition = None };
+}
+
+abbrev watched : List Entry
+watched = changed (OpenRoot 18) 0 (Some 0) ∷ changed (Notify 0 4 false) 1 None ∷ changed (SetValue 0 [] 4 (1 ∷ [])) 2 None ∷ []
+
+-- a hive with these entries, of which session 0 took so many notices
+abbrev told_of : View → ℕ → View
+told_of hive taken = record hive { journal = watched; watches = record hive.watches { taken = taken ∷ [] } }
+
+abbrev set_to : View → ℕ → ℕ → Stand
+set_to hive taken session = record { hive = told_of hive taken; moment = 0; session = session }
+
+none_next : (x : ℕ) → (suc x == 0) ≡ false
+none_next x = grind (arith, nat_tests)
+
+one_more : (x : ℕ) → get_or (1 ∷ []) x 0 ≡ (if x == 0 && true then get_or (0 ∷ []) x 0 + 1 else get_or (0 ∷ []) x 0)
+one_more zero = refl
+one_more (suc x) = rw (none_next x) refl
+
+no_more : (x session n : ℕ) → n ≡ (if x == session && false then n + 1 else n)
+no_more x session n = by (x == session)
+  where
+    by : (same : Bool) → n ≡ (if same && false then n + 1 else n)
+    by true = refl
+    by false = refl
+
+-- the watch's notice is handed to the session that asked for it and to no other, and once
+notice_taken : (hive : View) → IsHive (told_of hive 0) → IsHive (told_of hive 1) →
+    Lines (told_of hive 0) (codes "as 1\nnotice\nas 0\nnotice\nnotice\nnotice 0\n")
+    (codes "notice none\nnotice 1 2 matched\nnotice none\nbad\n") (told_of hive 1)
+unfolding on_lines digits after events removes closing watch_of ending reason
+notice_taken hive is_first is =
+    let first = set_to hive 0 1 in
+    let second = set_to hive 0 0 in
+    let last = set_to hive 1 0 in (
+      last,
+      (
+        first,
+        [],
+        codes "notice none\nnotice 1 2 matched\nnotice none\nbad\n",
+        (refl, refl),
+        (
+          first,
+          codes "notice none\n",
+          codes "notice 1 2 matched\nnotice none\nbad\n",
+          (
+            None,
+            record {
+              next = refl;
+              taken = λ x. no_more x 1 (get_or (0 ∷ []) x 0);
+              origin = refl;
+              journal = refl;
+              keys = refl;
+              handles = refl;
+              pending = refl;
+              told = refl;
+              hive = is_first;
+            },
+            refl,
+            refl,
+          ),
+          (
+            second,
+            [],
+            codes "notice 1 2 matched\nnotice none\nbad\n",
+            (refl, refl),
+            (
+              last,
+              codes "notice 1 2 matched\n",
+              codes "notice none\nbad\n",
+              (
+                Some (record { watch = 1; by = 2; reason = Matched }),
+                record {
+                  next = refl;
+                  taken = one_more;
+                  origin = refl;
+                  journal = refl;
+                  keys = refl;
+                  handles = refl;
+                  pending = refl;
+                  told = refl;
+                  hive = is;
+                },
+                refl,
+                refl,
+              ),
+              (
+                last,
+                codes "notice none\n",
+                codes "bad\n",
+                (
+                  None,
+                  record {
+                    next = refl;
+                    taken = λ x. no_more x 0 (get_or (1 ∷ []) x 0);
+                    origin = refl;
+                    journal = refl;
+                    keys = refl;
+                    handles = refl;
+                    pending = refl;
+                    told = refl;
+                    hive = is;
+                  },
+                  refl,
+                  refl,
+                ),
+                (last, codes "bad\n", [], (refl, refl), (refl, refl), refl),
+                refl,
+              ),
+              refl,
+            ),
+            refl,
+          ),
           refl,
         ),
         refl,

@@ -9,7 +9,7 @@ use Rattle.reg_script.specs.LineWords.{lines_of}
 use Rattle.reg_script.specs.Lines.{Stand, AreSaid, Lines, LinesTo}
 use Rattle.reg_script.specs.Internal.Outputs.{IsCut, Closes}
 use Rattle.reg_script.specs.Stops.{HasNoFeed, AreWithin, Stops}
-use Rattle.reg_script.specs.Internal.Progress.{Position, IsSteady, with_feeds, Takes, IsIdle, past, Halts, Ends}
+use Rattle.reg_script.specs.Internal.Progress.{Position, IsSteady, Takes, IsIdle, past, Halts, Ends}
 use Rattle.reg_script.proofs.ProgressLemmas.{consumes_none, appends_none}
 use Rattle.reg_script.proofs.ScriptHalts.{begins, fed_ends, unended, passing, stops_with, all_sent, cut_sent}
 

@@ -10,7 +10,7 @@ use Rattle.reg_model.specs.declared.step.Outcome.{Outcome}
 use Rattle.reg_model.specs.declared.step.Outcome.TheVariants.{Changed, Answered}
 use Rattle.reg_calls.specs.Views.{View, state}
 use Rattle.reg_script.specs.LineWords.{lines_of}
-use Rattle.reg_script.specs.LineMeanings.{Meaning, nothing, at_moment, as_session, on_hive, asks, bad, meaning_of}
+use Rattle.reg_script.specs.LineMeanings.{Meaning, nothing, at_moment, as_session, on_hive, asks, takes_notice, bad, meaning_of}
 use Rattle.reg_script.specs.Lines.{Stand, IsSaid, AreSaid, Lines}
 
 -- no 8 and no 1450 for space: what nothing refuses is accepted, or answered with its bytes
@@ -34,6 +34,7 @@ IsAmple (at_moment moment) old text new said = Unit {0}
 IsAmple (as_session session) old text new said = Unit {0}
 IsAmple on_hive old text new said = Unit {0}
 IsAmple bad old text new said = Unit {0}
+IsAmple takes_notice old text new said = Unit {0}
 IsAmple (asks call) old text new said = IsDue old.hive (record { session = old.session; moment = old.moment; call = call }) said.0
 
 -- so it was for each line's

@@ -1,23 +1,25 @@
 -- What each line of a script means (this project's own rules of the script).
-use Rattle.std.specs.Prelude.{ℕ, ◌-◌, ◌==◌, if◌then◌else◌, List, [], ◌∷◌, codes, Option, Some, None, option_map, option_and_then, unwrap_or}
+use Rattle.std.specs.Prelude.{ℕ, ◌-◌, ◌==◌, Bool, if◌then◌else◌, List, [], ◌∷◌, codes, Option, Some, None, option_map, option_and_then, unwrap_or}
 use Rattle.std.specs.Str.{bytes_eq}
 use Rattle.reg_model.specs.declared.limits.TheConstants.{SESSIONS_LIMIT}
 use Rattle.reg_model.specs.declared.call.Call.{Call}
 use Rattle.reg_model.specs.declared.call.Call.TheVariants.{Change, Query}
 use Rattle.reg_model.specs.declared.call.Change.TheVariants.{OpenRoot, OpenKey, CreateKey, SetValue, DeleteValue, DeleteKey, DeleteTree, SetSecurity, Close}
+use Rattle.reg_model.specs.declared.call.Change.TheVariants.{Notify as NotifyChange}
 use Rattle.reg_model.specs.declared.call.Query.TheVariants.{QueryValue, EnumKey, EnumValue, QueryInfo, GetSecurity}
 use Rattle.reg_script.specs.declared.line.Verb.{Verb}
-use Rattle.reg_script.specs.declared.line.Verb.TheVariants.{At, As, Hive, Root, Open, Create, Set, DelValue, DelKey, DelTree, SetSec, Close as CloseVerb}
-use Rattle.reg_script.specs.declared.line.Verb.TheVariants.{Query as QueryVerb, EnumKey as EnumKeyVerb, EnumValue as EnumValueVerb, Info, GetSec}
+use Rattle.reg_script.specs.declared.line.Verb.TheVariants.{At, As, Hive, Root, Open, Create, Set, DelValue, DelKey, DelTree, SetSec, Notify, Close as CloseVerb}
+use Rattle.reg_script.specs.declared.line.Verb.TheVariants.{Query as QueryVerb, EnumKey as EnumKeyVerb, EnumValue as EnumValueVerb, Info, GetSec, Notice}
 use Rattle.reg_script.specs.LineWords.{words_of, number_of, name_of, data_of}
 
--- what a line means: nothing, a setting for the lines after it, a call, or `bad`
+-- what a line means: nothing, a setting for the lines after it, a call, the taking of the next notice, or `bad`
 pub data Meaning : Type 0 where
   nothing : Meaning
   at_moment : ℕ → Meaning
   as_session : ℕ → Meaning
   on_hive : Meaning
   asks : Call → Meaning
+  takes_notice : Meaning
   bad : Meaning
 
 -- what the first of these words stands for, and the words after it
@@ -49,6 +51,10 @@ session_number_of = number_of (SESSIONS_LIMIT - 1)
 unfoldable pub room_of : List ℕ → Option (Option ℕ)
 room_of word = if bytes_eq word (codes "-") then Some None else option_map Some (small_number_of word)
 
+-- whether keys below are watched too: the number 0 or 1
+unfoldable pub subtree_of : List ℕ → Option Bool
+subtree_of word = option_map (λ n. n == 1) (number_of 1 word)
+
 -- the descriptor that the words behind a key to be made give it: none where there is no word, or the bytes of one DATA word
 unfoldable pub given_of : List (List ℕ) → Option (Option (List ℕ))
 given_of [] = Some None
@@ -66,6 +72,7 @@ call_verb_of word =
     else if bytes_eq word (codes "delkey") then Some DelKey
     else if bytes_eq word (codes "deltree") then Some DelTree
     else if bytes_eq word (codes "setsec") then Some SetSec
+    else if bytes_eq word (codes "notify") then Some Notify
     else if bytes_eq word (codes "close") then Some CloseVerb
     else if bytes_eq word (codes "query") then Some QueryVerb
     else if bytes_eq word (codes "enumkey") then Some EnumKeyVerb
@@ -74,12 +81,13 @@ call_verb_of word =
     else if bytes_eq word (codes "getsec") then Some GetSec
     else None
 
--- the first word of a setting or a call
+-- the first word of a setting, of a call, or of the taking of a notice
 unfoldable pub verb_of : List ℕ → Option Verb
 verb_of word =
     if bytes_eq word (codes "at") then Some At
     else if bytes_eq word (codes "as") then Some As
     else if bytes_eq word (codes "hive") then Some Hive
+    else if bytes_eq word (codes "notice") then Some Notice
     else call_verb_of word
 
 -- what the words after the first mean; a PATH word is of the form of a name
@@ -105,6 +113,10 @@ by_verb DelValue = reading long_number_of (λ handle. reading name_of (λ name. 
 by_verb DelKey = reading long_number_of (λ handle. reading name_of (λ path. ending (asks (Change (DeleteKey handle path)))))
 by_verb DelTree = reading long_number_of (λ handle. reading name_of (λ path. ending (asks (Change (DeleteTree handle path)))))
 by_verb SetSec = reading long_number_of (λ handle. reading data_of (λ descriptor. ending (asks (Change (SetSecurity handle descriptor)))))
+by_verb Notify =
+    reading long_number_of
+    (λ handle. reading small_number_of
+    (λ filter. reading subtree_of (λ subtree. ending (asks (Change (NotifyChange handle filter subtree))))))
 by_verb CloseVerb = reading long_number_of (λ handle. ending (asks (Change (Close handle))))
 by_verb QueryVerb =
     reading long_number_of
@@ -119,6 +131,7 @@ by_verb EnumValueVerb =
     (λ name_room. reading room_of (λ room. ending (asks (Query (EnumValue handle index name_room room)))))))
 by_verb Info = reading long_number_of (λ handle. ending (asks (Query (QueryInfo handle))))
 by_verb GetSec = reading long_number_of (λ handle. reading small_number_of (λ room. ending (asks (Query (GetSecurity handle room)))))
+by_verb Notice = ending takes_notice
 
 -- a line means nothing where it is empty or a comment, and is bad where its words mean nothing
 unfoldable pub meaning_of : List ℕ → Meaning

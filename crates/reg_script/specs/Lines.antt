@@ -1,14 +1,15 @@
 -- What a script writes (this project's own rules of the script).
-use Rattle.std.specs.Prelude.{◌≡◌, ℕ, List, [], ◌∷◌, ◌++◌, codes, length, replicate}
+use Rattle.std.specs.Prelude.{◌≡◌, ℕ, List, [], ◌∷◌, ◌++◌, codes, length, replicate, Option}
 use Rattle.std.specs.FinMap.{insert, empty}
+use Rattle.reg_model.specs.declared.notice.Notice.{Notice}
 use Rattle.reg_model.specs.declared.step.Outcome.{Outcome}
 use Rattle.reg_tree.specs.TreeKeys.{made_root}
 use Rattle.reg_model.specs.Callbacks.{no_callbacks}
-use Rattle.reg_calls.specs.Views.{View, IsHive}
+use Rattle.reg_calls.specs.Views.{View, IsHive, IsNoticeTaken}
 use Rattle.reg_calls.specs.Runs.{IsStep}
 use Rattle.reg_script.specs.LineWords.{lines_of}
-use Rattle.reg_script.specs.LineMeanings.{Meaning, nothing, at_moment, as_session, on_hive, asks, bad, meaning_of}
-use Rattle.reg_script.specs.ReplyTexts.{outcome_text}
+use Rattle.reg_script.specs.LineMeanings.{Meaning, nothing, at_moment, as_session, on_hive, asks, takes_notice, bad, meaning_of}
+use Rattle.reg_script.specs.ReplyTexts.{outcome_text, notice_text}
 
 -- where a script stands between two lines: the hive, and the settings
 pub record Stand : Type 0 where
@@ -20,7 +21,8 @@ pub record Stand : Type 0 where
 abbrev pub IsSilent : Stand → List ℕ → Stand → Type 0
 IsSilent there text new = (text ≡ []) × (new ≡ there)
 
--- a line's reply, and where the script stands after it: a call is answered at the moment and of the session that are set
+-- a line's reply, and where the script stands after it: a call is answered at the moment and of the session that are set, and the
+-- taking of a notice by the first of all that this session was told and hasn't taken
 abbrev pub IsSaid : Meaning → Stand → List ℕ → Stand → Type 0
 IsSaid nothing old text new = IsSilent old text new
 IsSaid (at_moment moment) old text new = IsSilent (record old { moment = moment }) text new
@@ -31,6 +33,9 @@ IsSaid (asks call) old text new =
     (outcome : Outcome) ×
     IsStep no_callbacks old.hive (record { session = old.session; moment = old.moment; call = call }) outcome new.hive ×
     (text ≡ outcome_text call outcome) × (new ≡ record old { hive = new.hive })
+IsSaid takes_notice old text new =
+    (notice : Option Notice) × IsNoticeTaken old.hive new.hive old.session notice × (text ≡ notice_text notice) ×
+    (new ≡ record old { hive = new.hive })
 
 -- lines after one another, and their replies in one text
 abbrev pub AreSaid : List (List ℕ) → Stand → List ℕ → Stand → Type 0

@@ -5,8 +5,12 @@ use Rattle.reg_text.specs.Texts.{line_feed, escaped, digits_text}
 use Rattle.reg_model.specs.declared.reply.ChangeReply.{ChangeReply}
 use Rattle.reg_model.specs.declared.answer.AnswerBody.{AnswerBody}
 use Rattle.reg_model.specs.declared.answer.AnswerBody.TheVariants.{Refused, Short, Value, Key, Member, Info, Security}
+use Rattle.reg_model.specs.declared.notice.Notice.{Notice}
+use Rattle.reg_model.specs.declared.notice.Reason.{Reason}
+use Rattle.reg_model.specs.declared.notice.Reason.TheVariants.{Matched, Gone, Closed}
 use Rattle.reg_model.specs.declared.call.Call.{Call}
 use Rattle.reg_model.specs.declared.call.Call.TheVariants.{Change, Query}
+use Rattle.reg_model.specs.declared.call.Change.TheVariants.{Notify}
 use Rattle.reg_model.specs.declared.call.Query.TheVariants.{QueryValue, EnumKey, EnumValue, QueryInfo, GetSecurity}
 use Rattle.reg_model.specs.declared.step.Outcome.{Outcome}
 use Rattle.reg_model.specs.declared.step.Outcome.TheVariants.{Changed, Answered}
@@ -21,9 +25,21 @@ abbrev pub disposition_text : Option ℕ → List ℕ
 disposition_text None = []
 disposition_text (Some disposition) = codes " disposition " ++ decimal disposition
 
--- the reply to a change: the status, the handle and the disposition
-abbrev pub changed_text : ChangeReply → List ℕ
-changed_text reply = decimal reply.status ++ (handle_text reply.handle ++ (disposition_text reply.disposition ++ line_feed))
+-- whether a call asks for a notification
+abbrev pub asks_watch : Call → Bool
+asks_watch (Change (Notify handle filter subtree)) = true
+asks_watch call = false
+
+-- the number of a change's entry, where the change asked for a notification and was accepted
+abbrev pub watch_text : Bool → Option ℕ → List ℕ
+watch_text true (Some number) = codes " watch " ++ decimal number
+watch_text true None = []
+watch_text false number = []
+
+-- the reply to a change: the status, the handle and the disposition, or the number of the watch
+abbrev pub changed_text : Bool → ChangeReply → List ℕ
+changed_text watches reply =
+    decimal reply.status ++ (handle_text reply.handle ++ (disposition_text reply.disposition ++ (watch_text watches reply.number ++ line_feed)))
 
 abbrev pub name_text : List ℕ → List ℕ
 name_text name = codes " =" ++ escaped name
@@ -76,7 +92,19 @@ answer_text call (Info subkeys longest_key values longest_value largest security
     codes "0" ++ (info_text subkeys longest_key values longest_value largest security time ++ line_feed)
 answer_text call (Security bytes) = codes "0" ++ (bytes_text bytes ++ line_feed)
 
+-- why a watch ended
+abbrev pub reason_text : Reason → List ℕ
+reason_text Matched = codes "matched"
+reason_text Gone = codes "gone"
+reason_text Closed = codes "closed"
+
+-- the reply to the taking of a notice: the number of its watch, of the entry that ended it, and why; or that none is left
+abbrev pub notice_text : Option Notice → List ℕ
+notice_text None = codes "notice none\n"
+notice_text (Some notice) =
+    codes "notice " ++ (decimal notice.watch ++ (codes " " ++ (decimal notice.by ++ (codes " " ++ (reason_text notice.reason ++ line_feed)))))
+
 -- the text of a call's outcome
 abbrev pub outcome_text : Call → Outcome → List ℕ
-outcome_text call (Changed reply) = changed_text reply
+outcome_text call (Changed reply) = changed_text (asks_watch call) reply
 outcome_text call (Answered answer) = answer_text call answer.body

@@ -4,7 +4,7 @@ ghost use Rattle.std.specs.Prelude.{◌≡◌, ◌<◌, ◌≤◌, ℕ, List, �
 ghost use Rattle.std.specs.Io.KnownBytes.{IsAtEnd, Appends, Consumes};
 ghost use Rattle.reg_calls.specs.HiveView.{view_of};
 ghost use Rattle.reg_script.specs.LineWords.{lines_of};
-ghost use Rattle.reg_script.specs.LineMeanings.{asks, meaning_of};
+ghost use Rattle.reg_script.specs.LineMeanings.{asks, takes_notice, meaning_of};
 ghost use Rattle.reg_script.specs.Internal.WordReadings.{said};
 ghost use Rattle.reg_script.specs.Lines.{IsSaid, AreSaid, Lines, LinesTo};
 ghost use Rattle.reg_script.specs.Stops.{fault_number, most_lines, HasNoFeed, AreWithin, Stops};
@@ -13,7 +13,9 @@ ghost use Rattle.reg_script.specs.Internal.Progress.{IsSteady, Adds, IsUnchanged
 use crate::line::{Line, Session, Setting};
 use crate::output::Output;
 use crate::parse::parse;
-use crate::reply::{CHANGE_REPLY_LIMIT, write_answered, write_changed};
+use crate::reply::{
+    CHANGE_REPLY_LIMIT, NOTICE_REPLY_LIMIT, is_notify, write_answered, write_changed, write_notice,
+};
 use reg_calls::Hive;
 use reg_model::{Call, Change, Query};
 use std::alloc::{AllocError, Global};
@@ -44,7 +46,7 @@ pub enum ScriptFault {
     /// A line above 2,200,000 bytes, or more than 1,000,000 lines.
     #[error("a line is too long, or there are too many")]
     TooLong,
-    /// A growth was refused; the line that wanted it changed nothing.
+    /// A growth was refused; the line that wanted it changed nothing, and took no notice.
     #[error("no memory")]
     Memory,
 }
@@ -172,6 +174,7 @@ impl Script {
             }
             Line::Bad => self.output.text.push_str("bad\n"),
             Line::Call(call) => self.call(hive, call),
+            Line::Notice => self.notice(hive),
         }
     }
 
@@ -199,8 +202,23 @@ impl Script {
         ensures err { OnErr result (IsUnchanged self.old (view_of hive.old) self.new (view_of hive.new)) }
     {
         self.output.text.reserve(CHANGE_REPLY_LIMIT)?;
+        let watches = is_notify(&change);
         let changed = hive.apply(self.session.number, self.moment, change);
-        write_changed(&mut self.output.text, &changed);
+        write_changed(&mut self.output.text, watches, &changed);
+        Ok(())
+    }
+
+    /// Takes the next notice of the session that is set, once there is room for its reply, so that none is taken whose reply lacks
+    /// memory.
+    fn notice(&mut self, hive: &mut Hive) -> Result<(), AllocError>
+        ensures said { OnOk result (Adds (IsSaid takes_notice) self.old (view_of hive.old) self.new (view_of hive.new)) }
+        ensures begun { self.new.line ≡ self.old.line }
+        ensures lines { self.new.lines ≡ self.old.lines }
+        ensures err { OnErr result (IsUnchanged self.old (view_of hive.old) self.new (view_of hive.new)) }
+    {
+        self.output.text.reserve(NOTICE_REPLY_LIMIT)?;
+        let notice = hive.take_notice(self.session.number);
+        write_notice(&mut self.output.text, notice);
         Ok(())
     }
 
@@ -267,7 +285,7 @@ impl Script {
 /// was written is what the rules give for all that was read. A fault says what ended it early ([`ScriptFault`]); the
 /// replies to the lines before it stand, after `Write` just as many of their bytes as the writer took. Only lines that ended were
 /// answered: by an LF, or by the reader's end; after `Read` all of these. The hive is as those lines left it: no change is made
-/// whose reply lacks memory.
+/// and no notice taken whose reply lacks memory.
 pub fn run<R: Read, W: Write>(
     alloc: Global,
     reader: &mut R,

@@ -12,6 +12,8 @@ pub enum Line {
     Setting(Setting),
     /// A call of the session that is set.
     Call(Call),
+    /// The taking of the next notice of the session that is set.
+    Notice,
     /// A line of another form: `bad`.
     Bad,
 }
@@ -35,7 +37,7 @@ pub struct Session {
     ghost in_range: { number < SESSIONS_LIMIT },
 }
 
-/// The first word of a setting or a call.
+/// The first word of a setting, of a call, or of the taking of a notice.
 #[derive(Clone, Copy)]
 pub enum Verb {
     At,
@@ -49,10 +51,12 @@ pub enum Verb {
     DelKey,
     DelTree,
     SetSec,
+    Notify,
     Close,
     Query,
     EnumKey,
     EnumValue,
     Info,
     GetSec,
+    Notice,
 }

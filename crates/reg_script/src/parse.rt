@@ -1,11 +1,11 @@
 ghost use Rattle.std.specs.Prelude.{◌≡◌, ◌≢◌, ◌==◌, ◌∷◌, [], position, IfOk, MatchResult, option_copied};
 ghost use Rattle.reg_script.specs.LineWords.{words_of, number_of, name_of, data_of};
-ghost use Rattle.reg_script.specs.LineMeanings.{reading, first_of, ending, session_number_of, small_number_of, room_of};
+ghost use Rattle.reg_script.specs.LineMeanings.{reading, first_of, ending, session_number_of, small_number_of, room_of, subtree_of};
 ghost use Rattle.reg_script.specs.LineMeanings.{verb_of, given_of, by_verb, meaning_of};
 ghost use Rattle.reg_script.specs.Internal.WordReadings.{words_left, Reads, Means, said};
 
 use crate::line::{Line, Session, Setting, Verb};
-use crate::words::{ParseFault, bytes, name, number, room, session, small_number, verb};
+use crate::words::{ParseFault, bytes, name, number, room, session, small_number, subtree, verb};
 use reg_model::{Bytes, Call, Change, Query};
 use std::alloc::{AllocError, Global};
 use std::marker::Model;
@@ -119,6 +119,13 @@ impl<'a> Words<'a> {
         room(self.next()?)
     }
 
+    #[tactic(auto, using(crate::proofs::WordReadingLemmas::readings))]
+    fn subtree(&mut self) -> Result<bool, ParseFault>
+        ensures { Reads subtree_of self.old result self.new }
+    {
+        subtree(self.next()?)
+    }
+
     /// The descriptor of a key to be made, if a word is left.
     #[tactic(auto, using(crate::proofs::WordReadingLemmas::descriptors, crate::proofs::LineSpaces::words_some))]
     fn given(&mut self, alloc: Global) -> Result<Option<Bytes>, ParseFault>
@@ -147,12 +154,14 @@ impl<'a> Words<'a> {
             Verb::DelKey => self.delete_key(alloc),
             Verb::DelTree => self.delete_tree(alloc),
             Verb::SetSec => self.set_security(alloc),
+            Verb::Notify => self.notify(),
             Verb::Close => self.close(),
             Verb::Query => self.query(alloc),
             Verb::EnumKey => self.enum_key(),
             Verb::EnumValue => self.enum_value(),
             Verb::Info => self.info(),
             Verb::GetSec => self.get_security(),
+            Verb::Notice => self.notice(),
         }
     }
 
@@ -277,6 +286,21 @@ impl<'a> Words<'a> {
         Ok(Line::Call(Call::Change(Change::SetSecurity { handle, descriptor })))
     }
 
+    /// `notify H FILTER 0` or `1`.
+    #[tactic(auto, unfolding(crate::specs::LineMeanings::by_verb))]
+    fn notify(&mut self) -> Result<Line, ParseFault>
+        ensures { Means (by_verb Verb.Notify) self.old result self.new }
+    {
+        let handle = self.number(u64::MAX)?;
+        let filter = self.small_number()?;
+        let subtree = self.subtree()?;
+        Ok(Line::Call(Call::Change(Change::Notify {
+            handle,
+            filter,
+            subtree,
+        })))
+    }
+
     /// `close H`.
     #[tactic(auto, unfolding(crate::specs::LineMeanings::by_verb))]
     fn close(&mut self) -> Result<Line, ParseFault>
@@ -346,6 +370,14 @@ impl<'a> Words<'a> {
         let handle = self.number(u64::MAX)?;
         let room = self.small_number()?;
         Ok(Line::Call(Call::Query(Query::GetSecurity { handle, room })))
+    }
+
+    /// `notice`.
+    #[tactic(auto, unfolding(crate::specs::LineMeanings::by_verb))]
+    fn notice(&self) -> Result<Line, ParseFault>
+        ensures { Means (by_verb Verb.Notice) self.now result self.now }
+    {
+        Ok(Line::Notice)
     }
 
     /// No word may be left.

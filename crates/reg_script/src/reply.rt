@@ -1,18 +1,22 @@
 ghost use Rattle.std.specs.Prelude.{◌≡◌, ◌+◌, ◌≤◌, ◌++◌, length, string_bytes, string_len, string_capacity, OnOk, codes};
 ghost use Rattle.std.specs.Fmt.{decimal};
-ghost use Rattle.reg_model.specs.declared.call.Call.TheVariants.{Query as Asks};
-ghost use Rattle.reg_script.specs.ReplyTexts.{changed_text, handle_text, disposition_text, answer_text, short_text, name_text, value_text, asks_untyped};
-ghost use Rattle.reg_script.specs.ReplyTexts.{data_text, bytes_text};
-ghost use Rattle.reg_script.specs.declared.reply.TheConstants.{CHANGE_REPLY_LIMIT};
+ghost use Rattle.reg_model.specs.declared.call.Call.TheVariants.{Change as Makes, Query as Asks};
+ghost use Rattle.reg_script.specs.ReplyTexts.{changed_text, handle_text, disposition_text, watch_text, asks_watch, answer_text, short_text, name_text, value_text, asks_untyped};
+ghost use Rattle.reg_script.specs.ReplyTexts.{data_text, bytes_text, reason_text, notice_text};
+ghost use Rattle.reg_script.specs.declared.reply.TheConstants.{CHANGE_REPLY_LIMIT, NOTICE_REPLY_LIMIT};
 ghost use Rattle.reg_text.specs.Texts.{line_feed};
 
 use itoa::{Buffer, Integer};
-use reg_model::{Answer, AnswerBody, Bytes, ChangeReply, Query};
+use reg_model::{Answer, AnswerBody, Bytes, Change, ChangeReply, Notice, Query, Reason};
 use reg_text::{write_digits, write_escaped};
 use std::alloc::{AllocError, Global};
 
-/// The longest reply to a change, in bytes with its LF: a status of 10 digits, ` handle ` and 20, ` disposition ` and 10.
-pub const CHANGE_REPLY_LIMIT: usize = 62;
+/// The longest reply to a change, in bytes with its LF: a status of 10 digits, ` handle ` and 20, ` disposition ` and 10, ` watch ` and
+/// 20. Those that a hive gives have less, since none has a watch beside a handle.
+pub const CHANGE_REPLY_LIMIT: usize = 89;
+
+/// The longest reply to the taking of a notice, in bytes with its LF: `notice `, 20 digits, a space, 20 digits, a space and `matched`.
+pub const NOTICE_REPLY_LIMIT: usize = 57;
 
 /// Appends a piece of text for which there is room.
 fn put(text: &mut String, piece: &str)
@@ -64,16 +68,85 @@ fn put_disposition(text: &mut String, disposition: Option<u32>)
     }
 }
 
-/// The line of a reply to a change: the status, and the handle and the disposition where it tells them. It asks for no memory; there
-/// must be room for [`CHANGE_REPLY_LIMIT`] bytes.
-pub fn write_changed(text: &mut String, reply: &ChangeReply)
+/// The number of a change's entry, where the change asked for a notification.
+fn put_watch(text: &mut String, watches: bool, number: Option<u64>)
+    requires { string_len text.old + 27 ≤ string_capacity text.old }
+    ensures bytes { string_bytes text.new ≡ string_bytes text.old ++ watch_text watches number }
+    ensures len { string_len text.new ≤ string_len text.old + 27 }
+    ensures capacity { string_capacity text.old ≤ string_capacity text.new }
+{
+    if !watches {
+        return;
+    }
+    if let Some(number) = number {
+        put(text, " watch ");
+        put_number(text, number);
+    }
+}
+
+/// Whether a change asks for a notification.
+pub fn is_notify(change: &Change) -> bool
+    ensures { result ≡ asks_watch (Makes change.now) }
+{
+    match change {
+        Change::Notify { .. } => true,
+        Change::OpenRoot { .. }
+        | Change::OpenKey { .. }
+        | Change::CreateKey { .. }
+        | Change::SetValue { .. }
+        | Change::DeleteValue { .. }
+        | Change::DeleteKey { .. }
+        | Change::DeleteTree { .. }
+        | Change::SetSecurity { .. }
+        | Change::Close { .. } => false,
+    }
+}
+
+/// The line of a reply to a change: the status, and the handle and the disposition where it tells them, or the number of its entry
+/// where it asked for a notification (`watches`). It asks for no memory; there must be room for [`CHANGE_REPLY_LIMIT`] bytes.
+pub fn write_changed(text: &mut String, watches: bool, reply: &ChangeReply)
     requires { string_len text.old + CHANGE_REPLY_LIMIT ≤ string_capacity text.old }
-    ensures { string_bytes text.new ≡ string_bytes text.old ++ changed_text reply.now }
+    ensures { string_bytes text.new ≡ string_bytes text.old ++ changed_text watches reply.now }
 {
     put_number(text, reply.status);
     put_handle(text, reply.handle);
     put_disposition(text, reply.disposition);
+    put_watch(text, watches, reply.number);
     put(text, "\n");
+}
+
+/// Why a watch ended.
+fn put_reason(text: &mut String, reason: Reason)
+    requires { string_len text.old + 7 ≤ string_capacity text.old }
+    ensures bytes { string_bytes text.new ≡ string_bytes text.old ++ reason_text reason }
+    ensures len { string_len text.new ≤ string_len text.old + 7 }
+    ensures capacity { string_capacity text.old ≤ string_capacity text.new }
+{
+    match reason {
+        Reason::Matched => put(text, "matched"),
+        Reason::Gone => put(text, "gone"),
+        Reason::Closed => put(text, "closed"),
+    }
+}
+
+/// The line of a notice that was taken, or that none is left. It asks for no memory; there must be room for [`NOTICE_REPLY_LIMIT`]
+/// bytes.
+pub fn write_notice(text: &mut String, notice: Option<Notice>)
+    requires { string_len text.old + NOTICE_REPLY_LIMIT ≤ string_capacity text.old }
+    ensures { string_bytes text.new ≡ string_bytes text.old ++ notice_text notice }
+{
+    match notice {
+        Some(notice) => {
+            put(text, "notice ");
+            put_number(text, notice.watch);
+            put(text, " ");
+            put_number(text, notice.by);
+            put(text, " ");
+            put_reason(text, notice.reason);
+            put(text, "\n");
+        }
+        None => put(text, "notice none\n"),
+    }
 }
 
 /// What a room is too short for: a subkey's name and a descriptor have a size alone, a value its type too.

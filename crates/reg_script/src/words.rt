@@ -4,7 +4,7 @@ ghost use Rattle.std.specs.Prelude.{◌≡◌, ◌<◌, ◌≤◌, ◌∷◌, []
 ghost use Rattle.hex.specs.Hex.{hex_digit_value};
 ghost use Rattle.reg_script.specs.declared.words.ParseFault.TheVariants.{Memory};
 ghost use Rattle.reg_script.specs.LineWords.{after_mark as after_mark_of, number_of, escaped_byte, unescaped, name_of, data_of};
-ghost use Rattle.reg_script.specs.LineMeanings.{small_number_of, session_number_of, room_of, call_verb_of, verb_of};
+ghost use Rattle.reg_script.specs.LineMeanings.{small_number_of, session_number_of, room_of, subtree_of, call_verb_of, verb_of};
 
 use crate::line::{Session, Verb};
 use hex::FromHexError;
@@ -67,6 +67,9 @@ fn call_verb(word: &[u8]) -> Result<Verb, ParseFault>
     if word == b"setsec".as_slice() {
         return Ok(Verb::SetSec);
     }
+    if word == b"notify".as_slice() {
+        return Ok(Verb::Notify);
+    }
     if word == b"close".as_slice() {
         return Ok(Verb::Close);
     }
@@ -88,7 +91,7 @@ fn call_verb(word: &[u8]) -> Result<Verb, ParseFault>
     Err(ParseFault::Form)
 }
 
-/// What a line is, by its first word: a setting or a call.
+/// What a line is, by its first word: a setting, a call, or the taking of a notice.
 #[tactic(auto, unfolding(crate::specs::LineMeanings::verb_of))]
 pub fn verb(word: &[u8]) -> Result<Verb, ParseFault>
     ensures { result ≡ ok_or (verb_of word.now) ParseFault.Form }
@@ -101,6 +104,9 @@ pub fn verb(word: &[u8]) -> Result<Verb, ParseFault>
     }
     if word == b"hive".as_slice() {
         return Ok(Verb::Hive);
+    }
+    if word == b"notice".as_slice() {
+        return Ok(Verb::Notice);
     }
     call_verb(word)
 }
@@ -158,6 +164,14 @@ pub fn room(word: &[u8]) -> Result<Option<u32>, ParseFault>
         return Ok(None);
     }
     Ok(Some(small_number(word)?))
+}
+
+/// 1 where the keys below are watched too, else 0.
+#[tactic(auto, unfolding(crate::specs::LineMeanings::subtree_of))]
+pub fn subtree(word: &[u8]) -> Result<bool, ParseFault>
+    ensures { result ≡ ok_or (subtree_of word.now) ParseFault.Form }
+{
+    Ok(number(word, 1)? == 1)
 }
 
 /// The value of a hexadecimal digit of either case.

@@ -209,6 +209,25 @@ fn copies_of_descriptions(rt: HostRuntime) -> Result<(), Fail> {
     )
 }
 
+/// The text of a copy of a change that asks for a notification.
+fn copied_registration(alloc: Global) -> Result<String, Fail> {
+    let change = Change::Notify {
+        handle: 6,
+        filter: 0x1000_0004,
+        subtree: true,
+    };
+    copied_opening_of(alloc, &change)
+}
+
+#[test]
+fn copies_of_registrations(rt: HostRuntime) -> Result<(), Fail> {
+    assert_told(
+        &rt,
+        copied_registration(rt.alloc()),
+        "Notify { handle: 6, filter: 268435460, subtree: true }",
+    )
+}
+
 /// The text of a copy of a question for a descriptor.
 fn copied_question(alloc: Global) -> Result<String, Fail> {
     let query = Query::GetSecurity { handle: 7, room: 2 };

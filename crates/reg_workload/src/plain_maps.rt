@@ -167,7 +167,8 @@ impl PlainMaps {
             }
             | Change::DeleteValue { .. }
             | Change::DeleteTree { .. }
-            | Change::SetSecurity { .. } => Ok(Made::Refused(INVALID_PARAMETER)),
+            | Change::SetSecurity { .. }
+            | Change::Notify { .. } => Ok(Made::Refused(INVALID_PARAMETER)),
         }
     }
 

@@ -1,5 +1,5 @@
 -- The queues of the sessions.
-use Rattle.std.specs.Prelude.{ℕ, ◌+◌, ◌≤◌, List, [], length, Vec, vec_capacity, slice_get, Option, Some, None}
+use Rattle.std.specs.Prelude.{ℕ, ◌+◌, ◌≤◌, List, [], length, vec_capacity, slice_get, Option, Some, None}
 use Rattle.reg_model.specs.declared.notice.Notice.{Notice}
 use Rattle.reg_notify.specs.declared.queues.Queue.{Queue}
 

@@ -1,5 +1,5 @@
 -- What a step of a firing does to the table.
-use Rattle.std.specs.Prelude.{◌≡◌, ℕ, ◌+◌, ◌≤◌, List, [], ◌∷◌, ◌++◌, length, vec_len, vec_capacity, Some}
+use Rattle.std.specs.Prelude.{◌≡◌, ℕ, ◌+◌, ◌≤◌, [], ◌∷◌, ◌++◌, length, vec_len, vec_capacity}
 use Rattle.std.specs.Ordering.{nat_cmp}
 use Rattle.std.specs.BTreeMap.{is_at}
 use Rattle.std.specs.Map.{remove_entry}
@@ -7,12 +7,14 @@ use Rattle.reg_model.specs.declared.notice.Reason.{Reason}
 use Rattle.reg_notify.specs.declared.table.Row.{Row}
 use Rattle.reg_notify.specs.declared.table.Table.{Table}
 use Rattle.reg_notify.specs.Internal.Indexes.{number_at}
+use Rattle.reg_notify.specs.Internal.Marks.{AreMarked}
 use Rattle.reg_notify.specs.Internal.Rows.{IsTable}
 use Rattle.reg_notify.specs.Internal.Firing.{Why, AreEnded}
 
--- the rows and their texts agree, and each row has room for its notice
+-- the rows and their texts agree, each row's key is marked, and each row has room for its notice
 pub record IsReady (t : Table) : Type 0 where
   pub table : IsTable t.rows.entries (number_at t.places.by_text.entries) (number_at t.handles.by_text.entries)
+  pub marks : AreMarked t.marks.slots.items t.rows.entries
   pub room : vec_len t.sent + length t.rows.entries ≤ vec_capacity t.sent
 
 -- a row went, and its notice was noted

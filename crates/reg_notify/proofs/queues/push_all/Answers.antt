@@ -1,9 +1,9 @@
-use Rattle.std.proofs.Common.{◌≡◌, ℕ, ◌≤◌, get_or, ◌∙◌, arith}
+use Rattle.std.proofs.Common.{ℕ, ◌≤◌, get_or, ◌∙◌, arith}
 use Rattle.std.proofs.lemmas.List.{get_or_default}
 use Rattle.reg_model.specs.declared.notice.Reason.TheVariants.{Matched}
 use Rattle.reg_notify.specs.declared.queues.Sent.{Sent}
 use Rattle.reg_notify.specs.Internal.Queues.{room_at}
-use Rattle.reg_notify.proofs.PushSteps.{told-step, some-pending, pending-step, room-there, told-whole, pending-whole}
+use Rattle.reg_notify.proofs.PushSteps.{told-step, some-pending, pending-step, room-there}
 use Rattle.reg_notify.proofs.queues.push_all.Goals as goal
 
 abbrev nobody : Sent
@@ -14,7 +14,8 @@ push_to-requires-clause-pending c =
     let xs = c.args.sent.now in
     let i = c.loop-one.one-index in
     let x = get_or xs i nobody in
-    some-pending xs i x c.loop-one-test.true (get_or_default xs i nobody x c.loop-one-test.true) _ _ (c.requires.pending x.session) (c.loop-one.invariant.pending x.session)
+    some-pending xs i x c.loop-one-test.true (get_or_default xs i nobody x c.loop-one-test.true) _ _ (c.requires.pending x.session)
+    (c.loop-one.invariant.pending x.session)
 
 pub push_to-requires-clause-room : goal.push_to-requires-clause-room
 push_to-requires-clause-room c =
@@ -23,7 +24,8 @@ push_to-requires-clause-room c =
     let x = get_or xs i nobody in
     let at = get_or_default xs i nobody x c.loop-one-test.true in
     let held = c.loop-one.invariant in
-    room-there xs i x c.loop-one-test.true at c.args.queues.now.items c.loop-one.queues.items c.requires.rooms (held.told x.session) (held.pending x.session) (held.rooms x.session)
+    room-there xs i x c.loop-one-test.true at c.args.queues.now.items c.loop-one.queues.items c.requires.rooms (held.told x.session) (held.pending x.session)
+    (held.rooms x.session)
     (some-pending xs i x c.loop-one-test.true at _ _ (c.requires.pending x.session) (held.pending x.session))
 
 pub loop-one-preserved : goal.loop-one-preserved

@@ -1,4 +1,4 @@
-use Rattle.std.proofs.Common.{◌≡◌, ◌≤◌, sym, ap, ◌∙◌, refl, subst, arith}
+use Rattle.std.proofs.Common.{◌≡◌, ◌≤◌, sym, ap, refl, arith}
 use Rattle.reg_notify.specs.Internal.Queues.{taken_in, room_in}
 use Rattle.reg_notify.proofs.QueueSteps.{set-kept, queue-at}
 use Rattle.reg_notify.proofs.queues.push_to.Goals as goal
@@ -11,4 +11,5 @@ returns-clause-taken c = λ s.
 pub returns-clause-rooms : goal.returns-clause-rooms
 returns-clause-rooms c = λ s.
     set-kept (λ x y. room_in x ≤ room_in y) c.args.queues.now.items c.args.session _ (λ o. omega arith)
-    (rw (queue-at c.args.queues.now.items c.args.session c.index_mut-queue.result.now (omega arith) c.index_mut-queue.ensures.value) c.push.ensures.capacity) (omega arith) s
+    (rw (queue-at c.args.queues.now.items c.args.session c.index_mut-queue.result.now (omega arith) c.index_mut-queue.ensures.value) c.push.ensures.capacity)
+    (omega arith) s

@@ -1,9 +1,9 @@
-use Rattle.std.proofs.Common.{sym, subst, refl}
+use Rattle.std.proofs.Common.{◌≡◌, ◌<◌, true, sym, subst, refl}
 use Rattle.std.specs.List.{each_same}
 use Rattle.reg_model.specs.Causes.{watches_of}
+use Rattle.reg_notify.specs.Internal.Marks.{is_marked}
 use Rattle.reg_notify.specs.Internal.Rows.{watches_at}
 use Rattle.reg_model.specs.declared.limits.TheConstants.{WATCHES_LIMIT}
-use Rattle.std.proofs.Common.{◌<◌}
 use Rattle.reg_notify.proofs.AddedRows.{AreBelow}
 use Rattle.reg_notify.proofs.Added.{are-below, has-queue, few-pending}
 use Rattle.reg_notify.proofs.AddSteps.{none-yet, put-settled, put-shown, back-settled, back-shown, unput-settled, unput-shown, on-err}
@@ -32,8 +32,11 @@ returns-in-Ok-clause-settled c =
     let below = subst (λ m. AreBelow n m.entries) (sym c.make_room.ensures.rows) (are-below n c.args.self.now.rows.entries c.requires.above) in
     put-settled c.args.self.now t c.args.asked c.in_ok-row.row c.make_room.ensures.settled c.make_room.ensures.shown below c.in_ok-row.ensures.row c.in_ok-row.ensures.asked
     (record t { rows = c.insert.new.self; places = c.index_both.new.places; handles = c.index_both.new.handles; queues = c.count_up.new.queues })
-    c.in_ok-key.key.items c.in_ok-holder.holder.items c.in_ok-insert.ensures.entries (each_same _ _ c.in_ok-key.ensures.cases.0) c.in_ok-holder.ensures c.in-Ok.ensures.places c.in-Ok.ensures.handles refl
-    c.in_ok-make_room.ensures.sent c.count_up.ensures.pending c.count_up.ensures.rooms c.count_up.ensures.told c.count_up.ensures.taken c.count_up.ensures.len c.in_ok-make_room.ensures.queue
+    c.in_ok-key.key.items c.in_ok-holder.holder.items c.in_ok-insert.ensures.entries
+    (each_same _ _ c.in_ok-key.ensures.cases.0)
+    c.in_ok-holder.ensures c.in-Ok.ensures.places c.in-Ok.ensures.handles refl
+    (subst (λ l. is_marked t.marks.slots.items l ≡ true) c.text.ensures c.in_ok-make_room.ensures.marked) refl c.in_ok-make_room.ensures.sent
+    c.count_up.ensures.pending c.count_up.ensures.rooms c.count_up.ensures.told c.count_up.ensures.taken c.count_up.ensures.len c.in_ok-make_room.ensures.queue
 
 pub returns-in-Ok-clause-ok : goal.returns-in-Ok-clause-ok
 returns-in-Ok-clause-ok c =
@@ -42,8 +45,11 @@ returns-in-Ok-clause-ok c =
     let below = subst (λ m. AreBelow n m.entries) (sym c.make_room.ensures.rows) (are-below n c.args.self.now.rows.entries c.requires.above) in
     put-shown c.args.self.now t c.args.asked c.in_ok-row.row c.make_room.ensures.settled c.make_room.ensures.shown below c.in_ok-row.ensures.row c.in_ok-row.ensures.asked
     (record t { rows = c.insert.new.self; places = c.index_both.new.places; handles = c.index_both.new.handles; queues = c.count_up.new.queues })
-    c.in_ok-key.key.items c.in_ok-holder.holder.items c.in_ok-insert.ensures.entries (each_same _ _ c.in_ok-key.ensures.cases.0) c.in_ok-holder.ensures c.in-Ok.ensures.places c.in-Ok.ensures.handles refl
-    c.in_ok-make_room.ensures.sent c.count_up.ensures.pending c.count_up.ensures.rooms c.count_up.ensures.told c.count_up.ensures.taken c.count_up.ensures.len c.in_ok-make_room.ensures.queue
+    c.in_ok-key.key.items c.in_ok-holder.holder.items c.in_ok-insert.ensures.entries
+    (each_same _ _ c.in_ok-key.ensures.cases.0)
+    c.in_ok-holder.ensures c.in-Ok.ensures.places c.in-Ok.ensures.handles refl
+    (subst (λ l. is_marked t.marks.slots.items l ≡ true) c.text.ensures c.in_ok-make_room.ensures.marked) refl c.in_ok-make_room.ensures.sent
+    c.count_up.ensures.pending c.count_up.ensures.rooms c.count_up.ensures.told c.count_up.ensures.taken c.count_up.ensures.len c.in_ok-make_room.ensures.queue
 
 pub returns-in-Err-clause-settled : goal.returns-in-Err-clause-settled
 returns-in-Err-clause-settled c =
@@ -52,7 +58,7 @@ returns-in-Err-clause-settled c =
     let below = subst (λ m. AreBelow n m.entries) (sym c.make_room.ensures.rows) (are-below n c.args.self.now.rows.entries c.requires.above) in
     back-settled c.args.self.now t c.args.asked c.in_ok-row.row c.make_room.ensures.settled c.make_room.ensures.shown below c.in_ok-row.ensures.row c.in_ok-row.ensures.asked
     (record t { rows = c.remove.new.self; places = c.index_both.new.places; handles = c.index_both.new.handles })
-    c.insert.new.self.entries c.in_ok-insert.ensures.entries c.remove.ensures.entries c.in-Err.ensures.places_stay c.in-Err.ensures.handles_stay refl refl
+    c.insert.new.self.entries c.in_ok-insert.ensures.entries c.remove.ensures.entries c.in-Err.ensures.places_stay c.in-Err.ensures.handles_stay refl refl refl
 
 pub returns-in-Err-clause-err : goal.returns-in-Err-clause-err
 returns-in-Err-clause-err c =
@@ -61,12 +67,12 @@ returns-in-Err-clause-err c =
     let below = subst (λ m. AreBelow n m.entries) (sym c.make_room.ensures.rows) (are-below n c.args.self.now.rows.entries c.requires.above) in
     back-shown c.args.self.now t c.args.asked c.in_ok-row.row c.make_room.ensures.settled c.make_room.ensures.shown below c.in_ok-row.ensures.row c.in_ok-row.ensures.asked
     (record t { rows = c.remove.new.self; places = c.index_both.new.places; handles = c.index_both.new.handles })
-    c.insert.new.self.entries c.in_ok-insert.ensures.entries c.remove.ensures.entries c.in-Err.ensures.places_stay c.in-Err.ensures.handles_stay refl refl
+    c.insert.new.self.entries c.in_ok-insert.ensures.entries c.remove.ensures.entries c.in-Err.ensures.places_stay c.in-Err.ensures.handles_stay refl refl refl
 
 pub returns-in_err-insert-clause-settled : goal.returns-in_err-insert-clause-settled
 returns-in_err-insert-clause-settled c =
     let t = c.make_room.new.self in
-    unput-settled t (record t { rows = c.insert.new.self }) c.make_room.ensures.settled c.in_err-insert.ensures.err refl refl refl refl
+    unput-settled t (record t { rows = c.insert.new.self }) c.make_room.ensures.settled c.in_err-insert.ensures.err refl refl refl refl refl
 
 pub returns-in_err-insert-clause-err : goal.returns-in_err-insert-clause-err
 returns-in_err-insert-clause-err c =

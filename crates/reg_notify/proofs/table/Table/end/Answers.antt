@@ -1,5 +1,7 @@
-use Rattle.std.proofs.Common.{None, sym, ap, subst, ◌∙◌, length-append, arith}
+use Rattle.std.proofs.Common.{None, sym, subst, arith}
 use Rattle.reg_notify.specs.Internal.Indexes.{number_at, UpdatesText}
+use Rattle.reg_notify.specs.Internal.Marks.{AreMarked}
+use Rattle.reg_notify.proofs.MarkedRows.{marks-less}
 use Rattle.reg_notify.proofs.RowSteps.{table-less}
 use Rattle.reg_notify.proofs.TableSteps.{room-less}
 use Rattle.reg_notify.proofs.table.Table.end.Goals as goal
@@ -19,7 +21,9 @@ returns-in-Ok-clause-ready c =
     let long = c.in-Ok.ensures.len in
     let capacity = c.in-Ok.ensures.capacity in
     record {
-      table = table-less was.rows.entries c.remove.new.self.entries places handles (number_at c.remove-in-Some.new.self.by_text.entries) (number_at c.remove-in-Some-2.new.self.by_text.entries)
+      table = table-less was.rows.entries c.remove.new.self.entries places handles (number_at c.remove-in-Some.new.self.by_text.entries)
+          (number_at c.remove-in-Some-2.new.self.by_text.entries)
           c.args.number row ready.table found c.remove.ensures.entries up uh;
+      marks = subst (AreMarked was.marks.slots.items) (sym c.remove.ensures.entries) (marks-less was.marks.slots.items _ was.rows.entries ready.marks);
       room = omega (arith, room, fewer, long, capacity);
     }

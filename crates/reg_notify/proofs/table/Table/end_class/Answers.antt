@@ -1,4 +1,4 @@
-use Rattle.std.proofs.Common.{◌≡◌, sym, ap, ◌∙◌, not}
+use Rattle.std.proofs.Common.{sym, ◌∙◌}
 use Rattle.reg_model.specs.declared.notice.Reason.TheVariants.{Matched}
 use Rattle.reg_notify.specs.Internal.Hits.{of_class}
 use Rattle.reg_notify.specs.Internal.Indexes.{goes_on}
@@ -14,5 +14,7 @@ returns-then-not-is_met-clause-ends c =
 
 pub returns-clause-ends : goal.returns-clause-ends
 returns-clause-ends c =
-    ends-test _ (λ e. goes_on c.append.new.text.items (place_of e.0 e.1)) (of_class c.args.text.now.items c.args.bits c.args.itself c.args.class) Matched c.args.self.now c.end_past.new.self
-    (each _ (λ e. class-met _ _ _ (place_of e.0 e.1) (sym c.is_met.ensures ∙ c.if-not-is_met.false) c.append.ensures.text) c.args.self.now.rows.entries) c.end_past.ensures
+    ends-test _ (λ e. goes_on c.append.new.text.items (place_of e.0 e.1))
+    (of_class c.args.text.now.items c.args.bits c.args.itself c.args.class) Matched c.args.self.now c.end_past.new.self
+    (each _ (λ e. class-met _ _ _ (place_of e.0 e.1) (sym c.is_met.ensures ∙
+    c.if-not-is_met.false) c.append.ensures.text) c.args.self.now.rows.entries) c.end_past.ensures

@@ -1,4 +1,4 @@
-use Rattle.std.proofs.Common.{◌≡◌, ◌+◌, ◌≤◌}
+use Rattle.std.proofs.Common.{◌+◌, ◌≤◌}
 use Rattle.std.specs.Prelude.{vec_len, vec_capacity}
 use Rattle.reg_notify.proofs.PlaceWalk.{IsWalked}
 use Rattle.reg_notify.proofs.table.Table.end_event.Given as goal

@@ -1,4 +1,4 @@
-use Rattle.std.proofs.Common.{◌≡◌, [], ◌∷◌, ◌++◌, refl, sym, ap, ◌∙◌, subst, append_assoc}
+use Rattle.std.proofs.Common.{[], ◌∷◌, ◌++◌, refl, sym, ap, ◌∙◌, subst, append_assoc}
 use Rattle.std.proofs.lemmas.List.{append-nil}
 use Rattle.std.proofs.lemmas.Option.{MatchOption-at_none}
 use Rattle.reg_model.specs.declared.notice.Reason.TheVariants.{Matched}
@@ -6,11 +6,17 @@ use Rattle.reg_notify.specs.Internal.Hits.{any_event}
 use Rattle.reg_notify.specs.Internal.Firing.{if_passes}
 use Rattle.reg_notify.specs.Internal.States.{Ends}
 use Rattle.reg_notify.proofs.EndsSteps.{ends-never}
-use Rattle.reg_notify.proofs.Removals.{AreSeen, one-event, no-events}
+use Rattle.reg_notify.proofs.Removals.{one-event, no-events}
 use Rattle.reg_notify.proofs.table.Table.end_events.Goals as goal
 
 pub loop-event-init : goal.loop-event-init
-loop-event-init c = record { done = []; whole = sym (append-nil _); ready = c.requires; ends = ends-never _ (any_event []) Matched c.args.self.now c.requires (λ e. refl) }
+loop-event-init c = record {
+  done = [];
+  whole = sym (append-nil _);
+  ready = c.requires;
+  ends = ends-never _ (any_event []) Matched c.args.self.now c.requires
+      (λ e. refl);
+}
 
 pub loop-event-preserved : goal.loop-event-preserved
 loop-event-preserved c =

@@ -1,4 +1,4 @@
-use Rattle.std.proofs.Common.{◌≡◌, [], ◌∷◌, ◌++◌, subst}
+use Rattle.std.proofs.Common.{subst}
 use Rattle.reg_model.specs.declared.notice.Reason.TheVariants.{Gone}
 use Rattle.reg_notify.specs.Internal.Indexes.{goes_on}
 use Rattle.reg_notify.specs.Internal.Rows.{place_of}
@@ -8,4 +8,5 @@ use Rattle.reg_notify.proofs.table.Table.end_gone.Goals as goal
 
 pub returns-clause-ends : goal.returns-clause-ends
 returns-clause-ends c =
-    subst (λ s. Ends c.args.by (if_passes (λ e. goes_on s (place_of e.0 e.1)) Gone) c.args.self.now c.end_past.new.self) c.append_byte.ensures.text c.end_past.ensures
+    subst (λ s. Ends c.args.by
+    (if_passes (λ e. goes_on s (place_of e.0 e.1)) Gone) c.args.self.now c.end_past.new.self) c.append_byte.ensures.text c.end_past.ensures

@@ -7,11 +7,16 @@ use Rattle.reg_notify.proofs.table.Table.end_hit.Goals as goal
 
 pub returns-then-not-has_watch-clause-ends : goal.returns-then-not-has_watch-clause-ends
 returns-then-not-has_watch-clause-ends c =
-    none-at-place c.args.by c.args.bits c.args.itself _ c.args.text.now.items c.args.self.now c.requires.ready (c.has_watch.ensures.none c.if-not-has_watch.true)
+    none-at-place c.args.by c.args.bits c.args.itself _ c.args.text.now.items c.args.self.now c.requires.ready
+    (c.has_watch.ensures.none c.if-not-has_watch.true)
 
 pub loop-class-init : goal.loop-class-init
 unfolding any_class
-loop-class-init c = record { ends = ends-never _ _ Matched c.args.self.now c.requires.ready (λ e. refl); text = c.has_watch.ensures.text; room = c.has_watch.ensures.room }
+loop-class-init c = record {
+  ends = ends-never _ _ Matched c.args.self.now c.requires.ready (λ e. refl);
+  text = c.has_watch.ensures.text;
+  room = c.has_watch.ensures.room;
+}
 
 pub loop-class-preserved : goal.loop-class-preserved
 loop-class-preserved c = record {

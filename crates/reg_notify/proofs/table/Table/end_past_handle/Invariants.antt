@@ -10,7 +10,8 @@ use Rattle.reg_notify.proofs.table.Table.end_past_handle.Given as goal
 abbrev pub invariant-loop-number : goal.invariant-loop-number
 invariant-loop-number l = record {
   ready : IsReady l.self;
-  part : IsPart l.by (if_passes (λ e. goes_on l.start.items (holder_of e.0 e.1)) l.reason) l.fn.self.rows.entries l.fn.self.sent.items l.self.rows.entries l.self.sent.items;
+  part : IsPart l.by (if_passes (λ e. goes_on l.start.items
+      (holder_of e.0 e.1)) l.reason) l.fn.self.rows.entries l.fn.self.sent.items l.self.rows.entries l.self.sent.items;
   queues : l.self.queues ≡ l.fn.self.queues;
 }
 

@@ -8,4 +8,5 @@ use Rattle.reg_notify.proofs.EndsSteps.{ends-never}
 use Rattle.reg_notify.proofs.table.Table.end_removed.Goals as goal
 
 pub returns-in-Nothing : goal.returns-in-Nothing
-returns-in-Nothing c = subst (λ r. Ends c.args.by (if_passes (is_gone r) Gone) c.args.self.now c.args.self.now) (sym c.in-Nothing.is) (ends-never _ (is_gone Nothing) Gone c.args.self.now c.requires (λ e. refl))
+returns-in-Nothing c = subst (λ r. Ends c.args.by (if_passes (is_gone r) Gone) c.args.self.now c.args.self.now) (sym c.in-Nothing.is)
+    (ends-never _ (is_gone Nothing) Gone c.args.self.now c.requires (λ e. refl))

@@ -8,4 +8,5 @@ returns c =
     let clean = c.into_text-text.ensures.clean in
     gone-within c.args.place c.args.by c.args.self.now c.end_gone.new.self c.end_gone-2.new.self
     (gone-there c.args.place c.args.by c.into_text-text.result.items c.args.self.now c.end_gone.new.self c.requires clean c.into_text-text.ensures.text first)
-    (gone-below c.args.place c.args.by c.end_gone.new.text.items c.end_gone.new.self c.end_gone-2.new.self first.ready clean (c.end_gone.ensures.text ∙ c.into_text-text.ensures.text) c.end_gone-2.ensures.ends)
+    (gone-below c.args.place c.args.by c.end_gone.new.text.items c.end_gone.new.self c.end_gone-2.new.self first.ready clean
+    (c.end_gone.ensures.text ∙ c.into_text-text.ensures.text) c.end_gone-2.ensures.ends)

@@ -24,7 +24,8 @@ pub returns-clause-told : goal.returns-clause-told
 returns-clause-told c =
     told-in-order c.args.self.now.queues.items c.push_all.new.queues.items c.args.self.now.sent.items c.sort_unstable_by_key.new.self.items c.sort_unstable_by_key.ensures.permutation
     (IsNonDecreasingBy-from_sort_by_key (λ x. x.notice.watch) _ c.sort_unstable_by_key.ensures.sorted (λ a r q k. search rules))
-    (subst (λ (l : List Sent). (s : ℕ) → told_at c.push_all.new.queues.items s ≡ told_at c.args.self.now.queues.items s ++ notices_to s l) c.as_slice.ensures.value c.push_all.ensures.told)
+    (subst (λ (l : List Sent). (s : ℕ) →
+    told_at c.push_all.new.queues.items s ≡ told_at c.args.self.now.queues.items s ++ notices_to s l) c.as_slice.ensures.value c.push_all.ensures.told)
 
 pub returns-clause-settled : goal.returns-clause-settled
 returns-clause-settled c =
@@ -33,7 +34,9 @@ returns-clause-settled c =
     let pushed = c.push_all.ensures in
     let e = c.as_slice.ensures.value in
     let capacity : vec_capacity c.clear.new.self ≡ vec_capacity t.sent = c.clear.ensures.capacity ∙ c.sort_unstable_by_key.ensures.capacity in
-    settled-again t c.requires.ready c.requires.few sorted c.sort_unstable_by_key.ensures.permutation (record t { sent = c.clear.new.self; queues = c.push_all.new.queues }) refl refl refl
+    settled-again t c.requires.ready c.requires.few sorted c.sort_unstable_by_key.ensures.permutation
+    (record t { sent = c.clear.new.self; queues = c.push_all.new.queues }) refl refl refl refl
     c.clear.ensures.len c.clear.ensures.items capacity
     (subst (λ (l : List Sent). (s : ℕ) → told_at c.push_all.new.queues.items s ≡ told_at t.queues.items s ++ notices_to s l) e pushed.told)
-    (subst (λ (l : List Sent). (s : ℕ) → pending_at c.push_all.new.queues.items s + sent_to s l ≡ pending_at t.queues.items s) e pushed.pending) pushed.rooms pushed.len
+    (subst (λ (l : List Sent). (s : ℕ) →
+    pending_at c.push_all.new.queues.items s + sent_to s l ≡ pending_at t.queues.items s) e pushed.pending) pushed.rooms pushed.len

@@ -1,4 +1,4 @@
-use Rattle.std.proofs.Common.{◌≡◌, ◌<◌, ap, sym, ◌∙◌, subst}
+use Rattle.std.proofs.Common.{◌≡◌, ◌<◌, sym, subst}
 use Rattle.std.specs.Prelude.{All, OnOk, OnErr}
 use Rattle.reg_model.specs.Causes.{watches_of}
 use Rattle.reg_model.specs.Watches.{Watch}

@@ -1,4 +1,4 @@
-use Rattle.std.proofs.Common.{ap, sym, ◌∙◌}
+use Rattle.std.proofs.Common.{ap, ◌∙◌}
 use Rattle.reg_model.specs.Causes.{watches_of}
 use Rattle.reg_notify.specs.Tables.{Table}
 use Rattle.reg_notify.proofs.watches.Watches.count.Goals as goal

@@ -1,4 +1,4 @@
-use Rattle.std.proofs.Common.{◌≡◌, subst, sym, ap}
+use Rattle.std.proofs.Common.{subst}
 use Rattle.std.specs.Int.{to_be_bytes, w64}
 use Rattle.reg_model.specs.declared.notice.Reason.TheVariants.{Closed}
 use Rattle.reg_notify.specs.Asked.{closing_by, Fires}
@@ -32,5 +32,7 @@ returns c =
     let x = closing_by c.args.handle c.args.by in
     let ends = subst (λ s. Ends c.args.by (if_passes (λ e. goes_on s (holder_of e.0 e.1)) Closed) t c.end_past_handle.new.self) c.start_with.ensures.text c.end_past_handle.ensures in
     subst (λ (v : Table). Fires x v (shown c.hand_out.new.self)) c.self.view_is
-    (fires x (if_passes (λ e. goes_on (to_be_bytes w64 c.args.handle) (holder_of e.0 e.1)) Closed) t c.end_past_handle.new.self c.hand_out.new.self settled c.hand_out.ensures.settled
-    (rows-fit _ t settled.ready (drop-why c.args.handle c.args.by c.ranges.handle.fits)) ends c.hand_out.ensures.rows c.hand_out.ensures.told c.hand_out.ensures.taken)
+    (fires x (if_passes (λ e. goes_on (to_be_bytes w64 c.args.handle)
+    (holder_of e.0 e.1)) Closed) t c.end_past_handle.new.self c.hand_out.new.self settled c.hand_out.ensures.settled
+    (rows-fit _ t settled.ready
+    (drop-why c.args.handle c.args.by c.ranges.handle.fits)) ends c.hand_out.ensures.rows c.hand_out.ensures.told c.hand_out.ensures.taken)

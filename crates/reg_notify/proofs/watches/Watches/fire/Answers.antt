@@ -27,5 +27,6 @@ returns c =
     let why = then_why (if_passes (is_gone c.args.removed) Gone) (if_passes (any_event c.args.events.items) Matched) in
     subst (λ (t : Table). Fires x t (shown c.hand_out.new.self)) c.self.view_is
     (fires x why c.self.inside.table c.end_all.new.self c.hand_out.new.self c.self.invariant.settled c.hand_out.ensures.settled
-    (each _ (fire-why c.args.events.items c.args.removed c.args.by (recursion_from_All (λ x. x.bits ≤ EVENTS) c.args.events.items c.requires.kinds)) c.self.inside.table.rows.entries)
+    (each _ (fire-why c.args.events.items c.args.removed c.args.by
+    (recursion_from_All (λ x. x.bits ≤ EVENTS) c.args.events.items c.requires.kinds)) c.self.inside.table.rows.entries)
     c.end_all.ensures c.hand_out.ensures.rows c.hand_out.ensures.told c.hand_out.ensures.taken)

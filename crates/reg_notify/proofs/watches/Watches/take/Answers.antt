@@ -1,8 +1,8 @@
-use Rattle.std.proofs.Common.{◌≡◌, ℕ, ◌+◌, ◌≤◌, ◌&&◌, cond, eqb, is_some, List, Option, refl, sym, ap, ◌∙◌, subst, arith}
+use Rattle.std.proofs.Common.{◌≡◌, ℕ, ◌+◌, ◌≤◌, ◌&&◌, cond, eqb, is_some, List, refl, sym, ap, ◌∙◌, arith}
 use Rattle.std.specs.Prelude.{slice_get}
 use Rattle.reg_model.specs.declared.notice.Notice.{Notice}
 use Rattle.reg_notify.specs.Tables.{Table, told_to, taken_by}
-use Rattle.reg_notify.specs.Internal.Queues.{told_at, taken_at, room_at}
+use Rattle.reg_notify.specs.Internal.Queues.{taken_at, room_at}
 use Rattle.reg_notify.proofs.Added.{as-before}
 use Rattle.reg_notify.proofs.QueueSteps.{same-length-of, told-is, taken-is, told-same}
 use Rattle.reg_notify.proofs.watches.Watches.take.Goals as goal
@@ -12,7 +12,8 @@ invariant_of-self c =
     let q = c.take_from.ensures in
     let room : (s : ℕ) → room_at c.self.inside.table.queues.items s ≤ room_at c.take_from.new.queues.items s = λ s. let e = q.rooms s in omega (arith, e) in
     record {
-      settled = as-before c.self.inside.table _ c.self.invariant.settled refl (λ text. refl) (λ text. refl) refl refl (omega arith) q.told q.pending room q.len;
+      settled = as-before c.self.inside.table _ c.self.invariant.settled refl (λ text. refl) (λ text. refl) (λ other is. is) refl refl
+          (omega arith) q.told q.pending room q.len;
       room = c.self.invariant.room;
     }
 
@@ -33,7 +34,8 @@ returns-clause-taken c = λ s.
 
 pub returns-clause-told : goal.returns-clause-told
 returns-clause-told c =
-    told-same c.self.inside.table.queues.items c.take_from.new.queues.items (same-length-of c.self.inside.table.queues c.take_from.new.queues c.take_from.ensures.len) c.take_from.ensures.told
+    told-same c.self.inside.table.queues.items c.take_from.new.queues.items
+    (same-length-of c.self.inside.table.queues c.take_from.new.queues c.take_from.ensures.len) c.take_from.ensures.told
     ∙ ap (λ (t : Table). t.told) c.self.view_is
 
 pub returns-clause-pending : goal.returns-clause-pending
