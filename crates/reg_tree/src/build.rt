@@ -16,11 +16,11 @@ ghost use Rattle.reg_records.specs.KeyNodes.{KeyRecord, key_at};
 ghost use Rattle.reg_values.specs.ValueLists.{KeepsSizes, Makes};
 ghost use Rattle.reg_tree.specs.BuiltKeys.{MayBuild, BuildsKey, LacksClassRoom, LacksKeyRoom, built_key, class_sizes};
 ghost use Rattle.reg_tree.specs.CellSizes.{LacksRoom};
-ghost use Rattle.reg_tree.specs.KeyLengths.{lengths_at, no_lengths, with_key_lengths};
+ghost use Rattle.reg_tree.specs.KeyLengths.{with_key_lengths};
 ghost use Rattle.reg_tree.specs.TreeKeys.{tree_in};
 ghost use Rattle.reg_tree.specs.Internal.DescriptorChange.{IsKnown, KeepsFinds};
 ghost use Rattle.reg_tree.specs.Internal.KeyCreation.{IsCreated};
-ghost use Rattle.reg_tree.specs.Internal.LengthChanges.{LengthsChange, LengthsStay};
+ghost use Rattle.reg_tree.specs.Internal.LengthChanges.{LengthsChange, LengthsStay, MadeLengths};
 ghost use Rattle.reg_tree.specs.Internal.TreeInvariant.{IsHere, IsChanged, TreeInvariant};
 ghost use Rattle.reg_tree.specs.Internal.KeyNodeChanges.{Notes};
 ghost use Rattle.reg_tree.specs.Internal.KeyBuilding.{HasNoClass, IsBuilt, IsCarvedForClass, IsClassCell, IsMarkable, IsMarked, LacksForKey, MayHaveClass};
@@ -269,7 +269,7 @@ pub fn build_below(
         (with_key_lengths (length key.entry.name.now) (length key.entry.class.now))) }
     ensures made { (t : IsHere arena.old.bytes parent.offset) → t.table ≡ securities.old → parent.depth ≡ length t.path →
         MayBuild (tree_in arena.old.bytes t.root) t.path key.entry.name.now →
-        IfOk result (λ node. lengths_at (heap_of arena.new) node.offset ≡ Some no_lengths) }
+        OnOk result (MadeLengths (heap_of arena.new) t.root t.path (key.entry.name.now ∷ [])) }
     ensures builds { (t : IsHere arena.old.bytes parent.offset) → t.table ≡ securities.old → parent.depth ≡ length t.path →
         MayBuild (tree_in arena.old.bytes t.root) t.path key.entry.name.now →
         OnOk result (BuildsKey (record { bins = arena.old; root = t.root; tree = tree_in arena.old.bytes t.root })

@@ -1,4 +1,4 @@
-ghost use Rattle.std.specs.Prelude.{true, false, ◌≡◌, ◌↔◌, ◌⊎◌, ◌≢◌, ◌≤◌, ◌<◌, ◌+◌, ◌*◌, ◌++◌, ℕ, List, [], length, Err, Some, None, OnOk, OnErr, IfOk, IfErr};
+ghost use Rattle.std.specs.Prelude.{true, false, ◌≡◌, ◌↔◌, ◌⊎◌, ◌≢◌, ◌≤◌, ◌<◌, ◌+◌, ◌*◌, ◌++◌, ℕ, List, [], ◌∷◌, length, Err, Some, None, OnOk, OnErr, IfOk, IfErr};
 ghost use Rattle.std.specs.Prelude.{IsSome, IfSome, MatchOption, slice_get, get_or, option_map};
 ghost use Rattle.std.specs.FinMap.{insert, empty, get};
 ghost use Rattle.reg_names.specs.declared.TheConstants.{KEY_NAME_LIMIT, PATH_LIMIT, VALUE_NAME_LIMIT};
@@ -747,7 +747,7 @@ impl Tree {
         ensures builds { (p : Path) → IsAt self.old p parent → OnOk result (BuildsKey self.old self.new p (built_key key.entry)) }
         ensures lengths { (p : Path) → IsAt self.old p parent →
             OnOk result (ChangesLengths self.old self.new p (with_key_lengths (length key.entry.name.now) (length key.entry.class.now))) }
-        ensures made { IfOk result (λ node. lengths_at (heap_of self.new.bins) node.offset ≡ Some no_lengths) }
+        ensures made { (p : Path) → IsAt self.old p parent → OnOk result (NotesMade self.new p (key.entry.name.now ∷ [])) }
         ensures space { (p : Path) → IsAt self.old p parent → (result ≡ Err ArenaFault.Full) →
             LacksKeyRoom self.old p (built_key key.entry) ⊎ LacksClassRoom self.old self.new p (built_key key.entry) }
         ensures nodes { OnOk result (KeepsNodes self.old self.new) }

@@ -1,6 +1,7 @@
 -- The largest lengths of each key, where a key was built below another.
-use Rattle.std.proofs.Common.{◌≡◌, ℕ, cond, Option, Some, None, is_some, List, [], ◌∷◌, length, refl, ap, ◌∙◌, subst, arith}
+use Rattle.std.proofs.Common.{◌≡◌, ◌≢◌, ℕ, cond, Option, Some, None, is_some, List, [], ◌∷◌, ◌++◌, map, length, length-append, refl, sym, ap, ◌∙◌, subst, arith}
 use Rattle.std.specs.Option.{option_map}
+use Rattle.reg_names.specs.Names.{folded}
 use Rattle.reg_heap.specs.Paths.{Path, Rec}
 use Rattle.reg_heap.specs.Edits.{child_path, last_there, missing}
 use Rattle.reg_arena.specs.Cells.{cell_at}
@@ -8,18 +9,22 @@ use Rattle.reg_security.specs.Rings.{DescriptorCells}
 use Rattle.reg_tree.specs.declared.build.NewKey.{NewKey}
 use Rattle.reg_tree.specs.declared.node.Node.{Node as TreeNode}
 use Rattle.reg_tree.specs.BuiltKeys.{MayBuild}
-use Rattle.reg_tree.specs.KeyLengths.{Lengths, lengths_at, no_lengths, with_first_length, with_key_lengths}
+use Rattle.reg_tree.specs.KeyLengths.{Lengths, lengths_at, with_first_length, with_key_lengths}
 use Rattle.reg_tree.specs.TreeKeys.{tree_in}
 use Rattle.reg_tree.specs.Internal.KeyBuilding.{with_class_length}
 use Rattle.reg_tree.specs.Internal.KeyCreation.{IsCreated}
 use Rattle.reg_tree.specs.Internal.LengthChanges.{LengthsChange, LengthsStay, MadeLengths}
 use Rattle.reg_tree.specs.Internal.TreeInvariant.{IsHere, IsChanged}
-use Rattle.reg_tree.proofs.BuildKey.BuiltTrees.{child-apart}
 
 -- one change after another
 twice : (f g : Lengths → Lengths) (o : Option Lengths) → option_map f (option_map g o) ≡ option_map (λ l. f (g l)) o
 twice f g None = refl
 twice f g (Some l) = refl
+
+-- what is below a path is another one
+below-apart : (path : Path) (front : List (List ℕ)) → front ≢ [] → path ++ map folded front ≢ path
+below-apart path [] some e = absurd (some refl)
+below-apart path (x ∷ front) some e = let l = length-append path (folded x ∷ map folded front) in let n = ap length e in absurd (omega (arith, l, n))
 
 -- made, its parent's time set back and its class noted there, and dressed
 module _ (old mid next new : List ℕ) (parent node : TreeNode) (t : IsHere old parent.offset) (table : DescriptorCells) (key : NewKey)
@@ -67,9 +72,10 @@ module _ (old mid next new : List ℕ) (parent node : TreeNode) (t : IsHere old 
   }
 
   -- the key that was built notes none
-  pub made-built : lengths_at (cell_at new) node.offset ≡ Some no_lengths
-  made-built =
-      let n = changed.offsets path ∙ c.offset in
-      stay path node.offset n (dressed.offsets path ∙ n)
-      ∙ (noted.others path node.offset (child-apart t.path key.name.now) c.offset
-      ∙ made-noted one [] node.offset refl (λ e. (let n = ap length e in absurd (omega (arith, n)))) c.offset)
+  pub made-built : MadeLengths (cell_at new) t.root t.path one
+  made-built front back o parts some found =
+      let n = sym (dressed.offsets (t.path ++ map folded front)) ∙ found in
+      let m = sym (changed.offsets (t.path ++ map folded front)) ∙ n in
+      stay (t.path ++ map folded front) o n found
+      ∙ (noted.others (t.path ++ map folded front) o (below-apart t.path front some) m
+      ∙ made-noted front back o parts some m)

@@ -13,10 +13,10 @@ use Rattle.reg_tree.specs.declared.build.NewKey.{NewKey}
 use Rattle.reg_tree.specs.declared.node.Node.{Node}
 use Rattle.reg_tree.specs.BuiltKeys.{BuildsKey, LacksClassRoom, LacksKeyRoom, MayBuild, built_key}
 use Rattle.reg_tree.specs.TreeKeys.{Keys, tree_in, IsAt, IsThere, KeepsNodes}
-use Rattle.reg_tree.specs.KeyLengths.{Lengths, ChangesLengths, lengths_at, no_lengths}
+use Rattle.reg_tree.specs.KeyLengths.{Lengths, ChangesLengths, NotesMade}
 use Rattle.reg_tree.specs.Internal.DescriptorChange.{IsLike}
 use Rattle.reg_tree.specs.Internal.KeyBuilding.{IsBuilt}
-use Rattle.reg_tree.specs.Internal.LengthChanges.{LengthsChange}
+use Rattle.reg_tree.specs.Internal.LengthChanges.{LengthsChange, MadeLengths}
 use Rattle.reg_tree.specs.Internal.TreeInvariant.{TreeInvariant, IsHere}
 use Rattle.reg_tree.proofs.InsertKey.CreateKeepsNodes.{on_ok}
 use Rattle.reg_tree.proofs.Invariant.NodeLemmas.{seen_as, here_at, there_at, of_tree, to_tree}
@@ -109,6 +109,8 @@ module _ (bins : Bins) (root : ℕ) {table : DescriptorCells} (holds : TreeInvar
       (ok (here_at bins root holds now view_is parent p at) refl at.depth (may_at p at))
 
   pub made_built : (new : Bins) (result : Result Node ArenaFault) → ((t : IsHere bins.bytes parent.offset) → t.table ≡ table → parent.depth ≡ length t.path →
-      MayBuild (tree_in bins.bytes t.root) t.path key.name.now → IfOk result (λ node. lengths_at (heap_of new) node.offset ≡ Some no_lengths)) →
-      IsThere now parent → IfOk result (λ node. lengths_at (heap_of new) node.offset ≡ Some no_lengths)
-  made_built new result ok some = ok (there_at bins root holds now view_is parent some) refl some.1.depth (may_at some.0 some.1)
+      MayBuild (tree_in bins.bytes t.root) t.path key.name.now → OnOk result (MadeLengths (heap_of new) t.root t.path (key.name.now ∷ []))) →
+      (p : Path) → IsAt now p parent → OnOk result (NotesMade (seen_as new root) p (key.name.now ∷ []))
+  made_built new result ok p at =
+      on_ok result (λ made front back node parts some there. made front back node.offset parts some there.offset)
+      (ok (here_at bins root holds now view_is parent p at) refl at.depth (may_at p at))

@@ -22,7 +22,7 @@ get-other t p q r apart = get-insert path_total t p r q ∙ by (eq_by_cmp path_c
     by true e = absurd (apart (path-is q p e))
     by false e = refl
 
-pub child-apart : (p : Path) (name : List ℕ) → child_path p name ≢ p
+child-apart : (p : Path) (name : List ℕ) → child_path p name ≢ p
 child-apart p name e = let n = length-append p (folded name ∷ []) in let m = ap length e in absurd (omega (arith, n, m))
 
 module _ (t : Tree) (p : Path) (name descriptor : List ℕ) (moment time : ℕ) (r : Rec) (there : get t p ≡ Some r) (its : r.time ≡ time)

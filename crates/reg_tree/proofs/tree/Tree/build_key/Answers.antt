@@ -46,5 +46,4 @@ returns-clause-lengths c = lengths_built _ _ c.self.invariant _ c.self.view_is c
 
 pub returns-clause-made : goal.returns-clause-made
 returns-clause-made c =
-    made_built _ _ c.self.invariant _ c.self.view_is c.args.parent c.args.key c.requires.room c.build_below.new.arena c.build_below.result
-    c.build_below.ensures.made c.requires.parent
+    made_built _ _ c.self.invariant _ c.self.view_is c.args.parent c.args.key c.requires.room c.build_below.new.arena c.build_below.result c.build_below.ensures.made
