@@ -84,7 +84,8 @@ impl Draft {
     /// An open handle, mostly one whose key is there, and mostly in its session. Where none is found the root is opened.
     fn handle(&mut self) -> Result<u64, Fail> {
         for _try in 0..8 {
-            let place = self.number_below(self.hive.handles() as u32) as usize;
+            let count = self.hive.handles();
+            let place = self.number_below(count) as usize;
             let is_odd = self.number_below(16) == 0;
             if let Some((number, session, is_dead)) = self.hive.handle(place) {
                 if !is_odd {
@@ -198,8 +199,8 @@ impl Draft {
 
     /// The next notice of one of the sessions.
     fn notice(&mut self) -> Result<(), Fail> {
-        let session = self.number_below(u32::from(SESSIONS)) as u8;
-        self.set_session(session)?;
+        let drawn = self.number_below(u32::from(SESSIONS));
+        self.set_session(u8::try_from(drawn).unwrap_or(0))?;
         self.take_notice()
     }
 

@@ -43,7 +43,7 @@ unless_ended-none : (v : Option Watch) → unless_ended v [] ++ [] ≡ option_to
 unless_ended-none None = refl
 unless_ended-none (Some v) = refl
 
-pending_of-push : (past : List Met) (m : Met) → pending_of (past ++ m ∷ []) ≡ pending_past (end_of m) (asked_by m) (pending_of past)
+pub pending_of-push : (past : List Met) (m : Met) → pending_of (past ++ m ∷ []) ≡ pending_past (end_of m) (asked_by m) (pending_of past)
 pending_of-push [] m = unless_ended-none (asked_by m)
 pending_of-push (x ∷ past) m =
     grind (arith, pending_of-push past m, unless_ended-push (asked_by x) past m, filter-append (stays (end_of m)) (unless_ended (asked_by x) past) (pending_of past), append_assoc)

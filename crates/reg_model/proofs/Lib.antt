@@ -16,4 +16,5 @@ pub mod TreesOfJournals
 pub mod HandlesUntilClosed
 pub mod FewEvents
 pub mod PendingWatches
+pub mod ToldOnce
 pub mod RowsNotify

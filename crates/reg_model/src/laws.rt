@@ -1,7 +1,7 @@
 //! Laws of calls, journals and what these make of a tree. Each function is one law: it does nothing, and its contract says
 //! what holds of the definitions in `specs/`.
-ghost use Rattle.std.specs.Prelude.{◌≡◌, ◌≢◌, ◌<◌, ◌≤◌, ◌+◌, ℕ, List, [], ◌∷◌, ◌++◌, length, map, All, IsSome, Some, None};
-ghost use Rattle.std.specs.List.{AllByRecursion};
+ghost use Rattle.std.specs.Prelude.{◌≡◌, ◌≢◌, ◌<◌, ◌≤◌, ◌+◌, ℕ, ◌==◌, ◌&&◌, List, [], ◌∷◌, ◌++◌, length, map, count_by, All, IsSome, Some, None};
+ghost use Rattle.std.specs.List.{AllByRecursion, filter_map};
 ghost use Rattle.std.specs.List.Sorted.{IsStrictlyIncreasing};
 ghost use Rattle.std.specs.FinMap.{get};
 ghost use Rattle.reg_heap.specs.Paths.{Tree};
@@ -12,9 +12,10 @@ ghost use Rattle.reg_model.specs.declared.limits.TheConstants.{WATCHES_LIMIT};
 ghost use Rattle.reg_model.specs.Causes.{State, Opening, rule_of, path_asked, change_cause, watches_of};
 ghost use Rattle.reg_model.specs.Watches.{Watch, IsWatching, ending, few_ending, watch_of, reason, pending_past, notices};
 ghost use Rattle.reg_model.specs.Calls.{entry_due, reply_given, state_after};
-ghost use Rattle.reg_model.specs.Histories.{IsFit, IsLegal, replay, state_of, pending, fired};
+ghost use Rattle.reg_model.specs.Histories.{IsFit, IsLegal, replay, state_of, asked_by, mets, pending, fired};
 ghost use Rattle.reg_model.specs.declared.call.Change.{Change};
 ghost use Rattle.reg_model.specs.declared.call.Change.TheVariants.{Close};
+ghost use Rattle.reg_model.specs.declared.notice.Notice.{Notice};
 ghost use Rattle.reg_model.specs.declared.reply.Entry.{Entry};
 
 /// The front of a legal journal is legal.
@@ -124,6 +125,15 @@ pub fn pending_goes_on()
 pub fn fired_goes_on()
     ensures { (origin : Tree) → (past : List Entry) → (e : Entry) → (session : ℕ) → fired origin (past ++ e ∷ []) session ≡
         fired origin past session ++ notices session (ending (replay origin past) e) (pending origin past) }
+{}
+
+/// A watch that a session asked for is pending, or the session was told of it once: of each number there are as many pending
+/// watches and notices together as registrations.
+pub fn each_watch_is_pending_or_told_once()
+    ensures { (origin : Tree) → (journal : List Entry) → (session number : ℕ) →
+        count_by (λ (v : Watch). v.session == session && v.number == number) (pending origin journal)
+        + count_by (λ (x : Notice). x.watch == number) (fired origin journal session) ≡
+        count_by (λ (v : Watch). v.session == session && v.number == number) (filter_map asked_by (mets origin journal)) }
 {}
 
 /// The handle of a pending watch is open, its session's, and leads to the watch's key, which is in the tree.

@@ -180,8 +180,8 @@ impl PlainHive {
     }
 
     /// How many handles there ever were.
-    pub fn handles(&self) -> usize {
-        self.handles.len()
+    pub fn handles(&self) -> u32 {
+        u32::try_from(self.handles.len()).unwrap_or(u32::MAX)
     }
 
     /// The number and the session of an open handle, and whether it is dead, by its place among all.
