@@ -15,7 +15,7 @@ pub fn new_hive(alloc: Global) -> Result<Hive>
     Ok(Hive::new(alloc, b"ROOT", &[1], 0)?)
 }
 
-#[tactic(auto, using(crate::proofs::AcceptedChanges::accepted))]
+#[tactic(auto, using(reg_calls::proofs::AcceptedChanges::accepted))]
 fn apply_one(hive: &mut Hive, change: Change) -> Result<()>
     ensures { OnOk result (length (view_of hive.new).journal ≡ length (view_of hive.old).journal + 1) }
 {

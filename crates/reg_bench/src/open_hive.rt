@@ -105,7 +105,7 @@ impl OpenHive {
     }
 
     /// Makes a change, which is an entry more. A handle that it opens is a spare one.
-    #[tactic(auto, using(crate::proofs::AcceptedChanges::accepted))]
+    #[tactic(auto, using(reg_calls::proofs::AcceptedChanges::accepted))]
     fn change(&mut self, change: Change) -> Result<()>
         ensures { OnOk result (length (view_of self.new.hive).journal ≡ length (view_of self.old.hive).journal + 1) }
     {

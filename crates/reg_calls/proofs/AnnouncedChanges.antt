@@ -9,23 +9,29 @@ use Rattle.reg_model.specs.declared.filters.TheConstants.{NAME, LAST_SET, SECURI
 use Rattle.reg_model.specs.declared.call.Change.{Change}
 use Rattle.reg_model.specs.declared.call.Change.TheVariants.{OpenRoot, OpenKey, CreateKey, SetValue, DeleteValue, DeleteKey, DeleteTree, SetSecurity, Notify, Close}
 use Rattle.reg_model.specs.Worlds.{Handle, look, path_at, path_from, same_path}
-use Rattle.reg_model.specs.Watches.{Watch, Event, Ending, event_at, few_ending, few_events, few_makings, few_removals, cleared, removes, closing, watch_of}
+use Rattle.reg_model.specs.Watches.{Watch, Event, Ending, event_at, reason, few_ending, few_events, few_makings, few_removals, cleared, removes, closing, watch_of}
 use Rattle.reg_model.specs.Calls.{entry_due}
-use Rattle.reg_model.proofs.AcceptedCalls.{Target}
+use Rattle.reg_model.specs.Causes.{change_cause}
+use Rattle.reg_model.proofs.AcceptedCalls.{Target, set-met, drop-met, secure-met}
 use Rattle.reg_calls.specs.declared.store.Store.{Store}
 use Rattle.reg_calls.specs.declared.announced.Announced.{Announced}
 use Rattle.reg_calls.specs.declared.announced.Announced.TheVariants.{Nothing, Closes}
+use Rattle.reg_calls.specs.declared.set_value.SetValue.{SetValue as ValueFound}
+use Rattle.reg_calls.specs.declared.delete_value.DeleteValue.{DeleteValue as RemovalFound}
+use Rattle.reg_calls.specs.declared.set_security.SetSecurity.{SetSecurity as SecurityFound}
 use Rattle.reg_calls.specs.declared.open_root.OpenRoot.{OpenRoot as RootFound}
 use Rattle.reg_calls.specs.declared.open_key.OpenKey.{OpenKey as KeyFound}
 use Rattle.reg_calls.specs.declared.notify.Notify.{Notify as WatchFound}
 use Rattle.reg_calls.specs.declared.changes.Admitted.{Admitted}
 use Rattle.reg_calls.specs.declared.changes.Admitted.TheVariants.{OpenRoot as RootAdmitted, OpenKey as KeyAdmitted, Notify as WatchAdmitted}
+use Rattle.reg_calls.specs.declared.changes.Admitted.TheVariants.{SetValue as SetAdmitted, DeleteValue as RemovalAdmitted, SetSecurity as SecurityAdmitted}
 use Rattle.reg_calls.specs.Internal.Stores.{at, world_of, IsTarget}
 use Rattle.reg_calls.specs.Internal.Admissions.{Admits}
 use Rattle.reg_calls.specs.Internal.Announcements.{ending_in, HasKinds, IsAnnounced}
+use Rattle.reg_calls.specs.Internal.QuietKeys.{IsOwnEvent}
 use Rattle.reg_calls.proofs.FoundTrees.{has-names, from-nowhere}
 use Rattle.reg_calls.proofs.StoreAfterChange.{with-names}
-use Rattle.reg_calls.proofs.ToldWatches.{nothing-ends}
+use Rattle.reg_calls.proofs.ToldWatches.{nothing-ends, Agree, agree-all}
 
 -- ---- one event
 
@@ -76,7 +82,7 @@ module _ (n : ℕ) (store : Store) (session : ℕ) where
     pub announced-as : (a : Announced) → HasKinds a → ((moment : ℕ) → ending_in a n ≡ few change moment) → IsAnnounced n store session change a
     announced-as a kinds ends = record {
       kinds = kinds;
-      ends = λ moment some. ends moment;
+      ends = λ moment. agree-all (ending_in a n) (few change moment) (λ v. ap (λ (x : Ending). reason x v) (ends moment)) store.watches.pending;
       spares = λ moment v is. no-watch v (sym (asks moment) ∙ is);
     }
 
@@ -87,19 +93,31 @@ module _ (n : ℕ) (store : Store) (session : ℕ) where
   -- ---- nothing
 
   pub none-announced : (change : Change) → store.watches.pending ≡ [] → IsAnnounced n store session change Nothing
-  none-announced change none = record { kinds = tt; ends = λ moment some. absurd (some none); spares = λ moment v is. nothing-ends n v }
+  none-announced change none = record {
+    kinds = tt;
+    ends = λ moment. subst (λ (vs : List Watch). Agree (ending_in Nothing n) (few change moment) vs) (sym none) tt;
+    spares = λ moment v is. nothing-ends n v;
+  }
+
+  -- a change by which no watch at all is ended
+  as-nothing : (change : Change) → ((moment : ℕ) → ending_in Nothing n ≡ few change moment) → IsAnnounced n store session change Nothing
+  as-nothing change same = record {
+    kinds = tt;
+    ends = λ moment. agree-all (ending_in Nothing n) (few change moment) (λ v. ap (λ (x : Ending). reason x v) (same moment)) store.watches.pending;
+    spares = λ moment v is. nothing-ends n v;
+  }
 
   pub root-announced : (mask : ℕ) → IsAnnounced n store session (OpenRoot mask) Nothing
   unfolding few_ending few_events removes closing
-  root-announced mask = record { kinds = tt; ends = λ moment some. refl; spares = λ moment v is. nothing-ends n v }
+  root-announced mask = as-nothing (OpenRoot mask) (λ moment. refl)
 
   pub open-announced : (h : ℕ) (path : List ℕ) (mask : ℕ) → IsAnnounced n store session (OpenKey h path mask) Nothing
   unfolding few_ending few_events removes closing
-  open-announced h path mask = record { kinds = tt; ends = λ moment some. refl; spares = λ moment v is. nothing-ends n v }
+  open-announced h path mask = as-nothing (OpenKey h path mask) (λ moment. refl)
 
   pub notify-announced : (h filter : ℕ) (subtree : Bool) → IsAnnounced n store session (Notify h filter subtree) Nothing
   unfolding few_ending few_events removes closing
-  notify-announced h filter subtree = record { kinds = tt; ends = λ moment some. refl; spares = λ moment v is. nothing-ends n v }
+  notify-announced h filter subtree = as-nothing (Notify h filter subtree) (λ moment. refl)
 
   pub close-announced : (h : ℕ) → IsAnnounced n store session (Close h) (Closes h)
   unfolding few_ending few_events removes closing watch_of
@@ -127,11 +145,8 @@ module _ (n : ℕ) (store : Store) (session : ℕ) where
     -- no key is missing
     pub there-announced : lost ≡ [] → IsAnnounced n store session (CreateKey h path mask given) Nothing
     unfolding few_ending few_events removes closing
-    there-announced none = record {
-      kinds = tt;
-      ends = λ moment some. λ i. record { by = n; events = few_makings (sym none i) last; removes = λ q. false; closed = None };
-      spares = λ moment v is. nothing-ends n v;
-    }
+    there-announced none =
+        as-nothing (CreateKey h path mask given) (λ moment. λ i. record { by = n; events = few_makings (sym none i) last; removes = λ q. false; closed = None })
 
     -- the place of the last one that is there, by the names that are missing behind it
     pub last-at : (text rest : List ℕ) → path_of text ≡ path_from session h hs path → path_of rest ≡ lost → (p : Path) →
@@ -213,6 +228,54 @@ module _ (n : ℕ) (store : Store) (session : ℕ) where
         due =
             (λ i. record { by = n; events = few_removals tree (own i) ++ cleared tree (own i); removes = is_under (own i); closed = None })
             ∙ ap tree-ends (ap (λ (x : List ℕ). length x == 0) (sym none))
+
+-- ---- changes that are one event of their handle's key
+
+module _ (n : ℕ) (store : Store) (session h : ℕ) where
+  pub set-own : (name : List ℕ) (kind : ℕ) (bytes : List ℕ) → change_cause (at n store) session (SetValue h name kind bytes) 0 ≡ None →
+      IsOwnEvent n store session (SetValue h name kind bytes) (record { handle = h; bits = LAST_SET })
+  unfolding few_ending few_events removes closing watch_of
+  set-own name kind bytes c =
+      let m = set-met (at n store) session h name kind bytes 0 c in
+      record { target = target-of store session h m.target; ends = λ moment. refl; asks = λ moment. refl }
+
+  pub drop-own : (name : List ℕ) → change_cause (at n store) session (DeleteValue h name) 0 ≡ None →
+      IsOwnEvent n store session (DeleteValue h name) (record { handle = h; bits = LAST_SET })
+  unfolding few_ending few_events removes closing watch_of
+  drop-own name c =
+      let m = drop-met (at n store) session h name 0 c in
+      record { target = target-of store session h m.target; ends = λ moment. refl; asks = λ moment. refl }
+
+  pub secure-own : (descriptor : List ℕ) → change_cause (at n store) session (SetSecurity h descriptor) 0 ≡ None →
+      IsOwnEvent n store session (SetSecurity h descriptor) (record { handle = h; bits = SECURITY })
+  unfolding few_ending few_events removes closing watch_of
+  secure-own descriptor c =
+      let m = secure-met (at n store) session h descriptor 0 c in
+      record { target = target-of store session h m.target; ends = λ moment. refl; asks = λ moment. refl }
+
+-- the same, as they were admitted
+
+module _ (entries : ℕ) (store : Store) (session : ℕ) (change : Change) where
+  pub set-admitted-own : (found : ValueFound) → Admits entries store session change (SetAdmitted found) →
+      IsOwnEvent entries store session change (record { handle = found.handle; bits = LAST_SET })
+  set-admitted-own found a =
+      let at_found = subst (λ (h : ℕ). IsOwnEvent entries store session (SetValue a.0 found.name.now found.kind found.bytes.now) (record { handle = h; bits = LAST_SET }))
+      (sym a.2.by) (set-own entries store session a.0 found.name.now found.kind found.bytes.now a.2.clear) in
+      subst (λ (x : Change). IsOwnEvent entries store session x (record { handle = found.handle; bits = LAST_SET })) (sym a.1) at_found
+
+  pub drop-admitted-own : (found : RemovalFound) → Admits entries store session change (RemovalAdmitted found) →
+      IsOwnEvent entries store session change (record { handle = found.handle; bits = LAST_SET })
+  drop-admitted-own found a =
+      let at_found = subst (λ (h : ℕ). IsOwnEvent entries store session (DeleteValue a.0 a.1) (record { handle = h; bits = LAST_SET }))
+      (sym a.3.by) (drop-own entries store session a.0 a.1 a.3.clear) in
+      subst (λ (x : Change). IsOwnEvent entries store session x (record { handle = found.handle; bits = LAST_SET })) (sym a.2) at_found
+
+  pub secure-admitted-own : (found : SecurityFound) → Admits entries store session change (SecurityAdmitted found) →
+      IsOwnEvent entries store session change (record { handle = found.handle; bits = SECURITY })
+  secure-admitted-own found a =
+      let at_found = subst (λ (h : ℕ). IsOwnEvent entries store session (SetSecurity a.0 found.descriptor.now) (record { handle = h; bits = SECURITY }))
+      (sym a.2.by) (secure-own entries store session a.0 found.descriptor.now a.2.clear) in
+      subst (λ (x : Change). IsOwnEvent entries store session x (record { handle = found.handle; bits = SECURITY })) (sym a.1) at_found
 
 -- ---- changes that end no watch, as they were admitted
 

@@ -38,6 +38,13 @@ use Rattle.reg_calls.specs.Views.{HiveInvariant, View, view_with, state, IsHive,
 pub from-zero : {base n many : ℕ} → base ≡ 0 → n ≡ base + many → n ≡ many
 from-zero zero is = omega (arith, zero, is)
 
+-- the number after that of the last entry
+pub one-more : (es : List Entry) (e : Entry) {n : ℕ} {all : List Entry} → n ≡ length es → all ≡ es ++ e ∷ [] → n + 1 ≡ length all
+one-more es e is more =
+    let l = length-append es (e ∷ []) in
+    let m = ap (λ (x : List Entry). length x) more in
+    omega (arith, l, m, is)
+
 pub entry-from-zero : (n : ℕ) (es : List Entry) {base : ℕ} {o : Option Entry} → base ≡ 0 → o ≡ cond (nat_lt n base) None (slice_get es (n - base)) → o ≡ slice_get es n
 entry-from-zero n es zero is = is ∙ ap (λ (b : ℕ). cond (nat_lt n b) None (slice_get es (n - b))) zero ∙ whole
   where
@@ -260,6 +267,13 @@ kept-unchanged {origin = origin} {es = es} kept new room' u more =
     let handles = ap (λ (hs : List Handle). length hs) u.handles in
     let few = kept.room_kept in
     record { hive = subst IsHive (sym (view-unchanged origin es u)) kept.hive; room_kept = omega (arith, handles, few, more); known = u.known }
+
+-- room is kept for more
+pub kept-roomier : {origin : Tree} {es : List Entry} {store : Store} {room : ℕ} → HiveInvariant origin es store room → (es' : List Entry) (room' : ℕ) → es' ≡ es → room ≤ room' →
+    HiveInvariant origin es' store room'
+kept-roomier {origin = origin} {store = store} kept es' room' same more =
+    let few = kept.room_kept in
+    subst (λ (x : List Entry). HiveInvariant origin x store room') (sym same) (record { hive = kept.hive; room_kept = omega (arith, few, more); known = kept.known })
 
 -- the same as the call names its steps
 pub kept-unmade : {origin : Tree} {es : List Entry} {store : Store} {room : ℕ} → HiveInvariant origin es store room → (new : Store) (es' : List Entry) (room' : ℕ) →

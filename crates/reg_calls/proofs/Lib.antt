@@ -15,3 +15,7 @@ pub mod PathFronts
 pub mod ToldWatches
 pub mod AnnouncedChanges
 pub mod KeysBelow
+pub mod AcceptedChanges
+pub mod RememberedEvents
+pub mod QuietChanges
+pub mod HandlesLead

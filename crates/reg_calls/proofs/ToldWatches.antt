@@ -1,19 +1,21 @@
 -- What is announced of a change, and what its watches are told.
 use Rattle.std.proofs.Common.{◌≡◌, ◌≢◌, ℕ, Bool, true, false, not, cond, eqb, is_some, List, [], ◌∷◌, ◌++◌, filter, Option, Some, None, refl, sym, ap, ◌∙◌, subst}
 use Rattle.std.specs.Prelude.{get_or}
+use Rattle.std.specs.List.{AllByRecursion}
 use Rattle.std.proofs.lemmas.List.{append-nil}
 use Rattle.std.proofs.lemmas.List.Elements.{filter-append, filter_map-append}
 use Rattle.reg_model.specs.declared.call.Change.{Change}
 use Rattle.reg_model.specs.declared.reply.ChangeReply.{ChangeReply}
 use Rattle.reg_model.specs.declared.notice.Notice.{Notice}
 use Rattle.reg_model.specs.declared.notice.Reason.{Reason}
-use Rattle.reg_model.specs.Watches.{Watch, Ending, reason, stays, notice_for, notice_to, notices}
+use Rattle.reg_model.specs.Watches.{Watch, Ending, few_ending, reason, stays, notice_for, notice_to, notices}
+use Rattle.reg_model.specs.Calls.{entry_due}
 use Rattle.reg_notify.specs.Tables.{Table, told_to}
 use Rattle.reg_notify.specs.Asked.{Fires, Adds}
 use Rattle.reg_calls.specs.declared.store.Store.{Store}
 use Rattle.reg_calls.specs.declared.announced.Announced.{Announced}
-use Rattle.reg_calls.specs.declared.announced.Announced.TheVariants.{Nothing}
-use Rattle.reg_calls.specs.Internal.Stores.{Asks, GoesOver, IsDone, IsCarriedOut}
+use Rattle.reg_calls.specs.declared.announced.Announced.TheVariants.{Nothing, Changes, Closes}
+use Rattle.reg_calls.specs.Internal.Stores.{at, world_of, Asks, GoesOver, IsDone, IsCarriedOut}
 use Rattle.reg_calls.specs.Internal.Announcements.{ending_in, IsAnnounced}
 
 -- ---- endings that end nothing
@@ -50,21 +52,32 @@ nothing-fires announced by w is = subst (λ (a : Announced). Fires (ending_in a 
 
 -- ---- an ending that is announced, in the place of the one due
 
-same-stay : (x y : Ending) (vs : List Watch) → (vs ≢ [] → x ≡ y) → filter (stays x) vs ≡ filter (stays y) vs
+-- both end some watches for the same reasons
+abbrev pub Agree : Ending → Ending → List Watch → Type 0
+Agree x y vs = AllByRecursion (λ (v : Watch). reason x v ≡ reason y v) vs
+
+pub agree-all : (x y : Ending) → ((v : Watch) → reason x v ≡ reason y v) → (vs : List Watch) → Agree x y vs
+agree-all x y same [] = tt
+agree-all x y same (v ∷ vs) = (same v, agree-all x y same vs)
+
+same-stay : (x y : Ending) (vs : List Watch) → Agree x y vs → filter (stays x) vs ≡ filter (stays y) vs
 same-stay x y [] same = refl
-same-stay x y (v ∷ vs) same = ap (λ (z : Ending). filter (stays z) (v ∷ vs)) (same (λ e. absurd (cc)))
+same-stay x y (v ∷ vs) same = rw (same.0, same-stay x y vs same.1) refl
 
-same-told : (session : ℕ) (x y : Ending) (vs : List Watch) → (vs ≢ [] → x ≡ y) → notices session x vs ≡ notices session y vs
-same-told session x y [] same = refl
-same-told session x y (v ∷ vs) same = ap (λ (z : Ending). notices session z (v ∷ vs)) (same (λ e. absurd (cc)))
+same-told : (session : ℕ) (x y : Ending) → x.by ≡ y.by → (vs : List Watch) → Agree x y vs → notices session x vs ≡ notices session y vs
+same-told session x y by [] same = refl
+same-told session x y by (v ∷ vs) same = rw (one, same-told session x y by vs same.1) refl
+  where
+    one : notice_to session x v ≡ notice_to session y v
+    one = λ i. cond (eqb v.session session) (notice_for v.number (by i) (same.0 i)) None
 
-module _ (x y : Ending) (old mid new : Table) (same : old.pending ≢ [] → x ≡ y) (fires : Fires x mid new) where
+module _ (x y : Ending) (old mid new : Table) (by : x.by ≡ y.by) (same : Agree x y old.pending) (fires : Fires x mid new) where
   over-none : mid ≡ old → GoesOver y None old new
   over-none e =
       let f : Fires x old new = subst (λ (w : Table). Fires x w new) e fires in
       record {
         pending = f.pending ∙ same-stay x y old.pending same ∙ sym (append-nil (filter (stays y) old.pending));
-        told = λ session. f.told session ∙ ap (λ (more : List Notice). told_to old session ++ more) (same-told session x y old.pending same);
+        told = λ session. f.told session ∙ ap (λ (more : List Notice). told_to old session ++ more) (same-told session x y by old.pending same);
         taken = f.taken;
       }
 
@@ -86,7 +99,7 @@ module _ (x y : Ending) (old mid new : Table) (same : old.pending ≢ [] → x �
           ∙ ap (λ (vs : List Watch). told_to mid session ++ notices session x vs) adds.pending
           ∙ ap (λ (more : List Notice). told_to mid session ++ more)
           (filter_map-append (notice_to session x) old.pending (v ∷ []) ∙ ap (λ (more : List Notice). notices session x old.pending ++ more) (told-one session)
-          ∙ append-nil (notices session x old.pending) ∙ same-told session x y old.pending same)
+          ∙ append-nil (notices session x old.pending) ∙ same-told session x y by old.pending same)
           ∙ ap (λ (told : List (List Notice)). get_or told session [] ++ notices session y old.pending) adds.told;
       taken = fires.taken ∙ adds.taken;
     }
@@ -94,6 +107,13 @@ module _ (x y : Ending) (old mid new : Table) (same : old.pending ≢ [] → x �
   over : (asked : Option Watch) → ((v : Watch) → asked ≡ Some v → reason x v ≡ None) → Asks asked old mid → GoesOver y asked old new
   over None spares asks = over-none asks
   over (Some v) spares asks = over-some v (spares v refl) asks
+
+numbered-so : (a : Announced) (store : Store) (session moment n : ℕ) (change : Change) →
+    (ending_in a n).by ≡ (few_ending (world_of store) (entry_due (at n store) session moment change)).by
+unfolding few_ending
+numbered-so Nothing store session moment n change = refl
+numbered-so (Changes events removed) store session moment n change = refl
+numbered-so (Closes handle) store session moment n change = refl
 
 -- a change that was made, and the watches told that it ends
 pub carried-out : (old mid new : Store) (session moment n : ℕ) (change : Change) (told : ChangeReply) (announced : Announced) → IsDone old mid session moment n change told →
@@ -106,7 +126,7 @@ carried-out old mid new session moment n change told announced done ann tree han
       kept = done.kept;
       grows = done.grows;
       known = done.known;
-      watches = over (ending_in announced n) _ old.watches mid.watches new.watches (ann.ends moment) fires _ (ann.spares moment) done.watches;
+      watches = over (ending_in announced n) _ old.watches mid.watches new.watches (numbered-so announced old session moment n change) (ann.ends moment) fires _ (ann.spares moment) done.watches;
     })
   where
     same : new ≡ record mid { watches = new.watches }

@@ -3,4 +3,5 @@ pub mod Stores
 pub mod DeletedTrees
 pub mod Admissions
 pub mod Announcements
+pub mod QuietKeys
 pub mod Lacks

@@ -1,5 +1,5 @@
 //! What admitted changes do to the watches: found before anything changes, and told once it has.
-ghost use Rattle.std.specs.Prelude.{◌≡◌, ◌<◌, ◌≤◌, ℕ, [], ◌∷◌, None, Ok, Err, false, IfOk, OnErr};
+ghost use Rattle.std.specs.Prelude.{◌≡◌, ◌<◌, ◌≤◌, ◌+◌, ℕ, [], ◌∷◌, None, Ok, Err, false, IfOk, OnOk, OnErr, vec_len};
 ghost use Rattle.reg_model.specs.declared.limits.TheConstants.{SESSIONS_LIMIT};
 ghost use Rattle.reg_model.specs.declared.filters.TheConstants.{EVENTS};
 ghost use Rattle.reg_model.specs.declared.call.Change.{Change as TheChange};
@@ -10,11 +10,15 @@ ghost use Rattle.reg_calls.specs.Shortages.{is_closing};
 ghost use Rattle.reg_calls.specs.Internal.Stores.{IsReady, IsTarget, IsCarried};
 ghost use Rattle.reg_calls.specs.Internal.Admissions.{Admits};
 ghost use Rattle.reg_calls.specs.Internal.Announcements.{ending_in, HasKinds, IsAnnounced};
+ghost use Rattle.reg_calls.specs.Internal.QuietKeys.{AreUnhit, IsOwnEvent};
+ghost use Rattle.reg_calls.specs.declared.store.Store.{Store as StoreOf};
 
 use crate::changes::Admitted;
 use crate::lack::Lack;
+use crate::quiet::{OwnEvent, Quiet, REMEMBERED};
 use crate::store::Store;
 use reg_model::ChangeReply;
+use reg_model::filters::{LAST_SET, SECURITY};
 use reg_notify::{Event, Place, Removed};
 use std::alloc::{AllocError, Global};
 
@@ -47,6 +51,34 @@ pub fn one_event(
     let mut events = Vec::with_capacity(alloc, 1)?;
     events.push(Event { bits, place })?;
     Ok(Announced::Changes { events, removed })
+}
+
+/// The event of the key of its handle that an admitted change is; of no kind where it is none, or not that alone.
+fn own_event(admitted: &Admitted<'_>) -> OwnEvent
+    ensures { (entries session : ℕ) → (store : StoreOf) → (change : TheChange) → Admits entries store session change admitted.now →
+        0 < result.bits → IsOwnEvent entries store session change result }
+{
+    match admitted {
+        Admitted::SetValue(found) => OwnEvent {
+            handle: found.handle,
+            bits: LAST_SET,
+        },
+        Admitted::DeleteValue(found) => OwnEvent {
+            handle: found.handle,
+            bits: LAST_SET,
+        },
+        Admitted::SetSecurity(found) => OwnEvent {
+            handle: found.handle,
+            bits: SECURITY,
+        },
+        Admitted::OpenRoot(_)
+        | Admitted::OpenKey(_)
+        | Admitted::CreateKey(_)
+        | Admitted::DeleteKey(_)
+        | Admitted::DeleteTree(_)
+        | Admitted::Notify(_)
+        | Admitted::Close(_) => OwnEvent { handle: 0, bits: 0 },
+    }
 }
 
 impl Store {
@@ -82,21 +114,26 @@ impl Store {
         one_event(alloc, bits, place, Removed::Nothing)
     }
 
-    /// What an admitted change does to the watches. Where none is pending, nothing is looked up. Its one fault is that memory was
-    /// refused, which it never is for a Close.
+    /// What an admitted change does to the watches. Where none is pending, or it is remembered that such an event hit none, nothing is
+    /// looked up. Its one fault is that memory was refused, which it never is for a Close.
     pub fn announce(
         &self,
+        quiet: &Quiet,
         alloc: Global,
         session: u8,
         admitted: &Admitted<'_>,
     ) -> Result<Announced, AllocError>
-        requires { (entries : ℕ) × (change : TheChange) × Admits entries self.now session change admitted.now }
+        requires admitted { (entries : ℕ) × (change : TheChange) × Admits entries self.now session change admitted.now }
+        requires rows { vec_len quiet.now.rows ≡ REMEMBERED }
         ensures ok { (entries : ℕ) → (change : TheChange) → Admits entries self.now session change admitted.now →
-            IfOk result (λ announced. IsAnnounced entries self.now session change announced) }
+            AreUnhit entries self.now quiet.now → IfOk result (λ announced. IsAnnounced entries self.now session change announced) }
         ensures err { (entries : ℕ) → (change : TheChange) → Admits entries self.now session change admitted.now →
             OnErr result (is_closing change ≡ false) }
     {
         if self.watches.len() == 0 {
+            return Ok(Announced::Nothing);
+        }
+        if quiet.has(own_event(admitted)) {
             return Ok(Announced::Nothing);
         }
         match admitted {
@@ -131,6 +168,7 @@ impl Store {
     /// entry of that number. `Err` says what was lacking, memory or space in the bins; then all is as it was.
     pub fn carry_out(
         &mut self,
+        quiet: &mut Quiet,
         alloc: Global,
         session: u8,
         moment: u64,
@@ -140,16 +178,24 @@ impl Store {
         requires session { session < SESSIONS_LIMIT }
         requires ready { IsReady number self.old }
         requires admitted { (change : TheChange) × Admits number self.old session change admitted }
-        ensures { (change : TheChange) → Admits number self.old session change admitted.entry →
+        requires rows { vec_len quiet.old.rows ≡ REMEMBERED }
+        requires unhit { AreUnhit number self.old quiet.old }
+        ensures rows { vec_len quiet.new.rows ≡ REMEMBERED }
+        ensures unhit { OnOk result (AreUnhit (number + 1) self.new quiet.new) }
+        ensures quiet { OnErr result (quiet.new ≡ quiet.old) }
+        ensures carried { (change : TheChange) → Admits number self.old session change admitted.entry →
             IsCarried self.old self.new session moment number change result }
     {
-        let announced = match self.announce(alloc, session, &admitted) {
+        let announced = match self.announce(quiet, alloc, session, &admitted) {
             Ok(announced) => announced,
             Err(_) => return Err(Lack::Memory),
         };
+        let event = own_event(&admitted);
+        let before = self.watches.len();
         match self.commit(alloc, session, moment, number, admitted) {
             Ok(reply) => {
                 self.tell(announced, number);
+                quiet.follow(event, number, before, self.watches.len());
                 Ok(reply)
             }
             Err(lack) => Err(lack),

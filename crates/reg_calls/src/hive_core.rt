@@ -9,6 +9,7 @@ ghost use Rattle.reg_tree.specs.TreeKeys.{IsWholeTree};
 ghost use Rattle.reg_calls.specs.Shortages.{is_closing};
 ghost use Rattle.reg_calls.specs.Views.{state, IsApplied, IsRead, IsHive, IsNoticeTaken};
 
+use crate::quiet::Quiet;
 use crate::store::Store;
 use reg_arena::Arena;
 use reg_handles::Handles;
@@ -28,10 +29,13 @@ pub struct Core {
     origin: Snapshot<Tree>,
     store: Store,
     journal: Journal,
+    quiet: Quiet,
 }
 
 impl Model for Core {
-    ghost use Rattle.std.specs.Prelude.{◌≡◌};
+    ghost use Rattle.std.specs.Prelude.{◌≡◌, length, vec_len};
+    ghost use Rattle.reg_calls.specs.declared.quiet.TheConstants.{REMEMBERED};
+    ghost use Rattle.reg_calls.specs.Internal.QuietKeys.{AreUnhit};
     ghost use Rattle.reg_calls.specs.Views.{View, HiveInvariant, coded_view, view_with};
 
     ghost Value = { View };
@@ -40,7 +44,8 @@ impl Model for Core {
 
     ghost view = { λ h. view_with h.origin.value.tree h.journal.entries h.store };
 
-    ghost invariant = { λ h. (h.journal.base ≡ 0) × HiveInvariant h.origin.value.tree h.journal.entries h.store h.journal.room };
+    ghost invariant = { λ h. (h.journal.base ≡ 0) × (vec_len h.quiet.rows ≡ REMEMBERED) × AreUnhit (length h.journal.entries) h.store h.quiet
+        × HiveInvariant h.origin.value.tree h.journal.entries h.store h.journal.room };
 }
 
 fn refuse(status: u32) -> ChangeReply
@@ -109,6 +114,7 @@ impl Core {
         let _ = tree.arena();
         let origin = Snapshot::of(&tree);
         let watches = Watches::new(alloc)?;
+        let quiet = Quiet::new(alloc)?;
         Ok(Core {
             alloc,
             origin,
@@ -118,6 +124,7 @@ impl Core {
                 watches,
             },
             journal: Journal::new(alloc),
+            quiet,
         })
     }
 
@@ -201,10 +208,14 @@ impl Core {
             Err(_) => return refuse(NOT_ENOUGH_MEMORY),
         }
         let number = number as u64;
-        match self
-            .store
-            .carry_out(self.alloc, session, moment, number, admitted)
-        {
+        match self.store.carry_out(
+            &mut self.quiet,
+            self.alloc,
+            session,
+            moment,
+            number,
+            admitted,
+        ) {
             Ok(reply) => {
                 // Only for its clauses: what is true of every tree's cells.
                 let _ = self.store.tree.arena();

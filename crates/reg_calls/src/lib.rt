@@ -55,6 +55,7 @@ mod open_root;
 mod queries;
 mod query_info;
 mod query_value;
+mod quiet;
 mod refusal;
 mod replies;
 mod set_security;

@@ -1,5 +1,5 @@
 //! Which keys may be watched: a mark for each key that is.
-ghost use Rattle.std.specs.Prelude.{◌≡◌, ◌<◌, ◌≤◌, ◌==◌, ◌&&◌, ℕ, List, true, OnOk, vec_len};
+ghost use Rattle.std.specs.Prelude.{◌≡◌, ◌<◌, ◌≤◌, ◌==◌, ◌&&◌, ℕ, List, [], true, OnOk, vec_len};
 ghost use Rattle.reg_notify.specs.declared.marks.TheConstants.{MARKS};
 ghost use Rattle.reg_notify.specs.Internal.Marks.{slot_past, slot_from, slot_of, mark_in, is_marked, any_from};
 
@@ -17,7 +17,9 @@ pub struct Marks {
 
 impl Marks {
     /// No marks, and no memory for them yet.
-    pub fn new(alloc: Global) -> Marks {
+    pub fn new(alloc: Global) -> Marks
+        ensures { result.slots.items ≡ [] }
+    {
         Marks {
             slots: Vec::new(alloc),
         }

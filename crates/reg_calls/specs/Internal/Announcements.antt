@@ -1,5 +1,6 @@
 -- What an admitted change does to the watches, as it is found before anything changes.
-use Rattle.std.specs.Prelude.{◌≡◌, ◌≢◌, ◌≤◌, ℕ, All, [], Some, None, false}
+use Rattle.std.specs.Prelude.{◌≡◌, ◌≤◌, ℕ, All, [], Some, None, false}
+use Rattle.std.specs.List.{AllByRecursion}
 use Rattle.reg_heap.specs.Paths.{Path}
 use Rattle.reg_model.specs.declared.filters.TheConstants.{EVENTS}
 use Rattle.reg_model.specs.declared.call.Change.{Change}
@@ -24,11 +25,11 @@ HasKinds Nothing = Unit {0}
 HasKinds (Changes events removed) = All (λ (x : Event). x.bits ≤ EVENTS) events.items
 HasKinds (Closes handle) = Unit {0}
 
--- this is announced of an admitted change: where a watch is pending, the few events that its watches can tell apart, the keys that it
--- removes and the handle that it closes; and nothing that ends the watch that it asks for itself
+-- this is announced of an admitted change: it ends each pending watch as the few events of the change do that its watches can tell
+-- apart, and for the same reason; and it doesn't end the watch that the change asks for itself
 pub record IsAnnounced (entries : ℕ) (store : Store) (session : ℕ) (change : Change) (announced : Announced) : Type 0 where
   pub kinds : HasKinds announced
-  pub ends : (moment : ℕ) → store.watches.pending ≢ [] →
-      ending_in announced entries ≡ few_ending (world_of store) (entry_due (at entries store) session moment change)
+  pub ends : (moment : ℕ) → AllByRecursion (λ (v : Watch). reason (ending_in announced entries) v ≡
+      reason (few_ending (world_of store) (entry_due (at entries store) session moment change)) v) store.watches.pending
   pub spares : (moment : ℕ) (v : Watch) → watch_of (world_of store) (entry_due (at entries store) session moment change) ≡ Some v →
       reason (ending_in announced entries) v ≡ None

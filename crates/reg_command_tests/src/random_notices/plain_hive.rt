@@ -5,11 +5,14 @@ use std::test::Fail;
 
 /// The kinds of events: a key made or removed below one, a value set or removed, a descriptor set.
 const NAME: u32 = 1;
+
 const LAST_SET: u32 = 4;
+
 const SECURITY: u32 = 10;
 
 /// What a filter has one of, and what it may have beside these.
 const KINDS: u32 = 15;
+
 const THREAD_AGNOSTIC: u32 = 0x1000_0000;
 
 /// A key, with the numbers of the names on its path, and whether it has each of two values.
@@ -506,7 +509,11 @@ impl PlainHive {
         for notice in self.notices.iter_mut() {
             if notice.session == session && !notice.is_taken {
                 notice.is_taken = true;
-                writeln!(text, "notice {} {} {}", notice.watch, notice.by, notice.reason)?;
+                writeln!(
+                    text,
+                    "notice {} {} {}",
+                    notice.watch, notice.by, notice.reason
+                )?;
                 return Ok(());
             }
         }

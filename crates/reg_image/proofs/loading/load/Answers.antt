@@ -1,6 +1,7 @@
-use Rattle.std.proofs.Common.{rules, ◌≡◌, ℕ, ◌≤◌, ◌%◌, ◌++◌, Ok, List, length, sym, ap, ◌∙◌, subst}
+use Rattle.std.proofs.Common.{rules, ◌≡◌, ℕ, ◌≤◌, ◌%◌, ◌++◌, Ok, None, List, length, sym, ap, ◌∙◌, subst}
 use Rattle.std.proofs.KnownBytes.{Consumes-trans}
 use Rattle.reg_tree.specs.TreeKeys.{Keys}
+use Rattle.reg_image.specs.declared.LoadFault.TheVariants.{Memory}
 use Rattle.reg_image.specs.Images.{nothing, tree_in, bins_walk}
 use Rattle.reg_image.specs.CrowdedBins.{AreCrowded}
 use Rattle.reg_image.specs.Internal.Stacks.{FailsAs}
@@ -73,3 +74,12 @@ returns-in-Ok-clause-ok g c =
         hive = made.hive;
       },
     )
+
+pub returns-clause-err : goal.returns-clause-err
+returns-clause-err g c =
+    let block = c.in_ok-block.block in
+    let passed = c.in_ok-block.ensures nothing in
+    let bins = c.in_ok-bins.bins.items in
+    let good = block-good _ _ _ _ passed in
+    let r = refused-at-bins c.fill.new.buffer (search rules) block passed bins Memory None good.small c.in_ok-bins.ensures.ok.1 tt in
+    (c.fill.new.buffer ++ bins, Consumes-trans _ _ _ c.fill.new.buffer bins c.in_ok-fill.ensures.ok c.in_ok-bins.ensures.ok.0, r.0, r.1)

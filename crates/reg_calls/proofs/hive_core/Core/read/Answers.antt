@@ -6,9 +6,9 @@ use Rattle.reg_calls.proofs.HiveInvariantLemmas.{state-view}
 use Rattle.reg_calls.proofs.hive_core.Core.read.Goals as goal
 
 pub answer-body-requires : goal.answer-body-requires
-answer-body-requires c = c.self.invariant.1.known
+answer-body-requires c = c.self.invariant.3.known
 
 pub returns-clause-body : goal.returns-clause-body
 returns-clause-body c =
-    subst (λ (s : State). IsRead no_callbacks s c.args.session c.args.query.now c.answer-body.result) (sym (state-view _ c.self.invariant.1 c.self.view_is))
+    subst (λ (s : State). IsRead no_callbacks s c.args.session c.args.query.now c.answer-body.result) (sym (state-view _ c.self.invariant.3 c.self.view_is))
     (c.answer-body.ensures (length c.self.inside.journal.entries))

@@ -1,0 +1,111 @@
+//! Hives whose keys are watched.
+ghost use Rattle.std.specs.Prelude.{◌≡◌, ◌+◌, ◌<◌, IfOk, OnOk, [], length};
+ghost use Rattle.reg_calls.specs.HiveView.{view_of};
+ghost use Rattle.reg_model.specs.declared.limits.TheConstants.{SESSIONS_LIMIT};
+
+use anyhow::{Result, bail};
+use reg_calls::Hive;
+use reg_model::filters::LAST_SET;
+use reg_model::{Bytes, Change};
+use std::alloc::Global;
+
+/// Every right.
+const ALL_RIGHTS: u32 = 0xF_003F;
+
+/// A hive of one root, in which nothing was changed.
+pub fn new_hive(alloc: Global) -> Result<Hive>
+    ensures { IfOk result (λ hive. (view_of hive).journal ≡ []) }
+{
+    Ok(Hive::new(alloc, b"ROOT", &[1], 0)?)
+}
+
+/// Makes a change of a session, which is accepted, and so is an entry more. The number of a handle that it opens is that of the entry.
+#[tactic(auto, using(reg_calls::proofs::AcceptedChanges::accepted))]
+pub fn apply_one(hive: &mut Hive, session: u8, change: Change) -> Result<()>
+    requires { session < SESSIONS_LIMIT }
+    ensures { OnOk result (length (view_of hive.new).journal ≡ length (view_of hive.old).journal + 1) }
+{
+    if hive.apply(session, 1, change).status != 0 {
+        bail!("a change was refused");
+    }
+    Ok(())
+}
+
+/// Opens a handle of a session to the root, and answers its number.
+pub fn open_root(hive: &mut Hive, session: u8) -> Result<u64>
+    requires { session < SESSIONS_LIMIT }
+{
+    let handle = hive.len() as u64;
+    apply_one(hive, session, Change::OpenRoot { mask: ALL_RIGHTS })?;
+    Ok(handle)
+}
+
+/// Opens a handle of a session to a key, which is made where it isn't there, and answers its number.
+pub fn open(alloc: Global, hive: &mut Hive, session: u8, above: u64, path: &str) -> Result<u64>
+    requires { session < SESSIONS_LIMIT }
+{
+    let handle = hive.len() as u64;
+    let change = Change::CreateKey {
+        handle: above,
+        path: Bytes::from_slice(alloc, path.as_bytes())?,
+        mask: ALL_RIGHTS,
+        descriptor: None,
+    };
+    apply_one(hive, session, change)?;
+    Ok(handle)
+}
+
+/// Asks so many times to be told of a value that is set, by a handle of a session.
+pub fn watch(hive: &mut Hive, session: u8, handle: u64, count: usize) -> Result<()>
+    requires { session < SESSIONS_LIMIT }
+{
+    for _watch in 0..count {
+        let change = Change::Notify {
+            handle,
+            filter: LAST_SET,
+            subtree: false,
+        };
+        apply_one(hive, session, change)?;
+    }
+    Ok(())
+}
+
+/// A set of a value of four bytes by a handle.
+pub fn set(alloc: Global, handle: u64) -> Result<Change> {
+    Ok(Change::SetValue {
+        handle,
+        name: Bytes::from_slice(alloc, b"value")?,
+        kind: 4,
+        bytes: Bytes::from_slice(alloc, &[1, 2, 3, 4])?,
+    })
+}
+
+/// So many sets of a value of four bytes by a handle.
+pub fn sets(alloc: Global, handle: u64, count: usize) -> Result<Vec<Change>> {
+    let mut changes = Vec::new(alloc);
+    for _set in 0..count {
+        changes.push(set(alloc, handle)?)?;
+    }
+    Ok(changes)
+}
+
+/// Makes changes of session 0, each of which is accepted.
+pub fn apply_all(hive: &mut Hive, changes: Vec<Change>) -> Result<()> {
+    for change in changes {
+        apply_one(hive, 0, change)?;
+    }
+    Ok(())
+}
+
+/// Takes all notices of a session, and answers how many there were, at most so many.
+pub fn take_all(hive: &mut Hive, session: u8, most: usize) -> usize
+    requires { session < SESSIONS_LIMIT }
+{
+    let mut taken: usize = 0;
+    for _notice in 0..most {
+        if hive.take_notice(session).is_some() {
+            taken = taken.saturating_add(1);
+        }
+    }
+    taken
+}
