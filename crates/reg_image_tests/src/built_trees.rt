@@ -118,6 +118,7 @@ fn build_three(alloc: Global, tree: &mut Tree) -> Result<(), Fail> {
         0x0102_0304_0506_0708,
     )?;
     let _node = build_below(alloc, tree, first, below)?;
+    let root = tree.root();
     let last = new_key(b"A", 0, b"\x05\x06", b"\xfe\x01", 0)?;
     let _node = build_below(alloc, tree, root, last)?;
     Ok(())
