@@ -121,11 +121,12 @@ unfolding on_lines
 notify-subtree = refl
 
 -- what no filter has is a number too, which the call refuses
-notify-largest : meaning_of (codes "notify 18446744073709551615 4294967295 001") ≡ asks (Change (Notify 18446744073709551615 4294967295 true))
+notify-largest : meaning_of (codes "notify 18446744073709551615 4294967295 1") ≡ asks (Change (Notify 18446744073709551615 4294967295 true))
 unfolding on_lines
 notify-largest = refl
 
-notify-zeros : meaning_of (codes "notify 00 00 00") ≡ asks (Change (Notify 0 0 false))
+-- leading zeros are allowed in the handle and in the filter
+notify-zeros : meaning_of (codes "notify 00 00 0") ≡ asks (Change (Notify 0 0 false))
 unfolding on_lines
 notify-zeros = refl
 
@@ -340,6 +341,19 @@ bad-notify_filter = refl
 bad-notify_subtree : meaning_of (codes "notify 0 4 2") ≡ bad
 unfolding on_lines
 bad-notify_subtree = refl
+
+-- the word for the subtree has no leading zeros
+bad-notify_one : meaning_of (codes "notify 0 4 01") ≡ bad
+unfolding on_lines
+bad-notify_one = refl
+
+bad-notify_one_longer : meaning_of (codes "notify 0 4 001") ≡ bad
+unfolding on_lines
+bad-notify_one_longer = refl
+
+bad-notify_zero : meaning_of (codes "notify 0 4 00") ≡ bad
+unfolding on_lines
+bad-notify_zero = refl
 
 bad-notify_dash : meaning_of (codes "notify 0 4 -") ≡ bad
 unfolding on_lines

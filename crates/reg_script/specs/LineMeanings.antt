@@ -1,5 +1,5 @@
 -- What each line of a script means (this project's own rules of the script).
-use Rattle.std.specs.Prelude.{ℕ, ◌-◌, ◌==◌, Bool, if◌then◌else◌, List, [], ◌∷◌, codes, Option, Some, None, option_map, option_and_then, unwrap_or}
+use Rattle.std.specs.Prelude.{ℕ, ◌-◌, ◌==◌, Bool, true, false, if◌then◌else◌, List, [], ◌∷◌, codes, Option, Some, None, option_map, option_and_then, unwrap_or}
 use Rattle.std.specs.Str.{bytes_eq}
 use Rattle.reg_model.specs.declared.limits.TheConstants.{SESSIONS_LIMIT}
 use Rattle.reg_model.specs.declared.call.Call.{Call}
@@ -51,9 +51,12 @@ session_number_of = number_of (SESSIONS_LIMIT - 1)
 unfoldable pub room_of : List ℕ → Option (Option ℕ)
 room_of word = if bytes_eq word (codes "-") then Some None else option_map Some (small_number_of word)
 
--- whether keys below are watched too: the number 0 or 1
+-- whether keys below are watched too: just the word `0` or the word `1`, so no leading zeros
 unfoldable pub subtree_of : List ℕ → Option Bool
-subtree_of word = option_map (λ n. n == 1) (number_of 1 word)
+subtree_of word =
+    if bytes_eq word (codes "0") then Some false
+    else if bytes_eq word (codes "1") then Some true
+    else None
 
 -- the descriptor that the words behind a key to be made give it: none where there is no word, or the bytes of one DATA word
 unfoldable pub given_of : List (List ℕ) → Option (Option (List ℕ))

@@ -166,12 +166,18 @@ pub fn room(word: &[u8]) -> Result<Option<u32>, ParseFault>
     Ok(Some(small_number(word)?))
 }
 
-/// 1 where the keys below are watched too, else 0.
+/// `1` where the keys below are watched too, `0` where they aren't, and no other word: no leading zeros.
 #[tactic(auto, unfolding(crate::specs::LineMeanings::subtree_of))]
 pub fn subtree(word: &[u8]) -> Result<bool, ParseFault>
     ensures { result ≡ ok_or (subtree_of word.now) ParseFault.Form }
 {
-    Ok(number(word, 1)? == 1)
+    if word == b"0".as_slice() {
+        return Ok(false);
+    }
+    if word == b"1".as_slice() {
+        return Ok(true);
+    }
+    Err(ParseFault::Form)
 }
 
 /// The value of a hexadecimal digit of either case.

@@ -159,7 +159,7 @@ notify 0 0 0 -> 87
 notify 9 0 0 -> 6
 root 16 -> 0 handle 1
 notify 1 4 1 -> 0 watch 2
-notify 01 0268435471 01 -> 0 watch 3
+notify 01 0268435471 1 -> 0 watch 3
 notify 1 268435456 0 -> 87
 notify 1 16 0 -> 87
 notify 1 20 0 -> 87
@@ -172,9 +172,22 @@ notice -> notice 2 4 matched
 notice -> notice 3 4 matched
 notice -> notice none";
 
+// the word for the subtree has no leading zeros, as other numbers may have
+const SUBTREE_WORDS: &str = "\
+root 983103 -> 0 handle 0
+notify 0 4 01 -> bad
+notify 0 4 00 -> bad
+notify 0 4 001 -> bad
+notify 00 04 1 -> 0 watch 1
+notify 00 04 0 -> 0 watch 2
+set 0 = 4 x01 -> 0
+notice -> notice 1 3 matched
+notice -> notice 2 3 matched
+notice -> notice none";
+
 #[test]
 fn sends_each_notification_once(rt: HostRuntime) -> Result<(), Fail> {
-    for table in [CHANGES, TREES, SESSIONS, REFUSALS] {
+    for table in [CHANGES, TREES, SESSIONS, REFUSALS, SUBTREE_WORDS] {
         check_table(&rt, rt.alloc(), table)?;
     }
     Ok(())
