@@ -1,11 +1,11 @@
 -- Where handles lead: after an accepted change to no key that they didn't lead to before.
 use Rattle.std.proofs.Common.{◌≡◌, ℕ, ◌<◌, Bool, true, false, not, cond, eqb, List, [], ◌∷◌, ◌++◌, length, Option, Some, None, refl, sym, ap, ◌∙◌, subst, arith}
-use Rattle.std.specs.Prelude.{◌==◌, option_map, All}
+use Rattle.std.specs.Prelude.{◌==◌, option_map}
 use Rattle.std.proofs.lemmas.Bool.{ne_eqb, eqb-true}
 use Rattle.std.proofs.lemmas.List.Elements.{recursion_from_All}
 use Rattle.reg_heap.specs.Paths.{Path}
 use Rattle.reg_heap.specs.Edits.{is_within, is_under}
-use Rattle.reg_model.specs.Worlds.{World, Handle, Destination, At, Deleted, numbered, owned, look, path_at, path_from, path_in, opened, closed, destination_past, turned_past}
+use Rattle.reg_model.specs.Worlds.{World, Handle, Destination, At, Deleted, numbered, path_at, path_from, path_in, opened, closed, destination_past, turned_past}
 use Rattle.reg_model.specs.Worlds.{same_path, without_branch, without_contents, after}
 use Rattle.reg_model.specs.declared.reply.Entry.{Entry}
 use Rattle.reg_model.specs.declared.call.Change.{Change}

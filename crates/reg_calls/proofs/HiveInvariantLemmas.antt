@@ -287,7 +287,8 @@ kept-unmade {origin = origin} kept new es' room' session moment n change lack ma
 pub accepted : {origin : Tree} {es : List Entry} {store : Store} {room : ℕ} (kept : HiveInvariant origin es store room) (v new : View) →
     view_with origin es store ≡ v → (session moment : ℕ) (change : Change) (told : ChangeReply) →
     told ≡ reply_to (at (length es) store) session change → new.journal ≡ es ++ entry_with es session moment change told ∷ [] → new.origin ≡ origin →
-    new.watches.taken ≡ store.watches.taken → length store.tree.bins.bytes ≤ length new.keys.bins.bytes → length new.keys.bins.bytes ≤ length store.tree.bins.bytes + growth_of change → IsHive new → IsAccepted v new session moment change told
+    new.watches.taken ≡ store.watches.taken → length store.tree.bins.bytes ≤ length new.keys.bins.bytes →
+    length new.keys.bins.bytes ≤ length store.tree.bins.bytes + growth_of change → IsHive new → IsAccepted v new session moment change told
 accepted {origin = origin} {es = es} {store = store} kept v new view_is session moment change told reply journal same taken kept_bins grows hive =
     let says = reply ∙ ap (λ (s : State). reply_to s session change) (sym (state-kept kept)) in
     subst (λ (w : View). IsAccepted w new session moment change told) view_is (record {

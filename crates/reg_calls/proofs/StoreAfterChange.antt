@@ -102,7 +102,8 @@ module _ (n : ℕ) (store : Store) (session : ℕ) (ready : IsReady n store) whe
   root-room mask c = let m = root-met s session mask 0 c in room-few m.room
 
   pub root-done : (moment mask : ℕ) (table : Table Node) (text : List ℕ) → text ≡ [] → added table mask text → (told : ChangeReply) →
-      told ≡ opening None → KnowsKeys (record { tree = store.tree; handles = table; watches = store.watches }) → IsDone store (record { tree = store.tree; handles = table; watches = store.watches }) session moment n (OpenRoot mask) told
+      told ≡ opening None → KnowsKeys (record { tree = store.tree; handles = table; watches = store.watches }) →
+      IsDone store (record { tree = store.tree; handles = table; watches = store.watches }) session moment n (OpenRoot mask) told
   unfolding after reply_to watch_of
   root-done moment mask table text empty add told e known =
       let handles = add ∙ ap (λ (t : List ℕ). hs ++ record { number = n; session = session; mask = mask; destination = At (path_of t) } ∷ []) empty in
@@ -138,7 +139,8 @@ module _ (n : ℕ) (store : Store) (session : ℕ) (ready : IsReady n store) whe
         keys.tree ≡ with_keys tree (path_at session h hs) (path_of path) given moment → added table mask text → (told : ChangeReply) →
         told ≡ opening (Some (disposition_of (missing tree (path_at session h hs) (path_of path)))) →
         length store.tree.bins.bytes ≤ length keys.bins.bytes → length keys.bins.bytes ≤ length store.tree.bins.bytes + GROWTH_BOUND →
-        KnowsKeys (record { tree = keys; handles = table; watches = store.watches }) → IsDone store (record { tree = keys; handles = table; watches = store.watches }) session moment n (CreateKey h path mask given) told
+        KnowsKeys (record { tree = keys; handles = table; watches = store.watches }) →
+        IsDone store (record { tree = keys; handles = table; watches = store.watches }) session moment n (CreateKey h path mask given) told
     unfolding after reply_to watch_of
     create-done moment keys table text names made add told e kept larger known =
         let handles = add ∙ ap (λ (p : Path). hs ++ record { number = n; session = session; mask = mask; destination = At p } ∷ []) names in
@@ -147,7 +149,8 @@ module _ (n : ℕ) (store : Store) (session : ℕ) (ready : IsReady n store) whe
     -- where no key is missing
     pub create-there : (rest : List ℕ) → path_of rest ≡ missing tree (path_at session h hs) (path_of path) → rest ≡ [] →
         (moment : ℕ) (table : Table Node) (text : List ℕ) → path_of text ≡ path_from session h hs path → added table mask text → (told : ChangeReply) → told ≡ opening (Some 2) →
-        KnowsKeys (record { tree = store.tree; handles = table; watches = store.watches }) → IsDone store (record { tree = store.tree; handles = table; watches = store.watches }) session moment n (CreateKey h path mask given) told
+        KnowsKeys (record { tree = store.tree; handles = table; watches = store.watches }) →
+        IsDone store (record { tree = store.tree; handles = table; watches = store.watches }) session moment n (CreateKey h path mask given) told
     create-there rest missed empty moment table text names add told e known =
         let none : missing tree (path_at session h hs) (path_of path) ≡ [] = sym missed ∙ ap path_of empty in
         create-done moment store.tree table text names (sym (none-made tree (path_at session h hs) (path_of path) given moment none)) add told
@@ -176,7 +179,8 @@ module _ (n : ℕ) (store : Store) (session : ℕ) (ready : IsReady n store) whe
 
     pub set-done : (moment : ℕ) (keys : Keys) → keys.tree ≡ edited tree (path_at session h hs) (with_value name kind bytes moment) → (told : ChangeReply) →
         told ≡ plain → length store.tree.bins.bytes ≤ length keys.bins.bytes → length keys.bins.bytes ≤ length store.tree.bins.bytes + GROWTH_BOUND →
-        KnowsKeys (record { tree = keys; handles = store.handles; watches = store.watches }) → IsDone store (record { tree = keys; handles = store.handles; watches = store.watches }) session moment n (SetValue h name kind bytes) told
+        KnowsKeys (record { tree = keys; handles = store.handles; watches = store.watches }) →
+        IsDone store (record { tree = keys; handles = store.handles; watches = store.watches }) session moment n (SetValue h name kind bytes) told
     unfolding after reply_to watch_of
     set-done moment keys set told e kept larger known = record { world = λ i. record { tree = set i; handles = hs }; reply = e; kept = kept; grows = larger; known = known; watches = refl }
 
@@ -196,7 +200,8 @@ module _ (n : ℕ) (store : Store) (session : ℕ) (ready : IsReady n store) whe
     pub delete-done : (moment : ℕ) (keys : Keys) (table : Table Node) (text : List ℕ) → path_of text ≡ path_from session h hs path →
         keys.tree ≡ without_key tree (path_from session h hs path) moment → table.handles ≡ turned (path_of text) hs → (told : ChangeReply) →
         told ≡ plain → length keys.bins.bytes ≡ length store.tree.bins.bytes →
-        KnowsKeys (record { tree = keys; handles = table; watches = store.watches }) → IsDone store (record { tree = keys; handles = table; watches = store.watches }) session moment n (DeleteKey h path) told
+        KnowsKeys (record { tree = keys; handles = table; watches = store.watches }) →
+        IsDone store (record { tree = keys; handles = table; watches = store.watches }) session moment n (DeleteKey h path) told
     unfolding after reply_to watch_of
     delete-done moment keys table text names gone turn told e long known =
         let handles = turn ∙ ap (λ (p : Path). turned p hs) names in
@@ -213,7 +218,8 @@ module _ (n : ℕ) (store : Store) (session : ℕ) (ready : IsReady n store) whe
 
     tree-done : (moment : ℕ) (keys : Keys) (table : Table Node) → world_of (record { tree = keys; handles = table; watches = store.watches }) ≡
         cond (length path == 0) (gone-contents moment) (gone-tree moment) → (told : ChangeReply) → told ≡ plain → length keys.bins.bytes ≡ length store.tree.bins.bytes →
-        KnowsKeys (record { tree = keys; handles = table; watches = store.watches }) → IsDone store (record { tree = keys; handles = table; watches = store.watches }) session moment n (DeleteTree h path) told
+        KnowsKeys (record { tree = keys; handles = table; watches = store.watches }) →
+        IsDone store (record { tree = keys; handles = table; watches = store.watches }) session moment n (DeleteTree h path) told
     unfolding after reply_to watch_of
     tree-done moment keys table world told e long known = record { world = world; reply = e; kept = omega (arith, long); grows = omega (arith, long); known = known; watches = refl }
 
@@ -221,7 +227,8 @@ module _ (n : ℕ) (store : Store) (session : ℕ) (ready : IsReady n store) whe
     pub branch-done : (moment : ℕ) (keys : Keys) (table : Table Node) (text : List ℕ) → path_of path ≢ [] → path_of text ≡ path_from session h hs path →
         keys.tree ≡ without_tree tree (path_from session h hs path) moment → table.handles ≡ turned_past (is_within (path_of text)) hs → (told : ChangeReply) →
         told ≡ plain → length keys.bins.bytes ≡ length store.tree.bins.bytes →
-        KnowsKeys (record { tree = keys; handles = table; watches = store.watches }) → IsDone store (record { tree = keys; handles = table; watches = store.watches }) session moment n (DeleteTree h path) told
+        KnowsKeys (record { tree = keys; handles = table; watches = store.watches }) →
+        IsDone store (record { tree = keys; handles = table; watches = store.watches }) session moment n (DeleteTree h path) told
     branch-done moment keys table text some names gone turn told e long known =
         let handles = turn ∙ ap (λ (p : Path). turned_past (is_within p) hs) names in
         let world : world_of (record { tree = keys; handles = table; watches = store.watches }) ≡ gone-tree moment = λ i. record { tree = gone i; handles = handles i } in
@@ -231,7 +238,8 @@ module _ (n : ℕ) (store : Store) (session : ℕ) (ready : IsReady n store) whe
     pub contents-done : (moment : ℕ) (keys : Keys) (table : Table Node) (text : List ℕ) → path ≡ [] → path_of text ≡ path_from session h hs path →
         keys.tree ≡ emptied tree (path_at session h hs) moment → table.handles ≡ turned_past (is_under (path_of text)) hs → (told : ChangeReply) →
         told ≡ plain → length keys.bins.bytes ≡ length store.tree.bins.bytes →
-        KnowsKeys (record { tree = keys; handles = table; watches = store.watches }) → IsDone store (record { tree = keys; handles = table; watches = store.watches }) session moment n (DeleteTree h path) told
+        KnowsKeys (record { tree = keys; handles = table; watches = store.watches }) →
+        IsDone store (record { tree = keys; handles = table; watches = store.watches }) session moment n (DeleteTree h path) told
     contents-done moment keys table text none names gone turn told e long known =
         let own : path_of text ≡ path_at session h hs = names ∙ from-nowhere (path_at session h hs) path none in
         let handles = turn ∙ ap (λ (p : Path). turned_past (is_under p) hs) own in
@@ -246,7 +254,8 @@ module _ (n : ℕ) (store : Store) (session : ℕ) (ready : IsReady n store) whe
 
     pub secure-done : (moment : ℕ) (keys : Keys) → keys.tree ≡ edited tree (path_at session h hs) (with_descriptor descriptor moment) → (told : ChangeReply) →
         told ≡ plain → length store.tree.bins.bytes ≤ length keys.bins.bytes → length keys.bins.bytes ≤ length store.tree.bins.bytes + GROWTH_BOUND →
-        KnowsKeys (record { tree = keys; handles = store.handles; watches = store.watches }) → IsDone store (record { tree = keys; handles = store.handles; watches = store.watches }) session moment n (SetSecurity h descriptor) told
+        KnowsKeys (record { tree = keys; handles = store.handles; watches = store.watches }) →
+        IsDone store (record { tree = keys; handles = store.handles; watches = store.watches }) session moment n (SetSecurity h descriptor) told
     unfolding after reply_to watch_of
     secure-done moment keys set told e kept larger known = record { world = λ i. record { tree = set i; handles = hs }; reply = e; kept = kept; grows = larger; known = known; watches = refl }
 
@@ -279,7 +288,8 @@ module _ (n : ℕ) (store : Store) (session : ℕ) (ready : IsReady n store) whe
   pub close-has : (h : ℕ) → change_cause s session (Close h) 0 ≡ None → is_some (look session h hs) ≡ true
   close-has h c = close-met s session h 0 c
 
-  pub close-done : (moment h : ℕ) (table : Table Node) → table.handles ≡ closed h hs → (told : ChangeReply) → told ≡ plain → KnowsKeys (record { tree = store.tree; handles = table; watches = store.watches }) →
+  pub close-done : (moment h : ℕ) (table : Table Node) → table.handles ≡ closed h hs → (told : ChangeReply) → told ≡ plain →
+      KnowsKeys (record { tree = store.tree; handles = table; watches = store.watches }) →
       IsDone store (record { tree = store.tree; handles = table; watches = store.watches }) session moment n (Close h) told
   unfolding after reply_to watch_of
   close-done moment h table shut told e known = record { world = λ i. record { tree = tree; handles = shut i }; reply = e; kept = omega arith; grows = no-growth store; known = known; watches = refl }

@@ -133,10 +133,9 @@ impl Hive {
         self.core.pending()
     }
 
-    /// Hands a session, below 64, its next notice: the first of those that the journal tells it that wasn't handed out yet. `None`
-    /// exactly where all were. Takes no memory, and changes nothing but what is handed out next.
+    /// Hands a session its next notice: the first of those that the journal tells it that wasn't handed out yet. `None` exactly where
+    /// all were, as for a session that never asked for any. Takes no memory, and changes nothing but what is handed out next.
     pub fn take_notice(&mut self, session: u8) -> Option<Notice>
-        requires { session < SESSIONS_LIMIT }
         ensures { IsNoticeTaken (view_of self.old) (view_of self.new) session result }
     {
         self.core.take_notice(session)

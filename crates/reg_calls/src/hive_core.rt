@@ -191,8 +191,8 @@ impl Core {
         &self.store.tree
     }
 
-    /// Answers a change: refused by its cause, or made, told to whom it ends a watch of, and noted as
-    /// the journal's next entry, or given up for want of memory or space.
+    /// Answers a change: refused by its cause; or made, its watches told, and noted as the journal's next entry; or given up for want
+    /// of memory or space.
     pub fn apply(&mut self, session: u8, moment: u64, change: Change) -> ChangeReply
         requires { session < SESSIONS_LIMIT }
         ensures { IsApplied no_callbacks self.old self.new session moment change result }

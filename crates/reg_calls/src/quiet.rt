@@ -7,7 +7,7 @@ ghost use Rattle.reg_calls.specs.Internal.QuietKeys.{Remembers};
 
 use std::alloc::{AllocError, Global};
 
-/// How many handles are remembered at most, by the last digits of their numbers.
+/// How many handles are remembered at most: one for each remainder of their numbers by this one.
 pub const REMEMBERED: u64 = 1024;
 
 /// An event of the key that a handle leads to: the handle's number, and the bits of the event's kinds, of which there are none where
@@ -90,7 +90,7 @@ impl Quiet {
     }
 
     /// Follows the entry of a number, an event of that kind: how many watches were pending before it and after it. One more was asked
-    /// for, or some were ended, or none was hit.
+    /// for, or some were ended, or none was hit. An entry that is no such event leaves what is remembered, unless it asks for a watch.
     pub fn follow(&mut self, event: OwnEvent, number: u64, before: usize, after: usize)
         requires { vec_len self.old.rows ≡ REMEMBERED }
         ensures rows { vec_len self.new.rows ≡ REMEMBERED }
@@ -100,7 +100,7 @@ impl Quiet {
     {
         if after > before {
             self.forget(number);
-        } else if after == before {
+        } else if after == before && event.bits > 0 {
             self.remember(event, number);
         }
     }

@@ -13,7 +13,7 @@ use Rattle.reg_model.specs.Watches.{Watch, event_at, is_hit, events, few_events,
 use Rattle.reg_model.specs.Causes.{State, early_cause, late_cause, change_cause, rule_of}
 use Rattle.reg_model.specs.Replies.{reply_to}
 use Rattle.reg_model.specs.Histories.{pending, fired}
-use Rattle.reg_model.proofs.RowsRefusals.{handle, root, few, full}
+use Rattle.reg_model.proofs.RowsRefusals.{handle, root, handles, state, few, full}
 use Rattle.reg_model.proofs.RowsDeleteTree.{a, ab, a_b, a_b_c, value, key}
 
 -- ---- refusals: 6, 1018, 87, 5, 1450 and the callbacks' status, in this order
@@ -70,6 +70,16 @@ notify_right_alone = refl
 notify_no_journal_room : change_cause full 0 (Notify 0 1 false) 31 ≡ Some 1450
 unfolding early_cause late_cause
 notify_no_journal_room = refl
+
+-- 16,777,210 entries, the closings of 5 handles and this entry are just the 16,777,216 that the journal has room for; with one entry
+-- more they are too many
+notify_last_journal_room : change_cause (state 16777210 handles root) 0 (Notify 0 1 false) 0 ≡ None
+unfolding early_cause late_cause
+notify_last_journal_room = refl
+
+notify_past_journal_room : change_cause (state 16777211 handles root) 0 (Notify 0 1 false) 0 ≡ Some 1450
+unfolding early_cause late_cause
+notify_past_journal_room = refl
 
 abbrev watch : ℕ → ℕ → ℕ → Path → ℕ → Bool → Watch
 watch number session h path filter subtree = record { number = number; session = session; handle = h; path = path; filter = filter; subtree = subtree }

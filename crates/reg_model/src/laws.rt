@@ -121,14 +121,15 @@ pub fn pending_goes_on()
 {}
 
 /// What one more entry tells a session is appended to what it was told: a notice for each of its watches that the entry ends, in
-/// the order of their numbers.
+/// the order in which they were asked for, with the entry's number and the reason.
 pub fn fired_goes_on()
     ensures { (origin : Tree) → (past : List Entry) → (e : Entry) → (session : ℕ) → fired origin (past ++ e ∷ []) session ≡
         fired origin past session ++ notices session (ending (replay origin past) e) (pending origin past) }
 {}
 
-/// A watch that a session asked for is pending, or the session was told of it once: of each number there are as many pending
-/// watches and notices together as registrations.
+/// Of each number a session has as many pending watches and notices together as it asked for watches of that number. So after a legal
+/// journal, which numbers no two alike, each watch is pending, or its session was told of it once. This counts alone: by which entry
+/// and why it was told is what `fired_goes_on` says.
 pub fn each_watch_is_pending_or_told_once()
     ensures { (origin : Tree) → (journal : List Entry) → (session number : ℕ) →
         count_by (λ (v : Watch). v.session == session && v.number == number) (pending origin journal)
@@ -136,7 +137,8 @@ pub fn each_watch_is_pending_or_told_once()
         count_by (λ (v : Watch). v.session == session && v.number == number) (filter_map asked_by (mets origin journal)) }
 {}
 
-/// The handle of a pending watch is open, its session's, and leads to the watch's key, which is in the tree.
+/// After every legal journal the handle of a pending watch is open, its session's, and leads to the watch's key, which is in the tree
+/// where the journal began with one that holds its root.
 pub fn watches_stand()
     ensures handles { (origin : Tree) → (journal : List Entry) → IsLegal origin journal →
         All (IsWatching (replay origin journal).handles) (pending origin journal) }
@@ -144,7 +146,7 @@ pub fn watches_stand()
         All (λ (v : Watch). IsSome (get (replay origin journal).tree v.path)) (pending origin journal) }
 {}
 
-/// A watch's number is that of an entry, and no two pending watches have one number: they rise.
+/// After every legal journal a pending watch's number is below the journal's length, and no two have one number: they rise.
 pub fn watch_numbers_rise()
     ensures below { (origin : Tree) → (journal : List Entry) → IsLegal origin journal →
         All (λ (v : Watch). v.number < length journal) (pending origin journal) }
@@ -152,14 +154,14 @@ pub fn watch_numbers_rise()
         IsStrictlyIncreasing (map (λ (v : Watch). v.number) (pending origin journal)) }
 {}
 
-/// A session has at most 4,096 pending watches.
+/// After every legal journal a session has at most 4,096 pending watches.
 pub fn watches_are_few()
     ensures { (origin : Tree) → (journal : List Entry) → (session : ℕ) → IsLegal origin journal →
         watches_of session (pending origin journal) ≤ WATCHES_LIMIT }
 {}
 
-/// One event at the highest key above those that a change makes or removes ends the pending watches as all of its events do, and
-/// for the same reasons.
+/// Where an entry is legal after a legal journal of a tree, one event at the highest key above those that it makes or removes, in place
+/// of one for each of them, ends the pending watches as all of its events do, and for the same reasons.
 pub fn few_events_suffice()
     ensures { (origin : Tree) → (past : List Entry) → (e : Entry) → IsTree origin → IsLegal origin past → IsFit origin past e →
         All (λ (v : Watch). reason (few_ending (replay origin past) e) v ≡ reason (ending (replay origin past) e) v) (pending origin past) }

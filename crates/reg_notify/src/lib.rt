@@ -4,7 +4,8 @@
 //! Its one contract: a table of pending watches, and for each session the notices that it was told, in order, with how many of
 //! them it took. What ends a watch is told by an entry's events, the keys that it removes and the handle that it closes; a firing
 //! looks at the paths of the events and those above them, and at each only for watches that it ends. Sending takes no memory: a
-//! notice has its room since its watch was added. It stands on reg_model.
+//! notice has its room since its watch was added. It stands on reg_model, whose definitions say what a watch is and what ends it, on
+//! reg_heap for paths and which keys are below others, and on reg_names for how a path is written.
 #![tactic(auto)]
 
 mod adding;

@@ -44,7 +44,7 @@ impl Place {
     }
 
     /// The text by which a watch of a class and a number is found here. Its one fault is that memory was refused.
-    pub fn key(&self, class: u8, number: u64) -> Result<Vec<u8>, AllocError>
+    pub(crate) fn key(&self, class: u8, number: u64) -> Result<Vec<u8>, AllocError>
         ensures text { IfOk result (λ text. text.items ≡ key_text self.now class number) }
         ensures clean { IsClean self.now }
     {
@@ -56,14 +56,14 @@ impl Place {
     }
 
     /// Its text.
-    pub fn text(&self) -> &[u8]
+    pub(crate) fn text(&self) -> &[u8]
         ensures { result.now ≡ lead_of self.now }
     {
         self.text.as_slice()
     }
 
     /// Its text, with room for two bytes more.
-    pub fn into_text(self) -> Vec<u8>
+    pub(crate) fn into_text(self) -> Vec<u8>
         ensures text { result.items ≡ lead_of self }
         ensures clean { IsClean self }
         ensures room { vec_len result + 2 ≤ vec_capacity result }

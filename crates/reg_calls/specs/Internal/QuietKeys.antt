@@ -3,7 +3,7 @@ use Rattle.std.specs.Prelude.{◌≡◌, ◌<◌, ◌≤◌, ℕ, false, List, [
 use Rattle.std.specs.List.{AllByRecursion}
 use Rattle.reg_heap.specs.Paths.{Path}
 use Rattle.reg_model.specs.Worlds.{Handle, At, numbered, path_at}
-use Rattle.reg_model.specs.Watches.{Watch, Event, Ending, event_at, is_hit, few_ending, watch_of}
+use Rattle.reg_model.specs.Watches.{Watch, Event, event_at, is_hit, few_ending, watch_of}
 use Rattle.reg_model.specs.Calls.{entry_due}
 use Rattle.reg_model.specs.declared.call.Change.{Change}
 use Rattle.reg_calls.specs.declared.quiet.Quiet.{Quiet}

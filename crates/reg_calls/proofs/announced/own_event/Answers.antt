@@ -1,5 +1,4 @@
-use Rattle.std.proofs.Common.{sym, subst}
-use Rattle.reg_model.specs.declared.call.Change.{Change}
+use Rattle.std.proofs.Common.{subst}
 use Rattle.reg_calls.specs.declared.changes.Admitted.{Admitted}
 use Rattle.reg_calls.specs.Internal.Admissions.{Admits}
 use Rattle.reg_calls.proofs.AnnouncedChanges.{set-admitted-own, drop-admitted-own, secure-admitted-own}

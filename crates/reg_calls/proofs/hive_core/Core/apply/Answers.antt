@@ -84,7 +84,8 @@ invariant_of-self-in-Ok-carry_out c =
     ((λ opens. let r = c.in-Ok-keep_room.ensures.ok opens in omega (arith, r, handles)), (λ closing. omega (arith, kept, more))) c.append.ensures.room in (
       c.append.ensures.base ∙ c.in-Ok-keep_room.ensures.base ∙ c.self.invariant.0,
       c.in-Ok-carry_out.ensures.rows,
-      subst (λ (n : ℕ). AreUnhit n c.carry_out.new.self c.carry_out.new.quiet) (one-more es (entry (length es)) (from-zero c.self.invariant.0 c.len-number.ensures) entries) c.in-Ok-carry_out.ensures.unhit,
+      subst (λ (n : ℕ). AreUnhit n c.carry_out.new.self c.carry_out.new.quiet) (one-more es (entry (length es)) (from-zero c.self.invariant.0 c.len-number.ensures) entries)
+          c.in-Ok-carry_out.ensures.unhit,
       subst (λ (x : List Entry). HiveInvariant c.self.inside.origin.value.tree x c.carry_out.new.self c.append.new.self.room) (sym entries) all,
     )
 
@@ -101,7 +102,8 @@ returns-in-Ok-carry_out c =
     let all = (invariant_of-self-in-Ok-carry_out c).3 in
     let is = state-view _ c.self.invariant.3 c.self.view_is ∙ ap (λ (n : ℕ). at n store) (sym (from-zero c.self.invariant.0 c.len-number.ensures)) in
     applied-by c.args.self.now _ c.args.session c.args.moment c.args.change c.in-Ok-carry_out.reply c.len-number.result store None is (sym clear)
-    (inl (accepted c.self.invariant.3 c.args.self.now _ c.self.view_is c.args.session c.args.moment c.args.change c.in-Ok-carry_out.reply done.reply entries refl done.watches.taken done.kept done.grows all.hive))
+    (inl (accepted c.self.invariant.3 c.args.self.now _ c.self.view_is c.args.session c.args.moment c.args.change c.in-Ok-carry_out.reply
+    done.reply entries refl done.watches.taken done.kept done.grows all.hive))
 
 pub invariant_of-self-in-Err-carry_out : goal.invariant_of-self-in-Err-carry_out
 invariant_of-self-in-Err-carry_out c =

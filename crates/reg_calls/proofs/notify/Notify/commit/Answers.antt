@@ -4,7 +4,8 @@ use Rattle.reg_calls.proofs.notify.Notify.commit.Goals as goal
 
 pub place_of-requires : goal.place_of-requires
 place_of-requires c =
-    target-of c.args.store.now c.args.session c.args.self.handle (watch-target c.args.number c.args.store.now c.args.session c.requires.ready c.args.self.handle c.args.self.filter c.args.self.subtree c.requires.admitted)
+    target-of c.args.store.now c.args.session c.args.self.handle
+    (watch-target c.args.number c.args.store.now c.args.session c.requires.ready c.args.self.handle c.args.self.filter c.args.self.subtree c.requires.admitted)
 
 pub add-requires-clause-room : goal.add-requires-clause-room
 add-requires-clause-room c = watch-room c.args.number c.args.store.now c.args.session c.requires.ready c.args.self.handle c.args.self.filter c.args.self.subtree c.requires.admitted

@@ -15,7 +15,8 @@ returns-then-len-eq0-clause-ok c = λ entries change a unhit. none-announced ent
 pub returns-in-Close-clause-ok : goal.returns-in-Close-clause-ok
 returns-in-Close-clause-ok c = λ entries change a unhit.
     let found = subst (λ (x : Admitted). Admits entries c.args.self.now c.args.session change x) c.in-Close.is a in
-    subst (λ (x : Change). IsAnnounced entries c.args.self.now c.args.session x (Closes c.in-Close.found.handle)) (sym found.0) (close-announced entries c.args.self.now c.args.session c.in-Close.found.handle)
+    subst (λ (x : Change). IsAnnounced entries c.args.self.now c.args.session x (Closes c.in-Close.found.handle)) (sym found.0)
+    (close-announced entries c.args.self.now c.args.session c.in-Close.found.handle)
 
 pub returns-in-OpenRoot-clause-ok : goal.returns-in-OpenRoot-clause-ok
 returns-in-OpenRoot-clause-ok c = λ entries change a unhit. quiet-announced entries c.args.self.now c.args.session change c.args.admitted.now a c.in-OpenRoot.is
