@@ -188,7 +188,7 @@ query 0 =|query 0 = |query 0 = --|query 0 = 4294967296|query 0 = - -|query 0 v -
 open 0 =K|open 0 K 1|open =K 1|open 0 =K 4294967296|create 0 =K|create 0 =K 1 1|create 0 =K -|create 0 =K 1 |create 0 =K 1 x0|\
 create 0 =K 1 x01 x02|setsec 0|setsec 0 =v|setsec 0 x0|setsec 0 x01 0|setsec =v x01|\
 notify|notify 0|notify 0 4|notify 0 4 |notify 0 4 2|notify 0 4 -|notify 0 4 0 0|notify 0 4 0 |notify 0 4  0|notify 0 4294967296 0|notify 0 -1 0|\
-notify 0 =v 0|notify =v 4 0|notify 18446744073709551616 4 0|notify 0 4 00000000002|notify 0 4 x|NOTIFY 0 4 0|notify\t0 4 0|\
+notify 0 =v 0|notify =v 4 0|notify 18446744073709551616 4 0|notify 0 4 01|notify 0 4 00|notify 0 4 10|notify 0 4 x|NOTIFY 0 4 0|notify\t0 4 0|\
 notice 0|notice |notice =|notices|Notice| notice|notice notice|notice\r|\
 getsec 0|getsec 0 -|getsec 0 4294967296|getsec 0 1 1|delkey 0|delkey 0 K|delkey 0 =K 1|\
 deltree 0|deltree 0 K|deltree 0 =K 1|deltree =K 0|\

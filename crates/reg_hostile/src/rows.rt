@@ -92,11 +92,12 @@ notice -> notice 5 8 closed
 notice -> notice none",
 ];
 
-/// What a hive holds: its image, and how many entries its journal has.
+/// What a hive holds: its image, how many entries its journal has, and how many watches are pending.
 #[derive(Drop)]
 struct Snapshot {
     image: Vec<u8>,
     entries: usize,
+    pending: usize,
 }
 
 /// What came of a row.
@@ -135,6 +136,7 @@ fn take_snapshot(alloc: Global, hive: &Hive) -> Result<Snapshot> {
     Ok(Snapshot {
         image,
         entries: hive.len(),
+        pending: hive.pending(),
     })
 }
 
@@ -181,7 +183,10 @@ fn count_refusal(
         Outcome::NoMemory => counts.refused = counts.refused.saturating_add(1),
         Outcome::Ended => counts.ended = counts.ended.saturating_add(1),
     }
-    if after.entries != before.entries || after.image.as_slice() != before.image.as_slice() {
+    if after.entries != before.entries
+        || after.pending != before.pending
+        || after.image.as_slice() != before.image.as_slice()
+    {
         bail!("a refusal changed the hive");
     }
     Ok(true)
