@@ -1,6 +1,6 @@
 -- The bins that are built of the keys that were told, and when they have no room for the next (Suhanov, Windows registry file format
 -- specification, "Hive bin", "Cell").
-use Rattle.std.specs.Prelude.{◌≡◌, ◌<◌, ◌≤◌, ◌+◌, ◌⊎◌, ℕ, suc, Some, List, [], ◌∷◌, ◌++◌, length}
+use Rattle.std.specs.Prelude.{◌≡◌, ◌<◌, ◌≤◌, ◌+◌, ◌⊎◌, ℕ, suc, Some, List, [], ◌∷◌, ◌++◌, length, ⊤}
 use Rattle.reg_names.specs.declared.TheConstants.{PATH_LIMIT}
 use Rattle.reg_heap.specs.Paths.{Path, Rec, Member}
 use Rattle.reg_heap.specs.Edits.{child_path, edited, with_value}
@@ -41,46 +41,67 @@ pub record LacksValueRoom (keys : Keys) (path : Path) (m : Member) : Type 0 wher
   pub at : IsAt keys path node
   pub lacks : LacksRoom keys.bins (value_sizes (heap_of keys.bins) node.offset m.name (length m.bytes))
 
--- of a key without values the first of these were set, and then there is no room for the next
-pub record CrowdsEach (bare : Keys) (path : Path) (time : ℕ) (members : List Member) : Type 0 where
+-- of a key the first of these were set, and then there is no room for the next
+pub record CrowdsEach (old : Keys) (path : Path) (time : ℕ) (members : List Member) : Type 0 where
   pub front : List Member
   pub next : Member
   pub back : List Member
   pub members_are : members ≡ front ++ next ∷ back
   pub now : Keys
-  pub put : PutsEach path time front bare now
+  pub put : PutsEach path time front old now
   pub lacks : LacksValueRoom now path next
 
 -- ---- all values of a key
 
--- how many bytes the cells have that all values of a key take together: their list's, and those of each value's record and data
-abbrev pub bytes_taken : List Member → ℕ
-bytes_taken members = total_of (all_value_sizes members)
+-- how many bytes the cells have that values take together: their list's, which has room for so many, and those of each one's record and data
+abbrev pub bytes_taken : ℕ → List Member → ℕ
+bytes_taken room members = total_of (all_value_sizes room members)
 
--- a key got all its values at once: the tree has them, just the cells that they take came, with at most one bin for all of them (32 bytes and
--- theirs, rounded up to a multiple of 4,096), and all is whole
-pub record PutsAll (bare new : Keys) (path : Path) (time : ℕ) (members : List Member) : Type 0 where
+-- with the next value the cells would have more bytes than one carve may take, where there is a next one
+abbrev pub PassesCarve : ℕ → List Member → List Member → Type 0
+PassesCarve room front [] = ⊤
+PassesCarve room front (next ∷ back) = CARVE_LIMIT < bytes_taken room (front ++ next ∷ [])
+
+-- the first of a key's values, as many as one carve may take with a list that has room for all: their cells have at most 16,777,216 bytes
+-- together, and those of one more would pass that; and the values behind them, of which there may be none
+pub record IsFront (members front back : List Member) : Type 0 where
+  pub parts : members ≡ front ++ back
+  pub fit : bytes_taken (length members) front ≤ CARVE_LIMIT
+  pub most : PassesCarve (length members) front back
+
+-- a key got values at once, with a list that has room for so many: the tree has them, just the cells that they take came, with at most one bin
+-- for all of them (32 bytes and theirs, rounded up to a multiple of 4,096), and all is whole
+pub record PutsAll (bare new : Keys) (path : Path) (time room : ℕ) (members : List Member) : Type 0 where
   pub node : Node
   pub at : IsAt bare path node
   pub tree : new.tree ≡ edited bare.tree path (with_values members time)
-  pub takes : TakesCells bare new (all_value_sizes members)
-  pub grows : length new.bins.bytes ≤ length bare.bins.bytes + 4127 + bytes_taken members
+  pub takes : TakesCells bare new (all_value_sizes room members)
+  pub grows : length new.bins.bytes ≤ length bare.bins.bytes + 4127 + bytes_taken room members
   pub root : new.root ≡ bare.root
   pub whole : AreWhole new
 
--- the key at a path, which had no values, got these: all at once where one carve may take their cells, which have at most 16,777,216
--- bytes then, and else one behind the other
+-- the key at a path, which had no values, got these: at once as many as one carve may take, with a list that has room for all, and the others one
+-- behind the other
+pub record PutsFirst (bare new : Keys) (path : Path) (time : ℕ) (members : List Member) : Type 0 where
+  pub front : List Member
+  pub back : List Member
+  pub first : IsFront members front back
+  pub now : Keys
+  pub together : PutsAll bare now path time (length members) front
+  pub each : PutsEach path time back now new
+
+-- the key at a path, which had no values, got these, of which there may be none
 abbrev pub PutsValues : Path → ℕ → List Member → Keys → Keys → Type 0
 PutsValues path time [] bare new = new ≡ bare
-PutsValues path time (m ∷ members) bare new =
-    ((bytes_taken (m ∷ members) ≤ CARVE_LIMIT) × PutsAll bare new path time (m ∷ members))
-    ⊎ ((CARVE_LIMIT < bytes_taken (m ∷ members)) × PutsEach path time (m ∷ members) bare new)
+PutsValues path time (m ∷ members) bare new = PutsFirst bare new path time (m ∷ members)
 
--- there is no room for them: for all together, where they are put at once, and else for one of them
-abbrev pub CrowdsValues : Keys → Path → ℕ → List Member → Type 0
-CrowdsValues bare path time members =
-    ((bytes_taken members ≤ CARVE_LIMIT) × LacksRoom bare.bins (all_value_sizes members))
-    ⊎ ((CARVE_LIMIT < bytes_taken members) × CrowdsEach bare path time members)
+-- there is no room for them: for those that are put at once, or then for one of the others
+pub record CrowdsValues (bare : Keys) (path : Path) (time : ℕ) (members : List Member) : Type 0 where
+  pub front : List Member
+  pub back : List Member
+  pub first : IsFront members front back
+  pub lacks : LacksRoom bare.bins (all_value_sizes (length members) front)
+      ⊎ ((now : Keys) × PutsAll bare now path time (length members) front × CrowdsEach now path time back)
 
 -- ---- keys
 

@@ -1,6 +1,6 @@
 //! Keys that were read, built in the new tree.
 
-ghost use Rattle.std.specs.Prelude.{◌≡◌, ◌<◌, ◌≤◌, None, bit_and, ℕ, List, [], length, OnOk, IfOk, IfErr, IfSome};
+ghost use Rattle.std.specs.Prelude.{◌≡◌, ◌<◌, ◌≤◌, ◌++◌, None, bit_and, ℕ, List, [], length, OnOk, IfOk, IfErr, IfSome};
 ghost use Rattle.std.specs.Cow.{cow_slice_items};
 ghost use Rattle.std.specs.FinMap.{empty, get, insert};
 ghost use Rattle.reg_names.specs.declared.TheConstants.{PATH_LIMIT};
@@ -15,10 +15,10 @@ ghost use Rattle.reg_tree.specs.BuiltKeys.{built_key};
 ghost use Rattle.reg_tree.specs.CellSizes.{LacksRoom};
 ghost use Rattle.reg_tree.specs.TreeKeys.{IsAt, IsThere, KeepsNodes};
 ghost use Rattle.reg_image.specs.Internal.NamedRecords.{data_in, member_in, members_in};
-ghost use Rattle.reg_image.specs.Internal.FitKeys.{IsFitName, IsOther, AreFit, AreFitParts};
+ghost use Rattle.reg_image.specs.Internal.FitKeys.{IsFitName, IsOther, AreFit, AreFitBehind, AreFitParts};
 ghost use Rattle.reg_image.specs.CrowdedBins.{BuildsFirst, BuildsOne, CrowdsBelow, CrowdsRoot};
 ghost use Rattle.reg_image.specs.CrowdedBins.{bytes_taken, CrowdsEach, CrowdsValues, LacksValueRoom, PutsAll, PutsEach, PutsValue, PutsValues};
-ghost use Rattle.reg_image.specs.Internal.BegunKeys.{IsBare, IsLack, lack_of, told_as};
+ghost use Rattle.reg_image.specs.Internal.BegunKeys.{IsBare, IsBegun, IsLack, lack_of, told_as};
 
 use crate::LoadFault;
 use crate::key_parts::KeyParts;
@@ -26,7 +26,7 @@ use crate::keys::NamedKey;
 use crate::values::ReadValue;
 use reg_arena::ArenaFault;
 use reg_tree::{NewKey, NewValue, Node, Tree};
-use reg_values::fit_one_carve;
+use reg_values::front_of_one_carve;
 use std::alloc::{AllocError, Global};
 
 /// What was lacking.
@@ -101,7 +101,7 @@ fn put_value(
     }
 }
 
-/// Puts the values of a key that was built with none, in their order, one behind the other. The key keeps its time, which is given.
+/// Puts values behind those that a key has, in their order, one behind the other. The key keeps its time, which is given.
 fn put_each(
     alloc: Global,
     tree: &mut Tree,
@@ -109,10 +109,10 @@ fn put_each(
     values: &[ReadValue<'_>],
     time: u64,
 ) -> Result<(), LoadFault>
-    requires values { AreFit (members_in values.now) }
-    requires bare { IsBare tree.old node time }
+    requires begun { IsBegun tree.old node time (members_in values.now) }
     ensures ok { (p : Path) → IsAt tree.old p node → (base : KeyTree) → (r : Rec) → tree.old.tree ≡ insert base p r →
-        r.values ≡ [] → r.time ≡ time → OnOk result (tree.new.tree ≡ insert base p (record r { values = members_in values.now })) }
+        AreFitBehind r.values (members_in values.now) → r.time ≡ time →
+        OnOk result (tree.new.tree ≡ insert base p (record r { values = r.values ++ members_in values.now })) }
     ensures nodes { OnOk result (KeepsNodes tree.old tree.new) }
     ensures puts { (p : Path) → IsAt tree.old p node → OnOk result (PutsEach p time (members_in values.now) tree.old tree.new) }
     ensures err { (p : Path) → IsAt tree.old p node → IfErr result (IsLack (CrowdsEach tree.old p time (members_in values.now))) }
@@ -123,26 +123,30 @@ fn put_each(
     Ok(())
 }
 
-/// Puts values as all that a key has that was built with none, in their order, all at once. The key keeps its time, which is given.
+/// Puts values as all that a key has that was built with none, in their order, all at once and with a list that has room for so many.
+/// The key keeps its time, which is given.
 fn put_all(
     alloc: Global,
     tree: &mut Tree,
     node: Node,
     values: &[NewValue<'_>],
+    room: usize,
     time: u64,
 ) -> Result<(), LoadFault>
     requires values { AreFit (all_told values.now) }
-    requires fits { bytes_taken (all_told values.now) ≤ CARVE_LIMIT }
+    requires room { length values.now ≤ room }
+    requires few { room ≤ VALUES_LIMIT }
+    requires fits { bytes_taken room (all_told values.now) ≤ CARVE_LIMIT }
     requires bare { IsBare tree.old node time }
     ensures ok { (p : Path) → IsAt tree.old p node → (base : KeyTree) → (r : Rec) → tree.old.tree ≡ insert base p r →
         r.values ≡ [] → r.time ≡ time → OnOk result (tree.new.tree ≡ insert base p (record r { values = all_told values.now })) }
     ensures nodes { OnOk result (KeepsNodes tree.old tree.new) }
-    ensures puts { (p : Path) → IsAt tree.old p node → OnOk result (PutsAll tree.old tree.new p time (all_told values.now)) }
-    ensures err { IfErr result (IsLack (LacksRoom tree.old.bins (all_value_sizes (all_told values.now)))) }
+    ensures puts { (p : Path) → IsAt tree.old p node → OnOk result (PutsAll tree.old tree.new p time room (all_told values.now)) }
+    ensures err { IfErr result (IsLack (LacksRoom tree.old.bins (all_value_sizes room (all_told values.now)))) }
 {
     // Only for its clause `one_path`: the node is that of one key.
     let _ = tree.root();
-    match tree.build_values(alloc, node, values, time) {
+    match tree.build_values(alloc, node, values, room, time) {
         Ok(()) => {
             // Only for its clauses `whole` and `sound`.
             let _ = tree.arena();
@@ -167,8 +171,8 @@ fn new_values<'a>(alloc: Global, values: &'a [ReadValue]) -> Result<Vec<NewValue
     Ok(told)
 }
 
-/// Puts the values of a key that was built with none, in their order: all at once where one carve may take their cells, and else one
-/// behind the other. The key keeps its time, which is given.
+/// Puts the values of a key that was built with none, in their order: at once as many as one carve may take the cells of, with a list
+/// that has room for all, and the others one behind the other, so that the list never moves. The key keeps its time, which is given.
 fn put_values(
     alloc: Global,
     tree: &mut Tree,
@@ -190,10 +194,10 @@ fn put_values(
     let Ok(told) = new_values(alloc, values) else {
         return Err(LoadFault::Memory);
     };
-    if fit_one_carve(told.as_slice()) {
-        return put_all(alloc, tree, node, told.as_slice(), time);
-    }
-    put_each(alloc, tree, node, values, time)
+    let all = told.as_slice();
+    let count = front_of_one_carve(all);
+    put_all(alloc, tree, node, &all[..count], all.len(), time)?;
+    put_each(alloc, tree, node, &values[count..], time)
 }
 
 /// Builds a tree of a root that was read.

@@ -15,4 +15,6 @@ mod images;
 #[cfg(test)]
 mod loading;
 #[cfg(test)]
+mod many_values;
+#[cfg(test)]
 mod support;

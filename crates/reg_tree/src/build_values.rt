@@ -49,32 +49,34 @@ fn largest_data(values: &[NewValue<'_>]) -> u32
     most
 }
 
-/// Puts values as all that a key has that had none: their list and cells first, which may fail, then the key's own node, which
-/// notes the list and the time. The faults are those of `reg_values::make`. After one the arena is as before.
+/// Puts values as all that a key has that had none: their list, with room for so many, and cells first, which may fail, then the
+/// key's own node, which notes the list and the time. The faults are those of `reg_values::make`. After one the arena is as before.
 pub fn build(
     alloc: Global,
     arena: &mut Arena,
     key: u32,
     values: &[NewValue<'_>],
+    room: usize,
     moment: u64,
 ) -> Result<(), ArenaFault>
     requires bare { (t : IsHere arena.old.bytes key) × (values_at (tree_in arena.old.bytes t.root) t.path ≡ []) }
-    requires few { length values.now ≤ VALUES_LIMIT }
+    requires room { length values.now ≤ room }
+    requires few { room ≤ VALUES_LIMIT }
     requires new { MayFollow [] (all_told values.now) }
-    requires fits { total_of (all_value_sizes (all_told values.now)) ≤ CARVE_LIMIT }
+    requires fits { total_of (all_value_sizes room (all_told values.now)) ≤ CARVE_LIMIT }
     ensures ok { (t : IsHere arena.old.bytes key) →
         OnOk result (IsChanged arena.old.bytes arena.new.bytes t.root t.table t.path (with_values (all_told values.now) moment)) }
-    ensures cells { OnOk result (Makes (heap_of arena.old) (heap_of arena.new) (all_value_sizes (all_told values.now))) }
+    ensures cells { OnOk result (Makes (heap_of arena.old) (heap_of arena.new) (all_value_sizes room (all_told values.now))) }
     ensures stay { OnOk result (KeepsSizes (heap_of arena.old) (heap_of arena.new)) }
     ensures lengths { (t : IsHere arena.old.bytes key) →
         OnOk result (LengthsChange (heap_of arena.old) (heap_of arena.new) t.root t.path (with_lengths_of (all_told values.now))) }
-    ensures space { result ≡ Err ArenaFault.Full → LacksRoom arena.old (all_value_sizes (all_told values.now)) }
+    ensures space { result ≡ Err ArenaFault.Full → LacksRoom arena.old (all_value_sizes room (all_told values.now)) }
     ensures err { OnErr result (arena.new ≡ arena.old) }
-    ensures grows { OnOk result (length arena.new.bytes ≤ length arena.old.bytes + 4127 + total_of (all_value_sizes (all_told values.now))) }
-    ensures growth { OnOk result (GrowsFor arena.old.bytes arena.new.bytes (all_value_sizes (all_told values.now))) }
+    ensures grows { OnOk result (length arena.new.bytes ≤ length arena.old.bytes + 4127 + total_of (all_value_sizes room (all_told values.now))) }
+    ensures growth { OnOk result (GrowsFor arena.old.bytes arena.new.bytes (all_value_sizes room (all_told values.now))) }
     ensures kept { OnOk result (length arena.old.bytes ≤ length arena.new.bytes) }
 {
-    let list = reg_values::make(alloc, arena, values)?;
+    let list = reg_values::make(alloc, arena, values, room)?;
     note_values(
         arena,
         key,

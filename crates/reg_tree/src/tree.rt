@@ -768,37 +768,39 @@ impl Tree {
 
     /// Puts values as all that a key has that has none, in their order, and gives the key a time; no other key's changes. Each is
     /// within the limits, no two names are the same after folding, and their cells have at most 16,777,216 bytes together, as
-    /// `reg_values::fit_one_carve` tells. After a fault the tree is as before.
+    /// `reg_values::front_of_one_carve` tells. After a fault the tree is as before.
     ///
-    /// The cells that come are the list's, with room for just these values, and those of each value's record and data: none where
-    /// there are no values; each other cell keeps its size, and the root its place. `Full` only where no free cell has room for all of
-    /// them together and one bin more for them would pass the limit of 268,435,456 bytes; `Memory`. The bins grow only where no free
-    /// cell has room for them, and by no more than one bin for them.
+    /// The cells that come are the list's, with room for `room` values, from their number to 16,384, and those of each value's record
+    /// and data: none where there are no values; each other cell keeps its size, and the root its place. `Full` only where no free cell
+    /// has room for all of them together and one bin more for them would pass the limit of 268,435,456 bytes; `Memory`. The bins grow
+    /// only where no free cell has room for them, and by no more than one bin for them.
     pub fn build_values(
         &mut self,
         alloc: Global,
         node: Node,
         values: &[NewValue<'_>],
+        room: usize,
         moment: u64,
     ) -> Result<(), ArenaFault>
         requires node { IsThere self.old node }
         requires bare { (p : Path) → IsAt self.old p node → values_at self.old.tree p ≡ [] }
-        requires few { length values.now ≤ VALUES_LIMIT }
+        requires room { length values.now ≤ room }
+        requires few { room ≤ VALUES_LIMIT }
         requires new { MayFollow [] (all_told values.now) }
-        requires fits { total_of (all_value_sizes (all_told values.now)) ≤ CARVE_LIMIT }
+        requires fits { total_of (all_value_sizes room (all_told values.now)) ≤ CARVE_LIMIT }
         ensures ok { (p : Path) → IsAt self.old p node →
             OnOk result (self.new.tree ≡ edited self.old.tree p (with_values (all_told values.now) moment)) }
-        ensures takes { OnOk result (TakesCells self.old self.new (all_value_sizes (all_told values.now))) }
+        ensures takes { OnOk result (TakesCells self.old self.new (all_value_sizes room (all_told values.now))) }
         ensures root { OnOk result (self.new.root ≡ self.old.root) }
         ensures nodes { OnOk result (KeepsNodes self.old self.new) }
         ensures lengths { (p : Path) → IsAt self.old p node →
             OnOk result (ChangesLengths self.old self.new p (with_lengths_of (all_told values.now))) }
-        ensures space { result ≡ Err ArenaFault.Full → LacksRoom self.old.bins (all_value_sizes (all_told values.now)) }
+        ensures space { result ≡ Err ArenaFault.Full → LacksRoom self.old.bins (all_value_sizes room (all_told values.now)) }
         ensures err { OnErr result (self.new ≡ self.old) }
         ensures grows { OnOk result (length self.new.bins.bytes ≤
-            length self.old.bins.bytes + 4127 + total_of (all_value_sizes (all_told values.now))) }
+            length self.old.bins.bytes + 4127 + total_of (all_value_sizes room (all_told values.now))) }
         ensures kept { OnOk result (length self.old.bins.bytes ≤ length self.new.bins.bytes) }
     {
-        build_values::build(alloc, &mut self.arena, node.offset, values, moment)
+        build_values::build(alloc, &mut self.arena, node.offset, values, room, moment)
     }
 }

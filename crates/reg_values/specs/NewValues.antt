@@ -30,7 +30,7 @@ abbrev pub each_value_sizes : List Member → List ℕ
 each_value_sizes [] = []
 each_value_sizes (m ∷ members) = one_value_sizes m ++ each_value_sizes members
 
--- the cells of all values of a key: their list's, which has room for just these, and then each value's
-abbrev pub all_value_sizes : List Member → List ℕ
-all_value_sizes [] = []
-all_value_sizes (m ∷ members) = cell_size (4 * length (m ∷ members)) ∷ each_value_sizes (m ∷ members)
+-- the cells of all values of a key: their list's, which has room for so many values, and then each value's
+abbrev pub all_value_sizes : ℕ → List Member → List ℕ
+all_value_sizes room [] = []
+all_value_sizes room (m ∷ members) = cell_size (4 * room) ∷ each_value_sizes (m ∷ members)

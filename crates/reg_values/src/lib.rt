@@ -23,7 +23,7 @@ mod setting;
 
 pub use data::bytes_of;
 pub use look::{Value, at, find};
-pub use making::{NewValue, fit_one_carve, make};
+pub use making::{NewValue, front_of_one_carve, make};
 pub use plan::plan_set;
 pub use removing::{clear, remove, remove_at};
 pub use setting::{set, set_at};

@@ -2,7 +2,7 @@
 //!
 //! Suhanov, Windows registry file format specification, sections "Cell", "Key values list", "Key value" and "Big data".
 
-ghost use Rattle.std.specs.Prelude.{◌≡◌, true, false, ◌≤◌, ◌<◌, ◌+◌, ◌*◌, ◌∷◌, [], ℕ, List, Err, length, IfOk, OnOk, OnErr};
+ghost use Rattle.std.specs.Prelude.{◌≡◌, ◌≤◌, ◌<◌, ◌+◌, ◌*◌, ◌∷◌, [], ℕ, List, Err, length, take, IfOk, OnOk, OnErr};
 ghost use Rattle.reg_heap.specs.declared.limits.TheConstants.{VALUES_LIMIT};
 ghost use Rattle.reg_heap.specs.Paths.{Member};
 ghost use Rattle.reg_heap.specs.Kinds.{times};
@@ -42,23 +42,25 @@ const NO_VALUES: ValuesList = ValuesList {
     offset: NONE,
 };
 
-/// Whether the cells of all these values and their list have at most 16,777,216 bytes together, their size fields counted: just
-/// then [`make`] may be called with them.
-pub fn fit_one_carve(values: &[NewValue<'_>]) -> bool
+/// How many of these values, counted from the first, [`make`] may be called with where their list is to have room for all of
+/// them: the most whose cells and list have at most 16,777,216 bytes together, their size fields counted.
+pub fn front_of_one_carve(values: &[NewValue<'_>]) -> usize
     requires few { length values.now ≤ VALUES_LIMIT }
     requires new { MayFollow [] (all_told values.now) }
-    ensures yes { result ≡ true → total_of (all_value_sizes (all_told values.now)) ≤ CARVE_LIMIT }
-    ensures no { result ≡ false → CARVE_LIMIT < total_of (all_value_sizes (all_told values.now)) }
+    ensures within { result ≤ length values.now }
+    ensures fits { total_of (all_value_sizes (length values.now) (take result (all_told values.now))) ≤ CARVE_LIMIT }
+    ensures longest { result < length values.now →
+        CARVE_LIMIT < total_of (all_value_sizes (length values.now) (take (result + 1) (all_told values.now))) }
 {
     let mut left = CARVE_LIMIT - cell_size(4 * values.len() as u32);
-    for value in values {
+    for (index, value) in values.iter().enumerate() {
         let size = value_size(value);
         if size > left {
-            return false;
+            return index;
         }
         left -= size;
     }
-    true
+    values.len()
 }
 
 /// Writes values and their list into new cells of their sizes.
@@ -90,17 +92,19 @@ fn fill(arena: &mut Arena, list: u32, cells: &[u32], values: &[NewValue<'_>])
     }
 }
 
-/// Makes values in cells of these sizes, one or more.
+/// Makes values in cells of these sizes, one or more, with a list that has room for so many.
 fn make_sized(
     alloc: Global,
     arena: &mut Arena,
     values: &[NewValue<'_>],
+    room: usize,
     sizes: &[u32],
 ) -> Result<ValuesList, ArenaFault>
     requires some { 0 < length values.now }
-    requires few { length values.now ≤ VALUES_LIMIT }
+    requires room { length values.now ≤ room }
+    requires few { room ≤ VALUES_LIMIT }
     requires new { MayFollow [] (all_told values.now) }
-    requires sizes { sizes.now ≡ all_value_sizes (all_told values.now) }
+    requires sizes { sizes.now ≡ all_value_sizes room (all_told values.now) }
     requires fits { total_of sizes.now ≤ CARVE_LIMIT }
     ensures ok { IfOk result (λ after. Became (heap_of arena.old) (heap_of arena.new) [] after.count after.offset (all_told values.now)) }
     ensures cells { OnOk result (Makes (heap_of arena.old) (heap_of arena.new) sizes.now) }
@@ -125,9 +129,10 @@ fn make_sized(
     })
 }
 
-/// Makes values, in their order, as all that a key has that had none, and answers their list, whose cell has room for just
-/// them; of no values there is none. One [`carve`](reg_arena::Arena::carve) takes all cells side by side, so that they may have
-/// at most 16,777,216 bytes together, as [`fit_one_carve`] tells. The time that it takes grows with how much there is to write.
+/// Makes values, in their order, as all that a key has that had none, and answers their list, whose cell has room for `room`
+/// values, from their number to 16,384; of no values there is none. So many can be had before the list moves. One
+/// [`carve`](reg_arena::Arena::carve) takes all cells side by side, so that they may have at most 16,777,216 bytes together, as
+/// [`front_of_one_carve`] tells. The time that it takes grows with how much there is to write.
 /// The bins grow by at most 4,127 bytes and those of the cells, and only where no free cell has room for all of them.
 ///
 /// [`ArenaFault::Full`]: no free cell has room for all cells together, and with a bin more for them there would be more than
@@ -136,27 +141,29 @@ pub fn make(
     alloc: Global,
     arena: &mut Arena,
     values: &[NewValue<'_>],
+    room: usize,
 ) -> Result<ValuesList, ArenaFault>
-    requires few { length values.now ≤ VALUES_LIMIT }
+    requires room { length values.now ≤ room }
+    requires few { room ≤ VALUES_LIMIT }
     requires new { MayFollow [] (all_told values.now) }
-    requires fits { total_of (all_value_sizes (all_told values.now)) ≤ CARVE_LIMIT }
+    requires fits { total_of (all_value_sizes room (all_told values.now)) ≤ CARVE_LIMIT }
     ensures ok { IfOk result (λ after. Became (heap_of arena.old) (heap_of arena.new) [] after.count after.offset (all_told values.now)) }
-    ensures cells { OnOk result (Makes (heap_of arena.old) (heap_of arena.new) (all_value_sizes (all_told values.now))) }
+    ensures cells { OnOk result (Makes (heap_of arena.old) (heap_of arena.new) (all_value_sizes room (all_told values.now))) }
     ensures stay { OnOk result (KeepsSizes (heap_of arena.old) (heap_of arena.new)) }
-    ensures growth { OnOk result (GrowsFor arena.old.bytes arena.new.bytes (all_value_sizes (all_told values.now))) }
+    ensures growth { OnOk result (GrowsFor arena.old.bytes arena.new.bytes (all_value_sizes room (all_told values.now))) }
     ensures err { OnErr result (arena.new ≡ arena.old) }
     ensures space { result ≡ Err ArenaFault.Full →
-        (0 < length (all_value_sizes (all_told values.now)))
-        × NoFit arena.old.bytes (total_of (all_value_sizes (all_told values.now)))
-        × PassesLimit arena.old.bytes (total_of (all_value_sizes (all_told values.now))) }
-    ensures grows { OnOk result (length arena.new.bytes ≤ length arena.old.bytes + 4127 + total_of (all_value_sizes (all_told values.now))) }
+        (0 < length (all_value_sizes room (all_told values.now)))
+        × NoFit arena.old.bytes (total_of (all_value_sizes room (all_told values.now)))
+        × PassesLimit arena.old.bytes (total_of (all_value_sizes room (all_told values.now))) }
+    ensures grows { OnOk result (length arena.new.bytes ≤ length arena.old.bytes + 4127 + total_of (all_value_sizes room (all_told values.now))) }
     ensures kept { OnOk result (length arena.old.bytes ≤ length arena.new.bytes) }
 {
     if values.is_empty() {
         return Ok(NO_VALUES);
     }
-    let Ok(sizes) = plan_all(alloc, values) else {
+    let Ok(sizes) = plan_all(alloc, values, room) else {
         return Err(ArenaFault::Memory);
     };
-    make_sized(alloc, arena, values, &sizes)
+    make_sized(alloc, arena, values, room, &sizes)
 }

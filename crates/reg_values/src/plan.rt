@@ -125,15 +125,20 @@ fn plan_value(sizes: &mut Vec<u32>, value: &NewValue<'_>) -> Result<(), AllocErr
     plan_data(sizes, value.bytes.len())
 }
 
-/// The sizes of the cells of all values of a key, with their list's.
-pub(crate) fn plan_all(alloc: Global, values: &[NewValue<'_>]) -> Result<Vec<u32>, AllocError>
+/// The sizes of the cells of all values of a key, with that of their list, which is to have room for so many values.
+pub(crate) fn plan_all(
+    alloc: Global,
+    values: &[NewValue<'_>],
+    room: usize,
+) -> Result<Vec<u32>, AllocError>
     requires some { 0 < length values.now }
-    requires few { length values.now ≤ VALUES_LIMIT }
+    requires room { length values.now ≤ room }
+    requires few { room ≤ VALUES_LIMIT }
     requires new { MayFollow [] (all_told values.now) }
-    ensures { IfOk result (λ sizes. sizes.items ≡ all_value_sizes (all_told values.now)) }
+    ensures { IfOk result (λ sizes. sizes.items ≡ all_value_sizes room (all_told values.now)) }
 {
     let mut sizes = Vec::with_capacity(alloc, 2 * values.len() + 1)?;
-    sizes.push(cell_size(4 * values.len() as u32))?;
+    sizes.push(cell_size(4 * room as u32))?;
     for value in values {
         plan_value(&mut sizes, value)?;
     }

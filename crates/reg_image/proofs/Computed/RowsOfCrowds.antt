@@ -14,7 +14,7 @@ use Rattle.reg_image.specs.WalkSteps.{Seen}
 use Rattle.reg_image.specs.LoadingWalk.{root_path, key_from}
 use Rattle.reg_image.specs.Images.{nothing}
 use Rattle.reg_image.specs.WalkedKeys.{Comes}
-use Rattle.reg_image.specs.CrowdedBins.{bytes_taken}
+use Rattle.reg_image.specs.CrowdedBins.{bytes_taken, IsFront}
 use Rattle.reg_image.proofs.Computed.RowsOfWalks.{store, met, plain_rec, two}
 
 -- ---- the first key of two that are one: the walk comes to it, and then meets the fault Twice
@@ -60,22 +60,35 @@ class-four = refl
 class-five : class_sizes (replicate 5 7) ≡ 16 ∷ []
 class-five = refl
 
--- ---- all values of a key: a list of 4 bytes each, a record of 20 bytes and the name, and data of more than 4 bytes
+-- ---- all values of a key: a list of 4 bytes for each that it has room for, a record of 20 bytes and the name, and data of more than 4 bytes
 
 abbrev value : ℕ → Member
 value size = record { name = 97 ∷ []; kind = 1; bytes = replicate size 7 }
 
-values-none : all_value_sizes [] ≡ []
+values-none : all_value_sizes 3 [] ≡ []
 values-none = refl
 
-value-inline : all_value_sizes (value 4 ∷ []) ≡ 8 ∷ 32 ∷ []
+value-inline : all_value_sizes 1 (value 4 ∷ []) ≡ 8 ∷ 32 ∷ []
 unfolding data_sizes segment_size
 value-inline = refl
 
-values-two : all_value_sizes (value 4 ∷ value 5 ∷ []) ≡ 16 ∷ 32 ∷ 32 ∷ 16 ∷ []
+value-room : all_value_sizes 3 (value 4 ∷ []) ≡ 16 ∷ 32 ∷ []
+unfolding data_sizes segment_size
+value-room = refl
+
+values-two : all_value_sizes 2 (value 4 ∷ value 5 ∷ []) ≡ 16 ∷ 32 ∷ 32 ∷ 16 ∷ []
 unfolding data_sizes segment_size
 values-two = refl
 
-taken-two : bytes_taken (value 4 ∷ value 5 ∷ []) ≡ 96
+taken-two : bytes_taken 2 (value 4 ∷ value 5 ∷ []) ≡ 96
 unfolding data_sizes segment_size
 taken-two = refl
+
+-- of two small values both are the first, which one carve may take, and not one alone
+first-two : IsFront (value 4 ∷ value 5 ∷ []) (value 4 ∷ value 5 ∷ []) []
+unfolding data_sizes segment_size
+first-two = record { parts = refl; fit = omega arith; most = tt }
+
+first-one : IsFront (value 4 ∷ value 5 ∷ []) (value 4 ∷ []) (value 5 ∷ []) → ⊥
+unfolding data_sizes segment_size
+first-one f = let m = f.most in omega (arith, m)

@@ -32,11 +32,7 @@ new-push (x ∷ members) before m a s o =
     (a.0, a.1, new-push members (before ++ x ∷ []) m a.2 s (subst (λ ms. IsOther ms m.name) (sym (append_assoc before (x ∷ []) members)) o))
 
 -- one of them
-pub record IsNew (members : List Member) (index : ℕ) (m : Member) : Type 0 where
-  pub small : IsSmallValue m
-  pub other : IsOther (take index members) m.name
-
-new-behind : (members before : List Member) → AreNew before members → (index : ℕ) (m : Member) → slice_get members index ≡ Some m →
+pub new-behind : (members before : List Member) → AreNew before members → (index : ℕ) (m : Member) → slice_get members index ≡ Some m →
     IsSmallValue m × IsOther (before ++ take index members) m.name
 new-behind [] before a index m e = absurd (none-some _ e)
 new-behind (x ∷ members) before a zero m e =
@@ -46,6 +42,13 @@ new-behind (x ∷ members) before a (suc i) m e =
     let r = new-behind members (before ++ x ∷ []) a.2 i m e in
     (r.0, subst (λ ms. IsOther ms m.name) (append_assoc before (x ∷ []) (take i members)) r.1)
 
-pub new-at : (members : List Member) → AreNew [] members → (index : ℕ) (m : Member) → slice_get members index ≡ Some m →
-    IsNew members index m
-new-at members a index m e = let r = new-behind members [] a index m e in record { small = r.0; other = r.1 }
+-- ---- the first of them, and those behind these
+
+pub new-front : (front back before : List Member) → AreNew before (front ++ back) → AreNew before front
+new-front [] back before a = tt
+new-front (m ∷ front) back before a = (a.0, a.1, new-front front back (before ++ m ∷ []) a.2)
+
+pub new-back : (front back before : List Member) → AreNew before (front ++ back) → AreNew (before ++ front) back
+new-back [] back before a = subst (λ ms. AreNew ms back) (sym (append-none before)) a
+new-back (m ∷ front) back before a =
+    subst (λ ms. AreNew ms back) (append_assoc before (m ∷ []) front) (new-back front back (before ++ m ∷ []) a.2)

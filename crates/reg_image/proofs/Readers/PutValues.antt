@@ -1,11 +1,12 @@
 -- A key's values, put one behind the other.
 use Rattle.std.proofs.Common.{◌≡◌, ℕ, zero, suc, ◌+◌, ◌<◌, ◌≤◌, ◌||◌, Bool, true, false, cond, Option, Some, None, List, [], ◌∷◌, ◌++◌}
-use Rattle.std.proofs.Common.{length, take, get_or, slice_get, refl, sym, ap, ◌∙◌, subst, arith}
+use Rattle.std.proofs.Common.{length, take, get_or, slice_get, refl, sym, ap, ◌∙◌, subst, arith, length-append}
 use Rattle.std.specs.Option.{option_map}
 use Rattle.std.specs.List.{list_any}
 use Rattle.std.specs.FinMap.{get, insert, get-insert}
 use Rattle.std.proofs.lemmas.Bool.{false≢true}
 use Rattle.std.proofs.lemmas.Option.{none-some, same_Some}
+use Rattle.std.proofs.lemmas.List.{append_assoc, append-nil}
 use Rattle.reg_heap.specs.declared.limits.TheConstants.{VALUES_LIMIT}
 use Rattle.reg_heap.specs.Paths.{Path, Rec, Tree, Member}
 use Rattle.reg_heap.specs.Members.{same_name, index_named, values_with}
@@ -20,11 +21,11 @@ use Rattle.reg_tree.proofs.InsertKey.LastDescribed.{insert-twice}
 use Rattle.reg_tree.proofs.InsertKey.PathGrowth.{path-self}
 use Rattle.reg_image.specs.declared.values.ReadValue.{ReadValue}
 use Rattle.reg_image.specs.Internal.NamedRecords.{member_in, members_in}
-use Rattle.reg_image.specs.Internal.FitKeys.{IsOther, AreFit}
+use Rattle.reg_image.specs.Internal.FitKeys.{IsOther, AreFitBehind}
 use Rattle.reg_image.specs.CrowdedBins.{PutsValue, PutsEach, LacksValueRoom, CrowdsEach}
-use Rattle.reg_image.specs.Internal.BegunKeys.{IsBare}
+use Rattle.reg_image.specs.Internal.BegunKeys.{IsBegun}
 use Rattle.reg_image.proofs.KeyStacks.BuiltChains.{puts-more, crowds-each}
-use Rattle.reg_image.proofs.Readers.NewValues.{IsNew, new-at}
+use Rattle.reg_image.proofs.Readers.NewValues.{new-behind}
 
 -- ---- a name that no value has
 
@@ -69,32 +70,40 @@ turn [] index v d l e = absurd (omega (arith, l))
 turn (x ∷ values) zero v d l e = ap Some (sym e)
 turn (x ∷ values) (suc index) v d l e = turn values index v d (omega (arith, l)) e
 
--- the first values were put
+-- behind the values that the key had the first of these were put
 pub record ArePut (old now : Keys) (node : Node) (time : ℕ) (members : List Member) (index : ℕ) : Type 0 where
   pub nodes : KeepsNodes old now
   pub each : (p : Path) → IsAt old p node → PutsEach p time (take index members) old now
-  pub tree : (p : Path) → IsAt old p node → (base : Tree) → (r : Rec) → old.tree ≡ insert base p r → r.values ≡ [] → r.time ≡ time →
-      now.tree ≡ insert base p (record r { values = take index members })
+  pub tree : (p : Path) → IsAt old p node → (base : Tree) → (r : Rec) → old.tree ≡ insert base p r → AreFitBehind r.values members →
+      r.time ≡ time → now.tree ≡ insert base p (record r { values = r.values ++ take index members })
+
+-- so far none
+pub begins : (keys : Keys) (node : Node) (time : ℕ) (members : List Member) → ArePut keys keys node time members 0
+begins keys node time members = record {
+  nodes = λ p n at. at;
+  each = λ p at. refl;
+  tree = λ p at base r o f t. o ∙ ap (λ (ms : List Member). insert base p (record r { values = ms })) (sym (append-nil r.values));
+}
 
 module _ (old now : Keys) (node : Node) (time : ℕ) (values : List ReadValue) (index : ℕ)
     (a : ArePut old now node time (members_in values) index) where
   abbrev members : List Member
   members = members_in values
 
-  put-values : (p : Path) → IsAt old p node → (base : Tree) → (r : Rec) → old.tree ≡ insert base p r → r.values ≡ [] → r.time ≡ time →
-      values_at now.tree p ≡ take index members
-  put-values p at base r e v t =
-      ap (λ t. values_of (get t p)) (a.tree p at base r e v t) ∙ ap values_of (there base p (record r { values = take index members }))
+  put-values : (b : IsBegun old node time members) → values_at now.tree b.path ≡ b.key.values ++ take index members
+  put-values b =
+      ap (λ t. values_of (get t b.path)) (a.tree b.path b.at b.base b.key b.put b.follow b.timed)
+      ∙ ap values_of (there b.base b.path (record b.key { values = b.key.values ++ take index members }))
 
-  module _ (fit : AreFit members) (value : ReadValue) (here : slice_get values index ≡ Some value) where
+  module _ (value : ReadValue) (here : slice_get values index ≡ Some value) where
     abbrev m : Member
     m = member_in value
 
-    one : IsNew members index m
-    one = new-at members fit.new index m (read-at values index value here)
+    one : (before : List Member) → AreFitBehind before members → IsSmallValue m × IsOther (before ++ take index members) m.name
+    one before f = new-behind members before f.new index m (read-at values index value here)
 
-    pub is-small : IsSmallValue m
-    is-small = one.small
+    pub is-small : IsBegun old node time members → IsSmallValue m
+    is-small b = (one b.key.values b.follow).0
 
     one-more : suc index ≡ index + 1
     one-more = omega arith
@@ -104,23 +113,31 @@ module _ (old now : Keys) (node : Node) (time : ℕ) (values : List ReadValue) (
     none-put p at l = crowds-each old now p time members index m (read-at values index value here) (a.each p at) l
 
     -- the next one may be put
-    pub may-put : IsBare old node time → (p : Path) × IsAt now p node × IsOther (values_at now.tree p) m.name ×
+    pub may-put : IsBegun old node time members → (p : Path) × IsAt now p node × IsOther (values_at now.tree p) m.name ×
         (length (values_at now.tree p) < VALUES_LIMIT)
     may-put b =
-        let v = put-values b.path b.at b.base b.key b.put b.bare b.timed in
+        let v = put-values b in
         let n = ap length v in
+        let l = length-append b.key.values (take index members) in
         let k = taken members index m (read-at values index value here) in
-        let few = fit.few in (
+        let few = b.follow.few in (
           b.path,
           a.nodes b.path node b.at,
-          subst (λ ms. IsOther ms m.name) (sym v) one.other,
-          omega (arith, n, k, few),
+          subst (λ ms. IsOther ms m.name) (sym v) (one b.key.values b.follow).1,
+          omega (arith, n, l, k, few),
         )
       where
         taken : (ms : List Member) (i : ℕ) (m : Member) → slice_get ms i ≡ Some m → length (take i ms) < length ms
         taken [] i m e = absurd (none-some _ e)
         taken (x ∷ ms) zero m e = omega arith
         taken (x ∷ ms) (suc i) m e = let t = taken ms i m e in omega (arith, t)
+
+    with-one : (before : List Member) → AreFitBehind before members →
+        values_with m.name m.kind m.bytes (before ++ take index members) ≡ before ++ take (index + 1) members
+    with-one before f =
+        with-new m.name m.kind m.bytes (before ++ take index members) (index-none m.name (before ++ take index members) (one before f).1)
+        ∙ (append_assoc before (take index members) (m ∷ [])
+        ∙ ap (λ ms. before ++ ms) (sym (take-more members index m (read-at values index value here)) ∙ ap (λ i. take i members) one-more))
 
     pub one-put : (new : Keys) →
         ((p : Path) → IsAt now p node → new.tree ≡ edited now.tree p (with_value m.name m.kind m.bytes time)) → KeepsNodes now new →
@@ -130,30 +147,33 @@ module _ (old now : Keys) (node : Node) (time : ℕ) (values : List ReadValue) (
       each = λ p at. subst (λ ms. PutsEach p time ms old new)
           (sym (take-more members index m (read-at values index value here)) ∙ ap (λ i. take i members) one-more)
           (puts-more p time (take index members) old now new m (a.each p at) (v p (a.nodes p node at)));
-      tree = λ p at base r o v t.
-          let before : Rec = record r { values = take index members } in
+      tree = λ p at base r o w t.
+          let before : Rec = record r { values = r.values ++ take index members } in
           let f : Rec → Rec = with_value m.name m.kind m.bytes time in
-          let with-one : values_with m.name m.kind m.bytes (take index members) ≡ take (index + 1) members =
-          with-new m.name m.kind m.bytes (take index members) (index-none m.name (take index members) one.other)
-          ∙ (sym (take-more members index m (read-at values index value here))
-          ∙ ap (λ i. take i members) (let s : suc index ≡ index + 1 = omega arith in s)) in
+          let more = with-one r.values w in
           e p (a.nodes p node at)
-          ∙ (ap (λ (t : Tree). edited t p f) (a.tree p at base r o v t)
+          ∙ (ap (λ (t : Tree). edited t p f) (a.tree p at base r o w t)
           ∙ (edited-at (insert base p before) p before f (there base p before)
           ∙ (insert-twice base p before (f before)
-          ∙ (λ i. insert base p (record r { time = sym t i; values = with-one i })))));
+          ∙ (λ i. insert base p (record r { time = sym t i; values = more i })))));
     }
 
+whole : (ms : List Member) (i : ℕ) → length ms ≤ i → take i ms ≡ ms
+whole [] zero l = refl
+whole [] (suc i) l = refl
+whole (x ∷ ms) zero l = absurd (omega (arith, l))
+whole (x ∷ ms) (suc i) l = ap (λ ms. x ∷ ms) (whole ms i (omega (arith, l)))
+
 -- all were put
-pub all-put : (old now : Keys) (node : Node) (time : ℕ) (members : List Member) (index : ℕ) → ArePut old now node time members index →
-    length members ≤ index → (p : Path) → IsAt old p node → PutsEach p time members old now
-all-put old now node time members index a l p at = subst (λ ms. PutsEach p time ms old now) (whole members index l) (a.each p at)
-  where
-    whole : (ms : List Member) (i : ℕ) → length ms ≤ i → take i ms ≡ ms
-    whole [] zero l = refl
-    whole [] (suc i) l = refl
-    whole (x ∷ ms) zero l = absurd (omega (arith, l))
-    whole (x ∷ ms) (suc i) l = ap (λ ms. x ∷ ms) (whole ms i (omega (arith, l)))
+module _ (old now : Keys) (node : Node) (time : ℕ) (members : List Member) (index : ℕ) (a : ArePut old now node time members index)
+    (l : length members ≤ index) (p : Path) (at : IsAt old p node) where
+  pub all-put : PutsEach p time members old now
+  all-put = subst (λ ms. PutsEach p time ms old now) (whole members index l) (a.each p at)
+
+  pub all-there : (base : Tree) (r : Rec) → old.tree ≡ insert base p r → AreFitBehind r.values members → r.time ≡ time →
+      now.tree ≡ insert base p (record r { values = r.values ++ members })
+  all-there base r o f t =
+      subst (λ ms. now.tree ≡ insert base p (record r { values = r.values ++ ms })) (whole members index l) (a.tree p at base r o f t)
 
 -- no value is left
 pub not-left : (values : List ReadValue) (index : ℕ) → length values ≤ index → length (members_in values) ≤ index

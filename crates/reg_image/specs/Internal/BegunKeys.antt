@@ -2,7 +2,7 @@
 use Rattle.std.specs.Prelude.{◌≡◌, ◌⊎◌, ℕ, zero, suc, Result, Ok, Err, IsOk, List, [], ⊤}
 use Rattle.std.specs.Cow.{cow_slice_items}
 use Rattle.std.specs.FinMap.{insert}
-use Rattle.reg_heap.specs.Paths.{Path, Rec, Tree}
+use Rattle.reg_heap.specs.Paths.{Path, Rec, Tree, Member}
 use Rattle.reg_heap.specs.Heaps.{Heap}
 use Rattle.reg_arena.specs.declared.ArenaFault.{ArenaFault}
 use Rattle.reg_arena.specs.declared.ArenaFault.TheVariants.{Full, Memory as OutOfMemory}
@@ -20,6 +20,7 @@ use Rattle.reg_image.specs.declared.subkeys.SubkeyParts.{SubkeyParts}
 use Rattle.reg_image.specs.WalkSteps.{Seen, Step, ◌>>=◌}
 use Rattle.reg_image.specs.LoadingWalk.{head_from, keys_each, lists_each, list_from, subkeys_from}
 use Rattle.reg_image.specs.Internal.CellStates.{IsTable}
+use Rattle.reg_image.specs.Internal.FitKeys.{AreFitBehind}
 use Rattle.reg_image.specs.Internal.ListParts.{entries_in}
 use Rattle.reg_image.specs.Internal.NamedRecords.{key_of, members_in}
 use Rattle.reg_image.specs.Internal.ReaderOutcomes.{IsDone, Fails}
@@ -72,6 +73,16 @@ pub record IsBare (keys : Keys) (node : Node) (time : ℕ) : Type 0 where
   pub put : keys.tree ≡ insert base path key
   pub bare : key.values ≡ []
   pub timed : key.time ≡ time
+
+-- a node is that of a key of a time, which was put into a tree with values that these may follow
+pub record IsBegun (keys : Keys) (node : Node) (time : ℕ) (members : List Member) : Type 0 where
+  pub path : Path
+  pub base : Tree
+  pub key : Rec
+  pub at : IsAt keys path node
+  pub put : keys.tree ≡ insert base path key
+  pub timed : key.time ≡ time
+  pub follow : AreFitBehind key.values members
 
 -- ---- the list of its subkeys
 

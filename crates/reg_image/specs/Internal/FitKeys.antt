@@ -1,5 +1,5 @@
 -- What was read of a key is within the limits, so that the key can be built.
-use Rattle.std.specs.Prelude.{◌≡◌, ℕ, ◌≤◌, bit_and, true, false, List, [], ◌∷◌, ◌++◌, length, ⊤}
+use Rattle.std.specs.Prelude.{◌≡◌, ℕ, ◌≤◌, ◌+◌, bit_and, true, false, List, [], ◌∷◌, ◌++◌, length, ⊤}
 use Rattle.std.specs.List.{list_any}
 use Rattle.std.specs.Cow.{cow_slice_items}
 use Rattle.reg_names.specs.Names.{is_key_name}
@@ -29,6 +29,11 @@ AreNew before (m ∷ members) = IsSmallValue m × IsOther before m.name × AreNe
 pub record AreFit (members : List Member) : Type 0 where
   pub new : AreNew [] members
   pub few : length members ≤ VALUES_LIMIT
+
+-- values that may come behind those that a key has
+pub record AreFitBehind (before members : List Member) : Type 0 where
+  pub new : AreNew before members
+  pub few : length before + length members ≤ VALUES_LIMIT
 
 -- a key's class, descriptor and values
 pub record AreFitParts (k : KeyParts) : Type 0 where

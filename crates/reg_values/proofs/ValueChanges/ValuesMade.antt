@@ -98,12 +98,12 @@ module _ (h0 h1 : Heap) (all : List ℕ) (l : ℕ) (ss : List ℕ) (a : AreNew h
 
 -- ---- what the carve gave
 
-pub new-cells : (h0 h1 : Heap) (values : List NewValue) (sizes all out before offsets : List ℕ) → sizes ≡ all_value_sizes (all_told values) → 0 < length values →
+pub new-cells : (h0 h1 : Heap) (values : List NewValue) (room : ℕ) (sizes all out before offsets : List ℕ) → sizes ≡ all_value_sizes room (all_told values) → 0 < length values →
     all ≡ out → out ≡ before ++ offsets → before ≡ [] → AreNew h0 h1 offsets sizes →
-    AreNew h0 h1 all (cell_size (4 * length values) ∷ each_value_sizes (all_told values))
-new-cells h0 h1 values sizes all out before offsets e some a o b n =
-    subst (λ xs. AreNew h0 h1 xs (cell_size (4 * length values) ∷ each_value_sizes (all_told values))) (sym (a ∙ (o ∙ ap (λ xs. xs ++ offsets) b)))
-    (subst (AreNew h0 h1 offsets) (e ∙ sym (all-sizes values some)) n)
+    AreNew h0 h1 all (cell_size (4 * room) ∷ each_value_sizes (all_told values))
+new-cells h0 h1 values room sizes all out before offsets e some a o b n =
+    subst (λ xs. AreNew h0 h1 xs (cell_size (4 * room) ∷ each_value_sizes (all_told values))) (sym (a ∙ (o ∙ ap (λ xs. xs ++ offsets) b)))
+    (subst (AreNew h0 h1 offsets) (e ∙ sym (all-sizes values room some)) n)
 
 -- ---- how the bins grew
 

@@ -67,9 +67,9 @@ pub each-ok : (ms : List Member) → AreSizes (each_value_sizes ms)
 each-ok [] = tt
 each-ok (m ∷ ms) = all-app _ (one_value_sizes m) (each_value_sizes ms) (one-ok m) (each-ok ms)
 
-pub all-ok : (members : List Member) → AreSizes (all_value_sizes members)
-all-ok [] = tt
-all-ok (m ∷ members) = (cell-ok (4 * length (m ∷ members)), each-ok (m ∷ members))
+pub all-ok : (room : ℕ) (members : List Member) → AreSizes (all_value_sizes room members)
+all-ok room [] = tt
+all-ok room (m ∷ members) = (cell-ok (4 * room), each-ok (m ∷ members))
 
 pub each-push : (ms : List Member) (m : Member) → each_value_sizes (ms ++ m ∷ []) ≡ each_value_sizes ms ++ one_value_sizes m
 each-push [] m = append-nil (one_value_sizes m)
@@ -85,17 +85,18 @@ sizes-more values index d size old new l e f =
     ∙ (ap (λ xs. xs ++ one_value_sizes m) e
     ∙ ap (λ xs. size ∷ xs) (sym (each-push (take index (all_told values)) m) ∙ ap each_value_sizes (sym more)))
 
-pub all-sizes : (values : List NewValue) → 0 < length values → cell_size (4 * length values) ∷ each_value_sizes (all_told values) ≡ all_value_sizes (all_told values)
-all-sizes [] l = absurd (omega (arith, l))
-all-sizes (v ∷ values) l = ap (λ n. cell_size (4 * n) ∷ each_value_sizes (all_told (v ∷ values))) (sym (told-length (v ∷ values)))
+pub all-sizes : (values : List NewValue) (room : ℕ) → 0 < length values →
+    cell_size (4 * room) ∷ each_value_sizes (all_told values) ≡ all_value_sizes room (all_told values)
+all-sizes [] room l = absurd (omega (arith, l))
+all-sizes (v ∷ values) room l = refl
 
-pub sizes-all : (values : List NewValue) (index : ℕ) (sizes : List ℕ) → 0 < length values → length values ≤ index →
-    sizes ≡ cell_size (4 * length values) ∷ each_value_sizes (take index (all_told values)) → sizes ≡ all_value_sizes (all_told values)
-sizes-all values index sizes s l e =
-    e ∙ (ap (λ ms. cell_size (4 * length values) ∷ each_value_sizes ms) (all-made values index l) ∙ all-sizes values s)
+pub sizes-all : (values : List NewValue) (room index : ℕ) (sizes : List ℕ) → 0 < length values → length values ≤ index →
+    sizes ≡ cell_size (4 * room) ∷ each_value_sizes (take index (all_told values)) → sizes ≡ all_value_sizes room (all_told values)
+sizes-all values room index sizes s l e =
+    e ∙ (ap (λ ms. cell_size (4 * room) ∷ each_value_sizes ms) (all-made values index l) ∙ all-sizes values room s)
 
-pub some-sizes : (values : List NewValue) (sizes : List ℕ) → sizes ≡ all_value_sizes (all_told values) → 0 < length values → 0 < length sizes
-some-sizes values sizes e some = let l = ap length (e ∙ sym (all-sizes values some)) in omega (arith, l)
+pub some-sizes : (values : List NewValue) (room : ℕ) (sizes : List ℕ) → sizes ≡ all_value_sizes room (all_told values) → 0 < length values → 0 < length sizes
+some-sizes values room sizes e some = let l = ap length (e ∙ sym (all-sizes values room some)) in omega (arith, l)
 
 -- ---- how much that is together
 
@@ -109,25 +110,17 @@ total-more values index d l =
     ∙ (ap total_of (each-push (take index (all_told values)) m)
     ∙ total-append (each_value_sizes (take index (all_told values))) (one_value_sizes m))
 
-total-front : (n : ℕ) (ms : List Member) → total_of (each_value_sizes (take n ms)) ≤ total_of (each_value_sizes ms)
-total-front zero ms = omega arith
-total-front (suc n) [] = omega arith
-total-front (suc n) (m ∷ ms) =
-    let k = total-front n ms in
-    omega (arith, k, total-append (one_value_sizes m) (each_value_sizes (take n ms)), total-append (one_value_sizes m) (each_value_sizes ms))
+-- what the list and these values take, where there is one
+pub total-some : (room : ℕ) (ms : List Member) → 0 < length ms → total_of (all_value_sizes room ms) ≡ cell_size (4 * room) + total_of (each_value_sizes ms)
+total-some room [] l = absurd (omega (arith, l))
+total-some room (m ∷ ms) l = refl
 
--- what the list and the values up to one take is within the whole
-pub total-past : (values : List NewValue) (index : ℕ) → index < length values →
-    cell_size (4 * length values) + total_of (each_value_sizes (take (index + 1) (all_told values))) ≤ total_of (all_value_sizes (all_told values))
-total-past values index l =
-    let t = ap total_of (all-sizes values (omega (arith, l))) in
-    let f = total-front (index + 1) (all_told values) in
-    omega (arith, t, f)
+-- and at most
+pub total-within : (room : ℕ) (ms : List Member) → total_of (all_value_sizes room ms) ≤ cell_size (4 * room) + total_of (each_value_sizes ms)
+total-within room [] = omega arith
+total-within room (m ∷ ms) = omega arith
 
-pub total-all : (values : List NewValue) (index : ℕ) → length values ≤ index →
-    total_of (all_value_sizes (all_told values)) ≤ cell_size (4 * length values) + total_of (each_value_sizes (take index (all_told values)))
-total-all [] index l = omega arith
-total-all (v ∷ values) index l =
-    let t = ap total_of (all-sizes (v ∷ values) (omega arith)) in
-    let a = ap (λ ms. total_of (each_value_sizes ms)) (all-made (v ∷ values) index l) in
-    omega (arith, t, a)
+-- a value up to one is there
+pub some-taken : (values : List NewValue) (index : ℕ) → index < length values → 0 < length (take (index + 1) (all_told values))
+some-taken [] index l = absurd (omega (arith, l))
+some-taken (v ∷ values) index l = subst (λ i. 0 < length (take i (all_told (v ∷ values)))) (sym (add-one index)) (omega arith)

@@ -10,7 +10,7 @@ use Rattle.reg_values.proofs.ValueChanges.ValuesMade.{some-cells, list-space, ot
 use Rattle.reg_values.proofs.making.make_sized.Goals as goal
 
 pub carve-requires-clause-sizes : goal.carve-requires-clause-sizes
-carve-requires-clause-sizes c = subst AreSizes (sym c.requires.sizes) (all-ok (all_told c.args.values.now))
+carve-requires-clause-sizes c = subst AreSizes (sym c.requires.sizes) (all-ok c.args.room (all_told c.args.values.now))
 
 pub bounds-all-0 : goal.bounds-all-0
 bounds-all-0 c =
@@ -18,8 +18,8 @@ bounds-all-0 c =
     let h1 = heap_of c.carve.new.self in
     let values = c.args.values.now in
     let all = c.as_slice-all.result.now in
-    let o = c.in_ok-carve.ensures.ok (some-sizes values c.args.sizes.now c.requires.sizes c.requires.some) in
-    let a = new-cells h0 h1 values c.args.sizes.now all _ _ o.0 c.requires.sizes c.requires.some c.as_slice-all.ensures.value o.1 c.in-Ok.ensures.items o.3.are_new in
+    let o = c.in_ok-carve.ensures.ok (some-sizes values c.args.room c.args.sizes.now c.requires.sizes c.requires.some) in
+    let a = new-cells h0 h1 values c.args.room c.args.sizes.now all _ _ o.0 c.requires.sizes c.requires.some c.as_slice-all.ensures.value o.1 c.in-Ok.ensures.items o.3.are_new in
     some-cells h0 h1 all _ _ a
 
 pub fill-requires-clause-list : goal.fill-requires-clause-list
@@ -28,9 +28,10 @@ fill-requires-clause-list c =
     let h1 = heap_of c.carve.new.self in
     let values = c.args.values.now in
     let all = c.as_slice-all.result.now in
-    let o = c.in_ok-carve.ensures.ok (some-sizes values c.args.sizes.now c.requires.sizes c.requires.some) in
-    let a = new-cells h0 h1 values c.args.sizes.now all _ _ o.0 c.requires.sizes c.requires.some c.as_slice-all.ensures.value o.1 c.in-Ok.ensures.items o.3.are_new in
-    room-less h1 (get_or all 0 0) _ (4 * length values) (omega arith) (list-space h0 h1 all _ _ a)
+    let o = c.in_ok-carve.ensures.ok (some-sizes values c.args.room c.args.sizes.now c.requires.sizes c.requires.some) in
+    let a = new-cells h0 h1 values c.args.room c.args.sizes.now all _ _ o.0 c.requires.sizes c.requires.some c.as_slice-all.ensures.value o.1 c.in-Ok.ensures.items o.3.are_new in
+    let r = c.requires.room in
+    room-less h1 (get_or all 0 0) _ (4 * length values) (omega (arith, r)) (list-space h0 h1 all _ _ a)
 
 pub fill-requires-clause-cells : goal.fill-requires-clause-cells
 fill-requires-clause-cells c =
@@ -38,8 +39,8 @@ fill-requires-clause-cells c =
     let h1 = heap_of c.carve.new.self in
     let values = c.args.values.now in
     let all = c.as_slice-all.result.now in
-    let o = c.in_ok-carve.ensures.ok (some-sizes values c.args.sizes.now c.requires.sizes c.requires.some) in
-    let a = new-cells h0 h1 values c.args.sizes.now all _ _ o.0 c.requires.sizes c.requires.some c.as_slice-all.ensures.value o.1 c.in-Ok.ensures.items o.3.are_new in
+    let o = c.in_ok-carve.ensures.ok (some-sizes values c.args.room c.args.sizes.now c.requires.sizes c.requires.some) in
+    let a = new-cells h0 h1 values c.args.room c.args.sizes.now all _ _ o.0 c.requires.sizes c.requires.some c.as_slice-all.ensures.value o.1 c.in-Ok.ensures.items o.3.are_new in
     other-room h0 h1 all _ _ a
 
 pub fill-requires-clause-apart : goal.fill-requires-clause-apart
@@ -48,8 +49,8 @@ fill-requires-clause-apart c =
     let h1 = heap_of c.carve.new.self in
     let values = c.args.values.now in
     let all = c.as_slice-all.result.now in
-    let o = c.in_ok-carve.ensures.ok (some-sizes values c.args.sizes.now c.requires.sizes c.requires.some) in
-    let a = new-cells h0 h1 values c.args.sizes.now all _ _ o.0 c.requires.sizes c.requires.some c.as_slice-all.ensures.value o.1 c.in-Ok.ensures.items o.3.are_new in
+    let o = c.in_ok-carve.ensures.ok (some-sizes values c.args.room c.args.sizes.now c.requires.sizes c.requires.some) in
+    let a = new-cells h0 h1 values c.args.room c.args.sizes.now all _ _ o.0 c.requires.sizes c.requires.some c.as_slice-all.ensures.value o.1 c.in-Ok.ensures.items o.3.are_new in
     list-apart h0 h1 all _ _ a
 
 pub returns-clause-ok : goal.returns-clause-ok
@@ -58,14 +59,15 @@ returns-clause-ok c =
     let h1 = heap_of c.carve.new.self in
     let values = c.args.values.now in
     let all = c.as_slice-all.result.now in
-    let o = c.in_ok-carve.ensures.ok (some-sizes values c.args.sizes.now c.requires.sizes c.requires.some) in
-    let a = new-cells h0 h1 values c.args.sizes.now all _ _ o.0 c.requires.sizes c.requires.some c.as_slice-all.ensures.value o.1 c.in-Ok.ensures.items o.3.are_new in
+    let o = c.in_ok-carve.ensures.ok (some-sizes values c.args.room c.args.sizes.now c.requires.sizes c.requires.some) in
+    let a = new-cells h0 h1 values c.args.room c.args.sizes.now all _ _ o.0 c.requires.sizes c.requires.some c.as_slice-all.ensures.value o.1 c.in-Ok.ensures.items o.3.are_new in
     let h2 = heap_of c.fill.new.arena in
     let n = told-length values in
     let s = c.requires.some in
+    let r = c.requires.room in
     let f = c.requires.few in
     subst (λ n. Became h0 h2 [] n (get_or all 0 0) (all_told values)) n
-    (together h0 h1 all _ _ a h2 c.fill.ensures.fills (all_told values) c.fill.ensures.stand c.requires.new (omega (arith, n, s)) (omega (arith, n, f)))
+    (together h0 h1 all _ _ a h2 c.fill.ensures.fills (all_told values) c.fill.ensures.stand c.requires.new (omega (arith, n, s)) (omega (arith, n, r, f)))
 
 pub returns-clause-cells : goal.returns-clause-cells
 returns-clause-cells c =
@@ -73,19 +75,19 @@ returns-clause-cells c =
     let h1 = heap_of c.carve.new.self in
     let values = c.args.values.now in
     let all = c.as_slice-all.result.now in
-    let o = c.in_ok-carve.ensures.ok (some-sizes values c.args.sizes.now c.requires.sizes c.requires.some) in
-    let a = new-cells h0 h1 values c.args.sizes.now all _ _ o.0 c.requires.sizes c.requires.some c.as_slice-all.ensures.value o.1 c.in-Ok.ensures.items o.3.are_new in
+    let o = c.in_ok-carve.ensures.ok (some-sizes values c.args.room c.args.sizes.now c.requires.sizes c.requires.some) in
+    let a = new-cells h0 h1 values c.args.room c.args.sizes.now all _ _ o.0 c.requires.sizes c.requires.some c.as_slice-all.ensures.value o.1 c.in-Ok.ensures.items o.3.are_new in
     let h2 = heap_of c.fill.new.arena in
-    let e = all-sizes values c.requires.some in
-    subst (Makes h0 h2) (e ∙ sym c.requires.sizes) (filled-makes h0 h1 all _ _ a h2 c.fill.ensures.fills (subst AreSizes (sym e) (all-ok (all_told values))))
+    let e = all-sizes values c.args.room c.requires.some in
+    subst (Makes h0 h2) (e ∙ sym c.requires.sizes) (filled-makes h0 h1 all _ _ a h2 c.fill.ensures.fills (subst AreSizes (sym e) (all-ok c.args.room (all_told values))))
 
 pub returns-clause-stay : goal.returns-clause-stay
 returns-clause-stay c =
-    let o = c.in_ok-carve.ensures.ok (some-sizes c.args.values.now c.args.sizes.now c.requires.sizes c.requires.some) in
+    let o = c.in_ok-carve.ensures.ok (some-sizes c.args.values.now c.args.room c.args.sizes.now c.requires.sizes c.requires.some) in
     new-first (heap_of c.args.arena.now) (heap_of c.carve.new.self) (heap_of c.fill.new.arena) _ o.3.are_new.come (fills-keeps _ _ _ c.fill.ensures.fills)
 
 pub returns-clause-growth : goal.returns-clause-growth
 returns-clause-growth c =
-    let some = some-sizes c.args.values.now c.args.sizes.now c.requires.sizes c.requires.some in
+    let some = some-sizes c.args.values.now c.args.room c.args.sizes.now c.requires.sizes c.requires.some in
     let o = c.in_ok-carve.ensures.ok some in
     grows-as _ c.carve.new.self.bytes _ _ c.fill.ensures.long (exact-grows _ _ _ o.0 some o.2)

@@ -17,4 +17,4 @@ loop-value-preserved c =
     sizes-more c.args.values.now c.loop-value.value-index none _ c.loop-value.sizes.items _ c.loop-value-test.true c.loop-value.invariant c.in_ok-plan_value.ensures
 
 pub returns : goal.returns
-returns c = sizes-all c.args.values.now c.loop-value.value-index _ c.requires.some c.loop-value-test.false c.loop-value.invariant
+returns c = sizes-all c.args.values.now c.args.room c.loop-value.value-index _ c.requires.some c.loop-value-test.false c.loop-value.invariant

@@ -32,5 +32,5 @@ returns-clause-lengths c = lengths_changed _ _ c.self.invariant _ c.self.view_is
 
 pub returns-clause-takes : goal.returns-clause-takes
 returns-clause-takes c =
-    takes_seen _ _ _ c.self.view_is c.build.new.arena c.build.result (λ (keys : Keys). all_value_sizes (all_told c.args.values.now))
+    takes_seen _ _ _ c.self.view_is c.build.new.arena c.build.result (λ (keys : Keys). all_value_sizes c.args.room (all_told c.args.values.now))
     c.build.ensures.cells c.build.ensures.stay c.build.ensures.growth c.build.ensures.kept
