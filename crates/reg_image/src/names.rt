@@ -18,11 +18,10 @@ use std::borrow::CowSlice;
 fn is_allowed(letter: u16, key: bool) -> bool
     ensures { result ≡ is_allowed_in key letter }
 {
-    if key {
-        letter >= 1 && letter <= 127 && letter != 92
-    } else {
-        letter >= 1 && letter <= 127
-    }
+    // Both tests are made in any case, so that a loop over a name has one branch for each character.
+    let is_plain = letter >= 1 && letter <= 127;
+    let is_parting = key & (letter == 92);
+    is_plain & !is_parting
 }
 
 /// Whether all characters of one byte each may stand in a key's name, or in a value's.
