@@ -68,9 +68,9 @@ fn build_tree(alloc: Global, bins: &[u8], block: BaseBlock) -> Result<Tree, Load
 /// `Limit`. `Limit` comes else only where new bins have no room for a key that is met before any fault: bins that came about by
 /// building the keys met before it one after the other, each with just the cells that it takes, and grew only where no free cell
 /// had room. They have none for its key node with its descriptor and its place in a list, or then none for its class, or then none
-/// for its values: for all of them together, or where these have cells of more than 16,777,216 bytes, for one of them behind those
-/// before it. No room is that no free cell has room for all cells of one of these, and that with a bin more for them the bins would
-/// pass 268,435,456 bytes. `Memory` may come as soon as the base block passed.
+/// for its values: for as many of them together, from the first on, as have cells of at most 16,777,216 bytes with a list that has
+/// room for all, or then for one of the others behind those before it. No room is that no free cell has room for all cells of one of
+/// these, and that with a bin more for them the bins would pass 268,435,456 bytes. `Memory` may come as soon as the base block passed.
 pub fn load<R: Read>(alloc: Global, input: &mut R) -> Result<Hive, LoadFault>
     ensures ok { IfOk result (λ hive. (image : List ℕ) × Consumes (R.remaining input.old) (R.remaining input.new) image
         × IsLoaded image (view_of hive)) }

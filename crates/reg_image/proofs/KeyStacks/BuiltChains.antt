@@ -1,12 +1,14 @@
 -- Keys and values that were built one behind the other.
 use Rattle.std.proofs.Common.{◌≡◌, ◌⊎◌, ℕ, zero, suc, Some, List, [], ◌∷◌, ◌++◌, take, drop, slice_get, inl, inr}
-use Rattle.std.proofs.Common.{refl, sym, ap, subst}
+use Rattle.std.proofs.Common.{refl, sym, ap, ◌∙◌, subst}
+use Rattle.std.specs.FinMap.{insert}
 use Rattle.std.proofs.lemmas.Option.{none-some, same_Some}
-use Rattle.reg_heap.specs.Paths.{Path, Rec, Member}
+use Rattle.reg_heap.specs.Paths.{Path, Rec, Tree, Member}
 use Rattle.reg_heap.specs.Edits.{child_path}
 use Rattle.reg_arena.specs.declared.ArenaFault.{ArenaFault}
 use Rattle.reg_arena.specs.declared.ArenaFault.TheVariants.{Full, Memory as OutOfMemory}
-use Rattle.reg_tree.specs.TreeKeys.{Keys}
+use Rattle.reg_tree.specs.declared.node.Node.{Node}
+use Rattle.reg_tree.specs.TreeKeys.{Keys, IsAt}
 use Rattle.reg_image.specs.declared.LoadFault.{LoadFault}
 use Rattle.reg_image.specs.declared.LoadFault.TheVariants.{Limit, Memory}
 use Rattle.reg_tree.specs.BuiltKeys.{AreWhole, BuildsRoot, BuildsKey, LacksKeyRoom, LacksClassRoom}
@@ -80,6 +82,15 @@ crowds-next (e ∷ told) keys path above key b p c = (keys, above, b, p, c)
 module _ (made key : Rec) (given : List Member) (same : made ≡ bare_of key) (values : given ≡ key.values) where
   its-path : (above : Path) → child_path above made.name ≡ child_path above key.name
   its-path above = ap (λ (r : Rec). child_path above r.name) same
+
+  -- the key with its values, and its node
+  pub told-below : (new : Keys) (base : Tree) (above : Path) (node : Node) →
+      new.tree ≡ insert base (child_path above made.name) (record made { values = given }) → IsAt new (child_path above made.name) node →
+      (new.tree ≡ insert base (child_path above key.name) key) × IsAt new (child_path above key.name) node
+  told-below new base above node e at =
+      subst (λ path. (new.tree ≡ insert base path key) × IsAt new path node) (its-path above)
+      (e ∙ ap (insert base (child_path above made.name)) (ap (λ (r : Rec). record r { values = given }) same
+      ∙ ap (λ (ms : List Member). record key { values = ms }) values), at)
 
   pub builds-one : (old mid new : Keys) (above : Path) → BuildsKey old mid above made → AreWhole mid →
       PutsValues (child_path above made.name) key.time given mid new → BuildsOne old new above key

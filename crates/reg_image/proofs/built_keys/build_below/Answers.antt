@@ -9,7 +9,7 @@ use Rattle.reg_image.specs.Internal.BegunKeys.{IsLack, told_as}
 use Rattle.reg_image.specs.Internal.NamedRecords.{members_in}
 use Rattle.reg_image.specs.CrowdedBins.{CrowdsBelow}
 use Rattle.reg_image.proofs.KeyStacks.StackEnds.{if_err}
-use Rattle.reg_image.proofs.KeyStacks.BuiltChains.{as-lack, lack-as, builds-one, crowds-below, crowds-key}
+use Rattle.reg_image.proofs.KeyStacks.BuiltChains.{as-lack, lack-as, told-below, builds-one, crowds-below, crowds-key}
 use Rattle.reg_image.proofs.built_keys.build_below.Goals as goal
 
 pub build_key-requires-clause-like : goal.build_key-requires-clause-like
@@ -40,6 +40,17 @@ returns-in_err-put_values-in-Ok-clause-err c p is =
     (crowds-below (built_key c.new_key.result) key (members_in c.as_slice.result.now) c.new_key.ensures.built
     (ap members_in c.as_slice.ensures.value) _ _ p (c.in-Ok.ensures.builds p is) whole)
     (c.in_err-put_values-in-Ok.ensures.err (child_path p c.new_key.result.name.now) (c.in-Ok.ensures.ok p is).1))
+
+pub returns-in_ok-put_values-in-Ok-clause-ok : goal.returns-in_ok-put_values-in-Ok-clause-ok
+returns-in_ok-put_values-in-Ok-clause-ok c p is =
+    let built = c.in-Ok.ensures.ok p is in
+    let path = child_path p c.new_key.result.name.now in
+    let key = told_as c.args.named.now c.args.parts.now in
+    told-below (built_key c.new_key.result) key (members_in c.as_slice.result.now) c.new_key.ensures.built
+    (ap members_in c.as_slice.ensures.value) _ _ p _
+    (c.in_ok-put_values-in-Ok.ensures.ok path built.1 c.args.tree.now.tree (built_key c.new_key.result) built.0 refl
+    (ap (λ (r : Rec). r.time) c.new_key.ensures.built))
+    (c.in_ok-put_values-in-Ok.ensures.nodes path _ built.1)
 
 pub returns-in_ok-put_values-in-Ok-clause-builds : goal.returns-in_ok-put_values-in-Ok-clause-builds
 returns-in_ok-put_values-in-Ok-clause-builds c p is =

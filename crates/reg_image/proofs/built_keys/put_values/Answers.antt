@@ -38,11 +38,12 @@ slice_bounds-put_each-start c =
     let w = c.front_of_one_carve-count.ensures.within in
     omega (arith, n, w)
 
-pub put_each-requires-clause-begun : goal.put_each-requires-clause-begun
-put_each-requires-clause-begun c =
-    then-begun c.args.values.now c.as_slice-all.result.now (ap all_told c.as_slice-all.ensures.value ∙ c.in-Ok.ensures)
-    c.front_of_one_carve-count.result c.requires.values _ _ c.args.node c.args.time c.in_ok-put_all.ensures.nodes c.in_ok-put_all.ensures.ok
-    c.requires.bare
+pub put_each-requires : goal.put_each-requires
+put_each-requires c = record {
+  begun = then-begun c.args.values.now c.as_slice-all.result.now (ap all_told c.as_slice-all.ensures.value ∙ c.in-Ok.ensures)
+      c.front_of_one_carve-count.result c.requires.values _ _ c.args.node c.args.time c.in_ok-put_all.ensures.nodes
+      c.in_ok-put_all.ensures.ok c.requires.bare;
+}
 
 pub returns-in_err-put_all-clause-err : goal.returns-in_err-put_all-clause-err
 returns-in_err-put_all-clause-err c p at =
