@@ -8,8 +8,8 @@ use crate::LoadFault;
 use std::alloc::Global;
 use std::io::{self, Read};
 
-/// How many bytes room is made for at first.
-const FIRST_ROOM: usize = 65_536;
+/// How many bytes are asked for at once: few enough to be in the processor's cache still when they are read into.
+const PART: usize = 131_072;
 
 /// How many bytes a read gave. None are the reader's end; a read that failed, or was interrupted, isn't tried again.
 fn count_read(read: io::Result<usize>) -> Result<usize, LoadFault>
@@ -36,8 +36,8 @@ pub fn fill<R: Read>(input: &mut R, buffer: &mut [u8]) -> Result<(), LoadFault>
     Ok(())
 }
 
-/// Reads so many bytes. The room for them grows with what comes, so that an image that ends too early costs no more than twice what
-/// it has, whatever size it tells.
+/// Reads so many bytes, part by part. The room for them grows with what comes, so that an image that ends too early costs no more than
+/// twice what it has and a part, whatever size it tells.
 pub fn read_bytes<R: Read>(alloc: Global, input: &mut R, size: usize) -> Result<Vec<u8>, LoadFault>
     ensures ok { IfOk result (λ bytes. Consumes (R.remaining input.old) (R.remaining input.new) bytes.items × (length bytes.items ≡ size)) }
     ensures err { IfErr result (λ fault. (piece : List ℕ) × Consumes (R.remaining input.old) (R.remaining input.new) piece
@@ -46,7 +46,7 @@ pub fn read_bytes<R: Read>(alloc: Global, input: &mut R, size: usize) -> Result<
     let mut bytes = Vec::new(alloc);
     while bytes.len() < size {
         let from = bytes.len();
-        let more = from.max(FIRST_ROOM).min(size - from);
+        let more = PART.min(size - from);
         if bytes.resize(from + more, 0).is_err() {
             return Err(LoadFault::Memory);
         }

@@ -1,6 +1,6 @@
 //! The names of the values that were met in one key.
 
-ghost use Rattle.std.specs.Prelude.{◌≡◌, ◌≤◌, ◌<◌, ◌||◌, ◌++◌, ◌∷◌, ℕ, List, [], not, length, IfOk, IfErr, OnOk};
+ghost use Rattle.std.specs.Prelude.{◌≡◌, ◌≢◌, ◌↔◌, ◌≤◌, ◌<◌, ◌||◌, ◌++◌, ◌∷◌, ℕ, List, [], IsTrue, false, not, length, IfOk, IfErr, OnOk};
 ghost use Rattle.std.specs.List.{list_any};
 ghost use Rattle.reg_names.specs.Names.{folded};
 ghost use Rattle.reg_heap.specs.Paths.{Member};
@@ -34,11 +34,35 @@ fn folded_name(alloc: Global, name: &[u8]) -> Result<Vec<u8>, AllocError>
     name.iter().map(|byte| fold(*byte)).collect(alloc)
 }
 
+/// Whether two names may be the same after folding, by their lengths and their last characters.
+fn end_alike(one: &[u8], other: &[u8]) -> bool
+    ensures { result ≡ false → folded one.now ≢ folded other.now }
+{
+    if one.len() != other.len() {
+        return false;
+    }
+    if one.is_empty() {
+        return true;
+    }
+    let last = one.len() - 1;
+    fold(one[last]) == fold(other[last])
+}
+
+/// Whether two names are the same after folding. Those of one key's values differ at their ends mostly, which are compared first.
+fn are_same(one: &[u8], other: &[u8]) -> bool
+    ensures { IsTrue result ↔ (folded one.now ≡ folded other.now) }
+{
+    if !end_alike(one, other) {
+        return false;
+    }
+    same_name(one, other)
+}
+
 /// Whether a value has a name, after folding.
 fn is_named(value: &ReadValue<'_>, name: &[u8]) -> bool
     ensures { result ≡ is_same (member_in value.now).name name.now }
 {
-    same_name(value.name.as_slice(), name)
+    are_same(value.name.as_slice(), name)
 }
 
 /// Whether one of these values has a name, after folding.

@@ -2,7 +2,7 @@
 //!
 //! Suhanov, Windows registry file format specification, sections "Key node" and "Key value".
 
-ghost use Rattle.std.specs.Prelude.{◌≡◌, ◌+◌, ◌*◌, ◌<◌, ◌≤◌, ◌%◌, ℕ, List, Bool, false, Some, length, slice_get};
+ghost use Rattle.std.specs.Prelude.{◌≡◌, ◌+◌, ◌*◌, ◌<◌, ◌≤◌, ◌%◌, ℕ, List, Bool, false, true, Some, length, slice_get};
 ghost use Rattle.std.specs.List.{list_all};
 ghost use Rattle.std.specs.Cow.{cow_slice_items};
 ghost use Rattle.reg_shape.specs.Nodes.{letters};
@@ -14,14 +14,29 @@ use crate::LoadFault;
 use std::alloc::Global;
 use std::borrow::CowSlice;
 
+/// Whether a character may stand in a value's name.
+fn is_value_letter(letter: u16) -> bool
+    ensures { result ≡ is_allowed_in false letter }
+{
+    letter >= 1 && letter <= 127
+}
+
+/// Whether a character may stand in a key's name. Both tests are made in any case, so that a loop over a name has one branch for each.
+fn is_key_letter(letter: u16) -> bool
+    ensures { result ≡ is_allowed_in true letter }
+{
+    let is_plain = is_value_letter(letter);
+    is_plain & (letter != 92)
+}
+
 /// Whether a character may stand in a key's name, or in a value's.
 fn is_allowed(letter: u16, key: bool) -> bool
     ensures { result ≡ is_allowed_in key letter }
 {
     if key {
-        letter >= 1 && letter <= 127 && letter != 92
+        is_key_letter(letter)
     } else {
-        letter >= 1 && letter <= 127
+        is_value_letter(letter)
     }
 }
 
@@ -29,8 +44,12 @@ fn is_allowed(letter: u16, key: bool) -> bool
 fn are_allowed(name: &[u8], key: bool) -> bool
     ensures { result ≡ list_all (is_allowed_in key) name.now }
 {
-    name.iter()
-        .all(|letter| is_allowed(u16::from(*letter), key))
+    if key {
+        name.iter().all(|letter| is_key_letter(u16::from(*letter)))
+    } else {
+        name.iter()
+            .all(|letter| is_value_letter(u16::from(*letter)))
+    }
 }
 
 /// How many characters a name has.

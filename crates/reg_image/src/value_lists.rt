@@ -38,7 +38,10 @@ fn values_each<'a>(
     ensures no_more { unnamed table.new.states.items ≤ unnamed table.old.states.items }
 {
     let mut met = MetNames::new(alloc);
-    let mut values = Vec::new(alloc);
+    // The row has all these offsets, so that no more is asked for than its cell accounts for.
+    let Ok(mut values) = Vec::with_capacity(alloc, count as usize) else {
+        return Err(LoadFault::Memory);
+    };
     for index in 0..count {
         let offset = offset_at(row, index);
         let value = value_from(

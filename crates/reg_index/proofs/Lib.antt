@@ -7,6 +7,7 @@ pub mod ListPlaces
 pub mod SubkeysOpening
 pub mod NameSearch
 pub mod FoundPlaces
+pub mod NameBehindAll
 pub mod SubkeysBehind
 pub mod InsertSizes
 pub mod SubkeysFrame

@@ -1,6 +1,6 @@
 //! Subkeys, found and read.
 
-ghost use Rattle.std.specs.Prelude.{◌≡◌, ◌+◌, ◌<◌, ◌≤◌, ℕ, List, Some, IsSome, MatchOption, MatchResult, length, get_or};
+ghost use Rattle.std.specs.Prelude.{◌≡◌, ◌+◌, ◌<◌, ◌≤◌, ℕ, List, Some, IsSome, IfSome, Err, MatchOption, MatchResult, length, get_or};
 ghost use Rattle.reg_names.specs.Names.{folded};
 ghost use Rattle.reg_heap.specs.declared.limits.TheConstants.{LEAF_LIMIT};
 ghost use Rattle.reg_heap.specs.ByteWords.{half};
@@ -238,7 +238,28 @@ fn find_in(arena: &Arena, leaf: u32, name: &[u8]) -> Result<u32, u32>
     Err(low)
 }
 
-/// Where a name stands among the subkeys, or as an `Err` where it belongs: a binary search among the lists, and one in a list.
+/// The place behind all subkeys, of which there are some, where a name belongs that comes after the last one's. It looks at that one
+/// alone, so that keys that come in the order of their names, as those of an image do, are put in without a search.
+fn place_behind_all(arena: &Arena, offset: u32, name: &[u8]) -> Option<Place>
+    requires { (lists : List KeyList) × HasLists (heap_of arena.now) offset lists × (0 < length lists)
+        × AreKeys (heap_of arena.now) (entries_in lists) }
+    ensures { (lists : List KeyList) → HasLists (heap_of arena.now) offset lists → 0 < length lists →
+        AreKeys (heap_of arena.now) (entries_in lists) →
+        IfSome result (λ place. IsListFor (heap_of arena.now) lists (folded name.now) place.list
+        × IsIndexFor (names_in (heap_of arena.now) (numbered place.list lists).list.entries) (folded name.now) (Err place.index)) }
+{
+    let list = count_lists(arena, offset) - 1;
+    let leaf = leaf_at(arena, offset, list);
+    let index = count_entries(arena, leaf);
+    let last = key_in(arena, leaf, index - 1);
+    match name_order(name_of(arena, last), name) {
+        Ordering::Less => Some(Place { list, index }),
+        Ordering::Equal | Ordering::Greater => None,
+    }
+}
+
+/// Where a name stands among the subkeys, or as an `Err` where it belongs: behind all others, by a look at the last one, or else by a
+/// binary search among the lists, and one in a list.
 pub fn find(arena: &Arena, list: SubkeysIndex, name: &[u8]) -> Result<Place, Place>
     requires { (entries : List Entry) × AreSubkeys (heap_of arena.now) list.count list.offset entries }
     ensures index { (entries : List Entry) → AreSubkeys (heap_of arena.now) list.count list.offset entries →
@@ -250,6 +271,9 @@ pub fn find(arena: &Arena, list: SubkeysIndex, name: &[u8]) -> Result<Place, Pla
 {
     if list.count == 0 {
         return Err(Place { list: 0, index: 0 });
+    }
+    if let Some(place) = place_behind_all(arena, list.offset, name) {
+        return Err(place);
     }
     let number = list_for(arena, list.offset, name);
     match find_in(arena, leaf_at(arena, list.offset, number), name) {

@@ -5,5 +5,5 @@ use Rattle.reg_image.proofs.met_names.is_named.Goals as goal
 
 pub returns : goal.returns
 returns c =
-    sym (same-is c.as_slice.result.now c.args.name.now c.same_name.result c.same_name.ensures)
+    sym (same-is c.as_slice.result.now c.args.name.now c.are_same.result c.are_same.ensures)
     ∙ ap (λ name. same_name name c.args.name.now) c.as_slice.ensures.value

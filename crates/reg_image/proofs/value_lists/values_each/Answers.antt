@@ -7,7 +7,7 @@ use Rattle.reg_image.proofs.Readers.ValueRows.{next-offset, none-read, more-read
 use Rattle.reg_image.proofs.value_lists.values_each.Goals as goal
 
 pub loop-index-init : goal.loop-index-init
-loop-index-init c = none-read _ c.args.minor (offsets_at c.args.count 0 c.args.row.now) _ _ _ c.new-values.ensures.items c.new-met.ensures
+loop-index-init c = none-read _ c.args.minor (offsets_at c.args.count 0 c.args.row.now) _ _ _ c.in-Ok.ensures.items c.new-met.ensures
 
 pub value_from-requires : goal.value_from-requires
 value_from-requires c =

@@ -6,6 +6,22 @@ use Rattle.reg_index.proofs.SubkeysOpening.{lists-has}
 use Rattle.reg_index.proofs.FoundPlaces.{lists-some, lists-keys, keys-part, found-stands, found-belongs, stands-there, belongs-there}
 use Rattle.reg_index.proofs.look.find.Goals as goal
 
+pub place_behind_all-requires : goal.place_behind_all-requires
+place_behind_all-requires c =
+    let s = c.requires.1 in
+    (lists_of s.index, lists-has _ _ _ _ s, lists-some _ _ _ _ s c.if-list-eq0.false, lists-keys _ _ _ _ s)
+
+pub returns-in-Some-clause-index : goal.returns-in-Some-clause-index
+returns-in-Some-clause-index c = λ entries s.
+    let b = c.in-Some.ensures (lists_of s.index) (lists-has _ _ _ _ s) (lists-some _ _ _ _ s c.if-list-eq0.false) (lists-keys _ _ _ _ s) in
+    found-belongs (heap_of c.args.arena.now) c.args.list.count c.args.list.offset (folded c.args.name.now) c.in-Some.place.list c.in-Some.place.index entries s b.0 b.1
+
+pub returns-in-Some-clause-place : goal.returns-in-Some-clause-place
+returns-in-Some-clause-place c =
+    let s = c.requires.1 in
+    let b = c.in-Some.ensures (lists_of s.index) (lists-has _ _ _ _ s) (lists-some _ _ _ _ s c.if-list-eq0.false) (lists-keys _ _ _ _ s) in
+    belongs-there (heap_of c.args.arena.now) c.args.list.count c.args.list.offset (folded c.args.name.now) c.in-Some.place.list c.in-Some.place.index c.requires.0 s b.0 b.1
+
 pub list_for-number-requires : goal.list_for-number-requires
 list_for-number-requires c =
     let s = c.requires.1 in
