@@ -37,7 +37,7 @@ impl Place {
         requires { is_path path.now ≡ true }
         ensures { IfOk result (λ place. place ≡ path_of path.now) }
     {
-        let mut text = Vec::new(alloc);
+        let mut text = Vec::with_capacity(alloc, path.len().saturating_add(1 + ROOM))?;
         lead(&mut text, path)?;
         text.reserve(ROOM)?;
         Ok(Place { text })
