@@ -9,7 +9,7 @@ use Rattle.reg_notify.specs.declared.asked.Registration.{Registration}
 use Rattle.reg_notify.specs.declared.table.Row.{Row}
 use Rattle.reg_notify.specs.declared.table.Table.{Table}
 use Rattle.reg_notify.specs.Internal.Indexes.{number_at, UpdatesText}
-use Rattle.reg_notify.specs.Internal.Keys.{handle_text, lead_of}
+use Rattle.reg_notify.specs.Internal.Keys.{handle_text, key_text, class_of, lead_of}
 use Rattle.reg_notify.specs.Internal.Marks.{is_marked}
 use Rattle.reg_notify.specs.Internal.Queues.{told_at, taken_at, room_at, pending_at}
 use Rattle.reg_notify.specs.Internal.Rows.{IsRow, place_of, holder_of}
@@ -30,7 +30,8 @@ module _ (old t : Table) (asked : Registration) (r : Row) (settled : IsSettled t
       (number_at t.handles.by_text.entries) below fit.small ready.table _ refl)
 
   -- both texts were put
-  module _ (t' : Table) (key holder : List ℕ) (rows : t'.rows.entries ≡ insert_entry nat_cmp t.rows.entries asked.number r) (is_key : key ≡ r.key.items)
+  module _ (t' : Table) (key holder : List ℕ) (rows : t'.rows.entries ≡ insert_entry nat_cmp t.rows.entries asked.number r) (is_key : key ≡ key_text asked.place
+      (class_of asked.filter asked.subtree) asked.number)
       (is_holder : holder ≡ handle_text asked.handle asked.number)
       (places : UpdatesText (number_at t.places.by_text.entries) key (Some asked.number) (number_at t'.places.by_text.entries))
       (handles : UpdatesText (number_at t.handles.by_text.entries) holder (Some asked.number) (number_at t'.handles.by_text.entries))
@@ -45,7 +46,14 @@ module _ (old t : Table) (asked : Registration) (r : Row) (settled : IsSettled t
 
     at-place : UpdatesText (number_at t.places.by_text.entries) (place_of asked.number r) (Some asked.number) (number_at t'.places.by_text.entries)
     at-place = subst (λ (l : List ℕ). UpdatesText (number_at t.places.by_text.entries) l (Some asked.number)
-        (number_at t'.places.by_text.entries)) is_key places
+        (number_at t'.places.by_text.entries)) (is_key ∙ sym placed) places
+      where
+        placed : place_of asked.number r ≡ key_text asked.place (class_of asked.filter asked.subtree) asked.number
+        placed =
+            let place = of.place in
+            let filter = of.filter in
+            let subtree = of.subtree in
+            rw (place, filter, subtree) refl
 
     at-handle : UpdatesText (number_at t.handles.by_text.entries) (holder_of asked.number r) (Some asked.number) (number_at t'.handles.by_text.entries)
     at-handle =

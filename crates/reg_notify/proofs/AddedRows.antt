@@ -154,7 +154,7 @@ module _ (n : ℕ) (r : Row) (es : Rows) (below : AreBelow n es) (places handles
   of-place m x found same =
       let other = t.fits m x found in
       key-number r.place x.place (class_of r.filter r.subtree) (class_of x.filter x.subtree) n m fit.clean other.clean fit.small other.small
-      (sym fit.key ∙ same ∙ other.key)
+      same
 
   of-holder : (m : ℕ) (x : Row) → row_at m es ≡ Some x → holder_of n r ≡ holder_of m x → n ≡ m
   of-holder m x found same = let other = t.fits m x found in handle-number r.handle x.handle n m fit.small other.small same

@@ -51,7 +51,7 @@ module _ (n : ℕ) (r : Row) (fit : IsRow n r) (p : Path) (clean : IsClean p) (b
   class = class_of r.filter r.subtree
 
   of-is : (k : ℕ) → of_class (lead_of p) bits itself k (n, r) ≡ (is_met bits itself k && (same_path r.place p && eqb class k))
-  of-is k = ap (λ (b : Bool). is_met bits itself k && b) (ap (goes_on (lead_of p ++ 0 ∷ k ∷ [])) fit.key ∙ at-class p r.place k class n clean fit.clean)
+  of-is k = ap (λ (b : Bool). is_met bits itself k && b) (at-class p r.place k class n clean fit.clean)
 
   more : (before : Bool) (k : ℕ) (m same : Bool) → before ≡ (nat_lt class k && (same && m)) → (is_met bits itself class ≡ m) → (b : Bool) → eqb class k ≡ b →
       (before || (is_met bits itself k && (same && b))) ≡ (nat_lt class (suc k) && (same && m))

@@ -19,7 +19,7 @@ led-lead (b ∷ bs) = sym (lead-path b bs)
 pub led-path : (text path : List ℕ) → text ≡ led path → path_of (behind_first text) ≡ path_of path
 led-path text path e = ap path_of (ap behind_first e ∙ behind-led path)
 
-pub led-place : {Y : Type 0} (text : Vec ℕ Y) (path : List ℕ) → text.items ≡ led path → is_path path ≡ true → vec_len text + 2 ≤ vec_capacity text →
+pub led-place : {Y : Type 0} (text : Vec ℕ Y) (path : List ℕ) → text.items ≡ led path → is_path path ≡ true → vec_len text + 10 ≤ vec_capacity text →
     IsPlace text
 led-place text path e is room = record {
   lead = e ∙ led-lead path ∙ ap lead_of (sym (led-path text.items path e));
@@ -35,3 +35,9 @@ key-made made two one text lead bytes p class number m t o s l b =
     m ∙ ap (λ (x : List ℕ). x ++ bytes) (t ∙ ap (λ (x : List ℕ). x ++ class ∷ []) (o ∙ ap (λ (x : List ℕ). x ++ 0 ∷ []) (s ∙ l)))
     ∙ ap (λ (x : List ℕ). x ++ bytes) (append_assoc (lead_of p) (0 ∷ []) (class ∷ [])) ∙ append_assoc (lead_of p) (0 ∷ class ∷ []) bytes
     ∙ ap (λ (x : List ℕ). lead_of p ++ 0 ∷ class ∷ x) b
+
+-- and where its place's text is there already
+pub key-appended : (text : List ℕ) (p : Path) (class class' number : ℕ) → text ≡ lead_of p → class ≡ class' →
+    text ++ 0 ∷ class ∷ to_be_bytes w64 number ≡ key_text p class' number
+key-appended text p class class' number is same =
+    ap (λ (x : List ℕ). x ++ 0 ∷ class ∷ to_be_bytes w64 number) is ∙ ap (λ (k : ℕ). key_text p k number) same

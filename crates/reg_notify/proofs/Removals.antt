@@ -57,7 +57,7 @@ gone-there p by text t t' ready clean is x =
     ends-test by (λ (e : ℕ × Row). goes_on (text ++ 0 ∷ []) (place_of e.0 e.1)) (λ (e : ℕ × Row). same_path e.1.place p) Gone t t' (rows-fit _ t ready one) x
   where
     one : (n : ℕ) (r : Row) → IsRow n r → goes_on (text ++ 0 ∷ []) (place_of n r) ≡ same_path r.place p
-    one n r fit = ap (λ (s : List ℕ). goes_on (s ++ 0 ∷ []) r.key.items) is ∙ ap (goes_on (lead_of p ++ 0 ∷ [])) fit.key ∙ at-place p r.place
+    one n r fit = ap (λ (s : List ℕ). goes_on (s ++ 0 ∷ []) (place_of n r)) is ∙ at-place p r.place
         (class_of r.filter r.subtree) n clean fit.clean
 
 pub gone-below : (p : Path) (by : ℕ) (text : List ℕ) (t t' : Table) → IsReady t → IsClean p → text ≡ lead_of p →
@@ -67,7 +67,7 @@ gone-below p by text t t' ready clean is x =
     ends-test by (λ (e : ℕ × Row). goes_on (text ++ 92 ∷ []) (place_of e.0 e.1)) (λ (e : ℕ × Row). is_under p e.1.place) Gone t t' (rows-fit _ t ready one) x
   where
     one : (n : ℕ) (r : Row) → IsRow n r → goes_on (text ++ 92 ∷ []) (place_of n r) ≡ is_under p r.place
-    one n r fit = ap (λ (s : List ℕ). goes_on (s ++ 92 ∷ []) r.key.items) is ∙ ap (goes_on (lead_of p ++ 92 ∷ [])) fit.key ∙ below-place p r.place
+    one n r fit = ap (λ (s : List ℕ). goes_on (s ++ 92 ∷ []) (place_of n r)) is ∙ below-place p r.place
         (class_of r.filter r.subtree) n clean fit.clean
 
 behind : (p rest : Path) → (same_path (p ++ rest) p || is_under p (p ++ rest)) ≡ true

@@ -32,8 +32,9 @@ impl Table {
         let number = asked.number;
         let session = asked.session;
         let handle = asked.handle;
-        let row = new_row(asked)?;
-        let key = row.key.clone()?;
+        let class = class_of(asked.filter, asked.subtree);
+        let key = asked.place.key(class, number)?;
+        let row = new_row(asked);
         let holder = holder_text(alloc, handle, number)?;
         self.make_room(session, row.place.text())?;
         self.rows.insert(number, row)?;
@@ -78,23 +79,20 @@ impl Table {
     }
 }
 
-/// The row of a watch, with the text by which it is found at its place.
-fn new_row(asked: Registration) -> Result<Row, AllocError>
-    requires { asked.session < SESSIONS_LIMIT }
-    ensures row { IfOk result (λ row. IsRow asked.number row) }
-    ensures asked { IfOk result (IsRowOf asked) }
+/// The row of a watch.
+fn new_row(asked: Registration) -> Row
+    requires session { asked.session < SESSIONS_LIMIT }
+    requires clean { IsClean asked.place }
+    ensures row { IsRow asked.number result }
+    ensures asked { IsRowOf asked result }
 {
-    let key = asked
-        .place
-        .key(class_of(asked.filter, asked.subtree), asked.number)?;
-    Ok(Row {
+    Row {
         session: asked.session,
         handle: asked.handle,
         place: asked.place,
         filter: asked.filter,
         subtree: asked.subtree,
-        key,
-    })
+    }
 }
 
 /// Puts a number at both of its texts. Where memory is refused, it is at none of them.
@@ -133,7 +131,7 @@ fn holder_text(alloc: Global, handle: u64, number: u64) -> Result<Vec<u8>, Alloc
 }
 
 /// The kinds of events that a watch waits for, and 16 where the keys below are watched too.
-fn class_of(filter: u32, subtree: bool) -> u8
+pub fn class_of(filter: u32, subtree: bool) -> u8
     ensures { result ≡ class_of filter subtree }
 {
     let kinds = (filter & EVENTS) as u8;

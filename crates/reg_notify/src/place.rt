@@ -7,8 +7,8 @@ ghost use Rattle.reg_notify.specs.Internal.Places.{led};
 use std::alloc::{AllocError, Global};
 use std::marker::Model;
 
-/// For the byte that ends a place, and the class of a watch.
-const ROOM: usize = 2;
+/// For the byte that ends a place, the class of a watch and its number.
+const ROOM: usize = 10;
 
 /// A key's path, in a form in which the table looks for the watches there, and above and below it, without memory of its own.
 #[derive(Drop)]
@@ -37,7 +37,7 @@ impl Place {
         requires { is_path path.now ≡ true }
         ensures { IfOk result (λ place. place ≡ path_of path.now) }
     {
-        let mut text = Vec::new(alloc);
+        let mut text = Vec::with_capacity(alloc, path.len().saturating_add(1 + ROOM))?;
         lead(&mut text, path)?;
         text.reserve(ROOM)?;
         Ok(Place { text })
@@ -62,11 +62,12 @@ impl Place {
         self.text.as_slice()
     }
 
-    /// Its text, with room for two bytes more.
+    /// Its text, with room for ten bytes more.
     pub(crate) fn into_text(self) -> Vec<u8>
         ensures text { result.items ≡ lead_of self }
         ensures clean { IsClean self }
         ensures room { vec_len result + 2 ≤ vec_capacity result }
+        ensures room_for_key { vec_len result + 10 ≤ vec_capacity result }
     {
         self.text
     }

@@ -18,17 +18,17 @@ ghost use Rattle.reg_notify.specs.declared.queues.Sent.{Sent};
 ghost use Rattle.reg_notify.specs.Internal.Settled.{IsSettled, IsHanding};
 ghost use Rattle.reg_notify.specs.Internal.States.{IsReady, IsGone, Ends};
 
+use crate::adding::class_of;
 use crate::asked::{Event, Removed};
 use crate::index::Index;
 use crate::marks::Marks;
 use crate::place::Place;
-use crate::queues::{Queue, Sent, new_queues, pending_in, push_all};
+use crate::queues::{Queue, Sent, new_queues, pending_in, push_all, put_in_order};
 use reg_model::{Notice, Reason};
 use std::alloc::{AllocError, Global};
 use std::collections::BTreeMap;
 
-/// A pending watch: the session and handle that asked, the key, the filter, whether the keys below are watched too, and the text by
-/// which it is found at its place.
+/// A pending watch: the session and handle that asked, the key, the filter, and whether the keys below are watched too.
 #[derive(Drop)]
 pub struct Row {
     pub session: u8,
@@ -36,7 +36,6 @@ pub struct Row {
     pub place: Place,
     pub filter: u32,
     pub subtree: bool,
-    pub key: Vec<u8>,
 }
 
 /// The watches by number, the number of each by its place and by its handle, a mark for each key that is watched, the notices of the
@@ -89,7 +88,7 @@ impl Table {
             (s : ℕ) → told_at self.new.queues.items s ≡ told_at self.old.queues.items s ++ notices_to s sent }
         ensures taken { (s : ℕ) → taken_at self.new.queues.items s ≡ taken_at self.old.queues.items s }
     {
-        self.sent.sort_unstable_by_key(|one| one.notice.watch);
+        put_in_order(&mut self.sent);
         push_all(&mut self.queues, self.sent.as_slice());
         self.sent.clear();
     }
@@ -104,7 +103,10 @@ impl Table {
         ensures fewer { btree_map_len self.new.rows < btree_map_len self.old.rows }
     {
         if let Some(row) = self.rows.remove(&number) {
-            self.places.remove(row.key.as_slice());
+            let class = class_of(row.filter, row.subtree);
+            let mut key = row.place.into_text();
+            append_key(&mut key, class, number);
+            self.places.remove(key.as_slice());
             self.handles.remove(&handle_text(row.handle, number));
             let notice = Notice {
                 watch: number,
@@ -312,6 +314,18 @@ fn append(text: &mut Vec<u8>, class: u8)
 {
     append_byte(text, 0);
     append_byte(text, class);
+}
+
+/// Ends a place's text, with a class and a number behind it.
+fn append_key(text: &mut Vec<u8>, class: u8, number: u64)
+    requires { vec_len text.old + 10 ≤ vec_capacity text.old }
+    ensures { text.new.items ≡ text.old.items ++ 0 ∷ class ∷ to_be_bytes w64 number }
+{
+    append(text, class);
+    match text.extend_from_slice(&number.to_be_bytes()) {
+        Ok(()) => {}
+        Err(_) => unreachable!(),
+    }
 }
 
 /// Puts a byte behind a text that has room for it.

@@ -89,6 +89,52 @@ pub fn sets(alloc: Global, handle: u64, count: usize) -> Result<Vec<Change>> {
     Ok(changes)
 }
 
+/// Opens so many handles of session 0 to a key.
+pub fn open_many(
+    alloc: Global,
+    hive: &mut Hive,
+    above: u64,
+    path: &str,
+    count: usize,
+) -> Result<Vec<u64>> {
+    let mut handles = Vec::new(alloc);
+    for _handle in 0..count {
+        handles.push(open(alloc, hive, 0, above, path)?)?;
+    }
+    Ok(handles)
+}
+
+/// Puts a set of a value of four bytes by each of some handles behind some changes.
+pub fn push_sets(alloc: Global, changes: &mut Vec<Change>, handles: &[u64]) -> Result<()> {
+    for handle in handles {
+        changes.push(set(alloc, *handle)?)?;
+    }
+    Ok(())
+}
+
+/// Sets of a value of four bytes by each of some handles in turn, so many times by each.
+pub fn sets_in_turn(alloc: Global, handles: &[u64], rounds: usize) -> Result<Vec<Change>> {
+    let mut changes = Vec::new(alloc);
+    for _round in 0..rounds {
+        push_sets(alloc, &mut changes, handles)?;
+    }
+    Ok(changes)
+}
+
+/// So many times a request by one handle to be told of a value that is set, and a set of a value of four bytes by another one.
+pub fn sets_between(alloc: Global, asking: u64, handle: u64, count: usize) -> Result<Vec<Change>> {
+    let mut changes = Vec::new(alloc);
+    for _set in 0..count {
+        changes.push(Change::Notify {
+            handle: asking,
+            filter: LAST_SET,
+            subtree: false,
+        })?;
+        changes.push(set(alloc, handle)?)?;
+    }
+    Ok(changes)
+}
+
 /// Makes changes of session 0, each of which is accepted.
 pub fn apply_all(hive: &mut Hive, changes: Vec<Change>) -> Result<()> {
     for change in changes {

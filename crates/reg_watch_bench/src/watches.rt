@@ -1,6 +1,9 @@
 //! Watches that other keys' changes pass by, that fire, and that a deleted tree ends.
 
-use crate::hives::{apply_all, apply_one, new_hive, open, open_root, set, sets, take_all, watch};
+use crate::hives::{
+    apply_all, apply_one, new_hive, open, open_many, open_root, set, sets, sets_between,
+    sets_in_turn, take_all, watch,
+};
 use anyhow::Result;
 use reg_calls::Hive;
 use reg_model::{Bytes, Change};
@@ -16,8 +19,12 @@ pub struct Size {
     pub sessions: u8,
     /// How many watches each has, at most 4,096.
     pub watches: usize,
-    /// How many sets are timed.
+    /// How many sets by one handle are timed.
     pub sets: usize,
+    /// How many handles set in turn.
+    pub handles: usize,
+    /// How many sets by each of these are timed.
+    pub rounds: usize,
     /// How many keys the tree has that is deleted; the first ones are watched.
     pub keys: usize,
 }
@@ -28,6 +35,8 @@ impl Size {
         sessions: 3,
         watches: 5,
         sets: 2,
+        handles: 4,
+        rounds: 2,
         keys: 7,
     };
     /// For the times.
@@ -35,33 +44,78 @@ impl Size {
         sessions: 64,
         watches: 4_096,
         sets: 20_000,
+        handles: 2_048,
+        rounds: 10,
         keys: 60_000,
     };
 }
 
-/// Lets each session watch a key of its own.
-fn watch_by_all(alloc: Global, hive: &mut Hive, size: Size) -> Result<()> {
+/// The handles of session 0 by which values are set.
+#[derive(Drop)]
+struct Handles {
+    /// To the key that its own session watches.
+    watched: u64,
+    /// To a key that nobody watches.
+    other: u64,
+    /// To that key, too.
+    others: Vec<u64>,
+}
+
+/// How long the sets of a key take that nobody watches.
+#[derive(Clone, Copy)]
+struct Times {
+    /// All by one handle.
+    by_one: Duration,
+    /// By many handles in turn.
+    by_many: Duration,
+}
+
+fn open_handles(alloc: Global, hive: &mut Hive, size: Size) -> Result<Handles> {
+    let root = open_root(hive, 0)?;
+    let watched = open(alloc, hive, 0, root, "W0")?;
+    let other = open(alloc, hive, 0, root, "Other")?;
+    let others = open_many(alloc, hive, root, "Other", size.handles)?;
+    Ok(Handles {
+        watched,
+        other,
+        others,
+    })
+}
+
+/// Lets each session watch a key of its own. Where the watches don't stay, the handle that asked is closed, which ends them.
+fn watch_by_all(alloc: Global, hive: &mut Hive, size: Size, stay: bool) -> Result<()> {
     for session in 0..size.sessions.min(64) {
         let root = open_root(hive, session)?;
         let path = format!(in alloc; "W{session}")?;
         let handle = open(alloc, hive, session, root, path.as_str())?;
         watch(hive, session, handle, size.watches)?;
+        if !stay {
+            apply_one(hive, session, Change::Close { handle })?;
+        }
     }
     Ok(())
 }
 
-/// How long it takes to set a value of a key so many times.
+/// How long it takes to make changes of session 0.
+fn time_all(rt: &impl Clock, hive: &mut Hive, changes: Vec<Change>) -> Result<Duration> {
+    let start = Instant::now(rt)?;
+    apply_all(hive, changes)?;
+    Ok(start.elapsed(rt)?)
+}
+
+/// How long it takes to set a value of a key that nobody watches.
 fn time_sets(
     rt: &impl Clock,
     alloc: Global,
     hive: &mut Hive,
-    handle: u64,
-    count: usize,
-) -> Result<Duration> {
-    let changes = sets(alloc, handle, count)?;
-    let start = Instant::now(rt)?;
-    apply_all(hive, changes)?;
-    Ok(start.elapsed(rt)?)
+    handles: &Handles,
+    size: Size,
+) -> Result<Times> {
+    let changes = sets(alloc, handles.other, size.sets)?;
+    let by_one = time_all(rt, hive, changes)?;
+    let changes = sets_in_turn(alloc, handles.others.as_slice(), size.rounds)?;
+    let by_many = time_all(rt, hive, changes)?;
+    Ok(Times { by_one, by_many })
 }
 
 /// How long one set of a key takes.
@@ -70,6 +124,18 @@ fn time_set(rt: &impl Clock, alloc: Global, hive: &mut Hive, handle: u64) -> Res
     let start = Instant::now(rt)?;
     apply_one(hive, 0, change)?;
     Ok(start.elapsed(rt)?)
+}
+
+/// How long it takes to ask for a notification and then set a value of another key, as often as a session may have watches.
+fn time_between(
+    rt: &impl Clock,
+    alloc: Global,
+    hive: &mut Hive,
+    handles: &Handles,
+    size: Size,
+) -> Result<Duration> {
+    let changes = sets_between(alloc, handles.watched, handles.other, size.watches)?;
+    time_all(rt, hive, changes)
 }
 
 /// Makes the keys of a tree `T`, and watches the first ones by handles of their own.
@@ -98,21 +164,35 @@ fn time_fall(rt: &impl Clock, alloc: Global, hive: &mut Hive, root: u64) -> Resu
     Ok(start.elapsed(rt)?)
 }
 
-/// The steps on sets, with their times: without a watch, with watches on other keys, and a set that fires the first session's.
-fn run_sets(
+/// The steps on sets without a watch, with their times: in a hive whose journal is as long as that with watches, since all was asked
+/// for and ended again. Last, how long requests with sets between take.
+fn run_ended(
     rt: &impl Clock,
     alloc: Global,
     hive: &mut Hive,
     size: Size,
-) -> Result<(Duration, Duration, Duration)> {
-    let root = open_root(hive, 0)?;
-    let other = open(alloc, hive, 0, root, "Other")?;
-    let watched = open(alloc, hive, 0, root, "W0")?;
-    let without = time_sets(rt, alloc, hive, other, size.sets)?;
-    watch_by_all(alloc, hive, size)?;
-    let with = time_sets(rt, alloc, hive, other, size.sets)?;
-    let firing = time_set(rt, alloc, hive, watched)?;
-    Ok((without, with, firing))
+) -> Result<(Times, Duration)> {
+    let handles = open_handles(alloc, hive, size)?;
+    watch_by_all(alloc, hive, size, false)?;
+    let times = time_sets(rt, alloc, hive, &handles, size)?;
+    let between = time_between(rt, alloc, hive, &handles, size)?;
+    Ok((times, between))
+}
+
+/// The steps on sets beside watches of other keys, with their times; then a set that fires those of the first session, and last how
+/// long requests with sets between take, beside the watches of all other sessions.
+fn run_watched(
+    rt: &impl Clock,
+    alloc: Global,
+    hive: &mut Hive,
+    size: Size,
+) -> Result<(Times, Duration, Duration)> {
+    let handles = open_handles(alloc, hive, size)?;
+    watch_by_all(alloc, hive, size, true)?;
+    let times = time_sets(rt, alloc, hive, &handles, size)?;
+    let firing = time_set(rt, alloc, hive, handles.watched)?;
+    let between = time_between(rt, alloc, hive, &handles, size)?;
+    Ok((times, firing, between))
 }
 
 /// The steps on a tree, with the time that its deletion takes.
@@ -133,10 +213,16 @@ fn print_counts(rt: &impl Print, hive: &mut Hive, what: &str, size: Size) -> Res
     Ok(())
 }
 
-fn count_sets(rt: &(impl Print + Clock), alloc: Global, size: Size) -> Result<()> {
+fn count_ended(rt: &(impl Print + Clock), alloc: Global, size: Size) -> Result<()> {
     let mut hive = new_hive(alloc)?;
-    let _times = run_sets(rt, alloc, &mut hive, size)?;
-    print_counts(rt, &mut hive, "sets", size)
+    let _times = run_ended(rt, alloc, &mut hive, size)?;
+    print_counts(rt, &mut hive, "ended", size)
+}
+
+fn count_watched(rt: &(impl Print + Clock), alloc: Global, size: Size) -> Result<()> {
+    let mut hive = new_hive(alloc)?;
+    let _times = run_watched(rt, alloc, &mut hive, size)?;
+    print_counts(rt, &mut hive, "watched", size)
 }
 
 fn count_fall(rt: &(impl Print + Clock), alloc: Global, size: Size) -> Result<()> {
@@ -147,23 +233,48 @@ fn count_fall(rt: &(impl Print + Clock), alloc: Global, size: Size) -> Result<()
 
 /// Prints counts of all steps.
 pub fn count(rt: &(impl Print + Clock), alloc: Global, size: Size) -> Result<()> {
-    count_sets(rt, alloc, size)?;
+    count_ended(rt, alloc, size)?;
+    count_watched(rt, alloc, size)?;
     count_fall(rt, alloc, size)
 }
 
-fn measure_sets(rt: &(impl Print + Clock), alloc: Global, size: Size) -> Result<()> {
-    let mut hive = new_hive(alloc)?;
-    let (without, with, firing) = run_sets(rt, alloc, &mut hive, size)?;
-    println!(rt; "set without a watch, {}", PerCall::new(without, size.sets))?;
+fn print_times(rt: &impl Print, what: &str, times: Times, size: Size) -> Result<()> {
+    let by_many = size.handles.saturating_mul(size.rounds);
     println!(rt;
-        "set with watches on other keys, {}",
-        PerCall::new(with, size.sets)
+        "set {what}, by one handle {}",
+        PerCall::new(times.by_one, size.sets)
     )?;
+    println!(rt;
+        "set {what}, by many handles {}",
+        PerCall::new(times.by_many, by_many)
+    )?;
+    Ok(())
+}
+
+fn print_between(rt: &impl Print, what: &str, between: Duration, size: Size) -> Result<()> {
+    println!(rt;
+        "request and set {what}, {}",
+        PerCall::new(between, size.watches)
+    )?;
+    Ok(())
+}
+
+fn measure_ended(rt: &(impl Print + Clock), alloc: Global, size: Size) -> Result<()> {
+    let mut hive = new_hive(alloc)?;
+    let (times, between) = run_ended(rt, alloc, &mut hive, size)?;
+    print_times(rt, "without a watch", times, size)?;
+    print_between(rt, "without others", between, size)
+}
+
+fn measure_watched(rt: &(impl Print + Clock), alloc: Global, size: Size) -> Result<()> {
+    let mut hive = new_hive(alloc)?;
+    let (times, firing, between) = run_watched(rt, alloc, &mut hive, size)?;
+    print_times(rt, "with watches on other keys", times, size)?;
     println!(rt;
         "set that fires, of each watch {}",
         PerCall::new(firing, size.watches)
     )?;
-    Ok(())
+    print_between(rt, "beside others", between, size)
 }
 
 fn measure_fall(rt: &(impl Print + Clock), alloc: Global, size: Size) -> Result<()> {
@@ -175,6 +286,7 @@ fn measure_fall(rt: &(impl Print + Clock), alloc: Global, size: Size) -> Result<
 
 /// Prints the times of all steps.
 pub fn measure(rt: &(impl Print + Clock), alloc: Global, size: Size) -> Result<()> {
-    measure_sets(rt, alloc, size)?;
+    measure_ended(rt, alloc, size)?;
+    measure_watched(rt, alloc, size)?;
     measure_fall(rt, alloc, size)
 }

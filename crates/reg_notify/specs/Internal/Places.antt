@@ -12,8 +12,8 @@ abbrev pub led : List ℕ → List ℕ
 led [] = []
 led (b ∷ bs) = 92 ∷ b ∷ bs
 
--- it is a path's, with room for two bytes more
+-- it is a path's, with room for ten bytes more
 pub record IsPlace {Y : Type 0} (text : Vec ℕ Y) : Type 0 where
   pub lead : text.items ≡ lead_of (path_of (behind_first text.items))
   pub clean : IsClean (path_of (behind_first text.items))
-  pub room : vec_len text + 2 ≤ vec_capacity text
+  pub room : vec_len text + 10 ≤ vec_capacity text

@@ -24,10 +24,9 @@ abbrev pub rows_of : ℕ → List (ℕ × Row) → ℕ
 rows_of session [] = 0
 rows_of session (e ∷ es) = (if e.1.session == session then 1 else 0) + rows_of session es
 
--- a row within the limits, whose text is that of its watch
+-- a row within the limits
 pub record IsRow (number : ℕ) (r : Row) : Type 0 where
   pub clean : IsClean r.place
-  pub key : r.key.items ≡ key_text r.place (class_of r.filter r.subtree) number
   pub session : r.session < SESSIONS_LIMIT
   pub small : number < 2 ^ 64
   pub handle : r.handle < 2 ^ 64
@@ -39,7 +38,7 @@ pub record IsIndex (text_of : ℕ → Row → List ℕ) (es : List (ℕ × Row))
 
 -- the text of a row by its place, and by its handle
 abbrev pub place_of : ℕ → Row → List ℕ
-place_of number r = r.key.items
+place_of number r = key_text r.place (class_of r.filter r.subtree) number
 
 abbrev pub holder_of : ℕ → Row → List ℕ
 holder_of number r = handle_text r.handle number

@@ -1,5 +1,5 @@
-use Rattle.std.proofs.Common.{◌≡◌, ◌<◌, true, sym, subst, refl}
-use Rattle.std.specs.List.{each_same}
+use Rattle.std.proofs.Common.{◌≡◌, ℕ, ◌<◌, ◌∙◌, ap, true, sym, subst, refl}
+use Rattle.reg_notify.specs.Internal.Keys.{key_text}
 use Rattle.reg_model.specs.Causes.{watches_of}
 use Rattle.reg_notify.specs.Internal.Marks.{is_marked}
 use Rattle.reg_notify.specs.Internal.Rows.{watches_at}
@@ -14,7 +14,7 @@ index_both-requires-clause-new c =
     let t = c.make_room.new.self in
     let n = c.args.asked.number in
     let below = subst (λ m. AreBelow n m.entries) (sym c.make_room.ensures.rows) (are-below n c.args.self.now.rows.entries c.requires.above) in
-    none-yet c.args.self.now t c.args.asked c.in_ok-row.row c.make_room.ensures.settled c.make_room.ensures.shown below c.in_ok-row.ensures.row c.in_ok-row.ensures.asked
+    none-yet c.args.self.now t c.args.asked c.new_row-row.result c.make_room.ensures.settled c.make_room.ensures.shown below c.new_row-row.ensures.row c.new_row-row.ensures.asked
     c.in_ok-holder.holder.items c.in_ok-holder.ensures
 
 pub count_up-requires-clause-session : goal.count_up-requires-clause-session
@@ -30,10 +30,10 @@ returns-in-Ok-clause-settled c =
     let t = c.make_room.new.self in
     let n = c.args.asked.number in
     let below = subst (λ m. AreBelow n m.entries) (sym c.make_room.ensures.rows) (are-below n c.args.self.now.rows.entries c.requires.above) in
-    put-settled c.args.self.now t c.args.asked c.in_ok-row.row c.make_room.ensures.settled c.make_room.ensures.shown below c.in_ok-row.ensures.row c.in_ok-row.ensures.asked
+    put-settled c.args.self.now t c.args.asked c.new_row-row.result c.make_room.ensures.settled c.make_room.ensures.shown below c.new_row-row.ensures.row c.new_row-row.ensures.asked
     (record t { rows = c.insert.new.self; places = c.index_both.new.places; handles = c.index_both.new.handles; queues = c.count_up.new.queues })
     c.in_ok-key.key.items c.in_ok-holder.holder.items c.in_ok-insert.ensures.entries
-    (each_same _ _ c.in_ok-key.ensures.cases.0)
+    (c.in_ok-key.ensures.text ∙ ap (λ (k : ℕ). key_text c.args.asked.place k c.args.asked.number) c.class_of-class.ensures)
     c.in_ok-holder.ensures c.in-Ok.ensures.places c.in-Ok.ensures.handles refl
     (subst (λ l. is_marked t.marks.slots.items l ≡ true) c.text.ensures c.in_ok-make_room.ensures.marked) refl c.in_ok-make_room.ensures.sent
     c.count_up.ensures.pending c.count_up.ensures.rooms c.count_up.ensures.told c.count_up.ensures.taken c.count_up.ensures.len c.in_ok-make_room.ensures.queue
@@ -43,10 +43,10 @@ returns-in-Ok-clause-ok c =
     let t = c.make_room.new.self in
     let n = c.args.asked.number in
     let below = subst (λ m. AreBelow n m.entries) (sym c.make_room.ensures.rows) (are-below n c.args.self.now.rows.entries c.requires.above) in
-    put-shown c.args.self.now t c.args.asked c.in_ok-row.row c.make_room.ensures.settled c.make_room.ensures.shown below c.in_ok-row.ensures.row c.in_ok-row.ensures.asked
+    put-shown c.args.self.now t c.args.asked c.new_row-row.result c.make_room.ensures.settled c.make_room.ensures.shown below c.new_row-row.ensures.row c.new_row-row.ensures.asked
     (record t { rows = c.insert.new.self; places = c.index_both.new.places; handles = c.index_both.new.handles; queues = c.count_up.new.queues })
     c.in_ok-key.key.items c.in_ok-holder.holder.items c.in_ok-insert.ensures.entries
-    (each_same _ _ c.in_ok-key.ensures.cases.0)
+    (c.in_ok-key.ensures.text ∙ ap (λ (k : ℕ). key_text c.args.asked.place k c.args.asked.number) c.class_of-class.ensures)
     c.in_ok-holder.ensures c.in-Ok.ensures.places c.in-Ok.ensures.handles refl
     (subst (λ l. is_marked t.marks.slots.items l ≡ true) c.text.ensures c.in_ok-make_room.ensures.marked) refl c.in_ok-make_room.ensures.sent
     c.count_up.ensures.pending c.count_up.ensures.rooms c.count_up.ensures.told c.count_up.ensures.taken c.count_up.ensures.len c.in_ok-make_room.ensures.queue
@@ -56,7 +56,7 @@ returns-in-Err-clause-settled c =
     let t = c.make_room.new.self in
     let n = c.args.asked.number in
     let below = subst (λ m. AreBelow n m.entries) (sym c.make_room.ensures.rows) (are-below n c.args.self.now.rows.entries c.requires.above) in
-    back-settled c.args.self.now t c.args.asked c.in_ok-row.row c.make_room.ensures.settled c.make_room.ensures.shown below c.in_ok-row.ensures.row c.in_ok-row.ensures.asked
+    back-settled c.args.self.now t c.args.asked c.new_row-row.result c.make_room.ensures.settled c.make_room.ensures.shown below c.new_row-row.ensures.row c.new_row-row.ensures.asked
     (record t { rows = c.remove.new.self; places = c.index_both.new.places; handles = c.index_both.new.handles })
     c.insert.new.self.entries c.in_ok-insert.ensures.entries c.remove.ensures.entries c.in-Err.ensures.places_stay c.in-Err.ensures.handles_stay refl refl refl
 
@@ -65,7 +65,7 @@ returns-in-Err-clause-err c =
     let t = c.make_room.new.self in
     let n = c.args.asked.number in
     let below = subst (λ m. AreBelow n m.entries) (sym c.make_room.ensures.rows) (are-below n c.args.self.now.rows.entries c.requires.above) in
-    back-shown c.args.self.now t c.args.asked c.in_ok-row.row c.make_room.ensures.settled c.make_room.ensures.shown below c.in_ok-row.ensures.row c.in_ok-row.ensures.asked
+    back-shown c.args.self.now t c.args.asked c.new_row-row.result c.make_room.ensures.settled c.make_room.ensures.shown below c.new_row-row.ensures.row c.new_row-row.ensures.asked
     (record t { rows = c.remove.new.self; places = c.index_both.new.places; handles = c.index_both.new.handles })
     c.insert.new.self.entries c.in_ok-insert.ensures.entries c.remove.ensures.entries c.in-Err.ensures.places_stay c.in-Err.ensures.handles_stay refl refl refl
 

@@ -1,6 +1,8 @@
-use Rattle.std.proofs.Common.{None, sym, subst, arith}
+use Rattle.std.proofs.Common.{None, ◌∙◌, sym, subst, arith}
 use Rattle.reg_notify.specs.Internal.Indexes.{number_at, UpdatesText}
 use Rattle.reg_notify.specs.Internal.Marks.{AreMarked}
+use Rattle.reg_notify.specs.Internal.Keys.{class_of}
+use Rattle.reg_notify.proofs.PlaceTexts.{key-appended}
 use Rattle.reg_notify.proofs.MarkedRows.{marks-less}
 use Rattle.reg_notify.proofs.RowSteps.{table-less}
 use Rattle.reg_notify.proofs.TableSteps.{room-less}
@@ -13,7 +15,9 @@ returns-in-Ok-clause-ready c =
     let handles = number_at was.handles.by_text.entries in
     let row = c.in-Some.row in
     let found = sym c.in-Some.ensures.value in
-    let up = subst (λ t. UpdatesText places t None (number_at c.remove-in-Some.new.self.by_text.entries)) c.as_slice.ensures.value c.remove-in-Some.ensures in
+    let up = subst (λ t. UpdatesText places t None (number_at c.remove-in-Some.new.self.by_text.entries))
+    (c.as_slice.ensures.value ∙ c.append_key.ensures ∙ key-appended _ row.place c.class_of-class.result (class_of row.filter row.subtree) c.args.number c.into_text-key.ensures.text c.class_of-class.ensures)
+    c.remove-in-Some.ensures in
     let uh = subst (λ t. UpdatesText handles t None (number_at c.remove-in-Some-2.new.self.by_text.entries)) c.handle_text.ensures c.remove-in-Some-2.ensures in
     let ready = c.requires.ready in
     let room = ready.room in
