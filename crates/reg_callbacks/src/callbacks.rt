@@ -1,0 +1,171 @@
+ghost use Rattle.std.specs.Prelude.{ℕ, [], ◌≡◌, ◌⊎◌, ◌↔◌, ◌+◌, ◌<◌, ◌≤◌, map, true, false, length, slice_get, Some, IfSome, IfNone, IfOk, IfErr, OnErr, IsErrOf};
+ghost use Rattle.reg_callbacks.specs.Asking.{first_refusal, status_seen};
+ghost use Rattle.reg_callbacks.specs.Rows.{is_falling, are_below, are_distinct, is_among, count_above, IsOneMore};
+
+use crate::row::Row;
+use crate::{CallView, Callback};
+use std::alloc::Global;
+
+/// How many registrations there may be on a hive, with those that were taken out again.
+pub const REGISTRATIONS_LIMIT: u32 = 65_536;
+
+/// What a registration is named by to take it out: how many there were before it.
+#[derive(Clone, Copy, Debug, PartialEq, Eq)]
+pub struct Cookie {
+    pub number: u32,
+}
+
+/// Why a callback wasn't registered, or none taken out; the first that holds, `Full` before the others. The box that wasn't kept
+/// comes back.
+#[derive(Drop)]
+pub enum CallbackFault {
+    /// A callback is registered at this altitude.
+    AltitudeTaken(Box<dyn Callback + Send>),
+    /// A growth was refused.
+    Memory(Box<dyn Callback + Send>),
+    /// No callback that is registered has the cookie.
+    NoSuchCookie,
+    /// 65,536 registrations were made.
+    Full(Box<dyn Callback + Send>),
+}
+
+/// The callbacks of a hive.
+#[derive(Drop)]
+pub struct Callbacks {
+    // The highest altitude first.
+    rows: Vec<Row>,
+    made: u32,
+    ghost within: { made ≤ 65536 },
+    ghost falling: { is_falling (map (λ row. row.altitude) rows.items) ≡ true },
+    ghost below: { are_below made (map (λ row. row.cookie) rows.items) ≡ true },
+    ghost distinct: { are_distinct (map (λ row. row.cookie) rows.items) ≡ true },
+}
+
+impl Callbacks {
+    /// No callback; the first one is given the cookie 0.
+    pub fn new(alloc: Global) -> Callbacks
+        ensures none { result.rows.items ≡ [] }
+        ensures first { result.made ≡ 0 }
+    {
+        Callbacks {
+            rows: Vec::new(alloc),
+            made: 0,
+        }
+    }
+
+    /// Asks the callbacks of a call, from the highest altitude down, until one refuses. Answers its status, or 0 where all let the
+    /// call go on. Takes no memory.
+    pub fn ask(&self, view: &CallView) -> u32
+        ensures status { result ≡ first_refusal (map (λ row. status_seen view.now (answers row.callback)) self.now.rows.items) }
+        ensures order { is_falling (map (λ row. row.altitude) self.now.rows.items) ≡ true }
+    {
+        for row in &self.rows {
+            let status = row.ask(view);
+            if status != 0 {
+                return status;
+            }
+        }
+        0
+    }
+
+    /// Registers a callback at an altitude, and answers its cookie. `Full` where 65,536 registrations were made, else
+    /// `AltitudeTaken` where a callback is at that altitude, else `Memory`; then nothing changed, and the box comes back.
+    pub fn register(
+        &mut self,
+        callback: Box<dyn Callback + Send>,
+        altitude: u32,
+    ) -> Result<Cookie, CallbackFault>
+        ensures added { IfOk result (λ cookie. IsOneMore (record { altitude = altitude; cookie = cookie.number; callback = callback }) self.old.rows.items self.new.rows.items) }
+        ensures cookie { IfOk result (λ cookie. cookie.number ≡ self.old.made) }
+        ensures made { IfOk result (λ cookie. self.new.made ≡ self.old.made + 1) }
+        ensures full { IsErrOf result (CallbackFault.Full callback) ↔ (self.old.made ≡ 65536) }
+        ensures altitude_taken { IsErrOf result (CallbackFault.AltitudeTaken callback)
+            ↔ ((self.old.made < 65536) × (is_among altitude (map (λ row. row.altitude) self.old.rows.items) ≡ true)) }
+        ensures returned { IfErr result (λ fault. (fault ≡ CallbackFault.Full callback)
+            ⊎ (fault ≡ CallbackFault.AltitudeTaken callback)
+            ⊎ (fault ≡ CallbackFault.Memory callback)) }
+        ensures err { OnErr result ((self.new.rows.items ≡ self.old.rows.items) × (self.new.made ≡ self.old.made)) }
+    {
+        if self.made >= REGISTRATIONS_LIMIT {
+            return Err(CallbackFault::Full(callback));
+        }
+        if self.is_taken(altitude) {
+            return Err(CallbackFault::AltitudeTaken(callback));
+        }
+        let place = self.place_of(altitude);
+        let cookie = self.made;
+        let row = Row {
+            altitude,
+            cookie,
+            callback,
+        };
+        match self.rows.insert(place, row) {
+            Ok(()) => {
+                self.made += 1;
+                Ok(Cookie { number: cookie })
+            }
+            Err(refused) => Err(CallbackFault::Memory(refused.value.callback)),
+        }
+    }
+
+    /// Takes out the callback of a cookie, and answers its box. `NoSuchCookie` where none has it; then nothing changed. Takes no
+    /// memory.
+    pub fn unregister(&mut self, cookie: Cookie) -> Result<Box<dyn Callback + Send>, CallbackFault>
+        ensures taken { IfOk result (λ callback. (altitude : ℕ)
+            × IsOneMore (record { altitude = altitude; cookie = cookie.number; callback = callback }) self.new.rows.items self.old.rows.items) }
+        ensures gone { IfOk result (λ callback. is_among cookie.number (map (λ row. row.cookie) self.new.rows.items) ≡ false) }
+        ensures made { self.new.made ≡ self.old.made }
+        ensures no_such_cookie { IsErrOf result CallbackFault.NoSuchCookie
+            ↔ (is_among cookie.number (map (λ row. row.cookie) self.old.rows.items) ≡ false) }
+        ensures fault { IfErr result (λ fault. fault ≡ CallbackFault.NoSuchCookie) }
+        ensures err { OnErr result (self.new ≡ self.old) }
+    {
+        match self.place_of_cookie(cookie.number) {
+            Some(place) => Ok(self.rows.remove(place).callback),
+            None => Err(CallbackFault::NoSuchCookie),
+        }
+    }
+
+    /// Whether a callback is at an altitude.
+    fn is_taken(&self, altitude: u32) -> bool
+        ensures { result ≡ is_among altitude (map (λ row. row.altitude) self.now.rows.items) }
+    {
+        for row in &self.rows {
+            if row.altitude == altitude {
+                return true;
+            }
+        }
+        false
+    }
+
+    /// How many callbacks are above an altitude: where one at it would stand.
+    fn place_of(&self, altitude: u32) -> usize
+        ensures value { result ≡ count_above altitude (map (λ row. row.altitude) self.now.rows.items) }
+        ensures bound { result ≤ length self.now.rows.items }
+    {
+        let mut place = 0;
+        for row in &self.rows {
+            if row.altitude <= altitude {
+                return place;
+            }
+            place += 1;
+        }
+        place
+    }
+
+    /// Where the callback of a cookie stands; `None` where none has it.
+    fn place_of_cookie(&self, cookie: u32) -> Option<usize>
+        ensures bound { IfSome result (λ place. place < length self.now.rows.items) }
+        ensures found { IfSome result (λ place. slice_get (map (λ row. row.cookie) self.now.rows.items) place ≡ Some cookie) }
+        ensures none { IfNone result (is_among cookie (map (λ row. row.cookie) self.now.rows.items) ≡ false) }
+    {
+        let mut place = 0;
+        for row in &self.rows {
+            if row.cookie == cookie {
+                return Some(place);
+            }
+            place += 1;
+        }
+        None
+    }
+}
