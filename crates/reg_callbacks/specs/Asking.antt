@@ -25,6 +25,10 @@ status_seen view answers = by view.seen
     by (Change change) = answers view.session view.moment view.path.now (call.Change change.now)
     by (Query query) = answers view.session 0 view.path.now (call.Query query.now)
 
--- what callbacks answer that are asked in this order: the function by which a hive's causes ask them
+-- what callbacks answer to what is seen, asked in this order
+abbrev pub status_of : List Answers → CallView → ℕ
+status_of callbacks view = first_refusal (map (status_seen view) callbacks)
+
+-- what callbacks of these answers are to the causes of a hive's refusals: a function of the session, the moment, the path and the call
 abbrev pub asks : List Answers → Callbacks
-asks answers session moment path call = first_refusal (map (λ one. one session moment (text_of path) call) answers)
+asks callbacks session moment path call = first_refusal (map (λ answers. answers session moment (text_of path) call) callbacks)

@@ -1,5 +1,6 @@
 ghost use Rattle.std.specs.Prelude.{ℕ, [], ◌≡◌, ◌⊎◌, ◌↔◌, ◌+◌, ◌<◌, ◌≤◌, map, true, false, length, slice_get, Some, IfSome, IfNone, IfOk, IfErr, OnErr, IsErrOf};
-ghost use Rattle.reg_callbacks.specs.Asking.{first_refusal, status_seen};
+ghost use Rattle.reg_callbacks.specs.Asking.{status_of};
+ghost use Rattle.reg_callbacks.specs.declared.callbacks.TheConstants.{REGISTRATIONS_LIMIT};
 ghost use Rattle.reg_callbacks.specs.Rows.{is_falling, are_below, are_distinct, is_among, count_above, IsOneMore};
 
 use crate::row::Row;
@@ -35,7 +36,7 @@ pub struct Callbacks {
     // The highest altitude first.
     rows: Vec<Row>,
     made: u32,
-    ghost within: { made ≤ 65536 },
+    ghost within: { made ≤ REGISTRATIONS_LIMIT },
     ghost falling: { is_falling (map (λ row. row.altitude) rows.items) ≡ true },
     ghost below: { are_below made (map (λ row. row.cookie) rows.items) ≡ true },
     ghost distinct: { are_distinct (map (λ row. row.cookie) rows.items) ≡ true },
@@ -56,7 +57,7 @@ impl Callbacks {
     /// Asks the callbacks of a call, from the highest altitude down, until one refuses. Answers its status, or 0 where all let the
     /// call go on. Takes no memory.
     pub fn ask(&self, view: &CallView) -> u32
-        ensures status { result ≡ first_refusal (map (λ row. status_seen view.now (answers row.callback)) self.now.rows.items) }
+        ensures status { result ≡ status_of (map (λ row. answers row.callback) self.now.rows.items) view.now }
         ensures order { is_falling (map (λ row. row.altitude) self.now.rows.items) ≡ true }
     {
         for row in &self.rows {
@@ -78,9 +79,9 @@ impl Callbacks {
         ensures added { IfOk result (λ cookie. IsOneMore (record { altitude = altitude; cookie = cookie.number; callback = callback }) self.old.rows.items self.new.rows.items) }
         ensures cookie { IfOk result (λ cookie. cookie.number ≡ self.old.made) }
         ensures made { IfOk result (λ cookie. self.new.made ≡ self.old.made + 1) }
-        ensures full { IsErrOf result (CallbackFault.Full callback) ↔ (self.old.made ≡ 65536) }
+        ensures full { IsErrOf result (CallbackFault.Full callback) ↔ (self.old.made ≡ REGISTRATIONS_LIMIT) }
         ensures altitude_taken { IsErrOf result (CallbackFault.AltitudeTaken callback)
-            ↔ ((self.old.made < 65536) × (is_among altitude (map (λ row. row.altitude) self.old.rows.items) ≡ true)) }
+            ↔ ((self.old.made < REGISTRATIONS_LIMIT) × (is_among altitude (map (λ row. row.altitude) self.old.rows.items) ≡ true)) }
         ensures returned { IfErr result (λ fault. (fault ≡ CallbackFault.Full callback)
             ⊎ (fault ≡ CallbackFault.AltitudeTaken callback)
             ⊎ (fault ≡ CallbackFault.Memory callback)) }
