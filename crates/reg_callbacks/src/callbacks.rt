@@ -19,22 +19,22 @@ pub struct Cookie {
 /// Why a callback wasn't registered, or none taken out; the first that holds, `Full` before the others. The box that wasn't kept
 /// comes back.
 #[derive(Drop)]
-pub enum CallbackFault {
+pub enum CallbackFault<C = Box<dyn Callback + Send>> {
     /// A callback is registered at this altitude.
-    AltitudeTaken(Box<dyn Callback + Send>),
+    AltitudeTaken(C),
     /// A growth was refused.
-    Memory(Box<dyn Callback + Send>),
+    Memory(C),
     /// No callback that is registered has the cookie.
     NoSuchCookie,
     /// 65,536 registrations were made.
-    Full(Box<dyn Callback + Send>),
+    Full(C),
 }
 
 /// The callbacks of a hive.
 #[derive(Drop)]
-pub struct Callbacks {
+pub struct Callbacks<C = Box<dyn Callback + Send>> {
     // The highest altitude first.
-    rows: Vec<Row>,
+    rows: Vec<Row<C>>,
     made: u32,
     ghost within: { made ≤ REGISTRATIONS_LIMIT },
     ghost falling: { is_falling (map (λ row. row.altitude) rows.items) ≡ true },
@@ -42,9 +42,9 @@ pub struct Callbacks {
     ghost distinct: { are_distinct (map (λ row. row.cookie) rows.items) ≡ true },
 }
 
-impl Callbacks {
+impl<C: Callback> Callbacks<C> {
     /// No callback; the first one is given the cookie 0.
-    pub fn new(alloc: Global) -> Callbacks
+    pub fn new(alloc: Global) -> Callbacks<C>
         ensures none { result.rows.items ≡ [] }
         ensures first { result.made ≡ 0 }
     {
@@ -57,7 +57,7 @@ impl Callbacks {
     /// Asks the callbacks of a call, from the highest altitude down, until one refuses. Answers its status, or 0 where all let the
     /// call go on. Takes no memory.
     pub fn ask(&self, view: &CallView) -> u32
-        ensures status { result ≡ status_of (map (λ row. answers row.callback) self.now.rows.items) view.now }
+        ensures status { result ≡ status_of (map (λ row. C.answers row.callback) self.now.rows.items) view.now }
         ensures order { is_falling (map (λ row. row.altitude) self.now.rows.items) ≡ true }
     {
         for row in &self.rows {
@@ -73,9 +73,9 @@ impl Callbacks {
     /// `AltitudeTaken` where a callback is at that altitude, else `Memory`; then nothing changed, and the box comes back.
     pub fn register(
         &mut self,
-        callback: Box<dyn Callback + Send>,
+        callback: C,
         altitude: u32,
-    ) -> Result<Cookie, CallbackFault>
+    ) -> Result<Cookie, CallbackFault<C>>
         ensures added { IfOk result (λ cookie. IsOneMore (record { altitude = altitude; cookie = cookie.number; callback = callback }) self.old.rows.items self.new.rows.items) }
         ensures cookie { IfOk result (λ cookie. cookie.number ≡ self.old.made) }
         ensures made { IfOk result (λ cookie. self.new.made ≡ self.old.made + 1) }
@@ -111,7 +111,7 @@ impl Callbacks {
 
     /// Takes out the callback of a cookie, and answers its box. `NoSuchCookie` where none has it; then nothing changed. Takes no
     /// memory.
-    pub fn unregister(&mut self, cookie: Cookie) -> Result<Box<dyn Callback + Send>, CallbackFault>
+    pub fn unregister(&mut self, cookie: Cookie) -> Result<C, CallbackFault<C>>
         ensures taken { IfOk result (λ callback. (altitude : ℕ)
             × IsOneMore (record { altitude = altitude; cookie = cookie.number; callback = callback }) self.new.rows.items self.old.rows.items) }
         ensures gone { IfOk result (λ callback. is_among cookie.number (map (λ row. row.cookie) self.new.rows.items) ≡ false) }

@@ -6,16 +6,16 @@ use crate::{CallView, Callback, Seen};
 
 /// A callback at its altitude, with the cookie that its registration was given.
 #[derive(Drop)]
-pub struct Row {
+pub struct Row<C> {
     pub altitude: u32,
     pub cookie: u32,
-    pub callback: Box<dyn Callback + Send>,
+    pub callback: C,
 }
 
-impl Row {
+impl<C: Callback> Row<C> {
     /// Asks the callback: it is handed what is seen by the method of its kind.
     pub fn ask(&self, view: &CallView) -> u32
-        ensures { result ≡ status_seen view.now (answers self.now.callback) }
+        ensures { result ≡ status_seen view.now (C.answers self.now.callback) }
     {
         match view.seen {
             Seen::Change(change) => {

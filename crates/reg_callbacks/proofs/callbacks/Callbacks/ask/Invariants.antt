@@ -4,5 +4,5 @@ use Rattle.reg_callbacks.proofs.callbacks.Callbacks.ask.Given as goal
 
 abbrev pub invariant-loop-row : goal.invariant-loop-row
 invariant-loop-row g l =
-    status_of (map (λ row. (goal.Callback-dyn g (row.callback.vtable, row.callback.value)).answers row.callback.value) (drop l.row-index l.row-items)) l.view
-    ≡ status_of (map (λ row. (goal.Callback-dyn g (row.callback.vtable, row.callback.value)).answers row.callback.value) l.row-items) l.view
+    status_of (map (λ row. g.C.Callback.answers row.callback) (drop l.row-index l.row-items)) l.view
+    ≡ status_of (map (λ row. g.C.Callback.answers row.callback) l.row-items) l.view
