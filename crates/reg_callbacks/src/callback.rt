@@ -1,5 +1,4 @@
 ghost use Rattle.std.specs.Prelude.{◌≡◌};
-ghost use Rattle.reg_model.specs.declared.call.Call.TheVariants as call;
 
 use reg_model::{Change, Query};
 
@@ -26,34 +25,15 @@ pub trait Callback: Drop {
         ensures { result ≡ answers self.now session 0 path.now (call.Query query.now) };
 }
 
-/// What the callback in a box decides on a change. A function of its own: in the `impl` for boxes the call would name itself.
-fn change_by(
-    callback: &Box<dyn Callback + Send>,
-    session: u8,
-    moment: u64,
-    path: &[u8],
-    change: &Change,
-) -> u32
-    ensures { result ≡ answers callback.now session moment path.now (call.Change change.now) }
-{
-    callback.as_ref().pre_change(session, moment, path, change)
-}
-
-/// What the callback in a box decides on a question.
-fn query_by(callback: &Box<dyn Callback + Send>, session: u8, path: &[u8], query: &Query) -> u32
-    ensures { result ≡ answers callback.now session 0 path.now (call.Query query.now) }
-{
-    callback.as_ref().pre_query(session, path, query)
-}
-
+/// A callback in a box, which decides as the one inside.
 impl Callback for Box<dyn Callback + Send> {
     ghost answers = { λ b. (Callback-box b).answers b.value };
 
     fn pre_change(&self, session: u8, moment: u64, path: &[u8], change: &Change) -> u32 {
-        change_by(self, session, moment, path, change)
+        (**self).pre_change(session, moment, path, change)
     }
 
     fn pre_query(&self, session: u8, path: &[u8], query: &Query) -> u32 {
-        query_by(self, session, path, query)
+        (**self).pre_query(session, path, query)
     }
 }
