@@ -1,7 +1,6 @@
-ghost use Rattle.std.specs.Prelude.{ℕ, [], ◌≡◌, ◌⊎◌, ◌↔◌, ◌+◌, ◌<◌, ◌≤◌, map, true, false, length, slice_get, Some, IfSome, IfNone, IfOk, IfErr, OnErr, IsErrOf};
-ghost use Rattle.reg_callbacks.specs.Asking.{status_of};
+ghost use Rattle.std.specs.Prelude.{◌≡◌, ◌≤◌, map, true};
+ghost use Rattle.reg_callbacks.specs.Rows.{is_falling, are_below, are_distinct};
 ghost use Rattle.reg_callbacks.specs.declared.callbacks.TheConstants.{REGISTRATIONS_LIMIT};
-ghost use Rattle.reg_callbacks.specs.Rows.{is_falling, are_below, are_distinct, is_among, count_above, IsOneMore};
 
 use crate::row::Row;
 use crate::{CallView, Callback};
@@ -43,10 +42,15 @@ pub struct Callbacks<C = Box<dyn Callback + Send>> {
 }
 
 impl<C: Callback> Callbacks<C> {
+    ghost use Rattle.std.specs.Prelude.{ℕ, [], ◌≡◌, ◌⊎◌, ◌↔◌, ◌+◌, ◌<◌, ◌≤◌, true, false, length, slice_get, Some, IfSome, IfNone, IfOk, IfErr, OnErr, IsErrOf};
+    ghost use Rattle.reg_callbacks.specs.Asking.{status_of};
+    ghost use Rattle.reg_callbacks.specs.Rows.{is_falling, is_among, count_above, IsOneMore};
+    ghost use Rattle.reg_callbacks.specs.Lists.{rows_of, altitudes_of, cookies_of, answers_of, made_of};
+
     /// No callback; the first one is given the cookie 0.
     pub fn new(alloc: Global) -> Callbacks<C>
-        ensures none { result.rows.items ≡ [] }
-        ensures first { result.made ≡ 0 }
+        ensures none { rows_of result ≡ [] }
+        ensures first { made_of result ≡ 0 }
     {
         Callbacks {
             rows: Vec::new(alloc),
@@ -57,8 +61,8 @@ impl<C: Callback> Callbacks<C> {
     /// Asks the callbacks of a call, from the highest altitude down, until one refuses. Answers its status, or 0 where all let the
     /// call go on. Takes no memory.
     pub fn ask(&self, view: &CallView) -> u32
-        ensures status { result ≡ status_of (map (λ row. C.answers row.callback) self.now.rows.items) view.now }
-        ensures order { is_falling (map (λ row. row.altitude) self.now.rows.items) ≡ true }
+        ensures status { result ≡ status_of (answers_of C.answers self.now) view.now }
+        ensures order { is_falling (altitudes_of self.now) ≡ true }
     {
         for row in &self.rows {
             let status = row.ask(view);
@@ -76,16 +80,16 @@ impl<C: Callback> Callbacks<C> {
         callback: C,
         altitude: u32,
     ) -> Result<Cookie, CallbackFault<C>>
-        ensures added { IfOk result (λ cookie. IsOneMore (record { altitude = altitude; cookie = cookie.number; callback = callback }) self.old.rows.items self.new.rows.items) }
-        ensures cookie { IfOk result (λ cookie. cookie.number ≡ self.old.made) }
-        ensures made { IfOk result (λ cookie. self.new.made ≡ self.old.made + 1) }
-        ensures full { IsErrOf result (CallbackFault.Full callback) ↔ (self.old.made ≡ REGISTRATIONS_LIMIT) }
+        ensures added { IfOk result (λ cookie. IsOneMore (record { altitude = altitude; cookie = cookie.number; callback = callback }) (rows_of self.old) (rows_of self.new)) }
+        ensures cookie { IfOk result (λ cookie. cookie.number ≡ made_of self.old) }
+        ensures made { IfOk result (λ cookie. made_of self.new ≡ made_of self.old + 1) }
+        ensures full { IsErrOf result (CallbackFault.Full callback) ↔ (made_of self.old ≡ REGISTRATIONS_LIMIT) }
         ensures altitude_taken { IsErrOf result (CallbackFault.AltitudeTaken callback)
-            ↔ ((self.old.made < REGISTRATIONS_LIMIT) × (is_among altitude (map (λ row. row.altitude) self.old.rows.items) ≡ true)) }
+            ↔ ((made_of self.old < REGISTRATIONS_LIMIT) × (is_among altitude (altitudes_of self.old) ≡ true)) }
         ensures returned { IfErr result (λ fault. (fault ≡ CallbackFault.Full callback)
             ⊎ (fault ≡ CallbackFault.AltitudeTaken callback)
             ⊎ (fault ≡ CallbackFault.Memory callback)) }
-        ensures err { OnErr result ((self.new.rows.items ≡ self.old.rows.items) × (self.new.made ≡ self.old.made)) }
+        ensures err { OnErr result ((rows_of self.new ≡ rows_of self.old) × (made_of self.new ≡ made_of self.old)) }
     {
         if self.made >= REGISTRATIONS_LIMIT {
             return Err(CallbackFault::Full(callback));
@@ -113,11 +117,11 @@ impl<C: Callback> Callbacks<C> {
     /// memory.
     pub fn unregister(&mut self, cookie: Cookie) -> Result<C, CallbackFault<C>>
         ensures taken { IfOk result (λ callback. (altitude : ℕ)
-            × IsOneMore (record { altitude = altitude; cookie = cookie.number; callback = callback }) self.new.rows.items self.old.rows.items) }
-        ensures gone { IfOk result (λ callback. is_among cookie.number (map (λ row. row.cookie) self.new.rows.items) ≡ false) }
-        ensures made { self.new.made ≡ self.old.made }
+            × IsOneMore (record { altitude = altitude; cookie = cookie.number; callback = callback }) (rows_of self.new) (rows_of self.old)) }
+        ensures gone { IfOk result (λ callback. is_among cookie.number (cookies_of self.new) ≡ false) }
+        ensures made { made_of self.new ≡ made_of self.old }
         ensures no_such_cookie { IsErrOf result CallbackFault.NoSuchCookie
-            ↔ (is_among cookie.number (map (λ row. row.cookie) self.old.rows.items) ≡ false) }
+            ↔ (is_among cookie.number (cookies_of self.old) ≡ false) }
         ensures fault { IfErr result (λ fault. fault ≡ CallbackFault.NoSuchCookie) }
         ensures err { OnErr result (self.new ≡ self.old) }
     {
@@ -129,7 +133,7 @@ impl<C: Callback> Callbacks<C> {
 
     /// Whether a callback is at an altitude.
     fn is_taken(&self, altitude: u32) -> bool
-        ensures { result ≡ is_among altitude (map (λ row. row.altitude) self.now.rows.items) }
+        ensures { result ≡ is_among altitude (altitudes_of self.now) }
     {
         for row in &self.rows {
             if row.altitude == altitude {
@@ -141,8 +145,8 @@ impl<C: Callback> Callbacks<C> {
 
     /// How many callbacks are above an altitude: where one at it would stand.
     fn place_of(&self, altitude: u32) -> usize
-        ensures value { result ≡ count_above altitude (map (λ row. row.altitude) self.now.rows.items) }
-        ensures bound { result ≤ length self.now.rows.items }
+        ensures value { result ≡ count_above altitude (altitudes_of self.now) }
+        ensures bound { result ≤ length (rows_of self.now) }
     {
         let mut place = 0;
         for row in &self.rows {
@@ -156,9 +160,9 @@ impl<C: Callback> Callbacks<C> {
 
     /// Where the callback of a cookie stands; `None` where none has it.
     fn place_of_cookie(&self, cookie: u32) -> Option<usize>
-        ensures bound { IfSome result (λ place. place < length self.now.rows.items) }
-        ensures found { IfSome result (λ place. slice_get (map (λ row. row.cookie) self.now.rows.items) place ≡ Some cookie) }
-        ensures none { IfNone result (is_among cookie (map (λ row. row.cookie) self.now.rows.items) ≡ false) }
+        ensures bound { IfSome result (λ place. place < length (rows_of self.now)) }
+        ensures found { IfSome result (λ place. slice_get (cookies_of self.now) place ≡ Some cookie) }
+        ensures none { IfNone result (is_among cookie (cookies_of self.now) ≡ false) }
     {
         let mut place = 0;
         for row in &self.rows {
