@@ -37,3 +37,19 @@ impl Callback for Box<dyn Callback + Send> {
         (**self).pre_query(session, path, query)
     }
 }
+
+/// No callback: there is none, so a list of these stays empty.
+#[derive(Drop)]
+pub enum NoCallback {}
+
+impl Callback for NoCallback {
+    ghost answers = { λ callback session moment path seen. 0 };
+
+    fn pre_change(&self, _: u8, _: u64, _: &[u8], _: &Change) -> u32 {
+        match *self {}
+    }
+
+    fn pre_query(&self, _: u8, _: &[u8], _: &Query) -> u32 {
+        match *self {}
+    }
+}

@@ -75,11 +75,7 @@ impl<C: Callback> Callbacks<C> {
 
     /// Registers a callback at an altitude, and answers its cookie. `Full` where 65,536 registrations were made, else
     /// `AltitudeTaken` where a callback is at that altitude, else `Memory`; then nothing changed, and the box comes back.
-    pub fn register(
-        &mut self,
-        callback: C,
-        altitude: u32,
-    ) -> Result<Cookie, CallbackFault<C>>
+    pub fn register(&mut self, callback: C, altitude: u32) -> Result<Cookie, CallbackFault<C>>
         ensures added { IfOk result (λ cookie. IsOneMore (record { altitude = altitude; cookie = cookie.number; callback = callback }) (rows_of self.old) (rows_of self.new)) }
         ensures cookie { IfOk result (λ cookie. cookie.number ≡ made_of self.old) }
         ensures made { IfOk result (λ cookie. made_of self.new ≡ made_of self.old + 1) }

@@ -11,8 +11,10 @@
 mod callback;
 mod callbacks;
 mod row;
+#[cfg(test)]
+mod tests;
 mod view;
 
-pub use callback::Callback;
-pub use callbacks::{CallbackFault, Callbacks, Cookie};
+pub use callback::{Callback, NoCallback};
+pub use callbacks::{CallbackFault, Callbacks, Cookie, REGISTRATIONS_LIMIT};
 pub use view::{CallView, Seen};
