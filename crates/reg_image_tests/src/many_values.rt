@@ -39,7 +39,7 @@ fn sizes(alloc: Global, hive: &Hive) -> Result<String, Fail> {
     for size in &sizes_but(alloc, arena, 0)? {
         cells = cells.saturating_add(*size);
     }
-    let are_close = u64::from(arena.bins_size()) * 100 <= u64::from(cells) * 105;
+    let are_close = u64::from(arena.bins_size()) * 100 <= u64::from(cells).saturating_mul(105);
     let bins = if are_close { "close" } else { "far" };
     Ok(format!(in alloc; "{cells} {bins}")?)
 }
