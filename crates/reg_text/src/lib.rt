@@ -4,12 +4,16 @@
 //! many bytes a writer took. It stands on no other crate of this repository, and has no type of its own.
 #![tactic(auto)]
 
-ghost use Rattle.std.specs.Prelude.{◌≡◌, ◌≤◌, ◌++◌, length, take, string_bytes, OnOk};
+mod sinks;
+
+pub use sinks::Sink;
+
+ghost use Rattle.std.specs.Prelude.{◌≡◌, ◌≤◌, ◌<◌, ◌++◌, length, take, string_bytes, OnOk};
 ghost use Rattle.std.specs.Io.KnownBytes.{Appends};
+ghost use Rattle.reg_text.specs.Failures.{Stays, Fails};
 ghost use Rattle.reg_text.specs.Texts.{byte_text, digits_text, escaped as escaped_text, is_plain as is_plain_byte};
 
 use std::alloc::{AllocError, Global};
-use std::io::Write;
 
 /// Whether a byte of a name stands for itself: 0x21 to 0x7E, but `%`.
 fn is_plain(byte: u8) -> bool
@@ -46,16 +50,18 @@ pub fn write_digits(alloc: Global, text: &mut String, bytes: &[u8]) -> Result<()
     text.push_str(&digits)
 }
 
-/// Writes bytes, and answers how many the writer took: all, unless a write failed or took no byte.
-pub fn write_counted<W: Write>(writer: &mut W, bytes: &[u8]) -> usize
+/// Writes bytes, and answers how many the writer took: all, unless a write failed or took no byte. Then nothing more is written.
+pub fn write_counted<S: Sink>(sink: &mut S, bytes: &[u8]) -> usize
     ensures count { result ≤ length bytes.now }
-    ensures bytes { Appends (W.contents writer.old) (W.contents writer.new) (take result bytes.now) }
+    ensures bytes { Appends (S.contents sink.old) (S.contents sink.new) (take result bytes.now) }
+    ensures stays { result ≡ length bytes.now → Stays (S.failures sink.old) (S.failures sink.new) }
+    ensures fails { result < length bytes.now → Fails (S.failures sink.old) (S.failures sink.new) }
 {
     let mut taken = 0;
     while taken < bytes.len() {
-        match writer.write(&bytes[taken..]) {
-            Ok(count) if count > 0 => taken += count,
-            _ => return taken,
+        match sink.send(&bytes[taken..]) {
+            Ok(count) => taken += count,
+            Err(_) => return taken,
         }
     }
     taken
