@@ -5,8 +5,10 @@
 #![tactic(auto)]
 
 mod sinks;
+mod sources;
 
 pub use sinks::Sink;
+pub use sources::Source;
 
 ghost use Rattle.std.specs.Prelude.{◌≡◌, ◌≤◌, ◌<◌, ◌++◌, length, take, string_bytes, OnOk};
 ghost use Rattle.std.specs.Io.KnownBytes.{Appends};
