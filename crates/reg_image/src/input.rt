@@ -43,7 +43,11 @@ pub fn fill<R: Source>(input: &mut R, buffer: &mut [u8]) -> Result<(), LoadFault
 
 /// Reads so many bytes. The room for them grows with what comes, so that an image that ends too early costs no more than twice what
 /// it has, whatever size it tells.
-pub fn read_bytes<R: Source>(alloc: Global, input: &mut R, size: usize) -> Result<Vec<u8>, LoadFault>
+pub fn read_bytes<R: Source>(
+    alloc: Global,
+    input: &mut R,
+    size: usize,
+) -> Result<Vec<u8>, LoadFault>
     ensures ok { IfOk result (λ bytes. Consumes (R.remaining input.old) (R.remaining input.new) bytes.items × (length bytes.items ≡ size)) }
     ensures err { IfErr result (λ fault. (piece : List ℕ) × Consumes (R.remaining input.old) (R.remaining input.new) piece
         × IsGivenUp fault size piece (R.remaining input.new)) }

@@ -63,15 +63,16 @@ fn build_tree(alloc: Global, bins: &[u8], block: BaseBlock) -> Result<Tree, Load
 /// that the bins hold.
 ///
 /// The hive is a new one, whose journal is empty. The first test that fails is the fault. `Short` where the image ends before its
-/// base block or its bins do, `Read` only where a read fails, after which none is made: one that is interrupted fails too. Of the base block `Signature`,
-/// `Version`, `Checksum`, `Dirty`, `Bins` and `Limit`; of the bins, once all are read, `Bins` where the header of one is bad, else
-/// `Cells` where a cell's size is; of the keys, as they are met from the root on, `Record`, `Loop`, `Twice`, `NotInProfile` and
-/// `Limit`. `Limit` comes else only where new bins have no room for a key that is met before any fault: bins that came about by
-/// building the keys met before it one after the other, each with just the cells that it takes, and grew only where no free cell
-/// had room. They have none for its key node with its descriptor and its place in a list, or then none for its class, or then none
-/// for its values: for as many of them together, from the first on, as have cells of at most 16,777,216 bytes with a list that has
-/// room for all, or then for one of the others behind those before it. No room is that no free cell has room for all cells of one of
-/// these, and that with a bin more for them the bins would pass 268,435,456 bytes. `Memory` may come as soon as the base block passed.
+/// base block or its bins do, `Read` only where a read fails, and then no other is made: one that is interrupted fails too. Of the
+/// base block `Signature`, `Version`, `Checksum`, `Dirty`, `Bins` and `Limit`; of the bins, once all are read, `Bins` where the
+/// header of one is bad, else `Cells` where a cell's size is; of the keys, as they are met from the root on, `Record`, `Loop`,
+/// `Twice`, `NotInProfile` and `Limit`. `Limit` comes else only where new bins have no room for a key that is met before any fault:
+/// bins that came about by building the keys met before it one after the other, each with just the cells that it takes, and grew
+/// only where no free cell had room. They have none for its key node with its descriptor and its place in a list, or then none for
+/// its class, or then none for its values: for as many of them together, from the first on, as have cells of at most 16,777,216
+/// bytes with a list that has room for all, or then for one of the others behind those before it. No room is that no free cell has
+/// room for all cells of one of these, and that with a bin more for them the bins would pass 268,435,456 bytes. `Memory` may come
+/// as soon as the base block passed.
 pub fn load<R: Source>(alloc: Global, input: &mut R) -> Result<Hive, LoadFault>
     ensures ok { IfOk result (λ hive. (image : List ℕ) × Consumes (R.remaining input.old) (R.remaining input.new) image
         × IsLoaded image (view_of hive)) }

@@ -1,20 +1,21 @@
 //! Names and bytes on their way out: as text, and to a writer.
 //!
 //! Its one contract: each function is exactly its definition in `specs/Texts.antt`, appended to a text, and [`write_counted`] says how
-//! many bytes a writer took. It stands on no other crate of this repository, and has no type of its own.
+//! many bytes a writer took, all unless it failed. What a device may be known to do besides reading and writing, that a call of it
+//! failed, is said by [`Sink`] and [`Source`], which each writer and each reader of std's is. It stands on no other crate of this
+//! repository, and has no type of its own.
 #![tactic(auto)]
 
 mod sinks;
 mod sources;
-
-pub use sinks::Sink;
-pub use sources::Source;
 
 ghost use Rattle.std.specs.Prelude.{◌≡◌, ◌≤◌, ◌<◌, ◌++◌, length, take, string_bytes, OnOk};
 ghost use Rattle.std.specs.Io.KnownBytes.{Appends};
 ghost use Rattle.reg_text.specs.Failures.{Stays, Fails};
 ghost use Rattle.reg_text.specs.Texts.{byte_text, digits_text, escaped as escaped_text, is_plain as is_plain_byte};
 
+pub use sinks::Sink;
+pub use sources::Source;
 use std::alloc::{AllocError, Global};
 
 /// Whether a byte of a name stands for itself: 0x21 to 0x7E, but `%`.
