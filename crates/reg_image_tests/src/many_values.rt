@@ -16,10 +16,7 @@ fn table_of_values(alloc: Global) -> Result<String, AllocError> {
     let mut list = "row".to_string(alloc)?;
     for number in 0..VALUES {
         let line = 2 * number + 2;
-        write!(
-            table,
-            "fill 1100 x61\nvk 1100 @{line} 3 1 =v{number:05}\n"
-        )?;
+        write!(table, "fill 1100 x61\nvk 1100 @{line} 3 1 =v{number:05}\n")?;
         let line = line + 1;
         write!(list, " @{line}")?;
     }

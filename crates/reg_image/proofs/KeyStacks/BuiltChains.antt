@@ -88,9 +88,11 @@ module _ (made key : Rec) (given : List Member) (same : made ≡ bare_of key) (v
       new.tree ≡ insert base (child_path above made.name) (record made { values = given }) → IsAt new (child_path above made.name) node →
       (new.tree ≡ insert base (child_path above key.name) key) × IsAt new (child_path above key.name) node
   told-below new base above node e at =
-      subst (λ path. (new.tree ≡ insert base path key) × IsAt new path node) (its-path above)
-      (e ∙ ap (insert base (child_path above made.name)) (ap (λ (r : Rec). record r { values = given }) same
-      ∙ ap (λ (ms : List Member). record key { values = ms }) values), at)
+      subst (λ path. (new.tree ≡ insert base path key) × IsAt new path node) (its-path above) (
+        e ∙ ap (insert base (child_path above made.name)) (ap (λ (r : Rec). record r { values = given }) same
+            ∙ ap (λ (ms : List Member). record key { values = ms }) values),
+        at,
+      )
 
   pub builds-one : (old mid new : Keys) (above : Path) → BuildsKey old mid above made → AreWhole mid →
       PutsValues (child_path above made.name) key.time given mid new → BuildsOne old new above key
