@@ -1,5 +1,5 @@
 -- How often a device failed, over several calls.
-use Rattle.std.proofs.Common.{◌≡◌, ℕ, suc, Option, Some, None, refl, ◌∙◌, subst}
+use Rattle.std.proofs.Common.{ℕ, Option, Some, None, refl, subst}
 use Rattle.reg_text.specs.Failures.{Stays, Fails}
 
 -- no call

@@ -1,7 +1,7 @@
 use Rattle.std.proofs.Common.{subst, List, ℕ, take}
 use Rattle.std.specs.Io.KnownBytes.{Appends}
 use Rattle.reg_text.proofs.AppendedBytes.{Appends-more, rest_is, rest_fits}
-use Rattle.reg_text.proofs.FailureCounts.{stays-then, fails-then}
+use Rattle.reg_text.proofs.FailureCounts.{stays-then}
 use Rattle.reg_text.proofs.write_counted.Goals as goal
 
 pub loop-taken-preserved : goal.loop-taken-preserved
