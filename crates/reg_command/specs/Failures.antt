@@ -1,8 +1,9 @@
 -- What ended the tool early (this project's own).
-use Rattle.std.specs.Prelude.{◌≡◌, ◌≢◌, ℕ, ◌≤◌, ◌⊎◌, List, Option, length, take}
+use Rattle.std.specs.Prelude.{◌≡◌, ◌≢◌, ℕ, ◌<◌, ◌≤◌, ◌⊎◌, List, Option, codes, length, take}
 use Rattle.std.specs.Io.KnownBytes.{Appends}
 use Rattle.clap.specs.declared.error.kind.ErrorKind.{ErrorKind}
 use Rattle.clap.specs.declared.error.kind.ErrorKind.TheVariants.{OutOfMemory}
+use Rattle.reg_text.specs.Failures.{Fails}
 use Rattle.reg_calls.specs.Views.{View}
 use Rattle.reg_heap.specs.Paths.{Tree}
 use Rattle.reg_image.specs.declared.LoadFault.{LoadFault}
@@ -96,10 +97,17 @@ IsFailure (Usage text) words unread left before after = IsRefused words unread l
 IsFailure (Stopped stop) words unread left before after = IsEnded words stop unread left before after
 IsFailure NoMemory words unread left before after = IsUntouched unread left before after
 
--- the status 1: something ended what a command line asks for; or nothing was touched, for want of memory
-abbrev pub IsStopped : List (List ℕ) → (unread left before after : Option (List ℕ)) → Type 0
-IsStopped words unread left before after =
-    ((stop : Stop) × IsEnded words stop unread left before after) ⊎ IsUntouched unread left before after
+-- a line was told; or a front of it, where the writer failed
+pub record IsSaid (line : List ℕ) (before after : Option (List ℕ)) (failed now_failed : Option ℕ) : Type 0 where
+  pub count : ℕ
+  pub appended : Appends before after (take count line)
+  pub cut : count < length line → Fails failed now_failed
+
+-- the status 1: something ended what a command line asks for; or nothing was touched, and want of memory was told
+abbrev pub IsStopped : List (List ℕ) → (unread left before after told told_after : Option (List ℕ)) → (failed now_failed : Option ℕ) → Type 0
+IsStopped words unread left before after told told_after failed now_failed =
+    ((stop : Stop) × IsEnded words stop unread left before after)
+    ⊎ (IsUntouched unread left before after × IsSaid (codes "error 8\n") told told_after failed now_failed)
 
 -- it ended before anything was read: these words ask for nothing, or memory was wanting
 abbrev pub IsBefore : List (List ℕ) → Failure → Type 0

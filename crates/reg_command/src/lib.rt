@@ -26,6 +26,7 @@ use crate::scripts::{run_script, run_to_image};
 use crate::words::{Request, read_words};
 use clap::Error;
 use clap::error::ErrorKind;
+use reg_text::{Sink, write_counted};
 use std::alloc::Global;
 use std::io::{Read, Write};
 
@@ -93,21 +94,21 @@ fn attempt<R: Read, W: Write>(
 }
 
 /// Tells what ended a command. What a writer doesn't take is lost.
-fn tell<E: Write>(alloc: Global, errors: &mut E, stop: Stop) {
+fn tell<E: Sink>(alloc: Global, errors: &mut E, stop: Stop) {
     match stop {
         Stop::Script(fault) => {
-            let _ = errors.write_all(b"error script ");
-            let _ = errors.write_all(&[b'0' + fault.number(), b'\n']);
+            let _ = write_counted(errors, b"error script ");
+            let _ = write_counted(errors, &[b'0' + fault.number(), b'\n']);
         }
         Stop::Load(_) => {}
         Stop::Write(written) => {
             let _ = match format!(in alloc; "error 1013 written {written}\n") {
-                Ok(text) => errors.write_all(text.as_bytes()),
-                Err(_) => errors.write_all(b"error 8\n"),
+                Ok(text) => write_counted(errors, text.as_bytes()),
+                Err(_) => write_counted(errors, b"error 8\n"),
             };
         }
         Stop::Memory => {
-            let _ = errors.write_all(b"error 8\n");
+            let _ = write_counted(errors, b"error 8\n");
         }
     }
 }
@@ -123,7 +124,7 @@ fn tell<E: Write>(alloc: Global, errors: &mut E, stop: Stop) {
 /// of `dump` or `check` (`error 1013 written N` on `errors`), and for any other want of memory (`error 8` on `errors`). It is 2 for a
 /// command line that isn't understood or a request for help (the text on `errors`), and then nothing was read or written. A failed
 /// write to `errors` changes nothing.
-pub fn tool<R: Read, W: Write, E: Write>(
+pub fn tool<R: Read, W: Write, E: Sink>(
     alloc: Global,
     words: Vec<String>,
     input: &mut R,
@@ -136,14 +137,14 @@ pub fn tool<R: Read, W: Write, E: Write>(
         (E.contents errors.old) (E.contents errors.new) }
     ensures stopped { result ≡ 1 →
         IsStopped (texts words.items) (R.remaining input.old) (R.remaining input.new) (W.contents output.old)
-        (W.contents output.new) }
+        (W.contents output.new) (E.contents errors.old) (E.contents errors.new) (E.failures errors.old) (E.failures errors.new) }
     ensures usage { result ≡ 2 →
         IsRefused (texts words.items) (R.remaining input.old) (R.remaining input.new) (W.contents output.old) (W.contents output.new) }
 {
     match attempt(alloc, words.as_slice(), input, output) {
         Ok(()) => 0,
         Err(Failure::Usage(text)) => {
-            let _ = errors.write_all(text.as_bytes());
+            let _ = write_counted(errors, text.as_bytes());
             2
         }
         Err(Failure::Stopped(stop)) => {
@@ -151,7 +152,7 @@ pub fn tool<R: Read, W: Write, E: Write>(
             1
         }
         Err(Failure::NoMemory) => {
-            let _ = errors.write_all(b"error 8\n");
+            let _ = write_counted(errors, b"error 8\n");
             1
         }
     }

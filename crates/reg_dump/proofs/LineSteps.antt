@@ -2,18 +2,18 @@
 use Rattle.std.proofs.Common.{◌≡◌, ℕ, List, ◌++◌, Option}
 use Rattle.std.specs.Prelude.{codes}
 use Rattle.reg_text.specs.Texts.{line_feed, escaped, digits_text}
-use Rattle.reg_dump.specs.Internal.Gathered.{IsSoFar}
+use Rattle.reg_dump.specs.Internal.Gathered.{WriterState, IsSoFar}
 use Rattle.reg_dump.specs.Internal.LineParts.{marks_part, time_part, kind_part, after_class, after_path, key_in_parts, after_name, value_in_parts, root_in_parts}
 use Rattle.reg_dump.proofs.SentTexts.{opened, then_gathered}
 
 -- a first part was gathered, and the next one is to be told
-part : (begin now : Option (List ℕ)) (whole first next rest left gathered more : List ℕ) (written : ℕ) →
+part : (begin now : WriterState) (whole first next rest left gathered more : List ℕ) (written : ℕ) →
     IsSoFar begin now whole ((first ++ (next ++ rest)) ++ left) gathered written → more ≡ gathered ++ first →
     IsSoFar begin now whole (next ++ (rest ++ left)) more written
 part begin now whole first next rest left gathered more written s e =
     opened begin now whole next rest left more written (then_gathered begin now whole first (next ++ rest) left gathered more written s e)
 
-module _ (begin now : Option (List ℕ)) (whole left gathered more : List ℕ) (written : ℕ) where
+module _ (begin now : WriterState) (whole left gathered more : List ℕ) (written : ℕ) where
   abbrev SoFar : List ℕ → List ℕ → Type 0
   SoFar rest text = IsSoFar begin now whole (rest ++ left) text written
 

@@ -8,7 +8,7 @@ use Rattle.reg_heap.specs.Paths.{Rec, Member}
 use Rattle.reg_text.specs.Texts.{line_feed, escaped, digits_text}
 use Rattle.reg_values.specs.ValueLists.{Tells}
 use Rattle.reg_dump.specs.DumpTexts.{Told, name_of, key_line, value_line}
-use Rattle.reg_dump.specs.Internal.Gathered.{IsSoFar}
+use Rattle.reg_dump.specs.Internal.Gathered.{WriterState, IsSoFar}
 use Rattle.reg_dump.proofs.SentTexts.{swapped}
 use Rattle.reg_dump.specs.Internal.LineParts.{after_class, after_path, key_in_parts, after_name, value_in_parts, root_in_parts, time_part}
 
@@ -71,7 +71,7 @@ pub root_named : (found : Option Rec) (name : List ℕ) → IsSome found → ((r
 root_named None name there told = absurd (cc)
 root_named (Some r) name there told = told r refl
 
-pub root_state : (begin now : Option (List ℕ)) (whole : List ℕ) (found : Option Rec) (left gathered : List ℕ) (written : ℕ)
+pub root_state : (begin now : WriterState) (whole : List ℕ) (found : Option Rec) (left gathered : List ℕ) (written : ℕ)
     (name : List ℕ) →
     IsSoFar begin now whole ((codes "root =" ++ (escaped (name_of found) ++ line_feed)) ++ left) gathered written → IsSome found →
     ((r : Rec) → found ≡ Some r → name ≡ r.name) →

@@ -6,10 +6,10 @@ use thiserror::Error;
 /// What ended a dump early.
 #[derive(Clone, Copy, Debug, PartialEq, Eq, Error)]
 pub enum DumpFault {
-    /// A write or the flush failed, or a write took no byte; or 64 bits can't count the text. So many bytes of it were written.
+    /// A write or the flush failed, or a write took no byte. So many bytes of the text were written.
     #[error("a write failed after {written} bytes")]
     Write { written: u64 },
-    /// A growth was refused; or there are more keys or values than 64 bits can count.
+    /// A growth was refused; or 64 bits can't count the text, its keys or its values.
     #[error("no memory")]
     Memory,
 }

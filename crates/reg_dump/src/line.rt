@@ -11,9 +11,9 @@ ghost use Rattle.reg_dump.specs.Internal.LineParts.{marks_part, time_part, kind_
 
 use crate::output::Output;
 use crate::{Counts, DumpFault};
+use reg_text::Sink;
 use reg_tree::{Node, Tree};
 use std::alloc::{AllocError, Global};
-use std::io::Write;
 
 /// A part of a line that is the same in each.
 fn write_part(text: &mut String, part: &str) -> Result<(), AllocError>
@@ -51,14 +51,14 @@ pub fn write_counts(text: &mut String, counts: Counts) -> Result<(), AllocError>
 }
 
 /// Tells the line of a value of that name, type and data.
-fn put_member<W: Write>(
+fn put_member<W: Sink>(
     output: &mut Output,
     writer: &mut W,
     name: &[u8],
     kind: u32,
     bytes: &[u8],
 ) -> Result<(), DumpFault>
-    ensures { Puts output.old (W.contents writer.old) output.new (W.contents writer.new) (value_in_parts name.now kind bytes.now) result }
+    ensures { Puts output.old (W.contents writer.old, W.failures writer.old) output.new (W.contents writer.new, W.failures writer.new) (value_in_parts name.now kind bytes.now) result }
 {
     write_part(&mut output.text, "value =")?;
     output.put_escaped(writer, name)?;
@@ -69,7 +69,7 @@ fn put_member<W: Write>(
 }
 
 /// Tells the line of a key at that path, with those marks, class, descriptor and time.
-fn put_fields<W: Write>(
+fn put_fields<W: Sink>(
     output: &mut Output,
     writer: &mut W,
     path: &[u8],
@@ -78,7 +78,7 @@ fn put_fields<W: Write>(
     descriptor: &[u8],
     time: u64,
 ) -> Result<(), DumpFault>
-    ensures { Puts output.old (W.contents writer.old) output.new (W.contents writer.new)
+    ensures { Puts output.old (W.contents writer.old, W.failures writer.old) output.new (W.contents writer.new, W.failures writer.new)
         (key_in_parts path.now marks class.now descriptor.now time) result }
 {
     write_part(&mut output.text, "key =")?;
@@ -92,7 +92,7 @@ fn put_fields<W: Write>(
 }
 
 /// Tells the line of the value of a key at an index.
-fn put_value<W: Write>(
+fn put_value<W: Sink>(
     output: &mut Output,
     writer: &mut W,
     alloc: Global,
@@ -102,7 +102,7 @@ fn put_value<W: Write>(
 ) -> Result<(), DumpFault>
     requires { (p : Path) × IsAt tree.now p node × (index < length (values_at tree.now.tree p)) }
     ensures { (p : Path) → IsAt tree.now p node → (member : Member) → slice_get (values_at tree.now.tree p) index ≡ Some member →
-        Puts output.old (W.contents writer.old) output.new (W.contents writer.new) (value_line member) result }
+        Puts output.old (W.contents writer.old, W.failures writer.old) output.new (W.contents writer.new, W.failures writer.new) (value_line member) result }
 {
     let Some(value) = tree.value(node, index) else {
         unreachable!()
@@ -112,7 +112,7 @@ fn put_value<W: Write>(
 }
 
 /// Tells the lines of a key's values, in their order.
-fn put_values<W: Write>(
+fn put_values<W: Sink>(
     output: &mut Output,
     writer: &mut W,
     alloc: Global,
@@ -121,7 +121,7 @@ fn put_values<W: Write>(
 ) -> Result<(), DumpFault>
     requires { IsThere tree.now node }
     ensures { (p : Path) → IsAt tree.now p node →
-        Puts output.old (W.contents writer.old) output.new (W.contents writer.new) (flat_map value_line (values_at tree.now.tree p)) result }
+        Puts output.old (W.contents writer.old, W.failures writer.old) output.new (W.contents writer.new, W.failures writer.new) (flat_map value_line (values_at tree.now.tree p)) result }
 {
     for index in 0..tree.values(node) {
         put_value(output, writer, alloc, tree, node, index)?;
@@ -130,7 +130,7 @@ fn put_values<W: Write>(
 }
 
 /// Tells the line of a key.
-fn put_line<W: Write>(
+fn put_line<W: Sink>(
     output: &mut Output,
     writer: &mut W,
     tree: &Tree,
@@ -139,7 +139,7 @@ fn put_line<W: Write>(
 ) -> Result<(), DumpFault>
     requires { IsThere tree.now node }
     ensures { (p : Path) → IsAt tree.now p node → (told : Told) → get tree.now.tree p ≡ Some told.key → path.now ≡ text_of told.names →
-        Puts output.old (W.contents writer.old) output.new (W.contents writer.new) (key_line told) result }
+        Puts output.old (W.contents writer.old, W.failures writer.old) output.new (W.contents writer.new, W.failures writer.new) (key_line told) result }
 {
     let marks = tree.marks(node);
     let time = tree.time(node);
@@ -155,7 +155,7 @@ fn put_line<W: Write>(
 }
 
 /// Tells the lines of a key: its own, and those of its values.
-pub fn put_key<W: Write>(
+pub fn put_key<W: Sink>(
     output: &mut Output,
     writer: &mut W,
     alloc: Global,
@@ -165,15 +165,15 @@ pub fn put_key<W: Write>(
 ) -> Result<(), DumpFault>
     requires { IsThere tree.now node }
     ensures { (p : Path) → IsAt tree.now p node → (told : Told) → get tree.now.tree p ≡ Some told.key → path.now ≡ text_of told.names →
-        Puts output.old (W.contents writer.old) output.new (W.contents writer.new) (key_lines told) result }
+        Puts output.old (W.contents writer.old, W.failures writer.old) output.new (W.contents writer.new, W.failures writer.new) (key_lines told) result }
 {
     put_line(output, writer, tree, node, path)?;
     put_values(output, writer, alloc, tree, node)
 }
 
 /// Tells the line of the root's name.
-pub fn put_root<W: Write>(output: &mut Output, writer: &mut W, tree: &Tree) -> Result<(), DumpFault>
-    ensures { Puts output.old (W.contents writer.old) output.new (W.contents writer.new) (root_line tree.now.tree) result }
+pub fn put_root<W: Sink>(output: &mut Output, writer: &mut W, tree: &Tree) -> Result<(), DumpFault>
+    ensures { Puts output.old (W.contents writer.old, W.failures writer.old) output.new (W.contents writer.new, W.failures writer.new) (root_line tree.now.tree) result }
 {
     let name = tree.name(tree.root());
     write_part(&mut output.text, "root =")?;
@@ -183,12 +183,12 @@ pub fn put_root<W: Write>(output: &mut Output, writer: &mut W, tree: &Tree) -> R
 }
 
 /// Tells the line that counts the keys and the values.
-pub fn put_counts<W: Write>(
+pub fn put_counts<W: Sink>(
     output: &mut Output,
     writer: &mut W,
     counts: Counts,
 ) -> Result<(), DumpFault>
-    ensures { Puts output.old (W.contents writer.old) output.new (W.contents writer.new) (counts_line counts.keys counts.values) result }
+    ensures { Puts output.old (W.contents writer.old, W.failures writer.old) output.new (W.contents writer.new, W.failures writer.new) (counts_line counts.keys counts.values) result }
 {
     write_counts(&mut output.text, counts)?;
     output.settle(writer)

@@ -3,9 +3,8 @@ ghost use Rattle.reg_text.specs.Texts.{escaped, digits_text};
 ghost use Rattle.reg_dump.specs.Internal.Gathered.{Puts};
 
 use crate::DumpFault;
-use reg_text::{write_counted, write_digits, write_escaped};
+use reg_text::{Sink, write_counted, write_digits, write_escaped};
 use std::alloc::Global;
-use std::io::Write;
 
 /// How many bytes are gathered before they are written.
 const ENOUGH: usize = 65_536;
@@ -34,16 +33,14 @@ impl Output {
         }
     }
 
-    /// Writes all that was gathered. A write that fails, or takes no byte, is a fault; and so is a count of what was written that 64
-    /// bits can't hold, before anything is written.
-    pub fn flush<W: Write>(&mut self, writer: &mut W) -> Result<(), DumpFault>
-        ensures puts { Puts self.old (W.contents writer.old) self.new (W.contents writer.new) [] result }
+    /// Writes all that was gathered. A write that fails, or takes no byte, is a fault. `Memory` comes for a count of what was written
+    /// that 64 bits can't hold, before anything is written.
+    pub fn flush<W: Sink>(&mut self, writer: &mut W) -> Result<(), DumpFault>
+        ensures puts { Puts self.old (W.contents writer.old, W.failures writer.old) self.new (W.contents writer.new, W.failures writer.new) [] result }
         ensures empty { OnOk result (string_bytes self.new.text ≡ []) }
     {
         if self.text.len() as u64 > u64::MAX - self.written {
-            return Err(DumpFault::Write {
-                written: self.written,
-            });
+            return Err(DumpFault::Memory);
         }
         let taken = write_counted(writer, self.text.as_bytes());
         self.written += taken as u64;
@@ -57,8 +54,8 @@ impl Output {
     }
 
     /// Writes what was gathered, once it is enough.
-    pub fn settle<W: Write>(&mut self, writer: &mut W) -> Result<(), DumpFault>
-        ensures { Puts self.old (W.contents writer.old) self.new (W.contents writer.new) [] result }
+    pub fn settle<W: Sink>(&mut self, writer: &mut W) -> Result<(), DumpFault>
+        ensures { Puts self.old (W.contents writer.old, W.failures writer.old) self.new (W.contents writer.new, W.failures writer.new) [] result }
     {
         if self.text.len() < ENOUGH {
             return Ok(());
@@ -67,12 +64,13 @@ impl Output {
     }
 
     /// Writes all that was gathered and has the writer pass it on.
-    pub fn finish<W: Write>(&mut self, writer: &mut W) -> Result<(), DumpFault>
-        ensures puts { Puts self.old (W.contents writer.old) self.new (W.contents writer.new) [] result }
+    pub fn finish<W: Sink>(&mut self, writer: &mut W) -> Result<(), DumpFault>
+        ensures puts { Puts self.old (W.contents writer.old, W.failures writer.old) self.new (W.contents writer.new, W.failures writer.new) [] result }
         ensures empty { OnOk result (string_bytes self.new.text ≡ []) }
+        ensures flushed { OnOk result (W.is_flushed writer.new) }
     {
         self.flush(writer)?;
-        match writer.flush() {
+        match writer.pass_on() {
             Ok(()) => Ok(()),
             Err(_) => Err(DumpFault::Write {
                 written: self.written,
@@ -81,8 +79,8 @@ impl Output {
     }
 
     /// Tells a name, or names joined by backslashes, with `%` and two digits in the place of each byte that isn't plain.
-    pub fn put_escaped<W: Write>(&mut self, writer: &mut W, name: &[u8]) -> Result<(), DumpFault>
-        ensures { Puts self.old (W.contents writer.old) self.new (W.contents writer.new) (escaped name.now) result }
+    pub fn put_escaped<W: Sink>(&mut self, writer: &mut W, name: &[u8]) -> Result<(), DumpFault>
+        ensures { Puts self.old (W.contents writer.old, W.failures writer.old) self.new (W.contents writer.new, W.failures writer.new) (escaped name.now) result }
     {
         let mut from = 0;
         while from < name.len() {
@@ -95,8 +93,8 @@ impl Output {
     }
 
     /// Tells bytes as two digits each, in lower case.
-    pub fn put_digits<W: Write>(&mut self, writer: &mut W, bytes: &[u8]) -> Result<(), DumpFault>
-        ensures { Puts self.old (W.contents writer.old) self.new (W.contents writer.new) (digits_text bytes.now) result }
+    pub fn put_digits<W: Sink>(&mut self, writer: &mut W, bytes: &[u8]) -> Result<(), DumpFault>
+        ensures { Puts self.old (W.contents writer.old, W.failures writer.old) self.new (W.contents writer.new, W.failures writer.new) (digits_text bytes.now) result }
     {
         let mut from = 0;
         while from < bytes.len() {

@@ -5,4 +5,5 @@ pub mod FaultsOfSteps
 pub mod FaultsOfWalks
 pub mod BlockTests
 pub mod LoadedImages
+pub mod ReadFailures
 pub mod MadeImages

@@ -1,6 +1,7 @@
 -- What comes of loading an image from a reader.
 use Rattle.std.specs.Prelude.{◌≡◌, ℕ, ◌+◌, ◌<◌, ◌≤◌, ◌⊎◌, nat_lt, if◌then◌else◌, Option, Some, Result, Ok, Err, IsOk, List, [], length, take, drop}
 use Rattle.std.specs.Io.KnownBytes.{IsAtEnd}
+use Rattle.reg_text.specs.Failures.{Stays, Fails}
 use Rattle.reg_heap.specs.ByteWords.{word}
 use Rattle.reg_calls.specs.Views.{View, IsHive}
 use Rattle.reg_image.specs.declared.LoadFault.{LoadFault}
@@ -65,3 +66,8 @@ IsRefused Short image left = (length image < asked_for image) × (fault_of image
 IsRefused Limit image left = (length image ≡ asked_for image) × ((fault_of image ≡ Some Limit) ⊎ IsImageCrowded image)
 IsRefused Memory image left = (length image ≤ asked_for image) × HasBlock image
 IsRefused fault image left = (length image ≡ asked_for image) × (fault_of image ≡ Some fault)
+
+-- a failed read, after which no more was asked of the reader; or none failed, where it ended otherwise
+abbrev pub IsBlamed : LoadFault → Option ℕ → Option ℕ → Type 0
+IsBlamed Read before after = Fails before after
+IsBlamed fault before after = Stays before after

@@ -2,9 +2,10 @@
 //!
 //! Suhanov, Windows registry file format specification, section "Format of primary files".
 
-ghost use Rattle.std.specs.Prelude.{◌≡◌, ◌≤◌, ◌++◌, [], Ok, OnOk, IfOk, IfErr, length, take};
+ghost use Rattle.std.specs.Prelude.{◌≡◌, ◌≤◌, ◌++◌, [], Ok, OnOk, IfOk, IfErr, MatchResult, length, take};
 ghost use Rattle.std.specs.Io.KnownBytes.{Appends};
 ghost use Rattle.byteorder.specs.Endian.{little_bytes};
+ghost use Rattle.reg_text.specs.Failures.{Stays, Fails};
 ghost use Rattle.reg_calls.specs.HiveView.{view_of};
 ghost use Rattle.reg_image.specs.BaseBlock.{block_of};
 ghost use Rattle.reg_image.specs.Images.{image_of, loaded};
@@ -13,9 +14,8 @@ ghost use Rattle.reg_image.specs.Internal.BlockFields.{block_fields as fields_of
 use crate::block::head_checksum;
 use reg_arena::Arena;
 use reg_calls::Hive;
-use reg_text::write_counted;
+use reg_text::{Sink, write_counted};
 use std::alloc::{AllocError, Global};
-use std::io::Write;
 use thiserror::Error;
 
 /// Why the image of a hive wasn't made.
@@ -122,11 +122,14 @@ pub fn image(alloc: Global, hive: &Hive, moment: u64, sequence: u32) -> Result<V
 /// Writes the bytes of an image, and has the writer pass them on.
 ///
 /// A write that fails, or takes no byte, is the fault, and so is a flush that fails: then all bytes were written. What the writer
-/// took before stands.
-pub fn write_image<W: Write>(bytes: &[u8], writer: &mut W) -> Result<(), WriteFault>
+/// took before stands. The fault comes only where one of these calls failed, and none is made after it.
+pub fn write_image<W: Sink>(bytes: &[u8], writer: &mut W) -> Result<(), WriteFault>
     ensures ok { OnOk result (Appends (W.contents writer.old) (W.contents writer.new) bytes.now) }
     ensures err { IfErr result (λ fault. (fault.written ≤ length bytes.now)
         × Appends (W.contents writer.old) (W.contents writer.new) (take fault.written bytes.now)) }
+    ensures flushed { OnOk result (W.is_flushed writer.new) }
+    ensures failures { MatchResult result (λ _. Stays (W.failures writer.old) (W.failures writer.new))
+        (λ _. Fails (W.failures writer.old) (W.failures writer.new)) }
 {
     let taken = write_counted(writer, bytes);
     let fault = WriteFault {
@@ -135,7 +138,7 @@ pub fn write_image<W: Write>(bytes: &[u8], writer: &mut W) -> Result<(), WriteFa
     if taken < bytes.len() {
         return Err(fault);
     }
-    match writer.flush() {
+    match writer.pass_on() {
         Ok(()) => Ok(()),
         Err(_) => Err(fault),
     }

@@ -16,10 +16,7 @@ fn table_of_values(alloc: Global) -> Result<String, AllocError> {
     let mut list = "row".to_string(alloc)?;
     for number in 0..VALUES {
         let line = 2 * number + 2;
-        write!(
-            table,
-            "fill 1100 x61\nvk 1100 @{line} 3 1 =v{number:05}\n"
-        )?;
+        write!(table, "fill 1100 x61\nvk 1100 @{line} 3 1 =v{number:05}\n")?;
         let line = line + 1;
         write!(list, " @{line}")?;
     }
@@ -39,7 +36,7 @@ fn sizes(alloc: Global, hive: &Hive) -> Result<String, Fail> {
     for size in &sizes_but(alloc, arena, 0)? {
         cells = cells.saturating_add(*size);
     }
-    let are_close = u64::from(arena.bins_size()) * 100 <= u64::from(cells) * 105;
+    let are_close = u64::from(arena.bins_size()) * 100 <= u64::from(cells).saturating_mul(105);
     let bins = if are_close { "close" } else { "far" };
     Ok(format!(in alloc; "{cells} {bins}")?)
 }

@@ -1,3 +1,4 @@
 pub mod AppendedBytes
 pub mod EscapedBytes
+pub mod FailureCounts
 pub mod TextPieces

@@ -1,15 +1,22 @@
 //! Names and bytes on their way out: as text, and to a writer.
 //!
 //! Its one contract: each function is exactly its definition in `specs/Texts.antt`, appended to a text, and [`write_counted`] says how
-//! many bytes a writer took. It stands on no other crate of this repository, and has no type of its own.
+//! many bytes a writer took, all unless it failed. What a device may be known to do besides reading and writing, that a call of it
+//! failed, is said by [`Sink`] and [`Source`], which each writer and each reader of std's is. It stands on no other crate of this
+//! repository, and has no type of its own.
 #![tactic(auto)]
 
-ghost use Rattle.std.specs.Prelude.{◌≡◌, ◌≤◌, ◌++◌, length, take, string_bytes, OnOk};
+mod sinks;
+mod sources;
+
+ghost use Rattle.std.specs.Prelude.{◌≡◌, ◌≤◌, ◌<◌, ◌++◌, length, take, string_bytes, OnOk};
 ghost use Rattle.std.specs.Io.KnownBytes.{Appends};
+ghost use Rattle.reg_text.specs.Failures.{Stays, Fails};
 ghost use Rattle.reg_text.specs.Texts.{byte_text, digits_text, escaped as escaped_text, is_plain as is_plain_byte};
 
+pub use sinks::Sink;
+pub use sources::Source;
 use std::alloc::{AllocError, Global};
-use std::io::Write;
 
 /// Whether a byte of a name stands for itself: 0x21 to 0x7E, but `%`.
 fn is_plain(byte: u8) -> bool
@@ -46,16 +53,18 @@ pub fn write_digits(alloc: Global, text: &mut String, bytes: &[u8]) -> Result<()
     text.push_str(&digits)
 }
 
-/// Writes bytes, and answers how many the writer took: all, unless a write failed or took no byte.
-pub fn write_counted<W: Write>(writer: &mut W, bytes: &[u8]) -> usize
+/// Writes bytes, and answers how many the writer took: all, unless a write failed or took no byte. Then nothing more is written.
+pub fn write_counted<S: Sink>(sink: &mut S, bytes: &[u8]) -> usize
     ensures count { result ≤ length bytes.now }
-    ensures bytes { Appends (W.contents writer.old) (W.contents writer.new) (take result bytes.now) }
+    ensures bytes { Appends (S.contents sink.old) (S.contents sink.new) (take result bytes.now) }
+    ensures stays { result ≡ length bytes.now → Stays (S.failures sink.old) (S.failures sink.new) }
+    ensures fails { result < length bytes.now → Fails (S.failures sink.old) (S.failures sink.new) }
 {
     let mut taken = 0;
     while taken < bytes.len() {
-        match writer.write(&bytes[taken..]) {
-            Ok(count) if count > 0 => taken += count,
-            _ => return taken,
+        match sink.send(&bytes[taken..]) {
+            Ok(count) => taken += count,
+            Err(_) => return taken,
         }
     }
     taken

@@ -1,17 +1,17 @@
 use Rattle.std.proofs.Common.{ℕ, List, Option, ◌∷◌, ◌++◌, ◌-◌, length, string_bytes}
 use Rattle.std.specs.Prelude.{flat_map}
 use Rattle.reg_dump.specs.DumpTexts.{keys_told, key_lines}
-use Rattle.reg_dump.specs.Internal.Gathered.{IsSoFar}
+use Rattle.reg_dump.specs.Internal.Gathered.{WriterState, IsSoFar}
 use Rattle.reg_dump.specs.Internal.Walking.{IsAmid}
 use Rattle.reg_dump.proofs.dumping.put_keys.Given as goal
 
 abbrev pub invariant-loop-walk : goal.invariant-loop-walk
 invariant-loop-walk g l =
     (amid : IsAmid l.tree l.walk l.counts) ×
-    ((begin : Option (List ℕ)) → (whole left : List ℕ) →
-    IsSoFar begin (g.W.Write.contents l.initial.writer) whole (flat_map key_lines (keys_told l.tree.tree) ++ left)
+    ((begin : WriterState) → (whole left : List ℕ) →
+    IsSoFar begin (g.W.Sink.contents l.initial.writer, g.W.Sink.failures l.initial.writer) whole (flat_map key_lines (keys_told l.tree.tree) ++ left)
     (string_bytes l.initial.output.text) l.initial.output.written →
-    IsSoFar begin (g.W.Write.contents l.writer) whole (flat_map key_lines (amid.here ∷ amid.rest) ++ left)
+    IsSoFar begin (g.W.Sink.contents l.writer, g.W.Sink.failures l.writer) whole (flat_map key_lines (amid.here ∷ amid.rest) ++ left)
     (string_bytes l.output.text) l.output.written)
 
 abbrev pub decreases-loop-walk : goal.decreases-loop-walk

@@ -1,14 +1,17 @@
 use Rattle.std.proofs.Common.{rules, ◌≡◌, ℕ, ◌≤◌, ◌%◌, ◌++◌, Ok, None, List, length, sym, ap, ◌∙◌, subst}
 use Rattle.std.proofs.KnownBytes.{Consumes-trans}
 use Rattle.reg_tree.specs.TreeKeys.{Keys}
-use Rattle.reg_image.specs.declared.LoadFault.TheVariants.{Memory}
+use Rattle.reg_image.specs.declared.LoadFault.TheVariants.{Read, Memory}
 use Rattle.reg_image.specs.Images.{nothing, tree_in, bins_walk}
 use Rattle.reg_image.specs.CrowdedBins.{AreCrowded}
 use Rattle.reg_image.specs.Internal.Stacks.{FailsAs}
 use Rattle.reg_image.proofs.Devices.InputPieces.{exit-with}
-use Rattle.reg_image.proofs.Devices.BlockTests.{block-good}
+use Rattle.reg_image.proofs.Devices.BlockTests.{block-good, block-meets}
 use Rattle.reg_image.proofs.Devices.LoadedImages.{refused-before-block, refused-at-block, refused-before-bins, refused-at-bins}
 use Rattle.reg_image.proofs.Devices.LoadedImages.{whole-loaded, whole-size}
+use Rattle.reg_image.proofs.Devices.FaultsOfWalks.{bins-meet}
+use Rattle.reg_image.proofs.Devices.ReadFailures.{exit-either, blamed-then, image-stays, walk-stays}
+use Rattle.reg_text.proofs.FailureCounts.{stays-then}
 use Rattle.reg_image.proofs.loading.load.Goals as goal
 
 pub returns-in_err-fill-clause-err : goal.returns-in_err-fill-clause-err
@@ -83,3 +86,33 @@ returns-clause-err g c =
     let good = block-good _ _ _ _ passed in
     let r = refused-at-bins c.fill.new.buffer (search rules) block passed bins Memory None good.small c.in_ok-bins.ensures.ok.1 tt in
     (c.fill.new.buffer ++ bins, Consumes-trans _ _ _ c.fill.new.buffer bins c.in_ok-fill.ensures.ok c.in_ok-bins.ensures.ok.0, r.0, r.1)
+
+-- ---- what the reader is to blame for
+
+pub returns-in_err-fill-clause-failures : goal.returns-in_err-fill-clause-failures
+returns-in_err-fill-clause-failures g c =
+    exit-either _ _ c.from_residual.result _ c.from_residual.ensures.1 c.in_err-fill.ensures.failures
+
+pub returns-in_err-block-clause-failures : goal.returns-in_err-block-clause-failures
+returns-in_err-block-clause-failures g c =
+    exit-either _ _ c.from_residual-in_err-block.result _ c.from_residual-in_err-block.ensures.1
+    (image-stays _ _ _ (block-meets c.fill.new.buffer nothing _ (c.in_err-block.ensures nothing)) c.in_ok-fill.ensures.failures)
+
+pub returns-in_err-bins-clause-failures : goal.returns-in_err-bins-clause-failures
+returns-in_err-bins-clause-failures g c =
+    exit-either _ _ c.from_residual-in_err-bins.result _ c.from_residual-in_err-bins.ensures.1
+    (blamed-then _ _ _ _ c.in_ok-fill.ensures.failures c.in_err-bins.ensures.failures)
+
+pub returns-in_err-tree-clause-failures : goal.returns-in_err-tree-clause-failures
+returns-in_err-tree-clause-failures g c =
+    let block = c.in_ok-block.block in
+    exit-either _ _ c.from_residual-in_err-tree.result _ c.from_residual-in_err-tree.ensures.1
+    (walk-stays _ c.in_err-tree.field-0.0 (bins_walk c.as_slice.result.now block.minor block.root nothing) _ _
+    (bins-meet c.as_slice.result.now block.minor block.root nothing Read) c.in_err-tree.ensures.err
+    (stays-then _ _ _ c.in_ok-fill.ensures.failures c.in_ok-bins.ensures.failures))
+
+pub returns-in-Ok-clause-failures : goal.returns-in-Ok-clause-failures
+returns-in-Ok-clause-failures g c = stays-then _ _ _ c.in_ok-fill.ensures.failures c.in_ok-bins.ensures.failures
+
+pub returns-clause-failures : goal.returns-clause-failures
+returns-clause-failures g c = stays-then _ _ _ c.in_ok-fill.ensures.failures c.in_ok-bins.ensures.failures
