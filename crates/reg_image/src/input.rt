@@ -37,7 +37,7 @@ pub fn fill<R: Read>(input: &mut R, buffer: &mut [u8]) -> Result<(), LoadFault>
 }
 
 /// Reads so many bytes, part by part. The room for them grows with what comes, so that an image that ends too early costs no more than
-/// twice what it has and a part, whatever size it tells.
+/// twice what it has and two parts, whatever size it tells.
 pub fn read_bytes<R: Read>(alloc: Global, input: &mut R, size: usize) -> Result<Vec<u8>, LoadFault>
     ensures ok { IfOk result (λ bytes. Consumes (R.remaining input.old) (R.remaining input.new) bytes.items × (length bytes.items ≡ size)) }
     ensures err { IfErr result (λ fault. (piece : List ℕ) × Consumes (R.remaining input.old) (R.remaining input.new) piece
