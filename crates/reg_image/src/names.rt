@@ -29,6 +29,18 @@ fn is_key_letter(letter: u16) -> bool
     is_plain & (letter != 92)
 }
 
+/// Whether all characters of one byte each may stand in a key's name. All of them are looked at, so that several are at once.
+fn are_key_letters(name: &[u8]) -> bool
+    ensures { result ≡ list_all (is_allowed_in true) name.now }
+{
+    let mut are_good = true;
+    for letter in name {
+        let is_good = is_key_letter(u16::from(*letter));
+        are_good = are_good & is_good;
+    }
+    are_good
+}
+
 /// Whether a character may stand in a key's name, or in a value's.
 fn is_allowed(letter: u16, key: bool) -> bool
     ensures { result ≡ is_allowed_in key letter }
@@ -45,7 +57,7 @@ fn are_allowed(name: &[u8], key: bool) -> bool
     ensures { result ≡ list_all (is_allowed_in key) name.now }
 {
     if key {
-        name.iter().all(|letter| is_key_letter(u16::from(*letter)))
+        are_key_letters(name)
     } else {
         name.iter()
             .all(|letter| is_value_letter(u16::from(*letter)))

@@ -7,7 +7,7 @@ use Rattle.reg_heap.specs.Heaps.{Heap}
 use Rattle.reg_records.specs.KeyNodes.{key_at}
 use Rattle.reg_records.specs.SubkeyLists.{Entry}
 use Rattle.reg_shape.specs.Nodes.{KeyList}
-use Rattle.reg_index.specs.Internal.IndexLists.{AreKeys, HasLists}
+use Rattle.reg_index.specs.Internal.IndexLists.{AreKeys}
 use Rattle.reg_index.specs.Internal.NameSearches.{Between, IsListFor}
 use Rattle.reg_index.specs.Subkeys.{IsIndexFor, entries_in, name_at, names_in, numbered}
 use Rattle.reg_index.proofs.FoundPlaces.{keys-part}

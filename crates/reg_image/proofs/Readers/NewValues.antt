@@ -1,5 +1,5 @@
 -- Values that were read are within the limits, and no two of them have one name.
-use Rattle.std.proofs.Common.{◌≡◌, ℕ, zero, suc, not, Bool, true, false, Some, Ok, List, [], ◌∷◌, ◌++◌, take, slice_get, Vec, sym}
+use Rattle.std.proofs.Common.{◌≡◌, ℕ, zero, suc, not, Bool, true, false, Some, Ok, List, [], ◌∷◌, ◌++◌, take, slice_get, sym}
 use Rattle.std.proofs.Common.{ap, ◌∙◌, subst, refl}
 use Rattle.std.proofs.lemmas.Option.{none-some, same_Some}
 use Rattle.std.proofs.lemmas.List.{append_assoc}

@@ -1,4 +1,4 @@
-use Rattle.std.proofs.Common.{◌≡◌, ◌+◌, ◌-◌, ◌<◌, length, sym, ◌∙◌, arith}
+use Rattle.std.proofs.Common.{◌-◌, ◌<◌, length, arith}
 use Rattle.reg_arena.specs.Arena.{heap_of}
 use Rattle.reg_index.proofs.ListPlaces.{leaf-of, list-stands}
 use Rattle.reg_index.proofs.NameBehindAll.{last-key, behind-all}

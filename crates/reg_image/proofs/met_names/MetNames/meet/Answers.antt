@@ -1,8 +1,6 @@
-use Rattle.std.proofs.Common.{not, sym, ap, subst}
+use Rattle.std.proofs.Common.{not, sym, subst}
 use Rattle.reg_image.specs.declared.LoadFault.TheVariants.{Twice}
 use Rattle.reg_image.specs.WalkSteps.{check}
-use Rattle.reg_image.specs.Internal.NamedRecords.{members_in}
-use Rattle.reg_image.specs.Internal.NamesMet.{is_among}
 use Rattle.reg_image.specs.Internal.ReaderOutcomes.{Gives}
 use Rattle.reg_image.proofs.Readers.FewNames.{still-few, one-known, whenever, weaker}
 use Rattle.reg_image.proofs.met_names.MetNames.meet.Goals as goal
