@@ -1,5 +1,6 @@
 -- A row more, and a row less: what stays of the altitudes and the cookies.
-use Rattle.std.proofs.Common.{◌≡◌, ℕ, suc, ◌+◌, ◌<◌, ◌≤◌, Bool, true, false, not, ◌||◌, ◌==◌, nat_lt, nat_le, List, [], ◌∷◌, ◌++◌, map, take, drop, length, slice_index_or, slice_get, option_map, unwrap_or, Some, zero, if◌then◌else◌, ◌⊎◌, inl, inr, refl, sym, ap, ◌∙◌, subst, arith}
+use Rattle.std.proofs.Common.{◌≡◌, ℕ, suc, ◌+◌, ◌<◌, ◌≤◌, Bool, true, false, not, ◌||◌, ◌==◌, nat_lt, nat_le, List, [], ◌∷◌, ◌++◌, map}
+use Rattle.std.proofs.Common.{take, drop, length, slice_index_or, slice_get, option_map, unwrap_or, Some, zero, if◌then◌else◌, ◌⊎◌, inl, inr, refl, sym, ap, ◌∙◌, subst, arith}
 use Rattle.std.specs.List.{list_all, insert, remove}
 use Rattle.std.proofs.lemmas.Bool.{and_parts, and_from, or_parts, or_right, not-true, not_from_false, cases_lt, leb-true, leb-false, lt-ltb, ltb-true, eq-eqb, ne_eqb, eqb-false}
 use Rattle.std.proofs.lemmas.List.{map-append, take-append-drop, take-map, drop-map}
@@ -119,7 +120,11 @@ all_above : (a : ℕ) (ns : List ℕ) → list_all (λ m. nat_lt a m) (take (cou
 all_above a [] = refl
 all_above a (n ∷ ns) = by (all_above a ns) (nat_le n a) refl
   where
-    by : list_all (λ m. nat_lt a m) (take (count_above a ns) ns) ≡ true → (b : Bool) → nat_le n a ≡ b → list_all (λ m. nat_lt a m) (take (if nat_le n a then 0 else count_above a ns + 1) (n ∷ ns)) ≡ true
+    by :
+        list_all (λ m. nat_lt a m) (take (count_above a ns) ns) ≡ true
+        → (b : Bool)
+        → nat_le n a ≡ b
+        → list_all (λ m. nat_lt a m) (take (if nat_le n a then 0 else count_above a ns + 1) (n ∷ ns)) ≡ true
     by rest true e = ap (λ c. list_all (λ m. nat_lt a m) (take (if c then 0 else count_above a ns + 1) (n ∷ ns))) e
     by rest false e =
         ap (λ c. list_all (λ m. nat_lt a m) (take (if c then 0 else count_above a ns + 1) (n ∷ ns))) e

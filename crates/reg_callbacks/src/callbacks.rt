@@ -6,17 +6,18 @@ use crate::row::Row;
 use crate::{CallView, Callback};
 use std::alloc::Global;
 
-/// How many registrations there may be on a hive, with those that were taken out again.
+/// How many registrations may be made on a hive, those that were taken out again with them.
 pub const REGISTRATIONS_LIMIT: u32 = 65_536;
 
 /// What a registration is named by to take it out: how many there were before it.
 #[derive(Clone, Copy, Debug, PartialEq, Eq)]
 pub struct Cookie {
+    /// From 0 on; none is given twice.
     pub number: u32,
 }
 
-/// Why a callback wasn't registered, or none taken out; the first that holds, `Full` before the others. The box that wasn't kept
-/// comes back.
+/// Why a callback wasn't registered, or none was taken out; the first that holds, `Full` before the others. The callback that wasn't
+/// kept comes back.
 #[derive(Drop)]
 pub enum CallbackFault<C = Box<dyn Callback + Send>> {
     /// A callback is registered at this altitude.
@@ -29,7 +30,7 @@ pub enum CallbackFault<C = Box<dyn Callback + Send>> {
     Full(C),
 }
 
-/// The callbacks of a hive.
+/// The callbacks of a hive: boxes, or values of one type. They are dropped with it.
 #[derive(Drop)]
 pub struct Callbacks<C = Box<dyn Callback + Send>> {
     // The highest altitude first.
@@ -74,7 +75,7 @@ impl<C: Callback> Callbacks<C> {
     }
 
     /// Registers a callback at an altitude, and answers its cookie. `Full` where 65,536 registrations were made, else
-    /// `AltitudeTaken` where a callback is at that altitude, else `Memory`; then nothing changed, and the box comes back.
+    /// `AltitudeTaken` where a callback is at that altitude, else `Memory`; then nothing changed, and the callback comes back.
     pub fn register(&mut self, callback: C, altitude: u32) -> Result<Cookie, CallbackFault<C>>
         ensures added { IfOk result (λ cookie. IsOneMore (record { altitude = altitude; cookie = cookie.number; callback = callback }) (rows_of self.old) (rows_of self.new)) }
         ensures cookie { IfOk result (λ cookie. cookie.number ≡ made_of self.old) }
@@ -109,7 +110,7 @@ impl<C: Callback> Callbacks<C> {
         }
     }
 
-    /// Takes out the callback of a cookie, and answers its box. `NoSuchCookie` where none has it; then nothing changed. Takes no
+    /// Takes out the callback of a cookie, and answers it. `NoSuchCookie` where none has it; then nothing changed. Takes no
     /// memory.
     pub fn unregister(&mut self, cookie: Cookie) -> Result<C, CallbackFault<C>>
         ensures taken { IfOk result (λ callback. (altitude : ℕ)

@@ -5,7 +5,9 @@
 //! shown.
 //!
 //! Its types are [`Callback`], what a caller writes and hands in as a box; [`CallView`] with [`Seen`], the call that callbacks are
-//! asked of; [`Callbacks`], the list; [`Cookie`] and [`CallbackFault`].
+//! asked of; [`Callbacks`], the list; [`Cookie`] and [`CallbackFault`]. A list is of boxes where nothing else is said. Its functions
+//! take callbacks of any type, as those of the crates above do that hand a list on: their contracts then name what the callbacks
+//! answer by the bound. [`NoCallback`] is the type where none is ever registered.
 #![tactic(auto)]
 
 mod callback;
