@@ -1,6 +1,5 @@
 //! What each session was told.
-ghost use Rattle.std.specs.Prelude.{◌≡◌, ◌+◌, ◌-◌, ◌<◌, ◌≤◌, ◌++◌, ◌∷◌, ◌==◌, ◌&&◌, ℕ, [], true, All, IfOk, OnOk, IsPermutation, if◌then◌else◌, vec_len, vec_capacity, length, is_some, slice_get};
-ghost use Rattle.std.specs.List.Sorted.{IsNonDecreasingBy};
+ghost use Rattle.std.specs.Prelude.{◌≡◌, ◌+◌, ◌-◌, ◌<◌, ◌≤◌, ◌++◌, ◌∷◌, ◌==◌, ◌&&◌, ℕ, [], All, IfOk, OnOk, if◌then◌else◌, vec_len, vec_capacity, length, is_some, slice_get};
 ghost use Rattle.reg_model.specs.declared.limits.TheConstants.{SESSIONS_LIMIT, WATCHES_LIMIT};
 ghost use Rattle.reg_notify.specs.Internal.Firing.{sent_to, notices_to};
 ghost use Rattle.reg_notify.specs.Internal.Queues.{told_at, taken_at, room_at, pending_at, HaveRoom};
@@ -100,32 +99,6 @@ pub fn push_to(queues: &mut Vec<Queue>, session: u8, notice: Notice)
         Ok(()) => {}
         Err(_) => unreachable!(),
     }
-}
-
-/// Whether notices are in the order of their watches.
-fn are_in_order(sent: &[Sent]) -> bool
-    ensures { result ≡ true → IsNonDecreasingBy (λ x. x.notice.watch) sent.now }
-{
-    let mut at = 1;
-    while at < sent.len() {
-        if sent[at].notice.watch < sent[at - 1].notice.watch {
-            return false;
-        }
-        at += 1;
-    }
-    true
-}
-
-/// Puts notices in the order of their watches. Those of one handle's watches of one kind are in it already.
-pub fn put_in_order(sent: &mut Vec<Sent>)
-    ensures moved { IsPermutation sent.old.items sent.new.items }
-    ensures rises { IsNonDecreasingBy (λ x. x.notice.watch) sent.new.items }
-    ensures capacity { vec_capacity sent.new ≡ vec_capacity sent.old }
-{
-    if are_in_order(sent.as_slice()) {
-        return;
-    }
-    sent.sort_unstable_by_key(|one| one.notice.watch);
 }
 
 /// Hands out some notices, in their order, to sessions of which so many watches were pending.

@@ -23,7 +23,7 @@ use crate::asked::{Event, Removed};
 use crate::index::Index;
 use crate::marks::Marks;
 use crate::place::Place;
-use crate::queues::{Queue, Sent, new_queues, pending_in, push_all, put_in_order};
+use crate::queues::{Queue, Sent, new_queues, pending_in, push_all};
 use reg_model::{Notice, Reason};
 use std::alloc::{AllocError, Global};
 use std::collections::BTreeMap;
@@ -88,7 +88,7 @@ impl Table {
             (s : ℕ) → told_at self.new.queues.items s ≡ told_at self.old.queues.items s ++ notices_to s sent }
         ensures taken { (s : ℕ) → taken_at self.new.queues.items s ≡ taken_at self.old.queues.items s }
     {
-        put_in_order(&mut self.sent);
+        self.sent.sort_unstable_by_key(|one| one.notice.watch);
         push_all(&mut self.queues, self.sent.as_slice());
         self.sent.clear();
     }
