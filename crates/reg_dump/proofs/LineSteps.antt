@@ -1,5 +1,5 @@
 -- A line told part by part: what is written next, and what is left of the line behind it.
-use Rattle.std.proofs.Common.{◌≡◌, ℕ, List, ◌++◌, Option}
+use Rattle.std.proofs.Common.{◌≡◌, ℕ, List, ◌++◌}
 use Rattle.std.specs.Prelude.{codes}
 use Rattle.reg_text.specs.Texts.{line_feed, escaped, digits_text}
 use Rattle.reg_dump.specs.Internal.Gathered.{WriterState, IsSoFar}

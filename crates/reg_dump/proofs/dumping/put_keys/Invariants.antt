@@ -1,4 +1,4 @@
-use Rattle.std.proofs.Common.{ℕ, List, Option, ◌∷◌, ◌++◌, ◌-◌, length, string_bytes}
+use Rattle.std.proofs.Common.{ℕ, List, ◌∷◌, ◌++◌, ◌-◌, length, string_bytes}
 use Rattle.std.specs.Prelude.{flat_map}
 use Rattle.reg_dump.specs.DumpTexts.{keys_told, key_lines}
 use Rattle.reg_dump.specs.Internal.Gathered.{WriterState, IsSoFar}

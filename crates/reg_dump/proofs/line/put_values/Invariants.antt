@@ -1,4 +1,4 @@
-use Rattle.std.proofs.Common.{ℕ, List, Option, ◌++◌, drop, string_bytes}
+use Rattle.std.proofs.Common.{ℕ, List, ◌++◌, drop, string_bytes}
 use Rattle.std.specs.Prelude.{flat_map}
 use Rattle.reg_heap.specs.Paths.{Path}
 use Rattle.reg_heap.specs.Edits.{values_at}

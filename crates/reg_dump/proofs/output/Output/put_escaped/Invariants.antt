@@ -1,4 +1,4 @@
-use Rattle.std.proofs.Common.{ℕ, List, Option, ◌++◌, ◌-◌, length, drop, string_bytes}
+use Rattle.std.proofs.Common.{ℕ, List, ◌++◌, ◌-◌, length, drop, string_bytes}
 use Rattle.reg_text.specs.Texts.{escaped}
 use Rattle.reg_dump.specs.Internal.Gathered.{WriterState, IsSoFar}
 use Rattle.reg_dump.proofs.output.Output.put_escaped.Given as goal
