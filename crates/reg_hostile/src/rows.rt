@@ -92,11 +92,12 @@ notice -> notice 5 8 closed
 notice -> notice none",
 ];
 
-/// What a hive holds: its image, how many entries its journal has, and how many watches are pending.
+/// What a hive holds: its image, how many entries its journal has, how many handles are open, and how many watches are pending.
 #[derive(Drop)]
 struct Snapshot {
     image: Vec<u8>,
     entries: usize,
+    handles: usize,
     pending: usize,
 }
 
@@ -136,6 +137,7 @@ fn take_snapshot(alloc: Global, hive: &Hive) -> Result<Snapshot> {
     Ok(Snapshot {
         image,
         entries: hive.len(),
+        handles: hive.open_handles(),
         pending: hive.pending(),
     })
 }
@@ -184,6 +186,7 @@ fn count_refusal(
         Outcome::Ended => counts.ended = counts.ended.saturating_add(1),
     }
     if after.entries != before.entries
+        || after.handles != before.handles
         || after.pending != before.pending
         || after.image.as_slice() != before.image.as_slice()
     {

@@ -104,7 +104,8 @@ fn push_bins(out: &mut Vec<u8>, arena: &Arena) -> Result<(), AllocError>
 
 /// The image of a hive, with a moment (100 ns units since 1601) and a sequence number: a base block, and its bins as they are.
 ///
-/// Loading it gives the hive's tree (clause `loads`). `Memory` is its only fault.
+/// By the rules of loading it has no fault, and the hive's tree (clause `loads`); a load of it may still lack memory, or space for
+/// its new bins. `Memory` is the only fault of making it.
 pub fn image(alloc: Global, hive: &Hive, moment: u64, sequence: u32) -> Result<Vec<u8>, ImageFault>
     ensures is { IfOk result (λ bytes. bytes.items
         ≡ image_of (view_of hive.now).keys.bins.bytes (view_of hive.now).keys.root moment sequence) }
