@@ -39,17 +39,21 @@ fn apply_all(hive: &mut Hive, changes: Vec<Change>) -> Result<()>
     Ok(())
 }
 
-/// A hive with the keys of a plan.
-pub fn filled(alloc: Global, plan: KeyPlan) -> Result<Hive> {
-    let mut hive = new_hive(alloc)?;
-    apply_all(&mut hive, plan.parents_made(alloc)?)?;
+/// Makes the parents of a plan, and then its keys.
+fn fill(alloc: Global, hive: &mut Hive, plan: KeyPlan) -> Result<()> {
+    apply_all(hive, plan.parents_made(alloc)?)?;
     let numbers = numbers_below(alloc, plan.keys())?;
     for batch in numbers.as_slice().chunks(BATCH) {
         let handle = hive.len() as u64;
-        apply_all(
-            &mut hive,
-            KeyStep::Make.changes(alloc, plan, batch, handle)?,
-        )?;
+        let changes = KeyStep::Make.changes(alloc, plan, batch, handle)?;
+        apply_all(hive, changes)?;
     }
+    Ok(())
+}
+
+/// A hive with the keys of a plan.
+pub fn filled(alloc: Global, plan: KeyPlan) -> Result<Hive> {
+    let mut hive = new_hive(alloc)?;
+    fill(alloc, &mut hive, plan)?;
     Ok(hive)
 }
