@@ -19,7 +19,7 @@ use Rattle.reg_model.specs.declared.step.Step.{Step}
 use Rattle.reg_model.specs.declared.step.Outcome.{Outcome}
 use Rattle.reg_model.specs.declared.step.Outcome.TheVariants.{Changed, Answered}
 use Rattle.reg_calls.specs.Views.{View, state, entry_of, IsAppliedBy, IsTold, is_told, IsNoticeTaken}
-use Rattle.reg_model.specs.Callbacks.{no_callbacks}
+use Rattle.reg_model.specs.Callbacks.{Callbacks, change_status, query_status}
 use Rattle.reg_calls.specs.Runs.{IsStep}
 use Rattle.reg_script.specs.LineWords.{lines_of}
 use Rattle.reg_script.specs.LineMeanings.{Meaning, nothing, at_moment, as_session, on_hive, asks, takes_notice, bad, meaning_of}
@@ -36,6 +36,7 @@ pub record Same (a b : Stand) : Type 0 where
   pub origin : a.hive.origin ≡ b.hive.origin
   pub journal : a.hive.journal ≡ b.hive.journal
   pub taken : (x : ℕ) → taken_in a.hive x ≡ taken_in b.hive x
+  pub callbacks : a.callbacks ≡ b.callbacks
   pub moment : a.moment ≡ b.moment
   pub session : a.session ≡ b.session
 
@@ -54,6 +55,17 @@ view_like : (a b : View) → a.origin ≡ b.origin → a.journal ≡ b.journal �
     ◌≡◌ {A = View} (record a { keys = b.keys; handles = b.handles; watches = b.watches }) b
 view_like a b origin journal = rw (origin, journal) refl
 
+abbrev stand_with : View → Callbacks → ℕ → ℕ → Stand
+stand_with hive callbacks moment session = record { hive = hive; callbacks = callbacks; moment = moment; session = session }
+
+-- so a position where replies are the same as at another is that other, but for those
+stand_like : (a b : Stand) → Same a b →
+    stand_with (record a.hive { keys = b.hive.keys; handles = b.hive.handles; watches = b.hive.watches }) a.callbacks a.moment a.session ≡ b
+stand_like a b s =
+    ap (λ (v : View). stand_with v a.callbacks a.moment a.session) (view_like a.hive b.hive s.origin s.journal) ∙
+    (ap (λ (asked : Callbacks). stand_with b.hive asked a.moment a.session) s.callbacks ∙
+    (ap (λ (n : ℕ). stand_with b.hive b.callbacks n a.session) s.moment ∙ ap (λ (n : ℕ). stand_with b.hive b.callbacks b.moment n) s.session))
+
 lacking : {X Y : Type 0} (reply : ChangeReply) → ((reply ≡ refusal 8) × X) ⊎ ((reply ≡ refusal 1450) × Y) → reply.status ≡ 0 → ⊥
 lacking reply (inl h) z = let e = ap (λ (r : ChangeReply). r.status) h.0 in omega (arith, e, z)
 lacking reply (inr h) z = let e = ap (λ (r : ChangeReply). r.status) h.0 in omega (arith, e, z)
@@ -70,22 +82,21 @@ change_known None old new session moment change reply (inl h) due =
     (h.says, h.origin, h.journal, λ x. ap (λ (ns : List ℕ). get_or ns x 0) h.taken)
 change_known None old new session moment change reply (inr h) due = absurd (lacking reply h.why (due refl))
 
-abbrev told : View → ℕ → TheChange → ChangeReply
-told v session change = due_reply (change_cause (state v) session change 0) (state v) session change
+abbrev cause_at : Stand → TheChange → Option ℕ
+cause_at a change =
+    change_cause (state a.hive) a.session change (change_status a.callbacks (state a.hive).world a.session a.moment change)
 
-told_same : (a b : View) (s s' : ℕ) (change : TheChange) → a.origin ≡ b.origin → a.journal ≡ b.journal → s ≡ s' →
-    told a s change ≡ told b s' change
-told_same a b s s' change origin journal session =
-    ap (λ (v : View). told v s change) (view_like a b origin journal) ∙ ap (λ (x : ℕ). told b x change) session
+abbrev told : Stand → TheChange → ChangeReply
+told a change = due_reply (cause_at a change) (state a.hive) a.session change
 
-abbrev journal_then : View → ℕ → ℕ → TheChange → List Entry
-journal_then v session moment change = journal_by (change_cause (state v) session change 0) v.journal (entry_of v session moment change)
+told_same : (a b : Stand) (change : TheChange) → Same a b → told a change ≡ told b change
+told_same a b change s = ap (λ (x : Stand). told x change) (stand_like a b s)
 
-journal_same : (a b : View) (s s' m m' : ℕ) (change : TheChange) → a.origin ≡ b.origin → a.journal ≡ b.journal → s ≡ s' → m ≡ m' →
-    journal_then a s m change ≡ journal_then b s' m' change
-journal_same a b s s' m m' change origin journal session moment =
-    ap (λ (v : View). journal_then v s m change) (view_like a b origin journal) ∙
-    (ap (λ (x : ℕ). journal_then b x m change) session ∙ ap (λ (x : ℕ). journal_then b s' x change) moment)
+abbrev journal_then : Stand → TheChange → List Entry
+journal_then a change = journal_by (cause_at a change) a.hive.journal (entry_of a.hive a.session a.moment change)
+
+journal_same : (a b : Stand) (change : TheChange) → Same a b → journal_then a change ≡ journal_then b change
+journal_same a b change s = ap (λ (x : Stand). journal_then x change) (stand_like a b s)
 
 -- ---- a question
 
@@ -96,13 +107,15 @@ body_known (Some status) due body (inr h) ample = absurd h.1
 body_known None due body (inl h) ample = h
 body_known None due body (inr h) ample = absurd (ample refl h.0)
 
-abbrev body_told : View → ℕ → TheQuery → AnswerBody
-body_told v session query = is_told (query_cause (state v) session query 0) (body_of (state v) session query)
+abbrev query_cause_at : Stand → TheQuery → Option ℕ
+query_cause_at a query =
+    query_cause (state a.hive) a.session query (query_status a.callbacks (state a.hive).world a.session query)
 
-body_same : (a b : View) (s s' : ℕ) (query : TheQuery) → a.origin ≡ b.origin → a.journal ≡ b.journal → s ≡ s' →
-    body_told a s query ≡ body_told b s' query
-body_same a b s s' query origin journal session =
-    ap (λ (v : View). body_told v s query) (view_like a b origin journal) ∙ ap (λ (x : ℕ). body_told b x query) session
+abbrev body_told : Stand → TheQuery → AnswerBody
+body_told a query = is_told (query_cause_at a query) (body_of (state a.hive) a.session query)
+
+body_same : (a b : Stand) (query : TheQuery) → Same a b → body_told a query ≡ body_told b query
+body_same a b query s = ap (λ (x : Stand). body_told x query) (stand_like a b s)
 
 answer_same : (x y : Answer) → x.at ≡ y.at → x.body ≡ y.body → x ≡ y
 answer_same x y at body =
@@ -118,22 +131,22 @@ abbrev SameAfter : Outcome → View → Outcome → View → Type 0
 SameAfter o v o' v' =
     (o ≡ o') × (v.origin ≡ v'.origin) × (v.journal ≡ v'.journal) × ((x : ℕ) → taken_in v x ≡ taken_in v' x)
 
-call_same : (call : Call) (a b : Stand) (v w : View) (o o' : Outcome) → IsStep no_callbacks a.hive (step_at a call) o v →
-    IsStep no_callbacks b.hive (step_at b call) o' w
-    → IsDue a.hive (step_at a call) o → IsDue b.hive (step_at b call) o' → Same a b → SameAfter o v o' w
+call_same : (call : Call) (a b : Stand) (v w : View) (o o' : Outcome) → IsStep a.callbacks a.hive (step_at a call) o v →
+    IsStep b.callbacks b.hive (step_at b call) o' w
+    → IsDue a.callbacks a.hive (step_at a call) o → IsDue b.callbacks b.hive (step_at b call) o' → Same a b → SameAfter o v o' w
 call_same (Change change) a b v w (Changed r) (Changed r') h k due due' s =
-    let x = change_known (change_cause (state a.hive) a.session change 0) a.hive v a.session a.moment change r h due in
-    let y = change_known (change_cause (state b.hive) b.session change 0) b.hive w b.session b.moment change r' k due' in (
-      ap Changed (x.0 ∙ (told_same a.hive b.hive a.session b.session change s.origin s.journal s.session ∙ sym y.0)),
+    let x = change_known (cause_at a change) a.hive v a.session a.moment change r h due in
+    let y = change_known (cause_at b change) b.hive w b.session b.moment change r' k due' in (
+      ap Changed (x.0 ∙ (told_same a b change s ∙ sym y.0)),
       x.1 ∙ (s.origin ∙ sym y.1),
-      x.2 ∙ (journal_same a.hive b.hive a.session b.session a.moment b.moment change s.origin s.journal s.session s.moment ∙ sym y.2),
+      x.2 ∙ (journal_same a b change s ∙ sym y.2),
       λ n. x.3 n ∙ (s.taken n ∙ sym (y.3 n)),
     )
 call_same (Query query) a b v w (Answered r) (Answered r') h k due due' s =
-    let x = body_known (query_cause (state a.hive) a.session query 0) (body_of (state a.hive) a.session query) r.body h.1 due in
-    let y = body_known (query_cause (state b.hive) b.session query 0) (body_of (state b.hive) b.session query) r'.body k.1 due' in (
+    let x = body_known (query_cause_at a query) (body_of (state a.hive) a.session query) r.body h.1 due in
+    let y = body_known (query_cause_at b query) (body_of (state b.hive) b.session query) r'.body k.1 due' in (
       ap Answered (answer_same r r' (h.0 ∙ (ap (λ (j : List Entry). length j) s.journal ∙ sym k.0))
-          (x ∙ (body_same a.hive b.hive a.session b.session query s.origin s.journal s.session ∙ sym y))),
+          (x ∙ (body_same a b query s ∙ sym y))),
       ap (λ (u : View). u.origin) h.2 ∙ (s.origin ∙ sym (ap (λ (u : View). u.origin) k.2)),
       ap (λ (u : View). u.journal) h.2 ∙ (s.journal ∙ sym (ap (λ (u : View). u.journal) k.2)),
       λ n. ap (λ (u : View). taken_in u n) h.2 ∙ (s.taken n ∙ sym (ap (λ (u : View). taken_in u n) k.2)),
@@ -190,6 +203,7 @@ same_then a b a' b' e f s origin journal taken =
       origin = origin;
       journal = journal;
       taken = taken;
+      callbacks = ap (λ (u : Stand). u.callbacks) e ∙ (s.callbacks ∙ sym (ap (λ (u : Stand). u.callbacks) f));
       moment = ap (λ (u : Stand). u.moment) e ∙ (s.moment ∙ sym (ap (λ (u : Stand). u.moment) f));
       session = ap (λ (u : Stand). u.session) e ∙ (s.session ∙ sym (ap (λ (u : Stand). u.session) f));
     }
@@ -200,12 +214,12 @@ line_same nothing a b a' b' t t' p q d d' s = (p.0 ∙ sym q.0, same_along a' b'
 line_same (at_moment moment) a b a' b' t t' p q d d' s = (
   p.0 ∙ sym q.0,
   same_along a' b' (record a { moment = moment }) (record b { moment = moment }) p.1 q.1
-      (record { origin = s.origin; journal = s.journal; taken = s.taken; moment = refl; session = s.session }),
+      (record { origin = s.origin; journal = s.journal; taken = s.taken; callbacks = s.callbacks; moment = refl; session = s.session }),
 )
 line_same (as_session session) a b a' b' t t' p q d d' s = (
   p.0 ∙ sym q.0,
   same_along a' b' (record a { session = session }) (record b { session = session }) p.1 q.1
-      (record { origin = s.origin; journal = s.journal; taken = s.taken; moment = s.moment; session = refl }),
+      (record { origin = s.origin; journal = s.journal; taken = s.taken; callbacks = s.callbacks; moment = s.moment; session = refl }),
 )
 line_same on_hive a b a' b' t t' p q d d' s = (p.0 ∙ sym q.0, same_along a' b' a b p.1 q.1 s)
 line_same bad a b a' b' t t' p q d d' s = (p.0 ∙ sym q.0, same_along a' b' a b p.1 q.1 s)
@@ -228,6 +242,6 @@ lines_same (line ∷ lines) a b a' b' t t' p q d d' s =
     p.5 ∙ (ap (λ (w : List ℕ). w ++ p.2) h.0 ∙ (ap (λ (w : List ℕ). q.1 ++ w) r ∙ sym q.5))
 
 pub one_text : HasOneText
-one_text old new new' script text text' p q =
+one_text callbacks old new new' script text text' p q =
     lines_same (lines_of script) _ _ p.lines.0 q.lines.0 text text' p.lines.1 q.lines.1 p.ample q.ample
-    (record { origin = refl; journal = refl; taken = λ x. refl; moment = refl; session = refl })
+    (record { origin = refl; journal = refl; taken = λ x. refl; callbacks = refl; moment = refl; session = refl })

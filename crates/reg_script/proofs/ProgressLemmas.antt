@@ -5,6 +5,10 @@ use Rattle.std.specs.List.{AllByRecursion}
 use Rattle.std.specs.Io.KnownBytes.{Appends, Consumes, Keeps}
 use Rattle.std.proofs.lemmas.Bool.Decides.{nat_tests}
 use Rattle.std.proofs.lemmas.List.{take_more, length-append}
+use Rattle.reg_callbacks.specs.Asking.{Answers, asks}
+use Rattle.reg_callbacks.specs.Lists.{answers_of}
+use Rattle.reg_callbacks.specs.declared.callbacks.Callbacks.{Callbacks}
+use Rattle.reg_calls.specs.Views.{View}
 use Rattle.reg_script.specs.LineWords.{lines_of}
 use Rattle.reg_script.specs.LineMeanings.{meaning_of}
 use Rattle.reg_script.specs.Lines.{Stand, IsSaid, AreSaid}
@@ -308,6 +312,20 @@ ends_at old mid new script reply h said adds same counts =
           (said_then h.ended (lines_of mid.begun) old.stand mid.stand new.stand h.replies reply h.said said);
       passes = passes_then old mid new h.replies reply h.passes p;
     }
+
+-- ---- a call
+
+-- where a script stands after a call, which left the callbacks as they were
+pub stand_kept : {C : Type 0} (answers : C → Answers) (hive : View) (before after : Callbacks C) (moment session : ℕ) → after ≡ before →
+    ◌≡◌ {A = Stand} (record { hive = hive; callbacks = asks (answers_of answers after); moment = moment; session = session })
+    (record { hive = hive; callbacks = asks (answers_of answers before); moment = moment; session = session })
+stand_kept {C = C} answers hive before after moment session same =
+    ap (λ (callbacks : Callbacks C). let stand : Stand = record {
+      hive = hive;
+      callbacks = asks (answers_of answers callbacks);
+      moment = moment;
+      session = session;
+    } in stand) same
 
 -- ---- replies
 

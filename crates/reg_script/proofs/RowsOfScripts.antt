@@ -7,6 +7,7 @@ use Rattle.std.specs.Fmt.{digits}
 use Rattle.std.specs.FinMap.{insert, empty}
 use Rattle.hex.proofs.OnLiterals.{hex_on_literals}
 use Rattle.reg_model.specs.Worlds.{after}
+use Rattle.reg_model.specs.Callbacks.{no_callbacks}
 use Rattle.reg_model.specs.Causes.{early_cause, late_cause, change_cause, early_query_cause, late_query_cause}
 use Rattle.reg_model.specs.Replies.{refusal, reply_to, body_of}
 use Rattle.reg_model.specs.declared.answer.AnswerBody.TheVariants.{Refused, Short, Security}
@@ -30,12 +31,12 @@ abbrev opened : View → View
 opened hive = record hive { journal = entry_of (begun hive) 0 0 (OpenRoot 1) ∷ [] }
 
 abbrev there : View → Stand
-there hive = record { hive = opened hive; moment = 0; session = 0 }
+there hive = record { hive = opened hive; callbacks = no_callbacks; moment = 0; session = 0 }
 
 -- a handle with the right to query alone: it may not set; a mask with another bit; a handle that isn't there. That the hive after the
 -- first entry is one isn't computed here, but taken
 refused_script : (hive : View) → IsHive (opened hive) →
-    Lines (begun hive) (codes "root 1\nset 0 = 4 x01\nroot 1048576\n#\nquery 9 = -\nfrob")
+    Lines no_callbacks (begun hive) (codes "root 1\nset 0 = 4 x01\nroot 1048576\n#\nquery 9 = -\nfrob")
     (codes "0 handle 0\n5\n87\n6\nbad\n") (opened hive)
 unfolding on_lines digits after early_cause late_cause early_query_cause late_query_cause reply_to
 refused_script hive is =
@@ -93,7 +94,7 @@ or_true false = refl
 -- the same handle may not set a descriptor nor read one; an empty one is refused before its rights are asked, for a key to be made too; a
 -- room of `-`, and an empty word where a descriptor may stand
 refused_securities : (hive : View) → IsHive (opened hive) →
-    Lines (begun hive) (codes "root 1\nsetsec 0 x0102\nsetsec 0 x\ngetsec 0 1\ncreate 0 =K 1 x\ngetsec 0 -\ncreate 0 =K 1 ")
+    Lines no_callbacks (begun hive) (codes "root 1\nsetsec 0 x0102\nsetsec 0 x\ngetsec 0 1\ncreate 0 =K 1 x\ngetsec 0 -\ncreate 0 =K 1 ")
     (codes "0 handle 0\n5\n87\n5\n87\nbad\nbad\n") (opened hive)
 unfolding on_lines digits after early_cause late_cause early_query_cause late_query_cause reply_to
 refused_securities hive is =
@@ -155,15 +156,15 @@ described hive keys =
     record (allowed hive) { journal = (allowed hive).journal ++ entry_of (allowed hive) 0 0 (SetSecurity 0 (1 ∷ 2 ∷ [])) ∷ []; keys = keys }
 
 abbrev at_allowed : View → Stand
-at_allowed hive = record { hive = allowed hive; moment = 0; session = 0 }
+at_allowed hive = record { hive = allowed hive; callbacks = no_callbacks; moment = 0; session = 0 }
 
 abbrev at_described : View → Keys → Stand
-at_described hive keys = record { hive = described hive keys; moment = 0; session = 0 }
+at_described hive keys = record { hive = described hive keys; callbacks = no_callbacks; moment = 0; session = 0 }
 
 -- the descriptor that was set is told, where there is room for it
 set_and_told : (hive : View) (keys : Keys) → IsHive (allowed hive) → IsHive (described hive keys) →
     length keys.bins.bytes ≡ length hive.keys.bins.bytes →
-    Lines (fresh hive) (codes "root 393216\ngetsec 0 19\nsetsec 0 x0102\ngetsec 0 1\ngetsec 0 2\n")
+    Lines no_callbacks (fresh hive) (codes "root 393216\ngetsec 0 19\nsetsec 0 x0102\ngetsec 0 1\ngetsec 0 2\n")
     (codes "0 handle 0\n122 size 20\n0\n122 size 2\n0 x0102\n") (described hive keys)
 unfolding on_lines digits hex_on_literals after early_cause late_cause early_query_cause late_query_cause reply_to body_of
 set_and_told hive keys is_allowed is_described same =
@@ -230,7 +231,7 @@ set_and_told hive keys is_allowed is_described same =
 
 -- a tree of a handle that isn't there, with a path and without one; and a word too few, another word than a path, and one too many
 refused_trees : (hive : View) → IsHive (opened hive) →
-    Lines (begun hive) (codes "root 1\ndeltree 9 =A\ndeltree 9 =\ndeltree 0\ndeltree 0 K\ndeltree 0 =K 1")
+    Lines no_callbacks (begun hive) (codes "root 1\ndeltree 9 =A\ndeltree 9 =\ndeltree 0\ndeltree 0 K\ndeltree 0 =K 1")
     (codes "0 handle 0\n6\n6\nbad\nbad\nbad\n") (opened hive)
 unfolding on_lines digits after early_cause late_cause reply_to
 refused_trees hive is =
@@ -292,14 +293,14 @@ past_both hive left root = grown (past_tree hive left) contents root
 
 -- no setting yet
 abbrev unset : View → Stand
-unset hive = record { hive = hive; moment = 0; session = 0 }
+unset hive = record { hive = hive; callbacks = no_callbacks; moment = 0; session = 0 }
 
 -- both are told by `0` alone. That nothing refuses them isn't computed here, but taken
 trees_deleted : (hive : View) (left root : Keys) →
     change_cause (state hive) 0 tree 0 ≡ None → change_cause (state (past_tree hive left)) 0 contents 0 ≡ None →
     IsHive (past_tree hive left) → IsHive (past_both hive left root) →
     length left.bins.bytes ≡ length hive.keys.bins.bytes → length root.bins.bytes ≡ length left.bins.bytes →
-    Lines hive (codes "deltree 0 =A\ndeltree 0 =") (codes "0\n0\n") (past_both hive left root)
+    Lines no_callbacks hive (codes "deltree 0 =A\ndeltree 0 =") (codes "0\n0\n") (past_both hive left root)
 unfolding on_lines digits reply_to
 trees_deleted hive left root free-tree free-contents is_left is_root same-left same-root =
     let there = unset (past_tree hive left) in
@@ -371,7 +372,7 @@ abbrev told_of : View → ℕ → View
 told_of hive taken = record hive { journal = watched; watches = record hive.watches { taken = taken ∷ [] } }
 
 abbrev set_to : View → ℕ → ℕ → Stand
-set_to hive taken session = record { hive = told_of hive taken; moment = 0; session = session }
+set_to hive taken session = record { hive = told_of hive taken; callbacks = no_callbacks; moment = 0; session = session }
 
 none_next : (x : ℕ) → (suc x == 0) ≡ false
 none_next x = grind (arith, nat_tests)
@@ -389,7 +390,7 @@ no_more x session n = by (x == session)
 
 -- the watch's notice is handed to the session that asked for it and to no other, and once
 notice_taken : (hive : View) → IsHive (told_of hive 0) → IsHive (told_of hive 1) →
-    Lines (told_of hive 0) (codes "as 1\nnotice\nas 0\nnotice\nnotice\nnotice 0\n")
+    Lines no_callbacks (told_of hive 0) (codes "as 1\nnotice\nas 0\nnotice\nnotice\nnotice 0\n")
     (codes "notice none\nnotice 1 2 matched\nnotice none\nbad\n") (told_of hive 1)
 unfolding on_lines digits after events removes closing watch_of ending reason
 notice_taken hive is_first is =

@@ -2,7 +2,7 @@
 use Rattle.std.specs.Prelude.{◌≡◌, ◌⊎◌, ℕ, List, [], ◌∷◌, ◌++◌, length, codes, Option, Some, refl}
 use Rattle.std.specs.Fmt.{decimal}
 use Rattle.std.proofs.Common.{ap, sym, subst, ◌∙◌, arith, inl, inr, append-nil, length-append}
-use Rattle.reg_model.specs.Callbacks.{no_callbacks}
+use Rattle.reg_model.specs.Callbacks.{Callbacks}
 use Rattle.reg_model.specs.declared.call.Call.TheVariants.{Change}
 use Rattle.reg_model.specs.declared.call.Change.TheVariants.{OpenRoot}
 use Rattle.reg_model.specs.declared.step.Outcome.{Outcome}
@@ -12,7 +12,7 @@ use Rattle.reg_calls.specs.Runs.{IsStep}
 use Rattle.reg_script.specs.declared.engine.ScriptFault.TheVariants.{Read, Memory}
 use Rattle.reg_script.specs.LineWords.{lines_of}
 use Rattle.reg_script.specs.LineMeanings.{asks}
-use Rattle.reg_script.specs.Lines.{Stand, IsSaid, AreSaid}
+use Rattle.reg_script.specs.Lines.{Stand, begins, IsSaid, AreSaid}
 use Rattle.reg_script.specs.ReplyTexts.{handle_text, disposition_text, outcome_text}
 use Rattle.reg_script.specs.Stops.{longest_line, most_lines, PassesBound, EndsWithFeed, IsLeft, Stops}
 use Rattle.reg_script.proofs.RowsOfLines.{on_lines}
@@ -42,16 +42,16 @@ no_part_answered left h = by h.0
     by (inr k) = omega (arith, ap last_of k.1, last_is k.0)
 
 -- a read failed past a line and two bytes of the next
-stopped : (hive : View) → Stops Read (Some (codes "frob\nro")) (Some []) hive hive (Some []) (Some (codes "bad\n"))
+stopped : (callbacks : Callbacks) (hive : View) → Stops Read (Some (codes "frob\nro")) (Some []) callbacks hive hive (Some []) (Some (codes "bad\n"))
 unfolding on_lines longest_line most_lines
-stopped hive = record {
+stopped callbacks hive = record {
   lines = codes "frob\n";
   rest = codes "ro";
   read = refl;
   within = record { few = omega arith; short = (omega arith, tt) };
   text = codes "bad\n";
-  last = record { hive = hive; moment = 0; session = 0 };
-  said = (record { hive = hive; moment = 0; session = 0 }, codes "bad\n", [], (refl, refl), (refl, refl), refl);
+  last = begins callbacks hive;
+  said = (begins callbacks hive, codes "bad\n", [], (refl, refl), (refl, refl), refl);
   stands = (inr (codes "frob", refl), (search arith, (search arith, tt)), within_bounds);
   hive = refl;
   written = refl;
@@ -81,7 +81,7 @@ whole_line lines rest (inr h) e = inr (subst (λ (w : List ℕ). w ≡ codes "ro
 was_told : (old new : Stand) (reply : List ℕ) → IsSaid (asks (Change (OpenRoot 1))) old reply new → reply ≡ [] → ⊥
 was_told old new reply h none = by h.0 h.1 (sym h.2 ∙ none)
   where
-    by : (outcome : Outcome) → IsStep no_callbacks old.hive
+    by : (outcome : Outcome) → IsStep old.callbacks old.hive
         (record { session = old.session; moment = old.moment; call = Change (OpenRoot 1) }) outcome new.hive →
         outcome_text (Change (OpenRoot 1)) outcome ≡ [] → ⊥
     by (Changed told) step e = omega (
@@ -97,12 +97,12 @@ none_of : (a b : List ℕ) → a ++ b ≡ [] → a ≡ []
 none_of [] b e = refl
 none_of (x ∷ a) b e = cc
 
-not_made : (hive new : View) → Stops Memory (Some (codes "root 1\n")) (Some []) hive new (Some []) (Some []) → new ≡ hive
+not_made : (callbacks : Callbacks) (hive new : View) → Stops Memory (Some (codes "root 1\n")) (Some []) callbacks hive new (Some []) (Some []) → new ≡ hive
 unfolding on_lines
-not_made hive new h = by (whole_line h.lines h.rest h.stands (sym (h.read ∙ append-nil (h.lines ++ h.rest))))
+not_made callbacks hive new h = by (whole_line h.lines h.rest h.stands (sym (h.read ∙ append-nil (h.lines ++ h.rest))))
   where
     start : Stand
-    start = record { hive = hive; moment = 0; session = 0 }
+    start = begins callbacks hive
 
     by : (h.lines ≡ []) ⊎ (h.lines ≡ codes "root 1\n") → new ≡ hive
     by (inl none) = let said : AreSaid [] start h.text h.last = subst

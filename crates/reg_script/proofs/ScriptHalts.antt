@@ -5,12 +5,13 @@ use Rattle.std.specs.Io.KnownBytes.{Appends, Consumes}
 use Rattle.std.proofs.Math.Seq.{take-append-add}
 use Rattle.std.proofs.lemmas.List.{take_more, take-append-drop, length-append, length-take}
 use Rattle.reg_script.specs.declared.engine.TheConstants.{LINES_LIMIT, LINE_LIMIT, READS_LIMIT}
+use Rattle.reg_model.specs.Callbacks.{Callbacks}
 use Rattle.reg_calls.specs.Views.{View}
 use Rattle.reg_script.specs.declared.engine.ScriptFault.{ScriptFault}
 use Rattle.reg_script.specs.declared.engine.ScriptFault.TheVariants.{Read, Write, TooLong, Memory}
 use Rattle.reg_script.specs.LineWords.{lines_of}
 use Rattle.reg_script.specs.LineMeanings.{meaning_of}
-use Rattle.reg_script.specs.Lines.{Stand, IsSaid, AreSaid}
+use Rattle.reg_script.specs.Lines.{Stand, begins, IsSaid, AreSaid}
 use Rattle.reg_script.specs.Internal.Outputs.{IsCut}
 use Rattle.reg_script.specs.Stops.{longest_line, most_lines, HasNoFeed, AreWithin, IsTooLong, PassesBound, IsTaken, EndsWithFeed, IsLeft}
 use Rattle.reg_script.specs.Stops.{AreWritten, Stops}
@@ -137,9 +138,6 @@ not_so_many old new bytes none empty h =
 
 -- ---- what stands after the fault
 
-abbrev pub begins : View → Stand
-begins hive = record { hive = hive; moment = 0; session = 0 }
-
 -- lines that ended are the lines of their bytes, which end with an LF
 lines_are : (lines : List (List ℕ)) → AllByRecursion IsLine lines → lines_of (with_feeds lines) ≡ lines
 lines_are lines h = ap lines_of (sym (append-nil (with_feeds lines))) ∙ (lines_fed lines [] h ∙ append-nil lines)
@@ -178,13 +176,13 @@ pub passing : (lines : List (List ℕ)) (n : ℕ) (rest : List ℕ) → AllByRec
 passing lines n rest are counts h =
     subst (λ (m : ℕ). PassesBound m rest) (counts ∙ ap (λ (ls : List (List ℕ)). length ls) (sym (lines_are lines are))) h
 
-pub stops_with : (place : Place) (old new : Position) (hive new_hive : View) (script : List ℕ) (fault result : ScriptFault)
+pub stops_with : (place : Place) (old new : Position) (callbacks : Callbacks) (hive new_hive : View) (script : List ℕ) (fault result : ScriptFault)
     (unread left final : Option (List ℕ)) → (k : Halts place old script new fault) → Consumes unread left script
-    → old.lines ≡ 0 → old.begun ≡ [] → old.stand ≡ begins hive →
+    → old.lines ≡ 0 → old.begun ≡ [] → old.stand ≡ begins callbacks hive →
     new_hive ≡ k.mid.stand.hive → IsLeft result (with_feeds k.takes.ended) (k.mid.begun ++ k.back) left →
     AreWritten result k.takes.replies old.sent final →
-    Stops result unread left hive new_hive old.sent final
-stops_with place old new hive new_hive script fault result unread left final k consumes none empty is same stands written =
+    Stops result unread left callbacks hive new_hive old.sent final
+stops_with place old new callbacks hive new_hive script fault result unread left final k consumes none empty is same stands written =
     let t = k.takes in
     let front_is : k.front ≡ with_feeds t.ended ++ k.mid.begun = ap (λ (w : List ℕ). w ++ k.front) (sym empty) ∙ t.splits in
     let script_is : script ≡ with_feeds t.ended ++ (k.mid.begun ++ k.back) =

@@ -4,16 +4,17 @@ use Rattle.std.specs.FinMap.{insert, empty}
 use Rattle.reg_model.specs.declared.notice.Notice.{Notice}
 use Rattle.reg_model.specs.declared.step.Outcome.{Outcome}
 use Rattle.reg_tree.specs.TreeKeys.{made_root}
-use Rattle.reg_model.specs.Callbacks.{no_callbacks}
+use Rattle.reg_model.specs.Callbacks.{Callbacks, no_callbacks}
 use Rattle.reg_calls.specs.Views.{View, IsHive, IsNoticeTaken}
 use Rattle.reg_calls.specs.Runs.{IsStep}
 use Rattle.reg_script.specs.LineWords.{lines_of}
 use Rattle.reg_script.specs.LineMeanings.{Meaning, nothing, at_moment, as_session, on_hive, asks, takes_notice, bad, meaning_of}
 use Rattle.reg_script.specs.ReplyTexts.{outcome_text, notice_text}
 
--- where a script stands between two lines: the hive, and the settings
+-- where a script stands between two lines: the hive, what its callbacks answer, and the settings
 pub record Stand : Type 0 where
   pub hive : View
+  pub callbacks : Callbacks
   pub moment : ℕ
   pub session : ℕ
 
@@ -31,7 +32,7 @@ IsSaid on_hive old text new = IsSilent old text new
 IsSaid bad old text new = (text ≡ codes "bad\n") × (new ≡ old)
 IsSaid (asks call) old text new =
     (outcome : Outcome) ×
-    IsStep no_callbacks old.hive (record { session = old.session; moment = old.moment; call = call }) outcome new.hive ×
+    IsStep old.callbacks old.hive (record { session = old.session; moment = old.moment; call = call }) outcome new.hive ×
     (text ≡ outcome_text call outcome) × (new ≡ record old { hive = new.hive })
 IsSaid takes_notice old text new =
     (notice : Option Notice) × IsNoticeTaken old.hive new.hive old.session notice × (text ≡ notice_text notice) ×
@@ -44,15 +45,19 @@ AreSaid (line ∷ lines) old text new =
     (mid : Stand) × (reply : List ℕ) × (rest : List ℕ) × IsSaid (meaning_of line) old reply mid × AreSaid lines mid rest new ×
     (text ≡ reply ++ rest)
 
--- a script that runs on a hive may write this text, and leave the hive so; the moment and the session are 0 at first
-abbrev pub Lines : View → List ℕ → List ℕ → View → Type 0
-Lines old script text new =
-    (last : Stand) × AreSaid (lines_of script) (record { hive = old; moment = 0; session = 0 }) text last × (last.hive ≡ new)
+-- where it begins on a hive with these callbacks: the moment and the session are 0 at first
+abbrev pub begins : Callbacks → View → Stand
+begins callbacks hive = record { hive = hive; callbacks = callbacks; moment = 0; session = 0 }
+
+-- a script that runs on a hive with these callbacks may write this text, and leave the hive so
+abbrev pub Lines : Callbacks → View → List ℕ → List ℕ → View → Type 0
+Lines callbacks old script text new =
+    (last : Stand) × AreSaid (lines_of script) (begins callbacks old) text last × (last.hive ≡ new)
 
 -- the same, where this is the moment of the last line that sets one
-abbrev pub LinesTo : View → List ℕ → List ℕ → View → ℕ → Type 0
-LinesTo old script text new moment =
-    (last : Stand) × AreSaid (lines_of script) (record { hive = old; moment = 0; session = 0 }) text last × (last.hive ≡ new)
+abbrev pub LinesTo : Callbacks → View → List ℕ → List ℕ → View → ℕ → Type 0
+LinesTo callbacks old script text new moment =
+    (last : Stand) × AreSaid (lines_of script) (begins callbacks old) text last × (last.hive ≡ new)
     × (last.moment ≡ moment)
 
 -- the root's descriptor: a self-relative security descriptor with nothing in it
@@ -66,9 +71,9 @@ pub record IsFresh (hive : View) : Type 0 where
   pub origin : hive.origin ≡ insert empty [] (made_root (codes "ROOT") fresh_descriptor 0)
   pub journal : hive.journal ≡ []
 
--- a script may write this text
+-- a script may write this text, on a fresh hive without callbacks
 pub record Writes (script text : List ℕ) : Type 0 where
   pub fresh : View
   pub is_fresh : IsFresh fresh
   pub last : View
-  pub lines : Lines fresh script text last
+  pub lines : Lines no_callbacks fresh script text last

@@ -3,11 +3,12 @@ use Rattle.std.specs.Prelude.{◌≡◌, ◌≢◌, ℕ, ◌+◌, min, ◌<◌, 
 use Rattle.std.specs.List.{AllByRecursion}
 use Rattle.std.specs.Io.KnownBytes.{Appends, Consumes, IsAtEnd}
 use Rattle.reg_script.specs.declared.engine.TheConstants.{LINES_LIMIT, LINE_LIMIT}
+use Rattle.reg_model.specs.Callbacks.{Callbacks, no_callbacks}
 use Rattle.reg_calls.specs.Views.{View}
 use Rattle.reg_script.specs.declared.engine.ScriptFault.{ScriptFault}
 use Rattle.reg_script.specs.declared.engine.ScriptFault.TheVariants.{Read, Write, TooLong, Memory}
 use Rattle.reg_script.specs.LineWords.{lines_of}
-use Rattle.reg_script.specs.Lines.{Stand, AreSaid, IsFresh}
+use Rattle.reg_script.specs.Lines.{Stand, begins, AreSaid, IsFresh}
 
 -- a count of 64 bits, which stays at its end
 abbrev pub counted : ℕ → ℕ → ℕ
@@ -75,22 +76,24 @@ AreWritten (Write written) text before after = IsTaken before after text written
 AreWritten TooLong text before after = Appends before after text
 AreWritten Memory text before after = Appends before after text
 
--- a script ended with a fault: of what was read, some lines were answered, and the rest was not; the hive is as those lines left it
-pub record Stops (fault : ScriptFault) (unread left : Option (List ℕ)) (old new : View) (before after : Option (List ℕ)) : Type 0 where
+-- a script ended with a fault: of what was read, some lines were answered, and the rest was not; the hive is as those
+-- lines left it, with the callbacks that it had
+pub record Stops (fault : ScriptFault) (unread left : Option (List ℕ)) (callbacks : Callbacks) (old new : View) (before after : Option (List ℕ))
+    : Type 0 where
   pub lines : List ℕ
   pub rest : List ℕ
   pub read : Consumes unread left (lines ++ rest)
   pub within : AreWithin (lines_of lines)
   pub text : List ℕ
   pub last : Stand
-  pub said : AreSaid (lines_of lines) (record { hive = old; moment = 0; session = 0 }) text last
+  pub said : AreSaid (lines_of lines) (begins callbacks old) text last
   pub stands : IsLeft fault lines rest left
   pub hive : new ≡ last.hive
   pub written : AreWritten fault text before after
 
--- a script on a fresh hive ended with a fault
+-- a script on a fresh hive without callbacks ended with a fault
 pub record StopsFresh (fault : ScriptFault) (unread left before after : Option (List ℕ)) : Type 0 where
   pub fresh : View
   pub is_fresh : IsFresh fresh
   pub last : View
-  pub stops : Stops fault unread left fresh last before after
+  pub stops : Stops fault unread left no_callbacks fresh last before after

@@ -2,7 +2,7 @@
 
 ghost use Rattle.std.specs.Prelude.{◌≡◌, ◌<◌, ◌≤◌, ℕ, List, ◌∷◌, [], IfOk, OnOk, length, string_bytes, ◌+◌, OnErr, IfErr};
 ghost use Rattle.std.specs.Io.KnownBytes.{IsAtEnd, Appends, Consumes};
-ghost use Rattle.reg_calls.specs.HiveView.{view_of};
+ghost use Rattle.reg_calls.specs.HiveView.{view_of, callbacks_of, asks_of};
 ghost use Rattle.reg_script.specs.LineWords.{lines_of};
 ghost use Rattle.reg_script.specs.LineMeanings.{asks, takes_notice, meaning_of};
 ghost use Rattle.reg_script.specs.Internal.WordReadings.{said};
@@ -16,6 +16,7 @@ use crate::parse::parse;
 use crate::reply::{
     CHANGE_REPLY_LIMIT, NOTICE_REPLY_LIMIT, is_notify, write_answered, write_changed, write_notice,
 };
+use reg_callbacks::Callback;
 use reg_calls::Hive;
 use reg_model::{Call, Change, Query};
 use std::alloc::{AllocError, Global};
@@ -90,18 +91,19 @@ struct Script {
 
 impl Script {
     /// Takes the next byte of the script.
-    fn take_byte<W: Write>(
+    fn take_byte<W: Write, C: Callback>(
         &mut self,
-        hive: &mut Hive,
+        hive: &mut Hive<C>,
         writer: &mut W,
         byte: u8,
     ) -> Result<(), ScriptFault>
-        ensures ok { OnOk result (IsSteady (position_of self.old (view_of hive.old) (W.contents writer.old)) →
-            Takes (position_of self.old (view_of hive.old) (W.contents writer.old)) (byte ∷ [])
-            (position_of self.new (view_of hive.new) (W.contents writer.new))) }
-        ensures err { IfErr result (λ fault. IsSteady (position_of self.old (view_of hive.old) (W.contents writer.old)) →
-            Halts among (position_of self.old (view_of hive.old) (W.contents writer.old)) (byte ∷ [])
-            (position_of self.new (view_of hive.new) (W.contents writer.new)) fault) }
+        ensures callbacks { callbacks_of hive.new ≡ callbacks_of hive.old }
+        ensures ok { OnOk result (IsSteady (position_of C.answers self.old hive.old (W.contents writer.old)) →
+            Takes (position_of C.answers self.old hive.old (W.contents writer.old)) (byte ∷ [])
+            (position_of C.answers self.new hive.new (W.contents writer.new))) }
+        ensures err { IfErr result (λ fault. IsSteady (position_of C.answers self.old hive.old (W.contents writer.old)) →
+            Halts among (position_of C.answers self.old hive.old (W.contents writer.old)) (byte ∷ [])
+            (position_of C.answers self.new hive.new (W.contents writer.new)) fault) }
     {
         if self.lines >= LINES_LIMIT {
             return Err(ScriptFault::TooLong);
@@ -120,18 +122,19 @@ impl Script {
         }
     }
 
-    fn take_bytes<W: Write>(
+    fn take_bytes<W: Write, C: Callback>(
         &mut self,
-        hive: &mut Hive,
+        hive: &mut Hive<C>,
         writer: &mut W,
         bytes: &[u8],
     ) -> Result<(), ScriptFault>
-        ensures ok { OnOk result (IsSteady (position_of self.old (view_of hive.old) (W.contents writer.old)) →
-            Takes (position_of self.old (view_of hive.old) (W.contents writer.old)) bytes.now
-            (position_of self.new (view_of hive.new) (W.contents writer.new))) }
-        ensures err { IfErr result (λ fault. IsSteady (position_of self.old (view_of hive.old) (W.contents writer.old)) →
-            Halts among (position_of self.old (view_of hive.old) (W.contents writer.old)) bytes.now
-            (position_of self.new (view_of hive.new) (W.contents writer.new)) fault) }
+        ensures callbacks { callbacks_of hive.new ≡ callbacks_of hive.old }
+        ensures ok { OnOk result (IsSteady (position_of C.answers self.old hive.old (W.contents writer.old)) →
+            Takes (position_of C.answers self.old hive.old (W.contents writer.old)) bytes.now
+            (position_of C.answers self.new hive.new (W.contents writer.new))) }
+        ensures err { IfErr result (λ fault. IsSteady (position_of C.answers self.old hive.old (W.contents writer.old)) →
+            Halts among (position_of C.answers self.old hive.old (W.contents writer.old)) bytes.now
+            (position_of C.answers self.new hive.new (W.contents writer.new)) fault) }
     {
         for byte in bytes {
             self.take_byte(hive, writer, *byte)?;
@@ -140,9 +143,10 @@ impl Script {
     }
 
     /// Answers the line that has ended.
-    fn end_line(&mut self, hive: &mut Hive) -> Result<(), ScriptFault>
+    fn end_line<C: Callback>(&mut self, hive: &mut Hive<C>) -> Result<(), ScriptFault>
+        ensures callbacks { callbacks_of hive.new ≡ callbacks_of hive.old }
         ensures said { OnOk result
-            (Adds (IsSaid (meaning_of self.old.line.items)) self.old (view_of hive.old) self.new (view_of hive.new)) }
+            (Adds C.answers (IsSaid (meaning_of self.old.line.items)) self.old hive.old self.new hive.new) }
         ensures ended { OnOk result (self.new.line.items ≡ []) }
         ensures lines { OnOk result (self.old.lines < most_lines → self.new.lines ≡ self.old.lines + 1) }
         ensures err { IfErr result (λ fault. (fault ≡ ScriptFault.Memory)
@@ -156,8 +160,9 @@ impl Script {
     }
 
     /// Does what a line says, and gathers its reply. For want of memory nothing is done.
-    fn answer(&mut self, hive: &mut Hive, line: Line) -> Result<(), AllocError>
-        ensures said { OnOk result (Adds (IsSaid (said line)) self.old (view_of hive.old) self.new (view_of hive.new)) }
+    fn answer<C: Callback>(&mut self, hive: &mut Hive<C>, line: Line) -> Result<(), AllocError>
+        ensures callbacks { callbacks_of hive.new ≡ callbacks_of hive.old }
+        ensures said { OnOk result (Adds C.answers (IsSaid (said line)) self.old hive.old self.new hive.new) }
         ensures begun { self.new.line ≡ self.old.line }
         ensures lines { self.new.lines ≡ self.old.lines }
         ensures err { OnErr result (IsUnchanged self.old (view_of hive.old) self.new (view_of hive.new)) }
@@ -178,8 +183,9 @@ impl Script {
         }
     }
 
-    fn call(&mut self, hive: &mut Hive, call: Call) -> Result<(), AllocError>
-        ensures said { OnOk result (Adds (IsSaid (asks call)) self.old (view_of hive.old) self.new (view_of hive.new)) }
+    fn call<C: Callback>(&mut self, hive: &mut Hive<C>, call: Call) -> Result<(), AllocError>
+        ensures callbacks { callbacks_of hive.new ≡ callbacks_of hive.old }
+        ensures said { OnOk result (Adds C.answers (IsSaid (asks call)) self.old hive.old self.new hive.new) }
         ensures begun { self.new.line ≡ self.old.line }
         ensures lines { self.new.lines ≡ self.old.lines }
         ensures err { OnErr result (IsUnchanged self.old (view_of hive.old) self.new (view_of hive.new)) }
@@ -194,9 +200,10 @@ impl Script {
     }
 
     /// Makes a change once there is room for its reply, so that none is made whose reply lacks memory.
-    fn change(&mut self, hive: &mut Hive, change: Change) -> Result<(), AllocError>
+    fn change<C: Callback>(&mut self, hive: &mut Hive<C>, change: Change) -> Result<(), AllocError>
+        ensures callbacks { callbacks_of hive.new ≡ callbacks_of hive.old }
         ensures said { OnOk result
-            (Adds (IsSaid (asks (Call.Change change))) self.old (view_of hive.old) self.new (view_of hive.new)) }
+            (Adds C.answers (IsSaid (asks (Call.Change change))) self.old hive.old self.new hive.new) }
         ensures begun { self.new.line ≡ self.old.line }
         ensures lines { self.new.lines ≡ self.old.lines }
         ensures err { OnErr result (IsUnchanged self.old (view_of hive.old) self.new (view_of hive.new)) }
@@ -210,8 +217,9 @@ impl Script {
 
     /// Takes the next notice of the session that is set, once there is room for its reply, so that none is taken whose reply lacks
     /// memory.
-    fn notice(&mut self, hive: &mut Hive) -> Result<(), AllocError>
-        ensures said { OnOk result (Adds (IsSaid takes_notice) self.old (view_of hive.old) self.new (view_of hive.new)) }
+    fn notice<C: Callback>(&mut self, hive: &mut Hive<C>) -> Result<(), AllocError>
+        ensures callbacks { callbacks_of hive.new ≡ callbacks_of hive.old }
+        ensures said { OnOk result (Adds C.answers (IsSaid takes_notice) self.old hive.old self.new hive.new) }
         ensures begun { self.new.line ≡ self.old.line }
         ensures lines { self.new.lines ≡ self.old.lines }
         ensures err { OnErr result (IsUnchanged self.old (view_of hive.old) self.new (view_of hive.new)) }
@@ -223,9 +231,9 @@ impl Script {
     }
 
     /// The reply to a question. It is whole before it joins the output, so that want of memory leaves no part of it there.
-    fn query(&self, hive: &Hive, query: &Query) -> Result<String, AllocError>
-        ensures { IfOk result (λ reply. IsSaid (asks (Call.Query query.now)) (stand_of self.now (view_of hive.now))
-            (string_bytes reply) (stand_of self.now (view_of hive.now))) }
+    fn query<C: Callback>(&self, hive: &Hive<C>, query: &Query) -> Result<String, AllocError>
+        ensures { IfOk result (λ reply. IsSaid (asks (Call.Query query.now)) (stand_of C.answers self.now hive.now)
+            (string_bytes reply) (stand_of C.answers self.now hive.now)) }
     {
         let mut reply = String::new(self.alloc);
         let answer = hive.read(self.session.number, query);
@@ -234,9 +242,10 @@ impl Script {
     }
 
     /// Answers a last line that lacks its LF.
-    fn end(&mut self, hive: &mut Hive) -> Result<(), ScriptFault>
+    fn end<C: Callback>(&mut self, hive: &mut Hive<C>) -> Result<(), ScriptFault>
+        ensures callbacks { callbacks_of hive.new ≡ callbacks_of hive.old }
         ensures ok { OnOk result (HasNoFeed self.old.line.items →
-            Adds (AreSaid (lines_of self.old.line.items)) self.old (view_of hive.old) self.new (view_of hive.new)) }
+            Adds C.answers (AreSaid (lines_of self.old.line.items)) self.old hive.old self.new hive.new) }
         ensures err { IfErr result (λ fault. (fault ≡ ScriptFault.Memory) × (0 < length self.old.line.items)
             × IsUnchanged self.old (view_of hive.old) self.new (view_of hive.new)) }
     {
@@ -248,24 +257,25 @@ impl Script {
     }
 
     /// Reads to the end. Each read gives a byte at least, so more reads than the limits' bytes are too many.
-    fn read_all<R: Read, W: Write>(
+    fn read_all<R: Read, W: Write, C: Callback>(
         &mut self,
-        hive: &mut Hive,
+        hive: &mut Hive<C>,
         reader: &mut R,
         writer: &mut W,
         chunk: &mut [u8],
     ) -> Result<(), ScriptFault>
         requires { 0 < length chunk.old }
+        ensures callbacks { callbacks_of hive.new ≡ callbacks_of hive.old }
         ensures at_end { OnOk result (IsAtEnd (R.remaining reader.new)) }
-        ensures lines { OnOk result (IsSteady (position_of self.old (view_of hive.old) (W.contents writer.old)) →
+        ensures lines { OnOk result (IsSteady (position_of C.answers self.old hive.old (W.contents writer.old)) →
             (script : List ℕ) × Consumes (R.remaining reader.old) (R.remaining reader.new) script
-            × Ends (position_of self.old (view_of hive.old) (W.contents writer.old)) script
-            (position_of self.new (view_of hive.new) (W.contents writer.new))) }
-        ensures err { IfErr result (λ fault. IsSteady (position_of self.old (view_of hive.old) (W.contents writer.old)) →
+            × Ends (position_of C.answers self.old hive.old (W.contents writer.old)) script
+            (position_of C.answers self.new hive.new (W.contents writer.new))) }
+        ensures err { IfErr result (λ fault. IsSteady (position_of C.answers self.old hive.old (W.contents writer.old)) →
             self.old.lines ≡ 0 → self.old.line.items ≡ [] →
             (script : List ℕ) × Consumes (R.remaining reader.old) (R.remaining reader.new) script
-            × Halts past (position_of self.old (view_of hive.old) (W.contents writer.old)) script
-            (position_of self.new (view_of hive.new) (W.contents writer.new)) fault) }
+            × Halts past (position_of C.answers self.old hive.old (W.contents writer.old)) script
+            (position_of C.answers self.new hive.new (W.contents writer.new)) fault) }
     {
         for _read in 0..READS_LIMIT {
             let Ok(count) = reader.read(chunk) else {
@@ -286,18 +296,19 @@ impl Script {
 /// replies to the lines before it stand, after `Write` just as many of their bytes as the writer took. Only lines that ended were
 /// answered: by an LF, or by the reader's end; after `Read` all of these. The hive is as those lines left it: no change is made
 /// and no notice taken whose reply lacks memory.
-pub fn run<R: Read, W: Write>(
+pub fn run<R: Read, W: Write, C: Callback>(
     alloc: Global,
     reader: &mut R,
     writer: &mut W,
-    hive: &mut Hive,
+    hive: &mut Hive<C>,
 ) -> Result<(), ScriptFault>
+    ensures callbacks { callbacks_of hive.new ≡ callbacks_of hive.old }
     ensures at_end { OnOk result (IsAtEnd (R.remaining reader.new)) }
     ensures lines { OnOk result ((script : List ℕ) × (text : List ℕ) × Consumes (R.remaining reader.old) (R.remaining reader.new) script
-        × Lines (view_of hive.old) script text (view_of hive.new) × Appends (W.contents writer.old) (W.contents writer.new) text
+        × Lines (asks_of C.answers hive.old) (view_of hive.old) script text (view_of hive.new) × Appends (W.contents writer.old) (W.contents writer.new) text
         × AreWithin (lines_of script)) }
-    ensures stops { IfErr result (λ fault. Stops fault (R.remaining reader.old) (R.remaining reader.new) (view_of hive.old)
-        (view_of hive.new) (W.contents writer.old) (W.contents writer.new)) }
+    ensures stops { IfErr result (λ fault. Stops fault (R.remaining reader.old) (R.remaining reader.new)
+        (asks_of C.answers hive.old) (view_of hive.old) (view_of hive.new) (W.contents writer.old) (W.contents writer.new)) }
 {
     match run_to(alloc, reader, writer, hive) {
         Ok(_) => Ok(()),
@@ -306,19 +317,20 @@ pub fn run<R: Read, W: Write>(
 }
 
 /// Runs a script as [`run`] does, and tells the moment of its last `at` (100 ns units since 1601), 0 where it has none.
-pub fn run_to<R: Read, W: Write>(
+pub fn run_to<R: Read, W: Write, C: Callback>(
     alloc: Global,
     reader: &mut R,
     writer: &mut W,
-    hive: &mut Hive,
+    hive: &mut Hive<C>,
 ) -> Result<u64, ScriptFault>
+    ensures callbacks { callbacks_of hive.new ≡ callbacks_of hive.old }
     ensures at_end { OnOk result (IsAtEnd (R.remaining reader.new)) }
     ensures lines { IfOk result
         (λ moment. (script : List ℕ) × (text : List ℕ) × Consumes (R.remaining reader.old) (R.remaining reader.new) script
-        × LinesTo (view_of hive.old) script text (view_of hive.new) moment
+        × LinesTo (asks_of C.answers hive.old) (view_of hive.old) script text (view_of hive.new) moment
         × Appends (W.contents writer.old) (W.contents writer.new) text × AreWithin (lines_of script)) }
-    ensures stops { IfErr result (λ fault. Stops fault (R.remaining reader.old) (R.remaining reader.new) (view_of hive.old)
-        (view_of hive.new) (W.contents writer.old) (W.contents writer.new)) }
+    ensures stops { IfErr result (λ fault. Stops fault (R.remaining reader.old) (R.remaining reader.new)
+        (asks_of C.answers hive.old) (view_of hive.old) (view_of hive.new) (W.contents writer.old) (W.contents writer.new)) }
 {
     let Ok(mut chunk) = vec![in alloc; 0; CHUNK] else {
         return Err(ScriptFault::Memory);

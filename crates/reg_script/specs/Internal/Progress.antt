@@ -2,7 +2,10 @@
 use Rattle.std.specs.Prelude.{◌≡◌, ℕ, ◌+◌, ◌<◌, ◌≤◌, List, [], ◌∷◌, ◌++◌, length, Option, string_bytes}
 use Rattle.std.specs.List.{AllByRecursion}
 use Rattle.std.specs.Io.KnownBytes.{Appends}
+use Rattle.reg_callbacks.specs.Asking.{Answers}
 use Rattle.reg_calls.specs.Views.{View}
+use Rattle.reg_calls.specs.HiveView.{view_of, asks_of}
+use Rattle.reg_calls.specs.declared.hive.Hive.{Hive}
 use Rattle.reg_script.specs.declared.engine.Script.{Script}
 use Rattle.reg_script.specs.declared.engine.ScriptFault.{ScriptFault}
 use Rattle.reg_script.specs.declared.engine.ScriptFault.TheVariants.{Read, Write, TooLong, Memory}
@@ -21,12 +24,13 @@ pub record Position : Type 0 where
   pub sent : Option (List ℕ)
   pub written : ℕ
 
-abbrev pub stand_of : Script → View → Stand
-stand_of s hive = record { hive = hive; moment = s.moment; session = s.session.number }
+abbrev pub stand_of : {C : Type 0} → (C → Answers) → Script → Hive C → Stand
+stand_of answers s hive =
+    record { hive = view_of hive; callbacks = asks_of answers hive; moment = s.moment; session = s.session.number }
 
-abbrev pub position_of : Script → View → Option (List ℕ) → Position
-position_of s hive sent = record {
-  stand = stand_of s hive;
+abbrev pub position_of : {C : Type 0} → (C → Answers) → Script → Hive C → Option (List ℕ) → Position
+position_of answers s hive sent = record {
+  stand = stand_of answers s hive;
   lines = s.lines;
   begun = s.line.items;
   gathered = string_bytes s.output.text;
@@ -104,9 +108,9 @@ pub record Halts (place : Place) (old : Position) (bytes : List ℕ) (new : Posi
   pub faults : IsFault place fault mid back new
 
 -- a reply was gathered, which leads from one stand to the other in this way
-abbrev pub Adds : (Stand → List ℕ → Stand → Type 0) → Script → View → Script → View → Type 0
-Adds way old old_hive new new_hive =
-    (reply : List ℕ) × way (stand_of old old_hive) reply (stand_of new new_hive) ×
+abbrev pub Adds : {C : Type 0} → (C → Answers) → (Stand → List ℕ → Stand → Type 0) → Script → Hive C → Script → Hive C → Type 0
+Adds answers way old old_hive new new_hive =
+    (reply : List ℕ) × way (stand_of answers old old_hive) reply (stand_of answers new new_hive) ×
     (string_bytes new.output.text ≡ string_bytes old.output.text ++ reply) × (new.output.written ≡ old.output.written)
 
 -- nothing was gathered, and the hive is as it was

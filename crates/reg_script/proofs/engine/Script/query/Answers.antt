@@ -4,7 +4,7 @@ use Rattle.reg_script.proofs.ProgressLemmas.{from_empty}
 use Rattle.reg_script.proofs.engine.Script.query.Goals as goal
 
 pub returns : goal.returns
-returns c = (
+returns g c = (
   Answered c.read-answer.result,
   (c.read-answer.ensures.at, c.read-answer.ensures.body, refl),
   from_empty _ _ _ c.in_ok-write_answered.ensures c.new-reply.ensures.bytes,

@@ -1,4 +1,4 @@
-use Rattle.std.proofs.Common.{[], ◌++◌, take, refl, arith}
+use Rattle.std.proofs.Common.{[], ◌++◌, take, refl, ◌∙◌, arith}
 use Rattle.reg_script.specs.declared.engine.ScriptFault.TheVariants.{Read}
 use Rattle.reg_script.proofs.FailedCalls.{if_err}
 use Rattle.reg_script.proofs.ProgressLemmas.{takes_none, takes_then, consumes_none, consumes_then, consumes_kept, consumes_no_more, ends_at}
@@ -6,12 +6,12 @@ use Rattle.reg_script.proofs.ScriptHalts.{halts_after, halts_at, halts_last, rea
 use Rattle.reg_script.proofs.engine.Script.read_all.Goals as goal
 
 pub loop-read-init : goal.loop-read-init
-loop-read-init g c = λ steady. ([], consumes_none _, takes_none _ steady, omega arith)
+loop-read-init g c = record { callbacks = refl; taken = λ steady. ([], consumes_none _, takes_none _ steady, omega arith) }
 
 pub returns-in_default-clause-err : goal.returns-in_default-clause-err
 returns-in_default-clause-err g c =
     λ steady none empty.
-    let h = c.loop-read.invariant steady in (
+    let h = c.loop-read.invariant.taken steady in (
       h.0,
       consumes_kept _ _ _ h.0 h.1 c.in_default.ensures.bytes,
       halts_at _ _ _ h.0 Read _ h.2 refl (record { gathered = refl; sent = refl; written = refl }, refl),
@@ -21,7 +21,7 @@ pub returns-in_err-end-clause-err : goal.returns-in_err-end-clause-err
 returns-in_err-end-clause-err g c =
     if_err _ c.from_residual.result _ c.from_residual.ensures.1
     (λ steady none empty.
-    let h = c.loop-read.invariant steady in
+    let h = c.loop-read.invariant.taken steady in
     let kept = c.in_err-end.ensures.err in (
       h.0,
       consumes_no_more _ _ _ h.0 c.read.new.buf c.in-Ok.count h.1 c.in-Ok.ensures.bytes.0 c.if-count-eq0.true,
@@ -31,7 +31,7 @@ returns-in_err-end-clause-err g c =
 pub returns-then-count-eq0-clause-lines : goal.returns-then-count-eq0-clause-lines
 returns-then-count-eq0-clause-lines g c =
     λ steady.
-    let h = c.loop-read.invariant steady in
+    let h = c.loop-read.invariant.taken steady in
     let e = c.in_ok-end.ensures.ok h.2.steady.no_feed in (
       h.0,
       consumes_no_more _ _ _ h.0 c.read.new.buf c.in-Ok.count h.1 c.in-Ok.ensures.bytes.0 c.if-count-eq0.true,
@@ -42,7 +42,7 @@ pub returns-in_err-take_bytes-clause-err : goal.returns-in_err-take_bytes-clause
 returns-in_err-take_bytes-clause-err g c =
     if_err _ c.from_residual-in_err-take_bytes.result _ c.from_residual-in_err-take_bytes.ensures.1
     (λ steady none empty.
-    let h = c.loop-read.invariant steady in (
+    let h = c.loop-read.invariant.taken steady in (
       h.0 ++ take c.in-Ok.count c.read.new.buf,
       consumes_then _ _ _ h.0 _ h.1 c.in-Ok.ensures.bytes.0,
       halts_after _ _ _ _ h.0 _ _ h.2 (c.in_err-take_bytes.ensures.err h.2.steady),
@@ -50,15 +50,18 @@ returns-in_err-take_bytes-clause-err g c =
 
 pub loop-read-preserved : goal.loop-read-preserved
 loop-read-preserved g c =
-    λ steady.
-    let h = c.loop-read.invariant steady in (
-      h.0 ++ take c.in-Ok.count c.read.new.buf,
-      consumes_then _ _ _ h.0 _ h.1 c.in-Ok.ensures.bytes.0,
-      takes_then _ _ _ h.0 _ h.2 (c.in_ok-take_bytes.ensures.ok h.2.steady),
-      read_more h.0 c.read.new.buf _ c.in-Ok.count h.3 c.if-count-eq0.false c.in-Ok.ensures.bound.0,
-    )
+    record {
+      callbacks = c.take_bytes.ensures.callbacks ∙ c.loop-read.invariant.callbacks;
+      taken = λ steady.
+          let h = c.loop-read.invariant.taken steady in (
+            h.0 ++ take c.in-Ok.count c.read.new.buf,
+            consumes_then _ _ _ h.0 _ h.1 c.in-Ok.ensures.bytes.0,
+            takes_then _ _ _ h.0 _ h.2 (c.in_ok-take_bytes.ensures.ok h.2.steady),
+            read_more h.0 c.read.new.buf _ c.in-Ok.count h.3 c.if-count-eq0.false c.in-Ok.ensures.bound.0,
+          );
+    }
 
 pub returns-clause-err : goal.returns-clause-err
 returns-clause-err g c =
-    λ steady none empty. let h = c.loop-read.invariant steady in
+    λ steady none empty. let h = c.loop-read.invariant.taken steady in
     absurd (omega (arith, h.3, not_so_many _ _ h.0 none empty h.2, c.loop-read-test.false))
