@@ -2,11 +2,12 @@
 //!
 //! Suhanov, Windows registry file format specification, section "Format of primary files".
 
-ghost use Rattle.std.specs.Prelude.{◌≡◌, ◌+◌, ◌≤◌, ◌%◌, ℕ, List, Ok, IfOk, IfErr, MatchResult, length};
+ghost use Rattle.std.specs.Prelude.{◌≡◌, ◌+◌, ◌≤◌, ◌%◌, ℕ, List, [], Ok, IfOk, IfErr, MatchResult, length};
 ghost use Rattle.std.specs.Io.KnownBytes.{Consumes};
 ghost use Rattle.reg_heap.specs.declared.limits.TheConstants.{BINS_LIMIT};
 ghost use Rattle.reg_text.specs.Failures.{Stays};
-ghost use Rattle.reg_calls.specs.HiveView.{view_of};
+ghost use Rattle.reg_callbacks.specs.Lists.{rows_of, made_of};
+ghost use Rattle.reg_calls.specs.HiveView.{view_of, callbacks_of};
 ghost use Rattle.reg_image.specs.Images.{nothing, tree_in, bins_walk};
 ghost use Rattle.reg_image.specs.Loads.{fault_number, IsLoaded, IsRefused, IsBlamed};
 ghost use Rattle.reg_image.specs.CrowdedBins.{AreCrowded};
@@ -17,6 +18,7 @@ use crate::block::{BaseBlock, read_block};
 use crate::input::{fill, read_bytes};
 use crate::scan::scan;
 use crate::walk::walk;
+use reg_callbacks::Callback;
 use reg_calls::Hive;
 use reg_text::Source;
 use reg_tree::Tree;
@@ -62,20 +64,21 @@ fn build_tree(alloc: Global, bins: &[u8], block: BaseBlock) -> Result<Tree, Load
 /// Loads a hive from an image: reads its base block, then the bins behind it and no byte more, and builds the hive anew of the keys
 /// that the bins hold.
 ///
-/// The hive is a new one, whose journal is empty. The first test that fails is the fault. `Short` where the image ends before its
-/// base block or its bins do, `Read` only where a read fails, and then no other is made: one that is interrupted fails too. Of the
-/// base block `Signature`, `Version`, `Checksum`, `Dirty`, `Bins` and `Limit`; of the bins, once all are read, `Bins` where the
-/// header of one is bad, else `Cells` where a cell's size is; of the keys, as they are met from the root on, `Record`, `Loop`,
-/// `Twice`, `NotInProfile` and `Limit`. `Limit` comes else only where new bins have no room for a key that is met before any fault:
-/// bins that came about by building the keys met before it one after the other, each with just the cells that it takes, and grew
-/// only where no free cell had room. They have none for its key node with its descriptor and its place in a list, or then none for
-/// its class, or then none for its values: for as many of them together, from the first on, as have cells of at most 16,777,216
-/// bytes with a list that has room for all, or then for one of the others behind those before it. No room is that no free cell has
-/// room for all cells of one of these, and that with a bin more for them the bins would pass 268,435,456 bytes. `Memory` may come
-/// as soon as the base block passed.
-pub fn load<R: Source>(alloc: Global, input: &mut R) -> Result<Hive, LoadFault>
+/// The hive is a new one, whose journal is empty, and no callback is registered. The first test that fails is the fault. `Short`
+/// where the image ends before its base block or its bins do, `Read` only where a read fails, and then no other is made: one that
+/// is interrupted fails too. Of the base block `Signature`, `Version`, `Checksum`, `Dirty`, `Bins` and `Limit`; of the bins, once
+/// all are read, `Bins` where the header of one is bad, else `Cells` where a cell's size is; of the keys, as they are met from the
+/// root on, `Record`, `Loop`, `Twice`, `NotInProfile` and `Limit`. `Limit` comes else only where new bins have no room for a key
+/// that is met before any fault: bins that came about by building the keys met before it one after the other, each with just the
+/// cells that it takes, and grew only where no free cell had room. They have none for its key node with its descriptor and its
+/// place in a list, or then none for its class, or then none for its values: for as many of them together, from the first on, as
+/// have cells of at most 16,777,216 bytes with a list that has room for all, or then for one of the others behind those before it.
+/// No room is that no free cell has room for all cells of one of these, and that with a bin more for them the bins would pass
+/// 268,435,456 bytes. `Memory` may come as soon as the base block passed.
+pub fn load<R: Source, C: Callback>(alloc: Global, input: &mut R) -> Result<Hive<C>, LoadFault>
     ensures ok { IfOk result (λ hive. (image : List ℕ) × Consumes (R.remaining input.old) (R.remaining input.new) image
         × IsLoaded image (view_of hive)) }
+    ensures callbacks { IfOk result (λ hive. (rows_of (callbacks_of hive) ≡ []) × (made_of (callbacks_of hive) ≡ 0)) }
     ensures err { IfErr result (λ fault. (image : List ℕ) × Consumes (R.remaining input.old) (R.remaining input.new) image
         × (length image ≤ 4096 + BINS_LIMIT) × IsRefused fault image (R.remaining input.new)) }
     ensures failures { MatchResult result (λ _. Stays (R.failures input.old) (R.failures input.new))

@@ -13,6 +13,7 @@ ghost use Rattle.reg_image.specs.Internal.BlockFields.{block_fields as fields_of
 
 use crate::block::head_checksum;
 use reg_arena::Arena;
+use reg_callbacks::Callback;
 use reg_calls::Hive;
 use reg_text::{Sink, write_counted};
 use std::alloc::{AllocError, Global};
@@ -106,7 +107,12 @@ fn push_bins(out: &mut Vec<u8>, arena: &Arena) -> Result<(), AllocError>
 ///
 /// By the rules of loading it has no fault, and the hive's tree (clause `loads`); a load of it may still lack memory, or space for
 /// its new bins. `Memory` is the only fault of making it.
-pub fn image(alloc: Global, hive: &Hive, moment: u64, sequence: u32) -> Result<Vec<u8>, ImageFault>
+pub fn image<C: Callback>(
+    alloc: Global,
+    hive: &Hive<C>,
+    moment: u64,
+    sequence: u32,
+) -> Result<Vec<u8>, ImageFault>
     ensures is { IfOk result (λ bytes. bytes.items
         ≡ image_of (view_of hive.now).keys.bins.bytes (view_of hive.now).keys.root moment sequence) }
     ensures loads { IfOk result (λ bytes. loaded bytes.items ≡ Ok (view_of hive.now).keys.tree) }

@@ -6,7 +6,7 @@ use Rattle.reg_image.proofs.Devices.MadeImages.{root-is, image-made, image-loads
 use Rattle.reg_image.proofs.writing.image.Goals as goal
 
 pub returns-clause-is : goal.returns-clause-is
-returns-clause-is c =
+returns-clause-is g c =
     let keys = (view_of c.args.hive.now).keys in
     image-made keys.bins.bytes keys.root c.args.moment c.args.sequence c.bins_size-size.result c.root-root.result.offset
     c.push_block.new.out.items c.push_bins.new.out.items c.arena-arena.result.now.bytes c.in_ok-push_block.ensures c.in_ok-push_bins.ensures
@@ -14,7 +14,7 @@ returns-clause-is c =
     (root-is c.tree.result.now c.root-root.result c.root-root.ensures.at ∙ ap (λ (k : Keys). k.root) c.tree.ensures.keys)
 
 pub returns-clause-loads : goal.returns-clause-loads
-returns-clause-loads c =
+returns-clause-loads g c =
     let keys = (view_of c.args.hive.now).keys in
     image-loads keys.bins.bytes keys.root c.args.moment c.args.sequence c.push_bins.new.out.items keys.tree c.arena-arena.ensures.whole
-    c.arena-arena.ensures.sound.small (returns-clause-is c)
+    c.arena-arena.ensures.sound.small (returns-clause-is g c)
