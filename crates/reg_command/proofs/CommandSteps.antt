@@ -1,6 +1,9 @@
 -- What each command did, put together of what its steps did.
-use Rattle.std.proofs.Common.{◌≡◌, ◌∙◌, ◌≤◌, ◌+◌, List, ℕ, ap, sym, subst, inl, inr, length}
+use Rattle.std.proofs.Common.{◌≡◌, ◌∙◌, ◌≤◌, ◌+◌, List, [], ℕ, ap, sym, subst, inl, inr, length, map}
 use Rattle.std.specs.Prelude.{Option, Ok}
+use Rattle.reg_callbacks.specs.Asking.{Answers, asks}
+use Rattle.reg_callbacks.specs.declared.row.Row.{Row}
+use Rattle.reg_model.specs.Callbacks.{Callbacks, no_callbacks}
 use Rattle.std.specs.Io.KnownBytes.{Appends, Consumes, IsAtEnd}
 use Rattle.reg_heap.specs.Paths.{Tree}
 use Rattle.reg_heap.specs.declared.limits.TheConstants.{BINS_LIMIT}
@@ -21,9 +24,15 @@ use Rattle.reg_command.specs.declared.failure.Stop.TheVariants.{Script, Load, Wr
 
 -- ---- scripts
 
-module _ (fresh last : View) (unread left : Option (List ℕ)) (is_fresh : IsFresh fresh) (at_end : IsAtEnd left) where
+-- where no callback is registered, none refuses
+pub none_asked : {C : Type 0} (answers : C → Answers) (rows : List (Row C)) → rows ≡ [] →
+    asks (map (λ row. answers row.callback) rows) ≡ no_callbacks
+none_asked {C = C} answers rows none = ap (λ (some : List (Row C)). asks (map (λ row. answers row.callback) some)) none
+
+module _ (fresh last : View) (callbacks : Callbacks) (unread left : Option (List ℕ)) (is_fresh : IsFresh fresh)
+    (none : callbacks ≡ no_callbacks) (at_end : IsAtEnd left) where
   pub runs : (before after : Option (List ℕ)) →
-      ((script : List ℕ) × (text : List ℕ) × Consumes unread left script × Lines fresh script text last × Appends before after text ×
+      ((script : List ℕ) × (text : List ℕ) × Consumes unread left script × Lines callbacks fresh script text last × Appends before after text ×
       AreWithin (lines_of script))
       → RunsScript unread left before after
   runs before after h = record {
@@ -31,21 +40,34 @@ module _ (fresh last : View) (unread left : Option (List ℕ)) (is_fresh : IsFre
     script = h.0;
     text = h.1;
     consumed = h.2;
-    writes = record { fresh = fresh; is_fresh = is_fresh; last = last; lines = h.3 };
+    writes = record { fresh = fresh; is_fresh = is_fresh; last = last; lines = subst (λ (asked : Callbacks). Lines asked fresh h.0 h.1 last) none h.3 };
     appended = h.4;
   }
 
   pub leads : (moment : ℕ) (told kept : Option (List ℕ)) →
-      ((script : List ℕ) × (text : List ℕ) × Consumes unread left script × LinesTo fresh script text last moment ×
+      ((script : List ℕ) × (text : List ℕ) × Consumes unread left script × LinesTo callbacks fresh script text last moment ×
       Appends told kept text × AreWithin (lines_of script))
       → LeadsTo unread left last moment
   leads moment told kept h =
-      record { at_end = at_end; script = h.0; consumed = h.2; fresh = fresh; is_fresh = is_fresh; text = h.1; lines = h.3 }
+      record {
+        at_end = at_end;
+        script = h.0;
+        consumed = h.2;
+        fresh = fresh;
+        is_fresh = is_fresh;
+        text = h.1;
+        lines = subst (λ (asked : Callbacks). LinesTo asked fresh h.0 h.1 last moment) none h.3;
+      }
 
-pub stops_fresh : (fault : ScriptFault) (fresh last : View) (unread left before after : Option (List ℕ)) → IsFresh fresh →
-    ScriptStops fault unread left fresh last before after → StopsFresh fault unread left before after
-stops_fresh fault fresh last unread left before after is_fresh h =
-    record { fresh = fresh; is_fresh = is_fresh; last = last; stops = h }
+pub stops_fresh : (fault : ScriptFault) (fresh last : View) (callbacks : Callbacks) (unread left before after : Option (List ℕ)) →
+    IsFresh fresh → callbacks ≡ no_callbacks →
+    ScriptStops fault unread left callbacks fresh last before after → StopsFresh fault unread left before after
+stops_fresh fault fresh last callbacks unread left before after is_fresh none h = record {
+  fresh = fresh;
+  is_fresh = is_fresh;
+  last = last;
+  stops = subst (λ (asked : Callbacks). ScriptStops fault unread left asked fresh last before after) none h;
+}
 
 -- what ended the image's writing ended the command
 pub image_stops : (sequence : ℕ) (last : View) (moment : ℕ) (stop : Stop) (unread left before after : Option (List ℕ)) →

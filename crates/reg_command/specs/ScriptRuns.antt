@@ -1,6 +1,7 @@
 -- Scripts that the tool ran to their end (this project's own).
 use Rattle.std.specs.Prelude.{ℕ, List, Option}
 use Rattle.std.specs.Io.KnownBytes.{IsAtEnd, Appends, Consumes}
+use Rattle.reg_model.specs.Callbacks.{no_callbacks}
 use Rattle.reg_calls.specs.Views.{View}
 use Rattle.reg_script.specs.Lines.{IsFresh, Writes, LinesTo}
 use Rattle.reg_image.specs.Images.{image_of}
@@ -14,7 +15,7 @@ pub record RunsScript (unread left before after : Option (List ℕ)) : Type 0 wh
   pub writes : Writes script text
   pub appended : Appends before after text
 
--- the input was read to its end, and this is a hive that its lines may lead to on a fresh one, and the moment of the last that sets one
+-- the input was read to its end, and this is a hive that its lines may lead to on a fresh one without callbacks, and the moment of the last that sets one
 pub record LeadsTo (unread left : Option (List ℕ)) (last : View) (moment : ℕ) : Type 0 where
   pub at_end : IsAtEnd left
   pub script : List ℕ
@@ -22,7 +23,7 @@ pub record LeadsTo (unread left : Option (List ℕ)) (last : View) (moment : ℕ
   pub fresh : View
   pub is_fresh : IsFresh fresh
   pub text : List ℕ
-  pub lines : LinesTo fresh script text last moment
+  pub lines : LinesTo no_callbacks fresh script text last moment
 
 -- the image of a hive, at a moment, with a sequence number
 abbrev pub image_at : View → ℕ → ℕ → List ℕ

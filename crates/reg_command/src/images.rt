@@ -7,6 +7,7 @@ ghost use Rattle.reg_command.specs.Failures.{TellStops};
 ghost use Rattle.reg_command.specs.Internal.Steps.{TellingStops, IsFaultTold};
 
 use crate::failure::Stop;
+use reg_callbacks::NoCallback;
 use reg_dump::{DumpFault, check_line, count, dump};
 use reg_image::{LoadFault, load, write_image};
 use reg_tree::Tree;
@@ -91,7 +92,7 @@ pub fn dump_image<R: Read, W: Write>(
     ensures err { IfErr result (λ stop. TellStops dump_text stop (R.remaining input.old) (R.remaining input.new) (W.contents output.old)
         (W.contents output.new)) }
 {
-    match load(alloc, input) {
+    match load::<R, NoCallback>(alloc, input) {
         Ok(hive) => send_dump(alloc, hive.tree(), output),
         Err(fault) => Err(send_fault(fault, output)),
     }
@@ -108,7 +109,7 @@ pub fn check_image<R: Read, W: Write>(
     ensures err { IfErr result (λ stop. TellStops check_text stop (R.remaining input.old) (R.remaining input.new) (W.contents output.old)
         (W.contents output.new)) }
 {
-    match load(alloc, input) {
+    match load::<R, NoCallback>(alloc, input) {
         Ok(hive) => send_counts(alloc, hive.tree(), output),
         Err(fault) => Err(send_fault(fault, output)),
     }

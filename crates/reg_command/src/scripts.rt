@@ -2,12 +2,12 @@
 ghost use Rattle.std.specs.Prelude.{◌≡◌, ℕ, OnOk, IfOk, IfErr};
 ghost use Rattle.std.specs.Io.KnownBytes.{Appends};
 ghost use Rattle.reg_calls.specs.HiveView.{view_of};
-ghost use Rattle.reg_script.specs.Lines.{IsFresh};
 ghost use Rattle.reg_command.specs.ScriptRuns.{RunsScript, WritesImage, image_at};
 ghost use Rattle.reg_command.specs.Failures.{RunStops, ImageStops};
-ghost use Rattle.reg_command.specs.Internal.Steps.{SendStops};
+ghost use Rattle.reg_command.specs.Internal.Steps.{IsScriptHive, SendStops};
 
 use crate::failure::Stop;
+use reg_callbacks::{Callback, NoCallback};
 use reg_calls::{Hive, NewFault};
 use reg_image::{image, write_image};
 use reg_script::{run, run_to};
@@ -24,10 +24,28 @@ const DESCRIPTOR: [u8; 20] = [
 ];
 
 /// A script's hive: a root of that name at moment 0, and nothing else. `Memory` is its one fault.
-fn fresh_hive(alloc: Global) -> Result<Hive, NewFault>
-    ensures { IfOk result (λ hive. IsFresh (view_of hive)) }
+fn fresh_hive(alloc: Global) -> Result<Hive<NoCallback>, NewFault>
+    ensures { IfOk result (λ hive. IsScriptHive hive) }
 {
     Hive::new(alloc, ROOT_NAME, &DESCRIPTOR, 0)
+}
+
+/// Runs a script on a hive and writes its replies.
+fn run_on<R: Read, W: Write, C: Callback>(
+    alloc: Global,
+    hive: &mut Hive<C>,
+    input: &mut R,
+    output: &mut W,
+) -> Result<(), Stop>
+    ensures ok { OnOk result (IsScriptHive hive.old →
+        RunsScript (R.remaining input.old) (R.remaining input.new) (W.contents output.old) (W.contents output.new)) }
+    ensures err { IfErr result (λ stop. IsScriptHive hive.old →
+        RunStops stop (R.remaining input.old) (R.remaining input.new) (W.contents output.old) (W.contents output.new)) }
+{
+    match run(alloc, input, output, hive) {
+        Ok(()) => Ok(()),
+        Err(fault) => Err(Stop::Script(fault)),
+    }
 }
 
 /// Runs a script and writes its replies.
@@ -40,20 +58,16 @@ pub fn run_script<R: Read, W: Write>(
     ensures err { IfErr result (λ stop. RunStops stop (R.remaining input.old) (R.remaining input.new) (W.contents output.old)
         (W.contents output.new)) }
 {
-    let mut hive = match fresh_hive(alloc) {
-        Ok(hive) => hive,
-        Err(_) => return Err(Stop::Memory),
-    };
-    match run(alloc, input, output, &mut hive) {
-        Ok(()) => Ok(()),
-        Err(ended) => Err(Stop::Script(ended)),
+    match fresh_hive(alloc) {
+        Ok(mut hive) => run_on(alloc, &mut hive, input, output),
+        Err(_) => Err(Stop::Memory),
     }
 }
 
 /// Writes the image of a hive.
-fn send_image<W: Write>(
+fn send_image<W: Write, C: Callback>(
     alloc: Global,
-    hive: &Hive,
+    hive: &Hive<C>,
     moment: u64,
     sequence: u32,
     output: &mut W,
@@ -73,16 +87,16 @@ fn send_image<W: Write>(
 }
 
 /// Runs a script on a hive, without its replies, and writes the image of what it leaves.
-fn image_after<R: Read, W: Write>(
+fn image_after<R: Read, W: Write, C: Callback>(
     alloc: Global,
-    hive: &mut Hive,
+    hive: &mut Hive<C>,
     sequence: u32,
     input: &mut R,
     output: &mut W,
 ) -> Result<(), Stop>
-    ensures ok { OnOk result (IsFresh (view_of hive.old) →
+    ensures ok { OnOk result (IsScriptHive hive.old →
         WritesImage sequence (R.remaining input.old) (R.remaining input.new) (W.contents output.old) (W.contents output.new)) }
-    ensures err { IfErr result (λ stop. IsFresh (view_of hive.old) →
+    ensures err { IfErr result (λ stop. IsScriptHive hive.old →
         ImageStops sequence stop (R.remaining input.old) (R.remaining input.new) (W.contents output.old) (W.contents output.new)) }
 {
     let mut replies = io::sink();

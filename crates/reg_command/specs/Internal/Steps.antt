@@ -1,5 +1,9 @@
 -- What the steps of a command do (this project's own).
-use Rattle.std.specs.Prelude.{◌≡◌, ℕ, List, Option}
+use Rattle.std.specs.Prelude.{◌≡◌, ℕ, List, [], Option}
+use Rattle.reg_callbacks.specs.Lists.{rows_of}
+use Rattle.reg_calls.specs.HiveView.{view_of, callbacks_of}
+use Rattle.reg_calls.specs.declared.hive.Hive.{Hive}
+use Rattle.reg_script.specs.Lines.{IsFresh}
 use Rattle.reg_image.specs.declared.LoadFault.{LoadFault}
 use Rattle.reg_command.specs.CommandLines.{IsCommandLine}
 use Rattle.reg_command.specs.Failures.{IsCut, IsFront, Does}
@@ -8,6 +12,11 @@ use Rattle.reg_command.specs.ImageRuns.{fault_line}
 use Rattle.reg_command.specs.declared.failure.Stop.{Stop}
 use Rattle.reg_command.specs.declared.failure.Stop.TheVariants.{Script, Load, Write, Memory}
 use Rattle.std.specs.Io.KnownBytes.{Appends}
+
+-- a script's hive at first: a fresh one, and no callback is registered on it
+pub record IsScriptHive {C : Type 0} (hive : Hive C) : Type 0 where
+  pub fresh : IsFresh (view_of hive)
+  pub alone : rows_of (callbacks_of hive) ≡ []
 
 -- what ended the sending of a text: a failed write, or want of memory before a byte of it was written
 abbrev pub SendStops : List ℕ → Stop → (before after : Option (List ℕ)) → Type 0
