@@ -7,30 +7,31 @@
 #![tactic(auto)]
 
 ghost use Rattle.std.specs.Prelude.{◌≡◌, IfOk, OnOk, Some};
-ghost use Rattle.reg_calls.specs.HiveView.{view_of};
+ghost use Rattle.reg_calls.specs.HiveView.{view_of, asks_of};
 ghost use Rattle.reg_calls.specs.Views.{state, IsApplied, IsRead};
-ghost use Rattle.reg_model.specs.Callbacks.{no_callbacks};
 ghost use Rattle.reg_model.specs.declared.call.Change.TheVariants.{SetValue};
 ghost use Rattle.reg_model.specs.declared.call.Query.TheVariants.{QueryValue};
 ghost use Rattle.reg_model.specs.declared.reply.ChangeReply.{ChangeReply};
 
 use anyhow::{Result, bail};
+use reg_callbacks::Callback;
 use reg_calls::Hive;
 use reg_model::{AnswerBody, Bytes, Change, Query};
 use std::alloc::Global;
 
 /// Sets a value of four bytes by a handle, and asks for it.
-fn set_and_ask(
+fn set_and_ask<C: Callback>(
     alloc: Global,
-    hive: &mut Hive,
+    hive: &mut Hive<C>,
     handle: u64,
     name: &[u8],
     number: [u8; 4],
 ) -> Result<AnswerBody>
     ensures set { OnOk result ((reply : ChangeReply) × (reply.status ≡ 0) ×
-        IsApplied no_callbacks (view_of hive.old)
+        IsApplied (asks_of C.answers hive.old) (view_of hive.old)
         (view_of hive.new) 0 0 (SetValue handle name.now 4 number) reply) }
-    ensures asked { IfOk result (λ body. IsRead no_callbacks (state (view_of hive.new)) 0 (QueryValue handle name.now (Some 4)) body) }
+    ensures asked { IfOk result (λ body. IsRead (asks_of C.answers hive.new) (state (view_of hive.new)) 0
+        (QueryValue handle name.now (Some 4)) body) }
 {
     let set = Change::SetValue {
         handle,
