@@ -2,7 +2,7 @@
 use Rattle.std.proofs.Common.{◌≡◌, ℕ, ◌+◌, List, length, length-append, sym, ap, ◌∙◌, arith, Option, Some, None, ◌⊎◌, inl, inr}
 use Rattle.std.specs.Prelude.{◌≢◌}
 use Rattle.reg_model.specs.Replies.{refusal}
-use Rattle.reg_model.specs.Callbacks.{no_callbacks}
+use Rattle.reg_model.specs.Callbacks.{Callbacks, change_status}
 use Rattle.reg_model.specs.declared.call.Change.{Change}
 use Rattle.reg_model.specs.declared.reply.Entry.{Entry}
 use Rattle.reg_model.specs.declared.reply.ChangeReply.{ChangeReply}
@@ -20,6 +20,7 @@ grown (Some status) old new session moment change reply not h z =
 grown None old new session moment change reply not (inl h) z = ap (λ (es : List Entry). length es) h.journal ∙ length-append old.journal _
 grown None old new session moment change reply not (inr h) z = absurd (lacking reply h.why z)
 
-pub accepted : (old new : View) (session moment : ℕ) (change : Change) (reply : ChangeReply)
-    → IsApplied no_callbacks old new session moment change reply → reply.status ≡ 0 → length new.journal ≡ length old.journal + 1
-accepted old new session moment change reply h z = grown _ old new session moment change reply (not_zero (state old) session change 0) h z
+pub accepted : (callbacks : Callbacks) (old new : View) (session moment : ℕ) (change : Change) (reply : ChangeReply)
+    → IsApplied callbacks old new session moment change reply → reply.status ≡ 0 → length new.journal ≡ length old.journal + 1
+accepted callbacks old new session moment change reply h z =
+    grown _ old new session moment change reply (not_zero (state old) session change (change_status callbacks (state old).world session moment change)) h z

@@ -4,14 +4,15 @@ ghost use Rattle.reg_names.specs.Names.{is_key_name};
 ghost use Rattle.reg_model.specs.declared.limits.TheConstants.{SESSIONS_LIMIT};
 ghost use Rattle.reg_arena.specs.Arena.{IsSound};
 ghost use Rattle.reg_arena.specs.Cells.{cell_at};
-ghost use Rattle.reg_model.specs.Callbacks.{no_callbacks};
 ghost use Rattle.reg_model.specs.Histories.{IsLegal, replay, pending, fired};
 ghost use Rattle.reg_tree.specs.TreeKeys.{made_root, IsWholeTree};
 ghost use Rattle.reg_notify.specs.Tables.{told_to, taken_by};
+ghost use Rattle.reg_callbacks.specs.Lists.{rows_of, made_of};
 ghost use Rattle.reg_calls.specs.Views.{state, IsApplied, IsRead, IsHive, IsNoticeTaken};
 
 use crate::hive_core::Core;
 use reg_arena::Arena;
+use reg_callbacks::{Callback, Callbacks};
 use reg_heap::limits::DESCRIPTOR_LIMIT;
 use reg_model::{Answer, Call, Change, ChangeReply, Entry, Notice, Outcome, Query, Step};
 use reg_names::check_key_name;
@@ -41,15 +42,17 @@ pub enum RunFault {
     Memory,
 }
 
-/// A hive: a tree of keys in the bytes of its bins, its open handles, the watches that its sessions asked for, and the journal of its
-/// accepted changes.
+/// A hive: a tree of keys in the bytes of its bins, its open handles, the watches that its sessions asked for, the journal of its
+/// accepted changes, and its callbacks: boxes, or values of one type.
 #[derive(Drop)]
-pub struct Hive {
+pub struct Hive<C = Box<dyn Callback + Send>> {
     core: Core,
+    callbacks: Callbacks<C>,
+    ghost none: { rows_of callbacks ≡ [] },
 }
 
-impl Hive {
-    ghost use Rattle.reg_calls.specs.HiveView.{view_of, new_size};
+impl<C: Callback> Hive<C> {
+    ghost use Rattle.reg_calls.specs.HiveView.{view_of, callbacks_of, asks_of, new_size};
     ghost use Rattle.reg_calls.specs.Runs.{Run, IsStep};
 
     /// A hive of one root: the name as given, mark 8 (no delete), no class, the descriptor, the moment (100 ns units
@@ -61,11 +64,12 @@ impl Hive {
         root_name: &[u8],
         descriptor: &[u8],
         moment: u64,
-    ) -> Result<Hive, NewFault>
+    ) -> Result<Hive<C>, NewFault>
         ensures origin { IfOk result (λ h. (view_of h).origin ≡ insert empty [] (made_root root_name.now descriptor.now moment)) }
         ensures journal { IfOk result (λ h. (view_of h).journal ≡ []) }
         ensures hive { IfOk result (λ h. IsHive (view_of h)) }
         ensures taken { IfOk result (λ h. (s : ℕ) → taken_by (view_of h).watches s ≡ 0) }
+        ensures callbacks { IfOk result (λ h. (rows_of (callbacks_of h) ≡ []) × (made_of (callbacks_of h) ≡ 0)) }
         ensures bin { IfOk result (λ h. length (view_of h).keys.bins.bytes ≡ new_size (length root_name.now) (length descriptor.now)) }
         ensures name { IsErrOf result NewFault.Name ↔ (is_key_name root_name.now ≡ false) }
         ensures descriptor { IsErrOf result NewFault.Descriptor
@@ -89,18 +93,22 @@ impl Hive {
 
     /// A hive of a tree that was built elsewhere: its keys in their bins as they are. No handle is open, no watch is pending, and the
     /// journal is empty. `Memory` is its only fault.
-    pub fn from_tree(alloc: Global, tree: Tree) -> Result<Hive, NewFault>
+    pub fn from_tree(alloc: Global, tree: Tree) -> Result<Hive<C>, NewFault>
         ensures origin { IfOk result (λ h. (view_of h).origin ≡ tree.tree) }
         ensures journal { IfOk result (λ h. (view_of h).journal ≡ []) }
         ensures keys { IfOk result (λ h. (view_of h).keys ≡ tree) }
         ensures hive { IfOk result (λ h. IsHive (view_of h)) }
         ensures taken { IfOk result (λ h. (s : ℕ) → taken_by (view_of h).watches s ≡ 0) }
+        ensures callbacks { IfOk result (λ h. (rows_of (callbacks_of h) ≡ []) × (made_of (callbacks_of h) ≡ 0)) }
         ensures err { IfErr result (λ fault. fault ≡ NewFault.Memory) }
     {
         // Only for its clauses: what is true of every tree's keys.
         let _ = tree.root();
         match Core::new(alloc, tree) {
-            Ok(core) => Ok(Hive { core }),
+            Ok(core) => {
+                let callbacks = Callbacks::new(alloc);
+                Ok(Hive { core, callbacks })
+            }
             Err(_) => Err(NewFault::Memory),
         }
     }
@@ -136,7 +144,8 @@ impl Hive {
     /// Hands a session its next notice: the first of those that the journal tells it that wasn't handed out yet. `None` exactly where
     /// all were, as for a session that never asked for any. Takes no memory, and changes nothing but what is handed out next.
     pub fn take_notice(&mut self, session: u8) -> Option<Notice>
-        ensures { IsNoticeTaken (view_of self.old) (view_of self.new) session result }
+        ensures notice { IsNoticeTaken (view_of self.old) (view_of self.new) session result }
+        ensures callbacks { callbacks_of self.new ≡ callbacks_of self.old }
     {
         self.core.take_notice(session)
     }
@@ -176,7 +185,8 @@ impl Hive {
     /// acceptance.
     pub fn apply(&mut self, session: u8, moment: u64, change: Change) -> ChangeReply
         requires { session < SESSIONS_LIMIT }
-        ensures { IsApplied no_callbacks (view_of self.old) (view_of self.new) session moment change result }
+        ensures callbacks { callbacks_of self.new ≡ callbacks_of self.old }
+        ensures applied { IsApplied (asks_of C.answers self.old) (view_of self.old) (view_of self.new) session moment change result }
     {
         self.core.apply(session, moment, change)
     }
@@ -184,14 +194,15 @@ impl Hive {
     /// Answers a question of a session. 8 comes only in place of an answer that holds a byte of a name, of data or of a descriptor.
     pub fn read(&self, session: u8, query: &Query) -> Answer
         ensures at { result.at ≡ length (view_of self.now).journal }
-        ensures body { IsRead no_callbacks (state (view_of self.now)) session query.now result.body }
+        ensures body { IsRead (asks_of C.answers self.now) (state (view_of self.now)) session query.now result.body }
     {
         self.core.read(session, query)
     }
 
     fn answer(&mut self, step: Step) -> Outcome
         requires { step.session < SESSIONS_LIMIT }
-        ensures { IsStep no_callbacks (view_of self.old) step result (view_of self.new) }
+        ensures callbacks { callbacks_of self.new ≡ callbacks_of self.old }
+        ensures step { IsStep (asks_of C.answers self.old) (view_of self.old) step result (view_of self.new) }
     {
         let Step {
             session,
@@ -208,7 +219,8 @@ impl Hive {
     /// refused, before the first call; then the hive is as before.
     pub fn run(&mut self, steps: Vec<Step>) -> Result<Vec<Outcome>, RunFault>
         requires { All (λ s. s.session < SESSIONS_LIMIT) steps.items }
-        ensures ok { IfOk result (λ outcomes. Run no_callbacks (view_of self.old) steps.items outcomes.items (view_of self.new)) }
+        ensures callbacks { callbacks_of self.new ≡ callbacks_of self.old }
+        ensures ok { IfOk result (λ outcomes. Run (asks_of C.answers self.old) (view_of self.old) steps.items outcomes.items (view_of self.new)) }
         ensures err { OnErr result (self.new ≡ self.old) }
     {
         let Ok(mut outcomes) = Vec::with_capacity(self.core.alloc(), steps.len()) else {

@@ -36,6 +36,7 @@
 #![tactic(auto)]
 
 mod announced;
+mod asking;
 mod changes;
 mod close;
 mod create_key;
