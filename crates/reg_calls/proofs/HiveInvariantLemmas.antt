@@ -10,7 +10,7 @@ use Rattle.reg_heap.specs.Paths.{Path, Tree}
 use Rattle.reg_model.specs.declared.limits.TheConstants.{HANDLES_LIMIT, JOURNAL_LIMIT, SESSIONS_LIMIT}
 use Rattle.reg_model.specs.Worlds.{World, Handle, IsStanding, look, numbered, owned, closed, turned, path_at, path_from, without_branch, without_contents, after}
 use Rattle.reg_model.specs.Causes.{State, change_cause, is_full, no_handle_room, handles_of}
-use Rattle.reg_model.specs.Callbacks.{no_callbacks}
+use Rattle.reg_model.specs.Callbacks.{Callbacks, change_status}
 use Rattle.reg_model.specs.Replies.{reply_to}
 use Rattle.reg_model.specs.Calls.{entry_due}
 use Rattle.reg_model.specs.Watches.{Watch, ending, few_ending, watch_of, pending_past, notices}
