@@ -64,7 +64,7 @@ impl<'a> CreateKey<'a> {
 
     /// Finds how far the path leads. Refused by 6 and 1018 for the handle, 87 for the path, the mask or a descriptor that isn't of
     /// 1 to 65,535 bytes, also where no key is missing, 1450 where the session has 16,384 handles, the journal is full, or the missing
-    /// keys would be too many; or for want of memory.
+    /// keys would be too many; by a callback; or for want of memory.
     pub fn admit<C: Callback>(
         store: &Store,
         asking: &Asking<'_, C>,
@@ -79,7 +79,8 @@ impl<'a> CreateKey<'a> {
         requires session { session < SESSIONS_LIMIT }
         requires ready { IsReady entries store.now }
         ensures refused { IfErr result (λ refusal.
-            IsNotAdmitted (status_by C.answers asking.now store.now session handle) entries store.now session (KeyCreated handle path.now mask (option_copied descriptor.entry)) refusal) }
+            IsNotAdmitted (status_by C.answers asking.now store.now session handle) entries store.now session
+            (KeyCreated handle path.now mask (option_copied descriptor.entry)) refusal) }
         ensures admitted { IfOk result (λ found. AdmitsCreateKey entries store.now session handle path.now found) }
         ensures asked { OnOk result (asked (status_by C.answers asking.now store.now session handle) ≡ None) }
         ensures mask { IfOk result (λ found. found.mask ≡ mask) }

@@ -55,8 +55,8 @@ fn may_not_go(tree: &Tree, node: Node) -> bool
 impl<'a> DeleteKey<'a> {
     ghost use Rattle.reg_model.specs.declared.call.Change.TheVariants.{DeleteKey as KeyDeleted};
 
-    /// Finds the key. Refused by 6 and 1018 for the handle, 87 for the path or an empty one, 1450 where the journal is full, 2 where
-    /// there is no such key, and 5 where it has subkeys or mark 0x08; or for want of memory.
+    /// Finds the key. Refused by 6 and 1018 for the handle, 87 for the path or an empty one, 1450 where the journal is full, by a
+    /// callback, 2 where there is no such key, and 5 where it has subkeys or mark 0x08; or for want of memory.
     pub fn admit<C: Callback>(
         store: &Store,
         asking: &Asking<'_, C>,

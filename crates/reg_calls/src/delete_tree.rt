@@ -1,7 +1,8 @@
 //! DeleteTree: a key deleted with all keys below it, or with the empty path all that a key holds.
 //!
 //! Win32 registry reference, `RegDeleteTree`.
-ghost use Rattle.std.specs.Prelude.{ℕ, List, ◌≡◌, ◌<◌, ◌≤◌, ◌++◌, ◌∷◌, [], true, Ok, Some, None, IfErr, IfOk, OnOk, length, map, vec_len, vec_capacity, if◌then◌else◌};
+ghost use Rattle.std.specs.Prelude.{ℕ, List, ◌≡◌, ◌<◌, ◌≤◌, ◌++◌, ◌∷◌, [], true, length, map};
+ghost use Rattle.std.specs.Prelude.{Ok, Some, None, IfErr, IfOk, OnOk, vec_len, vec_capacity, if◌then◌else◌};
 ghost use Rattle.reg_names.specs.declared.TheConstants.{PATH_LIMIT};
 ghost use Rattle.reg_names.specs.Names.{is_path, path_of, folded};
 ghost use Rattle.reg_heap.specs.Paths.{Path};
@@ -150,8 +151,8 @@ fn announce_contents(
 impl<'a> DeleteTree<'a> {
     ghost use Rattle.reg_model.specs.declared.call.Change.TheVariants.{DeleteTree as TreeDeleted};
 
-    /// Finds what goes. Refused by 6 and 1018 for the handle, 87 for the path, 5 without the rights, 1450 where the journal is full, 2
-    /// where the path isn't empty and there is no such key, and 5 where a key that would go has mark 0x08; or for want of memory.
+    /// Finds what goes. Refused by 6 and 1018 for the handle, 87 for the path, 5 without the rights, 1450 where the journal is full, by
+    /// a callback, 2 where the path isn't empty and there is no such key, and 5 where a key that would go has mark 0x08; or for want of memory.
     pub fn admit<C: Callback>(
         store: &Store,
         asking: &Asking<'_, C>,

@@ -36,7 +36,7 @@ impl DeleteValue {
     ghost use Rattle.reg_model.specs.declared.call.Change.TheVariants.{DeleteValue as ValueDeleted};
 
     /// Finds the value. Refused by 6 and 1018 for the handle, 87 for the name, 5 without the right, 1450 where the journal is full,
-    /// and 2 where there is no such value.
+    /// by a callback, and 2 where there is no such value.
     pub fn admit<C: Callback>(
         store: &Store,
         asking: &Asking<'_, C>,
@@ -46,7 +46,8 @@ impl DeleteValue {
         name: &[u8],
     ) -> Result<DeleteValue, u32>
         requires { IsReady entries store.now }
-        ensures refused { IfErr result (λ status. change_cause (at entries store.now) session (ValueDeleted handle name.now) (status_by C.answers asking.now store.now session handle) ≡ Some status) }
+        ensures refused { IfErr result (λ status.
+            change_cause (at entries store.now) session (ValueDeleted handle name.now) (status_by C.answers asking.now store.now session handle) ≡ Some status) }
         ensures admitted { IfOk result (λ found. AdmitsDeleteValue entries store.now session handle name.now found) }
         ensures asked { OnOk result (asked (status_by C.answers asking.now store.now session handle) ≡ None) }
     {
@@ -65,7 +66,7 @@ impl DeleteValue {
         }
         match asking.ask(key.path) {
             Ok(()) => {}
-            Err(status) => return Err(status),
+            Err(refused) => return Err(refused),
         }
         match store.tree.value_index(key.node, name) {
             Some(index) => Ok(DeleteValue {

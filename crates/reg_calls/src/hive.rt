@@ -182,8 +182,8 @@ impl<C: Callback> Hive<C> {
     }
 
     /// Answers a change of a session, below 64, at a moment (100 ns units since 1601). An accepted change becomes the
-    /// journal's next entry; after a refusal the hive is as before. 8 and 1450 for space come only in place of an
-    /// acceptance.
+    /// journal's next entry; after a refusal, by the rules or by a callback, the hive is as before. 8 and 1450 for space come only
+    /// in place of an acceptance, or where a callback answers them.
     pub fn apply(&mut self, session: u8, moment: u64, change: Change) -> ChangeReply
         requires { session < SESSIONS_LIMIT }
         ensures order { is_falling (altitudes_of (callbacks_of self.old)) ≡ true }
@@ -193,7 +193,8 @@ impl<C: Callback> Hive<C> {
         self.core.apply(&self.callbacks, session, moment, change)
     }
 
-    /// Answers a question of a session. 8 comes only in place of an answer that holds a byte of a name, of data or of a descriptor.
+    /// Answers a question of a session. 8 comes only in place of an answer that holds a byte of a name, of data or of a descriptor, or
+    /// where a callback answers it.
     pub fn read(&self, session: u8, query: &Query) -> Answer
         ensures order { is_falling (altitudes_of (callbacks_of self.now)) ≡ true }
         ensures at { result.at ≡ length (view_of self.now).journal }

@@ -53,8 +53,8 @@ impl Store {
 impl Notify {
     ghost use Rattle.reg_model.specs.declared.call.Change.TheVariants.{Notify as Notified};
 
-    /// Admits it, or tells the status of its refusal: 6 and 1018 for the handle, 87 for the filter, 5 without the right, and 1450
-    /// where the session has 4,096 pending watches or the journal is full.
+    /// Admits it, or tells the status of its refusal: 6 and 1018 for the handle, 87 for the filter, 5 without the right, 1450
+    /// where the session has 4,096 pending watches or the journal is full, and what a callback answers.
     pub fn admit<C: Callback>(
         store: &Store,
         asking: &Asking<'_, C>,
@@ -66,7 +66,8 @@ impl Notify {
     ) -> Result<Notify, u32>
         requires session { session < SESSIONS_LIMIT }
         requires ready { IsReady entries store.now }
-        ensures refused { IfErr result (λ status. change_cause (at entries store.now) session (Notified handle filter subtree) (status_by C.answers asking.now store.now session handle) ≡ Some status) }
+        ensures refused { IfErr result (λ status.
+            change_cause (at entries store.now) session (Notified handle filter subtree) (status_by C.answers asking.now store.now session handle) ≡ Some status) }
         ensures admitted { IfOk result (λ found. AdmitsNotify entries store.now session found) }
         ensures asked { OnOk result (asked (status_by C.answers asking.now store.now session handle) ≡ None) }
         ensures handle { IfOk result (λ found. found.handle ≡ handle) }

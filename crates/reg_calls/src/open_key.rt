@@ -34,7 +34,7 @@ impl OpenKey {
     ghost use Rattle.reg_model.specs.declared.call.Change.TheVariants.{OpenKey as KeyOpened};
 
     /// Finds the key. Refused by 6 and 1018 for the handle, 87 for the path or the mask, 1450 where the session has 16,384 handles
-    /// or the journal is full, and 2 where there is no such key; or for want of memory.
+    /// or the journal is full, by a callback, and 2 where there is no such key; or for want of memory.
     pub fn admit<C: Callback>(
         store: &Store,
         asking: &Asking<'_, C>,

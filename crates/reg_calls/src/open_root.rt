@@ -29,7 +29,7 @@ impl OpenRoot {
     ghost use Rattle.reg_model.specs.declared.call.Change.TheVariants.{OpenRoot as RootOpened};
 
     /// Admits it, or tells the status of its refusal: 87 for the mask, 1450 where the session has 16,384 handles or the journal is
-    /// full.
+    /// full, and else what a callback answers.
     pub fn admit<C: Callback>(
         store: &Store,
         asking: &Asking<'_, C>,

@@ -36,7 +36,7 @@ impl<'a> SetSecurity<'a> {
     ghost use Rattle.reg_model.specs.declared.call.Change.TheVariants.{SetSecurity as SecuritySet};
 
     /// Finds the key. Refused by 6 and 1018 for the handle, 87 for a descriptor that isn't of 1 to 65,535 bytes, 5 without the right,
-    /// and 1450 where the journal is full.
+    /// 1450 where the journal is full, and by a callback.
     pub fn admit<C: Callback>(
         store: &Store,
         asking: &Asking<'_, C>,
@@ -46,7 +46,8 @@ impl<'a> SetSecurity<'a> {
         descriptor: &'a [u8],
     ) -> Result<SetSecurity<'a>, u32>
         requires { IsReady entries store.now }
-        ensures refused { IfErr result (λ status. change_cause (at entries store.now) session (SecuritySet handle descriptor.now) (status_by C.answers asking.now store.now session handle) ≡ Some status) }
+        ensures refused { IfErr result (λ status.
+            change_cause (at entries store.now) session (SecuritySet handle descriptor.now) (status_by C.answers asking.now store.now session handle) ≡ Some status) }
         ensures admitted { IfOk result (λ found. AdmitsSetSecurity entries store.now session handle found) }
         ensures asked { OnOk result (asked (status_by C.answers asking.now store.now session handle) ≡ None) }
         ensures descriptor { IfOk result (λ found. found.descriptor.now ≡ descriptor.now) }

@@ -62,8 +62,8 @@ fn has_no_value_room(tree: &Tree, node: Node, place: Option<u32>) -> bool
 impl<'a> SetValue<'a> {
     ghost use Rattle.reg_model.specs.declared.call.Change.TheVariants.{SetValue as ValueSet};
 
-    /// Finds the value's place. Refused by 6 and 1018 for the handle, 87 for the name or the data, 5 without the right, and 1450
-    /// where the journal is full or a new value would be too many.
+    /// Finds the value's place. Refused by 6 and 1018 for the handle, 87 for the name or the data, 5 without the right, 1450
+    /// where the journal is full or a new value would be too many, and by a callback.
     pub fn admit<C: Callback>(
         store: &Store,
         asking: &Asking<'_, C>,
@@ -75,7 +75,8 @@ impl<'a> SetValue<'a> {
         bytes: &'a [u8],
     ) -> Result<SetValue<'a>, u32>
         requires { IsReady entries store.now }
-        ensures refused { IfErr result (λ status. change_cause (at entries store.now) session (ValueSet handle name.now kind bytes.now) (status_by C.answers asking.now store.now session handle) ≡ Some status) }
+        ensures refused { IfErr result (λ status.
+            change_cause (at entries store.now) session (ValueSet handle name.now kind bytes.now) (status_by C.answers asking.now store.now session handle) ≡ Some status) }
         ensures admitted { IfOk result (λ found. AdmitsSetValue entries store.now session handle found) }
         ensures asked { OnOk result (asked (status_by C.answers asking.now store.now session handle) ≡ None) }
         ensures name { IfOk result (λ found. found.name.now ≡ name.now) }

@@ -10,40 +10,50 @@ use Rattle.reg_calls.proofs.RefusalTests.{tree-refused, tree-causes, tree-clear,
 use Rattle.reg_calls.proofs.delete_tree.DeleteTree.admit.Goals as goal
 
 pub returns-in-Err-clause-refused : goal.returns-in-Err-clause-refused
-returns-in-Err-clause-refused g c = tree-refused c.args.entries c.args.store.now c.args.session c.args.handle (status_by g.C.Callback.answers c.args.asking.now c.args.store.now c.args.session c.args.handle) c.args.path.now c.in-Err.status c.in-Err.ensures
+returns-in-Err-clause-refused g c = tree-refused c.args.entries c.args.store.now c.args.session c.args.handle
+    (status_by g.C.Callback.answers c.args.asking.now c.args.store.now c.args.session c.args.handle) c.args.path.now c.in-Err.status c.in-Err.ensures
 
 pub returns-then-is_err-clause-refused : goal.returns-then-is_err-clause-refused
 returns-then-is_err-clause-refused g c =
+    let status = status_by g.C.Callback.answers c.args.asking.now c.args.store.now c.args.session c.args.handle in
     let k = c.in-Ok.ensures in
-    let chain = tree-causes c.args.entries c.args.store.now c.args.session c.args.handle (status_by g.C.Callback.answers c.args.asking.now c.args.store.now c.args.session c.args.handle) c.args.path.now c.in-Ok.key.mask k.target k.mask in
+    let chain = tree-causes c.args.entries c.args.store.now c.args.session c.args.handle status c.args.path.now c.in-Ok.key.mask k.target k.mask in
     grind (arith, nat_tests, common_steps, chain)
 
 pub returns-then-key-asked-clause-refused : goal.returns-then-key-asked-clause-refused
 returns-then-key-asked-clause-refused g c =
+    let status = status_by g.C.Callback.answers c.args.asking.now c.args.store.now c.args.session c.args.handle in
     let k = c.in-Ok.ensures in
-    let chain = tree-causes c.args.entries c.args.store.now c.args.session c.args.handle (status_by g.C.Callback.answers c.args.asking.now c.args.store.now c.args.session c.args.handle) c.args.path.now c.in-Ok.key.mask k.target k.mask in
+    let chain = tree-causes c.args.entries c.args.store.now c.args.session c.args.handle status c.args.path.now c.in-Ok.key.mask k.target k.mask in
     grind (arith, nat_tests, common_steps, chain)
 
 pub returns-then-is_full-clause-refused : goal.returns-then-is_full-clause-refused
 returns-then-is_full-clause-refused g c =
+    let status = status_by g.C.Callback.answers c.args.asking.now c.args.store.now c.args.session c.args.handle in
     let k = c.in-Ok.ensures in
-    let chain = tree-causes c.args.entries c.args.store.now c.args.session c.args.handle (status_by g.C.Callback.answers c.args.asking.now c.args.store.now c.args.session c.args.handle) c.args.path.now c.in-Ok.key.mask k.target k.mask in
+    let chain = tree-causes c.args.entries c.args.store.now c.args.session c.args.handle status c.args.path.now c.in-Ok.key.mask k.target k.mask in
     grind (arith, nat_tests, common_steps, chain)
 
 pub returns-in-Err-find-clause-refused : goal.returns-in-Err-find-clause-refused
 returns-in-Err-find-clause-refused g c =
+    let status = status_by g.C.Callback.answers c.args.asking.now c.args.store.now c.args.session c.args.handle in
     let k = c.in-Ok.ensures in
-    let chain = tree-causes c.args.entries c.args.store.now c.args.session c.args.handle (status_by g.C.Callback.answers c.args.asking.now c.args.store.now c.args.session c.args.handle) c.args.path.now c.in-Ok.key.mask k.target k.mask in
+    let chain = tree-causes c.args.entries c.args.store.now c.args.session c.args.handle status c.args.path.now c.in-Ok.key.mask k.target k.mask in
     let kept = c.in-Err-find.ensures.refused k.target.path k.node in
-    let asks = c.in-Ok-ask.ensures.ok (path_at c.args.session c.args.handle c.args.store.now.handles.handles) (asked-at c.args.store.now c.args.session c.args.handle c.in-Ok.ensures.target c.in-Ok.key.path.now c.in-Ok.ensures.path) in
+    let asks = c.in-Ok-ask.ensures.ok (path_at c.args.session c.args.handle c.args.store.now.handles.handles)
+    (asked-at c.args.store.now c.args.session c.args.handle c.in-Ok.ensures.target c.in-Ok.key.path.now c.in-Ok.ensures.path) in
     grind (arith, nat_tests, common_steps, chain, kept, asks)
 
 pub returns-in-Err-roomy_path_below-clause-refused : goal.returns-in-Err-roomy_path_below-clause-refused
 returns-in-Err-roomy_path_below-clause-refused g c =
     let k = c.in-Ok.ensures in
     let chain = tree-causes c.args.entries c.args.store.now c.args.session c.args.handle 0 c.args.path.now c.in-Ok.key.mask k.target k.mask in
-    let goes = c.in-Ok-find.ensures.clear k.target.path k.node in
-    (grind (arith, nat_tests, common_steps, chain, goes), refl, c.in-Ok-ask.ensures.ok (path_at c.args.session c.args.handle c.args.store.now.handles.handles) (asked-at c.args.store.now c.args.session c.args.handle c.in-Ok.ensures.target c.in-Ok.key.path.now c.in-Ok.ensures.path))
+    let goes = c.in-Ok-find.ensures.clear k.target.path k.node in (
+      grind (arith, nat_tests, common_steps, chain, goes),
+      refl,
+      c.in-Ok-ask.ensures.ok (path_at c.args.session c.args.handle c.args.store.now.handles.handles)
+          (asked-at c.args.store.now c.args.session c.args.handle c.in-Ok.ensures.target c.in-Ok.key.path.now c.in-Ok.ensures.path),
+    )
 
 pub returns-in-Ok-roomy_path_below-clause-admitted : goal.returns-in-Ok-roomy_path_below-clause-admitted
 returns-in-Ok-roomy_path_below-clause-admitted g c =
@@ -66,10 +76,14 @@ returns-in-Ok-roomy_path_below-clause-admitted g c =
 
 pub returns-in-Err-ask-clause-refused : goal.returns-in-Err-ask-clause-refused
 returns-in-Err-ask-clause-refused g c =
+    let status = status_by g.C.Callback.answers c.args.asking.now c.args.store.now c.args.session c.args.handle in
     let k = c.in-Ok.ensures in
-    let chain = tree-causes c.args.entries c.args.store.now c.args.session c.args.handle (status_by g.C.Callback.answers c.args.asking.now c.args.store.now c.args.session c.args.handle) c.args.path.now c.in-Ok.key.mask k.target k.mask in
-    let asks = c.in-Err-ask.ensures.err (path_at c.args.session c.args.handle c.args.store.now.handles.handles) (asked-at c.args.store.now c.args.session c.args.handle c.in-Ok.ensures.target c.in-Ok.key.path.now c.in-Ok.ensures.path) in
+    let chain = tree-causes c.args.entries c.args.store.now c.args.session c.args.handle status c.args.path.now c.in-Ok.key.mask k.target k.mask in
+    let asks = c.in-Err-ask.ensures.err (path_at c.args.session c.args.handle c.args.store.now.handles.handles)
+    (asked-at c.args.store.now c.args.session c.args.handle c.in-Ok.ensures.target c.in-Ok.key.path.now c.in-Ok.ensures.path) in
     grind (arith, nat_tests, common_steps, chain, asks)
 
 pub returns-in-Ok-roomy_path_below-clause-asked : goal.returns-in-Ok-roomy_path_below-clause-asked
-returns-in-Ok-roomy_path_below-clause-asked g c = c.in-Ok-ask.ensures.ok (path_at c.args.session c.args.handle c.args.store.now.handles.handles) (asked-at c.args.store.now c.args.session c.args.handle c.in-Ok.ensures.target c.in-Ok.key.path.now c.in-Ok.ensures.path)
+returns-in-Ok-roomy_path_below-clause-asked g c =
+    c.in-Ok-ask.ensures.ok (path_at c.args.session c.args.handle c.args.store.now.handles.handles)
+    (asked-at c.args.store.now c.args.session c.args.handle c.in-Ok.ensures.target c.in-Ok.key.path.now c.in-Ok.ensures.path)

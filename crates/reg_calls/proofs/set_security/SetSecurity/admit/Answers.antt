@@ -8,24 +8,28 @@ use Rattle.reg_calls.proofs.RefusalTests.{secure-refused, secure-causes, asked-a
 use Rattle.reg_calls.proofs.set_security.SetSecurity.admit.Goals as goal
 
 pub returns-in-Err-clause-refused : goal.returns-in-Err-clause-refused
-returns-in-Err-clause-refused g c = secure-refused c.args.entries c.args.store.now c.args.session c.args.handle (status_by g.C.Callback.answers c.args.asking.now c.args.store.now c.args.session c.args.handle) c.args.descriptor.now c.in-Err.status c.in-Err.ensures
+returns-in-Err-clause-refused g c = secure-refused c.args.entries c.args.store.now c.args.session c.args.handle
+    (status_by g.C.Callback.answers c.args.asking.now c.args.store.now c.args.session c.args.handle) c.args.descriptor.now c.in-Err.status c.in-Err.ensures
 
 pub returns-then-is_bad_descriptor-clause-refused : goal.returns-then-is_bad_descriptor-clause-refused
 returns-then-is_bad_descriptor-clause-refused g c =
+    let status = status_by g.C.Callback.answers c.args.asking.now c.args.store.now c.args.session c.args.handle in
     let k = c.in-Ok.ensures in
-    let chain = secure-causes c.args.entries c.args.store.now c.args.session c.args.handle (status_by g.C.Callback.answers c.args.asking.now c.args.store.now c.args.session c.args.handle) c.args.descriptor.now c.in-Ok.key.mask k.target k.mask in
+    let chain = secure-causes c.args.entries c.args.store.now c.args.session c.args.handle status c.args.descriptor.now c.in-Ok.key.mask k.target k.mask in
     grind (arith, nat_tests, common_steps, chain)
 
 pub returns-then-key-ne-WRITE_DAC-clause-refused : goal.returns-then-key-ne-WRITE_DAC-clause-refused
 returns-then-key-ne-WRITE_DAC-clause-refused g c =
+    let status = status_by g.C.Callback.answers c.args.asking.now c.args.store.now c.args.session c.args.handle in
     let k = c.in-Ok.ensures in
-    let chain = secure-causes c.args.entries c.args.store.now c.args.session c.args.handle (status_by g.C.Callback.answers c.args.asking.now c.args.store.now c.args.session c.args.handle) c.args.descriptor.now c.in-Ok.key.mask k.target k.mask in
+    let chain = secure-causes c.args.entries c.args.store.now c.args.session c.args.handle status c.args.descriptor.now c.in-Ok.key.mask k.target k.mask in
     grind (arith, nat_tests, common_steps, chain)
 
 pub returns-then-is_full-clause-refused : goal.returns-then-is_full-clause-refused
 returns-then-is_full-clause-refused g c =
+    let status = status_by g.C.Callback.answers c.args.asking.now c.args.store.now c.args.session c.args.handle in
     let k = c.in-Ok.ensures in
-    let chain = secure-causes c.args.entries c.args.store.now c.args.session c.args.handle (status_by g.C.Callback.answers c.args.asking.now c.args.store.now c.args.session c.args.handle) c.args.descriptor.now c.in-Ok.key.mask k.target k.mask in
+    let chain = secure-causes c.args.entries c.args.store.now c.args.session c.args.handle status c.args.descriptor.now c.in-Ok.key.mask k.target k.mask in
     grind (arith, nat_tests, common_steps, chain)
 
 pub returns-clause-admitted : goal.returns-clause-admitted
@@ -40,10 +44,14 @@ returns-clause-admitted g c =
 
 pub returns-in-Err-ask-clause-refused : goal.returns-in-Err-ask-clause-refused
 returns-in-Err-ask-clause-refused g c =
+    let status = status_by g.C.Callback.answers c.args.asking.now c.args.store.now c.args.session c.args.handle in
     let k = c.in-Ok.ensures in
-    let chain = secure-causes c.args.entries c.args.store.now c.args.session c.args.handle (status_by g.C.Callback.answers c.args.asking.now c.args.store.now c.args.session c.args.handle) c.args.descriptor.now c.in-Ok.key.mask k.target k.mask in
-    let asks = c.in-Err-ask.ensures.err (path_at c.args.session c.args.handle c.args.store.now.handles.handles) (asked-at c.args.store.now c.args.session c.args.handle c.in-Ok.ensures.target c.in-Ok.key.path.now c.in-Ok.ensures.path) in
+    let chain = secure-causes c.args.entries c.args.store.now c.args.session c.args.handle status c.args.descriptor.now c.in-Ok.key.mask k.target k.mask in
+    let asks = c.in-Err-ask.ensures.err (path_at c.args.session c.args.handle c.args.store.now.handles.handles)
+    (asked-at c.args.store.now c.args.session c.args.handle c.in-Ok.ensures.target c.in-Ok.key.path.now c.in-Ok.ensures.path) in
     grind (arith, nat_tests, common_steps, chain, asks)
 
 pub returns-clause-asked : goal.returns-clause-asked
-returns-clause-asked g c = c.in-Ok-ask.ensures.ok (path_at c.args.session c.args.handle c.args.store.now.handles.handles) (asked-at c.args.store.now c.args.session c.args.handle c.in-Ok.ensures.target c.in-Ok.key.path.now c.in-Ok.ensures.path)
+returns-clause-asked g c =
+    c.in-Ok-ask.ensures.ok (path_at c.args.session c.args.handle c.args.store.now.handles.handles)
+    (asked-at c.args.store.now c.args.session c.args.handle c.in-Ok.ensures.target c.in-Ok.key.path.now c.in-Ok.ensures.path)
