@@ -5,7 +5,8 @@ use Rattle.reg_heap.specs.Paths.{Tree}
 use Rattle.reg_model.specs.declared.statuses.TheConstants.{NOT_ENOUGH_MEMORY, NO_SYSTEM_RESOURCES}
 use Rattle.reg_model.specs.Histories.{state_of}
 use Rattle.reg_model.specs.declared.reply.Entry.{Entry}
-use Rattle.reg_model.specs.Callbacks.{no_callbacks}
+use Rattle.reg_model.specs.Callbacks.{Callbacks, change_status}
+use Rattle.reg_model.specs.Causes.{asked_before}
 use Rattle.reg_model.specs.Replies.{refusal}
 use Rattle.reg_model.specs.declared.reply.ChangeReply.{ChangeReply}
 use Rattle.reg_model.specs.declared.call.Change.{Change}
@@ -17,11 +18,12 @@ use Rattle.reg_calls.specs.declared.refusal.Refusal.TheVariants.{Cause, Memory}
 use Rattle.reg_calls.specs.declared.lack.Lack.{Lack}
 use Rattle.reg_calls.specs.declared.lack.Lack.TheVariants.{Space, Memory as Short}
 use Rattle.reg_calls.specs.Shortages.{LacksSpace, is_closing}
-use Rattle.reg_calls.specs.Internal.Stores.{at, IsMade}
+use Rattle.reg_calls.specs.Internal.Stores.{at, world_of, IsMade}
 use Rattle.reg_calls.specs.Internal.Admissions.{IsClear, Admits, IsNotAdmitted, status_told}
 use Rattle.reg_calls.specs.Views.{View, view_with, state, status_of, IsApplied}
 use Rattle.reg_calls.proofs.HiveInvariantLemmas.{applied-by, view-unchanged}
 use Rattle.reg_calls.proofs.KnownKeys.{unmade}
+use Rattle.reg_calls.proofs.RefusalTests.{still-clear}
 
 -- nothing refuses a change that was admitted
 pub admits-clear : (entries : ℕ) (store : Store) (session : ℕ) (change : Change) (admitted : Admitted) → Admits entries store session change admitted → IsClear entries store session change
@@ -37,18 +39,21 @@ admits-clear entries store session change (Notify found) a = subst (IsClear entr
 admits-clear entries store session change (Close found) a = subst (IsClear entries store session) (sym a.0) a.1
 
 -- one that wasn't is refused, and nothing changed
-pub refused-as : (v new : View) (session moment : ℕ) (change : Change) (reply : ChangeReply) (n : ℕ) (store : Store) (why : Refusal) → state v ≡ at n store →
-    IsNotAdmitted n store session change why → reply ≡ refusal (status_told why) → new ≡ v → IsApplied no_callbacks v new session moment change reply
-refused-as v new session moment change reply n store (Cause status) is cause told same = applied-by v new session moment change reply n store (Some status) is (sym cause) (told, same)
-refused-as v new session moment change reply n store Memory is short told same =
-    applied-by v new session moment change reply n store None is (sym short.0) (inr (record { why = inl (told, short.1); same = same }))
+pub refused-as : (callbacks : Callbacks) (v new : View) (session moment : ℕ) (change : Change) (reply : ChangeReply) (n : ℕ) (store : Store) (why : Refusal) → state v ≡ at n store →
+    IsNotAdmitted (change_status callbacks (world_of store) session moment change) n store session change why → reply ≡ refusal (status_told why) → new ≡ v →
+    IsApplied callbacks v new session moment change reply
+refused-as callbacks v new session moment change reply n store (Cause status) is cause told same =
+    applied-by callbacks v new session moment change reply n store (Some status) is (sym cause) (told, same)
+refused-as callbacks v new session moment change reply n store Memory is short told same =
+    applied-by callbacks v new session moment change reply n store None is (sym (still-clear (at n store) session _ change short.0 short.2)) (inr (record { why = inl (told, short.1); same = same }))
 
 -- one that was, and for which space or memory was wanting, isn't made, and nothing changed
-pub given-up : (origin : Tree) (es : List Entry) (store new : Store) (session moment n : ℕ) (change : Change) (reply : ChangeReply) (lack : Lack) →
-    state_of origin es ≡ at n store → IsClear n store session change → IsMade store new session moment n change (Err lack) → reply ≡ refusal (status_of lack) → (v w : View) →
-    view_with origin es store ≡ v → w ≡ view_with origin es new → IsApplied no_callbacks v w session moment change reply
-given-up origin es store new session moment n change reply lack is clear made told v w was now =
-    applied-by v w session moment change reply n store None (ap state (sym was) ∙ is) (sym clear)
+pub given-up : (callbacks : Callbacks) (origin : Tree) (es : List Entry) (store new : Store) (session moment n : ℕ) (change : Change) (reply : ChangeReply) (lack : Lack) →
+    state_of origin es ≡ at n store → IsClear n store session change →
+    asked_before change (change_status callbacks (world_of store) session moment change) ≡ None → IsMade store new session moment n change (Err lack) → reply ≡ refusal (status_of lack) → (v w : View) →
+    view_with origin es store ≡ v → w ≡ view_with origin es new → IsApplied callbacks v w session moment change reply
+given-up callbacks origin es store new session moment n change reply lack is clear none made told v w was now =
+    applied-by callbacks v w session moment change reply n store None (ap state (sym was) ∙ is) (sym (still-clear (at n store) session _ change clear none))
     (inr (record { why = why lack made told; same = now ∙ view-unchanged origin es (unmade store new session moment n change lack made) ∙ was }))
   where
     spaced : LacksSpace store.tree store.handles.handles session change → LacksSpace v.keys v.handles session change

@@ -10,7 +10,7 @@ use Rattle.reg_heap.specs.Paths.{Path, Tree}
 use Rattle.reg_model.specs.declared.limits.TheConstants.{HANDLES_LIMIT, JOURNAL_LIMIT, SESSIONS_LIMIT}
 use Rattle.reg_model.specs.Worlds.{World, Handle, IsStanding, look, numbered, owned, closed, turned, path_at, path_from, without_branch, without_contents, after}
 use Rattle.reg_model.specs.Causes.{State, change_cause, is_full, no_handle_room, handles_of}
-use Rattle.reg_model.specs.Callbacks.{no_callbacks}
+use Rattle.reg_model.specs.Callbacks.{Callbacks, change_status}
 use Rattle.reg_model.specs.Replies.{reply_to}
 use Rattle.reg_model.specs.Calls.{entry_due}
 use Rattle.reg_model.specs.Watches.{Watch, ending, few_ending, watch_of, pending_past, notices}
@@ -301,8 +301,10 @@ accepted {origin = origin} {es = es} {store = store} kept v new view_is session 
       hive = hive;
     })
 
--- where nobody is asked, the cause alone decides
-pub applied-by : (v new : View) (session moment : ℕ) (change : Change) (reply : ChangeReply) (n : ℕ) (store : Store) (o : Option ℕ) → state v ≡ at n store →
-    o ≡ change_cause (at n store) session change 0 → IsAppliedBy o v new session moment change reply → IsApplied no_callbacks v new session moment change reply
-applied-by v new session moment change reply n store o is cause by =
-    subst (λ (x : Option ℕ). IsAppliedBy x v new session moment change reply) (cause ∙ ap (λ (s : State). change_cause s session change 0) (sym is)) by
+-- the cause decides what is answered
+pub applied-by : (callbacks : Callbacks) (v new : View) (session moment : ℕ) (change : Change) (reply : ChangeReply) (n : ℕ) (store : Store) (o : Option ℕ) → state v ≡ at n store →
+    o ≡ change_cause (at n store) session change (change_status callbacks (world_of store) session moment change) →
+    IsAppliedBy o v new session moment change reply → IsApplied callbacks v new session moment change reply
+applied-by callbacks v new session moment change reply n store o is cause by =
+    subst (λ (x : Option ℕ). IsAppliedBy x v new session moment change reply)
+    (cause ∙ ap (λ (s : State). change_cause s session change (change_status callbacks s.world session moment change)) (sym is)) by

@@ -22,21 +22,20 @@ use Rattle.reg_tree.specs.declared.value.ValueFound.{ValueFound}
 use Rattle.reg_tree.specs.ValueAnswers.{IsFound}
 use Rattle.reg_calls.specs.declared.store.Store.{Store}
 use Rattle.reg_calls.specs.Internal.Stores.{at, IsTarget}
-use Rattle.reg_model.specs.Callbacks.{no_callbacks}
-use Rattle.reg_calls.specs.Views.{IsRead, IsTold, is_told}
+use Rattle.reg_calls.specs.Views.{IsReadBy, IsTold, is_told}
 use Rattle.reg_calls.proofs.HandleLookUps.{by_handle-at, target-at}
 use Rattle.reg_model.proofs.HandleInvariant.{has-put}
 use Rattle.reg_calls.proofs.RefusalTests.{Refuses, first}
 
 -- a refusal is told
-pub refused : (s : State) (session status : ℕ) (q : Query) → query_cause s session q 0 ≡ Some status → IsRead no_callbacks s session q (Refused status)
-refused s session status q e = rw e (inl refl)
+pub refused : (s : State) (session c status : ℕ) (q : Query) → query_cause s session q c ≡ Some status → IsReadBy c s session q (Refused status)
+refused s session c status q e = rw e (inl refl)
 
 -- the answer due is told, or 8 in its place
-pub told : (s : State) (session : ℕ) (q : Query) (due body : AnswerBody) → query_cause s session q 0 ≡ None → body_of s session q ≡ due → IsTold due body → IsRead no_callbacks s session q body
-told s session q due body none is t = rw (none, is) t
+pub told : (s : State) (session c : ℕ) (q : Query) (due body : AnswerBody) → query_cause s session q c ≡ None → body_of s session q ≡ due → IsTold due body → IsReadBy c s session q body
+told s session c q due body none is t = rw (none, is) t
 
-module _ (n : ℕ) (store : Store) (session h : ℕ) where
+module _ (n : ℕ) (store : Store) (session h c : ℕ) where
   abbrev s : State
   s = at n store
 
@@ -48,20 +47,20 @@ module _ (n : ℕ) (store : Store) (session h : ℕ) where
 
   -- ---- QueryValue
 
-  pub value-refused : (name : List ℕ) (room : Option ℕ) (status : ℕ) → Refuses store session h status → IsRead no_callbacks s session (QueryValue h name room) (Refused status)
+  pub value-refused : (name : List ℕ) (room : Option ℕ) (status : ℕ) → Refuses store session h status → IsReadBy c s session (QueryValue h name room) (Refused status)
   unfolding early_query_cause late_query_cause
   value-refused name room status r =
-      refused s session status (QueryValue h name room) (first _ _ _ status (r (λ x. refuse (not (is_value_name name)) 87 or refuse (not (has 1 x.mask)) 5)))
+      refused s session c status (QueryValue h name room) (first _ _ _ status (r (λ x. refuse (not (is_value_name name)) 87 or refuse (not (has 1 x.mask)) 5)))
 
   pub value-causes : (name : List ℕ) (room : Option ℕ) (mask : ℕ) (g : t) → mask ≡ g.handle.mask →
-      query_cause s session (QueryValue h name room) 0 ≡ (refuse (not (is_value_name name)) 87 or refuse (not (has 1 mask)) 5 or asked 0 or refuse
+      query_cause s session (QueryValue h name room) c ≡ (refuse (not (is_value_name name)) 87 or refuse (not (has 1 mask)) 5 or asked c or refuse
       (not (is_some (value_named name (values_at tree g.path)))) 2)
   unfolding early_query_cause late_query_cause
   value-causes name room mask g m =
-      ap (λ (a : Option ℕ). a or asked 0 or refuse (lacks_value s session h name) 2) (by_handle-at store session h g (λ x. refuse (not (is_value_name name)) 87 or refuse (not (has 1 x.mask)) 5))
-      ∙ (ap (λ (q : Path). refuse (not (is_value_name name)) 87 or refuse (not (has 1 g.handle.mask)) 5 or asked 0 or refuse
+      ap (λ (a : Option ℕ). a or asked c or refuse (lacks_value s session h name) 2) (by_handle-at store session h g (λ x. refuse (not (is_value_name name)) 87 or refuse (not (has 1 x.mask)) 5))
+      ∙ (ap (λ (q : Path). refuse (not (is_value_name name)) 87 or refuse (not (has 1 g.handle.mask)) 5 or asked c or refuse
       (not (is_some (value_named name (values_at tree q)))) 2) (target-at store session h g)
-      ∙ ap (λ (k : ℕ). refuse (not (is_value_name name)) 87 or refuse (not (has 1 k)) 5 or asked 0 or refuse (not (is_some (value_named name (values_at tree g.path)))) 2) (sym m))
+      ∙ ap (λ (k : ℕ). refuse (not (is_value_name name)) 87 or refuse (not (has 1 k)) 5 or asked c or refuse (not (is_some (value_named name (values_at tree g.path)))) 2) (sym m))
 
   pub value-due : (name : List ℕ) (room : Option ℕ) (g : t) → body_of s session (QueryValue h name room) ≡ value_told (value_named name (values_at tree g.path)) room
   unfolding body_of
@@ -69,18 +68,18 @@ module _ (n : ℕ) (store : Store) (session h : ℕ) where
 
   -- ---- EnumKey
 
-  pub key-refused : (index room status : ℕ) → Refuses store session h status → IsRead no_callbacks s session (EnumKey h index room) (Refused status)
+  pub key-refused : (index room status : ℕ) → Refuses store session h status → IsReadBy c s session (EnumKey h index room) (Refused status)
   unfolding early_query_cause late_query_cause
-  key-refused index room status r = refused s session status (EnumKey h index room) (first _ _ _ status (r (λ x. refuse (not (has 8 x.mask)) 5)))
+  key-refused index room status r = refused s session c status (EnumKey h index room) (first _ _ _ status (r (λ x. refuse (not (has 8 x.mask)) 5)))
 
   pub key-causes : (index room mask : ℕ) (g : t) → mask ≡ g.handle.mask →
-      query_cause s session (EnumKey h index room) 0 ≡ (refuse (not (has 8 mask)) 5 or asked 0 or refuse
+      query_cause s session (EnumKey h index room) c ≡ (refuse (not (has 8 mask)) 5 or asked c or refuse
       (nat_le (length (children_of tree g.path)) index) 259)
   unfolding early_query_cause late_query_cause
   key-causes index room mask g m =
-      ap (λ (a : Option ℕ). a or asked 0 or refuse (nat_le (length (subkeys_of s session h)) index) 259) (by_handle-at store session h g (λ x. refuse (not (has 8 x.mask)) 5))
-      ∙ (ap (λ (q : Path). refuse (not (has 8 g.handle.mask)) 5 or asked 0 or refuse (nat_le (length (children_of tree q)) index) 259) (target-at store session h g)
-      ∙ ap (λ (k : ℕ). refuse (not (has 8 k)) 5 or asked 0 or refuse (nat_le (length (children_of tree g.path)) index) 259) (sym m))
+      ap (λ (a : Option ℕ). a or asked c or refuse (nat_le (length (subkeys_of s session h)) index) 259) (by_handle-at store session h g (λ x. refuse (not (has 8 x.mask)) 5))
+      ∙ (ap (λ (q : Path). refuse (not (has 8 g.handle.mask)) 5 or asked c or refuse (nat_le (length (children_of tree q)) index) 259) (target-at store session h g)
+      ∙ ap (λ (k : ℕ). refuse (not (has 8 k)) 5 or asked c or refuse (nat_le (length (children_of tree g.path)) index) 259) (sym m))
 
   pub key-due : (index room : ℕ) (g : t) → body_of s session (EnumKey h index room) ≡ key_told (get tree (get_or (children_of tree g.path) index [])) room
   unfolding body_of
@@ -88,57 +87,57 @@ module _ (n : ℕ) (store : Store) (session h : ℕ) where
 
   -- ---- EnumValue
 
-  pub member-refused : (index name_room : ℕ) (room : Option ℕ) (status : ℕ) → Refuses store session h status → IsRead no_callbacks s session (EnumValue h index name_room room) (Refused status)
+  pub member-refused : (index name_room : ℕ) (room : Option ℕ) (status : ℕ) → Refuses store session h status → IsReadBy c s session (EnumValue h index name_room room) (Refused status)
   unfolding early_query_cause late_query_cause
-  member-refused index name_room room status r = refused s session status (EnumValue h index name_room room) (first _ _ _ status (r (λ x. refuse (not (has 1 x.mask)) 5)))
+  member-refused index name_room room status r = refused s session c status (EnumValue h index name_room room) (first _ _ _ status (r (λ x. refuse (not (has 1 x.mask)) 5)))
 
   pub member-causes : (index name_room : ℕ) (room : Option ℕ) (mask : ℕ) (g : t) → mask ≡ g.handle.mask →
-      query_cause s session (EnumValue h index name_room room) 0 ≡ (refuse (not (has 1 mask)) 5 or asked 0 or refuse
+      query_cause s session (EnumValue h index name_room room) c ≡ (refuse (not (has 1 mask)) 5 or asked c or refuse
       (nat_le (length (values_at tree g.path)) index) 259)
   unfolding early_query_cause late_query_cause
   member-causes index name_room room mask g m =
-      ap (λ (a : Option ℕ). a or asked 0 or refuse (nat_le (length (members_of s session h)) index) 259) (by_handle-at store session h g (λ x. refuse (not (has 1 x.mask)) 5))
-      ∙ (ap (λ (q : Path). refuse (not (has 1 g.handle.mask)) 5 or asked 0 or refuse (nat_le (length (values_at tree q)) index) 259) (target-at store session h g)
-      ∙ ap (λ (k : ℕ). refuse (not (has 1 k)) 5 or asked 0 or refuse (nat_le (length (values_at tree g.path)) index) 259) (sym m))
+      ap (λ (a : Option ℕ). a or asked c or refuse (nat_le (length (members_of s session h)) index) 259) (by_handle-at store session h g (λ x. refuse (not (has 1 x.mask)) 5))
+      ∙ (ap (λ (q : Path). refuse (not (has 1 g.handle.mask)) 5 or asked c or refuse (nat_le (length (values_at tree q)) index) 259) (target-at store session h g)
+      ∙ ap (λ (k : ℕ). refuse (not (has 1 k)) 5 or asked c or refuse (nat_le (length (values_at tree g.path)) index) 259) (sym m))
 
   member-due : (index name_room : ℕ) (room : Option ℕ) (g : t) → body_of s session (EnumValue h index name_room room) ≡ member_told (slice_get (values_at tree g.path) index) name_room room
   unfolding body_of
   member-due index name_room room g = ap (λ (q : Path). member_told (slice_get (values_at tree q) index) name_room room) (target-at store session h g)
 
   -- an index past the last is told 259, and any other the member
-  pub member-read : (index name_room : ℕ) (room : Option ℕ) (mask : ℕ) (g : t) (body : AnswerBody) → mask ≡ g.handle.mask → has 1 mask ≡ true →
-      IsTold (member_told (slice_get (values_at tree g.path) index) name_room room) body → IsRead no_callbacks s session (EnumValue h index name_room room) body
-  member-read index name_room room mask g body m right is =
+  pub member-read : (index name_room : ℕ) (room : Option ℕ) (mask : ℕ) (g : t) (body : AnswerBody) → mask ≡ g.handle.mask → has 1 mask ≡ true → asked c ≡ None →
+      IsTold (member_told (slice_get (values_at tree g.path) index) name_room room) body → IsReadBy c s session (EnumValue h index name_room room) body
+  member-read index name_room room mask g body m right asks is =
       let chain = member-causes index name_room room mask g m in
       let due = member-due index name_room room g in
       let cases = slice_get_cases (values_at tree g.path) index in
       by chain due cases.1
     where
-      by : query_cause s session (EnumValue h index name_room room) 0 ≡ (refuse (not (has 1 mask)) 5 or asked 0 or refuse
+      by : query_cause s session (EnumValue h index name_room room) c ≡ (refuse (not (has 1 mask)) 5 or asked c or refuse
           (nat_le (length (values_at tree g.path)) index) 259) →
           body_of s session (EnumValue h index name_room room) ≡ member_told (slice_get (values_at tree g.path) index) name_room room
           → (((x : Member) × (index < length (values_at tree g.path)) × (slice_get (values_at tree g.path) index ≡ Some x) ×
           (get_or (values_at tree g.path) index x ≡ x)) ⊎ ((length (values_at tree g.path) ≤ index) ×
-          (slice_get (values_at tree g.path) index ≡ None))) → IsRead no_callbacks s session (EnumValue h index name_room room) body
+          (slice_get (values_at tree g.path) index ≡ None))) → IsReadBy c s session (EnumValue h index name_room room) body
       by chain due (inl x) =
           let below : nat_le (length (values_at tree g.path)) index ≡ false = let l = x.1 in grind (arith, nat_tests, l) in
-          told s session (EnumValue h index name_room room) _ body (chain ∙ rw (right, below) refl) due is
+          told s session c (EnumValue h index name_room room) _ body (chain ∙ rw (right, asks, below) refl) due is
       by chain due (inr x) =
           let past : nat_le (length (values_at tree g.path)) index ≡ true = let l = x.0 in grind (arith, nat_tests, l) in
-          let none : query_cause s session (EnumValue h index name_room room) 0 ≡ Some 259 = chain ∙ rw (right, past) refl in
+          let none : query_cause s session (EnumValue h index name_room room) c ≡ Some 259 = chain ∙ rw (right, asks, past) refl in
           subst (λ (o : Option ℕ). IsTold (is_told o (body_of s session (EnumValue h index name_room room))) body) (sym none)
           (subst (λ (o : Option Member). IsTold (member_told o name_room room) body) x.1 is)
 
   -- ---- QueryInfo
 
-  pub info-refused : (status : ℕ) → Refuses store session h status → IsRead no_callbacks s session (QueryInfo h) (Refused status)
+  pub info-refused : (status : ℕ) → Refuses store session h status → IsReadBy c s session (QueryInfo h) (Refused status)
   unfolding early_query_cause late_query_cause
-  info-refused status r = refused s session status (QueryInfo h) (first _ _ _ status (r (λ x. refuse (not (has 1 x.mask)) 5)))
+  info-refused status r = refused s session c status (QueryInfo h) (first _ _ _ status (r (λ x. refuse (not (has 1 x.mask)) 5)))
 
-  pub info-causes : (mask : ℕ) (g : t) → mask ≡ g.handle.mask → query_cause s session (QueryInfo h) 0 ≡ (refuse (not (has 1 mask)) 5 or asked 0 or None)
+  pub info-causes : (mask : ℕ) (g : t) → mask ≡ g.handle.mask → query_cause s session (QueryInfo h) c ≡ (refuse (not (has 1 mask)) 5 or asked c or None)
   unfolding early_query_cause late_query_cause
   info-causes mask g m =
-      ap (λ (a : Option ℕ). a or asked 0 or None) (by_handle-at store session h g (λ x. refuse (not (has 1 x.mask)) 5)) ∙ ap (λ (k : ℕ). refuse (not (has 1 k)) 5 or asked 0 or None) (sym m)
+      ap (λ (a : Option ℕ). a or asked c or None) (by_handle-at store session h g (λ x. refuse (not (has 1 x.mask)) 5)) ∙ ap (λ (k : ℕ). refuse (not (has 1 k)) 5 or asked c or None) (sym m)
 
   pub info-due : (g : t) → body_of s session (QueryInfo h) ≡ info_told tree g.path
   unfolding body_of
@@ -146,16 +145,16 @@ module _ (n : ℕ) (store : Store) (session h : ℕ) where
 
   -- ---- GetSecurity
 
-  pub security-refused : (room status : ℕ) → Refuses store session h status → IsRead no_callbacks s session (GetSecurity h room) (Refused status)
+  pub security-refused : (room status : ℕ) → Refuses store session h status → IsReadBy c s session (GetSecurity h room) (Refused status)
   unfolding early_query_cause late_query_cause
-  security-refused room status r = refused s session status (GetSecurity h room) (first _ _ _ status (r (λ x. refuse (not (has READ_CONTROL x.mask)) 5)))
+  security-refused room status r = refused s session c status (GetSecurity h room) (first _ _ _ status (r (λ x. refuse (not (has READ_CONTROL x.mask)) 5)))
 
   pub security-causes : (room mask : ℕ) (g : t) → mask ≡ g.handle.mask →
-      query_cause s session (GetSecurity h room) 0 ≡ (refuse (not (has READ_CONTROL mask)) 5 or asked 0 or None)
+      query_cause s session (GetSecurity h room) c ≡ (refuse (not (has READ_CONTROL mask)) 5 or asked c or None)
   unfolding early_query_cause late_query_cause
   security-causes room mask g m =
-      ap (λ (a : Option ℕ). a or asked 0 or None) (by_handle-at store session h g (λ x. refuse (not (has READ_CONTROL x.mask)) 5))
-      ∙ ap (λ (k : ℕ). refuse (not (has READ_CONTROL k)) 5 or asked 0 or None) (sym m)
+      ap (λ (a : Option ℕ). a or asked c or None) (by_handle-at store session h g (λ x. refuse (not (has READ_CONTROL x.mask)) 5))
+      ∙ ap (λ (k : ℕ). refuse (not (has READ_CONTROL k)) 5 or asked c or None) (sym m)
 
   pub security-due : (room : ℕ) (g : t) → body_of s session (GetSecurity h room) ≡ security_told (descriptor_of (get tree g.path)) room
   unfolding body_of

@@ -139,10 +139,13 @@ is_told None body = body
 abbrev pub IsTold : AnswerBody → AnswerBody → Type 0
 IsTold due body = (body ≡ due) ⊎ ((body ≡ Refused NOT_ENOUGH_MEMORY) × HoldsBytes due)
 
--- what a question may be answered, where these callbacks are asked: the refusal, or the answer due, or 8 in its place
+-- what a question may be answered, where the callbacks' status is c: the refusal, or the answer due, or 8 in its place
+abbrev pub IsReadBy : ℕ → State → ℕ → Query → AnswerBody → Type 0
+IsReadBy c s session query body = IsTold (is_told (query_cause s session query c) (body_of s session query)) body
+
+-- the same where these callbacks are asked
 abbrev pub IsRead : Callbacks → State → ℕ → Query → AnswerBody → Type 0
-IsRead callbacks s session query body =
-    IsTold (is_told (query_cause s session query (query_status callbacks s.world session query)) (body_of s session query)) body
+IsRead callbacks s session query body = IsReadBy (query_status callbacks s.world session query) s session query body
 
 -- a session was handed the next notice of all that the journal tells it, or none where it took them all; one more is then counted as
 -- taken, and nothing else changed

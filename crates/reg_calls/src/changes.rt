@@ -1,10 +1,14 @@
 //! Changes, admitted and then carried out, each by the file that has its name.
 ghost use Rattle.std.specs.Prelude.{◌≡◌, ◌<◌, option_copied};
 ghost use Rattle.reg_model.specs.declared.limits.TheConstants.{SESSIONS_LIMIT};
+ghost use Rattle.reg_model.specs.Callbacks.{change_status};
 ghost use Rattle.reg_model.specs.declared.call.Change.{Change as TheChange};
-ghost use Rattle.reg_calls.specs.Internal.Stores.{IsReady, IsMade};
+ghost use Rattle.reg_callbacks.specs.Asking.{asks};
+ghost use Rattle.reg_callbacks.specs.Lists.{answers_of};
+ghost use Rattle.reg_calls.specs.Internal.Stores.{world_of, IsReady, IsMade};
 ghost use Rattle.reg_calls.specs.Internal.Admissions.{Admits, IsAdmission};
 
+use crate::asking::Asking;
 use crate::close::Close;
 use crate::create_key::CreateKey;
 use crate::delete_key::DeleteKey;
@@ -18,6 +22,7 @@ use crate::refusal::Refusal;
 use crate::set_security::SetSecurity;
 use crate::set_value::SetValue;
 use crate::store::Store;
+use reg_callbacks::{Callback, Callbacks, Seen};
 use reg_model::{Bytes, Change, ChangeReply};
 use std::alloc::Global;
 
@@ -48,21 +53,30 @@ fn slice_given(descriptor: &Option<Bytes>) -> Option<&[u8]>
 
 impl Store {
     /// Admits a change, when the journal has so many entries: what its commit takes, or why it is refused, by the first cause in
-    /// the order of the rules. Where nothing refuses it, memory may yet be wanting for its path's text.
-    pub fn admit<'a>(
+    /// the order of the rules, in which the callbacks are asked. Where nothing refuses it, memory may yet be wanting for its path's text.
+    pub fn admit<'a, C: Callback>(
         &self,
+        callbacks: &Callbacks<C>,
         alloc: Global,
         entries: usize,
         session: u8,
+        moment: u64,
         change: &'a Change,
     ) -> Result<Admitted<'a>, Refusal>
         requires session { session < SESSIONS_LIMIT }
         requires ready { IsReady entries self.now }
-        ensures { IsAdmission entries self.now session change.now result }
+        ensures { IsAdmission (change_status (asks (answers_of C.answers callbacks.now)) (world_of self.now) session moment change.now)
+            entries self.now session change.now result }
     {
+        let asking = Asking {
+            callbacks,
+            session,
+            moment,
+            seen: Seen::Change(change),
+        };
         match change {
             Change::OpenRoot { mask } => {
-                match OpenRoot::admit(self, entries, session, *mask) {
+                match OpenRoot::admit(self, &asking, entries, session, *mask) {
                     Ok(found) => Ok(Admitted::OpenRoot(found)),
                     Err(status) => Err(Refusal::Cause(status)),
                 }
@@ -70,6 +84,7 @@ impl Store {
             Change::OpenKey { handle, path, mask } => {
                 match OpenKey::admit(
                     self,
+                    &asking,
                     alloc,
                     entries,
                     session,
@@ -89,6 +104,7 @@ impl Store {
             } => {
                 match CreateKey::admit(
                     self,
+                    &asking,
                     alloc,
                     entries,
                     session,
@@ -109,6 +125,7 @@ impl Store {
             } => {
                 match SetValue::admit(
                     self,
+                    &asking,
                     entries,
                     session,
                     *handle,
@@ -121,25 +138,55 @@ impl Store {
                 }
             }
             Change::DeleteValue { handle, name } => {
-                match DeleteValue::admit(self, entries, session, *handle, name.as_slice()) {
+                match DeleteValue::admit(
+                    self,
+                    &asking,
+                    entries,
+                    session,
+                    *handle,
+                    name.as_slice(),
+                ) {
                     Ok(found) => Ok(Admitted::DeleteValue(found)),
                     Err(status) => Err(Refusal::Cause(status)),
                 }
             }
             Change::DeleteKey { handle, path } => {
-                match DeleteKey::admit(self, alloc, entries, session, *handle, path.as_slice()) {
+                match DeleteKey::admit(
+                    self,
+                    &asking,
+                    alloc,
+                    entries,
+                    session,
+                    *handle,
+                    path.as_slice(),
+                ) {
                     Ok(found) => Ok(Admitted::DeleteKey(found)),
                     Err(refusal) => Err(refusal),
                 }
             }
             Change::DeleteTree { handle, path } => {
-                match DeleteTree::admit(self, alloc, entries, session, *handle, path.as_slice()) {
+                match DeleteTree::admit(
+                    self,
+                    &asking,
+                    alloc,
+                    entries,
+                    session,
+                    *handle,
+                    path.as_slice(),
+                ) {
                     Ok(found) => Ok(Admitted::DeleteTree(found)),
                     Err(refusal) => Err(refusal),
                 }
             }
             Change::SetSecurity { handle, descriptor } => {
-                match SetSecurity::admit(self, entries, session, *handle, descriptor.as_slice()) {
+                match SetSecurity::admit(
+                    self,
+                    &asking,
+                    entries,
+                    session,
+                    *handle,
+                    descriptor.as_slice(),
+                ) {
                     Ok(found) => Ok(Admitted::SetSecurity(found)),
                     Err(status) => Err(Refusal::Cause(status)),
                 }
@@ -149,7 +196,7 @@ impl Store {
                 filter,
                 subtree,
             } => {
-                match Notify::admit(self, entries, session, *handle, *filter, *subtree) {
+                match Notify::admit(self, &asking, entries, session, *handle, *filter, *subtree) {
                     Ok(found) => Ok(Admitted::Notify(found)),
                     Err(status) => Err(Refusal::Cause(status)),
                 }

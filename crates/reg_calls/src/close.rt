@@ -23,7 +23,7 @@ impl Close {
 
     /// Finds the handle. Refused by 6 where the session has none of that number. Callbacks are never asked.
     pub fn admit(store: &Store, session: u8, handle: u64) -> Result<Close, u32>
-        ensures refused { IfErr result (λ status. (entries : ℕ) → change_cause (at entries store.now) session (Closed handle) 0 ≡ Some status) }
+        ensures refused { IfErr result (λ status. (entries c : ℕ) → change_cause (at entries store.now) session (Closed handle) c ≡ Some status) }
         ensures clear { IfOk result (λ found. (entries : ℕ) → IsClear entries store.now session (Closed handle)) }
         ensures handle { IfOk result (λ found. found.handle ≡ handle) }
     {

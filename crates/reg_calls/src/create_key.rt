@@ -1,19 +1,22 @@
 //! CreateKey: a handle to a key, which is made where it isn't there, with those above it.
 //!
 //! Win32 registry reference, `RegCreateKeyEx`.
-ghost use Rattle.std.specs.Prelude.{ℕ, List, ◌≡◌, ◌<◌, ◌||◌, option_copied, IfErr, IfOk};
+ghost use Rattle.std.specs.Prelude.{ℕ, List, ◌≡◌, ◌<◌, ◌||◌, option_copied, IfErr, IfOk, None, OnOk};
 ghost use Rattle.reg_model.specs.declared.limits.TheConstants.{SESSIONS_LIMIT};
-ghost use Rattle.reg_model.specs.Causes.{is_bad_open as is_bad_open_of, is_bad_given as is_bad_given_of};
+ghost use Rattle.reg_model.specs.Causes.{is_bad_open as is_bad_open_of, is_bad_given as is_bad_given_of, asked};
+ghost use Rattle.reg_calls.specs.Internal.Askings.{status_by};
 ghost use Rattle.reg_calls.specs.Internal.Stores.{IsReady, IsMade};
 ghost use Rattle.reg_calls.specs.Internal.Admissions.{AdmitsCreateKey, IsNotAdmitted};
 ghost use Rattle.reg_calls.specs.Internal.Announcements.{IsAnnounced};
 
 use crate::announced::{Announced, one_event};
+use crate::asking::Asking;
 use crate::fronts::without_names;
 use crate::lack::Lack;
 use crate::refusal::Refusal;
 use crate::replies::opened;
 use crate::store::{Store, is_bad_descriptor, is_bad_open, path_below};
+use reg_callbacks::Callback;
 use reg_model::ChangeReply;
 use reg_model::filters::NAME;
 use reg_model::statuses::NO_SYSTEM_RESOURCES;
@@ -61,9 +64,10 @@ impl<'a> CreateKey<'a> {
 
     /// Finds how far the path leads. Refused by 6 and 1018 for the handle, 87 for the path, the mask or a descriptor that isn't of
     /// 1 to 65,535 bytes, also where no key is missing, 1450 where the session has 16,384 handles, the journal is full, or the missing
-    /// keys would be too many; or for want of memory.
-    pub fn admit(
+    /// keys would be too many; by a callback; or for want of memory.
+    pub fn admit<C: Callback>(
         store: &Store,
+        asking: &Asking<'_, C>,
         alloc: Global,
         entries: usize,
         session: u8,
@@ -75,8 +79,10 @@ impl<'a> CreateKey<'a> {
         requires session { session < SESSIONS_LIMIT }
         requires ready { IsReady entries store.now }
         ensures refused { IfErr result (λ refusal.
-            IsNotAdmitted entries store.now session (KeyCreated handle path.now mask (option_copied descriptor.entry)) refusal) }
+            IsNotAdmitted (status_by C.answers asking.now store.now session handle) entries store.now session
+            (KeyCreated handle path.now mask (option_copied descriptor.entry)) refusal) }
         ensures admitted { IfOk result (λ found. AdmitsCreateKey entries store.now session handle path.now found) }
+        ensures asked { OnOk result (asked (status_by C.answers asking.now store.now session handle) ≡ None) }
         ensures mask { IfOk result (λ found. found.mask ≡ mask) }
         ensures descriptor { IfOk result (λ found. option_copied found.descriptor ≡ option_copied descriptor.entry) }
     {
@@ -89,8 +95,10 @@ impl<'a> CreateKey<'a> {
         if store.tree.is_limited(reached) {
             return Err(Refusal::Cause(NO_SYSTEM_RESOURCES));
         }
-        // Callbacks will be asked here: the path is that of the handle's key.
-        //
+        match asking.ask(key.path) {
+            Ok(()) => {}
+            Err(status) => return Err(Refusal::Cause(status)),
+        }
         // Only for its clause `shallow`: no key is deeper than 512 names, so that the path's text is one that the table takes.
         let _ = store.tree.root();
         match path_below(alloc, key.path, path) {

@@ -1,20 +1,23 @@
 //! DeleteKey: a key without subkeys deleted.
 //!
 //! Win32 registry reference, `RegDeleteKey`.
-ghost use Rattle.std.specs.Prelude.{ℕ, List, ◌≡◌, Ok, IfErr, IfOk};
+ghost use Rattle.std.specs.Prelude.{ℕ, List, ◌≡◌, Ok, IfErr, IfOk, None, OnOk};
 ghost use Rattle.reg_heap.specs.Paths.{Path};
 ghost use Rattle.reg_heap.specs.Edits.{may_not_go as may_not_go_of};
-ghost use Rattle.reg_model.specs.Causes.{is_bad_target as is_bad_target_of};
+ghost use Rattle.reg_model.specs.Causes.{is_bad_target as is_bad_target_of, asked};
 ghost use Rattle.reg_tree.specs.TreeKeys.{IsAt, IsThere};
+ghost use Rattle.reg_calls.specs.Internal.Askings.{status_by};
 ghost use Rattle.reg_calls.specs.Internal.Stores.{IsReady, IsMade};
 ghost use Rattle.reg_calls.specs.Internal.Admissions.{AdmitsDeleteKey, IsNotAdmitted};
 ghost use Rattle.reg_calls.specs.Internal.Announcements.{IsAnnounced};
 
 use crate::announced::{Announced, one_event};
+use crate::asking::Asking;
 use crate::fronts::without_last;
 use crate::refusal::Refusal;
 use crate::replies::accepted;
 use crate::store::{Store, path_below};
+use reg_callbacks::Callback;
 use reg_heap::marks::NO_DELETE;
 use reg_model::ChangeReply;
 use reg_model::filters::NAME;
@@ -52,10 +55,11 @@ fn may_not_go(tree: &Tree, node: Node) -> bool
 impl<'a> DeleteKey<'a> {
     ghost use Rattle.reg_model.specs.declared.call.Change.TheVariants.{DeleteKey as KeyDeleted};
 
-    /// Finds the key. Refused by 6 and 1018 for the handle, 87 for the path or an empty one, 1450 where the journal is full, 2 where
-    /// there is no such key, and 5 where it has subkeys or mark 0x08; or for want of memory.
-    pub fn admit(
+    /// Finds the key. Refused by 6 and 1018 for the handle, 87 for the path or an empty one, 1450 where the journal is full, by a
+    /// callback, 2 where there is no such key, and 5 where it has subkeys or mark 0x08; or for want of memory.
+    pub fn admit<C: Callback>(
         store: &Store,
+        asking: &Asking<'_, C>,
         alloc: Global,
         entries: usize,
         session: u8,
@@ -63,8 +67,9 @@ impl<'a> DeleteKey<'a> {
         path: &'a [u8],
     ) -> Result<DeleteKey<'a>, Refusal>
         requires { IsReady entries store.now }
-        ensures refused { IfErr result (λ refusal. IsNotAdmitted entries store.now session (KeyDeleted handle path.now) refusal) }
+        ensures refused { IfErr result (λ refusal. IsNotAdmitted (status_by C.answers asking.now store.now session handle) entries store.now session (KeyDeleted handle path.now) refusal) }
         ensures admitted { IfOk result (λ found. AdmitsDeleteKey entries store.now session handle path.now found) }
+        ensures asked { OnOk result (asked (status_by C.answers asking.now store.now session handle) ≡ None) }
     {
         let key = match store.key_of(session, handle) {
             Ok(key) => key,
@@ -76,7 +81,10 @@ impl<'a> DeleteKey<'a> {
         if store.is_full(entries) {
             return Err(Refusal::Cause(NO_SYSTEM_RESOURCES));
         }
-        // Callbacks will be asked here: the path is that of the handle's key.
+        match asking.ask(key.path) {
+            Ok(()) => {}
+            Err(status) => return Err(Refusal::Cause(status)),
+        }
         let reached = store.tree.reach(key.node, path);
         if !reached.missing.is_empty() {
             return Err(Refusal::Cause(FILE_NOT_FOUND));

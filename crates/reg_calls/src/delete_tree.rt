@@ -1,26 +1,30 @@
 //! DeleteTree: a key deleted with all keys below it, or with the empty path all that a key holds.
 //!
 //! Win32 registry reference, `RegDeleteTree`.
-ghost use Rattle.std.specs.Prelude.{ℕ, List, ◌≡◌, ◌<◌, ◌≤◌, ◌++◌, ◌∷◌, [], true, Ok, Some, None, IfErr, IfOk, OnOk, length, map, vec_len, vec_capacity, if◌then◌else◌};
+ghost use Rattle.std.specs.Prelude.{ℕ, List, ◌≡◌, ◌<◌, ◌≤◌, ◌++◌, ◌∷◌, [], true, length, map};
+ghost use Rattle.std.specs.Prelude.{Ok, Some, None, IfErr, IfOk, OnOk, vec_len, vec_capacity, if◌then◌else◌};
 ghost use Rattle.reg_names.specs.declared.TheConstants.{PATH_LIMIT};
 ghost use Rattle.reg_names.specs.Names.{is_path, path_of, folded};
 ghost use Rattle.reg_heap.specs.Paths.{Path};
 ghost use Rattle.reg_heap.specs.Edits.{folded_path, is_under};
-ghost use Rattle.reg_model.specs.Causes.{tree_rights};
+ghost use Rattle.reg_model.specs.Causes.{tree_rights, asked};
 ghost use Rattle.reg_model.specs.Watches.{event_at, few_removals, cleared};
 ghost use Rattle.reg_tree.specs.TreeKeys.{IsAt, IsThere};
 ghost use Rattle.reg_handles.specs.HandleTables.{IsFoldedPath};
 ghost use Rattle.reg_notify.specs.Asked.{events_in};
+ghost use Rattle.reg_calls.specs.Internal.Askings.{status_by};
 ghost use Rattle.reg_calls.specs.Internal.Stores.{IsReady, IsMade};
 ghost use Rattle.reg_calls.specs.Internal.Admissions.{AdmitsDeleteTree, IsNotAdmitted};
 ghost use Rattle.reg_calls.specs.Internal.Announcements.{ending_in, HasKinds, IsAnnounced};
 ghost use Rattle.reg_calls.specs.Internal.DeletedTrees.{keeps_tree, IsTreeFound};
 
 use crate::announced::{Announced, one_event};
+use crate::asking::Asking;
 use crate::fronts::without_last;
 use crate::refusal::Refusal;
 use crate::replies::accepted;
 use crate::store::{Store, path_below};
+use reg_callbacks::Callback;
 use reg_model::ChangeReply;
 use reg_model::filters::{LAST_SET, NAME};
 use reg_model::rights::{DELETE_CONTENTS, DELETE_TREE};
@@ -147,10 +151,11 @@ fn announce_contents(
 impl<'a> DeleteTree<'a> {
     ghost use Rattle.reg_model.specs.declared.call.Change.TheVariants.{DeleteTree as TreeDeleted};
 
-    /// Finds what goes. Refused by 6 and 1018 for the handle, 87 for the path, 5 without the rights, 1450 where the journal is full, 2
-    /// where the path isn't empty and there is no such key, and 5 where a key that would go has mark 0x08; or for want of memory.
-    pub fn admit(
+    /// Finds what goes. Refused by 6 and 1018 for the handle, 87 for the path, 5 without the rights, 1450 where the journal is full, by
+    /// a callback, 2 where the path isn't empty and there is no such key, and 5 where a key that would go has mark 0x08; or for want of memory.
+    pub fn admit<C: Callback>(
         store: &Store,
+        asking: &Asking<'_, C>,
         alloc: Global,
         entries: usize,
         session: u8,
@@ -158,8 +163,9 @@ impl<'a> DeleteTree<'a> {
         path: &'a [u8],
     ) -> Result<DeleteTree<'a>, Refusal>
         requires { IsReady entries store.now }
-        ensures refused { IfErr result (λ refusal. IsNotAdmitted entries store.now session (TreeDeleted handle path.now) refusal) }
+        ensures refused { IfErr result (λ refusal. IsNotAdmitted (status_by C.answers asking.now store.now session handle) entries store.now session (TreeDeleted handle path.now) refusal) }
         ensures admitted { IfOk result (λ found. AdmitsDeleteTree entries store.now session handle path.now found) }
+        ensures asked { OnOk result (asked (status_by C.answers asking.now store.now session handle) ≡ None) }
     {
         let key = match store.key_of(session, handle) {
             Ok(key) => key,
@@ -175,7 +181,10 @@ impl<'a> DeleteTree<'a> {
         if store.is_full(entries) {
             return Err(Refusal::Cause(NO_SYSTEM_RESOURCES));
         }
-        // Callbacks will be asked here: the path is that of the handle's key.
+        match asking.ask(key.path) {
+            Ok(()) => {}
+            Err(status) => return Err(Refusal::Cause(status)),
+        }
         let target = match find(&store.tree, key.node, path) {
             Ok(target) => target,
             Err(status) => return Err(Refusal::Cause(status)),

@@ -1,15 +1,18 @@
 //! DeleteValue: a value of a key removed.
 //!
 //! Win32 registry reference, `RegDeleteValue`.
-ghost use Rattle.std.specs.Prelude.{ℕ, List, ◌≡◌, Some, Ok, IfErr, IfOk};
-ghost use Rattle.reg_model.specs.Causes.{change_cause};
+ghost use Rattle.std.specs.Prelude.{ℕ, List, ◌≡◌, Some, Ok, IfErr, IfOk, None, OnOk};
+ghost use Rattle.reg_model.specs.Causes.{change_cause, asked};
+ghost use Rattle.reg_calls.specs.Internal.Askings.{status_by};
 ghost use Rattle.reg_calls.specs.Internal.Stores.{at, IsReady, IsMade};
 ghost use Rattle.reg_calls.specs.Internal.Admissions.{AdmitsDeleteValue};
 ghost use Rattle.reg_calls.specs.Internal.Announcements.{IsAnnounced};
 
 use crate::announced::Announced;
+use crate::asking::Asking;
 use crate::replies::accepted;
 use crate::store::Store;
+use reg_callbacks::Callback;
 use reg_model::ChangeReply;
 use reg_model::filters::LAST_SET;
 use reg_model::rights::SET_VALUE;
@@ -33,17 +36,20 @@ impl DeleteValue {
     ghost use Rattle.reg_model.specs.declared.call.Change.TheVariants.{DeleteValue as ValueDeleted};
 
     /// Finds the value. Refused by 6 and 1018 for the handle, 87 for the name, 5 without the right, 1450 where the journal is full,
-    /// and 2 where there is no such value.
-    pub fn admit(
+    /// by a callback, and 2 where there is no such value.
+    pub fn admit<C: Callback>(
         store: &Store,
+        asking: &Asking<'_, C>,
         entries: usize,
         session: u8,
         handle: u64,
         name: &[u8],
     ) -> Result<DeleteValue, u32>
         requires { IsReady entries store.now }
-        ensures refused { IfErr result (λ status. change_cause (at entries store.now) session (ValueDeleted handle name.now) 0 ≡ Some status) }
+        ensures refused { IfErr result (λ status.
+            change_cause (at entries store.now) session (ValueDeleted handle name.now) (status_by C.answers asking.now store.now session handle) ≡ Some status) }
         ensures admitted { IfOk result (λ found. AdmitsDeleteValue entries store.now session handle name.now found) }
+        ensures asked { OnOk result (asked (status_by C.answers asking.now store.now session handle) ≡ None) }
     {
         let key = match store.key_of(session, handle) {
             Ok(key) => key,
@@ -58,7 +64,10 @@ impl DeleteValue {
         if store.is_full(entries) {
             return Err(NO_SYSTEM_RESOURCES);
         }
-        // Callbacks will be asked here: the path is that of the handle's key.
+        match asking.ask(key.path) {
+            Ok(()) => {}
+            Err(refused) => return Err(refused),
+        }
         match store.tree.value_index(key.node, name) {
             Some(index) => Ok(DeleteValue {
                 handle,

@@ -8,10 +8,12 @@ ghost use Rattle.reg_model.specs.Replies.{key_told as key_told_of};
 ghost use Rattle.reg_model.specs.declared.call.Query.TheVariants.{EnumKey};
 ghost use Rattle.reg_tree.specs.TreeKeys.{IsAt, IsThere};
 ghost use Rattle.reg_calls.specs.Internal.Stores.{at, KnowsKeys};
-ghost use Rattle.reg_model.specs.Callbacks.{no_callbacks};
-ghost use Rattle.reg_calls.specs.Views.{IsRead, IsTold};
+ghost use Rattle.reg_calls.specs.Internal.Askings.{status_by};
+ghost use Rattle.reg_calls.specs.Views.{IsReadBy, IsTold};
 
+use crate::asking::Asking;
 use crate::store::Store;
+use reg_callbacks::Callback;
 use reg_model::rights::ENUMERATE_SUB_KEYS;
 use reg_model::statuses::{ACCESS_DENIED, MORE_DATA, NO_MORE_ITEMS, NOT_ENOUGH_MEMORY};
 use reg_model::{AnswerBody, Bytes};
@@ -44,8 +46,9 @@ fn key_told(alloc: Global, tree: &Tree, node: Node, room: u32) -> AnswerBody
 }
 
 /// The answer to an EnumKey: the subkey's name and last write time, or that the room is short; or a refusal.
-pub fn answer(
+pub fn answer<C: Callback>(
     store: &Store,
+    asking: &Asking<'_, C>,
     alloc: Global,
     session: u8,
     handle: u64,
@@ -53,7 +56,7 @@ pub fn answer(
     room: u32,
 ) -> AnswerBody
     requires { KnowsKeys store.now }
-    ensures { (n : ℕ) → IsRead no_callbacks (at n store.now) session (EnumKey handle index room) result }
+    ensures { (n : ℕ) → IsReadBy (status_by C.answers asking.now store.now session handle) (at n store.now) session (EnumKey handle index room) result }
 {
     let key = match store.key_of(session, handle) {
         Ok(key) => key,
@@ -63,6 +66,10 @@ pub fn answer(
         return AnswerBody::Refused {
             status: ACCESS_DENIED,
         };
+    }
+    match asking.ask(key.path) {
+        Ok(()) => {}
+        Err(status) => return AnswerBody::Refused { status },
     }
     match store.tree.subkey(key.node, index) {
         Some(child) => key_told(alloc, &store.tree, child, room),

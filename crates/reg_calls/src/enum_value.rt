@@ -8,10 +8,12 @@ ghost use Rattle.reg_model.specs.Replies.{member_told as member_told_of};
 ghost use Rattle.reg_model.specs.declared.call.Query.TheVariants.{EnumValue};
 ghost use Rattle.reg_tree.specs.TreeKeys.{IsAt, IsThere};
 ghost use Rattle.reg_calls.specs.Internal.Stores.{at, KnowsKeys};
-ghost use Rattle.reg_model.specs.Callbacks.{no_callbacks};
-ghost use Rattle.reg_calls.specs.Views.{IsRead, IsTold};
+ghost use Rattle.reg_calls.specs.Internal.Askings.{status_by};
+ghost use Rattle.reg_calls.specs.Views.{IsReadBy, IsTold};
 
+use crate::asking::Asking;
 use crate::store::Store;
+use reg_callbacks::Callback;
 use reg_model::rights::QUERY_VALUE;
 use reg_model::statuses::{ACCESS_DENIED, MORE_DATA, NO_MORE_ITEMS, NOT_ENOUGH_MEMORY};
 use reg_model::{AnswerBody, Bytes};
@@ -81,8 +83,9 @@ fn member_told(
 }
 
 /// The answer to an EnumValue: the value's name, type, size and bytes, or its size alone, or that a room is short; or a refusal.
-pub fn answer(
+pub fn answer<C: Callback>(
     store: &Store,
+    asking: &Asking<'_, C>,
     alloc: Global,
     session: u8,
     handle: u64,
@@ -91,7 +94,7 @@ pub fn answer(
     room: Option<u32>,
 ) -> AnswerBody
     requires { KnowsKeys store.now }
-    ensures { (n : ℕ) → IsRead no_callbacks (at n store.now) session (EnumValue handle index name_room room) result }
+    ensures { (n : ℕ) → IsReadBy (status_by C.answers asking.now store.now session handle) (at n store.now) session (EnumValue handle index name_room room) result }
 {
     let key = match store.key_of(session, handle) {
         Ok(key) => key,
@@ -101,6 +104,10 @@ pub fn answer(
         return AnswerBody::Refused {
             status: ACCESS_DENIED,
         };
+    }
+    match asking.ask(key.path) {
+        Ok(()) => {}
+        Err(status) => return AnswerBody::Refused { status },
     }
     member_told(alloc, &store.tree, key.node, index, name_room, room)
 }

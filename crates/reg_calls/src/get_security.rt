@@ -9,10 +9,12 @@ ghost use Rattle.reg_model.specs.Replies.{security_told};
 ghost use Rattle.reg_model.specs.declared.call.Query.TheVariants.{GetSecurity};
 ghost use Rattle.reg_tree.specs.TreeKeys.{IsAt, IsThere};
 ghost use Rattle.reg_calls.specs.Internal.Stores.{at, KnowsKeys};
-ghost use Rattle.reg_model.specs.Callbacks.{no_callbacks};
-ghost use Rattle.reg_calls.specs.Views.{IsRead, IsTold};
+ghost use Rattle.reg_calls.specs.Internal.Askings.{status_by};
+ghost use Rattle.reg_calls.specs.Views.{IsReadBy, IsTold};
 
+use crate::asking::Asking;
 use crate::store::Store;
+use reg_callbacks::Callback;
 use reg_model::rights::READ_CONTROL;
 use reg_model::statuses::{ACCESS_DENIED, INSUFFICIENT_BUFFER, NOT_ENOUGH_MEMORY};
 use reg_model::{AnswerBody, Bytes};
@@ -44,9 +46,16 @@ fn told(alloc: Global, tree: &Tree, node: Node, room: u32) -> AnswerBody
 }
 
 /// The answer to a GetSecurity: the descriptor's bytes, or its size where the room is short; or a refusal.
-pub fn answer(store: &Store, alloc: Global, session: u8, handle: u64, room: u32) -> AnswerBody
+pub fn answer<C: Callback>(
+    store: &Store,
+    asking: &Asking<'_, C>,
+    alloc: Global,
+    session: u8,
+    handle: u64,
+    room: u32,
+) -> AnswerBody
     requires { KnowsKeys store.now }
-    ensures { (n : ℕ) → IsRead no_callbacks (at n store.now) session (GetSecurity handle room) result }
+    ensures { (n : ℕ) → IsReadBy (status_by C.answers asking.now store.now session handle) (at n store.now) session (GetSecurity handle room) result }
 {
     let key = match store.key_of(session, handle) {
         Ok(key) => key,
@@ -56,6 +65,10 @@ pub fn answer(store: &Store, alloc: Global, session: u8, handle: u64, room: u32)
         return AnswerBody::Refused {
             status: ACCESS_DENIED,
         };
+    }
+    match asking.ask(key.path) {
+        Ok(()) => {}
+        Err(status) => return AnswerBody::Refused { status },
     }
     told(alloc, &store.tree, key.node, room)
 }

@@ -7,12 +7,14 @@ ghost use Rattle.reg_arena.specs.Cells.{cell_at};
 ghost use Rattle.reg_model.specs.Histories.{IsLegal, replay, pending, fired};
 ghost use Rattle.reg_tree.specs.TreeKeys.{made_root, IsWholeTree};
 ghost use Rattle.reg_notify.specs.Tables.{told_to, taken_by};
-ghost use Rattle.reg_callbacks.specs.Lists.{rows_of, made_of};
+ghost use Rattle.reg_callbacks.specs.declared.callbacks.TheConstants.{REGISTRATIONS_LIMIT};
+ghost use Rattle.reg_callbacks.specs.Rows.{is_falling, is_among, IsOneMore};
+ghost use Rattle.reg_callbacks.specs.Lists.{rows_of, altitudes_of, cookies_of, made_of};
 ghost use Rattle.reg_calls.specs.Views.{state, IsApplied, IsRead, IsHive, IsNoticeTaken};
 
 use crate::hive_core::Core;
 use reg_arena::Arena;
-use reg_callbacks::{Callback, Callbacks};
+use reg_callbacks::{Callback, CallbackFault, Callbacks, Cookie};
 use reg_heap::limits::DESCRIPTOR_LIMIT;
 use reg_model::{Answer, Call, Change, ChangeReply, Entry, Notice, Outcome, Query, Step};
 use reg_names::check_key_name;
@@ -48,7 +50,6 @@ pub enum RunFault {
 pub struct Hive<C = Box<dyn Callback + Send>> {
     core: Core,
     callbacks: Callbacks<C>,
-    ghost none: { rows_of callbacks ≡ [] },
 }
 
 impl<C: Callback> Hive<C> {
@@ -181,22 +182,25 @@ impl<C: Callback> Hive<C> {
     }
 
     /// Answers a change of a session, below 64, at a moment (100 ns units since 1601). An accepted change becomes the
-    /// journal's next entry; after a refusal the hive is as before. 8 and 1450 for space come only in place of an
-    /// acceptance.
+    /// journal's next entry; after a refusal, by the rules or by a callback, the hive is as before. 8 and 1450 for space come only
+    /// in place of an acceptance, or where a callback answers them.
     pub fn apply(&mut self, session: u8, moment: u64, change: Change) -> ChangeReply
         requires { session < SESSIONS_LIMIT }
+        ensures order { is_falling (altitudes_of (callbacks_of self.old)) ≡ true }
         ensures callbacks { callbacks_of self.new ≡ callbacks_of self.old }
         ensures applied { IsApplied (asks_of C.answers self.old) (view_of self.old) (view_of self.new) session moment change result }
     {
-        self.core.apply(session, moment, change)
+        self.core.apply(&self.callbacks, session, moment, change)
     }
 
-    /// Answers a question of a session. 8 comes only in place of an answer that holds a byte of a name, of data or of a descriptor.
+    /// Answers a question of a session. 8 comes only in place of an answer that holds a byte of a name, of data or of a descriptor, or
+    /// where a callback answers it.
     pub fn read(&self, session: u8, query: &Query) -> Answer
+        ensures order { is_falling (altitudes_of (callbacks_of self.now)) ≡ true }
         ensures at { result.at ≡ length (view_of self.now).journal }
         ensures body { IsRead (asks_of C.answers self.now) (state (view_of self.now)) session query.now result.body }
     {
-        self.core.read(session, query)
+        self.core.read(&self.callbacks, session, query)
     }
 
     fn answer(&mut self, step: Step) -> Outcome
@@ -219,6 +223,7 @@ impl<C: Callback> Hive<C> {
     /// refused, before the first call; then the hive is as before.
     pub fn run(&mut self, steps: Vec<Step>) -> Result<Vec<Outcome>, RunFault>
         requires { All (λ s. s.session < SESSIONS_LIMIT) steps.items }
+        ensures order { is_falling (altitudes_of (callbacks_of self.old)) ≡ true }
         ensures callbacks { callbacks_of self.new ≡ callbacks_of self.old }
         ensures ok { IfOk result (λ outcomes. Run (asks_of C.answers self.old) (view_of self.old) steps.items outcomes.items (view_of self.new)) }
         ensures err { OnErr result (self.new ≡ self.old) }
@@ -234,5 +239,45 @@ impl<C: Callback> Hive<C> {
             }
         }
         Ok(outcomes)
+    }
+
+    /// Registers a callback at an altitude, and answers its cookie. From then on it is asked of each call but Close, before the
+    /// callbacks at lower altitudes and after those at higher ones, at its place in the order of refusals: after those for the
+    /// handle, bad arguments, rights and what is counted, before the call's own. `Full` where 65,536 registrations were made, else
+    /// `AltitudeTaken` where a callback is at that altitude, else `Memory`; then nothing changed, and the callback comes back.
+    pub fn register(&mut self, callback: C, altitude: u32) -> Result<Cookie, CallbackFault<C>>
+        ensures view { view_of self.new ≡ view_of self.old }
+        ensures added { IfOk result (λ cookie. IsOneMore (record { altitude = altitude; cookie = cookie.number; callback = callback })
+            (rows_of (callbacks_of self.old)) (rows_of (callbacks_of self.new))) }
+        ensures order { is_falling (altitudes_of (callbacks_of self.new)) ≡ true }
+        ensures cookie { IfOk result (λ cookie. cookie.number ≡ made_of (callbacks_of self.old)) }
+        ensures made { IfOk result (λ cookie. made_of (callbacks_of self.new) ≡ made_of (callbacks_of self.old) + 1) }
+        ensures full { IsErrOf result (CallbackFault.Full callback) ↔ (made_of (callbacks_of self.old) ≡ REGISTRATIONS_LIMIT) }
+        ensures altitude_taken { IsErrOf result (CallbackFault.AltitudeTaken callback)
+            ↔ ((made_of (callbacks_of self.old) < REGISTRATIONS_LIMIT) × (is_among altitude (altitudes_of (callbacks_of self.old)) ≡ true)) }
+        ensures returned { IfErr result (λ fault. (fault ≡ CallbackFault.Full callback)
+            ⊎ (fault ≡ CallbackFault.AltitudeTaken callback)
+            ⊎ (fault ≡ CallbackFault.Memory callback)) }
+        ensures err { OnErr result ((rows_of (callbacks_of self.new) ≡ rows_of (callbacks_of self.old))
+            × (made_of (callbacks_of self.new) ≡ made_of (callbacks_of self.old))) }
+    {
+        self.callbacks.register(callback, altitude)
+    }
+
+    /// Takes out the callback of a cookie, and answers it; it is asked no more. `NoSuchCookie` where none has it; then nothing
+    /// changed. Takes no memory.
+    pub fn unregister(&mut self, cookie: Cookie) -> Result<C, CallbackFault<C>>
+        ensures view { view_of self.new ≡ view_of self.old }
+        ensures taken { IfOk result (λ callback. (altitude : ℕ)
+            × IsOneMore (record { altitude = altitude; cookie = cookie.number; callback = callback })
+            (rows_of (callbacks_of self.new)) (rows_of (callbacks_of self.old))) }
+        ensures gone { IfOk result (λ callback. is_among cookie.number (cookies_of (callbacks_of self.new)) ≡ false) }
+        ensures made { made_of (callbacks_of self.new) ≡ made_of (callbacks_of self.old) }
+        ensures no_such_cookie { IsErrOf result CallbackFault.NoSuchCookie
+            ↔ (is_among cookie.number (cookies_of (callbacks_of self.old)) ≡ false) }
+        ensures fault { IfErr result (λ fault. fault ≡ CallbackFault.NoSuchCookie) }
+        ensures err { OnErr result (callbacks_of self.new ≡ callbacks_of self.old) }
+    {
+        self.callbacks.unregister(cookie)
     }
 }

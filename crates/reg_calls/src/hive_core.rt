@@ -3,15 +3,17 @@ ghost use Rattle.std.specs.Prelude.{ℕ, ◌≡◌, ◌<◌, ◌≤◌, [], Some
 ghost use Rattle.reg_heap.specs.Trees.{IsTree, IsWithinLimits};
 ghost use Rattle.reg_arena.specs.Arena.{IsSound};
 ghost use Rattle.reg_model.specs.declared.limits.TheConstants.{JOURNAL_LIMIT, SESSIONS_LIMIT};
-ghost use Rattle.reg_model.specs.Callbacks.{no_callbacks};
 ghost use Rattle.reg_model.specs.Replies.{refusal};
 ghost use Rattle.reg_tree.specs.TreeKeys.{IsWholeTree};
+ghost use Rattle.reg_callbacks.specs.Asking.{asks};
+ghost use Rattle.reg_callbacks.specs.Lists.{answers_of};
 ghost use Rattle.reg_calls.specs.Shortages.{is_closing};
 ghost use Rattle.reg_calls.specs.Views.{state, IsApplied, IsRead, IsHive, IsNoticeTaken};
 
 use crate::quiet::Quiet;
 use crate::store::Store;
 use reg_arena::Arena;
+use reg_callbacks::{Callback, Callbacks};
 use reg_handles::Handles;
 use reg_journal::Journal;
 use reg_model::statuses::NOT_ENOUGH_MEMORY;
@@ -193,12 +195,21 @@ impl Core {
 
     /// Answers a change: refused by its cause; or made, its watches told, and noted as the journal's next entry; or given up for want
     /// of memory or space.
-    pub fn apply(&mut self, session: u8, moment: u64, change: Change) -> ChangeReply
+    pub fn apply<C: Callback>(
+        &mut self,
+        callbacks: &Callbacks<C>,
+        session: u8,
+        moment: u64,
+        change: Change,
+    ) -> ChangeReply
         requires { session < SESSIONS_LIMIT }
-        ensures { IsApplied no_callbacks self.old self.new session moment change result }
+        ensures { IsApplied (asks (answers_of C.answers callbacks.now)) self.old self.new session moment change result }
     {
         let number = self.journal.len();
-        let admitted = match self.store.admit(self.alloc, number, session, &change) {
+        let admitted = match self
+            .store
+            .admit(callbacks, self.alloc, number, session, moment, &change)
+        {
             Ok(admitted) => admitted,
             Err(refusal) => return refuse(refusal.status()),
         };
@@ -237,11 +248,11 @@ impl Core {
     }
 
     /// Answers a question, with the number of entries at which it was answered.
-    pub fn read(&self, session: u8, query: &Query) -> Answer
+    pub fn read<C: Callback>(&self, callbacks: &Callbacks<C>, session: u8, query: &Query) -> Answer
         ensures at { result.at ≡ length self.now.journal }
-        ensures body { IsRead no_callbacks (state self.now) session query.now result.body }
+        ensures body { IsRead (asks (answers_of C.answers callbacks.now)) (state self.now) session query.now result.body }
     {
-        let body = self.store.answer(self.alloc, session, query);
+        let body = self.store.answer(callbacks, self.alloc, session, query);
         Answer {
             at: self.journal.len() as u64,
             body,

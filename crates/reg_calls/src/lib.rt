@@ -2,8 +2,11 @@
 //!
 //! Its one contract: a change is refused exactly by the rules and then changes nothing, or is told what is due and is one entry of
 //! the journal more; tree, handles and pending watches are the journal's replay, the bytes spell that tree, and each session is handed
-//! just the notices that the journal tells it. It stands on reg_tree, reg_handles, reg_notify, reg_journal and reg_model. Its type is
-//! [`Hive`]; its faults are [`NewFault`] and [`RunFault`].
+//! just the notices that the journal tells it. It stands on reg_tree, reg_handles, reg_notify, reg_journal, reg_callbacks and
+//! reg_model. Its type is [`Hive`]; its faults are [`NewFault`] and [`RunFault`].
+//!
+//! Each call but Close asks the hive's callbacks first ([`Hive::register`]): after its refusals by 6, 1018, 87, 5 for a right and 1450
+//! for what is counted, and before all others. What the first of them answers that isn't 0 is then the answer.
 //!
 //! | Call | Right | Refused | Effect or answer | File |
 //! |---|---|---|---|---|
@@ -36,6 +39,7 @@
 #![tactic(auto)]
 
 mod announced;
+mod asking;
 mod changes;
 mod close;
 mod create_key;

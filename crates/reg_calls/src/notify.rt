@@ -1,15 +1,18 @@
 //! Notify: a notification asked for.
 //!
 //! Win32 registry reference, `RegNotifyChangeKeyValue`.
-ghost use Rattle.std.specs.Prelude.{ℕ, ◌≡◌, ◌<◌, Some, IfErr, IfOk};
+ghost use Rattle.std.specs.Prelude.{ℕ, ◌≡◌, ◌<◌, Some, IfErr, IfOk, None, OnOk};
 ghost use Rattle.reg_model.specs.declared.limits.TheConstants.{SESSIONS_LIMIT};
-ghost use Rattle.reg_model.specs.Causes.{change_cause, no_watch_room, is_filter as is_filter_of};
+ghost use Rattle.reg_model.specs.Causes.{change_cause, no_watch_room, is_filter as is_filter_of, asked};
+ghost use Rattle.reg_calls.specs.Internal.Askings.{status_by};
 ghost use Rattle.reg_calls.specs.Internal.Stores.{at, IsReady, IsMade};
 ghost use Rattle.reg_calls.specs.Internal.Admissions.{AdmitsNotify};
 
+use crate::asking::Asking;
 use crate::lack::Lack;
 use crate::replies::accepted;
 use crate::store::Store;
+use reg_callbacks::Callback;
 use reg_model::ChangeReply;
 use reg_model::filters::{EVENTS, NO_FILTER};
 use reg_model::limits::WATCHES_LIMIT;
@@ -50,10 +53,11 @@ impl Store {
 impl Notify {
     ghost use Rattle.reg_model.specs.declared.call.Change.TheVariants.{Notify as Notified};
 
-    /// Admits it, or tells the status of its refusal: 6 and 1018 for the handle, 87 for the filter, 5 without the right, and 1450
-    /// where the session has 4,096 pending watches or the journal is full.
-    pub fn admit(
+    /// Admits it, or tells the status of its refusal: 6 and 1018 for the handle, 87 for the filter, 5 without the right, 1450
+    /// where the session has 4,096 pending watches or the journal is full, and what a callback answers.
+    pub fn admit<C: Callback>(
         store: &Store,
+        asking: &Asking<'_, C>,
         entries: usize,
         session: u8,
         handle: u64,
@@ -62,8 +66,10 @@ impl Notify {
     ) -> Result<Notify, u32>
         requires session { session < SESSIONS_LIMIT }
         requires ready { IsReady entries store.now }
-        ensures refused { IfErr result (λ status. change_cause (at entries store.now) session (Notified handle filter subtree) 0 ≡ Some status) }
+        ensures refused { IfErr result (λ status.
+            change_cause (at entries store.now) session (Notified handle filter subtree) (status_by C.answers asking.now store.now session handle) ≡ Some status) }
         ensures admitted { IfOk result (λ found. AdmitsNotify entries store.now session found) }
+        ensures asked { OnOk result (asked (status_by C.answers asking.now store.now session handle) ≡ None) }
         ensures handle { IfOk result (λ found. found.handle ≡ handle) }
         ensures filter { IfOk result (λ found. found.filter ≡ filter) }
         ensures subtree { IfOk result (λ found. found.subtree ≡ subtree) }
@@ -81,7 +87,10 @@ impl Notify {
         if store.has_no_watch_room(entries, session) {
             return Err(NO_SYSTEM_RESOURCES);
         }
-        // Callbacks will be asked here: the path is that of the handle's key.
+        match asking.ask(key.path) {
+            Ok(()) => {}
+            Err(status) => return Err(status),
+        }
         Ok(Notify {
             handle,
             filter,

@@ -1,15 +1,19 @@
 //! OpenKey: a handle to a key that is there.
 //!
 //! Win32 registry reference, `RegOpenKeyEx`.
-ghost use Rattle.std.specs.Prelude.{ℕ, List, ◌≡◌, ◌<◌, IfErr, IfOk};
+ghost use Rattle.std.specs.Prelude.{ℕ, List, ◌≡◌, ◌<◌, IfErr, IfOk, None, OnOk};
 ghost use Rattle.reg_model.specs.declared.limits.TheConstants.{SESSIONS_LIMIT};
+ghost use Rattle.reg_model.specs.Causes.{asked};
+ghost use Rattle.reg_calls.specs.Internal.Askings.{status_by};
 ghost use Rattle.reg_calls.specs.Internal.Stores.{IsReady, IsMade};
 ghost use Rattle.reg_calls.specs.Internal.Admissions.{AdmitsOpenKey, IsNotAdmitted};
 
+use crate::asking::Asking;
 use crate::lack::Lack;
 use crate::refusal::Refusal;
 use crate::replies::opened;
 use crate::store::{Store, is_bad_open, path_below};
+use reg_callbacks::Callback;
 use reg_model::ChangeReply;
 use reg_model::statuses::FILE_NOT_FOUND;
 use reg_tree::Node;
@@ -30,9 +34,10 @@ impl OpenKey {
     ghost use Rattle.reg_model.specs.declared.call.Change.TheVariants.{OpenKey as KeyOpened};
 
     /// Finds the key. Refused by 6 and 1018 for the handle, 87 for the path or the mask, 1450 where the session has 16,384 handles
-    /// or the journal is full, and 2 where there is no such key; or for want of memory.
-    pub fn admit(
+    /// or the journal is full, by a callback, and 2 where there is no such key; or for want of memory.
+    pub fn admit<C: Callback>(
         store: &Store,
+        asking: &Asking<'_, C>,
         alloc: Global,
         entries: usize,
         session: u8,
@@ -42,15 +47,19 @@ impl OpenKey {
     ) -> Result<OpenKey, Refusal>
         requires session { session < SESSIONS_LIMIT }
         requires ready { IsReady entries store.now }
-        ensures refused { IfErr result (λ refusal. IsNotAdmitted entries store.now session (KeyOpened handle path.now mask) refusal) }
+        ensures refused { IfErr result (λ refusal. IsNotAdmitted (status_by C.answers asking.now store.now session handle) entries store.now session (KeyOpened handle path.now mask) refusal) }
         ensures admitted { IfOk result (λ found. AdmitsOpenKey entries store.now session handle path.now found) }
+        ensures asked { OnOk result (asked (status_by C.answers asking.now store.now session handle) ≡ None) }
         ensures mask { IfOk result (λ found. found.mask ≡ mask) }
     {
         let key = match store.key_to_open_at(entries, session, handle, is_bad_open(path, mask)) {
             Ok(key) => key,
             Err(status) => return Err(Refusal::Cause(status)),
         };
-        // Callbacks will be asked here: the path is that of the handle's key.
+        match asking.ask(key.path) {
+            Ok(()) => {}
+            Err(status) => return Err(Refusal::Cause(status)),
+        }
         let Some(node) = store.tree.resolve(key.node, path) else {
             return Err(Refusal::Cause(FILE_NOT_FOUND));
         };

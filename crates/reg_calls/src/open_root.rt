@@ -1,15 +1,18 @@
 //! OpenRoot: a handle to the root.
 //!
 //! Win32 registry reference, `RegOpenKeyEx`.
-ghost use Rattle.std.specs.Prelude.{ℕ, ◌≡◌, ◌<◌, Some, IfErr, IfOk};
+ghost use Rattle.std.specs.Prelude.{ℕ, ◌≡◌, ◌<◌, [], Some, None, IfErr, IfOk, OnOk};
 ghost use Rattle.reg_model.specs.declared.limits.TheConstants.{SESSIONS_LIMIT};
-ghost use Rattle.reg_model.specs.Causes.{change_cause};
+ghost use Rattle.reg_model.specs.Causes.{change_cause, asked};
+ghost use Rattle.reg_calls.specs.Internal.Askings.{status_at};
 ghost use Rattle.reg_calls.specs.Internal.Stores.{at, IsReady, IsMade};
 ghost use Rattle.reg_calls.specs.Internal.Admissions.{IsClear};
 
+use crate::asking::Asking;
 use crate::lack::Lack;
 use crate::replies::opened;
 use crate::store::Store;
+use reg_callbacks::Callback;
 use reg_model::ChangeReply;
 use reg_model::rights::NO_RIGHTS;
 use reg_model::statuses::{INVALID_PARAMETER, NO_SYSTEM_RESOURCES};
@@ -26,12 +29,19 @@ impl OpenRoot {
     ghost use Rattle.reg_model.specs.declared.call.Change.TheVariants.{OpenRoot as RootOpened};
 
     /// Admits it, or tells the status of its refusal: 87 for the mask, 1450 where the session has 16,384 handles or the journal is
-    /// full.
-    pub fn admit(store: &Store, entries: usize, session: u8, mask: u32) -> Result<OpenRoot, u32>
+    /// full, and else what a callback answers.
+    pub fn admit<C: Callback>(
+        store: &Store,
+        asking: &Asking<'_, C>,
+        entries: usize,
+        session: u8,
+        mask: u32,
+    ) -> Result<OpenRoot, u32>
         requires session { session < SESSIONS_LIMIT }
         requires ready { IsReady entries store.now }
-        ensures refused { IfErr result (λ status. change_cause (at entries store.now) session (RootOpened mask) 0 ≡ Some status) }
+        ensures refused { IfErr result (λ status. change_cause (at entries store.now) session (RootOpened mask) (status_at C.answers asking.now []) ≡ Some status) }
         ensures clear { IfOk result (λ found. IsClear entries store.now session (RootOpened mask)) }
+        ensures asked { OnOk result (asked (status_at C.answers asking.now []) ≡ None) }
         ensures mask { IfOk result (λ found. found.mask ≡ mask) }
     {
         if mask & NO_RIGHTS != 0 {
@@ -40,7 +50,10 @@ impl OpenRoot {
         if store.has_no_handle_room(entries, session) {
             return Err(NO_SYSTEM_RESOURCES);
         }
-        // Callbacks will be asked here: the path is the root's.
+        match asking.ask(b"") {
+            Ok(()) => {}
+            Err(status) => return Err(status),
+        }
         Ok(OpenRoot { mask })
     }
 

@@ -9,10 +9,12 @@ ghost use Rattle.reg_model.specs.Replies.{info_told, name_of, largest_of};
 ghost use Rattle.reg_model.specs.declared.call.Query.TheVariants.{QueryInfo};
 ghost use Rattle.reg_tree.specs.TreeKeys.{IsAt, IsThere};
 ghost use Rattle.reg_calls.specs.Internal.Stores.{at, KnowsKeys};
-ghost use Rattle.reg_model.specs.Callbacks.{no_callbacks};
-ghost use Rattle.reg_calls.specs.Views.{IsRead};
+ghost use Rattle.reg_calls.specs.Internal.Askings.{status_by};
+ghost use Rattle.reg_calls.specs.Views.{IsReadBy};
 
+use crate::asking::Asking;
 use crate::store::Store;
+use reg_callbacks::Callback;
 use reg_model::AnswerBody;
 use reg_model::rights::QUERY_VALUE;
 use reg_model::statuses::ACCESS_DENIED;
@@ -85,9 +87,14 @@ fn info(tree: &Tree, node: Node) -> AnswerBody
 }
 
 /// The answer to a QueryInfo: what is told of the key, or a refusal.
-pub fn answer(store: &Store, session: u8, handle: u64) -> AnswerBody
+pub fn answer<C: Callback>(
+    store: &Store,
+    asking: &Asking<'_, C>,
+    session: u8,
+    handle: u64,
+) -> AnswerBody
     requires { KnowsKeys store.now }
-    ensures { (n : ℕ) → IsRead no_callbacks (at n store.now) session (QueryInfo handle) result }
+    ensures { (n : ℕ) → IsReadBy (status_by C.answers asking.now store.now session handle) (at n store.now) session (QueryInfo handle) result }
 {
     let key = match store.key_of(session, handle) {
         Ok(key) => key,
@@ -97,6 +104,10 @@ pub fn answer(store: &Store, session: u8, handle: u64) -> AnswerBody
         return AnswerBody::Refused {
             status: ACCESS_DENIED,
         };
+    }
+    match asking.ask(key.path) {
+        Ok(()) => {}
+        Err(status) => return AnswerBody::Refused { status },
     }
     info(&store.tree, key.node)
 }

@@ -8,10 +8,12 @@ ghost use Rattle.reg_model.specs.Replies.{value_told};
 ghost use Rattle.reg_model.specs.declared.call.Query.TheVariants.{QueryValue};
 ghost use Rattle.reg_tree.specs.TreeKeys.{IsAt};
 ghost use Rattle.reg_calls.specs.Internal.Stores.{at, KnowsKeys};
-ghost use Rattle.reg_model.specs.Callbacks.{no_callbacks};
-ghost use Rattle.reg_calls.specs.Views.{IsRead, IsTold};
+ghost use Rattle.reg_calls.specs.Internal.Askings.{status_by};
+ghost use Rattle.reg_calls.specs.Views.{IsReadBy, IsTold};
 
+use crate::asking::Asking;
 use crate::store::Store;
+use reg_callbacks::Callback;
 use reg_model::rights::QUERY_VALUE;
 use reg_model::statuses::{
     ACCESS_DENIED, FILE_NOT_FOUND, INVALID_PARAMETER, MORE_DATA, NOT_ENOUGH_MEMORY,
@@ -56,8 +58,9 @@ fn told(alloc: Global, tree: &Tree, node: Node, value: ValueFound, room: Option<
 }
 
 /// The answer to a QueryValue: the value's type, size and bytes, or its size alone; or a refusal.
-pub fn answer(
+pub fn answer<C: Callback>(
     store: &Store,
+    asking: &Asking<'_, C>,
     alloc: Global,
     session: u8,
     handle: u64,
@@ -65,7 +68,7 @@ pub fn answer(
     room: Option<u32>,
 ) -> AnswerBody
     requires { KnowsKeys store.now }
-    ensures { (n : ℕ) → IsRead no_callbacks (at n store.now) session (QueryValue handle name.now room) result }
+    ensures { (n : ℕ) → IsReadBy (status_by C.answers asking.now store.now session handle) (at n store.now) session (QueryValue handle name.now room) result }
 {
     let key = match store.key_of(session, handle) {
         Ok(key) => key,
@@ -80,6 +83,10 @@ pub fn answer(
         return AnswerBody::Refused {
             status: ACCESS_DENIED,
         };
+    }
+    match asking.ask(key.path) {
+        Ok(()) => {}
+        Err(status) => return AnswerBody::Refused { status },
     }
     match store.tree.find_value(key.node, name) {
         Some(value) => told(alloc, &store.tree, key.node, value, room),

@@ -1,16 +1,19 @@
 //! SetSecurity: a key's security descriptor set.
 //!
 //! Win32 registry reference, `RegSetKeySecurity`.
-ghost use Rattle.std.specs.Prelude.{ℕ, ◌≡◌, Some, IfErr, IfOk};
-ghost use Rattle.reg_model.specs.Causes.{change_cause};
+ghost use Rattle.std.specs.Prelude.{ℕ, ◌≡◌, Some, IfErr, IfOk, None, OnOk};
+ghost use Rattle.reg_model.specs.Causes.{change_cause, asked};
+ghost use Rattle.reg_calls.specs.Internal.Askings.{status_by};
 ghost use Rattle.reg_calls.specs.Internal.Stores.{at, IsReady, IsMade};
 ghost use Rattle.reg_calls.specs.Internal.Admissions.{AdmitsSetSecurity};
 ghost use Rattle.reg_calls.specs.Internal.Announcements.{IsAnnounced};
 
 use crate::announced::Announced;
+use crate::asking::Asking;
 use crate::lack::Lack;
 use crate::replies::accepted;
 use crate::store::{Store, is_bad_descriptor};
+use reg_callbacks::Callback;
 use reg_model::ChangeReply;
 use reg_model::filters::SECURITY;
 use reg_model::rights::WRITE_DAC;
@@ -33,17 +36,20 @@ impl<'a> SetSecurity<'a> {
     ghost use Rattle.reg_model.specs.declared.call.Change.TheVariants.{SetSecurity as SecuritySet};
 
     /// Finds the key. Refused by 6 and 1018 for the handle, 87 for a descriptor that isn't of 1 to 65,535 bytes, 5 without the right,
-    /// and 1450 where the journal is full.
-    pub fn admit(
+    /// 1450 where the journal is full, and by a callback.
+    pub fn admit<C: Callback>(
         store: &Store,
+        asking: &Asking<'_, C>,
         entries: usize,
         session: u8,
         handle: u64,
         descriptor: &'a [u8],
     ) -> Result<SetSecurity<'a>, u32>
         requires { IsReady entries store.now }
-        ensures refused { IfErr result (λ status. change_cause (at entries store.now) session (SecuritySet handle descriptor.now) 0 ≡ Some status) }
+        ensures refused { IfErr result (λ status.
+            change_cause (at entries store.now) session (SecuritySet handle descriptor.now) (status_by C.answers asking.now store.now session handle) ≡ Some status) }
         ensures admitted { IfOk result (λ found. AdmitsSetSecurity entries store.now session handle found) }
+        ensures asked { OnOk result (asked (status_by C.answers asking.now store.now session handle) ≡ None) }
         ensures descriptor { IfOk result (λ found. found.descriptor.now ≡ descriptor.now) }
     {
         let key = match store.key_of(session, handle) {
@@ -59,7 +65,10 @@ impl<'a> SetSecurity<'a> {
         if store.is_full(entries) {
             return Err(NO_SYSTEM_RESOURCES);
         }
-        // Callbacks will be asked here: the path is that of the handle's key.
+        match asking.ask(key.path) {
+            Ok(()) => {}
+            Err(status) => return Err(status),
+        }
         Ok(SetSecurity {
             handle,
             node: key.node,

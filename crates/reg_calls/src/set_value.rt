@@ -1,20 +1,23 @@
 //! SetValue: a value of a key set, or added.
 //!
 //! Win32 registry reference, `RegSetValueEx`.
-ghost use Rattle.std.specs.Prelude.{ℕ, List, ◌≡◌, Some, IfErr, IfOk};
+ghost use Rattle.std.specs.Prelude.{ℕ, List, ◌≡◌, Some, IfErr, IfOk, None, OnOk};
 ghost use Rattle.reg_heap.specs.Paths.{Path};
 ghost use Rattle.reg_heap.specs.Edits.{values_at};
 ghost use Rattle.reg_heap.specs.Members.{index_named};
-ghost use Rattle.reg_model.specs.Causes.{change_cause, no_value_room, is_bad_value as is_bad_value_of};
+ghost use Rattle.reg_model.specs.Causes.{change_cause, no_value_room, is_bad_value as is_bad_value_of, asked};
 ghost use Rattle.reg_tree.specs.TreeKeys.{IsAt, IsThere};
+ghost use Rattle.reg_calls.specs.Internal.Askings.{status_by};
 ghost use Rattle.reg_calls.specs.Internal.Stores.{at, IsReady, IsMade};
 ghost use Rattle.reg_calls.specs.Internal.Admissions.{AdmitsSetValue};
 ghost use Rattle.reg_calls.specs.Internal.Announcements.{IsAnnounced};
 
 use crate::announced::Announced;
+use crate::asking::Asking;
 use crate::lack::Lack;
 use crate::replies::accepted;
 use crate::store::Store;
+use reg_callbacks::Callback;
 use reg_heap::limits::{DATA_LIMIT, VALUES_LIMIT};
 use reg_model::ChangeReply;
 use reg_model::filters::LAST_SET;
@@ -59,10 +62,11 @@ fn has_no_value_room(tree: &Tree, node: Node, place: Option<u32>) -> bool
 impl<'a> SetValue<'a> {
     ghost use Rattle.reg_model.specs.declared.call.Change.TheVariants.{SetValue as ValueSet};
 
-    /// Finds the value's place. Refused by 6 and 1018 for the handle, 87 for the name or the data, 5 without the right, and 1450
-    /// where the journal is full or a new value would be too many.
-    pub fn admit(
+    /// Finds the value's place. Refused by 6 and 1018 for the handle, 87 for the name or the data, 5 without the right, 1450
+    /// where the journal is full or a new value would be too many, and by a callback.
+    pub fn admit<C: Callback>(
         store: &Store,
+        asking: &Asking<'_, C>,
         entries: usize,
         session: u8,
         handle: u64,
@@ -71,8 +75,10 @@ impl<'a> SetValue<'a> {
         bytes: &'a [u8],
     ) -> Result<SetValue<'a>, u32>
         requires { IsReady entries store.now }
-        ensures refused { IfErr result (λ status. change_cause (at entries store.now) session (ValueSet handle name.now kind bytes.now) 0 ≡ Some status) }
+        ensures refused { IfErr result (λ status.
+            change_cause (at entries store.now) session (ValueSet handle name.now kind bytes.now) (status_by C.answers asking.now store.now session handle) ≡ Some status) }
         ensures admitted { IfOk result (λ found. AdmitsSetValue entries store.now session handle found) }
+        ensures asked { OnOk result (asked (status_by C.answers asking.now store.now session handle) ≡ None) }
         ensures name { IfOk result (λ found. found.name.now ≡ name.now) }
         ensures kind { IfOk result (λ found. found.kind ≡ kind) }
         ensures bytes { IfOk result (λ found. found.bytes.now ≡ bytes.now) }
@@ -92,7 +98,10 @@ impl<'a> SetValue<'a> {
         if store.is_full(entries) | has_no_value_room(&store.tree, key.node, place) {
             return Err(NO_SYSTEM_RESOURCES);
         }
-        // Callbacks will be asked here: the path is that of the handle's key.
+        match asking.ask(key.path) {
+            Ok(()) => {}
+            Err(status) => return Err(status),
+        }
         Ok(SetValue {
             handle,
             node: key.node,

@@ -105,7 +105,7 @@ impl Store {
             || entries + 2 + self.handles.len() > JOURNAL_LIMIT
     }
 
-    /// What is asked first by the two calls that open a handle by another: that handle's key, or why both are refused: for the
+    /// What is asked first by the two calls that open a handle by another: that handle's key, or why both are refused, whatever the callbacks would answer: for the
     /// handle, for bad arguments (`is_bad` says whether some are), or for want of room for one more handle.
     pub fn key_to_open_at(
         &self,
@@ -116,10 +116,10 @@ impl Store {
     ) -> Result<KeyHandle<'_>, u32>
         requires session { session < SESSIONS_LIMIT }
         requires ready { IsReady entries self.now }
-        ensures open { (path : List ℕ) → (mask : ℕ) → is_bad ≡ is_bad_open_of path mask →
-            IfErr result (λ status. change_cause (at entries self.now) session (OpenKey handle path mask) 0 ≡ Some status) }
-        ensures create { (path : List ℕ) → (mask : ℕ) → (given : Option (List ℕ)) → is_bad ≡ (is_bad_open_of path mask || is_bad_given given) →
-            IfErr result (λ status. change_cause (at entries self.now) session (CreateKey handle path mask given) 0 ≡ Some status) }
+        ensures open { (path : List ℕ) → (mask c : ℕ) → is_bad ≡ is_bad_open_of path mask →
+            IfErr result (λ status. change_cause (at entries self.now) session (OpenKey handle path mask) c ≡ Some status) }
+        ensures create { (path : List ℕ) → (mask c : ℕ) → (given : Option (List ℕ)) → is_bad ≡ (is_bad_open_of path mask || is_bad_given given) →
+            IfErr result (λ status. change_cause (at entries self.now) session (CreateKey handle path mask given) c ≡ Some status) }
         ensures key { IfOk result (λ key. IsOpened self.now session handle key) }
         ensures good { OnOk result (is_bad ≡ false) }
         ensures room { OnOk result (no_handle_room session (at entries self.now) ≡ false) }

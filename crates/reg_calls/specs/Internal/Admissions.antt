@@ -7,7 +7,7 @@ use Rattle.reg_heap.specs.Paths.{Path}
 use Rattle.reg_heap.specs.Edits.{values_at, missing, are_too_many, may_not_go}
 use Rattle.reg_model.specs.declared.statuses.TheConstants.{NOT_ENOUGH_MEMORY}
 use Rattle.reg_model.specs.Worlds.{path_at, path_from}
-use Rattle.reg_model.specs.Causes.{change_cause}
+use Rattle.reg_model.specs.Causes.{change_cause, asked_before}
 use Rattle.reg_model.specs.declared.call.Change.{Change}
 use Rattle.reg_model.specs.declared.call.Change.TheVariants.{OpenRoot as RootOpened, OpenKey as KeyOpened, CreateKey as KeyCreated, SetValue as ValueSet}
 use Rattle.reg_model.specs.declared.call.Change.TheVariants.{DeleteValue as ValueDeleted, DeleteKey as KeyDeleted, DeleteTree as TreeDeleted}
@@ -35,7 +35,7 @@ use Rattle.reg_calls.specs.Shortages.{is_closing}
 use Rattle.reg_calls.specs.Internal.Stores.{at}
 use Rattle.reg_calls.specs.Internal.DeletedTrees.{IsTreeFound}
 
--- nothing refuses a change
+-- nothing refuses a change, where no callback does
 abbrev pub IsClear : ℕ → Store → ℕ → Change → Type 0
 IsClear entries store session change = change_cause (at entries store) session change 0 ≡ None
 
@@ -132,17 +132,18 @@ Admits entries store session change (WatchAdmitted found) =
     (change ≡ Notified found.handle found.filter found.subtree) × AdmitsNotify entries store session found
 Admits entries store session change (CloseAdmitted found) = (change ≡ Closed found.handle) × IsClear entries store session (Closed found.handle)
 
--- a change isn't admitted: by its cause; or nothing refuses it, and memory is wanting for it, as it never is for a Close
-abbrev pub IsNotAdmitted : ℕ → Store → ℕ → Change → Refusal → Type 0
-IsNotAdmitted entries store session change (Cause status) = change_cause (at entries store) session change 0 ≡ Some status
-IsNotAdmitted entries store session change Memory = IsClear entries store session change × (is_closing change ≡ false)
+-- a change of which the callbacks' status is c isn't admitted: by its cause; or nothing refuses it, and memory is wanting for it, as it
+-- never is for a Close
+abbrev pub IsNotAdmitted : ℕ → ℕ → Store → ℕ → Change → Refusal → Type 0
+IsNotAdmitted c entries store session change (Cause status) = change_cause (at entries store) session change c ≡ Some status
+IsNotAdmitted c entries store session change Memory = IsClear entries store session change × (is_closing change ≡ false) × (asked_before change c ≡ None)
 
 -- what a caller is told of it
 abbrev pub status_told : Refusal → ℕ
 status_told (Cause status) = status
 status_told Memory = NOT_ENOUGH_MEMORY
 
--- what an admission answers
-abbrev pub IsAdmission : ℕ → Store → ℕ → Change → Result Admitted Refusal → Type 0
-IsAdmission entries store session change (Ok admitted) = Admits entries store session change admitted
-IsAdmission entries store session change (Err refusal) = IsNotAdmitted entries store session change refusal
+-- what an admission answers, where the callbacks' status is c
+abbrev pub IsAdmission : ℕ → ℕ → Store → ℕ → Change → Result Admitted Refusal → Type 0
+IsAdmission c entries store session change (Ok admitted) = Admits entries store session change admitted × (asked_before change c ≡ None)
+IsAdmission c entries store session change (Err refusal) = IsNotAdmitted c entries store session change refusal
