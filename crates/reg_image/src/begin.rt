@@ -10,14 +10,18 @@ ghost use Rattle.reg_heap.specs.declared.limits.TheConstants.{SUBKEYS_LIMIT};
 ghost use Rattle.reg_heap.specs.Paths.{Path, children_of};
 ghost use Rattle.reg_heap.specs.Edits.{child_path};
 ghost use Rattle.reg_arena.specs.Cells.{cell_at};
+ghost use Rattle.reg_heap.specs.Heaps.{Heap};
+ghost use Rattle.reg_tree.specs.Reaching.{IsWalkedTo};
 ghost use Rattle.reg_tree.specs.TreeKeys.{IsAt, IsThere, KeepsNodes};
 ghost use Rattle.reg_image.specs.WalkSteps.{Seen};
-ghost use Rattle.reg_image.specs.LoadingWalk.{key_from, root_path};
+ghost use Rattle.reg_image.specs.LoadingWalk.{head_from, key_from, named_key as named_step, root_path};
 ghost use Rattle.reg_image.specs.Images.{nothing, tree_told};
 ghost use Rattle.reg_image.specs.declared.table.CellState.{CellState};
-ghost use Rattle.reg_image.specs.Internal.CellStates.{IsTable, state_in, unnamed};
+ghost use Rattle.reg_image.specs.Internal.CellStates.{IsTable, unnamed};
 ghost use Rattle.reg_image.specs.Internal.FitKeys.{IsFitName};
-ghost use Rattle.reg_image.specs.Internal.BegunKeys.{Heads};
+ghost use Rattle.reg_image.specs.Internal.BegunKeys.{Stops};
+ghost use Rattle.reg_image.specs.Internal.NamedRecords.{key_of};
+ghost use Rattle.reg_image.specs.Internal.ReaderOutcomes.{IsDone};
 ghost use Rattle.reg_image.specs.CrowdedBins.{BuildsAll};
 ghost use Rattle.reg_image.specs.Internal.FirstUses.{AreFirst};
 ghost use Rattle.reg_image.specs.Internal.Stacks.{Begins, IsBegun, IsReadAt, IsRootCrowded, FailsAs};
@@ -31,7 +35,7 @@ use crate::keys::{NamedKey, named_key};
 use crate::subkeys::subkeys_from;
 use crate::table::CellTable;
 use reg_names::PATH_LIMIT;
-use reg_tree::{Node, Tree};
+use reg_tree::{Node, Reached, Tree};
 use std::alloc::Global;
 
 /// A tree of the root alone, and the root on the present path.
@@ -41,34 +45,32 @@ pub struct BegunRoot<'a> {
     pub key: KeyFrame<'a>,
 }
 
-/// Names a key below another one, and reads its record and its name, which no key below the other one has. `Limit` is also for a key
-/// that more than 512 names lead to.
-fn head_below<'a>(
-    alloc: Global,
-    bins: &'a [u8],
-    table: &mut CellTable,
+/// Where a key that was named belongs below another one, which has none of its name: `Twice` where it has one, `Limit` where 512 names
+/// lead to the other one. The tree has the keys that were told so far.
+fn reach_below<'n>(
     tree: &Tree,
     above: Node,
-    offset: u32,
-) -> Result<NamedKey<'a>, LoadFault>
-    requires { IsThere tree.now above }
-    ensures heads { (levels : ℕ) → (path : List ℕ) → (at : Path) → (seen : Seen) → IsTable (cell_at bins.now) seen.found path table.old.states.items →
+    named: &'n NamedKey<'_>,
+) -> Result<Reached<'n>, LoadFault>
+    requires above { IsThere tree.now above }
+    requires named { IsFitName named.now }
+    ensures heads { (heap : Heap) → (levels : ℕ) → (path : List ℕ) → (at : Path) → (offset : ℕ) → (seen : Seen) → (states : List CellState) →
+        IsDone heap path (named_step heap path offset) seen (key_of named.now) states →
         tree.now.tree ≡ tree_told seen → IsAt tree.now at above → levels + above.depth ≡ PATH_LIMIT →
-        Heads (cell_at bins.now) levels path (child_path at) offset seen table.new.states.items result }
-    ensures fit { IfOk result IsFitName }
-    ensures named { OnOk result (state_in table.new.states.items offset ≡ CellState.Named) }
-    ensures free { IfOk result (λ named. (p : Path) → IsAt tree.now p above → get tree.now.tree (child_path p (cow_slice_items named.name)) ≡ None) }
+        MatchResult result (λ _. IsDone heap path (head_from heap path (child_path at) offset) seen (key_of named.now) states)
+        (λ fault. Stops levels fault (head_from heap path (child_path at) offset seen)) }
+    ensures walked { IfOk result (λ reached. IsWalkedTo tree.now above (cow_slice_items named.now.name) reached) }
+    ensures free { OnOk result ((p : Path) → IsAt tree.now p above → get tree.now.tree (child_path p (cow_slice_items named.now.name)) ≡ None) }
     ensures shallow { OnOk result (above.depth < PATH_LIMIT) }
-    ensures fewer { OnOk result (unnamed table.new.states.items < unnamed table.old.states.items) }
 {
-    let named = named_key(alloc, bins, table, offset)?;
-    if tree.resolve(above, named.name.as_slice()).is_some() {
+    let reached = tree.reach(above, named.name.as_slice());
+    if reached.missing.is_empty() {
         return Err(LoadFault::Twice);
     }
     if above.depth as usize >= PATH_LIMIT {
         return Err(LoadFault::Limit);
     }
-    Ok(named)
+    Ok(reached)
 }
 
 /// Names the root and reads its record, class, security and values, of which a tree is built; then the list of its subkeys.
@@ -126,9 +128,10 @@ pub fn begin_key<'a>(
 {
     // Only for its clauses `tree` and `one_path`: what isn't there has nothing below it, and the node is that of one key.
     let _ = tree.root();
-    let named = head_below(alloc, bins, table, tree, above, offset)?;
+    let named = named_key(alloc, bins, table, offset)?;
+    let reached = reach_below(tree, above, &named)?;
     let parts = enter_key(alloc, bins, table, minor, offset, &named.node.fields)?;
-    let node = build_sharing(alloc, tree, above, &named, &parts, firsts)?;
+    let node = build_sharing(alloc, tree, above, reached, &named, &parts, firsts)?;
     let fields = named.node.fields;
     let subkeys = subkeys_from(bins, table, fields.subkeys, fields.subkeys_list)?;
     Ok(KeyFrame {

@@ -13,6 +13,7 @@ ghost use Rattle.reg_shape.specs.Spelt.{marks_of};
 ghost use Rattle.reg_values.specs.NewValues.{all_told, all_value_sizes};
 ghost use Rattle.reg_tree.specs.BuiltKeys.{built_key};
 ghost use Rattle.reg_tree.specs.CellSizes.{LacksRoom};
+ghost use Rattle.reg_tree.specs.Reaching.{IsWalkedTo};
 ghost use Rattle.reg_tree.specs.TreeKeys.{IsAt, IsThere, KeepsNodes};
 ghost use Rattle.reg_image.specs.Internal.NamedRecords.{data_in, member_in, members_in};
 ghost use Rattle.reg_image.specs.Internal.FitKeys.{IsFitName, IsOther, AreFit, AreFitBehind, AreFitParts};
@@ -25,7 +26,7 @@ use crate::key_parts::KeyParts;
 use crate::keys::NamedKey;
 use crate::values::ReadValue;
 use reg_arena::ArenaFault;
-use reg_tree::{NewKey, NewValue, Node, Tree};
+use reg_tree::{NewKey, NewValue, Node, Reached, Tree};
 use reg_values::front_of_one_carve;
 use std::alloc::{AllocError, Global};
 
@@ -228,17 +229,19 @@ pub fn build_root(
     Ok(tree)
 }
 
-/// Builds a key that was read below another one, which has none of its name, and fewer than 60,000 subkeys. A key that is there and has
-/// the same descriptor may be told, whose security it shares.
+/// Builds a key that was read below another one, which has none of its name, as was found from there on, and fewer than 60,000 subkeys. A
+/// key that is there and has the same descriptor may be told, whose security it shares.
 pub fn build_below(
     alloc: Global,
     tree: &mut Tree,
     above: Node,
+    reached: Reached<'_>,
     named: &NamedKey<'_>,
     parts: &KeyParts<'_>,
     like: Option<Node>,
 ) -> Result<Node, LoadFault>
     requires above { IsThere tree.old above }
+    requires reached { IsWalkedTo tree.old above (cow_slice_items named.now.name) reached }
     requires named { IsFitName named.now }
     requires parts { AreFitParts parts.now }
     requires free { (p : Path) → IsAt tree.old p above → get tree.old.tree (child_path p (cow_slice_items named.now.name)) ≡ None }
@@ -254,7 +257,7 @@ pub fn build_below(
     ensures err { (p : Path) → IsAt tree.old p above → IfErr result (IsLack (CrowdsBelow tree.old p (told_as named.now parts.now))) }
 {
     let time = named.node.fields.time;
-    match tree.build_key(alloc, above, new_key(named, parts), like) {
+    match tree.build_key(alloc, above, reached, new_key(named, parts), like) {
         Ok(node) => {
             // Only for its clauses `whole` and `sound`.
             let _ = tree.arena();

@@ -9,6 +9,7 @@ ghost use Rattle.reg_heap.specs.Paths.{Path, children_of};
 ghost use Rattle.reg_heap.specs.Heaps.{Heap};
 ghost use Rattle.reg_heap.specs.Edits.{child_path};
 ghost use Rattle.reg_shape.specs.Whole.{descriptor_at};
+ghost use Rattle.reg_tree.specs.Reaching.{IsWalkedTo};
 ghost use Rattle.reg_tree.specs.TreeKeys.{IsAt, IsThere, KeepsNodes};
 ghost use Rattle.reg_image.specs.CrowdedBins.{BuildsOne, CrowdsBelow};
 ghost use Rattle.reg_image.specs.Internal.FitKeys.{IsFitName, AreFitParts};
@@ -19,7 +20,7 @@ use crate::LoadFault;
 use crate::built_keys::build_below;
 use crate::key_parts::KeyParts;
 use crate::keys::NamedKey;
-use reg_tree::{Node, Tree};
+use reg_tree::{Node, Reached, Tree};
 use std::alloc::Global;
 use std::collections::BTreeMap;
 
@@ -67,11 +68,13 @@ pub fn build_sharing(
     alloc: Global,
     tree: &mut Tree,
     above: Node,
+    reached: Reached<'_>,
     named: &NamedKey<'_>,
     parts: &KeyParts<'_>,
     firsts: &mut FirstKeys,
 ) -> Result<Node, LoadFault>
     requires above { IsThere tree.old above }
+    requires reached { IsWalkedTo tree.old above (cow_slice_items named.now.name) reached }
     requires named { IsFitName named.now }
     requires parts { AreFitParts parts.now }
     requires free { (p : Path) → IsAt tree.old p above → get tree.old.tree (child_path p (cow_slice_items named.now.name)) ≡ None }
@@ -90,7 +93,7 @@ pub fn build_sharing(
 {
     let security = named.node.fields.security;
     let like = firsts.find(security);
-    let node = build_below(alloc, tree, above, named, parts, like)?;
+    let node = build_below(alloc, tree, above, reached, named, parts, like)?;
     if like.is_some() {
         return Ok(node);
     }

@@ -7,7 +7,7 @@ ghost use Rattle.reg_heap.specs.Paths.{Member};
 ghost use Rattle.reg_heap.specs.Members.{same_name as is_same};
 ghost use Rattle.reg_image.specs.declared.LoadFault.{LoadFault};
 ghost use Rattle.reg_image.specs.WalkSteps.{check};
-ghost use Rattle.reg_image.specs.Internal.NamesMet.{is_among, is_met, AreMet, AreKnown};
+ghost use Rattle.reg_image.specs.Internal.NamesMet.{is_among, is_met, text_hash, AreMet, AreKnown};
 ghost use Rattle.reg_image.specs.Internal.NamedRecords.{member_in, members_in};
 ghost use Rattle.reg_image.specs.Internal.ReaderOutcomes.{Gives};
 
@@ -16,15 +16,17 @@ use crate::values::ReadValue;
 use reg_names::{fold, same_name};
 use std::alloc::{AllocError, Global};
 use std::collections::BTreeSet;
+use std::hash::{FoldHasher, Hasher};
 
 /// Of so many values at most the names are compared one by one.
 pub const FEW: usize = 8;
 
-/// The names of more than a few values, folded, in a tree by their order: whether one was met takes a number of comparisons that
-/// grows as the logarithm of theirs. Of a few values it has none, so that no copies are made of most names.
+/// The names of more than a few values, folded, each behind its hash, in a tree by their order: whether one was met takes a number of
+/// comparisons that grows as the logarithm of theirs, whatever they are, and mostly of hashes alone, which stand in the tree's nodes.
+/// Of a few values it has none, so that no copies are made of most names.
 #[derive(Drop)]
 pub struct MetNames {
-    folded: BTreeSet<Vec<u8>>,
+    folded: BTreeSet<(u64, Vec<u8>)>,
 }
 
 /// A copy of a name, folded.
@@ -32,6 +34,15 @@ fn folded_name(alloc: Global, name: &[u8]) -> Result<Vec<u8>, AllocError>
     ensures { IfOk result (λ copy. copy.items ≡ folded name.now) }
 {
     name.iter().map(|byte| fold(*byte)).collect(alloc)
+}
+
+/// The hash of a folded name. It has no seed, so strangers may choose names with equal hashes, which are told apart by themselves.
+fn hash_of(name: &[u8]) -> u64
+    ensures { result ≡ text_hash name.now }
+{
+    let mut hasher = FoldHasher::default();
+    hasher.write(name);
+    hasher.finish()
 }
 
 /// Whether two names may be the same after folding, by their lengths and their last characters.
@@ -106,7 +117,8 @@ impl MetNames {
         let Ok(copy) = folded_name(alloc, name) else {
             return Err(LoadFault::Memory);
         };
-        let Ok(is_new) = self.folded.insert(copy) else {
+        let hash = hash_of(copy.as_slice());
+        let Ok(is_new) = self.folded.insert((hash, copy)) else {
             return Err(LoadFault::Memory);
         };
         if !is_new {

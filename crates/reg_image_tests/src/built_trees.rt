@@ -96,13 +96,14 @@ fn build_below(alloc: Global, tree: &mut Tree, above: Node, key: NewKey<'_>) -> 
     requires key { IsSmallKey (built_key key) }
     ensures { IfOk result (λ node. IsThere tree.new node) }
 {
-    if tree.resolve(above, key.name).is_some() {
+    let reached = tree.reach(above, key.name);
+    if reached.missing.is_empty() {
         return Err("there is a key of that name".into());
     }
     if tree.subkeys(above) >= SUBKEYS_LIMIT || above.depth as usize >= PATH_LIMIT {
         return Err("a key has no place".into());
     }
-    Ok(tree.build_key(alloc, above, key, None)?)
+    Ok(tree.build_key(alloc, above, reached, key, None)?)
 }
 
 /// Builds two keys below the root, and one below the first of them.

@@ -5,6 +5,7 @@ pub mod RootParts
 pub mod ListsRead
 pub mod ListPlaces
 pub mod SubkeysOpening
+pub mod NameWords
 pub mod NameSearch
 pub mod FoundPlaces
 pub mod NameBehindAll

@@ -16,6 +16,7 @@ ghost use Rattle.std.specs.Prelude.{◌≡◌};
 mod inserting;
 mod leaf;
 mod look;
+mod order;
 mod plan;
 mod removing;
 mod root;

@@ -14,10 +14,10 @@ ghost use Rattle.reg_index.specs.Internal.HashLeaves.{IsLeaf};
 ghost use Rattle.reg_index.specs.Internal.IndexLists.{AreKeys, HasLists, StandsAmong};
 ghost use Rattle.reg_index.specs.Internal.NameSearches.{Between, IsListFor};
 
+use crate::order::order;
 use crate::{Place, SubkeysIndex};
 use byteorder::{ByteOrder, LittleEndian};
 use reg_arena::Arena;
-use reg_names::name_order;
 use reg_records::{ListForm, ListHead, entry_at, nk_name, read_list};
 use std::cmp::Ordering;
 
@@ -210,7 +210,7 @@ fn list_for(arena: &Arena, offset: u32, name: &[u8]) -> u32
     while low < high {
         let middle = low + (high - low) / 2;
         let first = key_in(arena, leaf_in(root, middle), 0);
-        match name_order(name_of(arena, first), name) {
+        match order(name_of(arena, first), name) {
             Ordering::Less | Ordering::Equal => low = middle + 1,
             Ordering::Greater => high = middle,
         }
@@ -229,7 +229,7 @@ fn find_in(arena: &Arena, leaf: u32, name: &[u8]) -> Result<u32, u32>
     let mut high = count_entries(arena, leaf);
     while low < high {
         let middle = low + (high - low) / 2;
-        match name_order(name_of(arena, key_in(arena, leaf, middle)), name) {
+        match order(name_of(arena, key_in(arena, leaf, middle)), name) {
             Ordering::Less => low = middle + 1,
             Ordering::Equal => return Ok(middle),
             Ordering::Greater => high = middle,
@@ -252,7 +252,7 @@ fn place_behind_all(arena: &Arena, offset: u32, name: &[u8]) -> Option<Place>
     let leaf = leaf_at(arena, offset, list);
     let index = count_entries(arena, leaf);
     let last = key_in(arena, leaf, index - 1);
-    match name_order(name_of(arena, last), name) {
+    match order(name_of(arena, last), name) {
         Ordering::Less => Some(Place { list, index }),
         Ordering::Equal | Ordering::Greater => None,
     }

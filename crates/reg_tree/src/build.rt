@@ -5,6 +5,7 @@
 //!
 //! Suhanov, Windows registry file format specification, "Key node".
 ghost use Rattle.std.specs.Prelude.{◌≡◌, ◌≤◌, ◌<◌, ◌+◌, ◌*◌, ◌^◌, ◌⊎◌, ℕ, [], ◌∷◌, bit_and, Err, Some, IsSome, length, OnOk, OnErr, IfOk, IfErr};
+ghost use Rattle.reg_names.specs.Names.{path_of};
 ghost use Rattle.byteorder.specs.Endian.{little_bytes};
 ghost use Rattle.reg_heap.specs.declared.limits.TheConstants.{BINS_LIMIT, GROWTH_BOUND};
 ghost use Rattle.reg_heap.specs.Edits.{at_time};
@@ -20,16 +21,17 @@ ghost use Rattle.reg_tree.specs.KeyLengths.{with_key_lengths};
 ghost use Rattle.reg_tree.specs.TreeKeys.{tree_in};
 ghost use Rattle.reg_tree.specs.Internal.DescriptorChange.{IsKnown, KeepsFinds};
 ghost use Rattle.reg_tree.specs.Internal.KeyCreation.{IsCreated};
+ghost use Rattle.reg_tree.specs.Internal.PathWalks.{Reaches};
+ghost use Rattle.reg_tree.specs.Internal.ReachedPlaces.{BelongsFirst};
 ghost use Rattle.reg_tree.specs.Internal.LengthChanges.{LengthsChange, LengthsStay, MadeLengths};
 ghost use Rattle.reg_tree.specs.Internal.TreeInvariant.{IsHere, IsChanged, TreeInvariant};
 ghost use Rattle.reg_tree.specs.Internal.KeyNodeChanges.{Notes};
 ghost use Rattle.reg_tree.specs.Internal.KeyBuilding.{HasNoClass, IsBuilt, IsCarvedForClass, IsClassCell, IsMarkable, IsMarked, LacksForKey, MayHaveClass};
 ghost use Rattle.reg_tree.specs.Internal.KeyBuilding.{PutsClass, TakesForKey, marked, noted_class, noted_marks, with_class_length};
 
-use crate::Node;
-use crate::find::reach;
 use crate::key::fields;
 use crate::make::create_at;
+use crate::{Node, Reached};
 use reg_arena::{Arena, ArenaFault, cell_size};
 use reg_heap::limits::NONE;
 use reg_records::{KeyFields, put_nk, set_time};
@@ -205,27 +207,32 @@ pub fn dress(
 }
 
 /// Makes the one key below another that has none of its name, as `create` makes it: with no marks and no class, and the time of the
-/// other set. The cell of a security that has its descriptor may be known. `Full`, `Memory`: then the arena is as before, and the table
-/// finds what it found.
+/// other set. The name was walked from that one on. The cell of a security that has its descriptor may be known. `Full`, `Memory`: then
+/// the arena is as before, and the table finds what it found.
 fn make_one(
     alloc: Global,
     arena: &mut Arena,
     securities: &mut SecurityTable,
-    parent: Node,
+    reached: Reached<'_>,
     key: NewKey<'_>,
     known: Option<u32>,
 ) -> Result<Node, ArenaFault>
-    requires here { (t : IsHere arena.old.bytes parent.offset) × (t.table ≡ securities.old) × (parent.depth ≡ length t.path)
-        × MayBuild (tree_in arena.old.bytes t.root) t.path key.name.now }
+    requires here { (parent : Node) × (t : IsHere arena.old.bytes parent.offset) × (t.table ≡ securities.old) × (parent.depth ≡ length t.path)
+        × MayBuild (tree_in arena.old.bytes t.root) t.path key.name.now
+        × Reaches (heap_of arena.old) parent key.name.now reached.node reached.missing.now }
+    requires place { BelongsFirst (heap_of arena.old) reached.node.offset (path_of reached.missing.now) reached.place }
     requires key { IsSmallKey (built_key key) }
     requires known { IsKnown securities.old key.descriptor.now known }
-    ensures ok { (t : IsHere arena.old.bytes parent.offset) → t.table ≡ securities.old → parent.depth ≡ length t.path →
+    ensures ok { (parent : Node) → (t : IsHere arena.old.bytes parent.offset) → t.table ≡ securities.old → parent.depth ≡ length t.path →
+        Reaches (heap_of arena.old) parent key.entry.name.now reached.entry.node reached.entry.missing.now →
         IfOk result (λ made. IsCreated arena.old.bytes arena.new.bytes t.root securities.new t.path parent (key.entry.name.now ∷ [])
         (Some key.entry.descriptor.now) key.entry.time made) }
-    ensures cells { (t : IsHere arena.old.bytes parent.offset) → t.table ≡ securities.old → parent.depth ≡ length t.path →
+    ensures cells { (parent : Node) → (t : IsHere arena.old.bytes parent.offset) → t.table ≡ securities.old → parent.depth ≡ length t.path →
+        Reaches (heap_of arena.old) parent key.entry.name.now reached.entry.node reached.entry.missing.now →
         OnOk result (TakesForKey (record { bins = arena.old; root = t.root; tree = tree_in arena.old.bytes t.root }) arena.new
         t.path key.entry.name.now key.entry.descriptor.now) }
-    ensures space { (t : IsHere arena.old.bytes parent.offset) → t.table ≡ securities.old → parent.depth ≡ length t.path →
+    ensures space { (parent : Node) → (t : IsHere arena.old.bytes parent.offset) → t.table ≡ securities.old → parent.depth ≡ length t.path →
+        Reaches (heap_of arena.old) parent key.entry.name.now reached.entry.node reached.entry.missing.now →
         IfErr result (λ fault. fault ≡ ArenaFault.Full → LacksForKey (record { bins = arena.old; root = t.root; tree = tree_in arena.old.bytes t.root })
         t.path key.entry.name.now key.entry.descriptor.now) }
     ensures table { OnErr result (KeepsFinds securities.old securities.new) }
@@ -234,7 +241,6 @@ fn make_one(
     ensures grows { OnOk result (length arena.new.bytes ≤ length arena.old.bytes + GROWTH_BOUND) }
     ensures kept { OnOk result (length arena.old.bytes ≤ length arena.new.bytes) }
 {
-    let reached = reach(arena, parent, key.name);
     create_at(
         alloc,
         arena,
@@ -246,18 +252,21 @@ fn make_one(
     )
 }
 
-/// Builds a key below another that has none of its name. The cell of a security that has its descriptor may be known. `Full`,
-/// `Memory`: then there still is a tree.
+/// Builds a key below another that has none of its name, which was walked from that one on. The cell of a security that has its
+/// descriptor may be known. `Full`, `Memory`: then there still is a tree.
 pub fn build_below(
     alloc: Global,
     arena: &mut Arena,
     securities: &mut SecurityTable,
     parent: Node,
+    reached: Reached<'_>,
     key: NewKey<'_>,
     known: Option<u32>,
 ) -> Result<Node, ArenaFault>
     requires here { (t : IsHere arena.old.bytes parent.offset) × (t.table ≡ securities.old) × (parent.depth ≡ length t.path)
         × MayBuild (tree_in arena.old.bytes t.root) t.path key.name.now }
+    requires reached { Reaches (heap_of arena.old) parent key.name.now reached.node reached.missing.now }
+    requires place { BelongsFirst (heap_of arena.old) reached.node.offset (path_of reached.missing.now) reached.place }
     requires key { IsSmallKey (built_key key) }
     requires known { IsKnown securities.old key.descriptor.now known }
     ensures ok { (t : IsHere arena.old.bytes parent.offset) → t.table ≡ securities.old → parent.depth ≡ length t.path →
@@ -286,7 +295,7 @@ pub fn build_below(
     ensures kept { length arena.old.bytes ≤ length arena.new.bytes }
 {
     let time = fields(arena, parent.offset).time;
-    let node = match make_one(alloc, arena, securities, parent, key, known) {
+    let node = match make_one(alloc, arena, securities, reached, key, known) {
         Ok(node) => node,
         Err(fault) => return Err(fault),
     };

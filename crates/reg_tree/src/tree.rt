@@ -185,7 +185,8 @@ impl Tree {
     }
 
     /// Walks a path from a key as far as its keys are there, once: the last of them, the names behind it, which are missing, and
-    /// where they belong. That serves `is_limited`, `create_at`, `delete_at` and `delete_tree_at`, as long as the tree is as it is.
+    /// where they belong. That serves `is_limited`, `create_at`, `build_key`, `delete_at` and `delete_tree_at`, as long as the tree is
+    /// as it is.
     /// Names are compared after folding.
     pub fn reach<'a>(&self, from: Node, path: &'a [u8]) -> Reached<'a>
         requires from { IsThere self.now from }
@@ -716,7 +717,8 @@ impl Tree {
     }
 
     /// Builds a key right below another that has none of its name, as it is told: with its name, marks, class, descriptor and time,
-    /// and no values. No other key's time changes. After a fault nothing is said of the tree but that it is one, and that it has the key
+    /// and no values. `reach` found what is there of its name from the other one on, in the tree as it is, so that its place isn't looked
+    /// for again. No other key's time changes. After a fault nothing is said of the tree but that it is one, and that it has the key
     /// without marks and class where there is no room for the class's cell alone; it is to be dropped.
     ///
     /// The parent's largest lengths of a subkey's name and class are raised to the new key's, where these are greater; the four of the
@@ -733,11 +735,13 @@ impl Tree {
         &mut self,
         alloc: Global,
         parent: Node,
+        reached: Reached<'_>,
         key: NewKey<'_>,
         like: Option<Node>,
     ) -> Result<Node, ArenaFault>
         requires parent { IsThere self.old parent }
         requires room { (p : Path) → IsAt self.old p parent → MayBuild self.old.tree p key.name.now }
+        requires reached { IsWalkedTo self.old parent key.name.now reached }
         requires key { IsSmallKey (built_key key) }
         requires like { IfSome like (λ node. (q : Path) × IsAt self.old q node
             × (descriptor_of (get self.old.tree q) ≡ key.descriptor.now)) }
@@ -761,6 +765,7 @@ impl Tree {
             &mut self.arena,
             &mut self.securities,
             parent,
+            reached,
             key,
             known,
         )

@@ -68,7 +68,7 @@ few-gathered members l = let b : nat_lt FEW (length members) ≡ false = grind (
 pub many-gathered : (members : List Member) → FEW < length members → gathered members ≡ members
 many-gathered members l = let b : nat_lt FEW (length members) ≡ true = grind (arith, nat_tests) in rw b refl
 
-module _ {Y : Type 0} (values : List ReadValue) (old : List (Vec ℕ Y)) (known : AreKnown (members_in values) old) where
+module _ {Y : Type 0} (values : List ReadValue) (old : List (ℕ × Vec ℕ Y)) (known : AreKnown (members_in values) old) where
   -- one more of a few
   pub still-few : length values < FEW → (m : Member) → AreKnown (members_in values ++ m ∷ []) old
   still-few l m =
@@ -92,7 +92,7 @@ module _ {Y : Type 0} (values : List ReadValue) (old : List (Vec ℕ Y)) (known 
       subst (λ ms. AreMet ms old) (few-gathered (members_in values) (omega (arith, n, e))) known
 
 -- the names of the first values, and of one more
-pub one-gathered : {Y : Type 0} (values : List ReadValue) (index : ℕ) (v d : ReadValue) (name : List ℕ) (old new : List (Vec ℕ Y)) →
+pub one-gathered : {Y : Type 0} (values : List ReadValue) (index : ℕ) (v d : ReadValue) (name : List ℕ) (old new : List (ℕ × Vec ℕ Y)) →
     index < length values → v ≡ get_or values index d → name ≡ cow_slice_items v.name → AreMet (members_in (take index values)) old →
     ((other : List ℕ) → is_met new other ≡ (is_met old other || same_name name other)) →
     AreMet (members_in (take (index + 1) values)) new
@@ -105,12 +105,12 @@ one-gathered values index v d name old new l e n a m other =
     ∙ ap (λ name. is_met old other || same_name name other) (sym n)
     ∙ sym (m other)
 
-pub all-gathered : {Y : Type 0} (values : List ReadValue) (index : ℕ) (new : List (Vec ℕ Y)) → length values ≤ index →
+pub all-gathered : {Y : Type 0} (values : List ReadValue) (index : ℕ) (new : List (ℕ × Vec ℕ Y)) → length values ≤ index →
     AreMet (members_in (take index values)) new → AreMet (members_in values) new
 all-gathered values index new l a = subst (λ vs. AreMet (members_in vs) new) (take-all values index l) a
 
 -- one more of many
-pub one-known : {Y : Type 0} (values : List ReadValue) (name : List ℕ) (old new : List (Vec ℕ Y)) → FEW ≤ length values →
+pub one-known : {Y : Type 0} (values : List ReadValue) (name : List ℕ) (old new : List (ℕ × Vec ℕ Y)) → FEW ≤ length values →
     AreMet (members_in values) old → ((other : List ℕ) → is_met new other ≡ (is_met old other || same_name name other)) →
     (m : Member) → m.name ≡ name → AreKnown (members_in values ++ m ∷ []) new
 one-known {Y} values name old new l a met m e =

@@ -1,5 +1,5 @@
 -- No sibling has the name of a key: what the tree's look-up says of the keys that were told.
-use Rattle.std.proofs.Common.{◌≡◌, ℕ, ◌<◌, ◌==◌, ◌||◌, ◌&&◌, nat_lt, nat_le, not, Bool, true, false, cond, Option, Some, None}
+use Rattle.std.proofs.Common.{◌≡◌, ◌≢◌, ℕ, ◌+◌, ◌<◌, ◌==◌, ◌||◌, ◌&&◌, nat_lt, nat_le, not, Bool, true, false, cond, Option, Some, None}
 use Rattle.std.proofs.Common.{is_some, IsSome, List, [], ◌∷◌, ◌++◌, map}
 use Rattle.std.proofs.Common.{length, refl, sym, ap, ◌∙◌, subst, arith}
 use Rattle.std.specs.List.{list_any, list_all}
@@ -115,3 +115,15 @@ pub taken-below : (keys : Keys) (seen : Seen) → keys.tree ≡ tree_told seen �
 taken-below keys seen t p name given e k None r n = absurd (false≢true n)
 taken-below keys seen t p name given e k (Some node) r n =
     subst (λ (tree : Tree). IsSome (get tree (child_path p name))) t (subst (λ q. IsSome (get keys.tree q)) (looked p name given e k) r.1)
+
+-- ---- what a walk left of a path
+
+pub none-left : (text : List ℕ) (e : Bool) → e ≡ (length text == 0) → e ≡ true → text ≡ []
+none-left [] e h k = refl
+none-left (b ∷ bs) e h k =
+    let z : (length (b ∷ bs) == 0) ≡ false = grind (arith, nat_tests) in
+    absurd (false≢true (sym (h ∙ z) ∙ k))
+
+pub some-left : (text : List ℕ) (e : Bool) → e ≡ (length text == 0) → e ≡ false → text ≢ []
+some-left [] e h k n = false≢true (sym k ∙ h)
+some-left (b ∷ bs) e h k n = let z = ap length n in absurd (omega (arith, z))

@@ -65,14 +65,14 @@ module _ (heap : Heap) (minor : ℕ) (offsets : List ℕ) (old : List CellState)
     pub told : after.told ≡ seen.told
 
   -- the first values were read, and just their names are met
-  pub record AreValuesRead {Y : Type 0} (index : ℕ) (values : List ReadValue) (met : List (Vec ℕ Y)) (now : List CellState) : Type 0 where
+  pub record AreValuesRead {Y : Type 0} (index : ℕ) (values : List ReadValue) (met : List (ℕ × Vec ℕ Y)) (now : List CellState) : Type 0 where
     pub names : AreKnown (members_in values) met
     pub new : AreNew [] (members_in values)
     pub many : length (members_in values) ≡ index
     pub no_more : unnamed now ≤ unnamed old
     pub left : (path : List ℕ) (seen : Seen) → IsTable heap seen.found path old → IsLeft path seen index values now
 
-  pub none-read : {Y : Type 0} (values : List ReadValue) (met : List (Vec ℕ Y)) → values ≡ [] → AreKnown [] met →
+  pub none-read : {Y : Type 0} (values : List ReadValue) (met : List (ℕ × Vec ℕ Y)) → values ≡ [] → AreKnown [] met →
       AreValuesRead 0 values met old
   none-read values met e m = subst (λ values. AreValuesRead 0 values met old) (sym e) (record {
     names = m;
@@ -83,7 +83,7 @@ module _ (heap : Heap) (minor : ℕ) (offsets : List ℕ) (old : List CellState)
   })
 
   module _ {Y : Type 0} (index offset : ℕ) (next : drop index offsets ≡ offset ∷ drop (index + 1) offsets) (values : List ReadValue)
-      (met : List (Vec ℕ Y)) (now : List CellState) (a : AreValuesRead index values met now) (new : List CellState)
+      (met : List (ℕ × Vec ℕ Y)) (now : List CellState) (a : AreValuesRead index values met now) (new : List CellState)
       (before : List ReadValue) (same : before ≡ values) where
     -- the reader of the next value
     abbrev FollowsNext : List ReadValue → Result ReadValue LoadFault → Type 0
@@ -93,7 +93,7 @@ module _ (heap : Heap) (minor : ℕ) (offsets : List ℕ) (old : List CellState)
     turned : (r : Result ReadValue LoadFault) → FollowsNext before r → FollowsNext values r
     turned r f = subst (λ vs. FollowsNext vs r) same f
 
-    pub more-read : (v : ReadValue) (grown : List ReadValue) (more : List (Vec ℕ Y)) → grown ≡ values ++ v ∷ [] → FollowsNext before (Ok v) →
+    pub more-read : (v : ReadValue) (grown : List ReadValue) (more : List (ℕ × Vec ℕ Y)) → grown ≡ values ++ v ∷ [] → FollowsNext before (Ok v) →
         AreKnown (members_in before ++ member_in v ∷ []) more → unnamed new ≤ unnamed now →
         IsSmallValue (member_in v) → IsOther (members_in before) (cow_slice_items v.name) →
         AreValuesRead (index + 1) grown more new
@@ -129,7 +129,7 @@ module _ (heap : Heap) (minor : ℕ) (offsets : List ℕ) (old : List CellState)
         (w.goes ∙ ap (λ os. rest-of path (members_in values) os w.after) next)
         (fails-on fault one rest w.after (turned (Err fault) f path w.after w.table)))
 
-  pub all-read : {Y : Type 0} (index : ℕ) (values : Vec ReadValue Global) (met : List (Vec ℕ Y)) (now : List CellState) →
+  pub all-read : {Y : Type 0} (index : ℕ) (values : Vec ReadValue Global) (met : List (ℕ × Vec ℕ Y)) (now : List CellState) →
       length offsets ≤ index → AreValuesRead index values.items met now → (path : List ℕ) →
       Follows heap path members (values_each heap minor path [] offsets) old now (Ok values)
   all-read index values met now l a path seen t =

@@ -28,12 +28,15 @@ use Rattle.reg_tree.proofs.InsertKey.CreatePathMade.{belongs_there}
 use Rattle.reg_tree.proofs.PathWalk.ReachedSeen.{named}
 
 module _ (bins : Bins) (root : ℕ) {table : DescriptorCells} (holds : TreeInvariant bins.bytes root table) (now : Keys) (view_is : seen_as bins root ≡ now) (reached : Reached) where
+  abbrev pub reaches_at : (from : Node) (path : List ℕ) → IsWalkedTo now from path reached → Reaches (heap_of bins) from path reached.node reached.missing.now
+  reaches_at from path r = subst (λ (k : Keys). Reaches (heap_of k.bins) from path reached.node reached.missing.now) (sym view_is) r.reaches
+
   abbrev pub leads_at : (from : Node) (path : List ℕ) → IsWalkedTo now from path reached → (p : Path) → IsAt now p from →
       LeadsTo bins.bytes from path reached.node reached.missing.now
   leads_at from path r p at = record {
     here = here_at bins root holds now view_is from p at;
     depth = at.depth;
-    reaches = subst (λ (k : Keys). Reaches (heap_of k.bins) from path reached.node reached.missing.now) (sym view_is) r.reaches;
+    reaches = reaches_at from path r;
   }
 
   -- where the first of its names belongs that are missing

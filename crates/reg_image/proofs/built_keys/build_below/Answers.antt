@@ -3,6 +3,7 @@ use Rattle.std.specs.FinMap.{get}
 use Rattle.reg_names.specs.declared.TheConstants.{PATH_LIMIT}
 use Rattle.reg_heap.specs.Paths.{Path, Rec}
 use Rattle.reg_heap.specs.Edits.{child_path, descriptor_of}
+use Rattle.reg_tree.specs.Reaching.{IsWalkedTo}
 use Rattle.reg_tree.specs.TreeKeys.{IsAt}
 use Rattle.reg_tree.specs.BuiltKeys.{AreWhole, built_key}
 use Rattle.reg_image.specs.Internal.BegunKeys.{IsLack, told_as}
@@ -16,6 +17,10 @@ pub build_key-requires-clause-like : goal.build_key-requires-clause-like
 build_key-requires-clause-like c =
     subst (λ (d : List ℕ). IfSome c.args.like (λ node. (q : Path) × IsAt c.args.tree.now q node × (descriptor_of (get c.args.tree.now.tree q) ≡ d)))
     (sym (ap (λ (r : Rec). r.descriptor) c.new_key.ensures.built)) c.requires.like
+
+pub build_key-requires-clause-reached : goal.build_key-requires-clause-reached
+build_key-requires-clause-reached c =
+    subst (λ name. IsWalkedTo c.args.tree.now c.args.above name c.args.reached) (sym (ap (λ (r : Rec). r.name) c.new_key.ensures.built)) c.requires.reached
 
 pub put_values-requires-clause-bare : goal.put_values-requires-clause-bare
 put_values-requires-clause-bare c =
@@ -75,3 +80,6 @@ returns-in-Err-clause-err c p is =
     as-lack (CrowdsBelow c.args.tree.now p key) c.in-Err.fault c.lack.result c.lack.ensures
     (λ full. crowds-key (built_key c.new_key.result) key (members_in c.args.parts.now.values.items) c.new_key.ensures.built refl _ _ p
     (c.in-Err.ensures.space p is (ap Err full)))
+
+pub returns-in_ok-put_values-in-Ok-clause-nodes : goal.returns-in_ok-put_values-in-Ok-clause-nodes
+returns-in_ok-put_values-in-Ok-clause-nodes c = λ path node at. c.in_ok-put_values-in-Ok.ensures.nodes path node (c.in-Ok.ensures.nodes path node at)

@@ -1,14 +1,15 @@
-use Rattle.std.proofs.Common.{rules, ◌∙◌, refl, sym}
-use Rattle.reg_image.proofs.Readers.SiblingTests.{path-valid, free-below}
+use Rattle.std.proofs.Common.{rules, None, refl}
+use Rattle.reg_image.proofs.Readers.SiblingTests.{path-valid, free-below, some-left}
 use Rattle.reg_image_tests.proofs.built_trees.build_below.Goals as goal
 
-pub resolve-requires-clause-path : goal.resolve-requires-clause-path
-resolve-requires-clause-path c = path-valid c.args.key.name.now _ refl c.requires.key.name
+pub reach-reached-requires-clause-path : goal.reach-reached-requires-clause-path
+reach-reached-requires-clause-path c = path-valid c.args.key.name.now _ refl c.requires.key.name
 
 pub build_key-requires-clause-room : goal.build_key-requires-clause-room
 build_key-requires-clause-room c p is =
     record {
-      free = free-below _ p c.args.key.name.now _ refl c.requires.key.name _ (c.resolve.ensures.found p is) (sym c.is_some.ensures ∙ c.if-is_some.false);
+      free = free-below c.args.tree.now p c.args.key.name.now _ refl c.requires.key.name None
+          (c.reach-reached.ensures.absent p is (some-left c.reach-reached.result.missing.now c.is_empty.result c.is_empty.ensures c.if-is_empty.false)) refl;
       deep = search rules;
       few = search rules;
     }

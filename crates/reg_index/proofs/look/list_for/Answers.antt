@@ -52,7 +52,7 @@ loop-low-preserved-in-Less c = λ lists h some keys.
     (omega (arith, c.loop-low-test.true)) b
     (c.key_in-first.ensures _ (leaf-of (heap_of c.args.arena.now) c.args.offset lists m c.leaf_in.result h l (c.leaf_in.ensures (heap_of c.args.arena.now) c.args.offset lists h c.content-root.ensures (omega (arith, b.some, l)) l))
     (omega (arith, (list-stands (heap_of c.args.arena.now) c.args.offset lists m h l).written.some)))
-    c.name_of.result.now c.name_of.ensures (no-greater c.name_order.result _ c.in-Less.is c.name_order.ensures)
+    c.name_of.result.now c.name_of.ensures (no-greater c.order.result _ c.in-Less.is c.order.ensures)
 
 pub loop-low-preserved : goal.loop-low-preserved
 loop-low-preserved c = λ lists h some keys.

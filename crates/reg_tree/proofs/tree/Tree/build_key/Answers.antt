@@ -1,4 +1,5 @@
 use Rattle.reg_tree.proofs.BuildKey.BuiltSeen.{like_there, may_there, holds_built, built_seen, builds_seen, lacks_seen, lengths_built, made_built, nodes_built}
+use Rattle.reg_tree.proofs.InsertKey.CreateReached.{place_at, reaches_at}
 use Rattle.reg_tree.proofs.tree.Tree.build_key.Goals as goal
 
 pub security_like-known-requires : goal.security_like-known-requires
@@ -17,6 +18,12 @@ build_below-requires-clause-known c =
 
 pub build_below-requires-clause-here : goal.build_below-requires-clause-here
 build_below-requires-clause-here c = may_there _ _ c.self.invariant _ c.self.view_is c.args.parent c.args.key c.requires.room c.requires.parent
+
+pub build_below-requires-clause-reached : goal.build_below-requires-clause-reached
+build_below-requires-clause-reached c = reaches_at _ _ c.self.invariant _ c.self.view_is c.args.reached c.args.parent _ c.requires.reached
+
+pub build_below-requires-clause-place : goal.build_below-requires-clause-place
+build_below-requires-clause-place c = place_at _ _ c.self.invariant _ c.self.view_is c.args.reached c.args.parent _ c.requires.reached
 
 pub invariant_of-self : goal.invariant_of-self
 invariant_of-self c =
