@@ -1,9 +1,11 @@
 //! Rows of scripts, each with the reply that the rules give, on a machine that may refuse an allocation.
 //!
 //! A row that wants memory is answered 8, or ends its script; then the hive is as it was, and the same row is answered as it should be
-//! when it comes again, a `notice` by the same notice. A `close` and a `notice` are never answered 8.
+//! when it comes again, a `notice` by the same notice. A `close` and a `notice` are never answered 8. The same of a callback that is
+//! registered before the rows of a script, and taken out after them, for which no memory is wanting.
 use crate::hives::{fresh_hive, image_of};
 use anyhow::{Result, bail};
+use reg_callbacks::{Callback, CallbackFault, Cookie, NoCallback};
 use reg_calls::Hive;
 use reg_script::{ScriptFault, run};
 use std::alloc::Global;
@@ -173,6 +175,14 @@ fn ask(alloc: Global, hive: &mut Hive, line: &str, wanted: &str) -> Result<Outco
     }
 }
 
+/// Whether a hive is as it was.
+fn is_same(before: &Snapshot, after: &Snapshot) -> bool {
+    after.entries == before.entries
+        && after.handles == before.handles
+        && after.pending == before.pending
+        && after.image.as_slice() == before.image.as_slice()
+}
+
 /// Counts a row that was not answered at once, and tells whether it has to be given again.
 fn count_refusal(
     counts: &mut Counts,
@@ -185,11 +195,7 @@ fn count_refusal(
         Outcome::NoMemory => counts.refused = counts.refused.saturating_add(1),
         Outcome::Ended => counts.ended = counts.ended.saturating_add(1),
     }
-    if after.entries != before.entries
-        || after.handles != before.handles
-        || after.pending != before.pending
-        || after.image.as_slice() != before.image.as_slice()
-    {
+    if !is_same(before, after) {
         bail!("a refusal changed the hive");
     }
     Ok(true)
@@ -230,10 +236,63 @@ fn check_script(alloc: Global, hive: &mut Hive, script: &str, counts: &mut Count
     Ok(())
 }
 
-/// Gives a script's rows to a fresh hive.
+/// Registers a callback whose first registration wanted memory, which must have left the hive as it was.
+fn register_again(
+    alloc: Global,
+    hive: &mut Hive,
+    callback: Box<dyn Callback + Send>,
+    before: &Snapshot,
+) -> Result<Cookie> {
+    let after = take_snapshot(alloc, hive)?;
+    if !is_same(before, &after) {
+        bail!("a registration that was refused changed the hive");
+    }
+    match hive.register(callback, 1) {
+        Ok(cookie) => Ok(cookie),
+        Err(_) => bail!("a callback was not registered again"),
+    }
+}
+
+/// Registers a callback, and again where memory was wanting.
+fn register(
+    alloc: Global,
+    hive: &mut Hive,
+    callback: Box<dyn Callback + Send>,
+    counts: &mut Counts,
+) -> Result<Cookie> {
+    let before = take_snapshot(alloc, hive)?;
+    counts.rows = counts.rows.saturating_add(1);
+    match hive.register(callback, 1) {
+        Ok(cookie) => Ok(cookie),
+        Err(CallbackFault::Memory(callback)) => {
+            counts.refused = counts.refused.saturating_add(1);
+            register_again(alloc, hive, callback, &before)
+        }
+        Err(_) => bail!("a callback was refused"),
+    }
+}
+
+/// Gives a script's rows to a hive with a callback, which is taken out at last: for that no memory is wanting.
+fn check_called_back(
+    alloc: Global,
+    hive: &mut Hive,
+    script: &str,
+    callback: Box<dyn Callback + Send>,
+    counts: &mut Counts,
+) -> Result<()> {
+    let cookie = register(alloc, hive, callback, counts)?;
+    check_script(alloc, hive, script, counts)?;
+    if hive.unregister(cookie).is_err() {
+        bail!("a callback was not taken out");
+    }
+    Ok(())
+}
+
+/// Gives a script's rows to a fresh hive with a callback that lets every call go on.
 fn check_fresh(alloc: Global, script: &str, counts: &mut Counts) -> Result<()> {
     let mut hive = fresh_hive(alloc)?;
-    check_script(alloc, &mut hive, script, counts)
+    let callback: Box<dyn Callback + Send> = Box::new(alloc, NoCallback)?;
+    check_called_back(alloc, &mut hive, script, callback, counts)
 }
 
 /// Gives the rows of all scripts to fresh hives, and prints how they were answered. Where one was answered wrongly, that is the error.
