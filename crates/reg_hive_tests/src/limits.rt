@@ -64,7 +64,8 @@ fn another_hive(rt: HostRuntime) -> Result<(), Fail> {
 
 /// Why no hive is made of this root and this descriptor.
 fn fault_of(alloc: Global, root_name: &[u8], descriptor: &[u8]) -> Option<NewFault> {
-    Hive::new(alloc, root_name, descriptor, 0).err()
+    let made: Result<Hive, NewFault> = Hive::new(alloc, root_name, descriptor, 0);
+    made.err()
 }
 
 #[test]
