@@ -2,12 +2,12 @@
 use Rattle.std.proofs.Common.{◌≡◌, ℕ, ◌+◌, List, length, length-append, sym, ap, ◌∙◌, arith, Option, Some, None, ◌⊎◌, inl, inr}
 use Rattle.std.specs.Prelude.{◌≢◌}
 use Rattle.reg_model.specs.Replies.{refusal}
-use Rattle.reg_model.specs.Callbacks.{Callbacks, change_status}
+use Rattle.reg_model.specs.Causes.{change_cause}
 use Rattle.reg_model.specs.declared.call.Change.{Change}
 use Rattle.reg_model.specs.declared.reply.Entry.{Entry}
 use Rattle.reg_model.specs.declared.reply.ChangeReply.{ChangeReply}
 use Rattle.reg_model.proofs.CallSteps.{not_zero}
-use Rattle.reg_calls.specs.Views.{View, IsApplied, IsAppliedBy, state}
+use Rattle.reg_calls.specs.Views.{View, IsAppliedBy, state}
 
 lacking : {X Y : Type 0} (reply : ChangeReply) → ((reply ≡ refusal 8) × X) ⊎ ((reply ≡ refusal 1450) × Y) → reply.status ≡ 0 → ⊥
 lacking reply (inl h) z = let e = ap (λ (r : ChangeReply). r.status) h.0 in omega (arith, e, z)
@@ -20,7 +20,8 @@ grown (Some status) old new session moment change reply not h z =
 grown None old new session moment change reply not (inl h) z = ap (λ (es : List Entry). length es) h.journal ∙ length-append old.journal _
 grown None old new session moment change reply not (inr h) z = absurd (lacking reply h.why z)
 
-pub accepted : (callbacks : Callbacks) (old new : View) (session moment : ℕ) (change : Change) (reply : ChangeReply)
-    → IsApplied callbacks old new session moment change reply → reply.status ≡ 0 → length new.journal ≡ length old.journal + 1
-accepted callbacks old new session moment change reply h z =
-    grown _ old new session moment change reply (not_zero (state old) session change (change_status callbacks (state old).world session moment change)) h z
+-- whatever status the callbacks answer
+pub accepted : (status : ℕ) (old new : View) (session moment : ℕ) (change : Change) (reply : ChangeReply)
+    → IsAppliedBy (change_cause (state old) session change status) old new session moment change reply → reply.status ≡ 0
+    → length new.journal ≡ length old.journal + 1
+accepted status old new session moment change reply h z = grown _ old new session moment change reply (not_zero (state old) session change status) h z

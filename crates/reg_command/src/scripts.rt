@@ -44,7 +44,7 @@ fn run_on<R: Read, W: Write, C: Callback>(
 {
     match run(alloc, input, output, hive) {
         Ok(()) => Ok(()),
-        Err(fault) => Err(Stop::Script(fault)),
+        Err(ended) => Err(Stop::Script(ended)),
     }
 }
 

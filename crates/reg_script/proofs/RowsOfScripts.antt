@@ -7,7 +7,7 @@ use Rattle.std.specs.Fmt.{digits}
 use Rattle.std.specs.FinMap.{insert, empty}
 use Rattle.hex.proofs.OnLiterals.{hex_on_literals}
 use Rattle.reg_model.specs.Worlds.{after}
-use Rattle.reg_model.specs.Callbacks.{no_callbacks}
+use Rattle.reg_model.specs.Callbacks.{Callbacks, no_callbacks}
 use Rattle.reg_model.specs.Causes.{early_cause, late_cause, change_cause, early_query_cause, late_query_cause}
 use Rattle.reg_model.specs.Replies.{refusal, reply_to, body_of}
 use Rattle.reg_model.specs.declared.answer.AnswerBody.TheVariants.{Refused, Short, Security}
@@ -20,7 +20,7 @@ use Rattle.reg_model.proofs.RowsReplies.{root_put}
 use Rattle.reg_tree.specs.TreeKeys.{Keys, made_root}
 use Rattle.reg_model.specs.declared.step.Outcome.TheVariants.{Changed, Answered}
 use Rattle.reg_calls.specs.Views.{View, IsHive, state, entry_of}
-use Rattle.reg_script.specs.Lines.{Stand, Lines, fresh_descriptor}
+use Rattle.reg_script.specs.Lines.{Stand, begins, Lines, fresh_descriptor}
 use Rattle.reg_script.proofs.RowsOfLines.{on_lines}
 
 -- a hive with no entries, and with the first one
@@ -79,6 +79,37 @@ refused_script hive is =
             ),
             refl,
           ),
+          refl,
+        ),
+        refl,
+      ),
+      refl,
+    )
+
+-- callbacks that refuse each call, and a script on a hive with these
+abbrev refusing : Callbacks
+refusing session moment path call = 1223
+
+abbrev refused_at : View → Stand
+refused_at hive = begins refusing (begun hive)
+
+-- a mask with another bit and a handle that isn't there are refused before they are asked; else the status is theirs
+refused_by_callbacks : (hive : View) → Lines refusing (begun hive) (codes "root 1048576\nroot 1\nquery 9 = -\n") (codes "87\n1223\n6\n") (begun hive)
+unfolding on_lines digits early_cause late_cause early_query_cause late_query_cause
+refused_by_callbacks hive =
+    let here = refused_at hive in (
+      here,
+      (
+        here,
+        codes "87\n",
+        codes "1223\n6\n",
+        (Changed (refusal 87), (refl, refl), refl, refl),
+        (
+          here,
+          codes "1223\n",
+          codes "6\n",
+          (Changed (refusal 1223), (refl, refl), refl, refl),
+          (here, codes "6\n", [], (Answered (record { at = 0; body = Refused 6 }), (refl, inl refl, refl), refl, refl), (refl, refl), refl),
           refl,
         ),
         refl,

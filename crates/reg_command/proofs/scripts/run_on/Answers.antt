@@ -7,4 +7,4 @@ returns-in-Ok-clause-ok g c =
 
 pub returns-in-Err-clause-err : goal.returns-in-Err-clause-err
 returns-in-Err-clause-err g c =
-    λ fresh. stops_fresh c.in-Err.fault _ _ _ _ _ _ _ fresh.fresh (none_asked g.C.Callback.answers _ fresh.alone) c.in-Err.ensures.stops
+    λ fresh. stops_fresh c.in-Err.ended _ _ _ _ _ _ _ fresh.fresh (none_asked g.C.Callback.answers _ fresh.alone) c.in-Err.ensures.stops
