@@ -259,11 +259,7 @@ fn refused_calls(alloc: Global) -> Result<Vec<Call>, AllocError> {
 }
 
 /// Registers a callback that counts, at altitude 7.
-fn register(
-    hive: &mut Hive<Counting>,
-    status: u32,
-    asked: &Rc<Cell<u32>>,
-) -> Result<Cookie, Fail> {
+fn register(hive: &mut Hive<Counting>, status: u32, asked: &Rc<Cell<u32>>) -> Result<Cookie, Fail> {
     let callback = Counting {
         status,
         asked: asked.clone()?,
@@ -349,7 +345,10 @@ fn two_in(alloc: Global, hive: &mut Hive) -> Result<String, Fail> {
     let low = set(alloc, hive, b"v", b"a")?;
     let (fault, status) = returned(hive.register(boxed(alloc, 9)?, 100));
     let closed = hive.apply(0, 0, Change::Close { handle: 0 }).status;
-    Ok(format!(in alloc; "{both}; {gone}; {low}; {fault} {status}; {closed}; {}", hive.len())?)
+    Ok(format!(in alloc;
+        "{both}; {gone}; {low}; {fault} {status}; {closed}; {}",
+        hive.len()
+    )?)
 }
 
 fn two(alloc: Global) -> Result<String, Fail> {
