@@ -39,11 +39,11 @@ impl Callback for Counting {
 
 /// Answers a status to the calls of keys below the root.
 #[derive(Drop)]
-struct Below {
+struct BelowRoot {
     status: u32,
 }
 
-impl Callback for Below {
+impl Callback for BelowRoot {
     ghost answers = { λ callback session moment path seen. if length path == 0 then 0 else callback.status };
 
     fn pre_change(&self, _: u8, _: u64, path: &[u8], _: &Change) -> u32 {
@@ -258,13 +258,18 @@ fn refused_calls(alloc: Global) -> Result<Vec<Call>, AllocError> {
     Ok(Vec::from_array(alloc, calls)?)
 }
 
-/// Registers a callback that counts, at altitude 7.
-fn register(hive: &mut Hive<Counting>, status: u32, asked: &Rc<Cell<u32>>) -> Result<Cookie, Fail> {
+/// Registers a callback that counts.
+fn register(
+    hive: &mut Hive<Counting>,
+    status: u32,
+    altitude: u32,
+    asked: &Rc<Cell<u32>>,
+) -> Result<Cookie, Fail> {
     let callback = Counting {
         status,
         asked: asked.clone()?,
     };
-    match hive.register(callback, 7) {
+    match hive.register(callback, altitude) {
         Ok(cookie) => Ok(cookie),
         Err(_) => Err("not registered".into()),
     }
@@ -277,7 +282,7 @@ fn counted_hive(alloc: Global) -> Result<Hive<Counting>, Fail> {
 
 fn accepted_in(alloc: Global, hive: &mut Hive<Counting>) -> Result<String, Fail> {
     let asked = Rc::new(alloc, Cell::new(0))?;
-    let _cookie = register(hive, 0, &asked)?;
+    let _cookie = register(hive, 0, 7, &asked)?;
     told_of(alloc, hive, &asked, accepted_calls(alloc)?)
 }
 
@@ -298,7 +303,7 @@ fn each_call_but_close_is_asked_once(rt: HostRuntime) -> Result<(), Fail> {
 fn refused_in(alloc: Global, hive: &mut Hive<Counting>) -> Result<String, Fail> {
     let asked = Rc::new(alloc, Cell::new(0))?;
     let _opened = told_of(alloc, hive, &asked, opening_calls(alloc)?)?;
-    let _cookie = register(hive, 77, &asked)?;
+    let _cookie = register(hive, 77, 7, &asked)?;
     told_of(alloc, hive, &asked, refused_calls(alloc)?)
 }
 
@@ -314,6 +319,26 @@ fn callbacks_have_their_place_in_the_order(rt: HostRuntime) -> Result<(), Fail> 
         refused(rt.alloc()),
         "6 0; 1018 0; 87 0; 5 0; 5 0; 87 0; 77 1; 77 2; 77 3; 77 4; 77 5; 77 6; 77 7; 77 8; 0 8; 5",
     )
+}
+
+/// Two openings of the root and two calls without a handle, with how often the lower of two callbacks was asked, where the higher one
+/// refuses.
+fn lower_in(alloc: Global, hive: &mut Hive<Counting>) -> Result<String, Fail> {
+    let high = Rc::new(alloc, Cell::new(0))?;
+    let low = Rc::new(alloc, Cell::new(0))?;
+    let _low = register(hive, 87, 100, &low)?;
+    let _high = register(hive, 5, 200, &high)?;
+    told_of(alloc, hive, &low, opening_calls(alloc)?)
+}
+
+fn lower(alloc: Global) -> Result<String, Fail> {
+    let mut hive = counted_hive(alloc)?;
+    lower_in(alloc, &mut hive)
+}
+
+#[test]
+fn nobody_is_asked_below_a_refusal(rt: HostRuntime) -> Result<(), Fail> {
+    assert_told(&rt, lower(rt.alloc()), "5 0; 5 0; 6 0; 6 0; 0")
 }
 
 fn boxed(alloc: Global, status: u32) -> Result<Box<dyn Callback + Send>, AllocError> {
@@ -364,7 +389,7 @@ fn higher_altitude_answers_first(rt: HostRuntime) -> Result<(), Fail> {
 /// The replies of two sets, by a handle to the root and one to a key below it, where a callback refuses keys below the root.
 fn below_in(alloc: Global, hive: &mut Hive) -> Result<String, Fail> {
     let _root = hive.apply(0, 0, Change::OpenRoot { mask: ALL });
-    let callback: Box<dyn Callback + Send> = Box::new(alloc, Below { status: 3 })?;
+    let callback: Box<dyn Callback + Send> = Box::new(alloc, BelowRoot { status: 3 })?;
     let _cookie = hive.register(callback, 1);
     let made = Change::CreateKey {
         handle: 0,
