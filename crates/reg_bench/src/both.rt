@@ -2,10 +2,9 @@
 ghost use Rattle.std.specs.Prelude.{◌<◌};
 
 use crate::cells::print_cells;
-use crate::hives::{apply_all, new_hive, read_all};
+use crate::hives::{PlainHive, apply_all, new_hive, read_all};
 use crate::times::{Times, Visits};
 use anyhow::{Result, bail};
-use reg_calls::Hive;
 use reg_model::{Change, Query};
 use reg_workload::{KeyHandles, KeyPlan, KeyStep, PlainMaps, numbers_below, queries};
 use std::alloc::Global;
@@ -24,7 +23,7 @@ const FEW: usize = 120;
 pub struct Both {
     alloc: Global,
     plan: KeyPlan,
-    hive: Hive,
+    hive: PlainHive,
     maps: PlainMaps,
 }
 

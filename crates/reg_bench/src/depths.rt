@@ -1,9 +1,8 @@
 //! Questions by handles of keys that stand high or deep in a chain.
 
-use crate::hives::{apply_all, new_hive, read_all};
+use crate::hives::{PlainHive, apply_all, new_hive, read_all};
 use crate::times::Times;
 use anyhow::{Result, bail};
-use reg_calls::Hive;
 use reg_workload::{ValueStep, make_chain, query_times};
 use std::alloc::Global;
 use std::rt::Clock;
@@ -25,7 +24,7 @@ const SIZE: u64 = 4;
 const BATCHES: u32 = 50;
 
 /// Makes a chain as deep as the deeper of the keys, and sets a value of both.
-fn fill(alloc: Global, hive: &mut Hive, depths: [u32; 2]) -> Result<()> {
+fn fill(alloc: Global, hive: &mut PlainHive, depths: [u32; 2]) -> Result<()> {
     apply_all(hive, make_chain(alloc, depths[1])?)?;
     for depth in depths {
         apply_all(hive, ValueStep::Set.changes(alloc, &[0], u64::from(depth))?)?;
@@ -34,7 +33,7 @@ fn fill(alloc: Global, hive: &mut Hive, depths: [u32; 2]) -> Result<()> {
 }
 
 /// Asks for the value of a key, and tells how many bytes were told.
-fn ask(alloc: Global, hive: &Hive, depth: u32, calls: u32) -> Result<u64> {
+fn ask(alloc: Global, hive: &PlainHive, depth: u32, calls: u32) -> Result<u64> {
     let queries = query_times(alloc, calls, u64::from(depth))?;
     read_all(hive, queries.as_slice())
 }
@@ -45,7 +44,7 @@ pub fn count(rt: &impl Print, alloc: Global) -> Result<()> {
     count_in(rt, alloc, &mut hive)
 }
 
-fn count_in(rt: &impl Print, alloc: Global, hive: &mut Hive) -> Result<()> {
+fn count_in(rt: &impl Print, alloc: Global, hive: &mut PlainHive) -> Result<()> {
     fill(alloc, hive, SMALL)?;
     let mut told: u64 = 0;
     for depth in SMALL {
@@ -61,7 +60,7 @@ pub fn measure(rt: &(impl Print + Clock), alloc: Global) -> Result<()> {
     measure_in(rt, alloc, &mut hive)
 }
 
-fn measure_in(rt: &(impl Print + Clock), alloc: Global, hive: &mut Hive) -> Result<()> {
+fn measure_in(rt: &(impl Print + Clock), alloc: Global, hive: &mut PlainHive) -> Result<()> {
     fill(alloc, hive, DEPTHS)?;
     let [high, deep] = DEPTHS;
     let mut times = Times::ZERO;
@@ -76,7 +75,7 @@ fn measure_in(rt: &(impl Print + Clock), alloc: Global, hive: &mut Hive) -> Resu
 }
 
 // The questions are made ready before the clock starts.
-fn time_batch(rt: &impl Clock, alloc: Global, hive: &Hive, depth: u32) -> Result<Duration> {
+fn time_batch(rt: &impl Clock, alloc: Global, hive: &PlainHive, depth: u32) -> Result<Duration> {
     let queries = query_times(alloc, BATCH, u64::from(depth))?;
     let start = Instant::now(rt)?;
     let told = read_all(hive, queries.as_slice())?;

@@ -1,10 +1,9 @@
 //! A script that makes keys with three values each, beside the same changes of plain maps.
 
-use crate::hives::new_hive;
+use crate::hives::{PlainHive, new_hive};
 use crate::script::replies;
 use crate::times::Times;
 use anyhow::{Result, bail};
-use reg_calls::Hive;
 use reg_workload::{
     ALL_RIGHTS, KEY_VALUES, KeyPlan, KeyStep, PlainMaps, data_size, key_name, numbers_below,
 };
@@ -77,7 +76,12 @@ fn push_keys(alloc: Global, text: &mut String, plan: KeyPlan) -> Result<()> {
 }
 
 /// Runs a script on a hive, and tells how long that took.
-fn time_script(rt: &impl Clock, alloc: Global, hive: &mut Hive, plan: KeyPlan) -> Result<Duration> {
+fn time_script(
+    rt: &impl Clock,
+    alloc: Global,
+    hive: &mut PlainHive,
+    plan: KeyPlan,
+) -> Result<Duration> {
     let text = script(alloc, plan)?;
     let start = Instant::now(rt)?;
     let replies = replies(alloc, hive, text.as_bytes())?;

@@ -1,10 +1,9 @@
 //! Calls on a key of many values, beside a plain search of the list.
 
 use crate::cells::print_cells;
-use crate::hives::{apply_all, new_hive, open_root};
+use crate::hives::{PlainHive, apply_all, new_hive, open_root};
 use crate::times::Times;
 use anyhow::{Result, bail};
-use reg_calls::Hive;
 use reg_model::Change;
 use reg_workload::{PlainList, ValueStep, numbers_below, take_at_random};
 use std::alloc::Global;
@@ -43,14 +42,19 @@ const SEED: u64 = 42;
 const ROOT: u64 = 0;
 
 /// Opens the root and sets so many values, in the hive and in the list.
-fn fill(alloc: Global, hive: &mut Hive, list: &mut PlainList, values: u32) -> Result<()> {
+fn fill(alloc: Global, hive: &mut PlainHive, list: &mut PlainList, values: u32) -> Result<()> {
     open_root(alloc, hive)?;
     let numbers = numbers_below(alloc, values)?;
     set_all(alloc, hive, list, numbers.as_slice())
 }
 
 /// Sets these values, in the hive and in the list.
-fn set_all(alloc: Global, hive: &mut Hive, list: &mut PlainList, values: &[u32]) -> Result<()> {
+fn set_all(
+    alloc: Global,
+    hive: &mut PlainHive,
+    list: &mut PlainList,
+    values: &[u32],
+) -> Result<()> {
     let calls = ValueStep::Set.changes(alloc, values, ROOT)?;
     list.apply_all(calls.as_slice())?;
     apply_all(hive, calls)
@@ -66,7 +70,7 @@ fn chosen(alloc: Global, values: u32, calls: u32) -> Result<Vec<u32>> {
 fn time_sets(
     rt: &impl Clock,
     alloc: Global,
-    hive: &mut Hive,
+    hive: &mut PlainHive,
     list: &PlainList,
     values: &[u32],
 ) -> Result<Times> {
@@ -83,7 +87,7 @@ fn time_sets(
 fn time_deletes(
     rt: &impl Clock,
     alloc: Global,
-    hive: &mut Hive,
+    hive: &mut PlainHive,
     list: &mut PlainList,
     values: &[u32],
 ) -> Result<Times> {
@@ -104,7 +108,7 @@ fn time_deletes(
 // The list stays as it is: it tells how long a search takes that finds each value.
 fn time_batch(
     rt: &impl Clock,
-    hive: &mut Hive,
+    hive: &mut PlainHive,
     list: &PlainList,
     calls: Vec<Change>,
 ) -> Result<Times> {
@@ -130,7 +134,7 @@ struct Calls {
 fn time(
     rt: &impl Clock,
     alloc: Global,
-    hive: &mut Hive,
+    hive: &mut PlainHive,
     list: &mut PlainList,
     size: ListSize,
 ) -> Result<Calls> {
@@ -148,7 +152,7 @@ pub fn count(rt: &(impl Print + Clock), alloc: Global) -> Result<()> {
     count_in(rt, alloc, &mut hive)
 }
 
-fn count_in(rt: &(impl Print + Clock), alloc: Global, hive: &mut Hive) -> Result<()> {
+fn count_in(rt: &(impl Print + Clock), alloc: Global, hive: &mut PlainHive) -> Result<()> {
     let mut list = PlainList::new(alloc)?;
     time(rt, alloc, hive, &mut list, SMALL)?;
     let ListSize { values, calls } = SMALL;
@@ -166,7 +170,7 @@ pub fn measure(rt: &(impl Print + Clock), alloc: Global) -> Result<()> {
     measure_in(rt, alloc, &mut hive)
 }
 
-fn measure_in(rt: &(impl Print + Clock), alloc: Global, hive: &mut Hive) -> Result<()> {
+fn measure_in(rt: &(impl Print + Clock), alloc: Global, hive: &mut PlainHive) -> Result<()> {
     let mut list = PlainList::new(alloc)?;
     let times = time(rt, alloc, hive, &mut list, LARGE)?;
     let ListSize { values, calls } = LARGE;

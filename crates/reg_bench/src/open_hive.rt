@@ -4,9 +4,8 @@ ghost use Rattle.reg_workload.specs.Operations.{call_of};
 ghost use Rattle.reg_calls.specs.HiveView.{view_of};
 ghost use Rattle.reg_bench.specs.Batches.{entries_of};
 
-use crate::hives::new_hive;
+use crate::hives::{PlainHive, new_hive};
 use anyhow::{Result, bail};
-use reg_calls::Hive;
 use reg_model::{AnswerBody, Bytes, Call, Change, Query};
 use reg_workload::{ALL_RIGHTS, BATCH, OLD_SUBKEY, Operation, Size};
 use std::alloc::Global;
@@ -24,7 +23,7 @@ fn path_of(alloc: Global, size: Size, number: u32) -> Result<String> {
 #[derive(Drop)]
 pub struct OpenHive {
     alloc: Global,
-    hive: Hive,
+    hive: PlainHive,
     staying: Vec<u64>,
     spare: Vec<u64>,
 }

@@ -1,9 +1,8 @@
 //! A script of many lines, read from memory, answered and written to memory.
 
-use crate::hives::new_hive;
+use crate::hives::{PlainHive, new_hive};
 use crate::key_script;
 use anyhow::{Result, bail};
-use reg_calls::Hive;
 use reg_script::run;
 use reg_workload::PerCall;
 use std::alloc::Global;
@@ -81,7 +80,7 @@ impl Script {
 }
 
 /// Runs a script, and gives the replies.
-pub fn replies(alloc: Global, hive: &mut Hive, script: &[u8]) -> Result<Vec<u8>> {
+pub fn replies(alloc: Global, hive: &mut PlainHive, script: &[u8]) -> Result<Vec<u8>> {
     let mut input = script;
     let mut output = Vec::new(alloc);
     let Ok(()) = run(alloc, &mut input, &mut output, hive) else {
@@ -100,7 +99,7 @@ pub fn count(rt: &impl Print, alloc: Global) -> Result<()> {
     count_in(rt, alloc, &mut hive)
 }
 
-fn count_in(rt: &impl Print, alloc: Global, hive: &mut Hive) -> Result<()> {
+fn count_in(rt: &impl Print, alloc: Global, hive: &mut PlainHive) -> Result<()> {
     let mut script = Script::new(alloc)?;
     for keys in SMALL {
         script.pass(keys)?;
@@ -132,7 +131,7 @@ fn measure_at(rt: &(impl Print + Clock), alloc: Global, visits: u32) -> Result<(
 fn measure_in(
     rt: &(impl Print + Clock),
     alloc: Global,
-    hive: &mut Hive,
+    hive: &mut PlainHive,
     visits: u32,
 ) -> Result<()> {
     let script = Script::of_visits(alloc, visits)?;

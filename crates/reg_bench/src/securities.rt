@@ -1,8 +1,7 @@
 //! Descriptors of keys, set, asked for and given to keys that are made, of which a hive has few or many.
 
-use crate::hives::{apply_all, new_hive, open_root};
+use crate::hives::{PlainHive, apply_all, new_hive, open_root};
 use anyhow::{Result, bail};
-use reg_calls::Hive;
 use reg_model::{AnswerBody, Query};
 use reg_workload::{
     PerCall, SecurityStep, descriptor_queries, numbers_below, numbers_in_turn, take_at_random,
@@ -27,13 +26,13 @@ const CALLS: u32 = 100_000;
 const SHARED: u32 = 5_000;
 
 /// Does a step with each descriptor.
-fn step(alloc: Global, hive: &mut Hive, step: SecurityStep, descriptors: u32) -> Result<()> {
+fn step(alloc: Global, hive: &mut PlainHive, step: SecurityStep, descriptors: u32) -> Result<()> {
     let numbers = numbers_below(alloc, descriptors)?;
     apply_all(hive, step.changes(alloc, numbers.as_slice())?)
 }
 
 /// Asks for descriptors, each of which is told, and tells how many bytes they have together.
-fn ask_all(hive: &Hive, queries: &[Query]) -> Result<u64> {
+fn ask_all(hive: &PlainHive, queries: &[Query]) -> Result<u64> {
     let mut told: u64 = 0;
     for query in queries {
         match &hive.read(0, query).body {
@@ -59,7 +58,7 @@ fn count_at(rt: &impl Print, alloc: Global, descriptors: u32) -> Result<()> {
     count_in(rt, alloc, &mut hive, descriptors)
 }
 
-fn count_in(rt: &impl Print, alloc: Global, hive: &mut Hive, descriptors: u32) -> Result<()> {
+fn count_in(rt: &impl Print, alloc: Global, hive: &mut PlainHive, descriptors: u32) -> Result<()> {
     open_root(alloc, hive)?;
     step(alloc, hive, SecurityStep::Make, descriptors)?;
     step(alloc, hive, SecurityStep::Set, descriptors)?;
@@ -92,7 +91,7 @@ fn measure_at(rt: &(impl Print + Clock), alloc: Global, descriptors: u32) -> Res
 fn measure_in(
     rt: &(impl Print + Clock),
     alloc: Global,
-    hive: &mut Hive,
+    hive: &mut PlainHive,
     descriptors: u32,
 ) -> Result<()> {
     open_root(alloc, hive)?;
@@ -121,7 +120,7 @@ fn in_disorder(alloc: Global, descriptors: u32) -> Result<Vec<u32>> {
 fn time_step(
     rt: &(impl Print + Clock),
     alloc: Global,
-    hive: &mut Hive,
+    hive: &mut PlainHive,
     step: SecurityStep,
     numbers: &[u32],
 ) -> Result<()> {
@@ -136,7 +135,7 @@ fn time_step(
 fn time_queries(
     rt: &(impl Print + Clock),
     alloc: Global,
-    hive: &Hive,
+    hive: &PlainHive,
     numbers: &[u32],
 ) -> Result<()> {
     let queries = descriptor_queries(alloc, numbers)?;

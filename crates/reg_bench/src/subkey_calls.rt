@@ -1,10 +1,9 @@
 //! The calls on many subkeys of one key: made one by one, told one after the other, and deleted in one call.
 
 use crate::cells::{count_cells, print_cells};
-use crate::hives::{apply_all, new_hive, open_root};
+use crate::hives::{PlainHive, apply_all, new_hive, open_root};
 use crate::subkeys::{Order, SIZES, SMALL};
 use anyhow::{Result, bail};
-use reg_calls::Hive;
 use reg_model::{AnswerBody, Bytes, Change, Query};
 use reg_workload::{ALL_RIGHTS, PerCall};
 use std::alloc::Global;
@@ -46,7 +45,7 @@ fn asks(alloc: Global, keys: u32) -> Result<Vec<Query>> {
 }
 
 /// Asks for subkeys, each of which is told, and tells how many bytes their names have together.
-fn ask_all(hive: &Hive, queries: &[Query]) -> Result<u64> {
+fn ask_all(hive: &PlainHive, queries: &[Query]) -> Result<u64> {
     let mut told: u64 = 0;
     for query in queries {
         match &hive.read(0, query).body {
@@ -75,7 +74,7 @@ pub fn count(rt: &impl Print, alloc: Global) -> Result<()> {
     count_in(rt, alloc, &mut hive)
 }
 
-fn count_in(rt: &impl Print, alloc: Global, hive: &mut Hive) -> Result<()> {
+fn count_in(rt: &impl Print, alloc: Global, hive: &mut PlainHive) -> Result<()> {
     open_root(alloc, hive)?;
     let names = Order::Random.names(alloc, SMALL)?;
     apply_all(hive, makes(alloc, names.as_slice())?)?;
@@ -110,7 +109,7 @@ fn measure_at(rt: &(impl Print + Clock), alloc: Global, keys: u32, order: Order)
 fn measure_in(
     rt: &(impl Print + Clock),
     alloc: Global,
-    hive: &mut Hive,
+    hive: &mut PlainHive,
     keys: u32,
     order: Order,
 ) -> Result<()> {
@@ -125,7 +124,7 @@ fn measure_in(
 fn time_makes(
     rt: &(impl Print + Clock),
     alloc: Global,
-    hive: &mut Hive,
+    hive: &mut PlainHive,
     keys: u32,
     order: Order,
 ) -> Result<()> {
@@ -138,7 +137,7 @@ fn time_makes(
     Ok(())
 }
 
-fn time_asks(rt: &(impl Print + Clock), alloc: Global, hive: &Hive, keys: u32) -> Result<()> {
+fn time_asks(rt: &(impl Print + Clock), alloc: Global, hive: &PlainHive, keys: u32) -> Result<()> {
     let queries = asks(alloc, keys)?;
     let start = Instant::now(rt)?;
     let _told = ask_all(hive, queries.as_slice())?;
@@ -148,7 +147,7 @@ fn time_asks(rt: &(impl Print + Clock), alloc: Global, hive: &Hive, keys: u32) -
     Ok(())
 }
 
-fn time_delete(rt: &(impl Print + Clock), alloc: Global, hive: &mut Hive) -> Result<()> {
+fn time_delete(rt: &(impl Print + Clock), alloc: Global, hive: &mut PlainHive) -> Result<()> {
     let calls = deletes(alloc)?;
     let start = Instant::now(rt)?;
     apply_all(hive, calls)?;

@@ -1,8 +1,7 @@
 //! Values, set and asked for by a handle of a key that has several.
 
-use crate::hives::new_hive;
+use crate::hives::{PlainHive, new_hive};
 use anyhow::{Result, bail};
-use reg_calls::Hive;
 use reg_heap::limits::DATA_LIMIT;
 use reg_model::{AnswerBody, Bytes, Change, Query};
 use reg_workload::{ALL_RIGHTS, PerCall};
@@ -26,7 +25,7 @@ const SIZE: usize = 100;
 const LARGE_CALLS: u32 = 50;
 
 /// Opens the root, and sets so many values.
-fn fill(alloc: Global, hive: &mut Hive, values: u32) -> Result<()> {
+fn fill(alloc: Global, hive: &mut PlainHive, values: u32) -> Result<()> {
     let opened = hive.apply(0, 0, Change::OpenRoot { mask: ALL_RIGHTS });
     if opened.status != 0 {
         bail!("the root was not opened");
@@ -71,7 +70,7 @@ fn queries(alloc: Global, calls: u32, values: u32) -> Result<Vec<Query>> {
     Ok(queries)
 }
 
-fn set_all(hive: &mut Hive, changes: Vec<Change>) -> Result<()> {
+fn set_all(hive: &mut PlainHive, changes: Vec<Change>) -> Result<()> {
     for change in changes {
         if hive.apply(0, 1, change).status != 0 {
             bail!("a value was not set");
@@ -81,7 +80,7 @@ fn set_all(hive: &mut Hive, changes: Vec<Change>) -> Result<()> {
 }
 
 /// Asks all, and tells how many bytes were told.
-fn ask_all(hive: &Hive, queries: &[Query]) -> Result<u64> {
+fn ask_all(hive: &PlainHive, queries: &[Query]) -> Result<u64> {
     let mut total: u64 = 0;
     for query in queries {
         match hive.read(0, query).body {
@@ -98,7 +97,7 @@ pub fn count(rt: &impl Print, alloc: Global) -> Result<()> {
     count_in(rt, alloc, &mut hive)
 }
 
-fn count_in(rt: &impl Print, alloc: Global, hive: &mut Hive) -> Result<()> {
+fn count_in(rt: &impl Print, alloc: Global, hive: &mut PlainHive) -> Result<()> {
     fill(alloc, hive, SMALL)?;
     set_all(hive, sets(alloc, SMALL, SMALL, SIZE)?)?;
     let told = ask_all(hive, queries(alloc, SMALL, SMALL)?.as_slice())?;
@@ -131,7 +130,7 @@ fn measure_at(
 fn measure_in(
     rt: &(impl Print + Clock),
     alloc: Global,
-    hive: &mut Hive,
+    hive: &mut PlainHive,
     values: u32,
     calls: u32,
     size: usize,
@@ -141,7 +140,7 @@ fn measure_in(
     time_queries(rt, hive, queries(alloc, calls, values)?.as_slice())
 }
 
-fn time_sets(rt: &(impl Print + Clock), hive: &mut Hive, changes: Vec<Change>) -> Result<()> {
+fn time_sets(rt: &(impl Print + Clock), hive: &mut PlainHive, changes: Vec<Change>) -> Result<()> {
     let calls = changes.len();
     let start = Instant::now(rt)?;
     set_all(hive, changes)?;
@@ -150,7 +149,7 @@ fn time_sets(rt: &(impl Print + Clock), hive: &mut Hive, changes: Vec<Change>) -
     Ok(())
 }
 
-fn time_queries(rt: &(impl Print + Clock), hive: &Hive, queries: &[Query]) -> Result<()> {
+fn time_queries(rt: &(impl Print + Clock), hive: &PlainHive, queries: &[Query]) -> Result<()> {
     let start = Instant::now(rt)?;
     let _told = ask_all(hive, queries)?;
     let asked = PerCall::new(start.elapsed(rt)?, queries.len());

@@ -50,7 +50,8 @@ refused-as callbacks v new session moment change reply n store Memory is short t
 -- one that was, and for which space or memory was wanting, isn't made, and nothing changed
 pub given-up : (callbacks : Callbacks) (origin : Tree) (es : List Entry) (store new : Store) (session moment n : ℕ) (change : Change) (reply : ChangeReply) (lack : Lack) →
     state_of origin es ≡ at n store → IsClear n store session change →
-    asked_before change (change_status callbacks (world_of store) session moment change) ≡ None → IsMade store new session moment n change (Err lack) → reply ≡ refusal (status_of lack) → (v w : View) →
+    asked_before change (change_status callbacks (world_of store) session moment change) ≡ None → IsMade store new session moment n change (Err lack) →
+    reply ≡ refusal (status_of lack) → (v w : View) →
     view_with origin es store ≡ v → w ≡ view_with origin es new → IsApplied callbacks v w session moment change reply
 given-up callbacks origin es store new session moment n change reply lack is clear none made told v w was now =
     applied-by callbacks v w session moment change reply n store None (ap state (sym was) ∙ is) (sym (still-clear (at n store) session _ change clear none))

@@ -241,8 +241,8 @@ impl<C: Callback> Hive<C> {
         Ok(outcomes)
     }
 
-    /// Registers a callback at an altitude, and answers its cookie. From then on it is asked of each call but Close, before the
-    /// callbacks at lower altitudes and after those at higher ones, at its place in the order of refusals: after those for the
+    /// Registers a callback at an altitude, and answers its cookie. From then on it is asked of each call but Close, unless one at a
+    /// higher altitude refuses, and before those at lower ones, at its place in the order of refusals: after those for the
     /// handle, bad arguments, rights and what is counted, before the call's own. `Full` where 65,536 registrations were made, else
     /// `AltitudeTaken` where a callback is at that altitude, else `Memory`; then nothing changed, and the callback comes back.
     pub fn register(&mut self, callback: C, altitude: u32) -> Result<Cookie, CallbackFault<C>>

@@ -5,7 +5,7 @@
 //! just the notices that the journal tells it. It stands on reg_tree, reg_handles, reg_notify, reg_journal, reg_callbacks and
 //! reg_model. Its type is [`Hive`]; its faults are [`NewFault`] and [`RunFault`].
 //!
-//! Each call but Close asks the hive's callbacks first ([`Hive::register`]): after its refusals by 6, 1018, 87, 5 for a right and 1450
+//! Each call but Close asks the hive's callbacks ([`Hive::register`]): after its refusals by 6, 1018, 87, 5 for a right and 1450
 //! for what is counted, and before all others. What the first of them answers that isn't 0 is then the answer.
 //!
 //! | Call | Right | Refused | Effect or answer | File |

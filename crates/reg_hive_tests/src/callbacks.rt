@@ -321,6 +321,38 @@ fn callbacks_have_their_place_in_the_order(rt: HostRuntime) -> Result<(), Fail> 
     )
 }
 
+/// So many openings of the root.
+fn root_calls(alloc: Global, count: u32) -> Result<Vec<Call>, AllocError> {
+    let mut calls = Vec::new(alloc);
+    for _number in 0..count {
+        calls.push(open_root(ALL))?;
+    }
+    Ok(calls)
+}
+
+/// An opening more than a session's 16,384 handles, and a Close, with how many calls the callback was asked of.
+fn crowded_in(alloc: Global, hive: &mut Hive<Counting>) -> Result<String, Fail> {
+    let asked = Rc::new(alloc, Cell::new(0))?;
+    let _cookie = register(hive, 0, 7, &asked)?;
+    let _opened = told_of(alloc, hive, &asked, root_calls(alloc, 16_384)?)?;
+    let calls = Vec::from_array(alloc, [open_root(ALL), close(5), open_root(ALL)])?;
+    told_of(alloc, hive, &asked, calls)
+}
+
+fn crowded(alloc: Global) -> Result<String, Fail> {
+    let mut hive = counted_hive(alloc)?;
+    crowded_in(alloc, &mut hive)
+}
+
+#[test]
+fn nobody_is_asked_where_a_count_refuses(rt: HostRuntime) -> Result<(), Fail> {
+    assert_told(
+        &rt,
+        crowded(rt.alloc()),
+        "1450 16384; 0 16384; 0 16385; 16386",
+    )
+}
+
 /// Two openings of the root and two calls without a handle, with how often the lower of two callbacks was asked, where the higher one
 /// refuses.
 fn lower_in(alloc: Global, hive: &mut Hive<Counting>) -> Result<String, Fail> {

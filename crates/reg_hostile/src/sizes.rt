@@ -10,8 +10,8 @@ use std::io;
 use std::rt::Clock;
 use std::time::{Duration, Instant};
 
-/// How often each image is loaded: the fastest counts.
-const TURNS: u32 = 5;
+/// How often each image is loaded, in turn with the honest one: the fastest counts.
+const TURNS: u32 = 15;
 
 /// How long an image took.
 #[derive(Clone, Copy)]
@@ -22,6 +22,17 @@ struct Taken {
     dump: u64,
     /// The fault's number, 0 where it is loaded.
     fault: u8,
+}
+
+impl Taken {
+    /// The shorter of each time of two loads and dumps.
+    fn min(self, other: Taken) -> Taken {
+        Taken {
+            load: self.load.min(other.load),
+            dump: self.dump.min(other.dump),
+            fault: self.fault,
+        }
+    }
 }
 
 fn nanos(time: Duration) -> u64 {
@@ -56,15 +67,20 @@ fn time_once(rt: &impl Clock, alloc: Global, image: &[u8]) -> Result<Taken> {
     }
 }
 
-/// The fastest of some times.
-fn time(rt: &impl Clock, alloc: Global, image: &[u8]) -> Result<Taken> {
+/// The fastest of some times of an image and of an honest one, which are taken in turn: what slows the machine for a while slows both.
+fn time_both(
+    rt: &impl Clock,
+    alloc: Global,
+    image: &[u8],
+    honest: &[u8],
+) -> Result<(Taken, Taken)> {
     let mut best = time_once(rt, alloc, image)?;
+    let mut beside = time_once(rt, alloc, honest)?;
     for _turn in 1..TURNS {
-        let next = time_once(rt, alloc, image)?;
-        best.load = best.load.min(next.load);
-        best.dump = best.dump.min(next.dump);
+        best = best.min(time_once(rt, alloc, image)?);
+        beside = beside.min(time_once(rt, alloc, honest)?);
     }
-    Ok(best)
+    Ok((best, beside))
 }
 
 /// Prints how long an image of a shape takes, and how many times as long as an honest one of its size.
@@ -75,8 +91,7 @@ fn measure_one(
     count: u32,
 ) -> Result<Taken> {
     let image = shape.image(alloc, count)?;
-    let taken = time(rt, alloc, &image)?;
-    let beside = time(rt, alloc, &honest(alloc, image.len())?)?;
+    let (taken, beside) = time_both(rt, alloc, &image, &honest(alloc, image.len())?)?;
     let len = image.len();
     let Taken { load, dump, fault } = taken;
     let loads = Ratio::new(load, beside.load);

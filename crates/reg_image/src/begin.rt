@@ -33,7 +33,7 @@ use crate::frames::KeyFrame;
 use crate::key_parts::enter_key;
 use crate::keys::{NamedKey, named_key};
 use crate::subkeys::subkeys_from;
-use crate::table::CellTable;
+use crate::table::{CellState, CellTable};
 use reg_names::PATH_LIMIT;
 use reg_tree::{Node, Reached, Tree};
 use std::alloc::Global;
@@ -130,8 +130,9 @@ pub fn begin_key<'a>(
     let _ = tree.root();
     let named = named_key(alloc, bins, table, offset)?;
     let reached = reach_below(tree, above, &named)?;
+    let met = table.state(named.node.fields.security) == CellState::NamedSecurity;
     let parts = enter_key(alloc, bins, table, minor, offset, &named.node.fields)?;
-    let node = build_sharing(alloc, tree, above, reached, &named, &parts, firsts)?;
+    let node = build_sharing(alloc, tree, above, reached, &named, &parts, met, firsts)?;
     let fields = named.node.fields;
     let subkeys = subkeys_from(bins, table, fields.subkeys, fields.subkeys_list)?;
     Ok(KeyFrame {

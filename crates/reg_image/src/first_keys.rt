@@ -1,6 +1,6 @@
 //! The first keys that are built with the securities of an image, so that later ones share these without a search.
 
-ghost use Rattle.std.specs.Prelude.{◌≡◌, ◌<◌, ℕ, None, Some, length, OnOk, IfOk, IfErr};
+ghost use Rattle.std.specs.Prelude.{◌≡◌, ◌<◌, ℕ, None, Some, length, OnOk, IfOk, IfErr, IfSome};
 ghost use Rattle.std.specs.Cow.{cow_slice_items};
 ghost use Rattle.std.specs.FinMap.{get, insert};
 ghost use Rattle.reg_names.specs.declared.TheConstants.{PATH_LIMIT};
@@ -40,10 +40,14 @@ impl FirstKeys {
         }
     }
 
-    /// The first key with the security at an offset, if one was built.
-    pub fn find(&self, security: u32) -> Option<Node>
-        ensures { result ≡ first_with self.now security }
+    /// The first key with the security at an offset, if one was built. Where the security wasn't met before, none was, and none is
+    /// looked for.
+    pub fn find(&self, security: u32, met: bool) -> Option<Node>
+        ensures { IfSome result (λ node. Some node ≡ first_with self.now security) }
     {
+        if !met {
+            return None;
+        }
         match self.nodes.get(&security) {
             Some(node) => Some(*node),
             None => None,
@@ -63,7 +67,7 @@ impl FirstKeys {
 }
 
 /// Builds a key that was read below another one, as `build_below` does. The first key that was built with its security shares that with
-/// it, so that the descriptor isn't looked for again; where none was, it is the first.
+/// it, so that the descriptor isn't looked for again; where none was, it is the first. It is told whether the security was met before.
 pub fn build_sharing(
     alloc: Global,
     tree: &mut Tree,
@@ -71,6 +75,7 @@ pub fn build_sharing(
     reached: Reached<'_>,
     named: &NamedKey<'_>,
     parts: &KeyParts<'_>,
+    met: bool,
     firsts: &mut FirstKeys,
 ) -> Result<Node, LoadFault>
     requires above { IsThere tree.old above }
@@ -92,7 +97,7 @@ pub fn build_sharing(
         descriptor_at heap named.now.node.fields.security ≡ Some parts.now.descriptor.now → OnOk result (AreFirst heap tree.new firsts.new) }
 {
     let security = named.node.fields.security;
-    let like = firsts.find(security);
+    let like = firsts.find(security, met);
     let node = build_below(alloc, tree, above, reached, named, parts, like)?;
     if like.is_some() {
         return Ok(node);

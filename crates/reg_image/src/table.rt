@@ -93,7 +93,6 @@ impl CellTable {
         }
     }
 
-    /// Notes that a key is no longer on the present path. Where it isn't on it, nothing changes.
     /// Notes that a key that was named is on the present path.
     pub fn enter(&mut self, offset: u32)
         ensures entered { state_in self.old.states.items offset ≡ CellState.Named →
@@ -104,7 +103,8 @@ impl CellTable {
             self.put(offset, CellState::OnPath);
         }
     }
-    /// Notes that a key is no longer on the present path.
+
+    /// Notes that a key is no longer on the present path. Where it isn't on it, nothing changes.
     pub fn leave(&mut self, offset: u32)
         ensures left { state_in self.old.states.items offset ≡ CellState.OnPath →
             Puts self.old.states.items self.new.states.items offset CellState.Named }

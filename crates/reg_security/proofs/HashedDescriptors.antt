@@ -18,7 +18,7 @@ use Rattle.std.proofs.lemmas.Map.Text.{is_eq-slice_cmp}
 use Rattle.std.proofs.lemmas.Map.Views.{tells_apart}
 use Rattle.std.proofs.lemmas.Option.{same_Some}
 use Rattle.reg_security.specs.Rings.{DescriptorCells, cell_of, Notes}
-use Rattle.reg_security.specs.Internal.Hashes.{descriptor_hash, shown_hashed, AreByHash, IsHashTaken, is_this, is_other, cell_if, first_for}
+use Rattle.reg_security.specs.Internal.Hashes.{descriptor_hash, shown_hashed, AreByHash, IsHashFree, IsHashTaken, is_this, cell_if, first_for}
 use Rattle.reg_security.specs.declared.hashed.DescriptorCell.{DescriptorCell}
 
 -- ---- entries in the order of their hashes
@@ -49,6 +49,11 @@ behind e es a = record {
     by hash first is false n = lookup_tail (is_at (nat_cmp hash)) e es n ∙ is
 
 -- ---- how a descriptor is found
+
+-- something stands by a hash, and has another descriptor
+abbrev is_other : List ℕ → Option DescriptorCell → Bool
+is_other descriptor None = false
+is_other descriptor (Some first) = not (bytes_eq descriptor first.descriptor.items)
 
 -- another descriptor than that of an entry is not the entry's
 cell-apart : (descriptor : List ℕ) (first : DescriptorCell) → bytes_eq descriptor first.descriptor.items ≡ false → cell_if descriptor (Some first) ≡ None
@@ -114,6 +119,13 @@ none-taken descriptor (Some first) y = by (bytes_eq descriptor first.descriptor.
     by true e = absurd (false≢true (sym (y ∙ ap not e)))
     by false e = cell-apart descriptor first e
 
+-- what stands by a hash is there
+first-there : (firsts : List (ℕ × DescriptorCell)) (t : DescriptorCells) (hash : ℕ) (first : DescriptorCell) → shown_hashed firsts ≡ t → AreByHash firsts →
+    lookup (is_at (nat_cmp hash)) firsts ≡ Some first → Some first.cell ≡ cell_of t first.descriptor.items
+first-there firsts t hash first is a at =
+    cell-same first.descriptor.items first first.descriptor.items refl (sym (nat_list_eq_equiv.refl first.descriptor.items)) ∙
+    found firsts t first.descriptor.items hash (Some first) is a (sym (a.hashed hash first at)) (sym at)
+
 -- that one is there, and has the hash
 pub hash-taken : (firsts : List (ℕ × DescriptorCell)) (t : DescriptorCells) (descriptor : List ℕ) (hash : ℕ) → shown_hashed firsts ≡ t → AreByHash firsts →
     hash ≡ descriptor_hash descriptor → true ≡ is_other descriptor (lookup (is_at (nat_cmp hash)) firsts) → IsHashTaken t descriptor
@@ -124,19 +136,36 @@ hash-taken firsts t descriptor hash is a own y = by (lookup (is_at (nat_cmp hash
     differs first y true e = absurd (false≢true (sym (y ∙ ap not e)))
     differs first y false e = e
 
-    there : (first : DescriptorCell) → lookup (is_at (nat_cmp hash)) firsts ≡ Some first → Some first.cell ≡ cell_of t first.descriptor.items
-    there first at =
-        cell-same first.descriptor.items first first.descriptor.items refl (sym (nat_list_eq_equiv.refl first.descriptor.items)) ∙
-        found firsts t first.descriptor.items hash (Some first) is a (sym (a.hashed hash first at)) (sym at)
-
     by : (o : Option DescriptorCell) → lookup (is_at (nat_cmp hash)) firsts ≡ o → true ≡ is_other descriptor o → IsHashTaken t descriptor
     by None at y = absurd (false≢true (sym y))
     by (Some first) at y = (
       first.descriptor.items,
-      subst IsSome (there first at) refl,
+      subst IsSome (first-there firsts t hash first is a at) refl,
       a.hashed hash first at ∙ own,
       differs first y (bytes_eq descriptor first.descriptor.items) refl,
     )
+
+-- another descriptor stands by the hash
+pub other-stands : (descriptor : List ℕ) (first : DescriptorCell) (bytes : List ℕ) (o : Option DescriptorCell) → bytes ≡ first.descriptor.items →
+    false ≡ bytes_eq descriptor bytes → Some first ≡ o → true ≡ is_other descriptor o
+other-stands descriptor first bytes o is n e = ap not (n ∙ ap (bytes_eq descriptor) is) ∙ ap (is_other descriptor) e
+
+-- nothing stands by it
+pub hash-free : (firsts : List (ℕ × DescriptorCell)) (t : DescriptorCells) (descriptor : List ℕ) (hash : ℕ) → shown_hashed firsts ≡ t → AreByHash firsts →
+    hash ≡ descriptor_hash descriptor → None ≡ lookup (is_at (nat_cmp hash)) firsts → IsHashFree t descriptor
+hash-free firsts t descriptor hash is a own none other there same =
+    absurd (false≢true (subst IsSome (sym (found firsts t other hash None is a (own ∙ sym same) none)) there))
+
+pub none-stands : (firsts : List (ℕ × DescriptorCell)) (t : DescriptorCells) (descriptor : List ℕ) (hash : ℕ) → shown_hashed firsts ≡ t → AreByHash firsts →
+    hash ≡ descriptor_hash descriptor → IsHashFree t descriptor → lookup (is_at (nat_cmp hash)) firsts ≡ None
+none-stands firsts t descriptor hash is a own free = by (lookup (is_at (nat_cmp hash)) firsts) refl
+  where
+    by : (o : Option DescriptorCell) → lookup (is_at (nat_cmp hash)) firsts ≡ o → lookup (is_at (nat_cmp hash)) firsts ≡ None
+    by None at = at
+    by (Some first) at = absurd (free first.descriptor.items (subst IsSome (first-there firsts t hash first is a at) refl) (a.hashed hash first at ∙ own))
+
+pub free-none : (descriptor : List ℕ) (o : Option DescriptorCell) → o ≡ None → false ≡ is_other descriptor o
+free-none descriptor o none = sym (ap (is_other descriptor) none)
 
 -- what stands by the hash is this one
 pub this-free : (descriptor : List ℕ) (o : Option DescriptorCell) → true ≡ is_this descriptor o → false ≡ is_other descriptor o

@@ -4,5 +4,6 @@ pub mod RingJoined
 pub mod RingLeft
 pub mod RingCounted
 pub mod HashedDescriptors
+pub mod OthersRestored
 pub mod TableCells
 pub mod CellsRelinked

@@ -1,6 +1,6 @@
 -- The cells that a table notes for descriptors.
 use Rattle.std.proofs.Common.{◌≡◌, ◌≢◌, ◌⊎◌, inl, inr, ℕ, ◌<◌, ◌≤◌, Bool, true, false, cond, List, [], ◌∷◌, ◌++◌, map, Option, Some, None, IsSome, refl, sym, ap, subst, ◌∙◌, arith, Vec}
-use Rattle.std.specs.Prelude.{bytes_eq, MatchBool, MatchOption, OnOk, Result, Ok, Err}
+use Rattle.std.specs.Prelude.{bytes_eq, MatchBool, MatchOption, OnOk, IfOk, Result, Ok, Err}
 use Rattle.std.specs.Option.{option_or}
 use Rattle.std.specs.Ordering.{is_eq, nat_cmp}
 use Rattle.std.specs.Cmp.Lexicographic.{slice_cmp, bytes_decides}
@@ -15,8 +15,9 @@ use Rattle.std.proofs.lemmas.Bool.Decides.{nat_tests}
 use Rattle.reg_heap.specs.Heaps.{Heap}
 use Rattle.reg_heap.specs.Kinds.{times}
 use Rattle.reg_shape.specs.Whole.{descriptor_at}
-use Rattle.reg_security.specs.Rings.{DescriptorCells, cell_of, Notes, Describes, Finds, Expects, IsAdded, IsRemoved}
-use Rattle.reg_security.specs.Internal.MapEntries.{shown, found_for}
+use Rattle.reg_security.specs.Rings.{DescriptorCells, cell_of, Notes, MakesReady, Describes, Finds, Expects, IsAdded, IsRemoved}
+use Rattle.reg_security.specs.Internal.Hashes.{IsHashFree}
+use Rattle.reg_security.specs.Internal.MapEntries.{shown, found_for, MakesRoom}
 
 -- ---- the two maps behind the table
 
@@ -120,10 +121,52 @@ if-true P Q b e m = subst (λ b. MatchBool b P Q) e m
 pub if-false : (P Q : Type 0) (b : Bool) → b ≡ false → MatchBool b P Q → Q
 if-false P Q b e m = subst (λ b. MatchBool b P Q) e m
 
+-- where nothing that stands by its hash is this, the cell is what the others have
+pub cell-behind : {Y : Type 0} (hashed : DescriptorCells) (others : List (Vec ℕ Y × ℕ)) (t : DescriptorCells) (descriptor : List ℕ) → shown hashed others ≡ t →
+    cell_of hashed descriptor ≡ None → cell_of t descriptor ≡ found_for others descriptor
+cell-behind hashed others t descriptor is none =
+    cell-found hashed others t descriptor is ∙ ap (λ o. option_or o (found_for others descriptor)) none
+
+-- where nothing stands by its hash, it isn't there
+pub free-here : (hashed : DescriptorCells) (descriptor : List ℕ) → IsHashFree hashed descriptor → cell_of hashed descriptor ≡ None
+free-here hashed descriptor free = by (cell_of hashed descriptor) refl
+  where
+    by : (o : Option ℕ) → cell_of hashed descriptor ≡ o → cell_of hashed descriptor ≡ None
+    by None e = e
+    by (Some cell) e = absurd (free descriptor (subst IsSome (sym e) refl) refl)
+
+-- what stands by its hash is noted
+pub cell-first : {Y : Type 0} (hashed : DescriptorCells) (others : List (Vec ℕ Y × ℕ)) (t : DescriptorCells) (descriptor : List ℕ) → shown hashed others ≡ t →
+    IsSome (cell_of hashed descriptor) → IsSome (cell_of t descriptor)
+cell-first hashed others t descriptor is there = by (cell_of hashed descriptor) refl there
+  where
+    by : (o : Option ℕ) → cell_of hashed descriptor ≡ o → IsSome o → IsSome (cell_of t descriptor)
+    by None e h = absurd (false≢true h)
+    by (Some cell) e h = subst IsSome (sym (cell-found hashed others t descriptor is ∙ ap (λ o. option_or o (found_for others descriptor)) e)) refl
+
+-- room made by a hash, where neither it nor the others have the descriptor
+pub ready-first : {Y : Type 0} (descriptor : List ℕ) (before after : DescriptorCells) (others : List (Vec ℕ Y × ℕ)) (t : DescriptorCells) →
+    shown before others ≡ t → cell_of before descriptor ≡ None → found_for others descriptor ≡ None →
+    Notes (cell_of before) descriptor (Some 0) (cell_of after) → MakesReady t descriptor true (shown after others)
+ready-first descriptor before after others t is none free n =
+    (cell-behind before others t descriptor is none ∙ free, noted-first descriptor 0 before after others t is n)
+
+-- room made among the others, or not
+pub ready-behind : {Y : Type 0} (descriptor : List ℕ) (before : DescriptorCells) (old new : List (Vec ℕ Y × ℕ)) (t : DescriptorCells) (made : Bool) →
+    shown before old ≡ t → cell_of before descriptor ≡ None → MakesRoom old descriptor made new → MakesReady t descriptor made (shown before new)
+ready-behind descriptor before old new t true is none m =
+    (cell-behind before old t descriptor is none ∙ m.0, noted-behind descriptor 0 before before old new t is refl none m.1)
+ready-behind descriptor before old new t false is none m =
+    (ap (shown before) m.0 ∙ is, subst IsSome (sym (cell-behind before old t descriptor is none)) m.1)
+
+-- a change of the map that is the table
 -- a change of the map that is the table
 pub noted-in : (map t u : DescriptorCells) (descriptor : List ℕ) (w : Option ℕ) → map ≡ t → Notes (cell_of map) descriptor w (cell_of u) →
     Notes (cell_of t) descriptor w (cell_of u)
 noted-in map t u descriptor w is n = subst (λ t. Notes (cell_of t) descriptor w (cell_of u)) is n
+
+pub ready-in : (map t u : DescriptorCells) (descriptor : List ℕ) (made : Bool) → map ≡ t → MakesReady map descriptor made u → MakesReady t descriptor made u
+ready-in map t u descriptor made is r = subst (λ t. MakesReady t descriptor made u) is r
 
 -- ---- what a table finds
 
@@ -182,6 +225,11 @@ expects-noted t u descriptor none n heap ring f = record {
     by other cell d (inl e) = absurd (free-where-none t heap ring descriptor f none cell d.0 (d.1 ∙ ap Some e))
     by other cell d (inr a) = noted-other t u descriptor other (Some 0) n a ∙ f.listed other cell d
 
+pub expects-ready : (t u : DescriptorCells) (descriptor : List ℕ) (made : Bool) → MakesReady t descriptor made u → made ≡ true →
+    (heap : Heap) (ring : List ℕ) → Finds t heap ring → Expects u heap ring descriptor
+expects-ready t u descriptor true r e = expects-noted t u descriptor r.0 r.1
+expects-ready t u descriptor false r e = absurd (false≢true e)
+
 -- the room given up
 pub finds-forgotten : (t u : DescriptorCells) (descriptor : List ℕ) → Notes (cell_of t) descriptor None (cell_of u) →
     (heap : Heap) (ring : List ℕ) → Expects t heap ring descriptor → Finds u heap ring
@@ -203,6 +251,11 @@ pub equal-found : (t : DescriptorCells) (heap : Heap) (ring : List ℕ) (descrip
     MatchOption o ((cell : ℕ) → 0 < times cell ring → descriptor_at heap cell ≢ Some descriptor) (λ cell. Describes heap ring cell descriptor)
 equal-found t heap ring descriptor None e f = free-where-none t heap ring descriptor f (sym e)
 equal-found t heap ring descriptor (Some cell) e f = f.found descriptor cell (sym e)
+
+-- where a call went well, what follows from what it answered
+pub if-ok : {A E : Type 0} {P Q : A → Type 0} (result : Result A E) → ((a : A) → P a → Q a) → IfOk result P → IfOk result Q
+if-ok (Ok a) f p = f a p
+if-ok (Err e) f p = p
 
 -- where a call went well, one fact and what follows from it
 pub on-ok : {A E : Type 0} {P Q : Type 0} (result : Result A E) → (P → Q) → OnOk result P → OnOk result Q

@@ -1,6 +1,6 @@
 -- The ring of key securities, and how one is found by its descriptor (Suhanov, Windows registry file format specification, section
 -- "Key security").
-use Rattle.std.specs.Prelude.{◌≡◌, ◌≢◌, ℕ, ◌+◌, ◌<◌, if◌then◌else◌, bytes_eq, Option, Some, None, IsSome, List, [], ◌∷◌, ◌++◌, length, drop, is_some, refl}
+use Rattle.std.specs.Prelude.{◌≡◌, ◌≢◌, ℕ, ◌+◌, ◌<◌, Bool, true, false, if◌then◌else◌, bytes_eq, Option, Some, None, IsSome, List, [], ◌∷◌, ◌++◌, length, drop, is_some, refl}
 use Rattle.std.specs.Ordering.{nat_cmp}
 use Rattle.std.specs.Cmp.Lexicographic.{slice_cmp}
 use Rattle.std.specs.BTreeMap.{is_at}
@@ -27,6 +27,11 @@ cell_of table descriptor = lookup (is_at (slice_cmp nat_cmp descriptor)) table.e
 -- another cell, or none, is noted for a descriptor, and the same for each other one
 abbrev pub Notes : (List ℕ → Option ℕ) → List ℕ → Option ℕ → (List ℕ → Option ℕ) → Type 0
 Notes before descriptor cell after = (other : List ℕ) → after other ≡ (if bytes_eq descriptor other then cell else before other)
+
+-- room was made for a descriptor that had no cell, or it has one and nothing changed
+abbrev pub MakesReady : DescriptorCells → List ℕ → Bool → DescriptorCells → Type 0
+MakesReady before descriptor true after = (cell_of before descriptor ≡ None) × Notes (cell_of before) descriptor (Some 0) (cell_of after)
+MakesReady before descriptor false after = (after ≡ before) × IsSome (cell_of before descriptor)
 
 -- a security of the ring describes this
 abbrev pub Describes : Heap → List ℕ → ℕ → List ℕ → Type 0

@@ -1,9 +1,14 @@
 //! The map from descriptors to the cells of their securities.
 
-ghost use Rattle.std.specs.Prelude.{◌≡◌, ℕ, List, Some, None, IsSome, OnOk, OnErr};
-ghost use Rattle.reg_security.specs.Rings.{Notes, cell_of};
+ghost use Rattle.std.specs.Prelude.{◌≡◌, ℕ, List, Some, None, IsSome, true, false, IfOk, OnErr};
+ghost use Rattle.std.specs.Ordering.{nat_cmp};
+ghost use Rattle.std.specs.Cmp.Lexicographic.{slice_cmp};
+ghost use Rattle.std.specs.BTreeMap.{is_at};
+ghost use Rattle.std.specs.Map.{set_value};
+ghost use Rattle.reg_security.specs.Rings.{MakesReady, Notes, cell_of};
+ghost use Rattle.reg_security.specs.Internal.MapEntries.{found_for, MakesRoom};
 
-use crate::hashed::HashedCells;
+use crate::hashed::{HashedCells, Standing};
 use std::alloc::{AllocError, Global};
 use std::collections::BTreeMap;
 use std::marker::Model;
@@ -53,18 +58,52 @@ impl CellMap {
         }
     }
 
-    /// Makes room for a descriptor. Where memory is short, no cell has changed.
-    pub fn expect(&mut self, alloc: Global, descriptor: &[u8]) -> Result<(), AllocError>
-        ensures ok { OnOk result (Notes (cell_of self.old) descriptor.now (Some 0) (cell_of self.new)) }
+    /// Makes room for a descriptor that has none, and tells whether it did. Where memory is short, no cell has changed.
+    pub fn expect(&mut self, alloc: Global, descriptor: &[u8]) -> Result<bool, AllocError>
+        ensures ok { IfOk result (λ made. MakesReady self.old descriptor.now made self.new) }
         ensures err { OnErr result (self.new ≡ self.old) }
     {
-        if self.by_hash.expect(alloc, descriptor)? {
-            return Ok(());
+        match self.by_hash.standing(descriptor) {
+            Standing::This => Ok(false),
+            Standing::Another => CellMap::expect_among(&mut self.others, alloc, descriptor),
+            Standing::Nothing => {
+                if self.others.get(descriptor).is_some() {
+                    return Ok(false);
+                }
+                self.by_hash.expect(alloc, descriptor)?;
+                Ok(true)
+            }
         }
+    }
+
+    /// Makes room among the others.
+    fn expect_among(
+        others: &mut BTreeMap<Vec<u8>, u32>,
+        alloc: Global,
+        descriptor: &[u8],
+    ) -> Result<bool, AllocError>
+        ensures ok { IfOk result (λ made. MakesRoom others.old.entries descriptor.now made others.new.entries) }
+        ensures err { OnErr result (others.new.entries ≡ others.old.entries) }
+    {
         let copy = descriptor.to_vec(alloc)?;
-        match self.others.insert(copy, 0) {
-            Ok(_) => Ok(()),
-            Err(_) => Err(AllocError),
+        let Ok(before) = others.insert(copy, 0) else {
+            return Err(AllocError);
+        };
+        let Some(held) = before else {
+            return Ok(true);
+        };
+        CellMap::set_among(others, descriptor, held);
+        Ok(false)
+    }
+
+    /// Sets the cell of a descriptor that is among the others.
+    fn set_among(others: &mut BTreeMap<Vec<u8>, u32>, descriptor: &[u8], cell: u32)
+        requires { IsSome (found_for others.old.entries descriptor.now) }
+        ensures written { others.new.entries ≡ set_value (is_at (λ k. slice_cmp nat_cmp descriptor.now k.items)) others.old.entries cell }
+        ensures notes { Notes (found_for others.old.entries) descriptor.now (Some cell) (found_for others.new.entries) }
+    {
+        if let Some(held) = others.get_mut(descriptor) {
+            *held = cell;
         }
     }
 
@@ -76,9 +115,7 @@ impl CellMap {
         if self.by_hash.set(descriptor, cell) {
             return;
         }
-        if let Some(held) = self.others.get_mut(descriptor) {
-            *held = cell;
-        }
+        CellMap::set_among(&mut self.others, descriptor, cell);
     }
 
     /// Takes out a descriptor, wherever it stands.

@@ -1,6 +1,6 @@
 //! Descriptors by their hashes, one of each hash.
 
-ghost use Rattle.std.specs.Prelude.{◌≡◌, ℕ, List, None, Some, IfOk, OnErr, MatchBool};
+ghost use Rattle.std.specs.Prelude.{◌≡◌, ℕ, List, None, Some, OnOk, OnErr, MatchBool};
 ghost use Rattle.std.specs.Ordering.{nat_cmp};
 ghost use Rattle.std.specs.BTreeMap.{IsOrdered, UpdatesBy, is_at};
 ghost use Rattle.std.specs.Map.{lookup};
@@ -16,6 +16,16 @@ use std::marker::Model;
 struct DescriptorCell {
     descriptor: Vec<u8>,
     cell: u32,
+}
+
+/// What stands by the hash of a descriptor.
+pub enum Standing {
+    /// Nothing.
+    Nothing,
+    /// The descriptor itself.
+    This,
+    /// Another descriptor with its hash.
+    Another,
 }
 
 /// Cells by the hashes of their securities' descriptors. Of descriptors with equal hashes it takes only the first.
@@ -39,7 +49,7 @@ impl Model for HashedCells {
 }
 
 impl HashedCells {
-    ghost use Rattle.reg_security.specs.Internal.Hashes.{IsHashTaken, descriptor_hash, is_this, is_other};
+    ghost use Rattle.reg_security.specs.Internal.Hashes.{IsHashFree, IsStanding, descriptor_hash, is_this};
 
     /// No cells.
     pub fn new(alloc: Global) -> HashedCells
@@ -66,22 +76,36 @@ impl HashedCells {
         }
     }
 
-    /// Makes room for a descriptor, and tells whether there is: not where another one with its hash is here.
-    pub fn expect(&mut self, alloc: Global, descriptor: &[u8]) -> Result<bool, AllocError>
-        ensures ok { IfOk result (λ made. MatchBool made (Notes (cell_of self.old) descriptor.now (Some 0) (cell_of self.new))
-            ((self.new ≡ self.old) × (cell_of self.old descriptor.now ≡ None) × IsHashTaken self.old descriptor.now)) }
+    /// What stands by the hash of a descriptor.
+    pub fn standing(&self, descriptor: &[u8]) -> Standing
+        ensures { IsStanding self.now descriptor.now result }
+    {
+        let hash = HashedCells::hash_of(descriptor);
+        match self.by_hash.get(&hash) {
+            Some(first) => {
+                if descriptor == first.descriptor.as_slice() {
+                    Standing::This
+                } else {
+                    Standing::Another
+                }
+            }
+            None => Standing::Nothing,
+        }
+    }
+
+    /// Makes room for a descriptor, by whose hash nothing stands.
+    pub fn expect(&mut self, alloc: Global, descriptor: &[u8]) -> Result<(), AllocError>
+        requires { IsHashFree self.old descriptor.now }
+        ensures ok { OnOk result (Notes (cell_of self.old) descriptor.now (Some 0) (cell_of self.new)) }
         ensures err { OnErr result (self.new ≡ self.old) }
     {
         let hash = HashedCells::hash_of(descriptor);
-        if HashedCells::is_taken(&self.by_hash, hash, descriptor) {
-            return Ok(false);
-        }
         let first = DescriptorCell {
             descriptor: descriptor.to_vec(alloc)?,
             cell: 0,
         };
         match self.by_hash.insert(hash, first) {
-            Ok(_) => Ok(true),
+            Ok(_) => Ok(()),
             Err(_) => Err(AllocError),
         }
     }
@@ -116,16 +140,6 @@ impl HashedCells {
     {
         match by_hash.get(&hash) {
             Some(first) => descriptor == first.descriptor.as_slice(),
-            None => false,
-        }
-    }
-
-    /// Whether another descriptor than this stands by a hash.
-    fn is_taken(by_hash: &BTreeMap<u64, DescriptorCell>, hash: u64, descriptor: &[u8]) -> bool
-        ensures { result ≡ is_other descriptor.now (lookup (is_at (nat_cmp hash)) by_hash.now.entries) }
-    {
-        match by_hash.get(&hash) {
-            Some(first) => descriptor != first.descriptor.as_slice(),
             None => false,
         }
     }

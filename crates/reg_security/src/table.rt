@@ -1,6 +1,6 @@
 //! A key security found by its descriptor.
 
-ghost use Rattle.std.specs.Prelude.{◌≡◌, ◌≢◌, ◌≤◌, ◌<◌, ◌+◌, ◌-◌, ℕ, List, [], Some, None, IsSome, length, OnOk, OnErr, MatchOption};
+ghost use Rattle.std.specs.Prelude.{◌≡◌, ◌≢◌, ◌≤◌, ◌<◌, ◌+◌, ◌-◌, ℕ, List, [], Some, None, IsSome, true, length, IfOk, OnErr, MatchOption};
 ghost use Rattle.byteorder.specs.Endian.{little_bytes};
 ghost use Rattle.reg_heap.specs.declared.limits.TheConstants.{DESCRIPTOR_LIMIT};
 ghost use Rattle.reg_heap.specs.Heaps.{Heap};
@@ -36,7 +36,7 @@ impl Model for SecurityTable {
 }
 
 impl SecurityTable {
-    ghost use Rattle.reg_security.specs.Rings.{Describes, Expects, Finds, IsAdded, IsNear, IsPut, IsRelinked, IsRemoved, Notes, Recounts, cell_of};
+    ghost use Rattle.reg_security.specs.Rings.{Describes, Expects, Finds, IsAdded, IsNear, IsPut, IsRelinked, IsRemoved, MakesReady, Notes, Recounts, cell_of};
 
     /// A table of no securities.
     pub fn new(alloc: Global) -> SecurityTable
@@ -58,12 +58,12 @@ impl SecurityTable {
         self.cells.find(descriptor)
     }
 
-    /// Makes room for a security whose descriptor no security of the ring has, so that `add` can't fail; `forget` gives it up. Where
-    /// memory is short, the table is as before.
-    pub fn expect(&mut self, alloc: Global, descriptor: &[u8]) -> Result<(), AllocError>
-        requires { cell_of self.old descriptor.now ≡ None }
-        ensures noted { OnOk result (Notes (cell_of self.old) descriptor.now (Some 0) (cell_of self.new)) }
-        ensures expects { OnOk result ((heap : Heap) (ring : List ℕ) → Finds self.old heap ring → Expects self.new heap ring descriptor.now) }
+    /// Makes room for a security whose descriptor no security of the ring has, so that `add` can't fail, and tells whether it did: not
+    /// where one has it, which `find_equal` finds. `forget` gives the room up. Where memory is short, the table is as before.
+    pub fn expect(&mut self, alloc: Global, descriptor: &[u8]) -> Result<bool, AllocError>
+        ensures ready { IfOk result (λ made. MakesReady self.old descriptor.now made self.new) }
+        ensures expects { IfOk result (λ made. made ≡ true →
+            (heap : Heap) (ring : List ℕ) → Finds self.old heap ring → Expects self.new heap ring descriptor.now) }
         ensures err { OnErr result (self.new ≡ self.old) }
     {
         self.cells.expect(alloc, descriptor)

@@ -63,10 +63,9 @@ pub fn expect(
     ensures ok { IfOk result (λ size. IsExpected securities.old securities.new descriptor.now size) }
     ensures err { OnErr result (securities.new ≡ securities.old) }
 {
-    if found(securities, descriptor, known).is_some() {
+    if known.is_some() || !securities.expect(alloc, descriptor)? {
         return Ok(None);
     }
-    securities.expect(alloc, descriptor)?;
     Ok(Some(plan_add(descriptor)))
 }
 

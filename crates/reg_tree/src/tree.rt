@@ -81,8 +81,10 @@ impl Tree {
             (cell_size_of (76 + length root_name.now) + cell_size_of (20 + length descriptor.now))) }
     {
         let mut securities = SecurityTable::new(alloc);
-        if let Err(AllocError) = securities.expect(alloc, descriptor) {
-            return Err(TreeFault::Memory);
+        match securities.expect(alloc, descriptor) {
+            Ok(true) => {}
+            Ok(false) => unreachable!(),
+            Err(AllocError) => return Err(TreeFault::Memory),
         }
         let mut arena = Arena::new(alloc);
         let node_size = cell_size(76 + root_name.len() as u32);

@@ -91,14 +91,6 @@ pub head-stops : (heap : Heap) (levels : ℕ) (path : List ℕ) (here : List ℕ
 head-stops heap levels path here offset seen fault f =
     stops-bind levels fault (named_key heap path offset) (λ (head : KeyRecord × List ℕ). no_sibling (here head.1) >> give head) seen f
 
--- the exit of a `?`
-pub head-exit : (heap : Heap) (levels : ℕ) (path : List ℕ) (here : List ℕ → Path) (offset : ℕ) (seen : Seen) (states : List CellState)
-    (fault : LoadFault) (r : Result NamedKey LoadFault) → IsErrAnd r (λ e. e ≡ fault) →
-    Stops levels fault (head_from heap path here offset seen) → Heads heap levels path here offset seen states r
-head-exit heap levels path here offset seen states fault (Ok named) i f = absurd i
-head-exit heap levels path here offset seen states fault (Err e) i f =
-    subst (λ e. Stops levels e (head_from heap path here offset seen)) (sym i) f
-
 -- a key that no level is left for
 pub head-deep : (heap : Heap) (levels depth : ℕ) (path : List ℕ) (here : List ℕ → Path) (offset : ℕ) (seen : Seen) (named : NamedKey)
     (states : List CellState) → IsDone heap path (head_from heap path here offset) seen (key_of named) states → PATH_LIMIT ≤ depth →

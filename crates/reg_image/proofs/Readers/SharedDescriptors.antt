@@ -118,7 +118,7 @@ none-first heap keys firsts none security node e = absurd (none-some _ (sym (non
 
 -- the first key with a security has the descriptor of each that has it
 pub like-first : (heap : Heap) (keys : Keys) (firsts : FirstKeys) → AreFirst heap keys firsts → (security : ℕ) (descriptor : List ℕ) →
-    descriptor_at heap security ≡ Some descriptor → (found : Option Node) → found ≡ first_with firsts security →
+    descriptor_at heap security ≡ Some descriptor → (found : Option Node) → IfSome found (λ node. Some node ≡ first_with firsts security) →
     IfSome found (λ node. (q : Path) × IsAt keys q node × (descriptor_of (get keys.tree q) ≡ descriptor))
 like-first heap keys firsts are security descriptor held None e = tt
 like-first heap keys firsts are security descriptor held (Some node) e =

@@ -1,5 +1,5 @@
 -- The descriptors that stand by their hashes, behind a table of securities.
-use Rattle.std.specs.Prelude.{◌≡◌, ℕ, List, map, Bool, false, not, bytes_eq, if◌then◌else◌, Option, Some, None, IsSome}
+use Rattle.std.specs.Prelude.{◌≡◌, ◌≢◌, ℕ, List, map, Bool, false, bytes_eq, if◌then◌else◌, Option, Some, None, IsSome}
 use Rattle.std.specs.Ordering.{nat_cmp}
 use Rattle.std.specs.List.Sorted.{IsStrictlySortedBy}
 use Rattle.std.specs.BTreeMap.{is_at}
@@ -7,6 +7,8 @@ use Rattle.std.specs.Map.{keys_of, lookup}
 use Rattle.std.specs.Hash.FoldHasher.{initial, write, finish}
 use Rattle.reg_security.specs.Rings.{DescriptorCells, cell_of}
 use Rattle.reg_security.specs.declared.hashed.DescriptorCell.{DescriptorCell}
+use Rattle.reg_security.specs.declared.hashed.Standing.{Standing}
+use Rattle.reg_security.specs.declared.hashed.Standing.TheVariants.{Nothing, This, Another}
 
 -- the hash of a descriptor
 abbrev pub descriptor_hash : List ℕ → ℕ
@@ -26,11 +28,6 @@ abbrev pub is_this : List ℕ → Option DescriptorCell → Bool
 is_this descriptor None = false
 is_this descriptor (Some first) = bytes_eq descriptor first.descriptor.items
 
--- something stands by a hash, and has another descriptor
-abbrev pub is_other : List ℕ → Option DescriptorCell → Bool
-is_other descriptor None = false
-is_other descriptor (Some first) = not (bytes_eq descriptor first.descriptor.items)
-
 -- the cell of what stands by a hash, if it has this descriptor
 abbrev pub cell_if : List ℕ → Option DescriptorCell → Option ℕ
 cell_if descriptor None = None
@@ -44,3 +41,13 @@ first_for firsts descriptor = lookup (is_at (nat_cmp (descriptor_hash descriptor
 abbrev pub IsHashTaken : DescriptorCells → List ℕ → Type 0
 IsHashTaken table descriptor =
     (other : List ℕ) × IsSome (cell_of table other) × (descriptor_hash other ≡ descriptor_hash descriptor) × (bytes_eq descriptor other ≡ false)
+
+-- no descriptor that is there has the hash of this one
+abbrev pub IsHashFree : DescriptorCells → List ℕ → Type 0
+IsHashFree table descriptor = (other : List ℕ) → IsSome (cell_of table other) → descriptor_hash other ≢ descriptor_hash descriptor
+
+-- what stands by the hash of a descriptor: nothing, this one, or another one
+abbrev pub IsStanding : DescriptorCells → List ℕ → Standing → Type 0
+IsStanding table descriptor Nothing = IsHashFree table descriptor
+IsStanding table descriptor This = IsSome (cell_of table descriptor)
+IsStanding table descriptor Another = (cell_of table descriptor ≡ None) × IsHashTaken table descriptor

@@ -47,13 +47,6 @@ name-path name e =
     first [] = []
     first (x ∷ xs) = x
 
-one-valid : (limit : ℕ) (name : List ℕ) → 1 ≤ limit → is_key_name name ≡ true → are_key_names limit (name ∷ []) ≡ true
-unfolding are_key_names
-one-valid limit name l e = and_from _ (nat_le 1 limit) (and_from (is_key_name name) true e refl) (le-leb 1 limit l)
-
-pub name-valid : (name : List ℕ) → is_key_name name ≡ true → is_path name ≡ true
-name-valid name e = ap (are_key_names PATH_LIMIT) (name-path name e) ∙ one-valid PATH_LIMIT name (omega arith) e
-
 -- ---- the key
 
 module _ (tree : Tree) (p : Path) (name : List ℕ) (may : MayBuild tree p name) where

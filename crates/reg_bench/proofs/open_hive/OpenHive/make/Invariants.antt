@@ -7,6 +7,6 @@ use Rattle.reg_bench.proofs.open_hive.OpenHive.make.Given as goal
 
 -- the entries that are there and those to come are what they will be together
 abbrev pub invariant-loop-call : goal.invariant-loop-call
-invariant-loop-call g l =
+invariant-loop-call l =
     length (view_of l.self.hive).journal + sum_by entries_of (into_iter_items l.call-iterator)
     ≡ length (view_of l.fn.self.hive).journal + sum_by entries_of l.fn.calls.items

@@ -24,7 +24,8 @@ pub returns-in-Err : goal.returns-in-Err
 returns-in-Err g c =
     let store = c.self.inside.store in
     let is = state-view _ c.self.invariant.3 c.self.view_is ∙ ap (λ (n : ℕ). at n store) (sym (from-zero c.self.invariant.0 c.len-number.ensures)) in
-    refused-as (asks (answers_of g.C.Callback.answers c.args.callbacks.now)) c.args.self.now c.args.self.now c.args.session c.args.moment c.args.change c.refuse.result c.len-number.result store c.in-Err.refusal
+    refused-as (asks (answers_of g.C.Callback.answers c.args.callbacks.now)) c.args.self.now c.args.self.now c.args.session c.args.moment c.args.change
+    c.refuse.result c.len-number.result store c.in-Err.refusal
     is c.in-Err.ensures (c.refuse.ensures ∙ ap refusal c.status.ensures) refl
 
 pub returns-in-Err-keep_room : goal.returns-in-Err-keep_room
@@ -33,7 +34,8 @@ returns-in-Err-keep_room g c =
     let is = state-view _ c.self.invariant.3 c.self.view_is ∙ ap (λ (n : ℕ). at n store) (sym (from-zero c.self.invariant.0 c.len-number.ensures)) in
     let clear = admits-clear c.len-number.result store c.args.session c.args.change c.in-Ok.admitted c.in-Ok.ensures.0 in
     let view : List Entry → View = λ x. view_with c.self.inside.origin.value.tree x store in
-    refused-as (asks (answers_of g.C.Callback.answers c.args.callbacks.now)) c.args.self.now _ c.args.session c.args.moment c.args.change c.refuse-in-Err-keep_room.result c.len-number.result store Memory
+    refused-as (asks (answers_of g.C.Callback.answers c.args.callbacks.now)) c.args.self.now _ c.args.session c.args.moment c.args.change
+    c.refuse-in-Err-keep_room.result c.len-number.result store Memory
     is (clear, c.in-Err-keep_room.ensures.err, c.in-Ok.ensures.1) c.refuse-in-Err-keep_room.ensures (ap view c.in-Err-keep_room.ensures.entries ∙ c.self.view_is)
 
 pub carry_out-requires-clause-ready : goal.carry_out-requires-clause-ready
@@ -81,7 +83,8 @@ invariant_of-self-in-Ok-carry_out g c =
     let handles = c.len-handles.ensures.len in
     let entry : ℕ → Entry = λ n. record { number = n; session = c.args.session; moment = c.args.moment; change = c.args.change; reply = c.in-Ok-carry_out.reply } in
     let entries = c.append.ensures.entries ∙
-    (ap (λ (x : List Entry). x ++ entry c.len-number.result ∷ []) c.in-Ok-keep_room.ensures.entries ∙ ap (λ (n : ℕ). es ++ entry n ∷ []) (from-zero c.self.invariant.0 c.len-number.ensures)) in
+    (ap (λ (x : List Entry). x ++ entry c.len-number.result ∷ []) c.in-Ok-keep_room.ensures.entries ∙
+    ap (λ (n : ℕ). es ++ entry n ∷ []) (from-zero c.self.invariant.0 c.len-number.ensures)) in
     let all = kept-done c.self.invariant.3 c.args.session c.args.moment c.args.change clear c.carry_out.new.self c.in-Ok-carry_out.reply done
     c.keep_room.new.journal.room c.append.new.self.room c.requires c.arena.ensures.sound c.arena.ensures.whole
     ((λ opens. let r = c.in-Ok-keep_room.ensures.ok opens in omega (arith, r, handles)), (λ closing. omega (arith, kept, more))) c.append.ensures.room in (
@@ -101,10 +104,12 @@ returns-in-Ok-carry_out g c =
     (c.in-Ok-carry_out.ensures.carried c.args.change c.in-Ok.ensures.0) in
     let entry : ℕ → Entry = λ n. record { number = n; session = c.args.session; moment = c.args.moment; change = c.args.change; reply = c.in-Ok-carry_out.reply } in
     let entries = c.append.ensures.entries ∙
-    (ap (λ (x : List Entry). x ++ entry c.len-number.result ∷ []) c.in-Ok-keep_room.ensures.entries ∙ ap (λ (n : ℕ). es ++ entry n ∷ []) (from-zero c.self.invariant.0 c.len-number.ensures)) in
+    (ap (λ (x : List Entry). x ++ entry c.len-number.result ∷ []) c.in-Ok-keep_room.ensures.entries ∙
+    ap (λ (n : ℕ). es ++ entry n ∷ []) (from-zero c.self.invariant.0 c.len-number.ensures)) in
     let all = (invariant_of-self-in-Ok-carry_out g c).3 in
     let is = state-view _ c.self.invariant.3 c.self.view_is ∙ ap (λ (n : ℕ). at n store) (sym (from-zero c.self.invariant.0 c.len-number.ensures)) in
-    applied-by (asks (answers_of g.C.Callback.answers c.args.callbacks.now)) c.args.self.now _ c.args.session c.args.moment c.args.change c.in-Ok-carry_out.reply c.len-number.result store None is (sym (still-clear (at c.len-number.result store) c.args.session _ c.args.change clear c.in-Ok.ensures.1))
+    applied-by (asks (answers_of g.C.Callback.answers c.args.callbacks.now)) c.args.self.now _ c.args.session c.args.moment c.args.change c.in-Ok-carry_out.reply c.len-number.result store None is
+    (sym (still-clear (at c.len-number.result store) c.args.session _ c.args.change clear c.in-Ok.ensures.1))
     (inl (accepted c.self.invariant.3 c.args.self.now _ c.self.view_is c.args.session c.args.moment c.args.change c.in-Ok-carry_out.reply
     done.reply entries refl done.watches.taken done.kept done.grows all.hive))
 
@@ -131,5 +136,6 @@ returns-in-Err-carry_out g c =
     let made = c.in-Err-carry_out.ensures.carried c.args.change c.in-Ok.ensures.0 in
     let told = c.refuse-in-Err-carry_out.ensures ∙ ap refusal c.status-in-Err-carry_out.ensures in
     let view : List Entry → View = λ x. view_with origin x c.carry_out.new.self in
-    given-up (asks (answers_of g.C.Callback.answers c.args.callbacks.now)) origin es store c.carry_out.new.self c.args.session c.args.moment c.len-number.result c.args.change c.refuse-in-Err-carry_out.result c.in-Err-carry_out.lack
+    given-up (asks (answers_of g.C.Callback.answers c.args.callbacks.now)) origin es store c.carry_out.new.self c.args.session c.args.moment
+    c.len-number.result c.args.change c.refuse-in-Err-carry_out.result c.in-Err-carry_out.lack
     is clear c.in-Ok.ensures.1 made told c.args.self.now _ c.self.view_is (ap view c.in-Ok-keep_room.ensures.entries)

@@ -11,5 +11,6 @@ answer-body-requires g c = c.self.invariant.3.known
 
 pub returns-clause-body : goal.returns-clause-body
 returns-clause-body g c =
-    subst (λ (s : State). IsRead (asks (answers_of g.C.Callback.answers c.args.callbacks.now)) s c.args.session c.args.query.now c.answer-body.result) (sym (state-view _ c.self.invariant.3 c.self.view_is))
+    subst (λ (s : State). IsRead (asks (answers_of g.C.Callback.answers c.args.callbacks.now)) s c.args.session c.args.query.now c.answer-body.result)
+    (sym (state-view _ c.self.invariant.3 c.self.view_is))
     (c.answer-body.ensures (length c.self.inside.journal.entries))

@@ -1,29 +1,30 @@
-use Rattle.std.proofs.Common.{◌≡◌, Some, sym, subst}
-use Rattle.std.specs.Prelude.{OnOk}
-use Rattle.std.proofs.lemmas.List.Elements.{same_from_all_zip}
-use Rattle.reg_security.specs.Rings.{cell_of, Notes}
-use Rattle.reg_security.specs.Internal.MapEntries.{shown, found_for}
-use Rattle.reg_security.proofs.TableCells.{noted-first, noted-behind, updated, if-true, if-false}
-use Rattle.reg_security.proofs.cells.CellMap.expect.Goals.{in-Ok, in-Err}
+use Rattle.std.proofs.Common.{None, IsSome, refl, sym, subst, ◌∙◌}
+use Rattle.reg_security.proofs.OthersRestored.{copied-none, copied-some}
+use Rattle.reg_security.proofs.TableCells.{cell-behind, cell-first, free-here, if-ok, ready-behind, ready-first}
 use Rattle.reg_security.proofs.cells.CellMap.expect.Goals as goal
 
-pub returns-then-branch-clause-ok : goal.returns-then-branch-clause-ok
-returns-then-branch-clause-ok c =
-    noted-first c.args.descriptor.now 0 c.self.inside.by_hash c.expect.new.self c.self.inside.others.entries c.args.self.now c.self.view_is
-    (if-true _ _ c.in_ok-expect.field-0 c.if-branch.true c.in_ok-expect.ensures.ok)
+pub returns-in-This-clause-ok : goal.returns-in-This-clause-ok
+returns-in-This-clause-ok c = (
+  refl,
+  cell-first c.self.inside.by_hash c.self.inside.others.entries c.args.self.now c.args.descriptor.now c.self.view_is c.in-This.ensures,
+)
 
-pub returns-clause-ok : goal.returns-clause-ok
-returns-clause-ok c = elim c.match-insert.branch [
-  | in-Ok w ↦
-      let taken = if-false _ _ c.in_ok-expect.field-0 c.if-branch.false c.in_ok-expect.ensures.ok in
-      let text : c.in_ok-copy.copy.items ≡ c.args.descriptor.now = same_from_all_zip _ _ _ c.in_ok-copy.ensures.ok (λ x y e. e) in
-      subst (λ r. OnOk r (Notes (cell_of c.args.self.now) c.args.descriptor.now (Some 0) (cell_of (shown c.expect.new.self c.insert.new.self.entries))))
-      (sym w.result-is)
-      (noted-behind c.args.descriptor.now 0 c.self.inside.by_hash c.expect.new.self c.self.inside.others.entries c.insert.new.self.entries c.args.self.now
-      c.self.view_is taken.0 taken.1
-      (subst (λ t. Notes (found_for c.self.inside.others.entries) t (Some 0) (found_for c.insert.new.self.entries)) text
-      (updated c.in_ok-copy.copy.items c.self.inside.others c.insert.new.self (Some 0) w.in-Ok.ensures.updates)))
-  | in-Err w ↦
-      subst (λ r. OnOk r (Notes (cell_of c.args.self.now) c.args.descriptor.now (Some 0) (cell_of (shown c.expect.new.self c.insert.new.self.entries))))
-      (sym w.result-is) tt
-]
+pub returns-then-is_some-clause-ok : goal.returns-then-is_some-clause-ok
+returns-then-is_some-clause-ok c = (
+  refl,
+  subst IsSome
+      (sym (cell-behind c.self.inside.by_hash c.self.inside.others.entries c.args.self.now c.args.descriptor.now c.self.view_is
+      (free-here c.self.inside.by_hash c.args.descriptor.now c.in-Nothing.ensures))) (copied-some c.get.result _ c.get.ensures.value c.if-is_some.ensures),
+)
+
+pub returns-in_ok-expect-in-Nothing-clause-ok : goal.returns-in_ok-expect-in-Nothing-clause-ok
+returns-in_ok-expect-in-Nothing-clause-ok c =
+    ready-first c.args.descriptor.now c.self.inside.by_hash c.expect.new.self c.self.inside.others.entries c.args.self.now c.self.view_is
+    (free-here c.self.inside.by_hash c.args.descriptor.now c.in-Nothing.ensures) (copied-none c.get.result _ c.get.ensures.value c.if-is_some.ensures)
+    c.in_ok-expect-in-Nothing.ensures.ok
+
+pub returns-in-Another-clause-ok : goal.returns-in-Another-clause-ok
+returns-in-Another-clause-ok c =
+    if-ok c.expect_among.result
+    (λ made r. ready-behind c.args.descriptor.now c.self.inside.by_hash c.self.inside.others.entries c.expect_among.new.others.entries c.args.self.now made
+    c.self.view_is c.in-Another.ensures.0 r) c.expect_among.ensures.ok

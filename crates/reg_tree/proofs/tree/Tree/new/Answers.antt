@@ -6,7 +6,7 @@ use Rattle.reg_tree.proofs.Invariant.FreshBin.{fresh_bin}
 use Rattle.reg_tree.proofs.tree.Tree.new.Goals as goal
 
 pub add-requires-clause-ring : goal.add-requires-clause-ring
-add-requires-clause-ring c = ([], no-ring _, refl, refl, c.in_default.ensures.expects _ [] (c.new-securities.ensures.finds _))
+add-requires-clause-ring c = ([], no-ring _, refl, refl, c.in-Ok-true.ensures.expects c.in-Ok-true.field-0-test _ [] (c.new-securities.ensures.finds _))
 
 pub put_nk-requires-clause-room : goal.put_nk-requires-clause-room
 put_nk-requires-clause-room c =
@@ -16,14 +16,14 @@ pub invariant_of-result : goal.invariant_of-result
 invariant_of-result c =
     fresh_holds _ _ _ _ _ (made _ _ _ _ c.in-Ok.cells.0 c.in-Ok.cells.1 _ _ _ _ _ _ c.args.root_name.now c.args.descriptor.now c.args.moment
     c.new_root.ensures c.requires.name c.new-arena.ensures.bytes c.in-Ok.ensures.ok (c.add.ensures.first refl)
-    (c.add.ensures.added [] (no-ring _) refl refl (c.in_default.ensures.expects _ [] (c.new-securities.ensures.finds _)))
+    (c.add.ensures.added [] (no-ring _) refl refl (c.in-Ok-true.ensures.expects c.in-Ok-true.field-0-test _ [] (c.new-securities.ensures.finds _)))
     c.put_nk.ensures.written c.put_nk.ensures.plain c.put_nk.ensures.reads)
 
 pub returns-clause-ok : goal.returns-clause-ok
 returns-clause-ok c =
     fresh_tree _ _ _ _ _ (made _ _ _ _ c.in-Ok.cells.0 c.in-Ok.cells.1 _ _ _ _ _ _ c.args.root_name.now c.args.descriptor.now c.args.moment
     c.new_root.ensures c.requires.name c.new-arena.ensures.bytes c.in-Ok.ensures.ok (c.add.ensures.first refl)
-    (c.add.ensures.added [] (no-ring _) refl refl (c.in_default.ensures.expects _ [] (c.new-securities.ensures.finds _)))
+    (c.add.ensures.added [] (no-ring _) refl refl (c.in-Ok-true.ensures.expects c.in-Ok-true.field-0-test _ [] (c.new-securities.ensures.finds _)))
     c.put_nk.ensures.written c.put_nk.ensures.plain c.put_nk.ensures.reads)
 
 pub returns-clause-cells : goal.returns-clause-cells
