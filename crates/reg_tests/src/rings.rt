@@ -16,7 +16,9 @@ fn first_in(alloc: Global, arena: &mut Arena, table: &mut SecurityTable) -> Resu
     requires empty { (descriptor : List ℕ) → cell_of table.old descriptor ≡ None }
 {
     let cell = carved(alloc, arena, 32)?;
-    table.expect(alloc, b"abcd")?;
+    if !table.expect(alloc, b"abcd")? {
+        return Err("the table has the descriptor".into());
+    }
     table.add(arena, None, cell, b"abcd");
     let found = table.find_equal(b"abcd");
     Ok(format!(in alloc; "{found:?} {:?}", arena.content(cell))?)
