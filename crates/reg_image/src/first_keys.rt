@@ -1,6 +1,6 @@
 //! The first keys that are built with the securities of an image, so that later ones share these without a search.
 
-ghost use Rattle.std.specs.Prelude.{◌≡◌, ◌<◌, ℕ, None, Some, length, OnOk, IfOk, IfErr, IfSome};
+ghost use Rattle.std.specs.Prelude.{◌≡◌, ◌<◌, ℕ, None, Some, length, OnOk, IfOk, IfErr, if◌then◌else◌};
 ghost use Rattle.std.specs.Cow.{cow_slice_items};
 ghost use Rattle.std.specs.FinMap.{get, insert};
 ghost use Rattle.reg_names.specs.declared.TheConstants.{PATH_LIMIT};
@@ -40,10 +40,9 @@ impl FirstKeys {
         }
     }
 
-    /// The first key with the security at an offset, if one was built. Where the security wasn't met before, none was, and none is
-    /// looked for.
+    /// The first key with the security at an offset, if one is noted and the security was met before; else none is looked for.
     pub fn find(&self, security: u32, met: bool) -> Option<Node>
-        ensures { IfSome result (λ node. Some node ≡ first_with self.now security) }
+        ensures { result ≡ (if met then first_with self.now security else None) }
     {
         if !met {
             return None;

@@ -160,7 +160,6 @@ ready-behind descriptor before old new t false is none m =
     (ap (shown before) m.0 ∙ is, subst IsSome (sym (cell-behind before old t descriptor is none)) m.1)
 
 -- a change of the map that is the table
--- a change of the map that is the table
 pub noted-in : (map t u : DescriptorCells) (descriptor : List ℕ) (w : Option ℕ) → map ≡ t → Notes (cell_of map) descriptor w (cell_of u) →
     Notes (cell_of t) descriptor w (cell_of u)
 noted-in map t u descriptor w is n = subst (λ t. Notes (cell_of t) descriptor w (cell_of u)) is n

@@ -1,6 +1,6 @@
 -- Keys that share a security: what an image holds at its offset, and the first key that was built with it.
 use Rattle.std.proofs.Common.{◌≡◌, ◌≢◌, ℕ, ◌==◌, arith, nat_lt, nat_le, Bool, true, false, cond, Result, Ok, Err, Option, Some, None, List, length, refl, sym, ap, ◌∙◌, subst}
-use Rattle.std.specs.Prelude.{IfSome, is_ok}
+use Rattle.std.specs.Prelude.{IfSome, if◌then◌else◌, is_ok}
 use Rattle.std.specs.Option.{option_and_then, option_map}
 use Rattle.std.specs.Result.{result_ok}
 use Rattle.std.specs.Ordering.{is_eq, nat_cmp}
@@ -115,6 +115,13 @@ parts-described heap minor path key seen after parts e =
 -- none is noted yet
 pub none-first : (heap : Heap) (keys : Keys) (firsts : FirstKeys) → ((security : ℕ) → first_with firsts security ≡ None) → AreFirst heap keys firsts
 none-first heap keys firsts none security node e = absurd (none-some _ (sym (none security) ∙ e))
+
+-- what a look-up found that was made only where the security was met
+pub like-met : (met : Bool) (o found : Option Node) → found ≡ (if met then o else None) → IfSome found (λ node. Some node ≡ o)
+like-met true o None e = tt
+like-met true o (Some node) e = e
+like-met false o None e = tt
+like-met false o (Some node) e = absurd (cc)
 
 -- the first key with a security has the descriptor of each that has it
 pub like-first : (heap : Heap) (keys : Keys) (firsts : FirstKeys) → AreFirst heap keys firsts → (security : ℕ) (descriptor : List ℕ) →

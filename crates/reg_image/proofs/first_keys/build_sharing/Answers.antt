@@ -4,13 +4,13 @@ use Rattle.reg_heap.specs.Edits.{child_path}
 use Rattle.reg_image.specs.CrowdedBins.{CrowdsBelow}
 use Rattle.reg_image.specs.Internal.BegunKeys.{IsLack, told_as}
 use Rattle.reg_image.proofs.KeyStacks.StackEnds.{if_err}
-use Rattle.reg_image.proofs.Readers.SharedDescriptors.{like-first, first-still, first-then}
+use Rattle.reg_image.proofs.Readers.SharedDescriptors.{like-first, like-met, first-still, first-then}
 use Rattle.reg_image.proofs.first_keys.build_sharing.Goals as goal
 
 pub build_below-requires-clause-like : goal.build_below-requires-clause-like
 build_below-requires-clause-like c =
     let r = c.requires.firsts in
-    like-first r.0 _ c.args.firsts.now r.1 _ _ r.2 c.find-like.result c.find-like.ensures
+    like-first r.0 _ c.args.firsts.now r.1 _ _ r.2 c.find-like.result (like-met c.args.met _ c.find-like.result c.find-like.ensures)
 
 pub returns-then-is_some-clause-firsts : goal.returns-then-is_some-clause-firsts
 returns-then-is_some-clause-firsts c heap are held =
