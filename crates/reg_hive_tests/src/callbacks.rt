@@ -1,7 +1,7 @@
 //! Callbacks of a hive: whose answer it is, which calls they are asked of, and which key they are shown.
 ghost use Rattle.std.specs.Prelude.{◌==◌, length, if◌then◌else◌};
 
-use crate::support::{ALL, assert_told, new_hive, set};
+use crate::support::{ALL, assert_told, set};
 use reg_callbacks::{Callback, CallbackFault, Cookie};
 use reg_calls::Hive;
 use reg_model::{AnswerBody, Bytes, Call, Change, Query};
@@ -392,6 +392,12 @@ fn answered(callback: &Box<dyn Callback + Send>) -> u32 {
     callback.pre_query(0, b"", &Query::QueryInfo { handle: 0 })
 }
 
+/// A hive of boxes with the root `ROOT`.
+fn boxed_hive(alloc: Global) -> Result<Hive, Fail> {
+    let hive = Hive::new(alloc, b"ROOT", &[7; 20], 0)?;
+    Ok(hive)
+}
+
 /// Two callbacks at 100 and 200, one of which goes: what a set is answered, what a third one at 100 is, and a Close.
 fn two_in(alloc: Global, hive: &mut Hive) -> Result<String, Fail> {
     let _root = hive.apply(0, 0, Change::OpenRoot { mask: ALL });
@@ -409,7 +415,7 @@ fn two_in(alloc: Global, hive: &mut Hive) -> Result<String, Fail> {
 }
 
 fn two(alloc: Global) -> Result<String, Fail> {
-    let mut hive = new_hive(alloc, 20)?;
+    let mut hive = boxed_hive(alloc)?;
     two_in(alloc, &mut hive)
 }
 
@@ -442,7 +448,7 @@ fn below_in(alloc: Global, hive: &mut Hive) -> Result<String, Fail> {
 }
 
 fn below(alloc: Global) -> Result<String, Fail> {
-    let mut hive = new_hive(alloc, 20)?;
+    let mut hive = boxed_hive(alloc)?;
     below_in(alloc, &mut hive)
 }
 

@@ -1,8 +1,9 @@
 //! What is refused, and that a refusal leaves the hive as it was.
 use crate::support::{
-    ALL, Deed, Question, assert_same, assert_told, do_all, new_hive, set, status_and_told,
+    ALL, Deed, PlainHive, Question, assert_same, assert_told, do_all, new_hive, set,
+    status_and_told,
 };
-use reg_calls::{Hive, NewFault};
+use reg_calls::NewFault;
 use reg_model::{Call, Change, Step};
 use std::alloc::Global;
 use std::test::Fail;
@@ -44,7 +45,7 @@ fn set_in_a_new_hive(alloc: Global) -> Result<u32, Fail> {
 }
 
 /// That status where this hive has opened a handle of the same number.
-fn set_beside(alloc: Global, hive: &mut Hive) -> Result<u32, Fail> {
+fn set_beside(alloc: Global, hive: &mut PlainHive) -> Result<u32, Fail> {
     let deeds = [Deed::Open(ALL), Deed::Set(b"", &[1])];
     let _status = do_all(alloc, hive, &deeds)?;
     set_in_a_new_hive(alloc)
@@ -64,7 +65,7 @@ fn another_hive(rt: HostRuntime) -> Result<(), Fail> {
 
 /// Why no hive is made of this root and this descriptor.
 fn fault_of(alloc: Global, root_name: &[u8], descriptor: &[u8]) -> Option<NewFault> {
-    let hive: Result<Hive, NewFault> = Hive::new(alloc, root_name, descriptor, 0);
+    let hive: Result<PlainHive, NewFault> = PlainHive::new(alloc, root_name, descriptor, 0);
     hive.err()
 }
 
@@ -78,7 +79,7 @@ fn new_faults(rt: HostRuntime) -> Result<(), Fail> {
 }
 
 /// Runs one step, and tells how many outcomes and entries there are.
-fn run_one_in(alloc: Global, hive: &mut Hive) -> Result<String, Fail> {
+fn run_one_in(alloc: Global, hive: &mut PlainHive) -> Result<String, Fail> {
     let step = Step {
         session: 3,
         moment: 7,

@@ -1,8 +1,7 @@
 //! Keys below one key made and deleted at random, beside a plain map of their names. After each batch the hive tells the map's names in
 //! the map's order, and the lists that stand in its bins have them.
 use crate::many_keys::{delete, make_closed, name_at};
-use crate::support::{ALL, Deed, assert_told, do_all, new_hive};
-use reg_calls::Hive;
+use crate::support::{ALL, Deed, PlainHive, assert_told, do_all, new_hive};
 use reg_fixtures::{SubkeyLists, allocated, subkeys};
 use std::alloc::Global;
 use std::collections::BTreeMap;
@@ -27,7 +26,7 @@ const FIRST_CELLS: usize = 4;
 #[derive(Drop)]
 struct RandomKeys {
     alloc: Global,
-    hive: Hive,
+    hive: PlainHive,
     names: BTreeMap<String, String>,
     chance: u64,
 }

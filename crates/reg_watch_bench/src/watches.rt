@@ -1,11 +1,10 @@
 //! Watches that other keys' changes pass by, that fire, and that a deleted tree ends.
 
 use crate::hives::{
-    apply_all, apply_one, new_hive, open, open_many, open_root, set, sets, sets_between,
+    PlainHive, apply_all, apply_one, new_hive, open, open_many, open_root, set, sets, sets_between,
     sets_in_turn, take_all, watch,
 };
 use anyhow::Result;
-use reg_calls::Hive;
 use reg_model::{Bytes, Change};
 use reg_workload::PerCall;
 use std::alloc::Global;
@@ -70,7 +69,7 @@ struct Times {
     by_many: Duration,
 }
 
-fn open_handles(alloc: Global, hive: &mut Hive, size: Size) -> Result<Handles> {
+fn open_handles(alloc: Global, hive: &mut PlainHive, size: Size) -> Result<Handles> {
     let root = open_root(hive, 0)?;
     let watched = open(alloc, hive, 0, root, "W0")?;
     let other = open(alloc, hive, 0, root, "Other")?;
@@ -83,7 +82,7 @@ fn open_handles(alloc: Global, hive: &mut Hive, size: Size) -> Result<Handles> {
 }
 
 /// Lets each session watch a key of its own. Where the watches don't stay, the handle that asked is closed, which ends them.
-fn watch_by_all(alloc: Global, hive: &mut Hive, size: Size, stay: bool) -> Result<()> {
+fn watch_by_all(alloc: Global, hive: &mut PlainHive, size: Size, stay: bool) -> Result<()> {
     for session in 0..size.sessions.min(64) {
         let root = open_root(hive, session)?;
         let path = format!(in alloc; "W{session}")?;
@@ -97,7 +96,7 @@ fn watch_by_all(alloc: Global, hive: &mut Hive, size: Size, stay: bool) -> Resul
 }
 
 /// How long it takes to make changes of session 0.
-fn time_all(rt: &impl Clock, hive: &mut Hive, changes: Vec<Change>) -> Result<Duration> {
+fn time_all(rt: &impl Clock, hive: &mut PlainHive, changes: Vec<Change>) -> Result<Duration> {
     let start = Instant::now(rt)?;
     apply_all(hive, changes)?;
     Ok(start.elapsed(rt)?)
@@ -107,7 +106,7 @@ fn time_all(rt: &impl Clock, hive: &mut Hive, changes: Vec<Change>) -> Result<Du
 fn time_sets(
     rt: &impl Clock,
     alloc: Global,
-    hive: &mut Hive,
+    hive: &mut PlainHive,
     handles: &Handles,
     size: Size,
 ) -> Result<Times> {
@@ -119,7 +118,7 @@ fn time_sets(
 }
 
 /// How long one set of a key takes.
-fn time_set(rt: &impl Clock, alloc: Global, hive: &mut Hive, handle: u64) -> Result<Duration> {
+fn time_set(rt: &impl Clock, alloc: Global, hive: &mut PlainHive, handle: u64) -> Result<Duration> {
     let change = set(alloc, handle)?;
     let start = Instant::now(rt)?;
     apply_one(hive, 0, change)?;
@@ -130,7 +129,7 @@ fn time_set(rt: &impl Clock, alloc: Global, hive: &mut Hive, handle: u64) -> Res
 fn time_between(
     rt: &impl Clock,
     alloc: Global,
-    hive: &mut Hive,
+    hive: &mut PlainHive,
     handles: &Handles,
     size: Size,
 ) -> Result<Duration> {
@@ -139,7 +138,7 @@ fn time_between(
 }
 
 /// Makes the keys of a tree `T`, and watches the first ones by handles of their own.
-fn plant(alloc: Global, hive: &mut Hive, root: u64, size: Size) -> Result<()> {
+fn plant(alloc: Global, hive: &mut PlainHive, root: u64, size: Size) -> Result<()> {
     let tree = open(alloc, hive, 0, root, "T")?;
     for number in 0..size.keys {
         let path = format!(in alloc; "key {number}")?;
@@ -154,7 +153,7 @@ fn plant(alloc: Global, hive: &mut Hive, root: u64, size: Size) -> Result<()> {
 }
 
 /// How long it takes to delete the tree.
-fn time_fall(rt: &impl Clock, alloc: Global, hive: &mut Hive, root: u64) -> Result<Duration> {
+fn time_fall(rt: &impl Clock, alloc: Global, hive: &mut PlainHive, root: u64) -> Result<Duration> {
     let change = Change::DeleteTree {
         handle: root,
         path: Bytes::from_slice(alloc, b"T")?,
@@ -169,7 +168,7 @@ fn time_fall(rt: &impl Clock, alloc: Global, hive: &mut Hive, root: u64) -> Resu
 fn run_ended(
     rt: &impl Clock,
     alloc: Global,
-    hive: &mut Hive,
+    hive: &mut PlainHive,
     size: Size,
 ) -> Result<(Times, Duration)> {
     let handles = open_handles(alloc, hive, size)?;
@@ -184,7 +183,7 @@ fn run_ended(
 fn run_watched(
     rt: &impl Clock,
     alloc: Global,
-    hive: &mut Hive,
+    hive: &mut PlainHive,
     size: Size,
 ) -> Result<(Times, Duration, Duration)> {
     let handles = open_handles(alloc, hive, size)?;
@@ -196,14 +195,14 @@ fn run_watched(
 }
 
 /// The steps on a tree, with the time that its deletion takes.
-fn run_fall(rt: &impl Clock, alloc: Global, hive: &mut Hive, size: Size) -> Result<Duration> {
+fn run_fall(rt: &impl Clock, alloc: Global, hive: &mut PlainHive, size: Size) -> Result<Duration> {
     let root = open_root(hive, 0)?;
     plant(alloc, hive, root, size)?;
     time_fall(rt, alloc, hive, root)
 }
 
 /// Prints how many watches are pending, and how many notices session 0 was told.
-fn print_counts(rt: &impl Print, hive: &mut Hive, what: &str, size: Size) -> Result<()> {
+fn print_counts(rt: &impl Print, hive: &mut PlainHive, what: &str, size: Size) -> Result<()> {
     let taken = take_all(hive, 0, size.watches.saturating_add(1));
     println!(rt;
         "{what}: {} pending, {taken} told, {} entries",
