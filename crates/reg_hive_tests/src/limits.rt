@@ -1,10 +1,10 @@
 //! What is refused, and that a refusal leaves the hive as it was.
 use crate::support::{
-    ALL, Deed, PlainHive, Question, assert_same, assert_told, do_all, new_hive, set,
-    status_and_told,
+    ALL, Deed, Question, assert_same, assert_told, do_all, new_hive, set, status_and_told,
 };
 use reg_calls::NewFault;
 use reg_model::{Call, Change, Step};
+use reg_registry::{PlainHive, Registry};
 use std::alloc::Global;
 use std::test::Fail;
 
@@ -40,12 +40,12 @@ fn missing_right(rt: HostRuntime) -> Result<(), Fail> {
 
 /// The status of a set in a new hive, by a handle that it hasn't opened.
 fn set_in_a_new_hive(alloc: Global) -> Result<u32, Fail> {
-    let mut hive = new_hive(alloc, 20)?;
+    let mut hive: PlainHive = new_hive(alloc, 20)?;
     set(alloc, &mut hive, b"", &[1])
 }
 
 /// That status where this hive has opened a handle of the same number.
-fn set_beside(alloc: Global, hive: &mut PlainHive) -> Result<u32, Fail> {
+fn set_beside<H: Registry>(alloc: Global, hive: &mut H) -> Result<u32, Fail> {
     let deeds = [Deed::Open(ALL), Deed::Set(b"", &[1])];
     let _status = do_all(alloc, hive, &deeds)?;
     set_in_a_new_hive(alloc)
@@ -53,7 +53,7 @@ fn set_beside(alloc: Global, hive: &mut PlainHive) -> Result<u32, Fail> {
 
 /// The status of a set by a handle of another hive.
 fn set_in_another(alloc: Global) -> Result<u32, Fail> {
-    let mut hive = new_hive(alloc, 20)?;
+    let mut hive: PlainHive = new_hive(alloc, 20)?;
     set_beside(alloc, &mut hive)
 }
 
@@ -92,7 +92,7 @@ fn run_one_in(alloc: Global, hive: &mut PlainHive) -> Result<String, Fail> {
 
 /// The same in a new hive.
 fn run_one(alloc: Global) -> Result<String, Fail> {
-    let mut hive = new_hive(alloc, 20)?;
+    let mut hive: PlainHive = new_hive(alloc, 20)?;
     run_one_in(alloc, &mut hive)
 }
 
