@@ -1,12 +1,13 @@
 //! Readers and writers that fail at each place: what is told of them.
 use crate::devices::{NarrowWriter, SlowReader};
-use crate::hives::{PlainHive, fresh_hive};
+use crate::hives::{Subject, fresh_hive};
 use crate::tools::write_image_by_tool;
 use crate::verdicts::{Tally, judge};
 use anyhow::{Result, bail};
 use reg_dump::{DumpFault, dump};
 use reg_image::write_image;
-use reg_script::{ScriptFault, run};
+use reg_registry::{PlainHive, Registry};
+use reg_script::ScriptFault;
 use std::alloc::Global;
 
 /// How much a device does, and where it stops.
@@ -48,15 +49,15 @@ pub fn readers(alloc: Global, image: &[u8], device: Device) -> Result<Tally> {
 pub enum Work<'a> {
     /// An image.
     Image(&'a [u8]),
-    /// The dump of a hive.
-    Dump(&'a PlainHive),
+    /// The dump of what an image loads to.
+    Dump(&'a [u8]),
     /// The replies of a script on a fresh hive.
     Replies(&'a [u8]),
     /// The image of a fresh hive, by the tool.
     ToolImage,
 }
 
-fn write_dump(alloc: Global, hive: &PlainHive, writer: &mut NarrowWriter) -> Result<Option<u64>> {
+fn dump_to<H: Subject>(alloc: Global, hive: &H, writer: &mut NarrowWriter) -> Result<Option<u64>> {
     match dump(alloc, hive.tree(), writer) {
         Ok(()) => Ok(None),
         Err(DumpFault::Write { written }) => Ok(Some(written)),
@@ -64,14 +65,19 @@ fn write_dump(alloc: Global, hive: &PlainHive, writer: &mut NarrowWriter) -> Res
     }
 }
 
-fn run_script(
+fn write_dump(alloc: Global, image: &[u8], writer: &mut NarrowWriter) -> Result<Option<u64>> {
+    let mut input = image;
+    let hive = PlainHive::loaded(alloc, &mut input)?;
+    dump_to(alloc, &hive, writer)
+}
+
+fn reply_to<H: Subject>(
     alloc: Global,
-    hive: &mut PlainHive,
+    hive: &mut H,
     script: &[u8],
     writer: &mut NarrowWriter,
 ) -> Result<Option<u64>> {
-    let mut input = script;
-    match run(alloc, &mut input, writer, hive) {
+    match hive.ran(alloc, script, writer) {
         Ok(()) => Ok(None),
         Err(ScriptFault::Write { written }) => Ok(Some(written)),
         Err(fault) => bail!("{fault}"),
@@ -79,8 +85,8 @@ fn run_script(
 }
 
 fn write_replies(alloc: Global, script: &[u8], writer: &mut NarrowWriter) -> Result<Option<u64>> {
-    let mut hive = fresh_hive(alloc)?;
-    run_script(alloc, &mut hive, script, writer)
+    let mut hive: PlainHive = fresh_hive(alloc)?;
+    reply_to(alloc, &mut hive, script, writer)
 }
 
 impl<'a> Work<'a> {
@@ -91,7 +97,7 @@ impl<'a> Work<'a> {
                 Ok(()) => None,
                 Err(fault) => Some(fault.written),
             }),
-            Work::Dump(hive) => write_dump(alloc, hive, writer),
+            Work::Dump(image) => write_dump(alloc, image, writer),
             Work::Replies(script) => write_replies(alloc, script, writer),
             Work::ToolImage => write_image_by_tool(alloc, writer),
         }

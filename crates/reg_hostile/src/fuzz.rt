@@ -1,11 +1,10 @@
 //! Images and scripts that were changed at random, each by a seed of its own.
 use crate::chance::Chance;
 use crate::changes::{change_image, changed_script};
-use crate::hives::{PlainHive, fresh_hive, run_on};
+use crate::hives::{Subject, fresh_hive, run_on};
 use crate::seeds::{SCRIPTS, images};
 use crate::verdicts::{Tally, Verdict, judge_bytes, verdict_on};
 use anyhow::Result;
-use reg_image::load;
 use std::alloc::Global;
 
 /// Every so many seeds have a script, too.
@@ -38,15 +37,15 @@ fn script_of_seed(alloc: Global, chance: &mut Chance) -> Result<Vec<u8>> {
 }
 
 /// The verdict on a hive after a script.
-fn judge_after(alloc: Global, hive: &mut PlainHive, script: &[u8]) -> Result<Verdict> {
+fn judge_after<H: Subject>(alloc: Global, hive: &mut H, script: &[u8]) -> Result<Verdict> {
     let _replies = run_on(alloc, hive, script)?;
     verdict_on(alloc, hive)
 }
 
 /// The verdict on a script: on what it makes of an image that was changed, if that is loaded, or else of a fresh hive.
-fn judge_script(alloc: Global, image: &[u8], script: &[u8]) -> Result<Verdict> {
+fn judge_script<H: Subject>(alloc: Global, image: &[u8], script: &[u8]) -> Result<Verdict> {
     let mut input = image;
-    let mut hive = match load(alloc, &mut input) {
+    let mut hive = match H::loaded(alloc, &mut input) {
         Ok(hive) => hive,
         Err(_) => fresh_hive(alloc)?,
     };
@@ -54,7 +53,7 @@ fn judge_script(alloc: Global, image: &[u8], script: &[u8]) -> Result<Verdict> {
 }
 
 /// The verdicts on the images and scripts of so many seeds, beginning with one.
-pub fn fuzz(alloc: Global, first: u64, count: u64) -> Result<(Tally, Tally)> {
+pub fn fuzz<H: Subject>(alloc: Global, first: u64, count: u64) -> Result<(Tally, Tally)> {
     let good = images(alloc)?;
     let mut of_images = Tally::NONE;
     let mut of_scripts = Tally::NONE;
@@ -65,7 +64,7 @@ pub fn fuzz(alloc: Global, first: u64, count: u64) -> Result<(Tally, Tally)> {
         of_images.add(judge_bytes(alloc, &image)?);
         if seed % SCRIPT_EVERY == 0 {
             let script = script_of_seed(alloc, &mut chance)?;
-            of_scripts.add(judge_script(alloc, &image, &script)?);
+            of_scripts.add(judge_script::<H>(alloc, &image, &script)?);
         }
     }
     Ok((of_images, of_scripts))

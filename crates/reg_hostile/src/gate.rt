@@ -7,7 +7,7 @@ use crate::seeds::{RECORDS_END, SCRIPTS, every_record, images};
 use crate::sweeps::{all_bits, fronts, sealed_bits, some_bits};
 use crate::tools::is_told_by_tool;
 use anyhow::Result;
-use reg_image::load;
+use reg_registry::PlainHive;
 use std::alloc::Global;
 
 /// How many bits of the image with every record are turned over beside those of its records.
@@ -111,13 +111,6 @@ fn fail_writers(
     Ok(())
 }
 
-/// Writers of what a loaded hive and a script give.
-fn fail_writers_of(rt: &impl Print, alloc: Global, image: &[u8]) -> Result<()> {
-    let mut input = image;
-    let hive = load(alloc, &mut input)?;
-    fail_writers(rt, alloc, "a dump", Work::Dump(&hive), STRIDE)
-}
-
 /// The same of every work: of a fresh hive's image and of replies at each place.
 fn fail_all_writers(rt: &impl Print, alloc: Global) -> Result<()> {
     let fresh = scripted(alloc, b"")?;
@@ -125,7 +118,7 @@ fn fail_all_writers(rt: &impl Print, alloc: Global) -> Result<()> {
     fail_writers(rt, alloc, "a fresh hive by the tool", Work::ToolImage, 1)?;
     let image = every_record(alloc)?;
     fail_writers(rt, alloc, "every record", Work::Image(&image), STRIDE)?;
-    fail_writers_of(rt, alloc, &image)?;
+    fail_writers(rt, alloc, "a dump", Work::Dump(&image), STRIDE)?;
     let script = SCRIPTS[0].as_bytes();
     fail_writers(rt, alloc, "replies", Work::Replies(script), 1)
 }
@@ -150,8 +143,8 @@ pub fn run(rt: &impl Print, alloc: Global) -> Result<()> {
     fail_all_readers(rt, alloc)?;
     fail_all_writers(rt, alloc)?;
     tool_images(rt, alloc)?;
-    let (of_images, of_scripts) = fuzz(alloc, 1, SEEDS)?;
+    let (of_images, of_scripts) = fuzz::<PlainHive>(alloc, 1, SEEDS)?;
     println!(rt; "images of {SEEDS} seeds: {of_images}")?;
     println!(rt; "scripts of {SEEDS} seeds: {of_scripts}")?;
-    run_rows(rt, alloc)
+    run_rows::<PlainHive>(rt, alloc)
 }

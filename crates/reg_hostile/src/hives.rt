@@ -1,50 +1,103 @@
 //! Hives, made by scripts, and what is told of them.
+//!
+//! Whoever owns a hive hands it on to functions over any [`Subject`]: a function over the hive itself takes ten times as long to check.
 use anyhow::Result;
-use reg_callbacks::NoCallback;
-use reg_calls::Hive;
+use reg_callbacks::{CallbackFault, Cookie, NoCallback};
 use reg_dump::dump;
-use reg_image::image;
-use reg_script::run;
-use std::alloc::Global;
+use reg_image::{LoadFault, image, load};
+use reg_registry::{PlainHive, Registry};
+use reg_script::{ScriptFault, run};
+use std::alloc::{AllocError, Global};
+use std::io::{Read, Write};
 
-/// A hive on which no callback is ever registered: a function over one is checked in three quarters of the time.
-pub type PlainHive = Hive<NoCallback>;
+/// What is loaded, asked and written here: a hive.
+pub trait Subject: Registry {
+    /// What a reader's image loads to.
+    fn loaded<R: Read>(alloc: Global, input: &mut R) -> Result<Self, LoadFault>;
+
+    /// Runs a script on it, and writes the replies.
+    fn ran<W: Write>(
+        &mut self,
+        alloc: Global,
+        script: &[u8],
+        writer: &mut W,
+    ) -> Result<(), ScriptFault>;
+
+    /// Its image, with moment 0 and sequence 0.
+    fn imaged(&self, alloc: Global) -> Result<Vec<u8>, AllocError>;
+
+    /// Registers a callback that lets every call go on.
+    fn add_callback(&mut self) -> Result<Cookie, CallbackFault<NoCallback>>;
+
+    /// Takes it out, and tells whether it was there.
+    fn take_callback(&mut self, cookie: Cookie) -> bool;
+}
+
+impl Subject for PlainHive {
+    fn loaded<R: Read>(alloc: Global, input: &mut R) -> Result<PlainHive, LoadFault> {
+        load(alloc, input)
+    }
+
+    fn ran<W: Write>(
+        &mut self,
+        alloc: Global,
+        script: &[u8],
+        writer: &mut W,
+    ) -> Result<(), ScriptFault> {
+        let mut input = script;
+        run(alloc, &mut input, writer, self)
+    }
+
+    fn imaged(&self, alloc: Global) -> Result<Vec<u8>, AllocError> {
+        match image(alloc, self, 0, 0) {
+            Ok(bytes) => Ok(bytes),
+            Err(_) => Err(AllocError),
+        }
+    }
+
+    fn add_callback(&mut self) -> Result<Cookie, CallbackFault<NoCallback>> {
+        self.register(NoCallback, 1)
+    }
+
+    fn take_callback(&mut self, cookie: Cookie) -> bool {
+        self.unregister(cookie).is_ok()
+    }
+}
 
 /// The descriptor of the root: 20 bytes.
 const DESCRIPTOR: [u8; 20] = [1, 0, 4, 128, 0, 0, 0, 0, 0, 0, 0, 0, 0, 0, 0, 0, 0, 0, 0, 0];
 
 /// A hive of the root `ROOT`, made at moment 0.
-pub fn fresh_hive(alloc: Global) -> Result<PlainHive> {
-    Ok(PlainHive::new(alloc, b"ROOT", &DESCRIPTOR, 0)?)
+pub fn fresh_hive<H: Subject>(alloc: Global) -> Result<H> {
+    Ok(H::fresh(alloc, b"ROOT", &DESCRIPTOR, 0)?)
 }
 
 /// The replies of a script on a hive.
-pub fn run_on(alloc: Global, hive: &mut PlainHive, script: &[u8]) -> Result<Vec<u8>> {
-    let mut input = script;
+pub fn run_on<H: Subject>(alloc: Global, hive: &mut H, script: &[u8]) -> Result<Vec<u8>> {
     let mut replies = Vec::new(alloc);
-    run(alloc, &mut input, &mut replies, hive)?;
+    hive.ran(alloc, script, &mut replies)?;
     Ok(replies)
 }
 
 /// The dump of a hive.
-pub fn dumped(alloc: Global, hive: &PlainHive) -> Result<Vec<u8>> {
+pub fn dumped<H: Subject>(alloc: Global, hive: &H) -> Result<Vec<u8>> {
     let mut text = Vec::new(alloc);
     dump(alloc, hive.tree(), &mut text)?;
     Ok(text)
 }
 
 /// The image of a hive, with moment 0 and sequence 0.
-pub fn image_of(alloc: Global, hive: &PlainHive) -> Result<Vec<u8>> {
-    Ok(image(alloc, hive, 0, 0)?)
+pub fn image_of<H: Subject>(alloc: Global, hive: &H) -> Result<Vec<u8>> {
+    Ok(hive.imaged(alloc)?)
 }
 
-fn image_after(alloc: Global, hive: &mut PlainHive, script: &[u8]) -> Result<Vec<u8>> {
+fn image_after<H: Subject>(alloc: Global, hive: &mut H, script: &[u8]) -> Result<Vec<u8>> {
     let _replies = run_on(alloc, hive, script)?;
     image_of(alloc, hive)
 }
 
 /// The image of a fresh hive after a script.
 pub fn scripted(alloc: Global, script: &[u8]) -> Result<Vec<u8>> {
-    let mut hive = fresh_hive(alloc)?;
+    let mut hive: PlainHive = fresh_hive(alloc)?;
     image_after(alloc, &mut hive, script)
 }

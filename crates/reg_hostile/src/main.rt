@@ -27,6 +27,7 @@ mod words;
 use crate::seeds::every_record;
 use crate::words::{Request, read_words};
 use anyhow::Result;
+use reg_registry::PlainHive;
 use std::alloc::Global;
 use std::env;
 use std::process::ExitCode;
@@ -34,7 +35,7 @@ use std::rt::Clock;
 
 /// Prints the verdicts on the images and scripts of seeds.
 fn print_fuzz(rt: &impl Print, alloc: Global, first: u64, count: u64) -> Result<()> {
-    let (of_images, of_scripts) = fuzz::fuzz(alloc, first, count)?;
+    let (of_images, of_scripts) = fuzz::fuzz::<PlainHive>(alloc, first, count)?;
     println!(rt; "images: {of_images}")?;
     println!(rt; "scripts: {of_scripts}")?;
     Ok(())
@@ -53,8 +54,8 @@ fn answer(rt: &(impl Print + Eprint + Clock), alloc: Global, request: Request) -
         Request::Gate => gate::run(rt, alloc),
         Request::Fuzz { first, count } => print_fuzz(rt, alloc, first, count),
         Request::Bits => print_bits(rt, alloc),
-        Request::Sizes => sizes::measure(rt, alloc),
-        Request::Rows => rows::run_rows(rt, alloc),
+        Request::Sizes => sizes::measure::<PlainHive>(rt, alloc),
+        Request::Rows => rows::run_rows::<PlainHive>(rt, alloc),
     }
 }
 

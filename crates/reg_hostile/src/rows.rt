@@ -3,10 +3,10 @@
 //! A row that wants memory is answered 8, or ends its script; then the hive is as it was, and the same row is answered as it should be
 //! when it comes again, a `notice` by the same notice. A `close` and a `notice` are never answered 8. The same of a callback that is
 //! registered before the rows of a script, and taken out after them, for which no memory is wanting.
-use crate::hives::{PlainHive, fresh_hive, image_of};
+use crate::hives::{Subject, fresh_hive, image_of};
 use anyhow::{Result, bail};
-use reg_callbacks::{CallbackFault, Cookie, NoCallback};
-use reg_script::{ScriptFault, run};
+use reg_callbacks::{CallbackFault, Cookie};
+use reg_script::ScriptFault;
 use std::alloc::Global;
 use std::fmt;
 
@@ -130,7 +130,7 @@ impl fmt::Display for Counts {
     }
 }
 
-fn take_snapshot(alloc: Global, hive: &PlainHive) -> Result<Snapshot> {
+fn take_snapshot<H: Subject>(alloc: Global, hive: &H) -> Result<Snapshot> {
     let image = match image_of(alloc, hive) {
         Ok(image) => image,
         Err(_) => image_of(alloc, hive)?,
@@ -157,10 +157,9 @@ fn line_of(alloc: Global, line: &str) -> Result<String> {
 }
 
 /// Gives a line to a hive. Another reply than the wanted one is an error.
-fn ask(alloc: Global, hive: &mut PlainHive, line: &str, wanted: &str) -> Result<Outcome> {
-    let mut input = line.as_bytes();
+fn ask<H: Subject>(alloc: Global, hive: &mut H, line: &str, wanted: &str) -> Result<Outcome> {
     let mut output = Vec::with_capacity(alloc, 256)?;
-    match run(alloc, &mut input, &mut output, hive) {
+    match hive.ran(alloc, line.as_bytes(), &mut output) {
         Ok(()) => {
             let text = String::from_utf8(output)?;
             match text.as_str().strip_suffix("\n") {
@@ -201,9 +200,9 @@ fn count_refusal(
 }
 
 /// Gives a row's line to a hive, and again where memory was wanting.
-fn check_row(
+fn check_row<H: Subject>(
     alloc: Global,
-    hive: &mut PlainHive,
+    hive: &mut H,
     line: &str,
     wanted: &str,
     counts: &mut Counts,
@@ -225,9 +224,9 @@ fn check_row(
 }
 
 /// Gives a script's rows to a hive.
-fn check_script(
+fn check_script<H: Subject>(
     alloc: Global,
-    hive: &mut PlainHive,
+    hive: &mut H,
     script: &str,
     counts: &mut Counts,
 ) -> Result<()> {
@@ -241,66 +240,61 @@ fn check_script(
 }
 
 /// Registers a callback whose first registration wanted memory, which must have left the hive as it was.
-fn register_again(
-    alloc: Global,
-    hive: &mut PlainHive,
-    callback: NoCallback,
-    before: &Snapshot,
-) -> Result<Cookie> {
+fn register_again<H: Subject>(alloc: Global, hive: &mut H, before: &Snapshot) -> Result<Cookie> {
     let after = take_snapshot(alloc, hive)?;
     if !is_same(before, &after) {
         bail!("a registration that was refused changed the hive");
     }
-    match hive.register(callback, 1) {
+    match hive.add_callback() {
         Ok(cookie) => Ok(cookie),
         Err(_) => bail!("a callback was not registered again"),
     }
 }
 
 /// Registers a callback, and again where memory was wanting.
-fn register(alloc: Global, hive: &mut PlainHive, counts: &mut Counts) -> Result<Cookie> {
+fn register<H: Subject>(alloc: Global, hive: &mut H, counts: &mut Counts) -> Result<Cookie> {
     let before = take_snapshot(alloc, hive)?;
     counts.rows = counts.rows.saturating_add(1);
-    match hive.register(NoCallback, 1) {
+    match hive.add_callback() {
         Ok(cookie) => Ok(cookie),
-        Err(CallbackFault::Memory(callback)) => {
+        Err(CallbackFault::Memory(_)) => {
             counts.refused = counts.refused.saturating_add(1);
-            register_again(alloc, hive, callback, &before)
+            register_again(alloc, hive, &before)
         }
         Err(_) => bail!("a callback was refused"),
     }
 }
 
 /// Gives a script's rows to a hive with a callback, which is taken out at last: for that no memory is wanting.
-fn check_called_back(
+fn check_called_back<H: Subject>(
     alloc: Global,
-    hive: &mut PlainHive,
+    hive: &mut H,
     script: &str,
     counts: &mut Counts,
 ) -> Result<()> {
     let cookie = register(alloc, hive, counts)?;
     check_script(alloc, hive, script, counts)?;
-    if hive.unregister(cookie).is_err() {
+    if !hive.take_callback(cookie) {
         bail!("a callback was not taken out");
     }
     Ok(())
 }
 
 /// Gives a script's rows to a fresh hive with a callback that lets every call go on.
-fn check_fresh(alloc: Global, script: &str, counts: &mut Counts) -> Result<()> {
-    let mut hive = fresh_hive(alloc)?;
+fn check_fresh<H: Subject>(alloc: Global, script: &str, counts: &mut Counts) -> Result<()> {
+    let mut hive: H = fresh_hive(alloc)?;
     check_called_back(alloc, &mut hive, script, counts)
 }
 
 /// Gives the rows of all scripts to fresh hives, and prints how they were answered. Where one was answered wrongly, that is the error.
-pub fn run_rows(rt: &impl Print, alloc: Global) -> Result<()> {
+pub fn run_rows<H: Subject>(rt: &impl Print, alloc: Global) -> Result<()> {
     let mut counts = Counts {
         rows: 0,
         refused: 0,
         ended: 0,
     };
     for script in ROWS {
-        check_fresh(alloc, script, &mut counts)?;
+        check_fresh::<H>(alloc, script, &mut counts)?;
     }
     println!(rt; "{counts}")?;
     Ok(())

@@ -1,9 +1,8 @@
 //! How long hostile images take, beside honest ones of the same size.
-use crate::hives::PlainHive;
+use crate::hives::Subject;
 use crate::shapes::{Shape, honest};
 use anyhow::Result;
 use reg_dump::dump;
-use reg_image::load;
 use reg_workload::Ratio;
 use std::alloc::Global;
 use std::io;
@@ -40,7 +39,7 @@ fn nanos(time: Duration) -> u64 {
 }
 
 /// How long a dump takes that nobody reads.
-fn time_dump(rt: &impl Clock, alloc: Global, hive: &PlainHive) -> Result<u64> {
+fn time_dump<H: Subject>(rt: &impl Clock, alloc: Global, hive: &H) -> Result<u64> {
     let mut nowhere = io::sink();
     let start = Instant::now(rt)?;
     dump(alloc, hive.tree(), &mut nowhere)?;
@@ -48,10 +47,10 @@ fn time_dump(rt: &impl Clock, alloc: Global, hive: &PlainHive) -> Result<u64> {
 }
 
 /// How long an image takes once.
-fn time_once(rt: &impl Clock, alloc: Global, image: &[u8]) -> Result<Taken> {
+fn time_once<H: Subject>(rt: &impl Clock, alloc: Global, image: &[u8]) -> Result<Taken> {
     let mut input = image;
     let start = Instant::now(rt)?;
-    let loaded = load(alloc, &mut input);
+    let loaded = H::loaded(alloc, &mut input);
     let load = nanos(start.elapsed(rt)?);
     match loaded {
         Ok(hive) => Ok(Taken {
@@ -68,30 +67,30 @@ fn time_once(rt: &impl Clock, alloc: Global, image: &[u8]) -> Result<Taken> {
 }
 
 /// The fastest of some times of an image and of an honest one, which are taken in turn: what slows the machine for a while slows both.
-fn time_both(
+fn time_both<H: Subject>(
     rt: &impl Clock,
     alloc: Global,
     image: &[u8],
     honest: &[u8],
 ) -> Result<(Taken, Taken)> {
-    let mut best = time_once(rt, alloc, image)?;
-    let mut beside = time_once(rt, alloc, honest)?;
+    let mut best = time_once::<H>(rt, alloc, image)?;
+    let mut beside = time_once::<H>(rt, alloc, honest)?;
     for _turn in 1..TURNS {
-        best = best.min(time_once(rt, alloc, image)?);
-        beside = beside.min(time_once(rt, alloc, honest)?);
+        best = best.min(time_once::<H>(rt, alloc, image)?);
+        beside = beside.min(time_once::<H>(rt, alloc, honest)?);
     }
     Ok((best, beside))
 }
 
 /// Prints how long an image of a shape takes, and how many times as long as an honest one of its size.
-fn measure_one(
+fn measure_one<H: Subject>(
     rt: &(impl Clock + Eprint),
     alloc: Global,
     shape: Shape,
     count: u32,
 ) -> Result<Taken> {
     let image = shape.image(alloc, count)?;
-    let (taken, beside) = time_both(rt, alloc, &image, &honest(alloc, image.len())?)?;
+    let (taken, beside) = time_both::<H>(rt, alloc, &image, &honest(alloc, image.len())?)?;
     let len = image.len();
     let Taken { load, dump, fault } = taken;
     let loads = Ratio::new(load, beside.load);
@@ -103,10 +102,10 @@ fn measure_one(
 }
 
 /// Prints how long all shapes take, at two sizes.
-pub fn measure(rt: &(impl Clock + Eprint), alloc: Global) -> Result<()> {
+pub fn measure<H: Subject>(rt: &(impl Clock + Eprint), alloc: Global) -> Result<()> {
     for (shape, count) in Shape::ALL {
-        let small = measure_one(rt, alloc, shape, count)?;
-        let large = measure_one(rt, alloc, shape, count.saturating_mul(2))?;
+        let small = measure_one::<H>(rt, alloc, shape, count)?;
+        let large = measure_one::<H>(rt, alloc, shape, count.saturating_mul(2))?;
         let growth = Ratio::new(large.load, small.load);
         eprintln!(rt; "{shape:?}: twice as much took {growth} times as long to load")?;
     }

@@ -1,9 +1,9 @@
 //! What the tool tells of images.
 use crate::devices::NarrowWriter;
-use crate::hives::dumped;
+use crate::hives::{Subject, dumped};
 use anyhow::{Result, bail};
 use reg_command::tool;
-use reg_image::load;
+use reg_registry::PlainHive;
 use std::alloc::Global;
 
 /// What the tool writes to its output where it reads an image, and its status.
@@ -19,7 +19,7 @@ fn tool_told(alloc: Global, word: &str, image: &[u8]) -> Result<(u8, Vec<u8>)> {
 /// What the tool should tell of an image.
 fn load_told(alloc: Global, image: &[u8]) -> Result<(u8, Vec<u8>)> {
     let mut input = image;
-    match load(alloc, &mut input) {
+    match PlainHive::loaded(alloc, &mut input) {
         Ok(hive) => Ok((0, dumped(alloc, &hive)?)),
         Err(fault) => {
             let line = format!(in alloc; "error 1009 load {}\n", fault.number())?;

@@ -1,8 +1,9 @@
 //! What becomes of an image: the fault that refuses it, or a hive whose own image tells the same.
-use crate::hives::{PlainHive, dumped, image_of};
+use crate::hives::{Subject, dumped, image_of};
 use crate::tools::is_told_by_tool;
 use anyhow::Result;
-use reg_image::{LoadFault, load};
+use reg_image::LoadFault;
+use reg_registry::PlainHive;
 use std::alloc::Global;
 use std::fmt;
 use std::io::Read;
@@ -21,18 +22,18 @@ pub enum Verdict {
 }
 
 /// Whether a hive's own image loads to the hive's dump.
-pub fn is_kept(alloc: Global, hive: &PlainHive) -> Result<bool> {
+pub fn is_kept<H: Subject>(alloc: Global, hive: &H) -> Result<bool> {
     let told = dumped(alloc, hive)?;
     let bytes = image_of(alloc, hive)?;
     let mut input = bytes.as_slice();
-    match load(alloc, &mut input) {
+    match H::loaded(alloc, &mut input) {
         Ok(again) => Ok(dumped(alloc, &again)?.as_slice() == told.as_slice()),
         Err(_) => Ok(false),
     }
 }
 
 /// The verdict on a hive.
-pub fn verdict_on(alloc: Global, hive: &PlainHive) -> Result<Verdict> {
+pub fn verdict_on<H: Subject>(alloc: Global, hive: &H) -> Result<Verdict> {
     Ok(if is_kept(alloc, hive)? {
         Verdict::Kept
     } else {
@@ -42,7 +43,7 @@ pub fn verdict_on(alloc: Global, hive: &PlainHive) -> Result<Verdict> {
 
 /// The verdict on a reader's image.
 pub fn judge<R: Read>(alloc: Global, input: &mut R) -> Result<Verdict> {
-    match load(alloc, input) {
+    match PlainHive::loaded(alloc, input) {
         Ok(hive) => verdict_on(alloc, &hive),
         Err(fault) => Ok(Verdict::Refused(fault)),
     }
