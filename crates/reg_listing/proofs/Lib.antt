@@ -1,0 +1,4 @@
+pub mod ListedLines
+pub mod ListedKeys
+pub mod SpeltUnits
+mod RowsOfValueTexts
