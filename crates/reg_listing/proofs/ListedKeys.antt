@@ -9,13 +9,16 @@ use Rattle.reg_tree.specs.declared.node.Node.{Node}
 use Rattle.reg_tree.specs.declared.node.Subkey.{Subkey}
 use Rattle.reg_tree.specs.TreeKeys.{Keys, IsAt}
 use Rattle.reg_tree.specs.SubkeyWalk.{IsSubkeyAt}
+use Rattle.reg_tree.proofs.Invariant.CellReadings.{some_of}
 use Rattle.reg_dump.specs.declared.walk.Pending.{Pending}
 use Rattle.reg_dump.specs.declared.walk.Walk.{Walk}
 use Rattle.reg_dump.specs.DumpTexts.{Told, name_of, told_here}
-use Rattle.reg_dump.specs.Internal.Walking.{told_below, ArePending, Stands, Goes, Advances}
+use Rattle.reg_dump.specs.Internal.Gathered.{WriterState, IsSoFar}
+use Rattle.reg_dump.specs.Internal.Walking.{told_below, ArePending, Stands}
 use Rattle.reg_dump.proofs.WalkSteps.{told-open}
 use Rattle.reg_dump.proofs.LineTexts.{root_named}
-use Rattle.reg_listing.specs.Listings.{key_line, keys_below}
+use Rattle.reg_dump.proofs.SentTexts.{opened, swapped}
+use Rattle.reg_listing.specs.Listings.{key_line, keys_below, told_lines}
 
 -- ---- the keys right below one
 
@@ -35,7 +38,15 @@ pub next_behind : (keys : Keys) (path : Path) (node : Node) (index : ℕ) (next 
 next_behind keys path node index None e = omega (arith, e)
 next_behind keys path node index (Some subkey) e = e
 
--- the lines of the keys at some paths
+pub next_is : (keys : Keys) (path : Path) (node : Node) (index : ℕ) (next : Option Subkey) (subkey : Subkey) →
+    IsNext keys path node index next → next ≡ Some subkey → IsSubkeyAt keys path node index subkey
+next_is keys path node index next subkey n e = subst (λ (o : Option Subkey). IsNext keys path node index o) e n
+
+pub next_none : (keys : Keys) (path : Path) (node : Node) (index : ℕ) (next : Option Subkey) →
+    IsNext keys path node index next → next ≡ None → length (children_of keys.tree path) ≤ index
+next_none keys path node index next n e = subst (λ (o : Option Subkey). IsNext keys path node index o) e n
+
+-- the line of the key at a path
 abbrev pub child_line : Tree → Path → List ℕ
 child_line tree child = key_line (name_of (get tree child))
 
@@ -47,6 +58,18 @@ next_line tree children index l = ap (flat_map (child_line tree)) (drop_more chi
 pub child_named : (tree : Tree) (child : Path) (name : List ℕ) → IsSome (get tree child) →
     ((r : Rec) → get tree child ≡ Some r → name ≡ r.name) → key_line name ≡ child_line tree child
 child_named tree child name there told = ap key_line (root_named (get tree child) name there told)
+
+-- the line of the next one is told
+pub child_next : (begin now : WriterState) (whole : List ℕ) (tree : Tree) (children : List Path) (index : ℕ) (name left gathered : List ℕ)
+    (written : ℕ) → index < length children → key_line name ≡ child_line tree (get_or children index []) →
+    IsSoFar begin now whole (flat_map (child_line tree) (drop index children) ++ left) gathered written →
+    IsSoFar begin now whole (key_line name ++ (flat_map (child_line tree) (drop (index + 1) children) ++ left)) gathered written
+child_next begin now whole tree children index name left gathered written l e s =
+    let line = child_line tree (get_or children index []) in
+    let behind = flat_map (child_line tree) (drop (index + 1) children) in
+    swapped begin now whole line (key_line name) (behind ++ left) gathered written
+    (opened begin now whole line behind left gathered written
+    (swapped begin now whole _ _ left gathered written s (sym (next_line tree children index l)))) e
 
 -- ---- all keys below one
 
@@ -69,7 +92,7 @@ pub amid_start : (keys : Keys) (path : Path) (walk : Walk) (node : Node) → IsA
     walk.node ≡ node → walk.path.items ≡ [] → walk.pending.items ≡ [] →
     (a : IsAmid keys walk) × (keys_below keys.tree path ≡ a.rest)
 amid_start keys path walk node at found same empty none =
-    let k = some_key (get keys.tree path) found in (
+    let k = some_of (get keys.tree path) found in (
       record {
         here = record { names = []; key = k.0 };
         rest = told_below PATH_LIMIT keys.tree [] (children_of keys.tree path) ++ [];
@@ -87,12 +110,11 @@ amid_start keys path walk node at found same empty none =
       },
       below-open keys.tree path k.0 k.1 ∙ sym (append-nil (told_below PATH_LIMIT keys.tree [] (children_of keys.tree path))),
     )
-  where
-    some_key : (o : Option Rec) → IsSome o → (r : Rec) × (o ≡ Some r)
-    some_key None there = absurd (cc)
-    some_key (Some r) there = (r, refl)
 
--- it went on
-pub amid_next : (keys : Keys) (walk : Walk) (rest : List Told) → Goes keys walk rest →
-    (a : IsAmid keys walk) × (rest ≡ a.here ∷ a.rest)
-amid_next keys walk rest g = (record { here = g.told; rest = g.rest; stands = g.stands }, g.all_is)
+-- the lines of the first of those that are to come are told
+pub key_next : (begin now : WriterState) (whole : List ℕ) (rest more : List Told) (told : Told) (left gathered : List ℕ) (written : ℕ) →
+    rest ≡ told ∷ more → IsSoFar begin now whole (flat_map told_lines rest ++ left) gathered written →
+    IsSoFar begin now whole (told_lines told ++ (flat_map told_lines more ++ left)) gathered written
+key_next begin now whole rest more told left gathered written e s =
+    opened begin now whole (told_lines told) (flat_map told_lines more) left gathered written
+    (swapped begin now whole _ _ left gathered written s (sym (ap (flat_map told_lines) e)))

@@ -42,6 +42,8 @@ fn put_below<W: Sink>(
         Puts output.old (W.contents writer.old, W.failures writer.old) output.new (W.contents writer.new, W.failures writer.new)
         (flat_map told_lines (keys_below tree.now.tree p)) result }
 {
+    // A node is that of a key, as this call's contract says.
+    let _name = tree.name(node);
     let mut walk = Walk::new(alloc, node);
     // No tree has so many keys: the bound only shows that the walk ends.
     'keys: for _ in 0..u64::MAX {
