@@ -1,9 +1,10 @@
 -- Units of UTF-16, read from bytes and spelt.
-use Rattle.std.proofs.Common.{◌≡◌, ℕ, ◌+◌, ◌*◌, Bool, true, false, cond, ◌==◌, List, [], ◌∷◌, ◌++◌, length, Option, Some, None, refl, sym, ap, ◌∙◌, arith, append_assoc, append-nil}
-use Rattle.std.specs.Prelude.{if◌then◌else◌, encode_utf8_all}
-use Rattle.std.specs.Option.{option_map}
-use Rattle.std.specs.Char.Utf16.{has_unpaired_surrogate, utf16_lossy_chars}
-use Rattle.reg_listing.specs.ValueTexts.{units_of, unended, spelt}
+use Rattle.std.proofs.Common.{◌≡◌, ℕ, ◌+◌, ◌-◌, ◌*◌, ◌<◌, ◌≤◌, Bool, true, false, cond, ◌==◌, List, [], ◌∷◌, ◌++◌, length, get_or, take, drop, Option, Some, None, refl, sym, ap, ◌∙◌, arith, append_assoc, append-nil}
+use Rattle.std.specs.Prelude.{if◌then◌else◌, Result, Ok, Err, IfOk}
+use Rattle.std.specs.Option.{option_map, option_and_then}
+use Rattle.std.proofs.lemmas.Bool.Decides.{nat_tests}
+use Rattle.std.proofs.lemmas.List.{take_all}
+use Rattle.reg_listing.specs.ValueTexts.{units_of, unended}
 
 -- ---- units read so far
 
@@ -17,13 +18,25 @@ more : (units : Option (List ℕ)) (taken : List ℕ) (unit : ℕ) →
 more None taken unit = refl
 more (Some units) taken unit = ap (λ (x : List ℕ). Some x) (sym (append_assoc taken (unit ∷ []) units))
 
-pub units_more : (bytes taken new rest behind : List ℕ) (low high : ℕ) → units_of bytes ≡ option_map (λ more. taken ++ more) (units_of rest) →
-    rest ≡ low ∷ high ∷ behind → new ≡ taken ++ (low + 256 * high) ∷ [] →
-    units_of bytes ≡ option_map (λ more. new ++ more) (units_of behind)
-units_more bytes taken new rest behind low high so_far e n =
+pub units_more : (bytes taken new rest behind : List ℕ) (unit : ℕ) → units_of bytes ≡ option_map (λ more. taken ++ more) (units_of rest) →
+    2 ≤ length rest → behind ≡ take (length rest - 2) (drop 2 rest) → unit ≡ get_or rest 0 0 + 256 * get_or rest 1 0 →
+    new ≡ taken ++ unit ∷ [] → units_of bytes ≡ option_map (λ more. new ++ more) (units_of behind)
+units_more bytes taken new [] behind unit so_far two b u n = absurd (omega (arith, two))
+units_more bytes taken new (low ∷ []) behind unit so_far two b u n = absurd (omega (arith, two))
+units_more bytes taken new (low ∷ high ∷ rest) behind unit so_far two b u n =
+    let all : behind ≡ rest = b ∙ take_all (length (low ∷ high ∷ rest) - 2) rest (omega arith) in
     so_far
-    ∙ (ap (λ (x : List ℕ). option_map (λ more. taken ++ more) (units_of x)) e
-    ∙ (more (units_of behind) taken (low + 256 * high) ∙ ap (λ (x : List ℕ). option_map (λ more. x ++ more) (units_of behind)) (sym n)))
+    ∙ (ap (λ (x : ℕ). option_map (λ more. taken ++ more) (option_map (λ units. x ∷ units) (units_of rest))) (sym u)
+    ∙ (more (units_of rest) taken unit
+    ∙ (ap (λ (x : List ℕ). option_map (λ more. x ++ more) (units_of rest)) (sym n)
+    ∙ ap (λ (x : List ℕ). option_map (λ more. new ++ more) (units_of x)) (sym all))))
+
+-- a last byte is alone
+pub units_none : (bytes taken rest : List ℕ) → units_of bytes ≡ option_map (λ more. taken ++ more) (units_of rest) → length rest < 2 →
+    0 < length rest → None ≡ units_of bytes
+units_none bytes taken [] so_far one some = absurd (omega (arith, some))
+units_none bytes taken (low ∷ []) so_far one some = sym so_far
+units_none bytes taken (low ∷ high ∷ rest) so_far one some = absurd (omega (arith, one))
 
 -- nothing is left
 pub units_all : (bytes taken rest : List ℕ) → units_of bytes ≡ option_map (λ more. taken ++ more) (units_of rest) → length rest ≡ 0 →
@@ -46,20 +59,22 @@ pub ended : (units front : List ℕ) (unit : ℕ) → units ≡ front ++ unit �
 ended units front unit e z =
     sym (ap unended e ∙ (last front unit ∙ ap (λ (u : ℕ). if u == 0 then front else front ++ unit ∷ []) z))
 
-pub not_ended : (units front : List ℕ) (unit : ℕ) → units ≡ front ++ unit ∷ [] → (unit == 0) ≡ false → units ≡ unended units
-not_ended units front unit e z =
-    e ∙ sym (ap unended e ∙ (last front unit ∙ ap (λ (b : Bool). if b then front else front ++ unit ∷ []) z))
+pub not_ended : (units front : List ℕ) (unit : ℕ) → units ≡ front ++ unit ∷ [] → ¬ (unit ≡ 0) → units ≡ unended units
+not_ended units front unit e n =
+    let other : (unit == 0) ≡ false = grind (arith, nat_tests, n) in
+    e ∙ sym (ap unended e ∙ (last front unit ∙ ap (λ (b : Bool). if b then front else front ++ unit ∷ []) other))
 
 pub none_ended : (units : List ℕ) → length units ≡ 0 → units ≡ unended units
 none_ended [] e = refl
 none_ended (x ∷ units) e = absurd (omega (arith, e))
 
--- ---- what units spell
+-- ---- a text of units
 
-pub spelt_some : (units text : List ℕ) → false ≡ has_unpaired_surrogate units → text ≡ encode_utf8_all (utf16_lossy_chars units) →
-    Some text ≡ spelt units
-spelt_some units text whole e =
-    ap (λ (x : List ℕ). Some x) e ∙ ap (λ (b : Bool). if b then None else Some (encode_utf8_all (utf16_lossy_chars units))) whole
+pub spelt_then : {A E : Type 0} (text : List ℕ → Option (List ℕ)) (shown : A → List ℕ) (units : Option (List ℕ)) (taken : List ℕ)
+    (r : Result (Option A) E) → Some taken ≡ units → IfOk r (λ t. option_map shown t ≡ text taken) →
+    IfOk r (λ t. option_map shown t ≡ option_and_then text units)
+spelt_then text shown units taken (Ok t) e h = h ∙ ap (option_and_then text) e
+spelt_then text shown units taken (Err fault) e h = tt
 
-pub spelt_none : (units : List ℕ) → true ≡ has_unpaired_surrogate units → None ≡ spelt units
-spelt_none units broken = ap (λ (b : Bool). if b then None else Some (encode_utf8_all (utf16_lossy_chars units))) broken
+pub spelt_none : (text : List ℕ → Option (List ℕ)) (units : Option (List ℕ)) → None ≡ units → None ≡ option_and_then text units
+spelt_none text units e = ap (option_and_then text) e

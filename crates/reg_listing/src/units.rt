@@ -12,9 +12,9 @@ pub fn units_of(alloc: Global, bytes: &[u8]) -> Result<Option<Vec<u16>>, AllocEr
 {
     let mut units = Vec::new(alloc);
     let mut rest = bytes;
-    while let [low, high, behind @ ..] = rest {
-        units.push(u16::from(*low) + 256 * u16::from(*high))?;
-        rest = behind;
+    while rest.len() >= 2 {
+        units.push(u16::from(rest[0]) + 256 * u16::from(rest[1]))?;
+        rest = &rest[2..];
     }
     if !rest.is_empty() {
         return Ok(None);
@@ -26,10 +26,13 @@ pub fn units_of(alloc: Global, bytes: &[u8]) -> Result<Option<Vec<u16>>, AllocEr
 pub fn unended(units: &[u16]) -> &[u16]
     ensures { result.now ≡ unended units.now }
 {
-    match units.split_last() {
-        Some((0, front)) => front,
-        _ => units,
+    let Some((last, front)) = units.split_last() else {
+        return units;
+    };
+    if *last == 0 {
+        return front;
     }
+    units
 }
 
 /// Whether a unit is a control character: below U+0020, or U+007F.

@@ -9,7 +9,7 @@ use Rattle.reg_listing.proofs.listing.put_below.Given as goal
 
 abbrev pub invariant-keys : goal.invariant-keys
 invariant-keys g l =
-    (p : Path) → IsAt l.tree p l.node → (amid : IsAmid l.tree l.walk) ×
+    (p : Path) → IsAt l.tree p l.fn.node → (amid : IsAmid l.tree l.walk) ×
     ((begin : WriterState) → (whole left : List ℕ) →
     IsSoFar begin (g.W.Sink.contents l.initial.writer, g.W.Sink.failures l.initial.writer) whole
     (flat_map told_lines (keys_below l.tree.tree p) ++ left) (string_bytes l.initial.output.text) l.initial.output.written →
