@@ -1,7 +1,7 @@
 -- Units of UTF-16, read from bytes and spelt.
 use Rattle.std.proofs.Common.{◌≡◌, ℕ, ◌+◌, ◌-◌, ◌*◌, ◌<◌, ◌≤◌, Bool, true, false, cond, ◌==◌, List, [], ◌∷◌, ◌++◌, length, get_or, take, drop, Option, Some, None, refl, sym, ap, ◌∙◌, arith, append_assoc, append-nil}
-use Rattle.std.specs.Prelude.{if◌then◌else◌, Result, Ok, Err, IfOk}
-use Rattle.std.specs.Option.{option_map, option_and_then}
+use Rattle.std.specs.Prelude.{if◌then◌else◌}
+use Rattle.std.specs.Option.{option_map}
 use Rattle.std.proofs.lemmas.Bool.Decides.{nat_tests}
 use Rattle.std.proofs.lemmas.List.{take_all}
 use Rattle.reg_listing.specs.ValueTexts.{units_of, unended}
@@ -67,14 +67,3 @@ not_ended units front unit e n =
 pub none_ended : (units : List ℕ) → length units ≡ 0 → units ≡ unended units
 none_ended [] e = refl
 none_ended (x ∷ units) e = absurd (omega (arith, e))
-
--- ---- a text of units
-
-pub spelt_then : {A E : Type 0} (text : List ℕ → Option (List ℕ)) (shown : A → List ℕ) (units : Option (List ℕ)) (taken : List ℕ)
-    (r : Result (Option A) E) → Some taken ≡ units → IfOk r (λ t. option_map shown t ≡ text taken) →
-    IfOk r (λ t. option_map shown t ≡ option_and_then text units)
-spelt_then text shown units taken (Ok t) e h = h ∙ ap (option_and_then text) e
-spelt_then text shown units taken (Err fault) e h = tt
-
-pub spelt_none : (text : List ℕ → Option (List ℕ)) (units : Option (List ℕ)) → None ≡ units → None ≡ option_and_then text units
-spelt_none text units e = ap (option_and_then text) e

@@ -13,7 +13,7 @@ pub unreachable-requires : goal.unreachable-requires
 unreachable-requires g c =
     let v = c.loop-index.invariant c.requires.0 c.requires.1 in
     let e = c.subkeys-index-end.ensures c.requires.0 c.requires.1 in
-    let n = next_none c.args.tree.now c.requires.0 c.args.node c.loop-index.index c.loop-index.next v.0 c.in_default.is in
+    let n = next_none c.args.tree.now c.requires.0 c.args.node c.loop-index._index c.loop-index.next v.0 c.in_default.is in
     omega (arith, n, e)
 
 pub name-requires : goal.name-requires
@@ -29,7 +29,7 @@ returns-in_err-put_name g c =
     let n = next_is _ _ _ _ _ _ v.0 c.in-Some.is in
     exits _ _ _ _ c.from_residual.ensures.1
     (c.in_err-put_name.ensures begin whole _
-    (child_next begin _ whole c.args.tree.now.tree (children_of c.args.tree.now.tree p) c.loop-index.index _ left _ _ n.within
+    (child_next begin _ whole c.args.tree.now.tree (children_of c.args.tree.now.tree p) c.loop-index._index _ left _ _ n.within
     (child_named _ _ _ (c.name.ensures.key _ n.at) (c.name.ensures.told _ n.at)) (v.1 begin whole left s))))
 
 pub next_subkey-next-requires : goal.next_subkey-next-requires
@@ -45,7 +45,7 @@ loop-index-preserved g c =
       next_behind _ p _ _ _ (c.next_subkey-next.ensures p at _ n),
       λ begin whole left s.
           c.in_ok-put_name.ensures begin whole _
-          (child_next begin _ whole c.args.tree.now.tree (children_of c.args.tree.now.tree p) c.loop-index.index _ left _ _ n.within
+          (child_next begin _ whole c.args.tree.now.tree (children_of c.args.tree.now.tree p) c.loop-index._index _ left _ _ n.within
           (child_named _ _ _ (c.name.ensures.key _ n.at) (c.name.ensures.told _ n.at)) (v.1 begin whole left s)),
     ))
 
@@ -54,4 +54,4 @@ returns g c =
     λ p at begin whole left s.
     (let e = c.subkeys-index-end.ensures p at in
     ends begin _ whole _ left _ _ ((c.loop-index.invariant p at).1 begin whole left s)
-    (ap (flat_map (child_line c.args.tree.now.tree)) (drop_all c.loop-index.index (children_of c.args.tree.now.tree p) (omega (arith, e)))))
+    (ap (flat_map (child_line c.args.tree.now.tree)) (drop_all c.loop-index._index (children_of c.args.tree.now.tree p) (omega (arith, e)))))

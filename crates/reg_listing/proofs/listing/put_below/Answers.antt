@@ -9,7 +9,7 @@ use Rattle.reg_listing.proofs.listing.put_below.Goals as goal
 pub keys-init : goal.keys-init
 keys-init g c =
     λ p at.
-    (let a = amid_start _ p _ _ at (c.name-_name.ensures.key p at) c.new-walk.ensures.node c.new-walk.ensures.path c.new-walk.ensures.pending in
+    (let a = amid_start _ p _ _ at (c.name-name.ensures.key p at) c.new-walk.ensures.node c.new-walk.ensures.path c.new-walk.ensures.pending in
     (a.0, λ begin whole left s. swapped begin _ whole _ _ left _ _ s (ap (flat_map told_lines) (sym a.1))))
 
 pub advance-requires : goal.advance-requires
