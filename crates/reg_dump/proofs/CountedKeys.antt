@@ -48,7 +48,7 @@ module _ (keys : Keys) (walk : Walk) (counts : Counts) (root : Node) (at : IsAt 
         path = [];
         levels = PATH_LIMIT;
         more = [];
-        place = record { deep = omega arith; long = refl };
+        place = record { deep = omega arith; long = λ _. refl };
         at = subst (λ (n : Node). IsAt keys [] n) (sym node) at;
         key = found.1;
         text = path;

@@ -1,10 +1,13 @@
 -- A walk over a tree's keys, step by step.
 use Rattle.std.proofs.Common.{◌≡◌, ℕ, zero, suc, ◌+◌, ◌≤◌, ◌<◌, Bool, true, false, cond, List, [], ◌∷◌, ◌++◌, length, take, drop, reverse, get_or, Option, Some, None, refl, sym, ap, ◌∙◌, subst, arith, append_assoc, append-nil, length-append}
-use Rattle.std.specs.Prelude.{filter, IfOk, Result, Ok, Err}
+use Rattle.std.specs.Prelude.{filter, nat_lt, nat_le, ◌&&◌, IfOk, Result, Ok, Err}
 use Rattle.std.specs.FinMap.{get, keys}
 use Rattle.std.proofs.lemmas.List.{drop_more, drop_all, take-append-le, take_all, length-take-le, reverse-append}
-use Rattle.reg_names.specs.declared.TheConstants.{PATH_LIMIT}
-use Rattle.reg_names.specs.Names.{text_of}
+use Rattle.std.proofs.lemmas.Bool.{and_parts}
+use Rattle.std.proofs.lemmas.Bool.Decides.{nat_tests}
+use Rattle.std.specs.List.{list_all}
+use Rattle.reg_names.specs.declared.TheConstants.{KEY_NAME_LIMIT, PATH_LIMIT}
+use Rattle.reg_names.specs.Names.{text_of, is_key_name, is_key_name_byte}
 use Rattle.reg_heap.specs.Paths.{Path, Tree, Rec, is_child, children_of}
 use Rattle.reg_heap.proofs.ChildrenOfPath.{named}
 use Rattle.reg_tree.specs.declared.node.Node.{Node}
@@ -25,6 +28,28 @@ text-below (x ∷ y ∷ names) name =
     ap (λ (w : List ℕ). x ++ (92 ∷ w)) (text-below (y ∷ names) name)
     ∙ (sym (append_assoc x (92 ∷ text_of (y ∷ names) ++ 92 ∷ []) name)
     ∙ ap (λ (w : List ℕ). w ++ name) (sym (append_assoc x (92 ∷ text_of (y ∷ names)) (92 ∷ []))))
+
+-- what stands before a name goes by whether there's any
+below-same : (m n : ℕ) (front name : List ℕ) → (m ≡ 0 → n ≡ 0) → (n ≡ 0 → m ≡ 0) → text_below m front name ≡ text_below n front name
+below-same zero zero front name a b = refl
+below-same zero (suc n) front name a b = absurd (omega (arith, a refl))
+below-same (suc m) zero front name a b = absurd (omega (arith, b refl))
+below-same (suc m) (suc n) front name a b = refl
+
+below-some : (n : ℕ) (front name : List ℕ) → length name ≤ length (text_below n front name)
+below-some zero front name = omega (arith, length-append front name)
+below-some (suc n) front name = omega (arith, length-append (front ++ 92 ∷ []) name)
+
+no-text : (names : List (List ℕ)) → length names ≡ 0 → length (text_of names) ≡ 0
+no-text [] e = refl
+no-text (x ∷ names) e = absurd (omega (arith, e))
+
+-- the name of a key isn't empty
+pub name-some : (name : List ℕ) → is_key_name name ≡ true → 0 < length name
+name-some name is =
+    let parts = and_parts (list_all is_key_name_byte name && nat_lt 0 (length name)) (nat_le (length name) KEY_NAME_LIMIT) is in
+    let some = (and_parts (list_all is_key_name_byte name) (nat_lt 0 (length name)) parts.0).1 in
+    grind (arith, nat_tests, some)
 
 take-again : (m n : ℕ) (xs ys : List ℕ) → m ≤ n → n ≤ length ys → take n xs ≡ take n ys → take m xs ≡ take m ys
 take-again zero n xs ys l f e = refl
@@ -162,7 +187,7 @@ above-zero (suc n) l = (n, refl)
 
 module _ (keys : Keys) (text : List ℕ) (p : Pending) (here more : List Told) (s : IsPending keys text p here) (ps : List Pending)
     (a : ArePending keys text p.front ps more) (r : Rec) (key : get keys.tree (get_or (children_of keys.tree s.path) s.index []) ≡ Some r)
-    (shallow : length (get_or (children_of keys.tree s.path) s.index []) ≤ PATH_LIMIT) where
+    (shallow : length (get_or (children_of keys.tree s.path) s.index []) ≤ PATH_LIMIT) (some : 0 < length r.name) where
   abbrev child : Path
   child = get_or (children_of keys.tree s.path) s.index []
 
@@ -196,25 +221,36 @@ module _ (keys : Keys) (text : List ℕ) (p : Pending) (here more : List Told) (
       ∙ ap (λ (x : List Told). x ++ beside) first))
       ∙ ap (λ (x : List Told). told ∷ x) (append_assoc below beside more)
 
+  front_long : p.front ≡ length (text_of s.names)
+  front_long = let n = length-take-le p.front text s.within in let t = ap length s.text_is in omega (arith, n, t)
+
+  no_names : p.front ≡ 0 → length s.names ≡ 0
+  no_names e = s.place.long (omega (arith, e, front_long))
+
+  no_front : length s.names ≡ 0 → p.front ≡ 0
+  no_front e = omega (arith, no-text s.names e, front_long)
+
+  some_text : length (text_of told.names) ≡ 0 → length told.names ≡ 0
+  some_text e =
+      let t = ap length (text-below s.names r.name) in
+      let b = below-some (length s.names) (text_of s.names) r.name in
+      absurd (omega (arith, e, t, b, some))
+
   pub entered : (walk : Walk) (name : List ℕ) → name ≡ r.name → walk.node ≡ p.subkey.node →
-      walk.path.items ≡ text_below p.parent.depth (take p.front text) name →
+      walk.path.items ≡ text_below p.front (take p.front text) name →
       IsNoted keys s.path s.index p ps (reverse walk.pending.items) → Goes keys walk (here ++ more)
   entered walk name named node path_is next =
       let w = s.within in
       let d = s.place.deep in
-      let n = s.place.long in
-      let parent = s.at.depth in
       let l = long-child in
       let lw = lower.1 in
-      let la = length-append s.names (r.name ∷ []) in
-      let depth : p.parent.depth ≡ length s.names = omega (arith, parent, n) in
       let front : take p.front walk.path.items ≡ take p.front text = ap (take p.front) path_is ∙
-      below-front p.parent.depth p.front text name w in
+      below-front p.front p.front text name w in
       let fits : p.front ≤ length walk.path.items = subst (λ (x : List ℕ). p.front ≤ length x) (sym path_is)
-      (below-long p.parent.depth p.front text name w) in
+      (below-long p.front p.front text name w) in
       let text_is : walk.path.items ≡ text_of told.names =
       path_is
-      ∙ (ap (λ (k : ℕ). text_below k (take p.front text) name) depth
+      ∙ (below-same p.front (length s.names) (take p.front text) name no_names no_front
       ∙ (ap (λ (x : List ℕ). text_below (length s.names) x name) s.text_is
       ∙ (ap (λ (x : List ℕ). text_below (length s.names) (text_of s.names) x) named ∙ sym (text-below s.names r.name)))) in
       record {
@@ -225,7 +261,7 @@ module _ (keys : Keys) (text : List ℕ) (p : Pending) (here more : List Told) (
           path = child;
           levels = lower.0;
           more = beside ++ more;
-          place = record { deep = omega (arith, d, l, lw); long = omega (arith, n, l, la) };
+          place = record { deep = omega (arith, d, l, lw); long = some_text };
           at = subst (λ (n : Node). IsAt keys child n) (sym node) s.subkey.at;
           key = key;
           text = text_is;

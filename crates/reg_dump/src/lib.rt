@@ -5,7 +5,7 @@
 //! reads, and on reg_text.
 //!
 //! `walk` goes from key to key with a stack of those on the present path, `line` tells a key, and `output` gathers text and counts what
-//! the writer took. Its types are [`Counts`] and [`DumpFault`].
+//! the writer took. Its types are [`Counts`] and [`DumpFault`], and [`Walk`] and [`Output`], by which other texts of a tree are told.
 #![tactic(auto)]
 
 mod counting;
@@ -20,3 +20,5 @@ pub use counting::{check_line, count};
 pub use counts::Counts;
 pub use dumping::dump;
 pub use fault::DumpFault;
+pub use output::Output;
+pub use walk::{Pending, Walk};

@@ -1,4 +1,5 @@
-//! The keys of a tree, one after another: each before those below it, and those right below one in the order of their folded names.
+//! A key of a tree and those below it, one after another: each before those below it, and those right below one in the order of their
+//! folded names.
 ghost use Rattle.std.specs.Prelude.{◌≡◌, ◌++◌, ℕ, [], List, length, take, reverse, OnOk, IfOk};
 ghost use Rattle.reg_heap.specs.Paths.{Path};
 ghost use Rattle.reg_tree.specs.TreeKeys.{IsAt};
@@ -20,23 +21,24 @@ pub struct Pending {
     pub front: usize,
 }
 
-/// A walk over the keys of a tree, which stands at one of them.
+/// A walk over a key and those below it, which stands at one of them.
 #[derive(Drop)]
 pub struct Walk {
     /// The key at which it stands.
     pub node: Node,
-    /// The names that lead to it, joined by backslashes.
+    /// The names that lead to it from the key at which the walk began, joined by backslashes.
     pub path: Vec<u8>,
     /// At most one for each key on its path.
     pub pending: Vec<Pending>,
 }
 
-/// Cuts a path's text back to a front, the text of the path of a key of that depth, and goes on with the name of a key below it.
-fn descend(path: &mut Vec<u8>, front: usize, depth: u32, name: &[u8]) -> Result<(), AllocError>
-    ensures { OnOk result (path.new.items ≡ text_below depth (take front path.old.items) name.now) }
+/// Cuts a path's text back to a front, the text of a key's path, and goes on with the name of a key below it. No name is empty, so
+/// only the key at which the walk began has an empty front.
+fn descend(path: &mut Vec<u8>, front: usize, name: &[u8]) -> Result<(), AllocError>
+    ensures { OnOk result (path.new.items ≡ text_below front (take front path.old.items) name.now) }
 {
     path.truncate(front);
-    if depth > 0 {
+    if front > 0 {
         path.push(b'\\')?;
     }
     path.extend_from_slice(name)?;
@@ -44,14 +46,14 @@ fn descend(path: &mut Vec<u8>, front: usize, depth: u32, name: &[u8]) -> Result<
 }
 
 impl Walk {
-    /// A walk that stands at the root.
-    pub fn new(alloc: Global, root: Node) -> Walk
-        ensures node { result.node ≡ root }
+    /// A walk that begins at a key, and stands there.
+    pub fn new(alloc: Global, node: Node) -> Walk
+        ensures node { result.node ≡ node }
         ensures path { result.path.items ≡ [] }
         ensures pending { result.pending.items ≡ [] }
     {
         Walk {
-            node: root,
+            node,
             path: Vec::new(alloc),
             pending: Vec::new(alloc),
         }
@@ -78,16 +80,11 @@ impl Walk {
             ArePending tree.now self.old.path.items pending.front (reverse self.old.pending.items) more →
             OnOk result (Goes tree.now self.new (here ++ more)) }
     {
-        // No key is deeper than 512 names, as this call's contract says.
+        // No key is deeper than 512 names, and no name is empty, as this call's contract says.
         let _root = tree.root();
         self.note_next(tree, pending)?;
         let node = pending.subkey.node;
-        descend(
-            &mut self.path,
-            pending.front,
-            pending.parent.depth,
-            tree.name(node),
-        )?;
+        descend(&mut self.path, pending.front, tree.name(node))?;
         self.node = node;
         Ok(())
     }

@@ -12,19 +12,20 @@ use Rattle.reg_dump.specs.declared.walk.Walk.{Walk}
 use Rattle.reg_dump.specs.declared.counts.Counts.{Counts}
 use Rattle.reg_dump.specs.DumpTexts.{Told, name_of, told_from, keys_told, values_in}
 
--- the text of a path with one name more, from that of a path of so many names
+-- the text of a path with one name more, from that of a path, which has so many bytes
 abbrev pub text_below : ℕ → List ℕ → List ℕ → List ℕ
 text_below zero front name = front ++ name
-text_below (suc depth) front name = (front ++ 92 ∷ []) ++ name
+text_below (suc long) front name = (front ++ 92 ∷ []) ++ name
 
 -- some of the keys right below one, each with those below it
 abbrev pub told_below : ℕ → Tree → List (List ℕ) → List Path → List Told
 told_below levels tree names children = flat_map (λ child. told_from levels tree (names ++ name_of (get tree child) ∷ []) child) children
 
--- a key that has this much below it at most, at a path, with the names that lead to it
+-- a key that has no more than this below it, at a path, with the names that lead to it from where the walk began: none, or a text of
+-- some bytes
 pub record IsPlace (path : Path) (names : List (List ℕ)) (levels : ℕ) : Type 0 where
-  pub deep : levels + length path ≡ PATH_LIMIT
-  pub long : length names ≡ length path
+  pub deep : PATH_LIMIT ≤ levels + length path
+  pub long : length (text_of names) ≡ 0 → length names ≡ 0
 
 -- a subkey and those behind it are still to come, with all that is below them; the text of a path begins with their parent's
 pub record IsPending (keys : Keys) (text : List ℕ) (pending : Pending) (rest : List Told) : Type 0 where

@@ -1,0 +1,5 @@
+pub mod ListedLines
+pub mod ListedKeys
+pub mod SpeltUnits
+mod RowsOfValueTexts
+mod RowsOfListings
